@@ -1,0 +1,9 @@
+pub mod Layout
+pub mod Trees
+pub mod Choices
+pub mod Rows
+pub mod Cycles
+pub mod SpanSheet
+pub mod Candidates
+pub mod Sweeps
+pub mod Content

@@ -1,0 +1,58 @@
+-- What a sweep up to the bound k says: 01, "The sweep" (demand 3), and the number that refusal 24 judges.
+use mathlib.Core.Bool.{Bool, true, false, cond, _||_}
+use mathlib.Core.List.{List, [], _∷_}
+use Prim.Native.Nat.{ℕ, zero, suc, _+_, _-_, _*_, _^_, _≤_}
+use lib.ListN.{length}
+use lib.Dec.{eqb}
+use Rattle.grammar.specs.declared.Cell.{Cell}
+use Rattle.grammar.specs.declared.Clause.{Clause}
+use Rattle.grammar.specs.declared.Clause.the-variants as Clause
+use Rattle.grammar.specs.Layout.{Word}
+use Rattle.grammar.specs.Trees.{Rules, TwoTrees}
+use Rattle.grammar.specs.Candidates.{Rising, sentence, Terminal, Candidate, Earlier}
+
+-- clear: no sequence of 1 to k tokens has two trees, whatever its terminals, lines and columns
+pub record Clear (g : Rules) (k : ℕ) : Type 0 where
+  pub none : (w : Word) → Rising w → 1 ≤ length w → length w ≤ k → TwoTrees g 0 w → ⊥
+
+-- two: cs is the first candidate of length 1 to k that has two trees
+pub record FirstTwo (g : Rules) (k : ℕ) (cs : List Cell) : Type 0 where
+  pub low : 1 ≤ length cs
+  pub high : length cs ≤ k
+  pub candidate : Candidate (Terminal g) (length cs) cs
+  pub two : TwoTrees g 0 (sentence cs)
+  pub earlier : (ds : List Cell) → 1 ≤ length ds → Candidate (Terminal g) (length ds) ds → Earlier ds cs → TwoTrees g 0 (sentence ds) → ⊥
+
+-- the answer of a sweep
+pub data Answer : Type 0 where
+  clear : Answer
+  found : List Cell → Answer
+
+abbrev pub Answers : Rules → ℕ → Answer → Type 0
+Answers g k clear = Clear g k
+Answers g k (found cs) = FirstTwo g k cs
+
+-- the clause is of kind A, with terminal a
+abbrev pub isAtom : ℕ → Clause → Bool
+isAtom a Clause.Empty = false
+isAtom a (Clause.Atom b) = eqb a b
+isAtom a (Clause.Unary B m) = false
+isAtom a (Clause.Binary B C m) = false
+
+-- a is the terminal of an A rule
+abbrev pub stands : Rules → ℕ → Bool
+stands [] a = false
+stands (r ∷ g) a = isAtom a (r .clause) || stands g a
+
+-- how many of the terminals below n stand in A rules
+abbrev pub terminalsBelow : Rules → ℕ → ℕ
+terminalsBelow g zero = 0
+terminalsBelow g (suc n) = cond (stands g n) 1 0 + terminalsBelow g n
+
+-- T: the different terminals in the sheet's A rules
+abbrev pub terminalCount : Rules → ℕ
+terminalCount g = terminalsBelow g 64
+
+-- T^k × 3^(k−1) × k^k
+unfoldable pub arrangements : ℕ → ℕ → ℕ
+arrangements t k = t ^ k * 3 ^ (k - 1) * k ^ k
