@@ -1,0 +1,12 @@
+pub mod Lists
+pub mod Marks
+pub mod ChoiceLaws
+pub mod ByKind
+pub mod Least
+pub mod Saturation
+pub mod Acyclic
+pub mod Existence
+pub mod Transfer
+pub mod Normalization
+pub mod VerdictLaws
+pub mod SweepLaws
