@@ -133,16 +133,16 @@ module _ {A : Type 0} where
   abbrev pub Some : (A → Type 0) → List A → Type 0
   Some P l = (a : A) × List·Memᴰ a l × P a
 
-  some-cons : {P : A → Type 0} {a : A} {l : List A} → P a ⊎ Some P l → Some P (a ∷ l)
+  pub some-cons : {P : A → Type 0} {a : A} {l : List A} → P a ⊎ Some P l → Some P (a ∷ l)
   some-cons {a = a} (inl p) = (a, List·Memᴰ·head refl, p)
   some-cons (inr s) = (s .0, List·Memᴰ·tail (s .1), s .2)
 
-  some-cases : {P : A → Type 0} {a : A} {l : List A} → Some P (a ∷ l) → P a ⊎ Some P l
+  pub some-cases : {P : A → Type 0} {a : A} {l : List A} → Some P (a ∷ l) → P a ⊎ Some P l
   some-cases {P} s = ⊎-elim (λ e. inl (subst P e (s .2))) (λ m. inr (s .0, m, s .2)) (List·Memᴰ·cases-cons (s .1))
 
-  pub some? : {P : A → Type 0} → ((a : A) → Dec (P a)) → (l : List A) → Dec (Some P l)
+  abbrev pub some? : {P : A → Type 0} → ((a : A) → Dec (P a)) → (l : List A) → Dec (Some P l)
   some? d [] = no (λ s. List·Memᴰ·not-nil (s .1))
-  some? d (a ∷ l) = map? (or? (d a) (some? d l)) some-cons some-cases
+  some? d (a ∷ l) = let r = some? d l in map? (or? (d a) r) some-cons some-cases
 
 pub mem? : (b : ℕ) (l : List ℕ) → Dec (List·Memᴰ b l)
 mem? b l = map? (some? (λ a. eq? b a) l) (λ s. subst⁻¹ (λ (x : ℕ). List·Memᴰ x l) (s .2) (s .1)) (λ m. (b, m, refl))

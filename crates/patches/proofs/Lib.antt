@@ -1,0 +1,5 @@
+pub mod Infixes
+pub mod Chart
+pub mod Verdicts
+pub mod Enumerate
+pub mod Table

@@ -1,0 +1,117 @@
+-- P1 to P9 hold: one test for each kind of claim, computed over the table.
+use mathlib.Core.Path.{_≡_, refl, sym, _∙_, subst}
+use mathlib.Core.Bool.{Bool, true, false}
+use mathlib.Core.List.{List, [], _∷_, _++_, List·Memᴰ}
+use mathlib.Core.Logic.{⊎-elim}
+use Prim.Native.Nat.{ℕ, _≤_}
+use native.Mathlib.Nat.{not-suc-le-zero, le-trans}
+use native.Mathlib.Omega.{arith}
+use lib.Dec.{T}
+use lib.ListN.{length}
+use Rattle.grammar.specs.declared.Cell.{Cell}
+use Rattle.grammar.specs.declared.Clause.{Clause}
+use Rattle.grammar.specs.declared.Clause.the-variants.{Empty, Atom, Unary, Binary}
+use Rattle.grammar.specs.Layout.{Word, Every}
+use Rattle.grammar.specs.Trees.{Tree, empty, leaf, unary, binary, word, Rules, Valid, valid-empty, valid-leaf, valid-unary, valid-binary, TwoTrees}
+use Rattle.grammar.specs.Candidates.{Rising, sentence, Terminal, Candidate, Earlier}
+use Rattle.grammar.specs.Sweeps.{FirstTwo, Answer, clear, found, Answers}
+use Rattle.grammar.proofs.Lists.{both?, le?, and, and-left, and-right, all, all-every, holds, holds-yes, mem-every}
+use Rattle.grammar.proofs.SweepLaws.{clear-of}
+use Rattle.patches.specs.Claims.{two, Claim, verdict, sweep, every-sweep-clear, Holds}
+use Rattle.patches.specs.Patches.{patches}
+use Rattle.patches.proofs.Enumerate.{rising?, earlier?, candidate?, up-to, mem-up-to}
+use Rattle.patches.proofs.Verdicts.{chart, chart-good, reads, read, at-most-one, not-two}
+
+-- where P holds, the test is asked for
+abbrev where-holds : {P : Type 0} → Dec P → Bool → Bool
+where-holds (yes p) b = b
+where-holds (no n) b = true
+
+where-right : {P : Type 0} (d : Dec P) (b : Bool) → T (where-holds d b) → P → T b
+where-right (yes p) b t q = t
+where-right (no n) b t q = absurd (n q)
+
+-- the test of an arrangement: where its positions rise, it has not two trees
+abbrev single : Rules → List Cell → Bool
+single g cs = let r = at-most-one 0 (sentence cs) (chart g (sentence cs)) in where-holds (rising? (sentence cs)) r
+
+single-right : (g : Rules) (cs : List Cell) → T (single g cs) → Rising (sentence cs) → TwoTrees g 0 (sentence cs) → ⊥
+single-right g cs t r =
+    not-two g 0 (sentence cs) (chart g (sentence cs)) (chart-good g (sentence cs))
+    (where-right (rising? (sentence cs)) (at-most-one 0 (sentence cs) (chart g (sentence cs))) t r)
+
+no-double : (g : Rules) (k : ℕ) → T (all (single g) (up-to g k)) → (cs : List Cell) → 1 ≤ length cs → length cs ≤ k → Candidate (Terminal g) (length cs) cs → TwoTrees g 0 (sentence cs) → ⊥
+no-double g k t cs l h c =
+    mem-every (λ ds. Rising (sentence ds) → TwoTrees g 0 (sentence ds) → ⊥) (up-to g k) (all-every (single g) (single-right g) (up-to g k) t)
+    (mem-up-to g k (length cs) cs l h c) (c .rising)
+
+abbrev spared : Rules → List Cell → List Cell → Bool
+spared g cs ds = let s = single g ds in where-holds (earlier? ds cs) s
+
+abbrev first? : Rules → ℕ → List Cell → Bool
+first? g k cs =
+    let e = all (spared g cs) (up-to g k) in
+    let r = and (reads two 0 (sentence cs) (chart g (sentence cs))) e in
+    and (holds (both? (candidate? g (length cs) cs) (both? (le? 1 (length cs)) (le? (length cs) k)))) r
+
+earlier-length : (ds cs : List Cell) → Earlier ds cs → length ds ≤ length cs
+earlier-length ds cs e = ⊎-elim (λ h. omega arith) (λ h. omega arith) e
+
+first-right : (g : Rules) (k : ℕ) (cs : List Cell) → T (first? g k cs) → FirstTwo g k cs
+first-right g k cs t =
+    let a = holds (both? (candidate? g (length cs) cs) (both? (le? 1 (length cs)) (le? (length cs) k))) in
+    let b = reads two 0 (sentence cs) (chart g (sentence cs)) in
+    let e = all (spared g cs) (up-to g k) in
+    let h = holds-yes (both? (candidate? g (length cs) cs) (both? (le? 1 (length cs)) (le? (length cs) k))) (and-left a (and b e) t) in
+    let r = and-right a (and b e) t in
+    record {
+      low = h .1 .0;
+      high = h .1 .1;
+      candidate = h .0;
+      two = read g 0 (sentence cs) two (chart g (sentence cs)) (chart-good g (sentence cs)) (and-left b e r);
+      earlier =
+          λ ds l c f. mem-every (λ es. Earlier es cs → Rising (sentence es) → TwoTrees g 0 (sentence es) → ⊥) (up-to g k)
+          (all-every (spared g cs) (λ es s q. single-right g es (where-right (earlier? es cs) (single g es) s q)) (up-to g k) (and-right b e r))
+          (mem-up-to g k (length ds) ds l (le-trans (earlier-length ds cs f) (h .1 .1)) c) f (c .rising);
+    }
+
+-- no A rule: no tree has a word
+abbrev no-atom : Clause → Bool
+no-atom Empty = true
+no-atom (Atom a) = false
+no-atom (Unary B m) = true
+no-atom (Binary B C m) = true
+
+abbrev no-atoms : Rules → Bool
+no-atoms g = all (λ r. no-atom (r .clause)) g
+
+wordless : (g : Rules) → T (no-atoms g) → (t : Tree) → Valid g t → word t ≡ []
+wordless g n (empty A) (valid-empty h) = refl
+wordless g n (leaf A t) (valid-leaf h) = absurd (mem-every (λ r. T (no-atom (r .clause))) g (all-every (λ r. no-atom (r .clause)) (λ r k. k) g n) h)
+wordless g n (unary A t) (valid-unary m h μ v) = wordless g n t v
+wordless g n (binary A s t) (valid-binary m h μ v u) = rw (wordless g n s v) (wordless g n t u)
+
+silent : (g : Rules) → T (no-atoms g) → (k : ℕ) → Answers g k clear
+silent g n k =
+    record {
+      none =
+          λ w r some le pair. not-suc-le-zero
+          (subst (λ (x : Word). 1 ≤ length x) (sym (pair .witness₁ .spelled) ∙ wordless g n (pair .first) (pair .witness₁ .valid)) some);
+    }
+
+-- the test of a claim
+abbrev pub check : Claim → Bool
+check (verdict g A w v) = reads v A w (chart g w)
+check (sweep g k clear) = all (single g) (up-to g k)
+check (sweep g k (found cs)) = first? g k cs
+check (every-sweep-clear g) = no-atoms g
+
+pub checked : (c : Claim) → T (check c) → Holds c
+checked (verdict g A w v) t = read g A w v (chart g w) (chart-good g w) t
+checked (sweep g k clear) t = clear-of k (no-double g k t)
+checked (sweep g k (found cs)) t = first-right g k cs t
+checked (every-sweep-clear g) t = silent g t
+
+-- P1 to P9
+pub patches-hold : Every Holds patches
+patches-hold = all-every check checked patches tt
