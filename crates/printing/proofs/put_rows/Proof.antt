@@ -1,0 +1,96 @@
+-- `printing::put_rows` meets its contract. The loop's invariant: the lines of the first `i` rows are put.
+use mathlib.Core.Path.{_≡_}
+use Prim.Native.Nat.{_+_, _*_, _-_, _≤_}
+use native.Mathlib.Omega.{arith}
+use borrow.Author.Needs.{needs}
+use lib.ListN.{length, take}
+use Rattle.printing.specs.Printing.{Wrote, rowLines}
+use Rattle.printing.proofs.Writing.{wrote-none, wrote-then}
+use Rattle.printing.proofs.Texts.{rows-more}
+use Rattle.printing.proofs.put_rows.Statement.{statement}
+use Rattle.printing.proofs.put_rows.Tie as tie
+
+abbrev Inv-loop : tie.InvT-loop
+Inv-loop out₀ at tree rows count i₀ next₀ out i next =
+    (i ≤ count) × (next ≤ at + 26 * i) × Wrote out₀ out at (rowLines tree (take (4 * i) rows)) next
+
+abbrev μ-loop : tie.MeasureT-loop
+μ-loop out₀ at tree rows count i₀ next₀ out i next = count - i
+
+loop-holds : tie.Need-loop-holds Inv-loop μ-loop
+loop-holds c = (search needs, search needs, wrote-none _ _)
+
+mul-p : tie.Need-mul-p Inv-loop μ-loop
+mul-p c = search needs
+
+shared-slice-read-put-row : tie.Need-shared-slice-read-put-row Inv-loop μ-loop
+shared-slice-read-put-row c = search needs
+
+add-put-row : tie.Need-add-put-row Inv-loop μ-loop
+add-put-row c = search needs
+
+shared-slice-read-put-row-2 : tie.Need-shared-slice-read-put-row-2 Inv-loop μ-loop
+shared-slice-read-put-row-2 c = search needs
+
+add-put-row-2 : tie.Need-add-put-row-2 Inv-loop μ-loop
+add-put-row-2 c = search needs
+
+shared-slice-read-put-row-3 : tie.Need-shared-slice-read-put-row-3 Inv-loop μ-loop
+shared-slice-read-put-row-3 c = search needs
+
+add-put-row-3 : tie.Need-add-put-row-3 Inv-loop μ-loop
+add-put-row-3 c = search needs
+
+shared-slice-read-put-row-4 : tie.Need-shared-slice-read-put-row-4 Inv-loop μ-loop
+shared-slice-read-put-row-4 c = search needs
+
+put-row-requires : tie.Need-put-row-requires Inv-loop μ-loop
+put-row-requires c κs = search needs
+
+add-i : tie.Need-add-i Inv-loop μ-loop
+add-i c = search needs
+
+loop-less : tie.Need-loop-less Inv-loop μ-loop
+loop-less c = search needs
+
+loop-again : tie.Need-loop-again Inv-loop μ-loop
+loop-again c =
+    let l = c .before .before .before .before .before .before .before .before .before in
+    let s = l .before .before .before in
+    let w = c .before .before .put-row .ensures in (
+      search needs,
+      omega (arith, w .1, l .loop .inv .1),
+      rw (rows-more (s .args .tree) (l .loop .i) (s .args .rows .now) (search needs)) (wrote-then (l .loop .inv .2) (w .0)),
+    )
+
+same-length : tie.Need-same-length Inv-loop μ-loop
+same-length c = search needs
+
+returns : tie.Need-returns Inv-loop μ-loop
+returns c =
+    let l = c .before .loop in
+    let s = c .before .before .before .before in
+    let e : l .i ≡ s .args .count = omega (arith, l .inv .0, c .loop-test) in
+    (rw e at (l .inv .2), rw e at (l .inv .1))
+
+pub put-rows-spec : {M : Type 1} → statement M
+put-rows-spec =
+    tie.close
+    (tie.spec
+    Inv-loop
+    μ-loop
+    loop-holds
+    mul-p
+    shared-slice-read-put-row
+    add-put-row
+    shared-slice-read-put-row-2
+    add-put-row-2
+    shared-slice-read-put-row-3
+    add-put-row-3
+    shared-slice-read-put-row-4
+    put-row-requires
+    add-i
+    loop-less
+    loop-again
+    same-length
+    returns)

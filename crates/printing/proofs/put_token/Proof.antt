@@ -1,0 +1,51 @@
+-- `printing::put_token` meets its contract, part by part.
+use native.Mathlib.Omega.{arith}
+use Rattle.printing.specs.Printing.{tokenText}
+use Rattle.printing.proofs.Writing.{wrote-then}
+use borrow.Author.Needs.{needs}
+use Rattle.printing.proofs.put_token.Statement.{statement}
+use Rattle.printing.proofs.put_token.Tie as tie
+
+cast-put-ended : tie.Need-cast-put-ended
+cast-put-ended c = search needs
+
+put-ended-requires : tie.Need-put-ended-requires
+put-ended-requires c κs = search needs
+
+cast-put-ended-2 : tie.Need-cast-put-ended-2
+cast-put-ended-2 c = search needs
+
+put-ended-requires-2 : tie.Need-put-ended-requires-2
+put-ended-requires-2 c κs = search needs
+
+cast-put-ended-3 : tie.Need-cast-put-ended-3
+cast-put-ended-3 c = search needs
+
+put-ended-requires-3 : tie.Need-put-ended-requires-3
+put-ended-requires-3 c κs = search needs
+
+same-length : tie.Need-same-length
+same-length c = search needs
+
+returns : tie.Need-returns
+unfolding tokenText
+returns c =
+    let z₃ = c .before .before in
+    let z₂ = z₃ .before .before .before .before .before in
+    let z₁ = z₂ .before .before .before .before .before in (
+      wrote-then (z₁ .put-ended .ensures .0) (wrote-then (z₂ .put-ended2 .ensures .0) (z₃ .put-ended3 .ensures .0)),
+      omega (arith, z₁ .put-ended .ensures .1, z₂ .put-ended2 .ensures .1, z₃ .put-ended3 .ensures .1),
+    )
+
+pub put-token-spec : {M : Type 1} → statement M
+put-token-spec =
+    tie.close
+    (tie.spec
+    cast-put-ended
+    put-ended-requires
+    cast-put-ended-2
+    put-ended-requires-2
+    cast-put-ended-3
+    put-ended-requires-3
+    same-length
+    returns)
