@@ -30,10 +30,9 @@ pub fn put_bytes(out: &mut [u8], at: usize, bytes: &[u8]) -> usize
     at + i
 }
 
-// A number of at most five digits, in base ten without a leading zero.
-pub fn put_number(out: &mut [u8], at: usize, v: u32) -> usize
-    requires { ⌜ v < 100000 ⌝ }
-    requires { ⌜ at + 5 ≤ length (now out) ⌝ }
+// A number in base ten without a leading zero.
+pub fn put_number(out: &mut [u8], at: usize, v: u64) -> usize
+    requires { ⌜ at + length (decimal v) ≤ length (now out) ⌝ }
     ensures { λ r. ⌜ Wrote (now (out .entry)) (now (out .exit)) at (decimal v) r ⌝ }
 {
     if v < 10 {
@@ -50,7 +49,7 @@ fn put_ended(out: &mut [u8], at: usize, v: u32, end: u8) -> usize
     ensures { λ r. ⌜ Wrote (now (out .entry)) (now (out .exit)) at (decimal v ++ (end ∷ [])) r ⌝ }
     ensures { λ r. ⌜ r ≤ at + 6 ⌝ }
 {
-    let next = put_number(out, at, v);
+    let next = put_number(out, at, v as u64);
     put_byte(out, next, end)
 }
 

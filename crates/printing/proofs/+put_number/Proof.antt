@@ -1,5 +1,5 @@
 -- `printing::put_number` meets its contract, by the laws of `decimal`; the measure is the number itself.
-use mathlib.Core.Path.{_≡_}
+use mathlib.Core.Path.{_≡_, ap}
 use mathlib.Core.List.{[], _∷_, _++_}
 use Prim.Native.Nat.{ℕ, _+_, _/_, _%_, _≤_, _<_}
 use native.Mathlib.Omega.{arith}
@@ -7,7 +7,7 @@ use borrow.Author.Needs.{needs}
 use lib.ListN.{length}
 use Rattle.printing.specs.Printing.{decimal}
 use Rattle.printing.proofs.Writing.{wrote-then}
-use Rattle.printing.proofs.Decimals.{decimal-one, decimal-more, decimal-length}
+use Rattle.printing.proofs.Decimals.{decimal-one, decimal-more, decimal-longer}
 use borrow.Fn.Kinds.{In}
 use borrow.Fn.PlainCycle.{Measures, is, falls, and}
 use Rattle.printing.proofs.put_number.Reads as put-number
@@ -50,7 +50,9 @@ put-number-put-byte-requires : (t : ℕ) → put-number-lts.Need-put-byte-requir
   put-number-below t,
   put-number.Post,
 ) (put-number-at t) put-number.Post
-put-number-put-byte-requires t c κs = search needs
+put-number-put-byte-requires t c κs =
+    let s = c .before .before .before in
+    omega (arith, s .pre .1, ap length (decimal-one (s .args .v) (search needs)))
 
 put-number-same-length : (t : ℕ) → put-number-lts.Need-same-length (
   put-byte-reads.Asked,
@@ -77,7 +79,9 @@ put-number-put-number-requires : (t : ℕ) → put-number-lts.Need-put-number-re
   put-number-below t,
   put-number.Post,
 ) (put-number-at t) put-number.Post
-put-number-put-number-requires t c κs = (search needs, search needs)
+put-number-put-number-requires t c κs =
+    let s = c .before .before .before in
+    (search needs, omega (arith, s .pre .1, decimal-longer (s .args .v) (search needs)))
 
 put-number-add-put-byte-2 : (t : ℕ) → put-number-lts.Need-add-put-byte-2 (
   put-byte-reads.Asked,
@@ -104,8 +108,7 @@ put-number-put-byte-requires-2 : (t : ℕ) → put-number-lts.Need-put-byte-requ
 put-number-put-byte-requires-2 t c κs =
     let s = c .before .before .before .before .before .before .before in
     let w = c .before .before .before .put-number .ensures in
-    let n : length (decimal (s .args .v / 10)) ≤ 4 = decimal-length 4 (s .args .v / 10) (omega arith) (omega (arith, s .pre)) in
-    omega (arith, w .next, w .long, s .pre)
+    omega (arith, w .next, w .long, s .pre .1, decimal-longer (s .args .v) (search needs))
 
 put-number-same-length-2 : (t : ℕ) → put-number-lts.Need-same-length-2 (
   put-byte-reads.Asked,

@@ -7,7 +7,9 @@ use Rattle.printing.proofs.put_ended.Statement.{statement}
 use Rattle.printing.proofs.put_ended.Tie as tie
 
 put-number-requires : tie.Need-put-number-requires
-put-number-requires c κs = search needs
+put-number-requires c κs =
+    let s = c .before .before in
+    omega (arith, decimal-length 5 (s .args .v) (omega arith) (omega (arith, s .pre)), s .pre)
 
 put-byte-requires : tie.Need-put-byte-requires
 put-byte-requires c κs =
