@@ -1,0 +1,3 @@
+pub mod CellOrder
+pub mod ListOrder
+pub mod Windows

@@ -1,0 +1,6 @@
+pub mod Terminals
+pub mod Arrays
+pub mod Succession
+pub mod Windows
+pub mod Spelling
+pub mod Skips
