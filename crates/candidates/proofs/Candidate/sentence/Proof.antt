@@ -1,0 +1,65 @@
+-- `candidates::Candidate::sentence` meets its contract. The loop's invariant: the first i tokens are written, the others are 0, and the rest of the sentence is what the cells from i on say.
+use Prim.Native.Nat.{ℕ, _+_, _-_, _≤_, _<_}
+use native.Mathlib.Omega.{arith}
+use borrow.Author.Needs.{needs}
+use Rattle.candidates.proofs.Spelling.{Spelling, spelled-none, spelled-turn, spelled-whole, step-low}
+use Rattle.candidates.proofs.Candidate.sentence.Statement.{statement}
+use Rattle.candidates.proofs.Candidate.sentence.Tie as tie
+
+abbrev Inv-loop : tie.InvT-loop
+Inv-loop self n tokens₀ line₀ i₀ tokens line i = Spelling self n tokens line i
+
+abbrev μ-loop : tie.MeasureT-loop
+μ-loop self n tokens₀ line₀ i₀ tokens line i = n - i
+
+loop-holds : tie.Need-loop-holds Inv-loop μ-loop
+loop-holds c = spelled-none (c .args .self) (c .args .n) (c .pre .1)
+
+cell-requires : tie.Need-cell-requires Inv-loop μ-loop
+cell-requires c κs = search needs
+
+cast-s : tie.Need-cast-s Inv-loop μ-loop
+cast-s c = search needs
+
+add-line : tie.Need-add-line Inv-loop μ-loop
+add-line c =
+    let l = c .before .before .before in
+    let k = step-low (l .before .args .self) _ _ _ _ (c .before .before .loop-test .taken) (l .before .pre .0) (l .loop .inv) _ (c .before .cell .ensures) in
+    omega (arith, k, l .loop .inv .low, c .before .before .loop-test .taken, l .before .pre .0)
+
+mul-tokens : tie.Need-mul-tokens Inv-loop μ-loop
+mul-tokens c = search needs
+
+array-set-from-tokens : tie.Need-array-set-from-tokens Inv-loop μ-loop
+array-set-from-tokens c = search needs
+
+add-i : tie.Need-add-i Inv-loop μ-loop
+add-i c = search needs
+
+loop-less : tie.Need-loop-less Inv-loop μ-loop
+loop-less c = search needs
+
+loop-again : tie.Need-loop-again Inv-loop μ-loop
+loop-again c =
+    let l = c .before .before .before in
+    spelled-turn (l .before .args .self) _ _ _ _ (c .before .before .loop-test .taken) (l .before .pre .0) (l .loop .inv) _ (c .before .cell .ensures)
+
+returns : tie.Need-returns Inv-loop μ-loop
+returns c = spelled-whole _ _ _ _ _ (c .loop-test .left) (c .before .loop .inv)
+
+pub sentence-spec : {M : Type 1} → statement M
+sentence-spec =
+    tie.close
+    (tie.spec
+    Inv-loop
+    μ-loop
+    loop-holds
+    cell-requires
+    cast-s
+    add-line
+    mul-tokens
+    array-set-from-tokens
+    add-i
+    loop-less
+    loop-again
+    returns)
