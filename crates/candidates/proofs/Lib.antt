@@ -7,3 +7,7 @@ pub mod Lowering
 pub mod Narrowing
 pub mod Gaps
 pub mod Columns
+pub mod TerminalSets
+pub mod Counting
+pub mod Limit
+pub mod Measure
