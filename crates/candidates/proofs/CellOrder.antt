@@ -1,18 +1,13 @@
 -- The order of cells that come after a token in column p: the least, the next and the last of them.
-use mathlib.Core.Path.{_≡_, refl, sym, _∙_, ap, subst}
-use mathlib.Core.List.{List, [], _∷_}
-use mathlib.Core.Logic.{_⊎_, inl, inr, ⊎-elim}
+use mathlib.Core.Path.{_≡_, refl}
+use mathlib.Core.Logic.{_⊎_, inl, inr}
 use Prim.Native.Nat.{ℕ, zero, suc, _+_, _≤_, _<_}
 use native.Mathlib.Omega.{arith}
-use native.Mathlib.Decide.{decLe, decLt, ℕ-discrete}
-use lib.ListN.{length, take}
-use Rattle.grammar.specs.declared.Token.{Token}
+use native.Mathlib.Decide.{decLt}
 use Rattle.grammar.specs.declared.Cell.{Cell}
-use Rattle.grammar.specs.Layout.{line, col}
-use Rattle.grammar.specs.Candidates.{RisingFrom, token, placed, Ranged, Cells, Candidate, CellBefore, Before}
+use Rattle.grammar.specs.Candidates.{CellBefore}
 use Rattle.grammar.proofs.SweepLaws.{cell-path}
-use Rattle.candidates.specs.Succession.{Shares}
-use Rattle.candidates.specs.Windows.{Fits, Fit, LeastSpot, LeastCell, NextCell, LastCell, Least, Next, Last}
+use Rattle.candidates.specs.Windows.{Fits, LeastSpot, LeastCell, NextCell, LastCell}
 
 -- a cell of no greater terminal, step or column
 no-later : (c d : Cell) → d .terminal ≤ c .terminal → (d .terminal ≡ c .terminal → d .step ≤ c .step) → (d .terminal ≡ c .terminal → d .step ≡ c .step → d .column ≤ c .column) → (d ≡ c) ⊎ CellBefore d c

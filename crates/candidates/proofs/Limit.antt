@@ -6,9 +6,8 @@ use native.Mathlib.Omega.{arith}
 use native.Mathlib.Nat.{pow-suc, pow-zero, mul-mul-mul-comm, mul-comm, mul-one, one-mul, mul-le-mul-left, mul-le-mul, mul-pos, mul-zero, zero-mul}
 use native.Mathlib.Decide.{le-ind}
 use native.Mathlib.Numerals.{add-one}
-use lib.Dec.{leb}
 use Rattle.sets.specs.Says.{Says}
-use Rattle.sets.proofs.Says.{fails, says-leb, says-iff}
+use Rattle.sets.proofs.Says.{fails}
 use Rattle.grammar.specs.Sweeps.{arrangements}
 
 -- with t terminals and n columns, of i tokens
@@ -57,8 +56,8 @@ whole t k = refl
 pub limit-over : (t k i m b : ℕ) → 1 ≤ i → i ≤ k → m ≡ partly t k i → b < m → Says false (arrangements t k ≤ b)
 limit-over t k i m b h l e u = fails (λ v. let x : b < partly t k k = partly-above t k i k b h l (rw (← e) u) in omega (arith, whole t k))
 
-pub limit-end : (t k i m b : ℕ) → i ≡ k → m ≡ partly t k i → Says (leb m b) (arrangements t k ≤ b)
-limit-end t k i m b h e = let q : m ≡ arrangements t k = e ∙ ap (partly t k) h ∙ whole t k in says-iff (λ l. omega arith) (λ l. omega arith) (says-leb m b)
+pub limit-end : (t k i m : ℕ) → i ≡ k → m ≡ partly t k i → m ≡ arrangements t k
+limit-end t k i m h e = e ∙ ap (partly t k) h ∙ whole t k
 
 -- ---- no product of the loop wraps
 

@@ -1,18 +1,17 @@
 -- The order of lists of cells: one cell's least, next and last make those of the cells from it on.
-use mathlib.Core.Path.{_≡_, refl, sym, _∙_, ap, subst}
+use mathlib.Core.Path.{_≡_, refl, sym, ap, subst}
 use mathlib.Core.List.{List, [], _∷_}
 use mathlib.Core.Logic.{_⊎_, inl, inr, ⊎-elim}
-use Prim.Native.Nat.{ℕ, zero, suc, _+_, _≤_, _<_}
+use Prim.Native.Nat.{ℕ, suc, _+_}
 use native.Mathlib.Omega.{arith}
-use native.Mathlib.Decide.{decLe, decLt, ℕ-discrete}
+use native.Mathlib.Decide.{ℕ-discrete}
 use lib.ListN.{length, take}
 use Rattle.grammar.specs.declared.Token.{Token}
 use Rattle.grammar.specs.declared.Cell.{Cell}
 use Rattle.grammar.specs.Layout.{line, col}
-use Rattle.grammar.specs.Candidates.{RisingFrom, token, placed, Ranged, Cells, Candidate, CellBefore, Before}
-use Rattle.grammar.proofs.SweepLaws.{cell-path}
+use Rattle.grammar.specs.Candidates.{RisingFrom, token, placed, Cells, Candidate, CellBefore, Before}
 use Rattle.candidates.specs.Succession.{Shares}
-use Rattle.candidates.specs.Windows.{Fits, Fit, LeastSpot, LeastCell, NextCell, LastCell, Least, Next, Last}
+use Rattle.candidates.specs.Windows.{Fits, Fit, LeastCell, NextCell, LastCell, Least, Next, Last}
 
 -- ---- a candidate is what fits after column 0 with a first step of 0
 

@@ -1,21 +1,20 @@
 -- A line step of 2 reads like a step of 1: every token from there on goes one line up, and each mark that held holds.
-use mathlib.Core.Path.{_≡_, refl, sym, _∙_, ap, ap₂, subst}
+use mathlib.Core.Path.{_≡_, refl, _∙_, ap, ap₂, subst}
 use mathlib.Core.List.{List, [], _∷_, map}
-use mathlib.Core.Logic.{_⊎_, inl, inr, ⊎-elim}
+use mathlib.Core.Logic.{_⊎_, inl, inr}
 use Prim.Native.Nat.{ℕ, zero, suc, _+_, _-_, _≤_, _<_, min}
 use native.Mathlib.Omega.{arith}
-use native.Mathlib.Decide.{decLt}
 use lib.ListN.{length, take}
 use Rattle.grammar.specs.declared.Token.{Token}
 use Rattle.grammar.specs.declared.Cell.{Cell}
-use Rattle.grammar.specs.Layout.{line, col, Every}
+use Rattle.grammar.specs.Layout.{line, Every}
 use Rattle.grammar.specs.Trees.{Rules, TwoTrees}
 use Rattle.grammar.specs.Candidates.{token, placed, sentence, Candidate, Before}
-use Rattle.grammar.proofs.Transfer.{Keeps, Alike, two-keeps}
+use Rattle.grammar.proofs.Transfer.{Alike, two-keeps}
 use Rattle.candidates.specs.Terminals.{Among}
 use Rattle.candidates.specs.Succession.{Shares}
 use Rattle.candidates.specs.Skips.{TwoBefore}
-use Rattle.candidates.specs.Windows.{Fits, Fit}
+use Rattle.candidates.specs.Windows.{Fit}
 use Rattle.candidates.proofs.Places.{At}
 use Rattle.candidates.proofs.ListOrder.{fit-candidate, candidate-fit}
 

@@ -1,5 +1,5 @@
 -- A column that no token is in reads like none: every token past it goes one column back, and each mark that held holds.
-use mathlib.Core.Path.{_≡_, refl, sym, _∙_, ap, ap₂, subst}
+use mathlib.Core.Path.{_≡_, refl, _∙_, ap, ap₂, subst}
 use mathlib.Core.List.{List, [], _∷_, map}
 use mathlib.Core.Logic.{_⊎_, inl, inr, ⊎-elim}
 use Prim.Native.Nat.{ℕ, zero, suc, _+_, _-_, _≤_, _<_, min}
@@ -12,11 +12,11 @@ use Rattle.grammar.specs.Layout.{line, col, Every}
 use Rattle.grammar.specs.Trees.{Rules, TwoTrees}
 use Rattle.grammar.specs.Candidates.{placed, sentence, Candidate, Before}
 use Rattle.grammar.proofs.SweepLaws.{cell-path}
-use Rattle.grammar.proofs.Transfer.{Keeps, Alike, two-keeps}
+use Rattle.grammar.proofs.Transfer.{Alike, two-keeps}
 use Rattle.candidates.specs.Terminals.{Among}
 use Rattle.candidates.specs.Succession.{Shares}
 use Rattle.candidates.specs.Skips.{TwoBefore}
-use Rattle.candidates.specs.Windows.{Fits, Fit}
+use Rattle.candidates.specs.Windows.{Fit}
 use Rattle.candidates.proofs.Places.{At}
 use Rattle.candidates.proofs.ListOrder.{fit-candidate, candidate-fit}
 

@@ -10,10 +10,14 @@ use lib.Seq.{take-suc-set, drop-set-lt, append-snoc, drop-cons}
 use Rattle.grammar.specs.declared.Cell.{Cell}
 use Rattle.grammar.specs.declared.Token.{Token}
 use Rattle.grammar.specs.declared.Sentence.{Sentence}
+use Rattle.grammar.specs.Layout.{Word}
+use Rattle.grammar.specs.Content.{spelled, Positioned}
 use Rattle.grammar.specs.Candidates.{token, placed, sentence, Cells}
 use Rattle.grammar.specs.Candidates as Of
+use Rattle.grammar.proofs.SweepLaws.{sentence-length}
 use Rattle.candidates.specs.declared.Candidate.{Candidate}
 use Rattle.candidates.specs.Arrays.{cellAt, cells}
+use Rattle.candidates.specs.Succession.{Shares}
 use Rattle.candidates.specs.Spelling.{LowSteps, nowhere, Spells}
 use Rattle.candidates.proofs.Windows.{cells-turn, cells-end}
 
@@ -75,3 +79,27 @@ spelled-whole c n tokens line i h s =
     let e : i ≡ n = omega (arith, s .at) in
     let f : take i tokens ++ [] ≡ sentence (cells c 0 n) = rw (cells-end n i c h) at (s .front) in
     record { count = refl; front = rw (e, append-nil) at f; past = rw e at (s .past) }
+
+-- ---- what a caller reads off
+
+module _ {cs : List Cell} {n : ℕ} {r : Sentence} (x : Spells cs n r) where
+  -- the word is the candidate's sentence
+  pub spelled-is : spelled r ≡ sentence cs
+  spelled-is = ap (λ (k : ℕ). take k (r .tokens)) (x .count) ∙ x .front
+
+  -- so it is a sentence as the token sheet's reader would give
+  pub positioned : {Q : ℕ → Type 0} → n ≤ 7 → Of.Candidate Q n cs → Positioned r
+  positioned h k = record {
+    few = omega (arith, x .count);
+    whole = ap length spelled-is ∙ sentence-length 1 cs ∙ k .arranged .size ∙ sym (x .count);
+    rising = rw spelled-is (k .rising);
+  }
+
+placed-take : (b l : ℕ) (cs : List Cell) → take b (placed l cs) ≡ placed l (take b cs)
+placed-take zero l cs = refl
+placed-take (suc b) l [] = refl
+placed-take (suc b) l (c ∷ cs) = ap (λ (w : Word). token (l + c .step) c ∷ w) (placed-take b (l + c .step) cs)
+
+-- what shares cells shares tokens
+pub sentence-shares : (b : ℕ) (ds cs : List Cell) → Shares b ds cs → take b (sentence ds) ≡ take b (sentence cs)
+sentence-shares b ds cs e = placed-take b 1 ds ∙ ap (placed 1) e ∙ sym (placed-take b 1 cs)

@@ -7,6 +7,7 @@ use native.Mathlib.Omega.{arith}
 use native.Mathlib.Numerals.{add-one}
 use native.Mathlib.Nat.{sub-zero}
 use lib.ListN.{length, take}
+use Rattle.sets.proofs.Says.{true-not-false}
 use Rattle.grammar.specs.declared.Cell.{Cell}
 use Rattle.grammar.specs.Candidates as Of
 use Rattle.candidates.specs.declared.Candidate.{Candidate}
@@ -15,7 +16,7 @@ use Rattle.candidates.specs.declared.Advanced.the-variants as Advanced
 use Rattle.candidates.specs.Terminals.{Among, Lowest}
 use Rattle.candidates.specs.Arrays.{cellAt, cells}
 use Rattle.candidates.specs.Succession.{Shares, First, Follows, Ends, Succeeds}
-use Rattle.candidates.specs.Windows.{Fits, Fit, LeastSpot, Room, LeastCell, NextCell, LastCell, Advances, Least, Next, Last, largestStep, columnBefore, Changed, Kept, Lowered, Filled, Raised, Raises}
+use Rattle.candidates.specs.Windows.{Fits, Fit, LeastSpot, Room, NextCell, LastCell, Advances, Least, Next, Last, largestStep, columnBefore, Changed, Kept, Lowered, Filled, Raised, Raises}
 use Rattle.candidates.proofs.CellOrder.{least-cell}
 use Rattle.candidates.proofs.ListOrder.{fit-candidate, candidate-fit, least-nil, last-zero, least-cons, last-cons, next-tail, next-head}
 
@@ -81,21 +82,24 @@ module _ (n : ℕ) (c : Candidate) (i m p : ℕ) (em : m ≡ largestStep i) (ep 
     pub fits-at : (s : ℕ) → Fits (Among s) n (largestStep i) (columnBefore c i) (cellAt c i) → Fits (Among s) n m p d
     fits-at s f = rw (em, ep, ed) f
 
-    pub last-at : (s : ℕ) (a : Advanced) → a ≡ Advanced.Last → Advances s n m p d a → LastCell (Among s) n (largestStep i) (columnBefore c i) (cellAt c i)
-    last-at s a ea u = let l : Advances s n m p d Advanced.Last = rw ea at u in rw (em, ep, ed) at l
+    pub last-at : (s : ℕ) (a : Advanced) → a ≡ Advanced.Last → Advances s n m p d a → (upto : ℕ) (r : Candidate) → Raises s n c i false upto r
+    last-at s a ea u upto r =
+        let l : Advances s n m p d Advanced.Last = rw ea at u in
+        record { next = λ e. absurd (true-not-false (sym e)); last = λ e. rw (em, ep, ed) at l }
 
-    pub raised-at : (s : ℕ) (a : Advanced) (e : Cell) (c′ r : Candidate) → a ≡ Advanced.To e → Advances s n m p d a → Changed c i e c′ → Filled s n c′ (i + 1) r → Raised s n c i (i + 1) r
+    pub raised-at : (s : ℕ) (a : Advanced) (e : Cell) (c′ r : Candidate) → a ≡ Advanced.To e → Advances s n m p d a → Changed c i e c′ → Filled s n c′ (i + 1) r → Raises s n c i true (i + 1) r
     raised-at s a e c′ r ea u ch f =
         let x : Advances s n m p d (Advanced.To e) = rw ea at u in
         let y : NextCell (Among s) n (largestStep i) (columnBefore c i) (cellAt c i) e = rw (em, ep, ed) at x in
         let q : cellAt r i ≡ cellAt c′ i = f .kept i (omega arith) in
         let l : Least (Among s) n 2 (cellAt c′ i .column) (n - (i + 1)) (cells r (i + 1) (n - (i + 1))) = rw (step-turn i, column-turn c′ i) at (f .least) in
-        record {
+        let z : Raised s n c i (i + 1) r = record {
           at = refl;
           kept = λ j k. f .kept j (omega arith) ∙ ch .other j (λ z. omega arith);
           next = rw (q ∙ ch .here) y;
           least = subst (λ (x : ℕ). Least (Among s) n 2 x (n - (i + 1)) (cells r (i + 1) (n - (i + 1)))) (sym (ap (λ (x : Cell). x .column) q)) l;
-        }
+        } in
+        record { next = λ e. z; last = λ e. absurd (true-not-false e) }
 
 -- ---- what fits, follows and ends from i on
 
@@ -173,7 +177,7 @@ filled-first s n c r f =
     }
 
 module _ (s n b : ℕ) (c : Candidate) (k : Of.Candidate (Among s) n (cells c 0 n)) where
-  pub raised-follows : (i upto : ℕ) (r : Candidate) → i < b → b ≤ n → LastFrom s n c b (i + 1) → Raised s n c i upto r → Follows s n b (cells c 0 n) upto (cells r 0 n)
+  raised-follows : (i upto : ℕ) (r : Candidate) → i < b → b ≤ n → LastFrom s n c b (i + 1) → Raised s n c i upto r → Follows s n b (cells c 0 n) upto (cells r 0 n)
   raised-follows i upto r h hb l x =
       let y : Next (Among s) n 0 0 b (cells c 0 n) (cells r 0 n) = rw (sub-zero n, sub-zero b) at (next-whole s n c k b i r (omega arith) (omega arith) (x .kept) (next-here s n c b i upto r (omega arith) h l x)) in
       record {
@@ -185,7 +189,7 @@ module _ (s n b : ℕ) (c : Candidate) (k : Of.Candidate (Among s) n (cells c 0 
         kept = kept-shares c r (upto - 1) n (omega (arith, x .at)) (λ j q. x .kept j (omega (arith, x .at)));
       }
 
-  pub last-ends : LastFrom s n c b 0 → Ends s n b (cells c 0 n)
+  last-ends : LastFrom s n c b 0 → Ends s n b (cells c 0 n)
   last-ends l =
       let x : Last (Among s) n 0 0 b (cells c 0 n) = rw (sub-zero n, sub-zero b) at l in
       record { last = λ ds d. x .last ds (d .arranged .size ∙ sym (cells-size c 0 n)) (candidate-fit (Among s) n ds d) }
@@ -195,10 +199,11 @@ module _ (s n b : ℕ) (c : Candidate) (k : Of.Candidate (Among s) n (cells c 0 
   last-before : (i : ℕ) → 0 < i → LastFrom s n c b i → LastFrom s n c b ((i - 1) + 1)
   last-before i h l = let e : i ≡ (i - 1) + 1 = omega arith in subst (LastFrom s n c b) e l
 
-  pub raises-follows : (i upto : ℕ) (more : Bool) (r : Candidate) → 0 < i → i ≤ b → b ≤ n → LastFrom s n c b i → more ≡ true → Raises s n c (i - 1) more upto r → Succeeds s n b (cells c 0 n) more upto (cells r 0 n)
-  raises-follows i upto true r h hi hb l e x = raised-follows (i - 1) upto r (omega arith) hb (last-before i h l) x
-  raises-follows i upto false r h hi hb l e x = absurd (let z : _≡_ {A = ℕ} 0 1 = cc in omega arith)
+  pub raises-follows : (i upto : ℕ) {more : Bool} {r : Candidate} → 0 < i → i ≤ b → b ≤ n → LastFrom s n c b i → more ≡ true → Raises s n c (i - 1) more upto r → Succeeds s n b (cells c 0 n) more upto (cells r 0 n)
+  raises-follows i upto {more} {r} h hi hb l e x = record { next = λ q. raised-follows (i - 1) upto r (omega arith) hb (last-before i h l) (x .next e); none = λ q. absurd (true-not-false (sym e ∙ q)) }
 
-  pub raises-last : (i upto : ℕ) (more : Bool) (r : Candidate) → 0 < i → i ≤ b → b ≤ n → LastFrom s n c b i → more ≡ false → Raises s n c (i - 1) more upto r → LastFrom s n c b (i - 1)
-  raises-last i upto true r h hi hb l e x = absurd (let z : _≡_ {A = ℕ} 0 1 = cc in omega arith)
-  raises-last i upto false r h hi hb l e x = last-turn s n c b (i - 1) (omega arith) (omega arith) (last-before i h l) x
+  pub raises-last : (i upto : ℕ) {more : Bool} {r : Candidate} → 0 < i → i ≤ b → b ≤ n → LastFrom s n c b i → more ≡ false → Raises s n c (i - 1) more upto r → LastFrom s n c b (i - 1)
+  raises-last i upto h hi hb l e x = last-turn s n c b (i - 1) (omega arith) (omega arith) (last-before i h l) (x .last e)
+
+  pub last-succeeds : (upto : ℕ) (rs : List Cell) → LastFrom s n c b 0 → Succeeds s n b (cells c 0 n) false upto rs
+  last-succeeds upto rs l = record { next = λ e. absurd (true-not-false (sym e)); none = λ e. last-ends l }

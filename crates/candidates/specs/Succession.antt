@@ -32,7 +32,7 @@ pub record Follows (s n b : ℕ) (cs : List Cell) (upto : ℕ) (rs : List Cell) 
 pub record Ends (s n b : ℕ) (cs : List Cell) : Type 0 where
   pub last : (ds : List Cell) → Candidate (Among s) n ds → Shares b ds cs ⊎ Before ds cs
 
--- the next one, or that there is none
-abbrev pub Succeeds : ℕ → ℕ → ℕ → List Cell → Bool → ℕ → List Cell → Type 0
-Succeeds s n b cs true upto rs = Follows s n b cs upto rs
-Succeeds s n b cs false upto rs = Ends s n b cs
+-- the next one where there is more, else there is none
+pub record Succeeds (s n b : ℕ) (cs : List Cell) (more : Bool) (upto : ℕ) (rs : List Cell) : Type 0 where
+  pub next : more ≡ true → Follows s n b cs upto rs
+  pub none : more ≡ false → Ends s n b cs

@@ -118,7 +118,7 @@ pub record Raised (s n : ℕ) (c : Candidate) (i upto : ℕ) (r : Candidate) : T
   pub next : NextCell (Among s) n (largestStep i) (columnBefore c i) (cellAt c i) (cellAt r i)
   pub least : Least (Among s) n 2 (cellAt r i .column) (n - (i + 1)) (cells r (i + 1) (n - (i + 1)))
 
--- so it is, or there is no next cell
-abbrev pub Raises : ℕ → ℕ → Candidate → ℕ → Bool → ℕ → Candidate → Type 0
-Raises s n c i true upto r = Raised s n c i upto r
-Raises s n c i false upto r = LastCell (Among s) n (largestStep i) (columnBefore c i) (cellAt c i)
+-- so it is where there is more, else the cell at i is the last
+pub record Raises (s n : ℕ) (c : Candidate) (i : ℕ) (more : Bool) (upto : ℕ) (r : Candidate) : Type 0 where
+  pub next : more ≡ true → Raised s n c i upto r
+  pub last : more ≡ false → LastCell (Among s) n (largestStep i) (columnBefore c i) (cellAt c i)

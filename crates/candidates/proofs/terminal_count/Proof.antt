@@ -2,7 +2,6 @@
 use Prim.Native.Nat.{_<_, _^_}
 use native.Mathlib.Omega.{arith}
 use lib.Count.{ones-le}
-use borrow.Author.Needs.{needs}
 use Rattle.candidates.proofs.Counting.{counted}
 use Rattle.candidates.proofs.terminal_count.Statement.{statement}
 use Rattle.candidates.proofs.terminal_count.Tie as tie

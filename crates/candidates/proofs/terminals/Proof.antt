@@ -1,5 +1,5 @@
 -- `candidates::terminals` meets its contract. The loop's invariant: the set has the terminals of the first i rules.
-use Prim.Native.Nat.{ℕ, _+_, _-_, _≤_, _<_}
+use Prim.Native.Nat.{_-_, _≤_, _<_}
 use mathlib.Core.Path.{_≡_}
 use native.Mathlib.Omega.{arith}
 use borrow.Author.Needs.{needs}

@@ -1,5 +1,5 @@
 -- `candidates::with_terminal` meets its contract, kind by kind.
-use mathlib.Core.Path.{_≡_, sym, ap, _∙_}
+use mathlib.Core.Path.{sym, ap, _∙_}
 use borrow.Author.Needs.{needs}
 use Rattle.candidates.specs.Terminals.{withTerminal}
 use Rattle.candidates.proofs.TerminalSets.{atom-small}

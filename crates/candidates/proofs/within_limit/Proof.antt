@@ -1,8 +1,10 @@
 -- `candidates::within_limit` meets its contract. The loop's invariant: `m` is the product for i tokens; above the limit it stays above.
-use Prim.Native.Nat.{ℕ, _+_, _-_, _≤_, _<_}
+use Prim.Native.Nat.{_-_, _≤_}
 use mathlib.Core.Path.{_≡_}
 use borrow.Author.Needs.{needs}
 use native.Mathlib.Omega.{arith}
+use borrow.Author.Tests.{leb-true, leb-false}
+use Rattle.grammar.specs.Sweeps.{arrangements}
 use Rattle.candidates.proofs.Limit.{partly, partly-one, partly-more, limit-over, limit-end, factor-small, start-small, product-small}
 use Rattle.candidates.proofs.within_limit.Statement.{statement}
 use Rattle.candidates.proofs.within_limit.Tie as tie
@@ -41,7 +43,11 @@ loop-again : tie.Need-loop-again Inv-loop μ-loop
 loop-again c = let l = c .before .before in (omega arith, search needs, partly-more _ _ _ _ (l .loop .inv .0) (l .loop .inv .2))
 
 returns-2 : tie.Need-returns-2 Inv-loop μ-loop
-returns-2 c = limit-end _ _ _ _ _ (omega (arith, c .before .loop .inv .1, c .loop-test .left)) (c .before .loop .inv .2)
+returns-2 c =
+    let l = c .before in
+    let a = l .before in
+    let e : l .loop .m ≡ arrangements (a .args .t) (a .args .k) = limit-end _ _ _ _ (omega (arith, l .loop .inv .1, c .loop-test .left)) (l .loop .inv .2) in
+    record { is = λ q. omega (arith, leb-true); isnt = λ q h. omega (arith, leb-false) }
 
 pub within-limit-spec : {M : Type 1} → statement M
 within-limit-spec =

@@ -1,5 +1,5 @@
 -- `candidates::Candidate::filled` meets its contract. The loop's invariant: what is filled from here on is filled from the start on.
-use Prim.Native.Nat.{ℕ, _+_, _-_, _≤_, _<_}
+use Prim.Native.Nat.{_-_, _≤_}
 use native.Mathlib.Omega.{arith}
 use borrow.Author.Needs.{needs}
 use Rattle.candidates.specs.declared.Candidate.{Candidate}

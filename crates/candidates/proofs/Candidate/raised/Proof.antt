@@ -37,7 +37,7 @@ returns c =
     let e = c .before .before in
     let a = e .before .before .before .before in
     last-at (a .args .n) (a .args .self) (a .args .i) _ _ (e .before .before .before .largest-step .ensures) (e .before .before .column-before .ensures) _ (e .before .cell .ensures) _ _
-    (c .enum-told .given .1) (e .advance .ensures)
+    (c .enum-told .given .1) (e .advance .ensures) _ _
 
 with-requires : tie.Need-with-requires
 with-requires c κs = search needs

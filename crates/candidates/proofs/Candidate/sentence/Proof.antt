@@ -1,5 +1,5 @@
 -- `candidates::Candidate::sentence` meets its contract. The loop's invariant: the first i tokens are written, the others are 0, and the rest of the sentence is what the cells from i on say.
-use Prim.Native.Nat.{ℕ, _+_, _-_, _≤_, _<_}
+use Prim.Native.Nat.{_-_}
 use native.Mathlib.Omega.{arith}
 use borrow.Author.Needs.{needs}
 use Rattle.candidates.proofs.Spelling.{Spelling, spelled-none, spelled-turn, spelled-whole, step-low}

@@ -1,9 +1,9 @@
 -- `candidates::Candidate::stale` meets its contract, by the laws of the two skips: a step of 2, and more columns left out than there are cells to come.
-use Prim.Native.Nat.{ℕ, _+_, _-_, _≤_, _<_}
+use Prim.Native.Nat.{_-_, _<_}
 use mathlib.Core.Path.{_≡_, sym, ap}
 use native.Mathlib.Omega.{arith}
 use borrow.Author.Needs.{needs}
-use borrow.Author.Tests.{ltb-true}
+use borrow.Author.Tests.{ltb-true, leb-true}
 use Rattle.sets.proofs.Says.{true-not-false}
 use Rattle.candidates.specs.Skips.{missing}
 use Rattle.candidates.proofs.Windows.{take-cells}
@@ -43,7 +43,7 @@ returns-3 c =
     let x = w .ensures in
     λ e. stale-gap (z .args .n) (z .args .b) (x .place) (w .result) _ (x .within)
     (at-cells (λ d. d .column ≡ w .result) (z .args .t1) (x .place) (z .args .n) (omega (arith, x .within, z .pre .0)) (x .there))
-    (omega (arith, ltb-true (z .args .n - z .args .b) (c .gaps .result) e, c .gaps .ensures, ap (missing (w .result)) (take-cells (z .args .t1) 0 (z .args .b) (z .args .n) (z .pre .0))))
+    (omega (arith, ltb-true, leb-true, c .gaps .ensures, ap (missing (w .result)) (take-cells (z .args .t1) 0 (z .args .b) (z .args .n) (z .pre .0))))
 
 pub stale-spec : {M : Type 1} → statement M
 stale-spec =

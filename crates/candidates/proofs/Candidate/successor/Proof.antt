@@ -1,9 +1,9 @@
 -- `candidates::Candidate::successor` meets its contract. The loop's invariant: of the cells from i on, none come after all that share them up to b.
-use Prim.Native.Nat.{ℕ, _+_, _-_, _≤_, _<_}
+use Prim.Native.Nat.{ℕ, _-_, _≤_, _<_}
 use mathlib.Core.Path.{_≡_, subst}
 use native.Mathlib.Omega.{arith}
 use borrow.Author.Needs.{needs}
-use Rattle.candidates.proofs.Windows.{LastFrom, fits-here, last-start, last-ends, raises-follows, raises-last}
+use Rattle.candidates.proofs.Windows.{LastFrom, fits-here, last-start, last-succeeds, raises-follows, raises-last}
 use Rattle.candidates.proofs.Candidate.successor.Statement.{statement}
 use Rattle.candidates.proofs.Candidate.successor.Tie as tie
 
@@ -29,7 +29,7 @@ returns : tie.Need-returns Inv-loop μ-loop
 returns c =
     let l = c .before .before .before in
     let a = l .before in
-    raises-follows (a .args .set) (a .args .n) (a .args .b) (a .args .self) (a .pre .1 .1) (l .loop .i) _ _ (c .before .raised .result .to) (c .before .before .loop-test .taken) (l .loop .inv .0) (a .pre .0 .2) (l .loop .inv .1)
+    raises-follows (a .args .set) (a .args .n) (a .args .b) (a .args .self) (a .pre .1 .1) (l .loop .i) _ (omega (arith, c .before .before .loop-test .taken)) (l .loop .inv .0) (a .pre .0 .2) (l .loop .inv .1)
     (c .if1 .taken) (c .before .raised .ensures)
 
 loop-less : tie.Need-loop-less Inv-loop μ-loop
@@ -40,7 +40,7 @@ loop-again c =
     let l = c .before .before .before in
     let a = l .before in (
       omega (arith, l .loop .inv .0),
-      raises-last (a .args .set) (a .args .n) (a .args .b) (a .args .self) (a .pre .1 .1) (l .loop .i) _ _ (c .before .raised .result .to) (c .before .before .loop-test .taken) (l .loop .inv .0) (a .pre .0 .2) (l .loop .inv .1)
+      raises-last (a .args .set) (a .args .n) (a .args .b) (a .args .self) (a .pre .1 .1) (l .loop .i) _ (omega (arith, c .before .before .loop-test .taken)) (l .loop .inv .0) (a .pre .0 .2) (l .loop .inv .1)
           (c .if1 .left) (c .before .raised .ensures),
     )
 
@@ -49,7 +49,7 @@ returns-2 c =
     let l = c .before in
     let a = l .before in
     let e : l .loop .i ≡ 0 = omega (arith, c .loop-test .left) in
-    last-ends (a .args .set) (a .args .n) (a .args .b) (a .args .self) (a .pre .1 .1) (subst (λ (x : ℕ). LastFrom (a .args .set) (a .args .n) (a .args .self) (a .args .b) x) e (l .loop .inv .1))
+    last-succeeds (a .args .set) (a .args .n) (a .args .b) (a .args .self) (a .pre .1 .1) _ _ (subst (λ (x : ℕ). LastFrom (a .args .set) (a .args .n) (a .args .self) (a .args .b) x) e (l .loop .inv .1))
 
 pub successor-spec : {M : Type 1} → statement M
 successor-spec =

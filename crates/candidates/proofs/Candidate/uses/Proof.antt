@@ -1,9 +1,8 @@
 -- `candidates::Candidate::uses` meets its contract. The loop's invariant: the column is used by the first b cells exactly if it is by those from i on.
 use borrow.Author.Needs.{needs}
 use native.Mathlib.Omega.{arith}
-use mathlib.Core.Path.{_≡_, refl, sym, ap, _∙_}
-use mathlib.Core.Bool.{Bool, true, false}
-use Prim.Native.Nat.{ℕ, _+_, _-_, _≤_, _<_}
+use mathlib.Core.Path.{_≡_, sym, _∙_}
+use Prim.Native.Nat.{_-_, _≤_}
 use native.Mathlib.Nat.{sub-zero}
 use Rattle.candidates.specs.Skips.{used}
 use Rattle.candidates.specs.Arrays.{cells}

@@ -1,5 +1,5 @@
 -- `candidates::Candidate::widest` meets its contract. The loop's invariant: `w` is the greatest of the first i columns.
-use Prim.Native.Nat.{ℕ, _+_, _-_, _≤_, _<_}
+use Prim.Native.Nat.{_-_, _≤_}
 use mathlib.Core.Path.{_≡_}
 use native.Mathlib.Omega.{arith}
 use borrow.Author.Needs.{needs}
