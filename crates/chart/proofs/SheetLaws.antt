@@ -1,0 +1,267 @@
+-- The whole span sheet: kept spans are settled, the rows are filled one after the other, and once all spans are settled the
+-- sheet is exact as far as the word is known and misses nothing of the rest.
+use mathlib.Core.Path.{_≡_, refl, sym, ap, _∙_, subst, subst₂}
+use mathlib.Core.Logic.{_⊎_, inl, inr, ⊎-elim, _↔_}
+use mathlib.Core.Bool.{Bool, true, false, not}
+use mathlib.Core.List.{List, [], _∷_}
+use Prim.Native.Nat.{ℕ, zero, suc, _+_, _-_, _*_, _^_, _≤_, _<_}
+use native.Mathlib.Omega.{arith}
+use native.Mathlib.Nat.{not-suc-le-zero}
+use native.Mathlib.Decide.{decLt, ℕ-discrete}
+use lib.ListN.{length, getD, take, drop}
+use lib.Seq.{take-all, take-take}
+use Rattle.sets.specs.Says.{Says}
+use Rattle.sets.specs.Sets.{In}
+use Rattle.sets.proofs.Says.{true-not-false}
+use Rattle.grammar.specs.Layout.{Word}
+use Rattle.grammar.specs.Trees.{Rules, Tree, Tree-discrete, Witness, Derives, NoTree, OneTree, TwoTrees}
+use Rattle.grammar.specs.Choices.{Distinct}
+use Rattle.grammar.specs.SpanSheet.{part, pairs, pairAt, firstWord, secondWord, SpanSheet}
+use Rattle.grammar.proofs.Marks.{token?}
+use Rattle.grammar.proofs.VerdictLaws.{none-not-one, none-not-two, one-not-two}
+use Rattle.marks.specs.Half.{Half, Completes}
+use Rattle.marks.proofs.HalfLaws.{completes-self}
+use Rattle.spans.specs.Changes.{Past, Kept}
+use Rattle.spans.proofs.Places.{pairAt-same}
+use Rattle.spans.proofs.ChangeLaws.{past-same, kept-past}
+use Rattle.spans.proofs.Uniqueness.{words-same}
+use Rattle.chart.specs.declared.Verdict.{Verdict}
+use Rattle.chart.specs.declared.Verdict.the-variants as Verdict
+use Rattle.chart.specs.Tables.{Table, One, Two, byTokens, Stand, Again}
+use Rattle.chart.specs.Filling.{Settled, Ground, Closed, Filled, Grown}
+use Rattle.chart.specs.Sheets.{Exact, RightTo, Covers, Charted, Holds, Judged, Hopeless, Settles}
+use Rattle.chart.proofs.Completeness.{complete, same}
+use Rattle.chart.proofs.Soundness.{sound-stand, sound-again}
+use Rattle.chart.proofs.FillLaws.{settled-kept, settled-empty}
+
+-- ---- what is kept
+
+-- what is exact is settled: a rule over exact parts has a tree, and so is in the words
+exact-settled : (ws : List ℕ) (g : Rules) (h : Half) (n from : ℕ) → Distinct g → h .known ≤ length (h .word) → from ≤ h .known → Exact g (h .word) n ws from
+    → (a b : ℕ) → a + b ≤ from → Settled (One ws n) (Two ws n) g h a b
+exact-settled ws g h n from distinct inner low x a b fit = record {
+  some = λ A k. x .one a b A fit .0;
+  more = λ A k. x .two a b A fit .0;
+  each = λ A i l c. x .one a b A fit .1 (sound-stand (One ws n) g h inner a b (omega arith) one A i l c);
+  again = λ A q. x .two a b A fit .1 (sound-again (One ws n) (Two ws n) g h inner distinct a b (omega arith) one two A q);
+}
+  where
+    one : (c d A : ℕ) → a ≤ c → c + d ≤ a + b → One ws n c d A → Derives g A (part (h .word) c d)
+    one c d A p q = x .one c d A (omega arith) .0
+
+    two : (c d A : ℕ) → a ≤ c → c + d ≤ a + b → Two ws n c d A → TwoTrees g A (part (h .word) c d)
+    two c d A p q = x .two c d A (omega arith) .0
+
+-- ---- the sheet, span by span
+
+-- with the empty word settled, the row of length 1 is to be filled
+first-row : (ws : List ℕ) (g : Rules) (h : Half) (n from : ℕ) → ((a b : ℕ) → a + b ≤ from → Settled (One ws n) (Two ws n) g h a b) → Filled ws g h n from 0 1
+first-row ws g h n from t = record { done = λ a b fit d. ⊎-elim (t a b) (λ e. ⊎-elim (λ l. empty a b l) (λ l. absurd (not-suc-le-zero (l .1))) e) d }
+  where
+    empty : (a b : ℕ) → b < 1 → Settled (One ws n) (Two ws n) g h a b
+    empty a b l = subst (Settled (One ws n) (Two ws n) g h a) (let z : 0 ≡ b = omega arith in z) (settled-empty ws g h n a (t 0 0 (omega arith)))
+
+pub begun-kept : (ws : List ℕ) (g : Rules) (h : Half) (n from : ℕ) → Distinct g → h .known ≤ length (h .word) → from ≤ h .known → 0 < from → RightTo g (h .word) n ws from → Grown ws ws g h n from 1
+begun-kept ws g h n from distinct inner low pos x =
+    record { filled = first-row ws g h n from (exact-settled ws g h n from distinct inner low (x .exact pos)); past = past-same (2 * pairs n) ws }
+
+pub begun-new : (ws ws′ : List ℕ) (g : Rules) (h : Half) (n from : ℕ) → from ≡ 0 → Closed ws ws′ g h n 0 0 → Grown ws ws′ g h n from 1
+begun-new ws ws′ g h n from e c =
+    record { filled = first-row ws′ g h n from here; past = kept-past n 0 0 (omega arith) (c .kept) }
+  where
+    here : (a b : ℕ) → a + b ≤ from → Settled (One ws′ n) (Two ws′ n) g h a b
+    here a b l = subst₂ (Settled (One ws′ n) (Two ws′ n) g h) (let z : 0 ≡ a = omega arith in z) (let z : 0 ≡ b = omega arith in z) (c .settled)
+
+-- the parts of the next span are settled
+pub filled-ground : (ws : List ℕ) (g : Rules) (h : Half) (n from s len : ℕ) → s + len ≤ n → Filled ws g h n from s len → Ground ws g h n s len
+filled-ground ws g h n from s len fit f = record { parts = λ a b x y l. f .done a b (omega arith) (inr (inl l)) }
+
+-- the next span is settled
+pub filled-on : (ws ws′ : List ℕ) (g : Rules) (h : Half) (n from s len : ℕ) → 0 < len → s + len ≤ n → from < s + len → Filled ws g h n from s len → Closed ws ws′ g h n s len
+    → Filled ws′ g h n from (s + 1) len
+filled-on ws ws′ g h n from s len pos fit far f c = record { done = done }
+  where
+    -- a part of a span that is done has another pair
+    clear : (a b : ℕ) → a + b ≤ n → (a + b ≤ from) ⊎ ((b < len) ⊎ ((b ≡ len) × (a < s))) → (i j : ℕ) → a ≤ i → i + j ≤ a + b → pairAt n i j ≡ pairAt n s len → ⊥
+    clear a b q d i j x y e =
+        let z = pairAt-same n i j s len (omega arith) fit e in
+        ⊎-elim (λ o. omega (arith, z .0)) (λ o. ⊎-elim (λ l. omega (arith, z .0, o)) (λ l. ⊎-elim (λ m. omega (arith, z .0)) (λ m. omega (arith, z .0, m .0, m .1)) l) d) (z .1)
+
+    old : (a b : ℕ) → a + b ≤ n → (a + b ≤ from) ⊎ ((b < len) ⊎ ((b ≡ len) × (a < s))) → Settled (One ws′ n) (Two ws′ n) g h a b
+    old a b q d = settled-kept ws ws′ g h n a b (pairAt n s len) (c .kept) (clear a b q d) (f .done a b q d)
+
+    here : (a b : ℕ) → a + b ≤ n → b ≡ len → a < s + 1 → Dec (a < s) → Settled (One ws′ n) (Two ws′ n) g h a b
+    here a b q e l (yes k) = old a b q (inr (inr (e, k)))
+    here a b q e l (no k) = subst₂ (Settled (One ws′ n) (Two ws′ n) g h) (let z : s ≡ a = omega arith in z) (sym e) (c .settled)
+
+    done : (a b : ℕ) → a + b ≤ n → (a + b ≤ from) ⊎ ((b < len) ⊎ ((b ≡ len) × (a < s + 1))) → Settled (One ws′ n) (Two ws′ n) g h a b
+    done a b q d = ⊎-elim (λ x. old a b q (inl x)) (λ y. ⊎-elim (λ x. old a b q (inr (inl x))) (λ x. here a b q (x .0) (x .1) (decLt a s)) y) d
+
+-- the spans of a length that end at or before `from` are passed over
+pub filled-skip : (ws : List ℕ) (g : Rules) (h : Half) (n from len : ℕ) → Filled ws g h n from 0 len → Filled ws g h n from (from + 1 - len) len
+filled-skip ws g h n from len f = record {
+  done = λ a b q d. f .done a b q (⊎-elim inl (λ x. ⊎-elim (λ y. inr (inl y)) (λ y. inl (omega (arith, y .0, y .1))) x) d);
+}
+
+-- all spans of a length are settled
+pub filled-row : (ws : List ℕ) (g : Rules) (h : Half) (n from s len : ℕ) → n < s + len → Filled ws g h n from s len → Filled ws g h n from 0 (len + 1)
+filled-row ws g h n from s len past f = record { done = λ a b q d. f .done a b q (⊎-elim inl (λ x. inr (go a b q (decLt b len) x)) d) }
+  where
+    go : (a b : ℕ) → a + b ≤ n → Dec (b < len) → (b < len + 1) ⊎ ((b ≡ len + 1) × (a < 0)) → (b < len) ⊎ ((b ≡ len) × (a < s))
+    go a b q (yes l) d = inl l
+    go a b q (no l) d = ⊎-elim (λ x. inr (omega arith, omega arith)) (λ x. absurd (not-suc-le-zero (x .1))) d
+
+-- ---- the whole sheet
+
+module _ (ws ws′ : List ℕ) (g : Rules) (h : Half) (n : ℕ) (long : length (h .word) ≡ n) (inner : h .known ≤ n) where
+  all-settled : (from : ℕ) → Filled ws′ g h n from 0 (n + 1) → (a b : ℕ) → a + b ≤ n → Settled (One ws′ n) (Two ws′ n) g h a b
+  all-settled from f a b q = f .done a b q (inr (inl (omega arith)))
+
+  covers : ((a b : ℕ) → a + b ≤ n → Settled (One ws′ n) (Two ws′ n) g h a b) → Covers g h n ws′
+  covers t = record {
+    one = λ w c s len A fit d.
+        subst (λ (B : ℕ). One ws′ n s len B) (d .witness .rooted) (complete (One ws′ n) g h each w c (d .tree) (d .witness .valid) s len fit (d .witness .spelled));
+    two = λ w c s len A fit d.
+        subst (λ (B : ℕ). Two ws′ n s len B) (d .witness₁ .rooted)
+        (⊎-elim (λ e. absurd (d .differ e)) (λ q. q)
+        (same (One ws′ n) (Two ws′ n) g h each again w c (d .first) (d .witness₁ .valid) s len fit (d .second) (d .witness₂ .valid) (d .witness₁ .rooted ∙ sym (d .witness₂ .rooted)) (d .witness₁ .spelled) (d .witness₂ .spelled)));
+  }
+    where
+      each : (s len A i l : ℕ) → s + len ≤ length (h .word) → Stand (One ws′ n) g (byTokens h s len) s len A i l → One ws′ n s len A
+      each s len A i l fit c = t s len (omega arith) .each A i l c
+
+      again : (s len A : ℕ) → s + len ≤ length (h .word) → Again (One ws′ n) (Two ws′ n) g (byTokens h s len) s len A → Two ws′ n s len A
+      again s len A fit q = t s len (omega arith) .again A q
+
+  pub charted : (from : ℕ) → Grown ws ws′ g h n from (n + 1) → Charted ws ws′ g h n
+  charted from f = record { exact = exact; covers = all; past = f .past }
+    where
+      settled : (a b : ℕ) → a + b ≤ n → Settled (One ws′ n) (Two ws′ n) g h a b
+      settled = all-settled from (f .filled)
+
+      all : Covers g h n ws′
+      all = covers settled
+
+      exact : Exact g (h .word) n ws′ (h .known)
+      exact = record {
+        one = λ s len A fit. (settled s len (omega arith) .some A fit, all .one (h .word) (completes-self h) s len A (omega arith));
+        two = λ s len A fit. (settled s len (omega arith) .more A fit, all .two (h .word) (completes-self h) s len A (omega arith));
+      }
+
+-- ---- laws of exact sheets
+
+whole-part : (w : Word) (n : ℕ) → length w ≡ n → part w 0 n ≡ w
+whole-part w n e = take-all n w (omega arith)
+
+-- where all is known it is 01's span sheet
+pub exact-sheet : {g : Rules} {w : Word} {n : ℕ} {ws : List ℕ} → length w ≡ n → 2 * pairs n ≤ length ws → Exact g w n ws n → SpanSheet g w ws
+exact-sheet {g} {w} {n} {ws} e enough x = subst (λ (m : ℕ). 2 * pairs m ≤ length ws → Exact g w m ws m → SpanSheet g w ws) e
+    (λ k y. record { enough = k; one = λ s len A fit small. y .one s len A fit; two = λ s len A fit small. y .two s len A fit }) enough x
+
+-- the verdict, by the pair of the whole word
+module _ {g : Rules} {w : Word} {n : ℕ} {ws : List ℕ} (e : length w ≡ n) (x : Exact g w n ws n) where
+  pub reads-none : (In (firstWord ws n 0 n) 0 → ⊥) → NoTree g 0 w
+  reads-none out = record { none = λ t y. out (x .one 0 n 0 (omega arith) .1 (subst (Derives g 0) (sym (whole-part w n e)) (record { tree = t; witness = y }))) }
+
+  pub reads-two : In (secondWord ws n 0 n) 0 → TwoTrees g 0 w
+  reads-two m = subst (TwoTrees g 0) (whole-part w n e) (x .two 0 n 0 (omega arith) .0 m)
+
+  pub reads-one : In (firstWord ws n 0 n) 0 → (In (secondWord ws n 0 n) 0 → ⊥) → OneTree g 0 w
+  reads-one m out =
+      let d = subst (Derives g 0) (whole-part w n e) (x .one 0 n 0 (omega arith) .0 m) in
+      record { tree = d .tree; witness = d .witness; only = λ t y. go t y (d .tree) (d .witness) (Tree-discrete ℕ-discrete token? t (d .tree)) }
+    where
+      go : (t : Tree) → Witness g 0 w t → (u : Tree) → Witness g 0 w u → Dec (t ≡ u) → t ≡ u
+      go t y u z (yes q) = q
+      go t y u z (no q) = absurd (out (x .two 0 n 0 (omega arith) .1 (subst (TwoTrees g 0) (sym (whole-part w n e)) (record { first = t; second = u; witness₁ = y; witness₂ = z; differ = q }))))
+
+-- a verdict beside the sheet that it is read off
+pub judged : {r : Verdict} {g : Rules} {w : Word} {n : ℕ} {ws ws′ : List ℕ} → length w ≡ n → 2 * pairs n ≤ length ws → Charted ws ws′ g (record { word = w; known = n }) n → Holds r g 0 w → Judged r g w n ws ws′
+judged e enough c h = record { verdict = h; sheet = exact-sheet e (omega (arith, c .past .long)) (c .exact); past = c .past }
+
+-- where the second word lacks 0 over the whole, no completion has two trees
+pub covers-none : {g : Rules} {h : Half} {n : ℕ} {ws : List ℕ} → length (h .word) ≡ n → Covers g h n ws → (In (secondWord ws n 0 n) 0 → ⊥) → Hopeless g h
+covers-none {g} {h} {n} {ws} e k out = record {
+  none = λ w c d.
+      let z : length w ≡ n = c .long ∙ e in
+      out (k .two w c 0 n 0 (omega arith) (subst (TwoTrees g 0) (sym (whole-part w n z)) d));
+}
+
+pub exact-right : {g : Rules} {w : Word} {n : ℕ} {ws : List ℕ} {to : ℕ} → Exact g w n ws to → RightTo g w n ws to
+exact-right x = record { exact = λ pos. x }
+
+-- the answer of `hopeless`, by the second word of the whole
+pub settles : {g : Rules} {h : Half} {n : ℕ} {ws ws′ : List ℕ} {b : Bool} → length (h .word) ≡ n → Charted ws ws′ g h n → Says b (In (secondWord ws′ n 0 n) 0) → Settles (not b) g h n ws ws′
+settles {g} {h} {n} {ws′ = ws′} {b = true} e c s = record {
+  none = λ q. absurd (true-not-false (sym q));
+  two = λ q k. reads-two e (subst (Exact g (h .word) n ws′) k (c .exact)) (s .is refl);
+  right = exact-right (c .exact);
+  past = c .past;
+}
+settles {b = false} e c s = record {
+  none = λ q. covers-none e (c .covers) (s .isnt refl);
+  two = λ q. absurd (true-not-false q);
+  right = exact-right (c .exact);
+  past = c .past;
+}
+
+-- ---- the promises settle the answers
+
+pub verdict-same : (g : Rules) (A : ℕ) (w : Word) (r r′ : Verdict) → Holds r g A w → Holds r′ g A w → r ≡ r′
+verdict-same g A w Verdict.None Verdict.None h k = refl
+verdict-same g A w Verdict.None Verdict.One h k = absurd (none-not-one h k)
+verdict-same g A w Verdict.None Verdict.Two h k = absurd (none-not-two h k)
+verdict-same g A w Verdict.One Verdict.None h k = absurd (none-not-one k h)
+verdict-same g A w Verdict.One Verdict.One h k = refl
+verdict-same g A w Verdict.One Verdict.Two h k = absurd (one-not-two h k)
+verdict-same g A w Verdict.Two Verdict.None h k = absurd (none-not-two k h)
+verdict-same g A w Verdict.Two Verdict.One h k = absurd (one-not-two k h)
+verdict-same g A w Verdict.Two Verdict.Two h k = refl
+
+-- two calls of `judge` on the same words leave the same words
+pub judged-same : {r r′ : Verdict} {g : Rules} {w : Word} {n : ℕ} {ws a b : List ℕ} → length w ≡ n → ((q : ℕ) → getD a q 0 < 2 ^ 64) → ((q : ℕ) → getD b q 0 < 2 ^ 64)
+    → Judged r g w n ws a → Judged r′ g w n ws b → a ≡ b
+judged-same {g} {w} {ws = ws} {a} {b} e small small′ x y =
+    words-same g w a b small small′ (x .sheet) (y .sheet) ws (subst (λ (m : ℕ). Past (2 * pairs m) ws a) (sym e) (x .past)) (subst (λ (m : ℕ). Past (2 * pairs m) ws b) (sym e) (y .past))
+
+-- nothing is asked of a sheet that is to be filled from its beginning
+pub right-none : (g : Rules) (w : Word) (n : ℕ) (ws : List ℕ) → RightTo g w n ws 0
+right-none g w n ws = record { exact = λ pos. absurd (not-suc-le-zero pos) }
+
+-- fewer tokens
+pub right-less : {g : Rules} {w : Word} {n : ℕ} {ws : List ℕ} {to : ℕ} (less : ℕ) → less ≤ to → RightTo g w n ws to → RightTo g w n ws less
+right-less less l x = record {
+  exact = λ pos. let y = x .exact (omega arith) in record { one = λ s len A fit. y .one s len A (omega arith); two = λ s len A fit. y .two s len A (omega arith) };
+}
+
+part-front : (w : Word) (s len to : ℕ) → s + len ≤ to → part (take to w) s len ≡ part w s len
+part-front w zero len to h = take-take len to w (omega arith)
+part-front w (suc s) len zero h = absurd (omega arith)
+part-front [] (suc s) len (suc to) h = refl
+part-front (a ∷ w) (suc s) len (suc to) h = part-front w s len to (omega arith)
+
+-- it speaks of the tokens before `to` alone
+pub right-front : {g : Rules} {w : Word} {n : ℕ} {ws : List ℕ} {to : ℕ} (w′ : Word) → take to w′ ≡ take to w → RightTo g w n ws to → RightTo g w′ n ws to
+right-front {g} {w} {n} {ws} {to} w′ e x = record {
+  exact = λ pos.
+      let y = x .exact pos in
+      record {
+        one = λ s len A fit. subst (λ (v : Word). In (firstWord ws n s len) A ↔ Derives g A v) (same-part s len fit) (y .one s len A fit);
+        two = λ s len A fit. subst (λ (v : Word). In (secondWord ws n s len) A ↔ TwoTrees g A v) (same-part s len fit) (y .two s len A fit);
+      };
+}
+  where
+    same-part : (s len : ℕ) → s + len ≤ to → part w s len ≡ part w′ s len
+    same-part s len fit = sym (part-front w s len to fit) ∙ ap (λ (v : Word). part v s len) (sym e) ∙ part-front w′ s len to fit
+
+-- and of the words of the spans that end there
+pub right-words : {g : Rules} {w : Word} {n : ℕ} {ws : List ℕ} {to : ℕ} (ws′ : List ℕ)
+    → ((s len : ℕ) → s + len ≤ to → (firstWord ws′ n s len ≡ firstWord ws n s len) × (secondWord ws′ n s len ≡ secondWord ws n s len)) → RightTo g w n ws to → RightTo g w n ws′ to
+right-words {g} {w} {n} {ws} {to} ws′ e x = record {
+  exact = λ pos.
+      let y = x .exact pos in
+      record {
+        one = λ s len A fit. subst (λ (v : ℕ). In v A ↔ Derives g A (part w s len)) (sym (e s len fit .0)) (y .one s len A fit);
+        two = λ s len A fit. subst (λ (v : ℕ). In v A ↔ TwoTrees g A (part w s len)) (sym (e s len fit .1)) (y .two s len A fit);
+      };
+}

@@ -1,0 +1,6 @@
+pub mod Tables
+pub mod Passes
+pub mod Filling
+pub mod Sheets
+pub mod Choosing
+pub mod Searches

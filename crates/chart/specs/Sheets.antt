@@ -1,0 +1,58 @@
+-- What the calls that fill a span sheet promise.
+use mathlib.Core.Path.{_≡_}
+use mathlib.Core.Bool.{Bool, true, false}
+use mathlib.Core.List.{List}
+use mathlib.Core.Logic.{_↔_}
+use Prim.Native.Nat.{ℕ, _+_, _*_, _≤_, _<_}
+use lib.ListN.{length}
+use Rattle.sets.specs.Sets.{In}
+use Rattle.grammar.specs.Layout.{Word}
+use Rattle.grammar.specs.Trees.{Rules, Derives, NoTree, OneTree, TwoTrees}
+use Rattle.grammar.specs.SpanSheet.{part, pairs, firstWord, secondWord, SpanSheet}
+use Rattle.marks.specs.Half.{Half, Completes}
+use Rattle.spans.specs.Changes.{Past}
+use Rattle.chart.specs.declared.Verdict.{Verdict}
+use Rattle.chart.specs.declared.Verdict.the-variants as Verdict
+
+-- of the spans of w that end at or before token `to`, the words ws, as a span sheet of n tokens, say exactly what has a valid tree and what has two
+pub record Exact (g : Rules) (w : Word) (n : ℕ) (ws : List ℕ) (to : ℕ) : Type 0 where
+  pub one : (s len A : ℕ) → s + len ≤ to → In (firstWord ws n s len) A ↔ Derives g A (part w s len)
+  pub two : (s len A : ℕ) → s + len ≤ to → In (secondWord ws n s len) A ↔ TwoTrees g A (part w s len)
+
+-- the same, where there is such a token: nothing is asked of a sheet that is to be filled from its beginning
+pub record RightTo (g : Rules) (w : Word) (n : ℕ) (ws : List ℕ) (to : ℕ) : Type 0 where
+  pub exact : 0 < to → Exact g w n ws to
+
+-- what has a tree, or two, in some completion of h is in the words
+pub record Covers (g : Rules) (h : Half) (n : ℕ) (ws : List ℕ) : Type 0 where
+  pub one : (w : Word) → Completes h w → (s len A : ℕ) → s + len ≤ length w → Derives g A (part w s len) → In (firstWord ws n s len) A
+  pub two : (w : Word) → Completes h w → (s len A : ℕ) → s + len ≤ length w → TwoTrees g A (part w s len) → In (secondWord ws n s len) A
+
+-- the span sheet of a half-known word: exact as far as it is known, and missing nothing of the rest
+pub record Charted (ws ws′ : List ℕ) (g : Rules) (h : Half) (n : ℕ) : Type 0 where
+  pub exact : Exact g (h .word) n ws′ (h .known)
+  pub covers : Covers g h n ws′
+  pub past : Past (2 * pairs n) ws ws′
+
+-- none, one or two: A has no valid tree over w, just one, or at least two
+abbrev pub Holds : Verdict → Rules → ℕ → Word → Type 0
+Holds Verdict.None g A w = NoTree g A w
+Holds Verdict.One g A w = OneTree g A w
+Holds Verdict.Two g A w = TwoTrees g A w
+
+-- the verdict on a sentence, and its span sheet
+pub record Judged (r : Verdict) (g : Rules) (w : Word) (n : ℕ) (ws ws′ : List ℕ) : Type 0 where
+  pub verdict : Holds r g 0 w
+  pub sheet : SpanSheet g w ws′
+  pub past : Past (2 * pairs n) ws ws′
+
+-- no completion has two trees
+pub record Hopeless (g : Rules) (h : Half) : Type 0 where
+  pub none : (w : Word) → Completes h w → TwoTrees g 0 w → ⊥
+
+-- true: no completion has two trees; false: where all is known, the word has two
+pub record Settles (r : Bool) (g : Rules) (h : Half) (n : ℕ) (ws ws′ : List ℕ) : Type 0 where
+  pub none : r ≡ true → Hopeless g h
+  pub two : r ≡ false → h .known ≡ n → TwoTrees g 0 (h .word)
+  pub right : RightTo g (h .word) n ws′ (h .known)
+  pub past : Past (2 * pairs n) ws ws′

@@ -1,0 +1,56 @@
+-- Half-known words: what holds of a completion may hold, and among known tokens what may hold does.
+use mathlib.Core.Path.{_≡_, refl, sym, ap, _∙_, subst, subst₂, subst₃}
+use mathlib.Core.List.{List, [], _∷_}
+use Prim.Native.Nat.{ℕ, zero, suc, _+_, _-_, _≤_, _<_}
+use native.Mathlib.Nat.{add-zero}
+use native.Mathlib.Omega.{arith}
+use native.Mathlib.Decide.{ℕ-discrete}
+use lib.ListN.{length}
+use Rattle.grammar.specs.declared.Token.{Token}
+use Rattle.grammar.specs.declared.UnaryMark.{UnaryMark}
+use Rattle.grammar.specs.declared.BinaryMark.{BinaryMark}
+use Rattle.grammar.specs.Layout.{Word, Keeps, Pairs}
+use Rattle.grammar.specs.Layout as Mark
+use Rattle.grammar.specs.SpanSheet.{part}
+use Rattle.marks.specs.Half.{Half, token, Completes, MayBe, MayKeep, MayPair}
+use Rattle.marks.proofs.Words.{part-at, part-length, unary-span, span-unary, no-left, no-right, binary-span, one-token}
+
+-- ---- what holds of a completion may hold
+
+module _ (h : Half) (w : Word) (c : Completes h w) where
+  pub may-be : (s len : ℕ) (t : Token) → s + len ≤ length w → part w s len ≡ t ∷ [] → MayBe h s (t .terminal)
+  may-be s len t fit e = record { terminal = λ k. ap (λ (x : Token). x .terminal) (sym (c .same s k) ∙ at) }
+    where
+      n : len ≡ 1
+      n = sym (part-length w s len fit) ∙ ap length e
+
+      at : token w s ≡ t
+      at = let q : token w s ∷ [] ≡ t ∷ [] = sym (one-token w s (omega (arith, n))) ∙ ap (part w s) (sym n) ∙ e in cc
+
+  pub may-keep : (m : UnaryMark) (s len : ℕ) → s + len ≤ length w → Mark.Unary m (part w s len) → MayKeep m h s len
+  may-keep m s len fit u = record { keeps = λ i l k. subst₂ (Keeps m) (c .same s (omega arith)) (c .same (s + i) k) (unary-span m w s len fit u i l) }
+
+  pub may-pair : (m : BinaryMark) (s l r : ℕ) → s + l + r ≤ length w → Mark.Binary m (part w s l) (part w (s + l) r) → MayPair m h s l r
+  may-pair m s l r fit b = record {
+    pairs = λ p q k. subst₃ (Pairs m) (c .same s (omega arith)) (c .same (s + l - 1) (omega arith)) (c .same (s + l) k) (binary-span m w s l r fit p q .1 b);
+  }
+
+-- ---- among known tokens, what may hold does
+
+module _ (h : Half) (fits : h .known ≤ length (h .word)) where
+  pub is-one : (s a : ℕ) → s + 1 ≤ h .known → MayBe h s a → (t : Token) × (part (h .word) s 1 ≡ t ∷ []) × (t .terminal ≡ a)
+  is-one s a k q = (token (h .word) s, one-token (h .word) s (omega arith), q .terminal (omega arith))
+
+  pub does-keep : (m : UnaryMark) (s len : ℕ) → s + len ≤ h .known → MayKeep m h s len → Mark.Unary m (part (h .word) s len)
+  does-keep m s len k q = span-unary m (h .word) s len (omega arith) (λ i l. q .keeps i l (omega arith))
+
+  pub does-pair : (m : BinaryMark) (s l r : ℕ) → s + l + r ≤ h .known → MayPair m h s l r → Mark.Binary m (part (h .word) s l) (part (h .word) (s + l) r)
+  does-pair m s l r k q = go (ℕ-discrete l 0) (ℕ-discrete r 0)
+    where
+      go : Dec (l ≡ 0) → Dec (r ≡ 0) → Mark.Binary m (part (h .word) s l) (part (h .word) (s + l) r)
+      go (yes e) d = no-left m (h .word) s l r (omega arith) e
+      go (no n) (yes e) = no-right m (h .word) s l r (omega arith) e
+      go (no n) (no o) = binary-span m (h .word) s l r (omega arith) (omega arith) (omega arith) .0 (q .pairs (omega arith) (omega arith) (omega arith))
+
+pub completes-self : (h : Half) → Completes h (h .word)
+completes-self h = record { long = refl; same = λ i l. refl }

@@ -1,0 +1,4 @@
+pub mod Words
+pub mod HalfLaws
+pub mod DraftLaws
+pub mod Pairings

@@ -1,0 +1,113 @@
+-- The set of left lengths, built up from 1, and the marks of a span put together.
+use mathlib.Core.Path.{_≡_, refl, sym, _∙_, subst}
+use mathlib.Core.Bool.{Bool, true, false}
+use mathlib.Core.Logic.{_⊎_, inl, inr, ⊎-elim, _↔_}
+use Prim.Native.Nat.{ℕ, _+_, _-_, _≤_, _<_}
+use native.Mathlib.Omega.{arith}
+use native.Mathlib.Decide.{decLt, ℕ-discrete}
+use Rattle.sets.specs.Says.{Says}
+use Rattle.sets.specs.Sets.{In, insert}
+use Rattle.sets.proofs.Sets.{in-zero, insert-same, insert-keeps, insert-only}
+use Rattle.grammar.specs.declared.UnaryMark.{UnaryMark}
+use Rattle.grammar.specs.declared.UnaryMark.the-variants as UnaryMark
+use Rattle.grammar.specs.declared.BinaryMark.{BinaryMark}
+use Rattle.grammar.specs.declared.BinaryMark.the-variants as BinaryMark
+use Rattle.marks.specs.declared.SpanMarks.{SpanMarks}
+use Rattle.marks.specs.Half.{Half, token, MayBe, MayKeep, MayPair}
+use Rattle.marks.specs.Marked.{UnaryBy, BinaryBy, Pairing, Included}
+
+pub pairing-none : (m : BinaryMark) (h : Half) (s len : ℕ) → Pairing m h s len 1 0
+pairing-none m h s len = record {
+  each = λ l a b. absurd (omega arith);
+  only = λ l i. absurd (in-zero l i);
+}
+
+-- the next left length is asked for
+pub pairing-more : (m : BinaryMark) (h : Half) (s len left set r : ℕ) (yes : Bool)
+    → 0 < left → Says yes (MayPair m h s left (len - left)) → Included set left yes r → Pairing m h s len left set → Pairing m h s len (left + 1) r
+pairing-more m h s len left set r true pos a b p = record {
+  each = λ l x y. go l x y (decLt l left);
+  only = λ l i. ⊎-elim (λ j. let q = p .only l j in (q .0, omega arith)) (λ e. (omega arith, omega arith)) (insert-only set left l (subst (λ (z : ℕ). In z l) now i));
+}
+  where
+    now : r ≡ insert set left
+    now = b .is refl
+
+    go : (l : ℕ) → 0 < l → l < left + 1 → Dec (l < left) → In r l ↔ MayPair m h s l (len - l)
+    go l x y (yes z) = (
+      λ i. ⊎-elim (λ j. p .each l x z .0 j) (λ e. absurd (omega arith)) (insert-only set left l (subst (λ (z : ℕ). In z l) now i)),
+      λ q. subst (λ (z : ℕ). In z l) (sym now) (insert-keeps set left (p .each l x z .1 q)),
+    )
+    go l x y (no z) =
+        let e : left ≡ l = omega arith in
+        subst (λ (z : ℕ). In r z ↔ MayPair m h s z (len - z)) e (λ i. a .is refl, λ q. subst (λ (z : ℕ). In z left) (sym now) (insert-same set left))
+pairing-more m h s len left set r false pos a b p = record {
+  each = λ l x y. go l x y (decLt l left);
+  only = λ l i. let q = p .only l (subst (λ (z : ℕ). In z l) now i) in (q .0, omega arith);
+}
+  where
+    now : r ≡ set
+    now = b .isnt refl
+
+    go : (l : ℕ) → 0 < l → l < left + 1 → Dec (l < left) → In r l ↔ MayPair m h s l (len - l)
+    go l x y (yes z) = (λ i. p .each l x z .0 (subst (λ (z : ℕ). In z l) now i), λ q. subst (λ (z : ℕ). In z l) (sym now) (p .each l x z .1 q))
+    go l x y (no z) =
+        let e : left ≡ l = omega arith in
+        subst (λ (z : ℕ). In r z ↔ MayPair m h s z (len - z)) e
+        (λ i. absurd (let j = p .only left (subst (λ (z : ℕ). In z left) now i) in omega arith), λ q. absurd (a .isnt refl q))
+
+-- no left length is left
+pub pairing-done : (m : BinaryMark) (h : Half) (s len to set : ℕ) → 0 < to → len ≤ to → to ≤ len + 1 → (0 < len → to ≤ len) → Pairing m h s len to set → Pairing m h s len len set
+pairing-done m h s len to set pos low high tight p = record {
+  each = λ l a b. p .each l a (omega arith);
+  only = λ l i. let q = p .only l i in go l (q .0) (q .1) (decLt 0 len);
+}
+  where
+    go : (l : ℕ) → 0 < l → l < to → Dec (0 < len) → (0 < l) × (l < len)
+    go l a b (yes z) = let t = tight z in (a, omega arith)
+    go l a b (no z) = absurd (omega arith)
+
+-- a pairing up to the span's length says all of the mark
+pub paired : (m : BinaryMark) (h : Half) (s len set l : ℕ) → l ≤ len → Pairing m h s len len set → (0 < l → l < len → In set l) ↔ MayPair m h s l (len - l)
+paired m h s len set l fit p = (
+  λ f. go f (ℕ-discrete l 0) (ℕ-discrete l len),
+  λ q x y. p .each l x y .1 q,
+)
+  where
+    go : (0 < l → l < len → In set l) → Dec (l ≡ 0) → Dec (l ≡ len) → MayPair m h s l (len - l)
+    go f (yes e) d = record { pairs = λ a b c. absurd (omega arith) }
+    go f (no n) (yes e) = record { pairs = λ a b c. absurd (omega arith) }
+    go f (no n) (no o) = p .each l (omega arith) (omega arith) .0 (f (omega arith) (omega arith))
+
+flagged : {b : Bool} {P : Type 0} → Says b P → (b ≡ true) ↔ P
+flagged {b = true} s = (s .is, λ p. refl)
+flagged {b = false} s = (s .is, λ p. absurd (s .isnt refl p))
+
+-- the five functions' results are the marks of the span
+pub unary-marked : (h : Half) (s len : ℕ) (k : SpanMarks)
+    → Says (k .offside) (MayKeep UnaryMark.Offside h s len) → Says (k .offalign) (MayKeep UnaryMark.Offalign h s len) → Says (k .single) (MayKeep UnaryMark.Single h s len)
+    → (m : UnaryMark) → UnaryBy k m ↔ MayKeep m h s len
+unary-marked h s len k a b c UnaryMark.None = (λ t. record { keeps = λ i l q. tt }, λ t. tt)
+unary-marked h s len k a b c UnaryMark.Offside = flagged a
+unary-marked h s len k a b c UnaryMark.Offalign = flagged b
+unary-marked h s len k a b c UnaryMark.Single = flagged c
+
+pub binary-marked : (h : Half) (s len : ℕ) (k : SpanMarks) → Pairing BinaryMark.Align h s len len (k .align) → Pairing BinaryMark.Indent h s len len (k .indent)
+    → (m : BinaryMark) (l : ℕ) → l ≤ len → BinaryBy k len m l ↔ MayPair m h s l (len - l)
+binary-marked h s len k a b BinaryMark.None l fit = (λ t. record { pairs = λ x y z. tt }, λ t. tt)
+binary-marked h s len k a b BinaryMark.Align l fit = paired BinaryMark.Align h s len (k .align) l fit a
+binary-marked h s len k a b BinaryMark.Indent l fit = paired BinaryMark.Indent h s len (k .indent) l fit b
+
+pub atom-marked : (h : Half) (s : ℕ) (b : Bool) (c : ℕ) → Says b (h .known ≤ s) → c ≡ token (h .word) s .terminal → (a : ℕ) → ((b ≡ true) ⊎ (c ≡ a)) ↔ MayBe h s a
+atom-marked h s b c o t a = (
+  ⊎-elim (λ e. record { terminal = λ l. absurd (let z = o .is e in omega arith) }) (λ e. record { terminal = λ l. sym t ∙ e }),
+  λ q. go q b o refl,
+)
+  where
+    go : MayBe h s a → (x : Bool) → Says x (h .known ≤ s) → b ≡ x → (b ≡ true) ⊎ (c ≡ a)
+    go q true u e = inl e
+    go q false u e = inr (t ∙ q .terminal (known (decLt s (h .known))))
+      where
+        known : Dec (s < h .known) → s < h .known
+        known (yes l) = l
+        known (no n) = absurd (u .isnt refl (omega arith))

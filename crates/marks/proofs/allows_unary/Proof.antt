@@ -1,0 +1,40 @@
+-- Each mark has its flag.
+use borrow.Author.Needs.{needs}
+use mathlib.Core.Path.{_≡_, sym, _∙_}
+use mathlib.Core.Bool.{Bool, true, false}
+use Rattle.sets.specs.Says.{Says}
+use Rattle.sets.proofs.Says.{holds, true-not-false}
+use Rattle.marks.proofs.allows_unary.Statement.{statement}
+use Rattle.marks.proofs.allows_unary.Tie as tie
+
+flag : (b : Bool) → Says b (b ≡ true)
+flag b = record { is = λ e. e; isnt = λ e f. true-not-false (sym f ∙ e) }
+
+enum-told : tie.Need-enum-told
+enum-told c = search needs
+
+enum-told-2 : tie.Need-enum-told-2
+enum-told-2 c = search needs
+
+enum-told-3 : tie.Need-enum-told-3
+enum-told-3 c = search needs
+
+enum-told-4 : tie.Need-enum-told-4
+enum-told-4 c = search needs
+
+returns : tie.Need-returns
+returns c = rw (c .enum-told .given .1) (holds tt)
+
+returns-2 : tie.Need-returns-2
+returns-2 c = rw (c .enum-told2 .given .1) (flag _)
+
+returns-3 : tie.Need-returns-3
+returns-3 c = rw (c .enum-told3 .given .1) (flag _)
+
+returns-4 : tie.Need-returns-4
+returns-4 c = rw (c .enum-told4 .given .1) (flag _)
+
+pub allows-unary-spec : {M : Type 1} → statement M
+allows-unary-spec =
+    tie.close
+    (tie.spec enum-told enum-told-2 enum-told-3 enum-told-4 returns returns-2 returns-3 returns-4)

@@ -1,0 +1,38 @@
+-- Half-known words: the tokens before `known` count, the others are open. A mark is asked of the known tokens alone,
+-- and an open token fits every terminal.
+use mathlib.Core.Path.{_≡_}
+use Prim.Native.Nat.{ℕ, _+_, _-_, _<_}
+use lib.ListN.{length, getD}
+use Rattle.grammar.specs.declared.Token.{Token}
+use Rattle.grammar.specs.declared.UnaryMark.{UnaryMark}
+use Rattle.grammar.specs.declared.BinaryMark.{BinaryMark}
+use Rattle.grammar.specs.Layout.{Word, Keeps, Pairs}
+
+pub record Half : Type 0 where
+  pub word : Word
+  pub known : ℕ
+
+-- what stands past the end of a word
+abbrev pub no-token : Token
+no-token = record { terminal = 0; line = record { 0 = 0 }; column = record { 0 = 0 } }
+
+-- the token at i
+abbrev pub token : Word → ℕ → Token
+token w i = getD w i no-token
+
+-- w is as long, and has the known tokens
+pub record Completes (h : Half) (w : Word) : Type 0 where
+  pub long : length w ≡ length (h .word)
+  pub same : (i : ℕ) → i < h .known → token w i ≡ token (h .word) i
+
+-- the token at s may be the terminal a
+pub record MayBe (h : Half) (s a : ℕ) : Type 0 where
+  pub terminal : s < h .known → token (h .word) s .terminal ≡ a
+
+-- the unary mark may hold of the span of len tokens from s on
+pub record MayKeep (m : UnaryMark) (h : Half) (s len : ℕ) : Type 0 where
+  pub keeps : (i : ℕ) → i < len → s + i < h .known → Keeps m (token (h .word) s) (token (h .word) (s + i))
+
+-- the binary mark may hold of the span of l tokens from s on and that of r tokens after it
+pub record MayPair (m : BinaryMark) (h : Half) (s l r : ℕ) : Type 0 where
+  pub pairs : 0 < l → 0 < r → s + l < h .known → Pairs m (token (h .word) s) (token (h .word) (s + l - 1)) (token (h .word) (s + l))
