@@ -1,0 +1,111 @@
+-- `fields::Cursor::lay` meets its contract: where a field is left, the bytes up to the next blank or the line's end are the first of the fields left.
+use mathlib.Core.Path.{_≡_, refl, sym, ap, _∙_}
+use mathlib.Core.List.{List}
+use mathlib.Core.Option.{Option, none, some}
+use Prim.Native.Nat.{ℕ, _+_, _-_, _≤_}
+use native.Mathlib.Omega.{arith}
+use borrow.Author.Needs.{needs}
+use lib.ListN.{length, take, drop}
+use Rattle.fields.specs.declared.Cursor.{Cursor}
+use Rattle.fields.specs.declared.Lay.{Lay}
+use Rattle.fields.specs.declared.LayWord.{LayWord}
+use Rattle.fields.specs.declared.LayWord.the-variants as LayWord
+use Rattle.fields.specs.declared.LayField.{LayField}
+use Rattle.fields.specs.declared.LayField.the-variants as LayField
+use Rattle.fields.specs.Pieces.{fieldsLeft}
+use Rattle.fields.specs.Words.{layOf}
+use Rattle.fields.specs.Fields.{withCursor, readField}
+use Rattle.fields.specs.Answers.{asLay, layField}
+use Rattle.fields.proofs.Fields.{line-long, left-none, field-high, field-here}
+use Rattle.fields.proofs.Cursor.lay.Statement.{statement}
+use Rattle.fields.proofs.Cursor.lay.Tie as tie
+
+-- what the code makes of the word that it read
+abbrev moved : LayWord → Cursor → LayField
+moved (LayWord.Is v) d = LayField.Is v d
+moved LayWord.Not d = LayField.Bad
+
+with-moved : (o : Option Lay) (d : Cursor) → layField (withCursor o d) ≡ moved (asLay o) d
+with-moved (some v) d = refl
+with-moved none d = refl
+
+returns : tie.Need-returns
+returns c =
+    let a = c .before .before .args in
+    sym (ap (λ (fs : List (List ℕ)). layField (readField layOf (a .self) fs)) (left-none (a .s .now) (a .self) (c .before .before .pre) (c .if1 .taken)))
+
+slice-aggregate-line : tie.Need-slice-aggregate-line
+slice-aggregate-line c = let a = c .before .before .before .args in sym (line-long (a .s .now) (a .self) (c .before .before .before .pre))
+
+piece-end-requires : tie.Need-piece-end-requires
+piece-end-requires c κs =
+    let a = c .before .before .before .args in
+    omega (arith, line-long (a .s .now) (a .self) (c .before .before .before .pre))
+
+sub-lay-word : tie.Need-sub-lay-word
+sub-lay-word c = search needs
+
+part-lay-word-start : tie.Need-part-lay-word-start
+part-lay-word-start c = search needs
+
+-- the field ends in the line
+high : (c : tie.After-piece-end) → c .piece-end .result ≤ length (take (c .before .before .before .before .args .self .end) (c .before .before .before .before .args .s .now))
+high c =
+    let a = c .before .before .before .before .args in
+    field-high (a .s .now) (a .self) (c .before .before .before .before .pre) (c .piece-end .result) (c .before .before .if1 .left) (c .piece-end .ensures)
+
+part-lay-word-end : tie.Need-part-lay-word-end
+part-lay-word-end c = high c
+
+lay-word-requires : tie.Need-lay-word-requires
+lay-word-requires c κs = search needs
+
+enum-known-v : tie.Need-enum-known-v
+enum-known-v c = search needs
+
+add-t16 : tie.Need-add-t16
+add-t16 c =
+    let p = c .before .before .before .before .before in
+    let a = p .before .before .before .before .args in
+    omega (arith, high p, line-long (a .s .now) (a .self) (p .before .before .before .before .pre))
+
+enum-told : tie.Need-enum-told
+enum-told c = search needs
+
+abbrev start : tie.After-lay-word → tie.Start
+start c = c .before .before .before .before .before .before
+
+-- the word that was read is the first field's
+here : (c : tie.After-lay-word) (w : LayWord) → c .lay-word .result ≡ w
+    → layField (readField layOf (start c .args .self) (fieldsLeft (start c .args .s .now) (start c .args .self)))
+    ≡ moved w (record { at = c .before .before .piece-end .result + 1; end = start c .args .self .end })
+here c w is =
+    let p = c .before .before in
+    let a = start c .args in
+    let f = take (p .piece-end .result - a .self .at) (drop (a .self .at) (take (a .self .end) (a .s .now))) in
+    let d : Cursor = record { at = p .piece-end .result + 1; end = a .self .end } in
+    ap layField (field-here (a .s .now) (a .self) (start c .pre) (p .piece-end .result) (p .before .before .if1 .left) (p .piece-end .ensures) layOf)
+    ∙ with-moved (layOf f) d ∙ ap (λ (x : LayWord). moved x d) (sym (c .lay-word .ensures) ∙ is)
+
+returns-2 : tie.Need-returns-2
+returns-2 c = sym (here (c .before .before .before) _ (c .before .v .given .1))
+
+returns-3 : tie.Need-returns-3
+returns-3 c = sym (here (c .before .before) _ (c .enum-told .given .1))
+
+pub lay-spec : {M : Type 1} → statement M
+lay-spec =
+    tie.close
+    (tie.spec
+    returns
+    slice-aggregate-line
+    piece-end-requires
+    sub-lay-word
+    part-lay-word-start
+    part-lay-word-end
+    lay-word-requires
+    enum-known-v
+    add-t16
+    enum-told
+    returns-2
+    returns-3)

@@ -1,0 +1,6 @@
+pub mod Pick
+pub mod Pieces
+pub mod Bytes
+pub mod Numerals
+pub mod Fields
+pub mod Lines

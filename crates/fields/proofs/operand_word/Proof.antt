@@ -1,0 +1,67 @@
+-- `fields::operand_word` meets its contract: `-` is tried before a number.
+use mathlib.Core.Path.{_≡_, refl, sym, ap, _∙_}
+use mathlib.Core.Option.{Option, none, some}
+use Prim.Native.Nat.{ℕ}
+use Rattle.fields.specs.declared.Number.{Number}
+use Rattle.fields.specs.declared.Number.the-variants as Number
+use Rattle.fields.specs.declared.OperandWord.{OperandWord}
+use Rattle.fields.specs.declared.OperandWord.the-variants as OperandWord
+use mathlib.Core.Bool.{false}
+use Rattle.fields.specs.Words.{numeralOf, numberOperand, operandOf}
+use Rattle.fields.specs.Answers.{asNumber, asOperand}
+use Rattle.fields.proofs.Pick.{hit, miss}
+use borrow.Author.Needs.{needs}
+use Rattle.fields.proofs.operand_word.Statement.{statement}
+use Rattle.fields.proofs.operand_word.Tie as tie
+
+-- what the code makes of a number
+abbrev asWord : Number → OperandWord
+asWord (Number.Is v) = OperandWord.Is (record { dash = false; value = v })
+asWord Number.Not = OperandWord.Not
+
+number-operand : (o : Option ℕ) → asOperand (numberOperand o) ≡ asWord (asNumber o)
+number-operand (some v) = refl
+number-operand none = refl
+
+slice-aggregate-same : tie.Need-slice-aggregate-same
+slice-aggregate-same c = search needs
+
+same-requires : tie.Need-same-requires
+same-requires c κs = search needs
+
+returns : tie.Need-returns
+returns c = sym (ap asOperand (hit (sym (c .before .same .ensures) ∙ c .if1 .taken) _ _))
+
+numeral-requires : tie.Need-numeral-requires
+numeral-requires c κs = search needs
+
+enum-known-v : tie.Need-enum-known-v
+enum-known-v c = search needs
+
+enum-told : tie.Need-enum-told
+enum-told c = search needs
+
+-- the bytes are not `-`
+other : (c : tie.After-numeral) → asOperand (operandOf (c .before .before .before .before .before .args .f .now)) ≡ asWord (c .numeral .result)
+other c =
+    ap asOperand (miss (sym (c .before .before .same .ensures) ∙ c .before .if1 .left) _ _)
+    ∙ number-operand (numeralOf 2 (c .before .before .before .before .before .args .f .now)) ∙ ap asWord (sym (c .numeral .ensures))
+
+returns-2 : tie.Need-returns-2
+returns-2 c = sym (other (c .before .before .before) ∙ ap asWord (c .before .v .given .1))
+
+returns-3 : tie.Need-returns-3
+returns-3 c = sym (other (c .before .before) ∙ ap asWord (c .enum-told .given .1))
+
+pub operand-word-spec : {M : Type 1} → statement M
+operand-word-spec =
+    tie.close
+    (tie.spec
+    slice-aggregate-same
+    same-requires
+    returns
+    numeral-requires
+    enum-known-v
+    enum-told
+    returns-2
+    returns-3)

@@ -1,0 +1,4 @@
+pub mod Stages
+pub mod Small
+pub mod Turning
+pub mod KeyLaws

@@ -1,0 +1,71 @@
+-- `lines::rule_of` meets its contract: the tests are the definition's, in its order.
+use mathlib.Core.Path.{_≡_, refl, sym, ap, _∙_}
+use borrow.Author.Tests.{le-leb, lt-leb}
+use Rattle.fields.proofs.Pick.{into, miss}
+use borrow.Author.Needs.{needs}
+use Rattle.lines.proofs.rule_of.Statement.{statement}
+use Rattle.lines.proofs.rule_of.Tie as tie
+
+shaped-requires : tie.Need-shaped-requires
+shaped-requires c κs = search needs
+
+returns : tie.Need-returns
+returns c = let s = c .before in
+    sym (into (sym (s .before .shaped .ensures) ∙ s .if1 .taken) _ _ _
+    (miss (lt-leb _ _ (c .if2 .taken)) _ _))
+
+returns-2 : tie.Need-returns-2
+returns-2 c = let t = c .before .before in
+    let s = t .before in
+    sym (into (sym (s .before .shaped .ensures) ∙ s .if1 .taken) _ _ _
+    (into (le-leb _ _ (t .if2 .left)) _ _ _
+    (miss (lt-leb _ _ (c .if3 .taken)) _ _)))
+
+returns-3 : tie.Need-returns-3
+returns-3 c = let u = c .before .before in
+    let t = u .before .before in
+    let s = t .before in
+    sym (into (sym (s .before .shaped .ensures) ∙ s .if1 .taken) _ _ _
+    (into (le-leb _ _ (t .if2 .left)) _ _ _
+    (into (le-leb _ _ (u .if3 .left)) _ _ _
+    (miss (lt-leb _ _ (c .if4 .taken)) _ _))))
+
+cast-lay-rule : tie.Need-cast-lay-rule
+cast-lay-rule c = search needs
+
+cast-lay-rule-2 : tie.Need-cast-lay-rule-2
+cast-lay-rule-2 c = search needs
+
+cast-lay-rule-3 : tie.Need-cast-lay-rule-3
+cast-lay-rule-3 c = search needs
+
+lay-rule-requires : tie.Need-lay-rule-requires
+lay-rule-requires c κs = search needs
+
+returns-4 : tie.Need-returns-4
+returns-4 c = let v = c .before .before .before in
+    let u = v .before .before in
+    let t = u .before .before in
+    let s = t .before in
+    c .lay-rule .ensures ∙ sym (into (sym (s .before .shaped .ensures) ∙ s .if1 .taken) _ _ _
+    (into (le-leb _ _ (t .if2 .left)) _ _ _
+    (into (le-leb _ _ (u .if3 .left)) _ _ _
+    (into (le-leb _ _ (v .if4 .left)) _ _ _ refl))))
+
+returns-5 : tie.Need-returns-5
+returns-5 c = sym (miss (sym (c .before .shaped .ensures) ∙ c .if1 .left) _ _)
+
+pub rule-of-spec : {M : Type 1} → statement M
+rule-of-spec =
+    tie.close
+    (tie.spec
+    shaped-requires
+    returns
+    returns-2
+    returns-3
+    cast-lay-rule
+    cast-lay-rule-2
+    cast-lay-rule-3
+    lay-rule-requires
+    returns-4
+    returns-5)

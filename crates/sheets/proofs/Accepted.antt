@@ -1,0 +1,269 @@
+-- What the definitions accept: rules that are small, distinct and not cyclic, tokens that rise. And a refused line is a line of its sheet.
+use mathlib.Core.Path.{_≡_, refl, sym, ap, _∙_}
+use mathlib.Core.Logic.{_⊎_, inl, inr, ⊎-elim}
+use mathlib.Core.List.{List, [], _∷_, _++_, List·Memᴰ}
+use mathlib.Core.Bool.{Bool, true, false, not, cond, _&&_, _||_}
+use mathlib.Core.Option.{some}
+use Prim.Native.Nat.{ℕ, zero, suc, _+_, _-_, _≤_, _<_, zero-le}
+use native.Mathlib.Omega.{arith}
+use lib.ListN.{length, take, getD, getElem?, length-append}
+use lib.Seq.{take-suc}
+use lib.Dec.{ltb, eqb}
+use borrow.Author.Tests.{ltb-true, eqb-true}
+use Rattle.sets.proofs.Says.{true-not-false}
+use Rattle.grammar.specs.declared.Rule.{Rule}
+use Rattle.grammar.specs.declared.Token.{Token}
+use Rattle.grammar.specs.Layout.{Word, Every, line, col, last}
+use Rattle.grammar.specs.Trees.{Rules}
+use Rattle.grammar.specs.Cycles.{Cyclic}
+use Rattle.grammar.specs.Choices.{Alike, Distinct}
+use Rattle.grammar.specs.Content.{SmallRule}
+use Rattle.grammar.specs.Candidates.{After, RisingFrom, Rising}
+use Rattle.grammar.proofs.Acyclic.{cyclic?}
+use Rattle.grammar.proofs.Lists.{every-append}
+use Rattle.grammar.proofs.ChoiceLaws.{member-at}
+use Rattle.fields.specs.Pieces.{pieces, isEmpty, sameBytes}
+use Rattle.fields.proofs.Pieces.{pieces-first}
+use Rattle.lines.specs.declared.RuleLine.{RuleLine}
+use Rattle.lines.specs.declared.RuleLine.the-variants as RuleLine
+use Rattle.lines.specs.declared.TokenLine.{TokenLine}
+use Rattle.lines.specs.declared.TokenLine.the-variants as TokenLine
+use Rattle.lines.specs.declared.Turn.{Turn}
+use Rattle.lines.specs.declared.Turn.the-variants as Turn
+use Rattle.lines.specs.Turns.{turnOf}
+use Rattle.lines.specs.RuleLines.{ruleLine}
+use Rattle.lines.specs.TokenLines.{tokenLine}
+use Rattle.lines.specs.declared.Key.{Key}
+use Rattle.lines.specs.Keys.{keyOf, sameKey}
+use Rattle.lines.proofs.Small.{line-small}
+use Rattle.lines.proofs.KeyLaws.{key-path, same-refl}
+use Rattle.sheets.specs.declared.Fault.{Fault}
+use Rattle.sheets.specs.declared.Fault.the-variants as Fault
+use Rattle.sheets.specs.Items.{Step, next, stop, end, Reading, accepted, refused, stepAt, lineStep, onStep, itemsFrom, withNames}
+use Rattle.sheets.specs.RuleSheets.{hasKey, anyOf, isStart, freshStep, ruleSaid, ruleSays, ruleStep, unlessCyclic, finish, rulesFrom, ruleNames, ruleSheet}
+use Rattle.sheets.specs.TokenSheets.{after, follows, orderStep, tokenSaid, tokenSays, tokenStep, tokenNames, tokenSheet}
+use Rattle.sheets.proofs.AnyOf.{any-none}
+use Rattle.sheets.proofs.Loop.{next-only}
+
+module _ {A : Type 0} (step : List A → List ℕ → Bool → Step A) where
+  -- what each step keeps, the accepted items have
+  pub items-hold : (Q : List A → Type 0) → ((seen : List A) (p : List ℕ) (b : Bool) (t : A) → step seen p b ≡ next t → Q seen → Q (seen ++ t ∷ []))
+      → (seen : List A) (ps : List (List ℕ)) (w : List A) → Q seen → itemsFrom step seen ps ≡ accepted w → Q w
+  items-hold Q keep seen [] w q e = let j : seen ≡ w = cc in rw j at q
+  items-hold Q keep seen (p ∷ ps) w q e = go (λ t. items-hold Q keep (seen ++ t ∷ []) ps w) (step seen p (not (isEmpty ps))) refl e
+    where
+      go : ((t : A) → Q (seen ++ t ∷ []) → itemsFrom step (seen ++ t ∷ []) ps ≡ accepted w → Q w) → (x : Step A) → step seen p (not (isEmpty ps)) ≡ x
+          → onStep seen x (λ t. itemsFrom step (seen ++ t ∷ []) ps) ≡ accepted w → Q w
+      go again (next t) h e = again t (keep seen p (not (isEmpty ps)) t h q) e
+      go again (stop f) h e = absurd (let z : _≡_ {A = ℕ} 0 1 = cc in omega arith)
+      go again end h e = let j : seen ≡ w = cc in rw j at q
+
+  -- a refusal's line is one of the lines behind the items seen
+  pub items-line : (seen : List A) (ps : List (List ℕ)) (f : Fault) (l : ℕ) → itemsFrom step seen ps ≡ refused f l → l ≤ length seen + 1 + length ps
+  items-line seen [] f l e = absurd (let z : _≡_ {A = ℕ} 0 1 = cc in omega arith)
+  items-line seen (p ∷ ps) f l e = go (λ t. items-line (seen ++ t ∷ []) ps f l) (step seen p (not (isEmpty ps))) e
+    where
+      go : ((t : A) → itemsFrom step (seen ++ t ∷ []) ps ≡ refused f l → l ≤ length (seen ++ t ∷ []) + 1 + length ps)
+          → (x : Step A) → onStep seen x (λ t. itemsFrom step (seen ++ t ∷ []) ps) ≡ refused f l → l ≤ length seen + 1 + length (p ∷ ps)
+      go again (next t) e = omega (arith, again t e, length-append seen (t ∷ []))
+      go again (stop g) e = let j : length seen + 2 ≡ l = cc in omega arith
+      go again end e = absurd (let z : _≡_ {A = ℕ} 0 1 = cc in omega arith)
+
+-- an item is what a whole line says
+step-said : {A : Type 0} (many form : Fault) (said : Step A) (u : Turn) (t : A) → stepAt many form said u ≡ next t → said ≡ next t
+step-said many form said Turn.End t e = absurd (let z : _≡_ {A = ℕ} 0 1 = cc in omega arith)
+step-said many form said Turn.Many t e = absurd (let z : _≡_ {A = ℕ} 0 1 = cc in omega arith)
+step-said many form said Turn.Open t e = absurd (let z : _≡_ {A = ℕ} 0 1 = cc in omega arith)
+step-said many form said Turn.Whole t e = e
+
+-- at most `most` items
+items-few : {A : Type 0} (most : ℕ) (many form : Fault) (says : List A → List ℕ → Step A) (ps : List (List ℕ)) (w : List A)
+    → itemsFrom (lineStep most many form says) [] ps ≡ accepted w → length w ≤ most
+items-few {A} most many form says ps w =
+    items-hold (lineStep most many form says) (λ v. length v ≤ most)
+    (λ seen p b t e h. omega (arith, next-only most many form (length seen) (says seen p) p b t (sym e) .0, length-append seen (t ∷ [])))
+    [] ps w zero-le
+
+-- the lines behind the names of an accepted sheet
+names-accepted : {A : Type 0} (g : Fault) (names : List ℕ) (k : List (List ℕ) → Reading A) (Q : List A → Type 0)
+    → ((ps : List (List ℕ)) (w : List A) → k ps ≡ accepted w → Q w) → (ps : List (List ℕ)) (w : List A) → withNames (refused g 1) names ps k ≡ accepted w → Q w
+names-accepted g names k Q h [] w e = absurd (let z : _≡_ {A = ℕ} 0 1 = cc in omega arith)
+names-accepted g names k Q h (p ∷ ps) w e = go (not (isEmpty ps) && sameBytes p names) e
+  where
+    go : (b : Bool) → cond b (k ps) (refused g 1) ≡ accepted w → Q w
+    go true e = h ps w e
+    go false e = absurd (let z : _≡_ {A = ℕ} 0 1 = cc in omega arith)
+
+-- 1. rules
+
+getElem?-snoc : {A : Type 0} (l : List A) (x : A) (p : ℕ) {y : A} → getElem? (l ++ x ∷ []) p ≡ some y → (getElem? l p ≡ some y) ⊎ ((p ≡ length l) × (x ≡ y))
+getElem?-snoc [] x zero e = inr (refl, cc)
+getElem?-snoc [] x (suc p) {y} e = absurd (let z : _≡_ {A = ℕ} 0 1 = cc in omega arith)
+getElem?-snoc (a ∷ l) x zero e = inl e
+getElem?-snoc (a ∷ l) x (suc p) e = ⊎-elim inl (λ h. inr (ap suc (h .0), h .1)) (getElem?-snoc l x p e)
+
+module _ (seen : Rules) (x : Rule) (d : Distinct seen) (fresh : anyOf (hasKey (keyOf x)) seen ≡ false) where
+  -- no rule seen has the key of x
+  apart : (p : ℕ) (r : Rule) → getElem? seen p ≡ some r → keyOf r ≡ keyOf x → ⊥
+  apart p r st k = any-none (hasKey (keyOf x)) seen fresh (member-at seen p st) (ap (λ (y : Key). sameKey y (keyOf x)) k ∙ same-refl (keyOf x))
+
+  distinct-snoc : Distinct (seen ++ x ∷ [])
+  distinct-snoc = record { one = λ p q r s e f h a. go p q r s (getElem?-snoc seen x p e) (getElem?-snoc seen x q f) h a }
+    where
+      go : (p q : ℕ) (r s : Rule) → (getElem? seen p ≡ some r) ⊎ ((p ≡ length seen) × (x ≡ r)) → (getElem? seen q ≡ some s) ⊎ ((q ≡ length seen) × (x ≡ s))
+          → r .left ≡ s .left → Alike (r .clause) (s .clause) → p ≡ q
+      go p q r s (inl e) (inl f) h a = d .one p q r s e f h a
+      go p q r s (inl e) (inr f) h a = absurd (apart p r e (key-path r s h a ∙ ap keyOf (sym (f .1))))
+      go p q r s (inr e) (inl f) h a = absurd (apart q s f (sym (key-path r s h a) ∙ ap keyOf (sym (e .1))))
+      go p q r s (inr e) (inr f) h a = e .0 ∙ sym (f .0)
+
+-- what a sheet's rules are
+pub record Kept (w : Rules) : Type 0 where
+  pub small : Every SmallRule w
+  pub distinct : Distinct w
+
+fresh-kept : (seen : Rules) (r t : Rule) → SmallRule r → Kept seen → freshStep seen r ≡ next t → Kept (seen ++ t ∷ [])
+fresh-kept seen r t sm k e = go (anyOf (hasKey (keyOf r)) seen) refl e
+  where
+    go : (b : Bool) → anyOf (hasKey (keyOf r)) seen ≡ b → cond b (stop Fault.RuleTwice) (next r) ≡ next t → Kept (seen ++ t ∷ [])
+    go true h e = absurd (let z : _≡_ {A = ℕ} 0 1 = cc in omega arith)
+    go false h e =
+        let j : r ≡ t = cc in
+        rw (← j) (record { small = every-append SmallRule seen (r ∷ []) (k .small) (sm, tt); distinct = distinct-snoc seen r (k .distinct) h })
+
+said-kept : (seen : Rules) (line : List ℕ) (t : Rule) → Kept seen → ruleSays seen line ≡ next t → Kept (seen ++ t ∷ [])
+said-kept seen line t k e = go (ruleLine line) refl e
+  where
+    go : (x : RuleLine) → ruleLine line ≡ x → ruleSaid seen x ≡ next t → Kept (seen ++ t ∷ [])
+    go RuleLine.Form h e = absurd (let z : _≡_ {A = ℕ} 0 1 = cc in omega arith)
+    go RuleLine.Range h e = absurd (let z : _≡_ {A = ℕ} 0 1 = cc in omega arith)
+    go RuleLine.Unfit h e = absurd (let z : _≡_ {A = ℕ} 0 1 = cc in omega arith)
+    go (RuleLine.Good r) h e = fresh-kept seen r t (line-small line r h) k e
+
+pub rules-kept : (ps : List (List ℕ)) (w : Rules) → itemsFrom ruleStep [] ps ≡ accepted w → Kept w
+rules-kept ps w =
+    items-hold ruleStep Kept
+    (λ seen p b t e k. said-kept seen p t k (step-said Fault.RuleMany Fault.RuleForm (ruleSays seen p) (turnOf 128 (length seen) p b) t e))
+    [] ps w (record { small = tt; distinct = record { one = λ p q r s e. absurd (let z : _≡_ {A = ℕ} 0 1 = cc in omega arith) } })
+
+-- 2. tokens
+
+after-says : (a b : Token) → after a b ≡ true → After a b
+after-says a b e = go (ltb (line a) (line b)) refl (eqb (line a) (line b)) refl e
+  where
+    go : (x : Bool) → ltb (line a) (line b) ≡ x → (y : Bool) → eqb (line a) (line b) ≡ y → x || (y && ltb (col a) (col b)) ≡ true → After a b
+    go true h y k e = inl (ltb-true (line a) (line b) h)
+    go false h true k e = inr (eqb-true (line a) (line b) k, ltb-true (col a) (col b) e)
+    go false h false k e = absurd (true-not-false (sym e))
+
+rising-from : (a : Token) (w : Word) (t : Token) → RisingFrom a w → After (last a w) t → RisingFrom a (w ++ t ∷ [])
+rising-from a [] t r h = (h, tt)
+rising-from a (b ∷ w) t r h = (r .0, rising-from b w t (r .1) h)
+
+rising-snoc : (w : Word) (t : Token) → Rising w → follows w t ≡ true → Rising (w ++ t ∷ [])
+rising-snoc [] t r e = tt
+rising-snoc (a ∷ w) t r e = rising-from a w t r (after-says (last a w) t e)
+
+order-rises : (seen : Word) (u t : Token) → Rising seen → orderStep seen u ≡ next t → Rising (seen ++ t ∷ [])
+order-rises seen u t r e = go (follows seen u) refl e
+  where
+    go : (b : Bool) → follows seen u ≡ b → cond b (next u) (stop Fault.TokenOrder) ≡ next t → Rising (seen ++ t ∷ [])
+    go true h e = let j : u ≡ t = cc in rw (← j) (rising-snoc seen u r h)
+    go false h e = absurd (let z : _≡_ {A = ℕ} 0 1 = cc in omega arith)
+
+said-rises : (seen : Word) (line : List ℕ) (t : Token) → Rising seen → tokenSays seen line ≡ next t → Rising (seen ++ t ∷ [])
+said-rises seen line t r e = go (tokenLine line) e
+  where
+    go : (x : TokenLine) → tokenSaid seen x ≡ next t → Rising (seen ++ t ∷ [])
+    go TokenLine.Form e = absurd (let z : _≡_ {A = ℕ} 0 1 = cc in omega arith)
+    go TokenLine.Range e = absurd (let z : _≡_ {A = ℕ} 0 1 = cc in omega arith)
+    go (TokenLine.Good u) e = order-rises seen u t r e
+
+pub tokens-rise : (ps : List (List ℕ)) (w : Word) → itemsFrom tokenStep [] ps ≡ accepted w → Rising w
+tokens-rise ps w =
+    items-hold tokenStep Rising
+    (λ seen p b t e r. said-rises seen p t r (step-said Fault.TokenMany Fault.TokenForm (tokenSays seen p) (turnOf 64 (length seen) p b) t e))
+    [] ps w tt
+
+last-snoc : (a : Token) (w : Word) (t : Token) → last a (w ++ t ∷ []) ≡ t
+last-snoc a [] t = refl
+last-snoc a (b ∷ w) t = last-snoc b w t
+
+follows-snoc : (w : Word) (t u : Token) → follows (w ++ t ∷ []) u ≡ after t u
+follows-snoc [] t u = refl
+follows-snoc (a ∷ w) t u = rw (last-snoc a w t)
+
+-- the last of the first n tokens
+pub follows-last : (l : Word) (n : ℕ) (d u : Token) → (n ≡ 0 → ⊥) → n ≤ length l → follows (take n l) u ≡ after (getD l (n - 1) d) u
+follows-last l zero d u h k = absurd (h refl)
+follows-last l (suc n) d u h k =
+    let e : suc n - 1 ≡ n = omega arith in
+    rw (take-suc l n d (omega arith), e) (follows-snoc (take n l) (getD l n d) u)
+
+-- 3. the end of a rule sheet
+
+module _ (w : Rules) where
+  unless-yes : (d : Dec (Cyclic w)) → Cyclic w → unlessCyclic d ≡ refused Fault.Cyclic 0
+  unless-yes (yes c) x = refl
+  unless-yes (no n) x = absurd (n x)
+
+  unless-no : (d : Dec (Cyclic w)) → (Cyclic w → ⊥) → unlessCyclic d ≡ accepted w
+  unless-no (yes c) x = absurd (x c)
+  unless-no (no n) x = refl
+
+  pub finish-cyclic : anyOf isStart w ≡ true → Cyclic w → finish (accepted w) ≡ refused Fault.Cyclic 0
+  finish-cyclic e c = rw e (unless-yes (cyclic? w) c)
+
+  pub finish-good : anyOf isStart w ≡ true → (Cyclic w → ⊥) → finish (accepted w) ≡ accepted w
+  finish-good e n = rw e (unless-no (cyclic? w) n)
+
+  pub finish-none : anyOf isStart w ≡ false → finish (accepted w) ≡ refused Fault.NoStart 0
+  finish-none e = rw e
+
+  -- refused 8 exactly if cyclic, among those with a start
+  pub finish-only : finish (accepted w) ≡ refused Fault.Cyclic 0 → Cyclic w
+  finish-only e = go (anyOf isStart w) (cyclic? w) e
+    where
+      go : (b : Bool) (d : Dec (Cyclic w)) → cond b (unlessCyclic d) (refused Fault.NoStart 0) ≡ refused Fault.Cyclic 0 → Cyclic w
+      go true (yes c) e = c
+      go true (no n) e = absurd (let z : _≡_ {A = ℕ} 0 1 = cc in omega arith)
+      go false d e = absurd (let z : _≡_ {A = ℕ} 0 1 = cc in omega arith)
+
+-- 4. whole sheets
+
+-- the rules of an accepted sheet
+pub record GoodRules (w : Rules) : Type 0 where
+  pub few : length w ≤ 128
+  pub small : Every SmallRule w
+  pub distinct : Distinct w
+  pub start : anyOf isStart w ≡ true
+  pub acyclic : Cyclic w → ⊥
+
+-- the end accepts what came to it
+finish-kept : (x : Reading Rule) (w : Rules) → finish x ≡ accepted w → (x ≡ accepted w) × (anyOf isStart w ≡ true) × (Cyclic w → ⊥)
+finish-kept (accepted v) w e = go (anyOf isStart v) refl (cyclic? v) e
+  where
+    go : (b : Bool) → anyOf isStart v ≡ b → (d : Dec (Cyclic v)) → cond b (unlessCyclic d) (refused Fault.NoStart 0) ≡ accepted w → (accepted v ≡ accepted w) × (anyOf isStart w ≡ true) × (Cyclic w → ⊥)
+    go true h (yes c) e = absurd (let z : _≡_ {A = ℕ} 0 1 = cc in omega arith)
+    go true h (no n) e = let j : v ≡ w = cc in (e, rw j at h, rw j at n)
+    go false h d e = absurd (let z : _≡_ {A = ℕ} 0 1 = cc in omega arith)
+finish-kept (refused f l) w e = absurd (let z : _≡_ {A = ℕ} 0 1 = cc in omega arith)
+
+pub rules-good : (s : List ℕ) (w : Rules) → ruleSheet s ≡ accepted w → GoodRules w
+rules-good s w = names-accepted Fault.RuleNames ruleNames rulesFrom GoodRules lines-good (pieces 10 s) w
+  where
+    lines-good : (ps : List (List ℕ)) (v : Rules) → rulesFrom ps ≡ accepted v → GoodRules v
+    lines-good ps v e =
+        let f = finish-kept (itemsFrom ruleStep [] ps) v e in
+        let k = rules-kept ps v (f .0) in
+        record { few = items-few 128 Fault.RuleMany Fault.RuleForm ruleSays ps v (f .0); small = k .small; distinct = k .distinct; start = f .1; acyclic = f .2 }
+
+-- the tokens of an accepted sheet
+pub record GoodTokens (w : Word) : Type 0 where
+  pub few : length w ≤ 64
+  pub rising : Rising w
+
+pub tokens-good : (s : List ℕ) (w : Word) → tokenSheet s ≡ accepted w → GoodTokens w
+tokens-good s w =
+    names-accepted Fault.TokenNames tokenNames (itemsFrom tokenStep []) GoodTokens
+    (λ ps v e. record { few = items-few 64 Fault.TokenMany Fault.TokenForm tokenSays ps v e; rising = tokens-rise ps v e }) (pieces 10 s) w

@@ -1,0 +1,6 @@
+pub mod AnyOf
+pub mod Names
+pub mod Loop
+pub mod Accepted
+pub mod Walks
+pub mod Handed

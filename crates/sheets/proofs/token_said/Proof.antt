@@ -1,0 +1,55 @@
+-- `sheets::token_said` meets its contract: the line was read as the definition reads its bytes.
+use mathlib.Core.Path.{_≡_, sym, ap, _∙_}
+use borrow.Author.Needs.{needs}
+use lib.ListN.{take}
+use Rattle.fields.specs.Pieces.{bytesLeft}
+use Rattle.fields.proofs.Lines.{fields-of}
+use Rattle.lines.specs.declared.TokenLine.{TokenLine}
+use Rattle.lines.specs.TokenLines.{tokenFields}
+use Rattle.sheets.specs.TokenSheets.{tokenSaid, tokenSays}
+use Rattle.sheets.proofs.token_said.Statement.{statement}
+use Rattle.sheets.proofs.token_said.Tie as tie
+
+-- what the line was read as
+said : (c : tie.After-token-line) (x : TokenLine) → c .token-line .result ≡ x
+    → tokenSaid (take (c .before .before .args .n) (c .before .before .args .tokens)) x ≡ tokenSays (take (c .before .before .args .n) (c .before .before .args .tokens)) (bytesLeft (c .before .before .args .s .now) (c .before .before .args .c))
+said c x is =
+    let b = c .before .before in
+    ap (tokenSaid (take (b .args .n) (b .args .tokens))) (sym is ∙ c .token-line .ensures ∙ ap tokenFields (fields-of (b .args .s .now) (b .args .c) (b .pre .0) (b .pre .1)))
+
+token-line-requires : tie.Need-token-line-requires
+token-line-requires c κs = search needs
+
+enum-told : tie.Need-enum-told
+enum-told c = search needs
+
+enum-told-2 : tie.Need-enum-told-2
+enum-told-2 c = search needs
+
+enum-known-t : tie.Need-enum-known-t
+enum-known-t c = search needs
+
+ordered-requires : tie.Need-ordered-requires
+ordered-requires c κs = search needs
+
+returns : tie.Need-returns
+returns c = said (c .before .before) _ (c .enum-told .given .1)
+
+returns-2 : tie.Need-returns-2
+returns-2 c = said (c .before .before) _ (c .enum-told2 .given .1)
+
+returns-3 : tie.Need-returns-3
+returns-3 c = c .ordered .ensures ∙ said (c .before .before .before .before) _ (c .before .before .t .given .1)
+
+pub token-said-spec : {M : Type 1} → statement M
+token-said-spec =
+    tie.close
+    (tie.spec
+    token-line-requires
+    enum-told
+    enum-told-2
+    enum-known-t
+    ordered-requires
+    returns
+    returns-2
+    returns-3)

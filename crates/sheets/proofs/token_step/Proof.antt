@@ -1,0 +1,66 @@
+-- `sheets::token_step` meets its contract: by what the line is.
+use mathlib.Core.Path.{_≡_, sym, ap, _∙_}
+use borrow.Author.Needs.{needs}
+use lib.ListN.{length, take}
+use lib.Dec.{ltb}
+use Rattle.fields.specs.Pieces.{bytesLeft}
+use Rattle.lines.specs.declared.Turn.{Turn}
+use Rattle.lines.specs.Turns.{turnOf}
+use Rattle.sheets.specs.declared.Fault.the-variants as Fault
+use Rattle.sheets.specs.Items.{stepAt}
+use Rattle.sheets.specs.TokenSheets.{tokenSays}
+use Rattle.sheets.proofs.token_step.Statement.{statement}
+use Rattle.sheets.proofs.token_step.Tie as tie
+
+-- what the line is
+said : (c : tie.After-turn-at) (x : Turn) → c .turn-at .result ≡ x
+    → stepAt Fault.TokenMany Fault.TokenForm (tokenSays (take (c .before .before .args .n) (c .before .before .args .tokens)) (bytesLeft (c .before .before .args .s .now) (c .before .before .args .c))) x
+    ≡ stepAt Fault.TokenMany Fault.TokenForm (tokenSays (take (c .before .before .args .n) (c .before .before .args .tokens)) (bytesLeft (c .before .before .args .s .now) (c .before .before .args .c))) (turnOf 64 (c .before .before .args .n) (bytesLeft (c .before .before .args .s .now) (c .before .before .args .c)) (ltb (c .before .before .args .c .end) (length (c .before .before .args .s .now))))
+said c x is =
+    let a = c .before .before .args in
+    ap (stepAt Fault.TokenMany Fault.TokenForm (tokenSays (take (a .n) (a .tokens)) (bytesLeft (a .s .now) (a .c)))) (sym is ∙ c .turn-at .ensures)
+
+turn-at-requires : tie.Need-turn-at-requires
+turn-at-requires c κs = search needs
+
+enum-told : tie.Need-enum-told
+enum-told c = search needs
+
+enum-told-2 : tie.Need-enum-told-2
+enum-told-2 c = search needs
+
+enum-told-3 : tie.Need-enum-told-3
+enum-told-3 c = search needs
+
+enum-told-4 : tie.Need-enum-told-4
+enum-told-4 c = search needs
+
+token-said-requires : tie.Need-token-said-requires
+token-said-requires c κs = search needs
+
+returns : tie.Need-returns
+returns c = said (c .before .before) _ (c .enum-told .given .1)
+
+returns-2 : tie.Need-returns-2
+returns-2 c = said (c .before .before) _ (c .enum-told2 .given .1)
+
+returns-3 : tie.Need-returns-3
+returns-3 c = said (c .before .before) _ (c .enum-told3 .given .1)
+
+returns-4 : tie.Need-returns-4
+returns-4 c = c .token-said .ensures ∙ said (c .before .before .before) _ (c .before .enum-told4 .given .1)
+
+pub token-step-spec : {M : Type 1} → statement M
+token-step-spec =
+    tie.close
+    (tie.spec
+    turn-at-requires
+    enum-told
+    enum-told-2
+    enum-told-3
+    enum-told-4
+    token-said-requires
+    returns
+    returns-2
+    returns-3
+    returns-4)

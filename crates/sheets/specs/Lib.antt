@@ -1,0 +1,6 @@
+pub mod Refusals
+pub mod Items
+pub mod RuleSheets
+pub mod TokenSheets
+pub mod RefusedLines
+pub mod Promises

@@ -1,0 +1,48 @@
+-- What the readers promise, and what the code's answers say.
+use mathlib.Core.Path.{_≡_}
+use Prim.Native.Nat.{ℕ}
+use mathlib.Core.List.{List}
+use lib.ListN.{take}
+use Rattle.grammar.specs.declared.Rule.{Rule}
+use Rattle.grammar.specs.declared.Token.{Token}
+use Rattle.grammar.specs.Cycles.{Cyclic}
+use Rattle.grammar.specs.Content.{rules, spelled, Formed, Positioned}
+use Rattle.sheets.specs.declared.Fault.{Fault}
+use Rattle.sheets.specs.declared.Outcome.{Outcome}
+use Rattle.sheets.specs.declared.Outcome.the-variants.{Accepted, Refused}
+use Rattle.sheets.specs.declared.GrammarRead.{GrammarRead}
+use Rattle.sheets.specs.declared.SentenceRead.{SentenceRead}
+use Rattle.sheets.specs.declared.RuleStep.{RuleStep}
+use Rattle.sheets.specs.declared.RuleStep.the-variants as RuleStep
+use Rattle.sheets.specs.declared.TokenStep.{TokenStep}
+use Rattle.sheets.specs.declared.TokenStep.the-variants as TokenStep
+use Rattle.sheets.specs.Items.{Reading, accepted, refused, Step, next, stop, end}
+
+-- an outcome with the items that were read, as a reading
+abbrev pub readingOf : {A : Type 0} → Outcome → List A → Reading A
+readingOf Accepted w = accepted w
+readingOf (Refused f l) w = refused f l
+
+-- the answer is the wanted reading; an accepted grammar is formed and not cyclic, a refused one has no rules
+pub record RulesRead (r : GrammarRead) (want : Reading Rule) : Type 0 where
+  pub is : readingOf (r .outcome) (rules (r .grammar)) ≡ want
+  pub formed : r .outcome ≡ Accepted → Formed (r .grammar)
+  pub acyclic : r .outcome ≡ Accepted → Cyclic (rules (r .grammar)) → ⊥
+  pub none : (f : Fault) (l : ℕ) → r .outcome ≡ Refused f l → r .grammar .count ≡ 0
+
+-- the answer is the wanted reading; an accepted sentence is positioned, a refused one has no tokens
+pub record TokensRead (r : SentenceRead) (want : Reading Token) : Type 0 where
+  pub is : readingOf (r .outcome) (spelled (r .sentence)) ≡ want
+  pub positioned : r .outcome ≡ Accepted → Positioned (r .sentence)
+  pub none : (f : Fault) (l : ℕ) → r .outcome ≡ Refused f l → r .sentence .count ≡ 0
+
+-- the code's steps
+abbrev pub asRuleStep : RuleStep → Step Rule
+asRuleStep (RuleStep.Next r) = next r
+asRuleStep (RuleStep.Stop f) = stop f
+asRuleStep RuleStep.End = end
+
+abbrev pub asTokenStep : TokenStep → Step Token
+asTokenStep (TokenStep.Next t) = next t
+asTokenStep (TokenStep.Stop f) = stop f
+asTokenStep TokenStep.End = end

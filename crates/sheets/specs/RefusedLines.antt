@@ -1,0 +1,56 @@
+-- The refused line of a call with both sheets: 01, "Where each refusal is checked", the last paragraph.
+use mathlib.Core.Path.{_≡_}
+use Prim.Native.Nat.{ℕ, zero, suc, _+_}
+use mathlib.Core.List.{List, [], _∷_}
+use lib.ListN.{length, take, drop, getD}
+use denote.Ref.{RefT}
+use Rattle.grammar.specs.declared.Rule.{Rule}
+use Rattle.grammar.specs.declared.Token.{Token}
+use Rattle.fields.specs.Pieces.{pieces}
+use Rattle.sheets.specs.Items.{Reading, accepted, refused}
+use Rattle.sheets.specs.RuleSheets.{ruleSheet}
+use Rattle.sheets.specs.TokenSheets.{tokenSheet}
+
+-- the sheet that holds the refused line, and how many lines stand before it there; or there is no such line
+pub data Held : Type 0 where
+  in-rules : ℕ → Held
+  in-tokens : ℕ → Held
+  nowhere : Held
+
+-- a refusal's line counts from 1; line 0 is no line
+abbrev pub ofTokens : Reading Token → Held
+ofTokens (accepted w) = nowhere
+ofTokens (refused f zero) = nowhere
+ofTokens (refused f (suc n)) = in-tokens n
+
+abbrev pub ofRules : Reading Rule → Held → Held
+ofRules (accepted w) tokens = tokens
+ofRules (refused f zero) tokens = nowhere
+ofRules (refused f (suc n)) tokens = in-rules n
+
+-- the rule sheet is read first
+abbrev pub refusedLine : List ℕ → List ℕ → Held
+refusedLine rules tokens = ofRules (ruleSheet rules) (ofTokens (tokenSheet tokens))
+
+-- where the piece with n pieces before it begins, each with its byte
+abbrev pub startOf : List (List ℕ) → ℕ → ℕ
+startOf ps zero = 0
+startOf [] (suc n) = 0
+startOf (p ∷ ps) (suc n) = length p + 1 + startOf ps n
+
+-- r is the part of the sheet that begins at `from` and has these bytes: it points into the sheet
+pub record Part (sheet : RefT (List ℕ)) (from : ℕ) (bytes : List ℕ) (r : RefT (List ℕ)) : Type 0 where
+  pub block : r .ptr .0 ≡ sheet .ptr .0
+  pub offset : r .ptr .1 ≡ sheet .ptr .1 + from
+  pub holds : r .now ≡ bytes
+  pub cut : r .now ≡ take (length bytes) (drop from (sheet .now))
+
+-- r is the sheet's line with n lines before it, without its byte 10
+abbrev pub LinePart : RefT (List ℕ) → ℕ → RefT (List ℕ) → Type 0
+LinePart sheet n r = Part sheet (startOf (pieces 10 (sheet .now)) n) (getD (pieces 10 (sheet .now)) n []) r
+
+-- what is handed back; with no such line, the first zero bytes of the rule sheet
+abbrev pub Hands : RefT (List ℕ) → RefT (List ℕ) → RefT (List ℕ) → Held → Type 0
+Hands rules tokens r (in-rules n) = LinePart rules n r
+Hands rules tokens r (in-tokens n) = LinePart tokens n r
+Hands rules tokens r nowhere = Part rules 0 [] r

@@ -1,0 +1,70 @@
+-- What a rule sheet says: its rules, or the refusal with its line. 01, refusals 1 to 8.
+use Prim.Native.Nat.{ℕ}
+use mathlib.Core.List.{List, [], _∷_}
+use mathlib.Core.Bool.{Bool, true, false, cond, _||_}
+use lib.Dec.{eqb}
+use Rattle.grammar.specs.declared.Rule.{Rule}
+use Rattle.grammar.specs.Trees.{Rules}
+use Rattle.grammar.specs.Cycles.{Cyclic}
+use Rattle.grammar.proofs.Acyclic.{cyclic?}
+use Rattle.fields.specs.Pieces.{pieces}
+use Rattle.lines.specs.declared.RuleLine.{RuleLine}
+use Rattle.lines.specs.declared.RuleLine.the-variants as RuleLine
+use Rattle.lines.specs.RuleLines.{ruleLine}
+use Rattle.lines.specs.declared.Key.{Key}
+use Rattle.lines.specs.Keys.{keyOf, sameKey}
+use Rattle.sheets.specs.declared.Fault.the-variants as Fault
+use Rattle.sheets.specs.Items.{Reading, accepted, refused, Step, next, stop, end, lineStep, itemsFrom, withNames}
+
+-- a rule has the key
+abbrev pub hasKey : Key → Rule → Bool
+hasKey k r = sameKey (keyOf r) k
+
+abbrev pub isStart : Rule → Bool
+isStart r = eqb (r .left) 0
+
+abbrev pub anyOf : {A : Type 0} → (A → Bool) → List A → Bool
+anyOf p [] = false
+anyOf p (x ∷ xs) = p x || anyOf p xs
+
+-- 5: an earlier line has the same left, kind, first and second, under any lay
+abbrev pub freshStep : Rules → Rule → Step Rule
+freshStep seen r = cond (anyOf (hasKey (keyOf r)) seen) (stop Fault.RuleTwice) (next r)
+
+-- 2, 3, 4, 5
+abbrev pub ruleSaid : Rules → RuleLine → Step Rule
+ruleSaid seen RuleLine.Form = stop Fault.RuleForm
+ruleSaid seen RuleLine.Range = stop Fault.RuleRange
+ruleSaid seen RuleLine.Unfit = stop Fault.RuleLay
+ruleSaid seen (RuleLine.Good r) = freshStep seen r
+
+abbrev pub ruleSays : Rules → List ℕ → Step Rule
+ruleSays seen line = ruleSaid seen (ruleLine line)
+
+-- a rule line after the rules seen: 6 (a 129th rule), then 2, 3, 4, 5
+abbrev pub ruleStep : Rules → List ℕ → Bool → Step Rule
+ruleStep = lineStep 128 Fault.RuleMany Fault.RuleForm ruleSays
+
+-- 8: cyclic, by the decision whether it is
+abbrev pub unlessCyclic : {w : Rules} → Dec (Cyclic w) → Reading Rule
+unlessCyclic {w} (yes c) = refused Fault.Cyclic 0
+unlessCyclic {w} (no n) = accepted w
+
+-- at the end: 7 (no rule has left 0), then 8
+abbrev pub finish : Reading Rule → Reading Rule
+finish (accepted w) = cond (anyOf isStart w) (unlessCyclic (cyclic? w)) (refused Fault.NoStart 0)
+finish (refused f l) = refused f l
+
+-- the rule lines, then the end
+abbrev pub rulesFrom : List (List ℕ) → Reading Rule
+rulesFrom ps = finish (itemsFrom ruleStep [] ps)
+
+-- left kind first second lay
+abbrev pub ruleNames : List ℕ
+ruleNames =
+    108 ∷ 101 ∷ 102 ∷ 116 ∷ 32 ∷ 107 ∷ 105 ∷ 110 ∷ 100 ∷ 32 ∷ 102 ∷ 105 ∷ 114 ∷ 115 ∷ 116 ∷ 32 ∷ 115 ∷ 101 ∷ 99 ∷ 111 ∷ 110 ∷ 100 ∷ 32
+    ∷ 108 ∷ 97 ∷ 121 ∷ []
+
+-- 1, then line by line, then 7 and 8
+abbrev pub ruleSheet : List ℕ → Reading Rule
+ruleSheet s = withNames (refused Fault.RuleNames 1) ruleNames (pieces 10 s) rulesFrom

@@ -1,0 +1,379 @@
+// The readers of the two sheets, for any bytes: a grammar and a sentence, or the refusal with its line; and the refused line itself.
+use fields::Cursor;
+use grammar::Clause;
+use grammar::Column;
+use grammar::Grammar;
+use grammar::Line;
+use grammar::Rule;
+use grammar::Sentence;
+use grammar::Token;
+use lines::Key;
+use lines::RuleLine;
+use lines::TokenLine;
+use lines::Turn;
+ghost use mathlib.Core.Path.{_≡_};
+ghost use mathlib.Core.List.{[]};
+ghost use Prim.Native.Nat.{_≤_, _<_};
+ghost use lib.ListN.{length, take};
+ghost use lib.Dec.{ltb};
+ghost use Rattle.grammar.specs.Content.{Formed};
+ghost use Rattle.lines.specs.Turns.{turnOf};
+ghost use Rattle.fields.specs.Pieces.{pieces, piecesFrom, bytesLeft};
+ghost use Rattle.sheets.specs.Items.{accepted, refused, stepAt, itemsFrom};
+ghost use Rattle.sheets.specs.RuleSheets.{hasKey, anyOf, isStart, freshStep, ruleSays, finish, rulesFrom, ruleSheet};
+ghost use Rattle.sheets.specs.TokenSheets.{after, orderStep, tokenSays, tokenStep, tokenSheet};
+ghost use Rattle.sheets.specs.RefusedLines.{LinePart, Hands, refusedLine};
+ghost use Rattle.sheets.specs.Promises.{asRuleStep, asTokenStep, RulesRead, TokensRead};
+
+// The refusals; `numberOf` in specs/ has their numbers. The last four are given by later crates.
+pub enum Fault {
+    RuleNames,
+    RuleForm,
+    RuleRange,
+    RuleLay,
+    RuleTwice,
+    RuleMany,
+    NoStart,
+    Cyclic,
+    TokenNames,
+    TokenForm,
+    TokenRange,
+    TokenMany,
+    TokenOrder,
+    FewWords,
+    FewRows,
+    BadBound,
+    ManyCandidates,
+}
+
+// A refusal gives the line in its sheet, counted from 1, or 0.
+pub enum Outcome {
+    Accepted,
+    Refused(Fault, usize),
+}
+
+// The grammar of a rule sheet; it has no rules where the sheet is refused.
+pub struct GrammarRead {
+    pub outcome: Outcome,
+    pub grammar: Grammar,
+}
+
+// The sentence of a token sheet; it has no tokens where the sheet is refused.
+pub struct SentenceRead {
+    pub outcome: Outcome,
+    pub sentence: Sentence,
+}
+
+// What a line gives: one more item, a refusal, or the sheet's end.
+pub enum RuleStep {
+    Next(Rule),
+    Stop(Fault),
+    End,
+}
+
+pub enum TokenStep {
+    Next(Token),
+    Stop(Fault),
+    End,
+}
+
+// Has one of the first n rules the key?
+fn earlier(rules: [Rule; 128], n: usize, key: Key) -> bool
+    requires { ⌜ n ≤ 128 ⌝ }
+    ensures { λ r. ⌜ r ≡ anyOf (hasKey key) (take n rules) ⌝ }
+{
+    let mut i = 0;
+    while i < n {
+        let x = rules[i];
+        if lines::same_key(lines::key_of(x), key) {
+            return true;
+        }
+        i += 1;
+    }
+    false
+}
+
+// Has one of the first n rules nonterminal 0 at the left?
+fn has_start(rules: [Rule; 128], n: usize) -> bool
+    requires { ⌜ n ≤ 128 ⌝ }
+    ensures { λ r. ⌜ r ≡ anyOf isStart (take n rules) ⌝ }
+{
+    let mut i = 0;
+    while i < n {
+        let x = rules[i];
+        if x.left == 0 {
+            return true;
+        }
+        i += 1;
+    }
+    false
+}
+
+// A rule that no earlier line has, under any lay.
+fn fresh(rules: [Rule; 128], n: usize, r: Rule) -> RuleStep
+    requires { ⌜ n ≤ 128 ⌝ }
+    ensures { λ x. ⌜ asRuleStep x ≡ freshStep (take n rules) r ⌝ }
+{
+    if earlier(rules, n, lines::key_of(r)) {
+        return RuleStep::Stop(Fault::RuleTwice);
+    }
+    RuleStep::Next(r)
+}
+
+// What a whole line says after the first n rules.
+fn rule_said(s: &[u8], c: Cursor, rules: [Rule; 128], n: usize) -> RuleStep
+    requires { ⌜ (c .at ≤ c .end) × (c .end ≤ length (now s)) × (n ≤ 128) ⌝ }
+    ensures { λ r. ⌜ asRuleStep r ≡ ruleSays (take n rules) (bytesLeft (now (s .entry)) c) ⌝ }
+{
+    match lines::rule_line(s, c) {
+        RuleLine::Form => RuleStep::Stop(Fault::RuleForm),
+        RuleLine::Range => RuleStep::Stop(Fault::RuleRange),
+        RuleLine::Unfit => RuleStep::Stop(Fault::RuleLay),
+        RuleLine::Good(r) => fresh(rules, n, r),
+    }
+}
+
+// What the cursor's line gives after the first n rules.
+fn rule_step(s: &[u8], c: Cursor, rules: [Rule; 128], n: usize) -> RuleStep
+    requires { ⌜ (c .at ≤ c .end) × (c .end ≤ length (now s)) × (n ≤ 128) ⌝ }
+    ensures { λ r. ⌜ asRuleStep r ≡ stepAt Fault.RuleMany Fault.RuleForm (ruleSays (take n rules) (bytesLeft (now (s .entry)) c)) (turnOf 128 n (bytesLeft (now (s .entry)) c) (ltb (c .end) (length (now (s .entry))))) ⌝ }
+{
+    match lines::turn_at(s, c, n, 128) {
+        Turn::End => RuleStep::End,
+        Turn::Many => RuleStep::Stop(Fault::RuleMany),
+        Turn::Open => RuleStep::Stop(Fault::RuleForm),
+        Turn::Whole => rule_said(s, c, rules, n),
+    }
+}
+
+fn no_rules() -> [Rule; 128] {
+    [Rule {
+        left: 0,
+        clause: Clause::Empty,
+    }; 128]
+}
+
+// A refused rule sheet.
+fn refuse_rules(rules: [Rule; 128], f: Fault, line: usize) -> GrammarRead
+    ensures { λ r. ⌜ RulesRead r (refused f line) ⌝ }
+{
+    GrammarRead {
+        outcome: Outcome::Refused(f, line),
+        grammar: Grammar { rules, count: 0 },
+    }
+}
+
+// The end of a rule sheet: refusals 7 and 8.
+fn finished(rules: [Rule; 128], n: usize) -> GrammarRead
+    requires { ⌜ Formed (record { rules = rules; count = n }) ⌝ }
+    ensures { λ r. ⌜ RulesRead r (finish (accepted (take n rules))) ⌝ }
+{
+    if has_start(rules, n) {
+        let g = Grammar { rules, count: n };
+        if acyclic::cyclic(g) {
+            return refuse_rules(rules, Fault::Cyclic, 0);
+        }
+        return GrammarRead {
+            outcome: Outcome::Accepted,
+            grammar: g,
+        };
+    }
+    refuse_rules(rules, Fault::NoStart, 0)
+}
+
+// The rule lines from a place on.
+fn rules_from(s: &[u8], start: usize) -> GrammarRead
+    requires { ⌜ start ≤ length (now s) ⌝ }
+    ensures { λ r. ⌜ RulesRead r (rulesFrom (piecesFrom 10 (now (s .entry)) start)) ⌝ }
+{
+    let mut rules = no_rules();
+    let mut n: usize = 0;
+    let mut at = start;
+    loop {
+        let c = Cursor::line(s, at);
+        match rule_step(s, c, rules, n) {
+            RuleStep::Next(r) => {
+                rules[n] = r;
+                n += 1;
+                at = c.end + 1;
+            }
+            RuleStep::Stop(f) => {
+                return refuse_rules(rules, f, n + 2);
+            }
+            RuleStep::End => {
+                return finished(rules, n);
+            }
+        }
+    }
+}
+
+// The rule sheet: its rules, or the first refusal in 01's order with its line.
+pub fn read_rules(s: &[u8]) -> GrammarRead
+    ensures { λ r. ⌜ RulesRead r (ruleSheet (now (s .entry))) ⌝ }
+{
+    let c = Cursor::line(s, 0);
+    let end = c.end;
+    if end < s.len() {
+        if fields::same(&s[..end], b"left kind first second lay") {
+            return rules_from(s, end + 1);
+        }
+        return refuse_rules(no_rules(), Fault::RuleNames, 1);
+    }
+    refuse_rules(no_rules(), Fault::RuleNames, 1)
+}
+
+// A later line, or the same line and a greater column.
+fn comes_after(a: Token, b: Token) -> bool
+    ensures { λ r. ⌜ r ≡ after a b ⌝ }
+{
+    if a.line.0 < b.line.0 {
+        return true;
+    }
+    if a.line.0 == b.line.0 {
+        return a.column.0 < b.column.0;
+    }
+    false
+}
+
+// A token that comes after the last of the first n.
+fn ordered(tokens: [Token; 64], n: usize, t: Token) -> TokenStep
+    requires { ⌜ n ≤ 64 ⌝ }
+    ensures { λ r. ⌜ asTokenStep r ≡ orderStep (take n tokens) t ⌝ }
+{
+    if n == 0 {
+        return TokenStep::Next(t);
+    }
+    let i = n - 1;
+    let last = tokens[i];
+    if comes_after(last, t) {
+        return TokenStep::Next(t);
+    }
+    TokenStep::Stop(Fault::TokenOrder)
+}
+
+// What a whole line says after the first n tokens.
+fn token_said(s: &[u8], c: Cursor, tokens: [Token; 64], n: usize) -> TokenStep
+    requires { ⌜ (c .at ≤ c .end) × (c .end ≤ length (now s)) × (n ≤ 64) ⌝ }
+    ensures { λ r. ⌜ asTokenStep r ≡ tokenSays (take n tokens) (bytesLeft (now (s .entry)) c) ⌝ }
+{
+    match lines::token_line(s, c) {
+        TokenLine::Form => TokenStep::Stop(Fault::TokenForm),
+        TokenLine::Range => TokenStep::Stop(Fault::TokenRange),
+        TokenLine::Good(t) => ordered(tokens, n, t),
+    }
+}
+
+// What the cursor's line gives after the first n tokens.
+fn token_step(s: &[u8], c: Cursor, tokens: [Token; 64], n: usize) -> TokenStep
+    requires { ⌜ (c .at ≤ c .end) × (c .end ≤ length (now s)) × (n ≤ 64) ⌝ }
+    ensures { λ r. ⌜ asTokenStep r ≡ stepAt Fault.TokenMany Fault.TokenForm (tokenSays (take n tokens) (bytesLeft (now (s .entry)) c)) (turnOf 64 n (bytesLeft (now (s .entry)) c) (ltb (c .end) (length (now (s .entry))))) ⌝ }
+{
+    match lines::turn_at(s, c, n, 64) {
+        Turn::End => TokenStep::End,
+        Turn::Many => TokenStep::Stop(Fault::TokenMany),
+        Turn::Open => TokenStep::Stop(Fault::TokenForm),
+        Turn::Whole => token_said(s, c, tokens, n),
+    }
+}
+
+fn no_tokens() -> [Token; 64] {
+    [Token {
+        terminal: 0,
+        line: Line(0),
+        column: Column(0),
+    }; 64]
+}
+
+// A refused token sheet.
+fn refuse_tokens(tokens: [Token; 64], f: Fault, line: usize) -> SentenceRead
+    ensures { λ r. ⌜ TokensRead r (refused f line) ⌝ }
+{
+    SentenceRead {
+        outcome: Outcome::Refused(f, line),
+        sentence: Sentence { tokens, count: 0 },
+    }
+}
+
+// The token lines from a place on.
+fn tokens_from(s: &[u8], start: usize) -> SentenceRead
+    requires { ⌜ start ≤ length (now s) ⌝ }
+    ensures { λ r. ⌜ TokensRead r (itemsFrom tokenStep [] (piecesFrom 10 (now (s .entry)) start)) ⌝ }
+{
+    let mut tokens = no_tokens();
+    let mut n: usize = 0;
+    let mut at = start;
+    loop {
+        let c = Cursor::line(s, at);
+        match token_step(s, c, tokens, n) {
+            TokenStep::Next(t) => {
+                tokens[n] = t;
+                n += 1;
+                at = c.end + 1;
+            }
+            TokenStep::Stop(f) => {
+                return refuse_tokens(tokens, f, n + 2);
+            }
+            TokenStep::End => {
+                return SentenceRead {
+                    outcome: Outcome::Accepted,
+                    sentence: Sentence { tokens, count: n },
+                };
+            }
+        }
+    }
+}
+
+// The token sheet: its tokens, or the first refusal in 01's order with its line.
+pub fn read_tokens(s: &[u8]) -> SentenceRead
+    ensures { λ r. ⌜ TokensRead r (tokenSheet (now (s .entry))) ⌝ }
+{
+    let c = Cursor::line(s, 0);
+    let end = c.end;
+    if end < s.len() {
+        if fields::same(&s[..end], b"term line col") {
+            return tokens_from(s, end + 1);
+        }
+        return refuse_tokens(no_tokens(), Fault::TokenNames, 1);
+    }
+    refuse_tokens(no_tokens(), Fault::TokenNames, 1)
+}
+
+// The line of the sheet with n lines before it, without its byte 10.
+fn line_after<'a>(s: &'a [u8], n: usize) -> &'a [u8]
+    requires { ⌜ n < length (pieces 10 (now s)) ⌝ }
+    ensures { λ r. ⌜ LinePart (s .entry) n r ⌝ }
+{
+    let mut at = 0;
+    let mut left = n;
+    while 0 < left {
+        let c = Cursor::line(s, at);
+        at = c.end + 1;
+        left -= 1;
+    }
+    let c = Cursor::line(s, at);
+    let end = c.end;
+    &s[at..end]
+}
+
+// The refused line of a call with both sheets, as a part of the sheet that holds it; with no such line, the rule sheet's first zero bytes.
+pub fn refused_line<'a>(rules: &'a [u8], tokens: &'a [u8]) -> &'a [u8]
+    ensures { λ r. ⌜ Hands (rules .entry) (tokens .entry) r (refusedLine (now (rules .entry)) (now (tokens .entry))) ⌝ }
+{
+    let g = read_rules(rules);
+    let o = g.outcome;
+    if let Outcome::Refused(_, l) = o {
+        if l == 0 {
+            return &rules[..0];
+        }
+        return line_after(rules, l - 1);
+    }
+    let t = read_tokens(tokens);
+    let p = t.outcome;
+    if let Outcome::Refused(_, m) = p {
+        if m == 0 {
+            return &rules[..0];
+        }
+        return line_after(tokens, m - 1);
+    }
+    &rules[..0]
+}
