@@ -1,0 +1,78 @@
+"""Writes the cases for a program and what the reference answers to them.
+
+    make_programs.py NAME STDIN STDOUT           write the two files
+    make_programs.py --check NAME STDIN STDOUT   compare with them; status 1 if not the same
+
+NAME is `check` or `sweep`.
+
+STDIN: each case is a header of 6 bytes (length of the input in five digits,
+byte 10), then the input.  The next case follows at once.
+
+STDOUT: for each case the program's whole output.
+
+Both modes have status 1 too where a case made by hand is not answered as it
+was meant to be; then nothing is written.
+"""
+
+import sys
+from pathlib import Path
+
+import check_cases
+import sweep_cases
+import teplonga
+
+PROGRAMS = {
+    "check": (check_cases, teplonga.check_program),
+    "sweep": (sweep_cases, teplonga.sweep_program),
+}
+
+
+def framed(text):
+    assert len(text) < 100_000
+    return b"%05d\n" % len(text) + text
+
+
+def astray(meant, outputs):
+    """The first case whose output does not go on as meant, or None.
+
+    The cases of `meant` come first among all cases.
+    """
+    for (answer, text), output in zip(meant, outputs):
+        if not output.startswith(b"answer line\n" + answer):
+            return (text, output, answer)
+    return None
+
+
+def differs(path, made):
+    return not path.is_file() or path.read_bytes() != made
+
+
+def main(arguments):
+    check = "--check" in arguments
+    named = [each for each in arguments if each != "--check"]
+    if len(named) != 3 or named[0] not in PROGRAMS:
+        print("usage: make_programs.py [--check] check|sweep STDIN STDOUT", file=sys.stderr)
+        return 2
+    listed, program = PROGRAMS[named[0]]
+    inputs = list(listed.cases())
+    outputs = [program(text) for text in inputs]
+    wrong = astray(listed.meant(), outputs)
+    if wrong is not None:
+        print("input %r\n  got   %r\n  meant %r" % wrong)
+        return 1
+    status = 0
+    made = (b"".join(map(framed, inputs)), b"".join(outputs))
+    for path, text in zip(map(Path, named[1:]), made):
+        if not check:
+            path.write_bytes(text)
+            print(f"{path}: {len(inputs)} cases, {len(text)} bytes written")
+        elif differs(path, text):
+            print(f"{path}: differs")
+            status = 1
+        else:
+            print(f"{path}: the same")
+    return status
+
+
+if __name__ == "__main__":
+    sys.exit(main(sys.argv[1:]))
