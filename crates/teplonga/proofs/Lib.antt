@@ -1,0 +1,4 @@
+pub mod Settled
+pub mod SweepSettled
+pub mod Readings
+pub mod Judging

@@ -1,0 +1,235 @@
+-- The promises settle the answer and the lent memory: two results that meet a promise are the same.
+use mathlib.Core.Path.{_≡_, refl, sym, ap, _∙_, subst}
+use mathlib.Core.Logic.{_⊎_, inl, inr, ⊎-elim}
+use mathlib.Core.List.{List, [], _∷_, _++_}
+use Prim.Native.Nat.{ℕ, _+_, _-_, _*_, _^_, _≤_, _<_}
+use native.Mathlib.Omega.{arith}
+use native.Mathlib.Decide.{decLt}
+use mathlib.Core.Bool.{cond}
+use lib.Dec.{eqb}
+use lib.ListN.{length, take, drop, getD, replicate, take-append-drop, length-take, length-drop}
+use lib.Seq.{ext-getD, getD-take, length-take-le}
+use Rattle.grammar.specs.declared.Cell.{Cell}
+use Rattle.grammar.specs.Layout.{Word, Every}
+use Rattle.grammar.specs.Trees.{Tree, Rules, NoTree, OneTree, TwoTrees}
+use Rattle.grammar.specs.Choices.{FirstTree, SecondTree, Distinct}
+use Rattle.grammar.specs.SpanSheet.{pairs, SpanSheet}
+use Rattle.grammar.specs.Candidates.{sentence}
+use Rattle.grammar.specs.Sweeps.{Clear, FirstTwo, found}
+use Rattle.grammar.specs.Sweeps as Sweeps
+use Rattle.grammar.proofs.VerdictLaws.{none-not-one, none-not-two, one-not-two}
+use Rattle.grammar.proofs.SweepLaws.{answer-unique}
+use Rattle.sheets.specs.declared.Fault.{Fault}
+use Rattle.sheets.specs.declared.Fault.the-variants as Fault
+use Rattle.sheets.specs.Refusals.{numberOf}
+use Rattle.sheets.specs.Items.{Reading}
+use Rattle.sheets.specs.Items as Sheet
+use Rattle.sheets.specs.RuleSheets.{ruleSheet}
+use Rattle.sheets.specs.TokenSheets.{tokenSheet}
+use Rattle.sheets.proofs.Accepted.{rules-good}
+use Rattle.grammar.specs.declared.Rule.{Rule}
+use Rattle.grammar.specs.declared.Token.{Token}
+use Rattle.spans.proofs.Uniqueness.{sheet-same}
+use Rattle.teplonga.specs.declared.Answer.{Answer}
+use Rattle.teplonga.specs.declared.Answer.the-variants as Answer
+use Rattle.teplonga.specs.declared.Reply.{Reply}
+use Rattle.teplonga.specs.Answers.{Sheets, accepted, refused, withTokens, withRules, sheets, Says}
+use Rattle.teplonga.specs.declared.TreesReply.{TreesReply}
+use Rattle.teplonga.specs.Verdict.{needed, Filled, VerdictOn, short, judging, VerdictOf, refusing, reading}
+use Rattle.teplonga.specs.Trees.{reply, places, zeros, laid, Shown, none, single, both, large-one, large-two, TreesOn, TreesOf}
+use Rattle.teplonga.specs.Trees as Trees
+use Rattle.grammar.specs.Rows.{rows, rowCount}
+use Rattle.grammar.proofs.ChoiceLaws.{first-unique, second-tree-unique}
+
+-- 1. answers
+
+pub says-one : (g : Rules) (w : Word) (a b : Answer) → Says a g w → Says b g w → a ≡ b
+says-one g w Answer.None Answer.None x y = refl
+says-one g w Answer.None Answer.One x y = absurd (none-not-one x y)
+says-one g w Answer.None Answer.Two x y = absurd (none-not-two x y)
+says-one g w Answer.One Answer.None x y = absurd (none-not-one y x)
+says-one g w Answer.One Answer.One x y = refl
+says-one g w Answer.One Answer.Two x y = absurd (one-not-two x y)
+says-one g w Answer.Two Answer.None x y = absurd (none-not-two y x)
+says-one g w Answer.Two Answer.One x y = absurd (one-not-two y x)
+says-one g w Answer.Two Answer.Two x y = refl
+says-one g w Answer.None Answer.Clear x y = absurd y
+says-one g w Answer.One Answer.Clear x y = absurd y
+says-one g w Answer.Two Answer.Clear x y = absurd y
+says-one g w Answer.None (Answer.Refused f) x y = absurd y
+says-one g w Answer.One (Answer.Refused f) x y = absurd y
+says-one g w Answer.Two (Answer.Refused f) x y = absurd y
+says-one g w Answer.Clear b x y = absurd x
+says-one g w (Answer.Refused f) b x y = absurd x
+
+-- a refusal is known by its number
+abbrev faultOf : ℕ → Fault
+faultOf n =
+    cond (eqb n 1) Fault.RuleNames
+    (cond (eqb n 2) Fault.RuleForm
+    (cond (eqb n 3) Fault.RuleRange
+    (cond (eqb n 4) Fault.RuleLay
+    (cond (eqb n 5) Fault.RuleTwice
+    (cond (eqb n 6) Fault.RuleMany
+    (cond (eqb n 7) Fault.NoStart
+    (cond (eqb n 8) Fault.Cyclic
+    (cond (eqb n 11) Fault.TokenNames
+    (cond (eqb n 12) Fault.TokenForm
+    (cond (eqb n 13) Fault.TokenRange
+    (cond (eqb n 14) Fault.TokenMany
+    (cond (eqb n 15) Fault.TokenOrder
+    (cond (eqb n 21) Fault.FewWords
+    (cond (eqb n 22) Fault.FewRows
+    (cond (eqb n 23) Fault.BadBound
+    (Fault.ManyCandidates))))))))))))))))
+
+fault-of : (f : Fault) → faultOf (numberOf f) ≡ f
+fault-of Fault.RuleNames = refl
+fault-of Fault.RuleForm = refl
+fault-of Fault.RuleRange = refl
+fault-of Fault.RuleLay = refl
+fault-of Fault.RuleTwice = refl
+fault-of Fault.RuleMany = refl
+fault-of Fault.NoStart = refl
+fault-of Fault.Cyclic = refl
+fault-of Fault.TokenNames = refl
+fault-of Fault.TokenForm = refl
+fault-of Fault.TokenRange = refl
+fault-of Fault.TokenMany = refl
+fault-of Fault.TokenOrder = refl
+fault-of Fault.FewWords = refl
+fault-of Fault.FewRows = refl
+fault-of Fault.BadBound = refl
+fault-of Fault.ManyCandidates = refl
+
+pub same-fault : (f f′ : Fault) (n : ℕ) → numberOf f ≡ n → numberOf f′ ≡ n → f ≡ f′
+same-fault f f′ n a b = sym (fault-of f) ∙ ap faultOf (a ∙ sym b) ∙ fault-of f′
+
+-- 2. words
+
+-- words of the machine
+abbrev pub Words : List ℕ → Type 0
+Words ws = (q : ℕ) → getD ws q 0 < 2 ^ 64
+
+filled-same : {g : Rules} {w : Word} {ws a b : List ℕ} → Words a → Words b → Filled g w ws a → Filled g w ws b → a ≡ b
+filled-same {g} {w} {ws} {a} {b} p q x y =
+    let n = needed w in
+    let front = sheet-same g w a b p q (x .sheet) (y .sheet) in
+    sym (take-append-drop n a) ∙ (λ i. front i ++ (x .past ∙ sym (y .past)) i) ∙ take-append-drop n b
+
+-- 3. the verdict
+
+apart : {o : Sheets} {f : Fault} {l : ℕ} {g : Rules} {w : Word} → o ≡ refused f l → o ≡ accepted g w → ⊥
+apart e d = let z : _≡_ {A = ℕ} 0 1 = cc in omega arith
+
+same-sheets : {o : Sheets} {g g′ : Rules} {w w′ : Word} → o ≡ accepted g w → o ≡ accepted g′ w′ → (g ≡ g′) × (w ≡ w′)
+same-sheets e d = (cc, cc)
+
+same-refusal : {o : Sheets} {f f′ : Fault} {l l′ : ℕ} → o ≡ refused f l → o ≡ refused f′ l′ → (f ≡ f′) × (l ≡ l′)
+same-refusal e d = (cc, cc)
+
+verdict-on : (g : Rules) (w : Word) {ws a b : List ℕ} {r s : Reply} → Words a → Words b → VerdictOn g w ws a r → VerdictOn g w ws b s → (r ≡ s) × (a ≡ b)
+verdict-on g w p q (short {f = f} l n x h) (short {f = f′} m o y k) =
+    let z : f ≡ f′ = same-fault f f′ 21 n o in
+    (x ∙ rw z (sym y), h ∙ sym k)
+verdict-on g w p q (short l n x h) (judging y m k) = absurd (omega (arith, k .sheet .enough, k .long))
+verdict-on g w p q (judging y m k) (short l n x h) = absurd (omega (arith, k .sheet .enough, k .long))
+verdict-on g w {r = r} {s = s} p q (judging x l h) (judging y m k) =
+    let a : r .answer ≡ s .answer = says-one g w (r .answer) (s .answer) x y in
+    let b : r .line ≡ s .line = l ∙ sym m in
+    (λ i. record { answer = a i; line = b i }, filled-same p q h k)
+
+pub verdict-settled : {rules tokens ws a b : List ℕ} {r s : Reply} → Words a → Words b → VerdictOf rules tokens ws a r → VerdictOf rules tokens ws b s → (r ≡ s) × (a ≡ b)
+verdict-settled p q (refusing e x h) (refusing d y k) =
+    let z = same-refusal e d in
+    (x ∙ rw (z .0, z .1) (sym y), h ∙ sym k)
+verdict-settled p q (refusing e x h) (reading d y) = absurd (apart e d)
+verdict-settled p q (reading d y) (refusing e x h) = absurd (apart e d)
+verdict-settled p q (reading {g = g} {w = w} e x) (reading d y) =
+    let z = same-sheets e d in
+    verdict-on g w p q x (rw (← z .0, ← z .1) at y)
+
+-- 4. the trees
+
+-- the same reply and the same memories
+abbrev Same : (a b c d : List ℕ) (r s : TreesReply) → Type 0
+Same a b c d r s = (r ≡ s) × ((a ≡ b) × (c ≡ d))
+
+module _ (g : Rules) (w : Word) (one two : List ℕ) where
+  -- the trees of one answer fit both times or neither
+  never-one : {t t′ : Tree} → FirstTree g 0 w t → FirstTree g 0 w t′ → rowCount t ≤ places one → places one < rowCount t′ → ⊥
+  never-one {t} {t′} a b h k = let e : t ≡ t′ = first-unique a b in omega (arith, ap rowCount e)
+
+  never-two : Distinct g → {t t′ u u′ : Tree} → FirstTree g 0 w t → FirstTree g 0 w t′ → SecondTree g 0 w u → SecondTree g 0 w u′
+      → rowCount t ≤ places one → rowCount u ≤ places two → (places one < rowCount t′) ⊎ (places two < rowCount u′) → ⊥
+  never-two d {t} {t′} {u} {u′} a b c e h k l =
+      let p : t ≡ t′ = first-unique a b in
+      let q : u ≡ u′ = second-tree-unique d c e in
+      ⊎-elim (λ x. omega (arith, ap rowCount p)) (λ x. omega (arith, ap rowCount q)) l
+
+  large-same : {f f′ : Fault} {a b c d : List ℕ} {r s : TreesReply} → numberOf f ≡ 22 → numberOf f′ ≡ 22
+      → r ≡ reply (Answer.Refused f) 0 0 0 → s ≡ reply (Answer.Refused f′) 0 0 0 → a ≡ zeros one → b ≡ zeros one → c ≡ zeros two → d ≡ zeros two → Same a b c d r s
+  large-same {f} {f′} m n x y h k i j = (x ∙ ap (λ (z : Fault). reply (Answer.Refused z) 0 0 0) (same-fault f f′ 22 m n) ∙ sym y, (h ∙ sym k, i ∙ sym j))
+
+  pub shown-settled : Distinct g → {a b c d : List ℕ} {r s : TreesReply} → Shown g w one a two c r → Shown g w one b two d s → Same a b c d r s
+  shown-settled D (none p x h i) (none q y k j) = (x ∙ sym y, (h ∙ sym k, i ∙ sym j))
+  shown-settled D (none p x h i) (single q t l y k j) = absurd (none-not-one p q)
+  shown-settled D (none p x h i) (both q t u l m y k j) = absurd (none-not-two p q)
+  shown-settled D (none p x h i) (large-one q t l n y k j) = absurd (none-not-one p q)
+  shown-settled D (none p x h i) (large-two q t u l n y k j) = absurd (none-not-two p q)
+  shown-settled D (single q t l y k j) (none p x h i) = absurd (none-not-one p q)
+  shown-settled D (single {t = t} p a l x h i) (single {t = t′} q b m y k j) =
+      let e : t ≡ t′ = first-unique a b in
+      (x ∙ rw e (sym y), (h ∙ rw e (sym k), i ∙ sym j))
+  shown-settled D (single p a l x h i) (both q t u m n y k j) = absurd (one-not-two p q)
+  shown-settled D (single p a l x h i) (large-one q b m n y k j) = absurd (never-one a b l m)
+  shown-settled D (single p a l x h i) (large-two q t u m n y k j) = absurd (one-not-two p q)
+  shown-settled D (both q t u l m y k j) (none p x h i) = absurd (none-not-two p q)
+  shown-settled D (both q t u m n y k j) (single p a l x h i) = absurd (one-not-two p q)
+  shown-settled D (both {t = t} {u = u} p a c l m x h i) (both {t = t′} {u = u′} q b e n o y k j) =
+      let v : t ≡ t′ = first-unique a b in
+      let z : u ≡ u′ = second-tree-unique D c e in
+      (x ∙ rw (v, z) (sym y), (h ∙ rw v (sym k), i ∙ rw z (sym j)))
+  shown-settled D (both q t u m n y k j) (large-one p a l o x h i) = absurd (one-not-two p q)
+  shown-settled D (both p a c l m x h i) (large-two q b e n o y k j) = absurd (never-two D a b c e l m n)
+  shown-settled D (large-one q t l n y k j) (none p x h i) = absurd (none-not-one p q)
+  shown-settled D (large-one q b m n y k j) (single p a l x h i) = absurd (never-one a b l m)
+  shown-settled D (large-one p a l o x h i) (both q t u m n y k j) = absurd (one-not-two p q)
+  shown-settled D (large-one p a l m x h i) (large-one q b n o y k j) = large-same m o x y h k i j
+  shown-settled D (large-one p a l m x h i) (large-two q t u n o y k j) = absurd (one-not-two p q)
+  shown-settled D (large-two q t u l n y k j) (none p x h i) = absurd (none-not-two p q)
+  shown-settled D (large-two q t u m n y k j) (single p a l x h i) = absurd (one-not-two p q)
+  shown-settled D (large-two q b e n o y k j) (both p a c l m x h i) = absurd (never-two D a b c e l m n)
+  shown-settled D (large-two q t u n o y k j) (large-one p a l m x h i) = absurd (one-not-two p q)
+  shown-settled D (large-two p a c l m x h i) (large-two q b e n o y k j) = large-same m o x y h k i j
+
+trees-on : (g : Rules) (w : Word) {ws a b one two m m′ n n′ : List ℕ} {r s : TreesReply} → Distinct g → Words a → Words b
+    → TreesOn g w ws a one m two n r → TreesOn g w ws b one m′ two n′ s → (a ≡ b) × Same m m′ n n′ r s
+trees-on g w D p q (Trees.short {f = f} u v x h i j) (Trees.short {f = f′} m n y k l o) =
+    (h ∙ sym k, (x ∙ ap (λ (z : Fault). reply (Answer.Refused z) 0 0 0) (same-fault f f′ 21 v n) ∙ sym y, (i ∙ sym l, j ∙ sym o)))
+trees-on g w D p q (Trees.short u v x h i j) (Trees.showing k y) = absurd (omega (arith, k .sheet .enough, k .long))
+trees-on g w D p q (Trees.showing k y) (Trees.short u v x h i j) = absurd (omega (arith, k .sheet .enough, k .long))
+trees-on g w {one = one} {two = two} D p q (Trees.showing h x) (Trees.showing k y) = (filled-same p q h k, shown-settled g w one two D x y)
+
+-- the rules of an accepted sheet are distinct: what refusal 5 sees to
+distinct-of : (rules tokens : List ℕ) (g : Rules) (w : Word) → sheets rules tokens ≡ accepted g w → Distinct g
+distinct-of rules tokens g w d = go (ruleSheet rules) refl d
+  where
+    inner : (g′ : Rules) (q : Reading Token) → withTokens g′ q ≡ accepted g w → g′ ≡ g
+    inner g′ (Sheet.accepted w′) e = cc
+    inner g′ (Sheet.refused f l) e = absurd (apart refl e)
+
+    go : (o : Reading Rule) → ruleSheet rules ≡ o → withRules o tokens ≡ accepted g w → Distinct g
+    go (Sheet.accepted g′) e k = subst Distinct (inner g′ (tokenSheet tokens) k) (rules-good rules g′ e .distinct)
+    go (Sheet.refused f l) e k = absurd (apart refl k)
+
+pub trees-settled : {rules tokens ws a b one two m m′ n n′ : List ℕ} {r s : TreesReply} → Words a → Words b
+    → TreesOf rules tokens ws a one m two n r → TreesOf rules tokens ws b one m′ two n′ s → (a ≡ b) × Same m m′ n n′ r s
+trees-settled p q (Trees.refusing e x h i j) (Trees.refusing d y k l o) =
+    let z = same-refusal e d in
+    (h ∙ sym k, (x ∙ rw (z .0, z .1) (sym y), (i ∙ sym l, j ∙ sym o)))
+trees-settled p q (Trees.refusing e x h i j) (Trees.reading d y) = absurd (apart e d)
+trees-settled p q (Trees.reading d y) (Trees.refusing e x h i j) = absurd (apart e d)
+trees-settled {rules = rules} {tokens = tokens} p q (Trees.reading {g = g} {w = w} e x) (Trees.reading d y) =
+    let z = same-sheets e d in
+    trees-on g w (distinct-of rules tokens g w e) p q x (rw (← z .0, ← z .1) at y)

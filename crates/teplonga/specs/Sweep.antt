@@ -1,0 +1,67 @@
+-- The promise of the call `sweep`: 01, "The sweep" and "Where each refusal is checked" (demand 3).
+use mathlib.Core.Path.{_≡_}
+use mathlib.Core.Logic.{_⊎_}
+use mathlib.Core.List.{List, [], _++_}
+use Prim.Native.Nat.{ℕ, _-_, _*_, _≤_, _<_}
+use lib.ListN.{length, drop, replicate}
+use Rattle.grammar.specs.declared.Cell.{Cell}
+use Rattle.grammar.specs.declared.Token.{Token}
+use Rattle.grammar.specs.Layout.{Word}
+use Rattle.grammar.specs.Trees.{Rules}
+use Rattle.grammar.specs.SpanSheet.{pairs}
+use Rattle.grammar.specs.Candidates.{sentence}
+use Rattle.grammar.specs.Sweeps.{Clear, FirstTwo, terminalCount, arrangements}
+use Rattle.sheets.specs.declared.Fault.{Fault}
+use Rattle.sheets.specs.Refusals.{numberOf}
+use Rattle.sheets.specs.Items.{accepted, refused}
+use Rattle.sheets.specs.RuleSheets.{ruleSheet}
+use Rattle.teplonga.specs.declared.Answer.{Answer}
+use Rattle.teplonga.specs.declared.Answer.the-variants as Answer
+use Rattle.teplonga.specs.declared.SweepReply.{SweepReply}
+
+abbrev pub no-token : Token
+no-token = record { terminal = 0; line = record { 0 = 0 }; column = record { 0 = 0 } }
+
+-- the answer holds the word, and its token places past it are 0
+abbrev pub reply : Answer → ℕ → Word → SweepReply
+reply a l w = record { answer = a; line = l; sentence = record { tokens = w ++ replicate (64 - length w) no-token; count = length w } }
+
+-- the most arrangements of the bound's length that a sweep takes on
+abbrev pub limit : ℕ
+limit = 4294967296
+
+-- after an accepted sweep the words of the span sheet for k are 0; words past it never change
+abbrev pub cleared : ℕ → List ℕ → List ℕ
+cleared k words = replicate (2 * pairs k) 0 ++ drop (2 * pairs k) words
+
+-- a sweep that is taken on: 23, 24 and 21 are not given
+pub record Taken (g : Rules) (k : ℕ) (words : List ℕ) : Type 0 where
+  pub low : 1 ≤ k
+  pub high : k ≤ 7
+  pub few : arrangements (terminalCount g) k ≤ limit
+  pub enough : 2 * pairs k ≤ length words
+
+-- the answer on the rules that the sheet gives
+pub data SweepOn (g : Rules) (k : ℕ) (words words′ : List ℕ) (r : SweepReply) : Type 0 where
+  -- k not 1 to 7
+  bound : {f : Fault} → (k < 1) ⊎ (7 < k) → numberOf f ≡ 23
+      → r ≡ reply (Answer.Refused f) 0 [] → words′ ≡ words → SweepOn g k words words′ r
+  -- T^k × 3^(k−1) × k^k above the limit
+  many : {f : Fault} → 1 ≤ k → k ≤ 7 → limit < arrangements (terminalCount g) k → numberOf f ≡ 24
+      → r ≡ reply (Answer.Refused f) 0 [] → words′ ≡ words → SweepOn g k words words′ r
+  -- fewer words than the span sheet of k tokens needs
+  short : {f : Fault} → 1 ≤ k → k ≤ 7 → arrangements (terminalCount g) k ≤ limit → length words < 2 * pairs k → numberOf f ≡ 21
+      → r ≡ reply (Answer.Refused f) 0 [] → words′ ≡ words → SweepOn g k words words′ r
+  -- clear: no rising sequence of 1 to k tokens, whatever its terminals, lines and columns, has two different valid trees of nonterminal 0
+  clear : Taken g k words → Clear g k
+      → r ≡ reply Answer.Clear 0 [] → words′ ≡ cleared k words → SweepOn g k words words′ r
+  -- two: the first candidate that has two; no shorter sequence, candidate or not, has two
+  two : {cs : List Cell} → Taken g k words → FirstTwo g k cs → Clear g (length cs - 1)
+      → r ≡ reply Answer.Two 0 (sentence cs) → words′ ≡ cleared k words → SweepOn g k words words′ r
+
+-- what the call answers, and what it leaves of the lent words
+pub data SweepOf (rules : List ℕ) (k : ℕ) (words words′ : List ℕ) (r : SweepReply) : Type 0 where
+  -- a refused rule sheet
+  refusing : {f : Fault} {l : ℕ} → ruleSheet rules ≡ refused f l
+      → r ≡ reply (Answer.Refused f) l [] → words′ ≡ words → SweepOf rules k words words′ r
+  reading : {g : Rules} → ruleSheet rules ≡ accepted g → SweepOn g k words words′ r → SweepOf rules k words words′ r

@@ -1,0 +1,66 @@
+-- The promise of the call `trees`: 01, "Trees, choices, span sheet" and "Where each refusal is checked".
+use mathlib.Core.Path.{_≡_}
+use mathlib.Core.Logic.{_⊎_}
+use mathlib.Core.List.{List, _++_}
+use Prim.Native.Nat.{ℕ, _-_, _/_, _≤_, _<_}
+use lib.ListN.{length, replicate}
+use Rattle.grammar.specs.Layout.{Word}
+use Rattle.grammar.specs.Trees.{Tree, Rules, NoTree, OneTree, TwoTrees}
+use Rattle.grammar.specs.Choices.{FirstTree, SecondTree}
+use Rattle.grammar.specs.Rows.{rows, rowCount}
+use Rattle.sheets.specs.declared.Fault.{Fault}
+use Rattle.sheets.specs.Refusals.{numberOf}
+use Rattle.teplonga.specs.declared.Answer.{Answer}
+use Rattle.teplonga.specs.declared.Answer.the-variants as Answer
+use Rattle.teplonga.specs.declared.TreesReply.{TreesReply}
+use Rattle.teplonga.specs.Answers.{accepted, refused, sheets}
+use Rattle.teplonga.specs.Verdict.{needed, Filled}
+
+abbrev pub reply : Answer → ℕ → ℕ → ℕ → TreesReply
+reply a l m n = record { answer = a; line = l; first = m; second = n }
+
+-- the whole four-byte places of a tree memory
+abbrev pub places : List ℕ → ℕ
+places memory = length memory / 4
+
+-- a tree memory that is all 0
+abbrev pub zeros : List ℕ → List ℕ
+zeros memory = replicate (length memory) 0
+
+-- a tree memory with a tree's rows and 0 after them
+abbrev pub laid : Tree → List ℕ → List ℕ
+laid t memory = rows 0 t ++ replicate (length memory - length (rows 0 t)) 0
+
+-- what the answer on an accepted sentence says of its trees, and what stands in both tree memories then
+pub data Shown (g : Rules) (w : Word) (one one′ two two′ : List ℕ) (r : TreesReply) : Type 0 where
+  -- none: both memories 0
+  none : NoTree g 0 w
+      → r ≡ reply Answer.None 0 0 0 → one′ ≡ zeros one → two′ ≡ zeros two → Shown g w one one′ two two′ r
+  -- one: the first tree, and the second memory 0
+  single : {t : Tree} → OneTree g 0 w → FirstTree g 0 w t → rowCount t ≤ places one
+      → r ≡ reply Answer.One 0 (rowCount t) 0 → one′ ≡ laid t one → two′ ≡ zeros two → Shown g w one one′ two two′ r
+  -- two: the first and the second tree
+  both : {t u : Tree} → TwoTrees g 0 w → FirstTree g 0 w t → SecondTree g 0 w u → rowCount t ≤ places one → rowCount u ≤ places two
+      → r ≡ reply Answer.Two 0 (rowCount t) (rowCount u) → one′ ≡ laid t one → two′ ≡ laid u two → Shown g w one one′ two two′ r
+  -- a tree of the answer has more rows than its memory has whole four-byte places: both memories 0
+  large-one : {t : Tree} {f : Fault} → OneTree g 0 w → FirstTree g 0 w t → places one < rowCount t → numberOf f ≡ 22
+      → r ≡ reply (Answer.Refused f) 0 0 0 → one′ ≡ zeros one → two′ ≡ zeros two → Shown g w one one′ two two′ r
+  large-two : {t u : Tree} {f : Fault} → TwoTrees g 0 w → FirstTree g 0 w t → SecondTree g 0 w u → (places one < rowCount t) ⊎ (places two < rowCount u) → numberOf f ≡ 22
+      → r ≡ reply (Answer.Refused f) 0 0 0 → one′ ≡ zeros one → two′ ≡ zeros two → Shown g w one one′ two two′ r
+
+-- the answer on rules and a word that both sheets give
+pub data TreesOn (g : Rules) (w : Word) (words words′ one one′ two two′ : List ℕ) (r : TreesReply) : Type 0 where
+  -- too few words: nothing changes
+  short : {f : Fault} → length words < needed w → numberOf f ≡ 21
+      → r ≡ reply (Answer.Refused f) 0 0 0 → words′ ≡ words → one′ ≡ one → two′ ≡ two → TreesOn g w words words′ one one′ two two′ r
+  -- otherwise the span sheet is filled, and the trees of the answer are shown, if they fit
+  showing : Filled g w words words′ → Shown g w one one′ two two′ r → TreesOn g w words words′ one one′ two two′ r
+
+-- what the call answers, and what it leaves of the lent words and of both tree memories
+pub data TreesOf (rules tokens words words′ one one′ two two′ : List ℕ) (r : TreesReply) : Type 0 where
+  -- a refused sheet: nothing changes
+  refusing : {f : Fault} {l : ℕ} → sheets rules tokens ≡ refused f l
+      → r ≡ reply (Answer.Refused f) l 0 0 → words′ ≡ words → one′ ≡ one → two′ ≡ two
+      → TreesOf rules tokens words words′ one one′ two two′ r
+  reading : {g : Rules} {w : Word} → sheets rules tokens ≡ accepted g w → TreesOn g w words words′ one one′ two two′ r
+      → TreesOf rules tokens words words′ one one′ two two′ r
