@@ -2,3 +2,4 @@ pub mod Pieces
 pub mod Words
 pub mod Fields
 pub mod Answers
+pub mod Parts

@@ -1,8 +1,9 @@
 // The bytes of a sheet: its lines, the fields of a line, and what a field may be: a number, a kind letter, a lay word, `-`.
 ghost use mathlib.Core.Path.{_≡_};
-ghost use Prim.Native.Nat.{_+_, _≤_};
+ghost use Prim.Native.Nat.{_+_, _-_, _≤_};
 ghost use lib.ListN.{length, drop};
 ghost use Rattle.fields.specs.Pieces.{before, sameBytes, lineAt, fieldsLeft};
+ghost use Rattle.fields.specs.Parts.{Part};
 ghost use Rattle.fields.specs.Words.{digitsOf, numeralOf, kindOf, layOf, operandOf};
 ghost use Rattle.fields.specs.Answers.{asNumber, asKind, asLay, asOperand, numberField, kindField, layField, operandField};
 ghost use Rattle.fields.specs.Fields.{readField};
@@ -227,6 +228,16 @@ impl Cursor {
     {
         let end = piece_end(s, at, 10);
         Cursor { at, end }
+    }
+
+    // The bytes from the cursor to the line's end, without its byte 10, as a part of the sheet.
+    pub fn bytes<'a>(self, s: &'a [u8]) -> &'a [u8]
+        requires { ⌜ (self .at ≤ self .end) × (self .end ≤ length (now s)) ⌝ }
+        ensures { λ r. ⌜ Part (s .entry) (self .at) (self .end - self .at) r ⌝ }
+    {
+        let at = self.at;
+        let end = self.end;
+        &s[at..end]
     }
 
     // The number of one to `most` digits at the cursor.

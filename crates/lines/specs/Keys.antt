@@ -7,10 +7,13 @@ use Rattle.grammar.specs.declared.Clause.{Clause}
 use Rattle.grammar.specs.declared.Clause.the-variants as Clause
 use Rattle.lines.specs.declared.Key.{Key}
 
+abbrev pub unaryKey : ℕ → ℕ → Key
+unaryKey l a = record { left = l; kind = 2; first = a; second = 0 }
+
 abbrev pub keyWith : ℕ → Clause → Key
 keyWith l Clause.Empty = record { left = l; kind = 0; first = 0; second = 0 }
 keyWith l (Clause.Atom a) = record { left = l; kind = 1; first = a; second = 0 }
-keyWith l (Clause.Unary a m) = record { left = l; kind = 2; first = a; second = 0 }
+keyWith l (Clause.Unary a m) = unaryKey l a
 keyWith l (Clause.Binary a b m) = record { left = l; kind = 3; first = a; second = b }
 
 abbrev pub keyOf : Rule → Key

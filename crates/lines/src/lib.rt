@@ -20,7 +20,7 @@ ghost use lib.ListN.{length};
 ghost use lib.Dec.{ltb};
 ghost use Rattle.fields.specs.Pieces.{bytesLeft, fieldsLeft};
 ghost use Rattle.lines.specs.Turns.{turnOf};
-ghost use Rattle.lines.specs.Keys.{keyOf, sameKey};
+ghost use Rattle.lines.specs.Keys.{unaryKey, keyOf, sameKey};
 ghost use Rattle.lines.specs.RuleLines.{shape, plainRule, unaryRule, binaryRule, layRule, ruleOf, ruleFields};
 ghost use Rattle.lines.specs.TokenLines.{tokenOf, tokenFields};
 
@@ -63,18 +63,18 @@ pub fn turn_at(s: &[u8], c: Cursor, n: usize, most: usize) -> Turn
     let at = c.at;
     let end = c.end;
     if end < s.len() {
-        if most <= n {
-            return Turn::Many;
+        if n < most {
+            return Turn::Whole;
         }
-        return Turn::Whole;
+        return Turn::Many;
     }
     if at == end {
         return Turn::End;
     }
-    if most <= n {
-        return Turn::Many;
+    if n < most {
+        return Turn::Open;
     }
-    Turn::Open
+    Turn::Many
 }
 
 // Terminal 0 to 63, line and column 1 to 65,535.
@@ -255,6 +255,18 @@ pub fn rule_line(s: &[u8], c: Cursor) -> RuleLine
     rule_of(l, k, a, b, y)
 }
 
+// The key of a U rule, under any lay.
+fn unary_key(left: u8, a: u8) -> Key
+    ensures { λ k. ⌜ k ≡ unaryKey left a ⌝ }
+{
+    Key {
+        left,
+        kind: 2,
+        first: a,
+        second: 0,
+    }
+}
+
 // A rule's left, kind, first and second, under any lay.
 pub fn key_of(r: Rule) -> Key
     ensures { λ k. ⌜ k ≡ keyOf r ⌝ }
@@ -274,12 +286,7 @@ pub fn key_of(r: Rule) -> Key
             first: a,
             second: 0,
         },
-        Clause::Unary(a, _) => Key {
-            left,
-            kind: 2,
-            first: a,
-            second: 0,
-        },
+        Clause::Unary(a, _) => unary_key(left, a),
         Clause::Binary(a, b, _) => Key {
             left,
             kind: 3,

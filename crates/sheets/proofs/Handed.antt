@@ -9,6 +9,7 @@ use Rattle.grammar.specs.declared.Token.{Token}
 use Rattle.grammar.specs.Layout.{Word}
 use Rattle.grammar.specs.Trees.{Rules}
 use Rattle.grammar.specs.Content.{rules, spelled}
+use Rattle.fields.specs.Parts.{Part}
 use Rattle.sheets.specs.declared.Fault.{Fault}
 use Rattle.sheets.specs.declared.Outcome.{Outcome}
 use Rattle.sheets.specs.declared.Outcome.the-variants.{Accepted, Refused}
@@ -18,7 +19,7 @@ use Rattle.sheets.specs.Items.{Reading, accepted, refused}
 use Rattle.sheets.specs.RuleSheets.{ruleSheet}
 use Rattle.sheets.specs.TokenSheets.{tokenSheet}
 use Rattle.sheets.specs.Promises.{readingOf, RulesRead, TokensRead}
-use Rattle.sheets.specs.RefusedLines.{Held, in-rules, in-tokens, nowhere, ofRules, ofTokens, refusedLine, Part, LinePart, Hands}
+use Rattle.sheets.specs.RefusedLines.{Held, in-rules, in-tokens, nowhere, ofRules, ofTokens, refusedLine, LinePart, Hands}
 
 module _ {g : GrammarRead} {want : Reading Rule} (p : RulesRead g want) {o : Outcome} (e : g .outcome ≡ o) where
   pub rules-answer : want ≡ readingOf o (rules (g .grammar))
@@ -38,15 +39,15 @@ module _ (R T r : RefT (List ℕ)) where
   hands-rules zero e n h = absurd (n refl)
   hands-rules (suc l) e n h = let k : suc l - 1 ≡ l = omega arith in by-readings e refl (rw k at h)
 
-  pub hands-zero : {f : Fault} {l : ℕ} → ruleSheet (R .now) ≡ refused f l → l ≡ 0 → Part R 0 [] r → Hands R T r (refusedLine (R .now) (T .now))
+  pub hands-zero : {f : Fault} {l : ℕ} → ruleSheet (R .now) ≡ refused f l → l ≡ 0 → Part R 0 0 r → Hands R T r (refusedLine (R .now) (T .now))
   hands-zero {f} {l} e n h = let k : ruleSheet (R .now) ≡ refused f 0 = e ∙ ap (refused f) n in by-readings k refl h
 
   pub hands-tokens : {w : Rules} {f : Fault} (l : ℕ) → ruleSheet (R .now) ≡ accepted w → tokenSheet (T .now) ≡ refused f l → (l ≡ 0 → ⊥) → LinePart T (l - 1) r → Hands R T r (refusedLine (R .now) (T .now))
   hands-tokens zero a e n h = absurd (n refl)
   hands-tokens (suc l) a e n h = let k : suc l - 1 ≡ l = omega arith in by-readings a e (rw k at h)
 
-  pub hands-tokens-zero : {w : Rules} {f : Fault} {l : ℕ} → ruleSheet (R .now) ≡ accepted w → tokenSheet (T .now) ≡ refused f l → l ≡ 0 → Part R 0 [] r → Hands R T r (refusedLine (R .now) (T .now))
+  pub hands-tokens-zero : {w : Rules} {f : Fault} {l : ℕ} → ruleSheet (R .now) ≡ accepted w → tokenSheet (T .now) ≡ refused f l → l ≡ 0 → Part R 0 0 r → Hands R T r (refusedLine (R .now) (T .now))
   hands-tokens-zero {f = f} a e n h = let k : tokenSheet (T .now) ≡ refused f 0 = e ∙ ap (refused f) n in by-readings a k h
 
-  pub hands-none : {w : Rules} {v : Word} → ruleSheet (R .now) ≡ accepted w → tokenSheet (T .now) ≡ accepted v → Part R 0 [] r → Hands R T r (refusedLine (R .now) (T .now))
+  pub hands-none : {w : Rules} {v : Word} → ruleSheet (R .now) ≡ accepted w → tokenSheet (T .now) ≡ accepted v → Part R 0 0 r → Hands R T r (refusedLine (R .now) (T .now))
   hands-none a e h = by-readings a e h

@@ -9,6 +9,7 @@ use lib.ListN.{length, take, drop, getD, length-drop}
 use lib.Seq.{length-take-le}
 use lib.Dec.{leb}
 use borrow.Author.Tests.{leb-true}
+use denote.Ref.{RefT}
 use Rattle.grammar.specs.declared.Rule.{Rule}
 use Rattle.grammar.specs.declared.Token.{Token}
 use Rattle.grammar.specs.Trees.{Rules}
@@ -16,13 +17,14 @@ use Rattle.grammar.specs.Cycles.{Cyclic}
 use Rattle.grammar.proofs.Acyclic.{cyclic?}
 use Rattle.fields.specs.declared.Cursor.{Cursor}
 use Rattle.fields.specs.Pieces.{before, pieces, piecesFrom, isEmpty, sameBytes, lineAt, bytesLeft}
+use Rattle.fields.specs.Parts.{Part}
 use Rattle.fields.proofs.Pieces.{from-zero, pieces-first}
 use Rattle.sheets.specs.declared.Fault.{Fault}
 use Rattle.sheets.specs.declared.Fault.the-variants as Fault
 use Rattle.sheets.specs.Items.{Reading, accepted, refused, itemsFrom, withNames}
 use Rattle.sheets.specs.RuleSheets.{anyOf, isStart, ruleStep, unlessCyclic, finish, rulesFrom, ruleNames, ruleSheet}
 use Rattle.sheets.specs.TokenSheets.{tokenStep, tokenNames, tokenSheet}
-use Rattle.sheets.specs.RefusedLines.{startOf}
+use Rattle.sheets.specs.RefusedLines.{startOf, LinePart}
 use Rattle.sheets.proofs.Loop.{line-in, line-less, line-cut}
 use Rattle.sheets.proofs.Accepted.{items-line}
 
@@ -86,18 +88,19 @@ module _ {s : List ℕ} {n at left : ℕ} (w : Walk s n at left) {c : Cursor} (i
     zero-left : left ≡ 0
     zero-left = omega arith
 
-    pub walk-here : take (c .end - at) (drop at s) ≡ getD (pieces 10 s) n []
-    walk-here = sym (w .same ∙ rw (cut, zero-left, starts) refl)
+    here : bytesLeft s c ≡ getD (pieces 10 s) n []
+    here = sym (w .same ∙ rw (cut, zero-left) refl)
 
-    pub walk-at : at ≡ startOf (pieces 10 s) n
-    walk-at = sym (w .start ∙ rw (cut, zero-left) (omega arith))
+    at-start : at ≡ startOf (pieces 10 s) n
+    at-start = sym (w .start ∙ rw (cut, zero-left) (omega arith))
 
-    pub walk-cut : take (c .end - at) (drop at s) ≡ take (length (getD (pieces 10 s) n [])) (drop (startOf (pieces 10 s) n) s)
-    walk-cut =
-        let i = line-in s at (w .low) c is in
-        let k : length (take (c .end - at) (drop at s)) ≡ c .end - at
-        = length-take-le (c .end - at) (drop at s) (omega (arith, length-drop at s)) in
-        rw (← walk-here, ← walk-at, k) refl
+    fits : c .end - c .at ≡ length (getD (pieces 10 s) n [])
+    fits = omega (arith, long, starts, ap length here)
+
+-- the walk's end: the bytes of the cursor's line are the line's
+pub walk-end : {sheet r : RefT (List ℕ)} {n at left : ℕ} (w : Walk (sheet .now) n at left) {c : Cursor} (is : c ≡ lineAt (sheet .now) at) → left ≤ 0
+    → Part sheet (c .at) (c .end - c .at) r → LinePart sheet n r
+walk-end w is h p = record { part = rw (← fits w is h, ← (starts w is ∙ at-start w is h)) p; line = p .holds ∙ here w is h }
 
 -- a refusal's line is a line of the sheet, or 0
 

@@ -2,11 +2,12 @@
 use mathlib.Core.Path.{_≡_}
 use Prim.Native.Nat.{ℕ, zero, suc, _+_}
 use mathlib.Core.List.{List, [], _∷_}
-use lib.ListN.{length, take, drop, getD}
+use lib.ListN.{length, getD}
 use denote.Ref.{RefT}
 use Rattle.grammar.specs.declared.Rule.{Rule}
 use Rattle.grammar.specs.declared.Token.{Token}
 use Rattle.fields.specs.Pieces.{pieces}
+use Rattle.fields.specs.Parts.{Part}
 use Rattle.sheets.specs.Items.{Reading, accepted, refused}
 use Rattle.sheets.specs.RuleSheets.{ruleSheet}
 use Rattle.sheets.specs.TokenSheets.{tokenSheet}
@@ -38,19 +39,13 @@ startOf ps zero = 0
 startOf [] (suc n) = 0
 startOf (p ∷ ps) (suc n) = length p + 1 + startOf ps n
 
--- r is the part of the sheet that begins at `from` and has these bytes: it points into the sheet
-pub record Part (sheet : RefT (List ℕ)) (from : ℕ) (bytes : List ℕ) (r : RefT (List ℕ)) : Type 0 where
-  pub block : r .ptr .0 ≡ sheet .ptr .0
-  pub offset : r .ptr .1 ≡ sheet .ptr .1 + from
-  pub holds : r .now ≡ bytes
-  pub cut : r .now ≡ take (length bytes) (drop from (sheet .now))
-
--- r is the sheet's line with n lines before it, without its byte 10
-abbrev pub LinePart : RefT (List ℕ) → ℕ → RefT (List ℕ) → Type 0
-LinePart sheet n r = Part sheet (startOf (pieces 10 (sheet .now)) n) (getD (pieces 10 (sheet .now)) n []) r
+-- r is the part of the sheet that is its line with n lines before it, without its byte 10
+pub record LinePart (sheet : RefT (List ℕ)) (n : ℕ) (r : RefT (List ℕ)) : Type 0 where
+  pub part : Part sheet (startOf (pieces 10 (sheet .now)) n) (length (getD (pieces 10 (sheet .now)) n [])) r
+  pub line : r .now ≡ getD (pieces 10 (sheet .now)) n []
 
 -- what is handed back; with no such line, the first zero bytes of the rule sheet
 abbrev pub Hands : RefT (List ℕ) → RefT (List ℕ) → RefT (List ℕ) → Held → Type 0
 Hands rules tokens r (in-rules n) = LinePart rules n r
 Hands rules tokens r (in-tokens n) = LinePart tokens n r
-Hands rules tokens r nowhere = Part rules 0 [] r
+Hands rules tokens r nowhere = Part rules 0 0 r

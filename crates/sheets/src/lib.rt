@@ -19,6 +19,7 @@ ghost use lib.Dec.{ltb};
 ghost use Rattle.grammar.specs.Content.{Formed};
 ghost use Rattle.lines.specs.Turns.{turnOf};
 ghost use Rattle.fields.specs.Pieces.{pieces, piecesFrom, bytesLeft};
+ghost use Rattle.sheets.specs.Refusals.{numberOf};
 ghost use Rattle.sheets.specs.Items.{accepted, refused, stepAt, itemsFrom};
 ghost use Rattle.sheets.specs.RuleSheets.{hasKey, anyOf, isStart, freshStep, ruleSays, finish, rulesFrom, ruleSheet};
 ghost use Rattle.sheets.specs.TokenSheets.{after, orderStep, tokenSays, tokenStep, tokenSheet};
@@ -44,6 +45,31 @@ pub enum Fault {
     FewRows,
     BadBound,
     ManyCandidates,
+}
+
+// The number of a refusal.
+pub fn fault_number(f: Fault) -> u64
+    ensures { λ r. ⌜ r ≡ numberOf f ⌝ }
+{
+    match f {
+        Fault::RuleNames => 1,
+        Fault::RuleForm => 2,
+        Fault::RuleRange => 3,
+        Fault::RuleLay => 4,
+        Fault::RuleTwice => 5,
+        Fault::RuleMany => 6,
+        Fault::NoStart => 7,
+        Fault::Cyclic => 8,
+        Fault::TokenNames => 11,
+        Fault::TokenForm => 12,
+        Fault::TokenRange => 13,
+        Fault::TokenMany => 14,
+        Fault::TokenOrder => 15,
+        Fault::FewWords => 21,
+        Fault::FewRows => 22,
+        Fault::BadBound => 23,
+        Fault::ManyCandidates => 24,
+    }
 }
 
 // A refusal gives the line in its sheet, counted from 1, or 0.
@@ -350,9 +376,7 @@ fn line_after<'a>(s: &'a [u8], n: usize) -> &'a [u8]
         at = c.end + 1;
         left -= 1;
     }
-    let c = Cursor::line(s, at);
-    let end = c.end;
-    &s[at..end]
+    Cursor::line(s, at).bytes(s)
 }
 
 // The refused line of a call with both sheets, as a part of the sheet that holds it; with no such line, the rule sheet's first zero bytes.

@@ -12,6 +12,9 @@ enum-known-clause c = search needs
 enum-known-clause-2 : tie.Need-enum-known-clause-2
 enum-known-clause-2 c = search needs
 
+unary-key-requires : tie.Need-unary-key-requires
+unary-key-requires c κs = search needs
+
 enum-known-clause-3 : tie.Need-enum-known-clause-3
 enum-known-clause-3 c = search needs
 
@@ -22,7 +25,7 @@ returns-2 : tie.Need-returns-2
 returns-2 c = rw (c .before .clause .given .1)
 
 returns-3 : tie.Need-returns-3
-returns-3 c = rw (c .before .clause2 .given .1)
+returns-3 c = rw (c .before .before .clause2 .given .1) (c .unary-key .ensures)
 
 returns-4 : tie.Need-returns-4
 returns-4 c = rw (c .before .clause3 .given .1)
@@ -34,6 +37,7 @@ key-of-spec =
     enum-told
     enum-known-clause
     enum-known-clause-2
+    unary-key-requires
     enum-known-clause-3
     returns
     returns-2

@@ -1,9 +1,8 @@
 -- `sheets::line_after` meets its contract. The loop's invariant: the line with `left` lines before it from `at` on is the one wanted.
-use mathlib.Core.Path.{_≡_, refl, sym, ap, _∙_}
 use native.Mathlib.Omega.{arith}
 use borrow.Author.Needs.{needs}
-use Rattle.sheets.proofs.Loop.{line-in, line-less}
-use Rattle.sheets.proofs.Walks.{Walk, walk-start, walk-high, walk-more, walk-here, walk-at, walk-cut}
+use Rattle.sheets.proofs.Loop.{line-in}
+use Rattle.sheets.proofs.Walks.{Walk, walk-start, walk-high, walk-more, walk-end}
 use Rattle.sheets.proofs.line_after.Statement.{statement}
 use Rattle.sheets.proofs.line_after.Tie as tie
 
@@ -34,24 +33,11 @@ loop-again c = walk-more (c .before .before .before .loop .inv) (c .before .line
 line-requires-2 : tie.Need-line-requires-2 Inv-loop μ-loop
 line-requires-2 c κs = c .before .loop .inv .low
 
-sub-result : tie.Need-sub-result Inv-loop μ-loop
-sub-result c = line-less _ _ (c .before .before .loop .inv .low) _ (c .line2 .ensures)
-
-part-result-start : tie.Need-part-result-start Inv-loop μ-loop
-part-result-start c = line-less _ _ (c .before .before .loop .inv .low) _ (c .line2 .ensures)
-
-part-result-end : tie.Need-part-result-end Inv-loop μ-loop
-part-result-end c = line-in _ _ (c .before .before .loop .inv .low) _ (c .line2 .ensures) .1
+bytes-requires : tie.Need-bytes-requires Inv-loop μ-loop
+bytes-requires c κs = line-in _ _ (c .before .before .loop .inv .low) _ (c .line2 .ensures)
 
 returns : tie.Need-returns Inv-loop μ-loop
-returns c =
-    let l = c .before .before .before in
-    record {
-      block = refl;
-      offset = omega (arith, walk-at (l .loop .inv) (c .before .line2 .ensures) (c .before .before .loop-test .left));
-      holds = walk-here (l .loop .inv) (c .before .line2 .ensures) (c .before .before .loop-test .left);
-      cut = walk-cut (l .loop .inv) (c .before .line2 .ensures) (c .before .before .loop-test .left);
-    }
+returns c = walk-end (c .before .before .before .loop .inv) (c .before .line2 .ensures) (c .before .before .loop-test .left) (c .bytes .ensures)
 
 pub line-after-spec : {M : Type 1} → statement M
 line-after-spec =
@@ -66,7 +52,5 @@ line-after-spec =
     loop-less
     loop-again
     line-requires-2
-    sub-result
-    part-result-start
-    part-result-end
+    bytes-requires
     returns)

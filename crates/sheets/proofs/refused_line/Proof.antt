@@ -20,7 +20,7 @@ returns : tie.Need-returns
 returns c =
     let g = c .before .before .before .before .before in
     let a = g .before .before .before .args in
-    hands-zero (a .rules) (a .tokens) _ (rules-answer (g .read-rules .ensures) (c .before .before .before .o .given .1)) (c .before .if1 .taken) (record { block = refl; offset = omega arith; holds = refl; cut = refl })
+    hands-zero (a .rules) (a .tokens) _ (rules-answer (g .read-rules .ensures) (c .before .before .before .o .given .1)) (c .before .if1 .taken) (record { block = refl; offset = omega arith; holds = refl })
 
 sub-line-after : tie.Need-sub-line-after
 sub-line-after c = search needs
@@ -56,7 +56,7 @@ returns-3 c =
     let g = q .before .before .before in
     let a = g .before .before .before .args in
     hands-tokens-zero (a .rules) (a .tokens) _ (rules-answer (g .read-rules .ensures) (q .before .enum-told .given .1))
-    (tokens-answer (q .read-tokens .ensures) (c .before .before .before .p .given .1)) (c .before .if2 .taken) (record { block = refl; offset = omega arith; holds = refl; cut = refl })
+    (tokens-answer (q .read-tokens .ensures) (c .before .before .before .p .given .1)) (c .before .if2 .taken) (record { block = refl; offset = omega arith; holds = refl })
 
 sub-line-after-2 : tie.Need-sub-line-after-2
 sub-line-after-2 c = search needs
@@ -88,7 +88,7 @@ returns-5 c =
     let g = q .before .before .before in
     let a = g .before .before .before .args in
     hands-none (a .rules) (a .tokens) _ (rules-answer (g .read-rules .ensures) (q .before .enum-told .given .1))
-    (tokens-answer (q .read-tokens .ensures) (c .before .enum-told2 .given .1)) (record { block = refl; offset = omega arith; holds = refl; cut = refl })
+    (tokens-answer (q .read-tokens .ensures) (c .before .enum-told2 .given .1)) (record { block = refl; offset = omega arith; holds = refl })
 
 pub refused-line-spec : {M : Type 1} → statement M
 refused-line-spec =
