@@ -1,0 +1,27 @@
+-- `write_none` meets its contract: both memories are cleared.
+use borrow.Author.Needs.{needs}
+use mathlib.Core.Path.{refl}
+use mathlib.Core.Option.{none}
+use native.Mathlib.Omega.{arith}
+use Rattle.derivation.proofs.WrittenLaws.{written-fits}
+use Rattle.derivation.proofs.write_none.Statement.{statement}
+use Rattle.derivation.proofs.write_none.Tie as tie
+
+clear-requires : tie.Need-clear-requires
+clear-requires c κs = search needs
+
+clear-requires-2 : tie.Need-clear-requires-2
+clear-requires-2 c κs = search needs
+
+same-length : tie.Need-same-length
+same-length c = search needs
+
+same-length-2 : tie.Need-same-length-2
+same-length-2 c = search needs
+
+returns : tie.Need-returns
+returns c = written-fits none none (omega arith) (omega arith) (c .before .before .before .before .before .before .clear .ensures) (c .before .before .clear2 .ensures) refl refl
+
+pub write-none-spec : {M : Type 1} → statement M
+write-none-spec =
+    tie.close (tie.spec clear-requires clear-requires-2 same-length same-length-2 returns)

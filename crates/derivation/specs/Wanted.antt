@@ -1,0 +1,36 @@
+-- What the writer is given, which tree it is asked for, and one tree in one memory.
+use mathlib.Core.Path.{_≡_}
+use mathlib.Core.Bool.{Bool, true, false}
+use mathlib.Core.List.{List}
+use mathlib.Core.Option.{none, some}
+use Prim.Native.Nat.{ℕ, _≤_, _<_}
+use Rattle.grammar.specs.declared.Grammar.{Grammar}
+use Rattle.grammar.specs.declared.Sentence.{Sentence}
+use Rattle.grammar.specs.Layout.{Word}
+use Rattle.grammar.specs.Trees.{Tree, Rules}
+use Rattle.grammar.specs.Choices.{FirstTree, SecondTree}
+use Rattle.grammar.specs.Rows.{rowCount}
+use Rattle.grammar.specs.Content.{rules, spelled, Formed, Positioned}
+use Rattle.grammar.specs.SpanSheet.{SpanSheet}
+use Rattle.derivation.specs.Written.{places, filled}
+
+-- what both sheets gave, and the words that were filled from them
+pub record Ready (g : Grammar) (s : Sentence) (ws : List ℕ) : Type 0 where
+  pub formed : Formed g
+  pub positioned : Positioned s
+  pub sheet : SpanSheet (rules g) (spelled s) ws
+
+-- u is the first tree of A over w or, seeking, the second
+abbrev pub Goal : Rules → ℕ → Word → Bool → Tree → Type 0
+Goal g A w false u = FirstTree g A w u
+Goal g A w true u = SecondTree g A w u
+
+-- there is such a tree
+pub record Wanted (g : Rules) (A : ℕ) (w : Word) (seeking : Bool) : Type 0 where
+  pub tree : Tree
+  pub goal : Goal g A w seeking tree
+
+-- (for the inner function `write`) the memory l has become m, with the rows of u, r of them; zeros and 0 where they do not fit
+pub record Laid (u : Tree) (l m : List ℕ) (r : ℕ) : Type 0 where
+  pub enough : rowCount u ≤ places l → (m ≡ filled l (some u)) × (r ≡ rowCount u)
+  pub short : places l < rowCount u → (m ≡ filled l none) × (r ≡ 0)

@@ -1,0 +1,87 @@
+-- `branch` meets its contract: no entry, one or two are pushed (`branched-none`, `branched-one`, `branched-two`).
+use borrow.Author.Needs.{needs}
+use mathlib.Core.Path.{_≡_}
+use Prim.Native.Nat.{_≤_}
+use native.Mathlib.Omega.{arith}
+use Rattle.rows.proofs.StepLaws.{room-one, room-two, is-three, branched-none, branched-one, branched-two}
+use Rattle.rows.proofs.branch.Statement.{statement}
+use Rattle.rows.proofs.branch.Tie as tie
+
+-- one child, two children
+one : (c : tie.Then2) → 1 ≤ c .before .before .before .args .top
+one c = room-one (c .before .before .before .pre) (c .if2 .taken)
+
+three : (c : tie.Else2) → c .before .before .before .args .st .kind ≡ 3
+three c = is-three (c .before .before .before .pre) (c .before .if1 .left) (c .if2 .left)
+
+two : (c : tie.Else2) → 2 ≤ c .before .before .before .args .top
+two c = room-two (c .before .before .before .pre) (three c)
+
+returns : tie.Need-returns
+returns c = branched-none (c .before .before .pre) _ _ (c .if1 .taken)
+
+sub-at : tie.Need-sub-at
+sub-at c = one c
+
+mul-put : tie.Need-mul-put
+mul-put c = search needs
+
+put-requires : tie.Need-put-requires
+put-requires c κs = omega (arith, one (c .before))
+
+same-length : tie.Need-same-length
+same-length c = search needs
+
+returns-2 : tie.Need-returns-2
+returns-2 c = let t = c .before .before .before .before in branched-one (t .before .before .before .pre) _ _ (t .if2 .taken) _ (c .before .before .put .ensures)
+
+add-next : tie.Need-add-next
+add-next c = search needs
+
+sub-rest : tie.Need-sub-rest
+sub-rest c = search needs
+
+sub-right : tie.Need-sub-right
+sub-right c = omega (arith, two c)
+
+mul-put-2 : tie.Need-mul-put-2
+mul-put-2 c = search needs
+
+put-requires-2 : tie.Need-put-requires-2
+put-requires-2 c κs = omega (arith, two (c .before))
+
+sub-left : tie.Need-sub-left
+sub-left c = two (c .before .before .before .before)
+
+mul-put-3 : tie.Need-mul-put-3
+mul-put-3 c = search needs
+
+put-requires-3 : tie.Need-put-requires-3
+put-requires-3 c κs = omega (arith, two (c .before .before .before .before .before), c .before .before .before .put2 .kept .0)
+
+same-length-2 : tie.Need-same-length-2
+same-length-2 c = search needs
+
+returns-3 : tie.Need-returns-3
+returns-3 c = let t = c .before .before .before .before .before .before .before .before in branched-two (t .before .before .before .pre) _ _ (three t) _ _ (c .before .before .before .before .before .before .put2 .ensures) (c .before .before .put3 .ensures)
+
+pub branch-spec : {M : Type 1} → statement M
+branch-spec =
+    tie.close
+    (tie.spec
+    returns
+    sub-at
+    mul-put
+    put-requires
+    same-length
+    returns-2
+    add-next
+    sub-rest
+    sub-right
+    mul-put-2
+    put-requires-2
+    sub-left
+    mul-put-3
+    put-requires-3
+    same-length-2
+    returns-3)

@@ -1,0 +1,55 @@
+-- `step_of` meets its contract: the rule that stands at the place is the one read there (`step-at`), and each kind has its arm.
+use borrow.Author.Needs.{needs}
+use Rattle.grammar.specs.declared.Clause.the-variants.{Empty, Atom, Unary, Binary}
+use Rattle.rows.proofs.StepLaws.{step-at}
+use Rattle.rows.proofs.step_of.Statement.{statement}
+use Rattle.rows.proofs.step_of.Tie as tie
+
+cast-split : tie.Need-cast-split
+cast-split c = search needs
+
+mul-rule : tie.Need-mul-rule
+mul-rule c = search needs
+
+element-copy-out-rule : tie.Need-element-copy-out-rule
+element-copy-out-rule c = search needs
+
+enum-told : tie.Need-enum-told
+enum-told c = search needs
+
+enum-told-2 : tie.Need-enum-told-2
+enum-told-2 c = search needs
+
+enum-known-c : tie.Need-enum-known-c
+enum-known-c c = search needs
+
+enum-known-c-2 : tie.Need-enum-known-c-2
+enum-known-c-2 c = search needs
+
+returns : tie.Need-returns
+returns c = λ x e. step-at (c .before .before .before .args .t1 .rules) _ x _ Empty _ _ e (c .enum-told .given .1)
+
+returns-2 : tie.Need-returns-2
+returns-2 c = λ x e. step-at (c .before .before .before .args .t1 .rules) _ x _ (Atom _) _ _ e (c .enum-told2 .given .1)
+
+returns-3 : tie.Need-returns-3
+returns-3 c = λ x e. step-at (c .before .before .before .before .args .t1 .rules) _ x _ (Unary _ _) _ _ e (c .before .c .given .1)
+
+returns-4 : tie.Need-returns-4
+returns-4 c = λ x e. step-at (c .before .before .before .before .args .t1 .rules) _ x _ (Binary _ _ _) _ _ e (c .before .c2 .given .1)
+
+pub step-of-spec : {M : Type 1} → statement M
+step-of-spec =
+    tie.close
+    (tie.spec
+    cast-split
+    mul-rule
+    element-copy-out-rule
+    enum-told
+    enum-told-2
+    enum-known-c
+    enum-known-c-2
+    returns
+    returns-2
+    returns-3
+    returns-4)
