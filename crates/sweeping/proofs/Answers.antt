@@ -1,0 +1,86 @@
+-- What is found, in 01's words, and the answer spelled from it.
+use mathlib.Core.Path.{_≡_, sym, ap, _∙_, subst}
+use mathlib.Core.Logic.{_↔_}
+use mathlib.Core.List.{List, [], _∷_, _++_}
+use Prim.Native.Nat.{ℕ, _+_, _-_, _*_, _≤_, _<_}
+use native.Mathlib.Omega.{arith}
+use lib.ListN.{length, take, drop, replicate, length-take, length-replicate, getD-replicate, take-append-drop}
+use lib.Seq.{getD-take, ext-getD, take-at}
+use Rattle.grammar.specs.declared.Cell.{Cell}
+use Rattle.grammar.specs.declared.Token.{Token}
+use Rattle.grammar.specs.declared.Sentence.{Sentence}
+use Rattle.grammar.specs.Trees.{Rules}
+use Rattle.grammar.specs.Candidates.{Terminal, sentence}
+use Rattle.grammar.specs.SpanSheet.{pairs}
+use Rattle.grammar.specs.Content.{spelled, Positioned}
+use Rattle.grammar.proofs.SweepLaws.{shorter-clear, sentence-length}
+use Rattle.spans.specs.Changes.{Past, Cleared}
+use Rattle.spans.proofs.ChangeLaws.{past-then, past-drop}
+use Rattle.candidates.specs.Terminals.{Among}
+use Rattle.candidates.specs.Spelling.{LowSteps, Spells, nowhere}
+use Rattle.candidates.proofs.Spelling.{low-steps}
+use Rattle.candidates.proofs.TerminalSets.{no-candidate}
+use Rattle.sweeping.specs.Searching.{NoneShorter, Searched, hit, miss}
+use Rattle.sweeping.specs.Swept.{Swept, clear, two, Found, nothing, first, cleared}
+use Rattle.sweeping.proofs.Turns.{clear-found, first-found}
+
+-- the lengths up to k are all done
+pub none-left : {g : Rules} {s n : ℕ} (k : ℕ) → k < n → n ≤ k + 1 → NoneShorter g s n → NoneShorter g s (k + 1)
+none-left {g} {s} {n} k a b h = let e : n ≡ k + 1 = omega arith in rw e at h
+
+module _ {g : Rules} {s : ℕ} (same : (x : ℕ) → Among s x ↔ Terminal g x) where
+  -- the search over the set of the terminals
+  pub found-of : {k n : ℕ} {cs : List Cell} → Searched g s k n cs → Found g k n cs
+  found-of (hit h) = first (first-found same h)
+  found-of (miss e h) = nothing e (clear-found same h)
+
+  -- no terminal, no candidate
+  pub found-none : {k n : ℕ} {cs : List Cell} → n ≡ 0 → ((x : ℕ) → Among s x → ⊥) → Found g k n cs
+  found-none e h = nothing e (clear-found same (record { none = λ m ds l u c t. no-candidate (Among s) h m ds l c }))
+
+-- what is found can be spelled
+pub found-low : {g : Rules} {k n : ℕ} {cs : List Cell} → length cs ≡ n → k ≤ 7 → Found g k n cs → (n ≤ 7) × LowSteps cs
+found-low e h (first f) = (omega (arith, f .high), low-steps (f .candidate))
+found-low {g} {k} {n} {cs} e h (nothing z c) = (omega arith, no-steps cs (e ∙ z))
+  where
+    no-steps : (ds : List Cell) → length ds ≡ 0 → LowSteps ds
+    no-steps [] q = tt
+    no-steps (d ∷ ds) q = absurd (omega arith)
+
+-- and is the answer
+pub swept-of : {g : Rules} {k n : ℕ} {cs : List Cell} {r : Sentence} → length cs ≡ n → Found g k n cs → Spells cs n r → Swept g k r
+swept-of {g} {k} {n} {cs} {r} e (nothing z c) x =
+    clear c (x .count ∙ z) (subst (λ (m : ℕ). drop m (r .tokens) ≡ replicate (64 - m) nowhere) z (x .past))
+swept-of {g} {k} {n} {cs} {r} e (first f) x =
+    two f (shorter-clear f) (x .count ∙ sym e)
+    (sym (take-append-drop n (r .tokens)) ∙ ap (λ (l : List Token). l ++ drop n (r .tokens)) (x .front) ∙ ap (λ (l : List Token). sentence cs ++ l) (x .past)
+    ∙ ap (λ (m : ℕ). sentence cs ++ replicate (64 - m) nowhere) (sym e))
+
+-- the words after the search, cleared
+zeroed : (m : ℕ) (ws ws′ : List ℕ) → m ≤ length ws′ → Cleared ws ws′ m → take m ws′ ≡ replicate m 0
+zeroed m ws ws′ h c =
+    let e : length (take m ws′) ≡ m = length-take m ws′ ∙ omega arith in
+    ext-getD 0 (take m ws′) (replicate m 0) (e ∙ sym (length-replicate m 0))
+    (λ i l. let j : i < m = omega arith in getD-take m ws′ i 0 j ∙ c .zeros i j ∙ sym (getD-replicate m i 0 0 j))
+
+pub all-cleared : (k : ℕ) {m : ℕ} {ws ws′ ws″ : List ℕ} → m ≡ 2 * pairs k → 2 * pairs k ≤ length ws → Past (2 * pairs k) ws ws′ → Cleared ws′ ws″ m → ws″ ≡ cleared k ws
+all-cleared k {m} {ws} {ws′} {ws″} e h p d =
+    let c : Cleared ws′ ws″ (2 * pairs k) = rw e at d in
+    sym (take-append-drop (2 * pairs k) ws″)
+    ∙ ap (λ (l : List ℕ). l ++ drop (2 * pairs k) ws″) (zeroed (2 * pairs k) ws′ ws″ (omega (arith, p .long, c .past .long)) c)
+    ∙ ap (λ (l : List ℕ). replicate (2 * pairs k) 0 ++ l) (past-drop (past-then p (c .past)))
+
+-- ---- what a caller reads off
+
+-- the answer's word is the candidate's sentence
+pub spelled-two : (cs : List Cell) (r : Sentence) → r .count ≡ length cs → r .tokens ≡ sentence cs ++ replicate (64 - length cs) nowhere → spelled r ≡ sentence cs
+spelled-two cs r e t = ap (λ (m : ℕ). take m (r .tokens)) e ∙ ap (take (length cs)) t ∙ take-at (sentence cs) (replicate (64 - length cs) nowhere) (length cs) (sentence-length 1 cs)
+
+-- and the answer is a sentence as the token sheet's reader would give
+pub swept-positioned : {g : Rules} {k : ℕ} {r : Sentence} → k ≤ 7 → Swept g k r → Positioned r
+swept-positioned {g} {k} {r} h (clear c e t) =
+    let q : spelled r ≡ [] = ap (λ (m : ℕ). take m (r .tokens)) e in
+    record { few = omega arith; whole = ap length q ∙ sym e; rising = rw q tt }
+swept-positioned {g} {k} {r} h (two {cs = cs} f c e t) =
+    let q : spelled r ≡ sentence cs = spelled-two cs r e t in
+    record { few = omega (arith, f .high); whole = ap length q ∙ sentence-length 1 cs ∙ sym e; rising = rw q (f .candidate .rising) }

@@ -1,0 +1,77 @@
+-- The turns of the search, and what it finds in 01's words.
+use mathlib.Core.Path.{_≡_, _∙_}
+use mathlib.Core.Bool.{true}
+use mathlib.Core.Logic.{_⊎_, ⊎-elim, _↔_}
+use mathlib.Core.List.{List}
+use Prim.Native.Nat.{ℕ, _+_, _-_, _≤_, _<_}
+use native.Mathlib.Omega.{arith}
+use native.Mathlib.Decide.{decLt}
+use lib.ListN.{length}
+use Rattle.sets.proofs.Says.{true-not-false}
+use Rattle.grammar.specs.declared.Cell.{Cell}
+use Rattle.grammar.specs.Trees.{Rules, TwoTrees}
+use Rattle.grammar.specs.Candidates.{Candidate, Terminal, sentence}
+use Rattle.grammar.specs.Sweeps.{Clear, FirstTwo}
+use Rattle.grammar.proofs.SweepLaws.{clear-of}
+use Rattle.candidates.specs.Terminals.{Among}
+use Rattle.candidates.specs.Succession.{First, Follows, Ends}
+use Rattle.candidates.specs.Skips.{Stale}
+use Rattle.candidates.proofs.TerminalSets.{candidate-over}
+use Rattle.sweeping.specs.Searching.{NoneShorter, NoneBefore, Barren, Looked, Hits}
+
+module _ {g : Rules} {s : ℕ} where
+  pub none-yet : NoneShorter g s 1
+  none-yet = record { none = λ m ds l h c t. omega arith }
+
+  -- the first candidate of a length
+  pub begin : {n : ℕ} {cs : List Cell} → First s n cs → NoneBefore g s n cs
+  begin f = record { candidate = f .candidate; none = λ ds c b t. f .first ds c b }
+
+  -- past a block
+  pub onward : {n b upto : ℕ} {cs rs : List Cell} → NoneBefore g s n cs → Barren g s n b cs → Follows s n b cs upto rs → NoneBefore g s n rs
+  onward h q f = record { candidate = f .candidate; none = λ ds c e t. ⊎-elim (λ x. q .none ds c x t) (λ x. h .none ds c x t) (f .least ds c e) }
+
+  -- past a length
+  pub longer : {n b : ℕ} {cs : List Cell} → NoneShorter g s n → NoneBefore g s n cs → Barren g s n b cs → Ends s n b cs → NoneShorter g s (n + 1)
+  longer {n} {b} {cs} h k q e = record { none = go }
+    where
+      go : (m : ℕ) (ds : List Cell) → 1 ≤ m → m < n + 1 → Candidate (Among s) m ds → TwoTrees g 0 (sentence ds) → ⊥
+      go m ds l u c t = at (decLt m n)
+        where
+          at : Dec (m < n) → ⊥
+          at (yes x) = h .none m ds l x c t
+          at (no x) =
+              let i : m ≡ n = omega arith in
+              let d : Candidate (Among s) n ds = rw i at c in
+              ⊎-elim (λ y. q .none ds d y t) (λ y. k .none ds d y t) (e .last ds d)
+
+  -- what reads like something earlier needs no look at a chart
+  pub looked-stale : {n b : ℕ} {cs : List Cell} → Stale n b cs → Looked true g s n b cs
+  looked-stale st =
+      record {
+        barren = λ e q. record { none = λ ds c sh t. let x = st .earlier g s ds c sh t in q .none (x .cells) (x .candidate) (x .before) (x .two) };
+        two = λ e. absurd (true-not-false e);
+      }
+
+  module _ (same : (x : ℕ) → Among s x ↔ Terminal g x) where
+    to : {n : ℕ} {cs : List Cell} → Candidate (Terminal g) n cs → Candidate (Among s) n cs
+    to c = candidate-over (Terminal g) (Among s) (λ x. same x .1) c
+
+    -- nothing found: clear
+    pub clear-found : {k : ℕ} → NoneShorter g s (k + 1) → Clear g k
+    clear-found {k} h = clear-of k (λ cs l u c t. h .none (length cs) cs l (omega arith) (to c) t)
+
+    -- found: the first candidate that has two trees
+    pub first-found : {k n : ℕ} {cs : List Cell} → Hits g s k n cs → FirstTwo g k cs
+    first-found {k} {n} {cs} h =
+        let e : length cs ≡ n = h .before .candidate .arranged .size in
+        record {
+          low = omega (arith, h .low);
+          high = omega (arith, h .high);
+          candidate = rw e (candidate-over (Among s) (Terminal g) (λ x. same x .0) (h .before .candidate));
+          two = h .two;
+          earlier = λ ds l c b t. ⊎-elim
+              (λ x. h .shorter .none (length ds) ds l (omega arith) (to c) t)
+              (λ x. let i : length ds ≡ n = x .0 ∙ e in h .before .none ds (rw i at (to c)) (x .1) t)
+              b;
+        }
