@@ -2,3 +2,5 @@ pub mod Settled
 pub mod SweepSettled
 pub mod Readings
 pub mod Judging
+pub mod Showing
+pub mod Sweeping

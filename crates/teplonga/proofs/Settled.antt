@@ -36,9 +36,11 @@ use Rattle.teplonga.specs.declared.Reply.{Reply}
 use Rattle.teplonga.specs.Answers.{Sheets, accepted, refused, withTokens, withRules, sheets, Says}
 use Rattle.teplonga.specs.declared.TreesReply.{TreesReply}
 use Rattle.teplonga.specs.Verdict.{needed, Filled, VerdictOn, short, judging, VerdictOf, refusing, reading}
-use Rattle.teplonga.specs.Trees.{reply, places, zeros, laid, Shown, none, single, both, large-one, large-two, TreesOn, TreesOf}
+use Rattle.teplonga.specs.Trees.{reply, Shown, treeless, single, both, large-one, large-two, TreesOn, TreesOf}
 use Rattle.teplonga.specs.Trees as Trees
-use Rattle.grammar.specs.Rows.{rows, rowCount}
+use Rattle.grammar.specs.Rows.{rowCount}
+use Rattle.derivation.specs.Written.{places, filled}
+use mathlib.Core.Option.{none, some}
 use Rattle.grammar.proofs.ChoiceLaws.{first-unique, second-tree-unique}
 
 -- 1. answers
@@ -168,23 +170,23 @@ module _ (g : Rules) (w : Word) (one two : List ℕ) where
       ⊎-elim (λ x. omega (arith, ap rowCount p)) (λ x. omega (arith, ap rowCount q)) l
 
   large-same : {f f′ : Fault} {a b c d : List ℕ} {r s : TreesReply} → numberOf f ≡ 22 → numberOf f′ ≡ 22
-      → r ≡ reply (Answer.Refused f) 0 0 0 → s ≡ reply (Answer.Refused f′) 0 0 0 → a ≡ zeros one → b ≡ zeros one → c ≡ zeros two → d ≡ zeros two → Same a b c d r s
+      → r ≡ reply (Answer.Refused f) 0 0 0 → s ≡ reply (Answer.Refused f′) 0 0 0 → a ≡ filled one none → b ≡ filled one none → c ≡ filled two none → d ≡ filled two none → Same a b c d r s
   large-same {f} {f′} m n x y h k i j = (x ∙ ap (λ (z : Fault). reply (Answer.Refused z) 0 0 0) (same-fault f f′ 22 m n) ∙ sym y, (h ∙ sym k, i ∙ sym j))
 
   pub shown-settled : Distinct g → {a b c d : List ℕ} {r s : TreesReply} → Shown g w one a two c r → Shown g w one b two d s → Same a b c d r s
-  shown-settled D (none p x h i) (none q y k j) = (x ∙ sym y, (h ∙ sym k, i ∙ sym j))
-  shown-settled D (none p x h i) (single q t l y k j) = absurd (none-not-one p q)
-  shown-settled D (none p x h i) (both q t u l m y k j) = absurd (none-not-two p q)
-  shown-settled D (none p x h i) (large-one q t l n y k j) = absurd (none-not-one p q)
-  shown-settled D (none p x h i) (large-two q t u l n y k j) = absurd (none-not-two p q)
-  shown-settled D (single q t l y k j) (none p x h i) = absurd (none-not-one p q)
+  shown-settled D (treeless p x h i) (treeless q y k j) = (x ∙ sym y, (h ∙ sym k, i ∙ sym j))
+  shown-settled D (treeless p x h i) (single q t l y k j) = absurd (none-not-one p q)
+  shown-settled D (treeless p x h i) (both q t u l m y k j) = absurd (none-not-two p q)
+  shown-settled D (treeless p x h i) (large-one q t l n y k j) = absurd (none-not-one p q)
+  shown-settled D (treeless p x h i) (large-two q t u l n y k j) = absurd (none-not-two p q)
+  shown-settled D (single q t l y k j) (treeless p x h i) = absurd (none-not-one p q)
   shown-settled D (single {t = t} p a l x h i) (single {t = t′} q b m y k j) =
       let e : t ≡ t′ = first-unique a b in
       (x ∙ rw e (sym y), (h ∙ rw e (sym k), i ∙ sym j))
   shown-settled D (single p a l x h i) (both q t u m n y k j) = absurd (one-not-two p q)
   shown-settled D (single p a l x h i) (large-one q b m n y k j) = absurd (never-one a b l m)
   shown-settled D (single p a l x h i) (large-two q t u m n y k j) = absurd (one-not-two p q)
-  shown-settled D (both q t u l m y k j) (none p x h i) = absurd (none-not-two p q)
+  shown-settled D (both q t u l m y k j) (treeless p x h i) = absurd (none-not-two p q)
   shown-settled D (both q t u m n y k j) (single p a l x h i) = absurd (one-not-two p q)
   shown-settled D (both {t = t} {u = u} p a c l m x h i) (both {t = t′} {u = u′} q b e n o y k j) =
       let v : t ≡ t′ = first-unique a b in
@@ -192,12 +194,12 @@ module _ (g : Rules) (w : Word) (one two : List ℕ) where
       (x ∙ rw (v, z) (sym y), (h ∙ rw v (sym k), i ∙ rw z (sym j)))
   shown-settled D (both q t u m n y k j) (large-one p a l o x h i) = absurd (one-not-two p q)
   shown-settled D (both p a c l m x h i) (large-two q b e n o y k j) = absurd (never-two D a b c e l m n)
-  shown-settled D (large-one q t l n y k j) (none p x h i) = absurd (none-not-one p q)
+  shown-settled D (large-one q t l n y k j) (treeless p x h i) = absurd (none-not-one p q)
   shown-settled D (large-one q b m n y k j) (single p a l x h i) = absurd (never-one a b l m)
   shown-settled D (large-one p a l o x h i) (both q t u m n y k j) = absurd (one-not-two p q)
   shown-settled D (large-one p a l m x h i) (large-one q b n o y k j) = large-same m o x y h k i j
   shown-settled D (large-one p a l m x h i) (large-two q t u n o y k j) = absurd (one-not-two p q)
-  shown-settled D (large-two q t u l n y k j) (none p x h i) = absurd (none-not-two p q)
+  shown-settled D (large-two q t u l n y k j) (treeless p x h i) = absurd (none-not-two p q)
   shown-settled D (large-two q t u m n y k j) (single p a l x h i) = absurd (one-not-two p q)
   shown-settled D (large-two q b e n o y k j) (both p a c l m x h i) = absurd (never-two D a b c e l m n)
   shown-settled D (large-two q t u n o y k j) (large-one p a l m x h i) = absurd (one-not-two p q)

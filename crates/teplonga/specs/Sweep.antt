@@ -3,9 +3,11 @@ use mathlib.Core.Path.{_≡_}
 use mathlib.Core.Logic.{_⊎_}
 use mathlib.Core.List.{List, [], _++_}
 use Prim.Native.Nat.{ℕ, _-_, _*_, _≤_, _<_}
-use lib.ListN.{length, drop, replicate}
+use lib.ListN.{length, replicate}
 use Rattle.grammar.specs.declared.Cell.{Cell}
-use Rattle.grammar.specs.declared.Token.{Token}
+use Rattle.grammar.specs.declared.Sentence.{Sentence}
+use Rattle.candidates.specs.Spelling.{nowhere}
+use Rattle.sweeping.specs.Swept.{cleared}
 use Rattle.grammar.specs.Layout.{Word}
 use Rattle.grammar.specs.Trees.{Rules}
 use Rattle.grammar.specs.SpanSheet.{pairs}
@@ -19,20 +21,20 @@ use Rattle.teplonga.specs.declared.Answer.{Answer}
 use Rattle.teplonga.specs.declared.Answer.the-variants as Answer
 use Rattle.teplonga.specs.declared.SweepReply.{SweepReply}
 
-abbrev pub no-token : Token
-no-token = record { terminal = 0; line = record { 0 = 0 }; column = record { 0 = 0 } }
-
 -- the answer holds the word, and its token places past it are 0
 abbrev pub reply : Answer → ℕ → Word → SweepReply
-reply a l w = record { answer = a; line = l; sentence = record { tokens = w ++ replicate (64 - length w) no-token; count = length w } }
+reply a l w = record { answer = a; line = l; sentence = record { tokens = w ++ replicate (64 - length w) nowhere; count = length w } }
+
+-- the answer's sentence where none was found, and a refusal
+abbrev pub empty : Sentence
+empty = record { tokens = replicate 64 nowhere; count = 0 }
+
+abbrev pub refusal : Fault → ℕ → SweepReply
+refusal f l = record { answer = Answer.Refused f; line = l; sentence = empty }
 
 -- the most arrangements of the bound's length that a sweep takes on
 abbrev pub limit : ℕ
 limit = 4294967296
-
--- after an accepted sweep the words of the span sheet for k are 0; words past it never change
-abbrev pub cleared : ℕ → List ℕ → List ℕ
-cleared k words = replicate (2 * pairs k) 0 ++ drop (2 * pairs k) words
 
 -- a sweep that is taken on: 23, 24 and 21 are not given
 pub record Taken (g : Rules) (k : ℕ) (words : List ℕ) : Type 0 where

@@ -1,13 +1,15 @@
 -- The promise of the call `trees`: 01, "Trees, choices, span sheet" and "Where each refusal is checked".
 use mathlib.Core.Path.{_≡_}
 use mathlib.Core.Logic.{_⊎_}
-use mathlib.Core.List.{List, _++_}
-use Prim.Native.Nat.{ℕ, _-_, _/_, _≤_, _<_}
-use lib.ListN.{length, replicate}
+use mathlib.Core.List.{List}
+use mathlib.Core.Option.{none, some}
+use Prim.Native.Nat.{ℕ, _≤_, _<_}
+use lib.ListN.{length}
 use Rattle.grammar.specs.Layout.{Word}
 use Rattle.grammar.specs.Trees.{Tree, Rules, NoTree, OneTree, TwoTrees}
 use Rattle.grammar.specs.Choices.{FirstTree, SecondTree}
-use Rattle.grammar.specs.Rows.{rows, rowCount}
+use Rattle.grammar.specs.Rows.{rowCount}
+use Rattle.derivation.specs.Written.{places, filled}
 use Rattle.sheets.specs.declared.Fault.{Fault}
 use Rattle.sheets.specs.Refusals.{numberOf}
 use Rattle.teplonga.specs.declared.Answer.{Answer}
@@ -19,34 +21,22 @@ use Rattle.teplonga.specs.Verdict.{needed, Filled}
 abbrev pub reply : Answer → ℕ → ℕ → ℕ → TreesReply
 reply a l m n = record { answer = a; line = l; first = m; second = n }
 
--- the whole four-byte places of a tree memory
-abbrev pub places : List ℕ → ℕ
-places memory = length memory / 4
-
--- a tree memory that is all 0
-abbrev pub zeros : List ℕ → List ℕ
-zeros memory = replicate (length memory) 0
-
--- a tree memory with a tree's rows and 0 after them
-abbrev pub laid : Tree → List ℕ → List ℕ
-laid t memory = rows 0 t ++ replicate (length memory - length (rows 0 t)) 0
-
 -- what the answer on an accepted sentence says of its trees, and what stands in both tree memories then
 pub data Shown (g : Rules) (w : Word) (one one′ two two′ : List ℕ) (r : TreesReply) : Type 0 where
   -- none: both memories 0
-  none : NoTree g 0 w
-      → r ≡ reply Answer.None 0 0 0 → one′ ≡ zeros one → two′ ≡ zeros two → Shown g w one one′ two two′ r
+  treeless : NoTree g 0 w
+      → r ≡ reply Answer.None 0 0 0 → one′ ≡ filled one none → two′ ≡ filled two none → Shown g w one one′ two two′ r
   -- one: the first tree, and the second memory 0
   single : {t : Tree} → OneTree g 0 w → FirstTree g 0 w t → rowCount t ≤ places one
-      → r ≡ reply Answer.One 0 (rowCount t) 0 → one′ ≡ laid t one → two′ ≡ zeros two → Shown g w one one′ two two′ r
+      → r ≡ reply Answer.One 0 (rowCount t) 0 → one′ ≡ filled one (some t) → two′ ≡ filled two none → Shown g w one one′ two two′ r
   -- two: the first and the second tree
   both : {t u : Tree} → TwoTrees g 0 w → FirstTree g 0 w t → SecondTree g 0 w u → rowCount t ≤ places one → rowCount u ≤ places two
-      → r ≡ reply Answer.Two 0 (rowCount t) (rowCount u) → one′ ≡ laid t one → two′ ≡ laid u two → Shown g w one one′ two two′ r
+      → r ≡ reply Answer.Two 0 (rowCount t) (rowCount u) → one′ ≡ filled one (some t) → two′ ≡ filled two (some u) → Shown g w one one′ two two′ r
   -- a tree of the answer has more rows than its memory has whole four-byte places: both memories 0
   large-one : {t : Tree} {f : Fault} → OneTree g 0 w → FirstTree g 0 w t → places one < rowCount t → numberOf f ≡ 22
-      → r ≡ reply (Answer.Refused f) 0 0 0 → one′ ≡ zeros one → two′ ≡ zeros two → Shown g w one one′ two two′ r
+      → r ≡ reply (Answer.Refused f) 0 0 0 → one′ ≡ filled one none → two′ ≡ filled two none → Shown g w one one′ two two′ r
   large-two : {t u : Tree} {f : Fault} → TwoTrees g 0 w → FirstTree g 0 w t → SecondTree g 0 w u → (places one < rowCount t) ⊎ (places two < rowCount u) → numberOf f ≡ 22
-      → r ≡ reply (Answer.Refused f) 0 0 0 → one′ ≡ zeros one → two′ ≡ zeros two → Shown g w one one′ two two′ r
+      → r ≡ reply (Answer.Refused f) 0 0 0 → one′ ≡ filled one none → two′ ≡ filled two none → Shown g w one one′ two two′ r
 
 -- the answer on rules and a word that both sheets give
 pub data TreesOn (g : Rules) (w : Word) (words words′ one one′ two two′ : List ℕ) (r : TreesReply) : Type 0 where

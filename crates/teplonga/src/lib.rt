@@ -1,16 +1,35 @@
 // The public calls. The fourth, the refused line itself, is `refused_line` of the readers.
+use candidates::terminal_count;
+use candidates::terminals;
+use candidates::within_limit;
 use chart::Verdict;
 use chart::judge;
+use derivation::Counts;
+use derivation::write_both;
+use derivation::write_first;
+use derivation::write_none;
+use grammar::Column;
 use grammar::Grammar;
+use grammar::Line;
 use grammar::Sentence;
+use grammar::Token;
 use sheets::Fault;
 use sheets::Outcome;
 use sheets::read_rules;
 use sheets::read_tokens;
 pub use sheets::refused_line;
 use spans::size;
+use sweeping::sweep_rules;
+ghost use mathlib.Core.Path.{_≡_};
+ghost use mathlib.Core.List.{[]};
+ghost use Prim.Native.Nat.{_≤_};
+ghost use Rattle.grammar.specs.Cycles.{Cyclic};
 ghost use Rattle.grammar.specs.Content.{rules as rulesOf, spelled, Formed, Positioned};
 ghost use Rattle.teplonga.specs.Verdict.{VerdictOn, VerdictOf};
+ghost use Rattle.teplonga.specs.Counted.{counted};
+ghost use Rattle.teplonga.specs.Trees.{TreesOn, TreesOf};
+ghost use Rattle.teplonga.specs.Sweep.{SweepOn, SweepOf};
+ghost use Rattle.teplonga.specs.Sweep as Sweep;
 
 // 01's answers: none, one, two, clear, refused-N.
 pub enum Answer {
@@ -97,6 +116,188 @@ pub fn verdict(rules: &[u8], tokens: &[u8], words: &mut [u64]) -> Reply
                     judged(words, s, g)
                 }
             }
+        }
+    }
+}
+
+// The reply on an answer whose trees were written, or did not fit.
+fn counted_reply(a: Answer, c: Counts) -> TreesReply
+    ensures { λ r. ⌜ r ≡ counted a c ⌝ }
+{
+    if c.fits {
+        return TreesReply {
+            answer: a,
+            line: 0,
+            first: c.first,
+            second: c.second,
+        };
+    }
+    TreesReply {
+        answer: Answer::Refused(Fault::FewRows),
+        line: 0,
+        first: 0,
+        second: 0,
+    }
+}
+
+// The trees of rules and a sentence that were read.
+fn shown(
+    words: &mut [u64],
+    s: Sentence,
+    g: Grammar,
+    first: &mut [u8],
+    second: &mut [u8],
+) -> TreesReply
+    requires { ⌜ Formed g ⌝ }
+    requires { ⌜ Positioned s ⌝ }
+    requires { ⌜ (Cyclic (rulesOf g) → ⊥) ⌝ }
+    ensures { λ r. ⌜ TreesOn (rulesOf g) (spelled s) (now (words .entry)) (now (words .exit)) (now (first .entry)) (now (first .exit)) (now (second .entry)) (now (second .exit)) r ⌝ }
+{
+    let n = s.count;
+    if words.len() < size(n) {
+        return TreesReply {
+            answer: Answer::Refused(Fault::FewWords),
+            line: 0,
+            first: 0,
+            second: 0,
+        };
+    }
+    let v = judge(words, s, g);
+    match v {
+        Verdict::None => {
+            let c = write_none(first, second);
+            counted_reply(Answer::None, c)
+        }
+        Verdict::One => {
+            let c = write_first(words, s, g, first, second);
+            counted_reply(Answer::One, c)
+        }
+        Verdict::Two => {
+            let c = write_both(words, s, g, first, second);
+            counted_reply(Answer::Two, c)
+        }
+    }
+}
+
+// The verdict on a sentence, and its one or two trees as rows in the lent memories.
+pub fn trees(
+    rules: &[u8],
+    tokens: &[u8],
+    words: &mut [u64],
+    first: &mut [u8],
+    second: &mut [u8],
+) -> TreesReply
+    ensures { λ r. ⌜ TreesOf (now (rules .entry)) (now (tokens .entry)) (now (words .entry)) (now (words .exit)) (now (first .entry)) (now (first .exit)) (now (second .entry)) (now (second .exit)) r ⌝ }
+{
+    let a = read_rules(rules);
+    let o = a.outcome;
+    match o {
+        Outcome::Refused(f, l) => TreesReply {
+            answer: Answer::Refused(f),
+            line: l,
+            first: 0,
+            second: 0,
+        },
+        Outcome::Accepted => {
+            let b = read_tokens(tokens);
+            let p = b.outcome;
+            match p {
+                Outcome::Refused(f, l) => TreesReply {
+                    answer: Answer::Refused(f),
+                    line: l,
+                    first: 0,
+                    second: 0,
+                },
+                Outcome::Accepted => {
+                    let g = a.grammar;
+                    let s = b.sentence;
+                    shown(words, s, g, first, second)
+                }
+            }
+        }
+    }
+}
+
+// The sentence of no tokens.
+fn nothing() -> Sentence
+    ensures { λ r. ⌜ r ≡ Sweep.empty ⌝ }
+{
+    Sentence {
+        tokens: [Token {
+            terminal: 0,
+            line: Line(0),
+            column: Column(0),
+        }; 64],
+        count: 0,
+    }
+}
+
+// A refused sweep.
+fn refused_sweep(f: Fault, line: usize) -> SweepReply
+    ensures { λ r. ⌜ r ≡ Sweep.refusal f line ⌝ }
+{
+    let sentence = nothing();
+    SweepReply {
+        answer: Answer::Refused(f),
+        line,
+        sentence,
+    }
+}
+
+// An accepted sweep.
+fn taken(g: Grammar, k: usize, words: &mut [u64]) -> SweepReply
+    requires { ⌜ Formed g ⌝ }
+    requires { ⌜ Sweep.Taken (rulesOf g) k (now words) ⌝ }
+    ensures { λ r. ⌜ SweepOn (rulesOf g) k (now (words .entry)) (now (words .exit)) r ⌝ }
+{
+    let sentence = sweep_rules(g, k, words);
+    let n = sentence.count;
+    if n == 0 {
+        return SweepReply {
+            answer: Answer::Clear,
+            line: 0,
+            sentence,
+        };
+    }
+    SweepReply {
+        answer: Answer::Two,
+        line: 0,
+        sentence,
+    }
+}
+
+// The sweep on rules that were read: 23, 24, 21, else its answer.
+fn swept(g: Grammar, k: usize, words: &mut [u64]) -> SweepReply
+    requires { ⌜ Formed g ⌝ }
+    ensures { λ r. ⌜ SweepOn (rulesOf g) k (now (words .entry)) (now (words .exit)) r ⌝ }
+{
+    if k == 0 {
+        return refused_sweep(Fault::BadBound, 0);
+    }
+    if 7 < k {
+        return refused_sweep(Fault::BadBound, 0);
+    }
+    let t = terminal_count(terminals(g));
+    if !within_limit(t, k as u64) {
+        return refused_sweep(Fault::ManyCandidates, 0);
+    }
+    if words.len() < size(k) {
+        return refused_sweep(Fault::FewWords, 0);
+    }
+    taken(g, k, words)
+}
+
+// Is there a sentence of 1 to `bound` tokens that can be read in two ways? The first candidate that has two trees, or clear.
+pub fn sweep(rules: &[u8], bound: usize, words: &mut [u64]) -> SweepReply
+    ensures { λ r. ⌜ SweepOf (now (rules .entry)) bound (now (words .entry)) (now (words .exit)) r ⌝ }
+{
+    let a = read_rules(rules);
+    let o = a.outcome;
+    match o {
+        Outcome::Refused(f, l) => refused_sweep(f, l),
+        Outcome::Accepted => {
+            let g = a.grammar;
+            swept(g, bound, words)
         }
     }
 }

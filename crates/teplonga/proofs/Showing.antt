@@ -1,0 +1,68 @@
+-- The trees of what was read, by what the tree writer answers; that there are such trees.
+use mathlib.Core.Path.{_≡_, refl, ap}
+use mathlib.Core.Logic.{_⊎_, inl, inr}
+use mathlib.Core.Bool.{true, false}
+use mathlib.Core.List.{List}
+use mathlib.Core.Option.{none, some}
+use Prim.Native.Nat.{ℕ, _*_, _≤_, _<_}
+use native.Mathlib.Omega.{arith}
+use native.Mathlib.Decide.{decLe}
+use lib.ListN.{length}
+use Rattle.grammar.specs.Layout.{Word}
+use Rattle.grammar.specs.Trees.{Tree, Rules, NoTree, OneTree, TwoTrees}
+use Rattle.grammar.specs.Choices.{FirstTree, SecondTree, Distinct}
+use Rattle.grammar.specs.Cycles.{Cyclic}
+use Rattle.grammar.specs.Rows.{rowCount}
+use Rattle.grammar.specs.SpanSheet.{pairs}
+use Rattle.grammar.proofs.Existence.{FirstOf, first-of-derives, two-iff-second}
+use Rattle.derivation.specs.declared.Counts.{Counts}
+use Rattle.derivation.specs.Wanted.{Wanted}
+use Rattle.derivation.specs.Written.{places, Written}
+use Rattle.sheets.specs.declared.Fault.the-variants as Fault
+use Rattle.teplonga.specs.declared.Answer.the-variants as Answer
+use Rattle.teplonga.specs.Counted.{counted}
+use Rattle.teplonga.specs.Trees.{reply, Shown, treeless, single, both, large-one, large-two, TreesOn, short}
+
+pub too-few : (g : Rules) (w : Word) (n : ℕ) (ws one two : List ℕ) → length w ≡ n → length ws < 2 * pairs n → TreesOn g w ws ws one one two two (reply (Answer.Refused Fault.FewWords) 0 0 0)
+too-few g w n ws one two e h = short (omega (arith, ap pairs e)) refl refl refl refl refl
+
+module _ (g : Rules) (w : Word) where
+  -- the sheet is not cyclic, so the trees of the answer exist
+  pub first-there : (Cyclic g → ⊥) → OneTree g 0 w → FirstOf g 0 w
+  first-there a o = first-of-derives a (record { tree = o .tree; witness = o .witness })
+
+  pub second-there : (Cyclic g → ⊥) → Distinct g → TwoTrees g 0 w → (u : Tree) × SecondTree g 0 w u
+  second-there a d t = two-iff-second a d .0 t
+
+  pub wants-first : (Cyclic g → ⊥) → OneTree g 0 w → Wanted g 0 w false
+  wants-first a o = let f = first-there a o in record { tree = f .0; goal = f .1 }
+
+  pub wants-second : (Cyclic g → ⊥) → Distinct g → TwoTrees g 0 w → Wanted g 0 w true
+  wants-second a d t = let u = second-there a d t in record { tree = u .0; goal = u .1 }
+
+  module _ {one two one′ two′ : List ℕ} {c : Counts} where
+    pub shown-none : NoTree g 0 w → Written none none one two one′ two′ c → Shown g w one one′ two two′ (counted Answer.None c)
+    shown-none p x =
+        let y = x .fits (omega arith) (omega arith) in
+        treeless p (ap (counted Answer.None) (y .2)) (y .0) (y .1)
+
+    pub shown-one : {t : Tree} → OneTree g 0 w → FirstTree g 0 w t → Written (some t) none one two one′ two′ c → Shown g w one one′ two two′ (counted Answer.One c)
+    shown-one {t} p f x = go (decLe (rowCount t) (places one))
+      where
+        go : Dec (rowCount t ≤ places one) → Shown g w one one′ two two′ (counted Answer.One c)
+        go (yes h) = let y = x .fits h (omega arith) in single p f h (ap (counted Answer.One) (y .2)) (y .0) (y .1)
+        go (no h) =
+            let l : places one < rowCount t = omega arith in
+            let y = x .short (inl l) in
+            large-one p f l refl (ap (counted Answer.One) (y .2)) (y .0) (y .1)
+
+    pub shown-two : {t u : Tree} → TwoTrees g 0 w → FirstTree g 0 w t → SecondTree g 0 w u → Written (some t) (some u) one two one′ two′ c → Shown g w one one′ two two′ (counted Answer.Two c)
+    shown-two {t} {u} p f s x = go (decLe (rowCount t) (places one)) (decLe (rowCount u) (places two))
+      where
+        large : (places one < rowCount t) ⊎ (places two < rowCount u) → Shown g w one one′ two two′ (counted Answer.Two c)
+        large l = let y = x .short l in large-two p f s l refl (ap (counted Answer.Two) (y .2)) (y .0) (y .1)
+
+        go : Dec (rowCount t ≤ places one) → Dec (rowCount u ≤ places two) → Shown g w one one′ two two′ (counted Answer.Two c)
+        go (yes h) (yes k) = let y = x .fits h k in both p f s h k (ap (counted Answer.Two) (y .2)) (y .0) (y .1)
+        go (yes h) (no k) = large (inr (omega arith))
+        go (no h) k = large (inl (omega arith))

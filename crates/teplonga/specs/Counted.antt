@@ -1,0 +1,15 @@
+-- The reply on what the tree writer counts (inner): the trees' counts, or refusal 22.
+use mathlib.Core.Bool.{Bool, true, false}
+use Rattle.derivation.specs.declared.Counts.{Counts}
+use Rattle.sheets.specs.declared.Fault.the-variants as Fault
+use Rattle.teplonga.specs.declared.Answer.{Answer}
+use Rattle.teplonga.specs.declared.Answer.the-variants as Answer
+use Rattle.teplonga.specs.declared.TreesReply.{TreesReply}
+use Rattle.teplonga.specs.Trees.{reply}
+
+abbrev pub byFit : Bool → Answer → Counts → TreesReply
+byFit true a c = reply a 0 (c .first) (c .second)
+byFit false a c = reply (Answer.Refused Fault.FewRows) 0 0 0
+
+abbrev pub counted : Answer → Counts → TreesReply
+counted a c = byFit (c .fits) a c
