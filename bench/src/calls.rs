@@ -1,0 +1,144 @@
+//! A call to measure, made of the twin or of the library.
+
+use bench::clock::timed;
+use bench::families::{self, Family};
+use bench::library::{self, FOUND};
+use bench::twin::{self, sheets, sweep};
+
+/// Words enough for a sentence of 64 tokens.
+pub const WORDS: usize = 4162;
+
+/// A verdict on a token sheet, or a sweep up to a bound.
+pub enum Input {
+    Tokens(Vec<u8>),
+    Bound(u64),
+}
+
+pub struct Call {
+    pub name: String,
+    pub rules: Vec<u8>,
+    pub input: Input,
+}
+
+/// The memory that a call is lent. It is not cleared between calls: each call
+/// writes all that it answers.
+pub struct Lent {
+    words: Vec<u64>,
+    found: [u64; FOUND],
+}
+
+impl Lent {
+    pub fn new() -> Lent {
+        Lent { words: vec![0; WORDS], found: [0; FOUND] }
+    }
+}
+
+impl Call {
+    /// The twin's answer, as the library codes it.
+    pub fn twin(&self, lent: &mut Lent) -> u64 {
+        match &self.input {
+            Input::Tokens(tokens) => {
+                twin::verdict_code(&twin::verdict(&self.rules, tokens, &mut lent.words))
+            }
+            Input::Bound(bound) => {
+                let swept = twin::sweep(&self.rules, *bound, &mut lent.words);
+                lent.found = swept.as_ref().map_or([0; FOUND], twin::found_places);
+                twin::sweep_code(&swept)
+            }
+        }
+    }
+
+    /// The library's answer, if it is linked.
+    pub fn library(&self, lent: &mut Lent) -> Option<u64> {
+        match &self.input {
+            Input::Tokens(tokens) => library::verdict(&self.rules, tokens, &mut lent.words),
+            Input::Bound(bound) => {
+                library::sweep(&self.rules, *bound, &mut lent.words, &mut lent.found)
+            }
+        }
+    }
+
+    /// The least CPU seconds of so many calls of the twin.
+    pub fn twin_seconds(&self, rounds: usize) -> f64 {
+        let mut lent = Lent::new();
+        let times = repeats(timed(|| self.twin(&mut lent)).0);
+        (0..rounds).map(|_| per_call(times, || self.twin(&mut lent))).fold(f64::INFINITY, f64::min)
+    }
+
+    /// The least CPU seconds of the twin and of the library, by turns. Both must
+    /// answer the same and leave the same memory.
+    pub fn both_seconds(&self, rounds: usize) -> (f64, f64) {
+        let (mut ours, mut theirs) = (Lent::new(), Lent::new());
+        let (first, answer) = timed(|| self.twin(&mut ours));
+        assert_eq!(Some(answer), self.library(&mut theirs), "{}: answer", self.name);
+        assert!(ours.words == theirs.words, "{}: words", self.name);
+        assert!(ours.found == theirs.found, "{}: sentence", self.name);
+        let times = repeats(first);
+        let (mut twin, mut library) = (f64::INFINITY, f64::INFINITY);
+        for _ in 0..rounds {
+            twin = twin.min(per_call(times, || self.twin(&mut ours)));
+            library = library.min(per_call(times, || self.library(&mut theirs)));
+        }
+        (twin, library)
+    }
+}
+
+/// How often a call is repeated so that a measurement is no shorter than 20 ms.
+fn repeats(seconds: f64) -> usize {
+    (0.02 / seconds.max(1e-7)).ceil() as usize
+}
+
+/// The CPU seconds of a call, over so many of them.
+pub fn per_call<T>(times: usize, mut call: impl FnMut() -> T) -> f64 {
+    let (seconds, ()) = timed(|| {
+        for _ in 0..times {
+            std::hint::black_box(call());
+        }
+    });
+    seconds / times as f64
+}
+
+/// The answer in a coded result.
+pub fn answer(code: u64) -> String {
+    match code >> 32 {
+        0 => "none".to_string(),
+        1 => "one".to_string(),
+        2 => "two".to_string(),
+        3 => "clear".to_string(),
+        number => format!("refused-{}", number - 100),
+    }
+}
+
+/// T of a sheet, and the largest bound that refusal 24 lets pass.
+pub fn largest_bound(rules: &[u8]) -> Option<(u64, u64)> {
+    let rules = sheets::read_rules(rules).ok()?;
+    let t = u64::from(sweep::terminals(&rules).count_ones());
+    Some((t, (1..=7).rev().find(|&k| sweep::within_limit(t, k))?))
+}
+
+const SHEETS: [(&str, &[u8]); 5] = [
+    ("block", include_bytes!("../sheets/block.rules")),
+    ("block-repaired", include_bytes!("../sheets/block-repaired.rules")),
+    ("yaml", include_bytes!("../sheets/yaml.rules")),
+    ("fsharp", include_bytes!("../sheets/fsharp.rules")),
+    ("haskell", include_bytes!("../sheets/haskell.rules")),
+];
+
+/// The sweeps of the paper's sheets, each up to its largest bound.
+pub fn of_the_paper() -> Vec<Call> {
+    SHEETS
+        .iter()
+        .map(|(name, rules)| {
+            let (_, bound) = largest_bound(rules).expect("the sheet is accepted");
+            let rules = rules.to_vec();
+            Call { name: name.to_string(), rules, input: Input::Bound(bound) }
+        })
+        .collect()
+}
+
+/// The verdict on so many tokens under so many rules of a family.
+pub fn of_a_family(family: &Family, rules: usize, tokens: usize) -> Call {
+    let tokens = families::sentence(tokens, family.terminals);
+    let name = family.name.to_string();
+    Call { name, rules: (family.sheet)(rules), input: Input::Tokens(tokens) }
+}

@@ -1,0 +1,8 @@
+//! Benchmark of the proved library against a plain Rust twin.
+
+pub mod clock;
+pub mod families;
+pub mod library;
+pub mod limits;
+pub mod random;
+pub mod twin;

@@ -1,0 +1,33 @@
+//! Prints the tables of the benchmark: `bench [LETTERS] [SECONDS]`. The letters
+//! choose among the tables a to e; the seconds bound the search of table e.
+
+mod calls;
+mod search;
+mod tables;
+
+/// How long the search of table e may take where no argument says so.
+const SEARCH_SECONDS: f64 = 90.0;
+
+fn main() {
+    let mut letters = "abcde".to_string();
+    let mut seconds = SEARCH_SECONDS;
+    for argument in std::env::args().skip(1) {
+        match argument.parse() {
+            Ok(number) => seconds = number,
+            Err(_) => letters = argument,
+        }
+    }
+    if !bench::library::LINKED {
+        println!("The proved library is not linked: the tables are the twin's alone.\n");
+    }
+    for letter in letters.chars() {
+        match letter {
+            'a' => tables::paper(),
+            'b' => tables::verdicts(),
+            'c' => tables::library(),
+            'd' => tables::growth(),
+            'e' => search::worst(seconds),
+            _ => eprintln!("no table {letter}"),
+        }
+    }
+}

@@ -1,0 +1,76 @@
+//! Grammars in layout-sensitive binary normal form, and tokens with positions.
+
+/// Lines and columns are separate units: one is never compared with the other.
+#[derive(Clone, Copy, Debug, PartialEq, Eq, PartialOrd, Ord)]
+pub struct Line(pub u16);
+
+#[derive(Clone, Copy, Debug, PartialEq, Eq, PartialOrd, Ord)]
+pub struct Column(pub u16);
+
+#[derive(Clone, Copy, Debug, PartialEq, Eq)]
+pub struct Token {
+    pub terminal: u8,
+    pub line: Line,
+    pub column: Column,
+}
+
+#[derive(Clone, Copy, Debug, PartialEq, Eq)]
+pub enum UnaryMark {
+    None,
+    Offside,
+    Offalign,
+    Single,
+}
+
+#[derive(Clone, Copy, Debug, PartialEq, Eq)]
+pub enum BinaryMark {
+    None,
+    Align,
+    Indent,
+}
+
+#[derive(Clone, Copy, Debug, PartialEq, Eq)]
+pub enum Clause {
+    Empty,
+    Atom(u8),
+    Unary(u8, UnaryMark),
+    Binary(u8, u8, BinaryMark),
+}
+
+#[derive(Clone, Copy, Debug, PartialEq, Eq)]
+pub struct Rule {
+    pub left: u8,
+    pub clause: Clause,
+}
+
+impl Token {
+    /// Does this token come after that one?
+    pub fn follows(&self, before: &Token) -> bool {
+        (self.line, self.column) > (before.line, before.column)
+    }
+}
+
+impl Line {
+    /// Is this line exactly one more than that one?
+    pub fn is_next_of(self, before: Line) -> bool {
+        self.0.checked_sub(before.0) == Some(1)
+    }
+}
+
+impl Clause {
+    /// The same kind, first and second, under any mark?
+    pub fn alike(&self, other: &Clause) -> bool {
+        match (self, other) {
+            (Clause::Empty, Clause::Empty) => true,
+            (Clause::Atom(a), Clause::Atom(b)) => a == b,
+            (Clause::Unary(a, _), Clause::Unary(b, _)) => a == b,
+            (Clause::Binary(a, b, _), Clause::Binary(c, d, _)) => (a, b) == (c, d),
+            _ => false,
+        }
+    }
+}
+
+/// Is the number in the set of a word's bits?
+pub fn has(set: u64, member: u8) -> bool {
+    set >> member & 1 == 1
+}

@@ -1,0 +1,274 @@
+//! Rule sheets and token sheets: bytes to rules and tokens, or a refusal.
+
+use super::chart;
+use super::grammar::{has, BinaryMark, Clause, Column, Line, Rule, Token, UnaryMark};
+
+/// A refusal's number and the line in its sheet, counted from 1, or 0.
+#[derive(Clone, Copy, Debug, PartialEq, Eq)]
+pub struct Refusal {
+    pub number: u64,
+    pub line: u64,
+}
+
+impl Refusal {
+    pub fn at(number: u64, line: usize) -> Refusal {
+        let line = line as u64;
+        Refusal { number, line }
+    }
+
+    /// One that no line has.
+    pub fn whole(number: u64) -> Refusal {
+        Refusal { number, line: 0 }
+    }
+}
+
+const MOST_RULES: usize = 128;
+const MOST_TOKENS: usize = 64;
+
+/// The lines, each with its byte 10 where it has one.
+fn lines(sheet: &[u8]) -> impl Iterator<Item = &[u8]> {
+    sheet.split_inclusive(|&byte| byte == b'\n')
+}
+
+/// A line's fields, if there are N of them and the line is ended.
+fn fields<const N: usize>(line: &[u8]) -> Option<[&[u8]; N]> {
+    let mut parts = line.strip_suffix(b"\n")?.split(|&byte| byte == b' ');
+    let mut fields: [&[u8]; N] = [&[]; N];
+    for field in &mut fields {
+        *field = parts.next()?;
+    }
+    parts.next().is_none().then_some(fields)
+}
+
+/// A number of at most so many digits, without a leading zero.
+fn number(field: &[u8], most_digits: usize) -> Option<u32> {
+    let leading_zero = field.len() > 1 && field[0] == b'0';
+    let length_fits = (1..=most_digits).contains(&field.len());
+    if leading_zero || !length_fits || !field.iter().all(u8::is_ascii_digit) {
+        return None;
+    }
+    Some(field.iter().fold(0, |value, digit| 10 * value + u32::from(digit - b'0')))
+}
+
+/// A symbol as written: a number of one or two digits.
+fn symbol(field: &[u8]) -> Option<u8> {
+    number(field, 2).map(|value| value as u8)
+}
+
+fn dash(field: &[u8]) -> Option<()> {
+    (field == b"-").then_some(())
+}
+
+/// The words of `lay`, before anything is known of the kind.
+#[derive(Clone, Copy, PartialEq)]
+enum Lay {
+    None,
+    Align,
+    Indent,
+    Offside,
+    Offalign,
+    Single,
+}
+
+fn lay(field: &[u8]) -> Option<Lay> {
+    match field {
+        b"none" => Some(Lay::None),
+        b"align" => Some(Lay::Align),
+        b"indent" => Some(Lay::Indent),
+        b"offside" => Some(Lay::Offside),
+        b"offalign" => Some(Lay::Offalign),
+        b"single" => Some(Lay::Single),
+        _ => None,
+    }
+}
+
+impl Lay {
+    fn unary(self) -> Option<UnaryMark> {
+        match self {
+            Lay::None => Some(UnaryMark::None),
+            Lay::Offside => Some(UnaryMark::Offside),
+            Lay::Offalign => Some(UnaryMark::Offalign),
+            Lay::Single => Some(UnaryMark::Single),
+            Lay::Align | Lay::Indent => None,
+        }
+    }
+
+    fn binary(self) -> Option<BinaryMark> {
+        match self {
+            Lay::None => Some(BinaryMark::None),
+            Lay::Align => Some(BinaryMark::Align),
+            Lay::Indent => Some(BinaryMark::Indent),
+            Lay::Offside | Lay::Offalign | Lay::Single => None,
+        }
+    }
+}
+
+/// A rule line whose fields are well written.
+struct Written {
+    left: u8,
+    kind: Kind,
+    lay: Lay,
+}
+
+enum Kind {
+    Empty,
+    Atom(u8),
+    Unary(u8),
+    Binary(u8, u8),
+}
+
+/// The line as written, or nothing where refusal 2 is due.
+fn written(line: &[u8]) -> Option<Written> {
+    let [left, kind, first, second, mark] = fields(line)?;
+    let kind = match kind {
+        b"E" => {
+            dash(first)?;
+            dash(second)?;
+            Kind::Empty
+        }
+        b"A" => {
+            dash(second)?;
+            Kind::Atom(symbol(first)?)
+        }
+        b"U" => {
+            dash(second)?;
+            Kind::Unary(symbol(first)?)
+        }
+        b"B" => Kind::Binary(symbol(first)?, symbol(second)?),
+        _ => return None,
+    };
+    Some(Written { left: symbol(left)?, kind, lay: lay(mark)? })
+}
+
+impl Written {
+    /// Is every number at most 63?
+    fn small(&self) -> bool {
+        let rest = match self.kind {
+            Kind::Empty => 0,
+            Kind::Atom(a) | Kind::Unary(a) => a,
+            Kind::Binary(a, b) => a.max(b),
+        };
+        self.left.max(rest) <= 63
+    }
+
+    /// The clause, or nothing where the lay is not one of its kind.
+    fn clause(&self) -> Option<Clause> {
+        match self.kind {
+            Kind::Empty => (self.lay == Lay::None).then_some(Clause::Empty),
+            Kind::Atom(a) => (self.lay == Lay::None).then_some(Clause::Atom(a)),
+            Kind::Unary(a) => Some(Clause::Unary(a, self.lay.unary()?)),
+            Kind::Binary(a, b) => Some(Clause::Binary(a, b, self.lay.binary()?)),
+        }
+    }
+}
+
+/// The rule of a line after the earlier ones, or the refusal's number.
+fn rule(line: &[u8], earlier: &[Rule]) -> Result<Rule, u64> {
+    if earlier.len() == MOST_RULES {
+        return Err(6);
+    }
+    let written = written(line).ok_or(2u64)?;
+    if !written.small() {
+        return Err(3);
+    }
+    let left = written.left;
+    let clause = written.clause().ok_or(4u64)?;
+    if earlier.iter().any(|rule| rule.left == left && rule.clause.alike(&clause)) {
+        return Err(5);
+    }
+    Ok(Rule { left, clause })
+}
+
+/// The rules of a sheet.
+pub fn read_rules(sheet: &[u8]) -> Result<Vec<Rule>, Refusal> {
+    let mut lines = lines(sheet);
+    if lines.next() != Some(b"left kind first second lay\n") {
+        return Err(Refusal::at(1, 1));
+    }
+    let mut rules = Vec::with_capacity(MOST_RULES);
+    for (place, line) in lines.enumerate() {
+        let rule = rule(line, &rules).map_err(|number| Refusal::at(number, place + 2))?;
+        rules.push(rule);
+    }
+    if rules.iter().all(|rule| rule.left != 0) {
+        return Err(Refusal::whole(7));
+    }
+    if cyclic(&rules) {
+        return Err(Refusal::whole(8));
+    }
+    Ok(rules)
+}
+
+/// Does some chain of edges return to where it began?
+fn cyclic(rules: &[Rule]) -> bool {
+    let mut reached = edges(rules);
+    for through in 0..64u8 {
+        let further = reached[usize::from(through)];
+        for ends in &mut reached {
+            if has(*ends, through) {
+                *ends |= further;
+            }
+        }
+    }
+    (0..64u8).any(|start| has(reached[usize::from(start)], start))
+}
+
+/// For each nonterminal the set of those that an edge runs to.
+fn edges(rules: &[Rule]) -> [u64; 64] {
+    let nullable = chart::nullable(rules);
+    let mut edges = [0u64; 64];
+    for rule in rules {
+        let ends = &mut edges[usize::from(rule.left)];
+        match rule.clause {
+            Clause::Empty | Clause::Atom(_) => {}
+            Clause::Unary(b, _) => *ends |= 1 << b,
+            Clause::Binary(b, d, _) => {
+                if has(nullable, d) {
+                    *ends |= 1 << b;
+                }
+                if has(nullable, b) {
+                    *ends |= 1 << d;
+                }
+            }
+        }
+    }
+    edges
+}
+
+/// The token of a line after the earlier ones, or the refusal's number.
+fn token(line: &[u8], earlier: &[Token]) -> Result<Token, u64> {
+    if earlier.len() == MOST_TOKENS {
+        return Err(14);
+    }
+    let (terminal, line, column) = numbers(line).ok_or(12u64)?;
+    let position = 1..=65_535;
+    if terminal > 63 || !position.contains(&line) || !position.contains(&column) {
+        return Err(13);
+    }
+    let token =
+        Token { terminal: terminal as u8, line: Line(line as u16), column: Column(column as u16) };
+    if earlier.last().is_some_and(|before| !token.follows(before)) {
+        return Err(15);
+    }
+    Ok(token)
+}
+
+/// A token line's three numbers, or nothing where refusal 12 is due.
+fn numbers(line: &[u8]) -> Option<(u32, u32, u32)> {
+    let [terminal, line, column] = fields(line)?;
+    Some((number(terminal, 2)?, number(line, 5)?, number(column, 5)?))
+}
+
+/// The tokens of a sheet.
+pub fn read_tokens(sheet: &[u8]) -> Result<Vec<Token>, Refusal> {
+    let mut lines = lines(sheet);
+    if lines.next() != Some(b"term line col\n") {
+        return Err(Refusal::at(11, 1));
+    }
+    let mut tokens = Vec::with_capacity(MOST_TOKENS);
+    for (place, line) in lines.enumerate() {
+        let token = token(line, &tokens).map_err(|number| Refusal::at(number, place + 2))?;
+        tokens.push(token);
+    }
+    Ok(tokens)
+}
