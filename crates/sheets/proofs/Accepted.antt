@@ -9,8 +9,9 @@ use native.Mathlib.Omega.{arith}
 use lib.ListN.{length, take, getD, getElem?, length-append}
 use lib.Seq.{take-suc}
 use lib.Dec.{ltb, eqb}
-use borrow.Author.Tests.{ltb-true, eqb-true}
-use Rattle.sets.proofs.Says.{true-not-false}
+use borrow.Author.Tests.{ltb-true, ltb-false, eqb-true, eqb-false}
+use Rattle.sets.specs.Says.{Says}
+use Rattle.sets.proofs.Says.{holds, fails, says-iff, says-ltb}
 use Rattle.grammar.specs.declared.Rule.{Rule}
 use Rattle.grammar.specs.declared.Token.{Token}
 use Rattle.grammar.specs.Layout.{Word, Every, line, col, last}
@@ -148,13 +149,18 @@ rules-kept ps w =
 
 -- 2. tokens
 
-after-says : (a b : Token) → after a b ≡ true → After a b
-after-says a b e = go (ltb (line a) (line b)) refl (eqb (line a) (line b)) refl e
+-- the test says the relation
+pub after-says : (a b : Token) → Says (after a b) (After a b)
+after-says a b = go (ltb (line a) (line b)) refl (eqb (line a) (line b)) refl
   where
-    go : (x : Bool) → ltb (line a) (line b) ≡ x → (y : Bool) → eqb (line a) (line b) ≡ y → x || (y && ltb (col a) (col b)) ≡ true → After a b
-    go true h y k e = inl (ltb-true (line a) (line b) h)
-    go false h true k e = inr (eqb-true (line a) (line b) k, ltb-true (col a) (col b) e)
-    go false h false k e = absurd (true-not-false (sym e))
+    go : (x : Bool) → ltb (line a) (line b) ≡ x → (y : Bool) → eqb (line a) (line b) ≡ y → Says (x || (y && ltb (col a) (col b))) (After a b)
+    go true h y k = holds (inl (ltb-true (line a) (line b) h))
+    go false h true k =
+        let l = ltb-false (line a) (line b) h in
+        says-iff (λ c. inr (eqb-true (line a) (line b) k, c)) (⊎-elim (λ c. absurd (omega arith)) (λ c. c .1)) (says-ltb (col a) (col b))
+    go false h false k =
+        let l = ltb-false (line a) (line b) h in
+        fails (⊎-elim (λ c. omega arith) (λ c. eqb-false (line a) (line b) k (c .0)))
 
 rising-from : (a : Token) (w : Word) (t : Token) → RisingFrom a w → After (last a w) t → RisingFrom a (w ++ t ∷ [])
 rising-from a [] t r h = (h, tt)
@@ -162,7 +168,7 @@ rising-from a (b ∷ w) t r h = (r .0, rising-from b w t (r .1) h)
 
 rising-snoc : (w : Word) (t : Token) → Rising w → follows w t ≡ true → Rising (w ++ t ∷ [])
 rising-snoc [] t r e = tt
-rising-snoc (a ∷ w) t r e = rising-from a w t r (after-says (last a w) t e)
+rising-snoc (a ∷ w) t r e = rising-from a w t r (after-says (last a w) t .is e)
 
 order-rises : (seen : Word) (u t : Token) → Rising seen → orderStep seen u ≡ next t → Rising (seen ++ t ∷ [])
 order-rises seen u t r e = go (follows seen u) refl e

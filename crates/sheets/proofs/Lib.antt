@@ -4,3 +4,4 @@ pub mod Loop
 pub mod Accepted
 pub mod Walks
 pub mod Handed
+pub mod Samples

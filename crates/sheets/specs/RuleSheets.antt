@@ -20,9 +20,11 @@ use Rattle.sheets.specs.Items.{Reading, accepted, refused, Step, next, s
 abbrev pub hasKey : Key → Rule → Bool
 hasKey k r = sameKey (keyOf r) k
 
+-- nonterminal 0 is the start
 abbrev pub isStart : Rule → Bool
 isStart r = eqb (r .left) 0
 
+-- some member passes the test
 abbrev pub anyOf : {A : Type 0} → (A → Bool) → List A → Bool
 anyOf p [] = false
 anyOf p (x ∷ xs) = p x || anyOf p xs

@@ -1,0 +1,63 @@
+-- The definitions at sheets that are written out: they compute.
+use mathlib.Core.Path.{_≡_, refl}
+use mathlib.Core.List.{List, [], _∷_, _++_}
+use Prim.Native.Nat.{ℕ}
+use Rattle.sheets.specs.declared.Fault.the-variants as Fault
+use Rattle.sheets.specs.Items.{accepted, refused}
+use Rattle.sheets.specs.RuleSheets.{ruleNames, ruleSheet}
+use Rattle.sheets.specs.TokenSheets.{tokenNames, tokenSheet}
+
+-- a sheet of no bytes has an empty line 1
+no-rules : ruleSheet [] ≡ refused Fault.RuleNames 1
+no-rules = refl
+
+no-tokens : tokenSheet [] ≡ refused Fault.TokenNames 1
+no-tokens = refl
+
+-- the names alone
+names-alone : ruleSheet (ruleNames ++ 10 ∷ []) ≡ refused Fault.NoStart 0
+names-alone = refl
+
+-- 2 comes before 3: a number stands where `-` belongs: 0 E 64 - none
+shape : ruleSheet (ruleNames ++ 10 ∷ 48 ∷ 32 ∷ 69 ∷ 32 ∷ 54 ∷ 52 ∷ 32 ∷ 45 ∷ 32 ∷ 110 ∷ 111 ∷ 110 ∷ 101 ∷ 10 ∷ []) ≡ refused Fault.RuleForm 2
+shape = refl
+
+-- 3 comes before 4: 64 E - - align
+range : ruleSheet (ruleNames ++ 10 ∷ 54 ∷ 52 ∷ 32 ∷ 69 ∷ 32 ∷ 45 ∷ 32 ∷ 45 ∷ 32 ∷ 97 ∷ 108 ∷ 105 ∷ 103 ∷ 110 ∷ 10 ∷ []) ≡ refused Fault.RuleRange 2
+range = refl
+
+-- lay not allowed for the kind: 0 E - - align
+lay : ruleSheet (ruleNames ++ 10 ∷ 48 ∷ 32 ∷ 69 ∷ 32 ∷ 45 ∷ 32 ∷ 45 ∷ 32 ∷ 97 ∷ 108 ∷ 105 ∷ 103 ∷ 110 ∷ 10 ∷ []) ≡ refused Fault.RuleLay 2
+lay = refl
+
+-- the same rule under another lay: 0 U 1 - none; 0 U 1 - single
+twice : ruleSheet (ruleNames ++ 10 ∷ 48 ∷ 32 ∷ 85 ∷ 32 ∷ 49 ∷ 32 ∷ 45 ∷ 32 ∷ 110 ∷ 111 ∷ 110 ∷ 101 ∷ 10 ∷ 48 ∷ 32 ∷ 85 ∷ 32 ∷ 49 ∷ 32 ∷ 45 ∷ 32 ∷ 115 ∷ 105 ∷ 110 ∷ 103 ∷ 108 ∷ 101 ∷ 10 ∷ []) ≡ refused Fault.RuleTwice 3
+twice = refl
+
+-- two blanks: an empty field: 0 E -  - none
+parted : ruleSheet (ruleNames ++ 10 ∷ 48 ∷ 32 ∷ 69 ∷ 32 ∷ 45 ∷ 32 ∷ 32 ∷ 45 ∷ 32 ∷ 110 ∷ 111 ∷ 110 ∷ 101 ∷ 10 ∷ []) ≡ refused Fault.RuleForm 2
+parted = refl
+
+-- the names alone: no tokens
+empty : tokenSheet (tokenNames ++ 10 ∷ []) ≡ accepted []
+empty = refl
+
+-- 0 1 1
+one : tokenSheet (tokenNames ++ 10 ∷ 48 ∷ 32 ∷ 49 ∷ 32 ∷ 49 ∷ 10 ∷ []) ≡ accepted (record { terminal = 0; line = record { 0 = 1 }; column = record { 0 = 1 } } ∷ [])
+one = refl
+
+-- 0 1 1, not ended
+open-line : tokenSheet (tokenNames ++ 10 ∷ 48 ∷ 32 ∷ 49 ∷ 32 ∷ 49 ∷ []) ≡ refused Fault.TokenForm 2
+open-line = refl
+
+-- one byte 10 too many
+ten-too-many : tokenSheet (tokenNames ++ 10 ∷ 48 ∷ 32 ∷ 49 ∷ 32 ∷ 49 ∷ 10 ∷ 10 ∷ []) ≡ refused Fault.TokenForm 3
+ten-too-many = refl
+
+-- 0 0 1
+low : tokenSheet (tokenNames ++ 10 ∷ 48 ∷ 32 ∷ 48 ∷ 32 ∷ 49 ∷ 10 ∷ []) ≡ refused Fault.TokenRange 2
+low = refl
+
+-- 0 1 2; 0 1 2
+order : tokenSheet (tokenNames ++ 10 ∷ 48 ∷ 32 ∷ 49 ∷ 32 ∷ 50 ∷ 10 ∷ 48 ∷ 32 ∷ 49 ∷ 32 ∷ 50 ∷ 10 ∷ []) ≡ refused Fault.TokenOrder 3
+order = refl
