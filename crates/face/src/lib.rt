@@ -1,0 +1,118 @@
+// The calls for C and Rust: numbers and slices alone.
+use grammar::Sentence;
+use grammar::Token;
+use sheets::fault_number;
+use teplonga::Answer;
+use teplonga::sweep;
+use teplonga::verdict;
+ghost use mathlib.Core.Path.{_≡_};
+ghost use mathlib.Core.List.{[], _∷_};
+ghost use Prim.Native.Nat.{_+_, _≤_, _<_};
+ghost use lib.ListN.{length, take};
+ghost use Rattle.grammar.specs.Layout.{line as lineOf, col};
+ghost use Rattle.printing.specs.Printing.{Wrote};
+ghost use Rattle.face.specs.Face.{codeOf, packed, VerdictWord, tokenWords, sentenceWords, Found, SweepWord};
+
+// The code of an answer.
+fn code(a: Answer) -> u64
+    ensures { λ r. ⌜ r ≡ codeOf a ⌝ }
+    ensures { λ r. ⌜ r < 200 ⌝ }
+{
+    match a {
+        Answer::None => 0,
+        Answer::One => 1,
+        Answer::Two => 2,
+        Answer::Clear => 3,
+        Answer::Refused(f) => 100 + fault_number(f),
+    }
+}
+
+// An answer and its line as one number.
+fn pack(a: Answer, line: usize) -> u64
+    ensures { λ r. ⌜ r ≡ packed a line ⌝ }
+{
+    let high = code(a) * 4294967296;
+    if line < 4294967295 {
+        return high + line as u64;
+    }
+    high + 4294967295
+}
+
+// One word at a place; the place after it.
+fn put_word(found: &mut [u64], at: usize, v: u64) -> usize
+    requires { ⌜ at < length (now found) ⌝ }
+    ensures { λ r. ⌜ Wrote (now (found .entry)) (now (found .exit)) at (v ∷ []) r ⌝ }
+{
+    found[at] = v;
+    at + 1
+}
+
+// A token's terminal, line and column.
+fn put_token(found: &mut [u64], at: usize, t: Token) -> usize
+    requires { ⌜ at + 3 ≤ length (now found) ⌝ }
+    ensures { λ r. ⌜ Wrote (now (found .entry)) (now (found .exit)) at (t .terminal ∷ lineOf t ∷ col t ∷ []) r ⌝ }
+{
+    let a = put_word(found, at, t.terminal as u64);
+    let b = put_word(found, a, t.line.0 as u64);
+    put_word(found, b, t.column.0 as u64)
+}
+
+// The places of a sentence's first seven tokens.
+fn put_tokens(found: &mut [u64], at: usize, s: Sentence) -> usize
+    requires { ⌜ at + 21 ≤ length (now found) ⌝ }
+    ensures { λ r. ⌜ Wrote (now (found .entry)) (now (found .exit)) at (tokenWords (take 7 (s .tokens))) r ⌝ }
+{
+    let mut i = 0;
+    let mut next = at;
+    while i < 7 {
+        let t = s.tokens[i];
+        next = put_token(found, next, t);
+        i += 1;
+    }
+    next
+}
+
+// A sentence's length and the places of its first seven tokens.
+fn put_sentence(found: &mut [u64], s: Sentence) -> usize
+    requires { ⌜ 22 ≤ length (now found) ⌝ }
+    ensures { λ r. ⌜ Wrote (now (found .entry)) (now (found .exit)) 0 (sentenceWords s) r ⌝ }
+{
+    let next = put_word(found, 0, s.count as u64);
+    put_tokens(found, next, s)
+}
+
+// The sentence, where the lent words are enough for it.
+fn put_found(found: &mut [u64], s: Sentence)
+    ensures { λ r. ⌜ Found s (now (found .entry)) (now (found .exit)) ⌝ }
+{
+    if 22 <= found.len() {
+        put_sentence(found, s);
+    }
+}
+
+// The verdict: its code times 2^32 plus the line's number. The words get the span sheet.
+#[no_mangle]
+pub extern "C" fn teplonga_verdict(rules: &[u8], tokens: &[u8], words: &mut [u64]) -> u64
+    ensures { λ r. ⌜ VerdictWord (now (rules .entry)) (now (tokens .entry)) (now (words .entry)) (now (words .exit)) r ⌝ }
+{
+    let p = verdict(rules, tokens, words);
+    let a = p.answer;
+    pack(a, p.line)
+}
+
+// The sweep: its code times 2^32 plus the line's number. `found` gets the answer's sentence.
+#[no_mangle]
+pub extern "C" fn teplonga_sweep(
+    rules: &[u8],
+    bound: usize,
+    words: &mut [u64],
+    found: &mut [u64],
+) -> u64
+    ensures { λ r. ⌜ SweepWord (now (rules .entry)) bound (now (words .entry)) (now (words .exit)) (now (found .entry)) (now (found .exit)) r ⌝ }
+{
+    let p = sweep(rules, bound, words);
+    let a = p.answer;
+    let s = p.sentence;
+    put_found(found, s);
+    pack(a, p.line)
+}
