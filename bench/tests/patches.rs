@@ -1,5 +1,6 @@
-//! P1 to P9 of the specification, on the twin.
+//! P1 to P9 of the specification, on the twin and, where it is linked, on the library.
 
+use bench::library::{self, FOUND};
 use bench::random::{rule_sheet, token_sheet};
 use bench::twin::{self, Verdict};
 
@@ -14,15 +15,26 @@ fn sheet(rules: &[&str]) -> Vec<u8> {
 fn verdict(rules: &[&str], positions: Positions) -> Verdict {
     let lines: Vec<String> =
         positions.iter().map(|(line, column)| format!("0 {line} {column}")).collect();
+    let (rules, tokens) = (sheet(rules), token_sheet(&lines));
     let mut words = [0; 60];
-    twin::verdict(&sheet(rules), &token_sheet(&lines), &mut words).expect("accepted")
+    let answer = twin::verdict(&rules, &tokens, &mut words);
+    if let Some(code) = library::verdict(&rules, &tokens, &mut [0; 60]) {
+        assert_eq!(code, twin::verdict_code(&answer));
+    }
+    answer.expect("accepted")
 }
 
 /// The positions of the first candidate with two trees.
 fn sweep(rules: &[&str], bound: u64) -> Option<Vec<(u16, u16)>> {
+    let rules = sheet(rules);
     let mut words = [0; 60];
-    let swept = twin::sweep(&sheet(rules), bound, &mut words).expect("accepted");
-    let tokens = swept.found?;
+    let answer = twin::sweep(&rules, bound, &mut words);
+    let mut found = [0; FOUND];
+    if let Some(code) = library::sweep(&rules, bound, &mut [0; 60], &mut found) {
+        assert_eq!(code, twin::sweep_code(&answer));
+        assert_eq!(found, twin::found_places(answer.as_ref().expect("accepted")));
+    }
+    let tokens = answer.expect("accepted").found?;
     Some(tokens.iter().map(|token| (token.line.0, token.column.0)).collect())
 }
 

@@ -1,0 +1,46 @@
+// Cases of the test programs on standard input: a header of 6 bytes (five digits: the input's length; byte 10), then the input.
+ghost use Prim.Native.Nat.{_+_, _≤_};
+ghost use lib.ListN.{length};
+
+fn digit(b: u8) -> usize
+    ensures { λ r. ⌜ r ≤ 9 ⌝ }
+{
+    if b < 48 {
+        return 0;
+    }
+    if 57 < b {
+        return 0;
+    }
+    let d = b - 48;
+    d as usize
+}
+
+// The number of five digits.
+fn five(s: &[u8]) -> usize
+    requires { ⌜ 6 ≤ length (now s) ⌝ }
+    ensures { λ r. ⌜ r ≤ 99999 ⌝ }
+{
+    let a = digit(s[0]);
+    let b = digit(s[1]);
+    let c = digit(s[2]);
+    let d = digit(s[3]);
+    let e = digit(s[4]);
+    a * 10000 + b * 1000 + c * 100 + d * 10 + e
+}
+
+// The next case's input is put in front; its length, or 100,000 where there is no more case, or no room for it.
+pub fn next_case(space: &mut [u8]) -> usize
+    ensures { λ r. ⌜ r ≤ 100000 ⌝ }
+{
+    let mut head = [0u8; 6];
+    let got = io::read_full(0, &mut head);
+    if got < 6 {
+        return 100000;
+    }
+    let n = five(&head);
+    if space.len() < n {
+        return 100000;
+    }
+    io::read_full(0, &mut space[..n]);
+    n
+}

@@ -1,0 +1,58 @@
+-- The rows that a call for trees answers stand in the lent memories.
+use mathlib.Core.Path.{_≡_, ap}
+use mathlib.Core.List.{List}
+use Prim.Native.Nat.{ℕ, _≤_}
+use native.Mathlib.Omega.{arith}
+use lib.ListN.{length}
+use Rattle.grammar.specs.Layout.{Word}
+use Rattle.grammar.specs.Trees.{Rules}
+use Rattle.teplonga.specs.declared.TreesReply.{TreesReply}
+use Rattle.grammar.specs.declared.Cell.{Cell}
+use Rattle.grammar.specs.Candidates.{sentence}
+use Rattle.grammar.proofs.SweepLaws.{sentence-length}
+use Rattle.teplonga.specs.declared.SweepReply.{SweepReply}
+use Rattle.teplonga.specs.Sweep as Sweep
+use Rattle.derivation.specs.Written.{places}
+use Rattle.teplonga.specs.Trees.{Shown, treeless, single, both, large-one, large-two, TreesOn, short, showing, TreesOf, refusing, reading}
+
+-- each count is at most the memory's places
+pub record Fits (one two : List ℕ) (r : TreesReply) : Type 0 where
+  pub first : r .first ≤ places one
+  pub second : r .second ≤ places two
+
+counted : {one two : List ℕ} {r s : TreesReply} → r ≡ s → Fits one two s → Fits one two r
+counted e f =
+    record {
+      first = omega (arith, f .first, ap (λ (x : TreesReply). x .first) e);
+      second = omega (arith, f .second, ap (λ (x : TreesReply). x .second) e);
+    }
+
+shown-fits : {g : Rules} {w : Word} {one one′ two two′ : List ℕ} {r : TreesReply} → Shown g w one one′ two two′ r → Fits one two r
+shown-fits (treeless p x h i) = counted x (record { first = omega arith; second = omega arith })
+shown-fits (single p t l x h i) = counted x (record { first = l; second = omega arith })
+shown-fits (both p t u l m x h i) = counted x (record { first = l; second = m })
+shown-fits (large-one p t l n x h i) = counted x (record { first = omega arith; second = omega arith })
+shown-fits (large-two p t u l n x h i) = counted x (record { first = omega arith; second = omega arith })
+
+on-fits : {g : Rules} {w : Word} {words words′ one one′ two two′ : List ℕ} {r : TreesReply} → TreesOn g w words words′ one one′ two two′ r → Fits one two r
+on-fits (short l n x h i j) = counted x (record { first = omega arith; second = omega arith })
+on-fits (showing f s) = shown-fits s
+
+pub trees-fit : {rules tokens words words′ one one′ two two′ : List ℕ} {r : TreesReply} → TreesOf rules tokens words words′ one one′ two two′ r → Fits one two r
+trees-fit (refusing e x h i j) = counted x (record { first = omega arith; second = omega arith })
+trees-fit (reading e s) = on-fits s
+
+-- a found sentence has at most 7 tokens
+none-few : {r s : SweepReply} → r ≡ s → s .sentence .count ≤ 7 → r .sentence .count ≤ 7
+none-few e h = omega (arith, ap (λ (x : SweepReply). x .sentence .count) e)
+
+on-few : {g : Rules} {k : ℕ} {words words′ : List ℕ} {r : SweepReply} → Sweep.SweepOn g k words words′ r → r .sentence .count ≤ 7
+on-few (Sweep.bound l n x h) = none-few x (omega arith)
+on-few (Sweep.many l u m n x h) = none-few x (omega arith)
+on-few (Sweep.short l u m o n x h) = none-few x (omega arith)
+on-few (Sweep.clear t c x h) = none-few x (omega arith)
+on-few (Sweep.two {cs = cs} t f c x h) = none-few x (omega (arith, sentence-length 1 cs, f .high, t .high))
+
+pub sweep-few : {rules : List ℕ} {k : ℕ} {words words′ : List ℕ} {r : SweepReply} → Sweep.SweepOf rules k words words′ r → r .sentence .count ≤ 7
+sweep-few (Sweep.refusing e x h) = none-few x (omega arith)
+sweep-few (Sweep.reading e s) = on-few s

@@ -1,0 +1,34 @@
+-- `text::put_refused` meets its contract: eight bytes, then a number of at most two digits.
+use native.Mathlib.Omega.{arith}
+use Rattle.printing.proofs.Writing.{wrote-then}
+use Rattle.printing.proofs.Decimals.{decimal-length}
+use borrow.Author.Needs.{needs}
+use Rattle.text.proofs.put_refused.Statement.{statement}
+use Rattle.text.proofs.put_refused.Tie as tie
+
+slice-aggregate-put-bytes : tie.Need-slice-aggregate-put-bytes
+slice-aggregate-put-bytes c = search needs
+
+put-bytes-requires : tie.Need-put-bytes-requires
+put-bytes-requires c κs = search needs
+
+put-number-requires : tie.Need-put-number-requires
+put-number-requires c κs =
+    let b = c .before .before .before in
+    let s = b .before .before .before .before in
+    omega (arith, b .put-bytes .ensures .next, b .put-bytes .ensures .long, decimal-length 2 (s .args .n) (omega arith) (search needs), s .pre)
+
+same-length : tie.Need-same-length
+same-length c = search needs
+
+returns : tie.Need-returns
+returns c =
+    let n = c .before .before in
+    let b = n .before .before .before .before in
+    let v = b .before .before .before .before .args .n in
+    (wrote-then (b .put-bytes .ensures) (n .put-number .ensures), omega (arith, b .put-bytes .ensures .next, n .put-number .ensures .next, decimal-length 2 v (omega arith) (search needs)))
+
+pub put-refused-spec : {M : Type 1} → statement M
+put-refused-spec =
+    tie.close
+    (tie.spec slice-aggregate-put-bytes put-bytes-requires put-number-requires same-length returns)

@@ -1,0 +1,77 @@
+-- `text::put_trees` meets its contract: in each arm the answer is known.
+use mathlib.Core.List.{append-assoc}
+use Rattle.printing.proofs.Writing.{wrote-none, wrote-then}
+use Rattle.text.specs.Output.{treeNames}
+use borrow.Author.Needs.{needs}
+use Rattle.text.proofs.put_trees.Statement.{statement}
+use Rattle.text.proofs.put_trees.Tie as tie
+
+enum-told : tie.Need-enum-told
+enum-told c = search needs
+
+enum-told-2 : tie.Need-enum-told-2
+enum-told-2 c = search needs
+
+put-first-requires : tie.Need-put-first-requires
+put-first-requires c κs = search needs
+
+enum-told-3 : tie.Need-enum-told-3
+enum-told-3 c = search needs
+
+put-first-requires-2 : tie.Need-put-first-requires-2
+put-first-requires-2 c κs = search needs
+
+put-rows-requires : tie.Need-put-rows-requires
+put-rows-requires c κs = search needs
+
+enum-told-4 : tie.Need-enum-told-4
+enum-told-4 c = search needs
+
+enum-told-5 : tie.Need-enum-told-5
+enum-told-5 c = search needs
+
+returns : tie.Need-returns
+returns c = rw (c .enum-told .given .1) (wrote-none _ _)
+
+same-length : tie.Need-same-length
+same-length c = search needs
+
+returns-2 : tie.Need-returns-2
+returns-2 c =
+    let z = c .before .before in
+    rw (z .before .before .enum-told2 .given .1) (z .put-first .ensures .0)
+
+same-length-2 : tie.Need-same-length-2
+same-length-2 c = search needs
+
+returns-3 : tie.Need-returns-3
+returns-3 c =
+    let r = c .before .before in
+    let f = r .before .before .before .before in
+    rw (f .before .before .enum-told3 .given .1, ← append-assoc treeNames) (wrote-then (f .put-first2 .ensures .0) (r .put-rows .ensures .0))
+
+returns-4 : tie.Need-returns-4
+returns-4 c = rw (c .enum-told4 .given .1) (wrote-none _ _)
+
+returns-5 : tie.Need-returns-5
+returns-5 c = rw (c .enum-told5 .given .1) (wrote-none _ _)
+
+pub put-trees-spec : {M : Type 1} → statement M
+put-trees-spec =
+    tie.close
+    (tie.spec
+    enum-told
+    enum-told-2
+    put-first-requires
+    enum-told-3
+    put-first-requires-2
+    put-rows-requires
+    enum-told-4
+    enum-told-5
+    returns
+    same-length
+    returns-2
+    same-length-2
+    returns-3
+    returns-4
+    returns-5)

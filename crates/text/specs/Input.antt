@@ -1,0 +1,38 @@
+-- The programs' input: 01, "The programs".
+use mathlib.Core.Bool.{Bool, true, false, cond, _&&_}
+use mathlib.Core.List.{List, [], _∷_}
+use mathlib.Core.Option.{Option, none, some}
+use Prim.Native.Nat.{ℕ, _-_}
+use lib.Dec.{eqb, leb}
+use lib.ListN.{length, getD, take, drop}
+use Rattle.fields.specs.Pieces.{sameBytes}
+use Rattle.fields.specs.Words.{numeralOf}
+
+-- what stands before and behind the first empty line: a byte 10 at the very start or right after a byte 10
+pub record Parts : Type 0 where
+  pub before : List ℕ
+  pub behind : List ℕ
+
+abbrev pub onto : ℕ → Option Parts → Option Parts
+onto x (some p) = some (record { before = x ∷ p .before; behind = p .behind })
+onto x none = none
+
+-- `begins` says that a line begins here
+abbrev pub partsFrom : Bool → List ℕ → Option Parts
+partsFrom begins [] = none
+partsFrom begins (x ∷ s) = cond (begins && eqb x 10) (some (record { before = []; behind = s })) (onto x (partsFrom (eqb x 10) s))
+
+-- the first empty line parts the input
+abbrev pub parts : List ℕ → Option Parts
+parts s = partsFrom true s
+
+-- the line `bound`
+abbrev pub boundLine : List ℕ
+boundLine = 98 ∷ 111 ∷ 117 ∷ 110 ∷ 100 ∷ 10 ∷ []
+
+-- the bound k: the line `bound`, a line with k in one or two digits without a leading zero, and no more
+abbrev pub boundOf : List ℕ → Option ℕ
+boundOf s =
+    cond (leb 7 (length s) && (sameBytes (take 6 s) boundLine && eqb (getD s (length s - 1) 0) 10))
+    (numeralOf 2 (take (length s - 7) (drop 6 s)))
+    none

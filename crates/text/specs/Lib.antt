@@ -1,0 +1,5 @@
+pub mod Input
+pub mod Output
+pub mod Parting
+pub mod Programs
+pub mod Printed

@@ -1,0 +1,43 @@
+-- The whole output of the two programs for an input: 01, "The programs".
+use mathlib.Core.Path.{_≡_}
+use mathlib.Core.List.{List, _++_}
+use mathlib.Core.Option.{none, some}
+use Prim.Native.Nat.{ℕ, _*_, _≤_, _<_}
+use lib.ListN.{length, take}
+use Rattle.teplonga.specs.declared.TreesReply.{TreesReply}
+use Rattle.teplonga.specs.Trees.{TreesOf}
+use Rattle.teplonga.specs.declared.SweepReply.{SweepReply}
+use Rattle.teplonga.specs.Sweep.{SweepOf}
+use Rattle.grammar.specs.Content.{spelled}
+use Rattle.text.specs.Input.{Parts, parts, boundOf}
+use Rattle.text.specs.Output.{refusedText, answerText, head, treesText, sentenceText}
+
+-- the longest input that is read
+abbrev pub longest : ℕ
+longest = 16384
+
+-- what `check` lends: words enough for 64 tokens, and 4,096 rows a tree
+pub record Lent (words one two : List ℕ) : Type 0 where
+  pub enough : length words ≡ 4162
+  pub first : length one ≡ 4 * 4096
+  pub second : length two ≡ 4 * 4096
+
+-- the output of `check`: refused-31 for a longer input, refused-32 for one without an empty line, else the answer on the two sheets and its trees
+pub data CheckOf (input text : List ℕ) : Type 0 where
+  long : longest < length input → text ≡ head (refusedText 31) 0 → CheckOf input text
+  whole : length input ≤ longest → parts input ≡ none → text ≡ head (refusedText 32) 0 → CheckOf input text
+  answered : {p : Parts} {words words′ one one′ two two′ : List ℕ} {r : TreesReply} → length input ≤ longest → parts input ≡ some p
+      → Lent words one two → TreesOf (p .before) (p .behind) words words′ one one′ two two′ r
+      → text ≡ head (answerText (r .answer)) (r .line) ++ treesText (r .answer) (take (4 * r .first) one′) (take (4 * r .second) two′)
+      → CheckOf input text
+
+-- the output of `sweep`: refused-31 for a longer input, refused-32 for one without an empty line or with a bound not so written,
+-- else the answer on the rule sheet and the found sentence; it lends words enough for 7 tokens
+pub data SweepTextOf (input text : List ℕ) : Type 0 where
+  long : longest < length input → text ≡ head (refusedText 31) 0 → SweepTextOf input text
+  whole : length input ≤ longest → parts input ≡ none → text ≡ head (refusedText 32) 0 → SweepTextOf input text
+  unbound : {p : Parts} → length input ≤ longest → parts input ≡ some p → boundOf (p .before) ≡ none → text ≡ head (refusedText 32) 0 → SweepTextOf input text
+  answered : {p : Parts} {k : ℕ} {words words′ : List ℕ} {r : SweepReply} → length input ≤ longest → parts input ≡ some p → boundOf (p .before) ≡ some k
+      → length words ≡ 58 → SweepOf (p .behind) k words words′ r
+      → text ≡ head (answerText (r .answer)) (r .line) ++ sentenceText (r .answer) (spelled (r .sentence))
+      → SweepTextOf input text

@@ -1,0 +1,266 @@
+// The programs' input and output as bytes.
+use fields::Number;
+use fields::numeral;
+use fields::same;
+use grammar::Sentence;
+use printing::put_byte;
+use printing::put_bytes;
+use printing::put_number;
+use printing::put_rows;
+use printing::put_tokens;
+use sheets::fault_number;
+use teplonga::Answer;
+use teplonga::sweep;
+use teplonga::trees;
+ghost use mathlib.Core.Path.{_≡_};
+ghost use mathlib.Core.List.{_∷_, _++_};
+ghost use Prim.Native.Nat.{_+_, _*_, _≤_, _<_};
+ghost use lib.ListN.{length, take, drop};
+ghost use Rattle.grammar.specs.Content.{spelled};
+ghost use Rattle.printing.specs.Printing.{Wrote, lastField, rowLines, tokenLines};
+ghost use Rattle.sheets.specs.Refusals.{numberOf};
+ghost use Rattle.text.specs.Output.{refusedText, answerText, head, treeNames, tokenNames, treesText, sentenceText};
+ghost use Rattle.fields.specs.Answers.{asNumber};
+ghost use Rattle.text.specs.Input.{boundOf};
+ghost use Rattle.text.specs.Parting.{Parted};
+ghost use Rattle.text.specs.Programs.{CheckOf, SweepTextOf};
+ghost use Rattle.text.specs.Printed.{Printed, Answered, Swept, SweptAt};
+
+// A place in the input, or none.
+pub enum Place {
+    At(usize),
+    Nowhere,
+}
+
+// The place of the first empty line.
+pub fn parting(s: &[u8]) -> Place
+    ensures { λ r. ⌜ Parted (now (s .entry)) r ⌝ }
+{
+    let mut begins = true;
+    let mut i = 0;
+    while i < s.len() {
+        let b = s[i];
+        if b == 10 {
+            if begins {
+                return Place::At(i);
+            }
+            begins = true;
+            i += 1;
+            continue;
+        }
+        begins = false;
+        i += 1;
+    }
+    Place::Nowhere
+}
+
+// `refused-` and a number of at most two digits.
+fn put_refused(out: &mut [u8], at: usize, n: u64) -> usize
+    requires { ⌜ n < 100 ⌝ }
+    requires { ⌜ at + 16 ≤ length (now out) ⌝ }
+    ensures { λ r. ⌜ Wrote (now (out .entry)) (now (out .exit)) at (refusedText n) r ⌝ }
+    ensures { λ r. ⌜ r ≤ at + 10 ⌝ }
+{
+    let next = put_bytes(out, at, b"refused-");
+    put_number(out, next, n)
+}
+
+// The word of an answer.
+fn put_answer(out: &mut [u8], at: usize, a: Answer) -> usize
+    requires { ⌜ at + 16 ≤ length (now out) ⌝ }
+    ensures { λ r. ⌜ Wrote (now (out .entry)) (now (out .exit)) at (answerText a) r ⌝ }
+    ensures { λ r. ⌜ r ≤ at + 10 ⌝ }
+{
+    match a {
+        Answer::None => put_bytes(out, at, b"none"),
+        Answer::One => put_bytes(out, at, b"one"),
+        Answer::Two => put_bytes(out, at, b"two"),
+        Answer::Clear => put_bytes(out, at, b"clear"),
+        Answer::Refused(f) => put_refused(out, at, fault_number(f)),
+    }
+}
+
+// A blank, the line's number and the byte 10.
+fn put_line(out: &mut [u8], at: usize, line: usize) -> usize
+    requires { ⌜ at + 22 ≤ length (now out) ⌝ }
+    ensures { λ r. ⌜ Wrote (now (out .entry)) (now (out .exit)) at (32 ∷ lastField line) r ⌝ }
+    ensures { λ r. ⌜ r ≤ at + 22 ⌝ }
+{
+    let a = put_byte(out, at, 32);
+    let b = put_number(out, a, line as u64);
+    put_byte(out, b, 10)
+}
+
+// The first two lines of the output.
+fn put_head(out: &mut [u8], a: Answer, line: usize) -> usize
+    requires { ⌜ 50 ≤ length (now out) ⌝ }
+    ensures { λ r. ⌜ Wrote (now (out .entry)) (now (out .exit)) 0 (head (answerText a) line) r ⌝ }
+    ensures { λ r. ⌜ r ≤ 50 ⌝ }
+{
+    let n = put_bytes(out, 0, b"answer line\n");
+    let m = put_answer(out, n, a);
+    put_line(out, m, line)
+}
+
+// The whole output of an input that is refused before its sheets are read.
+fn put_refusal(out: &mut [u8], number: u64) -> usize
+    requires { ⌜ number < 100 ⌝ }
+    requires { ⌜ 50 ≤ length (now out) ⌝ }
+    ensures { λ r. ⌜ Wrote (now (out .entry)) (now (out .exit)) 0 (head (refusedText number) 0) r ⌝ }
+{
+    let n = put_bytes(out, 0, b"answer line\n");
+    let m = put_refused(out, n, number);
+    put_line(out, m, 0)
+}
+
+// The tree lines' names and the lines of the first tree.
+fn put_first(out: &mut [u8], at: usize, one: &[u8], m: usize) -> usize
+    requires { ⌜ 4 * m ≤ length (now one) ⌝ }
+    requires { ⌜ at + 28 + 26 * m ≤ length (now out) ⌝ }
+    ensures { λ r. ⌜ Wrote (now (out .entry)) (now (out .exit)) at (treeNames ++ rowLines 1 (take (4 * m) (now (one .entry)))) r ⌝ }
+    ensures { λ r. ⌜ r ≤ at + 28 + 26 * m ⌝ }
+{
+    let next = put_bytes(out, at, b"tree left kind start length\n");
+    put_rows(out, next, 1, one, m)
+}
+
+// The tree lines and their names, where the answer has trees: the first m rows of one memory and the first n of the other.
+fn put_trees(
+    out: &mut [u8],
+    at: usize,
+    a: Answer,
+    one: &[u8],
+    m: usize,
+    two: &[u8],
+    n: usize,
+) -> usize
+    requires { ⌜ (4 * m ≤ length (now one)) × (4 * n ≤ length (now two)) ⌝ }
+    requires { ⌜ at + 28 + 26 * m + 26 * n ≤ length (now out) ⌝ }
+    ensures { λ r. ⌜ Wrote (now (out .entry)) (now (out .exit)) at (treesText a (take (4 * m) (now (one .entry))) (take (4 * n) (now (two .entry)))) r ⌝ }
+{
+    match a {
+        Answer::None => at,
+        Answer::One => put_first(out, at, one, m),
+        Answer::Two => {
+            let next = put_first(out, at, one, m);
+            put_rows(out, next, 2, two, n)
+        }
+        Answer::Clear => at,
+        Answer::Refused(_) => at,
+    }
+}
+
+// The token sheet of a found sentence, where there is one.
+fn put_sentence(out: &mut [u8], at: usize, a: Answer, s: Sentence) -> usize
+    requires { ⌜ s .count ≤ 64 ⌝ }
+    requires { ⌜ at + 14 + 18 * s .count ≤ length (now out) ⌝ }
+    ensures { λ r. ⌜ Wrote (now (out .entry)) (now (out .exit)) at (sentenceText a (spelled s)) r ⌝ }
+{
+    match a {
+        Answer::None => at,
+        Answer::One => at,
+        Answer::Two => {
+            let next = put_bytes(out, at, b"term line col\n");
+            put_tokens(out, next, s)
+        }
+        Answer::Clear => at,
+        Answer::Refused(_) => at,
+    }
+}
+
+// The answer on two sheets and its trees.
+fn check_sheets(rules: &[u8], tokens: &[u8], out: &mut [u8]) -> usize
+    requires { ⌜ 262144 ≤ length (now out) ⌝ }
+    ensures { λ r. ⌜ Answered (now (rules .entry)) (now (tokens .entry)) (now (out .entry)) (now (out .exit)) r ⌝ }
+{
+    let mut words = [0u64; 4162];
+    let mut one = [0u8; 16384];
+    let mut two = [0u8; 16384];
+    let r = trees(rules, tokens, &mut words, &mut one, &mut two);
+    let a = r.answer;
+    let n = put_head(out, a, r.line);
+    put_trees(out, n, a, &one, r.first, &two, r.second)
+}
+
+// The answer on the two sheets that the empty line at i parts.
+fn check_at(input: &[u8], i: usize, out: &mut [u8]) -> usize
+    requires { ⌜ i < length (now input) ⌝ }
+    requires { ⌜ 262144 ≤ length (now out) ⌝ }
+    ensures { λ r. ⌜ Answered (take i (now (input .entry))) (drop (i + 1) (now (input .entry))) (now (out .entry)) (now (out .exit)) r ⌝ }
+{
+    let j = i + 1;
+    check_sheets(&input[..i], &input[j..], out)
+}
+
+// The whole output of the program `check`; its length.
+pub fn check_text(input: &[u8], out: &mut [u8; 262144]) -> usize
+    ensures { λ r. ⌜ Printed CheckOf (now (input .entry)) (now (out .entry)) (now (out .exit)) r ⌝ }
+{
+    if 16384 < input.len() {
+        return put_refusal(out, 31);
+    }
+    let place = parting(input);
+    match place {
+        Place::Nowhere => put_refusal(out, 32),
+        Place::At(i) => check_at(input, i, out),
+    }
+}
+
+// The bound that stands before the empty line, or none.
+fn bound_of(s: &[u8]) -> Number
+    ensures { λ r. ⌜ r ≡ asNumber (boundOf (now (s .entry))) ⌝ }
+{
+    let n = s.len();
+    if n < 7 {
+        return Number::Not;
+    }
+    if !same(&s[..6], b"bound\n") {
+        return Number::Not;
+    }
+    let end = n - 1;
+    if s[end] != 10 {
+        return Number::Not;
+    }
+    numeral(&s[6..end], 2)
+}
+
+// The answer on a rule sheet and a bound.
+fn sweep_sheet(rules: &[u8], k: u32, out: &mut [u8]) -> usize
+    requires { ⌜ 262144 ≤ length (now out) ⌝ }
+    ensures { λ r. ⌜ Swept (now (rules .entry)) k (now (out .entry)) (now (out .exit)) r ⌝ }
+{
+    let mut words = [0u64; 58];
+    let r = sweep(rules, k as usize, &mut words);
+    let a = r.answer;
+    let s = r.sentence;
+    let n = put_head(out, a, r.line);
+    put_sentence(out, n, a, s)
+}
+
+// The answer on what the empty line at i parts: the bound, then the rule sheet.
+fn sweep_at(input: &[u8], i: usize, out: &mut [u8]) -> usize
+    requires { ⌜ i < length (now input) ⌝ }
+    requires { ⌜ 262144 ≤ length (now out) ⌝ }
+    ensures { λ r. ⌜ SweptAt (take i (now (input .entry))) (drop (i + 1) (now (input .entry))) (now (out .entry)) (now (out .exit)) r ⌝ }
+{
+    let j = i + 1;
+    let bound = bound_of(&input[..i]);
+    match bound {
+        Number::Not => put_refusal(out, 32),
+        Number::Is(k) => sweep_sheet(&input[j..], k, out),
+    }
+}
+
+// The whole output of the program `sweep`; its length.
+pub fn sweep_text(input: &[u8], out: &mut [u8; 262144]) -> usize
+    ensures { λ r. ⌜ Printed SweepTextOf (now (input .entry)) (now (out .entry)) (now (out .exit)) r ⌝ }
+{
+    if 16384 < input.len() {
+        return put_refusal(out, 31);
+    }
+    let place = parting(input);
+    match place {
+        Place::Nowhere => put_refusal(out, 32),
+        Place::At(i) => sweep_at(input, i, out),
+    }
+}
