@@ -25,13 +25,15 @@ use Rattle.marks.specs.Marked.{Marked}
 use Rattle.spans.specs.Changes.{Past, Kept, Wrote}
 use Rattle.spans.proofs.Places.{pairAt-same, pairAt-empty}
 use Rattle.spans.proofs.ChangeLaws.{kept-then}
-use Rattle.chart.specs.Tables.{Table, One, Two, Leave, byTokens, Fits, Stand, Again, Below, rule}
+use Rattle.chart.specs.Tables.{Table, One, Two, Leave, byTokens, byMarks, Fits, Stand, Again, Below, rule}
 use Rattle.chart.specs.Tables.Again.{apart, below}
-use Rattle.chart.specs.Passes.{Stepped, Steps, steps-none, steps-more, Saturated}
+use Rattle.chart.specs.declared.Tally.{Tally}
+use Rattle.chart.specs.Passes.{Inner, Saturated}
 use Rattle.chart.specs.Filling.{Settled, Ground, Grounded, Closed, Filled, Grown}
 use Rattle.chart.specs.Sheets.{Exact}
-use Rattle.chart.proofs.Soundness.{sound-stand, sound-again}
-use Rattle.chart.proofs.StepLaws.{steps-kept, passed-one, passed-two, one-passed, two-passed}
+use Rattle.chart.proofs.PassLaws.{inner-from, passes-from}
+use Rattle.chart.proofs.Coverage.{each-found, again-found}
+use Rattle.chart.proofs.Views.{tokens-marks, stand-view, again-view}
 
 -- ---- a word of the pair p is as it was, where the pair is another
 
@@ -46,99 +48,53 @@ module _ (ws ws′ : List ℕ) (n p : ℕ) (kept : Kept ws ws′ p) where
 shorter-other : (n s len a b : ℕ) → s + len ≤ n → a + b ≤ s + len → (b ≡ len → ⊥) → pairAt n a b ≡ pairAt n s len → ⊥
 shorter-other n s len a b fit h other e = other (pairAt-same n a b s len (omega arith) fit e .0)
 
--- ---- the loop over passes
+-- ---- the span is settled
 
--- the span's words are 0, so they say nothing
-grounded-zero : (ws ws′ : List ℕ) (g : Rules) (h : Half) (n s len : ℕ) → s + len ≤ n → Ground ws g h n s len → Wrote ws ws′ (pairAt n s len) 0 0 → Grounded ws′ g h n s len
-grounded-zero ws ws′ g h n s len fit o w = record {
-  some = λ a b A x y k m. some a b A x y k m (ℕ-discrete b len);
-  more = λ a b A x y k m. more a b A x y k m (ℕ-discrete b len);
-}
-  where
-    zero-first : (a b A : ℕ) → s ≤ a → a + b ≤ s + len → b ≡ len → One ws′ n a b A → ⊥
-    zero-first a b A x y e m =
-        let z : a ≡ s = omega arith in
-        in-zero A (subst (λ (q : ℕ). In q A) (ap (λ (q : ℕ). getD ws′ (2 * q) 0) (λ i. pairAt n (z i) (e i)) ∙ w .first) m)
+module _ (ws ws′ : List ℕ) (g : Rules) (h : Half) (n s len : ℕ) (k : SpanMarks) (b t : Tally) (distinct : Distinct g) (known : h .known ≤ length (h .word)) (fit : s + len ≤ n) (marked : Marked h s len k)
+    (ground : Ground ws g h n s len) (inner : Inner ws n s len k g b) (sat : Saturated (getD ws 0 0) (getD ws 1 0) k len g b t) (w : Wrote ws ws′ (pairAt n s len) (t .one) (t .two)) where
+  shorter : (a c : ℕ) → c < len → a + c ≤ s + len → pairAt n a c ≡ pairAt n s len → ⊥
+  shorter a c x y = shorter-other n s len a c fit y (omega arith)
 
-    zero-second : (a b A : ℕ) → s ≤ a → a + b ≤ s + len → b ≡ len → Two ws′ n a b A → ⊥
-    zero-second a b A x y e m =
-        let z : a ≡ s = omega arith in
-        in-zero A (subst (λ (q : ℕ). In q A) (ap (λ (q : ℕ). getD ws′ (2 * q + 1) 0) (λ i. pairAt n (z i) (e i)) ∙ w .second) m)
+  first : (a c : ℕ) → c < len → a + c ≤ s + len → firstWord ws′ n a c ≡ firstWord ws n a c
+  first a c x y = first-kept ws ws′ n (pairAt n s len) (w .kept) a c (shorter a c x y)
 
-    some : (a b A : ℕ) → s ≤ a → a + b ≤ s + len → a + b ≤ h .known → One ws′ n a b A → Dec (b ≡ len) → Derives g A (part (h .word) a b)
-    some a b A x y k m (yes e) = absurd (zero-first a b A x y e m)
-    some a b A x y k m (no z) = o .parts a b x y (omega arith) .some A k (subst (λ (q : ℕ). In q A) (first-kept ws ws′ n (pairAt n s len) (w .kept) a b (shorter-other n s len a b fit y z)) m)
+  second : (a c : ℕ) → c < len → a + c ≤ s + len → secondWord ws′ n a c ≡ secondWord ws n a c
+  second a c x y = second-kept ws ws′ n (pairAt n s len) (w .kept) a c (shorter a c x y)
 
-    more : (a b A : ℕ) → s ≤ a → a + b ≤ s + len → a + b ≤ h .known → Two ws′ n a b A → Dec (b ≡ len) → TwoTrees g A (part (h .word) a b)
-    more a b A x y k m (yes e) = absurd (zero-second a b A x y e m)
-    more a b A x y k m (no z) = o .parts a b x y (omega arith) .more A k (subst (λ (q : ℕ). In q A) (second-kept ws ws′ n (pairAt n s len) (w .kept) a b (shorter-other n s len a b fit y z)) m)
+  -- the first two words are the pair of the empty word, wherever it stands
+  empty-first : (a : ℕ) → firstWord ws n a 0 ≡ getD ws 0 0
+  empty-first a = ap (λ (x : ℕ). getD ws (2 * x) 0) (pairAt-empty n a)
 
-module _ (ws ws′ : List ℕ) (g : Grammar) (h : Half) (n s len : ℕ) (k : SpanMarks) (changed : Bool) (formed : Formed g) (inner : h .known ≤ length (h .word)) (fit : s + len ≤ n)
-    (marked : Marked h s len k) (o : Grounded ws (rules g) h n s len) (w : Stepped ws ws′ g n s len k changed) where
-  one-here : (A : ℕ) → s + len ≤ h .known → In (w .tally .one) A → Derives (rules g) A (part (h .word) s len)
-  one-here A kn m =
-      ⊎-elim (o .some s len A (omega arith) (omega arith) kn)
-      (λ q. sound-stand (One ws n) (rules g) h inner s len kn (λ a b B x y. o .some a b B x y (omega arith)) A (q .0) (q .1) (q .2))
-      (passed-one ws g h n s len k marked (w .tally) (w .passed) A m)
+  empty-second : (a : ℕ) → secondWord ws n a 0 ≡ getD ws 1 0
+  empty-second a = ap (λ (x : ℕ). getD ws (2 * x + 1) 0) (pairAt-empty n a)
 
-  two-here : (A : ℕ) → s + len ≤ h .known → In (w .tally .two) A → TwoTrees (rules g) A (part (h .word) s len)
-  two-here A kn m =
-      ⊎-elim (o .more s len A (omega arith) (omega arith) kn)
-      (sound-again (One ws n) (Two ws n) (rules g) h inner (formed .distinct) s len kn (λ a b B x y. o .some a b B x y (omega arith)) (λ a b B x y. o .more a b B x y (omega arith)) A)
-      (passed-two ws g h n s len k marked (w .tally) (w .passed) A m)
+  nulls : 0 < len → (a A : ℕ) → s ≤ a → a ≤ s + len → a ≤ h .known → In (getD ws 0 0) A → Derives g A (part (h .word) a 0)
+  nulls z a A x y kn m = ground .parts a 0 x (omega arith) z .some A (omega arith) (subst (λ (q : ℕ). In q A) (sym (empty-first a)) m)
 
-  -- a pass keeps what is grounded
-  grounded-step : Grounded ws′ (rules g) h n s len
-  grounded-step = record {
-    some = λ a b A x y q m. some a b A x y q m (ℕ-discrete b len);
-    more = λ a b A x y q m. more a b A x y q m (ℕ-discrete b len);
+  nulls₂ : 0 < len → (a A : ℕ) → s ≤ a → a ≤ s + len → a ≤ h .known → In (getD ws 1 0) A → TwoTrees g A (part (h .word) a 0)
+  nulls₂ z a A x y kn m = ground .parts a 0 x (omega arith) z .more A (omega arith) (subst (λ (q : ℕ). In q A) (sym (empty-second a)) m)
+
+  sound : s + len ≤ h .known → ((A : ℕ) → In (t .one) A → Derives g A (part (h .word) s len)) × ((A : ℕ) → In (t .two) A → TwoTrees g A (part (h .word) s len))
+  sound kn =
+      passes-from g h known distinct s len kn k marked (getD ws 0 0) (getD ws 1 0) (λ z a A x y. nulls z a A x y (omega arith)) (λ z a A x y. nulls₂ z a A x y (omega arith)) b
+      (inner-from g h known distinct s len kn k marked ws n ground b inner) (sat .passes)
+
+  pub closed : Closed ws ws′ g h n s len
+  closed = record {
+    kept = w .kept;
+    settled = record {
+      some = λ A kn m. sound kn .0 A (subst (λ (q : ℕ). In q A) (w .first) m);
+      more = λ A kn m. sound kn .1 A (subst (λ (q : ℕ). In q A) (w .second) m);
+      each = λ A i l c. each A i l (stand-view (One ws′ n) g (byTokens h s len) (byMarks k len) s len A i l (tokens-marks h s len k marked) c);
+      again = λ A c. again A (again-view (One ws′ n) (Two ws′ n) g (byTokens h s len) (byMarks k len) s len A (tokens-marks h s len k marked) c);
+    };
   }
     where
-      some : (a b A : ℕ) → s ≤ a → a + b ≤ s + len → a + b ≤ h .known → One ws′ n a b A → Dec (b ≡ len) → Derives (rules g) A (part (h .word) a b)
-      some a b A x y q m (yes e) =
-          let z : a ≡ s = omega arith in
-          subst₂ (λ (i j : ℕ). Derives (rules g) A (part (h .word) i j)) (sym z) (sym e)
-          (one-here A (omega arith) (subst (λ (j : ℕ). In j A) (ap (λ (j : ℕ). getD ws′ (2 * j) 0) (λ i. pairAt n (z i) (e i)) ∙ w .wrote .first) m))
-      some a b A x y q m (no z) =
-          o .some a b A x y q (subst (λ (j : ℕ). In j A) (first-kept ws ws′ n (pairAt n s len) (w .wrote .kept) a b (shorter-other n s len a b fit y z)) m)
+      each : (A i l : ℕ) → Stand (One ws′ n) g (byMarks k len) s len A i l → One ws′ n s len A
+      each = each-found ws ws′ g n s len k first second (t .one) (t .two) (getD ws 0 0) (getD ws 1 0) (w .first) (w .second) (λ z a y. first a 0 z (omega arith) ∙ empty-first a) (λ z a y. second a 0 z (omega arith) ∙ empty-second a) b t inner sat refl refl
 
-      more : (a b A : ℕ) → s ≤ a → a + b ≤ s + len → a + b ≤ h .known → Two ws′ n a b A → Dec (b ≡ len) → TwoTrees (rules g) A (part (h .word) a b)
-      more a b A x y q m (yes e) =
-          let z : a ≡ s = omega arith in
-          subst₂ (λ (i j : ℕ). TwoTrees (rules g) A (part (h .word) i j)) (sym z) (sym e)
-          (two-here A (omega arith) (subst (λ (j : ℕ). In j A) (ap (λ (j : ℕ). getD ws′ (2 * j + 1) 0) (λ i. pairAt n (z i) (e i)) ∙ w .wrote .second) m))
-      more a b A x y q m (no z) =
-          o .more a b A x y q (subst (λ (j : ℕ). In j A) (second-kept ws ws′ n (pairAt n s len) (w .wrote .kept) a b (shorter-other n s len a b fit y z)) m)
-
-  -- a pass that adds nothing settles the span
-  settled-end : changed ≡ false → Settled (One ws′ n) (Two ws′ n) (rules g) h s len
-  settled-end e = subst (λ (x : List ℕ). Settled (One x n) (Two x n) (rules g) h s len) (sym same) (record {
-    some = λ A kn m. o .some s len A (omega arith) (omega arith) kn m;
-    more = λ A kn m. o .more s len A (omega arith) (omega arith) kn m;
-    each = λ A i l c. subst (λ (x : ℕ). In x A) first (one-passed ws g h n s len k marked (w .tally) (w .passed) A i l c);
-    again = λ A c. subst (λ (x : ℕ). In x A) second (two-passed ws g h n s len k marked (w .tally) (w .passed) A c);
-  })
-    where
-      same : ws′ ≡ ws
-      same = w .still e
-
-      first : w .tally .one ≡ firstWord ws n s len
-      first = sym (w .wrote .first) ∙ ap (λ (x : List ℕ). firstWord x n s len) same
-
-      second : w .tally .two ≡ secondWord ws n s len
-      second = sym (w .wrote .second) ∙ ap (λ (x : List ℕ). secondWord x n s len) same
-
--- so passes until one adds nothing settle the span
-module _ (g : Grammar) (h : Half) (n s len : ℕ) (k : SpanMarks) (formed : Formed g) (inner : h .known ≤ length (h .word)) (fit : s + len ≤ n) (marked : Marked h s len k) where
-  grounded-steps : {ws ws′ : List ℕ} → Grounded ws (rules g) h n s len → Steps g n s len k ws ws′ → Grounded ws′ (rules g) h n s len
-  grounded-steps o steps-none = o
-  grounded-steps {ws′ = ws″} o (steps-more {ws′ = ws′} t w) = grounded-step ws′ ws″ g h n s len k true formed inner fit marked (grounded-steps o t) w
-
-  pub closed : (ws ws′ ws″ : List ℕ) → Ground ws (rules g) h n s len → Wrote ws ws′ (pairAt n s len) 0 0 → Saturated ws′ ws″ g n s len k → Closed ws ws″ (rules g) h n s len
-  closed ws ws′ ws″ o w t = record {
-    kept = kept-then (w .kept) (kept-then (steps-kept (t .steps)) (t .last .wrote .kept));
-    settled = settled-end (t .grown) ws″ g h n s len k false formed inner fit marked (grounded-steps (grounded-zero ws ws′ (rules g) h n s len fit o w) (t .steps)) (t .last) refl;
-  }
+      again : (A : ℕ) → Again (One ws′ n) (Two ws′ n) g (byMarks k len) s len A → Two ws′ n s len A
+      again = again-found ws ws′ g n s len k first second (t .one) (t .two) (getD ws 0 0) (getD ws 1 0) (w .first) (w .second) (λ z a y. first a 0 z (omega arith) ∙ empty-first a) (λ z a y. second a 0 z (omega arith) ∙ empty-second a) b t inner sat refl refl
 
 -- ---- what stands over a span goes by its parts alone
 

@@ -1,8 +1,10 @@
-pub mod PassLaws
+pub mod TallyLaws
 pub mod RulePlaces
 pub mod Completeness
 pub mod Soundness
-pub mod StepLaws
+pub mod Views
+pub mod PassLaws
+pub mod Coverage
 pub mod FillLaws
 pub mod SheetLaws
 pub mod PickLaws

@@ -33,7 +33,7 @@ use Rattle.chart.specs.Tables.{One, byTokens, byMarks, Fits, Stand, rule
 use Rattle.chart.specs.Choosing.{NextAt, NoneFrom, NextChoice}
 use Rattle.chart.specs.Searches.{Serves, FirstSplit, Upon, Stood, Reached, FirstPick}
 use Rattle.chart.proofs.RulePlaces.{rule-there, small-at}
-use Rattle.chart.proofs.StepLaws.{stand-view, marks-tokens, tokens-marks}
+use Rattle.chart.proofs.Views.{stand-view, marks-tokens, tokens-marks}
 
 -- ---- the search
 

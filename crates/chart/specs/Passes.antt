@@ -1,21 +1,23 @@
--- A pass over the rules of one span (inner: contracts of the functions that fill the span sheet).
+-- How a span's pair is found (inner: contracts of the functions that fill the span sheet): first what stands by tokens and by
+-- shorter parts, then passes over the rules that have the whole span on one side.
 use mathlib.Core.Path.{_≡_}
 use mathlib.Core.Bool.{Bool, true, false}
 use mathlib.Core.List.{List}
 use mathlib.Core.Logic.{_⊎_}
-use Prim.Native.Nat.{ℕ, _+_, _*_, _≤_, _<_}
-use lib.ListN.{length, getD}
+use Prim.Native.Nat.{ℕ, _+_, _-_, _*_, _≤_, _<_}
+use lib.ListN.{length}
 use Rattle.sets.specs.Says.{Says}
 use Rattle.sets.specs.Sets.{In, insert}
-use Rattle.grammar.specs.declared.Rule.{Rule}
-use Rattle.grammar.specs.declared.Grammar.{Grammar}
+use Rattle.grammar.specs.declared.Clause.{Clause}
+use Rattle.grammar.specs.declared.Clause.the-variants as Clause
 use Rattle.grammar.specs.Trees.{Rules}
-use Rattle.grammar.specs.Content.{rules}
-use Rattle.grammar.specs.SpanSheet.{pairs, pairAt, firstWord, secondWord}
+use Rattle.grammar.specs.SpanSheet.{pairs, firstWord, secondWord}
 use Rattle.marks.specs.declared.SpanMarks.{SpanMarks}
-use Rattle.spans.specs.Changes.{Wrote}
+use Rattle.marks.specs.Marked.{AtomBy, UnaryBy, BinaryBy}
 use Rattle.chart.specs.declared.Tally.{Tally}
-use Rattle.chart.specs.Tables.{Table, One, Two, Leave, byMarks, Fits, Stand, Atomic, Rivals, Below, Again, rule}
+use Rattle.chart.specs.declared.Pair.{Pair}
+use Rattle.chart.specs.declared.Sides.{Sides}
+use Rattle.chart.specs.Tables.{Atomic, rule}
 
 -- the span of len tokens from s on lies among n tokens, and the words are enough for their span sheet
 pub record Room (ws : List ℕ) (n s len : ℕ) : Type 0 where
@@ -23,36 +25,7 @@ pub record Room (ws : List ℕ) (n s len : ℕ) : Type 0 where
   pub fits : s + len ≤ n
   pub enough : 2 * pairs n ≤ length ws
 
--- the choices (rule, left length) that are done
-abbrev pub Done : Type 1
-Done = ℕ → ℕ → Type 0
-
--- and the choice (i, l) besides
-abbrev pub And : Done → ℕ → ℕ → Done
-And D i l j k = D j k ⊎ ((j ≡ i) × (k ≡ l))
-
--- the rules before i are done
-abbrev pub Before : ℕ → Done
-Before i j k = j < i
-
--- and of the rule i the left words of fewer than l tokens
-abbrev pub Upto : ℕ → ℕ → Done
-Upto i l j k = (j < i) ⊎ ((j ≡ i) × (k < l))
-
--- a pass that began with the sets f and g has come so far
--- (seen: the nonterminals for which a rule stands; firm: those for which one stands that is no terminal)
-pub record Tallied (one two : Table) (r : Rules) (v : Leave) (s len f g : ℕ) (D : Done) (t : Tally) : Type 0 where
-  pub seen-from : (A : ℕ) → In (t .seen) A → (j : ℕ) × (k : ℕ) × D j k × Stand one r v s len A j k
-  pub seen-all : (A j k : ℕ) → D j k → Stand one r v s len A j k → In (t .seen) A
-  pub firm-from : (A : ℕ) → In (t .firm) A → (j : ℕ) × (k : ℕ) × D j k × Stand one r v s len A j k × (Atomic (rule r j .clause) → ⊥)
-  pub firm-all : (A j k : ℕ) → D j k → Stand one r v s len A j k → (Atomic (rule r j .clause) → ⊥) → In (t .firm) A
-  pub one-from : (A : ℕ) → In (t .one) A → In f A ⊎ ((j : ℕ) × (k : ℕ) × Stand one r v s len A j k)
-  pub one-all : (A j k : ℕ) → D j k → Stand one r v s len A j k → In (t .one) A
-  pub two-from : (A : ℕ) → In (t .two) A → In g A ⊎ Again one two r v s len A
-  pub two-apart : (A j k j′ k′ : ℕ) → D j k → D j′ k′ → Stand one r v s len A j k → Stand one r v s len A j′ k′ → Rivals r j k j′ k′ → In (t .two) A
-  pub two-below : (A j k : ℕ) → D j k → Stand one r v s len A j k → Below two s len (rule r j .clause) k → In (t .two) A
-  pub one-grows : f ≤ t .one
-  pub two-grows : g ≤ t .two
+-- ---- a rule is tried
 
 -- what a rule may have met: a terminal only what is firm
 abbrev pub rivalsOf : Bool → Tally → ℕ
@@ -70,43 +43,101 @@ pub record Found (t : Tally) (a : ℕ) (again atomic : Bool) (u : Tally) : Type 
   pub one : u .one ≡ insert (t .one) a
   pub two : ((u .two ≡ insert (t .two) a) × (In (rivalsOf atomic t) a ⊎ (again ≡ true))) ⊎ ((u .two ≡ t .two) × (In (rivalsOf atomic t) a → ⊥) × (again ≡ false))
 
--- the rule r, with l tokens on its left, is tried: t is as it was, or the rule is counted
-pub data Tried (ws : List ℕ) (n start len l : ℕ) (m : SpanMarks) (r : Rule) (t u : Tally) : Type 0 where
-  fell : (Fits (One ws n) (byMarks m len) start len (r .clause) l → ⊥) → u ≡ t → Tried ws n start len l m r t u
-  stood : (again atomic : Bool) → Says atomic (Atomic (r .clause)) → Fits (One ws n) (byMarks m len) start len (r .clause) l
-      → Says again (Below (Two ws n) start len (r .clause) l) → Found t (r .left) again atomic u → Tried ws n start len l m r t u
+-- a rule for a is tried: t is as it was, or the rule is counted
+-- (fits: it stands; below: a word below has two trees; atom: it is a terminal)
+pub data Took (fits below atom : Type 0) (a : ℕ) (t u : Tally) : Type 0 where
+  fell : (fits → ⊥) → u ≡ t → Took fits below atom a t u
+  stood : (again atomic : Bool) → fits → Says again below → Says atomic atom → Found t a again atomic u → Took fits below atom a t u
 
--- the rule r is tried with each left length below l
-pub data Rowed (ws : List ℕ) (n start len : ℕ) (m : SpanMarks) (r : Rule) (t : Tally) : ℕ → Tally → Type 0 where
-  row-none : Rowed ws n start len m r t 0 t
-  row-more : {l : ℕ} {u v : Tally} → Rowed ws n start len m r t l u → Tried ws n start len l m r u v → Rowed ws n start len m r t (l + 1) v
+-- ---- what stands by tokens and by shorter parts
 
--- the tally of the span's words, with no rule seen
-pub record Opening (ws : List ℕ) (n start len : ℕ) (t : Tally) : Type 0 where
-  pub seen : t .seen ≡ 0
-  pub firm : t .firm ≡ 0
-  pub one : t .one ≡ firstWord ws n start len
-  pub two : t .two ≡ secondWord ws n start len
+-- the tally before any rule
+abbrev pub none : Tally
+none = record { seen = 0; firm = 0; one = 0; two = 0 }
 
--- a pass over the span, that began with the span's words, has come so far
-abbrev pub Passing : List ℕ → Grammar → ℕ → ℕ → ℕ → SpanMarks → Done → Tally → Type 0
-Passing ws g n start len m D t = Tallied (One ws n) (Two ws n) (rules g) (byMarks m len) start len (firstWord ws n start len) (secondWord ws n start len) D t
+-- a span's pair
+abbrev pub pairOf : List ℕ → ℕ → ℕ → ℕ → Pair
+pairOf ws n s len = record { one = firstWord ws n s len; two = secondWord ws n s len }
 
--- one pass over the span is written; changed says whether the words grew
-pub record Stepped (ws ws′ : List ℕ) (g : Grammar) (n start len : ℕ) (m : SpanMarks) (changed : Bool) : Type 0 where
-  pub tally : Tally
-  pub passed : Passing ws g n start len m (Before (length (rules g))) tally
-  pub wrote : Wrote ws ws′ (pairAt n start len) (tally .one) (tally .two)
-  pub still : changed ≡ false → ws′ ≡ ws
-  pub grows : changed ≡ true → firstWord ws n start len + secondWord ws n start len < firstWord ws′ n start len + secondWord ws′ n start len
+-- the pairs of the two parts of a span, cut after l tokens
+abbrev pub sidesAt : List ℕ → ℕ → ℕ → ℕ → ℕ → Sides
+sidesAt ws n s len l = record { left = pairOf ws n s l; right = pairOf ws n (s + l) (len - l) }
 
--- passes that were written, one after the other
-pub data Steps (g : Grammar) (n start len : ℕ) (m : SpanMarks) (ws : List ℕ) : List ℕ → Type 0 where
-  steps-none : Steps g n start len m ws ws
-  steps-more : {ws′ ws″ : List ℕ} → Steps g n start len m ws ws′ → Stepped ws′ ws″ g n start len m true → Steps g n start len m ws ws″
+-- a clause stands over the two parts
+abbrev pub SplitFits : Sides → SpanMarks → ℕ → ℕ → Clause → Type 0
+SplitFits p k len l Clause.Empty = ⊥
+SplitFits p k len l (Clause.Atom a) = ⊥
+SplitFits p k len l (Clause.Unary B m) = ⊥
+SplitFits p k len l (Clause.Binary B C m) = In (p .left .one) B × In (p .right .one) C × BinaryBy k len m l
+
+-- one of them has two trees
+abbrev pub SplitBelow : Sides → Clause → Type 0
+SplitBelow p Clause.Empty = ⊥
+SplitBelow p (Clause.Atom a) = ⊥
+SplitBelow p (Clause.Unary B m) = ⊥
+SplitBelow p (Clause.Binary B C m) = In (p .left .two) B ⊎ In (p .right .two) C
+
+-- the rules before i are tried over the two parts
+pub data SplitRow (p : Sides) (k : SpanMarks) (len l : ℕ) (g : Rules) (t : Tally) : ℕ → Tally → Type 0 where
+  row-none : SplitRow p k len l g t 0 t
+  row-more : {i : ℕ} {u v : Tally} → SplitRow p k len l g t i u
+      → Took (SplitFits p k len l (rule g i .clause)) (SplitBelow p (rule g i .clause)) ⊥ (rule g i .left) u v → SplitRow p k len l g t (i + 1) v
+
+-- all rules are tried with each left length from 1 to below l
+pub data Splits (ws : List ℕ) (n s len : ℕ) (k : SpanMarks) (g : Rules) : ℕ → Tally → Type 0 where
+  splits-none : Splits ws n s len k g 1 none
+  splits-more : {l : ℕ} {t u : Tally} → Splits ws n s len k g l t → SplitRow (sidesAt ws n s len l) k len l g t (length g) u → Splits ws n s len k g (l + 1) u
+
+-- a clause stands over no token or one by itself
+abbrev pub LeafFits : SpanMarks → ℕ → Clause → Type 0
+LeafFits k len Clause.Empty = len ≡ 0
+LeafFits k len (Clause.Atom a) = (len ≡ 1) × AtomBy k a
+LeafFits k len (Clause.Unary B m) = ⊥
+LeafFits k len (Clause.Binary B C m) = ⊥
+
+-- the rules before i are tried so
+pub data Leaves (k : SpanMarks) (len : ℕ) (g : Rules) : ℕ → Tally → Type 0 where
+  leaves-none : Leaves k len g 0 none
+  leaves-more : {i : ℕ} {t u : Tally} → Leaves k len g i t → Took (LeafFits k len (rule g i .clause)) ⊥ (Atomic (rule g i .clause)) (rule g i .left) t u → Leaves k len g (i + 1) u
+
+-- what stands over the span whatever stands over it besides
+pub data Inner (ws : List ℕ) (n s len : ℕ) (k : SpanMarks) (g : Rules) (t : Tally) : Type 0 where
+  by-leaves : len < 2 → Leaves k len g (length g) t → Inner ws n s len k g t
+  by-splits : 2 ≤ len → Splits ws n s len k g len t → Inner ws n s len k g t
+
+-- ---- what has the whole span on one side
+
+-- a binary clause is tried over the span and the empty word, whose pair is one and two
+pub data Beside (one two len a b e : ℕ) (t v : Tally) : Type 0 where
+  alone : len ≡ 0 → Took (In (t .one) b × In (t .one) e) (In (t .two) b ⊎ In (t .two) e) ⊥ a t v → Beside one two len a b e t v
+  both : 0 < len → (u : Tally) → Took (In one b × In (t .one) e) (In two b ⊎ In (t .two) e) ⊥ a t u
+      → Took (In (u .one) b × In one e) (In (u .two) b ⊎ In two e) ⊥ a u v → Beside one two len a b e t v
+
+-- a clause for a is tried with the whole span on one side
+abbrev pub Wide : ℕ → ℕ → SpanMarks → ℕ → ℕ → Clause → Tally → Tally → Type 0
+Wide one two k len a Clause.Empty t u = u ≡ t
+Wide one two k len a (Clause.Atom c) t u = u ≡ t
+Wide one two k len a (Clause.Unary B m) t u = Took (In (t .one) B × UnaryBy k m) (In (t .two) B) ⊥ a t u
+Wide one two k len a (Clause.Binary B C m) t u = Beside one two len a B C t u
+
+-- the rules from i on are tried so, the last one first
+pub data Pass (one two : ℕ) (k : SpanMarks) (len : ℕ) (g : Rules) (t : Tally) : ℕ → Tally → Type 0 where
+  pass-none : Pass one two k len g t (length g) t
+  pass-more : {i : ℕ} {u v : Tally} → Pass one two k len g t (i + 1) u → Wide one two k len (rule g i .left) (rule g i .clause) u v → Pass one two k len g t i v
+
+-- the rules that b has seen, and the sets of t
+abbrev pub resumed : Tally → Tally → Tally
+resumed b t = record { seen = b .seen; firm = b .firm; one = t .one; two = t .two }
+
+-- passes from b on, one after the other
+pub data Passes (one two : ℕ) (k : SpanMarks) (len : ℕ) (g : Rules) (b : Tally) : Tally → Type 0 where
+  passes-none : Passes one two k len g b b
+  passes-more : {t u : Tally} → Passes one two k len g b t → Pass one two k len g (resumed b t) 0 u → Passes one two k len g b u
 
 -- until one adds nothing
-pub record Saturated (ws ws′ : List ℕ) (g : Grammar) (n start len : ℕ) (m : SpanMarks) : Type 0 where
-  pub grown : List ℕ
-  pub steps : Steps g n start len m ws grown
-  pub last : Stepped grown ws′ g n start len m false
+pub record Saturated (one two : ℕ) (k : SpanMarks) (len : ℕ) (g : Rules) (b t : Tally) : Type 0 where
+  pub passes : Passes one two k len g b t
+  pub last : Tally
+  pub passed : Pass one two k len g (resumed b t) 0 last
+  pub same-one : last .one ≡ t .one
+  pub same-two : last .two ≡ t .two

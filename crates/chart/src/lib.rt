@@ -17,17 +17,20 @@ use spans::in_first;
 use spans::in_second;
 use spans::pair_at;
 use spans::write;
+ghost use mathlib.Core.Logic.{_⊎_};
 ghost use mathlib.Core.Path.{_≡_};
 ghost use Prim.Native.Nat.{_+_, _-_, _*_, _≤_, _<_};
 ghost use lib.ListN.{length};
 ghost use Rattle.sets.specs.Says.{Says};
+ghost use Rattle.sets.specs.Sets.{In};
 ghost use Rattle.grammar.specs.declared.Clause.the-variants as Kind;
 ghost use Rattle.grammar.specs.Content.{rules, spelled, SmallClause, SmallRule, Formed};
 ghost use Rattle.grammar.specs.SpanSheet.{pairs, part, SpanSheet};
 ghost use Rattle.marks.specs.Drafts.{drafted, half};
+ghost use Rattle.marks.specs.Marked.{UnaryBy};
 ghost use Rattle.spans.specs.Reach.{Reach};
-ghost use Rattle.chart.specs.Tables.{One, Two, byMarks, Fits, Below, Atomic, lefts};
-ghost use Rattle.chart.specs.Passes.{Room, Found, Tried, Rowed, Opening, Passing, Before, Stepped, Saturated};
+ghost use Rattle.chart.specs.Tables.{One, byMarks, Fits, Atomic, lefts};
+ghost use Rattle.chart.specs.Passes.{Room, Found, Took, pairOf, sidesAt, SplitFits, SplitBelow, SplitRow, none, Splits, LeafFits, Leaves, Inner, Beside, Wide, Pass, Saturated};
 ghost use Rattle.chart.specs.Filling.{Whole, Ground, Closed, Filled, Grown};
 ghost use Rattle.chart.specs.Sheets.{RightTo, Charted, Judged, Settles};
 ghost use Rattle.chart.specs.Choosing.{NextChoice};
@@ -124,38 +127,6 @@ fn clause_fits(
     }
 }
 
-// Has a word below the clause two trees?
-fn below(words: &[u64], n: usize, c: Clause, start: usize, len: usize, left: usize) -> bool
-    requires { ⌜ Room (now words) n start len ⌝ }
-    requires { ⌜ SmallClause c ⌝ }
-    requires { ⌜ left ≤ len ⌝ }
-    ensures { λ r. ⌜ Says r (Below (Two (now (words .entry)) n) start len c left) ⌝ }
-{
-    match c {
-        Clause::Empty => false,
-        Clause::Atom(_) => false,
-        Clause::Unary(b, _) => in_second(words, n, start, len, b),
-        Clause::Binary(b, e, _) => {
-            if in_second(words, n, start, left, b) {
-                return true;
-            }
-            in_second(words, n, start + left, len - left, e)
-        }
-    }
-}
-
-// Is the clause a terminal?
-fn atomic(c: Clause) -> bool
-    ensures { λ r. ⌜ Says r (Atomic c) ⌝ }
-{
-    match c {
-        Clause::Empty => false,
-        Clause::Atom(_) => true,
-        Clause::Unary(_, _) => false,
-        Clause::Binary(_, _, _) => false,
-    }
-}
-
 // The longest left word that the clause can have over `len` tokens.
 fn last_left(c: Clause, len: usize) -> usize
     ensures { λ r. ⌜ r ≡ lefts c len ⌝ }
@@ -227,75 +198,308 @@ fn found(t: Tally, a: u8, again: bool, atomic: bool) -> Tally
     }
 }
 
-// Try the rule with `left` tokens on its left.
-fn try_rule(
-    words: &[u64],
-    n: usize,
-    r: Rule,
-    start: usize,
-    len: usize,
-    left: usize,
-    k: SpanMarks,
-    t: Tally,
-) -> Tally
-    requires { ⌜ Room (now words) n start len ⌝ }
+// Both words of a span's pair.
+struct Pair {
+    one: u64,
+    two: u64,
+}
+
+// The pairs of the two parts that a binary clause joins.
+struct Sides {
+    left: Pair,
+    right: Pair,
+}
+
+// Try a binary clause `b` `e` for `a`, its parts being the sides.
+fn try_join(t: Tally, a: u8, b: u8, e: u8, p: Sides) -> Tally
+    requires { ⌜ (a < 64) × (b < 64) × (e < 64) ⌝ }
+    ensures { λ u. ⌜ Took (In (p .left .one) b × In (p .right .one) e) (In (p .left .two) b ⊎ In (p .right .two) e) ⊥ a t u ⌝ }
+{
+    if !has(p.left.one, b) {
+        return t;
+    }
+    if !has(p.right.one, e) {
+        return t;
+    }
+    if has(p.left.two, b) {
+        return found(t, a, true, false);
+    }
+    found(t, a, has(p.right.two, e), false)
+}
+
+// Try the rule with `left` tokens on its left, its parts being the sides.
+fn try_split(t: Tally, r: Rule, p: Sides, k: SpanMarks, left: usize, len: usize) -> Tally
     requires { ⌜ SmallRule r ⌝ }
-    requires { ⌜ left ≤ len ⌝ }
-    ensures { λ u. ⌜ Tried (now (words .entry)) n start len left k r t u ⌝ }
+    requires { ⌜ (left ≤ len) × (len ≤ 64) ⌝ }
+    ensures { λ u. ⌜ Took (SplitFits p k len left (r .clause)) (SplitBelow p (r .clause)) ⊥ (r .left) t u ⌝ }
 {
     let c = r.clause;
-    if clause_fits(words, n, c, start, len, left, k) {
-        found(t, r.left, below(words, n, c, start, len, left), atomic(c))
-    } else {
-        t
+    match c {
+        Clause::Empty => t,
+        Clause::Atom(_) => t,
+        Clause::Unary(_, _) => t,
+        Clause::Binary(b, e, m) => {
+            if !allows_binary(k, m, left, len) {
+                return t;
+            }
+            try_join(t, r.left, b, e, p)
+        }
     }
 }
 
-// Try the rule with each left length: 0 alone unless it is binary.
-fn row(words: &[u64], n: usize, r: Rule, start: usize, len: usize, k: SpanMarks, t: Tally) -> Tally
-    requires { ⌜ Room (now words) n start len ⌝ }
-    requires { ⌜ SmallRule r ⌝ }
-    ensures { λ u. ⌜ Rowed (now (words .entry)) n start len k r t (lefts (r .clause) len + 1) u ⌝ }
+// Try each rule with `left` tokens on its left.
+fn try_splits(t: Tally, g: Grammar, p: Sides, k: SpanMarks, left: usize, len: usize) -> Tally
+    requires { ⌜ Formed g ⌝ }
+    requires { ⌜ (left ≤ len) × (len ≤ 64) ⌝ }
+    ensures { λ u. ⌜ SplitRow p k len left (rules g) t (length (rules g)) u ⌝ }
 {
-    let c = r.clause;
-    let last = last_left(c, len);
     let mut u = t;
-    let mut left = 0;
-    while left <= last {
-        u = try_rule(words, n, r, start, len, left, k, u);
-        left += 1;
+    let mut i = 0;
+    while i < g.count {
+        let r = g.rules[i];
+        u = try_split(u, r, p, k, left, len);
+        i += 1;
     }
     u
 }
 
-// The tally that a pass begins with: the words of the span, and no rule seen.
-fn opening(words: &[u64], n: usize, start: usize, len: usize) -> Tally
+// The same, but where a part has no tree at all: no rule stands there.
+fn try_parts(t: Tally, g: Grammar, p: Sides, k: SpanMarks, left: usize, len: usize) -> Tally
+    requires { ⌜ Formed g ⌝ }
+    requires { ⌜ (left ≤ len) × (len ≤ 64) ⌝ }
+    ensures { λ u. ⌜ SplitRow p k len left (rules g) t (length (rules g)) u ⌝ }
+{
+    if p.left.one == 0 {
+        return t;
+    }
+    if p.right.one == 0 {
+        return t;
+    }
+    try_splits(t, g, p, k, left, len)
+}
+
+// The span's pair.
+fn pair_of(words: &[u64], n: usize, start: usize, len: usize) -> Pair
     requires { ⌜ Room (now words) n start len ⌝ }
-    ensures { λ u. ⌜ Opening (now (words .entry)) n start len u ⌝ }
+    ensures { λ r. ⌜ r ≡ pairOf (now (words .entry)) n start len ⌝ }
 {
     let at = 2 * pair_at(n, start, len);
-    Tally {
-        seen: 0,
-        firm: 0,
+    Pair {
         one: words[at],
         two: words[at + 1],
     }
 }
 
-// A pass over all rules at a span.
-fn pass(words: &[u64], n: usize, g: Grammar, start: usize, len: usize, k: SpanMarks) -> Tally
+// The pairs of the two parts of the span, cut after `left` tokens.
+fn cut(words: &[u64], n: usize, start: usize, len: usize, left: usize) -> Sides
+    requires { ⌜ Room (now words) n start len ⌝ }
+    requires { ⌜ left ≤ len ⌝ }
+    ensures { λ r. ⌜ r ≡ sidesAt (now (words .entry)) n start len left ⌝ }
+{
+    let l = pair_of(words, n, start, left);
+    let r = pair_of(words, n, start + left, len - left);
+    Sides { left: l, right: r }
+}
+
+// The tally before any rule.
+fn blank() -> Tally
+    ensures { λ r. ⌜ r ≡ none ⌝ }
+{
+    Tally {
+        seen: 0,
+        firm: 0,
+        one: 0,
+        two: 0,
+    }
+}
+
+// What stands over the span with a token or more on either side.
+fn splits(words: &[u64], n: usize, g: Grammar, start: usize, len: usize, k: SpanMarks) -> Tally
     requires { ⌜ Room (now words) n start len ⌝ }
     requires { ⌜ Formed g ⌝ }
-    ensures { λ u. ⌜ Passing (now (words .entry)) g n start len k (Before (length (rules g))) u ⌝ }
+    requires { ⌜ 0 < len ⌝ }
+    ensures { λ t. ⌜ Splits (now (words .entry)) n start len k (rules g) len t ⌝ }
 {
-    let mut t = opening(words, n, start, len);
+    let mut t = blank();
+    let mut left = 1;
+    while left < len {
+        let p = cut(words, n, start, len, left);
+        t = try_parts(t, g, p, k, left, len);
+        left += 1;
+    }
+    t
+}
+
+// Try a rule for no token or one.
+fn try_leaf(t: Tally, r: Rule, k: SpanMarks, len: usize) -> Tally
+    requires { ⌜ SmallRule r ⌝ }
+    ensures { λ u. ⌜ Took (LeafFits k len (r .clause)) ⊥ (Atomic (r .clause)) (r .left) t u ⌝ }
+{
+    let c = r.clause;
+    match c {
+        Clause::Empty => {
+            if len == 0 {
+                found(t, r.left, false, false)
+            } else {
+                t
+            }
+        }
+        Clause::Atom(a) => {
+            if len != 1 {
+                return t;
+            }
+            if !allows_atom(k, a) {
+                return t;
+            }
+            found(t, r.left, false, true)
+        }
+        Clause::Unary(_, _) => t,
+        Clause::Binary(_, _, _) => t,
+    }
+}
+
+// What stands over no token or one by itself.
+fn leaves(g: Grammar, k: SpanMarks, len: usize) -> Tally
+    requires { ⌜ Formed g ⌝ }
+    ensures { λ t. ⌜ Leaves k len (rules g) (length (rules g)) t ⌝ }
+{
+    let mut t = blank();
     let mut i = 0;
     while i < g.count {
         let r = g.rules[i];
-        t = row(words, n, r, start, len, k, t);
+        t = try_leaf(t, r, k, len);
         i += 1;
     }
     t
+}
+
+// What stands over the span whatever stands over it besides: by its tokens and by shorter parts.
+fn inner(words: &[u64], n: usize, g: Grammar, start: usize, len: usize, k: SpanMarks) -> Tally
+    requires { ⌜ Room (now words) n start len ⌝ }
+    requires { ⌜ Formed g ⌝ }
+    ensures { λ t. ⌜ Inner (now (words .entry)) n start len k (rules g) t ⌝ }
+{
+    if len < 2 {
+        return leaves(g, k, len);
+    }
+    splits(words, n, g, start, len, k)
+}
+
+// Try a unary clause `b` for `a` over the span that the tally is of.
+fn try_unary(t: Tally, a: u8, b: u8, m: UnaryMark, k: SpanMarks) -> Tally
+    requires { ⌜ (a < 64) × (b < 64) ⌝ }
+    ensures { λ u. ⌜ Took (In (t .one) b × UnaryBy k m) (In (t .two) b) ⊥ a t u ⌝ }
+{
+    if !has(t.one, b) {
+        return t;
+    }
+    if !allows_unary(k, m) {
+        return t;
+    }
+    found(t, a, has(t.two, b), false)
+}
+
+// Try a binary clause `b` `e` for `a` with the empty word on the left.
+fn try_left_empty(t: Tally, a: u8, b: u8, e: u8, one: u64, two: u64) -> Tally
+    requires { ⌜ (a < 64) × (b < 64) × (e < 64) ⌝ }
+    ensures { λ u. ⌜ Took (In one b × In (t .one) e) (In two b ⊎ In (t .two) e) ⊥ a t u ⌝ }
+{
+    let p = Sides {
+        left: Pair { one, two },
+        right: Pair {
+            one: t.one,
+            two: t.two,
+        },
+    };
+    try_join(t, a, b, e, p)
+}
+
+// Try it with the empty word on the right.
+fn try_right_empty(t: Tally, a: u8, b: u8, e: u8, one: u64, two: u64) -> Tally
+    requires { ⌜ (a < 64) × (b < 64) × (e < 64) ⌝ }
+    ensures { λ u. ⌜ Took (In (t .one) b × In one e) (In (t .two) b ⊎ In two e) ⊥ a t u ⌝ }
+{
+    let p = Sides {
+        left: Pair {
+            one: t.one,
+            two: t.two,
+        },
+        right: Pair { one, two },
+    };
+    try_join(t, a, b, e, p)
+}
+
+// Try a binary clause over the span and the empty word, whose pair is `one` and `two`; the span is of `len` tokens.
+fn try_beside(t: Tally, a: u8, b: u8, e: u8, one: u64, two: u64, len: usize) -> Tally
+    requires { ⌜ (a < 64) × (b < 64) × (e < 64) ⌝ }
+    ensures { λ u. ⌜ Beside one two len a b e t u ⌝ }
+{
+    if len == 0 {
+        return try_left_empty(t, a, b, e, t.one, t.two);
+    }
+    let u = try_left_empty(t, a, b, e, one, two);
+    try_right_empty(u, a, b, e, one, two)
+}
+
+// Try a rule that has the whole span on one side.
+fn try_wide(t: Tally, r: Rule, k: SpanMarks, one: u64, two: u64, len: usize) -> Tally
+    requires { ⌜ SmallRule r ⌝ }
+    ensures { λ u. ⌜ Wide one two k len (r .left) (r .clause) t u ⌝ }
+{
+    let c = r.clause;
+    match c {
+        Clause::Empty => t,
+        Clause::Atom(_) => t,
+        Clause::Unary(b, m) => try_unary(t, r.left, b, m, k),
+        Clause::Binary(b, e, _) => try_beside(t, r.left, b, e, one, two, len),
+    }
+}
+
+// A pass over the rules, the last one first: it reads what it adds.
+fn pass(t: Tally, g: Grammar, k: SpanMarks, one: u64, two: u64, len: usize) -> Tally
+    requires { ⌜ Formed g ⌝ }
+    ensures { λ u. ⌜ Pass one two k len (rules g) t 0 u ⌝ }
+{
+    let mut u = t;
+    let mut i = g.count;
+    while 0 < i {
+        i -= 1;
+        let r = g.rules[i];
+        u = try_wide(u, r, k, one, two, len);
+    }
+    u
+}
+
+// Passes from the inner tally `b` on, until one adds nothing.
+fn passes(b: Tally, g: Grammar, k: SpanMarks, one: u64, two: u64, len: usize) -> Tally
+    requires { ⌜ Formed g ⌝ }
+    ensures { λ t. ⌜ Saturated one two k len (rules g) b t ⌝ }
+{
+    let mut t = b;
+    loop {
+        let s = Tally {
+            seen: b.seen,
+            firm: b.firm,
+            one: t.one,
+            two: t.two,
+        };
+        let u = pass(s, g, k, one, two, len);
+        if unchanged(t.one, t.two, u.one, u.two) {
+            return t;
+        }
+        t = u;
+    }
+}
+
+// The same, but where nothing stands at first: then nothing ever does.
+fn saturate(b: Tally, g: Grammar, k: SpanMarks, one: u64, two: u64, len: usize) -> Tally
+    requires { ⌜ Formed g ⌝ }
+    ensures { λ t. ⌜ Saturated one two k len (rules g) b t ⌝ }
+{
+    if b.one == 0 {
+        return b;
+    }
+    passes(b, g, k, one, two, len)
 }
 
 // Are the words as they were?
@@ -305,39 +509,7 @@ fn unchanged(f: u64, g: u64, a: u64, b: u64) -> bool
     if a == f { b == g } else { false }
 }
 
-// One pass over the span, and its write. Did the words grow?
-fn step(words: &mut [u64], n: usize, g: Grammar, start: usize, len: usize, k: SpanMarks) -> bool
-    requires { ⌜ Room (now words) n start len ⌝ }
-    requires { ⌜ Formed g ⌝ }
-    ensures { λ r. ⌜ Stepped (now (words .entry)) (now (words .exit)) g n start len k r ⌝ }
-{
-    let p = pair_at(n, start, len);
-    let was = opening(words, n, start, len);
-    let t = pass(words, n, g, start, len, k);
-    let a = t.one;
-    let b = t.two;
-    if unchanged(was.one, was.two, a, b) {
-        return false;
-    }
-    write(words, p, a, b);
-    true
-}
-
-// Pass over the rules until the span's words do not grow any more.
-fn saturate(words: &mut [u64], n: usize, g: Grammar, start: usize, len: usize, k: SpanMarks)
-    requires { ⌜ Room (now words) n start len ⌝ }
-    requires { ⌜ Formed g ⌝ }
-    ensures { λ r. ⌜ Saturated (now (words .entry)) (now (words .exit)) g n start len k ⌝ }
-{
-    loop {
-        let more = step(words, n, g, start, len, k);
-        if !more {
-            return;
-        }
-    }
-}
-
-// Settle the span: from empty words on, by the marks that its tokens leave.
+// Settle the span by the marks that its tokens leave.
 fn close(words: &mut [u64], d: Draft, g: Grammar, start: usize, len: usize)
     requires { ⌜ Whole d ⌝ }
     requires { ⌜ Room (now words) (d .count) start len ⌝ }
@@ -347,9 +519,10 @@ fn close(words: &mut [u64], d: Draft, g: Grammar, start: usize, len: usize)
 {
     let n = d.count;
     let k = span_marks(d, start, len);
+    let b = inner(words, n, g, start, len, k);
+    let t = saturate(b, g, k, words[0], words[1], len);
     let p = pair_at(n, start, len);
-    write(words, p, 0, 0);
-    saturate(words, n, g, start, len, k);
+    write(words, p, t.one, t.two);
 }
 
 // Settle the empty word, unless it is to be kept.

@@ -4,7 +4,7 @@ use borrow.Author.Count.{below-more}
 use Prim.Native.Nat.{ℕ, _+_, _-_, _≤_, _<_}
 use native.Mathlib.Omega.{arith}
 use Rattle.chart.specs.Tables.{One, byMarks, Fits}
-use Rattle.chart.proofs.StepLaws.{fits-le, lefts-le}
+use Rattle.chart.proofs.Views.{fits-le, lefts-le}
 use Rattle.chart.proofs.next_split.Statement.{statement}
 use Rattle.chart.proofs.next_split.Tie as tie
 

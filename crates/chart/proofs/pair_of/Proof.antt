@@ -2,11 +2,13 @@
 use borrow.Author.Needs.{needs}
 use Prim.Native.Nat.{ℕ, _*_, _+_, _<_}
 use lib.ListN.{length, getD}
-use mathlib.Core.Path.{refl, ap}
+use mathlib.Core.Path.{ap}
+use mathlib.Core.List.{List}
 use native.Mathlib.Omega.{arith}
+use Rattle.chart.specs.declared.Pair.{Pair}
 use Rattle.spans.proofs.Places.{pairAt-below}
-use Rattle.chart.proofs.opening.Statement.{statement}
-use Rattle.chart.proofs.opening.Tie as tie
+use Rattle.chart.proofs.pair_of.Statement.{statement}
+use Rattle.chart.proofs.pair_of.Tie as tie
 
 pair-at-requires : tie.Need-pair-at-requires
 pair-at-requires c κs = search needs
@@ -33,17 +35,13 @@ shared-slice-read-t12 : tie.Need-shared-slice-read-t12
 shared-slice-read-t12 c = omega (arith, inside (c .before .before))
 
 returns : tie.Need-returns
-returns c =
-    let e = c .before .before .pair-at .ensures in
-    record {
-      seen = refl;
-      firm = refl;
-      one = ap (λ (x : ℕ). getD (c .before .before .before .before .args .words .now) (2 * x) 0) e;
-      two = ap (λ (x : ℕ). getD (c .before .before .before .before .args .words .now) (2 * x + 1) 0) e;
-    }
+returns c = ap (λ (x : ℕ). pair (c .before .before .before .before .args .words .now) x) (c .before .before .pair-at .ensures)
+  where
+    pair : List ℕ → ℕ → Pair
+    pair ws x = record { one = getD ws (2 * x) 0; two = getD ws (2 * x + 1) 0 }
 
-pub opening-spec : {M : Type 1} → statement M
-opening-spec =
+pub pair-of-spec : {M : Type 1} → statement M
+pair-of-spec =
     tie.close
     (tie.spec
     pair-at-requires

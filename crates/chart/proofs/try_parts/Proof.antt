@@ -1,0 +1,28 @@
+-- Where a part has no tree no rule stands; else the rules are tried.
+use borrow.Author.Needs.{needs}
+use mathlib.Core.Path.{refl}
+use mathlib.Core.Logic.{inl, inr}
+use lib.ListN.{length}
+use Rattle.grammar.specs.Content.{rules}
+use Rattle.chart.proofs.PassLaws.{row-idle}
+use Rattle.chart.proofs.try_parts.Statement.{statement}
+use Rattle.chart.proofs.try_parts.Tie as tie
+
+returns : tie.Need-returns
+returns c =
+    let a = c .before .before .args in
+    row-idle (a .p) (a .k) (a .len) (a .left) (rules (a .g)) (a .t) (inl (c .if1 .taken)) (length (rules (a .g)))
+
+returns-2 : tie.Need-returns-2
+returns-2 c =
+    let a = c .before .before .before .before .args in
+    row-idle (a .p) (a .k) (a .len) (a .left) (rules (a .g)) (a .t) (inr (c .if2 .taken)) (length (rules (a .g)))
+
+try-splits-requires : tie.Need-try-splits-requires
+try-splits-requires c κs = search needs
+
+returns-3 : tie.Need-returns-3
+returns-3 c = search needs
+
+pub try-parts-spec : {M : Type 1} → statement M
+try-parts-spec = tie.close (tie.spec returns returns-2 try-splits-requires returns-3)
