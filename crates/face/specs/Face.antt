@@ -1,4 +1,4 @@
--- What the C functions hand over: an answer and its line as one number, a sentence as words.
+-- What the C functions hand over: an answer and its line as one number, a sentence and row counts as words.
 use mathlib.Core.Path.{_≡_}
 use mathlib.Core.Bool.{cond}
 use mathlib.Core.List.{List, [], _∷_, _++_}
@@ -13,7 +13,9 @@ use Rattle.teplonga.specs.declared.Answer.{Answer}
 use Rattle.teplonga.specs.declared.Answer.the-variants as Answer
 use Rattle.teplonga.specs.declared.Reply.{Reply}
 use Rattle.teplonga.specs.declared.SweepReply.{SweepReply}
+use Rattle.teplonga.specs.declared.TreesReply.{TreesReply}
 use Rattle.teplonga.specs.Verdict.{VerdictOf}
+use Rattle.teplonga.specs.Trees.{TreesOf}
 use Rattle.teplonga.specs.Sweep.{SweepOf}
 
 -- an answer's code: 0 none, 1 one, 2 two, 3 clear, 100 + N refused-N
@@ -34,6 +36,11 @@ pub record VerdictWord (rules tokens words words′ : List ℕ) (r : ℕ) : Type
   pub promise : VerdictOf rules tokens words words′ reply
   pub word : r ≡ packed (reply .answer) (reply .line)
 
+-- n words stand at the front of the lent ones, and those past them are unchanged; fewer than n lent ones are left as they were
+pub data AtFront (n : ℕ) (ws lent lent′ : List ℕ) : Type 0 where
+  few : length lent < n → lent′ ≡ lent → AtFront n ws lent lent′
+  written : n ≤ length lent → lent′ ≡ ws ++ drop n lent → AtFront n ws lent lent′
+
 -- terminal, line and column of each token
 abbrev pub tokenWords : Word → List ℕ
 tokenWords [] = []
@@ -43,14 +50,20 @@ tokenWords (t ∷ w) = t .terminal ∷ line t ∷ col t ∷ tokenWords w
 abbrev pub sentenceWords : Sentence → List ℕ
 sentenceWords s = s .count ∷ tokenWords (take 7 (s .tokens))
 
--- the words that the sentence is written to, where there are enough, and those past it unchanged
-pub data Found (s : Sentence) (found found′ : List ℕ) : Type 0 where
-  few : length found < 22 → found′ ≡ found → Found s found found′
-  written : 22 ≤ length found → found′ ≡ sentenceWords s ++ drop 22 found → Found s found found′
-
 -- `teplonga_sweep` hands over what `sweep` answers, and the answer's sentence in words
 pub record SweepWord (rules : List ℕ) (k : ℕ) (words words′ found found′ : List ℕ) (r : ℕ) : Type 0 where
   pub reply : SweepReply
   pub promise : SweepOf rules k words words′ reply
-  pub sentence : Found (reply .sentence) found found′
+  pub sentence : AtFront 22 (sentenceWords (reply .sentence)) found found′
+  pub word : r ≡ packed (reply .answer) (reply .line)
+
+-- the row counts of both trees as two words
+abbrev pub countWords : ℕ → ℕ → List ℕ
+countWords m n = m ∷ n ∷ []
+
+-- `teplonga_trees` hands over what `trees` answers, and the trees' row counts in words
+pub record TreesWord (rules tokens words words′ one one′ two two′ counts counts′ : List ℕ) (r : ℕ) : Type 0 where
+  pub reply : TreesReply
+  pub promise : TreesOf rules tokens words words′ one one′ two two′ reply
+  pub rows : AtFront 2 (countWords (reply .first) (reply .second)) counts counts′
   pub word : r ≡ packed (reply .answer) (reply .line)

@@ -4,6 +4,7 @@ use grammar::Token;
 use sheets::fault_number;
 use teplonga::Answer;
 use teplonga::sweep;
+use teplonga::trees;
 use teplonga::verdict;
 ghost use mathlib.Core.Path.{_≡_};
 ghost use mathlib.Core.List.{[], _∷_};
@@ -11,7 +12,7 @@ ghost use Prim.Native.Nat.{_+_, _≤_, _<_};
 ghost use lib.ListN.{length, take};
 ghost use Rattle.grammar.specs.Layout.{line as lineOf, col};
 ghost use Rattle.printing.specs.Printing.{Wrote};
-ghost use Rattle.face.specs.Face.{codeOf, packed, VerdictWord, tokenWords, sentenceWords, Found, SweepWord};
+ghost use Rattle.face.specs.Face.{codeOf, packed, VerdictWord, tokenWords, sentenceWords, AtFront, SweepWord, countWords, TreesWord};
 
 // The code of an answer.
 fn code(a: Answer) -> u64
@@ -83,10 +84,20 @@ fn put_sentence(found: &mut [u64], s: Sentence) -> usize
 
 // The sentence, where the lent words are enough for it.
 fn put_found(found: &mut [u64], s: Sentence)
-    ensures { λ r. ⌜ Found s (now (found .entry)) (now (found .exit)) ⌝ }
+    ensures { λ r. ⌜ AtFront 22 (sentenceWords s) (now (found .entry)) (now (found .exit)) ⌝ }
 {
     if 22 <= found.len() {
         put_sentence(found, s);
+    }
+}
+
+// The row counts of both trees, where the lent words are enough for them.
+fn put_counts(counts: &mut [u64], first: usize, second: usize)
+    ensures { λ r. ⌜ AtFront 2 (countWords first second) (now (counts .entry)) (now (counts .exit)) ⌝ }
+{
+    if 2 <= counts.len() {
+        let next = put_word(counts, 0, first as u64);
+        put_word(counts, next, second as u64);
     }
 }
 
@@ -97,6 +108,24 @@ pub extern "C" fn teplonga_verdict(rules: &[u8], tokens: &[u8], words: &mut [u64
 {
     let p = verdict(rules, tokens, words);
     let a = p.answer;
+    pack(a, p.line)
+}
+
+// The trees: the verdict's code times 2^32 plus the line's number. The words get the span sheet, both memories the trees' rows, `counts` the row counts.
+#[no_mangle]
+pub extern "C" fn teplonga_trees(
+    rules: &[u8],
+    tokens: &[u8],
+    words: &mut [u64],
+    first: &mut [u8],
+    second: &mut [u8],
+    counts: &mut [u64],
+) -> u64
+    ensures { λ r. ⌜ TreesWord (now (rules .entry)) (now (tokens .entry)) (now (words .entry)) (now (words .exit)) (now (first .entry)) (now (first .exit)) (now (second .entry)) (now (second .exit)) (now (counts .entry)) (now (counts .exit)) r ⌝ }
+{
+    let p = trees(rules, tokens, words, first, second);
+    let a = p.answer;
+    put_counts(counts, p.first, p.second);
     pack(a, p.line)
 }
 
