@@ -3,6 +3,7 @@ use grammar::Sentence;
 use grammar::Token;
 use sheets::fault_number;
 use teplonga::Answer;
+use teplonga::refused_line;
 use teplonga::sweep;
 use teplonga::trees;
 use teplonga::verdict;
@@ -12,6 +13,7 @@ ghost use Prim.Native.Nat.{_+_, _≤_, _<_};
 ghost use lib.ListN.{length, take};
 ghost use Rattle.grammar.specs.Layout.{line as lineOf, col};
 ghost use Rattle.printing.specs.Printing.{Wrote};
+ghost use Rattle.sheets.specs.RefusedLines.{Hands, refusedLine};
 ghost use Rattle.face.specs.Face.{codeOf, packed, VerdictWord, tokenWords, sentenceWords, AtFront, SweepWord, countWords, TreesWord};
 
 // The code of an answer.
@@ -144,4 +146,12 @@ pub extern "C" fn teplonga_sweep(
     let s = p.sentence;
     put_found(found, s);
     pack(a, p.line)
+}
+
+// The refused line itself, as a part of the sheet that holds it. An exported function returns no reference, so `line` gets the part.
+#[no_mangle]
+pub extern "C" fn teplonga_refused_line<'a>(rules: &'a [u8], tokens: &'a [u8], line: &mut &'a [u8])
+    ensures { λ r. ⌜ Hands (rules .entry) (tokens .entry) (now (line .exit)) (refusedLine (now (rules .entry)) (now (tokens .entry))) ⌝ }
+{
+    *line = refused_line(rules, tokens);
 }
