@@ -1,2 +1,4 @@
 pub mod Numbers
 pub mod Words
+pub mod Settled
+pub mod Unpacking
