@@ -1,0 +1,91 @@
+//! What every call answers.
+
+use std::fmt;
+
+/// An answer of a call.
+#[derive(Clone, Copy, Debug, PartialEq, Eq, Hash)]
+pub enum Answer {
+    /// No valid tree.
+    None,
+    /// Exactly one valid tree.
+    One,
+    /// Two valid trees or more.
+    Two,
+    /// A sweep found no sentence that has two trees.
+    Clear,
+    /// The call is refused, with the refusal's number.
+    Refused(u8),
+}
+
+impl Answer {
+    /// The answer of a code: 0 none, 1 one, 2 two, 3 clear, 100 + N refused-N.
+    fn coded(code: u64) -> Answer {
+        match code {
+            0 => Answer::None,
+            1 => Answer::One,
+            2 => Answer::Two,
+            3 => Answer::Clear,
+            101..=199 => Answer::Refused((code - 100) as u8),
+            _ => unreachable!("no answer has the code {code}"),
+        }
+    }
+
+    /// Is the call refused?
+    pub fn is_refused(self) -> bool {
+        matches!(self, Answer::Refused(_))
+    }
+}
+
+impl fmt::Display for Answer {
+    fn fmt(&self, f: &mut fmt::Formatter<'_>) -> fmt::Result {
+        match self {
+            Answer::None => f.write_str("none"),
+            Answer::One => f.write_str("one"),
+            Answer::Two => f.write_str("two"),
+            Answer::Clear => f.write_str("clear"),
+            Answer::Refused(number) => write!(f, "refused-{number}"),
+        }
+    }
+}
+
+/// An answer and its line.
+#[derive(Clone, Copy, Debug, PartialEq, Eq, Hash)]
+pub struct Reply {
+    /// The answer.
+    pub answer: Answer,
+    /// The number of the refused line in its sheet, counted from 1; 0 where no
+    /// line is refused. A line past `u32::MAX` counts as that.
+    pub line: u32,
+}
+
+impl Reply {
+    /// Parts the code and the line, which the C functions answer as one number.
+    pub(crate) fn unpacked(word: u64) -> Reply {
+        Reply { answer: Answer::coded(word >> 32), line: word as u32 }
+    }
+}
+
+impl fmt::Display for Reply {
+    fn fmt(&self, f: &mut fmt::Formatter<'_>) -> fmt::Result {
+        write!(f, "{} {}", self.answer, self.line)
+    }
+}
+
+#[cfg(test)]
+mod tests {
+    use super::*;
+
+    fn shown(code: u64, line: u64) -> String {
+        Reply::unpacked(code << 32 | line).to_string()
+    }
+
+    #[test]
+    fn codes_and_lines_are_parted() {
+        assert_eq!(shown(0, 0), "none 0");
+        assert_eq!(shown(1, 0), "one 0");
+        assert_eq!(shown(2, 0), "two 0");
+        assert_eq!(shown(3, 0), "clear 0");
+        assert_eq!(shown(101, 1), "refused-1 1");
+        assert_eq!(shown(132, u64::from(u32::MAX)), "refused-32 4294967295");
+    }
+}

@@ -1,0 +1,151 @@
+//! Safe calls of the proved library: rule sheets, token sheets and their trees.
+//!
+//! Each call takes sheets as bytes and memory that the caller lends. None asks
+//! anything of its caller and none panics: any bytes, any lent memory and any
+//! bound are answered.
+//!
+//! | call | what it answers |
+//! |---|---|
+//! | [`verdict`] | none, one or two valid trees of a sentence |
+//! | [`trees`] | besides, the rows of the first and the second tree |
+//! | [`sweep`] | the first short sentence that has two trees, or clear |
+//! | [`refused_line`] | the refused line itself, as a part of its sheet |
+//!
+//! A refused call but refused-22 changes no lent memory. [`words_for`] says how
+//! many words a call needs; words past them never change.
+//!
+//! Three tokens on one line can be grouped in two ways:
+//!
+//! ```
+//! use teplonga::{verdict, words_for, Answer};
+//!
+//! let rules = b"left kind first second lay\n0 B 0 0 none\n0 A 0 - none\n";
+//! let tokens = b"term line col\n0 1 1\n0 1 2\n0 1 3\n";
+//! let mut words = vec![0; words_for(3)];
+//! let reply = verdict(rules, tokens, &mut words);
+//! assert_eq!(reply.answer, Answer::Two);
+//! assert_eq!(reply.line, 0);
+//! ```
+
+#![deny(unsafe_code)]
+#![warn(missing_docs)]
+
+mod answer;
+#[allow(unsafe_code)]
+mod c;
+mod sentence;
+mod tree;
+
+pub use answer::{Answer, Reply};
+pub use sentence::{Column, Line, SweepReply, Token};
+pub use tree::{Kind, Row, Rows, TreesReply};
+
+/// The most rules of a rule sheet.
+pub const MOST_RULES: usize = 128;
+
+/// The most tokens of a token sheet.
+pub const MOST_TOKENS: usize = 64;
+
+/// The greatest bound of a sweep.
+pub const MOST_BOUND: usize = 7;
+
+/// The words that a span sheet of so many tokens needs, and a sweep with this
+/// bound.
+///
+/// That is a pair for the empty word and one for each span, n(n+1) + 2 words:
+///
+/// ```
+/// assert_eq!(teplonga::words_for(3), 14);
+/// assert_eq!(teplonga::words_for(teplonga::MOST_TOKENS), 4162);
+/// ```
+pub const fn words_for(tokens: usize) -> usize {
+    tokens.saturating_add(1).saturating_mul(tokens).saturating_add(2)
+}
+
+/// How many valid trees the sentence has: none, one, or two for two or more.
+///
+/// An accepted call fills the span sheet. Pair 0 is the empty word, then come
+/// the spans of length 1 from start 0 upward, then those of length 2, and so
+/// on. Bit A of a pair's first word says that nonterminal A has a valid tree
+/// there, of its second word that it has at least two.
+///
+/// ```
+/// use teplonga::{verdict, Answer, Reply};
+///
+/// let rules = b"left kind first second lay\n0 B 0 0 none\n0 A 64 - none\n";
+/// let reply = verdict(rules, b"", &mut []);
+/// assert_eq!(reply, Reply { answer: Answer::Refused(3), line: 3 });
+/// assert_eq!(reply.to_string(), "refused-3 3");
+/// ```
+pub fn verdict(rules: &[u8], tokens: &[u8], words: &mut [u64]) -> Reply {
+    Reply::unpacked(c::verdict(rules, tokens, words))
+}
+
+/// The verdict, and the rows of the first and the second tree.
+///
+/// A row takes four bytes. Bytes of `first` and `second` after the rows are 0
+/// after an accepted call. Where a tree has more rows than its memory has whole
+/// places, the call is refused-22: the span sheet is filled, both tree memories
+/// are 0.
+///
+/// ```
+/// use teplonga::{trees, words_for, Answer, Kind, Row};
+///
+/// let rules = b"left kind first second lay\n0 B 0 0 none\n0 A 0 - none\n";
+/// let tokens = b"term line col\n0 1 1\n0 1 2\n0 1 3\n";
+/// let mut words = vec![0; words_for(3)];
+/// let (mut first, mut second) = ([0; 4 * 16], [0; 4 * 16]);
+/// let reply = trees(rules, tokens, &mut words, &mut first, &mut second);
+/// assert_eq!(reply.answer, Answer::Two);
+/// assert_eq!((reply.first.len(), reply.second.len()), (5, 5));
+/// let left = |mut rows: teplonga::Rows| rows.nth(1);
+/// let leaf = Row { nonterminal: 0, kind: Kind::Atom, start: 0, length: 1 };
+/// let pair = Row { nonterminal: 0, kind: Kind::Binary, start: 0, length: 2 };
+/// assert_eq!(left(reply.first), Some(leaf));
+/// assert_eq!(left(reply.second), Some(pair));
+/// ```
+pub fn trees<'a>(
+    rules: &[u8],
+    tokens: &[u8],
+    words: &mut [u64],
+    first: &'a mut [u8],
+    second: &'a mut [u8],
+) -> TreesReply<'a> {
+    let (word, counts) = c::trees(rules, tokens, words, first, second);
+    TreesReply::unpacked(word, counts, first, second)
+}
+
+/// The first candidate of 1 to `bound` tokens that has two trees, or clear.
+///
+/// Clear says that no sequence of 1 to `bound` tokens has two trees, whatever
+/// its terminals, lines and columns. A sweep needs `words_for(bound)` words; an
+/// accepted one leaves them 0.
+///
+/// ```
+/// use teplonga::{sweep, words_for, Answer, Column, Line, Token};
+///
+/// let rules = b"left kind first second lay\n0 B 0 0 none\n0 A 0 - none\n";
+/// let mut words = vec![0; words_for(3)];
+/// assert_eq!(sweep(rules, 2, &mut words).answer, Answer::Clear);
+/// let reply = sweep(rules, 3, &mut words);
+/// let at = |column| Token { terminal: 0, line: Line(1), column: Column(column) };
+/// assert_eq!(reply.answer, Answer::Two);
+/// assert_eq!(reply.sentence(), [at(1), at(2), at(3)]);
+/// ```
+pub fn sweep(rules: &[u8], bound: usize, words: &mut [u64]) -> SweepReply {
+    let mut found = [0; sentence::PLACES];
+    let word = c::sweep(rules, bound, words, &mut found);
+    SweepReply::unpacked(word, &found)
+}
+
+/// The line for which a call with these sheets is refused, without its byte 10,
+/// as a part of the sheet that holds it. Where there is no such line, the first
+/// zero bytes of the rule sheet.
+///
+/// ```
+/// let rules = b"left kind first second lay\n0 E - - none\n0 X - - none\n";
+/// assert_eq!(teplonga::refused_line(rules, b"term line col\n"), b"0 X - - none");
+/// ```
+pub fn refused_line<'a>(rules: &'a [u8], tokens: &'a [u8]) -> &'a [u8] {
+    c::refused_line(rules, tokens)
+}

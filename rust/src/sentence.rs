@@ -1,0 +1,63 @@
+//! The sentence of a sweep.
+
+use crate::{Answer, Reply, MOST_BOUND};
+
+/// A line's number. It is never compared with a column.
+#[derive(Clone, Copy, Debug, Default, PartialEq, Eq, PartialOrd, Ord, Hash)]
+pub struct Line(pub u16);
+
+/// A column's number. It is never compared with a line.
+#[derive(Clone, Copy, Debug, Default, PartialEq, Eq, PartialOrd, Ord, Hash)]
+pub struct Column(pub u16);
+
+/// A terminal and where it stands.
+#[derive(Clone, Copy, Debug, Default, PartialEq, Eq, Hash)]
+pub struct Token {
+    /// The terminal, 0 to 63.
+    pub terminal: u8,
+    /// The line, from 1.
+    pub line: Line,
+    /// The column, from 1.
+    pub column: Column,
+}
+
+/// The words in which the C function hands over a sentence: its length, then
+/// terminal, line and column of each place.
+pub(crate) const PLACES: usize = 1 + 3 * MOST_BOUND;
+
+/// What [`sweep`](crate::sweep) answers.
+#[derive(Clone, Copy, Debug, PartialEq, Eq)]
+pub struct SweepReply {
+    /// The answer.
+    pub answer: Answer,
+    /// The line, as in [`Reply`].
+    pub line: u32,
+    /// The sentence's length; 0 where none is found.
+    pub length: usize,
+    /// The sentence's tokens; places past its length are 0.
+    pub places: [Token; MOST_BOUND],
+}
+
+impl SweepReply {
+    /// The found sentence; empty where none is found.
+    pub fn sentence(&self) -> &[Token] {
+        &self.places[..self.length]
+    }
+
+    pub(crate) fn unpacked(word: u64, found: &[u64; PLACES]) -> SweepReply {
+        let Reply { answer, line } = Reply::unpacked(word);
+        let mut places = [Token::default(); MOST_BOUND];
+        for (place, words) in places.iter_mut().zip(found[1..].chunks_exact(3)) {
+            *place = token(words);
+        }
+        SweepReply { answer, line, length: found[0] as usize, places }
+    }
+}
+
+/// The token of three words.
+fn token(words: &[u64]) -> Token {
+    let terminal = u8::try_from(words[0]).expect("a terminal is below 64");
+    let line = u16::try_from(words[1]).expect("a line has 16 bits");
+    let column = u16::try_from(words[2]).expect("a column has 16 bits");
+    Token { terminal, line: Line(line), column: Column(column) }
+}
