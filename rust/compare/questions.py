@@ -1,0 +1,332 @@
+"""Questions to the library and to the reference, drawn by chance.
+
+A question is a line of text: a call, its sheets in base 16 (`-` for no bytes),
+its bound, and the sizes of the memory that it is lent. The salt at the end says
+what lies in that memory before the call.
+
+    verdict RULES TOKENS WORDS SALT
+    trees RULES TOKENS WORDS FIRST SECOND SALT
+    line RULES TOKENS
+    sweep RULES BOUND WORDS SALT
+"""
+
+import random
+
+import sheets
+import teplonga
+from teplonga import MOST_TOKENS, START, Rule, words_needed
+
+
+def hexed(data):
+    return data.hex() or "-"
+
+
+def salt(chance):
+    return str(chance.randrange(1 << 32))
+
+
+# ----------------------------------------------------------------- both sheets
+
+def sound(chance, least, most):
+    rules = sheets.sound_rules(chance)
+    tokens = sheets.sentence(chance, rules, least, most)
+    return (sheets.rule_sheet(rules), teplonga.token_sheet(tokens))
+
+
+def short(chance):
+    """Up to ten tokens, drawn anew a few times until a wanted answer comes."""
+    wanted = chance.choice(["none", "one", "two", "two"])
+    for _ in range(8):
+        least = chance.choice([0, 1, 2, 3, 4])
+        rules, tokens = sound(chance, least, least + chance.choice([0, 1, 2, 4, 6]))
+        read = (teplonga.read_rules(rules)[1], teplonga.read_tokens(tokens)[1])
+        if teplonga.verdict(*read) == wanted:
+            break
+    return (rules, tokens)
+
+
+def rules_damaged(chance):
+    rules, tokens = sound(chance, 0, 4)
+    return (sheets.damaged(chance, rules), tokens)
+
+
+def tokens_damaged(chance):
+    rules, tokens = sound(chance, 2, 6)
+    return (rules, sheets.damaged(chance, tokens))
+
+
+def both_damaged(chance):
+    rules, tokens = sound(chance, 0, 4)
+    return (sheets.damaged(chance, rules), sheets.damaged(chance, tokens))
+
+
+def without_trees(chance):
+    """A sheet without the start or with a cycle, beside any tokens."""
+    rules = sheets.refused_rules(chance)
+    return (sheets.rule_sheet(rules), teplonga.token_sheet(sheets.sentence(chance, rules, 0, 4)))
+
+
+def loose(chance):
+    """Rules drawn without asking whether they are accepted."""
+    rules = sheets.few_rules(chance)
+    return (sheets.rule_sheet(rules), teplonga.token_sheet(sheets.sentence(chance, rules, 0, 4)))
+
+
+def much(chance):
+    """About 128 rules, sound or damaged, and a few tokens."""
+    count = chance.choice([100, 127, 128, 128, 129, 129, 130])
+    rules = sheets.many_rules(chance, count)
+    sheet = sheets.rule_sheet(rules)
+    if chance.random() < 0.2:
+        sheet = sheets.damaged(chance, sheet)
+    return (sheet, teplonga.token_sheet(sheets.sentence(chance, rules, 0, 5)))
+
+
+def junked(chance):
+    rules, tokens = sound(chance, 0, 4)
+    return chance.choice([(sheets.junk(chance), tokens), (rules, sheets.junk(chance))])
+
+
+def long_tokens(chance, rules, count):
+    return teplonga.token_sheet(sheets.placed(chance, sheets.any_terminals(chance, rules, count)))
+
+
+def past_64(chance):
+    """65 tokens or more, or 63 or 64 that are damaged enough to be refused."""
+    rules = sheets.sound_rules(chance)
+    if chance.random() < 0.5:
+        tokens = long_tokens(chance, rules, chance.choice([65, 65, 66, 70]))
+    else:
+        tokens = sheets.damaged(chance, long_tokens(chance, rules, chance.choice([63, 64])))
+        if teplonga.read_tokens(tokens)[0] == "accepted":
+            tokens = tokens[:-1]
+    return (sheets.rule_sheet(rules), tokens)
+
+
+# Each with how often it is drawn; those of `short` are accepted, most others
+# are refused.
+UNSOUND = {
+    rules_damaged: 14,
+    tokens_damaged: 14,
+    both_damaged: 3,
+    without_trees: 3,
+    loose: 3,
+    much: 2,
+    junked: 2,
+    past_64: 2,
+}
+PAIRS = {short: 60, **UNSOUND}
+
+
+def drawn(chance, weights):
+    """What one of these makes."""
+    return chance.choices(list(weights), list(weights.values()))[0](chance)
+
+
+# ----------------------------------------------------------------- lent memory
+
+def lent_words(chance, needed):
+    """Enough, more, one short, fewer or none."""
+    way = chance.random()
+    if way < 0.45:
+        return needed
+    if way < 0.8:
+        return needed + chance.randint(1, 40)
+    if way < 0.9:
+        return max(needed - 1, 0)
+    return chance.choice([0, 1, 2, chance.randint(0, needed)])
+
+
+def words_of_pair(chance, tokens):
+    reading = teplonga.read_tokens(tokens)
+    count = len(reading[1]) if reading[0] == "accepted" else chance.randint(0, 6)
+    return lent_words(chance, words_needed(count))
+
+
+def rows_of_pair(rules, tokens):
+    """The row counts of both trees, 0 where there is none."""
+    readings = (teplonga.read_rules(rules), teplonga.read_tokens(tokens))
+    if any(reading[0] == "refused" for reading in readings):
+        return (0, 0)
+    trees = teplonga.two_trees(readings[0][1], readings[1][1])
+    return tuple(teplonga.row_count(tree) for tree in trees)
+
+
+def lent_bytes(chance, rows):
+    """About so many rows: just enough, more, one byte short, fewer or none."""
+    enough = 4 * min(rows, 5_000)
+    way = chance.random()
+    if way < 0.35:
+        return enough + chance.randint(0, 3)
+    if way < 0.8:
+        return enough + chance.randint(1, 60)
+    if way < 0.9:
+        return max(enough - 1, 0)
+    return chance.choice([0, 3, chance.randint(0, enough)])
+
+
+# -------------------------------------------------------------------- the calls
+
+def verdict(chance, rules, tokens):
+    words = words_of_pair(chance, tokens)
+    return f"verdict {hexed(rules)} {hexed(tokens)} {words} {salt(chance)}"
+
+
+def trees(chance, rules, tokens):
+    words = words_of_pair(chance, tokens)
+    first, second = (lent_bytes(chance, rows) for rows in rows_of_pair(rules, tokens))
+    return f"trees {hexed(rules)} {hexed(tokens)} {words} {first} {second} {salt(chance)}"
+
+
+def line(rules, tokens):
+    return f"line {hexed(rules)} {hexed(tokens)}"
+
+
+def sweep(chance, rules, bound):
+    words = lent_words(chance, words_needed(min(bound, 9)))
+    return f"sweep {hexed(rules)} {bound} {words} {salt(chance)}"
+
+
+# ------------------------------------------------------------------- the sweeps
+
+def position_count(length):
+    """The positions of candidates of this length: columns from 1 to it."""
+    ways = [1] * length
+    for _ in range(length - 1):
+        total = sum(ways)
+        ways = [sum(ways[:col]) + 2 * total for col in range(length)]
+    return sum(ways)
+
+
+POSITIONS = {length: position_count(length) for length in range(1, 8)}
+
+
+def candidate_count(terminals, bound):
+    return sum(terminals**length * POSITIONS[length] for length in range(1, bound + 1))
+
+
+def ends_within(rules, bound, most):
+    """Does the reference's search end after at most so many candidates?"""
+    grammar, left = teplonga.Grammar(rules), most
+    terminals = teplonga.terminals_of(rules)
+    for length in range(1, bound + 1):
+        for candidate in teplonga.candidates(terminals, length):
+            if left == 0:
+                return False
+            if grammar.count(START, candidate) == 2:
+                return True
+            left -= 1
+    return True
+
+
+def bearable(rules, bound, most):
+    """This bound, or the greatest one with so few candidates."""
+    if bound > 7 or ends_within(rules, bound, most):
+        return bound
+    terminals = len(teplonga.terminals_of(rules))
+    return max(k for k in range(1, 8) if k == 1 or candidate_count(terminals, k) <= most)
+
+
+def small_sweep(chance):
+    """Half of them are drawn anew a few times until their bound is bearable,
+    which it mostly is where a sentence is found early."""
+    most = chance.choice([100, 400, 400, 1_000])
+    wanted = chance.random() < 0.5
+    for _ in range(8):
+        rules = sheets.sound_rules(chance)
+        asked = chance.randint(1, 7)
+        bound = bearable(rules, asked, most)
+        if not wanted or bound == asked:
+            break
+    return sweep(chance, sheets.rule_sheet(rules), bound)
+
+
+def late_sweep(chance):
+    """Sentences of up to five tokens, which take the reference some time."""
+    rules = sheets.late_rules(chance)
+    return sweep(chance, sheets.rule_sheet(rules), bearable(rules, chance.randint(2, 6), 5_000))
+
+
+def refused_sweep(chance):
+    rules, _ = chance.choice([rules_damaged, rules_damaged, without_trees, much])(chance)
+    reading = teplonga.read_rules(rules)
+    bound = chance.randint(0, 9)
+    if reading[0] == "accepted":
+        bound = bearable(reading[1], bound, 100)
+    return sweep(chance, rules, bound)
+
+
+def bound_off(chance):
+    rules = sheets.rule_sheet(sheets.sound_rules(chance))
+    bound = chance.choice([0, 8, 9, 10, 99, 256, (1 << 32) + 1, (1 << 64) - 1])
+    return sweep(chance, rules, bound)
+
+
+def about_the_limit(chance):
+    """Many terminals, the least of which has two trees at once."""
+    terminals = sorted(chance.sample(range(64), chance.choice([1, 2, 3, 7, 8, 28, 29, 64])))
+    rules = [Rule(START, "A", terminal, None, "none") for terminal in terminals]
+    rules += [Rule(START, "U", 9, None, "single"), Rule(9, "A", terminals[0], None, "none")]
+    chance.shuffle(rules)
+    return sweep(chance, sheets.rule_sheet(rules), chance.randint(1, 7))
+
+
+SWEEPS = {small_sweep: 70, refused_sweep: 20, bound_off: 5, about_the_limit: 5}
+
+
+# --------------------------------------------------------------- what is drawn
+
+def long_sentence(chance):
+    """11 to 24 tokens."""
+    return call(chance, sound(chance, 11, 24))
+
+
+def full_sentence(chance):
+    """63 or 64 tokens under few rules; the reference takes a second."""
+    while True:
+        rules = sheets.varied(chance, chance.choice(sheets.ENDLESS))
+        sheet = sheets.rule_sheet(rules)
+        if sheets.accepted(sheet):
+            count = chance.choice([MOST_TOKENS - 1, MOST_TOKENS])
+            terminals = [chance.choice(teplonga.terminals_of(rules)) for _ in range(count)]
+            return call(chance, (sheet, teplonga.token_sheet(sheets.placed(chance, terminals))))
+
+
+def call(chance, both):
+    """A call on one sentence."""
+    return chance.choice([verdict, trees])(chance, *both)
+
+
+def of_a_verdict(chance):
+    return verdict(chance, *drawn(chance, PAIRS))
+
+
+def of_trees(chance):
+    return trees(chance, *drawn(chance, PAIRS))
+
+
+def of_a_line(chance):
+    return line(*drawn(chance, {short: 5, **UNSOUND}))
+
+
+def of_a_sweep(chance):
+    return drawn(chance, SWEEPS)
+
+
+# In thousandths; few questions are costly.
+QUESTIONS = {
+    of_a_verdict: 294,
+    of_trees: 360,
+    of_a_line: 120,
+    of_a_sweep: 180,
+    late_sweep: 15,
+    long_sentence: 30,
+    full_sentence: 1,
+}
+
+
+def questions(count, seed):
+    """So many questions, the same ones for the same seed."""
+    chance = random.Random(seed)
+    for _ in range(count):
+        yield drawn(chance, QUESTIONS)
