@@ -94,8 +94,7 @@ def main():
     else:
         sys.exit(__doc__)
     for question in asked:
-        print(question)
-        print(answer(question))
+        print(question, answer(question), sep="\n")
 
 
 main()

@@ -351,7 +351,7 @@ def of_values(chance, sheet):
     if len(fields) == 5 and chance.random() < 0.5:
         fields[4] = chance.choice(ALL_LAYS).encode()
         if chance.random() < 0.5:
-            lines.insert(chance.randint(1, len(lines) - 1), lines[at])
+            lines.insert(chance.randint(1, max(1, len(lines) - 1)), lines[at])
             at = chance.choice([at, at + 1])
     else:
         numbers = [place for place, field in enumerate(fields) if field.isdigit()]
