@@ -10,7 +10,7 @@ use Rattle.grammar.specs.declared.Cell.{Cell}
 use Rattle.grammar.specs.Layout.{line, Every}
 use Rattle.grammar.specs.Trees.{Rules, TwoTrees}
 use Rattle.grammar.specs.Candidates.{token, placed, sentence, Candidate, Before}
-use Rattle.grammar.proofs.Transfer.{Alike, two-keeps}
+use Rattle.grammar.proofs.Transfer.{Alike, same-atoms, two-keeps}
 use Rattle.candidates.specs.Terminals.{Among}
 use Rattle.candidates.specs.Succession.{Shares}
 use Rattle.candidates.specs.Skips.{TwoBefore}
@@ -105,9 +105,9 @@ up-at : (L : ℕ) (a : Token) → 1 ≤ L → Clears L a → Up L (line a) (up L
 up-at L a k (inl h) = inl (up-below L (line a) (omega arith), h)
 up-at L a k (inr h) = inr (up-above L (line a) h, h, k)
 
-lift-alike : (L : ℕ) → 1 ≤ L → Alike (Clears L) (lift L)
-lift-alike L k = record {
-  terminals = λ a p. refl;
+lift-alike : (g : Rules) (L : ℕ) → 1 ≤ L → Alike g (Clears L) (lift L)
+lift-alike g L k = record {
+  atoms = λ a p. same-atoms g a (lift L a) refl;
   keeps = λ a b p q. record {
     columns = (λ h. h, λ h. h);
     lines = (up-lt L (line a) (line b) (up L (line a)) (up L (line b)) (up-at L a k p) (up-at L b k q), lt-up L (line a) (line b) (up L (line a)) (up L (line b)) (up-at L a k p) (up-at L b k q));
@@ -139,5 +139,5 @@ lowered g s n p b ds cs h k e t d = record {
   cells = lower p ds;
   candidate = fit-candidate (Among s) n (lower p ds) (lower-long p ds ∙ k .arranged .size) (lower-fit (Among s) n 0 0 p ds t (candidate-fit (Among s) n ds k));
   before = lower-before p b ds cs h e t;
-  two = subst (TwoTrees g 0) (lifted 1 p ds t) (two-keeps (Clears (lineOf 1 p ds)) (lift (lineOf 1 p ds)) (lift-alike (lineOf 1 p ds) (omega (arith, line-two 1 p ds t))) g 0 (sentence ds) (clears 1 p ds t) d);
+  two = subst (TwoTrees g 0) (lifted 1 p ds t) (two-keeps g (Clears (lineOf 1 p ds)) (lift (lineOf 1 p ds)) (lift-alike g (lineOf 1 p ds) (omega (arith, line-two 1 p ds t))) 0 (sentence ds) (clears 1 p ds t) d);
 }

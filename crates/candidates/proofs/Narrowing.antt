@@ -12,7 +12,7 @@ use Rattle.grammar.specs.Layout.{line, col, Every}
 use Rattle.grammar.specs.Trees.{Rules, TwoTrees}
 use Rattle.grammar.specs.Candidates.{placed, sentence, Candidate, Before}
 use Rattle.grammar.proofs.SweepLaws.{cell-path}
-use Rattle.grammar.proofs.Transfer.{Alike, two-keeps}
+use Rattle.grammar.proofs.Transfer.{Alike, same-atoms, two-keeps}
 use Rattle.candidates.specs.Terminals.{Among}
 use Rattle.candidates.specs.Succession.{Shares}
 use Rattle.candidates.specs.Skips.{TwoBefore}
@@ -87,9 +87,9 @@ back-lt k x y p q = moves-lt k x y (back k x) (back k y) (back-at k x p) (back-a
 lt-back : (k x y : ℕ) → (x ≡ k → ⊥) → (y ≡ k → ⊥) → back k x < back k y → x < y
 lt-back k x y p q = lt-moves k x y (back k x) (back k y) (back-at k x p) (back-at k y q)
 
-shift-alike : (k : ℕ) → Alike (λ t. col t ≡ k → ⊥) (shift k)
-shift-alike k = record {
-  terminals = λ a p. refl;
+shift-alike : (g : Rules) (k : ℕ) → Alike g (λ t. col t ≡ k → ⊥) (shift k)
+shift-alike g k = record {
+  atoms = λ a p. same-atoms g a (shift k a) refl;
   keeps = λ a b p q. record { columns = (back-lt k (col a) (col b) p q, lt-back k (col a) (col b) p q); lines = (λ h. h, λ h. h); next = λ h. h };
 }
 
@@ -136,5 +136,5 @@ closed-up g s n k p b ds cs l h c e f t d = record {
   candidate = fit-candidate (Among s) n (close k ds) (close-long k ds ∙ c .arranged .size)
       (subst (λ (x : ℕ). Fit (Among s) n 0 x (close k ds)) (back-low k 0 (omega arith)) (close-fit (Among s) n 0 0 k ds l (λ z. omega arith) f (candidate-fit (Among s) n ds c)));
   before = close-before k p b ds cs h e f t;
-  two = subst (TwoTrees g 0) (shifted k 1 ds) (two-keeps (λ t. col t ≡ k → ⊥) (shift k) (shift-alike k) g 0 (sentence ds) (free-every k 1 ds f) d);
+  two = subst (TwoTrees g 0) (shifted k 1 ds) (two-keeps g (λ t. col t ≡ k → ⊥) (shift k) (shift-alike g k) 0 (sentence ds) (free-every k 1 ds f) d);
 }

@@ -10,7 +10,7 @@ use Rattle.grammar.specs.declared.Token.{Token}
 use Rattle.grammar.specs.declared.Cell.{Cell}
 use Rattle.grammar.specs.Layout.{Word, line, col, Every}
 use Rattle.grammar.specs.Trees.{Tree, empty, leaf, unary, binary, word, Rules, Valid, valid-empty, valid-leaf, valid-unary, valid-binary, Witness, TwoTrees}
-use Rattle.grammar.proofs.Transfer.{Keeps, Alike, two-keeps, every-join, keeps-line-le}
+use Rattle.grammar.proofs.Transfer.{Keeps, Alike, same-atoms, two-keeps, every-join, keeps-line-le}
 use Rattle.grammar.specs.Candidates.{After, RisingFrom, Rising, token, placed, sentence, Terminal, Ranged, Cells, Arrangement, Candidate}
 
 abbrev In : Token → Word → Type 0
@@ -178,8 +178,8 @@ module _ (p : ℕ) (w : Word) (s : Sorted p w) where
       below : 1 + climb p w (line b) ≡ 1 + climb p w (line a) + 1 → climb p w (line a) + gap (line a) (line b) ≤ climb p w (line b) → climb p w (line b) ≤ climb p w (line a) + (line b - line a) → line b ≡ line a + 1
       below k u v = elim (decLe (line b) (line a + 1)) [ yes h ↦ omega arith | no h ↦ absurd (omega (arith, gap-far (line a) (line b) (omega arith))) ]
 
-  moved-alike : Alike (λ t. In t w) (moved p w)
-  moved-alike = record { terminals = λ a i. refl; keeps = moved-keeps }
+  moved-alike : (g : Rules) → Alike g (λ t. In t w) (moved p w)
+  moved-alike g = record { atoms = λ a i. same-atoms g a (moved p w a) refl; keeps = moved-keeps }
 
 every-in : (w v : Word) → ((t : Token) → In t v → In t w) → Every (λ t. In t w) v
 every-in w [] k = tt
@@ -225,11 +225,11 @@ cells-first Q C n a w h q =
 
 -- ---- what rises still does
 
-module _ (P : Token → Type 0) (f : Token → Token) (k : Alike P f) where
+module _ (g : Rules) (P : Token → Type 0) (f : Token → Token) (k : Alike g P f) where
   after-keeps : (a b : Token) → P a → P b → After a b → After (f a) (f b)
   after-keeps a b p q (inl h) = inl (k .keeps a b p q .lines .0 h)
   after-keeps a b p q (inr h) =
-      inr (omega (arith, keeps-line-le P f k a b p q (omega arith), keeps-line-le P f k b a q p (omega arith)), k .keeps a b p q .columns .0 (h .1))
+      inr (omega (arith, keeps-line-le g P f k a b p q (omega arith), keeps-line-le g P f k b a q p (omega arith)), k .keeps a b p q .columns .0 (h .1))
 
   rising-keeps : (a : Token) (w : Word) → P a → Every P w → RisingFrom a w → RisingFrom (f a) (map f w)
   rising-keeps a [] p q r = tt
@@ -265,9 +265,9 @@ normal g A (a ∷ u) l r h = record {
   cells = cs;
   candidate = record {
     arranged = record { size = cells-size (rank w) (line a) w; cells = cells-first (Terminal g) (rank w) (length w) a u (every-map-in (λ t. rank w (col t) < length w) w w (λ t i. rank-below w t i) (λ t i. i)) terminals };
-    rising = subst (λ (v : Word). Rising v) (sym same) (rising-keeps (λ t. In t w) f alike a u (inl refl) (every .1) r);
+    rising = subst (λ (v : Word). Rising v) (sym same) (rising-keeps g (λ t. In t w) f alike a u (inl refl) (every .1) r);
   };
-  two = subst (λ (v : Word). TwoTrees g A v) (sym same) (two-keeps (λ t. In t w) f alike g A w every h);
+  two = subst (λ (v : Word). TwoTrees g A v) (sym same) (two-keeps g (λ t. In t w) f alike A w every h);
 }
   where
     w : Word
@@ -279,8 +279,8 @@ normal g A (a ∷ u) l r h = record {
     f : Token → Token
     f = moved (line a) w
 
-    alike : Alike (λ t. In t w) f
-    alike = moved-alike (line a) w sorted
+    alike : Alike g (λ t. In t w) f
+    alike = moved-alike (line a) w sorted g
 
     every : Every (λ t. In t w) w
     every = every-in w w (λ t i. i)

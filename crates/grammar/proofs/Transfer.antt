@@ -119,12 +119,16 @@ pub record Keeps (f : Token → Token) (a b : Token) : Type 0 where
   pub lines : (line a < line b) ↔ (line (f a) < line (f b))
   pub next : line b ≡ line a + 1 → line (f b) ≡ line (f a) + 1
 
--- f keeps that of any two tokens that have P, and keeps each one's terminal
-pub record Alike (P : Token → Type 0) (f : Token → Token) : Type 0 where
-  pub terminals : (a : Token) → P a → f a .terminal ≡ a .terminal
+-- f keeps that of any two tokens that have P, and the A rules that have a token's terminal have its image's
+pub record Alike (g : Rules) (P : Token → Type 0) (f : Token → Token) : Type 0 where
+  pub atoms : (a : Token) → P a → (A : ℕ) → HasAtom g A (a .terminal) → HasAtom g A (f a .terminal)
   pub keeps : (a b : Token) → P a → P b → Keeps f a b
 
-module _ (P : Token → Type 0) (f : Token → Token) (k : Alike P f) where
+-- so it is where the terminal is the same
+pub same-atoms : (g : Rules) (a b : Token) → b .terminal ≡ a .terminal → (A : ℕ) → HasAtom g A (a .terminal) → HasAtom g A (b .terminal)
+same-atoms g a b e A r = rw e r
+
+module _ (g : Rules) (P : Token → Type 0) (f : Token → Token) (k : Alike g P f) where
   pub keeps-le : (a b : Token) → P a → P b → col a ≤ col b → col (f a) ≤ col (f b)
   keeps-le a b p q h = elim (decLe (col (f a)) (col (f b))) [ yes l ↦ l | no n ↦ absurd (let c = k .keeps b a q p .columns .1 (omega arith) in omega arith) ]
 
@@ -167,30 +171,30 @@ module _ (P : Token → Type 0) (f : Token → Token) (k : Alike P f) where
     rw (last-map f a u) (k .keeps (last a u) b (every-last P a u (p .0) (p .1)) (q .0) .next (h .1)),
   )
 
-  pub valid-keeps : (g : Rules) (t : Tree) → Every P (word t) → Valid g t → Valid g (relabel f t)
-  valid-keeps g (empty A) p (valid-empty r) = valid-empty r
-  valid-keeps g (leaf A t) p (valid-leaf r) = valid-leaf {A = A} {t = f t} (rw (k .terminals t (p .0)) r)
-  valid-keeps g (unary A t) p (valid-unary m r h v) =
-      valid-unary {A = A} {t = relabel f t} m (rw relabel-root r) (rw relabel-word (unary-keeps m (word t) p h)) (valid-keeps g t p v)
-  valid-keeps g (binary A s t) p (valid-binary m r h v w) =
+  pub valid-keeps : (t : Tree) → Every P (word t) → Valid g t → Valid g (relabel f t)
+  valid-keeps (empty A) p (valid-empty r) = valid-empty r
+  valid-keeps (leaf A t) p (valid-leaf r) = valid-leaf {A = A} {t = f t} (k .atoms t (p .0) A r)
+  valid-keeps (unary A t) p (valid-unary m r h v) =
+      valid-unary {A = A} {t = relabel f t} m (rw relabel-root r) (rw relabel-word (unary-keeps m (word t) p h)) (valid-keeps t p v)
+  valid-keeps (binary A s t) p (valid-binary m r h v w) =
       let ps = every-left P (word s) (word t) p in
       let pt = every-right P (word s) (word t) p in
       valid-binary {A = A} {s = relabel f s} {t = relabel f t} m (rw (relabel-root f s, relabel-root f t) r)
       (rw (relabel-word f s, relabel-word f t) (binary-keeps m (word s) (word t) ps pt h))
-      (valid-keeps g s ps v) (valid-keeps g t pt w)
+      (valid-keeps s ps v) (valid-keeps t pt w)
 
-  pub witness-keeps : (g : Rules) (A : ℕ) (w : Word) (t : Tree) → Every P w → Witness g A w t → Witness g A (map f w) (relabel f t)
-  witness-keeps g A w t p h = record {
+  pub witness-keeps : (A : ℕ) (w : Word) (t : Tree) → Every P w → Witness g A w t → Witness g A (map f w) (relabel f t)
+  witness-keeps A w t p h = record {
     rooted = relabel-root f t ∙ h .rooted;
     spelled = relabel-word f t ∙ ap (map f) (h .spelled);
-    valid = valid-keeps g t (rw (h .spelled) p) (h .valid);
+    valid = valid-keeps t (rw (h .spelled) p) (h .valid);
   }
 
-  pub two-keeps : (g : Rules) (A : ℕ) (w : Word) → Every P w → TwoTrees g A w → TwoTrees g A (map f w)
-  two-keeps g A w p h = record {
+  pub two-keeps : (A : ℕ) (w : Word) → Every P w → TwoTrees g A w → TwoTrees g A (map f w)
+  two-keeps A w p h = record {
     first = relabel f (h .first);
     second = relabel f (h .second);
-    witness₁ = witness-keeps g A w (h .first) p (h .witness₁);
-    witness₂ = witness-keeps g A w (h .second) p (h .witness₂);
+    witness₁ = witness-keeps A w (h .first) p (h .witness₁);
+    witness₂ = witness-keeps A w (h .second) p (h .witness₂);
     differ = λ e. h .differ (relabel-inj f (h .first) (h .second) e (h .witness₁ .spelled ∙ sym (h .witness₂ .spelled)));
   }
