@@ -69,9 +69,13 @@ every-at P [] d i (suc n) h k e = absurd (omega arith)
 every-at P (a ∷ l) d zero (suc n) h k e = e .0
 every-at P (a ∷ l) d (suc i) (suc n) h k e = every-at P l d i n (omega arith) (omega arith) (e .1)
 
--- the clause at i is small
+-- the rule at i is small
+pub small-rule-at : (g : Grammar) (d : Rule) (i : ℕ) → i < g .count → i < length (g .rules) → Formed g → SmallRule (getD (g .rules) i d)
+small-rule-at g d i h l f = every-at SmallRule (g .rules) d i (g .count) h l (f .small)
+
+-- and so is its clause
 pub small-at : (g : Grammar) (d : Rule) (i : ℕ) → i < g .count → i < length (g .rules) → Formed g → SmallClause (getD (g .rules) i d .clause)
-small-at g d i h l f = every-at SmallRule (g .rules) d i (g .count) h l (f .small) .clause
+small-at g d i h l f = small-rule-at g d i h l f .clause
 
 pub atom-small : (k : Clause) (a : ℕ) → k ≡ Clause.Atom a → SmallClause k → a < 64
 atom-small k a e s = let t : SmallClause (Clause.Atom a) = rw e at s in t

@@ -19,14 +19,43 @@ use Rattle.spans.proofs.ChangeLaws.{past-then, past-drop}
 use Rattle.candidates.specs.Terminals.{Among}
 use Rattle.candidates.specs.Spelling.{LowSteps, Spells, nowhere}
 use Rattle.candidates.proofs.Spelling.{low-steps}
-use Rattle.candidates.proofs.TerminalSets.{no-candidate}
-use Rattle.sweeping.specs.Searching.{NoneShorter, Searched, hit, miss}
+use Rattle.candidates.proofs.TerminalSets.{no-candidate, candidate-over}
+use Rattle.dominance.specs.Dominance.{Spared}
+use Rattle.dominance.proofs.Renaming.{renamed, renamed-candidate, renamed-two, renamed-before}
+use Rattle.sweeping.specs.Searching.{NoneShorter, Hits, Searched, hit, miss}
 use Rattle.sweeping.specs.Swept.{Swept, clear, two, Found, nothing, first, cleared}
 use Rattle.sweeping.proofs.Turns.{clear-found, first-found}
 
 -- the lengths up to k are all done
 pub none-left : {g : Rules} {s n : ℕ} (k : ℕ) → k < n → n ≤ k + 1 → NoneShorter g s n → NoneShorter g s (k + 1)
 none-left {g} {s} {n} k a b h = let e : n ≡ k + 1 = omega arith in rw e at h
+
+-- ---- the terminals that a smaller one replaces need not be tried
+
+module _ {g : Rules} {s kept : ℕ} (sp : Spared g s kept) where
+  shorter-all : {n : ℕ} → NoneShorter g kept n → NoneShorter g s n
+  shorter-all h = record { none = λ m ds l u c t. h .none m (renamed g s kept sp ds) l u (renamed-candidate g s kept sp m ds c) (renamed-two g s kept sp ds t) }
+
+  hits-all : {k n : ℕ} {cs : List Cell} → Hits g kept k n cs → Hits g s k n cs
+  hits-all {k} {n} {cs} h = record {
+    low = h .low;
+    high = h .high;
+    before = record {
+      candidate = candidate-over (Among kept) (Among s) (sp .part) (h .before .candidate);
+      none = λ ds c b t. h .before .none (renamed g s kept sp ds) (renamed-candidate g s kept sp n ds c) (renamed-before g s kept sp ds cs b) (renamed-two g s kept sp ds t);
+    };
+    two = h .two;
+    shorter = shorter-all (h .shorter);
+  }
+
+  pub searched-all : {k n : ℕ} {cs : List Cell} → Searched g kept k n cs → Searched g s k n cs
+  searched-all (hit h) = hit (hits-all h)
+  searched-all (miss e h) = miss e (shorter-all h)
+
+  pub none-all : ((x : ℕ) → Among kept x → ⊥) → (x : ℕ) → Among s x → ⊥
+  none-all h x m = let q = sp .each x m in h (q .0) (q .1)
+
+-- ---- what is found
 
 module _ {g : Rules} {s : ℕ} (same : (x : ℕ) → Among s x ↔ Terminal g x) where
   -- the search over the set of the terminals

@@ -2,6 +2,7 @@
 use candidates::Candidate;
 use candidates::terminals;
 use chart::hopeless;
+use dominance::needed;
 use grammar::Grammar;
 use grammar::Sentence;
 use marks::Draft;
@@ -135,7 +136,8 @@ fn search(g: Grammar, set: u64, low: u8, k: usize, words: &mut [u64]) -> Hit
     hit
 }
 
-// The first candidate of 1 to k tokens that has two trees, over the terminals of the sheet.
+// The first candidate of 1 to k tokens that has two trees, over the terminals of the sheet. It has none that a smaller one
+// replaces, so that these need not be tried.
 fn find(g: Grammar, k: usize, words: &mut [u64]) -> Hit
     requires { ⌜ (1 ≤ k) × (k ≤ 7) ⌝ }
     requires { ⌜ Formed g ⌝ }
@@ -143,7 +145,8 @@ fn find(g: Grammar, k: usize, words: &mut [u64]) -> Hit
     ensures { λ r. ⌜ Found (rules g) k (r .length) (cells (r .candidate) 0 (r .length)) ⌝ }
     ensures { λ r. ⌜ Past (2 * pairs k) (now (words .entry)) (now (words .exit)) ⌝ }
 {
-    let set = terminals(g);
+    let all = terminals(g);
+    let set = needed(g, all);
     let f = first_from(set, 0);
     let Member::At(low) = f else {
         return nothing();

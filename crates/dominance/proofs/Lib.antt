@@ -1,0 +1,2 @@
+pub mod LeftSets
+pub mod Renaming

@@ -1,0 +1,52 @@
+-- An arm for each kind.
+use borrow.Author.Needs.{needs}
+use mathlib.Core.Path.{refl, sym, ap, _∙_}
+use mathlib.Core.Bool.{cond}
+use Rattle.dominance.proofs.LeftSets.{with-same, with-other}
+use Rattle.dominance.proofs.with_left.Statement.{statement}
+use Rattle.dominance.proofs.with_left.Tie as tie
+
+enum-told : tie.Need-enum-told
+enum-told c = search needs
+
+enum-known-c : tie.Need-enum-known-c
+enum-known-c c = search needs
+
+with-requires : tie.Need-with-requires
+with-requires c κs = search needs
+
+enum-told-2 : tie.Need-enum-told-2
+enum-told-2 c = search needs
+
+enum-told-3 : tie.Need-enum-told-3
+enum-told-3 c = search needs
+
+returns : tie.Need-returns
+returns c = search needs
+
+returns-2 : tie.Need-returns-2
+returns-2 c = rw (c .before .before .before .c .given .1) (c .with .ensures ∙ sym (with-same _ _ _ _ (c .before .if1 .taken)))
+
+returns-3 : tie.Need-returns-3
+returns-3 c = rw (c .before .before .c .given .1) (sym (with-other _ _ _ _ (c .if1 .left)))
+
+returns-4 : tie.Need-returns-4
+returns-4 c = search needs
+
+returns-5 : tie.Need-returns-5
+returns-5 c = search needs
+
+pub with-left-spec : {M : Type 1} → statement M
+with-left-spec =
+    tie.close
+    (tie.spec
+    enum-told
+    enum-known-c
+    with-requires
+    enum-told-2
+    enum-told-3
+    returns
+    returns-2
+    returns-3
+    returns-4
+    returns-5)
