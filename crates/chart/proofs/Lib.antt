@@ -6,5 +6,6 @@ pub mod Views
 pub mod PassLaws
 pub mod Coverage
 pub mod FillLaws
+pub mod OpenLaws
 pub mod SheetLaws
 pub mod PickLaws

@@ -4,7 +4,7 @@ use mathlib.Core.Path.{_≡_, refl, sym, ap, _∙_, subst, subst₂}
 use mathlib.Core.Logic.{_⊎_, inl, inr, ⊎-elim, _↔_}
 use mathlib.Core.Bool.{Bool, true, false, not}
 use mathlib.Core.List.{List, [], _∷_}
-use Prim.Native.Nat.{ℕ, zero, suc, _+_, _-_, _*_, _^_, _≤_, _<_}
+use Prim.Native.Nat.{ℕ, zero, suc, _+_, _-_, _*_, _^_, _≤_, _<_, min}
 use native.Mathlib.Omega.{arith}
 use native.Mathlib.Nat.{not-suc-le-zero}
 use native.Mathlib.Decide.{decLt, ℕ-discrete}
@@ -28,11 +28,12 @@ use Rattle.spans.proofs.Uniqueness.{words-same}
 use Rattle.chart.specs.declared.Verdict.{Verdict}
 use Rattle.chart.specs.declared.Verdict.the-variants as Verdict
 use Rattle.chart.specs.Tables.{Table, One, Two, byTokens, Stand, Again}
-use Rattle.chart.specs.Filling.{Settled, Ground, Closed, Filled, Grown}
-use Rattle.chart.specs.Sheets.{Exact, RightTo, Covers, Charted, Holds, Judged, Hopeless, Settles}
+use Rattle.chart.specs.Filling.{Settled, Ground, Closed, Stays, Filled, Grown}
+use Rattle.chart.specs.Sheets.{Exact, RightTo, Ready, Covers, Charted, Holds, Judged, Hopeless, Settles}
 use Rattle.chart.proofs.Completeness.{complete, same}
 use Rattle.chart.proofs.Soundness.{sound-stand, sound-again}
 use Rattle.chart.proofs.FillLaws.{settled-kept, settled-empty}
+use Rattle.chart.proofs.OpenLaws.{open-settled, settled-open, open-none}
 
 -- ---- what is kept
 
@@ -55,67 +56,73 @@ exact-settled ws g h n from distinct inner low x a b fit = record {
 -- ---- the sheet, span by span
 
 -- with the empty word settled, the row of length 1 is to be filled
-first-row : (ws : List ℕ) (g : Rules) (h : Half) (n from : ℕ) → ((a b : ℕ) → a + b ≤ from → Settled (One ws n) (Two ws n) g h a b) → Filled ws g h n from 0 1
-first-row ws g h n from t = record { done = λ a b fit d. ⊎-elim (t a b) (λ e. ⊎-elim (λ l. empty a b l) (λ l. absurd (not-suc-le-zero (l .1))) e) d }
+first-row : (ws : List ℕ) (g : Rules) (h : Half) (n from to : ℕ) → ((a b : ℕ) → a + b ≤ n → Stays from to a b → Settled (One ws n) (Two ws n) g h a b) → Filled ws g h n from to 0 1
+first-row ws g h n from to t = record { done = λ a b fit d. ⊎-elim (t a b fit) (λ e. ⊎-elim (λ l. empty a b l) (λ l. absurd (not-suc-le-zero (l .1))) e) d }
   where
     empty : (a b : ℕ) → b < 1 → Settled (One ws n) (Two ws n) g h a b
-    empty a b l = subst (Settled (One ws n) (Two ws n) g h a) (let z : 0 ≡ b = omega arith in z) (settled-empty ws g h n a (t 0 0 (omega arith)))
+    empty a b l = subst (Settled (One ws n) (Two ws n) g h a) (let z : 0 ≡ b = omega arith in z) (settled-empty ws g h n a (t 0 0 (omega arith) (inl (omega arith))))
 
-pub begun-kept : (ws : List ℕ) (g : Rules) (h : Half) (n from : ℕ) → Distinct g → h .known ≤ length (h .word) → from ≤ h .known → 0 < from → RightTo g (h .word) n ws from → Grown ws ws g h n from 1
-begun-kept ws g h n from distinct inner low pos x =
-    record { filled = first-row ws g h n from (exact-settled ws g h n from distinct inner low (x .exact pos)); past = past-same (2 * pairs n) ws }
+pub begun-kept : (ws : List ℕ) (g : Rules) (h : Half) (n from to : ℕ) → Distinct g → h .known ≤ length (h .word) → 0 < from → Ready g h n ws from to → Grown ws ws g h n from to 1
+begun-kept ws g h n from to distinct inner pos r = record {
+  filled = first-row ws g h n from to
+      (λ a b fit d. ⊎-elim (exact-settled ws g h n from distinct inner (r .low) (r .right .exact pos) a b) (λ x. open-settled (r .beyond) h (r .high) a b (x .0) (x .1) fit) d);
+  past = past-same (2 * pairs n) ws;
+}
 
-pub begun-new : (ws ws′ : List ℕ) (g : Rules) (h : Half) (n from : ℕ) → from ≡ 0 → Closed ws ws′ g h n 0 0 → Grown ws ws′ g h n from 1
-begun-new ws ws′ g h n from e c =
-    record { filled = first-row ws′ g h n from here; past = kept-past n 0 0 (omega arith) (c .kept) }
+pub begun-new : (ws ws′ : List ℕ) (g : Rules) (h : Half) (n from to : ℕ) → from ≡ 0 → n ≤ to → Closed ws ws′ g h n 0 0 → Grown ws ws′ g h n from to 1
+begun-new ws ws′ g h n from to e all c =
+    record { filled = first-row ws′ g h n from to (λ a b fit d. ⊎-elim (here a b) (λ x. absurd (omega (arith, x .0, x .1))) d); past = kept-past n 0 0 (omega arith) (c .kept) }
   where
     here : (a b : ℕ) → a + b ≤ from → Settled (One ws′ n) (Two ws′ n) g h a b
     here a b l = subst₂ (Settled (One ws′ n) (Two ws′ n) g h) (let z : 0 ≡ a = omega arith in z) (let z : 0 ≡ b = omega arith in z) (c .settled)
 
 -- the parts of the next span are settled
-pub filled-ground : (ws : List ℕ) (g : Rules) (h : Half) (n from s len : ℕ) → s + len ≤ n → Filled ws g h n from s len → Ground ws g h n s len
-filled-ground ws g h n from s len fit f = record { parts = λ a b x y l. f .done a b (omega arith) (inr (inl l)) }
+pub filled-ground : (ws : List ℕ) (g : Rules) (h : Half) (n from to s len : ℕ) → s + len ≤ n → Filled ws g h n from to s len → Ground ws g h n s len
+filled-ground ws g h n from to s len fit f = record { parts = λ a b x y l. f .done a b (omega arith) (inr (inl l)) }
 
 -- the next span is settled
-pub filled-on : (ws ws′ : List ℕ) (g : Rules) (h : Half) (n from s len : ℕ) → 0 < len → s + len ≤ n → from < s + len → Filled ws g h n from s len → Closed ws ws′ g h n s len
-    → Filled ws′ g h n from (s + 1) len
-filled-on ws ws′ g h n from s len pos fit far f c = record { done = done }
+pub filled-on : (ws ws′ : List ℕ) (g : Rules) (h : Half) (n from to s len : ℕ) → 0 < len → s + len ≤ n → from < s + len → s < to → Filled ws g h n from to s len → Closed ws ws′ g h n s len
+    → Filled ws′ g h n from to (s + 1) len
+filled-on ws ws′ g h n from to s len pos fit far near f c = record { done = done }
   where
     -- a part of a span that is done has another pair
-    clear : (a b : ℕ) → a + b ≤ n → (a + b ≤ from) ⊎ ((b < len) ⊎ ((b ≡ len) × (a < s))) → (i j : ℕ) → a ≤ i → i + j ≤ a + b → pairAt n i j ≡ pairAt n s len → ⊥
+    clear : (a b : ℕ) → a + b ≤ n → Stays from to a b ⊎ ((b < len) ⊎ ((b ≡ len) × (a < s))) → (i j : ℕ) → a ≤ i → i + j ≤ a + b → pairAt n i j ≡ pairAt n s len → ⊥
     clear a b q d i j x y e =
         let z = pairAt-same n i j s len (omega arith) fit e in
-        ⊎-elim (λ o. omega (arith, z .0)) (λ o. ⊎-elim (λ l. omega (arith, z .0, o)) (λ l. ⊎-elim (λ m. omega (arith, z .0)) (λ m. omega (arith, z .0, m .0, m .1)) l) d) (z .1)
+        ⊎-elim (λ o. omega (arith, z .0))
+        (λ o. ⊎-elim (λ l. ⊎-elim (λ m. omega (arith, z .0, o)) (λ m. omega (arith, o, m .0)) l) (λ l. ⊎-elim (λ m. omega (arith, z .0)) (λ m. omega (arith, z .0, m .0, m .1)) l) d) (z .1)
 
-    old : (a b : ℕ) → a + b ≤ n → (a + b ≤ from) ⊎ ((b < len) ⊎ ((b ≡ len) × (a < s))) → Settled (One ws′ n) (Two ws′ n) g h a b
+    old : (a b : ℕ) → a + b ≤ n → Stays from to a b ⊎ ((b < len) ⊎ ((b ≡ len) × (a < s))) → Settled (One ws′ n) (Two ws′ n) g h a b
     old a b q d = settled-kept ws ws′ g h n a b (pairAt n s len) (c .kept) (clear a b q d) (f .done a b q d)
 
     here : (a b : ℕ) → a + b ≤ n → b ≡ len → a < s + 1 → Dec (a < s) → Settled (One ws′ n) (Two ws′ n) g h a b
     here a b q e l (yes k) = old a b q (inr (inr (e, k)))
     here a b q e l (no k) = subst₂ (Settled (One ws′ n) (Two ws′ n) g h) (let z : s ≡ a = omega arith in z) (sym e) (c .settled)
 
-    done : (a b : ℕ) → a + b ≤ n → (a + b ≤ from) ⊎ ((b < len) ⊎ ((b ≡ len) × (a < s + 1))) → Settled (One ws′ n) (Two ws′ n) g h a b
+    done : (a b : ℕ) → a + b ≤ n → Stays from to a b ⊎ ((b < len) ⊎ ((b ≡ len) × (a < s + 1))) → Settled (One ws′ n) (Two ws′ n) g h a b
     done a b q d = ⊎-elim (λ x. old a b q (inl x)) (λ y. ⊎-elim (λ x. old a b q (inr (inl x))) (λ x. here a b q (x .0) (x .1) (decLt a s)) y) d
 
 -- the spans of a length that end at or before `from` are passed over
-pub filled-skip : (ws : List ℕ) (g : Rules) (h : Half) (n from len : ℕ) → Filled ws g h n from 0 len → Filled ws g h n from (from + 1 - len) len
-filled-skip ws g h n from len f = record {
-  done = λ a b q d. f .done a b q (⊎-elim inl (λ x. ⊎-elim (λ y. inr (inl y)) (λ y. inl (omega (arith, y .0, y .1))) x) d);
+pub filled-skip : (ws : List ℕ) (g : Rules) (h : Half) (n from to len : ℕ) → Filled ws g h n from to 0 len → Filled ws g h n from to (from + 1 - len) len
+filled-skip ws g h n from to len f = record {
+  done = λ a b q d. f .done a b q (⊎-elim inl (λ x. ⊎-elim (λ y. inr (inl y)) (λ y. inl (inl (omega (arith, y .0, y .1)))) x) d);
 }
 
--- all spans of a length are settled
-pub filled-row : (ws : List ℕ) (g : Rules) (h : Half) (n from s len : ℕ) → n < s + len → Filled ws g h n from s len → Filled ws g h n from 0 (len + 1)
-filled-row ws g h n from s len past f = record { done = λ a b q d. f .done a b q (⊎-elim inl (λ x. inr (go a b q (decLt b len) x)) d) }
+-- all spans of a length are settled: the others begin at or past `to`
+pub filled-row : (ws : List ℕ) (g : Rules) (h : Half) (n from to s len : ℕ) → 0 < len → min to (n + 1 - len) ≤ s → Filled ws g h n from to s len → Filled ws g h n from to 0 (len + 1)
+filled-row ws g h n from to s len pos past f = record { done = λ a b q d. f .done a b q (⊎-elim inl (λ x. go a b q (decLt b len) (decLt a s) x) d) }
   where
-    go : (a b : ℕ) → a + b ≤ n → Dec (b < len) → (b < len + 1) ⊎ ((b ≡ len + 1) × (a < 0)) → (b < len) ⊎ ((b ≡ len) × (a < s))
-    go a b q (yes l) d = inl l
-    go a b q (no l) d = ⊎-elim (λ x. inr (omega arith, omega arith)) (λ x. absurd (not-suc-le-zero (x .1))) d
+    go : (a b : ℕ) → a + b ≤ n → Dec (b < len) → Dec (a < s) → (b < len + 1) ⊎ ((b ≡ len + 1) × (a < 0)) → Stays from to a b ⊎ ((b < len) ⊎ ((b ≡ len) × (a < s)))
+    go a b q l m (inr x) = absurd (not-suc-le-zero (x .1))
+    go a b q (yes l) m (inl x) = inr (inl l)
+    go a b q (no l) (yes m) (inl x) = inr (inr (omega arith, m))
+    go a b q (no l) (no m) (inl x) = inl (inr (omega arith, omega arith))
 
 -- ---- the whole sheet
 
 module _ (ws ws′ : List ℕ) (g : Rules) (h : Half) (n : ℕ) (long : length (h .word) ≡ n) (inner : h .known ≤ n) where
-  all-settled : (from : ℕ) → Filled ws′ g h n from 0 (n + 1) → (a b : ℕ) → a + b ≤ n → Settled (One ws′ n) (Two ws′ n) g h a b
-  all-settled from f a b q = f .done a b q (inr (inl (omega arith)))
+  all-settled : (from to : ℕ) → Filled ws′ g h n from to 0 (n + 1) → (a b : ℕ) → a + b ≤ n → Settled (One ws′ n) (Two ws′ n) g h a b
+  all-settled from to f a b q = f .done a b q (inr (inl (omega arith)))
 
   covers : ((a b : ℕ) → a + b ≤ n → Settled (One ws′ n) (Two ws′ n) g h a b) → Covers g h n ws′
   covers t = record {
@@ -133,11 +140,11 @@ module _ (ws ws′ : List ℕ) (g : Rules) (h : Half) (n : ℕ) (long : length (
       again : (s len A : ℕ) → s + len ≤ length (h .word) → Again (One ws′ n) (Two ws′ n) g (byTokens h s len) s len A → Two ws′ n s len A
       again s len A fit q = t s len (omega arith) .again A q
 
-  pub charted : (from : ℕ) → Grown ws ws′ g h n from (n + 1) → Charted ws ws′ g h n
-  charted from f = record { exact = exact; covers = all; past = f .past }
+  pub charted : (from to : ℕ) → Grown ws ws′ g h n from to (n + 1) → Charted ws ws′ g h n
+  charted from to f = record { exact = exact; covers = all; beyond = settled-open h settled; past = f .past }
     where
       settled : (a b : ℕ) → a + b ≤ n → Settled (One ws′ n) (Two ws′ n) g h a b
-      settled = all-settled from (f .filled)
+      settled = all-settled from to (f .filled)
 
       all : Covers g h n ws′
       all = covers settled
@@ -196,12 +203,14 @@ settles {g} {h} {n} {ws′ = ws′} {b = true} e c s = record {
   none = λ q. absurd (true-not-false (sym q));
   two = λ q k. reads-two e (subst (Exact g (h .word) n ws′) k (c .exact)) (s .is refl);
   right = exact-right (c .exact);
+  beyond = c .beyond;
   past = c .past;
 }
 settles {b = false} e c s = record {
   none = λ q. covers-none e (c .covers) (s .isnt refl);
   two = λ q. absurd (true-not-false q);
   right = exact-right (c .exact);
+  beyond = c .beyond;
   past = c .past;
 }
 
@@ -227,6 +236,10 @@ judged-same {g} {w} {ws = ws} {a} {b} e small small′ x y =
 -- nothing is asked of a sheet that is to be filled from its beginning
 pub right-none : (g : Rules) (w : Word) (n : ℕ) (ws : List ℕ) → RightTo g w n ws 0
 right-none g w n ws = record { exact = λ pos. absurd (not-suc-le-zero pos) }
+
+-- and it is ready
+pub ready-whole : (g : Rules) (h : Half) (n : ℕ) (ws : List ℕ) → h .known ≤ n → Ready g h n ws 0 n
+ready-whole g h n ws k = record { low = omega arith; high = k; right = right-none g (h .word) n ws; beyond = open-none g n ws n (omega arith); whole = λ e. omega arith }
 
 -- fewer tokens
 pub right-less : {g : Rules} {w : Word} {n : ℕ} {ws : List ℕ} {to : ℕ} (less : ℕ) → less ≤ to → RightTo g w n ws to → RightTo g w n ws less

@@ -40,11 +40,15 @@ pub record Closed (ws ws′ : List ℕ) (g : Rules) (h : Half) (n s len : ℕ) :
   pub kept : Kept ws ws′ (pairAt n s len)
   pub settled : Settled (One ws′ n) (Two ws′ n) g h s len
 
--- the spans that end at or before `from`, and those before the span of len tokens from s on, are settled
-pub record Filled (ws : List ℕ) (g : Rules) (h : Half) (n from s len : ℕ) : Type 0 where
-  pub done : (a b : ℕ) → a + b ≤ n → (a + b ≤ from) ⊎ ((b < len) ⊎ ((b ≡ len) × (a < s))) → Settled (One ws n) (Two ws n) g h a b
+-- the span is kept: it ends at or before `from`, or it begins at or past `to`
+abbrev pub Stays : ℕ → ℕ → ℕ → ℕ → Type 0
+Stays from to a b = (a + b ≤ from) ⊎ ((to ≤ a) × (0 < b))
+
+-- the spans that are kept, and those before the span of len tokens from s on, are settled
+pub record Filled (ws : List ℕ) (g : Rules) (h : Half) (n from to s len : ℕ) : Type 0 where
+  pub done : (a b : ℕ) → a + b ≤ n → Stays from to a b ⊎ ((b < len) ⊎ ((b ≡ len) × (a < s))) → Settled (One ws n) (Two ws n) g h a b
 
 -- so far, and the words past the sheet are as they were
-pub record Grown (ws ws′ : List ℕ) (g : Rules) (h : Half) (n from len : ℕ) : Type 0 where
-  pub filled : Filled ws′ g h n from 0 len
+pub record Grown (ws ws′ : List ℕ) (g : Rules) (h : Half) (n from to len : ℕ) : Type 0 where
+  pub filled : Filled ws′ g h n from to 0 len
   pub past : Past (2 * pairs n) ws ws′

@@ -1,6 +1,7 @@
 pub mod Tables
 pub mod Passes
 pub mod Filling
+pub mod Openness
 pub mod Sheets
 pub mod Choosing
 pub mod Searches

@@ -11,6 +11,7 @@ use Rattle.grammar.specs.Trees.{Rules, Derives, NoTree, OneTree, TwoTrees}
 use Rattle.grammar.specs.SpanSheet.{part, pairs, firstWord, secondWord, SpanSheet}
 use Rattle.marks.specs.Half.{Half, Completes}
 use Rattle.spans.specs.Changes.{Past}
+use Rattle.chart.specs.Openness.{Open}
 use Rattle.chart.specs.declared.Verdict.{Verdict}
 use Rattle.chart.specs.declared.Verdict.the-variants as Verdict
 
@@ -23,6 +24,15 @@ pub record Exact (g : Rules) (w : Word) (n : ℕ) (ws : List ℕ) (to : ℕ) : T
 pub record RightTo (g : Rules) (w : Word) (n : ℕ) (ws : List ℕ) (to : ℕ) : Type 0 where
   pub exact : 0 < to → Exact g w n ws to
 
+-- a sheet may be filled anew but for the spans that end at or before `from` and those that begin at or past `to`:
+-- these are right for h; from its beginning it is filled whole
+pub record Ready (g : Rules) (h : Half) (n : ℕ) (ws : List ℕ) (from to : ℕ) : Type 0 where
+  pub low : from ≤ h .known
+  pub high : h .known ≤ to
+  pub right : RightTo g (h .word) n ws from
+  pub beyond : Open g n ws to
+  pub whole : from ≡ 0 → n ≤ to
+
 -- what has a tree, or two, in some completion of h is in the words
 pub record Covers (g : Rules) (h : Half) (n : ℕ) (ws : List ℕ) : Type 0 where
   pub one : (w : Word) → Completes h w → (s len A : ℕ) → s + len ≤ length w → Derives g A (part w s len) → In (firstWord ws n s len) A
@@ -32,6 +42,7 @@ pub record Covers (g : Rules) (h : Half) (n : ℕ) (ws : List ℕ) : Type 0 wher
 pub record Charted (ws ws′ : List ℕ) (g : Rules) (h : Half) (n : ℕ) : Type 0 where
   pub exact : Exact g (h .word) n ws′ (h .known)
   pub covers : Covers g h n ws′
+  pub beyond : Open g n ws′ (h .known)
   pub past : Past (2 * pairs n) ws ws′
 
 -- none, one or two: A has no valid tree over w, just one, or at least two
@@ -55,4 +66,5 @@ pub record Settles (r : Bool) (g : Rules) (h : Half) (n : ℕ) (ws ws′ : List 
   pub none : r ≡ true → Hopeless g h
   pub two : r ≡ false → h .known ≡ n → TwoTrees g 0 (h .word)
   pub right : RightTo g (h .word) n ws′ (h .known)
+  pub beyond : Open g n ws′ (h .known)
   pub past : Past (2 * pairs n) ws ws′

@@ -19,20 +19,20 @@ use spans::pair_at;
 use spans::write;
 ghost use mathlib.Core.Logic.{_⊎_};
 ghost use mathlib.Core.Path.{_≡_};
-ghost use Prim.Native.Nat.{_+_, _-_, _*_, _≤_, _<_};
+ghost use Prim.Native.Nat.{_+_, _-_, _*_, _≤_, _<_, min};
 ghost use lib.ListN.{length};
 ghost use Rattle.sets.specs.Says.{Says};
 ghost use Rattle.sets.specs.Sets.{In};
 ghost use Rattle.grammar.specs.declared.Clause.the-variants as Kind;
 ghost use Rattle.grammar.specs.Content.{rules, spelled, SmallClause, SmallRule, Formed};
 ghost use Rattle.grammar.specs.SpanSheet.{pairs, part, SpanSheet};
-ghost use Rattle.marks.specs.Drafts.{drafted, half};
+ghost use Rattle.marks.specs.Drafts.{half};
 ghost use Rattle.marks.specs.Marked.{UnaryBy};
 ghost use Rattle.spans.specs.Reach.{Reach};
 ghost use Rattle.chart.specs.Tables.{One, byMarks, Fits, Atomic, lefts};
 ghost use Rattle.chart.specs.Passes.{Room, Found, Took, pairOf, sidesAt, SplitFits, SplitBelow, SplitRow, none, Splits, LeafFits, Leaves, Inner, Beside, Wide, Pass, Saturated};
 ghost use Rattle.chart.specs.Filling.{Whole, Ground, Closed, Filled, Grown};
-ghost use Rattle.chart.specs.Sheets.{RightTo, Charted, Judged, Settles};
+ghost use Rattle.chart.specs.Sheets.{Ready, Charted, Judged, Settles};
 ghost use Rattle.chart.specs.Choosing.{NextChoice};
 ghost use Rattle.chart.specs.Searches.{FirstSplit, FirstPick};
 
@@ -526,12 +526,12 @@ fn close(words: &mut [u64], d: Draft, g: Grammar, start: usize, len: usize)
 }
 
 // Settle the empty word, unless it is to be kept.
-fn fill_empty(words: &mut [u64], d: Draft, g: Grammar, from: usize)
+fn fill_empty(words: &mut [u64], d: Draft, g: Grammar, from: usize, to: usize)
     requires { ⌜ Whole d ⌝ }
     requires { ⌜ Room (now words) (d .count) 0 0 ⌝ }
     requires { ⌜ Formed g ⌝ }
-    requires { ⌜ (from ≤ d .known) × RightTo (rules g) (drafted d) (d .count) (now words) from ⌝ }
-    ensures { λ r. ⌜ Grown (now (words .entry)) (now (words .exit)) (rules g) (half d) (d .count) from 1 ⌝ }
+    requires { ⌜ Ready (rules g) (half d) (d .count) (now words) from to ⌝ }
+    ensures { λ r. ⌜ Grown (now (words .entry)) (now (words .exit)) (rules g) (half d) (d .count) from to 1 ⌝ }
 {
     if from != 0 {
         return;
@@ -550,36 +550,46 @@ fn first_start(from: usize, len: usize) -> usize
     from + 1 - len
 }
 
-// Settle the spans of `len` tokens that end past `from`.
-fn fill_row(words: &mut [u64], d: Draft, g: Grammar, from: usize, len: usize)
+// The first start of a span of `len` tokens that is not filled: at `to`, or where the tokens end.
+fn last_start(n: usize, len: usize, to: usize) -> usize
+    requires { ⌜ (len ≤ n) × (n ≤ 64) ⌝ }
+    ensures { λ r. ⌜ r ≡ min to (n + 1 - len) ⌝ }
+{
+    let end = n + 1 - len;
+    if to < end { to } else { end }
+}
+
+// Settle the spans of `len` tokens that end past `from` and begin before `to`.
+fn fill_row(words: &mut [u64], d: Draft, g: Grammar, from: usize, to: usize, len: usize)
     requires { ⌜ Whole d ⌝ }
     requires { ⌜ Room (now words) (d .count) 0 len ⌝ }
     requires { ⌜ Formed g ⌝ }
-    requires { ⌜ (0 < len) × (from ≤ d .known) × Filled (now words) (rules g) (half d) (d .count) from 0 len ⌝ }
-    ensures { λ r. ⌜ Grown (now (words .entry)) (now (words .exit)) (rules g) (half d) (d .count) from (len + 1) ⌝ }
+    requires { ⌜ (0 < len) × (from ≤ d .known) × Filled (now words) (rules g) (half d) (d .count) from to 0 len ⌝ }
+    ensures { λ r. ⌜ Grown (now (words .entry)) (now (words .exit)) (rules g) (half d) (d .count) from to (len + 1) ⌝ }
 {
     let n = d.count;
     let mut start = first_start(from, len);
-    while start + len <= n {
+    let end = last_start(n, len, to);
+    while start < end {
         close(words, d, g, start, len);
         start += 1;
     }
 }
 
-// Fill the span sheet of the draft from the token `from` on: the pairs of spans that end at or before it are kept,
-// and with them the empty word's unless `from` is 0.
-pub fn fill(words: &mut [u64], d: Draft, g: Grammar, from: usize)
-    requires { ⌜ (d .count ≤ 64) × (d .known ≤ d .count) × (from ≤ d .known) ⌝ }
+// Fill the span sheet of the draft anew, but for the spans that end at or before the token `from` and those that begin
+// at or past the token `to`: no token of these has changed. From 0 on all of it is filled, the empty word too.
+pub fn fill(words: &mut [u64], d: Draft, g: Grammar, from: usize, to: usize)
+    requires { ⌜ (d .count ≤ 64) × (d .known ≤ d .count) ⌝ }
     requires { ⌜ 2 * pairs (d .count) ≤ length (now words) ⌝ }
     requires { ⌜ Formed g ⌝ }
-    requires { ⌜ RightTo (rules g) (drafted d) (d .count) (now words) from ⌝ }
+    requires { ⌜ Ready (rules g) (half d) (d .count) (now words) from to ⌝ }
     ensures { λ r. ⌜ Charted (now (words .entry)) (now (words .exit)) (rules g) (half d) (d .count) ⌝ }
 {
     let n = d.count;
-    fill_empty(words, d, g, from);
+    fill_empty(words, d, g, from, to);
     let mut len = 1;
     while len <= n {
-        fill_row(words, d, g, from, len);
+        fill_row(words, d, g, from, to, len);
         len += 1;
     }
 }
@@ -605,7 +615,7 @@ pub fn judge(words: &mut [u64], s: Sentence, g: Grammar) -> Verdict
         count: n,
         known: n,
     };
-    fill(words, d, g, 0);
+    fill(words, d, g, 0, n);
     if !in_first(words, n, 0, n, 0) {
         return Verdict::None;
     }
@@ -616,16 +626,16 @@ pub fn judge(words: &mut [u64], s: Sentence, g: Grammar) -> Verdict
 }
 
 // Has no completion of the draft two trees? (Where all of it is known: has it not?) The pairs of spans that end at or
-// before the token `from` are kept.
-pub fn hopeless(words: &mut [u64], d: Draft, g: Grammar, from: usize) -> bool
-    requires { ⌜ (d .count ≤ 64) × (d .known ≤ d .count) × (from ≤ d .known) ⌝ }
+// before the token `from`, and of those that begin at or past the token `to`, are kept.
+pub fn hopeless(words: &mut [u64], d: Draft, g: Grammar, from: usize, to: usize) -> bool
+    requires { ⌜ (d .count ≤ 64) × (d .known ≤ d .count) ⌝ }
     requires { ⌜ 2 * pairs (d .count) ≤ length (now words) ⌝ }
     requires { ⌜ Formed g ⌝ }
-    requires { ⌜ RightTo (rules g) (drafted d) (d .count) (now words) from ⌝ }
+    requires { ⌜ Ready (rules g) (half d) (d .count) (now words) from to ⌝ }
     ensures { λ r. ⌜ Settles r (rules g) (half d) (d .count) (now (words .entry)) (now (words .exit)) ⌝ }
 {
     let n = d.count;
-    fill(words, d, g, from);
+    fill(words, d, g, from, to);
     !in_second(words, n, 0, n, 0)
 }
 

@@ -19,18 +19,32 @@ ghost use Rattle.grammar.specs.SpanSheet.{pairs};
 ghost use Rattle.candidates.specs.Arrays.{cells};
 ghost use Rattle.candidates.specs.Terminals.{Lowest};
 ghost use Rattle.spans.specs.Changes.{Past};
-ghost use Rattle.sweeping.specs.Searching.{Turn, Looks, Searched};
+ghost use Rattle.sweeping.specs.Searching.{Turn, Looks, Skips, Searched};
 ghost use Rattle.sweeping.specs.Swept.{Swept, Found, cleared};
 
-// What a look at a candidate tells: is it ruled out, with all that share the cells looked at; and the token up to which
-// the span sheet is right.
+// What a look at a candidate tells: is it ruled out, with all that share the cells looked at; the token up to which the
+// span sheet is right; and the token from which on it is right for open tokens.
 struct View {
     out: bool,
     right: usize,
+    on: usize,
+}
+
+// The first start of a span that need not be filled anew: past the b tokens known and those known before, which were the
+// first `on`; there is none where all is filled.
+fn skipped(from: usize, on: usize, b: usize, n: usize) -> usize
+    requires { ⌜ b ≤ n ⌝ }
+    ensures { λ r. ⌜ Skips from on b n r ⌝ }
+{
+    if from == 0 {
+        return n;
+    }
+    if on < b { b } else { on }
 }
 
 // Has no candidate that shares the first b cells two trees? Where b is n and the answer is no, this one has.
-// Only spans that end past the token `from` are filled anew.
+// Only spans with a token that has changed are filled anew: those that end at or before the token `from` have none, nor
+// have those of tokens that were open, from `on` on, and are.
 fn look(
     g: Grammar,
     set: u64,
@@ -38,18 +52,20 @@ fn look(
     n: usize,
     b: usize,
     from: usize,
+    on: usize,
     words: &mut [u64],
 ) -> View
     requires { ⌜ (1 ≤ n) × (n ≤ 7) ⌝ }
     requires { ⌜ Formed g ⌝ }
     requires { ⌜ 2 * pairs n ≤ length (now words) ⌝ }
-    requires { ⌜ Turn (rules g) set n b from (cells c 0 n) (now words) ⌝ }
-    ensures { λ r. ⌜ Looks (r .out) (r .right) (rules g) set n b (cells c 0 n) (now (words .entry)) (now (words .exit)) ⌝ }
+    requires { ⌜ Turn (rules g) set n b from on (cells c 0 n) (now words) ⌝ }
+    ensures { λ r. ⌜ Looks (r .out) (r .right) (r .on) (rules g) set n b (cells c 0 n) (now (words .entry)) (now (words .exit)) ⌝ }
 {
     if c.stale(n, b) {
         return View {
             out: true,
             right: from,
+            on,
         };
     }
     let w = c.sentence(n);
@@ -59,8 +75,13 @@ fn look(
         count: n,
         known: b,
     };
-    let out = hopeless(words, d, g, from);
-    View { out, right: b }
+    let to = skipped(from, on, b, n);
+    let out = hopeless(words, d, g, from, to);
+    View {
+        out,
+        right: b,
+        on: b,
+    }
 }
 
 // The lesser of two places.
@@ -109,8 +130,10 @@ fn search(g: Grammar, set: u64, low: u8, k: usize, words: &mut [u64]) -> Hit
         let mut c = Candidate::first(set, low, n);
         let mut b: usize = 0;
         let mut right: usize = 0;
+        let mut on: usize = n;
         loop {
-            let v = look(g, set, c, n, b, right, words);
+            let v = look(g, set, c, n, b, right, on, words);
+            on = v.on;
             if v.out {
                 let s = c.successor(set, low, n, b);
                 if !s.more {

@@ -11,7 +11,7 @@ returns : tie.Need-returns
 returns c =
     let z = c .before .before in
     let a = z .args in
-    begun-kept (a .words .now) (rules (a .g)) (half (a .d)) (a .d .count) (a .from) (z .pre .1 .1 .0 .distinct) (omega (arith, z .pre .0)) (z .pre .1 .1 .1 .0) (omega (arith, c .if1 .taken)) (z .pre .1 .1 .1 .1)
+    begun-kept (a .words .now) (rules (a .g)) (half (a .d)) (a .d .count) (a .from) (a .to) (z .pre .1 .1 .0 .distinct) (omega (arith, z .pre .0)) (omega (arith, c .if1 .taken)) (z .pre .1 .1 .1)
 
 close-requires : tie.Need-close-requires
 close-requires c κs =
@@ -23,8 +23,10 @@ same-length c = search needs
 
 returns-2 : tie.Need-returns-2
 returns-2 c =
-    let a = c .before .before .before .before .before .before .args in
-    begun-new (a .words .now) (c .before .before .close .last .0) (rules (a .g)) (half (a .d)) (a .d .count) (a .from) (c .before .before .before .before .if1 .left) (c .before .before .close .ensures)
+    let z = c .before .before .before .before .before .before in
+    let a = z .args in
+    let e = c .before .before .before .before .if1 .left in
+    begun-new (a .words .now) (c .before .before .close .last .0) (rules (a .g)) (half (a .d)) (a .d .count) (a .from) (a .to) e (z .pre .1 .1 .1 .whole e) (c .before .before .close .ensures)
 
 pub fill-empty-spec : {M : Type 1} → statement M
 fill-empty-spec = tie.close (tie.spec returns close-requires same-length returns-2)

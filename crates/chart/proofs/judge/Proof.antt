@@ -6,7 +6,7 @@ use native.Mathlib.Omega.{arith}
 use lib.ListN.{length, length-map}
 use lib.Seq.{length-take-le}
 use Rattle.grammar.specs.Content.{rules, spelled}
-use Rattle.chart.proofs.SheetLaws.{judged, reads-none, reads-one, reads-two, right-none}
+use Rattle.chart.proofs.SheetLaws.{judged, reads-none, reads-one, reads-two, ready-whole}
 use Rattle.chart.proofs.judge.Statement.{statement}
 use Rattle.chart.proofs.judge.Tie as tie
 
@@ -20,7 +20,7 @@ fill-requires : tie.Need-fill-requires
 fill-requires c κs =
     let z = c .before .before .before in
     let n = z .args .s .count in
-    ((z .pre .0, omega arith, omega arith), (z .pre .1 .0, (z .pre .1 .1, right-none (rules (z .args .g)) (spelled (z .args .s)) n (z .args .words .now))))
+    ((z .pre .0, omega arith), (z .pre .1 .0, (z .pre .1 .1, ready-whole (rules (z .args .g)) (record { word = spelled (z .args .s); known = n }) n (z .args .words .now) (omega arith))))
 
 in-first-requires : tie.Need-in-first-requires
 in-first-requires c κs = search needs

@@ -19,10 +19,10 @@ use Rattle.sweeping.proofs.search.Statement.{statement}
 use Rattle.sweeping.proofs.search.Tie as tie
 
 abbrev Inv-loop : tie.InvT-loop
-Inv-loop g set low k words₀ n c₀ b₀ right₀ words c b right = Turn (rules g) set n b right (cells c 0 n) words × Past (2 * pairs k) words₀ words
+Inv-loop g set low k words₀ n c₀ b₀ right₀ on₀ words c b right on = Turn (rules g) set n b right on (cells c 0 n) words × Past (2 * pairs k) words₀ words
 
 abbrev μ-loop : tie.MeasureT-loop
-μ-loop g set low k words₀ n c₀ b₀ right₀ words c b right = left (cells c 0 n) * 8 + (n - b)
+μ-loop g set low k words₀ n c₀ b₀ right₀ on₀ words c b right on = left (cells c 0 n) * 8 + (n - b)
 
 abbrev Inv-search : tie.InvT-search
 Inv-search g set low k words₀ n₀ words n = (1 ≤ n) × (n ≤ k + 1) × NoneShorter (rules g) set n × Past (2 * pairs k) words₀ words
@@ -50,7 +50,7 @@ small c = omega (arith, c .before .before .if1 .left, c .before .before .before 
 
 -- what the looks of this length have changed
 changed : (c : tie.After-look Inv-loop μ-loop Inv-search μ-search)
-    → Past (2 * pairs (c .before .before .before .before .before .before .before .args .k)) (c .before .before .before .before .before .search .words) (c .look .last .1 .1 .1 .1 .1 .1 .0)
+    → Past (2 * pairs (c .before .before .before .before .before .before .before .args .k)) (c .before .before .before .before .before .search .words) (c .look .last .1 .1 .1 .1 .1 .1 .1 .0)
 changed c = let l = c .before .before in past-then (l .loop .inv .1) (past-longer _ (l .before .before .if1 .left) (c .look .ensures .past))
 
 look-requires : tie.Need-look-requires Inv-loop μ-loop Inv-search μ-search
