@@ -14,10 +14,15 @@ use Rattle.grammar.specs.declared.BinaryMark.{BinaryMark}
 use Rattle.grammar.specs.declared.BinaryMark.the-variants as BinaryMark
 use Rattle.marks.specs.declared.SpanMarks.{SpanMarks}
 use Rattle.marks.specs.Half.{Half, token, MayBe, MayKeep, MayPair}
-use Rattle.marks.specs.Marked.{UnaryBy, BinaryBy, Pairing, Included}
+use Rattle.marks.specs.Marked.{UnaryBy, BinaryBy, Included}
 
-pub pairing-none : (m : BinaryMark) (h : Half) (s len : ℕ) → Pairing m h s len 1 0
-pairing-none m h s len = record {
+-- set has the left lengths from 1 to below `to` at which the mark may hold of the span of len tokens from s on
+pub record Pairing (m : BinaryMark) (h : Half) (s len to set : ℕ) : Type 0 where
+  pub each : (l : ℕ) → 0 < l → l < to → In set l ↔ MayPair m h s l (len - l)
+  pub only : (l : ℕ) → In set l → (0 < l) × (l < to)
+
+pub pairing-none : (m : BinaryMark) (h : Half) (s len to : ℕ) → to ≤ 1 → Pairing m h s len to 0
+pairing-none m h s len to few = record {
   each = λ l a b. absurd (omega arith);
   only = λ l i. absurd (in-zero l i);
 }
@@ -56,17 +61,6 @@ pairing-more m h s len left set r false pos a b p = record {
         subst (λ (z : ℕ). In r z ↔ MayPair m h s z (len - z)) e
         (λ i. absurd (let j = p .only left (subst (λ (z : ℕ). In z left) now i) in omega arith), λ q. absurd (a .isnt refl q))
 
--- no left length is left
-pub pairing-done : (m : BinaryMark) (h : Half) (s len to set : ℕ) → 0 < to → len ≤ to → to ≤ len + 1 → (0 < len → to ≤ len) → Pairing m h s len to set → Pairing m h s len len set
-pairing-done m h s len to set pos low high tight p = record {
-  each = λ l a b. p .each l a (omega arith);
-  only = λ l i. let q = p .only l i in go l (q .0) (q .1) (decLt 0 len);
-}
-  where
-    go : (l : ℕ) → 0 < l → l < to → Dec (0 < len) → (0 < l) × (l < len)
-    go l a b (yes z) = let t = tight z in (a, omega arith)
-    go l a b (no z) = absurd (omega arith)
-
 -- a pairing up to the span's length says all of the mark
 pub paired : (m : BinaryMark) (h : Half) (s len set l : ℕ) → l ≤ len → Pairing m h s len len set → (0 < l → l < len → In set l) ↔ MayPair m h s l (len - l)
 paired m h s len set l fit p = (
@@ -79,11 +73,11 @@ paired m h s len set l fit p = (
     go f (no n) (yes e) = record { pairs = λ a b c. absurd (omega arith) }
     go f (no n) (no o) = p .each l (omega arith) (omega arith) .0 (f (omega arith) (omega arith))
 
-flagged : {b : Bool} {P : Type 0} → Says b P → (b ≡ true) ↔ P
+pub flagged : {b : Bool} {P : Type 0} → Says b P → (b ≡ true) ↔ P
 flagged {b = true} s = (s .is, λ p. refl)
 flagged {b = false} s = (s .is, λ p. absurd (s .isnt refl p))
 
--- the five functions' results are the marks of the span
+-- three flags and two sets that are right are the marks of the span
 pub unary-marked : (h : Half) (s len : ℕ) (k : SpanMarks)
     → Says (k .offside) (MayKeep UnaryMark.Offside h s len) → Says (k .offalign) (MayKeep UnaryMark.Offalign h s len) → Says (k .single) (MayKeep UnaryMark.Single h s len)
     → (m : UnaryMark) → UnaryBy k m ↔ MayKeep m h s len

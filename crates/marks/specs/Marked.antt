@@ -3,6 +3,7 @@ use mathlib.Core.Path.{_≡_}
 use mathlib.Core.Bool.{Bool, true, false}
 use mathlib.Core.Logic.{_⊎_, _↔_}
 use Prim.Native.Nat.{ℕ, _-_, _≤_, _<_}
+use Rattle.sets.specs.Says.{Says}
 use Rattle.sets.specs.Sets.{In, insert}
 use Rattle.grammar.specs.declared.UnaryMark.{UnaryMark}
 use Rattle.grammar.specs.declared.UnaryMark.the-variants as UnaryMark
@@ -28,15 +29,30 @@ BinaryBy k len BinaryMark.None l = Unit {0}
 BinaryBy k len BinaryMark.Align l = 0 < l → l < len → In (k .align) l
 BinaryBy k len BinaryMark.Indent l = 0 < l → l < len → In (k .indent) l
 
--- set has the left lengths from 1 to below `to` at which the mark may hold of the span of len tokens from s on
-pub record Pairing (m : BinaryMark) (h : Half) (s len to set : ℕ) : Type 0 where
-  pub each : (l : ℕ) → 0 < l → l < to → In set l ↔ MayPair m h s l (len - l)
-  pub only : (l : ℕ) → In set l → (0 < l) × (l < to)
-
 -- r is the set, with l besides if yes is true
 pub record Included (set l : ℕ) (yes : Bool) (r : ℕ) : Type 0 where
   pub is : yes ≡ true → r ≡ insert set l
   pub isnt : yes ≡ false → r ≡ set
+
+-- r is the set, with l besides where P holds
+pub record Grown (set l : ℕ) (P : Type 0) (r : ℕ) : Type 0 where
+  pub flag : Bool
+  pub says : Says flag P
+  pub included : Included set l flag r
+
+-- r is the marks k of l tokens with one token more, of which `keeps` and `pairs` say what the marks ask
+pub record Joined (k : SpanMarks) (l : ℕ) (keeps : UnaryMark → Type 0) (pairs : BinaryMark → Type 0) (r : SpanMarks) : Type 0 where
+  pub offside : Says (r .offside) ((k .offside ≡ true) × keeps UnaryMark.Offside)
+  pub offalign : Says (r .offalign) ((k .offalign ≡ true) × keeps UnaryMark.Offalign)
+  pub single : Says (r .single) ((k .single ≡ true) × keeps UnaryMark.Single)
+  pub align : Grown (k .align) l (pairs BinaryMark.Align) (r .align)
+  pub indent : Grown (k .indent) l (pairs BinaryMark.Indent) (r .indent)
+  pub opens : r .open ≡ k .open
+  pub terminal : r .terminal ≡ k .terminal
+
+-- the marks of one token, or of none
+abbrev pub alone : Bool → ℕ → SpanMarks
+alone o t = record { offside = true; offalign = true; single = true; align = 0; indent = 0; «open» = o; terminal = t }
 
 -- the marks k of the span of len tokens from s on are those of the definitions
 pub record Marked (h : Half) (s len : ℕ) (k : SpanMarks) : Type 0 where

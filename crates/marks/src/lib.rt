@@ -10,9 +10,8 @@ ghost use Prim.Native.Nat.{ℕ, _+_, _-_, _≤_, _<_};
 ghost use Rattle.sets.specs.Says.{Says};
 ghost use Rattle.sets.specs.Sets.{In, insert};
 ghost use Rattle.grammar.specs.Layout.{Keeps, Pairs};
-ghost use Rattle.marks.specs.Half.{MayKeep, MayPair};
 ghost use Rattle.marks.specs.Drafts.{half, Within};
-ghost use Rattle.marks.specs.Marked.{AtomBy, UnaryBy, BinaryBy, Pairing, Included, Marked};
+ghost use Rattle.marks.specs.Marked.{AtomBy, UnaryBy, BinaryBy, Included, Joined, alone, Marked};
 
 // The first `count` of the tokens, of which the first `known` count and the others are open:
 // an open token fits any terminal and meets any mark.
@@ -23,8 +22,8 @@ pub struct Draft {
 }
 
 // What the tokens of a span leave to a rule: do the unary marks hold; at which left lengths, from 1 to below the
-// span's length, do align and indent (at the others they hold always); and, of a span of one token, is it open,
-// and which terminal has it.
+// span's length, do align and indent (at the others they hold always); and is the first token open, and which
+// terminal has it (asked of a span of one token alone).
 pub struct SpanMarks {
     pub offside: bool,
     pub offalign: bool,
@@ -72,32 +71,11 @@ pub fn pairs(m: BinaryMark, a: Token, z: Token, b: Token) -> bool
     }
 }
 
-// May the unary mark hold of the word of `len` tokens from `start` on?
-pub fn may_keep(d: Draft, m: UnaryMark, start: usize, len: usize) -> bool
-    requires { ⌜ Within d start len ⌝ }
-    ensures { λ r. ⌜ Says r (MayKeep m (half d) start len) ⌝ }
+// Does the mark hold so far, and of the first token `a` and the token `t`?
+fn still(yes: bool, m: UnaryMark, a: Token, t: Token) -> bool
+    ensures { λ r. ⌜ Says r ((yes ≡ true) × Keeps m a t) ⌝ }
 {
-    let mut k = 0;
-    while k < len {
-        let at = start + k;
-        if d.known <= at {
-            return true;
-        }
-        let a = d.tokens[start];
-        let t = d.tokens[at];
-        if !keeps(m, a, t) {
-            return false;
-        }
-        k += 1;
-    }
-    true
-}
-
-// May the binary mark hold of a word from `a` to `z` and a word whose first token is `b`, at `at`?
-fn may_pair(m: BinaryMark, a: Token, z: Token, b: Token, at: usize, known: usize) -> bool
-    ensures { λ r. ⌜ Says r ((at < known → Pairs m a z b)) ⌝ }
-{
-    if at < known { pairs(m, a, z, b) } else { true }
+    if yes { keeps(m, a, t) } else { false }
 }
 
 // The set, with `l` besides if `yes` says so.
@@ -108,23 +86,80 @@ fn included(set: u64, l: usize, yes: bool) -> u64
     if yes { with(set, l as u8) } else { set }
 }
 
-// The left lengths, from 1 to below `len`, at which the binary mark may hold of the span of `len` tokens from `start` on.
-pub fn pairing(d: Draft, m: BinaryMark, start: usize, len: usize) -> u64
-    requires { ⌜ Within d start len ⌝ }
-    ensures { λ r. ⌜ Pairing m (half d) start len len r ⌝ }
+// The marks of `left` tokens from `a` to `z`, with the known token `t` after them.
+fn with_known(k: SpanMarks, a: Token, z: Token, t: Token, left: usize) -> SpanMarks
+    requires { ⌜ left < 64 ⌝ }
+    ensures { λ r. ⌜ Joined k left (λ m. Keeps m a t) (λ m. Pairs m a z t) r ⌝ }
 {
-    let mut set = 0;
-    let mut left = 1;
-    while left < len {
-        let at = start + left;
-        let a = d.tokens[start];
-        let z = d.tokens[at - 1];
-        let b = d.tokens[at];
-        let yes = may_pair(m, a, z, b, at, d.known);
-        set = included(set, left, yes);
-        left += 1;
+    let offside = still(k.offside, UnaryMark::Offside, a, t);
+    let offalign = still(k.offalign, UnaryMark::Offalign, a, t);
+    let single = still(k.single, UnaryMark::Single, a, t);
+    let aligns = pairs(BinaryMark::Align, a, z, t);
+    let align = included(k.align, left, aligns);
+    let indents = pairs(BinaryMark::Indent, a, z, t);
+    let indent = included(k.indent, left, indents);
+    SpanMarks {
+        offside,
+        offalign,
+        single,
+        align,
+        indent,
+        open: k.open,
+        terminal: k.terminal,
     }
-    set
+}
+
+// The marks of `left` tokens, with an open token after them.
+fn with_open(k: SpanMarks, left: usize) -> SpanMarks
+    requires { ⌜ left < 64 ⌝ }
+    ensures { λ r. ⌜ Joined k left (λ m. Unit {0}) (λ m. Unit {0}) r ⌝ }
+{
+    let align = with(k.align, left as u8);
+    let indent = with(k.indent, left as u8);
+    SpanMarks {
+        offside: k.offside,
+        offalign: k.offalign,
+        single: k.single,
+        align,
+        indent,
+        open: k.open,
+        terminal: k.terminal,
+    }
+}
+
+// The marks of `left` tokens from `a` to `z`, with the token `t`, at `at`, after them.
+fn with_next(
+    k: SpanMarks,
+    a: Token,
+    z: Token,
+    t: Token,
+    left: usize,
+    at: usize,
+    known: usize,
+) -> SpanMarks
+    requires { ⌜ left < 64 ⌝ }
+    ensures { λ r. ⌜ Joined k left (λ m. at < known → Keeps m a t) (λ m. at < known → Pairs m a z t) r ⌝ }
+{
+    if at < known {
+        with_known(k, a, z, t, left)
+    } else {
+        with_open(k, left)
+    }
+}
+
+// The marks of one token, which is open or has the terminal, or of no token.
+fn first_marks(unknown: bool, terminal: u8) -> SpanMarks
+    ensures { λ r. ⌜ r ≡ alone unknown terminal ⌝ }
+{
+    SpanMarks {
+        offside: true,
+        offalign: true,
+        single: true,
+        align: 0,
+        indent: 0,
+        open: unknown,
+        terminal,
+    }
 }
 
 // What the tokens of the span leave to a rule.
@@ -132,34 +167,21 @@ pub fn span_marks(d: Draft, start: usize, len: usize) -> SpanMarks
     requires { ⌜ Within d start len ⌝ }
     ensures { λ r. ⌜ Marked (half d) start len r ⌝ }
 {
-    let offside = may_keep(d, UnaryMark::Offside, start, len);
-    let offalign = may_keep(d, UnaryMark::Offalign, start, len);
-    let single = may_keep(d, UnaryMark::Single, start, len);
-    let align = pairing(d, BinaryMark::Align, start, len);
-    let indent = pairing(d, BinaryMark::Indent, start, len);
-    if len != 1 {
-        return SpanMarks {
-            offside,
-            offalign,
-            single,
-            align,
-            indent,
-            open: false,
-            terminal: 0,
-        };
+    if len == 0 {
+        return first_marks(false, 0);
     }
-    let open = d.known <= start;
-    let t = d.tokens[start];
-    let terminal = t.terminal;
-    SpanMarks {
-        offside,
-        offalign,
-        single,
-        align,
-        indent,
-        open,
-        terminal,
+    let known = d.known;
+    let a = d.tokens[start];
+    let mut k = first_marks(known <= start, a.terminal);
+    let mut left = 1;
+    while left < len {
+        let at = start + left;
+        let z = d.tokens[at - 1];
+        let t = d.tokens[at];
+        k = with_next(k, a, z, t, left, at, known);
+        left += 1;
     }
+    k
 }
 
 // Do the marks leave the span of one token to the terminal `a`?

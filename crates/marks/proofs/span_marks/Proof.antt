@@ -1,65 +1,121 @@
--- The marks are those of `may_keep` and `pairing`; the terminal is asked of a span of one token alone.
+-- The loop's invariant: the marks are those of the tokens passed.
 use borrow.Author.Needs.{needs}
-use mathlib.Core.Path.{sym, ap}
+use mathlib.Core.Path.{_≡_, sym, ap, subst, subst₃}
+use Prim.Native.Nat.{ℕ, _+_, _-_, _≤_, _<_}
 use native.Mathlib.Omega.{arith}
 use Rattle.sets.proofs.Says.{says-leb}
 use Rattle.grammar.specs.declared.Token.{Token}
+use Rattle.grammar.specs.Layout.{Keeps, Pairs}
 use Rattle.marks.specs.Drafts.{half}
-use Rattle.marks.proofs.Pairings.{atom-marked, unary-marked, binary-marked}
+use Rattle.marks.specs.Marked.{Joined, Marked}
 use Rattle.marks.proofs.DraftLaws.{drafted-at}
+use Rattle.marks.proofs.Joining.{SoFar, so-far-first, NextJoined, so-far-more, so-far-all, no-tokens}
 use Rattle.marks.proofs.span_marks.Statement.{statement}
 use Rattle.marks.proofs.span_marks.Tie as tie
 
-may-keep-requires : tie.Need-may-keep-requires
-may-keep-requires c κs = search needs
+abbrev Inv-loop : tie.InvT-loop
+Inv-loop start len d known a k₀ left₀ k left = (0 < left) × (left ≤ len) × SoFar (half d) start len left k
 
-may-keep-requires-2 : tie.Need-may-keep-requires-2
-may-keep-requires-2 c κs = search needs
+abbrev μ-loop : tie.MeasureT-loop
+μ-loop start len d known a k₀ left₀ k left = len - left
 
-may-keep-requires-3 : tie.Need-may-keep-requires-3
-may-keep-requires-3 c κs = search needs
+first-marks-requires : tie.Need-first-marks-requires Inv-loop μ-loop
+first-marks-requires c κs = search needs
 
-pairing-requires : tie.Need-pairing-requires
-pairing-requires c κs = search needs
-
-pairing-requires-2 : tie.Need-pairing-requires-2
-pairing-requires-2 c κs = search needs
-
-returns : tie.Need-returns
+returns : tie.Need-returns Inv-loop μ-loop
 returns c =
-    let z = c .before in
-    record {
-      atom = λ e. absurd (c .if1 .taken e);
-      unary = unary-marked _ _ _ _ (z .before .before .before .before .may-keep .ensures) (z .before .before .before .may-keep2 .ensures) (z .before .before .may-keep3 .ensures);
-      binary = binary-marked _ _ _ _ (z .before .pairing .ensures) (z .pairing2 .ensures);
-    }
+    let z = c .before .before .args in
+    subst (Marked (half (z .t1)) (z .start) (z .len)) (sym (c .first-marks .ensures)) (no-tokens _ _ _ _ _ (c .before .if1 .taken))
 
-mul-t : tie.Need-mul-t
-mul-t c = search needs
+mul-a : tie.Need-mul-a Inv-loop μ-loop
+mul-a c = omega arith
 
-element-copy-out-t : tie.Need-element-copy-out-t
-element-copy-out-t c = search needs
+element-copy-out-a : tie.Need-element-copy-out-a Inv-loop μ-loop
+element-copy-out-a c = omega arith
 
-returns-2 : tie.Need-returns-2
+first-marks-requires-2 : tie.Need-first-marks-requires-2 Inv-loop μ-loop
+first-marks-requires-2 c κs = search needs
+
+loop-holds : tie.Need-loop-holds Inv-loop μ-loop
+loop-holds c =
+    let z = c .before .before .before .args in (
+      omega arith,
+      omega (arith, c .before .before .if1 .left),
+      subst (SoFar (half (z .t1)) (z .start) (z .len) 1) (sym (c .first-marks2 .ensures))
+          (so-far-first _ _ _ _ _ (says-leb (z .t1 .known) (z .start)) (ap (λ (t : Token). t .terminal) (sym (drafted-at (z .t1) (z .start) (omega arith))))),
+    )
+
+add-at : tie.Need-add-at Inv-loop μ-loop
+add-at c = omega arith
+
+sub-z : tie.Need-sub-z Inv-loop μ-loop
+sub-z c = omega arith
+
+mul-z : tie.Need-mul-z Inv-loop μ-loop
+mul-z c = omega arith
+
+element-copy-out-z : tie.Need-element-copy-out-z Inv-loop μ-loop
+element-copy-out-z c = omega arith
+
+mul-t : tie.Need-mul-t Inv-loop μ-loop
+mul-t c = omega arith
+
+element-copy-out-t : tie.Need-element-copy-out-t Inv-loop μ-loop
+element-copy-out-t c = omega arith
+
+with-next-requires : tie.Need-with-next-requires Inv-loop μ-loop
+with-next-requires c κs = omega arith
+
+-- what is asked of the three tokens is asked of the draft
+joined : (c : tie.After-with-next Inv-loop μ-loop) →
+    let z = c .before .before .before .before .before .before .before .before .args in
+    let l = c .before .before .before .before .loop in
+    NextJoined (half (z .t1)) (z .start) (l .left) (l .k) (c .with-next .result)
+joined c =
+    let z = c .before .before .before .before .before .before .before .before .args in
+    let s = z .start in
+    let d = z .t1 in
+    let l = c .before .before .before .before .loop .left in
+    subst₃ (λ (x y t : Token). Joined (c .before .before .before .before .loop .k) l (λ m. s + l < d .known → Keeps m x t) (λ m. s + l < d .known → Pairs m x y t) (c .with-next .result))
+    (sym (drafted-at d s (omega arith))) (sym (drafted-at d (s + l - 1) (omega arith))) (sym (drafted-at d (s + l) (omega arith))) (c .with-next .ensures)
+
+add-left : tie.Need-add-left Inv-loop μ-loop
+add-left c = omega arith
+
+loop-less : tie.Need-loop-less Inv-loop μ-loop
+loop-less c = omega arith
+
+loop-again : tie.Need-loop-again Inv-loop μ-loop
+loop-again c =
+    let i = c .before .before .before .before .loop .inv in
+    (omega arith, omega arith, so-far-more _ _ _ _ _ _ (i .0) (c .before .before .before .loop-test .taken) (i .2) (joined c))
+
+returns-2 : tie.Need-returns-2 Inv-loop μ-loop
 returns-2 c =
-    let z = c .before .before in
-    let a = c .before .before .before .before .before .before .before .args in
-    record {
-      atom = λ e. atom-marked (half (a .t1)) (a .start) _ _ (says-leb (a .t1 .known) (a .start)) (ap (λ (t : Token). t .terminal) (sym (drafted-at (a .t1) (a .start) (omega arith))));
-      unary = unary-marked _ _ _ _ (z .before .before .before .before .may-keep .ensures) (z .before .before .before .may-keep2 .ensures) (z .before .before .may-keep3 .ensures);
-      binary = binary-marked _ _ _ _ (z .before .pairing .ensures) (z .pairing2 .ensures);
-    }
+    let z = c .before .before .before .before .before .args in
+    let l = c .before .loop in
+    so-far-all _ _ _ _ (subst (λ (x : ℕ). SoFar (half (z .t1)) (z .start) (z .len) x (l .k)) (omega (arith, c .loop-test .left)) (l .inv .2))
 
 pub span-marks-spec : {M : Type 1} → statement M
 span-marks-spec =
     tie.close
     (tie.spec
-    may-keep-requires
-    may-keep-requires-2
-    may-keep-requires-3
-    pairing-requires
-    pairing-requires-2
+    Inv-loop
+    μ-loop
+    first-marks-requires
     returns
+    mul-a
+    element-copy-out-a
+    first-marks-requires-2
+    loop-holds
+    add-at
+    sub-z
+    mul-z
+    element-copy-out-z
     mul-t
     element-copy-out-t
+    with-next-requires
+    add-left
+    loop-less
+    loop-again
     returns-2)
