@@ -1,0 +1,42 @@
+-- A rule as one number. Its digits from the lowest on: the left side (of 64), the kind (of 4), the mark (of 4), the first
+-- and the second operand (of 64 each).
+use mathlib.Core.List.{List, map}
+use Prim.Native.Nat.{ℕ, zero, suc, _/_, _%_}
+use Rattle.grammar.specs.declared.Rule.{Rule}
+use Rattle.grammar.specs.declared.Clause.{Clause}
+use Rattle.grammar.specs.declared.Clause.the-variants as Clause
+use Rattle.grammar.specs.declared.UnaryMark.{UnaryMark}
+use Rattle.grammar.specs.declared.UnaryMark.the-variants as UnaryMark
+use Rattle.grammar.specs.declared.BinaryMark.{BinaryMark}
+use Rattle.grammar.specs.declared.BinaryMark.the-variants as BinaryMark
+use Rattle.grammar.specs.Trees.{Rules}
+
+abbrev pub unaryMark : ℕ → UnaryMark
+unaryMark zero = UnaryMark.None
+unaryMark (suc zero) = UnaryMark.Offside
+unaryMark (suc (suc zero)) = UnaryMark.Offalign
+unaryMark (suc (suc (suc d))) = UnaryMark.Single
+
+abbrev pub binaryMark : ℕ → BinaryMark
+binaryMark zero = BinaryMark.None
+binaryMark (suc zero) = BinaryMark.Align
+binaryMark (suc (suc d)) = BinaryMark.Indent
+
+-- a clause by its kind (0 E, 1 A, 2 U, 3 B), mark and operands
+abbrev pub clauseOf : ℕ → ℕ → ℕ → ℕ → Clause
+clauseOf zero m b e = Clause.Empty
+clauseOf (suc zero) m b e = Clause.Atom b
+clauseOf (suc (suc zero)) m b e = Clause.Unary b (unaryMark m)
+clauseOf (suc (suc (suc k))) m b e = Clause.Binary b e (binaryMark m)
+
+-- the clause of a code without its left side
+unfoldable pub clauseAt : ℕ → Clause
+clauseAt m = clauseOf (m % 4) (m / 4 % 4) (m / 16 % 64) (m / 1024 % 64)
+
+-- the rule of a code
+abbrev pub decode : ℕ → Rule
+decode n = record { left = n % 64; clause = clauseAt (n / 64) }
+
+-- the rules of a list of codes
+abbrev pub decoded : List ℕ → Rules
+decoded cs = map decode cs
