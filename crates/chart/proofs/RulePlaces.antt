@@ -6,9 +6,9 @@ use Prim.Native.Nat.{ℕ, zero, suc, _<_, zero-le, suc-le-suc}
 use native.Mathlib.Nat.{le-of-suc-le-suc, not-suc-le-zero}
 use lib.ListN.{length, getD, getElem?}
 use lib.Seq.{getD-take}
+use Rattle.codes.proofs.Laws.{every-rule}
 use Rattle.grammar.specs.declared.Rule.{Rule}
 use Rattle.grammar.specs.declared.Grammar.{Grammar}
-use Rattle.grammar.specs.Layout.{Every}
 use Rattle.grammar.specs.Trees.{Rules}
 use Rattle.grammar.specs.Choices.{Alike, Distinct}
 use Rattle.grammar.specs.Content.{rules, SmallRule, Formed}
@@ -28,13 +28,8 @@ rule-there [] i h = absurd (not-suc-le-zero h)
 rule-there (x ∷ g) zero h = refl
 rule-there (x ∷ g) (suc i) h = rule-there g i (le-of-suc-le-suc h)
 
-every-rule : (P : Rule → Type 0) (g : Rules) → Every P g → (i : ℕ) → i < length g → P (rule g i)
-every-rule P [] e i h = absurd (not-suc-le-zero h)
-every-rule P (x ∷ g) e zero h = e .0
-every-rule P (x ∷ g) e (suc i) h = every-rule P g (e .1) i (le-of-suc-le-suc h)
-
 pub small-at : {g : Grammar} → Formed g → (i : ℕ) → i < length (rules g) → SmallRule (rule (rules g) i)
-small-at {g} f i h = every-rule SmallRule (rules g) (f .small) i h
+small-at {g} f i h = every-rule SmallRule no-rule (rules g) (f .small) i h
 
 -- two rules that are alike are one
 pub distinct-at : {g : Rules} → Distinct g → (i j : ℕ) → i < length g → j < length g → rule g i .left ≡ rule g j .left → Alike (rule g i .clause) (rule g j .clause) → i ≡ j

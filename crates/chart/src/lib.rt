@@ -1,4 +1,6 @@
 // The span sheet of a grammar and a sentence, filled in lent words; the verdict by it.
+use codes::encode;
+use codes::rule_of;
 use grammar::BinaryMark;
 use grammar::Clause;
 use grammar::Grammar;
@@ -24,6 +26,8 @@ ghost use lib.ListN.{length};
 ghost use Rattle.sets.specs.Says.{Says};
 ghost use Rattle.sets.specs.Sets.{In};
 ghost use Rattle.grammar.specs.declared.Clause.the-variants as Kind;
+ghost use Rattle.codes.specs.Codes.{decoded};
+ghost use Rattle.grammar.specs.Choices.{Distinct};
 ghost use Rattle.grammar.specs.Content.{rules, spelled, SmallClause, SmallRule, Formed};
 ghost use Rattle.grammar.specs.SpanSheet.{pairs, part, SpanSheet};
 ghost use Rattle.marks.specs.Drafts.{half};
@@ -248,15 +252,14 @@ fn try_split(t: Tally, r: Rule, p: Sides, k: SpanMarks, left: usize, len: usize)
 }
 
 // Try each rule with `left` tokens on its left.
-fn try_splits(t: Tally, g: Grammar, p: Sides, k: SpanMarks, left: usize, len: usize) -> Tally
-    requires { ⌜ Formed g ⌝ }
+fn try_splits(t: Tally, codes: &[u64], p: Sides, k: SpanMarks, left: usize, len: usize) -> Tally
     requires { ⌜ (left ≤ len) × (len ≤ 64) ⌝ }
-    ensures { λ u. ⌜ SplitRow p k len left (rules g) t (length (rules g)) u ⌝ }
+    ensures { λ u. ⌜ SplitRow p k len left (decoded (now (codes .entry))) t (length (decoded (now (codes .entry)))) u ⌝ }
 {
     let mut u = t;
     let mut i = 0;
-    while i < g.count {
-        let r = g.rules[i];
+    while i < codes.len() {
+        let r = rule_of(codes[i]);
         u = try_split(u, r, p, k, left, len);
         i += 1;
     }
@@ -264,10 +267,9 @@ fn try_splits(t: Tally, g: Grammar, p: Sides, k: SpanMarks, left: usize, len: us
 }
 
 // The same, but where a part has no tree at all: no rule stands there.
-fn try_parts(t: Tally, g: Grammar, p: Sides, k: SpanMarks, left: usize, len: usize) -> Tally
-    requires { ⌜ Formed g ⌝ }
+fn try_parts(t: Tally, codes: &[u64], p: Sides, k: SpanMarks, left: usize, len: usize) -> Tally
     requires { ⌜ (left ≤ len) × (len ≤ 64) ⌝ }
-    ensures { λ u. ⌜ SplitRow p k len left (rules g) t (length (rules g)) u ⌝ }
+    ensures { λ u. ⌜ SplitRow p k len left (decoded (now (codes .entry))) t (length (decoded (now (codes .entry)))) u ⌝ }
 {
     if p.left.one == 0 {
         return t;
@@ -275,7 +277,7 @@ fn try_parts(t: Tally, g: Grammar, p: Sides, k: SpanMarks, left: usize, len: usi
     if p.right.one == 0 {
         return t;
     }
-    try_splits(t, g, p, k, left, len)
+    try_splits(t, codes, p, k, left, len)
 }
 
 // The span's pair.
@@ -314,17 +316,16 @@ fn blank() -> Tally
 }
 
 // What stands over the span with a token or more on either side.
-fn splits(words: &[u64], n: usize, g: Grammar, start: usize, len: usize, k: SpanMarks) -> Tally
+fn splits(words: &[u64], n: usize, codes: &[u64], start: usize, len: usize, k: SpanMarks) -> Tally
     requires { ⌜ Room (now words) n start len ⌝ }
-    requires { ⌜ Formed g ⌝ }
     requires { ⌜ 0 < len ⌝ }
-    ensures { λ t. ⌜ Splits (now (words .entry)) n start len k (rules g) len t ⌝ }
+    ensures { λ t. ⌜ Splits (now (words .entry)) n start len k (decoded (now (codes .entry))) len t ⌝ }
 {
     let mut t = blank();
     let mut left = 1;
     while left < len {
         let p = cut(words, n, start, len, left);
-        t = try_parts(t, g, p, k, left, len);
+        t = try_parts(t, codes, p, k, left, len);
         left += 1;
     }
     t
@@ -359,14 +360,13 @@ fn try_leaf(t: Tally, r: Rule, k: SpanMarks, len: usize) -> Tally
 }
 
 // What stands over no token or one by itself.
-fn leaves(g: Grammar, k: SpanMarks, len: usize) -> Tally
-    requires { ⌜ Formed g ⌝ }
-    ensures { λ t. ⌜ Leaves k len (rules g) (length (rules g)) t ⌝ }
+fn leaves(codes: &[u64], k: SpanMarks, len: usize) -> Tally
+    ensures { λ t. ⌜ Leaves k len (decoded (now (codes .entry))) (length (decoded (now (codes .entry)))) t ⌝ }
 {
     let mut t = blank();
     let mut i = 0;
-    while i < g.count {
-        let r = g.rules[i];
+    while i < codes.len() {
+        let r = rule_of(codes[i]);
         t = try_leaf(t, r, k, len);
         i += 1;
     }
@@ -374,15 +374,14 @@ fn leaves(g: Grammar, k: SpanMarks, len: usize) -> Tally
 }
 
 // What stands over the span whatever stands over it besides: by its tokens and by shorter parts.
-fn inner(words: &[u64], n: usize, g: Grammar, start: usize, len: usize, k: SpanMarks) -> Tally
+fn inner(words: &[u64], n: usize, codes: &[u64], start: usize, len: usize, k: SpanMarks) -> Tally
     requires { ⌜ Room (now words) n start len ⌝ }
-    requires { ⌜ Formed g ⌝ }
-    ensures { λ t. ⌜ Inner (now (words .entry)) n start len k (rules g) t ⌝ }
+    ensures { λ t. ⌜ Inner (now (words .entry)) n start len k (decoded (now (codes .entry))) t ⌝ }
 {
     if len < 2 {
-        return leaves(g, k, len);
+        return leaves(codes, k, len);
     }
-    splits(words, n, g, start, len, k)
+    splits(words, n, codes, start, len, k)
 }
 
 // Try a unary clause `b` for `a` over the span that the tally is of.
@@ -456,24 +455,22 @@ fn try_wide(t: Tally, r: Rule, k: SpanMarks, one: u64, two: u64, len: usize) -> 
 }
 
 // A pass over the rules, the last one first: it reads what it adds.
-fn pass(t: Tally, g: Grammar, k: SpanMarks, one: u64, two: u64, len: usize) -> Tally
-    requires { ⌜ Formed g ⌝ }
-    ensures { λ u. ⌜ Pass one two k len (rules g) t 0 u ⌝ }
+fn pass(t: Tally, codes: &[u64], k: SpanMarks, one: u64, two: u64, len: usize) -> Tally
+    ensures { λ u. ⌜ Pass one two k len (decoded (now (codes .entry))) t 0 u ⌝ }
 {
     let mut u = t;
-    let mut i = g.count;
+    let mut i = codes.len();
     while 0 < i {
         i -= 1;
-        let r = g.rules[i];
+        let r = rule_of(codes[i]);
         u = try_wide(u, r, k, one, two, len);
     }
     u
 }
 
 // Passes from the inner tally `b` on, until one adds nothing.
-fn passes(b: Tally, g: Grammar, k: SpanMarks, one: u64, two: u64, len: usize) -> Tally
-    requires { ⌜ Formed g ⌝ }
-    ensures { λ t. ⌜ Saturated one two k len (rules g) b t ⌝ }
+fn passes(b: Tally, codes: &[u64], k: SpanMarks, one: u64, two: u64, len: usize) -> Tally
+    ensures { λ t. ⌜ Saturated one two k len (decoded (now (codes .entry))) b t ⌝ }
 {
     let mut t = b;
     loop {
@@ -483,7 +480,7 @@ fn passes(b: Tally, g: Grammar, k: SpanMarks, one: u64, two: u64, len: usize) ->
             one: t.one,
             two: t.two,
         };
-        let u = pass(s, g, k, one, two, len);
+        let u = pass(s, codes, k, one, two, len);
         if unchanged(t.one, t.two, u.one, u.two) {
             return t;
         }
@@ -492,14 +489,13 @@ fn passes(b: Tally, g: Grammar, k: SpanMarks, one: u64, two: u64, len: usize) ->
 }
 
 // The same, but where nothing stands at first: then nothing ever does.
-fn saturate(b: Tally, g: Grammar, k: SpanMarks, one: u64, two: u64, len: usize) -> Tally
-    requires { ⌜ Formed g ⌝ }
-    ensures { λ t. ⌜ Saturated one two k len (rules g) b t ⌝ }
+fn saturate(b: Tally, codes: &[u64], k: SpanMarks, one: u64, two: u64, len: usize) -> Tally
+    ensures { λ t. ⌜ Saturated one two k len (decoded (now (codes .entry))) b t ⌝ }
 {
     if b.one == 0 {
         return b;
     }
-    passes(b, g, k, one, two, len)
+    passes(b, codes, k, one, two, len)
 }
 
 // Are the words as they were?
@@ -510,33 +506,33 @@ fn unchanged(f: u64, g: u64, a: u64, b: u64) -> bool
 }
 
 // Settle the span by the marks that its tokens leave.
-fn close(words: &mut [u64], d: Draft, g: Grammar, start: usize, len: usize)
+fn close(words: &mut [u64], d: Draft, codes: &[u64], start: usize, len: usize)
     requires { ⌜ Whole d ⌝ }
     requires { ⌜ Room (now words) (d .count) start len ⌝ }
-    requires { ⌜ Formed g ⌝ }
-    requires { ⌜ Ground (now words) (rules g) (half d) (d .count) start len ⌝ }
-    ensures { λ r. ⌜ Closed (now (words .entry)) (now (words .exit)) (rules g) (half d) (d .count) start len ⌝ }
+    requires { ⌜ Distinct (decoded (now codes)) ⌝ }
+    requires { ⌜ Ground (now words) (decoded (now codes)) (half d) (d .count) start len ⌝ }
+    ensures { λ r. ⌜ Closed (now (words .entry)) (now (words .exit)) (decoded (now (codes .entry))) (half d) (d .count) start len ⌝ }
 {
     let n = d.count;
     let k = span_marks(d, start, len);
-    let b = inner(words, n, g, start, len, k);
-    let t = saturate(b, g, k, words[0], words[1], len);
+    let b = inner(words, n, codes, start, len, k);
+    let t = saturate(b, codes, k, words[0], words[1], len);
     let p = pair_at(n, start, len);
     write(words, p, t.one, t.two);
 }
 
 // Settle the empty word, unless it is to be kept.
-fn fill_empty(words: &mut [u64], d: Draft, g: Grammar, from: usize, to: usize)
+fn fill_empty(words: &mut [u64], d: Draft, codes: &[u64], from: usize, to: usize)
     requires { ⌜ Whole d ⌝ }
     requires { ⌜ Room (now words) (d .count) 0 0 ⌝ }
-    requires { ⌜ Formed g ⌝ }
-    requires { ⌜ Ready (rules g) (half d) (d .count) (now words) from to ⌝ }
-    ensures { λ r. ⌜ Grown (now (words .entry)) (now (words .exit)) (rules g) (half d) (d .count) from to 1 ⌝ }
+    requires { ⌜ Distinct (decoded (now codes)) ⌝ }
+    requires { ⌜ Ready (decoded (now codes)) (half d) (d .count) (now words) from to ⌝ }
+    ensures { λ r. ⌜ Grown (now (words .entry)) (now (words .exit)) (decoded (now (codes .entry))) (half d) (d .count) from to 1 ⌝ }
 {
     if from != 0 {
         return;
     }
-    close(words, d, g, 0, 0);
+    close(words, d, codes, 0, 0);
 }
 
 // The first start of a span of `len` tokens that ends past `from`.
@@ -560,36 +556,36 @@ fn last_start(n: usize, len: usize, to: usize) -> usize
 }
 
 // Settle the spans of `len` tokens that end past `from` and begin before `to`.
-fn fill_row(words: &mut [u64], d: Draft, g: Grammar, from: usize, to: usize, len: usize)
+fn fill_row(words: &mut [u64], d: Draft, codes: &[u64], from: usize, to: usize, len: usize)
     requires { ⌜ Whole d ⌝ }
     requires { ⌜ Room (now words) (d .count) 0 len ⌝ }
-    requires { ⌜ Formed g ⌝ }
-    requires { ⌜ (0 < len) × (from ≤ d .known) × Filled (now words) (rules g) (half d) (d .count) from to 0 len ⌝ }
-    ensures { λ r. ⌜ Grown (now (words .entry)) (now (words .exit)) (rules g) (half d) (d .count) from to (len + 1) ⌝ }
+    requires { ⌜ Distinct (decoded (now codes)) ⌝ }
+    requires { ⌜ (0 < len) × (from ≤ d .known) × Filled (now words) (decoded (now codes)) (half d) (d .count) from to 0 len ⌝ }
+    ensures { λ r. ⌜ Grown (now (words .entry)) (now (words .exit)) (decoded (now (codes .entry))) (half d) (d .count) from to (len + 1) ⌝ }
 {
     let n = d.count;
     let mut start = first_start(from, len);
     let end = last_start(n, len, to);
     while start < end {
-        close(words, d, g, start, len);
+        close(words, d, codes, start, len);
         start += 1;
     }
 }
 
 // Fill the span sheet of the draft anew, but for the spans that end at or before the token `from` and those that begin
 // at or past the token `to`: no token of these has changed. From 0 on all of it is filled, the empty word too.
-pub fn fill(words: &mut [u64], d: Draft, g: Grammar, from: usize, to: usize)
+pub fn fill(words: &mut [u64], d: Draft, codes: &[u64], from: usize, to: usize)
     requires { ⌜ (d .count ≤ 64) × (d .known ≤ d .count) ⌝ }
     requires { ⌜ 2 * pairs (d .count) ≤ length (now words) ⌝ }
-    requires { ⌜ Formed g ⌝ }
-    requires { ⌜ Ready (rules g) (half d) (d .count) (now words) from to ⌝ }
-    ensures { λ r. ⌜ Charted (now (words .entry)) (now (words .exit)) (rules g) (half d) (d .count) ⌝ }
+    requires { ⌜ Distinct (decoded (now codes)) ⌝ }
+    requires { ⌜ Ready (decoded (now codes)) (half d) (d .count) (now words) from to ⌝ }
+    ensures { λ r. ⌜ Charted (now (words .entry)) (now (words .exit)) (decoded (now (codes .entry))) (half d) (d .count) ⌝ }
 {
     let n = d.count;
-    fill_empty(words, d, g, from, to);
+    fill_empty(words, d, codes, from, to);
     let mut len = 1;
     while len <= n {
-        fill_row(words, d, g, from, to, len);
+        fill_row(words, d, codes, from, to, len);
         len += 1;
     }
 }
@@ -615,7 +611,9 @@ pub fn judge(words: &mut [u64], s: Sentence, g: Grammar) -> Verdict
         count: n,
         known: n,
     };
-    fill(words, d, g, 0, n);
+    let codes = encode(g);
+    let m = g.count;
+    fill(words, d, &codes[..m], 0, n);
     if !in_first(words, n, 0, n, 0) {
         return Verdict::None;
     }
@@ -627,15 +625,15 @@ pub fn judge(words: &mut [u64], s: Sentence, g: Grammar) -> Verdict
 
 // Has no completion of the draft two trees? (Where all of it is known: has it not?) The pairs of spans that end at or
 // before the token `from`, and of those that begin at or past the token `to`, are kept.
-pub fn hopeless(words: &mut [u64], d: Draft, g: Grammar, from: usize, to: usize) -> bool
+pub fn hopeless(words: &mut [u64], d: Draft, codes: &[u64], from: usize, to: usize) -> bool
     requires { ⌜ (d .count ≤ 64) × (d .known ≤ d .count) ⌝ }
     requires { ⌜ 2 * pairs (d .count) ≤ length (now words) ⌝ }
-    requires { ⌜ Formed g ⌝ }
-    requires { ⌜ Ready (rules g) (half d) (d .count) (now words) from to ⌝ }
-    ensures { λ r. ⌜ Settles r (rules g) (half d) (d .count) (now (words .entry)) (now (words .exit)) ⌝ }
+    requires { ⌜ Distinct (decoded (now codes)) ⌝ }
+    requires { ⌜ Ready (decoded (now codes)) (half d) (d .count) (now words) from to ⌝ }
+    ensures { λ r. ⌜ Settles r (decoded (now (codes .entry))) (half d) (d .count) (now (words .entry)) (now (words .exit)) ⌝ }
 {
     let n = d.count;
-    fill(words, d, g, from, to);
+    fill(words, d, codes, from, to);
     !in_second(words, n, 0, n, 0)
 }
 

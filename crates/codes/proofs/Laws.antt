@@ -127,3 +127,7 @@ pub coded-at : (cs : List ℕ) (d : Rule) (i : ℕ) → i < length cs → decode
 coded-at [] d i h = absurd (not-suc-le-zero h)
 coded-at (c ∷ cs) d zero h = refl
 coded-at (c ∷ cs) d (suc i) h = coded-at cs d i (le-of-suc-le-suc h)
+
+-- as many codes as rules
+pub coded-whole : (cs : List ℕ) {g : Rules} → decoded cs ≡ g → length cs ≡ length g
+coded-whole cs e = sym (coded-length cs) ∙ ap length e

@@ -2,6 +2,7 @@
 use candidates::Candidate;
 use candidates::terminals;
 use chart::hopeless;
+use codes::encode;
 use dominance::needed;
 use grammar::Grammar;
 use grammar::Sentence;
@@ -14,6 +15,8 @@ ghost use mathlib.Core.Path.{_≡_};
 ghost use Prim.Native.Nat.{_*_, _≤_};
 ghost use Prim.Native.Nat.{min};
 ghost use lib.ListN.{length};
+ghost use Rattle.codes.specs.Codes.{decoded};
+ghost use Rattle.grammar.specs.Choices.{Distinct};
 ghost use Rattle.grammar.specs.Content.{rules, Formed};
 ghost use Rattle.grammar.specs.SpanSheet.{pairs};
 ghost use Rattle.candidates.specs.Arrays.{cells};
@@ -46,7 +49,7 @@ fn skipped(from: usize, on: usize, b: usize, n: usize) -> usize
 // Only spans with a token that has changed are filled anew: those that end at or before the token `from` have none, nor
 // have those of tokens that were open, from `on` on, and are.
 fn look(
-    g: Grammar,
+    codes: &[u64],
     set: u64,
     c: Candidate,
     n: usize,
@@ -56,10 +59,10 @@ fn look(
     words: &mut [u64],
 ) -> View
     requires { ⌜ (1 ≤ n) × (n ≤ 7) ⌝ }
-    requires { ⌜ Formed g ⌝ }
+    requires { ⌜ Distinct (decoded (now codes)) ⌝ }
     requires { ⌜ 2 * pairs n ≤ length (now words) ⌝ }
-    requires { ⌜ Turn (rules g) set n b from on (cells c 0 n) (now words) ⌝ }
-    ensures { λ r. ⌜ Looks (r .out) (r .right) (r .on) (rules g) set n b (cells c 0 n) (now (words .entry)) (now (words .exit)) ⌝ }
+    requires { ⌜ Turn (decoded (now codes)) set n b from on (cells c 0 n) (now words) ⌝ }
+    ensures { λ r. ⌜ Looks (r .out) (r .right) (r .on) (decoded (now (codes .entry))) set n b (cells c 0 n) (now (words .entry)) (now (words .exit)) ⌝ }
 {
     if c.stale(n, b) {
         return View {
@@ -76,7 +79,7 @@ fn look(
         known: b,
     };
     let to = skipped(from, on, b, n);
-    let out = hopeless(words, d, g, from, to);
+    let out = hopeless(words, d, codes, from, to);
     View {
         out,
         right: b,
@@ -114,12 +117,12 @@ fn nothing() -> Hit
 
 // The first candidate of 1 to k tokens that has two trees, over a set whose least terminal is low. A candidate's first b
 // cells are looked at: where they rule it out, the search goes on past all that share them, else with a cell more.
-fn search(g: Grammar, set: u64, low: u8, k: usize, words: &mut [u64]) -> Hit
+fn search(codes: &[u64], set: u64, low: u8, k: usize, words: &mut [u64]) -> Hit
     requires { ⌜ (1 ≤ k) × (k ≤ 7) ⌝ }
     requires { ⌜ Lowest set low ⌝ }
-    requires { ⌜ Formed g ⌝ }
+    requires { ⌜ Distinct (decoded (now codes)) ⌝ }
     requires { ⌜ 2 * pairs k ≤ length (now words) ⌝ }
-    ensures { λ r. ⌜ Searched (rules g) set k (r .length) (cells (r .candidate) 0 (r .length)) ⌝ }
+    ensures { λ r. ⌜ Searched (decoded (now (codes .entry))) set k (r .length) (cells (r .candidate) 0 (r .length)) ⌝ }
     ensures { λ r. ⌜ Past (2 * pairs k) (now (words .entry)) (now (words .exit)) ⌝ }
 {
     let mut n: usize = 1;
@@ -132,7 +135,7 @@ fn search(g: Grammar, set: u64, low: u8, k: usize, words: &mut [u64]) -> Hit
         let mut right: usize = 0;
         let mut on: usize = n;
         loop {
-            let v = look(g, set, c, n, b, right, on, words);
+            let v = look(codes, set, c, n, b, right, on, words);
             on = v.on;
             if v.out {
                 let s = c.successor(set, low, n, b);
@@ -174,7 +177,9 @@ fn find(g: Grammar, k: usize, words: &mut [u64]) -> Hit
     let Member::At(low) = f else {
         return nothing();
     };
-    search(g, set, low, k, words)
+    let codes = encode(g);
+    let m = g.count;
+    search(&codes[..m], set, low, k, words)
 }
 
 // The sweep up to k over a well-formed grammar: the first candidate that has two trees, or no token.

@@ -3,7 +3,7 @@ use mathlib.Core.Path.{_≡_, _∙_, subst}
 use Prim.Native.Nat.{ℕ, _+_, _-_, _*_, _≤_, _<_}
 use native.Mathlib.Omega.{arith}
 use lib.ListN.{length-map}
-use Rattle.grammar.specs.Content.{rules}
+use Rattle.codes.specs.Codes.{decoded}
 use Rattle.grammar.specs.SpanSheet.{pairs}
 use Rattle.marks.specs.Drafts.{half}
 use Rattle.marks.proofs.DraftLaws.{drafted-length}
@@ -15,10 +15,10 @@ use Rattle.chart.proofs.fill.Statement.{statement}
 use Rattle.chart.proofs.fill.Tie as tie
 
 abbrev Inv-loop : tie.InvT-loop
-Inv-loop words₀ d g from to n len₀ words len = (0 < len) × (len ≤ d .count + 1) × Past (2 * pairs (d .count)) words₀ words × Filled words (rules g) (half d) (d .count) from to 0 len
+Inv-loop words₀ d codes from to n len₀ words len = (0 < len) × (len ≤ d .count + 1) × Past (2 * pairs (d .count)) words₀ words × Filled words (decoded codes) (half d) (d .count) from to 0 len
 
 abbrev μ-loop : tie.MeasureT-loop
-μ-loop words₀ d g from to n len₀ words len = d .count + 1 - len
+μ-loop words₀ d codes from to n len₀ words len = d .count + 1 - len
 
 -- the array of tokens has 64 places
 whole : (c : tie.Start Inv-loop μ-loop) → Whole (c .args .d)
@@ -27,7 +27,7 @@ whole c =
 
 fill-empty-requires : tie.Need-fill-empty-requires Inv-loop μ-loop
 fill-empty-requires c κs =
-    let z = c .before .before in
+    let z = c .before .before .before in
     (whole z, (record { few = z .pre .0 .0; fits = omega arith; enough = z .pre .1 .0 }, (z .pre .1 .1 .0, z .pre .1 .1 .1)))
 
 loop-holds : tie.Need-loop-holds Inv-loop μ-loop
@@ -35,12 +35,12 @@ loop-holds c = (omega arith, omega arith, past-same _ _, c .before .before .fill
 
 fill-row-requires : tie.Need-fill-row-requires Inv-loop μ-loop
 fill-row-requires c κs =
-    let z = c .before .before .before .before .before .before .before .before in
+    let z = c .before .before .before .before .before .before .before .before .before in
     let l = c .before .before .loop in
     (whole z, (record { few = z .pre .0 .0; fits = omega (arith, c .before .loop-test .taken); enough = omega (arith, l .inv .2 .long, c .before .before .before .before .before .fill-empty .ensures .past .long, z .pre .1 .0) }, (z .pre .1 .1 .0, (l .inv .0, z .pre .1 .1 .1 .low, l .inv .3))))
 
 add-len : tie.Need-add-len Inv-loop μ-loop
-add-len c = omega (arith, c .before .before .before .before .before .loop .inv .1, c .before .before .before .before .before .before .before .before .before .before .before .pre .0 .0)
+add-len c = omega (arith, c .before .before .before .before .before .loop .inv .1, c .before .before .before .before .before .before .before .before .before .before .before .before .pre .0 .0)
 
 loop-less : tie.Need-loop-less Inv-loop μ-loop
 loop-less c = omega (arith, c .before .before .before .before .loop-test .taken)
@@ -56,13 +56,13 @@ same-length c = c .before .loop .inv .2 .long ∙ c .before .before .before .bef
 
 returns : tie.Need-returns Inv-loop μ-loop
 returns c =
-    let z = c .before .before .before .before .before .before .before in
+    let z = c .before .before .before .before .before .before .before .before in
     let a = z .args in
     let l = c .before .loop in
     let w = whole z in
     let e : l .len ≡ a .d .count + 1 = omega (arith, l .inv .1, c .loop-test .left) in
-    charted (a .words .now) (l .words) (rules (a .g)) (half (a .d)) (a .d .count) (w .long) (w .inner) (a .from) (a .to)
-    (record { filled = subst (Filled (l .words) (rules (a .g)) (half (a .d)) (a .d .count) (a .from) (a .to) 0) e (l .inv .3); past = past-then (c .before .before .before .before .fill-empty .ensures .past) (l .inv .2) })
+    charted (a .words .now) (l .words) (decoded (a .codes .now)) (half (a .d)) (a .d .count) (w .long) (w .inner) (a .from) (a .to)
+    (record { filled = subst (Filled (l .words) (decoded (a .codes .now)) (half (a .d)) (a .d .count) (a .from) (a .to) 0) e (l .inv .3); past = past-then (c .before .before .before .before .fill-empty .ensures .past) (l .inv .2) })
 
 pub fill-spec : {M : Type 1} → statement M
 fill-spec =

@@ -2,7 +2,7 @@
 use mathlib.Core.Path.{_∙_, sym, subst}
 use Prim.Native.Nat.{ℕ, _+_, _-_, _*_, _≤_, _<_}
 use native.Mathlib.Omega.{arith}
-use Rattle.grammar.specs.Content.{rules}
+use Rattle.codes.specs.Codes.{decoded}
 use Rattle.grammar.specs.SpanSheet.{pairs}
 use Rattle.marks.specs.Drafts.{half}
 use Rattle.spans.specs.Changes.{Past}
@@ -13,34 +13,34 @@ use Rattle.chart.proofs.fill_row.Statement.{statement}
 use Rattle.chart.proofs.fill_row.Tie as tie
 
 abbrev Inv-loop : tie.InvT-loop
-Inv-loop words₀ d g from to len n start₀ end words start = (from < start + len) × Past (2 * pairs (d .count)) words₀ words × Filled words (rules g) (half d) (d .count) from to start len
+Inv-loop words₀ d codes from to len n start₀ end words start = (from < start + len) × Past (2 * pairs (d .count)) words₀ words × Filled words (decoded codes) (half d) (d .count) from to start len
 
 abbrev μ-loop : tie.MeasureT-loop
-μ-loop words₀ d g from to len n start₀ end words start = end - start
+μ-loop words₀ d codes from to len n start₀ end words start = end - start
 
 first-start-requires : tie.Need-first-start-requires Inv-loop μ-loop
-first-start-requires c κs = omega (arith, c .before .pre)
+first-start-requires c κs = omega (arith, c .before .before .pre)
 
 last-start-requires : tie.Need-last-start-requires Inv-loop μ-loop
-last-start-requires c κs = let z = c .before .before in (omega (arith, z .pre .1 .0 .fits), z .pre .0 .few)
+last-start-requires c κs = let z = c .before .before .before in (omega (arith, z .pre .1 .0 .fits), z .pre .0 .few)
 
 loop-holds : tie.Need-loop-holds Inv-loop μ-loop
 loop-holds c =
-    let z = c .before .before .before in
+    let z = c .before .before .before .before in
     let a = z .args in
     let e = c .before .first-start .ensures in (
       omega (arith, e),
       past-same _ _,
-      subst (λ (s : ℕ). Filled (a .words .now) (rules (a .g)) (half (a .d)) (a .d .count) (a .from) (a .to) s (a .len)) (sym e) (filled-skip (a .words .now) (rules (a .g)) (half (a .d)) (a .d .count) (a .from) (a .to) (a .len) (z .pre .1 .1 .1 .2)),
+      subst (λ (s : ℕ). Filled (a .words .now) (decoded (a .codes .now)) (half (a .d)) (a .d .count) (a .from) (a .to) s (a .len)) (sym e) (filled-skip (a .words .now) (decoded (a .codes .now)) (half (a .d)) (a .d .count) (a .from) (a .to) (a .len) (z .pre .1 .1 .1 .2)),
     )
 
 -- a span that is filled lies among the tokens
-inside : (c : tie.In-loop Inv-loop μ-loop) → c .before .loop .start + c .before .before .before .before .before .args .len ≤ c .before .before .before .before .before .args .d .count
-inside c = let z = c .before .before .before .before .before in omega (arith, c .loop-test .taken, c .before .before .last-start .ensures, z .pre .1 .0 .fits)
+inside : (c : tie.In-loop Inv-loop μ-loop) → c .before .loop .start + c .before .before .before .before .before .before .args .len ≤ c .before .before .before .before .before .before .args .d .count
+inside c = let z = c .before .before .before .before .before .before in omega (arith, c .loop-test .taken, c .before .before .last-start .ensures, z .pre .1 .0 .fits)
 
 close-requires : tie.Need-close-requires Inv-loop μ-loop
 close-requires c κs =
-    let z = c .before .before .before .before .before .before in
+    let z = c .before .before .before .before .before .before .before in
     let a = z .args in
     let l = c .before .before .loop in
     let fit = inside (c .before) in (
@@ -49,13 +49,13 @@ close-requires c κs =
         record { few = z .pre .0 .few; fits = fit; enough = omega (arith, l .inv .1 .long, z .pre .1 .0 .enough) },
         (
           z .pre .1 .1 .0,
-          filled-ground (l .words) (rules (a .g)) (half (a .d)) (a .d .count) (a .from) (a .to) (l .start) (a .len) fit (l .inv .2),
+          filled-ground (l .words) (decoded (a .codes .now)) (half (a .d)) (a .d .count) (a .from) (a .to) (l .start) (a .len) fit (l .inv .2),
         ),
       ),
     )
 
 add-start : tie.Need-add-start Inv-loop μ-loop
-add-start c = let i = c .before .before .before .before in omega (arith, inside i, i .before .before .before .before .before .pre .0 .few)
+add-start c = let i = c .before .before .before .before in omega (arith, inside i, i .before .before .before .before .before .before .pre .0 .few)
 
 loop-less : tie.Need-loop-less Inv-loop μ-loop
 loop-less c = omega (arith, c .before .before .before .before .loop-test .taken)
@@ -63,13 +63,13 @@ loop-less c = omega (arith, c .before .before .before .before .loop-test .taken)
 loop-again : tie.Need-loop-again Inv-loop μ-loop
 loop-again c =
     let i = c .before .before .before .before in
-    let z = i .before .before .before .before .before in
+    let z = i .before .before .before .before .before .before in
     let a = z .args in
     let l = i .before .loop in
     let k = c .before .before .close in (
       omega arith,
       past-then (l .inv .1) (kept-past (a .d .count) (l .start) (a .len) (inside i) (k .ensures .kept)),
-      filled-on (l .words) (k .last .0) (rules (a .g)) (half (a .d)) (a .d .count) (a .from) (a .to) (l .start) (a .len) (z .pre .1 .1 .1 .0) (inside i) (l .inv .0)
+      filled-on (l .words) (k .last .0) (decoded (a .codes .now)) (half (a .d)) (a .d .count) (a .from) (a .to) (l .start) (a .len) (z .pre .1 .1 .1 .0) (inside i) (l .inv .0)
           (omega (arith, i .loop-test .taken, i .before .before .last-start .ensures)) (l .inv .2) (k .ensures),
     )
 
@@ -78,11 +78,11 @@ same-length c = c .before .loop .inv .1 .long
 
 returns : tie.Need-returns Inv-loop μ-loop
 returns c =
-    let z = c .before .before .before .before .before in
+    let z = c .before .before .before .before .before .before in
     let a = z .args in
     let l = c .before .loop in
     record {
-      filled = filled-row (l .words) (rules (a .g)) (half (a .d)) (a .d .count) (a .from) (a .to) (l .start) (a .len) (z .pre .1 .1 .1 .0) (omega (arith, c .loop-test .left, c .before .before .last-start .ensures)) (l .inv .2);
+      filled = filled-row (l .words) (decoded (a .codes .now)) (half (a .d)) (a .d .count) (a .from) (a .to) (l .start) (a .len) (z .pre .1 .1 .1 .0) (omega (arith, c .loop-test .left, c .before .before .last-start .ensures)) (l .inv .2);
       past = l .inv .1;
     }
 

@@ -22,7 +22,7 @@ same-length : tie.Need-same-length
 same-length c = search needs
 
 returns : tie.Need-returns
-returns c = settles (whole (c .before .before .before .before .before .before .before)) (c .before .before .before .before .fill .ensures) (c .in-second .ensures)
+returns c = settles (whole (c .before .before .before .before .before .before .before .before)) (c .before .before .before .before .fill .ensures) (c .in-second .ensures)
 
 pub hopeless-spec : {M : Type 1} → statement M
 hopeless-spec = tie.close (tie.spec fill-requires in-second-requires same-length returns)

@@ -1,64 +1,62 @@
 -- The loop's invariant: the rules passed are tried.
 use borrow.Author.Needs.{needs}
-use mathlib.Core.Path.{_≡_, sym, subst}
+use mathlib.Core.Path.{_≡_, sym, subst, _∙_}
 use Prim.Native.Nat.{_+_, _-_, _≤_, _<_}
 use native.Mathlib.Omega.{arith}
 use lib.ListN.{length}
+use Rattle.codes.specs.Codes.{decoded}
+use Rattle.codes.proofs.Laws.{small-decode, coded-length, coded-at}
 use Rattle.grammar.specs.declared.Rule.{Rule}
-use Rattle.grammar.specs.Content.{rules, SmallRule}
-use Rattle.chart.specs.Tables.{rule}
-use Rattle.chart.proofs.RulePlaces.{small-at, rule-read}
-use Rattle.chart.specs.Tables.{Atomic}
+use Rattle.grammar.specs.Content.{SmallRule}
+use Rattle.chart.specs.Tables.{no-rule, Atomic}
 use Rattle.chart.specs.Passes.{Took, LeafFits, Leaves, leaves-none, leaves-more}
 use Rattle.chart.proofs.leaves.Statement.{statement}
 use Rattle.chart.proofs.leaves.Tie as tie
 
 abbrev Inv-loop : tie.InvT-loop
-Inv-loop k len g t₀ i₀ t i = (i ≤ length (rules g)) × Leaves k len (rules g) i t
+Inv-loop codes k len t₀ i₀ t i = (i ≤ length codes) × Leaves k len (decoded codes) i t
 
 abbrev μ-loop : tie.MeasureT-loop
-μ-loop k len g t₀ i₀ t i = length (rules g) - i
+μ-loop codes k len t₀ i₀ t i = length codes - i
 
 blank-requires : tie.Need-blank-requires Inv-loop μ-loop
 blank-requires c κs = search needs
 
 loop-holds : tie.Need-loop-holds Inv-loop μ-loop
-loop-holds c = (omega arith, subst (Leaves (c .before .args .k) (c .before .args .len) (rules (c .before .args .t1)) 0) (sym (c .blank .ensures)) leaves-none)
+loop-holds c =
+    let a = c .before .before .args in
+    (omega arith, subst (Leaves (a .k) (a .len) (decoded (a .codes .now)) 0) (sym (c .blank .ensures)) leaves-none)
 
-mul-r : tie.Need-mul-r Inv-loop μ-loop
-mul-r c = omega (arith, c .before .before .before .pre)
+mul-rule-of : tie.Need-mul-rule-of Inv-loop μ-loop
+mul-rule-of c = search needs
 
-element-copy-out-r : tie.Need-element-copy-out-r Inv-loop μ-loop
-element-copy-out-r c = omega (arith, c .before .before .before .pre)
+shared-slice-read-rule-of : tie.Need-shared-slice-read-rule-of Inv-loop μ-loop
+shared-slice-read-rule-of c = search needs
+
+rule-of-requires : tie.Need-rule-of-requires Inv-loop μ-loop
+rule-of-requires c κs = search needs
 
 try-leaf-requires : tie.Need-try-leaf-requires Inv-loop μ-loop
-try-leaf-requires c κs =
-    let z = c .before .before .before .before in
-    let i = c .before .before .loop .i in
-    let h : i < z .args .t1 .count = c .before .loop-test .taken in
-    subst SmallRule (rule-read (z .args .t1) i h) (small-at (z .pre) i (omega (arith, z .pre .whole)))
+try-leaf-requires c κs = subst SmallRule (sym (c .rule-of .ensures)) (small-decode _)
 
 add-i : tie.Need-add-i Inv-loop μ-loop
-add-i c = omega (arith, c .before .before .before .before .before .pre)
+add-i c = search needs
 
 loop-less : tie.Need-loop-less Inv-loop μ-loop
-loop-less c = omega (arith, c .before .before .before .before .before .pre)
+loop-less c = omega (arith, c .before .before .before .loop-test .taken)
 
 loop-again : tie.Need-loop-again Inv-loop μ-loop
 loop-again c =
-    let z = c .before .before .before .before .before in
-    let a = z .args in
-    let l = c .before .before .before .loop in
-    let h : l .i < a .t1 .count = c .before .before .loop-test .taken in (
-      omega (arith, z .pre .whole),
-      leaves-more (l .inv .1)
-          (subst (λ (r : Rule). Took (LeafFits (a .k) (a .len) (r .clause)) ⊥ (Atomic (r .clause)) (r .left) (l .t) (c .try-leaf .result)) (sym (rule-read (a .t1) (l .i) h)) (c .try-leaf .ensures)),
-    )
+    let a = c .before .before .before .before .before .before .before .args in
+    let l = c .before .before .before .before .loop in
+    let h : l .i < length (a .codes .now) = c .before .before .before .loop-test .taken in
+    let e = c .before .rule-of .ensures ∙ coded-at (a .codes .now) no-rule (l .i) h in
+    (omega arith, leaves-more (l .inv .1) (subst (λ (r : Rule). Took (LeafFits (a .k) (a .len) (r .clause)) ⊥ (Atomic (r .clause)) (r .left) (l .t) (c .try-leaf .result)) e (c .try-leaf .ensures)))
 
 returns : tie.Need-returns Inv-loop μ-loop
 returns c =
-    let z = c .before .before .before in
-    let e : c .before .loop .i ≡ length (rules (z .args .t1)) = omega (arith, z .pre .whole) in
+    let a = c .before .before .before .before .args in
+    let e : c .before .loop .i ≡ length (decoded (a .codes .now)) = omega (arith, coded-length (a .codes .now), c .loop-test .left) in
     rw (← e) (c .before .loop .inv .1)
 
 pub leaves-spec : {M : Type 1} → statement M
@@ -69,8 +67,9 @@ leaves-spec =
     μ-loop
     blank-requires
     loop-holds
-    mul-r
-    element-copy-out-r
+    mul-rule-of
+    shared-slice-read-rule-of
+    rule-of-requires
     try-leaf-requires
     add-i
     loop-less

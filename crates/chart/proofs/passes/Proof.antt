@@ -2,17 +2,17 @@
 use borrow.Author.Needs.{needs}
 use native.Mathlib.Omega.{arith}
 use Prim.Native.Nat.{_+_, _-_, _^_, _<_}
-use Rattle.grammar.specs.Content.{rules}
+use Rattle.codes.specs.Codes.{decoded}
 use Rattle.chart.specs.Passes.{Passes, passes-none, passes-more}
 use Rattle.chart.proofs.PassLaws.{pass-grows, sum-grows}
 use Rattle.chart.proofs.passes.Statement.{statement}
 use Rattle.chart.proofs.passes.Tie as tie
 
 abbrev Inv-loop : tie.InvT-loop
-Inv-loop b g k one two len t₀ t = Passes one two k len (rules g) b t
+Inv-loop b codes k one two len t₀ t = Passes one two k len (decoded codes) b t
 
 abbrev μ-loop : tie.MeasureT-loop
-μ-loop b g k one two len t₀ t = 2 ^ 65 - (t .one + t .two)
+μ-loop b codes k one two len t₀ t = 2 ^ 65 - (t .one + t .two)
 
 loop-holds : tie.Need-loop-holds Inv-loop μ-loop
 loop-holds c = passes-none

@@ -1,14 +1,14 @@
 -- Where nothing stands at first, nothing ever does.
 use borrow.Author.Needs.{needs}
-use Rattle.grammar.specs.Content.{rules}
+use Rattle.codes.specs.Codes.{decoded}
 use Rattle.chart.proofs.PassLaws.{saturated-idle}
 use Rattle.chart.proofs.saturate.Statement.{statement}
 use Rattle.chart.proofs.saturate.Tie as tie
 
 returns : tie.Need-returns
 returns c =
-    let a = c .before .before .args in
-    saturated-idle (a .one) (a .two) (a .k) (a .len) (rules (a .g)) (a .b) (c .if1 .taken)
+    let a = c .before .before .before .args in
+    saturated-idle (a .one) (a .two) (a .k) (a .len) (decoded (a .codes .now)) (a .b) (c .if1 .taken)
 
 passes-requires : tie.Need-passes-requires
 passes-requires c κs = search needs

@@ -3,20 +3,20 @@ use borrow.Author.Needs.{needs}
 use mathlib.Core.Path.{refl}
 use mathlib.Core.Logic.{inl, inr}
 use lib.ListN.{length}
-use Rattle.grammar.specs.Content.{rules}
+use Rattle.codes.specs.Codes.{decoded}
 use Rattle.chart.proofs.PassLaws.{row-idle}
 use Rattle.chart.proofs.try_parts.Statement.{statement}
 use Rattle.chart.proofs.try_parts.Tie as tie
 
 returns : tie.Need-returns
 returns c =
-    let a = c .before .before .args in
-    row-idle (a .p) (a .k) (a .len) (a .left) (rules (a .g)) (a .t) (inl (c .if1 .taken)) (length (rules (a .g)))
+    let a = c .before .before .before .args in
+    row-idle (a .p) (a .k) (a .len) (a .left) (decoded (a .codes .now)) (a .t) (inl (c .if1 .taken)) (length (decoded (a .codes .now)))
 
 returns-2 : tie.Need-returns-2
 returns-2 c =
-    let a = c .before .before .before .before .args in
-    row-idle (a .p) (a .k) (a .len) (a .left) (rules (a .g)) (a .t) (inr (c .if2 .taken)) (length (rules (a .g)))
+    let a = c .before .before .before .before .before .args in
+    row-idle (a .p) (a .k) (a .len) (a .left) (decoded (a .codes .now)) (a .t) (inr (c .if2 .taken)) (length (decoded (a .codes .now)))
 
 try-splits-requires : tie.Need-try-splits-requires
 try-splits-requires c κs = search needs

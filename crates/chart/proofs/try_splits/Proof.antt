@@ -1,59 +1,57 @@
 -- The loop's invariant: the rules passed are tried.
-use mathlib.Core.Path.{_≡_, sym, subst}
+use borrow.Author.Needs.{needs}
+use mathlib.Core.Path.{_≡_, sym, subst, _∙_}
 use Prim.Native.Nat.{_+_, _-_, _≤_, _<_}
 use native.Mathlib.Omega.{arith}
 use lib.ListN.{length}
+use Rattle.codes.specs.Codes.{decoded}
+use Rattle.codes.proofs.Laws.{small-decode, coded-length, coded-at}
 use Rattle.grammar.specs.declared.Rule.{Rule}
-use Rattle.grammar.specs.Content.{rules, SmallRule}
-use Rattle.chart.specs.Tables.{rule}
-use Rattle.chart.proofs.RulePlaces.{small-at, rule-read}
+use Rattle.grammar.specs.Content.{SmallRule}
+use Rattle.chart.specs.Tables.{no-rule}
 use Rattle.chart.specs.Passes.{Took, SplitFits, SplitBelow, SplitRow, row-none, row-more}
 use Rattle.chart.proofs.try_splits.Statement.{statement}
 use Rattle.chart.proofs.try_splits.Tie as tie
 
 abbrev Inv-loop : tie.InvT-loop
-Inv-loop p k left len g u₀ i₀ u i = (i ≤ length (rules g)) × SplitRow p k len left (rules g) u₀ i u
+Inv-loop codes p k left len u₀ i₀ u i = (i ≤ length codes) × SplitRow p k len left (decoded codes) u₀ i u
 
 abbrev μ-loop : tie.MeasureT-loop
-μ-loop p k left len g u₀ i₀ u i = length (rules g) - i
+μ-loop codes p k left len u₀ i₀ u i = length codes - i
 
 loop-holds : tie.Need-loop-holds Inv-loop μ-loop
 loop-holds c = (omega arith, row-none)
 
-mul-r : tie.Need-mul-r Inv-loop μ-loop
-mul-r c = omega (arith, c .before .before .pre .0)
+mul-rule-of : tie.Need-mul-rule-of Inv-loop μ-loop
+mul-rule-of c = search needs
 
-element-copy-out-r : tie.Need-element-copy-out-r Inv-loop μ-loop
-element-copy-out-r c = omega (arith, c .before .before .pre .0)
+shared-slice-read-rule-of : tie.Need-shared-slice-read-rule-of Inv-loop μ-loop
+shared-slice-read-rule-of c = search needs
+
+rule-of-requires : tie.Need-rule-of-requires Inv-loop μ-loop
+rule-of-requires c κs = search needs
 
 try-split-requires : tie.Need-try-split-requires Inv-loop μ-loop
-try-split-requires c κs =
-    let z = c .before .before .before in
-    let i = c .before .before .loop .i in
-    let h : i < z .args .t2 .count = c .before .loop-test .taken in
-    (subst SmallRule (rule-read (z .args .t2) i h) (small-at (z .pre .0) i (omega (arith, z .pre .0 .whole))), z .pre .1)
+try-split-requires c κs = (subst SmallRule (sym (c .rule-of .ensures)) (small-decode _), c .before .before .before .before .before .pre)
 
 add-i : tie.Need-add-i Inv-loop μ-loop
-add-i c = omega (arith, c .before .before .before .before .pre .0)
+add-i c = search needs
 
 loop-less : tie.Need-loop-less Inv-loop μ-loop
-loop-less c = omega (arith, c .before .before .before .before .pre .0)
+loop-less c = omega (arith, c .before .before .before .loop-test .taken)
 
 loop-again : tie.Need-loop-again Inv-loop μ-loop
 loop-again c =
-    let z = c .before .before .before .before in
-    let a = z .args in
-    let l = c .before .before .before .loop in
-    let h : l .i < a .t2 .count = c .before .before .loop-test .taken in (
-      omega (arith, z .pre .0 .whole),
-      row-more (l .inv .1)
-          (subst (λ (r : Rule). Took (SplitFits (a .p) (a .k) (a .len) (a .left) (r .clause)) (SplitBelow (a .p) (r .clause)) ⊥ (r .left) (l .u) (c .try-split .result)) (sym (rule-read (a .t2) (l .i) h)) (c .try-split .ensures)),
-    )
+    let a = c .before .before .before .before .before .before .args in
+    let l = c .before .before .before .before .loop in
+    let h : l .i < length (a .codes .now) = c .before .before .before .loop-test .taken in
+    let e = c .before .rule-of .ensures ∙ coded-at (a .codes .now) no-rule (l .i) h in
+    (omega arith, row-more (l .inv .1) (subst (λ (r : Rule). Took (SplitFits (a .p) (a .k) (a .len) (a .left) (r .clause)) (SplitBelow (a .p) (r .clause)) ⊥ (r .left) (l .u) (c .try-split .result)) e (c .try-split .ensures)))
 
 returns : tie.Need-returns Inv-loop μ-loop
 returns c =
-    let z = c .before .before in
-    let e : c .before .loop .i ≡ length (rules (z .args .t2)) = omega (arith, z .pre .0 .whole) in
+    let a = c .before .before .before .args in
+    let e : c .before .loop .i ≡ length (decoded (a .codes .now)) = omega (arith, coded-length (a .codes .now), c .loop-test .left) in
     rw (← e) (c .before .loop .inv .1)
 
 pub try-splits-spec : {M : Type 1} → statement M
@@ -63,8 +61,9 @@ try-splits-spec =
     Inv-loop
     μ-loop
     loop-holds
-    mul-r
-    element-copy-out-r
+    mul-rule-of
+    shared-slice-read-rule-of
+    rule-of-requires
     try-split-requires
     add-i
     loop-less

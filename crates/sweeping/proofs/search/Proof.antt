@@ -5,7 +5,7 @@ use borrow.Author.Tests.{not-true, not-false}
 use mathlib.Core.Path.{_∙_}
 use Prim.Native.Nat.{_+_, _-_, _*_, _≤_}
 use native.Mathlib.Omega.{arith}
-use Rattle.grammar.specs.Content.{rules}
+use Rattle.codes.specs.Codes.{decoded}
 use Rattle.grammar.specs.SpanSheet.{pairs}
 use Rattle.spans.specs.Changes.{Past}
 use Rattle.spans.proofs.ChangeLaws.{past-same, past-then}
@@ -19,16 +19,16 @@ use Rattle.sweeping.proofs.search.Statement.{statement}
 use Rattle.sweeping.proofs.search.Tie as tie
 
 abbrev Inv-loop : tie.InvT-loop
-Inv-loop g set low k words₀ n c₀ b₀ right₀ on₀ words c b right on = Turn (rules g) set n b right on (cells c 0 n) words × Past (2 * pairs k) words₀ words
+Inv-loop codes set low k words₀ n c₀ b₀ right₀ on₀ words c b right on = Turn (decoded codes) set n b right on (cells c 0 n) words × Past (2 * pairs k) words₀ words
 
 abbrev μ-loop : tie.MeasureT-loop
-μ-loop g set low k words₀ n c₀ b₀ right₀ on₀ words c b right on = left (cells c 0 n) * 8 + (n - b)
+μ-loop codes set low k words₀ n c₀ b₀ right₀ on₀ words c b right on = left (cells c 0 n) * 8 + (n - b)
 
 abbrev Inv-search : tie.InvT-search
-Inv-search g set low k words₀ n₀ words n = (1 ≤ n) × (n ≤ k + 1) × NoneShorter (rules g) set n × Past (2 * pairs k) words₀ words
+Inv-search codes set low k words₀ n₀ words n = (1 ≤ n) × (n ≤ k + 1) × NoneShorter (decoded codes) set n × Past (2 * pairs k) words₀ words
 
 abbrev μ-search : tie.MeasureT-search
-μ-search g set low k words₀ n₀ words n = k + 1 - n
+μ-search codes set low k words₀ n₀ words n = k + 1 - n
 
 search-holds : tie.Need-search-holds Inv-loop μ-loop Inv-search μ-search
 search-holds c = (omega arith, omega arith, none-yet, past-same _ _)
@@ -38,7 +38,7 @@ nothing-requires c κs = search needs
 
 first-requires : tie.Need-first-requires Inv-loop μ-loop Inv-search μ-search
 first-requires c κs =
-    let a = c .before .before .before in
+    let a = c .before .before .before .before in
     ((c .before .search .inv .0, omega (arith, c .if1 .left, a .pre .0 .1)), a .pre .1 .0)
 
 loop-holds : tie.Need-loop-holds Inv-loop μ-loop Inv-search μ-search
@@ -46,18 +46,18 @@ loop-holds c = (turn-first (c .first .ensures), past-same _ _)
 
 -- n is at most 7 in the inner loop
 small : (c : tie.At-loop Inv-loop μ-loop Inv-search μ-search) → c .before .before .before .search .n ≤ 7
-small c = omega (arith, c .before .before .if1 .left, c .before .before .before .before .before .pre .0 .1)
+small c = omega (arith, c .before .before .if1 .left, c .before .before .before .before .before .before .pre .0 .1)
 
 -- what the looks of this length have changed
 changed : (c : tie.After-look Inv-loop μ-loop Inv-search μ-search)
-    → Past (2 * pairs (c .before .before .before .before .before .before .before .args .k)) (c .before .before .before .before .before .search .words) (c .look .last .1 .1 .1 .1 .1 .1 .1 .0)
+    → Past (2 * pairs (c .before .before .before .before .before .before .before .before .args .k)) (c .before .before .before .before .before .search .words) (c .look .last .1 .1 .1 .1 .1 .1 .1 .0)
 changed c = let l = c .before .before in past-then (l .loop .inv .1) (past-longer _ (l .before .before .if1 .left) (c .look .ensures .past))
 
 look-requires : tie.Need-look-requires Inv-loop μ-loop Inv-search μ-search
 look-requires c κs =
     let l = c .before in
     let at = l .before .before .before in
-    let a = at .before .before in (
+    let a = at .before .before .before in (
       (at .search .inv .0, small l),
       (
         a .pre .1 .1 .0,
@@ -72,7 +72,7 @@ successor-requires : tie.Need-successor-requires Inv-loop μ-loop Inv-search μ-
 successor-requires c κs =
     let l = c .before .before .before .before .before in
     let at = l .before .before .before in
-    ((at .search .inv .0, small l, l .loop .inv .0 .known), (at .before .before .pre .1 .0, l .loop .inv .0 .before .candidate))
+    ((at .search .inv .0, small l, l .loop .inv .0 .known), (at .before .before .before .pre .1 .0, l .loop .inv .0 .before .candidate))
 
 sub-least : tie.Need-sub-least Inv-loop μ-loop Inv-search μ-search
 sub-least c = c .before .before .before .successor .ensures .next (not-false _ (c .before .if3 .left)) .low
