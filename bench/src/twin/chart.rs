@@ -25,6 +25,20 @@ fn place(n: usize, start: usize, len: usize) -> usize {
     2 * (1 + k * (2 * n + 1 - k) / 2 + start)
 }
 
+/// A span's two words: the nonterminals that have a tree there, and those that
+/// have two.
+#[derive(Clone, Copy, PartialEq)]
+struct Pair {
+    one: u64,
+    two: u64,
+}
+
+impl Pair {
+    fn at(words: &[u64], place: usize) -> Pair {
+        Pair { one: words[place], two: words[place + 1] }
+    }
+}
+
 /// What a span's tokens say to each mark: flags for the unary ones, sets of
 /// left lengths for the binary ones.
 struct Marks {
@@ -36,8 +50,7 @@ struct Marks {
 }
 
 impl Marks {
-    /// Every mark holds until a known token speaks against it. Left lengths 0
-    /// and 64 share bit 0: with one word empty each mark holds.
+    /// Every mark holds until a known token speaks against it.
     fn of(sentence: &Half, start: usize, len: usize) -> Marks {
         let mut marks = Marks {
             offside: true,
@@ -82,12 +95,13 @@ impl Marks {
         }
     }
 
-    /// The left lengths with which the mark holds, by their rest modulo 64.
-    fn lefts(&self, mark: BinaryMark) -> u64 {
+    /// Does the mark hold with `left` tokens of the span on its left, and some
+    /// on its right?
+    fn binary(&self, mark: BinaryMark, left: usize) -> bool {
         match mark {
-            BinaryMark::None => u64::MAX,
-            BinaryMark::Align => self.align,
-            BinaryMark::Indent => self.indent,
+            BinaryMark::None => true,
+            BinaryMark::Align => has(self.align, left as u8),
+            BinaryMark::Indent => has(self.indent, left as u8),
         }
     }
 }
@@ -115,8 +129,6 @@ struct Span {
     n: usize,
     start: usize,
     len: usize,
-    /// The place of its first word.
-    at: usize,
     leaf: Leaf,
     marks: Marks,
 }
@@ -129,99 +141,139 @@ impl Span {
             _ => Leaf::Nothing,
         };
         let n = sentence.tokens.len();
-        let at = place(n, start, len);
-        Span { n, start, len, at, leaf, marks: Marks::of(sentence, start, len) }
+        Span { n, start, len, leaf, marks: Marks::of(sentence, start, len) }
     }
 
-    /// The places of the left and the right word.
-    fn split(&self, left: usize) -> (usize, usize) {
+    /// The pairs of the two parts, cut after `left` tokens.
+    fn cut(&self, words: &[u64], left: usize) -> (Pair, Pair) {
         let right = self.len - left;
-        (place(self.n, self.start, left), place(self.n, self.start + left, right))
+        let first = Pair::at(words, place(self.n, self.start, left));
+        (first, Pair::at(words, place(self.n, self.start + left, right)))
     }
 }
 
-/// What a pass over a span's choices has found: the nonterminals with a choice,
-/// those with one that is no terminal, and the span's words with what it adds.
+/// What is found at a span: the nonterminals with a choice, those with one that
+/// is no terminal, and the span's pair as far as it is known.
+#[derive(Clone, Copy)]
 struct Tally {
     seen: u64,
     firm: u64,
-    one: u64,
-    two: u64,
+    pair: Pair,
 }
 
 impl Tally {
+    fn blank() -> Tally {
+        Tally { seen: 0, firm: 0, pair: Pair { one: 0, two: 0 } }
+    }
+
     /// A terminal stands. All terminals that stand are one choice: at a known
     /// token only one can.
     fn terminal(&mut self, left: u8) {
         let bit = 1 << left;
-        self.two |= self.firm & bit;
+        self.pair.two |= self.firm & bit;
         self.seen |= bit;
-        self.one |= bit;
+        self.pair.one |= bit;
     }
 
     /// Another choice stands; `again` says that a word below has two trees.
     fn choice(&mut self, left: u8, again: bool) {
         let bit = 1 << left;
-        self.two |= if again { bit } else { self.seen & bit };
+        self.pair.two |= if again { bit } else { self.seen & bit };
         self.seen |= bit;
         self.firm |= bit;
-        self.one |= bit;
+        self.pair.one |= bit;
     }
 
-    /// Try a rule with each left length.
-    fn rule(&mut self, words: &[u64], rule: &Rule, span: &Span) {
+    /// A B rule of b and d stands if b has a tree over the first part and d one
+    /// over the second.
+    fn join(&mut self, left: u8, (b, first): (u8, Pair), (d, second): (u8, Pair)) {
+        if has(first.one, b) && has(second.one, d) {
+            self.choice(left, has(first.two, b) || has(second.two, d));
+        }
+    }
+
+    /// Try a rule that has the whole span on one side, and the empty word, whose
+    /// pair is `empty`, on the other if it has two.
+    fn whole(&mut self, rule: &Rule, span: &Span, empty: Pair) {
         match rule.clause {
-            Clause::Empty => {
-                if span.len == 0 {
-                    self.choice(rule.left, false);
-                }
-            }
-            Clause::Atom(a) => {
-                if span.leaf.fits(a) {
-                    self.terminal(rule.left);
-                }
-            }
+            Clause::Empty | Clause::Atom(_) => {}
             Clause::Unary(b, mark) => {
-                if has(words[span.at], b) && span.marks.unary(mark) {
-                    self.choice(rule.left, has(words[span.at + 1], b));
+                if has(self.pair.one, b) && span.marks.unary(mark) {
+                    self.choice(rule.left, has(self.pair.two, b));
                 }
             }
-            Clause::Binary(b, d, mark) => {
-                let lefts = span.marks.lefts(mark);
-                for left in 0..=span.len {
-                    let (l, r) = span.split(left);
-                    if has(words[l], b) && has(words[r], d) && has(lefts, left as u8 % 64) {
-                        self.choice(rule.left, has(words[l + 1], b) || has(words[r + 1], d));
-                    }
-                }
+            // Both sides are the span itself.
+            Clause::Binary(b, d, _) if span.len == 0 => {
+                self.join(rule.left, (b, self.pair), (d, self.pair));
+            }
+            // With an empty side each mark holds.
+            Clause::Binary(b, d, _) => {
+                self.join(rule.left, (b, empty), (d, self.pair));
+                self.join(rule.left, (b, self.pair), (d, empty));
             }
         }
     }
 }
 
-/// One pass over all rules, which reads the words as they are.
-fn pass(words: &[u64], rules: &[Rule], span: &Span) -> Tally {
-    let (one, two) = (words[span.at], words[span.at + 1]);
-    let mut tally = Tally { seen: 0, firm: 0, one, two };
+/// What stands at a span by its tokens: E rules at none, A rules at one.
+fn leaves(rules: &[Rule], span: &Span) -> Tally {
+    let mut tally = Tally::blank();
     for rule in rules {
-        tally.rule(words, rule, span);
+        match rule.clause {
+            Clause::Empty if span.len == 0 => tally.choice(rule.left, false),
+            Clause::Atom(a) if span.leaf.fits(a) => tally.terminal(rule.left),
+            _ => {}
+        }
     }
     tally
 }
 
-/// Fill a span's pair, shorter spans being filled: passes until nothing is added.
+/// What stands at a span by two shorter parts, none of them empty.
+fn splits(words: &[u64], rules: &[Rule], span: &Span) -> Tally {
+    let mut tally = Tally::blank();
+    for left in 1..span.len {
+        let (first, second) = span.cut(words, left);
+        // Without a tree on a side no rule stands.
+        if first.one == 0 || second.one == 0 {
+            continue;
+        }
+        for rule in rules {
+            if let Clause::Binary(b, d, mark) = rule.clause {
+                if span.marks.binary(mark, left) {
+                    tally.join(rule.left, (b, first), (d, second));
+                }
+            }
+        }
+    }
+    tally
+}
+
+/// The span's pair from what stands in it: passes over the rules, the last one
+/// first, until one adds nothing. A pass reads what it has added itself. Where
+/// nothing stands at first, nothing ever does.
+fn saturated(inner: Tally, rules: &[Rule], span: &Span, empty: Pair) -> Pair {
+    let mut pair = inner.pair;
+    while pair.one != 0 {
+        let mut tally = Tally { pair, ..inner };
+        for rule in rules.iter().rev() {
+            tally.whole(rule, span, empty);
+        }
+        if tally.pair == pair {
+            break;
+        }
+        pair = tally.pair;
+    }
+    pair
+}
+
+/// Fill a span's pair, shorter spans being filled.
 fn close(words: &mut [u64], rules: &[Rule], sentence: &Half, start: usize, len: usize) {
     let span = Span::of(sentence, start, len);
-    let pair = span.at..span.at + 2;
-    words[pair.clone()].fill(0);
-    loop {
-        let tally = pass(words, rules, &span);
-        let filled = [tally.one, tally.two];
-        if words[pair.clone()] == filled {
-            return;
-        }
-        words[pair.clone()].copy_from_slice(&filled);
-    }
+    let inner = if len < 2 { leaves(rules, &span) } else { splits(words, rules, &span) };
+    let pair = saturated(inner, rules, &span, Pair::at(words, 0));
+    let at = place(span.n, start, len);
+    words[at] = pair.one;
+    words[at + 1] = pair.two;
 }
 
 /// Fill the pair of the empty word.
