@@ -54,15 +54,16 @@ pub fn sweep_within(
     if !(1..=7).contains(&bound) {
         return Err(Refusal::whole(23));
     }
-    let terminals = sweep::terminals(&rules);
-    if !sweep::within_limit(u64::from(terminals.count_ones()), bound) {
+    // The limit counts all terminals, those that are left out of the search too.
+    let t = sweep::terminals(&rules).count_ones();
+    if !sweep::within_limit(u64::from(t), bound) {
         return Err(Refusal::whole(24));
     }
     let bound = bound as usize;
     if words.len() < chart::size(bound) {
         return Err(Refusal::whole(21));
     }
-    let swept = sweep::search(&rules, terminals, bound, words, most_fills);
+    let swept = sweep::search(&rules, sweep::needed(&rules), bound, words, most_fills);
     words[..chart::size(bound)].fill(0);
     Ok(swept)
 }

@@ -5,7 +5,7 @@ use bench::families::late;
 use bench::limits::most_fills;
 use bench::random::{rule_line, rule_sheet, Random};
 use bench::twin::grammar::{Column, Line, Rule, Token};
-use bench::twin::{self, chart, sheets, sweep};
+use bench::twin::{self, chart, sheets, sweep, Swept};
 
 /// The first extension of `tokens` to `n` tokens that has two trees, in the
 /// candidates' order.
@@ -45,32 +45,63 @@ fn enumerated(rules: &[Rule], bound: usize) -> Option<Vec<Token>> {
     })
 }
 
-#[test]
-fn the_sweep_finds_the_first_of_all_candidates() {
-    let mut random = Random::new(5);
+/// Compare sweeps of random sheets that are worth it with all candidates, until
+/// enough of them are clear and enough are not.
+fn compare(seed: u64, terminals: u64, bound: u64, worth: fn(&[Rule], &Swept) -> bool) {
+    let mut random = Random::new(seed);
     let mut met = [0; 2];
-    while met[0] + met[1] < 150 {
+    while met[0] < 50 || met[1] < 50 {
         let count = 4 + random.below(6);
-        let lines: Vec<String> = (0..count).map(|_| rule_line(&mut random, 3, 2)).collect();
+        let lines: Vec<String> = (0..count).map(|_| rule_line(&mut random, 3, terminals)).collect();
         let sheet = rule_sheet(&lines);
         let Ok(rules) = sheets::read_rules(&sheet) else {
             continue;
         };
-        let swept = twin::sweep(&sheet, 4, &mut [0; 60]).expect("accepted");
-        if swept.fills < 30 {
-            continue;
+        let swept = twin::sweep(&sheet, bound, &mut [0; 60]).expect("accepted");
+        if worth(&rules, &swept) {
+            assert_eq!(swept.found, enumerated(&rules, bound as usize), "{lines:?}");
+            met[usize::from(swept.found.is_some())] += 1;
         }
-        assert_eq!(swept.found, enumerated(&rules, 4), "{lines:?}");
-        met[usize::from(swept.found.is_some())] += 1;
     }
-    assert!(met[0] >= 40 && met[1] >= 40, "clear and two: {met:?}");
 }
 
 #[test]
-fn a_late_sheet_takes_the_most_fills() {
+fn the_sweep_finds_the_first_of_all_candidates() {
+    compare(5, 2, 4, |_, swept| swept.fills >= 30);
+}
+
+#[test]
+fn terminals_that_a_lesser_one_stands_for_make_no_difference() {
+    compare(7, 4, 3, |rules, swept| {
+        sweep::needed(rules) != sweep::terminals(rules) && swept.fills >= 10
+    });
+}
+
+#[test]
+fn needed_terminals() {
+    let needed = |atoms: &[&str]| {
+        let lines: Vec<String> = atoms.iter().map(|atom| format!("{atom} - none")).collect();
+        sweep::needed(&sheets::read_rules(&rule_sheet(&lines)).expect("accepted"))
+    };
+    assert_eq!(needed(&["0 A 3", "0 A 5"]), 1 << 3);
+    assert_eq!(needed(&["0 A 3", "0 A 5", "1 A 5"]), 1 << 3 | 1 << 5);
+    assert_eq!(needed(&["0 A 3", "1 A 3", "1 A 5", "0 A 9", "2 A 9"]), 1 << 3 | 1 << 9);
+    assert_eq!(needed(&["0 A 3", "1 A 4", "0 A 5", "1 A 5"]), 1 << 3 | 1 << 4 | 1 << 5);
+}
+
+/// The sweep over all terminals, those too that a lesser one stands for.
+fn swept_over_all(sheet: &[u8], k: u64) -> Swept {
+    let rules = sheets::read_rules(sheet).expect("accepted");
+    sweep::search(&rules, sweep::terminals(&rules), k as usize, &mut [0; 60], u64::MAX)
+}
+
+#[test]
+fn a_late_sheet_takes_the_most_fills_over_all_terminals() {
     for (t, k) in [(2, 4), (3, 4), (2, 5), (7, 3)] {
-        let swept = twin::sweep(&late(t as usize), k, &mut [0; 60]).expect("accepted");
+        let swept = swept_over_all(&late(t as usize), k);
         assert_eq!((swept.found, swept.fills), (None, most_fills(t, k)));
+        let swept = twin::sweep(&late(t as usize), k, &mut [0; 60]).expect("accepted");
+        assert_eq!((swept.found, swept.fills), (None, most_fills(2, k)));
     }
     assert_eq!(most_fills(28, 4), 122_871_900);
 }

@@ -21,6 +21,23 @@ pub fn terminals(rules: &[Rule]) -> u64 {
     })
 }
 
+/// The terminals without those that a lesser one can stand for: one whose A
+/// rules have every left that theirs have. With the lesser one in its place a
+/// candidate comes earlier and has no fewer trees, so that the first candidate
+/// with two trees has none of those left out.
+pub fn needed(rules: &[Rule]) -> u64 {
+    let mut lefts = [0u64; 64];
+    for rule in rules {
+        if let Clause::Atom(a) = rule.clause {
+            lefts[usize::from(a)] |= 1 << rule.left;
+        }
+    }
+    let stands_in = |s: usize, t: usize| lefts[t] & !lefts[s] == 0;
+    (0..64)
+        .filter(|&t| lefts[t] != 0 && !(0..t).any(|s| stands_in(s, t)))
+        .fold(0, |set, t| set | 1 << t)
+}
+
 /// T^k * 3^(k-1) * k^k, or the largest number where that is past 64 bits.
 pub fn arrangements(t: u64, k: u64) -> u64 {
     let others = (3 * t * k).saturating_pow(k as u32 - 1);
@@ -167,8 +184,8 @@ impl Charts<'_> {
     }
 }
 
-/// The first candidate of 1 to `bound` tokens with two trees, given up after
-/// `most_fills` fills of a chart.
+/// The first candidate of 1 to `bound` tokens over these terminals that has two
+/// trees, given up after `most_fills` fills of a chart.
 pub fn search(
     rules: &[Rule],
     terminals: u64,
