@@ -2,7 +2,8 @@
 
 use crate::random::{rule_sheet, token_sheet, BINARY_LAYS, UNARY_LAYS};
 
-/// Sheets of so many rules (16 to 128), and how many terminals their sentences use.
+/// Sheets of so many rules (16 to 128) or a few less, and how many terminals
+/// their sentences use.
 pub struct Family {
     pub name: &'static str,
     pub what: &'static str,
@@ -10,12 +11,18 @@ pub struct Family {
     pub sheet: fn(usize) -> Vec<u8>,
 }
 
-pub const VERDICT: [Family; 5] = [
+pub const VERDICT: [Family; 9] = [
     Family {
         name: "dense",
         what: "B rules over a few nonterminals, all of them derivable",
         terminals: 1,
         sheet: dense,
+    },
+    Family {
+        name: "residues",
+        what: "B rules that add lengths: one nonterminal a span, one rule a split",
+        terminals: 1,
+        sheet: residues,
     },
     Family {
         name: "spread",
@@ -25,16 +32,34 @@ pub const VERDICT: [Family; 5] = [
     },
     Family { name: "marks", what: "B and U rules under every mark", terminals: 1, sheet: marks },
     Family {
+        name: "chain, top first",
+        what: "a chain of U rules over a dense bottom: one pass",
+        terminals: 1,
+        sheet: chain_top_first,
+    },
+    Family {
         name: "unary chain",
-        what: "a chain of U rules over a dense bottom: a pass a link",
+        what: "the same listed bottom first: a pass a link",
         terminals: 1,
         sheet: unary_chain,
     },
     Family {
+        name: "zigzag chain",
+        what: "the same listed in zigzag: a pass for two links, whichever way it goes",
+        terminals: 1,
+        sheet: zigzag_chain,
+    },
+    Family {
         name: "binary chain",
-        what: "the same by B rules whose right word is empty",
+        what: "a chain of B rules with the empty word on the right, bottom first",
         terminals: 1,
         sheet: binary_chain,
+    },
+    Family {
+        name: "empty chain",
+        what: "the same where every link has the empty word too, under B rules of any two links",
+        terminals: 1,
+        sheet: empty_chain,
     },
 ];
 
@@ -48,6 +73,14 @@ fn dense(rules: usize) -> Vec<u8> {
     let atoms = (0..m).map(|left| format!("{left} A 0 - none"));
     let pairs = triples(m).map(|(left, first, second)| format!("{left} B {first} {second} none"));
     sheet(atoms.chain(pairs), rules)
+}
+
+/// Nonterminal i derives the words whose length is i modulo m.
+fn residues(rules: usize) -> Vec<u8> {
+    let m = (2..).take_while(|m| m * m < rules).last().expect("there is one");
+    let atom = std::iter::once("1 A 0 - none".to_string());
+    let pairs = (0..m * m).map(|i| format!("{} B {} {} none", (i + i / m) % m, i % m, i / m));
+    sheet(atom.chain(pairs), rules)
 }
 
 fn spread(rules: usize) -> Vec<u8> {
@@ -75,24 +108,62 @@ fn marks(rules: usize) -> Vec<u8> {
     sheet(atoms.chain(ladder).chain(pairs), rules)
 }
 
-/// Half of the rules are the chain 0, 1, .., bottom; the others are B rules of
-/// the bottom, which stand at every span.
-fn chained(rules: usize, link: fn(usize) -> String, head: &[String]) -> Vec<u8> {
-    let bottom = (rules / 2).min(62);
-    let links = (0..bottom).map(link);
+/// A chain 0, 1, .., bottom, its links in the order in which they are listed.
+/// The rules past them are B rules of the bottom, which stand at every span.
+fn chained(links: &[String], head: &[String], rules: usize) -> Vec<u8> {
+    let bottom = links.len();
     let atom = std::iter::once(format!("{bottom} A 0 - none"));
     let pairs =
         (0..bottom * bottom).map(|i| format!("{bottom} B {} {} none", i % bottom, i / bottom));
-    sheet(head.iter().cloned().chain(links).chain(atom).chain(pairs), rules)
+    sheet(head.iter().chain(links).cloned().chain(atom).chain(pairs), rules)
+}
+
+/// Half of the rules are links, as far as there are nonterminals.
+fn chain_length(rules: usize) -> usize {
+    (rules / 2).min(62)
+}
+
+fn unary_links(lefts: impl Iterator<Item = usize>) -> Vec<String> {
+    lefts.map(|left| format!("{left} U {} - none", left + 1)).collect()
+}
+
+fn chain_top_first(rules: usize) -> Vec<u8> {
+    chained(&unary_links(0..chain_length(rules)), &[], rules)
 }
 
 fn unary_chain(rules: usize) -> Vec<u8> {
-    chained(rules, |left| format!("{left} U {} - none", left + 1), &[])
+    chained(&unary_links((0..chain_length(rules)).rev()), &[], rules)
+}
+
+/// Every other link going down, then the others going up.
+fn zigzag_chain(rules: usize) -> Vec<u8> {
+    let lefts = 0..chain_length(rules);
+    let down = lefts.clone().filter(|left| left % 2 == 0);
+    let up = lefts.rev().filter(|left| left % 2 == 1);
+    chained(&unary_links(down.chain(up)), &[], rules)
 }
 
 fn binary_chain(rules: usize) -> Vec<u8> {
     let empty = ["63 E - - none".to_string()];
-    chained(rules, |left| format!("{left} B {} 63 none", left + 1), &empty)
+    let lefts = (0..chain_length(rules)).rev();
+    let links: Vec<String> = lefts.map(|left| format!("{left} B {} 63 none", left + 1)).collect();
+    chained(&links, &empty, rules)
+}
+
+/// The chain 1, 2, .., bottom, and B rules of 0 over any two of its links. The
+/// bottom has the empty word and a token before itself.
+fn empty_chain(rules: usize) -> Vec<u8> {
+    let bottom = chain_length(rules) - 1;
+    let head = [
+        "63 E - - none".to_string(),
+        "62 A 0 - none".to_string(),
+        format!("{bottom} E - - none"),
+        format!("{bottom} B 62 {bottom} none"),
+    ];
+    let links = (1..bottom).rev().map(|left| format!("{left} B {} 63 none", left + 1));
+    let pairs = (0..bottom * bottom)
+        .map(|i| format!("0 B {} {} none", 1 + i % bottom, 1 + (i + i / bottom) % bottom));
+    sheet(head.into_iter().chain(links).chain(pairs), rules)
 }
 
 fn sheet(lines: impl Iterator<Item = String>, rules: usize) -> Vec<u8> {
