@@ -2,11 +2,11 @@
 
 use bench::clock::timed;
 use bench::families::{self, Family};
-use bench::library::{self, FOUND};
-use bench::twin::{self, sheets, sweep};
+use bench::library::{self, FOUND, LINKED};
+use bench::twin::{self, sheets, sweep, Swept};
 
 /// Words enough for a sentence of 64 tokens.
-pub const WORDS: usize = 4162;
+const WORDS: usize = 4162;
 
 /// A verdict on a token sheet, or a sweep up to a bound.
 pub enum Input {
@@ -58,29 +58,45 @@ impl Call {
         }
     }
 
-    /// The least CPU seconds of so many calls of the twin.
-    pub fn twin_seconds(&self, rounds: usize) -> f64 {
-        let mut lent = Lent::new();
-        let times = repeats(timed(|| self.twin(&mut lent)).0);
-        (0..rounds).map(|_| per_call(times, || self.twin(&mut lent))).fold(f64::INFINITY, f64::min)
-    }
-
-    /// The least CPU seconds of the twin and of the library, by turns. Both must
-    /// answer the same and leave the same memory.
-    pub fn both_seconds(&self, rounds: usize) -> (f64, f64) {
+    /// The least CPU seconds of so many rounds, twin and library by turns. Both
+    /// must answer the same and leave the same memory.
+    pub fn times(&self, rounds: usize) -> Times {
         let (mut ours, mut theirs) = (Lent::new(), Lent::new());
-        let (first, answer) = timed(|| self.twin(&mut ours));
-        assert_eq!(Some(answer), self.library(&mut theirs), "{}: answer", self.name);
-        assert!(ours.words == theirs.words, "{}: words", self.name);
-        assert!(ours.found == theirs.found, "{}: sentence", self.name);
-        let times = repeats(first);
-        let (mut twin, mut library) = (f64::INFINITY, f64::INFINITY);
-        for _ in 0..rounds {
+        let (mut twin, answer) = timed(|| self.twin(&mut ours));
+        let (mut library, said) = timed(|| self.library(&mut theirs));
+        if LINKED {
+            assert_eq!(Some(answer), said, "{}: answer", self.name);
+            assert!(ours.words == theirs.words, "{}: words", self.name);
+            assert!(ours.found == theirs.found, "{}: sentence", self.name);
+        }
+        let times = repeats(twin);
+        for _ in 0..if twin < LONG { rounds } else { 0 } {
             twin = twin.min(per_call(times, || self.twin(&mut ours)));
             library = library.min(per_call(times, || self.library(&mut theirs)));
         }
-        (twin, library)
+        Times { twin, library: LINKED.then_some(library) }
     }
+
+    /// The least CPU seconds of so many rounds: of the library where it is
+    /// linked, else of the twin.
+    pub fn seconds(&self, rounds: usize) -> f64 {
+        let mut lent = Lent::new();
+        let mut call = || if LINKED { self.library(&mut lent) } else { Some(self.twin(&mut lent)) };
+        let (first, _) = timed(&mut call);
+        let times = repeats(first);
+        let rounds = if first < LONG { rounds } else { 0 };
+        (0..rounds).map(|_| per_call(times, &mut call)).fold(first, f64::min)
+    }
+}
+
+/// A call of so many seconds is measured once.
+const LONG: f64 = 1.0;
+
+/// CPU seconds of a call.
+pub struct Times {
+    pub twin: f64,
+    /// Nothing where the library is not linked.
+    pub library: Option<f64>,
 }
 
 /// How often a call is repeated so that a measurement is no shorter than 20 ms.
@@ -89,7 +105,7 @@ fn repeats(seconds: f64) -> usize {
 }
 
 /// The CPU seconds of a call, over so many of them.
-pub fn per_call<T>(times: usize, mut call: impl FnMut() -> T) -> f64 {
+fn per_call<T>(times: usize, mut call: impl FnMut() -> T) -> f64 {
     let (seconds, ()) = timed(|| {
         for _ in 0..times {
             std::hint::black_box(call());
@@ -130,10 +146,22 @@ pub fn of_the_paper() -> Vec<Call> {
         .iter()
         .map(|(name, rules)| {
             let (_, bound) = largest_bound(rules).expect("the sheet is accepted");
-            let rules = rules.to_vec();
-            Call { name: name.to_string(), rules, input: Input::Bound(bound) }
+            of_a_sweep(name, rules.to_vec(), bound)
         })
         .collect()
+}
+
+/// The sweep of a sheet up to a bound.
+pub fn of_a_sweep(name: &str, rules: Vec<u8>, bound: u64) -> Call {
+    Call { name: name.to_string(), rules, input: Input::Bound(bound) }
+}
+
+/// The twin's sweep of a sheet, given up after so many fills, and its CPU
+/// seconds.
+pub fn swept(rules: &[u8], bound: u64, most_fills: u64) -> (Swept, f64) {
+    let mut words = vec![0; WORDS];
+    let (seconds, swept) = timed(|| twin::sweep_within(rules, bound, &mut words, most_fills));
+    (swept.expect("the sheet is accepted"), seconds)
 }
 
 /// The verdict on so many tokens under so many rules of a family.

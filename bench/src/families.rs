@@ -1,4 +1,4 @@
-//! Sheets of any size, made to cost much in one way or another.
+//! Sheets of any size on which a verdict costs much in one way or another.
 
 use crate::random::{rule_sheet, token_sheet, BINARY_LAYS, UNARY_LAYS};
 
@@ -62,6 +62,11 @@ pub const VERDICT: [Family; 9] = [
         sheet: empty_chain,
     },
 ];
+
+/// The family of that name.
+pub fn named(name: &str) -> &'static Family {
+    VERDICT.iter().find(|family| family.name == name).expect("there is one")
+}
 
 /// All triples over `m` nonterminals, the left one running fastest.
 fn triples(m: usize) -> impl Iterator<Item = (usize, usize, usize)> {
@@ -178,54 +183,4 @@ pub fn sentence(n: usize, terminals: usize) -> Vec<u8> {
         .map(|i| format!("{} {} {}", i % terminals, 1 + i / 4, 1 + i / 4 % 4 + 2 * (i % 4)))
         .collect();
     token_sheet(&lines)
-}
-
-/// Blocks of aligned statements with `t - 1` plain ones and `do`, which is
-/// offside: the sweep is cut short early.
-pub fn statements(t: usize) -> Vec<u8> {
-    let mut lines = vec![
-        "0 U 1 - none".to_string(),
-        "0 U 2 - none".to_string(),
-        "2 B 0 1 align".to_string(),
-        "1 U 3 - offside".to_string(),
-        "3 B 4 0 none".to_string(),
-        format!("4 A {} - none", t - 1),
-    ];
-    lines.extend((0..t - 1).map(|terminal| format!("1 A {terminal} - none")));
-    rule_sheet(&lines)
-}
-
-/// Any tokens and then one of two kinds of last token: two trees seem possible
-/// until the last token is known, so that hardly any prefix is ruled out.
-pub fn late(t: usize) -> Vec<u8> {
-    let mut lines = vec![
-        "0 B 1 2 none".to_string(),
-        "0 B 1 3 none".to_string(),
-        "1 B 1 4 none".to_string(),
-        "1 E - - none".to_string(),
-        "2 A 0 - none".to_string(),
-        "3 A 1 - none".to_string(),
-    ];
-    lines.extend((0..t).map(|terminal| format!("4 A {terminal} - none")));
-    rule_sheet(&lines)
-}
-
-/// The same at the bottom of a chain as long as 128 rules allow, with rules that
-/// never stand in the places that are left: each fill takes many passes.
-pub fn late_chain(t: usize) -> Vec<u8> {
-    let bottom = 57;
-    let mut lines = vec![
-        "63 E - - none".to_string(),
-        format!("{bottom} B 60 61 none"),
-        format!("{bottom} B 60 62 none"),
-        "60 B 60 59 none".to_string(),
-        "60 E - - none".to_string(),
-        "61 A 0 - none".to_string(),
-        "62 A 1 - none".to_string(),
-    ];
-    lines.extend((0..t).map(|terminal| format!("59 A {terminal} - none")));
-    lines.extend((0..bottom).map(|left| format!("{left} B {} 63 none", left + 1)));
-    // Nonterminal 58 derives nothing.
-    lines.extend((0..bottom).map(|left| format!("{left} B 60 58 none")));
-    sheet(lines.into_iter(), 128)
 }

@@ -2,6 +2,7 @@
 
 pub mod clock;
 pub mod families;
+pub mod late;
 pub mod library;
 pub mod limits;
 pub mod random;

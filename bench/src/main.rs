@@ -2,8 +2,10 @@
 //! choose among the tables a to e; the seconds bound the search of table e.
 
 mod calls;
+mod growth;
 mod search;
 mod tables;
+mod worst;
 
 /// How long the search of table e may take where no argument says so.
 const SEARCH_SECONDS: f64 = 90.0;
@@ -24,9 +26,13 @@ fn main() {
         match letter {
             'a' => tables::paper(),
             'b' => tables::verdicts(),
-            'c' => tables::library(),
-            'd' => tables::growth(),
-            'e' => search::worst(seconds),
+            'c' => tables::ratios(),
+            'd' => growth::growth(),
+            'e' => {
+                worst::left_out();
+                worst::estimates();
+                search::search(seconds);
+            }
             _ => eprintln!("no table {letter}"),
         }
     }

@@ -1,42 +1,11 @@
-//! Table e: what the worst accepted sheet can cost, and a search for bad ones.
+//! Table e, its second half: a search for bad sheets.
 
 use bench::clock::cpu_seconds;
-use bench::families;
-use bench::limits::most_fills;
+use bench::library::LINKED;
 use bench::random::{rule_line, rule_sheet, Random};
-use bench::twin::chart::{self, Half};
-use bench::twin::sheets;
 
-use crate::calls::{self, WORDS};
-use crate::tables::swept;
-
-/// (e) What the worst sheet can cost: the most fills, and a constructed sheet.
-pub fn worst(most_seconds: f64) {
-    println!("(e) The most fills that any accepted sheet can take, and a sheet that takes them\n");
-    println!("| T | k | most fills | late, microseconds a fill | late under a chain, microseconds a fill |");
-    println!("|---|---|---|---|---|");
-    for (t, k) in [(2, 6), (7, 5), (28, 4), (64, 3)] {
-        println!(
-            "| {t} | {k} | {} | {:.2} | {:.2} |",
-            most_fills(t, k),
-            microseconds_a_fill(&families::late(t as usize), k),
-            microseconds_a_fill(&families::late_chain(t as usize), k),
-        );
-    }
-    println!();
-    search(most_seconds);
-}
-
-/// The commonest fill of such a sweep: k tokens, from the last one on.
-fn microseconds_a_fill(rules: &[u8], k: u64) -> f64 {
-    let rules = sheets::read_rules(rules).expect("the sheet is accepted");
-    let tokens = sheets::read_tokens(&families::sentence(k as usize, 2)).expect("so are these");
-    let sentence = Half { tokens: &tokens, known: tokens.len() };
-    let mut words = vec![0; WORDS];
-    chart::fill(&mut words, &rules, &tokens);
-    let fill = || chart::fill_from(&mut words, &rules, &sentence, tokens.len() - 1);
-    1e6 * calls::per_call(1_000, fill)
-}
+use crate::calls;
+use crate::tables::shown;
 
 /// The search's tries.
 const TRIES: usize = 500;
@@ -59,10 +28,10 @@ struct Tried {
     seconds: f64,
 }
 
-/// The worst accepted sheet that a random search finds. Half of the tries
+/// (e) The worst accepted sheet that a random search finds. Half of the tries
 /// are new sheets, half the worst one so far with one line changed. Half of the
 /// time is for the tries, half for the worst sheet's whole sweep.
-fn search(most_seconds: f64) {
+pub fn search(most_seconds: f64) {
     println!("(e) The worst of {TRIES} random sheets, at its largest bound\n");
     let begin = cpu_seconds();
     let mut random = Random::new(2023);
@@ -115,7 +84,7 @@ fn changed(random: &mut Random, lines: &[String]) -> Vec<String> {
 fn tried(lines: Vec<String>, most_fills: u64) -> Option<Tried> {
     let rules = rule_sheet(&lines);
     let (_, bound) = calls::largest_bound(&rules)?;
-    let (swept, seconds) = swept(&rules, bound, most_fills);
+    let (swept, seconds) = calls::swept(&rules, bound, most_fills);
     Some(Tried { lines, bound, fills: swept.fills, seconds })
 }
 
@@ -123,17 +92,23 @@ fn tried(lines: Vec<String>, most_fills: u64) -> Option<Tried> {
 fn report(worst: &Tried, seconds: f64) {
     let rules = rule_sheet(&worst.lines);
     let most_fills = (seconds * worst.fills as f64 / worst.seconds) as u64;
-    let (swept, seconds) = swept(&rules, worst.bound, most_fills);
+    let (swept, seconds) = calls::swept(&rules, worst.bound, most_fills);
     let end = match (swept.finished, swept.found) {
         (false, _) => "not at its end",
         (true, None) => "clear",
         (true, Some(_)) => "two",
     };
+    // The library cannot be stopped.
+    let library = (LINKED && swept.finished)
+        .then(|| calls::of_a_sweep("", rules.clone(), worst.bound).seconds(0));
     println!(
-        "Worst: k = {}, {} fills, {end}, {seconds:.1} CPU s, {:.2} microseconds a fill:\n",
+        "Worst: k = {}, {} fills, {end}; CPU s: twin {seconds:.3}, library {}; \
+         microseconds a fill: twin {:.2}, library {}:\n",
         worst.bound,
         swept.fills,
-        1e6 * seconds / swept.fills as f64
+        shown(library, 1.0, 3),
+        1e6 * seconds / swept.fills as f64,
+        shown(library, 1e-6 * swept.fills as f64, 2),
     );
     println!("```\n{}```\n", String::from_utf8_lossy(&rules));
 }
