@@ -80,6 +80,17 @@ const TOP: usize = 63;
 /// of the chain's top over any two links in the places that are left of 128.
 /// Every link has the empty word too, so that those rules stand in two ways.
 pub fn apart_chain(t: usize, all: usize) -> Vec<u8> {
+    rule_sheet(&apart_chain_lines(t, all))
+}
+
+/// The same rules the other way round: one pass adds all links.
+pub fn apart_chain_top_first(t: usize, all: usize) -> Vec<u8> {
+    let mut lines = apart_chain_lines(t, all);
+    lines.reverse();
+    rule_sheet(&lines)
+}
+
+fn apart_chain_lines(t: usize, all: usize) -> Vec<String> {
     let empty = own(all);
     let links = empty + 1..TOP;
     let mut lines = apart_lines(t, all);
@@ -89,5 +100,5 @@ pub fn apart_chain(t: usize, all: usize) -> Vec<u8> {
     let pairs = links.clone().flat_map(|a| links.clone().map(move |b| (a, b)));
     lines.extend(pairs.map(|(a, b)| format!("{TOP} B {a} {b} none")));
     lines.truncate(128);
-    rule_sheet(&lines)
+    lines
 }

@@ -49,8 +49,9 @@ struct Kind {
     sheet: fn(usize, usize) -> Vec<u8>,
 }
 
-const KINDS: [Kind; 2] = [
+const KINDS: [Kind; 3] = [
     Kind { name: "apart", sheet: late::apart },
+    Kind { name: "apart chain, top first", sheet: late::apart_chain_top_first },
     Kind { name: "apart chain", sheet: late::apart_chain },
 ];
 

@@ -1,7 +1,7 @@
 //! The twin's sweep, which leaves much out, against all candidates one by one,
 //! and the number of its fills.
 
-use bench::late::{apart, apart_chain, late};
+use bench::late::{apart, apart_chain, apart_chain_top_first, late};
 use bench::limits::most_fills;
 use bench::random::{rule_line, rule_sheet, Random};
 use bench::twin::grammar::{Column, Line, Rule, Token};
@@ -109,7 +109,7 @@ fn a_late_sheet_takes_the_most_fills_over_all_terminals() {
 #[test]
 fn no_terminal_stands_for_another_where_each_has_its_own_nonterminal() {
     for (t, all, k) in [(2, 2, 4), (2, 28, 4), (4, 36, 3)] {
-        for sheet in [apart(t, all), apart_chain(t, all)] {
+        for sheet in [apart, apart_chain, apart_chain_top_first].map(|sheet| sheet(t, all)) {
             let swept = twin::sweep(&sheet, k, &mut [0; 60]).expect("accepted");
             assert_eq!((swept.found, swept.fills), (None, most_fills(t as u64, k)));
         }
