@@ -2,6 +2,7 @@
 ghost use Prim.Native.Nat.{_+_, _≤_};
 ghost use lib.ListN.{length};
 
+// A digit's value; 0 for any other byte.
 fn digit(b: u8) -> usize
     ensures { λ r. ⌜ r ≤ 9 ⌝ }
 {
@@ -15,16 +16,16 @@ fn digit(b: u8) -> usize
     d as usize
 }
 
-// The number of five digits.
-fn five(s: &[u8]) -> usize
-    requires { ⌜ 6 ≤ length (now s) ⌝ }
+// The number of five digits from a place on.
+pub fn five(s: &[u8], at: usize) -> usize
+    requires { ⌜ at + 5 ≤ length (now s) ⌝ }
     ensures { λ r. ⌜ r ≤ 99999 ⌝ }
 {
-    let a = digit(s[0]);
-    let b = digit(s[1]);
-    let c = digit(s[2]);
-    let d = digit(s[3]);
-    let e = digit(s[4]);
+    let a = digit(s[at]);
+    let b = digit(s[at + 1]);
+    let c = digit(s[at + 2]);
+    let d = digit(s[at + 3]);
+    let e = digit(s[at + 4]);
     a * 10000 + b * 1000 + c * 100 + d * 10 + e
 }
 
@@ -37,7 +38,7 @@ pub fn next_case(space: &mut [u8]) -> usize
     if got < 6 {
         return 100000;
     }
-    let n = five(&head);
+    let n = five(&head, 0);
     if space.len() < n {
         return 100000;
     }

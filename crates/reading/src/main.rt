@@ -1,5 +1,6 @@
 // Reads pairs of sheets from standard input and writes what the readers make of each pair. A pair is a header of 12 bytes (five
 // digits: the rule sheet's length; a blank; five digits: the token sheet's length; byte 10), the rule sheet and the token sheet.
+use cases::five;
 use grammar::BinaryMark;
 use grammar::Clause;
 use grammar::Grammar;
@@ -149,32 +150,6 @@ fn show<'a>(rules: &'a [u8], tokens: &'a [u8]) {
     put(b"\n");
     put(line);
     put(b"\n");
-}
-
-fn digit(b: u8) -> usize
-    ensures { λ r. ⌜ r ≤ 9 ⌝ }
-{
-    if b < 48 {
-        return 0;
-    }
-    if 57 < b {
-        return 0;
-    }
-    let d = b - 48;
-    d as usize
-}
-
-// The number of five digits from a place on.
-fn five(s: &[u8], at: usize) -> usize
-    requires { ⌜ at + 5 ≤ length (now s) ⌝ }
-    ensures { λ r. ⌜ r ≤ 99999 ⌝ }
-{
-    let a = digit(s[at]);
-    let b = digit(s[at + 1]);
-    let c = digit(s[at + 2]);
-    let d = digit(s[at + 3]);
-    let e = digit(s[at + 4]);
-    a * 10000 + b * 1000 + c * 100 + d * 10 + e
 }
 
 // The pair that begins at a place; the place behind it, or `at` where no whole pair stands there.
