@@ -4,6 +4,7 @@ pub mod Completeness
 pub mod Soundness
 pub mod Views
 pub mod PassLaws
+pub mod CodeLaws
 pub mod Coverage
 pub mod FillLaws
 pub mod OpenLaws

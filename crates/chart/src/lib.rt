@@ -1,6 +1,12 @@
 // The span sheet of a grammar and a sentence, filled in lent words; the verdict by it.
+use codes::binary_mark_of;
 use codes::encode;
+use codes::first_of;
+use codes::kind_of;
+use codes::left_of;
 use codes::rule_of;
+use codes::second_of;
+use codes::unary_mark_of;
 use grammar::BinaryMark;
 use grammar::Clause;
 use grammar::Grammar;
@@ -26,7 +32,7 @@ ghost use lib.ListN.{length};
 ghost use Rattle.sets.specs.Says.{Says};
 ghost use Rattle.sets.specs.Sets.{In};
 ghost use Rattle.grammar.specs.declared.Clause.the-variants as Kind;
-ghost use Rattle.codes.specs.Codes.{decoded};
+ghost use Rattle.codes.specs.Codes.{decode, decoded};
 ghost use Rattle.grammar.specs.Choices.{Distinct};
 ghost use Rattle.grammar.specs.Content.{rules, spelled, SmallClause, SmallRule, Formed};
 ghost use Rattle.grammar.specs.SpanSheet.{pairs, part, SpanSheet};
@@ -214,7 +220,18 @@ struct Sides {
     right: Pair,
 }
 
-// Try a binary clause `b` `e` for `a`, its parts being the sides.
+// Count a binary clause `b` `e` for `a`, its parts being the sides.
+fn join(t: Tally, a: u8, b: u8, e: u8, p: Sides) -> Tally
+    requires { ⌜ (a < 64) × (b < 64) × (e < 64) ⌝ }
+    ensures { λ u. ⌜ Took (Unit {0}) (In (p .left .two) b ⊎ In (p .right .two) e) ⊥ a t u ⌝ }
+{
+    if has(p.left.two, b) {
+        return found(t, a, true, false);
+    }
+    found(t, a, has(p.right.two, e), false)
+}
+
+// Try it.
 fn try_join(t: Tally, a: u8, b: u8, e: u8, p: Sides) -> Tally
     requires { ⌜ (a < 64) × (b < 64) × (e < 64) ⌝ }
     ensures { λ u. ⌜ Took (In (p .left .one) b × In (p .right .one) e) (In (p .left .two) b ⊎ In (p .right .two) e) ⊥ a t u ⌝ }
@@ -225,30 +242,29 @@ fn try_join(t: Tally, a: u8, b: u8, e: u8, p: Sides) -> Tally
     if !has(p.right.one, e) {
         return t;
     }
-    if has(p.left.two, b) {
-        return found(t, a, true, false);
-    }
-    found(t, a, has(p.right.two, e), false)
+    join(t, a, b, e, p)
 }
 
-// Try the rule with `left` tokens on its left, its parts being the sides.
-fn try_split(t: Tally, r: Rule, p: Sides, k: SpanMarks, left: usize, len: usize) -> Tally
-    requires { ⌜ SmallRule r ⌝ }
+// Try the rule of a code with `left` tokens on its left, its parts being the sides.
+fn try_split(t: Tally, code: u64, p: Sides, k: SpanMarks, left: usize, len: usize) -> Tally
     requires { ⌜ (left ≤ len) × (len ≤ 64) ⌝ }
-    ensures { λ u. ⌜ Took (SplitFits p k len left (r .clause)) (SplitBelow p (r .clause)) ⊥ (r .left) t u ⌝ }
+    ensures { λ u. ⌜ Took (SplitFits p k len left (decode code .clause)) (SplitBelow p (decode code .clause)) ⊥ (decode code .left) t u ⌝ }
 {
-    let c = r.clause;
-    match c {
-        Clause::Empty => t,
-        Clause::Atom(_) => t,
-        Clause::Unary(_, _) => t,
-        Clause::Binary(b, e, m) => {
-            if !allows_binary(k, m, left, len) {
-                return t;
-            }
-            try_join(t, r.left, b, e, p)
-        }
+    if kind_of(code) < 3 {
+        return t;
     }
+    let b = first_of(code);
+    if !has(p.left.one, b) {
+        return t;
+    }
+    let e = second_of(code);
+    if !has(p.right.one, e) {
+        return t;
+    }
+    if !allows_binary(k, binary_mark_of(code), left, len) {
+        return t;
+    }
+    join(t, left_of(code), b, e, p)
 }
 
 // Try each rule with `left` tokens on its left.
@@ -259,8 +275,7 @@ fn try_splits(t: Tally, codes: &[u64], p: Sides, k: SpanMarks, left: usize, len:
     let mut u = t;
     let mut i = 0;
     while i < codes.len() {
-        let r = rule_of(codes[i]);
-        u = try_split(u, r, p, k, left, len);
+        u = try_split(u, codes[i], p, k, left, len);
         i += 1;
     }
     u
@@ -440,18 +455,20 @@ fn try_beside(t: Tally, a: u8, b: u8, e: u8, one: u64, two: u64, len: usize) -> 
     try_right_empty(u, a, b, e, one, two)
 }
 
-// Try a rule that has the whole span on one side.
-fn try_wide(t: Tally, r: Rule, k: SpanMarks, one: u64, two: u64, len: usize) -> Tally
-    requires { ⌜ SmallRule r ⌝ }
-    ensures { λ u. ⌜ Wide one two k len (r .left) (r .clause) t u ⌝ }
+// Try the rule of a code, where it has the whole span on one side.
+fn try_wide(t: Tally, code: u64, k: SpanMarks, one: u64, two: u64, len: usize) -> Tally
+    ensures { λ u. ⌜ Wide one two k len (decode code .left) (decode code .clause) t u ⌝ }
 {
-    let c = r.clause;
-    match c {
-        Clause::Empty => t,
-        Clause::Atom(_) => t,
-        Clause::Unary(b, m) => try_unary(t, r.left, b, m, k),
-        Clause::Binary(b, e, _) => try_beside(t, r.left, b, e, one, two, len),
+    let kind = kind_of(code);
+    if kind < 2 {
+        return t;
     }
+    let a = left_of(code);
+    let b = first_of(code);
+    if kind == 2 {
+        return try_unary(t, a, b, unary_mark_of(code), k);
+    }
+    try_beside(t, a, b, second_of(code), one, two, len)
 }
 
 // A pass over the rules, the last one first: it reads what it adds.
@@ -462,8 +479,7 @@ fn pass(t: Tally, codes: &[u64], k: SpanMarks, one: u64, two: u64, len: usize) -
     let mut i = codes.len();
     while 0 < i {
         i -= 1;
-        let r = rule_of(codes[i]);
-        u = try_wide(u, r, k, one, two, len);
+        u = try_wide(u, codes[i], k, one, two, len);
     }
     u
 }

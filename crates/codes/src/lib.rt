@@ -5,10 +5,10 @@ use grammar::Grammar;
 use grammar::Rule;
 use grammar::UnaryMark;
 ghost use mathlib.Core.Path.{_≡_};
-ghost use Prim.Native.Nat.{_<_};
+ghost use Prim.Native.Nat.{_*_, _<_};
 ghost use lib.ListN.{take};
 ghost use Rattle.grammar.specs.Content.{rules, SmallClause, SmallRule, Formed};
-ghost use Rattle.codes.specs.Codes.{unaryMark, binaryMark, clauseAt, decode, decoded};
+ghost use Rattle.codes.specs.Codes.{unaryMark, binaryMark, left, kind, mark, first, second, clause, decode, decoded};
 
 // The mark of a U rule by its digit.
 fn unary_mark(d: u64) -> UnaryMark
@@ -33,19 +33,57 @@ fn binary_mark(d: u64) -> BinaryMark
     }
 }
 
-// The clause of a code without its left side.
-fn clause_at(m: u64) -> Clause
-    ensures { λ r. ⌜ r ≡ clauseAt m ⌝ }
+// The kind of a code's rule: 0 E, 1 A, 2 U, 3 or more B.
+pub fn kind_of(code: u64) -> u64
+    ensures { λ r. ⌜ r ≡ kind code ⌝ }
 {
-    let b = (m / 16 % 64) as u8;
-    match m % 4 {
+    code / 64 / 16384
+}
+
+// Its left side.
+pub fn left_of(code: u64) -> u8
+    ensures { λ r. ⌜ r ≡ left code ⌝ }
+{
+    (code % 64) as u8
+}
+
+// Its first operand.
+pub fn first_of(code: u64) -> u8
+    ensures { λ r. ⌜ r ≡ first code ⌝ }
+{
+    (code / 64 / 4 % 64) as u8
+}
+
+// Its second operand.
+pub fn second_of(code: u64) -> u8
+    ensures { λ r. ⌜ r ≡ second code ⌝ }
+{
+    (code / 64 / 256 % 64) as u8
+}
+
+// Its mark, where it is a U rule.
+pub fn unary_mark_of(code: u64) -> UnaryMark
+    ensures { λ r. ⌜ r ≡ unaryMark (mark code) ⌝ }
+{
+    unary_mark(code / 64 % 4)
+}
+
+// Its mark, where it is a B rule.
+pub fn binary_mark_of(code: u64) -> BinaryMark
+    ensures { λ r. ⌜ r ≡ binaryMark (mark code) ⌝ }
+{
+    binary_mark(code / 64 % 4)
+}
+
+// Its clause.
+fn clause_of(code: u64) -> Clause
+    ensures { λ r. ⌜ r ≡ clause code ⌝ }
+{
+    match kind_of(code) {
         0 => Clause::Empty,
-        1 => Clause::Atom(b),
-        2 => Clause::Unary(b, unary_mark(m / 4 % 4)),
-        _ => {
-            let e = (m / 1024 % 64) as u8;
-            Clause::Binary(b, e, binary_mark(m / 4 % 4))
-        }
+        1 => Clause::Atom(first_of(code)),
+        2 => Clause::Unary(first_of(code), unary_mark_of(code)),
+        _ => Clause::Binary(first_of(code), second_of(code), binary_mark_of(code)),
     }
 }
 
@@ -53,8 +91,8 @@ fn clause_at(m: u64) -> Clause
 pub fn rule_of(code: u64) -> Rule
     ensures { λ r. ⌜ r ≡ decode code ⌝ }
 {
-    let left = (code % 64) as u8;
-    let clause = clause_at(code / 64);
+    let left = left_of(code);
+    let clause = clause_of(code);
     Rule { left, clause }
 }
 
@@ -88,16 +126,16 @@ fn wide(x: u8) -> u64
     x as u64
 }
 
-// A clause's part of a code.
+// A clause's part of a code: what stands above the left side.
 fn clause_code(c: Clause) -> u64
     requires { ⌜ SmallClause c ⌝ }
-    ensures { λ r. ⌜ (r < 65536) × (clauseAt r ≡ c) ⌝ }
+    ensures { λ r. ⌜ (r < 65536) × (clause (64 * r) ≡ c) ⌝ }
 {
     match c {
         Clause::Empty => 0,
-        Clause::Atom(a) => 1 + 16 * wide(a),
-        Clause::Unary(b, m) => 2 + 4 * unary_digit(m) + 16 * wide(b),
-        Clause::Binary(b, e, m) => 3 + 4 * binary_digit(m) + 16 * wide(b) + 1024 * wide(e),
+        Clause::Atom(a) => 16384 + 4 * wide(a),
+        Clause::Unary(b, m) => 32768 + unary_digit(m) + 4 * wide(b),
+        Clause::Binary(b, e, m) => 49152 + binary_digit(m) + 4 * wide(b) + 256 * wide(e),
     }
 }
 

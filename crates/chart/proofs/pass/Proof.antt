@@ -1,13 +1,12 @@
 -- The loop's invariant: the rules from i on are tried.
 use borrow.Author.Needs.{needs}
-use mathlib.Core.Path.{_≡_, sym, subst, _∙_}
+use mathlib.Core.Path.{_≡_, subst}
 use Prim.Native.Nat.{ℕ, _+_, _-_, _≤_, _<_}
 use native.Mathlib.Omega.{arith}
 use lib.ListN.{length}
 use Rattle.codes.specs.Codes.{decoded}
-use Rattle.codes.proofs.Laws.{small-decode, coded-length, coded-at}
+use Rattle.codes.proofs.Laws.{coded-length, coded-at}
 use Rattle.grammar.specs.declared.Rule.{Rule}
-use Rattle.grammar.specs.Content.{SmallRule}
 use Rattle.chart.specs.Tables.{no-rule}
 use Rattle.chart.specs.Passes.{Wide, Pass, pass-none, pass-more}
 use Rattle.chart.proofs.pass.Statement.{statement}
@@ -27,30 +26,27 @@ loop-holds c =
 sub-i : tie.Need-sub-i Inv-loop μ-loop
 sub-i c = omega arith
 
-mul-rule-of : tie.Need-mul-rule-of Inv-loop μ-loop
-mul-rule-of c = search needs
+mul-try-wide : tie.Need-mul-try-wide Inv-loop μ-loop
+mul-try-wide c = search needs
 
-shared-slice-read-rule-of : tie.Need-shared-slice-read-rule-of Inv-loop μ-loop
-shared-slice-read-rule-of c = omega (arith, c .before .loop-test .taken, c .before .before .loop .inv .0)
-
-rule-of-requires : tie.Need-rule-of-requires Inv-loop μ-loop
-rule-of-requires c κs = search needs
+shared-slice-read-try-wide : tie.Need-shared-slice-read-try-wide Inv-loop μ-loop
+shared-slice-read-try-wide c = omega (arith, c .before .loop-test .taken, c .before .before .loop .inv .0)
 
 try-wide-requires : tie.Need-try-wide-requires Inv-loop μ-loop
-try-wide-requires c κs = subst SmallRule (sym (c .rule-of .ensures)) (small-decode _)
+try-wide-requires c κs = search needs
 
 loop-less : tie.Need-loop-less Inv-loop μ-loop
 loop-less c = omega arith
 
 loop-again : tie.Need-loop-again Inv-loop μ-loop
 loop-again c =
-    let a = c .before .before .before .before .before .before .args in
-    let l = c .before .before .before .before .loop in
+    let a = c .before .before .before .before .before .args in
+    let l = c .before .before .before .loop in
     let i = l .i - 1 in
-    let t = c .before .before .before .loop-test .taken in
+    let t = c .before .before .loop-test .taken in
     let h : i < length (a .codes .now) = omega (arith, l .inv .0, t) in
     let n : l .i ≡ i + 1 = omega (arith, t) in
-    let e = c .before .rule-of .ensures ∙ coded-at (a .codes .now) no-rule i h in
+    let e = coded-at (a .codes .now) no-rule i h in
     (omega (arith, l .inv .0), pass-more {u = l .u} (subst (λ (x : ℕ). Pass (a .one) (a .two) (a .k) (a .len) (decoded (a .codes .now)) (a .t) x (l .u)) n (l .inv .1)) (subst (λ (r : Rule). Wide (a .one) (a .two) (a .k) (a .len) (r .left) (r .clause) (l .u) (c .try-wide .result)) e (c .try-wide .ensures)))
 
 returns : tie.Need-returns Inv-loop μ-loop
@@ -66,9 +62,8 @@ pass-spec =
     μ-loop
     loop-holds
     sub-i
-    mul-rule-of
-    shared-slice-read-rule-of
-    rule-of-requires
+    mul-try-wide
+    shared-slice-read-try-wide
     try-wide-requires
     loop-less
     loop-again

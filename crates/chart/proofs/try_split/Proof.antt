@@ -1,61 +1,103 @@
--- An arm for each kind: only a binary clause has two parts.
+-- Each test is a fact of the clause.
 use borrow.Author.Needs.{needs}
 use borrow.Author.Tests.{not-true, not-false}
-use mathlib.Core.Path.{refl, subst}
-use Rattle.grammar.specs.Content.{SmallClause}
-use Rattle.chart.specs.Passes.Took.{fell, stood}
-use Rattle.chart.proofs.PassLaws.{took-if}
+use mathlib.Core.Path.{refl}
+use native.Mathlib.Omega.{arith}
+use Rattle.chart.specs.Passes.Took.{fell}
+use Rattle.chart.proofs.CodeLaws.{split-low, split-parts, split-took}
 use Rattle.chart.proofs.try_split.Statement.{statement}
 use Rattle.chart.proofs.try_split.Tie as tie
 
-enum-told : tie.Need-enum-told
-enum-told c = search needs
+kind-of-requires : tie.Need-kind-of-requires
+kind-of-requires c κs = search needs
 
-enum-told-2 : tie.Need-enum-told-2
-enum-told-2 c = search needs
+returns : tie.Need-returns
+returns c =
+    let a = c .before .before .args in
+    fell (split-low (a .p) (a .k) (a .len) (a .left) (a .code) (omega (arith, c .if1 .taken, c .before .kind-of .ensures))) refl
 
-enum-told-3 : tie.Need-enum-told-3
-enum-told-3 c = search needs
+first-of-requires : tie.Need-first-of-requires
+first-of-requires c κs = search needs
 
-enum-known-c : tie.Need-enum-known-c
-enum-known-c c = search needs
+has-requires : tie.Need-has-requires
+has-requires c κs = search needs
+
+returns-2 : tie.Need-returns-2
+returns-2 c =
+    let y = c .before .before .before in
+    let a = y .before .before .args in
+    fell
+    (λ q.
+    c .before .has .ensures .isnt (not-true _ (c .if2 .taken))
+    (split-parts (a .p) (a .k) (a .len) (a .left) (a .code) _ _ _ (omega (arith, y .before .kind-of .ensures, y .if1 .left)) (c .before .before .first-of .ensures) refl refl q .0))
+    refl
+
+second-of-requires : tie.Need-second-of-requires
+second-of-requires c κs = search needs
+
+has-requires-2 : tie.Need-has-requires-2
+has-requires-2 c κs = search needs
+
+returns-3 : tie.Need-returns-3
+returns-3 c =
+    let y = c .before .before .before .before .before .before in
+    let a = y .before .before .args in
+    fell
+    (λ q.
+    c .before .has2 .ensures .isnt (not-true _ (c .if3 .taken))
+    (split-parts (a .p) (a .k) (a .len) (a .left) (a .code) _ _ _ (omega (arith, y .before .kind-of .ensures, y .if1 .left)) refl (c .before .before .second-of .ensures) refl q .1))
+    refl
+
+binary-mark-of-requires : tie.Need-binary-mark-of-requires
+binary-mark-of-requires c κs = search needs
 
 allows-binary-requires : tie.Need-allows-binary-requires
 allows-binary-requires c κs = search needs
 
-returns : tie.Need-returns
-returns c = rw (c .before .before .before .c .given .1) (fell (λ q. c .before .allows-binary .ensures .isnt (not-true _ (c .if1 .taken)) (q .2)) refl)
-
-try-join-requires : tie.Need-try-join-requires
-try-join-requires c κs =
-    let z = c .before .before .before .before .before in
-    let h = subst SmallClause (c .before .before .before .c .given .1) (z .pre .0 .clause) in
-    (z .pre .0 .left, h .0, h .1)
-
-returns-2 : tie.Need-returns-2
-returns-2 c = rw (c .enum-told .given .1) (fell (λ q. q) refl)
-
-returns-3 : tie.Need-returns-3
-returns-3 c = rw (c .enum-told2 .given .1) (fell (λ q. q) refl)
-
 returns-4 : tie.Need-returns-4
-returns-4 c = rw (c .enum-told3 .given .1) (fell (λ q. q) refl)
+returns-4 c =
+    let y = c .before .before .before .before .before .before .before .before .before in
+    let a = y .before .before .args in
+    fell
+    (λ q.
+    c .before .allows-binary .ensures .isnt (not-true _ (c .if4 .taken))
+    (split-parts (a .p) (a .k) (a .len) (a .left) (a .code) _ _ _ (omega (arith, y .before .kind-of .ensures, y .if1 .left)) refl refl (c .before .before .binary-mark-of .ensures) q .2))
+    refl
+
+left-of-requires : tie.Need-left-of-requires
+left-of-requires c κs = search needs
+
+join-requires : tie.Need-join-requires
+join-requires c κs =
+    (omega (arith, c .left-of .ensures), omega (arith, c .before .before .before .before .before .before .before .before .before .first-of .ensures), omega (arith, c .before .before .before .before .before .before .second-of .ensures))
 
 returns-5 : tie.Need-returns-5
-returns-5 c = rw (c .before .before .before .before .c .given .1) (took-if (λ q. (q .0, q .1, c .before .before .allows-binary .ensures .is (not-false _ (c .before .if1 .left)))) (λ q. (q .0, q .1)) (c .try-join .ensures))
+returns-5 c =
+    let v = c .before .before in
+    let w = v .before .before .before in
+    let x = w .before .before .before in
+    let y = x .before .before .before in
+    let a = y .before .before .args in
+    split-took (a .p) (a .k) (a .len) (a .left) (a .code) _ _ _ _ (omega (arith, y .before .kind-of .ensures, y .if1 .left))
+    (c .before .left-of .ensures) (x .before .before .first-of .ensures) (w .before .before .second-of .ensures) (v .before .before .binary-mark-of .ensures)
+    (x .before .has .ensures .is (not-false _ (x .if2 .left)), w .before .has2 .ensures .is (not-false _ (w .if3 .left)), v .before .allows-binary .ensures .is (not-false _ (v .if4 .left)))
+    (c .join .ensures)
 
 pub try-split-spec : {M : Type 1} → statement M
 try-split-spec =
     tie.close
     (tie.spec
-    enum-told
-    enum-told-2
-    enum-told-3
-    enum-known-c
-    allows-binary-requires
+    kind-of-requires
     returns
-    try-join-requires
+    first-of-requires
+    has-requires
     returns-2
+    second-of-requires
+    has-requires-2
     returns-3
+    binary-mark-of-requires
+    allows-binary-requires
     returns-4
+    left-of-requires
+    join-requires
     returns-5)

@@ -1,13 +1,12 @@
 -- The loop's invariant: the rules passed are tried.
 use borrow.Author.Needs.{needs}
-use mathlib.Core.Path.{_≡_, sym, subst, _∙_}
+use mathlib.Core.Path.{_≡_, subst}
 use Prim.Native.Nat.{_+_, _-_, _≤_, _<_}
 use native.Mathlib.Omega.{arith}
 use lib.ListN.{length}
 use Rattle.codes.specs.Codes.{decoded}
-use Rattle.codes.proofs.Laws.{small-decode, coded-length, coded-at}
+use Rattle.codes.proofs.Laws.{coded-length, coded-at}
 use Rattle.grammar.specs.declared.Rule.{Rule}
-use Rattle.grammar.specs.Content.{SmallRule}
 use Rattle.chart.specs.Tables.{no-rule}
 use Rattle.chart.specs.Passes.{Took, SplitFits, SplitBelow, SplitRow, row-none, row-more}
 use Rattle.chart.proofs.try_splits.Statement.{statement}
@@ -22,30 +21,27 @@ abbrev μ-loop : tie.MeasureT-loop
 loop-holds : tie.Need-loop-holds Inv-loop μ-loop
 loop-holds c = (omega arith, row-none)
 
-mul-rule-of : tie.Need-mul-rule-of Inv-loop μ-loop
-mul-rule-of c = search needs
+mul-try-split : tie.Need-mul-try-split Inv-loop μ-loop
+mul-try-split c = search needs
 
-shared-slice-read-rule-of : tie.Need-shared-slice-read-rule-of Inv-loop μ-loop
-shared-slice-read-rule-of c = search needs
-
-rule-of-requires : tie.Need-rule-of-requires Inv-loop μ-loop
-rule-of-requires c κs = search needs
+shared-slice-read-try-split : tie.Need-shared-slice-read-try-split Inv-loop μ-loop
+shared-slice-read-try-split c = search needs
 
 try-split-requires : tie.Need-try-split-requires Inv-loop μ-loop
-try-split-requires c κs = (subst SmallRule (sym (c .rule-of .ensures)) (small-decode _), c .before .before .before .before .before .pre)
+try-split-requires c κs = c .before .before .before .before .pre
 
 add-i : tie.Need-add-i Inv-loop μ-loop
 add-i c = search needs
 
 loop-less : tie.Need-loop-less Inv-loop μ-loop
-loop-less c = omega (arith, c .before .before .before .loop-test .taken)
+loop-less c = omega (arith, c .before .before .loop-test .taken)
 
 loop-again : tie.Need-loop-again Inv-loop μ-loop
 loop-again c =
-    let a = c .before .before .before .before .before .before .args in
-    let l = c .before .before .before .before .loop in
-    let h : l .i < length (a .codes .now) = c .before .before .before .loop-test .taken in
-    let e = c .before .rule-of .ensures ∙ coded-at (a .codes .now) no-rule (l .i) h in
+    let a = c .before .before .before .before .before .args in
+    let l = c .before .before .before .loop in
+    let h : l .i < length (a .codes .now) = c .before .before .loop-test .taken in
+    let e = coded-at (a .codes .now) no-rule (l .i) h in
     (omega arith, row-more (l .inv .1) (subst (λ (r : Rule). Took (SplitFits (a .p) (a .k) (a .len) (a .left) (r .clause)) (SplitBelow (a .p) (r .clause)) ⊥ (r .left) (l .u) (c .try-split .result)) e (c .try-split .ensures)))
 
 returns : tie.Need-returns Inv-loop μ-loop
@@ -61,9 +57,8 @@ try-splits-spec =
     Inv-loop
     μ-loop
     loop-holds
-    mul-rule-of
-    shared-slice-read-rule-of
-    rule-of-requires
+    mul-try-split
+    shared-slice-read-try-split
     try-split-requires
     add-i
     loop-less

@@ -1,9 +1,9 @@
 -- An arm for each kind: the digits give the clause back.
 use borrow.Author.Needs.{needs}
-use mathlib.Core.Path.{refl, sym, subst, _∙_}
+use mathlib.Core.Path.{sym, subst, _∙_}
 use native.Mathlib.Omega.{arith}
 use Rattle.grammar.specs.Content.{SmallClause}
-use Rattle.codes.proofs.Laws.{at-empty, gives-atom, gives-unary, gives-binary}
+use Rattle.codes.proofs.Laws.{gives-empty, gives-atom, gives-unary, gives-binary}
 use Rattle.codes.proofs.clause_code.Statement.{statement}
 use Rattle.codes.proofs.clause_code.Tie as tie
 
@@ -28,17 +28,14 @@ enum-known-c-2 c = search needs
 unary-digit-requires : tie.Need-unary-digit-requires
 unary-digit-requires c κs = search needs
 
-mul-result-2 : tie.Need-mul-result-2
-mul-result-2 c = search needs
-
 add-result-2 : tie.Need-add-result-2
 add-result-2 c = search needs
 
 wide-requires-2 : tie.Need-wide-requires-2
 wide-requires-2 c κs = search needs
 
-mul-result-3 : tie.Need-mul-result-3
-mul-result-3 c = search needs
+mul-result-2 : tie.Need-mul-result-2
+mul-result-2 c = search needs
 
 add-result-3 : tie.Need-add-result-3
 add-result-3 c = search needs
@@ -49,17 +46,14 @@ enum-known-c-3 c = search needs
 binary-digit-requires : tie.Need-binary-digit-requires
 binary-digit-requires c κs = search needs
 
-mul-result-4 : tie.Need-mul-result-4
-mul-result-4 c = search needs
-
 add-result-4 : tie.Need-add-result-4
 add-result-4 c = search needs
 
 wide-requires-3 : tie.Need-wide-requires-3
 wide-requires-3 c κs = search needs
 
-mul-result-5 : tie.Need-mul-result-5
-mul-result-5 c = search needs
+mul-result-3 : tie.Need-mul-result-3
+mul-result-3 c = search needs
 
 add-result-5 : tie.Need-add-result-5
 add-result-5 c = search needs
@@ -67,14 +61,14 @@ add-result-5 c = search needs
 wide-requires-4 : tie.Need-wide-requires-4
 wide-requires-4 c κs = search needs
 
-mul-result-6 : tie.Need-mul-result-6
-mul-result-6 c = search needs
+mul-result-4 : tie.Need-mul-result-4
+mul-result-4 c = search needs
 
 add-result-6 : tie.Need-add-result-6
 add-result-6 c = search needs
 
 returns : tie.Need-returns
-returns c = (omega arith, sym (at-empty 0 refl) ∙ sym (c .enum-told .given .1))
+returns c = (omega arith, gives-empty ∙ sym (c .enum-told .given .1))
 
 returns-2 : tie.Need-returns-2
 returns-2 c =
@@ -111,20 +105,18 @@ clause-code-spec =
     add-result
     enum-known-c-2
     unary-digit-requires
-    mul-result-2
     add-result-2
     wide-requires-2
-    mul-result-3
+    mul-result-2
     add-result-3
     enum-known-c-3
     binary-digit-requires
-    mul-result-4
     add-result-4
     wide-requires-3
-    mul-result-5
+    mul-result-3
     add-result-5
     wide-requires-4
-    mul-result-6
+    mul-result-4
     add-result-6
     returns
     returns-2
