@@ -4,6 +4,7 @@ use codes::encode;
 use codes::first_of;
 use codes::kind_of;
 use codes::left_of;
+use codes::mark_of;
 use codes::rule_of;
 use codes::second_of;
 use codes::unary_mark_of;
@@ -32,12 +33,12 @@ ghost use lib.ListN.{length};
 ghost use Rattle.sets.specs.Says.{Says};
 ghost use Rattle.sets.specs.Sets.{In};
 ghost use Rattle.grammar.specs.declared.Clause.the-variants as Kind;
-ghost use Rattle.codes.specs.Codes.{decode, decoded};
+ghost use Rattle.codes.specs.Codes.{binaryMark, mark, decode, decoded};
 ghost use Rattle.grammar.specs.Choices.{Distinct};
 ghost use Rattle.grammar.specs.Content.{rules, spelled, SmallClause, SmallRule, Formed};
 ghost use Rattle.grammar.specs.SpanSheet.{pairs, part, SpanSheet};
 ghost use Rattle.marks.specs.Drafts.{half};
-ghost use Rattle.marks.specs.Marked.{UnaryBy};
+ghost use Rattle.marks.specs.Marked.{UnaryBy, BinaryBy};
 ghost use Rattle.spans.specs.Reach.{Reach};
 ghost use Rattle.chart.specs.Tables.{One, byMarks, Fits, Atomic, lefts};
 ghost use Rattle.chart.specs.Passes.{Room, Found, Took, pairOf, sidesAt, SplitFits, SplitBelow, SplitRow, none, Splits, LeafFits, Leaves, Inner, Beside, Wide, Pass, Saturated};
@@ -245,6 +246,17 @@ fn try_join(t: Tally, a: u8, b: u8, e: u8, p: Sides) -> Tally
     join(t, a, b, e, p)
 }
 
+// Does the mark of a B rule's code hold of the two parts? Most rules have none.
+fn allows_split(k: SpanMarks, code: u64, left: usize, len: usize) -> bool
+    requires { ⌜ (left ≤ len) × (len ≤ 64) ⌝ }
+    ensures { λ r. ⌜ Says r (BinaryBy k len (binaryMark (mark code)) left) ⌝ }
+{
+    if mark_of(code) == 0 {
+        return true;
+    }
+    allows_binary(k, binary_mark_of(code), left, len)
+}
+
 // Try the rule of a code with `left` tokens on its left, its parts being the sides.
 fn try_split(t: Tally, code: u64, p: Sides, k: SpanMarks, left: usize, len: usize) -> Tally
     requires { ⌜ (left ≤ len) × (len ≤ 64) ⌝ }
@@ -261,7 +273,7 @@ fn try_split(t: Tally, code: u64, p: Sides, k: SpanMarks, left: usize, len: usiz
     if !has(p.right.one, e) {
         return t;
     }
-    if !allows_binary(k, binary_mark_of(code), left, len) {
+    if !allows_split(k, code, left, len) {
         return t;
     }
     join(t, left_of(code), b, e, p)

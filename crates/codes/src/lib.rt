@@ -61,6 +61,13 @@ pub fn second_of(code: u64) -> u8
     (code / 64 / 256 % 64) as u8
 }
 
+// Its mark's digit; 0 is no mark.
+pub fn mark_of(code: u64) -> u64
+    ensures { λ r. ⌜ r ≡ mark code ⌝ }
+{
+    code / 64 % 4
+}
+
 // Its mark, where it is a U rule.
 pub fn unary_mark_of(code: u64) -> UnaryMark
     ensures { λ r. ⌜ r ≡ unaryMark (mark code) ⌝ }

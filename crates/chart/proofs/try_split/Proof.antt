@@ -48,20 +48,17 @@ returns-3 c =
     (split-parts (a .p) (a .k) (a .len) (a .left) (a .code) _ _ _ (omega (arith, y .before .kind-of .ensures, y .if1 .left)) refl (c .before .before .second-of .ensures) refl q .1))
     refl
 
-binary-mark-of-requires : tie.Need-binary-mark-of-requires
-binary-mark-of-requires c κs = search needs
-
-allows-binary-requires : tie.Need-allows-binary-requires
-allows-binary-requires c κs = search needs
+allows-split-requires : tie.Need-allows-split-requires
+allows-split-requires c κs = search needs
 
 returns-4 : tie.Need-returns-4
 returns-4 c =
-    let y = c .before .before .before .before .before .before .before .before .before in
+    let y = c .before .before .before .before .before .before .before .before in
     let a = y .before .before .args in
     fell
     (λ q.
-    c .before .allows-binary .ensures .isnt (not-true _ (c .if4 .taken))
-    (split-parts (a .p) (a .k) (a .len) (a .left) (a .code) _ _ _ (omega (arith, y .before .kind-of .ensures, y .if1 .left)) refl refl (c .before .before .binary-mark-of .ensures) q .2))
+    c .before .allows-split .ensures .isnt (not-true _ (c .if4 .taken))
+    (split-parts (a .p) (a .k) (a .len) (a .left) (a .code) _ _ _ (omega (arith, y .before .kind-of .ensures, y .if1 .left)) refl refl refl q .2))
     refl
 
 left-of-requires : tie.Need-left-of-requires
@@ -69,18 +66,18 @@ left-of-requires c κs = search needs
 
 join-requires : tie.Need-join-requires
 join-requires c κs =
-    (omega (arith, c .left-of .ensures), omega (arith, c .before .before .before .before .before .before .before .before .before .first-of .ensures), omega (arith, c .before .before .before .before .before .before .second-of .ensures))
+    (omega (arith, c .left-of .ensures), omega (arith, c .before .before .before .before .before .before .before .before .first-of .ensures), omega (arith, c .before .before .before .before .before .second-of .ensures))
 
 returns-5 : tie.Need-returns-5
 returns-5 c =
     let v = c .before .before in
-    let w = v .before .before .before in
+    let w = v .before .before in
     let x = w .before .before .before in
     let y = x .before .before .before in
     let a = y .before .before .args in
     split-took (a .p) (a .k) (a .len) (a .left) (a .code) _ _ _ _ (omega (arith, y .before .kind-of .ensures, y .if1 .left))
-    (c .before .left-of .ensures) (x .before .before .first-of .ensures) (w .before .before .second-of .ensures) (v .before .before .binary-mark-of .ensures)
-    (x .before .has .ensures .is (not-false _ (x .if2 .left)), w .before .has2 .ensures .is (not-false _ (w .if3 .left)), v .before .allows-binary .ensures .is (not-false _ (v .if4 .left)))
+    (c .before .left-of .ensures) (x .before .before .first-of .ensures) (w .before .before .second-of .ensures) refl
+    (x .before .has .ensures .is (not-false _ (x .if2 .left)), w .before .has2 .ensures .is (not-false _ (w .if3 .left)), v .before .allows-split .ensures .is (not-false _ (v .if4 .left)))
     (c .join .ensures)
 
 pub try-split-spec : {M : Type 1} → statement M
@@ -95,8 +92,7 @@ try-split-spec =
     second-of-requires
     has-requires-2
     returns-3
-    binary-mark-of-requires
-    allows-binary-requires
+    allows-split-requires
     returns-4
     left-of-requires
     join-requires
