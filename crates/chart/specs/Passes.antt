@@ -36,12 +36,17 @@ abbrev pub firmOf : Bool → Tally → ℕ → ℕ
 firmOf true t A = t .firm
 firmOf false t A = insert (t .firm) A
 
+-- w is the set of t's nonterminals that have two trees, with a besides where a word below has two or the rule meets another
+abbrev pub Doubles : Tally → ℕ → Bool → Bool → ℕ → Type 0
+Doubles t a again atomic w =
+    ((w ≡ insert (t .two) a) × (In (rivalsOf atomic t) a ⊎ (again ≡ true))) ⊎ ((w ≡ t .two) × (In (rivalsOf atomic t) a → ⊥) × (again ≡ false))
+
 -- a rule for a is counted into t; again says that a word below has two trees, atomic that it is a terminal
 pub record Found (t : Tally) (a : ℕ) (again atomic : Bool) (u : Tally) : Type 0 where
   pub seen : u .seen ≡ insert (t .seen) a
   pub firm : u .firm ≡ firmOf atomic t a
   pub one : u .one ≡ insert (t .one) a
-  pub two : ((u .two ≡ insert (t .two) a) × (In (rivalsOf atomic t) a ⊎ (again ≡ true))) ⊎ ((u .two ≡ t .two) × (In (rivalsOf atomic t) a → ⊥) × (again ≡ false))
+  pub two : Doubles t a again atomic (u .two)
 
 -- a rule for a is tried: t is as it was, or the rule is counted
 -- (fits: it stands; below: a word below has two trees; atom: it is a terminal)

@@ -41,7 +41,7 @@ ghost use Rattle.marks.specs.Drafts.{half};
 ghost use Rattle.marks.specs.Marked.{UnaryBy, BinaryBy};
 ghost use Rattle.spans.specs.Reach.{Reach};
 ghost use Rattle.chart.specs.Tables.{One, byMarks, Fits, Atomic, lefts};
-ghost use Rattle.chart.specs.Passes.{Room, Found, Took, pairOf, sidesAt, SplitFits, SplitBelow, SplitRow, none, Splits, LeafFits, Leaves, Inner, Beside, Wide, Pass, Saturated};
+ghost use Rattle.chart.specs.Passes.{Room, rivalsOf, firmOf, Doubles, Found, Took, pairOf, sidesAt, SplitFits, SplitBelow, SplitRow, none, Splits, LeafFits, Leaves, Inner, Beside, Wide, Pass, Saturated};
 ghost use Rattle.chart.specs.Filling.{Whole, Ground, Closed, Filled, Grown};
 ghost use Rattle.chart.specs.Sheets.{Ready, Charted, Judged, Settles};
 ghost use Rattle.chart.specs.Choosing.{NextChoice};
@@ -150,62 +150,49 @@ fn last_left(c: Clause, len: usize) -> usize
     }
 }
 
+// What a rule may have met: a terminal only what is none.
+fn rivals(t: Tally, atomic: bool) -> u64
+    ensures { λ r. ⌜ r ≡ rivalsOf atomic t ⌝ }
+{
+    if atomic { t.firm } else { t.seen }
+}
+
+// The nonterminals for which a rule stands that is no terminal, with a rule for `a` besides.
+fn firmed(t: Tally, a: u8, atomic: bool) -> u64
+    requires { ⌜ a < 64 ⌝ }
+    ensures { λ r. ⌜ r ≡ firmOf atomic t a ⌝ }
+{
+    if atomic { t.firm } else { with(t.firm, a) }
+}
+
+// The nonterminals that have two trees, with a rule for `a` besides: where `again` says so, or where it meets another.
+fn doubled(t: Tally, a: u8, again: bool, atomic: bool) -> u64
+    requires { ⌜ a < 64 ⌝ }
+    ensures { λ r. ⌜ Doubles t a again atomic r ⌝ }
+{
+    if again {
+        return with(t.two, a);
+    }
+    if has(rivals(t, atomic), a) {
+        return with(t.two, a);
+    }
+    t.two
+}
+
 // The tally with a rule for `a` besides; `again` says that a word below has two trees, `atomic` that it is a terminal.
 fn found(t: Tally, a: u8, again: bool, atomic: bool) -> Tally
     requires { ⌜ a < 64 ⌝ }
     ensures { λ r. ⌜ Found t a again atomic r ⌝ }
 {
     let seen = with(t.seen, a);
+    let firm = firmed(t, a, atomic);
     let one = with(t.one, a);
-    let two = with(t.two, a);
-    let was = t.two;
-    if atomic {
-        let firm = t.firm;
-        if again {
-            return Tally {
-                seen,
-                firm,
-                one,
-                two,
-            };
-        }
-        if has(t.firm, a) {
-            return Tally {
-                seen,
-                firm,
-                one,
-                two,
-            };
-        }
-        return Tally {
-            seen,
-            firm,
-            one,
-            two: was,
-        };
-    }
-    let firm = with(t.firm, a);
-    if again {
-        return Tally {
-            seen,
-            firm,
-            one,
-            two,
-        };
-    }
-    if has(t.seen, a) {
-        return Tally {
-            seen,
-            firm,
-            one,
-            two,
-        };
-    }
+    let two = doubled(t, a, again, atomic);
     Tally {
         seen,
         firm,
         one,
-        two: was,
+        two,
     }
 }
 
