@@ -25,6 +25,8 @@ use Rattle.spans.specs.Changes.{Past, Kept}
 use Rattle.spans.proofs.Places.{pairAt-same}
 use Rattle.spans.proofs.ChangeLaws.{past-same, kept-past}
 use Rattle.spans.proofs.Uniqueness.{words-same}
+use Rattle.order.specs.Order.{Rearranged}
+use Rattle.order.proofs.Same.{derives-same, two-same, one-same, none-under}
 use Rattle.chart.specs.declared.Verdict.{Verdict}
 use Rattle.chart.specs.declared.Verdict.the-variants as Verdict
 use Rattle.chart.specs.Tables.{Table, One, Two, byTokens, Stand, Again}
@@ -185,6 +187,23 @@ module _ {g : Rules} {w : Word} {n : ℕ} {ws : List ℕ} (e : length w ≡ n) (
 -- a verdict beside the sheet that it is read off
 pub judged : {r : Verdict} {g : Rules} {w : Word} {n : ℕ} {ws ws′ : List ℕ} → length w ≡ n → 2 * pairs n ≤ length ws → Charted ws ws′ g (record { word = w; known = n }) n → Holds r g 0 w → Judged r g w n ws ws′
 judged e enough c h = record { verdict = h; sheet = exact-sheet e (omega (arith, c .past .long)) (c .exact); past = c .past }
+
+-- rules in another order have the same verdict and sheet
+pub judged-over : {r : Verdict} {g g′ : Rules} {w : Word} {n : ℕ} {ws ws′ : List ℕ} → Rearranged g g′ → Judged r g′ w n ws ws′ → Judged r g w n ws ws′
+judged-over {r} {g} {g′} {w} {ws′ = ws′} o x = record {
+  verdict = holds r (x .verdict);
+  sheet = record {
+    enough = x .sheet .enough;
+    one = λ s len A fit small. let y = x .sheet .one s len A fit small in (λ m. derives-same o .1 (y .0 m), λ d. y .1 (derives-same o .0 d));
+    two = λ s len A fit small. let y = x .sheet .two s len A fit small in (λ m. two-same o .1 (y .0 m), λ d. y .1 (two-same o .0 d));
+  };
+  past = x .past;
+}
+  where
+    holds : (v : Verdict) → Holds v g′ 0 w → Holds v g 0 w
+    holds Verdict.None h = none-under (o .to) h
+    holds Verdict.One h = one-same o h
+    holds Verdict.Two h = two-same o .1 h
 
 -- where the second word lacks 0 over the whole, no completion has two trees
 pub covers-none : {g : Rules} {h : Half} {n : ℕ} {ws : List ℕ} → length (h .word) ≡ n → Covers g h n ws → (In (secondWord ws n 0 n) 0 → ⊥) → Hopeless g h

@@ -1,6 +1,5 @@
 // The span sheet of a grammar and a sentence, filled in lent words; the verdict by it.
 use codes::binary_mark_of;
-use codes::encode;
 use codes::first_of;
 use codes::kind_of;
 use codes::left_of;
@@ -20,6 +19,7 @@ use marks::allows_atom;
 use marks::allows_binary;
 use marks::allows_unary;
 use marks::span_marks;
+use order::ordered;
 use sets::has;
 use sets::with;
 use spans::in_first;
@@ -626,7 +626,7 @@ pub fn judge(words: &mut [u64], s: Sentence, g: Grammar) -> Verdict
         count: n,
         known: n,
     };
-    let codes = encode(g);
+    let codes = ordered(g);
     let m = g.count;
     fill(words, d, &codes[..m], 0, n);
     if !in_first(words, n, 0, n, 0) {

@@ -20,6 +20,8 @@ use Rattle.candidates.specs.Terminals.{Among}
 use Rattle.candidates.specs.Spelling.{LowSteps, Spells, nowhere}
 use Rattle.candidates.proofs.Spelling.{low-steps}
 use Rattle.candidates.proofs.TerminalSets.{no-candidate, candidate-over}
+use Rattle.order.specs.Order.{Rearranged}
+use Rattle.order.proofs.Same.{two-same}
 use Rattle.dominance.specs.Dominance.{Spared}
 use Rattle.dominance.proofs.Renaming.{renamed, renamed-candidate, renamed-two, renamed-before}
 use Rattle.sweeping.specs.Searching.{NoneShorter, Hits, Searched, hit, miss}
@@ -54,6 +56,22 @@ module _ {g : Rules} {s kept : ℕ} (sp : Spared g s kept) where
 
   pub none-all : ((x : ℕ) → Among kept x → ⊥) → (x : ℕ) → Among s x → ⊥
   none-all h x m = let q = sp .each x m in h (q .0) (q .1)
+
+-- ---- rules in another order have the same trees
+
+module _ {g g′ : Rules} {s : ℕ} (o : Rearranged g g′) where
+  shorter-over : {n : ℕ} → NoneShorter g′ s n → NoneShorter g s n
+  shorter-over h = record { none = λ m ds l u c t. h .none m ds l u c (two-same o .0 t) }
+
+  pub searched-over : {k n : ℕ} {cs : List Cell} → Searched g′ s k n cs → Searched g s k n cs
+  searched-over (hit h) = hit (record {
+    low = h .low;
+    high = h .high;
+    before = record { candidate = h .before .candidate; none = λ ds c b t. h .before .none ds c b (two-same o .0 t) };
+    two = two-same o .1 (h .two);
+    shorter = shorter-over (h .shorter);
+  })
+  searched-over (miss e h) = miss e (shorter-over h)
 
 -- ---- what is found
 

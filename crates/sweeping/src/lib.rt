@@ -2,11 +2,11 @@
 use candidates::Candidate;
 use candidates::terminals;
 use chart::hopeless;
-use codes::encode;
 use dominance::needed;
 use grammar::Grammar;
 use grammar::Sentence;
 use marks::Draft;
+use order::ordered;
 use sets::Member;
 use sets::first_from;
 use spans::clear;
@@ -177,7 +177,7 @@ fn find(g: Grammar, k: usize, words: &mut [u64]) -> Hit
     let Member::At(low) = f else {
         return nothing();
     };
-    let codes = encode(g);
+    let codes = ordered(g);
     let m = g.count;
     search(&codes[..m], set, low, k, words)
 }
