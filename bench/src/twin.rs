@@ -2,6 +2,7 @@
 
 pub mod chart;
 pub mod grammar;
+pub mod order;
 pub mod sheets;
 pub mod sweep;
 
@@ -29,11 +30,12 @@ pub struct Swept {
 
 /// The verdict on a sentence. `words` get its span sheet.
 pub fn verdict(rules: &[u8], tokens: &[u8], words: &mut [u64]) -> Result<Verdict, Refusal> {
-    let rules = sheets::read_rules(rules)?;
+    let mut rules = sheets::read_rules(rules)?;
     let tokens = sheets::read_tokens(tokens)?;
     if words.len() < chart::size(tokens.len()) {
         return Err(Refusal::whole(21));
     }
+    order::arrange(&mut rules);
     chart::fill(words, &rules, &tokens);
     Ok(chart::verdict(words, tokens.len()))
 }
@@ -50,7 +52,7 @@ pub fn sweep_within(
     words: &mut [u64],
     most_fills: u64,
 ) -> Result<Swept, Refusal> {
-    let rules = sheets::read_rules(rules)?;
+    let mut rules = sheets::read_rules(rules)?;
     if !(1..=7).contains(&bound) {
         return Err(Refusal::whole(23));
     }
@@ -63,6 +65,7 @@ pub fn sweep_within(
     if words.len() < chart::size(bound) {
         return Err(Refusal::whole(21));
     }
+    order::arrange(&mut rules);
     let swept = sweep::search(&rules, sweep::needed(&rules), bound, words, most_fills);
     words[..chart::size(bound)].fill(0);
     Ok(swept)
