@@ -33,19 +33,19 @@ pub const VERDICT: [Family; 9] = [
     Family { name: "marks", what: "B and U rules under every mark", terminals: 1, sheet: marks },
     Family {
         name: "chain, top first",
-        what: "a chain of U rules over a dense bottom: one pass",
+        what: "a chain of U rules over a dense bottom, the top first",
         terminals: 1,
         sheet: chain_top_first,
     },
     Family {
         name: "unary chain",
-        what: "the same listed bottom first: a pass a link",
+        what: "the same listed bottom first",
         terminals: 1,
         sheet: unary_chain,
     },
     Family {
         name: "zigzag chain",
-        what: "the same listed in zigzag: a pass for two links, whichever way it goes",
+        what: "the same listed in zigzag",
         terminals: 1,
         sheet: zigzag_chain,
     },
