@@ -21,7 +21,7 @@ use Rattle.marks.proofs.Words.{part-length, Cut, cut}
 use Rattle.marks.proofs.HalfLaws.{may-be, may-keep, may-pair}
 use Rattle.chart.specs.Tables.{Table, byTokens, Fits, Stand, Atomic, Rivals, Below, Again, rule}
 use Rattle.chart.specs.Tables.Again.{apart, below}
-use Rattle.chart.proofs.RulePlaces.{place}
+use Rattle.order.proofs.Places.{place}
 
 atomic? : (c : Clause) → Dec (Atomic c)
 atomic? Clause.Empty = no (λ x. x)

@@ -32,7 +32,8 @@ use Rattle.chart.specs.declared.Pick.the-variants as Pick
 use Rattle.chart.specs.Tables.{One, byTokens, byMarks, Fits, Stand, rule}
 use Rattle.chart.specs.Choosing.{NextAt, NoneFrom, NextChoice}
 use Rattle.chart.specs.Searches.{Serves, FirstSplit, Upon, Stood, Reached, FirstPick}
-use Rattle.chart.proofs.RulePlaces.{rule-there, small-at}
+use Rattle.order.proofs.Places.{there}
+use Rattle.chart.proofs.RulePlaces.{small-at}
 use Rattle.chart.proofs.Views.{stand-view, marks-tokens, tokens-marks}
 
 -- ---- the search
@@ -117,13 +118,13 @@ module _ (g : Rules) (w : Word) (ws : List ℕ) (sheet : SpanSheet g w ws) (s le
   stand-choice : ((i : ℕ) → i < length g → SmallRule (rule g i)) → (A i l : ℕ) → Stand (One ws (length w)) g (byTokens (whole w) s len) s len A i l → Choice g A (part w s len) i l
   stand-choice small A i l c =
       subst (λ (B : ℕ). Choice g B (part w s len) i l) (c .left)
-      (can-choice g i (rule g i .left) (rule g i .clause) (part w s len) l (rule-there g i (c .within)) (fits-can (rule g i .clause) (small i (c .within) .clause) l (c .fits)))
+      (can-choice g i (rule g i .left) (rule g i .clause) (part w s len) l (there g i (c .within)) (fits-can (rule g i .clause) (small i (c .within) .clause) l (c .fits)))
 
   choice-stand : ((i : ℕ) → i < length g → SmallRule (rule g i)) → (A i l : ℕ) → Choice g A (part w s len) i l → Stand (One ws (length w)) g (byTokens (whole w) s len) s len A i l
   choice-stand small A i l c =
       let x = choice-can c in
       let h = getElem?-lt g i (x .1) in
-      let e : x .0 ≡ rule g i = let y = x .1 in let z = rule-there g i h in cc in
+      let e : x .0 ≡ rule g i = let y = x .1 in let z = there g i h in cc in
       record {
         within = h;
         left = ap (λ (r : Rule). r .left) (sym e) ∙ x .2;

@@ -18,7 +18,8 @@ use Rattle.marks.proofs.Words.{part-cut, part-length}
 use Rattle.marks.proofs.HalfLaws.{is-one, does-keep, does-pair}
 use Rattle.chart.specs.Tables.{Table, byTokens, Fits, Stand, Rivals, Below, Again, rule}
 use Rattle.chart.specs.Tables.Again.{apart, below}
-use Rattle.chart.proofs.RulePlaces.{member, distinct-at}
+use Rattle.order.proofs.Places.{member}
+use Rattle.chart.proofs.RulePlaces.{distinct-at}
 use Rattle.chart.proofs.Completeness.{Headed}
 
 -- one tree follows clauses that are alike, with one left length

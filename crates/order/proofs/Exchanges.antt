@@ -1,20 +1,19 @@
 -- An exchange rearranges.
 use mathlib.Core.Path.{_≡_, refl, sym, ap, _∙_, subst}
-use mathlib.Core.List.{List, [], _∷_, List·Memᴰ, List·Memᴰ·head, List·Memᴰ·tail}
+use mathlib.Core.List.{List, [], _∷_, List·Memᴰ}
 use mathlib.Core.Option.{Option, some}
 use Prim.Native.Nat.{ℕ, zero, suc, _≤_, _<_, zero-le, suc-le-suc}
 use native.Mathlib.Omega.{arith}
-use native.Mathlib.Nat.{le-of-suc-le-suc, not-suc-le-zero}
 use native.Mathlib.Decide.{ℕ-discrete}
 use lib.ListN.{length, getD, getElem?, take, set, length-set, length-take}
 use lib.Seq.{getD-take, getD-set-same, getD-set-other}
 use Rattle.codes.specs.Codes.{decode, decoded}
 use Rattle.codes.proofs.Laws.{coded-length, coded-at}
 use Rattle.grammar.specs.declared.Rule.{Rule}
-use Rattle.grammar.specs.declared.Clause.the-variants as Clause
 use Rattle.grammar.specs.Trees.{Rules}
 use Rattle.grammar.specs.Choices.{Alike, Distinct}
 use Rattle.order.specs.Order.{Rearranged, exchanged}
+use Rattle.order.proofs.Places.{no-rule, place, member, there}
 
 pub same-rules : (g : Rules) → Rearranged g g
 same-rules g = record { to = λ r m. m; of = λ r m. m; distinct = λ d. d }
@@ -22,24 +21,7 @@ same-rules g = record { to = λ r m. m; of = λ r m. m; distinct = λ d. d }
 pub then-rules : {g g′ g″ : Rules} → Rearranged g g′ → Rearranged g′ g″ → Rearranged g g″
 then-rules x y = record { to = λ r m. y .to r (x .to r m); of = λ r m. x .of r (y .of r m); distinct = λ d. y .distinct (x .distinct d) }
 
--- ---- rules by their places
-
-no-rule : Rule
-no-rule = record { left = 0; clause = Clause.Empty }
-
-place : {r : Rule} (g : Rules) → List·Memᴰ r g → (i : ℕ) × (i < length g) × (getD g i no-rule ≡ r)
-place (x ∷ g) (List·Memᴰ·head e) = (0, suc-le-suc zero-le, sym e)
-place (x ∷ g) (List·Memᴰ·tail m) = let p = place g m in (suc (p .0), suc-le-suc (p .1), p .2)
-
-member : (g : Rules) (i : ℕ) → i < length g → List·Memᴰ (getD g i no-rule) g
-member [] i h = absurd (not-suc-le-zero h)
-member (x ∷ g) zero h = List·Memᴰ·head refl
-member (x ∷ g) (suc i) h = List·Memᴰ·tail (member g i (le-of-suc-le-suc h))
-
-there : (g : Rules) (i : ℕ) → i < length g → getElem? g i ≡ some (getD g i no-rule)
-there [] i h = absurd (not-suc-le-zero h)
-there (x ∷ g) zero h = refl
-there (x ∷ g) (suc i) h = there g i (le-of-suc-le-suc h)
+-- ---- the same rules at other places
 
 from-there : (g : Rules) (i : ℕ) (r : Rule) → getElem? g i ≡ some r → (i < length g) × (getD g i no-rule ≡ r)
 from-there [] i r e = absurd (let z : _≡_ {A = ℕ} 0 1 = cc in omega arith)
