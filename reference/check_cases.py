@@ -11,7 +11,16 @@ is (line, column) of terminal 0, or (terminal, line, column).
 
 import random
 
-from reading_cases import ALL_KINDS, SPREAD, damaged, many_rules, many_tokens, rules, tokens
+from reading_cases import (
+    ALL_KINDS,
+    SPREAD,
+    damaged,
+    many_rules,
+    many_tokens,
+    padded,
+    rules,
+    tokens,
+)
 
 
 def rule_sheet(text):
@@ -327,14 +336,17 @@ RULE_LINES = (
     (2, b"1 U 2 - off"),
     (2, b"1 A - - none"),
     (2, b"1 E 0 - none"),
-    (2, b"01 A 0 - none"),
-    (2, b"1 A 100 - none"),
+    (2, b"000001 A 0 - none"),
+    (2, b"1 A 000000 - none"),
     (3, b"1 A 64 - none"),
+    (3, b"1 A 0064 - none"),
+    (3, b"100 A 0 - none"),
     (3, b"1 B 2 99 none"),
     (4, b"1 E - - single"),
     (4, b"1 U 2 - align"),
     (4, b"1 B 2 2 offalign"),
     (5, b"0 A 0 - none"),
+    (5, b"00 A 00000 - none"),
     # 2 before 3, 3 before 4, 4 before 5.
     (2, b"1 E 64 - none"),
     (3, b"64 A 0 - offside"),
@@ -346,17 +358,19 @@ TOKEN_LINES = (
     (12, b"0  6 1"),
     (12, b"0 6"),
     (12, b""),
-    (12, b"0 06 1"),
-    (12, b"100 6 1"),
+    (12, b"0 000006 1"),
+    (12, b"000000 6 1"),
     (12, b"0 6 100000"),
     (13, b"64 6 1"),
+    (13, b"0064 6 1"),
+    (13, b"0 00000 7"),
     (13, b"0 65536 1"),
     (13, b"0 0 7"),
     (13, b"0 6 0"),
     (15, b"0 5 5"),
     (15, b"0 4 9"),
     # 12 before 13, 13 before 15.
-    (12, b"64 5 05"),
+    (12, b"64 5 000005"),
     (13, b"0 5 0"),
 )
 
@@ -385,11 +399,22 @@ def refused_sheets():
     yield "refused-8 0", check("0 A 0 - none / 5 U 6 - none / 6 B 7 5 none / 7 E - - none", (1, 1))
     # A line comes before the end, and before a lesser number in a later line.
     yield "refused-4 3", check("1 U 1 - none / 0 U 0 - align", (1, 1))
-    yield "refused-5 3", check("0 U 0 - none / 0 U 0 - none / 00 A 0 - none", (1, 1))
-    yield "refused-15 3", rules(GOOD) + b"\n" + tokens(b"0 1 1", b"0 1 1", b"0 01 1")
+    yield "refused-5 3", check("0 U 0 - none / 0 U 0 - none / 0 A 000000 - none", (1, 1))
+    yield "refused-15 3", rules(GOOD) + b"\n" + tokens(b"0 1 1", b"0 1 1", b"0 000001 1")
     # The last line is not ended.
     yield "refused-11 1", rules(GOOD) + b"\nterm line col"
     yield "refused-12 2", rules(GOOD) + b"\n" + good_tokens[:-1]
+
+
+def padded_numbers():
+    """One to five digits; the rows are plain."""
+    for digits in (2, 3, 4, 5):
+        yield "two 0", padded(check(PLAIN, *row(3)), digits)
+        yield "one 0", padded(check(BLOCK, *ITEMS), digits)
+        yield "refused-5 3", rules(GOOD, padded(GOOD, digits)) + b"\n" + tokens(b"0 1 1")
+        yield "refused-15 3", rules(GOOD) + b"\n" + tokens(b"0 5 5", padded(b"0 5 5", digits))
+    yield "refused-2 2", padded(check(PLAIN, *row(3)), 6)
+    yield "refused-12 2", rules(GOOD) + b"\n" + padded(tokens(b"0 1 1"), 6)
 
 
 def refused_names():
@@ -566,6 +591,7 @@ def meant():
         about_4096_rows(),
         far_too_many_rows(),
         refused_sheets(),
+        padded_numbers(),
         refused_names(),
         refused_inputs(),
     ):

@@ -7,6 +7,7 @@ reference whether it is so.
 """
 
 import random
+import re
 
 RULE_NAMES = b"left kind first second lay"
 TOKEN_NAMES = b"term line col"
@@ -22,6 +23,11 @@ def rules(*lines):
 
 def tokens(*lines):
     return sheet(TOKEN_NAMES, lines)
+
+
+def padded(text, digits):
+    """Each number with zeros before it, to so many digits."""
+    return re.sub(rb"[0-9]+", lambda number: number[0].rjust(digits, b"0"), text)
 
 
 # Short accepted sheets, to go with a sheet under trial.
@@ -108,17 +114,17 @@ def refused_rule_form():
         b"1 A 0 0 none",
         b"1 U 2 2 none",
         # Digits.
-        b"00 A 0 - none",
-        b"01 A 0 - none",
-        b"1 A 007 - none",
-        b"1 B 2 02 none",
-        b"100 A 0 - none",
-        b"1 A 100 - none",
+        b"000001 A 0 - none",
+        b"1 A 000000 - none",
+        b"1 U 000002 - none",
+        b"1 B 2 000002 none",
+        b"1 A 100000 - none",
+        b"1 A 0000000000000000000001 - none",
         b"1 A -1 - none",
         b"1 A \xb2 - none",
         # 2 before 3, 4 and 5.
         b"1 E 64 - none",
-        b"64 A 00 - align",
+        b"64 A 000000 - align",
         b"0 A 0 - none ",
     ):
         yield rules(good, line)
@@ -134,6 +140,10 @@ def refused_rule_values():
         b"1 U 99 - none",
         b"1 B 64 2 none",
         b"1 B 2 64 none",
+        b"100 A 0 - none",
+        b"0064 A 0 - none",
+        b"1 A 00064 - none",
+        b"1 B 2 99999 none",
         b"1 E - - single",
         b"1 A 0 - offside",
         b"1 U 2 - align",
@@ -144,6 +154,9 @@ def refused_rule_values():
         b"1 B 2 99 single",
         b"0 A 0 - align",
         b"0 A 0 - none",
+        # 5 by the value.
+        b"00 A 000 - none",
+        b"00000 A 0 - none",
     ):
         yield rules(good, line)
     # 5 under the same lay and under another one.
@@ -164,7 +177,7 @@ def refused_rule_count():
     yield full + b"64 A 0 - align\n"
     yield full + b"0 A 0 - none\n\n"
     # A fault in an earlier line comes first, in the 128th rule too.
-    yield many_rules(129).replace(b"0 A 3 - none", b"0 A 03 - none")
+    yield many_rules(129).replace(b"0 A 3 - none", b"0 A 000003 - none")
     yield many_rules(129).replace(b"1 A 63 - none", b"0 A 63 - none")
 
 
@@ -207,6 +220,9 @@ def accepted_rule_sheets():
     """Near misses of refusals."""
     yield many_rules(128)
     yield rules(b"0 E - - none", b"63 A 63 - none", b"1 B 63 63 indent")
+    # Padded numbers.
+    yield rules(b"00000 U 01 - none", b"001 B 0002 00063 none", b"00063 A 00063 - none")
+    yield padded(ALL_KINDS, 5)
     # Not the same: sides changed, another left, another kind.
     yield rules(b"0 B 1 2 align", b"2 A 5 - none", b"0 B 2 1 align")
     yield rules(b"0 E - - none", b"1 E - - none")
@@ -246,16 +262,14 @@ def refused_token_form():
         b"0 2 -",
         b"a 2 1",
         b"0 2 \xb2",
-        b"00 2 1",
-        b"007 2 1",
-        b"0 02 1",
-        b"0 2 01",
-        b"100 2 1",
+        b"000000 2 1",
+        b"0 000002 1",
+        b"0 2 000001",
         b"0 100000 1",
         b"0 2 100000",
         # 12 before 13.
-        b"64 02 1",
-        b"0 0 07",
+        b"64 000002 1",
+        b"0 0 000007",
     ):
         yield tokens(b"0 1 1", line)
 
@@ -265,23 +279,28 @@ def refused_token_values():
     for line in (
         b"64 6 1",
         b"99 6 1",
+        b"0064 6 1",
+        b"99999 6 1",
         b"0 65536 1",
         b"0 99999 1",
         b"0 6 65536",
         b"0 6 99999",
         b"0 0 7",
         b"0 6 0",
+        b"0 00000 7",
+        b"0 6 00000",
         b"0 5 5",
         b"0 5 4",
         b"0 4 9",
+        b"0 5 05",
         # 13 before 15; 12 before 15.
         b"64 5 5",
         b"0 5 0",
-        b"0 5 05",
+        b"0 5 000005",
     ):
         yield tokens(b"0 5 5", line)
     # The line counts before the number.
-    yield tokens(b"0 1 1", b"0 1 1", b"0 1 2", b"0 01 1")
+    yield tokens(b"0 1 1", b"0 1 1", b"0 1 2", b"0 000001 1")
     yield tokens(b"0 1 3", b"64 1 4", b"", b"0 1 2")
     # 15 looks at the token just before.
     yield tokens(b"0 1 1", b"0 3 1", b"0 2 1")
@@ -295,7 +314,7 @@ def refused_token_count():
     yield full + b"0"
     yield full + b"64 0 0\n"
     yield full + b"0 1 1\n\n"
-    yield many_tokens(65).replace(b"3 1 4\n", b"3 1 04\n", 1)
+    yield many_tokens(65).replace(b"3 1 4\n", b"3 1 000004\n", 1)
     yield many_tokens(65).replace(b"63 1 64\n", b"63 1 63\n", 1)
 
 
@@ -314,6 +333,8 @@ def accepted_token_sheets():
     yield many_tokens(64)
     yield SPREAD
     yield tokens(b"63 2 1")
+    yield tokens(b"00063 00002 01", b"00 02 00002", b"000 65535 65535")
+    yield padded(SPREAD, 3)
     yield tokens(b"0 65535 65535")
     yield tokens(b"0 5 5", b"0 5 6", b"0 6 1")
     yield tokens(b"1 1 1", b"1 2 1", b"1 2 2", b"0 9 1")
@@ -325,7 +346,7 @@ def both_refused_pairs():
     """Both sheets refused, in a line and in none."""
     yield b"", b""
     yield rules(b"0 A 0"), tokens(b"0 0 1")
-    yield rules(b"1 A 0 - none"), tokens(b"0 01 1")
+    yield rules(b"1 A 0 - none"), tokens(b"0 000001 1")
     yield rules(b"0 U 0 - none"), b"wrong names\n"
     yield b"\n", tokens(b"x")
     yield rules(b"0 A 0 - none", b"\xff\xfe\r"), tokens(b"0 1 1", b"0 1 1")

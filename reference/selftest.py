@@ -163,14 +163,13 @@ def patches_after_p9():
 
 # ----------------------------------------------------- a reader by patterns
 
-NUMBER = rb"(?:0|[1-9][0-9]?)"
-LONG_NUMBER = rb"(?:0|[1-9][0-9]{0,4})"
+NUMBER = rb"[0-9]{1,5}"
 LAY = rb"(?:none|align|indent|offside|offalign|single)"
 RULE_FORM = re.compile(
     rb"%(n)s (?:E - -|A %(n)s -|U %(n)s -|B %(n)s %(n)s) %(lay)s\n"
     % {b"n": NUMBER, b"lay": LAY}
 )
-TOKEN_FORM = re.compile(rb"%s %s %s\n" % (NUMBER, LONG_NUMBER, LONG_NUMBER))
+TOKEN_FORM = re.compile(rb"%s %s %s\n" % (NUMBER, NUMBER, NUMBER))
 ALLOWED = re.compile(
     rb"\S+ (?:E \S+ \S+ none|A \S+ \S+ none"
     rb"|U \S+ \S+ (?:none|offside|offalign|single)"
@@ -180,6 +179,11 @@ ALLOWED = re.compile(
 
 def lines_with_ends(sheet):
     return re.findall(rb"[^\n]*\n|[^\n]+", sheet) or [b""]
+
+
+def unpadded(text):
+    """Without the leading zeros of its numbers."""
+    return re.sub(rb"(?<![0-9])0+(?=[0-9])", b"", text)
 
 
 def pattern_rules(sheet):
@@ -196,12 +200,13 @@ def pattern_rules(sheet):
             return (3, at)
         if not ALLOWED.fullmatch(line):
             return (4, at)
-        heads = [each.rsplit(b" ", 1)[0] for each in lines[1:at]]
+        heads = [unpadded(each).rsplit(b" ", 1)[0] for each in lines[1:at]]
         if heads[-1] in heads[:-1]:
             return (5, at)
-    if not any(line.startswith(b"0 ") for line in lines[1:]):
+    plain = [unpadded(line) for line in lines[1:]]
+    if not any(line.startswith(b"0 ") for line in plain):
         return (7, 0)
-    if second_cyclic([line.decode().split() for line in lines[1:]]):
+    if second_cyclic([line.decode().split() for line in plain]):
         return (8, 0)
     return None
 
@@ -264,12 +269,12 @@ def readers():
         numbers |= {each[1] for each in (read_rules, read_tokens) if each[0] == "refused"}
         if read_rules[0] == "accepted":
             written = [teplonga.rule_line(rule) for rule in read_rules[1]]
-            same("reading", rules.split(b"\n")[1:-1], written)
+            same("reading", unpadded(rules).split(b"\n")[1:-1], written)
         if read_tokens[0] == "accepted":
-            same("reading", teplonga.token_sheet(read_tokens[1]), tokens)
+            same("reading", teplonga.token_sheet(read_tokens[1]), unpadded(tokens))
         same("refused line", teplonga.refused_line(rules, tokens), second_line(rules, tokens))
     same("reading", numbers, {1, 2, 3, 4, 5, 6, 7, 8, 11, 12, 13, 14, 15})
-    same("reading", len(cases) <= 225, True)
+    same("reading", len(cases) <= 300, True)
     same("reading", len(make_reading.all_input()) <= 60_000, True)
     for each in reading_cases.refused_rule_sheets():
         same("reading", teplonga.read_rules(each)[0], "refused")
@@ -749,14 +754,15 @@ def programs():
     sweep("bound\n3\n" + rules, "refused-32")
     sweep("bound\n3\n4\n\n" + rules, "refused-32")
     sweep("Bound\n3\n\n" + rules, "refused-32")
-    for written in ("00", "07", "100", "", " 3", "3 ", "-1", "x", "3\r"):
+    for written in ("000003", "000000", "", " 3", "3 ", "-1", "x", "3\r"):
         sweep(f"bound\n{written}\n\n" + rules, "refused-32")
-    for written in ("0", "8", "99"):
+    for written in ("0", "8", "99", "00000", "00008", "00100"):
         sweep(f"bound\n{written}\n\n" + rules, "refused-23")
         sweep(f"bound\n{written}\n\n" + rules[:-1], "refused-2", 3)
     sweep("bound\n3\n\n", "refused-1", 1)
     sweep("bound\n3\n\n" + rules + "\n", "refused-2", 4)
     sweep("bound\n2\n\n" + rules, "clear")
+    sweep("bound\n00002\n\n" + rules, "clear")
     sweep("bound\n3\n\n" + rules, "two", 0, "term line col\n0 1 1\n0 1 2\n0 1 3\n")
     sweep("bound\n7\n\n" + rules + "x" * 16_384, "refused-31")
 

@@ -31,7 +31,7 @@ from check_cases import (
     sheet_of,
     token_sheet,
 )
-from reading_cases import damaged, many_rules, rules
+from reading_cases import damaged, many_rules, padded, rules
 
 ALIGN = PLAIN.replace("none", "align", 1)
 INDENT = PLAIN.replace("none", "indent", 1)
@@ -235,6 +235,15 @@ def limits():
     yield refused(23), sweep(8, P5)
 
 
+def padded_numbers():
+    """The bound has one to five digits too; what is printed is plain."""
+    for digits in (2, 3, 4, 5):
+        yield two((1, 1), (1, 2), (1, 3)), bounded(padded(b"3", digits), padded(rule_sheet(PLAIN), digits))
+        yield CLEAR, bounded(padded(b"2", digits), rule_sheet(PLAIN))
+    for written in (b"00", b"00000", b"008", b"00008", b"100", b"00100", b"256", b"65537", b"99999"):
+        yield refused(23), bounded(written, rule_sheet(PLAIN))
+
+
 def refused_rules():
     """The rule sheet comes before 23 and 24."""
     names = b"left kind first second lay \n0 A 0 - none\n"
@@ -245,7 +254,8 @@ def refused_rules():
         (1, 1, names),
         (1, 1, b"\n" + rule_sheet(PLAIN)),
         (1, 1, rules()[:-1]),
-        (2, 2, rule_sheet("0 A 00 - none")),
+        (2, 2, rule_sheet("0 A 000000 - none")),
+        (3, 2, rule_sheet("0 A 00064 - none")),
         (2, 4, rule_sheet(PLAIN) + b"\n"),
         (3, 3, rule_sheet("0 B 0 0 none / 0 A 64 - none / 2 A 64 - none")),
         (4, 2, rule_sheet("0 A 0 - offside / 0 B 64 0 none")),
@@ -267,7 +277,7 @@ def refused_rules():
 def refused_bounds():
     sheet = rule_sheet(PLAIN)
     for written in (
-        *(b"00", b"01", b"07", b"000", b"100", b"003", b"", b" 3", b"3 ", b"3\r", b"3\0"),
+        *(b"000003", b"000000", b"100000", b"", b" 3", b"3 ", b"3\r", b"3\0", b"0x3"),
         *(b"-1", b"+3", b"-", b"x", b"a3", b"3x", b"3 4", b"\xb3", b"bound", b"3\n4", b"3\n "),
     ):
         yield refused(32), bounded(written, sheet)
@@ -283,8 +293,8 @@ def refused_bounds():
         yield refused(32), text
     yield refused(32), bounded(b"3", sheet).replace(b"\n", b"\r\n")
     # 32 before any fault of the sheet.
-    yield refused(32), bounded(b"08", b"left\n")
-    yield refused(32), bounded(b"07", rule_sheet("0 U 0 - none"))
+    yield refused(32), bounded(b"000008", b"left\n")
+    yield refused(32), bounded(b"000007", rule_sheet("0 U 0 - none"))
 
 
 def refused_lengths():
@@ -353,6 +363,7 @@ def meant():
     yield from order()
     yield from clear_ones()
     yield from limits()
+    yield from padded_numbers()
     yield from refused_rules()
     yield from refused_bounds()
     yield from refused_lengths()

@@ -1,7 +1,8 @@
 """Reference for document 01: rule sheets, token sheets and their trees.
 
-Naive on purpose.  Each function states a sentence of document 01, or a
-definition of the paper (sections 3 and 4) where 01 leaves it to the paper.
+Naive on purpose.  Each function states a sentence of document 01 (of document
+02 where a request changes it), or a definition of the paper (sections 3 and 4)
+where 01 leaves it to the paper.
 Bytes go in, plain Python values come out; no lent memory is changed in place,
 its later state is returned.
 """
@@ -72,11 +73,10 @@ def fields(line):
     return line.split(b" ")
 
 
-def is_number(field, most_digits):
-    """"A number is written in base ten without a leading zero; zero is `0`." """
+def is_number(field):
+    """Request 1: "one to five digits with leading zeros" """
     digits_only = all(byte in b"0123456789" for byte in field)
-    leading_zero = field.startswith(b"0") and field != b"0"
-    return digits_only and 1 <= len(field) <= most_digits and not leading_zero
+    return digits_only and 1 <= len(field) <= 5
 
 
 def refused(number, line):
@@ -88,7 +88,7 @@ def refused(number, line):
 def number_or_dash(field, numbered):
     """(well written, value): a number where one belongs, else `-`."""
     if numbered:
-        if is_number(field, 2):
+        if is_number(field):
             return True, int(field)
         return False, None
     return field == b"-", None
@@ -170,7 +170,7 @@ def token_of_line(line, ended):
     if not ended or len(parts) != 3:
         return None
     term, row, col = parts
-    if not (is_number(term, 2) and is_number(row, 5) and is_number(col, 5)):
+    if not (is_number(term) and is_number(row) and is_number(col)):
         return None
     return Token(int(term), int(row), int(col))
 
@@ -875,7 +875,7 @@ def bound_of(head):
     if len(lines) != 2 or lines[0] != (b"bound", True):
         return None
     text, ended = lines[1]
-    return int(text) if ended and is_number(text, 2) else None
+    return int(text) if ended and is_number(text) else None
 
 
 def sweep_program(data):

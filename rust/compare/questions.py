@@ -30,7 +30,10 @@ def salt(chance):
 def sound(chance, least, most):
     rules = sheets.sound_rules(chance)
     tokens = sheets.sentence(chance, rules, least, most)
-    return (sheets.rule_sheet(rules), teplonga.token_sheet(tokens))
+    written = (sheets.rule_sheet(rules), teplonga.token_sheet(tokens))
+    if chance.random() < 0.25:
+        return tuple(sheets.padded(chance, sheet) for sheet in written)
+    return written
 
 
 def short(chance):

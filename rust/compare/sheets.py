@@ -4,9 +4,20 @@ Rules and tokens are the reference's `Rule` and `Token`, sheets are bytes. All
 chance comes from the `random.Random` that is handed in.
 """
 
+import re
+
 import check_cases
 import teplonga
 from teplonga import ALL_LAYS, LAYS, RULE_NAMES, START, Rule, Token
+
+
+def padded(chance, sheet):
+    """The sheet with zeros before some of its numbers, up to five digits."""
+    def more(number):
+        return number[0].rjust(chance.randint(1, 5), b"0") if chance.random() < 0.5 else number[0]
+
+    names, end, lines = sheet.partition(b"\n")
+    return names + end + re.sub(rb"[0-9]+", more, lines)
 
 
 def rule_sheet(rules):
@@ -289,6 +300,7 @@ def sentence(chance, rules, least, most):
 BYTES = b"0123456789 -EAUB\nnx\r\t\0\xff"
 FIELDS = [b"", b"-", b"0", b"1", b"2", b"00", b"01", b"007", b"9", b"10", b"63", b"64", b"99"]
 FIELDS += [b"100", b"65535", b"65536", b"99999", b"065", b"100000", b"4294967297", b"+1", b"-1"]
+FIELDS += [b"00000", b"000000", b"00063", b"0064", b"000001"]
 FIELDS += [b"18446744073709551617", b"E", b"A", b"U", b"B", b"C", b"a", b"None", b"off"]
 FIELDS += [lay.encode() for lay in ALL_LAYS]
 LIMITS = [b"0", b"63", b"64", b"99", b"65535", b"65536"]

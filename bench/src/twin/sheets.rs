@@ -40,19 +40,18 @@ fn fields<const N: usize>(line: &[u8]) -> Option<[&[u8]; N]> {
     parts.next().is_none().then_some(fields)
 }
 
-/// A number of at most so many digits, without a leading zero.
-fn number(field: &[u8], most_digits: usize) -> Option<u32> {
-    let leading_zero = field.len() > 1 && field[0] == b'0';
-    let length_fits = (1..=most_digits).contains(&field.len());
-    if leading_zero || !length_fits || !field.iter().all(u8::is_ascii_digit) {
+/// A number of one to five digits, leading zeros or not.
+fn number(field: &[u8]) -> Option<u32> {
+    let length_fits = (1..=5).contains(&field.len());
+    if !length_fits || !field.iter().all(u8::is_ascii_digit) {
         return None;
     }
     Some(field.iter().fold(0, |value, digit| 10 * value + u32::from(digit - b'0')))
 }
 
-/// A symbol as written: a number of one or two digits.
+/// A symbol as written; 255 stands for all that is above it, and is refused like it.
 fn symbol(field: &[u8]) -> Option<u8> {
-    number(field, 2).map(|value| value as u8)
+    number(field).map(|value| value.min(255) as u8)
 }
 
 fn dash(field: &[u8]) -> Option<()> {
@@ -256,7 +255,7 @@ fn token(line: &[u8], earlier: &[Token]) -> Result<Token, u64> {
 /// A token line's three numbers, or nothing where refusal 12 is due.
 fn numbers(line: &[u8]) -> Option<(u32, u32, u32)> {
     let [terminal, line, column] = fields(line)?;
-    Some((number(terminal, 2)?, number(line, 5)?, number(column, 5)?))
+    Some((number(terminal)?, number(line)?, number(column)?))
 }
 
 /// The tokens of a sheet.

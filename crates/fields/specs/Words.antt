@@ -1,10 +1,10 @@
 -- What a field may be: a number, a kind letter, a lay word, `-`. 01, "The two sheets".
 use Prim.Native.Nat.{ℕ, _+_, _-_, _*_}
 use mathlib.Core.List.{List, [], _∷_}
-use mathlib.Core.Bool.{Bool, true, false, not, cond, _&&_, _||_}
+use mathlib.Core.Bool.{Bool, true, false, cond, _&&_}
 use mathlib.Core.Option.{Option, none, some}
-use lib.ListN.{length, getD}
-use lib.Dec.{leb, eqb}
+use lib.ListN.{length}
+use lib.Dec.{leb}
 use Rattle.fields.specs.declared.Operand.{Operand}
 use Rattle.fields.specs.declared.Kind.{Kind}
 use Rattle.fields.specs.declared.Kind.the-variants as Kind
@@ -20,10 +20,9 @@ abbrev pub digitsOf : ℕ → List ℕ → Option ℕ
 digitsOf v [] = some v
 digitsOf v (b ∷ t) = cond (isDigit b) (digitsOf (v * 10 + (b - 48)) t) none
 
--- a number of one to most digits without a leading zero; zero is `0`
-abbrev pub numeralOf : ℕ → List ℕ → Option ℕ
-numeralOf most t =
-    cond (leb 1 (length t) && leb (length t) most && (eqb (length t) 1 || not (eqb (getD t 0 0) 48))) (digitsOf 0 t) none
+-- a number of one to five digits, leading zeros or not; its value alone counts
+abbrev pub numeralOf : List ℕ → Option ℕ
+numeralOf t = cond (leb 1 (length t) && leb (length t) 5) (digitsOf 0 t) none
 
 -- E A U B
 abbrev pub kindOf : List ℕ → Option Kind
@@ -50,6 +49,6 @@ abbrev pub numberOperand : Option ℕ → Option Operand
 numberOperand (some v) = some (record { dash = false; value = v })
 numberOperand none = none
 
--- `-`, or a number of one or two digits
+-- `-`, or a number
 abbrev pub operandOf : List ℕ → Option Operand
-operandOf f = cond (sameBytes f (45 ∷ [])) (some (record { dash = true; value = 0 })) (numberOperand (numeralOf 2 f))
+operandOf f = cond (sameBytes f (45 ∷ [])) (some (record { dash = true; value = 0 })) (numberOperand (numeralOf f))

@@ -136,22 +136,15 @@ fn digits(f: &[u8]) -> Number
     Number::Is(v)
 }
 
-// A number of one to `most` digits without a leading zero.
-pub fn numeral(f: &[u8], most: usize) -> Number
-    requires { ⌜ most ≤ 5 ⌝ }
-    ensures { λ r. ⌜ r ≡ asNumber (numeralOf most (now (f .entry))) ⌝ }
+// A number of one to five digits.
+pub fn numeral(f: &[u8]) -> Number
+    ensures { λ r. ⌜ r ≡ asNumber (numeralOf (now (f .entry))) ⌝ }
 {
     let n = f.len();
     if n == 0 {
         return Number::Not;
     }
-    if most < n {
-        return Number::Not;
-    }
-    if n == 1 {
-        return digits(f);
-    }
-    if f[0] == 48 {
+    if 5 < n {
         return Number::Not;
     }
     digits(f)
@@ -201,7 +194,7 @@ fn lay_word(f: &[u8]) -> LayWord
     LayWord::Not
 }
 
-// `-`, or a number of one or two digits.
+// `-`, or a number.
 fn operand_word(f: &[u8]) -> OperandWord
     ensures { λ r. ⌜ r ≡ asOperand (operandOf (now (f .entry))) ⌝ }
 {
@@ -211,7 +204,7 @@ fn operand_word(f: &[u8]) -> OperandWord
             value: 0,
         });
     }
-    match numeral(f, 2) {
+    match numeral(f) {
         Number::Is(v) => OperandWord::Is(Operand {
             dash: false,
             value: v,
@@ -240,10 +233,10 @@ impl Cursor {
         &s[at..end]
     }
 
-    // The number of one to `most` digits at the cursor.
-    pub fn number(self, s: &[u8], most: usize) -> NumberField
-        requires { ⌜ (self .end ≤ length (now s)) × (most ≤ 5) ⌝ }
-        ensures { λ r. ⌜ r ≡ numberField (readField (numeralOf most) self (fieldsLeft (now (s .entry)) self)) ⌝ }
+    // The number at the cursor.
+    pub fn number(self, s: &[u8]) -> NumberField
+        requires { ⌜ self .end ≤ length (now s) ⌝ }
+        ensures { λ r. ⌜ r ≡ numberField (readField numeralOf self (fieldsLeft (now (s .entry)) self)) ⌝ }
     {
         let at = self.at;
         let end = self.end;
@@ -252,7 +245,7 @@ impl Cursor {
         }
         let line = &s[..end];
         let e = piece_end(line, at, 32);
-        match numeral(&line[at..e], most) {
+        match numeral(&line[at..e]) {
             Number::Is(v) => NumberField::Is(v, Cursor { at: e + 1, end }),
             Number::Not => NumberField::Bad,
         }
@@ -276,7 +269,7 @@ impl Cursor {
         }
     }
 
-    // The `-` or the number of one or two digits at the cursor.
+    // The `-` or the number at the cursor.
     pub fn operand(self, s: &[u8]) -> OperandField
         requires { ⌜ self .end ≤ length (now s) ⌝ }
         ensures { λ r. ⌜ r ≡ operandField (readField operandOf self (fieldsLeft (now (s .entry)) self)) ⌝ }

@@ -73,7 +73,7 @@ of-fine l k a b y =
 
 fields-fine : (fs : List (List ℕ)) → Fine (ruleFields fs)
 fields-fine =
-    with-holds Fine Form tt (numeralOf 2) afterLeft
+    with-holds Fine Form tt numeralOf afterLeft
     (λ l. with-holds Fine Form tt kindOf (afterKind l)
     (λ k. with-holds Fine Form tt operandOf (afterFirst l k)
     (λ a. with-holds Fine Form tt operandOf (afterSecond l k a)

@@ -29,13 +29,13 @@ number-not : (o : Option (ℕ × Cursor)) → NumberField.Bad ≡ numberField o 
 number-not (some x) e = let z : _≡_ {A = ℕ} 0 1 = cc in absurd (omega arith)
 number-not none e = refl
 
-module _ {R : Type 0} (bad : R) (most : ℕ) (k : ℕ → List (List ℕ) → R) (s : List ℕ) (c : Cursor) where
-  pub number-good : (v : ℕ) (d : Cursor) → NumberField.Is v d ≡ numberField (readField (numeralOf most) c (fieldsLeft s c))
-      → (withField bad (numeralOf most) (fieldsLeft s c) k ≡ k v (fieldsLeft s d)) × (d .end ≡ c .end)
-  number-good v d e = with-good bad (numeralOf most) k s c d v (number-is (readField (numeralOf most) c (fieldsLeft s c)) v d e)
+module _ {R : Type 0} (bad : R) (k : ℕ → List (List ℕ) → R) (s : List ℕ) (c : Cursor) where
+  pub number-good : (v : ℕ) (d : Cursor) → NumberField.Is v d ≡ numberField (readField numeralOf c (fieldsLeft s c))
+      → (withField bad numeralOf (fieldsLeft s c) k ≡ k v (fieldsLeft s d)) × (d .end ≡ c .end)
+  number-good v d e = with-good bad numeralOf k s c d v (number-is (readField numeralOf c (fieldsLeft s c)) v d e)
 
-  pub number-bad : NumberField.Bad ≡ numberField (readField (numeralOf most) c (fieldsLeft s c)) → withField bad (numeralOf most) (fieldsLeft s c) k ≡ bad
-  number-bad e = with-bad bad (numeralOf most) k c (fieldsLeft s c) (number-not (readField (numeralOf most) c (fieldsLeft s c)) e)
+  pub number-bad : NumberField.Bad ≡ numberField (readField numeralOf c (fieldsLeft s c)) → withField bad numeralOf (fieldsLeft s c) k ≡ bad
+  number-bad e = with-bad bad numeralOf k c (fieldsLeft s c) (number-not (readField numeralOf c (fieldsLeft s c)) e)
 
 kind-is : (o : Option (Kind × Cursor)) (v : Kind) (d : Cursor) → KindField.Is v d ≡ kindField o → some (v, d) ≡ o
 kind-is (some x) v d e =

@@ -65,7 +65,7 @@ ruleOf l k a b y =
     (cond (leb l 63) (cond (leb (a .value) 63) (cond (leb (b .value) 63) (layRule l k (a .value) (b .value) y) Range) Range) Range)
     Form
 
--- 2: not five fields, a word unknown, a number not of one or two digits
+-- 2: not five fields, a word unknown, a number not of one to five digits
 abbrev pub afterLay : ℕ → Kind → Operand → Operand → Lay → List (List ℕ) → RuleLine
 afterLay l k a b y fs = atEnd Form fs (ruleOf l k a b y)
 
@@ -82,7 +82,7 @@ abbrev pub afterLeft : ℕ → List (List ℕ) → RuleLine
 afterLeft l fs = withField Form kindOf fs (afterKind l)
 
 abbrev pub ruleFields : List (List ℕ) → RuleLine
-ruleFields fs = withField Form (numeralOf 2) fs afterLeft
+ruleFields fs = withField Form numeralOf fs afterLeft
 
 -- the line's bytes without its byte 10, parted by blanks
 abbrev pub ruleLine : List ℕ → RuleLine

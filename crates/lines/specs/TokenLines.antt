@@ -16,18 +16,18 @@ tokenOf t l k =
     (TokenLine.Good (record { terminal = t; line = record { 0 = l }; column = record { 0 = k } }))
     TokenLine.Range
 
--- 12: not three numbers, the terminal of at most two digits, line and column of at most five
+-- 12: not three numbers of one to five digits
 abbrev pub afterColumn : ℕ → ℕ → ℕ → List (List ℕ) → TokenLine
 afterColumn t l k fs = atEnd TokenLine.Form fs (tokenOf t l k)
 
 abbrev pub afterLine : ℕ → ℕ → List (List ℕ) → TokenLine
-afterLine t l fs = withField TokenLine.Form (numeralOf 5) fs (afterColumn t l)
+afterLine t l fs = withField TokenLine.Form numeralOf fs (afterColumn t l)
 
 abbrev pub afterTerminal : ℕ → List (List ℕ) → TokenLine
-afterTerminal t fs = withField TokenLine.Form (numeralOf 5) fs (afterLine t)
+afterTerminal t fs = withField TokenLine.Form numeralOf fs (afterLine t)
 
 abbrev pub tokenFields : List (List ℕ) → TokenLine
-tokenFields fs = withField TokenLine.Form (numeralOf 2) fs afterTerminal
+tokenFields fs = withField TokenLine.Form numeralOf fs afterTerminal
 
 -- the line's bytes without its byte 10, parted by blanks
 abbrev pub tokenLine : List ℕ → TokenLine

@@ -108,13 +108,13 @@ pub fn token_line(s: &[u8], c: Cursor) -> TokenLine
     requires { ⌜ c .end ≤ length (now s) ⌝ }
     ensures { λ r. ⌜ r ≡ tokenFields (fieldsLeft (now (s .entry)) c) ⌝ }
 {
-    let NumberField::Is(t, d) = c.number(s, 2) else {
+    let NumberField::Is(t, d) = c.number(s) else {
         return TokenLine::Form;
     };
-    let NumberField::Is(l, e) = d.number(s, 5) else {
+    let NumberField::Is(l, e) = d.number(s) else {
         return TokenLine::Form;
     };
-    let NumberField::Is(k, f) = e.number(s, 5) else {
+    let NumberField::Is(k, f) = e.number(s) else {
         return TokenLine::Form;
     };
     if f.at <= f.end {
@@ -234,7 +234,7 @@ pub fn rule_line(s: &[u8], c: Cursor) -> RuleLine
     requires { ⌜ c .end ≤ length (now s) ⌝ }
     ensures { λ r. ⌜ r ≡ ruleFields (fieldsLeft (now (s .entry)) c) ⌝ }
 {
-    let NumberField::Is(l, c1) = c.number(s, 2) else {
+    let NumberField::Is(l, c1) = c.number(s) else {
         return RuleLine::Form;
     };
     let KindField::Is(k, c2) = c1.kind(s) else {

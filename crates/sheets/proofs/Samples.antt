@@ -34,6 +34,20 @@ lay = refl
 twice : ruleSheet (ruleNames ++ 10 ∷ 48 ∷ 32 ∷ 85 ∷ 32 ∷ 49 ∷ 32 ∷ 45 ∷ 32 ∷ 110 ∷ 111 ∷ 110 ∷ 101 ∷ 10 ∷ 48 ∷ 32 ∷ 85 ∷ 32 ∷ 49 ∷ 32 ∷ 45 ∷ 32 ∷ 115 ∷ 105 ∷ 110 ∷ 103 ∷ 108 ∷ 101 ∷ 10 ∷ []) ≡ refused Fault.RuleTwice 3
 twice = refl
 
+-- numbers filled out by zeros count by their values: 0 A 0064 - none; 0 U 1 - none and 0 U 001 - none; but six digits are none
+padded : ruleSheet (ruleNames ++ 10 ∷ 48 ∷ 32 ∷ 65 ∷ 32 ∷ 48 ∷ 48 ∷ 54 ∷ 52 ∷ 32 ∷ 45 ∷ 32 ∷ 110 ∷ 111 ∷ 110 ∷ 101 ∷ 10 ∷ []) ≡ refused Fault.RuleRange 2
+padded = refl
+
+padded-twice : ruleSheet (ruleNames ++ 10 ∷ 48 ∷ 32 ∷ 85 ∷ 32 ∷ 49 ∷ 32 ∷ 45 ∷ 32 ∷ 110 ∷ 111 ∷ 110 ∷ 101 ∷ 10 ∷ 48 ∷ 32 ∷ 85 ∷ 32 ∷ 48 ∷ 48 ∷ 49 ∷ 32 ∷ 45 ∷ 32 ∷ 110 ∷ 111 ∷ 110 ∷ 101 ∷ 10 ∷ []) ≡ refused Fault.RuleTwice 3
+padded-twice = refl
+
+padded-much : ruleSheet (ruleNames ++ 10 ∷ 48 ∷ 32 ∷ 65 ∷ 32 ∷ 48 ∷ 48 ∷ 48 ∷ 48 ∷ 48 ∷ 49 ∷ 32 ∷ 45 ∷ 32 ∷ 110 ∷ 111 ∷ 110 ∷ 101 ∷ 10 ∷ []) ≡ refused Fault.RuleForm 2
+padded-much = refl
+
+-- 0064 1 1
+padded-token : tokenSheet (tokenNames ++ 10 ∷ 48 ∷ 48 ∷ 54 ∷ 52 ∷ 32 ∷ 49 ∷ 32 ∷ 49 ∷ 10 ∷ []) ≡ refused Fault.TokenRange 2
+padded-token = refl
+
 -- two blanks: an empty field: 0 E -  - none
 parted : ruleSheet (ruleNames ++ 10 ∷ 48 ∷ 32 ∷ 69 ∷ 32 ∷ 45 ∷ 32 ∷ 32 ∷ 45 ∷ 32 ∷ 110 ∷ 111 ∷ 110 ∷ 101 ∷ 10 ∷ []) ≡ refused Fault.RuleForm 2
 parted = refl

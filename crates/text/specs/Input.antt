@@ -30,9 +30,9 @@ parts s = partsFrom true s
 abbrev pub boundLine : List ℕ
 boundLine = 98 ∷ 111 ∷ 117 ∷ 110 ∷ 100 ∷ 10 ∷ []
 
--- the bound k: the line `bound`, a line with k in one or two digits without a leading zero, and no more
+-- the bound k: the line `bound`, a line with k in one to five digits, and no more
 abbrev pub boundOf : List ℕ → Option ℕ
 boundOf s =
     cond (leb 7 (length s) && (sameBytes (take 6 s) boundLine && eqb (getD s (length s - 1) 0) 10))
-    (numeralOf 2 (take (length s - 7) (drop 6 s)))
+    (numeralOf (take (length s - 7) (drop 6 s)))
     none

@@ -221,7 +221,7 @@ fn bound_of(s: &[u8]) -> Number
     if s[end] != 10 {
         return Number::Not;
     }
-    numeral(&s[6..end], 2)
+    numeral(&s[6..end])
 }
 
 // The answer on a rule sheet and a bound.

@@ -51,7 +51,7 @@ read₅ c = c .before .y .given .0
 -- what is left to say after each field
 stage1 : (c : tie.After-known-told) → (ruleFields (fieldsLeft (start₁ c .args .s .now) (start₁ c .args .c)) ≡ afterLeft (read₁ c .0) (fieldsLeft (start₁ c .args .s .now) (read₁ c .1 .0))) × (read₁ c .1 .0 .end ≡ start₁ c .args .c .end)
 stage1 c =
-    number-good Form 2 afterLeft (start₁ c .args .s .now) (start₁ c .args .c) _ _ (sym (c .before .l .given .1) ∙ c .before .before .before .number .ensures)
+    number-good Form afterLeft (start₁ c .args .s .now) (start₁ c .args .c) _ _ (sym (c .before .l .given .1) ∙ c .before .before .before .number .ensures)
 
 stage2 : (c : tie.After-known-told2) → (ruleFields (fieldsLeft (start₂ c .args .s .now) (start₂ c .args .c)) ≡ afterKind (read₁ (c .before .before .before .before) .0) (read₂ c .0) (fieldsLeft (start₂ c .args .s .now) (read₂ c .1 .0))) × (read₂ c .1 .0 .end ≡ start₂ c .args .c .end)
 stage2 c =
@@ -105,7 +105,7 @@ enum-told c = search needs
 returns : tie.Need-returns
 returns c =
     let n = c .before .before in
-    sym (number-bad Form 2 afterLeft (n .before .before .args .s .now) (n .before .before .args .c) (sym (c .enum-told .given .1) ∙ n .number .ensures))
+    sym (number-bad Form afterLeft (n .before .before .args .s .now) (n .before .before .args .c) (sym (c .enum-told .given .1) ∙ n .number .ensures))
 
 kind-requires : tie.Need-kind-requires
 kind-requires c κs = inside₁ c

@@ -31,15 +31,15 @@ with-moved none d = refl
 returns : tie.Need-returns
 returns c =
     let a = c .before .before .args in
-    sym (ap (λ (fs : List (List ℕ)). numberField (readField (numeralOf (a .most)) (a .self) fs)) (left-none (a .s .now) (a .self) (c .before .before .pre .0) (c .if1 .taken)))
+    sym (ap (λ (fs : List (List ℕ)). numberField (readField numeralOf (a .self) fs)) (left-none (a .s .now) (a .self) (c .before .before .pre) (c .if1 .taken)))
 
 slice-aggregate-line : tie.Need-slice-aggregate-line
-slice-aggregate-line c = let a = c .before .before .before .args in sym (line-long (a .s .now) (a .self) (c .before .before .before .pre .0))
+slice-aggregate-line c = let a = c .before .before .before .args in sym (line-long (a .s .now) (a .self) (c .before .before .before .pre))
 
 piece-end-requires : tie.Need-piece-end-requires
 piece-end-requires c κs =
     let a = c .before .before .before .args in
-    omega (arith, line-long (a .s .now) (a .self) (c .before .before .before .pre .0))
+    omega (arith, line-long (a .s .now) (a .self) (c .before .before .before .pre))
 
 sub-numeral : tie.Need-sub-numeral
 sub-numeral c = search needs
@@ -51,7 +51,7 @@ part-numeral-start c = search needs
 high : (c : tie.After-piece-end) → c .piece-end .result ≤ length (take (c .before .before .before .before .args .self .end) (c .before .before .before .before .args .s .now))
 high c =
     let a = c .before .before .before .before .args in
-    field-high (a .s .now) (a .self) (c .before .before .before .before .pre .0) (c .piece-end .result) (c .before .before .if1 .left) (c .piece-end .ensures)
+    field-high (a .s .now) (a .self) (c .before .before .before .before .pre) (c .piece-end .result) (c .before .before .if1 .left) (c .piece-end .ensures)
 
 part-numeral-end : tie.Need-part-numeral-end
 part-numeral-end c = high c
@@ -62,11 +62,11 @@ numeral-requires c κs = search needs
 enum-known-v : tie.Need-enum-known-v
 enum-known-v c = search needs
 
-add-t17 : tie.Need-add-t17
-add-t17 c =
+add-t16 : tie.Need-add-t16
+add-t16 c =
     let p = c .before .before .before .before .before in
     let a = p .before .before .before .before .args in
-    omega (arith, high p, line-long (a .s .now) (a .self) (p .before .before .before .before .pre .0))
+    omega (arith, high p, line-long (a .s .now) (a .self) (p .before .before .before .before .pre))
 
 enum-told : tie.Need-enum-told
 enum-told c = search needs
@@ -76,15 +76,15 @@ start c = c .before .before .before .before .before .before
 
 -- the word that was read is the first field's
 here : (c : tie.After-numeral) (w : Number) → c .numeral .result ≡ w
-    → numberField (readField (numeralOf (start c .args .most)) (start c .args .self) (fieldsLeft (start c .args .s .now) (start c .args .self)))
+    → numberField (readField numeralOf (start c .args .self) (fieldsLeft (start c .args .s .now) (start c .args .self)))
     ≡ moved w (record { at = c .before .before .piece-end .result + 1; end = start c .args .self .end })
 here c w is =
     let p = c .before .before in
     let a = start c .args in
     let f = take (p .piece-end .result - a .self .at) (drop (a .self .at) (take (a .self .end) (a .s .now))) in
     let d : Cursor = record { at = p .piece-end .result + 1; end = a .self .end } in
-    ap numberField (field-here (a .s .now) (a .self) (start c .pre .0) (p .piece-end .result) (p .before .before .if1 .left) (p .piece-end .ensures) (numeralOf (a .most)))
-    ∙ with-moved (numeralOf (a .most) f) d ∙ ap (λ (x : Number). moved x d) (sym (c .numeral .ensures) ∙ is)
+    ap numberField (field-here (a .s .now) (a .self) (start c .pre) (p .piece-end .result) (p .before .before .if1 .left) (p .piece-end .ensures) numeralOf)
+    ∙ with-moved (numeralOf f) d ∙ ap (λ (x : Number). moved x d) (sym (c .numeral .ensures) ∙ is)
 
 returns-2 : tie.Need-returns-2
 returns-2 c = sym (here (c .before .before .before) _ (c .before .v .given .1))
@@ -104,7 +104,7 @@ number-spec =
     part-numeral-end
     numeral-requires
     enum-known-v
-    add-t17
+    add-t16
     enum-told
     returns-2
     returns-3)
