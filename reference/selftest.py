@@ -131,7 +131,7 @@ def patches():
 
     indented = rule_sheet("0 B 1 1 indent", "1 A 0 - none")
     same("P8", check(indented, (1, 1), (2, 2)), "one")
-    same("P8", check(indented, (1, 1), (3, 2)), "none")
+    same("P8", check(indented, (1, 1), (3, 2)), "one")
     same("P8", check(indented, (1, 1), (2, 1)), "none")
 
     single = rule_sheet(
@@ -304,7 +304,7 @@ def second_mark(lay, *words):
         return words[0][0][2] == words[1][0][2]
     if lay == "indent":
         (*_, (_, last_line, _)), ((_, line, col), *_) = words
-        return col > words[0][0][2] and line == last_line + 1
+        return col > words[0][0][2] and line > last_line
     ((_, line0, col0), *_) = words[0]
     if lay == "offside":
         return all(line <= line0 or col > col0 for _, line, col in words[0])

@@ -281,7 +281,7 @@ def mark_of_two(lay, left, right):
     if lay == "align":
         return left[0].col == right[0].col
     assert lay == "indent"
-    return right[0].col > left[0].col and right[0].line == left[-1].line + 1
+    return right[0].col > left[0].col and right[0].line > left[-1].line
 
 
 # ---------------------------------------------------------------------- trees

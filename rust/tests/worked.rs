@@ -111,7 +111,7 @@ fn verdicts_of_p6_to_p9() {
     assert_eq!(verdict_of(&p7, &[(1, 3), (2, 2)]), Answer::None);
     let p8 = "0 B 1 1 indent / 1 A 0 - none";
     assert_eq!(verdict_of(p8, &[(1, 1), (2, 2)]), Answer::One);
-    assert_eq!(verdict_of(p8, &[(1, 1), (3, 2)]), Answer::None);
+    assert_eq!(verdict_of(p8, &[(1, 1), (3, 2)]), Answer::One);
     assert_eq!(verdict_of(p8, &[(1, 1), (2, 1)]), Answer::None);
     let p9 = "0 U 1 - single / 1 U 2 - none / 1 U 3 - none / 2 B 4 4 indent / 3 B 4 4 none \
               / 4 A 0 - none";

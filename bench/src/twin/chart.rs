@@ -81,7 +81,7 @@ impl Marks {
         if token.column != first.column {
             self.align &= !(1 << left);
         }
-        if token.column <= first.column || !token.line.is_next_of(before.line) {
+        if token.column <= first.column || token.line <= before.line {
             self.indent &= !(1 << left);
         }
     }

@@ -50,13 +50,6 @@ impl Token {
     }
 }
 
-impl Line {
-    /// Is this line exactly one more than that one?
-    pub fn is_next_of(self, before: Line) -> bool {
-        self.0.checked_sub(before.0) == Some(1)
-    }
-}
-
 impl Clause {
     /// The same kind, first and second, under any mark?
     pub fn alike(&self, other: &Clause) -> bool {

@@ -95,12 +95,6 @@ lt-up L x y u v (inl a) (inr b) h = omega (arith, a .0, b .0, a .1, b .1)
 lt-up L x y u v (inr a) (inl b) h = absurd (omega (arith, a .0, b .0, a .1, b .1))
 lt-up L x y u v (inr a) (inr b) h = omega (arith, a .0, b .0, a .1, b .1)
 
-up-next : (L x y u v : ℕ) → Up L x u → Up L y v → y ≡ x + 1 → v ≡ u + 1
-up-next L x y u v (inl a) (inl b) h = omega (arith, a .0, b .0)
-up-next L x y u v (inl a) (inr b) h = absurd (omega (arith, a .1, b .1))
-up-next L x y u v (inr a) (inl b) h = absurd (omega (arith, a .1, b .1))
-up-next L x y u v (inr a) (inr b) h = omega (arith, a .0, b .0, a .1, b .1, a .2)
-
 up-at : (L : ℕ) (a : Token) → 1 ≤ L → Clears L a → Up L (line a) (up L (line a))
 up-at L a k (inl h) = inl (up-below L (line a) (omega arith), h)
 up-at L a k (inr h) = inr (up-above L (line a) h, h, k)
@@ -111,7 +105,6 @@ lift-alike g L k = record {
   keeps = λ a b p q. record {
     columns = (λ h. h, λ h. h);
     lines = (up-lt L (line a) (line b) (up L (line a)) (up L (line b)) (up-at L a k p) (up-at L b k q), lt-up L (line a) (line b) (up L (line a)) (up L (line b)) (up-at L a k p) (up-at L b k q));
-    next = up-next L (line a) (line b) (up L (line a)) (up L (line b)) (up-at L a k p) (up-at L b k q);
   };
 }
 

@@ -90,7 +90,7 @@ lt-back k x y p q = lt-moves k x y (back k x) (back k y) (back-at k x p) (back-a
 shift-alike : (g : Rules) (k : ℕ) → Alike g (λ t. col t ≡ k → ⊥) (shift k)
 shift-alike g k = record {
   atoms = λ a p. same-atoms g a (shift k a) refl;
-  keeps = λ a b p q. record { columns = (back-lt k (col a) (col b) p q, lt-back k (col a) (col b) p q); lines = (λ h. h, λ h. h); next = λ h. h };
+  keeps = λ a b p q. record { columns = (back-lt k (col a) (col b) p q, lt-back k (col a) (col b) p q); lines = (λ h. h, λ h. h) };
 }
 
 close-fit : (Q : ℕ → Type 0) (n m p k : ℕ) (cs : List Cell) → 1 ≤ k → (p ≡ k → ⊥) → Free k cs → Fit Q n m p cs → Fit Q n m (back k p) (close k cs)

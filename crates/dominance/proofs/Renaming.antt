@@ -78,7 +78,7 @@ module _ (g : Rules) (s kept : ℕ) (sp : Spared g s kept) where
   alike : Alike g (λ t. Unit {0}) token
   alike = record {
     atoms = λ a p. chosen (a .terminal) .replaces .lefts;
-    keeps = λ a b p q. record { columns = (λ h. h, λ h. h); lines = (λ h. h, λ h. h); next = λ h. h };
+    keeps = λ a b p q. record { columns = (λ h. h, λ h. h); lines = (λ h. h, λ h. h) };
   }
 
   all-tokens : (w : Word) → Every (λ t. Unit {0}) w

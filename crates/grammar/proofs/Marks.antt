@@ -25,7 +25,7 @@ unary? m (a ∷ w) = every? (keeps? m a) w
 abbrev pub pairs? : (m : BinaryMark) (a z b : Token) → Dec (Mark.Pairs m a z b)
 pairs? BinaryMark.None a z b = yes tt
 pairs? BinaryMark.Align a z b = eq? (col a) (col b)
-pairs? BinaryMark.Indent a z b = both? (le? (suc (col a)) (col b)) (eq? (line b) (line z + 1))
+pairs? BinaryMark.Indent a z b = both? (le? (suc (col a)) (col b)) (le? (suc (line z)) (line b))
 
 abbrev pub binary? : (m : BinaryMark) (u v : Word) → Dec (Mark.Binary m u v)
 binary? m [] v = yes tt

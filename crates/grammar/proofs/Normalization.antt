@@ -67,10 +67,6 @@ gap-one : (p b : ℕ) → p < b → 1 ≤ gap p b
 unfolding gap
 gap-one p b h = omega arith
 
-gap-far : (p b : ℕ) → p + 1 < b → 2 ≤ gap p b
-unfolding gap
-gap-far p b h = omega arith
-
 -- that, where b is no later than l
 shown : ℕ → ℕ → ℕ → ℕ
 unfolding gap
@@ -160,7 +156,6 @@ module _ (p : ℕ) (w : Word) (s : Sorted p w) where
             record {
               columns = columns;
               lines = (λ k. omega (arith, gap-one (line a) (line b) k), λ k. omega arith);
-              next = λ k. omega (arith, gap-one (line a) (line b) (omega arith));
             }
         | no h ↦
             let u = climb-gap p w b a s j i (omega arith) in
@@ -168,15 +163,11 @@ module _ (p : ℕ) (w : Word) (s : Sorted p w) where
             record {
               columns = columns;
               lines = (λ k. absurd (omega arith), λ k. absurd (omega arith));
-              next = λ k. absurd (omega arith);
             }
       ]
     where
       columns : (col a < col b) ↔ (rank w (col a) + 1 < rank w (col b) + 1)
       columns = (λ k. omega (arith, rank-strict w a (col b) i k), λ k. elim (decLe (col b) (col a)) [ yes h ↦ absurd (omega (arith, rank-mono w (col b) (col a) h)) | no h ↦ omega arith ])
-
-      below : 1 + climb p w (line b) ≡ 1 + climb p w (line a) + 1 → climb p w (line a) + gap (line a) (line b) ≤ climb p w (line b) → climb p w (line b) ≤ climb p w (line a) + (line b - line a) → line b ≡ line a + 1
-      below k u v = elim (decLe (line b) (line a + 1)) [ yes h ↦ omega arith | no h ↦ absurd (omega (arith, gap-far (line a) (line b) (omega arith))) ]
 
   moved-alike : (g : Rules) → Alike g (λ t. In t w) (moved p w)
   moved-alike g = record { atoms = λ a i. same-atoms g a (moved p w a) refl; keeps = moved-keeps }

@@ -113,11 +113,10 @@ last-map : (f : Token → Token) (a : Token) (u : Word) → last (f a) (map f u)
 last-map f a [] = refl
 last-map f a (b ∷ u) = last-map f b u
 
--- of two tokens, f keeps what the marks look at: the orders of lines and of columns, and that a line is the next one
+-- of two tokens, f keeps what the marks look at: the orders of lines and of columns
 pub record Keeps (f : Token → Token) (a b : Token) : Type 0 where
   pub columns : (col a < col b) ↔ (col (f a) < col (f b))
   pub lines : (line a < line b) ↔ (line (f a) < line (f b))
-  pub next : line b ≡ line a + 1 → line (f b) ≡ line (f a) + 1
 
 -- f keeps that of any two tokens that have P, and the A rules that have a token's terminal have its image's
 pub record Alike (g : Rules) (P : Token → Type 0) (f : Token → Token) : Type 0 where
@@ -168,7 +167,7 @@ module _ (g : Rules) (P : Token → Type 0) (f : Token → Token) (k : Alike g P
   binary-keeps BinaryMark.Align (a ∷ u) (b ∷ v) p q h = keeps-col a b (p .0) (q .0) h
   binary-keeps BinaryMark.Indent (a ∷ u) (b ∷ v) p q h = (
     k .keeps a b (p .0) (q .0) .columns .0 (h .0),
-    rw (last-map f a u) (k .keeps (last a u) b (every-last P a u (p .0) (p .1)) (q .0) .next (h .1)),
+    rw (last-map f a u) (k .keeps (last a u) b (every-last P a u (p .0) (p .1)) (q .0) .lines .0 (h .1)),
   )
 
   pub valid-keeps : (t : Tree) → Every P (word t) → Valid g t → Valid g (relabel f t)

@@ -42,11 +42,11 @@ Unary m [] = Unit {0}
 Unary m (a ∷ w) = Every (Keeps m a) w
 
 -- what a binary mark asks of the first word's first token a and last token z, and the second word's first token b:
--- none, nothing; align, equal columns; indent, a greater column, on the line after the first word's last
+-- none, nothing; align, equal columns; indent, a greater column, on any line after the first word's last (the paper: on the next one)
 abbrev pub Pairs : BinaryMark → Token → Token → Token → Type 0
 Pairs BinaryMark.None a z b = Unit {0}
 Pairs BinaryMark.Align a z b = col a ≡ col b
-Pairs BinaryMark.Indent a z b = (col a < col b) × (line b ≡ line z + 1)
+Pairs BinaryMark.Indent a z b = (col a < col b) × (line z < line b)
 
 -- a binary mark holds of two words; it holds where one of them is empty
 abbrev pub Binary : BinaryMark → Word → Word → Type 0

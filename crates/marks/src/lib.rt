@@ -61,13 +61,7 @@ pub fn pairs(m: BinaryMark, a: Token, z: Token, b: Token) -> bool
     match m {
         BinaryMark::None => true,
         BinaryMark::Align => ca == cb,
-        BinaryMark::Indent => {
-            if ca < cb {
-                if lz < lb { lb - lz == 1 } else { false }
-            } else {
-                false
-            }
-        }
+        BinaryMark::Indent => { if ca < cb { lz < lb } else { false } }
     }
 }
 

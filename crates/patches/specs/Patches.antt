@@ -73,7 +73,7 @@ patches =
     ∷ verdict (p6 UnaryMark.Offalign) 0 (at 1 3 ∷ at 2 3 ∷ []) one
     ∷ verdict (p6 UnaryMark.Offalign) 0 (at 1 3 ∷ at 2 2 ∷ []) none
     ∷ verdict p8 0 (at 1 1 ∷ at 2 2 ∷ []) one
-    ∷ verdict p8 0 (at 1 1 ∷ at 3 2 ∷ []) none
+    ∷ verdict p8 0 (at 1 1 ∷ at 3 2 ∷ []) one
     ∷ verdict p8 0 (at 1 1 ∷ at 2 1 ∷ []) none
     ∷ verdict p9 0 (at 1 1 ∷ at 2 2 ∷ []) none
     ∷ verdict p9 1 (at 1 1 ∷ at 2 2 ∷ []) two

@@ -1,8 +1,7 @@
--- Each mark's arm is the definition's comparison; a line is the next one where the difference is 1.
+-- Each mark's arm is the definition's comparison.
 use borrow.Author.Needs.{needs}
-use Prim.Native.Nat.{_-_}
 use native.Mathlib.Omega.{arith}
-use Rattle.sets.proofs.Says.{holds, fails, says-iff, says-eqb}
+use Rattle.sets.proofs.Says.{holds, fails, says-iff, says-eqb, says-ltb}
 use Rattle.marks.proofs.pairs.Statement.{statement}
 use Rattle.marks.proofs.pairs.Tie as tie
 
@@ -15,9 +14,6 @@ enum-told-2 c = search needs
 enum-told-3 : tie.Need-enum-told-3
 enum-told-3 c = search needs
 
-sub-result : tie.Need-sub-result
-sub-result c = search needs
-
 returns : tie.Need-returns
 returns c = rw (c .enum-told .given .1) (holds tt)
 
@@ -25,13 +21,10 @@ returns-2 : tie.Need-returns-2
 returns-2 c = rw (c .enum-told2 .given .1) (says-eqb _ _)
 
 returns-3 : tie.Need-returns-3
-returns-3 c = rw (c .before .before .enum-told3 .given .1) (says-iff (λ e. (c .before .if1 .taken, omega arith)) (λ p. omega (arith, p .1)) (says-eqb (c .before .before .before .before .args .b .line .0 - c .before .before .before .before .args .z .line .0) 1))
+returns-3 c = rw (c .before .enum-told3 .given .1) (says-iff (λ h. (c .if1 .taken, h)) (λ p. p .1) (says-ltb _ _))
 
 returns-4 : tie.Need-returns-4
-returns-4 c = rw (c .before .before .enum-told3 .given .1) (fails (λ p. omega (arith, p .1)))
-
-returns-5 : tie.Need-returns-5
-returns-5 c = rw (c .before .enum-told3 .given .1) (fails (λ p. omega (arith, p .0)))
+returns-4 c = rw (c .before .enum-told3 .given .1) (fails (λ p. omega (arith, p .0)))
 
 pub pairs-spec : {M : Type 1} → statement M
 pairs-spec =
@@ -40,9 +33,7 @@ pairs-spec =
     enum-told
     enum-told-2
     enum-told-3
-    sub-result
     returns
     returns-2
     returns-3
-    returns-4
-    returns-5)
+    returns-4)
