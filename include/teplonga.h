@@ -36,7 +36,9 @@ enum {
     TEPLONGA_RULE_FORM = 102,       /* not five fields so parted and ended, or one not so written */
     TEPLONGA_RULE_RANGE = 103,      /* a number above 63 */
     TEPLONGA_RULE_LAY = 104,        /* lay not allowed for the kind */
-    TEPLONGA_RULE_TWICE = 105,      /* an earlier line has the same left, kind, first and second */
+    TEPLONGA_RULE_REVERSED = 144,   /* an A rule's second below its first; after 104 */
+    TEPLONGA_RULE_TWICE = 105,      /* an earlier line has the same left, kind, first and second; an A
+                                       rule: an earlier one of its left shares a terminal */
     TEPLONGA_RULE_MANY = 106,       /* a 129th rule */
     /* rule sheet, end; line 0 */
     TEPLONGA_NO_START = 107,        /* no rule has left 0 */

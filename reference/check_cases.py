@@ -343,6 +343,15 @@ RULE_LINES = (
     (3, b"1 A 64 - none"),
     (3, b"1 A 0064 - none"),
     (3, b"100 A 0 - none"),
+    (3, b"1 A 0 64 none"),
+    (2, b"1 E - 3 none"),
+    (2, b"1 U 1 2 none"),
+    (44, b"1 A 5 4 none"),
+    (5, b"0 A 0 9 none"),
+    # 3 before 44, 4 before 44, 44 before 5.
+    (3, b"1 A 65 64 none"),
+    (4, b"1 A 5 4 align"),
+    (44, b"0 A 1 0 none"),
     (3, b"1 B 2 99 none"),
     (4, b"1 E - - single"),
     (4, b"1 U 2 - align"),
@@ -419,6 +428,20 @@ def padded_numbers():
     yield "refused-12 2", rules(GOOD) + b"\n" + padded(tokens(b"0 1 1"), 6)
 
 
+def ranges():
+    """A range is one rule, hence one choice."""
+    alone, pair = "0 A 10 20 none", "0 B 1 1 none / 1 A 10 20 none"
+    for term, answer in ((9, "none"), (10, "one"), (15, "one"), (20, "one"), (21, "none")):
+        yield f"{answer} 0", check(alone, (term, 1, 1))
+        yield f"{answer} 0", check(pair, (10, 1, 1), (term, 1, 2))
+    # Two rules of one left that touch; a leaf of two lefts.
+    yield "one 0", check("0 A 0 9 none / 0 A 10 63 none", (9, 1, 1))
+    yield "one 0", check("0 A 0 9 none / 0 A 10 63 none", (63, 1, 1))
+    both = "0 U 1 - none / 0 U 2 - none / 1 A 3 40 none / 2 A 40 63 none"
+    for term, answer in ((3, "one"), (39, "one"), (40, "two"), (41, "one"), (2, "none")):
+        yield f"{answer} 0", check(both, (term, 1, 1))
+
+
 def refused_names():
     good_rules, good_tokens = rules(GOOD), tokens(b"0 1 1")
     yield "refused-1 1", b"\n" + good_tokens
@@ -479,7 +502,7 @@ def random_rule(draw, left, names, terminals, empties):
     kind = pick(draw, kinds + "EE" if empties else kinds)
     first = second = "-"
     if kind == "A":
-        first = pick(draw, terminals)
+        first, second = pick(draw, terminals), pick(draw, ("-", "-", max(terminals)))
     if kind == "U":
         first = pick(draw, later)
     if kind == "B":
@@ -496,7 +519,8 @@ def random_rules(draw, terminals):
     listed = {}
     for left in lefts:
         rule = random_rule(draw, left, names, terminals, empties)
-        listed.setdefault(rule[:4], rule)
+        head = (left, "A") if rule[1] == "A" else rule[:4]
+        listed.setdefault(head, rule)
     return list(listed.values())
 
 
@@ -594,6 +618,7 @@ def meant():
         far_too_many_rows(),
         refused_sheets(),
         padded_numbers(),
+        ranges(),
         refused_names(),
         refused_inputs(),
     ):

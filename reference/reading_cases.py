@@ -111,8 +111,12 @@ def refused_rule_form():
         b"1 B 2 - none",
         b"1 E 0 - none",
         b"1 E - 0 none",
-        b"1 A 0 0 none",
         b"1 U 2 2 none",
+        b"1 E - 3 none",
+        b"1 A - 3 none",
+        b"1 A 0 000003 none",
+        b"1 A 0 - - none",
+        b"1 A 0 x none",
         # Digits.
         b"000001 A 0 - none",
         b"1 A 000000 - none",
@@ -157,12 +161,26 @@ def refused_rule_values():
         # 5 by the value.
         b"00 A 000 - none",
         b"00000 A 0 - none",
+        # Ranges: 3, 44, 5, and their order: 3, 4, 44, 5.
+        b"1 A 0 64 none",
+        b"1 A 64 64 none",
+        b"1 A 5 4 none",
+        b"1 A 63 0 none",
+        b"1 A 65 64 none",
+        b"1 A 5 4 align",
+        b"0 A 1 0 none",
+        b"0 A 0 0 none",
+        b"0 A 0 63 none",
     ):
         yield rules(good, line)
     # 5 under the same lay and under another one.
     yield rules(b"0 U 1 - none", b"2 A 5 - none", b"0 U 1 - offside")
     yield rules(b"0 B 1 2 none", b"2 A 5 - none", b"0 B 1 2 indent")
     yield rules(b"0 E - - none", b"2 A 5 - none", b"0 E - - none")
+    # 5 for ranges of one left: in, over, at either end, and one terminal in a range.
+    for line in (b"1 A 11 12 none", b"1 A 9 14 none", b"1 A 13 20 none", b"1 A 0 10 none", b"1 A 12 - none"):
+        yield rules(good, b"1 A 10 13 none", line)
+    yield rules(good, b"1 A 12 - none", b"1 A 010 00013 none")
     # The line counts before the number.
     yield rules(good, b"1 A 0 - align", b"2 A 0 - none", b"3 A 0")
     yield rules(good, good, b"64 A 0 - none", b"", b"1 E - - single")
@@ -220,6 +238,9 @@ def accepted_rule_sheets():
     """Near misses of refusals."""
     yield many_rules(128)
     yield rules(b"0 E - - none", b"63 A 63 - none", b"1 B 63 63 indent")
+    # Ranges: one terminal, all of them, ranges that touch, shared by two lefts.
+    yield rules(b"0 A 63 63 none", b"1 A 0 63 none", b"2 A 0 63 none")
+    yield rules(b"0 A 5 9 none", b"0 A 10 20 none", b"0 A 4 - none", b"0 A 0 003 none", b"1 A 9 10 none")
     # Padded numbers.
     yield rules(b"00000 U 01 - none", b"001 B 0002 00063 none", b"00063 A 00063 - none")
     yield padded(ALL_KINDS, 5)

@@ -166,7 +166,7 @@ def patches_after_p9():
 NUMBER = rb"[0-9]{1,5}"
 LAY = rb"(?:none|align|indent|offside|offalign|single)"
 RULE_FORM = re.compile(
-    rb"%(n)s (?:E - -|A %(n)s -|U %(n)s -|B %(n)s %(n)s) %(lay)s\n"
+    rb"%(n)s (?:E - -|A %(n)s (?:-|%(n)s)|U %(n)s -|B %(n)s %(n)s) %(lay)s\n"
     % {b"n": NUMBER, b"lay": LAY}
 )
 TOKEN_FORM = re.compile(rb"%s %s %s\n" % (NUMBER, NUMBER, NUMBER))
@@ -186,6 +186,18 @@ def unpadded(text):
     return re.sub(rb"(?<![0-9])0+(?=[0-9])", b"", text)
 
 
+LEAF = re.compile(rb"([0-9]+) A ([0-9]+) (-|[0-9]+) ")
+
+
+def head_names(line):
+    """What refusal 5 compares, a name for each terminal of an A rule."""
+    ends = LEAF.match(line)
+    if not ends:
+        return [unpadded(line).rsplit(b" ", 1)[0]]
+    last = ends[2] if ends[3] == b"-" else ends[3]
+    return [(int(ends[1]), term) for term in range(int(ends[2]), int(last) + 1)]
+
+
 def pattern_rules(sheet):
     """Number and line of the first refusal of a rule sheet, or None."""
     lines = lines_with_ends(sheet)
@@ -200,8 +212,11 @@ def pattern_rules(sheet):
             return (3, at)
         if not ALLOWED.fullmatch(line):
             return (4, at)
-        heads = [unpadded(each).rsplit(b" ", 1)[0] for each in lines[1:at]]
-        if heads[-1] in heads[:-1]:
+        ends = LEAF.match(line)
+        if ends and ends[3] != b"-" and int(ends[3]) < int(ends[2]):
+            return (44, at)
+        heads = [name for each in lines[1:at] for name in head_names(each)]
+        if len(set(heads)) < len(heads):
             return (5, at)
     plain = [unpadded(line) for line in lines[1:]]
     if not any(line.startswith(b"0 ") for line in plain):
@@ -269,11 +284,12 @@ def readers():
         numbers |= {each[1] for each in (read_rules, read_tokens) if each[0] == "refused"}
         if read_rules[0] == "accepted":
             written = [teplonga.rule_line(rule) for rule in read_rules[1]]
-            same("reading", unpadded(rules).split(b"\n")[1:-1], written)
+            plain = re.sub(rb"A ([0-9]+) \1 ", rb"A \1 - ", unpadded(rules))
+            same("reading", plain.split(b"\n")[1:-1], written)
         if read_tokens[0] == "accepted":
             same("reading", teplonga.token_sheet(read_tokens[1]), unpadded(tokens))
         same("refused line", teplonga.refused_line(rules, tokens), second_line(rules, tokens))
-    same("reading", numbers, {1, 2, 3, 4, 5, 6, 7, 8, 11, 12, 13, 14, 15})
+    same("reading", numbers, {1, 2, 3, 4, 5, 6, 7, 8, 11, 12, 13, 14, 15, 44})
     same("reading", len(cases) <= 300, True)
     same("reading", len(make_reading.all_input()) <= 60_000, True)
     for each in reading_cases.refused_rule_sheets():
@@ -318,7 +334,8 @@ def top_trees(rule, tokens, begin, end, lower):
     left, kind, first, second, lay = rule
     if kind == "E" and begin == end:
         yield ("empty", left)
-    if kind == "A" and end == begin + 1 and tokens[begin][0] == first:
+    last = first if second is None else second
+    if kind == "A" and end == begin + 1 and first <= tokens[begin][0] <= last:
         yield ("leaf", left, tokens[begin])
     if kind == "U" and second_mark(lay, tokens[begin:end]):
         for tree in lower.get((first, begin, end), ()):
@@ -366,15 +383,16 @@ def top_choice(rules, tree):
     """(the rule's place, left length) at the top of a valid tree."""
     kind = {"empty": "E", "leaf": "A", "unary": "U", "binary": "B"}[tree[0]]
     below = [None, None]
-    if kind == "A":
-        below = [tree[2][0], None]
-    elif kind in "UB":
+    if kind in "UB":
         below = [child[1] for child in tree[2:]] + [None] * (4 - len(tree))
-    (place,) = [
-        at
-        for at, rule in enumerate(rules)
-        if rule[:4] == (tree[1], kind, *below)
-    ]
+
+    def tops(rule):
+        if kind == "A":
+            first, last = rule[2], rule[2] if rule[3] is None else rule[3]
+            return rule[:2] == (tree[1], kind) and tree[2][0] in range(first, last + 1)
+        return rule[:4] == (tree[1], kind, *below)
+
+    (place,) = [at for at, rule in enumerate(rules) if tops(rule)]
     return (place, length_of(tree[2]) if kind == "B" else 0)
 
 
@@ -441,6 +459,7 @@ def random_rule(draw, nonterminals):
     first = second = None
     if kind == "A":
         first = draw.choice((0, 0, 1))
+        second = draw.choice((None, None, first, 1))
     if kind in "UB":
         first = draw.randrange(nonterminals)
     if kind == "B":
@@ -617,7 +636,8 @@ def second_sweep(rules, terminals, bound):
 
 def sweep_of_grammar(rules):
     """A sweep with bound 3 (2 where there are two terminals)."""
-    terminals = tuple(sorted({rule[2] for rule in rules if rule[1] == "A"}))
+    ends = [(rule[2], rule[2] if rule[3] is None else rule[3]) for rule in rules if rule[1] == "A"]
+    terminals = tuple(term for term in range(64) if any(a <= term <= b for a, b in ends))
     bound = 2 if len(terminals) == 2 else 3
     found = second_sweep(rules, terminals, bound)
     answer = "clear" if found is None else "two"

@@ -235,6 +235,25 @@ def limits():
     yield refused(23), sweep(8, P5)
 
 
+def ranges():
+    """T counts every terminal covered."""
+    # Two trees of terminal 0 at once; the others are out of reach.
+    early = "0 A 0 - none / 0 U 1 - none / 1 A 0 - none / 2 A {} {} none"
+    for bound, most in ((4, 28), (5, 7), (6, 2), (7, 1)):
+        yield two((1, 1)), sweep(bound, early.format(0, most - 1))
+        yield refused(24), sweep(bound, early.format(0, most))
+    # Overlapping ranges of two lefts count once.
+    yield two((1, 1)), sweep(5, early.format(0, 4) + " / 3 A 2 6 none")
+    yield refused(24), sweep(5, early.format(0, 4) + " / 3 A 2 7 none")
+    # The first terminal that both have.
+    both = "0 U 1 - none / 0 U 2 - none / 1 A 3 40 none / 2 A 40 63 none"
+    yield two((40, 1, 1)), sweep(2, both)
+    yield CLEAR, sweep(1, both.replace("40 63", "41 63"))
+    # Sixty words in one rule.
+    yield two((0, 1, 1), (0, 1, 2), (0, 1, 3)), sweep(3, "0 B 0 0 none / 0 A 0 59 none")
+    yield refused(44, 3), sweep(3, "0 B 0 0 none / 0 A 5 4 none")
+
+
 def padded_numbers():
     """The bound has one to five digits too; what is printed is plain."""
     for digits in (2, 3, 4, 5):
@@ -364,6 +383,7 @@ def meant():
     yield from clear_ones()
     yield from limits()
     yield from padded_numbers()
+    yield from ranges()
     yield from refused_rules()
     yield from refused_bounds()
     yield from refused_lengths()

@@ -32,10 +32,11 @@ LAYS = {
 }
 ALL_LAYS = ("none", "align", "indent", "offside", "offalign", "single")
 
-# By kind: does a number stand in `first`, does one stand in `second`?
+# By kind: does a number stand in `first`, does one stand in `second`?  In an A
+# rule either may (request 5).
 NUMBERED = {
     "E": (False, False),
-    "A": (True, False),
+    "A": (True, None),
     "U": (True, False),
     "B": (True, True),
 }
@@ -87,6 +88,8 @@ def refused(number, line):
 
 def number_or_dash(field, numbered):
     """(well written, value): a number where one belongs, else `-`."""
+    if numbered is None:
+        numbered = field != b"-"
     if numbered:
         if is_number(field):
             return True, int(field)
@@ -116,13 +119,24 @@ def numbers_of(rule):
     return [n for n in (rule.left, rule.first, rule.second) if n is not None]
 
 
-def same_but_lay(one, other):
-    """"the same left, kind, first and second, under any lay" """
+def terminals_covered(rule):
+    """Request 5: "every terminal from `first` to `second`, both included; `-`
+    means `first` alone" """
+    last = rule.first if rule.second is None else rule.second
+    return range(rule.first, last + 1)
+
+
+def clashes(one, other):
+    """"the same left, kind, first and second, under any lay"; for A rules
+    (request 5) "of the same left shares any terminal" """
+    if one.kind == "A" and other.kind == "A":
+        shared = set(terminals_covered(one)) & set(terminals_covered(other))
+        return one.left == other.left and bool(shared)
     return one[:4] == other[:4]
 
 
 def rule_line_refusal(line, ended, earlier):
-    """The refusal of one rule line in the order 6, 2, 3, 4, 5, or None."""
+    """The refusal of one rule line in the order 6, 2, 3, 4, 44, 5, or None."""
     if len(earlier) == MOST_RULES:
         return 6
     rule = rule_of_line(line, ended)
@@ -132,7 +146,9 @@ def rule_line_refusal(line, ended, earlier):
         return 3
     if rule.lay not in LAYS[rule.kind]:
         return 4
-    if any(same_but_lay(rule, other) for other in earlier):
+    if rule.kind == "A" and len(terminals_covered(rule)) == 0:
+        return 44
+    if any(clashes(rule, other) for other in earlier):
         return 5
     return None
 
@@ -156,9 +172,13 @@ def read_rules(sheet):
 
 
 def rule_line(rule):
-    """A rule, written as in a rule sheet, without byte 10."""
+    """A rule, written as in a rule sheet, without byte 10.
+
+    An A rule of one terminal is written with `-`.
+    """
     first = "-" if rule.first is None else str(rule.first)
-    second = "-" if rule.second is None else str(rule.second)
+    alone = rule.second is None or (rule.kind == "A" and rule.second == rule.first)
+    second = "-" if alone else str(rule.second)
     return f"{rule.left} {rule.kind} {first} {second} {rule.lay}".encode()
 
 
@@ -324,7 +344,7 @@ def node_follows(rule, tree):
     if rule.kind == "E":
         return True
     if rule.kind == "A":
-        return tree.word[0].term == rule.first
+        return tree.word[0].term in terminals_covered(rule)
     if rule.kind == "U":
         (child,) = tree.children
         if child.nonterminal != rule.first:
@@ -526,7 +546,7 @@ def ways(rule, word, found, splits):
     if rule.kind == "E":
         return [0] if len(word) == 0 else []
     if rule.kind == "A":
-        return [0] if len(word) == 1 and word[0].term == rule.first else []
+        return [0] if len(word) == 1 and word[0].term in terminals_covered(rule) else []
     if rule.kind == "U":
         stands = rule.first in found and mark_of_one(rule.lay, word)
         return [0] if stands else []
@@ -739,8 +759,10 @@ def trees_call(rules, tokens, words, first, second):
 # ------------------------------------------------------------------ the sweep
 
 def terminals_of(rules):
-    """"the different terminals in the sheet's A rules", rising."""
-    return sorted({rule.first for rule in rules if rule.kind == "A"})
+    """"the different terminals in the sheet's A rules", rising; "T counts every
+    terminal covered" """
+    leaves = [rule for rule in rules if rule.kind == "A"]
+    return sorted({term for rule in leaves for term in terminals_covered(rule)})
 
 
 def sweep_size(terminal_count, bound):

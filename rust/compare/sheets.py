@@ -35,12 +35,21 @@ def accepted(sheet):
 KINDS = "EAAAAUUBBBBB"
 
 
+def drawn_range(chance, terminals):
+    """A terminal alone, or one to another, now and then to a farther one."""
+    first = chance.choice(terminals)
+    if chance.random() < 0.7:
+        return (first, None)
+    last = chance.choice([*terminals, min(first + chance.randint(0, 3), 63)])
+    return (min(first, last), max(first, last))
+
+
 def drawn_rule(chance, names, terminals):
     kind = chance.choice(KINDS)
     lay = chance.choice(LAYS[kind])
     first = second = None
     if kind == "A":
-        first = chance.choice(terminals)
+        first, second = drawn_range(chance, terminals)
     if kind in "UB":
         first = chance.choice(names)
     if kind == "B":
@@ -50,7 +59,11 @@ def drawn_rule(chance, names, terminals):
 
 def distinct(rules):
     """Without those that refusal 5 is about."""
-    return list({rule[:4]: rule for rule in rules}.values())
+    kept = []
+    for rule in rules:
+        if not any(teplonga.clashes(rule, other) for other in kept):
+            kept.append(rule)
+    return kept
 
 
 def few_rules(chance):
@@ -116,8 +129,11 @@ def varied(chance, rules):
     for left, kind, first, second, lay in rules:
         if chance.random() < 0.2:
             lay = chance.choice(LAYS[kind])
-        first = terminals[first] if kind == "A" else names.get(first)
-        after.append(Rule(names[left], kind, first, names.get(second), lay))
+        if kind == "A":
+            assert second is None
+            after.append(Rule(names[left], kind, terminals[first], None, lay))
+        else:
+            after.append(Rule(names[left], kind, names.get(first), names.get(second), lay))
     chance.shuffle(after)
     return after
 
@@ -248,7 +264,7 @@ def derived(chance, usable, fuel, most):
         ways = usable[waiting.pop()]
         rule = chance.choice(ways) if step < fuel else ways[0]
         if rule.kind == "A":
-            terminals.append(rule.first)
+            terminals.append(chance.choice(teplonga.terminals_covered(rule)))
         waiting += reversed(children_of(rule))
     return None if waiting or len(terminals) > most else terminals
 
@@ -303,7 +319,7 @@ FIELDS += [b"100", b"65535", b"65536", b"99999", b"065", b"100000", b"4294967297
 FIELDS += [b"00000", b"000000", b"00063", b"0064", b"000001"]
 FIELDS += [b"18446744073709551617", b"E", b"A", b"U", b"B", b"C", b"a", b"None", b"off"]
 FIELDS += [lay.encode() for lay in ALL_LAYS]
-LIMITS = [b"0", b"63", b"64", b"99", b"65535", b"65536"]
+LIMITS = [b"-", b"0", b"1", b"5", b"63", b"64", b"99", b"65535", b"65536"]
 
 
 def of_bytes(chance, sheet):
@@ -356,7 +372,7 @@ def of_fields(chance, sheet):
 
 
 def of_values(chance, sheet):
-    """The last field replaced by a lay, or a number by one about a limit."""
+    """The last field replaced by a lay, a `-` by a number, or a number by one about a limit."""
     lines = sheet.split(b"\n")
     at = past_names(chance, lines)
     fields = lines[at].split(b" ")
@@ -366,7 +382,7 @@ def of_values(chance, sheet):
             lines.insert(chance.randint(1, max(1, len(lines) - 1)), lines[at])
             at = chance.choice([at, at + 1])
     else:
-        numbers = [place for place, field in enumerate(fields) if field.isdigit()]
+        numbers = [place for place, field in enumerate(fields) if field.isdigit() or field == b"-"]
         if numbers:
             fields[chance.choice(numbers)] = chance.choice(LIMITS)
     lines[at] = b" ".join(fields)

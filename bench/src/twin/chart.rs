@@ -115,11 +115,11 @@ enum Leaf {
 }
 
 impl Leaf {
-    fn fits(&self, terminal: u8) -> bool {
+    fn fits(&self, low: u8, high: u8) -> bool {
         match *self {
             Leaf::Nothing => false,
             Leaf::Open => true,
-            Leaf::Terminal(own) => own == terminal,
+            Leaf::Terminal(own) => (low..=high).contains(&own),
         }
     }
 }
@@ -196,7 +196,7 @@ impl Tally {
     /// pair is `empty`, on the other if it has two.
     fn whole(&mut self, rule: &Rule, span: &Span, empty: Pair) {
         match rule.clause {
-            Clause::Empty | Clause::Atom(_) => {}
+            Clause::Empty | Clause::Atom(..) => {}
             Clause::Unary(b, mark) => {
                 if has(self.pair.one, b) && span.marks.unary(mark) {
                     self.choice(rule.left, has(self.pair.two, b));
@@ -221,7 +221,7 @@ fn leaves(rules: &[Rule], span: &Span) -> Tally {
     for rule in rules {
         match rule.clause {
             Clause::Empty if span.len == 0 => tally.choice(rule.left, false),
-            Clause::Atom(a) if span.leaf.fits(a) => tally.terminal(rule.left),
+            Clause::Atom(a, b) if span.leaf.fits(a, b) => tally.terminal(rule.left),
             _ => {}
         }
     }

@@ -32,7 +32,8 @@ pub enum BinaryMark {
 #[derive(Clone, Copy, Debug, PartialEq, Eq)]
 pub enum Clause {
     Empty,
-    Atom(u8),
+    /// Every terminal from the first to the second.
+    Atom(u8, u8),
     Unary(u8, UnaryMark),
     Binary(u8, u8, BinaryMark),
 }
@@ -51,11 +52,11 @@ impl Token {
 }
 
 impl Clause {
-    /// The same kind, first and second, under any mark?
+    /// The same kind, first and second, under any mark? Atoms: a terminal of both?
     pub fn alike(&self, other: &Clause) -> bool {
         match (self, other) {
             (Clause::Empty, Clause::Empty) => true,
-            (Clause::Atom(a), Clause::Atom(b)) => a == b,
+            (Clause::Atom(a, b), Clause::Atom(c, d)) => a <= d && c <= b,
             (Clause::Unary(a, _), Clause::Unary(b, _)) => a == b,
             (Clause::Binary(a, b, _), Clause::Binary(c, d, _)) => (a, b) == (c, d),
             _ => false,

@@ -27,7 +27,7 @@ pub fn arrange(rules: &mut [Rule]) {
 /// May the rule have this nonterminal over its whole word?
 fn rests(rule: &Rule, nonterminal: u8, nullable: u64) -> bool {
     match rule.clause {
-        Clause::Empty | Clause::Atom(_) => false,
+        Clause::Empty | Clause::Atom(..) => false,
         Clause::Unary(b, _) => b == nonterminal,
         Clause::Binary(b, d, _) => {
             b == nonterminal && has(nullable, d) || d == nonterminal && has(nullable, b)

@@ -111,7 +111,7 @@ struct Written {
 
 enum Kind {
     Empty,
-    Atom(u8),
+    Atom(u8, u8),
     Unary(u8),
     Binary(u8, u8),
 }
@@ -126,8 +126,8 @@ fn written(line: &[u8]) -> Option<Written> {
             Kind::Empty
         }
         b"A" => {
-            dash(second)?;
-            Kind::Atom(symbol(first)?)
+            let low = symbol(first)?;
+            Kind::Atom(low, if dash(second).is_some() { low } else { symbol(second)? })
         }
         b"U" => {
             dash(second)?;
@@ -144,8 +144,8 @@ impl Written {
     fn small(&self) -> bool {
         let rest = match self.kind {
             Kind::Empty => 0,
-            Kind::Atom(a) | Kind::Unary(a) => a,
-            Kind::Binary(a, b) => a.max(b),
+            Kind::Unary(a) => a,
+            Kind::Atom(a, b) | Kind::Binary(a, b) => a.max(b),
         };
         self.left.max(rest) <= 63
     }
@@ -154,7 +154,7 @@ impl Written {
     fn clause(&self) -> Option<Clause> {
         match self.kind {
             Kind::Empty => (self.lay == Lay::None).then_some(Clause::Empty),
-            Kind::Atom(a) => (self.lay == Lay::None).then_some(Clause::Atom(a)),
+            Kind::Atom(a, b) => (self.lay == Lay::None).then_some(Clause::Atom(a, b)),
             Kind::Unary(a) => Some(Clause::Unary(a, self.lay.unary()?)),
             Kind::Binary(a, b) => Some(Clause::Binary(a, b, self.lay.binary()?)),
         }
@@ -172,6 +172,9 @@ fn rule(line: &[u8], earlier: &[Rule]) -> Result<Rule, u64> {
     }
     let left = written.left;
     let clause = written.clause().ok_or(4u64)?;
+    if matches!(clause, Clause::Atom(low, high) if high < low) {
+        return Err(44);
+    }
     if earlier.iter().any(|rule| rule.left == left && rule.clause.alike(&clause)) {
         return Err(5);
     }
@@ -219,7 +222,7 @@ fn edges(rules: &[Rule]) -> [u64; 64] {
     for rule in rules {
         let ends = &mut edges[usize::from(rule.left)];
         match rule.clause {
-            Clause::Empty | Clause::Atom(_) => {}
+            Clause::Empty | Clause::Atom(..) => {}
             Clause::Unary(b, _) => *ends |= 1 << b,
             Clause::Binary(b, d, _) => {
                 if has(nullable, d) {

@@ -16,7 +16,7 @@ const LIMIT: u64 = 4_294_967_296;
 /// The terminals of the A rules.
 pub fn terminals(rules: &[Rule]) -> u64 {
     rules.iter().fold(0, |set, rule| match rule.clause {
-        Clause::Atom(a) => set | 1 << a,
+        Clause::Atom(a, b) => (a..=b).fold(set, |set, terminal| set | 1 << terminal),
         _ => set,
     })
 }
@@ -28,8 +28,10 @@ pub fn terminals(rules: &[Rule]) -> u64 {
 pub fn needed(rules: &[Rule]) -> u64 {
     let mut lefts = [0u64; 64];
     for rule in rules {
-        if let Clause::Atom(a) = rule.clause {
-            lefts[usize::from(a)] |= 1 << rule.left;
+        if let Clause::Atom(a, b) = rule.clause {
+            for terminal in a..=b {
+                lefts[usize::from(terminal)] |= 1 << rule.left;
+            }
         }
     }
     let stands_in = |s: usize, t: usize| lefts[t] & !lefts[s] == 0;

@@ -24,7 +24,7 @@ parts u v e =
 module _ {g : Rules} where
   null-by : (s : ℕ) → ((Y : ℕ) → In s Y → Nullable g Y) → (A : ℕ) (c : Clause) → List·Memᴰ (record { left = A; clause = c }) g → Ready s c → Nullable g A
   null-by s h A Clause.Empty m r = record { tree = empty A; witness = record { rooted = refl; spelled = refl; valid = valid-empty m } }
-  null-by s h A (Clause.Atom a) m r = absurd r
+  null-by s h A (Clause.Atom a b) m r = absurd r
   null-by s h A (Clause.Unary B k) m r =
       let n = h B r in
       record {

@@ -26,7 +26,7 @@ pub record Passed (Adds : ℕ → Rule → ℕ → Type 0) (P : ℕ → Type 0) 
 -- members of s make the clause's word empty
 abbrev pub Ready : ℕ → Clause → Type 0
 Ready s Clause.Empty = Unit {0}
-Ready s (Clause.Atom a) = ⊥
+Ready s (Clause.Atom a b) = ⊥
 Ready s (Clause.Unary B m) = In s B
 Ready s (Clause.Binary B C m) = In s B × In s C
 
@@ -37,7 +37,7 @@ AddsLeft s r Y = (r .left ≡ Y) × Ready s (r .clause)
 -- a rule with this clause has an edge to Y; ns are the nullable nonterminals
 abbrev pub Leads : ℕ → Clause → ℕ → Type 0
 Leads ns Clause.Empty Y = ⊥
-Leads ns (Clause.Atom a) Y = ⊥
+Leads ns (Clause.Atom a b) Y = ⊥
 Leads ns (Clause.Unary B m) Y = B ≡ Y
 Leads ns (Clause.Binary B C m) Y = ((B ≡ Y) × In ns C) ⊎ ((C ≡ Y) × In ns B)
 

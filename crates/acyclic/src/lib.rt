@@ -18,7 +18,7 @@ fn ready(set: u64, c: Clause) -> bool
 {
     match c {
         Clause::Empty => true,
-        Clause::Atom(_) => false,
+        Clause::Atom(_, _) => false,
         Clause::Unary(b, _) => sets::has(set, b),
         Clause::Binary(b, d, _) => {
             if sets::has(set, b) {
@@ -91,7 +91,7 @@ fn with_targets(nulls: u64, set: u64, c: Clause) -> u64
 {
     match c {
         Clause::Empty => set,
-        Clause::Atom(_) => set,
+        Clause::Atom(_, _) => set,
         Clause::Unary(b, _) => sets::with(set, b),
         Clause::Binary(b, d, _) => {
             let left = beside(nulls, d, set, b);

@@ -9,45 +9,33 @@ use native.Mathlib.Decide.{ℕ-discrete}
 use native.Mathlib.Nat.{pow-zero, mod-one, mod-lt, mod-eq-of-lt}
 use lib.Pow.{pow-pos, mod-pow-add}
 use lib.Count.{ones, onesIn, ones-cat, ones-le}
-use borrow.Author.Tests.{eqb-true}
 use Rattle.sets.proofs.Says.{true-not-false}
 use Rattle.grammar.specs.declared.Rule.{Rule}
-use Rattle.grammar.specs.declared.Clause.{Clause}
 use Rattle.grammar.specs.declared.Clause.the-variants as Clause
 use Rattle.grammar.specs.Trees.{Rules}
 use Rattle.grammar.specs.Candidates.{Terminal}
 use Rattle.grammar.specs.Sweeps.{isAtom, stands, terminalsBelow, terminalCount}
+use Rattle.grammar.proofs.Atoms.{atom-is, has-atom, atom-over}
 use Rattle.candidates.specs.Terminals.{Terminals, Counted}
-use Rattle.candidates.proofs.Gaps.{eqb-is}
 
 -- ---- `stands` says what `Terminal` says
-
-is-atom : (a : ℕ) (k : Clause) → isAtom a k ≡ true → k ≡ Clause.Atom a
-is-atom a Clause.Empty e = absurd (true-not-false (sym e))
-is-atom a (Clause.Atom b) e = ap Clause.Atom (sym (eqb-true a b e))
-is-atom a (Clause.Unary B m) e = absurd (true-not-false (sym e))
-is-atom a (Clause.Binary B C m) e = absurd (true-not-false (sym e))
-
-atom-is : (a : ℕ) (k : Clause) → Clause.Atom a ≡ k → isAtom a k ≡ true
-atom-is a Clause.Empty e = absurd (let z : _≡_ {A = ℕ} 0 1 = cc in omega arith)
-atom-is a (Clause.Atom b) e = eqb-is a b (cc)
-atom-is a (Clause.Unary B m) e = absurd (let z : _≡_ {A = ℕ} 0 1 = cc in omega arith)
-atom-is a (Clause.Binary B C m) e = absurd (let z : _≡_ {A = ℕ} 0 1 = cc in omega arith)
 
 stands-terminal : (g : Rules) (a : ℕ) → stands g a ≡ true → Terminal g a
 stands-terminal [] a e = absurd (true-not-false (sym e))
 stands-terminal (r ∷ g) a e = go (isAtom a (r .clause)) refl e (stands-terminal g a)
   where
     go : (b : Bool) → isAtom a (r .clause) ≡ b → (b || stands g a) ≡ true → (stands g a ≡ true → Terminal g a) → Terminal (r ∷ g) a
-    go true p q ih = (r .left, List·Memᴰ·head (λ i. record { left = r .left; clause = sym (is-atom a (r .clause) p) i }))
-    go false p q ih = let t = ih q in (t .0, List·Memᴰ·tail (t .1))
+    go true p q ih = (r .left, has-atom r a (List·Memᴰ·head refl) p)
+    go false p q ih = let t = ih q in (t .0, atom-over (λ s m. List·Memᴰ·tail m) (t .1))
 
 terminal-stands : (g : Rules) (a : ℕ) → Terminal g a → stands g a ≡ true
-terminal-stands [] a t = absurd (List·Memᴰ·not-nil (t .1))
-terminal-stands (r ∷ g) a t = ⊎-elim here (λ m. rw (terminal-stands g a (t .0, m)) (or-true (isAtom a (r .clause)))) (List·Memᴰ·cases-cons (t .1))
+terminal-stands [] a t = absurd (List·Memᴰ·not-nil (t .1 .rule))
+terminal-stands (r ∷ g) a t =
+    let h = t .1 in
+    ⊎-elim here (λ m. rw (terminal-stands g a (t .0, record { low = h .low; high = h .high; rule = m; covers = h .covers })) (or-true (isAtom a (r .clause)))) (List·Memᴰ·cases-cons (h .rule))
   where
-    here : record { left = t .0; clause = Clause.Atom a } ≡ r → (isAtom a (r .clause) || stands g a) ≡ true
-    here e = rw (atom-is a (r .clause) (ap (λ (q : Rule). q .clause) e))
+    here : record { left = t .0; clause = Clause.Atom (t .1 .low) (t .1 .high) } ≡ r → (isAtom a (r .clause) || stands g a) ≡ true
+    here e = rw (atom-is a (t .1 .low) (t .1 .high) (r .clause) (ap (λ (q : Rule). q .clause) (sym e)) (t .1 .covers))
 
 -- ---- digit by digit
 

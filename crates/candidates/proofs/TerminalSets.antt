@@ -1,15 +1,17 @@
 -- The set of the terminals in a sheet's A rules, rule by rule; what its members are, and its least.
-use mathlib.Core.Path.{_≡_, refl, sym, ap}
+use mathlib.Core.Path.{_≡_, refl, sym, ap, subst}
+use mathlib.Core.Bool.{true}
 use mathlib.Core.Logic.{_⊎_, inl, inr, ⊎-elim, _↔_}
-use mathlib.Core.List.{List, [], _∷_, _++_, List·Memᴰ·head, List·Memᴰ·not-nil, List·Memᴰ·append-cases, List·Memᴰ·eq-of-singleton, Memᴰ·append-left, Memᴰ·append-right}
+use mathlib.Core.List.{List, [], _∷_, _++_, List·Memᴰ·not-nil}
 use Prim.Native.Nat.{ℕ, zero, suc, _+_, _≤_, _<_}
 use native.Mathlib.Omega.{arith}
 use native.Mathlib.Numerals.{add-one}
+use native.Mathlib.Decide.{decLt}
 use lib.ListN.{length, getD, take}
 use lib.Seq.{take-suc}
 use Rattle.sets.specs.declared.Member.{Member}
 use Rattle.sets.specs.declared.Member.the-variants.{At, Nothing}
-use Rattle.sets.specs.Sets.{insert}
+use Rattle.sets.specs.Sets.{In, insert}
 use Rattle.sets.specs.Firsts.{FirstFrom}
 use Rattle.sets.proofs.Sets.{in-zero, insert-same, insert-keeps, insert-only}
 use Rattle.grammar.specs.declared.Cell.{Cell}
@@ -18,48 +20,70 @@ use Rattle.grammar.specs.declared.Clause.{Clause}
 use Rattle.grammar.specs.declared.Clause.the-variants as Clause
 use Rattle.grammar.specs.declared.Grammar.{Grammar}
 use Rattle.grammar.specs.Layout.{Every}
-use Rattle.grammar.specs.Trees.{Rules}
+use Rattle.grammar.specs.Trees.{Rules, Covers}
 use Rattle.grammar.specs.Content.{rules, SmallClause, SmallRule, Formed}
 use Rattle.grammar.specs.Candidates.{Terminal, Cells, Candidate}
+use Rattle.grammar.specs.Sweeps.{isAtom}
 use Rattle.grammar.proofs.Lists.{mem-every}
-use Rattle.candidates.specs.Terminals.{Among, Lowest, Terminals, withTerminal}
+use Rattle.grammar.proofs.Atoms.{is-covers, atom-is, atom-more, atom-here, atom-cases}
+use Rattle.candidates.specs.Terminals.{Among, Lowest, Terminals, Ranging, Widened}
+
+-- ---- the numbers of a range, one by one
+
+-- u has what s has and the numbers from a to below i
+pub record Reached (s a i u : ℕ) : Type 0 where
+  pub is : (x : ℕ) → In u x ↔ (In s x ⊎ ((a ≤ x) × (x < i)))
+
+pub reached-none : (s a : ℕ) → Reached s a a s
+reached-none s a = record { is = λ x. (inl, ⊎-elim (λ m. m) (λ h. absurd (omega (arith, h .0, h .1)))) }
+
+pub reached-more : (s a i u v : ℕ) → a ≤ i → Reached s a i u → v ≡ insert u i → Reached s a (i + 1) v
+reached-more s a i u v l h e = subst (Reached s a (i + 1)) (sym e) (record {
+  is = λ x. (
+    λ m. ⊎-elim (λ k. ⊎-elim inl (λ q. inr (q .0, omega (arith, q .1))) (h .is x .0 k)) (λ q. inr (omega (arith, q), omega (arith, q))) (insert-only u i x m),
+    ⊎-elim (λ k. insert-keeps u i (h .is x .1 (inl k))) (λ q. go x q (decLt x i)),
+  );
+})
+  where
+    go : (x : ℕ) → (a ≤ x) × (x < i + 1) → Dec (x < i) → In (insert u i) x
+    go x q (yes k) = insert-keeps u i (h .is x .1 (inr (q .0, k)))
+    go x q (no n) = let j : x ≡ i = omega (arith, q .1) in rw j (insert-same u i)
+
+pub reached-all : (s a b i u : ℕ) → b < i → ((i ≡ a) ⊎ (i ≤ b + 1)) → Reached s a i u → Ranging s a b u
+reached-all s a b i u l j h = record {
+  is = λ x. (
+    λ m. ⊎-elim inl (λ q. inr (record { low = q .0; high = ⊎-elim (λ e. absurd (omega (arith, q .0, q .1, e))) (λ e. omega (arith, q .1, e)) j })) (h .is x .0 m),
+    ⊎-elim (λ k. h .is x .1 (inl k)) (λ k. h .is x .1 (inr (k .low, omega (arith, k .high, l)))),
+  );
+}
 
 -- ---- the terminals of one rule more
 
-terminal-more : (g : Rules) (r : Rule) {x : ℕ} → Terminal g x → Terminal (g ++ (r ∷ [])) x
-terminal-more g r t = (t .0, Memᴰ·append-left (r ∷ []) (t .1))
-
-terminal-here : (g : Rules) (r : Rule) {x : ℕ} → r .clause ≡ Clause.Atom x → Terminal (g ++ (r ∷ [])) x
-terminal-here g r e = (r .left, Memᴰ·append-right g (List·Memᴰ·head (λ i. record { left = r .left; clause = sym e i })))
-
-terminal-cases : (g : Rules) (r : Rule) {x : ℕ} → Terminal (g ++ (r ∷ [])) x → Terminal g x ⊎ (r .clause ≡ Clause.Atom x)
-terminal-cases g r t = ⊎-elim (λ m. inl (t .0, m)) (λ m. inr (ap (λ (q : Rule). q .clause) (sym (List·Memᴰ·eq-of-singleton m)))) (List·Memᴰ·append-cases g (t .1))
-
 pub terminals-none : Terminals [] 0
-terminals-none x = (λ b. absurd (in-zero x b), λ t. absurd (List·Memᴰ·not-nil (t .1)))
+terminals-none x = (λ b. absurd (in-zero x b), λ t. absurd (List·Memᴰ·not-nil (t .1 .rule)))
 
-module _ (g : Rules) (r : Rule) (s : ℕ) (t : Terminals g s) where
-  terminals-atom : (a : ℕ) → r .clause ≡ Clause.Atom a → Terminals (g ++ (r ∷ [])) (insert s a)
-  terminals-atom a e x = (
-    λ b. ⊎-elim (λ c. terminal-more g r (t x .0 c)) (λ c. terminal-here g r (rw c e)) (insert-only s a x b),
-    λ b. ⊎-elim (λ c. insert-keeps s a (t x .1 c)) (λ c. let q : x ≡ a = cc in rw q (insert-same s a)) (terminal-cases g r b),
-  )
-
-  terminals-other : ((a : ℕ) → r .clause ≡ Clause.Atom a → ⊥) → Terminals (g ++ (r ∷ [])) s
-  terminals-other n x = (λ b. terminal-more g r (t x .0 b), λ b. ⊎-elim (λ c. t x .1 c) (λ c. absurd (n x c)) (terminal-cases g r b))
-
-  terminals-rule : Terminals (g ++ (r ∷ [])) (withTerminal s (r .clause))
-  terminals-rule = go (r .clause) refl
-    where
-      go : (k : Clause) → r .clause ≡ k → Terminals (g ++ (r ∷ [])) (withTerminal s k)
-      go Clause.Empty e = terminals-other (λ a f. let z : _≡_ {A = ℕ} 0 1 = cc in omega arith)
-      go (Clause.Atom a) e = terminals-atom a e
-      go (Clause.Unary B m) e = terminals-other (λ a f. let z : _≡_ {A = ℕ} 0 1 = cc in omega arith)
-      go (Clause.Binary B C m) e = terminals-other (λ a f. let z : _≡_ {A = ℕ} 0 1 = cc in omega arith)
+terminals-rule : (g : Rules) (r : Rule) (s u : ℕ) → Terminals g s → Widened s (r .clause) u → Terminals (g ++ (r ∷ [])) u
+terminals-rule g r s u t w x = (
+  λ b. ⊎-elim (λ c. let q = t x .0 c in (q .0, atom-more g r (q .1))) (λ c. (r .left, atom-here g r c)) (w .is x .0 b),
+  λ b. ⊎-elim (λ c. w .is x .1 (inl (t x .1 (b .0, c)))) (λ c. w .is x .1 (inr (c .1))) (atom-cases g r (b .1)),
+)
 
 -- the rule at i is taken in
-pub terminals-step : (g : Rules) (d : Rule) (i s u : ℕ) → i < length g → Terminals (take i g) s → u ≡ withTerminal s (getD g i d .clause) → Terminals (take (i + 1) g) u
-terminals-step g d i s u h t e = rw (add-one i, take-suc g i d, e) (terminals-rule (take i g) (getD g i d) s t)
+pub terminals-step : (g : Rules) (d : Rule) (i s u : ℕ) → i < length g → Terminals (take i g) s → Widened s (getD g i d .clause) u → Terminals (take (i + 1) g) u
+terminals-step g d i s u h t e = rw (add-one i, take-suc g i d) (terminals-rule (take i g) (getD g i d) s u t e)
+
+-- ---- what a clause adds
+
+pub widened-none : (s : ℕ) (k : Clause) → ((x : ℕ) → isAtom x k ≡ true → ⊥) → Widened s k s
+widened-none s k n = record { is = λ x. (inl, ⊎-elim (λ m. m) (λ e. absurd (n x e))) }
+
+pub widened-range : (s a b u : ℕ) (k : Clause) → k ≡ Clause.Atom a b → Ranging s a b u → Widened s k u
+widened-range s a b u k e h = record {
+  is = λ x. (
+    λ m. ⊎-elim inl (λ q. inr (atom-is x a b k e q)) (h .is x .0 m),
+    ⊎-elim (λ m. h .is x .1 (inl m)) (λ q. h .is x .1 (inr (is-covers a b x (subst (λ (c : Clause). isAtom x c ≡ true) e q)))),
+  );
+}
 
 -- ---- numbers in range
 
@@ -77,14 +101,17 @@ small-rule-at g d i h l f = every-at SmallRule (g .rules) d i (g .count) h l (f 
 pub small-at : (g : Grammar) (d : Rule) (i : ℕ) → i < g .count → i < length (g .rules) → Formed g → SmallClause (getD (g .rules) i d .clause)
 small-at g d i h l f = small-rule-at g d i h l f .clause
 
-pub atom-small : (k : Clause) (a : ℕ) → k ≡ Clause.Atom a → SmallClause k → a < 64
-atom-small k a e s = let t : SmallClause (Clause.Atom a) = rw e at s in t
+pub atom-small : (k : Clause) (a b : ℕ) → k ≡ Clause.Atom a b → SmallClause k → (a < 64) × (b < 64)
+atom-small k a b e s = let t : SmallClause (Clause.Atom a b) = rw e at s in t
 
 -- ---- members and terminals
 
 -- in a formed grammar the members of the set are the terminals
 pub among-terminal : (g : Grammar) (s : ℕ) → Formed g → Terminals (rules g) s → (x : ℕ) → Among s x ↔ Terminal (rules g) x
-among-terminal g s f t x = (λ b. t x .0 (b .1), λ b. (mem-every SmallRule (rules g) (f .small) (b .1) .clause, t x .1 b))
+among-terminal g s f t x = (
+  λ b. t x .0 (b .1),
+  λ b. (let k = mem-every SmallRule (rules g) (f .small) (b .1 .rule) .clause in omega (arith, k .1, b .1 .covers .high), t x .1 b),
+)
 
 cells-over : (Q R : ℕ → Type 0) → ((x : ℕ) → Q x → R x) → (n m : ℕ) (cs : List Cell) → Cells Q n m cs → Cells R n m cs
 cells-over Q R f n m [] k = tt

@@ -1,14 +1,14 @@
 -- The terminals that candidates carry, as a 64-bit set, and T: 01, "The sweep", first two sentences.
 use mathlib.Core.Path.{_≡_}
-use mathlib.Core.Logic.{_↔_}
+use mathlib.Core.Bool.{true}
+use mathlib.Core.Logic.{_⊎_, _↔_}
 use Prim.Native.Nat.{ℕ, _≤_, _<_}
 use lib.Count.{ones}
-use Rattle.sets.specs.Sets.{In, insert}
+use Rattle.sets.specs.Sets.{In}
 use Rattle.grammar.specs.declared.Clause.{Clause}
-use Rattle.grammar.specs.declared.Clause.the-variants as Clause
-use Rattle.grammar.specs.Trees.{Rules}
+use Rattle.grammar.specs.Trees.{Rules, Covers}
 use Rattle.grammar.specs.Candidates.{Terminal}
-use Rattle.grammar.specs.Sweeps.{terminalCount}
+use Rattle.grammar.specs.Sweeps.{isAtom, terminalCount}
 
 -- x is one of the terminals of the set s
 abbrev pub Among : ℕ → ℕ → Type 0
@@ -19,16 +19,17 @@ pub record Lowest (s low : ℕ) : Type 0 where
   pub there : Among s low
   pub least : (x : ℕ) → Among s x → low ≤ x
 
--- s is the set of the terminals in the sheet's A rules
+-- s is the set of the terminals that the sheet's A rules cover
 abbrev pub Terminals : Rules → ℕ → Type 0
 Terminals g s = (x : ℕ) → In s x ↔ Terminal g x
 
--- the set with a clause's terminal besides, if it is of kind A
-abbrev pub withTerminal : ℕ → Clause → ℕ
-withTerminal s Clause.Empty = s
-withTerminal s (Clause.Atom a) = insert s a
-withTerminal s (Clause.Unary B m) = s
-withTerminal s (Clause.Binary B C m) = s
+-- u is the set s with the numbers from a to b besides
+pub record Ranging (s a b u : ℕ) : Type 0 where
+  pub is : (x : ℕ) → In u x ↔ (In s x ⊎ Covers a b x)
+
+-- u is the set s with a clause's terminals besides, if it is of kind A
+pub record Widened (s : ℕ) (k : Clause) (u : ℕ) : Type 0 where
+  pub is : (x : ℕ) → In u x ↔ (In s x ⊎ (isAtom x k ≡ true))
 
 -- t counts the ones of s: where s is the set of a sheet's terminals, t is its T
 pub record Counted (s t : ℕ) : Type 0 where

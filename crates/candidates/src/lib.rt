@@ -15,7 +15,7 @@ ghost use Rattle.sets.specs.Says.{Says};
 ghost use Rattle.grammar.specs.Content.{rules, Formed, SmallClause};
 ghost use Rattle.grammar.specs.Candidates as Of;
 ghost use Rattle.grammar.specs.Sweeps.{arrangements};
-ghost use Rattle.candidates.specs.Terminals.{Among, Lowest, Terminals, withTerminal, Counted};
+ghost use Rattle.candidates.specs.Terminals.{Among, Lowest, Terminals, Ranging, Widened, Counted};
 ghost use Rattle.candidates.specs.Arrays.{cellAt, cells};
 ghost use Rattle.candidates.specs.Succession.{First, Succeeds};
 ghost use Rattle.candidates.specs.Windows.{Fits, LeastSpot, Room, Advances, largestStep, columnBefore, Changed, Lowered, Filled, Raises};
@@ -331,20 +331,34 @@ impl Candidate {
     }
 }
 
-// The set with the terminal of an A clause besides.
+// The set with the numbers from a to b besides.
+fn with_range(set: u64, a: u8, b: u8) -> u64
+    requires { ⌜ (a < 64) × (b < 64) ⌝ }
+    ensures { λ r. ⌜ Ranging set a b r ⌝ }
+{
+    let mut u = set;
+    let mut i = a;
+    while i <= b {
+        u = sets::with(u, i);
+        i += 1;
+    }
+    u
+}
+
+// The set with the terminals of an A clause besides.
 fn with_terminal(set: u64, k: Clause) -> u64
     requires { ⌜ SmallClause k ⌝ }
-    ensures { λ r. ⌜ r ≡ withTerminal set k ⌝ }
+    ensures { λ r. ⌜ Widened set k r ⌝ }
 {
     match k {
         Clause::Empty => set,
-        Clause::Atom(a) => sets::with(set, a),
+        Clause::Atom(a, b) => with_range(set, a, b),
         Clause::Unary(_, _) => set,
         Clause::Binary(_, _, _) => set,
     }
 }
 
-// The set of the terminals in the sheet's A rules.
+// The set of the terminals that the sheet's A rules cover.
 pub fn terminals(g: Grammar) -> u64
     requires { ⌜ Formed g ⌝ }
     ensures { λ r. ⌜ Terminals (rules g) r ⌝ }

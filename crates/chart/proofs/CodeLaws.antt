@@ -22,7 +22,7 @@ use Rattle.chart.proofs.PassLaws.{took-if}
 module _ (p : Sides) (k : SpanMarks) (len l n : ℕ) where
   -- no clause but a binary one stands
   pub split-low : kind n < 3 → SplitFits p k len l (clause n) → ⊥
-  split-low h = part-kind (λ (c : Clause). SplitFits p k len l c → ⊥) n h (λ q. q) (λ a q. q) (λ a u q. q)
+  split-low h = part-kind (λ (c : Clause). SplitFits p k len l c → ⊥) n h (λ q. q) (λ a b q. q) (λ a u q. q)
 
   -- where one stands, its operands are in the parts and its mark holds
   pub split-parts : (b e : ℕ) (u : BinaryMark) → 3 ≤ kind n → b ≡ first n → e ≡ second n → u ≡ binaryMark (mark n)
@@ -39,7 +39,7 @@ module _ (p : Sides) (k : SpanMarks) (len l n : ℕ) where
 
 module _ (one two : ℕ) (k : SpanMarks) (len n : ℕ) where
   pub wide-low : (t : Tally) → kind n < 2 → Wide one two k len (left n) (clause n) t t
-  wide-low t h = low-kind (λ (c : Clause). Wide one two k len (left n) c t t) n h refl (λ a. refl)
+  wide-low t h = low-kind (λ (c : Clause). Wide one two k len (left n) c t t) n h refl (λ a b. refl)
 
   pub wide-unary : (a b : ℕ) (u : UnaryMark) {t v : Tally} → kind n ≡ 2 → a ≡ left n → b ≡ first n → u ≡ unaryMark (mark n)
       → Took (In (t .one) b × UnaryBy k u) (In (t .two) b) ⊥ a t v → Wide one two k len (left n) (clause n) t v

@@ -14,7 +14,7 @@ use Rattle.grammar.specs.declared.UnaryMark.{UnaryMark}
 use Rattle.grammar.specs.declared.BinaryMark.{BinaryMark}
 use Rattle.grammar.specs.Layout.{Word}
 use Rattle.grammar.specs.Layout as Mark
-use Rattle.grammar.specs.Trees.{Rules, Tree, empty, leaf, unary, binary, root, word, Valid, valid-empty, valid-leaf, valid-unary, valid-binary, Witness, Derives, TwoTrees}
+use Rattle.grammar.specs.Trees.{Rules, Tree, empty, leaf, unary, binary, root, word, Valid, valid-empty, valid-leaf, valid-unary, valid-binary, Witness, Derives, TwoTrees, Covers}
 use Rattle.grammar.specs.SpanSheet.{part}
 use Rattle.marks.specs.Half.{Half, Completes}
 use Rattle.marks.proofs.Words.{part-length, Cut, cut}
@@ -25,7 +25,7 @@ use Rattle.order.proofs.Places.{place}
 
 atomic? : (c : Clause) → Dec (Atomic c)
 atomic? Clause.Empty = no (λ x. x)
-atomic? (Clause.Atom a) = yes tt
+atomic? (Clause.Atom a a′) = yes tt
 atomic? (Clause.Unary B m) = no (λ x. x)
 atomic? (Clause.Binary B C m) = no (λ x. x)
 
@@ -34,7 +34,7 @@ atomic? (Clause.Binary B C m) = no (λ x. x)
 -- the tree's top node follows the clause c, with a left word of l tokens
 abbrev pub Headed : Tree → Clause → ℕ → Type 0
 Headed (empty A) c l = (c ≡ Clause.Empty) × (l ≡ 0)
-Headed (leaf A t) c l = (c ≡ Clause.Atom (t .terminal)) × (l ≡ 0)
+Headed (leaf A t) c l = (a : ℕ) × (b : ℕ) × (c ≡ Clause.Atom a b) × Covers a b (t .terminal) × (l ≡ 0)
 Headed (unary A t) c l = (m : UnaryMark) × (c ≡ Clause.Unary (root t) m) × (l ≡ 0)
 Headed (binary A s t) c l = (m : BinaryMark) × (c ≡ Clause.Binary (root s) (root t) m) × (l ≡ length (word s))
 
@@ -72,12 +72,12 @@ module _ (one : Table) (g : Rules) (hf : Half) (closed : Shut one g hf) (ts : Wo
         headed = (ap (λ (r : Rule). r .clause) (q .2), refl);
       }
   top (leaf A t) (valid-leaf mem) s len h e =
-      let q = place g mem in
+      let q = place g (mem .rule) in
       record {
         i = q .0;
         l = 0;
-        stand = record { within = q .1; left = ap (λ (r : Rule). r .left) (q .2); fits = fits-as one hf s len 0 (q .2) (sym (part-length ts s len h) ∙ ap length (sym e), refl, may-be hf ts cs s len t h (sym e)) };
-        headed = (ap (λ (r : Rule). r .clause) (q .2), refl);
+        stand = record { within = q .1; left = ap (λ (r : Rule). r .left) (q .2); fits = fits-as one hf s len 0 (q .2) (sym (part-length ts s len h) ∙ ap length (sym e), refl, may-be hf ts cs s len (mem .low) (mem .high) t (mem .covers) h (sym e)) };
+        headed = (mem .low, mem .high, ap (λ (r : Rule). r .clause) (q .2), mem .covers, refl);
       }
   top (unary A t) (valid-unary m mem mark v) s len h e =
       let q = place g mem in
@@ -123,7 +123,7 @@ module _ (one two : Table) (g : Rules) (hf : Half) (closed : Shut one g hf) (clo
       → (t′ : Tree) → Valid g t′ → A ≡ root t′ → word t′ ≡ part ts s len → Headed t′ (rule g i .clause) l → (unary A u ≡ t′) ⊎ two s len A
   unfolding Same
   same-unary s len A u h ih e i l c d (empty B) v r e′ d′ = let p = d .1 in let p′ = d′ .0 in inl (cc)
-  same-unary s len A u h ih e i l c d (leaf B t) v r e′ d′ = let p = d .1 in let p′ = d′ .0 in inl (cc)
+  same-unary s len A u h ih e i l c d (leaf B t) v r e′ d′ = let p = d .1 in let p′ = d′ .2 in inl (cc)
   same-unary s len A u h ih e i l c d (unary B w) (valid-unary m mem mark v) r e′ d′ =
       let p = d .1 in
       let p′ = d′ .1 in
@@ -138,7 +138,7 @@ module _ (one two : Table) (g : Rules) (hf : Half) (closed : Shut one g hf) (clo
       → (t′ : Tree) → Valid g t′ → A ≡ root t′ → word t′ ≡ part ts s len → Headed t′ (rule g i .clause) l → (binary A u v ≡ t′) ⊎ two s len A
   unfolding Same
   same-binary s len A u v h e iu iv i l c d (empty B) vt r e′ d′ = let p = d .1 in let p′ = d′ .0 in inl (cc)
-  same-binary s len A u v h e iu iv i l c d (leaf B t) vt r e′ d′ = let p = d .1 in let p′ = d′ .0 in inl (cc)
+  same-binary s len A u v h e iu iv i l c d (leaf B t) vt r e′ d′ = let p = d .1 in let p′ = d′ .2 in inl (cc)
   same-binary s len A u v h e iu iv i l c d (unary B w) vt r e′ d′ = let p = d .1 in let p′ = d′ .1 in inl (cc)
   same-binary s len A u v h e iu iv i l c d (binary B w x) (valid-binary m mem mark vw vx) r e′ d′ =
       let p = d .1 in
@@ -196,7 +196,7 @@ module _ (one two : Table) (g : Rules) (hf : Half) (closed : Shut one g hf) (clo
     where
       same-empty : (t′ : Tree) → Valid g t′ → A ≡ root t′ → word t′ ≡ part ts s len → {c : Clause} {l : ℕ} → Headed t′ c l → Headed (empty A) c l → (empty A ≡ t′) ⊎ two s len A
       same-empty (empty B) w r e′ d′ d = inl (ap empty r)
-      same-empty (leaf B x) w r e′ d′ d = let p = d .0 in let p′ = d′ .0 in inl (cc)
+      same-empty (leaf B x) w r e′ d′ d = let p = d .0 in let p′ = d′ .2 in inl (cc)
       same-empty (unary B x) w r e′ d′ d = let p = d .0 in let p′ = d′ .1 in inl (cc)
       same-empty (binary B x y) w r e′ d′ d = let p = d .0 in let p′ = d′ .1 in inl (cc)
   same (leaf A x) v s len h t′ v′ r e e′ =
@@ -204,10 +204,10 @@ module _ (one two : Table) (g : Rules) (hf : Half) (closed : Shut one g hf) (clo
       meet s len h (leaf A x) t′ r (e ∙ sym e′) p (top one g hf closed ts cs t′ v′ s len h e′) (λ d′. same-leaf t′ v′ r e′ d′ (p .headed))
     where
       same-leaf : (t′ : Tree) → Valid g t′ → A ≡ root t′ → word t′ ≡ part ts s len → {c : Clause} {l : ℕ} → Headed t′ c l → Headed (leaf A x) c l → (leaf A x ≡ t′) ⊎ two s len A
-      same-leaf (empty B) w r e′ d′ d = let p = d .0 in let p′ = d′ .0 in inl (cc)
+      same-leaf (empty B) w r e′ d′ d = let p = d .2 in let p′ = d′ .0 in inl (cc)
       same-leaf (leaf B y) w r e′ d′ d = let q : x ∷ [] ≡ y ∷ [] = e ∙ sym e′ in inl (cc)
-      same-leaf (unary B y) w r e′ d′ d = let p = d .0 in let p′ = d′ .1 in inl (cc)
-      same-leaf (binary B y z) w r e′ d′ d = let p = d .0 in let p′ = d′ .1 in inl (cc)
+      same-leaf (unary B y) w r e′ d′ d = let p = d .2 in let p′ = d′ .1 in inl (cc)
+      same-leaf (binary B y z) w r e′ d′ d = let p = d .2 in let p′ = d′ .1 in inl (cc)
   same (unary A u) (valid-unary m mem mark v) s len h t′ v′ r e e′ =
       let p = top one g hf closed ts cs (unary A u) (valid-unary m mem mark v) s len h e in
       meet s len h (unary A u) t′ r (e ∙ sym e′) p (top one g hf closed ts cs t′ v′ s len h e′)

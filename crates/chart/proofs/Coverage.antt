@@ -34,19 +34,19 @@ module _ (ws ws′ : List ℕ) (g : Rules) (n s len : ℕ) (k : SpanMarks)
 
   leaf-at-0 : len < 2 → (c : Clause) (l : ℕ) → Inside len c l → Fits (One ws′ n) (byMarks k len) s len c l → l ≡ 0
   leaf-at-0 h Clause.Empty l d q = q .1
-  leaf-at-0 h (Clause.Atom a) l d q = q .1
+  leaf-at-0 h (Clause.Atom a a′) l d q = q .1
   leaf-at-0 h (Clause.Unary B m) l d q = absurd d
   leaf-at-0 h (Clause.Binary B C m) l d q = omega (arith, d .0, d .1)
 
   leaf-fits : len < 2 → (c : Clause) → Inside len c 0 → Fits (One ws′ n) (byMarks k len) s len c 0 → LeafFits k len c
   leaf-fits h Clause.Empty d q = q .0
-  leaf-fits h (Clause.Atom a) d q = (q .0, q .2)
+  leaf-fits h (Clause.Atom a a′) d q = (q .0, q .2)
   leaf-fits h (Clause.Unary B m) d q = d
   leaf-fits h (Clause.Binary B C m) d q = absurd (omega (arith, d .0))
 
   leaf-below : (c : Clause) → Below (Two ws′ n) s len c 0 → LeafFits k len c → ⊥
   leaf-below Clause.Empty b q = b
-  leaf-below (Clause.Atom a) b q = b
+  leaf-below (Clause.Atom a a′) b q = b
   leaf-below (Clause.Unary B m) b q = q
   leaf-below (Clause.Binary B C m) b q = q
 
@@ -59,14 +59,14 @@ module _ (ws ws′ : List ℕ) (g : Rules) (n s len : ℕ) (k : SpanMarks)
 
   split-fits : (l : ℕ) → 0 < l → l < len → (c : Clause) → Inside len c l → Fits (One ws′ n) (byMarks k len) s len c l → SplitFits (sidesAt ws n s len l) k len l c
   split-fits l x y Clause.Empty d q = absurd (omega (arith, q .1))
-  split-fits l x y (Clause.Atom a) d q = absurd (omega (arith, q .1))
+  split-fits l x y (Clause.Atom a a′) d q = absurd (omega (arith, q .1))
   split-fits l x y (Clause.Unary B m) d q = d
   split-fits l x y (Clause.Binary B C m) d q =
       (subst (λ (z : ℕ). In z B) (first s l y (omega arith)) (q .1), subst (λ (z : ℕ). In z C) (first (s + l) (len - l) (omega arith) (omega arith)) (q .2), q .3)
 
   split-below : (l : ℕ) → 0 < l → l < len → (c : Clause) → Below (Two ws′ n) s len c l → SplitFits (sidesAt ws n s len l) k len l c → SplitBelow (sidesAt ws n s len l) c
   split-below l x y Clause.Empty b q = b
-  split-below l x y (Clause.Atom a) b q = b
+  split-below l x y (Clause.Atom a a′) b q = b
   split-below l x y (Clause.Unary B m) b q = q
   split-below l x y (Clause.Binary B C m) b q =
       ⊎-elim (λ z. inl (subst (λ (z : ℕ). In z B) (second s l y (omega arith)) z)) (λ z. inr (subst (λ (z : ℕ). In z C) (second (s + l) (len - l) (omega arith) (omega arith)) z)) b
@@ -84,7 +84,7 @@ module _ (ws ws′ : List ℕ) (g : Rules) (n s len : ℕ) (k : SpanMarks)
       nothing : (c : Clause) (l : ℕ) {j : ℕ} → Inside len c l → (l < 1) ⊎ ((l ≡ 1) × (j < 0)) → Fits (One ws′ n) (byMarks k len) s len c l → ⊥
       nothing c l d (inr z) q = omega (arith, z .1)
       nothing Clause.Empty l d (inl z) q = omega (arith, q .0)
-      nothing (Clause.Atom a) l d (inl z) q = omega (arith, q .0)
+      nothing (Clause.Atom a a′) l d (inl z) q = omega (arith, q .0)
       nothing (Clause.Unary B m) l d (inl z) q = d
       nothing (Clause.Binary B C m) l d (inl z) q = omega (arith, d .0)
   splits-all h b (splits-more {l = l} {t = t} {u = u} q w) =
@@ -94,7 +94,7 @@ module _ (ws ws′ : List ℕ) (g : Rules) (n s len : ℕ) (k : SpanMarks)
 
   inside-below : 2 ≤ len → (c : Clause) (l : ℕ) → Inside len c l → Fits (One ws′ n) (byMarks k len) s len c l → l < len
   inside-below h Clause.Empty l d q = omega (arith, q .1)
-  inside-below h (Clause.Atom a) l d q = omega (arith, q .1)
+  inside-below h (Clause.Atom a a′) l d q = omega (arith, q .1)
   inside-below h (Clause.Unary B m) l d q = absurd d
   inside-below h (Clause.Binary B C m) l d q = d .1
 
@@ -126,7 +126,7 @@ module _ (ws ws′ : List ℕ) (g : Rules) (n s len : ℕ) (k : SpanMarks)
 
     wide-still : (i : ℕ) (c : Clause) → rule g i .clause ≡ c → (t u : Tally) → Wide one two k len (rule g i .left) c t u → Stills (WideDone g len (i + 1)) t → Stills (WideDone g len i) u
     wide-still i Clause.Empty e t u w h = subst (Stills (WideDone g len i)) (sym w) (still-same g Held Doubled f p (WideDone g len (i + 1)) (WideDone g len i) t (wide-skip i Clause.Empty e (λ l x. x)) h)
-    wide-still i (Clause.Atom a) e t u w h = subst (Stills (WideDone g len i)) (sym w) (still-same g Held Doubled f p (WideDone g len (i + 1)) (WideDone g len i) t (wide-skip i (Clause.Atom a) e (λ l x. x)) h)
+    wide-still i (Clause.Atom a a′) e t u w h = subst (Stills (WideDone g len i)) (sym w) (still-same g Held Doubled f p (WideDone g len (i + 1)) (WideDone g len i) t (wide-skip i (Clause.Atom a a′) e (λ l x. x)) h)
     wide-still i (Clause.Unary B m) e t u w h =
         still-took g Held Doubled f p (WideDone g len (i + 1)) (WideDone g len i) i 0 (rule g i .left) t u
         (wide-to i (Clause.Unary B m) e 0 (λ l x. x))

@@ -104,7 +104,7 @@ Parts one one′ s len = (a b B : ℕ) → s ≤ a → a + b ≤ s + len → one
 
 fits-by : (one one′ : Table) (v : Leave) (s len : ℕ) (c : Clause) (l : ℕ) → Parts one one′ s len → Fits one v s len c l → Fits one′ v s len c l
 fits-by one one′ v s len Clause.Empty l f q = q
-fits-by one one′ v s len (Clause.Atom a) l f q = q
+fits-by one one′ v s len (Clause.Atom a a′) l f q = q
 fits-by one one′ v s len (Clause.Unary B m) l f q = (f s len B (omega arith) (omega arith) (q .0), q .1, q .2)
 fits-by one one′ v s len (Clause.Binary B C m) l f q =
     let h : l ≤ len = q .0 in
@@ -112,7 +112,7 @@ fits-by one one′ v s len (Clause.Binary B C m) l f q =
 
 below-by : (one two two′ : Table) (v : Leave) (s len : ℕ) (c : Clause) (l : ℕ) → Parts two two′ s len → Fits one v s len c l → Below two s len c l → Below two′ s len c l
 below-by one two two′ v s len Clause.Empty l f q b = b
-below-by one two two′ v s len (Clause.Atom a) l f q b = b
+below-by one two two′ v s len (Clause.Atom a a′) l f q b = b
 below-by one two two′ v s len (Clause.Unary B m) l f q b = f s len B (omega arith) (omega arith) b
 below-by one two two′ v s len (Clause.Binary B C m) l f q b =
     let h : l ≤ len = q .0 in
@@ -156,14 +156,14 @@ Anywhere one = (s s′ B : ℕ) → one s 0 B → one s′ 0 B
 
 fits-empty : (one : Table) (h : Half) (s s′ : ℕ) (c : Clause) (l : ℕ) → Anywhere one → Fits one (byTokens h s 0) s 0 c l → Fits one (byTokens h s′ 0) s′ 0 c l
 fits-empty one h s s′ Clause.Empty l f q = q
-fits-empty one h s s′ (Clause.Atom a) l f q = absurd (let z : _≡_ {A = ℕ} 0 1 = q .0 in omega arith)
+fits-empty one h s s′ (Clause.Atom a a′) l f q = absurd (let z : _≡_ {A = ℕ} 0 1 = q .0 in omega arith)
 fits-empty one h s s′ (Clause.Unary B m) l f q = (f s s′ B (q .0), record { keeps = λ i x. absurd (not-suc-le-zero x) }, q .2)
 fits-empty one h s s′ (Clause.Binary B C m) zero f q = (q .0, f s s′ B (q .1), f (s + 0) (s′ + 0) C (q .2), record { pairs = λ x. absurd (not-suc-le-zero x) })
 fits-empty one h s s′ (Clause.Binary B C m) (suc l) f q = absurd (not-suc-le-zero (q .0))
 
 below-empty : (one two : Table) (v : Leave) (s s′ : ℕ) (c : Clause) (l : ℕ) → Anywhere two → Fits one v s 0 c l → Below two s 0 c l → Below two s′ 0 c l
 below-empty one two v s s′ Clause.Empty l f q b = b
-below-empty one two v s s′ (Clause.Atom a) l f q b = b
+below-empty one two v s s′ (Clause.Atom a a′) l f q b = b
 below-empty one two v s s′ (Clause.Unary B m) l f q b = f s s′ B b
 below-empty one two v s s′ (Clause.Binary B C m) zero f q b = ⊎-elim (λ x. inl (f s s′ B x)) (λ x. inr (f (s + 0) (s′ + 0) C x)) b
 below-empty one two v s s′ (Clause.Binary B C m) (suc l) f q b = absurd (not-suc-le-zero (q .0))

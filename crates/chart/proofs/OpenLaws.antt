@@ -13,13 +13,13 @@ use Rattle.chart.proofs.Views.{Yields, stand-view, again-view}
 -- where nothing is known, the tokens leave everything
 open-yields : (h : Half) (a b : ℕ) → h .known ≤ a → Yields anything (byTokens h a b) b
 open-yields h a b k = record {
-  atom = λ e x u. record { terminal = λ l. absurd (omega arith) };
+  atom = λ e x y u. record { terminal = λ l. absurd (omega arith) };
   unary = λ m u. record { keeps = λ i l q. absurd (omega arith) };
   binary = λ m l f u. record { pairs = λ x y q. absurd (omega arith) };
 }
 
 yields-open : (h : Half) (a b : ℕ) → Yields (byTokens h a b) anything b
-yields-open h a b = record { atom = λ e x u. tt; unary = λ m u. tt; binary = λ m l f u. tt }
+yields-open h a b = record { atom = λ e x y u. tt; unary = λ m u. tt; binary = λ m l f u. tt }
 
 -- so each such span is settled
 pub open-settled : {g : Rules} {n : ℕ} {ws : List ℕ} {to : ℕ} → Open g n ws to → (h : Half) → h .known ≤ to → (a b : ℕ) → to ≤ a → 0 < b → a + b ≤ n → Settled (One ws n) (Two ws n) g h a b

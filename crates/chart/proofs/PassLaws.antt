@@ -38,7 +38,7 @@ took-if to of (stood again atomic q w b f) = stood again atomic (to q) w b f
 
 split-none : (p : Sides) (k : SpanMarks) (len l : ℕ) (c : Clause) → (p .left .one ≡ 0) ⊎ (p .right .one ≡ 0) → SplitFits p k len l c → ⊥
 split-none p k len l Clause.Empty e q = q
-split-none p k len l (Clause.Atom a) e q = q
+split-none p k len l (Clause.Atom a a′) e q = q
 split-none p k len l (Clause.Unary B m) e q = q
 split-none p k len l (Clause.Binary B C m) e q = ⊎-elim (λ x. in-zero B (subst (λ (z : ℕ). In z B) x (q .0))) (λ x. in-zero C (subst (λ (z : ℕ). In z C) x (q .1))) e
 
@@ -50,7 +50,7 @@ row-idle p k len l g t e (suc i) =
 
 wide-none : (one two : ℕ) (k : SpanMarks) (len a : ℕ) (c : Clause) (t : Tally) → t .one ≡ 0 → Wide one two k len a c t t
 wide-none one two k len a Clause.Empty t e = refl
-wide-none one two k len a (Clause.Atom c) t e = refl
+wide-none one two k len a (Clause.Atom c c′) t e = refl
 wide-none one two k len a (Clause.Unary B m) t e = fell (λ q. in-zero B (subst (λ (z : ℕ). In z B) e (q .0))) refl
 wide-none one two k len a (Clause.Binary B C m) t e = go (ℕ-discrete len 0)
   where
@@ -70,7 +70,7 @@ saturated-idle one two k len g b e = record { passes = passes-none; last = resum
 
 wide-one : (one two : ℕ) (k : SpanMarks) (len a : ℕ) (c : Clause) (t u : Tally) → Wide one two k len a c t u → (t .one ≤ u .one) × (t .two ≤ u .two)
 wide-one one two k len a Clause.Empty t u e = let x = ap (λ (z : Tally). z .one) e in let y = ap (λ (z : Tally). z .two) e in (omega arith, omega arith)
-wide-one one two k len a (Clause.Atom c) t u e = let x = ap (λ (z : Tally). z .one) e in let y = ap (λ (z : Tally). z .two) e in (omega arith, omega arith)
+wide-one one two k len a (Clause.Atom c c′) t u e = let x = ap (λ (z : Tally). z .one) e in let y = ap (λ (z : Tally). z .two) e in (omega arith, omega arith)
 wide-one one two k len a (Clause.Unary B m) t u w = (took-one w, took-two w)
 wide-one one two k len a (Clause.Binary B C m) t u (alone z w) = (took-one w, took-two w)
 wide-one one two k len a (Clause.Binary B C m) t u (both z v w w′) = (omega (arith, took-one w, took-one w′), omega (arith, took-two w, took-two w′))
@@ -91,7 +91,7 @@ sum-grows f h a b x y z = go (decLt (f + h) (a + b))
 
 wide-in : (one two : ℕ) (k : SpanMarks) (len a : ℕ) (c : Clause) (t u : Tally) → Wide one two k len a c t u → (A : ℕ) → (In (t .one) A → In (u .one) A) × (In (t .two) A → In (u .two) A)
 wide-in one two k len a Clause.Empty t u e A = (subst (λ (z : Tally). In (z .one) A) (sym e), subst (λ (z : Tally). In (z .two) A) (sym e))
-wide-in one two k len a (Clause.Atom c) t u e A = (subst (λ (z : Tally). In (z .one) A) (sym e), subst (λ (z : Tally). In (z .two) A) (sym e))
+wide-in one two k len a (Clause.Atom c c′) t u e A = (subst (λ (z : Tally). In (z .one) A) (sym e), subst (λ (z : Tally). In (z .two) A) (sym e))
 wide-in one two k len a (Clause.Unary B m) t u w A = (took-in-one w A, took-in-two w A)
 wide-in one two k len a (Clause.Binary B C m) t u (alone z w) A = (took-in-one w A, took-in-two w A)
 wide-in one two k len a (Clause.Binary B C m) t u (both z v w w′) A = (λ x. took-in-one w′ A (took-in-one w A x), λ x. took-in-two w′ A (took-in-two w A x))
@@ -115,19 +115,19 @@ passes-two (passes-more q w) A m = pass-in w A .1 (passes-two q A m)
 
 abbrev pub Inside : ℕ → Clause → ℕ → Type 0
 Inside len Clause.Empty l = Unit {0}
-Inside len (Clause.Atom a) l = Unit {0}
+Inside len (Clause.Atom a a′) l = Unit {0}
 Inside len (Clause.Unary B m) l = ⊥
 Inside len (Clause.Binary B C m) l = (0 < l) × (l < len)
 
 abbrev pub Edge : ℕ → Clause → ℕ → Type 0
 Edge len Clause.Empty l = ⊥
-Edge len (Clause.Atom a) l = ⊥
+Edge len (Clause.Atom a a′) l = ⊥
 Edge len (Clause.Unary B m) l = l ≡ 0
 Edge len (Clause.Binary B C m) l = (l ≡ 0) ⊎ (l ≡ len)
 
 pub inside-or-edge : (one : Table) (v : Leave) (s len : ℕ) (c : Clause) (l : ℕ) → Fits one v s len c l → Inside len c l ⊎ Edge len c l
 inside-or-edge one v s len Clause.Empty l q = inl tt
-inside-or-edge one v s len (Clause.Atom a) l q = inl tt
+inside-or-edge one v s len (Clause.Atom a a′) l q = inl tt
 inside-or-edge one v s len (Clause.Unary B m) l q = inr (q .2)
 inside-or-edge one v s len (Clause.Binary B C m) l q = go (ℕ-discrete l 0) (ℕ-discrete l len)
   where
@@ -172,19 +172,19 @@ after-or-at i j h = go (decLt i j)
 
 leaf-inside : (k : SpanMarks) (len : ℕ) (c : Clause) → LeafFits k len c → Inside len c 0
 leaf-inside k len Clause.Empty q = tt
-leaf-inside k len (Clause.Atom a) q = tt
+leaf-inside k len (Clause.Atom a a′) q = tt
 leaf-inside k len (Clause.Unary B m) q = q
 leaf-inside k len (Clause.Binary B C m) q = absurd q
 
 split-inside : (p : Sides) (k : SpanMarks) (len l : ℕ) → 0 < l → l < len → (c : Clause) → SplitFits p k len l c → Inside len c l
 split-inside p k len l x y Clause.Empty q = tt
-split-inside p k len l x y (Clause.Atom a) q = tt
+split-inside p k len l x y (Clause.Atom a a′) q = tt
 split-inside p k len l x y (Clause.Unary B m) q = q
 split-inside p k len l x y (Clause.Binary B C m) q = (x, y)
 
 pub split-firm : (p : Sides) (k : SpanMarks) (len l : ℕ) (c : Clause) → SplitFits p k len l c → Atomic c → ⊥
 split-firm p k len l Clause.Empty q a = a
-split-firm p k len l (Clause.Atom b) q a = q
+split-firm p k len l (Clause.Atom b b′) q a = q
 split-firm p k len l (Clause.Unary B m) q a = a
 split-firm p k len l (Clause.Binary B C m) q a = a
 
@@ -251,7 +251,7 @@ module _ (g : Rules) (h : Half) (inner : h .known ≤ length (h .word)) (distinc
 
   leaf-truth : (c : Clause) → LeafFits k len c → Fits (Truth g h) (byTokens h s len) s len c 0
   leaf-truth Clause.Empty q = (q, refl)
-  leaf-truth (Clause.Atom a) q = (q .0, refl, marked .atom (q .0) a .0 (q .1))
+  leaf-truth (Clause.Atom a a′) q = (q .0, refl, marked .atom (q .0) a a′ .0 (q .1))
   leaf-truth (Clause.Unary B m) q = absurd q
   leaf-truth (Clause.Binary B C m) q = absurd q
 
@@ -265,7 +265,7 @@ module _ (g : Rules) (h : Half) (inner : h .known ≤ length (h .word)) (distinc
   module _ (ws : List ℕ) (n : ℕ) (ground : Ground ws g h n s len) where
     split-truth : (l : ℕ) → 0 < l → l < len → (c : Clause) → SplitFits (sidesAt ws n s len l) k len l c → Fits (Truth g h) (byTokens h s len) s len c l
     split-truth l x y Clause.Empty q = absurd q
-    split-truth l x y (Clause.Atom a) q = absurd q
+    split-truth l x y (Clause.Atom a a′) q = absurd q
     split-truth l x y (Clause.Unary B m) q = absurd q
     split-truth l x y (Clause.Binary B C m) q = (
       omega arith,
@@ -276,7 +276,7 @@ module _ (g : Rules) (h : Half) (inner : h .known ≤ length (h .word)) (distinc
 
     split-below : (l : ℕ) → 0 < l → l < len → (c : Clause) → SplitBelow (sidesAt ws n s len l) c → Below (Truth₂ g h) s len c l
     split-below l x y Clause.Empty q = q
-    split-below l x y (Clause.Atom a) q = q
+    split-below l x y (Clause.Atom a a′) q = q
     split-below l x y (Clause.Unary B m) q = absurd q
     split-below l x y (Clause.Binary B C m) q =
         ⊎-elim (λ z. inl (ground .parts s l (omega arith) (omega arith) y .more B (omega arith) z))
@@ -309,7 +309,7 @@ module _ (g : Rules) (h : Half) (inner : h .known ≤ length (h .word)) (distinc
 
     wide-from : (i : ℕ) → i < length g → (c : Clause) → rule g i .clause ≡ c → (t u : Tally) → Wide one two k len (rule g i .left) c t u → Sounds (WideDone g len (i + 1)) t → Sounds (WideDone g len i) u
     wide-from i b Clause.Empty e t u w f = subst (Sounds (WideDone g len i)) (sym w) (from-same g Real HasOne HasTwo (WideDone g len (i + 1)) (WideDone g len i) t (wide-done-on g len i) f)
-    wide-from i b (Clause.Atom a) e t u w f = subst (Sounds (WideDone g len i)) (sym w) (from-same g Real HasOne HasTwo (WideDone g len (i + 1)) (WideDone g len i) t (wide-done-on g len i) f)
+    wide-from i b (Clause.Atom a a′) e t u w f = subst (Sounds (WideDone g len i)) (sym w) (from-same g Real HasOne HasTwo (WideDone g len (i + 1)) (WideDone g len i) t (wide-done-on g len i) f)
     wide-from i b (Clause.Unary B m) e t u w f =
         from-took g Real HasOne HasTwo (WideDone g len (i + 1)) (WideDone g len i) i 0 (rule g i .left) t u
         (wide-new g len i 0 (Clause.Unary B m) e (λ x. x)) (wide-done-on g len i) (λ x. inr (omega arith, subst (λ (y : Clause). Edge len y 0) (sym e) refl))

@@ -88,10 +88,10 @@ whole w = record { word = w; known = length w }
 module _ (g : Rules) (w : Word) (ws : List ℕ) (sheet : SpanSheet g w ws) (s len : ℕ) (fit : s + len ≤ length w) where
   fits-can : (c : Clause) → SmallClause c → (l : ℕ) → Fits (One ws (length w)) (byTokens (whole w) s len) s len c l → Can g (part w s len) c l
   fits-can Clause.Empty small l q = (no-word (part w s len) (part-length w s len fit ∙ q .0), q .1)
-  fits-can (Clause.Atom a) small l q =
+  fits-can (Clause.Atom a a′) small l q =
       let n : len ≡ 1 = q .0 in
-      let d = is-one (whole w) (omega arith) s a (omega arith) (q .2) in
-      (d .0, ap (part w s) n ∙ d .1, sym (d .2), q .1)
+      let d = is-one (whole w) (omega arith) s a a′ (omega arith) (q .2) in
+      (d .0, ap (part w s) n ∙ d .1, d .2, q .1)
   fits-can (Clause.Unary B m) small l q = (sheet .one s len B fit small .0 (q .0), does-keep (whole w) (omega arith) m s len fit (q .1), q .2)
   fits-can (Clause.Binary B C m) small l q =
       let k : l ≤ len = q .0 in
@@ -101,8 +101,8 @@ module _ (g : Rules) (w : Word) (ws : List ℕ) (sheet : SpanSheet g w ws) (s le
 
   can-fits : (c : Clause) → SmallClause c → (l : ℕ) → Can g (part w s len) c l → Fits (One ws (length w)) (byTokens (whole w) s len) s len c l
   can-fits Clause.Empty small l q = (sym (part-length w s len fit) ∙ ap length (q .0), q .1)
-  can-fits (Clause.Atom a) small l q =
-      (sym (part-length w s len fit) ∙ ap length (q .1), q .3, subst (λ (x : ℕ). byTokens (whole w) s len .atom x) (sym (q .2)) (may-be (whole w) w (completes-self (whole w)) s len (q .0) fit (q .1)))
+  can-fits (Clause.Atom a a′) small l q =
+      (sym (part-length w s len fit) ∙ ap length (q .1), q .3, may-be (whole w) w (completes-self (whole w)) s len a a′ (q .0) (q .2) fit (q .1))
   can-fits (Clause.Unary B m) small l q = (sheet .one s len B fit small .1 (q .0), may-keep (whole w) w (completes-self (whole w)) m s len fit (q .1), q .2)
   can-fits (Clause.Binary B C m) small l q =
       let k : l ≤ len = omega (arith, part-length w s len fit, q .0) in

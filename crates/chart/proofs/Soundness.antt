@@ -25,7 +25,7 @@ use Rattle.chart.proofs.Completeness.{Headed}
 -- one tree follows clauses that are alike, with one left length
 headed-alike : (t : Tree) (c c′ : Clause) (l l′ : ℕ) → Headed t c l → Headed t c′ l′ → Alike c c′ × (l ≡ l′)
 headed-alike (empty A) c c′ l l′ h h′ = (subst₂ Alike (sym (h .0)) (sym (h′ .0)) tt, h .1 ∙ sym (h′ .1))
-headed-alike (leaf A t) c c′ l l′ h h′ = (subst₂ Alike (sym (h .0)) (sym (h′ .0)) refl, h .1 ∙ sym (h′ .1))
+headed-alike (leaf A t) c c′ l l′ h h′ = (subst₂ Alike (sym (h .2)) (sym (h′ .2)) (t .terminal, h .3, h′ .3), h .4 ∙ sym (h′ .4))
 headed-alike (unary A t) c c′ l l′ h h′ = (subst₂ Alike (sym (h .1)) (sym (h′ .1)) refl, h .2 ∙ sym (h′ .2))
 headed-alike (binary A s t) c c′ l l′ h h′ = (subst₂ Alike (sym (h .1)) (sym (h′ .1)) (refl, refl), h .2 ∙ sym (h′ .2))
 
@@ -49,13 +49,13 @@ module _ (one : Table) (g : Rules) (hf : Half) (inner : hf .known ≤ length (hf
   grow : (A l : ℕ) (c : Clause) → List·Memᴰ (record { left = A; clause = c }) g → Fits one (byTokens hf s len) s len c l → Grown g A (part (hf .word) s len) c l
   grow A l Clause.Empty m q =
       record { tree = empty A; witness = record { rooted = refl; spelled = ap (part (hf .word) s) (sym (q .0)); valid = valid-empty m }; headed = (refl, q .1) }
-  grow A l (Clause.Atom a) m q =
+  grow A l (Clause.Atom a a′) m q =
       let n : len ≡ 1 = q .0 in
-      let d = is-one hf inner s a (omega arith) (q .2) in
+      let d = is-one hf inner s a a′ (omega arith) (q .2) in
       record {
         tree = leaf A (d .0);
-        witness = record { rooted = refl; spelled = sym (ap (part (hf .word) s) n ∙ d .1); valid = valid-leaf (subst (λ (x : ℕ). List·Memᴰ (record { left = A; clause = Clause.Atom x }) g) (sym (d .2)) m) };
-        headed = (ap Clause.Atom (sym (d .2)), q .1);
+        witness = record { rooted = refl; spelled = sym (ap (part (hf .word) s) n ∙ d .1); valid = valid-leaf (record { low = a; high = a′; rule = m; covers = d .2 }) };
+        headed = (a, a′, refl, d .2, q .1);
       }
   grow A l (Clause.Unary B k) m q =
       let d = sound s len B (omega arith) (omega arith) (q .0) in
@@ -114,7 +114,7 @@ module _ (one two : Table) (g : Rules) (hf : Half) (inner : hf .known ≤ length
   -- two trees below a rule have two trees above
   two-below : (A l : ℕ) (c : Clause) → List·Memᴰ (record { left = A; clause = c }) g → Fits one (byTokens hf s len) s len c l → Below two s len c l → TwoTrees g A (part (hf .word) s len)
   two-below A l Clause.Empty m q b = absurd b
-  two-below A l (Clause.Atom a) m q b = absurd b
+  two-below A l (Clause.Atom a a′) m q b = absurd b
   two-below A l (Clause.Unary B k) m q b =
       let d = sound₂ s len B (omega arith) (omega arith) b in
       record {

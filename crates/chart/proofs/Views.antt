@@ -17,13 +17,13 @@ use Rattle.chart.specs.Tables.Again.{apart, below}
 -- a left word is no longer than the clause allows, and than the whole
 pub fits-le : (one : Table) (v : Leave) (s len : ℕ) (c : Clause) (l : ℕ) → Fits one v s len c l → l ≤ lefts c len
 fits-le one v s len Clause.Empty l q = omega (arith, q .1)
-fits-le one v s len (Clause.Atom a) l q = omega (arith, q .1)
+fits-le one v s len (Clause.Atom a a′) l q = omega (arith, q .1)
 fits-le one v s len (Clause.Unary B m) l q = omega (arith, q .2)
 fits-le one v s len (Clause.Binary B C m) l q = q .0
 
 pub lefts-le : (c : Clause) (len : ℕ) → lefts c len ≤ len
 lefts-le Clause.Empty len = omega arith
-lefts-le (Clause.Atom a) len = omega arith
+lefts-le (Clause.Atom a a′) len = omega arith
 lefts-le (Clause.Unary B m) len = omega arith
 lefts-le (Clause.Binary B C m) len = omega arith
 
@@ -31,20 +31,20 @@ lefts-le (Clause.Binary B C m) len = omega arith
 
 -- what one view leaves to a clause, another does
 pub record Yields (v v′ : Leave) (len : ℕ) : Type 0 where
-  pub atom : len ≡ 1 → (a : ℕ) → v .atom a → v′ .atom a
+  pub atom : len ≡ 1 → (a b : ℕ) → v .atom a b → v′ .atom a b
   pub unary : (m : UnaryMark) → v .unary m → v′ .unary m
   pub binary : (m : BinaryMark) (l : ℕ) → l ≤ len → v .binary m l → v′ .binary m l
 
 -- the marks of a span say what the definitions say
 pub marks-tokens : (h : Half) (s len : ℕ) (k : SpanMarks) → Marked h s len k → Yields (byMarks k len) (byTokens h s len) len
-marks-tokens h s len k m = record { atom = λ e a. m .atom e a .0; unary = λ x. m .unary x .0; binary = λ x l f. m .binary x l f .0 }
+marks-tokens h s len k m = record { atom = λ e a b. m .atom e a b .0; unary = λ x. m .unary x .0; binary = λ x l f. m .binary x l f .0 }
 
 pub tokens-marks : (h : Half) (s len : ℕ) (k : SpanMarks) → Marked h s len k → Yields (byTokens h s len) (byMarks k len) len
-tokens-marks h s len k m = record { atom = λ e a. m .atom e a .1; unary = λ x. m .unary x .1; binary = λ x l f. m .binary x l f .1 }
+tokens-marks h s len k m = record { atom = λ e a b. m .atom e a b .1; unary = λ x. m .unary x .1; binary = λ x l f. m .binary x l f .1 }
 
 pub fits-view : (one : Table) (v v′ : Leave) (s len : ℕ) (c : Clause) (l : ℕ) → Yields v v′ len → Fits one v s len c l → Fits one v′ s len c l
 fits-view one v v′ s len Clause.Empty l f q = q
-fits-view one v v′ s len (Clause.Atom a) l f q = (q .0, q .1, f .atom (q .0) a (q .2))
+fits-view one v v′ s len (Clause.Atom a a′) l f q = (q .0, q .1, f .atom (q .0) a a′ (q .2))
 fits-view one v v′ s len (Clause.Unary B m) l f q = (q .0, f .unary m (q .1), q .2)
 fits-view one v v′ s len (Clause.Binary B C m) l f q = (q .0, q .1, q .2, f .binary m l (q .0) (q .3))
 

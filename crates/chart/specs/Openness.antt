@@ -6,7 +6,7 @@ use Rattle.chart.specs.Tables.{One, Two, Leave, Stand, Again}
 
 -- an open token leaves everything to every clause
 abbrev pub anything : Leave
-anything = record { atom = λ a. Unit {0}; unary = λ m. Unit {0}; binary = λ m l. Unit {0} }
+anything = record { atom = λ a b. Unit {0}; unary = λ m. Unit {0}; binary = λ m l. Unit {0} }
 
 -- of the spans of n tokens that begin at or past `to`, the words ws have all that can stand over open tokens
 pub record Open (g : Rules) (n : ℕ) (ws : List ℕ) (to : ℕ) : Type 0 where

@@ -71,14 +71,14 @@ sidesAt ws n s len l = record { left = pairOf ws n s l; right = pairOf ws n (s +
 -- a clause stands over the two parts
 abbrev pub SplitFits : Sides → SpanMarks → ℕ → ℕ → Clause → Type 0
 SplitFits p k len l Clause.Empty = ⊥
-SplitFits p k len l (Clause.Atom a) = ⊥
+SplitFits p k len l (Clause.Atom a b) = ⊥
 SplitFits p k len l (Clause.Unary B m) = ⊥
 SplitFits p k len l (Clause.Binary B C m) = In (p .left .one) B × In (p .right .one) C × BinaryBy k len m l
 
 -- one of them has two trees
 abbrev pub SplitBelow : Sides → Clause → Type 0
 SplitBelow p Clause.Empty = ⊥
-SplitBelow p (Clause.Atom a) = ⊥
+SplitBelow p (Clause.Atom a b) = ⊥
 SplitBelow p (Clause.Unary B m) = ⊥
 SplitBelow p (Clause.Binary B C m) = In (p .left .two) B ⊎ In (p .right .two) C
 
@@ -96,7 +96,7 @@ pub data Splits (ws : List ℕ) (n s len : ℕ) (k : SpanMarks) (g : Rules) : �
 -- a clause stands over no token or one by itself
 abbrev pub LeafFits : SpanMarks → ℕ → Clause → Type 0
 LeafFits k len Clause.Empty = len ≡ 0
-LeafFits k len (Clause.Atom a) = (len ≡ 1) × AtomBy k a
+LeafFits k len (Clause.Atom a b) = (len ≡ 1) × AtomBy k a b
 LeafFits k len (Clause.Unary B m) = ⊥
 LeafFits k len (Clause.Binary B C m) = ⊥
 
@@ -121,7 +121,7 @@ pub data Beside (one two len a b e : ℕ) (t v : Tally) : Type 0 where
 -- a clause for a is tried with the whole span on one side
 abbrev pub Wide : ℕ → ℕ → SpanMarks → ℕ → ℕ → Clause → Tally → Tally → Type 0
 Wide one two k len a Clause.Empty t u = u ≡ t
-Wide one two k len a (Clause.Atom c) t u = u ≡ t
+Wide one two k len a (Clause.Atom c d) t u = u ≡ t
 Wide one two k len a (Clause.Unary B m) t u = Took (In (t .one) B × UnaryBy k m) (In (t .two) B) ⊥ a t u
 Wide one two k len a (Clause.Binary B C m) t u = Beside one two len a B C t u
 

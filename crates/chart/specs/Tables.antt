@@ -35,31 +35,31 @@ One ws n s len A = In (firstWord ws n s len) A
 abbrev pub Two : List ℕ → ℕ → Table
 Two ws n s len A = In (secondWord ws n s len) A
 
--- what the tokens of a span leave to a clause: to a terminal, to a unary mark, to a binary mark with l tokens on its left
+-- what the tokens of a span leave to a clause: to the terminals from a to b, to a unary mark, to a binary mark with l tokens on its left
 pub record Leave : Type 1 where
-  pub atom : ℕ → Type 0
+  pub atom : ℕ → ℕ → Type 0
   pub unary : UnaryMark → Type 0
   pub binary : BinaryMark → ℕ → Type 0
 
 -- by the definitions, of the span of len tokens from s on
 abbrev pub byTokens : Half → ℕ → ℕ → Leave
-byTokens h s len = record { atom = λ a. MayBe h s a; unary = λ m. MayKeep m h s len; binary = λ m l. MayPair m h s l (len - l) }
+byTokens h s len = record { atom = λ a b. MayBe h s a b; unary = λ m. MayKeep m h s len; binary = λ m l. MayPair m h s l (len - l) }
 
 -- by the marks that were worked out
 abbrev pub byMarks : SpanMarks → ℕ → Leave
-byMarks k len = record { atom = λ a. AtomBy k a; unary = λ m. UnaryBy k m; binary = λ m l. BinaryBy k len m l }
+byMarks k len = record { atom = λ a b. AtomBy k a b; unary = λ m. UnaryBy k m; binary = λ m l. BinaryBy k len m l }
 
 -- a clause fits the span of len tokens from s on, its left word l tokens long (0 where there is none)
 abbrev pub Fits : Table → Leave → ℕ → ℕ → Clause → ℕ → Type 0
 Fits one v s len Clause.Empty l = (len ≡ 0) × (l ≡ 0)
-Fits one v s len (Clause.Atom a) l = (len ≡ 1) × (l ≡ 0) × v .atom a
+Fits one v s len (Clause.Atom a b) l = (len ≡ 1) × (l ≡ 0) × v .atom a b
 Fits one v s len (Clause.Unary B m) l = one s len B × v .unary m × (l ≡ 0)
 Fits one v s len (Clause.Binary B C m) l = (l ≤ len) × one s l B × one (s + l) (len - l) C × v .binary m l
 
 -- the longest left word that a clause can have over len tokens
 abbrev pub lefts : Clause → ℕ → ℕ
 lefts Clause.Empty len = 0
-lefts (Clause.Atom a) len = 0
+lefts (Clause.Atom a b) len = 0
 lefts (Clause.Unary B m) len = 0
 lefts (Clause.Binary B C m) len = len
 
@@ -69,10 +69,10 @@ pub record Stand (one : Table) (g : Rules) (v : Leave) (s len A i l : ℕ) : Typ
   pub left : rule g i .left ≡ A
   pub fits : Fits one v s len (rule g i .clause) l
 
--- the clause is a terminal
+-- the clause is one of terminals
 abbrev pub Atomic : Clause → Type 0
 Atomic Clause.Empty = ⊥
-Atomic (Clause.Atom a) = Unit {0}
+Atomic (Clause.Atom a b) = Unit {0}
 Atomic (Clause.Unary B m) = ⊥
 Atomic (Clause.Binary B C m) = ⊥
 
@@ -84,7 +84,7 @@ pub record Rivals (g : Rules) (i l j k : ℕ) : Type 0 where
 -- a word below a clause is in the table two
 abbrev pub Below : Table → ℕ → ℕ → Clause → ℕ → Type 0
 Below two s len Clause.Empty l = ⊥
-Below two s len (Clause.Atom a) l = ⊥
+Below two s len (Clause.Atom a b) l = ⊥
 Below two s len (Clause.Unary B m) l = two s len B
 Below two s len (Clause.Binary B C m) l = two s l B ⊎ two (s + l) (len - l) C
 

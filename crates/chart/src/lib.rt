@@ -124,14 +124,14 @@ fn clause_fits(
 {
     match c {
         Clause::Empty => { if len == 0 { left == 0 } else { false } }
-        Clause::Atom(a) => {
+        Clause::Atom(a, b) => {
             if len != 1 {
                 return false;
             }
             if left != 0 {
                 return false;
             }
-            allows_atom(k, a)
+            allows_atom(k, a, b)
         }
         Clause::Unary(b, m) => fits_unary(words, n, b, m, start, len, left, k),
         Clause::Binary(b, e, m) => fits_binary(words, n, b, e, m, start, len, left, k),
@@ -144,7 +144,7 @@ fn last_left(c: Clause, len: usize) -> usize
 {
     match c {
         Clause::Empty => 0,
-        Clause::Atom(_) => 0,
+        Clause::Atom(_, _) => 0,
         Clause::Unary(_, _) => 0,
         Clause::Binary(_, _, _) => len,
     }
@@ -359,11 +359,11 @@ fn try_leaf(t: Tally, r: Rule, k: SpanMarks, len: usize) -> Tally
                 t
             }
         }
-        Clause::Atom(a) => {
+        Clause::Atom(a, b) => {
             if len != 1 {
                 return t;
             }
-            if !allows_atom(k, a) {
+            if !allows_atom(k, a, b) {
                 return t;
             }
             found(t, r.left, false, true)

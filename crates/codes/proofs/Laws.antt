@@ -23,7 +23,7 @@ below-64 n = omega arith
 
 small-of : (k m b e : ℕ) → b < 64 → e < 64 → SmallClause (clauseOf k m b e)
 small-of zero m b e p q = tt
-small-of (suc zero) m b e p q = p
+small-of (suc zero) m b e p q = (p, q)
 small-of (suc (suc zero)) m b e p q = p
 small-of (suc (suc (suc k))) m b e p q = (p, q)
 
@@ -53,9 +53,9 @@ pub is-empty : (n : ℕ) → kind n ≡ 0 → Clause.Empty ≡ clause n
 unfolding clause
 is-empty n k = ap (λ (x : ℕ). clauseOf x (mark n) (first n) (second n)) (sym k)
 
-pub is-atom : (n a : ℕ) → kind n ≡ 1 → a ≡ first n → Clause.Atom a ≡ clause n
+pub is-atom : (n a b : ℕ) → kind n ≡ 1 → a ≡ first n → b ≡ second n → Clause.Atom a b ≡ clause n
 unfolding clause
-is-atom n a k e = ap Clause.Atom e ∙ ap (λ (x : ℕ). clauseOf x (mark n) (first n) (second n)) (sym k)
+is-atom n a b k e h = ap (λ (x : ℕ). Clause.Atom x b) e ∙ ap (Clause.Atom (first n)) h ∙ ap (λ (x : ℕ). clauseOf x (mark n) (first n) (second n)) (sym k)
 
 pub is-unary : (n b : ℕ) (u : UnaryMark) → kind n ≡ 2 → b ≡ first n → u ≡ unaryMark (mark n) → Clause.Unary b u ≡ clause n
 unfolding clause
@@ -74,23 +74,23 @@ is-binary n b s u k e h f =
     ∙ high-of (kind n) (mark n) (first n) (second n) k
 
 -- one that is not binary is one of the others
-part-of : (P : Clause → Type 0) (k m b e : ℕ) → k < 3 → P Clause.Empty → ((a : ℕ) → P (Clause.Atom a)) → ((a : ℕ) (u : UnaryMark) → P (Clause.Unary a u)) → P (clauseOf k m b e)
+part-of : (P : Clause → Type 0) (k m b e : ℕ) → k < 3 → P Clause.Empty → ((a b : ℕ) → P (Clause.Atom a b)) → ((a : ℕ) (u : UnaryMark) → P (Clause.Unary a u)) → P (clauseOf k m b e)
 part-of P zero m b e h x y z = x
-part-of P (suc zero) m b e h x y z = y b
+part-of P (suc zero) m b e h x y z = y b e
 part-of P (suc (suc zero)) m b e h x y z = z b (unaryMark m)
 part-of P (suc (suc (suc k))) m b e h x y z = absurd (omega arith)
 
-pub part-kind : (P : Clause → Type 0) (n : ℕ) → kind n < 3 → P Clause.Empty → ((a : ℕ) → P (Clause.Atom a)) → ((a : ℕ) (u : UnaryMark) → P (Clause.Unary a u)) → P (clause n)
+pub part-kind : (P : Clause → Type 0) (n : ℕ) → kind n < 3 → P Clause.Empty → ((a b : ℕ) → P (Clause.Atom a b)) → ((a : ℕ) (u : UnaryMark) → P (Clause.Unary a u)) → P (clause n)
 unfolding clause
 part-kind P n h x y z = part-of P (kind n) (mark n) (first n) (second n) h x y z
 
 -- one of a low kind is empty or a terminal
-low-of : (P : Clause → Type 0) (k m b e : ℕ) → k < 2 → P Clause.Empty → ((a : ℕ) → P (Clause.Atom a)) → P (clauseOf k m b e)
+low-of : (P : Clause → Type 0) (k m b e : ℕ) → k < 2 → P Clause.Empty → ((a b : ℕ) → P (Clause.Atom a b)) → P (clauseOf k m b e)
 low-of P zero m b e h x y = x
-low-of P (suc zero) m b e h x y = y b
+low-of P (suc zero) m b e h x y = y b e
 low-of P (suc (suc k)) m b e h x y = absurd (omega arith)
 
-pub low-kind : (P : Clause → Type 0) (n : ℕ) → kind n < 2 → P Clause.Empty → ((a : ℕ) → P (Clause.Atom a)) → P (clause n)
+pub low-kind : (P : Clause → Type 0) (n : ℕ) → kind n < 2 → P Clause.Empty → ((a b : ℕ) → P (Clause.Atom a b)) → P (clause n)
 unfolding clause
 low-kind P n h x y = low-of P (kind n) (mark n) (first n) (second n) h x y
 
@@ -131,8 +131,8 @@ by-digits m k d b s e x y z =
 pub gives-empty : clause 0 ≡ Clause.Empty
 gives-empty = by-digits 0 0 0 0 0 refl (omega arith) (omega arith) (omega arith)
 
-pub gives-atom : (m a : ℕ) → m ≡ 16384 + 4 * a → a < 64 → clause (64 * m) ≡ Clause.Atom a
-gives-atom m a e h = by-digits m 1 0 a 0 (omega arith) (omega arith) h (omega arith)
+pub gives-atom : (m a b : ℕ) → m ≡ 16384 + 4 * a + 256 * b → a < 64 → b < 64 → clause (64 * m) ≡ Clause.Atom a b
+gives-atom m a b e h l = by-digits m 1 0 a b (omega arith) (omega arith) h l
 
 pub gives-unary : (m d b : ℕ) (u : UnaryMark) → m ≡ 32768 + d + 4 * b → (d < 4) × (unaryMark d ≡ u) → b < 64 → clause (64 * m) ≡ Clause.Unary b u
 gives-unary m d b u e x h = by-digits m 2 d b 0 (omega arith) (x .0) h (omega arith) ∙ ap (Clause.Unary b) (x .1)

@@ -25,7 +25,7 @@ binaryMark (suc (suc d)) = BinaryMark.Indent
 -- a clause by its kind (0 E, 1 A, 2 U, 3 or more B), mark and operands
 abbrev pub clauseOf : ℕ → ℕ → ℕ → ℕ → Clause
 clauseOf zero m b e = Clause.Empty
-clauseOf (suc zero) m b e = Clause.Atom b
+clauseOf (suc zero) m b e = Clause.Atom b e
 clauseOf (suc (suc zero)) m b e = Clause.Unary b (unaryMark m)
 clauseOf (suc (suc (suc k))) m b e = Clause.Binary b e (binaryMark m)
 

@@ -88,7 +88,7 @@ fn clause_of(code: u64) -> Clause
 {
     match kind_of(code) {
         0 => Clause::Empty,
-        1 => Clause::Atom(first_of(code)),
+        1 => Clause::Atom(first_of(code), second_of(code)),
         2 => Clause::Unary(first_of(code), unary_mark_of(code)),
         _ => Clause::Binary(first_of(code), second_of(code), binary_mark_of(code)),
     }
@@ -140,7 +140,7 @@ fn clause_code(c: Clause) -> u64
 {
     match c {
         Clause::Empty => 0,
-        Clause::Atom(a) => 16384 + 4 * wide(a),
+        Clause::Atom(a, b) => 16384 + 4 * wide(a) + 256 * wide(b),
         Clause::Unary(b, m) => 32768 + unary_digit(m) + 4 * wide(b),
         Clause::Binary(b, e, m) => 49152 + binary_digit(m) + 4 * wide(b) + 256 * wide(e),
     }

@@ -50,7 +50,7 @@ shape m (binary A s t) = record { kind = 3; first = root s; second = root t; spl
 
 pub shape-of : (t : Tree) (r : Rule) (k : ℕ) (m : Bool) → Top r k t → stepOf (r .clause) k m ≡ shape m t
 shape-of (empty A) r k m e = rw (e .0) refl
-shape-of (leaf A t) r k m e = rw (e .0) refl
+shape-of (leaf A t) r k m e = rw (e .2) refl
 shape-of (unary A t) r k m e = rw (e .1) refl
 shape-of (binary A s t) r k m e = rw (e .1, e .2) refl
 

@@ -85,6 +85,6 @@ chosen g {A} {w} {s} {p} {k} m {st} c h f =
   where
     same : (x : Clause) → stepOf x k m .seeking ≡ m
     same Clause.Empty = refl
-    same (Clause.Atom a) = refl
+    same (Clause.Atom a b) = refl
     same (Clause.Unary B n) = refl
     same (Clause.Binary B C n) = refl

@@ -2,84 +2,67 @@
 use mathlib.Core.Path.{_≡_, refl, sym, ap, _∙_, subst}
 use mathlib.Core.Bool.{Bool, true, false, cond}
 use mathlib.Core.Logic.{_⊎_, inl, inr, ⊎-elim, _↔_}
-use mathlib.Core.List.{List, [], _∷_, _++_, List·Memᴰ·head, List·Memᴰ·not-nil, List·Memᴰ·append-cases, List·Memᴰ·eq-of-singleton, Memᴰ·append-left, Memᴰ·append-right}
+use mathlib.Core.List.{List, [], _∷_, _++_, List·Memᴰ·not-nil}
 use Prim.Native.Nat.{ℕ, _+_, _≤_, _<_}
 use native.Mathlib.Omega.{arith}
 use native.Mathlib.Numerals.{add-one}
 use native.Mathlib.Decide.{decLt}
-use borrow.Author.Tests.{eqb-true, eqb-false}
 use lib.ListN.{length, getD, take}
 use lib.Seq.{take-suc}
-use lib.Dec.{eqb}
 use Rattle.sets.specs.Sets.{In, insert}
+use Rattle.sets.proofs.Says.{true-not-false}
 use Rattle.sets.proofs.Sets.{in-zero, insert-same, insert-keeps, insert-only}
 use Rattle.grammar.specs.declared.Rule.{Rule}
 use Rattle.grammar.specs.declared.Clause.{Clause}
 use Rattle.grammar.specs.declared.Clause.the-variants as Clause
 use Rattle.grammar.specs.declared.Grammar.{Grammar}
-use Rattle.grammar.specs.Trees.{Rules, HasAtom}
+use Rattle.grammar.specs.Trees.{Rules, Covers, HasAtom}
+use Rattle.grammar.specs.Sweeps.{isAtom}
 use Rattle.grammar.specs.Content.{rules, SmallRule, Formed}
 use Rattle.grammar.proofs.Lists.{mem-every}
-use Rattle.dominance.specs.Dominance.{Replaces, withAtom, withLeft, Lefts, Part, Serves, Replaced, Spares, Spared}
+use Rattle.grammar.proofs.Atoms.{is-covers, atom-is, atom-more, atom-here, atom-cases}
+use Rattle.dominance.specs.Dominance.{Replaces, withLeft, Lefts, Part, Serves, Replaced, Spares, Spared}
 
 -- ---- the lefts of one rule more
 
 pub lefts-none : (a : ℕ) → Lefts [] a 0
-lefts-none a = record { is = λ A. (λ b. absurd (in-zero A b), λ t. absurd (List·Memᴰ·not-nil t)) }
-
--- an A rule of a is the last rule, or among those before
-atom-cases : (g : Rules) (r : Rule) {A a : ℕ} → HasAtom (g ++ (r ∷ [])) A a → HasAtom g A a ⊎ ((r .left ≡ A) × (r .clause ≡ Clause.Atom a))
-atom-cases g r m =
-    ⊎-elim inl (λ q. let e = List·Memᴰ·eq-of-singleton q in inr (ap (λ (x : Rule). x .left) (sym e), ap (λ (x : Rule). x .clause) (sym e))) (List·Memᴰ·append-cases g m)
-
-atom-here : (g : Rules) (r : Rule) {a : ℕ} → r .clause ≡ Clause.Atom a → HasAtom (g ++ (r ∷ [])) (r .left) a
-atom-here g r e = Memᴰ·append-right g (List·Memᴰ·head (λ i. record { left = r .left; clause = sym e i }))
+lefts-none a = record { is = λ A. (λ b. absurd (in-zero A b), λ t. absurd (List·Memᴰ·not-nil (t .rule))) }
 
 module _ (g : Rules) (r : Rule) (a s : ℕ) (l : Lefts g a s) where
   -- the rule adds nothing
-  lefts-other : (r .clause ≡ Clause.Atom a → ⊥) → Lefts (g ++ (r ∷ [])) a s
-  lefts-other n = record { is = λ A. (λ b. Memᴰ·append-left (r ∷ []) (l .is A .0 b), λ m. ⊎-elim (l .is A .1) (λ q. absurd (n (q .1))) (atom-cases g r m)) }
+  lefts-other : (isAtom a (r .clause) ≡ true → ⊥) → Lefts (g ++ (r ∷ [])) a s
+  lefts-other n = record { is = λ A. (λ b. atom-more g r (l .is A .0 b), λ m. ⊎-elim (l .is A .1) (λ q. absurd (n (q .1))) (atom-cases g r m)) }
 
   -- it adds its left
-  lefts-atom : r .clause ≡ Clause.Atom a → Lefts (g ++ (r ∷ [])) a (insert s (r .left))
+  lefts-atom : isAtom a (r .clause) ≡ true → Lefts (g ++ (r ∷ [])) a (insert s (r .left))
   lefts-atom e = record {
     is = λ A. (
-      λ b. ⊎-elim (λ c. Memᴰ·append-left (r ∷ []) (l .is A .0 c)) (λ c. subst (λ (x : ℕ). HasAtom (g ++ (r ∷ [])) x a) (sym c) (atom-here g r e)) (insert-only s (r .left) A b),
+      λ b. ⊎-elim (λ c. atom-more g r (l .is A .0 c)) (λ c. subst (λ (x : ℕ). HasAtom (g ++ (r ∷ [])) x a) (sym c) (atom-here g r e)) (insert-only s (r .left) A b),
       λ m. ⊎-elim (λ c. insert-keeps s (r .left) (l .is A .1 c)) (λ q. subst (In (insert s (r .left))) (q .0) (insert-same s (r .left))) (atom-cases g r m),
     );
   }
 
   lefts-rule : Lefts (g ++ (r ∷ [])) a (withLeft s r a)
-  lefts-rule = go (r .clause) refl
+  lefts-rule = go (isAtom a (r .clause)) refl
     where
-      go : (k : Clause) → r .clause ≡ k → Lefts (g ++ (r ∷ [])) a (withAtom s (r .left) a k)
-      go Clause.Empty e = lefts-other (λ f. let z : _≡_ {A = ℕ} 0 1 = cc in omega arith)
-      go (Clause.Unary B m) e = lefts-other (λ f. let z : _≡_ {A = ℕ} 0 1 = cc in omega arith)
-      go (Clause.Binary B C m) e = lefts-other (λ f. let z : _≡_ {A = ℕ} 0 1 = cc in omega arith)
-      go (Clause.Atom b) e = at (eqb b a) refl
-        where
-          at : (x : Bool) → eqb b a ≡ x → Lefts (g ++ (r ∷ [])) a (cond x (insert s (r .left)) s)
-          at true q = lefts-atom (e ∙ ap Clause.Atom (eqb-true b a q))
-          at false q = lefts-other (λ f. eqb-false b a q (let z : Clause.Atom b ≡ Clause.Atom a = sym e ∙ f in cc))
+      go : (x : Bool) → isAtom a (r .clause) ≡ x → Lefts (g ++ (r ∷ [])) a (cond x (insert s (r .left)) s)
+      go true e = lefts-atom e
+      go false e = lefts-other (λ q. true-not-false (sym q ∙ e))
 
 -- the rule at i is taken in
 pub lefts-step : (g : Rules) (d : Rule) (i a s u : ℕ) → i < length g → Lefts (take i g) a s → u ≡ withLeft s (getD g i d) a → Lefts (take (i + 1) g) a u
 lefts-step g d i a s u h l e = rw (add-one i, take-suc g i d, e) (lefts-rule (take i g) (getD g i d) a s l)
 
--- an A rule of a adds its left, one of another terminal nothing
-pub with-same : (s A a b : ℕ) → b ≡ a → withAtom s A a (Clause.Atom b) ≡ insert s A
-with-same s A a b e = at (eqb b a) refl
-  where
-    at : (x : Bool) → eqb b a ≡ x → cond x (insert s A) s ≡ insert s A
-    at true q = refl
-    at false q = absurd (eqb-false b a q e)
+-- an A rule that covers a adds its left, one that does not nothing
+pub with-same : (s a b e : ℕ) (r : Rule) → r .clause ≡ Clause.Atom b e → b ≤ a → a ≤ e → withLeft s r a ≡ insert s (r .left)
+with-same s a b e r k l h = rw (atom-is a b e (r .clause) k (record { low = l; high = h }))
 
-pub with-other : (s A a b : ℕ) → (b ≡ a → ⊥) → withAtom s A a (Clause.Atom b) ≡ s
-with-other s A a b n = at (eqb b a) refl
+pub with-other : (s a b e : ℕ) (r : Rule) → r .clause ≡ Clause.Atom b e → (Covers b e a → ⊥) → withLeft s r a ≡ s
+with-other s a b e r k n = go (isAtom a (r .clause)) refl
   where
-    at : (x : Bool) → eqb b a ≡ x → cond x (insert s A) s ≡ s
-    at true q = absurd (n (eqb-true b a q))
-    at false q = refl
+    go : (x : Bool) → isAtom a (r .clause) ≡ x → cond x (insert s (r .left)) s ≡ s
+    go true q = absurd (n (is-covers b e a (subst (λ (c : Clause). isAtom a c ≡ true) k q)))
+    go false q = refl
 
 -- ---- who replaces whom
 
@@ -93,7 +76,7 @@ part-more s t a h k x b m = go (decLt x a)
 
 -- a left is a number below 64
 pub left-small : (g : Grammar) → Formed g → {A a : ℕ} → HasAtom (rules g) A a → A < 64
-left-small g f m = mem-every SmallRule (rules g) (f .small) m .left
+left-small g f m = mem-every SmallRule (rules g) (f .small) (m .rule) .left
 
 pub serves-of : (g : Rules) (kept s t y : ℕ) → In kept y → Lefts g y t → Part s t → Serves g kept s y
 serves-of g kept s t y k l p = record { held = k; lefts = λ A h m. l .is A .0 (p .each A h m) }

@@ -3,12 +3,10 @@ use mathlib.Core.Path.{_≡_}
 use mathlib.Core.Bool.{cond}
 use mathlib.Core.Logic.{_↔_}
 use Prim.Native.Nat.{ℕ, _≤_, _<_}
-use lib.Dec.{eqb}
 use Rattle.sets.specs.Sets.{In, insert}
 use Rattle.grammar.specs.declared.Rule.{Rule}
-use Rattle.grammar.specs.declared.Clause.{Clause}
-use Rattle.grammar.specs.declared.Clause.the-variants as Clause
 use Rattle.grammar.specs.Trees.{Rules, HasAtom}
+use Rattle.grammar.specs.Sweeps.{isAtom}
 use Rattle.candidates.specs.Terminals.{Among}
 
 -- y has every left that x has in A rules
@@ -22,17 +20,11 @@ pub record Spared (g : Rules) (s kept : ℕ) : Type 0 where
 
 -- ---- inner: contracts of the functions that find them
 
--- the set with the rule's left besides, if its clause is the terminal a
-abbrev pub withAtom : ℕ → ℕ → ℕ → Clause → ℕ
-withAtom set A a Clause.Empty = set
-withAtom set A a (Clause.Atom b) = cond (eqb b a) (insert set A) set
-withAtom set A a (Clause.Unary B m) = set
-withAtom set A a (Clause.Binary B C m) = set
-
+-- the set with the rule's left besides, if its clause covers the terminal a
 abbrev pub withLeft : ℕ → Rule → ℕ → ℕ
-withLeft set r a = withAtom set (r .left) a (r .clause)
+withLeft set r a = cond (isAtom a (r .clause)) (insert set (r .left)) set
 
--- s is the set of the lefts of a's A rules
+-- s is the set of the lefts of the A rules that cover a
 pub record Lefts (g : Rules) (a s : ℕ) : Type 0 where
   pub is : (A : ℕ) → In s A ↔ HasAtom g A a
 

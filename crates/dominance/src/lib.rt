@@ -12,7 +12,7 @@ ghost use Rattle.sets.specs.Sets.{In};
 ghost use Rattle.grammar.specs.Content.{rules, SmallRule, Formed};
 ghost use Rattle.dominance.specs.Dominance.{withLeft, Lefts, Part, Serves, Replaced, Spares, Spared};
 
-// The set with the rule's left besides, if it is an A rule of `a`.
+// The set with the rule's left besides, if it is an A rule that covers `a`.
 fn with_left(set: u64, r: Rule, a: u8) -> u64
     requires { ⌜ SmallRule r ⌝ }
     ensures { λ u. ⌜ u ≡ withLeft set r a ⌝ }
@@ -20,13 +20,21 @@ fn with_left(set: u64, r: Rule, a: u8) -> u64
     let c = r.clause;
     match c {
         Clause::Empty => set,
-        Clause::Atom(b) => { if b == a { with(set, r.left) } else { set } }
+        Clause::Atom(b, e) => {
+            if a < b {
+                return set;
+            }
+            if e < a {
+                return set;
+            }
+            with(set, r.left)
+        }
         Clause::Unary(_, _) => set,
         Clause::Binary(_, _, _) => set,
     }
 }
 
-// The lefts of the A rules of `a`.
+// The lefts of the A rules that cover `a`.
 fn lefts(g: Grammar, a: u8) -> u64
     requires { ⌜ Formed g ⌝ }
     ensures { λ r. ⌜ Lefts (rules g) a r ⌝ }

@@ -10,6 +10,7 @@ number-small Fault.RuleNames = omega arith
 number-small Fault.RuleForm = omega arith
 number-small Fault.RuleRange = omega arith
 number-small Fault.RuleLay = omega arith
+number-small Fault.RuleReversed = omega arith
 number-small Fault.RuleTwice = omega arith
 number-small Fault.RuleMany = omega arith
 number-small Fault.NoStart = omega arith

@@ -19,13 +19,13 @@ use Rattle.grammar.proofs.Saturation.{Saturated, saturate}
 -- members of S make the clause's word empty
 abbrev Ready : List ℕ → Clause → Type 0
 Ready S Clause.Empty = Unit {0}
-Ready S (Clause.Atom a) = ⊥
+Ready S (Clause.Atom a b) = ⊥
 Ready S (Clause.Unary B m) = List·Memᴰ B S
 Ready S (Clause.Binary B C m) = List·Memᴰ B S × List·Memᴰ C S
 
 ready? : (S : List ℕ) (c : Clause) → Dec (Ready S c)
 ready? S Clause.Empty = yes tt
-ready? S (Clause.Atom a) = no (λ x. x)
+ready? S (Clause.Atom a b) = no (λ x. x)
 ready? S (Clause.Unary B m) = mem? B S
 ready? S (Clause.Binary B C m) = both? (mem? B S) (mem? C S)
 
@@ -53,7 +53,7 @@ module _ (g : Rules) where
 
   null-by : (S : List ℕ) → Every (Nullable g) S → (A : ℕ) (c : Clause) → List·Memᴰ (record { left = A; clause = c }) g → Ready S c → Nullable g A
   null-by S e A Clause.Empty m r = record { tree = empty A; witness = record { rooted = refl; spelled = refl; valid = valid-empty m } }
-  null-by S e A (Clause.Atom a) m r = absurd r
+  null-by S e A (Clause.Atom a b) m r = absurd r
   null-by S e A (Clause.Unary B k) m r =
       let n = mem-every (Nullable g) S e r in
       record {
@@ -105,13 +105,13 @@ module _ (g : Rules) where
   -- a rule with this clause has an edge to Y
   abbrev Leads : Clause → ℕ → Type 0
   Leads Clause.Empty Y = ⊥
-  Leads (Clause.Atom a) Y = ⊥
+  Leads (Clause.Atom a b) Y = ⊥
   Leads (Clause.Unary B m) Y = B ≡ Y
   Leads (Clause.Binary B C m) Y = ((B ≡ Y) × Nullable g C) ⊎ ((C ≡ Y) × Nullable g B)
 
   leads? : (c : Clause) (Y : ℕ) → Dec (Leads c Y)
   leads? Clause.Empty Y = no (λ x. x)
-  leads? (Clause.Atom a) Y = no (λ x. x)
+  leads? (Clause.Atom a b) Y = no (λ x. x)
   leads? (Clause.Unary B m) Y = eq? B Y
   leads? (Clause.Binary B C m) Y = or? (both? (eq? B Y) (nullable? C)) (both? (eq? C Y) (nullable? B))
 
@@ -139,7 +139,7 @@ module _ (g : Rules) where
   -- what a clause can lead to
   abbrev targetsOf : Clause → List ℕ
   targetsOf Clause.Empty = []
-  targetsOf (Clause.Atom a) = []
+  targetsOf (Clause.Atom a b) = []
   targetsOf (Clause.Unary B m) = B ∷ []
   targetsOf (Clause.Binary B C m) = B ∷ C ∷ []
 

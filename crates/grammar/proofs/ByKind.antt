@@ -12,14 +12,14 @@ use Rattle.grammar.specs.declared.Clause.{Clause}
 use Rattle.grammar.specs.declared.Clause.the-variants as Clause
 use Rattle.grammar.specs.Layout.{Word}
 use Rattle.grammar.specs.Layout as Mark
-use Rattle.grammar.specs.Trees.{Tree, empty, leaf, unary, binary, root, word, Rules, Valid, valid-empty, valid-leaf, valid-unary, valid-binary, Derives}
+use Rattle.grammar.specs.Trees.{Tree, empty, leaf, unary, binary, root, word, Rules, Covers, Valid, valid-empty, valid-leaf, valid-unary, valid-binary, Derives}
 use Rattle.grammar.specs.Choices.{Top, Choice}
 use Rattle.grammar.proofs.ChoiceLaws.{member-at}
 
 -- a rule with this clause can stand at the top of a valid tree of w, with a left word of length k
 abbrev pub Can : Rules → Word → Clause → ℕ → Type 0
 Can g w Clause.Empty k = (w ≡ []) × (k ≡ 0)
-Can g w (Clause.Atom a) k = (t : Token) × (w ≡ t ∷ []) × (a ≡ t .terminal) × (k ≡ 0)
+Can g w (Clause.Atom a b) k = (t : Token) × (w ≡ t ∷ []) × Covers a b (t .terminal) × (k ≡ 0)
 Can g w (Clause.Unary B m) k = Derives g B w × Mark.Unary m w × (k ≡ 0)
 Can g w (Clause.Binary B C m) k =
     (k ≤ length w) × Derives g B (take k w) × Derives g C (drop k w) × Mark.Binary m (take k w) (drop k w)
@@ -29,7 +29,7 @@ derives-of {t = t} v = record { tree = t; witness = record { rooted = refl; spel
 
 pub can-of : {g : Rules} {t : Tree} → Valid g t → (r : Rule) (k : ℕ) → Top r k t → Can g (word t) (r .clause) k
 can-of (valid-empty h) r k e = rw (e .0) (refl, e .1)
-can-of (valid-leaf {t = t} h) r k e = rw (e .0) (t, refl, refl, e .1)
+can-of (valid-leaf {t = t} h) r k e = rw (e .2) (t, refl, e .3, e .4)
 can-of (valid-unary m h x v) r k e = rw (e .1) (derives-of v, e .3, e .2)
 can-of (valid-binary {s = s} {t = t} m h x u v) r k e =
     rw (e .1, take-at (word s) (word t) k (sym (e .2)), drop-at (word s) (word t) k (sym (e .2)))
@@ -37,7 +37,7 @@ can-of (valid-binary {s = s} {t = t} m h x u v) r k e =
 
 top-left : (t : Tree) (r : Rule) (k : ℕ) → Top r k t → r .left ≡ root t
 top-left (empty A) r k e = ap (λ (x : Rule). x .left) (e .0)
-top-left (leaf A t) r k e = ap (λ (x : Rule). x .left) (e .0)
+top-left (leaf A t) r k e = ap (λ (x : Rule). x .left) (e .2)
 top-left (unary A t) r k e = ap (λ (x : Rule). x .left) (e .1)
 top-left (binary A s t) r k e = ap (λ (x : Rule). x .left) (e .1)
 
@@ -52,11 +52,11 @@ can-choice g p A Clause.Empty w k st e =
       witness = record { rooted = refl; spelled = sym (e .0); valid = valid-empty (member-at g p st) };
       takes = record { rule = _; stands = st; top = (refl, e .1) };
     }
-can-choice g p A (Clause.Atom a) w k st e =
+can-choice g p A (Clause.Atom a b) w k st e =
     record {
       tree = leaf A (e .0);
-      witness = record { rooted = refl; spelled = sym (e .1); valid = valid-leaf (rw (e .2) at (member-at g p st)) };
-      takes = record { rule = _; stands = st; top = (rw (e .2), e .3) };
+      witness = record { rooted = refl; spelled = sym (e .1); valid = valid-leaf (record { low = a; high = b; rule = member-at g p st; covers = e .2 }) };
+      takes = record { rule = _; stands = st; top = (a, b, refl, e .2, e .3) };
     }
 can-choice g p A (Clause.Unary B m) w k st e =
     record {
@@ -99,7 +99,7 @@ no-word (t ∷ w) e = absurd (omega arith)
 
 can-le : (g : Rules) (w : Word) (c : Clause) (k : ℕ) → Can g w c k → k ≤ length w
 can-le g w Clause.Empty k e = omega (arith, e .1)
-can-le g w (Clause.Atom a) k e = omega (arith, e .3)
+can-le g w (Clause.Atom a b) k e = omega (arith, e .3)
 can-le g w (Clause.Unary B m) k e = omega (arith, e .2)
 can-le g w (Clause.Binary B C m) k e = e .0
 

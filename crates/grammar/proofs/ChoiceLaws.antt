@@ -34,7 +34,7 @@ pub takes-unique : {g : Rules} → Distinct g → (t : Tree) {p k q l : ℕ} →
 takes-unique d (empty A) {p} {k} {q} {l} a b =
     (d .one p q (a .rule) (b .rule) (a .stands) (b .stands) (cc) (rw (a .top .0, b .top .0) tt), cc)
 takes-unique d (leaf A t) {p} {k} {q} {l} a b =
-    (d .one p q (a .rule) (b .rule) (a .stands) (b .stands) (cc) (rw (a .top .0, b .top .0) refl), cc)
+    (d .one p q (a .rule) (b .rule) (a .stands) (b .stands) (cc) (rw (a .top .2, b .top .2) (t .terminal, a .top .3, b .top .3)), cc)
 takes-unique d (unary A t) {p} {k} {q} {l} a b =
     (d .one p q (a .rule) (b .rule) (a .stands) (b .stands) (cc) (rw (a .top .1, b .top .1) refl), cc)
 takes-unique d (binary A s t) {p} {k} {q} {l} a b =
@@ -164,7 +164,7 @@ first-unique {g} {A} {w} {t} {u} a b =
 
 pub takes-of : {g : Rules} {t : Tree} → Valid g t → (p : ℕ) × (k : ℕ) × Takes g t p k
 takes-of (valid-empty h) = let w = place-of h in (w .0, 0, record { rule = _; stands = w .1; top = (refl, refl) })
-takes-of (valid-leaf h) = let w = place-of h in (w .0, 0, record { rule = _; stands = w .1; top = (refl, refl) })
+takes-of (valid-leaf h) = let w = place-of (h .rule) in (w .0, 0, record { rule = _; stands = w .1; top = (h .low, h .high, refl, h .covers, refl) })
 takes-of (valid-unary m h x v) = let w = place-of h in (w .0, 0, record { rule = _; stands = w .1; top = (m, refl, refl, x) })
 takes-of (valid-binary {s = s} m h x u v) = let w = place-of h in (w .0, length (word s), record { rule = _; stands = w .1; top = (m, refl, refl, x) })
 
@@ -183,7 +183,7 @@ valid-each (valid-binary m h x u v) = (node-of (valid-binary m h x u v), (valid-
 -- a tree whose nodes follow rules is valid
 pub each-valid : (g : Rules) (P : Ask) (t : Tree) → Each g P t → Valid g t
 each-valid g P (empty A) n = valid-empty (rw (n .takes .top .0) at (member-at g (n .place) (n .takes .stands)))
-each-valid g P (leaf A t) n = valid-leaf (rw (n .takes .top .0) at (member-at g (n .place) (n .takes .stands)))
+each-valid g P (leaf A t) n = let e = n .takes .top in valid-leaf (record { low = e .0; high = e .1; rule = rw (e .2) at (member-at g (n .place) (n .takes .stands)); covers = e .3 })
 each-valid g P (unary A t) n =
     valid-unary (n .0 .takes .top .0) (rw (n .0 .takes .top .1) at (member-at g (n .0 .place) (n .0 .takes .stands))) (n .0 .takes .top .3) (each-valid g P t (n .1))
 each-valid g P (binary A s t) n =

@@ -15,7 +15,7 @@ use Rattle.grammar.specs.declared.Clause.{Clause}
 use Rattle.grammar.specs.declared.Clause.the-variants as Clause
 use Rattle.grammar.specs.Layout.{Word}
 use Rattle.grammar.specs.Layout as Mark
-use Rattle.grammar.specs.Trees.{Tree, empty, leaf, unary, binary, root, word, Rules, HasBinary, Valid, valid-empty, valid-leaf, valid-unary, valid-binary, Derives, NoTree, OneTree, TwoTrees}
+use Rattle.grammar.specs.Trees.{Tree, empty, leaf, unary, binary, root, word, Rules, Covers, HasBinary, Valid, valid-empty, valid-leaf, valid-unary, valid-binary, Derives, NoTree, OneTree, TwoTrees}
 use Rattle.grammar.specs.Choices.{Top, Takes, Choice, Before, Same, FirstChoice, OnlyChoice, OtherChoice, Node, Each, Beneath, Preferred, First, FirstTree, Second, here, below, left, right, SecondTree, Distinct}
 use Rattle.grammar.specs.Cycles.{Nullable, Edge, by-unary, by-left, by-right, Cyclic}
 use Rattle.grammar.proofs.Lists.{both?}
@@ -121,15 +121,19 @@ module _ {g : Rules} (nulls : (A : ℕ) → Dec (Nullable g A)) (rk : Ranked g) 
   dec-nil [] = yes refl
   dec-nil (t ∷ w) = no (λ e. let z : _≡_ {A = ℕ} 0 1 = cc in omega arith)
 
-  dec-atom : (a k : ℕ) (w : Word) → Dec ((t : Token) × (w ≡ t ∷ []) × (a ≡ t .terminal) × (k ≡ 0))
-  dec-atom a k [] = no (λ h. let e = h .1 in let z : _≡_ {A = ℕ} 0 1 = cc in omega arith)
-  dec-atom a k (t ∷ []) = go (ℕ-discrete a (t .terminal)) (ℕ-discrete k 0)
+  dec-atom : (a b k : ℕ) (w : Word) → Dec ((t : Token) × (w ≡ t ∷ []) × Covers a b (t .terminal) × (k ≡ 0))
+  dec-atom a b k [] = no (λ h. let e = h .1 in let z : _≡_ {A = ℕ} 0 1 = cc in omega arith)
+  dec-atom a b k (t ∷ []) = go (decLe a (t .terminal)) (decLe (t .terminal) b) (ℕ-discrete k 0)
     where
-      go : Dec (a ≡ t .terminal) → Dec (k ≡ 0) → Dec ((t′ : Token) × (t ∷ [] ≡ t′ ∷ []) × (a ≡ t′ .terminal) × (k ≡ 0))
-      go (yes e) (yes f) = yes (t, refl, e, f)
-      go (yes e) (no f) = no (λ h. f (h .3))
-      go (no e) f = no (λ h. let x = h .1 in let y = h .2 in e (cc))
-  dec-atom a k (t ∷ u ∷ w) = no (λ h. let e = h .1 in let z : _≡_ {A = ℕ} 0 1 = cc in omega arith)
+      of : (t′ : Token) → t ∷ [] ≡ t′ ∷ [] → Covers a b (t′ .terminal) → Covers a b (t .terminal)
+      of t′ e h = let x : t ≡ t′ = cc in rw x h
+
+      go : Dec (a ≤ t .terminal) → Dec (t .terminal ≤ b) → Dec (k ≡ 0) → Dec ((t′ : Token) × (t ∷ [] ≡ t′ ∷ []) × Covers a b (t′ .terminal) × (k ≡ 0))
+      go (yes d) (yes e) (yes f) = yes (t, refl, record { low = d; high = e }, f)
+      go (yes d) (yes e) (no f) = no (λ h. f (h .3))
+      go (yes d) (no e) f = no (λ h. e (of (h .0) (h .1) (h .2) .high))
+      go (no d) e f = no (λ h. d (of (h .0) (h .1) (h .2) .low))
+  dec-atom a b k (t ∷ u ∷ w) = no (λ h. let e = h .1 in let z : _≡_ {A = ℕ} 0 1 = cc in omega arith)
 
   -- both parts of a word, of which the rule's two nonterminals derive one each
   dec-parts : (A B C : ℕ) (m : BinaryMark) (w : Word) (k : ℕ) → Below (weight A w) → HasBinary g A B C m → k ≤ length w
@@ -158,7 +162,7 @@ module _ {g : Rules} (nulls : (A : ℕ) → Dec (Nullable g A)) (rk : Ranked g) 
 
   dec-can : (A : ℕ) (w : Word) → Below (weight A w) → (p : ℕ) (c : Clause) → getElem? g p ≡ some (record { left = A; clause = c }) → (k : ℕ) → Dec (Can g w c k)
   dec-can A w b p Clause.Empty st k = both? (dec-nil w) (ℕ-discrete k 0)
-  dec-can A w b p (Clause.Atom a) st k = dec-atom a k w
+  dec-can A w b p (Clause.Atom a a′) st k = dec-atom a a′ k w
   dec-can A w b p (Clause.Unary B m) st k =
       both₃? (dec-of (b B w (lower A B w w refl (by-unary m (member-at g p st))))) (unary? m w) (ℕ-discrete k 0)
   dec-can A w b p (Clause.Binary B C m) st k = go (decLe k (length w))

@@ -10,3 +10,4 @@ pub mod Transfer
 pub mod Normalization
 pub mod VerdictLaws
 pub mod SweepLaws
+pub mod Atoms

@@ -125,7 +125,7 @@ pub record Alike (g : Rules) (P : Token → Type 0) (f : Token → Token) : Type
 
 -- so it is where the terminal is the same
 pub same-atoms : (g : Rules) (a b : Token) → b .terminal ≡ a .terminal → (A : ℕ) → HasAtom g A (a .terminal) → HasAtom g A (b .terminal)
-same-atoms g a b e A r = rw e r
+same-atoms g a b e A r = record { low = r .low; high = r .high; rule = r .rule; covers = rw e (r .covers) }
 
 module _ (g : Rules) (P : Token → Type 0) (f : Token → Token) (k : Alike g P f) where
   pub keeps-le : (a b : Token) → P a → P b → col a ≤ col b → col (f a) ≤ col (f b)

@@ -36,7 +36,7 @@ placed l (c ∷ cs) = token (l + c .step) c ∷ placed (l + c .step) cs
 abbrev pub sentence : List Cell → Word
 sentence cs = placed 1 cs
 
--- a is one of the terminals in the sheet's A rules
+-- a is one of the terminals that the sheet's A rules cover
 abbrev pub Terminal : Rules → ℕ → Type 0
 Terminal g a = (A : ℕ) × HasAtom g A a
 

@@ -13,12 +13,12 @@ use Rattle.grammar.specs.declared.Clause.{Clause}
 use Rattle.grammar.specs.declared.Clause.the-variants as Clause
 use Rattle.grammar.specs.Layout.{Word}
 use Rattle.grammar.specs.Layout as Mark
-use Rattle.grammar.specs.Trees.{Tree, empty, leaf, unary, binary, root, word, Rules, Witness}
+use Rattle.grammar.specs.Trees.{Tree, empty, leaf, unary, binary, root, word, Rules, Covers, Witness}
 
 -- rule r stands at the top of t and its mark holds; k is the length of the left word, 0 but for a binary node
 abbrev pub Top : Rule → ℕ → Tree → Type 0
 Top r k (empty A) = (r ≡ record { left = A; clause = Clause.Empty }) × (k ≡ 0)
-Top r k (leaf A t) = (r ≡ record { left = A; clause = Clause.Atom (t .terminal) }) × (k ≡ 0)
+Top r k (leaf A t) = (a : ℕ) × (b : ℕ) × (r ≡ record { left = A; clause = Clause.Atom a b }) × Covers a b (t .terminal) × (k ≡ 0)
 Top r k (unary A t) = (m : UnaryMark) × (r ≡ record { left = A; clause = Clause.Unary (root t) m }) × (k ≡ 0) × Mark.Unary m (word t)
 Top r k (binary A s t) =
     (m : BinaryMark)
@@ -124,25 +124,25 @@ pub record SecondTree (g : Rules) (A : ℕ) (w : Word) (u : Tree) : Type 0 where
   pub first : FirstTree g A w tree
   pub second : Second g tree u
 
--- two clauses have the same kind, first and second, under any lay
+-- two clauses have the same kind, first and second, under any lay; two of kind A share a terminal
 abbrev pub Alike : Clause → Clause → Type 0
 Alike Clause.Empty Clause.Empty = Unit {0}
-Alike Clause.Empty (Clause.Atom b) = ⊥
+Alike Clause.Empty (Clause.Atom c d) = ⊥
 Alike Clause.Empty (Clause.Unary B n) = ⊥
 Alike Clause.Empty (Clause.Binary B C n) = ⊥
-Alike (Clause.Atom a) Clause.Empty = ⊥
-Alike (Clause.Atom a) (Clause.Atom b) = a ≡ b
-Alike (Clause.Atom a) (Clause.Unary B n) = ⊥
-Alike (Clause.Atom a) (Clause.Binary B C n) = ⊥
+Alike (Clause.Atom a b) Clause.Empty = ⊥
+Alike (Clause.Atom a b) (Clause.Atom c d) = (x : ℕ) × Covers a b x × Covers c d x
+Alike (Clause.Atom a b) (Clause.Unary B n) = ⊥
+Alike (Clause.Atom a b) (Clause.Binary B C n) = ⊥
 Alike (Clause.Unary A m) Clause.Empty = ⊥
-Alike (Clause.Unary A m) (Clause.Atom b) = ⊥
+Alike (Clause.Unary A m) (Clause.Atom c d) = ⊥
 Alike (Clause.Unary A m) (Clause.Unary B n) = A ≡ B
 Alike (Clause.Unary A m) (Clause.Binary B C n) = ⊥
 Alike (Clause.Binary A D m) Clause.Empty = ⊥
-Alike (Clause.Binary A D m) (Clause.Atom b) = ⊥
+Alike (Clause.Binary A D m) (Clause.Atom c d) = ⊥
 Alike (Clause.Binary A D m) (Clause.Unary B n) = ⊥
 Alike (Clause.Binary A D m) (Clause.Binary B C n) = (A ≡ B) × (D ≡ C)
 
--- no two rules have the same left, kind, first and second: what refusal 5 keeps off
+-- no two rules of one left are alike: what refusal 5 keeps off
 pub record Distinct (g : Rules) : Type 0 where
   pub one : (p q : ℕ) (r s : Rule) → getElem? g p ≡ some r → getElem? g q ≡ some s → r .left ≡ s .left → Alike (r .clause) (s .clause) → p ≡ q

@@ -23,7 +23,7 @@ spelled s = take (s .count) (s .tokens)
 -- nonterminals and terminals are 0 to 63
 abbrev pub SmallClause : Clause → Type 0
 SmallClause Clause.Empty = Unit {0}
-SmallClause (Clause.Atom a) = a < 64
+SmallClause (Clause.Atom a b) = (a < 64) × (b < 64)
 SmallClause (Clause.Unary B m) = B < 64
 SmallClause (Clause.Binary B C m) = (B < 64) × (C < 64)
 

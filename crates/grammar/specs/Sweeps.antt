@@ -1,9 +1,9 @@
 -- What a sweep up to the bound k says: 01, "The sweep" (demand 3), and the number that refusal 24 judges.
-use mathlib.Core.Bool.{Bool, true, false, cond, _||_}
+use mathlib.Core.Bool.{Bool, true, false, cond, _||_, _&&_}
 use mathlib.Core.List.{List, [], _∷_}
 use Prim.Native.Nat.{ℕ, zero, suc, _+_, _-_, _*_, _^_, _≤_}
 use lib.ListN.{length}
-use lib.Dec.{eqb}
+use lib.Dec.{leb}
 use Rattle.grammar.specs.declared.Cell.{Cell}
 use Rattle.grammar.specs.declared.Clause.{Clause}
 use Rattle.grammar.specs.declared.Clause.the-variants as Clause
@@ -32,24 +32,24 @@ abbrev pub Answers : Rules → ℕ → Answer → Type 0
 Answers g k clear = Clear g k
 Answers g k (found cs) = FirstTwo g k cs
 
--- the clause is of kind A, with terminal a
+-- the clause is of kind A and covers the terminal x
 abbrev pub isAtom : ℕ → Clause → Bool
-isAtom a Clause.Empty = false
-isAtom a (Clause.Atom b) = eqb a b
-isAtom a (Clause.Unary B m) = false
-isAtom a (Clause.Binary B C m) = false
+isAtom x Clause.Empty = false
+isAtom x (Clause.Atom a b) = leb a x && leb x b
+isAtom x (Clause.Unary B m) = false
+isAtom x (Clause.Binary B C m) = false
 
--- a is the terminal of an A rule
+-- an A rule covers a
 abbrev pub stands : Rules → ℕ → Bool
 stands [] a = false
 stands (r ∷ g) a = isAtom a (r .clause) || stands g a
 
--- how many of the terminals below n stand in A rules
+-- how many of the terminals below n are covered by A rules
 abbrev pub terminalsBelow : Rules → ℕ → ℕ
 terminalsBelow g zero = 0
 terminalsBelow g (suc n) = cond (stands g n) 1 0 + terminalsBelow g n
 
--- T: the different terminals in the sheet's A rules
+-- T: the different terminals that the sheet's A rules cover
 abbrev pub terminalCount : Rules → ℕ
 terminalCount g = terminalsBelow g 64
 

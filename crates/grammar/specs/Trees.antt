@@ -1,7 +1,7 @@
 -- Trees, their words and their validity: source document 000, section 3, "Parse trees" and "Derivation ambiguity".
 use mathlib.Core.Path.{_≡_}
 use mathlib.Core.List.{List, [], _∷_, _++_, List·Memᴰ}
-use Prim.Native.Nat.{ℕ}
+use Prim.Native.Nat.{ℕ, _≤_}
 use Rattle.grammar.specs.declared.Token.{Token}
 use Rattle.grammar.specs.declared.UnaryMark.{UnaryMark}
 use Rattle.grammar.specs.declared.BinaryMark.{BinaryMark}
@@ -36,12 +36,20 @@ word (binary A s t) = word s ++ word t
 abbrev pub Rules : Type 0
 Rules = List Rule
 
--- the sheet has the rule A → ε, A → a, A → B with a mark, A → B C with a mark
+-- x is one of the terminals from a to b, both included
+pub record Covers (a b x : ℕ) : Type 0 where
+  pub low : a ≤ x
+  pub high : x ≤ b
+
+-- the sheet has the rule A → ε, an A rule of A that covers the terminal x, the rule A → B with a mark, A → B C with a mark
 abbrev pub HasEmpty : Rules → ℕ → Type 0
 HasEmpty g A = List·Memᴰ (record { left = A; clause = Clause.Empty }) g
 
-abbrev pub HasAtom : Rules → ℕ → ℕ → Type 0
-HasAtom g A a = List·Memᴰ (record { left = A; clause = Clause.Atom a }) g
+pub record HasAtom (g : Rules) (A x : ℕ) : Type 0 where
+  pub low : ℕ
+  pub high : ℕ
+  pub rule : List·Memᴰ (record { left = A; clause = Clause.Atom low high }) g
+  pub covers : Covers low high x
 
 abbrev pub HasUnary : Rules → ℕ → ℕ → UnaryMark → Type 0
 HasUnary g A B m = List·Memᴰ (record { left = A; clause = Clause.Unary B m }) g

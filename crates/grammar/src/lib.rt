@@ -27,10 +27,10 @@ pub enum BinaryMark {
     Indent,
 }
 
-// What stands at the right of a rule, by 01's kinds: E, A, U, B.
+// What stands at the right of a rule, by 01's kinds: E, A, U, B. An A rule stands for the terminals from its first to its second number.
 pub enum Clause {
     Empty,
-    Atom(u8),
+    Atom(u8, u8),
     Unary(u8, UnaryMark),
     Binary(u8, u8, BinaryMark),
 }

@@ -20,8 +20,8 @@ use Rattle.fields.specs.Pieces.{pieces}
 use Rattle.fields.proofs.Pick.{either}
 use Rattle.fields.proofs.Fields.{with-holds, end-holds}
 use Rattle.lines.specs.declared.RuleLine.{RuleLine}
-use Rattle.lines.specs.declared.RuleLine.the-variants.{Good, Form, Range, Unfit}
-use Rattle.lines.specs.RuleLines.{shape, plainRule, unaryRule, binaryRule, layRule, ruleOf, afterLay, afterSecond, afterFirst, afterKind, afterLeft, ruleFields, ruleLine}
+use Rattle.lines.specs.declared.RuleLine.the-variants.{Good, Form, Range, Unfit, Reversed}
+use Rattle.lines.specs.RuleLines.{shape, plainRule, atomRule, upTo, unaryRule, binaryRule, layRule, ruleOf, afterLay, afterSecond, afterFirst, afterKind, afterLeft, ruleFields, ruleLine}
 
 -- a rule that is given is small
 abbrev Fine : RuleLine → Type 0
@@ -29,6 +29,7 @@ Fine (Good r) = SmallRule r
 Fine Form = Unit {0}
 Fine Range = Unit {0}
 Fine Unfit = Unit {0}
+Fine Reversed = Unit {0}
 
 plain-fine : (l : ℕ) (c : Clause) → l < 64 → SmallClause c → (y : Lay) → Fine (plainRule l c y)
 plain-fine l c h k Lay.None = record { left = h; clause = k }
@@ -37,6 +38,14 @@ plain-fine l c h k Lay.Offalign = tt
 plain-fine l c h k Lay.Single = tt
 plain-fine l c h k Lay.Align = tt
 plain-fine l c h k Lay.Indent = tt
+
+atom-fine : (l a b : ℕ) → l < 64 → a < 64 → b < 64 → (y : Lay) → Fine (atomRule l a b y)
+atom-fine l a b h i j Lay.None = either Fine (leb a b) (λ e. record { left = h; clause = (i, j) }) (λ e. tt)
+atom-fine l a b h i j Lay.Offside = tt
+atom-fine l a b h i j Lay.Offalign = tt
+atom-fine l a b h i j Lay.Single = tt
+atom-fine l a b h i j Lay.Align = tt
+atom-fine l a b h i j Lay.Indent = tt
 
 unary-fine : (l a : ℕ) → l < 64 → a < 64 → (y : Lay) → Fine (unaryRule l a y)
 unary-fine l a h k Lay.None = record { left = h; clause = k }
@@ -56,7 +65,7 @@ binary-fine l a b h j k Lay.Indent = record { left = h; clause = (j, k) }
 
 lay-fine : (l : ℕ) (k : Kind) (a b : ℕ) → l < 64 → a < 64 → b < 64 → (y : Lay) → Fine (layRule l k a b y)
 lay-fine l Kind.E a b h i j y = plain-fine l Clause.Empty h tt y
-lay-fine l Kind.A a b h i j y = plain-fine l (Clause.Atom a) h i y
+lay-fine l Kind.A a b h i j y = atom-fine l a b h i j y
 lay-fine l Kind.U a b h i j y = unary-fine l a h i y
 lay-fine l Kind.B a b h i j y = binary-fine l a b h i j y
 
@@ -68,7 +77,7 @@ of-fine l k a b y =
     either Fine (shape k (a .dash) (b .dash))
     (λ e. either Fine (leb l 63)
     (λ h. either Fine (leb (a .value) 63)
-    (λ i. either Fine (leb (b .value) 63) (λ j. lay-fine l k (a .value) (b .value) (below l h) (below (a .value) i) (below (b .value) j) y) (λ j. tt)) (λ i. tt)) (λ h. tt))
+    (λ i. either Fine (leb (upTo a b) 63) (λ j. lay-fine l k (a .value) (upTo a b) (below l h) (below (a .value) i) (below (upTo a b) j) y) (λ j. tt)) (λ i. tt)) (λ h. tt))
     (λ e. tt)
 
 fields-fine : (fs : List (List ℕ)) → Fine (ruleFields fs)

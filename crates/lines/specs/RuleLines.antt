@@ -1,4 +1,4 @@
--- What a rule line says: 01, "The two sheets" and the conditions 2, 3 and 4.
+-- What a rule line says: 01, "The two sheets" and the conditions 2, 3, 4 and 44.
 use Prim.Native.Nat.{ℕ}
 use mathlib.Core.List.{List}
 use mathlib.Core.Bool.{Bool, not, cond, _&&_}
@@ -16,16 +16,16 @@ use Rattle.fields.specs.Pieces.{pieces}
 use Rattle.fields.specs.Words.{numeralOf, kindOf, operandOf, layOf}
 use Rattle.fields.specs.Fields.{withField, atEnd}
 use Rattle.lines.specs.declared.RuleLine.{RuleLine}
-use Rattle.lines.specs.declared.RuleLine.the-variants.{Good, Form, Range, Unfit}
+use Rattle.lines.specs.declared.RuleLine.the-variants.{Good, Form, Range, Unfit, Reversed}
 
--- which of first and second are `-`, by the kind
+-- which of first and second are `-`, by the kind; the second of an A rule may be either
 abbrev pub shape : Kind → Bool → Bool → Bool
 shape Kind.E a b = a && b
-shape Kind.A a b = not a && b
+shape Kind.A a b = not a
 shape Kind.U a b = not a && b
 shape Kind.B a b = not a && not b
 
--- 4: lay not allowed for the kind. E and A: none
+-- 4: lay not allowed for the kind. E: none
 abbrev pub plainRule : ℕ → Clause → Lay → RuleLine
 plainRule l c Lay.None = Good (record { left = l; clause = c })
 plainRule l c Lay.Offside = Unfit
@@ -33,6 +33,15 @@ plainRule l c Lay.Offalign = Unfit
 plainRule l c Lay.Single = Unfit
 plainRule l c Lay.Align = Unfit
 plainRule l c Lay.Indent = Unfit
+
+-- A: none; then 44: second below first
+abbrev pub atomRule : ℕ → ℕ → ℕ → Lay → RuleLine
+atomRule l a b Lay.None = cond (leb a b) (Good (record { left = l; clause = Clause.Atom a b })) Reversed
+atomRule l a b Lay.Offside = Unfit
+atomRule l a b Lay.Offalign = Unfit
+atomRule l a b Lay.Single = Unfit
+atomRule l a b Lay.Align = Unfit
+atomRule l a b Lay.Indent = Unfit
 
 -- U: none, offside, offalign, single
 abbrev pub unaryRule : ℕ → ℕ → Lay → RuleLine
@@ -54,15 +63,19 @@ binaryRule l a b Lay.Indent = Good (record { left = l; clause = Clause.Binary a 
 
 abbrev pub layRule : ℕ → Kind → ℕ → ℕ → Lay → RuleLine
 layRule l Kind.E a b y = plainRule l Clause.Empty y
-layRule l Kind.A a b y = plainRule l (Clause.Atom a) y
+layRule l Kind.A a b y = atomRule l a b y
 layRule l Kind.U a b y = unaryRule l a y
 layRule l Kind.B a b y = binaryRule l a b y
 
--- 2: `-` where a number belongs or the reverse; then 3: a number above 63; then 4
+-- where the range of an A rule ends: `-` means first alone
+abbrev pub upTo : Operand → Operand → ℕ
+upTo a b = cond (b .dash) (a .value) (b .value)
+
+-- 2: `-` where a number belongs or the reverse; then 3: a number above 63; then 4 and 44
 abbrev pub ruleOf : ℕ → Kind → Operand → Operand → Lay → RuleLine
 ruleOf l k a b y =
     cond (shape k (a .dash) (b .dash))
-    (cond (leb l 63) (cond (leb (a .value) 63) (cond (leb (b .value) 63) (layRule l k (a .value) (b .value) y) Range) Range) Range)
+    (cond (leb l 63) (cond (leb (a .value) 63) (cond (leb (upTo a b) 63) (layRule l k (a .value) (upTo a b) y) Range) Range) Range)
     Form
 
 -- 2: not five fields, a word unknown, a number not of one to five digits

@@ -20,16 +20,17 @@ ghost use lib.ListN.{length};
 ghost use lib.Dec.{ltb};
 ghost use Rattle.fields.specs.Pieces.{bytesLeft, fieldsLeft};
 ghost use Rattle.lines.specs.Turns.{turnOf};
-ghost use Rattle.lines.specs.Keys.{unaryKey, keyOf, sameKey};
-ghost use Rattle.lines.specs.RuleLines.{shape, plainRule, unaryRule, binaryRule, layRule, ruleOf, ruleFields};
+ghost use Rattle.lines.specs.Keys.{unaryKey, keyOf, meets, sameOperands, sameKey};
+ghost use Rattle.lines.specs.RuleLines.{shape, plainRule, atomRule, upTo, unaryRule, binaryRule, layRule, ruleOf, ruleFields};
 ghost use Rattle.lines.specs.TokenLines.{tokenOf, tokenFields};
 
-// A rule, or the first of 01's conditions 2, 3, 4 that holds of the line.
+// A rule, or the first of the conditions 2, 3, 4, 44 that holds of the line.
 pub enum RuleLine {
     Good(Rule),
     Form,
     Range,
     Unfit,
+    Reversed,
 }
 
 // A token, or the first of 01's conditions 12, 13 that holds of the line.
@@ -129,18 +130,40 @@ fn shaped(k: Kind, a: bool, b: bool) -> bool
 {
     match k {
         Kind::E => { if a { b } else { false } }
-        Kind::A => { if a { false } else { b } }
+        Kind::A => !a,
         Kind::U => { if a { false } else { b } }
         Kind::B => { if a { false } else { !b } }
     }
 }
 
-// A rule of kind E or A: its lay is none.
+// A rule of kind E: its lay is none.
 fn plain_rule(l: u8, clause: Clause, y: Lay) -> RuleLine
     ensures { λ r. ⌜ r ≡ plainRule l clause y ⌝ }
 {
     match y {
         Lay::None => RuleLine::Good(Rule { left: l, clause }),
+        Lay::Offside => RuleLine::Unfit,
+        Lay::Offalign => RuleLine::Unfit,
+        Lay::Single => RuleLine::Unfit,
+        Lay::Align => RuleLine::Unfit,
+        Lay::Indent => RuleLine::Unfit,
+    }
+}
+
+// A rule of kind A: its lay is none, and its second not below its first.
+fn atom_rule(l: u8, a: u8, b: u8, y: Lay) -> RuleLine
+    ensures { λ r. ⌜ r ≡ atomRule l a b y ⌝ }
+{
+    match y {
+        Lay::None => {
+            if b < a {
+                return RuleLine::Reversed;
+            }
+            RuleLine::Good(Rule {
+                left: l,
+                clause: Clause::Atom(a, b),
+            })
+        }
         Lay::Offside => RuleLine::Unfit,
         Lay::Offalign => RuleLine::Unfit,
         Lay::Single => RuleLine::Unfit,
@@ -204,13 +227,20 @@ fn lay_rule(l: u8, k: Kind, a: u8, b: u8, y: Lay) -> RuleLine
 {
     match k {
         Kind::E => plain_rule(l, Clause::Empty, y),
-        Kind::A => plain_rule(l, Clause::Atom(a), y),
+        Kind::A => atom_rule(l, a, b, y),
         Kind::U => unary_rule(l, a, y),
         Kind::B => binary_rule(l, a, b, y),
     }
 }
 
-// The fields of a rule line: their shape, then their range, then the lay.
+// Where the range of an A rule ends.
+fn up_to(a: Operand, b: Operand) -> u32
+    ensures { λ r. ⌜ r ≡ upTo a b ⌝ }
+{
+    if b.dash { a.value } else { b.value }
+}
+
+// The fields of a rule line: their shape, then their range, then the lay and the order of an A rule's numbers.
 fn rule_of(l: u32, k: Kind, a: Operand, b: Operand, y: Lay) -> RuleLine
     ensures { λ r. ⌜ r ≡ ruleOf l k a b y ⌝ }
 {
@@ -221,10 +251,11 @@ fn rule_of(l: u32, k: Kind, a: Operand, b: Operand, y: Lay) -> RuleLine
         if 63 < a.value {
             return RuleLine::Range;
         }
-        if 63 < b.value {
+        let e = up_to(a, b);
+        if 63 < e {
             return RuleLine::Range;
         }
-        return lay_rule(l as u8, k, a.value as u8, b.value as u8, y);
+        return lay_rule(l as u8, k, a.value as u8, e as u8, y);
     }
     RuleLine::Form
 }
@@ -280,11 +311,11 @@ pub fn key_of(r: Rule) -> Key
             first: 0,
             second: 0,
         },
-        Clause::Atom(a) => Key {
+        Clause::Atom(a, b) => Key {
             left,
             kind: 1,
             first: a,
-            second: 0,
+            second: b,
         },
         Clause::Unary(a, _) => unary_key(left, a),
         Clause::Binary(a, b, _) => Key {
@@ -296,15 +327,36 @@ pub fn key_of(r: Rule) -> Key
     }
 }
 
-// Are these the same left, kind, first and second?
+// Is a terminal in both ranges?
+fn meet(a: Key, b: Key) -> bool
+    ensures { λ r. ⌜ r ≡ meets a b ⌝ }
+{
+    if a.first <= b.second {
+        return b.first <= a.second;
+    }
+    false
+}
+
+// Are these the same first and second?
+fn same_operands(a: Key, b: Key) -> bool
+    ensures { λ r. ⌜ r ≡ sameOperands a b ⌝ }
+{
+    if a.first == b.first {
+        return a.second == b.second;
+    }
+    false
+}
+
+// Are these the same left and kind, and the same first and second, or of A rules a shared terminal?
 pub fn same_key(a: Key, b: Key) -> bool
     ensures { λ r. ⌜ r ≡ sameKey a b ⌝ }
 {
     if a.left == b.left {
         if a.kind == b.kind {
-            if a.first == b.first {
-                return a.second == b.second;
+            if a.kind == 1 {
+                return meet(a, b);
             }
+            return same_operands(a, b);
         }
     }
     false

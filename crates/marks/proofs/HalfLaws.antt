@@ -11,6 +11,7 @@ use Rattle.grammar.specs.declared.UnaryMark.{UnaryMark}
 use Rattle.grammar.specs.declared.BinaryMark.{BinaryMark}
 use Rattle.grammar.specs.Layout.{Word, Keeps, Pairs}
 use Rattle.grammar.specs.Layout as Mark
+use Rattle.grammar.specs.Trees.{Covers}
 use Rattle.grammar.specs.SpanSheet.{part}
 use Rattle.marks.specs.Half.{Half, token, Completes, MayBe, MayKeep, MayPair}
 use Rattle.marks.proofs.Words.{part-at, part-length, unary-span, span-unary, no-left, no-right, binary-span, one-token}
@@ -18,8 +19,8 @@ use Rattle.marks.proofs.Words.{part-at, part-length, unary-span, span-u
 -- ---- what holds of a completion may hold
 
 module _ (h : Half) (w : Word) (c : Completes h w) where
-  pub may-be : (s len : ℕ) (t : Token) → s + len ≤ length w → part w s len ≡ t ∷ [] → MayBe h s (t .terminal)
-  may-be s len t fit e = record { terminal = λ k. ap (λ (x : Token). x .terminal) (sym (c .same s k) ∙ at) }
+  pub may-be : (s len a b : ℕ) (t : Token) → Covers a b (t .terminal) → s + len ≤ length w → part w s len ≡ t ∷ [] → MayBe h s a b
+  may-be s len a b t v fit e = record { terminal = λ k. subst (λ (x : Token). Covers a b (x .terminal)) (sym at ∙ c .same s k) v }
     where
       n : len ≡ 1
       n = sym (part-length w s len fit) ∙ ap length e
@@ -38,8 +39,8 @@ module _ (h : Half) (w : Word) (c : Completes h w) where
 -- ---- among known tokens, what may hold does
 
 module _ (h : Half) (fits : h .known ≤ length (h .word)) where
-  pub is-one : (s a : ℕ) → s + 1 ≤ h .known → MayBe h s a → (t : Token) × (part (h .word) s 1 ≡ t ∷ []) × (t .terminal ≡ a)
-  is-one s a k q = (token (h .word) s, one-token (h .word) s (omega arith), q .terminal (omega arith))
+  pub is-one : (s a b : ℕ) → s + 1 ≤ h .known → MayBe h s a b → (t : Token) × (part (h .word) s 1 ≡ t ∷ []) × Covers a b (t .terminal)
+  is-one s a b k q = (token (h .word) s, one-token (h .word) s (omega arith), q .terminal (omega arith))
 
   pub does-keep : (m : UnaryMark) (s len : ℕ) → s + len ≤ h .known → MayKeep m h s len → Mark.Unary m (part (h .word) s len)
   does-keep m s len k q = span-unary m (h .word) s len (omega arith) (λ i l. q .keeps i l (omega arith))

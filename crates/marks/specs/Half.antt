@@ -7,6 +7,7 @@ use Rattle.grammar.specs.declared.Token.{Token}
 use Rattle.grammar.specs.declared.UnaryMark.{UnaryMark}
 use Rattle.grammar.specs.declared.BinaryMark.{BinaryMark}
 use Rattle.grammar.specs.Layout.{Word, Keeps, Pairs}
+use Rattle.grammar.specs.Trees.{Covers}
 
 pub record Half : Type 0 where
   pub word : Word
@@ -25,9 +26,9 @@ pub record Completes (h : Half) (w : Word) : Type 0 where
   pub long : length w ≡ length (h .word)
   pub same : (i : ℕ) → i < h .known → token w i ≡ token (h .word) i
 
--- the token at s may be the terminal a
-pub record MayBe (h : Half) (s a : ℕ) : Type 0 where
-  pub terminal : s < h .known → token (h .word) s .terminal ≡ a
+-- the token at s may be one of the terminals from a to b
+pub record MayBe (h : Half) (s a b : ℕ) : Type 0 where
+  pub terminal : s < h .known → Covers a b (token (h .word) s .terminal)
 
 -- the unary mark may hold of the span of len tokens from s on
 pub record MayKeep (m : UnaryMark) (h : Half) (s len : ℕ) : Type 0 where

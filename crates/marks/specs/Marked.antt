@@ -9,12 +9,13 @@ use Rattle.grammar.specs.declared.UnaryMark.{UnaryMark}
 use Rattle.grammar.specs.declared.UnaryMark.the-variants as UnaryMark
 use Rattle.grammar.specs.declared.BinaryMark.{BinaryMark}
 use Rattle.grammar.specs.declared.BinaryMark.the-variants as BinaryMark
+use Rattle.grammar.specs.Trees.{Covers}
 use Rattle.marks.specs.declared.SpanMarks.{SpanMarks}
 use Rattle.marks.specs.Half.{Half, MayBe, MayKeep, MayPair}
 
--- by the marks k a span of one token may be the terminal a
-abbrev pub AtomBy : SpanMarks → ℕ → Type 0
-AtomBy k a = (k .open ≡ true) ⊎ (k .terminal ≡ a)
+-- by the marks k a span of one token may be one of the terminals from a to b
+abbrev pub AtomBy : SpanMarks → ℕ → ℕ → Type 0
+AtomBy k a b = (k .open ≡ true) ⊎ Covers a b (k .terminal)
 
 -- a unary mark may hold of the span
 abbrev pub UnaryBy : SpanMarks → UnaryMark → Type 0
@@ -56,6 +57,6 @@ alone o t = record { offside = true; offalign = true; single = true; align = 0; 
 
 -- the marks k of the span of len tokens from s on are those of the definitions
 pub record Marked (h : Half) (s len : ℕ) (k : SpanMarks) : Type 0 where
-  pub atom : len ≡ 1 → (a : ℕ) → AtomBy k a ↔ MayBe h s a
+  pub atom : len ≡ 1 → (a b : ℕ) → AtomBy k a b ↔ MayBe h s a b
   pub unary : (m : UnaryMark) → UnaryBy k m ↔ MayKeep m h s len
   pub binary : (m : BinaryMark) (l : ℕ) → l ≤ len → BinaryBy k len m l ↔ MayPair m h s l (len - l)

@@ -178,14 +178,17 @@ pub fn span_marks(d: Draft, start: usize, len: usize) -> SpanMarks
     k
 }
 
-// Do the marks leave the span of one token to the terminal `a`?
-pub fn allows_atom(k: SpanMarks, a: u8) -> bool
-    ensures { λ r. ⌜ Says r (AtomBy k a) ⌝ }
+// Do the marks leave the span of one token to the terminals from `a` to `b`?
+pub fn allows_atom(k: SpanMarks, a: u8, b: u8) -> bool
+    ensures { λ r. ⌜ Says r (AtomBy k a b) ⌝ }
 {
     if k.open {
         return true;
     }
-    k.terminal == a
+    if k.terminal < a {
+        return false;
+    }
+    k.terminal <= b
 }
 
 // Do they leave it to a unary rule with the mark `m`?

@@ -12,7 +12,7 @@ use Rattle.order.specs.Order.{Rearranged}
 module _ {g g′ : Rules} (more : (r : Rule) → List·Memᴰ r g → List·Memᴰ r g′) where
   valid-over : {t : Tree} → Valid g t → Valid g′ t
   valid-over (valid-empty r) = valid-empty (more _ r)
-  valid-over (valid-leaf r) = valid-leaf (more _ r)
+  valid-over (valid-leaf r) = valid-leaf (record { low = r .low; high = r .high; rule = more _ (r .rule); covers = r .covers })
   valid-over (valid-unary m r h v) = valid-unary m (more _ r) h (valid-over v)
   valid-over (valid-binary m r h v w) = valid-binary m (more _ r) h (valid-over v) (valid-over w)
 

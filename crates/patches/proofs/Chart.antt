@@ -13,8 +13,8 @@ use Rattle.grammar.specs.declared.Clause.{Clause}
 use Rattle.grammar.specs.declared.Clause.the-variants.{Empty, Atom, Unary, Binary}
 use Rattle.grammar.specs.Layout.{Word, Every}
 use Rattle.grammar.specs.Layout as Mark
-use Rattle.grammar.specs.Trees.{Tree, Tree-discrete, empty, leaf, unary, binary, root, word, Rules, HasEmpty, HasAtom, HasUnary, HasBinary, Valid, valid-empty, valid-leaf, valid-unary, valid-binary, Witness, NoTree, OneTree, TwoTrees}
-use Rattle.grammar.proofs.Lists.{eq?, keep, collect, list?, every-keep, mem-keep, every-collect, mem-collect, mem-every, holds, holds-yes}
+use Rattle.grammar.specs.Trees.{Tree, Tree-discrete, empty, leaf, unary, binary, root, word, Rules, HasEmpty, Covers, HasUnary, HasBinary, Valid, valid-empty, valid-leaf, valid-unary, valid-binary, Witness, NoTree, OneTree, TwoTrees}
+use Rattle.grammar.proofs.Lists.{eq?, le?, both?, map?, keep, collect, list?, every-keep, mem-keep, every-collect, mem-collect, mem-every, holds, holds-yes}
 use Rattle.grammar.proofs.Marks.{unary?, binary?, token?, word?}
 use Rattle.patches.proofs.Infixes.{within?, within, Infix, infix-self, infix-left, infix-right, infix-mem}
 
@@ -22,8 +22,11 @@ abbrev pub tree? : Discrete Tree
 tree? = Tree-discrete eq? token?
 
 -- the trees that one rule makes of the tokens of w, of a tree, of two trees
-abbrev pub leaves : Word → ℕ → ℕ → List Tree
-leaves w A a = collect (λ t. keep (eq? a (t .terminal)) (leaf A t ∷ [])) w
+abbrev pub covers? : (a b x : ℕ) → Dec (Covers a b x)
+covers? a b x = map? (both? (le? a x) (le? x b)) (λ p. record { low = p .0; high = p .1 }) (λ h. (h .low, h .high))
+
+abbrev pub leaves : Word → ℕ → ℕ → ℕ → List Tree
+leaves w A a b = collect (λ t. keep (covers? a b (t .terminal)) (leaf A t ∷ [])) w
 
 abbrev pub over : ℕ → ℕ → UnaryMark → Tree → List Tree
 over A B m t = let r = keep (unary? m (word t)) (unary A t ∷ []) in keep (eq? B (root t)) r
@@ -39,7 +42,7 @@ pairs w C A B D m s = let r = collect (pair w A D m s) C in keep (eq? B (root s)
 
 abbrev pub by : Word → List Tree → ℕ → Clause → List Tree
 by w C A Empty = empty A ∷ []
-by w C A (Atom a) = leaves w A a
+by w C A (Atom a b) = leaves w A a b
 by w C A (Unary B m) = collect (over A B m) C
 by w C A (Binary B D m) = collect (pairs w C A B D m) C
 
@@ -52,8 +55,8 @@ step g w C = collect (rule w C) g
 -- what a step makes of valid trees is valid
 by-sound : (g : Rules) (w : Word) (C : List Tree) → Every (Valid g) C → (A : ℕ) (c : Clause) → List·Memᴰ (record { left = A; clause = c }) g → Every (Valid g) (by w C A c)
 by-sound g w C v A Empty h = (valid-empty h, tt)
-by-sound g w C v A (Atom a) h =
-    every-collect (Valid g) _ w (λ t m. every-keep (Valid g) (eq? a (t .terminal)) _ (λ e. (valid-leaf (subst (λ (x : ℕ). HasAtom g A x) e h), tt)))
+by-sound g w C v A (Atom a b) h =
+    every-collect (Valid g) _ w (λ t m. every-keep (Valid g) (covers? a b (t .terminal)) _ (λ e. (valid-leaf (record { low = a; high = b; rule = h; covers = e }), tt)))
 by-sound g w C v A (Unary B m) h =
     every-collect (Valid g) _ C
     (λ t i. every-keep (Valid g) (eq? B (root t)) _
@@ -77,8 +80,8 @@ complete g w C same (empty A) (valid-empty h) i =
     subst (λ (l : List Tree). List·Memᴰ (empty A) l) same (mem-collect (rule w C) g h (List·Memᴰ·head refl))
 complete g w C same (leaf A t) (valid-leaf h) i =
     subst (λ (l : List Tree). List·Memᴰ (leaf A t) l) same
-    (mem-collect (rule w C) g h
-    (mem-collect _ w (infix-mem i) (mem-keep (eq? (t .terminal) (t .terminal)) refl (List·Memᴰ·head refl))))
+    (mem-collect (rule w C) g (h .rule)
+    (mem-collect _ w (infix-mem i) (mem-keep (covers? (h .low) (h .high) (t .terminal)) (h .covers) (List·Memᴰ·head refl))))
 complete g w C same (unary A t) (valid-unary m h μ v) i =
     subst (λ (l : List Tree). List·Memᴰ (unary A t) l) same
     (mem-collect (rule w C) g h

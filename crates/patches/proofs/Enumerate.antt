@@ -2,21 +2,23 @@
 use mathlib.Core.Path.{_≡_, refl, sym, ap, subst, subst⁻¹}
 use mathlib.Core.Logic.{_⊎_, inl, inr, ⊎-elim}
 use mathlib.Core.List.{List, [], _∷_, _++_, map, List·Memᴰ, List·Memᴰ·head, List·Memᴰ·tail}
-use Prim.Native.Nat.{ℕ, zero, suc, _+_, _≤_, _<_}
+use mathlib.Core.Bool.{Bool, true, false}
+use Prim.Native.Nat.{ℕ, zero, suc, _+_, _-_, _≤_, _<_}
 use native.Mathlib.Omega.{arith}
 use lib.ListN.{length}
 use Rattle.grammar.specs.declared.Token.{Token}
 use Rattle.grammar.specs.declared.Cell.{Cell}
 use Rattle.grammar.specs.declared.Rule.{Rule}
-use Rattle.grammar.specs.declared.UnaryMark.{UnaryMark}
-use Rattle.grammar.specs.declared.BinaryMark.{BinaryMark}
 use Rattle.grammar.specs.declared.Clause.{Clause}
 use Rattle.grammar.specs.declared.Clause.the-variants.{Empty, Atom, Unary, Binary}
 use Rattle.grammar.specs.Layout.{Word, line, col}
 use Rattle.grammar.specs.Trees.{Rules}
 use Rattle.grammar.specs.Candidates.{After, RisingFrom, Rising, sentence, Terminal, Ranged, Cells, Arrangement, Candidate, CellBefore, Before, Earlier}
 use Rattle.grammar.proofs.Lists.{eq?, le?, both?, or?, map?, some?, Some, collect, mem-collect}
+use Rattle.grammar.specs.Sweeps.{isAtom}
+use Rattle.grammar.proofs.Atoms.{covers-is, has-atom}
 use Rattle.grammar.proofs.SweepLaws.{cell-path}
+use Rattle.sets.proofs.Says.{true-not-false}
 
 -- 1. decisions
 
@@ -62,36 +64,35 @@ earlier? cs ds = let r = before? cs ds in or? (le? (suc (length cs)) (length ds)
 
 -- 2. the terminals
 
-pub empty-apart : {a : ℕ} → Empty ≡ Atom a → ⊥
-empty-apart e = let z : _≡_ {A = ℕ} 0 1 = cc in omega arith
+abbrev pub true? : (b : Bool) → Dec (b ≡ true)
+true? true = yes refl
+true? false = no (λ e. true-not-false (sym e))
 
-pub unary-apart : {a B : ℕ} {m : UnaryMark} → Unary B m ≡ Atom a → ⊥
-unary-apart e = let z : _≡_ {A = ℕ} 0 1 = cc in omega arith
+pub terminal-of : {g : Rules} {a : ℕ} → Some (λ (r : Rule). isAtom a (r .clause) ≡ true) g → Terminal g a
+terminal-of {a = a} s = (s .0 .left, has-atom (s .0) a (s .1) (s .2))
 
-pub binary-apart : {a B C : ℕ} {m : BinaryMark} → Binary B C m ≡ Atom a → ⊥
-binary-apart e = let z : _≡_ {A = ℕ} 0 1 = cc in omega arith
-
-pub atom-same : {a b : ℕ} → Atom b ≡ Atom a → b ≡ a
-atom-same e = cc
-
-abbrev pub atom? : (a : ℕ) (c : Clause) → Dec (c ≡ Atom a)
-atom? a Empty = no empty-apart
-atom? a (Atom b) = map? (eq? b a) (λ e. ap Atom e) atom-same
-atom? a (Unary B m) = no unary-apart
-atom? a (Binary B C m) = no binary-apart
-
-pub terminal-of : {g : Rules} {a : ℕ} → Some (λ (r : Rule). r .clause ≡ Atom a) g → Terminal g a
-terminal-of {g} s = (s .0 .left, subst (λ (r : Rule). List·Memᴰ r g) (λ i. record { left = s .0 .left; clause = s .2 i }) (s .1))
-
-pub of-terminal : {g : Rules} {a : ℕ} → Terminal g a → Some (λ (r : Rule). r .clause ≡ Atom a) g
-of-terminal {a = a} t = (record { left = t .0; clause = Atom a }, t .1, refl)
+pub of-terminal : {g : Rules} {a : ℕ} → Terminal g a → Some (λ (r : Rule). isAtom a (r .clause) ≡ true) g
+of-terminal {a = a} t = let h = t .1 in (record { left = t .0; clause = Atom (h .low) (h .high) }, h .rule, covers-is (h .low) (h .high) a (h .covers))
 
 abbrev pub terminal? : (g : Rules) (a : ℕ) → Dec (Terminal g a)
-terminal? g a = map? (some? (λ (r : Rule). atom? a (r .clause)) g) terminal-of of-terminal
+terminal? g a = map? (some? (λ (r : Rule). true? (isAtom a (r .clause))) g) terminal-of of-terminal
+
+-- n numbers from a upward
+abbrev pub from : ℕ → ℕ → List ℕ
+from a zero = []
+from a (suc n) = a ∷ from (suc a) n
+
+mem-from : (a n x : ℕ) → a ≤ x → x < a + n → List·Memᴰ x (from a n)
+mem-from a zero x l h = absurd (omega arith)
+mem-from a (suc n) x l h = go (λ p q. mem-from (suc a) n x p q) (eq? x a)
+  where
+    go : (suc a ≤ x → x < suc a + n → List·Memᴰ x (from (suc a) n)) → Dec (x ≡ a) → List·Memᴰ x (from a (suc n))
+    go below (yes e) = List·Memᴰ·head e
+    go below (no d) = List·Memᴰ·tail (below (omega arith) (omega arith))
 
 abbrev atom-of : Clause → List ℕ
 atom-of Empty = []
-atom-of (Atom a) = a ∷ []
+atom-of (Atom a b) = from a (suc b - a)
 atom-of (Unary B m) = []
 atom-of (Binary B C m) = []
 
@@ -99,7 +100,9 @@ abbrev pub atoms : Rules → List ℕ
 atoms g = collect (λ r. atom-of (r .clause)) g
 
 mem-atoms : (g : Rules) (a : ℕ) → Terminal g a → List·Memᴰ a (atoms g)
-mem-atoms g a t = mem-collect (λ r. atom-of (r .clause)) g (t .1) (List·Memᴰ·head refl)
+mem-atoms g a t =
+    let h = t .1 in
+    mem-collect (λ r. atom-of (r .clause)) g (h .rule) (mem-from (h .low) (suc (h .high) - h .low) a (h .covers .low) (omega (arith, h .covers .low, h .covers .high)))
 
 -- 3. candidates decided
 
@@ -124,19 +127,6 @@ candidate? g n cs =
     (λ k. (k .arranged .size, (k .arranged .cells, k .rising)))
 
 -- 4. all arrangements
-
--- n numbers from a upward
-abbrev pub from : ℕ → ℕ → List ℕ
-from a zero = []
-from a (suc n) = a ∷ from (suc a) n
-
-mem-from : (a n x : ℕ) → a ≤ x → x < a + n → List·Memᴰ x (from a n)
-mem-from a zero x l h = absurd (omega arith)
-mem-from a (suc n) x l h = go (λ p q. mem-from (suc a) n x p q) (eq? x a)
-  where
-    go : (suc a ≤ x → x < suc a + n → List·Memᴰ x (from (suc a) n)) → Dec (x ≡ a) → List·Memᴰ x (from a (suc n))
-    go below (yes e) = List·Memᴰ·head e
-    go below (no d) = List·Memᴰ·tail (below (omega arith) (omega arith))
 
 mem-map : {A B : Type 0} {a : A} (f : A → B) (l : List A) → List·Memᴰ a l → List·Memᴰ (f a) (map f l)
 mem-map f (x ∷ l) (List·Memᴰ·head e) = List·Memᴰ·head (ap f e)

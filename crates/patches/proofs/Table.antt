@@ -78,7 +78,7 @@ first-right g k cs t =
 -- no A rule: no tree has a word
 abbrev no-atom : Clause → Bool
 no-atom Empty = true
-no-atom (Atom a) = false
+no-atom (Atom a b) = false
 no-atom (Unary B m) = true
 no-atom (Binary B C m) = true
 
@@ -87,7 +87,7 @@ no-atoms g = all (λ r. no-atom (r .clause)) g
 
 wordless : (g : Rules) → T (no-atoms g) → (t : Tree) → Valid g t → word t ≡ []
 wordless g n (empty A) (valid-empty h) = refl
-wordless g n (leaf A t) (valid-leaf h) = absurd (mem-every (λ r. T (no-atom (r .clause))) g (all-every (λ r. no-atom (r .clause)) (λ r k. k) g n) h)
+wordless g n (leaf A t) (valid-leaf h) = absurd (mem-every (λ r. T (no-atom (r .clause))) g (all-every (λ r. no-atom (r .clause)) (λ r k. k) g n) (h .rule))
 wordless g n (unary A t) (valid-unary m h μ v) = wordless g n t v
 wordless g n (binary A s t) (valid-binary m h μ v u) = rw (wordless g n s v) (wordless g n t u)
 

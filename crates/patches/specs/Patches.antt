@@ -19,7 +19,7 @@ abbrev pub E : ℕ → Rule
 E A = record { left = A; clause = Empty }
 
 abbrev pub A : ℕ → ℕ → Rule
-A B a = record { left = B; clause = Atom a }
+A B a = record { left = B; clause = Atom a a }
 
 abbrev pub U : ℕ → ℕ → UnaryMark → Rule
 U A B m = record { left = A; clause = Unary B m }

@@ -52,10 +52,15 @@ fn put_rule(r: Rule) {
     let c = r.clause;
     match c {
         Clause::Empty => put(b"E - - none\n"),
-        Clause::Atom(a) => {
+        Clause::Atom(a, b) => {
             put(b"A ");
             put_field(a);
-            put(b"- none\n");
+            if a == b {
+                put(b"- ");
+            } else {
+                put_field(b);
+            }
+            put(b"none\n");
         }
         Clause::Unary(a, m) => {
             put(b"U ");

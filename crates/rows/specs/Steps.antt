@@ -11,7 +11,7 @@ use Rattle.rows.specs.declared.Step.{Step}
 -- the step of a rule with this clause and a left word of k tokens
 abbrev pub stepOf : Clause → ℕ → Bool → Step
 stepOf Clause.Empty k seeking = record { kind = 0; first = 0; second = 0; split = 0; seeking = seeking }
-stepOf (Clause.Atom a) k seeking = record { kind = 1; first = 0; second = 0; split = 0; seeking = seeking }
+stepOf (Clause.Atom a b) k seeking = record { kind = 1; first = 0; second = 0; split = 0; seeking = seeking }
 stepOf (Clause.Unary B m) k seeking = record { kind = 2; first = B; second = 0; split = 0; seeking = seeking }
 stepOf (Clause.Binary B C m) k seeking = record { kind = 3; first = B; second = C; split = k; seeking = seeking }
 

@@ -79,7 +79,7 @@ pub fn step_of(g: Grammar, p: usize, k: usize, seeking: bool) -> Step
             split: 0,
             seeking: seeking,
         },
-        Clause::Atom(_) => Step {
+        Clause::Atom(_, _) => Step {
             kind: 1,
             first: 0,
             second: 0,

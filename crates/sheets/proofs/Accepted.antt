@@ -37,7 +37,7 @@ use Rattle.lines.specs.TokenLines.{tokenLine}
 use Rattle.lines.specs.declared.Key.{Key}
 use Rattle.lines.specs.Keys.{keyOf, sameKey}
 use Rattle.lines.proofs.Small.{line-small}
-use Rattle.lines.proofs.KeyLaws.{key-path, same-refl}
+use Rattle.lines.proofs.KeyLaws.{key-same, key-back}
 use Rattle.sheets.specs.declared.Fault.{Fault}
 use Rattle.sheets.specs.declared.Fault.the-variants as Fault
 use Rattle.sheets.specs.Items.{Step, next, stop, end, Reading, accepted, refused, stepAt, lineStep, onStep, itemsFrom, withNames}
@@ -105,8 +105,8 @@ getElem?-snoc (a ∷ l) x (suc p) e = ⊎-elim inl (λ h. inr (ap suc (h .0), h 
 
 module _ (seen : Rules) (x : Rule) (d : Distinct seen) (fresh : anyOf (hasKey (keyOf x)) seen ≡ false) where
   -- no rule seen has the key of x
-  apart : (p : ℕ) (r : Rule) → getElem? seen p ≡ some r → keyOf r ≡ keyOf x → ⊥
-  apart p r st k = any-none (hasKey (keyOf x)) seen fresh (member-at seen p st) (ap (λ (y : Key). sameKey y (keyOf x)) k ∙ same-refl (keyOf x))
+  apart : (p : ℕ) (r : Rule) → getElem? seen p ≡ some r → sameKey (keyOf r) (keyOf x) ≡ true → ⊥
+  apart p r st k = any-none (hasKey (keyOf x)) seen fresh (member-at seen p st) k
 
   distinct-snoc : Distinct (seen ++ x ∷ [])
   distinct-snoc = record { one = λ p q r s e f h a. go p q r s (getElem?-snoc seen x p e) (getElem?-snoc seen x q f) h a }
@@ -114,8 +114,8 @@ module _ (seen : Rules) (x : Rule) (d : Distinct seen) (fresh : anyOf (hasKey (k
       go : (p q : ℕ) (r s : Rule) → (getElem? seen p ≡ some r) ⊎ ((p ≡ length seen) × (x ≡ r)) → (getElem? seen q ≡ some s) ⊎ ((q ≡ length seen) × (x ≡ s))
           → r .left ≡ s .left → Alike (r .clause) (s .clause) → p ≡ q
       go p q r s (inl e) (inl f) h a = d .one p q r s e f h a
-      go p q r s (inl e) (inr f) h a = absurd (apart p r e (key-path r s h a ∙ ap keyOf (sym (f .1))))
-      go p q r s (inr e) (inl f) h a = absurd (apart q s f (sym (key-path r s h a) ∙ ap keyOf (sym (e .1))))
+      go p q r s (inl e) (inr f) h a = absurd (apart p r e (ap (λ (y : Rule). sameKey (keyOf r) (keyOf y)) (f .1) ∙ key-same r s h a))
+      go p q r s (inr e) (inl f) h a = absurd (apart q s f (ap (λ (y : Rule). sameKey (keyOf s) (keyOf y)) (e .1) ∙ key-back r s h a))
       go p q r s (inr e) (inr f) h a = e .0 ∙ sym (f .0)
 
 -- what a sheet's rules are
@@ -139,6 +139,7 @@ said-kept seen line t k e = go (ruleLine line) refl e
     go RuleLine.Form h e = absurd (let z : _≡_ {A = ℕ} 0 1 = cc in omega arith)
     go RuleLine.Range h e = absurd (let z : _≡_ {A = ℕ} 0 1 = cc in omega arith)
     go RuleLine.Unfit h e = absurd (let z : _≡_ {A = ℕ} 0 1 = cc in omega arith)
+    go RuleLine.Reversed h e = absurd (let z : _≡_ {A = ℕ} 0 1 = cc in omega arith)
     go (RuleLine.Good r) h e = fresh-kept seen r t (line-small line r h) k e
 
 pub rules-kept : (ps : List (List ℕ)) (w : Rules) → itemsFrom ruleStep [] ps ≡ accepted w → Kept w

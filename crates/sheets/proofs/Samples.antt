@@ -48,6 +48,17 @@ padded-much = refl
 padded-token : tokenSheet (tokenNames ++ 10 ∷ 48 ∷ 48 ∷ 54 ∷ 52 ∷ 32 ∷ 49 ∷ 32 ∷ 49 ∷ 10 ∷ []) ≡ refused Fault.TokenRange 2
 padded-token = refl
 
+-- 44: 0 A 2 1 none; but 4 comes first: 0 A 2 1 align
+reversed : ruleSheet (ruleNames ++ 10 ∷ 48 ∷ 32 ∷ 65 ∷ 32 ∷ 50 ∷ 32 ∷ 49 ∷ 32 ∷ 110 ∷ 111 ∷ 110 ∷ 101 ∷ 10 ∷ []) ≡ refused Fault.RuleReversed 2
+reversed = refl
+
+reversed-lay : ruleSheet (ruleNames ++ 10 ∷ 48 ∷ 32 ∷ 65 ∷ 32 ∷ 50 ∷ 32 ∷ 49 ∷ 32 ∷ 97 ∷ 108 ∷ 105 ∷ 103 ∷ 110 ∷ 10 ∷ []) ≡ refused Fault.RuleLay 2
+reversed-lay = refl
+
+-- a shared terminal: 0 A 1 3 none; 0 A 003 - none
+shared : ruleSheet (ruleNames ++ 10 ∷ 48 ∷ 32 ∷ 65 ∷ 32 ∷ 49 ∷ 32 ∷ 51 ∷ 32 ∷ 110 ∷ 111 ∷ 110 ∷ 101 ∷ 10 ∷ 48 ∷ 32 ∷ 65 ∷ 32 ∷ 48 ∷ 48 ∷ 51 ∷ 32 ∷ 45 ∷ 32 ∷ 110 ∷ 111 ∷ 110 ∷ 101 ∷ 10 ∷ []) ≡ refused Fault.RuleTwice 3
+shared = refl
+
 -- two blanks: an empty field: 0 E -  - none
 parted : ruleSheet (ruleNames ++ 10 ∷ 48 ∷ 32 ∷ 69 ∷ 32 ∷ 45 ∷ 32 ∷ 32 ∷ 45 ∷ 32 ∷ 110 ∷ 111 ∷ 110 ∷ 101 ∷ 10 ∷ []) ≡ refused Fault.RuleForm 2
 parted = refl

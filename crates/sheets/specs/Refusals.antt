@@ -8,6 +8,7 @@ numberOf Fault.RuleNames = 1
 numberOf Fault.RuleForm = 2
 numberOf Fault.RuleRange = 3
 numberOf Fault.RuleLay = 4
+numberOf Fault.RuleReversed = 44
 numberOf Fault.RuleTwice = 5
 numberOf Fault.RuleMany = 6
 numberOf Fault.NoStart = 7

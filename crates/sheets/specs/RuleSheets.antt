@@ -1,4 +1,4 @@
--- What a rule sheet says: its rules, or the refusal with its line. 01, refusals 1 to 8.
+-- What a rule sheet says: its rules, or the refusal with its line. 01, refusals 1 to 8, and 44.
 use Prim.Native.Nat.{ℕ}
 use mathlib.Core.List.{List, [], _∷_}
 use mathlib.Core.Bool.{Bool, true, false, cond, _||_}
@@ -29,21 +29,22 @@ abbrev pub anyOf : {A : Type 0} → (A → Bool) → List A → Bool
 anyOf p [] = false
 anyOf p (x ∷ xs) = p x || anyOf p xs
 
--- 5: an earlier line has the same left, kind, first and second, under any lay
+-- 5: an earlier line has the same left, kind, first and second, under any lay; of kind A, the same left and a terminal of this one
 abbrev pub freshStep : Rules → Rule → Step Rule
 freshStep seen r = cond (anyOf (hasKey (keyOf r)) seen) (stop Fault.RuleTwice) (next r)
 
--- 2, 3, 4, 5
+-- 2, 3, 4, 44, 5
 abbrev pub ruleSaid : Rules → RuleLine → Step Rule
 ruleSaid seen RuleLine.Form = stop Fault.RuleForm
 ruleSaid seen RuleLine.Range = stop Fault.RuleRange
 ruleSaid seen RuleLine.Unfit = stop Fault.RuleLay
+ruleSaid seen RuleLine.Reversed = stop Fault.RuleReversed
 ruleSaid seen (RuleLine.Good r) = freshStep seen r
 
 abbrev pub ruleSays : Rules → List ℕ → Step Rule
 ruleSays seen line = ruleSaid seen (ruleLine line)
 
--- a rule line after the rules seen: 6 (a 129th rule), then 2, 3, 4, 5
+-- a rule line after the rules seen: 6 (a 129th rule), then 2, 3, 4, 44, 5
 abbrev pub ruleStep : Rules → List ℕ → Bool → Step Rule
 ruleStep = lineStep 128 Fault.RuleMany Fault.RuleForm ruleSays
 

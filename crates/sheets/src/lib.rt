@@ -32,6 +32,7 @@ pub enum Fault {
     RuleForm,
     RuleRange,
     RuleLay,
+    RuleReversed,
     RuleTwice,
     RuleMany,
     NoStart,
@@ -56,6 +57,7 @@ pub fn fault_number(f: Fault) -> u64
         Fault::RuleForm => 2,
         Fault::RuleRange => 3,
         Fault::RuleLay => 4,
+        Fault::RuleReversed => 44,
         Fault::RuleTwice => 5,
         Fault::RuleMany => 6,
         Fault::NoStart => 7,
@@ -155,6 +157,7 @@ fn rule_said(s: &[u8], c: Cursor, rules: [Rule; 128], n: usize) -> RuleStep
         RuleLine::Form => RuleStep::Stop(Fault::RuleForm),
         RuleLine::Range => RuleStep::Stop(Fault::RuleRange),
         RuleLine::Unfit => RuleStep::Stop(Fault::RuleLay),
+        RuleLine::Reversed => RuleStep::Stop(Fault::RuleReversed),
         RuleLine::Good(r) => fresh(rules, n, r),
     }
 }

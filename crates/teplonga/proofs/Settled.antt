@@ -71,6 +71,7 @@ faultOf n =
     (cond (eqb n 2) Fault.RuleForm
     (cond (eqb n 3) Fault.RuleRange
     (cond (eqb n 4) Fault.RuleLay
+    (cond (eqb n 44) Fault.RuleReversed
     (cond (eqb n 5) Fault.RuleTwice
     (cond (eqb n 6) Fault.RuleMany
     (cond (eqb n 7) Fault.NoStart
@@ -83,13 +84,14 @@ faultOf n =
     (cond (eqb n 21) Fault.FewWords
     (cond (eqb n 22) Fault.FewRows
     (cond (eqb n 23) Fault.BadBound
-    (Fault.ManyCandidates))))))))))))))))
+    (Fault.ManyCandidates)))))))))))))))))
 
 fault-of : (f : Fault) → faultOf (numberOf f) ≡ f
 fault-of Fault.RuleNames = refl
 fault-of Fault.RuleForm = refl
 fault-of Fault.RuleRange = refl
 fault-of Fault.RuleLay = refl
+fault-of Fault.RuleReversed = refl
 fault-of Fault.RuleTwice = refl
 fault-of Fault.RuleMany = refl
 fault-of Fault.NoStart = refl

@@ -13,7 +13,7 @@ fn required(call: &str) -> Vec<String> {
         "sweep" => (&["two", "clear"], &[21, 23, 24]),
         _ => (&[], &[11, 12, 13, 14, 15, 21]),
     };
-    let numbers = (1..=8).chain(numbers.iter().copied());
+    let numbers = (1..=8).chain([44]).chain(numbers.iter().copied());
     let words = words.iter().map(|word| word.to_string());
     words.chain(numbers.map(|number| format!("refused-{number}"))).collect()
 }
@@ -21,7 +21,7 @@ fn required(call: &str) -> Vec<String> {
 /// The answers in the order of the table.
 fn answers() -> Vec<String> {
     let words = ["none", "one", "two", "clear"].map(str::to_string);
-    let numbers = (1..=8).chain(11..=15).chain(21..=24);
+    let numbers = (1..=8).chain(11..=15).chain(21..=24).chain([44]);
     words.into_iter().chain(numbers.map(|number| format!("refused-{number}"))).collect()
 }
 

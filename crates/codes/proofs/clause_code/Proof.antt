@@ -22,38 +22,38 @@ mul-result c = search needs
 add-result : tie.Need-add-result
 add-result c = search needs
 
-enum-known-c-2 : tie.Need-enum-known-c-2
-enum-known-c-2 c = search needs
-
-unary-digit-requires : tie.Need-unary-digit-requires
-unary-digit-requires c κs = search needs
-
-add-result-2 : tie.Need-add-result-2
-add-result-2 c = search needs
-
 wide-requires-2 : tie.Need-wide-requires-2
 wide-requires-2 c κs = search needs
 
 mul-result-2 : tie.Need-mul-result-2
 mul-result-2 c = search needs
 
+add-result-2 : tie.Need-add-result-2
+add-result-2 c = search needs
+
+enum-known-c-2 : tie.Need-enum-known-c-2
+enum-known-c-2 c = search needs
+
+unary-digit-requires : tie.Need-unary-digit-requires
+unary-digit-requires c κs = search needs
+
 add-result-3 : tie.Need-add-result-3
 add-result-3 c = search needs
-
-enum-known-c-3 : tie.Need-enum-known-c-3
-enum-known-c-3 c = search needs
-
-binary-digit-requires : tie.Need-binary-digit-requires
-binary-digit-requires c κs = search needs
-
-add-result-4 : tie.Need-add-result-4
-add-result-4 c = search needs
 
 wide-requires-3 : tie.Need-wide-requires-3
 wide-requires-3 c κs = search needs
 
 mul-result-3 : tie.Need-mul-result-3
 mul-result-3 c = search needs
+
+add-result-4 : tie.Need-add-result-4
+add-result-4 c = search needs
+
+enum-known-c-3 : tie.Need-enum-known-c-3
+enum-known-c-3 c = search needs
+
+binary-digit-requires : tie.Need-binary-digit-requires
+binary-digit-requires c κs = search needs
 
 add-result-5 : tie.Need-add-result-5
 add-result-5 c = search needs
@@ -67,21 +67,31 @@ mul-result-4 c = search needs
 add-result-6 : tie.Need-add-result-6
 add-result-6 c = search needs
 
+wide-requires-5 : tie.Need-wide-requires-5
+wide-requires-5 c κs = search needs
+
+mul-result-5 : tie.Need-mul-result-5
+mul-result-5 c = search needs
+
+add-result-7 : tie.Need-add-result-7
+add-result-7 c = search needs
+
 returns : tie.Need-returns
 returns c = (omega arith, gives-empty ∙ sym (c .enum-told .given .1))
 
 returns-2 : tie.Need-returns-2
 returns-2 c =
-    let e = c .before .before .c .given .1 in
-    let h = subst SmallClause e (c .before .before .before .before .pre) in
-    let w = c .wide .ensures in
-    (omega (arith, h, w), gives-atom _ _ (omega (arith, w)) h ∙ sym e)
+    let e = c .before .before .before .c .given .1 in
+    let h = subst SmallClause e (c .before .before .before .before .before .pre) in
+    let w = c .before .wide .ensures in
+    let x = c .wide2 .ensures in
+    (omega (arith, h .0, h .1, w, x), gives-atom _ _ _ (omega (arith, w, x)) (h .0) (h .1) ∙ sym e)
 
 returns-3 : tie.Need-returns-3
 returns-3 c =
     let e = c .before .before .before .c2 .given .1 in
     let h = subst SmallClause e (c .before .before .before .before .before .pre) in
-    let w = c .wide2 .ensures in
+    let w = c .wide3 .ensures in
     let d = c .before .unary-digit .ensures in
     (omega (arith, h, w, d .0), gives-unary _ _ _ _ (omega (arith, w)) d h ∙ sym e)
 
@@ -89,8 +99,8 @@ returns-4 : tie.Need-returns-4
 returns-4 c =
     let e = c .before .before .before .before .c3 .given .1 in
     let h = subst SmallClause e (c .before .before .before .before .before .before .pre) in
-    let w = c .before .wide3 .ensures in
-    let x = c .wide4 .ensures in
+    let w = c .before .wide4 .ensures in
+    let x = c .wide5 .ensures in
     let d = c .before .before .binary-digit .ensures in
     (omega (arith, h .0, h .1, w, x, d .0), gives-binary _ _ _ _ _ (omega (arith, w, x)) d (h .0) (h .1) ∙ sym e)
 
@@ -103,21 +113,24 @@ clause-code-spec =
     wide-requires
     mul-result
     add-result
-    enum-known-c-2
-    unary-digit-requires
-    add-result-2
     wide-requires-2
     mul-result-2
+    add-result-2
+    enum-known-c-2
+    unary-digit-requires
     add-result-3
-    enum-known-c-3
-    binary-digit-requires
-    add-result-4
     wide-requires-3
     mul-result-3
+    add-result-4
+    enum-known-c-3
+    binary-digit-requires
     add-result-5
     wide-requires-4
     mul-result-4
     add-result-6
+    wide-requires-5
+    mul-result-5
+    add-result-7
     returns
     returns-2
     returns-3

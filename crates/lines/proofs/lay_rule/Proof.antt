@@ -13,8 +13,8 @@ plain-rule-requires c κs = search needs
 enum-told-2 : tie.Need-enum-told-2
 enum-told-2 c = search needs
 
-plain-rule-requires-2 : tie.Need-plain-rule-requires-2
-plain-rule-requires-2 c κs = search needs
+atom-rule-requires : tie.Need-atom-rule-requires
+atom-rule-requires c κs = search needs
 
 enum-told-3 : tie.Need-enum-told-3
 enum-told-3 c = search needs
@@ -32,7 +32,7 @@ returns : tie.Need-returns
 returns c = c .plain-rule .ensures ∙ rw (c .before .enum-told .given .1)
 
 returns-2 : tie.Need-returns-2
-returns-2 c = c .plain-rule2 .ensures ∙ rw (c .before .enum-told2 .given .1)
+returns-2 c = c .atom-rule .ensures ∙ rw (c .before .enum-told2 .given .1)
 
 returns-3 : tie.Need-returns-3
 returns-3 c = c .unary-rule .ensures ∙ rw (c .before .enum-told3 .given .1)
@@ -47,7 +47,7 @@ lay-rule-spec =
     enum-told
     plain-rule-requires
     enum-told-2
-    plain-rule-requires-2
+    atom-rule-requires
     enum-told-3
     unary-rule-requires
     enum-told-4

@@ -1,8 +1,11 @@
 -- `lines::rule_of` meets its contract: the tests are the definition's, in its order.
 use mathlib.Core.Path.{_≡_, refl, sym, ap, _∙_}
+use Prim.Native.Nat.{ℕ}
+use lib.Dec.{leb}
 use borrow.Author.Tests.{le-leb, lt-leb}
 use Rattle.fields.proofs.Pick.{into, miss}
 use borrow.Author.Needs.{needs}
+use Rattle.lines.specs.RuleLines.{layRule}
 use Rattle.lines.proofs.rule_of.Statement.{statement}
 use Rattle.lines.proofs.rule_of.Tie as tie
 
@@ -21,6 +24,9 @@ returns-2 c = let t = c .before .before in
     (into (le-leb _ _ (t .if2 .left)) _ _ _
     (miss (lt-leb _ _ (c .if3 .taken)) _ _)))
 
+up-to-requires : tie.Need-up-to-requires
+up-to-requires c κs = search needs
+
 returns-3 : tie.Need-returns-3
 returns-3 c = let u = c .before .before in
     let t = u .before .before in
@@ -28,7 +34,7 @@ returns-3 c = let u = c .before .before in
     sym (into (sym (s .before .shaped .ensures) ∙ s .if1 .taken) _ _ _
     (into (le-leb _ _ (t .if2 .left)) _ _ _
     (into (le-leb _ _ (u .if3 .left)) _ _ _
-    (miss (lt-leb _ _ (c .if4 .taken)) _ _))))
+    (miss (ap (λ (x : ℕ). leb x 63) (sym (c .before .up-to .ensures)) ∙ lt-leb _ _ (c .if4 .taken)) _ _))))
 
 cast-lay-rule : tie.Need-cast-lay-rule
 cast-lay-rule c = search needs
@@ -43,14 +49,16 @@ lay-rule-requires : tie.Need-lay-rule-requires
 lay-rule-requires c κs = search needs
 
 returns-4 : tie.Need-returns-4
-returns-4 c = let v = c .before .before .before in
+returns-4 c = let v = c .before .before in
     let u = v .before .before in
     let t = u .before .before in
     let s = t .before in
+    let a = s .before .before .args in
+    let e = sym (v .before .up-to .ensures) in
     c .lay-rule .ensures ∙ sym (into (sym (s .before .shaped .ensures) ∙ s .if1 .taken) _ _ _
     (into (le-leb _ _ (t .if2 .left)) _ _ _
     (into (le-leb _ _ (u .if3 .left)) _ _ _
-    (into (le-leb _ _ (v .if4 .left)) _ _ _ refl))))
+    (into (ap (λ (x : ℕ). leb x 63) e ∙ le-leb _ _ (v .if4 .left)) _ _ _ (ap (λ (x : ℕ). layRule (a .l) (a .k) (a .a .value) x (a .y)) e)))))
 
 returns-5 : tie.Need-returns-5
 returns-5 c = sym (miss (sym (c .before .shaped .ensures) ∙ c .if1 .left) _ _)
@@ -62,6 +70,7 @@ rule-of-spec =
     shaped-requires
     returns
     returns-2
+    up-to-requires
     returns-3
     cast-lay-rule
     cast-lay-rule-2

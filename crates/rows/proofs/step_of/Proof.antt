@@ -30,7 +30,7 @@ returns : tie.Need-returns
 returns c = λ x e. step-at (c .before .before .before .args .t1 .rules) _ x _ Empty _ _ e (c .enum-told .given .1)
 
 returns-2 : tie.Need-returns-2
-returns-2 c = λ x e. step-at (c .before .before .before .args .t1 .rules) _ x _ (Atom _) _ _ e (c .enum-told2 .given .1)
+returns-2 c = λ x e. step-at (c .before .before .before .args .t1 .rules) _ x _ (Atom _ _) _ _ e (c .enum-told2 .given .1)
 
 returns-3 : tie.Need-returns-3
 returns-3 c = λ x e. step-at (c .before .before .before .before .args .t1 .rules) _ x _ (Unary _ _) _ _ e (c .before .c .given .1)

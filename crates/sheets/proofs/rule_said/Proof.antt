@@ -29,6 +29,9 @@ enum-told-2 c = search needs
 enum-told-3 : tie.Need-enum-told-3
 enum-told-3 c = search needs
 
+enum-told-4 : tie.Need-enum-told-4
+enum-told-4 c = search needs
+
 enum-known-r : tie.Need-enum-known-r
 enum-known-r c = search needs
 
@@ -45,7 +48,10 @@ returns-3 : tie.Need-returns-3
 returns-3 c = said (c .before .before) _ (c .enum-told3 .given .1)
 
 returns-4 : tie.Need-returns-4
-returns-4 c = c .fresh .ensures ∙ said (c .before .before .before .before) _ (c .before .before .r .given .1)
+returns-4 c = said (c .before .before) _ (c .enum-told4 .given .1)
+
+returns-5 : tie.Need-returns-5
+returns-5 c = c .fresh .ensures ∙ said (c .before .before .before .before) _ (c .before .before .r .given .1)
 
 pub rule-said-spec : {M : Type 1} → statement M
 rule-said-spec =
@@ -55,9 +61,11 @@ rule-said-spec =
     enum-told
     enum-told-2
     enum-told-3
+    enum-told-4
     enum-known-r
     fresh-requires
     returns
     returns-2
     returns-3
-    returns-4)
+    returns-4
+    returns-5)
