@@ -44,12 +44,13 @@ enum {
     TEPLONGA_NO_START = 107,        /* no rule has left 0 */
     TEPLONGA_CYCLIC = 108,          /* cyclic */
     /* token sheet, line 1 */
-    TEPLONGA_TOKEN_NAMES = 111,     /* not the names `term line col`, so ended */
+    TEPLONGA_TOKEN_NAMES = 111,     /* not the names `term line col` or `term line col width`, so ended */
     /* each token line */
-    TEPLONGA_TOKEN_FORM = 112,      /* not three numbers so parted and ended, or one not so written */
+    TEPLONGA_TOKEN_FORM = 112,      /* not three numbers (with `width`: four) so parted and ended, or one not so written */
     TEPLONGA_TOKEN_RANGE = 113,     /* terminal above 63, line or column 0 or above 65,535 */
     TEPLONGA_TOKEN_MANY = 114,      /* a 65th token */
-    TEPLONGA_TOKEN_ORDER = 115,     /* not after the token before */
+    TEPLONGA_TOKEN_WIDTH = 147,     /* width 0 or above 255, or column plus width above 65,536; after 113 */
+    TEPLONGA_TOKEN_ORDER = 115,     /* not after the token before: overlaps it, or stands before it */
     /* lent words, lent tree rows; line 0 */
     TEPLONGA_FEW_WORDS = 121,       /* fewer than the span sheet needs */
     TEPLONGA_FEW_ROWS = 122,        /* a tree has more rows than its memory has whole places */
@@ -71,11 +72,11 @@ enum {
 /* The places of `counts`: the row counts of the first and the second tree. */
 #define TEPLONGA_COUNTS 2
 
-/* The places of `found`: the sentence's length, then terminal, line and column of seven tokens. */
+/* The places of `found`: the sentence's length, then terminal, line and column of seven tokens, each of width 1. */
 #define TEPLONGA_FOUND 22
 
 /*
- * The verdict: none, one or two valid trees of nonterminal 0, or refused 1 to 8, 11 to 15 or 21.
+ * The verdict: none, one or two valid trees of nonterminal 0, or refused 1 to 8, 44, 11 to 15, 47 or 21.
  *
  * An accepted call leaves the span sheet filled in `words`. A refused one changes no word. Words
  * past the span sheet never change.
@@ -85,7 +86,7 @@ uint64_t teplonga_verdict(const uint8_t *rules, size_t rules_length,
                           uint64_t *words, size_t words_length);
 
 /*
- * The verdict and the trees: none, one or two, or refused 1 to 8, 11 to 15, 21 or 22.
+ * The verdict and the trees: none, one or two, or refused 1 to 8, 44, 11 to 15, 47, 21 or 22.
  *
  * The rows of the first tree stand at the front of `first`, those of the second at the front of
  * `second`, in walking order; all bytes after the rows are 0. On `none` both memories are 0, on
@@ -106,7 +107,7 @@ uint64_t teplonga_trees(const uint8_t *rules, size_t rules_length,
 
 /*
  * The sweep: two, where a sentence of 1 to `bound` tokens has two trees, or clear, or refused 1 to
- * 8, 23, 24 or 21.
+ * 8, 44, 23, 24 or 21.
  *
  * An accepted call leaves the words of the span sheet for `bound` tokens 0. A refused one changes
  * no word. Words past the span sheet never change.

@@ -20,6 +20,7 @@ from reading_cases import (
     padded,
     rules,
     tokens,
+    wide_tokens,
 )
 
 
@@ -442,6 +443,42 @@ def ranges():
         yield f"{answer} 0", check(both, (term, 1, 1))
 
 
+# Lines of a token sheet with widths after the names and `0 5 5 4`.
+WIDE_LINES = (
+    (12, b"0 5 9"),
+    (12, b"0 5 9 1 1"),
+    (12, b"0 5 9 000001"),
+    (13, b"64 5 9 1"),
+    (13, b"0 5 65536 1"),
+    (47, b"0 6 1 0"),
+    (47, b"0 6 1 256"),
+    (47, b"0 6 65535 2"),
+    (47, b"0 6 65282 255"),
+    (15, b"0 5 8 1"),
+    (15, b"0 4 9 1"),
+    # 12 before 13, 13 before 47, 47 before 15.
+    (12, b"64 5 9 000000"),
+    (13, b"64 6 1 0"),
+    (47, b"0 5 8 0"),
+)
+
+
+def widths():
+    """Marks look at first columns; on one line no token may overlap the next."""
+    for number, line in WIDE_LINES:
+        yield f"refused-{number} 3", rules(GOOD) + b"\n" + wide_tokens(b"0 5 5 4", line)
+    plain = rule_sheet(PLAIN) + b"\n"
+    yield "two 0", plain + wide_tokens(b"0 1 1 9", b"0 1 10 255", b"0 1 265 1")
+    yield "one 0", plain + wide_tokens(b"0 1 65281 255", b"0 2 65535 1")
+    yield "none 0", plain + wide_tokens()
+    yield "refused-12 2", plain + tokens(b"0 1 1 1")
+    for mark, answer in (("align", "one"), ("indent", "none")):
+        pair = rule_sheet(f"0 B 1 1 {mark} / 1 A 0 - none") + b"\n"
+        yield f"{answer} 0", pair + wide_tokens(b"0 1 3 9", b"0 2 3 2")
+    for col, answer in ((3, "none"), (4, "one")):
+        yield f"{answer} 0", rule_sheet(P6) + b"\n" + wide_tokens(b"0 1 3 9", b"0 2 %d 1" % col)
+
+
 def refused_names():
     good_rules, good_tokens = rules(GOOD), tokens(b"0 1 1")
     yield "refused-1 1", b"\n" + good_tokens
@@ -619,6 +656,7 @@ def meant():
         refused_sheets(),
         padded_numbers(),
         ranges(),
+        widths(),
         refused_names(),
         refused_inputs(),
     ):

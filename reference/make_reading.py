@@ -31,11 +31,16 @@ def reading_lines(name, reading, line_of):
     return b"".join(line + b"\n" for line in lines)
 
 
+def wide_line(token):
+    """A token with its width, without byte 10."""
+    return b"%s %d" % (teplonga.token_line(token), token.width)
+
+
 def expected(rules, tokens):
     refused = teplonga.refused_line(rules, tokens)
     return (
         reading_lines("rules", teplonga.read_rules(rules), teplonga.rule_line)
-        + reading_lines("tokens", teplonga.read_tokens(tokens), teplonga.token_line)
+        + reading_lines("tokens", teplonga.read_tokens(tokens), wide_line)
         + b"line %d\n" % len(refused)
         + refused
         + b"\n"

@@ -11,6 +11,7 @@ import re
 
 RULE_NAMES = b"left kind first second lay"
 TOKEN_NAMES = b"term line col"
+WIDE_NAMES = b"term line col width"
 
 
 def sheet(names, lines):
@@ -23,6 +24,10 @@ def rules(*lines):
 
 def tokens(*lines):
     return sheet(TOKEN_NAMES, lines)
+
+
+def wide_tokens(*lines):
+    return sheet(WIDE_NAMES, lines)
 
 
 def padded(text, digits):
@@ -339,7 +344,38 @@ def refused_token_count():
     yield many_tokens(65).replace(b"63 1 64\n", b"63 1 63\n", 1)
 
 
+def refused_wide_sheets():
+    """Names with `width`: four numbers, refusal 47, and 15 by column plus width."""
+    yield wide_tokens(b"0 1 1 9", b"0 1 9 1")
+    yield wide_tokens(b"0 1 1 255", b"0 1 255 1")
+    yield wide_tokens(b"0 1 65282 255")
+    yield wide_tokens(b"0 1 65535 2")
+    for width in (b"0", b"256", b"00000", b"00256", b"99999"):
+        yield wide_tokens(b"0 1 1 " + width)
+    for line in (b"0 1 1", b"0 1 1 1 1", b"0 1 1 ", b"0 1 1 000001", b"0 1 1 100000", b"0 1 1 -"):
+        yield wide_tokens(line)
+    # 12, 13, 47, 15 in competition.
+    yield wide_tokens(b"0 0 1 000256")
+    yield wide_tokens(b"64 1 1 0")
+    yield wide_tokens(b"0 0 1 256")
+    yield wide_tokens(b"0 1 65536 255")
+    yield wide_tokens(b"0 1 2 1", b"0 1 1 0")
+    yield wide_tokens(b"0 1 2 1", b"0 1 2 1")
+    # A width is taken into account at the line just before alone.
+    yield wide_tokens(b"0 1 1 9", b"0 2 1 1", b"0 1 20 1")
+    yield tokens(b"0 1 1 1")
+    yield WIDE_NAMES
+    yield WIDE_NAMES + b" \n"
+    yield many_wide(64) + b"0"
+    yield many_wide(65)
+
+
+def many_wide(count):
+    return wide_tokens(*[b"%d 1 %d 255" % (n % 64, 255 * n + 1) for n in range(count)])
+
+
 def refused_token_sheets():
+    yield from refused_wide_sheets()
     for start in refused_names(TOKEN_NAMES):
         yield start + (b"0 1 1\n" if start.endswith(b"\n") else b"")
     yield RULES
@@ -359,6 +395,12 @@ def accepted_token_sheets():
     yield tokens(b"0 65535 65535")
     yield tokens(b"0 5 5", b"0 5 6", b"0 6 1")
     yield tokens(b"1 1 1", b"1 2 1", b"1 2 2", b"0 9 1")
+    yield wide_tokens()
+    yield many_wide(64)
+    yield wide_tokens(b"0 1 1 1", b"0 1 2 255", b"3 1 257 1")
+    yield wide_tokens(b"0 1 1 9", b"0 2 1 9")
+    yield wide_tokens(b"0 1 65281 255", b"0 2 65535 1")
+    yield wide_tokens(b"00 001 00001 00002", b"0 1 3 0255")
 
 
 # --------------------------------------------------------------------- pairs

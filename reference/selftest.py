@@ -170,6 +170,7 @@ RULE_FORM = re.compile(
     % {b"n": NUMBER, b"lay": LAY}
 )
 TOKEN_FORM = re.compile(rb"%s %s %s\n" % (NUMBER, NUMBER, NUMBER))
+WIDE_FORM = re.compile(rb"%s %s %s %s\n" % (NUMBER, NUMBER, NUMBER, NUMBER))
 ALLOWED = re.compile(
     rb"\S+ (?:E \S+ \S+ none|A \S+ \S+ none"
     rb"|U \S+ \S+ (?:none|offside|offalign|single)"
@@ -252,20 +253,23 @@ def second_cyclic(rows):
 def pattern_tokens(sheet):
     """Number and line of the first refusal of a token sheet, or None."""
     lines = lines_with_ends(sheet)
-    if lines[0] != b"term line col\n":
+    if lines[0] not in (b"term line col\n", b"term line col width\n"):
         return (11, 1)
+    wide = b"width" in lines[0]
     before = (0, 0)
     for at, line in enumerate(lines[1:], start=2):
         if at == 66:
             return (14, at)
-        if not TOKEN_FORM.fullmatch(line):
+        if not (WIDE_FORM if wide else TOKEN_FORM).fullmatch(line):
             return (12, at)
-        term, row, col = map(int, line.split())
+        term, row, col, width = map(int, line.split() if wide else [*line.split(), 1])
         if term > 63 or row not in range(1, 65536) or col not in range(1, 65536):
             return (13, at)
-        if (row, col) <= before:
+        if width not in range(1, 256) or col + width > 65536:
+            return (47, at)
+        if (row, col) < before:
             return (15, at)
-        before = (row, col)
+        before = (row, col + width)
     return None
 
 
@@ -287,9 +291,12 @@ def readers():
             plain = re.sub(rb"A ([0-9]+) \1 ", rb"A \1 - ", unpadded(rules))
             same("reading", plain.split(b"\n")[1:-1], written)
         if read_tokens[0] == "accepted":
-            same("reading", teplonga.token_sheet(read_tokens[1]), unpadded(tokens))
+            wide = tokens.startswith(teplonga.WIDE_NAMES)
+            line_of = make_reading.wide_line if wide else teplonga.token_line
+            written = [line_of(token) for token in read_tokens[1]]
+            same("reading", unpadded(tokens).split(b"\n")[1:-1], written)
         same("refused line", teplonga.refused_line(rules, tokens), second_line(rules, tokens))
-    same("reading", numbers, {1, 2, 3, 4, 5, 6, 7, 8, 11, 12, 13, 14, 15, 44})
+    same("reading", numbers, {1, 2, 3, 4, 5, 6, 7, 8, 11, 12, 13, 14, 15, 44, 47})
     same("reading", len(cases) <= 300, True)
     same("reading", len(make_reading.all_input()) <= 60_000, True)
     for each in reading_cases.refused_rule_sheets():
@@ -443,7 +450,7 @@ def nested(tree):
     if tree.kind == "E":
         return ("empty", tree.nonterminal)
     if tree.kind == "A":
-        return ("leaf", tree.nonterminal, tuple(tree.word[0]))
+        return ("leaf", tree.nonterminal, tuple(tree.word[0][:3]))
     kind = "unary" if tree.kind == "U" else "binary"
     return (kind, tree.nonterminal, *[nested(child) for child in tree.children])
 
@@ -611,7 +618,7 @@ def candidate_order():
     for terminals, most in (([0], 4), ([2, 5], 3), ([], 2), ([63, 0, 7], 2)):
         for length in range(1, most + 1):
             got = [
-                tuple(tuple(token) for token in each)
+                tuple(tuple(token[:3]) for token in each)
                 for each in teplonga.candidates(terminals, length)
             ]
             same("candidates", got, second_candidates(terminals, length))

@@ -18,6 +18,7 @@ sys.setrecursionlimit(20_000)
 
 RULE_NAMES = b"left kind first second lay"
 TOKEN_NAMES = b"term line col"
+WIDE_NAMES = b"term line col width"
 MOST_RULES = 128
 MOST_TOKENS = 64
 NONTERMINALS = range(64)
@@ -54,6 +55,7 @@ class Token(NamedTuple):
     term: int
     line: int
     col: int
+    width: int = 1
 
 
 def sheet_lines(sheet):
@@ -184,15 +186,17 @@ def rule_line(rule):
 
 # ------------------------------------------------------ reading a token sheet
 
-def token_of_line(line, ended):
-    """The token a line writes, or None where refusal 12 is due."""
+def token_of_line(line, ended, wide):
+    """The token a line writes, or None where refusal 12 is due.
+
+    wide: the names have `width`, and the line four numbers (request 9).
+    """
     parts = fields(line)
-    if not ended or len(parts) != 3:
+    if not ended or len(parts) != (4 if wide else 3):
         return None
-    term, row, col = parts
-    if not (is_number(term) and is_number(row) and is_number(col)):
+    if not all(is_number(part) for part in parts):
         return None
-    return Token(int(term), int(row), int(col))
+    return Token(*map(int, parts))
 
 
 def in_range(token):
@@ -204,22 +208,30 @@ def in_range(token):
     )
 
 
+def width_fits(token):
+    """"width 1 to 255, column plus width at most 65,536" """
+    return 1 <= token.width <= 255 and token.col + token.width <= 65_536
+
+
 def comes_after(token, before):
-    """"a later line, or the same line and a greater column" """
+    """A later line; "on one line a token must begin at or after the column plus
+    width of the one before" """
     if token.line > before.line:
         return True
-    return token.line == before.line and token.col > before.col
+    return token.line == before.line and token.col >= before.col + before.width
 
 
-def token_line_refusal(line, ended, earlier):
-    """The refusal of one token line in the order 14, 12, 13, 15, or None."""
+def token_line_refusal(line, ended, earlier, wide):
+    """The refusal of one token line in the order 14, 12, 13, 47, 15, or None."""
     if len(earlier) == MOST_TOKENS:
         return 14
-    token = token_of_line(line, ended)
+    token = token_of_line(line, ended, wide)
     if token is None:
         return 12
     if not in_range(token):
         return 13
+    if not width_fits(token):
+        return 47
     if earlier and not comes_after(token, earlier[-1]):
         return 15
     return None
@@ -228,19 +240,20 @@ def token_line_refusal(line, ended, earlier):
 def read_tokens(sheet):
     """("refused", number, line) or ("accepted", tokens), by 01's table."""
     lines = sheet_lines(sheet)
-    if lines[0] != (TOKEN_NAMES, True):
+    if lines[0] not in ((TOKEN_NAMES, True), (WIDE_NAMES, True)):
         return refused(11, 1)
+    wide = lines[0][0] == WIDE_NAMES
     tokens = []
     for number, (line, ended) in enumerate(lines[1:], start=2):
-        refusal = token_line_refusal(line, ended, tokens)
+        refusal = token_line_refusal(line, ended, tokens, wide)
         if refusal is not None:
             return refused(refusal, number)
-        tokens.append(token_of_line(line, ended))
+        tokens.append(token_of_line(line, ended, wide))
     return ("accepted", tokens)
 
 
 def token_line(token):
-    """A token, written as in a token sheet, without byte 10."""
+    """A token, written as in a token sheet without widths, without byte 10."""
     return f"{token.term} {token.line} {token.col}".encode()
 
 
@@ -825,7 +838,7 @@ def token_places(sentence):
 
     "The answer's token places past that sentence are 0"
     """
-    return [tuple(token) for token in sentence] + [(0, 0, 0)] * (7 - len(sentence))
+    return [token[:3] for token in sentence] + [(0, 0, 0)] * (7 - len(sentence))
 
 
 def sweep_call(rules, bound, words):

@@ -4,7 +4,7 @@
 use bench::late::{apart, apart_chain, apart_chain_top_first, late};
 use bench::limits::most_fills;
 use bench::random::{rule_line, rule_sheet, Random};
-use bench::twin::grammar::{Column, Line, Rule, Token};
+use bench::twin::grammar::{Column, Line, Rule, Token, Width};
 use bench::twin::{self, chart, sheets, sweep, Swept};
 
 /// The first extension of `tokens` to `n` tokens that has two trees, in the
@@ -21,7 +21,8 @@ fn first_two(rules: &[Rule], terminals: &[u8], n: usize, tokens: &mut Vec<Token>
     for &terminal in terminals {
         for step in 0..=most {
             for column in 1..=n as u16 {
-                let token = Token { terminal, line: Line(line + step), column: Column(column) };
+                let (line, column, width) = (Line(line + step), Column(column), Width(1));
+                let token = Token { terminal, line, column, width };
                 if before.is_some_and(|before| !token.follows(&before)) {
                     continue;
                 }

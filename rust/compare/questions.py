@@ -30,7 +30,7 @@ def salt(chance):
 def sound(chance, least, most):
     rules = sheets.sound_rules(chance)
     tokens = sheets.sentence(chance, rules, least, most)
-    written = (sheets.rule_sheet(rules), teplonga.token_sheet(tokens))
+    written = (sheets.rule_sheet(rules), sheets.token_sheet(chance, tokens))
     if chance.random() < 0.25:
         return tuple(sheets.padded(chance, sheet) for sheet in written)
     return written
@@ -42,8 +42,10 @@ def short(chance):
     for _ in range(8):
         least = chance.choice([0, 1, 2, 3, 4])
         rules, tokens = sound(chance, least, least + chance.choice([0, 1, 2, 4, 6]))
-        read = (teplonga.read_rules(rules)[1], teplonga.read_tokens(tokens)[1])
-        if teplonga.verdict(*read) == wanted:
+        reading = teplonga.read_tokens(tokens)
+        if reading[0] == "refused":
+            break
+        if teplonga.verdict(teplonga.read_rules(rules)[1], reading[1]) == wanted:
             break
     return (rules, tokens)
 
@@ -66,13 +68,13 @@ def both_damaged(chance):
 def without_trees(chance):
     """A sheet without the start or with a cycle, beside any tokens."""
     rules = sheets.refused_rules(chance)
-    return (sheets.rule_sheet(rules), teplonga.token_sheet(sheets.sentence(chance, rules, 0, 4)))
+    return (sheets.rule_sheet(rules), sheets.token_sheet(chance, sheets.sentence(chance, rules, 0, 4)))
 
 
 def loose(chance):
     """Rules drawn without asking whether they are accepted."""
     rules = sheets.few_rules(chance)
-    return (sheets.rule_sheet(rules), teplonga.token_sheet(sheets.sentence(chance, rules, 0, 4)))
+    return (sheets.rule_sheet(rules), sheets.token_sheet(chance, sheets.sentence(chance, rules, 0, 4)))
 
 
 def much(chance):
@@ -82,7 +84,7 @@ def much(chance):
     sheet = sheets.rule_sheet(rules)
     if chance.random() < 0.2:
         sheet = sheets.damaged(chance, sheet)
-    return (sheet, teplonga.token_sheet(sheets.sentence(chance, rules, 0, 5)))
+    return (sheet, sheets.token_sheet(chance, sheets.sentence(chance, rules, 0, 5)))
 
 
 def junked(chance):
@@ -91,7 +93,7 @@ def junked(chance):
 
 
 def long_tokens(chance, rules, count):
-    return teplonga.token_sheet(sheets.placed(chance, sheets.any_terminals(chance, rules, count)))
+    return sheets.token_sheet(chance, sheets.placed(chance, sheets.any_terminals(chance, rules, count)))
 
 
 def past_64(chance):
@@ -292,7 +294,7 @@ def full_sentence(chance):
         if sheets.accepted(sheet):
             count = chance.choice([MOST_TOKENS - 1, MOST_TOKENS])
             terminals = [chance.choice(teplonga.terminals_of(rules)) for _ in range(count)]
-            return call(chance, (sheet, teplonga.token_sheet(sheets.placed(chance, terminals))))
+            return call(chance, (sheet, sheets.token_sheet(chance, sheets.placed(chance, terminals))))
 
 
 def call(chance, both):

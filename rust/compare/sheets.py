@@ -300,6 +300,28 @@ def placed(chance, terminals):
     return tokens
 
 
+def wide_sheet(chance, tokens):
+    """A sheet with widths: mostly such as the places allow, now and then one too wide."""
+    lines = [teplonga.WIDE_NAMES]
+    for at, token in enumerate(tokens):
+        near = tokens[at + 1 : at + 2]
+        room = min(255, 65_536 - token.col)
+        if near and near[0].line == token.line:
+            room = min(room, near[0].col - token.col)
+        width = chance.choice([1, chance.randint(1, room), room])
+        if chance.random() < 0.01:
+            width = chance.choice([0, room + 1, 255, 256])
+        lines.append(b"%s %d" % (teplonga.token_line(token), width))
+    return b"".join(line + b"\n" for line in lines)
+
+
+def token_sheet(chance, tokens):
+    """Without widths, or, once in four, with them."""
+    if chance.random() < 0.75:
+        return teplonga.token_sheet(tokens)
+    return wide_sheet(chance, tokens)
+
+
 def sentence(chance, rules, least, most):
     """Tokens, mostly such as the rules derive but for their marks."""
     usable = usable_rules(rules)
@@ -400,6 +422,7 @@ def damaged(chance, sheet):
 
 def junk(chance):
     """No sheet at all."""
-    names = chance.choice([b"", b"", RULE_NAMES + b"\n", teplonga.TOKEN_NAMES + b"\n"])
+    names = [RULE_NAMES, teplonga.TOKEN_NAMES, teplonga.WIDE_NAMES]
+    names = chance.choice([b"", b"", b"", *[name + b"\n" for name in names]])
     length = chance.choice([0, 0, 1, 5, 40, 2_000])
     return names + bytes(chance.choice(BYTES) for _ in range(length))

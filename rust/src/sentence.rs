@@ -10,7 +10,7 @@ pub struct Line(pub u16);
 #[derive(Clone, Copy, Debug, Default, PartialEq, Eq, PartialOrd, Ord, Hash)]
 pub struct Column(pub u16);
 
-/// A terminal and where it stands.
+/// A terminal and where it stands. The tokens of a sweep have width 1.
 #[derive(Clone, Copy, Debug, Default, PartialEq, Eq, Hash)]
 pub struct Token {
     /// The terminal, 0 to 63.

@@ -7,11 +7,16 @@ pub struct Line(pub u16);
 #[derive(Clone, Copy, Debug, PartialEq, Eq, PartialOrd, Ord)]
 pub struct Column(pub u16);
 
+/// A width is added to a column and compared with nothing.
+#[derive(Clone, Copy, Debug, PartialEq, Eq)]
+pub struct Width(pub u16);
+
 #[derive(Clone, Copy, Debug, PartialEq, Eq)]
 pub struct Token {
     pub terminal: u8,
     pub line: Line,
     pub column: Column,
+    pub width: Width,
 }
 
 #[derive(Clone, Copy, Debug, PartialEq, Eq)]
@@ -45,9 +50,10 @@ pub struct Rule {
 }
 
 impl Token {
-    /// Does this token come after that one?
+    /// Does this token come after that one? On its line, past its width?
     pub fn follows(&self, before: &Token) -> bool {
-        (self.line, self.column) > (before.line, before.column)
+        let end = u32::from(before.column.0) + u32::from(before.width.0);
+        self.line > before.line || self.line == before.line && u32::from(self.column.0) >= end
     }
 }
 

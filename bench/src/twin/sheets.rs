@@ -1,7 +1,7 @@
 //! Rule sheets and token sheets: bytes to rules and tokens, or a refusal.
 
 use super::chart;
-use super::grammar::{has, BinaryMark, Clause, Column, Line, Rule, Token, UnaryMark};
+use super::grammar::{has, BinaryMark, Clause, Column, Line, Rule, Token, UnaryMark, Width};
 
 /// A refusal's number and the line in its sheet, counted from 1, or 0.
 #[derive(Clone, Copy, Debug, PartialEq, Eq)]
@@ -238,38 +238,49 @@ fn edges(rules: &[Rule]) -> [u64; 64] {
 }
 
 /// The token of a line after the earlier ones, or the refusal's number.
-fn token(line: &[u8], earlier: &[Token]) -> Result<Token, u64> {
+fn token(line: &[u8], earlier: &[Token], wide: bool) -> Result<Token, u64> {
     if earlier.len() == MOST_TOKENS {
         return Err(14);
     }
-    let (terminal, line, column) = numbers(line).ok_or(12u64)?;
+    let [terminal, line, column, width] = numbers(line, wide).ok_or(12u64)?;
     let position = 1..=65_535;
     if terminal > 63 || !position.contains(&line) || !position.contains(&column) {
         return Err(13);
     }
-    let token =
-        Token { terminal: terminal as u8, line: Line(line as u16), column: Column(column as u16) };
+    if !(1..=255).contains(&width) || column + width > 65_536 {
+        return Err(47);
+    }
+    let (line, column, width) = (Line(line as u16), Column(column as u16), Width(width as u16));
+    let token = Token { terminal: terminal as u8, line, column, width };
     if earlier.last().is_some_and(|before| !token.follows(before)) {
         return Err(15);
     }
     Ok(token)
 }
 
-/// A token line's three numbers, or nothing where refusal 12 is due.
-fn numbers(line: &[u8]) -> Option<(u32, u32, u32)> {
-    let [terminal, line, column] = fields(line)?;
-    Some((number(terminal)?, number(line)?, number(column)?))
+/// A token line's numbers, the width 1 where the names have none; nothing where
+/// refusal 12 is due.
+fn numbers(line: &[u8], wide: bool) -> Option<[u32; 4]> {
+    let [terminal, line, column, width] = if wide {
+        fields(line)?
+    } else {
+        let [terminal, line, column] = fields(line)?;
+        [terminal, line, column, b"1"]
+    };
+    Some([number(terminal)?, number(line)?, number(column)?, number(width)?])
 }
 
 /// The tokens of a sheet.
 pub fn read_tokens(sheet: &[u8]) -> Result<Vec<Token>, Refusal> {
     let mut lines = lines(sheet);
-    if lines.next() != Some(b"term line col\n") {
-        return Err(Refusal::at(11, 1));
-    }
+    let wide = match lines.next() {
+        Some(b"term line col\n") => false,
+        Some(b"term line col width\n") => true,
+        _ => return Err(Refusal::at(11, 1)),
+    };
     let mut tokens = Vec::with_capacity(MOST_TOKENS);
     for (place, line) in lines.enumerate() {
-        let token = token(line, &tokens).map_err(|number| Refusal::at(number, place + 2))?;
+        let token = token(line, &tokens, wide).map_err(|number| Refusal::at(number, place + 2))?;
         tokens.push(token);
     }
     Ok(tokens)

@@ -1,7 +1,7 @@
 //! The sweep over all short sentences.
 
 use super::chart::{self, Half};
-use super::grammar::{Clause, Column, Line, Rule, Token};
+use super::grammar::{Clause, Column, Line, Rule, Token, Width};
 use super::Swept;
 
 /// The most tokens of a candidate.
@@ -152,6 +152,7 @@ fn token(cell: &Cell, before: Line) -> Token {
         terminal: cell.terminal,
         line: Line(before.0 + u16::from(cell.step)),
         column: Column(cell.column),
+        width: Width(1),
     }
 }
 
@@ -195,7 +196,7 @@ pub fn search(
     words: &mut [u64],
     most_fills: u64,
 ) -> Swept {
-    let nothing = Token { terminal: 0, line: Line(0), column: Column(0) };
+    let nothing = Token { terminal: 0, line: Line(0), column: Column(0), width: Width(0) };
     let mut charts = Charts { rules, words, tokens: [nothing; MOST], fills: 0 };
     chart::fill_empty(charts.words, rules);
     // Without terminals there are no candidates.

@@ -8,25 +8,25 @@ use native.Mathlib.Decide.{ℕ-discrete}
 use lib.ListN.{length, take}
 use Rattle.grammar.specs.declared.Token.{Token}
 use Rattle.grammar.specs.declared.Cell.{Cell}
-use Rattle.grammar.specs.Layout.{line, col}
+use Rattle.grammar.specs.Layout.{line, col, width}
 use Rattle.grammar.specs.Candidates.{RisingFrom, token, placed, Cells, Candidate, CellBefore, Before}
 use Rattle.candidates.specs.Succession.{Shares}
 use Rattle.candidates.specs.Windows.{Fits, Fit, LeastCell, NextCell, LastCell, Least, Next, Last}
 
 -- ---- a candidate is what fits after column 0 with a first step of 0
 
-fit-rising : (Q : ℕ → Type 0) (n m l : ℕ) (a : Token) (cs : List Cell) → line a ≡ l → Fit Q n m (col a) cs → RisingFrom a (placed l cs)
-fit-rising Q n m l a [] e f = tt
-fit-rising Q n m l a (c ∷ cs) e f = (
-  elim (ℕ-discrete (c .step) 0) [ yes z ↦ inr (omega arith, f .0 .after z) | no z ↦ inl (omega arith) ],
-  fit-rising Q n 2 (l + c .step) (token (l + c .step) c) cs refl (f .1),
+fit-rising : (Q : ℕ → Type 0) (n m l : ℕ) (a : Token) (cs : List Cell) → line a ≡ l → width a ≡ 1 → Fit Q n m (col a) cs → RisingFrom a (placed l cs)
+fit-rising Q n m l a [] e w f = tt
+fit-rising Q n m l a (c ∷ cs) e w f = (
+  elim (ℕ-discrete (c .step) 0) [ yes z ↦ inr (omega arith, omega (arith, f .0 .after z)) | no z ↦ inl (omega arith) ],
+  fit-rising Q n 2 (l + c .step) (token (l + c .step) c) cs refl refl (f .1),
 )
 
-rising-fit : (Q : ℕ → Type 0) (n m l : ℕ) (a : Token) (cs : List Cell) → line a ≡ l → Cells Q n m cs → RisingFrom a (placed l cs) → Fit Q n m (col a) cs
-rising-fit Q n m l a [] e k r = tt
-rising-fit Q n m l a (c ∷ cs) e k r = (
-  record { ranged = k .0; after = λ z. ⊎-elim (λ h. absurd (omega arith)) (λ h. h .1) (r .0) },
-  rising-fit Q n 2 (l + c .step) (token (l + c .step) c) cs refl (k .1) (r .1),
+rising-fit : (Q : ℕ → Type 0) (n m l : ℕ) (a : Token) (cs : List Cell) → line a ≡ l → width a ≡ 1 → Cells Q n m cs → RisingFrom a (placed l cs) → Fit Q n m (col a) cs
+rising-fit Q n m l a [] e w k r = tt
+rising-fit Q n m l a (c ∷ cs) e w k r = (
+  record { ranged = k .0; after = λ z. ⊎-elim (λ h. absurd (omega arith)) (λ h. omega (arith, h .1)) (r .0) },
+  rising-fit Q n 2 (l + c .step) (token (l + c .step) c) cs refl refl (k .1) (r .1),
 )
 
 fit-cells : (Q : ℕ → Type 0) (n m p : ℕ) (cs : List Cell) → Fit Q n m p cs → Cells Q n m cs
@@ -37,14 +37,14 @@ pub fit-candidate : (Q : ℕ → Type 0) (n : ℕ) (cs : List Cell) → length c
 fit-candidate Q n [] e f = record { arranged = record { size = e; cells = tt }; rising = tt }
 fit-candidate Q n (c ∷ cs) e f = record {
   arranged = record { size = e; cells = fit-cells Q n 0 0 (c ∷ cs) f };
-  rising = fit-rising Q n 2 (1 + c .step) (token (1 + c .step) c) cs refl (f .1);
+  rising = fit-rising Q n 2 (1 + c .step) (token (1 + c .step) c) cs refl refl (f .1);
 }
 
 pub candidate-fit : (Q : ℕ → Type 0) (n : ℕ) (cs : List Cell) → Candidate Q n cs → Fit Q n 0 0 cs
 candidate-fit Q n [] k = tt
 candidate-fit Q n (c ∷ cs) k = (
   record { ranged = k .arranged .cells .0; after = λ z. omega (arith, k .arranged .cells .0 .low) },
-  rising-fit Q n 2 (1 + c .step) (token (1 + c .step) c) cs refl (k .arranged .cells .1) (k .rising),
+  rising-fit Q n 2 (1 + c .step) (token (1 + c .step) c) cs refl refl (k .arranged .cells .1) (k .rising),
 )
 
 -- ---- least, next and last of one cell more

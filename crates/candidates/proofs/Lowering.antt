@@ -29,7 +29,7 @@ up-above : (L x : ℕ) → L ≤ x → up L x ≡ x - 1
 up-above L x h = omega arith
 
 abbrev lift : ℕ → Token → Token
-lift L t = record { terminal = t .terminal; line = record { 0 = up L (line t) }; column = t .column }
+lift L t = record { terminal = t .terminal; line = record { 0 = up L (line t) }; column = t .column; width = t .width }
 
 -- no token is on the line before L
 abbrev Clears : ℕ → Token → Type 0

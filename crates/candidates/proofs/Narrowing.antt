@@ -39,7 +39,7 @@ back-at k x n = go (decLt k x)
     go (no h) = inl (back-low k x (omega arith), elim (decLt x k) [ yes l ↦ l | no l ↦ absurd (n (omega arith)) ])
 
 abbrev shift : ℕ → Token → Token
-shift k t = record { terminal = t .terminal; line = t .line; column = record { 0 = back k (col t) } }
+shift k t = record { terminal = t .terminal; line = t .line; column = record { 0 = back k (col t) }; width = t .width }
 
 abbrev narrow : ℕ → Cell → Cell
 narrow k c = record { terminal = c .terminal; step = c .step; column = back k (c .column) }

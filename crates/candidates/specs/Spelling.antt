@@ -15,7 +15,7 @@ LowSteps cs = Every (λ c. c .step ≤ 2) cs
 
 -- a token place past a sentence: all 0
 abbrev pub nowhere : Token
-nowhere = record { terminal = 0; line = record { 0 = 0 }; column = record { 0 = 0 } }
+nowhere = record { terminal = 0; line = record { 0 = 0 }; column = record { 0 = 0 }; width = record { 0 = 0 } }
 
 -- r holds the sentence of the n cells cs, and its token places past it are 0
 pub record Spells (cs : List Cell) (n : ℕ) (r : Sentence) : Type 0 where

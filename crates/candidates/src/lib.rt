@@ -6,6 +6,7 @@ use grammar::Grammar;
 use grammar::Line;
 use grammar::Sentence;
 use grammar::Token;
+use grammar::Width;
 use sets::Member;
 use sets::first_from;
 ghost use mathlib.Core.Path.{_≡_};
@@ -235,7 +236,7 @@ impl Candidate {
         }
     }
 
-    // The candidate's sentence: the first token on line 1, each next its step further.
+    // The candidate's sentence: the first token on line 1, each next its step further, all of width 1.
     pub fn sentence(self, n: usize) -> Sentence
         requires { ⌜ (n ≤ 7) × LowSteps (cells self 0 n) ⌝ }
         ensures { λ r. ⌜ Spells (cells self 0 n) n r ⌝ }
@@ -244,6 +245,7 @@ impl Candidate {
             terminal: 0,
             line: Line(0),
             column: Column(0),
+            width: Width(0),
         }; 64];
         let mut line: u16 = 1;
         let mut i: usize = 0;
@@ -255,6 +257,7 @@ impl Candidate {
                 terminal: d.terminal,
                 line: Line(line),
                 column: Column(d.column),
+                width: Width(1),
             };
             i += 1;
         }

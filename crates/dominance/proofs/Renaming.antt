@@ -49,7 +49,7 @@ module _ (g : Rules) (s kept : ℕ) (sp : Spared g s kept) where
   cell c = record { terminal = rename (c .terminal); step = c .step; column = c .column }
 
   abbrev token : Token → Token
-  token t = record { terminal = rename (t .terminal); line = t .line; column = t .column }
+  token t = record { terminal = rename (t .terminal); line = t .line; column = t .column; width = t .width }
 
   -- the renamed cells
   abbrev pub renamed : List Cell → List Cell
@@ -73,7 +73,7 @@ module _ (g : Rules) (s kept : ℕ) (sp : Spared g s kept) where
   -- its sentence, token by token
   renamed-placed : (l : ℕ) (cs : List Cell) → placed l (renamed cs) ≡ map token (placed l cs)
   renamed-placed l [] = refl
-  renamed-placed l (c ∷ cs) = ap (λ (w : Word). _∷_ (token (record { terminal = c .terminal; line = record { 0 = l + c .step }; column = record { 0 = c .column } })) w) (renamed-placed (l + c .step) cs)
+  renamed-placed l (c ∷ cs) = ap (λ (w : Word). _∷_ (token (record { terminal = c .terminal; line = record { 0 = l + c .step }; column = record { 0 = c .column }; width = record { 0 = 1 } })) w) (renamed-placed (l + c .step) cs)
 
   alike : Alike g (λ t. Unit {0}) token
   alike = record {

@@ -8,7 +8,7 @@ use Rattle.grammar.specs.declared.UnaryMark.{UnaryMark}
 use Rattle.grammar.specs.declared.UnaryMark.the-variants as UnaryMark
 use Rattle.grammar.specs.declared.BinaryMark.{BinaryMark}
 use Rattle.grammar.specs.declared.BinaryMark.the-variants as BinaryMark
-use Rattle.grammar.specs.Layout.{Word, line, col, last}
+use Rattle.grammar.specs.Layout.{Word, line, col, width, last}
 use Rattle.grammar.specs.Layout as Mark
 use Rattle.grammar.proofs.Lists.{eq?, le?, both?, or?, imp?, map?, list?, every?}
 
@@ -33,15 +33,15 @@ binary? m (a ∷ u) [] = yes tt
 binary? m (a ∷ u) (b ∷ v) = pairs? m a (last a u) b
 
 -- tokens and words
-pub token-path : (s t : Token) → (s .terminal ≡ t .terminal) × ((line s ≡ line t) × (col s ≡ col t)) → s ≡ t
-token-path s t p = λ i. record { terminal = p .0 i; line = record { 0 = p .1 .0 i }; column = record { 0 = p .1 .1 i } }
+pub token-path : (s t : Token) → (s .terminal ≡ t .terminal) × ((line s ≡ line t) × ((col s ≡ col t) × (width s ≡ width t))) → s ≡ t
+token-path s t p = λ i. record { terminal = p .0 i; line = record { 0 = p .1 .0 i }; column = record { 0 = p .1 .1 .0 i }; width = record { 0 = p .1 .1 .1 i } }
 
-pub token-parts : (s t : Token) → s ≡ t → (s .terminal ≡ t .terminal) × ((line s ≡ line t) × (col s ≡ col t))
-token-parts s t p = (ap (λ (x : Token). x .terminal) p, (ap (λ (x : Token). line x) p, ap (λ (x : Token). col x) p))
+pub token-parts : (s t : Token) → s ≡ t → (s .terminal ≡ t .terminal) × ((line s ≡ line t) × ((col s ≡ col t) × (width s ≡ width t)))
+token-parts s t p = (ap (λ (x : Token). x .terminal) p, (ap (λ (x : Token). line x) p, (ap (λ (x : Token). col x) p, ap (λ (x : Token). width x) p)))
 
 abbrev pub token? : (s t : Token) → Dec (s ≡ t)
 token? s t =
-    let c = eq? (col s) (col t) in
+    let c = both? (eq? (col s) (col t)) (eq? (width s) (width t)) in
     let r = both? (eq? (line s) (line t)) c in
     map? (both? (eq? (s .terminal) (t .terminal)) r) (token-path s t) (token-parts s t)
 

@@ -8,10 +8,10 @@ use native.Mathlib.Decide.{decLe}
 use lib.ListN.{length}
 use Rattle.grammar.specs.declared.Token.{Token}
 use Rattle.grammar.specs.declared.Cell.{Cell}
-use Rattle.grammar.specs.Layout.{Word, line, col, Every}
+use Rattle.grammar.specs.Layout.{Word, line, col, width, Every}
 use Rattle.grammar.specs.Trees.{Tree, empty, leaf, unary, binary, word, Rules, Valid, valid-empty, valid-leaf, valid-unary, valid-binary, Witness, TwoTrees}
 use Rattle.grammar.proofs.Transfer.{Keeps, Alike, same-atoms, two-keeps, every-join, keeps-line-le}
-use Rattle.grammar.specs.Candidates.{After, RisingFrom, Rising, token, placed, sentence, Terminal, Ranged, Cells, Arrangement, Candidate}
+use Rattle.grammar.specs.Candidates.{After, RisingFrom, Rising, Wide, token, placed, sentence, Terminal, Ranged, Cells, Arrangement, Candidate}
 
 abbrev In : Token → Word → Type 0
 In t [] = ⊥
@@ -141,10 +141,10 @@ climb-near p (b ∷ w) t l s (inr i) h =
     let k = sorted-in (line b) w t (s .1) i in
     omega (arith, climb-near (line b) w t l (s .1) i h, shown-in l p (line b) (omega arith), shown-in (line t) p (line b) k)
 
--- ---- the new tokens
+-- ---- the new tokens, each of width 1
 
 abbrev moved : ℕ → Word → Token → Token
-moved p w t = record { terminal = t .terminal; line = record { 0 = 1 + climb p w (line t) }; column = record { 0 = rank w (col t) + 1 } }
+moved p w t = record { terminal = t .terminal; line = record { 0 = 1 + climb p w (line t) }; column = record { 0 = rank w (col t) + 1 }; width = record { 0 = 1 } }
 
 module _ (p : ℕ) (w : Word) (s : Sorted p w) where
   moved-keeps : (a b : Token) → In a w → In b w → Keeps (moved p w) a b
@@ -184,7 +184,7 @@ cellsOf C p [] = []
 cellsOf C p (b ∷ w) = record { terminal = b .terminal; step = gap p (line b); column = C (col b) + 1 } ∷ cellsOf C (line b) w
 
 abbrev spot : ℕ → ℕ → ℕ → Token
-spot a l c = record { terminal = a; line = record { 0 = l }; column = record { 0 = c } }
+spot a l c = record { terminal = a; line = record { 0 = l }; column = record { 0 = c }; width = record { 0 = 1 } }
 
 -- its sentence, the token before being on line l: on each line, l and the gaps up to there
 placed-cells : (C : ℕ → ℕ) (l p : ℕ) (w : Word) → Sorted p w → placed l (cellsOf C p w) ≡ map (λ t. spot (t .terminal) (l + climb p w (line t)) (C (col t) + 1)) w
@@ -214,17 +214,17 @@ cells-first : (Q : ℕ → Type 0) (C : ℕ → ℕ) (n : ℕ) (a : Token) (w : 
 cells-first Q C n a w h q =
     (record { terminal = q .0; step = omega (arith, gap-self (line a)); low = omega arith; high = omega (arith, h .0) }, cells-ranged Q C n (line a) w (h .1) (q .1))
 
--- ---- what rises still does
+-- ---- what rises still does, where every width becomes 1
 
-module _ (g : Rules) (P : Token → Type 0) (f : Token → Token) (k : Alike g P f) where
-  after-keeps : (a b : Token) → P a → P b → After a b → After (f a) (f b)
-  after-keeps a b p q (inl h) = inl (k .keeps a b p q .lines .0 h)
-  after-keeps a b p q (inr h) =
-      inr (omega (arith, keeps-line-le g P f k a b p q (omega arith), keeps-line-le g P f k b a q p (omega arith)), k .keeps a b p q .columns .0 (h .1))
+module _ (g : Rules) (P : Token → Type 0) (f : Token → Token) (k : Alike g P f) (thin : (t : Token) → width (f t) ≡ 1) where
+  after-keeps : (a b : Token) → P a → P b → 1 ≤ width a → After a b → After (f a) (f b)
+  after-keeps a b p q s (inl h) = inl (k .keeps a b p q .lines .0 h)
+  after-keeps a b p q s (inr h) =
+      inr (omega (arith, keeps-line-le g P f k a b p q (omega arith), keeps-line-le g P f k b a q p (omega arith)), omega (arith, thin a, k .keeps a b p q .columns .0 (omega (arith, h .1, s))))
 
-  rising-keeps : (a : Token) (w : Word) → P a → Every P w → RisingFrom a w → RisingFrom (f a) (map f w)
-  rising-keeps a [] p q r = tt
-  rising-keeps a (b ∷ w) p q r = (after-keeps a b p (q .0) (r .0), rising-keeps b w (q .0) (q .1) (r .1))
+  rising-keeps : (a : Token) (w : Word) → P a → Every P w → Wide (a ∷ w) → RisingFrom a w → RisingFrom (f a) (map f w)
+  rising-keeps a [] p q s r = tt
+  rising-keeps a (b ∷ w) p q s r = (after-keeps a b p (q .0) (s .0) (r .0), rising-keeps b w (q .0) (q .1) (s .1) (r .1))
 
 rising-sorted : (a : Token) (w : Word) → RisingFrom a w → Sorted (line a) w
 rising-sorted a [] r = tt
@@ -250,13 +250,13 @@ pub record Normal (g : Rules) (A n : ℕ) : Type 0 where
   pub candidate : Candidate (Terminal g) n cells
   pub two : TwoTrees g A (sentence cells)
 
-pub normal : (g : Rules) (A : ℕ) (w : Word) → 1 ≤ length w → Rising w → TwoTrees g A w → Normal g A (length w)
-normal g A [] l r h = absurd (omega arith)
-normal g A (a ∷ u) l r h = record {
+pub normal : (g : Rules) (A : ℕ) (w : Word) → 1 ≤ length w → Wide w → Rising w → TwoTrees g A w → Normal g A (length w)
+normal g A [] l s r h = absurd (omega arith)
+normal g A (a ∷ u) l s r h = record {
   cells = cs;
   candidate = record {
     arranged = record { size = cells-size (rank w) (line a) w; cells = cells-first (Terminal g) (rank w) (length w) a u (every-map-in (λ t. rank w (col t) < length w) w w (λ t i. rank-below w t i) (λ t i. i)) terminals };
-    rising = subst (λ (v : Word). Rising v) (sym same) (rising-keeps g (λ t. In t w) f alike a u (inl refl) (every .1) r);
+    rising = subst (λ (v : Word). Rising v) (sym same) (rising-keeps g (λ t. In t w) f alike (λ t. refl) a u (inl refl) (every .1) s r);
   };
   two = subst (λ (v : Word). TwoTrees g A v) (sym same) (two-keeps g (λ t. In t w) f alike A w every h);
 }

@@ -7,9 +7,9 @@ use native.Mathlib.Omega.{arith}
 use native.Mathlib.Decide.{decLt}
 use lib.ListN.{length}
 use Rattle.grammar.specs.declared.Cell.{Cell}
-use Rattle.grammar.specs.Layout.{Word}
+use Rattle.grammar.specs.Layout.{Word, Every, width}
 use Rattle.grammar.specs.Trees.{Rules, TwoTrees}
-use Rattle.grammar.specs.Candidates.{Rising, placed, sentence, Terminal, Candidate, CellBefore, Before, Earlier}
+use Rattle.grammar.specs.Candidates.{Rising, Wide, placed, sentence, Terminal, Candidate, CellBefore, Before, Earlier}
 use Rattle.grammar.specs.Sweeps.{Clear, FirstTwo, Answer, clear, found, Answers}
 use Rattle.grammar.proofs.Normalization.{Normal, normal}
 
@@ -68,10 +68,15 @@ pub sentence-length : (l : ℕ) (cs : List Cell) → length (placed l cs) ≡ le
 sentence-length l [] = refl
 sentence-length l (c ∷ cs) = ap suc (sentence-length (l + c .step) cs)
 
+-- a candidate's tokens have width 1
+pub sentence-wide : (l : ℕ) (cs : List Cell) → Wide (placed l cs)
+sentence-wide l [] = tt
+sentence-wide l (c ∷ cs) = (omega arith, sentence-wide (l + c .step) cs)
+
 module _ {g : Rules} where
   -- demand 3: where no candidate of 1 to k tokens has two trees, no rising sequence has
   pub clear-of : (k : ℕ) → ((cs : List Cell) → 1 ≤ length cs → length cs ≤ k → Candidate (Terminal g) (length cs) cs → TwoTrees g 0 (sentence cs) → ⊥) → Clear g k
-  clear-of k none = record { none = λ w r l u two. go w (normal g 0 w l r two) l u }
+  clear-of k none = record { none = λ w s r l u two. go w (normal g 0 w l s r two) l u }
     where
       go : (w : Word) → Normal g 0 (length w) → 1 ≤ length w → length w ≤ k → ⊥
       go w n l u =
@@ -91,7 +96,7 @@ module _ {g : Rules} where
   never-both : {k : ℕ} {cs : List Cell} → FirstTwo g k cs → Clear g k → ⊥
   never-both {k} {cs} f c =
       let e = sentence-length 1 cs in
-      c .none (sentence cs) (f .candidate .rising) (omega (arith, f .low)) (omega (arith, f .high)) (f .two)
+      c .none (sentence cs) (sentence-wide 1 cs) (f .candidate .rising) (omega (arith, f .low)) (omega (arith, f .high)) (f .two)
 
 -- a sweep has only one answer
 pub answer-unique : (g : Rules) (k : ℕ) (a b : Answer) → Answers g k a → Answers g k b → a ≡ b
@@ -99,3 +104,8 @@ answer-unique g k clear clear x y = refl
 answer-unique g k clear (found ds) x y = absurd (never-both y x)
 answer-unique g k (found cs) clear x y = absurd (never-both x y)
 answer-unique g k (found cs) (found ds) x y = ap found (first-same x y)
+
+-- clear speaks of every width: any sequence of 1 to k tokens with rising positions, each token one column wide or wider
+pub clear-of-widths : {g : Rules} {k : ℕ} → Clear g k
+    → (w : Word) → Every (λ t. 1 ≤ width t) w → Rising w → 1 ≤ length w → length w ≤ k → TwoTrees g 0 w → ⊥
+clear-of-widths c w widths rising low high two = c .none w widths rising low high two

@@ -6,12 +6,12 @@ use Prim.Native.Nat.{ℕ, _+_, _≤_, _<_}
 use lib.ListN.{length}
 use Rattle.grammar.specs.declared.Token.{Token}
 use Rattle.grammar.specs.declared.Cell.{Cell}
-use Rattle.grammar.specs.Layout.{Word, line, col}
+use Rattle.grammar.specs.Layout.{Word, line, col, width, past, Every}
 use Rattle.grammar.specs.Trees.{Rules, HasAtom}
 
--- b comes after a: a later line, or the same line and a greater column
+-- b comes after a: a later line, or the same line and a column at or past a's column plus width
 abbrev pub After : Token → Token → Type 0
-After a b = (line a < line b) ⊎ ((line a ≡ line b) × (col a < col b))
+After a b = (line a < line b) ⊎ ((line a ≡ line b) × (past a ≤ col b))
 
 -- each token comes after the one before, and the first after a
 abbrev pub RisingFrom : Token → Word → Type 0
@@ -23,9 +23,13 @@ abbrev pub Rising : Word → Type 0
 Rising [] = Unit {0}
 Rising (a ∷ w) = RisingFrom a w
 
--- a cell's token on line l
+-- each token has a width of 1 or more
+abbrev pub Wide : Word → Type 0
+Wide w = Every (λ t. 1 ≤ width t) w
+
+-- a cell's token on line l; its width is 1
 abbrev pub token : ℕ → Cell → Token
-token l c = record { terminal = c .terminal; line = record { 0 = l }; column = record { 0 = c .column } }
+token l c = record { terminal = c .terminal; line = record { 0 = l }; column = record { 0 = c .column }; width = record { 0 = 1 } }
 
 -- the tokens of cells, the token before them being on line l: each line is the one before and the line step
 abbrev pub placed : ℕ → List Cell → Word

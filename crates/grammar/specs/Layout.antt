@@ -18,6 +18,13 @@ line t = t .line .0
 abbrev pub col : Token → ℕ
 col t = t .column .0
 
+abbrev pub width : Token → ℕ
+width t = t .width .0
+
+-- the first column past a token
+abbrev pub past : Token → ℕ
+past t = col t + width t
+
 -- P holds of each member
 abbrev pub Every : {A : Type 0} → (A → Type 0) → List A → Type 0
 Every P [] = Unit {0}

@@ -1,15 +1,28 @@
 // A grammar in layout-sensitive binary normal form and a sentence with positions, as both sheets give them.
+ghost use mathlib.Core.Path.{_≡_};
+ghost use Prim.Native.Nat.{_+_};
 
 // A line and a column are separate units: one is never compared with the other.
 pub struct Line(pub u16);
 
 pub struct Column(pub u16);
 
-// A terminal with its position.
+// How many columns a token takes up, from its column on. It is compared with nothing, and `past` alone adds it to a column.
+pub struct Width(pub u16);
+
+// The first column past a token of this width.
+pub fn past(c: Column, w: Width) -> u32
+    ensures { λ r. ⌜ r ≡ c .0 + w .0 ⌝ }
+{
+    c.0 as u32 + w.0 as u32
+}
+
+// A terminal with its position and its width.
 pub struct Token {
     pub terminal: u8,
     pub line: Line,
     pub column: Column,
+    pub width: Width,
 }
 
 // The marks that a U rule may have, by 01's words: none, offside, offalign, single.

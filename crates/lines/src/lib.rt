@@ -14,7 +14,10 @@ use grammar::Line;
 use grammar::Rule;
 use grammar::Token;
 use grammar::UnaryMark;
+use grammar::Width;
+use grammar::past;
 ghost use mathlib.Core.Path.{_≡_};
+ghost use mathlib.Core.Bool.{true};
 ghost use Prim.Native.Nat.{_≤_};
 ghost use lib.ListN.{length};
 ghost use lib.Dec.{ltb};
@@ -22,7 +25,7 @@ ghost use Rattle.fields.specs.Pieces.{bytesLeft, fieldsLeft};
 ghost use Rattle.lines.specs.Turns.{turnOf};
 ghost use Rattle.lines.specs.Keys.{unaryKey, keyOf, meets, sameOperands, sameKey};
 ghost use Rattle.lines.specs.RuleLines.{shape, plainRule, atomRule, upTo, unaryRule, binaryRule, layRule, ruleOf, ruleFields};
-ghost use Rattle.lines.specs.TokenLines.{tokenOf, tokenFields};
+ghost use Rattle.lines.specs.TokenLines.{sizedOf, tokenOf, afterWidth, afterColumn, tokenFields};
 
 // A rule, or the first of the conditions 2, 3, 4, 44 that holds of the line.
 pub enum RuleLine {
@@ -33,11 +36,12 @@ pub enum RuleLine {
     Reversed,
 }
 
-// A token, or the first of 01's conditions 12, 13 that holds of the line.
+// A token, or the first of the conditions 12, 13, 47 that holds of the line.
 pub enum TokenLine {
     Good(Token),
     Form,
     Range,
+    Width,
 }
 
 // What a line is before its fields are looked at: the sheet's end, one too many, not ended, or a whole line.
@@ -78,9 +82,33 @@ pub fn turn_at(s: &[u8], c: Cursor, n: usize, most: usize) -> Turn
     Turn::Many
 }
 
-// Terminal 0 to 63, line and column 1 to 65,535.
-fn token_of(t: u32, l: u32, k: u32) -> TokenLine
-    ensures { λ r. ⌜ r ≡ tokenOf t l k ⌝ }
+// Width 1 to 255, column plus width at most 65,536.
+fn sized(t: u32, l: u32, k: u32, w: u32) -> TokenLine
+    requires { ⌜ (t ≤ 63) × (l ≤ 65535) × (k ≤ 65535) ⌝ }
+    ensures { λ r. ⌜ r ≡ sizedOf t l k w ⌝ }
+{
+    if w == 0 {
+        return TokenLine::Width;
+    }
+    if 255 < w {
+        return TokenLine::Width;
+    }
+    let column = Column(k as u16);
+    let width = Width(w as u16);
+    if 65536 < past(column, width) {
+        return TokenLine::Width;
+    }
+    TokenLine::Good(Token {
+        terminal: t as u8,
+        line: Line(l as u16),
+        column,
+        width,
+    })
+}
+
+// Terminal 0 to 63, line and column 1 to 65,535, and a width.
+fn token_of(t: u32, l: u32, k: u32, w: u32) -> TokenLine
+    ensures { λ r. ⌜ r ≡ tokenOf t l k w ⌝ }
 {
     if 63 < t {
         return TokenLine::Range;
@@ -97,17 +125,35 @@ fn token_of(t: u32, l: u32, k: u32) -> TokenLine
     if 65535 < k {
         return TokenLine::Range;
     }
-    TokenLine::Good(Token {
-        terminal: t as u8,
-        line: Line(l as u16),
-        column: Column(k as u16),
-    })
+    sized(t, l, k, w)
 }
 
-// The fields from a cursor on as those of a token line.
-pub fn token_line(s: &[u8], c: Cursor) -> TokenLine
+// No field is left behind a token's numbers.
+fn token_end(s: &[u8], c: Cursor, t: u32, l: u32, k: u32, w: u32) -> TokenLine
     requires { ⌜ c .end ≤ length (now s) ⌝ }
-    ensures { λ r. ⌜ r ≡ tokenFields (fieldsLeft (now (s .entry)) c) ⌝ }
+    ensures { λ r. ⌜ r ≡ afterWidth t l k w (fieldsLeft (now (s .entry)) c) ⌝ }
+{
+    if c.at <= c.end {
+        return TokenLine::Form;
+    }
+    token_of(t, l, k, w)
+}
+
+// The fields behind a column as a width and the line's end.
+fn wide_end(s: &[u8], c: Cursor, t: u32, l: u32, k: u32) -> TokenLine
+    requires { ⌜ c .end ≤ length (now s) ⌝ }
+    ensures { λ r. ⌜ r ≡ afterColumn true t l k (fieldsLeft (now (s .entry)) c) ⌝ }
+{
+    let NumberField::Is(w, d) = c.number(s) else {
+        return TokenLine::Form;
+    };
+    token_end(s, d, t, l, k, w)
+}
+
+// The fields from a cursor on as those of a token line: four if `wide` says so, else three and width 1.
+pub fn token_line(s: &[u8], c: Cursor, wide: bool) -> TokenLine
+    requires { ⌜ c .end ≤ length (now s) ⌝ }
+    ensures { λ r. ⌜ r ≡ tokenFields wide (fieldsLeft (now (s .entry)) c) ⌝ }
 {
     let NumberField::Is(t, d) = c.number(s) else {
         return TokenLine::Form;
@@ -118,10 +164,10 @@ pub fn token_line(s: &[u8], c: Cursor) -> TokenLine
     let NumberField::Is(k, f) = e.number(s) else {
         return TokenLine::Form;
     };
-    if f.at <= f.end {
-        return TokenLine::Form;
+    if wide {
+        return wide_end(s, f, t, l, k);
     }
-    token_of(t, l, k)
+    token_end(s, f, t, l, k, 1)
 }
 
 // Is `-` where the kind has none, and a number where it has one?

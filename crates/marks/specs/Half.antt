@@ -15,7 +15,7 @@ pub record Half : Type 0 where
 
 -- what stands past the end of a word
 abbrev pub no-token : Token
-no-token = record { terminal = 0; line = record { 0 = 0 }; column = record { 0 = 0 } }
+no-token = record { terminal = 0; line = record { 0 = 0 }; column = record { 0 = 0 }; width = record { 0 = 0 } }
 
 -- the token at i
 abbrev pub token : Word → ℕ → Token

@@ -11,7 +11,7 @@ use Rattle.grammar.specs.declared.Cell.{Cell}
 use Rattle.grammar.specs.declared.Rule.{Rule}
 use Rattle.grammar.specs.declared.Clause.{Clause}
 use Rattle.grammar.specs.declared.Clause.the-variants.{Empty, Atom, Unary, Binary}
-use Rattle.grammar.specs.Layout.{Word, line, col}
+use Rattle.grammar.specs.Layout.{Word, line, col, width}
 use Rattle.grammar.specs.Trees.{Rules}
 use Rattle.grammar.specs.Candidates.{After, RisingFrom, Rising, sentence, Terminal, Ranged, Cells, Arrangement, Candidate, CellBefore, Before, Earlier}
 use Rattle.grammar.proofs.Lists.{eq?, le?, both?, or?, map?, some?, Some, collect, mem-collect}
@@ -23,7 +23,7 @@ use Rattle.sets.proofs.Says.{true-not-false}
 -- 1. decisions
 
 abbrev pub after? : (s t : Token) → Dec (After s t)
-after? s t = or? (le? (suc (line s)) (line t)) (both? (eq? (line s) (line t)) (le? (suc (col s)) (col t)))
+after? s t = or? (le? (suc (line s)) (line t)) (both? (eq? (line s) (line t)) (le? (col s + width s) (col t)))
 
 abbrev pub rising-from? : (a : Token) (w : Word) → Dec (RisingFrom a w)
 rising-from? a [] = yes tt

@@ -95,7 +95,7 @@ silent : (g : Rules) → T (no-atoms g) → (k : ℕ) → Answers g k clear
 silent g n k =
     record {
       none =
-          λ w r some le pair. not-suc-le-zero
+          λ w s r some le pair. not-suc-le-zero
           (subst (λ (x : Word). 1 ≤ length x) (sym (pair .witness₁ .spelled) ∙ wordless g n (pair .first) (pair .witness₁ .valid)) some);
     }
 

@@ -27,9 +27,9 @@ U A B m = record { left = A; clause = Unary B m }
 abbrev pub B : ℕ → ℕ → ℕ → BinaryMark → Rule
 B A C D m = record { left = A; clause = Binary C D m }
 
--- a token of terminal 0 at a line and a column
+-- a token of terminal 0 and width 1 at a line and a column
 abbrev pub at : ℕ → ℕ → Token
-at l c = record { terminal = 0; line = record { 0 = l }; column = record { 0 = c } }
+at l c = record { terminal = 0; line = record { 0 = l }; column = record { 0 = c }; width = record { 0 = 1 } }
 
 -- a cell of terminal 0: a line step and a column
 abbrev pub cell : ℕ → ℕ → Cell

@@ -77,12 +77,14 @@ fn put_rule(r: Rule) {
     }
 }
 
-// A token as a line of a token sheet.
+// A token as a line of a token sheet with widths.
 fn put_token(t: Token) {
     put_field(t.terminal);
     put_number(t.line.0 as u64);
     put(b" ");
     put_number(t.column.0 as u64);
+    put(b" ");
+    put_number(t.width.0 as u64);
     put(b"\n");
 }
 

@@ -8,18 +8,18 @@ use Prim.Native.Nat.{ℕ, zero, suc, _+_, _-_, _≤_, _<_, zero-le}
 use native.Mathlib.Omega.{arith}
 use lib.ListN.{length, take, getD, getElem?, length-append}
 use lib.Seq.{take-suc}
-use lib.Dec.{ltb, eqb}
+use lib.Dec.{ltb, eqb, leb}
 use borrow.Author.Tests.{ltb-true, ltb-false, eqb-true, eqb-false}
 use Rattle.sets.specs.Says.{Says}
-use Rattle.sets.proofs.Says.{holds, fails, says-iff, says-ltb}
+use Rattle.sets.proofs.Says.{holds, fails, says-iff, says-leb}
 use Rattle.grammar.specs.declared.Rule.{Rule}
 use Rattle.grammar.specs.declared.Token.{Token}
-use Rattle.grammar.specs.Layout.{Word, Every, line, col, last}
+use Rattle.grammar.specs.Layout.{Word, Every, line, col, width, last}
 use Rattle.grammar.specs.Trees.{Rules}
 use Rattle.grammar.specs.Cycles.{Cyclic}
 use Rattle.grammar.specs.Choices.{Alike, Distinct}
 use Rattle.grammar.specs.Content.{SmallRule}
-use Rattle.grammar.specs.Candidates.{After, RisingFrom, Rising}
+use Rattle.grammar.specs.Candidates.{After, RisingFrom, Rising, Wide}
 use Rattle.grammar.proofs.Acyclic.{cyclic?}
 use Rattle.grammar.proofs.Lists.{every-append}
 use Rattle.grammar.proofs.ChoiceLaws.{member-at}
@@ -37,12 +37,13 @@ use Rattle.lines.specs.TokenLines.{tokenLine}
 use Rattle.lines.specs.declared.Key.{Key}
 use Rattle.lines.specs.Keys.{keyOf, sameKey}
 use Rattle.lines.proofs.Small.{line-small}
+use Rattle.lines.proofs.Widths.{line-wide}
 use Rattle.lines.proofs.KeyLaws.{key-same, key-back}
 use Rattle.sheets.specs.declared.Fault.{Fault}
 use Rattle.sheets.specs.declared.Fault.the-variants as Fault
 use Rattle.sheets.specs.Items.{Step, next, stop, end, Reading, accepted, refused, stepAt, lineStep, onStep, itemsFrom, withNames}
 use Rattle.sheets.specs.RuleSheets.{hasKey, anyOf, isStart, freshStep, ruleSaid, ruleSays, ruleStep, unlessCyclic, finish, rulesFrom, ruleNames, ruleSheet}
-use Rattle.sheets.specs.TokenSheets.{after, follows, orderStep, tokenSaid, tokenSays, tokenStep, tokenNames, tokenSheet}
+use Rattle.sheets.specs.TokenSheets.{after, follows, orderStep, tokenSaid, tokenSays, tokenStep, tokenNames, wideNames, wideSheet, tokenSheet}
 use Rattle.sheets.proofs.AnyOf.{any-none}
 use Rattle.sheets.proofs.Loop.{next-only}
 
@@ -86,14 +87,19 @@ items-few {A} most many form says ps w =
     [] ps w zero-le
 
 -- the lines behind the names of an accepted sheet
-names-accepted : {A : Type 0} (g : Fault) (names : List ℕ) (k : List (List ℕ) → Reading A) (Q : List A → Type 0)
-    → ((ps : List (List ℕ)) (w : List A) → k ps ≡ accepted w → Q w) → (ps : List (List ℕ)) (w : List A) → withNames (refused g 1) names ps k ≡ accepted w → Q w
-names-accepted g names k Q h [] w e = absurd (let z : _≡_ {A = ℕ} 0 1 = cc in omega arith)
-names-accepted g names k Q h (p ∷ ps) w e = go (not (isEmpty ps) && sameBytes p names) e
+names-accepted : {A : Type 0} (bad : Reading A) (names : List ℕ) (k : List (List ℕ) → Reading A) (Q : List A → Type 0)
+    → ((w : List A) → bad ≡ accepted w → Q w)
+    → ((ps : List (List ℕ)) (w : List A) → k ps ≡ accepted w → Q w) → (ps : List (List ℕ)) (w : List A) → withNames bad names ps k ≡ accepted w → Q w
+names-accepted bad names k Q o h [] w e = o w e
+names-accepted bad names k Q o h (p ∷ ps) w e = go (not (isEmpty ps) && sameBytes p names) e
   where
-    go : (b : Bool) → cond b (k ps) (refused g 1) ≡ accepted w → Q w
+    go : (b : Bool) → cond b (k ps) bad ≡ accepted w → Q w
     go true e = h ps w e
-    go false e = absurd (let z : _≡_ {A = ℕ} 0 1 = cc in omega arith)
+    go false e = o w e
+
+-- a refusal accepts nothing
+refused-not : {A : Type 0} {f : Fault} {l : ℕ} {w : List A} → refused f l ≡ accepted w → ⊥
+refused-not e = let z : _≡_ {A = ℕ} 0 1 = cc in omega arith
 
 -- 1. rules
 
@@ -154,11 +160,11 @@ rules-kept ps w =
 pub after-says : (a b : Token) → Says (after a b) (After a b)
 after-says a b = go (ltb (line a) (line b)) refl (eqb (line a) (line b)) refl
   where
-    go : (x : Bool) → ltb (line a) (line b) ≡ x → (y : Bool) → eqb (line a) (line b) ≡ y → Says (x || (y && ltb (col a) (col b))) (After a b)
+    go : (x : Bool) → ltb (line a) (line b) ≡ x → (y : Bool) → eqb (line a) (line b) ≡ y → Says (x || (y && leb (col a + width a) (col b))) (After a b)
     go true h y k = holds (inl (ltb-true (line a) (line b) h))
     go false h true k =
         let l = ltb-false (line a) (line b) h in
-        says-iff (λ c. inr (eqb-true (line a) (line b) k, c)) (⊎-elim (λ c. absurd (omega arith)) (λ c. c .1)) (says-ltb (col a) (col b))
+        says-iff (λ c. inr (eqb-true (line a) (line b) k, c)) (⊎-elim (λ c. absurd (omega arith)) (λ c. c .1)) (says-leb (col a + width a) (col b))
     go false h false k =
         let l = ltb-false (line a) (line b) h in
         fails (⊎-elim (λ c. omega arith) (λ c. eqb-false (line a) (line b) k (c .0)))
@@ -171,26 +177,34 @@ rising-snoc : (w : Word) (t : Token) → Rising w → follows w t ≡ true → R
 rising-snoc [] t r e = tt
 rising-snoc (a ∷ w) t r e = rising-from a w t r (after-says (last a w) t .is e)
 
-order-rises : (seen : Word) (u t : Token) → Rising seen → orderStep seen u ≡ next t → Rising (seen ++ t ∷ [])
-order-rises seen u t r e = go (follows seen u) refl e
+-- what a sheet's tokens are
+pub record Placed (w : Word) : Type 0 where
+  pub wide : Wide w
+  pub rising : Rising w
+
+order-placed : (seen : Word) (u t : Token) → 1 ≤ width u → Placed seen → orderStep seen u ≡ next t → Placed (seen ++ t ∷ [])
+order-placed seen u t l r e = go (follows seen u) refl e
   where
-    go : (b : Bool) → follows seen u ≡ b → cond b (next u) (stop Fault.TokenOrder) ≡ next t → Rising (seen ++ t ∷ [])
-    go true h e = let j : u ≡ t = cc in rw (← j) (rising-snoc seen u r h)
+    go : (b : Bool) → follows seen u ≡ b → cond b (next u) (stop Fault.TokenOrder) ≡ next t → Placed (seen ++ t ∷ [])
+    go true h e =
+        let j : u ≡ t = cc in
+        rw (← j) (record { wide = every-append (λ x. 1 ≤ width x) seen (u ∷ []) (r .wide) (l, tt); rising = rising-snoc seen u (r .rising) h })
     go false h e = absurd (let z : _≡_ {A = ℕ} 0 1 = cc in omega arith)
 
-said-rises : (seen : Word) (line : List ℕ) (t : Token) → Rising seen → tokenSays seen line ≡ next t → Rising (seen ++ t ∷ [])
-said-rises seen line t r e = go (tokenLine line) e
+said-placed : (wide : Bool) (seen : Word) (line : List ℕ) (t : Token) → Placed seen → tokenSays wide seen line ≡ next t → Placed (seen ++ t ∷ [])
+said-placed wide seen line t r e = go (tokenLine wide line) refl e
   where
-    go : (x : TokenLine) → tokenSaid seen x ≡ next t → Rising (seen ++ t ∷ [])
-    go TokenLine.Form e = absurd (let z : _≡_ {A = ℕ} 0 1 = cc in omega arith)
-    go TokenLine.Range e = absurd (let z : _≡_ {A = ℕ} 0 1 = cc in omega arith)
-    go (TokenLine.Good u) e = order-rises seen u t r e
+    go : (x : TokenLine) → tokenLine wide line ≡ x → tokenSaid seen x ≡ next t → Placed (seen ++ t ∷ [])
+    go TokenLine.Form h e = absurd (let z : _≡_ {A = ℕ} 0 1 = cc in omega arith)
+    go TokenLine.Range h e = absurd (let z : _≡_ {A = ℕ} 0 1 = cc in omega arith)
+    go TokenLine.Width h e = absurd (let z : _≡_ {A = ℕ} 0 1 = cc in omega arith)
+    go (TokenLine.Good u) h e = order-placed seen u t (line-wide wide line u h) r e
 
-pub tokens-rise : (ps : List (List ℕ)) (w : Word) → itemsFrom tokenStep [] ps ≡ accepted w → Rising w
-tokens-rise ps w =
-    items-hold tokenStep Rising
-    (λ seen p b t e r. said-rises seen p t r (step-said Fault.TokenMany Fault.TokenForm (tokenSays seen p) (turnOf 64 (length seen) p b) t e))
-    [] ps w tt
+pub tokens-placed : (wide : Bool) (ps : List (List ℕ)) (w : Word) → itemsFrom (tokenStep wide) [] ps ≡ accepted w → Placed w
+tokens-placed wide ps w =
+    items-hold (tokenStep wide) Placed
+    (λ seen p b t e r. said-placed wide seen p t r (step-said Fault.TokenMany Fault.TokenForm (tokenSays wide seen p) (turnOf 64 (length seen) p b) t e))
+    [] ps w (record { wide = tt; rising = tt })
 
 last-snoc : (a : Token) (w : Word) (t : Token) → last a (w ++ t ∷ []) ≡ t
 last-snoc a [] t = refl
@@ -257,7 +271,7 @@ finish-kept (accepted v) w e = go (anyOf isStart v) refl (cyclic? v) e
 finish-kept (refused f l) w e = absurd (let z : _≡_ {A = ℕ} 0 1 = cc in omega arith)
 
 pub rules-good : (s : List ℕ) (w : Rules) → ruleSheet s ≡ accepted w → GoodRules w
-rules-good s w = names-accepted Fault.RuleNames ruleNames rulesFrom GoodRules lines-good (pieces 10 s) w
+rules-good s w = names-accepted (refused Fault.RuleNames 1) ruleNames rulesFrom GoodRules (λ v e. absurd (refused-not e)) lines-good (pieces 10 s) w
   where
     lines-good : (ps : List (List ℕ)) (v : Rules) → rulesFrom ps ≡ accepted v → GoodRules v
     lines-good ps v e =
@@ -268,9 +282,14 @@ rules-good s w = names-accepted Fault.RuleNames ruleNames rulesFrom GoodRules li
 -- the tokens of an accepted sheet
 pub record GoodTokens (w : Word) : Type 0 where
   pub few : length w ≤ 64
+  pub wide : Wide w
   pub rising : Rising w
 
 pub tokens-good : (s : List ℕ) (w : Word) → tokenSheet s ≡ accepted w → GoodTokens w
 tokens-good s w =
-    names-accepted Fault.TokenNames tokenNames (itemsFrom tokenStep []) GoodTokens
-    (λ ps v e. record { few = items-few 64 Fault.TokenMany Fault.TokenForm tokenSays ps v e; rising = tokens-rise ps v e }) (pieces 10 s) w
+    names-accepted (wideSheet s) tokenNames (itemsFrom (tokenStep false) []) GoodTokens
+    (λ v e. names-accepted (refused Fault.TokenNames 1) wideNames (itemsFrom (tokenStep true) []) GoodTokens (λ u d. absurd (refused-not d)) (good true) (pieces 10 s) v e)
+    (good false) (pieces 10 s) w
+  where
+    good : (wide : Bool) (ps : List (List ℕ)) (v : Word) → itemsFrom (tokenStep wide) [] ps ≡ accepted v → GoodTokens v
+    good wide ps v e = record { few = items-few 64 Fault.TokenMany Fault.TokenForm (tokenSays wide) ps v e; wide = tokens-placed wide ps v e .wide; rising = tokens-placed wide ps v e .rising }

@@ -5,7 +5,7 @@ use Prim.Native.Nat.{ℕ}
 use Rattle.sheets.specs.declared.Fault.the-variants as Fault
 use Rattle.sheets.specs.Items.{accepted, refused}
 use Rattle.sheets.specs.RuleSheets.{ruleNames, ruleSheet}
-use Rattle.sheets.specs.TokenSheets.{tokenNames, tokenSheet}
+use Rattle.sheets.specs.TokenSheets.{tokenNames, wideNames, tokenSheet}
 
 -- a sheet of no bytes has an empty line 1
 no-rules : ruleSheet [] ≡ refused Fault.RuleNames 1
@@ -68,7 +68,7 @@ empty : tokenSheet (tokenNames ++ 10 ∷ []) ≡ accepted []
 empty = refl
 
 -- 0 1 1
-one : tokenSheet (tokenNames ++ 10 ∷ 48 ∷ 32 ∷ 49 ∷ 32 ∷ 49 ∷ 10 ∷ []) ≡ accepted (record { terminal = 0; line = record { 0 = 1 }; column = record { 0 = 1 } } ∷ [])
+one : tokenSheet (tokenNames ++ 10 ∷ 48 ∷ 32 ∷ 49 ∷ 32 ∷ 49 ∷ 10 ∷ []) ≡ accepted (record { terminal = 0; line = record { 0 = 1 }; column = record { 0 = 1 }; width = record { 0 = 1 } } ∷ [])
 one = refl
 
 -- 0 1 1, not ended
@@ -86,3 +86,31 @@ low = refl
 -- 0 1 2; 0 1 2
 order : tokenSheet (tokenNames ++ 10 ∷ 48 ∷ 32 ∷ 49 ∷ 32 ∷ 50 ∷ 10 ∷ 48 ∷ 32 ∷ 49 ∷ 32 ∷ 50 ∷ 10 ∷ []) ≡ refused Fault.TokenOrder 3
 order = refl
+
+-- under the names with `width`, 0 1 1 9; 0 1 10 1: the second begins where the first ends
+side-by-side : tokenSheet (wideNames ++ 10 ∷ 48 ∷ 32 ∷ 49 ∷ 32 ∷ 49 ∷ 32 ∷ 57 ∷ 10 ∷ 48 ∷ 32 ∷ 49 ∷ 32 ∷ 49 ∷ 48 ∷ 32 ∷ 49 ∷ 10 ∷ [])
+    ≡ accepted (record { terminal = 0; line = record { 0 = 1 }; column = record { 0 = 1 }; width = record { 0 = 9 } } ∷ record { terminal = 0; line = record { 0 = 1 }; column = record { 0 = 10 }; width = record { 0 = 1 } } ∷ [])
+side-by-side = refl
+
+-- 0 1 1 9; 0 1 9 1: the first reaches into the second
+overlap : tokenSheet (wideNames ++ 10 ∷ 48 ∷ 32 ∷ 49 ∷ 32 ∷ 49 ∷ 32 ∷ 57 ∷ 10 ∷ 48 ∷ 32 ∷ 49 ∷ 32 ∷ 57 ∷ 32 ∷ 49 ∷ 10 ∷ []) ≡ refused Fault.TokenOrder 3
+overlap = refl
+
+-- 47 comes before 15: 0 1 2 1; 0 1 1 0
+no-width : tokenSheet (wideNames ++ 10 ∷ 48 ∷ 32 ∷ 49 ∷ 32 ∷ 50 ∷ 32 ∷ 49 ∷ 10 ∷ 48 ∷ 32 ∷ 49 ∷ 32 ∷ 49 ∷ 32 ∷ 48 ∷ 10 ∷ []) ≡ refused Fault.TokenWidth 3
+no-width = refl
+
+-- 13 comes before 47: 0 0 1 0
+width-later : tokenSheet (wideNames ++ 10 ∷ 48 ∷ 32 ∷ 48 ∷ 32 ∷ 49 ∷ 32 ∷ 48 ∷ 10 ∷ []) ≡ refused Fault.TokenRange 2
+width-later = refl
+
+-- column plus width 65,536, then 65,537: 0 1 65281 255; 0 2 65282 255
+edge : tokenSheet (wideNames ++ 10 ∷ 48 ∷ 32 ∷ 49 ∷ 32 ∷ 54 ∷ 53 ∷ 50 ∷ 56 ∷ 49 ∷ 32 ∷ 50 ∷ 53 ∷ 53 ∷ 10 ∷ 48 ∷ 32 ∷ 50 ∷ 32 ∷ 54 ∷ 53 ∷ 50 ∷ 56 ∷ 50 ∷ 32 ∷ 50 ∷ 53 ∷ 53 ∷ 10 ∷ []) ≡ refused Fault.TokenWidth 3
+edge = refl
+
+-- three numbers under the names with `width`, and four under the old ones
+few-numbers : tokenSheet (wideNames ++ 10 ∷ 48 ∷ 32 ∷ 49 ∷ 32 ∷ 49 ∷ 10 ∷ []) ≡ refused Fault.TokenForm 2
+few-numbers = refl
+
+many-numbers : tokenSheet (tokenNames ++ 10 ∷ 48 ∷ 32 ∷ 49 ∷ 32 ∷ 49 ∷ 32 ∷ 49 ∷ 10 ∷ []) ≡ refused Fault.TokenForm 2
+many-numbers = refl

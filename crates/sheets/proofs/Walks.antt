@@ -23,7 +23,7 @@ use Rattle.sheets.specs.declared.Fault.{Fault}
 use Rattle.sheets.specs.declared.Fault.the-variants as Fault
 use Rattle.sheets.specs.Items.{Reading, accepted, refused, itemsFrom, withNames}
 use Rattle.sheets.specs.RuleSheets.{anyOf, isStart, ruleStep, unlessCyclic, finish, rulesFrom, ruleNames, ruleSheet}
-use Rattle.sheets.specs.TokenSheets.{tokenStep, tokenNames, tokenSheet}
+use Rattle.sheets.specs.TokenSheets.{tokenStep, tokenNames, wideNames, wideSheet, tokenSheet}
 use Rattle.sheets.specs.RefusedLines.{startOf, LinePart}
 use Rattle.sheets.proofs.Loop.{line-in, line-less, line-cut}
 use Rattle.sheets.proofs.Accepted.{items-line}
@@ -104,21 +104,19 @@ walk-end w is h p = record { part = rw (← fits w is h, ← (starts w is ∙ at
 
 -- a refusal's line is a line of the sheet, or 0
 
-names-line : {A : Type 0} (g : Fault) (names : List ℕ) (k : List (List ℕ) → Reading A)
+names-line : {A : Type 0} (bad : Reading A) (names : List ℕ) (k : List (List ℕ) → Reading A)
     → ((ps : List (List ℕ)) (f : Fault) (l : ℕ) → k ps ≡ refused f l → l ≤ 1 + length ps)
-    → (q : List ℕ) (qs : List (List ℕ)) (f : Fault) (l : ℕ) → withNames (refused g 1) names (q ∷ qs) k ≡ refused f l → l ≤ length (q ∷ qs)
-names-line g names k h q qs f l e = go (not (isEmpty qs) && sameBytes q names) e
+    → (ps : List (List ℕ)) (f : Fault) (l : ℕ) → (bad ≡ refused f l → l ≤ length ps) → withNames bad names ps k ≡ refused f l → l ≤ length ps
+names-line bad names k h [] f l o e = o e
+names-line bad names k h (q ∷ qs) f l o e = go (not (isEmpty qs) && sameBytes q names) e
   where
-    go : (b : Bool) → cond b (k qs) (refused g 1) ≡ refused f l → l ≤ length (q ∷ qs)
+    go : (b : Bool) → cond b (k qs) bad ≡ refused f l → l ≤ length (q ∷ qs)
     go true e = omega (arith, h qs f l e)
-    go false e = let j : 1 ≡ l = cc in omega arith
+    go false e = o e
 
-sheet-line : {A : Type 0} (g : Fault) (names : List ℕ) (k : List (List ℕ) → Reading A)
-    → ((ps : List (List ℕ)) (f : Fault) (l : ℕ) → k ps ≡ refused f l → l ≤ 1 + length ps)
-    → (s : List ℕ) (f : Fault) (l : ℕ) → withNames (refused g 1) names (pieces 10 s) k ≡ refused f l → l ≤ length (pieces 10 s)
-sheet-line g names k h s f l e =
-    let p = pieces-first 10 s in
-    rw p (names-line g names k h (before 10 s) (piecesFrom 10 s (length (before 10 s) + 1)) f l (rw p at e))
+-- a sheet has a line 1
+first-line : {A : Type 0} (g : Fault) (s : List ℕ) (f : Fault) (l : ℕ) → _≡_ {A = Reading A} (refused g 1) (refused f l) → l ≤ length (pieces 10 s)
+first-line g s f l e = let j : 1 ≡ l = cc in omega (arith, ap length (pieces-first 10 s))
 
 finish-line : (x : Reading Rule) (n : ℕ) (f : Fault) (l : ℕ) → ((g : Fault) (m : ℕ) → x ≡ refused g m → m ≤ n) → finish x ≡ refused f l → l ≤ n
 finish-line (accepted w) n f l h e = go (anyOf isStart w) (cyclic? w) e
@@ -130,10 +128,15 @@ finish-line (accepted w) n f l h e = go (anyOf isStart w) (cyclic? w) e
 finish-line (refused g m) n f l h e = let j : m ≡ l = cc in omega (arith, h g m refl)
 
 pub rule-exists : (s : List ℕ) (f : Fault) (l : ℕ) → ruleSheet s ≡ refused f l → l ≤ length (pieces 10 s)
-rule-exists =
-    sheet-line Fault.RuleNames ruleNames rulesFrom
+rule-exists s f l =
+    names-line (refused Fault.RuleNames 1) ruleNames rulesFrom
     (λ ps f l. finish-line (itemsFrom ruleStep [] ps) (1 + length ps) f l (λ g m e. omega (arith, items-line ruleStep [] ps g m e)))
+    (pieces 10 s) f l (first-line Fault.RuleNames s f l)
 
 pub token-exists : (s : List ℕ) (f : Fault) (l : ℕ) → tokenSheet s ≡ refused f l → l ≤ length (pieces 10 s)
-token-exists =
-    sheet-line Fault.TokenNames tokenNames (itemsFrom tokenStep []) (λ ps f l e. omega (arith, items-line tokenStep [] ps f l e))
+token-exists s f l =
+    names-line (wideSheet s) tokenNames (itemsFrom (tokenStep false) []) (lines false) (pieces 10 s) f l
+    (names-line (refused Fault.TokenNames 1) wideNames (itemsFrom (tokenStep true) []) (lines true) (pieces 10 s) f l (first-line Fault.TokenNames s f l))
+  where
+    lines : (wide : Bool) (ps : List (List ℕ)) (f : Fault) (l : ℕ) → itemsFrom (tokenStep wide) [] ps ≡ refused f l → l ≤ 1 + length ps
+    lines wide ps f l e = omega (arith, items-line (tokenStep wide) [] ps f l e)

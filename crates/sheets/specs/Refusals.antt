@@ -18,6 +18,7 @@ numberOf Fault.TokenForm = 12
 numberOf Fault.TokenRange = 13
 numberOf Fault.TokenMany = 14
 numberOf Fault.TokenOrder = 15
+numberOf Fault.TokenWidth = 47
 numberOf Fault.FewWords = 21
 numberOf Fault.FewRows = 22
 numberOf Fault.BadBound = 23

@@ -7,6 +7,8 @@ use grammar::Line;
 use grammar::Rule;
 use grammar::Sentence;
 use grammar::Token;
+use grammar::Width;
+use grammar::past;
 use lines::Key;
 use lines::RuleLine;
 use lines::TokenLine;
@@ -42,6 +44,7 @@ pub enum Fault {
     TokenRange,
     TokenMany,
     TokenOrder,
+    TokenWidth,
     FewWords,
     FewRows,
     BadBound,
@@ -67,6 +70,7 @@ pub fn fault_number(f: Fault) -> u64
         Fault::TokenRange => 13,
         Fault::TokenMany => 14,
         Fault::TokenOrder => 15,
+        Fault::TokenWidth => 47,
         Fault::FewWords => 21,
         Fault::FewRows => 22,
         Fault::BadBound => 23,
@@ -251,7 +255,7 @@ pub fn read_rules(s: &[u8]) -> GrammarRead
     refuse_rules(no_rules(), Fault::RuleNames, 1)
 }
 
-// A later line, or the same line and a greater column.
+// A later line, or the same line and a column at or past the column plus width.
 fn comes_after(a: Token, b: Token) -> bool
     ensures { λ r. ⌜ r ≡ after a b ⌝ }
 {
@@ -259,7 +263,10 @@ fn comes_after(a: Token, b: Token) -> bool
         return true;
     }
     if a.line.0 == b.line.0 {
-        return a.column.0 < b.column.0;
+        let c = a.column;
+        let w = a.width;
+        let end = past(c, w);
+        return end <= b.column.0 as u32;
     }
     false
 }
@@ -281,27 +288,28 @@ fn ordered(tokens: [Token; 64], n: usize, t: Token) -> TokenStep
 }
 
 // What a whole line says after the first n tokens.
-fn token_said(s: &[u8], c: Cursor, tokens: [Token; 64], n: usize) -> TokenStep
+fn token_said(s: &[u8], c: Cursor, tokens: [Token; 64], n: usize, wide: bool) -> TokenStep
     requires { ⌜ (c .at ≤ c .end) × (c .end ≤ length (now s)) × (n ≤ 64) ⌝ }
-    ensures { λ r. ⌜ asTokenStep r ≡ tokenSays (take n tokens) (bytesLeft (now (s .entry)) c) ⌝ }
+    ensures { λ r. ⌜ asTokenStep r ≡ tokenSays wide (take n tokens) (bytesLeft (now (s .entry)) c) ⌝ }
 {
-    match lines::token_line(s, c) {
+    match lines::token_line(s, c, wide) {
         TokenLine::Form => TokenStep::Stop(Fault::TokenForm),
         TokenLine::Range => TokenStep::Stop(Fault::TokenRange),
+        TokenLine::Width => TokenStep::Stop(Fault::TokenWidth),
         TokenLine::Good(t) => ordered(tokens, n, t),
     }
 }
 
 // What the cursor's line gives after the first n tokens.
-fn token_step(s: &[u8], c: Cursor, tokens: [Token; 64], n: usize) -> TokenStep
+fn token_step(s: &[u8], c: Cursor, tokens: [Token; 64], n: usize, wide: bool) -> TokenStep
     requires { ⌜ (c .at ≤ c .end) × (c .end ≤ length (now s)) × (n ≤ 64) ⌝ }
-    ensures { λ r. ⌜ asTokenStep r ≡ stepAt Fault.TokenMany Fault.TokenForm (tokenSays (take n tokens) (bytesLeft (now (s .entry)) c)) (turnOf 64 n (bytesLeft (now (s .entry)) c) (ltb (c .end) (length (now (s .entry))))) ⌝ }
+    ensures { λ r. ⌜ asTokenStep r ≡ stepAt Fault.TokenMany Fault.TokenForm (tokenSays wide (take n tokens) (bytesLeft (now (s .entry)) c)) (turnOf 64 n (bytesLeft (now (s .entry)) c) (ltb (c .end) (length (now (s .entry))))) ⌝ }
 {
     match lines::turn_at(s, c, n, 64) {
         Turn::End => TokenStep::End,
         Turn::Many => TokenStep::Stop(Fault::TokenMany),
         Turn::Open => TokenStep::Stop(Fault::TokenForm),
-        Turn::Whole => token_said(s, c, tokens, n),
+        Turn::Whole => token_said(s, c, tokens, n, wide),
     }
 }
 
@@ -310,6 +318,7 @@ fn no_tokens() -> [Token; 64] {
         terminal: 0,
         line: Line(0),
         column: Column(0),
+        width: Width(0),
     }; 64]
 }
 
@@ -323,17 +332,17 @@ fn refuse_tokens(tokens: [Token; 64], f: Fault, line: usize) -> SentenceRead
     }
 }
 
-// The token lines from a place on.
-fn tokens_from(s: &[u8], start: usize) -> SentenceRead
+// The token lines from a place on, with widths if `wide` says so.
+fn tokens_from(s: &[u8], start: usize, wide: bool) -> SentenceRead
     requires { ⌜ start ≤ length (now s) ⌝ }
-    ensures { λ r. ⌜ TokensRead r (itemsFrom tokenStep [] (piecesFrom 10 (now (s .entry)) start)) ⌝ }
+    ensures { λ r. ⌜ TokensRead r (itemsFrom (tokenStep wide) [] (piecesFrom 10 (now (s .entry)) start)) ⌝ }
 {
     let mut tokens = no_tokens();
     let mut n: usize = 0;
     let mut at = start;
     loop {
         let c = Cursor::line(s, at);
-        match token_step(s, c, tokens, n) {
+        match token_step(s, c, tokens, n, wide) {
             TokenStep::Next(t) => {
                 tokens[n] = t;
                 n += 1;
@@ -360,7 +369,10 @@ pub fn read_tokens(s: &[u8]) -> SentenceRead
     let end = c.end;
     if end < s.len() {
         if fields::same(&s[..end], b"term line col") {
-            return tokens_from(s, end + 1);
+            return tokens_from(s, end + 1, false);
+        }
+        if fields::same(&s[..end], b"term line col width") {
+            return tokens_from(s, end + 1, true);
         }
         return refuse_tokens(no_tokens(), Fault::TokenNames, 1);
     }

@@ -84,7 +84,8 @@ faultOf n =
     (cond (eqb n 21) Fault.FewWords
     (cond (eqb n 22) Fault.FewRows
     (cond (eqb n 23) Fault.BadBound
-    (Fault.ManyCandidates)))))))))))))))))
+    (cond (eqb n 24) Fault.ManyCandidates
+    (Fault.TokenWidth))))))))))))))))))
 
 fault-of : (f : Fault) → faultOf (numberOf f) ≡ f
 fault-of Fault.RuleNames = refl
@@ -101,6 +102,7 @@ fault-of Fault.TokenForm = refl
 fault-of Fault.TokenRange = refl
 fault-of Fault.TokenMany = refl
 fault-of Fault.TokenOrder = refl
+fault-of Fault.TokenWidth = refl
 fault-of Fault.FewWords = refl
 fault-of Fault.FewRows = refl
 fault-of Fault.BadBound = refl

@@ -13,6 +13,7 @@ use grammar::Grammar;
 use grammar::Line;
 use grammar::Sentence;
 use grammar::Token;
+use grammar::Width;
 use sheets::Fault;
 use sheets::Outcome;
 use sheets::read_rules;
@@ -227,6 +228,7 @@ fn nothing() -> Sentence
             terminal: 0,
             line: Line(0),
             column: Column(0),
+            width: Width(0),
         }; 64],
         count: 0,
     }

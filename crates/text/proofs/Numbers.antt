@@ -20,6 +20,7 @@ number-small Fault.TokenForm = omega arith
 number-small Fault.TokenRange = omega arith
 number-small Fault.TokenMany = omega arith
 number-small Fault.TokenOrder = omega arith
+number-small Fault.TokenWidth = omega arith
 number-small Fault.FewWords = omega arith
 number-small Fault.FewRows = omega arith
 number-small Fault.BadBound = omega arith

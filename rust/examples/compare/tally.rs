@@ -8,10 +8,10 @@ const CALLS: [&str; 4] = ["verdict", "trees", "sweep", "line"];
 /// The answers that a call must have given at least once in a whole run.
 fn required(call: &str) -> Vec<String> {
     let (words, numbers): (&[&str], &[u8]) = match call {
-        "verdict" => (&["none", "one", "two"], &[11, 12, 13, 14, 15, 21]),
-        "trees" => (&["none", "one", "two"], &[11, 12, 13, 14, 15, 21, 22]),
+        "verdict" => (&["none", "one", "two"], &[11, 12, 13, 14, 15, 21, 47]),
+        "trees" => (&["none", "one", "two"], &[11, 12, 13, 14, 15, 21, 22, 47]),
         "sweep" => (&["two", "clear"], &[21, 23, 24]),
-        _ => (&[], &[11, 12, 13, 14, 15, 21]),
+        _ => (&[], &[11, 12, 13, 14, 15, 21, 47]),
     };
     let numbers = (1..=8).chain([44]).chain(numbers.iter().copied());
     let words = words.iter().map(|word| word.to_string());
@@ -21,7 +21,7 @@ fn required(call: &str) -> Vec<String> {
 /// The answers in the order of the table.
 fn answers() -> Vec<String> {
     let words = ["none", "one", "two", "clear"].map(str::to_string);
-    let numbers = (1..=8).chain(11..=15).chain(21..=24).chain([44]);
+    let numbers = (1..=8).chain(11..=15).chain(21..=24).chain([44, 47]);
     words.into_iter().chain(numbers.map(|number| format!("refused-{number}"))).collect()
 }
 

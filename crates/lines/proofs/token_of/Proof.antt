@@ -24,20 +24,14 @@ returns-5 : tie.Need-returns-5
 returns-5 c = let a = c .before .before .before .before .before .args in
     simp (lt-leb _ _ (c .if5 .taken), le-leb 1 (a .k) (omega arith), le-leb _ _ (c .before .before .if3 .left), le-leb 1 (a .l) (omega arith), le-leb _ _ (c .before .before .before .before .if1 .left))
 
-cast-t5 : tie.Need-cast-t5
-cast-t5 c = search needs
-
-cast-t6 : tie.Need-cast-t6
-cast-t6 c = search needs
-
-cast-t8 : tie.Need-cast-t8
-cast-t8 c = search needs
+sized-requires : tie.Need-sized-requires
+sized-requires c κs = (c .before .before .before .before .if1 .left, c .before .before .if3 .left, c .if5 .left)
 
 returns-6 : tie.Need-returns-6
-returns-6 c = let a = c .before .before .before .before .before .args in
-    simp (le-leb _ _ (c .if5 .left), le-leb 1 (a .k) (omega arith), le-leb _ _ (c .before .before .if3 .left), le-leb 1 (a .l) (omega arith), le-leb _ _ (c .before .before .before .before .if1 .left))
+returns-6 c = let a = c .before .before .before .before .before .before .args in
+    c .sized .ensures ∙ simp (le-leb _ _ (c .before .if5 .left), le-leb 1 (a .k) (omega arith), le-leb _ _ (c .before .before .before .if3 .left), le-leb 1 (a .l) (omega arith), le-leb _ _ (c .before .before .before .before .before .if1 .left))
 
 pub token-of-spec : {M : Type 1} → statement M
 token-of-spec =
     tie.close
-    (tie.spec returns returns-2 returns-3 returns-4 returns-5 cast-t5 cast-t6 cast-t8 returns-6)
+    (tie.spec returns returns-2 returns-3 returns-4 returns-5 sized-requires returns-6)

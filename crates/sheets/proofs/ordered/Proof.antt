@@ -13,7 +13,7 @@ use Rattle.sheets.proofs.ordered.Tie as tie
 
 -- what is read where there is no token: never met
 abbrev blank : Token
-blank = record { terminal = 0; line = record { 0 = 0 }; column = record { 0 = 0 } }
+blank = record { terminal = 0; line = record { 0 = 0 }; column = record { 0 = 0 }; width = record { 0 = 0 } }
 
 last-is : (c : tie.After-comes-after) → follows (take (c .before .before .before .args .n) (c .before .before .before .args .t1)) (c .before .before .before .args .t) ≡ after (getD (c .before .before .before .args .t1) (c .before .before .before .args .n - 1) blank) (c .before .before .before .args .t)
 last-is c =

@@ -1,5 +1,6 @@
--- `sheets::read_tokens` meets its contract: the first line is tried as the definition tries it.
+-- `sheets::read_tokens` meets its contract: the first line is tried as the definition tries it, for the old names, then for those with `width`.
 use mathlib.Core.Path.{_≡_, sym, _∙_, subst}
+use mathlib.Core.Bool.{true, false}
 use mathlib.Core.List.{[]}
 use native.Mathlib.Omega.{arith}
 use borrow.Author.Needs.{needs}
@@ -7,11 +8,19 @@ use lib.Seq.{length-take-le}
 use Rattle.grammar.specs.declared.Token.{Token}
 use Rattle.sheets.specs.declared.Fault.the-variants as Fault
 use Rattle.sheets.specs.Items.{Reading, refused, itemsFrom}
-use Rattle.sheets.specs.TokenSheets.{tokenNames, tokenStep}
+use Rattle.sheets.specs.TokenSheets.{tokenNames, wideNames, tokenStep, wideSheet, tokenSheet}
 use Rattle.sheets.specs.Promises.{TokensRead}
 use Rattle.sheets.proofs.Names.{names-good, names-other, names-open}
 use Rattle.sheets.proofs.read_tokens.Statement.{statement}
 use Rattle.sheets.proofs.read_tokens.Tie as tie
+
+-- not the old names: what the sheet says is what it says with widths
+not-old : (c : tie.Else2) → wideSheet (c .before .before .before .before .before .before .before .args .s .now) ≡ tokenSheet (c .before .before .before .before .before .before .before .args .s .now)
+not-old c =
+    let t = c .before .before .before .before in
+    let p = t .before in
+    let s = p .before .before .args .s .now in
+    names-other (wideSheet s) tokenNames s (itemsFrom (tokenStep false) []) (p .line .result) (p .line .ensures) (t .if1 .taken) (sym (c .if2 .left) ∙ c .before .same .ensures)
 
 line-requires : tie.Need-line-requires
 line-requires c κs = search needs
@@ -33,8 +42,35 @@ tokens-from-requires c κs = search needs
 
 returns : tie.Need-returns
 returns c =
-    let p = c .before .before .before .before .before .before in
-    subst (λ (x : Reading Token). TokensRead (c .tokens-from .result) x) (names-good (refused Fault.TokenNames 1) tokenNames (p .before .before .args .s .now) (itemsFrom tokenStep []) (p .line .result) (p .line .ensures) (c .before .before .before .before .before .if1 .taken) (sym (c .before .if2 .taken) ∙ c .before .before .same .ensures)) (c .tokens-from .ensures)
+    let t = c .before .before .before .before .before in
+    let p = t .before in
+    let s = p .before .before .args .s .now in
+    subst (λ (x : Reading Token). TokensRead (c .tokens-from .result) x) (names-good (wideSheet s) tokenNames s (itemsFrom (tokenStep false) []) (p .line .result) (p .line .ensures) (t .if1 .taken) (sym (c .before .if2 .taken) ∙ c .before .before .same .ensures)) (c .tokens-from .ensures)
+
+slice-aggregate-same-3 : tie.Need-slice-aggregate-same-3
+slice-aggregate-same-3 c = sym (length-take-le _ _ (omega (arith, c .before .before .before .before .before .if1 .taken)))
+
+slice-aggregate-same-4 : tie.Need-slice-aggregate-same-4
+slice-aggregate-same-4 c = search needs
+
+same-requires-2 : tie.Need-same-requires-2
+same-requires-2 c κs = search needs
+
+add-tokens-from-2 : tie.Need-add-tokens-from-2
+add-tokens-from-2 c = search needs
+
+tokens-from-requires-2 : tie.Need-tokens-from-requires-2
+tokens-from-requires-2 c κs = search needs
+
+returns-2 : tie.Need-returns-2
+returns-2 c =
+    let o = c .before .before .before .before .before in
+    let t = o .before .before .before .before in
+    let p = t .before in
+    let s = p .before .before .args .s .now in
+    subst (λ (x : Reading Token). TokensRead (c .tokens-from2 .result) x)
+    (names-good (refused Fault.TokenNames 1) wideNames s (itemsFrom (tokenStep true) []) (p .line .result) (p .line .ensures) (t .if1 .taken) (sym (c .before .if3 .taken) ∙ c .before .before .same2 .ensures) ∙ not-old o)
+    (c .tokens-from2 .ensures)
 
 no-tokens-requires : tie.Need-no-tokens-requires
 no-tokens-requires c κs = search needs
@@ -42,10 +78,15 @@ no-tokens-requires c κs = search needs
 refuse-tokens-requires : tie.Need-refuse-tokens-requires
 refuse-tokens-requires c κs = search needs
 
-returns-2 : tie.Need-returns-2
-returns-2 c =
-    let p = c .before .before .before .before .before .before .before in
-    subst (λ (x : Reading Token). TokensRead (c .refuse-tokens .result) x) (names-other (refused Fault.TokenNames 1) tokenNames (p .before .before .args .s .now) (itemsFrom tokenStep []) (p .line .result) (p .line .ensures) (c .before .before .before .before .before .before .if1 .taken) (sym (c .before .before .if2 .left) ∙ c .before .before .before .same .ensures)) (c .refuse-tokens .ensures)
+returns-3 : tie.Need-returns-3
+returns-3 c =
+    let o = c .before .before .before .before .before .before in
+    let t = o .before .before .before .before in
+    let p = t .before in
+    let s = p .before .before .args .s .now in
+    subst (λ (x : Reading Token). TokensRead (c .refuse-tokens .result) x)
+    (names-other (refused Fault.TokenNames 1) wideNames s (itemsFrom (tokenStep true) []) (p .line .result) (p .line .ensures) (t .if1 .taken) (sym (c .before .before .if3 .left) ∙ c .before .before .before .same2 .ensures) ∙ not-old o)
+    (c .refuse-tokens .ensures)
 
 no-tokens-requires-2 : tie.Need-no-tokens-requires-2
 no-tokens-requires-2 c κs = search needs
@@ -53,10 +94,14 @@ no-tokens-requires-2 c κs = search needs
 refuse-tokens-requires-2 : tie.Need-refuse-tokens-requires-2
 refuse-tokens-requires-2 c κs = search needs
 
-returns-3 : tie.Need-returns-3
-returns-3 c =
+returns-4 : tie.Need-returns-4
+returns-4 c =
     let p = c .before .before .before in
-    subst (λ (x : Reading Token). TokensRead (c .refuse-tokens2 .result) x) (names-open (refused Fault.TokenNames 1) tokenNames (p .before .before .args .s .now) (itemsFrom tokenStep []) (p .line .result) (p .line .ensures) (c .before .before .if1 .left)) (c .refuse-tokens2 .ensures)
+    let s = p .before .before .args .s .now in
+    subst (λ (x : Reading Token). TokensRead (c .refuse-tokens2 .result) x)
+    (names-open (refused Fault.TokenNames 1) wideNames s (itemsFrom (tokenStep true) []) (p .line .result) (p .line .ensures) (c .before .before .if1 .left)
+    ∙ names-open (wideSheet s) tokenNames s (itemsFrom (tokenStep false) []) (p .line .result) (p .line .ensures) (c .before .before .if1 .left))
+    (c .refuse-tokens2 .ensures)
 
 pub read-tokens-spec : {M : Type 1} → statement M
 read-tokens-spec =
@@ -69,9 +114,15 @@ read-tokens-spec =
     add-tokens-from
     tokens-from-requires
     returns
+    slice-aggregate-same-3
+    slice-aggregate-same-4
+    same-requires-2
+    add-tokens-from-2
+    tokens-from-requires-2
+    returns-2
     no-tokens-requires
     refuse-tokens-requires
-    returns-2
+    returns-3
     no-tokens-requires-2
     refuse-tokens-requires-2
-    returns-3)
+    returns-4)

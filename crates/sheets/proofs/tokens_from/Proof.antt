@@ -13,19 +13,19 @@ use Rattle.sheets.specs.Items.{Reading, stepAt}
 use Rattle.sheets.specs.TokenSheets.{tokenSays}
 use Rattle.sheets.specs.Promises.{asTokenStep}
 use Rattle.sheets.proofs.Loop.{Filled, line-in, count, took, moved, turned, stopped, ended}
-use Rattle.sheets.proofs.Accepted.{tokens-rise}
+use Rattle.sheets.proofs.Accepted.{tokens-placed}
 use Rattle.sheets.proofs.tokens_from.Statement.{statement}
 use Rattle.sheets.proofs.tokens_from.Tie as tie
 
 abbrev Inv-loop : tie.InvT-loop
-Inv-loop s start tokens₀ n₀ at₀ tokens n at = Filled 64 Fault.TokenMany Fault.TokenForm tokenSays s start tokens n at
+Inv-loop s start wide tokens₀ n₀ at₀ tokens n at = Filled 64 Fault.TokenMany Fault.TokenForm (tokenSays wide) s start tokens n at
 
 abbrev μ-loop : tie.MeasureT-loop
-μ-loop s start tokens₀ n₀ at₀ tokens n at = length s - at
+μ-loop s start wide tokens₀ n₀ at₀ tokens n at = length s - at
 
 -- what the line gave
 gave : (c : tie.After-token-step Inv-loop μ-loop) (x : TokenStep) → c .token-step .result ≡ x
-    → asTokenStep x ≡ stepAt Fault.TokenMany Fault.TokenForm (tokenSays (take (c .before .before .loop .n) (c .before .before .loop .tokens)) (bytesLeft (c .before .before .before .before .before .args .s .now) (c .before .line .result))) (turnOf 64 (c .before .before .loop .n) (bytesLeft (c .before .before .before .before .before .args .s .now) (c .before .line .result)) (ltb (c .before .line .result .end) (length (c .before .before .before .before .before .args .s .now))))
+    → asTokenStep x ≡ stepAt Fault.TokenMany Fault.TokenForm (tokenSays (c .before .before .before .before .before .args .wide) (take (c .before .before .loop .n) (c .before .before .loop .tokens)) (bytesLeft (c .before .before .before .before .before .args .s .now) (c .before .line .result))) (turnOf 64 (c .before .before .loop .n) (bytesLeft (c .before .before .before .before .before .args .s .now) (c .before .line .result)) (ltb (c .before .line .result .end) (length (c .before .before .before .before .before .args .s .now))))
 gave c x is = ap asTokenStep (sym is) ∙ c .token-step .ensures
 
 -- it gave an item
@@ -96,7 +96,7 @@ returns-2 c =
     let e = ended T (m .before .line .ensures) (gave m _ (c .enum-told .given .1)) in
     record {
       is = sym e;
-      positioned = λ a. record { few = T .few; whole = count T; rising = tokens-rise (piecesFrom 10 (b .args .s .now) (b .args .start)) _ e };
+      positioned = λ a. record { few = T .few; whole = count T; rising = tokens-placed (b .args .wide) (piecesFrom 10 (b .args .s .now) (b .args .start)) _ e .rising };
       none = λ f l a. absurd (let z : _≡_ {A = ℕ} 0 1 = cc in omega arith);
     }
 
