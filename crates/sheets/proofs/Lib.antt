@@ -1,3 +1,4 @@
+pub mod Numbers
 pub mod AnyOf
 pub mod Names
 pub mod Loop

@@ -5,8 +5,6 @@ use mathlib.Core.List.{List, [], _∷_, _++_}
 use Prim.Native.Nat.{ℕ, _+_, _-_, _*_, _^_, _≤_, _<_}
 use native.Mathlib.Omega.{arith}
 use native.Mathlib.Decide.{decLt}
-use mathlib.Core.Bool.{cond}
-use lib.Dec.{eqb}
 use lib.ListN.{length, take, drop, getD, replicate, take-append-drop, length-take, length-drop}
 use lib.Seq.{ext-getD, getD-take, length-take-le}
 use Rattle.grammar.specs.declared.Cell.{Cell}
@@ -20,8 +18,8 @@ use Rattle.grammar.specs.Sweeps as Sweeps
 use Rattle.grammar.proofs.VerdictLaws.{none-not-one, none-not-two, one-not-two}
 use Rattle.grammar.proofs.SweepLaws.{answer-unique}
 use Rattle.sheets.specs.declared.Fault.{Fault}
-use Rattle.sheets.specs.declared.Fault.the-variants as Fault
 use Rattle.sheets.specs.Refusals.{numberOf}
+use Rattle.sheets.proofs.Numbers.{same-fault}
 use Rattle.sheets.specs.Items.{Reading}
 use Rattle.sheets.specs.Items as Sheet
 use Rattle.sheets.specs.RuleSheets.{ruleSheet}
@@ -63,53 +61,6 @@ says-one g w Answer.One (Answer.Refused f) x y = absurd y
 says-one g w Answer.Two (Answer.Refused f) x y = absurd y
 says-one g w Answer.Clear b x y = absurd x
 says-one g w (Answer.Refused f) b x y = absurd x
-
--- a refusal is known by its number
-abbrev faultOf : ℕ → Fault
-faultOf n =
-    cond (eqb n 1) Fault.RuleNames
-    (cond (eqb n 2) Fault.RuleForm
-    (cond (eqb n 3) Fault.RuleRange
-    (cond (eqb n 4) Fault.RuleLay
-    (cond (eqb n 44) Fault.RuleReversed
-    (cond (eqb n 5) Fault.RuleTwice
-    (cond (eqb n 6) Fault.RuleMany
-    (cond (eqb n 7) Fault.NoStart
-    (cond (eqb n 8) Fault.Cyclic
-    (cond (eqb n 11) Fault.TokenNames
-    (cond (eqb n 12) Fault.TokenForm
-    (cond (eqb n 13) Fault.TokenRange
-    (cond (eqb n 14) Fault.TokenMany
-    (cond (eqb n 15) Fault.TokenOrder
-    (cond (eqb n 21) Fault.FewWords
-    (cond (eqb n 22) Fault.FewRows
-    (cond (eqb n 23) Fault.BadBound
-    (cond (eqb n 24) Fault.ManyCandidates
-    (Fault.TokenWidth))))))))))))))))))
-
-fault-of : (f : Fault) → faultOf (numberOf f) ≡ f
-fault-of Fault.RuleNames = refl
-fault-of Fault.RuleForm = refl
-fault-of Fault.RuleRange = refl
-fault-of Fault.RuleLay = refl
-fault-of Fault.RuleReversed = refl
-fault-of Fault.RuleTwice = refl
-fault-of Fault.RuleMany = refl
-fault-of Fault.NoStart = refl
-fault-of Fault.Cyclic = refl
-fault-of Fault.TokenNames = refl
-fault-of Fault.TokenForm = refl
-fault-of Fault.TokenRange = refl
-fault-of Fault.TokenMany = refl
-fault-of Fault.TokenOrder = refl
-fault-of Fault.TokenWidth = refl
-fault-of Fault.FewWords = refl
-fault-of Fault.FewRows = refl
-fault-of Fault.BadBound = refl
-fault-of Fault.ManyCandidates = refl
-
-pub same-fault : (f f′ : Fault) (n : ℕ) → numberOf f ≡ n → numberOf f′ ≡ n → f ≡ f′
-same-fault f f′ n a b = sym (fault-of f) ∙ ap faultOf (a ∙ sym b) ∙ fault-of f′
 
 -- 2. words
 

@@ -20,7 +20,7 @@ use Rattle.sheets.specs.RuleSheets.{ruleSheet}
 use Rattle.teplonga.specs.declared.Answer.the-variants as Answer
 use Rattle.teplonga.specs.declared.SweepReply.{SweepReply}
 use Rattle.teplonga.specs.Sweep.{reply, limit, Taken, SweepOn, bound, many, short, clear, two, SweepOf, refusing, reading}
-use Rattle.teplonga.proofs.Settled.{same-fault}
+use Rattle.sheets.proofs.Numbers.{same-fault}
 
 apart : {o : Reading Rule} {f : Fault} {l : ℕ} {g : Rules} → o ≡ refused f l → o ≡ accepted g → ⊥
 apart e d = let z : _≡_ {A = ℕ} 0 1 = cc in omega arith

@@ -1,5 +1,4 @@
 pub mod PartingLaws
-pub mod Numbers
 pub mod Fits
 pub mod Bounds
 pub mod Sweeps

@@ -1,7 +1,7 @@
 -- `face::code` meets its contract: in each arm the answer is known.
 use mathlib.Core.Path.{refl}
 use native.Mathlib.Omega.{arith}
-use Rattle.face.proofs.Numbers.{number-small}
+use Rattle.sheets.proofs.Numbers.{number-small}
 use borrow.Author.Needs.{needs}
 use Rattle.face.proofs.code.Statement.{statement}
 use Rattle.face.proofs.code.Tie as tie

@@ -1,6 +1,6 @@
 -- `text::put_answer` meets its contract: in each arm the answer is known.
 use native.Mathlib.Omega.{arith}
-use Rattle.text.proofs.Numbers.{number-small}
+use Rattle.sheets.proofs.Numbers.{number-small}
 use borrow.Author.Needs.{needs}
 use Rattle.text.proofs.put_answer.Statement.{statement}
 use Rattle.text.proofs.put_answer.Tie as tie
