@@ -1,0 +1,102 @@
+#!/usr/bin/env python3
+"""The refusals' one home is docs/refusals.tsv: number, name, where, line, meaning, in the order of checking.
+
+    scripts/refusals.py            compare all that follows from it; exit status 1 where something differs
+    scripts/refusals.py --write    write what follows from it
+
+What follows: the blocks between the lines that hold BEGIN and END, in the files of BLOCKS. The
+definitions' numbers (crates/sheets/specs/Refusals.antt) are compared, never written.
+"""
+
+import re
+import sys
+from pathlib import Path
+from typing import NamedTuple
+
+TOP = Path(__file__).resolve().parent.parent
+TABLE = TOP / "docs" / "refusals.tsv"
+DEFINITIONS = TOP / "crates" / "sheets" / "specs" / "Refusals.antt"
+BEGIN = "made by scripts/refusals.py from docs/refusals.tsv"
+END = "end of what scripts/refusals.py makes"
+
+
+class Refusal(NamedTuple):
+    """A line of the table."""
+
+    number: int
+    name: str
+    where: str
+    line: str
+    meaning: str
+
+
+def table():
+    """All refusals, in the order of checking."""
+    names, *lines = TABLE.read_text().splitlines()
+    if names.split("\t") != list(Refusal._fields):
+        raise SystemExit(f"{TABLE}: the names are not {' '.join(Refusal._fields)}")
+    fields = [line.split("\t") for line in lines]
+    return [Refusal(int(number), *rest) for number, *rest in fields]
+
+
+def markdown(refusals):
+    """The table of docs/FORMAT.md."""
+    yield "| where | number | line | what it means |"
+    yield "|---|---|---|---|"
+    where = None
+    for refusal in refusals:
+        shown = "" if refusal.where == where else refusal.where
+        where = refusal.where
+        yield f"| {shown} | {refusal.number} | {refusal.line} | {refusal.meaning} |"
+
+
+# file: what makes its block
+BLOCKS = {
+    "docs/FORMAT.md": markdown,
+}
+
+
+def written(text, lines):
+    """The text with these lines in its block."""
+    pattern = re.compile(rf"^([^\n]*{re.escape(BEGIN)}[^\n]*\n).*?^([^\n]*{re.escape(END)}[^\n]*\n)", re.M | re.S)
+    block = "".join(f"{line}\n" for line in lines)
+    text, count = pattern.subn(lambda found: found[1] + block + found[2], text)
+    if count != 1:
+        raise SystemExit(f"{count} blocks in place of one")
+    return text
+
+
+def camel(name):
+    """RULE_NAMES as RuleNames."""
+    return "".join(part.capitalize() for part in name.split("_"))
+
+
+def misnumbered(refusals):
+    """What the definitions number otherwise. The programs' own, 31 and 32, are not among them."""
+    defined = dict(re.findall(r"^numberOf Fault\.(\w+) = (\d+)$", DEFINITIONS.read_text(), re.M))
+    for refusal in refusals:
+        number = defined.get(camel(refusal.name))
+        if number != (None if refusal.number in (31, 32) else str(refusal.number)):
+            yield f"{refusal.name} is {refusal.number}, and in the definitions {number}"
+
+
+def main(args):
+    refusals = table()
+    wrong = list(misnumbered(refusals))
+    for name, make in BLOCKS.items():
+        path = TOP / name
+        old = path.read_text()
+        new = written(old, make(refusals))
+        if args == ["--write"]:
+            path.write_text(new)
+        elif old != new:
+            wrong.append(f"{name} does not follow {TABLE.relative_to(TOP)}: run scripts/refusals.py --write")
+    for sentence in wrong:
+        print(f"refusals: {sentence}", file=sys.stderr)
+    return bool(wrong)
+
+
+if __name__ == "__main__":
+    if sys.argv[1:] not in ([], ["--write"]):
+        sys.exit(__doc__)
+    sys.exit(main(sys.argv[1:]))
