@@ -1,22 +1,34 @@
--- `checker::main` is safe: what was put stands within the output.
+-- `checker::main` is safe: what was read and what was put stand within their buffers.
 use mathlib.Core.Path.{sym}
 use lib.Seq.{length-take-le}
+use Rattle.streams.proofs.Bounds.{within}
 use Rattle.text.proofs.Within.{printed-within}
 use borrow.Author.Needs.{needs}
 use Rattle.checker.proofs.main.Statement.{statement}
 use Rattle.checker.proofs.main.Tie as tie
 
-slice-aggregate-read-full : tie.Need-slice-aggregate-read-full
-slice-aggregate-read-full c = search needs
+slice-aggregate-read-input : tie.Need-slice-aggregate-read-input
+slice-aggregate-read-input c = search needs
 
-read-full-requires : tie.Need-read-full-requires
-read-full-requires c κs = search needs
+read-input-requires : tie.Need-read-input-requires
+read-input-requires c κs = search needs
+
+enum-known-read : tie.Need-enum-known-read
+enum-known-read c = search needs
+
+enum-told : tie.Need-enum-told
+enum-told c = search needs
+
+returns : tie.Need-returns
+returns c = search needs
 
 array-share-prefix-space : tie.Need-array-share-prefix-space
-array-share-prefix-space c = search needs
+array-share-prefix-space c = within (c .before .read .given .1) (c .before .before .before .before .read-input .ensures)
 
 slice-aggregate-check-text : tie.Need-slice-aggregate-check-text
-slice-aggregate-check-text c = search needs
+slice-aggregate-check-text c =
+    let taken = c .before .before in
+    sym (length-take-le _ _ (within (taken .read .given .1) (taken .before .before .before .read-input .ensures)))
 
 check-text-requires : tie.Need-check-text-requires
 check-text-requires c κs = search needs
@@ -24,25 +36,28 @@ check-text-requires c κs = search needs
 array-share-prefix-out : tie.Need-array-share-prefix-out
 array-share-prefix-out c = printed-within (c .check-text .ensures)
 
-slice-aggregate-write-all : tie.Need-slice-aggregate-write-all
-slice-aggregate-write-all c = sym (length-take-le _ _ (printed-within (c .before .check-text .ensures)))
+slice-aggregate-write-output : tie.Need-slice-aggregate-write-output
+slice-aggregate-write-output c = sym (length-take-le _ _ (printed-within (c .before .check-text .ensures)))
 
-write-all-requires : tie.Need-write-all-requires
-write-all-requires c κs = search needs
+write-output-requires : tie.Need-write-output-requires
+write-output-requires c κs = search needs
 
-returns : tie.Need-returns
-returns c = search needs
+returns-2 : tie.Need-returns-2
+returns-2 c = search needs
 
 pub main-spec : {M : Type 1} → statement M
 main-spec =
     tie.close
     (tie.spec
-    slice-aggregate-read-full
-    read-full-requires
+    slice-aggregate-read-input
+    read-input-requires
+    enum-known-read
+    enum-told
+    returns
     array-share-prefix-space
     slice-aggregate-check-text
     check-text-requires
     array-share-prefix-out
-    slice-aggregate-write-all
-    write-all-requires
-    returns)
+    slice-aggregate-write-output
+    write-output-requires
+    returns-2)

@@ -1,0 +1,276 @@
+#!/usr/bin/env python3
+"""The programs `check` and `sweep` and the scripts in front of them: exit status, files, failing reads and writes.
+
+    tests/programs.py        needs the built programs and a C compiler
+"""
+
+import os
+import shutil
+import subprocess
+import sys
+import tempfile
+import threading
+import time
+import unittest
+from pathlib import Path
+
+TOP = Path(__file__).resolve().parent.parent
+CHECK, SWEEP = TOP / "bin" / "check", TOP / "bin" / "sweep"
+BUILT = TOP / "target" / "bin"
+RULES = b"left kind first second lay\n0 B 0 0 none\n0 A 0 - none\n"
+GOOD = RULES + b"\nterm line col\n0 1 1\n0 1 2\n0 1 3\n"
+SHORTER = RULES + b"\nterm line col\n0 1 1\n0 1 2\n"
+BAD = b"left kind first second lay\n0 A 64 - none\n\nterm line col\n"
+SWEPT = b"bound\n3\n\n" + RULES
+
+sys.path.insert(0, str(TOP / "reference"))
+import teplonga  # noqa: E402
+
+TWO = teplonga.check_program(GOOD)
+REFUSED = teplonga.check_program(BAD)
+
+
+def run(*words, data=None, **more):
+    """A command's status, output and errors."""
+    if data is not None:
+        more["input"] = data
+    ended = subprocess.run([str(word) for word in words], capture_output=True, timeout=60, check=False, **more)
+    return ended.returncode, ended.stdout, ended.stderr.decode()
+
+
+class Room(unittest.TestCase):
+    """A test with a folder of its own."""
+
+    def setUp(self):
+        self.room = Path(tempfile.mkdtemp())
+        self.addCleanup(shutil.rmtree, self.room)
+
+    def file(self, name, data):
+        path = self.room / name
+        path.write_bytes(data)
+        return path
+
+
+class Scripts(Room):
+    """bin/check and bin/sweep."""
+
+    def test_an_answer_is_0_and_a_refusal_1(self):
+        self.assertEqual(run(CHECK, data=GOOD), (0, TWO, ""))
+        self.assertEqual(run(CHECK, data=BAD), (1, REFUSED, ""))
+        self.assertEqual(run(SWEEP, data=SWEPT), (0, teplonga.sweep_program(SWEPT), ""))
+        self.assertEqual(run(SWEEP, data=b""), (1, b"answer line\nrefused-32 0\n", ""))
+
+    def test_the_examples(self):
+        for path in sorted((TOP / "examples").glob("*.*")):
+            if path.suffix == ".check":
+                self.assertEqual(run(CHECK, path), (0, teplonga.check_program(path.read_bytes()), ""), path)
+            if path.suffix == ".sweep":
+                self.assertEqual(run(SWEEP, path), (0, teplonga.sweep_program(path.read_bytes()), ""), path)
+
+    def test_bad_usage_is_2(self):
+        for words in (["--nope"], ["-x", "file"], ["-v", "--nope"]):
+            status, out, errors = run(CHECK, *words)
+            self.assertEqual((status, out), (2, b""))
+            self.assertIn("usage: bin/check", errors)
+
+    def test_help(self):
+        for words in (["--help"], ["-h"], ["-v", "--help"]):
+            for script in (CHECK, SWEEP):
+                status, out, errors = run(script, *words)
+                self.assertEqual((status, errors), (0, ""))
+                self.assertIn(b"usage: bin/", out)
+                self.assertIn(b"Exit status: 0 an answer, 1 a refusal, 2 bad usage, 3", out)
+
+    def test_standard_input_by_name(self):
+        for words in ([], ["-"], ["/dev/stdin"], ["--"], ["--", "-"]):
+            self.assertEqual(run(CHECK, *words, data=GOOD), (0, TWO, ""), words)
+
+    def test_a_file_that_begins_with_a_dash(self):
+        self.file("-v", GOOD)
+        self.assertEqual(run(CHECK, "--", "-v", cwd=self.room), (0, TWO, ""))
+
+    def test_unreadable_files_are_named(self):
+        missing = self.room / "no such"
+        self.assertEqual(run(CHECK, missing), (3, b"", f"bin/check: {missing}: no such file\n"))
+        self.assertEqual(run(CHECK, self.room), (3, b"", f"bin/check: {self.room}: is a directory\n"))
+        (self.room / "loop").symlink_to("loop")
+        self.assertEqual(run(CHECK, self.room / "loop")[:2], (3, b""))
+
+    @unittest.skipIf(os.geteuid() == 0, "root may read all files")
+    def test_a_file_without_permission_is_named(self):
+        closed = self.file("closed", GOOD)
+        closed.chmod(0)
+        self.assertEqual(run(CHECK, closed), (3, b"", f"bin/check: {closed}: permission denied\n"))
+
+    def test_several_files_have_headings(self):
+        good, bad = self.file("good one", GOOD), self.file("bad", BAD)
+        status, out, errors = run(CHECK, good, bad, good)
+        self.assertEqual((status, out), (1, TWO + REFUSED + TWO))
+        self.assertEqual(errors, f"==> {good} <==\n==> {bad} <==\n==> {good} <==\n")
+        status, out, errors = run(CHECK, good, self.room, bad)
+        self.assertEqual((status, out), (3, TWO + REFUSED))
+        self.assertIn(f"bin/check: {self.room}: is a directory\n", errors)
+
+    def test_a_pipe_by_name(self):
+        pipe = self.room / "pipe"
+        os.mkfifo(pipe)
+        writer = threading.Thread(target=pipe.write_bytes, args=[GOOD])
+        writer.start()
+        self.assertEqual(run(CHECK, pipe), (0, TWO, ""))
+        writer.join()
+
+    def test_a_link_to_the_script(self):
+        (self.room / "link").symlink_to(CHECK)
+        (self.room / "again").symlink_to("link")
+        self.assertEqual(run(self.room / "again", data=GOOD, cwd="/"), (0, TWO, ""))
+        path = f"{self.room}:{os.environ['PATH']}"
+        self.assertEqual(run("again", data=GOOD, cwd="/", env={**os.environ, "PATH": path}), (0, TWO, ""))
+
+    def test_a_closed_or_unreadable_standard_input_is_3(self):
+        for words in ([], ["-v"]):
+            with self.subTest(words=words):
+                status, out, errors = run("sh", "-c", f"'{CHECK}' {' '.join(words)} <&-")
+                self.assertEqual((status, out), (3, b""))
+                self.assertIn("bin/check: standard input: ", errors)
+                with_folder = run("sh", "-c", f"'{CHECK}' {' '.join(words)} < '{self.room}'")
+                self.assertEqual(with_folder[:2], (3, b""))
+                self.assertIn("irectory", with_folder[2])
+
+    def test_a_full_or_closed_standard_output_is_3(self):
+        good = self.file("good", GOOD)
+        for target in (">/dev/full", ">&-"):
+            status, _, errors = run("sh", "-c", f"'{CHECK}' '{good}' {target}")
+            self.assertEqual(status, 3, target)
+            self.assertIn("bin/check: standard output: could not be written", errors)
+
+    def test_words_are_said_where_they_are_asked_for(self):
+        words = "refused-3, rule sheet, line 2: a number above 63\n    0 A 64 - none\n        ^^\n"
+        self.assertEqual(run(CHECK, "-v", data=BAD), (1, REFUSED, words))
+        self.assertEqual(run(CHECK, "-v", data=GOOD), (0, TWO, ""))
+
+
+class First(Room):
+    """The first run, in a copy without the built programs."""
+
+    def setUp(self):
+        super().setUp()
+        for name in ("bin", "scripts", "docs"):
+            shutil.copytree(TOP / name, self.room / name)
+        shutil.copy(TOP / "crates.txt", self.room)
+        for crate in (TOP / "crates").iterdir():
+            (self.room / "crates" / crate.name).mkdir(parents=True)
+        self.tools = self.room / "tools"
+        self.tools.mkdir()
+        for tool in ("sh", "awk", "cat", "cp", "dirname", "find", "mkdir", "readlink", "sed", "tee", "touch", "wc"):
+            (self.tools / tool).symlink_to(shutil.which(tool))
+
+    def check(self):
+        return run(self.room / "bin" / "check", data=GOOD, env={"PATH": str(self.tools)})
+
+    def kit(self, script):
+        """A command rt that does this."""
+        rt = self.tools / "rt"
+        rt.write_text(f"#!/bin/sh\n{script}\n")
+        rt.chmod(0o755)
+
+    def test_without_the_kit_it_is_named(self):
+        status, out, errors = self.check()
+        self.assertEqual((status, out), (3, b""))
+        self.assertIn("`rt`", errors)
+        self.assertIn("README.md", errors)
+
+    def test_it_says_that_it_builds_and_how_far_it_is(self):
+        made = f"mkdir -p target/bin && cp '{BUILT / 'checker'}' target/bin/"
+        self.kit(f"echo 'rt: sets proved (3 s)'; echo 'logic=proved'; echo 'rt: text proved (9 s)'; {made}")
+        status, out, errors = self.check()
+        self.assertEqual((status, out), (0, TWO))
+        lines = errors.splitlines()
+        self.assertRegex(lines[0], r"is proved and built first: \d\d crates, some minutes")
+        self.assertRegex(lines[1], r"proved 1 of \d\d: sets")
+        self.assertRegex(lines[2], r"proved 2 of \d\d: text")
+        self.assertEqual(self.check(), (0, TWO, ""))
+
+    def test_it_is_built_anew_where_a_source_is_newer(self):
+        shutil.copytree(BUILT, self.room / "target" / "bin")
+        old = time.time() - 1000
+        os.utime(self.room / "target" / "bin" / "checker", (old, old))
+        self.assertEqual(self.check(), (0, TWO, ""))
+        source = self.room / "crates" / "sets" / "lib.rt"
+        source.write_text("")
+        self.kit("echo 'rt: sets proved (3 s)'")
+        self.assertIn("proved 1 of", self.check()[2])
+        self.assertEqual(self.check(), (0, TWO, ""))
+
+    def test_a_build_that_fails_is_3(self):
+        self.kit("echo 'rt: sets NOT PROVED'; exit 1")
+        status, out, errors = self.check()
+        self.assertEqual((status, out), (3, b""))
+        self.assertIn("target/build-checker.log says why", errors)
+        self.assertIn("NOT PROVED", (self.room / "target" / "build-checker.log").read_text())
+
+
+class Programs(Room):
+    """The programs themselves."""
+
+    @classmethod
+    def setUpClass(cls):
+        cls.made = tempfile.mkdtemp()
+        cls.addClassCleanup(shutil.rmtree, cls.made)
+        cls.library = f"{cls.made}/faults.so"
+        flags = ["-shared", "-fPIC", "-O1", "-Wall", "-Wextra", "-Werror"]
+        subprocess.run(["cc", *flags, "-o", cls.library, str(TOP / "tests" / "faults.c"), "-ldl"], check=True)
+
+    def under(self, faults, command=BUILT / "checker", program="checker"):
+        return run(command, data=GOOD, env={**os.environ, "LD_PRELOAD": self.library, "FAULTS": faults, "FAULTS_IN": program})
+
+    def test_short_and_interrupted_calls_are_made_again(self):
+        for faults in ("r1", "w1", "r7 rEINTR r3 rEINTR rEINTR r1", "wEINTR w5 wEINTR w1", "rEINTR r16384 wEINTR w262144"):
+            self.assertEqual(self.under(faults), (0, TWO, ""), faults)
+
+    def test_a_failed_read_is_not_the_end(self):
+        ends_early = len(SHORTER)
+        for error, text in (("EIO", "Input/output error"), ("EAGAIN", "Resource temporarily unavailable")):
+            for faults in (f"r{error}", f"r{ends_early} r{error}", f"r{ends_early} rEINTR r{error} r0"):
+                wanted = (0, b"", f"standard input: {text}\n")
+                self.assertEqual(self.under(faults), wanted, faults)
+                self.assertEqual(self.under(faults, BUILT / "sweeper", "sweeper"), wanted, faults)
+
+    def test_a_failed_write_stops_the_output(self):
+        status, out, errors = self.under("w20 wENOSPC w100")
+        self.assertEqual((status, out, errors), (0, TWO[:20], "standard output: No space left on device\n"))
+        self.assertEqual(self.under("w0")[1], b"")
+
+    def test_the_script_says_3(self):
+        for faults in ("rEIO", f"r{len(SHORTER)} rEAGAIN"):
+            status, out, errors = self.under(faults, CHECK)
+            self.assertEqual((status, out), (3, b""))
+            self.assertIn("bin/check: standard input: no answer", errors)
+
+    def test_an_input_that_is_not_ready_yet(self):
+        reader, writer = os.pipe()
+        os.set_blocking(reader, False)
+        with subprocess.Popen([CHECK], stdin=reader, stdout=subprocess.PIPE, stderr=subprocess.PIPE) as script:
+            os.write(writer, SHORTER)
+            time.sleep(0.5)
+            try:
+                os.write(writer, GOOD[len(SHORTER) :])
+            except BrokenPipeError:
+                pass
+            os.close(writer)
+            os.close(reader)
+            out, errors = script.communicate(timeout=30)
+        self.assertIn((script.returncode, out), [(0, TWO), (3, b"")])
+        self.assertEqual(script.returncode == 3, b"temporarily unavailable" in errors)
+
+    def test_the_stack_that_README_states(self):
+        for name, data, wanted in (("checker", GOOD, TWO), ("sweeper", SWEPT, teplonga.sweep_program(SWEPT))):
+            self.assertEqual(run("sh", "-c", f"ulimit -s 512 && '{BUILT / name}'", data=data), (0, wanted, ""))
+
+    def test_a_program_that_is_ended_is_told(self):
+        status, out, errors = run("sh", "-c", f"ulimit -s 128 && '{CHECK}'", data=GOOD)
+        self.assertEqual((status, out), (3, b""))
+        self.assertIn("was ended by signal 11", errors)
+
+
+if __name__ == "__main__":
+    unittest.main()
