@@ -69,10 +69,10 @@ module _ (ws : List ℕ) (g : Grammar) (n start len : ℕ) (m : SpanMarks) (A p 
 -- ---- what stands by the span sheet is a choice
 
 module _ (w : Word) (i n : ℕ) (h : i + n ≤ length w) where
-  part-take : (k : ℕ) → k ≤ n → take k (part w i n) ≡ part w i k
+  pub part-take : (k : ℕ) → k ≤ n → take k (part w i n) ≡ part w i k
   part-take k e = take-take k n (drop i w) e
 
-  part-drop : (k : ℕ) → k ≤ n → drop k (part w i n) ≡ part w (i + k) (n - k)
+  pub part-drop : (k : ℕ) → k ≤ n → drop k (part w i n) ≡ part w (i + k) (n - k)
   part-drop k e =
       let j : n ≡ k + (n - k) = omega arith in
       let l : length (take k (drop i w)) ≡ k = simp (length-take, length-drop) (omega arith) in
@@ -82,7 +82,7 @@ module _ (w : Word) (i n : ℕ) (h : i + n ≤ length w) where
       ∙ ap (take (n - k)) (drop-drop k i w)
 
 -- all of the word is known
-abbrev whole : Word → Half
+abbrev pub whole : Word → Half
 whole w = record { word = w; known = length w }
 
 module _ (g : Rules) (w : Word) (ws : List ℕ) (sheet : SpanSheet g w ws) (s len : ℕ) (fit : s + len ≤ length w) where
@@ -115,12 +115,12 @@ module _ (g : Rules) (w : Word) (ws : List ℕ) (sheet : SpanSheet g w ws) (s le
         may-pair (whole w) w (completes-self (whole w)) m s l (len - l) r (rw (x, y) at (q .3)),
       )
 
-  stand-choice : ((i : ℕ) → i < length g → SmallRule (rule g i)) → (A i l : ℕ) → Stand (One ws (length w)) g (byTokens (whole w) s len) s len A i l → Choice g A (part w s len) i l
+  pub stand-choice : ((i : ℕ) → i < length g → SmallRule (rule g i)) → (A i l : ℕ) → Stand (One ws (length w)) g (byTokens (whole w) s len) s len A i l → Choice g A (part w s len) i l
   stand-choice small A i l c =
       subst (λ (B : ℕ). Choice g B (part w s len) i l) (c .left)
       (can-choice g i (rule g i .left) (rule g i .clause) (part w s len) l (there g i (c .within)) (fits-can (rule g i .clause) (small i (c .within) .clause) l (c .fits)))
 
-  choice-stand : ((i : ℕ) → i < length g → SmallRule (rule g i)) → (A i l : ℕ) → Choice g A (part w s len) i l → Stand (One ws (length w)) g (byTokens (whole w) s len) s len A i l
+  pub choice-stand : ((i : ℕ) → i < length g → SmallRule (rule g i)) → (A i l : ℕ) → Choice g A (part w s len) i l → Stand (One ws (length w)) g (byTokens (whole w) s len) s len A i l
   choice-stand small A i l c =
       let x = choice-can c in
       let h = getElem?-lt g i (x .1) in

@@ -109,7 +109,7 @@ fn fits_binary(
 }
 
 // Does the clause fit the span, with `left` tokens on its left?
-fn clause_fits(
+pub fn clause_fits(
     words: &[u64],
     n: usize,
     c: Clause,
@@ -139,7 +139,7 @@ fn clause_fits(
 }
 
 // The longest left word that the clause can have over `len` tokens.
-fn last_left(c: Clause, len: usize) -> usize
+pub fn last_left(c: Clause, len: usize) -> usize
     ensures { λ r. ⌜ r ≡ lefts c len ⌝ }
 {
     match c {

@@ -10,7 +10,7 @@ use Rattle.teplonga.proofs.Settled.{Words, verdict-settled, trees-settled}
 use Rattle.teplonga.proofs.SweepSettled.{sweep-settled}
 use Rattle.face.specs.Face.{packed, AtFront, few, written, sentenceWords, countWords, VerdictWord, TreesWord, SweepWord}
 
-front-settled : {n : ℕ} {ws vs lent a b : List ℕ} → ws ≡ vs → AtFront n ws lent a → AtFront n vs lent b → a ≡ b
+pub front-settled : {n : ℕ} {ws vs lent a b : List ℕ} → ws ≡ vs → AtFront n ws lent a → AtFront n vs lent b → a ≡ b
 front-settled e (few l x) (few m y) = x ∙ sym y
 front-settled e (few l x) (written m y) = absurd (omega arith)
 front-settled e (written l x) (few m y) = absurd (omega arith)

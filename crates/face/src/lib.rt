@@ -31,7 +31,7 @@ fn code(a: Answer) -> u64
 }
 
 // An answer and its line as one number.
-fn pack(a: Answer, line: usize) -> u64
+pub fn pack(a: Answer, line: usize) -> u64
     ensures { λ r. ⌜ r ≡ packed a line ⌝ }
 {
     let high = code(a) * 4294967296;
@@ -94,7 +94,7 @@ fn put_found(found: &mut [u64], s: Sentence)
 }
 
 // The row counts of both trees, where the lent words are enough for them.
-fn put_counts(counts: &mut [u64], first: usize, second: usize)
+pub fn put_counts(counts: &mut [u64], first: usize, second: usize)
     ensures { λ r. ⌜ AtFront 2 (countWords first second) (now (counts .entry)) (now (counts .exit)) ⌝ }
 {
     if 2 <= counts.len() {

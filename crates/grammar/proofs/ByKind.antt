@@ -35,7 +35,7 @@ can-of (valid-binary {s = s} {t = t} m h x u v) r k e =
     rw (e .1, take-at (word s) (word t) k (sym (e .2)), drop-at (word s) (word t) k (sym (e .2)))
     (omega (arith, e .2, length-append (word s) (word t)), derives-of u, derives-of v, e .3)
 
-top-left : (t : Tree) (r : Rule) (k : ℕ) → Top r k t → r .left ≡ root t
+pub top-left : (t : Tree) (r : Rule) (k : ℕ) → Top r k t → r .left ≡ root t
 top-left (empty A) r k e = ap (λ (x : Rule). x .left) (e .0)
 top-left (leaf A t) r k e = ap (λ (x : Rule). x .left) (e .2)
 top-left (unary A t) r k e = ap (λ (x : Rule). x .left) (e .1)

@@ -68,7 +68,7 @@ says-one g w (Answer.Refused f) b x y = absurd x
 abbrev pub Words : List ℕ → Type 0
 Words ws = (q : ℕ) → getD ws q 0 < 2 ^ 64
 
-filled-same : {g : Rules} {w : Word} {ws a b : List ℕ} → Words a → Words b → Filled g w ws a → Filled g w ws b → a ≡ b
+pub filled-same : {g : Rules} {w : Word} {ws a b : List ℕ} → Words a → Words b → Filled g w ws a → Filled g w ws b → a ≡ b
 filled-same {g} {w} {ws} {a} {b} p q x y =
     let n = needed w in
     let front = sheet-same g w a b p q (x .sheet) (y .sheet) in
@@ -76,13 +76,13 @@ filled-same {g} {w} {ws} {a} {b} p q x y =
 
 -- 3. the verdict
 
-apart : {o : Sheets} {f : Fault} {l : ℕ} {g : Rules} {w : Word} → o ≡ refused f l → o ≡ accepted g w → ⊥
+pub apart : {o : Sheets} {f : Fault} {l : ℕ} {g : Rules} {w : Word} → o ≡ refused f l → o ≡ accepted g w → ⊥
 apart e d = let z : _≡_ {A = ℕ} 0 1 = cc in omega arith
 
-same-sheets : {o : Sheets} {g g′ : Rules} {w w′ : Word} → o ≡ accepted g w → o ≡ accepted g′ w′ → (g ≡ g′) × (w ≡ w′)
+pub same-sheets : {o : Sheets} {g g′ : Rules} {w w′ : Word} → o ≡ accepted g w → o ≡ accepted g′ w′ → (g ≡ g′) × (w ≡ w′)
 same-sheets e d = (cc, cc)
 
-same-refusal : {o : Sheets} {f f′ : Fault} {l l′ : ℕ} → o ≡ refused f l → o ≡ refused f′ l′ → (f ≡ f′) × (l ≡ l′)
+pub same-refusal : {o : Sheets} {f f′ : Fault} {l l′ : ℕ} → o ≡ refused f l → o ≡ refused f′ l′ → (f ≡ f′) × (l ≡ l′)
 same-refusal e d = (cc, cc)
 
 verdict-on : (g : Rules) (w : Word) {ws a b : List ℕ} {r s : Reply} → Words a → Words b → VerdictOn g w ws a r → VerdictOn g w ws b s → (r ≡ s) × (a ≡ b)
@@ -169,7 +169,7 @@ trees-on g w D p q (Trees.showing k y) (Trees.short u v x h i j) = absurd (omega
 trees-on g w {one = one} {two = two} D p q (Trees.showing h x) (Trees.showing k y) = (filled-same p q h k, shown-settled g w one two D x y)
 
 -- the rules of an accepted sheet are distinct: what refusal 5 sees to
-distinct-of : (rules tokens : List ℕ) (g : Rules) (w : Word) → sheets rules tokens ≡ accepted g w → Distinct g
+pub distinct-of : (rules tokens : List ℕ) (g : Rules) (w : Word) → sheets rules tokens ≡ accepted g w → Distinct g
 distinct-of rules tokens g w d = go (ruleSheet rules) refl d
   where
     inner : (g′ : Rules) (q : Reading Token) → withTokens g′ q ≡ accepted g w → g′ ≡ g

@@ -92,7 +92,7 @@ fn put_line(out: &mut [u8], at: usize, line: usize) -> usize
 }
 
 // The first two lines of the output.
-fn put_head(out: &mut [u8], a: Answer, line: usize) -> usize
+pub fn put_head(out: &mut [u8], a: Answer, line: usize) -> usize
     requires { ⌜ 50 ≤ length (now out) ⌝ }
     ensures { λ r. ⌜ Wrote (now (out .entry)) (now (out .exit)) 0 (head (answerText a) line) r ⌝ }
     ensures { λ r. ⌜ r ≤ 50 ⌝ }
@@ -125,7 +125,7 @@ fn put_first(out: &mut [u8], at: usize, one: &[u8], m: usize) -> usize
 }
 
 // The tree lines and their names, where the answer has trees: the first m rows of one memory and the first n of the other.
-fn put_trees(
+pub fn put_trees(
     out: &mut [u8],
     at: usize,
     a: Answer,
