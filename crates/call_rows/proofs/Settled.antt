@@ -1,0 +1,39 @@
+-- The promise settles the answer, both counts and the lent words: two results that meet it are the same.
+use mathlib.Core.Path.{_≡_, sym, ap, _∙_}
+use mathlib.Core.List.{List}
+use Prim.Native.Nat.{ℕ}
+use native.Mathlib.Omega.{arith}
+use Rattle.grammar.specs.Layout.{Word}
+use Rattle.grammar.specs.Trees.{Rules}
+use Rattle.grammar.specs.Choices.{Distinct}
+use Rattle.sheets.specs.declared.Fault.{Fault}
+use Rattle.sheets.proofs.Numbers.{same-fault}
+use Rattle.teplonga.proofs.Settled.{Words, says-one, filled-same, apart, same-sheets, same-refusal, distinct-of}
+use Rattle.row_counts.specs.RowCounts.{Tells}
+use Rattle.row_counts.proofs.RowCountLaws.{counted-unique, tells-one}
+use Rattle.call_rows.specs.declared.RowsReply.{RowsReply}
+use Rattle.call_rows.specs.Rows.{refusal, RowsOn, short, counting, RowsOf, refusing, reading}
+
+rows-on : (g : Rules) (w : Word) {ws a b : List ℕ} {r s : RowsReply} → Distinct g → Words a → Words b → RowsOn g w ws a r → RowsOn g w ws b s → (r ≡ s) × (a ≡ b)
+rows-on g w d p q (short {f = f} l n x h) (short {f = f′} m o y k) =
+    let z : f ≡ f′ = same-fault f f′ 21 n o in
+    (x ∙ ap (λ (e : Fault). refusal e 0) z ∙ sym y, h ∙ sym k)
+rows-on g w d p q (short l n x h) (counting y m c t u k) = absurd (omega (arith, k .sheet .enough, k .long))
+rows-on g w d p q (counting y m c t u k) (short l n x h) = absurd (omega (arith, k .sheet .enough, k .long))
+rows-on g w {r = r} {s = s} d p q (counting {m = m} {n = n} x l c t u h) (counting {m = m′} {n = n′} y o e t′ u′ k) =
+    let z = counted-unique d c e in
+    let answer : r .answer ≡ s .answer = says-one g w (r .answer) (s .answer) x y in
+    let line : r .line ≡ s .line = l ∙ sym o in
+    let first : r .first ≡ s .first = tells-one (r .first) (s .first) m t (rw (z .0) t′) in
+    let second : r .second ≡ s .second = tells-one (r .second) (s .second) n u (rw (z .1) u′) in
+    (λ i. record { answer = answer i; line = line i; first = first i; second = second i }, filled-same p q h k)
+
+pub rows-settled : {rules tokens ws a b : List ℕ} {r s : RowsReply} → Words a → Words b → RowsOf rules tokens ws a r → RowsOf rules tokens ws b s → (r ≡ s) × (a ≡ b)
+rows-settled p q (refusing e x h) (refusing d y k) =
+    let z = same-refusal e d in
+    (x ∙ rw (z .0, z .1) (sym y), h ∙ sym k)
+rows-settled p q (refusing e x h) (reading d y) = absurd (apart e d)
+rows-settled p q (reading d y) (refusing e x h) = absurd (apart e d)
+rows-settled {rules} {tokens} p q (reading {g = g} {w = w} e x) (reading d y) =
+    let z = same-sheets e d in
+    rows-on g w (distinct-of rules tokens g w e) p q x (rw (← z .0, ← z .1) at y)

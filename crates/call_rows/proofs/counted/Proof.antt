@@ -1,0 +1,98 @@
+-- `counted` meets its contract: 21 by the words' number, else the rows of the verdict's trees.
+use Rattle.teplonga.proofs.Judging.{filled-by}
+use Rattle.teplonga.proofs.Showing.{first-there, second-there, wants-first, wants-second}
+use Rattle.call_rows.proofs.Counting.{has-firsts, too-few, counted-none, counted-one, counted-two}
+use borrow.Author.Needs.{needs}
+use Rattle.call_rows.proofs.counted.Statement.{statement}
+use Rattle.call_rows.proofs.counted.Tie as tie
+
+size-requires : tie.Need-size-requires
+size-requires c κs = search needs
+
+uncounted-requires : tie.Need-uncounted-requires
+uncounted-requires c κs = search needs
+
+returns : tie.Need-returns
+returns c =
+    let s = c .before .before .before .before in
+    too-few (s .pre .1 .0 .whole) (rw (c .before .before .size .ensures) at (c .before .if1 .taken)) (c .uncounted .ensures)
+
+judge-requires : tie.Need-judge-requires
+judge-requires c κs = search needs
+
+enum-told : tie.Need-enum-told
+enum-told c = search needs
+
+enum-told-2 : tie.Need-enum-told-2
+enum-told-2 c = search needs
+
+first-rows-requires : tie.Need-first-rows-requires
+first-rows-requires c κs =
+    let j = c .before .before .before .before .before in
+    let s = j .before .before .before .before .before in
+    let v = rw (c .before .enum-told2 .given .1) at (j .judge .ensures) in
+    let a = s .pre .1 .1 in
+    (record { formed = s .pre .0; positioned = s .pre .1 .0; sheet = v .sheet }, (has-firsts a, wants-first _ _ a (v .verdict)))
+
+enum-told-3 : tie.Need-enum-told-3
+enum-told-3 c = search needs
+
+both-rows-requires : tie.Need-both-rows-requires
+both-rows-requires c κs =
+    let j = c .before .before .before .before .before in
+    let s = j .before .before .before .before .before in
+    let v = rw (c .before .enum-told3 .given .1) at (j .judge .ensures) in
+    let a = s .pre .1 .1 in
+    (record { formed = s .pre .0; positioned = s .pre .1 .0; sheet = v .sheet }, (has-firsts a, wants-second _ _ a (s .pre .0 .distinct) (v .verdict)))
+
+same-length : tie.Need-same-length
+same-length c = search needs
+
+returns-2 : tie.Need-returns-2
+returns-2 c =
+    let j = c .before .before .before .before in
+    let s = j .before .before .before .before .before in
+    let v = rw (c .enum-told .given .1) at (j .judge .ensures) in
+    counted-none (filled-by (s .pre .1 .0 .whole) v) (v .verdict)
+
+same-length-2 : tie.Need-same-length-2
+same-length-2 c = search needs
+
+returns-3 : tie.Need-returns-3
+returns-3 c =
+    let j = c .before .before .before .before .before .before in
+    let s = j .before .before .before .before .before in
+    let v = rw (c .before .before .enum-told2 .given .1) at (j .judge .ensures) in
+    let f = first-there _ _ (s .pre .1 .1) (v .verdict) in
+    counted-one (filled-by (s .pre .1 .0 .whole) v) (v .verdict) (f .1) (c .first-rows .ensures (f .0) (f .1))
+
+same-length-3 : tie.Need-same-length-3
+same-length-3 c = search needs
+
+returns-4 : tie.Need-returns-4
+returns-4 c =
+    let j = c .before .before .before .before .before .before in
+    let s = j .before .before .before .before .before in
+    let v = rw (c .before .before .enum-told3 .given .1) at (j .judge .ensures) in
+    let u = second-there _ _ (s .pre .1 .1) (s .pre .0 .distinct) (v .verdict) in
+    counted-two (filled-by (s .pre .1 .0 .whole) v) (v .verdict) (u .1 .first) (u .1) (c .both-rows .ensures (u .1 .tree) (u .0) (u .1 .first) (u .1))
+
+pub counted-spec : {M : Type 1} → statement M
+counted-spec =
+    tie.close
+    (tie.spec
+    size-requires
+    uncounted-requires
+    returns
+    judge-requires
+    enum-told
+    enum-told-2
+    first-rows-requires
+    enum-told-3
+    both-rows-requires
+    same-length
+    returns-2
+    same-length-2
+    returns-3
+    same-length-3
+    returns-4)

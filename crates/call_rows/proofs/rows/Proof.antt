@@ -1,0 +1,83 @@
+-- `rows` meets its contract: the readers' refusals, else the row counts of what was read.
+use mathlib.Core.Path.{refl}
+use Rattle.teplonga.proofs.Readings.{refused-rules, refused-tokens, both-accepted}
+use Rattle.call_rows.specs.Rows.{refusing, reading}
+use borrow.Author.Needs.{needs}
+use Rattle.call_rows.proofs.rows.Statement.{statement}
+use Rattle.call_rows.proofs.rows.Tie as tie
+
+read-rules-requires : tie.Need-read-rules-requires
+read-rules-requires c κs = search needs
+
+enum-known-o : tie.Need-enum-known-o
+enum-known-o c = search needs
+
+uncounted-requires : tie.Need-uncounted-requires
+uncounted-requires c κs = search needs
+
+enum-told : tie.Need-enum-told
+enum-told c = search needs
+
+read-tokens-requires : tie.Need-read-tokens-requires
+read-tokens-requires c κs = search needs
+
+enum-known-p : tie.Need-enum-known-p
+enum-known-p c = search needs
+
+uncounted-requires-2 : tie.Need-uncounted-requires-2
+uncounted-requires-2 c κs = search needs
+
+enum-told-2 : tie.Need-enum-told-2
+enum-told-2 c = search needs
+
+counted-requires : tie.Need-counted-requires
+counted-requires c κs =
+    let q = c .before .before .before .before .before in
+    let r = q .before .before .before in
+    let e = q .before .enum-told .given .1 in
+    (r .read-rules .ensures .formed e, (q .read-tokens .ensures .positioned (c .before .before .before .enum-told2 .given .1), r .read-rules .ensures .acyclic e))
+
+returns : tie.Need-returns
+returns c =
+    let r = c .before .before .before .before in
+    let s = r .before .before .before .before in
+    refusing (refused-rules (s .args .rules .now) (s .args .tokens .now) (r .read-rules .ensures) (c .before .before .o .given .1)) (c .uncounted .ensures) refl
+
+returns-2 : tie.Need-returns-2
+returns-2 c =
+    let q = c .before .before .before .before in
+    let r = q .before .before .before in
+    let s = r .before .before .before .before in
+    let e = refused-tokens (s .args .rules .now) (s .args .tokens .now) (r .read-rules .ensures) (q .before .enum-told .given .1) (q .read-tokens .ensures) (c .before .before .p .given .1) in
+    refusing e (c .uncounted2 .ensures) refl
+
+same-length : tie.Need-same-length
+same-length c = search needs
+
+returns-3 : tie.Need-returns-3
+returns-3 c =
+    let j = c .before .before in
+    let m = j .before .before .before .before in
+    let q = m .before .before in
+    let r = q .before .before .before in
+    let s = r .before .before .before .before in
+    let e = both-accepted (s .args .rules .now) (s .args .tokens .now) (r .read-rules .ensures) (q .before .enum-told .given .1) (q .read-tokens .ensures) (m .enum-told2 .given .1) in
+    reading e (j .counted .ensures)
+
+pub rows-spec : {M : Type 1} → statement M
+rows-spec =
+    tie.close
+    (tie.spec
+    read-rules-requires
+    enum-known-o
+    uncounted-requires
+    enum-told
+    read-tokens-requires
+    enum-known-p
+    uncounted-requires-2
+    enum-told-2
+    counted-requires
+    returns
+    returns-2
+    same-length
+    returns-3)

@@ -1,0 +1,40 @@
+-- `count_first` meets its contract: the table over the empty word, the walk over the others.
+use borrow.Author.Needs.{needs}
+use mathlib.Core.Path.{_≡_, ap, _∙_, subst}
+use Prim.Native.Nat.{ℕ, _-_}
+use lib.ListN.{getD}
+use Rattle.grammar.specs.Choices.{FirstTree}
+use Rattle.grammar.specs.Content.{rules, spelled}
+use Rattle.grammar.specs.SpanSheet.{part}
+use Rattle.row_counts.proofs.count_first.Statement.{statement}
+use Rattle.row_counts.proofs.count_first.Tie as tie
+
+wide-requires : tie.Need-wide-requires
+wide-requires c κs = search needs
+
+mul-result : tie.Need-mul-result
+mul-result c = search needs
+
+shared-slice-read-result : tie.Need-shared-slice-read-result
+shared-slice-read-result c = search needs
+
+returns : tie.Need-returns
+returns c =
+    let if1-here = c .before .before .if1 in
+    let if1 = if1-here in
+    let z = c .before .before .before .before .before in
+    let a = z .args in
+    λ t f. let e : a .l ≡ 0 = if1 .taken in
+    ap (λ (y : ℕ). getD (a .z .now) y 0) (c .before .wide .ensures) ∙ z .pre .1 .0 .count (a .a) t (z .pre .0 .1)
+    (subst (λ (n : ℕ). FirstTree (rules (a .g)) (a .a) (part (spelled (a .s)) (a .i) n) t) e f)
+
+walk-requires : tie.Need-walk-requires
+walk-requires c κs = search needs
+
+returns-2 : tie.Need-returns-2
+returns-2 c = search needs
+
+pub count-first-spec : {M : Type 1} → statement M
+count-first-spec =
+    tie.close
+    (tie.spec wide-requires mul-result shared-slice-read-result returns walk-requires returns-2)

@@ -1,0 +1,5 @@
+pub mod Capped
+pub mod RowCounts
+pub mod Nulls
+pub mod Walks
+pub mod Seconds
