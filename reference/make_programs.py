@@ -18,12 +18,32 @@ import sys
 from pathlib import Path
 
 import check_cases
+import far
+import far_cases
 import sweep_cases
 import teplonga
 
+
+class Far:
+    """The cases of `far_cases.py`, all made by hand."""
+
+    def __init__(self, meant):
+        self.meant = meant
+
+    def cases(self):
+        return (text for _, text in self.meant())
+
+
+# The cases of a program, part by part, each with what answers them.
 PROGRAMS = {
-    "check": (check_cases, teplonga.check_program),
-    "sweep": (sweep_cases, teplonga.sweep_program),
+    "check": [
+        (check_cases, teplonga.check_program),
+        (Far(far_cases.check_meant), far.check_program),
+    ],
+    "sweep": [
+        (sweep_cases, teplonga.sweep_program),
+        (Far(far_cases.sweep_meant), far.sweep_program),
+    ],
 }
 
 
@@ -53,13 +73,16 @@ def main(arguments):
     if len(named) != 3 or named[0] not in PROGRAMS:
         print("usage: make_programs.py [--check] check|sweep STDIN STDOUT", file=sys.stderr)
         return 2
-    listed, program = PROGRAMS[named[0]]
-    inputs = list(listed.cases())
-    outputs = [program(text) for text in inputs]
-    wrong = astray(listed.meant(), outputs)
-    if wrong is not None:
-        print("input %r\n  got   %r\n  meant %r" % wrong)
-        return 1
+    inputs, outputs = [], []
+    for listed, program in PROGRAMS[named[0]]:
+        texts = list(listed.cases())
+        answers = [program(text) for text in texts]
+        wrong = astray(listed.meant(), answers)
+        if wrong is not None:
+            print("input %r\n  got   %r\n  meant %r" % wrong)
+            return 1
+        inputs += texts
+        outputs += answers
     status = 0
     made = (b"".join(map(framed, inputs)), b"".join(outputs))
     for path, text in zip(map(Path, named[1:]), made):
