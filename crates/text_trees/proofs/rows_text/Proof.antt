@@ -1,0 +1,46 @@
+-- `rows_text` meets its contract: the lent words are those of the promise of `rows`.
+use mathlib.Core.Path.{refl}
+use Prim.Native.Nat.{ℕ}
+use lib.ListN.{length-replicate}
+use Rattle.printing.proofs.Writing.{wrote-then}
+use Rattle.text_trees.specs.Rows.{answered}
+use borrow.Author.Needs.{needs}
+use Rattle.text_trees.proofs.rows_text.Statement.{statement}
+use Rattle.text_trees.proofs.rows_text.Tie as tie
+
+slice-aggregate-rows : tie.Need-slice-aggregate-rows
+slice-aggregate-rows c = search needs
+
+rows-requires : tie.Need-rows-requires
+rows-requires c κs = search needs
+
+put-head-requires : tie.Need-put-head-requires
+put-head-requires c κs = search needs
+
+put-counted-requires : tie.Need-put-counted-requires
+put-counted-requires c κs = search needs
+
+same-length : tie.Need-same-length
+same-length c = search needs
+
+returns : tie.Need-returns
+returns c =
+    let p = c .before .before in
+    let h = p .before .before .before .before in
+    let z = h .before .before .before in
+    record {
+      text = _;
+      is = answered (length-replicate {A = ℕ} 4162 0) (z .rows .ensures) refl;
+      wrote = wrote-then (h .put-head .ensures .0) (p .put-counted .ensures);
+    }
+
+pub rows-text-spec : {M : Type 1} → statement M
+rows-text-spec =
+    tie.close
+    (tie.spec
+    slice-aggregate-rows
+    rows-requires
+    put-head-requires
+    put-counted-requires
+    same-length
+    returns)

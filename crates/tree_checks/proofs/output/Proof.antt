@@ -1,0 +1,78 @@
+-- `tree_checks::output` meets its contract: what was put stands within the output.
+use Rattle.text.proofs.Within.{printed-within}
+use borrow.Author.Needs.{needs}
+use Rattle.tree_checks.proofs.output.Statement.{statement}
+use Rattle.tree_checks.proofs.output.Tie as tie
+
+returns : tie.Need-returns
+returns c = search needs
+
+five-requires : tie.Need-five-requires
+five-requires c κs = search needs
+
+add-a : tie.Need-add-a
+add-a c = search needs
+
+five-requires-2 : tie.Need-five-requires-2
+five-requires-2 c κs = search needs
+
+add-b : tie.Need-add-b
+add-b c = search needs
+
+returns-2 : tie.Need-returns-2
+returns-2 c = search needs
+
+shared-slice-read-if3 : tie.Need-shared-slice-read-if3
+shared-slice-read-if3 c = search needs
+
+sub-rows-text : tie.Need-sub-rows-text
+sub-rows-text c = search needs
+
+part-rows-text-start : tie.Need-part-rows-text-start
+part-rows-text-start c = search needs
+
+part-rows-text-end : tie.Need-part-rows-text-end
+part-rows-text-end c = search needs
+
+sub-rows-text-2 : tie.Need-sub-rows-text-2
+sub-rows-text-2 c = search needs
+
+part-rows-text-start-2 : tie.Need-part-rows-text-start-2
+part-rows-text-start-2 c = search needs
+
+part-rows-text-end-2 : tie.Need-part-rows-text-end-2
+part-rows-text-end-2 c = search needs
+
+rows-text-requires : tie.Need-rows-text-requires
+rows-text-requires c κs = search needs
+
+same-length : tie.Need-same-length
+same-length c = search needs
+
+returns-3 : tie.Need-returns-3
+returns-3 c = printed-within (c .before .before .rows-text .ensures)
+
+returns-4 : tie.Need-returns-4
+returns-4 c = search needs
+
+pub output-spec : {M : Type 1} → statement M
+output-spec =
+    tie.close
+    (tie.spec
+    returns
+    five-requires
+    add-a
+    five-requires-2
+    add-b
+    returns-2
+    shared-slice-read-if3
+    sub-rows-text
+    part-rows-text-start
+    part-rows-text-end
+    sub-rows-text-2
+    part-rows-text-start-2
+    part-rows-text-end-2
+    rows-text-requires
+    same-length
+    returns-3
+    returns-4)

@@ -1,0 +1,51 @@
+// Runs the calls on one sentence's trees on each case of standard input and writes their outputs one after the other.
+use cases::five;
+use cases::next_case;
+use libc::STDOUT_FILENO;
+use text_trees::rows_text;
+ghost use Prim.Native.Nat.{_≤_};
+ghost use lib.ListN.{length};
+
+// A case is the call's letter, the user, the rule and the lengths of the first two parts, five digits each, then three parts.
+// Its output, and the output's length.
+fn output(case: &[u8], out: &mut [u8]) -> usize
+    requires { ⌜ 262144 ≤ length (now out) ⌝ }
+    ensures { λ r. ⌜ r ≤ length (now (out .exit)) ⌝ }
+{
+    if case.len() < 26 {
+        return 0;
+    }
+    let a = 26 + five(case, 14);
+    let b = a + five(case, 20);
+    if case.len() < b {
+        return 0;
+    }
+    if case[0] == b'r' {
+        return rows_text(&case[26..a], &case[a..b], out);
+    }
+    0
+}
+
+// One case; whether there was one.
+fn case() -> bool {
+    let mut space = [0u8; 100000];
+    let n = next_case(&mut space);
+    if n == 100000 {
+        return false;
+    }
+    let mut out = [0u8; 262144];
+    let r = output(&space[..n], &mut out);
+    io::write_all(STDOUT_FILENO, &out[..r]);
+    true
+}
+
+fn main() {
+    let mut turns: usize = 0;
+    while turns < 100000 {
+        let more = case();
+        if !more {
+            return;
+        }
+        turns += 1;
+    }
+}
