@@ -1,5 +1,6 @@
 /*
- * Teplonga's calls for C and C++, as `rt staticlib face` builds them for x86-64 Linux.
+ * Teplonga's calls for C and C++, as `rt staticlib face` and `rt staticlib face_trees` build them for
+ * x86-64 Linux.
  *
  * Sheets and lent memory are a pointer and a number of places. A pointer is never NULL, not even
  * with no places, and what is lent to a call to be written is lent to it once and overlaps nothing
@@ -72,6 +73,9 @@ enum {
 /* The places of `counts`: the row counts of the first and the second tree. */
 #define TEPLONGA_COUNTS 2
 
+/* What stands in `counts` for more rows than 4,294,967,295. */
+#define TEPLONGA_MORE ((uint64_t)1 << 32)
+
 /* The places of `found`: the sentence's length, then terminal, line and column of seven tokens, each of width 1. */
 #define TEPLONGA_FOUND 22
 
@@ -104,6 +108,20 @@ uint64_t teplonga_trees(const uint8_t *rules, size_t rules_length,
                         uint8_t *first, size_t first_length,
                         uint8_t *second, size_t second_length,
                         uint64_t *counts, size_t counts_length);
+
+/*
+ * The verdict and how many rows each tree has: none, one or two, or refused 1 to 8, 44, 11 to 15, 47
+ * or 21. No tree is built, and `words` are as after the verdict.
+ *
+ * `counts` gets the row count of each tree, 0 for one that the verdict lacks and on a refusal;
+ * TEPLONGA_MORE stands for more than 4,294,967,295 rows. Places past these two never change, and
+ * fewer than two are left as they were. Where neither is TEPLONGA_MORE, memories of just that many
+ * rows are enough for teplonga_trees of the same sheets, and one row fewer is refused 22.
+ */
+uint64_t teplonga_rows(const uint8_t *rules, size_t rules_length,
+                       const uint8_t *tokens, size_t tokens_length,
+                       uint64_t *words, size_t words_length,
+                       uint64_t *counts, size_t counts_length);
 
 /*
  * The sweep: two, where a sentence of 1 to `bound` tokens has two trees, or clear, or refused 1 to

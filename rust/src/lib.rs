@@ -8,6 +8,7 @@
 //! |---|---|
 //! | [`verdict`] | none, one or two valid trees of a sentence |
 //! | [`trees`] | besides, the rows of the first and the second tree |
+//! | [`rows`] | the verdict, and how many rows each tree has |
 //! | [`sweep`] | the first short sentence that has two trees, or clear |
 //! | [`refused_line`] | the refused line itself, as a part of its sheet |
 //!
@@ -33,10 +34,14 @@
 mod answer;
 #[allow(unsafe_code)]
 mod c;
+#[allow(unsafe_code)]
+mod c_trees;
+mod row_count;
 mod sentence;
 mod tree;
 
 pub use answer::{Answer, Reply};
+pub use row_count::{RowCount, RowsReply};
 pub use sentence::{Column, Line, SweepReply, Token};
 pub use tree::{Kind, Row, Rows, TreesReply};
 
@@ -113,6 +118,22 @@ pub fn trees<'a>(
 ) -> TreesReply<'a> {
     let (word, counts) = c::trees(rules, tokens, words, first, second);
     TreesReply::unpacked(word, counts, first, second)
+}
+
+/// The verdict, and how many rows each tree has: the memory that [`trees`] of
+/// the same sheets needs. No tree is built.
+///
+/// ```
+/// use teplonga::{rows, words_for, RowCount};
+///
+/// let rules = b"left kind first second lay\n0 B 0 0 none\n0 A 0 - none\n";
+/// let tokens = b"term line col\n0 1 1\n0 1 2\n0 1 3\n";
+/// let reply = rows(rules, tokens, &mut vec![0; words_for(3)]);
+/// assert_eq!((reply.first, reply.second), (RowCount::Exact(5), RowCount::Exact(5)));
+/// ```
+pub fn rows(rules: &[u8], tokens: &[u8], words: &mut [u64]) -> RowsReply {
+    let (word, counts) = c_trees::rows(rules, tokens, words);
+    RowsReply::unpacked(word, counts)
 }
 
 /// The first candidate of 1 to `bound` tokens that has two trees, or clear.

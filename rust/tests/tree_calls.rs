@@ -1,0 +1,67 @@
+//! Row counts, beside the trees themselves.
+
+use teplonga::{rows, trees, words_for, Answer, RowCount, RowsReply};
+
+/// A rule sheet of these rules, parted by ` / `.
+fn rules(text: &str) -> Vec<u8> {
+    let lines: String = text.split(" / ").map(|line| format!("{line}\n")).collect();
+    format!("left kind first second lay\n{lines}").into_bytes()
+}
+
+/// A token sheet of terminal 0, so many side by side.
+fn row(count: usize) -> Vec<u8> {
+    let lines: String = (1..=count).map(|column| format!("0 1 {column}\n")).collect();
+    format!("term line col\n{lines}").into_bytes()
+}
+
+/// An empty word with 2^count - 1 rows under nonterminal 0.
+fn doubling(count: usize) -> String {
+    let pair = |name| format!("{name} B {0} {0} none / ", name + 1);
+    (0..count - 1).map(pair).collect::<String>() + &format!("{} E - - none", count - 1)
+}
+
+const PLAIN: &str = "0 B 0 0 none / 0 A 0 - none";
+
+#[test]
+fn counted_rows_are_room_enough_and_one_fewer_is_not() {
+    let sheets = (rules(PLAIN), row(5));
+    let mut words = vec![7; words_for(5)];
+    let reply = rows(&sheets.0, &sheets.1, &mut words);
+    let RowsReply { answer: Answer::Two, line: 0, first, second } = reply else {
+        panic!("{reply:?}");
+    };
+    let (RowCount::Exact(first), RowCount::Exact(second)) = (first, second) else {
+        panic!("{reply:?}");
+    };
+    let answer = |one: u32, two: u32| {
+        let (mut one, mut two) = (vec![7; 4 * one as usize], vec![7; 4 * two as usize]);
+        let mut words = vec![7; words_for(5)];
+        trees(&sheets.0, &sheets.1, &mut words, &mut one, &mut two).answer
+    };
+    assert_eq!(answer(first, second), Answer::Two);
+    assert_eq!(answer(first - 1, second), Answer::Refused(22));
+    assert_eq!(answer(first, second - 1), Answer::Refused(22));
+}
+
+#[test]
+fn counts_are_told_up_to_the_most() {
+    let count = |text: &str| rows(&rules(text), &row(0), &mut [0; 2]).first;
+    assert_eq!(count(&doubling(32)), RowCount::Exact(u32::MAX));
+    assert_eq!(count(&doubling(33)), RowCount::More);
+    assert_eq!(count(&doubling(63)).to_string(), "more");
+}
+
+#[test]
+fn a_refused_call_counts_nothing() {
+    let short = rows(&rules(PLAIN), &row(3), &mut [0; 13]);
+    let none = RowCount::Exact(0);
+    let refused = |number, line| RowsReply {
+        answer: Answer::Refused(number),
+        line,
+        first: none,
+        second: none,
+    };
+    assert_eq!(short, refused(21, 0));
+    assert_eq!(rows(b"", b"", &mut []), refused(1, 1));
+    assert_eq!(rows(&rules(PLAIN), b"term\n", &mut []), refused(11, 1));
+}
