@@ -1,0 +1,24 @@
+-- `begin` meets its contract.
+use mathlib.Core.Path.{_≡_, refl}
+use Prim.Native.Nat.{ℕ}
+use native.Mathlib.Omega.{arith}
+use Rattle.lists.proofs.begin.Statement.{statement}
+use Rattle.lists.proofs.begin.Tie as tie
+
+returns : tie.Need-returns
+returns c =
+    record {
+      few = omega arith;
+      puts = λ lent.
+          record {
+            long = refl;
+            at = λ z. refl;
+            within = λ z. omega arith;
+            count = λ z. refl;
+            front = λ z. refl;
+            large = λ z. absurd (let y : _≡_ {A = ℕ} 0 1 = cc in omega arith);
+          };
+    }
+
+pub begin-spec : {M : Type 1} → statement M
+begin-spec = tie.close (tie.spec returns)
