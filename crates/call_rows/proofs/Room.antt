@@ -21,7 +21,7 @@ use Rattle.teplonga.specs.Answers.{accepted, sheets}
 use Rattle.teplonga.specs.Verdict.{needed}
 use Rattle.teplonga.specs.Trees.{reply, Shown, TreesOn, TreesOf}
 use Rattle.teplonga.specs.Trees as Show
-use Rattle.teplonga.proofs.Settled.{apart, same-sheets, distinct-of}
+use Rattle.teplonga.proofs.Settled.{apart, same-sheets, sheets-apart}
 use Rattle.row_counts.specs.declared.RowCount.{RowCount}
 use Rattle.row_counts.specs.declared.RowCount.the-variants as RowCount
 use Rattle.row_counts.specs.RowCounts.{Counted, treeless, single, both, Tells}
@@ -105,7 +105,7 @@ module _ {rules tokens ws ws′ : List ℕ} {r : RowsReply} {m n : ℕ} {vs vs�
       short-no f (x .fault) z (x .number) (sym (ap (λ (v : TreesReply). v .answer) i) ∙ x .answer)
   enough-rows (reading {g = g} {w = w} e (counting y o c t u h)) k (Show.reading d (Show.showing l s)) a b v =
       let z = same-sheets d e in
-      shown-fits (distinct-of rules tokens g w e) c (rw (z .0, z .1) at s) (omega (arith, tells-exact (k .first) t)) (omega (arith, tells-exact (k .second) u)) v
+      shown-fits (sheets-apart rules tokens .distinct g w e) c (rw (z .0, z .1) at s) (omega (arith, tells-exact (k .first) t)) (omega (arith, tells-exact (k .second) u)) v
 
   -- with words enough, and with one fewer in either memory, if that count was not 0, it is
   pub one-row-fewer : RowsOf rules tokens ws ws′ r → Exactly r m n → TreesOf rules tokens vs vs′ one one′ two two′ q
@@ -119,4 +119,4 @@ module _ {rules tokens ws ws′ : List ℕ} {r : RowsReply} {m n : ℕ} {vs vs�
       let z = same-sheets d e in
       let i = tells-exact (k .first) t in
       let j = tells-exact (k .second) u in
-      shown-short (distinct-of rules tokens g w e) c (rw (z .0, z .1) at s) (⊎-elim (λ x. inl (omega arith)) (λ x. inr (omega arith)) b)
+      shown-short (sheets-apart rules tokens .distinct g w e) c (rw (z .0, z .1) at s) (⊎-elim (λ x. inl (omega arith)) (λ x. inr (omega arith)) b)

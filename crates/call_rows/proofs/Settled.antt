@@ -8,7 +8,7 @@ use Rattle.grammar.specs.Trees.{Rules}
 use Rattle.grammar.specs.Choices.{Distinct}
 use Rattle.sheets.specs.declared.Fault.{Fault}
 use Rattle.sheets.proofs.Numbers.{same-fault}
-use Rattle.teplonga.proofs.Settled.{Words, says-one, filled-same, apart, same-sheets, same-refusal, distinct-of}
+use Rattle.teplonga.proofs.Settled.{Words, says-one, filled-same, apart, same-sheets, same-refusal, sheets-apart}
 use Rattle.row_counts.specs.RowCounts.{Tells}
 use Rattle.row_counts.proofs.RowCountLaws.{counted-unique, tells-one}
 use Rattle.call_rows.specs.declared.RowsReply.{RowsReply}
@@ -36,4 +36,4 @@ rows-settled p q (refusing e x h) (reading d y) = absurd (apart e d)
 rows-settled p q (reading d y) (refusing e x h) = absurd (apart e d)
 rows-settled {rules} {tokens} p q (reading {g = g} {w = w} e x) (reading d y) =
     let z = same-sheets e d in
-    rows-on g w (distinct-of rules tokens g w e) p q x (rw (← z .0, ← z .1) at y)
+    rows-on g w (sheets-apart rules tokens .distinct g w e) p q x (rw (← z .0, ← z .1) at y)

@@ -8,15 +8,18 @@ use lib.Dec.{ltb}
 use Rattle.grammar.specs.declared.Token.{Token}
 use Rattle.grammar.specs.declared.Sentence.{Sentence}
 use Rattle.grammar.specs.Layout.{Word, line, col}
+use Rattle.grammar.specs.declared.Rule.{Rule}
+use Rattle.sheets.specs.Items.{Reading}
 use Rattle.sheets.specs.Refusals.{numberOf}
 use Rattle.teplonga.specs.declared.Answer.{Answer}
 use Rattle.teplonga.specs.declared.Answer.the-variants as Answer
 use Rattle.teplonga.specs.declared.Reply.{Reply}
 use Rattle.teplonga.specs.declared.SweepReply.{SweepReply}
 use Rattle.teplonga.specs.declared.TreesReply.{TreesReply}
-use Rattle.teplonga.specs.Verdict.{VerdictOf}
-use Rattle.teplonga.specs.Trees.{TreesOf}
-use Rattle.teplonga.specs.Sweep.{SweepOf}
+use Rattle.teplonga.specs.Answers.{Sheets}
+use Rattle.teplonga.specs.Verdict.{VerdictBy}
+use Rattle.teplonga.specs.Trees.{TreesBy}
+use Rattle.teplonga.specs.Sweep.{SweepBy}
 
 -- an answer's code: 0 none, 1 one, 2 two, 3 clear, 100 + N refused-N
 abbrev pub codeOf : Answer → ℕ
@@ -30,10 +33,10 @@ codeOf (Answer.Refused f) = 100 + numberOf f
 unfoldable pub packed : Answer → ℕ → ℕ
 packed a l = codeOf a * 4294967296 + cond (ltb l 4294967295) l 4294967295
 
--- `teplonga_verdict` hands over what `verdict` answers
-pub record VerdictWord (rules tokens words words′ : List ℕ) (r : ℕ) : Type 0 where
+-- `teplonga_verdict` hands over what `verdict` answers, where both sheets give this
+pub record VerdictWord (given : Sheets) (words words′ : List ℕ) (r : ℕ) : Type 0 where
   pub reply : Reply
-  pub promise : VerdictOf rules tokens words words′ reply
+  pub promise : VerdictBy given words words′ reply
   pub word : r ≡ packed (reply .answer) (reply .line)
 
 -- n words stand at the front of the lent ones, and those past them are unchanged; fewer than n lent ones are left as they were
@@ -50,10 +53,10 @@ tokenWords (t ∷ w) = t .terminal ∷ line t ∷ col t ∷ tokenWords w
 abbrev pub sentenceWords : Sentence → List ℕ
 sentenceWords s = s .count ∷ tokenWords (take 7 (s .tokens))
 
--- `teplonga_sweep` hands over what `sweep` answers, and the answer's sentence in words
-pub record SweepWord (rules : List ℕ) (k : ℕ) (words words′ found found′ : List ℕ) (r : ℕ) : Type 0 where
+-- `teplonga_sweep` hands over what `sweep` answers, and the answer's sentence in words, where the sheet with the rules gives this
+pub record SweepWord (given : Reading Rule) (k : ℕ) (words words′ found found′ : List ℕ) (r : ℕ) : Type 0 where
   pub reply : SweepReply
-  pub promise : SweepOf rules k words words′ reply
+  pub promise : SweepBy given k words words′ reply
   pub sentence : AtFront 22 (sentenceWords (reply .sentence)) found found′
   pub word : r ≡ packed (reply .answer) (reply .line)
 
@@ -61,9 +64,9 @@ pub record SweepWord (rules : List ℕ) (k : ℕ) (words words′ found found′
 abbrev pub countWords : ℕ → ℕ → List ℕ
 countWords m n = m ∷ n ∷ []
 
--- `teplonga_trees` hands over what `trees` answers, and the trees' row counts in words
-pub record TreesWord (rules tokens words words′ one one′ two two′ counts counts′ : List ℕ) (r : ℕ) : Type 0 where
+-- `teplonga_trees` hands over what `trees` answers, and the trees' row counts in words, where both sheets give this
+pub record TreesWord (given : Sheets) (words words′ one one′ two two′ counts counts′ : List ℕ) (r : ℕ) : Type 0 where
   pub reply : TreesReply
-  pub promise : TreesOf rules tokens words words′ one one′ two two′ reply
+  pub promise : TreesBy given words words′ one one′ two two′ reply
   pub rows : AtFront 2 (countWords (reply .first) (reply .second)) counts counts′
   pub word : r ≡ packed (reply .answer) (reply .line)

@@ -13,6 +13,8 @@ ghost use Prim.Native.Nat.{_+_, _≤_, _<_};
 ghost use lib.ListN.{length, take};
 ghost use Rattle.grammar.specs.Layout.{line as lineOf, col};
 ghost use Rattle.printing.specs.Printing.{Wrote};
+ghost use Rattle.sheets.specs.RuleSheets.{ruleSheet};
+ghost use Rattle.teplonga.specs.Answers.{sheets};
 ghost use Rattle.sheets.specs.RefusedLines.{Hands, refusedLine};
 ghost use Rattle.face.specs.Face.{codeOf, packed, VerdictWord, tokenWords, sentenceWords, AtFront, SweepWord, countWords, TreesWord};
 
@@ -106,7 +108,7 @@ pub fn put_counts(counts: &mut [u64], first: usize, second: usize)
 // The verdict: its code times 2^32 plus the line's number. The words get the span sheet.
 #[no_mangle]
 pub extern "C" fn teplonga_verdict(rules: &[u8], tokens: &[u8], words: &mut [u64]) -> u64
-    ensures { λ r. ⌜ VerdictWord (now (rules .entry)) (now (tokens .entry)) (now (words .entry)) (now (words .exit)) r ⌝ }
+    ensures { λ r. ⌜ VerdictWord (sheets (now (rules .entry)) (now (tokens .entry))) (now (words .entry)) (now (words .exit)) r ⌝ }
 {
     let p = verdict(rules, tokens, words);
     let a = p.answer;
@@ -123,7 +125,7 @@ pub extern "C" fn teplonga_trees(
     second: &mut [u8],
     counts: &mut [u64],
 ) -> u64
-    ensures { λ r. ⌜ TreesWord (now (rules .entry)) (now (tokens .entry)) (now (words .entry)) (now (words .exit)) (now (first .entry)) (now (first .exit)) (now (second .entry)) (now (second .exit)) (now (counts .entry)) (now (counts .exit)) r ⌝ }
+    ensures { λ r. ⌜ TreesWord (sheets (now (rules .entry)) (now (tokens .entry))) (now (words .entry)) (now (words .exit)) (now (first .entry)) (now (first .exit)) (now (second .entry)) (now (second .exit)) (now (counts .entry)) (now (counts .exit)) r ⌝ }
 {
     let p = trees(rules, tokens, words, first, second);
     let a = p.answer;
@@ -139,7 +141,7 @@ pub extern "C" fn teplonga_sweep(
     words: &mut [u64],
     found: &mut [u64],
 ) -> u64
-    ensures { λ r. ⌜ SweepWord (now (rules .entry)) bound (now (words .entry)) (now (words .exit)) (now (found .entry)) (now (found .exit)) r ⌝ }
+    ensures { λ r. ⌜ SweepWord (ruleSheet (now (rules .entry))) bound (now (words .entry)) (now (words .exit)) (now (found .entry)) (now (found .exit)) r ⌝ }
 {
     let p = sweep(rules, bound, words);
     let a = p.answer;

@@ -197,7 +197,8 @@ fn rule_step(s: &[u8], c: Cursor, rules: [Rule; 128], n: usize) -> RuleStep
     }
 }
 
-fn no_rules() -> [Rule; 128] {
+// Places for 128 rules.
+pub fn no_rules() -> [Rule; 128] {
     [Rule {
         left: 0,
         clause: Clause::Empty,
@@ -205,7 +206,7 @@ fn no_rules() -> [Rule; 128] {
 }
 
 // A refused rule sheet.
-fn refuse_rules(rules: [Rule; 128], f: Fault, line: usize) -> GrammarRead
+pub fn refuse_rules(rules: [Rule; 128], f: Fault, line: usize) -> GrammarRead
     ensures { λ r. ⌜ RulesRead r (refused f line) ⌝ }
 {
     GrammarRead {
@@ -215,7 +216,7 @@ fn refuse_rules(rules: [Rule; 128], f: Fault, line: usize) -> GrammarRead
 }
 
 // The end of a rule sheet: refusals 7 and 8.
-fn finished(rules: [Rule; 128], n: usize) -> GrammarRead
+pub fn finished(rules: [Rule; 128], n: usize) -> GrammarRead
     requires { ⌜ Formed (record { rules = rules; count = n }) ⌝ }
     ensures { λ r. ⌜ RulesRead r (finish (accepted (take n rules))) ⌝ }
 {
@@ -398,7 +399,7 @@ pub fn read_tokens(s: &[u8]) -> SentenceRead
 }
 
 // The line of the sheet with n lines before it, without its byte 10.
-fn line_after<'a>(s: &'a [u8], n: usize) -> &'a [u8]
+pub fn line_after<'a>(s: &'a [u8], n: usize) -> &'a [u8]
     requires { ⌜ n < length (pieces 10 (now s)) ⌝ }
     ensures { λ r. ⌜ LinePart (s .entry) n r ⌝ }
 {

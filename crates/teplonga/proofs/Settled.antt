@@ -33,8 +33,8 @@ use Rattle.teplonga.specs.declared.Answer.the-variants as Answer
 use Rattle.teplonga.specs.declared.Reply.{Reply}
 use Rattle.teplonga.specs.Answers.{Sheets, accepted, refused, withTokens, withRules, sheets, Says}
 use Rattle.teplonga.specs.declared.TreesReply.{TreesReply}
-use Rattle.teplonga.specs.Verdict.{needed, Filled, VerdictOn, short, judging, VerdictOf, refusing, reading}
-use Rattle.teplonga.specs.Trees.{reply, Shown, treeless, single, both, large-one, large-two, TreesOn, TreesOf}
+use Rattle.teplonga.specs.Verdict.{needed, Filled, VerdictOn, short, judging, VerdictBy, refusing, reading}
+use Rattle.teplonga.specs.Trees.{reply, Shown, treeless, single, both, large-one, large-two, TreesOn, TreesBy}
 use Rattle.teplonga.specs.Trees as Trees
 use Rattle.grammar.specs.Rows.{rowCount}
 use Rattle.derivation.specs.Written.{places, filled}
@@ -96,7 +96,7 @@ verdict-on g w {r = r} {s = s} p q (judging x l h) (judging y m k) =
     let b : r .line ≡ s .line = l ∙ sym m in
     (λ i. record { answer = a i; line = b i }, filled-same p q h k)
 
-pub verdict-settled : {rules tokens ws a b : List ℕ} {r s : Reply} → Words a → Words b → VerdictOf rules tokens ws a r → VerdictOf rules tokens ws b s → (r ≡ s) × (a ≡ b)
+pub verdict-settled : {given : Sheets} {ws a b : List ℕ} {r s : Reply} → Words a → Words b → VerdictBy given ws a r → VerdictBy given ws b s → (r ≡ s) × (a ≡ b)
 verdict-settled p q (refusing e x h) (refusing d y k) =
     let z = same-refusal e d in
     (x ∙ rw (z .0, z .1) (sym y), h ∙ sym k)
@@ -168,25 +168,28 @@ trees-on g w D p q (Trees.short u v x h i j) (Trees.showing k y) = absurd (omega
 trees-on g w D p q (Trees.showing k y) (Trees.short u v x h i j) = absurd (omega (arith, k .sheet .enough, k .long))
 trees-on g w {one = one} {two = two} D p q (Trees.showing h x) (Trees.showing k y) = (filled-same p q h k, shown-settled g w one two D x y)
 
--- the rules of an accepted sheet are distinct: what refusal 5 sees to
-pub distinct-of : (rules tokens : List ℕ) (g : Rules) (w : Word) → sheets rules tokens ≡ accepted g w → Distinct g
-distinct-of rules tokens g w d = go (ruleSheet rules) refl d
+-- the rules that sheets give are distinct: what refusal 5 sees to
+pub record Apart (given : Sheets) : Type 0 where
+  pub distinct : (g : Rules) (w : Word) → given ≡ accepted g w → Distinct g
+
+pub apart-of : (o : Reading Rule) (tokens : List ℕ) → ((g : Rules) → o ≡ Sheet.accepted g → Distinct g) → Apart (withRules o tokens)
+apart-of (Sheet.refused f l) tokens d = record { distinct = λ g w e. absurd (apart refl e) }
+apart-of (Sheet.accepted h) tokens d = record { distinct = λ g w e. subst Distinct (inner g w (tokenSheet tokens) e) (d h refl) }
   where
-    inner : (g′ : Rules) (q : Reading Token) → withTokens g′ q ≡ accepted g w → g′ ≡ g
-    inner g′ (Sheet.accepted w′) e = cc
-    inner g′ (Sheet.refused f l) e = absurd (apart refl e)
+    inner : (g : Rules) (w : Word) (q : Reading Token) → withTokens h q ≡ accepted g w → h ≡ g
+    inner g w (Sheet.accepted v) e = cc
+    inner g w (Sheet.refused f l) e = absurd (apart refl e)
 
-    go : (o : Reading Rule) → ruleSheet rules ≡ o → withRules o tokens ≡ accepted g w → Distinct g
-    go (Sheet.accepted g′) e k = subst Distinct (inner g′ (tokenSheet tokens) k) (rules-good rules g′ e .distinct)
-    go (Sheet.refused f l) e k = absurd (apart refl k)
+pub sheets-apart : (rules tokens : List ℕ) → Apart (sheets rules tokens)
+sheets-apart rules tokens = apart-of (ruleSheet rules) tokens (λ g e. rules-good rules g e .distinct)
 
-pub trees-settled : {rules tokens ws a b one two m m′ n n′ : List ℕ} {r s : TreesReply} → Words a → Words b
-    → TreesOf rules tokens ws a one m two n r → TreesOf rules tokens ws b one m′ two n′ s → (a ≡ b) × Same m m′ n n′ r s
-trees-settled p q (Trees.refusing e x h i j) (Trees.refusing d y k l o) =
-    let z = same-refusal e d in
+pub trees-settled : {given : Sheets} {ws a b one two m m′ n n′ : List ℕ} {r s : TreesReply} → Apart given → Words a → Words b
+    → TreesBy given ws a one m two n r → TreesBy given ws b one m′ two n′ s → (a ≡ b) × Same m m′ n n′ r s
+trees-settled d p q (Trees.refusing e x h i j) (Trees.refusing u y k l o) =
+    let z = same-refusal e u in
     (h ∙ sym k, (x ∙ rw (z .0, z .1) (sym y), (i ∙ sym l, j ∙ sym o)))
-trees-settled p q (Trees.refusing e x h i j) (Trees.reading d y) = absurd (apart e d)
-trees-settled p q (Trees.reading d y) (Trees.refusing e x h i j) = absurd (apart e d)
-trees-settled {rules = rules} {tokens = tokens} p q (Trees.reading {g = g} {w = w} e x) (Trees.reading d y) =
-    let z = same-sheets e d in
-    trees-on g w (distinct-of rules tokens g w e) p q x (rw (← z .0, ← z .1) at y)
+trees-settled d p q (Trees.refusing e x h i j) (Trees.reading u y) = absurd (apart e u)
+trees-settled d p q (Trees.reading u y) (Trees.refusing e x h i j) = absurd (apart e u)
+trees-settled d p q (Trees.reading {g = g} {w = w} e x) (Trees.reading u y) =
+    let z = same-sheets e u in
+    trees-on g w (d .distinct g w e) p q x (rw (← z .0, ← z .1) at y)

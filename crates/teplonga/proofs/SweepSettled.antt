@@ -19,7 +19,7 @@ use Rattle.sheets.specs.Items.{Reading, accepted, refused}
 use Rattle.sheets.specs.RuleSheets.{ruleSheet}
 use Rattle.teplonga.specs.declared.Answer.the-variants as Answer
 use Rattle.teplonga.specs.declared.SweepReply.{SweepReply}
-use Rattle.teplonga.specs.Sweep.{reply, limit, Taken, SweepOn, bound, many, short, clear, two, SweepOf, refusing, reading}
+use Rattle.teplonga.specs.Sweep.{reply, limit, Taken, SweepOn, bound, many, short, clear, two, SweepBy, refusing, reading}
 use Rattle.sheets.proofs.Numbers.{same-fault}
 
 apart : {o : Reading Rule} {f : Fault} {l : ℕ} {g : Rules} → o ≡ refused f l → o ≡ accepted g → ⊥
@@ -75,10 +75,10 @@ sweep-on g k (two {cs = cs} d c o x h) (two {cs = cs′} e b p y i) =
     let w : cs ≡ cs′ = cc in
     (x ∙ rw w (sym y), h ∙ sym i)
 
-pub sweep-settled : (rules : List ℕ) (k : ℕ) {ws a b : List ℕ} {r s : SweepReply} → SweepOf rules k ws a r → SweepOf rules k ws b s → (r ≡ s) × (a ≡ b)
-sweep-settled rules k (refusing e x h) (refusing d y i) = let z = same-refusal e d in (x ∙ rw (z .0, z .1) (sym y), h ∙ sym i)
-sweep-settled rules k (refusing e x h) (reading d y) = absurd (apart e d)
-sweep-settled rules k (reading d y) (refusing e x h) = absurd (apart e d)
-sweep-settled rules k (reading {g = g} e x) (reading d y) =
+pub sweep-settled : {given : Reading Rule} {k : ℕ} {ws a b : List ℕ} {r s : SweepReply} → SweepBy given k ws a r → SweepBy given k ws b s → (r ≡ s) × (a ≡ b)
+sweep-settled (refusing e x h) (refusing d y i) = let z = same-refusal e d in (x ∙ rw (z .0, z .1) (sym y), h ∙ sym i)
+sweep-settled (refusing e x h) (reading d y) = absurd (apart e d)
+sweep-settled (reading d y) (refusing e x h) = absurd (apart e d)
+sweep-settled {k = k} (reading {g = g} e x) (reading d y) =
     let z = same-rules e d in
     sweep-on g k x (rw (← z) at y)

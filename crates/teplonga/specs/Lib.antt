@@ -3,3 +3,4 @@ pub mod Verdict
 pub mod Trees
 pub mod Sweep
 pub mod Counted
+pub mod Told

@@ -5,6 +5,7 @@ use mathlib.Core.List.{List, [], _++_}
 use Prim.Native.Nat.{ℕ, _-_, _*_, _≤_, _<_}
 use lib.ListN.{length, replicate}
 use Rattle.grammar.specs.declared.Cell.{Cell}
+use Rattle.grammar.specs.declared.Rule.{Rule}
 use Rattle.grammar.specs.declared.Sentence.{Sentence}
 use Rattle.candidates.specs.Spelling.{nowhere}
 use Rattle.sweeping.specs.Swept.{cleared}
@@ -15,7 +16,7 @@ use Rattle.grammar.specs.Candidates.{sentence}
 use Rattle.grammar.specs.Sweeps.{Clear, FirstTwo, terminalCount, arrangements}
 use Rattle.sheets.specs.declared.Fault.{Fault}
 use Rattle.sheets.specs.Refusals.{numberOf}
-use Rattle.sheets.specs.Items.{accepted, refused}
+use Rattle.sheets.specs.Items.{Reading, accepted, refused}
 use Rattle.sheets.specs.RuleSheets.{ruleSheet}
 use Rattle.teplonga.specs.declared.Answer.{Answer}
 use Rattle.teplonga.specs.declared.Answer.the-variants as Answer
@@ -61,9 +62,12 @@ pub data SweepOn (g : Rules) (k : ℕ) (words words′ : List ℕ) (r : SweepRep
   two : {cs : List Cell} → Taken g k words → FirstTwo g k cs → Clear g (length cs - 1)
       → r ≡ reply Answer.Two 0 (sentence cs) → words′ ≡ cleared k words → SweepOn g k words words′ r
 
--- what the call answers, and what it leaves of the lent words
-pub data SweepOf (rules : List ℕ) (k : ℕ) (words words′ : List ℕ) (r : SweepReply) : Type 0 where
-  -- a refused rule sheet
-  refusing : {f : Fault} {l : ℕ} → ruleSheet rules ≡ refused f l
-      → r ≡ reply (Answer.Refused f) l [] → words′ ≡ words → SweepOf rules k words words′ r
-  reading : {g : Rules} → ruleSheet rules ≡ accepted g → SweepOn g k words words′ r → SweepOf rules k words words′ r
+-- what a call answers where the sheet with the rules gives this, and what it leaves of the lent words
+pub data SweepBy (given : Reading Rule) (k : ℕ) (words words′ : List ℕ) (r : SweepReply) : Type 0 where
+  -- a refused sheet
+  refusing : {f : Fault} {l : ℕ} → given ≡ refused f l → r ≡ reply (Answer.Refused f) l [] → words′ ≡ words → SweepBy given k words words′ r
+  reading : {g : Rules} → given ≡ accepted g → SweepOn g k words words′ r → SweepBy given k words words′ r
+
+-- the call on a rule sheet
+abbrev pub SweepOf : (rules : List ℕ) (k : ℕ) (words words′ : List ℕ) (r : SweepReply) → Type 0
+SweepOf rules = SweepBy (ruleSheet rules)

@@ -15,7 +15,7 @@ use Rattle.sheets.specs.Refusals.{numberOf}
 use Rattle.teplonga.specs.declared.Answer.{Answer}
 use Rattle.teplonga.specs.declared.Answer.the-variants as Answer
 use Rattle.teplonga.specs.declared.TreesReply.{TreesReply}
-use Rattle.teplonga.specs.Answers.{accepted, refused, sheets}
+use Rattle.teplonga.specs.Answers.{Sheets, accepted, refused, sheets}
 use Rattle.teplonga.specs.Verdict.{needed, Filled}
 
 abbrev pub reply : Answer → ℕ → ℕ → ℕ → TreesReply
@@ -46,11 +46,13 @@ pub data TreesOn (g : Rules) (w : Word) (words words′ one one′ two two′ : 
   -- otherwise the span sheet is filled, and the trees of the answer are shown, if they fit
   showing : Filled g w words words′ → Shown g w one one′ two two′ r → TreesOn g w words words′ one one′ two two′ r
 
--- what the call answers, and what it leaves of the lent words and of both tree memories
-pub data TreesOf (rules tokens words words′ one one′ two two′ : List ℕ) (r : TreesReply) : Type 0 where
+-- what a call answers where both sheets give this, and what it leaves of the lent words and of both tree memories
+pub data TreesBy (given : Sheets) (words words′ one one′ two two′ : List ℕ) (r : TreesReply) : Type 0 where
   -- a refused sheet: nothing changes
-  refusing : {f : Fault} {l : ℕ} → sheets rules tokens ≡ refused f l
-      → r ≡ reply (Answer.Refused f) l 0 0 → words′ ≡ words → one′ ≡ one → two′ ≡ two
-      → TreesOf rules tokens words words′ one one′ two two′ r
-  reading : {g : Rules} {w : Word} → sheets rules tokens ≡ accepted g w → TreesOn g w words words′ one one′ two two′ r
-      → TreesOf rules tokens words words′ one one′ two two′ r
+  refusing : {f : Fault} {l : ℕ} → given ≡ refused f l
+      → r ≡ reply (Answer.Refused f) l 0 0 → words′ ≡ words → one′ ≡ one → two′ ≡ two → TreesBy given words words′ one one′ two two′ r
+  reading : {g : Rules} {w : Word} → given ≡ accepted g w → TreesOn g w words words′ one one′ two two′ r → TreesBy given words words′ one one′ two two′ r
+
+-- the call on a rule sheet and a token sheet
+abbrev pub TreesOf : (rules tokens words words′ one one′ two two′ : List ℕ) (r : TreesReply) → Type 0
+TreesOf rules tokens = TreesBy (sheets rules tokens)

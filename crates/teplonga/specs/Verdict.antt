@@ -30,8 +30,12 @@ pub data VerdictOn (g : Rules) (w : Word) (words words′ : List ℕ) (r : Reply
   -- none, one or two, and the span sheet filled
   judging : Says (r .answer) g w → r .line ≡ 0 → Filled g w words words′ → VerdictOn g w words words′ r
 
--- what the call answers, and what it leaves of the lent words
-pub data VerdictOf (rules tokens words words′ : List ℕ) (r : Reply) : Type 0 where
+-- what a call answers where both sheets give this, and what it leaves of the lent words
+pub data VerdictBy (given : Sheets) (words words′ : List ℕ) (r : Reply) : Type 0 where
   -- a refused sheet: its number and line; no word changes
-  refusing : {f : Fault} {l : ℕ} → sheets rules tokens ≡ refused f l → r ≡ record { answer = Answer.Refused f; line = l } → words′ ≡ words → VerdictOf rules tokens words words′ r
-  reading : {g : Rules} {w : Word} → sheets rules tokens ≡ accepted g w → VerdictOn g w words words′ r → VerdictOf rules tokens words words′ r
+  refusing : {f : Fault} {l : ℕ} → given ≡ refused f l → r ≡ record { answer = Answer.Refused f; line = l } → words′ ≡ words → VerdictBy given words words′ r
+  reading : {g : Rules} {w : Word} → given ≡ accepted g w → VerdictOn g w words words′ r → VerdictBy given words words′ r
+
+-- the call on a rule sheet and a token sheet
+abbrev pub VerdictOf : (rules tokens words words′ : List ℕ) (r : Reply) → Type 0
+VerdictOf rules tokens = VerdictBy (sheets rules tokens)

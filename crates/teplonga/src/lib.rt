@@ -15,6 +15,7 @@ use grammar::Sentence;
 use grammar::Token;
 use grammar::Width;
 use sheets::Fault;
+use sheets::GrammarRead;
 use sheets::Outcome;
 use sheets::read_rules;
 use sheets::read_tokens;
@@ -26,10 +27,13 @@ ghost use mathlib.Core.List.{[]};
 ghost use Prim.Native.Nat.{_≤_};
 ghost use Rattle.grammar.specs.Cycles.{Cyclic};
 ghost use Rattle.grammar.specs.Content.{rules as rulesOf, spelled, Formed, Positioned};
-ghost use Rattle.teplonga.specs.Verdict.{VerdictOn, VerdictOf};
+ghost use Rattle.sheets.specs.Promises.{RulesRead};
+ghost use Rattle.teplonga.specs.Answers.{withRules};
+ghost use Rattle.teplonga.specs.Told.{told};
+ghost use Rattle.teplonga.specs.Verdict.{VerdictOn, VerdictBy, VerdictOf};
 ghost use Rattle.teplonga.specs.Counted.{counted};
-ghost use Rattle.teplonga.specs.Trees.{TreesOn, TreesOf};
-ghost use Rattle.teplonga.specs.Sweep.{SweepOn, SweepOf};
+ghost use Rattle.teplonga.specs.Trees.{TreesOn, TreesBy, TreesOf};
+ghost use Rattle.teplonga.specs.Sweep.{SweepOn, SweepBy, SweepOf};
 ghost use Rattle.teplonga.specs.Sweep as Sweep;
 
 // 01's answers: none, one, two, clear, refused-N.
@@ -92,11 +96,11 @@ fn judged(words: &mut [u64], s: Sentence, g: Grammar) -> Reply
     }
 }
 
-// The verdict on a sentence: has it no valid tree of nonterminal 0, one, or two? The span sheet is filled.
-pub fn verdict(rules: &[u8], tokens: &[u8], words: &mut [u64]) -> Reply
-    ensures { λ r. ⌜ VerdictOf (now (rules .entry)) (now (tokens .entry)) (now (words .entry)) (now (words .exit)) r ⌝ }
+// The verdict on the rules that were read and a token sheet.
+pub fn verdict_read(a: GrammarRead, tokens: &[u8], words: &mut [u64]) -> Reply
+    requires { ⌜ RulesRead a (told a) ⌝ }
+    ensures { λ r. ⌜ VerdictBy (withRules (told a) (now (tokens .entry))) (now (words .entry)) (now (words .exit)) r ⌝ }
 {
-    let a = read_rules(rules);
     let o = a.outcome;
     match o {
         Outcome::Refused(f, l) => Reply {
@@ -119,6 +123,13 @@ pub fn verdict(rules: &[u8], tokens: &[u8], words: &mut [u64]) -> Reply
             }
         }
     }
+}
+
+// The verdict on a sentence: has it no valid tree of nonterminal 0, one, or two? The span sheet is filled.
+pub fn verdict(rules: &[u8], tokens: &[u8], words: &mut [u64]) -> Reply
+    ensures { λ r. ⌜ VerdictOf (now (rules .entry)) (now (tokens .entry)) (now (words .entry)) (now (words .exit)) r ⌝ }
+{
+    verdict_read(read_rules(rules), tokens, words)
 }
 
 // The reply on an answer whose trees were written, or did not fit.
@@ -180,17 +191,17 @@ fn shown(
     }
 }
 
-// The verdict on a sentence, and its one or two trees as rows in the lent memories.
-pub fn trees(
-    rules: &[u8],
+// The trees of the rules that were read and a token sheet.
+pub fn trees_read(
+    a: GrammarRead,
     tokens: &[u8],
     words: &mut [u64],
     first: &mut [u8],
     second: &mut [u8],
 ) -> TreesReply
-    ensures { λ r. ⌜ TreesOf (now (rules .entry)) (now (tokens .entry)) (now (words .entry)) (now (words .exit)) (now (first .entry)) (now (first .exit)) (now (second .entry)) (now (second .exit)) r ⌝ }
+    requires { ⌜ RulesRead a (told a) ⌝ }
+    ensures { λ r. ⌜ TreesBy (withRules (told a) (now (tokens .entry))) (now (words .entry)) (now (words .exit)) (now (first .entry)) (now (first .exit)) (now (second .entry)) (now (second .exit)) r ⌝ }
 {
-    let a = read_rules(rules);
     let o = a.outcome;
     match o {
         Outcome::Refused(f, l) => TreesReply {
@@ -217,6 +228,19 @@ pub fn trees(
             }
         }
     }
+}
+
+// The verdict on a sentence, and its one or two trees as rows in the lent memories.
+pub fn trees(
+    rules: &[u8],
+    tokens: &[u8],
+    words: &mut [u64],
+    first: &mut [u8],
+    second: &mut [u8],
+) -> TreesReply
+    ensures { λ r. ⌜ TreesOf (now (rules .entry)) (now (tokens .entry)) (now (words .entry)) (now (words .exit)) (now (first .entry)) (now (first .exit)) (now (second .entry)) (now (second .exit)) r ⌝ }
+{
+    trees_read(read_rules(rules), tokens, words, first, second)
 }
 
 // The sentence of no tokens.
@@ -289,11 +313,11 @@ fn swept(g: Grammar, k: usize, words: &mut [u64]) -> SweepReply
     taken(g, k, words)
 }
 
-// Is there a sentence of 1 to `bound` tokens that can be read in two ways? The first candidate that has two trees, or clear.
-pub fn sweep(rules: &[u8], bound: usize, words: &mut [u64]) -> SweepReply
-    ensures { λ r. ⌜ SweepOf (now (rules .entry)) bound (now (words .entry)) (now (words .exit)) r ⌝ }
+// The sweep on the rules that were read.
+pub fn sweep_read(a: GrammarRead, bound: usize, words: &mut [u64]) -> SweepReply
+    requires { ⌜ RulesRead a (told a) ⌝ }
+    ensures { λ r. ⌜ SweepBy (told a) bound (now (words .entry)) (now (words .exit)) r ⌝ }
 {
-    let a = read_rules(rules);
     let o = a.outcome;
     match o {
         Outcome::Refused(f, l) => refused_sweep(f, l),
@@ -302,4 +326,11 @@ pub fn sweep(rules: &[u8], bound: usize, words: &mut [u64]) -> SweepReply
             swept(g, bound, words)
         }
     }
+}
+
+// Is there a sentence of 1 to `bound` tokens that can be read in two ways? The first candidate that has two trees, or clear.
+pub fn sweep(rules: &[u8], bound: usize, words: &mut [u64]) -> SweepReply
+    ensures { λ r. ⌜ SweepOf (now (rules .entry)) bound (now (words .entry)) (now (words .exit)) r ⌝ }
+{
+    sweep_read(read_rules(rules), bound, words)
 }

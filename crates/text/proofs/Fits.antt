@@ -6,6 +6,9 @@ use native.Mathlib.Omega.{arith}
 use lib.ListN.{length}
 use Rattle.grammar.specs.Layout.{Word}
 use Rattle.grammar.specs.Trees.{Rules}
+use Rattle.grammar.specs.declared.Rule.{Rule}
+use Rattle.sheets.specs.Items.{Reading}
+use Rattle.teplonga.specs.Answers.{Sheets}
 use Rattle.teplonga.specs.declared.TreesReply.{TreesReply}
 use Rattle.grammar.specs.declared.Cell.{Cell}
 use Rattle.grammar.specs.Candidates.{sentence}
@@ -13,7 +16,7 @@ use Rattle.grammar.proofs.SweepLaws.{sentence-length}
 use Rattle.teplonga.specs.declared.SweepReply.{SweepReply}
 use Rattle.teplonga.specs.Sweep as Sweep
 use Rattle.derivation.specs.Written.{places}
-use Rattle.teplonga.specs.Trees.{Shown, treeless, single, both, large-one, large-two, TreesOn, short, showing, TreesOf, refusing, reading}
+use Rattle.teplonga.specs.Trees.{Shown, treeless, single, both, large-one, large-two, TreesOn, short, showing, TreesBy, refusing, reading}
 
 -- each count is at most the memory's places
 pub record Fits (one two : List ℕ) (r : TreesReply) : Type 0 where
@@ -38,7 +41,7 @@ on-fits : {g : Rules} {w : Word} {words words′ one one′ two two′ : List �
 on-fits (short l n x h i j) = counted x (record { first = omega arith; second = omega arith })
 on-fits (showing f s) = shown-fits s
 
-pub trees-fit : {rules tokens words words′ one one′ two two′ : List ℕ} {r : TreesReply} → TreesOf rules tokens words words′ one one′ two two′ r → Fits one two r
+pub trees-fit : {given : Sheets} {words words′ one one′ two two′ : List ℕ} {r : TreesReply} → TreesBy given words words′ one one′ two two′ r → Fits one two r
 trees-fit (refusing e x h i j) = counted x (record { first = omega arith; second = omega arith })
 trees-fit (reading e s) = on-fits s
 
@@ -53,6 +56,6 @@ on-few (Sweep.short l u m o n x h) = none-few x (omega arith)
 on-few (Sweep.clear t c x h) = none-few x (omega arith)
 on-few (Sweep.two {cs = cs} t f c x h) = none-few x (omega (arith, sentence-length 1 cs, f .high, t .high))
 
-pub sweep-few : {rules : List ℕ} {k : ℕ} {words words′ : List ℕ} {r : SweepReply} → Sweep.SweepOf rules k words words′ r → r .sentence .count ≤ 7
+pub sweep-few : {given : Reading Rule} {k : ℕ} {words words′ : List ℕ} {r : SweepReply} → Sweep.SweepBy given k words words′ r → r .sentence .count ≤ 7
 sweep-few (Sweep.refusing e x h) = none-few x (omega arith)
 sweep-few (Sweep.reading e s) = on-few s

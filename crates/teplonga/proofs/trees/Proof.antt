@@ -1,7 +1,5 @@
--- `teplonga::trees` meets its contract: the readers' refusals, else the trees of what was read.
-use mathlib.Core.Path.{refl}
-use Rattle.teplonga.specs.Trees.{refusing, reading}
-use Rattle.teplonga.proofs.Readings.{refused-rules, refused-tokens, both-accepted}
+-- `trees` meets its contract: the trees of what the rule sheet gives.
+use Rattle.teplonga.proofs.Readings.{trees-by}
 use borrow.Author.Needs.{needs}
 use Rattle.teplonga.proofs.trees.Statement.{statement}
 use Rattle.teplonga.proofs.trees.Tie as tie
@@ -9,40 +7,8 @@ use Rattle.teplonga.proofs.trees.Tie as tie
 read-rules-requires : tie.Need-read-rules-requires
 read-rules-requires c κs = search needs
 
-enum-known-o : tie.Need-enum-known-o
-enum-known-o c = search needs
-
-enum-told : tie.Need-enum-told
-enum-told c = search needs
-
-read-tokens-requires : tie.Need-read-tokens-requires
-read-tokens-requires c κs = search needs
-
-enum-known-p : tie.Need-enum-known-p
-enum-known-p c = search needs
-
-enum-told-2 : tie.Need-enum-told-2
-enum-told-2 c = search needs
-
-shown-requires : tie.Need-shown-requires
-shown-requires c κs =
-    let q = c .before .before .before .before .before .before .before in
-    let r = q .before .before .before in
-    let e = q .before .enum-told .given .1 in
-    (r .read-rules .ensures .formed e, (q .read-tokens .ensures .positioned (c .before .before .before .before .before .enum-told2 .given .1), r .read-rules .ensures .acyclic e))
-
-returns : tie.Need-returns
-returns c =
-    let r = c .before .before .before in
-    let s = r .before .before .before .before .before .before in
-    refusing (refused-rules (s .args .rules .now) (s .args .tokens .now) (r .read-rules .ensures) (c .before .o .given .1)) refl refl refl refl
-
-returns-2 : tie.Need-returns-2
-returns-2 c =
-    let q = c .before .before .before in
-    let r = q .before .before .before in
-    let s = r .before .before .before .before .before .before in
-    refusing (refused-tokens (s .args .rules .now) (s .args .tokens .now) (r .read-rules .ensures) (q .before .enum-told .given .1) (q .read-tokens .ensures) (c .before .p .given .1)) refl refl refl refl
+trees-read-requires : tie.Need-trees-read-requires
+trees-read-requires c κs = search needs
 
 same-length : tie.Need-same-length
 same-length c = search needs
@@ -53,29 +19,20 @@ same-length-2 c = search needs
 same-length-3 : tie.Need-same-length-3
 same-length-3 c = search needs
 
-returns-3 : tie.Need-returns-3
-returns-3 c =
+returns : tie.Need-returns
+returns c =
     let j = c .before .before .before .before .before .before in
-    let m = j .before .before .before .before .before .before in
-    let q = m .before .before in
-    let r = q .before .before .before in
+    let r = j .before .before .before .before in
     let s = r .before .before .before .before .before .before in
-    reading (both-accepted (s .args .rules .now) (s .args .tokens .now) (r .read-rules .ensures) (q .before .enum-told .given .1) (q .read-tokens .ensures) (m .enum-told2 .given .1)) (j .shown .ensures)
+    trees-by (r .read-rules .ensures .is) (s .args .tokens .now) (j .trees-read .ensures)
 
 pub trees-spec : {M : Type 1} → statement M
 trees-spec =
     tie.close
     (tie.spec
     read-rules-requires
-    enum-known-o
-    enum-told
-    read-tokens-requires
-    enum-known-p
-    enum-told-2
-    shown-requires
-    returns
-    returns-2
+    trees-read-requires
     same-length
     same-length-2
     same-length-3
-    returns-3)
+    returns)

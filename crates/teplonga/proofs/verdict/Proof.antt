@@ -1,7 +1,5 @@
--- `teplonga::verdict` meets its contract: the readers' refusals, else the verdict on what was read.
-use mathlib.Core.Path.{refl}
-use Rattle.teplonga.specs.Verdict.{refusing, reading}
-use Rattle.teplonga.proofs.Readings.{refused-rules, refused-tokens, both-accepted}
+-- `verdict` meets its contract: the verdict on what the rule sheet gives.
+use Rattle.teplonga.proofs.Readings.{verdict-by}
 use borrow.Author.Needs.{needs}
 use Rattle.teplonga.proofs.verdict.Statement.{statement}
 use Rattle.teplonga.proofs.verdict.Tie as tie
@@ -9,64 +7,23 @@ use Rattle.teplonga.proofs.verdict.Tie as tie
 read-rules-requires : tie.Need-read-rules-requires
 read-rules-requires c κs = search needs
 
-enum-known-o : tie.Need-enum-known-o
-enum-known-o c = search needs
-
-enum-told : tie.Need-enum-told
-enum-told c = search needs
-
-read-tokens-requires : tie.Need-read-tokens-requires
-read-tokens-requires c κs = search needs
-
-enum-known-p : tie.Need-enum-known-p
-enum-known-p c = search needs
-
-enum-told-2 : tie.Need-enum-told-2
-enum-told-2 c = search needs
-
-judged-requires : tie.Need-judged-requires
-judged-requires c κs =
-    let q = c .before .before .before .before .before in
-    let r = q .before .before .before in
-    (r .read-rules .ensures .formed (q .before .enum-told .given .1), q .read-tokens .ensures .positioned (c .before .before .before .enum-told2 .given .1))
-
-returns : tie.Need-returns
-returns c =
-    let r = c .before .before .before in
-    let s = r .before .before .before .before in
-    refusing (refused-rules (s .args .rules .now) (s .args .tokens .now) (r .read-rules .ensures) (c .before .o .given .1)) refl refl
-
-returns-2 : tie.Need-returns-2
-returns-2 c =
-    let q = c .before .before .before in
-    let r = q .before .before .before in
-    let s = r .before .before .before .before in
-    refusing (refused-tokens (s .args .rules .now) (s .args .tokens .now) (r .read-rules .ensures) (q .before .enum-told .given .1) (q .read-tokens .ensures) (c .before .p .given .1)) refl refl
+verdict-read-requires : tie.Need-verdict-read-requires
+verdict-read-requires c κs = search needs
 
 same-length : tie.Need-same-length
 same-length c = search needs
 
-returns-3 : tie.Need-returns-3
-returns-3 c =
-    let j = c .before .before in
-    let m = j .before .before .before .before in
-    let q = m .before .before in
-    let r = q .before .before .before in
+returns : tie.Need-returns
+returns c =
+    let r = c .before .before .before .before in
     let s = r .before .before .before .before in
-    reading (both-accepted (s .args .rules .now) (s .args .tokens .now) (r .read-rules .ensures) (q .before .enum-told .given .1) (q .read-tokens .ensures) (m .enum-told2 .given .1)) (j .judged .ensures)
+    verdict-by (r .read-rules .ensures .is) (s .args .tokens .now) (c .before .before .verdict-read .ensures)
 
 pub verdict-spec : {M : Type 1} → statement M
 verdict-spec =
     tie.close
     (tie.spec
     read-rules-requires
-    enum-known-o
-    enum-told
-    read-tokens-requires
-    enum-known-p
-    enum-told-2
-    judged-requires
-    returns
-    returns-2
+    verdict-read-requires
     same-length
-    returns-3)
+    returns)
