@@ -1,5 +1,5 @@
 -- Columns left out: where they are more than the cells to come, one stays left out; so a candidate with such cells reads like an earlier one.
-use mathlib.Core.Path.{_≡_, refl, ap, ap₂}
+use mathlib.Core.Path.{_≡_, refl, sym, _∙_, ap, ap₂}
 use mathlib.Core.Bool.{Bool, true, false, cond, _||_}
 use mathlib.Core.List.{List, [], _∷_, _++_, append-nil}
 use Prim.Native.Nat.{ℕ, zero, suc, _+_, _-_, _≤_, _<_}
@@ -102,7 +102,7 @@ past-free k M (suc p) (c ∷ cs) h f e = past-free k M p cs h (f .1) e
 
 -- a step of 2 among the first b cells
 pub stale-step : (n b p : ℕ) (cs : List Cell) → p < b → TwoAt p cs → Stale n b cs
-stale-step n b p cs h t = record { earlier = λ g s ds k e two. lowered g s n p b ds cs h k e (at-shared (λ c. c .step ≡ 2) p b ds cs h e t) two }
+stale-step n b p cs h t = record { earlier = λ g s ds es k e f two. lowered g s n p b ds es h k (e ∙ sym f) (at-shared (λ c. c .step ≡ 2) p b ds cs h e t) two }
 
 -- one of the first b cells in column M, and more columns up to M left out than there are cells to come
 pub stale-gap : (n b p M : ℕ) (cs : List Cell) → p < b → At (λ c. c .column ≡ M) p cs → n - b < missing M (take b cs) → Stale n b cs
@@ -114,8 +114,8 @@ stale-gap n b p M cs h c m = record { earlier = go }
         let q : missing M (take b ds ++ drop b ds) ≡ missing M ds = ap (missing M) (take-append-drop b ds) in
         omega (arith, a, q, length-drop b ds, k .arranged .size, ap (missing M) e, m)
 
-    go : (g : Rules) (s : ℕ) (ds : List Cell) → Candidate (Among s) n ds → Shares b ds cs → TwoTrees g 0 (sentence ds) → TwoBefore g s n cs
-    go g s ds k e two =
+    go : (g : Rules) (s : ℕ) (ds es : List Cell) → Candidate (Among s) n ds → Shares b ds cs → Shares b es cs → TwoTrees g 0 (sentence ds) → TwoBefore g s n es
+    go g s ds es k e sh two =
         let x = spare M ds (enough s ds k e) in
         let f = unused-free (x .0) ds (x .3) in
-        closed-up g s n (x .0) p b ds cs (x .1) h k e f (past-free (x .0) M p ds (x .2) f (at-shared (λ c. c .column ≡ M) p b ds cs h e c)) two
+        closed-up g s n (x .0) p b ds es (x .1) h k (e ∙ sym sh) f (past-free (x .0) M p ds (x .2) f (at-shared (λ c. c .column ≡ M) p b ds cs h e c)) two

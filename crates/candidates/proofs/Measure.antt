@@ -15,7 +15,7 @@ rank : Cell → ℕ
 rank c = c .terminal * 32 + c .step * 8 + c .column
 
 -- how many lists of ranks are as long as cs
-span : List Cell → ℕ
+pub span : List Cell → ℕ
 span [] = 1
 span (c ∷ cs) = 2048 * span cs
 
@@ -23,14 +23,14 @@ pub left : List Cell → ℕ
 left [] = 0
 left (c ∷ cs) = (2047 - rank c) * span cs + left cs
 
-span-same : (cs ds : List Cell) → length cs ≡ length ds → span cs ≡ span ds
+pub span-same : (cs ds : List Cell) → length cs ≡ length ds → span cs ≡ span ds
 unfolding span
 span-same [] [] e = refl
 span-same [] (d ∷ ds) e = absurd (omega arith)
 span-same (c ∷ cs) [] e = absurd (omega arith)
 span-same (c ∷ cs) (d ∷ ds) e = ap (λ (x : ℕ). 2048 * x) (span-same cs ds (omega arith))
 
-left-lt : (cs : List Cell) → left cs < span cs
+pub left-lt : (cs : List Cell) → left cs < span cs
 unfolding left span
 left-lt [] = omega arith
 left-lt (c ∷ cs) = digits-lt {q = 2047 - rank c} {m = 2048} {r = left cs} {c = span cs} (omega arith) (left-lt cs)

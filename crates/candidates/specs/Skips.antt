@@ -18,9 +18,9 @@ pub record TwoBefore (g : Rules) (s n : ℕ) (cs : List Cell) : Type 0 where
   pub before : Before cells cs
   pub two : TwoTrees g 0 (sentence cells)
 
--- each candidate that shares cs's first b cells reads like one before cs: if it has two trees, that one has
+-- each candidate that shares cs's first b cells reads like one before all that do: if it has two trees, that one has
 pub record Stale (n b : ℕ) (cs : List Cell) : Type 0 where
-  pub earlier : (g : Rules) (s : ℕ) (ds : List Cell) → Candidate (Among s) n ds → Shares b ds cs → TwoTrees g 0 (sentence ds) → TwoBefore g s n cs
+  pub earlier : (g : Rules) (s : ℕ) (ds es : List Cell) → Candidate (Among s) n ds → Shares b ds cs → Shares b es cs → TwoTrees g 0 (sentence ds) → TwoBefore g s n es
 
 -- one of the cells is in column j
 abbrev pub used : ℕ → List Cell → Bool

@@ -111,7 +111,7 @@ impl Candidate {
     }
 
     // The column of the token before i, 0 for the first.
-    fn column_before(self, i: usize) -> u16
+    pub fn column_before(self, i: usize) -> u16
         requires { ⌜ i ≤ 7 ⌝ }
         ensures { λ r. ⌜ r ≡ columnBefore self i ⌝ }
     {
@@ -131,7 +131,7 @@ impl Candidate {
     }
 
     // New arrays, with the cell c at i.
-    fn with(mut self, i: usize, c: Cell) -> Candidate
+    pub fn with(mut self, i: usize, c: Cell) -> Candidate
         requires { ⌜ i < 7 ⌝ }
         ensures { λ r. ⌜ Changed self i c r ⌝ }
     {

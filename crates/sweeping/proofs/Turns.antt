@@ -1,5 +1,5 @@
 -- The turns of the search, and what it finds in 01's words.
-use mathlib.Core.Path.{_≡_, _∙_}
+use mathlib.Core.Path.{_≡_, refl, _∙_}
 use mathlib.Core.Bool.{true}
 use mathlib.Core.Logic.{_⊎_, ⊎-elim, _↔_}
 use mathlib.Core.List.{List}
@@ -47,9 +47,9 @@ module _ {g : Rules} {s : ℕ} where
 
   -- what reads like something earlier needs no look at a chart
   pub looked-stale : {n b : ℕ} {cs : List Cell} → Stale n b cs → Looked true g s n b cs
-  looked-stale st =
+  looked-stale {n} {b} {cs} st =
       record {
-        barren = λ e q. record { none = λ ds c sh t. let x = st .earlier g s ds c sh t in q .none (x .cells) (x .candidate) (x .before) (x .two) };
+        barren = λ e q. record { none = λ ds c sh t. let x = st .earlier g s ds cs c sh refl t in q .none (x .cells) (x .candidate) (x .before) (x .two) };
         two = λ e. absurd (true-not-false e);
       }
 
