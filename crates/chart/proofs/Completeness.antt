@@ -3,9 +3,9 @@
 use mathlib.Core.Path.{_≡_, refl, sym, ap, ap₂, _∙_, subst, subst₂}
 use mathlib.Core.Logic.{_⊎_, inl, inr, ⊎-elim}
 use mathlib.Core.List.{List, [], _∷_, _++_}
-use Prim.Native.Nat.{ℕ, _+_, _-_, _≤_}
+use Prim.Native.Nat.{ℕ, _+_, _-_, _≤_, _<_}
 use native.Mathlib.Omega.{arith}
-use native.Mathlib.Decide.{ℕ-discrete}
+use native.Mathlib.Decide.{ℕ-discrete, decLt}
 use lib.ListN.{length}
 use Rattle.grammar.specs.declared.Rule.{Rule}
 use Rattle.grammar.specs.declared.Clause.{Clause}
@@ -14,13 +14,15 @@ use Rattle.grammar.specs.declared.UnaryMark.{UnaryMark}
 use Rattle.grammar.specs.declared.BinaryMark.{BinaryMark}
 use Rattle.grammar.specs.Layout.{Word}
 use Rattle.grammar.specs.Layout as Mark
-use Rattle.grammar.specs.Trees.{Rules, Tree, empty, leaf, unary, binary, root, word, Valid, valid-empty, valid-leaf, valid-unary, valid-binary, Witness, Derives, TwoTrees, Covers}
+use Rattle.grammar.proofs.Marks.{token?}
+use Rattle.grammar.specs.Trees.{Rules, Tree, Tree-discrete, empty, leaf, unary, binary, root, word, Valid, valid-empty, valid-leaf, valid-unary, valid-binary, Witness, Derives, TwoTrees, Covers}
 use Rattle.grammar.specs.SpanSheet.{part}
 use Rattle.marks.specs.Half.{Half, Completes}
 use Rattle.marks.proofs.Words.{part-length, Cut, cut}
 use Rattle.marks.proofs.HalfLaws.{may-be, may-keep, may-pair}
 use Rattle.chart.specs.Tables.{Table, byTokens, Fits, Stand, Atomic, Rivals, Below, Again, rule}
 use Rattle.chart.specs.Tables.Again.{apart, below}
+use Rattle.chart.specs.Filling.{Told}
 use Rattle.order.proofs.Places.{place}
 
 atomic? : (c : Clause) → Dec (Atomic c)
@@ -42,10 +44,26 @@ Headed (binary A s t) c l = (m : BinaryMark) × (c ≡ Clause.Binary (root s) (r
 
 -- all that stands is in the table
 abbrev pub Shut : Table → Rules → Half → Type 0
-Shut one g h = (s len A i l : ℕ) → s + len ≤ length (h .word) → Stand one g (byTokens h s len) s len A i l → one s len A
+Shut one g h = (s len A i l : ℕ) → s + len ≤ length (h .word) → Told h s len → Stand one g (byTokens h s len) s len A i l → one s len A
 
 abbrev pub Shut₂ : Table → Table → Rules → Half → Type 0
-Shut₂ one two g h = (s len A : ℕ) → s + len ≤ length (h .word) → Again one two g (byTokens h s len) s len A → two s len A
+Shut₂ one two g h = (s len A : ℕ) → s + len ≤ length (h .word) → Told h s len → Again one two g (byTokens h s len) s len A → two s len A
+
+-- what has a tree over an open token of w before `upto` is in the table; and what has two
+abbrev pub Given₁ : Table → Rules → Half → Word → ℕ → Type 0
+Given₁ one g h w upto = (s A : ℕ) → h .known ≤ s → s < upto → Derives g A (part w s 1) → one s 1 A
+
+abbrev pub Given₂ : Table → Rules → Half → Word → ℕ → Type 0
+Given₂ two g h w upto = (s A : ℕ) → h .known ≤ s → s < upto → TwoTrees g A (part w s 1) → two s 1 A
+
+-- a span is one open token or not
+told? : (h : Half) (s len : ℕ) → Told h s len ⊎ ((len ≡ 1) × (h .known ≤ s))
+told? h s len = go (ℕ-discrete len 1) (decLt s (h .known))
+  where
+    go : Dec (len ≡ 1) → Dec (s < h .known) → Told h s len ⊎ ((len ≡ 1) × (h .known ≤ s))
+    go (no n) d = inl (λ e. absurd (n e))
+    go (yes e) (yes k) = inl (λ x. k)
+    go (yes e) (no k) = inr (e, omega arith)
 
 -- the rule at the top of t
 pub record Top (one : Table) (g : Rules) (ts : Half) (s len : ℕ) (t : Tree) : Type 0 where
@@ -57,98 +75,135 @@ pub record Top (one : Table) (g : Rules) (ts : Half) (s len : ℕ) (t : Tree) : 
 fits-as : (one : Table) (ts : Half) (s len l : ℕ) {r r′ : Rule} → r ≡ r′ → Fits one (byTokens ts s len) s len (r′ .clause) l → Fits one (byTokens ts s len) s len (r .clause) l
 fits-as one ts s len l {r} {r′} e h = subst (λ (x : Rule). Fits one (byTokens ts s len) s len (x .clause) l) (sym e) h
 
-module _ (one : Table) (g : Rules) (hf : Half) (closed : Shut one g hf) (ts : Word) (cs : Completes hf ts) where
-  inside : (s len : ℕ) → s + len ≤ length ts → s + len ≤ length (hf .word)
-  inside s len h = omega (arith, cs .long)
+module _ (one : Table) (g : Rules) (hf : Half) (closed : Shut one g hf) (ts : Word) (cs : Completes hf ts) (upto : ℕ) (far : upto ≤ length ts) (given : Given₁ one g hf ts upto) where
+  -- a tree of a span is in the table, if its top is found where the span is not one open token
+  found : (t : Tree) → Valid g t → (s len : ℕ) → s + len ≤ upto → word t ≡ part ts s len → (Told hf s len → Top one g hf s len t) → one s len (root t)
+  found t v s len h e p = ⊎-elim
+      (λ k. let q = p k in closed s len (root t) (q .i) (q .l) (omega (arith, cs .long)) k (q .stand))
+      (λ o. subst (λ (m : ℕ). one s m (root t)) (sym (o .0)) (given s (root t) (o .1) (omega (arith, o .0)) (record { tree = t; witness = record { rooted = refl; spelled = e ∙ ap (part ts s) (o .0); valid = v } })))
+      (told? hf s len)
 
-  pub top : (t : Tree) → Valid g t → (s len : ℕ) → s + len ≤ length ts → word t ≡ part ts s len → Top one g hf s len t
-  top (empty A) (valid-empty mem) s len h e =
-      let q = place g mem in
-      let none : len ≡ 0 = sym (part-length ts s len h) ∙ ap length (sym e) in
-      record {
-        i = q .0;
-        l = 0;
-        stand = record { within = q .1; left = ap (λ (r : Rule). r .left) (q .2); fits = fits-as one hf s len 0 (q .2) (none, refl) };
-        headed = (ap (λ (r : Rule). r .clause) (q .2), refl);
-      }
-  top (leaf A t) (valid-leaf mem) s len h e =
-      let q = place g (mem .rule) in
-      record {
-        i = q .0;
-        l = 0;
-        stand = record { within = q .1; left = ap (λ (r : Rule). r .left) (q .2); fits = fits-as one hf s len 0 (q .2) (sym (part-length ts s len h) ∙ ap length (sym e), refl, may-be hf ts cs s len (mem .low) (mem .high) t (mem .covers) h (sym e)) };
-        headed = (mem .low, mem .high, ap (λ (r : Rule). r .clause) (q .2), mem .covers, refl);
-      }
-  top (unary A t) (valid-unary m mem mark v) s len h e =
-      let q = place g mem in
-      let p = top t v s len h e in
-      record {
-        i = q .0;
-        l = 0;
-        stand = record { within = q .1; left = ap (λ (r : Rule). r .left) (q .2); fits = fits-as one hf s len 0 (q .2) (closed s len (root t) (p .i) (p .l) (inside s len h) (p .stand), may-keep hf ts cs m s len h (subst (Mark.Unary m) e mark), refl) };
-        headed = (m, ap (λ (r : Rule). r .clause) (q .2), refl);
-      }
-  top (binary A u v) (valid-binary m mem mark vu vv) s len h e =
-      let q = place g mem in
-      let k = cut ts (word u) (word v) s len h e in
-      let l : ℕ = length (word u) in
-      let fit : l ≤ len = k .fits in
-      let hu : s + l ≤ length ts = omega arith in
-      let hv : (s + l) + (len - l) ≤ length ts = omega arith in
-      let pu = top u vu s l hu (k .front) in
-      let pv = top v vv (s + l) (len - l) hv (k .rest) in
-      record {
-        i = q .0;
-        l = l;
-        stand = record { within = q .1; left = ap (λ (r : Rule). r .left) (q .2); fits = fits-as one hf s len l (q .2) (fit, closed s l (root u) (pu .i) (pu .l) (inside s l hu) (pu .stand), closed (s + l) (len - l) (root v) (pv .i) (pv .l) (inside (s + l) (len - l) hv) (pv .stand), may-pair hf ts cs m s l (len - l) (omega arith) (subst₂ (Mark.Binary m) (k .front) (k .rest) mark)) };
-        headed = (m, ap (λ (r : Rule). r .clause) (q .2), refl);
-      }
+  -- the top of a tree of a span, and its place in the table
+  both : (t : Tree) → Valid g t → (s len : ℕ) → s + len ≤ upto → word t ≡ part ts s len → (Told hf s len → Top one g hf s len t) × one s len (root t)
+  both (empty A) (valid-empty mem) s len h e = let p = at in (p, found (empty A) (valid-empty mem) s len h e p)
+    where
+      at : Told hf s len → Top one g hf s len (empty A)
+      at k =
+          let q = place g mem in
+          let none : len ≡ 0 = sym (part-length ts s len (omega arith)) ∙ ap length (sym e) in
+          record {
+            i = q .0;
+            l = 0;
+            stand = record { within = q .1; left = ap (λ (r : Rule). r .left) (q .2); fits = fits-as one hf s len 0 (q .2) (none, refl) };
+            headed = (ap (λ (r : Rule). r .clause) (q .2), refl);
+          }
+  both (leaf A t) (valid-leaf mem) s len h e = let p = at in (p, found (leaf A t) (valid-leaf mem) s len h e p)
+    where
+      at : Told hf s len → Top one g hf s len (leaf A t)
+      at k =
+          let q = place g (mem .rule) in
+          let n : len ≡ 1 = sym (part-length ts s len (omega arith)) ∙ ap length (sym e) in
+          record {
+            i = q .0;
+            l = 0;
+            stand = record { within = q .1; left = ap (λ (r : Rule). r .left) (q .2); fits = fits-as one hf s len 0 (q .2) (n, refl, may-be hf ts cs s len (mem .low) (mem .high) t (mem .covers) (omega arith) (k n) (sym e)) };
+            headed = (mem .low, mem .high, ap (λ (r : Rule). r .clause) (q .2), mem .covers, refl);
+          }
+  both (unary A t) (valid-unary m mem mark v) s len h e =
+      let p : Told hf s len → Top one g hf s len (unary A t) = at (both t v s len h e .1) in (p, found (unary A t) (valid-unary m mem mark v) s len h e p)
+    where
+      at : one s len (root t) → Told hf s len → Top one g hf s len (unary A t)
+      at b k =
+          let q = place g mem in
+          record {
+            i = q .0;
+            l = 0;
+            stand = record { within = q .1; left = ap (λ (r : Rule). r .left) (q .2); fits = fits-as one hf s len 0 (q .2) (b, may-keep hf ts cs m s len (omega arith) (subst (Mark.Unary m) e mark), refl) };
+            headed = (m, ap (λ (r : Rule). r .clause) (q .2), refl);
+          }
+  both (binary A u v) (valid-binary m mem mark vu vv) s len h e =
+      let k = cut ts (word u) (word v) s len (omega arith) e in
+      let fit = k .fits in
+      let p : Told hf s len → Top one g hf s len (binary A u v) =
+      at (both u vu s (length (word u)) (omega arith) (k .front) .1) (both v vv (s + length (word u)) (len - length (word u)) (omega arith) (k .rest) .1) in
+      (p, found (binary A u v) (valid-binary m mem mark vu vv) s len h e p)
+    where
+      at : one s (length (word u)) (root u) → one (s + length (word u)) (len - length (word u)) (root v) → Told hf s len → Top one g hf s len (binary A u v)
+      at a b x =
+          let q = place g mem in
+          let k = cut ts (word u) (word v) s len (omega arith) e in
+          let fit = k .fits in
+          record {
+            i = q .0;
+            l = length (word u);
+            stand = record { within = q .1; left = ap (λ (r : Rule). r .left) (q .2); fits = fits-as one hf s len (length (word u)) (q .2) (fit, a, b, may-pair hf ts cs m s (length (word u)) (len - length (word u)) (omega arith) (subst₂ (Mark.Binary m) (k .front) (k .rest) mark)) };
+            headed = (m, ap (λ (r : Rule). r .clause) (q .2), refl);
+          }
+
+  pub top : (t : Tree) → Valid g t → (s len : ℕ) → s + len ≤ upto → Told hf s len → word t ≡ part ts s len → Top one g hf s len t
+  top t v s len h k e = both t v s len h e .0 k
 
   -- every valid tree of a span is in the table
-  pub complete : (t : Tree) → Valid g t → (s len : ℕ) → s + len ≤ length ts → word t ≡ part ts s len → one s len (root t)
-  complete t v s len h e = let p = top t v s len h e in closed s len (root t) (p .i) (p .l) (inside s len h) (p .stand)
+  pub complete : (t : Tree) → Valid g t → (s len : ℕ) → s + len ≤ upto → word t ≡ part ts s len → one s len (root t)
+  complete t v s len h e = both t v s len h e .1
 
 -- ---- completeness of the second table: two valid trees of a span are one, or the table has their nonterminal
 
-module _ (one two : Table) (g : Rules) (hf : Half) (closed : Shut one g hf) (closed₂ : Shut₂ one two g hf) (ts : Word) (cs : Completes hf ts) where
-  inside₂ : (s len : ℕ) → s + len ≤ length ts → s + len ≤ length (hf .word)
+module _ (one two : Table) (g : Rules) (hf : Half) (closed : Shut one g hf) (closed₂ : Shut₂ one two g hf) (ts : Word) (cs : Completes hf ts) (upto : ℕ)
+    (far : upto ≤ length ts) (given : Given₁ one g hf ts upto) (given₂ : Given₂ two g hf ts upto) where
+  inside₂ : (s len : ℕ) → s + len ≤ upto → s + len ≤ length (hf .word)
   inside₂ s len h = omega (arith, cs .long)
+
+  -- over one open token two trees are one, or its pair has them
+  apart-or : (t t′ : Tree) → Valid g t → Valid g t′ → (s len : ℕ) → s + len ≤ upto → root t ≡ root t′ → word t ≡ part ts s len → word t′ ≡ part ts s len
+      → (Told hf s len → (t ≡ t′) ⊎ two s len (root t)) → (t ≡ t′) ⊎ two s len (root t)
+  apart-or t t′ v v′ s len h r e e′ f = ⊎-elim f (λ o. go o (Tree-discrete ℕ-discrete token? t t′)) (told? hf s len)
+    where
+      go : (len ≡ 1) × (hf .known ≤ s) → Dec (t ≡ t′) → (t ≡ t′) ⊎ two s len (root t)
+      go o (yes q) = inl q
+      go o (no q) = inr (subst (λ (m : ℕ). two s m (root t)) (sym (o .0)) (given₂ s (root t) (o .1) (omega (arith, o .0)) (record {
+        first = t;
+        second = t′;
+        witness₁ = record { rooted = refl; spelled = e ∙ ap (part ts s) (o .0); valid = v };
+        witness₂ = record { rooted = sym r; spelled = e′ ∙ ap (part ts s) (o .0); valid = v′ };
+        differ = q;
+      })))
 
   -- what is known of two trees t and t′ that stand at the same choice
   Same : ℕ → ℕ → Tree → Type 0
   Same s len t = (t′ : Tree) → Valid g t′ → root t ≡ root t′ → word t ≡ part ts s len → word t′ ≡ part ts s len → (t ≡ t′) ⊎ two s len (root t)
 
-  same-unary : (s len A : ℕ) (u : Tree) → s + len ≤ length ts → Same s len u → word u ≡ part ts s len
+  same-unary : (s len A : ℕ) (u : Tree) → s + len ≤ upto → Told hf s len → Same s len u → word u ≡ part ts s len
       → (i l : ℕ) → Stand one g (byTokens hf s len) s len A i l → Headed (unary A u) (rule g i .clause) l
       → (t′ : Tree) → Valid g t′ → A ≡ root t′ → word t′ ≡ part ts s len → Headed t′ (rule g i .clause) l → (unary A u ≡ t′) ⊎ two s len A
   unfolding Same
-  same-unary s len A u h ih e i l c d (empty B) v r e′ d′ = let p = d .1 in let p′ = d′ .0 in inl (cc)
-  same-unary s len A u h ih e i l c d (leaf B t) v r e′ d′ = let p = d .1 in let p′ = d′ .2 in inl (cc)
-  same-unary s len A u h ih e i l c d (unary B w) (valid-unary m mem mark v) r e′ d′ =
+  same-unary s len A u h k ih e i l c d (empty B) v r e′ d′ = let p = d .1 in let p′ = d′ .0 in inl (cc)
+  same-unary s len A u h k ih e i l c d (leaf B t) v r e′ d′ = let p = d .1 in let p′ = d′ .2 in inl (cc)
+  same-unary s len A u h k ih e i l c d (unary B w) (valid-unary m mem mark v) r e′ d′ =
       let p = d .1 in
       let p′ = d′ .1 in
       ⊎-elim (λ q. inl (ap₂ unary r q))
-      (λ q. inr (closed₂ s len A (inside₂ s len h) (below i l c (subst (λ (x : Clause). Below two s len x l) (sym p) q))))
+      (λ q. inr (closed₂ s len A (inside₂ s len h) k (below i l c (subst (λ (x : Clause). Below two s len x l) (sym p) q))))
       (ih w v (cc) e e′)
-  same-unary s len A u h ih e i l c d (binary B w x) v r e′ d′ = let p = d .1 in let p′ = d′ .1 in inl (cc)
+  same-unary s len A u h k ih e i l c d (binary B w x) v r e′ d′ = let p = d .1 in let p′ = d′ .1 in inl (cc)
 
-  same-binary : (s len A : ℕ) (u v : Tree) → s + len ≤ length ts → word u ++ word v ≡ part ts s len
+  same-binary : (s len A : ℕ) (u v : Tree) → s + len ≤ upto → Told hf s len → word u ++ word v ≡ part ts s len
       → Same s (length (word u)) u → Same (s + length (word u)) (len - length (word u)) v
       → (i l : ℕ) → Stand one g (byTokens hf s len) s len A i l → Headed (binary A u v) (rule g i .clause) l
       → (t′ : Tree) → Valid g t′ → A ≡ root t′ → word t′ ≡ part ts s len → Headed t′ (rule g i .clause) l → (binary A u v ≡ t′) ⊎ two s len A
   unfolding Same
-  same-binary s len A u v h e iu iv i l c d (empty B) vt r e′ d′ = let p = d .1 in let p′ = d′ .0 in inl (cc)
-  same-binary s len A u v h e iu iv i l c d (leaf B t) vt r e′ d′ = let p = d .1 in let p′ = d′ .2 in inl (cc)
-  same-binary s len A u v h e iu iv i l c d (unary B w) vt r e′ d′ = let p = d .1 in let p′ = d′ .1 in inl (cc)
-  same-binary s len A u v h e iu iv i l c d (binary B w x) (valid-binary m mem mark vw vx) r e′ d′ =
+  same-binary s len A u v h o e iu iv i l c d (empty B) vt r e′ d′ = let p = d .1 in let p′ = d′ .0 in inl (cc)
+  same-binary s len A u v h o e iu iv i l c d (leaf B t) vt r e′ d′ = let p = d .1 in let p′ = d′ .2 in inl (cc)
+  same-binary s len A u v h o e iu iv i l c d (unary B w) vt r e′ d′ = let p = d .1 in let p′ = d′ .1 in inl (cc)
+  same-binary s len A u v h o e iu iv i l c d (binary B w x) (valid-binary m mem mark vw vx) r e′ d′ =
       let p = d .1 in
       let p′ = d′ .1 in
-      let k = cut ts (word u) (word v) s len h e in
-      let k′ = cut ts (word w) (word x) s len h e′ in
+      let k = cut ts (word u) (word v) s len (omega arith) e in
+      let k′ = cut ts (word w) (word x) s len (omega arith) e′ in
       let n : length (word w) ≡ length (word u) = sym (d′ .2) ∙ d .2 in
       let ew : word w ≡ part ts s (length (word u)) = k′ .front ∙ ap (part ts s) n in
       let ex : word x ≡ part ts (s + length (word u)) (len - length (word u)) = k′ .rest ∙ ap (λ (y : ℕ). part ts (s + y) (len - y)) n in
-      let again : Below two s len (rule g i .clause) l → two s len A = λ b. closed₂ s len A (inside₂ s len h) (below i l c b) in
+      let again : Below two s len (rule g i .clause) l → two s len A = λ b. closed₂ s len A (inside₂ s len h) o (below i l c b) in
       let down : two s (length (word u)) (root u) ⊎ two (s + length (word u)) (len - length (word u)) (root v) → two s len A =
       λ b. again (subst (λ (y : Clause). Below two s len y l) (sym p) (subst (λ (y : ℕ). two s y (root u) ⊎ two (s + y) (len - y) (root v)) (sym (d .2)) b)) in
       ⊎-elim (λ q. ⊎-elim (λ q′. inl (ap₃ r q q′)) (λ b. inr (down (inr b))) (iv x vx (cc) (k .rest) ex)) (λ b. inr (down (inl b))) (iu w vw (cc) (k .front) ew)
@@ -167,15 +222,15 @@ module _ (one two : Table) (g : Rules) (hf : Half) (closed : Shut one g hf) (clo
   leaves (leaf A x) (leaf B y) c c′ l l′ r e d d′ a a′ = cc
 
   -- the same, where the choices at the two tops are found
-  meet : (s len : ℕ) → s + len ≤ length ts → (t t′ : Tree) → root t ≡ root t′ → word t ≡ word t′ → (p : Top one g hf s len t) (p′ : Top one g hf s len t′)
+  meet : (s len : ℕ) → s + len ≤ upto → Told hf s len → (t t′ : Tree) → root t ≡ root t′ → word t ≡ word t′ → (p : Top one g hf s len t) (p′ : Top one g hf s len t′)
       → (Headed t′ (rule g (p .i) .clause) (p .l) → (t ≡ t′) ⊎ two s len (root t)) → (t ≡ t′) ⊎ two s len (root t)
-  meet s len h t t′ r e p p′ f = go (ℕ-discrete (p .i) (p′ .i)) (ℕ-discrete (p .l) (p′ .l))
+  meet s len h k t t′ r e p p′ f = go (ℕ-discrete (p .i) (p′ .i)) (ℕ-discrete (p .l) (p′ .l))
     where
       other : Stand one g (byTokens hf s len) s len (root t) (p′ .i) (p′ .l)
       other = subst (λ (A : ℕ). Stand one g (byTokens hf s len) s len A (p′ .i) (p′ .l)) (sym r) (p′ .stand)
 
       two-of : Rivals g (p .i) (p .l) (p′ .i) (p′ .l) → two s len (root t)
-      two-of n = closed₂ s len (root t) (inside₂ s len h) (apart (p .i) (p .l) (p′ .i) (p′ .l) (p .stand) other n)
+      two-of n = closed₂ s len (root t) (inside₂ s len h) k (apart (p .i) (p .l) (p′ .i) (p′ .l) (p .stand) other n)
 
       differ : ((p .i ≡ p′ .i) × (p .l ≡ p′ .l) → ⊥) → Dec (Atomic (rule g (p .i) .clause)) → Dec (Atomic (rule g (p′ .i) .clause)) → (t ≡ t′) ⊎ two s len (root t)
       differ n (yes a) (yes a′) = inl (leaves t t′ (rule g (p .i) .clause) (rule g (p′ .i) .clause) (p .l) (p′ .l) r e (p .headed) (p′ .headed) a a′)
@@ -187,12 +242,13 @@ module _ (one two : Table) (g : Rules) (hf : Half) (closed : Shut one g hf) (clo
       go (yes a) (no n) = differ (λ q. n (q .1)) (atomic? (rule g (p .i) .clause)) (atomic? (rule g (p′ .i) .clause))
       go (no n) q = differ (λ q. n (q .0)) (atomic? (rule g (p .i) .clause)) (atomic? (rule g (p′ .i) .clause))
 
-  pub same : (t : Tree) → Valid g t → (s len : ℕ) → s + len ≤ length ts
+  pub same : (t : Tree) → Valid g t → (s len : ℕ) → s + len ≤ upto
       → (t′ : Tree) → Valid g t′ → root t ≡ root t′ → word t ≡ part ts s len → word t′ ≡ part ts s len → (t ≡ t′) ⊎ two s len (root t)
   unfolding Same
   same (empty A) v s len h t′ v′ r e e′ =
-      let p = top one g hf closed ts cs (empty A) v s len h e in
-      meet s len h (empty A) t′ r (e ∙ sym e′) p (top one g hf closed ts cs t′ v′ s len h e′) (λ d′. same-empty t′ v′ r e′ d′ (p .headed))
+      apart-or (empty A) t′ v v′ s len h r e e′
+      (λ k. let p = top one g hf closed ts cs upto far given (empty A) v s len h k e in
+      meet s len h k (empty A) t′ r (e ∙ sym e′) p (top one g hf closed ts cs upto far given t′ v′ s len h k e′) (λ d′. same-empty t′ v′ r e′ d′ (p .headed)))
     where
       same-empty : (t′ : Tree) → Valid g t′ → A ≡ root t′ → word t′ ≡ part ts s len → {c : Clause} {l : ℕ} → Headed t′ c l → Headed (empty A) c l → (empty A ≡ t′) ⊎ two s len A
       same-empty (empty B) w r e′ d′ d = inl (ap empty r)
@@ -200,8 +256,9 @@ module _ (one two : Table) (g : Rules) (hf : Half) (closed : Shut one g hf) (clo
       same-empty (unary B x) w r e′ d′ d = let p = d .0 in let p′ = d′ .1 in inl (cc)
       same-empty (binary B x y) w r e′ d′ d = let p = d .0 in let p′ = d′ .1 in inl (cc)
   same (leaf A x) v s len h t′ v′ r e e′ =
-      let p = top one g hf closed ts cs (leaf A x) v s len h e in
-      meet s len h (leaf A x) t′ r (e ∙ sym e′) p (top one g hf closed ts cs t′ v′ s len h e′) (λ d′. same-leaf t′ v′ r e′ d′ (p .headed))
+      apart-or (leaf A x) t′ v v′ s len h r e e′
+      (λ k. let p = top one g hf closed ts cs upto far given (leaf A x) v s len h k e in
+      meet s len h k (leaf A x) t′ r (e ∙ sym e′) p (top one g hf closed ts cs upto far given t′ v′ s len h k e′) (λ d′. same-leaf t′ v′ r e′ d′ (p .headed)))
     where
       same-leaf : (t′ : Tree) → Valid g t′ → A ≡ root t′ → word t′ ≡ part ts s len → {c : Clause} {l : ℕ} → Headed t′ c l → Headed (leaf A x) c l → (leaf A x ≡ t′) ⊎ two s len A
       same-leaf (empty B) w r e′ d′ d = let p = d .2 in let p′ = d′ .0 in inl (cc)
@@ -209,13 +266,17 @@ module _ (one two : Table) (g : Rules) (hf : Half) (closed : Shut one g hf) (clo
       same-leaf (unary B y) w r e′ d′ d = let p = d .2 in let p′ = d′ .1 in inl (cc)
       same-leaf (binary B y z) w r e′ d′ d = let p = d .2 in let p′ = d′ .1 in inl (cc)
   same (unary A u) (valid-unary m mem mark v) s len h t′ v′ r e e′ =
-      let p = top one g hf closed ts cs (unary A u) (valid-unary m mem mark v) s len h e in
-      meet s len h (unary A u) t′ r (e ∙ sym e′) p (top one g hf closed ts cs t′ v′ s len h e′)
-      (λ d′. same-unary s len A u h (same u v s len h) e (p .i) (p .l) (p .stand) (p .headed) t′ v′ r e′ d′)
+      let ih = same u v s len h in
+      apart-or (unary A u) t′ (valid-unary m mem mark v) v′ s len h r e e′
+      (λ k. let p = top one g hf closed ts cs upto far given (unary A u) (valid-unary m mem mark v) s len h k e in
+      meet s len h k (unary A u) t′ r (e ∙ sym e′) p (top one g hf closed ts cs upto far given t′ v′ s len h k e′)
+      (λ d′. same-unary s len A u h k ih e (p .i) (p .l) (p .stand) (p .headed) t′ v′ r e′ d′))
   same (binary A u w) (valid-binary m mem mark v x) s len h t′ v′ r e e′ =
-      let p = top one g hf closed ts cs (binary A u w) (valid-binary m mem mark v x) s len h e in
-      let k = cut ts (word u) (word w) s len h e in
-      let fit = k .fits in
-      meet s len h (binary A u w) t′ r (e ∙ sym e′) p (top one g hf closed ts cs t′ v′ s len h e′)
-      (λ d′. same-binary s len A u w h e (same u v s (length (word u)) (omega arith)) (same w x (s + length (word u)) (len - length (word u)) (omega arith))
-      (p .i) (p .l) (p .stand) (p .headed) t′ v′ r e′ d′)
+      let q = cut ts (word u) (word w) s len (omega arith) e in
+      let fit = q .fits in
+      let iu = same u v s (length (word u)) (omega arith) in
+      let iw = same w x (s + length (word u)) (len - length (word u)) (omega arith) in
+      apart-or (binary A u w) t′ (valid-binary m mem mark v x) v′ s len h r e e′
+      (λ k. let p = top one g hf closed ts cs upto far given (binary A u w) (valid-binary m mem mark v x) s len h k e in
+      meet s len h k (binary A u w) t′ r (e ∙ sym e′) p (top one g hf closed ts cs upto far given t′ v′ s len h k e′)
+      (λ d′. same-binary s len A u w h k e iu iw (p .i) (p .l) (p .stand) (p .headed) t′ v′ r e′ d′))

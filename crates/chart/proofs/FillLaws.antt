@@ -29,7 +29,8 @@ use Rattle.chart.specs.Tables.{Table, One, Two, Leave, byTokens, byMarks
 use Rattle.chart.specs.Tables.Again.{apart, below}
 use Rattle.chart.specs.declared.Tally.{Tally}
 use Rattle.chart.specs.Passes.{Inner, Saturated}
-use Rattle.chart.specs.Filling.{Settled, Ground, Grounded, Closed, Filled, Grown}
+use Rattle.chart.specs.Filling.{Told, Settled, Ground, Grounded, Closed, Given, Filled, Grown}
+use Rattle.chart.specs.Openness.{anything, Open}
 use Rattle.chart.specs.Sheets.{Exact}
 use Rattle.chart.proofs.PassLaws.{inner-from, passes-from}
 use Rattle.chart.proofs.Coverage.{each-found, again-found}
@@ -38,15 +39,36 @@ use Rattle.chart.proofs.Views.{tokens-marks, stand-view, again-view}
 -- ---- a word of the pair p is as it was, where the pair is another
 
 module _ (ws ws′ : List ℕ) (n p : ℕ) (kept : Kept ws ws′ p) where
-  first-kept : (a b : ℕ) → (pairAt n a b ≡ p → ⊥) → firstWord ws′ n a b ≡ firstWord ws n a b
+  pub first-kept : (a b : ℕ) → (pairAt n a b ≡ p → ⊥) → firstWord ws′ n a b ≡ firstWord ws n a b
   first-kept a b other = kept .rest (2 * pairAt n a b) (λ e. other (omega arith)) (omega arith)
 
-  second-kept : (a b : ℕ) → (pairAt n a b ≡ p → ⊥) → secondWord ws′ n a b ≡ secondWord ws n a b
+  pub second-kept : (a b : ℕ) → (pairAt n a b ≡ p → ⊥) → secondWord ws′ n a b ≡ secondWord ws n a b
   second-kept a b other = kept .rest (2 * pairAt n a b + 1) (omega arith) (λ e. other (omega arith))
 
 -- a shorter part has another pair
 shorter-other : (n s len a b : ℕ) → s + len ≤ n → a + b ≤ s + len → (b ≡ len → ⊥) → pairAt n a b ≡ pairAt n s len → ⊥
 shorter-other n s len a b fit h other e = other (pairAt-same n a b s len (omega arith) fit e .0)
+
+-- ---- the pairs of open tokens are given
+
+pub given-same : (ws : List ℕ) (n known : ℕ) → Given ws ws n known
+given-same ws n known = record { first = λ i x y. refl; second = λ i x y. refl }
+
+pub given-then : {ws ws′ ws″ : List ℕ} {n known : ℕ} → Given ws ws′ n known → Given ws′ ws″ n known → Given ws ws″ n known
+given-then f g = record { first = λ i x y. g .first i x y ∙ f .first i x y; second = λ i x y. g .second i x y ∙ f .second i x y }
+
+-- another span's pair is written
+pub given-kept : (ws ws′ : List ℕ) (h : Half) (n s len : ℕ) → s + len ≤ n → Told h s len → Kept ws ws′ (pairAt n s len) → Given ws ws′ n (h .known)
+given-kept ws ws′ h n s len fit told k = record {
+  first = λ i x y. first-kept ws ws′ n (pairAt n s len) k i 1 (other i x y);
+  second = λ i x y. second-kept ws ws′ n (pairAt n s len) k i 1 (other i x y);
+}
+  where
+    other : (i : ℕ) → h .known ≤ i → i < n → pairAt n i 1 ≡ pairAt n s len → ⊥
+    other i x y e =
+        let z = pairAt-same n i 1 s len (omega arith) fit e in
+        let o = told (sym (z .0)) in
+        ⊎-elim (λ q. let r : _≡_ {A = ℕ} 1 0 = q in omega arith) (λ q. omega (arith, q)) (z .1)
 
 -- ---- the span is settled
 
@@ -85,8 +107,8 @@ module _ (ws ws′ : List ℕ) (g : Rules) (h : Half) (n s len : ℕ) (k : SpanM
     settled = record {
       some = λ A kn m. sound kn .0 A (subst (λ (q : ℕ). In q A) (w .first) m);
       more = λ A kn m. sound kn .1 A (subst (λ (q : ℕ). In q A) (w .second) m);
-      each = λ A i l c. each A i l (stand-view (One ws′ n) g (byTokens h s len) (byMarks k len) s len A i l (tokens-marks h s len k marked) c);
-      again = λ A c. again A (again-view (One ws′ n) (Two ws′ n) g (byTokens h s len) (byMarks k len) s len A (tokens-marks h s len k marked) c);
+      each = λ A i l u c. each A i l (stand-view (One ws′ n) g (byTokens h s len) (byMarks k len) s len A i l (tokens-marks h s len k marked) c);
+      again = λ A u c. again A (again-view (One ws′ n) (Two ws′ n) g (byTokens h s len) (byMarks k len) s len A (tokens-marks h s len k marked) c);
     };
   }
     where
@@ -145,9 +167,24 @@ module _ (ws ws′ : List ℕ) (g : Rules) (h : Half) (n s len p : ℕ) (kept : 
   settled-kept t = record {
     some = λ A kn m. t .some A kn (one-from s len A (omega arith) (omega arith) m);
     more = λ A kn m. t .more A kn (two-from s len A (omega arith) (omega arith) m);
-    each = λ A i l c. one-to s len A (omega arith) (omega arith) (t .each A i l (stand-by (One ws′ n) (One ws n) g (byTokens h s len) s len A i l one-from c));
-    again = λ A q. two-to s len A (omega arith) (omega arith) (t .again A (again-by (One ws′ n) (One ws n) (Two ws′ n) (Two ws n) g (byTokens h s len) s len A one-from two-from q));
+    each = λ A i l u c. one-to s len A (omega arith) (omega arith) (t .each A i l u (stand-by (One ws′ n) (One ws n) g (byTokens h s len) s len A i l one-from c));
+    again = λ A u q. two-to s len A (omega arith) (omega arith) (t .again A u (again-by (One ws′ n) (One ws n) (Two ws′ n) (Two ws n) g (byTokens h s len) s len A one-from two-from q));
   }
+
+-- what stands over open tokens does, where the pair of no span of theirs is written
+pub open-kept : {g : Rules} {n to p : ℕ} {ws : List ℕ} (ws′ : List ℕ) → Kept ws ws′ p → ((a b : ℕ) → to ≤ a → a + b ≤ n → pairAt n a b ≡ p → ⊥) → Open g n ws to → Open g n ws′ to
+open-kept {g} {n} {to} {p} {ws} ws′ kept clear o = record {
+  each = λ a b A i l x y f c. subst (λ (q : ℕ). In q A) (sym (first-kept ws ws′ n p kept a b (clear a b x f)))
+      (o .each a b A i l x y f (stand-by (One ws′ n) (One ws n) g anything a b A i l (one a b x f) c));
+  again = λ a b A x y f c. subst (λ (q : ℕ). In q A) (sym (second-kept ws ws′ n p kept a b (clear a b x f)))
+      (o .again a b A x y f (again-by (One ws′ n) (One ws n) (Two ws′ n) (Two ws n) g anything a b A (one a b x f) (two a b x f) c));
+}
+  where
+    one : (a b : ℕ) → to ≤ a → a + b ≤ n → Parts (One ws′ n) (One ws n) a b
+    one a b x f c d B u v m = subst (λ (q : ℕ). In q B) (first-kept ws ws′ n p kept c d (clear c d (omega arith) (omega arith))) m
+
+    two : (a b : ℕ) → to ≤ a → a + b ≤ n → Parts (Two ws′ n) (Two ws n) a b
+    two a b x f c d B u v m = subst (λ (q : ℕ). In q B) (second-kept ws ws′ n p kept c d (clear c d (omega arith) (omega arith))) m
 
 -- ---- an empty span is like another
 
@@ -180,8 +217,8 @@ pub settled-empty : (ws : List ℕ) (g : Rules) (h : Half) (n a : ℕ) → Settl
 settled-empty ws g h n a t = record {
   some = λ A kn m. t .some A (omega arith) (one a 0 A m);
   more = λ A kn m. t .more A (omega arith) (two a 0 A m);
-  each = λ A i l c. one 0 a A (t .each A i l (stand-empty (One ws n) g h a 0 A i l one c));
-  again = λ A q. two 0 a A (t .again A (again-empty (One ws n) (Two ws n) g h a 0 A one two q));
+  each = λ A i l u c. one 0 a A (t .each A i l (λ e. absurd (let z : _≡_ {A = ℕ} 0 1 = e in omega arith)) (stand-empty (One ws n) g h a 0 A i l one c));
+  again = λ A u q. two 0 a A (t .again A (λ e. absurd (let z : _≡_ {A = ℕ} 0 1 = e in omega arith)) (again-empty (One ws n) (Two ws n) g h a 0 A one two q));
 }
   where
     one : Anywhere (One ws n)

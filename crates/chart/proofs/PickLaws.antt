@@ -102,7 +102,8 @@ module _ (g : Rules) (w : Word) (ws : List ℕ) (sheet : SpanSheet g w ws) (s le
   can-fits : (c : Clause) → SmallClause c → (l : ℕ) → Can g (part w s len) c l → Fits (One ws (length w)) (byTokens (whole w) s len) s len c l
   can-fits Clause.Empty small l q = (sym (part-length w s len fit) ∙ ap length (q .0), q .1)
   can-fits (Clause.Atom a a′) small l q =
-      (sym (part-length w s len fit) ∙ ap length (q .1), q .3, may-be (whole w) w (completes-self (whole w)) s len a a′ (q .0) (q .2) fit (q .1))
+      let z : len ≡ 1 = sym (part-length w s len fit) ∙ ap length (q .1) in
+      (z, q .3, may-be (whole w) w (completes-self (whole w)) s len a a′ (q .0) (q .2) fit (omega arith) (q .1))
   can-fits (Clause.Unary B m) small l q = (sheet .one s len B fit small .1 (q .0), may-keep (whole w) w (completes-self (whole w)) m s len fit (q .1), q .2)
   can-fits (Clause.Binary B C m) small l q =
       let k : l ≤ len = omega (arith, part-length w s len fit, q .0) in

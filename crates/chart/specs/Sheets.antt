@@ -12,6 +12,7 @@ use Rattle.grammar.specs.SpanSheet.{part, pairs, firstWord, secondWord, SpanShe
 use Rattle.marks.specs.Half.{Half, Completes}
 use Rattle.spans.specs.Changes.{Past}
 use Rattle.chart.specs.Openness.{Open}
+use Rattle.chart.specs.Filling.{Given}
 use Rattle.chart.specs.declared.Verdict.{Verdict}
 use Rattle.chart.specs.declared.Verdict.the-variants as Verdict
 
@@ -20,28 +21,39 @@ pub record Exact (g : Rules) (w : Word) (n : ℕ) (ws : List ℕ) (to : ℕ) : T
   pub one : (s len A : ℕ) → s + len ≤ to → In (firstWord ws n s len) A ↔ Derives g A (part w s len)
   pub two : (s len A : ℕ) → s + len ≤ to → In (secondWord ws n s len) A ↔ TwoTrees g A (part w s len)
 
--- the same, where there is such a token: nothing is asked of a sheet that is to be filled from its beginning
-pub record RightTo (g : Rules) (w : Word) (n : ℕ) (ws : List ℕ) (to : ℕ) : Type 0 where
-  pub exact : 0 < to → Exact g w n ws to
+-- the pair of the empty word is right, for any sentence, and no other word has changed
+pub record Begun (ws ws′ : List ℕ) (g : Rules) : Type 0 where
+  pub exact : (w : Word) (n : ℕ) → Exact g w n ws′ 0
+  pub past : Past 2 ws ws′
 
--- a sheet may be filled anew but for the spans that end at or before `from` and those that begin at or past `to`:
--- these are right for h; from its beginning it is filled whole
+-- a sheet may be filled anew but for the spans that end at or before `from`, the empty word among them, and those that begin
+-- at or past `to`: these are right for h
 pub record Ready (g : Rules) (h : Half) (n : ℕ) (ws : List ℕ) (from to : ℕ) : Type 0 where
   pub low : from ≤ h .known
   pub high : h .known ≤ to
-  pub right : RightTo g (h .word) n ws from
+  pub right : Exact g (h .word) n ws from
   pub beyond : Open g n ws to
-  pub whole : from ≡ 0 → n ≤ to
 
--- what has a tree, or two, in some completion of h is in the words
+-- what has a tree, or two, over the token at i of w is in the pair of that token
+pub record Admits (g : Rules) (n : ℕ) (ws : List ℕ) (w : Word) (i : ℕ) : Type 0 where
+  pub one : (A : ℕ) → Derives g A (part w i 1) → In (firstWord ws n i 1) A
+  pub two : (A : ℕ) → TwoTrees g A (part w i 1) → In (secondWord ws n i 1) A
+
+-- w completes h, and the pairs of h's open tokens admit its tokens
+pub record Meets (g : Rules) (h : Half) (n : ℕ) (ws : List ℕ) (w : Word) : Type 0 where
+  pub completes : Completes h w
+  pub admits : (i : ℕ) → h .known ≤ i → i < length w → Admits g n ws w i
+
+-- what has a tree, or two, in a word that meets h is in the words
 pub record Covers (g : Rules) (h : Half) (n : ℕ) (ws : List ℕ) : Type 0 where
-  pub one : (w : Word) → Completes h w → (s len A : ℕ) → s + len ≤ length w → Derives g A (part w s len) → In (firstWord ws n s len) A
-  pub two : (w : Word) → Completes h w → (s len A : ℕ) → s + len ≤ length w → TwoTrees g A (part w s len) → In (secondWord ws n s len) A
+  pub one : (w : Word) → Meets g h n ws w → (s len A : ℕ) → s + len ≤ length w → Derives g A (part w s len) → In (firstWord ws n s len) A
+  pub two : (w : Word) → Meets g h n ws w → (s len A : ℕ) → s + len ≤ length w → TwoTrees g A (part w s len) → In (secondWord ws n s len) A
 
 -- the span sheet of a half-known word: exact as far as it is known, and missing nothing of the rest
 pub record Charted (ws ws′ : List ℕ) (g : Rules) (h : Half) (n : ℕ) : Type 0 where
   pub exact : Exact g (h .word) n ws′ (h .known)
   pub covers : Covers g h n ws′
+  pub given : Given ws ws′ n (h .known)
   pub beyond : Open g n ws′ (h .known)
   pub past : Past (2 * pairs n) ws ws′
 
@@ -57,14 +69,15 @@ pub record Judged (r : Verdict) (g : Rules) (w : Word) (n : ℕ) (ws ws′ : Lis
   pub sheet : SpanSheet g w ws′
   pub past : Past (2 * pairs n) ws ws′
 
--- no completion has two trees
-pub record Hopeless (g : Rules) (h : Half) : Type 0 where
-  pub none : (w : Word) → Completes h w → TwoTrees g 0 w → ⊥
+-- no word that meets h by the words ws has two trees
+pub record Hopeless (g : Rules) (h : Half) (n : ℕ) (ws : List ℕ) : Type 0 where
+  pub none : (w : Word) → Meets g h n ws w → TwoTrees g 0 w → ⊥
 
--- true: no completion has two trees; false: where all is known, the word has two
+-- true: no word that meets h has two trees; false: where all is known, the word has two
 pub record Settles (r : Bool) (g : Rules) (h : Half) (n : ℕ) (ws ws′ : List ℕ) : Type 0 where
-  pub none : r ≡ true → Hopeless g h
+  pub none : r ≡ true → Hopeless g h n ws
   pub two : r ≡ false → h .known ≡ n → TwoTrees g 0 (h .word)
-  pub right : RightTo g (h .word) n ws′ (h .known)
+  pub right : Exact g (h .word) n ws′ (h .known)
+  pub given : Given ws ws′ n (h .known)
   pub beyond : Open g n ws′ (h .known)
   pub past : Past (2 * pairs n) ws ws′

@@ -9,10 +9,14 @@ use codes::second_of;
 use codes::unary_mark_of;
 use grammar::BinaryMark;
 use grammar::Clause;
+use grammar::Column;
 use grammar::Grammar;
+use grammar::Line;
 use grammar::Rule;
 use grammar::Sentence;
+use grammar::Token;
 use grammar::UnaryMark;
+use grammar::Width;
 use marks::Draft;
 use marks::SpanMarks;
 use marks::allows_atom;
@@ -42,8 +46,8 @@ ghost use Rattle.marks.specs.Marked.{UnaryBy, BinaryBy};
 ghost use Rattle.spans.specs.Reach.{Reach};
 ghost use Rattle.chart.specs.Tables.{One, byMarks, Fits, Atomic, lefts};
 ghost use Rattle.chart.specs.Passes.{Room, rivalsOf, firmOf, Doubles, Found, Took, pairOf, sidesAt, SplitFits, SplitBelow, SplitRow, none, Splits, LeafFits, Leaves, Inner, Beside, Wide, Pass, Saturated};
-ghost use Rattle.chart.specs.Filling.{Whole, Ground, Closed, Filled, Grown};
-ghost use Rattle.chart.specs.Sheets.{Ready, Charted, Judged, Settles};
+ghost use Rattle.chart.specs.Filling.{Whole, Ground, Closed, Stops, Filled, Grown};
+ghost use Rattle.chart.specs.Sheets.{Ready, Begun, Charted, Judged, Settles};
 ghost use Rattle.chart.specs.Choosing.{NextChoice};
 ghost use Rattle.chart.specs.Searches.{FirstSplit, FirstPick};
 
@@ -536,17 +540,29 @@ fn close(words: &mut [u64], d: Draft, codes: &[u64], start: usize, len: usize)
     write(words, p, t.one, t.two);
 }
 
-// Settle the empty word, unless it is to be kept.
-fn fill_empty(words: &mut [u64], d: Draft, codes: &[u64], from: usize, to: usize)
-    requires { ⌜ Whole d ⌝ }
-    requires { ⌜ Room (now words) (d .count) 0 0 ⌝ }
-    requires { ⌜ Distinct (decoded (now codes)) ⌝ }
-    requires { ⌜ Ready (decoded (now codes)) (half d) (d .count) (now words) from to ⌝ }
-    ensures { λ r. ⌜ Grown (now (words .entry)) (now (words .exit)) (decoded (now (codes .entry))) (half d) (d .count) from to 1 ⌝ }
+// No token of any count.
+fn no_tokens() -> Draft
+    ensures { λ d. ⌜ Whole d × (d .count ≡ 0) × (d .known ≡ 0) ⌝ }
 {
-    if from != 0 {
-        return;
+    Draft {
+        tokens: [Token {
+            terminal: 0,
+            line: Line(0),
+            column: Column(0),
+            width: Width(0),
+        }; 64],
+        count: 0,
+        known: 0,
     }
+}
+
+// Settle the empty word, whose pair is the first of every span sheet.
+pub fn fill_empty(words: &mut [u64], codes: &[u64])
+    requires { ⌜ 2 ≤ length (now words) ⌝ }
+    requires { ⌜ Distinct (decoded (now codes)) ⌝ }
+    ensures { λ r. ⌜ Begun (now (words .entry)) (now (words .exit)) (decoded (now (codes .entry))) ⌝ }
+{
+    let d = no_tokens();
     close(words, d, codes, 0, 0);
 }
 
@@ -561,6 +577,13 @@ fn first_start(from: usize, len: usize) -> usize
     from + 1 - len
 }
 
+// Where the spans of `len` tokens that are filled stop to begin: at `to`; of one token, where the tokens are open.
+fn stops(len: usize, known: usize, to: usize) -> usize
+    ensures { λ r. ⌜ Stops len known to r ⌝ }
+{
+    if len == 1 { known } else { to }
+}
+
 // The first start of a span of `len` tokens that is not filled: at `to`, or where the tokens end.
 fn last_start(n: usize, len: usize, to: usize) -> usize
     requires { ⌜ (len ≤ n) × (n ≤ 64) ⌝ }
@@ -570,17 +593,18 @@ fn last_start(n: usize, len: usize, to: usize) -> usize
     if to < end { to } else { end }
 }
 
-// Settle the spans of `len` tokens that end past `from` and begin before `to`.
+// Settle the spans of `len` tokens that end past `from` and begin before `to`, but single open tokens.
 fn fill_row(words: &mut [u64], d: Draft, codes: &[u64], from: usize, to: usize, len: usize)
     requires { ⌜ Whole d ⌝ }
     requires { ⌜ Room (now words) (d .count) 0 len ⌝ }
     requires { ⌜ Distinct (decoded (now codes)) ⌝ }
-    requires { ⌜ (0 < len) × (from ≤ d .known) × Filled (now words) (decoded (now codes)) (half d) (d .count) from to 0 len ⌝ }
+    requires { ⌜ (0 < len) × (from ≤ d .known) × (d .known ≤ to) × Filled (now words) (decoded (now codes)) (half d) (d .count) from to 0 len ⌝ }
     ensures { λ r. ⌜ Grown (now (words .entry)) (now (words .exit)) (decoded (now (codes .entry))) (half d) (d .count) from to (len + 1) ⌝ }
 {
     let n = d.count;
     let mut start = first_start(from, len);
-    let end = last_start(n, len, to);
+    let stop = stops(len, d.known, to);
+    let end = last_start(n, len, stop);
     while start < end {
         close(words, d, codes, start, len);
         start += 1;
@@ -588,7 +612,7 @@ fn fill_row(words: &mut [u64], d: Draft, codes: &[u64], from: usize, to: usize, 
 }
 
 // Fill the span sheet of the draft anew, but for the spans that end at or before the token `from` and those that begin
-// at or past the token `to`: no token of these has changed. From 0 on all of it is filled, the empty word too.
+// at or past the token `to`: no token of these has changed. The pairs of open tokens are given, and so is the empty word's.
 pub fn fill(words: &mut [u64], d: Draft, codes: &[u64], from: usize, to: usize)
     requires { ⌜ (d .count ≤ 64) × (d .known ≤ d .count) ⌝ }
     requires { ⌜ 2 * pairs (d .count) ≤ length (now words) ⌝ }
@@ -597,12 +621,22 @@ pub fn fill(words: &mut [u64], d: Draft, codes: &[u64], from: usize, to: usize)
     ensures { λ r. ⌜ Charted (now (words .entry)) (now (words .exit)) (decoded (now (codes .entry))) (half d) (d .count) ⌝ }
 {
     let n = d.count;
-    fill_empty(words, d, codes, from, to);
     let mut len = 1;
     while len <= n {
         fill_row(words, d, codes, from, to, len);
         len += 1;
     }
+}
+
+// Fill all of it, the empty word too.
+pub fn fill_all(words: &mut [u64], d: Draft, codes: &[u64])
+    requires { ⌜ (d .count ≤ 64) × (d .known ≤ d .count) ⌝ }
+    requires { ⌜ 2 * pairs (d .count) ≤ length (now words) ⌝ }
+    requires { ⌜ Distinct (decoded (now codes)) ⌝ }
+    ensures { λ r. ⌜ Charted (now (words .entry)) (now (words .exit)) (decoded (now (codes .entry))) (half d) (d .count) ⌝ }
+{
+    fill_empty(words, codes);
+    fill(words, d, codes, 0, d.count);
 }
 
 // The answer on a sentence: no tree, just one, or at least two.
@@ -628,7 +662,7 @@ pub fn judge(words: &mut [u64], s: Sentence, g: Grammar) -> Verdict
     };
     let codes = ordered(g);
     let m = g.count;
-    fill(words, d, &codes[..m], 0, n);
+    fill_all(words, d, &codes[..m]);
     if !in_first(words, n, 0, n, 0) {
         return Verdict::None;
     }
@@ -638,7 +672,7 @@ pub fn judge(words: &mut [u64], s: Sentence, g: Grammar) -> Verdict
     Verdict::One
 }
 
-// Has no completion of the draft two trees? (Where all of it is known: has it not?) The pairs of spans that end at or
+// Has no completion of the draft two trees, its open tokens being what their pairs allow? (Where all of it is known: has it not?) The pairs of spans that end at or
 // before the token `from`, and of those that begin at or past the token `to`, are kept.
 pub fn hopeless(words: &mut [u64], d: Draft, codes: &[u64], from: usize, to: usize) -> bool
     requires { ⌜ (d .count ≤ 64) × (d .known ≤ d .count) ⌝ }

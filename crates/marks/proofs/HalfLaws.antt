@@ -19,8 +19,8 @@ use Rattle.marks.proofs.Words.{part-at, part-length, unary-span, span-u
 -- ---- what holds of a completion may hold
 
 module _ (h : Half) (w : Word) (c : Completes h w) where
-  pub may-be : (s len a b : ℕ) (t : Token) → Covers a b (t .terminal) → s + len ≤ length w → part w s len ≡ t ∷ [] → MayBe h s a b
-  may-be s len a b t v fit e = record { terminal = λ k. subst (λ (x : Token). Covers a b (x .terminal)) (sym at ∙ c .same s k) v }
+  pub may-be : (s len a b : ℕ) (t : Token) → Covers a b (t .terminal) → s + len ≤ length w → s < h .known → part w s len ≡ t ∷ [] → MayBe h s a b
+  may-be s len a b t v fit k e = record { terminal = subst (λ (x : Token). Covers a b (x .terminal)) (sym at ∙ c .same s k) v }
     where
       n : len ≡ 1
       n = sym (part-length w s len fit) ∙ ap length e
@@ -40,7 +40,7 @@ module _ (h : Half) (w : Word) (c : Completes h w) where
 
 module _ (h : Half) (fits : h .known ≤ length (h .word)) where
   pub is-one : (s a b : ℕ) → s + 1 ≤ h .known → MayBe h s a b → (t : Token) × (part (h .word) s 1 ≡ t ∷ []) × Covers a b (t .terminal)
-  is-one s a b k q = (token (h .word) s, one-token (h .word) s (omega arith), q .terminal (omega arith))
+  is-one s a b k q = (token (h .word) s, one-token (h .word) s (omega arith), q .terminal)
 
   pub does-keep : (m : UnaryMark) (s len : ℕ) → s + len ≤ h .known → MayKeep m h s len → Mark.Unary m (part (h .word) s len)
   does-keep m s len k q = span-unary m (h .word) s len (omega arith) (λ i l. q .keeps i l (omega arith))

@@ -14,10 +14,11 @@ use Rattle.grammar.specs.declared.UnaryMark.the-variants as UnaryMark
 use Rattle.grammar.specs.declared.BinaryMark.{BinaryMark}
 use Rattle.grammar.specs.declared.BinaryMark.the-variants as BinaryMark
 use Rattle.grammar.specs.Layout.{Keeps, Pairs}
+use Rattle.grammar.specs.Trees.{Covers}
 use Rattle.marks.specs.declared.SpanMarks.{SpanMarks}
 use Rattle.marks.specs.Half.{Half, token, MayKeep}
 use Rattle.marks.specs.Marked.{Grown, Joined, alone, Marked}
-use Rattle.marks.proofs.Pairings.{Pairing, pairing-none, pairing-more, flagged, atom-marked, unary-marked, binary-marked}
+use Rattle.marks.proofs.Pairings.{Pairing, pairing-none, pairing-more, flagged, unary-marked, binary-marked}
 
 -- ---- what one more token adds
 
@@ -44,7 +45,6 @@ joined-as k l K L P Q r f g j = record {
   single = kept-as (f UnaryMark.Single) (j .single);
   align = grown-as (g BinaryMark.Align) (j .align);
   indent = grown-as (g BinaryMark.Indent) (j .indent);
-  opens = j .opens;
   terminal = j .terminal;
 }
 
@@ -57,7 +57,6 @@ pub record SoFar (h : Half) (s len left : ℕ) (k : SpanMarks) : Type 0 where
   pub single : Says (k .single) (MayKeep UnaryMark.Single h s left)
   pub align : Pairing BinaryMark.Align h s len left (k .align)
   pub indent : Pairing BinaryMark.Indent h s len left (k .indent)
-  pub opens : Says (k .open) (h .known ≤ s)
   pub terminal : k .terminal ≡ token (h .word) s .terminal
 
 keeps-self : (m : UnaryMark) (a : Token) → Keeps m a a
@@ -72,14 +71,13 @@ keep-one m h s = record {
   keeps = λ i l k. subst (λ (x : ℕ). Keeps m (token (h .word) s) (token (h .word) x)) (omega arith) (keeps-self m (token (h .word) s));
 }
 
-pub so-far-first : (h : Half) (s len : ℕ) (o : Bool) (t : ℕ) → Says o (h .known ≤ s) → t ≡ token (h .word) s .terminal → SoFar h s len 1 (alone o t)
-so-far-first h s len o t a b = record {
+pub so-far-first : (h : Half) (s len : ℕ) (t : ℕ) → t ≡ token (h .word) s .terminal → SoFar h s len 1 (alone t)
+so-far-first h s len t b = record {
   offside = holds (keep-one _ h s);
   offalign = holds (keep-one _ h s);
   single = holds (keep-one _ h s);
   align = pairing-none _ h s len 1 (omega arith);
   indent = pairing-none _ h s len 1 (omega arith);
-  opens = a;
   terminal = b;
 }
 
@@ -109,7 +107,6 @@ so-far-more h s len l k r pos low p j = record {
   single = keep-more _ h s l _ _ (p .single) (j .single);
   align = pair-more _ h s len l _ _ pos low (j .align) (p .align);
   indent = pair-more _ h s len l _ _ pos low (j .indent) (p .indent);
-  opens = rw (j .opens) (p .opens);
   terminal = j .terminal ∙ p .terminal;
 }
 
@@ -117,13 +114,13 @@ so-far-more h s len l k r pos low p j = record {
 
 pub so-far-all : (h : Half) (s len : ℕ) (k : SpanMarks) → SoFar h s len len k → Marked h s len k
 so-far-all h s len k p = record {
-  atom = λ e. atom-marked h s (k .open) (k .terminal) (p .opens) (p .terminal);
+  atom = λ e a b. (λ x. record { terminal = subst (Covers a b) (p .terminal) x }, λ x. subst (Covers a b) (sym (p .terminal)) (x .terminal));
   unary = unary-marked h s len k (p .offside) (p .offalign) (p .single);
   binary = binary-marked h s len k (p .align) (p .indent);
 }
 
-pub no-tokens : (h : Half) (s len : ℕ) (o : Bool) (t : ℕ) → len ≡ 0 → Marked h s len (alone o t)
-no-tokens h s len o t e = record {
+pub no-tokens : (h : Half) (s len : ℕ) (t : ℕ) → len ≡ 0 → Marked h s len (alone t)
+no-tokens h s len t e = record {
   atom = λ f. absurd (omega arith);
   unary = unary-marked h s len _ (holds (keep-none _)) (holds (keep-none _)) (holds (keep-none _));
   binary = binary-marked h s len _ (pairing-none _ h s len len (omega arith)) (pairing-none _ h s len len (omega arith));

@@ -13,8 +13,7 @@ use Rattle.grammar.specs.declared.UnaryMark.the-variants as UnaryMark
 use Rattle.grammar.specs.declared.BinaryMark.{BinaryMark}
 use Rattle.grammar.specs.declared.BinaryMark.the-variants as BinaryMark
 use Rattle.marks.specs.declared.SpanMarks.{SpanMarks}
-use Rattle.grammar.specs.Trees.{Covers}
-use Rattle.marks.specs.Half.{Half, token, MayBe, MayKeep, MayPair}
+use Rattle.marks.specs.Half.{Half, MayKeep, MayPair}
 use Rattle.marks.specs.Marked.{UnaryBy, BinaryBy, Included}
 
 -- set has the left lengths from 1 to below `to` at which the mark may hold of the span of len tokens from s on
@@ -92,17 +91,3 @@ pub binary-marked : (h : Half) (s len : ℕ) (k : SpanMarks) → Pairing BinaryM
 binary-marked h s len k a b BinaryMark.None l fit = (λ t. record { pairs = λ x y z. tt }, λ t. tt)
 binary-marked h s len k a b BinaryMark.Align l fit = paired BinaryMark.Align h s len (k .align) l fit a
 binary-marked h s len k a b BinaryMark.Indent l fit = paired BinaryMark.Indent h s len (k .indent) l fit b
-
-pub atom-marked : (h : Half) (s : ℕ) (b : Bool) (c : ℕ) → Says b (h .known ≤ s) → c ≡ token (h .word) s .terminal → (a a′ : ℕ) → ((b ≡ true) ⊎ Covers a a′ c) ↔ MayBe h s a a′
-atom-marked h s b c o t a a′ = (
-  ⊎-elim (λ e. record { terminal = λ l. absurd (let z = o .is e in omega arith) }) (λ e. record { terminal = λ l. subst (Covers a a′) t e }),
-  λ q. go q b o refl,
-)
-  where
-    go : MayBe h s a a′ → (x : Bool) → Says x (h .known ≤ s) → b ≡ x → (b ≡ true) ⊎ Covers a a′ c
-    go q true u e = inl e
-    go q false u e = inr (subst (Covers a a′) (sym t) (q .terminal (known (decLt s (h .known)))))
-      where
-        known : Dec (s < h .known) → s < h .known
-        known (yes l) = l
-        known (no n) = absurd (u .isnt refl (omega arith))

@@ -1,5 +1,4 @@
--- Half-known words: the tokens before `known` count, the others are open. A mark is asked of the known tokens alone,
--- and an open token fits every terminal.
+-- Half-known words: the tokens before `known` count, the others are open. A mark is asked of the known tokens alone.
 use mathlib.Core.Path.{_≡_}
 use Prim.Native.Nat.{ℕ, _+_, _-_, _<_}
 use lib.ListN.{length, getD}
@@ -26,9 +25,9 @@ pub record Completes (h : Half) (w : Word) : Type 0 where
   pub long : length w ≡ length (h .word)
   pub same : (i : ℕ) → i < h .known → token w i ≡ token (h .word) i
 
--- the token at s may be one of the terminals from a to b
+-- the token at s is one of the terminals from a to b
 pub record MayBe (h : Half) (s a b : ℕ) : Type 0 where
-  pub terminal : s < h .known → Covers a b (token (h .word) s .terminal)
+  pub terminal : Covers a b (token (h .word) s .terminal)
 
 -- the unary mark may hold of the span of len tokens from s on
 pub record MayKeep (m : UnaryMark) (h : Half) (s len : ℕ) : Type 0 where

@@ -1,7 +1,7 @@
 -- What the marks of a span say, and when they are right (inner: contracts of the functions that fill the span sheet).
 use mathlib.Core.Path.{_≡_}
 use mathlib.Core.Bool.{Bool, true, false}
-use mathlib.Core.Logic.{_⊎_, _↔_}
+use mathlib.Core.Logic.{_↔_}
 use Prim.Native.Nat.{ℕ, _-_, _≤_, _<_}
 use Rattle.sets.specs.Says.{Says}
 use Rattle.sets.specs.Sets.{In, insert}
@@ -13,9 +13,9 @@ use Rattle.grammar.specs.Trees.{Covers}
 use Rattle.marks.specs.declared.SpanMarks.{SpanMarks}
 use Rattle.marks.specs.Half.{Half, MayBe, MayKeep, MayPair}
 
--- by the marks k a span of one token may be one of the terminals from a to b
+-- by the marks k a span of one token is one of the terminals from a to b
 abbrev pub AtomBy : SpanMarks → ℕ → ℕ → Type 0
-AtomBy k a b = (k .open ≡ true) ⊎ Covers a b (k .terminal)
+AtomBy k a b = Covers a b (k .terminal)
 
 -- a unary mark may hold of the span
 abbrev pub UnaryBy : SpanMarks → UnaryMark → Type 0
@@ -48,12 +48,11 @@ pub record Joined (k : SpanMarks) (l : ℕ) (keeps : UnaryMark → Type 0) (pair
   pub single : Says (r .single) ((k .single ≡ true) × keeps UnaryMark.Single)
   pub align : Grown (k .align) l (pairs BinaryMark.Align) (r .align)
   pub indent : Grown (k .indent) l (pairs BinaryMark.Indent) (r .indent)
-  pub opens : r .open ≡ k .open
   pub terminal : r .terminal ≡ k .terminal
 
 -- the marks of one token, or of none
-abbrev pub alone : Bool → ℕ → SpanMarks
-alone o t = record { offside = true; offalign = true; single = true; align = 0; indent = 0; «open» = o; terminal = t }
+abbrev pub alone : ℕ → SpanMarks
+alone t = record { offside = true; offalign = true; single = true; align = 0; indent = 0; terminal = t }
 
 -- the marks k of the span of len tokens from s on are those of the definitions
 pub record Marked (h : Half) (s len : ℕ) (k : SpanMarks) : Type 0 where

@@ -13,8 +13,7 @@ ghost use Rattle.grammar.specs.Layout.{Keeps, Pairs};
 ghost use Rattle.marks.specs.Drafts.{half, Within};
 ghost use Rattle.marks.specs.Marked.{AtomBy, UnaryBy, BinaryBy, Included, Joined, alone, Marked};
 
-// The first `count` of the tokens, of which the first `known` count and the others are open:
-// an open token fits any terminal and meets any mark.
+// The first `count` of the tokens, of which the first `known` count and the others are open: an open token meets any mark.
 pub struct Draft {
     pub tokens: [Token; 64],
     pub count: usize,
@@ -22,15 +21,14 @@ pub struct Draft {
 }
 
 // What the tokens of a span leave to a rule: do the unary marks hold; at which left lengths, from 1 to below the
-// span's length, do align and indent (at the others they hold always); and is the first token open, and which
-// terminal has it (asked of a span of one token alone).
+// span's length, do align and indent (at the others they hold always); and which terminal has the first token (asked
+// of a span of one token alone).
 pub struct SpanMarks {
     pub offside: bool,
     pub offalign: bool,
     pub single: bool,
     pub align: u64,
     pub indent: u64,
-    pub open: bool,
     pub terminal: u8,
 }
 
@@ -98,7 +96,6 @@ fn with_known(k: SpanMarks, a: Token, z: Token, t: Token, left: usize) -> SpanMa
         single,
         align,
         indent,
-        open: k.open,
         terminal: k.terminal,
     }
 }
@@ -116,7 +113,6 @@ fn with_open(k: SpanMarks, left: usize) -> SpanMarks
         single: k.single,
         align,
         indent,
-        open: k.open,
         terminal: k.terminal,
     }
 }
@@ -141,9 +137,9 @@ fn with_next(
     }
 }
 
-// The marks of one token, which is open or has the terminal, or of no token.
-fn first_marks(unknown: bool, terminal: u8) -> SpanMarks
-    ensures { λ r. ⌜ r ≡ alone unknown terminal ⌝ }
+// The marks of one token, which has the terminal, or of no token.
+fn first_marks(terminal: u8) -> SpanMarks
+    ensures { λ r. ⌜ r ≡ alone terminal ⌝ }
 {
     SpanMarks {
         offside: true,
@@ -151,7 +147,6 @@ fn first_marks(unknown: bool, terminal: u8) -> SpanMarks
         single: true,
         align: 0,
         indent: 0,
-        open: unknown,
         terminal,
     }
 }
@@ -162,11 +157,11 @@ pub fn span_marks(d: Draft, start: usize, len: usize) -> SpanMarks
     ensures { λ r. ⌜ Marked (half d) start len r ⌝ }
 {
     if len == 0 {
-        return first_marks(false, 0);
+        return first_marks(0);
     }
     let known = d.known;
     let a = d.tokens[start];
-    let mut k = first_marks(known <= start, a.terminal);
+    let mut k = first_marks(a.terminal);
     let mut left = 1;
     while left < len {
         let at = start + left;
@@ -178,13 +173,10 @@ pub fn span_marks(d: Draft, start: usize, len: usize) -> SpanMarks
     k
 }
 
-// Do the marks leave the span of one token to the terminals from `a` to `b`?
+// Is the span of one token one of the terminals from `a` to `b`?
 pub fn allows_atom(k: SpanMarks, a: u8, b: u8) -> bool
     ensures { λ r. ⌜ Says r (AtomBy k a b) ⌝ }
 {
-    if k.open {
-        return true;
-    }
     if k.terminal < a {
         return false;
     }

@@ -1,13 +1,11 @@
 -- The turns of the search, and what it finds in 01's words.
-use mathlib.Core.Path.{_≡_, refl, _∙_}
-use mathlib.Core.Bool.{true}
+use mathlib.Core.Path.{_≡_, _∙_}
 use mathlib.Core.Logic.{_⊎_, ⊎-elim, _↔_}
 use mathlib.Core.List.{List}
 use Prim.Native.Nat.{ℕ, _+_, _-_, _≤_, _<_}
 use native.Mathlib.Omega.{arith}
 use native.Mathlib.Decide.{decLt}
 use lib.ListN.{length}
-use Rattle.sets.proofs.Says.{true-not-false}
 use Rattle.grammar.specs.declared.Cell.{Cell}
 use Rattle.grammar.specs.Trees.{Rules, TwoTrees}
 use Rattle.grammar.specs.Candidates.{Candidate, Terminal, sentence}
@@ -15,9 +13,8 @@ use Rattle.grammar.specs.Sweeps.{Clear, FirstTwo}
 use Rattle.grammar.proofs.SweepLaws.{clear-of}
 use Rattle.candidates.specs.Terminals.{Among}
 use Rattle.candidates.specs.Succession.{First, Follows, Ends}
-use Rattle.candidates.specs.Skips.{Stale}
 use Rattle.candidates.proofs.TerminalSets.{candidate-over}
-use Rattle.sweeping.specs.Searching.{NoneShorter, NoneBefore, Barren, Looked, Hits}
+use Rattle.sweeping.specs.Searching.{NoneShorter, NoneBefore, Barren, Hits}
 
 module _ {g : Rules} {s : ℕ} where
   pub none-yet : NoneShorter g s 1
@@ -44,14 +41,6 @@ module _ {g : Rules} {s : ℕ} where
               let i : m ≡ n = omega arith in
               let d : Candidate (Among s) n ds = rw i at c in
               ⊎-elim (λ y. q .none ds d y t) (λ y. k .none ds d y t) (e .last ds d)
-
-  -- what reads like something earlier needs no look at a chart
-  pub looked-stale : {n b : ℕ} {cs : List Cell} → Stale n b cs → Looked true g s n b cs
-  looked-stale {n} {b} {cs} st =
-      record {
-        barren = λ e q. record { none = λ ds c sh t. let x = st .earlier g s ds cs c sh refl t in q .none (x .cells) (x .candidate) (x .before) (x .two) };
-        two = λ e. absurd (true-not-false e);
-      }
 
   module _ (same : (x : ℕ) → Among s x ↔ Terminal g x) where
     to : {n : ℕ} {cs : List Cell} → Candidate (Terminal g) n cs → Candidate (Among s) n cs

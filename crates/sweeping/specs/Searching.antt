@@ -8,10 +8,6 @@ use Rattle.grammar.specs.Trees.{Rules, TwoTrees}
 use Rattle.grammar.specs.Candidates.{Candidate, Before, sentence}
 use Rattle.candidates.specs.Terminals.{Among}
 use Rattle.candidates.specs.Succession.{Shares}
-use Rattle.grammar.specs.SpanSheet.{pairs}
-use Rattle.spans.specs.Changes.{Past}
-use Rattle.chart.specs.Openness.{Open}
-use Rattle.chart.specs.Sheets.{RightTo}
 
 -- no candidate of 1 to n - 1 tokens has two trees
 pub record NoneShorter (g : Rules) (s n : ℕ) : Type 0 where
@@ -45,26 +41,7 @@ pub data Searched (g : Rules) (s k n : ℕ) (cs : List Cell) : Type 0 where
   hit : Hits g s k n cs → Searched g s k n cs
   miss : n ≡ 0 → NoneShorter g s (k + 1) → Searched g s k n cs
 
--- where the search stands: at the candidate cs of n tokens, about to look at its first b cells;
--- of the spans that end at or before token `to` and of those that begin at or past token `on`, where all tokens are open,
--- the words ws are right, so that only the others need be filled
-pub record Turn (g : Rules) (s n b to on : ℕ) (cs : List Cell) (ws : List ℕ) : Type 0 where
+-- where the search stands: at the candidate cs of n tokens, about to look at its first b cells
+pub record Turn (g : Rules) (s n b : ℕ) (cs : List Cell) : Type 0 where
   pub before : NoneBefore g s n cs
   pub known : b ≤ n
-  pub low : to ≤ b
-  pub right : RightTo g (sentence cs) n ws to
-  pub beyond : Open g n ws on
-
--- what a look tells, and how far the words are right after it
-pub record Looks (out : Bool) (to on : ℕ) (g : Rules) (s n b : ℕ) (cs : List Cell) (ws ws′ : List ℕ) : Type 0 where
-  pub looked : Looked out g s n b cs
-  pub low : to ≤ b
-  pub right : RightTo g (sentence cs) n ws′ to
-  pub beyond : Open g n ws′ on
-  pub past : Past (2 * pairs n) ws ws′
-
--- the spans that begin at or past r are kept: those whose tokens were open and are, and none where all is filled anew
-pub record Skips (from on b n r : ℕ) : Type 0 where
-  pub known : b ≤ r
-  pub open-before : (from ≡ 0 → ⊥) → on ≤ r
-  pub whole : from ≡ 0 → n ≤ r

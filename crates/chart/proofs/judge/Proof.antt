@@ -6,7 +6,7 @@ use native.Mathlib.Omega.{arith}
 use lib.ListN.{length, length-map}
 use lib.Seq.{length-take-le}
 use Rattle.grammar.specs.Content.{spelled}
-use Rattle.chart.proofs.SheetLaws.{judged, judged-over, reads-none, reads-one, reads-two, ready-whole}
+use Rattle.chart.proofs.SheetLaws.{judged, judged-over, reads-none, reads-one, reads-two}
 use Rattle.chart.proofs.judge.Statement.{statement}
 use Rattle.chart.proofs.judge.Tie as tie
 
@@ -22,14 +22,13 @@ ordered-requires c κs = c .before .before .pre .1 .1
 array-share-prefix-codes : tie.Need-array-share-prefix-codes
 array-share-prefix-codes c = search needs
 
-slice-aggregate-fill : tie.Need-slice-aggregate-fill
-slice-aggregate-fill c = sym (c .before .before .ordered .ensures .1)
+slice-aggregate-fill-all : tie.Need-slice-aggregate-fill-all
+slice-aggregate-fill-all c = sym (c .before .before .ordered .ensures .1)
 
-fill-requires : tie.Need-fill-requires
-fill-requires c κs =
+fill-all-requires : tie.Need-fill-all-requires
+fill-all-requires c κs =
     let z = c .before .before .before .before .before in
-    let n = z .args .s .count in
-    ((z .pre .0, omega arith), (z .pre .1 .0, (c .before .before .ordered .ensures .0 .distinct (z .pre .1 .1 .distinct), ready-whole _ (record { word = spelled (z .args .s); known = n }) n (z .args .words .now) (omega arith))))
+    ((z .pre .0, omega arith), (z .pre .1 .0, c .before .before .ordered .ensures .0 .distinct (z .pre .1 .1 .distinct)))
 
 in-first-requires : tie.Need-in-first-requires
 in-first-requires c κs = search needs
@@ -42,7 +41,7 @@ returns c =
     let z = c .before .before .before .before .before .before .before .before .before .before .before in
     let e = whole z in
     let f = c .before .before .before .before .before in
-    judged-over (f .before .before .before .ordered .ensures .0) (judged e (z .pre .1 .0) (f .fill .ensures) (reads-none e (f .fill .ensures .exact) (c .before .in-first .ensures .isnt (not-true _ (c .if1 .taken)))))
+    judged-over (f .before .before .before .ordered .ensures .0) (judged e (z .pre .1 .0) (f .fill-all .ensures) (reads-none e (f .fill-all .ensures .exact) (c .before .in-first .ensures .isnt (not-true _ (c .if1 .taken)))))
 
 in-second-requires : tie.Need-in-second-requires
 in-second-requires c κs = search needs
@@ -55,7 +54,7 @@ returns-2 c =
     let z = c .before .before .before .before .before .before .before .before .before .before .before .before .before .before in
     let e = whole z in
     let f = c .before .before .before .before .before .before .before .before in
-    judged-over (f .before .before .before .ordered .ensures .0) (judged e (z .pre .1 .0) (f .fill .ensures) (reads-two e (f .fill .ensures .exact) (c .before .in-second .ensures .is (c .if2 .taken))))
+    judged-over (f .before .before .before .ordered .ensures .0) (judged e (z .pre .1 .0) (f .fill-all .ensures) (reads-two e (f .fill-all .ensures .exact) (c .before .in-second .ensures .is (c .if2 .taken))))
 
 same-length-3 : tie.Need-same-length-3
 same-length-3 c = search needs
@@ -66,7 +65,7 @@ returns-3 c =
     let e = whole z in
     let f = c .before .before .before .before .before .before .before .before in
     judged-over (f .before .before .before .ordered .ensures .0)
-    (judged e (z .pre .1 .0) (f .fill .ensures) (reads-one e (f .fill .ensures .exact) (c .before .before .before .before .in-first .ensures .is (not-false _ (c .before .before .before .if1 .left))) (c .before .in-second .ensures .isnt (c .if2 .left))))
+    (judged e (z .pre .1 .0) (f .fill-all .ensures) (reads-one e (f .fill-all .ensures .exact) (c .before .before .before .before .in-first .ensures .is (not-false _ (c .before .before .before .if1 .left))) (c .before .in-second .ensures .isnt (c .if2 .left))))
 
 pub judge-spec : {M : Type 1} → statement M
 judge-spec =
@@ -74,8 +73,8 @@ judge-spec =
     (tie.spec
     ordered-requires
     array-share-prefix-codes
-    slice-aggregate-fill
-    fill-requires
+    slice-aggregate-fill-all
+    fill-all-requires
     in-first-requires
     same-length
     returns

@@ -3,7 +3,6 @@ use borrow.Author.Needs.{needs}
 use mathlib.Core.Path.{_≡_, sym, ap, subst, subst₃}
 use Prim.Native.Nat.{ℕ, _+_, _-_, _≤_, _<_}
 use native.Mathlib.Omega.{arith}
-use Rattle.sets.proofs.Says.{says-leb}
 use Rattle.grammar.specs.declared.Token.{Token}
 use Rattle.grammar.specs.Layout.{Keeps, Pairs}
 use Rattle.marks.specs.Drafts.{half}
@@ -25,7 +24,7 @@ first-marks-requires c κs = search needs
 returns : tie.Need-returns Inv-loop μ-loop
 returns c =
     let z = c .before .before .args in
-    subst (Marked (half (z .t1)) (z .start) (z .len)) (sym (c .first-marks .ensures)) (no-tokens _ _ _ _ _ (c .before .if1 .taken))
+    subst (Marked (half (z .t1)) (z .start) (z .len)) (sym (c .first-marks .ensures)) (no-tokens _ _ _ _ (c .before .if1 .taken))
 
 mul-a : tie.Need-mul-a Inv-loop μ-loop
 mul-a c = omega arith
@@ -42,7 +41,7 @@ loop-holds c =
       omega arith,
       omega (arith, c .before .before .if1 .left),
       subst (SoFar (half (z .t1)) (z .start) (z .len) 1) (sym (c .first-marks2 .ensures))
-          (so-far-first _ _ _ _ _ (says-leb (z .t1 .known) (z .start)) (ap (λ (t : Token). t .terminal) (sym (drafted-at (z .t1) (z .start) (omega arith))))),
+          (so-far-first _ _ _ _ (ap (λ (t : Token). t .terminal) (sym (drafted-at (z .t1) (z .start) (omega arith))))),
     )
 
 add-at : tie.Need-add-at Inv-loop μ-loop

@@ -24,7 +24,6 @@ returns c = record {
   single = kept _;
   align = grown _ _ _ (c .before .with .ensures);
   indent = grown _ _ _ (c .with2 .ensures);
-  opens = refl;
   terminal = refl;
 }
 

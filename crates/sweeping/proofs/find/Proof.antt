@@ -42,11 +42,11 @@ ordered-requires c κs = search needs
 array-share-prefix-codes : tie.Need-array-share-prefix-codes
 array-share-prefix-codes c = search needs
 
-slice-aggregate-search : tie.Need-slice-aggregate-search
-slice-aggregate-search c = sym (c .before .ordered .ensures .1)
+slice-aggregate-find-among : tie.Need-slice-aggregate-find-among
+slice-aggregate-find-among c = sym (c .before .ordered .ensures .1)
 
-search-requires : tie.Need-search-requires
-search-requires c κs =
+find-among-requires : tie.Need-find-among-requires
+find-among-requires c κs =
     let a = c .before .before .before .before .before .before .before .before .before .before in
     let f = c .before .before .before .before .before .before .first-from in
     (a .pre .0, (lowest-of _ (f .result) _ (c .before .before .before .before .f .given .1) (f .ensures), (c .before .before .ordered .ensures .0 .distinct (a .pre .1 .0 .distinct), a .pre .1 .1)))
@@ -60,7 +60,7 @@ returns-2 c =
     let n = e .before .before .before .before .before in
     let s = n .before in
     let z = s .before .before in
-    let r = c .before .before .search in
+    let r = c .before .before .find-among in
     (found-of (among-terminal (z .args .g) (s .terminals .result) (z .pre .1 .0) (s .terminals .ensures)) (searched-all (n .needed .ensures) (searched-over (e .ordered .ensures .0) (r .ensures .0))), r .ensures .1)
 
 pub find-spec : {M : Type 1} → statement M
@@ -76,7 +76,7 @@ find-spec =
     returns
     ordered-requires
     array-share-prefix-codes
-    slice-aggregate-search
-    search-requires
+    slice-aggregate-find-among
+    find-among-requires
     same-length
     returns-2)

@@ -1,4 +1,4 @@
--- The search meets its contract. Outer loop: no shorter candidate has two trees. Inner loop: no earlier one has, and the span sheet is right as far as it was kept.
+-- The search meets its contract. Outer loop: no shorter candidate has two trees. Inner loop: no earlier one has.
 -- The measures are the lengths, and the candidates with the cells, that are left.
 use borrow.Author.Needs.{needs}
 use borrow.Author.Tests.{not-true, not-false}
@@ -19,16 +19,16 @@ use Rattle.sweeping.proofs.search.Statement.{statement}
 use Rattle.sweeping.proofs.search.Tie as tie
 
 abbrev Inv-loop : tie.InvT-loop
-Inv-loop codes set low k words₀ n c₀ b₀ right₀ on₀ words c b right on = Turn (decoded codes) set n b right on (cells c 0 n) words × Past (2 * pairs k) words₀ words
+Inv-loop codes set table one two low k words₀ n c₀ b₀ words c b = Turn (decoded codes) set n b (cells c 0 n) × Past (2 * pairs k) words₀ words
 
 abbrev μ-loop : tie.MeasureT-loop
-μ-loop codes set low k words₀ n c₀ b₀ right₀ on₀ words c b right on = left (cells c 0 n) * 8 + (n - b)
+μ-loop codes set table one two low k words₀ n c₀ b₀ words c b = left (cells c 0 n) * 8 + (n - b)
 
 abbrev Inv-search : tie.InvT-search
-Inv-search codes set low k words₀ n₀ words n = (1 ≤ n) × (n ≤ k + 1) × NoneShorter (decoded codes) set n × Past (2 * pairs k) words₀ words
+Inv-search codes set table one two low k words₀ n₀ words n = (1 ≤ n) × (n ≤ k + 1) × NoneShorter (decoded codes) set n × Past (2 * pairs k) words₀ words
 
 abbrev μ-search : tie.MeasureT-search
-μ-search codes set low k words₀ n₀ words n = k + 1 - n
+μ-search codes set table one two low k words₀ n₀ words n = k + 1 - n
 
 search-holds : tie.Need-search-holds Inv-loop μ-loop Inv-search μ-search
 search-holds c = (omega arith, omega arith, none-yet, past-same _ _)
@@ -38,7 +38,7 @@ nothing-requires c κs = search needs
 
 first-requires : tie.Need-first-requires Inv-loop μ-loop Inv-search μ-search
 first-requires c κs =
-    let a = c .before .before .before .before in
+    let a = c .before .before .before .before .before in
     ((c .before .search .inv .0, omega (arith, c .if1 .left, a .pre .0 .1)), a .pre .1 .0)
 
 loop-holds : tie.Need-loop-holds Inv-loop μ-loop Inv-search μ-search
@@ -46,54 +46,39 @@ loop-holds c = (turn-first (c .first .ensures), past-same _ _)
 
 -- n is at most 7 in the inner loop
 small : (c : tie.At-loop Inv-loop μ-loop Inv-search μ-search) → c .before .before .before .search .n ≤ 7
-small c = omega (arith, c .before .before .if1 .left, c .before .before .before .before .before .before .pre .0 .1)
+small c = omega (arith, c .before .before .if1 .left, c .before .before .before .before .before .before .before .pre .0 .1)
 
 -- what the looks of this length have changed
 changed : (c : tie.After-look Inv-loop μ-loop Inv-search μ-search)
-    → Past (2 * pairs (c .before .before .before .before .before .before .before .before .args .k)) (c .before .before .before .before .before .search .words) (c .look .last .1 .1 .1 .1 .1 .1 .1 .0)
-changed c = let l = c .before .before in past-then (l .loop .inv .1) (past-longer _ (l .before .before .if1 .left) (c .look .ensures .past))
+    → Past (2 * pairs (c .before .before .before .before .before .before .before .before .before .args .k)) (c .before .before .before .before .before .search .words) (c .look .last .1 .1 .1 .1 .1 .1 .1 .1 .0)
+changed c = let l = c .before .before in past-then (l .loop .inv .1) (past-longer _ (l .before .before .if1 .left) (c .look .ensures .1))
 
 look-requires : tie.Need-look-requires Inv-loop μ-loop Inv-search μ-search
 look-requires c κs =
     let l = c .before in
     let at = l .before .before .before in
-    let a = at .before .before .before in (
-      (at .search .inv .0, small l),
-      (
-        a .pre .1 .1 .0,
-        (
-          omega (arith, a .pre .1 .1 .1, at .search .inv .3 .long, l .loop .inv .1 .long, pairs-mono (at .search .n) (a .args .k) (l .before .before .if1 .left)),
-          l .loop .inv .0,
-        ),
-      ),
-    )
+    let a = at .before .before .before .before in
+    let t = l .loop .inv .0 in
+    let m = pairs-mono (at .search .n) (a .args .k) (l .before .before .if1 .left) in
+    ((small l, t .known, t .before .candidate), (a .pre .1 .1 .0, (omega (arith, a .pre .1 .1 .1 .0, at .search .inv .3 .long, l .loop .inv .1 .long, m), a .pre .1 .1 .1 .1)))
 
 successor-requires : tie.Need-successor-requires Inv-loop μ-loop Inv-search μ-search
 successor-requires c κs =
     let l = c .before .before .before .before .before in
     let at = l .before .before .before in
-    ((at .search .inv .0, small l, l .loop .inv .0 .known), (at .before .before .before .pre .1 .0, l .loop .inv .0 .before .candidate))
-
-sub-least : tie.Need-sub-least Inv-loop μ-loop Inv-search μ-search
-sub-least c = c .before .before .before .successor .ensures .next (not-false _ (c .before .if3 .left)) .low
-
-least-requires : tie.Need-least-requires Inv-loop μ-loop Inv-search μ-search
-least-requires c κs = search needs
+    ((at .search .inv .0, small l, l .loop .inv .0 .known), (at .before .before .before .before .pre .1 .0, l .loop .inv .0 .before .candidate))
 
 loop-less : tie.Need-loop-less Inv-loop μ-loop Inv-search μ-search
 loop-less c =
-    let l = c .before .before .before .before .before .before .before .before .before .before in
-    let f = c .before .before .before .before .successor .ensures .next (not-false _ (c .before .before .if3 .left)) in
+    let l = c .before .before .before .before .before .before .before .before .before in
+    let f = c .before .before .before .successor .ensures .next (not-false _ (c .before .if3 .left)) in
     omega (arith, small l, next-falls (small l) (l .loop .inv .0) f)
 
 loop-again : tie.Need-loop-again Inv-loop μ-loop Inv-search μ-search
 loop-again c =
-    let l = c .before .before .before .before .before .before .before .before .before .before in
-    let v = c .before .before .before .before .before .before .before .before in
-    let f = c .before .before .before .before .successor .ensures .next (not-false _ (c .before .before .if3 .left)) in (
-      turn-next (l .loop .inv .0) (v .look .ensures) (c .least .result) (c .before .before .before .before .before .if2 .taken) f (omega (arith, c .least .ensures)) (omega (arith, c .least .ensures)),
-      changed v,
-    )
+    let v = c .before .before .before .before .before .before .before in
+    let f = c .before .before .before .successor .ensures .next (not-false _ (c .before .if3 .left)) in
+    (turn-next (v .before .before .loop .inv .0) (v .look .ensures .0) (c .before .before .before .before .if2 .taken) f, changed v)
 
 add-b : tie.Need-add-b Inv-loop μ-loop Inv-search μ-search
 add-b c = omega (arith, c .before .before .before .before .before .before .loop .inv .0 .known, small (c .before .before .before .before .before .before))
@@ -102,9 +87,7 @@ loop-less-2 : tie.Need-loop-less-2 Inv-loop μ-loop Inv-search μ-search
 loop-less-2 c = omega (arith, c .before .before .before .before .before .before .loop .inv .0 .known, c .if4 .left)
 
 loop-again-2 : tie.Need-loop-again-2 Inv-loop μ-loop Inv-search μ-search
-loop-again-2 c =
-    let v = c .before .before .before .before in
-    (turn-more (v .before .before .loop .inv .0) (v .look .ensures) (c .if4 .left), changed v)
+loop-again-2 c = let v = c .before .before .before .before in (turn-more (v .before .before .loop .inv .0) (c .if4 .left), changed v)
 
 add-n : tie.Need-add-n Inv-loop μ-loop Inv-search μ-search
 add-n c = omega (arith, small (c .before .before .before .before .before .before .before .before))
@@ -120,7 +103,7 @@ search-again c =
     let t = l .loop .inv .0 in (
       omega arith,
       omega (arith, l .before .before .if1 .left),
-      longer (at .search .inv .2) (t .before) (ruled-out t (v .look .ensures) (c .before .before .before .if2 .taken)) (c .before .before .successor .ensures .none (not-true _ (c .if3 .taken))),
+      longer (at .search .inv .2) (t .before) (ruled-out t (v .look .ensures .0) (c .before .before .before .if2 .taken)) (c .before .before .successor .ensures .none (not-true _ (c .if3 .taken))),
       past-then (at .search .inv .3) (changed v),
     )
 
@@ -144,7 +127,7 @@ returns-2 c =
         low = at .search .inv .0;
         high = l .before .before .if1 .left;
         before = l .loop .inv .0 .before;
-        two = v .look .ensures .looked .two (c .before .if2 .left) (c .if4 .taken);
+        two = v .look .ensures .0 .two (c .before .if2 .left) (c .if4 .taken);
         shorter = at .search .inv .2;
       }),
       past-then (at .search .inv .3) (changed v),
@@ -164,8 +147,6 @@ search-spec =
     loop-holds
     look-requires
     successor-requires
-    sub-least
-    least-requires
     loop-less
     loop-again
     add-b

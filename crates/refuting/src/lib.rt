@@ -1,0 +1,362 @@
+// Refuting a block of candidates: terminals first, from the last token backward, then positions.
+use candidates::Candidate;
+use chart::fill_all;
+use chart::hopeless;
+use grammar::Cell;
+use grammar::Column;
+use grammar::Line;
+use grammar::Token;
+use grammar::Width;
+use marks::Draft;
+use sets::has;
+use spans::in_second;
+use spans::pair_at;
+use spans::write;
+ghost use mathlib.Core.Path.{_≡_};
+ghost use mathlib.Core.Bool.{true, false};
+ghost use Prim.Native.Nat.{_+_, _*_, _≤_, _<_};
+ghost use lib.ListN.{length, getD};
+ghost use Rattle.sets.specs.Says.{Says};
+ghost use Rattle.codes.specs.Codes.{decoded};
+ghost use Rattle.grammar.specs.Choices.{Distinct};
+ghost use Rattle.grammar.specs.Trees.{TwoTrees};
+ghost use Rattle.grammar.specs.SpanSheet.{pairs, pairAt};
+ghost use Rattle.spans.specs.Changes.{Past, Wrote};
+ghost use Rattle.grammar.specs.Candidates.{sentence};
+ghost use Rattle.marks.specs.Drafts.{drafted};
+ghost use Rattle.candidates.specs.Arrays.{cells};
+ghost use Rattle.candidates.specs.Spelling.{LowSteps};
+ghost use Rattle.refuting.specs.Refuting.{Standing, Moved, Rises, terminalAt, Turned, Loose, Poised, Tried, Ended, Spent, Struck, Done, Refuted, Freed};
+ghost use Rattle.refuting.specs.Leaves.{Allows, Leaf, Leaves, OneToken, United, Gathered, Tabled};
+
+// The candidate's sentence of n tokens, of which the first `known` count.
+fn draft(c: Candidate, n: usize, known: usize) -> Draft
+    requires { ⌜ (n ≤ 7) × LowSteps (cells c 0 n) ⌝ }
+    ensures { λ d. ⌜ (drafted d ≡ sentence (cells c 0 n)) × (d .count ≡ n) × (d .known ≡ known) ⌝ }
+{
+    let w = c.sentence(n);
+    let tokens = w.tokens;
+    Draft {
+        tokens,
+        count: n,
+        known,
+    }
+}
+
+// The candidate with the k-th position at i: the line step k / n and the column k % n + 1.
+fn moved(c: Candidate, n: usize, i: usize, k: usize) -> Candidate
+    requires { ⌜ (n ≤ 7) × (i < n) × (k < 3 * n) ⌝ }
+    requires { ⌜ LowSteps (cells c 0 n) ⌝ }
+    ensures { λ r. ⌜ Moved n i k (cells c 0 n) (cells r 0 n) × LowSteps (cells r 0 n) ⌝ }
+{
+    let d = c.cell(i);
+    let step = (k / n) as u8;
+    let column = (k % n + 1) as u16;
+    c.with(
+        i,
+        Cell {
+            terminal: d.terminal,
+            step,
+            column,
+        },
+    )
+}
+
+// Does the cell at i come after the one before?
+fn rises(c: Candidate, n: usize, i: usize) -> bool
+    requires { ⌜ (n ≤ 7) × (i < n) ⌝ }
+    ensures { λ r. ⌜ (r ≡ false → Rises (cells c 0 n) i → ⊥) ⌝ }
+{
+    let d = c.cell(i);
+    let p = c.column_before(i);
+    if d.step == 0 {
+        return p < d.column;
+    }
+    i != 0
+}
+
+// Try the position at i of the candidate c: is it refuted? If not, the words are filled with it.
+fn shut(codes: &[u64], c: Candidate, n: usize, i: usize, words: &mut [u64]) -> bool
+    requires { ⌜ (n ≤ 7) × (i < n) × LowSteps (cells c 0 n) ⌝ }
+    requires { ⌜ Distinct (decoded (now codes)) ⌝ }
+    requires { ⌜ 2 * pairs n ≤ length (now words) ⌝ }
+    requires { ⌜ Standing (decoded (now codes)) n i (cells c 0 n) (now words) ⌝ }
+    ensures { λ r. ⌜ Tried r (decoded (now (codes .entry))) n i (cells c 0 n) (now (words .entry)) (now (words .exit)) ⌝ }
+{
+    if !rises(c, n, i) {
+        return true;
+    }
+    if c.stale(n, i + 1) {
+        return true;
+    }
+    let d = draft(c, n, i + 1);
+    hopeless(words, d, codes, i, n)
+}
+
+// Is a candidate that shares the first i cells of c, and has its terminals, perhaps the first with two trees?
+fn places(codes: &[u64], c: Candidate, n: usize, i: usize, words: &mut [u64]) -> bool
+    requires { ⌜ (n ≤ 7) × (i ≤ n) × LowSteps (cells c 0 n) ⌝ }
+    requires { ⌜ Distinct (decoded (now codes)) ⌝ }
+    requires { ⌜ 2 * pairs n ≤ length (now words) ⌝ }
+    requires { ⌜ Standing (decoded (now codes)) n i (cells c 0 n) (now words) ⌝ }
+    ensures { λ r. ⌜ Ended r (decoded (now (codes .entry))) n i (cells c 0 n) (now (words .entry)) (now (words .exit)) ⌝ }
+{
+    if i == n {
+        return true;
+    }
+    let mut k: usize = 0;
+    while k < 3 * n {
+        let m = moved(c, n, i, k);
+        if shut(codes, m, n, i, words) {
+            k += 1;
+            continue;
+        }
+        if places(codes, m, n, i + 1, words) {
+            return true;
+        }
+        k += 1;
+    }
+    false
+}
+
+// The positions of c, all its terminals being fixed: the same, and where all are refuted the spans of tokens from b on are
+// filled for open positions again.
+fn positions(codes: &[u64], c: Candidate, n: usize, b: usize, words: &mut [u64]) -> bool
+    requires { ⌜ (n ≤ 7) × (b ≤ n) × LowSteps (cells c 0 n) ⌝ }
+    requires { ⌜ Distinct (decoded (now codes)) ⌝ }
+    requires { ⌜ 2 * pairs n ≤ length (now words) ⌝ }
+    requires { ⌜ Standing (decoded (now codes)) n b (cells c 0 n) (now words) ⌝ }
+    ensures { λ r. ⌜ Spent r (decoded (now (codes .entry))) n b (cells c 0 n) (now (words .entry)) (now (words .exit)) ⌝ }
+{
+    if places(codes, c, n, b, words) {
+        return true;
+    }
+    let d = draft(c, n, b);
+    hopeless(words, d, codes, b, n);
+    false
+}
+
+// The candidate with the terminal x at j.
+fn turned(c: Candidate, n: usize, j: usize, x: u8) -> Candidate
+    requires { ⌜ (n ≤ 7) × (j < n) ⌝ }
+    requires { ⌜ LowSteps (cells c 0 n) ⌝ }
+    ensures { λ r. ⌜ Turned j x (cells c 0 n) (cells r 0 n) × LowSteps (cells r 0 n) ⌝ }
+{
+    let d = c.cell(j);
+    c.with(
+        j,
+        Cell {
+            terminal: x,
+            step: d.step,
+            column: d.column,
+        },
+    )
+}
+
+// Give the token at j a pair.
+fn give(words: &mut [u64], n: usize, j: usize, one: u64, two: u64)
+    requires { ⌜ (n ≤ 7) × (j < n) ⌝ }
+    requires { ⌜ 2 * pairs n ≤ length (now words) ⌝ }
+    ensures { λ r. ⌜ Wrote (now (words .entry)) (now (words .exit)) (pairAt n j 1) one two ⌝ }
+{
+    let p = pair_at(n, j, 1);
+    write(words, p, one, two);
+}
+
+// Try the terminal x of c at j, whose pair the table has: is it refuted? The words are filled with it.
+fn struck(
+    codes: &[u64],
+    set: u64,
+    table: &[u64],
+    c: Candidate,
+    n: usize,
+    b: usize,
+    j: usize,
+    x: u8,
+    words: &mut [u64],
+) -> bool
+    requires { ⌜ (n ≤ 7) × (b ≤ j) × (j < n) × LowSteps (cells c 0 n) ⌝ }
+    requires { ⌜ Distinct (decoded (now codes)) ⌝ }
+    requires { ⌜ 2 * pairs n ≤ length (now words) ⌝ }
+    requires { ⌜ (length (now table) ≡ 128) × (x < 64) × (terminalAt (cells c 0 n) j ≡ x) × Allows (decoded (now codes)) x (getD (now table) (2 * x) 0) (getD (now table) (2 * x + 1) 0) ⌝ }
+    requires { ⌜ Loose (decoded (now codes)) set n b j (cells c 0 n) (now words) ⌝ }
+    ensures { λ r. ⌜ Struck r (decoded (now (codes .entry))) set n b j (cells c 0 n) (now (words .entry)) (now (words .exit)) ⌝ }
+{
+    let at = 2 * (x as usize);
+    give(words, n, j, table[at], table[at + 1]);
+    let d = draft(c, n, b);
+    hopeless(words, d, codes, b, j + 1)
+}
+
+// Is a candidate that shares the first b cells of c, and has its terminals from j on, perhaps the first with two trees?
+// `one` and `two` are the pair of a token that may have any terminal of the set.
+fn terms(
+    codes: &[u64],
+    set: u64,
+    table: &[u64],
+    one: u64,
+    two: u64,
+    c: Candidate,
+    n: usize,
+    b: usize,
+    j: usize,
+    words: &mut [u64],
+) -> bool
+    requires { ⌜ (n ≤ 7) × (b ≤ j) × (j ≤ n) × LowSteps (cells c 0 n) ⌝ }
+    requires { ⌜ Distinct (decoded (now codes)) ⌝ }
+    requires { ⌜ 2 * pairs n ≤ length (now words) ⌝ }
+    requires { ⌜ Tabled (decoded (now codes)) set (now table) one two ⌝ }
+    requires { ⌜ Poised (decoded (now codes)) set n b j (cells c 0 n) (now words) ⌝ }
+    ensures { λ r. ⌜ Done r (decoded (now (codes .entry))) set n b j (cells c 0 n) (now (words .entry)) (now (words .exit)) ⌝ }
+{
+    if j == b {
+        return positions(codes, c, n, b, words);
+    }
+    let i = j - 1;
+    let mut x: u8 = 0;
+    while x < 64 {
+        if !has(set, x) {
+            x += 1;
+            continue;
+        }
+        let m = turned(c, n, i, x);
+        if struck(codes, set, table, m, n, b, i, x, words) {
+            x += 1;
+            continue;
+        }
+        if terms(codes, set, table, one, two, m, n, b, i, words) {
+            return true;
+        }
+        x += 1;
+    }
+    give(words, n, i, one, two);
+    false
+}
+
+// Give the tokens from b on the pair of a token that may have any terminal of the set.
+fn free(words: &mut [u64], n: usize, b: usize, one: u64, two: u64)
+    requires { ⌜ (n ≤ 7) × (b ≤ n) ⌝ }
+    requires { ⌜ 2 * pairs n ≤ length (now words) ⌝ }
+    ensures { λ r. ⌜ Freed n b n one two (now (words .entry)) (now (words .exit)) ⌝ }
+{
+    let mut i = b;
+    while i < n {
+        give(words, n, i, one, two);
+        i += 1;
+    }
+}
+
+// Is no candidate that shares the first b cells of c the first with two trees? (Where the answer is no, one may be.)
+pub fn refutes(
+    codes: &[u64],
+    set: u64,
+    table: &[u64],
+    one: u64,
+    two: u64,
+    c: Candidate,
+    n: usize,
+    b: usize,
+    words: &mut [u64],
+) -> bool
+    requires { ⌜ (n ≤ 7) × (b ≤ n) × LowSteps (cells c 0 n) ⌝ }
+    requires { ⌜ Distinct (decoded (now codes)) ⌝ }
+    requires { ⌜ 2 * pairs n ≤ length (now words) ⌝ }
+    requires { ⌜ Tabled (decoded (now codes)) set (now table) one two ⌝ }
+    ensures { λ r. ⌜ (r ≡ true → Refuted (decoded (now (codes .entry))) set n b n (cells c 0 n)) × Past (2 * pairs n) (now (words .entry)) (now (words .exit)) ⌝ }
+{
+    free(words, n, b, one, two);
+    let d = draft(c, n, b);
+    fill_all(words, d, codes);
+    !terms(codes, set, table, one, two, c, n, b, n, words)
+}
+
+// Has the candidate two trees?
+pub fn has_two(codes: &[u64], c: Candidate, n: usize, words: &mut [u64]) -> bool
+    requires { ⌜ (n ≤ 7) × LowSteps (cells c 0 n) ⌝ }
+    requires { ⌜ Distinct (decoded (now codes)) ⌝ }
+    requires { ⌜ 2 * pairs n ≤ length (now words) ⌝ }
+    ensures { λ r. ⌜ Says r (TwoTrees (decoded (now (codes .entry))) 0 (sentence (cells c 0 n))) × Past (2 * pairs n) (now (words .entry)) (now (words .exit)) ⌝ }
+{
+    let d = draft(c, n, n);
+    fill_all(words, d, codes);
+    in_second(words, n, 0, n, 0)
+}
+
+// One token with the terminal x.
+fn one_token(x: u8) -> Draft
+    ensures { λ d. ⌜ OneToken x d ⌝ }
+{
+    Draft {
+        tokens: [Token {
+            terminal: x,
+            line: Line(1),
+            column: Column(1),
+            width: Width(1),
+        }; 64],
+        count: 1,
+        known: 1,
+    }
+}
+
+// Work out the pair of the terminal x as a word of its own: the second pair of the words.
+fn leaf(words: &mut [u64], codes: &[u64], x: u8)
+    requires { ⌜ 4 ≤ length (now words) ⌝ }
+    requires { ⌜ Distinct (decoded (now codes)) ⌝ }
+    ensures { λ r. ⌜ Leaf (decoded (now (codes .entry))) x (getD (now (words .exit)) 2 0) (getD (now (words .exit)) 3 0) × Past 4 (now (words .entry)) (now (words .exit)) ⌝ }
+{
+    let d = one_token(x);
+    fill_all(words, d, codes);
+}
+
+// Fill the table with the pair of each terminal of the set, that of x at 2 x.
+pub fn leaves(words: &mut [u64], codes: &[u64], set: u64, table: &mut [u64])
+    requires { ⌜ 4 ≤ length (now words) ⌝ }
+    requires { ⌜ Distinct (decoded (now codes)) ⌝ }
+    requires { ⌜ length (now table) ≡ 128 ⌝ }
+    ensures { λ r. ⌜ Leaves (decoded (now (codes .entry))) set 64 (now (table .exit)) × Past 4 (now (words .entry)) (now (words .exit)) ⌝ }
+{
+    let mut x: u8 = 0;
+    while x < 64 {
+        if !has(set, x) {
+            x += 1;
+            continue;
+        }
+        leaf(words, codes, x);
+        write(table, x as usize, words[2], words[3]);
+        x += 1;
+    }
+}
+
+// Both sets as one.
+fn united(a: u64, b: u64) -> u64
+    ensures { λ r. ⌜ United a b r ⌝ }
+{
+    a | b
+}
+
+// The pair of a token that may have any terminal of the set.
+pub struct AnyOf {
+    pub one: u64,
+    pub two: u64,
+}
+
+// The pairs that the table has of the set's terminals, as one.
+pub fn whole(table: &[u64], set: u64) -> AnyOf
+    requires { ⌜ length (now table) ≡ 128 ⌝ }
+    ensures { λ r. ⌜ Gathered set 64 (now (table .entry)) (r .one) (r .two) ⌝ }
+{
+    let mut one: u64 = 0;
+    let mut two: u64 = 0;
+    let mut x: u8 = 0;
+    while x < 64 {
+        if !has(set, x) {
+            x += 1;
+            continue;
+        }
+        let at = 2 * (x as usize);
+        one = united(one, table[at]);
+        two = united(two, table[at + 1]);
+        x += 1;
+    }
+    AnyOf { one, two }
+}
