@@ -31,9 +31,9 @@ module _ (p : Sides) (k : SpanMarks) (len l n : ℕ) where
 
   pub split-took : (a b e : ℕ) (u : BinaryMark) {t v : Tally} → 3 ≤ kind n → a ≡ left n → b ≡ first n → e ≡ second n → u ≡ binaryMark (mark n)
       → In (p .left .one) b × In (p .right .one) e × BinaryBy k len u l
-      → Took (Unit {0}) (In (p .left .two) b ⊎ In (p .right .two) e) ⊥ a t v → Took (SplitFits p k len l (clause n)) (SplitBelow p (clause n)) ⊥ (left n) t v
+      → Took (Unit {0}) (In (p .left .two) b ⊎ In (p .right .two) e) a t v → Took (SplitFits p k len l (clause n)) (SplitBelow p (clause n)) (left n) t v
   split-took a b e u {t} {v} h w x y z q f =
-      subst₂ (λ (d : ℕ) (c : Clause). Took (SplitFits p k len l c) (SplitBelow p c) ⊥ d t v) w (is-binary n b e u h x y z) (took-if (λ i. q) (λ i. tt) f)
+      subst₂ (λ (d : ℕ) (c : Clause). Took (SplitFits p k len l c) (SplitBelow p c) d t v) w (is-binary n b e u h x y z) (took-if (λ i. q) (λ i. tt) f)
 
 -- ---- with the whole span on one side
 
@@ -42,7 +42,7 @@ module _ (one two : ℕ) (k : SpanMarks) (len n : ℕ) where
   wide-low t h = low-kind (λ (c : Clause). Wide one two k len (left n) c t t) n h refl (λ a b. refl)
 
   pub wide-unary : (a b : ℕ) (u : UnaryMark) {t v : Tally} → kind n ≡ 2 → a ≡ left n → b ≡ first n → u ≡ unaryMark (mark n)
-      → Took (In (t .one) b × UnaryBy k u) (In (t .two) b) ⊥ a t v → Wide one two k len (left n) (clause n) t v
+      → Took (In (t .one) b × UnaryBy k u) (In (t .two) b) a t v → Wide one two k len (left n) (clause n) t v
   wide-unary a b u {t} {v} h w x z f = subst₂ (λ (d : ℕ) (c : Clause). Wide one two k len d c t v) w (is-unary n b u h x z) f
 
   pub wide-binary : (a b e : ℕ) {t v : Tally} → 3 ≤ kind n → a ≡ left n → b ≡ first n → e ≡ second n

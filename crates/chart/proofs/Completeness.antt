@@ -20,16 +20,11 @@ use Rattle.grammar.specs.SpanSheet.{part}
 use Rattle.marks.specs.Half.{Half, Completes}
 use Rattle.marks.proofs.Words.{part-length, Cut, cut}
 use Rattle.marks.proofs.HalfLaws.{may-be, may-keep, may-pair}
-use Rattle.chart.specs.Tables.{Table, byTokens, Fits, Stand, Atomic, Rivals, Below, Again, rule}
+use Rattle.chart.specs.Tables.{Table, byTokens, Fits, Stand, Below, Again, rule}
 use Rattle.chart.specs.Tables.Again.{apart, below}
+use Rattle.grammar.specs.Choices.{Same}
 use Rattle.chart.specs.Filling.{Told}
 use Rattle.order.proofs.Places.{place}
-
-atomic? : (c : Clause) → Dec (Atomic c)
-atomic? Clause.Empty = no (λ x. x)
-atomic? (Clause.Atom a a′) = yes tt
-atomic? (Clause.Unary B m) = no (λ x. x)
-atomic? (Clause.Binary B C m) = no (λ x. x)
 
 -- ---- the top of a tree
 
@@ -170,13 +165,13 @@ module _ (one two : Table) (g : Rules) (hf : Half) (closed : Shut one g hf) (clo
       })))
 
   -- what is known of two trees t and t′ that stand at the same choice
-  Same : ℕ → ℕ → Tree → Type 0
-  Same s len t = (t′ : Tree) → Valid g t′ → root t ≡ root t′ → word t ≡ part ts s len → word t′ ≡ part ts s len → (t ≡ t′) ⊎ two s len (root t)
+  Agree : ℕ → ℕ → Tree → Type 0
+  Agree s len t = (t′ : Tree) → Valid g t′ → root t ≡ root t′ → word t ≡ part ts s len → word t′ ≡ part ts s len → (t ≡ t′) ⊎ two s len (root t)
 
-  same-unary : (s len A : ℕ) (u : Tree) → s + len ≤ upto → Told hf s len → Same s len u → word u ≡ part ts s len
+  same-unary : (s len A : ℕ) (u : Tree) → s + len ≤ upto → Told hf s len → Agree s len u → word u ≡ part ts s len
       → (i l : ℕ) → Stand one g (byTokens hf s len) s len A i l → Headed (unary A u) (rule g i .clause) l
       → (t′ : Tree) → Valid g t′ → A ≡ root t′ → word t′ ≡ part ts s len → Headed t′ (rule g i .clause) l → (unary A u ≡ t′) ⊎ two s len A
-  unfolding Same
+  unfolding Agree
   same-unary s len A u h k ih e i l c d (empty B) v r e′ d′ = let p = d .1 in let p′ = d′ .0 in inl (cc)
   same-unary s len A u h k ih e i l c d (leaf B t) v r e′ d′ = let p = d .1 in let p′ = d′ .2 in inl (cc)
   same-unary s len A u h k ih e i l c d (unary B w) (valid-unary m mem mark v) r e′ d′ =
@@ -188,10 +183,10 @@ module _ (one two : Table) (g : Rules) (hf : Half) (closed : Shut one g hf) (clo
   same-unary s len A u h k ih e i l c d (binary B w x) v r e′ d′ = let p = d .1 in let p′ = d′ .1 in inl (cc)
 
   same-binary : (s len A : ℕ) (u v : Tree) → s + len ≤ upto → Told hf s len → word u ++ word v ≡ part ts s len
-      → Same s (length (word u)) u → Same (s + length (word u)) (len - length (word u)) v
+      → Agree s (length (word u)) u → Agree (s + length (word u)) (len - length (word u)) v
       → (i l : ℕ) → Stand one g (byTokens hf s len) s len A i l → Headed (binary A u v) (rule g i .clause) l
       → (t′ : Tree) → Valid g t′ → A ≡ root t′ → word t′ ≡ part ts s len → Headed t′ (rule g i .clause) l → (binary A u v ≡ t′) ⊎ two s len A
-  unfolding Same
+  unfolding Agree
   same-binary s len A u v h o e iu iv i l c d (empty B) vt r e′ d′ = let p = d .1 in let p′ = d′ .0 in inl (cc)
   same-binary s len A u v h o e iu iv i l c d (leaf B t) vt r e′ d′ = let p = d .1 in let p′ = d′ .2 in inl (cc)
   same-binary s len A u v h o e iu iv i l c d (unary B w) vt r e′ d′ = let p = d .1 in let p′ = d′ .1 in inl (cc)
@@ -211,44 +206,29 @@ module _ (one two : Table) (g : Rules) (hf : Half) (closed : Shut one g hf) (clo
       ap₃ : A ≡ B → u ≡ w → v ≡ x → binary A u v ≡ binary B w x
       ap₃ a b c = cc
 
-  -- two trees over one token, by terminals, are one
-  leaves : (t t′ : Tree) (c c′ : Clause) (l l′ : ℕ) → root t ≡ root t′ → word t ≡ word t′ → Headed t c l → Headed t′ c′ l′ → Atomic c → Atomic c′ → t ≡ t′
-  leaves (empty A) t′ c c′ l l′ r e d d′ a a′ = absurd (subst Atomic (d .0) a)
-  leaves (unary A u) t′ c c′ l l′ r e d d′ a a′ = absurd (subst Atomic (d .1) a)
-  leaves (binary A u v) t′ c c′ l l′ r e d d′ a a′ = absurd (subst Atomic (d .1) a)
-  leaves (leaf A x) (empty B) c c′ l l′ r e d d′ a a′ = absurd (subst Atomic (d′ .0) a′)
-  leaves (leaf A x) (unary B u) c c′ l l′ r e d d′ a a′ = absurd (subst Atomic (d′ .1) a′)
-  leaves (leaf A x) (binary B u v) c c′ l l′ r e d d′ a a′ = absurd (subst Atomic (d′ .1) a′)
-  leaves (leaf A x) (leaf B y) c c′ l l′ r e d d′ a a′ = cc
-
-  -- the same, where the choices at the two tops are found
-  meet : (s len : ℕ) → s + len ≤ upto → Told hf s len → (t t′ : Tree) → root t ≡ root t′ → word t ≡ word t′ → (p : Top one g hf s len t) (p′ : Top one g hf s len t′)
+  -- two trees of a span are one, or the table has them: by the choices at their tops
+  meet : (s len : ℕ) → s + len ≤ upto → Told hf s len → (t t′ : Tree) → root t ≡ root t′ → (p : Top one g hf s len t) (p′ : Top one g hf s len t′)
       → (Headed t′ (rule g (p .i) .clause) (p .l) → (t ≡ t′) ⊎ two s len (root t)) → (t ≡ t′) ⊎ two s len (root t)
-  meet s len h k t t′ r e p p′ f = go (ℕ-discrete (p .i) (p′ .i)) (ℕ-discrete (p .l) (p′ .l))
+  meet s len h k t t′ r p p′ f = go (ℕ-discrete (p .i) (p′ .i)) (ℕ-discrete (p .l) (p′ .l))
     where
       other : Stand one g (byTokens hf s len) s len (root t) (p′ .i) (p′ .l)
       other = subst (λ (A : ℕ). Stand one g (byTokens hf s len) s len A (p′ .i) (p′ .l)) (sym r) (p′ .stand)
 
-      two-of : Rivals g (p .i) (p .l) (p′ .i) (p′ .l) → two s len (root t)
-      two-of n = closed₂ s len (root t) (inside₂ s len h) k (apart (p .i) (p .l) (p′ .i) (p′ .l) (p .stand) other n)
-
-      differ : ((p .i ≡ p′ .i) × (p .l ≡ p′ .l) → ⊥) → Dec (Atomic (rule g (p .i) .clause)) → Dec (Atomic (rule g (p′ .i) .clause)) → (t ≡ t′) ⊎ two s len (root t)
-      differ n (yes a) (yes a′) = inl (leaves t t′ (rule g (p .i) .clause) (rule g (p′ .i) .clause) (p .l) (p′ .l) r e (p .headed) (p′ .headed) a a′)
-      differ n (yes a) (no a′) = inr (two-of (record { other = n; unlike = λ x y. a′ y }))
-      differ n (no a) d = inr (two-of (record { other = n; unlike = λ x y. a x }))
+      differ : (Same (p .i) (p .l) (p′ .i) (p′ .l) → ⊥) → (t ≡ t′) ⊎ two s len (root t)
+      differ n = inr (closed₂ s len (root t) (inside₂ s len h) k (apart (p .i) (p .l) (p′ .i) (p′ .l) (p .stand) other n))
 
       go : Dec (p .i ≡ p′ .i) → Dec (p .l ≡ p′ .l) → (t ≡ t′) ⊎ two s len (root t)
       go (yes a) (yes b) = f (subst₂ (λ (i l : ℕ). Headed t′ (rule g i .clause) l) (sym a) (sym b) (p′ .headed))
-      go (yes a) (no n) = differ (λ q. n (q .1)) (atomic? (rule g (p .i) .clause)) (atomic? (rule g (p′ .i) .clause))
-      go (no n) q = differ (λ q. n (q .0)) (atomic? (rule g (p .i) .clause)) (atomic? (rule g (p′ .i) .clause))
+      go (yes a) (no n) = differ (λ q. n (q .1))
+      go (no n) q = differ (λ q. n (q .0))
 
   pub same : (t : Tree) → Valid g t → (s len : ℕ) → s + len ≤ upto
       → (t′ : Tree) → Valid g t′ → root t ≡ root t′ → word t ≡ part ts s len → word t′ ≡ part ts s len → (t ≡ t′) ⊎ two s len (root t)
-  unfolding Same
+  unfolding Agree
   same (empty A) v s len h t′ v′ r e e′ =
       apart-or (empty A) t′ v v′ s len h r e e′
       (λ k. let p = top one g hf closed ts cs upto far given (empty A) v s len h k e in
-      meet s len h k (empty A) t′ r (e ∙ sym e′) p (top one g hf closed ts cs upto far given t′ v′ s len h k e′) (λ d′. same-empty t′ v′ r e′ d′ (p .headed)))
+      meet s len h k (empty A) t′ r p (top one g hf closed ts cs upto far given t′ v′ s len h k e′) (λ d′. same-empty t′ v′ r e′ d′ (p .headed)))
     where
       same-empty : (t′ : Tree) → Valid g t′ → A ≡ root t′ → word t′ ≡ part ts s len → {c : Clause} {l : ℕ} → Headed t′ c l → Headed (empty A) c l → (empty A ≡ t′) ⊎ two s len A
       same-empty (empty B) w r e′ d′ d = inl (ap empty r)
@@ -258,7 +238,7 @@ module _ (one two : Table) (g : Rules) (hf : Half) (closed : Shut one g hf) (clo
   same (leaf A x) v s len h t′ v′ r e e′ =
       apart-or (leaf A x) t′ v v′ s len h r e e′
       (λ k. let p = top one g hf closed ts cs upto far given (leaf A x) v s len h k e in
-      meet s len h k (leaf A x) t′ r (e ∙ sym e′) p (top one g hf closed ts cs upto far given t′ v′ s len h k e′) (λ d′. same-leaf t′ v′ r e′ d′ (p .headed)))
+      meet s len h k (leaf A x) t′ r p (top one g hf closed ts cs upto far given t′ v′ s len h k e′) (λ d′. same-leaf t′ v′ r e′ d′ (p .headed)))
     where
       same-leaf : (t′ : Tree) → Valid g t′ → A ≡ root t′ → word t′ ≡ part ts s len → {c : Clause} {l : ℕ} → Headed t′ c l → Headed (leaf A x) c l → (leaf A x ≡ t′) ⊎ two s len A
       same-leaf (empty B) w r e′ d′ d = let p = d .2 in let p′ = d′ .0 in inl (cc)
@@ -269,7 +249,7 @@ module _ (one two : Table) (g : Rules) (hf : Half) (closed : Shut one g hf) (clo
       let ih = same u v s len h in
       apart-or (unary A u) t′ (valid-unary m mem mark v) v′ s len h r e e′
       (λ k. let p = top one g hf closed ts cs upto far given (unary A u) (valid-unary m mem mark v) s len h k e in
-      meet s len h k (unary A u) t′ r (e ∙ sym e′) p (top one g hf closed ts cs upto far given t′ v′ s len h k e′)
+      meet s len h k (unary A u) t′ r p (top one g hf closed ts cs upto far given t′ v′ s len h k e′)
       (λ d′. same-unary s len A u h k ih e (p .i) (p .l) (p .stand) (p .headed) t′ v′ r e′ d′))
   same (binary A u w) (valid-binary m mem mark v x) s len h t′ v′ r e e′ =
       let q = cut ts (word u) (word w) s len (omega arith) e in
@@ -278,5 +258,5 @@ module _ (one two : Table) (g : Rules) (hf : Half) (closed : Shut one g hf) (clo
       let iw = same w x (s + length (word u)) (len - length (word u)) (omega arith) in
       apart-or (binary A u w) t′ (valid-binary m mem mark v x) v′ s len h r e e′
       (λ k. let p = top one g hf closed ts cs upto far given (binary A u w) (valid-binary m mem mark v x) s len h k e in
-      meet s len h k (binary A u w) t′ r (e ∙ sym e′) p (top one g hf closed ts cs upto far given t′ v′ s len h k e′)
+      meet s len h k (binary A u w) t′ r p (top one g hf closed ts cs upto far given t′ v′ s len h k e′)
       (λ d′. same-binary s len A u w h k e iu iw (p .i) (p .l) (p .stand) (p .headed) t′ v′ r e′ d′))

@@ -21,7 +21,7 @@ use Rattle.marks.specs.Half.{Half}
 use Rattle.marks.specs.Marked.{Marked, UnaryBy, BinaryBy}
 use Rattle.chart.specs.declared.Tally.{Tally}
 use Rattle.chart.specs.declared.Sides.{Sides}
-use Rattle.chart.specs.Tables.{Table, One, Two, Leave, byTokens, byMarks, Fits, Stand, Atomic, Rivals, Below, Again, rule}
+use Rattle.chart.specs.Tables.{Table, One, Two, Leave, byTokens, byMarks, Fits, Stand, Below, Again, rule}
 use Rattle.chart.specs.Tables.Again.{apart, below}
 use Rattle.chart.specs.Passes.{Took, fell, stood, none, sidesAt, SplitFits, SplitBelow, SplitRow, row-none, row-more, Splits, splits-none, splits-more}
 use Rattle.chart.specs.Passes.{LeafFits, Leaves, leaves-none, leaves-more, Inner, by-leaves, by-splits, Beside, alone, both, Wide, Pass, pass-none, pass-more, resumed, Passes, passes-none, passes-more, Saturated}
@@ -30,9 +30,9 @@ use Rattle.chart.proofs.TallyLaws.{Done, Standing, took-one, took-two, 
 use Rattle.chart.proofs.Soundness.{sound-stand, sound-again}
 
 -- the same try, of what fits as well
-pub took-if : {fits fits′ below atom : Type 0} {a : ℕ} {t u : Tally} → (fits → fits′) → (fits′ → fits) → Took fits below atom a t u → Took fits′ below atom a t u
+pub took-if : {fits fits′ below : Type 0} {a : ℕ} {t u : Tally} → (fits → fits′) → (fits′ → fits) → Took fits below a t u → Took fits′ below a t u
 took-if to of (fell n e) = fell (λ q. n (of q)) e
-took-if to of (stood again atomic q w b f) = stood again atomic (to q) w b f
+took-if to of (stood again q w f) = stood again (to q) w f
 
 -- ---- tries that change nothing
 
@@ -182,12 +182,6 @@ split-inside p k len l x y (Clause.Atom a a′) q = tt
 split-inside p k len l x y (Clause.Unary B m) q = q
 split-inside p k len l x y (Clause.Binary B C m) q = (x, y)
 
-pub split-firm : (p : Sides) (k : SpanMarks) (len l : ℕ) (c : Clause) → SplitFits p k len l c → Atomic c → ⊥
-split-firm p k len l Clause.Empty q a = a
-split-firm p k len l (Clause.Atom b b′) q a = q
-split-firm p k len l (Clause.Unary B m) q a = a
-split-firm p k len l (Clause.Binary B C m) q a = a
-
 wide-done-on : (g : Rules) (len i : ℕ) (j l : ℕ) → WideDone g len (i + 1) j l → WideDone g len i j l
 wide-done-on g len i j l d = ⊎-elim inl (λ x. inr (omega (arith, x .0), x .1)) d
 
@@ -231,14 +225,14 @@ module _ (g : Rules) (h : Half) (inner : h .known ≤ length (h .word)) (distinc
   HasTwo A = TwoTrees g A (part (h .word) s len)
 
   abbrev pub Sounds : Done → Tally → Type 0
-  Sounds D t = From g Real HasOne HasTwo D t
+  Sounds D t = From Real HasOne HasTwo D t
 
   again-two : (A : ℕ) → Again (Truth g h) (Truth₂ g h) g (byTokens h s len) s len A → HasTwo A
   again-two = sound-again (Truth g h) (Truth₂ g h) g h inner distinct s len kn (λ a b A x y m. m) (λ a b A x y m. m)
 
   -- a choice that stands over what has trees has them
   brings : (i l : ℕ) (fits below′ : Type 0) → i < length g → (fits → Fits (Truth g h) (byTokens h s len) s len (rule g i .clause) l)
-      → (fits → below′ → Below (Truth₂ g h) s len (rule g i .clause) l) → Brings g Real HasOne HasTwo fits below′ (rule g i .left) i l
+      → (fits → below′ → Below (Truth₂ g h) s len (rule g i .clause) l) → Brings Real HasOne HasTwo fits below′ (rule g i .left) i l
   brings i l fits below′ w f b = record {
     stands = stand;
     one = λ x. sound-stand (Truth g h) g h inner s len kn (λ a b A x y m. m) (rule g i .left) i l (stand x);
@@ -256,11 +250,11 @@ module _ (g : Rules) (h : Half) (inner : h .known ≤ length (h .word)) (distinc
   leaf-truth (Clause.Binary B C m) q = absurd q
 
   leaves-from : {i : ℕ} {t : Tally} → i ≤ length g → Leaves k len g i t → Sounds (LeafDone g len i) t
-  leaves-from b leaves-none = from-none g Real HasOne HasTwo (LeafDone g len 0)
+  leaves-from b leaves-none = from-none Real HasOne HasTwo (LeafDone g len 0)
   leaves-from b (leaves-more {i = i} {t = t} {u = u} q w) =
-      from-took g Real HasOne HasTwo (LeafDone g len i) (LeafDone g len (i + 1)) i 0 (rule g i .left) t u
+      from-took Real HasOne HasTwo (LeafDone g len i) (LeafDone g len (i + 1)) i 0 (rule g i .left) t u
       (λ d. omega (arith, d .0)) (λ j l d. (omega (arith, d .0), d .1)) (λ x. (omega arith, leaf-inside k len (rule g i .clause) x))
-      (brings i 0 (LeafFits k len (rule g i .clause)) ⊥ (omega arith) (leaf-truth (rule g i .clause)) (λ x y. absurd y)) (λ x y. y) w (leaves-from (omega arith) q)
+      (brings i 0 (LeafFits k len (rule g i .clause)) ⊥ (omega arith) (leaf-truth (rule g i .clause)) (λ x y. absurd y)) w (leaves-from (omega arith) q)
 
   module _ (ws : List ℕ) (n : ℕ) (ground : Ground ws g h n s len) where
     split-truth : (l : ℕ) → 0 < l → l < len → (c : Clause) → SplitFits (sidesAt ws n s len l) k len l c → Fits (Truth g h) (byTokens h s len) s len c l
@@ -285,21 +279,21 @@ module _ (g : Rules) (h : Half) (inner : h .known ≤ length (h .word)) (distinc
     row-from : (l : ℕ) → 0 < l → l < len → {t u : Tally} {i : ℕ} → i ≤ length g → SplitRow (sidesAt ws n s len l) k len l g t i u → Sounds (SplitDone g len l 0) t → Sounds (SplitDone g len l i) u
     row-from l x y b row-none f = f
     row-from l x y b (row-more {i = i} {u = u} {v = v} q w) f =
-        from-took g Real HasOne HasTwo (SplitDone g len l i) (SplitDone g len l (i + 1)) i l (rule g i .left) u v
+        from-took Real HasOne HasTwo (SplitDone g len l i) (SplitDone g len l (i + 1)) i l (rule g i .left) u v
         (λ d. ⊎-elim (λ z. omega arith) (λ z. omega (arith, z .1)) (d .1)) (λ j m d. (d .0, ⊎-elim inl (λ z. inr (z .0, omega (arith, z .1))) (d .1)))
         (λ z. (split-inside (sidesAt ws n s len l) k len l x y (rule g i .clause) z, inr (refl, omega arith)))
         (brings i l (SplitFits (sidesAt ws n s len l) k len l (rule g i .clause)) (SplitBelow (sidesAt ws n s len l) (rule g i .clause)) (omega arith) (split-truth l x y (rule g i .clause)) (λ z. split-below l x y (rule g i .clause)))
-        (split-firm (sidesAt ws n s len l) k len l (rule g i .clause)) w (row-from l x y (omega arith) q f)
+        w (row-from l x y (omega arith) q f)
 
     splits-from : {l : ℕ} {t : Tally} → l ≤ len → Splits ws n s len k g l t → Sounds (SplitDone g len l 0) t
-    splits-from b splits-none = from-none g Real HasOne HasTwo (SplitDone g len 1 0)
+    splits-from b splits-none = from-none Real HasOne HasTwo (SplitDone g len 1 0)
     splits-from b (splits-more {l = l} {t = t} {u = u} q w) =
-        from-same g Real HasOne HasTwo (SplitDone g len l (length g)) (SplitDone g len (l + 1) 0) u (λ j m d. (d .0, inl (⊎-elim (λ z. omega arith) (λ z. omega (arith, z .0)) (d .1))))
+        from-same Real HasOne HasTwo (SplitDone g len l (length g)) (SplitDone g len (l + 1) 0) u (λ j m d. (d .0, inl (⊎-elim (λ z. omega arith) (λ z. omega (arith, z .0)) (d .1))))
         (row-from l (splits-pos q) (omega arith) (omega arith) w (splits-from (omega arith) q))
 
     pub inner-from : (t : Tally) → Inner ws n s len k g t → Sounds (InnerDone g len) t
-    inner-from t (by-leaves x q) = from-same g Real HasOne HasTwo (LeafDone g len (length g)) (InnerDone g len) t (λ j l d. d .1) (leaves-from (omega arith) q)
-    inner-from t (by-splits x q) = from-same g Real HasOne HasTwo (SplitDone g len len 0) (InnerDone g len) t (λ j l d. d .0) (splits-from (omega arith) q)
+    inner-from t (by-leaves x q) = from-same Real HasOne HasTwo (LeafDone g len (length g)) (InnerDone g len) t (λ j l d. d .1) (leaves-from (omega arith) q)
+    inner-from t (by-splits x q) = from-same Real HasOne HasTwo (SplitDone g len len 0) (InnerDone g len) t (λ j l d. d .0) (splits-from (omega arith) q)
 
   -- one and two have what has trees of the empty word
   module _ (one two : ℕ) (nulls : 0 < len → (a A : ℕ) → s ≤ a → a ≤ s + len → In one A → Derives g A (part (h .word) a 0))
@@ -308,35 +302,35 @@ module _ (g : Rules) (h : Half) (inner : h .known ≤ length (h .word)) (distinc
     at-part P a b c d e f p = subst (λ (x : ℕ). P x d) e (subst (λ (x : ℕ). P a x) f p)
 
     wide-from : (i : ℕ) → i < length g → (c : Clause) → rule g i .clause ≡ c → (t u : Tally) → Wide one two k len (rule g i .left) c t u → Sounds (WideDone g len (i + 1)) t → Sounds (WideDone g len i) u
-    wide-from i b Clause.Empty e t u w f = subst (Sounds (WideDone g len i)) (sym w) (from-same g Real HasOne HasTwo (WideDone g len (i + 1)) (WideDone g len i) t (wide-done-on g len i) f)
-    wide-from i b (Clause.Atom a a′) e t u w f = subst (Sounds (WideDone g len i)) (sym w) (from-same g Real HasOne HasTwo (WideDone g len (i + 1)) (WideDone g len i) t (wide-done-on g len i) f)
+    wide-from i b Clause.Empty e t u w f = subst (Sounds (WideDone g len i)) (sym w) (from-same Real HasOne HasTwo (WideDone g len (i + 1)) (WideDone g len i) t (wide-done-on g len i) f)
+    wide-from i b (Clause.Atom a a′) e t u w f = subst (Sounds (WideDone g len i)) (sym w) (from-same Real HasOne HasTwo (WideDone g len (i + 1)) (WideDone g len i) t (wide-done-on g len i) f)
     wide-from i b (Clause.Unary B m) e t u w f =
-        from-took g Real HasOne HasTwo (WideDone g len (i + 1)) (WideDone g len i) i 0 (rule g i .left) t u
+        from-took Real HasOne HasTwo (WideDone g len (i + 1)) (WideDone g len i) i 0 (rule g i .left) t u
         (wide-new g len i 0 (Clause.Unary B m) e (λ x. x)) (wide-done-on g len i) (λ x. inr (omega arith, subst (λ (y : Clause). Edge len y 0) (sym e) refl))
         (brings i 0 (In (t .one) B × UnaryBy k m) (In (t .two) B) b (λ x. subst (λ (y : Clause). Fits (Truth g h) (byTokens h s len) s len y 0) (sym e) (f .one B (x .0), marked .unary m .0 (x .1), refl))
         (λ x y. subst (λ (z : Clause). Below (Truth₂ g h) s len z 0) (sym e) (f .two B y)))
-        (λ x y. subst Atomic e y) w f
+        w f
     wide-from i b (Clause.Binary B C m) e t u (alone z w) f =
-        from-took g Real HasOne HasTwo (WideDone g len (i + 1)) (WideDone g len i) i 0 (rule g i .left) t u
+        from-took Real HasOne HasTwo (WideDone g len (i + 1)) (WideDone g len i) i 0 (rule g i .left) t u
         (wide-new g len i 0 (Clause.Binary B C m) e (λ x. omega (arith, x .0))) (wide-done-on g len i) (λ x. inr (omega arith, subst (λ (y : Clause). Edge len y 0) (sym e) (inl refl)))
         (brings i 0 (In (t .one) B × In (t .one) C) (In (t .two) B ⊎ In (t .two) C) b
         (λ x. subst (λ (y : Clause). Fits (Truth g h) (byTokens h s len) s len y 0) (sym e)
         (omega arith, at-part (λ (a b : ℕ). Derives g B (part (h .word) a b)) s len s 0 refl z (f .one B (x .0)), at-part (λ (a b : ℕ). Derives g C (part (h .word) a b)) s len (s + 0) (len - 0) (omega arith) (omega arith) (f .one C (x .1)), marked .binary m 0 (omega arith) .0 (edge-mark k len m 0 (λ p q. omega arith))))
         (λ x y. subst (λ (q : Clause). Below (Truth₂ g h) s len q 0) (sym e)
         (⊎-elim (λ q. inl (at-part (λ (a b : ℕ). TwoTrees g B (part (h .word) a b)) s len s 0 refl z (f .two B q))) (λ q. inr (at-part (λ (a b : ℕ). TwoTrees g C (part (h .word) a b)) s len (s + 0) (len - 0) (omega arith) (omega arith) (f .two C q))) y)))
-        (λ x y. subst Atomic e y) w f
+        w f
     wide-from i b (Clause.Binary B C m) e t u (both z v w w′) f = last
       where
         mid : Sounds (HalfDone g len i) v
         mid =
-            from-took g Real HasOne HasTwo (WideDone g len (i + 1)) (HalfDone g len i) i 0 (rule g i .left) t v
+            from-took Real HasOne HasTwo (WideDone g len (i + 1)) (HalfDone g len i) i 0 (rule g i .left) t v
             (wide-new g len i 0 (Clause.Binary B C m) e (λ x. omega (arith, x .0))) (λ j l d. inl d) (λ x. inr (refl, refl))
             (brings i 0 (In one B × In (t .one) C) (In two B ⊎ In (t .two) C) b
             (λ x. subst (λ (y : Clause). Fits (Truth g h) (byTokens h s len) s len y 0) (sym e)
             (omega arith, nulls z s B (omega arith) (omega arith) (x .0), at-part (λ (a b : ℕ). Derives g C (part (h .word) a b)) s len (s + 0) (len - 0) (omega arith) (omega arith) (f .one C (x .1)), marked .binary m 0 (omega arith) .0 (edge-mark k len m 0 (λ p q. omega arith))))
             (λ x y. subst (λ (q : Clause). Below (Truth₂ g h) s len q 0) (sym e)
             (⊎-elim (λ q. inl (nulls₂ z s B (omega arith) (omega arith) q)) (λ q. inr (at-part (λ (a b : ℕ). TwoTrees g C (part (h .word) a b)) s len (s + 0) (len - 0) (omega arith) (omega arith) (f .two C q))) y)))
-            (λ x y. subst Atomic e y) w f
+            w f
 
         half-new : HalfDone g len i i len → ⊥
         half-new d = ⊎-elim (wide-new g len i len (Clause.Binary B C m) e (λ x. omega (arith, x .1))) (λ x. omega (arith, x .1)) d
@@ -346,22 +340,22 @@ module _ (g : Rules) (h : Half) (inner : h .known ≤ length (h .word)) (distinc
 
         last : Sounds (WideDone g len i) u
         last =
-            from-took g Real HasOne HasTwo (HalfDone g len i) (WideDone g len i) i len (rule g i .left) v u
+            from-took Real HasOne HasTwo (HalfDone g len i) (WideDone g len i) i len (rule g i .left) v u
             half-new half-on (λ x. inr (omega arith, subst (λ (y : Clause). Edge len y len) (sym e) (inr refl)))
             (brings i len (In (v .one) B × In one C) (In (v .two) B ⊎ In two C) b
             (λ x. subst (λ (y : Clause). Fits (Truth g h) (byTokens h s len) s len y len) (sym e)
             (omega arith, mid .one B (x .0), at-part (λ (a b : ℕ). Derives g C (part (h .word) a b)) (s + len) 0 (s + len) (len - len) refl (omega arith) (nulls z (s + len) C (omega arith) (omega arith) (x .1)), marked .binary m len (omega arith) .0 (edge-mark k len m len (λ p q. omega arith))))
             (λ x y. subst (λ (q : Clause). Below (Truth₂ g h) s len q len) (sym e)
             (⊎-elim (λ q. inl (mid .two B q)) (λ q. inr (at-part (λ (a b : ℕ). TwoTrees g C (part (h .word) a b)) (s + len) 0 (s + len) (len - len) refl (omega arith) (nulls₂ z (s + len) C (omega arith) (omega arith) q))) y)))
-            (λ x y. subst Atomic e y) w′ mid
+            w′ mid
 
     pass-from : (t : Tally) → Sounds (InnerDone g len) t → {i : ℕ} {u : Tally} → Pass one two k len g t i u → Sounds (WideDone g len i) u
-    pass-from t f pass-none = from-same g Real HasOne HasTwo (InnerDone g len) (WideDone g len (length g)) t (λ j l d. inl d) f
+    pass-from t f pass-none = from-same Real HasOne HasTwo (InnerDone g len) (WideDone g len (length g)) t (λ j l d. inl d) f
     pass-from t f {i} (pass-more {u = u} {v = v} q w) = wide-from i (pass-within q) (rule g i .clause) refl u v w (pass-from t f q)
 
     pub passes-from : (b : Tally) → Sounds (InnerDone g len) b → {t : Tally} → Passes one two k len g b t → ((A : ℕ) → In (t .one) A → HasOne A) × ((A : ℕ) → In (t .two) A → HasTwo A)
     passes-from b f passes-none = (f .one, f .two)
     passes-from b f (passes-more {t = t} {u = u} q w) =
         let x = passes-from b f q in
-        let y = pass-from (resumed b t) (from-sets g Real HasOne HasTwo (InnerDone g len) b t f (x .0) (x .1)) w in
+        let y = pass-from (resumed b t) (from-sets Real HasOne HasTwo (InnerDone g len) b t f (x .0) (x .1)) w in
         (y .one, y .two)

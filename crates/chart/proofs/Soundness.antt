@@ -11,12 +11,12 @@ use Rattle.grammar.specs.declared.Clause.the-variants as Clause
 use Rattle.grammar.specs.Layout.{Word}
 use Rattle.grammar.specs.Layout as Mark
 use Rattle.grammar.specs.Trees.{Rules, Tree, empty, leaf, unary, binary, root, word, Valid, valid-empty, valid-leaf, valid-unary, valid-binary, Witness, Derives, TwoTrees}
-use Rattle.grammar.specs.Choices.{Alike, Distinct}
+use Rattle.grammar.specs.Choices.{Alike, Distinct, Same}
 use Rattle.grammar.specs.SpanSheet.{part}
 use Rattle.marks.specs.Half.{Half}
 use Rattle.marks.proofs.Words.{part-cut, part-length}
 use Rattle.marks.proofs.HalfLaws.{is-one, does-keep, does-pair}
-use Rattle.chart.specs.Tables.{Table, byTokens, Fits, Stand, Rivals, Below, Again, rule}
+use Rattle.chart.specs.Tables.{Table, byTokens, Fits, Stand, Below, Again, rule}
 use Rattle.chart.specs.Tables.Again.{apart, below}
 use Rattle.order.proofs.Places.{member}
 use Rattle.chart.proofs.RulePlaces.{distinct-at}
@@ -97,7 +97,7 @@ module _ (one : Table) (g : Rules) (hf : Half) (inner : hf .known ≤ length (hf
 
 module _ (one two : Table) (g : Rules) (hf : Half) (inner : hf .known ≤ length (hf .word)) (distinct : Distinct g) (s len : ℕ) (h : s + len ≤ hf .known) (sound : Sound one g hf s len) (sound₂ : Sound₂ two g hf s len) where
   -- two rules that stand have two trees
-  two-apart : (A i l j k : ℕ) → Stand one g (byTokens hf s len) s len A i l → Stand one g (byTokens hf s len) s len A j k → Rivals g i l j k → TwoTrees g A (part (hf .word) s len)
+  two-apart : (A i l j k : ℕ) → Stand one g (byTokens hf s len) s len A i l → Stand one g (byTokens hf s len) s len A j k → (Same i l j k → ⊥) → TwoTrees g A (part (hf .word) s len)
   two-apart A i l j k c d n =
       let t = grown one g hf inner s len h sound A i l c in
       let u = grown one g hf inner s len h sound A j k d in
@@ -108,7 +108,7 @@ module _ (one two : Table) (g : Rules) (hf : Half) (inner : hf .known ≤ length
         witness₂ = u .witness;
         differ = λ e.
             let a = headed-alike (t .tree) (rule g i .clause) (rule g j .clause) l k (t .headed) (subst (λ (x : Tree). Headed x (rule g j .clause) k) (sym e) (u .headed)) in
-            n .other (distinct-at distinct i j (c .within) (d .within) (c .left ∙ sym (d .left)) (a .0), a .1);
+            n (distinct-at distinct i j (c .within) (d .within) (c .left ∙ sym (d .left)) (a .0), a .1);
       }
 
   -- two trees below a rule have two trees above

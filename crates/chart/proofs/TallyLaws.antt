@@ -7,10 +7,9 @@ use native.Mathlib.Omega.{arith}
 use Rattle.sets.specs.Says.{Says}
 use Rattle.sets.specs.Sets.{In, insert}
 use Rattle.sets.proofs.Sets.{insert-same, insert-keeps, insert-only, insert-ge, in-zero}
-use Rattle.grammar.specs.Trees.{Rules}
 use Rattle.chart.specs.declared.Tally.{Tally}
-use Rattle.chart.specs.Tables.{Atomic, Rivals, rule}
-use Rattle.chart.specs.Passes.{rivalsOf, firmOf, Found, Took, fell, stood, none}
+use Rattle.grammar.specs.Choices.{Same}
+use Rattle.chart.specs.Passes.{Found, Took, fell, stood, none}
 
 -- the choices (rule, left length) that are done
 abbrev pub Done : Type 1
@@ -22,44 +21,41 @@ Standing = ℕ → ℕ → ℕ → Type 0
 
 -- ---- a try adds to the sets
 
-pub took-one : {fits below atom : Type 0} {a : ℕ} {t u : Tally} → Took fits below atom a t u → t .one ≤ u .one
+pub took-one : {fits below : Type 0} {a : ℕ} {t u : Tally} → Took fits below a t u → t .one ≤ u .one
 took-one (fell n e) = let q = ap (λ (x : Tally). x .one) e in omega arith
-took-one {a = a} {t} (stood again atomic q w b f) = omega (arith, insert-ge (t .one) a, f .one)
+took-one {a = a} {t} (stood again q w f) = omega (arith, insert-ge (t .one) a, f .one)
 
-pub took-two : {fits below atom : Type 0} {a : ℕ} {t u : Tally} → Took fits below atom a t u → t .two ≤ u .two
+pub took-two : {fits below : Type 0} {a : ℕ} {t u : Tally} → Took fits below a t u → t .two ≤ u .two
 took-two (fell n e) = let q = ap (λ (x : Tally). x .two) e in omega arith
-took-two {a = a} {t} (stood again atomic q w b f) = ⊎-elim (λ x. omega (arith, insert-ge (t .two) a, x .0)) (λ x. omega (arith, x .0)) (f .two)
+took-two {a = a} {t} (stood again q w f) = ⊎-elim (λ x. omega (arith, insert-ge (t .two) a, x .0)) (λ x. omega (arith, x .0)) (f .two)
 
-pub took-in-one : {fits below atom : Type 0} {a : ℕ} {t u : Tally} → Took fits below atom a t u → (A : ℕ) → In (t .one) A → In (u .one) A
+pub took-in-one : {fits below : Type 0} {a : ℕ} {t u : Tally} → Took fits below a t u → (A : ℕ) → In (t .one) A → In (u .one) A
 took-in-one (fell n e) A m = subst (λ (x : Tally). In (x .one) A) (sym e) m
-took-in-one {a = a} {t} (stood again atomic q w b f) A m = subst (λ (x : ℕ). In x A) (sym (f .one)) (insert-keeps (t .one) a m)
+took-in-one {a = a} {t} (stood again q w f) A m = subst (λ (x : ℕ). In x A) (sym (f .one)) (insert-keeps (t .one) a m)
 
-pub took-in-two : {fits below atom : Type 0} {a : ℕ} {t u : Tally} → Took fits below atom a t u → (A : ℕ) → In (t .two) A → In (u .two) A
+pub took-in-two : {fits below : Type 0} {a : ℕ} {t u : Tally} → Took fits below a t u → (A : ℕ) → In (t .two) A → In (u .two) A
 took-in-two (fell n e) A m = subst (λ (x : Tally). In (x .two) A) (sym e) m
-took-in-two {a = a} {t} (stood again atomic q w b f) A m = ⊎-elim (λ x. subst (λ (z : ℕ). In z A) (sym (x .0)) (insert-keeps (t .two) a m)) (λ x. subst (λ (z : ℕ). In z A) (sym (x .0)) m) (f .two)
+took-in-two {a = a} {t} (stood again q w f) A m = ⊎-elim (λ x. subst (λ (z : ℕ). In z A) (sym (x .0)) (insert-keeps (t .two) a m)) (λ x. subst (λ (z : ℕ). In z A) (sym (x .0)) m) (f .two)
 
 -- ---- what the tally has
 
 -- of the rules it has seen, each stands and is done; what is in its sets has P, and Q
-pub record From (r : Rules) (st : Standing) (P Q : ℕ → Type 0) (D : Done) (t : Tally) : Type 0 where
+pub record From (st : Standing) (P Q : ℕ → Type 0) (D : Done) (t : Tally) : Type 0 where
   pub seen : (A : ℕ) → In (t .seen) A → (j : ℕ) × (k : ℕ) × D j k × st A j k
-  pub firm : (A : ℕ) → In (t .firm) A → (j : ℕ) × (k : ℕ) × D j k × st A j k × (Atomic (rule r j .clause) → ⊥)
   pub one : (A : ℕ) → In (t .one) A → P A
   pub two : (A : ℕ) → In (t .two) A → Q A
 
-module _ (r : Rules) (st : Standing) (P Q : ℕ → Type 0) where
-  pub from-none : (D : Done) → From r st P Q D none
+module _ (st : Standing) (P Q : ℕ → Type 0) where
+  pub from-none : (D : Done) → From st P Q D none
   from-none D = record {
     seen = λ A h. absurd (in-zero A h);
-    firm = λ A h. absurd (in-zero A h);
     one = λ A h. absurd (in-zero A h);
     two = λ A h. absurd (in-zero A h);
   }
 
-  pub from-same : (D E : Done) (t : Tally) → ((j k : ℕ) → D j k → E j k) → From r st P Q D t → From r st P Q E t
+  pub from-same : (D E : Done) (t : Tally) → ((j k : ℕ) → D j k → E j k) → From st P Q D t → From st P Q E t
   from-same D E t to h = record {
     seen = λ A i. let q = h .seen A i in (q .0, q .1, to (q .0) (q .1) (q .2), q .3);
-    firm = λ A i. let q = h .firm A i in (q .0, q .1, to (q .0) (q .1) (q .2), q .3, q .4);
     one = h .one;
     two = h .two;
   }
@@ -69,15 +65,14 @@ module _ (r : Rules) (st : Standing) (P Q : ℕ → Type 0) where
     pub stands : fits → st a i l
     pub one : fits → P a
     pub below : fits → twice → Q a
-    pub apart : (j k : ℕ) → st a j k → fits → Rivals r j k i l → Q a
+    pub apart : (j k : ℕ) → st a j k → fits → (Same j k i l → ⊥) → Q a
 
   -- the choice (i, l) is tried
-  pub from-took : (D E : Done) (i l a : ℕ) {fits below atom : Type 0} (t u : Tally) → (D i l → ⊥) → ((j k : ℕ) → D j k → E j k) → (fits → E i l)
-      → Brings fits below a i l → (fits → Atomic (rule r i .clause) → atom) → Took fits below atom a t u → From r st P Q D t → From r st P Q E u
-  from-took D E i l a t u new to here br at (fell n e) h = subst (From r st P Q E) (sym e) (from-same D E t to h)
-  from-took D E i l a {atom = atom} t u new to here br at (stood again atomic q w b f) h = record {
+  pub from-took : (D E : Done) (i l a : ℕ) {fits below : Type 0} (t u : Tally) → (D i l → ⊥) → ((j k : ℕ) → D j k → E j k) → (fits → E i l)
+      → Brings fits below a i l → Took fits below a t u → From st P Q D t → From st P Q E u
+  from-took D E i l a t u new to here br (fell n e) h = subst (From st P Q E) (sym e) (from-same D E t to h)
+  from-took D E i l a t u new to here br (stood again q w f) h = record {
     seen = λ A m. ⊎-elim (λ x. let p = h .seen A x in (p .0, p .1, to (p .0) (p .1) (p .2), p .3)) (λ x. (i, l, here q, back A x)) (insert-only (t .seen) a A (subst (λ (x : ℕ). In x A) (f .seen) m));
-    firm = λ A m. firm atomic b A (subst (λ (x : ℕ). In x A) (f .firm) m);
     one = λ A m. ⊎-elim (h .one A) (λ x. subst P (sym x) (br .one q)) (insert-only (t .one) a A (subst (λ (x : ℕ). In x A) (f .one) m));
     two = λ A m.
         ⊎-elim (λ x. ⊎-elim (h .two A) (λ y. subst Q (sym y) (why (x .1))) (insert-only (t .two) a A (subst (λ (z : ℕ). In z A) (x .0) m)))
@@ -87,81 +82,66 @@ module _ (r : Rules) (st : Standing) (P Q : ℕ → Type 0) where
       back : (A : ℕ) → A ≡ a → st A i l
       back A e = subst (λ (x : ℕ). st x i l) (sym e) (br .stands q)
 
-      firm : (x : Bool) → Says x atom → (A : ℕ) → In (firmOf x t a) A → (j : ℕ) × (k : ℕ) × E j k × st A j k × (Atomic (rule r j .clause) → ⊥)
-      firm true y A m = let p = h .firm A m in (p .0, p .1, to (p .0) (p .1) (p .2), p .3, p .4)
-      firm false y A m = ⊎-elim (λ z. let p = h .firm A z in (p .0, p .1, to (p .0) (p .1) (p .2), p .3, p .4)) (λ z. (i, l, here q, back A z, λ s. y .isnt refl (at q s))) (insert-only (t .firm) a A m)
-
-      met : (x : Bool) → Says x atom → In (rivalsOf x t) a → Q a
-      met true y m = let p = h .firm a m in br .apart (p .0) (p .1) (p .3) q (record { other = λ e. new (subst₂ D (e .0) (e .1) (p .2)); unlike = λ c d. p .4 c })
-      met false y m = let p = h .seen a m in br .apart (p .0) (p .1) (p .3) q (record { other = λ e. new (subst₂ D (e .0) (e .1) (p .2)); unlike = λ c d. y .isnt refl (at q d) })
-
-      why : In (rivalsOf atomic t) a ⊎ (again ≡ true) → Q a
-      why (inl m) = met atomic b m
+      why : In (t .seen) a ⊎ (again ≡ true) → Q a
+      why (inl m) = let p = h .seen a m in br .apart (p .0) (p .1) (p .3) q (λ e. new (subst₂ D (e .0) (e .1) (p .2)))
       why (inr e) = br .below q (w .is e)
 
   -- a pass is resumed with other sets
-  pub from-sets : (D : Done) (b t : Tally) → From r st P Q D b → ((A : ℕ) → In (t .one) A → P A) → ((A : ℕ) → In (t .two) A → Q A)
-      → From r st P Q D (record { seen = b .seen; firm = b .firm; one = t .one; two = t .two })
-  from-sets D b t h p q = record { seen = h .seen; firm = h .firm; one = p; two = q }
+  pub from-sets : (D : Done) (b t : Tally) → From st P Q D b → ((A : ℕ) → In (t .one) A → P A) → ((A : ℕ) → In (t .two) A → Q A)
+      → From st P Q D (record { seen = b .seen; one = t .one; two = t .two })
+  from-sets D b t h p q = record { seen = h .seen; one = p; two = q }
 
 -- ---- what the tally misses: nothing
 
 -- each choice that is done and stands is counted (be: a word below it has two trees)
-pub record All (r : Rules) (st : Standing) (be D : Done) (t : Tally) : Type 0 where
+pub record All (st : Standing) (be D : Done) (t : Tally) : Type 0 where
   pub seen : (A j k : ℕ) → D j k → st A j k → In (t .seen) A
-  pub firm : (A j k : ℕ) → D j k → st A j k → (Atomic (rule r j .clause) → ⊥) → In (t .firm) A
   pub one : (A j k : ℕ) → D j k → st A j k → In (t .one) A
-  pub apart : (A j k j′ k′ : ℕ) → D j k → D j′ k′ → st A j k → st A j′ k′ → Rivals r j k j′ k′ → In (t .two) A
+  pub apart : (A j k j′ k′ : ℕ) → D j k → D j′ k′ → st A j k → st A j′ k′ → (Same j k j′ k′ → ⊥) → In (t .two) A
   pub below : (A j k : ℕ) → D j k → st A j k → be j k → In (t .two) A
 
-module _ (r : Rules) (st : Standing) (be : Done) where
-  pub all-none : (t : Tally) (D : Done) → ((A j k : ℕ) → D j k → st A j k → ⊥) → All r st be D t
+module _ (st : Standing) (be : Done) where
+  pub all-none : (t : Tally) (D : Done) → ((A j k : ℕ) → D j k → st A j k → ⊥) → All st be D t
   all-none t D non = record {
     seen = λ A j k d c. absurd (non A j k d c);
-    firm = λ A j k d c. absurd (non A j k d c);
     one = λ A j k d c. absurd (non A j k d c);
     apart = λ A j k j′ k′ d d′ c. absurd (non A j k d c);
     below = λ A j k d c. absurd (non A j k d c);
   }
 
-  pub all-same : (D E : Done) (t : Tally) → ((A j k : ℕ) → E j k → st A j k → D j k) → All r st be D t → All r st be E t
+  pub all-same : (D E : Done) (t : Tally) → ((A j k : ℕ) → E j k → st A j k → D j k) → All st be D t → All st be E t
   all-same D E t to h = record {
     seen = λ A j k d c. h .seen A j k (to A j k d c) c;
-    firm = λ A j k d c. h .firm A j k (to A j k d c) c;
     one = λ A j k d c. h .one A j k (to A j k d c) c;
     apart = λ A j k j′ k′ d d′ c c′. h .apart A j k j′ k′ (to A j k d c) (to A j′ k′ d′ c′) c c′;
     below = λ A j k d c. h .below A j k (to A j k d c) c;
   }
 
   -- a pass is resumed with greater sets
-  pub all-sets : (D : Done) (b t : Tally) → ((A : ℕ) → In (b .one) A → In (t .one) A) → ((A : ℕ) → In (b .two) A → In (t .two) A) → All r st be D b
-      → All r st be D (record { seen = b .seen; firm = b .firm; one = t .one; two = t .two })
+  pub all-sets : (D : Done) (b t : Tally) → ((A : ℕ) → In (b .one) A → In (t .one) A) → ((A : ℕ) → In (b .two) A → In (t .two) A) → All st be D b
+      → All st be D (record { seen = b .seen; one = t .one; two = t .two })
   all-sets D b t p q h = record {
     seen = h .seen;
-    firm = h .firm;
     one = λ A j k d c. p A (h .one A j k d c);
     apart = λ A j k j′ k′ d d′ c c′ n. q A (h .apart A j k j′ k′ d d′ c c′ n);
     below = λ A j k d c b. q A (h .below A j k d c b);
   }
 
   -- the choice (i, l) is tried
-  pub all-took : (D E : Done) (i l a : ℕ) {fits below atom : Type 0} (t u : Tally) → ((A j k : ℕ) → E j k → st A j k → D j k ⊎ ((j ≡ i) × (k ≡ l)))
-      → ((A : ℕ) → E i l → st A i l → (A ≡ a) × fits) → (be i l → fits → below) → (fits → atom → Atomic (rule r i .clause))
-      → Took fits below atom a t u → All r st be D t → All r st be E u
-  all-took D E i l a t u to is two ta (fell n e) h =
-      subst (All r st be E) (sym e)
+  pub all-took : (D E : Done) (i l a : ℕ) {fits below : Type 0} (t u : Tally) → ((A j k : ℕ) → E j k → st A j k → D j k ⊎ ((j ≡ i) × (k ≡ l)))
+      → ((A : ℕ) → E i l → st A i l → (A ≡ a) × fits) → (be i l → fits → below)
+      → Took fits below a t u → All st be D t → All st be E u
+  all-took D E i l a t u to is two (fell n e) h =
+      subst (All st be E) (sym e)
       (all-same D E t (λ A j k d c. ⊎-elim (λ x. x) (λ x. absurd (n (is A (subst₂ E (x .0) (x .1) d) (subst₂ (λ (y z : ℕ). st A y z) (x .0) (x .1) c) .1))) (to A j k d c)) h)
-  all-took D E i l a {fits} {below} {atom} t u to is two ta (stood again atomic q w b f) h = record {
+  all-took D E i l a {fits} {below} t u to is two (stood again q w f) h = record {
     seen = λ A j k d c. ⊎-elim (λ x. keep (t .seen) (u .seen) (f .seen) A (h .seen A j k x c)) (λ x. here (t .seen) (u .seen) (f .seen) A (mine A j k d c x)) (to A j k d c);
-    firm = λ A j k d c n.
-        subst (λ (x : ℕ). In x A) (sym (f .firm))
-        (⊎-elim (λ x. keep-firm atomic A (h .firm A j k x c n)) (λ x. here-firm atomic b A (mine A j k d c x) (subst (λ (y : ℕ). Atomic (rule r y .clause) → ⊥) (x .0) n)) (to A j k d c));
     one = λ A j k d c. ⊎-elim (λ x. keep (t .one) (u .one) (f .one) A (h .one A j k x c)) (λ x. here (t .one) (u .one) (f .one) A (mine A j k d c x)) (to A j k d c);
     apart = λ A j k j′ k′ d d′ c c′ n.
         ⊎-elim (λ x. ⊎-elim (λ x′. keep-two A (h .apart A j k j′ k′ x x′ c c′ n))
-        (λ e′. here-two A (mine A j′ k′ d′ c′ e′) (inl (met atomic b A j k (mine A j′ k′ d′ c′ e′) x c (λ y z. n .unlike y (subst (λ (s : ℕ). Atomic (rule r s .clause)) (sym (e′ .0)) z))))) (to A j′ k′ d′ c′))
-        (λ e. ⊎-elim (λ x′. here-two A (mine A j k d c e) (inl (met atomic b A j′ k′ (mine A j k d c e) x′ c′ (λ y z. n .unlike (subst (λ (s : ℕ). Atomic (rule r s .clause)) (sym (e .0)) z) y))))
-        (λ e′. absurd (n .other (e .0 ∙ sym (e′ .0), e .1 ∙ sym (e′ .1)))) (to A j′ k′ d′ c′)) (to A j k d c);
+        (λ e′. here-two A (mine A j′ k′ d′ c′ e′) (inl (met A j k (mine A j′ k′ d′ c′ e′) x c))) (to A j′ k′ d′ c′))
+        (λ e. ⊎-elim (λ x′. here-two A (mine A j k d c e) (inl (met A j′ k′ (mine A j k d c e) x′ c′)))
+        (λ e′. absurd (n (e .0 ∙ sym (e′ .0), e .1 ∙ sym (e′ .1)))) (to A j′ k′ d′ c′)) (to A j k d c);
     below = λ A j k d c x.
         ⊎-elim (λ y. keep-two A (h .below A j k y c x)) (λ e. here-two A (mine A j k d c e) (inr (two (subst₂ be (e .0) (e .1) x) q))) (to A j k d c);
   }
@@ -178,17 +158,8 @@ module _ (r : Rules) (st : Standing) (be : Done) where
       keep-two : (A : ℕ) → In (t .two) A → In (u .two) A
       keep-two A m = ⊎-elim (λ x. subst (λ (z : ℕ). In z A) (sym (x .0)) (insert-keeps (t .two) a m)) (λ x. subst (λ (z : ℕ). In z A) (sym (x .0)) m) (f .two)
 
-      keep-firm : (x : Bool) (A : ℕ) → In (t .firm) A → In (firmOf x t a) A
-      keep-firm true A m = m
-      keep-firm false A m = insert-keeps (t .firm) a m
-
-      here-firm : (x : Bool) → Says x atom → (A : ℕ) → A ≡ a → (Atomic (rule r i .clause) → ⊥) → In (firmOf x t a) A
-      here-firm true y A e n = absurd (n (ta q (y .is refl)))
-      here-firm false y A e n = subst (In (insert (t .firm) a)) (sym e) (insert-same (t .firm) a)
-
-      met : (x : Bool) → Says x atom → (A j k : ℕ) → A ≡ a → D j k → st A j k → (Atomic (rule r j .clause) → Atomic (rule r i .clause) → ⊥) → In (rivalsOf x t) a
-      met true y A j k e d c n = subst (In (t .firm)) e (h .firm A j k d c (λ z. n z (ta q (y .is refl))))
-      met false y A j k e d c n = subst (In (t .seen)) e (h .seen A j k d c)
+      met : (A j k : ℕ) → A ≡ a → D j k → st A j k → In (t .seen) a
+      met A j k e d c = subst (In (t .seen)) e (h .seen A j k d c)
 
       missed : again ≡ true → again ≡ false → ⊥
       missed e n = let z : true ≡ false = sym e ∙ n in absurd (let x : _≡_ {A = ℕ} 1 0 = ap (λ (s : Bool). num s) z in omega arith)
@@ -204,28 +175,28 @@ module _ (r : Rules) (st : Standing) (be : Done) where
           go true z = refl
           go false z = absurd (z .isnt refl x)
 
-      here-two : (A : ℕ) → A ≡ a → In (rivalsOf atomic t) a ⊎ below → In (u .two) A
+      here-two : (A : ℕ) → A ≡ a → In (t .seen) a ⊎ below → In (u .two) A
       here-two A e why =
           ⊎-elim (λ x. subst₂ In (sym (x .0)) (sym e) (insert-same (t .two) a)) (λ x. absurd (⊎-elim (x .1) (λ z. missed (says z) (x .2)) why)) (f .two)
 
 -- the same of a pass that began with the sets f and p, as long as they do not grow
-pub record Still (r : Rules) (st : Standing) (be : Done) (f p : ℕ) (D : Done) (t : Tally) : Type 0 where
+pub record Still (st : Standing) (be : Done) (f p : ℕ) (D : Done) (t : Tally) : Type 0 where
   pub one-grows : f ≤ t .one
   pub two-grows : p ≤ t .two
-  pub all : t .one ≡ f → t .two ≡ p → All r st be D t
+  pub all : t .one ≡ f → t .two ≡ p → All st be D t
 
-module _ (r : Rules) (st : Standing) (be : Done) (f p : ℕ) where
-  pub still-same : (D E : Done) (t : Tally) → ((A j k : ℕ) → E j k → st A j k → D j k) → Still r st be f p D t → Still r st be f p E t
-  still-same D E t to h = record { one-grows = h .one-grows; two-grows = h .two-grows; all = λ x y. all-same r st be D E t to (h .all x y) }
+module _ (st : Standing) (be : Done) (f p : ℕ) where
+  pub still-same : (D E : Done) (t : Tally) → ((A j k : ℕ) → E j k → st A j k → D j k) → Still st be f p D t → Still st be f p E t
+  still-same D E t to h = record { one-grows = h .one-grows; two-grows = h .two-grows; all = λ x y. all-same st be D E t to (h .all x y) }
 
-  pub still-took : (D E : Done) (i l a : ℕ) {fits below atom : Type 0} (t u : Tally) → ((A j k : ℕ) → E j k → st A j k → D j k ⊎ ((j ≡ i) × (k ≡ l)))
-      → (t .one ≡ f → (A : ℕ) → E i l → st A i l → (A ≡ a) × fits) → (t .two ≡ p → be i l → fits → below) → (fits → atom → Atomic (rule r i .clause))
-      → Took fits below atom a t u → Still r st be f p D t → Still r st be f p E u
-  still-took D E i l a t u to is two ta w h = record {
+  pub still-took : (D E : Done) (i l a : ℕ) {fits below : Type 0} (t u : Tally) → ((A j k : ℕ) → E j k → st A j k → D j k ⊎ ((j ≡ i) × (k ≡ l)))
+      → (t .one ≡ f → (A : ℕ) → E i l → st A i l → (A ≡ a) × fits) → (t .two ≡ p → be i l → fits → below)
+      → Took fits below a t u → Still st be f p D t → Still st be f p E u
+  still-took D E i l a t u to is two w h = record {
     one-grows = omega (arith, h .one-grows, took-one w);
     two-grows = omega (arith, h .two-grows, took-two w);
     all = λ x y.
         let z : t .one ≡ f = omega (arith, h .one-grows, took-one w) in
         let z′ : t .two ≡ p = omega (arith, h .two-grows, took-two w) in
-        all-took r st be D E i l a t u to (is z) (two z′) ta w (h .all z z′);
+        all-took st be D E i l a t u to (is z) (two z′) w (h .all z z′);
   }

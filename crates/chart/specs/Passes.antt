@@ -17,7 +17,7 @@ use Rattle.marks.specs.Marked.{AtomBy, UnaryBy, BinaryBy}
 use Rattle.chart.specs.declared.Tally.{Tally}
 use Rattle.chart.specs.declared.Pair.{Pair}
 use Rattle.chart.specs.declared.Sides.{Sides}
-use Rattle.chart.specs.Tables.{Atomic, rule}
+use Rattle.chart.specs.Tables.{rule}
 
 -- the span of len tokens from s on lies among n tokens, and the words are enough for their span sheet
 pub record Room (ws : List ℕ) (n s len : ℕ) : Type 0 where
@@ -27,38 +27,27 @@ pub record Room (ws : List ℕ) (n s len : ℕ) : Type 0 where
 
 -- ---- a rule is tried
 
--- what a rule may have met: a terminal only what is firm
-abbrev pub rivalsOf : Bool → Tally → ℕ
-rivalsOf true t = t .firm
-rivalsOf false t = t .seen
-
-abbrev pub firmOf : Bool → Tally → ℕ → ℕ
-firmOf true t A = t .firm
-firmOf false t A = insert (t .firm) A
-
 -- w is the set of t's nonterminals that have two trees, with a besides where a word below has two or the rule meets another
-abbrev pub Doubles : Tally → ℕ → Bool → Bool → ℕ → Type 0
-Doubles t a again atomic w =
-    ((w ≡ insert (t .two) a) × (In (rivalsOf atomic t) a ⊎ (again ≡ true))) ⊎ ((w ≡ t .two) × (In (rivalsOf atomic t) a → ⊥) × (again ≡ false))
+abbrev pub Doubles : Tally → ℕ → Bool → ℕ → Type 0
+Doubles t a again w = ((w ≡ insert (t .two) a) × (In (t .seen) a ⊎ (again ≡ true))) ⊎ ((w ≡ t .two) × (In (t .seen) a → ⊥) × (again ≡ false))
 
--- a rule for a is counted into t; again says that a word below has two trees, atomic that it is a terminal
-pub record Found (t : Tally) (a : ℕ) (again atomic : Bool) (u : Tally) : Type 0 where
+-- a rule for a is counted into t; again says that a word below has two trees
+pub record Found (t : Tally) (a : ℕ) (again : Bool) (u : Tally) : Type 0 where
   pub seen : u .seen ≡ insert (t .seen) a
-  pub firm : u .firm ≡ firmOf atomic t a
   pub one : u .one ≡ insert (t .one) a
-  pub two : Doubles t a again atomic (u .two)
+  pub two : Doubles t a again (u .two)
 
 -- a rule for a is tried: t is as it was, or the rule is counted
--- (fits: it stands; below: a word below has two trees; atom: it is a terminal)
-pub data Took (fits below atom : Type 0) (a : ℕ) (t u : Tally) : Type 0 where
-  fell : (fits → ⊥) → u ≡ t → Took fits below atom a t u
-  stood : (again atomic : Bool) → fits → Says again below → Says atomic atom → Found t a again atomic u → Took fits below atom a t u
+-- (fits: it stands; below: a word below has two trees)
+pub data Took (fits below : Type 0) (a : ℕ) (t u : Tally) : Type 0 where
+  fell : (fits → ⊥) → u ≡ t → Took fits below a t u
+  stood : (again : Bool) → fits → Says again below → Found t a again u → Took fits below a t u
 
 -- ---- what stands by tokens and by shorter parts
 
 -- the tally before any rule
 abbrev pub none : Tally
-none = record { seen = 0; firm = 0; one = 0; two = 0 }
+none = record { seen = 0; one = 0; two = 0 }
 
 -- a span's pair
 abbrev pub pairOf : List ℕ → ℕ → ℕ → ℕ → Pair
@@ -86,7 +75,7 @@ SplitBelow p (Clause.Binary B C m) = In (p .left .two) B ⊎ In (p .right .two) 
 pub data SplitRow (p : Sides) (k : SpanMarks) (len l : ℕ) (g : Rules) (t : Tally) : ℕ → Tally → Type 0 where
   row-none : SplitRow p k len l g t 0 t
   row-more : {i : ℕ} {u v : Tally} → SplitRow p k len l g t i u
-      → Took (SplitFits p k len l (rule g i .clause)) (SplitBelow p (rule g i .clause)) ⊥ (rule g i .left) u v → SplitRow p k len l g t (i + 1) v
+      → Took (SplitFits p k len l (rule g i .clause)) (SplitBelow p (rule g i .clause)) (rule g i .left) u v → SplitRow p k len l g t (i + 1) v
 
 -- all rules are tried with each left length from 1 to below l
 pub data Splits (ws : List ℕ) (n s len : ℕ) (k : SpanMarks) (g : Rules) : ℕ → Tally → Type 0 where
@@ -103,7 +92,7 @@ LeafFits k len (Clause.Binary B C m) = ⊥
 -- the rules before i are tried so
 pub data Leaves (k : SpanMarks) (len : ℕ) (g : Rules) : ℕ → Tally → Type 0 where
   leaves-none : Leaves k len g 0 none
-  leaves-more : {i : ℕ} {t u : Tally} → Leaves k len g i t → Took (LeafFits k len (rule g i .clause)) ⊥ (Atomic (rule g i .clause)) (rule g i .left) t u → Leaves k len g (i + 1) u
+  leaves-more : {i : ℕ} {t u : Tally} → Leaves k len g i t → Took (LeafFits k len (rule g i .clause)) ⊥ (rule g i .left) t u → Leaves k len g (i + 1) u
 
 -- what stands over the span whatever stands over it besides
 pub data Inner (ws : List ℕ) (n s len : ℕ) (k : SpanMarks) (g : Rules) (t : Tally) : Type 0 where
@@ -114,15 +103,15 @@ pub data Inner (ws : List ℕ) (n s len : ℕ) (k : SpanMarks) (g : Rules) (t : 
 
 -- a binary clause is tried over the span and the empty word, whose pair is one and two
 pub data Beside (one two len a b e : ℕ) (t v : Tally) : Type 0 where
-  alone : len ≡ 0 → Took (In (t .one) b × In (t .one) e) (In (t .two) b ⊎ In (t .two) e) ⊥ a t v → Beside one two len a b e t v
-  both : 0 < len → (u : Tally) → Took (In one b × In (t .one) e) (In two b ⊎ In (t .two) e) ⊥ a t u
-      → Took (In (u .one) b × In one e) (In (u .two) b ⊎ In two e) ⊥ a u v → Beside one two len a b e t v
+  alone : len ≡ 0 → Took (In (t .one) b × In (t .one) e) (In (t .two) b ⊎ In (t .two) e) a t v → Beside one two len a b e t v
+  both : 0 < len → (u : Tally) → Took (In one b × In (t .one) e) (In two b ⊎ In (t .two) e) a t u
+      → Took (In (u .one) b × In one e) (In (u .two) b ⊎ In two e) a u v → Beside one two len a b e t v
 
 -- a clause for a is tried with the whole span on one side
 abbrev pub Wide : ℕ → ℕ → SpanMarks → ℕ → ℕ → Clause → Tally → Tally → Type 0
 Wide one two k len a Clause.Empty t u = u ≡ t
 Wide one two k len a (Clause.Atom c d) t u = u ≡ t
-Wide one two k len a (Clause.Unary B m) t u = Took (In (t .one) B × UnaryBy k m) (In (t .two) B) ⊥ a t u
+Wide one two k len a (Clause.Unary B m) t u = Took (In (t .one) B × UnaryBy k m) (In (t .two) B) a t u
 Wide one two k len a (Clause.Binary B C m) t u = Beside one two len a B C t u
 
 -- the rules from i on are tried so, the last one first
@@ -132,7 +121,7 @@ pub data Pass (one two : ℕ) (k : SpanMarks) (len : ℕ) (g : Rules) (t : Tally
 
 -- the rules that b has seen, and the sets of t
 abbrev pub resumed : Tally → Tally → Tally
-resumed b t = record { seen = b .seen; firm = b .firm; one = t .one; two = t .two }
+resumed b t = record { seen = b .seen; one = t .one; two = t .two }
 
 -- passes from b on, one after the other
 pub data Passes (one two : ℕ) (k : SpanMarks) (len : ℕ) (g : Rules) (b : Tally) : Tally → Type 0 where

@@ -11,6 +11,7 @@ use Rattle.grammar.specs.declared.Clause.the-variants as Clause
 use Rattle.grammar.specs.declared.UnaryMark.{UnaryMark}
 use Rattle.grammar.specs.declared.BinaryMark.{BinaryMark}
 use Rattle.grammar.specs.Trees.{Rules}
+use Rattle.grammar.specs.Choices.{Same}
 use Rattle.grammar.specs.SpanSheet.{firstWord, secondWord}
 use Rattle.marks.specs.declared.SpanMarks.{SpanMarks}
 use Rattle.marks.specs.Half.{Half, MayBe, MayKeep, MayPair}
@@ -69,18 +70,6 @@ pub record Stand (one : Table) (g : Rules) (v : Leave) (s len A i l : ℕ) : Typ
   pub left : rule g i .left ≡ A
   pub fits : Fits one v s len (rule g i .clause) l
 
--- the clause is one of terminals
-abbrev pub Atomic : Clause → Type 0
-Atomic Clause.Empty = ⊥
-Atomic (Clause.Atom a b) = Unit {0}
-Atomic (Clause.Unary B m) = ⊥
-Atomic (Clause.Binary B C m) = ⊥
-
--- two rules that can stand over one word: other ones, and not two terminals (a token has one)
-pub record Rivals (g : Rules) (i l j k : ℕ) : Type 0 where
-  pub other : (i ≡ j) × (l ≡ k) → ⊥
-  pub unlike : Atomic (rule g i .clause) → Atomic (rule g j .clause) → ⊥
-
 -- a word below a clause is in the table two
 abbrev pub Below : Table → ℕ → ℕ → Clause → ℕ → Type 0
 Below two s len Clause.Empty l = ⊥
@@ -90,5 +79,5 @@ Below two s len (Clause.Binary B C m) l = two s l B ⊎ two (s + l) (len - l) C
 
 -- two rules stand over the span, or one with a word below that has two trees
 pub data Again (one two : Table) (g : Rules) (v : Leave) (s len A : ℕ) : Type 0 where
-  apart : (i l j k : ℕ) → Stand one g v s len A i l → Stand one g v s len A j k → Rivals g i l j k → Again one two g v s len A
+  apart : (i l j k : ℕ) → Stand one g v s len A i l → Stand one g v s len A j k → (Same i l j k → ⊥) → Again one two g v s len A
   below : (i l : ℕ) → Stand one g v s len A i l → Below two s len (rule g i .clause) l → Again one two g v s len A

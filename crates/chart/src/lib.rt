@@ -44,18 +44,17 @@ ghost use Rattle.grammar.specs.SpanSheet.{pairs, part, SpanSheet};
 ghost use Rattle.marks.specs.Drafts.{half};
 ghost use Rattle.marks.specs.Marked.{UnaryBy, BinaryBy};
 ghost use Rattle.spans.specs.Reach.{Reach};
-ghost use Rattle.chart.specs.Tables.{One, byMarks, Fits, Atomic, lefts};
-ghost use Rattle.chart.specs.Passes.{Room, rivalsOf, firmOf, Doubles, Found, Took, pairOf, sidesAt, SplitFits, SplitBelow, SplitRow, none, Splits, LeafFits, Leaves, Inner, Beside, Wide, Pass, Saturated};
+ghost use Rattle.chart.specs.Tables.{One, byMarks, Fits, lefts};
+ghost use Rattle.chart.specs.Passes.{Room, Doubles, Found, Took, pairOf, sidesAt, SplitFits, SplitBelow, SplitRow, none, Splits, LeafFits, Leaves, Inner, Beside, Wide, Pass, Saturated};
 ghost use Rattle.chart.specs.Filling.{Whole, Ground, Closed, Stops, Filled, Grown};
 ghost use Rattle.chart.specs.Sheets.{Ready, Begun, Charted, Judged, Settles};
 ghost use Rattle.chart.specs.Choosing.{NextChoice};
 ghost use Rattle.chart.specs.Searches.{FirstSplit, FirstPick};
 
-// What a pass over the rules of a span has found: the nonterminals for which a rule stands, those for which one stands
-// that is no terminal, and the span's two sets with what the pass adds.
+// What a pass over the rules of a span has found: the nonterminals for which a rule stands, and the span's two sets with
+// what the pass adds.
 pub struct Tally {
     pub seen: u64,
-    pub firm: u64,
     pub one: u64,
     pub two: u64,
 }
@@ -154,50 +153,29 @@ pub fn last_left(c: Clause, len: usize) -> usize
     }
 }
 
-// What a rule may have met: a terminal only what is none.
-fn rivals(t: Tally, atomic: bool) -> u64
-    ensures { λ r. ⌜ r ≡ rivalsOf atomic t ⌝ }
-{
-    if atomic { t.firm } else { t.seen }
-}
-
-// The nonterminals for which a rule stands that is no terminal, with a rule for `a` besides.
-fn firmed(t: Tally, a: u8, atomic: bool) -> u64
-    requires { ⌜ a < 64 ⌝ }
-    ensures { λ r. ⌜ r ≡ firmOf atomic t a ⌝ }
-{
-    if atomic { t.firm } else { with(t.firm, a) }
-}
-
 // The nonterminals that have two trees, with a rule for `a` besides: where `again` says so, or where it meets another.
-fn doubled(t: Tally, a: u8, again: bool, atomic: bool) -> u64
+fn doubled(t: Tally, a: u8, again: bool) -> u64
     requires { ⌜ a < 64 ⌝ }
-    ensures { λ r. ⌜ Doubles t a again atomic r ⌝ }
+    ensures { λ r. ⌜ Doubles t a again r ⌝ }
 {
     if again {
         return with(t.two, a);
     }
-    if has(rivals(t, atomic), a) {
+    if has(t.seen, a) {
         return with(t.two, a);
     }
     t.two
 }
 
-// The tally with a rule for `a` besides; `again` says that a word below has two trees, `atomic` that it is a terminal.
-fn found(t: Tally, a: u8, again: bool, atomic: bool) -> Tally
+// The tally with a rule for `a` besides; `again` says that a word below has two trees.
+fn found(t: Tally, a: u8, again: bool) -> Tally
     requires { ⌜ a < 64 ⌝ }
-    ensures { λ r. ⌜ Found t a again atomic r ⌝ }
+    ensures { λ r. ⌜ Found t a again r ⌝ }
 {
     let seen = with(t.seen, a);
-    let firm = firmed(t, a, atomic);
     let one = with(t.one, a);
-    let two = doubled(t, a, again, atomic);
-    Tally {
-        seen,
-        firm,
-        one,
-        two,
-    }
+    let two = doubled(t, a, again);
+    Tally { seen, one, two }
 }
 
 // Both words of a span's pair.
@@ -215,18 +193,18 @@ struct Sides {
 // Count a binary clause `b` `e` for `a`, its parts being the sides.
 fn join(t: Tally, a: u8, b: u8, e: u8, p: Sides) -> Tally
     requires { ⌜ (a < 64) × (b < 64) × (e < 64) ⌝ }
-    ensures { λ u. ⌜ Took (Unit {0}) (In (p .left .two) b ⊎ In (p .right .two) e) ⊥ a t u ⌝ }
+    ensures { λ u. ⌜ Took (Unit {0}) (In (p .left .two) b ⊎ In (p .right .two) e) a t u ⌝ }
 {
     if has(p.left.two, b) {
-        return found(t, a, true, false);
+        return found(t, a, true);
     }
-    found(t, a, has(p.right.two, e), false)
+    found(t, a, has(p.right.two, e))
 }
 
 // Try it.
 fn try_join(t: Tally, a: u8, b: u8, e: u8, p: Sides) -> Tally
     requires { ⌜ (a < 64) × (b < 64) × (e < 64) ⌝ }
-    ensures { λ u. ⌜ Took (In (p .left .one) b × In (p .right .one) e) (In (p .left .two) b ⊎ In (p .right .two) e) ⊥ a t u ⌝ }
+    ensures { λ u. ⌜ Took (In (p .left .one) b × In (p .right .one) e) (In (p .left .two) b ⊎ In (p .right .two) e) a t u ⌝ }
 {
     if !has(p.left.one, b) {
         return t;
@@ -251,7 +229,7 @@ fn allows_split(k: SpanMarks, code: u64, left: usize, len: usize) -> bool
 // Try the rule of a code with `left` tokens on its left, its parts being the sides.
 fn try_split(t: Tally, code: u64, p: Sides, k: SpanMarks, left: usize, len: usize) -> Tally
     requires { ⌜ (left ≤ len) × (len ≤ 64) ⌝ }
-    ensures { λ u. ⌜ Took (SplitFits p k len left (decode code .clause)) (SplitBelow p (decode code .clause)) ⊥ (decode code .left) t u ⌝ }
+    ensures { λ u. ⌜ Took (SplitFits p k len left (decode code .clause)) (SplitBelow p (decode code .clause)) (decode code .left) t u ⌝ }
 {
     if kind_of(code) < 3 {
         return t;
@@ -327,7 +305,6 @@ fn blank() -> Tally
 {
     Tally {
         seen: 0,
-        firm: 0,
         one: 0,
         two: 0,
     }
@@ -352,17 +329,11 @@ fn splits(words: &[u64], n: usize, codes: &[u64], start: usize, len: usize, k: S
 // Try a rule for no token or one.
 fn try_leaf(t: Tally, r: Rule, k: SpanMarks, len: usize) -> Tally
     requires { ⌜ SmallRule r ⌝ }
-    ensures { λ u. ⌜ Took (LeafFits k len (r .clause)) ⊥ (Atomic (r .clause)) (r .left) t u ⌝ }
+    ensures { λ u. ⌜ Took (LeafFits k len (r .clause)) ⊥ (r .left) t u ⌝ }
 {
     let c = r.clause;
     match c {
-        Clause::Empty => {
-            if len == 0 {
-                found(t, r.left, false, false)
-            } else {
-                t
-            }
-        }
+        Clause::Empty => { if len == 0 { found(t, r.left, false) } else { t } }
         Clause::Atom(a, b) => {
             if len != 1 {
                 return t;
@@ -370,7 +341,7 @@ fn try_leaf(t: Tally, r: Rule, k: SpanMarks, len: usize) -> Tally
             if !allows_atom(k, a, b) {
                 return t;
             }
-            found(t, r.left, false, true)
+            found(t, r.left, false)
         }
         Clause::Unary(_, _) => t,
         Clause::Binary(_, _, _) => t,
@@ -405,7 +376,7 @@ fn inner(words: &[u64], n: usize, codes: &[u64], start: usize, len: usize, k: Sp
 // Try a unary clause `b` for `a` over the span that the tally is of.
 fn try_unary(t: Tally, a: u8, b: u8, m: UnaryMark, k: SpanMarks) -> Tally
     requires { ⌜ (a < 64) × (b < 64) ⌝ }
-    ensures { λ u. ⌜ Took (In (t .one) b × UnaryBy k m) (In (t .two) b) ⊥ a t u ⌝ }
+    ensures { λ u. ⌜ Took (In (t .one) b × UnaryBy k m) (In (t .two) b) a t u ⌝ }
 {
     if !has(t.one, b) {
         return t;
@@ -413,13 +384,13 @@ fn try_unary(t: Tally, a: u8, b: u8, m: UnaryMark, k: SpanMarks) -> Tally
     if !allows_unary(k, m) {
         return t;
     }
-    found(t, a, has(t.two, b), false)
+    found(t, a, has(t.two, b))
 }
 
 // Try a binary clause `b` `e` for `a` with the empty word on the left.
 fn try_left_empty(t: Tally, a: u8, b: u8, e: u8, one: u64, two: u64) -> Tally
     requires { ⌜ (a < 64) × (b < 64) × (e < 64) ⌝ }
-    ensures { λ u. ⌜ Took (In one b × In (t .one) e) (In two b ⊎ In (t .two) e) ⊥ a t u ⌝ }
+    ensures { λ u. ⌜ Took (In one b × In (t .one) e) (In two b ⊎ In (t .two) e) a t u ⌝ }
 {
     let p = Sides {
         left: Pair { one, two },
@@ -434,7 +405,7 @@ fn try_left_empty(t: Tally, a: u8, b: u8, e: u8, one: u64, two: u64) -> Tally
 // Try it with the empty word on the right.
 fn try_right_empty(t: Tally, a: u8, b: u8, e: u8, one: u64, two: u64) -> Tally
     requires { ⌜ (a < 64) × (b < 64) × (e < 64) ⌝ }
-    ensures { λ u. ⌜ Took (In (t .one) b × In one e) (In (t .two) b ⊎ In two e) ⊥ a t u ⌝ }
+    ensures { λ u. ⌜ Took (In (t .one) b × In one e) (In (t .two) b ⊎ In two e) a t u ⌝ }
 {
     let p = Sides {
         left: Pair {
@@ -495,7 +466,6 @@ fn passes(b: Tally, codes: &[u64], k: SpanMarks, one: u64, two: u64, len: usize)
     loop {
         let s = Tally {
             seen: b.seen,
-            firm: b.firm,
             one: t.one,
             two: t.two,
         };

@@ -8,7 +8,7 @@ use Rattle.codes.specs.Codes.{decoded}
 use Rattle.codes.proofs.Laws.{small-decode, coded-length, coded-at}
 use Rattle.grammar.specs.declared.Rule.{Rule}
 use Rattle.grammar.specs.Content.{SmallRule}
-use Rattle.chart.specs.Tables.{no-rule, Atomic}
+use Rattle.chart.specs.Tables.{no-rule}
 use Rattle.chart.specs.Passes.{Took, LeafFits, Leaves, leaves-none, leaves-more}
 use Rattle.chart.proofs.leaves.Statement.{statement}
 use Rattle.chart.proofs.leaves.Tie as tie
@@ -51,7 +51,7 @@ loop-again c =
     let l = c .before .before .before .before .loop in
     let h : l .i < length (a .codes .now) = c .before .before .before .loop-test .taken in
     let e = c .before .rule-of .ensures ∙ coded-at (a .codes .now) no-rule (l .i) h in
-    (omega arith, leaves-more (l .inv .1) (subst (λ (r : Rule). Took (LeafFits (a .k) (a .len) (r .clause)) ⊥ (Atomic (r .clause)) (r .left) (l .t) (c .try-leaf .result)) e (c .try-leaf .ensures)))
+    (omega arith, leaves-more (l .inv .1) (subst (λ (r : Rule). Took (LeafFits (a .k) (a .len) (r .clause)) ⊥ (r .left) (l .t) (c .try-leaf .result)) e (c .try-leaf .ensures)))
 
 returns : tie.Need-returns Inv-loop μ-loop
 returns c =

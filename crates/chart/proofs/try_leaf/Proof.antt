@@ -2,8 +2,8 @@
 use borrow.Author.Needs.{needs}
 use borrow.Author.Tests.{not-true, not-false}
 use mathlib.Core.Path.{refl}
-use mathlib.Core.Bool.{true, false}
-use Rattle.sets.proofs.Says.{holds, fails}
+use mathlib.Core.Bool.{false}
+use Rattle.sets.proofs.Says.{fails}
 use Rattle.chart.specs.Passes.Took.{fell, stood}
 use Rattle.chart.proofs.try_leaf.Statement.{statement}
 use Rattle.chart.proofs.try_leaf.Tie as tie
@@ -36,7 +36,7 @@ enum-told-3 : tie.Need-enum-told-3
 enum-told-3 c = search needs
 
 returns-3 : tie.Need-returns-3
-returns-3 c = rw (c .before .before .enum-told .given .1) (stood false false (c .before .if1 .taken) (fails (λ z. z)) (fails (λ z. z)) (c .found .ensures))
+returns-3 c = rw (c .before .before .enum-told .given .1) (stood false (c .before .if1 .taken) (fails (λ z. z)) (c .found .ensures))
 
 returns-4 : tie.Need-returns-4
 returns-4 c = rw (c .before .enum-told .given .1) (fell (λ q. c .if1 .left q) refl)
@@ -44,7 +44,7 @@ returns-4 c = rw (c .before .enum-told .given .1) (fell (λ q. c .if1 .left q) r
 returns-5 : tie.Need-returns-5
 returns-5 c =
     let x = c .before in
-    rw (x .before .before .before .before .c .given .1) (stood false true (x .before .before .if2 .left, x .before .allows-atom .ensures .is (not-false _ (x .if3 .left))) (fails (λ z. z)) (holds tt) (c .found2 .ensures))
+    rw (x .before .before .before .before .c .given .1) (stood false (x .before .before .if2 .left, x .before .allows-atom .ensures .is (not-false _ (x .if3 .left))) (fails (λ z. z)) (c .found2 .ensures))
 
 returns-6 : tie.Need-returns-6
 returns-6 c = rw (c .enum-told2 .given .1) (fell (λ q. q) refl)

@@ -42,7 +42,7 @@ loop-again c =
     let l = c .before .before .before .loop in
     let h : l .i < length (a .codes .now) = c .before .before .loop-test .taken in
     let e = coded-at (a .codes .now) no-rule (l .i) h in
-    (omega arith, row-more (l .inv .1) (subst (λ (r : Rule). Took (SplitFits (a .p) (a .k) (a .len) (a .left) (r .clause)) (SplitBelow (a .p) (r .clause)) ⊥ (r .left) (l .u) (c .try-split .result)) e (c .try-split .ensures)))
+    (omega arith, row-more (l .inv .1) (subst (λ (r : Rule). Took (SplitFits (a .p) (a .k) (a .len) (a .left) (r .clause)) (SplitBelow (a .p) (r .clause)) (r .left) (l .u) (c .try-split .result)) e (c .try-split .ensures)))
 
 returns : tie.Need-returns Inv-loop μ-loop
 returns c =

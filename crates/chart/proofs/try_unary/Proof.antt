@@ -3,7 +3,6 @@ use borrow.Author.Needs.{needs}
 use borrow.Author.Tests.{not-true, not-false}
 use mathlib.Core.Path.{refl}
 use mathlib.Core.Bool.{true, false}
-use Rattle.sets.proofs.Says.{fails}
 use Rattle.chart.specs.Passes.Took.{fell, stood}
 use Rattle.chart.proofs.try_unary.Statement.{statement}
 use Rattle.chart.proofs.try_unary.Tie as tie
@@ -30,7 +29,7 @@ returns-3 : tie.Need-returns-3
 returns-3 c =
     let x = c .before .before in
     let y = x .before .before in
-    stood (c .before .has2 .result) false (y .before .has .ensures .is (not-false _ (y .if1 .left)), x .before .allows-unary .ensures .is (not-false _ (x .if2 .left))) (c .before .has2 .ensures) (fails (λ z. z)) (c .found .ensures)
+    stood (c .before .has2 .result) (y .before .has .ensures .is (not-false _ (y .if1 .left)), x .before .allows-unary .ensures .is (not-false _ (x .if2 .left))) (c .before .has2 .ensures) (c .found .ensures)
 
 pub try-unary-spec : {M : Type 1} → statement M
 try-unary-spec =
