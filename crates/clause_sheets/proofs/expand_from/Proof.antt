@@ -1,0 +1,90 @@
+-- `expand_from` meets its contract: what both walks found says which end of the sheet it is.
+use mathlib.Core.Path.{_≡_, refl, sym, subst}
+use native.Mathlib.Omega.{arith}
+use borrow.Author.Needs.{needs}
+use Rattle.grammar.specs.declared.Rule.{Rule}
+use Rattle.fields.specs.Pieces.{piecesFrom}
+use Rattle.sheets.specs.declared.GrammarRead.{GrammarRead}
+use Rattle.sheets.specs.Items.{Reading}
+use Rattle.sheets.specs.Promises.{RulesRead}
+use Rattle.clause_sheets.proofs.Closing.{Walked, past-far, out-over, out-few, out-formed, out-end}
+use Rattle.clause_sheets.proofs.expand_from.Statement.{statement}
+use Rattle.clause_sheets.proofs.expand_from.Tie as tie
+
+-- a reading of the same sheet
+reads-as : {r : GrammarRead} {x y : Reading Rule} → y ≡ x → RulesRead r x → RulesRead r y
+reads-as {r} e k = subst (RulesRead r) (sym e) k
+
+walked : (c : tie.After-lines-emit) → let s = c .before .before .before .before in
+    Walked (piecesFrom 10 (s .args .s .now) (s .args .start)) (s .args .past) (c .before .nothing .result) (c .lines-emit .result)
+walked c =
+    let s = c .before .before .before .before in
+    record {
+      said = s .pre .1;
+      low = omega (arith, c .before .before .if1 .left);
+      begun = c .before .nothing .ensures;
+      emitted = c .lines-emit .ensures;
+    }
+
+no-rules-requires : tie.Need-no-rules-requires
+no-rules-requires c κs = search needs
+
+refuse-rules-requires : tie.Need-refuse-rules-requires
+refuse-rules-requires c κs = search needs
+
+returns : tie.Need-returns
+returns c =
+    let s = c .before .before .before .before in
+    reads-as (past-far _ _ (s .pre .1) (c .before .before .if1 .taken)) (c .refuse-rules .ensures)
+
+cast-nothing : tie.Need-cast-nothing
+cast-nothing c = search needs
+
+nothing-requires : tie.Need-nothing-requires
+nothing-requires c κs = search needs
+
+lines-emit-requires : tie.Need-lines-emit-requires
+lines-emit-requires c κs = search needs
+
+no-rules-requires-2 : tie.Need-no-rules-requires-2
+no-rules-requires-2 c κs = search needs
+
+refuse-rules-requires-2 : tie.Need-refuse-rules-requires-2
+refuse-rules-requires-2 c κs = search needs
+
+returns-2 : tie.Need-returns-2
+returns-2 c = reads-as (out-over (walked (c .before .before .before)) (c .before .before .if2 .taken)) (c .refuse-rules2 .ensures)
+
+no-rules-requires-3 : tie.Need-no-rules-requires-3
+no-rules-requires-3 c κs = search needs
+
+sorted-requires : tie.Need-sorted-requires
+sorted-requires c κs = out-few (walked (c .before .before .before)) (c .before .before .if2 .left)
+
+finished-requires : tie.Need-finished-requires
+finished-requires c κs =
+    let o = c .before .before .before .before in
+    out-formed (walked (o .before)) (o .if2 .left) refl (c .before .sorted .ensures)
+
+returns-3 : tie.Need-returns-3
+returns-3 c =
+    let o = c .before .before .before .before .before in
+    reads-as (out-end (walked (o .before)) (o .if2 .left) refl (c .before .before .sorted .ensures)) (c .finished .ensures)
+
+pub expand-from-spec : {M : Type 1} → statement M
+expand-from-spec =
+    tie.close
+    (tie.spec
+    no-rules-requires
+    refuse-rules-requires
+    returns
+    cast-nothing
+    nothing-requires
+    lines-emit-requires
+    no-rules-requires-2
+    refuse-rules-requires-2
+    returns-2
+    no-rules-requires-3
+    sorted-requires
+    finished-requires
+    returns-3)

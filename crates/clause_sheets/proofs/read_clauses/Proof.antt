@@ -1,0 +1,79 @@
+-- `read_clauses` meets its contract.
+use Rattle.clause_sheets.specs.ClauseSheets.{clauseNames, clausesFrom}
+use Rattle.sheets.proofs.Names.{names-good, names-other, names-open}
+use lib.Seq.{length-take-le}
+use Rattle.sheets.specs.declared.Fault.the-variants as Fault
+use Rattle.sheets.specs.Promises.{RulesRead}
+use Rattle.sheets.specs.Items.{Reading, refused}
+use Rattle.grammar.specs.declared.Rule.{Rule}
+use native.Mathlib.Omega.{arith}
+use mathlib.Core.Path.{sym, subst, _∙_}
+use borrow.Author.Needs.{needs}
+use Rattle.clause_sheets.proofs.read_clauses.Statement.{statement}
+use Rattle.clause_sheets.proofs.read_clauses.Tie as tie
+
+line-requires : tie.Need-line-requires
+line-requires c κs = search needs
+
+slice-aggregate-same : tie.Need-slice-aggregate-same
+slice-aggregate-same c = sym (length-take-le _ _ (omega (arith, c .before .if1 .taken)))
+
+slice-aggregate-same-2 : tie.Need-slice-aggregate-same-2
+slice-aggregate-same-2 c = search needs
+
+same-requires : tie.Need-same-requires
+same-requires c κs = search needs
+
+add-clauses-from : tie.Need-add-clauses-from
+add-clauses-from c = search needs
+
+clauses-from-requires : tie.Need-clauses-from-requires
+clauses-from-requires c κs = search needs
+
+returns : tie.Need-returns
+returns c =
+    let p = c .before .before .before .before .before .before in
+    subst (λ (x : Reading Rule). RulesRead (c .clauses-from .result) x)
+    (names-good (refused Fault.RuleNames 1) clauseNames (p .before .before .args .s .now) clausesFrom (p .line .result) (p .line .ensures) (c .before .before .before .before .before .if1 .taken) (sym (c .before .if2 .taken) ∙ c .before .before .same .ensures)) (c .clauses-from .ensures)
+
+no-rules-requires : tie.Need-no-rules-requires
+no-rules-requires c κs = search needs
+
+refuse-rules-requires : tie.Need-refuse-rules-requires
+refuse-rules-requires c κs = search needs
+
+returns-2 : tie.Need-returns-2
+returns-2 c =
+    let p = c .before .before .before .before .before .before .before in
+    subst (λ (x : Reading Rule). RulesRead (c .refuse-rules .result) x)
+    (names-other (refused Fault.RuleNames 1) clauseNames (p .before .before .args .s .now) clausesFrom (p .line .result) (p .line .ensures) (c .before .before .before .before .before .before .if1 .taken) (sym (c .before .before .if2 .left) ∙ c .before .before .before .same .ensures)) (c .refuse-rules .ensures)
+
+no-rules-requires-2 : tie.Need-no-rules-requires-2
+no-rules-requires-2 c κs = search needs
+
+refuse-rules-requires-2 : tie.Need-refuse-rules-requires-2
+refuse-rules-requires-2 c κs = search needs
+
+returns-3 : tie.Need-returns-3
+returns-3 c =
+    let p = c .before .before .before in
+    subst (λ (x : Reading Rule). RulesRead (c .refuse-rules2 .result) x)
+    (names-open (refused Fault.RuleNames 1) clauseNames (p .before .before .args .s .now) clausesFrom (p .line .result) (p .line .ensures) (c .before .before .if1 .left)) (c .refuse-rules2 .ensures)
+
+pub read-clauses-spec : {M : Type 1} → statement M
+read-clauses-spec =
+    tie.close
+    (tie.spec
+    line-requires
+    slice-aggregate-same
+    slice-aggregate-same-2
+    same-requires
+    add-clauses-from
+    clauses-from-requires
+    returns
+    no-rules-requires
+    refuse-rules-requires
+    returns-2
+    no-rules-requires-2
+    refuse-rules-requires-2
+    returns-3)

@@ -1,0 +1,283 @@
+// The reader of clause sheets, for any bytes: the grammar of their expansion, or the refusal with its line.
+use clause_lines::Checked;
+use clause_lines::check;
+use clause_rules::Emit;
+use clause_rules::alternatives;
+use fields::Cursor;
+use fields::NumberField;
+use grammar::Grammar;
+use grammar::Rule;
+use sheets::Fault;
+use sheets::GrammarRead;
+use sheets::Outcome;
+use sheets::finished;
+use sheets::no_rules;
+use sheets::refuse_rules;
+ghost use mathlib.Core.Path.{_≡_};
+ghost use mathlib.Core.Bool.{true, false};
+ghost use mathlib.Core.List.{[], _∷_, _++_};
+ghost use Prim.Native.Nat.{_+_, _≤_, _<_};
+ghost use lib.ListN.{length, take};
+ghost use Rattle.fields.specs.Pieces.{piecesFrom, bytesLeft};
+ghost use Rattle.grammar.specs.Content.{rules as rulesOf};
+ghost use Rattle.clauses.specs.Expansion.{max, of, rising};
+ghost use Rattle.sheets.specs.Items.{itemsFrom};
+ghost use Rattle.sheets.specs.Promises.{RulesRead};
+ghost use Rattle.clause_lines.specs.ClauseLines.{clauseLine, expression};
+ghost use Rattle.clause_sheets.specs.ClauseSheets.{clauseStep, clausesFrom, clauseSheet};
+ghost use Rattle.clause_sheets.specs.Checks.{lineChecked, expressionChecked, PassedAs, LineEmitted, LinesEmitted, Taken};
+ghost use Rattle.clause_sheets.specs.Ends.{AllSaid};
+
+// One past a line's largest nonterminal; or 41; or 42.
+pub enum LineChecked {
+    Good(usize),
+    Form,
+    Deep,
+}
+
+// What the first walk finds: whether all lines are so written, and one past their largest nonterminal.
+pub struct Passed {
+    pub outcome: Outcome,
+    pub past: usize,
+}
+
+// The larger of two numbers.
+fn larger(a: usize, b: usize) -> usize
+    ensures { λ r. ⌜ r ≡ max a b ⌝ }
+{
+    if a < b {
+        return b;
+    }
+    a
+}
+
+// An expression, where its line's left is below `least`.
+fn expression_check(x: &[u8], least: usize) -> LineChecked
+    ensures { λ r. ⌜ r ≡ expressionChecked least (expression (now (x .entry))) ⌝ }
+{
+    match check(x) {
+        Checked::Good(p) => LineChecked::Good(larger(least, p)),
+        Checked::Unwritten => LineChecked::Form,
+        Checked::Deep => LineChecked::Deep,
+    }
+}
+
+// A clause line by itself: 41, then 42.
+fn line_check(s: &[u8], c: Cursor) -> LineChecked
+    requires { ⌜ (c .at ≤ c .end) × (c .end ≤ length (now s)) ⌝ }
+    ensures { λ r. ⌜ r ≡ lineChecked (clauseLine (bytesLeft (now (s .entry)) c)) ⌝ }
+{
+    let NumberField::Is(v, d) = c.number(s) else {
+        return LineChecked::Form;
+    };
+    let at = d.at;
+    let end = d.end;
+    if 63 < v {
+        return LineChecked::Form;
+    }
+    if end < at {
+        return LineChecked::Form;
+    }
+    expression_check(&s[at..end], v as usize + 1)
+}
+
+// The rules of one line, after those written so far.
+fn line_emit(s: &[u8], c: Cursor, out: Emit) -> Emit
+    requires { ⌜ (c .at ≤ c .end) × (c .end ≤ length (now s)) ⌝ }
+    ensures { λ r. ⌜ LineEmitted (bytesLeft (now (s .entry)) c) out r ⌝ }
+{
+    let NumberField::Is(v, d) = c.number(s) else {
+        return out;
+    };
+    let at = d.at;
+    let end = d.end;
+    if 63 < v {
+        return out;
+    }
+    if end < at {
+        return out;
+    }
+    let r = alternatives(&s[at..end], 0, v as u8, out);
+    let o = r.out;
+    o
+}
+
+// The first walk over the lines from a place on: 41 and 42, line by line.
+fn lines_check(s: &[u8], start: usize) -> Passed
+    requires { ⌜ start ≤ length (now s) ⌝ }
+    ensures { λ r. ⌜ PassedAs (itemsFrom clauseStep [] (piecesFrom 10 (now (s .entry)) start)) (r .outcome) (r .past) ⌝ }
+{
+    let mut n: usize = 0;
+    let mut past: usize = 0;
+    let mut at = start;
+    loop {
+        let c = Cursor::line(s, at);
+        let end = c.end;
+        if end < s.len() {
+            match line_check(s, c) {
+                LineChecked::Good(p) => {
+                    past = larger(past, p);
+                    n += 1;
+                    at = end + 1;
+                    continue;
+                }
+                LineChecked::Form => {
+                    return Passed {
+                        outcome: Outcome::Refused(Fault::ClauseForm, n + 2),
+                        past: 0,
+                    };
+                }
+                LineChecked::Deep => {
+                    return Passed {
+                        outcome: Outcome::Refused(Fault::ClauseDeep, n + 2),
+                        past: 0,
+                    };
+                }
+            }
+        }
+        if c.at == end {
+            return Passed {
+                outcome: Outcome::Accepted,
+                past,
+            };
+        }
+        return Passed {
+            outcome: Outcome::Refused(Fault::ClauseForm, n + 2),
+            past: 0,
+        };
+    }
+}
+
+// The second walk over the lines from a place on: their rules.
+fn lines_emit(s: &[u8], start: usize, first: Emit) -> Emit
+    requires { ⌜ start ≤ length (now s) ⌝ }
+    ensures { λ r. ⌜ LinesEmitted (piecesFrom 10 (now (s .entry)) start) first r ⌝ }
+{
+    let mut out = first;
+    let mut at = start;
+    loop {
+        let c = Cursor::line(s, at);
+        let end = c.end;
+        if end < s.len() {
+            out = line_emit(s, c, out);
+            at = end + 1;
+            continue;
+        }
+        return out;
+    }
+}
+
+// One rule more, where there is room.
+fn append(g: Grammar, x: Rule) -> Grammar
+    ensures { λ r. ⌜ Taken (x ∷ []) g r ⌝ }
+{
+    let mut rules = g.rules;
+    let m = g.count;
+    if m < 128 {
+        rules[m] = x;
+        return Grammar {
+            rules,
+            count: m + 1,
+        };
+    }
+    g
+}
+
+// The rules of one left, after those taken so far.
+fn taken(rules: [Rule; 128], n: usize, left: u8, first: Grammar) -> Grammar
+    requires { ⌜ n ≤ 128 ⌝ }
+    ensures { λ r. ⌜ Taken (of left (take n rules)) first r ⌝ }
+{
+    let mut g = first;
+    let mut i = 0;
+    while i < n {
+        let x = rules[i];
+        if x.left == left {
+            g = append(g, x);
+            i += 1;
+            continue;
+        }
+        i += 1;
+    }
+    g
+}
+
+// The first n rules by rising left, 0 to 63, after those taken so far.
+fn sorted(rules: [Rule; 128], n: usize, first: Grammar) -> Grammar
+    requires { ⌜ n ≤ 128 ⌝ }
+    ensures { λ r. ⌜ Taken (rising 64 (take n rules)) first r ⌝ }
+{
+    let mut g = first;
+    let mut left: u8 = 0;
+    while left < 64 {
+        g = taken(rules, n, left, g);
+        left += 1;
+    }
+    g
+}
+
+// No rules, and the first new nonterminal.
+fn nothing(next: u8) -> Emit
+    ensures { λ r. ⌜ (r .count ≡ 0) × (r .next ≡ next) × (r .over ≡ false) ⌝ }
+{
+    Emit {
+        rules: no_rules(),
+        count: 0,
+        next,
+        over: false,
+    }
+}
+
+// The end of a clause sheet whose lines are so written: 43, then 7 and 8.
+fn expand_from(s: &[u8], start: usize, past: usize) -> GrammarRead
+    requires { ⌜ start ≤ length (now s) ⌝ }
+    requires { ⌜ AllSaid (piecesFrom 10 (now s) start) past ⌝ }
+    ensures { λ r. ⌜ RulesRead r (clausesFrom (piecesFrom 10 (now (s .entry)) start)) ⌝ }
+{
+    if 64 < past {
+        return refuse_rules(no_rules(), Fault::ClauseMany, 0);
+    }
+    let out = lines_emit(s, start, nothing(past as u8));
+    if out.over {
+        return refuse_rules(no_rules(), Fault::ClauseMany, 0);
+    }
+    let rules = out.rules;
+    let g = sorted(
+        rules,
+        out.count,
+        Grammar {
+            rules: no_rules(),
+            count: 0,
+        },
+    );
+    let kept = g.rules;
+    finished(kept, g.count)
+}
+
+// The clause lines from a place on.
+fn clauses_from(s: &[u8], start: usize) -> GrammarRead
+    requires { ⌜ start ≤ length (now s) ⌝ }
+    ensures { λ r. ⌜ RulesRead r (clausesFrom (piecesFrom 10 (now (s .entry)) start)) ⌝ }
+{
+    let p = lines_check(s, start);
+    let o = p.outcome;
+    match o {
+        Outcome::Refused(f, l) => refuse_rules(no_rules(), f, l),
+        Outcome::Accepted => expand_from(s, start, p.past),
+    }
+}
+
+// The clause sheet: the rules of its expansion, or the first refusal with its line.
+pub fn read_clauses(s: &[u8]) -> GrammarRead
+    ensures { λ r. ⌜ RulesRead r (clauseSheet (now (s .entry))) ⌝ }
+{
+    let c = Cursor::line(s, 0);
+    let end = c.end;
+    if end < s.len() {
+        if fields::same(&s[..end], b"left clause") {
+            return clauses_from(s, end + 1);
+        }
+        return refuse_rules(no_rules(), Fault::RuleNames, 1);
+    }
+    refuse_rules(no_rules(), Fault::RuleNames, 1)
+}

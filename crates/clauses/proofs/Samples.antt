@@ -1,0 +1,59 @@
+-- Sheets expanded, as text and by hand.
+use mathlib.Core.Path.{_≡_, refl}
+use mathlib.Core.List.{[], _∷_}
+use Rattle.grammar.specs.declared.UnaryMark.{UnaryMark}
+use Rattle.grammar.specs.declared.UnaryMark.the-variants as UnaryMark
+use Rattle.grammar.specs.declared.BinaryMark.the-variants as BinaryMark
+use Rattle.clauses.specs.Clauses.{item, made, one, zero, Expr, nonterminal, part, terminal, group, mark, pair, optional, repeated, only, or, Clauses, none, line}
+use Rattle.clauses.specs.Expansion.{E, A, U, B, expansion}
+
+-- an alternative of a single item
+abbrev single : Expr item → Expr made
+single e = mark UnaryMark.None e
+
+-- 1 t0 | (t1 n0):offside
+-- 0 n1+:align
+block : Clauses
+block =
+    line 1 (or (single (part (terminal 0))) (only (single (part (mark UnaryMark.Offside (part (group (only (pair BinaryMark.None (part (terminal 1)) (nonterminal 0)))))))))) (line 0 (only (single (part (repeated one BinaryMark.Align (nonterminal 1))))) none)
+
+block-expanded : expansion block ≡
+    U 0 9 UnaryMark.None
+    ∷ U 1 2 UnaryMark.None
+    ∷ U 1 4 UnaryMark.None
+    ∷ U 2 3 UnaryMark.None
+    ∷ A 3 0
+    ∷ U 4 5 UnaryMark.None
+    ∷ U 5 6 UnaryMark.Offside
+    ∷ U 6 7 UnaryMark.None
+    ∷ B 7 8 0 BinaryMark.None
+    ∷ A 8 1
+    ∷ U 9 10 UnaryMark.None
+    ∷ U 10 1 UnaryMark.None
+    ∷ U 10 11 UnaryMark.None
+    ∷ B 11 10 1 BinaryMark.Align
+    ∷ []
+unfolding block
+block-expanded = refl
+
+-- 0 (t0 :indent: n3? t1*) n0
+deep : Clauses
+deep =
+    line 0 (only (pair BinaryMark.None (part (group (only (pair BinaryMark.Indent (part (terminal 0)) (part (pair BinaryMark.None (part (optional (nonterminal 3))) (part (repeated zero BinaryMark.None (part (terminal 1)))))))))) (nonterminal 0))) none
+
+deep-expanded : expansion deep ≡
+    U 0 4 UnaryMark.None
+    ∷ B 4 5 0 BinaryMark.None
+    ∷ U 5 6 UnaryMark.None
+    ∷ B 6 7 8 BinaryMark.Indent
+    ∷ A 7 0
+    ∷ B 8 9 10 BinaryMark.None
+    ∷ U 9 3 UnaryMark.None
+    ∷ E 9
+    ∷ E 10
+    ∷ U 10 11 UnaryMark.None
+    ∷ B 11 10 12 BinaryMark.None
+    ∷ A 12 1
+    ∷ []
+unfolding deep
+deep-expanded = refl
