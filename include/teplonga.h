@@ -24,12 +24,13 @@ extern "C" {
 #define TEPLONGA_CODE(answer) ((uint64_t)(answer) >> 32)
 #define TEPLONGA_LINE(answer) ((uint64_t)(answer) & 0xFFFFFFFFu)
 
-/* The codes: none, one, two, clear, and 100 + N for refused-N. */
+/* The codes: none, one, two, clear, given, and 100 + N for refused-N. */
 enum {
     TEPLONGA_NONE = 0,
     TEPLONGA_ONE = 1,
     TEPLONGA_TWO = 2,
     TEPLONGA_CLEAR = 3,
+    TEPLONGA_GIVEN = 4,
     TEPLONGA_REFUSED = 100,
     /* rule sheet, line 1 */
     TEPLONGA_RULE_NAMES = 101,      /* not the names `left kind first second lay`, so ended */

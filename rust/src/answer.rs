@@ -13,18 +13,21 @@ pub enum Answer {
     Two,
     /// A sweep found no sentence that has two trees.
     Clear,
+    /// What was asked for is given.
+    Given,
     /// The call is refused, with the refusal's number.
     Refused(u8),
 }
 
 impl Answer {
-    /// The answer of a code: 0 none, 1 one, 2 two, 3 clear, 100 + N refused-N.
+    /// The answer of a code: 0 none, 1 one, 2 two, 3 clear, 4 given, 100 + N refused-N.
     fn coded(code: u64) -> Answer {
         match code {
             0 => Answer::None,
             1 => Answer::One,
             2 => Answer::Two,
             3 => Answer::Clear,
+            4 => Answer::Given,
             101..=199 => Answer::Refused((code - 100) as u8),
             _ => unreachable!("no answer has the code {code}"),
         }
@@ -43,6 +46,7 @@ impl fmt::Display for Answer {
             Answer::One => f.write_str("one"),
             Answer::Two => f.write_str("two"),
             Answer::Clear => f.write_str("clear"),
+            Answer::Given => f.write_str("given"),
             Answer::Refused(number) => write!(f, "refused-{number}"),
         }
     }
@@ -85,6 +89,7 @@ mod tests {
         assert_eq!(shown(1, 0), "one 0");
         assert_eq!(shown(2, 0), "two 0");
         assert_eq!(shown(3, 0), "clear 0");
+        assert_eq!(shown(4, 0), "given 0");
         assert_eq!(shown(101, 1), "refused-1 1");
         assert_eq!(shown(132, u64::from(u32::MAX)), "refused-32 4294967295");
     }

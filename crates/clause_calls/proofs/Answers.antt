@@ -27,6 +27,7 @@ said-readings c g w m Answer.None s = no-reading m w s
 said-readings c g w m Answer.One s = one-reading m w s
 said-readings c g w m Answer.Two s = two-readings m w s
 said-readings c g w m Answer.Clear s = s
+said-readings c g w m Answer.Given s = s
 said-readings c g w m (Answer.Refused f) s = s
 
 -- both sheets accepted: the rules are the clause sheet's

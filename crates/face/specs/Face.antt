@@ -21,12 +21,13 @@ use Rattle.teplonga.specs.Verdict.{VerdictBy}
 use Rattle.teplonga.specs.Trees.{TreesBy}
 use Rattle.teplonga.specs.Sweep.{SweepBy}
 
--- an answer's code: 0 none, 1 one, 2 two, 3 clear, 100 + N refused-N
+-- an answer's code: 0 none, 1 one, 2 two, 3 clear, 4 given, 100 + N refused-N
 abbrev pub codeOf : Answer → ℕ
 codeOf Answer.None = 0
 codeOf Answer.One = 1
 codeOf Answer.Two = 2
 codeOf Answer.Clear = 3
+codeOf Answer.Given = 4
 codeOf (Answer.Refused f) = 100 + numberOf f
 
 -- the code times 2^32 plus the line's number; a line past the greatest number of 32 bits counts as that

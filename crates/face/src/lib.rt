@@ -28,6 +28,7 @@ fn code(a: Answer) -> u64
         Answer::One => 1,
         Answer::Two => 2,
         Answer::Clear => 3,
+        Answer::Given => 4,
         Answer::Refused(f) => 100 + fault_number(f),
     }
 }

@@ -43,7 +43,7 @@ pub fn put_number(out: &mut [u8], at: usize, v: u64) -> usize
 }
 
 // A number of at most five digits and the byte `end` behind it.
-fn put_ended(out: &mut [u8], at: usize, v: u32, end: u8) -> usize
+pub fn put_ended(out: &mut [u8], at: usize, v: u32, end: u8) -> usize
     requires { ⌜ v < 100000 ⌝ }
     requires { ⌜ at + 6 ≤ length (now out) ⌝ }
     ensures { λ r. ⌜ Wrote (now (out .entry)) (now (out .exit)) at (decimal v ++ (end ∷ [])) r ⌝ }

@@ -56,10 +56,14 @@ says-one g w Answer.Two Answer.Two x y = refl
 says-one g w Answer.None Answer.Clear x y = absurd y
 says-one g w Answer.One Answer.Clear x y = absurd y
 says-one g w Answer.Two Answer.Clear x y = absurd y
+says-one g w Answer.None Answer.Given x y = absurd y
+says-one g w Answer.One Answer.Given x y = absurd y
+says-one g w Answer.Two Answer.Given x y = absurd y
 says-one g w Answer.None (Answer.Refused f) x y = absurd y
 says-one g w Answer.One (Answer.Refused f) x y = absurd y
 says-one g w Answer.Two (Answer.Refused f) x y = absurd y
 says-one g w Answer.Clear b x y = absurd x
+says-one g w Answer.Given b x y = absurd x
 says-one g w (Answer.Refused f) b x y = absurd x
 
 -- 2. words

@@ -35,4 +35,5 @@ Says Answer.None g w = NoTree g 0 w
 Says Answer.One g w = OneTree g 0 w
 Says Answer.Two g w = TwoTrees g 0 w
 Says Answer.Clear g w = ⊥
+Says Answer.Given g w = ⊥
 Says (Answer.Refused f) g w = ⊥

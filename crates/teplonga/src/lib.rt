@@ -36,12 +36,13 @@ ghost use Rattle.teplonga.specs.Trees.{TreesOn, TreesBy, TreesOf};
 ghost use Rattle.teplonga.specs.Sweep.{SweepOn, SweepBy, SweepOf};
 ghost use Rattle.teplonga.specs.Sweep as Sweep;
 
-// 01's answers: none, one, two, clear, refused-N.
+// The answers: none, one, two, clear, refused-N, and given for what a call gives otherwise.
 pub enum Answer {
     None,
     One,
     Two,
     Clear,
+    Given,
     Refused(Fault),
 }
 

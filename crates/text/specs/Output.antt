@@ -13,12 +13,13 @@ use Rattle.teplonga.specs.declared.Answer.the-variants as Answer
 abbrev pub refusedText : ℕ → List ℕ
 refusedText n = (114 ∷ 101 ∷ 102 ∷ 117 ∷ 115 ∷ 101 ∷ 100 ∷ 45 ∷ []) ++ decimal n
 
--- the word of an answer: none, one, two, clear, refused-N
+-- the word of an answer: none, one, two, clear, given, refused-N
 abbrev pub answerText : Answer → List ℕ
 answerText Answer.None = 110 ∷ 111 ∷ 110 ∷ 101 ∷ []
 answerText Answer.One = 111 ∷ 110 ∷ 101 ∷ []
 answerText Answer.Two = 116 ∷ 119 ∷ 111 ∷ []
 answerText Answer.Clear = 99 ∷ 108 ∷ 101 ∷ 97 ∷ 114 ∷ []
+answerText Answer.Given = 103 ∷ 105 ∷ 118 ∷ 101 ∷ 110 ∷ []
 answerText (Answer.Refused f) = refusedText (numberOf f)
 
 -- the line `answer line`
@@ -45,6 +46,7 @@ treesText Answer.None one two = []
 treesText Answer.One one two = treeNames ++ rowLines 1 one
 treesText Answer.Two one two = treeNames ++ (rowLines 1 one ++ rowLines 2 two)
 treesText Answer.Clear one two = []
+treesText Answer.Given one two = []
 treesText (Answer.Refused f) one two = []
 
 -- for `two` a token sheet
@@ -53,4 +55,5 @@ sentenceText Answer.None w = []
 sentenceText Answer.One w = []
 sentenceText Answer.Two w = tokenNames ++ tokenLines w
 sentenceText Answer.Clear w = []
+sentenceText Answer.Given w = []
 sentenceText (Answer.Refused f) w = []

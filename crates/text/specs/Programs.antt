@@ -4,10 +4,14 @@ use mathlib.Core.List.{List, _++_}
 use mathlib.Core.Option.{none, some}
 use Prim.Native.Nat.{ℕ, _*_, _≤_, _<_}
 use lib.ListN.{length, take}
+use Rattle.grammar.specs.declared.Rule.{Rule}
+use Rattle.sheets.specs.Items.{Reading}
+use Rattle.sheets.specs.RuleSheets.{ruleSheet}
+use Rattle.teplonga.specs.Answers.{Sheets, sheets}
 use Rattle.teplonga.specs.declared.TreesReply.{TreesReply}
-use Rattle.teplonga.specs.Trees.{TreesOf}
+use Rattle.teplonga.specs.Trees.{TreesBy}
 use Rattle.teplonga.specs.declared.SweepReply.{SweepReply}
-use Rattle.teplonga.specs.Sweep.{SweepOf}
+use Rattle.teplonga.specs.Sweep.{SweepBy}
 use Rattle.grammar.specs.Content.{spelled}
 use Rattle.text.specs.Input.{Parts, parts, boundOf}
 use Rattle.text.specs.Output.{refusedText, answerText, head, treesText, sentenceText}
@@ -22,22 +26,29 @@ pub record Lent (words one two : List ℕ) : Type 0 where
   pub first : length one ≡ 4 * 4096
   pub second : length two ≡ 4 * 4096
 
+-- the answer on two sheets that give this, and its trees
+pub data TreesText (given : Sheets) (text : List ℕ) : Type 0 where
+  answered : {words words′ one one′ two two′ : List ℕ} {r : TreesReply} → Lent words one two → TreesBy given words words′ one one′ two two′ r
+      → text ≡ head (answerText (r .answer)) (r .line) ++ treesText (r .answer) (take (4 * r .first) one′) (take (4 * r .second) two′)
+      → TreesText given text
+
+-- the answer on a bound and a sheet that gives this, and the found sentence; words enough for 7 tokens are lent
+pub data SweepText (k : ℕ) (given : Reading Rule) (text : List ℕ) : Type 0 where
+  swept : {words words′ : List ℕ} {r : SweepReply} → length words ≡ 58 → SweepBy given k words words′ r
+      → text ≡ head (answerText (r .answer)) (r .line) ++ sentenceText (r .answer) (spelled (r .sentence))
+      → SweepText k given text
+
 -- the output of `check`: refused-31 for a longer input, refused-32 for one without an empty line, else the answer on the two sheets and its trees
 pub data CheckOf (input text : List ℕ) : Type 0 where
   long : longest < length input → text ≡ head (refusedText 31) 0 → CheckOf input text
   whole : length input ≤ longest → parts input ≡ none → text ≡ head (refusedText 32) 0 → CheckOf input text
-  answered : {p : Parts} {words words′ one one′ two two′ : List ℕ} {r : TreesReply} → length input ≤ longest → parts input ≡ some p
-      → Lent words one two → TreesOf (p .before) (p .behind) words words′ one one′ two two′ r
-      → text ≡ head (answerText (r .answer)) (r .line) ++ treesText (r .answer) (take (4 * r .first) one′) (take (4 * r .second) two′)
-      → CheckOf input text
+  checked : {p : Parts} → length input ≤ longest → parts input ≡ some p → TreesText (sheets (p .before) (p .behind)) text → CheckOf input text
 
 -- the output of `sweep`: refused-31 for a longer input, refused-32 for one without an empty line or with a bound not so written,
--- else the answer on the rule sheet and the found sentence; it lends words enough for 7 tokens
+-- else the answer on the rule sheet and the found sentence
 pub data SweepTextOf (input text : List ℕ) : Type 0 where
   long : longest < length input → text ≡ head (refusedText 31) 0 → SweepTextOf input text
   whole : length input ≤ longest → parts input ≡ none → text ≡ head (refusedText 32) 0 → SweepTextOf input text
   unbound : {p : Parts} → length input ≤ longest → parts input ≡ some p → boundOf (p .before) ≡ none → text ≡ head (refusedText 32) 0 → SweepTextOf input text
-  answered : {p : Parts} {k : ℕ} {words words′ : List ℕ} {r : SweepReply} → length input ≤ longest → parts input ≡ some p → boundOf (p .before) ≡ some k
-      → length words ≡ 58 → SweepOf (p .behind) k words words′ r
-      → text ≡ head (answerText (r .answer)) (r .line) ++ sentenceText (r .answer) (spelled (r .sentence))
-      → SweepTextOf input text
+  bounded : {p : Parts} {k : ℕ} → length input ≤ longest → parts input ≡ some p → boundOf (p .before) ≡ some k
+      → SweepText k (ruleSheet (p .behind)) text → SweepTextOf input text

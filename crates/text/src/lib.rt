@@ -19,12 +19,14 @@ ghost use lib.ListN.{length, take, drop};
 ghost use Rattle.grammar.specs.Content.{spelled};
 ghost use Rattle.printing.specs.Printing.{Wrote, lastField, rowLines, tokenLines};
 ghost use Rattle.sheets.specs.Refusals.{numberOf};
+ghost use Rattle.sheets.specs.RuleSheets.{ruleSheet};
+ghost use Rattle.teplonga.specs.Answers.{sheets};
 ghost use Rattle.text.specs.Output.{refusedText, answerText, head, treeNames, tokenNames, treesText, sentenceText};
 ghost use Rattle.fields.specs.Answers.{asNumber};
 ghost use Rattle.text.specs.Input.{boundOf};
 ghost use Rattle.text.specs.Parting.{Parted};
-ghost use Rattle.text.specs.Programs.{CheckOf, SweepTextOf};
-ghost use Rattle.text.specs.Printed.{Printed, Answered, Swept, SweptAt};
+ghost use Rattle.text.specs.Programs.{TreesText, SweepText, CheckOf, SweepTextOf};
+ghost use Rattle.text.specs.Printed.{Printed, SweptAt};
 
 // A place in the input, or none.
 pub enum Place {
@@ -76,6 +78,7 @@ fn put_answer(out: &mut [u8], at: usize, a: Answer) -> usize
         Answer::One => put_bytes(out, at, b"one"),
         Answer::Two => put_bytes(out, at, b"two"),
         Answer::Clear => put_bytes(out, at, b"clear"),
+        Answer::Given => put_bytes(out, at, b"given"),
         Answer::Refused(f) => put_refused(out, at, fault_number(f)),
     }
 }
@@ -146,6 +149,7 @@ pub fn put_trees(
             put_rows(out, next, 2, two, n)
         }
         Answer::Clear => at,
+        Answer::Given => at,
         Answer::Refused(_) => at,
     }
 }
@@ -164,6 +168,7 @@ fn put_sentence(out: &mut [u8], at: usize, a: Answer, s: Sentence) -> usize
             put_tokens(out, next, s)
         }
         Answer::Clear => at,
+        Answer::Given => at,
         Answer::Refused(_) => at,
     }
 }
@@ -171,7 +176,7 @@ fn put_sentence(out: &mut [u8], at: usize, a: Answer, s: Sentence) -> usize
 // The answer on two sheets and its trees.
 fn check_sheets(rules: &[u8], tokens: &[u8], out: &mut [u8]) -> usize
     requires { ⌜ 262144 ≤ length (now out) ⌝ }
-    ensures { λ r. ⌜ Answered (now (rules .entry)) (now (tokens .entry)) (now (out .entry)) (now (out .exit)) r ⌝ }
+    ensures { λ r. ⌜ Printed TreesText (sheets (now (rules .entry)) (now (tokens .entry))) (now (out .entry)) (now (out .exit)) r ⌝ }
 {
     let mut words = [0u64; 4162];
     let mut one = [0u8; 16384];
@@ -186,7 +191,7 @@ fn check_sheets(rules: &[u8], tokens: &[u8], out: &mut [u8]) -> usize
 fn check_at(input: &[u8], i: usize, out: &mut [u8]) -> usize
     requires { ⌜ i < length (now input) ⌝ }
     requires { ⌜ 262144 ≤ length (now out) ⌝ }
-    ensures { λ r. ⌜ Answered (take i (now (input .entry))) (drop (i + 1) (now (input .entry))) (now (out .entry)) (now (out .exit)) r ⌝ }
+    ensures { λ r. ⌜ Printed TreesText (sheets (take i (now (input .entry))) (drop (i + 1) (now (input .entry)))) (now (out .entry)) (now (out .exit)) r ⌝ }
 {
     let j = i + 1;
     check_sheets(&input[..i], &input[j..], out)
@@ -227,7 +232,7 @@ fn bound_of(s: &[u8]) -> Number
 // The answer on a rule sheet and a bound.
 fn sweep_sheet(rules: &[u8], k: u32, out: &mut [u8]) -> usize
     requires { ⌜ 262144 ≤ length (now out) ⌝ }
-    ensures { λ r. ⌜ Swept (now (rules .entry)) k (now (out .entry)) (now (out .exit)) r ⌝ }
+    ensures { λ r. ⌜ Printed (SweepText k) (ruleSheet (now (rules .entry))) (now (out .entry)) (now (out .exit)) r ⌝ }
 {
     let mut words = [0u64; 58];
     let r = sweep(rules, k as usize, &mut words);

@@ -1,8 +1,10 @@
 -- `text::check_sheets` meets its contract: the lent arrays are those of the promise of `trees`.
+use mathlib.Core.Path.{refl}
 use Prim.Native.Nat.{ℕ}
 use native.Mathlib.Omega.{arith}
 use lib.ListN.{length-replicate}
 use Rattle.printing.proofs.Writing.{wrote-then}
+use Rattle.text.specs.Programs.{Lent, answered}
 use Rattle.text.proofs.Fits.{trees-fit}
 use borrow.Author.Needs.{needs}
 use Rattle.text.proofs.check_sheets.Statement.{statement}
@@ -48,18 +50,9 @@ returns c =
     let p = c .before .before in
     let h = p .before .before .before .before .before .before in
     let z = h .before .before .before .before .before in
-    record {
-      words = _;
-      words′ = _;
-      one = _;
-      one′ = _;
-      two = _;
-      two′ = _;
-      reply = z .trees .result;
-      lent = record { enough = length-replicate {A = ℕ} 4162 0; first = length-replicate {A = ℕ} 16384 0; second = length-replicate {A = ℕ} 16384 0 };
-      trees = z .trees .ensures;
-      wrote = wrote-then (h .put-head .ensures .0) (p .put-trees .ensures);
-    }
+    let one = length-replicate {A = ℕ} 16384 0 in
+    let lent : Lent _ _ _ = record { enough = length-replicate {A = ℕ} 4162 0; first = one; second = one } in
+    record { text = _; is = answered lent (z .trees .ensures) refl; wrote = wrote-then (h .put-head .ensures .0) (p .put-trees .ensures) }
 
 pub check-sheets-spec : {M : Type 1} → statement M
 check-sheets-spec =

@@ -1,6 +1,6 @@
 -- `text::check_text` meets its contract, case by case.
 use mathlib.Core.Path.{refl}
-use Rattle.text.specs.Programs.{long, whole, answered}
+use Rattle.text.specs.Programs.{long, whole, checked}
 use borrow.Author.Needs.{needs}
 use Rattle.text.proofs.check_text.Statement.{statement}
 use Rattle.text.proofs.check_text.Tie as tie
@@ -40,7 +40,7 @@ returns-3 c =
     let a = c .check-at .ensures in
     let p = c .before .before .before in
     let s = p .before .before .parting .ensures in
-    record { text = _; is = answered (search needs) ((rw (p .place .given .1) at s) .1) (a .lent) (a .trees) refl; wrote = a .wrote }
+    record { text = a .text; is = checked (search needs) ((rw (p .place .given .1) at s) .1) (a .is); wrote = a .wrote }
 
 pub check-text-spec : {M : Type 1} → statement M
 check-text-spec =

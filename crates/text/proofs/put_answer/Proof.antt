@@ -41,6 +41,15 @@ slice-aggregate-put-bytes-4 c = search needs
 put-bytes-requires-4 : tie.Need-put-bytes-requires-4
 put-bytes-requires-4 c κs = search needs
 
+enum-told-5 : tie.Need-enum-told-5
+enum-told-5 c = search needs
+
+slice-aggregate-put-bytes-5 : tie.Need-slice-aggregate-put-bytes-5
+slice-aggregate-put-bytes-5 c = search needs
+
+put-bytes-requires-5 : tie.Need-put-bytes-requires-5
+put-bytes-requires-5 c κs = search needs
+
 enum-known-a : tie.Need-enum-known-a
 enum-known-a c = search needs
 
@@ -90,6 +99,14 @@ same-length-5 c = search needs
 returns-5 : tie.Need-returns-5
 returns-5 c =
     let z = c .before .before in
+    (rw (z .before .before .before .enum-told5 .given .1) (z .put-bytes5 .ensures), omega (arith, z .put-bytes5 .ensures .next))
+
+same-length-6 : tie.Need-same-length-6
+same-length-6 c = search needs
+
+returns-6 : tie.Need-returns-6
+returns-6 c =
+    let z = c .before .before in
     let w = rw (z .before .fault-number .ensures) at (z .put-refused .ensures .0) in
     (rw (z .before .before .before .before .a .given .1) w, z .put-refused .ensures .1)
 
@@ -109,6 +126,9 @@ put-answer-spec =
     enum-told-4
     slice-aggregate-put-bytes-4
     put-bytes-requires-4
+    enum-told-5
+    slice-aggregate-put-bytes-5
+    put-bytes-requires-5
     enum-known-a
     fault-number-requires
     put-refused-requires
@@ -121,4 +141,6 @@ put-answer-spec =
     same-length-4
     returns-4
     same-length-5
-    returns-5)
+    returns-5
+    same-length-6
+    returns-6)

@@ -28,6 +28,9 @@ enum-told-4 c = search needs
 enum-told-5 : tie.Need-enum-told-5
 enum-told-5 c = search needs
 
+enum-told-6 : tie.Need-enum-told-6
+enum-told-6 c = search needs
+
 returns : tie.Need-returns
 returns c = rw (c .enum-told .given .1) (wrote-none _ _)
 
@@ -49,6 +52,9 @@ returns-4 c = rw (c .enum-told4 .given .1) (wrote-none _ _)
 returns-5 : tie.Need-returns-5
 returns-5 c = rw (c .enum-told5 .given .1) (wrote-none _ _)
 
+returns-6 : tie.Need-returns-6
+returns-6 c = rw (c .enum-told6 .given .1) (wrote-none _ _)
+
 pub put-sentence-spec : {M : Type 1} → statement M
 put-sentence-spec =
     tie.close
@@ -61,9 +67,11 @@ put-sentence-spec =
     put-tokens-requires
     enum-told-4
     enum-told-5
+    enum-told-6
     returns
     returns-2
     same-length
     returns-3
     returns-4
-    returns-5)
+    returns-5
+    returns-6)

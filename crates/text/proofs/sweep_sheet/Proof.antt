@@ -1,8 +1,10 @@
 -- `text::sweep_sheet` meets its contract: the lent words are those of the promise of `sweep`.
+use mathlib.Core.Path.{refl}
 use Prim.Native.Nat.{ℕ}
 use native.Mathlib.Omega.{arith}
 use lib.ListN.{length-replicate}
 use Rattle.printing.proofs.Writing.{wrote-then}
+use Rattle.text.specs.Programs.{swept}
 use Rattle.text.proofs.Fits.{sweep-few}
 use borrow.Author.Needs.{needs}
 use Rattle.text.proofs.sweep_sheet.Statement.{statement}
@@ -33,14 +35,8 @@ returns c =
     let p = c .before .before in
     let h = p .before .before .before .before in
     let z = h .before .before .before .before in
-    record {
-      words = _;
-      words′ = _;
-      reply = z .sweep .result;
-      enough = length-replicate {A = ℕ} 58 0;
-      sweep = z .sweep .ensures;
-      wrote = wrote-then (h .put-head .ensures .0) (p .put-sentence .ensures);
-    }
+    let few = length-replicate {A = ℕ} 58 0 in
+    record { text = _; is = swept few (z .sweep .ensures) refl; wrote = wrote-then (h .put-head .ensures .0) (p .put-sentence .ensures) }
 
 pub sweep-sheet-spec : {M : Type 1} → statement M
 sweep-sheet-spec =
