@@ -31,6 +31,7 @@ rowsText Answer.None m n = countLines m n
 rowsText Answer.One m n = countLines m n
 rowsText Answer.Two m n = countLines m n
 rowsText Answer.Clear m n = []
+rowsText Answer.Given m n = []
 rowsText (Answer.Refused f) m n = []
 
 -- the output for two sheets; it lends words enough for 64 tokens

@@ -46,6 +46,7 @@ fn put_counted(out: &mut [u8], at: usize, a: Answer, first: RowCount, second: Ro
         Answer::One => put_counts(out, at, first, second),
         Answer::Two => put_counts(out, at, first, second),
         Answer::Clear => at,
+        Answer::Given => at,
         Answer::Refused(_) => at,
     }
 }

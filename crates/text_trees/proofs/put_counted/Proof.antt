@@ -28,6 +28,9 @@ enum-told-4 c = search needs
 enum-told-5 : tie.Need-enum-told-5
 enum-told-5 c = search needs
 
+enum-told-6 : tie.Need-enum-told-6
+enum-told-6 c = search needs
+
 same-length : tie.Need-same-length
 same-length c = search needs
 
@@ -58,6 +61,9 @@ returns-4 c = rw (c .enum-told4 .given .1) (wrote-none _ _)
 returns-5 : tie.Need-returns-5
 returns-5 c = rw (c .enum-told5 .given .1) (wrote-none _ _)
 
+returns-6 : tie.Need-returns-6
+returns-6 c = rw (c .enum-told6 .given .1) (wrote-none _ _)
+
 pub put-counted-spec : {M : Type 1} → statement M
 put-counted-spec =
     tie.close
@@ -70,6 +76,7 @@ put-counted-spec =
     put-counts-requires-3
     enum-told-4
     enum-told-5
+    enum-told-6
     same-length
     returns
     same-length-2
@@ -77,4 +84,5 @@ put-counted-spec =
     same-length-3
     returns-3
     returns-4
-    returns-5)
+    returns-5
+    returns-6)
