@@ -1,10 +1,26 @@
 /*
- * Teplonga's calls for C and C++, as `rt staticlib face` and `rt staticlib face_trees` build them for
- * x86-64 Linux.
+ * Teplonga's calls for C and C++, on x86-64 Linux.
  *
- * Sheets and lent memory are a pointer and a number of places. A pointer is never NULL, not even
- * with no places, and what is lent to a call to be written is lent to it once and overlaps nothing
- * else of that call. Nothing more is asked: any bytes, any lengths and any bound are answered.
+ * Link: `rt staticlib face` and `rt staticlib face_trees` prove the libraries and write
+ * target/staticlib/libface.a and libface_trees.a; a program takes those that have the functions
+ * that it calls, and nothing else:
+ *
+ *     cc -I include program.c target/staticlib/libface.a target/staticlib/libface_trees.a
+ *
+ * Lent memory: sheets and memory are a pointer and a number of places. A pointer is never NULL, not
+ * even with no places, and what is lent to a call to be written is lent to it once and overlaps
+ * nothing else of that call. Nothing more is asked: any bytes, any lengths and any bound are
+ * answered. A call reads and writes within what it is lent, and keeps none of it.
+ *
+ * Calls are reentrant: they have no state of their own and may run in any threads at once, each on
+ * its own lent memory. They allocate nothing, take no lock, set no errno and make no system call.
+ *
+ * Stack: the verdict, its trees and a sweep need 16 KB, the refused line 12 KB, whatever they are
+ * asked; TEPLONGA_STACK bytes are enough for any call.
+ *
+ * Time: a verdict or its trees take some milliseconds on the largest sheets. A sweep may take long:
+ * sheets can be built whose sweep takes minutes, and it cannot be interrupted, so run it in a thread
+ * or a process that may be given up.
  */
 #ifndef TEPLONGA_H
 #define TEPLONGA_H
@@ -16,6 +32,12 @@
 extern "C" {
 #endif
 
+/* The version of this header, that of the Rust crate too. */
+#define TEPLONGA_VERSION "0.1.0"
+
+/* The bytes of stack that are enough for any call. */
+#define TEPLONGA_STACK 65536
+
 /*
  * Three calls answer one number: the answer's code in its upper 32 bits and the refused line's
  * number in its lower 32 bits. The line counts from 1 in its sheet; it is 0 where there is no such
@@ -24,44 +46,69 @@ extern "C" {
 #define TEPLONGA_CODE(answer) ((uint64_t)(answer) >> 32)
 #define TEPLONGA_LINE(answer) ((uint64_t)(answer) & 0xFFFFFFFFu)
 
-/* The codes: none, one, two, clear, given, and 100 + N for refused-N. */
+/*
+ * The codes: none, one, two, clear, given, and 100 + N for refused-N. docs/FORMAT.md has the refusals in
+ * the order in which they are looked for, which is also the order here.
+ */
 enum {
     TEPLONGA_NONE = 0,
     TEPLONGA_ONE = 1,
     TEPLONGA_TWO = 2,
     TEPLONGA_CLEAR = 3,
     TEPLONGA_GIVEN = 4,
-    TEPLONGA_REFUSED = 100,
-    /* rule sheet, line 1 */
-    TEPLONGA_RULE_NAMES = 101,      /* not the names `left kind first second lay`, so ended */
-    /* each rule line */
-    TEPLONGA_RULE_FORM = 102,       /* not five fields so parted and ended, or one not so written */
-    TEPLONGA_RULE_RANGE = 103,      /* a number above 63 */
-    TEPLONGA_RULE_LAY = 104,        /* lay not allowed for the kind */
-    TEPLONGA_RULE_REVERSED = 144,   /* an A rule's second below its first; after 104 */
-    TEPLONGA_RULE_TWICE = 105,      /* an earlier line has the same left, kind, first and second; an A
-                                       rule: an earlier one of its left shares a terminal */
-    TEPLONGA_RULE_MANY = 106,       /* a 129th rule */
-    /* rule sheet, end; line 0 */
-    TEPLONGA_NO_START = 107,        /* no rule has left 0 */
-    TEPLONGA_CYCLIC = 108,          /* cyclic */
-    /* token sheet, line 1 */
-    TEPLONGA_TOKEN_NAMES = 111,     /* not the names `term line col` or `term line col width`, so ended */
-    /* each token line */
-    TEPLONGA_TOKEN_FORM = 112,      /* not three numbers (with `width`: four) so parted and ended, or one not so written */
-    TEPLONGA_TOKEN_RANGE = 113,     /* terminal above 63, line or column 0 or above 65,535 */
-    TEPLONGA_TOKEN_MANY = 114,      /* a 65th token */
-    TEPLONGA_TOKEN_WIDTH = 147,     /* width 0 or above 255, or column plus width above 65,536; after 113 */
-    TEPLONGA_TOKEN_ORDER = 115,     /* not after the token before: overlaps it, or stands before it */
-    /* lent words, lent tree rows; line 0 */
-    TEPLONGA_FEW_WORDS = 121,       /* fewer than the span sheet needs */
-    TEPLONGA_FEW_ROWS = 122,        /* a tree has more rows than its memory has whole places */
-    /* sweep call; line 0 */
-    TEPLONGA_BAD_BOUND = 123,       /* the bound is not 1 to 7 */
-    TEPLONGA_MANY_CANDIDATES = 124  /* T^k * 3^(k-1) * k^k above 4,294,967,296 */
+    /* made by scripts/refusals.py from docs/refusals.tsv */
+    /* 1, rule sheet, line 1: the names are not `left kind first second lay`, ended by byte 10 */
+    TEPLONGA_RULE_NAMES = 101,
+    /* 6, each rule line: a 129th rule */
+    TEPLONGA_RULE_MANY = 106,
+    /* 2, each rule line: not five fields parted by one blank each and ended by byte 10, a kind or
+     * lay unknown, `-` where a number belongs or the reverse, or a number not of one to five
+     * digits */
+    TEPLONGA_RULE_FORM = 102,
+    /* 3, each rule line: a number above 63 */
+    TEPLONGA_RULE_RANGE = 103,
+    /* 4, each rule line: a lay that the kind does not allow */
+    TEPLONGA_RULE_LAY = 104,
+    /* 44, each rule line: an A rule whose second terminal is below its first */
+    TEPLONGA_RULE_REVERSED = 144,
+    /* 5, each rule line: an earlier rule has the same left, kind, first and second, under any lay;
+     * for an A rule: an earlier A rule of the same left shares a terminal */
+    TEPLONGA_RULE_TWICE = 105,
+    /* 7, rule sheet, end: no rule has left 0 */
+    TEPLONGA_NO_START = 107,
+    /* 8, rule sheet, end: the rules are cyclic: a chain of edges returns to where it began */
+    TEPLONGA_CYCLIC = 108,
+    /* 11, token sheet, line 1: the names are neither `term line col` nor `term line col width`,
+     * ended by byte 10 */
+    TEPLONGA_TOKEN_NAMES = 111,
+    /* 14, each token line: a 65th token */
+    TEPLONGA_TOKEN_MANY = 114,
+    /* 12, each token line: not three numbers (with `width` four) parted by one blank each and
+     * ended by byte 10, or a number not of one to five digits */
+    TEPLONGA_TOKEN_FORM = 112,
+    /* 13, each token line: a terminal above 63, or a line or column that is 0 or above 65,535 */
+    TEPLONGA_TOKEN_RANGE = 113,
+    /* 47, each token line: a width that is 0 or above 255, or column plus width above 65,536 */
+    TEPLONGA_TOKEN_WIDTH = 147,
+    /* 15, each token line: not after the token before: an earlier line, or the same line and a
+     * column before that token's column plus width */
+    TEPLONGA_TOKEN_ORDER = 115,
+    /* 23, sweep: the bound is not 1 to 7 */
+    TEPLONGA_BAD_BOUND = 123,
+    /* 24, sweep: the sweep is too large: `T^k * 3^(k-1) * k^k` is above 4,294,967,296 */
+    TEPLONGA_MANY_CANDIDATES = 124,
+    /* 21, lent words: fewer words are lent than the span sheet needs (for a sweep: with as many
+     * tokens as the bound) */
+    TEPLONGA_FEW_WORDS = 121,
+    /* 22, lent tree rows: a tree of the answer has more rows than its memory has whole places of
+     * four bytes (`check` lends 4,096) */
+    TEPLONGA_FEW_ROWS = 122,
+    /* end of what scripts/refusals.py makes */
+    TEPLONGA_REFUSED = 100
 };
 
-/* The most tokens of a token sheet, and the largest bound of a sweep. */
+/* The most rules of a rule sheet, the most tokens of a token sheet, the largest bound of a sweep. */
+#define TEPLONGA_MOST_RULES 128
 #define TEPLONGA_MOST_TOKENS 64
 #define TEPLONGA_MOST_BOUND 7
 

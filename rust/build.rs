@@ -1,19 +1,23 @@
-//! Links the proved libraries, which `rt staticlib NAME` writes.
+//! Links the proved libraries, which `rt staticlib NAME` writes: from the folder that
+//! `TEPLONGA_LIB_DIR` names, or from where they are written in this repository.
 
-use std::path::Path;
+use std::path::{Path, PathBuf};
 
 /// The crates that export C functions.
 const LIBRARIES: [&str; 2] = ["face", "face_trees"];
 
 fn main() {
     let package = std::env::var("CARGO_MANIFEST_DIR").expect("set by cargo");
-    let folder = Path::new(&package).join("../target/staticlib");
+    let named = std::env::var_os("TEPLONGA_LIB_DIR").map(PathBuf::from);
+    let folder = named.unwrap_or_else(|| Path::new(&package).join("../target/staticlib"));
     println!("cargo:rerun-if-changed=build.rs");
+    println!("cargo:rerun-if-env-changed=TEPLONGA_LIB_DIR");
     println!("cargo:rustc-link-search=native={}", folder.display());
     for name in LIBRARIES {
         let library = folder.join(format!("lib{name}.a"));
         if !library.exists() {
-            println!("cargo:warning=no {}: run `rt staticlib {name}` first", library.display());
+            let shown = library.display();
+            println!("cargo:warning=no {shown}: run `rt staticlib {name}`, or set TEPLONGA_LIB_DIR");
         }
         println!("cargo:rerun-if-changed={}", library.display());
         println!("cargo:rustc-link-lib=static={name}");

@@ -10,6 +10,7 @@ definitions' numbers (crates/sheets/specs/Refusals.antt) are compared, never wri
 
 import re
 import sys
+import textwrap
 from pathlib import Path
 from typing import NamedTuple
 
@@ -39,6 +40,11 @@ def table():
     return [Refusal(int(number), *rest) for number, *rest in fields]
 
 
+def camel(name):
+    """RULE_NAMES as RuleNames."""
+    return "".join(part.capitalize() for part in name.split("_"))
+
+
 def markdown(refusals):
     """The table of docs/FORMAT.md."""
     yield "| where | number | line | what it means |"
@@ -50,9 +56,62 @@ def markdown(refusals):
         yield f"| {shown} | {refusal.number} | {refusal.line} | {refusal.meaning} |"
 
 
+def wrapped(text, width):
+    return textwrap.wrap(text, width, break_on_hyphens=False)
+
+
+def of_calls(refusals):
+    """The refusals that a call can answer: all but those of a program's input."""
+    return [refusal for refusal in refusals if refusal.where != "a program's input"]
+
+
+def header(refusals):
+    """The codes in include/teplonga.h."""
+    for refusal in of_calls(refusals):
+        said = f"{refusal.number}, {refusal.where}: {refusal.meaning}"
+        first, *more = wrapped(said, 92)
+        yield f"    /* {first}" + "".join(f"\n     * {line}" for line in more) + " */"
+        yield f"    TEPLONGA_{refusal.name} = {100 + refusal.number},"
+
+
+def rust(refusals):
+    """The names in rust/src/refusal.rs."""
+    named = [(camel(refusal.name), refusal) for refusal in of_calls(refusals)]
+    yield "/// Why a call is refused, in the order in which calls look."
+    yield "#[derive(Clone, Copy, Debug, PartialEq, Eq, Hash)]"
+    yield "#[non_exhaustive]"
+    yield "pub enum Refusal {"
+    for name, refusal in named:
+        said = f"{refusal.number}, {refusal.where}: {refusal.meaning}."
+        yield from (f"    /// {line}" for line in wrapped(said, 76))
+        yield f"    {name} = {refusal.number},"
+    yield "}"
+    yield ""
+    yield "impl Refusal {"
+    yield "    /// All refusals, in the order in which calls look."
+    yield f"    pub const ALL: [Refusal; {len(named)}] = ["
+    for name, _ in named:
+        yield f"        Refusal::{name},"
+    yield "    ];"
+    yield ""
+    yield "    /// What the refusal means, in words."
+    yield "    #[must_use]"
+    yield "    pub const fn meaning(self) -> &'static str {"
+    yield "        match self {"
+    for name, refusal in named:
+        arm = f'            Refusal::{name} => "{refusal.meaning}",'
+        wide = f'            Refusal::{name} => {{\n                "{refusal.meaning}"\n            }}'
+        yield arm if len(arm) <= 100 else wide
+    yield "        }"
+    yield "    }"
+    yield "}"
+
+
 # file: what makes its block
 BLOCKS = {
     "docs/FORMAT.md": markdown,
+    "include/teplonga.h": header,
+    "rust/src/refusal.rs": rust,
 }
 
 
@@ -64,11 +123,6 @@ def written(text, lines):
     if count != 1:
         raise SystemExit(f"{count} blocks in place of one")
     return text
-
-
-def camel(name):
-    """RULE_NAMES as RuleNames."""
-    return "".join(part.capitalize() for part in name.split("_"))
 
 
 def misnumbered(refusals):

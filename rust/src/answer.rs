@@ -2,8 +2,11 @@
 
 use std::fmt;
 
+use crate::{Refusal, Refused};
+
 /// An answer of a call.
 #[derive(Clone, Copy, Debug, PartialEq, Eq, Hash)]
+#[must_use]
 pub enum Answer {
     /// No valid tree.
     None,
@@ -15,8 +18,8 @@ pub enum Answer {
     Clear,
     /// What was asked for is given.
     Given,
-    /// The call is refused, with the refusal's number.
-    Refused(u8),
+    /// The call is refused.
+    Refused(Refusal),
 }
 
 impl Answer {
@@ -28,15 +31,30 @@ impl Answer {
             2 => Answer::Two,
             3 => Answer::Clear,
             4 => Answer::Given,
-            101..=199 => Answer::Refused((code - 100) as u8),
-            _ => unreachable!("no answer has the code {code}"),
+            _ => Answer::Refused(refusal(code)),
+        }
+    }
+
+    /// The answer, or the refusal with this line as an error.
+    pub(crate) fn result(self, line: u32) -> Result<Answer, Refused> {
+        match self {
+            Answer::Refused(refusal) => Err(Refused { refusal, line }),
+            _ => Ok(self),
         }
     }
 
     /// Is the call refused?
+    #[must_use]
     pub fn is_refused(self) -> bool {
         matches!(self, Answer::Refused(_))
     }
+}
+
+/// The refusal of a code, 100 + its number.
+fn refusal(code: u64) -> Refusal {
+    let number = code.checked_sub(100).and_then(|number| u8::try_from(number).ok());
+    let refusal = number.and_then(Refusal::numbered);
+    refusal.unwrap_or_else(|| unreachable!("no answer has the code {code}"))
 }
 
 impl fmt::Display for Answer {
@@ -47,13 +65,14 @@ impl fmt::Display for Answer {
             Answer::Two => f.write_str("two"),
             Answer::Clear => f.write_str("clear"),
             Answer::Given => f.write_str("given"),
-            Answer::Refused(number) => write!(f, "refused-{number}"),
+            Answer::Refused(refusal) => refusal.fmt(f),
         }
     }
 }
 
 /// An answer and its line.
 #[derive(Clone, Copy, Debug, PartialEq, Eq, Hash)]
+#[must_use]
 pub struct Reply {
     /// The answer.
     pub answer: Answer,
@@ -63,6 +82,11 @@ pub struct Reply {
 }
 
 impl Reply {
+    /// The answer, or a refusal as an error.
+    pub fn result(self) -> Result<Answer, Refused> {
+        self.answer.result(self.line)
+    }
+
     /// Parts the code and the line, which the C functions answer as one number.
     pub(crate) fn unpacked(word: u64) -> Reply {
         Reply { answer: Answer::coded(word >> 32), line: word as u32 }
@@ -91,6 +115,6 @@ mod tests {
         assert_eq!(shown(3, 0), "clear 0");
         assert_eq!(shown(4, 0), "given 0");
         assert_eq!(shown(101, 1), "refused-1 1");
-        assert_eq!(shown(132, u64::from(u32::MAX)), "refused-32 4294967295");
+        assert_eq!(shown(147, u64::from(u32::MAX)), "refused-47 4294967295");
     }
 }

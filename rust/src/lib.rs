@@ -12,6 +12,8 @@
 //! | [`sweep`] | the first short sentence that has two trees, or clear |
 //! | [`refused_line`] | the refused line itself, as a part of its sheet |
 //!
+//! Each reply has a `result`: the answer, or a [`Refused`] as an error.
+//!
 //! A refused call but refused-22 changes no lent memory. [`words_for`] says how
 //! many words a call needs; words past them never change.
 //!
@@ -36,11 +38,13 @@ mod answer;
 mod c;
 #[allow(unsafe_code)]
 mod c_trees;
+mod refusal;
 mod row_count;
 mod sentence;
 mod tree;
 
 pub use answer::{Answer, Reply};
+pub use refusal::{Refusal, Refused};
 pub use row_count::{RowCount, RowsReply};
 pub use sentence::{Column, Line, SweepReply, Token};
 pub use tree::{Kind, Row, Rows, TreesReply};
@@ -63,6 +67,7 @@ pub const MOST_BOUND: usize = 7;
 /// assert_eq!(teplonga::words_for(3), 14);
 /// assert_eq!(teplonga::words_for(teplonga::MOST_TOKENS), 4162);
 /// ```
+#[must_use]
 pub const fn words_for(tokens: usize) -> usize {
     tokens.saturating_add(1).saturating_mul(tokens).saturating_add(2)
 }
@@ -75,12 +80,14 @@ pub const fn words_for(tokens: usize) -> usize {
 /// there, of its second word that it has at least two.
 ///
 /// ```
-/// use teplonga::{verdict, Answer, Reply};
+/// use teplonga::{verdict, Refusal};
 ///
 /// let rules = b"left kind first second lay\n0 B 0 0 none\n0 A 64 - none\n";
 /// let reply = verdict(rules, b"", &mut []);
-/// assert_eq!(reply, Reply { answer: Answer::Refused(3), line: 3 });
 /// assert_eq!(reply.to_string(), "refused-3 3");
+/// let refused = reply.result().unwrap_err();
+/// assert_eq!((refused.refusal, refused.line), (Refusal::RuleRange, 3));
+/// assert_eq!(refused.to_string(), "refused-3 in line 3: a number above 63");
 /// ```
 pub fn verdict(rules: &[u8], tokens: &[u8], words: &mut [u64]) -> Reply {
     Reply::unpacked(c::verdict(rules, tokens, words))
@@ -167,6 +174,7 @@ pub fn sweep(rules: &[u8], bound: usize, words: &mut [u64]) -> SweepReply {
 /// let rules = b"left kind first second lay\n0 E - - none\n0 X - - none\n";
 /// assert_eq!(teplonga::refused_line(rules, b"term line col\n"), b"0 X - - none");
 /// ```
+#[must_use]
 pub fn refused_line<'a>(rules: &'a [u8], tokens: &'a [u8]) -> &'a [u8] {
     c::refused_line(rules, tokens)
 }

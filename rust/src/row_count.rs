@@ -2,7 +2,7 @@
 
 use std::fmt;
 
-use crate::{Answer, Reply};
+use crate::{Answer, Refused, Reply};
 
 /// How many rows a tree has.
 #[derive(Clone, Copy, Debug, PartialEq, Eq, Hash)]
@@ -31,6 +31,7 @@ impl fmt::Display for RowCount {
 
 /// What [`rows`](crate::rows) answers.
 #[derive(Clone, Copy, Debug, PartialEq, Eq, Hash)]
+#[must_use]
 pub struct RowsReply {
     /// The answer.
     pub answer: Answer,
@@ -43,6 +44,11 @@ pub struct RowsReply {
 }
 
 impl RowsReply {
+    /// The answer, or a refusal as an error.
+    pub fn result(&self) -> Result<Answer, Refused> {
+        self.answer.result(self.line)
+    }
+
     pub(crate) fn unpacked(word: u64, counts: [u64; 2]) -> RowsReply {
         let Reply { answer, line } = Reply::unpacked(word);
         let [first, second] = counts.map(RowCount::told);

@@ -1,6 +1,6 @@
 //! The sentence of a sweep.
 
-use crate::{Answer, Reply, MOST_BOUND};
+use crate::{Answer, Refused, Reply, MOST_BOUND};
 
 /// A line's number. It is never compared with a column.
 #[derive(Clone, Copy, Debug, Default, PartialEq, Eq, PartialOrd, Ord, Hash)]
@@ -27,6 +27,7 @@ pub(crate) const PLACES: usize = 1 + 3 * MOST_BOUND;
 
 /// What [`sweep`](crate::sweep) answers.
 #[derive(Clone, Copy, Debug, PartialEq, Eq)]
+#[must_use]
 pub struct SweepReply {
     /// The answer.
     pub answer: Answer,
@@ -39,7 +40,13 @@ pub struct SweepReply {
 }
 
 impl SweepReply {
+    /// The answer, or a refusal as an error.
+    pub fn result(&self) -> Result<Answer, Refused> {
+        self.answer.result(self.line)
+    }
+
     /// The found sentence; empty where none is found.
+    #[must_use]
     pub fn sentence(&self) -> &[Token] {
         &self.places[..self.length]
     }

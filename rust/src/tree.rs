@@ -1,6 +1,6 @@
 //! Trees as rows of four bytes.
 
-use crate::{Answer, Reply};
+use crate::{Answer, Refused, Reply};
 
 /// The kind of a node.
 #[derive(Clone, Copy, Debug, PartialEq, Eq, Hash)]
@@ -28,6 +28,7 @@ impl Kind {
     }
 
     /// The kind's letter in a rule sheet.
+    #[must_use]
     pub fn letter(self) -> char {
         match self {
             Kind::Empty => 'E',
@@ -53,6 +54,7 @@ pub struct Row {
 
 /// The rows of a tree: a node before its children, the left before the right.
 #[derive(Clone, Debug)]
+#[must_use]
 pub struct Rows<'a>(std::slice::ChunksExact<'a, u8>);
 
 impl<'a> Rows<'a> {
@@ -80,6 +82,7 @@ impl ExactSizeIterator for Rows<'_> {}
 
 /// What [`trees`](crate::trees) answers. The rows lie in the lent memory.
 #[derive(Clone, Debug)]
+#[must_use]
 pub struct TreesReply<'a> {
     /// The answer.
     pub answer: Answer,
@@ -92,6 +95,11 @@ pub struct TreesReply<'a> {
 }
 
 impl<'a> TreesReply<'a> {
+    /// The answer, or a refusal as an error.
+    pub fn result(&self) -> Result<Answer, Refused> {
+        self.answer.result(self.line)
+    }
+
     pub(crate) fn unpacked(
         word: u64,
         counts: [usize; 2],

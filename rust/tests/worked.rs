@@ -1,7 +1,8 @@
 //! Document 01's worked example and its patches P1 to P9.
 
 use teplonga::{
-    refused_line, sweep, trees, verdict, words_for, Answer, Column, Line, Reply, Rows, Token,
+    refused_line, sweep, trees, verdict, words_for, Answer, Column, Line, Refusal, Reply, Rows,
+    Token,
 };
 
 /// A rule sheet of these rules, parted by ` / `.
@@ -71,7 +72,7 @@ fn a_tree_that_does_not_fit_is_refused() {
     let mut words = [7; 14];
     let (mut first, mut second) = ([7; 20], [7; 19]);
     let reply = trees(&rules(PLAIN), &tokens(&ROW), &mut words, &mut first, &mut second);
-    assert_eq!((reply.answer, reply.line), (Answer::Refused(22), 0));
+    assert_eq!((reply.answer, reply.line), (Answer::Refused(Refusal::FewRows), 0));
     assert_eq!((reply.first.len(), reply.second.len()), (0, 0));
     assert_eq!((first, second), ([0; 20], [0; 19]));
     assert_eq!(words, [0, 0, 1, 0, 1, 0, 1, 0, 1, 0, 1, 0, 1, 1]);
@@ -82,7 +83,7 @@ fn a_refused_call_changes_nothing() {
     let mut words = [7; 13];
     let (mut first, mut second) = ([7; 20], [7; 20]);
     let reply = trees(&rules(PLAIN), &tokens(&ROW), &mut words, &mut first, &mut second);
-    assert_eq!((reply.answer, reply.line), (Answer::Refused(21), 0));
+    assert_eq!((reply.answer, reply.line), (Answer::Refused(Refusal::FewWords), 0));
     assert_eq!((words, first, second), ([7; 13], [7; 20], [7; 20]));
 }
 
@@ -129,7 +130,10 @@ fn the_limit_of_a_sweep() {
     let reply = sweep(&sheet(7), 5, &mut words);
     assert_eq!((reply.answer, reply.sentence()), (Answer::Two, &two[..]));
     let reply = sweep(&sheet(8), 5, &mut words);
-    assert_eq!((reply.answer, reply.line, reply.length), (Answer::Refused(24), 0, 0));
+    assert_eq!(
+        (reply.answer, reply.line, reply.length),
+        (Answer::Refused(Refusal::ManyCandidates), 0, 0)
+    );
 }
 
 #[test]
@@ -139,7 +143,7 @@ fn refused_lines_are_parts_of_their_sheets() {
     let late = tokens(&[(1, 2), (1, 2)]);
     let mut words = [0; 2];
     let reply = verdict(&bad, &late, &mut words);
-    assert_eq!(reply, Reply { answer: Answer::Refused(4), line: 3 });
+    assert_eq!(reply, Reply { answer: Answer::Refused(Refusal::RuleLay), line: 3 });
     assert_eq!(refused_line(&bad, &late), b"0 A 0 - align");
     assert_eq!(refused_line(&bad, &late).as_ptr(), bad[40..].as_ptr());
     assert_eq!(refused_line(&good, &late), b"0 1 2");

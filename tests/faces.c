@@ -1,0 +1,469 @@
+/*
+ * Calls every C function of include/teplonga.h and checks answers and memory against document 01's worked example and
+ * patches. Lent memory stands between pages that may not be touched, at the end of its room and at the front, so a
+ * read or write outside of it ends the test. Prints one line and ends with status 0, or says what is wrong.
+ *
+ *     cc -I include tests/faces.c target/staticlib/lib*.a -pthread
+ */
+#define _GNU_SOURCE
+#include <pthread.h>
+#include <stdio.h>
+#include <stdlib.h>
+#include <string.h>
+#include <sys/mman.h>
+#include <unistd.h>
+
+#include "teplonga.h"
+
+_Static_assert(TEPLONGA_WORDS(0) == 2, "the empty word has a pair");
+_Static_assert(TEPLONGA_WORDS(3) == 14, "three tokens have seven pairs");
+_Static_assert(TEPLONGA_WORDS(TEPLONGA_MOST_TOKENS) == 4162, "64 tokens");
+_Static_assert(sizeof(teplonga_part) == 2 * sizeof(size_t), "a pointer and a length");
+
+static unsigned checks;
+
+#define CHECK(what)                                                         \
+    do {                                                                    \
+        __atomic_add_fetch(&checks, 1, __ATOMIC_RELAXED);                   \
+        if (!(what)) {                                                      \
+            fprintf(stderr, "faces.c:%d: not so: %s\n", __LINE__, #what);   \
+            exit(1);                                                        \
+        }                                                                   \
+    } while (0)
+
+/* ---------------------------------------------------------------- lent memory */
+
+/* Where memory stands in its room: at the end, or at the front. */
+enum side { AT_END, AT_FRONT };
+
+static enum side side = AT_END;
+
+/* Bytes with a page before and behind that may not be touched; at the end as near to it as alignment lets. */
+static void *room(size_t bytes, size_t alignment)
+{
+    size_t page = (size_t)sysconf(_SC_PAGESIZE);
+    size_t whole = (bytes + page - 1) / page * page + (bytes == 0 ? page : 0);
+    char *all = mmap(NULL, whole + 2 * page, PROT_NONE, MAP_PRIVATE | MAP_ANONYMOUS, -1, 0);
+
+    if (all == MAP_FAILED || mprotect(all + page, whole, PROT_READ | PROT_WRITE) != 0) {
+        perror("mmap");
+        exit(2);
+    }
+    if (side == AT_FRONT)
+        return all + page;
+    return all + page + (whole - bytes) / alignment * alignment;
+}
+
+static uint64_t *words(size_t count, uint64_t value)
+{
+    uint64_t *made = room(count * sizeof *made, sizeof *made);
+
+    for (size_t i = 0; i < count; i++)
+        made[i] = value;
+    return made;
+}
+
+static uint8_t *bytes(size_t count, uint8_t value)
+{
+    return memset(room(count, 1), value, count);
+}
+
+struct sheet {
+    const uint8_t *at;
+    size_t length;
+};
+
+/* A sheet, a copy of this text. */
+static struct sheet sheet(const char *text)
+{
+    size_t length = strlen(text);
+
+    return (struct sheet){ memcpy(room(length, 1), text, length), length };
+}
+
+static int all_words(const uint64_t *at, size_t count, uint64_t value)
+{
+    for (size_t i = 0; i < count; i++)
+        if (at[i] != value)
+            return 0;
+    return 1;
+}
+
+static int all_bytes(const uint8_t *at, size_t count, uint8_t value)
+{
+    for (size_t i = 0; i < count; i++)
+        if (at[i] != value)
+            return 0;
+    return 1;
+}
+
+static uint64_t coded(uint64_t code, uint64_t line)
+{
+    return code << 32 | line;
+}
+
+#define RULE_NAMES "left kind first second lay\n"
+#define TOKEN_NAMES "term line col\n"
+#define PLAIN RULE_NAMES "0 B 0 0 none\n0 A 0 - none\n"
+#define THREE TOKEN_NAMES "0 1 1\n0 1 2\n0 1 3\n"
+
+/* Document 01's worked example: the rows of both trees and the span sheet. */
+static const uint8_t FIRST[20] = { 0, 3, 0, 3, 0, 1, 0, 1, 0, 3, 1, 2, 0, 1, 1, 1, 0, 1, 2, 1 };
+static const uint8_t SECOND[20] = { 0, 3, 0, 3, 0, 3, 0, 2, 0, 1, 0, 1, 0, 1, 1, 1, 0, 1, 2, 1 };
+static const uint64_t SPANS[14] = { 0, 0, 1, 0, 1, 0, 1, 0, 1, 0, 1, 0, 1, 1 };
+
+/* -------------------------------------------------------------------- verdict */
+
+static uint64_t verdict(const char *rules, const char *tokens, uint64_t *lent, size_t count)
+{
+    struct sheet r = sheet(rules), t = sheet(tokens);
+
+    return teplonga_verdict(r.at, r.length, t.at, t.length, lent, count);
+}
+
+/* A refused verdict changes no word. */
+static void refused(uint64_t code, uint64_t line, const char *rules, const char *tokens)
+{
+    uint64_t *lent = words(20, 7);
+
+    CHECK(verdict(rules, tokens, lent, 20) == coded(code, line));
+    CHECK(all_words(lent, 20, 7));
+}
+
+static void verdicts(void)
+{
+    uint64_t *lent = words(16, 7);
+
+    CHECK(verdict(PLAIN, THREE, lent, 16) == coded(TEPLONGA_TWO, 0));
+    CHECK(memcmp(lent, SPANS, sizeof SPANS) == 0 && all_words(lent + 14, 2, 7));
+    CHECK(verdict(PLAIN, TOKEN_NAMES "0 1 1\n0 1 2\n", words(8, 0), 8) == coded(TEPLONGA_ONE, 0));
+    CHECK(verdict(PLAIN, TOKEN_NAMES, words(2, 0), 2) == coded(TEPLONGA_NONE, 0));
+    CHECK(verdict(RULE_NAMES "0 B 1 1 none\n1 A 0 - none\n1 E - - none\n", TOKEN_NAMES "0 1 1\n", words(4, 0), 4) == coded(TEPLONGA_TWO, 0));
+    lent = words(13, 7);
+    CHECK(verdict(PLAIN, THREE, lent, 13) == coded(TEPLONGA_FEW_WORDS, 0));
+    CHECK(all_words(lent, 13, 7));
+    CHECK(verdict(PLAIN, THREE, words(0, 0), 0) == coded(TEPLONGA_FEW_WORDS, 0));
+    CHECK(TEPLONGA_CODE(coded(TEPLONGA_RULE_FORM, 9)) == TEPLONGA_REFUSED + 2);
+    CHECK(TEPLONGA_LINE(coded(TEPLONGA_RULE_FORM, 9)) == 9);
+}
+
+static void refusals(void)
+{
+    char *many = calloc(1, 4000);
+
+    refused(TEPLONGA_RULE_NAMES, 1, "", THREE);
+    refused(TEPLONGA_RULE_FORM, 2, RULE_NAMES "0 A 0 none\n", THREE);
+    refused(TEPLONGA_RULE_FORM, 3, RULE_NAMES "0 A 0 - none\n0 B 0 0 none", THREE);
+    refused(TEPLONGA_RULE_RANGE, 2, RULE_NAMES "0 A 00064 - none\n", THREE);
+    refused(TEPLONGA_RULE_LAY, 2, RULE_NAMES "0 A 0 - align\n", THREE);
+    refused(TEPLONGA_RULE_REVERSED, 2, RULE_NAMES "0 A 5 4 none\n", THREE);
+    refused(TEPLONGA_RULE_TWICE, 3, RULE_NAMES "0 A 0 9 none\n0 A 9 - none\n", THREE);
+    refused(TEPLONGA_NO_START, 0, RULE_NAMES, THREE);
+    refused(TEPLONGA_CYCLIC, 0, RULE_NAMES "0 U 0 - none\n", THREE);
+    refused(TEPLONGA_TOKEN_NAMES, 1, PLAIN, "term line col width");
+    refused(TEPLONGA_TOKEN_FORM, 2, PLAIN, TOKEN_NAMES "0 1 1 1\n");
+    refused(TEPLONGA_TOKEN_RANGE, 2, PLAIN, TOKEN_NAMES "0 0 1\n");
+    refused(TEPLONGA_TOKEN_WIDTH, 2, PLAIN, "term line col width\n0 1 1 256\n");
+    refused(TEPLONGA_TOKEN_ORDER, 3, PLAIN, "term line col width\n0 1 1 2\n0 1 2 1\n");
+    strcpy(many, RULE_NAMES);
+    for (int i = 0; i < 129; i++)
+        sprintf(many + strlen(many), "%d A %d - none\n", i / 64, i % 64);
+    refused(TEPLONGA_RULE_MANY, 130, many, THREE);
+    strcpy(many, TOKEN_NAMES);
+    for (int i = 0; i < 65; i++)
+        sprintf(many + strlen(many), "0 %d 1\n", i + 1);
+    refused(TEPLONGA_TOKEN_MANY, 66, PLAIN, many);
+    free(many);
+}
+
+/* ---------------------------------------------------------------------- trees */
+
+struct trees {
+    uint64_t *words;
+    uint8_t *first, *second;
+    uint64_t *counts;
+};
+
+/* A call for the trees with so many words, bytes and places for counts, all of them 7 before it. */
+static uint64_t trees(const char *rules, const char *tokens, size_t n, size_t one, size_t two, size_t counts, struct trees *lent)
+{
+    struct sheet r = sheet(rules), t = sheet(tokens);
+
+    *lent = (struct trees){ words(n, 7), bytes(one, 7), bytes(two, 7), words(counts, 7) };
+    return teplonga_trees(r.at, r.length, t.at, t.length, lent->words, n, lent->first, one, lent->second, two, lent->counts, counts);
+}
+
+static void both_trees(void)
+{
+    struct trees lent;
+
+    CHECK(trees(PLAIN, THREE, 15, 23, 20, 3, &lent) == coded(TEPLONGA_TWO, 0));
+    CHECK(memcmp(lent.words, SPANS, sizeof SPANS) == 0 && lent.words[14] == 7);
+    CHECK(memcmp(lent.first, FIRST, 20) == 0 && all_bytes(lent.first + 20, 3, 0));
+    CHECK(memcmp(lent.second, SECOND, 20) == 0);
+    CHECK(lent.counts[0] == 5 && lent.counts[1] == 5 && lent.counts[2] == 7);
+    /* fewer than two places for counts are left as they were */
+    CHECK(trees(PLAIN, THREE, 14, 20, 20, 1, &lent) == coded(TEPLONGA_TWO, 0));
+    CHECK(memcmp(lent.first, FIRST, 20) == 0 && lent.counts[0] == 7);
+}
+
+static void other_trees(void)
+{
+    struct trees lent;
+
+    CHECK(trees(PLAIN, TOKEN_NAMES "0 1 1\n", 4, 8, 5, 2, &lent) == coded(TEPLONGA_ONE, 0));
+    CHECK(memcmp(lent.first, "\0\1\0\1\0\0\0\0", 8) == 0 && all_bytes(lent.second, 5, 0));
+    CHECK(lent.counts[0] == 1 && lent.counts[1] == 0);
+    CHECK(trees(PLAIN, TOKEN_NAMES, 2, 6, 9, 2, &lent) == coded(TEPLONGA_NONE, 0));
+    CHECK(all_bytes(lent.first, 6, 0) && all_bytes(lent.second, 9, 0) && all_words(lent.counts, 2, 0));
+    /* 22: either tree does not fit */
+    for (int which = 0; which < 2; which++) {
+        CHECK(trees(PLAIN, THREE, 14, which ? 19 : 40, which ? 40 : 19, 2, &lent) == coded(TEPLONGA_FEW_ROWS, 0));
+        CHECK(memcmp(lent.words, SPANS, sizeof SPANS) == 0 && all_words(lent.counts, 2, 0));
+        CHECK(all_bytes(lent.first, which ? 19 : 40, 0) && all_bytes(lent.second, which ? 40 : 19, 0));
+    }
+    /* every other refusal changes nothing but the counts */
+    CHECK(trees(PLAIN, THREE, 13, 20, 20, 2, &lent) == coded(TEPLONGA_FEW_WORDS, 0));
+    CHECK(all_words(lent.words, 13, 7) && all_bytes(lent.first, 20, 7) && all_bytes(lent.second, 20, 7));
+    CHECK(all_words(lent.counts, 2, 0));
+    CHECK(trees(RULE_NAMES "0 A 64 - none\n", THREE, 14, 20, 20, 2, &lent) == coded(TEPLONGA_RULE_RANGE, 2));
+    CHECK(all_words(lent.words, 14, 7) && all_bytes(lent.first, 20, 7) && all_bytes(lent.second, 20, 7));
+    CHECK(trees(PLAIN, THREE, 0, 0, 0, 0, &lent) == coded(TEPLONGA_FEW_WORDS, 0));
+}
+
+/* ----------------------------------------------------------------------- rows */
+
+static uint64_t rows(const char *rules, const char *tokens, size_t n, size_t places, uint64_t **lent, uint64_t **counts)
+{
+    struct sheet r = sheet(rules), t = sheet(tokens);
+
+    *lent = words(n, 7);
+    *counts = words(places, 7);
+    return teplonga_rows(r.at, r.length, t.at, t.length, *lent, n, *counts, places);
+}
+
+static void row_counts(void)
+{
+    uint64_t *lent, *counts;
+    char *doubling = calloc(1, 2000);
+
+    CHECK(rows(PLAIN, THREE, 15, 3, &lent, &counts) == coded(TEPLONGA_TWO, 0));
+    CHECK(memcmp(lent, SPANS, sizeof SPANS) == 0 && lent[14] == 7);
+    CHECK(counts[0] == 5 && counts[1] == 5 && counts[2] == 7);
+    CHECK(rows(PLAIN, TOKEN_NAMES "0 1 1\n", 4, 2, &lent, &counts) == coded(TEPLONGA_ONE, 0));
+    CHECK(counts[0] == 1 && counts[1] == 0);
+    CHECK(rows(PLAIN, TOKEN_NAMES, 2, 2, &lent, &counts) == coded(TEPLONGA_NONE, 0));
+    CHECK(all_words(counts, 2, 0));
+    CHECK(rows(PLAIN, THREE, 13, 2, &lent, &counts) == coded(TEPLONGA_FEW_WORDS, 0));
+    CHECK(all_words(lent, 13, 7) && all_words(counts, 2, 0));
+    CHECK(rows(PLAIN, THREE, 14, 1, &lent, &counts) == coded(TEPLONGA_TWO, 0));
+    CHECK(counts[0] == 7);
+    /* an empty word of 2^32 - 1 rows, then of 2^33 - 1 */
+    for (int depth = 32; depth < 34; depth++) {
+        strcpy(doubling, RULE_NAMES);
+        for (int i = 0; i < depth - 1; i++)
+            sprintf(doubling + strlen(doubling), "%d B %d %d none\n", i, i + 1, i + 1);
+        sprintf(doubling + strlen(doubling), "%d E - - none\n", depth - 1);
+        CHECK(rows(doubling, TOKEN_NAMES, 2, 2, &lent, &counts) == coded(TEPLONGA_ONE, 0));
+        CHECK(counts[0] == (depth == 32 ? 4294967295u : TEPLONGA_MORE) && counts[1] == 0);
+    }
+    free(doubling);
+}
+
+/* ---------------------------------------------------------------------- sweep */
+
+static uint64_t sweep(const char *rules, size_t bound, size_t n, size_t places, uint64_t **lent, uint64_t **found)
+{
+    struct sheet r = sheet(rules);
+
+    *lent = words(n, 7);
+    *found = words(places, 7);
+    return teplonga_sweep(r.at, r.length, bound, *lent, n, *found, places);
+}
+
+static void found(const char *rules, const uint64_t *tokens)
+{
+    uint64_t *lent, *answer;
+
+    CHECK(sweep(rules, 3, 16, 24, &lent, &answer) == coded(TEPLONGA_TWO, 0));
+    CHECK(all_words(lent, 14, 0) && all_words(lent + 14, 2, 7));
+    CHECK(answer[0] == 3 && memcmp(answer + 1, tokens, 9 * sizeof *tokens) == 0);
+    CHECK(all_words(answer + 10, 12, 0) && all_words(answer + 22, 2, 7));
+}
+
+/* Not found: all places 0, and the words as they are to be. */
+static void not_found(uint64_t answer_wanted, const char *rules, size_t bound, size_t n, size_t zeros)
+{
+    uint64_t *lent, *answer;
+
+    CHECK(sweep(rules, bound, n, 22, &lent, &answer) == answer_wanted);
+    CHECK(all_words(lent, zeros, 0) && all_words(lent + zeros, n - zeros, 7));
+    CHECK(all_words(answer, 22, 0));
+}
+
+static void sweeps(void)
+{
+    uint64_t *lent, *answer;
+    char *many = calloc(1, 2000);
+
+    found(PLAIN, (uint64_t[]){ 0, 1, 1, 0, 1, 2, 0, 1, 3 });
+    found(RULE_NAMES "0 B 0 0 align\n0 A 0 - none\n", (uint64_t[]){ 0, 1, 1, 0, 2, 1, 0, 3, 1 });
+    found(RULE_NAMES "0 B 0 0 indent\n0 A 0 - none\n", (uint64_t[]){ 0, 1, 1, 0, 2, 2, 0, 3, 3 });
+    not_found(coded(TEPLONGA_CLEAR, 0), PLAIN, 2, 9, 8);
+    not_found(coded(TEPLONGA_FEW_WORDS, 0), PLAIN, 3, 13, 0);
+    not_found(coded(TEPLONGA_BAD_BOUND, 0), PLAIN, 0, 60, 0);
+    not_found(coded(TEPLONGA_BAD_BOUND, 0), PLAIN, TEPLONGA_MOST_BOUND + 1, 60, 0);
+    not_found(coded(TEPLONGA_BAD_BOUND, 0), PLAIN, (size_t)-1, 60, 0);
+    not_found(coded(TEPLONGA_RULE_TWICE, 4), PLAIN "0 A 0 - none\n", 9, 60, 0);
+    /* T = 7 is taken at 5 tokens, T = 8 is not */
+    strcpy(many, RULE_NAMES "0 U 1 - none\n1 A 0 - none\n0 A 0 6 none\n");
+    CHECK(sweep(many, 5, 32, 22, &lent, &answer) == coded(TEPLONGA_TWO, 0));
+    CHECK(answer[0] == 1 && answer[1] == 0 && answer[2] == 1 && answer[3] == 1);
+    strcpy(many, RULE_NAMES "0 U 1 - none\n1 A 0 - none\n0 A 0 7 none\n");
+    not_found(coded(TEPLONGA_MANY_CANDIDATES, 0), many, 5, 32, 0);
+    /* fewer than 22 places are left as they were */
+    CHECK(sweep(PLAIN, 3, 14, 21, &lent, &answer) == coded(TEPLONGA_TWO, 0));
+    CHECK(all_words(answer, 21, 7));
+    free(many);
+}
+
+/* --------------------------------------------------------------- refused line */
+
+/* The refused line is this part of the rule sheet (or of the token sheet). */
+static void line_is(const char *rules, const char *tokens, int in_tokens, size_t start, size_t length)
+{
+    struct sheet r = sheet(rules), t = sheet(tokens);
+    teplonga_part line = { r.at, 0 };
+
+    teplonga_refused_line(r.at, r.length, t.at, t.length, &line);
+    CHECK(line.at == (in_tokens ? t.at : r.at) + start);
+    CHECK(line.length == length);
+}
+
+static void refused_lines(void)
+{
+    line_is(PLAIN "0 A 0 - none\n", THREE, 0, 53, 12);
+    line_is(RULE_NAMES "0 A 0 - none\n0 X", THREE, 0, 40, 3);
+    line_is(PLAIN, TOKEN_NAMES "0 1 1\n0 1 1\n", 1, 20, 5);
+    line_is(PLAIN, "x\n", 1, 0, 1);
+    line_is(RULE_NAMES "0 U 0 - none\n", TOKEN_NAMES "x\n", 0, 0, 0);
+    line_is(PLAIN, THREE, 0, 0, 0);
+    line_is("", "", 0, 0, 0);
+}
+
+/* -------------------------------------------------------------- threads, stack */
+
+/* Calls on memory of its own, again and again. */
+static void *again(void *ignored)
+{
+    (void)ignored;
+    for (int i = 0; i < 200; i++) {
+        uint64_t lent[14], answer[TEPLONGA_FOUND];
+        uint8_t first[20], second[20];
+        uint64_t counts[TEPLONGA_COUNTS];
+        CHECK(teplonga_trees((const uint8_t *)PLAIN, strlen(PLAIN), (const uint8_t *)THREE, strlen(THREE), lent, 14,
+                             first, 20, second, 20, counts, TEPLONGA_COUNTS) == coded(TEPLONGA_TWO, 0));
+        CHECK(memcmp(first, FIRST, 20) == 0 && memcmp(second, SECOND, 20) == 0);
+        CHECK(teplonga_sweep((const uint8_t *)PLAIN, strlen(PLAIN), 3, lent, 14, answer, TEPLONGA_FOUND) == coded(TEPLONGA_TWO, 0));
+    }
+    return NULL;
+}
+
+static void threads(void)
+{
+    pthread_t four[4];
+
+    for (int i = 0; i < 4; i++)
+        CHECK(pthread_create(&four[i], NULL, again, NULL) == 0);
+    for (int i = 0; i < 4; i++)
+        CHECK(pthread_join(four[i], NULL) == 0);
+}
+
+/* A large sheet, a long sentence and a long sweep, for the stack; their memory is not on it. */
+static char big_rules[4000], big_tokens[2000], big_sweep[400];
+static uint64_t big_words[4162], big_found[TEPLONGA_FOUND], big_counts[TEPLONGA_COUNTS];
+static uint8_t big_first[16384], big_second[16384];
+
+static void make_big(void)
+{
+    strcpy(big_rules, RULE_NAMES);
+    for (int i = 0; i < 61; i++)
+        sprintf(big_rules + strlen(big_rules), "%d U %d - offside\n", i, i + 1);
+    strcat(big_rules, "61 B 62 0 none\n61 A 0 - none\n62 A 0 - none\n61 B 0 62 none\n");
+    strcpy(big_tokens, TOKEN_NAMES);
+    for (int i = 0; i < TEPLONGA_MOST_TOKENS; i++)
+        sprintf(big_tokens + strlen(big_tokens), "0 %d %d\n", i + 1, i + 1);
+    strcpy(big_sweep, RULE_NAMES "0 B 1 2 none\n0 B 3 2 none\n1 B 5 6 align\n3 B 5 6 indent\n2 B 5 4 none\n4 B 5 5 none\n5 A 0 - none\n6 A 0 - none\n");
+}
+
+static void *big_calls(void *which)
+{
+    const uint8_t *rules = (const uint8_t *)big_rules, *tokens = (const uint8_t *)big_tokens;
+    size_t r = strlen(big_rules), t = strlen(big_tokens);
+    teplonga_part line = { rules, 0 };
+
+    switch (*(int *)which) {
+    case 0:
+        teplonga_verdict(rules, r, tokens, t, big_words, 4162);
+        break;
+    case 1:
+        teplonga_trees(rules, r, tokens, t, big_words, 4162, big_first, 16384, big_second, 16384, big_counts, 2);
+        break;
+    case 2:
+        teplonga_sweep((const uint8_t *)big_sweep, strlen(big_sweep), 5, big_words, 4162, big_found, TEPLONGA_FOUND);
+        break;
+    case 3:
+        teplonga_rows(rules, r, tokens, t, big_words, 4162, big_counts, 2);
+        break;
+    default:
+        teplonga_refused_line(rules, r, tokens, t, &line);
+    }
+    return NULL;
+}
+
+/* How much stack a call takes: a thread's stack is painted before, and looked at after. */
+static size_t stack_of(int which)
+{
+    size_t size = 4 << 20, used = 0;
+    uint8_t *stack = room(size, 4096);
+    pthread_attr_t attributes;
+    pthread_t thread;
+
+    memset(stack, 0xA5, size);
+    CHECK(pthread_attr_init(&attributes) == 0 && pthread_attr_setstack(&attributes, stack, size) == 0);
+    CHECK(pthread_create(&thread, &attributes, big_calls, &which) == 0 && pthread_join(thread, NULL) == 0);
+    while (used < size && stack[used] == 0xA5)
+        used++;
+    return size - used;
+}
+
+static void stacks(void)
+{
+    static const char *names[] = { "verdict", "trees", "sweep", "rows", "refused_line" };
+
+    make_big();
+    for (int which = 0; which < 5; which++) {
+        size_t used = stack_of(which);
+        printf("%s: %zu bytes of stack\n", names[which], used);
+        CHECK(used <= TEPLONGA_STACK);
+    }
+}
+
+int main(int count, char **arguments)
+{
+    for (int i = 0; i < 2; i++) {
+        side = i ? AT_FRONT : AT_END;
+        verdicts();
+        refusals();
+        both_trees();
+        other_trees();
+        row_counts();
+        sweeps();
+        refused_lines();
+    }
+    threads();
+    if (count > 1 && strcmp(arguments[1], "--stack") == 0)
+        stacks();
+    printf("%u checks of the C functions, version " TEPLONGA_VERSION "\n", checks);
+    return 0;
+}
