@@ -1,0 +1,49 @@
+#!/usr/bin/env python3
+"""docs/BELIEVE.md lists just the files that the public promises rest on, and bin/believe sees where it does not."""
+
+import shutil
+import subprocess
+import tempfile
+import unittest
+from pathlib import Path
+
+TOP = Path(__file__).resolve().parent.parent
+LIST = (TOP / "docs" / "BELIEVE.md").read_text()
+
+
+class Believe(unittest.TestCase):
+    def believe(self, text):
+        """Status and errors with this list."""
+        room = Path(tempfile.mkdtemp())
+        self.addCleanup(shutil.rmtree, room)
+        (room / "bin").mkdir()
+        (room / "docs").mkdir()
+        shutil.copy(TOP / "bin" / "believe", room / "bin")
+        (room / "crates").symlink_to(TOP / "crates")
+        (room / "docs" / "BELIEVE.md").write_text(text)
+        ended = subprocess.run([room / "bin" / "believe"], capture_output=True, text=True, check=False)
+        return ended.returncode, ended.stderr
+
+    def test_the_list_is_complete(self):
+        self.assertEqual(self.believe(LIST), (0, ""))
+
+    def test_a_file_left_out_is_told(self):
+        for name in ("grammar/specs/Layout", "fields/specs/Pieces", "sheets/specs/Refusals", "text/specs/Programs"):
+            line = f"crates/{name}.antt"
+            self.assertIn(line, LIST)
+            status, errors = self.believe(LIST.replace(line, "crates"))
+            self.assertEqual((status, errors), (1, f"believe: docs/BELIEVE.md does not list {line}\n"))
+
+    def test_a_file_too_many_is_told(self):
+        more = "crates/chart/specs/Tables.antt"
+        status, errors = self.believe(LIST + f"- `{more}`\n")
+        self.assertEqual((status, errors), (1, f"believe: docs/BELIEVE.md lists {more}, on which no public promise rests\n"))
+
+    def test_a_public_function_left_out_is_told(self):
+        status, errors = self.believe(LIST.replace("`text::check_text`", "").replace("`text::sweep_text`", ""))
+        self.assertEqual(status, 1)
+        self.assertIn("crates/text/specs/Programs.antt, on which no public promise rests", errors)
+
+
+if __name__ == "__main__":
+    unittest.main()
