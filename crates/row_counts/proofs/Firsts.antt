@@ -1,10 +1,11 @@
 -- First trees: what is chosen at their tops, and their roots.
-use mathlib.Core.Path.{_≡_, refl, sym, ap, _∙_, subst}
+use mathlib.Core.Path.{_≡_, sym, _∙_, subst}
 use mathlib.Core.Bool.{false}
-use mathlib.Core.List.{[], _∷_}
+use mathlib.Core.List.{[]}
 use Prim.Native.Nat.{ℕ, _<_}
 use native.Mathlib.Omega.{arith}
 use lib.ListN.{length}
+use lib.Seq.{take-all}
 use Rattle.grammar.specs.declared.Grammar.{Grammar}
 use Rattle.grammar.specs.Layout.{Word}
 use Rattle.grammar.specs.Trees.{Tree, root, word, Rules}
@@ -36,13 +37,9 @@ root-small {g} f t h =
     let r = mem-every SmallRule (rules g) (f .small) (member-at (rules g) (n .place) (n .takes .stands)) in
     omega (arith, r .left, top-left t (n .takes .rule) (n .split) (n .takes .top))
 
-part-all : (v : Word) → part v 0 (length v) ≡ v
-part-all [] = refl
-part-all (t ∷ v) = ap (λ (y : Word). t ∷ y) (part-all v)
-
 -- the whole sentence as a span
 pub all-of : (w : Word) (n : ℕ) → length w ≡ n → w ≡ part w 0 n
-all-of w n e = sym (part-all w) ∙ ap (part w 0) e
+all-of w n e = sym (take-all n w (omega arith))
 
 module _ {g : Rules} {A : ℕ} {w : Word} (n : ℕ) (e : length w ≡ n) where
   pub spanned : {t : Tree} → FirstTree g A w t → FirstTree g A (part w 0 n) t

@@ -1,0 +1,32 @@
+-- `list_places` meets its contract: from the first position to the last, then the list's end.
+use Rattle.grammar.specs.Content.{spelled}
+use Rattle.place_list.proofs.ListLaws.{listed-first, listed-all}
+use borrow.Author.Needs.{needs}
+use Rattle.place_list.proofs.list_places.Statement.{statement}
+use Rattle.place_list.proofs.list_places.Tie as tie
+
+begin-requires : tie.Need-begin-requires
+begin-requires c κs = search needs
+
+list-all-requires : tie.Need-list-all-requires
+list-all-requires c κs = search needs
+
+finish-requires : tie.Need-finish-requires
+finish-requires c κs = search needs
+
+same-length : tie.Need-same-length
+same-length c = search needs
+
+returns : tie.Need-returns
+returns c =
+    let f = c .before .before in
+    let l = f .before .before .before .before in
+    let b = l .before in
+    let s = b .before .before .before .before .before in
+    let first = listed-first (s .args .g) (spelled (s .args .s)) (s .pre .formed) (s .args .s .count) (s .pre .positioned .whole) (b .begin .ensures) in
+    let x = l .list-all .ensures .goes first in
+    record { entries = x .entries; places = listed-all (s .args .g) (spelled (s .args .s)) (s .pre .formed) x; gives = f .finish .ensures .gives (x .puts) }
+
+pub list-places-spec : {M : Type 1} → statement M
+list-places-spec =
+    tie.close (tie.spec begin-requires list-all-requires finish-requires same-length returns)

@@ -1,0 +1,131 @@
+-- `list_span` meets its contract. The loop's invariant: the places before `a` are listed.
+use borrow.Author.Needs.{needs}
+use borrow.Author.Tests.{not-true, not-false}
+use mathlib.Core.Path.{_≡_, sym, subst}
+use Prim.Native.Nat.{ℕ, _-_, _≤_, _<_}
+use native.Mathlib.Omega.{arith}
+use lib.ListN.{length, getD}
+use Rattle.sets.specs.Sets.{In}
+use Rattle.grammar.specs.Content.{rules, spelled}
+use Rattle.grammar.specs.SpanSheet.{pairs, pairAt}
+use Rattle.spans.proofs.Places.{pairAt-below}
+use Rattle.places.specs.Places.{Contains}
+use Rattle.place_list.specs.Steps.{entry, Lists}
+use Rattle.place_list.proofs.ChoiceLaws.{bit-contained, contained-bit}
+use Rattle.place_list.proofs.ListLaws.{lists-none, lists-then, lists-skip}
+use Rattle.place_list.proofs.list_span.Statement.{statement}
+use Rattle.place_list.proofs.list_span.Tie as tie
+
+abbrev Inv-loop : tie.InvT-loop
+Inv-loop words reach s g start len list₀ p set k₀ a₀ list k a = (a ≤ 64) × Lists (rules g) (spelled s) list₀ list k₀ k (entry 0 start len) (entry a start len)
+
+abbrev μ-loop : tie.MeasureT-loop
+μ-loop words reach s g start len list₀ p set k₀ a₀ list k a = 64 - a
+
+-- the span's word is there, and says what is contained
+room : (c : tie.Start Inv-loop μ-loop) → pairAt (c .args .s .count) (c .args .start) (c .args .len) < length (c .args .reach .now)
+room c =
+    let n = c .args .s .count in
+    let e = subst (λ (x : ℕ). pairs x ≤ length (c .args .reach .now)) (c .pre .0 .positioned .whole) (c .pre .0 .reached .enough) in
+    omega (arith, pairAt-below n (c .args .start) (c .args .len) (c .pre .1 .0 .0), e)
+
+module _ (c : tie.Start Inv-loop μ-loop) (p : ℕ) (e : p ≡ pairAt (c .args .s .count) (c .args .start) (c .args .len)) (a : ℕ) where
+  is-contained : In (getD (c .args .reach .now) p 0) a → Contains (rules (c .args .g)) (spelled (c .args .s)) a (c .args .start) (c .args .len)
+  is-contained b =
+      bit-contained (rules (c .args .g)) (spelled (c .args .s)) (c .args .reach .now) (c .args .s .count) (c .pre .0 .positioned .whole) (c .pre .0 .reached) a
+      (c .args .start) (c .args .len) (c .pre .1 .0 .0) (c .pre .1 .0 .1) (subst (λ (q : ℕ). In (getD (c .args .reach .now) q 0) a) e b)
+
+  not-contained : (In (getD (c .args .reach .now) p 0) a → ⊥) → Contains (rules (c .args .g)) (spelled (c .args .s)) a (c .args .start) (c .args .len) → ⊥
+  not-contained n x =
+      n
+      (subst (λ (q : ℕ). In (getD (c .args .reach .now) q 0) a) (sym e)
+      (contained-bit (rules (c .args .g)) (spelled (c .args .s)) (c .args .reach .now) (c .args .s .count) (c .pre .0 .positioned .whole) (c .pre .0 .reached) a
+      (c .args .start) (c .args .len) (c .pre .1 .0 .0) (c .pre .1 .0 .1) x))
+
+pair-at-requires : tie.Need-pair-at-requires Inv-loop μ-loop
+pair-at-requires c κs = search needs
+
+mul-set : tie.Need-mul-set Inv-loop μ-loop
+mul-set c =
+    let s = c .before .before .before .before in
+    omega (arith, room s, c .pair-at .ensures, c .before .before)
+
+shared-slice-read-set : tie.Need-shared-slice-read-set Inv-loop μ-loop
+shared-slice-read-set c =
+    let s = c .before .before .before .before .before in
+    omega (arith, room s, c .before .pair-at .ensures)
+
+loop-holds : tie.Need-loop-holds Inv-loop μ-loop
+loop-holds c =
+    let s = c .before .before .before .before .before in
+    (omega arith, lists-none (entry 0 (s .args .start) (s .args .len)) (s .pre .1 .1))
+
+has-requires : tie.Need-has-requires Inv-loop μ-loop
+has-requires c κs = search needs
+
+add-a : tie.Need-add-a Inv-loop μ-loop
+add-a c = search needs
+
+loop-less : tie.Need-loop-less Inv-loop μ-loop
+loop-less c = search needs
+
+loop-again : tie.Need-loop-again Inv-loop μ-loop
+loop-again c =
+    let l = c .before .before .before in
+    let p = l .before .before in
+    let s = p .before .before .before .before in
+    let n = c .before .has .ensures .isnt (not-true _ (c .if1 .taken)) in
+    let none = not-contained s (p .pair-at .result) (p .pair-at .ensures) (l .loop .a) n in
+    (omega arith, lists-then (l .loop .inv .1) (lists-skip (l .loop .a) (s .args .start) (s .args .len) (l .loop .inv .1 .few) (λ x. none (x .contained))))
+
+list-one-requires : tie.Need-list-one-requires Inv-loop μ-loop
+list-one-requires c κs =
+    let l = c .before .before .before .before in
+    let p = l .before .before in
+    let s = p .before .before .before .before in
+    let b = c .before .before .has .ensures .is (not-false _ (c .before .if1 .left)) in
+    let z = s .pre .0 in
+    ((z .formed, z .positioned, s .pre .1 .0 .0), ((z .sheet, is-contained s (p .pair-at .result) (p .pair-at .ensures) (l .loop .a) b), l .loop .inv .1 .few))
+
+add-a-2 : tie.Need-add-a-2 Inv-loop μ-loop
+add-a-2 c = search needs
+
+loop-less-2 : tie.Need-loop-less-2 Inv-loop μ-loop
+loop-less-2 c = search needs
+
+loop-again-2 : tie.Need-loop-again-2 Inv-loop μ-loop
+loop-again-2 c =
+    let o = c .before .before in
+    let l = o .before .before .before .before .before in
+    (omega (arith, o .before .before .before .before .loop-test .taken), lists-then (l .loop .inv .1) (o .list-one .ensures))
+
+same-length : tie.Need-same-length Inv-loop μ-loop
+same-length c = c .before .loop .inv .1 .long
+
+returns : tie.Need-returns Inv-loop μ-loop
+returns c =
+    let l = c .before .loop in
+    let s = c .before .before .before .before .before .before .before in
+    let e : l .a ≡ 64 = omega (arith, c .loop-test .left, l .inv .0) in
+    rw e at (l .inv .1)
+
+pub list-span-spec : {M : Type 1} → statement M
+list-span-spec =
+    tie.close
+    (tie.spec
+    Inv-loop
+    μ-loop
+    pair-at-requires
+    mul-set
+    shared-slice-read-set
+    loop-holds
+    has-requires
+    add-a
+    loop-less
+    loop-again
+    list-one-requires
+    add-a-2
+    loop-less-2
+    loop-again-2
+    same-length
+    returns)

@@ -1,0 +1,151 @@
+// The list of all places at which the readings of a sentence part, in lent bytes.
+use chart::Pick;
+use chart::next_choice;
+use grammar::Grammar;
+use grammar::Sentence;
+use lists::Listed;
+use lists::Listing;
+use lists::begin;
+use lists::finish;
+use lists::put;
+use sets::has;
+use spans::pair_at;
+ghost use Prim.Native.Nat.{_+_, _-_, _≤_, _<_};
+ghost use Rattle.sets.specs.Says.{Says};
+ghost use Rattle.grammar.specs.Content.{rules, spelled, Formed, Positioned};
+ghost use Rattle.grammar.specs.Rows.{startOf};
+ghost use Rattle.grammar.specs.SpanSheet.{part, SpanSheet};
+ghost use mathlib.Core.Path.{_≡_};
+ghost use Rattle.places.specs.Places.{Several, Contains};
+ghost use Rattle.place_list.specs.Scene.{Scene};
+ghost use Rattle.place_list.specs.Steps.{entry, Lists};
+ghost use Rattle.place_list.specs.Given.{PlacesGiven};
+
+// Has `a` two or more choices at the span?
+fn has_several(words: &[u64], s: Sentence, g: Grammar, a: u8, start: usize, len: usize) -> bool
+    requires { ⌜ Formed g × Positioned s × (start + len ≤ s .count) ⌝ }
+    requires { ⌜ SpanSheet (rules g) (spelled s) (now words) ⌝ }
+    ensures { λ r. ⌜ Says r (Several (rules g) a (part (spelled s) start len)) ⌝ }
+{
+    let first = next_choice(words, s, g, a, start, len, 0, 0);
+    match first {
+        Pick::Nothing => false,
+        Pick::At(p, k) => {
+            let second = next_choice(words, s, g, a, start, len, p, k + 1);
+            match second {
+                Pick::Nothing => false,
+                Pick::At(_, _) => true,
+            }
+        }
+    }
+}
+
+// List `a` over the span, which some whole tree contains, if it has two or more choices there.
+fn list_one(
+    words: &[u64],
+    s: Sentence,
+    g: Grammar,
+    a: u8,
+    start: usize,
+    len: usize,
+    list: &mut [u8],
+    l: Listing,
+) -> Listing
+    requires { ⌜ Formed g × Positioned s × (start + len ≤ s .count) ⌝ }
+    requires { ⌜ SpanSheet (rules g) (spelled s) (now words) × Contains (rules g) (spelled s) a start len ⌝ }
+    requires { ⌜ l .count ≤ l .at ⌝ }
+    ensures { λ r. ⌜ Lists (rules g) (spelled s) (now (list .entry)) (now (list .exit)) l r (entry a start len) (entry (a + 1) start len) ⌝ }
+{
+    if !has_several(words, s, g, a, start, len) {
+        return l;
+    }
+    let e = [a, start as u8, len as u8];
+    put(list, l, &e, 1)
+}
+
+// List the places over the span.
+fn list_span(
+    words: &[u64],
+    reach: &[u64],
+    s: Sentence,
+    g: Grammar,
+    start: usize,
+    len: usize,
+    list: &mut [u8],
+    l: Listing,
+) -> Listing
+    requires { ⌜ Scene g s (now words) (now reach) ⌝ }
+    requires { ⌜ (start + len ≤ s .count) × (startOf start len ≡ start) ⌝ }
+    requires { ⌜ l .count ≤ l .at ⌝ }
+    ensures { λ r. ⌜ Lists (rules g) (spelled s) (now (list .entry)) (now (list .exit)) l r (entry 0 start len) (entry 64 start len) ⌝ }
+{
+    let p = pair_at(s.count, start, len);
+    let set = reach[p];
+    let mut k = l;
+    let mut a = 0;
+    while a < 64 {
+        if !has(set, a) {
+            a += 1;
+            continue;
+        }
+        k = list_one(words, s, g, a, start, len, list, k);
+        a += 1;
+    }
+    k
+}
+
+// List the places over the spans of `len` tokens.
+fn list_row(
+    words: &[u64],
+    reach: &[u64],
+    s: Sentence,
+    g: Grammar,
+    len: usize,
+    list: &mut [u8],
+    l: Listing,
+) -> Listing
+    requires { ⌜ Scene g s (now words) (now reach) ⌝ }
+    requires { ⌜ (0 < len) × (len ≤ s .count) ⌝ }
+    requires { ⌜ l .count ≤ l .at ⌝ }
+    ensures { λ r. ⌜ Lists (rules g) (spelled s) (now (list .entry)) (now (list .exit)) l r (entry 0 0 len) (entry 0 0 (len - 1)) ⌝ }
+{
+    let n = s.count;
+    let mut k = l;
+    let mut start = 0;
+    while start + len <= n {
+        k = list_span(words, reach, s, g, start, len, list, k);
+        start += 1;
+    }
+    k
+}
+
+// List all places, the longest words first, the empty word last.
+fn list_all(
+    words: &[u64],
+    reach: &[u64],
+    s: Sentence,
+    g: Grammar,
+    list: &mut [u8],
+    l: Listing,
+) -> Listing
+    requires { ⌜ Scene g s (now words) (now reach) ⌝ }
+    requires { ⌜ l .count ≤ l .at ⌝ }
+    ensures { λ r. ⌜ Lists (rules g) (spelled s) (now (list .entry)) (now (list .exit)) l r (entry 0 0 (s .count)) (entry 64 0 0) ⌝ }
+{
+    let mut k = l;
+    let mut len = s.count;
+    while 0 < len {
+        k = list_row(words, reach, s, g, len, list, k);
+        len -= 1;
+    }
+    list_span(words, reach, s, g, 0, 0, list, k)
+}
+
+// The list of the places in the lent bytes, with 0 after it; all 0 where it does not fit.
+pub fn list_places(words: &[u64], reach: &[u64], s: Sentence, g: Grammar, list: &mut [u8]) -> Listed
+    requires { ⌜ Scene g s (now words) (now reach) ⌝ }
+    ensures { λ r. ⌜ PlacesGiven (rules g) (spelled s) (now (list .entry)) (now (list .exit)) r ⌝ }
+{
+    let l = list_all(words, reach, s, g, list, begin());
+    finish(list, l)
+}

@@ -1,0 +1,4 @@
+pub mod PaperLaws
+pub mod PlaceLaws
+pub mod ListLaws
+pub mod Samples

@@ -1,0 +1,94 @@
+-- Laws of words with members put in.
+use mathlib.Core.Path.{_≡_, refl, sym, ap, _∙_, subst}
+use mathlib.Core.Logic.{_⊎_, inl, inr, ⊎-elim}
+use mathlib.Core.List.{List}
+use Prim.Native.Nat.{ℕ, _+_, _-_, _<_}
+use native.Mathlib.Omega.{arith}
+use native.Mathlib.Decide.{ℕ-discrete}
+use lib.ListN.{length, getD, set, length-set}
+use lib.Seq.{getD-set-same, getD-set-other}
+use Rattle.sets.specs.Sets.{In, insert}
+use Rattle.sets.proofs.Sets.{insert-same, insert-keeps, insert-only, insert-ge}
+use Rattle.grammar.specs.declared.Rule.{Rule}
+use Rattle.marks.specs.declared.SpanMarks.{SpanMarks}
+use Rattle.reach.specs.Joining.{Joins, ClauseKids, RuleKids}
+
+-- nothing is put in
+pub joins-none : (rs : List ℕ) → Joins (λ q B. ⊥) rs rs
+joins-none rs = record { long = refl; keeps = λ q B h. h; only = λ q B h. inl h; all = λ q B h. absurd h }
+
+-- one member
+pub joins-set : (rs : List ℕ) (p a : ℕ) → p < length rs → Joins (λ q B. (q ≡ p) × (B ≡ a)) rs (set rs p (insert (getD rs p 0) a))
+joins-set rs p a h = record {
+  long = length-set rs p _;
+  keeps = λ q B x. keep q B x (ℕ-discrete q p);
+  only = λ q B x. once q B x (ℕ-discrete q p);
+  all = λ q B x. subst (λ (s : ℕ). In s B) (sym (at q (x .0))) (subst (λ (b : ℕ). In (insert (getD rs p 0) a) b) (sym (x .1)) (insert-same (getD rs p 0) a));
+}
+  where
+    at : (q : ℕ) → q ≡ p → getD (set rs p (insert (getD rs p 0) a)) q 0 ≡ insert (getD rs p 0) a
+    at q e = ap (λ (x : ℕ). getD (set rs p (insert (getD rs p 0) a)) x 0) e ∙ getD-set-same rs p (insert (getD rs p 0) a) 0 h
+
+    keep : (q B : ℕ) → In (getD rs q 0) B → Dec (q ≡ p) → In (getD (set rs p (insert (getD rs p 0) a)) q 0) B
+    keep q B x (yes e) = subst (λ (s : ℕ). In s B) (sym (at q e)) (insert-keeps (getD rs p 0) a (subst (λ (y : ℕ). In (getD rs y 0) B) e x))
+    keep q B x (no e) = subst (λ (s : ℕ). In s B) (sym (getD-set-other rs p q _ 0 e)) x
+
+    once : (q B : ℕ) → In (getD (set rs p (insert (getD rs p 0) a)) q 0) B → Dec (q ≡ p) → In (getD rs q 0) B ⊎ ((q ≡ p) × (B ≡ a))
+    once q B x (yes e) =
+        ⊎-elim (λ y. inl (subst (λ (z : ℕ). In (getD rs z 0) B) (sym e) y)) (λ y. inr (e, y))
+        (insert-only (getD rs p 0) a B (subst (λ (s : ℕ). In s B) (at q e) x))
+    once q B x (no e) = inl (subst (λ (s : ℕ). In s B) (getD-set-other rs p q _ 0 e) x)
+
+-- one after the other
+pub joins-then : {P Q : ℕ → ℕ → Type 0} {rs rs′ rs″ : List ℕ} → Joins P rs rs′ → Joins Q rs′ rs″ → Joins (λ q B. P q B ⊎ Q q B) rs rs″
+joins-then a b = record {
+  long = b .long ∙ a .long;
+  keeps = λ q B x. b .keeps q B (a .keeps q B x);
+  only = λ q B x. ⊎-elim (λ y. ⊎-elim inl (λ z. inr (inl z)) (a .only q B y)) (λ y. inr (inr y)) (b .only q B x);
+  all = λ q B x. ⊎-elim (λ y. b .keeps q B (a .all q B y)) (λ y. b .all q B y) x;
+}
+
+-- the same members, said otherwise
+pub joins-as : {P Q : ℕ → ℕ → Type 0} {rs rs′ : List ℕ} → ((q B : ℕ) → P q B → Q q B) → ((q B : ℕ) → Q q B → P q B) → Joins P rs rs′ → Joins Q rs rs′
+joins-as f g a =
+    record { long = a .long; keeps = a .keeps; only = λ q B x. ⊎-elim inl (λ y. inr (f q B y)) (a .only q B x); all = λ q B x. a .all q B (g q B x) }
+
+-- a set that gets a new member gets larger
+pub insert-more : (s a : ℕ) → (In s a → ⊥) → s < insert s a
+insert-more s a n = go (ℕ-discrete s (insert s a))
+  where
+    go : Dec (s ≡ insert s a) → s < insert s a
+    go (yes e) = absurd (n (subst (λ (x : ℕ). In x a) (sym e) (insert-same s a)))
+    go (no e) = omega (arith, insert-ge s a, e)
+
+-- ---- members put in turn by turn
+
+-- one of the first m turns puts it in
+abbrev pub Under : (ℕ → ℕ → ℕ → Type 0) → ℕ → ℕ → ℕ → Type 0
+Under P m q B = (l : ℕ) × (l < m) × P l q B
+
+pub joins-zero : (P : ℕ → ℕ → ℕ → Type 0) (rs : List ℕ) → Joins (Under P 0) rs rs
+joins-zero P rs = joins-as (λ q B x. absurd x) (λ q B x. omega (arith, x .1)) (joins-none rs)
+
+pub joins-next : (P : ℕ → ℕ → ℕ → Type 0) (m : ℕ) {rs rs₁ rs₂ : List ℕ} → Joins (Under P m) rs rs₁ → Joins (P m) rs₁ rs₂ → Joins (Under P (m + 1)) rs rs₂
+joins-next P m a b =
+    joins-as (λ q B x. ⊎-elim (λ y. (y .0, omega (arith, y .1), y .2)) (λ y. (m, omega arith, y)) x) (λ q B x. back q B x (ℕ-discrete (x .0) m))
+    (joins-then a b)
+  where
+    back : (q B : ℕ) → (x : Under P (m + 1) q B) → Dec (x .0 ≡ m) → Under P m q B ⊎ P m q B
+    back q B x (yes e) = inr (subst (λ (l : ℕ). P l q B) e (x .2))
+    back q B x (no e) = inl (x .0, omega (arith, x .1, e), x .2)
+
+pub joins-all : (P : ℕ → ℕ → ℕ → Type 0) (m : ℕ) {rs rs′ : List ℕ} → Joins (Under P m) rs rs′ → ((l q B : ℕ) → P l q B → l < m)
+    → Joins (λ q B. (l : ℕ) × P l q B) rs rs′
+joins-all P m a f = joins-as (λ q B x. (x .0, x .2)) (λ q B x. (x .0, f (x .0) q B (x .1), x .1)) a
+
+-- ---- members beneath a rule that is read in two ways
+
+module _ (ws : List ℕ) (n s len : ℕ) (k : SpanMarks) where
+  pub joins-clause : {r r′ : Rule} {rs rs′ : List ℕ} → r ≡ r′ → Joins (ClauseKids ws n s len k (r .clause)) rs rs′
+      → Joins (ClauseKids ws n s len k (r′ .clause)) rs rs′
+  joins-clause {rs = rs} {rs′} e j = subst (λ (r : Rule). Joins (ClauseKids ws n s len k (r .clause)) rs rs′) e j
+
+  pub joins-rule : (A : ℕ) {r r′ : Rule} {rs rs′ : List ℕ} → r ≡ r′ → Joins (RuleKids ws n s len k A r) rs rs′ → Joins (RuleKids ws n s len k A r′) rs rs′
+  joins-rule A {rs = rs} {rs′} e j = subst (λ (r : Rule). Joins (RuleKids ws n s len k A r) rs rs′) e j

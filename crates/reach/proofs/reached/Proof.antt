@@ -1,0 +1,75 @@
+-- From the start down, span by span.
+use borrow.Author.Needs.{needs}
+use mathlib.Core.Path.{_≡_, refl, sym, _∙_, subst}
+use Prim.Native.Nat.{_+_}
+use native.Mathlib.Omega.{arith}
+use lib.ListN.{length, take, length-map}
+use lib.Seq.{length-take-le}
+use Rattle.grammar.specs.Trees.{Rules}
+use Rattle.grammar.specs.Content.{rules, spelled}
+use Rattle.grammar.specs.SpanSheet.{pairAt}
+use Rattle.codes.proofs.Laws.{coded-whole}
+use Rattle.marks.specs.declared.Draft.{Draft}
+use Rattle.reach.specs.Spreading.{Known, Done}
+use Rattle.reach.proofs.DoneLaws.{done-start, reached}
+use Rattle.reach.proofs.reached.Statement.{statement}
+use Rattle.reach.proofs.reached.Tie as tie
+
+-- the array of tokens has 64 places
+whole : (c : tie.Start) → length (spelled (c .args .s)) ≡ c .args .s .count
+whole c =
+    let long : length (c .args .s .tokens) ≡ 64 = simp length-map at (c .good .1 .0 .1 .1 .0 .1 .0 .1) in
+    length-take-le (c .args .s .count) (c .args .s .tokens) (omega (arith, c .pre .0 .0))
+
+encode-requires : tie.Need-encode-requires
+encode-requires c κs = search needs
+
+begin-requires : tie.Need-begin-requires
+begin-requires c κs = search needs
+
+array-share-prefix-codes : tie.Need-array-share-prefix-codes
+array-share-prefix-codes c = search needs
+
+slice-aggregate-spread-all : tie.Need-slice-aggregate-spread-all
+slice-aggregate-spread-all c =
+    let e = c .before .before .before .before .before .before in
+    let z = e .before .before .before .before in
+    sym (coded-whole (take (z .args .g .count) (e .encode .result)) (e .encode .ensures) ∙ z .pre .1 .0 .whole)
+
+spread-all-requires : tie.Need-spread-all-requires
+spread-all-requires c κs =
+    let b = c .before .before .before .before in
+    let e = b .before .before in
+    let z = e .before .before .before .before in
+    let s = z .args .s in
+    let d : Draft = record { tokens = s .tokens; count = s .count; known = s .count } in
+    let x = sym (e .encode .ensures) in
+    let l = whole z in (
+      subst (λ (g : Rules). Known (z .args .words .now) g d) x (record { few = z .pre .0 .0; long = l; known = refl; sheet = z .pre .1 .1 .0 }),
+      subst (λ (g : Rules). Done g (spelled s) (s .count) (b .begin .last .0) (pairAt (s .count) 0 (s .count + 1))) x
+          (done-start (rules (z .args .g)) (spelled s) (s .count) (b .begin .last .0) l (z .pre .1 .1 .1) (b .begin .ensures)),
+    )
+
+same-length : tie.Need-same-length
+same-length c = search needs
+
+returns : tie.Need-returns
+returns c =
+    let a = c .before .before in
+    let e = a .before .before .before .before .before .before .before in
+    let z = e .before .before .before .before in
+    let s = z .args .s in
+    reached (rules (z .args .g)) (spelled s) (s .count) (a .spread-all .last .1 .0) (whole z)
+    (subst (λ (g : Rules). Done g (spelled s) (s .count) (a .spread-all .last .1 .0) 0) (e .encode .ensures) (a .spread-all .ensures))
+
+pub reached-spec : {M : Type 1} → statement M
+reached-spec =
+    tie.close
+    (tie.spec
+    encode-requires
+    begin-requires
+    array-share-prefix-codes
+    slice-aggregate-spread-all
+    spread-all-requires
+    same-length
+    returns)
