@@ -398,7 +398,9 @@ def of_values(chance, sheet):
     lines = sheet.split(b"\n")
     at = past_names(chance, lines)
     fields = lines[at].split(b" ")
-    if len(fields) == 5 and chance.random() < 0.5:
+    if len(fields) == 5 and fields[1] == b"A" and chance.random() < 0.2:
+        fields[2:4] = [b"%d" % chance.randint(1, 65), b"%d" % chance.randint(0, 9)]
+    elif len(fields) == 5 and chance.random() < 0.5:
         fields[4] = chance.choice(ALL_LAYS).encode()
         if chance.random() < 0.5:
             lines.insert(chance.randint(1, max(1, len(lines) - 1)), lines[at])

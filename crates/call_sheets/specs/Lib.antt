@@ -1,0 +1,2 @@
+pub mod CallSheets
+pub mod OneField

@@ -1,0 +1,183 @@
+// The call sheet in front of the input of the program `calls`: which call it names, with its numbers.
+use fields::Cursor;
+use fields::Number;
+use fields::NumberField;
+use fields::numeral;
+use fields::same;
+ghost use mathlib.Core.Path.{_≡_};
+ghost use Prim.Native.Nat.{_+_, _-_, _≤_, _<_};
+ghost use lib.ListN.{length, take, drop};
+ghost use Rattle.fields.specs.Words.{numeralOf};
+ghost use Rattle.fields.specs.Answers.{asNumber};
+ghost use Rattle.fields.specs.Pieces.{fieldsLeft};
+ghost use Rattle.call_sheets.specs.CallSheets.{callOf, numberedCall, withNumber, shareCall, changeCall};
+ghost use Rattle.call_sheets.specs.declared.Call.the-variants.{ClausesSweep as Bounded, Show as Shown};
+ghost use Rattle.call_sheets.specs.OneField.{oneField};
+ghost use Rattle.call_sheets.specs.CallSheets as Sheets;
+
+// A call with its numbers. That of a change ends with the place in the call sheet where the new mark begins; it ends before the last byte.
+// `Not` is a sheet that is not so written.
+pub enum Call {
+    Clauses,
+    ClausesSweep(u32),
+    Expand,
+    Rows,
+    Share(u32, u32, u32),
+    Columns,
+    Places,
+    Show(u32),
+    Change(u32, u32, usize),
+    Not,
+}
+
+// Does the sheet begin so, and end with a byte 10?
+fn begins(s: &[u8], start: &[u8]) -> bool
+    ensures { λ r. ⌜ r ≡ Sheets.begins (now (start .entry)) (now (s .entry)) ⌝ }
+{
+    let n = start.len();
+    let m = s.len();
+    if m <= n {
+        return false;
+    }
+    if same(&s[..n], start) {
+        let last = m - 1;
+        return s[last] == 10;
+    }
+    false
+}
+
+// Three numbers from a cursor on.
+fn share_call(s: &[u8], c: Cursor) -> Call
+    requires { ⌜ c .end ≤ length (now s) ⌝ }
+    ensures { λ r. ⌜ r ≡ shareCall (fieldsLeft (now (s .entry)) c) ⌝ }
+{
+    let NumberField::Is(n, d) = c.number(s) else {
+        return Call::Not;
+    };
+    let NumberField::Is(p, e) = d.number(s) else {
+        return Call::Not;
+    };
+    let NumberField::Is(i, f) = e.number(s) else {
+        return Call::Not;
+    };
+    if f.at <= f.end {
+        return Call::Not;
+    }
+    Call::Share(n, p, i)
+}
+
+// Is there neither a blank nor a byte 10?
+fn one_field(f: &[u8]) -> bool
+    ensures { λ r. ⌜ r ≡ oneField (now (f .entry)) ⌝ }
+{
+    let mut i = 0;
+    while i < f.len() {
+        let b = f[i];
+        if b == 32 {
+            return false;
+        }
+        if b == 10 {
+            return false;
+        }
+        i += 1;
+    }
+    true
+}
+
+// User, rule and the new mark's field, from a cursor on whose line ends before the sheet's last byte.
+fn change_call(s: &[u8], c: Cursor) -> Call
+    requires { ⌜ c .end + 1 ≡ length (now s) ⌝ }
+    ensures { λ r. ⌜ r ≡ changeCall (length (now (s .entry))) (fieldsLeft (now (s .entry)) c) ⌝ }
+{
+    let NumberField::Is(u, d) = c.number(s) else {
+        return Call::Not;
+    };
+    let NumberField::Is(r, e) = d.number(s) else {
+        return Call::Not;
+    };
+    let at = e.at;
+    let end = e.end;
+    if end < at {
+        return Call::Not;
+    }
+    if one_field(&s[at..end]) {
+        return Call::Change(u, r, at);
+    }
+    Call::Not
+}
+
+// The number between a place and the last byte.
+fn number_from(s: &[u8], at: usize) -> Number
+    requires { ⌜ at + 1 ≤ length (now s) ⌝ }
+    ensures { λ r. ⌜ r ≡ asNumber (numeralOf (take (length (now (s .entry)) - 1 - at) (drop at (now (s .entry))))) ⌝ }
+{
+    let end = s.len() - 1;
+    numeral(&s[at..end])
+}
+
+// A sweep of a clause sheet.
+fn bound_call(s: &[u8]) -> Call
+    requires { ⌜ 20 ≤ length (now s) ⌝ }
+    ensures { λ r. ⌜ r ≡ withNumber (numeralOf (Sheets.values Sheets.boundStart (now (s .entry)))) Bounded ⌝ }
+{
+    let n = number_from(s, 19);
+    match n {
+        Number::Is(k) => Call::ClausesSweep(k),
+        Number::Not => Call::Not,
+    }
+}
+
+// Trees as shown to a user.
+fn show_call(s: &[u8]) -> Call
+    requires { ⌜ 16 ≤ length (now s) ⌝ }
+    ensures { λ r. ⌜ r ≡ withNumber (numeralOf (Sheets.values Sheets.showStart (now (s .entry)))) Shown ⌝ }
+{
+    let n = number_from(s, 15);
+    match n {
+        Number::Is(u) => Call::Show(u),
+        Number::Not => Call::Not,
+    }
+}
+
+// A call with numbers.
+fn numbered_call(s: &[u8]) -> Call
+    ensures { λ r. ⌜ r ≡ numberedCall (now (s .entry)) ⌝ }
+{
+    if begins(s, b"call bound\nclauses ") {
+        return bound_call(s);
+    }
+    if begins(s, b"call user\nshow ") {
+        return show_call(s);
+    }
+    if begins(s, b"call length racks share\nshare ") {
+        let end = s.len() - 1;
+        return share_call(s, Cursor { at: 30, end });
+    }
+    if begins(s, b"call user rule lay\nchange ") {
+        let end = s.len() - 1;
+        return change_call(s, Cursor { at: 26, end });
+    }
+    Call::Not
+}
+
+// The call that a call sheet names.
+pub fn call_of(s: &[u8]) -> Call
+    ensures { λ r. ⌜ r ≡ callOf (now (s .entry)) ⌝ }
+{
+    if same(s, b"call\nclauses\n") {
+        return Call::Clauses;
+    }
+    if same(s, b"call\nexpand\n") {
+        return Call::Expand;
+    }
+    if same(s, b"call\nrows\n") {
+        return Call::Rows;
+    }
+    if same(s, b"call\ncolumns\n") {
+        return Call::Columns;
+    }
+    if same(s, b"call\nplaces\n") {
+        return Call::Places;
+    }
+    numbered_call(s)
+}
