@@ -15,8 +15,8 @@
  * Calls are reentrant: they have no state of their own and may run in any threads at once, each on
  * its own lent memory. They allocate nothing, take no lock, set no errno and make no system call.
  *
- * Stack: the verdict, its trees and a sweep need 16 KB, the refused line 12 KB, whatever they are
- * asked; TEPLONGA_STACK bytes are enough for any call.
+ * Stack: the verdict, its trees and a sweep need 16 KB, row counts 20 KB, the refused line 12 KB,
+ * whatever they are asked; TEPLONGA_STACK bytes are enough for any call.
  *
  * Time: a verdict or its trees take some milliseconds on the largest sheets. A sweep may take long:
  * sheets can be built whose sweep takes minutes, and it cannot be interrupted, so run it in a thread

@@ -17,7 +17,9 @@ fn main() {
         let library = folder.join(format!("lib{name}.a"));
         if !library.exists() {
             let shown = library.display();
-            println!("cargo:warning=no {shown}: run `rt staticlib {name}`, or set TEPLONGA_LIB_DIR");
+            println!(
+                "cargo:warning=no {shown}: run `rt staticlib {name}`, or set TEPLONGA_LIB_DIR"
+            );
         }
         println!("cargo:rerun-if-changed={}", library.display());
         println!("cargo:rustc-link-lib=static={name}");

@@ -1,6 +1,6 @@
 //! Row counts, beside the trees themselves.
 
-use teplonga::{rows, trees, words_for, Answer, RowCount, RowsReply};
+use teplonga::{rows, trees, words_for, Answer, Refusal, RowCount, RowsReply};
 
 /// A rule sheet of these rules, parted by ` / `.
 fn rules(text: &str) -> Vec<u8> {
@@ -39,8 +39,8 @@ fn counted_rows_are_room_enough_and_one_fewer_is_not() {
         trees(&sheets.0, &sheets.1, &mut words, &mut one, &mut two).answer
     };
     assert_eq!(answer(first, second), Answer::Two);
-    assert_eq!(answer(first - 1, second), Answer::Refused(22));
-    assert_eq!(answer(first, second - 1), Answer::Refused(22));
+    assert_eq!(answer(first - 1, second), Answer::Refused(Refusal::FewRows));
+    assert_eq!(answer(first, second - 1), Answer::Refused(Refusal::FewRows));
 }
 
 #[test]
@@ -55,13 +55,13 @@ fn counts_are_told_up_to_the_most() {
 fn a_refused_call_counts_nothing() {
     let short = rows(&rules(PLAIN), &row(3), &mut [0; 13]);
     let none = RowCount::Exact(0);
-    let refused = |number, line| RowsReply {
-        answer: Answer::Refused(number),
+    let refused = |refusal, line| RowsReply {
+        answer: Answer::Refused(refusal),
         line,
         first: none,
         second: none,
     };
-    assert_eq!(short, refused(21, 0));
-    assert_eq!(rows(b"", b"", &mut []), refused(1, 1));
-    assert_eq!(rows(&rules(PLAIN), b"term\n", &mut []), refused(11, 1));
+    assert_eq!(short, refused(Refusal::FewWords, 0));
+    assert_eq!(rows(b"", b"", &mut []), refused(Refusal::RuleNames, 1));
+    assert_eq!(rows(&rules(PLAIN), b"term\n", &mut []), refused(Refusal::TokenNames, 1));
 }
