@@ -1,0 +1,50 @@
+#!/usr/bin/env python3
+"""The inputs and outputs that README.md and docs/FORMAT.md show are those of the programs.
+
+    tests/documents.py        needs the built programs
+"""
+
+import re
+import subprocess
+import unittest
+from pathlib import Path
+
+TOP = Path(__file__).resolve().parent.parent
+
+
+def blocks(text):
+    """The indented blocks, each without its indent."""
+    found = re.findall(r"(?:^    [^\n]*\n(?:\n(?=    ))?)+", text, re.M)
+    return [re.sub(r"^    ", "", block, flags=re.M) for block in found]
+
+
+def pairs(text):
+    """Each output that is shown, with the input before it."""
+    before = None
+    for block in blocks(text):
+        if block.startswith("answer line\n"):
+            yield before, block
+        elif block.startswith(("left kind", "bound\n")) and "\n\n" in block:
+            before = block
+
+
+class Documents(unittest.TestCase):
+    def test_what_is_shown_is_what_is_answered(self):
+        count = 0
+        for name in ("README.md", "docs/FORMAT.md"):
+            for shown, answer in pairs((TOP / name).read_text()):
+                script = "sweep" if shown.startswith("bound") else "check"
+                ended = subprocess.run([TOP / "bin" / script], input=shown, capture_output=True, text=True, check=False)
+                self.assertEqual(ended.stdout, answer, name)
+                count += 1
+        self.assertGreaterEqual(count, 3)
+
+    def test_every_file_that_is_named_is_there(self):
+        for name in ("README.md", *(f"docs/{path.name}" for path in (TOP / "docs").glob("*.md"))):
+            text = (TOP / name).read_text()
+            for path in re.findall(r"`((?:bin|docs|scripts|tests|include|reference|examples)/[\w./-]+\w)`", text):
+                self.assertTrue((TOP / path).exists(), f"{name}: {path}")
+
+
+if __name__ == "__main__":
+    unittest.main()
