@@ -5,6 +5,7 @@
 """
 
 import os
+import pty
 import shutil
 import subprocess
 import sys
@@ -147,6 +148,16 @@ class Scripts(Room):
         words = "refused-3, rule sheet, line 2: a number above 63\n    0 A 64 - none\n        ^^\n"
         self.assertEqual(run(CHECK, "-v", data=BAD), (1, REFUSED, words))
         self.assertEqual(run(CHECK, "-v", data=GOOD), (0, TWO, ""))
+
+
+    def test_words_are_said_on_a_terminal(self):
+        screen, terminal = pty.openpty()
+        ended = subprocess.run([CHECK], input=BAD, stdout=subprocess.PIPE, stderr=terminal, check=False, timeout=60)
+        os.close(terminal)
+        said = os.read(screen, 10_000).decode()
+        os.close(screen)
+        self.assertEqual((ended.returncode, ended.stdout), (1, REFUSED))
+        self.assertIn("refused-3, rule sheet, line 2: a number above 63", said)
 
 
 class First(Room):
