@@ -104,6 +104,10 @@ class Declarations(unittest.TestCase):
             for name, declared in of_rust(path.read_text()).items():
                 self.assertEqual(shape(declared), shape(of_header()[name]), f"{path}: {name}")
 
+    def test_each_function_is_called_by_the_test_in_C(self):
+        called = set(re.findall(r"\b(teplonga_\w+)\(", (TOP / "tests" / "faces.c").read_text()))
+        self.assertEqual(set(of_header()) - called, set())
+
     def test_a_difference_is_seen(self):
         changed = HEADER.replace("size_t bound", "uint32_t bound")
         self.assertNotEqual(of_header(changed), of_header())
