@@ -10,15 +10,38 @@ import sys
 
 from refusals import table
 
-# the sheets that a program's input holds, each parted from the next by an empty line
+# the sheets that a program's input holds, each parted from the next by an empty line; of `calls` by the call
 SHEETS = {
     "checker": ["rule sheet", "token sheet"],
     "sweeper": ["bound", "rule sheet"],
 }
+CALLS = {
+    "clauses": ["call", "clause sheet", "token sheet"],
+    "clauses bound": ["call", "clause sheet"],
+    "expand": ["call", "clause sheet"],
+    "rows": ["call", "rule sheet", "token sheet"],
+    "share": ["call", "rule sheet"],
+    "columns": ["call", "rule sheet", "range sheet"],
+    "places": ["call", "rule sheet", "token sheet"],
+    "show": ["call", "rule sheet", "token sheet", "rights sheet"],
+    "change": ["call", "rule sheet", "rights sheet"],
+}
 
 NAMES = {
     "rule sheet": [b"left kind first second lay"],
+    "clause sheet": [b"left clause"],
     "token sheet": [b"term line col", b"term line col width"],
+    "range sheet": [b"term line low high"],
+    "rights sheet": [b"user low high may"],
+}
+
+# the first word of where a refusal is looked for, and the sheets that it may be about
+ABOUT = {
+    "rule": ("rule sheet", "clause sheet"),
+    "clause": ("clause sheet",),
+    "token": ("token sheet", "range sheet"),
+    "range": ("range sheet",),
+    "rights": ("rights sheet",),
 }
 
 LAYS = {b"none", b"offside", b"offalign", b"single", b"align", b"indent"}
@@ -64,6 +87,15 @@ def parted(data, count):
         sheets.append(data[: found.end() - 1])
         data = data[found.end() :]
     return sheets + [data]
+
+
+def sheets_of(program, data):
+    """The names of the sheets of an input."""
+    if program in SHEETS:
+        return SHEETS[program]
+    names, values, *_ = data.split(b"\n", 2)
+    call = values.split(b" ")[0].decode("latin-1")
+    return CALLS["clauses bound" if (call, names) == ("clauses", b"call bound") else call]
 
 
 def lines_of(sheet):
@@ -150,7 +182,9 @@ def fault(number, sheet, lines, at):
     if number in (1, 11):
         return names_fault(sheet, line), None
     if number == 2:
-        return rule_form_fault(line), None
+        span = rule_form_fault(line)
+        # a line without a fault is refused for a new mark, which is to stand in its last field
+        return line.field(4) if line.ended and len(line.fields) == 5 and span == line.end() else span, None
     if number == 3:
         return line.first(lambda i, field: i != 1 and over(63)(field), 4), None
     if number == 4:
@@ -198,8 +232,10 @@ def explained(program, answer, number_of_line, data):
         return [f"{answer}: docs/refusals.tsv has no such number"]
     if number_of_line == 0:
         return [f"{answer}: {refusal.meaning}"]
-    sheet = next(name for name in SHEETS[program] if refusal.where.startswith((name, f"each {name.split()[0]} line")))
-    lines = lines_of(parted(data, len(SHEETS[program]))[SHEETS[program].index(sheet)])
+    names = sheets_of(program, data)
+    about = ABOUT[refusal.where.removeprefix("each ").split(" ")[0]]
+    sheet = next(name for name in names if name in about)
+    lines = lines_of(parted(data, len(names))[names.index(sheet)])
     at = number_of_line - 1
     span, other = fault(number, sheet, lines, at)
     words = [f"{answer}, {sheet}, line {number_of_line}: {refusal.meaning}"]
@@ -212,7 +248,13 @@ def explained(program, answer, number_of_line, data):
 
 
 def main(program, answer, line):
-    print("\n".join(explained(program, answer, int(line), sys.stdin.buffer.read())))
+    data = sys.stdin.buffer.read()
+    try:
+        said = explained(program, answer, int(line), data)
+    except (LookupError, ValueError, TypeError, StopIteration):
+        # a line that is not looked at rightly: the sentence alone
+        said = explained(program, answer, 0, data)
+    print("\n".join(said))
 
 
 if __name__ == "__main__":

@@ -101,6 +101,20 @@ class Words(unittest.TestCase):
         self.assertEqual({number for number, *_ in CASES} | {21}, set(MEANING))
         self.assertEqual(words.explained("checker", "refused-21", 0, b""), [f"refused-21: {MEANING[21]}"])
 
+    def test_the_sheets_of_calls(self):
+        token = b"call\nplaces\n\n" + PLAIN.encode() + b"\n" + TOKENS.encode() + b"0 0 1\n"
+        said = [f"refused-13, token sheet, line 2: {MEANING[13]}", "    0 0 1", "      ^"]
+        self.assertEqual(words.explained("calls", "refused-13", 2, token), said)
+        # a new mark: the field in whose place it is to stand
+        change = b"call user rule lay\nchange 5 2 foo\n\n" + PLAIN.encode() + b"\nuser low high may\n"
+        for number in (2, 4):
+            said = [f"refused-{number}, rule sheet, line 3: {MEANING[number]}", "    0 A 0 - none", "            ^^^^"]
+            self.assertEqual(words.explained("calls", f"refused-{number}", 3, change), said)
+
+    def test_a_line_that_is_not_there_leaves_the_sentence(self):
+        ended = subprocess.run(["python3", TOP / "scripts" / "words.py", "checker", "refused-3", "9"], input=b"x\n\n", capture_output=True, check=True)
+        self.assertEqual(ended.stdout.decode(), f"refused-3: {MEANING[3]}\n")
+
     def test_a_long_line_is_cut_about_the_fault(self):
         line = "0 A 1 - " + "x" * 300
         shown = words.explained("checker", "refused-2", 2, f"{RULES}{line}\n\n".encode())
