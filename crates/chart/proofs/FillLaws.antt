@@ -28,8 +28,8 @@ use Rattle.spans.proofs.ChangeLaws.{kept-then}
 use Rattle.chart.specs.Tables.{Table, One, Two, Leave, byTokens, byMarks, Fits, Stand, Again, Below, rule}
 use Rattle.chart.specs.Tables.Again.{apart, below}
 use Rattle.chart.specs.declared.Tally.{Tally}
-use Rattle.chart.specs.Passes.{Inner, Saturated}
-use Rattle.chart.specs.Filling.{Told, Settled, Ground, Grounded, Closed, Given, Filled, Grown}
+use Rattle.chart.specs.Passes.{Inner, by-splits, Saturated}
+use Rattle.chart.specs.Filling.{Told, Settled, Ground, Closed, Joins, Given, Filled, Grown}
 use Rattle.chart.specs.Openness.{anything, Open}
 use Rattle.chart.specs.Sheets.{Exact}
 use Rattle.chart.proofs.PassLaws.{inner-from, passes-from}
@@ -49,26 +49,23 @@ module _ (ws ws′ : List ℕ) (n p : ℕ) (kept : Kept ws ws′ p) where
 shorter-other : (n s len a b : ℕ) → s + len ≤ n → a + b ≤ s + len → (b ≡ len → ⊥) → pairAt n a b ≡ pairAt n s len → ⊥
 shorter-other n s len a b fit h other e = other (pairAt-same n a b s len (omega arith) fit e .0)
 
--- ---- the pairs of open tokens are given
+-- ---- the pairs of single tokens are given
 
-pub given-same : (ws : List ℕ) (n known : ℕ) → Given ws ws n known
-given-same ws n known = record { first = λ i x y. refl; second = λ i x y. refl }
+pub given-same : (ws : List ℕ) (n : ℕ) → Given ws ws n
+given-same ws n = record { first = λ i x. refl; second = λ i x. refl }
 
-pub given-then : {ws ws′ ws″ : List ℕ} {n known : ℕ} → Given ws ws′ n known → Given ws′ ws″ n known → Given ws ws″ n known
-given-then f g = record { first = λ i x y. g .first i x y ∙ f .first i x y; second = λ i x y. g .second i x y ∙ f .second i x y }
+pub given-then : {ws ws′ ws″ : List ℕ} {n : ℕ} → Given ws ws′ n → Given ws′ ws″ n → Given ws ws″ n
+given-then f g = record { first = λ i x. g .first i x ∙ f .first i x; second = λ i x. g .second i x ∙ f .second i x }
 
--- another span's pair is written
-pub given-kept : (ws ws′ : List ℕ) (h : Half) (n s len : ℕ) → s + len ≤ n → Told h s len → Kept ws ws′ (pairAt n s len) → Given ws ws′ n (h .known)
-given-kept ws ws′ h n s len fit told k = record {
-  first = λ i x y. first-kept ws ws′ n (pairAt n s len) k i 1 (other i x y);
-  second = λ i x y. second-kept ws ws′ n (pairAt n s len) k i 1 (other i x y);
+-- the pair of a longer span is written
+pub given-kept : (ws ws′ : List ℕ) (n s len : ℕ) → s + len ≤ n → 2 ≤ len → Kept ws ws′ (pairAt n s len) → Given ws ws′ n
+given-kept ws ws′ n s len fit long k = record {
+  first = λ i x. first-kept ws ws′ n (pairAt n s len) k i 1 (other i x);
+  second = λ i x. second-kept ws ws′ n (pairAt n s len) k i 1 (other i x);
 }
   where
-    other : (i : ℕ) → h .known ≤ i → i < n → pairAt n i 1 ≡ pairAt n s len → ⊥
-    other i x y e =
-        let z = pairAt-same n i 1 s len (omega arith) fit e in
-        let o = told (sym (z .0)) in
-        ⊎-elim (λ q. let r : _≡_ {A = ℕ} 1 0 = q in omega arith) (λ q. omega (arith, q)) (z .1)
+    other : (i : ℕ) → i < n → pairAt n i 1 ≡ pairAt n s len → ⊥
+    other i x e = let z = pairAt-same n i 1 s len (omega arith) fit e in omega (arith, z .0)
 
 -- ---- the span is settled
 
@@ -117,6 +114,11 @@ module _ (ws ws′ : List ℕ) (g : Rules) (h : Half) (n s len : ℕ) (k : SpanM
 
       again : (A : ℕ) → Again (One ws′ n) (Two ws′ n) g (byMarks k len) s len A → Two ws′ n s len A
       again = again-found ws ws′ g n s len k first second (t .one) (t .two) (getD ws 0 0) (getD ws 1 0) (w .first) (w .second) (λ z a y. first a 0 z (omega arith) ∙ empty-first a) (λ z a y. second a 0 z (omega arith) ∙ empty-second a) b t inner sat refl refl
+
+-- a span of two tokens or more, by its marks
+pub joined : (ws ws′ : List ℕ) (g : Rules) (h : Half) (n s len : ℕ) (k : SpanMarks) → Distinct g → h .known ≤ length (h .word) → s + len ≤ n → 2 ≤ len → Marked h s len k → Ground ws g h n s len → Joins ws ws′ g n s len k → Closed ws ws′ g h n s len
+joined ws ws′ g h n s len k distinct known fit long marked ground j =
+    closed ws ws′ g h n s len k (j .inner) (j .last) distinct known fit marked ground (by-splits long (j .splits)) (j .saturated) (j .wrote)
 
 -- ---- what stands over a span goes by its parts alone
 

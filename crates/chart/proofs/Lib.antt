@@ -7,6 +7,9 @@ pub mod PassLaws
 pub mod CodeLaws
 pub mod Coverage
 pub mod FillLaws
+pub mod ExactLaws
+pub mod LeafLaws
 pub mod OpenLaws
 pub mod SheetLaws
+pub mod SingleLaws
 pub mod PickLaws

@@ -9,7 +9,7 @@ use native.Mathlib.Omega.{arith}
 use native.Mathlib.Nat.{not-suc-le-zero}
 use native.Mathlib.Decide.{decLt, ℕ-discrete}
 use lib.ListN.{length, getD, take, drop}
-use lib.Seq.{take-all, take-take}
+use lib.Seq.{take-all}
 use Rattle.sets.specs.Says.{Says}
 use Rattle.sets.specs.Sets.{In}
 use Rattle.sets.proofs.Says.{true-not-false}
@@ -19,7 +19,7 @@ use Rattle.grammar.specs.Choices.{Distinct}
 use Rattle.grammar.specs.SpanSheet.{part, pairs, pairAt, firstWord, secondWord, SpanSheet}
 use Rattle.grammar.proofs.Marks.{token?}
 use Rattle.grammar.proofs.VerdictLaws.{none-not-one, none-not-two, one-not-two}
-use Rattle.marks.specs.Half.{Half, Completes}
+use Rattle.marks.specs.Half.{Half, Completes, token}
 use Rattle.marks.proofs.HalfLaws.{completes-self}
 use Rattle.spans.specs.Changes.{Past, Kept}
 use Rattle.spans.proofs.Places.{pairAt-same, pairAt-empty, pairAt-shorter, pairs-closed}
@@ -31,17 +31,20 @@ use Rattle.chart.specs.declared.Verdict.{Verdict}
 use Rattle.chart.specs.declared.Verdict.the-variants as Verdict
 use Rattle.chart.specs.Tables.{Table, One, Two, byTokens, Stand, Again}
 use Rattle.chart.specs.Passes.{Room}
-use Rattle.chart.specs.Filling.{Told, Settled, Ground, Closed, Given, Stays, Stops, Filled, Grown}
-use Rattle.chart.specs.Sheets.{Exact, Begun, Ready, Admits, Meets, Covers, Charted, Holds, Judged, Hopeless, Settles}
+use Rattle.chart.specs.Leaves.{Allows, LeafAt, May}
+use Rattle.chart.specs.Filling.{Told, Settled, Ground, Closed, Given, Passed, Filled, Grown}
+use Rattle.chart.specs.Sheets.{Exact, Begun, Ready, Meets, Covers, Charted, Holds, Judged, Hopeless, Settles}
 use Rattle.chart.proofs.Completeness.{complete, same}
 use Rattle.chart.proofs.Soundness.{sound-stand, sound-again}
-use Rattle.chart.proofs.FillLaws.{given-then, settled-kept, settled-empty}
+use Rattle.chart.proofs.FillLaws.{settled-kept, settled-empty}
+use Rattle.chart.proofs.ExactLaws.{exact-less, null-one, null-two}
+use Rattle.chart.proofs.LeafLaws.{leaf-allows, leaf-one, leaf-more, may-one, may-two}
 use Rattle.chart.proofs.OpenLaws.{open-settled, settled-open, open-none, given-settled}
 
 -- ---- what is kept
 
 -- what is exact is settled: a rule over exact parts has a tree, and so is in the words
-exact-settled : (ws : List ℕ) (g : Rules) (h : Half) (n from : ℕ) → Distinct g → h .known ≤ length (h .word) → from ≤ h .known → Exact g (h .word) n ws from
+pub exact-settled : (ws : List ℕ) (g : Rules) (h : Half) (n from : ℕ) → Distinct g → h .known ≤ length (h .word) → from ≤ h .known → Exact g (h .word) n ws from
     → (a b : ℕ) → a + b ≤ from → Settled (One ws n) (Two ws n) g h a b
 exact-settled ws g h n from distinct inner low x a b fit = record {
   some = λ A k. x .one a b A fit .0;
@@ -56,79 +59,149 @@ exact-settled ws g h n from distinct inner low x a b fit = record {
     two : (c d A : ℕ) → a ≤ c → c + d ≤ a + b → Two ws n c d A → TwoTrees g A (part (h .word) c d)
     two c d A p q = x .two c d A (omega arith) .0
 
+-- a known token whose pair is its terminal's is settled
+leaf-settled : (ws : List ℕ) (g : Rules) (h : Half) (n : ℕ) → Distinct g → h .known ≤ length (h .word) → Exact g (h .word) n ws 0 → (i : ℕ) → i < h .known → LeafAt g n ws i (token (h .word) i .terminal)
+    → Settled (One ws n) (Two ws n) g h i 1
+leaf-settled ws g h n distinct inner x i kn l = record {
+  some = λ A k. one i 1 A (omega arith) (omega arith);
+  more = λ A k. two i 1 A (omega arith) (omega arith);
+  each = λ A j m u c. may-one g w n ws i far (leaf-allows l) A (sound-stand (One ws n) g h inner i 1 (omega arith) one A j m c);
+  again = λ A u q. may-two g w n ws i far (leaf-allows l) A (sound-again (One ws n) (Two ws n) g h inner distinct i 1 (omega arith) one two A q);
+}
+  where
+    w : Word
+    w = h .word
+
+    far : i < length w
+    far = omega arith
+
+    one : (c d A : ℕ) → i ≤ c → c + d ≤ i + 1 → One ws n c d A → Derives g A (part w c d)
+    one c d A p q = go (ℕ-discrete d 0)
+      where
+        go : Dec (d ≡ 0) → One ws n c d A → Derives g A (part w c d)
+        go (yes z) = subst (λ (e : ℕ). One ws n c e A → Derives g A (part w c e)) (sym z) (null-one x c A)
+        go (no z) = subst₂ (λ (y e : ℕ). One ws n y e A → Derives g A (part w y e)) (let v : i ≡ c = omega arith in v) (let v : 1 ≡ d = omega arith in v) (leaf-one g w n ws i far l A)
+
+    two : (c d A : ℕ) → i ≤ c → c + d ≤ i + 1 → Two ws n c d A → TwoTrees g A (part w c d)
+    two c d A p q = go (ℕ-discrete d 0)
+      where
+        go : Dec (d ≡ 0) → Two ws n c d A → TwoTrees g A (part w c d)
+        go (yes z) = subst (λ (e : ℕ). Two ws n c e A → TwoTrees g A (part w c e)) (sym z) (null-two x c A)
+        go (no z) = subst₂ (λ (y e : ℕ). Two ws n y e A → TwoTrees g A (part w y e)) (let v : i ≡ c = omega arith in v) (let v : 1 ≡ d = omega arith in v) (leaf-more g w n ws i far l A)
+
 -- ---- the sheet, span by span
 
--- with the empty word settled, the row of length 1 is to be filled
-first-row : (ws : List ℕ) (g : Rules) (h : Half) (n from to : ℕ) → ((a b : ℕ) → a + b ≤ n → Stays from to a b → Settled (One ws n) (Two ws n) g h a b) → Filled ws g h n from to 0 1
-first-row ws g h n from to t = record { done = λ a b fit d. ⊎-elim (t a b fit) (λ e. ⊎-elim (λ l. empty a b l) (λ l. absurd (not-suc-le-zero (l .1))) e) d }
+-- a sheet that is ready: the spans that begin at or past `to` are settled
+pub begun : (ws : List ℕ) (g : Rules) (h : Half) (n from to : ℕ) → Distinct g → h .known ≤ length (h .word) → Ready g h n ws from to → Filled ws g h n from to (n + 1)
+begun ws g h n from to distinct inner r = record { done = done }
   where
-    empty : (a b : ℕ) → b < 1 → Settled (One ws n) (Two ws n) g h a b
-    empty a b l = subst (Settled (One ws n) (Two ws n) g h a) (let z : 0 ≡ b = omega arith in z) (settled-empty ws g h n a (t 0 0 (omega arith) (inl (omega arith))))
+    empty : (a b : ℕ) → b ≡ 0 → Settled (One ws n) (Two ws n) g h a b
+    empty a b e = subst (Settled (One ws n) (Two ws n) g h a) (sym e) (settled-empty ws g h n a (exact-settled ws g h n from distinct inner (r .low) (r .right) 0 0 (omega arith)))
 
--- a sheet that is ready has the row of length 1 to be filled
-pub begun : (ws : List ℕ) (g : Rules) (h : Half) (n from to : ℕ) → Distinct g → h .known ≤ length (h .word) → Ready g h n ws from to → Filled ws g h n from to 0 1
-begun ws g h n from to distinct inner r =
-    first-row ws g h n from to (λ a b fit d. ⊎-elim (exact-settled ws g h n from distinct inner (r .low) (r .right) a b) (λ x. open-settled (r .beyond) h (r .high) a b (x .0) (x .1) fit) d)
+    beyond : (a b : ℕ) → a + b ≤ n → to ≤ a → Dec (b ≡ 0) → Settled (One ws n) (Two ws n) g h a b
+    beyond a b fit x (yes e) = empty a b e
+    beyond a b fit x (no e) = open-settled (r .beyond) h (r .high) a b x (omega arith) fit
 
--- the parts of the next span are settled
-pub filled-ground : (ws : List ℕ) (g : Rules) (h : Half) (n from to s len : ℕ) → s + len ≤ n → Filled ws g h n from to s len → Ground ws g h n s len
-filled-ground ws g h n from to s len fit f = record { parts = λ a b x y l. f .done a b (omega arith) (inr (inl l)) }
+    small : (a b : ℕ) → b < 2 → Dec (b ≡ 0) → Dec (a < h .known) → Settled (One ws n) (Two ws n) g h a b
+    small a b x (yes e) k = empty a b e
+    small a b x (no e) (yes k) = subst (Settled (One ws n) (Two ws n) g h a) (let z : 1 ≡ b = omega arith in z) (leaf-settled ws g h n distinct inner (exact-less 0 (omega arith) (r .right)) a k (r .leaves a k))
+    small a b x (no e) (no k) = subst (Settled (One ws n) (Two ws n) g h a) (let z : 1 ≡ b = omega arith in z) (given-settled (One ws n) (Two ws n) g h a (omega arith))
+
+    done : (a b : ℕ) → a + b ≤ n → Passed from to (n + 1) a b → Settled (One ws n) (Two ws n) g h a b
+    done a b fit (inl x) = exact-settled ws g h n from distinct inner (r .low) (r .right) a b x
+    done a b fit (inr (inl x)) = small a b x (ℕ-discrete b 0) (decLt a (h .known))
+    done a b fit (inr (inr (inl x))) = beyond a b fit (omega arith) (ℕ-discrete b 0)
+    done a b fit (inr (inr (inr x))) = beyond a b fit (omega (arith, x .0)) (ℕ-discrete b 0)
+
+module _ (ws : List ℕ) (g : Rules) (h : Half) (n from s : ℕ) where
+  -- on to the spans that begin a token earlier
+  pub filled-next : Filled ws g h n from (s + 1) (n + 1) → Filled ws g h n from s 2
+  filled-next f = record { done = λ a b q d. f .done a b q (go a b q d) }
+    where
+      above : (a : ℕ) → s < a → Dec (s + 1 < a) → (s + 1 < a) ⊎ (a ≡ s + 1)
+      above a x (yes y) = inl y
+      above a x (no y) = inr (omega arith)
+
+      go : (a b : ℕ) → a + b ≤ n → Passed from s 2 a b → Passed from (s + 1) (n + 1) a b
+      go a b q (inl x) = inl x
+      go a b q (inr (inl x)) = inr (inl x)
+      go a b q (inr (inr (inl x))) = ⊎-elim (λ y. inr (inr (inl y))) (λ y. inr (inr (inr (y, omega arith)))) (above a x (decLt (s + 1) a))
+      go a b q (inr (inr (inr x))) = inr (inl (x .1))
+
+  -- the span that comes next is kept
+  pub filled-pass : (len : ℕ) → s + len ≤ from → Filled ws g h n from s len → Filled ws g h n from s (len + 1)
+  filled-pass len low f = record { done = λ a b q d. f .done a b q (go a b d) }
+    where
+      at : (a b : ℕ) → a ≡ s → b < len + 1 → Dec (b < len) → Passed from s len a b
+      at a b x l (yes y) = inr (inr (inr (x, y)))
+      at a b x l (no y) = inl (omega arith)
+
+      go : (a b : ℕ) → Passed from s (len + 1) a b → Passed from s len a b
+      go a b (inl x) = inl x
+      go a b (inr (inl x)) = inr (inl x)
+      go a b (inr (inr (inl x))) = inr (inr (inl x))
+      go a b (inr (inr (inr x))) = at a b (x .0) (x .1) (decLt b len)
+
+  -- all spans that begin at s are settled
+  pub filled-end : (len : ℕ) → n < s + len → Filled ws g h n from s len → Filled ws g h n from s (n + 1)
+  filled-end len far f = record { done = λ a b q d. f .done a b q (go a b q d) }
+    where
+      go : (a b : ℕ) → a + b ≤ n → Passed from s (n + 1) a b → Passed from s len a b
+      go a b q (inl x) = inl x
+      go a b q (inr (inl x)) = inr (inl x)
+      go a b q (inr (inr (inl x))) = inr (inr (inl x))
+      go a b q (inr (inr (inr x))) = inr (inr (inr (x .0, omega (arith, x .0))))
+
+  -- the parts of the next span are settled
+  pub filled-ground : (len : ℕ) → s + len ≤ n → Filled ws g h n from s len → Ground ws g h n s len
+  filled-ground len fit f = record { parts = λ a b x y l. f .done a b (omega arith) (go a b x l (ℕ-discrete a s)) }
+    where
+      go : (a b : ℕ) → s ≤ a → b < len → Dec (a ≡ s) → Passed from s len a b
+      go a b x l (yes e) = inr (inr (inr (e, l)))
+      go a b x l (no e) = inr (inr (inl (omega arith)))
 
 -- the next span is settled
-pub filled-on : (ws ws′ : List ℕ) (g : Rules) (h : Half) (n from to s len : ℕ) → 0 < len → s + len ≤ n → from < s + len → s < to → Filled ws g h n from to s len → Closed ws ws′ g h n s len
-    → Filled ws′ g h n from to (s + 1) len
-filled-on ws ws′ g h n from to s len pos fit far near f c = record { done = done }
+pub filled-on : (ws ws′ : List ℕ) (g : Rules) (h : Half) (n from s len : ℕ) → 2 ≤ len → s + len ≤ n → from < s + len → Filled ws g h n from s len → Closed ws ws′ g h n s len → Filled ws′ g h n from s (len + 1)
+filled-on ws ws′ g h n from s len long fit far f c = record { done = done }
   where
-    -- a part of a span that is done has another pair
-    clear : (a b : ℕ) → a + b ≤ n → Stays from to a b ⊎ ((b < len) ⊎ ((b ≡ len) × (a < s))) → (i j : ℕ) → a ≤ i → i + j ≤ a + b → pairAt n i j ≡ pairAt n s len → ⊥
+    -- a part of a span that is passed has another pair
+    clear : (a b : ℕ) → a + b ≤ n → Passed from s len a b → (i j : ℕ) → a ≤ i → i + j ≤ a + b → pairAt n i j ≡ pairAt n s len → ⊥
     clear a b q d i j x y e =
         let z = pairAt-same n i j s len (omega arith) fit e in
         ⊎-elim (λ o. omega (arith, z .0))
-        (λ o. ⊎-elim (λ l. ⊎-elim (λ m. omega (arith, z .0, o)) (λ m. omega (arith, o, m .0)) l) (λ l. ⊎-elim (λ m. omega (arith, z .0)) (λ m. omega (arith, z .0, m .0, m .1)) l) d) (z .1)
+        (λ o. ⊎-elim (λ l. omega (arith, z .0)) (λ l. ⊎-elim (λ m. omega (arith, z .0)) (λ m. ⊎-elim (λ v. omega arith) (λ v. omega (arith, z .0, v .0, v .1)) m) l) d) (z .1)
 
-    old : (a b : ℕ) → a + b ≤ n → Stays from to a b ⊎ ((b < len) ⊎ ((b ≡ len) × (a < s))) → Settled (One ws′ n) (Two ws′ n) g h a b
+    old : (a b : ℕ) → a + b ≤ n → Passed from s len a b → Settled (One ws′ n) (Two ws′ n) g h a b
     old a b q d = settled-kept ws ws′ g h n a b (pairAt n s len) (c .kept) (clear a b q d) (f .done a b q d)
 
-    here : (a b : ℕ) → a + b ≤ n → b ≡ len → a < s + 1 → Dec (a < s) → Settled (One ws′ n) (Two ws′ n) g h a b
-    here a b q e l (yes k) = old a b q (inr (inr (e, k)))
-    here a b q e l (no k) = subst₂ (Settled (One ws′ n) (Two ws′ n) g h) (let z : s ≡ a = omega arith in z) (sym e) (c .settled)
+    here : (a b : ℕ) → a + b ≤ n → a ≡ s → b < len + 1 → Dec (b < len) → Settled (One ws′ n) (Two ws′ n) g h a b
+    here a b q e l (yes k) = old a b q (inr (inr (inr (e, k))))
+    here a b q e l (no k) = subst₂ (Settled (One ws′ n) (Two ws′ n) g h) (sym e) (let z : len ≡ b = omega arith in z) (c .settled)
 
-    done : (a b : ℕ) → a + b ≤ n → Stays from to a b ⊎ ((b < len) ⊎ ((b ≡ len) × (a < s + 1))) → Settled (One ws′ n) (Two ws′ n) g h a b
-    done a b q d = ⊎-elim (λ x. old a b q (inl x)) (λ y. ⊎-elim (λ x. old a b q (inr (inl x))) (λ x. here a b q (x .0) (x .1) (decLt a s)) y) d
-
--- the spans of a length that end at or before `from` are passed over
-pub filled-skip : (ws : List ℕ) (g : Rules) (h : Half) (n from to len : ℕ) → Filled ws g h n from to 0 len → Filled ws g h n from to (from + 1 - len) len
-filled-skip ws g h n from to len f = record {
-  done = λ a b q d. f .done a b q (⊎-elim inl (λ x. ⊎-elim (λ y. inr (inl y)) (λ y. inl (inl (omega (arith, y .0, y .1)))) x) d);
-}
-
--- all spans of a length are settled: the others begin at or past `to`, or are single open tokens
-pub filled-row : (ws : List ℕ) (g : Rules) (h : Half) (n from to stop s len : ℕ) → 0 < len → Stops len (h .known) to stop → min stop (n + 1 - len) ≤ s → Filled ws g h n from to s len → Filled ws g h n from to 0 (len + 1)
-filled-row ws g h n from to stop s len pos st past f = record { done = λ a b q d. go a b q (decLt b len) (decLt a s) (ℕ-discrete len 1) (decLt a (h .known)) d }
-  where
-    go : (a b : ℕ) → a + b ≤ n → Dec (b < len) → Dec (a < s) → Dec (len ≡ 1) → Dec (a < h .known) → Stays from to a b ⊎ ((b < len + 1) ⊎ ((b ≡ len + 1) × (a < 0))) → Settled (One ws n) (Two ws n) g h a b
-    go a b q l m e k (inl x) = f .done a b q (inl x)
-    go a b q l m e k (inr (inr x)) = absurd (not-suc-le-zero (x .1))
-    go a b q (yes l) m e k (inr (inl x)) = f .done a b q (inr (inl l))
-    go a b q (no l) (yes m) e k (inr (inl x)) = f .done a b q (inr (inr (omega arith, m)))
-    go a b q (no l) (no m) (no e) k (inr (inl x)) = f .done a b q (inl (inr (let z = st .long e in omega arith, omega arith)))
-    go a b q (no l) (no m) (yes e) (yes k) (inr (inl x)) = absurd (let z = st .one e in omega arith)
-    go a b q (no l) (no m) (yes e) (no k) (inr (inl x)) = subst (Settled (One ws n) (Two ws n) g h a) (let z : 1 ≡ b = omega arith in z) (given-settled (One ws n) (Two ws n) g h a (omega arith))
+    done : (a b : ℕ) → a + b ≤ n → Passed from s (len + 1) a b → Settled (One ws′ n) (Two ws′ n) g h a b
+    done a b q (inl x) = old a b q (inl x)
+    done a b q (inr (inl x)) = old a b q (inr (inl x))
+    done a b q (inr (inr (inl x))) = old a b q (inr (inr (inl x)))
+    done a b q (inr (inr (inr x))) = here a b q (x .0) (x .1) (decLt b len)
 
 -- ---- the whole sheet
 
 module _ (ws ws′ : List ℕ) (g : Rules) (h : Half) (n : ℕ) (long : length (h .word) ≡ n) (inner : h .known ≤ n) where
-  all-settled : (from to : ℕ) → Filled ws′ g h n from to 0 (n + 1) → (a b : ℕ) → a + b ≤ n → Settled (One ws′ n) (Two ws′ n) g h a b
-  all-settled from to f a b q = f .done a b q (inr (inl (omega arith)))
+  all-settled : (from : ℕ) → Filled ws′ g h n from 0 (n + 1) → (a b : ℕ) → a + b ≤ n → Settled (One ws′ n) (Two ws′ n) g h a b
+  all-settled from f a b q = f .done a b q (inr (inr (go (ℕ-discrete a 0))))
+    where
+      go : Dec (a ≡ 0) → (0 < a) ⊎ ((a ≡ 0) × (b < n + 1))
+      go (yes e) = inr (e, omega arith)
+      go (no e) = inl (omega arith)
 
-  -- over the tokens before `upto`, where the pairs of open tokens admit those of w, nothing is missed
-  covers-to : ((a b : ℕ) → a + b ≤ n → Settled (One ws′ n) (Two ws′ n) g h a b) → (w : Word) → Completes h w → (upto : ℕ) → upto ≤ length w → ((i : ℕ) → h .known ≤ i → i < upto → Admits g n ws′ w i)
+  -- over the tokens before `upto`, where the pairs of open tokens allow for those of w, nothing is missed
+  covers-to : ((a b : ℕ) → a + b ≤ n → Settled (One ws′ n) (Two ws′ n) g h a b) → (w : Word) → Completes h w → (upto : ℕ) → upto ≤ length w → ((i : ℕ) → h .known ≤ i → i < upto → May g n ws′ i (token w i .terminal))
       → (s len A : ℕ) → s + len ≤ upto → (Derives g A (part w s len) → One ws′ n s len A) × (TwoTrees g A (part w s len) → Two ws′ n s len A)
   covers-to t w c upto far adm s len A fit = (
-    λ d. subst (λ (B : ℕ). One ws′ n s len B) (d .witness .rooted) (complete (One ws′ n) g h each w c upto far (λ i B x y. adm i x y .one B) (d .tree) (d .witness .valid) s len fit (d .witness .spelled)),
+    λ d. subst (λ (B : ℕ). One ws′ n s len B) (d .witness .rooted) (complete (One ws′ n) g h each w c upto far (λ i B x y. may-one g w n ws′ i (omega arith) (adm i x y) B) (d .tree) (d .witness .valid) s len fit (d .witness .spelled)),
     λ d. subst (λ (B : ℕ). Two ws′ n s len B) (d .witness₁ .rooted)
         (⊎-elim (λ e. absurd (d .differ e)) (λ q. q)
-        (same (One ws′ n) (Two ws′ n) g h each again w c upto far (λ i B x y. adm i x y .one B) (λ i B x y. adm i x y .two B) (d .first) (d .witness₁ .valid) s len fit (d .second) (d .witness₂ .valid) (d .witness₁ .rooted ∙ sym (d .witness₂ .rooted)) (d .witness₁ .spelled) (d .witness₂ .spelled))),
+        (same (One ws′ n) (Two ws′ n) g h each again w c upto far (λ i B x y. may-one g w n ws′ i (omega arith) (adm i x y) B) (λ i B x y. may-two g w n ws′ i (omega arith) (adm i x y) B) (d .first) (d .witness₁ .valid) s len fit (d .second) (d .witness₂ .valid) (d .witness₁ .rooted ∙ sym (d .witness₂ .rooted)) (d .witness₁ .spelled) (d .witness₂ .spelled))),
   )
     where
       each : (s len A i l : ℕ) → s + len ≤ length (h .word) → Told h s len → Stand (One ws′ n) g (byTokens h s len) s len A i l → One ws′ n s len A
@@ -137,15 +210,15 @@ module _ (ws ws′ : List ℕ) (g : Rules) (h : Half) (n : ℕ) (long : length (
       again : (s len A : ℕ) → s + len ≤ length (h .word) → Told h s len → Again (One ws′ n) (Two ws′ n) g (byTokens h s len) s len A → Two ws′ n s len A
       again s len A fit u q = t s len (omega arith) .again A u q
 
-  pub charted : (from to : ℕ) → Grown ws ws′ g h n from to (n + 1) → Charted ws ws′ g h n
-  charted from to f = record {
+  pub charted : (from : ℕ) → Grown ws ws′ g h n from 0 → Charted ws ws′ g h n
+  charted from f = record {
     exact = record {
       one = λ s len A fit. (settled s len (omega arith) .some A fit, self s len A fit .0);
       two = λ s len A fit. (settled s len (omega arith) .more A fit, self s len A fit .1);
     };
     covers = record {
-      one = λ w m s len A fit. covers-to settled w (m .completes) (length w) (omega arith) (m .admits) s len A fit .0;
-      two = λ w m s len A fit. covers-to settled w (m .completes) (length w) (omega arith) (m .admits) s len A fit .1;
+      one = λ w m s len A fit. covers-to settled w (m .completes) (length w) (omega arith) (m .allows) s len A fit .0;
+      two = λ w m s len A fit. covers-to settled w (m .completes) (length w) (omega arith) (m .allows) s len A fit .1;
     };
     given = f .given;
     beyond = settled-open h settled;
@@ -153,7 +226,7 @@ module _ (ws ws′ : List ℕ) (g : Rules) (h : Half) (n : ℕ) (long : length (
   }
     where
       settled : (a b : ℕ) → a + b ≤ n → Settled (One ws′ n) (Two ws′ n) g h a b
-      settled = all-settled from to (f .filled)
+      settled = all-settled from (f .filled)
 
       self : (s len A : ℕ) → s + len ≤ h .known → (Derives g A (part (h .word) s len) → One ws′ n s len A) × (TwoTrees g A (part (h .word) s len) → Two ws′ n s len A)
       self = covers-to settled (h .word) (completes-self h) (h .known) (omega arith) (λ i x y. absurd (omega arith))
@@ -189,8 +262,13 @@ module _ {g : Rules} {w : Word} {n : ℕ} {ws : List ℕ} (e : length w ≡ n) (
       go t y u z (no q) = absurd (out (x .two 0 n 0 (omega arith) .1 (subst (TwoTrees g 0) (sym (whole-part w n e)) (record { first = t; second = u; witness₁ = y; witness₂ = z; differ = q }))))
 
 -- a verdict beside the sheet that it is read off
-pub judged : {r : Verdict} {g : Rules} {w : Word} {n : ℕ} {ws ws′ : List ℕ} → length w ≡ n → 2 * pairs n ≤ length ws → Charted ws ws′ g (record { word = w; known = n }) n → Holds r g 0 w → Judged r g w n ws ws′
-judged e enough c h = record { verdict = h; sheet = exact-sheet e (omega (arith, c .past .long)) (c .exact); past = c .past }
+pub judged : {r : Verdict} {g : Rules} {w : Word} {n : ℕ} {ws ws′ : List ℕ} → length w ≡ n → 2 * pairs n ≤ length ws → Exact g w n ws′ n → Past (2 * pairs n) ws ws′ → Holds r g 0 w → Judged r g w n ws ws′
+judged e enough x p h = record { verdict = h; sheet = exact-sheet e (omega (arith, p .long)) x; past = p }
+
+-- with the single tokens right, the rest of the sheet may be filled
+pub begun-ready : {ws ws′ : List ℕ} {g : Rules} {w : Word} {n known : ℕ} → known ≡ n → Begun ws ws′ g w n → Ready g (record { word = w; known = known }) n ws′ 0 n
+begun-ready {ws′ = ws′} {g} {n = n} e b =
+    record { low = omega arith; high = omega arith; within = omega arith; right = b .empty; leaves = λ i l. b .leaves i (omega arith); beyond = open-none g n ws′ n (omega arith) }
 
 -- rules in another order have the same verdict and sheet
 pub judged-over : {r : Verdict} {g g′ : Rules} {w : Word} {n : ℕ} {ws ws′ : List ℕ} → Rearranged g g′ → Judged r g′ w n ws ws′ → Judged r g w n ws ws′
@@ -210,20 +288,16 @@ judged-over {r} {g} {g′} {w} {ws′ = ws′} o x = record {
     holds Verdict.Two h = two-same o .1 h
 
 -- a word meets h by words that have the same pairs of open tokens
-meets-given : {g : Rules} {h : Half} {n : ℕ} {ws ws′ : List ℕ} {w : Word} → length (h .word) ≡ n → Given ws ws′ n (h .known) → Meets g h n ws w → Meets g h n ws′ w
-meets-given {h = h} {n} {w = w} e v m = record {
+meets-given : {g : Rules} {h : Half} {n : ℕ} {ws ws′ : List ℕ} {w : Word} → length (h .word) ≡ n → Given ws ws′ n → Meets g h n ws w → Meets g h n ws′ w
+meets-given {g} {h} {n} {w = w} e v m = record {
   completes = m .completes;
-  admits = λ i x y.
+  allows = λ i x y.
       let z : length w ≡ n = m .completes .long ∙ e in
-      let q = m .admits i x y in
-      record {
-        one = λ A d. subst (λ (u : ℕ). In u A) (sym (v .first i x (omega arith))) (q .one A d);
-        two = λ A d. subst (λ (u : ℕ). In u A) (sym (v .second i x (omega arith))) (q .two A d);
-      };
+      subst₂ (Allows g (token w i .terminal)) (sym (v .first i (omega arith))) (sym (v .second i (omega arith))) (m .allows i x y);
 }
 
 -- where the second word lacks 0 over the whole, no word that meets h has two trees
-pub covers-none : {g : Rules} {h : Half} {n : ℕ} {ws ws′ : List ℕ} → length (h .word) ≡ n → Given ws ws′ n (h .known) → Covers g h n ws′ → (In (secondWord ws′ n 0 n) 0 → ⊥) → Hopeless g h n ws
+pub covers-none : {g : Rules} {h : Half} {n : ℕ} {ws ws′ : List ℕ} → length (h .word) ≡ n → Given ws ws′ n → Covers g h n ws′ → (In (secondWord ws′ n 0 n) 0 → ⊥) → Hopeless g h n ws
 covers-none {g} {h} {n} {ws} {ws′} e v k out = record {
   none = λ w c d.
       let z : length w ≡ n = c .completes .long ∙ e in
@@ -234,7 +308,6 @@ covers-none {g} {h} {n} {ws} {ws′} e v k out = record {
 pub settles : {g : Rules} {h : Half} {n : ℕ} {ws ws′ : List ℕ} {b : Bool} → length (h .word) ≡ n → Charted ws ws′ g h n → Says b (In (secondWord ws′ n 0 n) 0) → Settles (not b) g h n ws ws′
 settles {g} {h} {n} {ws′ = ws′} {b = true} e c s = record {
   none = λ q. absurd (true-not-false (sym q));
-  two = λ q k. reads-two e (subst (Exact g (h .word) n ws′) k (c .exact)) (s .is refl);
   right = c .exact;
   given = c .given;
   beyond = c .beyond;
@@ -242,7 +315,6 @@ settles {g} {h} {n} {ws′ = ws′} {b = true} e c s = record {
 }
 settles {b = false} e c s = record {
   none = λ q. covers-none e (c .given) (c .covers) (s .isnt refl);
-  two = λ q. absurd (true-not-false q);
   right = c .exact;
   given = c .given;
   beyond = c .beyond;
@@ -267,88 +339,3 @@ pub judged-same : {r r′ : Verdict} {g : Rules} {w : Word} {n : ℕ} {ws a b : 
     → Judged r g w n ws a → Judged r′ g w n ws b → a ≡ b
 judged-same {g} {w} {ws = ws} {a} {b} e small small′ x y =
     words-same g w a b small small′ (x .sheet) (y .sheet) ws (subst (λ (m : ℕ). Past (2 * pairs m) ws a) (sym e) (x .past)) (subst (λ (m : ℕ). Past (2 * pairs m) ws b) (sym e) (y .past))
-
--- the pair of the empty word goes by no sentence
-exact-empty : {g : Rules} {v : Word} {ws : List ℕ} → Exact g v 0 ws 0 → (w : Word) (n : ℕ) → Exact g w n ws 0
-exact-empty {g} {v} {ws} x w n = record {
-  one = λ s len A fit. subst₂ (λ (a b : ℕ). In (firstWord ws n a b) A ↔ Derives g A (part w a b)) (let z : 0 ≡ s = omega arith in z) (let z : 0 ≡ len = omega arith in z) (one A);
-  two = λ s len A fit. subst₂ (λ (a b : ℕ). In (secondWord ws n a b) A ↔ TwoTrees g A (part w a b)) (let z : 0 ≡ s = omega arith in z) (let z : 0 ≡ len = omega arith in z) (two A);
-}
-  where
-    one : (A : ℕ) → In (firstWord ws n 0 0) A ↔ Derives g A (part w 0 0)
-    one A = subst (λ (q : ℕ). In (getD ws (2 * q) 0) A ↔ Derives g A (part w 0 0)) (pairAt-empty 0 0 ∙ sym (pairAt-empty n 0)) (x .one 0 0 A (omega arith))
-
-    two : (A : ℕ) → In (secondWord ws n 0 0) A ↔ TwoTrees g A (part w 0 0)
-    two A = subst (λ (q : ℕ). In (getD ws (2 * q + 1) 0) A ↔ TwoTrees g A (part w 0 0)) (pairAt-empty 0 0 ∙ sym (pairAt-empty n 0)) (x .two 0 0 A (omega arith))
-
--- two words are room for it
-pub room-empty : (ws : List ℕ) → 2 ≤ length ws → Room ws 0 0 0
-unfolding pairs
-room-empty ws h = record { few = omega arith; fits = omega arith; enough = h }
-
--- the empty word is settled
-pub begun-empty : {ws ws′ : List ℕ} {g : Rules} (h : Half) → length (h .word) ≡ 0 → h .known ≡ 0 → Closed ws ws′ g h 0 0 0 → Begun ws ws′ g
-unfolding pairs
-begun-empty {ws} {ws′} {g} h e k c = record {
-  exact = exact-empty (subst (Exact g (h .word) 0 ws′) k (charted ws ws′ g h 0 e (omega arith) 0 0 grown .exact));
-  past = kept-past 0 0 0 (omega arith) (c .kept);
-}
-  where
-    grown : Grown ws ws′ g h 0 0 0 1
-    grown = record {
-      filled = record { done = λ a b fit d. subst₂ (Settled (One ws′ 0) (Two ws′ 0) g h) (let z : 0 ≡ a = omega arith in z) (let z : 0 ≡ b = omega arith in z) (c .settled) };
-      given = record { first = λ i x y. absurd (omega arith); second = λ i x y. absurd (omega arith) };
-      past = kept-past 0 0 0 (omega arith) (c .kept);
-    }
-
--- every sheet has room for it
-pub pairs-low : (n : ℕ) → 2 ≤ 2 * pairs n
-pairs-low n = omega (arith, pairs-closed n)
-
--- a sheet that is filled after the empty word
-pub charted-over : {ws ws₁ ws₂ : List ℕ} {g : Rules} {h : Half} {n : ℕ} → Begun ws ws₁ g → Charted ws₁ ws₂ g h n → Charted ws ws₂ g h n
-charted-over {ws} {ws₁} {h = h} {n} b c = record {
-  exact = c .exact;
-  covers = c .covers;
-  given = given-then (record {
-    first = λ i x y. b .past .rest (2 * pairAt n i 1) (omega (arith, far i y));
-    second = λ i x y. b .past .rest (2 * pairAt n i 1 + 1) (omega (arith, far i y));
-  }) (c .given);
-  beyond = c .beyond;
-  past = past-then (past-more (pairs-low n) (b .past)) (c .past);
-}
-  where
-    far : (i : ℕ) → i < n → 0 < pairAt n i 1
-    far i l = omega (arith, pairAt-shorter n 0 0 i 1 (omega arith) (omega arith))
-
--- with the empty word right, the rest of the sheet may be filled
-pub ready-whole : (g : Rules) (h : Half) (n : ℕ) (ws : List ℕ) → h .known ≤ n → Exact g (h .word) n ws 0 → Ready g h n ws 0 n
-ready-whole g h n ws k x = record { low = omega arith; high = k; right = x; beyond = open-none g n ws n (omega arith) }
-
--- fewer tokens
-pub exact-less : {g : Rules} {w : Word} {n : ℕ} {ws : List ℕ} {to : ℕ} (less : ℕ) → less ≤ to → Exact g w n ws to → Exact g w n ws less
-exact-less less l y = record { one = λ s len A fit. y .one s len A (omega arith); two = λ s len A fit. y .two s len A (omega arith) }
-
-part-front : (w : Word) (s len to : ℕ) → s + len ≤ to → part (take to w) s len ≡ part w s len
-part-front w zero len to h = take-take len to w (omega arith)
-part-front w (suc s) len zero h = absurd (omega arith)
-part-front [] (suc s) len (suc to) h = refl
-part-front (a ∷ w) (suc s) len (suc to) h = part-front w s len to (omega arith)
-
--- it speaks of the tokens before `to` alone
-pub exact-front : {g : Rules} {w : Word} {n : ℕ} {ws : List ℕ} {to : ℕ} (w′ : Word) → take to w′ ≡ take to w → Exact g w n ws to → Exact g w′ n ws to
-exact-front {g} {w} {n} {ws} {to} w′ e y = record {
-  one = λ s len A fit. subst (λ (v : Word). In (firstWord ws n s len) A ↔ Derives g A v) (same-part s len fit) (y .one s len A fit);
-  two = λ s len A fit. subst (λ (v : Word). In (secondWord ws n s len) A ↔ TwoTrees g A v) (same-part s len fit) (y .two s len A fit);
-}
-  where
-    same-part : (s len : ℕ) → s + len ≤ to → part w s len ≡ part w′ s len
-    same-part s len fit = sym (part-front w s len to fit) ∙ ap (λ (v : Word). part v s len) (sym e) ∙ part-front w′ s len to fit
-
--- and of the words of the spans that end there
-pub exact-words : {g : Rules} {w : Word} {n : ℕ} {ws : List ℕ} {to : ℕ} (ws′ : List ℕ)
-    → ((s len : ℕ) → s + len ≤ to → (firstWord ws′ n s len ≡ firstWord ws n s len) × (secondWord ws′ n s len ≡ secondWord ws n s len)) → Exact g w n ws to → Exact g w n ws′ to
-exact-words {g} {w} {n} {ws} {to} ws′ e y = record {
-  one = λ s len A fit. subst (λ (v : ℕ). In v A ↔ Derives g A (part w s len)) (sym (e s len fit .0)) (y .one s len A fit);
-  two = λ s len A fit. subst (λ (v : ℕ). In v A ↔ TwoTrees g A (part w s len)) (sym (e s len fit .1)) (y .two s len A fit);
-}

@@ -1,5 +1,6 @@
 pub mod Tables
 pub mod Passes
+pub mod Leaves
 pub mod Filling
 pub mod Openness
 pub mod Sheets

@@ -9,9 +9,10 @@ use Rattle.sets.specs.Sets.{In}
 use Rattle.grammar.specs.Layout.{Word}
 use Rattle.grammar.specs.Trees.{Rules, Derives, NoTree, OneTree, TwoTrees}
 use Rattle.grammar.specs.SpanSheet.{part, pairs, firstWord, secondWord, SpanSheet}
-use Rattle.marks.specs.Half.{Half, Completes}
+use Rattle.marks.specs.Half.{Half, Completes, token}
 use Rattle.spans.specs.Changes.{Past}
 use Rattle.chart.specs.Openness.{Open}
+use Rattle.chart.specs.Leaves.{LeafAt, May}
 use Rattle.chart.specs.Filling.{Given}
 use Rattle.chart.specs.declared.Verdict.{Verdict}
 use Rattle.chart.specs.declared.Verdict.the-variants as Verdict
@@ -21,28 +22,26 @@ pub record Exact (g : Rules) (w : Word) (n : ℕ) (ws : List ℕ) (to : ℕ) : T
   pub one : (s len A : ℕ) → s + len ≤ to → In (firstWord ws n s len) A ↔ Derives g A (part w s len)
   pub two : (s len A : ℕ) → s + len ≤ to → In (secondWord ws n s len) A ↔ TwoTrees g A (part w s len)
 
--- the pair of the empty word is right, for any sentence, and no other word has changed
-pub record Begun (ws ws′ : List ℕ) (g : Rules) : Type 0 where
-  pub exact : (w : Word) (n : ℕ) → Exact g w n ws′ 0
-  pub past : Past 2 ws ws′
+-- the pairs of the empty word and of w's single tokens are right; the words past the sheet are as they were
+pub record Begun (ws ws′ : List ℕ) (g : Rules) (w : Word) (n : ℕ) : Type 0 where
+  pub empty : Exact g w n ws′ 0
+  pub leaves : (i : ℕ) → i < n → LeafAt g n ws′ i (token w i .terminal)
+  pub past : Past (2 * pairs n) ws ws′
 
--- a sheet may be filled anew but for the spans that end at or before `from`, the empty word among them, and those that begin
--- at or past `to`: these are right for h
+-- a sheet may be filled anew but for the spans that end at or before `from` and those that begin at or past `to`:
+-- these are right for h, and so are the pairs of the known tokens
 pub record Ready (g : Rules) (h : Half) (n : ℕ) (ws : List ℕ) (from to : ℕ) : Type 0 where
   pub low : from ≤ h .known
   pub high : h .known ≤ to
+  pub within : to ≤ n
   pub right : Exact g (h .word) n ws from
+  pub leaves : (i : ℕ) → i < h .known → LeafAt g n ws i (token (h .word) i .terminal)
   pub beyond : Open g n ws to
 
--- what has a tree, or two, over the token at i of w is in the pair of that token
-pub record Admits (g : Rules) (n : ℕ) (ws : List ℕ) (w : Word) (i : ℕ) : Type 0 where
-  pub one : (A : ℕ) → Derives g A (part w i 1) → In (firstWord ws n i 1) A
-  pub two : (A : ℕ) → TwoTrees g A (part w i 1) → In (secondWord ws n i 1) A
-
--- w completes h, and the pairs of h's open tokens admit its tokens
+-- w completes h, and the pairs of h's open tokens allow for its terminals
 pub record Meets (g : Rules) (h : Half) (n : ℕ) (ws : List ℕ) (w : Word) : Type 0 where
   pub completes : Completes h w
-  pub admits : (i : ℕ) → h .known ≤ i → i < length w → Admits g n ws w i
+  pub allows : (i : ℕ) → h .known ≤ i → i < length w → May g n ws i (token w i .terminal)
 
 -- what has a tree, or two, in a word that meets h is in the words
 pub record Covers (g : Rules) (h : Half) (n : ℕ) (ws : List ℕ) : Type 0 where
@@ -53,7 +52,7 @@ pub record Covers (g : Rules) (h : Half) (n : ℕ) (ws : List ℕ) : Type 0 wher
 pub record Charted (ws ws′ : List ℕ) (g : Rules) (h : Half) (n : ℕ) : Type 0 where
   pub exact : Exact g (h .word) n ws′ (h .known)
   pub covers : Covers g h n ws′
-  pub given : Given ws ws′ n (h .known)
+  pub given : Given ws ws′ n
   pub beyond : Open g n ws′ (h .known)
   pub past : Past (2 * pairs n) ws ws′
 
@@ -73,11 +72,10 @@ pub record Judged (r : Verdict) (g : Rules) (w : Word) (n : ℕ) (ws ws′ : Lis
 pub record Hopeless (g : Rules) (h : Half) (n : ℕ) (ws : List ℕ) : Type 0 where
   pub none : (w : Word) → Meets g h n ws w → TwoTrees g 0 w → ⊥
 
--- true: no word that meets h has two trees; false: where all is known, the word has two
+-- true: no word that meets h has two trees
 pub record Settles (r : Bool) (g : Rules) (h : Half) (n : ℕ) (ws ws′ : List ℕ) : Type 0 where
   pub none : r ≡ true → Hopeless g h n ws
-  pub two : r ≡ false → h .known ≡ n → TwoTrees g 0 (h .word)
   pub right : Exact g (h .word) n ws′ (h .known)
-  pub given : Given ws ws′ n (h .known)
+  pub given : Given ws ws′ n
   pub beyond : Open g n ws′ (h .known)
   pub past : Past (2 * pairs n) ws ws′

@@ -9,20 +9,18 @@ use codes::second_of;
 use codes::unary_mark_of;
 use grammar::BinaryMark;
 use grammar::Clause;
-use grammar::Column;
 use grammar::Grammar;
-use grammar::Line;
 use grammar::Rule;
 use grammar::Sentence;
-use grammar::Token;
 use grammar::UnaryMark;
-use grammar::Width;
 use marks::Draft;
 use marks::SpanMarks;
 use marks::allows_atom;
 use marks::allows_binary;
 use marks::allows_unary;
+use marks::first_marks;
 use marks::span_marks;
+use marks::with_next;
 use order::ordered;
 use sets::has;
 use sets::with;
@@ -32,7 +30,7 @@ use spans::pair_at;
 use spans::write;
 ghost use mathlib.Core.Logic.{_⊎_};
 ghost use mathlib.Core.Path.{_≡_};
-ghost use Prim.Native.Nat.{_+_, _-_, _*_, _≤_, _<_, min};
+ghost use Prim.Native.Nat.{_+_, _-_, _*_, _≤_, _<_};
 ghost use lib.ListN.{length};
 ghost use Rattle.sets.specs.Says.{Says};
 ghost use Rattle.sets.specs.Sets.{In};
@@ -41,13 +39,15 @@ ghost use Rattle.codes.specs.Codes.{binaryMark, mark, decode, decoded};
 ghost use Rattle.grammar.specs.Choices.{Distinct};
 ghost use Rattle.grammar.specs.Content.{rules, spelled, SmallClause, SmallRule, Formed};
 ghost use Rattle.grammar.specs.SpanSheet.{pairs, part, SpanSheet};
-ghost use Rattle.marks.specs.Drafts.{half};
+ghost use Rattle.marks.specs.Drafts.{half, drafted};
 ghost use Rattle.marks.specs.Marked.{UnaryBy, BinaryBy};
+ghost use Rattle.spans.specs.Changes.{Past};
 ghost use Rattle.spans.specs.Reach.{Reach};
 ghost use Rattle.chart.specs.Tables.{One, byMarks, Fits, lefts};
-ghost use Rattle.chart.specs.Passes.{Room, Doubles, Found, Took, pairOf, sidesAt, SplitFits, SplitBelow, SplitRow, none, Splits, LeafFits, Leaves, Inner, Beside, Wide, Pass, Saturated};
-ghost use Rattle.chart.specs.Filling.{Whole, Ground, Closed, Stops, Filled, Grown};
-ghost use Rattle.chart.specs.Sheets.{Ready, Begun, Charted, Judged, Settles};
+ghost use Rattle.chart.specs.Passes.{Room, Doubles, Found, Took, pairOf, sidesAt, SplitFits, SplitBelow, SplitRow, none, Splits, LeafFits, Leaves, Beside, Wide, Pass, Saturated};
+ghost use Rattle.chart.specs.Leaves.{EmptyPair, Leaf};
+ghost use Rattle.chart.specs.Filling.{Whole, Joins, Filled, Grown};
+ghost use Rattle.chart.specs.Sheets.{Exact, Begun, Ready, Charted, Judged, Settles};
 ghost use Rattle.chart.specs.Choosing.{NextChoice};
 ghost use Rattle.chart.specs.Searches.{FirstSplit, FirstPick};
 
@@ -179,9 +179,9 @@ fn found(t: Tally, a: u8, again: bool) -> Tally
 }
 
 // Both words of a span's pair.
-struct Pair {
-    one: u64,
-    two: u64,
+pub struct Pair {
+    pub one: u64,
+    pub two: u64,
 }
 
 // The pairs of the two parts that a binary clause joins.
@@ -362,17 +362,6 @@ fn leaves(codes: &[u64], k: SpanMarks, len: usize) -> Tally
     t
 }
 
-// What stands over the span whatever stands over it besides: by its tokens and by shorter parts.
-fn inner(words: &[u64], n: usize, codes: &[u64], start: usize, len: usize, k: SpanMarks) -> Tally
-    requires { ⌜ Room (now words) n start len ⌝ }
-    ensures { λ t. ⌜ Inner (now (words .entry)) n start len k (decoded (now (codes .entry))) t ⌝ }
-{
-    if len < 2 {
-        return leaves(codes, k, len);
-    }
-    splits(words, n, codes, start, len, k)
-}
-
 // Try a unary clause `b` for `a` over the span that the tally is of.
 fn try_unary(t: Tally, a: u8, b: u8, m: UnaryMark, k: SpanMarks) -> Tally
     requires { ⌜ (a < 64) × (b < 64) ⌝ }
@@ -494,95 +483,76 @@ fn unchanged(f: u64, g: u64, a: u64, b: u64) -> bool
     if a == f { b == g } else { false }
 }
 
-// Settle the span by the marks that its tokens leave.
-fn close(words: &mut [u64], d: Draft, codes: &[u64], start: usize, len: usize)
-    requires { ⌜ Whole d ⌝ }
-    requires { ⌜ Room (now words) (d .count) start len ⌝ }
+// The pair of the empty word.
+pub fn empty_pair(codes: &[u64]) -> Pair
     requires { ⌜ Distinct (decoded (now codes)) ⌝ }
-    requires { ⌜ Ground (now words) (decoded (now codes)) (half d) (d .count) start len ⌝ }
-    ensures { λ r. ⌜ Closed (now (words .entry)) (now (words .exit)) (decoded (now (codes .entry))) (half d) (d .count) start len ⌝ }
+    ensures { λ r. ⌜ EmptyPair (decoded (now (codes .entry))) (r .one) (r .two) ⌝ }
 {
-    let n = d.count;
-    let k = span_marks(d, start, len);
-    let b = inner(words, n, codes, start, len, k);
+    let k = first_marks(0);
+    let b = leaves(codes, k, 0);
+    let t = saturate(b, codes, k, 0, 0, 0);
+    Pair {
+        one: t.one,
+        two: t.two,
+    }
+}
+
+// The pair of a token with the terminal `x`, wherever it stands; the empty word's is `one` and `two`.
+pub fn leaf_pair(codes: &[u64], x: u8, one: u64, two: u64) -> Pair
+    requires { ⌜ Distinct (decoded (now codes)) ⌝ }
+    requires { ⌜ EmptyPair (decoded (now codes)) one two ⌝ }
+    ensures { λ r. ⌜ Leaf (decoded (now (codes .entry))) x (r .one) (r .two) ⌝ }
+{
+    let k = first_marks(x);
+    let b = leaves(codes, k, 1);
+    let t = saturate(b, codes, k, one, two, 1);
+    Pair {
+        one: t.one,
+        two: t.two,
+    }
+}
+
+// Settle the span of two tokens or more, whose marks are `k`.
+fn close(words: &mut [u64], n: usize, codes: &[u64], k: SpanMarks, start: usize, len: usize)
+    requires { ⌜ Room (now words) n start len ⌝ }
+    requires { ⌜ 2 ≤ len ⌝ }
+    ensures { λ r. ⌜ Joins (now (words .entry)) (now (words .exit)) (decoded (now (codes .entry))) n start len k ⌝ }
+{
+    let b = splits(words, n, codes, start, len, k);
     let t = saturate(b, codes, k, words[0], words[1], len);
     let p = pair_at(n, start, len);
     write(words, p, t.one, t.two);
 }
 
-// No token of any count.
-fn no_tokens() -> Draft
-    ensures { λ d. ⌜ Whole d × (d .count ≡ 0) × (d .known ≡ 0) ⌝ }
-{
-    Draft {
-        tokens: [Token {
-            terminal: 0,
-            line: Line(0),
-            column: Column(0),
-            width: Width(0),
-        }; 64],
-        count: 0,
-        known: 0,
-    }
-}
-
-// Settle the empty word, whose pair is the first of every span sheet.
-pub fn fill_empty(words: &mut [u64], codes: &[u64])
-    requires { ⌜ 2 ≤ length (now words) ⌝ }
+// Settle the spans of two tokens or more that begin at `start` and end past `from`. Their marks are carried along, a token
+// at a time.
+fn fill_start(words: &mut [u64], d: Draft, codes: &[u64], from: usize, start: usize)
+    requires { ⌜ Whole d × (start < d .count) ⌝ }
+    requires { ⌜ 2 * pairs (d .count) ≤ length (now words) ⌝ }
     requires { ⌜ Distinct (decoded (now codes)) ⌝ }
-    ensures { λ r. ⌜ Begun (now (words .entry)) (now (words .exit)) (decoded (now (codes .entry))) ⌝ }
-{
-    let d = no_tokens();
-    close(words, d, codes, 0, 0);
-}
-
-// The first start of a span of `len` tokens that ends past `from`.
-fn first_start(from: usize, len: usize) -> usize
-    requires { ⌜ from ≤ 64 ⌝ }
-    ensures { λ r. ⌜ r ≡ from + 1 - len ⌝ }
-{
-    if from < len {
-        return 0;
-    }
-    from + 1 - len
-}
-
-// Where the spans of `len` tokens that are filled stop to begin: at `to`; of one token, where the tokens are open.
-fn stops(len: usize, known: usize, to: usize) -> usize
-    ensures { λ r. ⌜ Stops len known to r ⌝ }
-{
-    if len == 1 { known } else { to }
-}
-
-// The first start of a span of `len` tokens that is not filled: at `to`, or where the tokens end.
-fn last_start(n: usize, len: usize, to: usize) -> usize
-    requires { ⌜ (len ≤ n) × (n ≤ 64) ⌝ }
-    ensures { λ r. ⌜ r ≡ min to (n + 1 - len) ⌝ }
-{
-    let end = n + 1 - len;
-    if to < end { to } else { end }
-}
-
-// Settle the spans of `len` tokens that end past `from` and begin before `to`, but single open tokens.
-fn fill_row(words: &mut [u64], d: Draft, codes: &[u64], from: usize, to: usize, len: usize)
-    requires { ⌜ Whole d ⌝ }
-    requires { ⌜ Room (now words) (d .count) 0 len ⌝ }
-    requires { ⌜ Distinct (decoded (now codes)) ⌝ }
-    requires { ⌜ (0 < len) × (from ≤ d .known) × (d .known ≤ to) × Filled (now words) (decoded (now codes)) (half d) (d .count) from to 0 len ⌝ }
-    ensures { λ r. ⌜ Grown (now (words .entry)) (now (words .exit)) (decoded (now (codes .entry))) (half d) (d .count) from to (len + 1) ⌝ }
+    requires { ⌜ Filled (now words) (decoded (now codes)) (half d) (d .count) from (start + 1) (d .count + 1) ⌝ }
+    ensures { λ r. ⌜ Grown (now (words .entry)) (now (words .exit)) (decoded (now (codes .entry))) (half d) (d .count) from start ⌝ }
 {
     let n = d.count;
-    let mut start = first_start(from, len);
-    let stop = stops(len, d.known, to);
-    let end = last_start(n, len, stop);
-    while start < end {
-        close(words, d, codes, start, len);
-        start += 1;
+    let known = d.known;
+    let a = d.tokens[start];
+    let mut k = first_marks(a.terminal);
+    let mut len: usize = 1;
+    while start + len < n {
+        let at = start + len;
+        let z = d.tokens[at - 1];
+        let t = d.tokens[at];
+        k = with_next(k, a, z, t, len, at, known);
+        len += 1;
+        if start + len <= from {
+            continue;
+        }
+        close(words, n, codes, k, start, len);
     }
 }
 
 // Fill the span sheet of the draft anew, but for the spans that end at or before the token `from` and those that begin
-// at or past the token `to`: no token of these has changed. The pairs of open tokens are given, and so is the empty word's.
+// at or past the token `to`: no token of these has changed. The pairs of the empty word and of single tokens are given.
 pub fn fill(words: &mut [u64], d: Draft, codes: &[u64], from: usize, to: usize)
     requires { ⌜ (d .count ≤ 64) × (d .known ≤ d .count) ⌝ }
     requires { ⌜ 2 * pairs (d .count) ≤ length (now words) ⌝ }
@@ -590,22 +560,42 @@ pub fn fill(words: &mut [u64], d: Draft, codes: &[u64], from: usize, to: usize)
     requires { ⌜ Ready (decoded (now codes)) (half d) (d .count) (now words) from to ⌝ }
     ensures { λ r. ⌜ Charted (now (words .entry)) (now (words .exit)) (decoded (now (codes .entry))) (half d) (d .count) ⌝ }
 {
-    let n = d.count;
-    let mut len = 1;
-    while len <= n {
-        fill_row(words, d, codes, from, to, len);
-        len += 1;
+    let mut start = to;
+    while 0 < start {
+        start -= 1;
+        fill_start(words, d, codes, from, start);
     }
 }
 
-// Fill all of it, the empty word too.
-pub fn fill_all(words: &mut [u64], d: Draft, codes: &[u64])
-    requires { ⌜ (d .count ≤ 64) × (d .known ≤ d .count) ⌝ }
+// Write the pairs of the empty word and of each token of the draft.
+fn fill_leaves(words: &mut [u64], d: Draft, codes: &[u64])
+    requires { ⌜ d .count ≤ 64 ⌝ }
     requires { ⌜ 2 * pairs (d .count) ≤ length (now words) ⌝ }
     requires { ⌜ Distinct (decoded (now codes)) ⌝ }
-    ensures { λ r. ⌜ Charted (now (words .entry)) (now (words .exit)) (decoded (now (codes .entry))) (half d) (d .count) ⌝ }
+    ensures { λ r. ⌜ Begun (now (words .entry)) (now (words .exit)) (decoded (now (codes .entry))) (drafted d) (d .count) ⌝ }
 {
-    fill_empty(words, codes);
+    let n = d.count;
+    let e = empty_pair(codes);
+    write(words, 0, e.one, e.two);
+    let mut i: usize = 0;
+    while i < n {
+        let t = d.tokens[i];
+        let l = leaf_pair(codes, t.terminal, e.one, e.two);
+        let p = pair_at(n, i, 1);
+        write(words, p, l.one, l.two);
+        i += 1;
+    }
+}
+
+// Fill all of the span sheet of the draft, which is known.
+fn fill_all(words: &mut [u64], d: Draft, codes: &[u64])
+    requires { ⌜ (d .count ≤ 64) × (d .known ≡ d .count) ⌝ }
+    requires { ⌜ 2 * pairs (d .count) ≤ length (now words) ⌝ }
+    requires { ⌜ Distinct (decoded (now codes)) ⌝ }
+    ensures { λ r. ⌜ Exact (decoded (now (codes .entry))) (drafted d) (d .count) (now (words .exit)) (d .count) ⌝ }
+    ensures { λ r. ⌜ Past (2 * pairs (d .count)) (now (words .entry)) (now (words .exit)) ⌝ }
+{
+    fill_leaves(words, d, codes);
     fill(words, d, codes, 0, d.count);
 }
 

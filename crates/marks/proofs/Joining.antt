@@ -1,6 +1,7 @@
 -- The marks of a span, token after token.
 use borrow.Author.Count.{below-more}
-use mathlib.Core.Path.{_≡_, refl, sym, _∙_, subst}
+use mathlib.Core.Path.{_≡_, refl, sym, _∙_, subst, subst₃}
+use lib.ListN.{getD}
 use mathlib.Core.Bool.{Bool, true, false}
 use mathlib.Core.Logic.{_↔_}
 use Prim.Native.Nat.{ℕ, _+_, _-_, _≤_, _<_}
@@ -16,9 +17,12 @@ use Rattle.grammar.specs.declared.BinaryMark.the-variants as BinaryMark
 use Rattle.grammar.specs.Layout.{Keeps, Pairs}
 use Rattle.grammar.specs.Trees.{Covers}
 use Rattle.marks.specs.declared.SpanMarks.{SpanMarks}
-use Rattle.marks.specs.Half.{Half, token, MayKeep}
-use Rattle.marks.specs.Marked.{Grown, Joined, alone, Marked}
-use Rattle.marks.proofs.Pairings.{Pairing, pairing-none, pairing-more, flagged, unary-marked, binary-marked}
+use Rattle.marks.specs.declared.Draft.{Draft}
+use Rattle.marks.specs.Drafts.{half}
+use Rattle.marks.specs.Half.{Half, no-token, token, MayKeep}
+use Rattle.marks.proofs.DraftLaws.{drafted-at}
+use Rattle.marks.specs.Marked.{Grown, Joined, alone, Pairing, Carried, Marked}
+use Rattle.marks.proofs.Pairings.{pairing-none, pairing-more, flagged, unary-marked, binary-marked}
 
 -- ---- what one more token adds
 
@@ -48,16 +52,7 @@ joined-as k l K L P Q r f g j = record {
   terminal = j .terminal;
 }
 
--- ---- the first tokens of a span
-
--- k is the marks of the first `left` tokens of the span of len tokens from s on
-pub record SoFar (h : Half) (s len left : ℕ) (k : SpanMarks) : Type 0 where
-  pub offside : Says (k .offside) (MayKeep UnaryMark.Offside h s left)
-  pub offalign : Says (k .offalign) (MayKeep UnaryMark.Offalign h s left)
-  pub single : Says (k .single) (MayKeep UnaryMark.Single h s left)
-  pub align : Pairing BinaryMark.Align h s len left (k .align)
-  pub indent : Pairing BinaryMark.Indent h s len left (k .indent)
-  pub terminal : k .terminal ≡ token (h .word) s .terminal
+-- ---- the marks of a span, a token at a time
 
 keeps-self : (m : UnaryMark) (a : Token) → Keeps m a a
 keeps-self UnaryMark.None a = tt
@@ -71,13 +66,13 @@ keep-one m h s = record {
   keeps = λ i l k. subst (λ (x : ℕ). Keeps m (token (h .word) s) (token (h .word) x)) (omega arith) (keeps-self m (token (h .word) s));
 }
 
-pub so-far-first : (h : Half) (s len : ℕ) (t : ℕ) → t ≡ token (h .word) s .terminal → SoFar h s len 1 (alone t)
-so-far-first h s len t b = record {
+pub carried-first : (h : Half) (s t : ℕ) → t ≡ token (h .word) s .terminal → Carried h s 1 (alone t)
+carried-first h s t b = record {
   offside = holds (keep-one _ h s);
   offalign = holds (keep-one _ h s);
   single = holds (keep-one _ h s);
-  align = pairing-none _ h s len 1 (omega arith);
-  indent = pairing-none _ h s len 1 (omega arith);
+  align = pairing-none _ h s 1 (omega arith);
+  indent = pairing-none _ h s 1 (omega arith);
   terminal = b;
 }
 
@@ -87,6 +82,14 @@ NextJoined h s l k r =
     Joined k l (λ m. s + l < h .known → Keeps m (token (h .word) s) (token (h .word) (s + l)))
     (λ m. s + l < h .known → Pairs m (token (h .word) s) (token (h .word) (s + l - 1)) (token (h .word) (s + l))) r
 
+-- three tokens of a draft are asked
+pub next-joined : (d : Draft) (s l : ℕ) (k r : SpanMarks) → s + l < d .count
+    → Joined k l (λ m. s + l < d .known → Keeps m (getD (d .tokens) s no-token) (getD (d .tokens) (s + l) no-token))
+    (λ m. s + l < d .known → Pairs m (getD (d .tokens) s no-token) (getD (d .tokens) (s + l - 1) no-token) (getD (d .tokens) (s + l) no-token)) r → NextJoined (half d) s l k r
+next-joined d s l k r h =
+    subst₃ (λ (x y t : Token). Joined k l (λ m. s + l < d .known → Keeps m x t) (λ m. s + l < d .known → Pairs m x y t) r)
+    (sym (drafted-at d s (omega arith))) (sym (drafted-at d (s + l - 1) (omega arith))) (sym (drafted-at d (s + l) (omega arith)))
+
 -- the next token is asked, if it is known
 keep-more : (m : UnaryMark) (h : Half) (s l : ℕ) (b c : Bool)
     → Says b (MayKeep m h s l) → Says c ((b ≡ true) × (s + l < h .known → Keeps m (token (h .word) s) (token (h .word) (s + l)))) → Says c (MayKeep m h s (l + 1))
@@ -94,26 +97,26 @@ keep-more m h s l b c p q =
     says-iff (λ t. record { keeps = below-more _ _ (p .is (t .0) .keeps) (t .1) })
     (λ t. (flagged p .1 (record { keeps = λ i x. t .keeps i (omega arith) }), t .keeps l (omega arith))) q
 
-pair-more : (m : BinaryMark) (h : Half) (s len l set r : ℕ) → 0 < l → l < len
+pair-more : (m : BinaryMark) (h : Half) (s l set r : ℕ) → 0 < l
     → Grown set l (s + l < h .known → Pairs m (token (h .word) s) (token (h .word) (s + l - 1)) (token (h .word) (s + l))) r
-    → Pairing m h s len l set → Pairing m h s len (l + 1) r
-pair-more m h s len l set r pos low g p =
-    pairing-more m h s len l set r (g .flag) pos (says-iff (λ f. record { pairs = λ x y k. f k }) (λ t k. t .pairs (omega arith) (omega arith) k) (g .says)) (g .included) p
+    → Pairing m h s l set → Pairing m h s (l + 1) r
+pair-more m h s l set r pos g p =
+    pairing-more m h s l set r (g .flag) pos (says-iff (λ f. record { pairs = λ x y k. f k }) (λ t k. t .pairs (omega arith) (omega arith) k) (g .says)) (g .included) p
 
-pub so-far-more : (h : Half) (s len l : ℕ) (k r : SpanMarks) → 0 < l → l < len → SoFar h s len l k → NextJoined h s l k r → SoFar h s len (l + 1) r
-so-far-more h s len l k r pos low p j = record {
+pub carried-more : (h : Half) (s l : ℕ) (k r : SpanMarks) → 0 < l → Carried h s l k → NextJoined h s l k r → Carried h s (l + 1) r
+carried-more h s l k r pos p j = record {
   offside = keep-more _ h s l _ _ (p .offside) (j .offside);
   offalign = keep-more _ h s l _ _ (p .offalign) (j .offalign);
   single = keep-more _ h s l _ _ (p .single) (j .single);
-  align = pair-more _ h s len l _ _ pos low (j .align) (p .align);
-  indent = pair-more _ h s len l _ _ pos low (j .indent) (p .indent);
+  align = pair-more _ h s l _ _ pos (j .align) (p .align);
+  indent = pair-more _ h s l _ _ pos (j .indent) (p .indent);
   terminal = j .terminal ∙ p .terminal;
 }
 
 -- ---- the whole span
 
-pub so-far-all : (h : Half) (s len : ℕ) (k : SpanMarks) → SoFar h s len len k → Marked h s len k
-so-far-all h s len k p = record {
+pub carried-all : (h : Half) (s len : ℕ) (k : SpanMarks) → Carried h s len k → Marked h s len k
+carried-all h s len k p = record {
   atom = λ e a b. (λ x. record { terminal = subst (Covers a b) (p .terminal) x }, λ x. subst (Covers a b) (sym (p .terminal)) (x .terminal));
   unary = unary-marked h s len k (p .offside) (p .offalign) (p .single);
   binary = binary-marked h s len k (p .align) (p .indent);
@@ -123,7 +126,7 @@ pub no-tokens : (h : Half) (s len : ℕ) (t : ℕ) → len ≡ 0 → Marked h s 
 no-tokens h s len t e = record {
   atom = λ f. absurd (omega arith);
   unary = unary-marked h s len _ (holds (keep-none _)) (holds (keep-none _)) (holds (keep-none _));
-  binary = binary-marked h s len _ (pairing-none _ h s len len (omega arith)) (pairing-none _ h s len len (omega arith));
+  binary = binary-marked h s len _ (pairing-none _ h s len (omega arith)) (pairing-none _ h s len (omega arith));
 }
   where
     keep-none : (m : UnaryMark) → MayKeep m h s len

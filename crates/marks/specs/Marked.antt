@@ -11,7 +11,7 @@ use Rattle.grammar.specs.declared.BinaryMark.{BinaryMark}
 use Rattle.grammar.specs.declared.BinaryMark.the-variants as BinaryMark
 use Rattle.grammar.specs.Trees.{Covers}
 use Rattle.marks.specs.declared.SpanMarks.{SpanMarks}
-use Rattle.marks.specs.Half.{Half, MayBe, MayKeep, MayPair}
+use Rattle.marks.specs.Half.{Half, token, MayBe, MayKeep, MayPair}
 
 -- by the marks k a span of one token is one of the terminals from a to b
 abbrev pub AtomBy : SpanMarks → ℕ → ℕ → Type 0
@@ -53,6 +53,20 @@ pub record Joined (k : SpanMarks) (l : ℕ) (keeps : UnaryMark → Type 0) (pair
 -- the marks of one token, or of none
 abbrev pub alone : ℕ → SpanMarks
 alone t = record { offside = true; offalign = true; single = true; align = 0; indent = 0; terminal = t }
+
+-- set has the left lengths from 1 to below `to` at which the mark may hold of the tokens from s on
+pub record Pairing (m : BinaryMark) (h : Half) (s to set : ℕ) : Type 0 where
+  pub each : (l : ℕ) → 0 < l → l < to → In set l ↔ MayPair m h s l 1
+  pub only : (l : ℕ) → In set l → (0 < l) × (l < to)
+
+-- k is the marks of len tokens from s on, as they are carried from a span to the one that has a token more
+pub record Carried (h : Half) (s len : ℕ) (k : SpanMarks) : Type 0 where
+  pub offside : Says (k .offside) (MayKeep UnaryMark.Offside h s len)
+  pub offalign : Says (k .offalign) (MayKeep UnaryMark.Offalign h s len)
+  pub single : Says (k .single) (MayKeep UnaryMark.Single h s len)
+  pub align : Pairing BinaryMark.Align h s len (k .align)
+  pub indent : Pairing BinaryMark.Indent h s len (k .indent)
+  pub terminal : k .terminal ≡ token (h .word) s .terminal
 
 -- the marks k of the span of len tokens from s on are those of the definitions
 pub record Marked (h : Half) (s len : ℕ) (k : SpanMarks) : Type 0 where

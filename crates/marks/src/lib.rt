@@ -118,7 +118,7 @@ fn with_open(k: SpanMarks, left: usize) -> SpanMarks
 }
 
 // The marks of `left` tokens from `a` to `z`, with the token `t`, at `at`, after them.
-fn with_next(
+pub fn with_next(
     k: SpanMarks,
     a: Token,
     z: Token,
@@ -138,7 +138,7 @@ fn with_next(
 }
 
 // The marks of one token, which has the terminal, or of no token.
-fn first_marks(terminal: u8) -> SpanMarks
+pub fn first_marks(terminal: u8) -> SpanMarks
     ensures { λ r. ⌜ r ≡ alone terminal ⌝ }
 {
     SpanMarks {

@@ -23,7 +23,7 @@ then-rules x y = record { to = λ r m. y .to r (x .to r m); of = λ r m. x .of r
 
 -- ---- the same rules at other places
 
-from-there : (g : Rules) (i : ℕ) (r : Rule) → getElem? g i ≡ some r → (i < length g) × (getD g i no-rule ≡ r)
+pub from-there : (g : Rules) (i : ℕ) (r : Rule) → getElem? g i ≡ some r → (i < length g) × (getD g i no-rule ≡ r)
 from-there [] i r e = absurd (let z : _≡_ {A = ℕ} 0 1 = cc in omega arith)
 from-there (x ∷ g) zero r e = (suc-le-suc zero-le, let z : x ≡ r = cc in z)
 from-there (x ∷ g) (suc i) r e = let q = from-there g i r e in (suc-le-suc (q .0), q .1)

@@ -12,7 +12,8 @@ use Rattle.sets.proofs.Says.{true-not-false, says-iff}
 use Rattle.grammar.specs.declared.Cell.{Cell}
 use Rattle.grammar.specs.Layout.{Word}
 use Rattle.grammar.specs.Trees.{Rules, TwoTrees}
-use Rattle.grammar.specs.Candidates.{sentence}
+use Rattle.grammar.specs.Candidates.{Candidate, sentence}
+use Rattle.candidates.specs.Terminals.{Among}
 use Rattle.grammar.proofs.SweepLaws.{sentence-length}
 use Rattle.grammar.specs.SpanSheet.{pairs, pairAt, firstWord, secondWord}
 use Rattle.marks.specs.declared.Draft.{Draft}
@@ -24,10 +25,12 @@ use Rattle.chart.specs.Sheets.{Exact, Ready, Settles, Charted}
 use Rattle.chart.proofs.SheetLaws.{reads-second}
 use Rattle.chart.proofs.FillLaws.{first-kept, second-kept}
 use Rattle.chart.proofs.OpenLaws.{open-none, open-less}
-use Rattle.refuting.specs.Refuting.{terminalAt, Refuted, Standing, Loose, Poised, Tried, Below, Ended, Spent, Struck, Done, Freed}
-use Rattle.refuting.specs.Leaves.{Allows, May, Full}
+use Rattle.refuting.specs.Refuting.{terminalAt, Refuted, Standing, Loose, Poised, Tried, Below, Ended, Spent, Struck, Done}
+use Rattle.chart.specs.Leaves.{Leaf, Allows, LeafAt, May}
+use Rattle.refuting.specs.Tables.{Tabled, Laid}
+use Rattle.refuting.proofs.TableLaws.{among-cells, laid-empty, laid-leaf, laid-free}
 use Rattle.refuting.proofs.RefutingLaws.{refuted-hopeless, below-all}
-use Rattle.refuting.proofs.WordLaws.{standing-ready, standing-on, standing-back, standing-poised, turned-self, loose-kept, loose-ready, loose-fixed, loose-filled, loose-free, poised-loose, poised-standing, other-pair, may-given}
+use Rattle.refuting.proofs.WordLaws.{right-leaf, leaves-of, may-given, standing-ready, standing-on, standing-back, standing-poised, turned-self, loose-kept, loose-ready, loose-fixed, loose-filled, loose-free, poised-loose, poised-standing}
 
 module _ {g : Rules} {n i : ℕ} {cs : List Cell} where
   -- no fill
@@ -61,8 +64,15 @@ settles-at {r} {g} {n} {k} {ws} {ws′} d c e y = subst (λ (x : ℕ). Settles r
 
 module _ {g : Rules} {n b : ℕ} {cs : List Cell} where
   -- the words are ready to be filled from token b on
-  pub ready-again : {ws : List ℕ} (d : Draft) → b ≤ n → drafted d ≡ sentence cs → d .count ≡ n → d .known ≡ b → Standing g n b cs ws → Ready g (half d) (d .count) ws b n
-  ready-again {ws} d h e c k st = ready-at d c k (record { low = omega arith; high = h; right = subst (λ (v : Word). Exact g v n ws b) (sym e) (st .right); beyond = open-none g n ws n (omega arith) })
+  pub ready-again : {ws : List ℕ} (d : Draft) → b ≤ n → length cs ≡ n → drafted d ≡ sentence cs → d .count ≡ n → d .known ≡ b → Standing g n b cs ws → Ready g (half d) (d .count) ws b n
+  ready-again {ws} d h size e c k st = ready-at d c k (record {
+    low = omega arith;
+    high = h;
+    within = omega arith;
+    right = subst (λ (v : Word). Exact g v n ws b) (sym e) (st .right);
+    leaves = leaves-of g n ws cs size h e (right-leaf cs size h (st .right));
+    beyond = open-none g n ws n (omega arith);
+  })
 
   pub spent : {r r₀ : Bool} {ws ws₁ ws₂ : List ℕ} (d : Draft) → r₀ ≡ false → drafted d ≡ sentence cs → d .count ≡ n → d .known ≡ b → Ended r₀ g n b cs ws ws₁ → Settles r g (half d) (d .count) ws₁ ws₂ → Spent false g n b cs ws ws₂
   spent {r} {r₀} {ws} {ws₁} {ws₂} d no-more e c k q y =
@@ -74,10 +84,10 @@ module _ {g : Rules} {s n b j : ℕ} {cs : List Cell} (low : b ≤ j) (h : j < n
   pub wrote-loose : {ws ws′ : List ℕ} {p q : ℕ} → Wrote ws ws′ (pairAt n j 1) p q → Loose g s n b j cs ws → Loose g s n b j cs ws′
   wrote-loose w l = loose-kept low h (w .kept) l
 
-  pub ready-loose : {ws : List ℕ} (d : Draft) → drafted d ≡ sentence cs → d .count ≡ n → d .known ≡ b → Loose g s n b j cs ws → Ready g (half d) (d .count) ws b (j + 1)
-  ready-loose d e c k l = ready-at d c k (loose-ready low h (turned-self j cs) e l)
+  pub ready-loose : {ws : List ℕ} (d : Draft) → length cs ≡ n → drafted d ≡ sentence cs → d .count ≡ n → d .known ≡ b → Loose g s n b j cs ws → Ready g (half d) (d .count) ws b (j + 1)
+  ready-loose d size e c k l = ready-at d c k (loose-ready low h (turned-self j cs) size e l)
 
-  pub struck-settled : {r : Bool} {ws ws₁ ws₂ : List ℕ} {x p q : ℕ} (d : Draft) → length cs ≡ n → drafted d ≡ sentence cs → d .count ≡ n → d .known ≡ b → terminalAt cs j ≡ x → Wrote ws ws₁ (pairAt n j 1) p q → Allows g x p q
+  pub struck-settled : {r : Bool} {ws ws₁ ws₂ : List ℕ} {x p q : ℕ} (d : Draft) → length cs ≡ n → drafted d ≡ sentence cs → d .count ≡ n → d .known ≡ b → terminalAt cs j ≡ x → Wrote ws ws₁ (pairAt n j 1) p q → Leaf g x p q
       → Loose g s n b j cs ws → Settles r g (half d) (d .count) ws₁ ws₂ → Struck r g s n b j cs ws ws₂
   struck-settled {r} {ws} {ws₁} {ws₂} {x} {p} {q} d size e c k t w al lo y =
       let z = settles-at d c k y in
@@ -88,8 +98,8 @@ module _ {g : Rules} {s n b j : ℕ} {cs : List Cell} (low : b ≤ j) (h : j < n
         past = past-then (kept-past n j 1 (omega arith) (w .kept)) (z .past);
       }
     where
-      m : May g n ws₁ j (terminalAt cs j)
-      m = subst (May g n ws₁ j) (sym t) (subst₂ (Allows g x) (sym (w .first)) (sym (w .second)) al)
+      m : LeafAt g n ws₁ j (terminalAt cs j)
+      m = subst (LeafAt g n ws₁ j) (sym t) (subst₂ (Leaf g x) (sym (w .first)) (sym (w .second)) al)
 
 -- ---- all terminals of a token
 
@@ -101,7 +111,7 @@ module _ {g : Rules} {s n b j i : ℕ} {cs : List Cell} (e : i ≡ j - 1) (low :
   poised-down {ws} p = poised-loose (let z : b ≤ i = omega arith in z) (let z : i < n = omega arith in z) (subst (λ (k : ℕ). Poised g s n b k cs ws) (sym (next-up i j b e low far)) p)
 
   -- the last write: the token is free again
-  pub done-full : {ws ws₁ ws₂ : List ℕ} {p q : ℕ} → Past (2 * pairs n) ws ws₁ → Loose g s n b i cs ws₁ → Below g s n b i 64 cs → Wrote ws₁ ws₂ (pairAt n i 1) p q → Full g s p q → Done false g s n b j cs ws ws₂
+  pub done-full : {ws ws₁ ws₂ : List ℕ} {p q : ℕ} → Past (2 * pairs n) ws ws₁ → Loose g s n b i cs ws₁ → Below g s n b i 64 cs → Wrote ws₁ ws₂ (pairAt n i 1) p q → ((x : ℕ) → Among s x → Allows g x p q) → Done false g s n b j cs ws ws₂
   done-full {ws} {ws₁} {ws₂} {p} {q} pa l be w f = record {
     out = λ u. subst (λ (k : ℕ). Refuted g s n b k cs) (next-up i j b e low far) (below-all h be);
     stays = λ u. subst (λ (k : ℕ). Poised g s n b k cs ws₂) (next-up i j b e low far) (loose-free (let z : b ≤ i = omega arith in z) h (λ x a. subst₂ (Allows g x) (sym (w .first)) (sym (w .second)) (f x a)) (wrote-loose (let z : b ≤ i = omega arith in z) h w l));
@@ -124,32 +134,26 @@ standing-of {g} {s} {n} {b} {j} {cs} {ws} e p = poised-standing (subst (λ (k : 
 
 -- ---- the start
 
-pub freed-none : (n b p q : ℕ) (ws : List ℕ) → Freed n b b p q ws ws
-freed-none n b p q ws = record { first = λ k x y. absurd (omega arith); second = λ k x y. absurd (omega arith); past = past-same (2 * pairs n) ws }
+-- the words that are laid may be filled
+pub laid-ready : {g : Rules} {s n b : ℕ} {table : List ℕ} {cs : List Cell} {ws ws₁ : List ℕ} (d : Draft) → b ≤ n → Candidate (Among s) n cs → drafted d ≡ sentence cs → d .count ≡ n → d .known ≡ b → Tabled g s table → Laid table cs n b ws ws₁
+    → Ready g (half d) (d .count) ws₁ 0 n
+laid-ready {g} {s} {n} {b} {cs = cs} {ws₁ = ws₁} d low k e c kn t l = ready-at d c kn (record {
+  low = omega arith;
+  high = low;
+  within = omega arith;
+  right = laid-empty t l (drafted d);
+  leaves = leaves-of g n ws₁ cs (k .arranged .size) low e (λ i h. laid-leaf t l i h (omega arith) (among-cells k i (omega arith)));
+  beyond = open-none g n ws₁ n (omega arith);
+})
 
-pub freed-more : (n b i p q : ℕ) {ws ws₁ ws₂ : List ℕ} → i < n → Freed n b i p q ws ws₁ → Wrote ws₁ ws₂ (pairAt n i 1) p q → Freed n b (i + 1) p q ws ws₂
-freed-more n b i p q {ws} {ws₁} {ws₂} h f w = record {
-  first = λ k x y. go-first k x y (ℕ-discrete k i);
-  second = λ k x y. go-second k x y (ℕ-discrete k i);
-  past = past-then (f .past) (kept-past n i 1 (omega arith) (w .kept));
-}
-  where
-    go-first : (k : ℕ) → b ≤ k → k < i + 1 → Dec (k ≡ i) → firstWord ws₂ n k 1 ≡ p
-    go-first k x y (yes e) = ap (λ (z : ℕ). firstWord ws₂ n z 1) e ∙ w .first
-    go-first k x y (no e) = first-kept ws₁ ws₂ n (pairAt n i 1) (w .kept) k 1 (other-pair n i k 1 h (omega arith) (λ u v. e v)) ∙ f .first k x (omega arith)
-
-    go-second : (k : ℕ) → b ≤ k → k < i + 1 → Dec (k ≡ i) → secondWord ws₂ n k 1 ≡ q
-    go-second k x y (yes e) = ap (λ (z : ℕ). secondWord ws₂ n z 1) e ∙ w .second
-    go-second k x y (no e) = second-kept ws₁ ws₂ n (pairAt n i 1) (w .kept) k 1 (other-pair n i k 1 h (omega arith) (λ u v. e v)) ∙ f .second k x (omega arith)
-
--- filled: poised, all terminals from b on being open
-pub poised-start : {g : Rules} {s n b p q : ℕ} {cs : List Cell} {ws ws₁ ws₂ : List ℕ} (d : Draft) → b ≤ n → drafted d ≡ sentence cs → d .count ≡ n → d .known ≡ b → Full g s p q → Freed n b n p q ws ws₁
+-- and are poised then, all terminals from b on being open
+pub poised-start : {g : Rules} {s n b : ℕ} {table : List ℕ} {cs : List Cell} {ws ws₁ ws₂ : List ℕ} (d : Draft) → b ≤ n → drafted d ≡ sentence cs → d .count ≡ n → d .known ≡ b → Tabled g s table → Laid table cs n b ws ws₁
     → Charted ws₁ ws₂ g (half d) (d .count) → Poised g s n b n cs ws₂
-poised-start {g} {s} {n} {b} {p} {q} {cs} {ws} {ws₁} {ws₂} d low e c k f fr y = record {
+poised-start {g} {s} {n} {b} {cs = cs} {ws} {ws₁} {ws₂} d low e c k t l y = record {
   right = subst (λ (u : Word). Exact g u n ws₂ b) e (z .exact);
   beyond = open-less n low (z .beyond);
-  fixed = λ i a l. absurd (omega arith);
-  free = λ i a l x m. may-given g i x (z .given) a l (subst₂ (Allows g x) (sym (fr .first i a l)) (sym (fr .second i a l)) (f x m));
+  fixed = λ i a h. absurd (omega arith);
+  free = λ i a h x m. may-given g i x (z .given) h (laid-free t l i a h x m);
 }
   where
     z : Charted ws₁ ws₂ g (record { word = drafted d; known = b }) n
@@ -159,11 +163,5 @@ pub charted-past : {g : Rules} {n : ℕ} {ws ws′ : List ℕ} (d : Draft) → d
 charted-past {g} {n} {ws} {ws′} d c y = subst (λ (m : ℕ). Past (2 * pairs m) ws ws′) c (y .past)
 
 -- all is known: the sheet says if there are two trees
-pub two-read : {g : Rules} {n : ℕ} {ws ws′ : List ℕ} {r : Bool} (cs : List Cell) (d : Draft) → length cs ≡ n → drafted d ≡ sentence cs → d .count ≡ n → d .known ≡ n
-    → Charted ws ws′ g (half d) (d .count) → Says r (In (secondWord ws′ n 0 n) 0) → Says r (TwoTrees g 0 (sentence cs))
-two-read {g} {n} {ws} {ws′} cs d size e c k y =
-    let q = reads-second (sentence-length 1 cs ∙ size) (subst (λ (w : Word). Exact g w n ws′ n) e (z .exact)) in
-    says-iff (q .0) (q .1)
-  where
-    z : Charted ws ws′ g (record { word = drafted d; known = n }) n
-    z = subst (λ (x : ℕ). Charted ws ws′ g (record { word = drafted d; known = x }) n) k (subst (λ (m : ℕ). Charted ws ws′ g (half d) m) c y)
+pub two-read : {g : Rules} {s n : ℕ} {ws : List ℕ} {r : Bool} (cs : List Cell) → length cs ≡ n → Poised g s n n n cs ws → Says r (In (secondWord ws n 0 n) 0) → Says r (TwoTrees g 0 (sentence cs))
+two-read cs size p = let q = reads-second (sentence-length 1 cs ∙ size) (p .right) in says-iff (q .0) (q .1)

@@ -12,10 +12,10 @@ use Rattle.candidates.specs.Terminals.{Among}
 use Rattle.candidates.specs.Succession.{Shares}
 use Rattle.candidates.specs.Skips.{TwoBefore}
 use Rattle.spans.specs.Changes.{Past}
-use Rattle.grammar.specs.SpanSheet.{pairs, firstWord, secondWord}
+use Rattle.grammar.specs.SpanSheet.{pairs}
 use Rattle.chart.specs.Openness.{Open}
 use Rattle.chart.specs.Sheets.{Exact}
-use Rattle.refuting.specs.Leaves.{May}
+use Rattle.chart.specs.Leaves.{LeafAt, May}
 
 -- what stands past the cells
 abbrev pub no-cell : Cell
@@ -34,18 +34,18 @@ pub record Spelt (n j : ℕ) (ds cs : List Cell) : Type 0 where
 pub record Refuted (g : Rules) (s n b j : ℕ) (cs : List Cell) : Type 0 where
   pub earlier : (ds : List Cell) → Candidate (Among s) n ds → Shares b ds cs → Spelt n j ds cs → TwoTrees g 0 (sentence ds) → TwoBefore g s n ds
 
--- the words are right for cs's first b cells; the pairs of the tokens from j on allow for cs's terminals, those between for
--- all of the set s; and the spans of two tokens or more from j on have what can stand over open tokens
+-- the words are right for cs's first b cells; the tokens from j on have the pairs of cs's terminals, those between allow for all
+-- of the set s; and the spans of two tokens or more from j on have what can stand over open tokens
 pub record Poised (g : Rules) (s n b j : ℕ) (cs : List Cell) (ws : List ℕ) : Type 0 where
   pub right : Exact g (sentence cs) n ws b
   pub beyond : Open g n ws j
-  pub fixed : (i : ℕ) → j ≤ i → i < n → May g n ws i (terminalAt cs i)
+  pub fixed : (i : ℕ) → j ≤ i → i < n → LeafAt g n ws i (terminalAt cs i)
   pub free : (i : ℕ) → b ≤ i → i < j → (x : ℕ) → Among s x → May g n ws i x
 
 -- the same when all terminals are fixed and the first i positions: of the spans past them nothing is asked
 pub record Standing (g : Rules) (n i : ℕ) (cs : List Cell) (ws : List ℕ) : Type 0 where
   pub right : Exact g (sentence cs) n ws i
-  pub fixed : (k : ℕ) → i ≤ k → k < n → May g n ws k (terminalAt cs k)
+  pub fixed : (k : ℕ) → i ≤ k → k < n → LeafAt g n ws k (terminalAt cs k)
 
 -- ---- by terminals
 
@@ -94,7 +94,7 @@ pub record Rises (cs : List Cell) (i : ℕ) : Type 0 where
 pub record Loose (g : Rules) (s n b j : ℕ) (cs : List Cell) (ws : List ℕ) : Type 0 where
   pub right : Exact g (sentence cs) n ws b
   pub beyond : Open g n ws (j + 1)
-  pub fixed : (i : ℕ) → j < i → i < n → May g n ws i (terminalAt cs i)
+  pub fixed : (i : ℕ) → j < i → i < n → LeafAt g n ws i (terminalAt cs i)
   pub free : (i : ℕ) → b ≤ i → i < j → (x : ℕ) → Among s x → May g n ws i x
 
 -- a position is tried: it is refuted, and the words stand as before; or they stand with it
@@ -126,10 +126,4 @@ pub record Struck (r : Bool) (g : Rules) (s n b j : ℕ) (cs : List Cell) (ws ws
 pub record Done (r : Bool) (g : Rules) (s n b j : ℕ) (cs : List Cell) (ws ws′ : List ℕ) : Type 0 where
   pub out : r ≡ false → Refuted g s n b j cs
   pub stays : r ≡ false → Poised g s n b j cs ws′
-  pub past : Past (2 * pairs n) ws ws′
-
--- the tokens from b to below i have the pair p, q
-pub record Freed (n b i p q : ℕ) (ws ws′ : List ℕ) : Type 0 where
-  pub first : (k : ℕ) → b ≤ k → k < i → firstWord ws′ n k 1 ≡ p
-  pub second : (k : ℕ) → b ≤ k → k < i → secondWord ws′ n k 1 ≡ q
   pub past : Past (2 * pairs n) ws ws′

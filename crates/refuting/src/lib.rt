@@ -1,12 +1,11 @@
 // Refuting a block of candidates: terminals first, from the last token backward, then positions.
 use candidates::Candidate;
-use chart::fill_all;
+use chart::Pair;
+use chart::empty_pair;
+use chart::fill;
 use chart::hopeless;
+use chart::leaf_pair;
 use grammar::Cell;
-use grammar::Column;
-use grammar::Line;
-use grammar::Token;
-use grammar::Width;
 use marks::Draft;
 use sets::has;
 use spans::in_second;
@@ -15,7 +14,7 @@ use spans::write;
 ghost use mathlib.Core.Path.{_≡_};
 ghost use mathlib.Core.Bool.{true, false};
 ghost use Prim.Native.Nat.{_+_, _*_, _≤_, _<_};
-ghost use lib.ListN.{length, getD};
+ghost use lib.ListN.{length};
 ghost use Rattle.sets.specs.Says.{Says};
 ghost use Rattle.codes.specs.Codes.{decoded};
 ghost use Rattle.grammar.specs.Choices.{Distinct};
@@ -23,11 +22,14 @@ ghost use Rattle.grammar.specs.Trees.{TwoTrees};
 ghost use Rattle.grammar.specs.SpanSheet.{pairs, pairAt};
 ghost use Rattle.spans.specs.Changes.{Past, Wrote};
 ghost use Rattle.grammar.specs.Candidates.{sentence};
+ghost use Rattle.grammar.specs.Candidates as Of;
+ghost use Rattle.candidates.specs.Terminals.{Among};
 ghost use Rattle.marks.specs.Drafts.{drafted};
 ghost use Rattle.candidates.specs.Arrays.{cells};
 ghost use Rattle.candidates.specs.Spelling.{LowSteps};
-ghost use Rattle.refuting.specs.Refuting.{Standing, Moved, Rises, terminalAt, Turned, Loose, Poised, Tried, Ended, Spent, Struck, Done, Refuted, Freed};
-ghost use Rattle.refuting.specs.Leaves.{Allows, Leaf, Leaves, OneToken, United, Gathered, Tabled};
+ghost use Rattle.chart.specs.Leaves.{EmptyPair};
+ghost use Rattle.refuting.specs.Tables.{Small, Slot, Laid, United, Gathered, Tabled};
+ghost use Rattle.refuting.specs.Refuting.{Standing, Moved, Rises, terminalAt, Turned, Loose, Poised, Tried, Ended, Spent, Struck, Done, Refuted};
 
 // The candidate's sentence of n tokens, of which the first `known` count.
 fn draft(c: Candidate, n: usize, known: usize) -> Draft
@@ -178,7 +180,7 @@ fn struck(
     requires { ⌜ (n ≤ 7) × (b ≤ j) × (j < n) × LowSteps (cells c 0 n) ⌝ }
     requires { ⌜ Distinct (decoded (now codes)) ⌝ }
     requires { ⌜ 2 * pairs n ≤ length (now words) ⌝ }
-    requires { ⌜ (length (now table) ≡ 128) × (x < 64) × (terminalAt (cells c 0 n) j ≡ x) × Allows (decoded (now codes)) x (getD (now table) (2 * x) 0) (getD (now table) (2 * x + 1) 0) ⌝ }
+    requires { ⌜ Tabled (decoded (now codes)) set (now table) × Among set x × (terminalAt (cells c 0 n) j ≡ x) ⌝ }
     requires { ⌜ Loose (decoded (now codes)) set n b j (cells c 0 n) (now words) ⌝ }
     ensures { λ r. ⌜ Struck r (decoded (now (codes .entry))) set n b j (cells c 0 n) (now (words .entry)) (now (words .exit)) ⌝ }
 {
@@ -189,13 +191,10 @@ fn struck(
 }
 
 // Is a candidate that shares the first b cells of c, and has its terminals from j on, perhaps the first with two trees?
-// `one` and `two` are the pair of a token that may have any terminal of the set.
 fn terms(
     codes: &[u64],
     set: u64,
     table: &[u64],
-    one: u64,
-    two: u64,
     c: Candidate,
     n: usize,
     b: usize,
@@ -205,7 +204,7 @@ fn terms(
     requires { ⌜ (n ≤ 7) × (b ≤ j) × (j ≤ n) × LowSteps (cells c 0 n) ⌝ }
     requires { ⌜ Distinct (decoded (now codes)) ⌝ }
     requires { ⌜ 2 * pairs n ≤ length (now words) ⌝ }
-    requires { ⌜ Tabled (decoded (now codes)) set (now table) one two ⌝ }
+    requires { ⌜ Tabled (decoded (now codes)) set (now table) ⌝ }
     requires { ⌜ Poised (decoded (now codes)) set n b j (cells c 0 n) (now words) ⌝ }
     ensures { λ r. ⌜ Done r (decoded (now (codes .entry))) set n b j (cells c 0 n) (now (words .entry)) (now (words .exit)) ⌝ }
 {
@@ -224,26 +223,64 @@ fn terms(
             x += 1;
             continue;
         }
-        if terms(codes, set, table, one, two, m, n, b, i, words) {
+        if terms(codes, set, table, m, n, b, i, words) {
             return true;
         }
         x += 1;
     }
-    give(words, n, i, one, two);
+    give(words, n, i, table[128], table[129]);
     false
 }
 
-// Give the tokens from b on the pair of a token that may have any terminal of the set.
-fn free(words: &mut [u64], n: usize, b: usize, one: u64, two: u64)
-    requires { ⌜ (n ≤ 7) × (b ≤ n) ⌝ }
-    requires { ⌜ 2 * pairs n ≤ length (now words) ⌝ }
-    ensures { λ r. ⌜ Freed n b n one two (now (words .entry)) (now (words .exit)) ⌝ }
+// The place in the table of the pair that the token at i is given at first: that of its terminal, if it is one of the first
+// b, else that of a token that may have any.
+fn slot(c: Candidate, b: usize, n: usize, i: usize) -> usize
+    requires { ⌜ (n ≤ 7) × (i < n) ⌝ }
+    ensures { λ r. ⌜ Slot (cells c 0 n) b i r ⌝ }
 {
-    let mut i = b;
+    if i < b {
+        let d = c.cell(i);
+        return d.terminal as usize;
+    }
+    64
+}
+
+// Give all tokens and the empty word their first pairs.
+fn lay(words: &mut [u64], table: &[u64], c: Candidate, n: usize, b: usize)
+    requires { ⌜ (n ≤ 7) × Small (cells c 0 n) b ⌝ }
+    requires { ⌜ 2 * pairs n ≤ length (now words) ⌝ }
+    requires { ⌜ length (now table) ≡ 132 ⌝ }
+    ensures { λ r. ⌜ Laid (now (table .entry)) (cells c 0 n) n b (now (words .entry)) (now (words .exit)) ⌝ }
+{
+    let mut i: usize = 0;
     while i < n {
-        give(words, n, i, one, two);
+        let at = 2 * slot(c, b, n, i);
+        give(words, n, i, table[at], table[at + 1]);
         i += 1;
     }
+    write(words, 0, table[130], table[131]);
+}
+
+// Fill the words for the candidate's first b cells, all others being open.
+fn begin(
+    codes: &[u64],
+    set: u64,
+    table: &[u64],
+    c: Candidate,
+    n: usize,
+    b: usize,
+    words: &mut [u64],
+)
+    requires { ⌜ (n ≤ 7) × (b ≤ n) × Of.Candidate (Among set) n (cells c 0 n) ⌝ }
+    requires { ⌜ Distinct (decoded (now codes)) ⌝ }
+    requires { ⌜ 2 * pairs n ≤ length (now words) ⌝ }
+    requires { ⌜ Tabled (decoded (now codes)) set (now table) ⌝ }
+    ensures { λ r. ⌜ Poised (decoded (now (codes .entry))) set n b n (cells c 0 n) (now (words .exit)) ⌝ }
+    ensures { λ r. ⌜ Past (2 * pairs n) (now (words .entry)) (now (words .exit)) ⌝ }
+{
+    lay(words, table, c, n, b);
+    let d = draft(c, n, b);
+    fill(words, d, codes, 0, n);
 }
 
 // Is no candidate that shares the first b cells of c the first with two trees? (Where the answer is no, one may be.)
@@ -251,80 +288,38 @@ pub fn refutes(
     codes: &[u64],
     set: u64,
     table: &[u64],
-    one: u64,
-    two: u64,
     c: Candidate,
     n: usize,
     b: usize,
     words: &mut [u64],
 ) -> bool
-    requires { ⌜ (n ≤ 7) × (b ≤ n) × LowSteps (cells c 0 n) ⌝ }
+    requires { ⌜ (n ≤ 7) × (b ≤ n) × Of.Candidate (Among set) n (cells c 0 n) ⌝ }
     requires { ⌜ Distinct (decoded (now codes)) ⌝ }
     requires { ⌜ 2 * pairs n ≤ length (now words) ⌝ }
-    requires { ⌜ Tabled (decoded (now codes)) set (now table) one two ⌝ }
+    requires { ⌜ Tabled (decoded (now codes)) set (now table) ⌝ }
     ensures { λ r. ⌜ (r ≡ true → Refuted (decoded (now (codes .entry))) set n b n (cells c 0 n)) × Past (2 * pairs n) (now (words .entry)) (now (words .exit)) ⌝ }
 {
-    free(words, n, b, one, two);
-    let d = draft(c, n, b);
-    fill_all(words, d, codes);
-    !terms(codes, set, table, one, two, c, n, b, n, words)
+    begin(codes, set, table, c, n, b, words);
+    !terms(codes, set, table, c, n, b, n, words)
 }
 
 // Has the candidate two trees?
-pub fn has_two(codes: &[u64], c: Candidate, n: usize, words: &mut [u64]) -> bool
-    requires { ⌜ (n ≤ 7) × LowSteps (cells c 0 n) ⌝ }
+pub fn has_two(
+    codes: &[u64],
+    set: u64,
+    table: &[u64],
+    c: Candidate,
+    n: usize,
+    words: &mut [u64],
+) -> bool
+    requires { ⌜ (n ≤ 7) × Of.Candidate (Among set) n (cells c 0 n) ⌝ }
     requires { ⌜ Distinct (decoded (now codes)) ⌝ }
     requires { ⌜ 2 * pairs n ≤ length (now words) ⌝ }
+    requires { ⌜ Tabled (decoded (now codes)) set (now table) ⌝ }
     ensures { λ r. ⌜ Says r (TwoTrees (decoded (now (codes .entry))) 0 (sentence (cells c 0 n))) × Past (2 * pairs n) (now (words .entry)) (now (words .exit)) ⌝ }
 {
-    let d = draft(c, n, n);
-    fill_all(words, d, codes);
+    begin(codes, set, table, c, n, n, words);
     in_second(words, n, 0, n, 0)
-}
-
-// One token with the terminal x.
-fn one_token(x: u8) -> Draft
-    ensures { λ d. ⌜ OneToken x d ⌝ }
-{
-    Draft {
-        tokens: [Token {
-            terminal: x,
-            line: Line(1),
-            column: Column(1),
-            width: Width(1),
-        }; 64],
-        count: 1,
-        known: 1,
-    }
-}
-
-// Work out the pair of the terminal x as a word of its own: the second pair of the words.
-fn leaf(words: &mut [u64], codes: &[u64], x: u8)
-    requires { ⌜ 4 ≤ length (now words) ⌝ }
-    requires { ⌜ Distinct (decoded (now codes)) ⌝ }
-    ensures { λ r. ⌜ Leaf (decoded (now (codes .entry))) x (getD (now (words .exit)) 2 0) (getD (now (words .exit)) 3 0) × Past 4 (now (words .entry)) (now (words .exit)) ⌝ }
-{
-    let d = one_token(x);
-    fill_all(words, d, codes);
-}
-
-// Fill the table with the pair of each terminal of the set, that of x at 2 x.
-pub fn leaves(words: &mut [u64], codes: &[u64], set: u64, table: &mut [u64])
-    requires { ⌜ 4 ≤ length (now words) ⌝ }
-    requires { ⌜ Distinct (decoded (now codes)) ⌝ }
-    requires { ⌜ length (now table) ≡ 128 ⌝ }
-    ensures { λ r. ⌜ Leaves (decoded (now (codes .entry))) set 64 (now (table .exit)) × Past 4 (now (words .entry)) (now (words .exit)) ⌝ }
-{
-    let mut x: u8 = 0;
-    while x < 64 {
-        if !has(set, x) {
-            x += 1;
-            continue;
-        }
-        leaf(words, codes, x);
-        write(table, x as usize, words[2], words[3]);
-        x += 1;
-    }
 }
 
 // Both sets as one.
@@ -334,29 +329,43 @@ fn united(a: u64, b: u64) -> u64
     a | b
 }
 
-// The pair of a token that may have any terminal of the set.
-pub struct AnyOf {
-    pub one: u64,
-    pub two: u64,
-}
-
-// The pairs that the table has of the set's terminals, as one.
-pub fn whole(table: &[u64], set: u64) -> AnyOf
-    requires { ⌜ length (now table) ≡ 128 ⌝ }
-    ensures { λ r. ⌜ Gathered set 64 (now (table .entry)) (r .one) (r .two) ⌝ }
+// Fill the table with the pair of each terminal of the set, that of x at 2 x, and answer their union: the pair of a token
+// that may have any of them. The empty word's pair is `one` and `two`.
+fn leaves(codes: &[u64], set: u64, one: u64, two: u64, table: &mut [u64]) -> Pair
+    requires { ⌜ Distinct (decoded (now codes)) ⌝ }
+    requires { ⌜ EmptyPair (decoded (now codes)) one two ⌝ }
+    requires { ⌜ length (now table) ≡ 132 ⌝ }
+    ensures { λ r. ⌜ Gathered (decoded (now (codes .entry))) set 64 (now (table .entry)) (now (table .exit)) (r .one) (r .two) ⌝ }
 {
-    let mut one: u64 = 0;
-    let mut two: u64 = 0;
+    let mut any: u64 = 0;
+    let mut twice: u64 = 0;
     let mut x: u8 = 0;
     while x < 64 {
         if !has(set, x) {
             x += 1;
             continue;
         }
-        let at = 2 * (x as usize);
-        one = united(one, table[at]);
-        two = united(two, table[at + 1]);
+        let l = leaf_pair(codes, x, one, two);
+        write(table, x as usize, l.one, l.two);
+        any = united(any, l.one);
+        twice = united(twice, l.two);
         x += 1;
     }
-    AnyOf { one, two }
+    Pair {
+        one: any,
+        two: twice,
+    }
+}
+
+// Fill the table of the pairs that the search gives: at 2 x that of the terminal x, where the set has it; at 128 that of a
+// token that may have any terminal of the set; at 130 that of the empty word.
+pub fn fill_table(codes: &[u64], set: u64, table: &mut [u64])
+    requires { ⌜ Distinct (decoded (now codes)) ⌝ }
+    requires { ⌜ length (now table) ≡ 132 ⌝ }
+    ensures { λ r. ⌜ Tabled (decoded (now (codes .entry))) set (now (table .exit)) ⌝ }
+{
+    let e = empty_pair(codes);
+    let w = leaves(codes, set, e.one, e.two, table);
+    write(table, 64, w.one, w.two);
+    write(table, 65, e.one, e.two);
 }

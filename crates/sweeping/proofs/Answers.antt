@@ -9,7 +9,8 @@ use lib.Seq.{getD-take, ext-getD, take-at}
 use Rattle.grammar.specs.declared.Cell.{Cell}
 use Rattle.grammar.specs.declared.Token.{Token}
 use Rattle.grammar.specs.declared.Sentence.{Sentence}
-use Rattle.grammar.specs.Trees.{Rules}
+use Rattle.grammar.specs.Layout.{Word}
+use Rattle.grammar.specs.Trees.{Rules, TwoTrees}
 use Rattle.grammar.specs.Candidates.{Terminal, sentence}
 use Rattle.grammar.specs.SpanSheet.{pairs}
 use Rattle.grammar.specs.Content.{spelled, Positioned}
@@ -22,6 +23,8 @@ use Rattle.candidates.proofs.Spelling.{low-steps}
 use Rattle.candidates.proofs.TerminalSets.{no-candidate, candidate-over}
 use Rattle.order.specs.Order.{Rearranged}
 use Rattle.order.proofs.Same.{two-same}
+use Rattle.reachable.specs.Reach.{Trimmed}
+use Rattle.reachable.proofs.TreeLaws.{two-trimmed}
 use Rattle.dominance.specs.Dominance.{Spared}
 use Rattle.dominance.proofs.Renaming.{renamed, renamed-candidate, renamed-two, renamed-before}
 use Rattle.sweeping.specs.Searching.{NoneShorter, Hits, Searched, hit, miss}
@@ -57,21 +60,25 @@ module _ {g : Rules} {s kept : ℕ} (sp : Spared g s kept) where
   pub none-all : ((x : ℕ) → Among kept x → ⊥) → (x : ℕ) → Among s x → ⊥
   none-all h x m = let q = sp .each x m in h (q .0) (q .1)
 
--- ---- rules in another order have the same trees
+-- ---- rules that have the same sentences with two trees
 
-module _ {g g′ : Rules} {s : ℕ} (o : Rearranged g g′) where
+module _ {g g′ : Rules} {s : ℕ} (same : (w : Word) → TwoTrees g 0 w ↔ TwoTrees g′ 0 w) where
   shorter-over : {n : ℕ} → NoneShorter g′ s n → NoneShorter g s n
-  shorter-over h = record { none = λ m ds l u c t. h .none m ds l u c (two-same o .0 t) }
+  shorter-over h = record { none = λ m ds l u c t. h .none m ds l u c (same (sentence ds) .0 t) }
 
   pub searched-over : {k n : ℕ} {cs : List Cell} → Searched g′ s k n cs → Searched g s k n cs
-  searched-over (hit h) = hit (record {
+  searched-over {cs = cs} (hit h) = hit (record {
     low = h .low;
     high = h .high;
-    before = record { candidate = h .before .candidate; none = λ ds c b t. h .before .none ds c b (two-same o .0 t) };
-    two = two-same o .1 (h .two);
+    before = record { candidate = h .before .candidate; none = λ ds c b t. h .before .none ds c b (same (sentence ds) .0 t) };
+    two = same (sentence cs) .1 (h .two);
     shorter = shorter-over (h .shorter);
   })
   searched-over (miss e h) = miss e (shorter-over h)
+
+-- the rules in another order, of which those are kept that 0 reaches
+pub same-two : {g g₁ g₂ : Rules} → Rearranged g g₁ → Trimmed g₁ g₂ → (w : Word) → TwoTrees g 0 w ↔ TwoTrees g₂ 0 w
+same-two o t w = let x = two-same o in let y = two-trimmed t in (λ d. y .0 (x .0 d), λ d. x .1 (y .1 d))
 
 -- ---- what is found
 

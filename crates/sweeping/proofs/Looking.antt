@@ -22,7 +22,6 @@ use Rattle.candidates.specs.Succession.{Shares, First, Follows}
 use Rattle.candidates.specs.Skips.{Stale}
 use Rattle.candidates.proofs.Measure.{left, left-falls}
 use Rattle.refuting.specs.Refuting.{Refuted}
-use Rattle.refuting.proofs.LeafLaws.{two-pairs}
 use Rattle.refuting.proofs.RefutingLaws.{none-in-block}
 use Rattle.sweeping.specs.Searching.{NoneBefore, Barren, Looked, Turn}
 use Rattle.sweeping.proofs.Turns.{begin, onward}
@@ -81,7 +80,3 @@ pairs-mono n k h =
 
 pub past-longer : {n : ℕ} {ws ws′ : List ℕ} (k : ℕ) → n ≤ k → Past (2 * pairs n) ws ws′ → Past (2 * pairs k) ws ws′
 past-longer {n} k h p = past-more (omega (arith, pairs-mono n k h)) p
-
--- the span sheet of a token or more has four words
-pub four-words : (k : ℕ) → 1 ≤ k → 4 ≤ 2 * pairs k
-four-words k h = omega (arith, two-pairs, pairs-mono 1 k h)

@@ -5,10 +5,10 @@ use dominance::needed;
 use grammar::Grammar;
 use grammar::Sentence;
 use order::ordered;
+use reachable::reachable;
+use refuting::fill_table;
 use refuting::has_two;
-use refuting::leaves;
 use refuting::refutes;
-use refuting::whole;
 use sets::Member;
 use sets::first_from;
 use spans::clear;
@@ -23,7 +23,7 @@ ghost use Rattle.grammar.specs.Content.{rules, Formed};
 ghost use Rattle.grammar.specs.SpanSheet.{pairs};
 ghost use Rattle.candidates.specs.Arrays.{cells};
 ghost use Rattle.candidates.specs.Terminals.{Among, Lowest};
-ghost use Rattle.refuting.specs.Leaves.{Tabled};
+ghost use Rattle.refuting.specs.Tables.{Tabled};
 ghost use Rattle.spans.specs.Changes.{Past};
 ghost use Rattle.sweeping.specs.Searching.{Looked, Searched};
 ghost use Rattle.sweeping.specs.Swept.{Swept, Found, cleared};
@@ -34,8 +34,6 @@ fn look(
     codes: &[u64],
     set: u64,
     table: &[u64],
-    one: u64,
-    two: u64,
     c: Candidate,
     n: usize,
     b: usize,
@@ -44,16 +42,16 @@ fn look(
     requires { ⌜ (n ≤ 7) × (b ≤ n) × Of.Candidate (Among set) n (cells c 0 n) ⌝ }
     requires { ⌜ Distinct (decoded (now codes)) ⌝ }
     requires { ⌜ 2 * pairs n ≤ length (now words) ⌝ }
-    requires { ⌜ Tabled (decoded (now codes)) set (now table) one two ⌝ }
+    requires { ⌜ Tabled (decoded (now codes)) set (now table) ⌝ }
     ensures { λ r. ⌜ Looked r (decoded (now (codes .entry))) set n b (cells c 0 n) × Past (2 * pairs n) (now (words .entry)) (now (words .exit)) ⌝ }
 {
     if c.stale(n, b) {
         return true;
     }
     if b == n {
-        return !has_two(codes, c, n, words);
+        return !has_two(codes, set, table, c, n, words);
     }
-    refutes(codes, set, table, one, two, c, n, b, words)
+    refutes(codes, set, table, c, n, b, words)
 }
 
 // What the search finds: a candidate and its length, which is 0 where it finds none.
@@ -79,21 +77,12 @@ fn nothing() -> Hit
 
 // The first candidate of 1 to k tokens that has two trees, over a set whose least terminal is low. A candidate's first b
 // cells are looked at: where they rule it out, the search goes on past all that share them, else with a cell more.
-fn search(
-    codes: &[u64],
-    set: u64,
-    table: &[u64],
-    one: u64,
-    two: u64,
-    low: u8,
-    k: usize,
-    words: &mut [u64],
-) -> Hit
+fn search(codes: &[u64], set: u64, table: &[u64], low: u8, k: usize, words: &mut [u64]) -> Hit
     requires { ⌜ (1 ≤ k) × (k ≤ 7) ⌝ }
     requires { ⌜ Lowest set low ⌝ }
     requires { ⌜ Distinct (decoded (now codes)) ⌝ }
     requires { ⌜ 2 * pairs k ≤ length (now words) ⌝ }
-    requires { ⌜ Tabled (decoded (now codes)) set (now table) one two ⌝ }
+    requires { ⌜ Tabled (decoded (now codes)) set (now table) ⌝ }
     ensures { λ r. ⌜ Searched (decoded (now (codes .entry))) set k (r .length) (cells (r .candidate) 0 (r .length)) ⌝ }
     ensures { λ r. ⌜ Past (2 * pairs k) (now (words .entry)) (now (words .exit)) ⌝ }
 {
@@ -105,7 +94,7 @@ fn search(
         let mut c = Candidate::first(set, low, n);
         let mut b: usize = 0;
         loop {
-            if look(codes, set, table, one, two, c, n, b, words) {
+            if look(codes, set, table, c, n, b, words) {
                 let s = c.successor(set, low, n, b);
                 if !s.more {
                     break;
@@ -137,14 +126,13 @@ fn find_among(codes: &[u64], set: u64, low: u8, k: usize, words: &mut [u64]) -> 
     ensures { λ r. ⌜ Searched (decoded (now (codes .entry))) set k (r .length) (cells (r .candidate) 0 (r .length)) ⌝ }
     ensures { λ r. ⌜ Past (2 * pairs k) (now (words .entry)) (now (words .exit)) ⌝ }
 {
-    let mut table: [u64; 128] = [0; 128];
-    leaves(words, codes, set, &mut table[..]);
-    let w = whole(&table[..], set);
-    search(codes, set, &table[..], w.one, w.two, low, k, words)
+    let mut table: [u64; 132] = [0; 132];
+    fill_table(codes, set, &mut table[..]);
+    search(codes, set, &table[..], low, k, words)
 }
 
 // The first candidate of 1 to k tokens that has two trees, over the terminals of the sheet. It has none that a smaller one
-// replaces, so that these need not be tried.
+// replaces, so that these need not be tried; and trees of 0 have no rule that 0 does not reach.
 fn find(g: Grammar, k: usize, words: &mut [u64]) -> Hit
     requires { ⌜ (1 ≤ k) × (k ≤ 7) ⌝ }
     requires { ⌜ Formed g ⌝ }
@@ -160,7 +148,10 @@ fn find(g: Grammar, k: usize, words: &mut [u64]) -> Hit
     };
     let codes = ordered(g);
     let m = g.count;
-    find_among(&codes[..m], set, low, k, words)
+    let r = reachable(&codes[..m]);
+    let few = r.codes;
+    let n = r.count;
+    find_among(&few[..n], set, low, k, words)
 }
 
 // The sweep up to k over a well-formed grammar: the first candidate that has two trees, or no token.

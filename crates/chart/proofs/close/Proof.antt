@@ -3,29 +3,23 @@ use borrow.Author.Needs.{needs}
 use mathlib.Core.Path.{subst}
 use Prim.Native.Nat.{ℕ}
 use native.Mathlib.Omega.{arith}
-use Rattle.codes.specs.Codes.{decoded}
-use Rattle.marks.specs.Drafts.{half}
 use Rattle.spans.specs.Changes.{Wrote}
 use Rattle.spans.proofs.Places.{pairAt-below}
-use Rattle.chart.proofs.FillLaws.{closed}
 use Rattle.chart.proofs.close.Statement.{statement}
 use Rattle.chart.proofs.close.Tie as tie
 
-span-marks-requires : tie.Need-span-marks-requires
-span-marks-requires c κs = search needs
-
-inner-requires : tie.Need-inner-requires
-inner-requires c κs = search needs
+splits-requires : tie.Need-splits-requires
+splits-requires c κs = search needs
 
 slice-read-saturate : tie.Need-slice-read-saturate
 slice-read-saturate c =
-    let z = c .before .before .before .before .before .before in
-    omega (arith, z .pre .1 .0 .enough, pairAt-below (z .args .d .count) (z .args .start) (z .args .len) (z .pre .1 .0 .fits))
+    let z = c .before .before .before .before .before in
+    omega (arith, z .pre .0 .enough, pairAt-below (z .args .n) (z .args .start) (z .args .len) (z .pre .0 .fits))
 
 slice-read-saturate-2 : tie.Need-slice-read-saturate-2
 slice-read-saturate-2 c =
-    let z = c .before .before .before .before .before .before .before in
-    omega (arith, z .pre .1 .0 .enough, pairAt-below (z .args .d .count) (z .args .start) (z .args .len) (z .pre .1 .0 .fits))
+    let z = c .before .before .before .before .before .before in
+    omega (arith, z .pre .0 .enough, pairAt-below (z .args .n) (z .args .start) (z .args .len) (z .pre .0 .fits))
 
 saturate-requires : tie.Need-saturate-requires
 saturate-requires c κs = search needs
@@ -35,8 +29,8 @@ pair-at-requires c κs = search needs
 
 write-requires : tie.Need-write-requires
 write-requires c κs =
-    let z = c .before .before .before .before .before .before .before .before .before .before in
-    omega (arith, c .before .pair-at .ensures, pairAt-below (z .args .d .count) (z .args .start) (z .args .len) (z .pre .1 .0 .fits), z .pre .1 .0 .enough)
+    let z = c .before .before .before .before .before .before .before .before .before in
+    omega (arith, c .before .pair-at .ensures, pairAt-below (z .args .n) (z .args .start) (z .args .len) (z .pre .0 .fits), z .pre .0 .enough)
 
 same-length : tie.Need-same-length
 same-length c = search needs
@@ -46,20 +40,21 @@ returns c =
     let w = c .before .before in
     let p = w .before .before in
     let t = p .before in
-    let i = t .before .before .before in
-    let m = i .before .before in
-    let z = m .before .before .before in
-    let a = z .args in
-    closed (a .words .now) (w .write .last .0) (decoded (a .codes .now)) (half (a .d)) (a .d .count) (a .start) (a .len) (m .span-marks .result) (i .inner .result) (t .saturate .result)
-    (z .pre .1 .1 .0) (omega (arith, z .pre .0)) (z .pre .1 .0 .fits) (m .span-marks .ensures) (z .pre .1 .1 .1) (i .inner .ensures) (t .saturate .ensures)
-    (subst (λ (x : ℕ). Wrote (a .words .now) (w .write .last .0) x (t .saturate .result .one) (t .saturate .result .two)) (p .pair-at .ensures) (w .write .ensures))
+    let s = t .before .before .before in
+    let a = s .before .before .before .before .args in
+    record {
+      inner = s .splits .result;
+      last = t .saturate .result;
+      splits = s .splits .ensures;
+      saturated = t .saturate .ensures;
+      wrote = subst (λ (x : ℕ). Wrote (a .words .now) (w .write .last .0) x (t .saturate .result .one) (t .saturate .result .two)) (p .pair-at .ensures) (w .write .ensures);
+    }
 
 pub close-spec : {M : Type 1} → statement M
 close-spec =
     tie.close
     (tie.spec
-    span-marks-requires
-    inner-requires
+    splits-requires
     slice-read-saturate
     slice-read-saturate-2
     saturate-requires

@@ -1,25 +1,24 @@
--- The loop's invariant: the rows passed are settled. Once all are, the sheet is exact where it is known and covers the rest.
-use mathlib.Core.Path.{_≡_, _∙_, subst}
-use Prim.Native.Nat.{ℕ, _+_, _-_, _*_, _≤_, _<_}
+-- The loop's invariant: the spans that begin at `start` or past it are settled. Once all are, the sheet is exact where it is known and covers the rest.
+use mathlib.Core.Path.{_≡_, subst}
+use Prim.Native.Nat.{ℕ, _+_, _-_, _*_, _≤_}
 use native.Mathlib.Omega.{arith}
 use lib.ListN.{length-map}
 use Rattle.codes.specs.Codes.{decoded}
-use Rattle.grammar.specs.SpanSheet.{pairs}
 use Rattle.marks.specs.Drafts.{half}
 use Rattle.marks.proofs.DraftLaws.{drafted-length}
-use Rattle.spans.specs.Changes.{Past}
+use Rattle.grammar.specs.SpanSheet.{pairs}
 use Rattle.spans.proofs.ChangeLaws.{past-same, past-then}
-use Rattle.chart.specs.Filling.{Whole, Given, Filled}
+use Rattle.chart.specs.Filling.{Whole, Filled, Grown}
 use Rattle.chart.proofs.FillLaws.{given-same, given-then}
 use Rattle.chart.proofs.SheetLaws.{begun, charted}
 use Rattle.chart.proofs.fill.Statement.{statement}
 use Rattle.chart.proofs.fill.Tie as tie
 
 abbrev Inv-loop : tie.InvT-loop
-Inv-loop words₀ d codes from to n len₀ words len = (0 < len) × (len ≤ d .count + 1) × Past (2 * pairs (d .count)) words₀ words × Given words₀ words (d .count) (d .known) × Filled words (decoded codes) (half d) (d .count) from to 0 len
+Inv-loop words₀ d codes from to start₀ words start = (start ≤ d .count) × Grown words₀ words (decoded codes) (half d) (d .count) from start
 
 abbrev μ-loop : tie.MeasureT-loop
-μ-loop words₀ d codes from to n len₀ words len = d .count + 1 - len
+μ-loop words₀ d codes from to start₀ words start = start
 
 -- the array of tokens has 64 places
 whole : (c : tie.Start Inv-loop μ-loop) → Whole (c .args .d)
@@ -31,28 +30,40 @@ loop-holds c =
     let z = c .before .before in
     let a = z .args in
     let w = whole z in
-    (omega arith, omega arith, past-same _ _, given-same _ _ _, begun (a .words .now) (decoded (a .codes .now)) (half (a .d)) (a .d .count) (a .from) (a .to) (z .pre .1 .1 .0) (omega (arith, w .long, w .inner)) (z .pre .1 .1 .1))
+    let r = z .pre .1 .1 .1 in
+    (r .within, record { filled = begun (a .words .now) (decoded (a .codes .now)) (half (a .d)) (a .d .count) (a .from) (a .to) (z .pre .1 .1 .0) (omega (arith, w .long, w .inner)) r; given = given-same _ _; past = past-same _ _ })
 
-fill-row-requires : tie.Need-fill-row-requires Inv-loop μ-loop
-fill-row-requires c κs =
-    let z = c .before .before .before .before .before in
-    let l = c .before .before .loop in
-    (whole z, (record { few = z .pre .0 .0; fits = omega (arith, c .before .loop-test .taken); enough = omega (arith, l .inv .2 .long, z .pre .1 .0) }, (z .pre .1 .1 .0, (l .inv .0, z .pre .1 .1 .1 .low, z .pre .1 .1 .1 .high, l .inv .4))))
+sub-start : tie.Need-sub-start Inv-loop μ-loop
+sub-start c = omega (arith, c .loop-test .taken)
 
-add-len : tie.Need-add-len Inv-loop μ-loop
-add-len c = omega (arith, c .before .before .before .before .before .loop .inv .1, c .before .before .before .before .before .before .before .before .pre .0 .0)
+fill-start-requires : tie.Need-fill-start-requires Inv-loop μ-loop
+fill-start-requires c κs =
+    let i = c .before in
+    let l = i .before .loop in
+    let z = i .before .before .before .before in
+    let a = z .args in
+    let e : l .start ≡ l .start - 1 + 1 = omega (arith, i .loop-test .taken) in (
+      (whole z, omega (arith, i .loop-test .taken, l .inv .0)),
+      (
+        omega (arith, l .inv .1 .past .long, z .pre .1 .0),
+        (
+          z .pre .1 .1 .0,
+          subst (λ (s : ℕ). Filled (l .words) (decoded (a .codes .now)) (half (a .d)) (a .d .count) (a .from) s (a .d .count + 1)) e (l .inv .1 .filled),
+        ),
+      ),
+    )
 
 loop-less : tie.Need-loop-less Inv-loop μ-loop
 loop-less c = omega (arith, c .before .before .before .before .loop-test .taken)
 
 loop-again : tie.Need-loop-again Inv-loop μ-loop
 loop-again c =
-    let l = c .before .before .before .before .before .loop in
-    let f = c .before .before .fill-row .ensures in
-    (omega arith, omega (arith, c .before .before .before .before .loop-test .taken), past-then (l .inv .2) (f .past), given-then (l .inv .3) (f .given), f .filled)
+    let l = c .before .before .before .before .before .loop .inv in
+    let f = c .before .before .fill-start .ensures in
+    (omega (arith, l .0), record { filled = f .filled; given = given-then (l .1 .given) (f .given); past = past-then (l .1 .past) (f .past) })
 
 same-length : tie.Need-same-length Inv-loop μ-loop
-same-length c = c .before .loop .inv .2 .long
+same-length c = c .before .loop .inv .1 .past .long
 
 returns : tie.Need-returns Inv-loop μ-loop
 returns c =
@@ -60,9 +71,9 @@ returns c =
     let a = z .args in
     let l = c .before .loop in
     let w = whole z in
-    let e : l .len ≡ a .d .count + 1 = omega (arith, l .inv .1, c .loop-test .left) in
-    charted (a .words .now) (l .words) (decoded (a .codes .now)) (half (a .d)) (a .d .count) (w .long) (w .inner) (a .from) (a .to)
-    (record { filled = subst (Filled (l .words) (decoded (a .codes .now)) (half (a .d)) (a .d .count) (a .from) (a .to) 0) e (l .inv .4); given = l .inv .3; past = l .inv .2 })
+    let e : l .start ≡ 0 = omega (arith, c .loop-test .left) in
+    charted (a .words .now) (l .words) (decoded (a .codes .now)) (half (a .d)) (a .d .count) (w .long) (w .inner) (a .from)
+    (subst (Grown (a .words .now) (l .words) (decoded (a .codes .now)) (half (a .d)) (a .d .count) (a .from)) e (l .inv .1))
 
 pub fill-spec : {M : Type 1} → statement M
 fill-spec =
@@ -71,8 +82,8 @@ fill-spec =
     Inv-loop
     μ-loop
     loop-holds
-    fill-row-requires
-    add-len
+    sub-start
+    fill-start-requires
     loop-less
     loop-again
     same-length

@@ -1,27 +1,34 @@
--- The empty word first, then the rest.
+-- Single tokens first, then the rest.
 use borrow.Author.Needs.{needs}
+use mathlib.Core.Path.{subst}
 use native.Mathlib.Omega.{arith}
 use Rattle.codes.specs.Codes.{decoded}
-use Rattle.marks.specs.Drafts.{half, drafted}
-use Rattle.chart.proofs.SheetLaws.{ready-whole, charted-over, pairs-low}
+use Rattle.marks.specs.Drafts.{drafted}
+use Rattle.spans.proofs.ChangeLaws.{past-then}
+use Rattle.chart.specs.Sheets.{Exact}
+use Rattle.chart.proofs.SheetLaws.{begun-ready}
 use Rattle.chart.proofs.fill_all.Statement.{statement}
 use Rattle.chart.proofs.fill_all.Tie as tie
 
-fill-empty-requires : tie.Need-fill-empty-requires
-fill-empty-requires c κs = let z = c .before .before .before in (omega (arith, z .pre .1 .0, pairs-low (z .args .d .count)), z .pre .1 .1)
+fill-leaves-requires : tie.Need-fill-leaves-requires
+fill-leaves-requires c κs = search needs
 
 fill-requires : tie.Need-fill-requires
 fill-requires c κs =
     let z = c .before .before .before .before .before .before .before in
-    let e = c .before .before .before .fill-empty .ensures in
-    let n = z .args .d .count in
-    (z .pre .0, (omega (arith, z .pre .1 .0, e .past .long), (z .pre .1 .1, ready-whole (decoded (z .args .codes .now)) (half (z .args .d)) n (c .before .before .before .fill-empty .last .0) (z .pre .0 .1) (e .exact (drafted (z .args .d)) n))))
+    let b = c .before .before .before .fill-leaves .ensures in
+    ((z .pre .0 .0, omega (arith, z .pre .0 .1)), (omega (arith, z .pre .1 .0, b .past .long), (z .pre .1 .1, begun-ready (z .pre .0 .1) b)))
 
 same-length : tie.Need-same-length
 same-length c = search needs
 
 returns : tie.Need-returns
-returns c = charted-over (c .before .before .before .before .before .before .fill-empty .ensures) (c .before .before .fill .ensures)
+returns c =
+    let b = c .before .before .before .before .before .before in
+    let z = b .before .before .before .before in
+    let f = c .before .before .fill in
+    let d = z .args .d in
+    (subst (Exact (decoded (z .args .codes .now)) (drafted d) (d .count) (f .last .0)) (z .pre .0 .1) (f .ensures .exact), past-then (b .fill-leaves .ensures .past) (f .ensures .past))
 
 pub fill-all-spec : {M : Type 1} → statement M
-fill-all-spec = tie.close (tie.spec fill-empty-requires fill-requires same-length returns)
+fill-all-spec = tie.close (tie.spec fill-leaves-requires fill-requires same-length returns)

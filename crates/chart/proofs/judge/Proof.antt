@@ -1,7 +1,7 @@
 -- The verdict is read off the pair of the whole sentence.
 use borrow.Author.Needs.{needs}
 use borrow.Author.Tests.{not-true, not-false}
-use mathlib.Core.Path.{_≡_, sym}
+use mathlib.Core.Path.{_≡_, refl, sym}
 use native.Mathlib.Omega.{arith}
 use lib.ListN.{length, length-map}
 use lib.Seq.{length-take-le}
@@ -28,7 +28,7 @@ slice-aggregate-fill-all c = sym (c .before .before .ordered .ensures .1)
 fill-all-requires : tie.Need-fill-all-requires
 fill-all-requires c κs =
     let z = c .before .before .before .before .before in
-    ((z .pre .0, omega arith), (z .pre .1 .0, c .before .before .ordered .ensures .0 .distinct (z .pre .1 .1 .distinct)))
+    ((z .pre .0, refl), (z .pre .1 .0, c .before .before .ordered .ensures .0 .distinct (z .pre .1 .1 .distinct)))
 
 in-first-requires : tie.Need-in-first-requires
 in-first-requires c κs = search needs
@@ -41,7 +41,7 @@ returns c =
     let z = c .before .before .before .before .before .before .before .before .before .before .before in
     let e = whole z in
     let f = c .before .before .before .before .before in
-    judged-over (f .before .before .before .ordered .ensures .0) (judged e (z .pre .1 .0) (f .fill-all .ensures) (reads-none e (f .fill-all .ensures .exact) (c .before .in-first .ensures .isnt (not-true _ (c .if1 .taken)))))
+    judged-over (f .before .before .before .ordered .ensures .0) (judged e (z .pre .1 .0) (f .fill-all .ensures .0) (f .fill-all .ensures .1) (reads-none e (f .fill-all .ensures .0) (c .before .in-first .ensures .isnt (not-true _ (c .if1 .taken)))))
 
 in-second-requires : tie.Need-in-second-requires
 in-second-requires c κs = search needs
@@ -54,7 +54,7 @@ returns-2 c =
     let z = c .before .before .before .before .before .before .before .before .before .before .before .before .before .before in
     let e = whole z in
     let f = c .before .before .before .before .before .before .before .before in
-    judged-over (f .before .before .before .ordered .ensures .0) (judged e (z .pre .1 .0) (f .fill-all .ensures) (reads-two e (f .fill-all .ensures .exact) (c .before .in-second .ensures .is (c .if2 .taken))))
+    judged-over (f .before .before .before .ordered .ensures .0) (judged e (z .pre .1 .0) (f .fill-all .ensures .0) (f .fill-all .ensures .1) (reads-two e (f .fill-all .ensures .0) (c .before .in-second .ensures .is (c .if2 .taken))))
 
 same-length-3 : tie.Need-same-length-3
 same-length-3 c = search needs
@@ -65,7 +65,7 @@ returns-3 c =
     let e = whole z in
     let f = c .before .before .before .before .before .before .before .before in
     judged-over (f .before .before .before .ordered .ensures .0)
-    (judged e (z .pre .1 .0) (f .fill-all .ensures) (reads-one e (f .fill-all .ensures .exact) (c .before .before .before .before .in-first .ensures .is (not-false _ (c .before .before .before .if1 .left))) (c .before .in-second .ensures .isnt (c .if2 .left))))
+    (judged e (z .pre .1 .0) (f .fill-all .ensures .0) (f .fill-all .ensures .1) (reads-one e (f .fill-all .ensures .0) (c .before .before .before .before .in-first .ensures .is (not-false _ (c .before .before .before .if1 .left))) (c .before .in-second .ensures .isnt (c .if2 .left))))
 
 pub judge-spec : {M : Type 1} → statement M
 judge-spec =

@@ -6,14 +6,14 @@ use native.Mathlib.Omega.{arith}
 use Rattle.grammar.specs.declared.Token.{Token}
 use Rattle.grammar.specs.Layout.{Keeps, Pairs}
 use Rattle.marks.specs.Drafts.{half}
-use Rattle.marks.specs.Marked.{Joined, Marked}
+use Rattle.marks.specs.Marked.{Carried, Marked}
 use Rattle.marks.proofs.DraftLaws.{drafted-at}
-use Rattle.marks.proofs.Joining.{SoFar, so-far-first, NextJoined, so-far-more, so-far-all, no-tokens}
+use Rattle.marks.proofs.Joining.{carried-first, carried-more, carried-all, next-joined, no-tokens}
 use Rattle.marks.proofs.span_marks.Statement.{statement}
 use Rattle.marks.proofs.span_marks.Tie as tie
 
 abbrev Inv-loop : tie.InvT-loop
-Inv-loop start len d known a k₀ left₀ k left = (0 < left) × (left ≤ len) × SoFar (half d) start len left k
+Inv-loop start len d known a k₀ left₀ k left = (0 < left) × (left ≤ len) × Carried (half d) start left k
 
 abbrev μ-loop : tie.MeasureT-loop
 μ-loop start len d known a k₀ left₀ k left = len - left
@@ -40,8 +40,8 @@ loop-holds c =
     let z = c .before .before .before .args in (
       omega arith,
       omega (arith, c .before .before .if1 .left),
-      subst (SoFar (half (z .t1)) (z .start) (z .len) 1) (sym (c .first-marks2 .ensures))
-          (so-far-first _ _ _ _ (ap (λ (t : Token). t .terminal) (sym (drafted-at (z .t1) (z .start) (omega arith))))),
+      subst (Carried (half (z .t1)) (z .start) 1) (sym (c .first-marks2 .ensures))
+          (carried-first _ _ _ (ap (λ (t : Token). t .terminal) (sym (drafted-at (z .t1) (z .start) (omega arith))))),
     )
 
 add-at : tie.Need-add-at Inv-loop μ-loop
@@ -65,19 +65,6 @@ element-copy-out-t c = omega arith
 with-next-requires : tie.Need-with-next-requires Inv-loop μ-loop
 with-next-requires c κs = omega arith
 
--- what is asked of the three tokens is asked of the draft
-joined : (c : tie.After-with-next Inv-loop μ-loop) →
-    let z = c .before .before .before .before .before .before .before .before .args in
-    let l = c .before .before .before .before .loop in
-    NextJoined (half (z .t1)) (z .start) (l .left) (l .k) (c .with-next .result)
-joined c =
-    let z = c .before .before .before .before .before .before .before .before .args in
-    let s = z .start in
-    let d = z .t1 in
-    let l = c .before .before .before .before .loop .left in
-    subst₃ (λ (x y t : Token). Joined (c .before .before .before .before .loop .k) l (λ m. s + l < d .known → Keeps m x t) (λ m. s + l < d .known → Pairs m x y t) (c .with-next .result))
-    (sym (drafted-at d s (omega arith))) (sym (drafted-at d (s + l - 1) (omega arith))) (sym (drafted-at d (s + l) (omega arith))) (c .with-next .ensures)
-
 add-left : tie.Need-add-left Inv-loop μ-loop
 add-left c = omega arith
 
@@ -87,13 +74,13 @@ loop-less c = omega arith
 loop-again : tie.Need-loop-again Inv-loop μ-loop
 loop-again c =
     let i = c .before .before .before .before .loop .inv in
-    (omega arith, omega arith, so-far-more _ _ _ _ _ _ (i .0) (c .before .before .before .loop-test .taken) (i .2) (joined c))
+    (omega arith, omega arith, carried-more _ _ _ _ _ (i .0) (i .2) (next-joined (c .before .before .before .before .before .before .before .before .args .t1) _ _ _ _ (omega arith) (c .with-next .ensures)))
 
 returns-2 : tie.Need-returns-2 Inv-loop μ-loop
 returns-2 c =
     let z = c .before .before .before .before .before .args in
     let l = c .before .loop in
-    so-far-all _ _ _ _ (subst (λ (x : ℕ). SoFar (half (z .t1)) (z .start) (z .len) x (l .k)) (omega (arith, c .loop-test .left)) (l .inv .2))
+    carried-all _ _ _ _ (subst (λ (x : ℕ). Carried (half (z .t1)) (z .start) x (l .k)) (omega (arith, c .loop-test .left)) (l .inv .2))
 
 pub span-marks-spec : {M : Type 1} → statement M
 span-marks-spec =

@@ -2,7 +2,6 @@
 use borrow.Author.Needs.{needs}
 use native.Mathlib.Omega.{arith}
 use Rattle.spans.proofs.ChangeLaws.{past-same}
-use Rattle.candidates.proofs.Spelling.{low-steps}
 use Rattle.sweeping.proofs.Looking.{looked-stale, looked-refuted, looked-whole}
 use Rattle.sweeping.proofs.look.Statement.{statement}
 use Rattle.sweeping.proofs.look.Tie as tie
@@ -16,7 +15,7 @@ returns c = (looked-stale (c .before .stale .ensures (c .if1 .taken)), past-same
 has-two-requires : tie.Need-has-two-requires
 has-two-requires c κs =
     let z = c .before .before .before .before .before .before .before in
-    ((z .pre .0 .0, low-steps (z .pre .0 .2)), (z .pre .1 .0, z .pre .1 .1 .0))
+    ((z .pre .0 .0, z .pre .0 .2), z .pre .1)
 
 same-length : tie.Need-same-length
 same-length c = search needs
@@ -27,9 +26,7 @@ returns-2 c =
     (looked-whole (c .before .before .before .before .if2 .taken) (h .0), h .1)
 
 refutes-requires : tie.Need-refutes-requires
-refutes-requires c κs =
-    let z = c .before .before .before .before .before .before .before in
-    ((z .pre .0 .0, z .pre .0 .1, low-steps (z .pre .0 .2)), z .pre .1)
+refutes-requires c κs = c .before .before .before .before .before .before .before .pre
 
 same-length-2 : tie.Need-same-length-2
 same-length-2 c = search needs

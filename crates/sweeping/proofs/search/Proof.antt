@@ -19,16 +19,16 @@ use Rattle.sweeping.proofs.search.Statement.{statement}
 use Rattle.sweeping.proofs.search.Tie as tie
 
 abbrev Inv-loop : tie.InvT-loop
-Inv-loop codes set table one two low k words₀ n c₀ b₀ words c b = Turn (decoded codes) set n b (cells c 0 n) × Past (2 * pairs k) words₀ words
+Inv-loop codes set table low k words₀ n c₀ b₀ words c b = Turn (decoded codes) set n b (cells c 0 n) × Past (2 * pairs k) words₀ words
 
 abbrev μ-loop : tie.MeasureT-loop
-μ-loop codes set table one two low k words₀ n c₀ b₀ words c b = left (cells c 0 n) * 8 + (n - b)
+μ-loop codes set table low k words₀ n c₀ b₀ words c b = left (cells c 0 n) * 8 + (n - b)
 
 abbrev Inv-search : tie.InvT-search
-Inv-search codes set table one two low k words₀ n₀ words n = (1 ≤ n) × (n ≤ k + 1) × NoneShorter (decoded codes) set n × Past (2 * pairs k) words₀ words
+Inv-search codes set table low k words₀ n₀ words n = (1 ≤ n) × (n ≤ k + 1) × NoneShorter (decoded codes) set n × Past (2 * pairs k) words₀ words
 
 abbrev μ-search : tie.MeasureT-search
-μ-search codes set table one two low k words₀ n₀ words n = k + 1 - n
+μ-search codes set table low k words₀ n₀ words n = k + 1 - n
 
 search-holds : tie.Need-search-holds Inv-loop μ-loop Inv-search μ-search
 search-holds c = (omega arith, omega arith, none-yet, past-same _ _)
@@ -50,7 +50,7 @@ small c = omega (arith, c .before .before .if1 .left, c .before .before .before 
 
 -- what the looks of this length have changed
 changed : (c : tie.After-look Inv-loop μ-loop Inv-search μ-search)
-    → Past (2 * pairs (c .before .before .before .before .before .before .before .before .before .args .k)) (c .before .before .before .before .before .search .words) (c .look .last .1 .1 .1 .1 .1 .1 .1 .1 .0)
+    → Past (2 * pairs (c .before .before .before .before .before .before .before .before .before .args .k)) (c .before .before .before .before .before .search .words) (c .look .last .1 .1 .1 .1 .1 .1 .0)
 changed c = let l = c .before .before in past-then (l .loop .inv .1) (past-longer _ (l .before .before .if1 .left) (c .look .ensures .1))
 
 look-requires : tie.Need-look-requires Inv-loop μ-loop Inv-search μ-search
