@@ -7,7 +7,9 @@ fn main() {
     }
     let bench = std::env::var("CARGO_MANIFEST_DIR").expect("set by cargo");
     let folder = format!("{bench}/../target/staticlib");
-    println!("cargo:rerun-if-changed={folder}/libface.a");
     println!("cargo:rustc-link-search=native={folder}");
-    println!("cargo:rustc-link-lib=static=face");
+    for name in ["face", "face_trees"] {
+        println!("cargo:rerun-if-changed={folder}/lib{name}.a");
+        println!("cargo:rustc-link-lib=static={name}");
+    }
 }

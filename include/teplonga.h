@@ -101,7 +101,7 @@ enum {
      * tokens as the bound) */
     TEPLONGA_FEW_WORDS = 121,
     /* 22, lent tree rows: a tree of the answer has more rows than its memory has whole places of
-     * four bytes (`check` lends 4,096) */
+     * four bytes (`check` lends 4,096), or a list does not fit into the bytes lent for it */
     TEPLONGA_FEW_ROWS = 122,
     /* end of what scripts/refusals.py makes */
     TEPLONGA_REFUSED = 100
@@ -117,6 +117,9 @@ enum {
 
 /* The bytes of a tree row: nonterminal, kind (0 E, 1 A, 2 U, 3 B), start, length. */
 #define TEPLONGA_ROW 4
+
+/* The bytes of a place in a list: nonterminal, start, length. */
+#define TEPLONGA_PLACE 3
 
 /* The places of `counts`: the row counts of the first and the second tree. */
 #define TEPLONGA_COUNTS 2
@@ -170,6 +173,24 @@ uint64_t teplonga_rows(const uint8_t *rules, size_t rules_length,
                        const uint8_t *tokens, size_t tokens_length,
                        uint64_t *words, size_t words_length,
                        uint64_t *counts, size_t counts_length);
+
+/*
+ * The verdict and all places at which the readings of the sentence part: none, one or two, or
+ * refused 1 to 8, 44, 11 to 15, 47, 21 or 22.
+ *
+ * A place is three bytes: nonterminal, start, length; an empty word has start 0. The places stand
+ * at the front of `list`, longest word first, then by start, then by nonterminal, and all bytes
+ * after them are 0; on `none` and `one` there are none. `words` are as after the verdict. Every
+ * refusal but 22 changes neither words nor `list`. 22 says that the list does not fit: it leaves the
+ * span sheet filled and all of `list` 0.
+ *
+ * `count` gets the number of places, 0 on a refusal; words past it never change.
+ */
+uint64_t teplonga_places(const uint8_t *rules, size_t rules_length,
+                         const uint8_t *tokens, size_t tokens_length,
+                         uint64_t *words, size_t words_length,
+                         uint8_t *list, size_t list_length,
+                         uint64_t *count, size_t count_length);
 
 /*
  * The sweep: two, where a sentence of 1 to `bound` tokens has two trees, or clear, or refused 1 to

@@ -6,7 +6,7 @@
 STDIN: each case is a header of 6 bytes (its length in five digits, byte 10),
 then 26 bytes: the call's letter, user, rule and the lengths of the first two
 parts in five digits each, parted by blanks, and byte 10; then three parts.
-The next case follows at once.  The letters are `r` rows.
+The next case follows at once.  The letters are `r` rows, `p` places.
 
 STDOUT: for each case the whole output of the program `calls`.
 
@@ -17,6 +17,7 @@ was meant to be; then nothing is written.
 import sys
 from pathlib import Path
 
+import places
 import rows
 import tree_cases
 from make_programs import differs, framed
@@ -24,8 +25,10 @@ from make_programs import differs, framed
 
 def output(case):
     call, user, rule, parts = case
-    assert call == "rows"
-    return rows.rows_output(*parts)
+    if call == "rows":
+        return rows.rows_output(*parts)
+    assert call == "places"
+    return places.places_output(*parts)
 
 
 def written(case):

@@ -1,4 +1,4 @@
-"""Cases for the calls about one sentence's trees: `rows`.
+"""Cases for the calls about one sentence's trees: `rows`, `places`.
 
 `cases()` yields (call, user, rule, parts) in a fixed order; a call takes what
 it needs of them.  First come those of `meant()`, made by hand, each with how
@@ -18,6 +18,11 @@ def case(call, *parts, user=0, rule=0):
 def rows(text):
     """`rows` of an input as `check` has it."""
     return case("rows", *base.parted(text))
+
+
+def places(text):
+    """`places` of an input as `check` has it."""
+    return case("places", *base.parted(text))
 
 
 # -------------------------------------------------------------- request 6: rows
@@ -104,17 +109,114 @@ def refused_rows():
         yield answer + "\n", rows(text)
 
 
+# ----------------------------------------------------------- request 11: places
+
+def listed(*entries):
+    lines = "".join("%d %d %d\n" % entry for entry in entries)
+    return f"two 0\nleft start length\n{lines}"
+
+
+def few_places():
+    # None and one list nothing, whatever has two trees elsewhere.
+    yield "none 0\n", places(check("0 A 0 - none"))
+    yield "one 0\n", places(check(checks.PLAIN, *row(2)))
+    yield "none 0\n", places(check(checks.P9, (1, 1), (2, 2)))
+    unreached = "0 A 0 - none / 1 U 2 - none / 1 A 0 - none / 2 A 0 - none"
+    yield "one 0\n", places(check(unreached, (1, 1)))
+    # Longest first, then by start, then by nonterminal.
+    yield listed((0, 0, 3)), places(check(checks.PLAIN, *row(3)))
+    yield listed((0, 0, 4), (0, 0, 3), (0, 1, 3)), places(check(checks.PLAIN, *row(4)))
+    both = "0 B 9 9 none / 9 A 0 - none / 9 U 2 - none / 2 A 0 - none"
+    yield listed((9, 0, 1), (9, 1, 1)), places(check(both, *row(2)))
+    names = "0 U 5 - none / 0 U 3 - none / 5 A 0 - none / 5 U 7 - none / 3 A 0 - none / 3 U 7 - none / 7 A 0 - none"
+    yield listed((0, 0, 1), (3, 0, 1), (5, 0, 1)), places(check(names, (1, 1)))
+    # Its only choice has a child that is a place: not a place itself.
+    only = "0 U 1 - none / 1 A 0 - none / 1 U 2 - none / 2 A 0 - none"
+    yield listed((1, 0, 1)), places(check(only, (1, 1)))
+    # A choice that neither tree takes leads to a place too.
+    third = "0 U 1 - none / 0 U 2 - none / 0 U 3 - none / 1 A 0 - none / 2 A 0 - none / 3 A 0 - none / 3 U 4 - none / 4 A 0 - none"
+    yield listed((0, 0, 1), (3, 0, 1)), places(check(third, (1, 1)))
+    # Two trees of a part, which the start reaches or not.
+    part = "0 B 1 2 none / 1 U 3 - none / 1 A 0 - none / 3 A 0 - none / 2 A 1 - none"
+    yield "none 0\n", places(check(part, (0, 1, 1), (0, 1, 2)))
+    yield listed((1, 0, 1)), places(check(part, (0, 1, 1), (1, 1, 2)))
+    # A mark takes a choice away in one place and not in another.
+    marked = "0 B 1 1 none / 1 B 2 2 none / 1 U 3 - none / 2 A 0 - none / 3 B 2 2 align"
+    yield listed((1, 2, 2)), places(check(marked, (1, 1), (2, 2), (3, 1), (4, 1)))
+    # Terminals in ranges: one rule, one choice.
+    ranged = "0 A 0 9 none / 0 U 1 - none / 1 A 5 7 none"
+    yield "one 0\n", places(check(ranged, (3, 1, 1)))
+    yield listed((0, 0, 1)), places(check(ranged, (6, 1, 1)))
+
+
+def empty_places():
+    """An empty word is one place a nonterminal, start 0, at the list's end."""
+    empties = "2 E - - none / 2 U 3 - none / 3 E - - none"
+    yield listed((2, 0, 0)), places(check(f"0 B 1 2 none / 1 A 0 - none / {empties}", (1, 1)))
+    around = f"0 B 2 4 none / 4 B 1 5 none / 5 B 2 6 none / 6 B 1 2 none / 1 A 0 - none / {empties}"
+    yield listed((2, 0, 0)), places(check(around, *row(2)))
+    yield listed((0, 0, 0)), places(check(checks.P5))
+    several = "0 B 2 1 none / 1 U 2 - none / 1 E - - none / 2 E - - none / 2 U 3 - none / 3 E - - none"
+    yield listed((1, 0, 0), (2, 0, 0)), places(check(several))
+    mixed = f"0 B 1 1 none / 1 B 2 7 none / 1 U 7 - none / 7 A 0 - none / {empties}"
+    yield listed((1, 0, 1), (1, 1, 1), (2, 0, 0)), places(check(mixed, *row(2)))
+    for count, answer in enumerate(("one 0\n", listed((0, 0, 1)), "one 0\n", "none 0\n")):
+        yield answer, places(check(checks.P4, *row(count)))
+
+
+def layers(count):
+    """Nonterminals 0 to count, each over all words; the last over single tokens."""
+    lines = [f"{name} B {name} {name} none / {name} U {name + 1} - none" for name in range(count)]
+    return " / ".join([*lines, f"{count} B {count} {count} none / {count} A 0 9 none"])
+
+
+def many_places():
+    """About 16,384: over 64 tokens, seven layers have 2,016 places each and the last 1,953."""
+    row64 = [(0, 1, col) for col in range(1, 65)]
+    yield listed((0, 0, 64)), places(check(layers(7), *row64))
+    yield "refused-22 0\n", places(check(layers(8), *row64))
+    # The last tokens have other terminals, of which a few more nonterminals are made: (n - 1)^2
+    # places for n tokens, and 18 of nonterminal 0 over single tokens.
+    terms = [0] * 46 + [1] * 14 + [2] * 2 + [3] * 2
+    tail = [(term, 1, col) for col, term in enumerate(terms, start=1)]
+
+    def more(name, low):
+        over = f"{name} B {name} {name} none / {name} U {name + 1} - none"
+        return f"0 U {name} - none / {over} / {name + 1} B {name + 1} {name + 1} none / {name + 1} A {low} 9 none"
+
+    upper = [more(20, 1), more(30, 2), more(40, 3), more(42, 3), more(44, 3)]
+    full = " / ".join([layers(7), *upper])
+    yield listed((0, 0, 64)), places(check(full, *tail))
+    yield "refused-22 0\n", places(check(f"{full} / {more(46, 3)}", *tail))
+
+
+def refused_places():
+    for number, (answer, text) in enumerate(checks.refused_sheets()):
+        if number % 3 == 0:
+            yield answer + "\n", places(text)
+
+
 def meant():
     """(how the output goes on, or None; case)"""
-    for made in (few_rows(), about_the_most(), far_more_rows(), refused_rows()):
+    for made in (
+        few_rows(),
+        about_the_most(),
+        far_more_rows(),
+        refused_rows(),
+        few_places(),
+        empty_places(),
+        many_places(),
+        refused_places(),
+    ):
         yield from made
 
 
 def cases():
     for _, each in meant():
         yield each
-    for text in checks.damaged_inputs(40):
-        if base.parted(text) is not None:
-            yield rows(text)
-    for text in checks.random_inputs(100):
-        yield rows(text)
+    for call in (rows, places):
+        for text in checks.damaged_inputs(40):
+            if base.parted(text) is not None:
+                yield call(text)
+        for text in checks.random_inputs(100):
+            yield call(text)

@@ -7,6 +7,7 @@ import random
 import time
 from collections import Counter
 
+import places
 import rows
 import selftest
 import teplonga as base
@@ -61,13 +62,51 @@ def told():
         same("told", rows.told(count), wanted)
 
 
+# ----------------------------------------------------------- request 11: places
+
+def nodes(tree, begin=0):
+    """(nonterminal, start, length) of each node; an empty word has start 0."""
+    length = selftest.length_of(tree)
+    yield (tree[1], begin if length else 0, length)
+    if tree[0] in ("unary", "binary"):
+        for child in tree[2:]:
+            yield from nodes(child, begin)
+            begin += selftest.length_of(child)
+
+
+def places_of_sentence(rules, sheets, tokens, table):
+    """"A place is listed exactly if some whole valid tree of the sentence contains that
+    nonterminal over that word and it has two or more choices there." """
+    whole = table.get((0, 0, len(tokens)), set())
+    contained = {node for tree in whole for node in nodes(tree)}
+    several = []
+    for nonterminal, start, length in contained:
+        there = table[nonterminal, start, start + length]
+        if len({selftest.top_choice(rules, tree) for tree in there}) >= 2:
+            several.append((nonterminal, start, length))
+    several.sort(key=lambda place: (-place[2], place[1], place[0]))
+    words = [9] * base.words_needed(len(tokens))
+    answer, line, after = base.verdict_call(*sheets, words)
+    same("no place", len(several) == 0, answer != "two")
+    made = b"".join(map(bytes, several))
+    for spare in (0, 2, 7):
+        got = places.places_call(*sheets, words, b"\x05" * (len(made) + spare))
+        same("places", got, (answer, line, len(several), after, made + bytes(spare)))
+    if several:
+        got = places.places_call(*sheets, words, b"\x05" * (len(made) - 1))
+        same("places", got, ("refused-22", 0, 0, after, bytes(len(made) - 1)))
+    short, lent = words[:-1], b"\x05" * 9
+    same("places", places.places_call(*sheets, short, lent), ("refused-21", 0, 0, short, lent))
+
+
 def main():
     begun = time.time()
     told()
     seen = Counter()
-    for rules, sheets, tokens, table in sentences(600):
+    for rules, sheets, tokens, table in sentences(1_500):
         seen[rows_of_sentence(rules, sheets, tokens, table)] += 1
         later_call(sheets, [0] * base.words_needed(len(tokens)))
+        places_of_sentence(rules, sheets, tokens, table)
     for topic, count in CHECKED.items():
         print(f"{topic}: {count}")
     print("sentences:", ", ".join(f"{name} {count}" for name, count in seen.items()))

@@ -1,17 +1,18 @@
 //! Prints the tables of the benchmark: `bench [LETTERS] [SECONDS]`. The letters
-//! choose among the tables a to e; the seconds bound the search of table e.
+//! choose among the tables a to f; the seconds bound the search of table e.
 
 mod calls;
 mod growth;
 mod search;
 mod tables;
+mod trees;
 mod worst;
 
 /// How long the search of table e may take where no argument says so.
 const SEARCH_SECONDS: f64 = 90.0;
 
 fn main() {
-    let mut letters = "abcde".to_string();
+    let mut letters = "abcdef".to_string();
     let mut seconds = SEARCH_SECONDS;
     for argument in std::env::args().skip(1) {
         match argument.parse() {
@@ -33,6 +34,7 @@ fn main() {
                 worst::estimates();
                 search::search(seconds);
             }
+            'f' => trees::trees(),
             _ => eprintln!("no table {letter}"),
         }
     }

@@ -9,6 +9,7 @@
 //! | [`verdict`] | none, one or two valid trees of a sentence |
 //! | [`trees`] | besides, the rows of the first and the second tree |
 //! | [`rows`] | the verdict, and how many rows each tree has |
+//! | [`places`] | the verdict, and all places at which the readings part |
 //! | [`sweep`] | the first short sentence that has two trees, or clear |
 //! | [`refused_line`] | the refused line itself, as a part of its sheet |
 //!
@@ -38,12 +39,14 @@ mod answer;
 mod c;
 #[allow(unsafe_code)]
 mod c_trees;
+mod place;
 mod refusal;
 mod row_count;
 mod sentence;
 mod tree;
 
 pub use answer::{Answer, Reply};
+pub use place::{Place, Places, PlacesReply, PLACE};
 pub use refusal::{Refusal, Refused};
 pub use row_count::{RowCount, RowsReply};
 pub use sentence::{Column, Line, SweepReply, Token};
@@ -141,6 +144,33 @@ pub fn trees<'a>(
 pub fn rows(rules: &[u8], tokens: &[u8], words: &mut [u64]) -> RowsReply {
     let (word, counts) = c_trees::rows(rules, tokens, words);
     RowsReply::unpacked(word, counts)
+}
+
+/// The verdict, and the list of every nonterminal and word at which a whole
+/// tree has two choices or more.
+///
+/// A place takes [`PLACE`] bytes of `list`; the bytes after the places are 0
+/// after an accepted call. A list that does not fit is refused-22: the span
+/// sheet is filled, all of `list` is 0.
+///
+/// ```
+/// use teplonga::{places, words_for, Place};
+///
+/// let rules = b"left kind first second lay\n0 B 0 0 none\n0 A 0 - none\n";
+/// let tokens = b"term line col\n0 1 1\n0 1 2\n0 1 3\n";
+/// let mut list = [0; 3 * 16];
+/// let reply = places(rules, tokens, &mut vec![0; words_for(3)], &mut list);
+/// let whole = Place { nonterminal: 0, start: 0, length: 3 };
+/// assert_eq!(reply.places.collect::<Vec<Place>>(), [whole]);
+/// ```
+pub fn places<'a>(
+    rules: &[u8],
+    tokens: &[u8],
+    words: &mut [u64],
+    list: &'a mut [u8],
+) -> PlacesReply<'a> {
+    let (word, count) = c_trees::places(rules, tokens, words, list);
+    PlacesReply::unpacked(word, count, list)
 }
 
 /// The first candidate of 1 to `bound` tokens that has two trees, or clear.

@@ -57,7 +57,8 @@ pub enum Refusal {
     /// with as many tokens as the bound).
     FewWords = 21,
     /// 22, lent tree rows: a tree of the answer has more rows than its memory has
-    /// whole places of four bytes (`check` lends 4,096).
+    /// whole places of four bytes (`check` lends 4,096), or a list does not fit
+    /// into the bytes lent for it.
     FewRows = 22,
 }
 
@@ -128,7 +129,7 @@ impl Refusal {
                 "fewer words are lent than the span sheet needs (for a sweep: with as many tokens as the bound)"
             }
             Refusal::FewRows => {
-                "a tree of the answer has more rows than its memory has whole places of four bytes (`check` lends 4,096)"
+                "a tree of the answer has more rows than its memory has whole places of four bytes (`check` lends 4,096), or a list does not fit into the bytes lent for it"
             }
         }
     }

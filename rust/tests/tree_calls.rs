@@ -1,6 +1,8 @@
-//! Row counts, beside the trees themselves.
+//! Row counts, beside the trees themselves; the list of places.
 
-use teplonga::{rows, trees, words_for, Answer, Refusal, RowCount, RowsReply};
+use teplonga::{
+    places, rows, trees, words_for, Answer, Place, Refusal, RowCount, RowsReply, MOST_TOKENS, PLACE,
+};
 
 /// A rule sheet of these rules, parted by ` / `.
 fn rules(text: &str) -> Vec<u8> {
@@ -64,4 +66,38 @@ fn a_refused_call_counts_nothing() {
     assert_eq!(short, refused(Refusal::FewWords, 0));
     assert_eq!(rows(b"", b"", &mut []), refused(Refusal::RuleNames, 1));
     assert_eq!(rows(&rules(PLAIN), b"term\n", &mut []), refused(Refusal::TokenNames, 1));
+}
+
+/// Places as nonterminal, start and length.
+fn listed(text: &str, tokens: &[u8]) -> Vec<(u8, u8, u8)> {
+    let mut list = vec![7; PLACE * 1_000];
+    let reply = places(&rules(text), tokens, &mut vec![7; words_for(MOST_TOKENS)], &mut list);
+    let place = |Place { nonterminal, start, length }| (nonterminal, start, length);
+    reply.places.map(place).collect()
+}
+
+#[test]
+fn longest_words_come_first_and_the_empty_word_last() {
+    assert_eq!(listed(PLAIN, &row(4)), [(0, 0, 4), (0, 0, 3), (0, 1, 3)]);
+    let empties = "0 B 1 1 none / 1 B 2 7 none / 1 U 7 - none / 7 A 0 - none / 2 E - - none / 2 U 3 - none / 3 E - - none";
+    assert_eq!(listed(empties, &row(2)), [(1, 0, 1), (1, 1, 1), (2, 0, 0)]);
+    assert_eq!(listed(PLAIN, &row(2)), []);
+}
+
+#[test]
+fn a_list_that_does_not_fit_is_refused_and_its_bytes_are_0() {
+    let sheets = (rules(PLAIN), row(4));
+    let mut words = vec![7; words_for(4)];
+    let mut list = [7; 3 * PLACE + 1];
+    let reply = places(&sheets.0, &sheets.1, &mut words, &mut list);
+    assert_eq!((reply.answer, reply.places.len()), (Answer::Two, 3));
+    assert_eq!(list[3 * PLACE], 0);
+    let mut list = [7; 3 * PLACE - 1];
+    let reply = places(&sheets.0, &sheets.1, &mut words, &mut list);
+    assert_eq!((reply.answer, reply.places.len()), (Answer::Refused(Refusal::FewRows), 0));
+    assert_eq!(list, [0; 3 * PLACE - 1]);
+    let mut list = [7; PLACE];
+    let reply = places(b"", b"", &mut words, &mut list);
+    assert_eq!((reply.answer, reply.line), (Answer::Refused(Refusal::RuleNames), 1));
+    assert_eq!(list, [7; PLACE]);
 }

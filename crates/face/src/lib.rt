@@ -45,7 +45,7 @@ pub fn pack(a: Answer, line: usize) -> u64
 }
 
 // One word at a place; the place after it.
-fn put_word(found: &mut [u64], at: usize, v: u64) -> usize
+pub fn put_word(found: &mut [u64], at: usize, v: u64) -> usize
     requires { ⌜ at < length (now found) ⌝ }
     ensures { λ r. ⌜ Wrote (now (found .entry)) (now (found .exit)) at (v ∷ []) r ⌝ }
 {

@@ -1,9 +1,14 @@
 // The calls on one sentence's trees for C and Rust: numbers and slices alone.
+use call_places::places;
 use call_rows::rows;
 use face::pack;
 use face::put_counts;
+use face::put_word;
 use row_counts::RowCount;
 ghost use mathlib.Core.Path.{_≡_};
+ghost use mathlib.Core.List.{[], _∷_};
+ghost use Rattle.face.specs.Face.{AtFront};
+ghost use Rattle.face_trees.specs.Places.{PlacesWord};
 ghost use Rattle.face_trees.specs.Rows.{countWord, RowsWord};
 
 // A row count as a number: 4,294,967,296 where there are more than 4,294,967,295 rows.
@@ -31,5 +36,31 @@ pub extern "C" fn teplonga_rows(
     let first = p.first;
     let second = p.second;
     put_counts(counts, count(first), count(second));
+    pack(a, p.line)
+}
+
+// A number, where there is a lent word for it.
+fn put_one(lent: &mut [u64], n: usize)
+    ensures { λ r. ⌜ AtFront 1 (n ∷ []) (now (lent .entry)) (now (lent .exit)) ⌝ }
+{
+    if 1 <= lent.len() {
+        put_word(lent, 0, n as u64);
+    }
+}
+
+// The places: the verdict's code times 2^32 plus the line's number. The words get the span sheet, `list` the places, `count` their number.
+#[no_mangle]
+pub extern "C" fn teplonga_places(
+    rules: &[u8],
+    tokens: &[u8],
+    words: &mut [u64],
+    list: &mut [u8],
+    count: &mut [u64],
+) -> u64
+    ensures { λ r. ⌜ PlacesWord (now (rules .entry)) (now (tokens .entry)) (now (words .entry)) (now (words .exit)) (now (list .entry)) (now (list .exit)) (now (count .entry)) (now (count .exit)) r ⌝ }
+{
+    let p = places(rules, tokens, words, list);
+    let a = p.answer;
+    put_one(count, p.count);
     pack(a, p.line)
 }

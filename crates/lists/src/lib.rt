@@ -4,7 +4,8 @@ use rows::clear;
 ghost use mathlib.Core.Path.{_≡_};
 ghost use Prim.Native.Nat.{_≤_};
 ghost use lib.ListN.{length, replicate};
-ghost use Rattle.lists.specs.Putting.{Begun, PutMore, Ended, unfit};
+ghost use Rattle.lists.specs.Lists.{Gives};
+ghost use Rattle.lists.specs.Putting.{Begun, PutMore, Ended, listed, unfit};
 
 // A list while it is put: the place behind what was put, the number of entries so far, and whether all of it had room.
 pub struct Listing {
@@ -93,4 +94,12 @@ pub fn finish(out: &mut [u8], l: Listing) -> Listed
         fits: true,
         count: l.count,
     }
+}
+
+// A whole list at once, an entry a byte.
+pub fn give(out: &mut [u8], bytes: &[u8]) -> Listed
+    ensures { λ r. ⌜ Gives listed unfit (now (bytes .entry)) (length (now (bytes .entry))) (now (out .entry)) (now (out .exit)) r ⌝ }
+{
+    let l = put(out, begin(), bytes, bytes.len());
+    finish(out, l)
 }

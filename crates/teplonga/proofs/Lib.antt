@@ -1,5 +1,6 @@
 pub mod Settled
 pub mod SweepSettled
+pub mod ListSettled
 pub mod Readings
 pub mod Judging
 pub mod Showing

@@ -3,4 +3,5 @@ pub mod Verdict
 pub mod Trees
 pub mod Sweep
 pub mod Counted
+pub mod Lists
 pub mod Told

@@ -14,6 +14,7 @@ use grammar::Line;
 use grammar::Sentence;
 use grammar::Token;
 use grammar::Width;
+use lists::Listed;
 use sheets::Fault;
 use sheets::GrammarRead;
 use sheets::Outcome;
@@ -32,6 +33,7 @@ ghost use Rattle.teplonga.specs.Answers.{withRules};
 ghost use Rattle.teplonga.specs.Told.{told};
 ghost use Rattle.teplonga.specs.Verdict.{VerdictOn, VerdictBy, VerdictOf};
 ghost use Rattle.teplonga.specs.Counted.{counted};
+ghost use Rattle.teplonga.specs.Lists.{onList};
 ghost use Rattle.teplonga.specs.Trees.{TreesOn, TreesBy, TreesOf};
 ghost use Rattle.teplonga.specs.Sweep.{SweepOn, SweepBy, SweepOf};
 ghost use Rattle.teplonga.specs.Sweep as Sweep;
@@ -65,6 +67,31 @@ pub struct SweepReply {
     pub answer: Answer,
     pub line: usize,
     pub sentence: Sentence,
+}
+
+// The answer of a call that gives a list: besides, its number of entries.
+pub struct ListReply {
+    pub answer: Answer,
+    pub line: usize,
+    pub count: usize,
+}
+
+// The reply on an answer whose list was put, or did not fit.
+pub fn list_reply(a: Answer, l: Listed) -> ListReply
+    ensures { λ r. ⌜ r ≡ onList a l ⌝ }
+{
+    if l.fits {
+        return ListReply {
+            answer: a,
+            line: 0,
+            count: l.count,
+        };
+    }
+    ListReply {
+        answer: Answer::Refused(Fault::FewRows),
+        line: 0,
+        count: 0,
+    }
 }
 
 // The verdict on rules and a sentence that were read.

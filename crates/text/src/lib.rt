@@ -155,7 +155,7 @@ pub fn put_trees(
 }
 
 // The token sheet of a found sentence, where there is one.
-fn put_sentence(out: &mut [u8], at: usize, a: Answer, s: Sentence) -> usize
+pub fn put_sentence(out: &mut [u8], at: usize, a: Answer, s: Sentence) -> usize
     requires { ⌜ s .count ≤ 64 ⌝ }
     requires { ⌜ at + 14 + 18 * s .count ≤ length (now out) ⌝ }
     ensures { λ r. ⌜ Wrote (now (out .entry)) (now (out .exit)) at (sentenceText a (spelled s)) r ⌝ }

@@ -1,4 +1,5 @@
 // The whole output of the calls on one sentence's trees, in a lent buffer; their sheets are parted already.
+use call_places::places;
 use call_rows::rows;
 use printing::put_byte;
 use printing::put_bytes;
@@ -6,10 +7,12 @@ use printing::put_number;
 use row_counts::RowCount;
 use teplonga::Answer;
 use text::put_head;
-ghost use Prim.Native.Nat.{_+_, _≤_};
-ghost use lib.ListN.{length};
-ghost use Rattle.printing.specs.Printing.{Wrote};
+ghost use mathlib.Core.List.{[], _∷_, _++_};
+ghost use Prim.Native.Nat.{_+_, _*_, _≤_};
+ghost use lib.ListN.{length, take};
+ghost use Rattle.printing.specs.Printing.{decimal, Wrote};
 ghost use Rattle.text.specs.Printed.{Printed};
+ghost use Rattle.text_trees.specs.Places.{placeText, placeNames, placeLines, placesText, PlacesTextOf};
 ghost use Rattle.text_trees.specs.Rows.{countText, countLines, rowsText, RowsTextOf};
 
 // A row count: a number, or the word `more`.
@@ -63,4 +66,73 @@ pub fn rows_text(rules: &[u8], tokens: &[u8], out: &mut [u8]) -> usize
     let second = r.second;
     let n = put_head(out, a, r.line);
     put_counted(out, n, a, first, second)
+}
+
+// A byte as a number, and the byte `end` behind it.
+fn put_small(out: &mut [u8], at: usize, v: u8, end: u8) -> usize
+    requires { ⌜ at + 4 ≤ length (now out) ⌝ }
+    ensures { λ r. ⌜ Wrote (now (out .entry)) (now (out .exit)) at (decimal v ++ (end ∷ [])) r ⌝ }
+    ensures { λ r. ⌜ r ≤ at + 4 ⌝ }
+{
+    let next = put_number(out, at, v as u64);
+    put_byte(out, next, end)
+}
+
+// The line of a place.
+fn put_place(out: &mut [u8], at: usize, left: u8, start: u8, len: u8) -> usize
+    requires { ⌜ at + 12 ≤ length (now out) ⌝ }
+    ensures { λ r. ⌜ Wrote (now (out .entry)) (now (out .exit)) at (placeText left start len) r ⌝ }
+    ensures { λ r. ⌜ r ≤ at + 12 ⌝ }
+{
+    let a = put_small(out, at, left, 32);
+    let b = put_small(out, a, start, 32);
+    put_small(out, b, len, 10)
+}
+
+// The lines of the first `count` places.
+fn put_places(out: &mut [u8], at: usize, list: &[u8], count: usize) -> usize
+    requires { ⌜ 3 * count ≤ length (now list) ⌝ }
+    requires { ⌜ at + 12 * count ≤ length (now out) ⌝ }
+    ensures { λ r. ⌜ Wrote (now (out .entry)) (now (out .exit)) at (placeLines (take (3 * count) (now (list .entry)))) r ⌝ }
+{
+    let mut i = 0;
+    let mut next = at;
+    while i < count {
+        let p = 3 * i;
+        next = put_place(out, next, list[p], list[p + 1], list[p + 2]);
+        i += 1;
+    }
+    next
+}
+
+// The names and the lines of the places, where the verdict is two.
+fn put_listed(out: &mut [u8], at: usize, a: Answer, list: &[u8], count: usize) -> usize
+    requires { ⌜ 3 * count ≤ length (now list) ⌝ }
+    requires { ⌜ at + 18 + 12 * count ≤ length (now out) ⌝ }
+    ensures { λ r. ⌜ Wrote (now (out .entry)) (now (out .exit)) at (placesText a (take (3 * count) (now (list .entry)))) r ⌝ }
+{
+    match a {
+        Answer::None => at,
+        Answer::One => at,
+        Answer::Two => {
+            let next = put_bytes(out, at, b"left start length\n");
+            put_places(out, next, list, count)
+        }
+        Answer::Clear => at,
+        Answer::Given => at,
+        Answer::Refused(_) => at,
+    }
+}
+
+// The whole output of the call `places`; its length.
+pub fn places_text(rules: &[u8], tokens: &[u8], out: &mut [u8]) -> usize
+    requires { ⌜ 262144 ≤ length (now out) ⌝ }
+    ensures { λ r. ⌜ Printed (PlacesTextOf (now (rules .entry))) (now (tokens .entry)) (now (out .entry)) (now (out .exit)) r ⌝ }
+{
+    let mut words = [0u64; 4162];
+    let mut list = [0u8; 49152];
+    let r = places(rules, tokens, &mut words, &mut list);
+    let a = r.answer;
+    let n = put_head(out, a, r.line);
+    put_listed(out, n, a, &list, r.count)
 }

@@ -2,6 +2,7 @@
 use cases::five;
 use cases::next_case;
 use libc::STDOUT_FILENO;
+use text_trees::places_text;
 use text_trees::rows_text;
 ghost use Prim.Native.Nat.{_≤_};
 ghost use lib.ListN.{length};
@@ -22,6 +23,9 @@ fn output(case: &[u8], out: &mut [u8]) -> usize
     }
     if case[0] == b'r' {
         return rows_text(&case[26..a], &case[a..b], out);
+    }
+    if case[0] == b'p' {
+        return places_text(&case[26..a], &case[a..b], out);
     }
     0
 }

@@ -52,8 +52,38 @@ same-length c = search needs
 returns-3 : tie.Need-returns-3
 returns-3 c = printed-within (c .before .before .rows-text .ensures)
 
+shared-slice-read-if4 : tie.Need-shared-slice-read-if4
+shared-slice-read-if4 c = search needs
+
+sub-places-text : tie.Need-sub-places-text
+sub-places-text c = search needs
+
+part-places-text-start : tie.Need-part-places-text-start
+part-places-text-start c = search needs
+
+part-places-text-end : tie.Need-part-places-text-end
+part-places-text-end c = search needs
+
+sub-places-text-2 : tie.Need-sub-places-text-2
+sub-places-text-2 c = search needs
+
+part-places-text-start-2 : tie.Need-part-places-text-start-2
+part-places-text-start-2 c = search needs
+
+part-places-text-end-2 : tie.Need-part-places-text-end-2
+part-places-text-end-2 c = search needs
+
+places-text-requires : tie.Need-places-text-requires
+places-text-requires c κs = search needs
+
+same-length-2 : tie.Need-same-length-2
+same-length-2 c = search needs
+
 returns-4 : tie.Need-returns-4
-returns-4 c = search needs
+returns-4 c = printed-within (c .before .before .places-text .ensures)
+
+returns-5 : tie.Need-returns-5
+returns-5 c = search needs
 
 pub output-spec : {M : Type 1} → statement M
 output-spec =
@@ -75,4 +105,14 @@ output-spec =
     rows-text-requires
     same-length
     returns-3
-    returns-4)
+    shared-slice-read-if4
+    sub-places-text
+    part-places-text-start
+    part-places-text-end
+    sub-places-text-2
+    part-places-text-start-2
+    part-places-text-end-2
+    places-text-requires
+    same-length-2
+    returns-4
+    returns-5)

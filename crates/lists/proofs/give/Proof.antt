@@ -1,0 +1,27 @@
+-- `give` meets its contract.
+use native.Mathlib.Nat.{zero-add}
+use borrow.Author.Needs.{needs}
+use Rattle.lists.proofs.give.Statement.{statement}
+use Rattle.lists.proofs.give.Tie as tie
+
+begin-requires : tie.Need-begin-requires
+begin-requires c κs = search needs
+
+put-requires : tie.Need-put-requires
+put-requires c κs = search needs
+
+finish-requires : tie.Need-finish-requires
+finish-requires c κs = search needs
+
+same-length : tie.Need-same-length
+same-length c = search needs
+
+returns : tie.Need-returns
+returns c =
+    let f = c .before .before in
+    let p = f .before .before .before .before in
+    let b = p .before in
+    rw zero-add at (f .finish .ensures .gives (p .put .ensures .puts (b .begin .ensures .puts _)))
+
+pub give-spec : {M : Type 1} → statement M
+give-spec = tie.close (tie.spec begin-requires put-requires finish-requires same-length returns)

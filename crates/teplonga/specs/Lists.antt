@@ -1,0 +1,30 @@
+-- The answer of a call that gives a list: 01, "Where each refusal is checked", behind the table.
+use mathlib.Core.Path.{_≡_}
+use mathlib.Core.Bool.{Bool, true, false}
+use mathlib.Core.List.{List}
+use Prim.Native.Nat.{ℕ}
+use Rattle.lists.specs.declared.Listed.{Listed}
+use Rattle.lists.specs.Lists.{Gives}
+use Rattle.sheets.specs.declared.Fault.{Fault}
+use Rattle.sheets.specs.declared.Fault.the-variants as Fault
+use Rattle.sheets.specs.Refusals.{numberOf}
+use Rattle.teplonga.specs.declared.Answer.{Answer}
+use Rattle.teplonga.specs.declared.Answer.the-variants as Answer
+use Rattle.teplonga.specs.declared.ListReply.{ListReply}
+
+abbrev pub listReply : Answer → ℕ → ℕ → ListReply
+listReply a l n = record { answer = a; line = l; count = n }
+
+-- a list of n entries with these bytes is given with the answer a, or refused 22
+pub record ListOn (a : Answer) (bytes : List ℕ) (n : ℕ) (lent lent′ : List ℕ) (r : ListReply) : Type 0 where
+  pub fault : Fault
+  pub number : numberOf fault ≡ 22
+  pub gives : Gives (listReply a 0) (listReply (Answer.Refused fault) 0 0) bytes n lent lent′ r
+
+-- (inner) the reply on a list that was put
+abbrev pub onFit : Bool → Answer → ℕ → ListReply
+onFit true a n = listReply a 0 n
+onFit false a n = listReply (Answer.Refused Fault.FewRows) 0 0
+
+abbrev pub onList : Answer → Listed → ListReply
+onList a l = onFit (l .fits) a (l .count)
