@@ -1,12 +1,28 @@
 // The calls for clause sheets: as those for rule sheets, with the rules of the expansion.
 use clause_sheets::read_clauses;
+use grammar::Grammar;
+use lists::give;
+use printing::put_bytes;
+use rule_text::put_rules;
+use sheets::Outcome;
+use sheets::refused_read;
+use teplonga::Answer;
+use teplonga::ListReply;
 use teplonga::Reply;
 use teplonga::SweepReply;
 use teplonga::TreesReply;
+use teplonga::list_reply;
 use teplonga::sweep_read;
 use teplonga::trees_read;
 use teplonga::verdict_read;
+ghost use lib.ListN.{length};
+ghost use Rattle.grammar.specs.Content.{rules as rulesOf, Formed};
+ghost use Rattle.sheets.specs.RefusedLines.{heldBy, Hands};
+ghost use Rattle.teplonga.specs.declared.Answer.the-variants as Answer;
+ghost use Rattle.teplonga.specs.Lists.{ListOn};
+ghost use Rattle.clause_sheets.specs.ClauseSheets.{clauseSheet};
 ghost use Rattle.clause_calls.specs.Calls.{ClauseVerdict, ClauseTrees, ClauseSweep};
+ghost use Rattle.clause_calls.specs.Expand.{sheetText, ExpandOf};
 
 // The verdict on a sentence: can it be read in no way, one or two? The span sheet is filled.
 pub fn verdict(clauses: &[u8], tokens: &[u8], words: &mut [u64]) -> Reply
@@ -33,4 +49,45 @@ pub fn sweep(clauses: &[u8], bound: usize, words: &mut [u64]) -> SweepReply
     ensures { λ r. ⌜ ClauseSweep (now (clauses .entry)) bound (now (words .entry)) (now (words .exit)) r ⌝ }
 {
     sweep_read(read_clauses(clauses), bound, words)
+}
+
+// The rule sheet of rules that were read, given as a list of its bytes.
+fn expanded(g: Grammar, out: &mut [u8]) -> ListReply
+    requires { ⌜ Formed g ⌝ }
+    ensures { λ r. ⌜ ListOn Answer.Given (sheetText (rulesOf g)) (length (sheetText (rulesOf g))) (now (out .entry)) (now (out .exit)) r ⌝ }
+{
+    let mut sheet = [0u8; 4096];
+    let n = put_bytes(&mut sheet, 0, b"left kind first second lay\n");
+    let m = put_rules(&mut sheet, n, g);
+    let l = give(out, &sheet[..m]);
+    list_reply(Answer::Given, l)
+}
+
+// The rule sheet that a clause sheet expands to, as a list of its bytes.
+pub fn expand(clauses: &[u8], out: &mut [u8]) -> ListReply
+    ensures { λ r. ⌜ ExpandOf (now (clauses .entry)) (now (out .entry)) (now (out .exit)) r ⌝ }
+{
+    let a = read_clauses(clauses);
+    let o = a.outcome;
+    match o {
+        Outcome::Refused(f, l) => ListReply {
+            answer: Answer::Refused(f),
+            line: l,
+            count: 0,
+        },
+        Outcome::Accepted => {
+            let g = a.grammar;
+            expanded(g, out)
+        }
+    }
+}
+
+// The refused line of a call with a clause sheet and a token sheet, as a part of the sheet that holds it;
+// with no such line, the clause sheet's first zero bytes.
+pub fn refused_line<'a>(clauses: &'a [u8], tokens: &'a [u8]) -> &'a [u8]
+    ensures { λ r. ⌜ Hands (clauses .entry) (tokens .entry) r (heldBy (clauseSheet (now (clauses .entry))) (now (tokens .entry))) ⌝ }
+{
+    let g = read_clauses(clauses);
+    let o = g.outcome;
+    refused_read(o, clauses, tokens)
 }

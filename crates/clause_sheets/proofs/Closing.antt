@@ -1,7 +1,7 @@
 -- The end of a clause sheet: room for the expansion, and that it is formed.
 use mathlib.Core.Path.{_≡_, refl, sym, _∙_, ap, subst}
 use mathlib.Core.Logic.{inl, inr}
-use mathlib.Core.Bool.{Bool, true, false, cond, not, _&&_}
+use mathlib.Core.Bool.{Bool, true, false, cond, _&&_}
 use mathlib.Core.List.{List, [], _∷_, _++_, List·Memᴰ, List·Memᴰ·head, List·Memᴰ·tail}
 use Prim.Native.Nat.{ℕ, zero, suc, _+_, _≤_, _<_}
 use native.Mathlib.Omega.{arith}
@@ -27,8 +27,9 @@ use Rattle.clause_rules.specs.Emitting.{Adds, Cause}
 use Rattle.clause_lines.specs.ClauseLines.{ClauseLine, Said, good, unwritten, deep, expression, withLeft, leftSays, clauseLine}
 use Rattle.sheets.specs.declared.Fault.{Fault}
 use Rattle.sheets.specs.declared.Fault.the-variants as Fault
-use Rattle.sheets.specs.Items.{Reading, accepted, refused, next, stop, end, onStep, itemsFrom}
+use Rattle.sheets.specs.Items.{Reading, accepted, refused, next, stop, end, itemsFrom}
 use Rattle.sheets.specs.RuleSheets.{finish}
+use Rattle.sheets.proofs.Accepted.{items-hold}
 use Rattle.clause_sheets.specs.ClauseSheets.{clauseSaid, clauseStep, clausesOf, fits, expanded, clausesFrom}
 use Rattle.clause_sheets.specs.Emitted.{emitAll}
 use Rattle.clause_sheets.specs.Checks.{Taken, LinesEmitted, PassedAs}
@@ -105,23 +106,23 @@ line-terms line c h = go (numeralOf (before 32 line)) h
         which true q = left-terms v (drop (length (before 32 line) + 1) line) c (expression (drop (length (before 32 line) + 1) line)) refl q
         which false q = absurd (let z : _≡_ {A = ℕ} 0 1 = cc in omega arith)
 
-all-terms : (ps : List (List ℕ)) (seen l : List ClauseLine) → itemsFrom clauseStep seen ps ≡ accepted l → TermsAll (clausesOf seen) → TermsAll (clausesOf l)
-all-terms [] seen l e h = let z : seen ≡ l = cc in subst (λ (y : List ClauseLine). TermsAll (clausesOf y)) z h
-all-terms (p ∷ ps) seen l e h = go (not (isEmpty ps)) (isEmpty p) e (λ k m q t. all-terms ps k m q t)
+-- a line that gives one more clause says it
+step-good : (seen : List ClauseLine) (p : List ℕ) (b : Bool) (c : ClauseLine) → clauseStep seen p b ≡ next c → clauseLine p ≡ good c
+step-good seen p true c e = go (clauseLine p) e
   where
-    said : (o : Said ClauseLine) → clauseLine p ≡ o → onStep seen (clauseSaid o) (λ t. itemsFrom clauseStep (seen ++ t ∷ []) ps) ≡ accepted l
-        → ((k m : List ClauseLine) → itemsFrom clauseStep k ps ≡ accepted m → TermsAll (clausesOf k) → TermsAll (clausesOf m)) → TermsAll (clausesOf l)
-    said (good c) j q f = f (seen ++ (c ∷ [])) l q (terms-snoc seen c h (line-terms p c j))
-    said unwritten j q f = absurd (let z : _≡_ {A = ℕ} 0 1 = cc in omega arith)
-    said deep j q f = absurd (let z : _≡_ {A = ℕ} 0 1 = cc in omega arith)
+    go : (o : Said ClauseLine) → clauseSaid o ≡ next c → o ≡ good c
+    go (good d) q = let z : d ≡ c = cc in ap good z
+    go unwritten q = absurd (let z : _≡_ {A = ℕ} 0 1 = cc in omega arith)
+    go deep q = absurd (let z : _≡_ {A = ℕ} 0 1 = cc in omega arith)
+step-good seen p false c e = go (isEmpty p) e
+  where
+    go : (a : Bool) → cond a end (stop Fault.ClauseForm) ≡ next c → clauseLine p ≡ good c
+    go true q = absurd (let z : _≡_ {A = ℕ} 0 1 = cc in omega arith)
+    go false q = absurd (let z : _≡_ {A = ℕ} 0 1 = cc in omega arith)
 
-    go : (b a : Bool)
-        → onStep seen (cond (not b && a) end (cond b (clauseSaid (clauseLine p)) (stop Fault.ClauseForm)))
-        (λ t. itemsFrom clauseStep (seen ++ t ∷ []) ps) ≡ accepted l
-        → ((k m : List ClauseLine) → itemsFrom clauseStep k ps ≡ accepted m → TermsAll (clausesOf k) → TermsAll (clausesOf m)) → TermsAll (clausesOf l)
-    go true a q f = said (clauseLine p) refl q f
-    go false true q f = let z : seen ≡ l = cc in subst (λ (y : List ClauseLine). TermsAll (clausesOf y)) z h
-    go false false q f = absurd (let z : _≡_ {A = ℕ} 0 1 = cc in omega arith)
+all-terms : (ps : List (List ℕ)) (l : List ClauseLine) → itemsFrom clauseStep [] ps ≡ accepted l → TermsAll (clausesOf l)
+all-terms ps l =
+    items-hold clauseStep (λ w. TermsAll (clausesOf w)) (λ seen p b c e h. terms-snoc seen c h (line-terms p c (step-good seen p b c e))) [] ps l tt
 
 -- the sheet's end
 module _ (ps : List (List ℕ)) (p : ℕ) (W : AllSaid ps p) where
@@ -165,7 +166,7 @@ module _ (ps : List (List ℕ)) (p : ℕ) (W : AllSaid ps p) where
       record {
         few = omega arith;
         whole = ap length e ∙ sym c;
-        small = subst (λ (y : Rules). Every SmallRule y) (sym e) (expansion-small sheet (all-terms ps [] (W .lines) (W .said) tt) h);
+        small = subst (λ (y : Rules). Every SmallRule y) (sym e) (expansion-small sheet (all-terms ps (W .lines) (W .said)) h);
         distinct = subst (λ (y : Rules). Distinct y) (sym e) (expansion-distinct sheet);
       }
 

@@ -104,7 +104,7 @@ walk-end w is h p = record { part = rw (← fits w is h, ← (starts w is ∙ at
 
 -- a refusal's line is a line of the sheet, or 0
 
-names-line : {A : Type 0} (bad : Reading A) (names : List ℕ) (k : List (List ℕ) → Reading A)
+pub names-line : {A : Type 0} (bad : Reading A) (names : List ℕ) (k : List (List ℕ) → Reading A)
     → ((ps : List (List ℕ)) (f : Fault) (l : ℕ) → k ps ≡ refused f l → l ≤ 1 + length ps)
     → (ps : List (List ℕ)) (f : Fault) (l : ℕ) → (bad ≡ refused f l → l ≤ length ps) → withNames bad names ps k ≡ refused f l → l ≤ length ps
 names-line bad names k h [] f l o e = o e
@@ -115,10 +115,10 @@ names-line bad names k h (q ∷ qs) f l o e = go (not (isEmpty qs) && sameBytes 
     go false e = o e
 
 -- a sheet has a line 1
-first-line : {A : Type 0} (g : Fault) (s : List ℕ) (f : Fault) (l : ℕ) → _≡_ {A = Reading A} (refused g 1) (refused f l) → l ≤ length (pieces 10 s)
+pub first-line : {A : Type 0} (g : Fault) (s : List ℕ) (f : Fault) (l : ℕ) → _≡_ {A = Reading A} (refused g 1) (refused f l) → l ≤ length (pieces 10 s)
 first-line g s f l e = let j : 1 ≡ l = cc in omega (arith, ap length (pieces-first 10 s))
 
-finish-line : (x : Reading Rule) (n : ℕ) (f : Fault) (l : ℕ) → ((g : Fault) (m : ℕ) → x ≡ refused g m → m ≤ n) → finish x ≡ refused f l → l ≤ n
+pub finish-line : (x : Reading Rule) (n : ℕ) (f : Fault) (l : ℕ) → ((g : Fault) (m : ℕ) → x ≡ refused g m → m ≤ n) → finish x ≡ refused f l → l ≤ n
 finish-line (accepted w) n f l h e = go (anyOf isStart w) (cyclic? w) e
   where
     go : (b : Bool) (d : Dec (Cyclic w)) → cond b (unlessCyclic d) (refused Fault.NoStart 0) ≡ refused f l → l ≤ n

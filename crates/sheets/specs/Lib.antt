@@ -3,4 +3,5 @@ pub mod Items
 pub mod RuleSheets
 pub mod TokenSheets
 pub mod RefusedLines
+pub mod LinesIn
 pub mod Promises

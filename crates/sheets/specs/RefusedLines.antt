@@ -29,9 +29,13 @@ ofRules (accepted w) tokens = tokens
 ofRules (refused f zero) tokens = nowhere
 ofRules (refused f (suc n)) tokens = in-rules n
 
--- the rule sheet is read first
+-- the sheet with the rules is read first, and gives this
+abbrev pub heldBy : Reading Rule → List ℕ → Held
+heldBy given tokens = ofRules given (ofTokens (tokenSheet tokens))
+
+-- the refused line of a rule sheet and a token sheet
 abbrev pub refusedLine : List ℕ → List ℕ → Held
-refusedLine rules tokens = ofRules (ruleSheet rules) (ofTokens (tokenSheet tokens))
+refusedLine rules tokens = heldBy (ruleSheet rules) tokens
 
 -- where the piece with n pieces before it begins, each with its byte
 abbrev pub startOf : List (List ℕ) → ℕ → ℕ

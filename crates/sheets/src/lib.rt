@@ -25,8 +25,9 @@ ghost use Rattle.sheets.specs.Refusals.{numberOf};
 ghost use Rattle.sheets.specs.Items.{accepted, refused, stepAt, itemsFrom};
 ghost use Rattle.sheets.specs.RuleSheets.{hasKey, anyOf, isStart, freshStep, ruleSays, finish, rulesFrom, ruleSheet};
 ghost use Rattle.sheets.specs.TokenSheets.{after, orderStep, tokenSays, tokenStep, tokenSheet};
-ghost use Rattle.sheets.specs.RefusedLines.{LinePart, Hands, refusedLine};
-ghost use Rattle.sheets.specs.Promises.{asRuleStep, asTokenStep, RulesRead, TokensRead};
+ghost use Rattle.sheets.specs.RefusedLines.{LinePart, Hands, heldBy, refusedLine};
+ghost use Rattle.sheets.specs.LinesIn.{LineIn};
+ghost use Rattle.sheets.specs.Promises.{readingOf, asRuleStep, asTokenStep, RulesRead, TokensRead};
 
 // The refusals, in the order of 01's table with 02's in their places; `numberOf` in specs/ has their numbers. Many are given by later crates.
 pub enum Fault {
@@ -399,7 +400,7 @@ pub fn read_tokens(s: &[u8]) -> SentenceRead
 }
 
 // The line of the sheet with n lines before it, without its byte 10.
-pub fn line_after<'a>(s: &'a [u8], n: usize) -> &'a [u8]
+fn line_after<'a>(s: &'a [u8], n: usize) -> &'a [u8]
     requires { ⌜ n < length (pieces 10 (now s)) ⌝ }
     ensures { λ r. ⌜ LinePart (s .entry) n r ⌝ }
 {
@@ -413,12 +414,12 @@ pub fn line_after<'a>(s: &'a [u8], n: usize) -> &'a [u8]
     Cursor::line(s, at).bytes(s)
 }
 
-// The refused line of a call with both sheets, as a part of the sheet that holds it; with no such line, the rule sheet's first zero bytes.
-pub fn refused_line<'a>(rules: &'a [u8], tokens: &'a [u8]) -> &'a [u8]
-    ensures { λ r. ⌜ Hands (rules .entry) (tokens .entry) r (refusedLine (now (rules .entry)) (now (tokens .entry))) ⌝ }
+// The refused line of a call with both sheets, where the one with the rules was read so: as a part of the sheet that holds it;
+// with no such line, the first zero bytes of the sheet with the rules.
+pub fn refused_read<'a>(o: Outcome, rules: &'a [u8], tokens: &'a [u8]) -> &'a [u8]
+    requires { ⌜ LineIn (now rules) o ⌝ }
+    ensures { λ r. ⌜ Hands (rules .entry) (tokens .entry) r (heldBy (readingOf o []) (now (tokens .entry))) ⌝ }
 {
-    let g = read_rules(rules);
-    let o = g.outcome;
     if let Outcome::Refused(_, l) = o {
         if l == 0 {
             return &rules[..0];
@@ -434,4 +435,13 @@ pub fn refused_line<'a>(rules: &'a [u8], tokens: &'a [u8]) -> &'a [u8]
         return line_after(tokens, m - 1);
     }
     &rules[..0]
+}
+
+// The refused line of a call with a rule sheet and a token sheet.
+pub fn refused_line<'a>(rules: &'a [u8], tokens: &'a [u8]) -> &'a [u8]
+    ensures { λ r. ⌜ Hands (rules .entry) (tokens .entry) r (refusedLine (now (rules .entry)) (now (tokens .entry))) ⌝ }
+{
+    let g = read_rules(rules);
+    let o = g.outcome;
+    refused_read(o, rules, tokens)
 }

@@ -1,0 +1,55 @@
+-- The promises of the calls for clause sheets settle the answer and the lent memory: two results that meet a promise are the same.
+-- Of the verdict and the sweep this is what `verdict-settled` and `sweep-settled` say of any sheets.
+use mathlib.Core.Path.{_≡_, sym, _∙_, subst}
+use mathlib.Core.List.{List}
+use Prim.Native.Nat.{ℕ}
+use native.Mathlib.Omega.{arith}
+use Rattle.grammar.specs.declared.Rule.{Rule}
+use Rattle.grammar.specs.Trees.{Rules}
+use Rattle.grammar.specs.Choices.{Distinct}
+use Rattle.sheets.specs.declared.Fault.{Fault}
+use Rattle.sheets.specs.Items.{Reading, accepted, refused}
+use Rattle.clauses.proofs.Apart.{expansion-distinct}
+use Rattle.clause_sheets.specs.ClauseSheets.{clauseSheet}
+use Rattle.clause_sheets.proofs.Meaning.{meant}
+use Rattle.teplonga.specs.declared.Reply.{Reply}
+use Rattle.teplonga.specs.declared.TreesReply.{TreesReply}
+use Rattle.teplonga.specs.declared.SweepReply.{SweepReply}
+use Rattle.teplonga.specs.declared.ListReply.{ListReply}
+use Rattle.teplonga.proofs.Settled.{Words, Apart, apart-of, verdict-settled, trees-settled}
+use Rattle.teplonga.proofs.SweepSettled.{sweep-settled}
+use Rattle.teplonga.proofs.ListSettled.{list-settled}
+use Rattle.clause_calls.specs.Calls.{clauseSheets, ClauseVerdict, ClauseTrees, ClauseSweep}
+use Rattle.clause_calls.specs.Expand.{ExpandOf, refusing, giving}
+
+-- the rules of an expansion are distinct
+pub clauses-apart : (clauses tokens : List ℕ) → Apart (clauseSheets clauses tokens)
+clauses-apart clauses tokens = apart-of (clauseSheet clauses) tokens (λ g e. let m = meant clauses g e in subst Distinct (sym (m .rules)) (expansion-distinct (m .clauses)))
+
+module _ (clauses : List ℕ) where
+  pub clause-verdict-settled : (tokens : List ℕ) {ws a b : List ℕ} {r s : Reply} → Words a → Words b
+      → ClauseVerdict clauses tokens ws a r → ClauseVerdict clauses tokens ws b s → (r ≡ s) × (a ≡ b)
+  clause-verdict-settled tokens p q x y = verdict-settled p q x y
+
+  pub clause-trees-settled : (tokens : List ℕ) {ws a b one two m m′ n n′ : List ℕ} {r s : TreesReply} → Words a → Words b
+      → ClauseTrees clauses tokens ws a one m two n r → ClauseTrees clauses tokens ws b one m′ two n′ s
+      → (a ≡ b) × ((r ≡ s) × ((m ≡ m′) × (n ≡ n′)))
+  clause-trees-settled tokens p q x y = trees-settled (clauses-apart clauses tokens) p q x y
+
+  pub clause-sweep-settled : {k : ℕ} {ws a b : List ℕ} {r s : SweepReply} → ClauseSweep clauses k ws a r → ClauseSweep clauses k ws b s → (r ≡ s) × (a ≡ b)
+  clause-sweep-settled x y = sweep-settled x y
+
+-- expand
+apart : {o : Reading Rule} {f : Fault} {l : ℕ} {g : Rules} → o ≡ refused f l → o ≡ accepted g → ⊥
+apart e d = let z : _≡_ {A = ℕ} 0 1 = cc in omega arith
+
+pub expand-settled : {clauses out a b : List ℕ} {r s : ListReply} → ExpandOf clauses out a r → ExpandOf clauses out b s → (r ≡ s) × (a ≡ b)
+expand-settled (refusing {f = f} {l = l} e x h) (refusing {f = g} {l = m} d y k) =
+    let p : f ≡ g = cc in
+    let q : l ≡ m = cc in
+    (x ∙ rw (p, q) (sym y), h ∙ sym k)
+expand-settled (refusing e x h) (giving d y) = absurd (apart e d)
+expand-settled (giving d y) (refusing e x h) = absurd (apart e d)
+expand-settled (giving {g = g} e x) (giving {g = h} d y) =
+    let z : g ≡ h = cc in
+    list-settled x (rw (← z) at y)
