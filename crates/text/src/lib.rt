@@ -106,7 +106,7 @@ pub fn put_head(out: &mut [u8], a: Answer, line: usize) -> usize
 }
 
 // The whole output of an input that is refused before its sheets are read.
-fn put_refusal(out: &mut [u8], number: u64) -> usize
+pub fn put_refusal(out: &mut [u8], number: u64) -> usize
     requires { ⌜ number < 100 ⌝ }
     requires { ⌜ 50 ≤ length (now out) ⌝ }
     ensures { λ r. ⌜ Wrote (now (out .entry)) (now (out .exit)) 0 (head (refusedText number) 0) r ⌝ }

@@ -1,0 +1,57 @@
+-- `answer_at` meets its contract: the call sheet is before the empty line, the call's sheets behind it.
+use mathlib.Core.Path.{_≡_, sym}
+use Prim.Native.Nat.{_+_, _-_}
+use native.Mathlib.Omega.{arith}
+use lib.ListN.{length, take, drop, length-drop}
+use lib.Seq.{length-take-le, take-all}
+use borrow.Author.Needs.{needs}
+use Rattle.calling.proofs.answer_at.Statement.{statement}
+use Rattle.calling.proofs.answer_at.Tie as tie
+
+add-j : tie.Need-add-j
+add-j c = search needs
+
+slice-aggregate-call-of : tie.Need-slice-aggregate-call-of
+slice-aggregate-call-of c = sym (length-take-le _ _ (search needs))
+
+call-of-requires : tie.Need-call-of-requires
+call-of-requires c κs = search needs
+
+sub-answer : tie.Need-sub-answer
+sub-answer c = search needs
+
+part-answer-start : tie.Need-part-answer-start
+part-answer-start c = search needs
+
+part-answer-end : tie.Need-part-answer-end
+part-answer-end c = search needs
+
+answer-requires : tie.Need-answer-requires
+answer-requires c κs = search needs
+
+same-length : tie.Need-same-length
+same-length c = search needs
+
+returns : tie.Need-returns
+returns c =
+    let z = c .before .before in
+    let q = z .before .before .before in
+    let s = q .before .before .before .before .args in
+    let n = s .i + 1 in
+    let e : take (length (s .input .now) - n) (drop n (s .input .now)) ≡ drop n (s .input .now) =
+    take-all (length (s .input .now) - n) (drop n (s .input .now)) (omega (arith, length-drop n (s .input .now))) in
+    rw (q .call-of .ensures) at (rw e at (z .answer .ensures))
+
+pub answer-at-spec : {M : Type 1} → statement M
+answer-at-spec =
+    tie.close
+    (tie.spec
+    add-j
+    slice-aggregate-call-of
+    call-of-requires
+    sub-answer
+    part-answer-start
+    part-answer-end
+    answer-requires
+    same-length
+    returns)

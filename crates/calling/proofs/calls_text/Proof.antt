@@ -1,0 +1,57 @@
+-- `calls_text` meets its contract, case by case.
+use mathlib.Core.Path.{refl}
+use Rattle.calling.specs.Calls.{long, whole, called}
+use borrow.Author.Needs.{needs}
+use Rattle.calling.proofs.calls_text.Statement.{statement}
+use Rattle.calling.proofs.calls_text.Tie as tie
+
+put-refusal-requires : tie.Need-put-refusal-requires
+put-refusal-requires c κs = search needs
+
+returns : tie.Need-returns
+returns c = record { text = _; is = long (search needs) refl; wrote = c .put-refusal .ensures }
+
+parting-requires : tie.Need-parting-requires
+parting-requires c κs = search needs
+
+enum-told : tie.Need-enum-told
+enum-told c = search needs
+
+put-refusal-requires-2 : tie.Need-put-refusal-requires-2
+put-refusal-requires-2 c κs = search needs
+
+enum-known-place : tie.Need-enum-known-place
+enum-known-place c = search needs
+
+answer-at-requires : tie.Need-answer-at-requires
+answer-at-requires c κs =
+    let p = c .before .before in
+    let s = p .before .before .parting .ensures in
+    ((rw (p .place .given .1) at s) .0, search needs)
+
+returns-2 : tie.Need-returns-2
+returns-2 c =
+    let m = c .before .before in
+    let s = m .before .before .parting .ensures in
+    record { text = _; is = whole (search needs) (rw (m .enum-told .given .1) at s) refl; wrote = c .put-refusal2 .ensures }
+
+returns-3 : tie.Need-returns-3
+returns-3 c =
+    let a = c .answer-at .ensures in
+    let p = c .before .before .before in
+    let s = p .before .before .parting .ensures in
+    record { text = a .text; is = called (search needs) ((rw (p .place .given .1) at s) .1) (a .is); wrote = a .wrote }
+
+pub calls-text-spec : {M : Type 1} → statement M
+calls-text-spec =
+    tie.close
+    (tie.spec
+    put-refusal-requires
+    returns
+    parting-requires
+    enum-told
+    put-refusal-requires-2
+    enum-known-place
+    answer-at-requires
+    returns-2
+    returns-3)

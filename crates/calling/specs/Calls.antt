@@ -1,0 +1,49 @@
+-- The program `calls`: its whole output for an input.
+use mathlib.Core.Path.{_≡_}
+use mathlib.Core.List.{List}
+use mathlib.Core.Option.{none, some}
+use Prim.Native.Nat.{ℕ, _≤_, _<_}
+use lib.ListN.{length}
+use Rattle.call_sheets.specs.CallSheets.{callOf}
+use Rattle.call_sheets.specs.declared.Call.{Call}
+use Rattle.call_sheets.specs.declared.Call.the-variants as Call
+use Rattle.clause_calls.specs.Calls.{clauseSheets}
+use Rattle.clause_sheets.specs.ClauseSheets.{clauseSheet}
+use Rattle.clause_text.specs.Texts.{ExpandText}
+use Rattle.text.specs.Input.{Parts, parts}
+use Rattle.text.specs.Output.{refusedText, head}
+use Rattle.text.specs.Programs.{longest, TreesText, SweepText}
+use Rattle.text_trees.specs.Places.{PlacesTextOf}
+use Rattle.text_trees.specs.Rows.{RowsTextOf}
+
+-- a call sheet not so written, or fewer sheets than the call has
+abbrev pub Unwritten : List ℕ → Type 0
+Unwritten text = text ≡ head (refusedText 32) 0
+
+-- a call on two sheets: an empty line ends the first, the second takes all the rest
+pub data Two (Of : List ℕ → List ℕ → List ℕ → Type 0) (behind text : List ℕ) : Type 0 where
+  fewer : parts behind ≡ none → Unwritten text → Two Of behind text
+  two : {p : Parts} → parts behind ≡ some p → Of (p .before) (p .behind) text → Two Of behind text
+
+-- `clauses`: the answer on a clause sheet and a token sheet, and its trees
+abbrev pub ClausesText : List ℕ → List ℕ → List ℕ → Type 0
+ClausesText clauses tokens text = TreesText (clauseSheets clauses tokens) text
+
+-- the output of a call, from what follows its call sheet
+abbrev pub CallText : Call → List ℕ → List ℕ → Type 0
+CallText Call.Clauses behind text = Two ClausesText behind text
+CallText (Call.ClausesSweep k) behind text = SweepText k (clauseSheet behind) text
+CallText Call.Expand behind text = ExpandText behind text
+CallText Call.Rows behind text = Two RowsTextOf behind text
+CallText (Call.Share n p i) behind text = Unwritten text
+CallText Call.Columns behind text = Unwritten text
+CallText Call.Places behind text = Two PlacesTextOf behind text
+CallText (Call.Show u) behind text = Unwritten text
+CallText (Call.Change u r at) behind text = Unwritten text
+CallText Call.Not behind text = Unwritten text
+
+-- the output: refused-31 for a longer input, refused-32 for one without an empty line, else that of the call
+pub data CallsOf (input text : List ℕ) : Type 0 where
+  long : longest < length input → text ≡ head (refusedText 31) 0 → CallsOf input text
+  whole : length input ≤ longest → parts input ≡ none → Unwritten text → CallsOf input text
+  called : {p : Parts} → length input ≤ longest → parts input ≡ some p → CallText (callOf (p .before)) (p .behind) text → CallsOf input text

@@ -1,0 +1,107 @@
+// The program `calls`: from its input to its whole output in a lent buffer.
+use call_sheets::Call;
+use call_sheets::call_of;
+use clause_text::clauses_sweep_text;
+use clause_text::clauses_text;
+use clause_text::expand_text;
+use text::Place;
+use text::parting;
+use text::put_refusal;
+use text_trees::places_text;
+use text_trees::rows_text;
+ghost use Prim.Native.Nat.{_+_, _≤_, _<_};
+ghost use lib.ListN.{length, take, drop};
+ghost use Rattle.call_sheets.specs.CallSheets.{callOf};
+ghost use Rattle.text.specs.Printed.{Printed};
+ghost use Rattle.text_trees.specs.Rows.{RowsTextOf};
+ghost use Rattle.text_trees.specs.Places.{PlacesTextOf};
+ghost use Rattle.calling.specs.Calls.{Two, ClausesText, CallText, CallsOf};
+
+// The call `clauses` on the two sheets that the first empty line parts.
+fn clauses_call(s: &[u8], out: &mut [u8]) -> usize
+    requires { ⌜ 262144 ≤ length (now out) ⌝ }
+    ensures { λ r. ⌜ Printed (Two ClausesText) (now (s .entry)) (now (out .entry)) (now (out .exit)) r ⌝ }
+{
+    let place = parting(s);
+    match place {
+        Place::Nowhere => put_refusal(out, 32),
+        Place::At(i) => {
+            let j = i + 1;
+            clauses_text(&s[..i], &s[j..], out)
+        }
+    }
+}
+
+// The call `rows` on the two sheets that the first empty line parts.
+fn rows_call(s: &[u8], out: &mut [u8]) -> usize
+    requires { ⌜ 262144 ≤ length (now out) ⌝ }
+    ensures { λ r. ⌜ Printed (Two RowsTextOf) (now (s .entry)) (now (out .entry)) (now (out .exit)) r ⌝ }
+{
+    let place = parting(s);
+    match place {
+        Place::Nowhere => put_refusal(out, 32),
+        Place::At(i) => {
+            let j = i + 1;
+            rows_text(&s[..i], &s[j..], out)
+        }
+    }
+}
+
+// The call `places` on the two sheets that the first empty line parts.
+fn places_call(s: &[u8], out: &mut [u8]) -> usize
+    requires { ⌜ 262144 ≤ length (now out) ⌝ }
+    ensures { λ r. ⌜ Printed (Two PlacesTextOf) (now (s .entry)) (now (out .entry)) (now (out .exit)) r ⌝ }
+{
+    let place = parting(s);
+    match place {
+        Place::Nowhere => put_refusal(out, 32),
+        Place::At(i) => {
+            let j = i + 1;
+            places_text(&s[..i], &s[j..], out)
+        }
+    }
+}
+
+// The answer to a call on what follows its call sheet.
+fn answer(call: Call, s: &[u8], out: &mut [u8]) -> usize
+    requires { ⌜ 262144 ≤ length (now out) ⌝ }
+    ensures { λ r. ⌜ Printed (CallText call) (now (s .entry)) (now (out .entry)) (now (out .exit)) r ⌝ }
+{
+    match call {
+        Call::Clauses => clauses_call(s, out),
+        Call::ClausesSweep(k) => clauses_sweep_text(s, k, out),
+        Call::Expand => expand_text(s, out),
+        Call::Rows => rows_call(s, out),
+        Call::Share(_, _, _) => put_refusal(out, 32),
+        Call::Columns => put_refusal(out, 32),
+        Call::Places => places_call(s, out),
+        Call::Show(_) => put_refusal(out, 32),
+        Call::Change(_, _, _) => put_refusal(out, 32),
+        Call::Not => put_refusal(out, 32),
+    }
+}
+
+// The answer to the call that the call sheet before the empty line at i names.
+fn answer_at(input: &[u8], i: usize, out: &mut [u8]) -> usize
+    requires { ⌜ i < length (now input) ⌝ }
+    requires { ⌜ 262144 ≤ length (now out) ⌝ }
+    ensures { λ r. ⌜ Printed (CallText (callOf (take i (now (input .entry))))) (drop (i + 1) (now (input .entry))) (now (out .entry)) (now (out .exit)) r ⌝ }
+{
+    let j = i + 1;
+    let call = call_of(&input[..i]);
+    answer(call, &input[j..], out)
+}
+
+// The whole output of the program `calls`; its length.
+pub fn calls_text(input: &[u8], out: &mut [u8; 262144]) -> usize
+    ensures { λ r. ⌜ Printed CallsOf (now (input .entry)) (now (out .entry)) (now (out .exit)) r ⌝ }
+{
+    if 16384 < input.len() {
+        return put_refusal(out, 31);
+    }
+    let place = parting(input);
+    match place {
+        Place::Nowhere => put_refusal(out, 32),
+        Place::At(i) => answer_at(input, i, out),
+    }
+}
