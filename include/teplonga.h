@@ -1,9 +1,9 @@
 /*
  * Teplonga's calls for C and C++, on x86-64 Linux.
  *
- * Link: `rt staticlib face` and `rt staticlib face_trees` prove the libraries and write
- * target/staticlib/libface.a and libface_trees.a; a program takes those that have the functions
- * that it calls, and nothing else:
+ * Link: `rt staticlib face`, `rt staticlib face_trees` (row counts and places) and `rt staticlib
+ * face_clauses` (clause sheets) prove the libraries and write target/staticlib/libface.a and so on;
+ * a program takes those that have the functions that it calls, and nothing else:
  *
  *     cc -I include program.c target/staticlib/libface.a target/staticlib/libface_trees.a
  *
@@ -15,7 +15,8 @@
  * Calls are reentrant: they have no state of their own and may run in any threads at once, each on
  * its own lent memory. They allocate nothing, take no lock, set no errno and make no system call.
  *
- * Stack: the verdict, its trees and a sweep need 16 KB, row counts 20 KB, the refused line 12 KB,
+ * Stack: the verdict, its trees and a sweep need 16 KB, row counts 20 KB, places 32 KB, calls on clause
+ * sheets 40 KB, the refused line 12 KB,
  * whatever they are asked; TEPLONGA_STACK bytes are enough for any call.
  *
  * Time: a verdict or its trees take some milliseconds on the largest sheets. A sweep may take long:
@@ -39,7 +40,7 @@ extern "C" {
 #define TEPLONGA_STACK 65536
 
 /*
- * Three calls answer one number: the answer's code in its upper 32 bits and the refused line's
+ * Each call but those for a refused line answers one number: the answer's code in its upper 32 bits and the refused line's
  * number in its lower 32 bits. The line counts from 1 in its sheet; it is 0 where there is no such
  * line, and 4,294,967,295 also stands for all later lines.
  */
@@ -57,7 +58,8 @@ enum {
     TEPLONGA_CLEAR = 3,
     TEPLONGA_GIVEN = 4,
     /* made by scripts/refusals.py from docs/refusals.tsv */
-    /* 1, rule sheet, line 1: the names are not `left kind first second lay`, ended by byte 10 */
+    /* 1, rule sheet, line 1: the names are not `left kind first second lay` (of a clause sheet
+     * `left clause`), ended by byte 10 */
     TEPLONGA_RULE_NAMES = 101,
     /* 6, each rule line: a 129th rule */
     TEPLONGA_RULE_MANY = 106,
@@ -74,6 +76,13 @@ enum {
     /* 5, each rule line: an earlier rule has the same left, kind, first and second, under any lay;
      * for an A rule: an earlier A rule of the same left shares a terminal */
     TEPLONGA_RULE_TWICE = 105,
+    /* 41, each clause line: not a number of 0 to 63, a blank and an expression as docs/FORMAT.md
+     * has it, ended by byte 10, depth aside */
+    TEPLONGA_CLAUSE_FORM = 141,
+    /* 42, each clause line: groups nested deeper than sixteen levels */
+    TEPLONGA_CLAUSE_DEEP = 142,
+    /* 43, clause sheet, end: the expansion has a nonterminal past 63 or more than 128 rules */
+    TEPLONGA_CLAUSE_MANY = 143,
     /* 7, rule sheet, end: no rule has left 0 */
     TEPLONGA_NO_START = 107,
     /* 8, rule sheet, end: the rules are cyclic: a chain of edges returns to where it began */
@@ -224,6 +233,46 @@ typedef struct teplonga_part {
 void teplonga_refused_line(const uint8_t *rules, size_t rules_length,
                            const uint8_t *tokens, size_t tokens_length,
                            teplonga_part *line);
+
+/*
+ * Clause sheets. The verdict, the trees, the sweep and the refused line take a clause sheet where
+ * the calls above take a rule sheet, and promise the same of the rules that it expands to; where
+ * those are refused 1 to 8 or 44 these are refused 1, 41 to 43, 7 or 8.
+ */
+uint64_t teplonga_clause_verdict(const uint8_t *clauses, size_t clauses_length,
+                                 const uint8_t *tokens, size_t tokens_length,
+                                 uint64_t *words, size_t words_length);
+
+uint64_t teplonga_clause_trees(const uint8_t *clauses, size_t clauses_length,
+                               const uint8_t *tokens, size_t tokens_length,
+                               uint64_t *words, size_t words_length,
+                               uint8_t *first, size_t first_length,
+                               uint8_t *second, size_t second_length,
+                               uint64_t *counts, size_t counts_length);
+
+uint64_t teplonga_clause_sweep(const uint8_t *clauses, size_t clauses_length,
+                               size_t bound,
+                               uint64_t *words, size_t words_length,
+                               uint64_t *found, size_t found_length);
+
+void teplonga_clause_refused_line(const uint8_t *clauses, size_t clauses_length,
+                                  const uint8_t *tokens, size_t tokens_length,
+                                  teplonga_part *line);
+
+/* The most bytes of an expanded rule sheet. */
+#define TEPLONGA_MOST_EXPANDED 4096
+
+/*
+ * The rule sheet that a clause sheet expands to: given, or refused 1, 41 to 43, 7, 8 or 22.
+ *
+ * Its bytes stand at the front of `sheet`, and all bytes after them are 0. Every refusal but 22
+ * changes no byte. 22 says that it does not fit; it leaves all of `sheet` 0.
+ *
+ * `count` gets the number of bytes, 0 on a refusal; words past it never change.
+ */
+uint64_t teplonga_expand(const uint8_t *clauses, size_t clauses_length,
+                         uint8_t *sheet, size_t sheet_length,
+                         uint64_t *count, size_t count_length);
 
 #ifdef __cplusplus
 }

@@ -170,6 +170,49 @@ def twice(lines, at):
     return next(i for i in range(1, at) if alike(rule_key(lines[i]), key))
 
 
+CLAUSE_LEFT = re.compile(rb"[0-9]{1,5}(?= )")
+CLAUSE_ITEM = re.compile(rb"[nt]([0-9]{1,5})")
+CLAUSE_REPEAT = re.compile(rb"[+*]:align|[?+*]")
+CLAUSE_SUFFIX = re.compile(rb"[+*]:align|[?+*]|:(?:offside|offalign|single)")
+CLAUSE_BETWEEN = re.compile(rb" :(?:align|indent): | \| | ")
+
+
+def clause_form_fault(line):
+    """Refusal 41: the first place at which the line can no longer go on to be so written."""
+    data, depth = line.data, 0
+    left = CLAUSE_LEFT.match(data)
+    if not left or int(left[0]) > 63:
+        return line.field(0)
+    at = left.end() + 1
+    while True:
+        while data[at : at + 1] == b"(":
+            at, depth = at + 1, depth + 1
+        item = CLAUSE_ITEM.match(data, at)
+        if not item or int(item[1]) > 63:
+            return at, item.end() if item else min(at + 1, len(data))
+        at, suffix = item.end(), CLAUSE_REPEAT
+        while True:
+            found = suffix.match(data, at)
+            at, suffix = found.end() if found else at, CLAUSE_SUFFIX
+            if not depth or data[at : at + 1] != b")":
+                break
+            at, depth = at + 1, depth - 1
+        between = CLAUSE_BETWEEN.match(data, at)
+        if not between:
+            return at, min(at + 1, len(data))
+        at = between.end()
+
+
+def clause_deep_fault(line):
+    """Refusal 42: where the seventeenth level begins."""
+    depth = 0
+    for at, byte in enumerate(line.data):
+        depth += (byte == ord("(")) - (byte == ord(")"))
+        if depth > 16:
+            return at, at + 1
+    return None
+
+
 def token_order_fault(lines, at):
     """Refusal 15: the line field, where the line falls, else the column."""
     before, line = lines[at - 1], lines[at]
@@ -193,6 +236,10 @@ def fault(number, sheet, lines, at):
         return line.field(3), None
     if number == 5:
         return (0, line.field(3)[1]), twice(lines, at)
+    if number == 41:
+        return clause_form_fault(line), None
+    if number == 42:
+        return clause_deep_fault(line), None
     if number == 12:
         return line.first(lambda _, field: not is_number(field), len(lines[0].fields)), None
     if number == 13:

@@ -40,9 +40,9 @@ class Believe(unittest.TestCase):
         self.assertEqual((status, errors), (1, f"believe: docs/BELIEVE.md lists {more}, on which no public promise rests\n"))
 
     def test_a_public_function_left_out_is_told(self):
-        status, errors = self.believe(LIST.replace("`text::check_text`", "").replace("`text::sweep_text`", ""))
+        status, errors = self.believe(LIST.replace("`calling::calls_text`", ""))
         self.assertEqual(status, 1)
-        self.assertIn("crates/text/specs/Programs.antt, on which no public promise rests", errors)
+        self.assertIn("crates/calling/specs/Calls.antt, on which no public promise rests", errors)
 
 
 if __name__ == "__main__":

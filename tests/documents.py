@@ -24,7 +24,7 @@ def pairs(text):
     for block in blocks(text):
         if block.startswith("answer line\n"):
             yield before, block
-        elif block.startswith(("left kind", "bound\n")) and "\n\n" in block:
+        elif block.startswith(("left kind", "bound\n", "call\n")) and "\n\n" in block:
             before = block
 
 
@@ -33,11 +33,11 @@ class Documents(unittest.TestCase):
         count = 0
         for name in ("README.md", "docs/FORMAT.md"):
             for shown, answer in pairs((TOP / name).read_text()):
-                script = "sweep" if shown.startswith("bound") else "check"
-                ended = subprocess.run([TOP / "bin" / script], input=shown, capture_output=True, text=True, check=False)
+                program = {"bound": "sweeper", "call": "calls"}.get(shown.split("\n")[0], "checker")
+                ended = subprocess.run([TOP / "target" / "bin" / program], input=shown, capture_output=True, text=True, check=False)
                 self.assertEqual(ended.stdout, answer, name)
                 count += 1
-        self.assertGreaterEqual(count, 3)
+        self.assertGreaterEqual(count, 4)
 
     def test_every_file_that_is_named_is_there(self):
         for name in ("README.md", *(f"docs/{path.name}" for path in (TOP / "docs").glob("*.md"))):

@@ -270,6 +270,78 @@ static void row_counts(void)
     free(doubling);
 }
 
+/* --------------------------------------------------------------------- places */
+
+static uint64_t places(const char *rules, const char *tokens, size_t n, size_t size, uint64_t **lent, uint8_t **list, uint64_t **count)
+{
+    struct sheet r = sheet(rules), t = sheet(tokens);
+
+    *lent = words(n, 7);
+    *list = bytes(size, 7);
+    *count = words(2, 7);
+    return teplonga_places(r.at, r.length, t.at, t.length, *lent, n, *list, size, *count, 2);
+}
+
+static void all_places(void)
+{
+    uint64_t *lent, *count;
+    uint8_t *list;
+
+    CHECK(places(PLAIN, THREE, 14, 2 * TEPLONGA_PLACE, &lent, &list, &count) == coded(TEPLONGA_TWO, 0));
+    CHECK(memcmp(list, "\0\0\3\0\0\0", 6) == 0 && count[0] == 1 && count[1] == 7);
+    CHECK(memcmp(lent, SPANS, sizeof SPANS) == 0);
+    CHECK(places(PLAIN, TOKEN_NAMES "0 1 1\n", 4, 3, &lent, &list, &count) == coded(TEPLONGA_ONE, 0));
+    CHECK(all_bytes(list, 3, 0) && count[0] == 0);
+    CHECK(places(PLAIN, THREE, 14, 2, &lent, &list, &count) == coded(TEPLONGA_FEW_ROWS, 0));
+    CHECK(all_bytes(list, 2, 0) && count[0] == 0 && memcmp(lent, SPANS, sizeof SPANS) == 0);
+    CHECK(places(PLAIN, THREE, 13, 3, &lent, &list, &count) == coded(TEPLONGA_FEW_WORDS, 0));
+    CHECK(all_bytes(list, 3, 7) && all_words(lent, 13, 7) && count[0] == 0);
+}
+
+/* -------------------------------------------------------------------- clauses */
+
+#define CLAUSES "left clause\n0 t0 | n0 n0\n"
+#define EXPANDED RULE_NAMES "0 U 1 - none\n0 U 3 - none\n1 U 2 - none\n2 A 0 - none\n3 B 0 0 none\n"
+
+static uint64_t expanded(const char *clauses, size_t size, uint8_t **out, uint64_t **count)
+{
+    struct sheet c = sheet(clauses);
+
+    *out = bytes(size, 7);
+    *count = words(2, 7);
+    return teplonga_expand(c.at, c.length, *out, size, *count, 2);
+}
+
+/* Each call on the clause sheet answers as the call on the rule sheet that it expands to. */
+static void clauses(void)
+{
+    struct sheet c = sheet(CLAUSES), r = sheet(EXPANDED), t = sheet(THREE), bad = sheet("left clause\n0 t0\n0 n0 \n");
+    uint64_t *one = words(15, 7), *two = words(15, 7), *found = words(23, 7), *other = words(23, 7), *count;
+    uint8_t *first = bytes(64, 7), *second = bytes(64, 7), *third = bytes(64, 7), *fourth = bytes(64, 7), *out;
+    size_t long_enough = sizeof EXPANDED - 1;
+    teplonga_part line = { bad.at, 0 };
+
+    CHECK(teplonga_clause_verdict(c.at, c.length, t.at, t.length, one, 15) == coded(TEPLONGA_TWO, 0));
+    CHECK(teplonga_verdict(r.at, r.length, t.at, t.length, two, 15) == coded(TEPLONGA_TWO, 0));
+    CHECK(memcmp(one, two, 15 * sizeof *one) == 0 && one[14] == 7);
+    CHECK(teplonga_clause_trees(c.at, c.length, t.at, t.length, one, 15, first, 64, second, 64, found, 3) == coded(TEPLONGA_TWO, 0));
+    CHECK(teplonga_trees(r.at, r.length, t.at, t.length, two, 15, third, 64, fourth, 64, other, 3) == coded(TEPLONGA_TWO, 0));
+    CHECK(memcmp(first, third, 64) == 0 && memcmp(second, fourth, 64) == 0 && memcmp(found, other, 23 * sizeof *found) == 0);
+    CHECK(teplonga_clause_sweep(c.at, c.length, 3, one, 15, found, 23) == coded(TEPLONGA_TWO, 0));
+    CHECK(teplonga_sweep(r.at, r.length, 3, two, 15, other, 23) == coded(TEPLONGA_TWO, 0));
+    CHECK(memcmp(found, other, 23 * sizeof *found) == 0 && memcmp(one, two, 15 * sizeof *one) == 0);
+    CHECK(expanded(CLAUSES, long_enough + 1, &out, &count) == coded(TEPLONGA_GIVEN, 0));
+    CHECK(memcmp(out, EXPANDED, long_enough) == 0 && out[long_enough] == 0 && count[0] == long_enough && count[1] == 7);
+    CHECK(expanded(CLAUSES, long_enough - 1, &out, &count) == coded(TEPLONGA_FEW_ROWS, 0));
+    CHECK(all_bytes(out, long_enough - 1, 0) && count[0] == 0);
+    CHECK(expanded("left clause\n0 t64\n", 9, &out, &count) == coded(TEPLONGA_CLAUSE_FORM, 2));
+    CHECK(all_bytes(out, 9, 7) && count[0] == 0);
+    teplonga_clause_refused_line(bad.at, bad.length, t.at, t.length, &line);
+    CHECK(line.at == bad.at + 17 && line.length == 5);
+    teplonga_clause_refused_line(c.at, c.length, t.at, t.length, &line);
+    CHECK(line.at == c.at && line.length == 0);
+}
+
 /* ---------------------------------------------------------------------- sweep */
 
 static uint64_t sweep(const char *rules, size_t bound, size_t n, size_t places, uint64_t **lent, uint64_t **found)
@@ -382,7 +454,7 @@ static void threads(void)
 /* A large sheet, a long sentence and a long sweep, for the stack; their memory is not on it. */
 static char big_rules[4000], big_tokens[2000], big_sweep[400];
 static uint64_t big_words[4162], big_found[TEPLONGA_FOUND], big_counts[TEPLONGA_COUNTS];
-static uint8_t big_first[16384], big_second[16384];
+static uint8_t big_first[16384], big_second[16384], big_list[49152];
 
 static void make_big(void)
 {
@@ -415,6 +487,15 @@ static void *big_calls(void *which)
     case 3:
         teplonga_rows(rules, r, tokens, t, big_words, 4162, big_counts, 2);
         break;
+    case 4:
+        teplonga_places(rules, r, tokens, t, big_words, 4162, big_list, sizeof big_list, big_counts, 1);
+        break;
+    case 5:
+        teplonga_clause_trees((const uint8_t *)CLAUSES, sizeof CLAUSES - 1, tokens, t, big_words, 4162, big_first, 16384, big_second, 16384, big_counts, 2);
+        break;
+    case 6:
+        teplonga_expand((const uint8_t *)CLAUSES, sizeof CLAUSES - 1, big_first, 16384, big_counts, 1);
+        break;
     default:
         teplonga_refused_line(rules, r, tokens, t, &line);
     }
@@ -439,10 +520,10 @@ static size_t stack_of(int which)
 
 static void stacks(void)
 {
-    static const char *names[] = { "verdict", "trees", "sweep", "rows", "refused_line" };
+    static const char *names[] = { "verdict", "trees", "sweep", "rows", "places", "clause_trees", "expand", "refused_line" };
 
     make_big();
-    for (int which = 0; which < 5; which++) {
+    for (int which = 0; which < 8; which++) {
         size_t used = stack_of(which);
         printf("%s: %zu bytes of stack\n", names[which], used);
         CHECK(used <= TEPLONGA_STACK);
@@ -458,6 +539,8 @@ int main(int count, char **arguments)
         both_trees();
         other_trees();
         row_counts();
+        all_places();
+        clauses();
         sweeps();
         refused_lines();
     }

@@ -1,5 +1,5 @@
 #!/usr/bin/env python3
-"""The programs `check` and `sweep` and the scripts in front of them: exit status, files, failing reads and writes.
+"""The programs `check`, `sweep` and `calls` and the scripts in front of them: exit status, files, failing reads and writes.
 
     tests/programs.py        needs the built programs and a C compiler
 """
@@ -16,7 +16,7 @@ import unittest
 from pathlib import Path
 
 TOP = Path(__file__).resolve().parent.parent
-CHECK, SWEEP = TOP / "bin" / "check", TOP / "bin" / "sweep"
+CHECK, SWEEP, CALL = TOP / "bin" / "check", TOP / "bin" / "sweep", TOP / "bin" / "teplonga"
 BUILT = TOP / "target" / "bin"
 RULES = b"left kind first second lay\n0 B 0 0 none\n0 A 0 - none\n"
 GOOD = RULES + b"\nterm line col\n0 1 1\n0 1 2\n0 1 3\n"
@@ -25,6 +25,7 @@ BAD = b"left kind first second lay\n0 A 64 - none\n\nterm line col\n"
 SWEPT = b"bound\n3\n\n" + RULES
 
 sys.path.insert(0, str(TOP / "reference"))
+import calls  # noqa: E402
 import teplonga  # noqa: E402
 
 TWO = teplonga.check_program(GOOD)
@@ -50,6 +51,68 @@ class Room(unittest.TestCase):
         path = self.room / name
         path.write_bytes(data)
         return path
+
+
+CLAUSES = b"left clause\n0 t0 | n0 n0\n"
+TOKENS = b"\nterm line col\n0 1 1\n0 1 2\n0 1 3\n"
+# words of bin/teplonga, the call sheet that they stand for, and an input
+CALLS = [
+    (["rows"], b"call\nrows\n", GOOD),
+    (["places"], b"call\nplaces\n", GOOD),
+    (["clauses"], b"call\nclauses\n", CLAUSES + TOKENS),
+    (["expand"], b"call\nexpand\n", CLAUSES),
+    (["clauses-sweep", "3"], b"call bound\nclauses 3\n", CLAUSES),
+    (["clauses-sweep", "00002"], b"call bound\nclauses 00002\n", CLAUSES),
+]
+
+
+class Calls(Room):
+    """The program `calls` and bin/teplonga in front of it."""
+
+    def test_each_call(self):
+        for words, sheet, data in CALLS:
+            output = calls.calls_program(sheet + b"\n" + data)
+            self.assertIn(output.split(b" ")[1].split(b"\n")[1], (b"two", b"given", b"clear"), words)
+            self.assertEqual(run(CALL, *words, data=data), (0, output, ""), words)
+            self.assertEqual(run(CALL, *words, self.file("input", data)), (0, output, ""), words)
+
+    def test_refusals_and_missing_sheets(self):
+        for words, sheet, data in CALLS:
+            for damaged in (b"", b"\n", data[:-1], data.replace(b"0 ", b"0  ", 1), data.split(b"\n\n")[0]):
+                output = calls.calls_program(sheet + b"\n" + damaged)
+                self.assertEqual(run(CALL, *words, data=damaged), (int(b"\nrefused-" in output), output, ""), (words, damaged))
+
+    def test_call_sheets(self):
+        names = [b"call", b"call bound", b"call ", b"call  bound", b"Call"]
+        values = [b"rows", b"rows ", b"clauses 3", b"clauses 000003", b"clauses  3", b"clauses 3 3", b"clauses", b"expand\n", b""]
+        for sheet in [name + b"\n" + value for name in names for value in values]:
+            for end in (b"\n\n", b"\n", b""):
+                data = sheet + end + GOOD
+                self.assertEqual(run(BUILT / "calls", data=data)[1], calls.calls_program(data), data)
+        for count in (16_384, 16_385):
+            data = (b"call\nrows\n\n" + GOOD).ljust(count, b"x")
+            self.assertEqual(run(BUILT / "calls", data=data)[1], calls.calls_program(data))
+
+    def test_check_and_sweep(self):
+        self.assertEqual(run(CALL, "check", data=GOOD), (0, TWO, ""))
+        self.assertEqual(run(CALL, "sweep", data=SWEPT), run(SWEEP, data=SWEPT))
+
+    def test_usage(self):
+        status, out, errors = run(CALL)
+        self.assertEqual((status, errors), (0, ""))
+        for words, _, _ in CALLS:
+            self.assertIn(f"\n  {words[0]} ".encode(), out)
+        for words in (["no-such"], ["clauses-sweep"], ["clauses-sweep", "3\n\nleft"], ["--nope"]):
+            status, out, errors = run(CALL, *words)
+            self.assertEqual((status, out), (2, b""), words)
+            self.assertIn("usage: bin/teplonga", errors)
+
+    def test_the_examples(self):
+        for path in sorted((TOP / "examples").glob("*.clauses")):
+            output = calls.calls_program(b"call bound\nclauses 3\n\n" + path.read_bytes())
+            self.assertEqual(run(CALL, "clauses-sweep", 3, path), (0, output, ""), path)
+        path = TOP / "examples" / "block.readings"
+        self.assertEqual(run(CALL, "clauses", path), (0, calls.calls_program(b"call\nclauses\n\n" + path.read_bytes()), ""))
 
 
 class Scripts(Room):

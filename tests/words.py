@@ -1,5 +1,5 @@
 #!/usr/bin/env python3
-"""Each refusal in words: bin/check -v and bin/sweep -v say the sentence of docs/refusals.tsv, show the refused line and
+"""Each refusal in words: bin/check -v, bin/sweep -v and bin/teplonga -v say the sentence of docs/refusals.tsv, show the refused line and
 mark the field at fault. Every number of the table is reached.
 
     tests/words.py        needs the built programs
@@ -27,6 +27,10 @@ def check(rules, tokens=TOKENS):
 
 def sweep(bound, rules=PLAIN):
     return "sweep", f"bound\n{bound}\n\n{rules}"
+
+
+def clauses(line, *earlier, tokens=TOKENS):
+    return "teplonga clauses", "left clause\n" + "".join(f"{each}\n" for each in (*earlier, line)) + f"\n{tokens}"
 
 
 def rule(line, *earlier):
@@ -79,6 +83,22 @@ CASES = [
     (47, 2, token("0 1 65535 2", names=WIDE), "0 1 65535 2", "          ^"),
     (15, 3, token("0 1 3", "0 2 1"), "0 1 3", "  ^", "line 2 is 0 2 1"),
     (15, 3, token("0 1 3 1", "0 1 1 3", names=WIDE), "0 1 3 1", "    ^", "line 2 is 0 1 1 3"),
+    (1, 1, ("teplonga expand", "left clauses\n"), "left clauses", "     ^^^^^^^"),
+    (41, 2, clauses("0"), "0", "^"),
+    (41, 2, clauses("64 t0"), "64 t0", "^^"),
+    (41, 2, clauses("0 t64 | n0"), "0 t64 | n0", "  ^^^"),
+    (41, 2, clauses("0 t1 |n0"), "0 t1 |n0", "     ^"),
+    (41, 3, clauses("0 (t1 (n0)+:single)", "0 t1"), "0 (t1 (n0)+:single)", "           ^"),
+    (41, 2, clauses("0 n1+:align:"), "0 n1+:align:", "           ^"),
+    (41, 2, clauses("0 (t1 n0"), "0 (t1 n0", "        ^"),
+    (41, 2, clauses("0 t1 :offside"), "0 t1 :offside", "     ^"),
+    (41, 2, clauses("0 ()"), "0 ()", "   ^"),
+    (41, 2, ("teplonga expand", "left clause\n0 t1"), "0 t1", "    ^", "(the line is not ended by byte 10)"),
+    (42, 2, clauses("0 " + "(" * 17 + "t0" + ")" * 17), "0 " + "(" * 17 + "t0" + ")" * 17, " " * 18 + "^"),
+    (43, 0, clauses("0 n63")),
+    (7, 0, clauses("1 t0")),
+    (13, 2, clauses("0 t0", tokens=TOKENS + "0 0 1\n"), "0 0 1", "  ^"),
+    (32, 0, ("teplonga rows", PLAIN)),
     (23, 0, sweep(8)),
     (24, 0, sweep(5, RULES + "0 A 0 7 none\n")),
     (22, 0, check(RULES + "".join(f"{n} B {n + 1} {n + 1} none\n" for n in range(12)) + "12 E - - none\n")),
@@ -88,11 +108,13 @@ CASES = [
 class Words(unittest.TestCase):
     def test_every_refusal_in_words(self):
         for number, line, (script, data), *said in CASES:
-            ended = subprocess.run([TOP / "bin" / script, "-v"], input=data.encode(), capture_output=True, check=False)
+            name, *call = script.split(" ")
+            ended = subprocess.run([TOP / "bin" / name, "-v", *call], input=data.encode(), capture_output=True, check=False)
             self.assertEqual(ended.stdout.decode(), f"answer line\nrefused-{number} {line}\n", data[:200])
             self.assertEqual(ended.returncode, 1)
             first, *rest = ended.stderr.decode().splitlines()
-            place = f", {'token' if number in (11, 12, 13, 14, 15, 47) else 'rule'} sheet, line {line}" if line else ""
+            sheet = "token" if number in (11, 12, 13, 14, 15, 47) else "clause" if call else "rule"
+            place = f", {sheet} sheet, line {line}" if line else ""
             self.assertEqual(first, f"refused-{number}{place}: {MEANING[number]}")
             self.assertEqual(rest, [f"    {text}" for text in said], data[:200])
 

@@ -7,9 +7,9 @@
 
 /// A part of a sheet.
 #[repr(C)]
-struct Part {
-    at: *const u8,
-    length: usize,
+pub struct Part {
+    pub at: *const u8,
+    pub length: usize,
 }
 
 extern "C" {
@@ -137,7 +137,7 @@ pub fn refused_line<'a>(rules: &'a [u8], tokens: &'a [u8]) -> &'a [u8] {
 }
 
 /// The part as a slice of this sheet, if it lies within.
-fn within<'a>(sheet: &'a [u8], part: &Part) -> Option<&'a [u8]> {
+pub fn within<'a>(sheet: &'a [u8], part: &Part) -> Option<&'a [u8]> {
     let start = part.at.addr().checked_sub(sheet.as_ptr().addr())?;
     sheet.get(start..start.checked_add(part.length)?)
 }

@@ -12,6 +12,7 @@
 //! | [`places`] | the verdict, and all places at which the readings part |
 //! | [`sweep`] | the first short sentence that has two trees, or clear |
 //! | [`refused_line`] | the refused line itself, as a part of its sheet |
+//! | [`clauses`] | a module: verdict, trees, sweep and refused line of clause sheets, and the rule sheet that one expands to |
 //!
 //! Each reply has a `result`: the answer, or a [`Refused`] as an error.
 //!
@@ -38,7 +39,10 @@ mod answer;
 #[allow(unsafe_code)]
 mod c;
 #[allow(unsafe_code)]
+mod c_clauses;
+#[allow(unsafe_code)]
 mod c_trees;
+pub mod clauses;
 mod place;
 mod refusal;
 mod row_count;

@@ -7,8 +7,8 @@ use std::fmt;
 #[derive(Clone, Copy, Debug, PartialEq, Eq, Hash)]
 #[non_exhaustive]
 pub enum Refusal {
-    /// 1, rule sheet, line 1: the names are not `left kind first second lay`, ended
-    /// by byte 10.
+    /// 1, rule sheet, line 1: the names are not `left kind first second lay` (of a
+    /// clause sheet `left clause`), ended by byte 10.
     RuleNames = 1,
     /// 6, each rule line: a 129th rule.
     RuleMany = 6,
@@ -26,6 +26,14 @@ pub enum Refusal {
     /// second, under any lay; for an A rule: an earlier A rule of the same left
     /// shares a terminal.
     RuleTwice = 5,
+    /// 41, each clause line: not a number of 0 to 63, a blank and an expression as
+    /// docs/FORMAT.md has it, ended by byte 10, depth aside.
+    ClauseForm = 41,
+    /// 42, each clause line: groups nested deeper than sixteen levels.
+    ClauseDeep = 42,
+    /// 43, clause sheet, end: the expansion has a nonterminal past 63 or more than
+    /// 128 rules.
+    ClauseMany = 43,
     /// 7, rule sheet, end: no rule has left 0.
     NoStart = 7,
     /// 8, rule sheet, end: the rules are cyclic: a chain of edges returns to where
@@ -64,7 +72,7 @@ pub enum Refusal {
 
 impl Refusal {
     /// All refusals, in the order in which calls look.
-    pub const ALL: [Refusal; 19] = [
+    pub const ALL: [Refusal; 22] = [
         Refusal::RuleNames,
         Refusal::RuleMany,
         Refusal::RuleForm,
@@ -72,6 +80,9 @@ impl Refusal {
         Refusal::RuleLay,
         Refusal::RuleReversed,
         Refusal::RuleTwice,
+        Refusal::ClauseForm,
+        Refusal::ClauseDeep,
+        Refusal::ClauseMany,
         Refusal::NoStart,
         Refusal::Cyclic,
         Refusal::TokenNames,
@@ -91,7 +102,7 @@ impl Refusal {
     pub const fn meaning(self) -> &'static str {
         match self {
             Refusal::RuleNames => {
-                "the names are not `left kind first second lay`, ended by byte 10"
+                "the names are not `left kind first second lay` (of a clause sheet `left clause`), ended by byte 10"
             }
             Refusal::RuleMany => "a 129th rule",
             Refusal::RuleForm => {
@@ -103,6 +114,11 @@ impl Refusal {
             Refusal::RuleTwice => {
                 "an earlier rule has the same left, kind, first and second, under any lay; for an A rule: an earlier A rule of the same left shares a terminal"
             }
+            Refusal::ClauseForm => {
+                "not a number of 0 to 63, a blank and an expression as docs/FORMAT.md has it, ended by byte 10, depth aside"
+            }
+            Refusal::ClauseDeep => "groups nested deeper than sixteen levels",
+            Refusal::ClauseMany => "the expansion has a nonterminal past 63 or more than 128 rules",
             Refusal::NoStart => "no rule has left 0",
             Refusal::Cyclic => "the rules are cyclic: a chain of edges returns to where it began",
             Refusal::TokenNames => {

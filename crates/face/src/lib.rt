@@ -88,11 +88,20 @@ fn put_sentence(found: &mut [u64], s: Sentence) -> usize
 }
 
 // The sentence, where the lent words are enough for it.
-fn put_found(found: &mut [u64], s: Sentence)
+pub fn put_found(found: &mut [u64], s: Sentence)
     ensures { λ r. ⌜ AtFront 22 (sentenceWords s) (now (found .entry)) (now (found .exit)) ⌝ }
 {
     if 22 <= found.len() {
         put_sentence(found, s);
+    }
+}
+
+// A number, where there is a lent word for it.
+pub fn put_one(lent: &mut [u64], n: usize)
+    ensures { λ r. ⌜ AtFront 1 (n ∷ []) (now (lent .entry)) (now (lent .exit)) ⌝ }
+{
+    if 1 <= lent.len() {
+        put_word(lent, 0, n as u64);
     }
 }
 

@@ -3,11 +3,9 @@ use call_places::places;
 use call_rows::rows;
 use face::pack;
 use face::put_counts;
-use face::put_word;
+use face::put_one;
 use row_counts::RowCount;
 ghost use mathlib.Core.Path.{_≡_};
-ghost use mathlib.Core.List.{[], _∷_};
-ghost use Rattle.face.specs.Face.{AtFront};
 ghost use Rattle.face_trees.specs.Places.{PlacesWord};
 ghost use Rattle.face_trees.specs.Rows.{countWord, RowsWord};
 
@@ -37,15 +35,6 @@ pub extern "C" fn teplonga_rows(
     let second = p.second;
     put_counts(counts, count(first), count(second));
     pack(a, p.line)
-}
-
-// A number, where there is a lent word for it.
-fn put_one(lent: &mut [u64], n: usize)
-    ensures { λ r. ⌜ AtFront 1 (n ∷ []) (now (lent .entry)) (now (lent .exit)) ⌝ }
-{
-    if 1 <= lent.len() {
-        put_word(lent, 0, n as u64);
-    }
 }
 
 // The places: the verdict's code times 2^32 plus the line's number. The words get the span sheet, `list` the places, `count` their number.

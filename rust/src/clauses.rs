@@ -1,0 +1,92 @@
+//! The calls on clause sheets: choices, groups and repeats in place of rules.
+//!
+//! They promise of the rules that a clause sheet expands to what the calls of
+//! the same names promise of a rule sheet.
+
+use crate::{c_clauses, sentence, Answer, Refused, Reply, SweepReply, TreesReply};
+
+/// The most bytes of an expanded rule sheet.
+pub const MOST_EXPANDED: usize = 4096;
+
+/// How many readings the sentence has: none, one, or two for two or more.
+///
+/// ```
+/// use teplonga::{clauses::verdict, words_for, Answer};
+///
+/// let clauses = b"left clause\n0 t0 | n0 n0\n";
+/// let tokens = b"term line col\n0 1 1\n0 1 2\n0 1 3\n";
+/// assert_eq!(verdict(clauses, tokens, &mut vec![0; words_for(3)]).answer, Answer::Two);
+/// ```
+pub fn verdict(clauses: &[u8], tokens: &[u8], words: &mut [u64]) -> Reply {
+    Reply::unpacked(c_clauses::verdict(clauses, tokens, words))
+}
+
+/// The verdict, and the rows of the first and the second tree under the
+/// expanded rules.
+pub fn trees<'a>(
+    clauses: &[u8],
+    tokens: &[u8],
+    words: &mut [u64],
+    first: &'a mut [u8],
+    second: &'a mut [u8],
+) -> TreesReply<'a> {
+    let (word, counts) = c_clauses::trees(clauses, tokens, words, first, second);
+    TreesReply::unpacked(word, counts, first, second)
+}
+
+/// The first candidate of 1 to `bound` tokens that has two readings, or clear.
+pub fn sweep(clauses: &[u8], bound: usize, words: &mut [u64]) -> SweepReply {
+    let mut found = [0; sentence::PLACES];
+    let word = c_clauses::sweep(clauses, bound, words, &mut found);
+    SweepReply::unpacked(word, &found)
+}
+
+/// What [`expand`] answers. The sheet lies in the lent bytes.
+#[derive(Clone, Debug)]
+#[must_use]
+pub struct Expanded<'a> {
+    /// Given, or a refusal.
+    pub answer: Answer,
+    /// The line, as in [`Reply`].
+    pub line: u32,
+    /// The bytes of the rule sheet; none where it is refused.
+    pub sheet: &'a [u8],
+}
+
+impl Expanded<'_> {
+    /// The answer, or a refusal as an error.
+    pub fn result(&self) -> Result<Answer, Refused> {
+        self.answer.result(self.line)
+    }
+}
+
+/// The rule sheet that a clause sheet expands to; [`MOST_EXPANDED`] bytes are
+/// enough for any.
+///
+/// Bytes after it are 0 after an accepted call. A sheet that does not fit is
+/// refused-22, and all lent bytes are 0.
+///
+/// ```
+/// use teplonga::clauses::{expand, MOST_EXPANDED};
+///
+/// let mut lent = [0; MOST_EXPANDED];
+/// let rules = b"left kind first second lay\n0 U 1 - none\n1 U 2 - none\n2 A 5 - none\n";
+/// assert_eq!(expand(b"left clause\n0 t5\n", &mut lent).sheet, rules);
+/// ```
+pub fn expand<'a>(clauses: &[u8], sheet: &'a mut [u8]) -> Expanded<'a> {
+    let (word, count) = c_clauses::expand(clauses, sheet);
+    let Reply { answer, line } = Reply::unpacked(word);
+    Expanded { answer, line, sheet: &sheet[..count] }
+}
+
+/// The line for which a call with these sheets is refused, as
+/// [`refused_line`](crate::refused_line) has it.
+///
+/// ```
+/// let clauses = b"left clause\n0 t5\n0 ()\n";
+/// assert_eq!(teplonga::clauses::refused_line(clauses, b"term line col\n"), b"0 ()");
+/// ```
+#[must_use]
+pub fn refused_line<'a>(clauses: &'a [u8], tokens: &'a [u8]) -> &'a [u8] {
+    c_clauses::refused_line(clauses, tokens)
+}
