@@ -7,6 +7,7 @@ What questions look like is told in `questions.py`. An answer holds all that the
 call answers and every lent word and byte after it.
 """
 
+import functools
 import os
 import sys
 
@@ -14,7 +15,10 @@ HERE = os.path.dirname(os.path.abspath(__file__))
 sys.path.insert(0, os.path.join(HERE, "..", "..", "reference"))
 sys.dont_write_bytecode = True
 
+import clauses  # noqa: E402
+import places  # noqa: E402
 import questions  # noqa: E402
+import rows  # noqa: E402
 import teplonga  # noqa: E402
 from questions import hexed  # noqa: E402
 
@@ -40,16 +44,16 @@ def shown_words(words):
     return " ".join(["words", *(f"{word:x}" for word in words)])
 
 
-def verdict(rules, tokens, words, salt):
-    answer, line, after = teplonga.verdict_call(
+def verdict(calls, rules, tokens, words, salt):
+    answer, line, after = calls.verdict_call(
         bytes_of(rules), bytes_of(tokens), lent_words(int(salt), int(words))
     )
     return f"{answer} {line} {shown_words(after)}"
 
 
-def trees(rules, tokens, words, first, second, salt):
+def trees(calls, rules, tokens, words, first, second, salt):
     salt = int(salt)
-    answer, line, count1, count2, after, first, second = teplonga.trees_call(
+    answer, line, count1, count2, after, first, second = calls.trees_call(
         bytes_of(rules),
         bytes_of(tokens),
         lent_words(salt, int(words)),
@@ -60,17 +64,32 @@ def trees(rules, tokens, words, first, second, salt):
     return f"{answer} {line} rows {count1} {count2} {memory} {shown_words(after)}"
 
 
-def line(rules, tokens):
+def counts(rules, tokens, words, salt):
+    answer, line, first, second, after = rows.rows_call(
+        bytes_of(rules), bytes_of(tokens), lent_words(int(salt), int(words))
+    )
+    return f"{answer} {line} counts {first} {second} {shown_words(after)}"
+
+
+def listed(rules, tokens, words, size, salt):
+    salt = int(salt)
+    answer, line, count, after, made = places.places_call(
+        bytes_of(rules), bytes_of(tokens), lent_words(salt, int(words)), lent_bytes(salt + 1, int(size))
+    )
+    return f"{answer} {line} places {count} list {hexed(made)} {shown_words(after)}"
+
+
+def line(calls, rules, tokens):
     """The refused line; before it, what a verdict without lent words answers."""
     rules, tokens = bytes_of(rules), bytes_of(tokens)
-    answer, number, _ = teplonga.verdict_call(rules, tokens, [])
-    sheet, offset, length = teplonga.refused_place(rules, tokens)
-    text = teplonga.refused_line(rules, tokens)
-    return f"{answer} {number} {sheet} {offset} {length} {hexed(text)}"
+    answer, number, _ = calls.verdict_call(rules, tokens, [])
+    sheet, offset, length = calls.refused_place(rules, tokens)
+    text = calls.refused_line(rules, tokens)
+    return f"{answer} {number} {'tokens' if sheet == 'tokens' else 'rules'} {offset} {length} {hexed(text)}"
 
 
-def sweep(rules, bound, words, salt):
-    answer, line, sentence, after = teplonga.sweep_call(
+def sweep(calls, rules, bound, words, salt):
+    answer, line, sentence, after = calls.sweep_call(
         bytes_of(rules), int(bound), lent_words(int(salt), int(words))
     )
     places = ["/".join(map(str, place)) for place in teplonga.token_places(sentence)]
@@ -78,7 +97,21 @@ def sweep(rules, bound, words, salt):
     return f"{answer} {line} sentence {found} {shown_words(after)}"
 
 
-CALLS = {"verdict": verdict, "trees": trees, "line": line, "sweep": sweep}
+def expand(sheet, size, salt):
+    answer, line, count, made = clauses.expand_call(bytes_of(sheet), lent_bytes(int(salt), int(size)))
+    return f"{answer} {line} bytes {count} sheet {hexed(made)}"
+
+
+# Those of `BOTH` are asked of rule sheets and, with `clause-` before them, of
+# clause sheets.
+BOTH = {"verdict": verdict, "trees": trees, "line": line, "sweep": sweep}
+CALLS = {
+    **{name: functools.partial(call, teplonga) for name, call in BOTH.items()},
+    **{f"clause-{name}": functools.partial(call, clauses) for name, call in BOTH.items()},
+    "rows": counts,
+    "places": listed,
+    "expand": expand,
+}
 
 
 def answer(question):

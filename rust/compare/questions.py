@@ -8,10 +8,18 @@ what lies in that memory before the call.
     trees RULES TOKENS WORDS FIRST SECOND SALT
     line RULES TOKENS
     sweep RULES BOUND WORDS SALT
+    rows RULES TOKENS WORDS SALT
+    places RULES TOKENS WORDS LIST SALT
+    expand CLAUSES SHEET SALT
+
+The first four have `clause-` before their name where the sheet is a clause
+sheet.
 """
 
 import random
 
+import clauses
+import places
 import sheets
 import teplonga
 from teplonga import MOST_TOKENS, START, Rule, words_needed
@@ -187,6 +195,25 @@ def line(rules, tokens):
     return f"line {hexed(rules)} {hexed(tokens)}"
 
 
+def rows(chance, rules, tokens):
+    words = words_of_pair(chance, tokens)
+    return f"rows {hexed(rules)} {hexed(tokens)} {words} {salt(chance)}"
+
+
+def list_of_pair(rules, tokens):
+    """How many places there are."""
+    readings = (teplonga.read_rules(rules), teplonga.read_tokens(tokens))
+    if any(reading[0] == "refused" for reading in readings):
+        return 0
+    return len(places.all_places(teplonga.Grammar(readings[0][1]), tuple(readings[1][1])))
+
+
+def all_places(chance, rules, tokens):
+    words, count = words_of_pair(chance, tokens), list_of_pair(rules, tokens)
+    size = chance.choice([3 * count, 3 * count + 2, 3 * count + 40, max(3 * count - 1, 0), chance.randint(0, 3 * count)])
+    return f"places {hexed(rules)} {hexed(tokens)} {words} {size} {salt(chance)}"
+
+
 def sweep(chance, rules, bound):
     words = lent_words(chance, words_needed(min(bound, 9)))
     return f"sweep {hexed(rules)} {bound} {words} {salt(chance)}"
@@ -279,6 +306,60 @@ def about_the_limit(chance):
 SWEEPS = {small_sweep: 70, refused_sweep: 20, bound_off: 5, about_the_limit: 5}
 
 
+# --------------------------------------------------------------- clause sheets
+
+def clause_pair(chance):
+    """A clause sheet and a token sheet; one of them is damaged now and then."""
+    for _ in range(4):
+        sheet = sheets.clause_sheet(chance)
+        reading = clauses.read_clauses(sheet)
+        if reading[0] == "accepted":
+            break
+    rules = reading[1] if reading[0] == "accepted" else sheets.sound_rules(chance)
+    tokens = sheets.token_sheet(chance, sheets.sentence(chance, rules, 0, 5))
+    way = chance.random()
+    if way < 0.2:
+        return sheets.clauses_damaged(chance, sheet), tokens
+    if way < 0.35:
+        return sheet, sheets.damaged(chance, tokens)
+    return sheet, tokens
+
+
+def of_clauses(chance):
+    """One of the calls that both kinds of sheet have."""
+    sheet, tokens = clause_pair(chance)
+    way, words = chance.random(), words_of_pair(chance, tokens)
+    if way < 0.15:
+        return f"clause-line {hexed(sheet)} {hexed(tokens)}"
+    if way < 0.55:
+        return f"clause-verdict {hexed(sheet)} {hexed(tokens)} {words} {salt(chance)}"
+    reading, rows = clauses.read_clauses(sheet), (0, 0)
+    if reading[0] == "accepted":
+        rows = rows_of_pair(sheets.rule_sheet(reading[1]), tokens)
+    first, second = (lent_bytes(chance, count) for count in rows)
+    return f"clause-trees {hexed(sheet)} {hexed(tokens)} {words} {first} {second} {salt(chance)}"
+
+
+def of_a_clause_sweep(chance):
+    sheet, _ = clause_pair(chance)
+    reading, bound = clauses.read_clauses(sheet), chance.randint(0, 8)
+    if reading[0] == "accepted":
+        bound = bearable(reading[1], bound, 100)
+    words = lent_words(chance, words_needed(min(bound, 9)))
+    return f"clause-sweep {hexed(sheet)} {bound} {words} {salt(chance)}"
+
+
+def of_an_expansion(chance):
+    sheet, _ = clause_pair(chance)
+    if chance.random() < 0.2:
+        sheet = sheets.clauses_damaged(chance, sheet)
+    reading, size = clauses.read_clauses(sheet), 40
+    if reading[0] == "accepted":
+        size = len(clauses.rule_sheet(reading[1]))
+    size = chance.choice([size, size + 1, size + 90, size - 1, chance.randint(0, size)])
+    return f"expand {hexed(sheet)} {size} {salt(chance)}"
+
+
 # --------------------------------------------------------------- what is drawn
 
 def long_sentence(chance):
@@ -310,6 +391,14 @@ def of_trees(chance):
     return trees(chance, *drawn(chance, PAIRS))
 
 
+def of_counts(chance):
+    return rows(chance, *drawn(chance, PAIRS))
+
+
+def of_places(chance):
+    return all_places(chance, *drawn(chance, PAIRS))
+
+
 def of_a_line(chance):
     return line(*drawn(chance, {short: 5, **UNSOUND}))
 
@@ -320,10 +409,15 @@ def of_a_sweep(chance):
 
 # In thousandths; few questions are costly.
 QUESTIONS = {
-    of_a_verdict: 294,
-    of_trees: 360,
-    of_a_line: 120,
-    of_a_sweep: 180,
+    of_a_verdict: 160,
+    of_trees: 240,
+    of_counts: 100,
+    of_places: 120,
+    of_a_line: 80,
+    of_a_sweep: 110,
+    of_clauses: 110,
+    of_a_clause_sweep: 24,
+    of_an_expansion: 30,
     late_sweep: 15,
     long_sentence: 30,
     full_sentence: 1,

@@ -428,3 +428,53 @@ def junk(chance):
     names = chance.choice([b"", b"", b"", *[name + b"\n" for name in names]])
     length = chance.choice([0, 0, 1, 5, 40, 2_000])
     return names + bytes(chance.choice(BYTES) for _ in range(length))
+
+
+# --------------------------------------------------------------- clause sheets
+
+SUFFIXES = ["", "", "", "", "?", "+", "*", "+:align", "*:align"]
+
+
+def clause_item(chance, depth, largest):
+    """An item; `largest` is the largest nonterminal that is named."""
+    way = chance.random()
+    if way < 0.5:
+        return f"t{chance.choice([0, 0, 1, 2])}" + chance.choice(SUFFIXES)
+    if way < 0.75 or depth == 0:
+        return f"n{chance.randint(0, largest)}" + chance.choice(SUFFIXES)
+    marks = [":offside", ":offalign", ":single"]
+    return f"({clause_text(chance, depth - 1, largest)})" + chance.choice(SUFFIXES + marks + marks)
+
+
+def clause_text(chance, depth, largest):
+    """Alternatives of sequences."""
+    texts = []
+    for _ in range(chance.choice([1, 1, 2, 3])):
+        items = [clause_item(chance, depth, largest) for _ in range(chance.choice([1, 1, 2, 2, 3]))]
+        text = items[0]
+        for item in items[1:]:
+            text += chance.choice([" ", " ", " :align: ", " :indent: "]) + item
+        texts.append(text)
+    return " | ".join(texts)
+
+
+def clause_sheet(chance):
+    """A well-written clause sheet; some have no start, a cycle or too much."""
+    largest = chance.choice([0, 1, 1, 2, 3])
+    lefts = [0, *(chance.randint(0, largest) for _ in range(chance.choice([0, 1, 1, 2])))]
+    if chance.random() < 0.03:
+        lefts = [left + 1 for left in lefts]
+    lines = [f"{left} {clause_text(chance, chance.choice([0, 1, 1, 2, 4]), largest)}\n" for left in lefts]
+    if chance.random() < 0.04:
+        depth = chance.choice([15, 16, 17, 18])
+        lines.insert(chance.randint(0, len(lines)), f"0 {'(' * depth}t0{')' * depth}\n")
+    return ("left clause\n" + "".join(lines)).encode()
+
+
+def clauses_damaged(chance, sheet):
+    """The sheet with a byte or a piece changed, put in or taken out, or any other damage."""
+    if chance.random() < 0.3:
+        return damaged(chance, sheet)
+    pieces = [b" ", b"(", b")", b"?", b":align", b" | ", b" :indent: ", b"n", b"t64", b"0", b"\n", b":single", b"+*"]
+    at = chance.randrange(len(sheet) + 1)
+    return sheet[:at] + chance.choice(pieces) + sheet[at + chance.choice([0, 0, 1, 2]) :]

@@ -43,8 +43,17 @@ fn refusals_name_their_line() {
     let deep = format!("left clause\n0 t0\n0 {}t0{}\n", "(".repeat(17), ")".repeat(17));
     let reply = clauses::verdict(deep.as_bytes(), TOKENS, &mut []);
     assert_eq!(reply.to_string(), "refused-42 3");
-    assert_eq!(clauses::refused_line(deep.as_bytes(), TOKENS), &deep.as_bytes()[17..deep.len() - 1]);
-    assert_eq!(clauses::verdict(b"left clause\n0 n63\n", TOKENS, &mut []).to_string(), "refused-43 0");
-    assert_eq!(clauses::verdict(b"left clause\n1 t0\n", TOKENS, &mut []).to_string(), "refused-7 0");
+    assert_eq!(
+        clauses::refused_line(deep.as_bytes(), TOKENS),
+        &deep.as_bytes()[17..deep.len() - 1]
+    );
+    assert_eq!(
+        clauses::verdict(b"left clause\n0 n63\n", TOKENS, &mut []).to_string(),
+        "refused-43 0"
+    );
+    assert_eq!(
+        clauses::verdict(b"left clause\n1 t0\n", TOKENS, &mut []).to_string(),
+        "refused-7 0"
+    );
     assert_eq!(clauses::refused_line(b"left clause\n1 t0\n", TOKENS), refused_line(b"", TOKENS));
 }

@@ -99,7 +99,7 @@ mod tests {
     const TOKENS: &[u8] = b"term line col\n0 1 1\n0 1 2\n0 1 3\n";
 
     /// Document 01's worked example, asked in every call, with its answers.
-    fn worked() -> [(String, String); 4] {
+    fn worked() -> [(String, String); 8] {
         let (rules, tokens) = (hexed(RULES), hexed(TOKENS));
         let words = "words 0 0 1 0 1 0 1 0 1 0 1 0 1 1";
         let rows = "rows 5 5 first 0003000300010001000301020001010100010201 \
@@ -110,6 +110,19 @@ mod tests {
             (format!("trees {rules} {tokens} 14 20 20 1"), format!("two 0 {rows} {words}")),
             (format!("line {rules} {tokens}"), "refused-21 0 rules 0 0 -".to_string()),
             (format!("sweep {rules} 3 14 1"), format!("two 0 {sentence} words{}", " 0".repeat(14))),
+            (format!("rows {rules} {tokens} 14 1"), format!("two 0 counts 5 5 {words}")),
+            (
+                format!("places {rules} {tokens} 14 4 1"),
+                format!("two 0 places 1 list 00000300 {words}"),
+            ),
+            (
+                format!("clause-line {} {tokens}", hexed(b"left clause\n0 \n")),
+                "refused-41 2 rules 12 2 3020".to_string(),
+            ),
+            (
+                format!("expand {} 4 1", hexed(b"left clause\n0 t0\n")),
+                "refused-22 0 bytes 0 sheet 00000000".to_string(),
+            ),
         ]
     }
 
@@ -141,7 +154,7 @@ mod tests {
             tally.count(&question, &wanted);
         }
         let missing = tally.never_met();
-        assert_eq!(tally.total(), 4);
+        assert_eq!(tally.total(), 8);
         assert!(missing.contains(&"trees refused-22".to_string()));
         assert!(!missing.contains(&"trees two".to_string()));
     }

@@ -3,76 +3,79 @@
 use std::fmt::{Display, Write};
 use std::str::FromStr;
 
-use teplonga::{refused_line, sweep, trees, verdict, Rows, Token};
+use teplonga::{clauses, places, rows};
+use teplonga::{refused_line, sweep, trees, verdict};
+use teplonga::{Reply, RowCount, Rows, SweepReply, Token, TreesReply};
 
 use crate::lent::{self, Lent};
 
-/// A call with its sheets and the sizes of its lent memory.
-pub enum Question {
-    Verdict { rules: Vec<u8>, tokens: Vec<u8>, words: usize, salt: u64 },
-    Trees { rules: Vec<u8>, tokens: Vec<u8>, words: usize, rows: [usize; 2], salt: u64 },
-    Line { rules: Vec<u8>, tokens: Vec<u8> },
-    Sweep { rules: Vec<u8>, bound: usize, words: usize, salt: u64 },
+/// The calls that both kinds of sheet have.
+struct Calls {
+    verdict: fn(&[u8], &[u8], &mut [u64]) -> Reply,
+    trees: for<'a> fn(&[u8], &[u8], &mut [u64], &'a mut [u8], &'a mut [u8]) -> TreesReply<'a>,
+    sweep: fn(&[u8], usize, &mut [u64]) -> SweepReply,
+    refused_line: for<'a> fn(&'a [u8], &'a [u8]) -> &'a [u8],
 }
 
-impl Question {
+const OF_RULES: Calls = Calls { verdict, trees, sweep, refused_line };
+
+const OF_CLAUSES: Calls = Calls {
+    verdict: clauses::verdict,
+    trees: clauses::trees,
+    sweep: clauses::sweep,
+    refused_line: clauses::refused_line,
+};
+
+/// A call with its sheets and its numbers.
+pub struct Question<'a> {
+    call: &'a str,
+    sheets: Vec<Vec<u8>>,
+    numbers: Vec<u64>,
+}
+
+impl Question<'_> {
     /// The question of a line. A line that is none ends the program.
-    pub fn read(line: &str) -> Question {
-        let fields: Vec<&str> = line.split(' ').collect();
-        match fields[..] {
-            ["verdict", rules, tokens, words, salt] => Question::Verdict {
-                rules: sheet(rules),
-                tokens: sheet(tokens),
-                words: number(words),
-                salt: number(salt),
-            },
-            ["trees", rules, tokens, words, first, second, salt] => Question::Trees {
-                rules: sheet(rules),
-                tokens: sheet(tokens),
-                words: number(words),
-                rows: [number(first), number(second)],
-                salt: number(salt),
-            },
-            ["line", rules, tokens] => {
-                Question::Line { rules: sheet(rules), tokens: sheet(tokens) }
-            }
-            ["sweep", rules, bound, words, salt] => Question::Sweep {
-                rules: sheet(rules),
-                bound: number(bound),
-                words: number(words),
-                salt: number(salt),
-            },
+    pub fn read(line: &str) -> Question<'_> {
+        let mut fields = line.split(' ');
+        let call = fields.next().expect("a line has a first word");
+        let count = match call.trim_start_matches("clause-") {
+            "verdict" | "trees" | "line" | "rows" | "places" => 2,
+            "sweep" | "expand" => 1,
             _ => panic!("no question: {line}"),
-        }
+        };
+        let sheets = fields.by_ref().take(count).map(sheet).collect();
+        Question { call, sheets, numbers: fields.map(number).collect() }
     }
 
     /// The sheets as text.
     pub fn sheets(&self) -> String {
-        let text = |bytes: &[u8]| bytes.escape_ascii().to_string().replace("\\n", "\\n\n");
-        match self {
-            Question::Verdict { rules, tokens, .. }
-            | Question::Trees { rules, tokens, .. }
-            | Question::Line { rules, tokens } => format!("{}\n{}", text(rules), text(tokens)),
-            Question::Sweep { rules, .. } => text(rules),
-        }
+        let text = |bytes: &Vec<u8>| bytes.escape_ascii().to_string().replace("\\n", "\\n\n");
+        self.sheets.iter().map(text).collect::<Vec<String>>().join("\n")
     }
 
     /// All that the library answers, and the lent memory after the call.
     pub fn answer(&self) -> String {
-        match self {
-            Question::Verdict { rules, tokens, words, salt } => {
-                verdict_answer(&lent::sheet(rules), &lent::sheet(tokens), *words, *salt)
+        let lent: Vec<Lent<u8>> = self.sheets.iter().map(|bytes| lent::sheet(bytes)).collect();
+        let sheets: Vec<&[u8]> = lent.iter().map(Lent::part).collect();
+        let calls = if self.call.starts_with("clause-") { OF_CLAUSES } else { OF_RULES };
+        let call = self.call.trim_start_matches("clause-");
+        match (call, &sheets[..], &self.numbers[..]) {
+            ("verdict", &[rules, tokens], &[words, salt]) => {
+                verdict_answer(&calls, rules, tokens, words, salt)
             }
-            Question::Trees { rules, tokens, words, rows, salt } => {
-                let (rules, tokens) = (lent::sheet(rules), lent::sheet(tokens));
-                trees_answer(&rules, &tokens, *words, *rows, *salt)
+            ("trees", &[rules, tokens], &[words, first, second, salt]) => {
+                trees_answer(&calls, rules, tokens, words, [first, second], salt)
             }
-            Question::Line { rules, tokens } => {
-                line_answer(&lent::sheet(rules), &lent::sheet(tokens))
+            ("line", &[rules, tokens], []) => line_answer(&calls, rules, tokens),
+            ("sweep", &[rules], &[bound, words, salt]) => {
+                sweep_answer(&calls, rules, bound as usize, words, salt)
             }
-            Question::Sweep { rules, bound, words, salt } => {
-                sweep_answer(&lent::sheet(rules), *bound, *words, *salt)
+            ("rows", &[rules, tokens], &[words, salt]) => rows_answer(rules, tokens, words, salt),
+            ("places", &[rules, tokens], &[words, list, salt]) => {
+                places_answer(rules, tokens, words, list, salt)
             }
+            ("expand", &[sheet], &[size, salt]) => expand_answer(sheet, size, salt),
+            _ => panic!("no question: {}", self.call),
         }
     }
 }
@@ -116,24 +119,24 @@ fn remark(kept: bool) -> &'static str {
     }
 }
 
-fn verdict_answer(rules: &Lent<u8>, tokens: &Lent<u8>, words: usize, salt: u64) -> String {
-    let mut words = lent::words(salt, words);
-    let reply = verdict(rules.part(), tokens.part(), words.part_mut());
+fn verdict_answer(calls: &Calls, rules: &[u8], tokens: &[u8], words: u64, salt: u64) -> String {
+    let mut words = lent::words(salt, words as usize);
+    let reply = (calls.verdict)(rules, tokens, words.part_mut());
     format!("{reply} {}{}", shown_words(words.part()), remark(words.sides_kept()))
 }
 
 fn trees_answer(
-    rules: &Lent<u8>,
-    tokens: &Lent<u8>,
-    words: usize,
-    rows: [usize; 2],
+    calls: &Calls,
+    rules: &[u8],
+    tokens: &[u8],
+    words: u64,
+    rows: [u64; 2],
     salt: u64,
 ) -> String {
-    let mut words = lent::words(salt, words);
-    let mut first = lent::bytes(salt + 1, rows[0]);
-    let mut second = lent::bytes(salt + 2, rows[1]);
-    let reply =
-        trees(rules.part(), tokens.part(), words.part_mut(), first.part_mut(), second.part_mut());
+    let mut words = lent::words(salt, words as usize);
+    let mut first = lent::bytes(salt + 1, rows[0] as usize);
+    let mut second = lent::bytes(salt + 2, rows[1] as usize);
+    let reply = (calls.trees)(rules, tokens, words.part_mut(), first.part_mut(), second.part_mut());
     let mut text = format!("{} {}", reply.answer, reply.line);
     text = put(text, format_args!(" rows {} {}", reply.first.len(), reply.second.len()));
     let rows = [bytes_of(reply.first), bytes_of(reply.second)];
@@ -152,12 +155,12 @@ fn bytes_of(rows: Rows) -> Vec<u8> {
 }
 
 /// The refused line and where it lies; before it, a verdict without words.
-fn line_answer(rules: &Lent<u8>, tokens: &Lent<u8>) -> String {
-    let reply = verdict(rules.part(), tokens.part(), &mut []);
-    let line = refused_line(rules.part(), tokens.part());
-    let (name, start) = match place(line, rules.part()) {
+fn line_answer(calls: &Calls, rules: &[u8], tokens: &[u8]) -> String {
+    let reply = (calls.verdict)(rules, tokens, &mut []);
+    let line = (calls.refused_line)(rules, tokens);
+    let (name, start) = match place(line, rules) {
         Some(start) => ("rules", start),
-        None => ("tokens", place(line, tokens.part()).expect("a part of one of the sheets")),
+        None => ("tokens", place(line, tokens).expect("a part of one of the sheets")),
     };
     format!("{reply} {name} {start} {} {}", line.len(), hexed(line))
 }
@@ -168,12 +171,44 @@ fn place(line: &[u8], sheet: &[u8]) -> Option<usize> {
     (start + line.len() <= sheet.len()).then_some(start)
 }
 
-fn sweep_answer(rules: &Lent<u8>, bound: usize, words: usize, salt: u64) -> String {
-    let mut words = lent::words(salt, words);
-    let reply = sweep(rules.part(), bound, words.part_mut());
+fn sweep_answer(calls: &Calls, rules: &[u8], bound: usize, words: u64, salt: u64) -> String {
+    let mut words = lent::words(salt, words as usize);
+    let reply = (calls.sweep)(rules, bound, words.part_mut());
     let mut text = format!("{} {} sentence {}", reply.answer, reply.line, reply.length);
     for Token { terminal, line, column } in reply.places {
         text = put(text, format_args!(" {terminal}/{}/{}", line.0, column.0));
     }
     format!("{text} {}{}", shown_words(words.part()), remark(words.sides_kept()))
+}
+
+fn rows_answer(rules: &[u8], tokens: &[u8], words: u64, salt: u64) -> String {
+    let mut words = lent::words(salt, words as usize);
+    let reply = rows(rules, tokens, words.part_mut());
+    let [first, second] = [reply.first, reply.second].map(|count| match count {
+        RowCount::Exact(count) => count.to_string(),
+        RowCount::More => "more".to_string(),
+    });
+    let text = format!("{} {} counts {first} {second}", reply.answer, reply.line);
+    format!("{text} {}{}", shown_words(words.part()), remark(words.sides_kept()))
+}
+
+fn places_answer(rules: &[u8], tokens: &[u8], words: u64, size: u64, salt: u64) -> String {
+    let mut words = lent::words(salt, words as usize);
+    let mut list = lent::bytes(salt + 1, size as usize);
+    let reply = places(rules, tokens, words.part_mut(), list.part_mut());
+    let mut text = format!("{} {} places {}", reply.answer, reply.line, reply.places.len());
+    let entries = reply.places.flat_map(|place| [place.nonterminal, place.start, place.length]);
+    let entries: Vec<u8> = entries.collect();
+    text = put(text, format_args!(" list {} {}", hexed(list.part()), shown_words(words.part())));
+    if !list.part().starts_with(&entries) {
+        text += " PLACES ARE NOT THE MEMORY'S";
+    }
+    text + remark(words.sides_kept() && list.sides_kept())
+}
+
+fn expand_answer(sheet: &[u8], size: u64, salt: u64) -> String {
+    let mut lent = lent::bytes(salt, size as usize);
+    let reply = clauses::expand(sheet, lent.part_mut());
+    let text = format!("{} {} bytes {}", reply.answer, reply.line, reply.sheet.len());
+    format!("{text} sheet {}{}", hexed(lent.part()), remark(lent.sides_kept()))
 }

@@ -3,25 +3,50 @@
 use std::collections::BTreeMap;
 
 /// The calls, as questions name them.
-const CALLS: [&str; 4] = ["verdict", "trees", "sweep", "line"];
+const CALLS: [&str; 11] = [
+    "verdict",
+    "trees",
+    "rows",
+    "places",
+    "sweep",
+    "line",
+    "clause-verdict",
+    "clause-trees",
+    "clause-sweep",
+    "clause-line",
+    "expand",
+];
 
 /// The answers that a call must have given at least once in a whole run.
 fn required(call: &str) -> Vec<String> {
-    let (words, numbers): (&[&str], &[u8]) = match call {
-        "verdict" => (&["none", "one", "two"], &[11, 12, 13, 14, 15, 21, 47]),
-        "trees" => (&["none", "one", "two"], &[11, 12, 13, 14, 15, 21, 22, 47]),
-        "sweep" => (&["two", "clear"], &[21, 23, 24]),
-        _ => (&[], &[11, 12, 13, 14, 15, 21, 47]),
+    let words: &[&str] = match call.trim_start_matches("clause-") {
+        "verdict" | "trees" | "rows" | "places" => &["none", "one", "two"],
+        "sweep" => &["two", "clear"],
+        "expand" => &["given"],
+        _ => &[],
     };
-    let numbers = (1..=8).chain([44]).chain(numbers.iter().copied());
-    let words = words.iter().map(|word| word.to_string());
-    words.chain(numbers.map(|number| format!("refused-{number}"))).collect()
+    let rules: &[u8] = match call {
+        "expand" => &[1, 7, 8, 41, 42, 43],
+        _ if call.starts_with("clause-") => &[1, 7, 8, 41, 43],
+        _ => &[1, 2, 3, 4, 5, 6, 7, 8, 44],
+    };
+    let others: &[u8] = match call {
+        "sweep" => &[21, 23, 24],
+        "clause-sweep" => &[21, 23],
+        "trees" | "places" => &[11, 12, 13, 14, 15, 47, 21, 22],
+        "clause-trees" => &[12, 13, 15, 21, 22],
+        "expand" => &[22],
+        _ if call.starts_with("clause-") => &[12, 13, 15, 21],
+        _ => &[11, 12, 13, 14, 15, 47, 21],
+    };
+    let numbers = rules.iter().chain(others).map(|number| format!("refused-{number}"));
+    words.iter().map(|word| word.to_string()).chain(numbers).collect()
 }
 
 /// The answers in the order of the table.
 fn answers() -> Vec<String> {
-    let words = ["none", "one", "two", "clear"].map(str::to_string);
-    let numbers = (1..=8).chain(11..=15).chain(21..=24).chain([44, 47]);
+    let words = ["none", "one", "two", "clear", "given"].map(str::to_string);
+    let numbers = (1..=8).chain(11..=15).chain(21..=24).chain([41, 42, 43, 44, 47]);
     words.into_iter().chain(numbers.map(|number| format!("refused-{number}"))).collect()
 }
 
@@ -66,17 +91,19 @@ impl Tally {
         CALLS.into_iter().flat_map(missing).collect()
     }
 
-    /// Prints the counts as a table.
+    /// Prints the counts as a table, those of clause sheets below.
     pub fn show(&self) {
-        row("answer", &CALLS.map(str::to_string));
-        for answer in answers() {
-            row(&answer, &CALLS.map(|call| self.met(call, &answer).to_string()));
+        for calls in CALLS.chunks(6) {
+            row("answer", calls.iter().map(|call| call.to_string()));
+            for answer in answers() {
+                row(&answer, calls.iter().map(|call| self.met(call, &answer).to_string()));
+            }
+            row("all", calls.iter().map(|call| self.of_call(call).to_string()));
         }
-        row("all", &CALLS.map(|call| self.of_call(call).to_string()));
     }
 }
 
-fn row(name: &str, cells: &[String; 4]) {
-    let [verdict, trees, sweep, line] = cells;
-    println!("{name:<12}{verdict:>9}{trees:>9}{sweep:>9}{line:>9}");
+fn row(name: &str, cells: impl Iterator<Item = String>) {
+    let cells: String = cells.map(|cell| format!("{cell:>15}")).collect();
+    println!("{name:<12}{cells}");
 }
