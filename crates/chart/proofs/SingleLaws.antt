@@ -32,7 +32,7 @@ use Rattle.chart.proofs.SheetLaws.{exact-settled, charted}
 -- ---- the empty word
 
 -- the words of its sheet
-module _ {g : Rules} {b t : Tally} (distinct : Distinct g) (l : Leaves (alone 0) 0 g (length g) b) (sat : Saturated 0 0 (alone 0) 0 g b t) where
+module _ {g : Rules} {b t : Tally} (distinct : Distinct g) (l : Leaves (alone 0 0) 0 g (length g) b) (sat : Saturated 0 0 (alone 0 0) 0 g b t) where
   before : List ℕ
   before = 0 ∷ 0 ∷ []
 
@@ -53,7 +53,7 @@ module _ {g : Rules} {b t : Tally} (distinct : Distinct g) (l : Leaves (alone 0)
 
   here : Closed before after g nothing 0 0 0
   unfolding before nothing
-  here = closed before after g nothing 0 0 0 (alone 0) b t distinct (omega arith) (omega arith) (no-tokens nothing 0 0 0 refl) (record { parts = λ c d x y z. absurd (omega arith) })
+  here = closed before after g nothing 0 0 0 (alone 0 0) b t distinct (omega arith) (omega arith) (no-tokens nothing 0 0 0 0 refl) (record { parts = λ c d x y z. absurd (omega arith) })
       (by-leaves (omega arith) l) sat (subst (λ (p : ℕ). Wrote before after p (t .one) (t .two)) (sym (pairAt-empty 0 0)) wrote)
 
   pub empty-found : EmptyPair g (t .one) (t .two)
@@ -76,7 +76,7 @@ second-pair : pairAt 1 0 1 ≡ 1
 unfolding pairAt spans
 second-pair = refl
 
-module _ {g : Rules} {x p q : ℕ} {b t : Tally} (distinct : Distinct g) (e : EmptyPair g p q) (l : Leaves (alone x) 1 g (length g) b) (sat : Saturated p q (alone x) 1 g b t) where
+module _ {g : Rules} {x p q : ℕ} {b t : Tally} (distinct : Distinct g) (e : EmptyPair g p q) (l : Leaves (alone x 0) 1 g (length g) b) (sat : Saturated p q (alone x 0) 1 g b t) where
   unread : List ℕ
   unread = p ∷ q ∷ 0 ∷ 0 ∷ []
 
@@ -107,7 +107,7 @@ module _ {g : Rules} {x p q : ℕ} {b t : Tally} (distinct : Distinct g) (e : Em
 
   leaf-here : Closed unread read g single 1 0 1
   unfolding unread single one-token
-  leaf-here = closed unread read g single 1 0 1 (alone x) b t distinct (omega arith) (omega arith) (carried-all single 0 1 (alone x) (carried-first single 0 x refl))
+  leaf-here = closed unread read g single 1 0 1 (alone x 0) b t distinct (omega arith) (omega arith) (carried-all single 0 1 (alone x 0) (carried-first single 0 x 0 refl refl))
       (record { parts = λ c d y z v. subst (Settled (One unread 1) (Two unread 1) g single c) (let u : 0 ≡ d = omega arith in u) (nulls unread refl refl c) })
       (by-leaves (omega arith) l) sat (subst (λ (i : ℕ). Wrote unread read i (t .one) (t .two)) (sym second-pair) wrote-leaf)
 

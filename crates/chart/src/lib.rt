@@ -488,7 +488,7 @@ pub fn empty_pair(codes: &[u64]) -> Pair
     requires { ⌜ Distinct (decoded (now codes)) ⌝ }
     ensures { λ r. ⌜ EmptyPair (decoded (now (codes .entry))) (r .one) (r .two) ⌝ }
 {
-    let k = first_marks(0);
+    let k = first_marks(0, 0);
     let b = leaves(codes, k, 0);
     let t = saturate(b, codes, k, 0, 0, 0);
     Pair {
@@ -503,7 +503,7 @@ pub fn leaf_pair(codes: &[u64], x: u8, one: u64, two: u64) -> Pair
     requires { ⌜ EmptyPair (decoded (now codes)) one two ⌝ }
     ensures { λ r. ⌜ Leaf (decoded (now (codes .entry))) x (r .one) (r .two) ⌝ }
 {
-    let k = first_marks(x);
+    let k = first_marks(x, 0);
     let b = leaves(codes, k, 1);
     let t = saturate(b, codes, k, one, two, 1);
     Pair {
@@ -524,8 +524,8 @@ fn close(words: &mut [u64], n: usize, codes: &[u64], k: SpanMarks, start: usize,
     write(words, p, t.one, t.two);
 }
 
-// Settle the spans of two tokens or more that begin at `start` and end past `from`. Their marks are carried along, a token
-// at a time.
+// Settle the spans of two tokens or more that begin at `start` and end past `from`. Their marks, and with them the least
+// column on later lines, are carried along, a token at a time.
 fn fill_start(words: &mut [u64], d: Draft, codes: &[u64], from: usize, start: usize)
     requires { ⌜ Whole d × (start < d .count) ⌝ }
     requires { ⌜ 2 * pairs (d .count) ≤ length (now words) ⌝ }
@@ -536,7 +536,7 @@ fn fill_start(words: &mut [u64], d: Draft, codes: &[u64], from: usize, start: us
     let n = d.count;
     let known = d.known;
     let a = d.tokens[start];
-    let mut k = first_marks(a.terminal);
+    let mut k = first_marks(a.terminal, a.column.0);
     let mut len: usize = 1;
     while start + len < n {
         let at = start + len;

@@ -1,5 +1,6 @@
 pub mod Words
 pub mod HalfLaws
 pub mod DraftLaws
+pub mod Columns
 pub mod Pairings
 pub mod Joining

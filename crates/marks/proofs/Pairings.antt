@@ -14,6 +14,7 @@ use Rattle.grammar.specs.declared.BinaryMark.{BinaryMark}
 use Rattle.grammar.specs.declared.BinaryMark.the-variants as BinaryMark
 use Rattle.marks.specs.declared.SpanMarks.{SpanMarks}
 use Rattle.marks.specs.Half.{Half, MayKeep, MayPair}
+use Rattle.marks.specs.Later.{OffsideBy, OffalignBy}
 use Rattle.marks.specs.Marked.{UnaryBy, BinaryBy, Included, Pairing}
 
 pub pairing-none : (m : BinaryMark) (h : Half) (s to : ℕ) → to ≤ 1 → Pairing m h s to 0
@@ -72,13 +73,12 @@ pub flagged : {b : Bool} {P : Type 0} → Says b P → (b ≡ true) ↔ P
 flagged {b = true} s = (s .is, λ p. refl)
 flagged {b = false} s = (s .is, λ p. absurd (s .isnt refl p))
 
--- three flags and two sets that are right are the marks of the span
-pub unary-marked : (h : Half) (s len : ℕ) (k : SpanMarks)
-    → Says (k .offside) (MayKeep UnaryMark.Offside h s len) → Says (k .offalign) (MayKeep UnaryMark.Offalign h s len) → Says (k .single) (MayKeep UnaryMark.Single h s len)
-    → (m : UnaryMark) → UnaryBy k m ↔ MayKeep m h s len
+-- the first token's column, the carried value, a flag and two sets that are right are the marks of the span
+pub unary-marked : (h : Half) (s len : ℕ) (k : SpanMarks) → OffsideBy (k .first) (k .least) ↔ MayKeep UnaryMark.Offside h s len
+    → OffalignBy (k .first) (k .least) ↔ MayKeep UnaryMark.Offalign h s len → Says (k .single) (MayKeep UnaryMark.Single h s len) → (m : UnaryMark) → UnaryBy k m ↔ MayKeep m h s len
 unary-marked h s len k a b c UnaryMark.None = (λ t. record { keeps = λ i l q. tt }, λ t. tt)
-unary-marked h s len k a b c UnaryMark.Offside = flagged a
-unary-marked h s len k a b c UnaryMark.Offalign = flagged b
+unary-marked h s len k a b c UnaryMark.Offside = a
+unary-marked h s len k a b c UnaryMark.Offalign = b
 unary-marked h s len k a b c UnaryMark.Single = flagged c
 
 pub binary-marked : (h : Half) (s len : ℕ) (k : SpanMarks) → Pairing BinaryMark.Align h s len (k .align) → Pairing BinaryMark.Indent h s len (k .indent)

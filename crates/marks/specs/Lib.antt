@@ -1,3 +1,4 @@
 pub mod Half
 pub mod Drafts
+pub mod Later
 pub mod Marked

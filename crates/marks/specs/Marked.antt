@@ -9,9 +9,14 @@ use Rattle.grammar.specs.declared.UnaryMark.{UnaryMark}
 use Rattle.grammar.specs.declared.UnaryMark.the-variants as UnaryMark
 use Rattle.grammar.specs.declared.BinaryMark.{BinaryMark}
 use Rattle.grammar.specs.declared.BinaryMark.the-variants as BinaryMark
+use Rattle.grammar.specs.declared.Token.{Token}
+use Rattle.grammar.specs.Layout.{Keeps, Pairs, col}
 use Rattle.grammar.specs.Trees.{Covers}
+use Rattle.marks.specs.declared.Least.{Least}
+use Rattle.marks.specs.declared.Least.the-variants as Least
 use Rattle.marks.specs.declared.SpanMarks.{SpanMarks}
 use Rattle.marks.specs.Half.{Half, token, MayBe, MayKeep, MayPair}
+use Rattle.marks.specs.Later.{LeastLater, Grows, OffsideBy, OffalignBy}
 
 -- by the marks k a span of one token is one of the terminals from a to b
 abbrev pub AtomBy : SpanMarks → ℕ → ℕ → Type 0
@@ -20,8 +25,8 @@ AtomBy k a b = Covers a b (k .terminal)
 -- a unary mark may hold of the span
 abbrev pub UnaryBy : SpanMarks → UnaryMark → Type 0
 UnaryBy k UnaryMark.None = Unit {0}
-UnaryBy k UnaryMark.Offside = k .offside ≡ true
-UnaryBy k UnaryMark.Offalign = k .offalign ≡ true
+UnaryBy k UnaryMark.Offside = OffsideBy (k .first) (k .least)
+UnaryBy k UnaryMark.Offalign = OffalignBy (k .first) (k .least)
 UnaryBy k UnaryMark.Single = k .single ≡ true
 
 -- a binary mark may hold of the span of len tokens cut after l
@@ -41,18 +46,27 @@ pub record Grown (set l : ℕ) (P : Type 0) (r : ℕ) : Type 0 where
   pub says : Says flag P
   pub included : Included set l flag r
 
--- r is the marks k of l tokens with one token more, of which `keeps` and `pairs` say what the marks ask
-pub record Joined (k : SpanMarks) (l : ℕ) (keeps : UnaryMark → Type 0) (pairs : BinaryMark → Type 0) (r : SpanMarks) : Type 0 where
-  pub offside : Says (r .offside) ((k .offside ≡ true) × keeps UnaryMark.Offside)
-  pub offalign : Says (r .offalign) ((k .offalign ≡ true) × keeps UnaryMark.Offalign)
-  pub single : Says (r .single) ((k .single ≡ true) × keeps UnaryMark.Single)
-  pub align : Grown (k .align) l (pairs BinaryMark.Align) (r .align)
-  pub indent : Grown (k .indent) l (pairs BinaryMark.Indent) (r .indent)
+-- r is the marks k of l tokens from a to z with the known token t after them
+pub record Joined (k : SpanMarks) (l : ℕ) (a z t : Token) (r : SpanMarks) : Type 0 where
+  pub first : r .first ≡ k .first
+  pub least : Grows (k .least) a t (r .least)
+  pub single : Says (r .single) ((k .single ≡ true) × Keeps UnaryMark.Single a t)
+  pub align : Grown (k .align) l (Pairs BinaryMark.Align a z t) (r .align)
+  pub indent : Grown (k .indent) l (Pairs BinaryMark.Indent a z t) (r .indent)
   pub terminal : r .terminal ≡ k .terminal
 
--- the marks of one token, or of none
-abbrev pub alone : ℕ → SpanMarks
-alone t = record { offside = true; offalign = true; single = true; align = 0; indent = 0; terminal = t }
+-- the marks k of l tokens with an open token after them
+abbrev pub opened : SpanMarks → ℕ → SpanMarks
+opened k l = record { first = k .first; least = k .least; single = k .single; align = insert (k .align) l; indent = insert (k .indent) l; terminal = k .terminal }
+
+-- the token after them is at `at`, and is open unless it is known
+pub record Advanced (k : SpanMarks) (l at known : ℕ) (a z t : Token) (r : SpanMarks) : Type 0 where
+  pub counts : at < known → Joined k l a z t r
+  pub open-one : known ≤ at → r ≡ opened k l
+
+-- the marks of one token with the terminal t and the column c, or of none
+abbrev pub alone : ℕ → ℕ → SpanMarks
+alone t c = record { first = c; least = Least.None; single = true; align = 0; indent = 0; terminal = t }
 
 -- set has the left lengths from 1 to below `to` at which the mark may hold of the tokens from s on
 pub record Pairing (m : BinaryMark) (h : Half) (s to set : ℕ) : Type 0 where
@@ -61,15 +75,17 @@ pub record Pairing (m : BinaryMark) (h : Half) (s to set : ℕ) : Type 0 where
 
 -- k is the marks of len tokens from s on, as they are carried from a span to the one that has a token more
 pub record Carried (h : Half) (s len : ℕ) (k : SpanMarks) : Type 0 where
-  pub offside : Says (k .offside) (MayKeep UnaryMark.Offside h s len)
-  pub offalign : Says (k .offalign) (MayKeep UnaryMark.Offalign h s len)
+  pub first : k .first ≡ col (token (h .word) s)
+  pub least : LeastLater h s len (k .least)
   pub single : Says (k .single) (MayKeep UnaryMark.Single h s len)
   pub align : Pairing BinaryMark.Align h s len (k .align)
   pub indent : Pairing BinaryMark.Indent h s len (k .indent)
   pub terminal : k .terminal ≡ token (h .word) s .terminal
 
--- the marks k of the span of len tokens from s on are those of the definitions
+-- the marks k of the span of len tokens from s on are those of the definitions; where the span has a token, its carried
+-- value is the least column on lines later than the first token's
 pub record Marked (h : Half) (s len : ℕ) (k : SpanMarks) : Type 0 where
+  pub least : 0 < len → LeastLater h s len (k .least)
   pub atom : len ≡ 1 → (a b : ℕ) → AtomBy k a b ↔ MayBe h s a b
   pub unary : (m : UnaryMark) → UnaryBy k m ↔ MayKeep m h s len
   pub binary : (m : BinaryMark) (l : ℕ) → l ≤ len → BinaryBy k len m l ↔ MayPair m h s l (len - l)

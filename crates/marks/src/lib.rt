@@ -10,8 +10,10 @@ ghost use Prim.Native.Nat.{ℕ, _+_, _-_, _≤_, _<_};
 ghost use Rattle.sets.specs.Says.{Says};
 ghost use Rattle.sets.specs.Sets.{In, insert};
 ghost use Rattle.grammar.specs.Layout.{Keeps, Pairs};
+ghost use Rattle.grammar.specs.declared.UnaryMark.the-variants as Unary;
 ghost use Rattle.marks.specs.Drafts.{half, Within};
-ghost use Rattle.marks.specs.Marked.{AtomBy, UnaryBy, BinaryBy, Included, Joined, alone, Marked};
+ghost use Rattle.marks.specs.Later.{lesser, Grows, OffsideBy, OffalignBy};
+ghost use Rattle.marks.specs.Marked.{AtomBy, UnaryBy, BinaryBy, Included, Joined, opened, Advanced, alone, Marked};
 
 // The first `count` of the tokens, of which the first `known` count and the others are open: an open token meets any mark.
 pub struct Draft {
@@ -20,31 +22,65 @@ pub struct Draft {
     pub known: usize,
 }
 
-// What the tokens of a span leave to a rule: do the unary marks hold; at which left lengths, from 1 to below the
-// span's length, do align and indent (at the others they hold always); and which terminal has the first token (asked
-// of a span of one token alone).
+// The least column met on lines later than the first token's, or none.
+pub enum Least {
+    None,
+    At(u16),
+}
+
+// What the tokens of a span leave to a rule, as it is carried along while the span grows by a token: the first token's
+// column and the least column on later lines, by which offside and offalign are decided; do all tokens stand on one line;
+// at which left lengths, from 1 to below the span's length, do align and indent hold (at the others they hold always);
+// and which terminal has the first token (asked of a span of one token alone).
 pub struct SpanMarks {
-    pub offside: bool,
-    pub offalign: bool,
+    pub first: u16,
+    pub least: Least,
     pub single: bool,
     pub align: u64,
     pub indent: u64,
     pub terminal: u8,
 }
 
-// Does the mark hold of the first token `a` and the token `t`?
-pub fn keeps(m: UnaryMark, a: Token, t: Token) -> bool
-    ensures { λ r. ⌜ Says r (Keeps m a t) ⌝ }
+// The least column, with the column `c` besides.
+fn with_column(v: Least, c: u16) -> Least
+    ensures { λ r. ⌜ r ≡ lesser v c ⌝ }
+{
+    match v {
+        Least::None => Least::At(c),
+        Least::At(l) => { if c < l { Least::At(c) } else { Least::At(l) } }
+    }
+}
+
+// The least column of a span that grows by the token `t`; its first token is `a`.
+pub fn grow(v: Least, a: Token, t: Token) -> Least
+    ensures { λ r. ⌜ Grows v a t r ⌝ }
 {
     let la = a.line.0;
     let lt = t.line.0;
-    let ca = a.column.0;
-    let ct = t.column.0;
-    match m {
-        UnaryMark::None => true,
-        UnaryMark::Offside => { if la < lt { ca < ct } else { true } }
-        UnaryMark::Offalign => { if la < lt { ca <= ct } else { true } }
-        UnaryMark::Single => la == lt,
+    if la < lt {
+        with_column(v, t.column.0)
+    } else {
+        v
+    }
+}
+
+// Does offside hold of a span whose first token has the column `c`, `v` being its least column on later lines?
+pub fn offside(c: u16, v: Least) -> bool
+    ensures { λ r. ⌜ Says r (OffsideBy c v) ⌝ }
+{
+    match v {
+        Least::None => true,
+        Least::At(l) => c < l,
+    }
+}
+
+// Does offalign?
+pub fn offalign(c: u16, v: Least) -> bool
+    ensures { λ r. ⌜ Says r (OffalignBy c v) ⌝ }
+{
+    match v {
+        Least::None => true,
+        Least::At(l) => c <= l,
     }
 }
 
@@ -63,11 +99,13 @@ pub fn pairs(m: BinaryMark, a: Token, z: Token, b: Token) -> bool
     }
 }
 
-// Does the mark hold so far, and of the first token `a` and the token `t`?
-fn still(yes: bool, m: UnaryMark, a: Token, t: Token) -> bool
-    ensures { λ r. ⌜ Says r ((yes ≡ true) × Keeps m a t) ⌝ }
+// Do the tokens so far stand on one line, which `yes` says, and `t` on that of the first token `a`?
+fn still(yes: bool, a: Token, t: Token) -> bool
+    ensures { λ r. ⌜ Says r ((yes ≡ true) × Keeps Unary.Single a t) ⌝ }
 {
-    if yes { keeps(m, a, t) } else { false }
+    let la = a.line.0;
+    let lt = t.line.0;
+    if yes { la == lt } else { false }
 }
 
 // The set, with `l` besides if `yes` says so.
@@ -81,18 +119,18 @@ fn included(set: u64, l: usize, yes: bool) -> u64
 // The marks of `left` tokens from `a` to `z`, with the known token `t` after them.
 fn with_known(k: SpanMarks, a: Token, z: Token, t: Token, left: usize) -> SpanMarks
     requires { ⌜ left < 64 ⌝ }
-    ensures { λ r. ⌜ Joined k left (λ m. Keeps m a t) (λ m. Pairs m a z t) r ⌝ }
+    ensures { λ r. ⌜ Joined k left a z t r ⌝ }
 {
-    let offside = still(k.offside, UnaryMark::Offside, a, t);
-    let offalign = still(k.offalign, UnaryMark::Offalign, a, t);
-    let single = still(k.single, UnaryMark::Single, a, t);
+    let v = k.least;
+    let least = grow(v, a, t);
+    let single = still(k.single, a, t);
     let aligns = pairs(BinaryMark::Align, a, z, t);
     let align = included(k.align, left, aligns);
     let indents = pairs(BinaryMark::Indent, a, z, t);
     let indent = included(k.indent, left, indents);
     SpanMarks {
-        offside,
-        offalign,
+        first: k.first,
+        least,
         single,
         align,
         indent,
@@ -100,16 +138,17 @@ fn with_known(k: SpanMarks, a: Token, z: Token, t: Token, left: usize) -> SpanMa
     }
 }
 
-// The marks of `left` tokens, with an open token after them.
+// The marks of `left` tokens, with an open token after them: it adds nothing but a left length.
 fn with_open(k: SpanMarks, left: usize) -> SpanMarks
     requires { ⌜ left < 64 ⌝ }
-    ensures { λ r. ⌜ Joined k left (λ m. Unit {0}) (λ m. Unit {0}) r ⌝ }
+    ensures { λ r. ⌜ r ≡ opened k left ⌝ }
 {
+    let least = k.least;
     let align = with(k.align, left as u8);
     let indent = with(k.indent, left as u8);
     SpanMarks {
-        offside: k.offside,
-        offalign: k.offalign,
+        first: k.first,
+        least,
         single: k.single,
         align,
         indent,
@@ -128,7 +167,7 @@ pub fn with_next(
     known: usize,
 ) -> SpanMarks
     requires { ⌜ left < 64 ⌝ }
-    ensures { λ r. ⌜ Joined k left (λ m. at < known → Keeps m a t) (λ m. at < known → Pairs m a z t) r ⌝ }
+    ensures { λ r. ⌜ Advanced k left at known a z t r ⌝ }
 {
     if at < known {
         with_known(k, a, z, t, left)
@@ -137,13 +176,13 @@ pub fn with_next(
     }
 }
 
-// The marks of one token, which has the terminal, or of no token.
-pub fn first_marks(terminal: u8) -> SpanMarks
-    ensures { λ r. ⌜ r ≡ alone terminal ⌝ }
+// The marks of one token, which has the terminal and stands in the column, or of no token.
+pub fn first_marks(terminal: u8, column: u16) -> SpanMarks
+    ensures { λ r. ⌜ r ≡ alone terminal column ⌝ }
 {
     SpanMarks {
-        offside: true,
-        offalign: true,
+        first: column,
+        least: Least::None,
         single: true,
         align: 0,
         indent: 0,
@@ -157,11 +196,11 @@ pub fn span_marks(d: Draft, start: usize, len: usize) -> SpanMarks
     ensures { λ r. ⌜ Marked (half d) start len r ⌝ }
 {
     if len == 0 {
-        return first_marks(0);
+        return first_marks(0, 0);
     }
     let known = d.known;
     let a = d.tokens[start];
-    let mut k = first_marks(a.terminal);
+    let mut k = first_marks(a.terminal, a.column.0);
     let mut left = 1;
     while left < len {
         let at = start + left;
@@ -187,10 +226,11 @@ pub fn allows_atom(k: SpanMarks, a: u8, b: u8) -> bool
 pub fn allows_unary(k: SpanMarks, m: UnaryMark) -> bool
     ensures { λ r. ⌜ Says r (UnaryBy k m) ⌝ }
 {
+    let v = k.least;
     match m {
         UnaryMark::None => true,
-        UnaryMark::Offside => k.offside,
-        UnaryMark::Offalign => k.offalign,
+        UnaryMark::Offside => offside(k.first, v),
+        UnaryMark::Offalign => offalign(k.first, v),
         UnaryMark::Single => k.single,
     }
 }

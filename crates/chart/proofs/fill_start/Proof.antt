@@ -40,7 +40,7 @@ loop-holds c =
     let a = z .args in (
       omega arith,
       omega (arith, z .pre .0 .1),
-      subst (Carried (half (a .t2)) (a .start) 1) (sym (c .first-marks .ensures)) (carried-first _ _ _ (ap (λ (t : Token). t .terminal) (sym (drafted-at (a .t2) (a .start) (omega (arith, z .pre .0 .1)))))),
+      subst (Carried (half (a .t2)) (a .start) 1) (sym (c .first-marks .ensures)) (carried-first _ _ _ _ (ap (λ (t : Token). t .terminal) (sym (drafted-at (a .t2) (a .start) (omega (arith, z .pre .0 .1))))) (ap (λ (t : Token). t .column .0) (sym (drafted-at (a .t2) (a .start) (omega (arith, z .pre .0 .1)))))),
       past-same _ _,
       given-same _ _,
       filled-next _ _ _ _ _ _ (z .pre .1 .1 .1),

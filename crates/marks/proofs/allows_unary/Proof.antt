@@ -1,4 +1,4 @@
--- Each mark has its flag.
+-- Offside and offalign are decided by the carried value, single by its flag.
 use borrow.Author.Needs.{needs}
 use mathlib.Core.Path.{_≡_, sym, _∙_}
 use mathlib.Core.Bool.{Bool, true, false}
@@ -16,8 +16,14 @@ enum-told c = search needs
 enum-told-2 : tie.Need-enum-told-2
 enum-told-2 c = search needs
 
+offside-requires : tie.Need-offside-requires
+offside-requires c κs = search needs
+
 enum-told-3 : tie.Need-enum-told-3
 enum-told-3 c = search needs
+
+offalign-requires : tie.Need-offalign-requires
+offalign-requires c κs = search needs
 
 enum-told-4 : tie.Need-enum-told-4
 enum-told-4 c = search needs
@@ -26,10 +32,10 @@ returns : tie.Need-returns
 returns c = rw (c .enum-told .given .1) (holds tt)
 
 returns-2 : tie.Need-returns-2
-returns-2 c = rw (c .enum-told2 .given .1) (flag _)
+returns-2 c = rw (c .before .enum-told2 .given .1) (c .offside .ensures)
 
 returns-3 : tie.Need-returns-3
-returns-3 c = rw (c .enum-told3 .given .1) (flag _)
+returns-3 c = rw (c .before .enum-told3 .given .1) (c .offalign .ensures)
 
 returns-4 : tie.Need-returns-4
 returns-4 c = rw (c .enum-told4 .given .1) (flag _)
@@ -37,4 +43,4 @@ returns-4 c = rw (c .enum-told4 .given .1) (flag _)
 pub allows-unary-spec : {M : Type 1} → statement M
 allows-unary-spec =
     tie.close
-    (tie.spec enum-told enum-told-2 enum-told-3 enum-told-4 returns returns-2 returns-3 returns-4)
+    (tie.spec enum-told enum-told-2 offside-requires enum-told-3 offalign-requires enum-told-4 returns returns-2 returns-3 returns-4)

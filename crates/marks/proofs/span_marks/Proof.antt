@@ -24,7 +24,7 @@ first-marks-requires c κs = search needs
 returns : tie.Need-returns Inv-loop μ-loop
 returns c =
     let z = c .before .before .args in
-    subst (Marked (half (z .t1)) (z .start) (z .len)) (sym (c .first-marks .ensures)) (no-tokens _ _ _ _ (c .before .if1 .taken))
+    subst (Marked (half (z .t1)) (z .start) (z .len)) (sym (c .first-marks .ensures)) (no-tokens _ _ _ _ _ (c .before .if1 .taken))
 
 mul-a : tie.Need-mul-a Inv-loop μ-loop
 mul-a c = omega arith
@@ -41,7 +41,7 @@ loop-holds c =
       omega arith,
       omega (arith, c .before .before .if1 .left),
       subst (Carried (half (z .t1)) (z .start) 1) (sym (c .first-marks2 .ensures))
-          (carried-first _ _ _ (ap (λ (t : Token). t .terminal) (sym (drafted-at (z .t1) (z .start) (omega arith))))),
+          (carried-first _ _ _ _ (ap (λ (t : Token). t .terminal) (sym (drafted-at (z .t1) (z .start) (omega arith)))) (ap (λ (t : Token). t .column .0) (sym (drafted-at (z .t1) (z .start) (omega arith))))),
     )
 
 add-at : tie.Need-add-at Inv-loop μ-loop

@@ -1,7 +1,6 @@
 -- Past the known tokens nothing is asked.
 use borrow.Author.Needs.{needs}
 use native.Mathlib.Omega.{arith}
-use Rattle.marks.proofs.Joining.{joined-as}
 use Rattle.marks.proofs.with_next.Statement.{statement}
 use Rattle.marks.proofs.with_next.Tie as tie
 
@@ -12,14 +11,10 @@ with-open-requires : tie.Need-with-open-requires
 with-open-requires c κs = search needs
 
 returns : tie.Need-returns
-returns c =
-    let k = c .before .if1 .taken in
-    joined-as _ _ _ _ _ _ _ (λ m. (λ q l. q, λ f. f (omega (arith, k)))) (λ m. (λ q l. q, λ f. f (omega (arith, k)))) (c .with-known .ensures)
+returns c = record { counts = λ k. c .with-known .ensures; open-one = λ k. absurd (omega (arith, k, c .before .if1 .taken)) }
 
 returns-2 : tie.Need-returns-2
-returns-2 c =
-    let k = c .before .if1 .left in
-    joined-as _ _ _ _ _ _ _ (λ m. (λ (q : Unit {0}) l. absurd (omega (arith, k)), λ f. tt)) (λ m. (λ (q : Unit {0}) l. absurd (omega (arith, k)), λ f. tt)) (c .with-open .ensures)
+returns-2 c = record { counts = λ k. absurd (omega (arith, k, c .before .if1 .left)); open-one = λ k. c .with-open .ensures }
 
 pub with-next-spec : {M : Type 1} → statement M
 with-next-spec = tie.close (tie.spec with-known-requires with-open-requires returns returns-2)

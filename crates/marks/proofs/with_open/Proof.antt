@@ -1,7 +1,6 @@
--- The flags stay; both sets grow.
+-- The carried value and the flag stay; both sets grow.
 use borrow.Author.Needs.{needs}
 use mathlib.Core.Path.{refl}
-use Rattle.marks.proofs.Joining.{grown, kept}
 use Rattle.marks.proofs.with_open.Statement.{statement}
 use Rattle.marks.proofs.with_open.Tie as tie
 
@@ -18,14 +17,7 @@ with-requires-2 : tie.Need-with-requires-2
 with-requires-2 c κs = search needs
 
 returns : tie.Need-returns
-returns c = record {
-  offside = kept _;
-  offalign = kept _;
-  single = kept _;
-  align = grown _ _ _ (c .before .with .ensures);
-  indent = grown _ _ _ (c .with2 .ensures);
-  terminal = refl;
-}
+returns c = rw (c .before .with .ensures, c .with2 .ensures) refl
 
 pub with-open-spec : {M : Type 1} → statement M
 with-open-spec = tie.close (tie.spec cast-with with-requires cast-with-2 with-requires-2 returns)

@@ -1,0 +1,18 @@
+-- A token on a later line is compared; any other leaves the value.
+use borrow.Author.Needs.{needs}
+use mathlib.Core.Path.{refl}
+use native.Mathlib.Omega.{arith}
+use Rattle.marks.proofs.grow.Statement.{statement}
+use Rattle.marks.proofs.grow.Tie as tie
+
+with-column-requires : tie.Need-with-column-requires
+with-column-requires c κs = search needs
+
+returns : tie.Need-returns
+returns c = record { later = λ k. c .with-column .ensures; other = λ k. absurd (omega (arith, k, c .before .if1 .taken)) }
+
+returns-2 : tie.Need-returns-2
+returns-2 c = record { later = λ k. absurd (omega (arith, k, c .if1 .left)); other = λ k. refl }
+
+pub grow-spec : {M : Type 1} → statement M
+grow-spec = tie.close (tie.spec with-column-requires returns returns-2)

@@ -1,0 +1,20 @@
+-- Where there is a least column, it is compared.
+use borrow.Author.Needs.{needs}
+use Rattle.sets.proofs.Says.{holds, says-leb}
+use Rattle.marks.proofs.offalign.Statement.{statement}
+use Rattle.marks.proofs.offalign.Tie as tie
+
+enum-told : tie.Need-enum-told
+enum-told c = search needs
+
+enum-known-v : tie.Need-enum-known-v
+enum-known-v c = search needs
+
+returns : tie.Need-returns
+returns c = rw (c .enum-told .given .1) (holds tt)
+
+returns-2 : tie.Need-returns-2
+returns-2 c = rw (c .before .v .given .1) (says-leb _ _)
+
+pub offalign-spec : {M : Type 1} → statement M
+offalign-spec = tie.close (tie.spec enum-told enum-known-v returns returns-2)
