@@ -70,7 +70,7 @@ pub fn offside(c: u16, v: Least) -> bool
 {
     match v {
         Least::None => true,
-        Least::At(l) => c < l,
+        Least::At(l) => { if c < l { true } else { false } }
     }
 }
 
@@ -80,7 +80,7 @@ pub fn offalign(c: u16, v: Least) -> bool
 {
     match v {
         Least::None => true,
-        Least::At(l) => c <= l,
+        Least::At(l) => { if c <= l { true } else { false } }
     }
 }
 
@@ -95,7 +95,13 @@ pub fn pairs(m: BinaryMark, a: Token, z: Token, b: Token) -> bool
     match m {
         BinaryMark::None => true,
         BinaryMark::Align => ca == cb,
-        BinaryMark::Indent => { if ca < cb { lz < lb } else { false } }
+        BinaryMark::Indent => {
+            if ca < cb {
+                if lz < lb { true } else { false }
+            } else {
+                false
+            }
+        }
     }
 }
 

@@ -92,7 +92,7 @@ loop-again : tie.Need-loop-again Inv-loop μ-loop
 loop-again c =
     let m = c .before in
     let l = m .before .before .before .before .loop .inv in
-    (omega arith, omega (arith, m .before .before .before .loop-test .taken), marks m, l .3, l .4, filled-pass _ _ _ _ _ _ _ (c .if1 .taken) (l .5))
+    (omega arith, omega (arith, m .before .before .before .loop-test .taken), marks m, l .3, l .4, filled-pass _ _ _ _ _ _ _ (omega (arith, c .if1 .taken)) (l .5))
 
 close-requires : tie.Need-close-requires Inv-loop μ-loop
 close-requires c κs =

@@ -1,6 +1,7 @@
 -- Where there is a least column, it is compared.
 use borrow.Author.Needs.{needs}
-use Rattle.sets.proofs.Says.{holds, says-ltb}
+use native.Mathlib.Omega.{arith}
+use Rattle.sets.proofs.Says.{holds, fails}
 use Rattle.marks.proofs.offside.Statement.{statement}
 use Rattle.marks.proofs.offside.Tie as tie
 
@@ -14,7 +15,10 @@ returns : tie.Need-returns
 returns c = rw (c .enum-told .given .1) (holds tt)
 
 returns-2 : tie.Need-returns-2
-returns-2 c = rw (c .before .v .given .1) (says-ltb _ _)
+returns-2 c = rw (c .before .before .v .given .1) (holds (omega (arith, c .if1 .taken)))
+
+returns-3 : tie.Need-returns-3
+returns-3 c = rw (c .before .before .v .given .1) (fails (λ q. omega (arith, q, c .if1 .left)))
 
 pub offside-spec : {M : Type 1} → statement M
-offside-spec = tie.close (tie.spec enum-told enum-known-v returns returns-2)
+offside-spec = tie.close (tie.spec enum-told enum-known-v returns returns-2 returns-3)

@@ -1,7 +1,7 @@
 -- Each mark's arm is the definition's comparison.
 use borrow.Author.Needs.{needs}
 use native.Mathlib.Omega.{arith}
-use Rattle.sets.proofs.Says.{holds, fails, says-iff, says-eqb, says-ltb}
+use Rattle.sets.proofs.Says.{holds, fails, says-eqb}
 use Rattle.marks.proofs.pairs.Statement.{statement}
 use Rattle.marks.proofs.pairs.Tie as tie
 
@@ -21,10 +21,13 @@ returns-2 : tie.Need-returns-2
 returns-2 c = rw (c .enum-told2 .given .1) (says-eqb _ _)
 
 returns-3 : tie.Need-returns-3
-returns-3 c = rw (c .before .enum-told3 .given .1) (says-iff (λ h. (c .if1 .taken, h)) (λ p. p .1) (says-ltb _ _))
+returns-3 c = rw (c .before .before .enum-told3 .given .1) (holds (omega (arith, c .before .if1 .taken), omega (arith, c .if2 .taken)))
 
 returns-4 : tie.Need-returns-4
-returns-4 c = rw (c .before .enum-told3 .given .1) (fails (λ p. omega (arith, p .0)))
+returns-4 c = rw (c .before .before .enum-told3 .given .1) (fails (λ p. omega (arith, p .1, c .if2 .left)))
+
+returns-5 : tie.Need-returns-5
+returns-5 c = rw (c .before .enum-told3 .given .1) (fails (λ p. omega (arith, p .0, c .if1 .left)))
 
 pub pairs-spec : {M : Type 1} → statement M
 pairs-spec =
@@ -36,4 +39,5 @@ pairs-spec =
     returns
     returns-2
     returns-3
-    returns-4)
+    returns-4
+    returns-5)
