@@ -142,13 +142,7 @@ const SHEETS: [(&str, &[u8]); 5] = [
 
 /// The sweeps of the paper's sheets, each up to its largest bound.
 pub fn of_the_paper() -> Vec<Call> {
-    SHEETS
-        .iter()
-        .map(|(name, rules)| {
-            let (_, bound) = largest_bound(rules).expect("the sheet is accepted");
-            of_a_sweep(name, rules.to_vec(), bound)
-        })
-        .collect()
+    SHEETS.iter().map(|(name, rules)| of_the_largest(name, rules.to_vec())).collect()
 }
 
 /// The sweep of a sheet up to a bound.
@@ -162,6 +156,38 @@ pub fn swept(rules: &[u8], bound: u64, most_fills: u64) -> (Swept, f64) {
     let mut words = vec![0; WORDS];
     let (seconds, swept) = timed(|| twin::sweep_within(rules, bound, &mut words, most_fills));
     (swept.expect("the sheet is accepted"), seconds)
+}
+
+/// The verdict on so many tokens, each on a line of its own, under so many
+/// offside and offalign rules.
+pub fn of_lines(rules: usize, tokens: usize) -> Call {
+    let family = families::named("offside");
+    let name = format!("offside, {tokens} lines, {rules} rules");
+    Call { name, rules: (family.sheet)(rules), input: Input::Tokens(families::lines(tokens)) }
+}
+
+/// Sheets on which a search that knows terminals and positions together is slow.
+const LATE: [(&str, &[u8]); 9] = [
+    ("apart2", include_bytes!("../sheets/late/apart2.rules")),
+    ("apart7", include_bytes!("../sheets/late/apart7.rules")),
+    ("apart28", include_bytes!("../sheets/late/apart28.rules")),
+    ("chain2", include_bytes!("../sheets/late/chain2.rules")),
+    ("chain28", include_bytes!("../sheets/late/chain28.rules")),
+    ("pairs7", include_bytes!("../sheets/late/pairs7.rules")),
+    ("pairs20", include_bytes!("../sheets/late/pairs20.rules")),
+    ("sum7_4", include_bytes!("../sheets/late/sum7_4.rules")),
+    ("lay2chain_1", include_bytes!("../sheets/late/lay2chain_1.rules")),
+];
+
+/// Their sweeps, each up to its largest bound.
+pub fn of_late_sheets() -> Vec<Call> {
+    LATE.iter().map(|(name, rules)| of_the_largest(name, rules.to_vec())).collect()
+}
+
+/// The sweep of a sheet up to its largest bound.
+pub fn of_the_largest(name: &str, rules: Vec<u8>) -> Call {
+    let (_, bound) = largest_bound(&rules).expect("the sheet is accepted");
+    of_a_sweep(name, rules, bound)
 }
 
 /// The verdict on so many tokens under so many rules of a family.

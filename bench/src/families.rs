@@ -11,7 +11,7 @@ pub struct Family {
     pub sheet: fn(usize) -> Vec<u8>,
 }
 
-pub const VERDICT: [Family; 9] = [
+pub const VERDICT: [Family; 10] = [
     Family {
         name: "dense",
         what: "B rules over a few nonterminals, all of them derivable",
@@ -31,6 +31,12 @@ pub const VERDICT: [Family; 9] = [
         sheet: spread,
     },
     Family { name: "marks", what: "B and U rules under every mark", terminals: 1, sheet: marks },
+    Family {
+        name: "offside",
+        what: "U rules under offside and offalign over any tokens, and a B rule",
+        terminals: 1,
+        sheet: offside,
+    },
     Family {
         name: "chain, top first",
         what: "a chain of U rules over a dense bottom, the top first",
@@ -113,6 +119,16 @@ fn marks(rules: usize) -> Vec<u8> {
     sheet(atoms.chain(ladder).chain(pairs), rules)
 }
 
+/// Nonterminal 1 has any tokens. Over it stand others, each by a U rule, and 0
+/// by a U rule over each of them: offside and offalign by turns.
+fn offside(rules: usize) -> Vec<u8> {
+    let lay = |i: usize| ["offside", "offalign"][i % 2];
+    let any = ["1 A 0 - none", "1 B 1 1 none"].map(str::to_string);
+    let marked = (2..64)
+        .flat_map(|i| [format!("{i} U 1 - {}", lay(i)), format!("0 U {i} - {}", lay(i / 2))]);
+    sheet(any.into_iter().chain(marked), rules)
+}
+
 /// A chain 0, 1, .., bottom, its links in the order in which they are listed.
 /// The rules past them are B rules of the bottom, which stand at every span.
 fn chained(links: &[String], head: &[String], rules: usize) -> Vec<u8> {
@@ -174,6 +190,13 @@ fn empty_chain(rules: usize) -> Vec<u8> {
 fn sheet(lines: impl Iterator<Item = String>, rules: usize) -> Vec<u8> {
     let lines: Vec<String> = lines.take(rules).collect();
     rule_sheet(&lines)
+}
+
+/// A sentence of `n` tokens of terminal 0, each on a line of its own, in columns
+/// that go up and back after eight.
+pub fn lines(n: usize) -> Vec<u8> {
+    let lines: Vec<String> = (0..n).map(|i| format!("0 {} {}", 1 + i, 1 + i % 8)).collect();
+    token_sheet(&lines)
 }
 
 /// A sentence of `n` tokens over the terminals below `terminals`, four to a line,

@@ -6,7 +6,7 @@ use bench::late;
 use bench::library::LINKED;
 use bench::twin::sweep;
 
-use crate::calls;
+use crate::calls::{self, Call};
 
 /// Whose times these are.
 const WHOSE: &str = if LINKED { "library" } else { "twin" };
@@ -15,18 +15,29 @@ const WHOSE: &str = if LINKED { "library" } else { "twin" };
 pub fn growth() {
     verdict_growth(families::named("dense"));
     verdict_growth(families::named("binary chain"));
+    line_growth();
     sweep_growth("statements", "most prefixes are ruled out", late::statements);
-    sweep_growth("apart", "hardly any prefix is ruled out", |t| late::apart(t, t));
+    sweep_growth("apart", "readings differ by the last token", late::apart);
+}
+
+/// Tokens on lines of their own, under offside and offalign rules.
+fn line_growth() {
+    println!("(d) CPU ms of a verdict by tokens, each on a line of its own, and offside and offalign rules, {WHOSE}\n");
+    verdict_rows(calls::of_lines);
 }
 
 fn verdict_growth(family: &Family) {
     println!("(d) CPU ms of a verdict by tokens and rules, {}, {WHOSE}\n", family.name);
+    verdict_rows(|rules, tokens| calls::of_a_family(family, rules, tokens));
+}
+
+fn verdict_rows(call: impl Fn(usize, usize) -> Call) {
     println!("| tokens | 16 rules | 32 rules | 64 rules | 128 rules |");
     println!("|---|---|---|---|---|");
     for tokens in [8, 16, 32, 64] {
         print!("| {tokens} |");
         for rules in [16, 32, 64, 128] {
-            let seconds = calls::of_a_family(family, rules, tokens).seconds(3);
+            let seconds = call(rules, tokens).seconds(3);
             print!(" {:.3} |", 1e3 * seconds);
         }
         println!();

@@ -4,6 +4,5 @@ pub mod clock;
 pub mod families;
 pub mod late;
 pub mod library;
-pub mod limits;
 pub mod random;
 pub mod twin;

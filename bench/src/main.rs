@@ -30,8 +30,8 @@ fn main() {
             'c' => tables::ratios(),
             'd' => growth::growth(),
             'e' => {
-                worst::left_out();
-                worst::estimates();
+                worst::late_sheets();
+                worst::words();
                 search::search(seconds);
             }
             'f' => trees::trees(),

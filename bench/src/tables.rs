@@ -1,7 +1,6 @@
 //! Tables a to c, as they stand in a text of Markdown.
 
 use bench::families;
-use bench::late;
 use bench::twin::sweep;
 
 use crate::calls::{self, answer, Call, Input, Lent};
@@ -17,9 +16,14 @@ pub fn shown(seconds: Option<f64>, unit: f64, digits: usize) -> String {
 /// (a) The paper's sheets at their largest bound.
 pub fn paper() {
     println!("(a) Sweeps of the paper's sheets\n");
+    sweeps(calls::of_the_paper());
+}
+
+/// A row for each sweep, up to the sheet's largest bound.
+pub fn sweeps(calls: Vec<Call>) {
     println!("| sheet | T | k | arrangements | answer | fills | twin, CPU s | library, CPU s |");
     println!("|---|---|---|---|---|---|---|---|");
-    for call in calls::of_the_paper() {
+    for call in calls {
         let (t, bound) = calls::largest_bound(&call.rules).expect("the sheet is accepted");
         let fills = calls::swept(&call.rules, bound, u64::MAX).0.fills;
         let times = call.times(ROUNDS);
@@ -73,7 +77,8 @@ pub fn ratios() {
     }
     println!("| call | twin, CPU ms | library, CPU ms | library/twin |");
     println!("|---|---|---|---|");
-    for call in calls::of_the_paper().into_iter().chain(late_sweeps()).chain(largest_verdicts()) {
+    let sweeps = calls::of_the_paper().into_iter().chain(calls::of_late_sheets());
+    for call in sweeps.chain(largest_verdicts()).chain([calls::of_lines(128, 64)]) {
         let times = call.times(ROUNDS);
         println!(
             "| {} | {:.3} | {} | {} |",
@@ -84,15 +89,6 @@ pub fn ratios() {
         );
     }
     println!();
-}
-
-/// Sweeps that take the most fills, small enough to be run whole: 2 terminals
-/// are in use, and 28 have rules.
-fn late_sweeps() -> [Call; 2] {
-    [
-        calls::of_a_sweep("apart", late::apart(2, 28), 4),
-        calls::of_a_sweep("apart chain", late::apart_chain(2, 28), 4),
-    ]
 }
 
 fn title(call: &Call) -> String {

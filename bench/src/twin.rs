@@ -66,7 +66,8 @@ pub fn sweep_within(
         return Err(Refusal::whole(21));
     }
     order::arrange(&mut rules);
-    let swept = sweep::search(&rules, sweep::needed(&rules), bound, words, most_fills);
+    let needed = sweep::needed(&rules);
+    let swept = sweep::search(&order::reachable(&rules), needed, bound, words, most_fills);
     words[..chart::size(bound)].fill(0);
     Ok(swept)
 }

@@ -1,8 +1,7 @@
 //! The twin's sweep, which leaves much out, against all candidates one by one,
 //! and the number of its fills.
 
-use bench::late::{apart, apart_chain, apart_chain_top_first, late};
-use bench::limits::most_fills;
+use bench::late::{apart, words};
 use bench::random::{rule_line, rule_sheet, Random};
 use bench::twin::grammar::{Column, Line, Rule, Token, Width};
 use bench::twin::{self, chart, sheets, sweep, Swept};
@@ -90,29 +89,29 @@ fn needed_terminals() {
     assert_eq!(needed(&["0 A 3", "1 A 4", "0 A 5", "1 A 5"]), 1 << 3 | 1 << 4 | 1 << 5);
 }
 
-/// The sweep over all terminals, those too that a lesser one stands for.
-fn swept_over_all(sheet: &[u8], k: u64) -> Swept {
-    let rules = sheets::read_rules(sheet).expect("accepted");
-    sweep::search(&rules, sweep::terminals(&rules), k as usize, &mut [0; 60], u64::MAX)
+#[test]
+fn rules_that_the_start_does_not_reach_make_no_difference() {
+    compare(11, 2, 4, |rules, swept| {
+        twin::order::reachable(rules).len() < rules.len() && swept.fills >= 30
+    });
+}
+
+/// The fills of a sheet's sweep, which is clear.
+fn clear_fills(sheet: &[u8], k: u64) -> u64 {
+    let swept = twin::sweep(sheet, k, &mut [0; 60]).expect("accepted");
+    assert_eq!(swept.found, None);
+    swept.fills
 }
 
 #[test]
-fn a_late_sheet_takes_the_most_fills_over_all_terminals() {
-    for (t, k) in [(2, 4), (3, 4), (2, 5), (7, 3)] {
-        let swept = swept_over_all(&late(t as usize), k);
-        assert_eq!((swept.found, swept.fills), (None, most_fills(t, k)));
-        let swept = twin::sweep(&late(t as usize), k, &mut [0; 60]).expect("accepted");
-        assert_eq!((swept.found, swept.fills), (None, most_fills(2, k)));
+fn a_last_token_that_decides_is_tried_first() {
+    // For each length a fill with all open and one for each last terminal.
+    for (t, k) in [(2, 6), (7, 5), (28, 4)] {
+        assert_eq!(clear_fills(&apart(t), k), k * (1 + t as u64));
     }
-    assert_eq!(most_fills(28, 4), 122_871_900);
 }
 
 #[test]
-fn no_terminal_stands_for_another_where_each_has_its_own_nonterminal() {
-    for (t, all, k) in [(2, 2, 4), (2, 28, 4), (4, 36, 3)] {
-        for sheet in [apart, apart_chain, apart_chain_top_first].map(|sheet| sheet(t, all)) {
-            let swept = twin::sweep(&sheet, k, &mut [0; 60]).expect("accepted");
-            assert_eq!((swept.found, swept.fills), (None, most_fills(t as u64, k)));
-        }
-    }
+fn words_of_one_rule_cost_no_more_than_one_word() {
+    assert_eq!(clear_fills(&words(60), 3), clear_fills(&words(1), 3));
 }

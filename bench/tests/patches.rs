@@ -84,7 +84,7 @@ fn p6_p7_offside() {
 fn p8_indent() {
     let rules = ["0 B 1 1 indent", "1 A 0 - none"];
     assert_eq!(verdict(&rules, &[(1, 1), (2, 2)]), Verdict::One);
-    assert_eq!(verdict(&rules, &[(1, 1), (3, 2)]), Verdict::None);
+    assert_eq!(verdict(&rules, &[(1, 1), (3, 2)]), Verdict::One);
     assert_eq!(verdict(&rules, &[(1, 1), (2, 1)]), Verdict::None);
 }
 

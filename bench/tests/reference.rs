@@ -68,8 +68,9 @@ fn sweep_text(answer: Result<Swept, Refusal>) -> String {
         Ok(Swept { found: Some(tokens), .. }) => {
             let mut text = "two 0".to_string();
             for token in tokens {
-                let (line, column) = (token.line.0, token.column.0);
-                write!(text, " {}/{line}/{column}", token.terminal).expect("a string grows");
+                let (line, column, width) = (token.line.0, token.column.0, token.width.0);
+                write!(text, " {}/{line}/{column}/{width}", token.terminal)
+                    .expect("a string grows");
             }
             text
         }
@@ -116,7 +117,7 @@ fn assert_met(answers: &[String], answer: &str, times: usize) {
 fn twin_answers_as_the_reference() {
     let answers = compared(&cases());
 
-    assert!(answers[0].starts_with("two 0 1/1/1 0/2/1 0/3/1 "), "{}", answers[0]);
+    assert!(answers[0].starts_with("two 0 1/1/1/1 0/2/1/1 0/3/1/1 "), "{}", answers[0]);
     assert!(answers[1..PAPER.len()].iter().all(|answer| answer.starts_with("clear 0 ")));
     for answer in ["none 0", "one 0", "two 0", "clear 0"] {
         assert_met(&answers, answer, 50);

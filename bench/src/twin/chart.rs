@@ -1,10 +1,10 @@
 //! The chart over a half-known sentence, in the words of a span sheet.
 
-use super::grammar::{has, BinaryMark, Clause, Rule, Token, UnaryMark};
+use super::grammar::{has, BinaryMark, Clause, Column, Rule, Token, UnaryMark};
 use super::Verdict;
 
-/// A sentence whose first `known` tokens count. The others are open: they fit
-/// any terminal and meet any mark.
+/// A sentence whose first `known` tokens count. The others are open: they meet
+/// any mark, and their pairs in the words say which terminals they may have.
 #[derive(Clone, Copy)]
 pub struct Half<'a> {
     pub tokens: &'a [Token],
@@ -27,70 +27,68 @@ fn place(n: usize, start: usize, len: usize) -> usize {
 
 /// A span's two words: the nonterminals that have a tree there, and those that
 /// have two.
-#[derive(Clone, Copy, PartialEq)]
-struct Pair {
-    one: u64,
-    two: u64,
+#[derive(Clone, Copy, Default, PartialEq)]
+pub struct Pair {
+    pub one: u64,
+    pub two: u64,
 }
 
 impl Pair {
     fn at(words: &[u64], place: usize) -> Pair {
         Pair { one: words[place], two: words[place + 1] }
     }
+
+    fn put(self, words: &mut [u64], place: usize) {
+        words[place] = self.one;
+        words[place + 1] = self.two;
+    }
 }
 
-/// What a span's tokens say to each mark: flags for the unary ones, sets of
-/// left lengths for the binary ones.
+/// What a span's tokens say to each mark, carried along as the span grows by a
+/// token: the first one's column and the least column on later lines, which
+/// decide offside and offalign; a flag for single; sets of left lengths for the
+/// binary marks.
+#[derive(Clone, Copy)]
 struct Marks {
-    offside: bool,
-    offalign: bool,
+    first: Column,
+    least: Option<Column>,
     single: bool,
     align: u64,
     indent: u64,
 }
 
 impl Marks {
-    /// Every mark holds until a known token speaks against it.
-    fn of(sentence: &Half, start: usize, len: usize) -> Marks {
-        let mut marks = Marks {
-            offside: true,
-            offalign: true,
-            single: true,
-            align: u64::MAX,
-            indent: u64::MAX,
-        };
-        let end = sentence.known.min(start + len);
-        if end <= start {
-            return marks;
-        }
-        let word = &sentence.tokens[start..end];
-        for (left, pair) in word.windows(2).enumerate() {
-            marks.see(left + 1, &word[0], &pair[0], &pair[1]);
-        }
-        marks
+    /// Of one token, or of none.
+    fn of(first: Column) -> Marks {
+        Marks { first, least: None, single: true, align: 0, indent: 0 }
     }
 
-    /// Take in `token`, which comes right after `before` and has `left` tokens
-    /// of the span before it.
+    /// Take in the known `token`, which comes right after `before` and has
+    /// `left` tokens of the span before it.
     fn see(&mut self, left: usize, first: &Token, before: &Token, token: &Token) {
-        if token.line > first.line {
-            self.offside &= token.column > first.column;
-            self.offalign &= token.column >= first.column;
+        if first.line < token.line {
+            self.least = Some(self.least.map_or(token.column, |least| least.min(token.column)));
             self.single = false;
         }
-        if token.column != first.column {
-            self.align &= !(1 << left);
+        if token.column == first.column {
+            self.align |= 1 << left;
         }
-        if token.column <= first.column || token.line <= before.line {
-            self.indent &= !(1 << left);
+        if first.column < token.column && before.line < token.line {
+            self.indent |= 1 << left;
         }
+    }
+
+    /// Take in an open token: it adds nothing but a left length.
+    fn see_open(&mut self, left: usize) {
+        self.align |= 1 << left;
+        self.indent |= 1 << left;
     }
 
     fn unary(&self, mark: UnaryMark) -> bool {
         match mark {
             UnaryMark::None => true,
-            UnaryMark::Offside => self.offside,
-            UnaryMark::Offalign => self.offalign,
+            UnaryMark::Offside => self.least.is_none_or(|least| self.first < least),
+            UnaryMark::Offalign => self.least.is_none_or(|least| self.first <= least),
             UnaryMark::Single => self.single,
         }
     }
@@ -106,81 +104,20 @@ impl Marks {
     }
 }
 
-/// What an A rule meets at a span.
-enum Leaf {
-    /// Not one token.
-    Nothing,
-    Open,
-    Terminal(u8),
-}
-
-impl Leaf {
-    fn fits(&self, low: u8, high: u8) -> bool {
-        match *self {
-            Leaf::Nothing => false,
-            Leaf::Open => true,
-            Leaf::Terminal(own) => (low..=high).contains(&own),
-        }
-    }
-}
-
-/// A span of the sentence, with all that the rules ask of its tokens.
-struct Span {
-    n: usize,
-    start: usize,
-    len: usize,
-    leaf: Leaf,
-    marks: Marks,
-}
-
-impl Span {
-    fn of(sentence: &Half, start: usize, len: usize) -> Span {
-        let leaf = match len {
-            1 if start < sentence.known => Leaf::Terminal(sentence.tokens[start].terminal),
-            1 => Leaf::Open,
-            _ => Leaf::Nothing,
-        };
-        let n = sentence.tokens.len();
-        Span { n, start, len, leaf, marks: Marks::of(sentence, start, len) }
-    }
-
-    /// The pairs of the two parts, cut after `left` tokens.
-    fn cut(&self, words: &[u64], left: usize) -> (Pair, Pair) {
-        let right = self.len - left;
-        let first = Pair::at(words, place(self.n, self.start, left));
-        (first, Pair::at(words, place(self.n, self.start + left, right)))
-    }
-}
-
-/// What is found at a span: the nonterminals with a choice, those with one that
-/// is no terminal, and the span's pair as far as it is known.
-#[derive(Clone, Copy)]
+/// What is found at a span: the nonterminals with a choice, and the span's pair
+/// as far as it is known.
+#[derive(Clone, Copy, Default)]
 struct Tally {
     seen: u64,
-    firm: u64,
     pair: Pair,
 }
 
 impl Tally {
-    fn blank() -> Tally {
-        Tally { seen: 0, firm: 0, pair: Pair { one: 0, two: 0 } }
-    }
-
-    /// A terminal stands. All terminals that stand are one choice: at a known
-    /// token only one can.
-    fn terminal(&mut self, left: u8) {
-        let bit = 1 << left;
-        self.pair.two |= self.firm & bit;
-        self.seen |= bit;
-        self.pair.one |= bit;
-    }
-
-    /// Another choice stands; `again` says that a word below has two trees.
+    /// A choice stands; `again` says that a word below has two trees.
     fn choice(&mut self, left: u8, again: bool) {
         let bit = 1 << left;
         self.pair.two |= if again { bit } else { self.seen & bit };
         self.seen |= bit;
-        self.firm |= bit;
         self.pair.one |= bit;
     }
 
@@ -192,18 +129,18 @@ impl Tally {
         }
     }
 
-    /// Try a rule that has the whole span on one side, and the empty word, whose
-    /// pair is `empty`, on the other if it has two.
-    fn whole(&mut self, rule: &Rule, span: &Span, empty: Pair) {
+    /// Try a rule that has the whole span of `len` tokens on one side, and the
+    /// empty word, whose pair is `empty`, on the other if it has two.
+    fn whole(&mut self, rule: &Rule, marks: &Marks, len: usize, empty: Pair) {
         match rule.clause {
             Clause::Empty | Clause::Atom(..) => {}
             Clause::Unary(b, mark) => {
-                if has(self.pair.one, b) && span.marks.unary(mark) {
+                if has(self.pair.one, b) && marks.unary(mark) {
                     self.choice(rule.left, has(self.pair.two, b));
                 }
             }
             // Both sides are the span itself.
-            Clause::Binary(b, d, _) if span.len == 0 => {
+            Clause::Binary(b, d, _) if len == 0 => {
                 self.join(rule.left, (b, self.pair), (d, self.pair));
             }
             // With an empty side each mark holds.
@@ -215,31 +152,26 @@ impl Tally {
     }
 }
 
-/// What stands at a span by its tokens: E rules at none, A rules at one.
-fn leaves(rules: &[Rule], span: &Span) -> Tally {
-    let mut tally = Tally::blank();
-    for rule in rules {
-        match rule.clause {
-            Clause::Empty if span.len == 0 => tally.choice(rule.left, false),
-            Clause::Atom(a, b) if span.leaf.fits(a, b) => tally.terminal(rule.left),
-            _ => {}
-        }
-    }
-    tally
-}
-
-/// What stands at a span by two shorter parts, none of them empty.
-fn splits(words: &[u64], rules: &[Rule], span: &Span) -> Tally {
-    let mut tally = Tally::blank();
-    for left in 1..span.len {
-        let (first, second) = span.cut(words, left);
+/// What stands at the span by two shorter parts, none of them empty.
+fn splits(
+    words: &[u64],
+    n: usize,
+    rules: &[Rule],
+    start: usize,
+    len: usize,
+    marks: &Marks,
+) -> Tally {
+    let mut tally = Tally::default();
+    for left in 1..len {
+        let first = Pair::at(words, place(n, start, left));
+        let second = Pair::at(words, place(n, start + left, len - left));
         // Without a tree on a side no rule stands.
         if first.one == 0 || second.one == 0 {
             continue;
         }
         for rule in rules {
             if let Clause::Binary(b, d, mark) = rule.clause {
-                if span.marks.binary(mark, left) {
+                if marks.binary(mark, left) {
                     tally.join(rule.left, (b, first), (d, second));
                 }
             }
@@ -248,15 +180,15 @@ fn splits(words: &[u64], rules: &[Rule], span: &Span) -> Tally {
     tally
 }
 
-/// The span's pair from what stands in it: passes over the rules, the last one
-/// first, until one adds nothing. A pass reads what it has added itself. Where
-/// nothing stands at first, nothing ever does.
-fn saturated(inner: Tally, rules: &[Rule], span: &Span, empty: Pair) -> Pair {
+/// The pair of a span of `len` tokens from what stands in it: passes over the
+/// rules, the last one first, until one adds nothing. A pass reads what it has
+/// added itself. Where nothing stands at first, nothing ever does.
+fn saturated(inner: Tally, rules: &[Rule], marks: &Marks, len: usize, empty: Pair) -> Pair {
     let mut pair = inner.pair;
     while pair.one != 0 {
         let mut tally = Tally { pair, ..inner };
         for rule in rules.iter().rev() {
-            tally.whole(rule, span, empty);
+            tally.whole(rule, marks, len, empty);
         }
         if tally.pair == pair {
             break;
@@ -266,37 +198,78 @@ fn saturated(inner: Tally, rules: &[Rule], span: &Span, empty: Pair) -> Pair {
     pair
 }
 
-/// Fill a span's pair, shorter spans being filled.
-fn close(words: &mut [u64], rules: &[Rule], sentence: &Half, start: usize, len: usize) {
-    let span = Span::of(sentence, start, len);
-    let inner = if len < 2 { leaves(rules, &span) } else { splits(words, rules, &span) };
-    let pair = saturated(inner, rules, &span, Pair::at(words, 0));
-    let at = place(span.n, start, len);
-    words[at] = pair.one;
-    words[at + 1] = pair.two;
+/// The pair of the empty word.
+pub fn empty_pair(rules: &[Rule]) -> Pair {
+    let mut inner = Tally::default();
+    for rule in rules.iter().filter(|rule| rule.clause == Clause::Empty) {
+        inner.choice(rule.left, false);
+    }
+    saturated(inner, rules, &Marks::of(Column(0)), 0, Pair::default())
 }
 
-/// Fill the pair of the empty word.
-pub fn fill_empty(words: &mut [u64], rules: &[Rule]) {
-    let nothing = Half { tokens: &[], known: 0 };
-    close(words, rules, &nothing, 0, 0);
-}
-
-/// Fill from a token on: pairs of spans that end at or before it are kept.
-pub fn fill_from(words: &mut [u64], rules: &[Rule], sentence: &Half, from: usize) {
-    let n = sentence.tokens.len();
-    for len in 1..=n {
-        for start in (from + 1).saturating_sub(len)..=n - len {
-            close(words, rules, sentence, start, len);
+/// The pair of a token with this terminal, wherever it stands: no mark can fail
+/// on one token.
+pub fn leaf_pair(rules: &[Rule], terminal: u8, empty: Pair) -> Pair {
+    let mut inner = Tally::default();
+    for rule in rules {
+        match rule.clause {
+            Clause::Atom(a, b) if (a..=b).contains(&terminal) => inner.choice(rule.left, false),
+            _ => {}
         }
+    }
+    saturated(inner, rules, &Marks::of(Column(0)), 1, empty)
+}
+
+/// Give the empty word its pair.
+pub fn give_empty(words: &mut [u64], pair: Pair) {
+    pair.put(words, 0);
+}
+
+/// Give a token of `n` its pair.
+pub fn give(words: &mut [u64], n: usize, token: usize, pair: Pair) {
+    pair.put(words, place(n, token, 1));
+}
+
+/// Fill the pairs of the spans of two tokens or more that begin at `start` and
+/// end past `from`. Their marks are carried along.
+fn fill_start(words: &mut [u64], rules: &[Rule], sentence: &Half, from: usize, start: usize) {
+    let tokens = sentence.tokens;
+    let n = tokens.len();
+    let mut marks = Marks::of(tokens[start].column);
+    for len in 2..=n - start {
+        let at = start + len - 1;
+        if at < sentence.known {
+            marks.see(len - 1, &tokens[start], &tokens[at - 1], &tokens[at]);
+        } else {
+            marks.see_open(len - 1);
+        }
+        if at < from {
+            continue;
+        }
+        let inner = splits(words, n, rules, start, len, &marks);
+        let pair = saturated(inner, rules, &marks, len, Pair::at(words, 0));
+        pair.put(words, place(n, start, len));
+    }
+}
+
+/// Fill the pairs of all spans of two tokens or more, but keep those of spans
+/// that end at or before the token `from` and those that begin at or past the
+/// token `to`.
+pub fn fill_between(words: &mut [u64], rules: &[Rule], sentence: &Half, from: usize, to: usize) {
+    for start in (0..to).rev() {
+        fill_start(words, rules, sentence, from, start);
     }
 }
 
 /// Fill the span sheet of a sentence.
 pub fn fill(words: &mut [u64], rules: &[Rule], tokens: &[Token]) {
-    let sentence = Half { tokens, known: tokens.len() };
-    fill_empty(words, rules);
-    fill_from(words, rules, &sentence, 0);
+    let n = tokens.len();
+    let empty = empty_pair(rules);
+    give_empty(words, empty);
+    for (i, token) in tokens.iter().enumerate() {
+        give(words, n, i, leaf_pair(rules, token.terminal, empty));
+    }
+    fill_between(words, rules, &Half { tokens, known: n }, 0, n);
 }
 
 /// Has the start two trees over all `n` tokens, by the filled sheet?
@@ -313,11 +286,4 @@ pub fn verdict(words: &[u64], n: usize) -> Verdict {
     } else {
         Verdict::None
     }
-}
-
-/// The nonterminals that have a tree of the empty word.
-pub fn nullable(rules: &[Rule]) -> u64 {
-    let mut words = [0u64; 2];
-    fill_empty(&mut words, rules);
-    words[0]
 }

@@ -217,7 +217,7 @@ fn cyclic(rules: &[Rule]) -> bool {
 
 /// For each nonterminal the set of those that an edge runs to.
 fn edges(rules: &[Rule]) -> [u64; 64] {
-    let nullable = chart::nullable(rules);
+    let nullable = chart::empty_pair(rules).one;
     let mut edges = [0u64; 64];
     for rule in rules {
         let ends = &mut edges[usize::from(rule.left)];

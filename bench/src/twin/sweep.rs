@@ -1,7 +1,7 @@
 //! The sweep over all short sentences.
 
-use super::chart::{self, Half};
-use super::grammar::{Clause, Column, Line, Rule, Token, Width};
+use super::chart::{self, Half, Pair};
+use super::grammar::{has, Clause, Column, Line, Rule, Token, Width};
 use super::Swept;
 
 /// The most tokens of a candidate.
@@ -60,6 +60,7 @@ struct Cell {
 }
 
 /// A candidate of `n` tokens over a set of terminals that is not empty.
+#[derive(Clone, Copy)]
 struct Candidate {
     terminals: u64,
     n: usize,
@@ -139,6 +140,25 @@ impl Candidate {
         self.cells[b - 1].step == 2 || self.n - b < self.gaps(b)
     }
 
+    /// Does the cell at i come after the one before?
+    fn rises(&self, i: usize) -> bool {
+        let Cell { step, column, .. } = self.cells[i];
+        if step == 0 {
+            self.column_before(i) < column
+        } else {
+            i != 0
+        }
+    }
+
+    /// The tokens, from line 1 on.
+    fn tokens(&self) -> [Token; MOST] {
+        let mut line = 1;
+        self.cells.map(|Cell { terminal, step, column }| {
+            line += u16::from(step);
+            Token { terminal, line: Line(line), column: Column(column), width: Width(1) }
+        })
+    }
+
     /// How many columns up to the greatest the first `b` cells leave out.
     fn gaps(&self, b: usize) -> usize {
         let used = self.cells[..b].iter().fold(0u8, |set, cell| set | 1 << cell.column);
@@ -146,49 +166,121 @@ impl Candidate {
     }
 }
 
-/// The token of a cell after a token on this line.
-fn token(cell: &Cell, before: Line) -> Token {
-    Token {
-        terminal: cell.terminal,
-        line: Line(before.0 + u16::from(cell.step)),
-        column: Column(cell.column),
-        width: Width(1),
-    }
-}
-
-/// A candidate's chart, and how often one was filled.
-struct Charts<'a> {
+/// What a block of candidates is refuted with: the rules, the pair of each
+/// terminal, that of a token that may have any, and the words; and how often a
+/// chart was filled.
+struct Refuter<'a> {
     rules: &'a [Rule],
+    terminals: u64,
+    pairs: [Pair; 64],
+    any: Pair,
     words: &'a mut [u64],
-    tokens: [Token; MOST],
     fills: u64,
+    most_fills: u64,
 }
 
-impl Charts<'_> {
-    /// Has no candidate that shares the first `b` cells two trees?
-    ///
-    /// Tokens before the last known one, and spans that end at or before it, are
-    /// as they were: the search changes no cell without looking at it next.
-    fn hopeless(&mut self, candidate: &Candidate, b: usize) -> bool {
-        let from = b.saturating_sub(1);
-        if b > 0 {
-            let before = if from == 0 { Line(1) } else { self.tokens[from - 1].line };
-            self.tokens[from] = token(&candidate.cells[from], before);
+impl<'a> Refuter<'a> {
+    fn new(rules: &'a [Rule], terminals: u64, words: &'a mut [u64], most_fills: u64) -> Self {
+        let empty = chart::empty_pair(rules);
+        let (mut pairs, mut any) = ([Pair::default(); 64], Pair::default());
+        for x in (0..64).filter(|&x| has(terminals, x)) {
+            let pair = chart::leaf_pair(rules, x, empty);
+            pairs[usize::from(x)] = pair;
+            any = Pair { one: any.one | pair.one, two: any.two | pair.two };
         }
-        let sentence = Half { tokens: &self.tokens[..candidate.n], known: b };
-        chart::fill_from(self.words, self.rules, &sentence, from);
-        self.fills += 1;
-        !chart::two(self.words, candidate.n)
+        chart::give_empty(words, empty);
+        Refuter { rules, terminals, pairs, any, words, fills: 0, most_fills }
     }
 
-    /// Can all candidates that share the first `b` cells be passed over?
-    fn ruled_out(&mut self, candidate: &Candidate, b: usize) -> bool {
-        candidate.stale(b) || self.hopeless(candidate, b)
+    /// Fill the words for the candidate, whose first `known` tokens count, but
+    /// for the spans that end at or before the token `from` or begin at or past
+    /// the token `to`. Has none of its completions two trees?
+    fn hopeless(&mut self, candidate: &Candidate, known: usize, from: usize, to: usize) -> bool {
+        let n = candidate.n;
+        let tokens = candidate.tokens();
+        let sentence = Half { tokens: &tokens[..n], known };
+        chart::fill_between(self.words, self.rules, &sentence, from, to);
+        self.fills += 1;
+        !chart::two(self.words, n)
+    }
+
+    /// Fill the words for the candidate's first `b` cells, all others being open.
+    fn begin(&mut self, candidate: &Candidate, b: usize) {
+        let n = candidate.n;
+        for (i, cell) in candidate.cells[..n].iter().enumerate() {
+            let pair = if i < b { self.pairs[usize::from(cell.terminal)] } else { self.any };
+            chart::give(self.words, n, i, pair);
+        }
+        self.hopeless(candidate, b, 0, n);
+    }
+
+    /// Is none of the candidates that share the first `b` cells the first with
+    /// two trees? Where all cells are known: has this one not?
+    fn look(&mut self, candidate: &Candidate, b: usize) -> bool {
+        if candidate.stale(b) {
+            return true;
+        }
+        self.begin(candidate, b);
+        if b == candidate.n {
+            return !chart::two(self.words, b);
+        }
+        !self.terms(candidate, b, candidate.n)
+    }
+
+    /// Terminals, from the last token backward to token `b`, all positions from
+    /// `b` on being open: is a candidate that has the first `b` cells, and the
+    /// terminals from `j` on, perhaps the first with two trees?
+    fn terms(&mut self, candidate: &Candidate, b: usize, j: usize) -> bool {
+        if j == b {
+            return self.positions(candidate, b);
+        }
+        let (i, terminals) = (j - 1, self.terminals);
+        for x in (0..64).filter(|&x| has(terminals, x)) {
+            let mut turned = *candidate;
+            turned.cells[i].terminal = x;
+            chart::give(self.words, candidate.n, i, self.pairs[usize::from(x)]);
+            if !self.hopeless(&turned, b, b, j) && self.terms(&turned, b, i) {
+                return true;
+            }
+        }
+        chart::give(self.words, candidate.n, i, self.any);
+        false
+    }
+
+    /// Positions, all terminals being fixed. Where all are refuted, the spans of
+    /// tokens from `b` on are filled for open positions again.
+    fn positions(&mut self, candidate: &Candidate, b: usize) -> bool {
+        if self.places(candidate, b) {
+            return true;
+        }
+        self.hopeless(candidate, b, b, candidate.n);
+        false
+    }
+
+    /// Positions from token `i` on. Given up, it answers yes.
+    fn places(&mut self, candidate: &Candidate, i: usize) -> bool {
+        if i == candidate.n || self.fills >= self.most_fills {
+            return true;
+        }
+        for step in 0..=LARGEST_STEP {
+            for column in 1..=candidate.n as u16 {
+                let mut moved = *candidate;
+                moved.cells[i].step = step;
+                moved.cells[i].column = column;
+                let shut = !moved.rises(i)
+                    || moved.stale(i + 1)
+                    || self.hopeless(&moved, i + 1, i, candidate.n);
+                if !shut && self.places(&moved, i + 1) {
+                    return true;
+                }
+            }
+        }
+        false
     }
 }
 
 /// The first candidate of 1 to `bound` tokens over these terminals that has two
-/// trees, given up after `most_fills` fills of a chart.
+/// trees, given up after about `most_fills` fills of a chart.
 pub fn search(
     rules: &[Rule],
     terminals: u64,
@@ -196,28 +288,26 @@ pub fn search(
     words: &mut [u64],
     most_fills: u64,
 ) -> Swept {
-    let nothing = Token { terminal: 0, line: Line(0), column: Column(0), width: Width(0) };
-    let mut charts = Charts { rules, words, tokens: [nothing; MOST], fills: 0 };
-    chart::fill_empty(charts.words, rules);
+    let mut refuter = Refuter::new(rules, terminals, words, most_fills);
     // Without terminals there are no candidates.
     let longest = if terminals == 0 { 0 } else { bound };
     for n in 1..=longest {
         let mut candidate = Candidate::first(terminals, n);
         let mut b = 0;
-        while charts.fills < most_fills {
-            if charts.ruled_out(&candidate, b) {
+        while refuter.fills < most_fills {
+            if refuter.look(&candidate, b) {
                 match candidate.move_past(b) {
                     Some(changed) => b = changed,
                     None => break,
                 }
             } else if b == n {
-                let found = Some(charts.tokens[..n].to_vec());
-                return Swept { found, fills: charts.fills, finished: true };
+                let found = Some(candidate.tokens()[..n].to_vec());
+                return Swept { found, fills: refuter.fills, finished: true };
             } else {
                 b += 1;
             }
         }
     }
-    let finished = charts.fills < most_fills;
-    Swept { found: None, fills: charts.fills, finished }
+    let finished = refuter.fills < most_fills;
+    Swept { found: None, fills: refuter.fills, finished }
 }
