@@ -77,6 +77,18 @@ impl Call {
         Times { twin, library: LINKED.then_some(library) }
     }
 
+    /// The least CPU seconds of so many rounds of the twin's verdict with marks
+    /// walked anew for each span.
+    pub fn seconds_walked(&self, rounds: usize) -> f64 {
+        let Input::Tokens(tokens) = &self.input else {
+            return 0.0;
+        };
+        let mut lent = Lent::new();
+        let mut call = || twin::verdict_walked(&self.rules, tokens, &mut lent.words);
+        let times = repeats(timed(&mut call).0);
+        (0..rounds).map(|_| per_call(times, &mut call)).fold(f64::INFINITY, f64::min)
+    }
+
     /// The least CPU seconds of so many rounds: of the library where it is
     /// linked, else of the twin.
     pub fn seconds(&self, rounds: usize) -> f64 {
@@ -167,7 +179,7 @@ pub fn of_lines(rules: usize, tokens: usize) -> Call {
 }
 
 /// Sheets on which a search that knows terminals and positions together is slow.
-const LATE: [(&str, &[u8]); 9] = [
+const LATE: [(&str, &[u8]); 10] = [
     ("apart2", include_bytes!("../sheets/late/apart2.rules")),
     ("apart7", include_bytes!("../sheets/late/apart7.rules")),
     ("apart28", include_bytes!("../sheets/late/apart28.rules")),
@@ -177,6 +189,7 @@ const LATE: [(&str, &[u8]); 9] = [
     ("pairs20", include_bytes!("../sheets/late/pairs20.rules")),
     ("sum7_4", include_bytes!("../sheets/late/sum7_4.rules")),
     ("lay2chain_1", include_bytes!("../sheets/late/lay2chain_1.rules")),
+    ("lay2deep_1", include_bytes!("../sheets/late/lay2deep_1.rules")),
 ];
 
 /// Their sweeps, each up to its largest bound.

@@ -7,6 +7,7 @@ use bench::library::LINKED;
 use bench::twin::sweep;
 
 use crate::calls::{self, Call};
+use crate::tables::shown;
 
 /// Whose times these are.
 const WHOSE: &str = if LINKED { "library" } else { "twin" };
@@ -24,7 +25,26 @@ pub fn growth() {
 fn line_growth() {
     println!("(d) CPU ms of a verdict by tokens, each on a line of its own, and offside and offalign rules, {WHOSE}\n");
     verdict_rows(calls::of_lines);
+    println!("(d) The same under 128 rules: marks walked anew for each span, and carried\n");
+    println!(
+        "| tokens | walked, twin, CPU ms | carried, twin, CPU ms | carried, library, CPU ms |"
+    );
+    println!("|---|---|---|---|");
+    for tokens in [8, 16, 32, 64] {
+        let call = calls::of_lines(128, tokens);
+        let times = call.times(ROUNDS);
+        println!(
+            "| {tokens} | {:.3} | {:.3} | {} |",
+            1e3 * call.seconds_walked(ROUNDS),
+            1e3 * times.twin,
+            shown(times.library, 1e-3, 3),
+        );
+    }
+    println!();
 }
+
+/// Rounds of a measurement.
+const ROUNDS: usize = 5;
 
 fn verdict_growth(family: &Family) {
     println!("(d) CPU ms of a verdict by tokens and rules, {}, {WHOSE}\n", family.name);

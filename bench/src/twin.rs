@@ -40,6 +40,15 @@ pub fn verdict(rules: &[u8], tokens: &[u8], words: &mut [u64]) -> Result<Verdict
     Ok(chart::verdict(words, tokens.len()))
 }
 
+/// The same, with each span's tokens walked for its marks: what carrying spares.
+pub fn verdict_walked(rules: &[u8], tokens: &[u8], words: &mut [u64]) -> Result<Verdict, Refusal> {
+    let mut rules = sheets::read_rules(rules)?;
+    let tokens = sheets::read_tokens(tokens)?;
+    order::arrange(&mut rules);
+    chart::fill_walked(words, &rules, &tokens);
+    Ok(chart::verdict(words, tokens.len()))
+}
+
 /// The first sentence of 1 to `bound` tokens with two trees.
 pub fn sweep(rules: &[u8], bound: u64, words: &mut [u64]) -> Result<Swept, Refusal> {
     sweep_within(rules, bound, words, u64::MAX)

@@ -2,7 +2,7 @@
 //! and the number of its fills.
 
 use bench::late::{apart, words};
-use bench::random::{rule_line, rule_sheet, Random};
+use bench::random::{rule_line, rule_sheet, token_lines, token_sheet, Random};
 use bench::twin::grammar::{Column, Line, Rule, Token, Width};
 use bench::twin::{self, chart, sheets, sweep, Swept};
 
@@ -114,4 +114,23 @@ fn a_last_token_that_decides_is_tried_first() {
 #[test]
 fn words_of_one_rule_cost_no_more_than_one_word() {
     assert_eq!(clear_fills(&words(60), 3), clear_fills(&words(1), 3));
+}
+
+#[test]
+fn walked_and_carried_marks_are_the_same() {
+    let mut random = Random::new(13);
+    let mut met = 0;
+    while met < 200 {
+        let lines: Vec<String> = (0..12).map(|_| rule_line(&mut random, 4, 2)).collect();
+        let rules = rule_sheet(&lines);
+        let n = 1 + random.below(12);
+        let tokens = token_sheet(&token_lines(&mut random, n, 2));
+        let (mut carried, mut walked) = ([0; 160], [0; 160]);
+        let answer = twin::verdict(&rules, &tokens, &mut carried);
+        met += usize::from(answer.is_ok());
+        if answer.is_ok() {
+            assert_eq!(twin::verdict_walked(&rules, &tokens, &mut walked), answer);
+            assert_eq!(walked, carried);
+        }
+    }
 }

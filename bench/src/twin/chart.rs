@@ -84,6 +84,25 @@ impl Marks {
         self.indent |= 1 << left;
     }
 
+    /// The token behind the span's first `left` is taken in.
+    fn grow(&mut self, sentence: &Half, start: usize, left: usize) {
+        let (tokens, at) = (sentence.tokens, start + left);
+        if at < sentence.known {
+            self.see(left, &tokens[start], &tokens[at - 1], &tokens[at]);
+        } else {
+            self.see_open(left);
+        }
+    }
+
+    /// The same from the span's first token on: what carrying spares.
+    fn walked(sentence: &Half, start: usize, len: usize) -> Marks {
+        let mut marks = Marks::of(sentence.tokens[start].column);
+        for left in 1..len {
+            marks.grow(sentence, start, left);
+        }
+        marks
+    }
+
     fn unary(&self, mark: UnaryMark) -> bool {
         match mark {
             UnaryMark::None => true,
@@ -231,19 +250,23 @@ pub fn give(words: &mut [u64], n: usize, token: usize, pair: Pair) {
 }
 
 /// Fill the pairs of the spans of two tokens or more that begin at `start` and
-/// end past `from`. Their marks are carried along.
-fn fill_start(words: &mut [u64], rules: &[Rule], sentence: &Half, from: usize, start: usize) {
-    let tokens = sentence.tokens;
-    let n = tokens.len();
-    let mut marks = Marks::of(tokens[start].column);
+/// end past `from`. Their marks are carried along, or walked anew for each.
+fn fill_start<const WALKED: bool>(
+    words: &mut [u64],
+    rules: &[Rule],
+    sentence: &Half,
+    from: usize,
+    start: usize,
+) {
+    let n = sentence.tokens.len();
+    let mut marks = Marks::of(sentence.tokens[start].column);
     for len in 2..=n - start {
-        let at = start + len - 1;
-        if at < sentence.known {
-            marks.see(len - 1, &tokens[start], &tokens[at - 1], &tokens[at]);
+        if WALKED {
+            marks = Marks::walked(sentence, start, len);
         } else {
-            marks.see_open(len - 1);
+            marks.grow(sentence, start, len - 1);
         }
-        if at < from {
+        if start + len <= from {
             continue;
         }
         let inner = splits(words, n, rules, start, len, &marks);
@@ -257,19 +280,33 @@ fn fill_start(words: &mut [u64], rules: &[Rule], sentence: &Half, from: usize, s
 /// token `to`.
 pub fn fill_between(words: &mut [u64], rules: &[Rule], sentence: &Half, from: usize, to: usize) {
     for start in (0..to).rev() {
-        fill_start(words, rules, sentence, from, start);
+        fill_start::<false>(words, rules, sentence, from, start);
+    }
+}
+
+/// Give the empty word and all tokens of a sentence their pairs.
+fn fill_leaves(words: &mut [u64], rules: &[Rule], tokens: &[Token]) {
+    let empty = empty_pair(rules);
+    give_empty(words, empty);
+    for (i, token) in tokens.iter().enumerate() {
+        give(words, tokens.len(), i, leaf_pair(rules, token.terminal, empty));
     }
 }
 
 /// Fill the span sheet of a sentence.
 pub fn fill(words: &mut [u64], rules: &[Rule], tokens: &[Token]) {
     let n = tokens.len();
-    let empty = empty_pair(rules);
-    give_empty(words, empty);
-    for (i, token) in tokens.iter().enumerate() {
-        give(words, n, i, leaf_pair(rules, token.terminal, empty));
-    }
+    fill_leaves(words, rules, tokens);
     fill_between(words, rules, &Half { tokens, known: n }, 0, n);
+}
+
+/// The same, with each span's tokens walked for its marks.
+pub fn fill_walked(words: &mut [u64], rules: &[Rule], tokens: &[Token]) {
+    let n = tokens.len();
+    fill_leaves(words, rules, tokens);
+    for start in (0..n).rev() {
+        fill_start::<true>(words, rules, &Half { tokens, known: n }, 0, start);
+    }
 }
 
 /// Has the start two trees over all `n` tokens, by the filled sheet?
