@@ -1,0 +1,52 @@
+-- A book with one rule more.
+use mathlib.Core.Path.{_≡_, refl, sym, _∙_, ap, subst}
+use mathlib.Core.List.{List, [], _∷_, _++_}
+use Prim.Native.Nat.{ℕ, zero, suc, _+_, _≤_, _<_}
+use native.Mathlib.Omega.{arith}
+use native.Mathlib.Numerals.{add-one}
+use lib.ListN.{length, take, set, length-set, length-append}
+use lib.Seq.{length-take-le, take-suc-set}
+use Rattle.grammar.specs.declared.Rule.{Rule}
+use Rattle.grammar.specs.declared.Grammar.{Grammar}
+use Rattle.grammar.specs.Layout.{Every}
+use Rattle.grammar.specs.Trees.{Rules}
+use Rattle.grammar.specs.Content.{rules, SmallRule}
+use Rattle.grammar.proofs.Lists.{every-append}
+use Rattle.lengths.specs.declared.Index.{Index}
+use Rattle.lengths.specs.declared.Book.{Book}
+use Rattle.lengths.specs.Indexes.{Exact}
+use Rattle.lengths.specs.Passes.{Sound, Idle, Held}
+use Rattle.lengths.specs.Books.{Booked, Appended}
+use Rattle.lengths.proofs.Growing.{sound-more, exact-more}
+
+module _ (b : Book) (r : Rule) (k : Booked b) (room : b .grammar .count < 128) (small : SmallRule r) where
+  -- the grammar with r at its end
+  abbrev pub longer : Grammar
+  longer = record { rules = set (b .grammar .rules) (b .grammar .count) r; count = b .grammar .count + 1 }
+
+  pub rules-longer : rules longer ≡ rules (b .grammar) ++ (r ∷ [])
+  rules-longer = rw (add-one (b .grammar .count)) (take-suc-set (b .grammar .rules) (b .grammar .count) r (omega (arith, k .long)))
+
+  pub held-longer : Held longer
+  held-longer = record {
+    few = omega arith;
+    whole = length-take-le (b .grammar .count + 1) (set (b .grammar .rules) (b .grammar .count) r) (simp length-set (omega (arith, k .long)));
+    small = rw rules-longer (every-append SmallRule (rules (b .grammar)) (r ∷ []) (k .held .small) (small, tt));
+  }
+
+  pub sound-longer : Sound (rules longer) (b .index)
+  sound-longer = rw rules-longer (sound-more r (k .exact))
+
+  pub exact-longer : Idle (b .index) r → Exact (rules longer) (b .index)
+  exact-longer i = rw rules-longer (exact-more r (k .held .small) (k .exact) i)
+
+  pub appended : {x : Index} → Exact (rules longer) x → Appended b r (record { grammar = longer; index = x })
+  appended e = record {
+    booked = record { long = simp length-set (k .long); held = held-longer; exact = e };
+    count = refl;
+    rules = rules-longer;
+  }
+
+-- no rules
+pub booked-none : (l : List Rule) (x : Index) → length l ≡ 128 → Exact [] x → Booked (record { grammar = record { rules = l; count = 0 }; index = x })
+booked-none l x e h = record { long = e; held = record { few = omega arith; whole = refl; small = tt }; exact = h }

@@ -1,0 +1,50 @@
+-- `lengths::given` meets its contract.
+use borrow.Author.Needs.{needs}
+use Rattle.lengths.proofs.Growing.{makes-empty, makes-atom, makes-none, makes-unary, makes-binary}
+use Rattle.lengths.proofs.given.Statement.{statement}
+use Rattle.lengths.proofs.given.Tie as tie
+
+enum-told : tie.Need-enum-told
+enum-told c = search needs
+
+enum-known-k : tie.Need-enum-known-k
+enum-known-k c = search needs
+
+enum-told-2 : tie.Need-enum-told-2
+enum-told-2 c = search needs
+
+enum-told-3 : tie.Need-enum-told-3
+enum-told-3 c = search needs
+
+sums-requires : tie.Need-sums-requires
+sums-requires c κs = search needs
+
+returns : tie.Need-returns
+returns c = makes-empty _ _ (c .enum-told .given .1)
+
+returns-2 : tie.Need-returns-2
+returns-2 c = makes-atom _ _ (c .before .before .k .given .1) (c .if1 .taken)
+
+returns-3 : tie.Need-returns-3
+returns-3 c = makes-none _ _ (c .before .before .k .given .1) (c .if1 .left)
+
+returns-4 : tie.Need-returns-4
+returns-4 c = makes-unary _ _ (c .enum-told2 .given .1) (c .before .before .pre .0)
+
+returns-5 : tie.Need-returns-5
+returns-5 c = makes-binary _ _ (c .before .enum-told3 .given .1) (c .sums .ensures)
+
+pub given-spec : {M : Type 1} → statement M
+given-spec =
+    tie.close
+    (tie.spec
+    enum-told
+    enum-known-k
+    enum-told-2
+    enum-told-3
+    sums-requires
+    returns
+    returns-2
+    returns-3
+    returns-4
+    returns-5)
