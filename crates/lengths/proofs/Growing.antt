@@ -26,7 +26,7 @@ use Rattle.grammar.specs.declared.BinaryMark.{BinaryMark}
 use Rattle.grammar.specs.declared.Grammar.{Grammar}
 use Rattle.grammar.specs.Layout.{Every}
 use Rattle.grammar.specs.Trees.{Rules}
-use Rattle.grammar.specs.Content.{rules, SmallClause, SmallRule}
+use Rattle.grammar.specs.Content.{rules, Formed, SmallClause, SmallRule}
 use Rattle.grammar.proofs.Lists.{mem-every}
 use Rattle.grammar.proofs.ChoiceLaws.{member-at, place-of}
 use Rattle.grammar.proofs.ByKind.{getElem?-lt}
@@ -297,6 +297,13 @@ exact-sound {g} {x} e = record { shaped = e .shaped; is = λ A n h. go A n h (de
     go : (A n : ℕ) → In (at x A) n → Dec (A < 64) → Possible g A n
     go A n h (yes l) = can-possible (e .is A n l (high-none (at x A) n (e .shaped .small A) h) .0 h)
     go A n h (no l) = absurd (in-zero n (rw (past x A (e .shaped) (omega (arith, l))) at h))
+
+-- the index of no rules has nothing, so all of it is possible
+pub sound-none : {g : Rules} {x : Index} → Exact [] x → Sound g x
+sound-none e = let s = exact-sound e in record { shaped = e .shaped; is = λ A n h. absurd (nothing (s .is A n h)) }
+
+pub held-formed : {g : Grammar} → Formed g → Held g
+held-formed f = record { few = f .few; whole = f .whole; small = f .small }
 
 -- the index of the rules so far is true as far as it goes of one rule more
 pub sound-more : {g : Rules} {x : Index} (r : Rule) → Exact g x → Sound (g ++ (r ∷ [])) x

@@ -8,7 +8,7 @@ ghost use mathlib.Core.List.{[]};
 ghost use Prim.Native.Nat.{_+_, _<_};
 ghost use Rattle.sets.specs.Sets.{In};
 ghost use Rattle.sets.specs.Says.{Says};
-ghost use Rattle.grammar.specs.Content.{rules, SmallRule};
+ghost use Rattle.grammar.specs.Content.{rules, Formed, SmallRule};
 ghost use Rattle.lengths.specs.Indexes.{at, Shaped, Exact};
 ghost use Rattle.lengths.specs.Books.{Booked, Appended};
 ghost use Rattle.lengths.specs.Passes.{SumTo, Has, firstOf, secondOf, Makes, Sound, Passed, Idle, Held, weigh};
@@ -123,7 +123,7 @@ fn weight(x: Index) -> u64
 }
 
 // The index of the rules, from one that is true as far as it goes: passes until one adds nothing.
-pub fn completed(g: Grammar, x: Index) -> Index
+fn completed(g: Grammar, x: Index) -> Index
     requires { ⌜ Held g × Sound (rules g) x ⌝ }
     ensures { λ r. ⌜ Exact (rules g) r ⌝ }
 {
@@ -135,6 +135,14 @@ pub fn completed(g: Grammar, x: Index) -> Index
         }
         known = next;
     }
+}
+
+// The index of the rules of a grammar.
+pub fn index_of(g: Grammar) -> Index
+    requires { ⌜ Formed g ⌝ }
+    ensures { λ r. ⌜ Exact (rules g) r ⌝ }
+{
+    completed(g, no_lengths())
 }
 
 // Does the rule give the index nothing new?

@@ -148,6 +148,21 @@ said-kept seen line t k e = go (ruleLine line) refl e
     go RuleLine.Reversed h e = absurd (let z : _≡_ {A = ℕ} 0 1 = cc in omega arith)
     go (RuleLine.Good r) h e = fresh-kept seen r t (line-small line r h) k e
 
+-- a rule that a line gives is in range
+pub rule-small : (seen : Rules) (line : List ℕ) (u : Turn) (t : Rule) → next t ≡ stepAt Fault.RuleMany Fault.RuleForm (ruleSays seen line) u → SmallRule t
+rule-small seen line u t e = go (ruleLine line) refl (step-said Fault.RuleMany Fault.RuleForm (ruleSays seen line) u t (sym e))
+  where
+    fresh-small : (r : Rule) → SmallRule r → (b : Bool) → cond b (stop Fault.RuleTwice) (next r) ≡ next t → SmallRule t
+    fresh-small r sm true e = absurd (let z : _≡_ {A = ℕ} 0 1 = cc in omega arith)
+    fresh-small r sm false e = let j : r ≡ t = cc in rw (← j) sm
+
+    go : (x : RuleLine) → ruleLine line ≡ x → ruleSaid seen x ≡ next t → SmallRule t
+    go RuleLine.Form h e = absurd (let z : _≡_ {A = ℕ} 0 1 = cc in omega arith)
+    go RuleLine.Range h e = absurd (let z : _≡_ {A = ℕ} 0 1 = cc in omega arith)
+    go RuleLine.Unfit h e = absurd (let z : _≡_ {A = ℕ} 0 1 = cc in omega arith)
+    go RuleLine.Reversed h e = absurd (let z : _≡_ {A = ℕ} 0 1 = cc in omega arith)
+    go (RuleLine.Good r) h e = fresh-small r (line-small line r h) (anyOf (hasKey (keyOf r)) seen) e
+
 pub rules-kept : (ps : List (List ℕ)) (w : Rules) → itemsFrom ruleStep [] ps ≡ accepted w → Kept w
 rules-kept ps w =
     items-hold ruleStep Kept

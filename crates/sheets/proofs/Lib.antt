@@ -6,3 +6,4 @@ pub mod Accepted
 pub mod Walks
 pub mod Handed
 pub mod Samples
+pub mod Booking

@@ -7,6 +7,9 @@ use Rattle.grammar.specs.declared.Rule.{Rule}
 use Rattle.grammar.specs.declared.Token.{Token}
 use Rattle.grammar.specs.Cycles.{Cyclic}
 use Rattle.grammar.specs.Content.{rules, spelled, Formed, Positioned}
+use Rattle.lengths.specs.declared.Book.{Book}
+use Rattle.lengths.specs.Indexes.{Exact}
+use Rattle.lengths.specs.Books.{Appended}
 use Rattle.sheets.specs.declared.Fault.{Fault}
 use Rattle.sheets.specs.declared.Outcome.{Outcome}
 use Rattle.sheets.specs.declared.Outcome.the-variants.{Accepted, Refused}
@@ -23,12 +26,13 @@ abbrev pub readingOf : {A : Type 0} → Outcome → List A → Reading A
 readingOf Accepted w = accepted w
 readingOf (Refused f l) w = refused f l
 
--- the answer is the wanted reading; an accepted grammar is formed and not cyclic, a refused one has no rules
+-- the answer is the wanted reading; an accepted grammar is formed and not cyclic, a refused one has no rules; the index is true of the rules
 pub record RulesRead (r : GrammarRead) (want : Reading Rule) : Type 0 where
   pub is : readingOf (r .outcome) (rules (r .grammar)) ≡ want
   pub formed : r .outcome ≡ Accepted → Formed (r .grammar)
   pub acyclic : r .outcome ≡ Accepted → Cyclic (rules (r .grammar)) → ⊥
   pub none : (f : Fault) (l : ℕ) → r .outcome ≡ Refused f l → r .grammar .count ≡ 0
+  pub exact : Exact (rules (r .grammar)) (r .index)
 
 -- the answer is the wanted reading; an accepted sentence is positioned, a refused one has no tokens
 pub record TokensRead (r : SentenceRead) (want : Reading Token) : Type 0 where
@@ -41,6 +45,12 @@ abbrev pub asRuleStep : RuleStep → Step Rule
 asRuleStep (RuleStep.Next r) = next r
 asRuleStep (RuleStep.Stop f) = stop f
 asRuleStep RuleStep.End = end
+
+-- what a line makes of the book: 02, ask 7, "the index stays true at each rule appended; a refused rule line changes neither rules nor index"
+abbrev pub Adds : Book → RuleStep → Book → Type 0
+Adds b (RuleStep.Next r) x = Appended b r x
+Adds b (RuleStep.Stop f) x = x ≡ b
+Adds b RuleStep.End x = x ≡ b
 
 abbrev pub asTokenStep : TokenStep → Step Token
 asTokenStep (TokenStep.Next t) = next t

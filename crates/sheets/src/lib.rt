@@ -1,6 +1,5 @@
 // The readers of the two sheets, for any bytes: a grammar and a sentence, or the refusal with its line; and the refused line itself.
 use fields::Cursor;
-use grammar::Clause;
 use grammar::Column;
 use grammar::Grammar;
 use grammar::Line;
@@ -9,6 +8,12 @@ use grammar::Sentence;
 use grammar::Token;
 use grammar::Width;
 use grammar::past;
+use lengths::Book;
+use lengths::Index;
+use lengths::append;
+use lengths::no_book;
+use lengths::no_lengths;
+use lengths::no_rules;
 use lines::Key;
 use lines::RuleLine;
 use lines::TokenLine;
@@ -18,7 +23,9 @@ ghost use mathlib.Core.List.{[]};
 ghost use Prim.Native.Nat.{_≤_, _<_};
 ghost use lib.ListN.{length, take};
 ghost use lib.Dec.{ltb};
-ghost use Rattle.grammar.specs.Content.{Formed};
+ghost use Rattle.grammar.specs.Content.{rules as rulesOf, Formed};
+ghost use Rattle.lengths.specs.Indexes.{Exact};
+ghost use Rattle.lengths.specs.Books.{Booked};
 ghost use Rattle.lines.specs.Turns.{turnOf};
 ghost use Rattle.fields.specs.Pieces.{pieces, piecesFrom, bytesLeft};
 ghost use Rattle.sheets.specs.Refusals.{numberOf};
@@ -27,7 +34,7 @@ ghost use Rattle.sheets.specs.RuleSheets.{hasKey, anyOf, isStart, freshS
 ghost use Rattle.sheets.specs.TokenSheets.{after, orderStep, tokenSays, tokenStep, tokenSheet};
 ghost use Rattle.sheets.specs.RefusedLines.{LinePart, Hands, heldBy, refusedLine};
 ghost use Rattle.sheets.specs.LinesIn.{LineIn};
-ghost use Rattle.sheets.specs.Promises.{readingOf, asRuleStep, asTokenStep, RulesRead, TokensRead};
+ghost use Rattle.sheets.specs.Promises.{readingOf, asRuleStep, asTokenStep, Adds, RulesRead, TokensRead};
 
 // The refusals, in the order of 01's table with 02's in their places; `numberOf` in specs/ has their numbers. Many are given by later crates.
 pub enum Fault {
@@ -103,10 +110,11 @@ pub enum Outcome {
     Refused(Fault, usize),
 }
 
-// The grammar of a rule sheet; it has no rules where the sheet is refused.
+// The grammar of a rule sheet, with its index; it has no rules where the sheet is refused.
 pub struct GrammarRead {
     pub outcome: Outcome,
     pub grammar: Grammar,
+    pub index: Index,
 }
 
 // The sentence of a token sheet; it has no tokens where the sheet is refused.
@@ -198,40 +206,62 @@ fn rule_step(s: &[u8], c: Cursor, rules: [Rule; 128], n: usize) -> RuleStep
     }
 }
 
-// Places for 128 rules.
-pub fn no_rules() -> [Rule; 128] {
-    [Rule {
-        left: 0,
-        clause: Clause::Empty,
-    }; 128]
-}
-
 // A refused rule sheet.
 pub fn refuse_rules(rules: [Rule; 128], f: Fault, line: usize) -> GrammarRead
     ensures { λ r. ⌜ RulesRead r (refused f line) ⌝ }
 {
+    let index = no_lengths();
     GrammarRead {
         outcome: Outcome::Refused(f, line),
         grammar: Grammar { rules, count: 0 },
+        index,
     }
 }
 
-// The end of a rule sheet: refusals 7 and 8.
-pub fn finished(rules: [Rule; 128], n: usize) -> GrammarRead
-    requires { ⌜ Formed (record { rules = rules; count = n }) ⌝ }
-    ensures { λ r. ⌜ RulesRead r (finish (accepted (take n rules))) ⌝ }
+// The end of a rule sheet, with the index of its rules: refusals 7 and 8.
+pub fn finished(g: Grammar, index: Index) -> GrammarRead
+    requires { ⌜ Formed g × Exact (rulesOf g) index ⌝ }
+    ensures { λ r. ⌜ RulesRead r (finish (accepted (rulesOf g))) ⌝ }
 {
+    let rules = g.rules;
+    let n = g.count;
     if has_start(rules, n) {
-        let g = Grammar { rules, count: n };
         if acyclic::cyclic(g) {
             return refuse_rules(rules, Fault::Cyclic, 0);
         }
         return GrammarRead {
             outcome: Outcome::Accepted,
             grammar: g,
+            index,
         };
     }
     refuse_rules(rules, Fault::NoStart, 0)
+}
+
+// What a line gives, and the book after it.
+pub struct Added {
+    pub step: RuleStep,
+    pub book: Book,
+}
+
+// The cursor's line after the rules of a book: its rule is appended, and a line that gives none leaves the book as it was.
+fn add_line(s: &[u8], c: Cursor, book: Book) -> Added
+    requires { ⌜ (c .at ≤ c .end) × (c .end ≤ length (now s)) × Booked book ⌝ }
+    ensures { λ r. ⌜ asRuleStep (r .step) ≡ stepAt Fault.RuleMany Fault.RuleForm (ruleSays (rulesOf (book .grammar)) (bytesLeft (now (s .entry)) c)) (turnOf 128 (book .grammar .count) (bytesLeft (now (s .entry)) c) (ltb (c .end) (length (now (s .entry))))) ⌝ }
+    ensures { λ r. ⌜ Adds book (r .step) (r .book) ⌝ }
+{
+    let g = book.grammar;
+    let rules = g.rules;
+    let n = g.count;
+    let step = rule_step(s, c, rules, n);
+    match step {
+        RuleStep::Next(r) => {
+            let b = append(book, r);
+            Added { step, book: b }
+        }
+        RuleStep::Stop(_) => Added { step, book },
+        RuleStep::End => Added { step, book },
+    }
 }
 
 // The rule lines from a place on.
@@ -239,22 +269,28 @@ fn rules_from(s: &[u8], start: usize) -> GrammarRead
     requires { ⌜ start ≤ length (now s) ⌝ }
     ensures { λ r. ⌜ RulesRead r (rulesFrom (piecesFrom 10 (now (s .entry)) start)) ⌝ }
 {
-    let mut rules = no_rules();
-    let mut n: usize = 0;
+    let mut book = no_book();
     let mut at = start;
     loop {
         let c = Cursor::line(s, at);
-        match rule_step(s, c, rules, n) {
-            RuleStep::Next(r) => {
-                rules[n] = r;
-                n += 1;
+        let a = add_line(s, c, book);
+        let step = a.step;
+        let b = a.book;
+        match step {
+            RuleStep::Next(_) => {
+                book = b;
                 at = c.end + 1;
             }
             RuleStep::Stop(f) => {
+                let g = b.grammar;
+                let n = g.count;
+                let rules = g.rules;
                 return refuse_rules(rules, f, n + 2);
             }
             RuleStep::End => {
-                return finished(rules, n);
+                let g = b.grammar;
+                let x = b.index;
+                return finished(g, x);
             }
         }
     }

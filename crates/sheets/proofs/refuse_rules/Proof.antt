@@ -1,12 +1,16 @@
 -- `sheets::refuse_rules` meets its contract: the outcome is a refusal, and there are no rules.
+use borrow.Author.Needs.{needs}
 use mathlib.Core.Path.{_≡_, refl}
 use Prim.Native.Nat.{ℕ}
 use native.Mathlib.Omega.{arith}
 use Rattle.sheets.proofs.refuse_rules.Statement.{statement}
 use Rattle.sheets.proofs.refuse_rules.Tie as tie
 
+no-lengths-requires : tie.Need-no-lengths-requires
+no-lengths-requires c κs = search needs
+
 returns : tie.Need-returns
-returns c = record { is = refl; formed = λ e. absurd (let z : _≡_ {A = ℕ} 0 1 = cc in omega arith); acyclic = λ e. absurd (let z : _≡_ {A = ℕ} 0 1 = cc in omega arith); none = λ f l e. refl }
+returns c = record { is = refl; formed = λ e. absurd (let z : _≡_ {A = ℕ} 0 1 = cc in omega arith); acyclic = λ e. absurd (let z : _≡_ {A = ℕ} 0 1 = cc in omega arith); none = λ f l e. refl; exact = c .no-lengths .ensures }
 
 pub refuse-rules-spec : {M : Type 1} → statement M
-refuse-rules-spec = tie.close (tie.spec returns)
+refuse-rules-spec = tie.close (tie.spec no-lengths-requires returns)

@@ -1,0 +1,17 @@
+-- `lengths::index_of` meets its contract.
+use borrow.Author.Needs.{needs}
+use Rattle.lengths.proofs.Growing.{sound-none, held-formed}
+use Rattle.lengths.proofs.index_of.Statement.{statement}
+use Rattle.lengths.proofs.index_of.Tie as tie
+
+no-lengths-requires : tie.Need-no-lengths-requires
+no-lengths-requires c κs = search needs
+
+completed-requires : tie.Need-completed-requires
+completed-requires c κs = (held-formed (c .before .pre), sound-none (c .no-lengths .ensures))
+
+returns : tie.Need-returns
+returns c = c .completed .ensures
+
+pub index-of-spec : {M : Type 1} → statement M
+index-of-spec = tie.close (tie.spec no-lengths-requires completed-requires returns)
