@@ -2,19 +2,28 @@
 use mathlib.Core.Path.{_≡_, sym, ap, _∙_, subst}
 use mathlib.Core.Logic.{_↔_}
 use mathlib.Core.List.{List, [], _∷_, _++_}
-use Prim.Native.Nat.{ℕ, _+_, _-_, _*_, _≤_, _<_}
+use Prim.Native.Nat.{ℕ, zero, suc, _+_, _-_, _*_, _≤_, _<_}
 use native.Mathlib.Omega.{arith}
 use lib.ListN.{length, take, drop, replicate, length-take, length-replicate, getD-replicate, take-append-drop}
 use lib.Seq.{getD-take, ext-getD, take-at}
+use lib.Count.{ones}
+use Rattle.sets.specs.Sets.{In}
 use Rattle.grammar.specs.declared.Cell.{Cell}
 use Rattle.grammar.specs.declared.Token.{Token}
 use Rattle.grammar.specs.declared.Sentence.{Sentence}
 use Rattle.grammar.specs.Layout.{Word}
 use Rattle.grammar.specs.Trees.{Rules, TwoTrees}
-use Rattle.grammar.specs.Candidates.{Terminal, sentence}
+use Rattle.grammar.specs.Candidates.{Terminal, Candidate, sentence}
+use Rattle.grammar.specs.Sweeps.{found, terminalCount}
 use Rattle.grammar.specs.SpanSheet.{pairs}
 use Rattle.grammar.specs.Content.{spelled, Positioned}
 use Rattle.grammar.proofs.SweepLaws.{shorter-clear, sentence-length}
+use Rattle.counting.specs.Counts.{Counts}
+use Rattle.lengths.specs.declared.Index.{Index}
+use Rattle.lengths.specs.Indexes.{at, Exact}
+use Rattle.lengths.proofs.Possibly.{derives-can}
+use Rattle.tally.specs.Tried.{answerOf, Hit}
+use Rattle.tally.specs.Rows.{Fair}
 use Rattle.spans.specs.Changes.{Past, Cleared}
 use Rattle.spans.proofs.ChangeLaws.{past-then, past-drop}
 use Rattle.candidates.specs.Terminals.{Among}
@@ -27,8 +36,8 @@ use Rattle.reachable.specs.Reach.{Trimmed}
 use Rattle.reachable.proofs.TreeLaws.{two-trimmed}
 use Rattle.dominance.specs.Dominance.{Spared}
 use Rattle.dominance.proofs.Renaming.{renamed, renamed-candidate, renamed-two, renamed-before}
-use Rattle.sweeping.specs.Searching.{NoneShorter, Hits, Searched, hit, miss}
-use Rattle.sweeping.specs.Swept.{Swept, clear, two, Found, nothing, first, cleared}
+use Rattle.sweeping.specs.Searching.{NoneShorter, Admits, Hits, Searched, hit, miss}
+use Rattle.sweeping.specs.Swept.{LengthsOf, Bounded, TriedBy, Swept, clear, two, Found, nothing, first, cleared}
 use Rattle.sweeping.proofs.Turns.{clear-found, first-found}
 
 -- the lengths up to k are all done
@@ -76,9 +85,35 @@ module _ {g g′ : Rules} {s : ℕ} (same : (w : Word) → TwoTrees g 0 w ↔ Tw
   })
   searched-over (miss e h) = miss e (shorter-over h)
 
+pub admits-over : {g g′ : Rules} {l : ℕ} → ((w : Word) → TwoTrees g 0 w ↔ TwoTrees g′ 0 w) → Admits g l → Admits g′ l
+admits-over same v = record { all = λ w low high t. v .all w low high (same w .1 t) }
+
 -- the rules in another order, of which those are kept that 0 reaches
 pub same-two : {g g₁ g₂ : Rules} → Rearranged g g₁ → Trimmed g₁ g₂ → (w : Word) → TwoTrees g 0 w ↔ TwoTrees g₂ 0 w
 same-two o t w = let x = two-same o in let y = two-trimmed t in (λ d. y .0 (x .0 d), λ d. x .1 (y .1 d))
+
+-- ---- the lengths
+
+-- the set of nonterminal 0 in a true index
+pub lengths-of : {g : Rules} {x : Index} → Exact g x → LengthsOf g (at x 0)
+lengths-of e = record { is = λ n h. e .is 0 n (omega arith) h }
+
+-- a sentence with two trees has a length that nonterminal 0 can have
+pub admits-of : {g : Rules} {s : ℕ} → LengthsOf g s → Admits g s
+admits-of h = record { all = λ w low high t. h .is (length w) (omega arith) .1 (derives-can (record { tree = t .first; witness = t .witness₁ })) }
+
+-- what was found, as the count of the tried takes it
+pub hit-of : {g : Rules} {s l : ℕ} (k n : ℕ) (cs : List Cell) → ((x : ℕ) → Among s x ↔ Terminal g x) → LengthsOf g l → k ≤ 7 → length cs ≡ n → Found g k n cs → Hit (In l) (Among s) k n cs
+hit-of k n cs same h few e (nothing z c) = record { high = omega arith; allowed = λ l. absurd (omega arith); candidate = λ l. absurd (omega arith) }
+hit-of {g} {s} {l} k n cs same h few e (first f) = record {
+  high = omega (arith, f .high);
+  allowed = λ low. subst (In l) (sentence-length 1 cs ∙ e) (admits-of h .all (sentence cs) (omega (arith, sentence-length 1 cs, f .low)) (omega (arith, sentence-length 1 cs, f .high)) (f .two));
+  candidate = λ low. subst (λ (i : ℕ). Candidate (Among s) i cs) e (candidate-over (Terminal g) (Among s) (λ x. same x .1) (f .candidate));
+}
+
+-- the bound as the count takes it
+pub fair-of : {g : Rules} {k : ℕ} (s : ℕ) → Bounded g k → ones s ≡ terminalCount g → ones s ≤ 64 → Fair (ones s) k
+fair-of s b e few = record { low = b .low; high = b .high; few = few; limit = rw e (b .few) }
 
 -- ---- what is found
 
@@ -102,13 +137,19 @@ found-low {g} {k} {n} {cs} e h (nothing z c) = (omega arith, no-steps cs (e ∙ 
     no-steps (d ∷ ds) q = absurd (omega arith)
 
 -- and is the answer
-pub swept-of : {g : Rules} {k n : ℕ} {cs : List Cell} {r : Sentence} → length cs ≡ n → Found g k n cs → Spells cs n r → Swept g k r
-swept-of {g} {k} {n} {cs} {r} e (nothing z c) x =
+pub swept-of : {g : Rules} {k n m : ℕ} {cs : List Cell} {r : Sentence} → length cs ≡ n → Found g k n cs → Spells cs n r → Counts (TriedBy g k (answerOf n cs)) m → Swept g k r m
+swept-of {g} {k} {n} {m} {cs} {r} e (nothing z c) x q =
     clear c (x .count ∙ z) (subst (λ (m : ℕ). drop m (r .tokens) ≡ replicate (64 - m) nowhere) z (x .past))
-swept-of {g} {k} {n} {cs} {r} e (first f) x =
+    (subst (λ (i : ℕ). Counts (TriedBy g k (answerOf i cs)) m) z q)
+swept-of {g} {k} {n} {m} {cs} {r} e (first f) x q =
     two f (shorter-clear f) (x .count ∙ sym e)
     (sym (take-append-drop n (r .tokens)) ∙ ap (λ (l : List Token). l ++ drop n (r .tokens)) (x .front) ∙ ap (λ (l : List Token). sentence cs ++ l) (x .past)
     ∙ ap (λ (m : ℕ). sentence cs ++ replicate (64 - m) nowhere) (sym e))
+    (tried-two n (omega (arith, f .low, e)) q)
+  where
+    tried-two : (i : ℕ) → 1 ≤ i → Counts (TriedBy g k (answerOf i cs)) m → Counts (TriedBy g k (found cs)) m
+    tried-two zero l c = absurd (omega arith)
+    tried-two (suc i) l c = c
 
 -- the words after the search, cleared
 zeroed : (m : ℕ) (ws ws′ : List ℕ) → m ≤ length ws′ → Cleared ws ws′ m → take m ws′ ≡ replicate m 0
@@ -131,10 +172,10 @@ pub spelled-two : (cs : List Cell) (r : Sentence) → r .count ≡ length cs →
 spelled-two cs r e t = ap (λ (m : ℕ). take m (r .tokens)) e ∙ ap (take (length cs)) t ∙ take-at (sentence cs) (replicate (64 - length cs) nowhere) (length cs) (sentence-length 1 cs)
 
 -- and the answer is a sentence as the token sheet's reader would give
-pub swept-positioned : {g : Rules} {k : ℕ} {r : Sentence} → k ≤ 7 → Swept g k r → Positioned r
-swept-positioned {g} {k} {r} h (clear c e t) =
+pub swept-positioned : {g : Rules} {k m : ℕ} {r : Sentence} → k ≤ 7 → Swept g k r m → Positioned r
+swept-positioned {r = r} h (clear c e t q′) =
     let q : spelled r ≡ [] = ap (λ (m : ℕ). take m (r .tokens)) e in
     record { few = omega arith; whole = ap length q ∙ sym e; rising = rw q tt }
-swept-positioned {g} {k} {r} h (two {cs = cs} f c e t) =
+swept-positioned {r = r} h (two {cs = cs} f c e t q′) =
     let q : spelled r ≡ sentence cs = spelled-two cs r e t in
     record { few = omega (arith, f .high); whole = ap length q ∙ sentence-length 1 cs ∙ sym e; rising = rw q (f .candidate .rising) }

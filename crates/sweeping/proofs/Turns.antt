@@ -1,20 +1,21 @@
 -- The turns of the search, and what it finds in 01's words.
-use mathlib.Core.Path.{_≡_, _∙_}
+use mathlib.Core.Path.{_≡_, _∙_, subst}
 use mathlib.Core.Logic.{_⊎_, ⊎-elim, _↔_}
 use mathlib.Core.List.{List}
 use Prim.Native.Nat.{ℕ, _+_, _-_, _≤_, _<_}
 use native.Mathlib.Omega.{arith}
 use native.Mathlib.Decide.{decLt}
 use lib.ListN.{length}
+use Rattle.sets.specs.Sets.{In}
 use Rattle.grammar.specs.declared.Cell.{Cell}
 use Rattle.grammar.specs.Trees.{Rules, TwoTrees}
 use Rattle.grammar.specs.Candidates.{Candidate, Terminal, sentence}
 use Rattle.grammar.specs.Sweeps.{Clear, FirstTwo}
-use Rattle.grammar.proofs.SweepLaws.{clear-of}
+use Rattle.grammar.proofs.SweepLaws.{clear-of, sentence-length}
 use Rattle.candidates.specs.Terminals.{Among}
 use Rattle.candidates.specs.Succession.{First, Follows, Ends}
 use Rattle.candidates.proofs.TerminalSets.{candidate-over}
-use Rattle.sweeping.specs.Searching.{NoneShorter, NoneBefore, Barren, Hits}
+use Rattle.sweeping.specs.Searching.{NoneShorter, Admits, NoneBefore, Barren, Hits}
 
 module _ {g : Rules} {s : ℕ} where
   pub none-yet : NoneShorter g s 1
@@ -41,6 +42,16 @@ module _ {g : Rules} {s : ℕ} where
               let i : m ≡ n = omega arith in
               let d : Candidate (Among s) n ds = rw i at c in
               ⊎-elim (λ y. q .none ds d y t) (λ y. k .none ds d y t) (e .last ds d)
+
+  -- past a length that no sentence with two trees has
+  pub passed-over : {n l : ℕ} → NoneShorter g s n → Admits g l → n ≤ 7 → (In l n → ⊥) → NoneShorter g s (n + 1)
+  passed-over {n} {l} h v few out = record { none = λ m ds low u c t. at m ds low u c t (decLt m n) }
+    where
+      at : (m : ℕ) (ds : List Cell) → 1 ≤ m → m < n + 1 → Candidate (Among s) m ds → TwoTrees g 0 (sentence ds) → Dec (m < n) → ⊥
+      at m ds low u c t (yes x) = h .none m ds low x c t
+      at m ds low u c t (no x) =
+          let e : length (sentence ds) ≡ n = sentence-length 1 ds ∙ c .arranged .size ∙ (omega arith) in
+          out (subst (In l) e (v .all (sentence ds) (omega (arith, e)) (omega (arith, e)) t))
 
   module _ (same : (x : ℕ) → Among s x ↔ Terminal g x) where
     to : {n : ℕ} {cs : List Cell} → Candidate (Terminal g) n cs → Candidate (Among s) n cs

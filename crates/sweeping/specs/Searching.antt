@@ -3,7 +3,10 @@ use mathlib.Core.Path.{_≡_}
 use mathlib.Core.Bool.{Bool, true, false}
 use mathlib.Core.List.{List}
 use Prim.Native.Nat.{ℕ, _+_, _*_, _≤_, _<_}
+use lib.ListN.{length}
+use Rattle.sets.specs.Sets.{In}
 use Rattle.grammar.specs.declared.Cell.{Cell}
+use Rattle.grammar.specs.Layout.{Word}
 use Rattle.grammar.specs.Trees.{Rules, TwoTrees}
 use Rattle.grammar.specs.Candidates.{Candidate, Before, sentence}
 use Rattle.candidates.specs.Terminals.{Among}
@@ -12,6 +15,10 @@ use Rattle.candidates.specs.Succession.{Shares}
 -- no candidate of 1 to n - 1 tokens has two trees
 pub record NoneShorter (g : Rules) (s n : ℕ) : Type 0 where
   pub none : (m : ℕ) (ds : List Cell) → 1 ≤ m → m < n → Candidate (Among s) m ds → TwoTrees g 0 (sentence ds) → ⊥
+
+-- every sentence of 1 to 7 tokens that has two trees has a length in s
+pub record Admits (g : Rules) (s : ℕ) : Type 0 where
+  pub all : (w : Word) → 1 ≤ length w → length w ≤ 7 → TwoTrees g 0 w → In s (length w)
 
 -- cs is a candidate of length n, and none before it has two trees
 pub record NoneBefore (g : Rules) (s n : ℕ) (cs : List Cell) : Type 0 where

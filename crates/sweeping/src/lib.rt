@@ -4,6 +4,7 @@ use candidates::terminals;
 use dominance::needed;
 use grammar::Grammar;
 use grammar::Sentence;
+use lengths::Index;
 use order::ordered;
 use reachable::reachable;
 use refuting::fill_table;
@@ -11,8 +12,10 @@ use refuting::has_two;
 use refuting::refutes;
 use sets::Member;
 use sets::first_from;
+use sets::has;
 use spans::clear;
 use spans::size;
+use tally::tried;
 ghost use mathlib.Core.Path.{_≡_};
 ghost use Prim.Native.Nat.{_*_, _≤_};
 ghost use lib.ListN.{length};
@@ -25,8 +28,12 @@ ghost use Rattle.candidates.specs.Arrays.{cells};
 ghost use Rattle.candidates.specs.Terminals.{Among, Lowest};
 ghost use Rattle.refuting.specs.Tables.{Tabled};
 ghost use Rattle.spans.specs.Changes.{Past};
-ghost use Rattle.sweeping.specs.Searching.{Looked, Searched};
-ghost use Rattle.sweeping.specs.Swept.{Swept, Found, cleared};
+ghost use Rattle.counting.specs.Counts.{Counts};
+ghost use Rattle.lengths.specs.Lengths.{CanHave};
+ghost use Rattle.lengths.specs.Indexes.{Exact};
+ghost use Rattle.tally.specs.Tried.{Tried, answerOf};
+ghost use Rattle.sweeping.specs.Searching.{Looked, Admits, Searched};
+ghost use Rattle.sweeping.specs.Swept.{LengthsOf, Bounded, Swept, Found, cleared};
 
 // Is none of the candidates that share the first b cells the first with two trees? Where b is n and the answer is no, this
 // one has two.
@@ -76,11 +83,21 @@ fn nothing() -> Hit
 }
 
 // The first candidate of 1 to k tokens that has two trees, over a set whose least terminal is low. A candidate's first b
-// cells are looked at: where they rule it out, the search goes on past all that share them, else with a cell more.
-fn search(codes: &[u64], set: u64, table: &[u64], low: u8, k: usize, words: &mut [u64]) -> Hit
+// cells are looked at: where they rule it out, the search goes on past all that share them, else with a cell more. Lengths
+// that are not in the set `lengths` are passed over.
+fn search(
+    codes: &[u64],
+    set: u64,
+    table: &[u64],
+    low: u8,
+    lengths: u64,
+    k: usize,
+    words: &mut [u64],
+) -> Hit
     requires { ⌜ (1 ≤ k) × (k ≤ 7) ⌝ }
     requires { ⌜ Lowest set low ⌝ }
     requires { ⌜ Distinct (decoded (now codes)) ⌝ }
+    requires { ⌜ Admits (decoded (now codes)) lengths ⌝ }
     requires { ⌜ 2 * pairs k ≤ length (now words) ⌝ }
     requires { ⌜ Tabled (decoded (now codes)) set (now table) ⌝ }
     ensures { λ r. ⌜ Searched (decoded (now (codes .entry))) set k (r .length) (cells (r .candidate) 0 (r .length)) ⌝ }
@@ -90,6 +107,10 @@ fn search(codes: &[u64], set: u64, table: &[u64], low: u8, k: usize, words: &mut
     let hit = 'search: loop {
         if k < n {
             break 'search nothing();
+        }
+        if !has(lengths, n as u8) {
+            n += 1;
+            continue;
         }
         let mut c = Candidate::first(set, low, n);
         let mut b: usize = 0;
@@ -118,24 +139,27 @@ fn search(codes: &[u64], set: u64, table: &[u64], low: u8, k: usize, words: &mut
 }
 
 // The same, the pairs of the set's terminals being worked out first.
-fn find_among(codes: &[u64], set: u64, low: u8, k: usize, words: &mut [u64]) -> Hit
+fn find_among(codes: &[u64], set: u64, low: u8, lengths: u64, k: usize, words: &mut [u64]) -> Hit
     requires { ⌜ (1 ≤ k) × (k ≤ 7) ⌝ }
     requires { ⌜ Lowest set low ⌝ }
     requires { ⌜ Distinct (decoded (now codes)) ⌝ }
+    requires { ⌜ Admits (decoded (now codes)) lengths ⌝ }
     requires { ⌜ 2 * pairs k ≤ length (now words) ⌝ }
     ensures { λ r. ⌜ Searched (decoded (now (codes .entry))) set k (r .length) (cells (r .candidate) 0 (r .length)) ⌝ }
     ensures { λ r. ⌜ Past (2 * pairs k) (now (words .entry)) (now (words .exit)) ⌝ }
 {
     let mut table: [u64; 132] = [0; 132];
     fill_table(codes, set, &mut table[..]);
-    search(codes, set, &table[..], low, k, words)
+    search(codes, set, &table[..], low, lengths, k, words)
 }
 
 // The first candidate of 1 to k tokens that has two trees, over the terminals of the sheet. It has none that a smaller one
-// replaces, so that these need not be tried; and trees of 0 have no rule that 0 does not reach.
-fn find(g: Grammar, k: usize, words: &mut [u64]) -> Hit
+// replaces, so that these need not be tried, nor need lengths outside the set; and trees of 0 have no rule that 0 does not
+// reach.
+fn find(g: Grammar, lengths: u64, k: usize, words: &mut [u64]) -> Hit
     requires { ⌜ (1 ≤ k) × (k ≤ 7) ⌝ }
     requires { ⌜ Formed g ⌝ }
+    requires { ⌜ Admits (rules g) lengths ⌝ }
     requires { ⌜ 2 * pairs k ≤ length (now words) ⌝ }
     ensures { λ r. ⌜ Found (rules g) k (r .length) (cells (r .candidate) 0 (r .length)) ⌝ }
     ensures { λ r. ⌜ Past (2 * pairs k) (now (words .entry)) (now (words .exit)) ⌝ }
@@ -151,20 +175,44 @@ fn find(g: Grammar, k: usize, words: &mut [u64]) -> Hit
     let r = reachable(&codes[..m]);
     let few = r.codes;
     let n = r.count;
-    find_among(&few[..n], set, low, k, words)
+    find_among(&few[..n], set, low, lengths, k, words)
 }
 
-// The sweep up to k over a well-formed grammar: the first candidate that has two trees, or no token.
-pub fn sweep_rules(g: Grammar, k: usize, words: &mut [u64]) -> Sentence
-    requires { ⌜ (1 ≤ k) × (k ≤ 7) ⌝ }
+// How many candidates a search up to k tried that found c, of n tokens, or nothing where n is 0: those over all terminals
+// of the sheet, of the lengths in the set.
+fn counted(g: Grammar, lengths: u64, k: usize, n: usize, c: Candidate) -> u64
     requires { ⌜ Formed g ⌝ }
+    requires { ⌜ Bounded (rules g) k ⌝ }
+    requires { ⌜ LengthsOf (rules g) lengths ⌝ }
+    requires { ⌜ Found (rules g) k n (cells c 0 n) ⌝ }
+    ensures { λ r. ⌜ Counts (Tried (CanHave (rules g) 0) (Of.Terminal (rules g)) k (answerOf n (cells c 0 n))) r ⌝ }
+{
+    let all = terminals(g);
+    tried(lengths, all, k, n, c)
+}
+
+// What a sweep gives: the found sentence, of no tokens where there is none, and how many candidates it tried.
+pub struct Sweep {
+    pub sentence: Sentence,
+    pub tried: u64,
+}
+
+// The sweep up to k over a well-formed grammar with its index: the first candidate that has two trees, or no token.
+pub fn sweep_rules(g: Grammar, x: Index, k: usize, words: &mut [u64]) -> Sweep
+    requires { ⌜ Bounded (rules g) k ⌝ }
+    requires { ⌜ Formed g ⌝ }
+    requires { ⌜ Exact (rules g) x ⌝ }
     requires { ⌜ 2 * pairs k ≤ length (now words) ⌝ }
-    ensures { λ r. ⌜ Swept (rules g) k r ⌝ }
+    ensures { λ r. ⌜ Swept (rules g) k (r .sentence) (r .tried) ⌝ }
     ensures { λ r. ⌜ now (words .exit) ≡ cleared k (now (words .entry)) ⌝ }
 {
-    let h = find(g, k, words);
+    let lengths = x.sets[0];
+    let h = find(g, lengths, k, words);
     let m = size(k);
     clear(words, m);
     let c = h.candidate;
-    c.sentence(h.length)
+    let n = h.length;
+    let t = counted(g, lengths, k, n, c);
+    let sentence = c.sentence(n);
+    Sweep { sentence, tried: t }
 }

@@ -5,7 +5,7 @@ use native.Mathlib.Omega.{arith}
 use lib.ListN.{length}
 use Rattle.spans.proofs.ChangeLaws.{past-same}
 use Rattle.candidates.proofs.TerminalSets.{among-terminal, lowest-of, none-of}
-use Rattle.sweeping.proofs.Answers.{found-of, found-none, searched-all, none-all, searched-over, same-two}
+use Rattle.sweeping.proofs.Answers.{found-of, found-none, searched-all, none-all, searched-over, admits-over, same-two}
 use Rattle.sweeping.proofs.find.Statement.{statement}
 use Rattle.sweeping.proofs.find.Tie as tie
 
@@ -63,7 +63,7 @@ find-among-requires c κs =
     let n = o .before .before in
     let f = n .before .before in
     let z = f .before .before .before .before in
-    (z .pre .0, (lowest-of _ (f .first-from .result) _ (n .f .given .1) (f .first-from .ensures), (r .reachable .ensures .0 .distinct (o .ordered .ensures .0 .distinct (z .pre .1 .0 .distinct)), z .pre .1 .1)))
+    (z .pre .0, (lowest-of _ (f .first-from .result) _ (n .f .given .1) (f .first-from .ensures), (r .reachable .ensures .0 .distinct (o .ordered .ensures .0 .distinct (z .pre .1 .0 .distinct)), (admits-over (same-two (o .ordered .ensures .0) (r .reachable .ensures .0)) (z .pre .1 .1 .0), z .pre .1 .1 .1))))
 
 same-length : tie.Need-same-length
 same-length c = search needs
