@@ -14,6 +14,7 @@ use grammar::Line;
 use grammar::Sentence;
 use grammar::Token;
 use grammar::Width;
+use lengths::Index;
 use lists::Listed;
 use sheets::Fault;
 use sheets::GrammarRead;
@@ -28,6 +29,7 @@ ghost use mathlib.Core.List.{[]};
 ghost use Prim.Native.Nat.{_≤_};
 ghost use Rattle.grammar.specs.Cycles.{Cyclic};
 ghost use Rattle.grammar.specs.Content.{rules as rulesOf, spelled, Formed, Positioned};
+ghost use Rattle.lengths.specs.Indexes.{Exact};
 ghost use Rattle.sheets.specs.Promises.{RulesRead};
 ghost use Rattle.teplonga.specs.Answers.{withRules};
 ghost use Rattle.teplonga.specs.Told.{told};
@@ -62,11 +64,12 @@ pub struct TreesReply {
     pub second: usize,
 }
 
-// The answer of a sweep: besides, the found sentence, of no tokens where none was found.
+// The answer of a sweep: besides, the found sentence, of no tokens where none was found, and how many candidates were tried.
 pub struct SweepReply {
     pub answer: Answer,
     pub line: usize,
     pub sentence: Sentence,
+    pub tried: u64,
 }
 
 // The answer of a call that gives a list: besides, its number of entries.
@@ -295,34 +298,41 @@ fn refused_sweep(f: Fault, line: usize) -> SweepReply
         answer: Answer::Refused(f),
         line,
         sentence,
+        tried: 0,
     }
 }
 
 // An accepted sweep.
-fn taken(g: Grammar, k: usize, words: &mut [u64]) -> SweepReply
+fn taken(g: Grammar, x: Index, k: usize, words: &mut [u64]) -> SweepReply
     requires { ⌜ Formed g ⌝ }
+    requires { ⌜ Exact (rulesOf g) x ⌝ }
     requires { ⌜ Sweep.Taken (rulesOf g) k (now words) ⌝ }
     ensures { λ r. ⌜ SweepOn (rulesOf g) k (now (words .entry)) (now (words .exit)) r ⌝ }
 {
-    let sentence = sweep_rules(g, k, words);
+    let s = sweep_rules(g, x, k, words);
+    let tried = s.tried;
+    let sentence = s.sentence;
     let n = sentence.count;
     if n == 0 {
         return SweepReply {
             answer: Answer::Clear,
             line: 0,
             sentence,
+            tried,
         };
     }
     SweepReply {
         answer: Answer::Two,
         line: 0,
         sentence,
+        tried,
     }
 }
 
 // The sweep on rules that were read: 23, 24, 21, else its answer.
-fn swept(g: Grammar, k: usize, words: &mut [u64]) -> SweepReply
+fn swept(g: Grammar, x: Index, k: usize, words: &mut [u64]) -> SweepReply
     requires { ⌜ Formed g ⌝ }
+    requires { ⌜ Exact (rulesOf g) x ⌝ }
     ensures { λ r. ⌜ SweepOn (rulesOf g) k (now (words .entry)) (now (words .exit)) r ⌝ }
 {
     if k == 0 {
@@ -338,7 +348,7 @@ fn swept(g: Grammar, k: usize, words: &mut [u64]) -> SweepReply
     if words.len() < size(k) {
         return refused_sweep(Fault::FewWords, 0);
     }
-    taken(g, k, words)
+    taken(g, x, k, words)
 }
 
 // The sweep on the rules that were read.
@@ -351,7 +361,8 @@ pub fn sweep_read(a: GrammarRead, bound: usize, words: &mut [u64]) -> SweepReply
         Outcome::Refused(f, l) => refused_sweep(f, l),
         Outcome::Accepted => {
             let g = a.grammar;
-            swept(g, bound, words)
+            let x = a.index;
+            swept(g, x, bound, words)
         }
     }
 }
