@@ -7,11 +7,12 @@ use fields::Cursor;
 use fields::NumberField;
 use grammar::Grammar;
 use grammar::Rule;
+use lengths::index_of;
+use lengths::no_rules;
 use sheets::Fault;
 use sheets::GrammarRead;
 use sheets::Outcome;
 use sheets::finished;
-use sheets::no_rules;
 use sheets::refuse_rules;
 ghost use mathlib.Core.Path.{_≡_};
 ghost use mathlib.Core.Bool.{true, false};
@@ -250,8 +251,8 @@ fn expand_from(s: &[u8], start: usize, past: usize) -> GrammarRead
             count: 0,
         },
     );
-    let kept = g.rules;
-    finished(kept, g.count)
+    let x = index_of(g);
+    finished(g, x)
 }
 
 // The clause lines from a place on.

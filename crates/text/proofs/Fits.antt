@@ -53,8 +53,8 @@ on-few : {g : Rules} {k : ℕ} {words words′ : List ℕ} {r : SweepReply} → 
 on-few (Sweep.bound l n x h) = none-few x (omega arith)
 on-few (Sweep.many l u m n x h) = none-few x (omega arith)
 on-few (Sweep.short l u m o n x h) = none-few x (omega arith)
-on-few (Sweep.clear t c x h) = none-few x (omega arith)
-on-few (Sweep.two {cs = cs} t f c x h) = none-few x (omega (arith, sentence-length 1 cs, f .high, t .high))
+on-few (Sweep.clear t c q x h) = none-few x (omega arith)
+on-few (Sweep.two {cs = cs} t f c q x h) = none-few x (omega (arith, sentence-length 1 cs, f .high, t .high))
 
 pub sweep-few : {given : Reading Rule} {k : ℕ} {words words′ : List ℕ} {r : SweepReply} → Sweep.SweepBy given k words words′ r → r .sentence .count ≤ 7
 sweep-few (Sweep.refusing e x h) = none-few x (omega arith)

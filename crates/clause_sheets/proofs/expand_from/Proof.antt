@@ -61,10 +61,15 @@ no-rules-requires-3 c κs = search needs
 sorted-requires : tie.Need-sorted-requires
 sorted-requires c κs = out-few (walked (c .before .before .before)) (c .before .before .if2 .left)
 
+index-of-requires : tie.Need-index-of-requires
+index-of-requires c κs =
+    let o = c .before .before .before in
+    out-formed (walked (o .before)) (o .if2 .left) refl (c .sorted .ensures)
+
 finished-requires : tie.Need-finished-requires
 finished-requires c κs =
     let o = c .before .before .before .before in
-    out-formed (walked (o .before)) (o .if2 .left) refl (c .before .sorted .ensures)
+    (out-formed (walked (o .before)) (o .if2 .left) refl (c .before .sorted .ensures), c .index-of .ensures)
 
 returns-3 : tie.Need-returns-3
 returns-3 c =
@@ -86,5 +91,6 @@ expand-from-spec =
     returns-2
     no-rules-requires-3
     sorted-requires
+    index-of-requires
     finished-requires
     returns-3)
