@@ -11,7 +11,7 @@ use Rattle.sheets.specs.Items.{Reading}
 use Rattle.teplonga.specs.Answers.{Sheets}
 use Rattle.teplonga.proofs.Settled.{Words, Apart, verdict-settled, trees-settled}
 use Rattle.teplonga.proofs.SweepSettled.{sweep-settled}
-use Rattle.face.specs.Face.{packed, AtFront, few, written, sentenceWords, countWords, VerdictWord, TreesWord, SweepWord}
+use Rattle.face.specs.Face.{packed, AtFront, few, written, foundWords, countWords, VerdictWord, TreesWord, SweepWord}
 
 pub front-settled : {n : ℕ} {ws vs lent a b : List ℕ} → ws ≡ vs → AtFront n ws lent a → AtFront n vs lent b → a ≡ b
 front-settled e (few l x) (few m y) = x ∙ sym y
@@ -40,5 +40,5 @@ pub sweep-word-settled : {given : Reading Rule} {k : ℕ} {ws a b found f f′ :
 sweep-word-settled x y =
     let z = sweep-settled (x .promise) (y .promise) in (
       x .word ∙ ap (λ (v : SweepReply). packed (v .answer) (v .line)) (z .0) ∙ sym (y .word),
-      (z .1, front-settled (ap (λ (v : SweepReply). sentenceWords (v .sentence)) (z .0)) (x .sentence) (y .sentence)),
+      (z .1, front-settled (ap (λ (v : SweepReply). foundWords (v .sentence) (v .tried)) (z .0)) (x .sentence) (y .sentence)),
     )

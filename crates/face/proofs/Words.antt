@@ -4,13 +4,13 @@ use mathlib.Core.List.{List, [], _∷_, _++_}
 use Prim.Native.Nat.{ℕ, zero, suc, _+_, _*_, _≤_, _<_}
 use native.Mathlib.Numerals.{add-one}
 use native.Mathlib.Omega.{arith}
-use lib.ListN.{length, take, drop, getD, take-append-drop}
+use lib.ListN.{length, take, drop, getD, length-append, take-append-drop}
 use lib.Seq.{take-suc, length-take-le}
 use Rattle.grammar.specs.declared.Token.{Token}
 use Rattle.grammar.specs.declared.Sentence.{Sentence}
 use Rattle.grammar.specs.Layout.{Word, line, col}
 use Rattle.printing.specs.Printing.{Wrote}
-use Rattle.face.specs.Face.{tokenWords, sentenceWords}
+use Rattle.face.specs.Face.{tokenWords, sentenceWords, foundWords}
 
 words-snoc : (w : Word) (t : Token) → tokenWords (w ++ (t ∷ [])) ≡ tokenWords w ++ (t .terminal ∷ line t ∷ col t ∷ [])
 words-snoc [] t = refl
@@ -27,6 +27,10 @@ words-length (a ∷ w) = omega (arith, words-length w)
 -- a sentence is handed over in 22 words
 pub sentence-length : (s : Sentence) → 7 ≤ length (s .tokens) → length (sentenceWords s) ≡ 22
 sentence-length s h = omega (arith, words-length (take 7 (s .tokens)), length-take-le 7 (s .tokens) h)
+
+-- with the number behind it, in 23
+pub found-length : (s : Sentence) (m : ℕ) → 7 ≤ length (s .tokens) → length (foundWords s m) ≡ 23
+found-length s m h = omega (arith, length-append (sentenceWords s) (m ∷ []), sentence-length s h)
 
 -- what was put at the front stands before what stood behind it
 pub wrote-front : {old new ws : List ℕ} {r n : ℕ} → length ws ≡ n → Wrote old new 0 ws r → new ≡ ws ++ drop n old

@@ -54,11 +54,15 @@ tokenWords (t ∷ w) = t .terminal ∷ line t ∷ col t ∷ tokenWords w
 abbrev pub sentenceWords : Sentence → List ℕ
 sentenceWords s = s .count ∷ tokenWords (take 7 (s .tokens))
 
--- `teplonga_sweep` hands over what `sweep` answers, and the answer's sentence in words, where the sheet with the rules gives this
+-- a sentence as these words, and behind them how many candidates were tried
+abbrev pub foundWords : Sentence → ℕ → List ℕ
+foundWords s m = sentenceWords s ++ (m ∷ [])
+
+-- `teplonga_sweep` hands over what `sweep` answers, the answer's sentence and the number of candidates tried in words, where the sheet with the rules gives this
 pub record SweepWord (given : Reading Rule) (k : ℕ) (words words′ found found′ : List ℕ) (r : ℕ) : Type 0 where
   pub reply : SweepReply
   pub promise : SweepBy given k words words′ reply
-  pub sentence : AtFront 22 (sentenceWords (reply .sentence)) found found′
+  pub sentence : AtFront 23 (foundWords (reply .sentence) (reply .tried)) found found′
   pub word : r ≡ packed (reply .answer) (reply .line)
 
 -- the row counts of both trees as two words

@@ -16,7 +16,7 @@ ghost use Rattle.printing.specs.Printing.{Wrote};
 ghost use Rattle.sheets.specs.RuleSheets.{ruleSheet};
 ghost use Rattle.teplonga.specs.Answers.{sheets};
 ghost use Rattle.sheets.specs.RefusedLines.{Hands, refusedLine};
-ghost use Rattle.face.specs.Face.{codeOf, packed, VerdictWord, tokenWords, sentenceWords, AtFront, SweepWord, countWords, TreesWord};
+ghost use Rattle.face.specs.Face.{codeOf, packed, VerdictWord, tokenWords, sentenceWords, foundWords, AtFront, SweepWord, countWords, TreesWord};
 
 // The code of an answer.
 fn code(a: Answer) -> u64
@@ -87,12 +87,13 @@ fn put_sentence(found: &mut [u64], s: Sentence) -> usize
     put_tokens(found, next, s)
 }
 
-// The sentence, where the lent words are enough for it.
-pub fn put_found(found: &mut [u64], s: Sentence)
-    ensures { λ r. ⌜ AtFront 22 (sentenceWords s) (now (found .entry)) (now (found .exit)) ⌝ }
+// The sentence and the number of candidates tried, where the lent words are enough for them.
+pub fn put_found(found: &mut [u64], s: Sentence, tried: u64)
+    ensures { λ r. ⌜ AtFront 23 (foundWords s tried) (now (found .entry)) (now (found .exit)) ⌝ }
 {
-    if 22 <= found.len() {
-        put_sentence(found, s);
+    if 23 <= found.len() {
+        let next = put_sentence(found, s);
+        put_word(found, next, tried);
     }
 }
 
@@ -143,7 +144,7 @@ pub extern "C" fn teplonga_trees(
     pack(a, p.line)
 }
 
-// The sweep: its code times 2^32 plus the line's number. `found` gets the answer's sentence.
+// The sweep: its code times 2^32 plus the line's number. `found` gets the answer's sentence and the number of candidates tried.
 #[no_mangle]
 pub extern "C" fn teplonga_sweep(
     rules: &[u8],
@@ -156,7 +157,7 @@ pub extern "C" fn teplonga_sweep(
     let p = sweep(rules, bound, words);
     let a = p.answer;
     let s = p.sentence;
-    put_found(found, s);
+    put_found(found, s, p.tried);
     pack(a, p.line)
 }
 
