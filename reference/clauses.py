@@ -360,10 +360,10 @@ def trees_call(clauses, tokens, words, first, second):
 
 
 def sweep_call(clauses, bound, words):
-    """(answer, line, sentence, words after); no sentence is []."""
+    """(answer, line, sentence, candidates tried, words after); no sentence is []."""
     reading = read_clauses(clauses)
     if reading[0] == "refused":
-        return (refused_answer(reading[1]), reading[2], [], list(words))
+        return (refused_answer(reading[1]), reading[2], [], 0, list(words))
     return teplonga.sweep_call(rule_sheet(reading[1]), bound, words)
 
 
@@ -399,7 +399,7 @@ def clauses_output(clauses, tokens):
 
 def sweep_output(clauses, bound):
     """The output of the call `clauses` with a bound."""
-    answer, line, sentence, _ = sweep_call(clauses, bound, [0] * teplonga.words_needed(7))
+    answer, line, sentence, _, _ = sweep_call(clauses, bound, [0] * teplonga.words_needed(7))
     output = answer_lines(answer, line)
     if answer == "two":
         output += teplonga.token_sheet(sentence)

@@ -89,7 +89,7 @@ def worked_example():
 # ------------------------------------------------------------------ P1 to P9
 
 def sweep(rules, bound):
-    answer, line, found, after = teplonga.sweep_call(rules, bound, WORDS)
+    answer, line, found, _, after = teplonga.sweep_call(rules, bound, WORDS)
     need = 2 + bound * (bound + 1)
     same("sweep memory", (line, after), (0, [0] * need + WORDS[need:]))
     return (answer, [(token.line, token.col) for token in found])
@@ -156,7 +156,7 @@ def patches_after_p9():
     seven = rule_sheet(*short, *[f"3 A {term} - none" for term in range(7)])
     eight = rule_sheet(*short, *[f"3 A {term} - none" for term in range(8)])
     same("k = 5", sweep(seven, 5), ("two", [(1, 1)]))
-    same("k = 5", teplonga.sweep_call(eight, 5, WORDS), ("refused-24", 0, [], WORDS))
+    same("k = 5", teplonga.sweep_call(eight, 5, WORDS), ("refused-24", 0, [], 0, WORDS))
     cycle = rule_sheet("0 U 0 - none")
     same("cyclic", teplonga.read_rules(cycle), ("refused", 8, 0))
 
@@ -641,6 +641,33 @@ def second_sweep(rules, terminals, bound):
     return None
 
 
+def second_tried(rules, terminals, bound, found):
+    """The candidates tried, counted one by one; a length is possible if some word of it has a tree under the rules without marks."""
+    plain = [(*rule[:4], "none") for rule in rules]
+    count = 0
+    for length in range(1, bound + 1):
+        words = (
+            [(term, 1, col) for col, term in enumerate(terms, 1)]
+            for terms in itertools.product(terminals, repeat=length)
+        )
+        possible = any(Grammar(read_anyway(plain)).count(0, tuple(Token(*token) for token in word)) for word in words)
+        for tokens in CANDIDATES[terminals, length] if possible else ():
+            count += 1
+            if tokens == found:
+                return count
+    return count
+
+
+def candidate_counts():
+    """Each candidate's number by the formula, and how many there are."""
+    for terminals, most in (([0], 4), ([2, 5], 3), ([], 2), ([63, 0, 7], 2)):
+        for length in range(1, most + 1):
+            listed = list(teplonga.candidates(terminals, length))
+            same("candidate counts", teplonga.candidate_count(len(terminals), length), len(listed))
+            got = [teplonga.candidates_before(sorted(terminals), each) for each in listed]
+            same("candidate counts", got, list(range(len(listed))))
+
+
 def sweep_of_grammar(rules):
     """A sweep with bound 3 (2 where there are two terminals)."""
     ends = [(rule[2], rule[2] if rule[3] is None else rule[3]) for rule in rules if rule[1] == "A"]
@@ -651,7 +678,8 @@ def sweep_of_grammar(rules):
     tokens = [Token(*token) for token in found or ()]
     need = 2 + bound * (bound + 1)
     got = teplonga.sweep_call(sheet_of(rules), bound, [3] * (need + 1))
-    same("random sweeps", got, (answer, 0, tokens, [0] * need + [3]))
+    count = second_tried(rules, terminals, bound, found)
+    same("random sweeps", got, (answer, 0, tokens, count, [0] * need + [3]))
     return f"{answer} in a sweep"
 
 
@@ -700,7 +728,7 @@ def call_refusals():
         (rules, 3, [8] * 13, "refused-21", 0),
     ):
         got = teplonga.sweep_call(sheet, bound, memory)
-        same("refused calls", got, (answer, line, [], memory))
+        same("refused calls", got, (answer, line, [], 0, memory))
     same("refused calls", teplonga.token_places([]), [(0, 0, 0)] * 7)
     same("refused calls", teplonga.token_places([Token(4, 1, 2)])[:2], [(4, 1, 2), (0, 0, 0)])
 
@@ -803,6 +831,7 @@ def main():
     patches_after_p9()
     readers()
     candidate_order()
+    candidate_counts()
     call_refusals()
     large_trees()
     programs()

@@ -841,16 +841,81 @@ def token_places(sentence):
     return [token[:3] for token in sentence] + [(0, 0, 0)] * (7 - len(sentence))
 
 
+def start_lengths(rules):
+    """Which of the lengths 0 to 7 nonterminal 0 "can have when all marks are ignored"."""
+    known = set()
+    while True:
+        given = {(rule.left, length) for rule in rules for length in lengths_by(rule, known)}
+        if given <= known:
+            return {length for left, length in known if left == START}
+        known |= given
+
+
+def lengths_by(rule, known):
+    """The lengths that a rule gives to its left, where its parts have the known ones."""
+    if rule.kind == "E":
+        return [0]
+    if rule.kind == "A":
+        return [1]
+    first = [length for left, length in known if left == rule.first]
+    if rule.kind == "U":
+        return first
+    second = [length for left, length in known if left == rule.second]
+    return [one + other for one in first for other in second if one + other <= 7]
+
+
+def goings_on(count, length, left, column):
+    """How many ways a candidate over so many terminals goes on with `left` tokens after one in a column."""
+    ways_by_column = [1] * (length + 1)
+    for _ in range(left):
+        any_column = sum(ways_by_column[1:])
+        ways_by_column = [
+            count * (sum(ways_by_column[before + 1 :]) + 2 * any_column) for before in range(length + 1)
+        ]
+    return ways_by_column[column]
+
+
+def candidate_count(count, length):
+    """How many candidates of one length there are."""
+    return count * sum(goings_on(count, length, length - 1, column) for column in range(1, length + 1))
+
+
+def candidates_before(terminals, sentence):
+    """How many candidates of its length come before a candidate."""
+    count, length, total = len(terminals), len(sentence), 0
+    for place, token in enumerate(sentence):
+        line_before = sentence[place - 1].line if place else 1
+        for term in terminals:
+            for step in (0, 1, 2) if place else (0,):
+                for col in range(1, length + 1):
+                    other = Token(term, line_before + step, col)
+                    risen = not place or comes_after(other, sentence[place - 1])
+                    if risen and (term, other.line, col) < (token.term, token.line, token.col):
+                        total += goings_on(count, length, length - 1 - place, col)
+    return total
+
+
+def tried(rules, bound, sentence):
+    """"Its answer also counts the candidates tried: all of the other lengths up to k, or up to and with the found one" """
+    terminals = terminals_of(rules)
+    longest = bound if sentence is None else len(sentence) - 1
+    lengths = [length for length in start_lengths(rules) if 1 <= length <= longest]
+    whole = sum(candidate_count(len(terminals), length) for length in lengths)
+    return whole if sentence is None else whole + candidates_before(terminals, sentence) + 1
+
+
 def sweep_call(rules, bound, words):
-    """(answer, line, sentence, words after); no sentence is []."""
+    """(answer, line, sentence, candidates tried, words after); no sentence is []."""
     refusal = sweep_refusal(rules, bound, words)
     if refusal is not None:
-        return (refused_answer(refusal[0]), refusal[1], [], list(words))
+        return (refused_answer(refusal[0]), refusal[1], [], 0, list(words))
     after = filled([0] * words_needed(bound), words)
-    sentence = first_ambiguous(read_rules(rules)[1], bound)
+    read = read_rules(rules)[1]
+    sentence = first_ambiguous(read, bound)
+    count = tried(read, bound, sentence)
     if sentence is None:
-        return ("clear", 0, [], after)
-    return ("two", 0, list(sentence), after)
+        return ("clear", 0, [], count, after)
+    return ("two", 0, list(sentence), count, after)
 
 
 # --------------------------------------------------------------- the programs
@@ -922,7 +987,7 @@ def sweep_program(data):
         return answer_lines(refused_answer(32), 0)
     bound = bound_of(sheets[0])
     words = [0] * words_needed(7)
-    answer, line, sentence, _ = sweep_call(sheets[1], bound, words)
+    answer, line, sentence, _, _ = sweep_call(sheets[1], bound, words)
     output = answer_lines(answer, line)
     if answer == "two":
         output += token_sheet(sentence)
