@@ -1,6 +1,6 @@
 -- The lent bytes of the tree writer between two turns: rows at the front, pending nodes at the end, four bytes each.
 use mathlib.Core.Path.{_≡_, refl, sym, ap, _∙_, subst}
-use mathlib.Core.Bool.{Bool, true, false}
+use mathlib.Core.Bool.{Bool, true, false, cond}
 use mathlib.Core.List.{List, [], _∷_, _++_, append-assoc, append-nil}
 use mathlib.Core.Option.{none}
 use Prim.Native.Nat.{ℕ, _+_, _*_, _-_, _≤_, _<_}
@@ -10,60 +10,80 @@ use lib.Seq.{drop-drop, take-add, getD-drop, length-take-le, take-all}
 use Rattle.grammar.specs.Layout.{Word, Every}
 use Rattle.grammar.specs.Trees.{Tree, empty, leaf, unary, binary, root, word, Rules}
 use Rattle.grammar.specs.Choices.{Distinct}
-use Rattle.grammar.specs.Rows.{startOf, rows, rowCount}
+use Rattle.grammar.specs.Rows.{startOf}
+use Rattle.shown.specs.Shown.{View, closedRow, shownRows, shownCount}
+use Rattle.shown.proofs.ShownLaws.{length-shown, some-shown}
 use Rattle.grammar.proofs.ChoiceLaws.{append-inj, first-unique, second-tree-unique, second-rooted, second-spelled}
 use Rattle.rows.specs.declared.Step.{Step}
-use Rattle.derivation.specs.Written.{places, filled}
+use Rattle.derivation.specs.Written.{places}
+use Rattle.derivation.specs.Showing.{filledShown}
 use Rattle.derivation.specs.Wanted.{Goal, Laid}
 use Rattle.rows.specs.Bytes.{splice}
-use Rattle.rows.specs.Steps.{kidsOf, entriesOf, Branched}
+use Rattle.rows.specs.Steps.{kidsOf, entriesOf, closedStep, Branched}
 use Rattle.rows.proofs.BytesLaws.{length-splice, take-splice, drop-splice, drop-splice-high}
-use Rattle.derivation.proofs.Pending.{Pending, entries, rowsAll, kids, shape, Sits, Fork, Aim}
+use Rattle.derivation.proofs.Pending.{Pending, entries, rowsAll, kids, shape, shownKids, shownShape, Sits, Fork, Aim}
 
--- 1. the rows of a tree: its own, then those of its children
+-- 1. the rows shown of a tree: its own, then those of its children
 
-abbrev pub row : Tree → ℕ → List ℕ
-row t i = root t ∷ shape false t .kind ∷ startOf i (length (word t)) ∷ length (word t) ∷ []
+module _ (sees : View) where
+  abbrev pub row : Tree → ℕ → List ℕ
+  row t i = root t ∷ shownShape sees false t .kind ∷ startOf i (length (word t)) ∷ length (word t) ∷ []
 
-pub rows-split : (t : Tree) (i : ℕ) → rows i t ≡ row t i ++ rowsAll (kids t i)
-rows-split (empty A) i = refl
-rows-split (leaf A t) i = refl
-rows-split (unary A t) i = rw append-nil refl
-rows-split (binary A s t) i = rw (append-nil (rows (i + length (word s)) t)) refl
+  pub rows-split : (t : Tree) (i : ℕ) → shownRows sees i t ≡ row t i ++ rowsAll sees (shownKids sees t i)
+  rows-split (empty A) i = go (sees A)
+    where
+      go : (b : Bool) → cond b (A ∷ 0 ∷ 0 ∷ 0 ∷ []) (closedRow i (empty A)) ≡ (A ∷ cond b (shape false (empty A)) (closedStep false) .kind ∷ 0 ∷ 0 ∷ []) ++ rowsAll sees (cond b [] [])
+      go true = refl
+      go false = refl
+  rows-split (leaf A t) i = go (sees A)
+    where
+      go : (b : Bool) → cond b (A ∷ 1 ∷ i ∷ 1 ∷ []) (closedRow i (leaf A t)) ≡ (A ∷ cond b (shape false (leaf A t)) (closedStep false) .kind ∷ i ∷ 1 ∷ []) ++ rowsAll sees (cond b [] [])
+      go true = refl
+      go false = refl
+  rows-split (unary A t) i = go (sees A)
+    where
+      go : (b : Bool) → cond b (A ∷ 2 ∷ startOf i (length (word t)) ∷ length (word t) ∷ shownRows sees i t) (closedRow i (unary A t))
+          ≡ (A ∷ cond b (shape false (unary A t)) (closedStep false) .kind ∷ startOf i (length (word t)) ∷ length (word t) ∷ []) ++ rowsAll sees (cond b (kids (unary A t) i) [])
+      go true = rw append-nil refl
+      go false = refl
+  rows-split (binary A s t) i = go (sees A)
+    where
+      go : (b : Bool)
+          → cond b (A ∷ 3 ∷ startOf i (length (word s ++ word t)) ∷ length (word s ++ word t) ∷ (shownRows sees i s ++ shownRows sees (i + length (word s)) t)) (closedRow i (binary A s t))
+          ≡ (A ∷ cond b (shape false (binary A s t)) (closedStep false) .kind ∷ startOf i (length (word s ++ word t)) ∷ length (word s ++ word t) ∷ []) ++ rowsAll sees (cond b (kids (binary A s t) i) [])
+      go true = rw (append-nil (shownRows sees (i + length (word s)) t)) refl
+      go false = refl
 
-pub length-rows : (t : Tree) (i : ℕ) → length (rows i t) ≡ 4 * rowCount t
-length-rows (empty A) i = refl
-length-rows (leaf A t) i = refl
-length-rows (unary A t) i = omega (arith, length-rows t i)
-length-rows (binary A s t) i =
-    omega (arith, length-rows s i, length-rows t (i + length (word s)), length-append (rows i s) (rows (i + length (word s)) t))
+  pub kids-count : (t : Tree) (i : ℕ) (m : Bool) → length (shownKids sees t i) ≡ kidsOf (shownShape sees m t .kind)
+  kids-count t i m = go (sees (root t)) t
+    where
+      go : (b : Bool) (t : Tree) → length (cond b (kids t i) []) ≡ kidsOf (cond b (shape m t) (closedStep m) .kind)
+      go true (empty A) = refl
+      go true (leaf A t) = refl
+      go true (unary A t) = refl
+      go true (binary A s t) = refl
+      go false t = refl
 
-pub some-row : (t : Tree) → 0 < rowCount t
-some-row (empty A) = omega arith
-some-row (leaf A t) = omega arith
-some-row (unary A t) = omega arith
-some-row (binary A s t) = omega arith
+  pub kids-entries : (t : Tree) (i : ℕ) (m : Bool)
+      → entriesOf (shownShape sees m t .kind) (shownShape sees m t .first) (shownShape sees m t .second) (shownShape sees m t .split) i (length (word t)) ≡ entries (shownKids sees t i)
+  kids-entries t i m = go (sees (root t)) t
+    where
+      go : (b : Bool) (t : Tree)
+          → entriesOf (cond b (shape m t) (closedStep m) .kind) (cond b (shape m t) (closedStep m) .first) (cond b (shape m t) (closedStep m) .second) (cond b (shape m t) (closedStep m) .split) i (length (word t))
+          ≡ entries (cond b (kids t i) [])
+      go true (empty A) = refl
+      go true (leaf A t) = refl
+      go true (unary A t) = refl
+      go true (binary A s t) =
+          let e : length (word s ++ word t) - length (word s) ≡ length (word t) = omega (arith, length-append (word s) (word t)) in
+          rw e refl
+      go false t = refl
 
-pub kids-count : (t : Tree) (i : ℕ) (m : Bool) → length (kids t i) ≡ kidsOf (shape m t .kind)
-kids-count (empty A) i m = refl
-kids-count (leaf A t) i m = refl
-kids-count (unary A t) i m = refl
-kids-count (binary A s t) i m = refl
-
-pub kids-entries : (t : Tree) (i : ℕ) (m : Bool)
-    → entriesOf (shape m t .kind) (shape m t .first) (shape m t .second) (shape m t .split) i (length (word t)) ≡ entries (kids t i)
-kids-entries (empty A) i m = refl
-kids-entries (leaf A t) i m = refl
-kids-entries (unary A t) i m = refl
-kids-entries (binary A s t) i m =
-    let e : length (word s ++ word t) - length (word s) ≡ length (word t) = omega (arith, length-append (word s) (word t)) in
-    rw e refl
-
-pub kids-sit : (w : Word) (t : Tree) (i : ℕ) (ps : List Pending) → Sits w (record { tree = t; start = i }) → Every (Sits w) ps → Every (Sits w) (kids t i ++ ps)
-kids-sit w (empty A) i ps s a = a
-kids-sit w (leaf A t) i ps s a = a
-kids-sit w (unary A t) i ps s a = (record { within = s .within; spelled = s .spelled }, a)
-kids-sit w (binary A u v) i ps s a =
+all-kids-sit : (w : Word) (t : Tree) (i : ℕ) (ps : List Pending) → Sits w (record { tree = t; start = i }) → Every (Sits w) ps → Every (Sits w) (kids t i ++ ps)
+all-kids-sit w (empty A) i ps s a = a
+all-kids-sit w (leaf A t) i ps s a = a
+all-kids-sit w (unary A t) i ps s a = (record { within = s .within; spelled = s .spelled }, a)
+all-kids-sit w (binary A u v) i ps s a =
     let n : length (word u ++ word v) ≡ length (word u) + length (word v) = length-append (word u) (word v) in
     let e : word u ++ word v ≡ take (length (word u)) (drop i w) ++ take (length (word v)) (drop (length (word u)) (drop i w)) =
     s .spelled ∙ ap (λ (k : ℕ). take k (drop i w)) n ∙ take-add (length (word u)) (length (word v)) (drop i w) in
@@ -72,6 +92,13 @@ kids-sit w (binary A u v) i ps s a =
       record { within = omega (arith, s .within); spelled = x .0 },
       (record { within = omega (arith, s .within); spelled = x .1 ∙ ap (take (length (word v))) (drop-drop (length (word u)) i w) }, a),
     )
+
+pub kids-sit : (sees : View) (w : Word) (t : Tree) (i : ℕ) (ps : List Pending) → Sits w (record { tree = t; start = i }) → Every (Sits w) ps → Every (Sits w) (shownKids sees t i ++ ps)
+kids-sit sees w t i ps s a = go (sees (root t))
+  where
+    go : (b : Bool) → Every (Sits w) (cond b (kids t i) [] ++ ps)
+    go true = all-kids-sit w t i ps s a
+    go false = a
 
 -- 2. what is asked for
 
@@ -93,20 +120,20 @@ goal-aim g A w true u a = (record { tree = a .tree; start = 0 } ∷ [], (a .firs
 
 -- 3. the bytes between two turns: n rows written, pending nodes from place top up to place cap
 
-pub record State (g : Rules) (w : Word) (u : Tree) (s : Bool) (out : List ℕ) (cap n top : ℕ) : Type 0 where
+pub record State (sees : View) (g : Rules) (w : Word) (u : Tree) (s : Bool) (out : List ℕ) (cap n top : ℕ) : Type 0 where
   pub pending : List Pending
   pub rest : List ℕ
   pub aim : Aim g s pending
   pub sit : Every (Sits w) pending
-  pub written : rows 0 u ≡ take (4 * n) out ++ rowsAll pending
+  pub written : shownRows sees 0 u ≡ take (4 * n) out ++ rowsAll sees pending
   pub stacked : drop (4 * top) out ≡ entries pending ++ rest
   pub count : cap ≡ top + length pending
   pub room : n ≤ top
   pub within : 4 * cap ≤ length out
 
-pub state-start : (g : Rules) (A : ℕ) (w : Word) (s : Bool) (u : Tree) (out : List ℕ) (cap : ℕ) → Goal g A w s u → 4 * cap ≤ length out → 0 < cap
-    → State g w u s (splice out (4 * (cap - 1)) (A ∷ 0 ∷ length w ∷ 0 ∷ [])) cap 0 (cap - 1)
-state-start g A w s u out cap a h k =
+pub state-start : (sees : View) (g : Rules) (A : ℕ) (w : Word) (s : Bool) (u : Tree) (out : List ℕ) (cap : ℕ) → Goal g A w s u → 4 * cap ≤ length out → 0 < cap
+    → State sees g w u s (splice out (4 * (cap - 1)) (A ∷ 0 ∷ length w ∷ 0 ∷ [])) cap 0 (cap - 1)
+state-start sees g A w s u out cap a h k =
     let e : word u ≡ w = goal-spelled g A w s u a in
     let f : length (word u) ≡ length w = ap length e in
     let fits : 4 * (cap - 1) + 4 ≤ length out = omega arith in
@@ -115,7 +142,7 @@ state-start g A w s u out cap a h k =
       rest = drop (4 * (cap - 1) + 4) out;
       aim = goal-aim g A w s u a;
       sit = (record { within = omega arith; spelled = e ∙ sym (take-all (length (word u)) w (omega arith)) }, tt);
-      written = sym (append-nil (rows 0 u));
+      written = sym (append-nil (shownRows sees 0 u));
       stacked = rw (goal-rooted g A w s u a, e) (drop-splice out (4 * (cap - 1)) (A ∷ 0 ∷ length w ∷ 0 ∷ []) fits);
       count = omega arith;
       room = omega arith;
@@ -123,7 +150,7 @@ state-start g A w s u out cap a h k =
     }
 
 -- the node on top, while there is one
-pub record Popped (g : Rules) (w : Word) (u : Tree) (s : Bool) (out : List ℕ) (cap n top : ℕ) : Type 0 where
+pub record Popped (sees : View) (g : Rules) (w : Word) (u : Tree) (s : Bool) (out : List ℕ) (cap n top : ℕ) : Type 0 where
   pub tree : Tree
   pub others : List Pending
   pub rest : List ℕ
@@ -132,7 +159,7 @@ pub record Popped (g : Rules) (w : Word) (u : Tree) (s : Bool) (out : List ℕ) 
   pub aim : Aim g s (record { tree = tree; start = getD out (4 * top + 1) 0 } ∷ others)
   pub sit : Sits w (record { tree = tree; start = getD out (4 * top + 1) 0 })
   pub sits : Every (Sits w) others
-  pub written : rows 0 u ≡ take (4 * n) out ++ (rows (getD out (4 * top + 1) 0) tree ++ rowsAll others)
+  pub written : shownRows sees 0 u ≡ take (4 * n) out ++ (shownRows sees (getD out (4 * top + 1) 0) tree ++ rowsAll sees others)
   pub stacked : drop (4 * (top + 1)) out ≡ entries others ++ rest
   pub count : cap ≡ top + 1 + length others
   pub room : n ≤ top
@@ -148,11 +175,11 @@ four l at a b c d r e =
       sym (drop-drop 4 at l) ∙ ap (drop 4) e,
     )
 
-pub pop : {g : Rules} {w : Word} {u : Tree} {s : Bool} {out : List ℕ} {cap n top : ℕ} → State g w u s out cap n top → top < cap → Popped g w u s out cap n top
-pop {g} {w} {u} {s} {out} {cap} {n} {top} x h = go (x .pending) (x .aim) (x .sit) (x .written) (x .stacked) (x .count)
+pub pop : {sees : View} {g : Rules} {w : Word} {u : Tree} {s : Bool} {out : List ℕ} {cap n top : ℕ} → State sees g w u s out cap n top → top < cap → Popped sees g w u s out cap n top
+pop {sees} {g} {w} {u} {s} {out} {cap} {n} {top} x h = go (x .pending) (x .aim) (x .sit) (x .written) (x .stacked) (x .count)
   where
-    go : (ps : List Pending) → Aim g s ps → Every (Sits w) ps → rows 0 u ≡ take (4 * n) out ++ rowsAll ps → drop (4 * top) out ≡ entries ps ++ x .rest → cap ≡ top + length ps
-        → Popped g w u s out cap n top
+    go : (ps : List Pending) → Aim g s ps → Every (Sits w) ps → shownRows sees 0 u ≡ take (4 * n) out ++ rowsAll sees ps → drop (4 * top) out ≡ entries ps ++ x .rest → cap ≡ top + length ps
+        → Popped sees g w u s out cap n top
     go [] a b c d e = absurd (omega arith)
     go (p ∷ ps) a b c d e =
         let f = four out (4 * top) _ _ _ _ _ d in
@@ -174,41 +201,45 @@ pop {g} {w} {u} {s} {out} {cap} {n} {top} x h = go (x .pending) (x .aim) (x .sit
           within = x .within;
         }
 
-rows-append : (ps qs : List Pending) → rowsAll (ps ++ qs) ≡ rowsAll ps ++ rowsAll qs
-rows-append [] qs = refl
-rows-append (p ∷ ps) qs = rw (rows-append ps qs) (sym (append-assoc (rows (p .start) (p .tree)) (rowsAll ps) (rowsAll qs)))
+rows-join : (sees : View) (ps qs : List Pending) → rowsAll sees (ps ++ qs) ≡ rowsAll sees ps ++ rowsAll sees qs
+rows-join sees [] qs = refl
+rows-join sees (p ∷ ps) qs = rw (rows-join sees ps qs) (sym (append-assoc (shownRows sees (p .start) (p .tree)) (rowsAll sees ps) (rowsAll sees qs)))
 
 entries-append : (ps qs : List Pending) → entries (ps ++ qs) ≡ entries ps ++ entries qs
 entries-append [] qs = refl
 entries-append (p ∷ ps) qs = rw (entries-append ps qs) refl
 
 -- one turn: the row is written, and the children take the node's place
-module _ {g : Rules} {w : Word} {u : Tree} {s : Bool} {out : List ℕ} {cap n top : ℕ} (x : Popped g w u s out cap n top) (m : Bool) (st : Step) (e : st ≡ shape m (x .tree)) where
+module _ {sees : View} {g : Rules} {w : Word} {u : Tree} {s : Bool} {out : List ℕ} {cap n top : ℕ} (x : Popped sees g w u s out cap n top) (m : Bool) (st : Step) (e : st ≡ shownShape sees m (x .tree)) where
   abbrev at : ℕ
   at = getD out (4 * top + 1) 0
 
-  turn-kids : length (kids (x .tree) at) ≡ kidsOf (st .kind)
-  turn-kids = rw e (kids-count (x .tree) at m)
+  turn-kids : length (shownKids sees (x .tree) at) ≡ kidsOf (st .kind)
+  turn-kids = rw e (kids-count sees (x .tree) at m)
 
-  turn-entries : entriesOf (st .kind) (st .first) (st .second) (st .split) at (getD out (4 * top + 2) 0) ≡ entries (kids (x .tree) at)
-  turn-entries = rw (e, x .length-byte) (kids-entries (x .tree) at m)
+  turn-entries : entriesOf (st .kind) (st .first) (st .second) (st .split) at (getD out (4 * top + 2) 0) ≡ entries (shownKids sees (x .tree) at)
+  turn-entries = rw (e, x .length-byte) (kids-entries sees (x .tree) at m)
 
-  turn-row : getD out (4 * top) 0 ∷ st .kind ∷ startOf at (getD out (4 * top + 2) 0) ∷ getD out (4 * top + 2) 0 ∷ [] ≡ row (x .tree) at
+  turn-row : getD out (4 * top) 0 ∷ st .kind ∷ startOf at (getD out (4 * top + 2) 0) ∷ getD out (4 * top + 2) 0 ∷ [] ≡ row sees (x .tree) at
   turn-row = rw (e, x .length-byte, x .left) (same-kind (x .tree))
     where
-      same-kind : (t : Tree) → root t ∷ shape m t .kind ∷ startOf at (length (word t)) ∷ length (word t) ∷ [] ≡ row t at
-      same-kind (empty A) = refl
-      same-kind (leaf A t) = refl
-      same-kind (unary A t) = refl
-      same-kind (binary A a b) = refl
+      kind-same : (b : Bool) (t : Tree) → cond b (shape m t) (closedStep m) .kind ≡ cond b (shape false t) (closedStep false) .kind
+      kind-same true (empty A) = refl
+      kind-same true (leaf A t) = refl
+      kind-same true (unary A t) = refl
+      kind-same true (binary A a b) = refl
+      kind-same false t = refl
 
-  pub turn : Aim g m (kids (x .tree) at ++ x .others) → n + kidsOf (st .kind) ≤ top → (out₁ out₂ : List ℕ) (r : ℕ)
+      same-kind : (t : Tree) → root t ∷ shownShape sees m t .kind ∷ startOf at (length (word t)) ∷ length (word t) ∷ [] ≡ row sees t at
+      same-kind t = ap (λ (k : ℕ). root t ∷ k ∷ startOf at (length (word t)) ∷ length (word t) ∷ []) (kind-same (sees (root t)) t)
+
+  pub turn : Aim g m (shownKids sees (x .tree) at ++ x .others) → n + kidsOf (st .kind) ≤ top → (out₁ out₂ : List ℕ) (r : ℕ)
       → out₁ ≡ splice out (4 * n) (getD out (4 * top) 0 ∷ st .kind ∷ startOf at (getD out (4 * top + 2) 0) ∷ getD out (4 * top + 2) 0 ∷ [])
       → Branched out₁ out₂ (top + 1) r (kidsOf (st .kind)) (entriesOf (st .kind) (st .first) (st .second) (st .split) at (getD out (4 * top + 2) 0))
-      → State g w u m out₂ cap (n + 1) r
+      → State sees g w u m out₂ cap (n + 1) r
   turn a fit out₁ out₂ r f b =
-      let R = row (x .tree) at in
-      let K = kids (x .tree) at in
+      let R = row sees (x .tree) at in
+      let K = shownKids sees (x .tree) at in
       let f′ : out₁ ≡ splice out (4 * n) R = rw turn-row at f in
       let k : length K ≡ kidsOf (st .kind) = turn-kids in
       let fits : 4 * n + 4 ≤ length out = omega (arith, x .within, x .count) in
@@ -222,61 +253,61 @@ module _ {g : Rules} {w : Word} {u : Tree} {s : Bool} {out : List ℕ} {cap n to
         pending = K ++ x .others;
         rest = x .rest;
         aim = a;
-        sit = kids-sit w (x .tree) at (x .others) (x .sit) (x .sits);
+        sit = kids-sit sees w (x .tree) at (x .others) (x .sit) (x .sits);
         written =
-            x .written ∙ rw (front, rows-append K (x .others), rows-split (x .tree) at) (simp append-assoc);
+            x .written ∙ rw (front, rows-join sees K (x .others), rows-split sees (x .tree) at) (simp append-assoc);
         stacked = b .high ∙ rw (back, turn-entries, entries-append K (x .others)) (sym (append-assoc (entries K) (entries (x .others)) (x .rest)));
         count = omega (arith, x .count, b .moved, length-append K (x .others));
         room = omega (arith, b .moved);
         within = omega (arith, x .within, b .long);
       }
 
-  rows-least : (ps : List Pending) → 4 * length ps ≤ length (rowsAll ps)
+  rows-least : (ps : List Pending) → 4 * length ps ≤ length (rowsAll sees ps)
   rows-least [] = omega arith
   rows-least (p ∷ ps) =
-      omega (arith, rows-least ps, length-append (rows (p .start) (p .tree)) (rowsAll ps), length-rows (p .tree) (p .start), some-row (p .tree))
+      omega (arith, rows-least ps, length-append (shownRows sees (p .start) (p .tree)) (rowsAll sees ps), length-shown sees (p .tree) (p .start), some-shown sees (p .tree))
 
   -- where the children have no room, the tree has more rows than there are places
-  pub over : top < n + kidsOf (st .kind) → cap < rowCount u
+  pub over : top < n + kidsOf (st .kind) → cap < shownCount sees u
   over h =
       let c = ap length (x .written) in
-      let d = ap length (rows-split (x .tree) at) in
+      let d = ap length (rows-split sees (x .tree) at) in
       omega (
         arith,
         c,
         d,
-        length-rows u 0,
+        length-shown sees u 0,
         x .count,
         x .within,
         x .room,
         turn-kids,
-        length-append (take (4 * n) out) (rows at (x .tree) ++ rowsAll (x .others)),
-        length-append (rows at (x .tree)) (rowsAll (x .others)),
-        length-append (row (x .tree) at) (rowsAll (kids (x .tree) at)),
+        length-append (take (4 * n) out) (shownRows sees at (x .tree) ++ rowsAll sees (x .others)),
+        length-append (shownRows sees at (x .tree)) (rowsAll sees (x .others)),
+        length-append (row sees (x .tree) at) (rowsAll sees (shownKids sees (x .tree) at)),
         rows-least (x .others),
-        rows-least (kids (x .tree) at),
+        rows-least (shownKids sees (x .tree) at),
         length-take-le (4 * n) out (omega (arith, x .count, x .within, x .room)),
       )
 
-pub done : {g : Rules} {w : Word} {u : Tree} {s : Bool} {out : List ℕ} {cap n top : ℕ} → State g w u s out cap n top → cap ≤ top → rows 0 u ≡ take (4 * n) out
-done {g} {w} {u} {s} {out} {cap} {n} {top} x h = go (x .pending) (x .written) (x .count)
+pub done : {sees : View} {g : Rules} {w : Word} {u : Tree} {s : Bool} {out : List ℕ} {cap n top : ℕ} → State sees g w u s out cap n top → cap ≤ top → shownRows sees 0 u ≡ take (4 * n) out
+done {sees} {g} {w} {u} {s} {out} {cap} {n} {top} x h = go (x .pending) (x .written) (x .count)
   where
-    go : (ps : List Pending) → rows 0 u ≡ take (4 * n) out ++ rowsAll ps → cap ≡ top + length ps → rows 0 u ≡ take (4 * n) out
+    go : (ps : List Pending) → shownRows sees 0 u ≡ take (4 * n) out ++ rowsAll sees ps → cap ≡ top + length ps → shownRows sees 0 u ≡ take (4 * n) out
     go [] e c = e ∙ append-nil (take (4 * n) out)
     go (p ∷ ps) e c = absurd (omega arith)
 
 -- 4. the answer
 
-module _ {g : Rules} {w : Word} {u : Tree} {s : Bool} {out : List ℕ} {cap n top : ℕ} where
+module _ {sees : View} {g : Rules} {w : Word} {u : Tree} {s : Bool} {out : List ℕ} {cap n top : ℕ} where
   -- all is written
-  pub laid-full : State g w u s out cap n top → cap ≤ top → (l m : List ℕ) → length out ≡ length l
-      → m ≡ take (4 * n) out ++ replicate (length out - 4 * n) 0 → Laid u l m n
+  pub laid-full : State sees g w u s out cap n top → cap ≤ top → (l m : List ℕ) → length out ≡ length l
+      → m ≡ take (4 * n) out ++ replicate (length out - 4 * n) 0 → Laid sees u l m n
   laid-full x h l m e f =
       let r = done x h in
-      let k : 4 * rowCount u ≡ 4 * n = sym (length-rows u 0) ∙ ap length r ∙ length-take-le (4 * n) out (omega (arith, x .count, x .within, x .room)) in
-      let j : n ≡ rowCount u = omega arith in
+      let k : 4 * shownCount sees u ≡ 4 * n = sym (length-shown sees u 0) ∙ ap length r ∙ length-take-le (4 * n) out (omega (arith, x .count, x .within, x .room)) in
+      let j : n ≡ shownCount sees u = omega arith in
       record { enough = λ _. (rw (k, r, ← e) f, j); short = λ h′. absurd (omega (arith, x .count, x .within, x .room)) }
 
 -- nothing is, for want of room
-pub laid-short : (u : Tree) (l m : List ℕ) → places l < rowCount u → m ≡ filled l none → Laid u l m 0
-laid-short u l m h f = record { enough = λ h′. absurd (omega arith); short = λ _. (f, refl) }
+pub laid-short : (sees : View) (u : Tree) (l m : List ℕ) → places l < shownCount sees u → m ≡ filledShown sees l none → Laid sees u l m 0
+laid-short sees u l m h f = record { enough = λ h′. absurd (omega arith); short = λ _. (f, refl) }

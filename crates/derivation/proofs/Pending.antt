@@ -1,20 +1,20 @@
 -- Pending nodes of the tree writer, and what is aimed at: first trees, or the second tree of a row of first trees.
 use mathlib.Core.Path.{_≡_, refl, sym, _∙_}
-use mathlib.Core.Bool.{Bool, true, false}
+use mathlib.Core.Bool.{Bool, true, false, cond}
 use mathlib.Core.List.{List, [], _∷_, _++_}
 use mathlib.Core.Option.{some}
 use Prim.Native.Nat.{ℕ, _+_, _≤_}
 use lib.ListN.{length, getElem?}
 use Rattle.grammar.specs.declared.Rule.{Rule}
 use Rattle.grammar.specs.Layout.{Word, Every}
-use Rattle.grammar.specs.Trees.{Tree, empty, leaf, unary, binary, root, word, Rules}
-use Rattle.grammar.specs.Choices.{Top, Takes, Choice, OnlyChoice, OtherChoice, Node, Each, Beneath, Preferred, First, Swerves, Second, here, below, left, right, Distinct}
-use Rattle.grammar.specs.Rows.{rows}
+use Rattle.grammar.specs.Trees.{Tree, empty, leaf, unary, binary, root, word, Rules, TwoTrees}
+use Rattle.grammar.specs.Choices.{Top, Takes, Choice, OnlyChoice, OtherChoice, Node, Each, Beneath, Preferred, First, FirstTree, SecondTree, Swerves, Second, here, below, left, right, Distinct}
+use Rattle.shown.specs.Shown.{View, shownRows}
 use Rattle.grammar.specs.SpanSheet.{part}
-use Rattle.grammar.proofs.ChoiceLaws.{takes-unique, other-same, not-only, top-of, beneath-of, second-rooted, second-spelled, keep-unary, keep-binary}
+use Rattle.grammar.proofs.ChoiceLaws.{takes-unique, other-same, not-only, top-of, beneath-of, second-rooted, second-spelled, keep-unary, keep-binary, two-trees, two-not-only}
 use Rattle.rows.specs.declared.Step.{Step}
-use Rattle.rows.specs.Steps.{stepOf}
-use Rattle.derivation.specs.Picks.{Picks}
+use Rattle.rows.specs.Steps.{stepOf, closedStep}
+use Rattle.derivation.specs.Picks.{Picks, Passes}
 use Rattle.derivation.proofs.PreferredLaws.{preferred-choice, preferred-same}
 
 -- a tree to be written, and where its word starts
@@ -30,9 +30,9 @@ abbrev pub entries : List Pending → List ℕ
 entries [] = []
 entries (p ∷ ps) = entry p ++ entries ps
 
-abbrev pub rowsAll : List Pending → List ℕ
-rowsAll [] = []
-rowsAll (p ∷ ps) = rows (p .start) (p .tree) ++ rowsAll ps
+abbrev pub rowsAll : View → List Pending → List ℕ
+rowsAll sees [] = []
+rowsAll sees (p ∷ ps) = shownRows sees (p .start) (p .tree) ++ rowsAll sees ps
 
 -- the children of a tree whose word starts at i
 abbrev pub kids : Tree → ℕ → List Pending
@@ -47,6 +47,13 @@ shape m (empty A) = record { kind = 0; first = 0; second = 0; split = 0; seeking
 shape m (leaf A t) = record { kind = 1; first = 0; second = 0; split = 0; seeking = m }
 shape m (unary A t) = record { kind = 2; first = root t; second = 0; split = 0; seeking = m }
 shape m (binary A s t) = record { kind = 3; first = root s; second = root t; split = length (word s); seeking = m }
+
+-- the same of a node as it is shown
+abbrev pub shownKids : View → Tree → ℕ → List Pending
+shownKids sees t i = cond (sees (root t)) (kids t i) []
+
+abbrev pub shownShape : View → Bool → Tree → Step
+shownShape sees m t = cond (sees (root t)) (shape m t) (closedStep m)
 
 pub shape-of : (t : Tree) (r : Rule) (k : ℕ) (m : Bool) → Top r k t → stepOf (r .clause) k m ≡ shape m t
 shape-of (empty A) r k m e = rw (e .0) refl
@@ -175,6 +182,23 @@ module _ {g : Rules} (d : Distinct g) where
   aim-step false p ps a q l false c r e = step-first (p .tree) (p .start) ps (a .0) (a .1) q l c r e
   aim-step true p ps a q l false c r e = step-other p ps (a .2) (a .1) (c .0) (c .1) q l (c .2) (c .3) r e
   aim-step true p ps a q l true c r e = step-only p ps (a .2) (a .1) q l c r e
+
+  -- A CLOSED NODE: nothing beneath it is written, and the aim goes on with what stands behind it
+  pub aim-pass : (s : Bool) (p : Pending) (ps : List Pending) → Aim g s (p ∷ ps) → (m : Bool) → Passes g (root (p .tree)) (word (p .tree)) s m → Aim g m ps
+  aim-pass false p ps a false c = a .1
+  aim-pass false p ps a true c = absurd c
+  aim-pass true p ps a m c = go (a .2) (a .1) m c
+    where
+      first : {t : Tree} → First g t → FirstTree g (root t) (word t) t
+      first f = record { rooted = refl; spelled = refl; first = f }
+
+      go : {ts : List Pending} → Fork g ts (p ∷ ps) → AllFirst g ts → (m : Bool) → Passes g (root (p .tree)) (word (p .tree)) true m → Aim g m ps
+      go (now b) f false c = f .1
+      go (now {t = t} b) f true c =
+          let x : SecondTree g (root t) (word t) (p .tree) = record { tree = t; first = first (f .0); second = b } in
+          absurd (c (rw (second-rooted b, second-spelled b) (two-trees d x)))
+      go (later {t = t} x b) f false c = absurd (two-not-only {t = t} (first (f .0)) c x)
+      go (later {ps = ts} x b) f true c = (ts, f .1, b)
 
 -- each tree that is aimed at has a choice at its top
 pub aim-choice : (g : Rules) (s : Bool) (p : Pending) (ps : List Pending) → Aim g s (p ∷ ps) → (q : ℕ) × (l : ℕ) × Choice g (root (p .tree)) (word (p .tree)) q l

@@ -1,6 +1,6 @@
 -- Laws of the search for a choice and of what is picked.
 use mathlib.Core.Path.{_≡_, refl, sym, ap, _∙_}
-use mathlib.Core.Bool.{Bool}
+use mathlib.Core.Bool.{Bool, true, false}
 use mathlib.Core.List.{List, [], _∷_}
 use mathlib.Core.Logic.{_⊎_, inl, inr, ⊎-elim}
 use mathlib.Core.Option.{some}
@@ -16,15 +16,19 @@ use Rattle.grammar.specs.declared.Sentence.{Sentence}
 use Rattle.grammar.specs.Layout.{Word}
 use Rattle.grammar.specs.Trees.{Rules}
 use Rattle.grammar.specs.Choices.{Choice, Before, Same, OnlyChoice, OtherChoice, Preferred}
-use Rattle.grammar.specs.Content.{rules, spelled, Formed}
-use Rattle.grammar.specs.SpanSheet.{part}
-use Rattle.grammar.proofs.ChoiceLaws.{tri}
-use Rattle.grammar.proofs.ByKind.{inside}
+use Rattle.grammar.specs.Content.{rules, spelled, Formed, SmallRule}
+use Rattle.grammar.specs.SpanSheet.{part, secondWord}
+use Rattle.grammar.proofs.Lists.{mem-every}
+use Rattle.sets.specs.Says.{Says}
+use Rattle.sets.specs.Sets.{In}
+use Rattle.spans.specs.Reach.{Reach}
+use Rattle.grammar.proofs.ChoiceLaws.{tri, member-at}
+use Rattle.grammar.proofs.ByKind.{inside, choice-can}
 use Rattle.chart.specs.Choosing.{NextAt, NoneFrom}
 use Rattle.rows.specs.declared.Step.{Step}
 use Rattle.rows.specs.Steps.{stepOf}
 use Rattle.derivation.specs.Wanted.{Ready}
-use Rattle.derivation.specs.Picks.{HasChoice, Picks, Chosen}
+use Rattle.derivation.specs.Picks.{HasChoice, Picks, Chosen, Passes}
 
 -- a choice's rule is one of the sheet's, and its left length one of the word's
 pub choice-within : {g : Grammar} → Formed g → (w : Word) (A i n q l : ℕ) → Choice (rules g) A (part w i n) q l → (q < g .count) × (l ≤ n)
@@ -88,3 +92,27 @@ chosen g {A} {w} {s} {p} {k} m {st} c h f =
     same (Clause.Atom a b) = refl
     same (Clause.Unary B n) = refl
     same (Clause.Binary B C n) = refl
+
+-- a nonterminal that has a choice is below 64
+pub choice-small : {g : Grammar} → Formed g → {A : ℕ} {w : Word} → HasChoice (rules g) A w → A < 64
+choice-small {g} f h =
+    let x = choice-can (h .2) in
+    omega (arith, x .2, mem-every SmallRule (rules g) (f .small) (member-at (rules g) (h .0) (x .1)) .left)
+
+-- what the second word of the span's pair says, where it is read while seeking and where it is not
+module _ {g : Grammar} {s : Sentence} {ws : List ℕ} (r : Ready g s ws) (A i n : ℕ) (in-word : i + n ≤ s .count) (small : A < 64) where
+  pub reach : Reach ws (s .count) i n A
+  reach = record { few = r .positioned .few; fits = in-word; enough = rw (← r .positioned .whole) (r .sheet .enough); small = small }
+
+  fits : i + n ≤ length (spelled s)
+  fits = omega (arith, r .positioned .whole)
+
+  -- the bit is 1, and it is 0
+  pub passes-two : {b seeking : Bool} → seeking ≡ true → b ≡ true → Says b (In (secondWord ws (s .count) i n) A) → Passes (rules g) A (part (spelled s) i n) seeking false
+  passes-two e h x = rw e (r .sheet .two i n A fits small .0 (rw (r .positioned .whole) (x .is h)))
+
+  pub passes-one : {b seeking : Bool} → seeking ≡ true → b ≡ false → Says b (In (secondWord ws (s .count) i n) A) → Passes (rules g) A (part (spelled s) i n) seeking seeking
+  passes-one e h x = rw e (λ t. x .isnt h (rw (← r .positioned .whole) (r .sheet .two i n A fits small .1 t)))
+
+pub passes-plain : (g : Rules) (A : ℕ) (w : Word) {seeking : Bool} → seeking ≡ false → Passes g A w seeking seeking
+passes-plain g A w e = rw e tt

@@ -6,10 +6,11 @@ use Prim.Native.Nat.{ℕ}
 use lib.ListN.{getElem?}
 use Rattle.grammar.specs.declared.Rule.{Rule}
 use Rattle.grammar.specs.Layout.{Word}
-use Rattle.grammar.specs.Trees.{Rules}
+use Rattle.grammar.specs.Trees.{Rules, TwoTrees}
 use Rattle.grammar.specs.Choices.{Choice, OnlyChoice, OtherChoice, Preferred}
 use Rattle.rows.specs.declared.Step.{Step}
-use Rattle.rows.specs.Steps.{stepOf}
+use Rattle.rows.specs.Steps.{stepOf, closedStep}
+use Rattle.shown.specs.Shown.{View}
 
 -- A has a choice at w
 abbrev pub HasChoice : Rules → ℕ → Word → Type 0
@@ -30,3 +31,15 @@ pub record Chosen (g : Rules) (A : ℕ) (w : Word) (seeking : Bool) (st : Step) 
   pub stands : getElem? g place ≡ some rule
   pub step : st ≡ stepOf (rule .clause) split (st .seeking)
   pub picks : Picks g A w seeking place split (st .seeking)
+
+-- whether the seeking goes on behind a closed node: it ends there if the trees part beneath it, that is, if A has two trees over w
+abbrev pub Passes : Rules → ℕ → Word → Bool → Bool → Type 0
+Passes g A w false false = Unit {0}
+Passes g A w false true = ⊥
+Passes g A w true false = TwoTrees g A w
+Passes g A w true true = TwoTrees g A w → ⊥
+
+-- the step of a node as it is shown: what is picked, or a closed node
+pub data Looked (sees : View) (g : Rules) (A : ℕ) (w : Word) (seeking : Bool) (st : Step) : Type 0 where
+  seen : sees A ≡ true → Chosen g A w seeking st → Looked sees g A w seeking st
+  closed : sees A ≡ false → st ≡ closedStep (st .seeking) → Passes g A w seeking (st .seeking) → Looked sees g A w seeking st

@@ -9,10 +9,11 @@ use Rattle.grammar.specs.declared.Sentence.{Sentence}
 use Rattle.grammar.specs.Layout.{Word}
 use Rattle.grammar.specs.Trees.{Tree, Rules}
 use Rattle.grammar.specs.Choices.{FirstTree, SecondTree}
-use Rattle.grammar.specs.Rows.{rowCount}
 use Rattle.grammar.specs.Content.{rules, spelled, Formed, Positioned}
 use Rattle.grammar.specs.SpanSheet.{SpanSheet}
-use Rattle.derivation.specs.Written.{places, filled}
+use Rattle.shown.specs.Shown.{View, shownCount}
+use Rattle.derivation.specs.Written.{places}
+use Rattle.derivation.specs.Showing.{filledShown}
 
 -- what both sheets gave, and the words that were filled from them
 pub record Ready (g : Grammar) (s : Sentence) (ws : List ℕ) : Type 0 where
@@ -30,7 +31,7 @@ pub record Wanted (g : Rules) (A : ℕ) (w : Word) (seeking : Bool) : Type 0 whe
   pub tree : Tree
   pub goal : Goal g A w seeking tree
 
--- (for the inner function `write`) the memory l has become m, with the rows of u, r of them; zeros and 0 where they do not fit
-pub record Laid (u : Tree) (l m : List ℕ) (r : ℕ) : Type 0 where
-  pub enough : rowCount u ≤ places l → (m ≡ filled l (some u)) × (r ≡ rowCount u)
-  pub short : places l < rowCount u → (m ≡ filled l none) × (r ≡ 0)
+-- (for the inner function `write`) the memory l has become m, with the rows shown of u, r of them; zeros and 0 where they do not fit
+pub record Laid (sees : View) (u : Tree) (l m : List ℕ) (r : ℕ) : Type 0 where
+  pub enough : shownCount sees u ≤ places l → (m ≡ filledShown sees l (some u)) × (r ≡ shownCount sees u)
+  pub short : places l < shownCount sees u → (m ≡ filledShown sees l none) × (r ≡ 0)

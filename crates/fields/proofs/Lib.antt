@@ -4,3 +4,4 @@ pub mod Bytes
 pub mod Numerals
 pub mod Fields
 pub mod Lines
+pub mod Cuts

@@ -170,7 +170,7 @@ fn kind_word(f: &[u8]) -> KindWord
 }
 
 // A lay word.
-fn lay_word(f: &[u8]) -> LayWord
+pub fn lay_word(f: &[u8]) -> LayWord
     ensures { λ r. ⌜ r ≡ asLay (layOf (now (f .entry))) ⌝ }
 {
     if same(f, b"none") {

@@ -32,12 +32,13 @@ field n = decimal n ++ (32 ∷ [])
 abbrev pub lastField : ℕ → List ℕ
 lastField n = decimal n ++ (10 ∷ [])
 
--- the letter of a kind in a row: 0 E, 1 A, 2 U, 3 B
+-- the letter of a kind in a row: 0 E, 1 A, 2 U, 3 B, 4 C
 abbrev pub letterOf : ℕ → ℕ
 letterOf zero = 69
 letterOf (suc zero) = 65
 letterOf (suc (suc zero)) = 85
-letterOf (suc (suc (suc k))) = 66
+letterOf (suc (suc (suc zero))) = 66
+letterOf (suc (suc (suc (suc k)))) = 67
 
 -- a tree line: tree, nonterminal, kind letter, start, length
 unfoldable pub rowText : ℕ → ℕ → ℕ → ℕ → ℕ → List ℕ

@@ -66,7 +66,10 @@ fn letter(kind: u8) -> u8
     if kind == 2 {
         return 85;
     }
-    66
+    if kind == 3 {
+        return 66;
+    }
+    67
 }
 
 // A tree line.

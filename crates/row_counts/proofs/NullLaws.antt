@@ -16,11 +16,17 @@ use Rattle.grammar.proofs.ChoiceLaws.{first-unique}
 use Rattle.rows.specs.declared.Step.{Step}
 use Rattle.derivation.specs.Picks.{Chosen}
 use Rattle.derivation.proofs.Pending.{shape}
-use Rattle.derivation.proofs.Memory.{some-row}
 use Rattle.row_counts.specs.Capped.{capped}
 use Rattle.row_counts.specs.Nulls.{Nulls, Sound, oneMore, twoMore, nullSize, KidsKnown, zeros, Passed, Either}
 use Rattle.row_counts.proofs.Firsts.{first-shape}
 use Rattle.row_counts.proofs.CappedLaws.{capped-le, capped-suc, capped-suc-two, capped-pos}
+
+-- a tree has a row
+some-row : (t : Tree) → 0 < rowCount t
+some-row (empty A) = omega arith
+some-row (leaf A t) = omega arith
+some-row (unary A t) = omega arith
+some-row (binary A s t) = omega arith
 
 -- ---- the words beneath the empty word are empty
 

@@ -18,18 +18,23 @@ kids-none zero h = refl
 kids-none (suc zero) h = refl
 kids-none (suc (suc k)) h = absurd (omega arith)
 
-pub kids-three : (k : ℕ) → k ≤ 3 → 2 ≤ k → (k ≡ 2 → ⊥) → k ≡ 3
-kids-three k a b c = omega arith
+pub kids-other : (k : ℕ) → k ≤ 4 → (k ≡ 2 → ⊥) → (k ≡ 3 → ⊥) → kidsOf k ≡ 0
+kids-other zero h a b = refl
+kids-other (suc zero) h a b = refl
+kids-other (suc (suc zero)) h a b = absurd (a refl)
+kids-other (suc (suc (suc zero))) h a b = absurd (b refl)
+kids-other (suc (suc (suc (suc k)))) h a b = refl
 
 pub start-some : (i n : ℕ) → (n ≡ 0 → ⊥) → startOf i n ≡ i
 start-some i zero h = absurd (h refl)
 start-some i (suc n) h = refl
 
-pub kids-le : (k : ℕ) → k ≤ 3 → kidsOf k ≤ 2
+pub kids-le : (k : ℕ) → k ≤ 4 → kidsOf k ≤ 2
 kids-le zero h = omega arith
 kids-le (suc zero) h = omega arith
 kids-le (suc (suc zero)) h = omega arith
-kids-le (suc (suc (suc k))) h = omega arith
+kids-le (suc (suc (suc zero))) h = omega arith
+kids-le (suc (suc (suc (suc k)))) h = omega arith
 
 -- an element that is there is what `getD` gives, whatever stands for the missing
 pub getD-of : (l : List Rule) (p : ℕ) (x d : Rule) → getElem? l p ≡ some x → getD l p d ≡ x
@@ -44,8 +49,8 @@ module _ {l : List ℕ} {top i n kind k : ℕ} (b : Branches l top i n kind k) w
   pub room-one : kind ≡ 2 → 1 ≤ top
   room-one e = rw e at (b .room)
 
-  pub is-three : 2 ≤ kind → (kind ≡ 2 → ⊥) → kind ≡ 3
-  is-three f h = omega (arith, b .known)
+  pub is-three : 2 ≤ kind → (kind ≡ 4 → ⊥) → (kind ≡ 2 → ⊥) → kind ≡ 3
+  is-three f c h = omega (arith, b .known)
 
   pub room-two : kind ≡ 3 → 2 ≤ top
   room-two e = rw e at (b .room)
@@ -58,6 +63,9 @@ module _ {l : List ℕ} {top i n kind k : ℕ} (b : Branches l top i n kind k) w
       entries-none zero z = refl
       entries-none (suc zero) z = refl
       entries-none (suc (suc q)) z = absurd (omega arith)
+
+  pub branched-closed : (B C : ℕ) → kind ≡ 4 → Branched l l top top (kidsOf kind) (entriesOf kind B C k i n)
+  branched-closed B C h = rw h (record { long = refl; moved = omega arith; low = λ j _. refl; high = refl })
 
   pub branched-one : (B C : ℕ) → kind ≡ 2 → (m : List ℕ) → m ≡ splice l (4 * (top - 1)) (B ∷ i ∷ n ∷ 0 ∷ [])
       → Branched l m top (top - 1) (kidsOf kind) (entriesOf kind B C k i n)

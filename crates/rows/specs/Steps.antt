@@ -15,12 +15,17 @@ stepOf (Clause.Atom a b) k seeking = record { kind = 1; first = 0; second = 0; s
 stepOf (Clause.Unary B m) k seeking = record { kind = 2; first = B; second = 0; split = 0; seeking = seeking }
 stepOf (Clause.Binary B C m) k seeking = record { kind = 3; first = B; second = C; split = k; seeking = seeking }
 
--- how many children a node of a kind has
+-- the step of a closed node
+abbrev pub closedStep : Bool → Step
+closedStep seeking = record { kind = 4; first = 0; second = 0; split = 0; seeking = seeking }
+
+-- how many children a node of a kind has; a closed node, kind 4, has none
 abbrev pub kidsOf : ℕ → ℕ
 kidsOf zero = 0
 kidsOf (suc zero) = 0
 kidsOf (suc (suc zero)) = 1
-kidsOf (suc (suc (suc k))) = 2
+kidsOf (suc (suc (suc zero))) = 2
+kidsOf (suc (suc (suc (suc k)))) = 0
 
 -- the children's pending entries, four bytes each: nonterminal, start, length and a 0;
 -- the node has this kind, children B and C, a left word of k tokens, and a word of n tokens from i on
@@ -28,11 +33,12 @@ abbrev pub entriesOf : ℕ → ℕ → ℕ → ℕ → ℕ → ℕ → List ℕ
 entriesOf zero B C k i n = []
 entriesOf (suc zero) B C k i n = []
 entriesOf (suc (suc zero)) B C k i n = B ∷ i ∷ n ∷ 0 ∷ []
-entriesOf (suc (suc (suc j))) B C k i n = B ∷ i ∷ k ∷ 0 ∷ C ∷ (i + k) ∷ (n - k) ∷ 0 ∷ []
+entriesOf (suc (suc (suc zero))) B C k i n = B ∷ i ∷ k ∷ 0 ∷ C ∷ (i + k) ∷ (n - k) ∷ 0 ∷ []
+entriesOf (suc (suc (suc (suc j)))) B C k i n = []
 
 -- there is room for the children's entries below place top, and their numbers are bytes
 pub record Branches (out : List ℕ) (top i n kind split : ℕ) : Type 0 where
-  pub known : kind ≤ 3
+  pub known : kind ≤ 4
   pub within : 4 * top ≤ length out
   pub room : kidsOf kind ≤ top
   pub part : i + n ≤ 64

@@ -11,7 +11,7 @@ ghost use Rattle.grammar.specs.Rows.{startOf};
 ghost use Rattle.rows.specs.Bytes.{splice};
 ghost use Rattle.rows.specs.Steps.{kidsOf, stepOf, entriesOf, Branches, Branched};
 
-// What the writer has to know of a node: its kind (0 E, 1 A, 2 U, 3 B), its children's nonterminals, the length of the left word,
+// What the writer has to know of a node: its kind (0 E, 1 A, 2 U, 3 B, 4 closed), its children's nonterminals, the length of the left word,
 // and whether the node at which the second tree parts from the first is still to come.
 pub struct Step {
     pub kind: u8,
@@ -46,14 +46,16 @@ pub fn clear(out: &mut [u8], from: usize)
 
 // How many children a node of this kind has.
 pub fn kids(kind: u8) -> usize
-    requires { ⌜ kind ≤ 3 ⌝ }
+    requires { ⌜ kind ≤ 4 ⌝ }
     ensures { λ r. ⌜ r ≡ kidsOf kind ⌝ }
 {
-    if kind < 2 {
-        0
-    } else {
-        if kind == 2 { 1 } else { 2 }
+    if kind == 2 {
+        return 1;
     }
+    if kind == 3 {
+        return 2;
+    }
+    0
 }
 
 // The start in a row: an empty word has start 0.
@@ -111,6 +113,9 @@ pub fn branch(out: &mut [u8], top: usize, i: u8, n: u8, st: Step) -> usize
     let kind = st.kind;
     let split = st.split;
     if kind < 2 {
+        return top;
+    }
+    if kind == 4 {
         return top;
     }
     if kind == 2 {

@@ -5,6 +5,7 @@ use Prim.Native.Nat.{_+_, _*_, _-_, _/_, _≤_}
 use native.Mathlib.Omega.{arith}
 use lib.ListN.{length, getD}
 use Rattle.grammar.specs.Content.{rules, spelled}
+use Rattle.shown.specs.Shown.{member}
 use Rattle.rows.proofs.StepLaws.{kids-le}
 use Rattle.derivation.proofs.Memory.{Popped}
 use Rattle.derivation.proofs.Turn.{Running, running-start, running-over, running-done, laid-none, popped, within, has-choice, chosen-kind, chosen-split, chosen-turn, chosen-over}
@@ -12,10 +13,10 @@ use Rattle.derivation.proofs.write.Statement.{statement}
 use Rattle.derivation.proofs.write.Tie as tie
 
 abbrev Inv-loop : tie.InvT-loop
-Inv-loop words s g out₀ seeking places n₀ top₀ seek₀ out n top seek = Running g s seeking (length out₀) places out n top seek
+Inv-loop words s g sees out₀ seeking places n₀ top₀ seek₀ out n top seek = Running (member sees) g s seeking (length out₀) places out n top seek
 
 abbrev μ-loop : tie.MeasureT-loop
-μ-loop words s g out₀ seeking places n₀ top₀ seek₀ out n top seek = places - n
+μ-loop words s g sees out₀ seeking places n₀ top₀ seek₀ out n top seek = places - n
 
 -- the entry, as the loop sees it
 abbrev start : tie.At-loop Inv-loop μ-loop → tie.Start Inv-loop μ-loop
@@ -23,15 +24,15 @@ start c = c .before .before .before .before .before .before .before .before .bef
 
 -- the node on top
 node : (c : tie.In-loop Inv-loop μ-loop)
-    → Popped (rules (start (c .before) .args .g)) (spelled (start (c .before) .args .s)) (c .before .loop .inv .tree) (c .before .loop .seek) (c .before .loop .out)
+    → Popped (member (start (c .before) .args .sees)) (rules (start (c .before) .args .g)) (spelled (start (c .before) .args .s)) (c .before .loop .inv .tree) (c .before .loop .seek) (c .before .loop .out)
     (length (start (c .before) .args .out .now) / 4) (c .before .loop .n) (c .before .loop .top)
 node c = popped (start (c .before) .pre .0) (c .before .loop .inv) (c .loop-test .taken)
 
-kind : (c : tie.After-choose Inv-loop μ-loop) → c .choose .result .kind ≤ 3
-kind c = chosen-kind (node (c .before .before .before .before)) (start (c .before .before .before .before .before) .pre .0 .formed .distinct) (c .choose .ensures)
+kind : (c : tie.After-look Inv-loop μ-loop) → c .look .result .kind ≤ 4
+kind c = chosen-kind (node (c .before .before .before .before)) (start (c .before .before .before .before .before) .pre .0 .formed .distinct) (c .look .ensures)
 
-split : (c : tie.After-choose Inv-loop μ-loop) → c .choose .result .split ≤ getD (c .before .before .before .before .before .loop .out) (4 * c .before .before .before .before .before .loop .top + 2) 0
-split c = chosen-split (node (c .before .before .before .before)) (start (c .before .before .before .before .before) .pre .0 .formed .distinct) (c .choose .ensures)
+split : (c : tie.After-look Inv-loop μ-loop) → c .look .result .split ≤ getD (c .before .before .before .before .before .loop .out) (4 * c .before .before .before .before .before .loop .top + 2) 0
+split c = chosen-split (node (c .before .before .before .before)) (start (c .before .before .before .before .before) .pre .0 .formed .distinct) (c .look .ensures)
 
 parts : (c : tie.In-loop Inv-loop μ-loop) → getD (c .before .loop .out) (4 * c .before .loop .top + 1) 0 + getD (c .before .loop .out) (4 * c .before .loop .top + 2) 0 ≤ 64
 parts c = let r = start (c .before) .pre .0 .positioned in omega (arith, within (node c), r .few, r .whole)
@@ -41,7 +42,7 @@ long : (c : tie.At-loop Inv-loop μ-loop) → length (c .before .before .before 
 long c = c .before .before .before .put .kept .0
 
 few : (c : tie.After-kids Inv-loop μ-loop) → c .kids .result ≤ 2
-few c = omega (arith, c .kids .ensures, kids-le (c .before .choose .result .kind) (kind (c .before)))
+few c = omega (arith, c .kids .ensures, kids-le (c .before .look .result .kind) (kind (c .before)))
 
 clear-requires : tie.Need-clear-requires Inv-loop μ-loop
 clear-requires c κs = search needs
@@ -50,7 +51,7 @@ same-length : tie.Need-same-length Inv-loop μ-loop
 same-length c = search needs
 
 returns : tie.Need-returns Inv-loop μ-loop
-returns c = λ u _. laid-none _ _ (c .before .before .before .before .if1 .taken) (c .before .before .clear .ensures) u
+returns c = λ u _. laid-none _ _ _ (c .before .before .before .before .if1 .taken) (c .before .before .clear .ensures) u
 
 sub-top : tie.Need-sub-top Inv-loop μ-loop
 sub-top c = search needs
@@ -91,8 +92,8 @@ add-l c = search needs
 slice-read-l : tie.Need-slice-read-l Inv-loop μ-loop
 slice-read-l c = search needs
 
-choose-requires : tie.Need-choose-requires Inv-loop μ-loop
-choose-requires c κs =
+look-requires : tie.Need-look-requires Inv-loop μ-loop
+look-requires c κs =
     let t = c .before .before .before in
     ((start (t .before) .pre .0, omega (arith, within (node t), start (t .before) .pre .0 .positioned .whole)), has-choice (node t))
 
@@ -111,7 +112,7 @@ same-length-2 c = search needs
 returns-2 : tie.Need-returns-2 Inv-loop μ-loop
 returns-2 c =
     let t = c .before .before .before .before .before .before .before .before .before .before in
-    let h = chosen-over (node t) (start (t .before) .pre .0 .formed .distinct) (c .before .before .before .before .before .before .choose .ensures) (omega (arith, c .before .before .before .before .if2 .taken, c .before .before .before .before .before .kids .ensures)) in
+    let h = chosen-over (node t) (start (t .before) .pre .0 .formed .distinct) (c .before .before .before .before .before .before .look .ensures) (omega (arith, c .before .before .before .before .if2 .taken, c .before .before .before .before .before .kids .ensures)) in
     running-over (start (t .before) .pre .0) (t .before .loop .inv) h _ _ (long (t .before)) refl (c .before .before .clear2 .ensures)
 
 mul-put-2 : tie.Need-mul-put-2 Inv-loop μ-loop
@@ -150,7 +151,7 @@ loop-again c =
       tree = t .before .loop .inv .tree;
       goal = t .before .loop .inv .goal;
       state =
-          chosen-turn (node t) (start (t .before) .pre .0 .formed .distinct) (c .before .before .before .before .before .before .before .before .before .before .before .choose .ensures)
+          chosen-turn (node t) (start (t .before) .pre .0 .formed .distinct) (c .before .before .before .before .before .before .before .before .before .before .before .look .ensures)
           (omega (arith, c .before .before .before .before .before .before .before .before .before .if2 .left, c .before .before .before .before .before .before .before .before .before .before .kids .ensures)) _ _ _ (rw (c .before .before .before .before .before .before .before .start-of .ensures) at (c .before .before .before .before .before .before .put2 .ensures)) (c .before .before .branch .ensures);
       same = omega (arith, c .before .before .branch .kept, c .before .before .before .before .before .before .put2 .kept, t .before .loop .inv .same);
     }
@@ -189,7 +190,7 @@ write-spec =
     mul-l
     add-l
     slice-read-l
-    choose-requires
+    look-requires
     kids-requires
     add-if2
     clear-requires-2

@@ -1,17 +1,12 @@
--- `write_both` meets its contract, by what `write` ensures of each tree.
+-- `write_both` meets its contract: with all nonterminals open, the rows shown are 01's.
 use borrow.Author.Needs.{needs}
-use Rattle.derivation.proofs.WrittenLaws.{both-first, both-second, both-done, wanted-first}
+use mathlib.Core.Option.{none, some}
+use Rattle.derivation.proofs.WrittenLaws.{written-all, first-seen, second-seen}
 use Rattle.derivation.proofs.write_both.Statement.{statement}
 use Rattle.derivation.proofs.write_both.Tie as tie
 
-write-requires : tie.Need-write-requires
-write-requires c κs = (c .before .before .before .before .pre .0, wanted-first (c .before .before .before .before .pre .1))
-
-clear-requires : tie.Need-clear-requires
-clear-requires c κs = search needs
-
-short-requires : tie.Need-short-requires
-short-requires c κs = search needs
+show-both-requires : tie.Need-show-both-requires
+show-both-requires c κs = search needs
 
 same-length : tie.Need-same-length
 same-length c = search needs
@@ -20,51 +15,10 @@ same-length-2 : tie.Need-same-length-2
 same-length-2 c = search needs
 
 returns : tie.Need-returns
-returns c = λ t u a b. rw (c .short .ensures) (both-first t u (c .before .before .before .before .before .before .before .before .write .ensures t a) (c .before .before .before .before .before .if1 .taken) (c .before .before .before .clear .ensures))
-
-write-requires-2 : tie.Need-write-requires-2
-write-requires-2 c κs = search needs
-
-clear-requires-2 : tie.Need-clear-requires-2
-clear-requires-2 c κs = search needs
-
-short-requires-2 : tie.Need-short-requires-2
-short-requires-2 c κs = search needs
-
-same-length-3 : tie.Need-same-length-3
-same-length-3 c = search needs
-
-same-length-4 : tie.Need-same-length-4
-same-length-4 c = search needs
-
-returns-2 : tie.Need-returns-2
-returns-2 c = λ t u a b. rw (c .short2 .ensures) (both-second t u (c .before .before .before .before .before .before .before .before .before .before .before .before .before .write .ensures t a) (c .before .before .before .before .before .before .before .before .write2 .ensures u b) (c .before .before .before .before .before .if2 .taken) (c .before .before .before .before .before .before .before .before .before .before .before .before .before .write .kept .1 .1 .1 .0) (c .before .before .before .clear2 .ensures))
-
-same-length-5 : tie.Need-same-length-5
-same-length-5 c = search needs
-
-same-length-6 : tie.Need-same-length-6
-same-length-6 c = search needs
-
-returns-3 : tie.Need-returns-3
-returns-3 c = λ t u a b. both-done t u (c .before .before .before .before .before .before .before .before .write .ensures t a) (c .before .before .before .write2 .ensures u b) (c .before .before .before .before .before .if1 .left) (c .if2 .left)
+returns c =
+    let x = c .before .before .before .before in
+    let z = x .before .before .before .before .before .before in
+    λ t u a b. written-all _ (some t) (some u) (first-seen (z .pre .0 .formed) a) (second-seen (z .pre .0 .formed) b) (x .show-both .ensures t u a b)
 
 pub write-both-spec : {M : Type 1} → statement M
-write-both-spec =
-    tie.close
-    (tie.spec
-    write-requires
-    clear-requires
-    short-requires
-    same-length
-    same-length-2
-    returns
-    write-requires-2
-    clear-requires-2
-    short-requires-2
-    same-length-3
-    same-length-4
-    returns-2
-    same-length-5
-    same-length-6
-    returns-3)
+write-both-spec = tie.close (tie.spec show-both-requires same-length same-length-2 returns)

@@ -1,17 +1,12 @@
--- `write_first` meets its contract, by what `write` ensures of the first tree.
+-- `write_first` meets its contract: with all nonterminals open, the rows shown are 01's.
 use borrow.Author.Needs.{needs}
-use Rattle.derivation.proofs.WrittenLaws.{first-short, first-done}
+use mathlib.Core.Option.{none, some}
+use Rattle.derivation.proofs.WrittenLaws.{written-all, first-seen, second-seen}
 use Rattle.derivation.proofs.write_first.Statement.{statement}
 use Rattle.derivation.proofs.write_first.Tie as tie
 
-clear-requires : tie.Need-clear-requires
-clear-requires c κs = search needs
-
-write-requires : tie.Need-write-requires
-write-requires c κs = search needs
-
-short-requires : tie.Need-short-requires
-short-requires c κs = search needs
+show-first-requires : tie.Need-show-first-requires
+show-first-requires c κs = search needs
 
 same-length : tie.Need-same-length
 same-length c = search needs
@@ -20,27 +15,10 @@ same-length-2 : tie.Need-same-length-2
 same-length-2 c = search needs
 
 returns : tie.Need-returns
-returns c = λ t a. rw (c .short .ensures) (first-short t (c .before .before .before .before .write .ensures t a) (c .before .before .before .before .before .before .before .before .clear .ensures) (c .before .if1 .taken))
-
-same-length-3 : tie.Need-same-length-3
-same-length-3 c = search needs
-
-same-length-4 : tie.Need-same-length-4
-same-length-4 c = search needs
-
-returns-2 : tie.Need-returns-2
-returns-2 c = λ t a. first-done t (c .before .before .before .write .ensures t a) (c .before .before .before .before .before .before .before .clear .ensures) (c .if1 .left)
+returns c =
+    let x = c .before .before .before .before in
+    let z = x .before .before .before .before .before .before in
+    λ t a. written-all _ (some t) none (first-seen (z .pre .0 .formed) a) tt (x .show-first .ensures t a)
 
 pub write-first-spec : {M : Type 1} → statement M
-write-first-spec =
-    tie.close
-    (tie.spec
-    clear-requires
-    write-requires
-    short-requires
-    same-length
-    same-length-2
-    returns
-    same-length-3
-    same-length-4
-    returns-2)
+write-first-spec = tie.close (tie.spec show-first-requires same-length same-length-2 returns)

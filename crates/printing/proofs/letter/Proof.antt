@@ -16,13 +16,17 @@ returns-3 : tie.Need-returns-3
 returns-3 c = search needs
 
 returns-4 : tie.Need-returns-4
-returns-4 c = last (c .before .before .before .args .kind) (c .before .before .if1 .left) (c .before .if2 .left) (c .if3 .left)
+returns-4 c = search needs
+
+returns-5 : tie.Need-returns-5
+returns-5 c = last (c .before .before .before .before .args .kind) (c .before .before .before .if1 .left) (c .before .before .if2 .left) (c .before .if3 .left) (c .if4 .left)
   where
-    last : (k : ℕ) → (k ≡ 0 → ⊥) → (k ≡ 1 → ⊥) → (k ≡ 2 → ⊥) → 66 ≡ letterOf k
-    last zero a b d = absurd (a refl)
-    last (suc zero) a b d = absurd (b refl)
-    last (suc (suc zero)) a b d = absurd (d refl)
-    last (suc (suc (suc k))) a b d = refl
+    last : (k : ℕ) → (k ≡ 0 → ⊥) → (k ≡ 1 → ⊥) → (k ≡ 2 → ⊥) → (k ≡ 3 → ⊥) → 67 ≡ letterOf k
+    last zero a b d e = absurd (a refl)
+    last (suc zero) a b d e = absurd (b refl)
+    last (suc (suc zero)) a b d e = absurd (d refl)
+    last (suc (suc (suc zero))) a b d e = absurd (e refl)
+    last (suc (suc (suc (suc k)))) a b d e = refl
 
 pub letter-spec : {M : Type 1} → statement M
-letter-spec = tie.close (tie.spec returns returns-2 returns-3 returns-4)
+letter-spec = tie.close (tie.spec returns returns-2 returns-3 returns-4 returns-5)

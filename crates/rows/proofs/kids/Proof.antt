@@ -3,18 +3,18 @@ use borrow.Author.Needs.{needs}
 use mathlib.Core.Path.{sym, ap}
 use native.Mathlib.Omega.{arith}
 use Rattle.rows.specs.Steps.{kidsOf}
-use Rattle.rows.proofs.StepLaws.{kids-none, kids-three}
+use Rattle.rows.proofs.StepLaws.{kids-other}
 use Rattle.rows.proofs.kids.Statement.{statement}
 use Rattle.rows.proofs.kids.Tie as tie
 
 returns : tie.Need-returns
-returns c = sym (kids-none _ (c .if1 .taken))
+returns c = search needs
 
 returns-2 : tie.Need-returns-2
 returns-2 c = search needs
 
 returns-3 : tie.Need-returns-3
-returns-3 c = sym (ap kidsOf (kids-three _ (omega arith) (omega arith) (c .if2 .left)))
+returns-3 c = sym (kids-other _ (c .before .before .pre) (c .before .if1 .left) (c .if2 .left))
 
 pub kids-spec : {M : Type 1} → statement M
 kids-spec = tie.close (tie.spec returns returns-2 returns-3)
