@@ -1,9 +1,12 @@
--- A list that a call gives: from the one that puts it, and that it settles the answer and the lent bytes.
-use mathlib.Core.Path.{_≡_, refl}
+-- A list that a call gives: from the one that puts it, that it settles the answer and the lent bytes, and that its entries are no more than those bytes.
+use mathlib.Core.Path.{_≡_, refl, ap}
 use mathlib.Core.List.{List}
-use Prim.Native.Nat.{ℕ}
+use Prim.Native.Nat.{ℕ, _≤_}
+use native.Mathlib.Nat.{le-refl}
+use native.Mathlib.Omega.{arith}
+use lib.ListN.{length}
 use Rattle.lists.specs.declared.Listed.{Listed}
-use Rattle.lists.specs.Lists.{Gives}
+use Rattle.lists.specs.Lists.{Gives, fits, large}
 use Rattle.lists.specs.Putting.{listed, unfit}
 use Rattle.lists.proofs.Settled.{gives-settled, gives-map}
 use Rattle.sheets.specs.declared.Fault.the-variants as Fault
@@ -20,3 +23,16 @@ module _ {a : Answer} {bytes : List ℕ} {n : ℕ} {lent : List ℕ} where
   list-settled p q =
       let e = same-fault (p .fault) (q .fault) 22 (p .number) (q .number) in
       gives-settled (rw e at (p .gives)) (q .gives)
+
+-- how many bytes are given
+
+pub count-of : {r s : ListReply} {n : ℕ} → r ≡ s → s .count ≤ n → r .count ≤ n
+count-of e h = omega (arith, ap (λ (x : ListReply). x .count) e)
+
+gives-count : {given : ℕ → ListReply} {refused : ListReply} {bytes : List ℕ} {n : ℕ} {lent lent′ : List ℕ} {r : ListReply}
+    → ((m : ℕ) → given m .count ≡ m) → refused .count ≡ 0 → n ≤ length bytes → Gives given refused bytes n lent lent′ r → r .count ≤ length lent
+gives-count {n = n} g z h (fits l e p) = count-of e (omega (arith, g n))
+gives-count g z h (large l e p) = count-of e (omega (arith, z))
+
+pub list-count : {a : Answer} {bytes lent lent′ : List ℕ} {r : ListReply} → ListOn a bytes (length bytes) lent lent′ r → r .count ≤ length lent
+list-count l = gives-count (λ m. refl) refl (le-refl _) (l .gives)

@@ -164,7 +164,7 @@ pub fn verdict(rules: &[u8], tokens: &[u8], words: &mut [u64]) -> Reply
 }
 
 // The reply on an answer whose trees were written, or did not fit.
-fn counted_reply(a: Answer, c: Counts) -> TreesReply
+pub fn counted_reply(a: Answer, c: Counts) -> TreesReply
     ensures { λ r. ⌜ r ≡ counted a c ⌝ }
 {
     if c.fits {
