@@ -1,0 +1,212 @@
+// The public calls on a shared tour (02, request 12): the trees as a user may see them, and a rule sheet with a mark that a user may change.
+use changing::lay_fits;
+use changing::put_changed;
+use chart::Verdict;
+use chart::judge;
+use derivation::show_both;
+use derivation::show_first;
+use derivation::write_none;
+use fields::LayWord;
+use fields::lay_word;
+use grammar::Clause;
+use grammar::Grammar;
+use grammar::Sentence;
+use rights::read_rights;
+use sets::has;
+use sheets::Fault;
+use sheets::Outcome;
+use sheets::read_rules;
+use sheets::read_tokens;
+use spans::size;
+use teplonga::Answer;
+use teplonga::ListReply;
+use teplonga::TreesReply;
+use teplonga::counted_reply;
+use teplonga::list_reply;
+ghost use mathlib.Core.Path.{_≡_};
+ghost use Prim.Native.Nat.{_≤_};
+ghost use Rattle.grammar.specs.Cycles.{Cyclic};
+ghost use Rattle.grammar.specs.Content.{rules as rulesOf, spelled, Formed, Positioned};
+ghost use Rattle.sheets.specs.Items.{accepted};
+ghost use Rattle.sheets.specs.RuleSheets.{ruleSheet};
+ghost use Rattle.shown.specs.Shown.{member};
+ghost use Rattle.teplonga.specs.Trees as Trees;
+ghost use Rattle.teplonga.specs.declared.Answer.the-variants as Answers;
+ghost use Rattle.call_tours.specs.Show.{ShowOn, ShowOf};
+ghost use Rattle.call_tours.specs.Change.{refusal, Done, ChangeOn, ChangeOf};
+ghost use Rattle.call_tours.specs.Inner.{Named};
+
+// The trees of rules and a sentence that were read, as they are shown to a user who sees these nonterminals.
+fn shown_to(
+    words: &mut [u64],
+    s: Sentence,
+    g: Grammar,
+    sees: u64,
+    first: &mut [u8],
+    second: &mut [u8],
+) -> TreesReply
+    requires { ⌜ Formed g ⌝ }
+    requires { ⌜ Positioned s ⌝ }
+    requires { ⌜ (Cyclic (rulesOf g) → ⊥) ⌝ }
+    ensures { λ r. ⌜ ShowOn (member sees) (rulesOf g) (spelled s) (now (words .entry)) (now (words .exit)) (now (first .entry)) (now (first .exit)) (now (second .entry)) (now (second .exit)) r ⌝ }
+{
+    let n = s.count;
+    if words.len() < size(n) {
+        return TreesReply {
+            answer: Answer::Refused(Fault::FewWords),
+            line: 0,
+            first: 0,
+            second: 0,
+        };
+    }
+    let v = judge(words, s, g);
+    match v {
+        Verdict::None => {
+            let c = write_none(first, second);
+            counted_reply(Answer::None, c)
+        }
+        Verdict::One => {
+            let c = show_first(words, s, g, sees, first, second);
+            counted_reply(Answer::One, c)
+        }
+        Verdict::Two => {
+            let c = show_both(words, s, g, sees, first, second);
+            counted_reply(Answer::Two, c)
+        }
+    }
+}
+
+// A refused call for trees.
+fn refused_trees(f: Fault, line: usize) -> TreesReply
+    ensures { λ r. ⌜ r ≡ Trees.reply (Answers.Refused f) line 0 0 ⌝ }
+{
+    TreesReply {
+        answer: Answer::Refused(f),
+        line,
+        first: 0,
+        second: 0,
+    }
+}
+
+// The verdict on a sentence, and its one or two trees as the user may see them: a node outside the user's ranges is one row of kind 4.
+pub fn show(
+    rules: &[u8],
+    tokens: &[u8],
+    rights: &[u8],
+    user: usize,
+    words: &mut [u64],
+    first: &mut [u8],
+    second: &mut [u8],
+) -> TreesReply
+    ensures { λ r. ⌜ ShowOf (now (rules .entry)) (now (tokens .entry)) (now (rights .entry)) user (now (words .entry)) (now (words .exit)) (now (first .entry)) (now (first .exit)) (now (second .entry)) (now (second .exit)) r ⌝ }
+{
+    let a = read_rules(rules);
+    let o = a.outcome;
+    match o {
+        Outcome::Refused(f, l) => refused_trees(f, l),
+        Outcome::Accepted => {
+            let b = read_tokens(tokens);
+            let p = b.outcome;
+            match p {
+                Outcome::Refused(f, l) => refused_trees(f, l),
+                Outcome::Accepted => {
+                    let c = read_rights(rights, user);
+                    let q = c.outcome;
+                    match q {
+                        Outcome::Refused(f, l) => refused_trees(f, l),
+                        Outcome::Accepted => {
+                            let g = a.grammar;
+                            let s = b.sentence;
+                            shown_to(words, s, g, c.sees, first, second)
+                        }
+                    }
+                }
+            }
+        }
+    }
+}
+
+// A refused change.
+fn refuse(f: Fault, line: usize) -> ListReply
+    ensures { λ r. ⌜ r ≡ refusal f line ⌝ }
+{
+    ListReply {
+        answer: Answer::Refused(f),
+        line,
+        count: 0,
+    }
+}
+
+// The new mark of a rule that may be changed: 2 and 4 in its line, else the changed sheet.
+fn marked(rules: &[u8], c: Clause, rule: usize, lay: &[u8], bytes: &mut [u8]) -> ListReply
+    requires { ⌜ Named (now rules) rule c ⌝ }
+    requires { ⌜ rule ≤ 128 ⌝ }
+    ensures { λ r. ⌜ Done (now (rules .entry)) rule (now (lay .entry)) (now (bytes .entry)) (now (bytes .exit)) r ⌝ }
+{
+    match lay_word(lay) {
+        LayWord::Not => refuse(Fault::RuleForm, rule + 1),
+        LayWord::Is(y) => {
+            if lay_fits(c, y) {
+                return list_reply(Answer::Given, put_changed(rules, rule, lay, bytes));
+            }
+            refuse(Fault::RuleLay, rule + 1)
+        }
+    }
+}
+
+// The change of a rule of a sheet that was read: 51 before the new mark is looked at.
+fn changed_to(
+    rules: &[u8],
+    g: Grammar,
+    changes: u64,
+    rule: usize,
+    lay: &[u8],
+    bytes: &mut [u8],
+) -> ListReply
+    requires { ⌜ Formed g ⌝ }
+    requires { ⌜ ruleSheet (now rules) ≡ accepted (rulesOf g) ⌝ }
+    ensures { λ r. ⌜ ChangeOn (member changes) (now (rules .entry)) (rulesOf g) rule (now (lay .entry)) (now (bytes .entry)) (now (bytes .exit)) r ⌝ }
+{
+    if rule == 0 {
+        return refuse(Fault::NoRight, 0);
+    }
+    if g.count < rule {
+        return refuse(Fault::NoRight, 0);
+    }
+    let i = rule - 1;
+    let r = g.rules[i];
+    if has(changes, r.left) {
+        let c = r.clause;
+        return marked(rules, c, rule, lay, bytes);
+    }
+    refuse(Fault::NoRight, 0)
+}
+
+// A rule sheet with another mark in the rule at a place, counted from 1, as a list of its bytes, if the user may change that rule.
+pub fn change(
+    rules: &[u8],
+    rights: &[u8],
+    user: usize,
+    rule: usize,
+    lay: &[u8],
+    bytes: &mut [u8],
+) -> ListReply
+    ensures { λ r. ⌜ ChangeOf (now (rules .entry)) (now (rights .entry)) user rule (now (lay .entry)) (now (bytes .entry)) (now (bytes .exit)) r ⌝ }
+{
+    let a = read_rules(rules);
+    let o = a.outcome;
+    match o {
+        Outcome::Refused(f, l) => refuse(f, l),
+        Outcome::Accepted => {
+            let c = read_rights(rights, user);
+            let q = c.outcome;
+            match q {
+                Outcome::Refused(f, l) => refuse(f, l),
+                Outcome::Accepted => {
+                    let g = a.grammar;
+                    changed_to(rules, g, c.changes, rule, lay, bytes)
+                }
+            }
+        }
+    }
+}
