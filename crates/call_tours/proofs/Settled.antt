@@ -1,17 +1,18 @@
 -- The promises of `show` and `change` settle the answer and the lent memory: two results that meet a promise are the same.
-use mathlib.Core.Path.{_≡_, sym, ap, _∙_}
+use mathlib.Core.Path.{_≡_, sym, ap, _∙_, subst}
 use mathlib.Core.Logic.{_⊎_, inl, inr, ⊎-elim}
-use mathlib.Core.List.{List}
+use mathlib.Core.List.{List, _++_}
 use mathlib.Core.Option.{none, some}
-use Prim.Native.Nat.{ℕ, _≤_, _<_}
+use Prim.Native.Nat.{ℕ, _*_, _-_, _≤_, _<_}
 use native.Mathlib.Omega.{arith}
+use lib.ListN.{length, replicate}
 use Rattle.grammar.specs.Layout.{Word}
-use Rattle.grammar.specs.Trees.{Tree, Rules}
+use Rattle.grammar.specs.Trees.{Tree, empty, leaf, unary, binary, Rules}
 use Rattle.grammar.specs.Choices.{FirstTree, SecondTree, Distinct}
 use Rattle.grammar.proofs.VerdictLaws.{none-not-one, none-not-two, one-not-two}
 use Rattle.grammar.proofs.ChoiceLaws.{first-unique, second-tree-unique}
-use Rattle.shown.specs.Shown.{View, shownCount}
-use Rattle.derivation.specs.Written.{places}
+use Rattle.shown.specs.Shown.{View, shownRows, shownCount, OnlyBeneath, same-empty, same-leaf, same-unary, same-binary}
+use Rattle.shown.proofs.ShownLaws.{shown-alike, length-shown}
 use Rattle.derivation.specs.Showing.{filledShown}
 use Rattle.sheets.specs.declared.Fault.{Fault}
 use Rattle.sheets.specs.Refusals.{numberOf}
@@ -26,6 +27,7 @@ use Rattle.sheets.proofs.Numbers.{same-fault}
 use Rattle.teplonga.proofs.Settled.{Words, filled-same, apart, same-sheets, same-refusal, sheets-apart}
 use Rattle.teplonga.proofs.ListSettled.{list-settled}
 use Rattle.teplonga.specs.declared.ListReply.{ListReply}
+use Rattle.call_tours.specs.Alike.{Alike}
 use Rattle.call_tours.specs.Show.{ShownTo, treeless, single, both, large-one, large-two, ShowOn, ShowOf}
 use Rattle.call_tours.specs.Show as Show
 use Rattle.call_tours.specs.Change.{refusal, MayRule, Done, unfit, given, ChangeOn, barred, allowed, ChangeOf}
@@ -37,52 +39,75 @@ Same a b c d r s = (r ≡ s) × ((a ≡ b) × (c ≡ d))
 
 -- 1. show
 
-module _ (sees : View) (g : Rules) (w : Word) (one two : List ℕ) where
-  never-one : {t t′ : Tree} → FirstTree g 0 w t → FirstTree g 0 w t′ → shownCount sees t ≤ places one → places one < shownCount sees t′ → ⊥
-  never-one {t} {t′} a b h k = let e : t ≡ t′ = first-unique a b in omega (arith, ap (shownCount sees) e)
+only-self : (sees : View) (t : Tree) → OnlyBeneath sees t t
+only-self sees (empty A) = same-empty
+only-self sees (leaf A t) = same-leaf
+only-self sees (unary A t) = same-unary (only-self sees t)
+only-self sees (binary A s t) = same-binary (only-self sees s) (only-self sees t)
 
-  never-two : Distinct g → {t t′ u u′ : Tree} → FirstTree g 0 w t → FirstTree g 0 w t′ → SecondTree g 0 w u → SecondTree g 0 w u′
-      → shownCount sees t ≤ places one → shownCount sees u ≤ places two → (places one < shownCount sees t′) ⊎ (places two < shownCount sees u′) → ⊥
-  never-two d {t} {t′} {u} {u′} a b c e h k l =
-      let p : t ≡ t′ = first-unique a b in
-      let q : u ≡ u′ = second-tree-unique d c e in
-      ⊎-elim (λ x. omega (arith, ap (shownCount sees) p)) (λ x. omega (arith, ap (shownCount sees) q)) l
+alike-self : (sees : View) (g : Rules) (w : Word) → Distinct g → Alike sees g g w w
+alike-self sees g w d =
+    record {
+      none = λ p. p;
+      one = λ p. p;
+      two = λ p. p;
+      first = λ {t} {t′} a b. subst (OnlyBeneath sees t) (first-unique a b) (only-self sees t);
+      second = λ {u} {u′} a b. subst (OnlyBeneath sees u) (second-tree-unique d a b) (only-self sees u);
+    }
+
+module _ (sees : View) {t u : Tree} (o : OnlyBeneath sees t u) where
+  count-alike : shownCount sees t ≡ shownCount sees u
+  count-alike = omega (arith, length-shown sees t 0, length-shown sees u 0, ap length (shown-alike sees 0 o))
+
+  filled-alike : (l : List ℕ) → filledShown sees l (some t) ≡ filledShown sees l (some u)
+  filled-alike l = λ i. shown-alike sees 0 o i ++ replicate (length l - 4 * count-alike i) 0
+
+-- NOTHING LEAKS: of sentences that a user cannot tell apart the reply is the same, and each byte of both tree memories
+module _ (sees : View) {g g′ : Rules} {w w′ : Word} (A : Alike sees g g′ w w′) (one two : List ℕ) where
+  count-one : {t t′ : Tree} → FirstTree g 0 w t → FirstTree g′ 0 w′ t′ → shownCount sees t ≡ shownCount sees t′
+  count-one a b = count-alike sees (A .first a b)
+
+  count-two : {u u′ : Tree} → SecondTree g 0 w u → SecondTree g′ 0 w′ u′ → shownCount sees u ≡ shownCount sees u′
+  count-two a b = count-alike sees (A .second a b)
+
+  -- both trees fit both times or neither
+  never-two : {p p′ q q′ m n : ℕ} → p ≡ p′ → q ≡ q′ → p ≤ m → q ≤ n → (m < p′) ⊎ (n < q′) → ⊥
+  never-two e f h k l = ⊎-elim (λ x. omega arith) (λ x. omega arith) l
 
   large-same : {f f′ : Fault} {a b c d : List ℕ} {r s : TreesReply} → numberOf f ≡ 22 → numberOf f′ ≡ 22
       → r ≡ reply (Answer.Refused f) 0 0 0 → s ≡ reply (Answer.Refused f′) 0 0 0 → a ≡ filledShown sees one none → b ≡ filledShown sees one none → c ≡ filledShown sees two none → d ≡ filledShown sees two none → Same a b c d r s
   large-same {f} {f′} m n x y h k i j = (x ∙ ap (λ (z : Fault). reply (Answer.Refused z) 0 0 0) (same-fault f f′ 22 m n) ∙ sym y, (h ∙ sym k, i ∙ sym j))
 
-  shown-settled : Distinct g → {a b c d : List ℕ} {r s : TreesReply} → ShownTo sees g w one a two c r → ShownTo sees g w one b two d s → Same a b c d r s
-  shown-settled D (treeless p x h i) (treeless q y k j) = (x ∙ sym y, (h ∙ sym k, i ∙ sym j))
-  shown-settled D (treeless p x h i) (single q t l y k j) = absurd (none-not-one p q)
-  shown-settled D (treeless p x h i) (both q t u l m y k j) = absurd (none-not-two p q)
-  shown-settled D (treeless p x h i) (large-one q t l n y k j) = absurd (none-not-one p q)
-  shown-settled D (treeless p x h i) (large-two q t u l n y k j) = absurd (none-not-two p q)
-  shown-settled D (single q t l y k j) (treeless p x h i) = absurd (none-not-one p q)
-  shown-settled D (single {t = t} p a l x h i) (single {t = t′} q b m y k j) =
-      let e : t ≡ t′ = first-unique a b in
-      (x ∙ rw e (sym y), (h ∙ rw e (sym k), i ∙ sym j))
-  shown-settled D (single p a l x h i) (both q t u m n y k j) = absurd (one-not-two p q)
-  shown-settled D (single p a l x h i) (large-one q b m n y k j) = absurd (never-one a b l m)
-  shown-settled D (single p a l x h i) (large-two q t u m n y k j) = absurd (one-not-two p q)
-  shown-settled D (both q t u l m y k j) (treeless p x h i) = absurd (none-not-two p q)
-  shown-settled D (both q t u m n y k j) (single p a l x h i) = absurd (one-not-two p q)
-  shown-settled D (both {t = t} {u = u} p a c l m x h i) (both {t = t′} {u = u′} q b e n o y k j) =
-      let v : t ≡ t′ = first-unique a b in
-      let z : u ≡ u′ = second-tree-unique D c e in
-      (x ∙ rw (v, z) (sym y), (h ∙ rw v (sym k), i ∙ rw z (sym j)))
-  shown-settled D (both q t u m n y k j) (large-one p a l o x h i) = absurd (one-not-two p q)
-  shown-settled D (both p a c l m x h i) (large-two q b e n o y k j) = absurd (never-two D a b c e l m n)
-  shown-settled D (large-one q t l n y k j) (treeless p x h i) = absurd (none-not-one p q)
-  shown-settled D (large-one q b m n y k j) (single p a l x h i) = absurd (never-one a b l m)
-  shown-settled D (large-one p a l o x h i) (both q t u m n y k j) = absurd (one-not-two p q)
-  shown-settled D (large-one p a l m x h i) (large-one q b n o y k j) = large-same m o x y h k i j
-  shown-settled D (large-one p a l m x h i) (large-two q t u n o y k j) = absurd (one-not-two p q)
-  shown-settled D (large-two q t u l n y k j) (treeless p x h i) = absurd (none-not-two p q)
-  shown-settled D (large-two q t u m n y k j) (single p a l x h i) = absurd (one-not-two p q)
-  shown-settled D (large-two q b e n o y k j) (both p a c l m x h i) = absurd (never-two D a b c e l m n)
-  shown-settled D (large-two q t u n o y k j) (large-one p a l m x h i) = absurd (one-not-two p q)
-  shown-settled D (large-two p a c l m x h i) (large-two q b e n o y k j) = large-same m o x y h k i j
+  pub nothing-leaks : {a b c d : List ℕ} {r s : TreesReply} → ShownTo sees g w one a two c r → ShownTo sees g′ w′ one b two d s → Same a b c d r s
+  nothing-leaks (treeless p x h i) (treeless q y k j) = (x ∙ sym y, (h ∙ sym k, i ∙ sym j))
+  nothing-leaks (treeless p x h i) (single q t l y k j) = absurd (none-not-one (A .none p) q)
+  nothing-leaks (treeless p x h i) (both q t u l m y k j) = absurd (none-not-two (A .none p) q)
+  nothing-leaks (treeless p x h i) (large-one q t l n y k j) = absurd (none-not-one (A .none p) q)
+  nothing-leaks (treeless p x h i) (large-two q t u l n y k j) = absurd (none-not-two (A .none p) q)
+  nothing-leaks (single p t l x h i) (treeless q y k j) = absurd (none-not-one q (A .one p))
+  nothing-leaks (single p a l x h i) (single q b m y k j) =
+      (x ∙ ap (λ (n : ℕ). reply Answer.One 0 n 0) (count-one a b) ∙ sym y, (h ∙ filled-alike sees (A .first a b) one ∙ sym k, i ∙ sym j))
+  nothing-leaks (single p a l x h i) (both q t u m n y k j) = absurd (one-not-two (A .one p) q)
+  nothing-leaks (single p a l x h i) (large-one q b m n y k j) = absurd (omega (arith, count-one a b))
+  nothing-leaks (single p a l x h i) (large-two q t u m n y k j) = absurd (one-not-two (A .one p) q)
+  nothing-leaks (both p t u l m x h i) (treeless q y k j) = absurd (none-not-two q (A .two p))
+  nothing-leaks (both p t u l m x h i) (single q a n y k j) = absurd (one-not-two q (A .two p))
+  nothing-leaks (both p a c l m x h i) (both q b e n o y k j) =
+      let v = count-one a b in
+      let z = count-two c e in
+      (x ∙ (λ i. reply Answer.Two 0 (v i) (z i)) ∙ sym y, (h ∙ filled-alike sees (A .first a b) one ∙ sym k, i ∙ filled-alike sees (A .second c e) two ∙ sym j))
+  nothing-leaks (both p t u l m x h i) (large-one q a n o y k j) = absurd (one-not-two q (A .two p))
+  nothing-leaks (both p a c l m x h i) (large-two q b e n o y k j) = absurd (never-two (count-one a b) (count-two c e) l m n)
+  nothing-leaks (large-one p t l n x h i) (treeless q y k j) = absurd (none-not-one q (A .one p))
+  nothing-leaks (large-one p a l n x h i) (single q b m y k j) = absurd (omega (arith, count-one a b))
+  nothing-leaks (large-one p a l n x h i) (both q t u m o y k j) = absurd (one-not-two (A .one p) q)
+  nothing-leaks (large-one p a l m x h i) (large-one q b n o y k j) = large-same m o x y h k i j
+  nothing-leaks (large-one p a l m x h i) (large-two q t u n o y k j) = absurd (one-not-two (A .one p) q)
+  nothing-leaks (large-two p t u l n x h i) (treeless q y k j) = absurd (none-not-two q (A .two p))
+  nothing-leaks (large-two p t u l n x h i) (single q a m y k j) = absurd (one-not-two q (A .two p))
+  nothing-leaks (large-two p b e n o x h i) (both q a c l m y k j) = absurd (never-two (sym (count-one b a)) (sym (count-two e c)) l m n)
+  nothing-leaks (large-two p t u l n x h i) (large-one q a m o y k j) = absurd (one-not-two q (A .two p))
+  nothing-leaks (large-two p a c l m x h i) (large-two q b e n o y k j) = large-same m o x y h k i j
 
 show-on : (sees : View) (g : Rules) (w : Word) {ws a b one two m m′ n n′ : List ℕ} {r s : TreesReply} → Distinct g → Words a → Words b
     → ShowOn sees g w ws a one m two n r → ShowOn sees g w ws b one m′ two n′ s → (a ≡ b) × Same m m′ n n′ r s
@@ -90,7 +115,7 @@ show-on sees g w D p q (Show.short {f = f} u v x h i j) (Show.short {f = f′} m
     (h ∙ sym k, (x ∙ ap (λ (z : Fault). reply (Answer.Refused z) 0 0 0) (same-fault f f′ 21 v n) ∙ sym y, (i ∙ sym l, j ∙ sym o)))
 show-on sees g w D p q (Show.short u v x h i j) (Show.showing k y) = absurd (omega (arith, k .sheet .enough, k .long))
 show-on sees g w D p q (Show.showing k y) (Show.short u v x h i j) = absurd (omega (arith, k .sheet .enough, k .long))
-show-on sees g w {one = one} {two = two} D p q (Show.showing h x) (Show.showing k y) = (filled-same p q h k, shown-settled sees g w one two D x y)
+show-on sees g w {one = one} {two = two} D p q (Show.showing h x) (Show.showing k y) = (filled-same p q h k, nothing-leaks sees (alike-self sees g w D) one two x y)
 
 -- what a sheet gives is one thing
 never-both : {A : Type 0} {o : Reading A} {f : Fault} {l : ℕ} {rs : List A} → o ≡ Sheet.refused f l → o ≡ Sheet.accepted rs → ⊥

@@ -23,7 +23,7 @@ pub record Fits (one two : List ℕ) (r : TreesReply) : Type 0 where
   pub first : r .first ≤ places one
   pub second : r .second ≤ places two
 
-counted : {one two : List ℕ} {r s : TreesReply} → r ≡ s → Fits one two s → Fits one two r
+pub counted : {one two : List ℕ} {r s : TreesReply} → r ≡ s → Fits one two s → Fits one two r
 counted e f =
     record {
       first = omega (arith, f .first, ap (λ (x : TreesReply). x .first) e);
