@@ -6,7 +6,8 @@
 STDIN: each case is a header of 6 bytes (its length in five digits, byte 10),
 then 26 bytes: the call's letter, user, rule and the lengths of the first two
 parts in five digits each, parted by blanks, and byte 10; then three parts.
-The next case follows at once.  The letters are `r` rows, `p` places.
+The next case follows at once.  The letters are `r` rows, `p` places, `s`
+show (rules, tokens, rights), `c` change (rules, rights, the new mark).
 
 STDOUT: for each case the whole output of the program `calls`.
 
@@ -19,6 +20,7 @@ from pathlib import Path
 
 import places
 import rows
+import tours
 import tree_cases
 from make_programs import differs, framed
 
@@ -27,8 +29,12 @@ def output(case):
     call, user, rule, parts = case
     if call == "rows":
         return rows.rows_output(*parts)
-    assert call == "places"
-    return places.places_output(*parts)
+    if call == "places":
+        return places.places_output(*parts)
+    if call == "show":
+        return tours.show_output(*parts, user)
+    assert call == "change"
+    return tours.change_output(*parts, user, rule)
 
 
 def written(case):

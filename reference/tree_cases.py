@@ -1,10 +1,13 @@
-"""Cases for the calls about one sentence's trees: `rows`, `places`.
+"""Cases for the calls about one sentence's trees: `rows`, `places`, and those on
+a shared tour: `show`, `change`.
 
 `cases()` yields (call, user, rule, parts) in a fixed order; a call takes what
 it needs of them.  First come those of `meant()`, made by hand, each with how
 the output is meant to go on after `answer line`.  What follows is drawn by
 chance, seeded and the same on every run.
 """
+
+import random
 
 import check_cases as checks
 import teplonga as base
@@ -196,6 +199,183 @@ def refused_places():
             yield answer + "\n", places(text)
 
 
+# ------------------------------------------------ request 12: a shared tour
+
+def rights(*lines):
+    """A rights sheet with these lines."""
+    return b"".join(line.encode() + b"\n" for line in ("user low high may", *lines))
+
+
+def show(text, granted, user=5):
+    """`show` of an input as `check` has it."""
+    return case("show", *base.parted(text), granted, user=user)
+
+
+def rows_shown(answer, *lines):
+    return f"{answer} 0\ntree left kind start length\n" + "".join(line + "\n" for line in lines)
+
+
+ALL = rights("5 0 63 see")
+NESTED = "0 B 1 2 none / 1 U 3 - none / 2 A 0 - none / 3 A 0 - none"
+PARTING = "0 B 1 2 none / 1 U 3 - none / 1 A 0 - none / 2 A 0 - none / 2 U 3 - none / 3 A 0 - none"
+
+
+def shown_trees():
+    two = check(NESTED, *row(2))
+    yield rows_shown("one", "1 0 B 0 2", "1 1 U 0 1", "1 3 A 0 1", "1 2 A 1 1"), show(two, ALL)
+    # The root is closed like any node, and hides what the user may see.
+    yield rows_shown("one", "1 0 C 0 2"), show(two, rights())
+    yield rows_shown("one", "1 0 C 0 2"), show(two, rights("5 1 63 change"))
+    yield rows_shown("one", "1 0 B 0 2", "1 1 C 0 1", "1 2 A 1 1"), show(two, rights("5 0 0 see", "5 2 3 see"))
+    yield rows_shown("one", "1 0 B 0 2", "1 1 U 0 1", "1 3 C 0 1", "1 2 C 1 1"), show(two, rights("5 0 1 see"))
+    # Ranges add up, those of other users do not; `change` includes seeing.
+    one_by_one = rights("5 0 0 see", "5 1 1 change", "5 3 3 see", "5 2 2 see", "4 0 0 see")
+    yield rows_shown("one", "1 0 B 0 2", "1 1 U 0 1", "1 3 A 0 1", "1 2 A 1 1"), show(two, one_by_one)
+    yield rows_shown("one", "1 0 B 0 2", "1 1 C 0 1", "1 2 C 1 1"), show(two, one_by_one, user=4)
+    # A user above 15 has no ranges.
+    yield rows_shown("one", "1 0 C 0 2"), show(two, rights("0 0 63 see", "15 0 63 see"), user=16)
+    yield rows_shown("one", "1 0 C 0 2"), show(two, rights("0 0 63 see", "15 0 63 see"), user=99_999)
+    yield rows_shown("one", "1 0 B 0 2"), show(two, rights("15 0 63 see"), user=15)
+    # An empty word has start 0.
+    empty = check("0 B 1 2 none / 1 A 0 - none / 2 E - - none", (1, 1))
+    yield rows_shown("one", "1 0 B 0 1", "1 1 A 0 1", "1 2 C 0 0"), show(empty, rights("5 0 1 see"))
+    yield "none 0\n", show(check(NESTED, *row(3)), rights())
+    # Numbers as in rule sheets: padded ones too.
+    padded = rights("005 00000 0063 see")
+    yield rows_shown("one", "1 0 B 0 2", "1 1 U 0 1", "1 3 A 0 1", "1 2 A 1 1"), show(two, padded)
+
+
+def shown_pairs():
+    """Two trees; the verdict is open to all."""
+    plain = check(checks.PLAIN, *row(3))
+    yield rows_shown("two", "1 0 C 0 3", "2 0 C 0 3"), show(plain, rights())
+    # They part beneath a closed node: what stands behind it is as in the first tree.
+    behind = check(PARTING, *row(2))
+    alike = ["0 B 0 2", "1 C 0 1", "2 A 1 1"]
+    both = [f"{tree} {line}" for tree in (1, 2) for line in alike]
+    yield rows_shown("two", *both), show(behind, rights("5 0 0 see", "5 2 3 see"))
+    # They part in what is seen; then all of the second is as it is.
+    first = ["1 0 B 0 2", "1 1 U 0 1", "1 3 C 0 1", "1 2 C 1 1"]
+    second = ["2 0 B 0 2", "2 1 A 0 1", "2 2 C 1 1"]
+    yield rows_shown("two", *first, *second), show(behind, rights("5 0 1 see"))
+    # A closed node before the parting one has a single tree, so the seeking goes on.
+    later = check("0 B 1 2 none / 1 U 3 - none / 3 A 0 - none / 2 A 0 - none / 2 U 3 - none", *row(2))
+    first = ["1 0 B 0 2", "1 1 C 0 1", "1 2 A 1 1"]
+    second = ["2 0 B 0 2", "2 1 C 0 1", "2 2 U 1 1", "2 3 C 1 1"]
+    yield rows_shown("two", *first, *second), show(later, rights("5 0 0 see", "5 2 2 see"))
+
+
+def few_shown():
+    """22 counts the rows shown: trees far past 4,096 rows, closed or not."""
+    for answer, text in checks.far_too_many_rows():
+        yield None, show(text, rights())
+        yield None, show(text, ALL)
+    long = check(f"0 U 1 - none / {FULL}")
+    yield rows_shown("one", "1 0 C 0 0"), show(long, rights())
+    yield rows_shown("one", "1 0 U 0 0", "1 1 C 0 0"), show(long, rights("5 0 0 see", "5 2 63 see"))
+    yield "refused-22 0\n", show(long, ALL)
+
+
+def bad_rights():
+    """(line, rights sheet): all that 50 is for."""
+    yield 1, b""
+    yield 1, b"user low high may"
+    yield 1, b"user low high may\r\n"
+    yield 1, b"user low high\n"
+    for line in ("5 0 0", "5 0 0 see ", " 5 0 0 see", "5  0 0 see", "5 0 0 sees", "5 0 0 See", "5 0 0 change see",
+                 "5 0 0 none", "", "5 - 0 see", "5 0 - see", "a 0 0 see", "000005 0 0 see", "5 0 000000 see",
+                 "16 0 0 see", "5 0 64 see", "5 64 64 see", "5 64 63 see", "5 1 0 see", "5 0 0 see\r", "5 0 0 "):
+        yield 2, rights(line)
+        yield 3, rights("5 0 0 see", line, "16 0 0 see")
+    yield 2, rights("5 0 0 see")[:-1]
+    yield 130, rights(*["5 0 0 see"] * 128, "5 0 0 seen")
+
+
+def refused_shows():
+    good = check(NESTED, *row(2))
+    for line, granted in bad_rights():
+        yield f"refused-50 {line}\n", show(good, granted)
+    yield rows_shown("one", "1 0 B 0 2", "1 1 C 0 1", "1 2 C 1 1"), show(good, rights(*["5 0 0 see"] * 300))
+    # The rule sheet and the token sheet come before the rights sheet.
+    for number, (answer, text) in enumerate(checks.refused_sheets()):
+        if number % 4 == 0:
+            yield answer + "\n", show(text, b"")
+
+
+def change(text, rule, lay, granted=rights("5 0 63 change"), user=5):
+    """`change` of these rules."""
+    return case("change", checks.rule_sheet(text), granted, lay.encode(), user=user, rule=rule)
+
+
+def given(text):
+    return "given 0\n" + checks.rule_sheet(text).decode()
+
+
+CHANGED = "0 B 1 2 none / 1 U 2 - offside / 2 A 0 7 none / 2 A 8 - none / 3 E - - none"
+
+
+def changes():
+    lines = CHANGED.split(" / ")
+    for rule, allowed in ((1, "none align indent"), (2, "none offside offalign single"), (3, "none"), (4, "none"), (5, "none")):
+        for lay in base.ALL_LAYS:
+            new = list(lines)
+            new[rule - 1] = " ".join([*lines[rule - 1].split(" ")[:4], lay])
+            made = given(" / ".join(new)) if lay in allowed.split(" ") else f"refused-4 {rule + 1}\n"
+            yield made, change(CHANGED, rule, lay)
+    # Padded numbers stay as written.
+    yield given("000 B 01 002 align / 1 A 007 - none / 2 A 00 0063 none"), change("000 B 01 002 none / 1 A 007 - none / 2 A 00 0063 none", 1, "align")
+    # 128 rules, the last of them changed.
+    many = " / ".join(["0 U 1 - none", *[f"{name} A {2 * term} {2 * term + 1} none" for name in range(1, 5) for term in range(32)]][:128])
+    yield given(many), change(many, 128, "none")
+
+
+def refused_changes():
+    # No word of lay: 2 in the rule's line, whatever else the bytes hold.
+    for lay in ("", " ", "None", "none ", " none", "none none", "nonee", "non", "none\n", "none\n9 E - - none",
+                "align\n0 A 9 - none\n1 U 1 - none", "offside\r", "-", "\n"):
+        yield "refused-2 2\n", change(CHANGED, 1, lay)
+        yield "refused-2 5\n", change(CHANGED, 4, lay)
+        yield "refused-51 0\n", change(CHANGED, 1, lay, rights("5 1 63 change"))
+    # 51: no such rule, or not the user's to change.
+    for rule in (0, 6, 7, 128, 129, 99_999):
+        yield "refused-51 0\n", change(CHANGED, rule, "none")
+        yield "refused-51 0\n", change(CHANGED, rule, "?")
+    for granted in (rights(), rights("5 0 63 see"), rights("4 0 63 change"), rights("5 0 0 change", "5 2 63 change"),
+                    rights("5 0 63 see", "5 2 63 change")):
+        yield "refused-51 0\n", change(CHANGED, 2, "single", granted)
+        yield "refused-51 0\n", change(CHANGED, 2, "align", granted)
+    yield "refused-51 0\n", change(CHANGED, 2, "single", rights("0 0 63 change", "15 0 63 change"), user=16)
+    yield given(CHANGED.replace("offside", "single")), change(CHANGED, 2, "single", rights("5 0 0 change", "5 1 1 change", "5 1 1 see"))
+    yield given(CHANGED.replace("offside", "single")), change(CHANGED, 2, "single", rights("15 1 1 change"), user=15)
+    # 50 before 51, and the rule sheet before both.
+    for line, granted in bad_rights():
+        yield f"refused-50 {line}\n", change(CHANGED, 0, "?", granted)
+    for number, (answer, text) in enumerate(checks.refused_sheets()):
+        rules = base.parted(text)[0]
+        if number % 3 == 0 and base.read_rules(rules)[0] == "refused":
+            yield answer + "\n", case("change", rules, b"", b"?", user=5, rule=0)
+
+
+def random_rights(draw, names):
+    lines = []
+    for _ in range(draw.randint(0, 5)):
+        low, high = sorted(draw.choices(range(names + 1), k=2))
+        lines.append(f"{draw.choice((5, 5, 5, 7))} {low} {high} {draw.choice(('see', 'see', 'change'))}")
+    return rights(*lines)
+
+
+def random_tours(count):
+    """`show` and `change` of sheets drawn by chance."""
+    draw = random.Random(12)
+    for text in checks.random_inputs(count):
+        sheets = base.parted(text)
+        granted = random_rights(draw, 6)
+        yield case("show", *sheets, granted, user=5)
+        rule = draw.randint(0, len(sheets[0].split(b"\n")))
+        lay = draw.choice([*base.ALL_LAYS, "", "aligned"]).encode()
+        yield case("change", sheets[0], granted, lay, user=5, rule=rule)
+
+
 def meant():
     """(how the output goes on, or None; case)"""
     for made in (
@@ -207,6 +387,12 @@ def meant():
         empty_places(),
         many_places(),
         refused_places(),
+        shown_trees(),
+        shown_pairs(),
+        few_shown(),
+        refused_shows(),
+        changes(),
+        refused_changes(),
     ):
         yield from made
 
@@ -220,3 +406,4 @@ def cases():
                 yield call(text)
         for text in checks.random_inputs(100):
             yield call(text)
+    yield from random_tours(150)

@@ -11,6 +11,7 @@ import places
 import rows
 import selftest
 import teplonga as base
+import tours
 from selftest import CHECKED, same
 
 
@@ -99,6 +100,71 @@ def places_of_sentence(rules, sheets, tokens, table):
     same("places", places.places_call(*sheets, short, lent), ("refused-21", 0, 0, short, lent))
 
 
+# ------------------------------------------------ request 12: a shared tour
+
+def covered(rows, sees):
+    """Rows in walking order with those beneath closed ones left out: a row's tree is the
+    least run of rows after it that closes all its children."""
+    shown, place = b"", 0
+    while place < len(rows):
+        name, kind, start, length = rows[place : place + 4]
+        if name in sees:
+            shown += rows[place : place + 4]
+            place += 4
+            continue
+        shown += bytes([name, 4, start, length])
+        waiting = 1
+        while waiting:
+            waiting += (0, 0, 1, 2)[rows[place + 1]] - 1
+            place += 4
+    return shown
+
+
+def show_of_sentence(draw, rules, sheets, tokens, table):
+    trees = selftest.first_and_second(rules, table.get((0, 0, len(tokens)), set()))
+    sees = {name for name in range(8) if draw.random() < 0.6}
+    lines = [f"3 {name} {name} {draw.choice(('see', 'change'))}" for name in sees] + ["4 0 63 change"]
+    draw.shuffle(lines)
+    rights = b"".join(line.encode() + b"\n" for line in ("user low high may", *lines))
+    shown = [b"" if tree is None else covered(selftest.second_rows(tree), sees) for tree in trees]
+    words = [9] * base.words_needed(len(tokens))
+    answer, _, after = base.verdict_call(*sheets, words)
+    lent = [b"\x05" * (len(rows) + spare) for rows, spare in zip(shown, (0, 3))]
+    got = tours.show_call(*sheets, rights, 3, words, *lent)
+    same("show", got[:5], (answer, 0, len(shown[0]) // 4, len(shown[1]) // 4, after))
+    same("show", got[5:], (shown[0], shown[1] + bytes(3)))
+    everything = tours.show_call(*sheets, rights, 4, words, bytes(400), bytes(400))
+    same("all open", everything, base.trees_call(*sheets, words, bytes(400), bytes(400)))
+    for place, rows in enumerate(shown):
+        if rows:
+            fewer = list(lent)
+            fewer[place] = bytes(len(rows) - 1)
+            same("show", tours.show_call(*sheets, rights, 3, words, *fewer)[0], "refused-22")
+
+
+def change_of_sheet(draw, rules, sheets, tokens):
+    """Stricter marks: in the place of `none` they never lead to more trees."""
+    rights = b"user low high may\n3 0 63 change\n"
+    place = draw.randrange(len(rules))
+    lay = draw.choice(base.ALL_LAYS).encode()
+    room = b"\x05" * (len(sheets[0]) + 8)
+    answer, line, count, made = tours.change_call(sheets[0], rights, 3, place + 1, lay, room)
+    kinds = {"U": "none offside offalign single", "B": "none align indent"}
+    allowed = kinds.get(base.read_rules(sheets[0])[1][place].kind, "none").encode().split()
+    if lay not in allowed:
+        same("change", (answer, line, count, made), ("refused-4", place + 2, 0, room))
+        return
+    lines = sheets[0].split(b"\n")
+    was = lines[place + 1].rsplit(b" ", 1)
+    lines[place + 1] = was[0] + b" " + lay
+    wanted = b"\n".join(lines)
+    same("change", (answer, line, made), ("given", 0, wanted + bytes(len(room) - len(wanted))))
+    if was[1] == b"none":
+        before = base.verdict_call(*sheets, [0] * base.words_needed(len(tokens)))[0]
+        later = base.verdict_call(made[:count], sheets[1], [0] * base.words_needed(len(tokens)))[0]
+        same("stricter", (before, later) in (("none", "one"), ("none", "two"), ("one", "two")), False)
+
+
 def main():
     begun = time.time()
     told()
@@ -107,6 +173,9 @@ def main():
         seen[rows_of_sentence(rules, sheets, tokens, table)] += 1
         later_call(sheets, [0] * base.words_needed(len(tokens)))
         places_of_sentence(rules, sheets, tokens, table)
+        draw = random.Random(len(CHECKED) + sum(CHECKED.values()))
+        show_of_sentence(draw, rules, sheets, tokens, table)
+        change_of_sheet(draw, rules, sheets, tokens)
     for topic, count in CHECKED.items():
         print(f"{topic}: {count}")
     print("sentences:", ", ".join(f"{name} {count}" for name, count in seen.items()))

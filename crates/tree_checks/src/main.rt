@@ -1,11 +1,41 @@
-// Runs the calls on one sentence's trees on each case of standard input and writes their outputs one after the other.
+// Runs the calls on one sentence's trees and those on a shared tour on each case of standard input and writes their outputs one after the other.
 use cases::five;
 use cases::next_case;
 use libc::STDOUT_FILENO;
 use text_trees::places_text;
 use text_trees::rows_text;
+use tour_text::change_text;
+use tour_text::show_text;
 ghost use Prim.Native.Nat.{_≤_};
 ghost use lib.ListN.{length};
+
+// The output of `show`: a rule sheet, a token sheet and a rights sheet, which end at a, at b and where the case does.
+fn show(case: &[u8], a: usize, b: usize, out: &mut [u8]) -> usize
+    requires { ⌜ (26 ≤ a) × (a ≤ b) × (b ≤ length (now case)) ⌝ }
+    requires { ⌜ 262144 ≤ length (now out) ⌝ }
+    ensures { λ r. ⌜ r ≤ length (now (out .exit)) ⌝ }
+{
+    let user = five(case, 2);
+    show_text(&case[26..a], &case[a..b], &case[b..], user as u32, out)
+}
+
+// The output of `change`: a rule sheet, a rights sheet and the new mark.
+fn change(case: &[u8], a: usize, b: usize, out: &mut [u8]) -> usize
+    requires { ⌜ (26 ≤ a) × (a ≤ b) × (b ≤ length (now case)) ⌝ }
+    requires { ⌜ 262144 ≤ length (now out) ⌝ }
+    ensures { λ r. ⌜ r ≤ length (now (out .exit)) ⌝ }
+{
+    let user = five(case, 2);
+    let rule = five(case, 8);
+    change_text(
+        &case[26..a],
+        &case[a..b],
+        user as u32,
+        rule as u32,
+        &case[b..],
+        out,
+    )
+}
 
 // A case is the call's letter, the user, the rule and the lengths of the first two parts, five digits each, then three parts.
 // Its output, and the output's length.
@@ -26,6 +56,12 @@ fn output(case: &[u8], out: &mut [u8]) -> usize
     }
     if case[0] == b'p' {
         return places_text(&case[26..a], &case[a..b], out);
+    }
+    if case[0] == b's' {
+        return show(case, a, b, out);
+    }
+    if case[0] == b'c' {
+        return change(case, a, b, out);
     }
     0
 }

@@ -82,8 +82,32 @@ same-length-2 c = search needs
 returns-4 : tie.Need-returns-4
 returns-4 c = printed-within (c .before .before .places-text .ensures)
 
+shared-slice-read-if5 : tie.Need-shared-slice-read-if5
+shared-slice-read-if5 c = search needs
+
+show-requires : tie.Need-show-requires
+show-requires c κs = search needs
+
+same-length-3 : tie.Need-same-length-3
+same-length-3 c = search needs
+
 returns-5 : tie.Need-returns-5
 returns-5 c = search needs
+
+shared-slice-read-if6 : tie.Need-shared-slice-read-if6
+shared-slice-read-if6 c = search needs
+
+change-requires : tie.Need-change-requires
+change-requires c κs = search needs
+
+same-length-4 : tie.Need-same-length-4
+same-length-4 c = search needs
+
+returns-6 : tie.Need-returns-6
+returns-6 c = search needs
+
+returns-7 : tie.Need-returns-7
+returns-7 c = search needs
 
 pub output-spec : {M : Type 1} → statement M
 output-spec =
@@ -115,4 +139,12 @@ output-spec =
     places-text-requires
     same-length-2
     returns-4
-    returns-5)
+    shared-slice-read-if5
+    show-requires
+    same-length-3
+    returns-5
+    shared-slice-read-if6
+    change-requires
+    same-length-4
+    returns-6
+    returns-7)
