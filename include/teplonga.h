@@ -1,8 +1,8 @@
 /*
  * Teplonga's calls for C and C++, on x86-64 Linux.
  *
- * Link: `rt staticlib face`, `rt staticlib face_trees` (row counts and places) and `rt staticlib
- * face_clauses` (clause sheets) prove the libraries and write target/staticlib/libface.a and so on;
+ * Link: `rt staticlib NAME` proves a library and writes target/staticlib/libNAME.a, where NAME is
+ * face, face_trees (rows and places), face_clauses (clause sheets) or face_tours (show and change);
  * a program takes those that have the functions that it calls, and nothing else:
  *
  *     cc -I include program.c target/staticlib/libface.a target/staticlib/libface_trees.a
@@ -102,6 +102,12 @@ enum {
     /* 15, each token line: not after the token before: an earlier line, or the same line and a
      * column before that token's column plus width */
     TEPLONGA_TOKEN_ORDER = 115,
+    /* 50, each rights line: the names are not `user low high may`, or a line is not three numbers
+     * of one to five digits and `see` or `change`, parted by one blank each and ended by byte 10;
+     * a user above 15; a range above 63 or reversed */
+    TEPLONGA_RIGHTS = 150,
+    /* 51, change: the user may not change that rule, or there is no such rule */
+    TEPLONGA_NO_RIGHT = 151,
     /* 23, sweep: the bound is not 1 to 7 */
     TEPLONGA_BAD_BOUND = 123,
     /* 24, sweep: the sweep is too large: `T^k * 3^(k-1) * k^k` is above 4,294,967,296 */
@@ -124,7 +130,10 @@ enum {
 /* The words that the span sheet of n tokens needs: 1 + n(n+1)/2 pairs. */
 #define TEPLONGA_WORDS(n) (2 + (size_t)(n) * ((size_t)(n) + 1))
 
-/* The bytes of a tree row: nonterminal, kind (0 E, 1 A, 2 U, 3 B), start, length. */
+/*
+ * The bytes of a tree row: nonterminal, kind (0 E, 1 A, 2 U, 3 B; 4 C, a closed node, of teplonga_show
+ * alone), start, length.
+ */
 #define TEPLONGA_ROW 4
 
 /* The bytes of a place in a list: nonterminal, start, length. */
@@ -216,6 +225,42 @@ uint64_t teplonga_sweep(const uint8_t *rules, size_t rules_length,
                         size_t bound,
                         uint64_t *words, size_t words_length,
                         uint64_t *found, size_t found_length);
+
+/*
+ * The verdict and the trees as a user may see them: none, one or two, or refused 1 to 8, 44, 11 to 15,
+ * 47, 50, 21 or 22.
+ *
+ * The rights sheet says which nonterminals the user may see. A node outside them is one row of kind
+ * 4 with its nonterminal, start and length, and nothing beneath it. 22 and `counts` go by the rows
+ * shown; for `two` both memories are filled, even where they are alike. All else is as with
+ * teplonga_trees. A user above 15 may see nothing.
+ */
+uint64_t teplonga_show(const uint8_t *rules, size_t rules_length,
+                       const uint8_t *tokens, size_t tokens_length,
+                       const uint8_t *rights, size_t rights_length,
+                       size_t user,
+                       uint64_t *words, size_t words_length,
+                       uint8_t *first, size_t first_length,
+                       uint8_t *second, size_t second_length,
+                       uint64_t *counts, size_t counts_length);
+
+/*
+ * The rule sheet with another mark in the rule at a place, counted from 1: given, or refused 1 to 8,
+ * 44, 50, 51, then 2 or 4 in that rule's line, or 22.
+ *
+ * `lay` are the bytes of the new mark. The changed sheet stands at the front of `bytes`, and all bytes
+ * after it are 0; only that mark differs from `rules`. Every refusal but 22 changes no byte. 22 says
+ * that the sheet does not fit, and leaves all of `bytes` 0.
+ *
+ * `count` gets the number of the sheet's bytes, 0 on a refusal; words past it never change.
+ */
+uint64_t teplonga_change(const uint8_t *rules, size_t rules_length,
+                         const uint8_t *rights, size_t rights_length,
+                         size_t user,
+                         size_t rule,
+                         const uint8_t *lay, size_t lay_length,
+                         uint8_t *bytes, size_t bytes_length,
+                         uint64_t *count, size_t count_length);
 
 /* A part of a sheet: bytes of the sheet itself, not a copy of them. */
 typedef struct teplonga_part {

@@ -4,7 +4,7 @@
 use std::path::{Path, PathBuf};
 
 /// The crates that export C functions.
-const LIBRARIES: [&str; 3] = ["face", "face_trees", "face_clauses"];
+const LIBRARIES: [&str; 4] = ["face", "face_trees", "face_clauses", "face_tours"];
 
 fn main() {
     let package = std::env::var("CARGO_MANIFEST_DIR").expect("set by cargo");

@@ -219,6 +219,17 @@ def token_order_fault(lines, at):
     return line.field(1 if value(line.fields[1]) < value(before.fields[1]) else 2)
 
 
+def right_fault(line):
+    def wrong(i, field):
+        if i == 3:
+            return field not in (b"see", b"change")
+        return not is_number(field) or over(15 if i == 0 else 63)(field)
+
+    span = line.first(wrong, 4)
+    # a line without a fault has its range reversed
+    return line.field(2) if line.ended and len(line.fields) == 4 and span == line.end() else span
+
+
 def fault(number, sheet, lines, at):
     """Where the fault is in the refused line, and another line that it is about; nothing where that is not known."""
     line = lines[at]
@@ -249,6 +260,8 @@ def fault(number, sheet, lines, at):
         return line.field(3), None
     if number == 15:
         return token_order_fault(lines, at), at - 1
+    if number == 50:
+        return right_fault(line) if at else names_fault(sheet, line), None
     return None, None
 
 

@@ -342,6 +342,72 @@ static void clauses(void)
     CHECK(line.at == c.at && line.length == 0);
 }
 
+/* ---------------------------------------------------------------- shared tour */
+
+#define RIGHTS "user low high may\n"
+#define NESTED RULE_NAMES "0 B 1 2 none\n1 U 3 - none\n2 A 0 - none\n3 A 0 - none\n"
+#define TWO TOKEN_NAMES "0 1 1\n0 1 2\n"
+
+/* A call for the trees shown to user 5, lent as many words as two or three tokens need. */
+static uint64_t show(const char *rules, const char *tokens, const char *rights, size_t n, size_t one, size_t two, struct trees *lent)
+{
+    struct sheet r = sheet(rules), t = sheet(tokens), g = sheet(rights);
+
+    *lent = (struct trees){ words(n, 7), bytes(one, 7), bytes(two, 7), words(3, 7) };
+    return teplonga_show(r.at, r.length, t.at, t.length, g.at, g.length, 5, lent->words, n, lent->first, one, lent->second, two, lent->counts, 3);
+}
+
+static void shown(void)
+{
+    static const uint8_t open[16] = { 0, 3, 0, 2, 1, 2, 0, 1, 3, 1, 0, 1, 2, 1, 1, 1 };
+    static const uint8_t closed[12] = { 0, 3, 0, 2, 1, 4, 0, 1, 2, 1, 1, 1 };
+    struct trees lent;
+
+    CHECK(show(NESTED, TWO, RIGHTS "5 0 63 see\n", 8, 17, 2, &lent) == coded(TEPLONGA_ONE, 0));
+    CHECK(memcmp(lent.first, open, 16) == 0 && lent.first[16] == 0 && all_bytes(lent.second, 2, 0));
+    CHECK(lent.counts[0] == 4 && lent.counts[1] == 0 && lent.counts[2] == 7);
+    CHECK(show(NESTED, TWO, RIGHTS "5 0 0 see\n5 2 3 change\n4 1 1 see\n", 8, 12, 0, &lent) == coded(TEPLONGA_ONE, 0));
+    CHECK(memcmp(lent.first, closed, 12) == 0 && lent.counts[0] == 3);
+    /* 22 goes by the rows shown */
+    CHECK(show(NESTED, TWO, RIGHTS "5 0 0 see\n5 2 3 see\n", 8, 11, 4, &lent) == coded(TEPLONGA_FEW_ROWS, 0));
+    CHECK(all_bytes(lent.first, 11, 0) && all_bytes(lent.second, 4, 0) && all_words(lent.counts, 2, 0));
+    /* both trees, even where they are shown alike */
+    CHECK(show(PLAIN, THREE, RIGHTS, 14, 4, 4, &lent) == coded(TEPLONGA_TWO, 0));
+    CHECK(memcmp(lent.first, "\0\4\0\3", 4) == 0 && memcmp(lent.second, "\0\4\0\3", 4) == 0);
+    CHECK(memcmp(lent.words, SPANS, sizeof SPANS) == 0);
+    CHECK(show(PLAIN, THREE, RIGHTS "16 0 0 see\n", 14, 4, 4, &lent) == coded(TEPLONGA_RIGHTS, 2));
+    CHECK(all_words(lent.words, 14, 7) && all_bytes(lent.first, 4, 7) && all_bytes(lent.second, 4, 7) && all_words(lent.counts, 2, 0));
+}
+
+/* A change by user 5 with so many bytes, all of them 7 before it, and two words for their number. */
+static uint64_t change(const char *rights, size_t rule, const char *lay, size_t n, uint8_t **lent, uint64_t **count)
+{
+    struct sheet r = sheet(PLAIN), g = sheet(rights), l = sheet(lay);
+
+    *lent = bytes(n, 7);
+    *count = words(2, 7);
+    return teplonga_change(r.at, r.length, g.at, g.length, 5, rule, l.at, l.length, *lent, n, *count, 2);
+}
+
+static void changed(void)
+{
+    static const char made[] = RULE_NAMES "0 B 0 0 align\n0 A 0 - none\n";
+    size_t length = sizeof made - 1;
+    uint8_t *lent;
+    uint64_t *count;
+
+    CHECK(change(RIGHTS "5 0 0 change\n", 1, "align", length + 3, &lent, &count) == coded(TEPLONGA_GIVEN, 0));
+    CHECK(memcmp(lent, made, length) == 0 && all_bytes(lent + length, 3, 0) && count[0] == length && count[1] == 7);
+    CHECK(change(RIGHTS "5 0 0 change\n", 1, "align", length - 1, &lent, &count) == coded(TEPLONGA_FEW_ROWS, 0));
+    CHECK(all_bytes(lent, length - 1, 0) && count[0] == 0);
+    CHECK(change(RIGHTS "5 0 0 change\n", 2, "align", 9, &lent, &count) == coded(TEPLONGA_RULE_LAY, 3));
+    CHECK(change(RIGHTS "5 0 0 change\n", 2, "", 9, &lent, &count) == coded(TEPLONGA_RULE_FORM, 3));
+    CHECK(change(RIGHTS "5 0 0 see\n", 1, "", 9, &lent, &count) == coded(TEPLONGA_NO_RIGHT, 0));
+    CHECK(change(RIGHTS "5 0 0 change\n", 3, "", 9, &lent, &count) == coded(TEPLONGA_NO_RIGHT, 0));
+    CHECK(change("", 3, "", 9, &lent, &count) == coded(TEPLONGA_RIGHTS, 1));
+    CHECK(all_bytes(lent, 9, 7) && count[0] == 0);
+}
+
 /* ---------------------------------------------------------------------- sweep */
 
 static uint64_t sweep(const char *rules, size_t bound, size_t n, size_t places, uint64_t **lent, uint64_t **found)
@@ -541,6 +607,8 @@ int main(int count, char **arguments)
         row_counts();
         all_places();
         clauses();
+        shown();
+        changed();
         sweeps();
         refused_lines();
     }

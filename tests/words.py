@@ -120,7 +120,8 @@ class Words(unittest.TestCase):
 
     def test_every_number_is_reached(self):
         # the programs lend words enough, so 21 is said of no input
-        self.assertEqual({number for number, *_ in CASES} | {21}, set(MEANING))
+        # 50 and 51 are those of a shared tour, which these programs know nothing of
+        self.assertEqual({number for number, *_ in CASES} | {21, 50, 51}, set(MEANING))
         self.assertEqual(words.explained("checker", "refused-21", 0, b""), [f"refused-21: {MEANING[21]}"])
 
     def test_the_sheets_of_calls(self):
@@ -132,6 +133,14 @@ class Words(unittest.TestCase):
         for number in (2, 4):
             said = [f"refused-{number}, rule sheet, line 3: {MEANING[number]}", "    0 A 0 - none", "            ^^^^"]
             self.assertEqual(words.explained("calls", f"refused-{number}", 3, change), said)
+
+    def test_the_rights_sheet(self):
+        for line, mark in (("16 0 0 see", "^^"), ("5 0 64 see", "    ^^"), ("5 2 1 see", "    ^"), ("5 0 1 sees", "      ^^^^"), ("5 0", "   ^")):
+            show = f"call user\nshow 5\n\n{PLAIN}\n{TOKENS}\nuser low high may\n{line}\n"
+            said = [f"refused-50, rights sheet, line 2: {MEANING[50]}", f"    {line}", f"    {mark}"]
+            self.assertEqual(words.explained("calls", "refused-50", 2, show.encode()), said)
+        change = b"call user rule lay\nchange 5 9 none\n\n" + PLAIN.encode() + b"\nuser low high may\n"
+        self.assertEqual(words.explained("calls", "refused-51", 0, change), [f"refused-51: {MEANING[51]}"])
 
     def test_a_line_that_is_not_there_leaves_the_sentence(self):
         ended = subprocess.run(["python3", TOP / "scripts" / "words.py", "checker", "refused-3", "9"], input=b"x\n\n", capture_output=True, check=True)

@@ -10,6 +10,8 @@
 //! | [`trees`] | besides, the rows of the first and the second tree |
 //! | [`rows`] | the verdict, and how many rows each tree has |
 //! | [`places`] | the verdict, and all places at which the readings part |
+//! | [`show`] | the verdict, and the rows of both trees as a user may see them |
+//! | [`change`] | a rule sheet with a mark that a user may change |
 //! | [`sweep`] | the first short sentence that has two trees, or clear |
 //! | [`refused_line`] | the refused line itself, as a part of its sheet |
 //! | [`clauses`] | a module: verdict, trees, sweep and refused line of clause sheets, and the rule sheet that one expands to |
@@ -41,12 +43,15 @@ mod c;
 #[allow(unsafe_code)]
 mod c_clauses;
 #[allow(unsafe_code)]
+mod c_tours;
+#[allow(unsafe_code)]
 mod c_trees;
 pub mod clauses;
 mod place;
 mod refusal;
 mod row_count;
 mod sentence;
+mod sheet;
 mod tree;
 
 pub use answer::{Answer, Reply};
@@ -54,6 +59,7 @@ pub use place::{Place, Places, PlacesReply, PLACE};
 pub use refusal::{Refusal, Refused};
 pub use row_count::{RowCount, RowsReply};
 pub use sentence::{Column, Line, SweepReply, Token};
+pub use sheet::SheetReply;
 pub use tree::{Kind, Row, Rows, TreesReply};
 
 /// The most rules of a rule sheet.
@@ -175,6 +181,63 @@ pub fn places<'a>(
 ) -> PlacesReply<'a> {
     let (word, count) = c_trees::places(rules, tokens, words, list);
     PlacesReply::unpacked(word, count, list)
+}
+
+/// The verdict, and the rows of both trees as a user may see them.
+///
+/// The rights sheet says which nonterminals the user may see. A node outside
+/// them is one row of [`Kind::Closed`], with nothing beneath it; refused-22 goes
+/// by the rows shown. All else is as with [`trees`].
+///
+/// ```
+/// use teplonga::{show, words_for, Kind};
+///
+/// let rules = b"left kind first second lay\n0 B 0 0 none\n0 A 0 - none\n";
+/// let tokens = b"term line col\n0 1 1\n0 1 2\n0 1 3\n";
+/// let rights = b"user low high may\n5 1 63 see\n";
+/// let mut words = vec![0; words_for(3)];
+/// let (mut first, mut second) = ([0; 4], [0; 4]);
+/// let sheets = [rules.as_slice(), tokens, rights];
+/// let reply = show(sheets, 5, &mut words, &mut first, &mut second);
+/// assert_eq!(reply.answer.to_string(), "two");
+/// assert!(reply.first.chain(reply.second).all(|row| row.kind == Kind::Closed));
+/// ```
+pub fn show<'a>(
+    sheets: [&[u8]; 3],
+    user: usize,
+    words: &mut [u64],
+    first: &'a mut [u8],
+    second: &'a mut [u8],
+) -> TreesReply<'a> {
+    let (word, counts) = c_tours::show(sheets, user, words, first, second);
+    TreesReply::unpacked(word, counts, first, second)
+}
+
+/// The rule sheet with the bytes `lay` as the mark of the rule at a place,
+/// counted from 1, if the user may change that rule.
+///
+/// The sheet stands at the front of `bytes`, with 0 after it. One that does not
+/// fit is refused-22, and all of `bytes` is 0.
+///
+/// ```
+/// use teplonga::change;
+///
+/// let rules = b"left kind first second lay\n0 B 0 0 none\n0 A 0 - none\n";
+/// let rights = b"user low high may\n5 0 0 change\n";
+/// let mut bytes = [0; 100];
+/// let reply = change(rules, rights, 5, 1, b"align", &mut bytes);
+/// assert_eq!(reply.sheet, b"left kind first second lay\n0 B 0 0 align\n0 A 0 - none\n");
+/// ```
+pub fn change<'a>(
+    rules: &[u8],
+    rights: &[u8],
+    user: usize,
+    rule: usize,
+    lay: &[u8],
+    bytes: &'a mut [u8],
+) -> SheetReply<'a> {
+    let (word, count) = c_tours::change(rules, rights, user, rule, lay, bytes);
+    SheetReply::unpacked(word, count, bytes)
 }
 
 /// The first candidate of 1 to `bound` tokens that has two trees, or clear.

@@ -56,6 +56,13 @@ pub enum Refusal {
     /// 15, each token line: not after the token before: an earlier line, or the
     /// same line and a column before that token's column plus width.
     TokenOrder = 15,
+    /// 50, each rights line: the names are not `user low high may`, or a line is
+    /// not three numbers of one to five digits and `see` or `change`, parted by one
+    /// blank each and ended by byte 10; a user above 15; a range above 63 or
+    /// reversed.
+    Rights = 50,
+    /// 51, change: the user may not change that rule, or there is no such rule.
+    NoRight = 51,
     /// 23, sweep: the bound is not 1 to 7.
     BadBound = 23,
     /// 24, sweep: the sweep is too large: `T^k * 3^(k-1) * k^k` is above
@@ -72,7 +79,7 @@ pub enum Refusal {
 
 impl Refusal {
     /// All refusals, in the order in which calls look.
-    pub const ALL: [Refusal; 22] = [
+    pub const ALL: [Refusal; 24] = [
         Refusal::RuleNames,
         Refusal::RuleMany,
         Refusal::RuleForm,
@@ -91,6 +98,8 @@ impl Refusal {
         Refusal::TokenRange,
         Refusal::TokenWidth,
         Refusal::TokenOrder,
+        Refusal::Rights,
+        Refusal::NoRight,
         Refusal::BadBound,
         Refusal::ManyCandidates,
         Refusal::FewWords,
@@ -137,6 +146,10 @@ impl Refusal {
             Refusal::TokenOrder => {
                 "not after the token before: an earlier line, or the same line and a column before that token's column plus width"
             }
+            Refusal::Rights => {
+                "the names are not `user low high may`, or a line is not three numbers of one to five digits and `see` or `change`, parted by one blank each and ended by byte 10; a user above 15; a range above 63 or reversed"
+            }
+            Refusal::NoRight => "the user may not change that rule, or there is no such rule",
             Refusal::BadBound => "the bound is not 1 to 7",
             Refusal::ManyCandidates => {
                 "the sweep is too large: `T^k * 3^(k-1) * k^k` is above 4,294,967,296"

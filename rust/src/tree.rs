@@ -14,6 +14,8 @@ pub enum Kind {
     Unary = 2,
     /// A binary node, `B`.
     Binary = 3,
+    /// A node that is closed to the user, `C`; of [`show`](crate::show) alone.
+    Closed = 4,
 }
 
 impl Kind {
@@ -23,11 +25,12 @@ impl Kind {
             1 => Kind::Atom,
             2 => Kind::Unary,
             3 => Kind::Binary,
+            4 => Kind::Closed,
             _ => unreachable!("no kind has the number {number}"),
         }
     }
 
-    /// The kind's letter in a rule sheet.
+    /// The kind's letter, as in a rule sheet.
     #[must_use]
     pub fn letter(self) -> char {
         match self {
@@ -35,6 +38,7 @@ impl Kind {
             Kind::Atom => 'A',
             Kind::Unary => 'U',
             Kind::Binary => 'B',
+            Kind::Closed => 'C',
         }
     }
 }
@@ -80,7 +84,7 @@ impl Iterator for Rows<'_> {
 
 impl ExactSizeIterator for Rows<'_> {}
 
-/// What [`trees`](crate::trees) answers. The rows lie in the lent memory.
+/// What [`trees`](crate::trees) and [`show`](crate::show) answer. The rows lie in the lent memory.
 #[derive(Clone, Debug)]
 #[must_use]
 pub struct TreesReply<'a> {
