@@ -1,74 +1,54 @@
+-- `marked` meets its contract: 2 and 4 by the new mark's bytes and the rule's clause, else the changed sheet.
 use borrow.Author.Needs.{needs}
 use mathlib.Core.Path.{_≡_, refl, sym, ap, _∙_}
 use Rattle.call_tours.proofs.Changes.{done-form, done-lay, done-listed}
 use Rattle.call_tours.proofs.marked.Statement.{statement}
 use Rattle.call_tours.proofs.marked.Tie as tie
-use Rattle.call_tours.proofs.marked.Reads as reads
-use Rattle.call_tours.proofs.marked.Lts as lts
-use Rattle.changing.proofs.lay_fits.Reads as lay-fits-reads
-use Rattle.changing.proofs.put_changed.Reads as put-changed-reads
-use Rattle.fields.proofs.lay_word.Reads as lay-word-reads
-use Rattle.teplonga.proofs.list_reply.Reads as list-reply-reads
-use Rattle.call_tours.proofs.refuse.Reads as refuse-reads
 
--- src/lib.rt:184:11
 lay-word-requires : tie.Need-lay-word-requires
 lay-word-requires c κs = search needs
 
--- src/lib.rt:185:32
 enum-told : tie.Need-enum-told
 enum-told c = search needs
 
--- src/lib.rt:185:49
 add-refuse : tie.Need-add-refuse
 add-refuse c = search needs
 
--- src/lib.rt:185:25
 refuse-requires : tie.Need-refuse-requires
 refuse-requires c κs = search needs
 
--- src/lib.rt:186:21
 enum-known-y : tie.Need-enum-known-y
 enum-known-y c = search needs
 
--- src/lib.rt:187:16
 lay-fits-requires : tie.Need-lay-fits-requires
 lay-fits-requires c κs = search needs
 
--- src/lib.rt:188:37
 put-changed-requires : tie.Need-put-changed-requires
 put-changed-requires c κs = search needs
 
--- src/lib.rt:188:17
 list-reply-requires : tie.Need-list-reply-requires
 list-reply-requires c κs = search needs
 
--- src/lib.rt:188:17
 same-length : tie.Need-same-length
 same-length c = search needs
 
--- src/lib.rt:188:17
 returns : tie.Need-returns
 returns c =
     let z = c .before .before .before .before .before .before .before .before .before .before .before .before .before .before in
     let y = c .before .before .before .before .before .before .before .before .y .given in
     rw (c .list-reply .ensures) (done-listed (z .args .rules .now) (z .args .rule) (z .args .c) (z .pre .0) (z .args .lay .now) (y .0 .0) (sym (y .1) ∙ c .before .before .before .before .before .before .before .before .before .before .lay-word .ensures) (sym (c .before .before .before .before .before .before .lay-fits .ensures) ∙ c .before .before .before .before .before .if1 .taken) _ _ _ (c .before .before .before .put-changed .ensures))
 
--- src/lib.rt:190:36
 add-refuse-2 : tie.Need-add-refuse-2
 add-refuse-2 c = search needs
 
--- src/lib.rt:190:13
 refuse-requires-2 : tie.Need-refuse-requires-2
 refuse-requires-2 c κs = search needs
 
--- src/lib.rt:179:1
 returns-2 : tie.Need-returns-2
 returns-2 c =
     let z = c .before .before .before .before .before .before .before in
     rw (c .refuse .ensures) (done-form (z .args .rules .now) (z .args .rule) (z .args .c) (z .pre .0) (z .args .lay .now) (sym (c .before .enum-told .given .1) ∙ c .before .before .before .lay-word .ensures) _)
 
--- src/lib.rt:179:1
 returns-3 : tie.Need-returns-3
 returns-3 c =
     let z = c .before .before .before .before .before .before .before .before .before .before in

@@ -1,3 +1,4 @@
+-- `show` meets its contract: the rule sheet, the token sheet, the rights sheet, then the trees.
 use borrow.Author.Needs.{needs}
 use mathlib.Core.Path.{_≡_, refl, sym, ap, _∙_}
 use Rattle.rights.specs.RightSheets.{rightsSheet}
@@ -6,101 +7,74 @@ use Rattle.teplonga.proofs.Readings.{refused-rules, refused-tokens, both-accept
 use Rattle.call_tours.proofs.Showing.{rights-not, rights-are, by-sees}
 use Rattle.call_tours.proofs.show.Statement.{statement}
 use Rattle.call_tours.proofs.show.Tie as tie
-use Rattle.call_tours.proofs.show.Reads as reads
-use Rattle.call_tours.proofs.show.Lts as lts
-use Rattle.rights.proofs.read_rights.Reads as read-rights-reads
-use Rattle.call_tours.proofs.refused_trees.Reads as refused-trees-reads
-use Rattle.call_tours.proofs.shown_to.Reads as shown-to-reads
-use Rattle.sheets.proofs.read_rules.Reads as read-rules-reads
-use Rattle.sheets.proofs.read_tokens.Reads as read-tokens-reads
 
--- src/lib.rt:129:9
 read-rules-requires : tie.Need-read-rules-requires
 read-rules-requires c κs = search needs
 
--- src/lib.rt:132:26
 enum-known-o : tie.Need-enum-known-o
 enum-known-o c = search needs
 
--- src/lib.rt:132:35
 refused-trees-requires : tie.Need-refused-trees-requires
 refused-trees-requires c κs = search needs
 
--- src/lib.rt:134:17
 enum-told : tie.Need-enum-told
 enum-told c = search needs
 
--- src/lib.rt:134:17
 read-tokens-requires : tie.Need-read-tokens-requires
 read-tokens-requires c κs = search needs
 
--- src/lib.rt:137:34
 enum-known-p : tie.Need-enum-known-p
 enum-known-p c = search needs
 
--- src/lib.rt:137:43
 refused-trees-requires-2 : tie.Need-refused-trees-requires-2
 refused-trees-requires-2 c κs = search needs
 
--- src/lib.rt:139:25
 enum-told-2 : tie.Need-enum-told-2
 enum-told-2 c = search needs
 
--- src/lib.rt:139:25
 read-rights-requires : tie.Need-read-rights-requires
 read-rights-requires c κs = search needs
 
--- src/lib.rt:142:42
 enum-known-q : tie.Need-enum-known-q
 enum-known-q c = search needs
 
--- src/lib.rt:142:51
 refused-trees-requires-3 : tie.Need-refused-trees-requires-3
 refused-trees-requires-3 c κs = search needs
 
--- src/lib.rt:144:33
 enum-told-3 : tie.Need-enum-told-3
 enum-told-3 c = search needs
 
--- src/lib.rt:146:29
 shown-to-requires : tie.Need-shown-to-requires
 shown-to-requires c κs =
     let r = c .before .before .before .before .before .before .before .before .before .before .before .before .before .read-rules .ensures in
     let e = c .before .before .before .before .before .before .before .before .before .before .before .enum-told .given .1 in
     (r .formed e, (c .before .before .before .before .before .before .before .before .before .before .read-tokens .ensures .positioned (c .before .before .before .before .before .before .before .before .enum-told2 .given .1), r .acyclic e))
 
--- src/lib.rt:118:1
 returns : tie.Need-returns
 returns c =
     let z = c .before .before .before .before .before .before .before .before .before .before .before .args in
     refusing (refused-rules (z .tokens .now) (c .before .before .before .before .read-rules .ensures) (c .before .before .o .given .1)) (c .refused-trees .ensures) refl refl refl
 
--- src/lib.rt:118:1
 returns-2 : tie.Need-returns-2
 returns-2 c =
     let z = c .before .before .before .before .before .before .before .before .before .before .before .before .before .before .args in
     refusing (refused-tokens (z .tokens .now) (c .before .before .before .before .before .before .before .read-rules .ensures) (c .before .before .before .before .before .enum-told .given .1) (c .before .before .before .before .read-tokens .ensures) (c .before .before .p .given .1)) (c .refused-trees2 .ensures) refl refl refl
 
--- src/lib.rt:118:1
 returns-3 : tie.Need-returns-3
 returns-3 c =
     let z = c .before .before .before .before .before .before .before .before .before .before .before .before .before .before .before .before .before .args in
     barring (both-accepted (z .tokens .now) (c .before .before .before .before .before .before .before .before .before .before .read-rules .ensures) (c .before .before .before .before .before .before .before .before .enum-told .given .1) (c .before .before .before .before .before .before .before .read-tokens .ensures) (c .before .before .before .before .before .enum-told2 .given .1))
     (rights-not (rightsSheet (z .rights .now)) (z .user) _ (c .before .before .before .before .read-rights .ensures) (c .before .before .q .given .1)) (c .refused-trees3 .ensures) refl refl refl
 
--- src/lib.rt:118:1
 same-length : tie.Need-same-length
 same-length c = search needs
 
--- src/lib.rt:118:1
 same-length-2 : tie.Need-same-length-2
 same-length-2 c = search needs
 
--- src/lib.rt:118:1
 same-length-3 : tie.Need-same-length-3
 same-length-3 c = search needs
 
--- src/lib.rt:118:1
 returns-4 : tie.Need-returns-4
 returns-4 c =
     let z = c .before .before .before .before .before .before .before .before .before .before .before .before .before .before .before .before .before .before .before .before .before .before .before .before .before .before .before .args in
