@@ -145,8 +145,14 @@ enum {
 /* What stands in `counts` for more rows than 4,294,967,295. */
 #define TEPLONGA_MORE ((uint64_t)1 << 32)
 
-/* The places of `found`: the sentence's length, then terminal, line and column of seven tokens, each of width 1. */
-#define TEPLONGA_FOUND 22
+/*
+ * The places of `found`: the sentence's length, then terminal, line and column of seven tokens, each
+ * of width 1, then how many candidates were tried.
+ */
+#define TEPLONGA_FOUND 23
+
+/* The place of that number in `found`. */
+#define TEPLONGA_TRIED 22
 
 /*
  * The verdict: none, one or two valid trees of nonterminal 0, or refused 1 to 8, 44, 11 to 15, 47 or 21.
@@ -218,8 +224,10 @@ uint64_t teplonga_places(const uint8_t *rules, size_t rules_length,
  * no word. Words past the span sheet never change.
  *
  * `found` gets the first candidate that has two trees: its length, then its tokens, and 0 in the
- * places past it. On `clear` or a refusal all 22 places are 0; places past these never change, and
- * fewer than 22 are left as they were.
+ * places past it; on `clear` or a refusal those 22 places are 0. Place 22 gets how many candidates
+ * were tried: all of 1 to `bound` tokens and of the lengths that nonterminal 0 can have when all
+ * marks are ignored, or those up to and with the found one; 0 on a refusal. Places past these 23
+ * never change, and fewer than 23 are left as they were.
  */
 uint64_t teplonga_sweep(const uint8_t *rules, size_t rules_length,
                         size_t bound,

@@ -419,24 +419,24 @@ static uint64_t sweep(const char *rules, size_t bound, size_t n, size_t places, 
     return teplonga_sweep(r.at, r.length, bound, *lent, n, *found, places);
 }
 
-static void found(const char *rules, const uint64_t *tokens)
+static void found(const char *rules, const uint64_t *tokens, uint64_t tried)
 {
     uint64_t *lent, *answer;
 
-    CHECK(sweep(rules, 3, 16, 24, &lent, &answer) == coded(TEPLONGA_TWO, 0));
+    CHECK(sweep(rules, 3, 16, 25, &lent, &answer) == coded(TEPLONGA_TWO, 0));
     CHECK(all_words(lent, 14, 0) && all_words(lent + 14, 2, 7));
     CHECK(answer[0] == 3 && memcmp(answer + 1, tokens, 9 * sizeof *tokens) == 0);
-    CHECK(all_words(answer + 10, 12, 0) && all_words(answer + 22, 2, 7));
+    CHECK(all_words(answer + 10, 12, 0) && answer[TEPLONGA_TRIED] == tried && all_words(answer + 23, 2, 7));
 }
 
-/* Not found: all places 0, and the words as they are to be. */
-static void not_found(uint64_t answer_wanted, const char *rules, size_t bound, size_t n, size_t zeros)
+/* Not found: the sentence's places 0, so many candidates tried, and the words as they are to be. */
+static void not_found(uint64_t answer_wanted, const char *rules, size_t bound, size_t n, size_t zeros, uint64_t tried)
 {
     uint64_t *lent, *answer;
 
-    CHECK(sweep(rules, bound, n, 22, &lent, &answer) == answer_wanted);
+    CHECK(sweep(rules, bound, n, TEPLONGA_FOUND, &lent, &answer) == answer_wanted);
     CHECK(all_words(lent, zeros, 0) && all_words(lent + zeros, n - zeros, 7));
-    CHECK(all_words(answer, 22, 0));
+    CHECK(all_words(answer, 22, 0) && answer[TEPLONGA_TRIED] == tried);
 }
 
 static void sweeps(void)
@@ -444,24 +444,26 @@ static void sweeps(void)
     uint64_t *lent, *answer;
     char *many = calloc(1, 2000);
 
-    found(PLAIN, (uint64_t[]){ 0, 1, 1, 0, 1, 2, 0, 1, 3 });
-    found(RULE_NAMES "0 B 0 0 align\n0 A 0 - none\n", (uint64_t[]){ 0, 1, 1, 0, 2, 1, 0, 3, 1 });
-    found(RULE_NAMES "0 B 0 0 indent\n0 A 0 - none\n", (uint64_t[]){ 0, 1, 1, 0, 2, 2, 0, 3, 3 });
-    not_found(coded(TEPLONGA_CLEAR, 0), PLAIN, 2, 9, 8);
-    not_found(coded(TEPLONGA_FEW_WORDS, 0), PLAIN, 3, 13, 0);
-    not_found(coded(TEPLONGA_BAD_BOUND, 0), PLAIN, 0, 60, 0);
-    not_found(coded(TEPLONGA_BAD_BOUND, 0), PLAIN, TEPLONGA_MOST_BOUND + 1, 60, 0);
-    not_found(coded(TEPLONGA_BAD_BOUND, 0), PLAIN, (size_t)-1, 60, 0);
-    not_found(coded(TEPLONGA_RULE_TWICE, 4), PLAIN "0 A 0 - none\n", 9, 60, 0);
+    found(PLAIN, (uint64_t[]){ 0, 1, 1, 0, 1, 2, 0, 1, 3 }, 11);
+    found(RULE_NAMES "0 B 0 0 align\n0 A 0 - none\n", (uint64_t[]){ 0, 1, 1, 0, 2, 1, 0, 3, 1 }, 26);
+    found(RULE_NAMES "0 B 0 0 indent\n0 A 0 - none\n", (uint64_t[]){ 0, 1, 1, 0, 2, 2, 0, 3, 3 }, 35);
+    not_found(coded(TEPLONGA_CLEAR, 0), PLAIN, 2, 9, 8, 10);
+    /* lengths 1 and 3 are passed over */
+    not_found(coded(TEPLONGA_CLEAR, 0), RULE_NAMES "0 B 1 1 none\n1 A 0 - none\n", 3, 14, 14, 9);
+    not_found(coded(TEPLONGA_FEW_WORDS, 0), PLAIN, 3, 13, 0, 0);
+    not_found(coded(TEPLONGA_BAD_BOUND, 0), PLAIN, 0, 60, 0, 0);
+    not_found(coded(TEPLONGA_BAD_BOUND, 0), PLAIN, TEPLONGA_MOST_BOUND + 1, 60, 0, 0);
+    not_found(coded(TEPLONGA_BAD_BOUND, 0), PLAIN, (size_t)-1, 60, 0, 0);
+    not_found(coded(TEPLONGA_RULE_TWICE, 4), PLAIN "0 A 0 - none\n", 9, 60, 0, 0);
     /* T = 7 is taken at 5 tokens, T = 8 is not */
     strcpy(many, RULE_NAMES "0 U 1 - none\n1 A 0 - none\n0 A 0 6 none\n");
-    CHECK(sweep(many, 5, 32, 22, &lent, &answer) == coded(TEPLONGA_TWO, 0));
-    CHECK(answer[0] == 1 && answer[1] == 0 && answer[2] == 1 && answer[3] == 1);
+    CHECK(sweep(many, 5, 32, TEPLONGA_FOUND, &lent, &answer) == coded(TEPLONGA_TWO, 0));
+    CHECK(answer[0] == 1 && answer[1] == 0 && answer[2] == 1 && answer[3] == 1 && answer[TEPLONGA_TRIED] == 1);
     strcpy(many, RULE_NAMES "0 U 1 - none\n1 A 0 - none\n0 A 0 7 none\n");
-    not_found(coded(TEPLONGA_MANY_CANDIDATES, 0), many, 5, 32, 0);
-    /* fewer than 22 places are left as they were */
-    CHECK(sweep(PLAIN, 3, 14, 21, &lent, &answer) == coded(TEPLONGA_TWO, 0));
-    CHECK(all_words(answer, 21, 7));
+    not_found(coded(TEPLONGA_MANY_CANDIDATES, 0), many, 5, 32, 0, 0);
+    /* fewer than 23 places are left as they were */
+    CHECK(sweep(PLAIN, 3, 14, 22, &lent, &answer) == coded(TEPLONGA_TWO, 0));
+    CHECK(all_words(answer, 22, 7));
     free(many);
 }
 

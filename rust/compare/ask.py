@@ -89,12 +89,12 @@ def line(calls, rules, tokens):
 
 
 def sweep(calls, rules, bound, words, salt):
-    answer, line, sentence, after = calls.sweep_call(
+    answer, line, sentence, tried, after = calls.sweep_call(
         bytes_of(rules), int(bound), lent_words(int(salt), int(words))
     )
     places = ["/".join(map(str, place)) for place in teplonga.token_places(sentence)]
     found = " ".join([str(len(sentence)), *places])
-    return f"{answer} {line} sentence {found} {shown_words(after)}"
+    return f"{answer} {line} sentence {found} tried {tried} {shown_words(after)}"
 
 
 def expand(sheet, size, salt):

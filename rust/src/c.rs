@@ -102,7 +102,8 @@ pub fn trees(
     (word, counts.map(|count: u64| count as usize))
 }
 
-/// The same for the sweep. `found` gets the sentence, if it has 22 words.
+/// The same for the sweep. `found` gets the sentence and how many candidates
+/// were tried, if it has 23 words.
 pub fn sweep(rules: &[u8], bound: usize, words: &mut [u64], found: &mut [u64]) -> u64 {
     // SAFETY: each pointer comes with its slice's length; `words` and `found`
     // are lent to this call alone, apart from each other.
@@ -148,7 +149,7 @@ mod tests {
 
     const RULES: &[u8] = b"left kind first second lay\n0 A 5 - none\n0 U 1 - none\n1 A 5 - none\n";
 
-    /// What 22 and more places of `found` hold after a sweep.
+    /// What `found` of so many places holds after a sweep.
     fn found_after(bound: usize, size: usize) -> Vec<u64> {
         let mut found = vec![9; size];
         sweep(RULES, bound, &mut [0; 4], &mut found);
@@ -158,16 +159,16 @@ mod tests {
     #[test]
     fn few_places_for_a_sentence_stay_as_they_are() {
         assert_eq!(found_after(1, 0), []);
-        assert_eq!(found_after(1, 21), [9; 21]);
+        assert_eq!(found_after(1, 22), [9; 22]);
     }
 
     #[test]
-    fn places_past_a_sentence_are_0_and_those_past_22_stay() {
-        let found = found_after(1, 24);
+    fn places_past_a_sentence_are_0_the_tried_are_counted_and_places_past_23_stay() {
+        let found = found_after(1, 25);
         assert_eq!(found[..4], [1, 5, 1, 1]);
         assert_eq!(found[4..22], [0; 18]);
-        assert_eq!(found[22..], [9; 2]);
-        assert_eq!(found_after(0, 23)[..22], [0; 22]);
+        assert_eq!(found[22..], [1, 9, 9]);
+        assert_eq!(found_after(0, 24), [vec![0; 23], vec![9]].concat());
     }
 
     #[test]

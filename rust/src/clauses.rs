@@ -3,7 +3,7 @@
 //! They promise of the rules that a clause sheet expands to what the calls of
 //! the same names promise of a rule sheet.
 
-use crate::{c_clauses, sentence, Answer, Refused, Reply, SweepReply, TreesReply};
+use crate::{c_clauses, sentence, Reply, SheetReply, SweepReply, TreesReply};
 
 /// The most bytes of an expanded rule sheet.
 pub const MOST_EXPANDED: usize = 4096;
@@ -41,25 +41,6 @@ pub fn sweep(clauses: &[u8], bound: usize, words: &mut [u64]) -> SweepReply {
     SweepReply::unpacked(word, &found)
 }
 
-/// What [`expand`] answers. The sheet lies in the lent bytes.
-#[derive(Clone, Debug)]
-#[must_use]
-pub struct Expanded<'a> {
-    /// Given, or a refusal.
-    pub answer: Answer,
-    /// The line, as in [`Reply`].
-    pub line: u32,
-    /// The bytes of the rule sheet; none where it is refused.
-    pub sheet: &'a [u8],
-}
-
-impl Expanded<'_> {
-    /// The answer, or a refusal as an error.
-    pub fn result(&self) -> Result<Answer, Refused> {
-        self.answer.result(self.line)
-    }
-}
-
 /// The rule sheet that a clause sheet expands to; [`MOST_EXPANDED`] bytes are
 /// enough for any.
 ///
@@ -73,10 +54,9 @@ impl Expanded<'_> {
 /// let rules = b"left kind first second lay\n0 U 1 - none\n1 U 2 - none\n2 A 5 - none\n";
 /// assert_eq!(expand(b"left clause\n0 t5\n", &mut lent).sheet, rules);
 /// ```
-pub fn expand<'a>(clauses: &[u8], sheet: &'a mut [u8]) -> Expanded<'a> {
+pub fn expand<'a>(clauses: &[u8], sheet: &'a mut [u8]) -> SheetReply<'a> {
     let (word, count) = c_clauses::expand(clauses, sheet);
-    let Reply { answer, line } = Reply::unpacked(word);
-    Expanded { answer, line, sheet: &sheet[..count] }
+    SheetReply::unpacked(word, count, sheet)
 }
 
 /// The line for which a call with these sheets is refused, as

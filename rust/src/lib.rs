@@ -256,6 +256,7 @@ pub fn change<'a>(
 /// let at = |column| Token { terminal: 0, line: Line(1), column: Column(column) };
 /// assert_eq!(reply.answer, Answer::Two);
 /// assert_eq!(reply.sentence(), [at(1), at(2), at(3)]);
+/// assert_eq!(reply.tried, 11);
 /// ```
 pub fn sweep(rules: &[u8], bound: usize, words: &mut [u64]) -> SweepReply {
     let mut found = [0; sentence::PLACES];

@@ -21,9 +21,10 @@ pub struct Token {
     pub column: Column,
 }
 
-/// The words in which the C function hands over a sentence: its length, then
-/// terminal, line and column of each place.
-pub(crate) const PLACES: usize = 1 + 3 * MOST_BOUND;
+/// The words in which the C function hands over what a sweep found: the
+/// sentence's length, then terminal, line and column of each place, then how
+/// many candidates were tried.
+pub(crate) const PLACES: usize = 2 + 3 * MOST_BOUND;
 
 /// What [`sweep`](crate::sweep) answers.
 #[derive(Clone, Copy, Debug, PartialEq, Eq)]
@@ -37,6 +38,10 @@ pub struct SweepReply {
     pub length: usize,
     /// The sentence's tokens; places past its length are 0.
     pub places: [Token; MOST_BOUND],
+    /// How many candidates were tried: all of 1 to `bound` tokens and of the
+    /// lengths that nonterminal 0 can have when all marks are ignored, or those
+    /// up to and with the found one; 0 where the sweep is refused.
+    pub tried: u64,
 }
 
 impl SweepReply {
@@ -54,10 +59,11 @@ impl SweepReply {
     pub(crate) fn unpacked(word: u64, found: &[u64; PLACES]) -> SweepReply {
         let Reply { answer, line } = Reply::unpacked(word);
         let mut places = [Token::default(); MOST_BOUND];
-        for (place, words) in places.iter_mut().zip(found[1..].chunks_exact(3)) {
+        for (place, words) in places.iter_mut().zip(found[1..PLACES - 1].chunks_exact(3)) {
             *place = token(words);
         }
-        SweepReply { answer, line, length: found[0] as usize, places }
+        let [length, .., tried] = *found;
+        SweepReply { answer, line, length: length as usize, places, tried }
     }
 }
 

@@ -2,7 +2,7 @@
 
 use crate::{Answer, Refused, Reply};
 
-/// What [`change`](crate::change) answers. The sheet lies in the lent bytes.
+/// What [`change`](crate::change) and [`expand`](crate::clauses::expand) answer. The sheet lies in the lent bytes.
 #[derive(Clone, Copy, Debug)]
 #[must_use]
 pub struct SheetReply<'a> {

@@ -178,6 +178,7 @@ fn sweep_answer(calls: &Calls, rules: &[u8], bound: usize, words: u64, salt: u64
     for Token { terminal, line, column } in reply.places {
         text = put(text, format_args!(" {terminal}/{}/{}", line.0, column.0));
     }
+    text = put(text, format_args!(" tried {}", reply.tried));
     format!("{text} {}{}", shown_words(words.part()), remark(words.sides_kept()))
 }
 
