@@ -11,6 +11,7 @@ import clauses
 import places
 import rows
 import teplonga as base
+import tours
 
 # the names and the word of a call; how many of its values are numbers, how many
 # values there are, how many sheets follow, and what answers them
@@ -20,6 +21,13 @@ CALLS = {
     (b"call", b"expand"): (0, 0, 1, clauses.expand_output),
     (b"call", b"rows"): (0, 0, 2, rows.rows_output),
     (b"call", b"places"): (0, 0, 2, places.places_output),
+    (b"call user", b"show"): (1, 1, 3, lambda user, rules, tokens, rights: tours.show_output(rules, tokens, rights, user)),
+    (b"call user rule lay", b"change"): (
+        2,
+        3,
+        2,
+        lambda user, rule, lay, rules, rights: tours.change_output(rules, rights, lay, user, rule),
+    ),
 }
 
 

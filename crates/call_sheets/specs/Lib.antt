@@ -1,2 +1,3 @@
 pub mod CallSheets
 pub mod OneField
+pub mod Inside

@@ -2,8 +2,8 @@
 use mathlib.Core.Path.{_≡_}
 use mathlib.Core.List.{List}
 use mathlib.Core.Option.{none, some}
-use Prim.Native.Nat.{ℕ, _≤_, _<_}
-use lib.ListN.{length}
+use Prim.Native.Nat.{ℕ, _-_, _≤_, _<_}
+use lib.ListN.{length, take, drop}
 use Rattle.call_sheets.specs.CallSheets.{callOf}
 use Rattle.call_sheets.specs.declared.Call.{Call}
 use Rattle.call_sheets.specs.declared.Call.the-variants as Call
@@ -15,6 +15,7 @@ use Rattle.text.specs.Output.{refusedText, head}
 use Rattle.text.specs.Programs.{longest, TreesText, SweepText}
 use Rattle.text_trees.specs.Places.{PlacesTextOf}
 use Rattle.text_trees.specs.Rows.{RowsTextOf}
+use Rattle.tour_text.specs.Texts.{ShowText, ChangeText}
 
 -- a call sheet not so written, or fewer sheets than the call has
 abbrev pub Unwritten : List ℕ → Type 0
@@ -25,25 +26,38 @@ pub data Two (Of : List ℕ → List ℕ → List ℕ → Type 0) (behind text :
   fewer : parts behind ≡ none → Unwritten text → Two Of behind text
   two : {p : Parts} → parts behind ≡ some p → Of (p .before) (p .behind) text → Two Of behind text
 
+-- a call on three sheets
+pub data Three (Of : List ℕ → List ℕ → List ℕ → List ℕ → Type 0) (behind text : List ℕ) : Type 0 where
+  fewer : parts behind ≡ none → Unwritten text → Three Of behind text
+  three : {p : Parts} → parts behind ≡ some p → Two (Of (p .before)) (p .behind) text → Three Of behind text
+
 -- `clauses`: the answer on a clause sheet and a token sheet, and its trees
 abbrev pub ClausesText : List ℕ → List ℕ → List ℕ → Type 0
 ClausesText clauses tokens text = TreesText (clauseSheets clauses tokens) text
 
--- the output of a call, from what follows its call sheet
-abbrev pub CallText : Call → List ℕ → List ℕ → Type 0
-CallText Call.Clauses behind text = Two ClausesText behind text
-CallText (Call.ClausesSweep k) behind text = SweepText k (clauseSheet behind) text
-CallText Call.Expand behind text = ExpandText behind text
-CallText Call.Rows behind text = Two RowsTextOf behind text
-CallText (Call.Share n p i) behind text = Unwritten text
-CallText Call.Columns behind text = Unwritten text
-CallText Call.Places behind text = Two PlacesTextOf behind text
-CallText (Call.Show u) behind text = Unwritten text
-CallText (Call.Change u r at) behind text = Unwritten text
-CallText Call.Not behind text = Unwritten text
+-- `show`: the answer on a rule sheet, a token sheet and a rights sheet, and its trees as the user may see them
+abbrev pub ShownText : ℕ → List ℕ → List ℕ → List ℕ → List ℕ → Type 0
+ShownText user rules tokens rights text = ShowText rules tokens rights user text
+
+-- `change`: a rule sheet with another mark; it stands in the call sheet from `at` to the last byte 10
+abbrev pub ChangedText : List ℕ → ℕ → ℕ → ℕ → List ℕ → List ℕ → List ℕ → Type 0
+ChangedText sheet user rule at rules rights text = ChangeText rules rights user rule (take (length sheet - 1 - at) (drop at sheet)) text
+
+-- the output of a call, from its call sheet, which has the new mark of a change, and what follows it
+abbrev pub CallText : List ℕ → Call → List ℕ → List ℕ → Type 0
+CallText sheet Call.Clauses behind text = Two ClausesText behind text
+CallText sheet (Call.ClausesSweep k) behind text = SweepText k (clauseSheet behind) text
+CallText sheet Call.Expand behind text = ExpandText behind text
+CallText sheet Call.Rows behind text = Two RowsTextOf behind text
+CallText sheet (Call.Share n p i) behind text = Unwritten text
+CallText sheet Call.Columns behind text = Unwritten text
+CallText sheet Call.Places behind text = Two PlacesTextOf behind text
+CallText sheet (Call.Show u) behind text = Three (ShownText u) behind text
+CallText sheet (Call.Change u r at) behind text = Two (ChangedText sheet u r at) behind text
+CallText sheet Call.Not behind text = Unwritten text
 
 -- the output: refused-31 for a longer input, refused-32 for one without an empty line, else that of the call
 pub data CallsOf (input text : List ℕ) : Type 0 where
   long : longest < length input → text ≡ head (refusedText 31) 0 → CallsOf input text
   whole : length input ≤ longest → parts input ≡ none → Unwritten text → CallsOf input text
-  called : {p : Parts} → length input ≤ longest → parts input ≡ some p → CallText (callOf (p .before)) (p .behind) text → CallsOf input text
+  called : {p : Parts} → length input ≤ longest → parts input ≡ some p → CallText (p .before) (callOf (p .before)) (p .behind) text → CallsOf input text

@@ -9,13 +9,16 @@ use text::parting;
 use text::put_refusal;
 use text_trees::places_text;
 use text_trees::rows_text;
+use tour_text::change_text;
+use tour_text::show_text;
 ghost use Prim.Native.Nat.{_+_, _≤_, _<_};
 ghost use lib.ListN.{length, take, drop};
 ghost use Rattle.call_sheets.specs.CallSheets.{callOf};
+ghost use Rattle.call_sheets.specs.Inside.{Inside};
 ghost use Rattle.text.specs.Printed.{Printed};
 ghost use Rattle.text_trees.specs.Rows.{RowsTextOf};
 ghost use Rattle.text_trees.specs.Places.{PlacesTextOf};
-ghost use Rattle.calling.specs.Calls.{Two, ClausesText, CallText, CallsOf};
+ghost use Rattle.calling.specs.Calls.{Two, Three, ClausesText, ShownText, ChangedText, CallText, CallsOf};
 
 // The call `clauses` on the two sheets that the first empty line parts.
 fn clauses_call(s: &[u8], out: &mut [u8]) -> usize
@@ -62,10 +65,58 @@ fn places_call(s: &[u8], out: &mut [u8]) -> usize
     }
 }
 
-// The answer to a call on what follows its call sheet.
-fn answer(call: Call, s: &[u8], out: &mut [u8]) -> usize
+// The call `show` on a rule sheet and the two sheets behind it, which the first empty line parts.
+fn shown_call(rules: &[u8], s: &[u8], user: u32, out: &mut [u8]) -> usize
     requires { ⌜ 262144 ≤ length (now out) ⌝ }
-    ensures { λ r. ⌜ Printed (CallText call) (now (s .entry)) (now (out .entry)) (now (out .exit)) r ⌝ }
+    ensures { λ r. ⌜ Printed (Two (ShownText user (now (rules .entry)))) (now (s .entry)) (now (out .entry)) (now (out .exit)) r ⌝ }
+{
+    let place = parting(s);
+    match place {
+        Place::Nowhere => put_refusal(out, 32),
+        Place::At(i) => {
+            let j = i + 1;
+            show_text(rules, &s[..i], &s[j..], user, out)
+        }
+    }
+}
+
+// The call `show` on the three sheets that the first two empty lines part.
+fn show_call(s: &[u8], user: u32, out: &mut [u8]) -> usize
+    requires { ⌜ 262144 ≤ length (now out) ⌝ }
+    ensures { λ r. ⌜ Printed (Three (ShownText user)) (now (s .entry)) (now (out .entry)) (now (out .exit)) r ⌝ }
+{
+    let place = parting(s);
+    match place {
+        Place::Nowhere => put_refusal(out, 32),
+        Place::At(i) => {
+            let j = i + 1;
+            shown_call(&s[..i], &s[j..], user, out)
+        }
+    }
+}
+
+// The call `change` on the two sheets that the first empty line parts; the new mark stands in the call sheet from `at` on.
+fn change_call(sheet: &[u8], s: &[u8], user: u32, rule: u32, at: usize, out: &mut [u8]) -> usize
+    requires { ⌜ 262144 ≤ length (now out) ⌝ }
+    requires { ⌜ at < length (now sheet) ⌝ }
+    ensures { λ r. ⌜ Printed (Two (ChangedText (now (sheet .entry)) user rule at)) (now (s .entry)) (now (out .entry)) (now (out .exit)) r ⌝ }
+{
+    let place = parting(s);
+    match place {
+        Place::Nowhere => put_refusal(out, 32),
+        Place::At(i) => {
+            let j = i + 1;
+            let end = sheet.len() - 1;
+            change_text(&s[..i], &s[j..], user, rule, &sheet[at..end], out)
+        }
+    }
+}
+
+// The answer to the call of a call sheet, on what follows it.
+fn answer(call: Call, sheet: &[u8], s: &[u8], out: &mut [u8]) -> usize
+    requires { ⌜ 262144 ≤ length (now out) ⌝ }
+    requires { ⌜ Inside (length (now sheet)) call ⌝ }
+    ensures { λ r. ⌜ Printed (CallText (now (sheet .entry)) call) (now (s .entry)) (now (out .entry)) (now (out .exit)) r ⌝ }
 {
     match call {
         Call::Clauses => clauses_call(s, out),
@@ -75,8 +126,8 @@ fn answer(call: Call, s: &[u8], out: &mut [u8]) -> usize
         Call::Share(_, _, _) => put_refusal(out, 32),
         Call::Columns => put_refusal(out, 32),
         Call::Places => places_call(s, out),
-        Call::Show(_) => put_refusal(out, 32),
-        Call::Change(_, _, _) => put_refusal(out, 32),
+        Call::Show(u) => show_call(s, u, out),
+        Call::Change(u, r, at) => change_call(sheet, s, u, r, at, out),
         Call::Not => put_refusal(out, 32),
     }
 }
@@ -85,11 +136,11 @@ fn answer(call: Call, s: &[u8], out: &mut [u8]) -> usize
 fn answer_at(input: &[u8], i: usize, out: &mut [u8]) -> usize
     requires { ⌜ i < length (now input) ⌝ }
     requires { ⌜ 262144 ≤ length (now out) ⌝ }
-    ensures { λ r. ⌜ Printed (CallText (callOf (take i (now (input .entry))))) (drop (i + 1) (now (input .entry))) (now (out .entry)) (now (out .exit)) r ⌝ }
+    ensures { λ r. ⌜ Printed (CallText (take i (now (input .entry))) (callOf (take i (now (input .entry))))) (drop (i + 1) (now (input .entry))) (now (out .entry)) (now (out .exit)) r ⌝ }
 {
     let j = i + 1;
     let call = call_of(&input[..i]);
-    answer(call, &input[j..], out)
+    answer(call, &input[..i], &input[j..], out)
 }
 
 // The whole output of the program `calls`; its length.

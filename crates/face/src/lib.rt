@@ -116,15 +116,6 @@ pub fn put_counts(counts: &mut [u64], first: usize, second: usize)
     }
 }
 
-// A number, where there is a lent word for it.
-pub fn put_one(lent: &mut [u64], n: usize)
-    ensures { λ r. ⌜ AtFront 1 (n ∷ []) (now (lent .entry)) (now (lent .exit)) ⌝ }
-{
-    if 1 <= lent.len() {
-        put_word(lent, 0, n as u64);
-    }
-}
-
 // The verdict: its code times 2^32 plus the line's number. The words get the span sheet.
 #[no_mangle]
 pub extern "C" fn teplonga_verdict(rules: &[u8], tokens: &[u8], words: &mut [u64]) -> u64

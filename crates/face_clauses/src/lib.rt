@@ -55,7 +55,7 @@ pub extern "C" fn teplonga_clause_sweep(
     let p = sweep(clauses, bound, words);
     let a = p.answer;
     let s = p.sentence;
-    put_found(found, s);
+    put_found(found, s, p.tried);
     pack(a, p.line)
 }
 

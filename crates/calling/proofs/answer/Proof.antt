@@ -47,23 +47,25 @@ enum-told-6 c = search needs
 places-call-requires : tie.Need-places-call-requires
 places-call-requires c κs = search needs
 
+enum-known-call-2 : tie.Need-enum-known-call-2
+enum-known-call-2 c = search needs
+
+show-call-requires : tie.Need-show-call-requires
+show-call-requires c κs = search needs
+
+enum-known-call-3 : tie.Need-enum-known-call-3
+enum-known-call-3 c = search needs
+
+change-call-requires : tie.Need-change-call-requires
+change-call-requires c κs =
+    let m = c .before .before in
+    (search needs, rw (m .call3 .given .1) at (m .before .before .before .before .before .pre .1))
+
 enum-told-7 : tie.Need-enum-told-7
 enum-told-7 c = search needs
 
 put-refusal-requires-3 : tie.Need-put-refusal-requires-3
 put-refusal-requires-3 c κs = search needs
-
-enum-told-8 : tie.Need-enum-told-8
-enum-told-8 c = search needs
-
-put-refusal-requires-4 : tie.Need-put-refusal-requires-4
-put-refusal-requires-4 c κs = search needs
-
-enum-told-9 : tie.Need-enum-told-9
-enum-told-9 c = search needs
-
-put-refusal-requires-5 : tie.Need-put-refusal-requires-5
-put-refusal-requires-5 c κs = search needs
 
 same-length : tie.Need-same-length
 same-length c = search needs
@@ -132,7 +134,8 @@ same-length-8 c = search needs
 returns-8 : tie.Need-returns-8
 returns-8 c =
     let z = c .before .before in
-    record { text = head (refusedText 32) 0; is = rw (z .before .before .enum-told7 .given .1) refl; wrote = z .put-refusal3 .ensures }
+    let a = z .show-call .ensures in
+    record { text = a .text; is = rw (z .before .before .before .call2 .given .1) (a .is); wrote = a .wrote }
 
 same-length-9 : tie.Need-same-length-9
 same-length-9 c = search needs
@@ -140,7 +143,8 @@ same-length-9 c = search needs
 returns-9 : tie.Need-returns-9
 returns-9 c =
     let z = c .before .before in
-    record { text = head (refusedText 32) 0; is = rw (z .before .before .enum-told8 .given .1) refl; wrote = z .put-refusal4 .ensures }
+    let a = z .change-call .ensures in
+    record { text = a .text; is = rw (z .before .before .before .call3 .given .1) (a .is); wrote = a .wrote }
 
 same-length-10 : tie.Need-same-length-10
 same-length-10 c = search needs
@@ -148,7 +152,7 @@ same-length-10 c = search needs
 returns-10 : tie.Need-returns-10
 returns-10 c =
     let z = c .before .before in
-    record { text = head (refusedText 32) 0; is = rw (z .before .before .enum-told9 .given .1) refl; wrote = z .put-refusal5 .ensures }
+    record { text = head (refusedText 32) 0; is = rw (z .before .before .enum-told7 .given .1) refl; wrote = z .put-refusal3 .ensures }
 
 pub answer-spec : {M : Type 1} → statement M
 answer-spec =
@@ -168,12 +172,12 @@ answer-spec =
     put-refusal-requires-2
     enum-told-6
     places-call-requires
+    enum-known-call-2
+    show-call-requires
+    enum-known-call-3
+    change-call-requires
     enum-told-7
     put-refusal-requires-3
-    enum-told-8
-    put-refusal-requires-4
-    enum-told-9
-    put-refusal-requires-5
     same-length
     returns
     same-length-2

@@ -4,6 +4,7 @@ use Prim.Native.Nat.{_+_, _-_}
 use native.Mathlib.Omega.{arith}
 use lib.ListN.{length, take, drop, length-drop}
 use lib.Seq.{length-take-le, take-all}
+use Rattle.call_sheets.proofs.Inside.{call-inside}
 use borrow.Author.Needs.{needs}
 use Rattle.calling.proofs.answer_at.Statement.{statement}
 use Rattle.calling.proofs.answer_at.Tie as tie
@@ -17,6 +18,9 @@ slice-aggregate-call-of c = sym (length-take-le _ _ (search needs))
 call-of-requires : tie.Need-call-of-requires
 call-of-requires c κs = search needs
 
+slice-aggregate-answer : tie.Need-slice-aggregate-answer
+slice-aggregate-answer c = sym (length-take-le _ _ (search needs))
+
 sub-answer : tie.Need-sub-answer
 sub-answer c = search needs
 
@@ -27,7 +31,10 @@ part-answer-end : tie.Need-part-answer-end
 part-answer-end c = search needs
 
 answer-requires : tie.Need-answer-requires
-answer-requires c κs = search needs
+answer-requires c κs =
+    let q = c .before .before .before in
+    let s = q .before .before .before .before .args in
+    (search needs, rw (← q .call-of .ensures) at (call-inside (take (s .i) (s .input .now))))
 
 same-length : tie.Need-same-length
 same-length c = search needs
@@ -35,7 +42,7 @@ same-length c = search needs
 returns : tie.Need-returns
 returns c =
     let z = c .before .before in
-    let q = z .before .before .before in
+    let q = z .before .before .before .before in
     let s = q .before .before .before .before .args in
     let n = s .i + 1 in
     let e : take (length (s .input .now) - n) (drop n (s .input .now)) ≡ drop n (s .input .now) =
@@ -49,6 +56,7 @@ answer-at-spec =
     add-j
     slice-aggregate-call-of
     call-of-requires
+    slice-aggregate-answer
     sub-answer
     part-answer-start
     part-answer-end

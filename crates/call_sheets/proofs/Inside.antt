@@ -1,0 +1,63 @@
+-- The new mark of a change begins within the call sheet.
+use mathlib.Core.Path.{_≡_, refl, subst}
+use mathlib.Core.Bool.{Bool, true, false, cond}
+use mathlib.Core.List.{List, [], _∷_}
+use mathlib.Core.Option.{Option, none, some}
+use Prim.Native.Nat.{ℕ, _+_, _-_, _≤_, _<_}
+use native.Mathlib.Omega.{arith}
+use borrow.Author.Tests.{leb-true}
+use lib.Dec.{leb}
+use lib.ListN.{length}
+use Rattle.fields.specs.Pieces.{pieces, sameBytes}
+use Rattle.fields.specs.Words.{numeralOf}
+use Rattle.fields.proofs.Fields.{with-holds, end-holds}
+use Rattle.call_sheets.specs.declared.Call.{Call}
+use Rattle.call_sheets.specs.declared.Call.the-variants as Call
+use Rattle.call_sheets.specs.Inside.{Inside}
+use Rattle.call_sheets.specs.CallSheets.{clausesSheet, expandSheet, rowsSheet, columnsSheet, placesSheet, boundStart, shareStart, showStart, changeStart, begins, values, withNumber, shareEnd, shareThird, shareSecond, shareCall, broken, changeEnd, changeSecond, changeCall, numberedCall, callOf}
+use Rattle.call_sheets.proofs.Laws.{begins-long}
+
+module _ (m : ℕ) where
+  either : (b : Bool) (x y : Call) → Inside m x → Inside m y → Inside m (cond b x y)
+  either true x y p q = p
+  either false x y p q = q
+
+  numbered : (o : Option ℕ) (k : ℕ → Call) → ((v : ℕ) → Inside m (k v)) → Inside m (withNumber o k)
+  numbered (some v) k h = h v
+  numbered none k h = tt
+
+  share-inside : (fs : List (List ℕ)) → Inside m (shareCall fs)
+  share-inside =
+      with-holds (Inside m) Call.Not tt numeralOf shareSecond
+      (λ n. with-holds (Inside m) Call.Not tt numeralOf (shareThird n)
+      (λ p. with-holds (Inside m) Call.Not tt numeralOf (shareEnd n p) (λ i. end-holds (Inside m) Call.Not tt (Call.Share n p i) tt)))
+
+  end-inside : 0 < m → (u r : ℕ) (fs : List (List ℕ)) → Inside m (changeEnd m u r fs)
+  end-inside h u r [] = tt
+  end-inside h u r (f ∷ []) = either (broken f) Call.Not (Call.Change u r (m - 1 - length f)) tt (omega arith)
+  end-inside h u r (f ∷ g ∷ fs) = tt
+
+  change-inside : 0 < m → (fs : List (List ℕ)) → Inside m (changeCall m fs)
+  change-inside h = with-holds (Inside m) Call.Not tt numeralOf (changeSecond m) (λ u. with-holds (Inside m) Call.Not tt numeralOf (changeEnd m u) (end-inside h u))
+
+numbered-inside : (s : List ℕ) → Inside (length s) (numberedCall s)
+numbered-inside s =
+    either m (begins boundStart s) (withNumber (numeralOf (values boundStart s)) Call.ClausesSweep) _ (numbered m (numeralOf (values boundStart s)) Call.ClausesSweep (λ v. tt))
+    (either m (begins showStart s) (withNumber (numeralOf (values showStart s)) Call.Show) _ (numbered m (numeralOf (values showStart s)) Call.Show (λ v. tt))
+    (either m (begins shareStart s) (shareCall (pieces 32 (values shareStart s))) _ (share-inside m (pieces 32 (values shareStart s)))
+    (go (begins changeStart s) refl)))
+  where
+    m : ℕ
+    m = length s
+
+    go : (b : Bool) → begins changeStart s ≡ b → Inside (length s) (cond b (changeCall (length s) (pieces 32 (values changeStart s))) Call.Not)
+    go true e = change-inside (length s) (omega (arith, begins-long changeStart s e)) (pieces 32 (values changeStart s))
+    go false e = tt
+
+pub call-inside : (s : List ℕ) → Inside (length s) (callOf s)
+call-inside s =
+    let m = length s in
+    either m (sameBytes s clausesSheet) Call.Clauses _ tt
+    (either m (sameBytes s expandSheet) Call.Expand _ tt
+    (either m (sameBytes s rowsSheet) Call.Rows _ tt
+    (either m (sameBytes s columnsSheet) Call.Columns _ tt (either m (sameBytes s placesSheet) Call.Places _ tt (numbered-inside s)))))
