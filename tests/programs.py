@@ -63,6 +63,9 @@ CALLS = [
     (["expand"], b"call\nexpand\n", CLAUSES),
     (["clauses-sweep", "3"], b"call bound\nclauses 3\n", CLAUSES),
     (["clauses-sweep", "00002"], b"call bound\nclauses 00002\n", CLAUSES),
+    (["show", "5"], b"call user\nshow 5\n", GOOD + b"\nuser low high may\n5 0 0 see\n"),
+    (["show", "16"], b"call user\nshow 16\n", GOOD + b"\nuser low high may\n5 0 0 see\n"),
+    (["change", "5", "1", "align"], b"call user rule lay\nchange 5 1 align\n", RULES + b"\nuser low high may\n5 0 63 change\n"),
 ]
 
 
@@ -93,6 +96,13 @@ class Calls(Room):
             data = (b"call\nrows\n\n" + GOOD).ljust(count, b"x")
             self.assertEqual(run(BUILT / "calls", data=data)[1], calls.calls_program(data))
 
+    def test_marks_of_a_change(self):
+        rights = b"\nuser low high may\n5 0 63 change\n"
+        for user, rule, lay in ((5, 1, ""), (5, 1, "foo"), (5, 2, "align"), (5, 3, "none"), (4, 1, "x"), (5, "00002", "none"), (5, 1, "a b")):
+            data = RULES + rights
+            output = calls.calls_program(f"call user rule lay\nchange {user} {rule} {lay}\n\n".encode() + data)
+            self.assertEqual(run(CALL, "change", user, rule, lay, data=data), (int(b"\nrefused-" in output), output, ""), (user, rule, lay))
+
     def test_check_and_sweep(self):
         self.assertEqual(run(CALL, "check", data=GOOD), (0, TWO, ""))
         self.assertEqual(run(CALL, "sweep", data=SWEPT), run(SWEEP, data=SWEPT))
@@ -102,7 +112,7 @@ class Calls(Room):
         self.assertEqual((status, errors), (0, ""))
         for words, _, _ in CALLS:
             self.assertIn(f"\n  {words[0]} ".encode(), out)
-        for words in (["no-such"], ["clauses-sweep"], ["clauses-sweep", "3\n\nleft"], ["--nope"]):
+        for words in (["no-such"], ["clauses-sweep"], ["clauses-sweep", "3\n\nleft"], ["change", "5", "1"], ["--nope"]):
             status, out, errors = run(CALL, *words)
             self.assertEqual((status, out), (2, b""), words)
             self.assertIn("usage: bin/teplonga", errors)
