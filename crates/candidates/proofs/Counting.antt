@@ -20,7 +20,7 @@ use Rattle.candidates.specs.Terminals.{Terminals, Counted}
 
 -- ---- `stands` says what `Terminal` says
 
-stands-terminal : (g : Rules) (a : ℕ) → stands g a ≡ true → Terminal g a
+pub stands-terminal : (g : Rules) (a : ℕ) → stands g a ≡ true → Terminal g a
 stands-terminal [] a e = absurd (true-not-false (sym e))
 stands-terminal (r ∷ g) a e = go (isAtom a (r .clause)) refl e (stands-terminal g a)
   where
@@ -28,7 +28,7 @@ stands-terminal (r ∷ g) a e = go (isAtom a (r .clause)) refl e (stands-termina
     go true p q ih = (r .left, has-atom r a (List·Memᴰ·head refl) p)
     go false p q ih = let t = ih q in (t .0, atom-over (λ s m. List·Memᴰ·tail m) (t .1))
 
-terminal-stands : (g : Rules) (a : ℕ) → Terminal g a → stands g a ≡ true
+pub terminal-stands : (g : Rules) (a : ℕ) → Terminal g a → stands g a ≡ true
 terminal-stands [] a t = absurd (List·Memᴰ·not-nil (t .1 .rule))
 terminal-stands (r ∷ g) a t =
     let h = t .1 in
@@ -62,7 +62,7 @@ module _ (g : Rules) (s : ℕ) (t : Terminals g s) where
   ones-digit (suc zero) h = refl
   ones-digit (suc (suc b)) h = absurd (omega arith)
 
-  ones-below : (n : ℕ) → ones (s % 2 ^ n) ≡ terminalsBelow g n
+  pub ones-below : (n : ℕ) → ones (s % 2 ^ n) ≡ terminalsBelow g n
   ones-below zero = rw (pow-zero 2, mod-one s) (ones-digit 0 (omega arith))
   ones-below (suc n) =
       ap (λ (z : ℕ). ones (s % 2 ^ z)) (let e : suc n ≡ 1 + n = omega arith in e)

@@ -28,15 +28,15 @@ up-below L x h = omega arith
 up-above : (L x : ℕ) → L ≤ x → up L x ≡ x - 1
 up-above L x h = omega arith
 
-abbrev lift : ℕ → Token → Token
+abbrev pub lift : ℕ → Token → Token
 lift L t = record { terminal = t .terminal; line = record { 0 = up L (line t) }; column = t .column; width = t .width }
 
 -- no token is on the line before L
-abbrev Clears : ℕ → Token → Type 0
+abbrev pub Clears : ℕ → Token → Type 0
 Clears L t = (line t + 2 ≤ L) ⊎ (L ≤ line t)
 
 -- the line of the token at p, the token before the first being on line l
-abbrev lineOf : ℕ → ℕ → List Cell → ℕ
+abbrev pub lineOf : ℕ → ℕ → List Cell → ℕ
 lineOf l p [] = l
 lineOf l zero (c ∷ cs) = l + c .step
 lineOf l (suc p) (c ∷ cs) = lineOf (l + c .step) p cs
@@ -46,12 +46,12 @@ abbrev pub TwoAt : ℕ → List Cell → Type 0
 TwoAt p cs = At (λ c. c .step ≡ 2) p cs
 
 -- with the step of the cell at p one less
-abbrev lower : ℕ → List Cell → List Cell
+abbrev pub lower : ℕ → List Cell → List Cell
 lower p [] = []
 lower zero (c ∷ cs) = record { terminal = c .terminal; step = c .step - 1; column = c .column } ∷ cs
 lower (suc p) (c ∷ cs) = c ∷ lower p cs
 
-line-two : (l p : ℕ) (cs : List Cell) → TwoAt p cs → l + 2 ≤ lineOf l p cs
+pub line-two : (l p : ℕ) (cs : List Cell) → TwoAt p cs → l + 2 ≤ lineOf l p cs
 line-two l p [] h = absurd h
 line-two l zero (c ∷ cs) h = omega arith
 line-two l (suc p) (c ∷ cs) h = omega (arith, line-two (l + c .step) p cs h)
@@ -62,7 +62,7 @@ lifted-rest L l (c ∷ cs) h k =
     let e : (l + c .step) - 1 ≡ (l - 1) + c .step = omega arith in
     ap₂ _∷_ (ap (λ (x : ℕ). token x c) (up-above L (l + c .step) (omega arith) ∙ e)) (lifted-rest L (l + c .step) cs (omega arith) k ∙ ap (λ (x : ℕ). placed x cs) e)
 
-lifted : (l p : ℕ) (cs : List Cell) → TwoAt p cs → map (lift (lineOf l p cs)) (placed l cs) ≡ placed l (lower p cs)
+pub lifted : (l p : ℕ) (cs : List Cell) → TwoAt p cs → map (lift (lineOf l p cs)) (placed l cs) ≡ placed l (lower p cs)
 lifted l p [] h = absurd h
 lifted l zero (c ∷ cs) h =
     let e : (l + c .step) - 1 ≡ l + (c .step - 1) = omega arith in
@@ -74,7 +74,7 @@ clears-rest : (L l : ℕ) (cs : List Cell) → L ≤ l → Every (Clears L) (pla
 clears-rest L l [] h = tt
 clears-rest L l (c ∷ cs) h = (inr (omega arith), clears-rest L (l + c .step) cs (omega arith))
 
-clears : (l p : ℕ) (cs : List Cell) → TwoAt p cs → Every (Clears (lineOf l p cs)) (placed l cs)
+pub clears : (l p : ℕ) (cs : List Cell) → TwoAt p cs → Every (Clears (lineOf l p cs)) (placed l cs)
 clears l p [] h = absurd h
 clears l zero (c ∷ cs) h = (inr (omega arith), clears-rest (l + c .step) (l + c .step) cs (omega arith))
 clears l (suc p) (c ∷ cs) h = (inl (line-two (l + c .step) p cs h), clears (l + c .step) p cs h)
@@ -99,7 +99,7 @@ up-at : (L : ℕ) (a : Token) → 1 ≤ L → Clears L a → Up L (line a) (up L
 up-at L a k (inl h) = inl (up-below L (line a) (omega arith), h)
 up-at L a k (inr h) = inr (up-above L (line a) h, h, k)
 
-lift-alike : (g : Rules) (L : ℕ) → 1 ≤ L → Alike g (Clears L) (lift L)
+pub lift-alike : (g : Rules) (L : ℕ) → 1 ≤ L → Alike g (Clears L) (lift L)
 lift-alike g L k = record {
   atoms = λ a p. same-atoms g a (lift L a) refl;
   keeps = λ a b p q. record {
@@ -108,19 +108,19 @@ lift-alike g L k = record {
   };
 }
 
-lower-fit : (Q : ℕ → Type 0) (n m k p : ℕ) (cs : List Cell) → TwoAt p cs → Fit Q n m k cs → Fit Q n m k (lower p cs)
+pub lower-fit : (Q : ℕ → Type 0) (n m k p : ℕ) (cs : List Cell) → TwoAt p cs → Fit Q n m k cs → Fit Q n m k (lower p cs)
 lower-fit Q n m k p [] h f = absurd h
 lower-fit Q n m k zero (c ∷ cs) h f =
     (record { ranged = record { terminal = f .0 .ranged .terminal; step = omega (arith, f .0 .ranged .step); low = f .0 .ranged .low; high = f .0 .ranged .high }; after = λ z. absurd (omega arith) }, f .1)
 lower-fit Q n m k (suc p) (c ∷ cs) h f = (f .0, lower-fit Q n 2 (c .column) p cs h (f .1))
 
-lower-long : (p : ℕ) (cs : List Cell) → length (lower p cs) ≡ length cs
+pub lower-long : (p : ℕ) (cs : List Cell) → length (lower p cs) ≡ length cs
 lower-long p [] = refl
 lower-long zero (c ∷ cs) = refl
 lower-long (suc p) (c ∷ cs) = ap suc (lower-long p cs)
 
 -- it comes before all that share its cells up to there
-lower-before : (p b : ℕ) (ds cs : List Cell) → p < b → Shares b ds cs → TwoAt p ds → Before (lower p ds) cs
+pub lower-before : (p b : ℕ) (ds cs : List Cell) → p < b → Shares b ds cs → TwoAt p ds → Before (lower p ds) cs
 lower-before p zero ds cs h e t = absurd (omega arith)
 lower-before p (suc b) [] cs h e t = absurd t
 lower-before p (suc b) (d ∷ ds) [] h e t = absurd (let z : suc (length (take b ds)) ≡ 0 = ap length e in omega arith)

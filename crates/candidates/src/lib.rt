@@ -287,7 +287,7 @@ impl Candidate {
     }
 
     // Is one of the first b cells in column j?
-    fn uses(self, b: usize, j: u16) -> bool
+    pub fn uses(self, b: usize, j: u16) -> bool
         requires { ⌜ b ≤ 7 ⌝ }
         ensures { λ r. ⌜ r ≡ used j (cells self 0 b) ⌝ }
     {

@@ -1,0 +1,48 @@
+-- Earlier candidates that read alike and keep some first cells. A search from the middle of the order on may pass over a candidate only
+-- where such a twin is not before the place where the search began.
+use mathlib.Core.Path.{_≡_}
+use mathlib.Core.Bool.{Bool, true, false, cond, not}
+use mathlib.Core.List.{List, [], _∷_}
+use Prim.Native.Nat.{ℕ, zero, suc, _+_}
+use Rattle.grammar.specs.declared.Cell.{Cell}
+use Rattle.grammar.specs.Trees.{Rules, TwoTrees}
+use Rattle.grammar.specs.Candidates.{Candidate, Before, sentence}
+use Rattle.candidates.specs.Terminals.{Among}
+use Rattle.candidates.specs.Succession.{Shares}
+use Rattle.candidates.specs.Skips.{used}
+use Rattle.candidates.proofs.Places.{At}
+
+-- a candidate before ds that shares its first p cells and has two trees
+pub record Twin (g : Rules) (s n p : ℕ) (ds : List Cell) : Type 0 where
+  pub cells : List Cell
+  pub candidate : Candidate (Among s) n cells
+  pub kept : Shares p cells ds
+  pub before : Before cells ds
+  pub two : TwoTrees g 0 (sentence cells)
+
+-- each candidate that shares cs's first b cells and has two trees has a twin that shares its first p cells
+pub record Replaceable (g : Rules) (s n b p : ℕ) (cs : List Cell) : Type 0 where
+  pub twin : (ds : List Cell) → Candidate (Among s) n ds → Shares b ds cs → TwoTrees g 0 (sentence ds) → Twin g s n p ds
+
+-- how many of the columns 1 to m the cells cs leave out right below a column of theirs that none of the cells hs is in;
+-- w: so it is of the column above m
+abbrev pub lacking : ℕ → Bool → List Cell → List Cell → ℕ
+lacking zero w hs cs = 0
+lacking (suc m) w hs cs = cond (used (suc m) cs) (lacking m (not (used (suc m) hs)) hs cs) (cond w 1 0 + lacking m w hs cs)
+
+-- the cell at q has the terminal x
+abbrev pub TerminalAt : ℕ → ℕ → List Cell → Type 0
+TerminalAt x q cs = At (λ c. c .terminal ≡ x) q cs
+
+-- kept is a part of the set s, and a candidate with another terminal of s at q that has two trees has a twin that shares its cells before q
+pub record Renames (g : Rules) (s kept : ℕ) : Type 0 where
+  pub part : (x : ℕ) → Among kept x → Among s x
+  pub twin : (n q x : ℕ) (ds : List Cell) → Candidate (Among s) n ds → Among s x → (Among kept x → ⊥) → TerminalAt x q ds → TwoTrees g 0 (sentence ds) → Twin g s n q ds
+
+-- each candidate that shares cs's first b cells has a twin in other positions, under every grammar and over every set
+pub record Slack (n b p : ℕ) (cs : List Cell) : Type 0 where
+  pub replaceable : (g : Rules) (s : ℕ) → Replaceable g s n b p cs
+
+-- or with another terminal, where `kept` has those that no smaller one replaces
+pub record Passable (s kept n b p : ℕ) (cs : List Cell) : Type 0 where
+  pub replaceable : (g : Rules) → Renames g s kept → Replaceable g s n b p cs
