@@ -25,7 +25,7 @@ use Rattle.chart.specs.Sheets.{Exact, Ready, Settles, Charted}
 use Rattle.chart.proofs.SheetLaws.{reads-second}
 use Rattle.chart.proofs.FillLaws.{first-kept, second-kept}
 use Rattle.chart.proofs.OpenLaws.{open-none, open-less}
-use Rattle.refuting.specs.Refuting.{terminalAt, Refuted, Standing, Loose, Poised, Tried, Below, Ended, Spent, Struck, Done}
+use Rattle.refuting.specs.Refuting.{terminalAt, Twinned, Standing, Loose, Poised, Tried, Below, Ended, Spent, Struck, Done}
 use Rattle.chart.specs.Leaves.{Leaf, Allows, LeafAt, May}
 use Rattle.refuting.specs.Tables.{Tabled, Laid}
 use Rattle.refuting.proofs.TableLaws.{among-cells, laid-empty, laid-leaf, laid-free}
@@ -34,15 +34,15 @@ use Rattle.refuting.proofs.WordLaws.{right-leaf, leaves-of, may-given, 
 
 module _ {g : Rules} {n i : ℕ} {cs : List Cell} where
   -- no fill
-  pub tried-out : {ws : List ℕ} → ((s : ℕ) → Refuted g s n (i + 1) (i + 1) cs) → Standing g n i cs ws → Tried true g n i cs ws ws
-  tried-out {ws} r st = record { out = λ e. r; stays = λ e. st; on = λ e. absurd (true-not-false e); past = past-same (2 * pairs n) ws }
+  pub tried-out : {hold : ℕ} {ws : List ℕ} → ((s : ℕ) → Twinned g s n hold (i + 1) (i + 1) cs) → Standing g n i cs ws → Tried true g n hold i cs ws ws
+  tried-out {hold} {ws} r st = record { out = λ e. r; stays = λ e. st; on = λ e. absurd (true-not-false e); past = past-same (2 * pairs n) ws }
 
   pub ready-draft : {ws : List ℕ} (d : Draft) → i < n → length cs ≡ n → drafted d ≡ sentence cs → d .count ≡ n → d .known ≡ i + 1 → Standing g n i cs ws → Ready g (half d) (d .count) ws i n
   ready-draft {ws} d h size e c k st = subst (λ (y : ℕ). Ready g (record { word = drafted d; known = y }) (d .count) ws i n) (sym k)
       (subst (λ (m : ℕ). Ready g (record { word = drafted d; known = i + 1 }) m ws i n) (sym c) (standing-ready h size e st))
 
-  pub tried-settled : {ws ws′ : List ℕ} {r : Bool} (d : Draft) → i < n → length cs ≡ n → drafted d ≡ sentence cs → d .count ≡ n → d .known ≡ i + 1 → Standing g n i cs ws → Settles r g (half d) (d .count) ws ws′ → Tried r g n i cs ws ws′
-  tried-settled {ws} {ws′} {r} d h size e c k st y = record {
+  pub tried-settled : {hold : ℕ} {ws ws′ : List ℕ} {r : Bool} (d : Draft) → i < n → length cs ≡ n → drafted d ≡ sentence cs → d .count ≡ n → d .known ≡ i + 1 → Standing g n i cs ws → Settles r g (half d) (d .count) ws ws′ → Tried r g n hold i cs ws ws′
+  tried-settled {hold} {ws} {ws′} {r} d h size e c k st y = record {
     out = λ q s. refuted-hopeless e size (z .none q) (λ a b u l. st .fixed a (omega arith) l) (λ a b l. absurd (omega arith));
     stays = λ q. standing-back h size on;
     on = λ q. on;
@@ -74,8 +74,8 @@ module _ {g : Rules} {n b : ℕ} {cs : List Cell} where
     beyond = open-none g n ws n (omega arith);
   })
 
-  pub spent : {r r₀ : Bool} {ws ws₁ ws₂ : List ℕ} (d : Draft) → r₀ ≡ false → drafted d ≡ sentence cs → d .count ≡ n → d .known ≡ b → Ended r₀ g n b cs ws ws₁ → Settles r g (half d) (d .count) ws₁ ws₂ → Spent false g n b cs ws ws₂
-  spent {r} {r₀} {ws} {ws₁} {ws₂} d no-more e c k q y =
+  pub spent : {hold : ℕ} {r r₀ : Bool} {ws ws₁ ws₂ : List ℕ} (d : Draft) → r₀ ≡ false → drafted d ≡ sentence cs → d .count ≡ n → d .known ≡ b → Ended r₀ g n hold b cs ws ws₁ → Settles r g (half d) (d .count) ws₁ ws₂ → Spent false g n hold b cs ws ws₂
+  spent {hold} {r} {r₀} {ws} {ws₁} {ws₂} d no-more e c k q y =
       let z = settles-at d c k y in
       record { out = λ u. q .out no-more; stays = λ u s. standing-poised e (q .stays no-more) (z .right) (z .beyond) (z .given); past = past-then (q .past) (z .past) }
 
@@ -93,7 +93,7 @@ module _ {g : Rules} {s n b j : ℕ} {cs : List Cell} (low : b ≤ j) (h : j < n
       let z = settles-at d c k y in
       let l = wrote-loose w lo in
       record {
-        out = λ u. refuted-hopeless e size (z .none u) (λ i a v v′. loose-fixed low h (turned-self j cs) m l i v v′) (λ i a v. l .free i a v);
+        out = λ u hold. refuted-hopeless e size (z .none u) (λ i a v v′. loose-fixed low h (turned-self j cs) m l i v v′) (λ i a v. l .free i a v);
         stays = loose-filled low h (turned-self j cs) e m l (z .right) (z .beyond) (z .given);
         past = past-then (kept-past n j 1 (omega arith) (w .kept)) (z .past);
       }
@@ -111,9 +111,9 @@ module _ {g : Rules} {s n b j i : ℕ} {cs : List Cell} (e : i ≡ j - 1) (low :
   poised-down {ws} p = poised-loose (let z : b ≤ i = omega arith in z) (let z : i < n = omega arith in z) (subst (λ (k : ℕ). Poised g s n b k cs ws) (sym (next-up i j b e low far)) p)
 
   -- the last write: the token is free again
-  pub done-full : {ws ws₁ ws₂ : List ℕ} {p q : ℕ} → Past (2 * pairs n) ws ws₁ → Loose g s n b i cs ws₁ → Below g s n b i 64 cs → Wrote ws₁ ws₂ (pairAt n i 1) p q → ((x : ℕ) → Among s x → Allows g x p q) → Done false g s n b j cs ws ws₂
-  done-full {ws} {ws₁} {ws₂} {p} {q} pa l be w f = record {
-    out = λ u. subst (λ (k : ℕ). Refuted g s n b k cs) (next-up i j b e low far) (below-all h be);
+  pub done-full : {hold : ℕ} {ws ws₁ ws₂ : List ℕ} {p q : ℕ} → Past (2 * pairs n) ws ws₁ → Loose g s n b i cs ws₁ → Below g s n hold b i 64 cs → Wrote ws₁ ws₂ (pairAt n i 1) p q → ((x : ℕ) → Among s x → Allows g x p q) → Done false g s n hold b j cs ws ws₂
+  done-full {hold} {ws} {ws₁} {ws₂} {p} {q} pa l be w f = record {
+    out = λ u. subst (λ (k : ℕ). Twinned g s n hold b k cs) (next-up i j b e low far) (below-all h be);
     stays = λ u. subst (λ (k : ℕ). Poised g s n b k cs ws₂) (next-up i j b e low far) (loose-free (let z : b ≤ i = omega arith in z) h (λ x a. subst₂ (Allows g x) (sym (w .first)) (sym (w .second)) (f x a)) (wrote-loose (let z : b ≤ i = omega arith in z) h w l));
     past = past-then pa (kept-past n i 1 (omega arith) (w .kept));
   }
@@ -122,9 +122,9 @@ module _ {g : Rules} {s n b j i : ℕ} {cs : List Cell} (e : i ≡ j - 1) (low :
       h = omega arith
 
 -- the positions decide
-pub done-of : {r : Bool} {g : Rules} {s n b j : ℕ} {cs : List Cell} {ws ws′ : List ℕ} → j ≡ b → Spent r g n b cs ws ws′ → Done r g s n b j cs ws ws′
-done-of {r} {g} {s} {n} {b} {j} {cs} {ws} {ws′} e q = record {
-  out = λ u. subst (λ (k : ℕ). Refuted g s n b k cs) (sym e) (q .out u s);
+pub done-of : {r : Bool} {g : Rules} {s n hold b j : ℕ} {cs : List Cell} {ws ws′ : List ℕ} → j ≡ b → Spent r g n hold b cs ws ws′ → Done r g s n hold b j cs ws ws′
+done-of {r} {g} {s} {n} {hold} {b} {j} {cs} {ws} {ws′} e q = record {
+  out = λ u. subst (λ (k : ℕ). Twinned g s n hold b k cs) (sym e) (q .out u s);
   stays = λ u. subst (λ (k : ℕ). Poised g s n b k cs ws′) (sym e) (q .stays u s);
   past = q .past;
 }

@@ -11,6 +11,7 @@ use Rattle.grammar.specs.Candidates.{Candidate, sentence}
 use Rattle.candidates.specs.Terminals.{Among}
 use Rattle.candidates.specs.Succession.{Shares}
 use Rattle.candidates.specs.Skips.{TwoBefore}
+use Rattle.twins.specs.Twins.{Twin}
 use Rattle.spans.specs.Changes.{Past}
 use Rattle.grammar.specs.SpanSheet.{pairs}
 use Rattle.chart.specs.Openness.{Open}
@@ -34,6 +35,11 @@ pub record Spelt (n j : ℕ) (ds cs : List Cell) : Type 0 where
 pub record Refuted (g : Rules) (s n b j : ℕ) (cs : List Cell) : Type 0 where
   pub earlier : (ds : List Cell) → Candidate (Among s) n ds → Shares b ds cs → Spelt n j ds cs → TwoTrees g 0 (sentence ds) → TwoBefore g s n ds
 
+-- each candidate that shares cs's first b cells, and has its terminals from j on, has a twin that shares its first h cells, if
+-- it has two trees
+pub record Twinned (g : Rules) (s n h b j : ℕ) (cs : List Cell) : Type 0 where
+  pub twin : (ds : List Cell) → Candidate (Among s) n ds → Shares b ds cs → Spelt n j ds cs → TwoTrees g 0 (sentence ds) → Twin g s n h ds
+
 -- the words are right for cs's first b cells; the tokens from j on have the pairs of cs's terminals, those between allow for all
 -- of the set s; and the spans of two tokens or more from j on have what can stand over open tokens
 pub record Poised (g : Rules) (s n b j : ℕ) (cs : List Cell) (ws : List ℕ) : Type 0 where
@@ -56,9 +62,9 @@ pub record Turned (j x : ℕ) (cs cs′ : List Cell) : Type 0 where
   pub terminal : terminalAt cs′ j ≡ x
   pub rest : (i : ℕ) → j < i → terminalAt cs′ i ≡ terminalAt cs i
 
--- of those with cs's terminals past j, the ones with a terminal below m at j are refuted
-pub record Below (g : Rules) (s n b j m : ℕ) (cs : List Cell) : Type 0 where
-  pub earlier : (ds : List Cell) → Candidate (Among s) n ds → Shares b ds cs → Spelt n (j + 1) ds cs → terminalAt ds j < m → TwoTrees g 0 (sentence ds) → TwoBefore g s n ds
+-- of those with cs's terminals past j, the ones with a terminal below m at j have twins
+pub record Below (g : Rules) (s n h b j m : ℕ) (cs : List Cell) : Type 0 where
+  pub twin : (ds : List Cell) → Candidate (Among s) n ds → Shares b ds cs → Spelt n (j + 1) ds cs → terminalAt ds j < m → TwoTrees g 0 (sentence ds) → Twin g s n h ds
 
 -- ---- by positions
 
@@ -70,9 +76,9 @@ pub record Moved (n i k : ℕ) (cs cs′ : List Cell) : Type 0 where
   pub column : getD cs′ i no-cell .column ≡ k % n + 1
   pub terminals : (q : ℕ) → terminalAt cs′ q ≡ terminalAt cs q
 
--- of those with cs's terminals from i on, the ones whose position at i is one of the first m are refuted
-pub record Within (g : Rules) (s n i m : ℕ) (cs : List Cell) : Type 0 where
-  pub earlier : (ds : List Cell) → Candidate (Among s) n ds → Shares i ds cs → Spelt n i ds cs → getD ds i no-cell .step * n + getD ds i no-cell .column ≤ m → TwoTrees g 0 (sentence ds) → TwoBefore g s n ds
+-- of those with cs's terminals from i on, the ones whose position at i is one of the first m have twins
+pub record Within (g : Rules) (s n h i m : ℕ) (cs : List Cell) : Type 0 where
+  pub twin : (ds : List Cell) → Candidate (Among s) n ds → Shares i ds cs → Spelt n i ds cs → getD ds i no-cell .step * n + getD ds i no-cell .column ≤ m → TwoTrees g 0 (sentence ds) → Twin g s n h ds
 
 -- the column of the cell before i, which is p before the first
 abbrev pub prior : ℕ → List Cell → ℕ → ℕ
@@ -98,32 +104,32 @@ pub record Loose (g : Rules) (s n b j : ℕ) (cs : List Cell) (ws : List ℕ) : 
   pub free : (i : ℕ) → b ≤ i → i < j → (x : ℕ) → Among s x → May g n ws i x
 
 -- a position is tried: it is refuted, and the words stand as before; or they stand with it
-pub record Tried (r : Bool) (g : Rules) (n i : ℕ) (cs : List Cell) (ws ws′ : List ℕ) : Type 0 where
-  pub out : r ≡ true → (s : ℕ) → Refuted g s n (i + 1) (i + 1) cs
+pub record Tried (r : Bool) (g : Rules) (n h i : ℕ) (cs : List Cell) (ws ws′ : List ℕ) : Type 0 where
+  pub out : r ≡ true → (s : ℕ) → Twinned g s n h (i + 1) (i + 1) cs
   pub stays : r ≡ true → Standing g n i cs ws′
   pub on : r ≡ false → Standing g n (i + 1) cs ws′
   pub past : Past (2 * pairs n) ws ws′
 
 -- all positions from i on are tried: false, and they are refuted
-pub record Ended (r : Bool) (g : Rules) (n i : ℕ) (cs : List Cell) (ws ws′ : List ℕ) : Type 0 where
-  pub out : r ≡ false → (s : ℕ) → Refuted g s n i i cs
+pub record Ended (r : Bool) (g : Rules) (n h i : ℕ) (cs : List Cell) (ws ws′ : List ℕ) : Type 0 where
+  pub out : r ≡ false → (s : ℕ) → Twinned g s n h i i cs
   pub stays : r ≡ false → Standing g n i cs ws′
   pub past : Past (2 * pairs n) ws ws′
 
 -- all positions are tried, and the words are poised for terminals again
-pub record Spent (r : Bool) (g : Rules) (n b : ℕ) (cs : List Cell) (ws ws′ : List ℕ) : Type 0 where
-  pub out : r ≡ false → (s : ℕ) → Refuted g s n b b cs
+pub record Spent (r : Bool) (g : Rules) (n h b : ℕ) (cs : List Cell) (ws ws′ : List ℕ) : Type 0 where
+  pub out : r ≡ false → (s : ℕ) → Twinned g s n h b b cs
   pub stays : r ≡ false → (s : ℕ) → Poised g s n b b cs ws′
   pub past : Past (2 * pairs n) ws ws′
 
--- the terminal of cs at j is tried: true, it is refuted; the words are poised with it
+-- the terminal of cs at j is tried: true, it is refuted, whatever is held; the words are poised with it
 pub record Struck (r : Bool) (g : Rules) (s n b j : ℕ) (cs : List Cell) (ws ws′ : List ℕ) : Type 0 where
-  pub out : r ≡ true → Refuted g s n b j cs
+  pub out : r ≡ true → (h : ℕ) → Twinned g s n h b j cs
   pub stays : Poised g s n b j cs ws′
   pub past : Past (2 * pairs n) ws ws′
 
 -- all terminals of the tokens from b to below j, and all positions, are tried: false, and they are refuted
-pub record Done (r : Bool) (g : Rules) (s n b j : ℕ) (cs : List Cell) (ws ws′ : List ℕ) : Type 0 where
-  pub out : r ≡ false → Refuted g s n b j cs
+pub record Done (r : Bool) (g : Rules) (s n h b j : ℕ) (cs : List Cell) (ws ws′ : List ℕ) : Type 0 where
+  pub out : r ≡ false → Twinned g s n h b j cs
   pub stays : r ≡ false → Poised g s n b j cs ws′
   pub past : Past (2 * pairs n) ws ws′

@@ -1,4 +1,5 @@
-// Refuting a block of candidates: terminals first, from the last token backward, then positions.
+// Refuting a block of candidates: terminals first, from the last token backward, then positions. A candidate may be passed
+// over if an earlier one that has its first h cells has two trees where it has.
 use candidates::Candidate;
 use chart::Pair;
 use chart::empty_pair;
@@ -11,6 +12,7 @@ use sets::has;
 use spans::in_second;
 use spans::pair_at;
 use spans::write;
+use twins::slack;
 ghost use mathlib.Core.Path.{_≡_};
 ghost use mathlib.Core.Bool.{true, false};
 ghost use Prim.Native.Nat.{_+_, _*_, _≤_, _<_};
@@ -28,8 +30,9 @@ ghost use Rattle.marks.specs.Drafts.{drafted};
 ghost use Rattle.candidates.specs.Arrays.{cells};
 ghost use Rattle.candidates.specs.Spelling.{LowSteps};
 ghost use Rattle.chart.specs.Leaves.{EmptyPair};
+ghost use Rattle.twins.specs.Twins.{Renames};
 ghost use Rattle.refuting.specs.Tables.{Small, Slot, Laid, United, Gathered, Tabled};
-ghost use Rattle.refuting.specs.Refuting.{Standing, Moved, Rises, terminalAt, Turned, Loose, Poised, Tried, Ended, Spent, Struck, Done, Refuted};
+ghost use Rattle.refuting.specs.Refuting.{Standing, Moved, Rises, terminalAt, Turned, Loose, Poised, Tried, Ended, Spent, Struck, Done, Refuted, Twinned};
 
 // The candidate's sentence of n tokens, of which the first `known` count.
 fn draft(c: Candidate, n: usize, known: usize) -> Draft
@@ -78,30 +81,30 @@ fn rises(c: Candidate, n: usize, i: usize) -> bool
 }
 
 // Try the position at i of the candidate c: is it refuted? If not, the words are filled with it.
-fn shut(codes: &[u64], c: Candidate, n: usize, i: usize, words: &mut [u64]) -> bool
-    requires { ⌜ (n ≤ 7) × (i < n) × LowSteps (cells c 0 n) ⌝ }
+fn shut(codes: &[u64], c: Candidate, n: usize, i: usize, h: usize, words: &mut [u64]) -> bool
+    requires { ⌜ (n ≤ 7) × (i < n) × LowSteps (cells c 0 n) × (h ≤ i) ⌝ }
     requires { ⌜ Distinct (decoded (now codes)) ⌝ }
     requires { ⌜ 2 * pairs n ≤ length (now words) ⌝ }
     requires { ⌜ Standing (decoded (now codes)) n i (cells c 0 n) (now words) ⌝ }
-    ensures { λ r. ⌜ Tried r (decoded (now (codes .entry))) n i (cells c 0 n) (now (words .entry)) (now (words .exit)) ⌝ }
+    ensures { λ r. ⌜ Tried r (decoded (now (codes .entry))) n h i (cells c 0 n) (now (words .entry)) (now (words .exit)) ⌝ }
 {
     if !rises(c, n, i) {
         return true;
     }
-    if c.stale(n, i + 1) {
+    if slack(c, n, i + 1, h) {
         return true;
     }
     let d = draft(c, n, i + 1);
     hopeless(words, d, codes, i, n)
 }
 
-// Is a candidate that shares the first i cells of c, and has its terminals, perhaps the first with two trees?
-fn places(codes: &[u64], c: Candidate, n: usize, i: usize, words: &mut [u64]) -> bool
-    requires { ⌜ (n ≤ 7) × (i ≤ n) × LowSteps (cells c 0 n) ⌝ }
+// Has a candidate that shares the first i cells of c, and has its terminals, perhaps two trees and no twin?
+fn places(codes: &[u64], c: Candidate, n: usize, i: usize, h: usize, words: &mut [u64]) -> bool
+    requires { ⌜ (n ≤ 7) × (i ≤ n) × LowSteps (cells c 0 n) × (h ≤ i) ⌝ }
     requires { ⌜ Distinct (decoded (now codes)) ⌝ }
     requires { ⌜ 2 * pairs n ≤ length (now words) ⌝ }
     requires { ⌜ Standing (decoded (now codes)) n i (cells c 0 n) (now words) ⌝ }
-    ensures { λ r. ⌜ Ended r (decoded (now (codes .entry))) n i (cells c 0 n) (now (words .entry)) (now (words .exit)) ⌝ }
+    ensures { λ r. ⌜ Ended r (decoded (now (codes .entry))) n h i (cells c 0 n) (now (words .entry)) (now (words .exit)) ⌝ }
 {
     if i == n {
         return true;
@@ -109,11 +112,11 @@ fn places(codes: &[u64], c: Candidate, n: usize, i: usize, words: &mut [u64]) ->
     let mut k: usize = 0;
     while k < 3 * n {
         let m = moved(c, n, i, k);
-        if shut(codes, m, n, i, words) {
+        if shut(codes, m, n, i, h, words) {
             k += 1;
             continue;
         }
-        if places(codes, m, n, i + 1, words) {
+        if places(codes, m, n, i + 1, h, words) {
             return true;
         }
         k += 1;
@@ -123,14 +126,14 @@ fn places(codes: &[u64], c: Candidate, n: usize, i: usize, words: &mut [u64]) ->
 
 // The positions of c, all its terminals being fixed: the same, and where all are refuted the spans of tokens from b on are
 // filled for open positions again.
-fn positions(codes: &[u64], c: Candidate, n: usize, b: usize, words: &mut [u64]) -> bool
-    requires { ⌜ (n ≤ 7) × (b ≤ n) × LowSteps (cells c 0 n) ⌝ }
+fn positions(codes: &[u64], c: Candidate, n: usize, b: usize, h: usize, words: &mut [u64]) -> bool
+    requires { ⌜ (n ≤ 7) × (b ≤ n) × LowSteps (cells c 0 n) × (h ≤ b) ⌝ }
     requires { ⌜ Distinct (decoded (now codes)) ⌝ }
     requires { ⌜ 2 * pairs n ≤ length (now words) ⌝ }
     requires { ⌜ Standing (decoded (now codes)) n b (cells c 0 n) (now words) ⌝ }
-    ensures { λ r. ⌜ Spent r (decoded (now (codes .entry))) n b (cells c 0 n) (now (words .entry)) (now (words .exit)) ⌝ }
+    ensures { λ r. ⌜ Spent r (decoded (now (codes .entry))) n h b (cells c 0 n) (now (words .entry)) (now (words .exit)) ⌝ }
 {
-    if places(codes, c, n, b, words) {
+    if places(codes, c, n, b, h, words) {
         return true;
     }
     let d = draft(c, n, b);
@@ -190,31 +193,33 @@ fn struck(
     hopeless(words, d, codes, b, j + 1)
 }
 
-// Is a candidate that shares the first b cells of c, and has its terminals from j on, perhaps the first with two trees?
+// Has a candidate that shares the first b cells of c, and has its terminals from j on, perhaps two trees and no twin?
 fn terms(
     codes: &[u64],
     set: u64,
+    kept: u64,
     table: &[u64],
     c: Candidate,
     n: usize,
     b: usize,
+    h: usize,
     j: usize,
     words: &mut [u64],
 ) -> bool
-    requires { ⌜ (n ≤ 7) × (b ≤ j) × (j ≤ n) × LowSteps (cells c 0 n) ⌝ }
+    requires { ⌜ (n ≤ 7) × (b ≤ j) × (j ≤ n) × LowSteps (cells c 0 n) × (h ≤ b) × Renames (decoded (now codes)) set kept ⌝ }
     requires { ⌜ Distinct (decoded (now codes)) ⌝ }
     requires { ⌜ 2 * pairs n ≤ length (now words) ⌝ }
     requires { ⌜ Tabled (decoded (now codes)) set (now table) ⌝ }
     requires { ⌜ Poised (decoded (now codes)) set n b j (cells c 0 n) (now words) ⌝ }
-    ensures { λ r. ⌜ Done r (decoded (now (codes .entry))) set n b j (cells c 0 n) (now (words .entry)) (now (words .exit)) ⌝ }
+    ensures { λ r. ⌜ Done r (decoded (now (codes .entry))) set n h b j (cells c 0 n) (now (words .entry)) (now (words .exit)) ⌝ }
 {
     if j == b {
-        return positions(codes, c, n, b, words);
+        return positions(codes, c, n, b, h, words);
     }
     let i = j - 1;
     let mut x: u8 = 0;
     while x < 64 {
-        if !has(set, x) {
+        if !has(kept, x) {
             x += 1;
             continue;
         }
@@ -223,7 +228,7 @@ fn terms(
             x += 1;
             continue;
         }
-        if terms(codes, set, table, m, n, b, i, words) {
+        if terms(codes, set, kept, table, m, n, b, h, i, words) {
             return true;
         }
         x += 1;
@@ -283,6 +288,29 @@ fn begin(
     fill(words, d, codes, 0, n);
 }
 
+// Has each candidate that shares the first b cells of c and has two trees a twin that has its first h cells? (Where the
+// answer is no, one may have none.) Of the terminals past the first b cells those that are kept are tried.
+pub fn twinned(
+    codes: &[u64],
+    set: u64,
+    kept: u64,
+    table: &[u64],
+    c: Candidate,
+    n: usize,
+    b: usize,
+    h: usize,
+    words: &mut [u64],
+) -> bool
+    requires { ⌜ (n ≤ 7) × (b ≤ n) × Of.Candidate (Among set) n (cells c 0 n) × (h ≤ b) × Renames (decoded (now codes)) set kept ⌝ }
+    requires { ⌜ Distinct (decoded (now codes)) ⌝ }
+    requires { ⌜ 2 * pairs n ≤ length (now words) ⌝ }
+    requires { ⌜ Tabled (decoded (now codes)) set (now table) ⌝ }
+    ensures { λ r. ⌜ (r ≡ true → Twinned (decoded (now (codes .entry))) set n h b n (cells c 0 n)) × Past (2 * pairs n) (now (words .entry)) (now (words .exit)) ⌝ }
+{
+    begin(codes, set, table, c, n, b, words);
+    !terms(codes, set, kept, table, c, n, b, h, n, words)
+}
+
 // Is no candidate that shares the first b cells of c the first with two trees? (Where the answer is no, one may be.)
 pub fn refutes(
     codes: &[u64],
@@ -299,8 +327,7 @@ pub fn refutes(
     requires { ⌜ Tabled (decoded (now codes)) set (now table) ⌝ }
     ensures { λ r. ⌜ (r ≡ true → Refuted (decoded (now (codes .entry))) set n b n (cells c 0 n)) × Past (2 * pairs n) (now (words .entry)) (now (words .exit)) ⌝ }
 {
-    begin(codes, set, table, c, n, b, words);
-    !terms(codes, set, table, c, n, b, n, words)
+    twinned(codes, set, set, table, c, n, b, 0, words)
 }
 
 // Has the candidate two trees?

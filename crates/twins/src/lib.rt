@@ -48,12 +48,16 @@ pub fn slack(c: Candidate, n: usize, b: usize, h: usize) -> bool
     n - b < lacks(c, n, b, h)
 }
 
-// The same, or where a smaller terminal could stand: `kept` has those of the set that none replaces.
+// The same, or where a smaller terminal could stand: `kept` has those of the set that none replaces. Where no cell is past
+// the h cells, there is none.
 pub fn passable(set: u64, kept: u64, c: Candidate, n: usize, b: usize, h: usize) -> bool
-    requires { ⌜ (h < b) × (b ≤ n) × (n ≤ 7) ⌝ }
+    requires { ⌜ (b ≤ n) × (n ≤ 7) ⌝ }
     requires { ⌜ Of.Candidate (Among set) n (cells c 0 n) ⌝ }
     ensures { λ r. ⌜ (r ≡ true → Passable set kept n b h (cells c 0 n)) ⌝ }
 {
+    if b <= h {
+        return false;
+    }
     let d = c.cell(b - 1);
     if !has(kept, d.terminal) {
         return true;

@@ -12,7 +12,7 @@ use Rattle.spans.specs.Changes.{Past}
 use Rattle.spans.proofs.ChangeLaws.{past-same, past-then, kept-past}
 use Rattle.candidates.specs.Arrays.{cells}
 use Rattle.candidates.proofs.Windows.{cells-size}
-use Rattle.refuting.specs.Refuting.{Loose, Poised, Below, Refuted, Done}
+use Rattle.refuting.specs.Refuting.{Loose, Poised, Below, Done}
 use Rattle.refuting.proofs.RefutingLaws.{below-none, below-skip, below-more, below-all}
 use Rattle.refuting.proofs.WordLaws.{poised-standing, poised-loose, poised-back, loose-turned}
 use Rattle.refuting.proofs.Trying.{poised-down, done-of, done-full, standing-of}
@@ -30,7 +30,7 @@ use Rattle.refuting.proofs.+terms.{statement}
 use Rattle.refuting.proofs.+terms.Tie.{close}
 
 abbrev μ-terms : Measures 3 terms-kinds.ps ℕ
-μ-terms κs a = a .1 .1 .1 .1 .1 .1 .0
+μ-terms κs a = a .1 .1 .1 .1 .1 .1 .1 .1 .0
 
 abbrev terms-at : ℕ → In 3 terms-kinds.ps
 terms-at t = and 3 terms-kinds.ps (is 3 terms-kinds.ps μ-terms t) terms.Pre
@@ -56,15 +56,15 @@ calls t = (
 )
 
 abbrev terms-Inv-loop : terms-lts.InvT-loop
-terms-Inv-loop codes set table c n b j words₀ i x₀ words x = Past (2 * pairs n) words₀ words × Loose (decoded codes) set n b i (cells c 0 n) words × Below (decoded codes) set n b i x (cells c 0 n) × (x ≤ 64)
+terms-Inv-loop codes set kept table c n b h j words₀ i x₀ words x = Past (2 * pairs n) words₀ words × Loose (decoded codes) set n b i (cells c 0 n) words × Below (decoded codes) set n h b i x (cells c 0 n) × (x ≤ 64)
 
 abbrev terms-μ-loop : terms-lts.MeasureT-loop
-terms-μ-loop codes set table c n b j words₀ i x₀ words x = 64 - x
+terms-μ-loop codes set kept table c n b h j words₀ i x₀ words x = 64 - x
 
 terms-positions-requires : (t : ℕ) → terms-lts.Need-positions-requires (calls t) (terms-at t) terms.Post terms-Inv-loop terms-μ-loop
 terms-positions-requires t c κs =
     let z = c .before .before .before .before .before in
-    ((z .pre .1 .0 .0, omega (arith, z .pre .1 .0), z .pre .1 .0 .3), (z .pre .1 .1 .0, (z .pre .1 .1 .1 .0, standing-of (c .before .if1 .taken) (z .pre .1 .1 .1 .1 .1))))
+    ((z .pre .1 .0 .0, omega (arith, z .pre .1 .0), z .pre .1 .0 .3, z .pre .1 .0 .4), (z .pre .1 .1 .0, (z .pre .1 .1 .1 .0, standing-of (c .before .if1 .taken) (z .pre .1 .1 .1 .1 .1))))
 
 terms-same-length : (t : ℕ) → terms-lts.Need-same-length (calls t) (terms-at t) terms.Post terms-Inv-loop terms-μ-loop
 terms-same-length t c = c .before .before .positions .ensures .past .long
@@ -97,7 +97,7 @@ terms-loop-again t c =
     let low : a .b ≤ a .j - 1 = omega (arith, far, z .pre .1 .0 .1) in
     let h : a .j - 1 < a .n = omega (arith, far, z .pre .1 .0) in
     let l = c .before .before .before .loop in
-    (l .inv .0, l .inv .1, below-skip h (c .before .has .ensures .isnt (not-true _ (c .if2 .taken))) (l .inv .2), omega (arith, c .before .before .loop-test .taken))
+    (l .inv .0, l .inv .1, below-skip (z .pre .1 .0 .5) (omega (arith, low, z .pre .1 .0 .4)) h (c .before .has .ensures .isnt (not-true _ (c .if2 .taken))) (l .inv .2), omega (arith, c .before .before .loop-test .taken))
 
 terms-turned-requires : (t : ℕ) → terms-lts.Need-turned-requires (calls t) (terms-at t) terms.Post terms-Inv-loop terms-μ-loop
 terms-turned-requires t c κs =
@@ -117,7 +117,7 @@ terms-struck-requires t c κs =
     let l = c .before .before .before .before .before .loop in
     let m = c .before .turned .ensures in
     let x = c .before .before .before .before .loop-test .taken in
-    ((z .pre .1 .0 .0, low, h, m .1), (z .pre .1 .1 .0, (omega (arith, l .inv .0 .long, z .pre .1 .1 .1 .0), ((z .pre .1 .1 .1 .1 .0, (x, c .before .before .before .has .ensures .is (not-false _ (c .before .before .if2 .left))), m .0 .terminal), loose-turned low (m .0) (l .inv .1)))))
+    ((z .pre .1 .0 .0, low, h, m .1), (z .pre .1 .1 .0, (omega (arith, l .inv .0 .long, z .pre .1 .1 .1 .0), ((z .pre .1 .1 .1 .1 .0, z .pre .1 .0 .5 .part _ (x, c .before .before .before .has .ensures .is (not-false _ (c .before .before .if2 .left))), m .0 .terminal), loose-turned low (m .0) (l .inv .1)))))
 
 terms-add-x-2 : (t : ℕ) → terms-lts.Need-add-x-2 (calls t) (terms-at t) terms.Post terms-Inv-loop terms-μ-loop
 terms-add-x-2 t c = record { fits = omega (arith, c .before .before .before .before .before .before .before .before .loop-test .taken) }
@@ -135,7 +135,7 @@ terms-loop-again-2 t c =
     let l = c .before .before .before .before .before .before .before .before .before .loop in
     let m = c .before .before .before .before .before .turned .ensures .0 in
     let r = c .before .before .before .struck .ensures in
-    (past-then (l .inv .0) (r .past), poised-back low h m (r .stays), below-more low m (r .out (c .if3 .taken)) (l .inv .2), omega (arith, c .before .before .before .before .before .before .before .before .loop-test .taken))
+    (past-then (l .inv .0) (r .past), poised-back low h m (r .stays), below-more low m (r .out (c .if3 .taken) (a .h)) (l .inv .2), omega (arith, c .before .before .before .before .before .before .before .before .loop-test .taken))
 
 terms-terms-requires : (t : ℕ) → terms-lts.Need-terms-requires (calls t) (terms-at t) terms.Post terms-Inv-loop terms-μ-loop
 terms-terms-requires t c κs =
@@ -147,7 +147,7 @@ terms-terms-requires t c κs =
     let l = c .before .before .before .before .before .before .before .before .before .before .loop in
     let m = c .before .before .before .before .before .before .turned .ensures in
     let r = c .before .before .before .before .struck .ensures in
-    (omega (arith, z .pre .0, far, z .pre .1 .0 .1), ((z .pre .1 .0 .0, low, omega (arith, h), m .1), (z .pre .1 .1 .0, (omega (arith, r .past .long, l .inv .0 .long, z .pre .1 .1 .1 .0), (z .pre .1 .1 .1 .1 .0, r .stays)))))
+    (omega (arith, z .pre .0, far, z .pre .1 .0 .1), ((z .pre .1 .0 .0, low, omega (arith, h), m .1, z .pre .1 .0 .4, z .pre .1 .0 .5), (z .pre .1 .1 .0, (omega (arith, r .past .long, l .inv .0 .long, z .pre .1 .1 .1 .0), (z .pre .1 .1 .1 .1 .0, r .stays)))))
 
 terms-same-length-2 : (t : ℕ) → terms-lts.Need-same-length-2 (calls t) (terms-at t) terms.Post terms-Inv-loop terms-μ-loop
 terms-same-length-2 t c = c .before .before .before .terms .ensures .past .long ∙ c .before .before .before .before .before .before .before .before .struck .ensures .past .long ∙ c .before .before .before .before .before .before .before .before .before .before .before .before .before .before .loop .inv .0 .long
@@ -198,7 +198,7 @@ terms-returns-3 t c =
     let z = v .before .before .before .before .before .before in
     let a = z .args in
     let e : l .x ≡ 64 = omega (arith, l .inv .3, v .loop-test .left) in
-    let below = subst (λ (x : ℕ). Below (decoded (a .codes .now)) (a .set) (a .n) (a .b) (a .j - 1) x (cells (a .c) 0 (a .n))) e (l .inv .2) in
+    let below = subst (λ (x : ℕ). Below (decoded (a .codes .now)) (a .set) (a .n) (a .h) (a .b) (a .j - 1) x (cells (a .c) 0 (a .n))) e (l .inv .2) in
     done-full refl (z .pre .1 .0 .1) (z .pre .1 .0 .2) (v .before .before .if1 .left) (l .inv .0) (l .inv .1) below (c .before .before .give .ensures) (z .pre .1 .1 .1 .1 .0 .any)
 
 pub +terms-spec : {M : Type 1} → statement M
