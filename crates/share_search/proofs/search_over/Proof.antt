@@ -1,0 +1,35 @@
+-- The table is filled, and the search has what it asks.
+use borrow.Author.Needs.{needs}
+use Rattle.share_search.proofs.search_over.Statement.{statement}
+use Rattle.share_search.proofs.search_over.Tie as tie
+
+slice-aggregate-fill-table : tie.Need-slice-aggregate-fill-table
+slice-aggregate-fill-table c = search needs
+
+fill-table-requires : tie.Need-fill-table-requires
+fill-table-requires c κs = search needs
+
+slice-aggregate-search : tie.Need-slice-aggregate-search
+slice-aggregate-search c = search needs
+
+search-requires : tie.Need-search-requires
+search-requires c κs =
+    let z = c .before .before .before .before .before .before .before in
+    (z .pre .0, (z .pre .1 .0, (z .pre .1 .1, c .before .before .before .fill-table .ensures)))
+
+same-length : tie.Need-same-length
+same-length c = search needs
+
+returns : tie.Need-returns
+returns c = search needs
+
+pub search-over-spec : {M : Type 1} → statement M
+search-over-spec =
+    tie.close
+    (tie.spec
+    slice-aggregate-fill-table
+    fill-table-requires
+    slice-aggregate-search
+    search-requires
+    same-length
+    returns)
