@@ -275,7 +275,7 @@ pub fn trees(
 }
 
 // The sentence of no tokens.
-fn nothing() -> Sentence
+pub fn nothing() -> Sentence
     ensures { λ r. ⌜ r ≡ Sweep.empty ⌝ }
 {
     Sentence {

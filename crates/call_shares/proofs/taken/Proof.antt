@@ -1,0 +1,88 @@
+-- `call_shares::taken` meets its contract: M, the share's ends, and what is found between them.
+use mathlib.Core.Path.{_≡_, sym, _∙_}
+use Prim.Native.Nat.{_≤_, _<_, _^_}
+use native.Mathlib.Omega.{arith}
+use borrow.Author.Needs.{needs}
+use Rattle.grammar.specs.Content.{rules}
+use Rattle.numbers.specs.Shares.{total}
+use Rattle.call_shares.proofs.Sharing.{total-of, shared-clear, shared-two}
+use Rattle.call_shares.proofs.taken.Statement.{statement}
+use Rattle.call_shares.proofs.taken.Tie as tie
+
+-- the set is a word
+small : (c : tie.After-terminals) → c .terminals .result < 2 ^ 64
+small c = search needs
+
+terminals-requires : tie.Need-terminals-requires
+terminals-requires c κs = search needs
+
+all-numbers-requires : tie.Need-all-numbers-requires
+all-numbers-requires c κs =
+    let t = c .before .before .pre .1 in
+    ((t .size .low, t .size .high), omega (arith, t .size .few, total-of _ _ (c .before .before .args .n) (small c) (c .terminals .ensures)))
+
+-- the result is M
+whole : (c : tie.After-all-numbers) → c .all-numbers .result ≡ total (rules (c .before .before .before .args .g)) (c .before .before .before .args .n)
+whole c = c .all-numbers .ensures ∙ total-of _ _ (c .before .before .before .args .n) (small (c .before)) (c .before .terminals .ensures)
+
+begins-at-requires : tie.Need-begins-at-requires
+begins-at-requires c κs =
+    let t = c .before .before .before .pre .1 in
+    (omega (arith, whole c, t .size .few), t .some, omega (arith, t .below, t .most))
+
+add-begins-at : tie.Need-add-begins-at
+add-begins-at c = search needs
+
+begins-at-requires-2 : tie.Need-begins-at-requires-2
+begins-at-requires-2 c κs =
+    let t = c .before .before .before .before .pre .1 in
+    (omega (arith, whole (c .before), t .size .few), t .some, omega (arith, t .below, t .most))
+
+share-rules-requires : tie.Need-share-rules-requires
+share-rules-requires c κs =
+    let a = c .before .before .before .before .before .before in
+    let t = a .pre .1 in
+    ((t .size .low, t .size .high), (a .pre .0, (t .size .few, t .enough)))
+
+div-quotient : tie.Need-div-quotient
+div-quotient c = search needs
+
+rem-remainder : tie.Need-rem-remainder
+rem-remainder c = search needs
+
+same-length : tie.Need-same-length
+same-length c = search needs
+
+returns : tie.Need-returns
+returns c =
+    let s = c .before .before .before .before .before in
+    let e = s .before .before in
+    let m = e .before .before in
+    shared-clear (c .before .before .before .before .before .before .before .before .before .before .before .before .pre .1) (s .share-rules .ensures .1) (whole m) (e .before .begins-at .ensures) (e .begins-at2 .ensures) (s .share-rules .ensures .0) (c .if1 .taken)
+
+same-length-2 : tie.Need-same-length-2
+same-length-2 c = search needs
+
+returns-2 : tie.Need-returns-2
+returns-2 c =
+    let s = c .before .before .before .before .before in
+    let e = s .before .before in
+    let m = e .before .before in
+    shared-two (c .before .before .before .before .before .before .before .before .before .before .before .before .pre .1) (s .share-rules .ensures .1) (whole m) (e .before .begins-at .ensures) (e .begins-at2 .ensures) (s .share-rules .ensures .0) (c .if1 .left)
+
+pub taken-spec : {M : Type 1} → statement M
+taken-spec =
+    tie.close
+    (tie.spec
+    terminals-requires
+    all-numbers-requires
+    begins-at-requires
+    add-begins-at
+    begins-at-requires-2
+    share-rules-requires
+    div-quotient
+    rem-remainder
+    same-length
+    returns
+    same-length-2
+    returns-2)
