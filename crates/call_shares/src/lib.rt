@@ -16,6 +16,8 @@ use teplonga::nothing;
 ghost use mathlib.Core.Path.{_≡_};
 ghost use Prim.Native.Nat.{_≤_};
 ghost use Rattle.grammar.specs.Content.{rules as rulesOf, Formed};
+ghost use Rattle.sets.specs.Says.{Says};
+ghost use Rattle.call_shares.specs.Merge.{Refuses, Leads, Merged};
 ghost use Rattle.call_shares.specs.Share.{refusal, Length, Taken, ShareOn, ShareOf};
 
 // The answer of a share: besides, the lowest number, M ÷ p and its remainder, and the sentence, of no tokens where none was
@@ -136,4 +138,53 @@ pub fn share(
             judged(g, length, racks, share, words)
         }
     }
+}
+
+// Is the answer a refusal?
+fn refuses(a: Answer) -> bool
+    ensures { λ r. ⌜ Says r (Refuses a) ⌝ }
+{
+    match a {
+        Answer::None => false,
+        Answer::One => false,
+        Answer::Two => false,
+        Answer::Clear => false,
+        Answer::Given => false,
+        Answer::Refused(_) => true,
+    }
+}
+
+// Does a report of n tokens and a number come before one of m tokens and another number? One of no tokens is clear.
+fn leads(n: usize, number: u64, m: usize, other: u64) -> bool
+    ensures { λ r. ⌜ Says r (Leads n number m other) ⌝ }
+{
+    if n == 0 {
+        return false;
+    }
+    if m == 0 {
+        return true;
+    }
+    if n == m {
+        return number < other;
+    }
+    n < m
+}
+
+// Two reports of shares merged: a refusal, else the one with the lower number of the shorter length. Merged one by one, the
+// reports of all shares of the lengths 1 to k come to the sweep's answer.
+pub fn merge(a: ShareReply, b: ShareReply) -> ShareReply
+    ensures { λ r. ⌜ Merged a b r ⌝ }
+{
+    let x = a.answer;
+    if refuses(x) {
+        return a;
+    }
+    let y = b.answer;
+    if refuses(y) {
+        return b;
+    }
+    if leads(b.sentence.count, b.number, a.sentence.count, a.number) {
+        return b;
+    }
+    a
 }

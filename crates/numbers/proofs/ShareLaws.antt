@@ -87,7 +87,7 @@ module _ (g : Rules) (small : (x : ℕ) → Terminal g x → x < 64) where
   -- ---- all shares and the sweep
 
   -- the share of a candidate of length n among p
-  share-of : (n p : ℕ) (cs : List Cell) → 1 ≤ n → 1 ≤ p → Candidate (Terminal g) n cs → (i : ℕ) × (i < p) × (begins (total g n) p i ≤ number g n cs) × (number g n cs < begins (total g n) p (suc i))
+  pub share-of : (n p : ℕ) (cs : List Cell) → 1 ≤ n → 1 ≤ p → Candidate (Terminal g) n cs → (i : ℕ) × (i < p) × (begins (total g n) p i ≤ number g n cs) × (number g n cs < begins (total g n) p (suc i))
   share-of n p cs h l k = share-some (total g n) p (number g n cs) p (omega (arith, number-below n cs h k, begins-last (total g n) p l))
 
   -- all shares of the lengths 1 to k are clear: the sweep is
