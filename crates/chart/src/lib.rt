@@ -44,7 +44,7 @@ ghost use Rattle.marks.specs.Marked.{UnaryBy, BinaryBy};
 ghost use Rattle.spans.specs.Changes.{Past};
 ghost use Rattle.spans.specs.Reach.{Reach};
 ghost use Rattle.chart.specs.Tables.{One, byMarks, Fits, lefts};
-ghost use Rattle.chart.specs.Passes.{Room, Doubles, Found, Took, pairOf, sidesAt, SplitFits, SplitBelow, SplitRow, none, Splits, LeafFits, Leaves, Beside, Wide, Pass, Saturated};
+ghost use Rattle.chart.specs.Passes.{Room, Doubles, Found, Took, pairOf, sidesAt, Unpaired, Stretches, SplitFits, SplitBelow, SplitRow, none, Splits, LeafFits, Leaves, Beside, Wide, Pass, Saturated};
 ghost use Rattle.chart.specs.Leaves.{EmptyPair, Leaf};
 ghost use Rattle.chart.specs.Filling.{Whole, Joins, Filled, Grown};
 ghost use Rattle.chart.specs.Sheets.{Exact, Begun, Ready, Charted, Judged, Settles};
@@ -248,14 +248,68 @@ fn try_split(t: Tally, code: u64, p: Sides, k: SpanMarks, left: usize, len: usiz
     join(t, left_of(code), b, e, p)
 }
 
-// Try each rule with `left` tokens on its left.
-fn try_splits(t: Tally, codes: &[u64], p: Sides, k: SpanMarks, left: usize, len: usize) -> Tally
-    requires { ⌜ (left ≤ len) × (len ≤ 64) ⌝ }
-    ensures { λ u. ⌜ SplitRow p k len left (decoded (now (codes .entry))) t (length (decoded (now (codes .entry)))) u ⌝ }
+// Where the codes of B rules stand: all of them from `from` to below `to`.
+struct Stretch {
+    from: usize,
+    to: usize,
+}
+
+// The place of the first B rule, or the number of rules.
+fn first_binary(codes: &[u64]) -> usize
+    ensures { λ r. ⌜ (r ≤ length (now (codes .entry))) × Unpaired (now (codes .entry)) 0 r ⌝ }
 {
-    let mut u = t;
     let mut i = 0;
     while i < codes.len() {
+        if 3 <= kind_of(codes[i]) {
+            return i;
+        }
+        i += 1;
+    }
+    i
+}
+
+// The place past the last one, or 0.
+fn past_binary(codes: &[u64]) -> usize
+    ensures { λ r. ⌜ (r ≤ length (now (codes .entry))) × Unpaired (now (codes .entry)) r (length (now (codes .entry))) ⌝ }
+{
+    let mut i = codes.len();
+    while 0 < i {
+        let j = i - 1;
+        if 3 <= kind_of(codes[j]) {
+            return i;
+        }
+        i = j;
+    }
+    i
+}
+
+// Where they stand.
+fn binaries(codes: &[u64]) -> Stretch
+    ensures { λ r. ⌜ Stretches (now (codes .entry)) r ⌝ }
+{
+    let from = first_binary(codes);
+    let to = past_binary(codes);
+    Stretch { from, to }
+}
+
+// Try each rule with `left` tokens on its left: only B rules stand so.
+fn try_splits(
+    t: Tally,
+    codes: &[u64],
+    s: Stretch,
+    p: Sides,
+    k: SpanMarks,
+    left: usize,
+    len: usize,
+) -> Tally
+    requires { ⌜ (left ≤ len) × (len ≤ 64) ⌝ }
+    requires { ⌜ Stretches (now codes) s ⌝ }
+    ensures { λ u. ⌜ SplitRow p k len left (decoded (now (codes .entry))) t (length (decoded (now (codes .entry)))) u ⌝ }
+{
+    let to = s.to;
+    let mut u = t;
+    let mut i = s.from;
+    while i < to {
         u = try_split(u, codes[i], p, k, left, len);
         i += 1;
     }
@@ -263,8 +317,17 @@ fn try_splits(t: Tally, codes: &[u64], p: Sides, k: SpanMarks, left: usize, len:
 }
 
 // The same, but where a part has no tree at all: no rule stands there.
-fn try_parts(t: Tally, codes: &[u64], p: Sides, k: SpanMarks, left: usize, len: usize) -> Tally
+fn try_parts(
+    t: Tally,
+    codes: &[u64],
+    s: Stretch,
+    p: Sides,
+    k: SpanMarks,
+    left: usize,
+    len: usize,
+) -> Tally
     requires { ⌜ (left ≤ len) × (len ≤ 64) ⌝ }
+    requires { ⌜ Stretches (now codes) s ⌝ }
     ensures { λ u. ⌜ SplitRow p k len left (decoded (now (codes .entry))) t (length (decoded (now (codes .entry)))) u ⌝ }
 {
     if p.left.one == 0 {
@@ -273,7 +336,7 @@ fn try_parts(t: Tally, codes: &[u64], p: Sides, k: SpanMarks, left: usize, len: 
     if p.right.one == 0 {
         return t;
     }
-    try_splits(t, codes, p, k, left, len)
+    try_splits(t, codes, s, p, k, left, len)
 }
 
 // The span's pair.
@@ -316,11 +379,12 @@ fn splits(words: &[u64], n: usize, codes: &[u64], start: usize, len: usize, k: S
     requires { ⌜ 0 < len ⌝ }
     ensures { λ t. ⌜ Splits (now (words .entry)) n start len k (decoded (now (codes .entry))) len t ⌝ }
 {
+    let s = binaries(codes);
     let mut t = blank();
     let mut left = 1;
     while left < len {
         let p = cut(words, n, start, len, left);
-        t = try_parts(t, codes, p, k, left, len);
+        t = try_parts(t, codes, s, p, k, left, len);
         left += 1;
     }
     t
