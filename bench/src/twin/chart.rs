@@ -171,6 +171,14 @@ impl Tally {
     }
 }
 
+/// The rules from the first B rule to the last.
+fn binaries(rules: &[Rule]) -> &[Rule] {
+    let binary = |rule: &Rule| matches!(rule.clause, Clause::Binary(..));
+    let from = rules.iter().position(binary).unwrap_or(rules.len());
+    let to = rules.iter().rposition(binary).map_or(0, |last| last + 1);
+    rules.get(from..to).unwrap_or_default()
+}
+
 /// What stands at the span by two shorter parts, none of them empty.
 fn splits(
     words: &[u64],
@@ -180,6 +188,7 @@ fn splits(
     len: usize,
     marks: &Marks,
 ) -> Tally {
+    let rules = binaries(rules);
     let mut tally = Tally::default();
     for left in 1..len {
         let first = Pair::at(words, place(n, start, left));
