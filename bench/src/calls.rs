@@ -3,7 +3,7 @@
 use bench::clock::timed;
 use bench::families::{self, Family};
 use bench::library::{self, FOUND, LINKED};
-use bench::twin::{self, sheets, sweep, Swept};
+use bench::twin::{self, sheets, sweep, tried, Swept};
 
 /// Words enough for a sentence of 64 tokens.
 const WORDS: usize = 4162;
@@ -67,7 +67,7 @@ impl Call {
         if LINKED {
             assert_eq!(Some(answer), said, "{}: answer", self.name);
             assert!(ours.words == theirs.words, "{}: words", self.name);
-            assert!(ours.found == theirs.found, "{}: sentence", self.name);
+            assert!(ours.found == theirs.found, "{}: what is found", self.name);
         }
         let times = repeats(twin);
         for _ in 0..if twin < LONG { rounds } else { 0 } {
@@ -87,6 +87,21 @@ impl Call {
         let mut call = || twin::verdict_walked(&self.rules, tokens, &mut lent.words);
         let times = repeats(timed(&mut call).0);
         (0..rounds).map(|_| per_call(times, &mut call)).fold(f64::INFINITY, f64::min)
+    }
+
+    /// The fills of the twin's sweep without the index of lengths, and the least
+    /// CPU seconds of so many rounds.
+    pub fn over_all_lengths(&self, rounds: usize) -> (u64, f64) {
+        let Input::Bound(bound) = self.input else {
+            return (0, 0.0);
+        };
+        let mut lent = Lent::new();
+        let mut call =
+            || twin::sweep_over(&self.rules, |_| tried::ALL, bound, &mut lent.words, u64::MAX);
+        let (first, swept) = timed(&mut call);
+        let fills = swept.expect("the sheet is accepted").fills;
+        let times = repeats(first);
+        (fills, (0..rounds).map(|_| per_call(times, &mut call)).fold(first, f64::min))
     }
 
     /// The least CPU seconds of so many rounds: of the library where it is

@@ -33,6 +33,24 @@ pub fn apart(t: usize) -> Vec<u8> {
     rule_sheet(&lines)
 }
 
+/// Any tokens, then a last one that decides, an even number in all: the index of
+/// lengths spares the looks at odd lengths.
+pub fn even(t: usize) -> Vec<u8> {
+    let mut lines = [
+        "0 B 5 2 none",
+        "0 B 5 3 none",
+        "5 B 1 4 none",
+        "1 B 5 4 none",
+        "1 E - - none",
+        "2 A 0 - none",
+        "3 A 1 - none",
+    ]
+    .map(str::to_string)
+    .to_vec();
+    lines.extend((0..t).map(|terminal| format!("4 A {terminal} - none")));
+    rule_sheet(&lines)
+}
+
 /// A heading and circuits below it, the circuits' words being the terminals from
 /// 0 to below `t`, in one rule.
 pub fn words(t: usize) -> Vec<u8> {

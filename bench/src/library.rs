@@ -4,9 +4,9 @@
 /// Is the library linked?
 pub const LINKED: bool = cfg!(feature = "library");
 
-/// How many places of `found` a sweep needs to write its sentence: its length,
-/// then terminal, line and column of seven tokens.
-pub const FOUND: usize = 22;
+/// How many places of `found` a sweep needs: the sentence's length, terminal,
+/// line and column of seven tokens, and how many candidates were tried.
+pub const FOUND: usize = 23;
 
 #[cfg(feature = "library")]
 #[allow(dead_code)]
@@ -26,7 +26,8 @@ mod linked {
         Some(c::verdict(rules, tokens, words))
     }
 
-    /// The sweep's code times 2^32 plus the line; `found` gets the sentence.
+    /// The sweep's code times 2^32 plus the line; `found` gets the sentence and
+    /// how many candidates were tried.
     pub fn sweep(rules: &[u8], bound: u64, words: &mut [u64], found: &mut [u64]) -> Option<u64> {
         Some(c::sweep(rules, bound as usize, words, found))
     }

@@ -1,5 +1,5 @@
 //! Prints the tables of the benchmark: `bench [LETTERS] [SECONDS]`. The letters
-//! choose among the tables a to f; the seconds bound the search of table e.
+//! choose among the tables a to g; the seconds bound the search of table e.
 
 mod calls;
 mod growth;
@@ -12,7 +12,7 @@ mod worst;
 const SEARCH_SECONDS: f64 = 90.0;
 
 fn main() {
-    let mut letters = "abcdef".to_string();
+    let mut letters = "abcdefg".to_string();
     let mut seconds = SEARCH_SECONDS;
     for argument in std::env::args().skip(1) {
         match argument.parse() {
@@ -35,6 +35,7 @@ fn main() {
                 search::search(seconds);
             }
             'f' => trees::trees(),
+            'g' => worst::lengths(),
             _ => eprintln!("no table {letter}"),
         }
     }

@@ -5,9 +5,10 @@ pub mod grammar;
 pub mod order;
 pub mod sheets;
 pub mod sweep;
+pub mod tried;
 
 use crate::library::FOUND;
-use grammar::Token;
+use grammar::{Rule, Token};
 use sheets::Refusal;
 
 /// How many valid trees the start has over the whole sentence.
@@ -26,6 +27,8 @@ pub struct Swept {
     pub fills: u64,
     /// Whether the search ended before its limit of fills.
     pub finished: bool,
+    /// How many candidates were tried, those of blocks passed over too.
+    pub tried: u64,
 }
 
 /// The verdict on a sentence. `words` get its span sheet.
@@ -61,13 +64,24 @@ pub fn sweep_within(
     words: &mut [u64],
     most_fills: u64,
 ) -> Result<Swept, Refusal> {
+    sweep_over(rules, tried::start_lengths, bound, words, most_fills)
+}
+
+/// The same, over the lengths that `lengths` says.
+pub fn sweep_over(
+    rules: &[u8],
+    lengths: fn(&[Rule]) -> u8,
+    bound: u64,
+    words: &mut [u64],
+    most_fills: u64,
+) -> Result<Swept, Refusal> {
     let mut rules = sheets::read_rules(rules)?;
     if !(1..=7).contains(&bound) {
         return Err(Refusal::whole(23));
     }
     // The limit counts all terminals, those that are left out of the search too.
-    let t = sweep::terminals(&rules).count_ones();
-    if !sweep::within_limit(u64::from(t), bound) {
+    let all = sweep::terminals(&rules);
+    if !sweep::within_limit(u64::from(all.count_ones()), bound) {
         return Err(Refusal::whole(24));
     }
     let bound = bound as usize;
@@ -76,7 +90,10 @@ pub fn sweep_within(
     }
     order::arrange(&mut rules);
     let needed = sweep::needed(&rules);
-    let swept = sweep::search(&order::reachable(&rules), needed, bound, words, most_fills);
+    let lengths = lengths(&rules);
+    let reached = order::reachable(&rules);
+    let mut swept = sweep::search(&reached, needed, lengths, bound, words, most_fills);
+    swept.tried = tried::tried(lengths, all, bound, swept.found.as_deref());
     words[..chart::size(bound)].fill(0);
     Ok(swept)
 }
@@ -100,8 +117,9 @@ pub fn sweep_code(answer: &Result<Swept, Refusal>) -> u64 {
     }
 }
 
-/// A sweep's sentence as the library writes it: its length, then terminal, line
-/// and column of each token, and 0 in the places past it.
+/// What a sweep found as the library writes it: the sentence's length, then
+/// terminal, line and column of each token, and 0 in the places past it; then
+/// how many candidates were tried.
 pub fn found_places(swept: &Swept) -> [u64; FOUND] {
     let mut places = [0; FOUND];
     for (i, token) in swept.found.iter().flatten().enumerate() {
@@ -110,6 +128,7 @@ pub fn found_places(swept: &Swept) -> [u64; FOUND] {
         places[2 + 3 * i] = u64::from(token.line.0);
         places[3 + 3 * i] = u64::from(token.column.0);
     }
+    places[FOUND - 1] = swept.tried;
     places
 }
 

@@ -1,4 +1,5 @@
-//! Table e, its first half: sheets on which a sweep takes long, or could.
+//! Table e, its first half: sheets on which a sweep takes long, or could. Table
+//! g: a sheet of even lengths.
 
 use bench::late;
 
@@ -25,6 +26,29 @@ pub fn words() {
             "| {t} | {} | 3 | {fills} | {:.4} | {} |",
             t + 1,
             1e3 * times.twin,
+            shown(times.library, 1e-3, 4),
+        );
+    }
+    println!();
+}
+
+/// (g) A sheet of even lengths only, with the index of lengths and without.
+pub fn lengths() {
+    println!("(g) Sweeps of `even`, with the index of lengths and without\n");
+    print!("| T | k | candidates tried | fills | fills without ");
+    println!("| twin, CPU ms | twin without, CPU ms | library, CPU ms |");
+    println!("|---|---|---|---|---|---|---|---|");
+    for (t, k) in [(2, 5), (2, 6), (7, 4), (7, 5), (28, 3), (28, 4)] {
+        let call = calls::of_a_sweep("even", late::even(t), k);
+        let (swept, _) = calls::swept(&call.rules, k, u64::MAX);
+        let (fills, seconds) = call.over_all_lengths(5);
+        let times = call.times(5);
+        println!(
+            "| {t} | {k} | {} | {} | {fills} | {:.4} | {:.4} | {} |",
+            swept.tried,
+            swept.fills,
+            1e3 * times.twin,
+            1e3 * seconds,
             shown(times.library, 1e-3, 4),
         );
     }

@@ -24,8 +24,10 @@ def answer(call, rules, other, lent):
         said, line, after = teplonga.verdict_call(sheet(rules), sheet(other), words)
         sentence = []
     else:
-        said, line, sentence, after = teplonga.sweep_call(sheet(rules), int(other), words)
+        said, line, sentence, count, after = teplonga.sweep_call(sheet(rules), int(other), words)
     tokens = ["/".join(str(part) for part in token) for token in sentence]
+    if call == "sweep" and said in ("clear", "two"):
+        tokens += ["tried", str(count)]
     return " ".join([said, str(line), *tokens, "words", *(f"{word:x}" for word in after)])
 
 

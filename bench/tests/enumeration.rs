@@ -1,15 +1,22 @@
-//! The twin's sweep, which leaves much out, against all candidates one by one,
-//! and the number of its fills.
+//! The twin's sweep, which leaves much out, against all candidates one by one:
+//! the sentence found and how many were tried; and the number of its fills.
 
-use bench::late::{apart, words};
+use bench::late::{apart, even, words};
 use bench::random::{rule_line, rule_sheet, token_lines, token_sheet, Random};
-use bench::twin::grammar::{Column, Line, Rule, Token, Width};
-use bench::twin::{self, chart, sheets, sweep, Swept};
+use bench::twin::grammar::{BinaryMark, Clause, Column, Line, Rule, Token, UnaryMark, Width};
+use bench::twin::{self, chart, sheets, sweep, tried, Swept, Verdict};
 
 /// The first extension of `tokens` to `n` tokens that has two trees, in the
-/// candidates' order.
-fn first_two(rules: &[Rule], terminals: &[u8], n: usize, tokens: &mut Vec<Token>) -> bool {
+/// candidates' order; `tried` counts those looked at.
+fn first_two(
+    rules: &[Rule],
+    terminals: &[u8],
+    n: usize,
+    tokens: &mut Vec<Token>,
+    tried: &mut u64,
+) -> bool {
     if tokens.len() == n {
+        *tried += 1;
         let mut words = [0; 60];
         chart::fill(&mut words, rules, tokens);
         return chart::two(&words, n);
@@ -26,7 +33,7 @@ fn first_two(rules: &[Rule], terminals: &[u8], n: usize, tokens: &mut Vec<Token>
                     continue;
                 }
                 tokens.push(token);
-                if first_two(rules, terminals, n, tokens) {
+                if first_two(rules, terminals, n, tokens, tried) {
                     return true;
                 }
                 tokens.pop();
@@ -36,13 +43,50 @@ fn first_two(rules: &[Rule], terminals: &[u8], n: usize, tokens: &mut Vec<Token>
     false
 }
 
-fn enumerated(rules: &[Rule], bound: usize) -> Option<Vec<Token>> {
+/// The rule with `none` for its mark.
+fn unmarked(rule: &Rule) -> Rule {
+    let clause = match rule.clause {
+        Clause::Unary(b, _) => Clause::Unary(b, UnaryMark::None),
+        Clause::Binary(b, d, _) => Clause::Binary(b, d, BinaryMark::None),
+        clause => clause,
+    };
+    Rule { clause, ..*rule }
+}
+
+/// Has the start a tree over some word of `n` tokens when all marks are ignored?
+/// All words are tried.
+fn possible(rules: &[Rule], terminals: &[u8], n: u32) -> bool {
+    let rules: Vec<Rule> = rules.iter().map(unmarked).collect();
+    (0..terminals.len().pow(n)).any(|word| {
+        let mut tokens = Vec::new();
+        for i in 0..n {
+            let terminal = terminals[word / terminals.len().pow(i) % terminals.len()];
+            let (line, column, width) = (Line(1), Column(1 + i as u16), Width(1));
+            tokens.push(Token { terminal, line, column, width });
+        }
+        let mut words = [0; 60];
+        chart::fill(&mut words, &rules, &tokens);
+        chart::verdict(&words, tokens.len()) != Verdict::None
+    })
+}
+
+/// The first candidate with two trees, and how many of possible lengths come no
+/// later.
+fn enumerated(rules: &[Rule], bound: usize) -> (Option<Vec<Token>>, u64) {
     let set = sweep::terminals(rules);
     let terminals: Vec<u8> = (0..64).filter(|&a| set >> a & 1 == 1).collect();
-    (1..=bound).find_map(|n| {
-        let mut tokens = Vec::new();
-        first_two(rules, &terminals, n, &mut tokens).then_some(tokens)
-    })
+    let mut tried = 0;
+    for n in 1..=bound {
+        let (mut tokens, mut looks) = (Vec::new(), 0);
+        let two = first_two(rules, &terminals, n, &mut tokens, &mut looks);
+        if possible(rules, &terminals, n as u32) {
+            tried += looks;
+        }
+        if two {
+            return (Some(tokens), tried);
+        }
+    }
+    (None, tried)
 }
 
 /// Compare sweeps of random sheets that are worth it with all candidates, until
@@ -59,7 +103,8 @@ fn compare(seed: u64, terminals: u64, bound: u64, worth: fn(&[Rule], &Swept) -> 
         };
         let swept = twin::sweep(&sheet, bound, &mut [0; 60]).expect("accepted");
         if worth(&rules, &swept) {
-            assert_eq!(swept.found, enumerated(&rules, bound as usize), "{lines:?}");
+            let wanted = enumerated(&rules, bound as usize);
+            assert_eq!((swept.found.clone(), swept.tried), wanted, "{lines:?}");
             met[usize::from(swept.found.is_some())] += 1;
         }
     }
@@ -114,6 +159,23 @@ fn a_last_token_that_decides_is_tried_first() {
 #[test]
 fn words_of_one_rule_cost_no_more_than_one_word() {
     assert_eq!(clear_fills(&words(60), 3), clear_fills(&words(1), 3));
+}
+
+#[test]
+fn lengths_that_the_start_lacks_are_passed_over() {
+    for (t, k) in [(2, 5), (7, 5), (28, 3)] {
+        let sheet = even(t);
+        let swept = |k| twin::sweep(&sheet, k, &mut [0; 60]).expect("accepted");
+        let over_all = |k| {
+            twin::sweep_over(&sheet, |_| tried::ALL, k, &mut [0; 60], u64::MAX).expect("accepted")
+        };
+        assert_eq!(swept(k), swept(k - 1));
+        assert_eq!(swept(k).found, over_all(k).found);
+        assert!(swept(k).tried < over_all(k).tried);
+        // An odd length takes a fill with all open and one for each last terminal
+        // that is needed: two.
+        assert_eq!(swept(k).fills + 3 * k.div_ceil(2), over_all(k).fills);
+    }
 }
 
 #[test]

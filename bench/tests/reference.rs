@@ -64,15 +64,15 @@ fn verdict_text(answer: Result<Verdict, Refusal>) -> String {
 
 fn sweep_text(answer: Result<Swept, Refusal>) -> String {
     match answer {
-        Ok(Swept { found: None, .. }) => "clear 0".to_string(),
-        Ok(Swept { found: Some(tokens), .. }) => {
+        Ok(Swept { found: None, tried, .. }) => format!("clear 0 tried {tried}"),
+        Ok(Swept { found: Some(tokens), tried, .. }) => {
             let mut text = "two 0".to_string();
             for token in tokens {
                 let (line, column, width) = (token.line.0, token.column.0, token.width.0);
                 write!(text, " {}/{line}/{column}/{width}", token.terminal)
                     .expect("a string grows");
             }
-            text
+            text + &format!(" tried {tried}")
         }
         Err(refusal) => refusal_text(refusal),
     }

@@ -280,10 +280,12 @@ impl<'a> Refuter<'a> {
 }
 
 /// The first candidate of 1 to `bound` tokens over these terminals that has two
-/// trees, given up after about `most_fills` fills of a chart.
+/// trees, given up after about `most_fills` fills of a chart. Lengths that are
+/// not in the set are passed over. The candidates tried are not counted here.
 pub fn search(
     rules: &[Rule],
     terminals: u64,
+    lengths: u8,
     bound: usize,
     words: &mut [u64],
     most_fills: u64,
@@ -291,7 +293,7 @@ pub fn search(
     let mut refuter = Refuter::new(rules, terminals, words, most_fills);
     // Without terminals there are no candidates.
     let longest = if terminals == 0 { 0 } else { bound };
-    for n in 1..=longest {
+    for n in (1..=longest).filter(|n| lengths >> n & 1 == 1) {
         let mut candidate = Candidate::first(terminals, n);
         let mut b = 0;
         while refuter.fills < most_fills {
@@ -302,12 +304,12 @@ pub fn search(
                 }
             } else if b == n {
                 let found = Some(candidate.tokens()[..n].to_vec());
-                return Swept { found, fills: refuter.fills, finished: true };
+                return Swept { found, fills: refuter.fills, finished: true, tried: 0 };
             } else {
                 b += 1;
             }
         }
     }
     let finished = refuter.fills < most_fills;
-    Swept { found: None, fills: refuter.fills, finished }
+    Swept { found: None, fills: refuter.fills, finished, tried: 0 }
 }
