@@ -6,3 +6,17 @@ pub mod late;
 pub mod library;
 pub mod random;
 pub mod twin;
+
+// The proved library's C functions, as the Rust crate declares and wraps them.
+#[cfg(feature = "library")]
+#[allow(dead_code)]
+#[path = "../../rust/src/c.rs"]
+mod c;
+
+#[cfg(feature = "library")]
+#[path = "../../rust/src/c_tours.rs"]
+mod c_tours;
+
+#[cfg(feature = "library")]
+#[path = "../../rust/src/c_trees.rs"]
+mod c_trees;

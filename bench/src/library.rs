@@ -1,5 +1,6 @@
-//! The proved library's C functions, as the Rust crate declares and wraps them.
-//! Without the feature `library` there are none, and each call answers nothing.
+//! Calls of the proved library, by the Rust crate's functions. Without the
+//! feature `library` there are none: the verdict and the sweep answer nothing
+//! then, and the calls that have no twin are left out.
 
 /// Is the library linked?
 pub const LINKED: bool = cfg!(feature = "library");
@@ -9,17 +10,8 @@ pub const LINKED: bool = cfg!(feature = "library");
 pub const FOUND: usize = 23;
 
 #[cfg(feature = "library")]
-#[allow(dead_code)]
-#[path = "../../rust/src/c.rs"]
-mod c;
-
-#[cfg(feature = "library")]
-#[path = "../../rust/src/c_trees.rs"]
-mod c_trees;
-
-#[cfg(feature = "library")]
 mod linked {
-    use super::{c, c_trees};
+    use crate::c;
 
     /// The verdict's code times 2^32 plus the line; `words` get the span sheet.
     pub fn verdict(rules: &[u8], tokens: &[u8], words: &mut [u64]) -> Option<u64> {
@@ -30,16 +22,6 @@ mod linked {
     /// how many candidates were tried.
     pub fn sweep(rules: &[u8], bound: u64, words: &mut [u64], found: &mut [u64]) -> Option<u64> {
         Some(c::sweep(rules, bound as usize, words, found))
-    }
-
-    /// The verdict's code times 2^32 plus the line, and the row counts of both trees.
-    pub fn rows(rules: &[u8], tokens: &[u8], words: &mut [u64]) -> (u64, [u64; 2]) {
-        c_trees::rows(rules, tokens, words)
-    }
-
-    /// The verdict's code times 2^32 plus the line, and how many places stand in `list`.
-    pub fn places(rules: &[u8], tokens: &[u8], words: &mut [u64], list: &mut [u8]) -> (u64, usize) {
-        c_trees::places(rules, tokens, words, list)
     }
 }
 
@@ -52,14 +34,13 @@ mod linked {
     pub fn sweep(_: &[u8], _: u64, _: &mut [u64], _: &mut [u64]) -> Option<u64> {
         None
     }
-
-    pub fn rows(_: &[u8], _: &[u8], _: &mut [u64]) -> (u64, [u64; 2]) {
-        (0, [0; 2])
-    }
-
-    pub fn places(_: &[u8], _: &[u8], _: &mut [u64], _: &mut [u8]) -> (u64, usize) {
-        (0, 0)
-    }
 }
 
-pub use linked::{places, rows, sweep, verdict};
+pub use linked::{sweep, verdict};
+
+#[cfg(feature = "library")]
+pub use crate::{
+    c::trees,
+    c_tours::{change, show},
+    c_trees::{places, rows},
+};

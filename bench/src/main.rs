@@ -5,6 +5,7 @@ mod calls;
 mod growth;
 mod search;
 mod tables;
+#[cfg(feature = "library")]
 mod trees;
 mod worst;
 
@@ -34,8 +35,11 @@ fn main() {
                 worst::words();
                 search::search(seconds);
             }
+            #[cfg(feature = "library")]
             'f' => trees::trees(),
             'g' => worst::lengths(),
+            #[cfg(not(feature = "library"))]
+            'f' => println!("({letter}) The library is not linked.\n"),
             _ => eprintln!("no table {letter}"),
         }
     }
