@@ -1,5 +1,6 @@
 //! Benchmark of the proved library against a plain Rust twin.
 
+pub mod clauses;
 pub mod clock;
 pub mod families;
 pub mod late;
@@ -12,6 +13,11 @@ pub mod twin;
 #[allow(dead_code)]
 #[path = "../../rust/src/c.rs"]
 mod c;
+
+#[cfg(feature = "library")]
+#[allow(dead_code)]
+#[path = "../../rust/src/c_clauses.rs"]
+mod c_clauses;
 
 #[cfg(feature = "library")]
 #[path = "../../rust/src/c_tours.rs"]

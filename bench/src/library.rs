@@ -41,6 +41,7 @@ pub use linked::{sweep, verdict};
 #[cfg(feature = "library")]
 pub use crate::{
     c::trees,
+    c_clauses::{expand, verdict as clause_verdict},
     c_tours::{change, show},
     c_trees::{places, rows},
 };

@@ -1,7 +1,9 @@
 //! Prints the tables of the benchmark: `bench [LETTERS] [SECONDS]`. The letters
-//! choose among the tables a to g; the seconds bound the search of table e.
+//! choose among the tables a to h; the seconds bound the search of table e.
 
 mod calls;
+#[cfg(feature = "library")]
+mod expansions;
 mod growth;
 mod search;
 mod tables;
@@ -13,7 +15,7 @@ mod worst;
 const SEARCH_SECONDS: f64 = 90.0;
 
 fn main() {
-    let mut letters = "abcdefg".to_string();
+    let mut letters = "abcdefgh".to_string();
     let mut seconds = SEARCH_SECONDS;
     for argument in std::env::args().skip(1) {
         match argument.parse() {
@@ -38,8 +40,10 @@ fn main() {
             #[cfg(feature = "library")]
             'f' => trees::trees(),
             'g' => worst::lengths(),
+            #[cfg(feature = "library")]
+            'h' => expansions::clause_sheets(),
             #[cfg(not(feature = "library"))]
-            'f' => println!("({letter}) The library is not linked.\n"),
+            'f' | 'h' => println!("({letter}) The library is not linked.\n"),
             _ => eprintln!("no table {letter}"),
         }
     }
