@@ -1,0 +1,73 @@
+-- Tokens whose columns are known between two ends, and what some choice of columns within them gives: 02, request 10.
+use mathlib.Core.Path.{_≡_}
+use mathlib.Core.List.{List, [], _∷_}
+use Prim.Native.Nat.{ℕ, _+_, _-_, _*_, _≤_, _<_}
+use lib.ListN.{length, take}
+use Rattle.grammar.specs.declared.Token.{Token}
+use Rattle.grammar.specs.Layout.{Word, line, col, width, Every}
+use Rattle.grammar.specs.Trees.{Rules}
+use Rattle.grammar.specs.Candidates.{Rising}
+use Rattle.chart.specs.declared.Verdict.{Verdict}
+use Rattle.chart.specs.Sheets.{Holds}
+use Rattle.column_ranges.specs.declared.RangeToken.{RangeToken}
+use Rattle.column_ranges.specs.declared.RangeSentence.{RangeSentence}
+
+-- the tokens of a range sheet
+abbrev pub Ranges : Type 0
+Ranges = List RangeToken
+
+-- t is r in a column within its ends; its width is 1
+pub record Within (r : RangeToken) (t : Token) : Type 0 where
+  pub terminal : t .terminal ≡ r .terminal
+  pub line : line t ≡ r .line .0
+  pub low : r .low .0 ≤ col t
+  pub high : col t ≤ r .high .0
+  pub width : width t ≡ 1
+
+-- w is a choice of columns within the ends, whether its positions rise or not
+abbrev pub Chosen : Ranges → Word → Type 0
+Chosen [] [] = Unit {0}
+Chosen [] (t ∷ w) = ⊥
+Chosen (r ∷ rs) [] = ⊥
+Chosen (r ∷ rs) (t ∷ w) = Within r t × Chosen rs w
+
+-- some choice of columns within the ends, with positions properly rising, gives the verdict v
+pub record Gives (g : Rules) (rs : Ranges) (v : Verdict) : Type 0 where
+  pub word : Word
+  pub chosen : Chosen rs word
+  pub rising : Rising word
+  pub verdict : Holds v g 0 word
+
+-- how many columns the ends of r allow
+abbrev pub columns : RangeToken → ℕ
+columns r = r .high .0 + 1 - r .low .0
+
+-- how many choices the ends allow, rising or not: one of no tokens
+abbrev pub choices : Ranges → ℕ
+choices [] = 1
+choices (r ∷ rs) = columns r * choices rs
+
+-- 49: more are refused
+abbrev pub limit : ℕ
+limit = 65536
+
+-- the first `count` of the tokens
+abbrev pub ranged : RangeSentence → Ranges
+ranged s = take (s .count) (s .tokens)
+
+-- what refusals 13 and 48 see to: ends in the order of their names, and a column's bounds
+pub record Ended (r : RangeToken) : Type 0 where
+  pub ordered : r .low .0 ≤ r .high .0
+  pub least : 1 ≤ r .low .0
+  pub most : r .high .0 ≤ 65535
+
+-- at most 64 tokens, each with its ends
+pub record Spread (s : RangeSentence) : Type 0 where
+  pub few : s .count ≤ 64
+  pub whole : length (ranged s) ≡ s .count
+  pub ended : Every Ended (ranged s)
+
+-- m counts the choices, where they are within the limit; otherwise it is above the limit as they are
+pub record Counts (rs : Ranges) (m : ℕ) : Type 0 where
+  pub exact : m ≤ limit → m ≡ choices rs
+  pub over : limit < m → limit < choices rs

@@ -1,0 +1,36 @@
+-- 49 by the count of the choices.
+use mathlib.Core.Path.{_≡_, sym, ap, _∙_, subst}
+use native.Mathlib.Omega.{arith}
+use Prim.Native.Nat.{ℕ, _≤_}
+use Rattle.sheets.specs.Items.{Reading}
+use Rattle.column_ranges.specs.declared.RangeToken.{RangeToken}
+use Rattle.column_ranges.specs.Ranges.{choices, limit, ranged}
+use Rattle.range_sheets.specs.Promises.{RangesRead}
+use Rattle.range_sheets.proofs.Accepted.{counted-few, counted-many, not-refused}
+use borrow.Author.Needs.{needs}
+use Rattle.range_sheets.proofs.finished.Statement.{statement}
+use Rattle.range_sheets.proofs.finished.Tie as tie
+
+count-requires : tie.Need-count-requires
+count-requires c κs = search needs
+
+refuse-ranges-requires : tie.Need-refuse-ranges-requires
+refuse-ranges-requires c κs = search needs
+
+returns : tie.Need-returns
+returns c = subst (λ (x : Reading RangeToken). RangesRead (c .refuse-ranges .result) x) (sym (counted-many (ranged (record { tokens = c .before .before .before .args .tokens; count = c .before .before .before .args .n })) (c .before .before .count .ensures .over (c .before .if1 .taken)))) (c .refuse-ranges .ensures)
+
+returns-2 : tie.Need-returns-2
+returns-2 c =
+    let z = c .before .before in
+    let e = c .before .count .ensures .exact (c .if1 .left) in
+    let h : choices (ranged (record { tokens = z .args .tokens; count = z .args .n })) ≤ limit = omega (arith, e, c .if1 .left) in
+    record {
+      is = sym (counted-few (ranged (record { tokens = z .args .tokens; count = z .args .n })) h);
+      spread = λ q. z .pre;
+      few = λ q. h;
+      none = λ f l q. absurd (not-refused q);
+    }
+
+pub finished-spec : {M : Type 1} → statement M
+finished-spec = tie.close (tie.spec count-requires refuse-ranges-requires returns returns-2)
