@@ -233,7 +233,7 @@ module _ (ws ws′ : List ℕ) (g : Rules) (h : Half) (n : ℕ) (long : length (
 
 -- ---- laws of exact sheets
 
-whole-part : (w : Word) (n : ℕ) → length w ≡ n → part w 0 n ≡ w
+pub whole-part : (w : Word) (n : ℕ) → length w ≡ n → part w 0 n ≡ w
 whole-part w n e = take-all n w (omega arith)
 
 -- where all is known it is 01's span sheet

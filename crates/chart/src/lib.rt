@@ -632,7 +632,7 @@ pub fn fill(words: &mut [u64], d: Draft, codes: &[u64], from: usize, to: usize)
 }
 
 // Write the pairs of the empty word and of each token of the draft.
-fn fill_leaves(words: &mut [u64], d: Draft, codes: &[u64])
+pub fn fill_leaves(words: &mut [u64], d: Draft, codes: &[u64])
     requires { ⌜ d .count ≤ 64 ⌝ }
     requires { ⌜ 2 * pairs (d .count) ≤ length (now words) ⌝ }
     requires { ⌜ Distinct (decoded (now codes)) ⌝ }

@@ -19,7 +19,7 @@ pub struct RangeSentence {
 }
 
 // How many columns the ends allow.
-fn columns(t: RangeToken) -> usize
+pub fn columns(t: RangeToken) -> usize
     requires { ⌜ Ended t ⌝ }
     ensures { λ r. ⌜ r ≡ columnsOf t ⌝ }
 {

@@ -312,7 +312,7 @@ pub fn read_rules(s: &[u8]) -> GrammarRead
 }
 
 // A later line, or the same line and a column at or past the column plus width.
-fn comes_after(a: Token, b: Token) -> bool
+pub fn comes_after(a: Token, b: Token) -> bool
     ensures { λ r. ⌜ r ≡ after a b ⌝ }
 {
     if a.line.0 < b.line.0 {
