@@ -1,0 +1,67 @@
+-- The promise settles the whole answer and the lent words.
+use mathlib.Core.Path.{_≡_, refl, sym, ap, _∙_}
+use mathlib.Core.Bool.{Bool, true, false}
+use mathlib.Core.List.{List}
+use Prim.Native.Nat.{ℕ, _*_, _≤_, _<_}
+use native.Mathlib.Omega.{arith}
+use lib.ListN.{length}
+use Rattle.sets.specs.Says.{Says}
+use Rattle.grammar.specs.Trees.{Rules}
+use Rattle.grammar.specs.SpanSheet.{pairs}
+use Rattle.choosing.specs.declared.Flags.{Flags}
+use Rattle.chart.specs.declared.Verdict.the-variants as Verdict
+use Rattle.choosing.specs.Answers.{Settled}
+use Rattle.sheets.proofs.Numbers.{same-fault}
+use Rattle.column_ranges.specs.Ranges.{Ranges}
+use Rattle.sheets.specs.declared.Fault.{Fault}
+use Rattle.teplonga.specs.declared.Answer.the-variants as Answer
+use Rattle.call_columns.specs.declared.ColumnsReply.{ColumnsReply}
+use Rattle.sheets.specs.Items.{Reading, accepted, refused}
+use Rattle.call_columns.specs.Columns.{refusal, ColumnsOn, short, given, ColumnsOf, bad-rules, bad-ranges, reading}
+
+-- two bools that say the same thing are the same
+says-same : {P : Type 0} (a b : Bool) → Says a P → Says b P → a ≡ b
+says-same true true s t = refl
+says-same true false s t = absurd (t .isnt refl (s .is refl))
+says-same false true s t = absurd (s .isnt refl (t .is refl))
+says-same false false s t = refl
+
+pub flags-same : {g : Rules} {rs : Ranges} (f f′ : Flags) → Settled g rs f → Settled g rs f′ → f ≡ f′
+flags-same f f′ s t =
+    let a = says-same (f .none) (f′ .none) (s .says Verdict.None) (t .says Verdict.None) in
+    let b = says-same (f .one) (f′ .one) (s .says Verdict.One) (t .says Verdict.One) in
+    let c = says-same (f .two) (f′ .two) (s .says Verdict.Two) (t .says Verdict.Two) in
+    λ i. record { none = a i; one = b i; two = c i }
+
+pub columns-on : (g : Rules) (rs : Ranges) {ws a b : List ℕ} {r s : ColumnsReply} → ColumnsOn g rs ws a r → ColumnsOn g rs ws b s → (r ≡ s) × (a ≡ b)
+columns-on g rs (short {f = f} l n x h) (short {f = f′} m o y k) = (x ∙ ap (λ (z : Fault). refusal z 0) (same-fault f f′ 21 n o) ∙ sym y, h ∙ sym k)
+columns-on g rs (short l n x h) (given m o y k) = absurd (omega (arith, l, m))
+columns-on g rs (given m o y k) (short l n x h) = absurd (omega (arith, l, m))
+columns-on g rs (given {f = f} l n x h) (given {f = f′} m o y k) =
+    (x ∙ ap (λ (z : Flags). record { answer = Answer.Given; line = 0; found = z }) (flags-same f f′ n o) ∙ sym y, h ∙ sym k)
+
+-- ---- the whole promise
+
+apart : {A : Type 0} {o : Reading A} {f : Fault} {l : ℕ} {x : List A} → o ≡ refused f l → o ≡ accepted x → ⊥
+apart e d = let z : _≡_ {A = ℕ} 0 1 = cc in omega arith
+
+same-items : {A : Type 0} {o : Reading A} {x y : List A} → o ≡ accepted x → o ≡ accepted y → x ≡ y
+same-items e d = cc
+
+same-refusal : {A : Type 0} {o : Reading A} {f f′ : Fault} {l l′ : ℕ} → o ≡ refused f l → o ≡ refused f′ l′ → (f ≡ f′) × (l ≡ l′)
+same-refusal e d = (cc, cc)
+
+refusals : {f f′ : Fault} {l l′ : ℕ} {ws a b : List ℕ} {r s : ColumnsReply} → (f ≡ f′) × (l ≡ l′) → r ≡ refusal f l → s ≡ refusal f′ l′ → a ≡ ws → b ≡ ws → (r ≡ s) × (a ≡ b)
+refusals z x y h k = (x ∙ (λ i. refusal (z .0 i) (z .1 i)) ∙ sym y, h ∙ sym k)
+
+pub columns-settled : (rules ranges : List ℕ) {ws a b : List ℕ} {r s : ColumnsReply}
+    → ColumnsOf rules ranges ws a r → ColumnsOf rules ranges ws b s → (r ≡ s) × (a ≡ b)
+columns-settled rules ranges (bad-rules e x h) (bad-rules d y k) = refusals (same-refusal e d) x y h k
+columns-settled rules ranges (bad-rules e x h) (bad-ranges d m y k) = absurd (apart e d)
+columns-settled rules ranges (bad-rules e x h) (reading d m y) = absurd (apart e d)
+columns-settled rules ranges (bad-ranges d m y k) (bad-rules e x h) = absurd (apart e d)
+columns-settled rules ranges (bad-ranges e m x h) (bad-ranges d n y k) = refusals (same-refusal m n) x y h k
+columns-settled rules ranges (bad-ranges e m x h) (reading d n y) = absurd (apart m n)
+columns-settled rules ranges (reading d n y) (bad-rules e x h) = absurd (apart e d)
+columns-settled rules ranges (reading d n y) (bad-ranges e m x h) = absurd (apart m n)
+columns-settled rules ranges (reading {g = g} {rs = rs} e m x) (reading d n y) = columns-on g rs x (rw (← same-items e d, ← same-items m n) at y)

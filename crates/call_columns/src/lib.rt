@@ -1,0 +1,79 @@
+// The public call for columns read off a photograph: which verdicts some choice of columns within the ends gives (02, request 10).
+use choosing::Flags;
+use choosing::choose;
+use column_ranges::RangeSentence;
+use grammar::Grammar;
+use range_sheets::read_ranges;
+use sheets::Fault;
+use sheets::Outcome;
+use sheets::read_rules;
+use spans::size;
+use teplonga::Answer;
+ghost use mathlib.Core.Path.{_≡_};
+ghost use Rattle.grammar.specs.Content.{rules as rulesOf, Formed};
+ghost use Rattle.column_ranges.specs.Ranges.{ranged, Spread};
+ghost use Rattle.call_columns.specs.Columns.{refusal, ColumnsOn, ColumnsOf};
+
+// Given, or refused with the refused line's number, or 0; and of each verdict: does some rising choice give it? On a refusal
+// all three are no.
+pub struct ColumnsReply {
+    pub answer: Answer,
+    pub line: usize,
+    pub found: Flags,
+}
+
+// A refused call.
+fn refuse(f: Fault, line: usize) -> ColumnsReply
+    ensures { λ r. ⌜ r ≡ refusal f line ⌝ }
+{
+    ColumnsReply {
+        answer: Answer::Refused(f),
+        line,
+        found: Flags {
+            none: false,
+            one: false,
+            two: false,
+        },
+    }
+}
+
+// The answer on rules and ranges that were read.
+fn answered(g: Grammar, r: RangeSentence, words: &mut [u64]) -> ColumnsReply
+    requires { ⌜ Formed g ⌝ }
+    requires { ⌜ Spread r ⌝ }
+    ensures { λ a. ⌜ ColumnsOn (rulesOf g) (ranged r) (now (words .entry)) (now (words .exit)) a ⌝ }
+{
+    let n = r.count;
+    if words.len() < size(n) {
+        return refuse(Fault::FewWords, 0);
+    }
+    let found = choose(g, r, words);
+    ColumnsReply {
+        answer: Answer::Given,
+        line: 0,
+        found,
+    }
+}
+
+// Which of none, one and two does some choice of columns within the ends give, with positions properly rising?
+pub fn columns(rules: &[u8], ranges: &[u8], words: &mut [u64]) -> ColumnsReply
+    ensures { λ r. ⌜ ColumnsOf (now (rules .entry)) (now (ranges .entry)) (now (words .entry)) (now (words .exit)) r ⌝ }
+{
+    let a = read_rules(rules);
+    let o = a.outcome;
+    match o {
+        Outcome::Refused(f, l) => refuse(f, l),
+        Outcome::Accepted => {
+            let b = read_ranges(ranges);
+            let p = b.outcome;
+            match p {
+                Outcome::Refused(f, l) => refuse(f, l),
+                Outcome::Accepted => {
+                    let g = a.grammar;
+                    let r = b.sentence;
+                    answered(g, r, words)
+                }
+            }
+        }
+    }
+}
