@@ -1,0 +1,48 @@
+-- `put_values` meets its contract, part by part.
+use native.Mathlib.Omega.{arith}
+use Rattle.printing.proofs.Writing.{wrote-then, wrote-none}
+use Rattle.printing.proofs.Decimals.{decimal-length}
+use Rattle.share_text.specs.Shares.{shareLines}
+use borrow.Author.Needs.{needs}
+use Rattle.share_text.proofs.put_values.Statement.{statement}
+use Rattle.share_text.proofs.put_values.Tie as tie
+
+slice-aggregate-put-bytes : tie.Need-slice-aggregate-put-bytes
+slice-aggregate-put-bytes c = search needs
+
+put-bytes-requires : tie.Need-put-bytes-requires
+put-bytes-requires c κs = search needs
+
+put-value-requires : tie.Need-put-value-requires
+put-value-requires c κs = search needs
+
+put-value-requires-2 : tie.Need-put-value-requires-2
+put-value-requires-2 c κs = search needs
+
+put-found-requires : tie.Need-put-found-requires
+put-found-requires c κs = search needs
+
+put-byte-requires : tie.Need-put-byte-requires
+put-byte-requires c κs = search needs
+
+same-length : tie.Need-same-length
+same-length c = search needs
+
+returns : tie.Need-returns
+unfolding shareLines
+returns c =
+    let tail = wrote-then (c .before .before .before .before .before .before .before .before .before .before .put-value2 .ensures .0) (wrote-then (c .before .before .before .before .before .before .put-found .ensures .0) (c .before .before .put-byte .ensures)) in
+    (wrote-then (c .before .before .before .before .before .before .before .before .before .before .before .before .before .before .before .before .before .before .put-bytes .ensures) (wrote-then (c .before .before .before .before .before .before .before .before .before .before .before .before .before .before .put-value .ensures .0) tail), omega (arith, c .before .before .before .before .before .before .before .before .before .before .before .before .before .before .before .before .before .before .put-bytes .ensures .next, c .before .before .before .before .before .before .before .before .before .before .before .before .before .before .put-value .ensures .1, c .before .before .before .before .before .before .before .before .before .before .put-value2 .ensures .1, c .before .before .before .before .before .before .put-found .ensures .1, c .before .before .put-byte .ensures .next))
+
+pub put-values-spec : {M : Type 1} → statement M
+put-values-spec =
+    tie.close
+    (tie.spec
+    slice-aggregate-put-bytes
+    put-bytes-requires
+    put-value-requires
+    put-value-requires-2
+    put-found-requires
+    put-byte-requires
+    same-length
+    returns)
