@@ -10,6 +10,7 @@ use Rattle.call_sheets.specs.declared.Call.the-variants as Call
 use Rattle.clause_calls.specs.Calls.{clauseSheets}
 use Rattle.clause_sheets.specs.ClauseSheets.{clauseSheet}
 use Rattle.clause_text.specs.Texts.{ExpandText}
+use Rattle.share_text.specs.Shares.{ShareTextOf}
 use Rattle.text.specs.Input.{Parts, parts}
 use Rattle.text.specs.Output.{refusedText, head}
 use Rattle.text.specs.Programs.{longest, TreesText, SweepText}
@@ -49,7 +50,7 @@ CallText sheet Call.Clauses behind text = Two ClausesText behind text
 CallText sheet (Call.ClausesSweep k) behind text = SweepText k (clauseSheet behind) text
 CallText sheet Call.Expand behind text = ExpandText behind text
 CallText sheet Call.Rows behind text = Two RowsTextOf behind text
-CallText sheet (Call.Share n p i) behind text = Unwritten text
+CallText sheet (Call.Share n p i) behind text = ShareTextOf n p i behind text
 CallText sheet Call.Columns behind text = Unwritten text
 CallText sheet Call.Places behind text = Two PlacesTextOf behind text
 CallText sheet (Call.Show u) behind text = Three (ShownText u) behind text

@@ -4,6 +4,7 @@ use call_sheets::call_of;
 use clause_text::clauses_sweep_text;
 use clause_text::clauses_text;
 use clause_text::expand_text;
+use share_text::share_text;
 use text::Place;
 use text::parting;
 use text::put_refusal;
@@ -123,7 +124,7 @@ fn answer(call: Call, sheet: &[u8], s: &[u8], out: &mut [u8]) -> usize
         Call::ClausesSweep(k) => clauses_sweep_text(s, k, out),
         Call::Expand => expand_text(s, out),
         Call::Rows => rows_call(s, out),
-        Call::Share(_, _, _) => put_refusal(out, 32),
+        Call::Share(n, p, i) => share_text(s, n, p, i, out),
         Call::Columns => put_refusal(out, 32),
         Call::Places => places_call(s, out),
         Call::Show(u) => show_call(s, u, out),

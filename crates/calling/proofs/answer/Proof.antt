@@ -29,6 +29,12 @@ enum-told-3 c = search needs
 rows-call-requires : tie.Need-rows-call-requires
 rows-call-requires c κs = search needs
 
+enum-known-call-2 : tie.Need-enum-known-call-2
+enum-known-call-2 c = search needs
+
+share-text-requires : tie.Need-share-text-requires
+share-text-requires c κs = search needs
+
 enum-told-4 : tie.Need-enum-told-4
 enum-told-4 c = search needs
 
@@ -38,34 +44,28 @@ put-refusal-requires c κs = search needs
 enum-told-5 : tie.Need-enum-told-5
 enum-told-5 c = search needs
 
-put-refusal-requires-2 : tie.Need-put-refusal-requires-2
-put-refusal-requires-2 c κs = search needs
-
-enum-told-6 : tie.Need-enum-told-6
-enum-told-6 c = search needs
-
 places-call-requires : tie.Need-places-call-requires
 places-call-requires c κs = search needs
-
-enum-known-call-2 : tie.Need-enum-known-call-2
-enum-known-call-2 c = search needs
-
-show-call-requires : tie.Need-show-call-requires
-show-call-requires c κs = search needs
 
 enum-known-call-3 : tie.Need-enum-known-call-3
 enum-known-call-3 c = search needs
 
+show-call-requires : tie.Need-show-call-requires
+show-call-requires c κs = search needs
+
+enum-known-call-4 : tie.Need-enum-known-call-4
+enum-known-call-4 c = search needs
+
 change-call-requires : tie.Need-change-call-requires
 change-call-requires c κs =
     let m = c .before .before in
-    (search needs, rw (m .call3 .given .1) at (m .before .before .before .before .before .pre .1))
+    (search needs, rw (m .call4 .given .1) at (m .before .before .before .before .before .pre .1))
 
-enum-told-7 : tie.Need-enum-told-7
-enum-told-7 c = search needs
+enum-told-6 : tie.Need-enum-told-6
+enum-told-6 c = search needs
 
-put-refusal-requires-3 : tie.Need-put-refusal-requires-3
-put-refusal-requires-3 c κs = search needs
+put-refusal-requires-2 : tie.Need-put-refusal-requires-2
+put-refusal-requires-2 c κs = search needs
 
 same-length : tie.Need-same-length
 same-length c = search needs
@@ -109,7 +109,8 @@ same-length-5 c = search needs
 returns-5 : tie.Need-returns-5
 returns-5 c =
     let z = c .before .before in
-    record { text = head (refusedText 32) 0; is = rw (z .before .before .enum-told4 .given .1) refl; wrote = z .put-refusal .ensures }
+    let a = z .share-text .ensures in
+    record { text = a .text; is = rw (z .before .before .before .call2 .given .1) (a .is); wrote = a .wrote }
 
 same-length-6 : tie.Need-same-length-6
 same-length-6 c = search needs
@@ -117,7 +118,7 @@ same-length-6 c = search needs
 returns-6 : tie.Need-returns-6
 returns-6 c =
     let z = c .before .before in
-    record { text = head (refusedText 32) 0; is = rw (z .before .before .enum-told5 .given .1) refl; wrote = z .put-refusal2 .ensures }
+    record { text = head (refusedText 32) 0; is = rw (z .before .before .enum-told4 .given .1) refl; wrote = z .put-refusal .ensures }
 
 same-length-7 : tie.Need-same-length-7
 same-length-7 c = search needs
@@ -126,7 +127,7 @@ returns-7 : tie.Need-returns-7
 returns-7 c =
     let z = c .before .before in
     let a = z .places-call .ensures in
-    record { text = a .text; is = rw (z .before .before .enum-told6 .given .1) (a .is); wrote = a .wrote }
+    record { text = a .text; is = rw (z .before .before .enum-told5 .given .1) (a .is); wrote = a .wrote }
 
 same-length-8 : tie.Need-same-length-8
 same-length-8 c = search needs
@@ -135,7 +136,7 @@ returns-8 : tie.Need-returns-8
 returns-8 c =
     let z = c .before .before in
     let a = z .show-call .ensures in
-    record { text = a .text; is = rw (z .before .before .before .call2 .given .1) (a .is); wrote = a .wrote }
+    record { text = a .text; is = rw (z .before .before .before .call3 .given .1) (a .is); wrote = a .wrote }
 
 same-length-9 : tie.Need-same-length-9
 same-length-9 c = search needs
@@ -144,7 +145,7 @@ returns-9 : tie.Need-returns-9
 returns-9 c =
     let z = c .before .before in
     let a = z .change-call .ensures in
-    record { text = a .text; is = rw (z .before .before .before .call3 .given .1) (a .is); wrote = a .wrote }
+    record { text = a .text; is = rw (z .before .before .before .call4 .given .1) (a .is); wrote = a .wrote }
 
 same-length-10 : tie.Need-same-length-10
 same-length-10 c = search needs
@@ -152,7 +153,7 @@ same-length-10 c = search needs
 returns-10 : tie.Need-returns-10
 returns-10 c =
     let z = c .before .before in
-    record { text = head (refusedText 32) 0; is = rw (z .before .before .enum-told7 .given .1) refl; wrote = z .put-refusal3 .ensures }
+    record { text = head (refusedText 32) 0; is = rw (z .before .before .enum-told6 .given .1) refl; wrote = z .put-refusal2 .ensures }
 
 pub answer-spec : {M : Type 1} → statement M
 answer-spec =
@@ -166,18 +167,18 @@ answer-spec =
     expand-text-requires
     enum-told-3
     rows-call-requires
+    enum-known-call-2
+    share-text-requires
     enum-told-4
     put-refusal-requires
     enum-told-5
-    put-refusal-requires-2
-    enum-told-6
     places-call-requires
-    enum-known-call-2
-    show-call-requires
     enum-known-call-3
+    show-call-requires
+    enum-known-call-4
     change-call-requires
-    enum-told-7
-    put-refusal-requires-3
+    enum-told-6
+    put-refusal-requires-2
     same-length
     returns
     same-length-2
