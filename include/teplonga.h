@@ -2,7 +2,8 @@
  * Teplonga's calls for C and C++, on x86-64 Linux.
  *
  * Link: `rt staticlib NAME` proves a library and writes target/staticlib/libNAME.a, where NAME is
- * face, face_trees (rows and places), face_clauses (clause sheets) or face_tours (show and change);
+ * face, face_trees (rows and places), face_clauses (clause sheets), face_tours (show and change) or
+ * face_shares (shares of a sweep);
  * a program takes those that have the functions that it calls, and nothing else:
  *
  *     cc -I include program.c target/staticlib/libface.a target/staticlib/libface_trees.a
@@ -15,7 +16,7 @@
  * Calls are reentrant: they have no state of their own and may run in any threads at once, each on
  * its own lent memory. They allocate nothing, take no lock, set no errno and make no system call.
  *
- * Stack: the verdict, its trees and a sweep need 16 KB, row counts 20 KB, places 32 KB, calls on clause
+ * Stack: the verdict, its trees, a sweep and a share need 16 KB, row counts 20 KB, places 32 KB, calls on clause
  * sheets 40 KB, the refused line 12 KB,
  * whatever they are asked; TEPLONGA_STACK bytes are enough for any call.
  *
@@ -108,12 +109,16 @@ enum {
     TEPLONGA_RIGHTS = 150,
     /* 51, change: the user may not change that rule, or there is no such rule */
     TEPLONGA_NO_RIGHT = 151,
-    /* 23, sweep: the bound is not 1 to 7 */
+    /* 23, sweep, a share: the bound, or the length of a share, is not 1 to 7 */
     TEPLONGA_BAD_BOUND = 123,
-    /* 24, sweep: the sweep is too large: `T^k * 3^(k-1) * k^k` is above 4,294,967,296 */
+    /* 24, sweep, a share: the sweep is too large: `T^k * 3^(k-1) * k^k` is above 4,294,967,296 */
     TEPLONGA_MANY_CANDIDATES = 124,
-    /* 21, lent words: fewer words are lent than the span sheet needs (for a sweep: with as many
-     * tokens as the bound) */
+    /* 45, a share: the number of racks is not 1 to 64 */
+    TEPLONGA_BAD_RACKS = 145,
+    /* 46, a share: the share is not below the number of racks */
+    TEPLONGA_BAD_SHARE = 146,
+    /* 21, lent words: fewer words are lent than the span sheet needs (for a sweep or a share: with
+     * as many tokens as the bound or the length) */
     TEPLONGA_FEW_WORDS = 121,
     /* 22, lent tree rows: a tree of the answer has more rows than its memory has whole places of
      * four bytes (`check` lends 4,096), or a list does not fit into the bytes lent for it */
@@ -269,6 +274,27 @@ uint64_t teplonga_change(const uint8_t *rules, size_t rules_length,
                          const uint8_t *lay, size_t lay_length,
                          uint8_t *bytes, size_t bytes_length,
                          uint64_t *count, size_t count_length);
+/* The most racks among which a sweep is divided. */
+#define TEPLONGA_MOST_RACKS 64
+
+/*
+ * One share of a sweep that is divided among racks: two, where an arrangement of `length` tokens
+ * with a number in share `index` of `racks` rises and has two trees, or clear, or refused 1 to 8, 44,
+ * 23, 24 (both of `length`), 45, 46 or 21.
+ *
+ * All T^n * 3^(n-1) * n^n arrangements of n tokens are numbered from 0 in the sweep's order, those
+ * whose positions do not rise too. The shares are runs of these numbers, share 0 first.
+ *
+ * `numbers` gets the lowest number in the share that has two trees, the quotient of all numbers by
+ * the racks, and the remainder: the first shares, as many as that, have one number more. On `clear`
+ * the number is 0, on a refusal all three are; places past these never change, and fewer than 3 are
+ * left as they were. `words` and `found` are as after a sweep, with `length` for the bound.
+ */
+uint64_t teplonga_share(const uint8_t *rules, size_t rules_length,
+                        size_t length, size_t racks, size_t index,
+                        uint64_t *words, size_t words_length,
+                        uint64_t *numbers, size_t numbers_length,
+                        uint64_t *found, size_t found_length);
 
 /* A part of a sheet: bytes of the sheet itself, not a copy of them. */
 typedef struct teplonga_part {

@@ -467,6 +467,49 @@ static void sweeps(void)
     free(many);
 }
 
+/* ---------------------------------------------------------------------- shares */
+
+static uint64_t share(const char *rules, size_t length, size_t racks, size_t index, size_t n, uint64_t **lent, uint64_t **numbers, uint64_t **found)
+{
+    struct sheet r = sheet(rules);
+
+    *lent = words(n, 7);
+    *numbers = words(4, 7);
+    *found = words(23, 7);
+    return teplonga_share(r.at, r.length, length, racks, index, *lent, n, *numbers, 4, *found, 23);
+}
+
+/* Refused: three numbers and all places 0, and no word changed. */
+static void no_share(uint64_t answer_wanted, const char *rules, size_t length, size_t racks, size_t index, size_t n)
+{
+    uint64_t *lent, *numbers, *answer;
+
+    CHECK(share(rules, length, racks, index, n, &lent, &numbers, &answer) == answer_wanted);
+    CHECK(all_words(lent, n, 7) && all_words(numbers, 3, 0) && numbers[3] == 7);
+    CHECK(all_words(answer, 22, 0) && answer[22] == 7);
+}
+
+static void shares(void)
+{
+    uint64_t *lent, *numbers, *answer;
+
+    /* 243 arrangements: 12 * 20 + 3; the sweep's sentence has the number 11 */
+    CHECK(share(PLAIN, 3, 12, 0, 16, &lent, &numbers, &answer) == coded(TEPLONGA_TWO, 0));
+    CHECK(numbers[0] == 11 && numbers[1] == 20 && numbers[2] == 3 && numbers[3] == 7);
+    CHECK(all_words(lent, 14, 0) && all_words(lent + 14, 2, 7));
+    CHECK(answer[0] == 3 && answer[6] == 2 && answer[9] == 3 && all_words(answer + 10, 12, 0) && answer[22] == 7);
+    CHECK(share(PLAIN, 1, 64, 63, 4, &lent, &numbers, &answer) == coded(TEPLONGA_CLEAR, 0));
+    CHECK(numbers[0] == 0 && numbers[1] == 0 && numbers[2] == 1 && all_words(answer, 22, 0) && all_words(lent, 4, 0));
+    no_share(coded(TEPLONGA_BAD_BOUND, 0), PLAIN, 0, 0, 9, 60);
+    no_share(coded(TEPLONGA_BAD_BOUND, 0), PLAIN, (size_t)-1, 1, 0, 60);
+    no_share(coded(TEPLONGA_BAD_RACKS, 0), PLAIN, 3, 0, 0, 60);
+    no_share(coded(TEPLONGA_BAD_RACKS, 0), PLAIN, 3, TEPLONGA_MOST_RACKS + 1, 70, 0);
+    no_share(coded(TEPLONGA_BAD_SHARE, 0), PLAIN, 3, 12, 12, 0);
+    no_share(coded(TEPLONGA_BAD_SHARE, 0), PLAIN, 3, TEPLONGA_MOST_RACKS, (size_t)-1, 60);
+    no_share(coded(TEPLONGA_FEW_WORDS, 0), PLAIN, 3, 12, 11, 13);
+    no_share(coded(TEPLONGA_RULE_TWICE, 4), PLAIN "0 A 0 - none\n", 3, 12, 0, 60);
+}
+
 /* --------------------------------------------------------------- refused line */
 
 /* The refused line is this part of the rule sheet (or of the token sheet). */
@@ -612,6 +655,8 @@ int main(int count, char **arguments)
         shown();
         changed();
         sweeps();
+        shares();
+    shares();
         refused_lines();
     }
     threads();

@@ -101,6 +101,8 @@ CASES = [
     (32, 0, ("teplonga rows", PLAIN)),
     (23, 0, sweep(8)),
     (24, 0, sweep(5, RULES + "0 A 0 7 none\n")),
+    (45, 0, ("teplonga share 3 65 70", PLAIN)),
+    (46, 0, ("teplonga share 3 12 12", PLAIN)),
     (22, 0, check(RULES + "".join(f"{n} B {n + 1} {n + 1} none\n" for n in range(12)) + "12 E - - none\n")),
 ]
 

@@ -13,6 +13,7 @@
 //! | [`show`] | the verdict, and the rows of both trees as a user may see them |
 //! | [`change`] | a rule sheet with a mark that a user may change |
 //! | [`sweep`] | the first short sentence that has two trees, or clear |
+//! | [`share`] | one share of a sweep that is divided among racks |
 //! | [`refused_line`] | the refused line itself, as a part of its sheet |
 //! | [`clauses`] | a module: verdict, trees, sweep and refused line of clause sheets, and the rule sheet that one expands to |
 //!
@@ -43,6 +44,8 @@ mod c;
 #[allow(unsafe_code)]
 mod c_clauses;
 #[allow(unsafe_code)]
+mod c_shares;
+#[allow(unsafe_code)]
 mod c_tours;
 #[allow(unsafe_code)]
 mod c_trees;
@@ -51,6 +54,7 @@ mod place;
 mod refusal;
 mod row_count;
 mod sentence;
+mod share;
 mod sheet;
 mod tree;
 
@@ -59,6 +63,7 @@ pub use place::{Place, Places, PlacesReply, PLACE};
 pub use refusal::{Refusal, Refused};
 pub use row_count::{RowCount, RowsReply};
 pub use sentence::{Column, Line, SweepReply, Token};
+pub use share::{ShareReply, MOST_RACKS};
 pub use sheet::SheetReply;
 pub use tree::{Kind, Row, Rows, TreesReply};
 
@@ -262,6 +267,39 @@ pub fn sweep(rules: &[u8], bound: usize, words: &mut [u64]) -> SweepReply {
     let mut found = [0; sentence::PLACES];
     let word = c::sweep(rules, bound, words, &mut found);
     SweepReply::unpacked(word, &found)
+}
+
+/// The lowest number of share `index` of `racks` whose arrangement of `length`
+/// tokens has two trees, or clear.
+///
+/// The arrangements of a length are numbered from 0 in the sweep's order. The
+/// shares are runs of these numbers, share 0 first; the first shares, as many as
+/// the remainder, have one number more. Over the lengths 1 to k the lowest number
+/// of the shortest length that reports one has the sweep's sentence, and where
+/// none does the sweep is clear. A share needs `words_for(length)` words; an
+/// accepted one leaves them 0.
+///
+/// ```
+/// use teplonga::{share, sweep, words_for};
+///
+/// let rules = b"left kind first second lay\n0 B 0 0 none\n0 A 0 - none\n";
+/// let mut words = vec![0; words_for(3)];
+/// let reports = (0..12).map(|index| share(rules, 3, 12, index, &mut words));
+/// let mut found: Vec<_> = reports.filter(|reply| !reply.sentence().is_empty()).collect();
+/// found.sort_by_key(|reply| reply.number);
+/// assert_eq!((found[0].quotient, found[0].remainder), (20, 3));
+/// assert_eq!(found[0].sentence(), sweep(rules, 3, &mut words).sentence());
+/// ```
+pub fn share(
+    rules: &[u8],
+    length: usize,
+    racks: usize,
+    index: usize,
+    words: &mut [u64],
+) -> ShareReply {
+    let mut found = [0; sentence::PLACES];
+    let (word, numbers) = c_shares::share(rules, [length, racks, index], words, &mut found);
+    ShareReply::unpacked(word, numbers, &found)
 }
 
 /// The line for which a call with these sheets is refused, without its byte 10,

@@ -63,13 +63,17 @@ pub enum Refusal {
     Rights = 50,
     /// 51, change: the user may not change that rule, or there is no such rule.
     NoRight = 51,
-    /// 23, sweep: the bound is not 1 to 7.
+    /// 23, sweep, a share: the bound, or the length of a share, is not 1 to 7.
     BadBound = 23,
-    /// 24, sweep: the sweep is too large: `T^k * 3^(k-1) * k^k` is above
+    /// 24, sweep, a share: the sweep is too large: `T^k * 3^(k-1) * k^k` is above
     /// 4,294,967,296.
     ManyCandidates = 24,
-    /// 21, lent words: fewer words are lent than the span sheet needs (for a sweep:
-    /// with as many tokens as the bound).
+    /// 45, a share: the number of racks is not 1 to 64.
+    BadRacks = 45,
+    /// 46, a share: the share is not below the number of racks.
+    BadShare = 46,
+    /// 21, lent words: fewer words are lent than the span sheet needs (for a sweep
+    /// or a share: with as many tokens as the bound or the length).
     FewWords = 21,
     /// 22, lent tree rows: a tree of the answer has more rows than its memory has
     /// whole places of four bytes (`check` lends 4,096), or a list does not fit
@@ -79,7 +83,7 @@ pub enum Refusal {
 
 impl Refusal {
     /// All refusals, in the order in which calls look.
-    pub const ALL: [Refusal; 24] = [
+    pub const ALL: [Refusal; 26] = [
         Refusal::RuleNames,
         Refusal::RuleMany,
         Refusal::RuleForm,
@@ -102,6 +106,8 @@ impl Refusal {
         Refusal::NoRight,
         Refusal::BadBound,
         Refusal::ManyCandidates,
+        Refusal::BadRacks,
+        Refusal::BadShare,
         Refusal::FewWords,
         Refusal::FewRows,
     ];
@@ -150,12 +156,14 @@ impl Refusal {
                 "the names are not `user low high may`, or a line is not three numbers of one to five digits and `see` or `change`, parted by one blank each and ended by byte 10; a user above 15; a range above 63 or reversed"
             }
             Refusal::NoRight => "the user may not change that rule, or there is no such rule",
-            Refusal::BadBound => "the bound is not 1 to 7",
+            Refusal::BadBound => "the bound, or the length of a share, is not 1 to 7",
             Refusal::ManyCandidates => {
                 "the sweep is too large: `T^k * 3^(k-1) * k^k` is above 4,294,967,296"
             }
+            Refusal::BadRacks => "the number of racks is not 1 to 64",
+            Refusal::BadShare => "the share is not below the number of racks",
             Refusal::FewWords => {
-                "fewer words are lent than the span sheet needs (for a sweep: with as many tokens as the bound)"
+                "fewer words are lent than the span sheet needs (for a sweep or a share: with as many tokens as the bound or the length)"
             }
             Refusal::FewRows => {
                 "a tree of the answer has more rows than its memory has whole places of four bytes (`check` lends 4,096), or a list does not fit into the bytes lent for it"
