@@ -10,6 +10,7 @@ import sys
 import clauses
 import places
 import rows
+import shares
 import teplonga as base
 import tours
 
@@ -21,6 +22,12 @@ CALLS = {
     (b"call", b"expand"): (0, 0, 1, clauses.expand_output),
     (b"call", b"rows"): (0, 0, 2, rows.rows_output),
     (b"call", b"places"): (0, 0, 2, places.places_output),
+    (b"call length racks share", b"share"): (
+        3,
+        3,
+        1,
+        lambda length, racks, share, rules: shares.share_output(rules, length, racks, share),
+    ),
     (b"call user", b"show"): (1, 1, 3, lambda user, rules, tokens, rights: tours.show_output(rules, tokens, rights, user)),
     (b"call user rule lay", b"change"): (
         2,

@@ -63,6 +63,8 @@ CALLS = [
     (["expand"], b"call\nexpand\n", CLAUSES),
     (["clauses-sweep", "3"], b"call bound\nclauses 3\n", CLAUSES),
     (["clauses-sweep", "00002"], b"call bound\nclauses 00002\n", CLAUSES),
+    (["share", "3", "12", "0"], b"call length racks share\nshare 3 12 0\n", RULES),
+    (["share", "2", "12", "00011"], b"call length racks share\nshare 2 12 00011\n", RULES),
     (["show", "5"], b"call user\nshow 5\n", GOOD + b"\nuser low high may\n5 0 0 see\n"),
     (["show", "16"], b"call user\nshow 16\n", GOOD + b"\nuser low high may\n5 0 0 see\n"),
     (["change", "5", "1", "align"], b"call user rule lay\nchange 5 1 align\n", RULES + b"\nuser low high may\n5 0 63 change\n"),
@@ -112,7 +114,7 @@ class Calls(Room):
         self.assertEqual((status, errors), (0, ""))
         for words, _, _ in CALLS:
             self.assertIn(f"\n  {words[0]} ".encode(), out)
-        for words in (["no-such"], ["clauses-sweep"], ["clauses-sweep", "3\n\nleft"], ["change", "5", "1"], ["--nope"]):
+        for words in (["no-such"], ["clauses-sweep"], ["clauses-sweep", "3\n\nleft"], ["change", "5", "1"], ["share", "3", "12"], ["--nope"]):
             status, out, errors = run(CALL, *words)
             self.assertEqual((status, out), (2, b""), words)
             self.assertIn("usage: bin/teplonga", errors)
