@@ -10,6 +10,7 @@ use Rattle.call_sheets.specs.declared.Call.the-variants as Call
 use Rattle.clause_calls.specs.Calls.{clauseSheets}
 use Rattle.clause_sheets.specs.ClauseSheets.{clauseSheet}
 use Rattle.clause_text.specs.Texts.{ExpandText}
+use Rattle.column_text.specs.Columns.{ColumnsTextOf}
 use Rattle.share_text.specs.Shares.{ShareTextOf}
 use Rattle.text.specs.Input.{Parts, parts}
 use Rattle.text.specs.Output.{refusedText, head}
@@ -51,7 +52,7 @@ CallText sheet (Call.ClausesSweep k) behind text = SweepText k (clauseSheet behi
 CallText sheet Call.Expand behind text = ExpandText behind text
 CallText sheet Call.Rows behind text = Two RowsTextOf behind text
 CallText sheet (Call.Share n p i) behind text = ShareTextOf n p i behind text
-CallText sheet Call.Columns behind text = Unwritten text
+CallText sheet Call.Columns behind text = Two ColumnsTextOf behind text
 CallText sheet Call.Places behind text = Two PlacesTextOf behind text
 CallText sheet (Call.Show u) behind text = Three (ShownText u) behind text
 CallText sheet (Call.Change u r at) behind text = Two (ChangedText sheet u r at) behind text

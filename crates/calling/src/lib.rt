@@ -4,6 +4,7 @@ use call_sheets::call_of;
 use clause_text::clauses_sweep_text;
 use clause_text::clauses_text;
 use clause_text::expand_text;
+use column_text::columns_text;
 use share_text::share_text;
 use text::Place;
 use text::parting;
@@ -16,6 +17,7 @@ ghost use Prim.Native.Nat.{_+_, _≤_, _<_};
 ghost use lib.ListN.{length, take, drop};
 ghost use Rattle.call_sheets.specs.CallSheets.{callOf};
 ghost use Rattle.call_sheets.specs.Inside.{Inside};
+ghost use Rattle.column_text.specs.Columns.{ColumnsTextOf};
 ghost use Rattle.text.specs.Printed.{Printed};
 ghost use Rattle.text_trees.specs.Rows.{RowsTextOf};
 ghost use Rattle.text_trees.specs.Places.{PlacesTextOf};
@@ -47,6 +49,21 @@ fn rows_call(s: &[u8], out: &mut [u8]) -> usize
         Place::At(i) => {
             let j = i + 1;
             rows_text(&s[..i], &s[j..], out)
+        }
+    }
+}
+
+// The call `columns` on the two sheets that the first empty line parts.
+fn columns_call(s: &[u8], out: &mut [u8]) -> usize
+    requires { ⌜ 262144 ≤ length (now out) ⌝ }
+    ensures { λ r. ⌜ Printed (Two ColumnsTextOf) (now (s .entry)) (now (out .entry)) (now (out .exit)) r ⌝ }
+{
+    let place = parting(s);
+    match place {
+        Place::Nowhere => put_refusal(out, 32),
+        Place::At(i) => {
+            let j = i + 1;
+            columns_text(&s[..i], &s[j..], out)
         }
     }
 }
@@ -125,7 +142,7 @@ fn answer(call: Call, sheet: &[u8], s: &[u8], out: &mut [u8]) -> usize
         Call::Expand => expand_text(s, out),
         Call::Rows => rows_call(s, out),
         Call::Share(n, p, i) => share_text(s, n, p, i, out),
-        Call::Columns => put_refusal(out, 32),
+        Call::Columns => columns_call(s, out),
         Call::Places => places_call(s, out),
         Call::Show(u) => show_call(s, u, out),
         Call::Change(u, r, at) => change_call(sheet, s, u, r, at, out),

@@ -38,8 +38,8 @@ share-text-requires c κs = search needs
 enum-told-4 : tie.Need-enum-told-4
 enum-told-4 c = search needs
 
-put-refusal-requires : tie.Need-put-refusal-requires
-put-refusal-requires c κs = search needs
+columns-call-requires : tie.Need-columns-call-requires
+columns-call-requires c κs = search needs
 
 enum-told-5 : tie.Need-enum-told-5
 enum-told-5 c = search needs
@@ -64,8 +64,8 @@ change-call-requires c κs =
 enum-told-6 : tie.Need-enum-told-6
 enum-told-6 c = search needs
 
-put-refusal-requires-2 : tie.Need-put-refusal-requires-2
-put-refusal-requires-2 c κs = search needs
+put-refusal-requires : tie.Need-put-refusal-requires
+put-refusal-requires c κs = search needs
 
 same-length : tie.Need-same-length
 same-length c = search needs
@@ -118,7 +118,8 @@ same-length-6 c = search needs
 returns-6 : tie.Need-returns-6
 returns-6 c =
     let z = c .before .before in
-    record { text = head (refusedText 32) 0; is = rw (z .before .before .enum-told4 .given .1) refl; wrote = z .put-refusal .ensures }
+    let a = z .columns-call .ensures in
+    record { text = a .text; is = rw (z .before .before .enum-told4 .given .1) (a .is); wrote = a .wrote }
 
 same-length-7 : tie.Need-same-length-7
 same-length-7 c = search needs
@@ -153,7 +154,7 @@ same-length-10 c = search needs
 returns-10 : tie.Need-returns-10
 returns-10 c =
     let z = c .before .before in
-    record { text = head (refusedText 32) 0; is = rw (z .before .before .enum-told6 .given .1) refl; wrote = z .put-refusal2 .ensures }
+    record { text = head (refusedText 32) 0; is = rw (z .before .before .enum-told6 .given .1) refl; wrote = z .put-refusal .ensures }
 
 pub answer-spec : {M : Type 1} → statement M
 answer-spec =
@@ -170,7 +171,7 @@ answer-spec =
     enum-known-call-2
     share-text-requires
     enum-told-4
-    put-refusal-requires
+    columns-call-requires
     enum-told-5
     places-call-requires
     enum-known-call-3
@@ -178,7 +179,7 @@ answer-spec =
     enum-known-call-4
     change-call-requires
     enum-told-6
-    put-refusal-requires-2
+    put-refusal-requires
     same-length
     returns
     same-length-2
