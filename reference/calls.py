@@ -21,6 +21,7 @@ CALLS = {
     (b"call bound", b"clauses"): (1, 1, 1, lambda bound, sheet: clauses.sweep_output(sheet, bound)),
     (b"call", b"expand"): (0, 0, 1, clauses.expand_output),
     (b"call", b"rows"): (0, 0, 2, rows.rows_output),
+    (b"call length racks share", b"share"): (3, 3, 1, lambda *numbers: shares.share_output(numbers[3], *numbers[:3])),
     (b"call", b"places"): (0, 0, 2, places.places_output),
     (b"call length racks share", b"share"): (
         3,

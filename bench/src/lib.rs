@@ -19,6 +19,16 @@ mod c;
 #[path = "../../rust/src/c_clauses.rs"]
 mod c_clauses;
 
+// How many words of `found` a share is lent; the Rust crate says it in its module of this name.
+#[cfg(feature = "library")]
+mod sentence {
+    pub const PLACES: usize = crate::library::FOUND;
+}
+
+#[cfg(feature = "library")]
+#[path = "../../rust/src/c_shares.rs"]
+mod c_shares;
+
 #[cfg(feature = "library")]
 #[path = "../../rust/src/c_tours.rs"]
 mod c_tours;

@@ -6,6 +6,8 @@ mod calls;
 mod expansions;
 mod growth;
 mod search;
+#[cfg(feature = "library")]
+mod shares;
 mod tables;
 #[cfg(feature = "library")]
 mod trees;
@@ -15,7 +17,7 @@ mod worst;
 const SEARCH_SECONDS: f64 = 90.0;
 
 fn main() {
-    let mut letters = "abcdefgh".to_string();
+    let mut letters = "abcdefghi".to_string();
     let mut seconds = SEARCH_SECONDS;
     for argument in std::env::args().skip(1) {
         match argument.parse() {
@@ -42,8 +44,10 @@ fn main() {
             'g' => worst::lengths(),
             #[cfg(feature = "library")]
             'h' => expansions::clause_sheets(),
+            #[cfg(feature = "library")]
+            'i' => shares::shares(),
             #[cfg(not(feature = "library"))]
-            'f' | 'h' => println!("({letter}) The library is not linked.\n"),
+            'f' | 'h' | 'i' => println!("({letter}) The library is not linked.\n"),
             _ => eprintln!("no table {letter}"),
         }
     }

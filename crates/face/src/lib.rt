@@ -79,7 +79,7 @@ fn put_tokens(found: &mut [u64], at: usize, s: Sentence) -> usize
 }
 
 // A sentence's length and the places of its first seven tokens.
-fn put_sentence(found: &mut [u64], s: Sentence) -> usize
+pub fn put_sentence(found: &mut [u64], s: Sentence) -> usize
     requires { ⌜ 22 ≤ length (now found) ⌝ }
     ensures { λ r. ⌜ Wrote (now (found .entry)) (now (found .exit)) 0 (sentenceWords s) r ⌝ }
 {

@@ -1,10 +1,11 @@
 // The call for one share of a sweep for C and Rust: numbers and slices alone.
 use call_shares::share;
 use face::pack;
-use face::put_found;
+use face::put_sentence;
 use face::put_word;
+use grammar::Sentence;
 ghost use mathlib.Core.Path.{_≡_};
-ghost use Rattle.face.specs.Face.{AtFront};
+ghost use Rattle.face.specs.Face.{AtFront, sentenceWords};
 ghost use Rattle.face_shares.specs.Shares.{shareWords, ShareWord};
 
 // The lowest number, M ÷ p and its remainder, where the lent words are enough for them.
@@ -15,6 +16,15 @@ fn put_numbers(numbers: &mut [u64], number: u64, quotient: u64, remainder: u64)
         let a = put_word(numbers, 0, number);
         let b = put_word(numbers, a, quotient);
         put_word(numbers, b, remainder);
+    }
+}
+
+// The sentence, where the lent words are enough for it.
+fn put_found(found: &mut [u64], s: Sentence)
+    ensures { λ r. ⌜ AtFront 22 (sentenceWords s) (now (found .entry)) (now (found .exit)) ⌝ }
+{
+    if 22 <= found.len() {
+        put_sentence(found, s);
     }
 }
 
