@@ -88,21 +88,26 @@ enum {
     TEPLONGA_NO_START = 107,
     /* 8, rule sheet, end: the rules are cyclic: a chain of edges returns to where it began */
     TEPLONGA_CYCLIC = 108,
-    /* 11, token sheet, line 1: the names are neither `term line col` nor `term line col width`,
-     * ended by byte 10 */
+    /* 11, token sheet, line 1: the names are neither `term line col` nor `term line col width` (of
+     * a range sheet not `term line low high`), ended by byte 10 */
     TEPLONGA_TOKEN_NAMES = 111,
     /* 14, each token line: a 65th token */
     TEPLONGA_TOKEN_MANY = 114,
-    /* 12, each token line: not three numbers (with `width` four) parted by one blank each and
-     * ended by byte 10, or a number not of one to five digits */
+    /* 12, each token line: not three numbers (with `width`, and in a range sheet, four) parted by
+     * one blank each and ended by byte 10, or a number not of one to five digits */
     TEPLONGA_TOKEN_FORM = 112,
-    /* 13, each token line: a terminal above 63, or a line or column that is 0 or above 65,535 */
+    /* 13, each token line: a terminal above 63, or a line, column or end of a column that is 0 or
+     * above 65,535 */
     TEPLONGA_TOKEN_RANGE = 113,
     /* 47, each token line: a width that is 0 or above 255, or column plus width above 65,536 */
     TEPLONGA_TOKEN_WIDTH = 147,
     /* 15, each token line: not after the token before: an earlier line, or the same line and a
      * column before that token's column plus width */
     TEPLONGA_TOKEN_ORDER = 115,
+    /* 48, range line, after 13: the upper end of the column is below the lower one */
+    TEPLONGA_RANGE_ENDS = 148,
+    /* 49, range sheet, end: the ends allow more than 65,536 choices of columns, rising or not */
+    TEPLONGA_MANY_CHOICES = 149,
     /* 50, each rights line: the names are not `user low high may`, or a line is not three numbers
      * of one to five digits and `see` or `change`, parted by one blank each and ended by byte 10;
      * a user above 15; a range above 63 or reversed */
@@ -202,6 +207,20 @@ uint64_t teplonga_rows(const uint8_t *rules, size_t rules_length,
                        const uint8_t *tokens, size_t tokens_length,
                        uint64_t *words, size_t words_length,
                        uint64_t *counts, size_t counts_length);
+
+/*
+ * Which verdicts some choice of columns gives: given, or refused 1 to 8, 44, 11 to 14, 48, 49 or 21.
+ * `ranges` is a range sheet: tokens whose columns are known between two ends.
+ *
+ * `found` gets three words, for none, one and two: 1 if some choice of columns within the ends, with
+ * positions properly rising, gives that verdict, else 0; all are 0 on a refusal. Words past these
+ * never change, and fewer than three are left as they were. The words of the span sheet end 0; a
+ * refusal changes no word.
+ */
+uint64_t teplonga_columns(const uint8_t *rules, size_t rules_length,
+                          const uint8_t *ranges, size_t ranges_length,
+                          uint64_t *words, size_t words_length,
+                          uint64_t *found, size_t found_length);
 
 /*
  * The verdict and all places at which the readings of the sentence part: none, one or two, or

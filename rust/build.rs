@@ -4,7 +4,8 @@
 use std::path::{Path, PathBuf};
 
 /// The crates that export C functions.
-const LIBRARIES: [&str; 5] = ["face", "face_trees", "face_clauses", "face_tours", "face_shares"];
+const LIBRARIES: [&str; 6] =
+    ["face", "face_trees", "face_clauses", "face_tours", "face_shares", "face_columns"];
 
 fn main() {
     let package = std::env::var("CARGO_MANIFEST_DIR").expect("set by cargo");

@@ -12,6 +12,7 @@
 //! | [`places`] | the verdict, and all places at which the readings part |
 //! | [`show`] | the verdict, and the rows of both trees as a user may see them |
 //! | [`change`] | a rule sheet with a mark that a user may change |
+//! | [`columns()`] | which verdicts some choice of columns within two ends gives |
 //! | [`sweep`] | the first short sentence that has two trees, or clear |
 //! | [`share`] | one share of a sweep that is divided among racks |
 //! | [`refused_line`] | the refused line itself, as a part of its sheet |
@@ -44,12 +45,15 @@ mod c;
 #[allow(unsafe_code)]
 mod c_clauses;
 #[allow(unsafe_code)]
+mod c_columns;
+#[allow(unsafe_code)]
 mod c_shares;
 #[allow(unsafe_code)]
 mod c_tours;
 #[allow(unsafe_code)]
 mod c_trees;
 pub mod clauses;
+mod columns;
 mod place;
 mod refusal;
 mod row_count;
@@ -59,6 +63,7 @@ mod sheet;
 mod tree;
 
 pub use answer::{Answer, Reply};
+pub use columns::ColumnsReply;
 pub use place::{Place, Places, PlacesReply, PLACE};
 pub use refusal::{Refusal, Refused};
 pub use row_count::{RowCount, RowsReply};
@@ -159,6 +164,22 @@ pub fn trees<'a>(
 pub fn rows(rules: &[u8], tokens: &[u8], words: &mut [u64]) -> RowsReply {
     let (word, counts) = c_trees::rows(rules, tokens, words);
     RowsReply::unpacked(word, counts)
+}
+
+/// Of each verdict: does some choice of columns within the ends of a range
+/// sheet give it, with positions properly rising? The words it needed end 0.
+///
+/// ```
+/// use teplonga::{columns, words_for};
+///
+/// let rules = b"left kind first second lay\n0 B 1 1 align\n1 A 0 - none\n";
+/// let ranges = b"term line low high\n0 1 1 1\n0 2 1 2\n";
+/// let reply = columns(rules, ranges, &mut vec![0; words_for(2)]);
+/// assert_eq!((reply.none, reply.one, reply.two), (true, true, false));
+/// ```
+pub fn columns(rules: &[u8], ranges: &[u8], words: &mut [u64]) -> ColumnsReply {
+    let (word, found) = c_columns::columns(rules, ranges, words);
+    ColumnsReply::unpacked(word, found)
 }
 
 /// The verdict, and the list of every nonterminal and word at which a whole

@@ -40,15 +40,17 @@ pub enum Refusal {
     /// it began.
     Cyclic = 8,
     /// 11, token sheet, line 1: the names are neither `term line col` nor `term
-    /// line col width`, ended by byte 10.
+    /// line col width` (of a range sheet not `term line low high`), ended by byte
+    /// 10.
     TokenNames = 11,
     /// 14, each token line: a 65th token.
     TokenMany = 14,
-    /// 12, each token line: not three numbers (with `width` four) parted by one
-    /// blank each and ended by byte 10, or a number not of one to five digits.
+    /// 12, each token line: not three numbers (with `width`, and in a range sheet,
+    /// four) parted by one blank each and ended by byte 10, or a number not of one
+    /// to five digits.
     TokenForm = 12,
-    /// 13, each token line: a terminal above 63, or a line or column that is 0 or
-    /// above 65,535.
+    /// 13, each token line: a terminal above 63, or a line, column or end of a
+    /// column that is 0 or above 65,535.
     TokenRange = 13,
     /// 47, each token line: a width that is 0 or above 255, or column plus width
     /// above 65,536.
@@ -56,6 +58,12 @@ pub enum Refusal {
     /// 15, each token line: not after the token before: an earlier line, or the
     /// same line and a column before that token's column plus width.
     TokenOrder = 15,
+    /// 48, range line, after 13: the upper end of the column is below the lower
+    /// one.
+    RangeEnds = 48,
+    /// 49, range sheet, end: the ends allow more than 65,536 choices of columns,
+    /// rising or not.
+    ManyChoices = 49,
     /// 50, each rights line: the names are not `user low high may`, or a line is
     /// not three numbers of one to five digits and `see` or `change`, parted by one
     /// blank each and ended by byte 10; a user above 15; a range above 63 or
@@ -83,7 +91,7 @@ pub enum Refusal {
 
 impl Refusal {
     /// All refusals, in the order in which calls look.
-    pub const ALL: [Refusal; 26] = [
+    pub const ALL: [Refusal; 28] = [
         Refusal::RuleNames,
         Refusal::RuleMany,
         Refusal::RuleForm,
@@ -102,6 +110,8 @@ impl Refusal {
         Refusal::TokenRange,
         Refusal::TokenWidth,
         Refusal::TokenOrder,
+        Refusal::RangeEnds,
+        Refusal::ManyChoices,
         Refusal::Rights,
         Refusal::NoRight,
         Refusal::BadBound,
@@ -137,20 +147,24 @@ impl Refusal {
             Refusal::NoStart => "no rule has left 0",
             Refusal::Cyclic => "the rules are cyclic: a chain of edges returns to where it began",
             Refusal::TokenNames => {
-                "the names are neither `term line col` nor `term line col width`, ended by byte 10"
+                "the names are neither `term line col` nor `term line col width` (of a range sheet not `term line low high`), ended by byte 10"
             }
             Refusal::TokenMany => "a 65th token",
             Refusal::TokenForm => {
-                "not three numbers (with `width` four) parted by one blank each and ended by byte 10, or a number not of one to five digits"
+                "not three numbers (with `width`, and in a range sheet, four) parted by one blank each and ended by byte 10, or a number not of one to five digits"
             }
             Refusal::TokenRange => {
-                "a terminal above 63, or a line or column that is 0 or above 65,535"
+                "a terminal above 63, or a line, column or end of a column that is 0 or above 65,535"
             }
             Refusal::TokenWidth => {
                 "a width that is 0 or above 255, or column plus width above 65,536"
             }
             Refusal::TokenOrder => {
                 "not after the token before: an earlier line, or the same line and a column before that token's column plus width"
+            }
+            Refusal::RangeEnds => "the upper end of the column is below the lower one",
+            Refusal::ManyChoices => {
+                "the ends allow more than 65,536 choices of columns, rising or not"
             }
             Refusal::Rights => {
                 "the names are not `user low high may`, or a line is not three numbers of one to five digits and `see` or `change`, parted by one blank each and ended by byte 10; a user above 15; a range above 63 or reversed"
