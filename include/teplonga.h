@@ -37,8 +37,8 @@ extern "C" {
 /* The version of this header, that of the Rust crate too. */
 #define TEPLONGA_VERSION "0.1.0"
 
-/* The bytes of stack that are enough for any call. */
-#define TEPLONGA_STACK 65536
+/* The bytes of stack that are enough for any call; for all but teplonga_columns 65,536 are. */
+#define TEPLONGA_STACK 196608
 
 /*
  * Each call but those for a refused line answers one number: the answer's code in its upper 32 bits and the refused line's

@@ -270,6 +270,42 @@ static void row_counts(void)
     free(doubling);
 }
 
+/* -------------------------------------------------------------------- columns */
+
+#define RANGE_NAMES "term line low high\n"
+#define ALIGNED RULE_NAMES "0 B 1 1 align\n1 A 0 - none\n"
+
+static uint64_t columns(const char *rules, const char *ranges, size_t n, size_t places, uint64_t **lent, uint64_t **found)
+{
+    struct sheet r = sheet(rules), t = sheet(ranges);
+
+    *lent = words(n, 7);
+    *found = words(places, 7);
+    return teplonga_columns(r.at, r.length, t.at, t.length, *lent, n, *found, places);
+}
+
+static void chosen_columns(void)
+{
+    uint64_t *lent, *found;
+
+    CHECK(columns(ALIGNED, RANGE_NAMES "0 1 1 1\n0 2 1 2\n", 9, 4, &lent, &found) == coded(TEPLONGA_GIVEN, 0));
+    CHECK(found[0] == 1 && found[1] == 1 && found[2] == 0 && found[3] == 7);
+    CHECK(all_words(lent, 8, 0) && lent[8] == 7);
+    CHECK(columns(PLAIN, RANGE_NAMES "0 1 1 3\n0 1 1 3\n0 1 1 3\n", 14, 3, &lent, &found) == coded(TEPLONGA_GIVEN, 0));
+    CHECK(found[0] == 0 && found[1] == 0 && found[2] == 1 && all_words(lent, 14, 0));
+    /* lines that fall: no choice rises */
+    CHECK(columns(PLAIN, RANGE_NAMES "0 2 1 1\n0 1 1 1\n", 8, 3, &lent, &found) == coded(TEPLONGA_GIVEN, 0));
+    CHECK(all_words(found, 3, 0) && all_words(lent, 8, 0));
+    CHECK(columns(PLAIN, RANGE_NAMES, 2, 2, &lent, &found) == coded(TEPLONGA_GIVEN, 0));
+    CHECK(all_words(found, 2, 7) && all_words(lent, 2, 0));
+    CHECK(columns(PLAIN, THREE, 14, 3, &lent, &found) == coded(TEPLONGA_TOKEN_NAMES, 1));
+    CHECK(columns(PLAIN, RANGE_NAMES "0 1 2 1\n", 4, 3, &lent, &found) == coded(TEPLONGA_RANGE_ENDS, 2));
+    CHECK(columns(PLAIN, RANGE_NAMES "0 1 1 256\n0 2 1 257\n", 8, 3, &lent, &found) == coded(TEPLONGA_MANY_CHOICES, 0));
+    CHECK(all_words(lent, 8, 7) && all_words(found, 3, 0));
+    CHECK(columns(ALIGNED, RANGE_NAMES "0 1 1 1\n0 2 1 2\n", 7, 3, &lent, &found) == coded(TEPLONGA_FEW_WORDS, 0));
+    CHECK(all_words(lent, 7, 7) && all_words(found, 3, 0));
+}
+
 /* --------------------------------------------------------------------- places */
 
 static uint64_t places(const char *rules, const char *tokens, size_t n, size_t size, uint64_t **lent, uint8_t **list, uint64_t **count)
@@ -563,7 +599,7 @@ static void threads(void)
 }
 
 /* A large sheet, a long sentence and a long sweep, for the stack; their memory is not on it. */
-static char big_rules[4000], big_tokens[2000], big_sweep[400];
+static char big_rules[4000], big_tokens[2000], big_ranges[2000], big_sweep[400];
 static uint64_t big_words[4162], big_found[TEPLONGA_FOUND], big_counts[TEPLONGA_COUNTS];
 static uint8_t big_first[16384], big_second[16384], big_list[49152];
 
@@ -576,6 +612,9 @@ static void make_big(void)
     strcpy(big_tokens, TOKEN_NAMES);
     for (int i = 0; i < TEPLONGA_MOST_TOKENS; i++)
         sprintf(big_tokens + strlen(big_tokens), "0 %d %d\n", i + 1, i + 1);
+    strcpy(big_ranges, RANGE_NAMES);
+    for (int i = 0; i < TEPLONGA_MOST_TOKENS; i++)
+        sprintf(big_ranges + strlen(big_ranges), "0 %d %d %d\n", i + 1, i + 1, i == 62 ? i + 2 : i + 1);
     strcpy(big_sweep, RULE_NAMES "0 B 1 2 none\n0 B 3 2 none\n1 B 5 6 align\n3 B 5 6 indent\n2 B 5 4 none\n4 B 5 5 none\n5 A 0 - none\n6 A 0 - none\n");
 }
 
@@ -607,6 +646,9 @@ static void *big_calls(void *which)
     case 6:
         teplonga_expand((const uint8_t *)CLAUSES, sizeof CLAUSES - 1, big_first, 16384, big_counts, 1);
         break;
+    case 7:
+        teplonga_columns(rules, r, (const uint8_t *)big_ranges, strlen(big_ranges), big_words, 4162, big_counts, 2);
+        break;
     default:
         teplonga_refused_line(rules, r, tokens, t, &line);
     }
@@ -631,10 +673,10 @@ static size_t stack_of(int which)
 
 static void stacks(void)
 {
-    static const char *names[] = { "verdict", "trees", "sweep", "rows", "places", "clause_trees", "expand", "refused_line" };
+    static const char *names[] = { "verdict", "trees", "sweep", "rows", "places", "clause_trees", "expand", "columns", "refused_line" };
 
     make_big();
-    for (int which = 0; which < 8; which++) {
+    for (int which = 0; which < 9; which++) {
         size_t used = stack_of(which);
         printf("%s: %zu bytes of stack\n", names[which], used);
         CHECK(used <= TEPLONGA_STACK);
@@ -650,6 +692,7 @@ int main(int count, char **arguments)
         both_trees();
         other_trees();
         row_counts();
+        chosen_columns();
         all_places();
         clauses();
         shown();
