@@ -81,7 +81,8 @@ fn outdone(
 
 // Is the lowest number from `start` on that has two trees none of those of the candidates that share the first b cells?
 // These end before `past`. So it is where all are below `start`, and where each candidate has a twin whose number is not.
-// Where b is n and the answer is no, this one has two trees.
+// A block that goes past the end of the share is not refuted but gone into. Where b is n and the answer is no, this one has
+// two trees.
 fn look(
     codes: &[u64],
     set: u64,
@@ -91,6 +92,7 @@ fn look(
     n: usize,
     b: usize,
     start: u64,
+    end: u64,
     past: u64,
     words: &mut [u64],
 ) -> bool
@@ -105,6 +107,9 @@ fn look(
     }
     if b == n {
         return !has_two(codes, set, table, c, n, words);
+    }
+    if end < past {
+        return false;
     }
     let h = held(set, c, n, b, start);
     if b < h {
@@ -165,7 +170,7 @@ fn search(
             return nothing();
         }
         let past = k.low + k.size;
-        if look(codes, set, kept, table, c, n, b, start, past, words) {
+        if look(codes, set, kept, table, c, n, b, start, end, past, words) {
             let s = c.successor(set, low, n, b);
             if !s.more {
                 return nothing();

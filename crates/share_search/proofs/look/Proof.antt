@@ -26,24 +26,27 @@ returns-2 c =
     let q = c .before .before .has-two .ensures in
     (looked-whole (below z) (z .pre .0 .1) (c .before .before .before .before .if2 .taken) (z .pre .0 .2) (omega (arith, c .before .before .before .before .before .if1 .left, z .pre .0 .3)) (q .0), q .1)
 
-held-requires : tie.Need-held-requires
-held-requires c κs = let z = c .before .before .before .before .before in (z .pre .0 .0, (z .pre .0 .2, z .pre .0 .1))
-
 returns-3 : tie.Need-returns-3
-returns-3 c = let z = c .before .before .before .before .before .before .before in (looked-across (below z) (z .pre .0 .1) (c .before .before .if2 .left), past-same _ _)
+returns-3 c = let z = c .before .before .before .before .before .before in (looked-across (below z) (z .pre .0 .1) (c .before .if2 .left), past-same _ _)
+
+held-requires : tie.Need-held-requires
+held-requires c κs = let z = c .before .before .before .before .before .before in (z .pre .0 .0, (z .pre .0 .2, z .pre .0 .1))
+
+returns-4 : tie.Need-returns-4
+returns-4 c = let z = c .before .before .before .before .before .before .before .before in (looked-across (below z) (z .pre .0 .1) (c .before .before .before .if2 .left), past-same _ _)
 
 outdone-requires : tie.Need-outdone-requires
-outdone-requires c κs = let z = c .before .before .before .before .before .before .before .before in ((z .pre .0 .0 .high, z .pre .0 .1, z .pre .0 .2, omega (arith, c .before .if3 .left), z .pre .0 .4), z .pre .1)
+outdone-requires c κs = let z = c .before .before .before .before .before .before .before .before .before in ((z .pre .0 .0 .high, z .pre .0 .1, z .pre .0 .2, omega (arith, c .before .if4 .left), z .pre .0 .4), z .pre .1)
 
 same-length-2 : tie.Need-same-length-2
 same-length-2 c = c .before .before .outdone .ensures .1 .long
 
-returns-4 : tie.Need-returns-4
-returns-4 c =
-    let z = c .before .before .before .before .before .before .before .before .before .before .before in
+returns-5 : tie.Need-returns-5
+returns-5 c =
+    let z = c .before .before .before .before .before .before .before .before .before .before .before .before in
     let q = c .before .before .outdone .ensures in
-    let h : c .before .before .before .before .before .held .result ≤ z .args .b = omega (arith, c .before .before .before .before .if3 .left) in
-    (looked-twin (below z) (z .pre .0 .1) (c .before .before .before .before .before .before .if2 .left) h (c .before .before .before .before .before .held .ensures h) (q .0), q .1)
+    let h : c .before .before .before .before .before .held .result ≤ z .args .b = omega (arith, c .before .before .before .before .if4 .left) in
+    (looked-twin (below z) (z .pre .0 .1) (c .before .before .before .before .before .before .before .if2 .left) h (c .before .before .before .before .before .held .ensures h) (q .0), q .1)
 
 pub look-spec : {M : Type 1} → statement M
-look-spec = tie.close (tie.spec returns has-two-requires same-length returns-2 held-requires returns-3 outdone-requires same-length-2 returns-4)
+look-spec = tie.close (tie.spec returns has-two-requires same-length returns-2 returns-3 held-requires returns-4 outdone-requires same-length-2 returns-5)
