@@ -17,7 +17,7 @@ use Rattle.grammar.specs.declared.Clause.the-variants as Clause
 use Rattle.grammar.specs.Layout.{Word}
 use Rattle.grammar.specs.Layout as Mark
 use Rattle.grammar.specs.Trees.{Tree, empty, leaf, unary, binary, root, word, Rules, Valid, valid-empty, valid-leaf, valid-unary, valid-binary, Witness, OneTree, TwoTrees}
-use Rattle.grammar.specs.Choices.{Top, Takes, Choice, Before, Same, FirstChoice, OnlyChoice, OtherChoice, Ask, Node, Each, Beneath, Preferred, First, FirstTree, Swerves, Second, here, below, left, right, SecondTree, Alike, Distinct}
+use Rattle.grammar.specs.Choices.{Top, Takes, Choice, Before, Same, FirstChoice, OnlyChoice, OtherChoice, height, Gives, LowChoice, Ask, Node, Each, Beneath, Preferred, straight, looping, First, FirstTree, Swerves, Second, here, below, left, right, SecondTree, Alike, Distinct}
 
 -- 1. a choice is taken at one place only
 
@@ -156,9 +156,32 @@ first-same A w p k q l a b = go (tri p k q l)
     go (inr (inl h)) = h
     go (inr (inr h)) = absurd (a .least q l (b .choice) h)
 
+-- so is the earliest choice of the least height
+pub low-same : {g : Rules} (A : ℕ) (w : Word) (p k q l : ℕ) → LowChoice g A w p k → LowChoice g A w q l → Same p k q l
+low-same {g} A w p k q l a b = go (tri p k q l)
+  where
+    same : a .least ≡ b .least
+    same = omega (arith, a .lowest (b .gives .tree) (b .gives .witness), b .lowest (a .gives .tree) (a .gives .witness), a .gives .high, b .gives .high)
+
+    go : Before p k q l ⊎ (Same p k q l ⊎ Before q l p k) → Same p k q l
+    go (inl h) = absurd (b .earliest p k (rw same at (a .gives)) h)
+    go (inr (inl h)) = h
+    go (inr (inr h)) = absurd (a .earliest q l (rw (← same) at (b .gives)) h)
+
+-- all that the laws of trees use of what the first tree takes: it is a choice, and two such are the same
+pub preferred-choice : (g : Rules) (A : ℕ) (w : Word) (p k : ℕ) → Preferred g A w p k → Choice g A w p k
+preferred-choice g A w p k (straight c a) = a .choice
+preferred-choice g A w p k (looping c a) = record { tree = a .gives .tree; witness = a .gives .witness; takes = a .gives .takes }
+
+pub preferred-same : (g : Rules) → Decides (Preferred g) (Preferred g)
+preferred-same g A w p k q l (straight c a) (straight d b) = first-same A w p k q l a b
+preferred-same g A w p k q l (straight c a) (looping d b) = absurd (c d)
+preferred-same g A w p k q l (looping c a) (straight d b) = absurd (d c)
+preferred-same g A w p k q l (looping c a) (looping d b) = low-same A w p k q l a b
+
 pub first-unique : {g : Rules} {A : ℕ} {w : Word} {t u : Tree} → FirstTree g A w t → FirstTree g A w u → t ≡ u
 first-unique {g} {A} {w} {t} {u} a b =
-    agree g (Preferred g) (Preferred g) first-same t u (a .first) (b .first) (a .rooted ∙ sym (b .rooted)) (a .spelled ∙ sym (b .spelled))
+    agree g (Preferred g) (Preferred g) (preferred-same g) t u (a .first) (b .first) (a .rooted ∙ sym (b .rooted)) (a .spelled ∙ sym (b .spelled))
 
 -- 5. valid trees, node by node
 
@@ -231,7 +254,7 @@ module _ {g : Rules} (d : Distinct g) where
       let n : Node g (λ A w q l. OtherChoice g A w (a .place) (a .split) q l) v =
       subst (λ (k : ℕ). Node g (λ A w q l. OtherChoice g A w (a .place) k q l) v) (e .1)
       (subst (λ (p : ℕ). Node g (λ A w q l. OtherChoice g A w p (b .split) q l) v) (e .0) (b .node)) in
-      agree-top g _ _ _ _ (other-same (a .place) (a .split)) first-same u v (a .node) (a .beneath) n (b .beneath)
+      agree-top g _ _ _ _ (other-same (a .place) (a .split)) (preferred-same g) u v (a .node) (a .beneath) n (b .beneath)
       (a .rooted ∙ sym (b .rooted)) (a .spelled ∙ sym (b .spelled))
 
   pub second-not-only : {t u : Tree} → Second g t u → Each g (OnlyChoice g) t → ⊥

@@ -3,8 +3,11 @@ pub mod Marks
 pub mod ChoiceLaws
 pub mod ByKind
 pub mod Least
+pub mod CanBy
 pub mod Saturation
+pub mod Deciding
 pub mod Acyclic
+pub mod LowTrees
 pub mod Existence
 pub mod Transfer
 pub mod Normalization

@@ -1,9 +1,9 @@
--- Choices, the first tree and the second tree: 01, "Trees, choices, span sheet".
+-- Choices, the first tree and the second tree: 01, "Trees, choices, span sheet"; on a looping sheet 02, Ask 13.
 use mathlib.Core.Path.{_≡_}
 use mathlib.Core.List.{List, [], _∷_}
 use mathlib.Core.Logic.{_⊎_}
 use mathlib.Core.Option.{some}
-use Prim.Native.Nat.{ℕ, _<_}
+use Prim.Native.Nat.{ℕ, suc, _≤_, _<_, max}
 use lib.ListN.{length, getElem?}
 use Rattle.grammar.specs.declared.Token.{Token}
 use Rattle.grammar.specs.declared.UnaryMark.{UnaryMark}
@@ -14,6 +14,7 @@ use Rattle.grammar.specs.declared.Clause.the-variants as Clause
 use Rattle.grammar.specs.Layout.{Word}
 use Rattle.grammar.specs.Layout as Mark
 use Rattle.grammar.specs.Trees.{Tree, empty, leaf, unary, binary, root, word, Rules, Covers, Witness}
+use Rattle.grammar.specs.Cycles.{Cyclic}
 
 -- rule r stands at the top of t and its mark holds; k is the length of the left word, 0 but for a binary node
 abbrev pub Top : Rule → ℕ → Tree → Type 0
@@ -61,6 +62,27 @@ pub record OtherChoice (g : Rules) (A : ℕ) (w : Word) (p k q l : ℕ) : Type 0
   pub other : Same q l p k → ⊥
   pub least : (q′ l′ : ℕ) → Choice g A w q′ l′ → Before q′ l′ q l → Same q′ l′ p k
 
+-- the height of a tree: how many nodes stand on its longest way down
+abbrev pub height : Tree → ℕ
+height (empty A) = 1
+height (leaf A t) = 1
+height (unary A t) = suc (height t)
+height (binary A s t) = suc (max (height s) (height t))
+
+-- (p, k) gives the height h: some valid tree of A over w that takes it is h high
+pub record Gives (g : Rules) (A : ℕ) (w : Word) (p k h : ℕ) : Type 0 where
+  pub tree : Tree
+  pub witness : Witness g A w tree
+  pub takes : Takes g tree p k
+  pub high : height tree ≡ h
+
+-- the earliest choice among those giving the least height
+pub record LowChoice (g : Rules) (A : ℕ) (w : Word) (p k : ℕ) : Type 0 where
+  pub least : ℕ
+  pub gives : Gives g A w p k least
+  pub lowest : (t : Tree) → Witness g A w t → least ≤ height t
+  pub earliest : (q l : ℕ) → Gives g A w q l least → Before q l p k → ⊥
+
 -- what is asked of a node: of its nonterminal, its word, the place of its rule and its left length
 abbrev pub Ask : Type 1
 Ask = ℕ → Word → ℕ → ℕ → Type 0
@@ -86,11 +108,12 @@ Beneath g P (leaf A t) = Unit {0}
 Beneath g P (unary A t) = Each g P t
 Beneath g P (binary A s t) = Each g P s × Each g P t
 
--- the choice that the first tree takes at a node
-abbrev pub Preferred : Rules → Ask
-Preferred g = FirstChoice g
+-- the choice that the first tree takes at a node: the first; on a looping sheet the earliest of those giving the least height
+pub data Preferred (g : Rules) (A : ℕ) (w : Word) (p k : ℕ) : Type 0 where
+  straight : (Cyclic g → ⊥) → FirstChoice g A w p k → Preferred g A w p k
+  looping : Cyclic g → LowChoice g A w p k → Preferred g A w p k
 
--- t takes the first choice at each node
+-- t takes that choice at each node
 abbrev pub First : Rules → Tree → Type 0
 First g t = Each g (Preferred g) t
 

@@ -1,8 +1,8 @@
 pub mod Layout
 pub mod Trees
+pub mod Cycles
 pub mod Choices
 pub mod Rows
-pub mod Cycles
 pub mod SpanSheet
 pub mod Candidates
 pub mod Sweeps
