@@ -1,4 +1,4 @@
--- Choices, the first tree and the second tree: 01, "Trees, choices, span sheet"; on a looping sheet 02, Ask 13.
+-- Choices, the first tree and the second tree: 01, "Trees, choices, span sheet"; on a looping sheet 02, "Rules that loop".
 use mathlib.Core.Path.{_≡_}
 use mathlib.Core.List.{List, [], _∷_}
 use mathlib.Core.Logic.{_⊎_}

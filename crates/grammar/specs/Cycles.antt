@@ -1,4 +1,4 @@
--- Nullable nonterminals, edges, chains and cyclic sheets: 01, "Trees, choices, span sheet" (refusal 8).
+-- Nullable nonterminals, edges, chains and cyclic sheets: 01, "Trees, choices, span sheet".
 use mathlib.Core.List.{[]}
 use Prim.Native.Nat.{ℕ}
 use Rattle.grammar.specs.declared.UnaryMark.{UnaryMark}
