@@ -11,11 +11,10 @@ use Rattle.grammar.specs.Trees.{Tree, empty, leaf, unary, binary, root, word, R
 use Rattle.grammar.specs.Choices.{Top, Takes, Choice, OnlyChoice, OtherChoice, Node, Each, Beneath, Preferred, First, FirstTree, SecondTree, Swerves, Second, here, below, left, right, Distinct}
 use Rattle.shown.specs.Shown.{View, shownRows}
 use Rattle.grammar.specs.SpanSheet.{part}
-use Rattle.grammar.proofs.ChoiceLaws.{takes-unique, other-same, not-only, top-of, beneath-of, second-rooted, second-spelled, keep-unary, keep-binary, two-trees, two-not-only}
+use Rattle.grammar.proofs.ChoiceLaws.{takes-unique, other-same, not-only, top-of, beneath-of, second-rooted, second-spelled, keep-unary, keep-binary, two-trees, two-not-only, preferred-choice, preferred-same}
 use Rattle.rows.specs.declared.Step.{Step}
 use Rattle.rows.specs.Steps.{stepOf, closedStep}
 use Rattle.derivation.specs.Picks.{Picks, Passes}
-use Rattle.derivation.proofs.PreferredLaws.{preferred-choice, preferred-same}
 
 -- a tree to be written, and where its word starts
 pub record Pending : Type 0 where

@@ -15,7 +15,7 @@ use Rattle.grammar.specs.declared.Grammar.{Grammar}
 use Rattle.grammar.specs.declared.Sentence.{Sentence}
 use Rattle.grammar.specs.Layout.{Word}
 use Rattle.grammar.specs.Trees.{Rules}
-use Rattle.grammar.specs.Choices.{Choice, Before, Same, OnlyChoice, OtherChoice, Preferred}
+use Rattle.grammar.specs.Choices.{Choice, Before, Same, OnlyChoice, OtherChoice, FirstChoice, Preferred}
 use Rattle.grammar.specs.Content.{rules, spelled, Formed, SmallRule}
 use Rattle.grammar.specs.SpanSheet.{part, secondWord}
 use Rattle.grammar.proofs.Lists.{mem-every}
@@ -27,7 +27,7 @@ use Rattle.grammar.proofs.ByKind.{inside, choice-can}
 use Rattle.chart.specs.Choosing.{NextAt, NoneFrom}
 use Rattle.rows.specs.declared.Step.{Step}
 use Rattle.rows.specs.Steps.{stepOf}
-use Rattle.derivation.specs.Wanted.{Ready}
+use Rattle.derivation.specs.Wanted.{Charted, Ready}
 use Rattle.derivation.specs.Picks.{HasChoice, Picks, Chosen, Passes}
 
 -- a choice's rule is one of the sheet's, and its left length one of the word's
@@ -36,7 +36,7 @@ choice-within {g} f w A i n q l c =
     let x = inside A (part w i n) q l c in
     (omega (arith, x .0, f .whole), omega (arith, x .1, length-take n (drop i w)))
 
-pub choice-near : {g : Grammar} {s : Sentence} {ws : List ℕ} → Ready g s ws → (A i n q l : ℕ) → i + n ≤ s .count
+pub choice-near : {g : Grammar} {s : Sentence} {ws : List ℕ} → Charted g s ws → (A i n q l : ℕ) → i + n ≤ s .count
     → Choice (rules g) A (part (spelled s) i n) q l → (q < 128) × (l ≤ 64)
 choice-near {g} {s} r A i n q l h c =
     let x = choice-within (r .formed) (spelled s) A i n q l c in
@@ -45,21 +45,21 @@ choice-near {g} {s} r A i n q l h c =
 nothing-before : (q l : ℕ) → Before q l 0 0 → ⊥
 nothing-before q l b = ⊎-elim (λ x. omega arith) (λ x. omega arith) b
 
-pub first-of-next : {g : Rules} {A : ℕ} {w : Word} {p k : ℕ} → NextAt g A w 0 0 p k → Preferred g A w p k
+pub first-of-next : {g : Rules} {A : ℕ} {w : Word} {p k : ℕ} → NextAt g A w 0 0 p k → FirstChoice g A w p k
 first-of-next x = record { choice = x .choice; least = λ q l c b. x .least q l c (nothing-before q l) b }
 
 not-both : (i j p k : ℕ) → Before i j p k → Same i j p k ⊎ Before p k i j → ⊥
 not-both i j p k a b = ⊎-elim (λ x. ⊎-elim (λ y. omega (arith, y .0)) (λ y. ⊎-elim (λ z. omega arith) (λ z. omega (arith, z .0)) y) b) (λ x. ⊎-elim (λ y. omega (arith, x .1, y .1)) (λ y. ⊎-elim (λ z. omega (arith, x .0)) (λ z. omega (arith, x .1, z .1)) y) b) a
 
 -- what is not after the first choice is the first choice
-up-to-first : {g : Rules} {A : ℕ} {w : Word} {p k : ℕ} → Preferred g A w p k → (q l : ℕ) → Choice g A w q l → Before q l p (k + 1) → Same q l p k
+up-to-first : {g : Rules} {A : ℕ} {w : Word} {p k : ℕ} → FirstChoice g A w p k → (q l : ℕ) → Choice g A w q l → Before q l p (k + 1) → Same q l p k
 up-to-first {g} {A} {w} {p} {k} f q l c b = ⊎-elim (λ x. absurd (f .least q l c (inl x))) (λ x. (x .0, at (ℕ-discrete l k) (x .0) (x .1))) b
   where
     at : Dec (l ≡ k) → q ≡ p → l < k + 1 → l ≡ k
     at (yes e) h y = e
     at (no e) h y = absurd (f .least q l c (inr (h, omega arith)))
 
-pub other-of-next : {g : Rules} {A : ℕ} {w : Word} {p k q l : ℕ} → Preferred g A w p k → NextAt g A w p (k + 1) q l → OtherChoice g A w p k q l
+pub other-of-next : {g : Rules} {A : ℕ} {w : Word} {p k q l : ℕ} → FirstChoice g A w p k → NextAt g A w p (k + 1) q l → OtherChoice g A w p k q l
 other-of-next {g} {A} {w} {p} {k} {q} {l} f x =
     record { choice = x .choice; other = λ e. x .late (inr (e .0, omega (arith, e .1))); least = λ i j c b. at i j c b (tri i j p (k + 1)) }
   where
@@ -67,8 +67,15 @@ other-of-next {g} {A} {w} {p} {k} {q} {l} f x =
     at i j c b (inl h) = up-to-first f i j c h
     at i j c b (inr h) = absurd (x .least i j c (λ z. not-both i j p (k + 1) z h) b)
 
-pub only-of-none : {g : Rules} {A : ℕ} {w : Word} {p k : ℕ} → Preferred g A w p k → NoneFrom g A w p (k + 1) → OnlyChoice g A w p k
+pub only-of-none : {g : Rules} {A : ℕ} {w : Word} {p k : ℕ} → FirstChoice g A w p k → NoneFrom g A w p (k + 1) → OnlyChoice g A w p k
 only-of-none f x = record { choice = f .choice; only = λ q l c. up-to-first f q l c (x .early q l c) }
+
+-- where the first choice is another, it is the earliest that is not the one taken
+pub other-of-first : {g : Rules} {A : ℕ} {w : Word} {p k q l : ℕ} → NextAt g A w 0 0 q l → (Same q l p k → ⊥) → OtherChoice g A w p k q l
+other-of-first x n = record { choice = x .choice; other = n; least = λ i j c b. absurd (x .least i j c (nothing-before i j) b) }
+
+pub charted : {g : Grammar} {s : Sentence} {ws hs : List ℕ} → Ready g s ws hs → Charted g s ws
+charted r = record { formed = r .formed; positioned = r .positioned; sheet = r .sheet }
 
 pub none-of-none : {g : Rules} {A : ℕ} {w : Word} → HasChoice g A w → NoneFrom g A w 0 0 → ⊥
 none-of-none h x = nothing-before (h .0) (h .1) (x .early (h .0) (h .1) (h .2))
@@ -100,7 +107,7 @@ choice-small {g} f h =
     omega (arith, x .2, mem-every SmallRule (rules g) (f .small) (member-at (rules g) (h .0) (x .1)) .left)
 
 -- what the second word of the span's pair says, where it is read while seeking and where it is not
-module _ {g : Grammar} {s : Sentence} {ws : List ℕ} (r : Ready g s ws) (A i n : ℕ) (in-word : i + n ≤ s .count) (small : A < 64) where
+module _ {g : Grammar} {s : Sentence} {ws : List ℕ} (r : Charted g s ws) (A i n : ℕ) (in-word : i + n ≤ s .count) (small : A < 64) where
   pub reach : Reach ws (s .count) i n A
   reach = record { few = r .positioned .few; fits = in-word; enough = rw (← r .positioned .whole) (r .sheet .enough); small = small }
 

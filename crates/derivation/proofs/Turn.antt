@@ -106,7 +106,7 @@ pub record Running (sees : View) (g : Grammar) (s : Sentence) (seeking : Bool) (
   pub state : State sees (rules g) (spelled s) tree seek out cap n top
   pub same : length out ≡ long
 
-module _ {sees : View} {g : Grammar} {s : Sentence} {ws : List ℕ} {seeking : Bool} (r : Ready g s ws) where
+module _ {sees : View} {g : Grammar} {s : Sentence} {ws hs : List ℕ} {seeking : Bool} (r : Ready g s ws hs) where
   pub running-start : Wanted (rules g) 0 (spelled s) seeking → (l m : List ℕ) (cap : ℕ) → 4 * cap ≤ length l → 0 < cap
       → m ≡ splice l (4 * (cap - 1)) (0 ∷ 0 ∷ s .count ∷ 0 ∷ []) → Running sees g s seeking (length m) cap m 0 (cap - 1) seeking
   running-start p l m cap h k e =

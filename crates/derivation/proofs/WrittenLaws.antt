@@ -11,7 +11,6 @@ use lib.ListN.{length, replicate}
 use Rattle.grammar.specs.Layout.{Word}
 use Rattle.grammar.specs.Trees.{Tree, Rules, Derives, TwoTrees}
 use Rattle.grammar.specs.Choices.{Distinct, FirstTree, SecondTree}
-use Rattle.grammar.specs.Cycles.{Cyclic}
 use Rattle.grammar.specs.Rows.{rowCount}
 use Rattle.grammar.proofs.Existence.{first-of-derives, two-iff-second}
 use Rattle.derivation.specs.declared.Counts.{Counts}
@@ -96,12 +95,12 @@ written-unique t u l₁ l₂ m₁ m₂ m₁′ m₂′ r r′ x y = go (decLe (c
 
 -- 3. the wanted trees exist
 
-module _ {g : Rules} (acyclic : Cyclic g → ⊥) {A : ℕ} {w : Word} where
+module _ {g : Rules} {A : ℕ} {w : Word} where
   pub first-wanted : Derives g A w → Wanted g A w false
-  first-wanted d = let f = first-of-derives acyclic d in record { tree = f .0; goal = f .1 }
+  first-wanted d = let f = first-of-derives d in record { tree = f .0; goal = f .1 }
 
   pub second-wanted : Distinct g → TwoTrees g A w → Wanted g A w true
-  second-wanted d h = let f = two-iff-second acyclic d .0 h in record { tree = f .0; goal = f .1 }
+  second-wanted d h = let f = two-iff-second d .0 h in record { tree = f .0; goal = f .1 }
 
 -- beside the second tree there is the first
 pub wanted-first : {g : Rules} {A : ℕ} {w : Word} → Wanted g A w true → Wanted g A w false

@@ -4,6 +4,7 @@ use mathlib.Core.Bool.{Bool, true, false}
 use mathlib.Core.List.{List}
 use mathlib.Core.Option.{none, some}
 use Prim.Native.Nat.{ℕ, _≤_, _<_}
+use lib.ListN.{length}
 use Rattle.grammar.specs.declared.Grammar.{Grammar}
 use Rattle.grammar.specs.declared.Sentence.{Sentence}
 use Rattle.grammar.specs.Layout.{Word}
@@ -11,15 +12,29 @@ use Rattle.grammar.specs.Trees.{Tree, Rules}
 use Rattle.grammar.specs.Choices.{FirstTree, SecondTree}
 use Rattle.grammar.specs.Content.{rules, spelled, Formed, Positioned}
 use Rattle.grammar.specs.SpanSheet.{SpanSheet}
+use Rattle.grammar.specs.Cycles.{Cyclic}
 use Rattle.shown.specs.Shown.{View, shownCount}
+use Rattle.heights.specs.Least.{HeightSheet}
 use Rattle.derivation.specs.Written.{places}
 use Rattle.derivation.specs.Showing.{filledShown}
 
 -- what both sheets gave, and the words that were filled from them
-pub record Ready (g : Grammar) (s : Sentence) (ws : List ℕ) : Type 0 where
+pub record Charted (g : Grammar) (s : Sentence) (ws : List ℕ) : Type 0 where
   pub formed : Formed g
   pub positioned : Positioned s
   pub sheet : SpanSheet (rules g) (spelled s) ws
+
+-- the heights that are lent: none where the sheet has no loop, else the least heights of w
+pub record Lent (g : Rules) (w : Word) (hs : List ℕ) : Type 0 where
+  pub flat : length hs ≡ 0 → Cyclic g → ⊥
+  pub looping : 0 < length hs → Cyclic g × HeightSheet g w hs
+
+-- both
+pub record Ready (g : Grammar) (s : Sentence) (ws hs : List ℕ) : Type 0 where
+  pub formed : Formed g
+  pub positioned : Positioned s
+  pub sheet : SpanSheet (rules g) (spelled s) ws
+  pub lent : Lent (rules g) (spelled s) hs
 
 -- u is the first tree of A over w or, seeking, the second
 abbrev pub Goal : Rules → ℕ → Word → Bool → Tree → Type 0

@@ -1,29 +1,20 @@
--- `choose` meets its contract: the search from the start finds the first choice; while seeking, `swerve` decides.
+-- `choose` meets its contract: what the first tree takes is found; while seeking, `swerve` decides.
 use borrow.Author.Needs.{needs}
-use mathlib.Core.Bool.{false}
-use Prim.Native.Nat.{_+_, _≤_}
+use mathlib.Core.Path.{_≡_, refl, sym, ap, ap₂, _∙_, subst}
+use mathlib.Core.Bool.{true, false}
+use mathlib.Core.List.{List}
+use Prim.Native.Nat.{ℕ, suc, _+_, _-_, _*_, _≤_, _<_, max}
 use native.Mathlib.Omega.{arith}
-use Rattle.grammar.specs.Choices.{Preferred}
+use lib.ListN.{length}
+use Rattle.grammar.specs.Choices.{Choice, FirstChoice, Preferred, Same, LowChoice, OtherChoice, straight, looping}
 use Rattle.grammar.specs.Content.{rules, spelled}
 use Rattle.grammar.specs.SpanSheet.{part}
-use Rattle.chart.specs.Choosing.{NextChoice}
-use Rattle.derivation.proofs.PreferredLaws.{preferred-choice}
-use Rattle.derivation.proofs.PickLaws.{first-of-next, none-of-none, chosen, choice-near}
+use Rattle.grammar.proofs.ChoiceLaws.{preferred-choice}
+use Rattle.chart.specs.Choosing.{NextAt, NextChoice}
+use Rattle.derivation.specs.Lows.{PreferredPick}
+use Rattle.derivation.proofs.PickLaws.{choice-near, chosen, charted}
 use Rattle.derivation.proofs.choose.Statement.{statement}
 use Rattle.derivation.proofs.choose.Tie as tie
-
-spans : (c : tie.After-wide2) → c .before .wide .result + c .wide2 .result ≤ c .before .before .before .args .s .count
-spans c = omega (arith, c .before .before .before .pre .0 .1, c .before .wide .ensures, c .wide2 .ensures)
-
--- the search from the start at the node
-searched : (c : tie.After-next-choice) → let z = c .before .before .before .before in
-    NextChoice (rules (z .args .g)) (z .args .a) (part (spelled (z .args .s)) (z .args .i) (z .args .n)) 0 0 (c .next-choice .result)
-searched c = rw (c .before .before .wide .ensures, c .before .wide2 .ensures) at (c .next-choice .ensures)
-
--- what the search found is the first choice
-first : (c : tie.After-found) → let z = c .before .before .before .before .before .before in
-    Preferred (rules (z .args .g)) (z .args .a) (part (spelled (z .args .s)) (z .args .i) (z .args .n)) (c .found .given .0 .0) (c .found .given .0 .1 .0)
-first c = first-of-next (rw (c .found .given .1) at (searched (c .before .before)))
 
 wide-requires : tie.Need-wide-requires
 wide-requires c κs = search needs
@@ -31,26 +22,20 @@ wide-requires c κs = search needs
 wide-requires-2 : tie.Need-wide-requires-2
 wide-requires-2 c κs = search needs
 
-next-choice-requires : tie.Need-next-choice-requires
-next-choice-requires c κs = let r = c .before .before .before .pre .0 .0 in ((r .positioned .few, spans c), (r .formed, r .sheet))
+preferred-requires : tie.Need-preferred-requires
+preferred-requires c κs = let z = c .before .before .before .before in let a = z .args in ((z .pre .0 .0, omega (arith, z .pre .0 .1, c .before .wide .ensures, c .wide2 .ensures)), rw (c .before .wide .ensures, c .wide2 .ensures) (z .pre .1))
 
 enum-known-found : tie.Need-enum-known-found
 enum-known-found c = search needs
 
 swerve-requires : tie.Need-swerve-requires
-swerve-requires c κs =
-    let w = c .before .before .before .before .before in
-    ((w .before .before .before .pre .0 .0, spans w), rw (w .before .wide .ensures, w .wide2 .ensures) (first (c .before .before)))
+swerve-requires c κs = let z = c .before .before .before .before .before .before .before .before .before in let a = z .args in let y : PreferredPick (rules (a .g)) (a .a) (part (spelled (a .s)) (c .before .before .before .before .before .before .wide .result) (c .before .before .before .before .before .wide2 .result)) (c .before .before .before .before .preferred .result) = c .before .before .before .before .preferred .ensures in let x : Preferred (rules (a .g)) (a .a) (part (spelled (a .s)) (c .before .before .before .before .before .before .wide .result) (c .before .before .before .before .before .wide2 .result)) (c .before .before .found .given .0 .0) (c .before .before .found .given .0 .1 .0) = rw (c .before .before .found .given .1) at y in ((charted (z .pre .0 .0), omega (arith, z .pre .0 .1, c .before .before .before .before .before .before .wide .ensures, c .before .before .before .before .before .wide2 .ensures)), x)
 
 returns : tie.Need-returns
-returns c =
-    let w = c .before .before .before .before .before .before in
-    rw (c .before .if1 .taken, ← w .before .wide .ensures, ← w .wide2 .ensures) (c .swerve .ensures)
+returns c = let z = c .before .before .before .before .before .before .before .before .before .before in let a = z .args in rw (c .before .if1 .taken, ← c .before .before .before .before .before .before .before .wide .ensures, ← c .before .before .before .before .before .before .wide2 .ensures) (c .swerve .ensures)
 
 step-of-requires : tie.Need-step-of-requires
-step-of-requires c κs =
-    let z = c .before .before .before .before .before .before .before .before in
-    choice-near (z .pre .0 .0) _ (z .args .i) (z .args .n) _ _ (z .pre .0 .1) (preferred-choice _ _ _ _ _ (first (c .before .before)))
+step-of-requires c κs = let z = c .before .before .before .before .before .before .before .before .before in let a = z .args in let y : PreferredPick (rules (a .g)) (a .a) (part (spelled (a .s)) (c .before .before .before .before .before .before .wide .result) (c .before .before .before .before .before .wide2 .result)) (c .before .before .before .before .preferred .result) = c .before .before .before .before .preferred .ensures in let x : Preferred (rules (a .g)) (a .a) (part (spelled (a .s)) (c .before .before .before .before .before .before .wide .result) (c .before .before .before .before .before .wide2 .result)) (c .before .before .found .given .0 .0) (c .before .before .found .given .0 .1 .0) = rw (c .before .before .found .given .1) at y in let x′ : Preferred (rules (a .g)) (a .a) (part (spelled (a .s)) (a .i) (a .n)) (c .before .before .found .given .0 .0) (c .before .before .found .given .0 .1 .0) = (rw (c .before .before .before .before .before .before .wide .ensures, c .before .before .before .before .before .wide2 .ensures) at x) in choice-near (charted (z .pre .0 .0)) _ (a .i) (a .n) _ _ (z .pre .0 .1) (preferred-choice _ _ _ _ _ x′)
 
 enum-told : tie.Need-enum-told
 enum-told c = search needs
@@ -59,14 +44,10 @@ step-of-requires-2 : tie.Need-step-of-requires-2
 step-of-requires-2 c κs = search needs
 
 returns-2 : tie.Need-returns-2
-returns-2 c =
-    let z = c .before .before .before .before .before .before .before .before .before in
-    chosen (z .args .g) false (preferred-choice _ _ _ _ _ (first (c .before .before .before))) (rw (c .before .if1 .left) (first (c .before .before .before))) (c .step-of .ensures)
+returns-2 c = let z = c .before .before .before .before .before .before .before .before .before .before in let a = z .args in let y : PreferredPick (rules (a .g)) (a .a) (part (spelled (a .s)) (c .before .before .before .before .before .before .before .wide .result) (c .before .before .before .before .before .before .wide2 .result)) (c .before .before .before .before .before .preferred .result) = c .before .before .before .before .before .preferred .ensures in let x : Preferred (rules (a .g)) (a .a) (part (spelled (a .s)) (c .before .before .before .before .before .before .before .wide .result) (c .before .before .before .before .before .before .wide2 .result)) (c .before .before .before .found .given .0 .0) (c .before .before .before .found .given .0 .1 .0) = rw (c .before .before .before .found .given .1) at y in let x′ : Preferred (rules (a .g)) (a .a) (part (spelled (a .s)) (a .i) (a .n)) (c .before .before .before .found .given .0 .0) (c .before .before .before .found .given .0 .1 .0) = (rw (c .before .before .before .before .before .before .before .wide .ensures, c .before .before .before .before .before .before .wide2 .ensures) at x) in chosen (a .g) false (preferred-choice _ _ _ _ _ x′) (rw (c .before .if1 .left) x′) (c .step-of .ensures)
 
 returns-3 : tie.Need-returns-3
-returns-3 c =
-    let z = c .before .before .before .before .before .before .before in
-    absurd (none-of-none (z .pre .1) (rw (c .before .enum-told .given .1) at (searched (c .before .before .before))))
+returns-3 c = let z = c .before .before .before .before .before .before .before .before in let a = z .args in let y : PreferredPick (rules (a .g)) (a .a) (part (spelled (a .s)) (c .before .before .before .before .before .wide .result) (c .before .before .before .before .wide2 .result)) (c .before .before .before .preferred .result) = c .before .before .before .preferred .ensures in let x : ⊥ = rw (c .before .enum-told .given .1) at y in absurd x
 
 pub choose-spec : {M : Type 1} → statement M
 choose-spec =
@@ -74,7 +55,7 @@ choose-spec =
     (tie.spec
     wide-requires
     wide-requires-2
-    next-choice-requires
+    preferred-requires
     enum-known-found
     swerve-requires
     returns

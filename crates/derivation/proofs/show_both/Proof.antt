@@ -1,17 +1,17 @@
--- `show_both` meets its contract, by what `write` ensures of each tree.
+-- `show_both` meets its contract: the least heights are lent on a looping sheet, none on another.
 use borrow.Author.Needs.{needs}
-use Rattle.derivation.proofs.WrittenLaws.{both-first, both-second, both-done, wanted-first}
+use mathlib.Core.Path.{refl}
+use Rattle.derivation.proofs.PreferLaws.{ready-flat}
 use Rattle.derivation.proofs.show_both.Statement.{statement}
 use Rattle.derivation.proofs.show_both.Tie as tie
 
-write-requires : tie.Need-write-requires
-write-requires c κs = (c .before .before .before .before .pre .0, wanted-first (c .before .before .before .before .pre .1))
+cyclic-requires : tie.Need-cyclic-requires
+cyclic-requires c κs = c .before .before .before .pre .0 .formed
 
-clear-requires : tie.Need-clear-requires
-clear-requires c κs = search needs
-
-short-requires : tie.Need-short-requires
-short-requires c κs = search needs
+both-low-requires : tie.Need-both-low-requires
+both-low-requires c κs =
+    let z = c .before .before .before .before .before .before .before in
+    (z .pre .0, (z .pre .1, c .before .before .before .cyclic .ensures .is (c .before .before .if1 .taken)))
 
 same-length : tie.Need-same-length
 same-length c = search needs
@@ -20,16 +20,18 @@ same-length-2 : tie.Need-same-length-2
 same-length-2 c = search needs
 
 returns : tie.Need-returns
-returns c = λ t u a b. rw (c .short .ensures) (both-first _ t u (c .before .before .before .before .before .before .before .before .write .ensures t a) (c .before .before .before .before .before .if1 .taken) (c .before .before .before .clear .ensures))
+returns c = search needs
 
-write-requires-2 : tie.Need-write-requires-2
-write-requires-2 c κs = search needs
+array-share-prefix-hs : tie.Need-array-share-prefix-hs
+array-share-prefix-hs c = search needs
 
-clear-requires-2 : tie.Need-clear-requires-2
-clear-requires-2 c κs = search needs
+slice-aggregate-both-by : tie.Need-slice-aggregate-both-by
+slice-aggregate-both-by c = search needs
 
-short-requires-2 : tie.Need-short-requires-2
-short-requires-2 c κs = search needs
+both-by-requires : tie.Need-both-by-requires
+both-by-requires c κs =
+    let z = c .before .before .before .before .before .before .before .before in
+    (ready-flat (z .pre .0) (c .before .before .before .before .cyclic .ensures .isnt (c .before .before .before .if1 .left)) refl, z .pre .1)
 
 same-length-3 : tie.Need-same-length-3
 same-length-3 c = search needs
@@ -38,33 +40,20 @@ same-length-4 : tie.Need-same-length-4
 same-length-4 c = search needs
 
 returns-2 : tie.Need-returns-2
-returns-2 c = λ t u a b. rw (c .short2 .ensures) (both-second _ t u (c .before .before .before .before .before .before .before .before .before .before .before .before .before .write .ensures t a) (c .before .before .before .before .before .before .before .before .write2 .ensures u b) (c .before .before .before .before .before .if2 .taken) (c .before .before .before .before .before .before .before .before .before .before .before .before .before .write .kept .1 .1 .1 .1 .0) (c .before .before .before .clear2 .ensures))
-
-same-length-5 : tie.Need-same-length-5
-same-length-5 c = search needs
-
-same-length-6 : tie.Need-same-length-6
-same-length-6 c = search needs
-
-returns-3 : tie.Need-returns-3
-returns-3 c = λ t u a b. both-done _ t u (c .before .before .before .before .before .before .before .before .write .ensures t a) (c .before .before .before .write2 .ensures u b) (c .before .before .before .before .before .if1 .left) (c .if2 .left)
+returns-2 c = search needs
 
 pub show-both-spec : {M : Type 1} → statement M
 show-both-spec =
     tie.close
     (tie.spec
-    write-requires
-    clear-requires
-    short-requires
+    cyclic-requires
+    both-low-requires
     same-length
     same-length-2
     returns
-    write-requires-2
-    clear-requires-2
-    short-requires-2
+    array-share-prefix-hs
+    slice-aggregate-both-by
+    both-by-requires
     same-length-3
     same-length-4
-    returns-2
-    same-length-5
-    same-length-6
-    returns-3)
+    returns-2)

@@ -1,17 +1,17 @@
--- `show_first` meets its contract, by what `write` ensures of the first tree.
+-- `show_first` meets its contract: the least heights are lent on a looping sheet, none on another.
 use borrow.Author.Needs.{needs}
-use Rattle.derivation.proofs.WrittenLaws.{first-short, first-done}
+use mathlib.Core.Path.{refl}
+use Rattle.derivation.proofs.PreferLaws.{ready-flat}
 use Rattle.derivation.proofs.show_first.Statement.{statement}
 use Rattle.derivation.proofs.show_first.Tie as tie
 
-clear-requires : tie.Need-clear-requires
-clear-requires c κs = search needs
+cyclic-requires : tie.Need-cyclic-requires
+cyclic-requires c κs = c .before .before .before .pre .0 .formed
 
-write-requires : tie.Need-write-requires
-write-requires c κs = search needs
-
-short-requires : tie.Need-short-requires
-short-requires c κs = search needs
+first-low-requires : tie.Need-first-low-requires
+first-low-requires c κs =
+    let z = c .before .before .before .before .before .before .before in
+    (z .pre .0, (z .pre .1, c .before .before .before .cyclic .ensures .is (c .before .before .if1 .taken)))
 
 same-length : tie.Need-same-length
 same-length c = search needs
@@ -20,7 +20,18 @@ same-length-2 : tie.Need-same-length-2
 same-length-2 c = search needs
 
 returns : tie.Need-returns
-returns c = λ t a. rw (c .short .ensures) (first-short _ t (c .before .before .before .before .write .ensures t a) (c .before .before .before .before .before .before .before .before .clear .ensures) (c .before .if1 .taken))
+returns c = search needs
+
+array-share-prefix-hs : tie.Need-array-share-prefix-hs
+array-share-prefix-hs c = search needs
+
+slice-aggregate-first-by : tie.Need-slice-aggregate-first-by
+slice-aggregate-first-by c = search needs
+
+first-by-requires : tie.Need-first-by-requires
+first-by-requires c κs =
+    let z = c .before .before .before .before .before .before .before .before in
+    (ready-flat (z .pre .0) (c .before .before .before .before .cyclic .ensures .isnt (c .before .before .before .if1 .left)) refl, z .pre .1)
 
 same-length-3 : tie.Need-same-length-3
 same-length-3 c = search needs
@@ -29,18 +40,20 @@ same-length-4 : tie.Need-same-length-4
 same-length-4 c = search needs
 
 returns-2 : tie.Need-returns-2
-returns-2 c = λ t a. first-done _ t (c .before .before .before .write .ensures t a) (c .before .before .before .before .before .before .before .clear .ensures) (c .if1 .left)
+returns-2 c = search needs
 
 pub show-first-spec : {M : Type 1} → statement M
 show-first-spec =
     tie.close
     (tie.spec
-    clear-requires
-    write-requires
-    short-requires
+    cyclic-requires
+    first-low-requires
     same-length
     same-length-2
     returns
+    array-share-prefix-hs
+    slice-aggregate-first-by
+    first-by-requires
     same-length-3
     same-length-4
     returns-2)

@@ -1,71 +1,66 @@
--- `swerve` meets its contract: what the search from just past the first choice finds is the second, and where it finds nothing the first is the only one.
+-- `swerve` meets its contract: the first choice, where that is another; else what `after` finds.
 use borrow.Author.Needs.{needs}
+use mathlib.Core.Path.{_≡_, refl, sym, ap, ap₂, _∙_, subst}
 use mathlib.Core.Bool.{true, false}
-use Prim.Native.Nat.{ℕ, _+_, _≤_, _<_}
+use mathlib.Core.List.{List}
+use Prim.Native.Nat.{ℕ, suc, _+_, _-_, _*_, _≤_, _<_, max}
 use native.Mathlib.Omega.{arith}
-use Rattle.grammar.specs.Choices.{Choice, OtherChoice, OnlyChoice}
+use lib.ListN.{length}
+use Rattle.grammar.specs.Choices.{Choice, FirstChoice, Preferred, Same, LowChoice, OtherChoice, straight, looping}
 use Rattle.grammar.specs.Content.{rules, spelled}
 use Rattle.grammar.specs.SpanSheet.{part}
-use Rattle.chart.specs.Choosing.{NextChoice}
-use Rattle.derivation.proofs.PreferredLaws.{preferred-choice}
-use Rattle.derivation.proofs.PickLaws.{other-of-next, only-of-none, chosen, choice-near}
+use Rattle.grammar.proofs.ChoiceLaws.{preferred-choice}
+use Rattle.chart.specs.Choosing.{NextAt, NextChoice}
+use mathlib.Core.Path.{subst₂}
+use Rattle.derivation.proofs.PickLaws.{choice-near, chosen, other-of-first, first-of-next, none-of-none}
 use Rattle.derivation.proofs.swerve.Statement.{statement}
 use Rattle.derivation.proofs.swerve.Tie as tie
 
--- the choices at the node
-abbrev At : tie.Start → ℕ → ℕ → Type 0
-At z = Choice (rules (z .args .g)) (z .args .a) (part (spelled (z .args .s)) (z .args .start) (z .args .len))
-
-first : (z : tie.Start) → At z (z .args .p) (z .args .k)
-first z = preferred-choice _ _ _ _ _ (z .pre .1)
-
-near : (z : tie.Start) (q l : ℕ) → At z q l → (q < 128) × (l ≤ 64)
-near z q l c = choice-near (z .pre .0 .0) _ (z .args .start) (z .args .len) q l (z .pre .0 .1) c
-
--- what the search found is the second choice
-other : (c : tie.After-other) → let z = c .before .before .before .before in
-    OtherChoice (rules (z .args .g)) (z .args .a) (part (spelled (z .args .s)) (z .args .start) (z .args .len)) (z .args .p) (z .args .k) (c .other .given .0 .0) (c .other .given .0 .1 .0)
-other c =
-    let z = c .before .before .before .before in
-    let h : NextChoice (rules (z .args .g)) (z .args .a) (part (spelled (z .args .s)) (z .args .start) (z .args .len)) (z .args .p) (z .args .k + 1) (c .before .before .next-choice .result) = c .before .before .next-choice .ensures in
-    other-of-next (z .pre .1) (rw (c .other .given .1) at h)
-
--- where it found nothing the first is the only one
-only : (c : tie.After-enum-told) → let z = c .before .before .before .before in
-    OnlyChoice (rules (z .args .g)) (z .args .a) (part (spelled (z .args .s)) (z .args .start) (z .args .len)) (z .args .p) (z .args .k)
-only c =
-    let z = c .before .before .before .before in
-    let h : NextChoice (rules (z .args .g)) (z .args .a) (part (spelled (z .args .s)) (z .args .start) (z .args .len)) (z .args .p) (z .args .k + 1) (c .before .before .next-choice .result) = c .before .before .next-choice .ensures in
-    only-of-none (z .pre .1) (rw (c .enum-told .given .1) at h)
-
-add-next-choice : tie.Need-add-next-choice
-add-next-choice c = omega (arith, near (c .before) _ _ (first (c .before)))
-
 next-choice-requires : tie.Need-next-choice-requires
-next-choice-requires c κs = let r = c .before .pre .0 in ((r .0 .positioned .few, r .1), (r .0 .formed, r .0 .sheet))
+next-choice-requires c κs = let z = c .before in let a = z .args in let r = z .pre .0 .0 in ((r .positioned .few, z .pre .0 .1), (r .formed, r .sheet))
 
-enum-known-other : tie.Need-enum-known-other
-enum-known-other c = search needs
+enum-known-found : tie.Need-enum-known-found
+enum-known-found c = search needs
 
 step-of-requires : tie.Need-step-of-requires
-step-of-requires c κs = let z = c .before .before .before .before .before in omega (arith, near z _ _ (first z), near z _ _ (other (c .before) .choice))
+step-of-requires c κs = let z = c .before .before .before .before .before .before in let a = z .args in let y : NextChoice (rules (a .g)) (a .a) (part (spelled (a .s)) (a .start) (a .len)) 0 0 (c .before .before .before .before .next-choice .result) = c .before .before .before .before .next-choice .ensures in let x : NextAt (rules (a .g)) (a .a) (part (spelled (a .s)) (a .start) (a .len)) 0 0 (c .before .before .found .given .0 .0) (c .before .before .found .given .0 .1 .0) = rw (c .before .before .found .given .1) at y in choice-near (z .pre .0 .0) (a .a) (a .start) (a .len) _ _ (z .pre .0 .1) (x .choice)
+
+returns : tie.Need-returns
+returns c = let z = c .before .before .before .before .before .before .before in let a = z .args in let y : NextChoice (rules (a .g)) (a .a) (part (spelled (a .s)) (a .start) (a .len)) 0 0 (c .before .before .before .before .before .next-choice .result) = c .before .before .before .before .before .next-choice .ensures in let x : NextAt (rules (a .g)) (a .a) (part (spelled (a .s)) (a .start) (a .len)) 0 0 (c .before .before .before .found .given .0 .0) (c .before .before .before .found .given .0 .1 .0) = rw (c .before .before .before .found .given .1) at y in chosen (a .g) false (x .choice) (_, _, z .pre .1, other-of-first x (λ q. c .before .if1 .taken (q .0))) (c .step-of .ensures)
+
+step-of-requires-2 : tie.Need-step-of-requires-2
+step-of-requires-2 c κs = let z = c .before .before .before .before .before .before .before in let a = z .args in let y : NextChoice (rules (a .g)) (a .a) (part (spelled (a .s)) (a .start) (a .len)) 0 0 (c .before .before .before .before .before .next-choice .result) = c .before .before .before .before .before .next-choice .ensures in let x : NextAt (rules (a .g)) (a .a) (part (spelled (a .s)) (a .start) (a .len)) 0 0 (c .before .before .before .found .given .0 .0) (c .before .before .before .found .given .0 .1 .0) = rw (c .before .before .before .found .given .1) at y in choice-near (z .pre .0 .0) (a .a) (a .start) (a .len) _ _ (z .pre .0 .1) (x .choice)
+
+returns-2 : tie.Need-returns-2
+returns-2 c = let z = c .before .before .before .before .before .before .before .before in let a = z .args in let y : NextChoice (rules (a .g)) (a .a) (part (spelled (a .s)) (a .start) (a .len)) 0 0 (c .before .before .before .before .before .before .next-choice .result) = c .before .before .before .before .before .before .next-choice .ensures in let x : NextAt (rules (a .g)) (a .a) (part (spelled (a .s)) (a .start) (a .len)) 0 0 (c .before .before .before .before .found .given .0 .0) (c .before .before .before .before .found .given .0 .1 .0) = rw (c .before .before .before .before .found .given .1) at y in chosen (a .g) false (x .choice) (_, _, z .pre .1, other-of-first x (λ q. c .before .if2 .taken (q .1))) (c .step-of2 .ensures)
+
+after-requires : tie.Need-after-requires
+after-requires c κs = let z = c .before .before .before .before .before .before .before in let a = z .args in let y : NextChoice (rules (a .g)) (a .a) (part (spelled (a .s)) (a .start) (a .len)) 0 0 (c .before .before .before .before .before .next-choice .result) = c .before .before .before .before .before .next-choice .ensures in let x : NextAt (rules (a .g)) (a .a) (part (spelled (a .s)) (a .start) (a .len)) 0 0 (c .before .before .before .found .given .0 .0) (c .before .before .before .found .given .0 .1 .0) = rw (c .before .before .before .found .given .1) at y in (z .pre .0, (subst₂ (FirstChoice (rules (a .g)) (a .a) (part (spelled (a .s)) (a .start) (a .len))) (c .before .if1 .left) (c .if2 .left) (first-of-next x), z .pre .1))
 
 enum-told : tie.Need-enum-told
 enum-told c = search needs
 
-step-of-requires-2 : tie.Need-step-of-requires-2
-step-of-requires-2 c κs = let z = c .before .before .before .before in near z _ _ (first z)
+step-of-requires-3 : tie.Need-step-of-requires-3
+step-of-requires-3 c κs = let z = c .before .before .before .before in let a = z .args in choice-near (z .pre .0 .0) (a .a) (a .start) (a .len) _ _ (z .pre .0 .1) (preferred-choice _ _ _ _ _ (z .pre .1))
 
-returns : tie.Need-returns
-returns c =
-    let z = c .before .before .before .before .before .before in
-    chosen (z .args .g) false (other (c .before .before) .choice) (_, _, z .pre .1, other (c .before .before)) (c .step-of .ensures)
+returns-3 : tie.Need-returns-3
+returns-3 c = search needs
 
-returns-2 : tie.Need-returns-2
-returns-2 c =
-    let z = c .before .before .before .before .before in
-    chosen (z .args .g) true (first z) (only (c .before)) (c .step-of2 .ensures)
+returns-4 : tie.Need-returns-4
+returns-4 c = let z = c .before .before .before .before .before in let a = z .args in let y : NextChoice (rules (a .g)) (a .a) (part (spelled (a .s)) (a .start) (a .len)) 0 0 (c .before .before .before .next-choice .result) = c .before .before .before .next-choice .ensures in absurd (none-of-none (_, _, preferred-choice _ _ _ _ _ (z .pre .1)) (rw (c .before .enum-told .given .1) at y))
 
 pub swerve-spec : {M : Type 1} → statement M
 swerve-spec =
-    tie.close (tie.spec add-next-choice next-choice-requires enum-known-other step-of-requires enum-told step-of-requires-2 returns returns-2)
+    tie.close
+    (tie.spec
+    next-choice-requires
+    enum-known-found
+    step-of-requires
+    returns
+    step-of-requires-2
+    returns-2
+    after-requires
+    enum-told
+    step-of-requires-3
+    returns-3
+    returns-4)

@@ -13,14 +13,14 @@ use Rattle.derivation.proofs.write.Statement.{statement}
 use Rattle.derivation.proofs.write.Tie as tie
 
 abbrev Inv-loop : tie.InvT-loop
-Inv-loop words s g sees out₀ seeking places n₀ top₀ seek₀ out n top seek = Running (member sees) g s seeking (length out₀) places out n top seek
+Inv-loop words hs s g sees out₀ seeking places n₀ top₀ seek₀ out n top seek = Running (member sees) g s seeking (length out₀) places out n top seek
 
 abbrev μ-loop : tie.MeasureT-loop
-μ-loop words s g sees out₀ seeking places n₀ top₀ seek₀ out n top seek = places - n
+μ-loop words hs s g sees out₀ seeking places n₀ top₀ seek₀ out n top seek = places - n
 
 -- the entry, as the loop sees it
 abbrev start : tie.At-loop Inv-loop μ-loop → tie.Start Inv-loop μ-loop
-start c = c .before .before .before .before .before .before .before .before .before
+start c = c .before .before .before .before .before .before .before .before .before .before
 
 -- the node on top
 node : (c : tie.In-loop Inv-loop μ-loop)
@@ -60,13 +60,13 @@ mul-put : tie.Need-mul-put Inv-loop μ-loop
 mul-put c = search needs
 
 cast-put : tie.Need-cast-put Inv-loop μ-loop
-cast-put c = omega (arith, c .before .before .before .before .before .pre .0 .positioned .few)
+cast-put c = omega (arith, c .before .before .before .before .before .before .pre .0 .positioned .few)
 
 put-requires : tie.Need-put-requires Inv-loop μ-loop
 put-requires c κs = search needs
 
 loop-holds : tie.Need-loop-holds Inv-loop μ-loop
-loop-holds c = running-start (c .before .before .before .before .before .before .before .before .pre .0) (c .before .before .before .before .before .before .before .before .pre .1) _ _ _ (omega arith) (omega arith) (c .before .before .put .ensures)
+loop-holds c = running-start (c .before .before .before .before .before .before .before .before .before .pre .0) (c .before .before .before .before .before .before .before .before .before .pre .1) _ _ _ (omega arith) (omega arith) (c .before .before .put .ensures)
 
 mul-a : tie.Need-mul-a Inv-loop μ-loop
 mul-a c = search needs
@@ -101,7 +101,7 @@ kids-requires : tie.Need-kids-requires Inv-loop μ-loop
 kids-requires c κs = kind c
 
 add-if2 : tie.Need-add-if2 Inv-loop μ-loop
-add-if2 c = omega (arith, few c, c .before .before .before .before .before .before .loop .inv .state .room)
+add-if2 c = let t = c .before .before .before .before .before in omega (arith, few c, t .before .loop .inv .state .room, t .loop-test .taken, start (t .before) .good)
 
 clear-requires-2 : tie.Need-clear-requires-2 Inv-loop μ-loop
 clear-requires-2 c κs = search needs
@@ -116,7 +116,7 @@ returns-2 c =
     running-over (start (t .before) .pre .0) (t .before .loop .inv) h _ _ (long (t .before)) refl (c .before .before .clear2 .ensures)
 
 mul-put-2 : tie.Need-mul-put-2 Inv-loop μ-loop
-mul-put-2 c = search needs
+mul-put-2 c = let t = c .before .before .before .before .before .before .before in omega (arith, t .before .loop .inv .state .room, t .loop-test .taken, start (t .before) .good)
 
 start-of-requires : tie.Need-start-of-requires Inv-loop μ-loop
 start-of-requires c κs = search needs
