@@ -14,10 +14,9 @@ use Rattle.grammar.specs.Content.{rules, SmallRule, Formed}
 use Rattle.grammar.specs.SpanSheet.{part}
 use Rattle.grammar.proofs.Lists.{mem-every}
 use Rattle.grammar.proofs.ByKind.{top-left}
-use Rattle.grammar.proofs.ChoiceLaws.{top-of, member-at}
+use Rattle.grammar.proofs.ChoiceLaws.{top-of, member-at, preferred-choice}
 use Rattle.rows.specs.declared.Step.{Step}
 use Rattle.derivation.specs.Picks.{Chosen, HasChoice}
-use Rattle.derivation.proofs.PreferredLaws.{preferred-choice}
 use Rattle.derivation.proofs.Pending.{shape, aim-step}
 use Rattle.row_counts.specs.Walks.{FirstThere}
 

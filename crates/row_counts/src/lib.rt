@@ -1,8 +1,10 @@
 // How many rows the first and the second tree have, without writing them: a walk along the nodes that have tokens. A tree
 // over the empty word can be astronomically large, so its rows are counted once a nonterminal, in a table.
+use acyclic::cyclic;
 use derivation::choose;
 use grammar::Grammar;
 use grammar::Sentence;
+use heights::heights;
 use rows::Step;
 use spans::in_first;
 use spans::in_second;
@@ -12,11 +14,12 @@ ghost use Prim.Native.Nat.{ℕ, _+_, _*_, _≤_, _<_};
 ghost use lib.ListN.{length, getD};
 ghost use Rattle.grammar.specs.Trees.{Tree};
 ghost use Rattle.grammar.specs.Choices.{FirstTree, SecondTree};
+ghost use Rattle.grammar.specs.Cycles.{Cyclic};
 ghost use Rattle.grammar.specs.Rows.{rowCount};
 ghost use Rattle.grammar.specs.Content.{rules, spelled};
 ghost use Rattle.sets.specs.Sets.{In};
 ghost use Rattle.grammar.specs.SpanSheet.{part, secondWord};
-ghost use Rattle.derivation.specs.Wanted.{Ready, Goal, Wanted};
+ghost use Rattle.derivation.specs.Wanted.{Charted, Ready, Goal, Wanted};
 ghost use Rattle.derivation.specs.Picks.{HasChoice, Chosen};
 ghost use Rattle.row_counts.specs.Capped.{capped};
 ghost use Rattle.row_counts.specs.RowCounts.{Tells};
@@ -79,8 +82,8 @@ fn null_size(z: &[u64], st: Step) -> u64
 }
 
 // Try to count the first tree of `a` over the empty word.
-fn null_try(z: &mut [u64], words: &[u64], s: Sentence, g: Grammar, a: u8) -> bool
-    requires { ⌜ Ready g s (now words) × (a < 64) ⌝ }
+fn null_try(z: &mut [u64], words: &[u64], hs: &[u16], s: Sentence, g: Grammar, a: u8) -> bool
+    requires { ⌜ Ready g s (now words) (now hs) × (a < 64) ⌝ }
     requires { ⌜ HasFirsts (rules g) ⌝ }
     requires { ⌜ Sound (rules g) (now z) ⌝ }
     ensures { λ r. ⌜ Passed (rules g) (λ B. B ≡ a) (now (z .entry)) (now (z .exit)) r ⌝ }
@@ -92,7 +95,7 @@ fn null_try(z: &mut [u64], words: &[u64], s: Sentence, g: Grammar, a: u8) -> boo
     if !in_first(words, s.count, 0, 0, a) {
         return false;
     }
-    let st = choose(words, s, g, a, 0, 0, false);
+    let st = choose(words, hs, s, g, a, 0, 0, false);
     let n = null_size(z, st);
     if n == 0 {
         return false;
@@ -102,8 +105,8 @@ fn null_try(z: &mut [u64], words: &[u64], s: Sentence, g: Grammar, a: u8) -> boo
 }
 
 // Try all of them.
-fn null_pass(z: &mut [u64], words: &[u64], s: Sentence, g: Grammar) -> bool
-    requires { ⌜ Ready g s (now words) ⌝ }
+fn null_pass(z: &mut [u64], words: &[u64], hs: &[u16], s: Sentence, g: Grammar) -> bool
+    requires { ⌜ Ready g s (now words) (now hs) ⌝ }
     requires { ⌜ HasFirsts (rules g) ⌝ }
     requires { ⌜ Sound (rules g) (now z) ⌝ }
     ensures { λ r. ⌜ Passed (rules g) (λ B. B < 64) (now (z .entry)) (now (z .exit)) r ⌝ }
@@ -111,7 +114,7 @@ fn null_pass(z: &mut [u64], words: &[u64], s: Sentence, g: Grammar) -> bool
     let mut more = false;
     let mut a: u8 = 0;
     while a < 64 {
-        let found = null_try(z, words, s, g, a);
+        let found = null_try(z, words, hs, s, g, a);
         more = either(more, found);
         a += 1;
     }
@@ -119,14 +122,14 @@ fn null_pass(z: &mut [u64], words: &[u64], s: Sentence, g: Grammar) -> bool
 }
 
 // The rows of the first trees over the empty word, a number a nonterminal, into 64 numbers that are all 0.
-fn null_counts(z: &mut [u64], words: &[u64], s: Sentence, g: Grammar)
-    requires { ⌜ Ready g s (now words) ⌝ }
+fn null_counts(z: &mut [u64], words: &[u64], hs: &[u16], s: Sentence, g: Grammar)
+    requires { ⌜ Ready g s (now words) (now hs) ⌝ }
     requires { ⌜ HasFirsts (rules g) ⌝ }
     requires { ⌜ Sound (rules g) (now z) ⌝ }
     ensures { λ r. ⌜ Nulls (rules g) (now (z .exit)) ⌝ }
 {
     loop {
-        let more = null_pass(z, words, s, g);
+        let more = null_pass(z, words, hs, s, g);
         if !more {
             return;
         }
@@ -187,8 +190,8 @@ fn down(st: Step, l: u8) -> Below
 
 // The rows of the first tree of `b` over the span of `n` tokens from `j` on. A right child that waits stands, by its start,
 // in `names` and `longs`: what follows the leaf at `i` begins at `i` + 1.
-fn walk(words: &[u64], s: Sentence, g: Grammar, z: &[u64], b: u8, j: u8, n: u8) -> u64
-    requires { ⌜ Ready g s (now words) × (0 < n) × (j + n ≤ s .count) ⌝ }
+fn walk(words: &[u64], hs: &[u16], s: Sentence, g: Grammar, z: &[u64], b: u8, j: u8, n: u8) -> u64
+    requires { ⌜ Ready g s (now words) (now hs) × (0 < n) × (j + n ≤ s .count) ⌝ }
     requires { ⌜ Nulls (rules g) (now z) ⌝ }
     requires { ⌜ FirstThere (rules g) b (part (spelled s) j n) ⌝ }
     ensures { λ r. ⌜ ((t : Tree) → FirstTree (rules g) b (part (spelled s) j n) t → r ≡ capped (rowCount t)) ⌝ }
@@ -201,7 +204,7 @@ fn walk(words: &[u64], s: Sentence, g: Grammar, z: &[u64], b: u8, j: u8, n: u8) 
     let mut l = n;
     let mut total = 0;
     while total < LIMIT {
-        let st = choose(words, s, g, a, i, l, false);
+        let st = choose(words, hs, s, g, a, i, l, false);
         total = add(total, own(z, st, l));
         if st.kind < 2 {
             i += 1;
@@ -226,8 +229,17 @@ fn walk(words: &[u64], s: Sentence, g: Grammar, z: &[u64], b: u8, j: u8, n: u8) 
 }
 
 // The rows of the first tree of `a` over the span of `l` tokens from `i` on; those over the empty word stand in the table.
-fn count_first(words: &[u64], s: Sentence, g: Grammar, z: &[u64], a: u8, i: u8, l: u8) -> u64
-    requires { ⌜ Ready g s (now words) × (a < 64) × (i + l ≤ s .count) ⌝ }
+fn count_first(
+    words: &[u64],
+    hs: &[u16],
+    s: Sentence,
+    g: Grammar,
+    z: &[u64],
+    a: u8,
+    i: u8,
+    l: u8,
+) -> u64
+    requires { ⌜ Ready g s (now words) (now hs) × (a < 64) × (i + l ≤ s .count) ⌝ }
     requires { ⌜ Nulls (rules g) (now z) ⌝ }
     requires { ⌜ FirstThere (rules g) a (part (spelled s) i l) ⌝ }
     ensures { λ r. ⌜ ((t : Tree) → FirstTree (rules g) a (part (spelled s) i l) t → r ≡ capped (rowCount t)) ⌝ }
@@ -236,12 +248,21 @@ fn count_first(words: &[u64], s: Sentence, g: Grammar, z: &[u64], a: u8, i: u8, 
         let at = wide(a);
         return z[at];
     }
-    walk(words, s, g, z, a, i, l)
+    walk(words, hs, s, g, z, a, i, l)
 }
 
 // The rows of a node with first trees beneath: of the second tree, where it parts from the first.
-fn under(words: &[u64], s: Sentence, g: Grammar, z: &[u64], st: Step, i: u8, l: u8) -> u64
-    requires { ⌜ Ready g s (now words) × (i + l ≤ s .count) ⌝ }
+fn under(
+    words: &[u64],
+    hs: &[u16],
+    s: Sentence,
+    g: Grammar,
+    z: &[u64],
+    st: Step,
+    i: u8,
+    l: u8,
+) -> u64
+    requires { ⌜ Ready g s (now words) (now hs) × (i + l ≤ s .count) ⌝ }
     requires { ⌜ Nulls (rules g) (now z) ⌝ }
     requires { ⌜ PartedThere (rules g) (spelled s) st i l ⌝ }
     ensures { λ r. ⌜ ((u : Tree) → Parted (rules g) (spelled s) st i l u → r ≡ capped (rowCount u)) ⌝ }
@@ -252,13 +273,13 @@ fn under(words: &[u64], s: Sentence, g: Grammar, z: &[u64], st: Step, i: u8, l: 
         return 1;
     }
     if kind == 2 {
-        let x = count_first(words, s, g, z, first, i, l);
+        let x = count_first(words, hs, s, g, z, first, i, l);
         return add(1, x);
     }
     let split = st.split;
     let second = st.second;
-    let x = count_first(words, s, g, z, first, i, split);
-    let y = count_first(words, s, g, z, second, i + split, l - split);
+    let x = count_first(words, hs, s, g, z, first, i, split);
+    let y = count_first(words, hs, s, g, z, second, i + split, l - split);
     add(1, add(x, y))
 }
 
@@ -315,8 +336,8 @@ fn onward(words: &[u64], n: usize, st: Step, i: u8, l: u8) -> Way
 }
 
 // The rows of such a node and of the first tree beside the way.
-fn beside(words: &[u64], s: Sentence, g: Grammar, z: &[u64], d: Way) -> u64
-    requires { ⌜ Ready g s (now words) ⌝ }
+fn beside(words: &[u64], hs: &[u16], s: Sentence, g: Grammar, z: &[u64], d: Way) -> u64
+    requires { ⌜ Ready g s (now words) (now hs) ⌝ }
     requires { ⌜ Nulls (rules g) (now z) ⌝ }
     requires { ⌜ BesideThere (rules g) (spelled s) d ⌝ }
     ensures { λ r. ⌜ Beside (rules g) (spelled s) d r ⌝ }
@@ -327,13 +348,13 @@ fn beside(words: &[u64], s: Sentence, g: Grammar, z: &[u64], d: Way) -> u64
     if d.alone {
         return 1;
     }
-    let x = count_first(words, s, g, z, other, from, rest);
+    let x = count_first(words, hs, s, g, z, other, from, rest);
     add(1, x)
 }
 
 // The rows of the second tree: one way down to the node where it parts from the first.
-fn walk_second(words: &[u64], s: Sentence, g: Grammar, z: &[u64]) -> u64
-    requires { ⌜ Ready g s (now words) ⌝ }
+fn walk_second(words: &[u64], hs: &[u16], s: Sentence, g: Grammar, z: &[u64]) -> u64
+    requires { ⌜ Ready g s (now words) (now hs) ⌝ }
     requires { ⌜ Nulls (rules g) (now z) ⌝ }
     requires { ⌜ Wanted (rules g) 0 (spelled s) true ⌝ }
     ensures { λ r. ⌜ ((u : Tree) → SecondTree (rules g) 0 (spelled s) u → r ≡ capped (rowCount u)) ⌝ }
@@ -344,12 +365,12 @@ fn walk_second(words: &[u64], s: Sentence, g: Grammar, z: &[u64]) -> u64
     let mut l = n as u8;
     let mut total = 0;
     while total < LIMIT {
-        let st = choose(words, s, g, a, i, l, true);
+        let st = choose(words, hs, s, g, a, i, l, true);
         if !st.seeking {
-            return add(total, under(words, s, g, z, st, i, l));
+            return add(total, under(words, hs, s, g, z, st, i, l));
         }
         let d = onward(words, n, st, i, l);
-        total = add(total, beside(words, s, g, z, d));
+        total = add(total, beside(words, hs, s, g, z, d));
         a = d.name;
         i = d.start;
         l = d.long;
@@ -380,23 +401,23 @@ fn exact_or_more(n: u64) -> RowCount
     RowCount::More
 }
 
-// The verdict is one: the rows of the first tree.
-pub fn first_rows(words: &[u64], s: Sentence, g: Grammar) -> RowCount
-    requires { ⌜ Ready g s (now words) ⌝ }
+// The verdict is one: the rows of the first tree, by the heights that are lent.
+fn first_by(words: &[u64], hs: &[u16], s: Sentence, g: Grammar) -> RowCount
+    requires { ⌜ Ready g s (now words) (now hs) ⌝ }
     requires { ⌜ HasFirsts (rules g) ⌝ }
     requires { ⌜ Wanted (rules g) 0 (spelled s) false ⌝ }
     ensures { λ r. ⌜ ((t : Tree) → FirstTree (rules g) 0 (spelled s) t → Tells r (rowCount t)) ⌝ }
 {
     let n = s.count;
     let mut z = [0u64; 64];
-    null_counts(&mut z, words, s, g);
-    let c = count_first(words, s, g, &z, 0, 0, n as u8);
+    null_counts(&mut z, words, hs, s, g);
+    let c = count_first(words, hs, s, g, &z, 0, 0, n as u8);
     exact_or_more(c)
 }
 
-// The verdict is two: the rows of both trees.
-pub fn both_rows(words: &[u64], s: Sentence, g: Grammar) -> RowCounts
-    requires { ⌜ Ready g s (now words) ⌝ }
+// The verdict is two: the rows of both trees, by the heights that are lent.
+fn both_by(words: &[u64], hs: &[u16], s: Sentence, g: Grammar) -> RowCounts
+    requires { ⌜ Ready g s (now words) (now hs) ⌝ }
     requires { ⌜ HasFirsts (rules g) ⌝ }
     requires { ⌜ Wanted (rules g) 0 (spelled s) true ⌝ }
     ensures { λ r. ⌜ ((t u : Tree) → FirstTree (rules g) 0 (spelled s) t → SecondTree (rules g) 0 (spelled s) u
@@ -404,10 +425,66 @@ pub fn both_rows(words: &[u64], s: Sentence, g: Grammar) -> RowCounts
 {
     let n = s.count;
     let mut z = [0u64; 64];
-    null_counts(&mut z, words, s, g);
-    let a = count_first(words, s, g, &z, 0, 0, n as u8);
-    let b = walk_second(words, s, g, &z);
+    null_counts(&mut z, words, hs, s, g);
+    let a = count_first(words, hs, s, g, &z, 0, 0, n as u8);
+    let b = walk_second(words, hs, s, g, &z);
     let first = exact_or_more(a);
     let second = exact_or_more(b);
     RowCounts { first, second }
+}
+
+// The same on a looping sheet. Its least heights stand in a local array, which this function alone makes: 266 KB of stack.
+fn first_low(words: &[u64], s: Sentence, g: Grammar) -> RowCount
+    requires { ⌜ Charted g s (now words) ⌝ }
+    requires { ⌜ HasFirsts (rules g) ⌝ }
+    requires { ⌜ Wanted (rules g) 0 (spelled s) false ⌝ }
+    requires { ⌜ Cyclic (rules g) ⌝ }
+    ensures { λ r. ⌜ ((t : Tree) → FirstTree (rules g) 0 (spelled s) t → Tells r (rowCount t)) ⌝ }
+{
+    let mut hs = [65535u16; 133184];
+    heights(&mut hs, s, g);
+    first_by(words, &hs, s, g)
+}
+
+// The same on a looping sheet.
+fn both_low(words: &[u64], s: Sentence, g: Grammar) -> RowCounts
+    requires { ⌜ Charted g s (now words) ⌝ }
+    requires { ⌜ HasFirsts (rules g) ⌝ }
+    requires { ⌜ Wanted (rules g) 0 (spelled s) true ⌝ }
+    requires { ⌜ Cyclic (rules g) ⌝ }
+    ensures { λ r. ⌜ ((t u : Tree) → FirstTree (rules g) 0 (spelled s) t → SecondTree (rules g) 0 (spelled s) u
+        → Tells (r .first) (rowCount t) × Tells (r .second) (rowCount u)) ⌝ }
+{
+    let mut hs = [65535u16; 133184];
+    heights(&mut hs, s, g);
+    both_by(words, &hs, s, g)
+}
+
+// The verdict is one: the rows of the first tree.
+pub fn first_rows(words: &[u64], s: Sentence, g: Grammar) -> RowCount
+    requires { ⌜ Charted g s (now words) ⌝ }
+    requires { ⌜ HasFirsts (rules g) ⌝ }
+    requires { ⌜ Wanted (rules g) 0 (spelled s) false ⌝ }
+    ensures { λ r. ⌜ ((t : Tree) → FirstTree (rules g) 0 (spelled s) t → Tells r (rowCount t)) ⌝ }
+{
+    if cyclic(g) {
+        return first_low(words, s, g);
+    }
+    let hs = [0u16; 1];
+    first_by(words, &hs[..0], s, g)
+}
+
+// The verdict is two: the rows of both trees.
+pub fn both_rows(words: &[u64], s: Sentence, g: Grammar) -> RowCounts
+    requires { ⌜ Charted g s (now words) ⌝ }
+    requires { ⌜ HasFirsts (rules g) ⌝ }
+    requires { ⌜ Wanted (rules g) 0 (spelled s) true ⌝ }
+    ensures { λ r. ⌜ ((t u : Tree) → FirstTree (rules g) 0 (spelled s) t → SecondTree (rules g) 0 (spelled s) u
+        → Tells (r .first) (rowCount t) × Tells (r .second) (rowCount u)) ⌝ }
+{
+    if cyclic(g) {
+        return both_low(words, s, g);
+    }
+    let hs = [0u16; 1];
+    both_by(words, &hs[..0], s, g)
 }

@@ -14,7 +14,7 @@ returns c = record { alone = λ e. refl; other = λ e. absurd (not-both (c .if1 
 
 count-first-requires : tie.Need-count-first-requires
 count-first-requires c κs =
-    let z = c .before .before .before in
+    let z = c .before .before .before .before in
     let a = z .args in
     let e = c .if1 .left in
     let b = z .pre .1 .1 in
@@ -22,7 +22,7 @@ count-first-requires c κs =
 
 add-requires : tie.Need-add-requires
 add-requires c κs =
-    let z = c .before .before .before .before in
+    let z = c .before .before .before .before .before in
     let a = z .args in
     let t = z .pre .1 .1 .there (c .before .if1 .left) in
     (omega arith, omega (arith, c .count-first .ensures (t .tree) (t .first), capped-le (rowCount (t .tree))))

@@ -22,7 +22,7 @@ returns : tie.Need-returns
 returns c =
     let if1-here = c .before .before .if1 in
     let if1 = if1-here in
-    let z = c .before .before .before .before .before in
+    let z = c .before .before .before .before .before .before in
     let a = z .args in
     λ t f. let e : a .l ≡ 0 = if1 .taken in
     ap (λ (y : ℕ). getD (a .z .now) y 0) (c .before .wide .ensures) ∙ z .pre .1 .0 .count (a .a) t (z .pre .0 .1)

@@ -61,14 +61,14 @@ returns : tie.Need-returns
 returns c =
     let wide-here = c .before .before .wide in
     let wide = wide-here in
-    let z = c .before .before .before .before .before in
+    let z = c .before .before .before .before .before .before in
     let a = z .args in
     passed-none _ (z .pre .1 .1)
     (λ B t d f k. let h = c .if1 .taken in let e : B ≡ wide .result = d ∙ sym (wide .ensures) in some _ (λ q. h (ap (λ (y : ℕ). getD (a .z .now) y 0) (sym e) ∙ q)))
 
 in-first-requires : tie.Need-in-first-requires
 in-first-requires c κs =
-    let z = c .before .before .before .before .before in
+    let z = c .before .before .before .before .before .before in
     let a = z .args in
     let r = z .pre .0 .0 in
     record {
@@ -80,20 +80,20 @@ in-first-requires c κs =
 
 returns-2 : tie.Need-returns-2
 returns-2 c =
-    let z = c .before .before .before .before .before .before .before in
+    let z = c .before .before .before .before .before .before .before .before in
     let a = z .args in
     passed-none _ (z .pre .1 .1)
     (λ B t d f k. absurd (not-there z (not-true _ (c .if2 .taken)) (c .before .in-first .ensures) t (subst (λ (x : ℕ). FirstTree (rules (a .g)) x [] t) d f)))
 
 choose-requires : tie.Need-choose-requires
 choose-requires c κs =
-    let z = c .before .before .before .before .before .before .before in
+    let z = c .before .before .before .before .before .before .before .before in
     let a = z .args in
     ((z .pre .0 .0, omega arith), there z (not-false _ (c .if2 .left)) (c .before .in-first .ensures))
 
 null-size-requires : tie.Need-null-size-requires
 null-size-requires c κs =
-    let z = c .before .before .before .before .before .before .before .before .before in
+    let z = c .before .before .before .before .before .before .before .before .before .before in
     let a = z .args in
     (z .pre .1 .1 .long, (small (a .z .now) (z .pre .1 .1), chosen-small (z .pre .0 .0 .formed) (c .before .choose .ensures)))
 
@@ -104,7 +104,7 @@ returns-3 : tie.Need-returns-3
 returns-3 c =
     let choose-here = c .before .before .before .choose in
     let choose = choose-here in
-    let z = c .before .before .before .before .before .before .before .before .before .before .before in
+    let z = c .before .before .before .before .before .before .before .before .before .before .before .before in
     let a = z .args in
     passed-none _ (z .pre .1 .1)
     (λ B t d f k. absurd (not-known (a .z .now) (z .pre .1 .1) (z .pre .0 .0 .formed .distinct) (a .a) t (subst (λ (x : ℕ). FirstTree (rules (a .g)) x [] t) d f) (choose .result) (choose .ensures) (sym (c .before .null-size .ensures) ∙ c .if3 .taken) k))
@@ -130,7 +130,7 @@ returns-4 c =
     let in-first = in-first-here in
     let if2 = if2-here in
     let choose = choose-here in
-    let z = c .before .before .before .before .before .before .before .before .before .before .before in
+    let z = c .before .before .before .before .before .before .before .before .before .before .before .before in
     let a = z .args in
     let f = tree z (not-false _ (if2 .left)) (in-first .ensures) in
     let p : 0 < c .before .null-size .result = some _ (c .if3 .left) in

@@ -16,17 +16,17 @@ use Rattle.row_counts.proofs.walk.Tie as tie
 -- The loop's invariant is `Going`; each turn counts one node with tokens. The measure is what the count can still grow by.
 
 abbrev Inv-loop : tie.InvT-loop
-Inv-loop words s g z b j n end names₀ longs₀ a₀ i₀ l₀ total₀ names longs a i l total = Going (rules g) (spelled s) b j n end names longs a i l total
+Inv-loop words hs s g z b j n end names₀ longs₀ a₀ i₀ l₀ total₀ names longs a i l total = Going (rules g) (spelled s) b j n end names longs a i l total
 
 abbrev μ-loop : tie.MeasureT-loop
-μ-loop words s g z b j n end names₀ longs₀ a₀ i₀ l₀ total₀ names longs a i l total = 4294967296 - total
+μ-loop words hs s g z b j n end names₀ longs₀ a₀ i₀ l₀ total₀ names longs a i l total = 4294967296 - total
 
 add-end : tie.Need-add-end Inv-loop μ-loop
-add-end c = let z = c .before .before in omega (arith, z .pre .0 .2, z .pre .0 .0 .positioned .few)
+add-end c = let z = c .before .before .before in omega (arith, z .pre .0 .2, z .pre .0 .0 .positioned .few)
 
 loop-holds : tie.Need-loop-holds Inv-loop μ-loop
 loop-holds c =
-    let z = c .before .before in
+    let z = c .before .before .before in
     let a = z .args in
     let w = z .pre .0 .0 .positioned in
     record {
@@ -39,7 +39,7 @@ loop-holds c =
 
 choose-requires : tie.Need-choose-requires Inv-loop μ-loop
 choose-requires c κs =
-    let z = c .before .before .before .before in
+    let z = c .before .before .before .before .before in
     let a = z .args in
     let v = c .before .loop .inv in
     let w = v .walk in
@@ -47,21 +47,21 @@ choose-requires c κs =
 
 own-requires : tie.Need-own-requires Inv-loop μ-loop
 own-requires c κs =
-    let z = c .before .before .before .before .before in
+    let z = c .before .before .before .before .before .before in
     let a = z .args in
     let v = c .before .before .loop .inv in
     (z .pre .1 .0 .long, (z .pre .1 .0 .small, chosen-small (z .pre .0 .0 .formed) (c .choose .ensures)))
 
 add-requires : tie.Need-add-requires Inv-loop μ-loop
 add-requires c κs =
-    let z = c .before .before .before .before .before .before in
+    let z = c .before .before .before .before .before .before .before in
     let a = z .args in
     let v = c .before .before .before .loop .inv in
     (v .walk .few, own-le (c .own .ensures))
 
 add-i : tie.Need-add-i Inv-loop μ-loop
 add-i c =
-    let z = c .before .before .before .before .before .before .before .before .before in
+    let z = c .before .before .before .before .before .before .before .before .before .before in
     let a = z .args in
     let v = c .before .before .before .before .before .before .loop .inv in
     omega (arith, v .walk .fits, v .low)
@@ -76,7 +76,7 @@ returns c =
     let choose = choose-here in
     let own = own-here in
     let add = add-here in
-    let z = c .before .before .before .before .before .before .before .before .before .before in
+    let z = c .before .before .before .before .before .before .before .before .before .before .before in
     let a = z .args in
     let v = loop .inv in
     walk-all (v .there) _
@@ -87,7 +87,7 @@ wide-requires c κs = search needs
 
 array-read-a : tie.Need-array-read-a Inv-loop μ-loop
 array-read-a c =
-    let z = c .before .before .before .before .before .before .before .before .before .before .before in
+    let z = c .before .before .before .before .before .before .before .before .before .before .before .before in
     let a = z .args in
     let v = c .before .before .before .before .before .before .before .before .loop .inv in
     let e = (c .wide .ensures) in
@@ -95,7 +95,7 @@ array-read-a c =
 
 array-read-l : tie.Need-array-read-l Inv-loop μ-loop
 array-read-l c =
-    let z = c .before .before .before .before .before .before .before .before .before .before .before in
+    let z = c .before .before .before .before .before .before .before .before .before .before .before .before in
     let a = z .args in
     let v = c .before .before .before .before .before .before .before .before .loop .inv in
     let e = (c .wide .ensures) in
@@ -107,7 +107,7 @@ loop-less c =
     let loop-test = c .before .before .before .before .before .before .before .loop-test in
     let own = c .before .before .before .before .before .own in
     let add = c .before .before .before .before .add in
-    let z = c .before .before .before .before .before .before .before .before .before .before .before in
+    let z = c .before .before .before .before .before .before .before .before .before .before .before .before in
     let a = z .args in
     let v = loop .inv in
     less-left (loop .total) (own .result) (add .result) (loop-test .taken) (own-some (own .ensures)) (add .ensures)
@@ -124,7 +124,7 @@ loop-again c =
     let own = own-here in
     let add = add-here in
     let if1 = if1-here in
-    let z = c .before .before .before .before .before .before .before .before .before .before .before in
+    let z = c .before .before .before .before .before .before .before .before .before .before .before .before in
     let a = z .args in
     let v = loop .inv in
     record {
@@ -169,7 +169,7 @@ array-write-names c =
     let down = down-here in
     let wide2 = wide2-here in
     let wide3 = wide3-here in
-    let z = c .before .before .before .before .before .before .before .before .before .before .before .before .before .before in
+    let z = c .before .before .before .before .before .before .before .before .before .before .before .before .before .before .before in
     let a = z .args in
     let v = loop .inv in
     let e = wide2 .ensures in
@@ -198,7 +198,7 @@ array-write-longs c =
     let down = down-here in
     let wide2 = wide2-here in
     let wide3 = wide3-here in
-    let z = c .before .before .before .before .before .before .before .before .before .before .before .before .before .before .before in
+    let z = c .before .before .before .before .before .before .before .before .before .before .before .before .before .before .before .before in
     let a = z .args in
     let v = loop .inv in
     let e = wide2 .ensures in
@@ -212,7 +212,7 @@ loop-less-2 c =
     let loop-test = c .before .before .before .before .before .before .before .before .before .before .before .loop-test in
     let own = c .before .before .before .before .before .before .before .before .before .own in
     let add = c .before .before .before .before .before .before .before .before .add in
-    let z = c .before .before .before .before .before .before .before .before .before .before .before .before .before .before .before in
+    let z = c .before .before .before .before .before .before .before .before .before .before .before .before .before .before .before .before in
     let a = z .args in
     let v = loop .inv in
     less-left (loop .total) (own .result) (add .result) (loop-test .taken) (own-some (own .ensures)) (add .ensures)
@@ -235,7 +235,7 @@ loop-again-2 c =
     let down = down-here in
     let wide2 = wide2-here in
     let wide3 = wide3-here in
-    let z = c .before .before .before .before .before .before .before .before .before .before .before .before .before .before .before in
+    let z = c .before .before .before .before .before .before .before .before .before .before .before .before .before .before .before .before in
     let a = z .args in
     let v = loop .inv in
     let e : wide2 .result + wide3 .result ≡ loop .i + down .result .long = ap₂ _+_ (wide2 .ensures) (wide3 .ensures) in
@@ -255,7 +255,7 @@ loop-less-3 c =
     let loop-test = c .before .before .before .before .before .before .before .before .before .before .loop-test in
     let own = c .before .before .before .before .before .before .before .before .own in
     let add = c .before .before .before .before .before .before .before .add in
-    let z = c .before .before .before .before .before .before .before .before .before .before .before .before .before .before in
+    let z = c .before .before .before .before .before .before .before .before .before .before .before .before .before .before .before in
     let a = z .args in
     let v = loop .inv in
     less-left (loop .total) (own .result) (add .result) (loop-test .taken) (own-some (own .ensures)) (add .ensures)
@@ -274,7 +274,7 @@ loop-again-3 c =
     let add = add-here in
     let if1 = if1-here in
     let down = down-here in
-    let z = c .before .before .before .before .before .before .before .before .before .before .before .before .before .before in
+    let z = c .before .before .before .before .before .before .before .before .before .before .before .before .before .before .before in
     let a = z .args in
     let v = loop .inv in
     record {
@@ -289,7 +289,7 @@ loop-again-3 c =
 
 returns-2 : tie.Need-returns-2 Inv-loop μ-loop
 returns-2 c =
-    let z = c .before .before .before .before in
+    let z = c .before .before .before .before .before in
     let a = z .args in
     let v = c .before .loop .inv in
     walk-all (v .there) _ (walk-large (v .walk) (λ h. omega (arith, c .loop-test .left)))

@@ -24,10 +24,10 @@ use Rattle.row_counts.proofs.walk_second.Tie as tie
 -- The loop's invariant is `SecondGoing`; each turn goes one node down. The measure is what the count can still grow by.
 
 abbrev Inv-loop : tie.InvT-loop
-Inv-loop words s g z n a₀ i₀ l₀ total₀ a i l total = SecondGoing (rules g) (spelled s) a i l total
+Inv-loop words hs s g z n a₀ i₀ l₀ total₀ a i l total = SecondGoing (rules g) (spelled s) a i l total
 
 abbrev μ-loop : tie.MeasureT-loop
-μ-loop words s g z n a₀ i₀ l₀ total₀ a i l total = 4294967296 - total
+μ-loop words hs s g z n a₀ i₀ l₀ total₀ a i l total = 4294967296 - total
 
 -- what the way is for
 way : (z : tie.Start Inv-loop μ-loop) (b i l total : ℕ) (v : SecondGoing (rules (z .args .g)) (spelled (z .args .s)) b i l total) (st : Step)
@@ -41,17 +41,17 @@ way z b i l total v st c e d o =
     (subst (λ (n : ℕ). Onward (In (secondWord (z .args .words .now) n i (st .split)) (st .first)) (st .kind) (st .first) (st .second) (st .split) i l d) (sym (p .positioned .whole)) o)
 
 cast-l : tie.Need-cast-l Inv-loop μ-loop
-cast-l c = omega (arith, c .before .before .pre .0 .positioned .few)
+cast-l c = omega (arith, c .before .before .before .pre .0 .positioned .few)
 
 loop-holds : tie.Need-loop-holds Inv-loop μ-loop
 loop-holds c =
-    let z = c .before .before in
+    let z = c .before .before .before in
     let a = z .args in
     second-start (rules (a .g)) (spelled (a .s)) (a .s .count) (z .pre .0 .positioned .whole) (z .pre .1 .1)
 
 choose-requires : tie.Need-choose-requires Inv-loop μ-loop
 choose-requires c κs =
-    let z = c .before .before .before .before in
+    let z = c .before .before .before .before .before in
     let a = z .args in
     let v = c .before .loop .inv in
     ((z .pre .0, omega (arith, v .walk .fits, z .pre .0 .positioned .whole)), second-choice (z .pre .0 .formed) (v .walk))
@@ -62,7 +62,7 @@ under-requires c κs =
     let choose-here = c .before .before .choose in
     let loop = loop-here in
     let choose = choose-here in
-    let z = c .before .before .before .before .before .before .before in
+    let z = c .before .before .before .before .before .before .before .before in
     let a = z .args in
     let v = loop .inv in (
       (z .pre .0, omega (arith, v .walk .fits, z .pre .0 .positioned .whole)),
@@ -75,7 +75,7 @@ add-requires c κs =
     let choose-here = c .before .before .before .choose in
     let loop = loop-here in
     let choose = choose-here in
-    let z = c .before .before .before .before .before .before .before .before in
+    let z = c .before .before .before .before .before .before .before .before .before in
     let a = z .args in
     let v = loop .inv in (
       v .walk .few,
@@ -91,7 +91,7 @@ returns c =
     let loop = loop-here in
     let choose = choose-here in
     let if1 = if1-here in
-    let z = c .before .before .before .before .before .before .before .before .before in
+    let z = c .before .before .before .before .before .before .before .before .before .before in
     let a = z .args in
     let v = loop .inv in
     second-all (z .pre .0 .formed .distinct) (v .wanted) _
@@ -103,7 +103,7 @@ onward-requires c κs =
     let choose-here = c .before .before .choose in
     let loop = loop-here in
     let choose = choose-here in
-    let z = c .before .before .before .before .before .before .before in
+    let z = c .before .before .before .before .before .before .before .before in
     let a = z .args in
     let v = loop .inv in
     let p = z .pre .0 in
@@ -121,7 +121,7 @@ beside-requires c κs =
     let choose-here = c .before .before .before .choose in
     let loop = loop-here in
     let choose = choose-here in
-    let z = c .before .before .before .before .before .before .before .before in
+    let z = c .before .before .before .before .before .before .before .before .before in
     let a = z .args in
     let v = loop .inv in (
       z .pre .0,
@@ -136,7 +136,7 @@ add-requires-2 c κs =
     let loop = loop-here in
     let choose = choose-here in
     let if1 = if1-here in
-    let z = c .before .before .before .before .before .before .before .before .before in
+    let z = c .before .before .before .before .before .before .before .before .before .before in
     let a = z .args in
     let v = loop .inv in
     let w = way z (loop .a) (loop .i) (loop .l) (loop .total) v (choose .result) (choose .ensures) (not-false _ (if1 .left)) (c .before .onward .result) (c .before .onward .ensures) in
@@ -154,7 +154,7 @@ loop-less c =
     let choose = choose-here in
     let if1 = if1-here in
     let onward = onward-here in
-    let z = c .before .before .before .before .before .before .before .before .before .before in
+    let z = c .before .before .before .before .before .before .before .before .before .before .before in
     let a = z .args in
     let v = loop .inv in
     let w = way z (loop .a) (loop .i) (loop .l) (loop .total) v (choose .result) (choose .ensures) (not-false _ (if1 .left)) (onward .result) (onward .ensures) in
@@ -171,7 +171,7 @@ loop-again c =
     let choose = choose-here in
     let if1 = if1-here in
     let onward = onward-here in
-    let z = c .before .before .before .before .before .before .before .before .before .before in
+    let z = c .before .before .before .before .before .before .before .before .before .before .before in
     let a = z .args in
     let v = loop .inv in
     let w = way z (loop .a) (loop .i) (loop .l) (loop .total) v (choose .result) (choose .ensures) (not-false _ (if1 .left)) (onward .result) (onward .ensures) in
@@ -179,7 +179,7 @@ loop-again c =
 
 returns-2 : tie.Need-returns-2 Inv-loop μ-loop
 returns-2 c =
-    let z = c .before .before .before .before in
+    let z = c .before .before .before .before .before in
     let a = z .args in
     let v = c .before .loop .inv in
     second-all (z .pre .0 .formed .distinct) (v .wanted) _ (second-large (v .walk) (λ h. omega (arith, c .loop-test .left)))
