@@ -1,4 +1,4 @@
--- A chart that has come to rest settles whether a nonterminal has no valid tree of a word, one, or two.
+-- A chart that has come to rest settles whether a nonterminal has no valid tree of a word, one, or two; one that has not (a loop has no end) may show two.
 use mathlib.Core.Path.{_≡_, refl, sym, _∙_, subst, subst⁻¹}
 use mathlib.Core.Bool.{Bool, true, false, not}
 use mathlib.Core.List.{List, [], _∷_, _++_, List·Memᴰ, List·Memᴰ·head, List·Memᴰ·tail, List·Memᴰ·not-nil, List·Memᴰ·eq-of-singleton}
@@ -13,12 +13,12 @@ use Rattle.patches.proofs.Infixes.{Infix, infix-self}
 use Rattle.patches.proofs.Chart.{tree?, step, step-sound, complete}
 
 pub data Chart : Type 0 where
-  unfinished : Chart
+  unfinished : List Tree → Chart
   finished : List Tree → Chart
 
--- all of the trees, and only valid ones
+-- valid trees only and, where it is finished, all of them
 abbrev pub Good : Rules → Word → Chart → Type 0
-Good g w unfinished = Unit {0}
+Good g w (unfinished C) = Every (Valid g) C
 Good g w (finished C) = Every (Valid g) C × (step g w C ≡ C)
 
 abbrev pub rest : {P : Type 0} → Dec P → List Tree → Chart → Chart
@@ -26,7 +26,7 @@ rest (yes p) C r = finished C
 rest (no n) C r = r
 
 abbrev pub grow : ℕ → Rules → Word → List Tree → Chart
-grow zero g w C = unfinished
+grow zero g w C = unfinished C
 grow (suc n) g w C =
     let D = step g w C in
     let r = grow n g w D in
@@ -37,7 +37,7 @@ rest-good g w C (yes p) r v h = (v, p)
 rest-good g w C (no n) r v h = h
 
 grow-good : (n : ℕ) (g : Rules) (w : Word) (C : List Tree) → Every (Valid g) C → Good g w (grow n g w C)
-grow-good zero g w C v = tt
+grow-good zero g w C v = v
 grow-good (suc n) g w C v = rest-good g w C (list? tree? (step g w C) C) _ v (grow-good n g w (step g w C) (step-sound g w C v))
 
 -- twelve steps are enough for the trees of the worked examples
@@ -59,14 +59,17 @@ pub record Exactly (g : Rules) (A : ℕ) (w : Word) (l : List Tree) : Type 0 whe
   pub sound : Every (Witness g A w) l
   pub whole : (t : Tree) → Witness g A w t → List·Memᴰ t l
 
+sound-trees : (g : Rules) (A : ℕ) (w : Word) (C : List Tree) → Every (Valid g) C → Every (Witness g A w) (trees A w C)
+sound-trees g A w C h =
+    every-collect (Witness g A w) (pick A w) C
+    (λ t m. every-keep (Witness g A w) (eq? (root t) A) _
+    (λ e. every-keep (Witness g A w) (word? (word t) w) _
+    (λ f. (record { rooted = e; spelled = f; valid = mem-every (Valid g) C h m }, tt))))
+
 pub exactly : (g : Rules) (A : ℕ) (w : Word) (C : List Tree) → Good g w (finished C) → Exactly g A w (trees A w C)
 exactly g A w C h =
     record {
-      sound =
-          every-collect (Witness g A w) (pick A w) C
-          (λ t m. every-keep (Witness g A w) (eq? (root t) A) _
-          (λ e. every-keep (Witness g A w) (word? (word t) w) _
-          (λ f. (record { rooted = e; spelled = f; valid = mem-every (Valid g) C (h .0) m }, tt))));
+      sound = sound-trees g A w C (h .0);
       whole =
           λ t k. mem-collect (pick A w) C
           (complete g w C (h .1) t (k .valid) (subst⁻¹ (λ (u : Word). Infix u w) (k .spelled) (infix-self w)))
@@ -88,23 +91,30 @@ differ : {s t : Tree} (d : Dec (s ≡ t)) → T (not (holds d)) → s ≡ t → 
 differ (yes p) h e = h
 differ (no n) h e = n e
 
+two-shown : (g : Rules) (A : ℕ) (w : Word) (l : List Tree) → Every (Witness g A w) l → T (shows two l) → TwoTrees g A w
+two-shown g A w [] x h = absurd h
+two-shown g A w (t ∷ []) x h = absurd h
+two-shown g A w (t ∷ s ∷ l) x h = record { first = t; second = s; witness₁ = x .0; witness₂ = x .1 .0; differ = differ (tree? t s) h }
+
 pub shown : (g : Rules) (A : ℕ) (w : Word) (v : Verdict) (l : List Tree) → Exactly g A w l → T (shows v l) → Is v g A w
 shown g A w none [] x h = record { none = λ t k. List·Memᴰ·not-nil (x .whole t k) }
 shown g A w none (t ∷ l) x h = absurd h
 shown g A w one [] x h = absurd h
 shown g A w one (t ∷ []) x h = record { tree = t; witness = x .sound .0; only = λ s k. List·Memᴰ·eq-of-singleton (x .whole s k) }
 shown g A w one (t ∷ s ∷ l) x h = absurd h
-shown g A w two [] x h = absurd h
-shown g A w two (t ∷ []) x h = absurd h
-shown g A w two (t ∷ s ∷ l) x h = record { first = t; second = s; witness₁ = x .sound .0; witness₂ = x .sound .1 .0; differ = differ (tree? t s) h }
+shown g A w two l x h = two-shown g A w l (x .sound) h
 
 -- the test of a verdict, and that it is right
 abbrev pub reads : Verdict → ℕ → Word → Chart → Bool
-reads v A w unfinished = false
+reads none A w (unfinished C) = false
+reads one A w (unfinished C) = false
+reads two A w (unfinished C) = shows two (trees A w C)
 reads v A w (finished C) = shows v (trees A w C)
 
 pub read : (g : Rules) (A : ℕ) (w : Word) (v : Verdict) (c : Chart) → Good g w c → T (reads v A w c) → Is v g A w
-read g A w v unfinished h t = absurd t
+read g A w none (unfinished C) h t = absurd t
+read g A w one (unfinished C) h t = absurd t
+read g A w two (unfinished C) h t = two-shown g A w (trees A w C) (sound-trees g A w C h) t
 read g A w v (finished C) h t = shown g A w v (trees A w C) (exactly g A w C h) t
 
 -- at most one tree
@@ -119,9 +129,9 @@ few-right g A w (t ∷ []) x h k = k .differ (List·Memᴰ·eq-of-singleton (x .
 few-right g A w (t ∷ s ∷ l) x h k = absurd h
 
 abbrev pub at-most-one : ℕ → Word → Chart → Bool
-at-most-one A w unfinished = false
+at-most-one A w (unfinished C) = false
 at-most-one A w (finished C) = few (trees A w C)
 
 pub not-two : (g : Rules) (A : ℕ) (w : Word) (c : Chart) → Good g w c → T (at-most-one A w c) → TwoTrees g A w → ⊥
-not-two g A w unfinished h t = absurd t
+not-two g A w (unfinished C) h t = absurd t
 not-two g A w (finished C) h t = few-right g A w (trees A w C) (exactly g A w C h) t

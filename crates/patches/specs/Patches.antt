@@ -1,4 +1,4 @@
--- P1 to P9 of 01, "Patches to try", as one table.
+-- P1 to P9 of 01, "Patches to try", and rules that loop (02), as one table.
 use mathlib.Core.List.{List, [], _∷_}
 use Prim.Native.Nat.{ℕ}
 use Rattle.grammar.specs.declared.Rule.{Rule}
@@ -58,6 +58,13 @@ p8 = B 0 1 1 BinaryMark.Indent ∷ A 1 0 ∷ []
 abbrev pub p9 : Rules
 p9 = U 0 1 UnaryMark.Single ∷ U 1 2 UnaryMark.None ∷ U 1 3 UnaryMark.None ∷ B 2 4 4 BinaryMark.Indent ∷ B 3 4 4 BinaryMark.None ∷ A 4 0 ∷ []
 
+-- rules that loop: 02's, and a loop that no tree uses
+abbrev pub looping : Rules
+looping = U 0 0 UnaryMark.None ∷ A 0 0 ∷ []
+
+abbrev pub idle : Rules
+idle = A 0 0 ∷ U 1 1 UnaryMark.None ∷ []
+
 -- (1,1) (1,2) (1,3) has the steps 0, 0, 0; (1,1) (2,1) (3,1) and (1,1) (2,2) (3,3) have 0, 1, 1
 abbrev pub patches : List Claim
 patches =
@@ -77,4 +84,6 @@ patches =
     ∷ verdict p8 0 (at 1 1 ∷ at 2 1 ∷ []) none
     ∷ verdict p9 0 (at 1 1 ∷ at 2 2 ∷ []) none
     ∷ verdict p9 1 (at 1 1 ∷ at 2 2 ∷ []) two
+    ∷ verdict looping 0 (at 1 1 ∷ []) two
+    ∷ verdict idle 0 (at 1 1 ∷ []) one
     ∷ []
