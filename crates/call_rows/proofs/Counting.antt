@@ -7,7 +7,6 @@ use lib.ListN.{length}
 use Rattle.grammar.specs.Layout.{Word}
 use Rattle.grammar.specs.Trees.{Tree, Rules, NoTree, OneTree, TwoTrees}
 use Rattle.grammar.specs.Choices.{FirstTree, SecondTree}
-use Rattle.grammar.specs.Cycles.{Cyclic}
 use Rattle.grammar.specs.Rows.{rowCount}
 use Rattle.grammar.specs.SpanSheet.{pairs}
 use Rattle.grammar.proofs.Existence.{first-of-derives}
@@ -22,9 +21,9 @@ use Rattle.row_counts.specs.Nulls.{HasFirsts}
 use Rattle.call_rows.specs.declared.RowsReply.{RowsReply}
 use Rattle.call_rows.specs.Rows.{refusal, RowsOn, short, counting}
 
--- the sheet is not cyclic, so what derives a word has a first tree of it
-pub has-firsts : {g : Rules} → (Cyclic g → ⊥) → HasFirsts g
-has-firsts a = record { first = λ A w d. first-of-derives a d }
+-- what derives a word has a first tree of it
+pub has-firsts : {g : Rules} → HasFirsts g
+has-firsts = record { first = λ A w d. first-of-derives d }
 
 abbrev reply : Answer → RowCount → RowCount → RowsReply
 reply a m n = record { answer = a; line = 0; first = m; second = n }

@@ -14,7 +14,6 @@ use spans::size;
 use teplonga::Answer;
 ghost use mathlib.Core.Path.{_≡_};
 ghost use Prim.Native.Nat.{_≤_};
-ghost use Rattle.grammar.specs.Cycles.{Cyclic};
 ghost use Rattle.grammar.specs.Content.{rules as rulesOf, spelled, Formed, Positioned};
 ghost use Rattle.call_rows.specs.Rows.{refusal, RowsOn, RowsOf};
 
@@ -42,7 +41,6 @@ fn uncounted(f: Fault, line: usize) -> RowsReply
 fn counted(words: &mut [u64], s: Sentence, g: Grammar) -> RowsReply
     requires { ⌜ Formed g ⌝ }
     requires { ⌜ Positioned s ⌝ }
-    requires { ⌜ (Cyclic (rulesOf g) → ⊥) ⌝ }
     ensures { λ r. ⌜ RowsOn (rulesOf g) (spelled s) (now (words .entry)) (now (words .exit)) r ⌝ }
 {
     let n = s.count;

@@ -25,7 +25,6 @@ use teplonga::counted_reply;
 use teplonga::list_reply;
 ghost use mathlib.Core.Path.{_≡_};
 ghost use Prim.Native.Nat.{_≤_};
-ghost use Rattle.grammar.specs.Cycles.{Cyclic};
 ghost use Rattle.grammar.specs.Content.{rules as rulesOf, spelled, Formed, Positioned};
 ghost use Rattle.sheets.specs.Items.{accepted};
 ghost use Rattle.sheets.specs.RuleSheets.{ruleSheet};
@@ -47,7 +46,6 @@ fn shown_to(
 ) -> TreesReply
     requires { ⌜ Formed g ⌝ }
     requires { ⌜ Positioned s ⌝ }
-    requires { ⌜ (Cyclic (rulesOf g) → ⊥) ⌝ }
     ensures { λ r. ⌜ ShowOn (member sees) (rulesOf g) (spelled s) (now (words .entry)) (now (words .exit)) (now (first .entry)) (now (first .exit)) (now (second .entry)) (now (second .exit)) r ⌝ }
 {
     let n = s.count;

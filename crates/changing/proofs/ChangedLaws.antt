@@ -13,8 +13,6 @@ use Rattle.grammar.specs.declared.Rule.{Rule}
 use Rattle.grammar.specs.declared.Clause.{Clause}
 use Rattle.grammar.specs.declared.Clause.the-variants as Clause
 use Rattle.grammar.specs.Trees.{Rules}
-use Rattle.grammar.specs.Cycles.{Cyclic}
-use Rattle.grammar.proofs.Acyclic.{cyclic?}
 use Rattle.fields.specs.declared.Lay.{Lay}
 use Rattle.fields.specs.declared.Lay.the-variants as Lay
 use Rattle.fields.specs.Pieces.{pieces, isEmpty, sameBytes}
@@ -26,13 +24,12 @@ use Rattle.lines.specs.Keys.{keyOf, keyWith}
 use Rattle.sheets.specs.declared.Fault.{Fault}
 use Rattle.sheets.specs.declared.Fault.the-variants as Fault
 use Rattle.sheets.specs.Items.{Reading, accepted, refused, itemsFrom, withNames}
-use Rattle.sheets.specs.RuleSheets.{anyOf, isStart, ruleStep, unlessCyclic, finish, rulesFrom, ruleNames, ruleSheet}
+use Rattle.sheets.specs.RuleSheets.{anyOf, isStart, ruleStep, finish, rulesFrom, ruleNames, ruleSheet}
 use Rattle.sheets.specs.RefusedLines.{startOf}
 use Rattle.sheets.proofs.Accepted.{GoodRules, rules-good, finish-good}
 use Rattle.changing.specs.Changed.{lineOf, layStart, layEnd, changed, relaid}
 use Rattle.changing.proofs.Replacing.{pieces-replaced, piece-at, free-take, free-join}
 use Rattle.changing.proofs.Relaying.{Five, five-of, line-other, lay-no-line}
-use Rattle.changing.proofs.Cycles.{Remark, kept, unary, binary, Remarked, remarked-one, cyclic}
 use Rattle.changing.proofs.Rereading.{KeyKept, outcome, Changed, items-changed, empty-set}
 
 -- 1. an accepted sheet: its names, and the lines behind them
@@ -45,12 +42,11 @@ pub record Sheet (s : List ℕ) (g : Rules) : Type 0 where
   pub items : itemsFrom ruleStep [] lines ≡ accepted g
 
 finished : (x : Reading Rule) (g : Rules) → finish x ≡ accepted g → x ≡ accepted g
-finished (accepted w) g e = go (anyOf isStart w) (cyclic? w) e
+finished (accepted w) g e = go (anyOf isStart w) e
   where
-    go : (b : Bool) (d : Dec (Cyclic w)) → cond b (unlessCyclic d) (refused Fault.NoStart 0) ≡ accepted g → accepted w ≡ accepted g
-    go true (yes c) e = absurd (let z : _≡_ {A = ℕ} 0 1 = cc in omega arith)
-    go true (no n) e = e
-    go false d e = absurd (let z : _≡_ {A = ℕ} 0 1 = cc in omega arith)
+    go : (b : Bool) → cond b (accepted w) (refused Fault.NoStart 0) ≡ accepted g → accepted w ≡ accepted g
+    go true e = e
+    go false e = absurd (let z : _≡_ {A = ℕ} 0 1 = cc in omega arith)
 finished (refused f l) g e = absurd (let z : _≡_ {A = ℕ} 0 1 = cc in omega arith)
 
 pub sheet-of : (s : List ℕ) (g : Rules) → ruleSheet s ≡ accepted g → Sheet s g
@@ -73,7 +69,6 @@ rule-inj q r e = cc
 -- what is the same under any lay
 pub record SameBut (r s : Rule) : Type 0 where
   pub left : r .left ≡ s .left
-  pub alike : Remark (r .clause) (s .clause)
   pub key : keyOf s ≡ keyOf r
 
 by-good : (r q s : Rule) → RuleLine.Good q ≡ RuleLine.Good s → SameBut r q → SameBut r s
@@ -84,7 +79,7 @@ unfit-not s e = let z : _≡_ {A = ℕ} 0 1 = cc in omega arith
 
 module _ (l : ℕ) (s : Rule) where
   plain-but : (c : Clause) (y : Lay) → plainRule l c y ≡ RuleLine.Good s → SameBut (record { left = l; clause = c }) s
-  plain-but c Lay.None e = by-good _ _ s e (record { left = refl; alike = kept; key = refl })
+  plain-but c Lay.None e = by-good _ _ s e (record { left = refl; key = refl })
   plain-but c Lay.Offside e = absurd (unfit-not s e)
   plain-but c Lay.Offalign e = absurd (unfit-not s e)
   plain-but c Lay.Single e = absurd (unfit-not s e)
@@ -94,18 +89,18 @@ module _ (l : ℕ) (s : Rule) where
   pub relaid-but : (c : Clause) (y : Lay) → relaid l c y ≡ RuleLine.Good s → SameBut (record { left = l; clause = c }) s
   relaid-but Clause.Empty y e = plain-but Clause.Empty y e
   relaid-but (Clause.Atom a b) y e = plain-but (Clause.Atom a b) y e
-  relaid-but (Clause.Unary a m) Lay.None e = by-good _ _ s e (record { left = refl; alike = unary; key = refl })
-  relaid-but (Clause.Unary a m) Lay.Offside e = by-good _ _ s e (record { left = refl; alike = unary; key = refl })
-  relaid-but (Clause.Unary a m) Lay.Offalign e = by-good _ _ s e (record { left = refl; alike = unary; key = refl })
-  relaid-but (Clause.Unary a m) Lay.Single e = by-good _ _ s e (record { left = refl; alike = unary; key = refl })
+  relaid-but (Clause.Unary a m) Lay.None e = by-good _ _ s e (record { left = refl; key = refl })
+  relaid-but (Clause.Unary a m) Lay.Offside e = by-good _ _ s e (record { left = refl; key = refl })
+  relaid-but (Clause.Unary a m) Lay.Offalign e = by-good _ _ s e (record { left = refl; key = refl })
+  relaid-but (Clause.Unary a m) Lay.Single e = by-good _ _ s e (record { left = refl; key = refl })
   relaid-but (Clause.Unary a m) Lay.Align e = absurd (unfit-not s e)
   relaid-but (Clause.Unary a m) Lay.Indent e = absurd (unfit-not s e)
-  relaid-but (Clause.Binary a b m) Lay.None e = by-good _ _ s e (record { left = refl; alike = binary; key = refl })
+  relaid-but (Clause.Binary a b m) Lay.None e = by-good _ _ s e (record { left = refl; key = refl })
   relaid-but (Clause.Binary a b m) Lay.Offside e = absurd (unfit-not s e)
   relaid-but (Clause.Binary a b m) Lay.Offalign e = absurd (unfit-not s e)
   relaid-but (Clause.Binary a b m) Lay.Single e = absurd (unfit-not s e)
-  relaid-but (Clause.Binary a b m) Lay.Align e = by-good _ _ s e (record { left = refl; alike = binary; key = refl })
-  relaid-but (Clause.Binary a b m) Lay.Indent e = by-good _ _ s e (record { left = refl; alike = binary; key = refl })
+  relaid-but (Clause.Binary a b m) Lay.Align e = by-good _ _ s e (record { left = refl; key = refl })
+  relaid-but (Clause.Binary a b m) Lay.Indent e = by-good _ _ s e (record { left = refl; key = refl })
 
 line-kept : (r : Rule) (x : RuleLine) → ((s : Rule) → x ≡ RuleLine.Good s → SameBut r s) → KeyKept x r
 line-kept r RuleLine.Form f = tt
@@ -142,7 +137,7 @@ module _ (s : List ℕ) (p : ℕ) (lay : List ℕ) (here : p < length (pieces 10
       ap (pieces 10) j
       ∙ pieces-replaced 10 p s (Y ++ lay) (free-join 10 Y lay (free-take 10 (startOf (pieces 32 line) 4) line (a .free)) (lay-no-line lay y w)) here
 
--- 4. the end of the changed sheet: 7 and 8 do not come
+-- 4. the end of the changed sheet: 7 does not come
 
 any-one : (p : Rule → Bool) (front back : Rules) (r s : Rule) → p r ≡ p s → anyOf p (front ++ r ∷ back) ≡ anyOf p (front ++ s ∷ back)
 any-one p [] back r s e = rw e
@@ -158,7 +153,6 @@ finish-one front back r g (RuleLine.Good s) f =
     let b = f s refl in
     finish-good (front ++ s ∷ back)
     (any-one isStart front back s r (ap (λ (l : ℕ). isStart (record { left = l; clause = r .clause })) (sym (b .left))) ∙ g .start)
-    (λ c. g .acyclic (cyclic (remarked-one front back r s (b .left) (b .alike)) c))
 
 -- 5. THE CHANGED SHEET
 

@@ -5,8 +5,6 @@ use mathlib.Core.List.{List, [], _∷_}
 use Prim.Native.Nat.{ℕ, _+_, _<_}
 use native.Mathlib.Omega.{arith}
 use Rattle.grammar.specs.Trees.{Rules}
-use Rattle.grammar.specs.Cycles.{Cyclic}
-use Rattle.grammar.proofs.Acyclic.{cyclic?}
 use Rattle.fields.specs.Pieces.{pieces, isEmpty, sameBytes}
 use Rattle.clauses.specs.Clauses.{Clauses}
 use Rattle.clauses.specs.Expansion.{max, past, pastAll, expansion}
@@ -16,7 +14,7 @@ use Rattle.clauses.proofs.Sorted.{max-bounds}
 use Rattle.clause_lines.specs.ClauseLines.{ClauseLine}
 use Rattle.sheets.specs.declared.Fault.the-variants as Fault
 use Rattle.sheets.specs.Items.{Reading, accepted, refused, itemsFrom, withNames}
-use Rattle.sheets.specs.RuleSheets.{anyOf, isStart, unlessCyclic, finish}
+use Rattle.sheets.specs.RuleSheets.{anyOf, isStart, finish}
 use Rattle.clause_sheets.specs.ClauseSheets.{clauseStep, clausesOf, fits, expanded, clausesFrom, clauseNames, clauseSheet}
 
 pub record Meant (g : Rules) : Type 0 where
@@ -25,13 +23,11 @@ pub record Meant (g : Rules) : Type 0 where
   pub match : OneToOne clauses g 0
 
 finished-as : (v g : Rules) → finish (accepted v) ≡ accepted g → (g ≡ v) × (anyOf isStart v ≡ true)
-finished-as v g e = go (anyOf isStart v) refl (cyclic? v) e
+finished-as v g e = go (anyOf isStart v) refl e
   where
-    go : (b : Bool) → anyOf isStart v ≡ b → (d : Dec (Cyclic v)) → cond b (unlessCyclic d) (refused Fault.NoStart 0) ≡ accepted g
-        → (g ≡ v) × (anyOf isStart v ≡ true)
-    go true h (yes c) q = absurd (let z : _≡_ {A = ℕ} 0 1 = cc in omega arith)
-    go true h (no n) q = let j : v ≡ g = cc in (sym j, h)
-    go false h d q = absurd (let z : _≡_ {A = ℕ} 0 1 = cc in omega arith)
+    go : (b : Bool) → anyOf isStart v ≡ b → cond b (accepted v) (refused Fault.NoStart 0) ≡ accepted g → (g ≡ v) × (anyOf isStart v ≡ true)
+    go true h q = let j : v ≡ g = cc in (sym j, h)
+    go false h q = absurd (let z : _≡_ {A = ℕ} 0 1 = cc in omega arith)
 
 -- a sheet with a start has a line
 some-line : (l : List ClauseLine) → anyOf isStart (expansion (clausesOf l)) ≡ true → 0 < pastAll (clausesOf l)

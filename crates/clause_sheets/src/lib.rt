@@ -229,7 +229,7 @@ fn nothing(next: u8) -> Emit
     }
 }
 
-// The end of a clause sheet whose lines are so written: 43, then 7 and 8.
+// The end of a clause sheet whose lines are so written: 43, then 7.
 fn expand_from(s: &[u8], start: usize, past: usize) -> GrammarRead
     requires { ⌜ start ≤ length (now s) ⌝ }
     requires { ⌜ AllSaid (piecesFrom 10 (now s) start) past ⌝ }

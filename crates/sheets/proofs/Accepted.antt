@@ -1,4 +1,4 @@
--- What the definitions accept: rules that are small, distinct and not cyclic, tokens that rise. And a refused line is a line of its sheet.
+-- What the definitions accept: rules that are small and distinct, tokens that rise. And a refused line is a line of its sheet.
 use mathlib.Core.Path.{_≡_, refl, sym, ap, _∙_}
 use mathlib.Core.Logic.{_⊎_, inl, inr, ⊎-elim}
 use mathlib.Core.List.{List, [], _∷_, _++_, List·Memᴰ}
@@ -16,11 +16,9 @@ use Rattle.grammar.specs.declared.Rule.{Rule}
 use Rattle.grammar.specs.declared.Token.{Token}
 use Rattle.grammar.specs.Layout.{Word, Every, line, col, width, last}
 use Rattle.grammar.specs.Trees.{Rules}
-use Rattle.grammar.specs.Cycles.{Cyclic}
 use Rattle.grammar.specs.Choices.{Alike, Distinct}
 use Rattle.grammar.specs.Content.{SmallRule}
 use Rattle.grammar.specs.Candidates.{After, RisingFrom, Rising, Wide}
-use Rattle.grammar.proofs.Acyclic.{cyclic?}
 use Rattle.grammar.proofs.Lists.{every-append}
 use Rattle.grammar.proofs.ChoiceLaws.{member-at}
 use Rattle.fields.specs.Pieces.{pieces, isEmpty, sameBytes}
@@ -42,7 +40,7 @@ use Rattle.lines.proofs.KeyLaws.{key-same, key-back}
 use Rattle.sheets.specs.declared.Fault.{Fault}
 use Rattle.sheets.specs.declared.Fault.the-variants as Fault
 use Rattle.sheets.specs.Items.{Step, next, stop, end, Reading, accepted, refused, stepAt, lineStep, onStep, itemsFrom, withNames}
-use Rattle.sheets.specs.RuleSheets.{hasKey, anyOf, isStart, freshStep, ruleSaid, ruleSays, ruleStep, unlessCyclic, finish, rulesFrom, ruleNames, ruleSheet}
+use Rattle.sheets.specs.RuleSheets.{hasKey, anyOf, isStart, freshStep, ruleSaid, ruleSays, ruleStep, finish, rulesFrom, ruleNames, ruleSheet}
 use Rattle.sheets.specs.TokenSheets.{after, follows, orderStep, tokenSaid, tokenSays, tokenStep, tokenNames, wideNames, wideSheet, tokenSheet}
 use Rattle.sheets.proofs.AnyOf.{any-none}
 use Rattle.sheets.proofs.Loop.{next-only}
@@ -239,31 +237,11 @@ follows-last l (suc n) d u h k =
 -- 3. the end of a rule sheet
 
 module _ (w : Rules) where
-  unless-yes : (d : Dec (Cyclic w)) → Cyclic w → unlessCyclic d ≡ refused Fault.Cyclic 0
-  unless-yes (yes c) x = refl
-  unless-yes (no n) x = absurd (n x)
-
-  unless-no : (d : Dec (Cyclic w)) → (Cyclic w → ⊥) → unlessCyclic d ≡ accepted w
-  unless-no (yes c) x = absurd (x c)
-  unless-no (no n) x = refl
-
-  pub finish-cyclic : anyOf isStart w ≡ true → Cyclic w → finish (accepted w) ≡ refused Fault.Cyclic 0
-  finish-cyclic e c = rw e (unless-yes (cyclic? w) c)
-
-  pub finish-good : anyOf isStart w ≡ true → (Cyclic w → ⊥) → finish (accepted w) ≡ accepted w
-  finish-good e n = rw e (unless-no (cyclic? w) n)
+  pub finish-good : anyOf isStart w ≡ true → finish (accepted w) ≡ accepted w
+  finish-good e = rw e
 
   pub finish-none : anyOf isStart w ≡ false → finish (accepted w) ≡ refused Fault.NoStart 0
   finish-none e = rw e
-
-  -- refused 8 exactly if cyclic, among those with a start
-  pub finish-only : finish (accepted w) ≡ refused Fault.Cyclic 0 → Cyclic w
-  finish-only e = go (anyOf isStart w) (cyclic? w) e
-    where
-      go : (b : Bool) (d : Dec (Cyclic w)) → cond b (unlessCyclic d) (refused Fault.NoStart 0) ≡ refused Fault.Cyclic 0 → Cyclic w
-      go true (yes c) e = c
-      go true (no n) e = absurd (let z : _≡_ {A = ℕ} 0 1 = cc in omega arith)
-      go false d e = absurd (let z : _≡_ {A = ℕ} 0 1 = cc in omega arith)
 
 -- 4. whole sheets
 
@@ -273,16 +251,14 @@ pub record GoodRules (w : Rules) : Type 0 where
   pub small : Every SmallRule w
   pub distinct : Distinct w
   pub start : anyOf isStart w ≡ true
-  pub acyclic : Cyclic w → ⊥
 
 -- the end accepts what came to it
-finish-kept : (x : Reading Rule) (w : Rules) → finish x ≡ accepted w → (x ≡ accepted w) × (anyOf isStart w ≡ true) × (Cyclic w → ⊥)
-finish-kept (accepted v) w e = go (anyOf isStart v) refl (cyclic? v) e
+finish-kept : (x : Reading Rule) (w : Rules) → finish x ≡ accepted w → (x ≡ accepted w) × (anyOf isStart w ≡ true)
+finish-kept (accepted v) w e = go (anyOf isStart v) refl e
   where
-    go : (b : Bool) → anyOf isStart v ≡ b → (d : Dec (Cyclic v)) → cond b (unlessCyclic d) (refused Fault.NoStart 0) ≡ accepted w → (accepted v ≡ accepted w) × (anyOf isStart w ≡ true) × (Cyclic w → ⊥)
-    go true h (yes c) e = absurd (let z : _≡_ {A = ℕ} 0 1 = cc in omega arith)
-    go true h (no n) e = let j : v ≡ w = cc in (e, rw j at h, rw j at n)
-    go false h d e = absurd (let z : _≡_ {A = ℕ} 0 1 = cc in omega arith)
+    go : (b : Bool) → anyOf isStart v ≡ b → cond b (accepted v) (refused Fault.NoStart 0) ≡ accepted w → (accepted v ≡ accepted w) × (anyOf isStart w ≡ true)
+    go true h e = let j : v ≡ w = cc in (e, rw j at h)
+    go false h e = absurd (let z : _≡_ {A = ℕ} 0 1 = cc in omega arith)
 finish-kept (refused f l) w e = absurd (let z : _≡_ {A = ℕ} 0 1 = cc in omega arith)
 
 pub rules-good : (s : List ℕ) (w : Rules) → ruleSheet s ≡ accepted w → GoodRules w
@@ -292,7 +268,7 @@ rules-good s w = names-accepted (refused Fault.RuleNames 1) ruleNames rulesFrom 
     lines-good ps v e =
         let f = finish-kept (itemsFrom ruleStep [] ps) v e in
         let k = rules-kept ps v (f .0) in
-        record { few = items-few 128 Fault.RuleMany Fault.RuleForm ruleSays ps v (f .0); small = k .small; distinct = k .distinct; start = f .1; acyclic = f .2 }
+        record { few = items-few 128 Fault.RuleMany Fault.RuleForm ruleSays ps v (f .0); small = k .small; distinct = k .distinct; start = f .1 }
 
 -- the tokens of an accepted sheet
 pub record GoodTokens (w : Word) : Type 0 where

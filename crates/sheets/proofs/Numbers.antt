@@ -17,7 +17,6 @@ number-small Fault.RuleLay = omega arith
 number-small Fault.RuleReversed = omega arith
 number-small Fault.RuleTwice = omega arith
 number-small Fault.NoStart = omega arith
-number-small Fault.Cyclic = omega arith
 number-small Fault.ClauseForm = omega arith
 number-small Fault.ClauseDeep = omega arith
 number-small Fault.ClauseMany = omega arith
@@ -48,7 +47,6 @@ faultOf n =
     (cond (eqb n 44) Fault.RuleReversed
     (cond (eqb n 5) Fault.RuleTwice
     (cond (eqb n 7) Fault.NoStart
-    (cond (eqb n 8) Fault.Cyclic
     (cond (eqb n 41) Fault.ClauseForm
     (cond (eqb n 42) Fault.ClauseDeep
     (cond (eqb n 43) Fault.ClauseMany
@@ -67,7 +65,7 @@ faultOf n =
     (cond (eqb n 45) Fault.BadRacks
     (cond (eqb n 46) Fault.BadShare
     (cond (eqb n 21) Fault.FewWords
-    (Fault.FewRows)))))))))))))))))))))))))))
+    (Fault.FewRows))))))))))))))))))))))))))
 
 fault-of : (f : Fault) → faultOf (numberOf f) ≡ f
 fault-of Fault.RuleNames = refl
@@ -78,7 +76,6 @@ fault-of Fault.RuleLay = refl
 fault-of Fault.RuleReversed = refl
 fault-of Fault.RuleTwice = refl
 fault-of Fault.NoStart = refl
-fault-of Fault.Cyclic = refl
 fault-of Fault.ClauseForm = refl
 fault-of Fault.ClauseDeep = refl
 fault-of Fault.ClauseMany = refl

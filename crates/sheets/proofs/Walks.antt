@@ -13,8 +13,6 @@ use denote.Ref.{RefT}
 use Rattle.grammar.specs.declared.Rule.{Rule}
 use Rattle.grammar.specs.declared.Token.{Token}
 use Rattle.grammar.specs.Trees.{Rules}
-use Rattle.grammar.specs.Cycles.{Cyclic}
-use Rattle.grammar.proofs.Acyclic.{cyclic?}
 use Rattle.fields.specs.declared.Cursor.{Cursor}
 use Rattle.fields.specs.Pieces.{before, pieces, piecesFrom, isEmpty, sameBytes, lineAt, bytesLeft}
 use Rattle.fields.specs.Parts.{Part}
@@ -22,7 +20,7 @@ use Rattle.fields.proofs.Pieces.{from-zero, pieces-first}
 use Rattle.sheets.specs.declared.Fault.{Fault}
 use Rattle.sheets.specs.declared.Fault.the-variants as Fault
 use Rattle.sheets.specs.Items.{Reading, accepted, refused, itemsFrom, withNames}
-use Rattle.sheets.specs.RuleSheets.{anyOf, isStart, ruleStep, unlessCyclic, finish, rulesFrom, ruleNames, ruleSheet}
+use Rattle.sheets.specs.RuleSheets.{anyOf, isStart, ruleStep, finish, rulesFrom, ruleNames, ruleSheet}
 use Rattle.sheets.specs.TokenSheets.{tokenStep, tokenNames, wideNames, wideSheet, tokenSheet}
 use Rattle.sheets.specs.RefusedLines.{startOf, LinePart}
 use Rattle.sheets.proofs.Loop.{line-in, line-less, line-cut}
@@ -119,12 +117,11 @@ pub first-line : {A : Type 0} (g : Fault) (s : List ℕ) (f : Fault) (l : ℕ) �
 first-line g s f l e = let j : 1 ≡ l = cc in omega (arith, ap length (pieces-first 10 s))
 
 pub finish-line : (x : Reading Rule) (n : ℕ) (f : Fault) (l : ℕ) → ((g : Fault) (m : ℕ) → x ≡ refused g m → m ≤ n) → finish x ≡ refused f l → l ≤ n
-finish-line (accepted w) n f l h e = go (anyOf isStart w) (cyclic? w) e
+finish-line (accepted w) n f l h e = go (anyOf isStart w) e
   where
-    go : (b : Bool) (d : Dec (Cyclic w)) → cond b (unlessCyclic d) (refused Fault.NoStart 0) ≡ refused f l → l ≤ n
-    go true (yes c) e = let j : _≡_ {A = ℕ} 0 l = cc in omega arith
-    go true (no k) e = absurd (let z : _≡_ {A = ℕ} 0 1 = cc in omega arith)
-    go false d e = let j : _≡_ {A = ℕ} 0 l = cc in omega arith
+    go : (b : Bool) → cond b (accepted w) (refused Fault.NoStart 0) ≡ refused f l → l ≤ n
+    go true e = absurd (let z : _≡_ {A = ℕ} 0 1 = cc in omega arith)
+    go false e = let j : _≡_ {A = ℕ} 0 l = cc in omega arith
 finish-line (refused g m) n f l h e = let j : m ≡ l = cc in omega (arith, h g m refl)
 
 pub rule-exists : (s : List ℕ) (f : Fault) (l : ℕ) → ruleSheet s ≡ refused f l → l ≤ length (pieces 10 s)

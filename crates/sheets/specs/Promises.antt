@@ -5,7 +5,6 @@ use mathlib.Core.List.{List}
 use lib.ListN.{take}
 use Rattle.grammar.specs.declared.Rule.{Rule}
 use Rattle.grammar.specs.declared.Token.{Token}
-use Rattle.grammar.specs.Cycles.{Cyclic}
 use Rattle.grammar.specs.Content.{rules, spelled, Formed, Positioned}
 use Rattle.lengths.specs.declared.Book.{Book}
 use Rattle.lengths.specs.Indexes.{Exact}
@@ -26,11 +25,10 @@ abbrev pub readingOf : {A : Type 0} → Outcome → List A → Reading A
 readingOf Accepted w = accepted w
 readingOf (Refused f l) w = refused f l
 
--- the answer is the wanted reading; an accepted grammar is formed and not cyclic, a refused one has no rules; the index is true of the rules
+-- the answer is the wanted reading; an accepted grammar is formed, a refused one has no rules; the index is true of the rules
 pub record RulesRead (r : GrammarRead) (want : Reading Rule) : Type 0 where
   pub is : readingOf (r .outcome) (rules (r .grammar)) ≡ want
   pub formed : r .outcome ≡ Accepted → Formed (r .grammar)
-  pub acyclic : r .outcome ≡ Accepted → Cyclic (rules (r .grammar)) → ⊥
   pub none : (f : Fault) (l : ℕ) → r .outcome ≡ Refused f l → r .grammar .count ≡ 0
   pub exact : Exact (rules (r .grammar)) (r .index)
 

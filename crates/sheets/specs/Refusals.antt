@@ -12,7 +12,6 @@ numberOf Fault.RuleLay = 4
 numberOf Fault.RuleReversed = 44
 numberOf Fault.RuleTwice = 5
 numberOf Fault.NoStart = 7
-numberOf Fault.Cyclic = 8
 numberOf Fault.ClauseForm = 41
 numberOf Fault.ClauseDeep = 42
 numberOf Fault.ClauseMany = 43

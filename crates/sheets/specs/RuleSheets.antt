@@ -1,12 +1,10 @@
--- What a rule sheet says: its rules, or the refusal with its line. 01, refusals 1 to 8, and 44.
+-- What a rule sheet says: its rules, or the refusal with its line. 01, refusals 1 to 7, and 44.
 use Prim.Native.Nat.{ℕ}
 use mathlib.Core.List.{List, [], _∷_}
 use mathlib.Core.Bool.{Bool, true, false, cond, _||_}
 use lib.Dec.{eqb}
 use Rattle.grammar.specs.declared.Rule.{Rule}
 use Rattle.grammar.specs.Trees.{Rules}
-use Rattle.grammar.specs.Cycles.{Cyclic}
-use Rattle.grammar.proofs.Acyclic.{cyclic?}
 use Rattle.fields.specs.Pieces.{pieces}
 use Rattle.lines.specs.declared.RuleLine.{RuleLine}
 use Rattle.lines.specs.declared.RuleLine.the-variants as RuleLine
@@ -48,14 +46,9 @@ ruleSays seen line = ruleSaid seen (ruleLine line)
 abbrev pub ruleStep : Rules → List ℕ → Bool → Step Rule
 ruleStep = lineStep 128 Fault.RuleMany Fault.RuleForm ruleSays
 
--- 8: cyclic, by the decision whether it is
-abbrev pub unlessCyclic : {w : Rules} → Dec (Cyclic w) → Reading Rule
-unlessCyclic {w} (yes c) = refused Fault.Cyclic 0
-unlessCyclic {w} (no n) = accepted w
-
--- at the end: 7 (no rule has left 0), then 8
+-- at the end: 7 (no rule has left 0)
 abbrev pub finish : Reading Rule → Reading Rule
-finish (accepted w) = cond (anyOf isStart w) (unlessCyclic (cyclic? w)) (refused Fault.NoStart 0)
+finish (accepted w) = cond (anyOf isStart w) (accepted w) (refused Fault.NoStart 0)
 finish (refused f l) = refused f l
 
 -- the rule lines, then the end
@@ -68,6 +61,6 @@ ruleNames =
     108 ∷ 101 ∷ 102 ∷ 116 ∷ 32 ∷ 107 ∷ 105 ∷ 110 ∷ 100 ∷ 32 ∷ 102 ∷ 105 ∷ 114 ∷ 115 ∷ 116 ∷ 32 ∷ 115 ∷ 101 ∷ 99 ∷ 111 ∷ 110 ∷ 100 ∷ 32
     ∷ 108 ∷ 97 ∷ 121 ∷ []
 
--- 1, then line by line, then 7 and 8
+-- 1, then line by line, then 7
 abbrev pub ruleSheet : List ℕ → Reading Rule
 ruleSheet s = withNames (refused Fault.RuleNames 1) ruleNames (pieces 10 s) rulesFrom

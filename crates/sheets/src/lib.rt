@@ -46,7 +46,6 @@ pub enum Fault {
     RuleReversed,
     RuleTwice,
     NoStart,
-    Cyclic,
     ClauseForm,
     ClauseDeep,
     ClauseMany,
@@ -81,7 +80,6 @@ pub fn fault_number(f: Fault) -> u64
         Fault::RuleReversed => 44,
         Fault::RuleTwice => 5,
         Fault::NoStart => 7,
-        Fault::Cyclic => 8,
         Fault::ClauseForm => 41,
         Fault::ClauseDeep => 42,
         Fault::ClauseMany => 43,
@@ -218,7 +216,7 @@ pub fn refuse_rules(rules: [Rule; 128], f: Fault, line: usize) -> GrammarRead
     }
 }
 
-// The end of a rule sheet, with the index of its rules: refusals 7 and 8.
+// The end of a rule sheet, with the index of its rules: refusal 7.
 pub fn finished(g: Grammar, index: Index) -> GrammarRead
     requires { ⌜ Formed g × Exact (rulesOf g) index ⌝ }
     ensures { λ r. ⌜ RulesRead r (finish (accepted (rulesOf g))) ⌝ }
@@ -226,9 +224,6 @@ pub fn finished(g: Grammar, index: Index) -> GrammarRead
     let rules = g.rules;
     let n = g.count;
     if has_start(rules, n) {
-        if acyclic::cyclic(g) {
-            return refuse_rules(rules, Fault::Cyclic, 0);
-        }
         return GrammarRead {
             outcome: Outcome::Accepted,
             grammar: g,

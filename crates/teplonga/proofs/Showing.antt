@@ -11,7 +11,6 @@ use lib.ListN.{length}
 use Rattle.grammar.specs.Layout.{Word}
 use Rattle.grammar.specs.Trees.{Tree, Rules, NoTree, OneTree, TwoTrees}
 use Rattle.grammar.specs.Choices.{FirstTree, SecondTree, Distinct}
-use Rattle.grammar.specs.Cycles.{Cyclic}
 use Rattle.grammar.specs.Rows.{rowCount}
 use Rattle.grammar.specs.SpanSheet.{pairs}
 use Rattle.grammar.proofs.Existence.{FirstOf, first-of-derives, two-iff-second}
@@ -27,18 +26,18 @@ pub too-few : (g : Rules) (w : Word) (n : ℕ) (ws one two : List ℕ) → lengt
 too-few g w n ws one two e h = short (omega (arith, ap pairs e)) refl refl refl refl refl
 
 module _ (g : Rules) (w : Word) where
-  -- the sheet is not cyclic, so the trees of the answer exist
-  pub first-there : (Cyclic g → ⊥) → OneTree g 0 w → FirstOf g 0 w
-  first-there a o = first-of-derives a (record { tree = o .tree; witness = o .witness })
+  -- the trees of the answer exist
+  pub first-there : OneTree g 0 w → FirstOf g 0 w
+  first-there o = first-of-derives (record { tree = o .tree; witness = o .witness })
 
-  pub second-there : (Cyclic g → ⊥) → Distinct g → TwoTrees g 0 w → (u : Tree) × SecondTree g 0 w u
-  second-there a d t = two-iff-second a d .0 t
+  pub second-there : Distinct g → TwoTrees g 0 w → (u : Tree) × SecondTree g 0 w u
+  second-there d t = two-iff-second d .0 t
 
-  pub wants-first : (Cyclic g → ⊥) → OneTree g 0 w → Wanted g 0 w false
-  wants-first a o = let f = first-there a o in record { tree = f .0; goal = f .1 }
+  pub wants-first : OneTree g 0 w → Wanted g 0 w false
+  wants-first o = let f = first-there o in record { tree = f .0; goal = f .1 }
 
-  pub wants-second : (Cyclic g → ⊥) → Distinct g → TwoTrees g 0 w → Wanted g 0 w true
-  wants-second a d t = let u = second-there a d t in record { tree = u .0; goal = u .1 }
+  pub wants-second : Distinct g → TwoTrees g 0 w → Wanted g 0 w true
+  wants-second d t = let u = second-there d t in record { tree = u .0; goal = u .1 }
 
   module _ {one two one′ two′ : List ℕ} {c : Counts} where
     pub shown-none : NoTree g 0 w → Written none none one two one′ two′ c → Shown g w one one′ two two′ (counted Answer.None c)

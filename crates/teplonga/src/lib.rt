@@ -27,7 +27,6 @@ use sweeping::sweep_rules;
 ghost use mathlib.Core.Path.{_≡_};
 ghost use mathlib.Core.List.{[]};
 ghost use Prim.Native.Nat.{_≤_};
-ghost use Rattle.grammar.specs.Cycles.{Cyclic};
 ghost use Rattle.grammar.specs.Content.{rules as rulesOf, spelled, Formed, Positioned};
 ghost use Rattle.lengths.specs.Indexes.{Exact};
 ghost use Rattle.sheets.specs.Promises.{RulesRead};
@@ -193,7 +192,6 @@ fn shown(
 ) -> TreesReply
     requires { ⌜ Formed g ⌝ }
     requires { ⌜ Positioned s ⌝ }
-    requires { ⌜ (Cyclic (rulesOf g) → ⊥) ⌝ }
     ensures { λ r. ⌜ TreesOn (rulesOf g) (spelled s) (now (words .entry)) (now (words .exit)) (now (first .entry)) (now (first .exit)) (now (second .entry)) (now (second .exit)) r ⌝ }
 {
     let n = s.count;

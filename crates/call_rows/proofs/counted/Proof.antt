@@ -15,7 +15,7 @@ uncounted-requires c κs = search needs
 returns : tie.Need-returns
 returns c =
     let s = c .before .before .before .before in
-    too-few (s .pre .1 .0 .whole) (rw (c .before .before .size .ensures) at (c .before .if1 .taken)) (c .uncounted .ensures)
+    too-few (s .pre .1 .whole) (rw (c .before .before .size .ensures) at (c .before .if1 .taken)) (c .uncounted .ensures)
 
 judge-requires : tie.Need-judge-requires
 judge-requires c κs = search needs
@@ -31,8 +31,7 @@ first-rows-requires c κs =
     let j = c .before .before .before .before .before in
     let s = j .before .before .before .before .before in
     let v = rw (c .before .enum-told2 .given .1) at (j .judge .ensures) in
-    let a = s .pre .1 .1 in
-    (record { formed = s .pre .0; positioned = s .pre .1 .0; sheet = v .sheet }, (has-firsts a, wants-first _ _ a (v .verdict)))
+    (record { formed = s .pre .0; positioned = s .pre .1; sheet = v .sheet }, (has-firsts, wants-first _ _ (v .verdict)))
 
 enum-told-3 : tie.Need-enum-told-3
 enum-told-3 c = search needs
@@ -42,8 +41,7 @@ both-rows-requires c κs =
     let j = c .before .before .before .before .before in
     let s = j .before .before .before .before .before in
     let v = rw (c .before .enum-told3 .given .1) at (j .judge .ensures) in
-    let a = s .pre .1 .1 in
-    (record { formed = s .pre .0; positioned = s .pre .1 .0; sheet = v .sheet }, (has-firsts a, wants-second _ _ a (s .pre .0 .distinct) (v .verdict)))
+    (record { formed = s .pre .0; positioned = s .pre .1; sheet = v .sheet }, (has-firsts, wants-second _ _ (s .pre .0 .distinct) (v .verdict)))
 
 same-length : tie.Need-same-length
 same-length c = search needs
@@ -53,7 +51,7 @@ returns-2 c =
     let j = c .before .before .before .before in
     let s = j .before .before .before .before .before in
     let v = rw (c .enum-told .given .1) at (j .judge .ensures) in
-    counted-none (filled-by (s .pre .1 .0 .whole) v) (v .verdict)
+    counted-none (filled-by (s .pre .1 .whole) v) (v .verdict)
 
 same-length-2 : tie.Need-same-length-2
 same-length-2 c = search needs
@@ -63,8 +61,8 @@ returns-3 c =
     let j = c .before .before .before .before .before .before in
     let s = j .before .before .before .before .before in
     let v = rw (c .before .before .enum-told2 .given .1) at (j .judge .ensures) in
-    let f = first-there _ _ (s .pre .1 .1) (v .verdict) in
-    counted-one (filled-by (s .pre .1 .0 .whole) v) (v .verdict) (f .1) (c .first-rows .ensures (f .0) (f .1))
+    let f = first-there _ _ (v .verdict) in
+    counted-one (filled-by (s .pre .1 .whole) v) (v .verdict) (f .1) (c .first-rows .ensures (f .0) (f .1))
 
 same-length-3 : tie.Need-same-length-3
 same-length-3 c = search needs
@@ -74,8 +72,8 @@ returns-4 c =
     let j = c .before .before .before .before .before .before in
     let s = j .before .before .before .before .before in
     let v = rw (c .before .before .enum-told3 .given .1) at (j .judge .ensures) in
-    let u = second-there _ _ (s .pre .1 .1) (s .pre .0 .distinct) (v .verdict) in
-    counted-two (filled-by (s .pre .1 .0 .whole) v) (v .verdict) (u .1 .first) (u .1) (c .both-rows .ensures (u .1 .tree) (u .0) (u .1 .first) (u .1))
+    let u = second-there _ _ (s .pre .0 .distinct) (v .verdict) in
+    counted-two (filled-by (s .pre .1 .whole) v) (v .verdict) (u .1 .first) (u .1) (c .both-rows .ensures (u .1 .tree) (u .0) (u .1 .first) (u .1))
 
 pub counted-spec : {M : Type 1} → statement M
 counted-spec =

@@ -35,7 +35,7 @@ counted-requires c κs =
     let q = c .before .before .before .before .before in
     let r = q .before .before .before in
     let e = q .before .enum-told .given .1 in
-    (r .read-rules .ensures .formed e, (q .read-tokens .ensures .positioned (c .before .before .before .enum-told2 .given .1), r .read-rules .ensures .acyclic e))
+    (r .read-rules .ensures .formed e, q .read-tokens .ensures .positioned (c .before .before .before .enum-told2 .given .1))
 
 returns : tie.Need-returns
 returns c =

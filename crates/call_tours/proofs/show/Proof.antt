@@ -48,7 +48,7 @@ shown-to-requires : tie.Need-shown-to-requires
 shown-to-requires c κs =
     let r = c .before .before .before .before .before .before .before .before .before .before .before .before .before .read-rules .ensures in
     let e = c .before .before .before .before .before .before .before .before .before .before .before .enum-told .given .1 in
-    (r .formed e, (c .before .before .before .before .before .before .before .before .before .before .read-tokens .ensures .positioned (c .before .before .before .before .before .before .before .before .enum-told2 .given .1), r .acyclic e))
+    (r .formed e, c .before .before .before .before .before .before .before .before .before .before .read-tokens .ensures .positioned (c .before .before .before .before .before .before .before .before .enum-told2 .given .1))
 
 returns : tie.Need-returns
 returns c =

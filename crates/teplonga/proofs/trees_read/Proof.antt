@@ -27,7 +27,7 @@ shown-requires c κs =
     let s = q .before .before .before .before .before .before .before in
     let e = q .before .enum-told .given .1 in
     let p = q .read-tokens .ensures .positioned (c .before .before .before .before .before .enum-told2 .given .1) in
-    (s .pre .formed e, (p, s .pre .acyclic e))
+    (s .pre .formed e, p)
 
 returns : tie.Need-returns
 returns c =
