@@ -107,7 +107,10 @@ def patches():
     # P9, and where its nonterminal 1 has one tree
     yield "none 0", check(P9, (1, 1), (2, 2))
     yield "one 0", check(P9, (1, 1), (1, 2))
-    yield "refused-8 0", check("0 U 0 - none", (1, 1))
+    # Rules that loop: no tree; two; a loop that no tree uses
+    yield "none 0", check("0 U 0 - none", (1, 1))
+    yield "two 0", check("0 U 0 - none / 0 A 0 - none", (1, 1))
+    yield "one 0", check("0 A 0 - none / 1 U 1 - none", (1, 1))
 
 
 # --------------------------------------------------------------- layout marks
@@ -238,6 +241,43 @@ def second_trees():
     part = "0 B 1 2 none / 1 U 3 - none / 1 A 0 - none / 3 A 0 - none / 2 A 1 - none"
     yield "none 0", check(part, (0, 1, 1), (0, 1, 2))
     yield "two 0", check(part, (0, 1, 1), (1, 1, 2))
+
+
+def looping():
+    """Rules that loop: least heights decide, and infinitely many trees are two."""
+    loop = "9 U 9 - none"
+    # The same trees with and without a loop that is not used, where the first
+    # choice is the lowest; and where it is not.
+    for tail in ("", f" / {loop}"):
+        yield "two 0", check(f"0 A 0 - none / 0 U 1 - none / 1 A 0 - none{tail}", (1, 1))
+        yield "two 0", check(f"0 U 1 - none / 0 A 0 - none / 1 A 0 - none{tail}", (1, 1))
+        deep = "0 U 1 - none / 0 B 2 3 none / 1 U 4 - none / 4 U 5 - none / 5 A 0 - none"
+        yield "two 0", check(f"{deep} / 2 A 0 - none / 3 E - - none{tail}", (1, 1))
+        # Choices of one height: the earlier rule, the shorter left word.
+        yield "two 0", check(f"0 U 2 - none / 0 U 1 - none / 1 A 0 - none / 2 A 0 - none{tail}", (1, 1))
+        yield "two 0", check(f"0 B 0 0 none / 0 A 0 - none{tail}", *row(5))
+        # A child that is not the tallest goes by its own least height.
+        tall = "0 B 1 2 none / 1 U 3 - none / 1 A 0 - none / 3 A 0 - none / 2 U 4 - none / 4 U 3 - none"
+        yield "two 0", check(f"{tall}{tail}", *row(2))
+        # Only one tree, and none.
+        yield "one 0", check(f"{LIST}{tail}", *row(3))
+        yield "none 0", check(f"0 B 1 1 none / 1 A 0 - none{tail}", (1, 1))
+    # Round and round: through one, two and three rules, and by the empty word.
+    yield "two 0", check("0 A 0 - none / 0 U 0 - none", (1, 1))
+    yield "two 0", check("0 U 1 - none / 1 U 0 - none / 1 A 0 - none", (1, 1))
+    yield "two 0", check("0 U 1 - none / 1 U 2 - none / 2 U 0 - none / 2 A 0 - none", (1, 1))
+    yield "two 0", check("0 B 0 0 none / 0 E - - none")
+    yield "two 0", check("0 B 0 0 none / 0 E - - none / 0 A 0 - none", *row(3))
+    yield "two 0", check("0 B 1 0 none / 0 B 0 1 none / 0 A 0 - none / 1 E - - none / 1 U 1 - none", *row(1))
+    # A loop without a way out, and one that marks forbid.
+    yield "none 0", check("0 U 1 - none / 1 U 0 - none", (1, 1))
+    yield "one 0", check("0 U 0 - offside / 0 B 1 1 none / 1 A 0 - none", (1, 2), (2, 1))
+    yield "two 0", check("0 U 0 - offside / 0 B 1 1 none / 1 A 0 - none", (1, 1), (2, 2))
+    # The second tree parts below the top, on the left and on the right.
+    ends = "1 A 0 - none / 1 U 1 - none / 2 A 0 - none"
+    yield "two 0", check(f"0 B 1 2 none / {ends}", *row(2))
+    yield "two 0", check(f"0 B 2 1 none / {ends}", *row(2))
+    yield "two 0", check(f"0 B 1 1 none / {ends}", *row(2))
 
 
 def sentences():
@@ -404,11 +444,11 @@ def refused_sheets():
     yield "refused-14 66", rules(GOOD) + b"\n" + many_tokens(64) + b"64"
     late = many_tokens(65).replace(b"63 1 64\n", b"63 1 63\n")
     yield "refused-15 65", rules(GOOD) + b"\n" + late
-    # 7 and 8, and 7 before 8.
+    # 7; a loop is no fault.
     yield "refused-7 0", rules() + b"\n" + good_tokens
     yield "refused-7 0", check("1 U 1 - none / 2 A 0 - none", (1, 1))
-    yield "refused-8 0", check("0 B 1 0 none / 1 E - - none / 0 A 0 - none", (1, 1))
-    yield "refused-8 0", check("0 A 0 - none / 5 U 6 - none / 6 B 7 5 none / 7 E - - none", (1, 1))
+    yield "two 0", check("0 B 1 0 none / 1 E - - none / 0 A 0 - none", (1, 1))
+    yield "one 0", check("0 A 0 - none / 5 U 6 - none / 6 B 7 5 none / 7 E - - none", (1, 1))
     # A line comes before the end, and before a lesser number in a later line.
     yield "refused-4 3", check("1 U 1 - none / 0 U 0 - align", (1, 1))
     yield "refused-5 3", check("0 U 0 - none / 0 U 0 - none / 0 A 000000 - none", (1, 1))
@@ -495,7 +535,7 @@ def refused_names():
     yield "refused-1 1", good_tokens + b"\n" + good_rules
     yield "refused-2 2", rules(b"0 A 0") + b"\n" + tokens(b"0 0 1")
     yield "refused-7 0", rules() + b"\n"
-    yield "refused-8 0", check("0 U 0 - none", (1, 2), (1, 1))
+    yield "refused-15 3", check("0 U 0 - none", (1, 2), (1, 1))
 
 
 def refused_inputs():
@@ -649,6 +689,7 @@ def meant():
         marks_inside(),
         choices(),
         second_trees(),
+        looping(),
         sentences(),
         few_rows(),
         about_4096_rows(),

@@ -211,7 +211,7 @@ def many():
     yield b"refused-43 0", ("expand", sheet(b"0 " + b" | ".join([b"t0"] * 32)), b"")
     yield b"given", ("expand", sheet(b"0 " + b" ".join([b"t0+"] * 16)), b"")
     yield b"refused-43 0", ("expand", sheet(b"0 " + b" ".join([b"t0+"] * 17)), b"")
-    yield b"refused-8 0", ("expand", sheet(b"0 " + b" ".join([b"n0?"] * 32)), b"")
+    yield b"given", ("expand", sheet(b"0 " + b" ".join([b"n0?"] * 32)), b"")
     yield b"refused-43 0", ("expand", sheet(b"0 " + b" ".join([b"n0?"] * 33)), b"")
     yield b"refused-43 0", ("clauses", sheet(*[b"0 n1 n2 n3"] * 700), ONE)
     yield b"refused-43 0", ("line", sheet(b"0 n63"), ONE)
@@ -223,16 +223,16 @@ def ends():
     yield b"refused-7 0", ("clauses", NAMES, ONE)
     yield b"refused-7 0", ("expand", sheet(b"1 t0"), b"")
     yield b"refused-7 0", ("clauses", sheet(b"1 n1"), ONE)
-    yield b"refused-8 0", ("clauses", sheet(b"0 n0"), ONE)
-    yield b"refused-8 0", ("expand", sheet(b"0 (t0?)*"), b"")
-    yield b"refused-8 0", ("expand", sheet(b"0 t0", b"1 n2", b"2 n1 | t0"), b"")
-    yield b"refused-8 0", ("sweep", sheet(b"0 t0? n0 t0*"), 2)
-    yield b"refused-8 0", ("line", sheet(b"0 n0"), ONE)
+    yield b"none", ("clauses", sheet(b"0 n0"), ONE)
+    yield b"given", ("expand", sheet(b"0 (t0?)*"), b"")
+    yield b"given", ("expand", sheet(b"0 t0", b"1 n2", b"2 n1 | t0"), b"")
+    yield b"clear", ("sweep", sheet(b"0 t0? n0 t0*"), 2)
+    yield b"none 0", ("line", sheet(b"0 n0"), ONE)
     yield b"given", ("expand", sheet(b"0 t0 n0?"), b"")
 
 
 def competing():
-    # the names, then line by line, then 43, 7, 8
+    # the names, then line by line, then 43, 7
     yield b"refused-1 1", ("clauses", b"left clauses\n0 t64\n", ONE)
     yield b"refused-41 2", ("clauses", sheet(b"0 x", *[b"0 n0 n0"] * 64), ONE)
     yield b"refused-41 66", ("clauses", sheet(*[b"0 n0 n0"] * 64, b"0 x"), ONE)
@@ -243,7 +243,7 @@ def competing():
     yield b"refused-7 0", ("clauses", sheet(b"2 n1", b"1 n2"), ONE)
     # the clause sheet before the token sheet
     yield b"refused-41 2", ("clauses", sheet(b"0 x"), b"")
-    yield b"refused-8 0", ("clauses", sheet(b"0 n0"), b"term\n")
+    yield b"refused-11 1", ("clauses", sheet(b"0 n0"), b"term\n")
     yield b"refused-11 1", ("clauses", sheet(b"0 t0"), b"term line\n")
     yield b"refused-12 2", ("clauses", sheet(b"0 t0"), TOKENS + b"0 1\n")
     yield b"refused-13 2", ("clauses", sheet(b"0 t0"), TOKENS + b"64 1 1\n")

@@ -306,8 +306,6 @@ def read_clauses(sheet):
         return refused(43, 0)
     if all(rule.left != teplonga.START for rule in expansion.rules):
         return refused(7, 0)
-    if teplonga.cyclic(expansion.rules):
-        return refused(8, 0)
     return ("accepted", expansion.rules)
 
 

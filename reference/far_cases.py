@@ -159,8 +159,8 @@ def long_sheets():
     # The start, the cycle, the choice and the empty word at the far end.
     yield "refused-7 0", check(" / ".join(filler(128)), (1, 1))
     yield "one 0", check(" / ".join(filler(127) + ["0 A 0 - none"]), (1, 1))
-    yield "refused-8 0", check(" / ".join(chain(64) + ["63 U 0 - none"]), (1, 1))
-    yield "refused-8 0", check(" / ".join(chain(64)[:-1] + filler(60) + ["63 U 33 - none"]), (1, 1))
+    yield "two 0", check(" / ".join(chain(64) + ["63 U 0 - none"]), (1, 1))
+    yield "none 0", check(" / ".join(chain(64)[:-1] + filler(60) + ["63 U 33 - none"]), (1, 1))
     yield "two 0", check(" / ".join(chain(64) + ["0 A 0 - none"]), (1, 1))
     empties = chain(64)[:-1] + ["63 E - - none"]
     yield "one 0", check(" / ".join(empties))

@@ -205,11 +205,17 @@ def refused_rule_count():
 
 
 def refused_rule_end():
-    """Refusals 7 and 8."""
+    """Refusal 7."""
     yield rules()
     yield rules(b"1 B 0 0 none", b"2 E - - none")
-    # 7 before 8.
     yield rules(b"1 U 1 - none")
+    # A refusal in a line comes before 7.
+    yield rules(b"1 U 1 - none", b"0 U 0 - align")
+    yield rules(b"0 U 0 - none", b"0 U 0 - single")
+
+
+def looping_rule_sheets():
+    """Rules that loop, which are no fault."""
     # U rules.
     yield rules(b"0 U 0 - none")
     yield rules(b"0 U 0 - single", b"0 A 0 - none")
@@ -224,9 +230,6 @@ def refused_rule_end():
     # Not to be reached from the start.
     yield rules(b"0 A 0 - none", b"5 U 5 - none")
     yield rules(b"0 A 0 - none", b"62 B 63 61 none", b"61 E - - none", b"63 U 62 - none")
-    # A refusal in a line comes before 7 and 8.
-    yield rules(b"1 U 1 - none", b"0 U 0 - align")
-    yield rules(b"0 U 0 - none", b"0 U 0 - single")
 
 
 def refused_rule_sheets():
@@ -241,6 +244,7 @@ def refused_rule_sheets():
 
 def accepted_rule_sheets():
     """Near misses of refusals."""
+    yield from looping_rule_sheets()
     yield many_rules(128)
     yield rules(b"0 E - - none", b"63 A 63 - none", b"1 B 63 63 indent")
     # Ranges: one terminal, all of them, ranges that touch, shared by two lefts.

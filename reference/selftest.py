@@ -157,8 +157,14 @@ def patches_after_p9():
     eight = rule_sheet(*short, *[f"3 A {term} - none" for term in range(8)])
     same("k = 5", sweep(seven, 5), ("two", [(1, 1)]))
     same("k = 5", teplonga.sweep_call(eight, 5, WORDS), ("refused-24", 0, [], 0, WORDS))
-    cycle = rule_sheet("0 U 0 - none")
-    same("cyclic", teplonga.read_rules(cycle), ("refused", 8, 0))
+    token = (Token(0, 1, 1),)
+    for rows, answer in (
+        (("0 U 0 - none",), "none"),
+        (("0 U 0 - none", "0 A 0 - none"), "two"),
+        (("0 A 0 - none", "1 U 1 - none"), "one"),
+    ):
+        reading = teplonga.read_rules(rule_sheet(*rows))
+        same("cyclic", teplonga.verdict(reading[1], token), answer)
 
 
 # ----------------------------------------------------- a reader by patterns
@@ -222,8 +228,6 @@ def pattern_rules(sheet):
     plain = [unpadded(line) for line in lines[1:]]
     if not any(line.startswith(b"0 ") for line in plain):
         return (7, 0)
-    if second_cyclic([line.decode().split() for line in plain]):
-        return (8, 0)
     return None
 
 
@@ -296,7 +300,7 @@ def readers():
             written = [line_of(token) for token in read_tokens[1]]
             same("reading", unpadded(tokens).split(b"\n")[1:-1], written)
         same("refused line", teplonga.refused_line(rules, tokens), second_line(rules, tokens))
-    same("reading", numbers, {1, 2, 3, 4, 5, 6, 7, 8, 11, 12, 13, 14, 15, 44, 47})
+    same("reading", numbers, {1, 2, 3, 4, 5, 6, 7, 11, 12, 13, 14, 15, 44, 47})
     same("reading", len(cases) <= 300, True)
     same("reading", len(make_reading.all_input()) <= 60_000, True)
     for each in reading_cases.refused_rule_sheets():
@@ -375,7 +379,8 @@ def all_trees(rules, tokens, most_height):
         if grown == table:
             return table
         table = grown
-    raise AssertionError("still growing, though the sheet is not cyclic")
+    assert second_cyclic([[str(field) for field in rule] for rule in rules]), "still growing, though the sheet is not cyclic"
+    return table
 
 
 def length_of(tree):
@@ -566,6 +571,32 @@ def random_sentences(draw, rules):
     return with_trees[:6] + without[:2]
 
 
+def height_of(tree):
+    return 1 + max((height_of(child) for child in tree[2:]), default=0) if tree[0] in ("unary", "binary") else 1
+
+
+def looping_trees(rules, tokens, table):
+    """A looping sheet, against its trees up to a height: all low ones are there."""
+    grammar = Grammar(read_anyway(rules))
+    for start, length in teplonga.spans(len(tokens)):
+        word = tuple(Token(*token) for token in tokens[start : start + length])
+        for nonterminal in (0, 1, 2, 3, 63):
+            trees = table.get((nonterminal, start, start + length), set())
+            same("looping count", grammar.count(nonterminal, word), min(2, len(trees)))
+            if not trees:
+                continue
+            lowest = min(map(height_of, trees))
+            same("least height", grammar.least_heights(word)[nonterminal], lowest)
+            first = nested(grammar.first_tree(nonterminal, word))
+            same("lowest tree", height_of(first), lowest)
+            tops = sorted({top_choice(rules, tree) for tree in trees})
+            low = sorted({top_choice(rules, tree) for tree in trees if height_of(tree) == lowest})
+            same("low choice", top_choice(rules, first), low[0])
+            if len(tops) >= 2:
+                second = nested(grammar.second_tree(nonterminal, word))
+                same("other choice", top_choice(rules, second), min(set(tops) - {low[0]}))
+
+
 def random_grammars(wanted):
     seen = Counter()
     seed = 0
@@ -583,6 +614,11 @@ def random_grammars(wanted):
         sentences = random_sentences(draw, rules)
         if sentences is None:
             seen["too many trees"] += 1
+            continue
+        if second_cyclic(rows):
+            for tokens, table in sentences:
+                looping_trees(rules, tokens, table)
+            seen["looping"] += 1
             continue
         for tokens, table in sentences:
             count = trees_of_grammar(draw, rules, tokens, table)

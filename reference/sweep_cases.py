@@ -79,7 +79,10 @@ def patches():
     # P6 to P9 have two trees nowhere.
     for text in (P6, P6.replace("offside", "offalign"), P8, P9):
         yield CLEAR, sweep(3, text)
-    yield refused(8), sweep(3, "0 U 0 - none")
+    # Rules that loop
+    yield CLEAR, sweep(3, "0 U 0 - none")
+    yield two((1, 1)), sweep(3, "0 U 0 - none / 0 A 0 - none")
+    yield CLEAR, sweep(3, "0 A 0 - none / 1 U 1 - none / 1 A 0 - none")
 
 
 # --------------------------------------------------------------------- findings
@@ -281,8 +284,6 @@ def refused_rules():
         (5, 4, rule_sheet(f"{PLAIN} / 0 B 0 0 align")),
         (7, 0, rule_sheet("1 U 1 - none")),
         (7, 0, rules()),
-        (8, 0, rule_sheet("0 B 0 0 none / 0 E - - none")),
-        (8, 0, rule_sheet(many_terminals(8) + " / 3 U 3 - none")),
     ):
         yield refused(number, line), bounded(b"5", sheet)
         yield refused(number, line), bounded(b"8", sheet)

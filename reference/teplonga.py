@@ -168,8 +168,6 @@ def read_rules(sheet):
         rules.append(rule_of_line(line, ended))
     if all(rule.left != START for rule in rules):
         return refused(7, 0)
-    if cyclic(rules):
-        return refused(8, 0)
     return ("accepted", rules)
 
 
@@ -379,18 +377,20 @@ def is_valid(rules, tree):
 class Grammar:
     """The rules of a sheet, with what has been worked out about words so far.
 
-    A word is a tuple of tokens.  All answers but `derivable` and `choices`
-    need a sheet that is not cyclic: only then are there finitely many trees.
+    A word is a tuple of tokens.  Trees are finite; only `valid_trees` needs a
+    sheet that is not cyclic, since a looping sheet may have infinitely many.
     """
 
     def __init__(self, rules):
         self.rules = list(rules)
+        self.loops = None
         self.forget()
 
     def forget(self):
         """Drop what has been worked out; it can be worked out again."""
         self.known = {}
-        self.counts = {}
+        self.twos = {}
+        self.heights = {}
         self.first_trees = {}
         self.second_trees = {}
 
@@ -484,24 +484,82 @@ class Grammar:
                 yield [child] + others
 
     def count(self, nonterminal, word):
-        """The number of valid trees, counted up to two.
+        """The number of valid trees, counted up to two; infinitely many are two."""
+        if not self.choices(nonterminal, word):
+            return 0
+        return 2 if nonterminal in self.with_two(word) else 1
+
+    def with_two(self, word):
+        """The nonterminals that have at least two valid trees of this word.
 
         Different choices give different trees, and so do different children
-        under one choice: the trees of a choice are those of its left part
-        times those of its right part.
+        under one choice.  So these have two choices, or a child under their
+        only choice that has two trees; grown until the set is full.
         """
-        key = (nonterminal, word)
-        if key not in self.counts:
-            total = 0
-            for choice in self.choices(nonterminal, word):
-                trees = 1
-                for child, part in self.parts(choice, word):
-                    trees *= self.count(child, part)
-                total += trees
-                if total >= 2:
-                    break
-            self.counts[key] = min(total, 2)
-        return self.counts[key]
+        if word not in self.twos:
+            found = set()
+            grown = True
+            while grown:
+                grown = False
+                for nonterminal, choices in self.work_out(word)[1].items():
+                    if nonterminal not in found and self.has_two(choices, word, found):
+                        found.add(nonterminal)
+                        grown = True
+            self.twos[word] = found
+        return self.twos[word]
+
+    def has_two(self, choices, word, found):
+        if len(choices) != 1:
+            return len(choices) > 1
+        return any(
+            child in (found if part == word else self.with_two(part))
+            for child, part in self.parts(choices[0], word)
+        )
+
+    def looping(self):
+        """A looping sheet is one that is cyclic, anywhere in it."""
+        if self.loops is None:
+            self.loops = cyclic(self.rules)
+        return self.loops
+
+    def least_heights(self, word):
+        """How high the lowest valid tree of each nonterminal at this word is.
+
+        A height that is not known yet counts as endless; heights fall until
+        none falls any more.
+        """
+        if word not in self.heights:
+            lowest = {}
+            fell = True
+            while fell:
+                fell = False
+                for nonterminal, choices in self.work_out(word)[1].items():
+                    height = min(self.height_by(choice, word, lowest) for choice in choices)
+                    if height < lowest.get(nonterminal, float("inf")):
+                        lowest[nonterminal] = height
+                        fell = True
+            self.heights[word] = lowest
+        return self.heights[word]
+
+    def height_by(self, choice, word, lowest):
+        """The least height of a tree with this choice at the top."""
+        below = [
+            (lowest if part == word else self.least_heights(part)).get(child, float("inf"))
+            for child, part in self.parts(choice, word)
+        ]
+        return 1 + max(below, default=0)
+
+    def preferred(self, nonterminal, word):
+        """What the first tree takes, where there is a choice.
+
+        "On a looping sheet the first tree takes, at each node, the earliest
+        choice among those giving the least height."  Else the first.
+        """
+        choices = self.choices(nonterminal, word)
+        if not self.looping():
+            return choices[0]
+        lowest = self.least_heights(word)
+        return min(choices, key=lambda choice: self.height_by(choice, word, lowest))
 
     def topped(self, choice, word):
         """This choice at the top, first trees beneath."""
@@ -511,23 +569,24 @@ class Grammar:
         return self.node(choice, word, children)
 
     def first_tree(self, nonterminal, word):
-        """"The first tree takes the first choice at each node."
+        """The tree that takes what is preferred at each node.
 
         None where there is no valid tree.
         """
         key = (nonterminal, word)
         if key not in self.first_trees:
-            choices = self.choices(nonterminal, word)
-            tree = self.topped(choices[0], word) if choices else None
+            tree = None
+            if self.choices(nonterminal, word):
+                tree = self.topped(self.preferred(nonterminal, word), word)
             self.first_trees[key] = tree
         return self.first_trees[key]
 
     def second_tree(self, nonterminal, word):
         """The first tree but for its first node with two or more choices.
 
-        "there it takes the second choice, then first trees beneath."  The
-        walk is node before children, left before right.  None where no node
-        of the first tree has two choices.
+        There it takes "the earliest choice not already taken, then first
+        trees".  The walk is node before children, left before right.  None
+        where no node of the first tree has two choices.
         """
         key = (nonterminal, word)
         if key not in self.second_trees:
@@ -538,15 +597,16 @@ class Grammar:
         choices = self.choices(nonterminal, word)
         if len(choices) == 0:
             return None
+        taken = self.preferred(nonterminal, word)
         if len(choices) >= 2:
-            return self.topped(choices[1], word)
-        parts = self.parts(choices[0], word)
+            return self.topped(next(other for other in choices if other != taken), word)
+        parts = self.parts(taken, word)
         for place, (child, part) in enumerate(parts):
             changed = self.second_tree(child, part)
             if changed is not None:
                 children = [self.first_tree(*other) for other in parts]
                 children[place] = changed
-                return self.node(choices[0], word, children)
+                return self.node(taken, word, children)
         return None
 
 

@@ -376,6 +376,36 @@ def random_tours(count):
         yield case("change", sheets[0], granted, lay, user=5, rule=rule)
 
 
+# ------------------------------------------------- request 13: rules that loop
+
+def looping():
+    """The same calls where the rules loop."""
+    round_once = check("0 U 0 - none / 0 A 0 - none", (1, 1))
+    yield counted("two", 1, 2), rows(round_once)
+    yield listed((0, 0, 1)), places(round_once)
+    yield rows_shown("two", "1 0 A 0 1", "2 0 U 0 1", "2 0 A 0 1"), show(round_once, ALL)
+    yield rows_shown("two", "1 0 C 0 1", "2 0 C 0 1"), show(round_once, rights())
+    # A loop elsewhere makes least heights decide.
+    low = "0 U 1 - none / 0 A 0 - none / 1 U 2 - none / 2 A 0 - none"
+    yield counted("two", 3, 1), rows(check(low, (1, 1)))
+    yield counted("two", 1, 3), rows(check(f"{low} / 9 U 9 - none", (1, 1)))
+    # Over the empty word, and beside tokens.
+    empty = "0 B 0 0 none / 0 E - - none"
+    yield counted("two", 1, 3), rows(check(empty))
+    yield counted("two", 3, 5), rows(check(f"{empty} / 0 A 0 - none", *row(2)))
+    yield listed((0, 0, 0)), places(check(empty))
+    # Far more rows than a tree of least height has.
+    yield counted("one", "more", 0), rows(check(f"0 U 1 - none / {doubling(*range(1, 34))} / 63 U 63 - none"))
+    # The trees part beneath a closed node, and beside one.
+    parting = check("0 B 1 2 none / 1 U 1 - none / 1 A 0 - none / 2 A 0 - none", *row(2))
+    alike = ["0 B 0 2", "1 C 0 1", "2 A 1 1"]
+    both = [f"{tree} {line}" for tree in (1, 2) for line in alike]
+    yield rows_shown("two", *both), show(parting, rights("5 0 0 see", "5 2 2 see"))
+    first = ["1 0 B 0 2", "1 1 A 0 1", "1 2 C 1 1"]
+    second = ["2 0 B 0 2", "2 1 U 0 1", "2 1 A 0 1", "2 2 C 1 1"]
+    yield rows_shown("two", *first, *second), show(parting, rights("5 0 1 see"))
+
+
 def meant():
     """(how the output goes on, or None; case)"""
     for made in (
@@ -393,6 +423,7 @@ def meant():
         refused_shows(),
         changes(),
         refused_changes(),
+        looping(),
     ):
         yield from made
 
