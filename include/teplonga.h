@@ -16,9 +16,9 @@
  * Calls are reentrant: they have no state of their own and may run in any threads at once, each on
  * its own lent memory. They allocate nothing, take no lock, set no errno and make no system call.
  *
- * Stack: the verdict, its trees, a sweep and a share need 16 KB, row counts 20 KB, places 32 KB, calls on clause
- * sheets 40 KB, the refused line 12 KB,
- * whatever they are asked; TEPLONGA_STACK bytes are enough for any call.
+ * Stack: the verdict, its trees, a sweep and a share need 16 KB, the refused line 16 KB, row counts 20 KB,
+ * places 32 KB, calls on clause sheets 40 KB, columns 160 KB, whatever they are asked; where the rules
+ * loop, trees and row counts need 266 KB more. TEPLONGA_STACK bytes are enough for any call.
  *
  * Time: a verdict or its trees take some milliseconds on the largest sheets. A sweep may take long:
  * sheets can be built whose sweep takes minutes, and it cannot be interrupted, so run it in a thread
@@ -37,8 +37,8 @@ extern "C" {
 /* The version of this header, that of the Rust crate too. */
 #define TEPLONGA_VERSION "0.1.0"
 
-/* The bytes of stack that are enough for any call; for all but teplonga_columns 65,536 are. */
-#define TEPLONGA_STACK 196608
+/* The bytes of stack that are enough for any call. */
+#define TEPLONGA_STACK 393216
 
 /*
  * Each call but those for a refused line answers one number: the answer's code in its upper 32 bits and the refused line's
@@ -86,8 +86,6 @@ enum {
     TEPLONGA_CLAUSE_MANY = 143,
     /* 7, rule sheet, end: no rule has left 0 */
     TEPLONGA_NO_START = 107,
-    /* 8, rule sheet, end: the rules are cyclic: a chain of edges returns to where it began */
-    TEPLONGA_CYCLIC = 108,
     /* 11, token sheet, line 1: the names are neither `term line col` nor `term line col width` (of
      * a range sheet not `term line low high`), ended by byte 10 */
     TEPLONGA_TOKEN_NAMES = 111,
@@ -165,7 +163,7 @@ enum {
 #define TEPLONGA_TRIED 22
 
 /*
- * The verdict: none, one or two valid trees of nonterminal 0, or refused 1 to 8, 44, 11 to 15, 47 or 21.
+ * The verdict: none, one or two valid trees of nonterminal 0, or refused 1 to 7, 44, 11 to 15, 47 or 21.
  *
  * An accepted call leaves the span sheet filled in `words`. A refused one changes no word. Words
  * past the span sheet never change.
@@ -175,7 +173,7 @@ uint64_t teplonga_verdict(const uint8_t *rules, size_t rules_length,
                           uint64_t *words, size_t words_length);
 
 /*
- * The verdict and the trees: none, one or two, or refused 1 to 8, 44, 11 to 15, 47, 21 or 22.
+ * The verdict and the trees: none, one or two, or refused 1 to 7, 44, 11 to 15, 47, 21 or 22.
  *
  * The rows of the first tree stand at the front of `first`, those of the second at the front of
  * `second`, in walking order; all bytes after the rows are 0. On `none` both memories are 0, on
@@ -195,7 +193,7 @@ uint64_t teplonga_trees(const uint8_t *rules, size_t rules_length,
                         uint64_t *counts, size_t counts_length);
 
 /*
- * The verdict and how many rows each tree has: none, one or two, or refused 1 to 8, 44, 11 to 15, 47
+ * The verdict and how many rows each tree has: none, one or two, or refused 1 to 7, 44, 11 to 15, 47
  * or 21. No tree is built, and `words` are as after the verdict.
  *
  * `counts` gets the row count of each tree, 0 for one that the verdict lacks and on a refusal;
@@ -224,7 +222,7 @@ uint64_t teplonga_columns(const uint8_t *rules, size_t rules_length,
 
 /*
  * The verdict and all places at which the readings of the sentence part: none, one or two, or
- * refused 1 to 8, 44, 11 to 15, 47, 21 or 22.
+ * refused 1 to 7, 44, 11 to 15, 47, 21 or 22.
  *
  * A place is three bytes: nonterminal, start, length; an empty word has start 0. The places stand
  * at the front of `list`, longest word first, then by start, then by nonterminal, and all bytes
@@ -242,7 +240,7 @@ uint64_t teplonga_places(const uint8_t *rules, size_t rules_length,
 
 /*
  * The sweep: two, where a sentence of 1 to `bound` tokens has two trees, or clear, or refused 1 to
- * 8, 44, 23, 24 or 21.
+ * 7, 44, 23, 24 or 21.
  *
  * An accepted call leaves the words of the span sheet for `bound` tokens 0. A refused one changes
  * no word. Words past the span sheet never change.
@@ -259,7 +257,7 @@ uint64_t teplonga_sweep(const uint8_t *rules, size_t rules_length,
                         uint64_t *found, size_t found_length);
 
 /*
- * The verdict and the trees as a user may see them: none, one or two, or refused 1 to 8, 44, 11 to 15,
+ * The verdict and the trees as a user may see them: none, one or two, or refused 1 to 7, 44, 11 to 15,
  * 47, 50, 21 or 22.
  *
  * The rights sheet says which nonterminals the user may see. A node outside them is one row of kind
@@ -277,7 +275,7 @@ uint64_t teplonga_show(const uint8_t *rules, size_t rules_length,
                        uint64_t *counts, size_t counts_length);
 
 /*
- * The rule sheet with another mark in the rule at a place, counted from 1: given, or refused 1 to 8,
+ * The rule sheet with another mark in the rule at a place, counted from 1: given, or refused 1 to 7,
  * 44, 50, 51, then 2 or 4 in that rule's line, or 22.
  *
  * `lay` are the bytes of the new mark. The changed sheet stands at the front of `bytes`, and all bytes
@@ -335,7 +333,7 @@ void teplonga_refused_line(const uint8_t *rules, size_t rules_length,
 /*
  * Clause sheets. The verdict, the trees, the sweep and the refused line take a clause sheet where
  * the calls above take a rule sheet, and promise the same of the rules that it expands to; where
- * those are refused 1 to 8 or 44 these are refused 1, 41 to 43, 7 or 8.
+ * those are refused 1 to 7 or 44 these are refused 1, 41 to 43 or 7.
  */
 uint64_t teplonga_clause_verdict(const uint8_t *clauses, size_t clauses_length,
                                  const uint8_t *tokens, size_t tokens_length,
@@ -361,7 +359,7 @@ void teplonga_clause_refused_line(const uint8_t *clauses, size_t clauses_length,
 #define TEPLONGA_MOST_EXPANDED 4096
 
 /*
- * The rule sheet that a clause sheet expands to: given, or refused 1, 41 to 43, 7, 8 or 22.
+ * The rule sheet that a clause sheet expands to: given, or refused 1, 41 to 43, 7 or 22.
  *
  * Its bytes stand at the front of `sheet`, and all bytes after them are 0. Every refusal but 22
  * changes no byte. 22 says that it does not fit; it leaves all of `sheet` 0.

@@ -159,7 +159,6 @@ static void refusals(void)
     refused(TEPLONGA_RULE_REVERSED, 2, RULE_NAMES "0 A 5 4 none\n", THREE);
     refused(TEPLONGA_RULE_TWICE, 3, RULE_NAMES "0 A 0 9 none\n0 A 9 - none\n", THREE);
     refused(TEPLONGA_NO_START, 0, RULE_NAMES, THREE);
-    refused(TEPLONGA_CYCLIC, 0, RULE_NAMES "0 U 0 - none\n", THREE);
     refused(TEPLONGA_TOKEN_NAMES, 1, PLAIN, "term line col width");
     refused(TEPLONGA_TOKEN_FORM, 2, PLAIN, TOKEN_NAMES "0 1 1 1\n");
     refused(TEPLONGA_TOKEN_RANGE, 2, PLAIN, TOKEN_NAMES "0 0 1\n");
@@ -229,6 +228,18 @@ static void other_trees(void)
     CHECK(trees(RULE_NAMES "0 A 64 - none\n", THREE, 14, 20, 20, 2, &lent) == coded(TEPLONGA_RULE_RANGE, 2));
     CHECK(all_words(lent.words, 14, 7) && all_bytes(lent.first, 20, 7) && all_bytes(lent.second, 20, 7));
     CHECK(trees(PLAIN, THREE, 0, 0, 0, 0, &lent) == coded(TEPLONGA_FEW_WORDS, 0));
+}
+
+/* Rules that loop: the first tree is the lowest, the second goes round once. */
+static void looping_trees(void)
+{
+    struct trees lent;
+
+    CHECK(trees(RULE_NAMES "0 U 0 - none\n0 A 0 - none\n", TOKEN_NAMES "0 1 1\n", 4, 8, 8, 2, &lent) == coded(TEPLONGA_TWO, 0));
+    CHECK(memcmp(lent.first, "\0\1\0\1\0\0\0\0", 8) == 0 && memcmp(lent.second, "\0\2\0\1\0\1\0\1", 8) == 0);
+    CHECK(lent.counts[0] == 1 && lent.counts[1] == 2 && lent.words[2] == 1 && lent.words[3] == 1);
+    CHECK(trees(RULE_NAMES "0 U 0 - none\n", TOKEN_NAMES "0 1 1\n", 4, 8, 8, 2, &lent) == coded(TEPLONGA_NONE, 0));
+    CHECK(trees(RULE_NAMES "0 A 0 - none\n1 U 1 - none\n", TOKEN_NAMES "0 1 1\n", 4, 8, 8, 2, &lent) == coded(TEPLONGA_ONE, 0));
 }
 
 /* ----------------------------------------------------------------------- rows */
@@ -598,7 +609,7 @@ static void threads(void)
         CHECK(pthread_join(four[i], NULL) == 0);
 }
 
-/* A large sheet, a long sentence and a long sweep, for the stack; their memory is not on it. */
+/* A large sheet that loops, a long sentence and a long sweep, for the stack; their memory is not on it. */
 static char big_rules[4000], big_tokens[2000], big_ranges[2000], big_sweep[400];
 static uint64_t big_words[4162], big_found[TEPLONGA_FOUND], big_counts[TEPLONGA_COUNTS];
 static uint8_t big_first[16384], big_second[16384], big_list[49152];
@@ -608,7 +619,7 @@ static void make_big(void)
     strcpy(big_rules, RULE_NAMES);
     for (int i = 0; i < 61; i++)
         sprintf(big_rules + strlen(big_rules), "%d U %d - offside\n", i, i + 1);
-    strcat(big_rules, "61 B 62 0 none\n61 A 0 - none\n62 A 0 - none\n61 B 0 62 none\n");
+    strcat(big_rules, "61 B 62 0 none\n61 A 0 - none\n62 A 0 - none\n61 B 0 62 none\n63 U 63 - none\n");
     strcpy(big_tokens, TOKEN_NAMES);
     for (int i = 0; i < TEPLONGA_MOST_TOKENS; i++)
         sprintf(big_tokens + strlen(big_tokens), "0 %d %d\n", i + 1, i + 1);
@@ -691,6 +702,7 @@ int main(int count, char **arguments)
         refusals();
         both_trees();
         other_trees();
+        looping_trees();
         row_counts();
         chosen_columns();
         all_places();

@@ -68,7 +68,6 @@ CASES = [
     (5, 4, rule("0 U 01 - single", "0 E - - none", "0 U 1 - none"), "0 U 01 - single", "^^^^^^^^", "line 3 is 0 U 1 - none"),
     (5, 3, rule("0 A 3 9 none", "0 A 9 - none"), "0 A 3 9 none", "^^^^^^^", "line 2 is 0 A 9 - none"),
     (7, 0, rule("1 A 0 - none")),
-    (8, 0, rule("0 U 0 - none")),
     (11, 1, check(PLAIN, "term line width\n"), "term line width", "          ^^^^^"),
     (11, 1, check(PLAIN, "term line col wide\n"), "term line col wide", "              ^^^^"),
     (14, 66, check(PLAIN, TOKENS + "".join(f"0 {n} 1\n" for n in range(1, 66))), "0 65 1"),

@@ -11,7 +11,7 @@ pub struct Family {
     pub sheet: fn(usize) -> Vec<u8>,
 }
 
-pub const VERDICT: [Family; 10] = [
+pub const VERDICT: [Family; 11] = [
     Family {
         name: "dense",
         what: "B rules over a few nonterminals, all of them derivable",
@@ -67,6 +67,12 @@ pub const VERDICT: [Family; 10] = [
         terminals: 1,
         sheet: empty_chain,
     },
+    Family {
+        name: "looping",
+        what: "the dense sheet with a rule that loops: trees go by least heights",
+        terminals: 1,
+        sheet: looping,
+    },
 ];
 
 /// The family of that name.
@@ -84,6 +90,13 @@ fn dense(rules: usize) -> Vec<u8> {
     let atoms = (0..m).map(|left| format!("{left} A 0 - none"));
     let pairs = triples(m).map(|(left, first, second)| format!("{left} B {first} {second} none"));
     sheet(atoms.chain(pairs), rules)
+}
+
+/// The dense sheet, with a U rule from the start to itself in the place of its last.
+fn looping(rules: usize) -> Vec<u8> {
+    let mut rules = dense(rules - 1);
+    rules.extend_from_slice(b"0 U 0 - none\n");
+    rules
 }
 
 /// Nonterminal i derives the words whose length is i modulo m.

@@ -113,7 +113,11 @@ fn limits() {
     assert_eq!(twin::sweep::arrangements(7, 5), 4_254_271_875);
     assert_eq!(atoms(7), Ok(None));
     assert_eq!(atoms(8).map_err(|refusal| refusal.number), Err(24));
-    let cyclic = sheet(&["0 U 0 - none"]);
-    let refusal = twin::sheets::read_rules(&cyclic).unwrap_err();
-    assert_eq!((refusal.number, refusal.line), (8, 0));
+}
+
+#[test]
+fn loops() {
+    assert_eq!(verdict(&["0 U 0 - none"], &[(1, 1)]), Verdict::None);
+    assert_eq!(verdict(&["0 U 0 - none", "0 A 0 - none"], &[(1, 1)]), Verdict::Two);
+    assert_eq!(verdict(&["0 A 0 - none", "1 U 1 - none"], &[(1, 1)]), Verdict::One);
 }

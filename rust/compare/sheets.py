@@ -31,7 +31,7 @@ def accepted(sheet):
 
 # ----------------------------------------------------------------------- rules
 
-# Few empty rules: they make most sheets cyclic.
+# Few empty rules: they make most sheets loop.
 KINDS = "EAAAAUUBBBBB"
 
 

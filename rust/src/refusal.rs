@@ -36,9 +36,6 @@ pub enum Refusal {
     ClauseMany = 43,
     /// 7, rule sheet, end: no rule has left 0.
     NoStart = 7,
-    /// 8, rule sheet, end: the rules are cyclic: a chain of edges returns to where
-    /// it began.
-    Cyclic = 8,
     /// 11, token sheet, line 1: the names are neither `term line col` nor `term
     /// line col width` (of a range sheet not `term line low high`), ended by byte
     /// 10.
@@ -91,7 +88,7 @@ pub enum Refusal {
 
 impl Refusal {
     /// All refusals, in the order in which calls look.
-    pub const ALL: [Refusal; 28] = [
+    pub const ALL: [Refusal; 27] = [
         Refusal::RuleNames,
         Refusal::RuleMany,
         Refusal::RuleForm,
@@ -103,7 +100,6 @@ impl Refusal {
         Refusal::ClauseDeep,
         Refusal::ClauseMany,
         Refusal::NoStart,
-        Refusal::Cyclic,
         Refusal::TokenNames,
         Refusal::TokenMany,
         Refusal::TokenForm,
@@ -145,7 +141,6 @@ impl Refusal {
             Refusal::ClauseDeep => "groups nested deeper than sixteen levels",
             Refusal::ClauseMany => "the expansion has a nonterminal past 63 or more than 128 rules",
             Refusal::NoStart => "no rule has left 0",
-            Refusal::Cyclic => "the rules are cyclic: a chain of edges returns to where it began",
             Refusal::TokenNames => {
                 "the names are neither `term line col` nor `term line col width` (of a range sheet not `term line low high`), ended by byte 10"
             }

@@ -1,7 +1,6 @@
 //! Rule sheets and token sheets: bytes to rules and tokens, or a refusal.
 
-use super::chart;
-use super::grammar::{has, BinaryMark, Clause, Column, Line, Rule, Token, UnaryMark, Width};
+use super::grammar::{BinaryMark, Clause, Column, Line, Rule, Token, UnaryMark, Width};
 
 /// A refusal's number and the line in its sheet, counted from 1, or 0.
 #[derive(Clone, Copy, Debug, PartialEq, Eq)]
@@ -195,46 +194,7 @@ pub fn read_rules(sheet: &[u8]) -> Result<Vec<Rule>, Refusal> {
     if rules.iter().all(|rule| rule.left != 0) {
         return Err(Refusal::whole(7));
     }
-    if cyclic(&rules) {
-        return Err(Refusal::whole(8));
-    }
     Ok(rules)
-}
-
-/// Does some chain of edges return to where it began?
-fn cyclic(rules: &[Rule]) -> bool {
-    let mut reached = edges(rules);
-    for through in 0..64u8 {
-        let further = reached[usize::from(through)];
-        for ends in &mut reached {
-            if has(*ends, through) {
-                *ends |= further;
-            }
-        }
-    }
-    (0..64u8).any(|start| has(reached[usize::from(start)], start))
-}
-
-/// For each nonterminal the set of those that an edge runs to.
-fn edges(rules: &[Rule]) -> [u64; 64] {
-    let nullable = chart::empty_pair(rules).one;
-    let mut edges = [0u64; 64];
-    for rule in rules {
-        let ends = &mut edges[usize::from(rule.left)];
-        match rule.clause {
-            Clause::Empty | Clause::Atom(..) => {}
-            Clause::Unary(b, _) => *ends |= 1 << b,
-            Clause::Binary(b, d, _) => {
-                if has(nullable, d) {
-                    *ends |= 1 << b;
-                }
-                if has(nullable, b) {
-                    *ends |= 1 << d;
-                }
-            }
-        }
-    }
-    edges
 }
 
 /// The token of a line after the earlier ones, or the refusal's number.
