@@ -207,7 +207,7 @@ uint64_t teplonga_rows(const uint8_t *rules, size_t rules_length,
                        uint64_t *counts, size_t counts_length);
 
 /*
- * Which verdicts some choice of columns gives: given, or refused 1 to 8, 44, 11 to 14, 48, 49 or 21.
+ * Which verdicts some choice of columns gives: given, or refused 1 to 7, 44, 11 to 14, 48, 49 or 21.
  * `ranges` is a range sheet: tokens whose columns are known between two ends.
  *
  * `found` gets three words, for none, one and two: 1 if some choice of columns within the ends, with
@@ -296,7 +296,7 @@ uint64_t teplonga_change(const uint8_t *rules, size_t rules_length,
 
 /*
  * One share of a sweep that is divided among racks: two, where an arrangement of `length` tokens
- * with a number in share `index` of `racks` rises and has two trees, or clear, or refused 1 to 8, 44,
+ * with a number in share `index` of `racks` rises and has two trees, or clear, or refused 1 to 7, 44,
  * 23, 24 (both of `length`), 45, 46 or 21.
  *
  * All T^n * 3^(n-1) * n^n arrangements of n tokens are numbered from 0 in the sweep's order, those
