@@ -23,7 +23,9 @@ def sentences(wanted):
         draw = random.Random(seed)
         rules = selftest.random_rules(draw)
         sheet = selftest.sheet_of(rules)
-        if base.read_rules(sheet)[0] == "refused":
+        # A looping sheet may have infinitely many trees; `selftest.py` looks at its low ones.
+        reading = base.read_rules(sheet)
+        if reading[0] == "refused" or base.cyclic(reading[1]):
             continue
         listed = selftest.random_sentences(draw, rules)
         for tokens, table in listed or []:
