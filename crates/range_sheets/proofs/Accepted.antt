@@ -4,7 +4,6 @@ use mathlib.Core.List.{List, [], _∷_, _++_}
 use mathlib.Core.Bool.{Bool, true, false, cond, _&&_}
 use Prim.Native.Nat.{ℕ, _+_, _≤_, _<_}
 use native.Mathlib.Omega.{arith}
-use native.Mathlib.Decide.{decLe}
 use lib.ListN.{length}
 use lib.Dec.{leb}
 use borrow.Author.Tests.{leb-true, le-leb, lt-leb}
@@ -21,16 +20,12 @@ use Rattle.sheets.specs.declared.Fault.the-variants as Fault
 use Rattle.sheets.specs.Items.{Step, next, stop, end, Reading, accepted, refused, stepAt, itemsFrom}
 use Rattle.sheets.proofs.Accepted.{items-hold}
 use Rattle.column_ranges.specs.declared.RangeToken.{RangeToken}
-use Rattle.column_ranges.specs.Ranges.{Counts}
 use Rattle.column_ranges.specs.Ranges.{Ranges, choices, limit, ranged, Ended}
 use Rattle.range_sheets.specs.declared.RangeLine.{RangeLine}
 use Rattle.range_sheets.specs.declared.RangeLine.the-variants as RangeLine
-use Rattle.grammar.specs.declared.Rule.{Rule}
-use Rattle.grammar.specs.Content.{rules}
 use Rattle.sheets.specs.declared.Outcome.{Outcome}
 use Rattle.sheets.specs.declared.Outcome.the-variants as Outcome
-use Rattle.sheets.specs.declared.GrammarRead.{GrammarRead}
-use Rattle.sheets.specs.Promises.{readingOf, RulesRead}
+use Rattle.sheets.specs.Promises.{readingOf}
 use Rattle.range_sheets.specs.declared.RangeRead.{RangeRead}
 use Rattle.range_sheets.specs.Promises.{RangesRead}
 use Rattle.range_sheets.specs.RangeLines.{endsOf, rangeOf, rangeFields, rangeLine, afterTerminal, afterLine, afterLow, afterHigh}
@@ -43,14 +38,6 @@ counted-few rs h = ap (λ (b : Bool). cond b (accepted rs) (refused Fault.ManyCh
 pub counted-many : (rs : Ranges) → limit < choices rs → counted (accepted rs) ≡ refused Fault.ManyChoices 0
 counted-many rs h = ap (λ (b : Bool). cond b (accepted rs) (refused Fault.ManyChoices 0)) (lt-leb (choices rs) limit h)
 
--- few enough choices are counted exactly
-pub exact-count : {rs : Ranges} {m : ℕ} → Counts rs m → choices rs ≤ limit → m ≡ choices rs
-exact-count {rs} {m} k h = go (decLe m limit)
-  where
-    go : Dec (m ≤ limit) → m ≡ choices rs
-    go (yes l) = k .exact l
-    go (no l) = absurd (let z = k .over (omega arith) in omega (arith, z))
-
 -- an accepted sheet is not refused
 pub not-refused : {f : Fault} {l : ℕ} → Outcome.Accepted ≡ Outcome.Refused f l → ⊥
 not-refused e = let z : _≡_ {A = ℕ} 0 1 = ap rank e in omega arith
@@ -60,12 +47,6 @@ not-refused e = let z : _≡_ {A = ℕ} 0 1 = ap rank e in omega arith
     rank (Outcome.Refused f l) = 1
 
 -- what was read is what the sheet says
-pub rules-are : {r : GrammarRead} {want : Reading Rule} → RulesRead r want → r .outcome ≡ Outcome.Accepted → want ≡ accepted (rules (r .grammar))
-rules-are {r} x e = sym (x .is) ∙ ap (λ (o : Outcome). readingOf o (rules (r .grammar))) e
-
-pub rules-not : {r : GrammarRead} {want : Reading Rule} {f : Fault} {l : ℕ} → RulesRead r want → r .outcome ≡ Outcome.Refused f l → want ≡ refused f l
-rules-not {r} x e = sym (x .is) ∙ ap (λ (o : Outcome). readingOf o (rules (r .grammar))) e
-
 pub ranges-are : {r : RangeRead} {want : Reading RangeToken} → RangesRead r want → r .outcome ≡ Outcome.Accepted → want ≡ accepted (ranged (r .sentence))
 ranges-are {r} x e = sym (x .is) ∙ ap (λ (o : Outcome). readingOf o (ranged (r .sentence))) e
 

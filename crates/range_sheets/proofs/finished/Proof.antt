@@ -18,12 +18,12 @@ refuse-ranges-requires : tie.Need-refuse-ranges-requires
 refuse-ranges-requires c κs = search needs
 
 returns : tie.Need-returns
-returns c = subst (λ (x : Reading RangeToken). RangesRead (c .refuse-ranges .result) x) (sym (counted-many (ranged (record { tokens = c .before .before .before .args .tokens; count = c .before .before .before .args .n })) (c .before .before .count .ensures .over (c .before .if1 .taken)))) (c .refuse-ranges .ensures)
+returns c = subst (λ (x : Reading RangeToken). RangesRead (c .refuse-ranges .result) x) (sym (counted-many (ranged (record { tokens = c .before .before .before .args .tokens; count = c .before .before .before .args .n })) (c .before .before .count .ensures .over (omega (arith, c .before .if1 .taken))))) (c .refuse-ranges .ensures)
 
 returns-2 : tie.Need-returns-2
 returns-2 c =
     let z = c .before .before in
-    let e = c .before .count .ensures .exact (c .if1 .left) in
+    let e = c .before .count .ensures .exact (omega (arith, c .if1 .left)) in
     let h : choices (ranged (record { tokens = z .args .tokens; count = z .args .n })) ≤ limit = omega (arith, e, c .if1 .left) in
     record {
       is = sym (counted-few (ranged (record { tokens = z .args .tokens; count = z .args .n })) h);
