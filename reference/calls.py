@@ -8,6 +8,7 @@ Written from the page on programs alone, on top of the references for the calls.
 import sys
 
 import clauses
+import columns
 import places
 import rows
 import shares
@@ -21,14 +22,9 @@ CALLS = {
     (b"call bound", b"clauses"): (1, 1, 1, lambda bound, sheet: clauses.sweep_output(sheet, bound)),
     (b"call", b"expand"): (0, 0, 1, clauses.expand_output),
     (b"call", b"rows"): (0, 0, 2, rows.rows_output),
-    (b"call length racks share", b"share"): (3, 3, 1, lambda *numbers: shares.share_output(numbers[3], *numbers[:3])),
+    (b"call length racks share", b"share"): (3, 3, 1, lambda n, racks, share, rules: shares.share_output(rules, n, racks, share)),
+    (b"call", b"columns"): (0, 0, 2, columns.columns_output),
     (b"call", b"places"): (0, 0, 2, places.places_output),
-    (b"call length racks share", b"share"): (
-        3,
-        3,
-        1,
-        lambda length, racks, share, rules: shares.share_output(rules, length, racks, share),
-    ),
     (b"call user", b"show"): (1, 1, 3, lambda user, rules, tokens, rights: tours.show_output(rules, tokens, rights, user)),
     (b"call user rule lay", b"change"): (
         2,

@@ -254,9 +254,9 @@ def fault(number, sheet, lines, at):
     if number == 12:
         return line.first(lambda _, field: not is_number(field), len(lines[0].fields)), None
     if number == 13:
-        bounds = [over(63), over(65_535, 1), over(65_535, 1)]
-        return line.first(lambda i, field: bounds[i](field), 3), None
-    if number == 47:
+        bounds = [over(63)] + [over(65_535, 1)] * (3 if sheet == "range sheet" else 2)
+        return line.first(lambda i, field: bounds[i](field), len(bounds)), None
+    if number in (47, 48):
         return line.field(3), None
     if number == 15:
         return token_order_fault(lines, at), at - 1

@@ -65,6 +65,7 @@ CALLS = [
     (["clauses-sweep", "00002"], b"call bound\nclauses 00002\n", CLAUSES),
     (["share", "3", "12", "0"], b"call length racks share\nshare 3 12 0\n", RULES),
     (["share", "2", "12", "00011"], b"call length racks share\nshare 2 12 00011\n", RULES),
+    (["columns"], b"call\ncolumns\n", RULES + b"\nterm line low high\n0 1 1 2\n0 1 1 3\n0 2 1 1\n"),
     (["show", "5"], b"call user\nshow 5\n", GOOD + b"\nuser low high may\n5 0 0 see\n"),
     (["show", "16"], b"call user\nshow 16\n", GOOD + b"\nuser low high may\n5 0 0 see\n"),
     (["change", "5", "1", "align"], b"call user rule lay\nchange 5 1 align\n", RULES + b"\nuser low high may\n5 0 63 change\n"),
