@@ -611,7 +611,8 @@ static void threads(void)
 
 /* A large sheet that loops, a long sentence and a long sweep, for the stack; their memory is not on it. */
 static char big_rules[4000], big_tokens[2000], big_ranges[2000], big_sweep[400];
-static uint64_t big_words[4162], big_found[TEPLONGA_FOUND], big_counts[TEPLONGA_COUNTS];
+static uint64_t big_words[4162], big_found[TEPLONGA_FOUND], big_counts[TEPLONGA_COUNTS], big_numbers[3];
+static const uint8_t big_rights[] = RIGHTS "5 0 63 change\n", big_lay[] = "single";
 static uint8_t big_first[16384], big_second[16384], big_list[49152];
 
 static void make_big(void)
@@ -660,6 +661,15 @@ static void *big_calls(void *which)
     case 7:
         teplonga_columns(rules, r, (const uint8_t *)big_ranges, strlen(big_ranges), big_words, 4162, big_counts, 2);
         break;
+    case 8:
+        teplonga_show(rules, r, tokens, t, big_rights, sizeof big_rights - 1, 5, big_words, 4162, big_first, 16384, big_second, 16384, big_counts, 2);
+        break;
+    case 9:
+        teplonga_change(rules, r, big_rights, sizeof big_rights - 1, 5, 1, big_lay, sizeof big_lay - 1, big_first, 16384, big_counts, 1);
+        break;
+    case 10:
+        teplonga_share((const uint8_t *)big_sweep, strlen(big_sweep), 5, 12, 7, big_words, 4162, big_numbers, 3, big_found, TEPLONGA_FOUND);
+        break;
     default:
         teplonga_refused_line(rules, r, tokens, t, &line);
     }
@@ -684,10 +694,10 @@ static size_t stack_of(int which)
 
 static void stacks(void)
 {
-    static const char *names[] = { "verdict", "trees", "sweep", "rows", "places", "clause_trees", "expand", "columns", "refused_line" };
+    static const char *names[] = { "verdict", "trees", "sweep", "rows", "places", "clause_trees", "expand", "columns", "show", "change", "share", "refused_line" };
 
     make_big();
-    for (int which = 0; which < 9; which++) {
+    for (int which = 0; which < 12; which++) {
         size_t used = stack_of(which);
         printf("%s: %zu bytes of stack\n", names[which], used);
         CHECK(used <= TEPLONGA_STACK);
@@ -711,7 +721,6 @@ int main(int count, char **arguments)
         changed();
         sweeps();
         shares();
-    shares();
         refused_lines();
     }
     threads();
