@@ -16,9 +16,9 @@
  * Calls are reentrant: they have no state of their own and may run in any threads at once, each on
  * its own lent memory. They allocate nothing, take no lock, set no errno and make no system call.
  *
- * Stack: the verdict, its trees, a sweep and a share need 16 KB, the refused line 16 KB, row counts 20 KB,
- * places 32 KB, calls on clause sheets 40 KB, columns 160 KB, whatever they are asked; where the rules
- * loop, trees and row counts need 266 KB more. TEPLONGA_STACK bytes are enough for any call.
+ * Stack: the verdict, a sweep, a share, a changed mark and the refused line need 16 KB, places 32 KB,
+ * the other calls on clause sheets 40 KB, columns 160 KB, trees, row counts and trees shown 300 KB,
+ * those of clause sheets too, whatever they are asked. TEPLONGA_STACK bytes are enough for any call.
  *
  * Time: a verdict or its trees take some milliseconds on the largest sheets. A sweep may take long:
  * sheets can be built whose sweep takes minutes, and it cannot be interrupted, so run it in a thread

@@ -576,7 +576,8 @@ static void refused_lines(void)
     line_is(RULE_NAMES "0 A 0 - none\n0 X", THREE, 0, 40, 3);
     line_is(PLAIN, TOKEN_NAMES "0 1 1\n0 1 1\n", 1, 20, 5);
     line_is(PLAIN, "x\n", 1, 0, 1);
-    line_is(RULE_NAMES "0 U 0 - none\n", TOKEN_NAMES "x\n", 0, 0, 0);
+    line_is(RULE_NAMES "1 U 1 - none\n", TOKEN_NAMES "x\n", 0, 0, 0);
+    line_is(RULE_NAMES "0 U 0 - none\n", TOKEN_NAMES "x\n", 1, 14, 1);
     line_is(PLAIN, THREE, 0, 0, 0);
     line_is("", "", 0, 0, 0);
 }

@@ -350,8 +350,13 @@ class Programs(Room):
         self.assertEqual(script.returncode == 3, b"temporarily unavailable" in errors)
 
     def test_the_stack_that_README_states(self):
-        for name, data, wanted in (("checker", GOOD, TWO), ("sweeper", SWEPT, teplonga.sweep_program(SWEPT))):
-            self.assertEqual(run("sh", "-c", f"ulimit -s 512 && '{BUILT / name}'", data=data), (0, wanted, ""))
+        called = b"call\nclauses\n\n" + CLAUSES + TOKENS
+        for name, size, data, wanted in (
+            ("checker", 640, GOOD, TWO),
+            ("sweeper", 320, SWEPT, teplonga.sweep_program(SWEPT)),
+            ("calls", 900, called, calls.calls_program(called)),
+        ):
+            self.assertEqual(run("sh", "-c", f"ulimit -s {size} && '{BUILT / name}'", data=data), (0, wanted, ""))
 
     def test_a_program_that_is_ended_is_told(self):
         status, out, errors = run("sh", "-c", f"ulimit -s 128 && '{CHECK}'", data=GOOD)

@@ -16,10 +16,13 @@ sys.path.insert(0, os.path.join(HERE, "..", "..", "reference"))
 sys.dont_write_bytecode = True
 
 import clauses  # noqa: E402
+import columns  # noqa: E402
 import places  # noqa: E402
 import questions  # noqa: E402
 import rows  # noqa: E402
+import shares  # noqa: E402
 import teplonga  # noqa: E402
+import tours  # noqa: E402
 from questions import hexed  # noqa: E402
 
 
@@ -102,6 +105,43 @@ def expand(sheet, size, salt):
     return f"{answer} {line} bytes {count} sheet {hexed(made)}"
 
 
+def share(rules, length, racks, index, words, salt):
+    answer, line, number, quotient, remainder, sentence, after = shares.share_call(
+        bytes_of(rules), int(length), int(racks), int(index), lent_words(int(salt), int(words))
+    )
+    found = " ".join("/".join(map(str, token[:3])) for token in sentence) or "-"
+    return f"{answer} {line} numbers {number} {quotient} {remainder} found {found} {shown_words(after)}"
+
+
+def chosen(rules, ranges, words, salt):
+    answer, line, flags, after = columns.columns_call(
+        bytes_of(rules), bytes_of(ranges), lent_words(int(salt), int(words))
+    )
+    return f"{answer} {line} flags {' '.join(str(int(flag)) for flag in flags)} {shown_words(after)}"
+
+
+def show(rules, tokens, rights, user, words, first, second, salt):
+    salt = int(salt)
+    answer, line, count1, count2, after, first, second = tours.show_call(
+        bytes_of(rules),
+        bytes_of(tokens),
+        bytes_of(rights),
+        int(user),
+        lent_words(salt, int(words)),
+        lent_bytes(salt + 1, int(first)),
+        lent_bytes(salt + 2, int(second)),
+    )
+    memory = f"first {hexed(first)} second {hexed(second)}"
+    return f"{answer} {line} rows {count1} {count2} {memory} {shown_words(after)}"
+
+
+def change(rules, rights, lay, user, rule, size, salt):
+    answer, line, count, made = tours.change_call(
+        bytes_of(rules), bytes_of(rights), int(user), int(rule), bytes_of(lay), lent_bytes(int(salt), int(size))
+    )
+    return f"{answer} {line} bytes {count} sheet {hexed(made)}"
+
+
 # Those of `BOTH` are asked of rule sheets and, with `clause-` before them, of
 # clause sheets.
 BOTH = {"verdict": verdict, "trees": trees, "line": line, "sweep": sweep}
@@ -111,6 +151,10 @@ CALLS = {
     "rows": counts,
     "places": listed,
     "expand": expand,
+    "share": share,
+    "columns": chosen,
+    "show": show,
+    "change": change,
 }
 
 

@@ -11,6 +11,10 @@ what lies in that memory before the call.
     rows RULES TOKENS WORDS SALT
     places RULES TOKENS WORDS LIST SALT
     expand CLAUSES SHEET SALT
+    share RULES LENGTH RACKS INDEX WORDS SALT
+    columns RULES RANGES WORDS SALT
+    show RULES TOKENS RIGHTS USER WORDS FIRST SECOND SALT
+    change RULES RIGHTS LAY USER RULE SHEET SALT
 
 The first four have `clause-` before their name where the sheet is a clause
 sheet.
@@ -360,6 +364,76 @@ def of_an_expansion(chance):
     return f"expand {hexed(sheet)} {size} {salt(chance)}"
 
 
+# ------------------------------------------------------------ shares and columns
+
+def of_a_share(chance):
+    """Shares of few arrangements, and refusals."""
+    rules = sheets.rule_sheet(sheets.sound_rules(chance))
+    if chance.random() < 0.15:
+        rules = sheets.damaged(chance, rules)
+    reading = teplonga.read_rules(rules)
+    count = len(teplonga.terminals_of(reading[1])) if reading[0] == "accepted" else 1
+    length = next((n for n in (3, 2, 1) if count**n * 3 ** (n - 1) * n**n <= 600), 1)
+    if chance.random() < 0.1:
+        length = chance.choice([0, 8, 99, (1 << 64) - 1] + ([7] if count > 60 else []))
+    racks = chance.choice([1, 2, 3, 5, 12, 64, 64, 0, 65])
+    index = chance.choice([0, racks - 1 if racks else 0, racks, chance.randint(0, 70)])
+    words = lent_words(chance, words_needed(min(length, 9)))
+    return f"share {hexed(rules)} {length} {racks} {index} {words} {salt(chance)}"
+
+
+def of_columns(chance):
+    """A token sheet's tokens with ends about their columns; some ends are damaged."""
+    rules, tokens = sound(chance, 0, 5)
+    reading = teplonga.read_tokens(tokens)
+    lines = []
+    for token in reading[1] if reading[0] == "accepted" else []:
+        low = max(1, token.col - chance.choice([0, 0, 1, 2]))
+        high = min(65_535, token.col + chance.choice([0, 0, 0, 1, 2]))
+        if chance.random() < 0.02:
+            low, high = high, low
+        if chance.random() < 0.01:
+            high = min(65_535, low + chance.choice([300, 65_534]))
+        lines.append(f"{token.term} {token.line} {low} {high}\n")
+    sheet = ("term line low high\n" + "".join(lines)).encode()
+    if chance.random() < 0.2:
+        sheet = sheets.damaged(chance, sheet)
+    if chance.random() < 0.1:
+        rules = sheets.damaged(chance, rules)
+    words = lent_words(chance, words_needed(len(lines)))
+    return f"columns {hexed(rules)} {hexed(sheet)} {words} {salt(chance)}"
+
+
+# ----------------------------------------------------------------- shared tours
+
+def rights_sheet(chance):
+    """A few lines of users 4 and 5; some are damaged."""
+    lines = []
+    for _ in range(chance.choice([0, 1, 1, 2, 3])):
+        low, high = sorted(chance.choice([0, 1, 2, 3, 9, 63]) for _ in range(2))
+        lines.append(f"{chance.choice([4, 5, 5, 5])} {low} {high} {chance.choice(['see', 'change'])}\n")
+    sheet = ("user low high may\n" + "".join(lines)).encode()
+    return sheets.damaged(chance, sheet) if chance.random() < 0.15 else sheet
+
+
+def of_a_tour(chance):
+    rules, tokens = drawn(chance, PAIRS)
+    words, rights = words_of_pair(chance, tokens), rights_sheet(chance)
+    user = chance.choice([5, 5, 5, 5, 0, 16, (1 << 64) - 1])
+    first, second = (lent_bytes(chance, rows) for rows in rows_of_pair(rules, tokens))
+    return f"show {hexed(rules)} {hexed(tokens)} {hexed(rights)} {user} {words} {first} {second} {salt(chance)}"
+
+
+def of_a_change(chance):
+    rules, _ = drawn(chance, {short: 8, rules_damaged: 1})
+    rights = rights_sheet(chance)
+    rule = chance.choice([1, 1, 2, 3, 0, len(rules.splitlines()) - 1, len(rules.splitlines())])
+    lay = chance.choice(["none", "align", "indent", "offside", "offalign", "single", "", "foo", "none ", "a\nb"])
+    size = chance.choice([len(rules) + 8, len(rules) + 40, max(len(rules) - 8, 0), chance.randint(0, len(rules))])
+    user = chance.choice([5, 5, 5, 4, 16])
+    return f"change {hexed(rules)} {hexed(rights)} {hexed(lay.encode())} {user} {max(rule, 0)} {size} {salt(chance)}"
+
+
 # --------------------------------------------------------------- what is drawn
 
 def long_sentence(chance):
@@ -409,15 +483,19 @@ def of_a_sweep(chance):
 
 # In thousandths; few questions are costly.
 QUESTIONS = {
-    of_a_verdict: 160,
-    of_trees: 240,
+    of_a_verdict: 110,
+    of_trees: 170,
     of_counts: 100,
-    of_places: 120,
-    of_a_line: 80,
+    of_places: 100,
+    of_a_line: 60,
     of_a_sweep: 110,
     of_clauses: 110,
     of_a_clause_sweep: 24,
     of_an_expansion: 30,
+    of_a_share: 30,
+    of_columns: 40,
+    of_a_tour: 50,
+    of_a_change: 40,
     late_sweep: 15,
     long_sentence: 30,
     full_sentence: 1,

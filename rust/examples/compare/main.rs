@@ -109,7 +109,10 @@ mod tests {
             (format!("verdict {rules} {tokens} 14 1"), format!("two 0 {words}")),
             (format!("trees {rules} {tokens} 14 20 20 1"), format!("two 0 {rows} {words}")),
             (format!("line {rules} {tokens}"), "refused-21 0 rules 0 0 -".to_string()),
-            (format!("sweep {rules} 3 14 1"), format!("two 0 {sentence} tried 11 words{}", " 0".repeat(14))),
+            (
+                format!("sweep {rules} 3 14 1"),
+                format!("two 0 {sentence} tried 11 words{}", " 0".repeat(14)),
+            ),
             (format!("rows {rules} {tokens} 14 1"), format!("two 0 counts 5 5 {words}")),
             (
                 format!("places {rules} {tokens} 14 4 1"),

@@ -3,7 +3,7 @@
 use std::fmt::{Display, Write};
 use std::str::FromStr;
 
-use teplonga::{clauses, places, rows};
+use teplonga::{change, clauses, columns, places, rows, share, show};
 use teplonga::{refused_line, sweep, trees, verdict};
 use teplonga::{Reply, RowCount, Rows, SweepReply, Token, TreesReply};
 
@@ -39,8 +39,9 @@ impl Question<'_> {
         let mut fields = line.split(' ');
         let call = fields.next().expect("a line has a first word");
         let count = match call.trim_start_matches("clause-") {
-            "verdict" | "trees" | "line" | "rows" | "places" => 2,
-            "sweep" | "expand" => 1,
+            "show" | "change" => 3,
+            "verdict" | "trees" | "line" | "rows" | "places" | "columns" => 2,
+            "sweep" | "expand" | "share" => 1,
             _ => panic!("no question: {line}"),
         };
         let sheets = fields.by_ref().take(count).map(sheet).collect();
@@ -75,6 +76,18 @@ impl Question<'_> {
                 places_answer(rules, tokens, words, list, salt)
             }
             ("expand", &[sheet], &[size, salt]) => expand_answer(sheet, size, salt),
+            ("share", &[rules], &[length, racks, index, words, salt]) => {
+                share_answer(rules, [length, racks, index], words, salt)
+            }
+            ("columns", &[rules, ranges], &[words, salt]) => {
+                columns_answer(rules, ranges, words, salt)
+            }
+            ("show", &[rules, tokens, rights], &[user, words, first, second, salt]) => {
+                show_answer([rules, tokens, rights], user, words, [first, second], salt)
+            }
+            ("change", &[rules, rights, lay], &[user, rule, size, salt]) => {
+                change_answer([rules, rights, lay], [user, rule], size, salt)
+            }
             _ => panic!("no question: {}", self.call),
         }
     }
@@ -137,9 +150,24 @@ fn trees_answer(
     let mut first = lent::bytes(salt + 1, rows[0] as usize);
     let mut second = lent::bytes(salt + 2, rows[1] as usize);
     let reply = (calls.trees)(rules, tokens, words.part_mut(), first.part_mut(), second.part_mut());
-    let mut text = format!("{} {}", reply.answer, reply.line);
-    text = put(text, format_args!(" rows {} {}", reply.first.len(), reply.second.len()));
-    let rows = [bytes_of(reply.first), bytes_of(reply.second)];
+    let (text, rows) = reply_text(reply);
+    with_memories(text, rows, [&first, &second], &words)
+}
+
+/// The answer, its line and the row counts; and the rows, as in memories.
+fn reply_text(reply: TreesReply) -> (String, [Vec<u8>; 2]) {
+    let counts = [reply.first.len(), reply.second.len()];
+    let text = format!("{} {} rows {} {}", reply.answer, reply.line, counts[0], counts[1]);
+    (text, [bytes_of(reply.first), bytes_of(reply.second)])
+}
+
+/// The tree memories and the words behind an answer.
+fn with_memories(
+    mut text: String,
+    rows: [Vec<u8>; 2],
+    [first, second]: [&Lent<u8>; 2],
+    words: &Lent<u64>,
+) -> String {
     text = put(text, format_args!(" first {}", hexed(first.part())));
     text = put(text, format_args!(" second {}", hexed(second.part())));
     text = put(text, format_args!(" {}", shown_words(words.part())));
@@ -210,6 +238,47 @@ fn places_answer(rules: &[u8], tokens: &[u8], words: u64, size: u64, salt: u64) 
 fn expand_answer(sheet: &[u8], size: u64, salt: u64) -> String {
     let mut lent = lent::bytes(salt, size as usize);
     let reply = clauses::expand(sheet, lent.part_mut());
+    let text = format!("{} {} bytes {}", reply.answer, reply.line, reply.sheet.len());
+    format!("{text} sheet {}{}", hexed(lent.part()), remark(lent.sides_kept()))
+}
+
+fn share_answer(rules: &[u8], numbers: [u64; 3], words: u64, salt: u64) -> String {
+    let mut words = lent::words(salt, words as usize);
+    let [length, racks, index] = numbers.map(|number| number as usize);
+    let reply = share(rules, length, racks, index, words.part_mut());
+    let mut text = format!("{} {}", reply.found.answer, reply.found.line);
+    let numbers = [reply.number, reply.quotient, reply.remainder];
+    text = put(text, format_args!(" numbers {} {} {} found", numbers[0], numbers[1], numbers[2]));
+    for Token { terminal, line, column } in reply.sentence() {
+        text = put(text, format_args!(" {terminal}/{}/{}", line.0, column.0));
+    }
+    if reply.sentence().is_empty() {
+        text += " -";
+    }
+    format!("{text} {}{}", shown_words(words.part()), remark(words.sides_kept()))
+}
+
+fn columns_answer(rules: &[u8], ranges: &[u8], words: u64, salt: u64) -> String {
+    let mut words = lent::words(salt, words as usize);
+    let reply = columns(rules, ranges, words.part_mut());
+    let [none, one, two] = [reply.none, reply.one, reply.two].map(u8::from);
+    let text = format!("{} {} flags {none} {one} {two}", reply.answer, reply.line);
+    format!("{text} {}{}", shown_words(words.part()), remark(words.sides_kept()))
+}
+
+fn show_answer(sheets: [&[u8]; 3], user: u64, words: u64, rows: [u64; 2], salt: u64) -> String {
+    let mut words = lent::words(salt, words as usize);
+    let mut first = lent::bytes(salt + 1, rows[0] as usize);
+    let mut second = lent::bytes(salt + 2, rows[1] as usize);
+    let lent = (words.part_mut(), first.part_mut(), second.part_mut());
+    let (text, rows) = reply_text(show(sheets, user as usize, lent.0, lent.1, lent.2));
+    with_memories(text, rows, [&first, &second], &words)
+}
+
+fn change_answer(sheets: [&[u8]; 3], numbers: [u64; 2], size: u64, salt: u64) -> String {
+    let mut lent = lent::bytes(salt, size as usize);
+    let ([rules, rights, lay], [user, rule]) = (sheets, numbers.map(|number| number as usize));
+    let reply = change(rules, rights, user, rule, lay, lent.part_mut());
     let text = format!("{} {} bytes {}", reply.answer, reply.line, reply.sheet.len());
     format!("{text} sheet {}{}", hexed(lent.part()), remark(lent.sides_kept()))
 }

@@ -3,7 +3,7 @@
 use std::collections::BTreeMap;
 
 /// The calls, as questions name them.
-const CALLS: [&str; 11] = [
+const CALLS: [&str; 15] = [
     "verdict",
     "trees",
     "rows",
@@ -15,23 +15,33 @@ const CALLS: [&str; 11] = [
     "clause-sweep",
     "clause-line",
     "expand",
+    "share",
+    "columns",
+    "show",
+    "change",
 ];
 
 /// The answers that a call must have given at least once in a whole run.
 fn required(call: &str) -> Vec<String> {
     let words: &[&str] = match call.trim_start_matches("clause-") {
         "verdict" | "trees" | "rows" | "places" => &["none", "one", "two"],
-        "sweep" => &["two", "clear"],
-        "expand" => &["given"],
+        "show" => &["none", "one", "two"],
+        "sweep" | "share" => &["two", "clear"],
+        "expand" | "columns" | "change" => &["given"],
         _ => &[],
     };
     let rules: &[u8] = match call {
-        "expand" => &[1, 7, 8, 41, 42, 43],
-        _ if call.starts_with("clause-") => &[1, 7, 8, 41, 43],
-        _ => &[1, 2, 3, 4, 5, 6, 7, 8, 44],
+        "expand" => &[1, 7, 41, 42, 43],
+        "share" | "columns" | "change" => &[1, 2],
+        _ if call.starts_with("clause-") => &[1, 7, 41, 43],
+        _ => &[1, 2, 3, 4, 5, 6, 7, 44],
     };
     let others: &[u8] = match call {
         "sweep" => &[21, 23, 24],
+        "share" => &[21, 23, 45, 46],
+        "columns" => &[11, 12, 13, 48, 49, 21],
+        "show" => &[12, 13, 50, 21, 22],
+        "change" => &[4, 22, 50, 51],
         "clause-sweep" => &[21, 23],
         "trees" | "places" => &[11, 12, 13, 14, 15, 47, 21, 22],
         "clause-trees" => &[12, 13, 15, 21, 22],
@@ -46,7 +56,7 @@ fn required(call: &str) -> Vec<String> {
 /// The answers in the order of the table.
 fn answers() -> Vec<String> {
     let words = ["none", "one", "two", "clear", "given"].map(str::to_string);
-    let numbers = (1..=8).chain(11..=15).chain(21..=24).chain([41, 42, 43, 44, 47]);
+    let numbers = (1..=7).chain(11..=15).chain(21..=24).chain(41..=51);
     words.into_iter().chain(numbers.map(|number| format!("refused-{number}"))).collect()
 }
 
@@ -93,7 +103,7 @@ impl Tally {
 
     /// Prints the counts as a table, those of clause sheets below.
     pub fn show(&self) {
-        for calls in CALLS.chunks(6) {
+        for calls in CALLS.chunks(8) {
             row("answer", calls.iter().map(|call| call.to_string()));
             for answer in answers() {
                 row(&answer, calls.iter().map(|call| self.met(call, &answer).to_string()));
