@@ -426,7 +426,7 @@ def of_a_tour(chance):
 
 def of_a_change(chance):
     rules, _ = drawn(chance, {short: 8, rules_damaged: 1})
-    rights = rights_sheet(chance)
+    rights = rights_sheet(chance) if chance.random() < 0.4 else b"user low high may\n5 0 63 change\n"
     rule = chance.choice([1, 1, 2, 3, 0, len(rules.splitlines()) - 1, len(rules.splitlines())])
     lay = chance.choice(["none", "align", "indent", "offside", "offalign", "single", "", "foo", "none ", "a\nb"])
     size = chance.choice([len(rules) + 8, len(rules) + 40, max(len(rules) - 8, 0), chance.randint(0, len(rules))])
