@@ -17,8 +17,9 @@
  * its own lent memory. They allocate nothing, take no lock, set no errno and make no system call.
  *
  * Stack: the verdict, a sweep, a share, a changed mark and the refused line need 16 KB, places 32 KB,
- * the other calls on clause sheets 40 KB, columns 160 KB, trees, row counts and trees shown 300 KB,
- * those of clause sheets too, whatever they are asked. TEPLONGA_STACK bytes are enough for any call.
+ * columns 160 KB, trees, row counts and trees shown 300 KB, whatever they are asked. A call on a clause
+ * sheet needs up to 800 KB: its readers call each other, most deeply in groups within groups.
+ * TEPLONGA_STACK bytes are enough for any call.
  *
  * Time: a verdict or its trees take some milliseconds on the largest sheets. A sweep may take long:
  * sheets can be built whose sweep takes minutes, and it cannot be interrupted, so run it in a thread
@@ -38,7 +39,7 @@ extern "C" {
 #define TEPLONGA_VERSION "0.1.0"
 
 /* The bytes of stack that are enough for any call. */
-#define TEPLONGA_STACK 393216
+#define TEPLONGA_STACK 1048576
 
 /*
  * Each call but those for a refused line answers one number: the answer's code in its upper 32 bits and the refused line's

@@ -135,7 +135,7 @@ ask() { # PROGRAM FILE
     out=$("$top/target/bin/$1")
     ended=$?
     if [ "$ended" -gt 128 ]; then
-        unanswered "$2: the program was ended by signal $((ended - 128)) (does the stack have 1 MB?)"
+        unanswered "$2: the program was ended by signal $((ended - 128)) (does the stack have 2 MB?)"
         return 1
     elif [ "$ended" -ne 0 ] || [ -z "$out" ]; then
         unanswered "$2: no answer"

@@ -613,6 +613,8 @@ static void threads(void)
 /* A large sheet that loops, a long sentence and a long sweep, for the stack; their memory is not on it. */
 static char big_rules[4000], big_tokens[2000], big_ranges[2000], big_sweep[400];
 static uint64_t big_words[4162], big_found[TEPLONGA_FOUND], big_counts[TEPLONGA_COUNTS], big_numbers[3];
+/* Groups in groups and a long sequence in the innermost: the readers of clauses call each other most deeply. */
+static char big_clauses[400];
 static const uint8_t big_rights[] = RIGHTS "5 0 63 change\n", big_lay[] = "single";
 static uint8_t big_first[16384], big_second[16384], big_list[49152];
 
@@ -628,6 +630,15 @@ static void make_big(void)
     strcpy(big_ranges, RANGE_NAMES);
     for (int i = 0; i < TEPLONGA_MOST_TOKENS; i++)
         sprintf(big_ranges + strlen(big_ranges), "0 %d %d %d\n", i + 1, i + 1, i == 62 ? i + 2 : i + 1);
+    strcpy(big_clauses, "left clause\n0 ");
+    for (int i = 0; i < 15; i++)
+        strcat(big_clauses, "(n0 ");
+    strcat(big_clauses, "(n0");
+    for (int i = 0; i < 60; i++)
+        strcat(big_clauses, " n0");
+    for (int i = 0; i < 16; i++)
+        strcat(big_clauses, ")");
+    strcat(big_clauses, "\n");
     strcpy(big_sweep, RULE_NAMES "0 B 1 2 none\n0 B 3 2 none\n1 B 5 6 align\n3 B 5 6 indent\n2 B 5 4 none\n4 B 5 5 none\n5 A 0 - none\n6 A 0 - none\n");
 }
 
@@ -654,10 +665,10 @@ static void *big_calls(void *which)
         teplonga_places(rules, r, tokens, t, big_words, 4162, big_list, sizeof big_list, big_counts, 1);
         break;
     case 5:
-        teplonga_clause_trees((const uint8_t *)CLAUSES, sizeof CLAUSES - 1, tokens, t, big_words, 4162, big_first, 16384, big_second, 16384, big_counts, 2);
+        teplonga_clause_trees((const uint8_t *)big_clauses, strlen(big_clauses), tokens, t, big_words, 4162, big_first, 16384, big_second, 16384, big_counts, 2);
         break;
     case 6:
-        teplonga_expand((const uint8_t *)CLAUSES, sizeof CLAUSES - 1, big_first, 16384, big_counts, 1);
+        teplonga_expand((const uint8_t *)big_clauses, strlen(big_clauses), big_first, 16384, big_counts, 1);
         break;
     case 7:
         teplonga_columns(rules, r, (const uint8_t *)big_ranges, strlen(big_ranges), big_words, 4162, big_counts, 2);

@@ -350,11 +350,12 @@ class Programs(Room):
         self.assertEqual(script.returncode == 3, b"temporarily unavailable" in errors)
 
     def test_the_stack_that_README_states(self):
-        called = b"call\nclauses\n\n" + CLAUSES + TOKENS
+        nested = b"left clause\n0 " + b"(n0 " * 15 + b"(n0" + b" n0" * 60 + b")" * 16 + b"\n"
+        called = b"call\nclauses\n\n" + nested + TOKENS
         for name, size, data, wanted in (
             ("checker", 640, GOOD, TWO),
             ("sweeper", 320, SWEPT, teplonga.sweep_program(SWEPT)),
-            ("calls", 900, called, calls.calls_program(called)),
+            ("calls", 1100, called, calls.calls_program(called)),
         ):
             self.assertEqual(run("sh", "-c", f"ulimit -s {size} && '{BUILT / name}'", data=data), (0, wanted, ""))
 
