@@ -21,7 +21,7 @@ from pathlib import Path
 
 import clause_cases
 import clauses
-from make_programs import differs, framed
+from make_programs import framed, kept
 
 
 def case_input(kind, sheet, second):
@@ -64,17 +64,7 @@ def main(arguments):
         b"".join(framed(case_input(*case)) for case in listed),
         b"".join(case_output(*case) for case in listed),
     )
-    status = 0
-    for path, text in zip(paths, made):
-        if not check:
-            path.write_bytes(text)
-            print(f"{path}: {len(listed)} cases, {len(text)} bytes written")
-        elif differs(path, text):
-            print(f"{path}: differs")
-            status = 1
-        else:
-            print(f"{path}: the same")
-    return status
+    return kept(paths, made, check)
 
 
 if __name__ == "__main__":

@@ -63,8 +63,19 @@ def astray(meant, outputs):
     return None
 
 
-def differs(path, made):
-    return not path.is_file() or path.read_bytes() != made
+def kept(paths, made, check):
+    """Writes what was made, or compares it with what is there; status 1 if not the same."""
+    status = 0
+    for path, text in zip(paths, made):
+        if not check:
+            path.write_bytes(text)
+            print(f"{path}: {len(text)} bytes written")
+        elif path.is_file() and path.read_bytes() == text:
+            print(f"{path}: the same")
+        else:
+            print(f"{path}: differs")
+            status = 1
+    return status
 
 
 def main(arguments):
@@ -83,18 +94,7 @@ def main(arguments):
             return 1
         inputs += texts
         outputs += answers
-    status = 0
-    made = (b"".join(map(framed, inputs)), b"".join(outputs))
-    for path, text in zip(map(Path, named[1:]), made):
-        if not check:
-            path.write_bytes(text)
-            print(f"{path}: {len(inputs)} cases, {len(text)} bytes written")
-        elif differs(path, text):
-            print(f"{path}: differs")
-            status = 1
-        else:
-            print(f"{path}: the same")
-    return status
+    return kept(map(Path, named[1:]), (b"".join(map(framed, inputs)), b"".join(outputs)), check)
 
 
 if __name__ == "__main__":

@@ -15,6 +15,7 @@ import sys
 from pathlib import Path
 
 import teplonga
+from make_programs import kept
 from reading_cases import cases
 
 
@@ -55,27 +56,13 @@ def all_output():
     return b"".join(expected(rules, tokens) for rules, tokens in cases())
 
 
-def differs(path, made):
-    return not path.is_file() or path.read_bytes() != made
-
-
 def main(arguments):
     check = "--check" in arguments
     paths = [Path(each) for each in arguments if each != "--check"]
     if len(paths) != 2:
         print("usage: make_reading.py [--check] INPUT OUTPUT", file=sys.stderr)
         return 2
-    status = 0
-    for path, made in zip(paths, (all_input(), all_output())):
-        if not check:
-            path.write_bytes(made)
-            print(f"{path}: {len(made)} bytes written")
-        elif differs(path, made):
-            print(f"{path}: differs")
-            status = 1
-        else:
-            print(f"{path}: the same")
-    return status
+    return kept(paths, (all_input(), all_output()), check)
 
 
 if __name__ == "__main__":

@@ -18,7 +18,7 @@ from pathlib import Path
 
 import share_cases
 import shares
-from make_programs import differs, framed
+from make_programs import framed, kept
 
 
 def written(case):
@@ -38,17 +38,7 @@ def main(arguments):
         if answer is not None and not made.startswith(b"answer line\n" + answer.encode()):
             print("case %r\n  got   %r\n  meant %r" % (case, made, answer))
             return 1
-    status = 0
-    for path, text in zip(paths, (b"".join(map(written, listed)), b"".join(outputs))):
-        if not check:
-            path.write_bytes(text)
-            print(f"{path}: {len(listed)} cases, {len(text)} bytes written")
-        elif differs(path, text):
-            print(f"{path}: differs")
-            status = 1
-        else:
-            print(f"{path}: the same")
-    return status
+    return kept(paths, (b"".join(map(written, listed)), b"".join(outputs)), check)
 
 
 if __name__ == "__main__":

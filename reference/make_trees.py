@@ -22,7 +22,7 @@ import places
 import rows
 import tours
 import tree_cases
-from make_programs import differs, framed
+from make_programs import framed, kept
 
 
 def output(case):
@@ -64,18 +64,7 @@ def main(arguments):
     if wrong is not None:
         print("case %r\n  got   %r\n  meant %r" % wrong)
         return 1
-    status = 0
-    made = (b"".join(map(written, listed)), b"".join(outputs))
-    for path, text in zip(paths, made):
-        if not check:
-            path.write_bytes(text)
-            print(f"{path}: {len(listed)} cases, {len(text)} bytes written")
-        elif differs(path, text):
-            print(f"{path}: differs")
-            status = 1
-        else:
-            print(f"{path}: the same")
-    return status
+    return kept(paths, (b"".join(map(written, listed)), b"".join(outputs)), check)
 
 
 if __name__ == "__main__":

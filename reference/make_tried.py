@@ -13,7 +13,7 @@ from pathlib import Path
 
 import far
 import teplonga
-from make_programs import differs, framed
+from make_programs import framed, kept
 
 NAMES = "left kind first second lay"
 
@@ -109,15 +109,7 @@ def main(arguments):
         b"".join(framed(b"%05d" % bound + rules) for bound, rules in cases),
         b"".join(b"%d\n" % tried(bound, rules) for bound, rules in cases),
     )
-    status = 0
-    for path, text in zip(map(Path, named), made):
-        if not check:
-            path.write_bytes(text)
-            print(f"{path}: {len(cases)} cases, {len(text)} bytes written")
-        else:
-            status |= differs(path, text)
-            print(f"{path}: {'differs' if differs(path, text) else 'the same'}")
-    return status
+    return kept(map(Path, named), made, check)
 
 
 if __name__ == "__main__":
