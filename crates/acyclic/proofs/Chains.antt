@@ -17,16 +17,16 @@ use Rattle.grammar.specs.Cycles.{Nullable, Edge, by-unary, by-left, by-right, C
 use Rattle.grammar.specs.Content.{rules, SmallRule, Formed}
 use Rattle.grammar.proofs.Lists.{mem-every}
 use Rattle.acyclic.specs.Exact.{Exactly}
-use Rattle.acyclic.specs.Passes.{Leads, AddsTargets}
+use Rattle.acyclic.specs.Passes.{LeadsTo, AddsTargets}
 
 -- ns are the nullable nonterminals
 module _ {g : Rules} {ns : ℕ} (x : Exactly ns (Nullable g)) where
-  edge-by : (A : ℕ) (c : Clause) (Y : ℕ) → List·Memᴰ (record { left = A; clause = c }) g → Leads ns c Y → Edge g A Y
+  edge-by : (A : ℕ) (c : Clause) (Y : ℕ) → List·Memᴰ (record { left = A; clause = c }) g → LeadsTo ns c Y → Edge g A Y
   edge-by A (Clause.Unary B k) Y m h = rw h at (by-unary k m)
   edge-by A (Clause.Binary B C k) Y m (inl h) = rw (h .0) at (by-left C k m (x .is C (h .1)))
   edge-by A (Clause.Binary B C k) Y m (inr h) = rw (h .0) at (by-right B k m (x .is B (h .1)))
 
-  of-edge : {A Y : ℕ} → Edge g A Y → (r : Rule) × List·Memᴰ r g × (r .left ≡ A) × Leads ns (r .clause) Y
+  of-edge : {A Y : ℕ} → Edge g A Y → (r : Rule) × List·Memᴰ r g × (r .left ≡ A) × LeadsTo ns (r .clause) Y
   of-edge (by-unary k m) = (_, m, refl, refl)
   of-edge (by-left C k m n) = (_, m, refl, inl (refl, x .all C n))
   of-edge (by-right B k m n) = (_, m, refl, inr (refl, x .all B n))

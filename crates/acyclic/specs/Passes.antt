@@ -35,12 +35,12 @@ abbrev pub AddsLeft : ℕ → Rule → ℕ → Type 0
 AddsLeft s r Y = (r .left ≡ Y) × Ready s (r .clause)
 
 -- a rule with this clause has an edge to Y; ns are the nullable nonterminals
-abbrev pub Leads : ℕ → Clause → ℕ → Type 0
-Leads ns Clause.Empty Y = ⊥
-Leads ns (Clause.Atom a b) Y = ⊥
-Leads ns (Clause.Unary B m) Y = B ≡ Y
-Leads ns (Clause.Binary B C m) Y = ((B ≡ Y) × In ns C) ⊎ ((C ≡ Y) × In ns B)
+abbrev pub LeadsTo : ℕ → Clause → ℕ → Type 0
+LeadsTo ns Clause.Empty Y = ⊥
+LeadsTo ns (Clause.Atom a b) Y = ⊥
+LeadsTo ns (Clause.Unary B m) Y = B ≡ Y
+LeadsTo ns (Clause.Binary B C m) Y = ((B ≡ Y) × In ns C) ⊎ ((C ≡ Y) × In ns B)
 
 -- the rule adds Y to what chains from a reach, s: its left is a or a member
 abbrev pub AddsTargets : ℕ → ℕ → ℕ → Rule → ℕ → Type 0
-AddsTargets ns a s r Y = ((r .left ≡ a) ⊎ In s (r .left)) × Leads ns (r .clause) Y
+AddsTargets ns a s r Y = ((r .left ≡ a) ⊎ In s (r .left)) × LeadsTo ns (r .clause) Y

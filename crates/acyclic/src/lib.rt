@@ -9,7 +9,7 @@ ghost use Rattle.grammar.specs.Content.{rules, SmallClause, SmallRule, Formed};
 ghost use mathlib.Core.Path.{_≡_};
 ghost use Prim.Native.Nat.{_<_};
 ghost use Rattle.acyclic.specs.Exact.{Exactly};
-ghost use Rattle.acyclic.specs.Passes.{Grown, Passed, Ready, AddsLeft, Leads, AddsTargets};
+ghost use Rattle.acyclic.specs.Passes.{Grown, Passed, Ready, AddsLeft, LeadsTo, AddsTargets};
 
 // Do members of the set make the clause's word empty?
 fn ready(set: u64, c: Clause) -> bool
@@ -87,7 +87,7 @@ fn beside(nulls: u64, d: u8, set: u64, b: u8) -> u64
 // The set with the nonterminals besides that a rule with this clause has edges to.
 fn with_targets(nulls: u64, set: u64, c: Clause) -> u64
     requires { ⌜ SmallClause c ⌝ }
-    ensures { λ r. ⌜ Grown (Leads nulls c) set r ⌝ }
+    ensures { λ r. ⌜ Grown (LeadsTo nulls c) set r ⌝ }
 {
     match c {
         Clause::Empty => set,

@@ -10,14 +10,14 @@ use Rattle.grammar.specs.Trees.{Rules}
 use Rattle.grammar.specs.SpanSheet.{pairs}
 use Rattle.choosing.specs.declared.Flags.{Flags}
 use Rattle.chart.specs.declared.Verdict.the-variants as Verdict
-use Rattle.choosing.specs.Answers.{Settled}
+use Rattle.choosing.specs.Answers.{FlagsSay}
 use Rattle.sheets.proofs.Numbers.{same-fault}
 use Rattle.column_ranges.specs.Ranges.{Ranges}
 use Rattle.sheets.specs.declared.Fault.{Fault}
 use Rattle.teplonga.specs.declared.Answer.the-variants as Answer
 use Rattle.call_columns.specs.declared.ColumnsReply.{ColumnsReply}
 use Rattle.sheets.specs.Items.{Reading, accepted, refused}
-use Rattle.call_columns.specs.Columns.{refusal, ColumnsOn, short, given, ColumnsOf, bad-rules, bad-ranges, reading}
+use Rattle.call_columns.specs.Columns.{columnsRefusal, ColumnsOn, short, given, ColumnsOf, bad-rules, bad-ranges, reading}
 
 -- two bools that say the same thing are the same
 says-same : {P : Type 0} (a b : Bool) → Says a P → Says b P → a ≡ b
@@ -26,7 +26,7 @@ says-same true false s t = absurd (t .isnt refl (s .is refl))
 says-same false true s t = absurd (s .isnt refl (t .is refl))
 says-same false false s t = refl
 
-pub flags-same : {g : Rules} {rs : Ranges} (f f′ : Flags) → Settled g rs f → Settled g rs f′ → f ≡ f′
+pub flags-same : {g : Rules} {rs : Ranges} (f f′ : Flags) → FlagsSay g rs f → FlagsSay g rs f′ → f ≡ f′
 flags-same f f′ s t =
     let a = says-same (f .none) (f′ .none) (s .says Verdict.None) (t .says Verdict.None) in
     let b = says-same (f .one) (f′ .one) (s .says Verdict.One) (t .says Verdict.One) in
@@ -34,7 +34,7 @@ flags-same f f′ s t =
     λ i. record { none = a i; one = b i; two = c i }
 
 pub columns-on : (g : Rules) (rs : Ranges) {ws a b : List ℕ} {r s : ColumnsReply} → ColumnsOn g rs ws a r → ColumnsOn g rs ws b s → (r ≡ s) × (a ≡ b)
-columns-on g rs (short {f = f} l n x h) (short {f = f′} m o y k) = (x ∙ ap (λ (z : Fault). refusal z 0) (same-fault f f′ 21 n o) ∙ sym y, h ∙ sym k)
+columns-on g rs (short {f = f} l n x h) (short {f = f′} m o y k) = (x ∙ ap (λ (z : Fault). columnsRefusal z 0) (same-fault f f′ 21 n o) ∙ sym y, h ∙ sym k)
 columns-on g rs (short l n x h) (given m o y k) = absurd (omega (arith, l, m))
 columns-on g rs (given m o y k) (short l n x h) = absurd (omega (arith, l, m))
 columns-on g rs (given {f = f} l n x h) (given {f = f′} m o y k) =
@@ -51,8 +51,8 @@ same-items e d = cc
 same-refusal : {A : Type 0} {o : Reading A} {f f′ : Fault} {l l′ : ℕ} → o ≡ refused f l → o ≡ refused f′ l′ → (f ≡ f′) × (l ≡ l′)
 same-refusal e d = (cc, cc)
 
-refusals : {f f′ : Fault} {l l′ : ℕ} {ws a b : List ℕ} {r s : ColumnsReply} → (f ≡ f′) × (l ≡ l′) → r ≡ refusal f l → s ≡ refusal f′ l′ → a ≡ ws → b ≡ ws → (r ≡ s) × (a ≡ b)
-refusals z x y h k = (x ∙ (λ i. refusal (z .0 i) (z .1 i)) ∙ sym y, h ∙ sym k)
+refusals : {f f′ : Fault} {l l′ : ℕ} {ws a b : List ℕ} {r s : ColumnsReply} → (f ≡ f′) × (l ≡ l′) → r ≡ columnsRefusal f l → s ≡ columnsRefusal f′ l′ → a ≡ ws → b ≡ ws → (r ≡ s) × (a ≡ b)
+refusals z x y h k = (x ∙ (λ i. columnsRefusal (z .0 i) (z .1 i)) ∙ sym y, h ∙ sym k)
 
 pub columns-settled : (rules ranges : List ℕ) {ws a b : List ℕ} {r s : ColumnsReply}
     → ColumnsOf rules ranges ws a r → ColumnsOf rules ranges ws b s → (r ≡ s) × (a ≡ b)

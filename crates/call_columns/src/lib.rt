@@ -11,8 +11,8 @@ use spans::size;
 use teplonga::Answer;
 ghost use mathlib.Core.Path.{_≡_};
 ghost use Rattle.grammar.specs.Content.{rules as rulesOf, Formed};
-ghost use Rattle.column_ranges.specs.Ranges.{ranged, Spread};
-ghost use Rattle.call_columns.specs.Columns.{refusal, ColumnsOn, ColumnsOf};
+ghost use Rattle.column_ranges.specs.Ranges.{rangesOf, Spread};
+ghost use Rattle.call_columns.specs.Columns.{columnsRefusal, ColumnsOn, ColumnsOf};
 
 // Given, or refused with the refused line's number, or 0; and of each verdict: does some rising choice give it? On a refusal
 // all three are no.
@@ -24,7 +24,7 @@ pub struct ColumnsReply {
 
 // A refused call.
 fn refuse(f: Fault, line: usize) -> ColumnsReply
-    ensures { λ r. ⌜ r ≡ refusal f line ⌝ }
+    ensures { λ r. ⌜ r ≡ columnsRefusal f line ⌝ }
 {
     ColumnsReply {
         answer: Answer::Refused(f),
@@ -41,7 +41,7 @@ fn refuse(f: Fault, line: usize) -> ColumnsReply
 fn answered(g: Grammar, r: RangeSentence, words: &mut [u64]) -> ColumnsReply
     requires { ⌜ Formed g ⌝ }
     requires { ⌜ Spread r ⌝ }
-    ensures { λ a. ⌜ ColumnsOn (rulesOf g) (ranged r) (now (words .entry)) (now (words .exit)) a ⌝ }
+    ensures { λ a. ⌜ ColumnsOn (rulesOf g) (rangesOf r) (now (words .entry)) (now (words .exit)) a ⌝ }
 {
     let n = r.count;
     if words.len() < size(n) {

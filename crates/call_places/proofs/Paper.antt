@@ -25,13 +25,13 @@ use Rattle.sheets.specs.Items as Sheet
 use Rattle.sheets.specs.RuleSheets.{ruleSheet}
 use Rattle.sheets.specs.TokenSheets.{tokenSheet}
 use Rattle.sheets.proofs.Accepted.{GoodTokens, tokens-good}
-use Rattle.teplonga.specs.Answers.{accepted, withTokens, withRules, sheets, Says}
+use Rattle.teplonga.specs.Answers.{accepted, withTokens, withRules, sheets, AnswerHolds}
 use Rattle.teplonga.proofs.Settled.{apart, sheets-apart}
 
 -- the list is empty exactly if the verdict is not two
-pub count-two : (g : Rules) (w : Word) (a : Answer) (es : List Entry) → Distinct g → Says a g w → AllPlaces g w es → (length es ≡ 0) ↔ (a ≡ Answer.Two → ⊥)
+pub count-two : (g : Rules) (w : Word) (a : Answer) (es : List Entry) → Distinct g → AnswerHolds a g w → AllPlaces g w es → (length es ≡ 0) ↔ (a ≡ Answer.Two → ⊥)
 count-two g w a es d s l = (
-  λ n e. places-empty d l .0 (none es n) (subst (λ (b : Answer). Says b g w) e s),
+  λ n e. places-empty d l .0 (none es n) (subst (λ (b : Answer). AnswerHolds b g w) e s),
   λ n. ap length (places-empty d l .1 (not-two a s n)),
 )
   where
@@ -39,7 +39,7 @@ count-two g w a es d s l = (
     none [] n = refl
     none (e ∷ es) n = absurd (omega arith)
 
-    not-two : (a : Answer) → Says a g w → (a ≡ Answer.Two → ⊥) → TwoTrees g 0 w → ⊥
+    not-two : (a : Answer) → AnswerHolds a g w → (a ≡ Answer.Two → ⊥) → TwoTrees g 0 w → ⊥
     not-two Answer.None s n t = none-not-two s t
     not-two Answer.One s n t = one-not-two s t
     not-two Answer.Two s n t = n refl

@@ -15,10 +15,10 @@ use Rattle.places.proofs.ListLaws.{places-none}
 use Rattle.place_list.specs.Given.{PlacesGiven}
 use Rattle.sheets.specs.declared.Fault.the-variants as Fault
 use Rattle.teplonga.specs.declared.Answer.{Answer}
-use Rattle.teplonga.specs.Answers.{Says}
-use Rattle.teplonga.specs.Verdict.{Filled}
+use Rattle.teplonga.specs.Answers.{AnswerHolds}
+use Rattle.teplonga.specs.Verdict.{SheetFilled}
 use Rattle.call_places.specs.declared.PlacesReply.{PlacesReply}
-use Rattle.call_places.specs.Places.{refusal, PlacesOn, short, listing}
+use Rattle.call_places.specs.Places.{placesRefusal, PlacesOn, short, listing}
 use Rattle.call_places.specs.Replies.{NothingGiven, replied}
 
 -- 64 tokens have 2,081 pairs
@@ -27,13 +27,13 @@ unfolding pairs
 pairs-most n h = omega (arith, mul-le-mul-right (n + 1) h)
 
 module _ {g : Rules} {w : Word} where
-  pub too-few : {n : ℕ} {ws l : List ℕ} {r : PlacesReply} → length w ≡ n → length ws < 2 * pairs n → r ≡ refusal Fault.FewWords 0 → PlacesOn g w ws ws l l r
+  pub too-few : {n : ℕ} {ws l : List ℕ} {r : PlacesReply} → length w ≡ n → length ws < 2 * pairs n → r ≡ placesRefusal Fault.FewWords 0 → PlacesOn g w ws ws l l r
   too-few e h q = short (omega (arith, ap pairs e)) refl q refl refl
 
   -- where there are not two trees, there is no place
   pub given-none : {l l′ : List ℕ} {c : Listed} → Distinct g → (TwoTrees g 0 w → ⊥) → NothingGiven l l′ c → PlacesGiven g w l l′ c
   given-none d n x = record { entries = []; places = places-none d n; gives = x }
 
-  pub placed : {ws ws′ l l′ : List ℕ} {c : Listed} {r : PlacesReply} (a : Answer) → Filled g w ws ws′ → Says a g w → PlacesGiven g w l l′ c → r ≡ replied a c
+  pub placed : {ws ws′ l l′ : List ℕ} {c : Listed} {r : PlacesReply} (a : Answer) → SheetFilled g w ws ws′ → AnswerHolds a g w → PlacesGiven g w l l′ c → r ≡ replied a c
       → PlacesOn g w ws ws′ l l′ r
   placed a f s x e = rw e (listing s (x .places) refl (gives-map (replied a) (x .gives)) f)

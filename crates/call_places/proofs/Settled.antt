@@ -6,7 +6,7 @@ use native.Mathlib.Omega.{arith}
 use lib.ListN.{length}
 use Rattle.grammar.specs.Layout.{Word}
 use Rattle.grammar.specs.Trees.{Rules}
-use Rattle.lists.specs.Lists.{bytesOf, Gives}
+use Rattle.lists.specs.Lists.{bytesOf, GivesList}
 use Rattle.lists.proofs.Settled.{gives-settled}
 use Rattle.places.specs.Places.{Entry, entryBytes}
 use Rattle.places.proofs.ListLaws.{places-same}
@@ -15,21 +15,21 @@ use Rattle.sheets.proofs.Numbers.{same-fault}
 use Rattle.teplonga.specs.declared.Answer.{Answer}
 use Rattle.teplonga.proofs.Settled.{Words, says-one, filled-same, apart, same-sheets, same-refusal}
 use Rattle.call_places.specs.declared.PlacesReply.{PlacesReply}
-use Rattle.call_places.specs.Places.{reply, refusal, PlacesOn, short, listing, PlacesOf, refusing, reading}
+use Rattle.call_places.specs.Places.{placesReplyOf, placesRefusal, PlacesOn, short, listing, PlacesOf, refusing, reading}
 
 -- the same reply, the same words and the same bytes
 abbrev Same : (a b c d : List ℕ) (r s : PlacesReply) → Type 0
 Same a b c d r s = (r ≡ s) × ((a ≡ b) × (c ≡ d))
 
 same-list : {a b : Answer} {f h : Fault} {es fs : List Entry} {lent l : List ℕ} {r : PlacesReply} → a ≡ b → f ≡ h → es ≡ fs
-    → Gives (reply a) (refusal f 0) (bytesOf entryBytes es) (length es) lent l r → Gives (reply b) (refusal h 0) (bytesOf entryBytes fs) (length fs) lent l r
+    → GivesList (placesReplyOf a) (placesRefusal f 0) (bytesOf entryBytes es) (length es) lent l r → GivesList (placesReplyOf b) (placesRefusal h 0) (bytesOf entryBytes fs) (length fs) lent l r
 same-list {lent = lent} {l} {r} p q e x =
-    transport (λ i. Gives (reply (p i)) (refusal (q i) 0) (bytesOf entryBytes (e i)) (length (e i)) lent l r) x
+    transport (λ i. GivesList (placesReplyOf (p i)) (placesRefusal (q i) 0) (bytesOf entryBytes (e i)) (length (e i)) lent l r) x
 
 places-on : (g : Rules) (w : Word) {ws a b l m n : List ℕ} {r s : PlacesReply} → Words a → Words b → PlacesOn g w ws a l m r → PlacesOn g w ws b l n s
     → Same a b m n r s
 places-on g w p q (short {f = f} h i x j k) (short {f = f′} h′ i′ y j′ k′) =
-    (x ∙ ap (λ (z : Fault). refusal z 0) (same-fault f f′ 21 i i′) ∙ sym y, (j ∙ sym j′, k ∙ sym k′))
+    (x ∙ ap (λ (z : Fault). placesRefusal z 0) (same-fault f f′ 21 i i′) ∙ sym y, (j ∙ sym j′, k ∙ sym k′))
 places-on g w p q (short h i x j k) (listing s t n y f) = absurd (omega (arith, f .sheet .enough, f .long))
 places-on g w p q (listing s t n y f) (short h i x j k) = absurd (omega (arith, f .sheet .enough, f .long))
 places-on g w p q (listing {a = a} {f = f} s t n x u) (listing {a = a′} {f = f′} s′ t′ n′ y u′) =

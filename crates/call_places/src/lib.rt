@@ -19,7 +19,7 @@ ghost use Rattle.grammar.specs.Trees.{TwoTrees};
 ghost use Rattle.grammar.specs.Content.{rules as rulesOf, spelled, Formed, Positioned};
 ghost use Rattle.grammar.specs.SpanSheet.{SpanSheet};
 ghost use Rattle.place_list.specs.Given.{PlacesGiven};
-ghost use Rattle.call_places.specs.Places.{refusal, PlacesOn, PlacesOf};
+ghost use Rattle.call_places.specs.Places.{placesRefusal, PlacesOn, PlacesOf};
 ghost use Rattle.call_places.specs.Replies.{NothingGiven, replied};
 
 // The verdict, with the refused line's number, or 0, and the list's number of entries.
@@ -31,7 +31,7 @@ pub struct PlacesReply {
 
 // A refused call lists no place.
 fn unlisted(f: Fault, line: usize) -> PlacesReply
-    ensures { λ r. ⌜ r ≡ refusal f line ⌝ }
+    ensures { λ r. ⌜ r ≡ placesRefusal f line ⌝ }
 {
     PlacesReply {
         answer: Answer::Refused(f),

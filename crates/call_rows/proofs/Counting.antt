@@ -13,13 +13,13 @@ use Rattle.grammar.proofs.Existence.{first-of-derives}
 use Rattle.sheets.specs.declared.Fault.the-variants as Fault
 use Rattle.teplonga.specs.declared.Answer.{Answer}
 use Rattle.teplonga.specs.declared.Answer.the-variants as Answer
-use Rattle.teplonga.specs.Verdict.{Filled}
+use Rattle.teplonga.specs.Verdict.{SheetFilled}
 use Rattle.row_counts.specs.declared.RowCount.{RowCount}
 use Rattle.row_counts.specs.declared.RowCount.the-variants as RowCount
 use Rattle.row_counts.specs.RowCounts.{treeless, single, both, Tells}
 use Rattle.row_counts.specs.Nulls.{HasFirsts}
 use Rattle.call_rows.specs.declared.RowsReply.{RowsReply}
-use Rattle.call_rows.specs.Rows.{refusal, RowsOn, short, counting}
+use Rattle.call_rows.specs.Rows.{rowsRefusal, RowsOn, short, counting}
 
 -- what derives a word has a first tree of it
 pub has-firsts : {g : Rules} → HasFirsts g
@@ -33,10 +33,10 @@ tells-none : Tells (RowCount.Exact 0) 0
 tells-none = (refl, omega arith)
 
 module _ {g : Rules} {w : Word} where
-  pub too-few : {n : ℕ} {ws : List ℕ} {r : RowsReply} → length w ≡ n → length ws < 2 * pairs n → r ≡ refusal Fault.FewWords 0 → RowsOn g w ws ws r
+  pub too-few : {n : ℕ} {ws : List ℕ} {r : RowsReply} → length w ≡ n → length ws < 2 * pairs n → r ≡ rowsRefusal Fault.FewWords 0 → RowsOn g w ws ws r
   too-few e h q = short (omega (arith, ap pairs e)) refl q refl
 
-  module _ {ws ws′ : List ℕ} (x : Filled g w ws ws′) where
+  module _ {ws ws′ : List ℕ} (x : SheetFilled g w ws ws′) where
     pub counted-none : NoTree g 0 w → RowsOn g w ws ws′ (reply Answer.None (RowCount.Exact 0) (RowCount.Exact 0))
     counted-none p = counting {m = 0} {n = 0} p refl (treeless p refl refl) tells-none tells-none x
 

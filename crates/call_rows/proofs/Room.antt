@@ -19,7 +19,7 @@ use Rattle.teplonga.specs.declared.Answer.the-variants as Answer
 use Rattle.teplonga.specs.declared.TreesReply.{TreesReply}
 use Rattle.teplonga.specs.Answers.{accepted, sheets}
 use Rattle.teplonga.specs.Verdict.{needed}
-use Rattle.teplonga.specs.Trees.{reply, Shown, TreesOn, TreesOf}
+use Rattle.teplonga.specs.Trees.{treesReplyOf, Shown, TreesOn, TreesOf}
 use Rattle.teplonga.specs.Trees as Show
 use Rattle.teplonga.proofs.Settled.{apart, same-sheets, sheets-apart}
 use Rattle.row_counts.specs.declared.RowCount.{RowCount}
@@ -34,7 +34,7 @@ pub record NoRoom (r : TreesReply) : Type 0 where
   pub number : numberOf fault ≡ 22
   pub answer : r .answer ≡ Answer.Refused fault
 
-other-answer : {r : TreesReply} {a : Answer} {l m n : ℕ} → r ≡ reply a l m n → ((f : Fault) → a ≡ Answer.Refused f → ⊥) → NoRoom r → ⊥
+other-answer : {r : TreesReply} {a : Answer} {l m n : ℕ} → r ≡ treesReplyOf a l m n → ((f : Fault) → a ≡ Answer.Refused f → ⊥) → NoRoom r → ⊥
 other-answer e h x = h (x .fault) (sym (ap (λ (y : TreesReply). y .answer) e) ∙ x .answer)
 
 same-first : {g : Rules} {w : Word} {t u : Tree} → FirstTree g 0 w t → FirstTree g 0 w u → rowCount t ≡ rowCount u
@@ -43,7 +43,7 @@ same-first a b = ap rowCount (first-unique a b)
 same-second : {g : Rules} {w : Word} {t u : Tree} → Distinct g → SecondTree g 0 w t → SecondTree g 0 w u → rowCount t ≡ rowCount u
 same-second d a b = ap rowCount (second-tree-unique d a b)
 
-no-room : {r : TreesReply} (f : Fault) → numberOf f ≡ 22 → r ≡ reply (Answer.Refused f) 0 0 0 → NoRoom r
+no-room : {r : TreesReply} (f : Fault) → numberOf f ≡ 22 → r ≡ treesReplyOf (Answer.Refused f) 0 0 0 → NoRoom r
 no-room f q e = record { fault = f; number = q; answer = ap (λ (y : TreesReply). y .answer) e }
 
 none-no : (f : Fault) → Answer.None ≡ Answer.Refused f → ⊥

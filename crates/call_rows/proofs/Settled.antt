@@ -12,12 +12,12 @@ use Rattle.teplonga.proofs.Settled.{Words, says-one, filled-same, apart, same-s
 use Rattle.row_counts.specs.RowCounts.{Tells}
 use Rattle.row_counts.proofs.RowCountLaws.{counted-unique, tells-one}
 use Rattle.call_rows.specs.declared.RowsReply.{RowsReply}
-use Rattle.call_rows.specs.Rows.{refusal, RowsOn, short, counting, RowsOf, refusing, reading}
+use Rattle.call_rows.specs.Rows.{rowsRefusal, RowsOn, short, counting, RowsOf, refusing, reading}
 
 rows-on : (g : Rules) (w : Word) {ws a b : List ℕ} {r s : RowsReply} → Distinct g → Words a → Words b → RowsOn g w ws a r → RowsOn g w ws b s → (r ≡ s) × (a ≡ b)
 rows-on g w d p q (short {f = f} l n x h) (short {f = f′} m o y k) =
     let z : f ≡ f′ = same-fault f f′ 21 n o in
-    (x ∙ ap (λ (e : Fault). refusal e 0) z ∙ sym y, h ∙ sym k)
+    (x ∙ ap (λ (e : Fault). rowsRefusal e 0) z ∙ sym y, h ∙ sym k)
 rows-on g w d p q (short l n x h) (counting y m c t u k) = absurd (omega (arith, k .sheet .enough, k .long))
 rows-on g w d p q (counting y m c t u k) (short l n x h) = absurd (omega (arith, k .sheet .enough, k .long))
 rows-on g w {r = r} {s = s} d p q (counting {m = m} {n = n} x l c t u h) (counting {m = m′} {n = n′} y o e t′ u′ k) =

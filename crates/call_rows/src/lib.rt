@@ -15,7 +15,7 @@ use teplonga::Answer;
 ghost use mathlib.Core.Path.{_≡_};
 ghost use Prim.Native.Nat.{_≤_};
 ghost use Rattle.grammar.specs.Content.{rules as rulesOf, spelled, Formed, Positioned};
-ghost use Rattle.call_rows.specs.Rows.{refusal, RowsOn, RowsOf};
+ghost use Rattle.call_rows.specs.Rows.{rowsRefusal, RowsOn, RowsOf};
 
 // The verdict, with the refused line's number, or 0, and the row count of each tree, 0 for one that the verdict lacks.
 pub struct RowsReply {
@@ -27,7 +27,7 @@ pub struct RowsReply {
 
 // A refused call counts no row.
 fn uncounted(f: Fault, line: usize) -> RowsReply
-    ensures { λ r. ⌜ r ≡ refusal f line ⌝ }
+    ensures { λ r. ⌜ r ≡ rowsRefusal f line ⌝ }
 {
     RowsReply {
         answer: Answer::Refused(f),

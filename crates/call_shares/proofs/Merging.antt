@@ -15,12 +15,12 @@ use Rattle.grammar.specs.Sweeps.{Clear, FirstTwo}
 use Rattle.grammar.proofs.SweepLaws.{sentence-length}
 use Rattle.candidates.specs.Spelling.{nowhere}
 use Rattle.numbers.specs.Numbers.{number}
-use Rattle.numbers.specs.Shares.{begins, total, Reports, LowestIn, NoneIn}
+use Rattle.numbers.specs.Shares.{firstOfShare, total, Reports, LowestIn, NoneIn}
 use Rattle.numbers.proofs.ShareLaws.{number-before, share-of, shares-clear}
 use Rattle.teplonga.specs.declared.Answer.{Answer}
 use Rattle.teplonga.specs.declared.Answer.the-variants as Answer
 use Rattle.call_shares.specs.declared.ShareReply.{ShareReply}
-use Rattle.call_shares.specs.Share.{reply, refusal, ShareOn, bound, many, racks, beyond, short, clear, two}
+use Rattle.call_shares.specs.Share.{shareReplyOf, shareRefusal, ShareOn, bound, many, racks, beyond, short, clear, two}
 use Rattle.call_shares.specs.Merge.{Refuses, Leads, Ahead, Merged, first-refuses, second-refuses, second, first, MergedAll, Answered, Sweeps, some-refused, all-clear, first-found}
 
 -- ---- two reports give one
@@ -136,7 +136,7 @@ module _ (g : Rules) (small : (x : ℕ) → Terminal g x → x < 64) (k : ℕ) (
       let y = each n (q .0) l u (q .1) in
       let z = go (y .0) (y .1) (q .2) (q .3) (told (y .2)) in (y .0, y .1, z .0, z .1)
     where
-      go : {i : ℕ} (r : ShareReply) → S r → begins (total g n) (p n) i ≤ number g n ds → number g n ds < begins (total g n) (p n) (suc i) → Told g n (p n) i r → (r .sentence .count ≡ n) × (r .number ≤ number g n ds)
+      go : {i : ℕ} (r : ShareReply) → S r → firstOfShare (total g n) (p n) i ≤ number g n ds → number g n ds < firstOfShare (total g n) (p n) (suc i) → Told g n (p n) i r → (r .sentence .count ≡ n) × (r .number ≤ number g n ds)
       go r s a b (refused x) = absurd (t .rest ok r s .0 x)
       go r s a b (nothing c e z) = absurd (c .none ds d a b two′)
       go r s a b (lowest {cs = cs} c e v z w) = (z, least (decLt (number g n ds) (number g n cs)))

@@ -24,10 +24,10 @@ use Rattle.sheets.specs.Items.{Reading, accepted, refused}
 use Rattle.sheets.specs.RuleSheets.{ruleSheet}
 use Rattle.sheets.proofs.Accepted.{rules-good}
 use Rattle.teplonga.specs.declared.Answer.the-variants as Answer
-use Rattle.teplonga.specs.Sweep.{limit}
+use Rattle.teplonga.specs.Sweep.{sweepLimit}
 use Rattle.sheets.proofs.Numbers.{same-fault}
 use Rattle.call_shares.specs.declared.ShareReply.{ShareReply}
-use Rattle.call_shares.specs.Share.{reply, refusal, Length, Taken, ShareOn, bound, many, racks, beyond, short, clear, two, ShareOf, refusing, reading}
+use Rattle.call_shares.specs.Share.{shareReplyOf, shareRefusal, Length, ShareTaken, ShareOn, bound, many, racks, beyond, short, clear, two, ShareOf, refusing, reading}
 
 apart : {o : Reading Rule} {f : Fault} {l : ℕ} {g : Rules} → o ≡ refused f l → o ≡ accepted g → ⊥
 apart e d = let z : _≡_ {A = ℕ} 0 1 = cc in omega arith
@@ -38,8 +38,8 @@ same-rules e d = cc
 same-refusal : {o : Reading Rule} {f f′ : Fault} {l l′ : ℕ} → o ≡ refused f l → o ≡ refused f′ l′ → (f ≡ f′) × (l ≡ l′)
 same-refusal e d = (cc, cc)
 
-refusal-same : {f f′ : Fault} {a b ws : List ℕ} {r s : ShareReply} (n : ℕ) → numberOf f ≡ n → numberOf f′ ≡ n → r ≡ refusal f 0 → s ≡ refusal f′ 0 → a ≡ ws → b ≡ ws → (r ≡ s) × (a ≡ b)
-refusal-same {f} {f′} n m o x y h k = (x ∙ ap (λ (z : Fault). refusal z 0) (same-fault f f′ n m o) ∙ sym y, h ∙ sym k)
+refusal-same : {f f′ : Fault} {a b ws : List ℕ} {r s : ShareReply} (n : ℕ) → numberOf f ≡ n → numberOf f′ ≡ n → r ≡ shareRefusal f 0 → s ≡ shareRefusal f′ 0 → a ≡ ws → b ≡ ws → (r ≡ s) × (a ≡ b)
+refusal-same {f} {f′} n m o x y h k = (x ∙ ap (λ (z : Fault). shareRefusal z 0) (same-fault f f′ n m o) ∙ sym y, h ∙ sym k)
 
 -- outside lo to hi
 off : {lo hi k : ℕ} → (k < lo) ⊎ (hi < k) → lo ≤ k → k ≤ hi → ⊥
@@ -109,7 +109,7 @@ module _ (g : Rules) (small : (x : ℕ) → Terminal g x → x < 64) (n p i : �
   share-on (two t c y e) (short k u o q v w x h) = absurd (omega (arith, t .enough))
   share-on (two t c y e) (clear u d x h) = absurd (never-both d c)
   share-on (two {cs = cs} t c y e) (two {cs = ds} u d x h) =
-      (y ∙ ap (λ (z : List Cell). reply Answer.Two (number g n z) (total g n / p) (total g n % p) (sentence z)) (lowest-same g small c d) ∙ sym x, e ∙ sym h)
+      (y ∙ ap (λ (z : List Cell). shareReplyOf Answer.Two (number g n z) (total g n / p) (total g n % p) (sentence z)) (lowest-same g small c d) ∙ sym x, e ∙ sym h)
 
 -- the terminals of a sheet that was read are below 64
 pub small-terminals : (rules : List ℕ) (g : Rules) → ruleSheet rules ≡ accepted g → (x : ℕ) → Terminal g x → x < 64

@@ -18,13 +18,13 @@ use Rattle.candidates.specs.Spelling.{nowhere}
 use Rattle.candidates.proofs.Counting.{counted}
 use Rattle.sweeping.specs.Swept.{cleared}
 use Rattle.numbers.specs.Numbers.{number}
-use Rattle.numbers.specs.Shares.{begins, total, Reports, Reported}
+use Rattle.numbers.specs.Shares.{firstOfShare, total, Reports, Reported}
 use Rattle.share_search.specs.Sharing.{Shared}
 use Rattle.share_search.specs.Sharing as Of
 use Rattle.teplonga.specs.declared.Answer.{Answer}
 use Rattle.teplonga.specs.declared.Answer.the-variants as Answer
 use Rattle.call_shares.specs.declared.ShareReply.{ShareReply}
-use Rattle.call_shares.specs.Share.{reply, Taken, ShareOn, clear, two}
+use Rattle.call_shares.specs.Share.{shareReplyOf, ShareTaken, ShareOn, clear, two}
 
 -- M, by the set of the terminals
 pub total-of : (g : Rules) (s n : ℕ) → s < 2 ^ 64 → Terminals g s → arrangements (ones s) n ≡ total g n
@@ -33,12 +33,12 @@ total-of g s n h t = ap (λ (x : ℕ). arrangements x n) (counted s h .terminals
 abbrev with : Answer → ℕ → ℕ → ℕ → Sentence → ShareReply
 with a N q r s = record { answer = a; line = 0; number = N; quotient = q; remainder = r; sentence = s }
 
-module _ {g : Rules} {n p i : ℕ} {ws ws′ : List ℕ} (t : Taken g n p i ws) (h : ws′ ≡ cleared n ws) {m lo hi N : ℕ} {r : Sentence} (em : m ≡ total g n) (el : lo ≡ begins m p i) (eh : hi ≡ begins m p (i + 1)) (x : Shared g n lo hi N r) where
-  low : lo ≡ begins (total g n) p i
-  low = el ∙ ap (λ (y : ℕ). begins y p i) em
+module _ {g : Rules} {n p i : ℕ} {ws ws′ : List ℕ} (t : ShareTaken g n p i ws) (h : ws′ ≡ cleared n ws) {m lo hi N : ℕ} {r : Sentence} (em : m ≡ total g n) (el : lo ≡ firstOfShare m p i) (eh : hi ≡ firstOfShare m p (i + 1)) (x : Shared g n lo hi N r) where
+  low : lo ≡ firstOfShare (total g n) p i
+  low = el ∙ ap (λ (y : ℕ). firstOfShare y p i) em
 
-  high : hi ≡ begins (total g n) p (suc i)
-  high = eh ∙ ap (λ (y : ℕ). begins y p (i + 1)) em ∙ ap (begins (total g n) p) (add-one i)
+  high : hi ≡ firstOfShare (total g n) p (suc i)
+  high = eh ∙ ap (λ (y : ℕ). firstOfShare y p (i + 1)) em ∙ ap (firstOfShare (total g n) p) (add-one i)
 
   pub shared-clear : r .count ≡ 0 → ShareOn g n p i ws ws′ (with Answer.Clear N (m / p) (m % p) r)
   shared-clear z = go x
@@ -58,5 +58,5 @@ module _ {g : Rules} {n p i : ℕ} {ws ws′ : List ℕ} (t : Taken g n p i ws) 
           k : n ≡ length (sentence cs)
           k = sym (y .candidate .arranged .size) ∙ sym (sentence-length 1 cs)
 
-          whole : with Answer.Two N (m / p) (m % p) r ≡ reply Answer.Two (number g n cs) (total g n / p) (total g n % p) (sentence cs)
+          whole : with Answer.Two N (m / p) (m % p) r ≡ shareReplyOf Answer.Two (number g n cs) (total g n / p) (total g n % p) (sentence cs)
           whole = λ j. with Answer.Two (e j) (em j / p) (em j % p) (record { tokens = (d ∙ ap (λ (v : ℕ). sentence cs ++ replicate (64 - v) nowhere) k) j; count = (c ∙ k) j })

@@ -20,25 +20,25 @@ use Rattle.sheets.specs.Items.{accepted, refused}
 use Rattle.sheets.specs.RuleSheets.{ruleSheet}
 use Rattle.teplonga.specs.declared.Answer.{Answer}
 use Rattle.teplonga.specs.declared.Answer.the-variants as Answer
-use Rattle.teplonga.specs.Sweep.{limit, empty}
+use Rattle.teplonga.specs.Sweep.{sweepLimit, noSentence}
 use Rattle.call_shares.specs.declared.ShareReply.{ShareReply}
 
 -- the answer with its number, quotient and remainder holds the word, and its token places past it are 0
-abbrev pub reply : Answer → ℕ → ℕ → ℕ → Word → ShareReply
-reply a N q r w = record { answer = a; line = 0; number = N; quotient = q; remainder = r; sentence = record { tokens = w ++ replicate (64 - length w) nowhere; count = length w } }
+abbrev pub shareReplyOf : Answer → ℕ → ℕ → ℕ → Word → ShareReply
+shareReplyOf a N q r w = record { answer = a; line = 0; number = N; quotient = q; remainder = r; sentence = record { tokens = w ++ replicate (64 - length w) nowhere; count = length w } }
 
 -- a refusal: no number, no quotient, no remainder and no token
-abbrev pub refusal : Fault → ℕ → ShareReply
-refusal f l = record { answer = Answer.Refused f; line = l; number = 0; quotient = 0; remainder = 0; sentence = empty }
+abbrev pub shareRefusal : Fault → ℕ → ShareReply
+shareRefusal f l = record { answer = Answer.Refused f; line = l; number = 0; quotient = 0; remainder = 0; sentence = noSentence }
 
 -- a length that is taken on: 23 and 24 are not given
 pub record Length (g : Rules) (n : ℕ) : Type 0 where
   pub low : 1 ≤ n
   pub high : n ≤ 7
-  pub few : total g n ≤ limit
+  pub few : total g n ≤ sweepLimit
 
 -- a share that is taken on: 45, 46 and 21 are not given either
-pub record Taken (g : Rules) (n p i : ℕ) (words : List ℕ) : Type 0 where
+pub record ShareTaken (g : Rules) (n p i : ℕ) (words : List ℕ) : Type 0 where
   pub size : Length g n
   pub some : 1 ≤ p
   pub most : p ≤ 64
@@ -49,29 +49,29 @@ pub record Taken (g : Rules) (n p i : ℕ) (words : List ℕ) : Type 0 where
 pub data ShareOn (g : Rules) (n p i : ℕ) (words words′ : List ℕ) (r : ShareReply) : Type 0 where
   -- n not 1 to 7
   bound : {f : Fault} → (n < 1) ⊎ (7 < n) → numberOf f ≡ 23
-      → r ≡ refusal f 0 → words′ ≡ words → ShareOn g n p i words words′ r
+      → r ≡ shareRefusal f 0 → words′ ≡ words → ShareOn g n p i words words′ r
   -- M above the limit
-  many : {f : Fault} → 1 ≤ n → n ≤ 7 → limit < total g n → numberOf f ≡ 24
-      → r ≡ refusal f 0 → words′ ≡ words → ShareOn g n p i words words′ r
+  many : {f : Fault} → 1 ≤ n → n ≤ 7 → sweepLimit < total g n → numberOf f ≡ 24
+      → r ≡ shareRefusal f 0 → words′ ≡ words → ShareOn g n p i words words′ r
   -- p not 1 to 64
   racks : {f : Fault} → Length g n → (p < 1) ⊎ (64 < p) → numberOf f ≡ 45
-      → r ≡ refusal f 0 → words′ ≡ words → ShareOn g n p i words words′ r
+      → r ≡ shareRefusal f 0 → words′ ≡ words → ShareOn g n p i words words′ r
   -- the share not below p
   beyond : {f : Fault} → Length g n → 1 ≤ p → p ≤ 64 → p ≤ i → numberOf f ≡ 46
-      → r ≡ refusal f 0 → words′ ≡ words → ShareOn g n p i words words′ r
+      → r ≡ shareRefusal f 0 → words′ ≡ words → ShareOn g n p i words words′ r
   -- fewer words than the span sheet of n tokens needs
   short : {f : Fault} → Length g n → 1 ≤ p → p ≤ 64 → i < p → length words < 2 * pairs n → numberOf f ≡ 21
-      → r ≡ refusal f 0 → words′ ≡ words → ShareOn g n p i words words′ r
+      → r ≡ shareRefusal f 0 → words′ ≡ words → ShareOn g n p i words words′ r
   -- clear: no number of the share whose arrangement rises has two trees
-  clear : Taken g n p i words → Reports g n p i none
-      → r ≡ reply Answer.Clear 0 (total g n / p) (total g n % p) [] → words′ ≡ cleared n words → ShareOn g n p i words words′ r
+  clear : ShareTaken g n p i words → Reports g n p i none
+      → r ≡ shareReplyOf Answer.Clear 0 (total g n / p) (total g n % p) [] → words′ ≡ cleared n words → ShareOn g n p i words words′ r
   -- two: the lowest number of the share whose arrangement rises and has two trees, and its sentence
-  two : {cs : List Cell} → Taken g n p i words → Reports g n p i (some cs)
-      → r ≡ reply Answer.Two (number g n cs) (total g n / p) (total g n % p) (sentence cs) → words′ ≡ cleared n words → ShareOn g n p i words words′ r
+  two : {cs : List Cell} → ShareTaken g n p i words → Reports g n p i (some cs)
+      → r ≡ shareReplyOf Answer.Two (number g n cs) (total g n / p) (total g n % p) (sentence cs) → words′ ≡ cleared n words → ShareOn g n p i words words′ r
 
 -- what the call answers, and what it leaves of the lent words
 pub data ShareOf (rules : List ℕ) (n p i : ℕ) (words words′ : List ℕ) (r : ShareReply) : Type 0 where
   -- a refused rule sheet
   refusing : {f : Fault} {l : ℕ} → ruleSheet rules ≡ refused f l
-      → r ≡ refusal f l → words′ ≡ words → ShareOf rules n p i words words′ r
+      → r ≡ shareRefusal f l → words′ ≡ words → ShareOf rules n p i words words′ r
   reading : {g : Rules} → ruleSheet rules ≡ accepted g → ShareOn g n p i words words′ r → ShareOf rules n p i words words′ r

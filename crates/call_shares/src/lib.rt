@@ -18,7 +18,7 @@ ghost use Prim.Native.Nat.{_≤_};
 ghost use Rattle.grammar.specs.Content.{rules as rulesOf, Formed};
 ghost use Rattle.sets.specs.Says.{Says};
 ghost use Rattle.call_shares.specs.Merge.{Refuses, Leads, Merged};
-ghost use Rattle.call_shares.specs.Share.{refusal, Length, Taken, ShareOn, ShareOf};
+ghost use Rattle.call_shares.specs.Share.{shareRefusal, Length, ShareTaken, ShareOn, ShareOf};
 
 // The answer of a share: besides, the lowest number, M ÷ p and its remainder, and the sentence, of no tokens where none was
 // found.
@@ -33,7 +33,7 @@ pub struct ShareReply {
 
 // A refused share.
 fn refused_share(f: Fault, line: usize) -> ShareReply
-    ensures { λ r. ⌜ r ≡ refusal f line ⌝ }
+    ensures { λ r. ⌜ r ≡ shareRefusal f line ⌝ }
 {
     let sentence = nothing();
     ShareReply {
@@ -49,7 +49,7 @@ fn refused_share(f: Fault, line: usize) -> ShareReply
 // An accepted share: its numbers, and what is found among them.
 fn taken(g: Grammar, n: usize, p: usize, i: usize, words: &mut [u64]) -> ShareReply
     requires { ⌜ Formed g ⌝ }
-    requires { ⌜ Taken (rulesOf g) n p i (now words) ⌝ }
+    requires { ⌜ ShareTaken (rulesOf g) n p i (now words) ⌝ }
     ensures { λ r. ⌜ ShareOn (rulesOf g) n p i (now (words .entry)) (now (words .exit)) r ⌝ }
 {
     let set = terminals(g);

@@ -14,7 +14,7 @@ use Rattle.fields.proofs.Fields.{with-holds, end-holds}
 use Rattle.call_sheets.specs.declared.Call.{Call}
 use Rattle.call_sheets.specs.declared.Call.the-variants as Call
 use Rattle.call_sheets.specs.Inside.{Inside}
-use Rattle.call_sheets.specs.CallSheets.{clausesSheet, expandSheet, rowsSheet, columnsSheet, placesSheet, boundStart, shareStart, showStart, changeStart, begins, values, withNumber, shareEnd, shareThird, shareSecond, shareCall, broken, changeEnd, changeSecond, changeCall, numberedCall, callOf}
+use Rattle.call_sheets.specs.CallSheets.{clausesSheet, expandSheet, rowsSheet, columnsSheet, placesSheet, boundStart, shareStart, showStart, changeStart, beginsWith, values, withNumber, shareEnd, shareThird, shareSecond, shareCall, broken, changeEnd, changeSecond, changeCall, numberedCall, callOf}
 use Rattle.call_sheets.proofs.Laws.{begins-long}
 
 module _ (m : ℕ) where
@@ -42,15 +42,15 @@ module _ (m : ℕ) where
 
 numbered-inside : (s : List ℕ) → Inside (length s) (numberedCall s)
 numbered-inside s =
-    either m (begins boundStart s) (withNumber (numeralOf (values boundStart s)) Call.ClausesSweep) _ (numbered m (numeralOf (values boundStart s)) Call.ClausesSweep (λ v. tt))
-    (either m (begins showStart s) (withNumber (numeralOf (values showStart s)) Call.Show) _ (numbered m (numeralOf (values showStart s)) Call.Show (λ v. tt))
-    (either m (begins shareStart s) (shareCall (pieces 32 (values shareStart s))) _ (share-inside m (pieces 32 (values shareStart s)))
-    (go (begins changeStart s) refl)))
+    either m (beginsWith boundStart s) (withNumber (numeralOf (values boundStart s)) Call.ClausesSweep) _ (numbered m (numeralOf (values boundStart s)) Call.ClausesSweep (λ v. tt))
+    (either m (beginsWith showStart s) (withNumber (numeralOf (values showStart s)) Call.Show) _ (numbered m (numeralOf (values showStart s)) Call.Show (λ v. tt))
+    (either m (beginsWith shareStart s) (shareCall (pieces 32 (values shareStart s))) _ (share-inside m (pieces 32 (values shareStart s)))
+    (go (beginsWith changeStart s) refl)))
   where
     m : ℕ
     m = length s
 
-    go : (b : Bool) → begins changeStart s ≡ b → Inside (length s) (cond b (changeCall (length s) (pieces 32 (values changeStart s))) Call.Not)
+    go : (b : Bool) → beginsWith changeStart s ≡ b → Inside (length s) (cond b (changeCall (length s) (pieces 32 (values changeStart s))) Call.Not)
     go true e = change-inside (length s) (omega (arith, begins-long changeStart s e)) (pieces 32 (values changeStart s))
     go false e = tt
 

@@ -16,7 +16,7 @@ use Rattle.fields.specs.declared.Number.the-variants as Number
 use Rattle.fields.specs.Answers.{asNumber}
 use Rattle.call_sheets.specs.declared.Call.{Call}
 use Rattle.call_sheets.specs.declared.Call.the-variants as Call
-use Rattle.call_sheets.specs.CallSheets.{begins, broken, changeEnd, withNumber}
+use Rattle.call_sheets.specs.CallSheets.{beginsWith, broken, changeEnd, withNumber}
 use Rattle.call_sheets.specs.OneField.{oneField}
 
 -- 1. the loop over a field's bytes
@@ -110,7 +110,7 @@ with-not none k e = refl
 
 -- 4. a sheet that begins so is longer than its beginning
 
-pub begins-long : (start s : List ℕ) → begins start s ≡ true → length start + 1 ≤ length s
+pub begins-long : (start s : List ℕ) → beginsWith start s ≡ true → length start + 1 ≤ length s
 begins-long start s e = go (leb (length start + 1) (length s)) refl
   where
     go : (b : Bool) → leb (length start + 1) (length s) ≡ b → length start + 1 ≤ length s

@@ -60,8 +60,8 @@ changeStart =
     ∷ 99 ∷ 104 ∷ 97 ∷ 110 ∷ 103 ∷ 101 ∷ 32 ∷ []
 
 -- the sheet begins so, and ends with a byte 10
-abbrev pub begins : List ℕ → List ℕ → Bool
-begins start s = leb (length start + 1) (length s) && (sameBytes (take (length start) s) start && eqb (getD s (length s - 1) 0) 10)
+abbrev pub beginsWith : List ℕ → List ℕ → Bool
+beginsWith start s = leb (length start + 1) (length s) && (sameBytes (take (length start) s) start && eqb (getD s (length s - 1) 0) 10)
 
 -- the values between that beginning and the last byte 10
 abbrev pub values : List ℕ → List ℕ → List ℕ
@@ -106,10 +106,10 @@ changeCall m fs = withField Call.Not numeralOf fs (changeSecond m)
 
 abbrev pub numberedCall : List ℕ → Call
 numberedCall s =
-    cond (begins boundStart s) (withNumber (numeralOf (values boundStart s)) Call.ClausesSweep)
-    (cond (begins showStart s) (withNumber (numeralOf (values showStart s)) Call.Show)
-    (cond (begins shareStart s) (shareCall (pieces 32 (values shareStart s)))
-    (cond (begins changeStart s) (changeCall (length s) (pieces 32 (values changeStart s)))
+    cond (beginsWith boundStart s) (withNumber (numeralOf (values boundStart s)) Call.ClausesSweep)
+    (cond (beginsWith showStart s) (withNumber (numeralOf (values showStart s)) Call.Show)
+    (cond (beginsWith shareStart s) (shareCall (pieces 32 (values shareStart s)))
+    (cond (beginsWith changeStart s) (changeCall (length s) (pieces 32 (values changeStart s)))
     Call.Not)))
 
 abbrev pub callOf : List ℕ → Call

@@ -32,7 +32,7 @@ pub enum Call {
 
 // Does the sheet begin so, and end with a byte 10?
 fn begins(s: &[u8], start: &[u8]) -> bool
-    ensures { λ r. ⌜ r ≡ Sheets.begins (now (start .entry)) (now (s .entry)) ⌝ }
+    ensures { λ r. ⌜ r ≡ Sheets.beginsWith (now (start .entry)) (now (s .entry)) ⌝ }
 {
     let n = start.len();
     let m = s.len();

@@ -36,7 +36,7 @@ use Rattle.shown.specs.Shown.{View, member}
 use Rattle.shown.proofs.Members.{member-says}
 use Rattle.changing.specs.Changed.{changed, changedSheet, readChanged, relaid, fitsLay}
 use Rattle.lists.specs.declared.Listed.{Listed}
-use Rattle.lists.specs.Lists.{Gives}
+use Rattle.lists.specs.Lists.{GivesList}
 use Rattle.lists.specs.Putting.{listed}
 use Rattle.lists.specs.Putting as Putting
 use Rattle.teplonga.specs.declared.Answer.the-variants as Answer
@@ -44,7 +44,7 @@ use Rattle.teplonga.specs.Lists.{onList}
 use Rattle.teplonga.proofs.ListSettled.{list-on}
 use Rattle.changing.proofs.Rereading.{outcome}
 use Rattle.changing.proofs.ChangedLaws.{ChangedAt, changed-at}
-use Rattle.call_tours.specs.Change.{refusal, MayRule, Done, unfit, given, ChangeOn, barred, allowed}
+use Rattle.call_tours.specs.Change.{changeRefusal, MayRule, ChangeDone, unfit, given, ChangeOn, barred, allowed}
 use Rattle.call_tours.specs.Inner.{Named}
 
 -- 1. whether the lay fits
@@ -113,7 +113,7 @@ word-not none e = refl
 
 module _ (s : List ℕ) (p : ℕ) (c : Clause) (n : Named s p c) (lay : List ℕ) where
   -- no word of lay
-  pub done-form : LayWord.Not ≡ asLay (layOf lay) → (bytes : List ℕ) → Done s p lay bytes bytes (refusal Fault.RuleForm (p + 1))
+  pub done-form : LayWord.Not ≡ asLay (layOf lay) → (bytes : List ℕ) → ChangeDone s p lay bytes bytes (changeRefusal Fault.RuleForm (p + 1))
   done-form e bytes = unfit (ap (readChanged s p lay) (word-not (layOf lay) e)) refl refl
 
   module _ (y : Lay) (is : LayWord.Is y ≡ asLay (layOf lay)) where
@@ -123,7 +123,7 @@ module _ (s : List ℕ) (p : ℕ) (c : Clause) (n : Named s p c) (lay : List ℕ
     reads : (x : RuleLine) → relaid (n .at .rule .left) (n .at .rule .clause) y ≡ x → changedSheet s p lay ≡ outcome (n .at .front) (n .at .back) x
     reads x e = ap (readChanged s p lay) word ∙ n .at .reads lay y word ∙ ap (outcome (n .at .front) (n .at .back)) e
 
-    pub done-lay : fitsLay c y ≡ false → (bytes : List ℕ) → Done s p lay bytes bytes (refusal Fault.RuleLay (p + 1))
+    pub done-lay : fitsLay c y ≡ false → (bytes : List ℕ) → ChangeDone s p lay bytes bytes (changeRefusal Fault.RuleLay (p + 1))
     done-lay e bytes =
         let f : length (n .at .front) + 2 ≡ p + 1 = omega (arith, n .at .place) in
         unfit (reads RuleLine.Unfit (relaid-unfit (n .at .rule .left) (n .at .rule .clause) y (ap (λ (x : Clause). fitsLay x y) (sym (n .is)) ∙ e)) ∙ ap (refused Fault.RuleLay) f) refl refl
@@ -133,8 +133,8 @@ module _ (s : List ℕ) (p : ℕ) (c : Clause) (n : Named s p c) (lay : List ℕ
         let q = relaid-good (n .at .rule .left) (n .at .rule .clause) y (ap (λ (x : Clause). fitsLay x y) (sym (n .is)) ∙ e) in
         (n .at .front ++ q .0 ∷ n .at .back, reads (RuleLine.Good (q .0)) (q .1))
 
-    pub done-listed : fitsLay c y ≡ true → (bytes bytes′ : List ℕ) (l : Listed) → Gives listed Putting.unfit (changed s p lay) (length (changed s p lay)) bytes bytes′ l
-        → Done s p lay bytes bytes′ (onList Answer.Given l)
+    pub done-listed : fitsLay c y ≡ true → (bytes bytes′ : List ℕ) (l : Listed) → GivesList listed Putting.unfit (changed s p lay) (length (changed s p lay)) bytes bytes′ l
+        → ChangeDone s p lay bytes bytes′ (onList Answer.Given l)
     done-listed e bytes bytes′ l x = given (good e .1) (list-on x)
 
 -- 3. which refusals the changed sheet can get: 2 and 4 in that rule's line, no other
@@ -179,11 +179,11 @@ getElem?-take [] (suc n) p {x} e = e
 getElem?-take (y ∷ l) (suc n) zero e = e
 getElem?-take (y ∷ l) (suc n) (suc p) e = getElem?-take l n p e
 
-pub barred-zero : (may : View) (s : List ℕ) (g : Rules) (p : ℕ) (lay bytes : List ℕ) → p ≡ 0 → ChangeOn may s g p lay bytes bytes (refusal Fault.NoRight 0)
+pub barred-zero : (may : View) (s : List ℕ) (g : Rules) (p : ℕ) (lay bytes : List ℕ) → p ≡ 0 → ChangeOn may s g p lay bytes bytes (changeRefusal Fault.NoRight 0)
 barred-zero may s g p lay bytes e = barred (λ m. omega (arith, m .low)) refl refl refl
 
 module _ {g : Grammar} (f : Formed g) (s : List ℕ) (e : ruleSheet s ≡ accepted (rules g)) (may : ℕ) (p : ℕ) (lay bytes : List ℕ) where
-  pub barred-past : g .count < p → ChangeOn (member may) s (rules g) p lay bytes bytes (refusal Fault.NoRight 0)
+  pub barred-past : g .count < p → ChangeOn (member may) s (rules g) p lay bytes bytes (changeRefusal Fault.NoRight 0)
   barred-past h = barred (λ m. let l = getElem?-lt (rules g) (p - 1) (m .stands) in omega (arith, f .whole, m .low)) refl refl refl
 
   -- the rule that the code reads
@@ -209,7 +209,7 @@ module _ {g : Grammar} (f : Formed g) (s : List ℕ) (e : ruleSheet s ≡ accept
     same-rule : (r : Rule) → getElem? (rules g) (p - 1) ≡ some r → at .rule ≡ r
     same-rule r k = let j = stands in cc
 
-    pub read-barred : {b : Bool} → b ≡ false → Says b (In may (getD (g .rules) (p - 1) d .left)) → ChangeOn (member may) s (rules g) p lay bytes bytes (refusal Fault.NoRight 0)
+    pub read-barred : {b : Bool} → b ≡ false → Says b (In may (getD (g .rules) (p - 1) d .left)) → ChangeOn (member may) s (rules g) p lay bytes bytes (changeRefusal Fault.NoRight 0)
     read-barred h x =
         barred (λ m. true-not-false (sym (m .left) ∙ ap (λ (r : Rule). member may (r .left)) (sym (same-rule (m .rule) (m .stands))) ∙ sym (ap (λ (r : Rule). member may (r .left)) read-rule) ∙ sym (member-says _ _ x) ∙ h))
         refl refl refl

@@ -16,7 +16,7 @@ use Rattle.derivation.specs.Written.{filled}
 use Rattle.derivation.specs.Showing.{filledShown}
 use Rattle.teplonga.specs.declared.Answer.the-variants as Answer
 use Rattle.teplonga.specs.declared.TreesReply.{TreesReply}
-use Rattle.teplonga.specs.Trees.{reply, Shown, TreesOn}
+use Rattle.teplonga.specs.Trees.{treesReplyOf, Shown, TreesOn}
 use Rattle.teplonga.specs.Trees as Trees
 use Rattle.call_tours.specs.Show.{ShownTo, treeless, single, both, large-one, large-two, ShowOn, short, showing}
 
@@ -30,10 +30,10 @@ module _ (sees : View) (all : (A : ℕ) → sees A ≡ true) where
   open-shown : {g : Rules} {w : Word} {one one′ two two′ : List ℕ} {r : TreesReply} → ShownTo sees g w one one′ two two′ r → Shown g w one one′ two two′ r
   open-shown (treeless p x h i) = Trees.treeless p x h i
   open-shown {one = one} (single {t = t} p f l x h i) =
-      Trees.single p f (omega (arith, count-is t)) (x ∙ ap (λ (n : ℕ). reply Answer.One 0 n 0) (count-is t)) (h ∙ filled-is one t) i
+      Trees.single p f (omega (arith, count-is t)) (x ∙ ap (λ (n : ℕ). treesReplyOf Answer.One 0 n 0) (count-is t)) (h ∙ filled-is one t) i
   open-shown {one = one} {two = two} (both {t = t} {u = u} p f s l m x h i) =
       Trees.both p f s (omega (arith, count-is t)) (omega (arith, count-is u))
-      (x ∙ (λ i. reply Answer.Two 0 (count-is t i) (count-is u i))) (h ∙ filled-is one t) (i ∙ filled-is two u)
+      (x ∙ (λ i. treesReplyOf Answer.Two 0 (count-is t i) (count-is u i))) (h ∙ filled-is one t) (i ∙ filled-is two u)
   open-shown (large-one {t = t} p f l n x h i) = Trees.large-one p f (omega (arith, count-is t)) n x h i
   open-shown (large-two {t = t} {u = u} p f s l n x h i) =
       Trees.large-two p f s (⊎-elim (λ a. inl (omega (arith, count-is t))) (λ a. inr (omega (arith, count-is u))) l) n x h i

@@ -22,7 +22,7 @@ use Rattle.rights.specs.declared.Right.{Right}
 use Rattle.rights.specs.RightSheets.{maySee, mayChange}
 use Rattle.teplonga.specs.declared.Answer.the-variants as Answer
 use Rattle.teplonga.specs.declared.TreesReply.{TreesReply}
-use Rattle.teplonga.specs.Trees.{reply}
+use Rattle.teplonga.specs.Trees.{treesReplyOf}
 use Rattle.sheets.proofs.Numbers.{same-fault}
 use Rattle.teplonga.proofs.Settled.{Words, filled-same, apart, same-sheets, same-refusal, sheets-apart}
 use Rattle.teplonga.proofs.ListSettled.{list-settled}
@@ -30,7 +30,7 @@ use Rattle.teplonga.specs.declared.ListReply.{ListReply}
 use Rattle.call_tours.specs.Alike.{Alike}
 use Rattle.call_tours.specs.Show.{ShownTo, treeless, single, both, large-one, large-two, ShowOn, ShowOf}
 use Rattle.call_tours.specs.Show as Show
-use Rattle.call_tours.specs.Change.{refusal, MayRule, Done, unfit, given, ChangeOn, barred, allowed, ChangeOf}
+use Rattle.call_tours.specs.Change.{changeRefusal, MayRule, ChangeDone, unfit, given, ChangeOn, barred, allowed, ChangeOf}
 use Rattle.call_tours.specs.Change as Change
 
 -- the same reply and the same memories
@@ -75,8 +75,8 @@ module _ (sees : View) {g g′ : Rules} {w w′ : Word} (A : Alike sees g g′ w
   never-two e f h k l = ⊎-elim (λ x. omega arith) (λ x. omega arith) l
 
   large-same : {f f′ : Fault} {a b c d : List ℕ} {r s : TreesReply} → numberOf f ≡ 22 → numberOf f′ ≡ 22
-      → r ≡ reply (Answer.Refused f) 0 0 0 → s ≡ reply (Answer.Refused f′) 0 0 0 → a ≡ filledShown sees one none → b ≡ filledShown sees one none → c ≡ filledShown sees two none → d ≡ filledShown sees two none → Same a b c d r s
-  large-same {f} {f′} m n x y h k i j = (x ∙ ap (λ (z : Fault). reply (Answer.Refused z) 0 0 0) (same-fault f f′ 22 m n) ∙ sym y, (h ∙ sym k, i ∙ sym j))
+      → r ≡ treesReplyOf (Answer.Refused f) 0 0 0 → s ≡ treesReplyOf (Answer.Refused f′) 0 0 0 → a ≡ filledShown sees one none → b ≡ filledShown sees one none → c ≡ filledShown sees two none → d ≡ filledShown sees two none → Same a b c d r s
+  large-same {f} {f′} m n x y h k i j = (x ∙ ap (λ (z : Fault). treesReplyOf (Answer.Refused z) 0 0 0) (same-fault f f′ 22 m n) ∙ sym y, (h ∙ sym k, i ∙ sym j))
 
   pub nothing-leaks : {a b c d : List ℕ} {r s : TreesReply} → ShownTo sees g w one a two c r → ShownTo sees g′ w′ one b two d s → Same a b c d r s
   nothing-leaks (treeless p x h i) (treeless q y k j) = (x ∙ sym y, (h ∙ sym k, i ∙ sym j))
@@ -86,7 +86,7 @@ module _ (sees : View) {g g′ : Rules} {w w′ : Word} (A : Alike sees g g′ w
   nothing-leaks (treeless p x h i) (large-two q t u l n y k j) = absurd (none-not-two (A .none p) q)
   nothing-leaks (single p t l x h i) (treeless q y k j) = absurd (none-not-one q (A .one p))
   nothing-leaks (single p a l x h i) (single q b m y k j) =
-      (x ∙ ap (λ (n : ℕ). reply Answer.One 0 n 0) (count-one a b) ∙ sym y, (h ∙ filled-alike sees (A .first a b) one ∙ sym k, i ∙ sym j))
+      (x ∙ ap (λ (n : ℕ). treesReplyOf Answer.One 0 n 0) (count-one a b) ∙ sym y, (h ∙ filled-alike sees (A .first a b) one ∙ sym k, i ∙ sym j))
   nothing-leaks (single p a l x h i) (both q t u m n y k j) = absurd (one-not-two (A .one p) q)
   nothing-leaks (single p a l x h i) (large-one q b m n y k j) = absurd (omega (arith, count-one a b))
   nothing-leaks (single p a l x h i) (large-two q t u m n y k j) = absurd (one-not-two (A .one p) q)
@@ -95,7 +95,7 @@ module _ (sees : View) {g g′ : Rules} {w w′ : Word} (A : Alike sees g g′ w
   nothing-leaks (both p a c l m x h i) (both q b e n o y k j) =
       let v = count-one a b in
       let z = count-two c e in
-      (x ∙ (λ i. reply Answer.Two 0 (v i) (z i)) ∙ sym y, (h ∙ filled-alike sees (A .first a b) one ∙ sym k, i ∙ filled-alike sees (A .second c e) two ∙ sym j))
+      (x ∙ (λ i. treesReplyOf Answer.Two 0 (v i) (z i)) ∙ sym y, (h ∙ filled-alike sees (A .first a b) one ∙ sym k, i ∙ filled-alike sees (A .second c e) two ∙ sym j))
   nothing-leaks (both p t u l m x h i) (large-one q a n o y k j) = absurd (one-not-two q (A .two p))
   nothing-leaks (both p a c l m x h i) (large-two q b e n o y k j) = absurd (never-two (count-one a b) (count-two c e) l m n)
   nothing-leaks (large-one p t l n x h i) (treeless q y k j) = absurd (none-not-one q (A .one p))
@@ -112,7 +112,7 @@ module _ (sees : View) {g g′ : Rules} {w w′ : Word} (A : Alike sees g g′ w
 show-on : (sees : View) (g : Rules) (w : Word) {ws a b one two m m′ n n′ : List ℕ} {r s : TreesReply} → Distinct g → Words a → Words b
     → ShowOn sees g w ws a one m two n r → ShowOn sees g w ws b one m′ two n′ s → (a ≡ b) × Same m m′ n n′ r s
 show-on sees g w D p q (Show.short {f = f} u v x h i j) (Show.short {f = f′} m n y k l o) =
-    (h ∙ sym k, (x ∙ ap (λ (z : Fault). reply (Answer.Refused z) 0 0 0) (same-fault f f′ 21 v n) ∙ sym y, (i ∙ sym l, j ∙ sym o)))
+    (h ∙ sym k, (x ∙ ap (λ (z : Fault). treesReplyOf (Answer.Refused z) 0 0 0) (same-fault f f′ 21 v n) ∙ sym y, (i ∙ sym l, j ∙ sym o)))
 show-on sees g w D p q (Show.short u v x h i j) (Show.showing k y) = absurd (omega (arith, k .sheet .enough, k .long))
 show-on sees g w D p q (Show.showing k y) (Show.short u v x h i j) = absurd (omega (arith, k .sheet .enough, k .long))
 show-on sees g w {one = one} {two = two} D p q (Show.showing h x) (Show.showing k y) = (filled-same p q h k, nothing-leaks sees (alike-self sees g w D) one two x y)
@@ -148,14 +148,14 @@ show-settled {rules = rules} {tokens = tokens} {user = user} p q (Show.reading {
 
 -- 2. change
 
-done-settled : {rules : List ℕ} {p : ℕ} {lay bytes a b : List ℕ} {r s : ListReply} → Done rules p lay bytes a r → Done rules p lay bytes b s → (r ≡ s) × (a ≡ b)
+done-settled : {rules : List ℕ} {p : ℕ} {lay bytes a b : List ℕ} {r s : ListReply} → ChangeDone rules p lay bytes a r → ChangeDone rules p lay bytes b s → (r ≡ s) × (a ≡ b)
 done-settled (unfit e x h) (unfit d y k) = let z = same-fifty e d in (x ∙ rw (z .0, z .1) (sym y), h ∙ sym k)
 done-settled (unfit e x h) (given d y) = absurd (never-both e d)
 done-settled (given d y) (unfit e x h) = absurd (never-both e d)
 done-settled (given e x) (given d y) = list-settled x y
 
 change-on : {may : View} {rules : List ℕ} {g : Rules} {p : ℕ} {lay bytes a b : List ℕ} {r s : ListReply} → ChangeOn may rules g p lay bytes a r → ChangeOn may rules g p lay bytes b s → (r ≡ s) × (a ≡ b)
-change-on (barred {f = f} m n x h) (barred {f = f′} q o y k) = (x ∙ ap (λ (z : Fault). refusal z 0) (same-fault f f′ 51 n o) ∙ sym y, h ∙ sym k)
+change-on (barred {f = f} m n x h) (barred {f = f′} q o y k) = (x ∙ ap (λ (z : Fault). changeRefusal z 0) (same-fault f f′ 51 n o) ∙ sym y, h ∙ sym k)
 change-on (barred m n x h) (allowed q y) = absurd (m q)
 change-on (allowed q y) (barred m n x h) = absurd (m q)
 change-on (allowed m x) (allowed q y) = done-settled x y

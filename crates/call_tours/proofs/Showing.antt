@@ -21,17 +21,17 @@ use Rattle.sheets.specs.declared.Fault.the-variants as Fault
 use Rattle.sheets.specs.declared.Outcome.the-variants.{Accepted, Refused}
 use Rattle.sheets.specs.Items.{Reading, accepted, refused}
 use Rattle.rights.specs.declared.Right.{Right}
-use Rattle.rights.specs.RightSheets.{maySee, mayChange, Holds, Gives}
+use Rattle.rights.specs.RightSheets.{maySee, mayChange, RightsHeld, RightsGiven}
 use Rattle.rights.specs.declared.RightsRead.{RightsRead}
 use Rattle.teplonga.specs.declared.Answer.the-variants as Answer
 use Rattle.teplonga.specs.declared.TreesReply.{TreesReply}
 use Rattle.teplonga.specs.Counted.{counted}
-use Rattle.teplonga.specs.Trees.{reply}
+use Rattle.teplonga.specs.Trees.{treesReplyOf}
 use Rattle.teplonga.specs.declared.ListReply.{ListReply}
 use Rattle.call_tours.specs.Change.{ChangeOn}
 use Rattle.call_tours.specs.Show.{ShownTo, treeless, single, both, large-one, large-two, ShowOn, short}
 
-pub too-few : (sees : View) (g : Rules) (w : Word) (n : ℕ) (ws one two : List ℕ) → length w ≡ n → length ws < 2 * pairs n → ShowOn sees g w ws ws one one two two (reply (Answer.Refused Fault.FewWords) 0 0 0)
+pub too-few : (sees : View) (g : Rules) (w : Word) (n : ℕ) (ws one two : List ℕ) → length w ≡ n → length ws < 2 * pairs n → ShowOn sees g w ws ws one one two two (treesReplyOf (Answer.Refused Fault.FewWords) 0 0 0)
 too-few sees g w n ws one two e h = short (omega (arith, ap pairs e)) refl refl refl refl refl
 
 module _ (sees : View) (g : Rules) (w : Word) {one two one′ two′ : List ℕ} {c : Counts} where
@@ -62,7 +62,7 @@ module _ (sees : View) (g : Rules) (w : Word) {one two one′ two′ : List ℕ}
       go (no h) k = large (inl (omega arith))
 
 -- the sets that were read are what the sheet lets the user see and change
-module _ {rs : List Right} {u a b : ℕ} (h : Holds rs u a b) where
+module _ {rs : List Right} {u a b : ℕ} (h : RightsHeld rs u a b) where
   sees-is : _≡_ {A = View} (member a) (maySee rs u)
   sees-is = λ i A. h .see A i
 
@@ -76,10 +76,10 @@ module _ {rs : List Right} {u a b : ℕ} (h : Holds rs u a b) where
   by-changes {s} {g} {p} {lay} {l} {m} {r} x = subst (λ (v : View). ChangeOn v s g p lay l m r) changes-is x
 
 -- what the rights sheet gives, by what its reader answers
-pub rights-not : (want : Reading Right) (u : ℕ) (r : RightsRead) {f : Fault} {l : ℕ} → Gives want u r → r .outcome ≡ Refused f l → want ≡ refused f l
+pub rights-not : (want : Reading Right) (u : ℕ) (r : RightsRead) {f : Fault} {l : ℕ} → RightsGiven want u r → r .outcome ≡ Refused f l → want ≡ refused f l
 rights-not (accepted rs) u r x e = absurd (let h = x .0 in let z : _≡_ {A = ℕ} 0 1 = cc in omega arith)
 rights-not (refused g m) u r x e = let h = x .0 in cc
 
-pub rights-are : (want : Reading Right) (u : ℕ) (r : RightsRead) → Gives want u r → r .outcome ≡ Accepted → (rs : List Right) × (want ≡ accepted rs) × Holds rs u (r .sees) (r .changes)
+pub rights-are : (want : Reading Right) (u : ℕ) (r : RightsRead) → RightsGiven want u r → r .outcome ≡ Accepted → (rs : List Right) × (want ≡ accepted rs) × RightsHeld rs u (r .sees) (r .changes)
 rights-are (accepted rs) u r x e = (rs, refl, x .1)
 rights-are (refused g m) u r x e = absurd (let h = x .0 in let z : _≡_ {A = ℕ} 0 1 = cc in omega arith)

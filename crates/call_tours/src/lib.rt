@@ -32,7 +32,7 @@ ghost use Rattle.shown.specs.Shown.{member};
 ghost use Rattle.teplonga.specs.Trees as Trees;
 ghost use Rattle.teplonga.specs.declared.Answer.the-variants as Answers;
 ghost use Rattle.call_tours.specs.Show.{ShowOn, ShowOf};
-ghost use Rattle.call_tours.specs.Change.{refusal, Done, ChangeOn, ChangeOf};
+ghost use Rattle.call_tours.specs.Change.{changeRefusal, ChangeDone, ChangeOn, ChangeOf};
 ghost use Rattle.call_tours.specs.Inner.{Named};
 
 // The trees of rules and a sentence that were read, as they are shown to a user who sees these nonterminals.
@@ -76,7 +76,7 @@ fn shown_to(
 
 // A refused call for trees.
 fn refused_trees(f: Fault, line: usize) -> TreesReply
-    ensures { λ r. ⌜ r ≡ Trees.reply (Answers.Refused f) line 0 0 ⌝ }
+    ensures { λ r. ⌜ r ≡ Trees.treesReplyOf (Answers.Refused f) line 0 0 ⌝ }
 {
     TreesReply {
         answer: Answer::Refused(f),
@@ -126,7 +126,7 @@ pub fn show(
 
 // A refused change.
 fn refuse(f: Fault, line: usize) -> ListReply
-    ensures { λ r. ⌜ r ≡ refusal f line ⌝ }
+    ensures { λ r. ⌜ r ≡ changeRefusal f line ⌝ }
 {
     ListReply {
         answer: Answer::Refused(f),
@@ -139,7 +139,7 @@ fn refuse(f: Fault, line: usize) -> ListReply
 fn marked(rules: &[u8], c: Clause, rule: usize, lay: &[u8], bytes: &mut [u8]) -> ListReply
     requires { ⌜ Named (now rules) rule c ⌝ }
     requires { ⌜ rule ≤ 128 ⌝ }
-    ensures { λ r. ⌜ Done (now (rules .entry)) rule (now (lay .entry)) (now (bytes .entry)) (now (bytes .exit)) r ⌝ }
+    ensures { λ r. ⌜ ChangeDone (now (rules .entry)) rule (now (lay .entry)) (now (bytes .entry)) (now (bytes .exit)) r ⌝ }
 {
     match lay_word(lay) {
         LayWord::Not => refuse(Fault::RuleForm, rule + 1),

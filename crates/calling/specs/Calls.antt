@@ -24,14 +24,14 @@ abbrev pub Unwritten : List ℕ → Type 0
 Unwritten text = text ≡ head (refusedText 32) 0
 
 -- a call on two sheets: an empty line ends the first, the second takes all the rest
-pub data Two (Of : List ℕ → List ℕ → List ℕ → Type 0) (behind text : List ℕ) : Type 0 where
-  fewer : parts behind ≡ none → Unwritten text → Two Of behind text
-  two : {p : Parts} → parts behind ≡ some p → Of (p .before) (p .behind) text → Two Of behind text
+pub data OnTwoSheets (Of : List ℕ → List ℕ → List ℕ → Type 0) (behind text : List ℕ) : Type 0 where
+  fewer : parts behind ≡ none → Unwritten text → OnTwoSheets Of behind text
+  two : {p : Parts} → parts behind ≡ some p → Of (p .before) (p .behind) text → OnTwoSheets Of behind text
 
 -- a call on three sheets
-pub data Three (Of : List ℕ → List ℕ → List ℕ → List ℕ → Type 0) (behind text : List ℕ) : Type 0 where
-  fewer : parts behind ≡ none → Unwritten text → Three Of behind text
-  three : {p : Parts} → parts behind ≡ some p → Two (Of (p .before)) (p .behind) text → Three Of behind text
+pub data OnThreeSheets (Of : List ℕ → List ℕ → List ℕ → List ℕ → Type 0) (behind text : List ℕ) : Type 0 where
+  fewer : parts behind ≡ none → Unwritten text → OnThreeSheets Of behind text
+  three : {p : Parts} → parts behind ≡ some p → OnTwoSheets (Of (p .before)) (p .behind) text → OnThreeSheets Of behind text
 
 -- `clauses`: the answer on a clause sheet and a token sheet, and its trees
 abbrev pub ClausesText : List ℕ → List ℕ → List ℕ → Type 0
@@ -47,15 +47,15 @@ ChangedText sheet user rule at rules rights text = ChangeText rules rights user 
 
 -- the output of a call, from its call sheet, which has the new mark of a change, and what follows it
 abbrev pub CallText : List ℕ → Call → List ℕ → List ℕ → Type 0
-CallText sheet Call.Clauses behind text = Two ClausesText behind text
+CallText sheet Call.Clauses behind text = OnTwoSheets ClausesText behind text
 CallText sheet (Call.ClausesSweep k) behind text = SweepText k (clauseSheet behind) text
 CallText sheet Call.Expand behind text = ExpandText behind text
-CallText sheet Call.Rows behind text = Two RowsTextOf behind text
+CallText sheet Call.Rows behind text = OnTwoSheets RowsTextOf behind text
 CallText sheet (Call.Share n p i) behind text = ShareTextOf n p i behind text
-CallText sheet Call.Columns behind text = Two ColumnsTextOf behind text
-CallText sheet Call.Places behind text = Two PlacesTextOf behind text
-CallText sheet (Call.Show u) behind text = Three (ShownText u) behind text
-CallText sheet (Call.Change u r at) behind text = Two (ChangedText sheet u r at) behind text
+CallText sheet Call.Columns behind text = OnTwoSheets ColumnsTextOf behind text
+CallText sheet Call.Places behind text = OnTwoSheets PlacesTextOf behind text
+CallText sheet (Call.Show u) behind text = OnThreeSheets (ShownText u) behind text
+CallText sheet (Call.Change u r at) behind text = OnTwoSheets (ChangedText sheet u r at) behind text
 CallText sheet Call.Not behind text = Unwritten text
 
 -- the output: refused-31 for a longer input, refused-32 for one without an empty line, else that of the call

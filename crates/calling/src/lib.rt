@@ -21,12 +21,12 @@ ghost use Rattle.column_text.specs.Columns.{ColumnsTextOf};
 ghost use Rattle.text.specs.Printed.{Printed};
 ghost use Rattle.text_trees.specs.Rows.{RowsTextOf};
 ghost use Rattle.text_trees.specs.Places.{PlacesTextOf};
-ghost use Rattle.calling.specs.Calls.{Two, Three, ClausesText, ShownText, ChangedText, CallText, CallsOf};
+ghost use Rattle.calling.specs.Calls.{OnTwoSheets, OnThreeSheets, ClausesText, ShownText, ChangedText, CallText, CallsOf};
 
 // The call `clauses` on the two sheets that the first empty line parts.
 fn clauses_call(s: &[u8], out: &mut [u8]) -> usize
     requires { ⌜ 262144 ≤ length (now out) ⌝ }
-    ensures { λ r. ⌜ Printed (Two ClausesText) (now (s .entry)) (now (out .entry)) (now (out .exit)) r ⌝ }
+    ensures { λ r. ⌜ Printed (OnTwoSheets ClausesText) (now (s .entry)) (now (out .entry)) (now (out .exit)) r ⌝ }
 {
     let place = parting(s);
     match place {
@@ -41,7 +41,7 @@ fn clauses_call(s: &[u8], out: &mut [u8]) -> usize
 // The call `rows` on the two sheets that the first empty line parts.
 fn rows_call(s: &[u8], out: &mut [u8]) -> usize
     requires { ⌜ 262144 ≤ length (now out) ⌝ }
-    ensures { λ r. ⌜ Printed (Two RowsTextOf) (now (s .entry)) (now (out .entry)) (now (out .exit)) r ⌝ }
+    ensures { λ r. ⌜ Printed (OnTwoSheets RowsTextOf) (now (s .entry)) (now (out .entry)) (now (out .exit)) r ⌝ }
 {
     let place = parting(s);
     match place {
@@ -56,7 +56,7 @@ fn rows_call(s: &[u8], out: &mut [u8]) -> usize
 // The call `columns` on the two sheets that the first empty line parts.
 fn columns_call(s: &[u8], out: &mut [u8]) -> usize
     requires { ⌜ 262144 ≤ length (now out) ⌝ }
-    ensures { λ r. ⌜ Printed (Two ColumnsTextOf) (now (s .entry)) (now (out .entry)) (now (out .exit)) r ⌝ }
+    ensures { λ r. ⌜ Printed (OnTwoSheets ColumnsTextOf) (now (s .entry)) (now (out .entry)) (now (out .exit)) r ⌝ }
 {
     let place = parting(s);
     match place {
@@ -71,7 +71,7 @@ fn columns_call(s: &[u8], out: &mut [u8]) -> usize
 // The call `places` on the two sheets that the first empty line parts.
 fn places_call(s: &[u8], out: &mut [u8]) -> usize
     requires { ⌜ 262144 ≤ length (now out) ⌝ }
-    ensures { λ r. ⌜ Printed (Two PlacesTextOf) (now (s .entry)) (now (out .entry)) (now (out .exit)) r ⌝ }
+    ensures { λ r. ⌜ Printed (OnTwoSheets PlacesTextOf) (now (s .entry)) (now (out .entry)) (now (out .exit)) r ⌝ }
 {
     let place = parting(s);
     match place {
@@ -86,7 +86,7 @@ fn places_call(s: &[u8], out: &mut [u8]) -> usize
 // The call `show` on a rule sheet and the two sheets behind it, which the first empty line parts.
 fn shown_call(rules: &[u8], s: &[u8], user: u32, out: &mut [u8]) -> usize
     requires { ⌜ 262144 ≤ length (now out) ⌝ }
-    ensures { λ r. ⌜ Printed (Two (ShownText user (now (rules .entry)))) (now (s .entry)) (now (out .entry)) (now (out .exit)) r ⌝ }
+    ensures { λ r. ⌜ Printed (OnTwoSheets (ShownText user (now (rules .entry)))) (now (s .entry)) (now (out .entry)) (now (out .exit)) r ⌝ }
 {
     let place = parting(s);
     match place {
@@ -101,7 +101,7 @@ fn shown_call(rules: &[u8], s: &[u8], user: u32, out: &mut [u8]) -> usize
 // The call `show` on the three sheets that the first two empty lines part.
 fn show_call(s: &[u8], user: u32, out: &mut [u8]) -> usize
     requires { ⌜ 262144 ≤ length (now out) ⌝ }
-    ensures { λ r. ⌜ Printed (Three (ShownText user)) (now (s .entry)) (now (out .entry)) (now (out .exit)) r ⌝ }
+    ensures { λ r. ⌜ Printed (OnThreeSheets (ShownText user)) (now (s .entry)) (now (out .entry)) (now (out .exit)) r ⌝ }
 {
     let place = parting(s);
     match place {
@@ -117,7 +117,7 @@ fn show_call(s: &[u8], user: u32, out: &mut [u8]) -> usize
 fn change_call(sheet: &[u8], s: &[u8], user: u32, rule: u32, at: usize, out: &mut [u8]) -> usize
     requires { ⌜ 262144 ≤ length (now out) ⌝ }
     requires { ⌜ at < length (now sheet) ⌝ }
-    ensures { λ r. ⌜ Printed (Two (ChangedText (now (sheet .entry)) user rule at)) (now (s .entry)) (now (out .entry)) (now (out .exit)) r ⌝ }
+    ensures { λ r. ⌜ Printed (OnTwoSheets (ChangedText (now (sheet .entry)) user rule at)) (now (s .entry)) (now (out .entry)) (now (out .exit)) r ⌝ }
 {
     let place = parting(s);
     match place {

@@ -16,7 +16,7 @@ use Rattle.grammar.specs.Trees.{Rules}
 use Rattle.grammar.specs.Candidates.{Terminal}
 use Rattle.grammar.specs.Sweeps.{isAtom, stands, terminalsBelow, terminalCount}
 use Rattle.grammar.proofs.Atoms.{atom-is, has-atom, atom-over}
-use Rattle.candidates.specs.Terminals.{Terminals, Counted}
+use Rattle.candidates.specs.Terminals.{Terminals, CountsOnes}
 
 -- ---- `stands` says what `Terminal` says
 
@@ -73,5 +73,5 @@ module _ (g : Rules) (s : ℕ) (t : Terminals g s) where
   ones-count : s < 2 ^ 64 → ones s ≡ terminalCount g
   ones-count h = ap ones (sym (mod-eq-of-lt h)) ∙ ones-below 64
 
-pub counted : (s : ℕ) → s < 2 ^ 64 → Counted s (ones s)
+pub counted : (s : ℕ) → s < 2 ^ 64 → CountsOnes s (ones s)
 counted s h = record { ones = refl; few = ones-le 64 s h; terminals = λ g t. ones-count g s t h }

@@ -9,7 +9,7 @@ use lib.ListN.{length, take}
 use Rattle.grammar.specs.declared.Token.{Token}
 use Rattle.grammar.specs.declared.Cell.{Cell}
 use Rattle.grammar.specs.Layout.{line, col, width}
-use Rattle.grammar.specs.Candidates.{RisingFrom, token, placed, Cells, Candidate, CellBefore, Before}
+use Rattle.grammar.specs.Candidates.{RisingFrom, token, placed, Cells, Candidate, CellBefore, CellsBefore}
 use Rattle.candidates.specs.Succession.{Shares}
 use Rattle.candidates.specs.Windows.{Fits, Fit, LeastCell, NextCell, LastCell, Least, Next, Last}
 
@@ -53,7 +53,7 @@ module _ (Q : ℕ → Type 0) (n m p : ℕ) where
   pub least-nil : Least Q n m p 0 []
   least-nil = record { size = refl; fit = tt; least = go }
     where
-      go : (ds : List Cell) → length ds ≡ 0 → Fit Q n m p ds → Before ds [] → ⊥
+      go : (ds : List Cell) → length ds ≡ 0 → Fit Q n m p ds → CellsBefore ds [] → ⊥
       go [] e f b = b
       go (d ∷ ds) e f b = b
 
@@ -64,34 +64,34 @@ module _ (Q : ℕ → Type 0) (n m p : ℕ) where
   pub least-cons : (j : ℕ) (c : Cell) (cs : List Cell) → LeastCell Q n m p c → Least Q n 2 (c .column) j cs → Least Q n m p (suc j) (c ∷ cs)
   least-cons j c cs h t = record { size = ap suc (t .size); fit = (h .fits, t .fit); least = go }
     where
-      go : (ds : List Cell) → length ds ≡ suc j → Fit Q n m p ds → Before ds (c ∷ cs) → ⊥
+      go : (ds : List Cell) → length ds ≡ suc j → Fit Q n m p ds → CellsBefore ds (c ∷ cs) → ⊥
       go [] e f b = b
       go (d ∷ ds) e f (inl b) = h .least d (f .0) b
       go (d ∷ ds) e f (inr b) = t .least ds (omega arith) (subst (λ (k : ℕ). Fit Q n 2 k ds) (ap (λ (x : Cell). x .column) (b .0)) (f .1)) (b .1)
 
-  cons-or : (b : ℕ) (d c : Cell) (ds cs : List Cell) → d ≡ c → Shares b ds cs ⊎ Before ds cs → Shares (suc b) (d ∷ ds) (c ∷ cs) ⊎ Before (d ∷ ds) (c ∷ cs)
+  cons-or : (b : ℕ) (d c : Cell) (ds cs : List Cell) → d ≡ c → Shares b ds cs ⊎ CellsBefore ds cs → Shares (suc b) (d ∷ ds) (c ∷ cs) ⊎ CellsBefore (d ∷ ds) (c ∷ cs)
   cons-or b d c ds cs e (inl h) = inl (cc)
   cons-or b d c ds cs e (inr h) = inr (inr (e, h))
 
   pub last-cons : (k : ℕ) (c : Cell) (cs : List Cell) → LastCell Q n m p c → Last Q n 2 (c .column) k cs → Last Q n m p (suc k) (c ∷ cs)
   last-cons k c cs h t = record { last = go }
     where
-      tails : (d : Cell) (ds : List Cell) → length ds ≡ length cs → Fit Q n 2 (d .column) ds → (d ≡ c) ⊎ CellBefore d c → Shares (suc k) (d ∷ ds) (c ∷ cs) ⊎ Before (d ∷ ds) (c ∷ cs)
+      tails : (d : Cell) (ds : List Cell) → length ds ≡ length cs → Fit Q n 2 (d .column) ds → (d ≡ c) ⊎ CellBefore d c → Shares (suc k) (d ∷ ds) (c ∷ cs) ⊎ CellsBefore (d ∷ ds) (c ∷ cs)
       tails d ds e f (inl q) = cons-or k d c ds cs q (t .last ds e (subst (λ (x : ℕ). Fit Q n 2 x ds) (ap (λ (y : Cell). y .column) q) f))
       tails d ds e f (inr q) = inr (inl q)
 
-      go : (ds : List Cell) → length ds ≡ suc (length cs) → Fit Q n m p ds → Shares (suc k) ds (c ∷ cs) ⊎ Before ds (c ∷ cs)
+      go : (ds : List Cell) → length ds ≡ suc (length cs) → Fit Q n m p ds → Shares (suc k) ds (c ∷ cs) ⊎ CellsBefore ds (c ∷ cs)
       go [] e f = absurd (omega arith)
       go (d ∷ ds) e f = tails d ds (omega arith) (f .1) (h .last d (f .0))
 
   pub next-tail : (k : ℕ) (c : Cell) (cs rs : List Cell) → Fits Q n m p c → Next Q n 2 (c .column) k cs rs → Next Q n m p (suc k) (c ∷ cs) (c ∷ rs)
   next-tail k c cs rs h t = record { size = ap suc (t .size); fit = (h, t .fit); later = after; gapless = go }
     where
-      after : (ds : List Cell) → length ds ≡ suc (length cs) → Shares (suc k) ds (c ∷ cs) → Before ds (c ∷ rs)
+      after : (ds : List Cell) → length ds ≡ suc (length cs) → Shares (suc k) ds (c ∷ cs) → CellsBefore ds (c ∷ rs)
       after [] e s = absurd (omega arith)
       after (d ∷ ds) e s = let q : d ≡ c = cc in let r : take k ds ≡ take k cs = cc in inr (q, t .later ds (omega arith) r)
 
-      go : (ds : List Cell) → length ds ≡ suc (length cs) → Fit Q n m p ds → Before ds (c ∷ rs) → Shares (suc k) ds (c ∷ cs) ⊎ Before ds (c ∷ cs)
+      go : (ds : List Cell) → length ds ≡ suc (length cs) → Fit Q n m p ds → CellsBefore ds (c ∷ rs) → Shares (suc k) ds (c ∷ cs) ⊎ CellsBefore ds (c ∷ cs)
       go [] e f b = absurd b
       go (d ∷ ds) e f (inl b) = inr (inl b)
       go (d ∷ ds) e f (inr b) = cons-or k d c ds cs (b .0) (t .gapless ds (omega arith) (subst (λ (x : ℕ). Fit Q n 2 x ds) (ap (λ (y : Cell). y .column) (b .0)) (f .1)) (b .1))
@@ -99,15 +99,15 @@ module _ (Q : ℕ → Type 0) (n m p : ℕ) where
   pub next-head : (k : ℕ) (c r : Cell) (cs ls : List Cell) → Last Q n 2 (c .column) k cs → NextCell Q n m p c r → Least Q n 2 (r .column) (length cs) ls → Next Q n m p (suc k) (c ∷ cs) (r ∷ ls)
   next-head k c r cs ls t h l = record { size = ap suc (l .size); fit = (h .fits, l .fit); later = after; gapless = go }
     where
-      after : (ds : List Cell) → length ds ≡ suc (length cs) → Shares (suc k) ds (c ∷ cs) → Before ds (r ∷ ls)
+      after : (ds : List Cell) → length ds ≡ suc (length cs) → Shares (suc k) ds (c ∷ cs) → CellsBefore ds (r ∷ ls)
       after [] e s = absurd (omega arith)
       after (d ∷ ds) e s = let q : d ≡ c = cc in inl (subst (λ (x : Cell). CellBefore x r) (sym q) (h .later))
 
-      tails : (d : Cell) (ds : List Cell) → length ds ≡ length cs → Fit Q n 2 (d .column) ds → (d ≡ c) ⊎ CellBefore d c → Shares (suc k) (d ∷ ds) (c ∷ cs) ⊎ Before (d ∷ ds) (c ∷ cs)
+      tails : (d : Cell) (ds : List Cell) → length ds ≡ length cs → Fit Q n 2 (d .column) ds → (d ≡ c) ⊎ CellBefore d c → Shares (suc k) (d ∷ ds) (c ∷ cs) ⊎ CellsBefore (d ∷ ds) (c ∷ cs)
       tails d ds e f (inl q) = cons-or k d c ds cs q (t .last ds e (subst (λ (x : ℕ). Fit Q n 2 x ds) (ap (λ (y : Cell). y .column) q) f))
       tails d ds e f (inr q) = inr (inl q)
 
-      go : (ds : List Cell) → length ds ≡ suc (length cs) → Fit Q n m p ds → Before ds (r ∷ ls) → Shares (suc k) ds (c ∷ cs) ⊎ Before ds (c ∷ cs)
+      go : (ds : List Cell) → length ds ≡ suc (length cs) → Fit Q n m p ds → CellsBefore ds (r ∷ ls) → Shares (suc k) ds (c ∷ cs) ⊎ CellsBefore ds (c ∷ cs)
       go [] e f b = absurd b
       go (d ∷ ds) e f (inl b) = tails d ds (omega arith) (f .1) (h .gapless d (f .0) b)
       go (d ∷ ds) e f (inr b) = absurd (l .least ds (omega arith) (subst (λ (x : ℕ). Fit Q n 2 x ds) (ap (λ (y : Cell). y .column) (b .0)) (f .1)) (b .1))

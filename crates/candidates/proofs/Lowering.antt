@@ -9,7 +9,7 @@ use Rattle.grammar.specs.declared.Token.{Token}
 use Rattle.grammar.specs.declared.Cell.{Cell}
 use Rattle.grammar.specs.Layout.{line, Every}
 use Rattle.grammar.specs.Trees.{Rules, TwoTrees}
-use Rattle.grammar.specs.Candidates.{token, placed, sentence, Candidate, Before}
+use Rattle.grammar.specs.Candidates.{token, placed, sentence, Candidate, CellsBefore}
 use Rattle.grammar.proofs.Transfer.{Alike, same-atoms, two-keeps}
 use Rattle.candidates.specs.Terminals.{Among}
 use Rattle.candidates.specs.Succession.{Shares}
@@ -36,10 +36,10 @@ abbrev pub Clears : ℕ → Token → Type 0
 Clears L t = (line t + 2 ≤ L) ⊎ (L ≤ line t)
 
 -- the line of the token at p, the token before the first being on line l
-abbrev pub lineOf : ℕ → ℕ → List Cell → ℕ
-lineOf l p [] = l
-lineOf l zero (c ∷ cs) = l + c .step
-lineOf l (suc p) (c ∷ cs) = lineOf (l + c .step) p cs
+abbrev pub lineOfToken : ℕ → ℕ → List Cell → ℕ
+lineOfToken l p [] = l
+lineOfToken l zero (c ∷ cs) = l + c .step
+lineOfToken l (suc p) (c ∷ cs) = lineOfToken (l + c .step) p cs
 
 -- the cell at p has a step of 2
 abbrev pub TwoAt : ℕ → List Cell → Type 0
@@ -51,7 +51,7 @@ lower p [] = []
 lower zero (c ∷ cs) = record { terminal = c .terminal; step = c .step - 1; column = c .column } ∷ cs
 lower (suc p) (c ∷ cs) = c ∷ lower p cs
 
-pub line-two : (l p : ℕ) (cs : List Cell) → TwoAt p cs → l + 2 ≤ lineOf l p cs
+pub line-two : (l p : ℕ) (cs : List Cell) → TwoAt p cs → l + 2 ≤ lineOfToken l p cs
 line-two l p [] h = absurd h
 line-two l zero (c ∷ cs) h = omega arith
 line-two l (suc p) (c ∷ cs) h = omega (arith, line-two (l + c .step) p cs h)
@@ -62,19 +62,19 @@ lifted-rest L l (c ∷ cs) h k =
     let e : (l + c .step) - 1 ≡ (l - 1) + c .step = omega arith in
     ap₂ _∷_ (ap (λ (x : ℕ). token x c) (up-above L (l + c .step) (omega arith) ∙ e)) (lifted-rest L (l + c .step) cs (omega arith) k ∙ ap (λ (x : ℕ). placed x cs) e)
 
-pub lifted : (l p : ℕ) (cs : List Cell) → TwoAt p cs → map (lift (lineOf l p cs)) (placed l cs) ≡ placed l (lower p cs)
+pub lifted : (l p : ℕ) (cs : List Cell) → TwoAt p cs → map (lift (lineOfToken l p cs)) (placed l cs) ≡ placed l (lower p cs)
 lifted l p [] h = absurd h
 lifted l zero (c ∷ cs) h =
     let e : (l + c .step) - 1 ≡ l + (c .step - 1) = omega arith in
     ap₂ _∷_ (ap (λ (x : ℕ). token x c) (up-above (l + c .step) (l + c .step) (omega arith) ∙ e)) (lifted-rest (l + c .step) (l + c .step) cs (omega arith) (omega arith) ∙ ap (λ (x : ℕ). placed x cs) e)
 lifted l (suc p) (c ∷ cs) h =
-    ap₂ _∷_ (ap (λ (x : ℕ). token x c) (up-below (lineOf (l + c .step) p cs) (l + c .step) (omega (arith, line-two (l + c .step) p cs h)))) (lifted (l + c .step) p cs h)
+    ap₂ _∷_ (ap (λ (x : ℕ). token x c) (up-below (lineOfToken (l + c .step) p cs) (l + c .step) (omega (arith, line-two (l + c .step) p cs h)))) (lifted (l + c .step) p cs h)
 
 clears-rest : (L l : ℕ) (cs : List Cell) → L ≤ l → Every (Clears L) (placed l cs)
 clears-rest L l [] h = tt
 clears-rest L l (c ∷ cs) h = (inr (omega arith), clears-rest L (l + c .step) cs (omega arith))
 
-pub clears : (l p : ℕ) (cs : List Cell) → TwoAt p cs → Every (Clears (lineOf l p cs)) (placed l cs)
+pub clears : (l p : ℕ) (cs : List Cell) → TwoAt p cs → Every (Clears (lineOfToken l p cs)) (placed l cs)
 clears l p [] h = absurd h
 clears l zero (c ∷ cs) h = (inr (omega arith), clears-rest (l + c .step) (l + c .step) cs (omega arith))
 clears l (suc p) (c ∷ cs) h = (inl (line-two (l + c .step) p cs h), clears (l + c .step) p cs h)
@@ -120,7 +120,7 @@ lower-long zero (c ∷ cs) = refl
 lower-long (suc p) (c ∷ cs) = ap suc (lower-long p cs)
 
 -- it comes before all that share its cells up to there
-pub lower-before : (p b : ℕ) (ds cs : List Cell) → p < b → Shares b ds cs → TwoAt p ds → Before (lower p ds) cs
+pub lower-before : (p b : ℕ) (ds cs : List Cell) → p < b → Shares b ds cs → TwoAt p ds → CellsBefore (lower p ds) cs
 lower-before p zero ds cs h e t = absurd (omega arith)
 lower-before p (suc b) [] cs h e t = absurd t
 lower-before p (suc b) (d ∷ ds) [] h e t = absurd (let z : suc (length (take b ds)) ≡ 0 = ap length e in omega arith)
@@ -132,5 +132,5 @@ lowered g s n p b ds cs h k e t d = record {
   cells = lower p ds;
   candidate = fit-candidate (Among s) n (lower p ds) (lower-long p ds ∙ k .arranged .size) (lower-fit (Among s) n 0 0 p ds t (candidate-fit (Among s) n ds k));
   before = lower-before p b ds cs h e t;
-  two = subst (TwoTrees g 0) (lifted 1 p ds t) (two-keeps g (Clears (lineOf 1 p ds)) (lift (lineOf 1 p ds)) (lift-alike g (lineOf 1 p ds) (omega (arith, line-two 1 p ds t))) 0 (sentence ds) (clears 1 p ds t) d);
+  two = subst (TwoTrees g 0) (lifted 1 p ds t) (two-keeps g (Clears (lineOfToken 1 p ds)) (lift (lineOfToken 1 p ds)) (lift-alike g (lineOfToken 1 p ds) (omega (arith, line-two 1 p ds t))) 0 (sentence ds) (clears 1 p ds t) d);
 }

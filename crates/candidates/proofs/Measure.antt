@@ -7,7 +7,7 @@ use native.Mathlib.Omega.{arith}
 use lib.Arith.{digits-lt}
 use lib.ListN.{length}
 use Rattle.grammar.specs.declared.Cell.{Cell}
-use Rattle.grammar.specs.Candidates.{Ranged, Cells, Candidate, CellBefore, Before}
+use Rattle.grammar.specs.Candidates.{Ranged, Cells, Candidate, CellBefore, CellsBefore}
 use Rattle.candidates.specs.Terminals.{Among}
 
 -- a cell as a number below 2048: 64 terminals, 3 steps, columns to 7
@@ -42,7 +42,7 @@ module _ (s n : ℕ) (few : n ≤ 7) where
   rank-lt m c d h k l (inr (inl b)) = (omega (arith, k .high, l .low), omega (arith, l .terminal .0, l .step, l .high))
   rank-lt m c d h k l (inr (inr b)) = (omega arith, omega (arith, l .terminal .0, l .step, l .high))
 
-  falls : (m : ℕ) (cs ds : List Cell) → m ≤ 2 → length cs ≡ length ds → Cells (Among s) n m cs → Cells (Among s) n m ds → Before cs ds → left ds < left cs
+  falls : (m : ℕ) (cs ds : List Cell) → m ≤ 2 → length cs ≡ length ds → Cells (Among s) n m cs → Cells (Among s) n m ds → CellsBefore cs ds → left ds < left cs
   unfolding left
   falls m [] ds h e k l b = absurd b
   falls m (c ∷ cs) [] h e k l b = absurd b
@@ -56,5 +56,5 @@ module _ (s n : ℕ) (few : n ≤ 7) where
       let x : left ds < left cs = falls 2 cs ds (omega arith) (omega arith) (k .1) (l .1) (b .1) in
       rw (b .0, q) (omega arith)
 
-  pub left-falls : {cs ds : List Cell} → Candidate (Among s) n cs → Candidate (Among s) n ds → Before cs ds → left ds < left cs
+  pub left-falls : {cs ds : List Cell} → Candidate (Among s) n cs → Candidate (Among s) n ds → CellsBefore cs ds → left ds < left cs
   left-falls {cs} {ds} k l b = falls 0 cs ds (omega arith) (k .arranged .size ∙ sym (l .arranged .size)) (k .arranged .cells) (l .arranged .cells) b

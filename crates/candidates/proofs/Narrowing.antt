@@ -10,7 +10,7 @@ use Rattle.grammar.specs.declared.Token.{Token}
 use Rattle.grammar.specs.declared.Cell.{Cell}
 use Rattle.grammar.specs.Layout.{line, col, Every}
 use Rattle.grammar.specs.Trees.{Rules, TwoTrees}
-use Rattle.grammar.specs.Candidates.{placed, sentence, Candidate, Before}
+use Rattle.grammar.specs.Candidates.{placed, sentence, Candidate, CellsBefore}
 use Rattle.grammar.proofs.SweepLaws.{cell-path}
 use Rattle.grammar.proofs.Transfer.{Alike, same-atoms, two-keeps}
 use Rattle.candidates.specs.Terminals.{Among}
@@ -112,7 +112,7 @@ close-long : (k : ℕ) (cs : List Cell) → length (close k cs) ≡ length cs
 close-long k [] = refl
 close-long k (c ∷ cs) = ap suc (close-long k cs)
 
-close-before : (k p b : ℕ) (ds cs : List Cell) → p < b → Shares b ds cs → Free k ds → PastAt k p ds → Before (close k ds) cs
+close-before : (k p b : ℕ) (ds cs : List Cell) → p < b → Shares b ds cs → Free k ds → PastAt k p ds → CellsBefore (close k ds) cs
 close-before k p zero ds cs h e f t = absurd (omega arith)
 close-before k p (suc b) [] cs h e f t = absurd t
 close-before k p (suc b) (d ∷ ds) [] h e f t = absurd (let z : suc (length (take b ds)) ≡ 0 = ap length e in omega arith)
@@ -125,7 +125,7 @@ close-before k p (suc b) (d ∷ ds) (c ∷ cs) h e f t = go (back-at k (d .colum
     rest = cc
 
     go : ((back k (d .column) ≡ d .column) × (d .column < k)) ⊎ ((back k (d .column) ≡ d .column - 1) × (k < d .column))
-        → (p : ℕ) → p < suc b → PastAt k p (d ∷ ds) → ((q : ℕ) → q < b → PastAt k q ds → Before (close k ds) cs) → Before (close k (d ∷ ds)) (c ∷ cs)
+        → (p : ℕ) → p < suc b → PastAt k p (d ∷ ds) → ((q : ℕ) → q < b → PastAt k q ds → CellsBefore (close k ds) cs) → CellsBefore (close k (d ∷ ds)) (c ∷ cs)
     go (inr a) p h t ih = inl (inr (inr (ap (λ (x : Cell). x .terminal) head, ap (λ (x : Cell). x .step) head, omega (arith, a .0, a .1, ap (λ (x : Cell). x .column) head))))
     go (inl a) zero h t ih = absurd (omega (arith, a .1))
     go (inl a) (suc p) h t ih = inr (cell-path refl refl (a .0) ∙ head, ih p (omega arith) t)

@@ -7,7 +7,7 @@ use lib.Dec.{eqb}
 use lib.ListN.{getD}
 use Rattle.grammar.specs.declared.Cell.{Cell}
 use Rattle.grammar.specs.Trees.{Rules, TwoTrees}
-use Rattle.grammar.specs.Candidates.{Candidate, Before, sentence}
+use Rattle.grammar.specs.Candidates.{Candidate, CellsBefore, sentence}
 use Rattle.candidates.specs.Terminals.{Among}
 use Rattle.candidates.specs.Succession.{Shares}
 
@@ -15,7 +15,7 @@ use Rattle.candidates.specs.Succession.{Shares}
 pub record TwoBefore (g : Rules) (s n : ℕ) (cs : List Cell) : Type 0 where
   pub cells : List Cell
   pub candidate : Candidate (Among s) n cells
-  pub before : Before cells cs
+  pub before : CellsBefore cells cs
   pub two : TwoTrees g 0 (sentence cells)
 
 -- each candidate that shares cs's first b cells reads like one before all that do: if it has two trees, that one has

@@ -6,7 +6,7 @@ use mathlib.Core.List.{List}
 use Prim.Native.Nat.{ℕ, _-_, _≤_}
 use lib.ListN.{take}
 use Rattle.grammar.specs.declared.Cell.{Cell}
-use Rattle.grammar.specs.Candidates.{Candidate, Before}
+use Rattle.grammar.specs.Candidates.{Candidate, CellsBefore}
 use Rattle.candidates.specs.Terminals.{Among}
 
 -- the first b cells are the same
@@ -16,21 +16,21 @@ Shares b ds cs = take b ds ≡ take b cs
 -- cs is the first candidate of length n
 pub record First (s n : ℕ) (cs : List Cell) : Type 0 where
   pub candidate : Candidate (Among s) n cs
-  pub first : (ds : List Cell) → Candidate (Among s) n ds → Before ds cs → ⊥
+  pub first : (ds : List Cell) → Candidate (Among s) n ds → CellsBefore ds cs → ⊥
 
 -- rs is the least candidate after all that share cs's first b cells; where b is n, the next after cs
 -- all cells before the last of the first `upto` are cs's
 pub record Follows (s n b : ℕ) (cs : List Cell) (upto : ℕ) (rs : List Cell) : Type 0 where
   pub candidate : Candidate (Among s) n rs
-  pub later : (ds : List Cell) → Candidate (Among s) n ds → Shares b ds cs → Before ds rs
-  pub least : (ds : List Cell) → Candidate (Among s) n ds → Before ds rs → Shares b ds cs ⊎ Before ds cs
+  pub later : (ds : List Cell) → Candidate (Among s) n ds → Shares b ds cs → CellsBefore ds rs
+  pub least : (ds : List Cell) → Candidate (Among s) n ds → CellsBefore ds rs → Shares b ds cs ⊎ CellsBefore ds cs
   pub low : 1 ≤ upto
   pub high : upto ≤ b
   pub kept : Shares (upto - 1) rs cs
 
 -- no candidate comes after all that share cs's first b cells
 pub record Ends (s n b : ℕ) (cs : List Cell) : Type 0 where
-  pub last : (ds : List Cell) → Candidate (Among s) n ds → Shares b ds cs ⊎ Before ds cs
+  pub last : (ds : List Cell) → Candidate (Among s) n ds → Shares b ds cs ⊎ CellsBefore ds cs
 
 -- the next one where there is more, else there is none
 pub record Succeeds (s n b : ℕ) (cs : List Cell) (more : Bool) (upto : ℕ) (rs : List Cell) : Type 0 where

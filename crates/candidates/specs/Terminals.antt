@@ -32,7 +32,7 @@ pub record Widened (s : ℕ) (k : Clause) (u : ℕ) : Type 0 where
   pub is : (x : ℕ) → In u x ↔ (In s x ⊎ (isAtom x k ≡ true))
 
 -- t counts the ones of s: where s is the set of a sheet's terminals, t is its T
-pub record Counted (s t : ℕ) : Type 0 where
+pub record CountsOnes (s t : ℕ) : Type 0 where
   pub ones : t ≡ ones s
   pub few : t ≤ 64
   pub terminals : (g : Rules) → Terminals g s → t ≡ terminalCount g

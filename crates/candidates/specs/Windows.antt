@@ -7,7 +7,7 @@ use mathlib.Core.List.{List, [], _∷_}
 use Prim.Native.Nat.{ℕ, zero, suc, _+_, _-_, _≤_, _<_}
 use lib.ListN.{length, getD}
 use Rattle.grammar.specs.declared.Cell.{Cell}
-use Rattle.grammar.specs.Candidates.{Ranged, CellBefore, Before}
+use Rattle.grammar.specs.Candidates.{Ranged, CellBefore, CellsBefore}
 use Rattle.candidates.specs.declared.Candidate.{Candidate}
 use Rattle.candidates.specs.declared.Advanced.{Advanced}
 use Rattle.candidates.specs.declared.Advanced.the-variants as Advanced
@@ -67,18 +67,18 @@ module _ (Q : ℕ → Type 0) (n m p : ℕ) where
   pub record Least (j : ℕ) (cs : List Cell) : Type 0 where
     pub size : length cs ≡ j
     pub fit : Fit Q n m p cs
-    pub least : (ds : List Cell) → length ds ≡ j → Fit Q n m p ds → Before ds cs → ⊥
+    pub least : (ds : List Cell) → length ds ≡ j → Fit Q n m p ds → CellsBefore ds cs → ⊥
 
   -- rs are the least after all that share cs's first b cells
   pub record Next (b : ℕ) (cs rs : List Cell) : Type 0 where
     pub size : length rs ≡ length cs
     pub fit : Fit Q n m p rs
-    pub later : (ds : List Cell) → length ds ≡ length cs → Shares b ds cs → Before ds rs
-    pub gapless : (ds : List Cell) → length ds ≡ length cs → Fit Q n m p ds → Before ds rs → Shares b ds cs ⊎ Before ds cs
+    pub later : (ds : List Cell) → length ds ≡ length cs → Shares b ds cs → CellsBefore ds rs
+    pub gapless : (ds : List Cell) → length ds ≡ length cs → Fit Q n m p ds → CellsBefore ds rs → Shares b ds cs ⊎ CellsBefore ds cs
 
   -- none come after those
   pub record Last (b : ℕ) (cs : List Cell) : Type 0 where
-    pub last : (ds : List Cell) → length ds ≡ length cs → Fit Q n m p ds → Shares b ds cs ⊎ Before ds cs
+    pub last : (ds : List Cell) → length ds ≡ length cs → Fit Q n m p ds → Shares b ds cs ⊎ CellsBefore ds cs
 
 -- ---- the cells of an array from i on
 

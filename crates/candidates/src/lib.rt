@@ -16,7 +16,7 @@ ghost use Rattle.sets.specs.Says.{Says};
 ghost use Rattle.grammar.specs.Content.{rules, Formed, SmallClause};
 ghost use Rattle.grammar.specs.Candidates as Of;
 ghost use Rattle.grammar.specs.Sweeps.{arrangements};
-ghost use Rattle.candidates.specs.Terminals.{Among, Lowest, Terminals, Ranging, Widened, Counted};
+ghost use Rattle.candidates.specs.Terminals.{Among, Lowest, Terminals, Ranging, Widened, CountsOnes};
 ghost use Rattle.candidates.specs.Arrays.{cellAt, cells};
 ghost use Rattle.candidates.specs.Succession.{First, Succeeds};
 ghost use Rattle.candidates.specs.Windows.{Fits, LeastSpot, Room, Advances, largestStep, columnBefore, Changed, Lowered, Filled, Raises};
@@ -380,7 +380,7 @@ pub fn terminals(g: Grammar) -> u64
 
 // T: how many terminals the set has.
 pub fn terminal_count(set: u64) -> u64
-    ensures { λ r. ⌜ Counted set r ⌝ }
+    ensures { λ r. ⌜ CountsOnes set r ⌝ }
 {
     u64::count_ones(set) as u64
 }

@@ -25,7 +25,7 @@ use Rattle.sheets.specs.declared.Fault.{Fault}
 use Rattle.sheets.specs.declared.Fault.the-variants as Fault
 use Rattle.sheets.specs.Items.{Reading, accepted, refused, itemsFrom, withNames}
 use Rattle.sheets.specs.RuleSheets.{anyOf, isStart, ruleStep, finish, rulesFrom, ruleNames, ruleSheet}
-use Rattle.sheets.specs.RefusedLines.{startOf}
+use Rattle.sheets.specs.RefusedLines.{pieceStart}
 use Rattle.sheets.proofs.Accepted.{GoodRules, rules-good, finish-good}
 use Rattle.changing.specs.Changed.{lineOf, layStart, layEnd, changed, relaid}
 use Rattle.changing.proofs.Replacing.{pieces-replaced, piece-at, free-take, free-join}
@@ -116,26 +116,26 @@ module _ (s : List ℕ) (p : ℕ) (lay : List ℕ) (here : p < length (pieces 10
   line = lineOf s p
 
   abbrev newLine : List ℕ
-  newLine = take (startOf (pieces 32 line) 4) line ++ lay
+  newLine = take (pieceStart (pieces 32 line) 4) line ++ lay
 
   -- the fields before the lay are bytes of the sheet
-  front-of : take (layStart s p) s ≡ take (startOf (pieces 10 s) p) s ++ take (startOf (pieces 32 line) 4) line
+  front-of : take (layStart s p) s ≡ take (pieceStart (pieces 10 s) p) s ++ take (pieceStart (pieces 32 line) 4) line
   front-of =
       let a = piece-at 10 p s here in
       let f = piece-at 32 4 line five in
-      take-add (startOf (pieces 10 s) p) (startOf (pieces 32 line) 4) s
-      ∙ ap (λ (x : List ℕ). take (startOf (pieces 10 s) p) s ++ x)
-      (ap (take (startOf (pieces 32 line) 4)) (a .at) ∙ take-append-le (startOf (pieces 32 line) 4) line (a .rest) (f .within))
+      take-add (pieceStart (pieces 10 s) p) (pieceStart (pieces 32 line) 4) s
+      ∙ ap (λ (x : List ℕ). take (pieceStart (pieces 10 s) p) s ++ x)
+      (ap (take (pieceStart (pieces 32 line) 4)) (a .at) ∙ take-append-le (pieceStart (pieces 32 line) 4) line (a .rest) (f .within))
 
   pub changed-lines : (y : Lay) → layOf lay ≡ some y → pieces 10 (changed s p lay) ≡ set (pieces 10 s) p newLine
   changed-lines y w =
       let a = piece-at 10 p s here in
-      let X = take (startOf (pieces 10 s) p) s in
-      let Y = take (startOf (pieces 32 line) 4) line in
+      let X = take (pieceStart (pieces 10 s) p) s in
+      let Y = take (pieceStart (pieces 32 line) 4) line in
       let Z = drop (layEnd s p) s in
       let j : changed s p lay ≡ X ++ ((Y ++ lay) ++ Z) = ap (λ (x : List ℕ). x ++ (lay ++ Z)) front-of ∙ append-assoc X Y (lay ++ Z) ∙ ap (λ (x : List ℕ). X ++ x) (sym (append-assoc Y lay Z)) in
       ap (pieces 10) j
-      ∙ pieces-replaced 10 p s (Y ++ lay) (free-join 10 Y lay (free-take 10 (startOf (pieces 32 line) 4) line (a .free)) (lay-no-line lay y w)) here
+      ∙ pieces-replaced 10 p s (Y ++ lay) (free-join 10 Y lay (free-take 10 (pieceStart (pieces 32 line) 4) line (a .free)) (lay-no-line lay y w)) here
 
 -- 4. the end of the changed sheet: 7 does not come
 
@@ -192,7 +192,7 @@ module _ (s : List ℕ) (g : Rules) (accepts : ruleSheet s ≡ accepted g) (i : 
 
   module _ (lay : List ℕ) (y : Lay) (word : layOf lay ≡ some y) where
     abbrev new : List ℕ
-    new = take (startOf (pieces 32 (lineOf s (suc i))) 4) (lineOf s (suc i)) ++ lay
+    new = take (pieceStart (pieces 32 (lineOf s (suc i))) 4) (lineOf s (suc i)) ++ lay
 
     abbrev x : RuleLine
     x = relaid (at .rule .left) (at .rule .clause) y

@@ -9,9 +9,9 @@ use lib.Seq.{length-take-le, take-all}
 use Rattle.fields.specs.declared.Cursor.{Cursor}
 use Rattle.fields.specs.Pieces.{pieces, before, lineAt}
 use Rattle.fields.proofs.Pieces.{before-take, before-le}
-use Rattle.sheets.specs.RefusedLines.{startOf}
+use Rattle.sheets.specs.RefusedLines.{pieceStart}
 use Rattle.lists.specs.declared.Listed.{Listed}
-use Rattle.lists.specs.Lists.{Gives}
+use Rattle.lists.specs.Lists.{GivesList}
 use Rattle.lists.specs.Putting.{listed, unfit}
 use Rattle.changing.specs.Changed.{lineOf, layStart, layEnd, changed}
 use Rattle.changing.proofs.Replacing.{piece-at, piece-before}
@@ -19,10 +19,10 @@ use Rattle.changing.proofs.Replacing.{piece-at, piece-before}
 -- 1. the line of the rule at place p
 
 module _ (s : List ℕ) (p : ℕ) (here : p < length (pieces 10 s)) where
-  pub start-in : startOf (pieces 10 s) p ≤ length s
+  pub start-in : pieceStart (pieces 10 s) p ≤ length s
   start-in = piece-at 10 p s here .within
 
-  module _ {at : ℕ} (is : at ≡ startOf (pieces 10 s) p) where
+  module _ {at : ℕ} (is : at ≡ pieceStart (pieces 10 s) p) where
     line-before : before 10 (drop at s) ≡ lineOf s p
     line-before = rw is (piece-before 10 p s here)
 
@@ -50,7 +50,7 @@ module _ (s : List ℕ) (p : ℕ) (here : p < length (pieces 10 s)) where
     pub lay-within : layEnd s p ≤ length s
     lay-within =
         let a = piece-at 10 p s here in
-        omega (arith, ap length (a .at), length-append (lineOf s p) (a .rest), length-drop (startOf (pieces 10 s) p) s, a .within)
+        omega (arith, ap length (a .at), length-append (lineOf s p) (a .rest), length-drop (pieceStart (pieces 10 s) p) s, a .within)
 
     pub changed-long : (lay : List ℕ) → length (changed s p lay) ≡ length lay + (layStart s p + (length s - layEnd s p))
     changed-long lay =
@@ -70,15 +70,15 @@ tail-all s end = take-all (length s - end) (drop end s) (omega (arith, length-dr
 
 -- three parts put one after the other are one list, an entry a byte
 gives-three : {lent lent′ : List ℕ} {r : Listed} (a b c : List ℕ)
-    → Gives listed unfit ((a ++ b) ++ c) (length a + length b + length c) lent lent′ r → Gives listed unfit (a ++ (b ++ c)) (length (a ++ (b ++ c))) lent lent′ r
+    → GivesList listed unfit ((a ++ b) ++ c) (length a + length b + length c) lent lent′ r → GivesList listed unfit (a ++ (b ++ c)) (length (a ++ (b ++ c))) lent lent′ r
 gives-three a b c g =
     let n : length (a ++ (b ++ c)) ≡ length a + length b + length c = omega (arith, length-append a (b ++ c), length-append b c) in
     rw (n, ← append-assoc a b c) g
 
 -- the changed sheet: the bytes before the lay, the new lay, those behind it
 pub gives-changed : (s : List ℕ) (p : ℕ) (lay : List ℕ) {start end : ℕ} {lent lent′ : List ℕ} {r : Listed} → start ≡ layStart s p → end ≡ layEnd s p
-    → Gives listed unfit ((take start s ++ lay) ++ take (length s - end) (drop end s)) (0 + length (take start s) + length lay + length (take (length s - end) (drop end s))) lent lent′ r
-    → Gives listed unfit (changed s p lay) (length (changed s p lay)) lent lent′ r
+    → GivesList listed unfit ((take start s ++ lay) ++ take (length s - end) (drop end s)) (0 + length (take start s) + length lay + length (take (length s - end) (drop end s))) lent lent′ r
+    → GivesList listed unfit (changed s p lay) (length (changed s p lay)) lent lent′ r
 gives-changed s p lay {start} {end} e f g =
     let h = rw (zero-add (length (take start s)), tail-all s end) at g in
     gives-three (take (layStart s p) s) lay (drop (layEnd s p) s) (rw (e, f) at h)

@@ -23,7 +23,7 @@ use Rattle.fields.specs.Fields.{onValue, withField, atEnd}
 use Rattle.lines.specs.declared.RuleLine.{RuleLine}
 use Rattle.lines.specs.declared.RuleLine.the-variants.{Good, Form, Range, Unfit, Reversed}
 use Rattle.lines.specs.RuleLines.{shape, plainRule, atomRule, unaryRule, binaryRule, layRule, upTo, ruleOf, afterLay, afterSecond, afterFirst, afterKind, afterLeft, ruleFields, ruleLine}
-use Rattle.sheets.specs.RefusedLines.{startOf}
+use Rattle.sheets.specs.RefusedLines.{pieceStart}
 use Rattle.changing.specs.Changed.{relaid}
 use Rattle.fields.proofs.Cuts.{FreeOf, pieces-free, same-path}
 use Rattle.changing.proofs.Replacing.{pieces-upto}
@@ -247,11 +247,11 @@ module _ (line lay : List ℕ) (r : Rule) (y : Lay) (good : ruleLine line ≡ Go
   five : Five (pieces 32 line) r
   five = five-of (pieces 32 line) r good
 
-  relaid-pieces : pieces 32 (take (startOf (pieces 32 line) 4) line ++ lay) ≡ five .f₀ ∷ five .f₁ ∷ five .f₂ ∷ five .f₃ ∷ lay ∷ []
+  relaid-pieces : pieces 32 (take (pieceStart (pieces 32 line) 4) line ++ lay) ≡ five .f₀ ∷ five .f₁ ∷ five .f₂ ∷ five .f₃ ∷ lay ∷ []
   relaid-pieces =
       pieces-upto 32 4 line lay (rw (five .are) (lit< tt)) ∙ rw (pieces-free 32 lay (lay-no-blank lay y word), five .are) refl
 
-  pub line-other : ruleLine (take (startOf (pieces 32 line) 4) line ++ lay) ≡ relaid (r .left) (r .clause) y
+  pub line-other : ruleLine (take (pieceStart (pieces 32 line) 4) line ++ lay) ≡ relaid (r .left) (r .clause) y
   line-other =
       ap ruleFields relaid-pieces
       ∙ rw (five .left-is, five .kind-is, five .first-is, five .second-is, word) (rule-other (five .left) y r (five .kind) (five .first) (five .second) (five .lay) (five .rule))

@@ -104,7 +104,7 @@ step-said said Turn.Open t e = absurd (let z : _≡_ {A = ℕ} 0 1 = cc in omega
 step-said said Turn.Whole t e = e
 
 -- the line is ended, one of 128 at most, and says a rule that is fresh
-pub record Gives (seen : Rules) (p : List ℕ) (ended : Bool) (t : Rule) : Type 0 where
+pub record GivesRule (seen : Rules) (p : List ℕ) (ended : Bool) (t : Rule) : Type 0 where
   pub ends : ended ≡ true
   pub few : length seen < 128
   pub says : ruleLine p ≡ RuleLine.Good t
@@ -113,17 +113,17 @@ pub record Gives (seen : Rules) (p : List ℕ) (ended : Bool) (t : Rule) : Type 
 next-inj : (r t : Rule) → next r ≡ next t → r ≡ t
 next-inj r t e = cc
 
-gives : (seen : Rules) (p : List ℕ) (b : Bool) (t : Rule) → ruleStep seen p b ≡ next t → Gives seen p b t
+gives : (seen : Rules) (p : List ℕ) (b : Bool) (t : Rule) → ruleStep seen p b ≡ next t → GivesRule seen p b t
 gives seen p b t e =
     let n = next-only 128 Fault.RuleMany Fault.RuleForm (length seen) (ruleSays seen p) p b t (sym e) in
     go (n .1) (n .0) (ruleLine p) refl (step-said (ruleSays seen p) (turnOf 128 (length seen) p b) t e)
   where
     fresh-of : b ≡ true → length seen < 128 → (r : Rule) → ruleLine p ≡ RuleLine.Good r → (f : Bool) → anyOf (hasKey (keyOf r)) seen ≡ f
-        → cond f (stop Fault.RuleTwice) (next r) ≡ next t → Gives seen p b t
+        → cond f (stop Fault.RuleTwice) (next r) ≡ next t → GivesRule seen p b t
     fresh-of ends few r h true k e = absurd (let z : _≡_ {A = ℕ} 0 1 = cc in omega arith)
     fresh-of ends few r h false k e = let j = next-inj r t e in record { ends = ends; few = few; says = h ∙ ap RuleLine.Good j; fresh = rw j at k }
 
-    go : b ≡ true → length seen < 128 → (x : RuleLine) → ruleLine p ≡ x → ruleSaid seen x ≡ next t → Gives seen p b t
+    go : b ≡ true → length seen < 128 → (x : RuleLine) → ruleLine p ≡ x → ruleSaid seen x ≡ next t → GivesRule seen p b t
     go ends few RuleLine.Form h e = absurd (let z : _≡_ {A = ℕ} 0 1 = cc in omega arith)
     go ends few RuleLine.Range h e = absurd (let z : _≡_ {A = ℕ} 0 1 = cc in omega arith)
     go ends few RuleLine.Unfit h e = absurd (let z : _≡_ {A = ℕ} 0 1 = cc in omega arith)

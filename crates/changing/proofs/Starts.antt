@@ -12,23 +12,23 @@ use lib.Seq.{drop-cons}
 use lib.Dec.{eqb}
 use borrow.Author.Tests.{eq-eqb, ne-eqb}
 use Rattle.fields.specs.Pieces.{pieces, onto}
-use Rattle.sheets.specs.RefusedLines.{startOf}
+use Rattle.sheets.specs.RefusedLines.{pieceStart}
 use Rattle.fields.proofs.Cuts.{pieces-long}
 
 -- the piece with n pieces before it begins where the piece with `left` before it from `at` on does
 pub record Walking (s : List ℕ) (b n at left : ℕ) : Type 0 where
   pub low : at ≤ length s
   pub there : left < length (pieces b (drop at s))
-  pub same : startOf (pieces b s) n ≡ at + startOf (pieces b (drop at s)) left
+  pub same : pieceStart (pieces b s) n ≡ at + pieceStart (pieces b (drop at s)) left
 
 pub walking-start : (s : List ℕ) (b n : ℕ) → n < length (pieces b s) → Walking s b n 0 n
-walking-start s b n h = record { low = omega arith; there = h; same = sym (zero-add (startOf (pieces b s) n)) }
+walking-start s b n h = record { low = omega arith; there = h; same = sym (zero-add (pieceStart (pieces b s) n)) }
 
 onto-long : (x : ℕ) (ps : List (List ℕ)) → 0 < length ps → length (onto x ps) ≡ length ps
 onto-long x [] h = absurd (omega arith)
 onto-long x (p ∷ ps) h = refl
 
-onto-start : (x : ℕ) (ps : List (List ℕ)) (k : ℕ) → 0 < length ps → startOf (onto x ps) (suc k) ≡ 1 + startOf ps (suc k)
+onto-start : (x : ℕ) (ps : List (List ℕ)) (k : ℕ) → 0 < length ps → pieceStart (onto x ps) (suc k) ≡ 1 + pieceStart ps (suc k)
 onto-start x [] k h = absurd (omega arith)
 onto-start x (p ∷ ps) k h = omega arith
 
@@ -55,14 +55,14 @@ module _ {s : List ℕ} {b n at left : ℕ} (w : Walking s b n at left) (more : 
       let j : pieces b (drop at s) ≡ [] ∷ pieces b (drop (at + 1) s) = rw (cut, eq-eqb (getD s at 0) b e) in
       let t = w .there in
       let k = some-suc left more in
-      let m : startOf (pieces b (drop at s)) left ≡ 1 + startOf (pieces b (drop (at + 1) s)) (left - 1) = rw (j, k) (next (pieces b (drop (at + 1) s)) (left - 1)) in
+      let m : pieceStart (pieces b (drop at s)) left ≡ 1 + pieceStart (pieces b (drop (at + 1) s)) (left - 1) = rw (j, k) (next (pieces b (drop (at + 1) s)) (left - 1)) in
       record {
         low = omega (arith, walking-in);
         there = omega (arith, rw j at t);
         same = omega (arith, w .same, m);
       }
     where
-      next : (ps : List (List ℕ)) (k : ℕ) → startOf ([] ∷ ps) (suc k) ≡ 1 + startOf ps (suc k - 1)
+      next : (ps : List (List ℕ)) (k : ℕ) → pieceStart ([] ∷ ps) (suc k) ≡ 1 + pieceStart ps (suc k - 1)
       next ps k = let z : suc k - 1 ≡ k = omega arith in rw z (omega arith)
 
   pub walking-miss : (getD s at 0 ≡ b → ⊥) → Walking s b n (at + 1) left
@@ -72,15 +72,15 @@ module _ {s : List ℕ} {b n at left : ℕ} (w : Walking s b n at left) (more : 
       let t = w .there in
       let k = some-suc left more in
       let l = pieces-long b (drop (at + 1) s) in
-      let m : startOf (pieces b (drop at s)) left ≡ 1 + startOf ps left = rw (j, k) (onto-start (getD s at 0) ps (left - 1) l) in
+      let m : pieceStart (pieces b (drop at s)) left ≡ 1 + pieceStart ps left = rw (j, k) (onto-start (getD s at 0) ps (left - 1) l) in
       record {
         low = omega (arith, walking-in);
         there = omega (arith, rw j at t, onto-long (getD s at 0) ps l);
         same = omega (arith, w .same, m);
       }
 
-pub walking-end : {s : List ℕ} {b n at left : ℕ} → Walking s b n at left → left ≤ 0 → at ≡ startOf (pieces b s) n
+pub walking-end : {s : List ℕ} {b n at left : ℕ} → Walking s b n at left → left ≤ 0 → at ≡ pieceStart (pieces b s) n
 walking-end {s} {b} {n} {at} {left} w h =
     let e : left ≡ 0 = omega arith in
-    let z : startOf (pieces b (drop at s)) left ≡ 0 = rw e in
+    let z : pieceStart (pieces b (drop at s)) left ≡ 0 = rw e in
     omega (arith, w .same, z)

@@ -15,7 +15,7 @@ use Rattle.lines.specs.declared.RuleLine.{RuleLine}
 use Rattle.lines.specs.RuleLines.{plainRule, unaryRule, binaryRule}
 use Rattle.sheets.specs.declared.Fault.the-variants as Fault
 use Rattle.sheets.specs.Items.{Reading, refused}
-use Rattle.sheets.specs.RefusedLines.{startOf}
+use Rattle.sheets.specs.RefusedLines.{pieceStart}
 use Rattle.sheets.specs.RuleSheets.{ruleSheet}
 
 -- the line of the rule at place p, counted from 1: p lines stand before it, that of the names too
@@ -24,10 +24,10 @@ lineOf s p = getD (pieces 10 s) p []
 
 -- where the lay of that rule begins: four fields stand before it in its line; it ends where the line does
 abbrev pub layStart : List ℕ → ℕ → ℕ
-layStart s p = startOf (pieces 10 s) p + startOf (pieces 32 (lineOf s p)) 4
+layStart s p = pieceStart (pieces 10 s) p + pieceStart (pieces 32 (lineOf s p)) 4
 
 abbrev pub layEnd : List ℕ → ℕ → ℕ
-layEnd s p = startOf (pieces 10 s) p + length (lineOf s p)
+layEnd s p = pieceStart (pieces 10 s) p + length (lineOf s p)
 
 -- its bytes
 abbrev pub layField : List ℕ → ℕ → List ℕ

@@ -10,9 +10,9 @@ ghost use mathlib.Core.Path.{_≡_};
 ghost use Prim.Native.Nat.{_<_};
 ghost use lib.ListN.{length};
 ghost use Rattle.fields.specs.Pieces.{pieces};
-ghost use Rattle.sheets.specs.RefusedLines.{startOf};
+ghost use Rattle.sheets.specs.RefusedLines.{pieceStart};
 ghost use Rattle.changing.specs.Changed.{lineOf, layStart, layEnd, changed, oneWord, twoWords, fitsLay};
-ghost use Rattle.lists.specs.Lists.{Gives};
+ghost use Rattle.lists.specs.Lists.{GivesList};
 ghost use Rattle.lists.specs.Putting.{listed, unfit};
 
 // Where the lay of a rule begins and ends.
@@ -24,7 +24,7 @@ pub struct Field {
 // Where the piece with n pieces before it begins, the bytes being cut by b.
 fn piece_start(s: &[u8], b: u8, n: usize) -> usize
     requires { ⌜ n < length (pieces b (now s)) ⌝ }
-    ensures { λ r. ⌜ r ≡ startOf (pieces b (now (s .entry))) n ⌝ }
+    ensures { λ r. ⌜ r ≡ pieceStart (pieces b (now (s .entry))) n ⌝ }
 {
     let mut at = 0;
     let mut left = n;
@@ -92,7 +92,7 @@ fn is_binary(c: Clause) -> bool
 // The changed sheet as a list of its bytes: those before the lay, the new lay, and those behind it.
 pub fn put_changed(s: &[u8], p: usize, lay: &[u8], out: &mut [u8]) -> Listed
     requires { ⌜ (p < length (pieces 10 (now s))) × (4 < length (pieces 32 (lineOf (now s) p))) ⌝ }
-    ensures { λ r. ⌜ Gives listed unfit (changed (now (s .entry)) p (now (lay .entry))) (length (changed (now (s .entry)) p (now (lay .entry)))) (now (out .entry)) (now (out .exit)) r ⌝ }
+    ensures { λ r. ⌜ GivesList listed unfit (changed (now (s .entry)) p (now (lay .entry))) (length (changed (now (s .entry)) p (now (lay .entry)))) (now (out .entry)) (now (out .exit)) r ⌝ }
 {
     let f = lay_at(s, p);
     let start = f.start;

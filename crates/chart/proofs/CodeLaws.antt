@@ -19,7 +19,7 @@ use Rattle.codes.proofs.Laws.{is-unary, is-binary, part-kind, low-kind, coded-a
 use Rattle.chart.specs.declared.Tally.{Tally}
 use Rattle.chart.specs.declared.Sides.{Sides}
 use Rattle.chart.specs.Tables.{no-rule}
-use Rattle.chart.specs.Passes.{Took, fell, SplitFits, SplitBelow, Unpaired, SplitRow, row-none, row-more, Beside, Wide}
+use Rattle.chart.specs.Passes.{Took, fell, SplitFits, SplitBelow, Unpaired, SplitRow, row-none, row-more, Beside, WholeSide}
 use Rattle.chart.proofs.PassLaws.{took-if}
 
 -- ---- over two parts
@@ -76,13 +76,13 @@ unpaired-none cs a b h = record { low = λ j x y. absurd (omega arith) }
 -- ---- with the whole span on one side
 
 module _ (one two : ℕ) (k : SpanMarks) (len n : ℕ) where
-  pub wide-low : (t : Tally) → kind n < 2 → Wide one two k len (left n) (clause n) t t
-  wide-low t h = low-kind (λ (c : Clause). Wide one two k len (left n) c t t) n h refl (λ a b. refl)
+  pub wide-low : (t : Tally) → kind n < 2 → WholeSide one two k len (left n) (clause n) t t
+  wide-low t h = low-kind (λ (c : Clause). WholeSide one two k len (left n) c t t) n h refl (λ a b. refl)
 
   pub wide-unary : (a b : ℕ) (u : UnaryMark) {t v : Tally} → kind n ≡ 2 → a ≡ left n → b ≡ first n → u ≡ unaryMark (mark n)
-      → Took (In (t .one) b × UnaryBy k u) (In (t .two) b) a t v → Wide one two k len (left n) (clause n) t v
-  wide-unary a b u {t} {v} h w x z f = subst₂ (λ (d : ℕ) (c : Clause). Wide one two k len d c t v) w (is-unary n b u h x z) f
+      → Took (In (t .one) b × UnaryBy k u) (In (t .two) b) a t v → WholeSide one two k len (left n) (clause n) t v
+  wide-unary a b u {t} {v} h w x z f = subst₂ (λ (d : ℕ) (c : Clause). WholeSide one two k len d c t v) w (is-unary n b u h x z) f
 
   pub wide-binary : (a b e : ℕ) {t v : Tally} → 3 ≤ kind n → a ≡ left n → b ≡ first n → e ≡ second n
-      → Beside one two len a b e t v → Wide one two k len (left n) (clause n) t v
-  wide-binary a b e {t} {v} h w x y f = subst₂ (λ (d : ℕ) (c : Clause). Wide one two k len d c t v) w (is-binary n b e (binaryMark (mark n)) h x y refl) f
+      → Beside one two len a b e t v → WholeSide one two k len (left n) (clause n) t v
+  wide-binary a b e {t} {v} h w x y f = subst₂ (λ (d : ℕ) (c : Clause). WholeSide one two k len d c t v) w (is-binary n b e (binaryMark (mark n)) h x y refl) f

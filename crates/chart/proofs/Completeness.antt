@@ -61,7 +61,7 @@ told? h s len = go (ℕ-discrete len 1) (decLt s (h .known))
     go (yes e) (no k) = inr (e, omega arith)
 
 -- the rule at the top of t
-pub record Top (one : Table) (g : Rules) (ts : Half) (s len : ℕ) (t : Tree) : Type 0 where
+pub record TopRule (one : Table) (g : Rules) (ts : Half) (s len : ℕ) (t : Tree) : Type 0 where
   pub i : ℕ
   pub l : ℕ
   pub stand : Stand one g (byTokens ts s len) s len (root t) i l
@@ -72,17 +72,17 @@ fits-as one ts s len l {r} {r′} e h = subst (λ (x : Rule). Fits one (byTokens
 
 module _ (one : Table) (g : Rules) (hf : Half) (closed : Shut one g hf) (ts : Word) (cs : Completes hf ts) (upto : ℕ) (far : upto ≤ length ts) (given : Given₁ one g hf ts upto) where
   -- a tree of a span is in the table, if its top is found where the span is not one open token
-  found : (t : Tree) → Valid g t → (s len : ℕ) → s + len ≤ upto → word t ≡ part ts s len → (Told hf s len → Top one g hf s len t) → one s len (root t)
+  found : (t : Tree) → Valid g t → (s len : ℕ) → s + len ≤ upto → word t ≡ part ts s len → (Told hf s len → TopRule one g hf s len t) → one s len (root t)
   found t v s len h e p = ⊎-elim
       (λ k. let q = p k in closed s len (root t) (q .i) (q .l) (omega (arith, cs .long)) k (q .stand))
       (λ o. subst (λ (m : ℕ). one s m (root t)) (sym (o .0)) (given s (root t) (o .1) (omega (arith, o .0)) (record { tree = t; witness = record { rooted = refl; spelled = e ∙ ap (part ts s) (o .0); valid = v } })))
       (told? hf s len)
 
   -- the top of a tree of a span, and its place in the table
-  both : (t : Tree) → Valid g t → (s len : ℕ) → s + len ≤ upto → word t ≡ part ts s len → (Told hf s len → Top one g hf s len t) × one s len (root t)
+  both : (t : Tree) → Valid g t → (s len : ℕ) → s + len ≤ upto → word t ≡ part ts s len → (Told hf s len → TopRule one g hf s len t) × one s len (root t)
   both (empty A) (valid-empty mem) s len h e = let p = at in (p, found (empty A) (valid-empty mem) s len h e p)
     where
-      at : Told hf s len → Top one g hf s len (empty A)
+      at : Told hf s len → TopRule one g hf s len (empty A)
       at k =
           let q = place g mem in
           let none : len ≡ 0 = sym (part-length ts s len (omega arith)) ∙ ap length (sym e) in
@@ -94,7 +94,7 @@ module _ (one : Table) (g : Rules) (hf : Half) (closed : Shut one g hf) (ts : Wo
           }
   both (leaf A t) (valid-leaf mem) s len h e = let p = at in (p, found (leaf A t) (valid-leaf mem) s len h e p)
     where
-      at : Told hf s len → Top one g hf s len (leaf A t)
+      at : Told hf s len → TopRule one g hf s len (leaf A t)
       at k =
           let q = place g (mem .rule) in
           let n : len ≡ 1 = sym (part-length ts s len (omega arith)) ∙ ap length (sym e) in
@@ -105,9 +105,9 @@ module _ (one : Table) (g : Rules) (hf : Half) (closed : Shut one g hf) (ts : Wo
             headed = (mem .low, mem .high, ap (λ (r : Rule). r .clause) (q .2), mem .covers, refl);
           }
   both (unary A t) (valid-unary m mem mark v) s len h e =
-      let p : Told hf s len → Top one g hf s len (unary A t) = at (both t v s len h e .1) in (p, found (unary A t) (valid-unary m mem mark v) s len h e p)
+      let p : Told hf s len → TopRule one g hf s len (unary A t) = at (both t v s len h e .1) in (p, found (unary A t) (valid-unary m mem mark v) s len h e p)
     where
-      at : one s len (root t) → Told hf s len → Top one g hf s len (unary A t)
+      at : one s len (root t) → Told hf s len → TopRule one g hf s len (unary A t)
       at b k =
           let q = place g mem in
           record {
@@ -119,11 +119,11 @@ module _ (one : Table) (g : Rules) (hf : Half) (closed : Shut one g hf) (ts : Wo
   both (binary A u v) (valid-binary m mem mark vu vv) s len h e =
       let k = cut ts (word u) (word v) s len (omega arith) e in
       let fit = k .fits in
-      let p : Told hf s len → Top one g hf s len (binary A u v) =
+      let p : Told hf s len → TopRule one g hf s len (binary A u v) =
       at (both u vu s (length (word u)) (omega arith) (k .front) .1) (both v vv (s + length (word u)) (len - length (word u)) (omega arith) (k .rest) .1) in
       (p, found (binary A u v) (valid-binary m mem mark vu vv) s len h e p)
     where
-      at : one s (length (word u)) (root u) → one (s + length (word u)) (len - length (word u)) (root v) → Told hf s len → Top one g hf s len (binary A u v)
+      at : one s (length (word u)) (root u) → one (s + length (word u)) (len - length (word u)) (root v) → Told hf s len → TopRule one g hf s len (binary A u v)
       at a b x =
           let q = place g mem in
           let k = cut ts (word u) (word v) s len (omega arith) e in
@@ -135,7 +135,7 @@ module _ (one : Table) (g : Rules) (hf : Half) (closed : Shut one g hf) (ts : Wo
             headed = (m, ap (λ (r : Rule). r .clause) (q .2), refl);
           }
 
-  pub top : (t : Tree) → Valid g t → (s len : ℕ) → s + len ≤ upto → Told hf s len → word t ≡ part ts s len → Top one g hf s len t
+  pub top : (t : Tree) → Valid g t → (s len : ℕ) → s + len ≤ upto → Told hf s len → word t ≡ part ts s len → TopRule one g hf s len t
   top t v s len h k e = both t v s len h e .0 k
 
   -- every valid tree of a span is in the table
@@ -207,7 +207,7 @@ module _ (one two : Table) (g : Rules) (hf : Half) (closed : Shut one g hf) (clo
       ap₃ a b c = cc
 
   -- two trees of a span are one, or the table has them: by the choices at their tops
-  meet : (s len : ℕ) → s + len ≤ upto → Told hf s len → (t t′ : Tree) → root t ≡ root t′ → (p : Top one g hf s len t) (p′ : Top one g hf s len t′)
+  meet : (s len : ℕ) → s + len ≤ upto → Told hf s len → (t t′ : Tree) → root t ≡ root t′ → (p : TopRule one g hf s len t) (p′ : TopRule one g hf s len t′)
       → (Headed t′ (rule g (p .i) .clause) (p .l) → (t ≡ t′) ⊎ two s len (root t)) → (t ≡ t′) ⊎ two s len (root t)
   meet s len h k t t′ r p p′ f = go (ℕ-discrete (p .i) (p′ .i)) (ℕ-discrete (p .l) (p′ .l))
     where

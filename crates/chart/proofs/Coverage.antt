@@ -17,9 +17,9 @@ use Rattle.chart.specs.declared.Tally.{Tally}
 use Rattle.chart.specs.Tables.{One, Two, byMarks, Fits, Stand, Below, Again, rule}
 use Rattle.chart.specs.Tables.Again.{apart, below}
 use Rattle.chart.specs.Passes.{none, sidesAt, SplitFits, SplitBelow, SplitRow, row-none, row-more, Splits, splits-none, splits-more}
-use Rattle.chart.specs.Passes.{LeafFits, Leaves, leaves-none, leaves-more, Inner, by-leaves, by-splits, Beside, alone, both, Wide, Pass, pass-none, pass-more, resumed, Passes, passes-none, passes-more, Saturated}
+use Rattle.chart.specs.Passes.{LeafFits, Leaves, leaves-none, leaves-more, Inner, by-leaves, by-splits, Beside, alone, both, WholeSide, Pass, pass-none, pass-more, resumed, Passes, passes-none, passes-more, Saturated}
 use Rattle.chart.proofs.TallyLaws.{Done, Standing, All, all-none, all-same, all-sets, all-took, Still, still-same, still-took}
-use Rattle.chart.proofs.PassLaws.{Inside, Edge, inside-or-edge, InnerDone, LeafDone, SplitDone, WideDone, HalfDone, below-or-at, after-or-at, splits-pos, passes-one, passes-two}
+use Rattle.chart.proofs.PassLaws.{Inside, AtEnd, inside-or-edge, InnerDone, LeafDone, SplitDone, WideDone, HalfDone, below-or-at, after-or-at, splits-pos, passes-one, passes-two}
 
 -- the words ws, before the span's pair is written, and ws′, after: the pairs of shorter parts are the same
 module _ (ws ws′ : List ℕ) (g : Rules) (n s len : ℕ) (k : SpanMarks)
@@ -115,16 +115,16 @@ module _ (ws ws′ : List ℕ) (g : Rules) (n s len : ℕ) (k : SpanMarks)
     word-in : (F : List ℕ → ℕ → ℕ → ℕ → ℕ) (a b c d w x B : ℕ) → F ws′ n c d ≡ w → a ≡ c → b ≡ d → x ≡ w → In (F ws′ n a b) B → In x B
     word-in F a b c d w x B e ea eb ex m = subst (λ (z : ℕ). In z B) (ap (λ (z : ℕ). F ws′ n z b) ea ∙ ap (λ (z : ℕ). F ws′ n c z) eb ∙ e ∙ sym ex) m
 
-    wide-to : (i : ℕ) (c : Clause) → rule g i .clause ≡ c → (l₀ : ℕ) → ((l : ℕ) → Edge len c l → l ≡ l₀) → (A j l : ℕ) → WideDone g len i j l → Held A j l → WideDone g len (i + 1) j l ⊎ ((j ≡ i) × (l ≡ l₀))
+    wide-to : (i : ℕ) (c : Clause) → rule g i .clause ≡ c → (l₀ : ℕ) → ((l : ℕ) → AtEnd len c l → l ≡ l₀) → (A j l : ℕ) → WideDone g len i j l → Held A j l → WideDone g len (i + 1) j l ⊎ ((j ≡ i) × (l ≡ l₀))
     wide-to i c e l₀ only A j l d h =
         ⊎-elim (λ x. inl (inl x))
-        (λ x. ⊎-elim (λ y. inl (inr (y, x .1))) (λ y. inr (y, only l (subst (λ (z : Clause). Edge len z l) e (subst (λ (z : ℕ). Edge len (rule g z .clause) l) y (x .1))))) (after-or-at i j (x .0))) d
+        (λ x. ⊎-elim (λ y. inl (inr (y, x .1))) (λ y. inr (y, only l (subst (λ (z : Clause). AtEnd len z l) e (subst (λ (z : ℕ). AtEnd len (rule g z .clause) l) y (x .1))))) (after-or-at i j (x .0))) d
 
-    wide-skip : (i : ℕ) (c : Clause) → rule g i .clause ≡ c → ((l : ℕ) → Edge len c l → ⊥) → (A j l : ℕ) → WideDone g len i j l → Held A j l → WideDone g len (i + 1) j l
+    wide-skip : (i : ℕ) (c : Clause) → rule g i .clause ≡ c → ((l : ℕ) → AtEnd len c l → ⊥) → (A j l : ℕ) → WideDone g len i j l → Held A j l → WideDone g len (i + 1) j l
     wide-skip i c e non A j l d h =
-        ⊎-elim inl (λ x. ⊎-elim (λ y. inr (y, x .1)) (λ y. absurd (non l (subst (λ (z : Clause). Edge len z l) e (subst (λ (z : ℕ). Edge len (rule g z .clause) l) y (x .1))))) (after-or-at i j (x .0))) d
+        ⊎-elim inl (λ x. ⊎-elim (λ y. inr (y, x .1)) (λ y. absurd (non l (subst (λ (z : Clause). AtEnd len z l) e (subst (λ (z : ℕ). AtEnd len (rule g z .clause) l) y (x .1))))) (after-or-at i j (x .0))) d
 
-    wide-still : (i : ℕ) (c : Clause) → rule g i .clause ≡ c → (t u : Tally) → Wide one two k len (rule g i .left) c t u → Stills (WideDone g len (i + 1)) t → Stills (WideDone g len i) u
+    wide-still : (i : ℕ) (c : Clause) → rule g i .clause ≡ c → (t u : Tally) → WholeSide one two k len (rule g i .left) c t u → Stills (WideDone g len (i + 1)) t → Stills (WideDone g len i) u
     wide-still i Clause.Empty e t u w h = subst (Stills (WideDone g len i)) (sym w) (still-same Held Doubled f p (WideDone g len (i + 1)) (WideDone g len i) t (wide-skip i Clause.Empty e (λ l x. x)) h)
     wide-still i (Clause.Atom a a′) e t u w h = subst (Stills (WideDone g len i)) (sym w) (still-same Held Doubled f p (WideDone g len (i + 1)) (WideDone g len i) t (wide-skip i (Clause.Atom a a′) e (λ l x. x)) h)
     wide-still i (Clause.Unary B m) e t u w h =
@@ -153,8 +153,8 @@ module _ (ws ws′ : List ℕ) (g : Rules) (n s len : ℕ) (k : SpanMarks)
         (subst (λ (z : Clause). Below (Two ws′ n) s len z len) e b))
         w′ mid
       where
-        at-edge : (j l : ℕ) → j ≡ i → Edge len (rule g j .clause) l → (l ≡ 0) ⊎ (l ≡ len)
-        at-edge j l y x = subst (λ (z : Clause). Edge len z l) e (subst (λ (z : ℕ). Edge len (rule g z .clause) l) y x)
+        at-edge : (j l : ℕ) → j ≡ i → AtEnd len (rule g j .clause) l → (l ≡ 0) ⊎ (l ≡ len)
+        at-edge j l y x = subst (λ (z : Clause). AtEnd len z l) e (subst (λ (z : ℕ). AtEnd len (rule g z .clause) l) y x)
 
         to-half : (A j l : ℕ) → WideDone g len i j l → Held A j l → HalfDone g len i j l ⊎ ((j ≡ i) × (l ≡ len))
         to-half A j l d c =

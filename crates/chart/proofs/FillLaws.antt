@@ -22,7 +22,7 @@ use Rattle.grammar.specs.SpanSheet.{part, pairs, pairAt, firstWord, secondWord}
 use Rattle.marks.specs.declared.SpanMarks.{SpanMarks}
 use Rattle.marks.specs.Half.{Half}
 use Rattle.marks.specs.Marked.{Marked}
-use Rattle.spans.specs.Changes.{Past, Kept, Wrote}
+use Rattle.spans.specs.Changes.{Past, Kept, WrotePair}
 use Rattle.spans.proofs.Places.{pairAt-same, pairAt-empty}
 use Rattle.spans.proofs.ChangeLaws.{kept-then}
 use Rattle.chart.specs.Tables.{Table, One, Two, Leave, byTokens, byMarks, Fits, Stand, Again, Below, rule}
@@ -70,7 +70,7 @@ given-kept ws ws′ n s len fit long k = record {
 -- ---- the span is settled
 
 module _ (ws ws′ : List ℕ) (g : Rules) (h : Half) (n s len : ℕ) (k : SpanMarks) (b t : Tally) (distinct : Distinct g) (known : h .known ≤ length (h .word)) (fit : s + len ≤ n) (marked : Marked h s len k)
-    (ground : Ground ws g h n s len) (inner : Inner ws n s len k g b) (sat : Saturated (getD ws 0 0) (getD ws 1 0) k len g b t) (w : Wrote ws ws′ (pairAt n s len) (t .one) (t .two)) where
+    (ground : Ground ws g h n s len) (inner : Inner ws n s len k g b) (sat : Saturated (getD ws 0 0) (getD ws 1 0) k len g b t) (w : WrotePair ws ws′ (pairAt n s len) (t .one) (t .two)) where
   shorter : (a c : ℕ) → c < len → a + c ≤ s + len → pairAt n a c ≡ pairAt n s len → ⊥
   shorter a c x y = shorter-other n s len a c fit y (omega arith)
 

@@ -24,7 +24,7 @@ use Rattle.chart.specs.declared.Sides.{Sides}
 use Rattle.chart.specs.Tables.{Table, One, Two, Leave, byTokens, byMarks, Fits, Stand, Below, Again, rule}
 use Rattle.chart.specs.Tables.Again.{apart, below}
 use Rattle.chart.specs.Passes.{Took, fell, stood, none, sidesAt, SplitFits, SplitBelow, SplitRow, row-none, row-more, Splits, splits-none, splits-more}
-use Rattle.chart.specs.Passes.{LeafFits, Leaves, leaves-none, leaves-more, Inner, by-leaves, by-splits, Beside, alone, both, Wide, Pass, pass-none, pass-more, resumed, Passes, passes-none, passes-more, Saturated}
+use Rattle.chart.specs.Passes.{LeafFits, Leaves, leaves-none, leaves-more, Inner, by-leaves, by-splits, Beside, alone, both, WholeSide, Pass, pass-none, pass-more, resumed, Passes, passes-none, passes-more, Saturated}
 use Rattle.chart.specs.Filling.{Ground}
 use Rattle.chart.proofs.TallyLaws.{Done, Standing, took-one, took-two, took-in-one, took-in-two, From, from-none, from-same, Brings, from-took, from-sets}
 use Rattle.chart.proofs.Soundness.{sound-stand, sound-again}
@@ -48,7 +48,7 @@ row-idle p k len l g t e zero = row-none
 row-idle p k len l g t e (suc i) =
     subst (λ (x : ℕ). SplitRow p k len l g t x t) (omega arith) (row-more (row-idle p k len l g t e i) (fell (split-none p k len l (rule g i .clause) e) refl))
 
-wide-none : (one two : ℕ) (k : SpanMarks) (len a : ℕ) (c : Clause) (t : Tally) → t .one ≡ 0 → Wide one two k len a c t t
+wide-none : (one two : ℕ) (k : SpanMarks) (len a : ℕ) (c : Clause) (t : Tally) → t .one ≡ 0 → WholeSide one two k len a c t t
 wide-none one two k len a Clause.Empty t e = refl
 wide-none one two k len a (Clause.Atom c c′) t e = refl
 wide-none one two k len a (Clause.Unary B m) t e = fell (λ q. in-zero B (subst (λ (z : ℕ). In z B) e (q .0))) refl
@@ -68,7 +68,7 @@ saturated-idle one two k len g b e = record { passes = passes-none; last = resum
 
 -- ---- a pass adds to the sets
 
-wide-one : (one two : ℕ) (k : SpanMarks) (len a : ℕ) (c : Clause) (t u : Tally) → Wide one two k len a c t u → (t .one ≤ u .one) × (t .two ≤ u .two)
+wide-one : (one two : ℕ) (k : SpanMarks) (len a : ℕ) (c : Clause) (t u : Tally) → WholeSide one two k len a c t u → (t .one ≤ u .one) × (t .two ≤ u .two)
 wide-one one two k len a Clause.Empty t u e = let x = ap (λ (z : Tally). z .one) e in let y = ap (λ (z : Tally). z .two) e in (omega arith, omega arith)
 wide-one one two k len a (Clause.Atom c c′) t u e = let x = ap (λ (z : Tally). z .one) e in let y = ap (λ (z : Tally). z .two) e in (omega arith, omega arith)
 wide-one one two k len a (Clause.Unary B m) t u w = (took-one w, took-two w)
@@ -89,7 +89,7 @@ sum-grows f h a b x y z = go (decLt (f + h) (a + b))
     go (yes l) = l
     go (no k) = absurd (z (omega arith, omega arith))
 
-wide-in : (one two : ℕ) (k : SpanMarks) (len a : ℕ) (c : Clause) (t u : Tally) → Wide one two k len a c t u → (A : ℕ) → (In (t .one) A → In (u .one) A) × (In (t .two) A → In (u .two) A)
+wide-in : (one two : ℕ) (k : SpanMarks) (len a : ℕ) (c : Clause) (t u : Tally) → WholeSide one two k len a c t u → (A : ℕ) → (In (t .one) A → In (u .one) A) × (In (t .two) A → In (u .two) A)
 wide-in one two k len a Clause.Empty t u e A = (subst (λ (z : Tally). In (z .one) A) (sym e), subst (λ (z : Tally). In (z .two) A) (sym e))
 wide-in one two k len a (Clause.Atom c c′) t u e A = (subst (λ (z : Tally). In (z .one) A) (sym e), subst (λ (z : Tally). In (z .two) A) (sym e))
 wide-in one two k len a (Clause.Unary B m) t u w A = (took-in-one w A, took-in-two w A)
@@ -119,13 +119,13 @@ Inside len (Clause.Atom a a′) l = Unit {0}
 Inside len (Clause.Unary B m) l = ⊥
 Inside len (Clause.Binary B C m) l = (0 < l) × (l < len)
 
-abbrev pub Edge : ℕ → Clause → ℕ → Type 0
-Edge len Clause.Empty l = ⊥
-Edge len (Clause.Atom a a′) l = ⊥
-Edge len (Clause.Unary B m) l = l ≡ 0
-Edge len (Clause.Binary B C m) l = (l ≡ 0) ⊎ (l ≡ len)
+abbrev pub AtEnd : ℕ → Clause → ℕ → Type 0
+AtEnd len Clause.Empty l = ⊥
+AtEnd len (Clause.Atom a a′) l = ⊥
+AtEnd len (Clause.Unary B m) l = l ≡ 0
+AtEnd len (Clause.Binary B C m) l = (l ≡ 0) ⊎ (l ≡ len)
 
-pub inside-or-edge : (one : Table) (v : Leave) (s len : ℕ) (c : Clause) (l : ℕ) → Fits one v s len c l → Inside len c l ⊎ Edge len c l
+pub inside-or-edge : (one : Table) (v : Leave) (s len : ℕ) (c : Clause) (l : ℕ) → Fits one v s len c l → Inside len c l ⊎ AtEnd len c l
 inside-or-edge one v s len Clause.Empty l q = inl tt
 inside-or-edge one v s len (Clause.Atom a a′) l q = inl tt
 inside-or-edge one v s len (Clause.Unary B m) l q = inr (q .2)
@@ -150,7 +150,7 @@ SplitDone g len m i j l = Inside len (rule g j .clause) l × ((l < m) ⊎ ((l �
 
 -- all inner ones, and of the rules from i on the others
 abbrev pub WideDone : Rules → ℕ → ℕ → Done
-WideDone g len i j l = Inside len (rule g j .clause) l ⊎ ((i ≤ j) × Edge len (rule g j .clause) l)
+WideDone g len i j l = Inside len (rule g j .clause) l ⊎ ((i ≤ j) × AtEnd len (rule g j .clause) l)
 
 -- while the rule i is tried: with the empty word on its left it is done
 abbrev pub HalfDone : Rules → ℕ → ℕ → Done
@@ -301,18 +301,18 @@ module _ (g : Rules) (h : Half) (inner : h .known ≤ length (h .word)) (distinc
     at-part : (P : ℕ → ℕ → Type 0) (a b c d : ℕ) → a ≡ c → b ≡ d → P a b → P c d
     at-part P a b c d e f p = subst (λ (x : ℕ). P x d) e (subst (λ (x : ℕ). P a x) f p)
 
-    wide-from : (i : ℕ) → i < length g → (c : Clause) → rule g i .clause ≡ c → (t u : Tally) → Wide one two k len (rule g i .left) c t u → Sounds (WideDone g len (i + 1)) t → Sounds (WideDone g len i) u
+    wide-from : (i : ℕ) → i < length g → (c : Clause) → rule g i .clause ≡ c → (t u : Tally) → WholeSide one two k len (rule g i .left) c t u → Sounds (WideDone g len (i + 1)) t → Sounds (WideDone g len i) u
     wide-from i b Clause.Empty e t u w f = subst (Sounds (WideDone g len i)) (sym w) (from-same Real HasOne HasTwo (WideDone g len (i + 1)) (WideDone g len i) t (wide-done-on g len i) f)
     wide-from i b (Clause.Atom a a′) e t u w f = subst (Sounds (WideDone g len i)) (sym w) (from-same Real HasOne HasTwo (WideDone g len (i + 1)) (WideDone g len i) t (wide-done-on g len i) f)
     wide-from i b (Clause.Unary B m) e t u w f =
         from-took Real HasOne HasTwo (WideDone g len (i + 1)) (WideDone g len i) i 0 (rule g i .left) t u
-        (wide-new g len i 0 (Clause.Unary B m) e (λ x. x)) (wide-done-on g len i) (λ x. inr (omega arith, subst (λ (y : Clause). Edge len y 0) (sym e) refl))
+        (wide-new g len i 0 (Clause.Unary B m) e (λ x. x)) (wide-done-on g len i) (λ x. inr (omega arith, subst (λ (y : Clause). AtEnd len y 0) (sym e) refl))
         (brings i 0 (In (t .one) B × UnaryBy k m) (In (t .two) B) b (λ x. subst (λ (y : Clause). Fits (Truth g h) (byTokens h s len) s len y 0) (sym e) (f .one B (x .0), marked .unary m .0 (x .1), refl))
         (λ x y. subst (λ (z : Clause). Below (Truth₂ g h) s len z 0) (sym e) (f .two B y)))
         w f
     wide-from i b (Clause.Binary B C m) e t u (alone z w) f =
         from-took Real HasOne HasTwo (WideDone g len (i + 1)) (WideDone g len i) i 0 (rule g i .left) t u
-        (wide-new g len i 0 (Clause.Binary B C m) e (λ x. omega (arith, x .0))) (wide-done-on g len i) (λ x. inr (omega arith, subst (λ (y : Clause). Edge len y 0) (sym e) (inl refl)))
+        (wide-new g len i 0 (Clause.Binary B C m) e (λ x. omega (arith, x .0))) (wide-done-on g len i) (λ x. inr (omega arith, subst (λ (y : Clause). AtEnd len y 0) (sym e) (inl refl)))
         (brings i 0 (In (t .one) B × In (t .one) C) (In (t .two) B ⊎ In (t .two) C) b
         (λ x. subst (λ (y : Clause). Fits (Truth g h) (byTokens h s len) s len y 0) (sym e)
         (omega arith, at-part (λ (a b : ℕ). Derives g B (part (h .word) a b)) s len s 0 refl z (f .one B (x .0)), at-part (λ (a b : ℕ). Derives g C (part (h .word) a b)) s len (s + 0) (len - 0) (omega arith) (omega arith) (f .one C (x .1)), marked .binary m 0 (omega arith) .0 (edge-mark k len m 0 (λ p q. omega arith))))
@@ -336,12 +336,12 @@ module _ (g : Rules) (h : Half) (inner : h .known ≤ length (h .word)) (distinc
         half-new d = ⊎-elim (wide-new g len i len (Clause.Binary B C m) e (λ x. omega (arith, x .1))) (λ x. omega (arith, x .1)) d
 
         half-on : (j l : ℕ) → HalfDone g len i j l → WideDone g len i j l
-        half-on j l d = ⊎-elim (wide-done-on g len i j l) (λ x. inr (omega (arith, x .0), subst (λ (y : ℕ). Edge len (rule g y .clause) l) (sym (x .0)) (subst (λ (y : Clause). Edge len y l) (sym e) (inl (x .1))))) d
+        half-on j l d = ⊎-elim (wide-done-on g len i j l) (λ x. inr (omega (arith, x .0), subst (λ (y : ℕ). AtEnd len (rule g y .clause) l) (sym (x .0)) (subst (λ (y : Clause). AtEnd len y l) (sym e) (inl (x .1))))) d
 
         last : Sounds (WideDone g len i) u
         last =
             from-took Real HasOne HasTwo (HalfDone g len i) (WideDone g len i) i len (rule g i .left) v u
-            half-new half-on (λ x. inr (omega arith, subst (λ (y : Clause). Edge len y len) (sym e) (inr refl)))
+            half-new half-on (λ x. inr (omega arith, subst (λ (y : Clause). AtEnd len y len) (sym e) (inr refl)))
             (brings i len (In (v .one) B × In one C) (In (v .two) B ⊎ In two C) b
             (λ x. subst (λ (y : Clause). Fits (Truth g h) (byTokens h s len) s len y len) (sym e)
             (omega arith, mid .one B (x .0), at-part (λ (a b : ℕ). Derives g C (part (h .word) a b)) (s + len) 0 (s + len) (len - len) refl (omega arith) (nulls z (s + len) C (omega arith) (omega arith) (x .1)), marked .binary m len (omega arith) .0 (edge-mark k len m len (λ p q. omega arith))))

@@ -16,7 +16,7 @@ use Rattle.grammar.specs.declared.Clause.the-variants as Clause
 use Rattle.grammar.specs.Layout.{Word}
 use Rattle.grammar.specs.Layout as Mark
 use Rattle.grammar.specs.Trees.{Rules, Derives}
-use Rattle.grammar.specs.Choices.{Choice, FirstChoice, OnlyChoice, OtherChoice, Before, Same}
+use Rattle.grammar.specs.Choices.{Choice, FirstChoice, OnlyChoice, OtherChoice, ChoiceBefore, Same}
 use Rattle.grammar.specs.Content.{rules, SmallClause, SmallRule, Formed}
 use Rattle.grammar.specs.SpanSheet.{part, SpanSheet}
 use Rattle.grammar.proofs.ByKind.{Can, choice-can, can-choice, getElem?-lt, no-word}
@@ -134,28 +134,28 @@ module _ (g : Rules) (w : Word) (ws : List ℕ) (sheet : SpanSheet g w ws) (s le
 
 -- ---- the order
 
-before-or-upon : (i j p k : ℕ) → Before i j p k ⊎ Upon p k i j
+before-or-upon : (i j p k : ℕ) → ChoiceBefore i j p k ⊎ Upon p k i j
 before-or-upon i j p k = go (decLt i p) (decLt p i) (decLt j k)
   where
-    go : Dec (i < p) → Dec (p < i) → Dec (j < k) → Before i j p k ⊎ Upon p k i j
+    go : Dec (i < p) → Dec (p < i) → Dec (j < k) → ChoiceBefore i j p k ⊎ Upon p k i j
     go (yes a) b c = inl (inl a)
     go (no a) (yes b) c = inr (inl b)
     go (no a) (no b) (yes c) = inl (inr (omega arith, c))
     go (no a) (no b) (no c) = inr (inr (omega arith, omega arith))
 
-not-both : (i j p k : ℕ) → Before i j p k → Upon p k i j → ⊥
+not-both : (i j p k : ℕ) → ChoiceBefore i j p k → Upon p k i j → ⊥
 not-both i j p k b u =
     ⊎-elim (λ x. ⊎-elim (λ y. omega arith) (λ y. omega (arith, y .0)) u) (λ x. ⊎-elim (λ y. omega (arith, x .0)) (λ y. omega (arith, x .0, x .1, y .0, y .1)) u) b
 
 -- a choice that is not before the place after (p, k) is another one, and each one before it is (p, k) or before it
-after-other : (p k q l : ℕ) → (Before q l p (k + 1) → ⊥) → Same q l p k → ⊥
+after-other : (p k q l : ℕ) → (ChoiceBefore q l p (k + 1) → ⊥) → Same q l p k → ⊥
 after-other p k q l n e = n (inr (e .0, omega (arith, e .1)))
 
-before-after : (p k i j : ℕ) → Before i j p (k + 1) → Before i j p k ⊎ Same i j p k
+before-after : (p k i j : ℕ) → ChoiceBefore i j p (k + 1) → ChoiceBefore i j p k ⊎ Same i j p k
 before-after p k i j (inl a) = inl (inl a)
 before-after p k i j (inr a) = go (decLt j k)
   where
-    go : Dec (j < k) → Before i j p k ⊎ Same i j p k
+    go : Dec (j < k) → ChoiceBefore i j p k ⊎ Same i j p k
     go (yes b) = inl (inr (a .0, b))
     go (no b) = inr (a .0, omega (arith, a .1))
 

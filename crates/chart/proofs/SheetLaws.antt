@@ -19,7 +19,7 @@ use Rattle.grammar.specs.Choices.{Distinct}
 use Rattle.grammar.specs.SpanSheet.{part, pairs, pairAt, firstWord, secondWord, SpanSheet}
 use Rattle.grammar.proofs.Marks.{token?}
 use Rattle.grammar.proofs.VerdictLaws.{none-not-one, none-not-two, one-not-two}
-use Rattle.marks.specs.Half.{Half, Completes, token}
+use Rattle.marks.specs.Half.{Half, Completes, tokenAt}
 use Rattle.marks.proofs.HalfLaws.{completes-self}
 use Rattle.spans.specs.Changes.{Past, Kept}
 use Rattle.spans.proofs.Places.{pairAt-same, pairAt-empty, pairAt-shorter, pairs-closed}
@@ -33,7 +33,7 @@ use Rattle.chart.specs.Tables.{Table, One, Two, byTokens, Stand, Again}
 use Rattle.chart.specs.Passes.{Room}
 use Rattle.chart.specs.Leaves.{Allows, LeafAt, May}
 use Rattle.chart.specs.Filling.{Told, Settled, Ground, Closed, Given, Passed, Filled, Grown}
-use Rattle.chart.specs.Sheets.{Exact, Begun, Ready, Meets, Covers, Charted, Holds, Judged, Hopeless, Settles}
+use Rattle.chart.specs.Sheets.{Exact, Begun, Ready, Meets, CoversMet, Charted, Holds, Judged, Hopeless, Settles}
 use Rattle.chart.proofs.Completeness.{complete, same}
 use Rattle.chart.proofs.Soundness.{sound-stand, sound-again}
 use Rattle.chart.proofs.FillLaws.{settled-kept, settled-empty}
@@ -60,7 +60,7 @@ exact-settled ws g h n from distinct inner low x a b fit = record {
     two c d A p q = x .two c d A (omega arith) .0
 
 -- a known token whose pair is its terminal's is settled
-leaf-settled : (ws : List ℕ) (g : Rules) (h : Half) (n : ℕ) → Distinct g → h .known ≤ length (h .word) → Exact g (h .word) n ws 0 → (i : ℕ) → i < h .known → LeafAt g n ws i (token (h .word) i .terminal)
+leaf-settled : (ws : List ℕ) (g : Rules) (h : Half) (n : ℕ) → Distinct g → h .known ≤ length (h .word) → Exact g (h .word) n ws 0 → (i : ℕ) → i < h .known → LeafAt g n ws i (tokenAt (h .word) i .terminal)
     → Settled (One ws n) (Two ws n) g h i 1
 leaf-settled ws g h n distinct inner x i kn l = record {
   some = λ A k. one i 1 A (omega arith) (omega arith);
@@ -195,7 +195,7 @@ module _ (ws ws′ : List ℕ) (g : Rules) (h : Half) (n : ℕ) (long : length (
       go (no e) = inl (omega arith)
 
   -- over the tokens before `upto`, where the pairs of open tokens allow for those of w, nothing is missed
-  covers-to : ((a b : ℕ) → a + b ≤ n → Settled (One ws′ n) (Two ws′ n) g h a b) → (w : Word) → Completes h w → (upto : ℕ) → upto ≤ length w → ((i : ℕ) → h .known ≤ i → i < upto → May g n ws′ i (token w i .terminal))
+  covers-to : ((a b : ℕ) → a + b ≤ n → Settled (One ws′ n) (Two ws′ n) g h a b) → (w : Word) → Completes h w → (upto : ℕ) → upto ≤ length w → ((i : ℕ) → h .known ≤ i → i < upto → May g n ws′ i (tokenAt w i .terminal))
       → (s len A : ℕ) → s + len ≤ upto → (Derives g A (part w s len) → One ws′ n s len A) × (TwoTrees g A (part w s len) → Two ws′ n s len A)
   covers-to t w c upto far adm s len A fit = (
     λ d. subst (λ (B : ℕ). One ws′ n s len B) (d .witness .rooted) (complete (One ws′ n) g h each w c upto far (λ i B x y. may-one g w n ws′ i (omega arith) (adm i x y) B) (d .tree) (d .witness .valid) s len fit (d .witness .spelled)),
@@ -293,11 +293,11 @@ meets-given {g} {h} {n} {w = w} e v m = record {
   completes = m .completes;
   allows = λ i x y.
       let z : length w ≡ n = m .completes .long ∙ e in
-      subst₂ (Allows g (token w i .terminal)) (sym (v .first i (omega arith))) (sym (v .second i (omega arith))) (m .allows i x y);
+      subst₂ (Allows g (tokenAt w i .terminal)) (sym (v .first i (omega arith))) (sym (v .second i (omega arith))) (m .allows i x y);
 }
 
 -- where the second word lacks 0 over the whole, no word that meets h has two trees
-pub covers-none : {g : Rules} {h : Half} {n : ℕ} {ws ws′ : List ℕ} → length (h .word) ≡ n → Given ws ws′ n → Covers g h n ws′ → (In (secondWord ws′ n 0 n) 0 → ⊥) → Hopeless g h n ws
+pub covers-none : {g : Rules} {h : Half} {n : ℕ} {ws ws′ : List ℕ} → length (h .word) ≡ n → Given ws ws′ n → CoversMet g h n ws′ → (In (secondWord ws′ n 0 n) 0 → ⊥) → Hopeless g h n ws
 covers-none {g} {h} {n} {ws} {ws′} e v k out = record {
   none = λ w c d.
       let z : length w ≡ n = c .completes .long ∙ e in

@@ -12,10 +12,10 @@ use Rattle.sets.specs.Sets.{In}
 use Rattle.grammar.specs.Trees.{Rules, Derives, TwoTrees}
 use Rattle.grammar.specs.Choices.{Distinct}
 use Rattle.grammar.specs.SpanSheet.{pairs, spans, pairAt, firstWord, secondWord}
-use Rattle.marks.specs.Half.{Half, token}
+use Rattle.marks.specs.Half.{Half, tokenAt}
 use Rattle.marks.specs.Marked.{alone}
 use Rattle.marks.proofs.Joining.{carried-first, carried-all, no-tokens}
-use Rattle.spans.specs.Changes.{Past, Kept, Wrote}
+use Rattle.spans.specs.Changes.{Past, Kept, WrotePair}
 use Rattle.spans.proofs.Places.{pairAt-same, pairAt-empty}
 use Rattle.spans.proofs.ChangeLaws.{past-same, past-then, kept-past}
 use Rattle.chart.specs.declared.Tally.{Tally}
@@ -42,7 +42,7 @@ module _ {g : Rules} {b t : Tally} (distinct : Distinct g) (l : Leaves (alone 0 
   nothing : Half
   nothing = record { word = []; known = 0 }
 
-  wrote : Wrote before after 0 (t .one) (t .two)
+  wrote : WrotePair before after 0 (t .one) (t .two)
   unfolding before after
   wrote = record { kept = record { long = refl; rest = rest }; first = refl; second = refl }
     where
@@ -54,7 +54,7 @@ module _ {g : Rules} {b t : Tally} (distinct : Distinct g) (l : Leaves (alone 0 
   here : Closed before after g nothing 0 0 0
   unfolding before nothing
   here = closed before after g nothing 0 0 0 (alone 0 0) b t distinct (omega arith) (omega arith) (no-tokens nothing 0 0 0 0 refl) (record { parts = λ c d x y z. absurd (omega arith) })
-      (by-leaves (omega arith) l) sat (subst (λ (p : ℕ). Wrote before after p (t .one) (t .two)) (sym (pairAt-empty 0 0)) wrote)
+      (by-leaves (omega arith) l) sat (subst (λ (p : ℕ). WrotePair before after p (t .one) (t .two)) (sym (pairAt-empty 0 0)) wrote)
 
   pub empty-found : EmptyPair g (t .one) (t .two)
   unfolding after nothing
@@ -89,7 +89,7 @@ module _ {g : Rules} {x p q : ℕ} {b t : Tally} (distinct : Distinct g) (e : Em
   single : Half
   single = record { word = one-token; known = 1 }
 
-  wrote-leaf : Wrote unread read 1 (t .one) (t .two)
+  wrote-leaf : WrotePair unread read 1 (t .one) (t .two)
   unfolding unread read
   wrote-leaf = record { kept = record { long = refl; rest = rest }; first = refl; second = refl }
     where
@@ -109,7 +109,7 @@ module _ {g : Rules} {x p q : ℕ} {b t : Tally} (distinct : Distinct g) (e : Em
   unfolding unread single one-token
   leaf-here = closed unread read g single 1 0 1 (alone x 0) b t distinct (omega arith) (omega arith) (carried-all single 0 1 (alone x 0) (carried-first single 0 x 0 refl refl))
       (record { parts = λ c d y z v. subst (Settled (One unread 1) (Two unread 1) g single c) (let u : 0 ≡ d = omega arith in u) (nulls unread refl refl c) })
-      (by-leaves (omega arith) l) sat (subst (λ (i : ℕ). Wrote unread read i (t .one) (t .two)) (sym second-pair) wrote-leaf)
+      (by-leaves (omega arith) l) sat (subst (λ (i : ℕ). WrotePair unread read i (t .one) (t .two)) (sym second-pair) wrote-leaf)
 
   pub leaf-found : Leaf g x (t .one) (t .two)
   unfolding read single one-token
@@ -128,15 +128,15 @@ module _ {g : Rules} {x p q : ℕ} {b t : Tally} (distinct : Distinct g) (e : Em
 -- ---- written, one after the other
 
 -- the pairs of the empty word and of the first i tokens
-pub record Written (ws ws′ : List ℕ) (g : Rules) (w : Word) (n i : ℕ) : Type 0 where
+pub record PairsWritten (ws ws′ : List ℕ) (g : Rules) (w : Word) (n i : ℕ) : Type 0 where
   pub empty : Exact g w n ws′ 0
-  pub leaves : (j : ℕ) → j < i → LeafAt g n ws′ j (token w j .terminal)
+  pub leaves : (j : ℕ) → j < i → LeafAt g n ws′ j (tokenAt w j .terminal)
   pub past : Past (2 * pairs n) ws ws′
 
-pub written-none : {ws ws′ : List ℕ} {g : Rules} {p q : ℕ} (w : Word) (n : ℕ) → EmptyPair g p q → Wrote ws ws′ 0 p q → Written ws′ ws′ g w n 0
+pub written-none : {ws ws′ : List ℕ} {g : Rules} {p q : ℕ} (w : Word) (n : ℕ) → EmptyPair g p q → WrotePair ws ws′ 0 p q → PairsWritten ws′ ws′ g w n 0
 written-none {ws′ = ws′} w n e r = record { empty = empty-exact e (r .first) (r .second) w n; leaves = λ j l. absurd (omega arith); past = past-same (2 * pairs n) ws′ }
 
-pub written-more : {ws ws₁ ws₂ : List ℕ} {g : Rules} {w : Word} {n i p q : ℕ} → i < n → Written ws ws₁ g w n i → Leaf g (token w i .terminal) p q → Wrote ws₁ ws₂ (pairAt n i 1) p q → Written ws ws₂ g w n (i + 1)
+pub written-more : {ws ws₁ ws₂ : List ℕ} {g : Rules} {w : Word} {n i p q : ℕ} → i < n → PairsWritten ws ws₁ g w n i → Leaf g (tokenAt w i .terminal) p q → WrotePair ws₁ ws₂ (pairAt n i 1) p q → PairsWritten ws ws₂ g w n (i + 1)
 written-more {ws} {ws₁} {ws₂} {g} {w} {n} {i} {p} {q} h r l v = record {
   empty = exact-words ws₂ (λ s len fit. (first-kept ws₁ ws₂ n (pairAt n i 1) (v .kept) s len (other s len (omega arith) (omega arith)), second-kept ws₁ ws₂ n (pairAt n i 1) (v .kept) s len (other s len (omega arith) (omega arith)))) (r .empty);
   leaves = λ j k. go j k (decLt j i);
@@ -147,9 +147,9 @@ written-more {ws} {ws₁} {ws₂} {g} {w} {n} {i} {p} {q} h r l v = record {
     other : (a b : ℕ) → a + b ≤ n → b + a < 1 + i → pairAt n a b ≡ pairAt n i 1 → ⊥
     other a b f k y = let z = pairAt-same n a b i 1 f (omega arith) y in ⊎-elim (λ u. omega (arith, z .0, u)) (λ u. omega (arith, z .0, u)) (z .1)
 
-    go : (j : ℕ) → j < i + 1 → Dec (j < i) → LeafAt g n ws₂ j (token w j .terminal)
-    go j k (yes y) = subst₂ (Leaf g (token w j .terminal)) (sym (first-kept ws₁ ws₂ n (pairAt n i 1) (v .kept) j 1 (other j 1 (omega arith) (omega arith)))) (sym (second-kept ws₁ ws₂ n (pairAt n i 1) (v .kept) j 1 (other j 1 (omega arith) (omega arith)))) (r .leaves j y)
-    go j k (no y) = subst (λ (z : ℕ). LeafAt g n ws₂ z (token w z .terminal)) (let u : i ≡ j = omega arith in u) (subst₂ (Leaf g (token w i .terminal)) (sym (v .first)) (sym (v .second)) l)
+    go : (j : ℕ) → j < i + 1 → Dec (j < i) → LeafAt g n ws₂ j (tokenAt w j .terminal)
+    go j k (yes y) = subst₂ (Leaf g (tokenAt w j .terminal)) (sym (first-kept ws₁ ws₂ n (pairAt n i 1) (v .kept) j 1 (other j 1 (omega arith) (omega arith)))) (sym (second-kept ws₁ ws₂ n (pairAt n i 1) (v .kept) j 1 (other j 1 (omega arith) (omega arith)))) (r .leaves j y)
+    go j k (no y) = subst (λ (z : ℕ). LeafAt g n ws₂ z (tokenAt w z .terminal)) (let u : i ≡ j = omega arith in u) (subst₂ (Leaf g (tokenAt w i .terminal)) (sym (v .first)) (sym (v .second)) l)
 
-pub written-all : {ws ws₁ ws₂ : List ℕ} {g : Rules} {w : Word} {n i : ℕ} → n ≤ i → Kept ws ws₁ 0 → Written ws₁ ws₂ g w n i → Begun ws ws₂ g w n
+pub written-all : {ws ws₁ ws₂ : List ℕ} {g : Rules} {w : Word} {n i : ℕ} → n ≤ i → Kept ws ws₁ 0 → PairsWritten ws₁ ws₂ g w n i → Begun ws ws₂ g w n
 written-all {ws} {ws₁} {n = n} h k r = record { empty = r .empty; leaves = λ j l. r .leaves j (omega arith); past = past-then (kept-past n 0 0 (omega arith) (subst (Kept ws ws₁) (sym (pairAt-empty n 0)) k)) (r .past) }

@@ -11,7 +11,7 @@ use Rattle.marks.specs.declared.Draft.{Draft}
 use Rattle.marks.specs.declared.SpanMarks.{SpanMarks}
 use Rattle.marks.specs.Half.{Half}
 use Rattle.marks.specs.Drafts.{drafted}
-use Rattle.spans.specs.Changes.{Kept, Past, Wrote}
+use Rattle.spans.specs.Changes.{Kept, Past, WrotePair}
 use Rattle.chart.specs.declared.Tally.{Tally}
 use Rattle.chart.specs.Passes.{Splits, Saturated}
 use Rattle.chart.specs.Tables.{Table, One, Two, byTokens, Stand, Again}
@@ -48,7 +48,7 @@ pub record Joins (ws ws′ : List ℕ) (g : Rules) (n s len : ℕ) (k : SpanMark
   pub last : Tally
   pub splits : Splits ws n s len k g len inner
   pub saturated : Saturated (getD ws 0 0) (getD ws 1 0) k len g inner last
-  pub wrote : Wrote ws ws′ (pairAt n s len) (last .one) (last .two)
+  pub wrote : WrotePair ws ws′ (pairAt n s len) (last .one) (last .two)
 
 -- the pairs of single tokens are as they were
 pub record Given (ws ws′ : List ℕ) (n : ℕ) : Type 0 where

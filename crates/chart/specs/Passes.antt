@@ -120,16 +120,16 @@ pub data Beside (one two len a b e : ℕ) (t v : Tally) : Type 0 where
       → Took (In (u .one) b × In one e) (In (u .two) b ⊎ In two e) a u v → Beside one two len a b e t v
 
 -- a clause for a is tried with the whole span on one side
-abbrev pub Wide : ℕ → ℕ → SpanMarks → ℕ → ℕ → Clause → Tally → Tally → Type 0
-Wide one two k len a Clause.Empty t u = u ≡ t
-Wide one two k len a (Clause.Atom c d) t u = u ≡ t
-Wide one two k len a (Clause.Unary B m) t u = Took (In (t .one) B × UnaryBy k m) (In (t .two) B) a t u
-Wide one two k len a (Clause.Binary B C m) t u = Beside one two len a B C t u
+abbrev pub WholeSide : ℕ → ℕ → SpanMarks → ℕ → ℕ → Clause → Tally → Tally → Type 0
+WholeSide one two k len a Clause.Empty t u = u ≡ t
+WholeSide one two k len a (Clause.Atom c d) t u = u ≡ t
+WholeSide one two k len a (Clause.Unary B m) t u = Took (In (t .one) B × UnaryBy k m) (In (t .two) B) a t u
+WholeSide one two k len a (Clause.Binary B C m) t u = Beside one two len a B C t u
 
 -- the rules from i on are tried so, the last one first
 pub data Pass (one two : ℕ) (k : SpanMarks) (len : ℕ) (g : Rules) (t : Tally) : ℕ → Tally → Type 0 where
   pass-none : Pass one two k len g t (length g) t
-  pass-more : {i : ℕ} {u v : Tally} → Pass one two k len g t (i + 1) u → Wide one two k len (rule g i .left) (rule g i .clause) u v → Pass one two k len g t i v
+  pass-more : {i : ℕ} {u v : Tally} → Pass one two k len g t (i + 1) u → WholeSide one two k len (rule g i .left) (rule g i .clause) u v → Pass one two k len g t i v
 
 -- the rules that b has seen, and the sets of t
 abbrev pub resumed : Tally → Tally → Tally

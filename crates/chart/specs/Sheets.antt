@@ -9,7 +9,7 @@ use Rattle.sets.specs.Sets.{In}
 use Rattle.grammar.specs.Layout.{Word}
 use Rattle.grammar.specs.Trees.{Rules, Derives, NoTree, OneTree, TwoTrees}
 use Rattle.grammar.specs.SpanSheet.{part, pairs, firstWord, secondWord, SpanSheet}
-use Rattle.marks.specs.Half.{Half, Completes, token}
+use Rattle.marks.specs.Half.{Half, Completes, tokenAt}
 use Rattle.spans.specs.Changes.{Past}
 use Rattle.chart.specs.Openness.{Open}
 use Rattle.chart.specs.Leaves.{LeafAt, May}
@@ -25,7 +25,7 @@ pub record Exact (g : Rules) (w : Word) (n : ℕ) (ws : List ℕ) (to : ℕ) : T
 -- the pairs of the empty word and of w's single tokens are right; the words past the sheet are as they were
 pub record Begun (ws ws′ : List ℕ) (g : Rules) (w : Word) (n : ℕ) : Type 0 where
   pub empty : Exact g w n ws′ 0
-  pub leaves : (i : ℕ) → i < n → LeafAt g n ws′ i (token w i .terminal)
+  pub leaves : (i : ℕ) → i < n → LeafAt g n ws′ i (tokenAt w i .terminal)
   pub past : Past (2 * pairs n) ws ws′
 
 -- a sheet may be filled anew but for the spans that end at or before `from` and those that begin at or past `to`:
@@ -35,23 +35,23 @@ pub record Ready (g : Rules) (h : Half) (n : ℕ) (ws : List ℕ) (from to : ℕ
   pub high : h .known ≤ to
   pub within : to ≤ n
   pub right : Exact g (h .word) n ws from
-  pub leaves : (i : ℕ) → i < h .known → LeafAt g n ws i (token (h .word) i .terminal)
+  pub leaves : (i : ℕ) → i < h .known → LeafAt g n ws i (tokenAt (h .word) i .terminal)
   pub beyond : Open g n ws to
 
 -- w completes h, and the pairs of h's open tokens allow for its terminals
 pub record Meets (g : Rules) (h : Half) (n : ℕ) (ws : List ℕ) (w : Word) : Type 0 where
   pub completes : Completes h w
-  pub allows : (i : ℕ) → h .known ≤ i → i < length w → May g n ws i (token w i .terminal)
+  pub allows : (i : ℕ) → h .known ≤ i → i < length w → May g n ws i (tokenAt w i .terminal)
 
 -- what has a tree, or two, in a word that meets h is in the words
-pub record Covers (g : Rules) (h : Half) (n : ℕ) (ws : List ℕ) : Type 0 where
+pub record CoversMet (g : Rules) (h : Half) (n : ℕ) (ws : List ℕ) : Type 0 where
   pub one : (w : Word) → Meets g h n ws w → (s len A : ℕ) → s + len ≤ length w → Derives g A (part w s len) → In (firstWord ws n s len) A
   pub two : (w : Word) → Meets g h n ws w → (s len A : ℕ) → s + len ≤ length w → TwoTrees g A (part w s len) → In (secondWord ws n s len) A
 
 -- the span sheet of a half-known word: exact as far as it is known, and missing nothing of the rest
 pub record Charted (ws ws′ : List ℕ) (g : Rules) (h : Half) (n : ℕ) : Type 0 where
   pub exact : Exact g (h .word) n ws′ (h .known)
-  pub covers : Covers g h n ws′
+  pub covers : CoversMet g h n ws′
   pub given : Given ws ws′ n
   pub beyond : Open g n ws′ (h .known)
   pub past : Past (2 * pairs n) ws ws′

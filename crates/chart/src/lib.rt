@@ -44,7 +44,7 @@ ghost use Rattle.marks.specs.Marked.{UnaryBy, BinaryBy};
 ghost use Rattle.spans.specs.Changes.{Past};
 ghost use Rattle.spans.specs.Reach.{Reach};
 ghost use Rattle.chart.specs.Tables.{One, byMarks, Fits, lefts};
-ghost use Rattle.chart.specs.Passes.{Room, Doubles, Found, Took, pairOf, sidesAt, Unpaired, Stretches, SplitFits, SplitBelow, SplitRow, none, Splits, LeafFits, Leaves, Beside, Wide, Pass, Saturated};
+ghost use Rattle.chart.specs.Passes.{Room, Doubles, Found, Took, pairOf, sidesAt, Unpaired, Stretches, SplitFits, SplitBelow, SplitRow, none, Splits, LeafFits, Leaves, Beside, WholeSide, Pass, Saturated};
 ghost use Rattle.chart.specs.Leaves.{EmptyPair, Leaf};
 ghost use Rattle.chart.specs.Filling.{Whole, Joins, Filled, Grown};
 ghost use Rattle.chart.specs.Sheets.{Exact, Begun, Ready, Charted, Judged, Settles};
@@ -484,7 +484,7 @@ fn try_beside(t: Tally, a: u8, b: u8, e: u8, one: u64, two: u64, len: usize) -> 
 
 // Try the rule of a code, where it has the whole span on one side.
 fn try_wide(t: Tally, code: u64, k: SpanMarks, one: u64, two: u64, len: usize) -> Tally
-    ensures { λ u. ⌜ Wide one two k len (decode code .left) (decode code .clause) t u ⌝ }
+    ensures { λ u. ⌜ WholeSide one two k len (decode code .left) (decode code .clause) t u ⌝ }
 {
     let kind = kind_of(code);
     if kind < 2 {

@@ -16,12 +16,12 @@ use Rattle.grammar.specs.Trees.{Rules, Derives, NoTree, OneTree, TwoTrees}
 use Rattle.grammar.specs.Choices.{Distinct}
 use Rattle.grammar.specs.Candidates.{After, Rising}
 use Rattle.grammar.specs.SpanSheet.{pairs, firstWord, secondWord}
-use Rattle.marks.specs.Half.{Half, token}
+use Rattle.marks.specs.Half.{Half, tokenAt}
 use Rattle.chart.specs.Leaves.{Leaf, Allows, LeafAt, May}
 use Rattle.chart.specs.Filling.{Given}
 use Rattle.chart.specs.declared.Verdict.{Verdict}
 use Rattle.chart.specs.declared.Verdict.the-variants as Verdict
-use Rattle.chart.specs.Sheets.{Exact, Begun, Ready, Meets, Covers, Charted, Holds}
+use Rattle.chart.specs.Sheets.{Exact, Begun, Ready, Meets, CoversMet, Charted, Holds}
 use Rattle.chart.proofs.ExactLaws.{exact-less, exact-front}
 use Rattle.chart.proofs.LeafLaws.{leaf-allows}
 use Rattle.chart.proofs.OpenLaws.{open-none}
@@ -31,17 +31,17 @@ use Rattle.order.proofs.Same.{two-same, one-same, none-under}
 use Rattle.spans.specs.Changes.{Past, Cleared}
 use Rattle.spans.proofs.ChangeLaws.{past-same, past-then}
 use Rattle.column_ranges.specs.declared.RangeToken.{RangeToken}
-use Rattle.column_ranges.specs.Ranges.{Ranges, Within, Chosen, Gives, columns, Ended}
+use Rattle.column_ranges.specs.Ranges.{Ranges, WithinEnds, Chosen, SomeChoiceGives, columns, Ended}
 use Rattle.choosing.specs.declared.Flags.{Flags}
 use Rattle.choosing.specs.declared.Tried.{Tried}
-use Rattle.choosing.specs.Answers.{flag, Settled}
-use Rattle.choosing.specs.Searching.{range, Placed, Begins, Standing, Grown, Finds, FindsBelow, placed, MayBe, Reads, With, Put, Poised, Tryable, Trying, Searched}
+use Rattle.choosing.specs.Answers.{flag, FlagsSay}
+use Rattle.choosing.specs.Searching.{range, Placed, Begins, Standing, Grown, Finds, FindsBelow, inColumn, MayBe, Reads, With, Put, Poised, Tryable, Trying, Searched}
 use Rattle.choosing.proofs.Placing.{chosen-long, chosen-at, rising-at, within-placed, placed-within, put-before, put-terminal, put-tryable, placed-next, placed-chosen, placed-rising, same-word, same-front}
 
 -- ---- the words
 
 -- what is right for w is right for a word with the same first tokens and the same terminals
-pub standing-as : {g : Rules} {n e : ℕ} {w : Word} {ws : List ℕ} (u : Word) → length u ≡ length w → ((k : ℕ) → k < e → token u k ≡ token w k) → ((k : ℕ) → k < n → token u k .terminal ≡ token w k .terminal)
+pub standing-as : {g : Rules} {n e : ℕ} {w : Word} {ws : List ℕ} (u : Word) → length u ≡ length w → ((k : ℕ) → k < e → tokenAt u k ≡ tokenAt w k) → ((k : ℕ) → k < n → tokenAt u k .terminal ≡ tokenAt w k .terminal)
     → Standing g n e w ws → Standing g n e u ws
 standing-as {g} {n} {e} {w} {ws} u long same terminal st = record {
   right = exact-front u (same-front w u e long same) (st .right);
@@ -71,13 +71,13 @@ module _ {g : Rules} {n e i : ℕ} {w : Word} {ws : List ℕ} (low : e ≤ i) (h
   pub standing-on : {ws′ : List ℕ} → Standing g n e w ws → Charted ws ws′ g (record { word = w; known = i + 1 }) n → Standing g n (i + 1) w ws′
   standing-on {ws′} st c = record {
     right = c .exact;
-    leaves = λ k l. subst₂ (Leaf g (token w k .terminal)) (sym (c .given .first k l)) (sym (c .given .second k l)) (st .leaves k l);
+    leaves = λ k l. subst₂ (Leaf g (tokenAt w k .terminal)) (sym (c .given .first k l)) (sym (c .given .second k l)) (st .leaves k l);
   }
 
 -- ---- what a column finds
 
 -- a token put at i
-module _ {g : Rules} {rs : Ranges} {n e i : ℕ} {w u : Word} {t : Token} {ws : List ℕ} (size : length rs ≡ n) (h : i < n) (low : e ≤ i) (p : Placed rs w i) (q : Put w u i t) (within : Within (range rs i) t) where
+module _ {g : Rules} {rs : Ranges} {n e i : ℕ} {w u : Word} {t : Token} {ws : List ℕ} (size : length rs ≡ n) (h : i < n) (low : e ≤ i) (p : Placed rs w i) (q : Put w u i t) (within : WithinEnds (range rs i) t) where
   pub standing-put : Standing g n e w ws → Standing g n e u ws
   standing-put st = standing-as u (q .long) (λ k l. put-before (omega arith) p q k (omega arith)) (λ k l. put-terminal (omega arith) p q within k (omega arith)) st
 
@@ -85,14 +85,14 @@ module _ {g : Rules} {rs : Ranges} {n e i : ℕ} {w u : Word} {t : Token} {ws : 
   standing-unput st = standing-as w (sym (q .long)) (λ k l. sym (put-before (omega arith) p q k (omega arith))) (λ k l. sym (put-terminal (omega arith) p q within k (omega arith))) st
 
 -- a token that does not come after the one before: no choice begins so
-pub finds-falling : {g : Rules} {rs : Ranges} {w : Word} {i : ℕ} {f : Flags} → i < length rs → ((0 < i → After (token w (i - 1)) (token w i)) → ⊥) → Finds g rs w (i + 1) f
+pub finds-falling : {g : Rules} {rs : Ranges} {w : Word} {i : ℕ} {f : Flags} → i < length rs → ((0 < i → After (tokenAt w (i - 1)) (tokenAt w i)) → ⊥) → Finds g rs w (i + 1) f
 finds-falling {g} {rs} {w} {i} {f} h no-after = record {
   all = λ v x b. absurd (no-after (λ l. subst₂ After (b .same (i - 1) (omega arith)) (b .same i (omega arith))
-      (subst (λ (j : ℕ). After (token x (i - 1)) (token x j)) (let z : i - 1 + 1 ≡ i = omega arith in z) (rising-at x (b .rising) (i - 1) (omega (arith, chosen-long rs x (b .chosen)))))));
+      (subst (λ (j : ℕ). After (tokenAt x (i - 1)) (tokenAt x j)) (let z : i - 1 + 1 ≡ i = omega arith in z) (rising-at x (b .rising) (i - 1) (omega (arith, chosen-long rs x (b .chosen)))))));
 }
 
 -- a choice that begins so meets what is known
-meets : {g : Rules} {rs : Ranges} {n i : ℕ} {w : Word} {ws : List ℕ} {v : Verdict} {x : Word} → length rs ≡ n → Placed rs w i → ((k : ℕ) → k < n → LeafAt g n ws k (token w k .terminal)) → Begins g rs w (i + 1) v x
+meets : {g : Rules} {rs : Ranges} {n i : ℕ} {w : Word} {ws : List ℕ} {v : Verdict} {x : Word} → length rs ≡ n → Placed rs w i → ((k : ℕ) → k < n → LeafAt g n ws k (tokenAt w k .terminal)) → Begins g rs w (i + 1) v x
     → Meets g (record { word = w; known = i + 1 }) n ws x
 meets {g} {rs} {n} {i} {w} {ws} {v} {x} size p leaves b = record {
   completes = record { long = long ∙ sym (p .long); same = b .same };
@@ -126,11 +126,11 @@ module _ {g : Rules} {rs : Ranges} {n : ℕ} {w : Word} {ws : List ℕ} (size : 
   read Verdict.One r = reads-one (p .long ∙ size) (st .right) (r .0) (r .1)
   read Verdict.Two r = reads-two (p .long ∙ size) (st .right) r
 
-  gives : (v : Verdict) → Reads ws n v → Gives g rs v
+  gives : (v : Verdict) → Reads ws n v → SomeChoiceGives g rs v
   gives v r = record { word = w; chosen = placed-chosen (sym size) p; rising = placed-rising (sym size) p; verdict = read v r }
 
   pub grown-read : {f r : Flags} (v : Verdict) → Reads ws n v → With f v r → Grown g rs f r
-  grown-read v e y = record { kept = y .kept; given = λ u s. ⊎-elim inl (λ z. inr (subst (Gives g rs) (sym z) (gives v e))) (y .given u s) }
+  grown-read v e y = record { kept = y .kept; given = λ u s. ⊎-elim inl (λ z. inr (subst (SomeChoiceGives g rs) (sym z) (gives v e))) (y .given u s) }
 
   pub finds-read : {f r : Flags} (v : Verdict) → Reads ws n v → With f v r → Finds g rs w n r
   finds-read {f} {r} v e y = record {
@@ -154,19 +154,19 @@ module _ {g : Rules} {rs : Ranges} {w : Word} {i : ℕ} (h : i < length rs) wher
   below-none c f l = record { all = λ v x b k. absurd (let z = chosen-at rs x (b .chosen) i h .low in omega (arith, z, k)) }
 
   -- the column that stands c past the lower end is tried
-  pub below-more : {u : Word} {f r : Flags} (c : ℕ) → Placed rs w i → Put w u i (placed (range rs i) c) → ((v : Verdict) → flag f v ≡ true → flag r v ≡ true) → Finds g rs u (i + 1) r
+  pub below-more : {u : Word} {f r : Flags} (c : ℕ) → Placed rs w i → Put w u i (inColumn (range rs i) c) → ((v : Verdict) → flag f v ≡ true → flag r v ≡ true) → Finds g rs u (i + 1) r
       → FindsBelow g rs w i (range rs i .low .0 + c) f → FindsBelow g rs w i (range rs i .low .0 + (c + 1)) r
-  below-more {u} {f} {r} c p q kept y z = record { all = λ v x b k. go v x b k (decLt (col (token x i)) (range rs i .low .0 + c)) }
+  below-more {u} {f} {r} c p q kept y z = record { all = λ v x b k. go v x b k (decLt (col (tokenAt x i)) (range rs i .low .0 + c)) }
     where
-      go : (v : Verdict) (x : Word) → Begins g rs w i v x → col (token x i) < range rs i .low .0 + (c + 1) → Dec (col (token x i) < range rs i .low .0 + c) → flag r v ≡ true
+      go : (v : Verdict) (x : Word) → Begins g rs w i v x → col (tokenAt x i) < range rs i .low .0 + (c + 1) → Dec (col (tokenAt x i) < range rs i .low .0 + c) → flag r v ≡ true
       go v x b k (yes l) = kept v (z .all v x b l)
       go v x b k (no l) = y .all v x (record { chosen = b .chosen; rising = b .rising; verdict = b .verdict; same = λ j m. same j m (ℕ-discrete j i) })
         where
-          here : token x i ≡ placed (range rs i) c
-          here = within-placed (range rs i) (token x i) c (chosen-at rs x (b .chosen) i h) (omega arith)
+          here : tokenAt x i ≡ inColumn (range rs i) c
+          here = within-placed (range rs i) (tokenAt x i) c (chosen-at rs x (b .chosen) i h) (omega arith)
 
-          same : (j : ℕ) → j < i + 1 → Dec (j ≡ i) → token x j ≡ token u j
-          same j m (yes e) = ap (token x) e ∙ here ∙ sym (q .here) ∙ ap (token u) (sym e)
+          same : (j : ℕ) → j < i + 1 → Dec (j ≡ i) → tokenAt x j ≡ tokenAt u j
+          same j m (yes e) = ap (tokenAt x) e ∙ here ∙ sym (q .here) ∙ ap (tokenAt u) (sym e)
           same j m (no d) = b .same j (omega arith) ∙ sym (put-before h p q j (omega arith))
 
   pub below-all : {r : Flags} (m : ℕ) → Ended (range rs i) → columns (range rs i) ≤ m → FindsBelow g rs w i (range rs i .low .0 + m) r → Finds g rs w i r
@@ -174,7 +174,7 @@ module _ {g : Rules} {rs : Ranges} {w : Word} {i : ℕ} (h : i < length rs) wher
 
 -- ---- the end
 
-pub settled : {g : Rules} {rs : Ranges} {w : Word} {f r : Flags} → ((v : Verdict) → flag f v ≡ false) → Grown g rs f r → Finds g rs w 0 r → Settled g rs r
+pub settled : {g : Rules} {rs : Ranges} {w : Word} {f r : Flags} → ((v : Verdict) → flag f v ≡ false) → Grown g rs f r → Finds g rs w 0 r → FlagsSay g rs r
 settled {g} {rs} {w} {f} {r} none x y = record {
   says = λ v. record {
     is = λ e. ⊎-elim (λ z. absurd (true-not-false (sym z ∙ none v))) (λ z. z) (x .given v e);
@@ -242,7 +242,7 @@ with-two f v e = subst (λ (u : Verdict). With f u r) (sym e) (record { set = re
 
 module _ {g : Rules} {rs : Ranges} {n e i : ℕ} {w : Word} {f : Flags} {ws : List ℕ} (size : length rs ≡ n) (h : i < n) where
   -- it does not come after the one before
-  pub trying-falling : {right : ℕ} → ((0 < i → After (token w (i - 1)) (token w i)) → ⊥) → Standing g n e w ws → Trying g rs n e i w f ws ws (record { out = true; right = right })
+  pub trying-falling : {right : ℕ} → ((0 < i → After (tokenAt w (i - 1)) (tokenAt w i)) → ⊥) → Standing g n e w ws → Trying g rs n e i w f ws ws (record { out = true; right = right })
   trying-falling a st = record {
     out = λ z. finds-falling (omega arith) a;
     back = st;
@@ -251,7 +251,7 @@ module _ {g : Rules} {rs : Ranges} {n e i : ℕ} {w : Word} {f : Flags} {ws : Li
     past = past-same _ ws;
   }
 
-  module _ (low : e ≤ i) (y : Tryable rs w i) (a : 0 < i → After (token w (i - 1)) (token w i)) (st : Standing g n e w ws) where
+  module _ (low : e ≤ i) (y : Tryable rs w i) (a : 0 < i → After (tokenAt w (i - 1)) (tokenAt w i)) (st : Standing g n e w ws) where
     -- the next token has one column only: the words are left as they are
     pub trying-on : i + 1 < n → Trying g rs n e i w f ws ws (record { out = false; right = e })
     trying-on l = record {
@@ -279,7 +279,7 @@ module _ {g : Rules} {rs : Ranges} {n e i : ℕ} {w : Word} {f : Flags} {ws : Li
 -- ---- the columns of the token at i, one after the other
 
 -- the first c columns are tried: the words stand as before, and what these columns give is found
-pub record Turn (g : Rules) (rs : Ranges) (n e i : ℕ) (w : Word) (f : Flags) (ws ws′ : List ℕ) (found : Flags) (c : ℕ) : Type 0 where
+pub record ChoosingTurn (g : Rules) (rs : Ranges) (n e i : ℕ) (w : Word) (f : Flags) (ws ws′ : List ℕ) (found : Flags) (c : ℕ) : Type 0 where
   pub past : Past (2 * pairs n) ws ws′
   pub stands : Standing g n e w ws′
   pub grown : Grown g rs f found
@@ -302,16 +302,16 @@ module _ {g : Rules} {rs : Ranges} {n e i : ℕ} {w : Word} {f : Flags} {ws : Li
       st = subst (λ (k : ℕ). Standing g n k w ws) (y .whole z) (y .stands)
 
   module _ (h : i < n) (low : e ≤ i) (p : Placed rs w i) where
-    pub turn-none : Standing g n e w ws → Turn g rs n e i w f ws ws f 0
+    pub turn-none : Standing g n e w ws → ChoosingTurn g rs n e i w f ws ws f 0
     turn-none st = record { past = past-same _ ws; stands = st; grown = grown-none f; below = below-none (omega arith) (range rs i .low .0 + 0) f (omega arith) }
 
-    module _ {c : ℕ} {u : Word} {found : Flags} {ws₁ : List ℕ} (ended : Ended (range rs i)) (few : c < columns (range rs i)) (q : Put w u i (placed (range rs i) c))
-        (t : Turn g rs n e i w f ws ws₁ found c) where
+    module _ {c : ℕ} {u : Word} {found : Flags} {ws₁ : List ℕ} (ended : Ended (range rs i)) (few : c < columns (range rs i)) (q : Put w u i (inColumn (range rs i) c))
+        (t : ChoosingTurn g rs n e i w f ws ws₁ found c) where
       pub turn-tryable : Tryable rs u i × Standing g n e u ws₁
       turn-tryable = (put-tryable (omega arith) p q (placed-within (range rs i) c ended few), standing-put size h low p q (placed-within (range rs i) c ended few) (t .stands))
 
       -- nothing new can come of the column
-      pub turn-out : {r : Tried} {ws₂ : List ℕ} → Trying g rs n e i u found ws₁ ws₂ r → r .out ≡ true → Turn g rs n e i w f ws ws₂ found (c + 1)
+      pub turn-out : {r : Tried} {ws₂ : List ℕ} → Trying g rs n e i u found ws₁ ws₂ r → r .out ≡ true → ChoosingTurn g rs n e i w f ws ws₂ found (c + 1)
       turn-out y z = record {
         past = past-then (t .past) (y .past);
         stands = standing-unput size h low p q (placed-within (range rs i) c ended few) (y .back);
@@ -320,7 +320,7 @@ module _ {g : Rules} {rs : Ranges} {n e i : ℕ} {w : Word} {f : Flags} {ws : Li
       }
 
       -- what the column gives is found
-      pub turn-on : {r : Tried} {ws₂ ws₃ : List ℕ} {next : Flags} → Trying g rs n e i u found ws₁ ws₂ r → r .out ≡ false → Searched g rs n (r .right) (i + 1) u found ws₂ ws₃ next → Turn g rs n e i w f ws ws₃ next (c + 1)
+      pub turn-on : {r : Tried} {ws₂ ws₃ : List ℕ} {next : Flags} → Trying g rs n e i u found ws₁ ws₂ r → r .out ≡ false → Searched g rs n (r .right) (i + 1) u found ws₂ ws₃ next → ChoosingTurn g rs n e i w f ws ws₃ next (c + 1)
       turn-on y z x = record {
         past = past-then (t .past) (past-then (y .past) (x .past));
         stands = standing-unput size h low p q (placed-within (range rs i) c ended few) (standing-less e (y .low z) (x .stands));
@@ -328,7 +328,7 @@ module _ {g : Rules} {rs : Ranges} {n e i : ℕ} {w : Word} {f : Flags} {ws : Li
         below = below-more (omega arith) c p q (x .grown .kept) (x .finds) (t .below);
       }
 
-    pub turn-all : {c : ℕ} {ws′ : List ℕ} {found : Flags} → Ended (range rs i) → columns (range rs i) ≤ c → Turn g rs n e i w f ws ws′ found c → Searched g rs n e i w f ws ws′ found
+    pub turn-all : {c : ℕ} {ws′ : List ℕ} {found : Flags} → Ended (range rs i) → columns (range rs i) ≤ c → ChoosingTurn g rs n e i w f ws ws′ found c → Searched g rs n e i w f ws ws′ found
     turn-all {c} ended all t = record { grown = t .grown; finds = below-all (omega arith) c ended all (t .below); stands = t .stands; past = t .past }
 
 -- ---- rules in another order
@@ -338,10 +338,10 @@ holds-over o Verdict.None w h = none-under (o .to) h
 holds-over o Verdict.One w h = one-same o h
 holds-over o Verdict.Two w h = two-same o .1 h
 
-gives-over : {g g′ : Rules} {rs : Ranges} → Rearranged g g′ → (v : Verdict) → Gives g′ rs v → Gives g rs v
+gives-over : {g g′ : Rules} {rs : Ranges} → Rearranged g g′ → (v : Verdict) → SomeChoiceGives g′ rs v → SomeChoiceGives g rs v
 gives-over o v y = record { word = y .word; chosen = y .chosen; rising = y .rising; verdict = holds-over o v (y .word) (y .verdict) }
 
-pub settled-over : {g g′ : Rules} {rs : Ranges} {f : Flags} → Distinct g → Rearranged g g′ → Settled g′ rs f → Settled g rs f
+pub settled-over : {g g′ : Rules} {rs : Ranges} {f : Flags} → Distinct g → Rearranged g g′ → FlagsSay g′ rs f → FlagsSay g rs f
 settled-over {g} {g′} d o s = record { says = λ v. says-iff (gives-over o v) (gives-over (record { to = o .of; of = o .to; distinct = λ x. d }) v) (s .says v) }
 
 -- ---- the whole search

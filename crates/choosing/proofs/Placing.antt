@@ -13,12 +13,12 @@ use Rattle.sets.proofs.Says.{says-iff}
 use Rattle.grammar.specs.declared.Token.{Token}
 use Rattle.grammar.specs.Layout.{Word, line, col, width, Every}
 use Rattle.grammar.specs.Candidates.{After, RisingFrom, Rising}
-use Rattle.marks.specs.Half.{no-token, token}
+use Rattle.marks.specs.Half.{no-token, tokenAt}
 use Rattle.column_ranges.specs.declared.RangeToken.{RangeToken}
 use Rattle.column_ranges.specs.declared.RangeSentence.{RangeSentence}
-use Rattle.column_ranges.specs.Ranges.{Ranges, Within, Chosen, columns, ranged, Ended, Spread}
+use Rattle.column_ranges.specs.Ranges.{Ranges, WithinEnds, Chosen, columns, rangesOf, Ended, Spread}
 use Rattle.column_ranges.proofs.Counting.{range-read, ended-at}
-use Rattle.choosing.specs.Searching.{no-range, range, Placed, placed, Put, Tryable}
+use Rattle.choosing.specs.Searching.{no-range, range, Placed, inColumn, Put, Tryable}
 
 -- ---- choices, token by token
 
@@ -28,32 +28,32 @@ chosen-long [] (t ∷ x) c = absurd c
 chosen-long (r ∷ rs) [] c = absurd c
 chosen-long (r ∷ rs) (t ∷ x) c = ap suc (chosen-long rs x (c .1))
 
-pub chosen-at : (rs : Ranges) (x : Word) → Chosen rs x → (i : ℕ) → i < length rs → Within (range rs i) (token x i)
+pub chosen-at : (rs : Ranges) (x : Word) → Chosen rs x → (i : ℕ) → i < length rs → WithinEnds (range rs i) (tokenAt x i)
 chosen-at [] x c i h = absurd (omega arith)
 chosen-at (r ∷ rs) [] c i h = absurd c
 chosen-at (r ∷ rs) (t ∷ x) c zero h = c .0
 chosen-at (r ∷ rs) (t ∷ x) c (suc i) h = chosen-at rs x (c .1) i (omega arith)
 
-pub at-chosen : (rs : Ranges) (x : Word) → length x ≡ length rs → ((i : ℕ) → i < length rs → Within (range rs i) (token x i)) → Chosen rs x
+pub at-chosen : (rs : Ranges) (x : Word) → length x ≡ length rs → ((i : ℕ) → i < length rs → WithinEnds (range rs i) (tokenAt x i)) → Chosen rs x
 at-chosen [] [] e f = tt
 at-chosen [] (t ∷ x) e f = absurd (omega (arith, e))
 at-chosen (r ∷ rs) [] e f = absurd (omega (arith, e))
 at-chosen (r ∷ rs) (t ∷ x) e f = (f 0 (omega arith), at-chosen rs x (omega (arith, e)) (λ i h. f (suc i) (omega arith)))
 
-from-at : (a : Token) (x : Word) → RisingFrom a x → (i : ℕ) → i < length x → After (token (a ∷ x) i) (token x i)
+from-at : (a : Token) (x : Word) → RisingFrom a x → (i : ℕ) → i < length x → After (tokenAt (a ∷ x) i) (tokenAt x i)
 from-at a [] r i h = absurd (omega arith)
 from-at a (b ∷ x) r zero h = r .0
 from-at a (b ∷ x) r (suc i) h = from-at b x (r .1) i (omega arith)
 
-pub rising-at : (x : Word) → Rising x → (i : ℕ) → i + 1 < length x → After (token x i) (token x (i + 1))
+pub rising-at : (x : Word) → Rising x → (i : ℕ) → i + 1 < length x → After (tokenAt x i) (tokenAt x (i + 1))
 rising-at [] r i h = absurd (omega arith)
 rising-at (a ∷ x) r i h = rw (add-one i) (from-at a x r i (omega arith))
 
-at-from : (a : Token) (x : Word) → ((i : ℕ) → i < length x → After (token (a ∷ x) i) (token x i)) → RisingFrom a x
+at-from : (a : Token) (x : Word) → ((i : ℕ) → i < length x → After (tokenAt (a ∷ x) i) (tokenAt x i)) → RisingFrom a x
 at-from a [] f = tt
 at-from a (b ∷ x) f = (f 0 (omega arith), at-from b x (λ i h. f (suc i) (omega arith)))
 
-pub at-rising : (x : Word) → ((i : ℕ) → i + 1 < length x → After (token x i) (token x (i + 1))) → Rising x
+pub at-rising : (x : Word) → ((i : ℕ) → i + 1 < length x → After (tokenAt x i) (tokenAt x (i + 1))) → Rising x
 at-rising [] f = tt
 at-rising (a ∷ x) f = at-from a x (λ i h. rw (add-one i) at (f i (omega arith)))
 
@@ -69,11 +69,11 @@ put-at tokens n i t m h = record {
 }
 
 -- a column within the ends
-pub placed-within : (r : RangeToken) (c : ℕ) → Ended r → c < columns r → Within r (placed r c)
+pub placed-within : (r : RangeToken) (c : ℕ) → Ended r → c < columns r → WithinEnds r (inColumn r c)
 placed-within r c e h = record { terminal = refl; line = refl; low = omega arith; high = omega (arith, e .ordered); width = refl }
 
 -- a token within the ends is one of the columns
-pub within-placed : (r : RangeToken) (t : Token) (c : ℕ) → Within r t → col t ≡ r .low .0 + c → t ≡ placed r c
+pub within-placed : (r : RangeToken) (t : Token) (c : ℕ) → WithinEnds r t → col t ≡ r .low .0 + c → t ≡ inColumn r c
 within-placed r t c w e = λ i. record { terminal = w .terminal i; line = record { 0 = w .line i }; column = record { 0 = e i }; width = record { 0 = w .width i } }
 
 apart : {k i : ℕ} → k < i → k ≡ i → ⊥
@@ -81,30 +81,30 @@ apart h e = omega arith
 
 module _ {rs : Ranges} {w u : Word} {i : ℕ} {t : Token} (h : i < length rs) (p : Placed rs w i) (q : Put w u i t) where
   -- the tokens before are as they were
-  pub put-before : (k : ℕ) → k < i → token u k ≡ token w k
+  pub put-before : (k : ℕ) → k < i → tokenAt u k ≡ tokenAt w k
   put-before k l = q .rest k (omega (arith, p .long)) (apart l)
 
-  pub put-terminal : Within (range rs i) t → (k : ℕ) → k < length rs → token u k .terminal ≡ token w k .terminal
+  pub put-terminal : WithinEnds (range rs i) t → (k : ℕ) → k < length rs → tokenAt u k .terminal ≡ tokenAt w k .terminal
   put-terminal within k l = go (ℕ-discrete k i)
     where
-      go : Dec (k ≡ i) → token u k .terminal ≡ token w k .terminal
-      go (yes e) = ap (λ (j : ℕ). token u j .terminal) e ∙ ap (λ (x : Token). x .terminal) (q .here) ∙ within .terminal ∙ sym (p .terminals i h) ∙ ap (λ (j : ℕ). token w j .terminal) (sym e)
+      go : Dec (k ≡ i) → tokenAt u k .terminal ≡ tokenAt w k .terminal
+      go (yes e) = ap (λ (j : ℕ). tokenAt u j .terminal) e ∙ ap (λ (x : Token). x .terminal) (q .here) ∙ within .terminal ∙ sym (p .terminals i h) ∙ ap (λ (j : ℕ). tokenAt w j .terminal) (sym e)
       go (no d) = ap (λ (x : Token). x .terminal) (q .rest k (omega (arith, p .long)) d)
 
-  pub put-placed : Within (range rs i) t → Placed rs u i
+  pub put-placed : WithinEnds (range rs i) t → Placed rs u i
   put-placed within = record {
     long = q .long ∙ p .long;
     terminals = λ k l. put-terminal within k l ∙ p .terminals k l;
-    within = λ k a b. subst (Within (range rs k)) (sym (put-before k a)) (p .within k a b);
+    within = λ k a b. subst (WithinEnds (range rs k)) (sym (put-before k a)) (p .within k a b);
     rising = λ k a b. subst₂ After (sym (put-before k (omega arith))) (sym (put-before (k + 1) a)) (p .rising k a b);
   }
 
-  pub put-tryable : Within (range rs i) t → Tryable rs u i
-  put-tryable within = record { before = put-placed within; here = subst (Within (range rs i)) (sym (q .here)) within }
+  pub put-tryable : WithinEnds (range rs i) t → Tryable rs u i
+  put-tryable within = record { before = put-placed within; here = subst (WithinEnds (range rs i)) (sym (q .here)) within }
 
 -- one token more is chosen
 module _ {rs : Ranges} {w : Word} {i : ℕ} where
-  pub placed-next : Tryable rs w i → (0 < i → After (token w (i - 1)) (token w i)) → Placed rs w (i + 1)
+  pub placed-next : Tryable rs w i → (0 < i → After (tokenAt w (i - 1)) (tokenAt w i)) → Placed rs w (i + 1)
   placed-next y a = record {
     long = y .before .long;
     terminals = y .before .terminals;
@@ -112,12 +112,12 @@ module _ {rs : Ranges} {w : Word} {i : ℕ} where
     rising = λ k l m. rising k m (ℕ-discrete (k + 1) i) l;
   }
     where
-      within : (k : ℕ) → k < length rs → Dec (k ≡ i) → k < i + 1 → Within (range rs k) (token w k)
-      within k m (yes e) l = subst (λ (j : ℕ). Within (range rs j) (token w j)) (sym e) (y .here)
+      within : (k : ℕ) → k < length rs → Dec (k ≡ i) → k < i + 1 → WithinEnds (range rs k) (tokenAt w k)
+      within k m (yes e) l = subst (λ (j : ℕ). WithinEnds (range rs j) (tokenAt w j)) (sym e) (y .here)
       within k m (no d) l = y .before .within k (omega arith) m
 
-      rising : (k : ℕ) → k + 1 < length rs → Dec (k + 1 ≡ i) → k + 1 < i + 1 → After (token w k) (token w (k + 1))
-      rising k m (yes e) l = subst₂ (λ (j j′ : ℕ). After (token w j) (token w j′)) (let z : i - 1 ≡ k = omega arith in z) (sym e) (a (omega arith))
+      rising : (k : ℕ) → k + 1 < length rs → Dec (k + 1 ≡ i) → k + 1 < i + 1 → After (tokenAt w k) (tokenAt w (k + 1))
+      rising k m (yes e) l = subst₂ (λ (j j′ : ℕ). After (tokenAt w j) (tokenAt w j′)) (let z : i - 1 ≡ k = omega arith in z) (sym e) (a (omega arith))
       rising k m (no d) l = y .before .rising k (omega arith) m
 
 -- all tokens are chosen
@@ -129,11 +129,11 @@ module _ {rs : Ranges} {w : Word} {i : ℕ} (e : i ≡ length rs) (p : Placed rs
   placed-rising = at-rising w (λ k h. p .rising k (omega (arith, p .long)) (omega (arith, p .long)))
 
 -- words of the same tokens are the same
-pub same-word : {w x : Word} → length x ≡ length w → ((k : ℕ) → k < length w → token x k ≡ token w k) → x ≡ w
+pub same-word : {w x : Word} → length x ≡ length w → ((k : ℕ) → k < length w → tokenAt x k ≡ tokenAt w k) → x ≡ w
 same-word {w} {x} e f = ext-getD no-token x w e (λ k h. f k (omega (arith, e)))
 
 -- and have the same front
-pub same-front : (w x : Word) (i : ℕ) → length x ≡ length w → ((k : ℕ) → k < i → token x k ≡ token w k) → take i x ≡ take i w
+pub same-front : (w x : Word) (i : ℕ) → length x ≡ length w → ((k : ℕ) → k < i → tokenAt x k ≡ tokenAt w k) → take i x ≡ take i w
 same-front w x i e f = ext-getD no-token (take i x) (take i w) (length-take i x ∙ ap (λ (m : ℕ). min i m) e ∙ sym (length-take i w)) (λ k h.
     let j : k < i = omega (arith, length-take i x) in
     getD-take i x k no-token j ∙ f k j ∙ sym (getD-take i w k no-token j))
@@ -143,19 +143,19 @@ same-front w x i e f = ext-getD no-token (take i x) (take i w) (length-take i x 
 -- the first i tokens have their terminals
 pub record Lowest (r : RangeSentence) (tokens : List Token) (i : ℕ) : Type 0 where
   pub long : length tokens ≡ 64
-  pub terminals : (k : ℕ) → k < i → token tokens k .terminal ≡ getD (r .tokens) k no-range .terminal
+  pub terminals : (k : ℕ) → k < i → tokenAt tokens k .terminal ≡ getD (r .tokens) k no-range .terminal
 
 pub lowest-none : (r : RangeSentence) (tokens : List Token) → length tokens ≡ 64 → Lowest r tokens 0
 lowest-none r tokens e = record { long = e; terminals = λ k h. absurd (omega arith) }
 
-pub lowest-more : {r : RangeSentence} {tokens : List Token} {i : ℕ} {t : Token} → Spread r → i < r .count → Lowest r tokens i → t ≡ placed (getD (r .tokens) i no-range) 0 → Lowest r (set tokens i t) (i + 1)
+pub lowest-more : {r : RangeSentence} {tokens : List Token} {i : ℕ} {t : Token} → Spread r → i < r .count → Lowest r tokens i → t ≡ inColumn (getD (r .tokens) i no-range) 0 → Lowest r (set tokens i t) (i + 1)
 lowest-more {r} {tokens} {i} {t} p h l e = record { long = length-set tokens i t ∙ l .long; terminals = λ k m. go k m (ℕ-discrete k i) }
   where
-    go : (k : ℕ) → k < i + 1 → Dec (k ≡ i) → token (set tokens i t) k .terminal ≡ getD (r .tokens) k no-range .terminal
-    go k m (yes d) = ap (λ (j : ℕ). token (set tokens i t) j .terminal) d ∙ ap (λ (x : Token). x .terminal) (getD-set-same tokens i t no-token (omega (arith, l .long, p .few)) ∙ e) ∙ ap (λ (j : ℕ). getD (r .tokens) j no-range .terminal) (sym d)
+    go : (k : ℕ) → k < i + 1 → Dec (k ≡ i) → tokenAt (set tokens i t) k .terminal ≡ getD (r .tokens) k no-range .terminal
+    go k m (yes d) = ap (λ (j : ℕ). tokenAt (set tokens i t) j .terminal) d ∙ ap (λ (x : Token). x .terminal) (getD-set-same tokens i t no-token (omega (arith, l .long, p .few)) ∙ e) ∙ ap (λ (j : ℕ). getD (r .tokens) j no-range .terminal) (sym d)
     go k m (no d) = ap (λ (x : Token). x .terminal) (getD-set-other tokens i k t no-token d) ∙ l .terminals k (omega arith)
 
-pub lowest-placed : {r : RangeSentence} {tokens : List Token} {i : ℕ} → Spread r → r .count ≤ i → Lowest r tokens i → Placed (ranged r) (take (r .count) tokens) 0
+pub lowest-placed : {r : RangeSentence} {tokens : List Token} {i : ℕ} → Spread r → r .count ≤ i → Lowest r tokens i → Placed (rangesOf r) (take (r .count) tokens) 0
 lowest-placed {r} {tokens} p h l = record {
   long = length-take-le (r .count) tokens (omega (arith, l .long, p .few)) ∙ sym (p .whole);
   terminals = λ k m.
@@ -168,19 +168,19 @@ lowest-placed {r} {tokens} p h l = record {
 -- ---- the array and its front
 
 -- the token at i comes after the one before, in the array as in its first n
-pub rises-front : {b : Bool} (tokens : List Token) (n i : ℕ) → i < n → Says b (0 < i → After (token tokens (i - 1)) (token tokens i)) → Says b (0 < i → After (token (take n tokens) (i - 1)) (token (take n tokens) i))
+pub rises-front : {b : Bool} (tokens : List Token) (n i : ℕ) → i < n → Says b (0 < i → After (tokenAt tokens (i - 1)) (tokenAt tokens i)) → Says b (0 < i → After (tokenAt (take n tokens) (i - 1)) (tokenAt (take n tokens) i))
 rises-front tokens n i h =
-    let x : token (take n tokens) (i - 1) ≡ token tokens (i - 1) = getD-take n tokens (i - 1) no-token (omega arith) in
-    let y : token (take n tokens) i ≡ token tokens i = getD-take n tokens i no-token h in
+    let x : tokenAt (take n tokens) (i - 1) ≡ tokenAt tokens (i - 1) = getD-take n tokens (i - 1) no-token (omega arith) in
+    let y : tokenAt (take n tokens) i ≡ tokenAt tokens i = getD-take n tokens i no-token h in
     says-iff (λ f l. subst₂ After (sym x) (sym y) (f l)) (λ f l. subst₂ After x y (f l))
 
 -- the range at i has its ends
-pub range-ended : (r : RangeSentence) (i : ℕ) → Spread r → i < r .count → Ended (range (ranged r) i)
+pub range-ended : (r : RangeSentence) (i : ℕ) → Spread r → i < r .count → Ended (range (rangesOf r) i)
 range-ended r i p h = subst Ended (sym (range-read r i h)) (ended-at p i h)
 
 -- the array with the token at i in a column
-pub put-front : (r : RangeSentence) (tokens : List Token) {u : List Token} (i c : ℕ) {t : Token} → Spread r → length tokens ≡ 64 → i < r .count → t ≡ placed (getD (r .tokens) i no-range) c → u ≡ set tokens i t
-    → Put (take (r .count) tokens) (take (r .count) u) i (placed (range (ranged r) i) c)
+pub put-front : (r : RangeSentence) (tokens : List Token) {u : List Token} (i c : ℕ) {t : Token} → Spread r → length tokens ≡ 64 → i < r .count → t ≡ inColumn (getD (r .tokens) i no-range) c → u ≡ set tokens i t
+    → Put (take (r .count) tokens) (take (r .count) u) i (inColumn (range (rangesOf r) i) c)
 put-front r tokens {u} i c {t} p long h e d =
-    subst (λ (x : List Token). Put (take (r .count) tokens) (take (r .count) x) i (placed (range (ranged r) i) c)) (sym d)
-    (subst (Put (take (r .count) tokens) (take (r .count) (set tokens i t)) i) (e ∙ ap (λ (x : RangeToken). placed x c) (sym (range-read r i h))) (put-at tokens (r .count) i t (omega (arith, p .few, long)) h))
+    subst (λ (x : List Token). Put (take (r .count) tokens) (take (r .count) x) i (inColumn (range (rangesOf r) i) c)) (sym d)
+    (subst (Put (take (r .count) tokens) (take (r .count) (set tokens i t)) i) (e ∙ ap (λ (x : RangeToken). inColumn x c) (sym (range-read r i h))) (put-at tokens (r .count) i t (omega (arith, p .few, long)) h))

@@ -4,7 +4,7 @@ use Rattle.sets.specs.Says.{Says}
 use Rattle.grammar.specs.Trees.{Rules}
 use Rattle.chart.specs.declared.Verdict.{Verdict}
 use Rattle.chart.specs.declared.Verdict.the-variants as Verdict
-use Rattle.column_ranges.specs.Ranges.{Ranges, Gives}
+use Rattle.column_ranges.specs.Ranges.{Ranges, SomeChoiceGives}
 use Rattle.choosing.specs.declared.Flags.{Flags}
 
 -- the flag of a verdict
@@ -14,5 +14,5 @@ flag f Verdict.One = f .one
 flag f Verdict.Two = f .two
 
 -- each flag says if some rising choice gives its verdict; if no choice rises, all three are false
-pub record Settled (g : Rules) (rs : Ranges) (f : Flags) : Type 0 where
-  pub says : (v : Verdict) → Says (flag f v) (Gives g rs v)
+pub record FlagsSay (g : Rules) (rs : Ranges) (f : Flags) : Type 0 where
+  pub says : (v : Verdict) → Says (flag f v) (SomeChoiceGives g rs v)

@@ -28,12 +28,12 @@ ghost use Rattle.grammar.specs.Choices.{Distinct};
 ghost use Rattle.grammar.specs.Content.{rules, Formed};
 ghost use Rattle.grammar.specs.SpanSheet.{pairs};
 ghost use Rattle.grammar.specs.Candidates.{After};
-ghost use Rattle.marks.specs.Half.{token};
+ghost use Rattle.marks.specs.Half.{tokenAt};
 ghost use Rattle.chart.specs.declared.Verdict.{Verdict};
 ghost use Rattle.spans.specs.Changes.{Cleared};
-ghost use Rattle.column_ranges.specs.Ranges.{columns as columnsOf, ranged, Ended, Spread};
-ghost use Rattle.choosing.specs.Answers.{flag, Settled};
-ghost use Rattle.choosing.specs.Searching.{placed as placedAt, MayBe, Reads, With, Placed, Standing, Poised, Searched, Tryable, Trying};
+ghost use Rattle.column_ranges.specs.Ranges.{columns as columnsOf, rangesOf, Ended, Spread};
+ghost use Rattle.choosing.specs.Answers.{flag, FlagsSay};
+ghost use Rattle.choosing.specs.Searching.{inColumn as placedAt, MayBe, Reads, With, Placed, Standing, Poised, Searched, Tryable, Trying};
 
 // Of each verdict: does some rising choice give it?
 pub struct Flags {
@@ -89,7 +89,7 @@ fn put(tokens: [Token; 64], i: usize, t: Token) -> [Token; 64]
 // All tokens in their lowest columns.
 fn lowest(r: RangeSentence) -> [Token; 64]
     requires { ⌜ Spread r ⌝ }
-    ensures { λ u. ⌜ Placed (ranged r) (take (r .count) u) 0 ⌝ }
+    ensures { λ u. ⌜ Placed (rangesOf r) (take (r .count) u) 0 ⌝ }
 {
     let mut u = no_tokens();
     let mut i: usize = 0;
@@ -104,7 +104,7 @@ fn lowest(r: RangeSentence) -> [Token; 64]
 // Does the token at i come after the one before?
 fn rises(tokens: [Token; 64], i: usize) -> bool
     requires { ⌜ i < 64 ⌝ }
-    ensures { λ r. ⌜ Says r (0 < i → After (token tokens (i - 1)) (token tokens i)) ⌝ }
+    ensures { λ r. ⌜ Says r (0 < i → After (tokenAt tokens (i - 1)) (tokenAt tokens i)) ⌝ }
 {
     if i == 0 {
         return true;
@@ -197,8 +197,8 @@ fn shut(
     requires { ⌜ Spread r × (i < r .count) × (right ≤ i) ⌝ }
     requires { ⌜ Distinct (decoded (now codes)) ⌝ }
     requires { ⌜ 2 * pairs (r .count) ≤ length (now words) ⌝ }
-    requires { ⌜ Tryable (ranged r) (take (r .count) tokens) i × Standing (decoded (now codes)) (r .count) right (take (r .count) tokens) (now words) ⌝ }
-    ensures { λ t. ⌜ Trying (decoded (now (codes .entry))) (ranged r) (r .count) right i (take (r .count) tokens) f (now (words .entry)) (now (words .exit)) t ⌝ }
+    requires { ⌜ Tryable (rangesOf r) (take (r .count) tokens) i × Standing (decoded (now codes)) (r .count) right (take (r .count) tokens) (now words) ⌝ }
+    ensures { λ t. ⌜ Trying (decoded (now (codes .entry))) (rangesOf r) (r .count) right i (take (r .count) tokens) f (now (words .entry)) (now (words .exit)) t ⌝ }
 {
     let n = r.count;
     if !rises(tokens, i) {
@@ -231,8 +231,8 @@ fn search(
     requires { ⌜ Spread r ⌝ }
     requires { ⌜ Distinct (decoded (now codes)) ⌝ }
     requires { ⌜ 2 * pairs (r .count) ≤ length (now words) ⌝ }
-    requires { ⌜ Poised (decoded (now codes)) (ranged r) (r .count) right i (take (r .count) tokens) (now words) ⌝ }
-    ensures { λ a. ⌜ Searched (decoded (now (codes .entry))) (ranged r) (r .count) right i (take (r .count) tokens) f (now (words .entry)) (now (words .exit)) a ⌝ }
+    requires { ⌜ Poised (decoded (now codes)) (rangesOf r) (r .count) right i (take (r .count) tokens) (now words) ⌝ }
+    ensures { λ a. ⌜ Searched (decoded (now (codes .entry))) (rangesOf r) (r .count) right i (take (r .count) tokens) f (now (words .entry)) (now (words .exit)) a ⌝ }
 {
     let n = r.count;
     if i == n {
@@ -261,7 +261,7 @@ pub fn choose(g: Grammar, r: RangeSentence, words: &mut [u64]) -> Flags
     requires { ⌜ Formed g ⌝ }
     requires { ⌜ Spread r ⌝ }
     requires { ⌜ 2 * pairs (r .count) ≤ length (now words) ⌝ }
-    ensures { λ f. ⌜ Settled (rules g) (ranged r) f ⌝ }
+    ensures { λ f. ⌜ FlagsSay (rules g) (rangesOf r) f ⌝ }
     ensures { λ f. ⌜ Cleared (now (words .entry)) (now (words .exit)) (2 * pairs (r .count)) ⌝ }
 {
     let codes = ordered(g);

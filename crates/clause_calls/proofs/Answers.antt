@@ -18,11 +18,11 @@ use Rattle.clause_sheets.specs.ClauseSheets.{clauseSheet}
 use Rattle.clause_sheets.proofs.Meaning.{meant}
 use Rattle.teplonga.specs.declared.Answer.{Answer}
 use Rattle.teplonga.specs.declared.Answer.the-variants as Answer
-use Rattle.teplonga.specs.Answers.{accepted, refused, withTokens, withRules, Says}
+use Rattle.teplonga.specs.Answers.{accepted, refused, withTokens, withRules, AnswerHolds}
 use Rattle.clause_calls.specs.Calls.{clauseSheets}
 use Rattle.clause_calls.specs.Meaning.{SaysReadings}
 
-said-readings : (c : Clauses) (g : Rules) (w : Word) → OneToOne c g 0 → (a : Answer) → Says a g w → SaysReadings a c w
+said-readings : (c : Clauses) (g : Rules) (w : Word) → OneToOne c g 0 → (a : Answer) → AnswerHolds a g w → SaysReadings a c w
 said-readings c g w m Answer.None s = no-reading m w s
 said-readings c g w m Answer.One s = one-reading m w s
 said-readings c g w m Answer.Two s = two-readings m w s
@@ -43,7 +43,7 @@ own-rules (Sheet.accepted v) t g w e = go (tokenSheet t) e
 pub record Answers (g : Rules) (w : Word) : Type 0 where
   pub clauses : Clauses
   pub rules : g ≡ expansion clauses
-  pub readings : (a : Answer) → Says a g w → SaysReadings a clauses w
+  pub readings : (a : Answer) → AnswerHolds a g w → SaysReadings a clauses w
 
 pub answered : (s t : List ℕ) (g : Rules) (w : Word) → clauseSheets s t ≡ accepted g w → Answers g w
 answered s t g w e =

@@ -11,8 +11,8 @@ use lib.Dec.{leb, eqb, ltb, ltb→lt, nltb→le, leb→le, nleb→lt}
 use borrow.Author.Tests.{le-leb, lt-leb, eq-eqb, ne-eqb}
 use Rattle.grammar.specs.declared.BinaryMark.the-variants as BinaryMark
 use Rattle.clauses.specs.Clauses as C
-use Rattle.clauses.specs.Expansion.{max, past}
-use Rattle.clauses.specs.Text.{maybe, repeats, marks, Lex, n, t, opening, closing, bar, suffix, join, Says, depth}
+use Rattle.clauses.specs.Expansion.{max, pastExpr}
+use Rattle.clauses.specs.Text.{maybe, repeats, marks, Lex, n, t, opening, closing, bar, suffix, join, IsExpression, depth}
 use Rattle.clauses.specs.Flat as F
 use Rattle.clauses.specs.Flat.{due, grouped, run, shallow, both, zero?, pastLexes, is-due, past-item}
 use Rattle.clauses.proofs.Accepts.{accepted, accepts}
@@ -21,8 +21,8 @@ use Rattle.clauses.proofs.Deciding.{says?, max-is, max-assoc, max-zero, past-wr
 use Rattle.lexemes.specs.declared.Lexeme.{Lexeme}
 use Rattle.lexemes.specs.declared.Lexeme.the-variants as Lexeme
 use Rattle.lexemes.specs.declared.Lexed.{Lexed}
-use Rattle.lexemes.specs.Lexemes.{lexemes, onto}
-use Rattle.lexemes.specs.Answers.{lexemeOf, Front, Tells, Lexes}
+use Rattle.lexemes.specs.Lexemes.{lexemes, ontoLexemes}
+use Rattle.lexemes.specs.Answers.{lexemeOf, Front, LexemeTells, Lexes}
 use Rattle.clause_lines.specs.declared.State.{State}
 use Rattle.clause_lines.specs.declared.State.the-variants as State
 use Rattle.clause_lines.specs.declared.Walk.{Walk}
@@ -30,7 +30,7 @@ use Rattle.clause_lines.specs.declared.Checked.{Checked}
 use Rattle.clause_lines.specs.declared.Checked.the-variants as Checked
 use Rattle.clause_lines.specs.ClauseLines.{good, deep, shallowOnly, lexemesSay, expression}
 use Rattle.clause_lines.specs.Walks as W
-use Rattle.clause_lines.specs.Walks.{stateOf, isDue, takesRepeat, takesMark, isEnd, may, after, stepped, answer, answerAt, checkedOf, begun}
+use Rattle.clause_lines.specs.Walks.{stateOf, isDue, takesRepeat, takesMark, isEnd, may, stateAfter, stepped, answer, answerAt, checkedOf, begun}
 use Rattle.clause_lines.specs.Loops.{Walks}
 
 never : {P : Type 0} → false ≡ true → P
@@ -54,7 +54,7 @@ past-same State.Plain = refl
 past-same State.Grouped = refl
 past-same State.Suffixed = refl
 
-repeat-same : (s : State) (q : C.Least) (m : _) → (F.fits (stateOf s) maybe ≡ takesRepeat s) × (F.fits (stateOf s) (repeats q m) ≡ takesRepeat s)
+repeat-same : (s : State) (q : C.AtLeast) (m : _) → (F.fits (stateOf s) maybe ≡ takesRepeat s) × (F.fits (stateOf s) (repeats q m) ≡ takesRepeat s)
 repeat-same State.Due q m = (refl, refl)
 repeat-same State.Plain q m = (refl, refl)
 repeat-same State.Grouped q m = (refl, refl)
@@ -82,7 +82,7 @@ opens (join m) d = d
 
 -- the flat test at one lexeme: may it stand, and the rest
 run-step : (x : Lex) (l : List Lex) (s : State) (d : ℕ)
-    → run (x ∷ l) (stateOf s) d ≡ both (may s d (lexemeOf x)) (run l (stateOf (after (lexemeOf x))) (opens x d))
+    → run (x ∷ l) (stateOf s) d ≡ both (may s d (lexemeOf x)) (run l (stateOf (stateAfter (lexemeOf x))) (opens x d))
 run-step (n a) l s d = both-is _ _ _ (due-same s)
 run-step (t a) l s d = both-is _ _ _ (due-same s)
 run-step opening l s d = both-is _ _ _ (due-same s) ∙ ap (λ (k : ℕ). both (isDue s) (run l due k)) (sym (add-one d))
@@ -103,11 +103,11 @@ run-step (suffix (marks m)) l s d = both-is _ _ _ (mark-same s m)
 run-step (join m) l s d = both-is _ _ _ (past-same s)
 
 run-on : (x : Lex) (l : List Lex) (s : State) (d : ℕ) → may s d (lexemeOf x) ≡ true
-    → run (x ∷ l) (stateOf s) d ≡ run l (stateOf (after (lexemeOf x))) (opens x d)
-run-on x l s d h = run-step x l s d ∙ both-is (may s d (lexemeOf x)) true (run l (stateOf (after (lexemeOf x))) (opens x d)) h
+    → run (x ∷ l) (stateOf s) d ≡ run l (stateOf (stateAfter (lexemeOf x))) (opens x d)
+run-on x l s d h = run-step x l s d ∙ both-is (may s d (lexemeOf x)) true (run l (stateOf (stateAfter (lexemeOf x))) (opens x d)) h
 
 run-off : (x : Lex) (l : List Lex) (s : State) (d : ℕ) → may s d (lexemeOf x) ≡ false → run (x ∷ l) (stateOf s) d ≡ false
-run-off x l s d h = run-step x l s d ∙ both-is (may s d (lexemeOf x)) false (run l (stateOf (after (lexemeOf x))) (opens x d)) h
+run-off x l s d h = run-step x l s d ∙ both-is (may s d (lexemeOf x)) false (run l (stateOf (stateAfter (lexemeOf x))) (opens x d)) h
 
 -- the answer by its parts
 abbrev pick : Bool → Bool → ℕ → Checked
@@ -132,7 +132,7 @@ drop-less (suc d) = let z : d ≡ suc d - 1 = omega arith in z
 -- a lexeme that may stand: the answer from behind it
 module _ (w : Walk) (e : ℕ) where
   on-step : (x : Lex) (o : Option (List Lex)) → may (w .state) (w .deep) (lexemeOf x) ≡ true
-      → answer (onto x o) (stateOf (w .state)) (w .deep) (w .over) (w .past) ≡ answer o (stateOf (stepped w (lexemeOf x) e .state))
+      → answer (ontoLexemes x o) (stateOf (w .state)) (w .deep) (w .over) (w .past) ≡ answer o (stateOf (stepped w (lexemeOf x) e .state))
       (stepped w (lexemeOf x) e .deep) (stepped w (lexemeOf x) e .over) (stepped w (lexemeOf x) e .past)
   on-step x none h = refl
   on-step (n a) (some l) h =
@@ -168,7 +168,7 @@ module _ (w : Walk) (e : ℕ) where
       (max (w .past) (max-is 0 (pastLexes l) (pastLexes l) (omega arith) (omega arith) (λ k p q. q) i))
 
   off-step : (x : Lex) (o : Option (List Lex)) → may (w .state) (w .deep) (lexemeOf x) ≡ false
-      → answer (onto x o) (stateOf (w .state)) (w .deep) (w .over) (w .past) ≡ Checked.Unwritten
+      → answer (ontoLexemes x o) (stateOf (w .state)) (w .deep) (w .over) (w .past) ≡ Checked.Unwritten
   off-step x none h = refl
   off-step x (some l) h =
       ap (λ (r : Bool). pick r (not (w .over) && shallow 16 (x ∷ l) (w .deep)) (max (w .past) (pastLexes (x ∷ l)))) (run-off x l (w .state) (w .deep) h)
@@ -182,7 +182,7 @@ module _ (w : Walk) (e : ℕ) where
   front-off s x f h = ap (λ (o : Option (List Lex)). answer o (stateOf (w .state)) (w .deep) (w .over) (w .past)) (f .front) ∙ off-step x (lexemes (drop e s)) h
 
 -- the walk at a lexeme that may stand, and at one that may not
-pub told-on : (s : List ℕ) (w : Walk) (l : Lexeme) (e : ℕ) → Tells s (w .at) l e → may (w .state) (w .deep) l ≡ true → answerAt s w ≡ answerAt s (stepped w l e)
+pub told-on : (s : List ℕ) (w : Walk) (l : Lexeme) (e : ℕ) → LexemeTells s (w .at) l e → may (w .state) (w .deep) l ≡ true → answerAt s w ≡ answerAt s (stepped w l e)
 told-on s w (Lexeme.Nonterminal a) e f h = front-on w e s (n a) f h
 told-on s w (Lexeme.Terminal a) e f h = front-on w e s (t a) f h
 told-on s w Lexeme.Open e f h = front-on w e s opening f h
@@ -196,7 +196,7 @@ told-on s w (Lexeme.Join m) e f h = front-on w e s (join m) f h
 told-on s w Lexeme.End e f h = never h
 told-on s w Lexeme.Not e f h = never h
 
-pub told-off : (s : List ℕ) (w : Walk) (l : Lexeme) (e : ℕ) → Tells s (w .at) l e → isEnd l ≡ false → may (w .state) (w .deep) l ≡ false
+pub told-off : (s : List ℕ) (w : Walk) (l : Lexeme) (e : ℕ) → LexemeTells s (w .at) l e → isEnd l ≡ false → may (w .state) (w .deep) l ≡ false
     → answerAt s w ≡ Checked.Unwritten
 told-off s w (Lexeme.Nonterminal a) e f g h = front-off w e s (n a) f h
 told-off s w (Lexeme.Terminal a) e f g h = front-off w e s (t a) f h
@@ -211,7 +211,7 @@ told-off s w (Lexeme.Join m) e f g h = front-off w e s (join m) f h
 told-off s w Lexeme.End e f g h = never (sym g)
 told-off s w Lexeme.Not e f g h = ap (λ (o : Option (List Lex)). answer o (stateOf (w .state)) (w .deep) (w .over) (w .past)) (f .front)
 
-told-further : (s : List ℕ) (w : Walk) (l : Lexeme) (e : ℕ) → Tells s (w .at) l e → may (w .state) (w .deep) l ≡ true → w .at < e
+told-further : (s : List ℕ) (w : Walk) (l : Lexeme) (e : ℕ) → LexemeTells s (w .at) l e → may (w .state) (w .deep) l ≡ true → w .at < e
 told-further s w (Lexeme.Nonterminal a) e f h = f .further
 told-further s w (Lexeme.Terminal a) e f h = f .further
 told-further s w Lexeme.Open e f h = f .further
@@ -251,7 +251,7 @@ last-of st d b p = ap (λ (r : Bool). pick (both r (zero? d)) (not b && true) (m
     go false zero true = refl
     go false zero false = ap Checked.Good (max-zero p)
 
-pub told-last : (s : List ℕ) (w : Walk) (l : Lexeme) (e : ℕ) → Tells s (w .at) l e → isEnd l ≡ true → answerAt s w ≡ W.closing w
+pub told-last : (s : List ℕ) (w : Walk) (l : Lexeme) (e : ℕ) → LexemeTells s (w .at) l e → isEnd l ≡ true → answerAt s w ≡ W.closing w
 told-last s w (Lexeme.Nonterminal a) e f h = never h
 told-last s w (Lexeme.Terminal a) e f h = never h
 told-last s w Lexeme.Open e f h = never h
@@ -267,7 +267,7 @@ told-last s w Lexeme.End e f h =
     ap (λ (o : Option (List Lex)). answer o (stateOf (w .state)) (w .deep) (w .over) (w .past)) (f .front) ∙ last-of (w .state) (w .deep) (w .over) (w .past)
 
 -- the whole walk answers what the expression says
-said : (l : List Lex) (d : Dec (Says l)) → pick (run l due 0) (shallow 16 l 0) (max 0 (pastLexes l)) ≡ checkedOf (shallowOnly d)
+said : (l : List Lex) (d : Dec (IsExpression l)) → pick (run l due 0) (shallow 16 l 0) (max 0 (pastLexes l)) ≡ checkedOf (shallowOnly d)
 said l (no f) = go (run l due 0) refl
   where
     go : (b : Bool) → run l due 0 ≡ b → pick b (shallow 16 l 0) (max 0 (pastLexes l)) ≡ Checked.Unwritten
@@ -275,7 +275,7 @@ said l (no f) = go (run l due 0) refl
     go false e = refl
 said l (yes y) = ap (λ (r : Bool). pick r (shallow 16 l 0) (max 0 (pastLexes l))) (accepts (y .expr) l (y .written)) ∙ go (leb (depth (y .expr)) 16) refl
   where
-    good-past : max 0 (pastLexes l) ≡ past (y .expr)
+    good-past : max 0 (pastLexes l) ≡ pastExpr (y .expr)
     good-past = max-is 0 (pastLexes l) (pastLexes l) (omega arith) (omega arith) (λ k p q. q) ∙ past-written (y .written)
 
     go : (b : Bool) → leb (depth (y .expr)) 16 ≡ b

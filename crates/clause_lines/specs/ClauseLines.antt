@@ -8,7 +8,7 @@ use lib.Dec.{leb}
 use Rattle.fields.specs.Pieces.{before}
 use Rattle.fields.specs.Words.{numeralOf}
 use Rattle.clauses.specs.Clauses.{Expr, alternatives}
-use Rattle.clauses.specs.Text.{Lex, Says, depth}
+use Rattle.clauses.specs.Text.{Lex, IsExpression, depth}
 use Rattle.clauses.proofs.Deciding.{says?}
 use Rattle.lexemes.specs.Lexemes.{lexemes}
 
@@ -24,7 +24,7 @@ pub data Said (A : Type 0) : Type 0 where
   deep : Said A
 
 -- the expression that lexemes say, by the decision whether they say one
-abbrev pub shallowOnly : {l : List Lex} → Dec (Says l) → Said (Expr alternatives)
+abbrev pub shallowOnly : {l : List Lex} → Dec (IsExpression l) → Said (Expr alternatives)
 shallowOnly (yes s) = cond (leb (depth (s .expr)) 16) (good (s .expr)) deep
 shallowOnly (no n) = unwritten
 

@@ -5,7 +5,7 @@ use mathlib.Core.Bool.{Bool, true, false, cond, not, _&&_, _||_}
 use mathlib.Core.Option.{Option, none, some}
 use lib.ListN.{drop}
 use lib.Dec.{leb, eqb}
-use Rattle.clauses.specs.Expansion.{max, past}
+use Rattle.clauses.specs.Expansion.{max, pastExpr}
 use Rattle.clauses.specs.Clauses.{Expr, alternatives}
 use Rattle.clauses.specs.Text.{Lex}
 use Rattle.clauses.specs.Flat as F
@@ -74,19 +74,19 @@ may s d Lexeme.End = false
 may s d Lexeme.Not = false
 
 -- what stands just before, once the lexeme is passed
-abbrev pub after : Lexeme → State
-after (Lexeme.Nonterminal a) = State.Plain
-after (Lexeme.Terminal a) = State.Plain
-after Lexeme.Open = State.Due
-after Lexeme.Close = State.Grouped
-after Lexeme.Bar = State.Due
-after (Lexeme.Join m) = State.Due
-after Lexeme.Maybe = State.Suffixed
-after (Lexeme.Plus m) = State.Suffixed
-after (Lexeme.Star m) = State.Suffixed
-after (Lexeme.Marked m) = State.Suffixed
-after Lexeme.End = State.Due
-after Lexeme.Not = State.Due
+abbrev pub stateAfter : Lexeme → State
+stateAfter (Lexeme.Nonterminal a) = State.Plain
+stateAfter (Lexeme.Terminal a) = State.Plain
+stateAfter Lexeme.Open = State.Due
+stateAfter Lexeme.Close = State.Grouped
+stateAfter Lexeme.Bar = State.Due
+stateAfter (Lexeme.Join m) = State.Due
+stateAfter Lexeme.Maybe = State.Suffixed
+stateAfter (Lexeme.Plus m) = State.Suffixed
+stateAfter (Lexeme.Star m) = State.Suffixed
+stateAfter (Lexeme.Marked m) = State.Suffixed
+stateAfter Lexeme.End = State.Due
+stateAfter Lexeme.Not = State.Due
 
 -- the walk behind a lexeme that ends at e
 abbrev pub stepped : Walk → Lexeme → ℕ → Walk
@@ -117,7 +117,7 @@ closing w = cond (not (isDue (w .state)) && eqb (w .deep) 0) (cond (w .over) Che
 
 -- what an expression says, and one past its largest nonterminal
 abbrev pub checkedOf : Said (Expr alternatives) → Checked
-checkedOf (good e) = Checked.Good (past e)
+checkedOf (good e) = Checked.Good (pastExpr e)
 checkedOf unwritten = Checked.Unwritten
 checkedOf deep = Checked.Deep
 

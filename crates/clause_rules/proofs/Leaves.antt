@@ -10,7 +10,7 @@ use Rattle.lexemes.specs.declared.Lexeme.{Lexeme}
 use Rattle.lexemes.specs.declared.Lexeme.the-variants as Lexeme
 use Rattle.clause_rules.specs.declared.Emit.{Emit}
 use Rattle.clause_rules.specs.Signs.{sortOf, headsOf}
-use Rattle.clause_rules.specs.Emitting.{Adds, Counts, Pushed, atomRules, tailRules}
+use Rattle.clause_rules.specs.Emitting.{Adds, CountsOn, Pushed, atomRules, tailRules}
 use Rattle.clause_rules.specs.Reading.{LeafRead}
 use Rattle.clause_rules.proofs.Adding.{adds-nothing, adds-same}
 
@@ -57,8 +57,8 @@ heads-two (Lexeme.Join m) p q = absurd (p refl)
 heads-two Lexeme.End p q = absurd (p refl)
 heads-two Lexeme.Not p q = absurd (p refl)
 
-pub counts-by : (o p : Emit) (k j : ℕ) → k ≡ j → Counts o k p → Counts o j p
-counts-by o p k j e d = subst (λ (i : ℕ). Counts o i p) e d
+pub counts-by : (o p : Emit) (k j : ℕ) → k ≡ j → CountsOn o k p → CountsOn o j p
+counts-by o p k j e d = subst (λ (i : ℕ). CountsOn o i p) e d
 
 pub pushed-by : (o p : Emit) (i b c : ℕ) (m k : BinaryMark) → m ≡ k → Pushed o (B i b c m) p → Pushed o (B i b c k) p
 pushed-by o p i b c m k e d = subst (λ (y : BinaryMark). Pushed o (B i b c y) p) e d

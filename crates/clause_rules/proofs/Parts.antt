@@ -15,7 +15,7 @@ use Rattle.clauses.specs.Clauses as C
 use Rattle.clauses.specs.Clauses.{item, made, alternatives, Expr, nonterminal, terminal, pair, or}
 use Rattle.clauses.specs.Expansion.{A, U, B, size, name}
 use Rattle.clauses.specs.Emission.{emit}
-use Rattle.clauses.specs.Text.{Suffix, maybe, repeats, marks, Lex, n, t, opening, closing, bar, suffix, join, an-atom, an-item, a-row, one, many, Written, nonterminal-text, terminal-text, group-text, last-text, then-text, single-text, several-text, only-text, or-text}
+use Rattle.clauses.specs.Text.{Suffix, maybe, repeats, marks, Lex, n, t, opening, closing, bar, suffix, join, an-atom, an-item, a-row, one, many, WrittenAs, nonterminal-text, terminal-text, group-text, last-text, then-text, single-text, several-text, only-text, or-text}
 use Rattle.clauses.specs.Flat.{closes}
 use Rattle.clauses.proofs.Legible.{NoSuffix, RowStop, Stop, join-next, bar-next, closing-next, suffixed, ItemView, item-view}
 use Rattle.clauses.proofs.Depth.{after-group}
@@ -26,7 +26,7 @@ use Rattle.lexemes.specs.Answers.{lexemeOf, Lexes}
 use Rattle.clause_rules.specs.declared.Emit.{Emit}
 use Rattle.clause_rules.specs.declared.Step.{Step}
 use Rattle.clause_rules.specs.Signs.{sortOf, bindingOf, headsOf}
-use Rattle.clause_rules.specs.Emitting.{Cause, Adds, Pushed, Counts, tailRules}
+use Rattle.clause_rules.specs.Emitting.{Cause, Adds, Pushed, CountsOn, tailRules}
 use Rattle.clause_rules.specs.Ends.{Left, GroupEnd, AtomEnd, ItemEnd}
 use Rattle.clause_rules.specs.Reading.{Read, AtomRead, ItemRead, RestRead, SequenceRead, AlternativesRead, LeafRead}
 use Rattle.clause_rules.proofs.Adding.{adds-over, cause-more, adds-then, adds-also, adds-same, adds-when, adds-nothing}
@@ -43,7 +43,7 @@ module _ (s : List ℕ) (at : ℕ) (x : Lexed) (X : Lexes s at x) where
   pub atom-ends-open : (r : ℕ) → sortOf (x .lexeme) ≡ 1 → GroupEnd s (x .end) r → AtomEnd s at r
   atom-ends-open r z g = record { from = omega (arith, X .from, g .from); within = g .within; ends = go }
     where
-      go : (e : Expr item) (l k : List Lex) → Written (an-atom e) l → Left s at (l ++ k) → Left s r k
+      go : (e : Expr item) (l k : List Lex) → WrittenAs (an-atom e) l → Left s at (l ++ k) → Left s r k
       go e l k (nonterminal-text {a = a}) h = absurd (let y = sort-of s at x X (n a) k h in omega arith)
       go e l k (terminal-text {a = a}) h = absurd (let y = sort-of s at x X (t a) k h in omega arith)
       go e l k (group-text {l = w} v) h =
@@ -53,17 +53,17 @@ module _ (s : List ℕ) (at : ℕ) (x : Lexed) (X : Lexes s at x) where
   pub atom-ends-leaf : (sortOf (x .lexeme) ≡ 1 → ⊥) → AtomEnd s at (x .end)
   atom-ends-leaf z = record { from = X .from; within = X .within; ends = go }
     where
-      go : (e : Expr item) (l k : List Lex) → Written (an-atom e) l → Left s at (l ++ k) → Left s (x .end) k
+      go : (e : Expr item) (l k : List Lex) → WrittenAs (an-atom e) l → Left s at (l ++ k) → Left s (x .end) k
       go e l k (nonterminal-text {a = a}) h = behind s at x X (n a) k h
       go e l k (terminal-text {a = a}) h = behind s at x X (t a) k h
       go e l k (group-text {l = w} v) h = absurd (z (sort-of s at x X opening ((w ++ (closing ∷ [])) ++ k) h))
 
 module _ (s : List ℕ) (at e : ℕ) (A₁ : AtomEnd s at e) (x : Lexed) (X : Lexes s e x) where
   -- the atom of an item, and what stands behind it
-  pub behind-bare : (a : Expr item) (w k : List Lex) → Written (an-atom a) w → Left s at (w ++ k) → Left s e k
+  pub behind-bare : (a : Expr item) (w k : List Lex) → WrittenAs (an-atom a) w → Left s at (w ++ k) → Left s e k
   behind-bare a w k v h = A₁ .ends a w k v h
 
-  pub behind-suffix : (a : Expr item) (w : List Lex) (q : Suffix) (k : List Lex) → Written (an-atom a) w → Left s at ((w ++ (suffix q ∷ [])) ++ k)
+  pub behind-suffix : (a : Expr item) (w : List Lex) (q : Suffix) (k : List Lex) → WrittenAs (an-atom a) w → Left s at ((w ++ (suffix q ∷ [])) ++ k)
       → Left s e (suffix q ∷ k)
   behind-suffix a w q k v h = A₁ .ends a w (suffix q ∷ k) v (left-by (append-assoc w (suffix q ∷ []) k) h)
 
@@ -87,11 +87,11 @@ module _ (s : List ℕ) (at e : ℕ) (A₁ : AtomEnd s at e) (x : Lexed) (X : Le
 
 -- ( .. )
 module _ (s : List ℕ) (at : ℕ) (out : Emit) (x : Lexed) (X : Lexes s at x) where
-  pub group-read : (o : Emit) (r : Step) (y : Lexed) → sortOf (x .lexeme) ≡ 1 → Counts out 1 o → AlternativesRead s (x .end) (out .next) o r → Lexes s (r .at) y
+  pub group-read : (o : Emit) (r : Step) (y : Lexed) → sortOf (x .lexeme) ≡ 1 → CountsOn out 1 o → AlternativesRead s (x .end) (out .next) o r → Lexes s (r .at) y
       → AtomRead s at out (record { at = y .end; name = out .next; out = r .out })
   group-read o r y z f g Y = record { from = omega (arith, X .from, g .from, Y .from); within = Y .within; room = λ u. f .room (g .room u); reads = go }
     where
-      go : (e : Expr item) (l k : List Lex) (L : ℕ) → Written (an-atom e) l → Left s at (l ++ k)
+      go : (e : Expr item) (l k : List Lex) (L : ℕ) → WrittenAs (an-atom e) l → Left s at (l ++ k)
           → Read s out (record { at = y .end; name = out .next; out = r .out }) (name e (out .next)) (emit e L (out .next)) (size e) k
       go e l k L (nonterminal-text {a = a}) h = absurd (let u = sort-of s at x X (n a) k h in omega arith)
       go e l k L (terminal-text {a = a}) h = absurd (let u = sort-of s at x X (t a) k h in omega arith)
@@ -103,7 +103,7 @@ module _ (s : List ℕ) (at : ℕ) (out : Emit) (x : Lexed) (X : Lexes s at x) w
   pub leaf-read : (r : Step) → (sortOf (x .lexeme) ≡ 1 → ⊥) → LeafRead (x .lexeme) (x .end) out r → AtomRead s at out r
   leaf-read r z f = record { from = omega (arith, X .from, f .at); within = omega (arith, X .within, f .at); room = f .room; reads = go }
     where
-      go : (e : Expr item) (l k : List Lex) (L : ℕ) → Written (an-atom e) l → Left s at (l ++ k)
+      go : (e : Expr item) (l k : List Lex) (L : ℕ) → WrittenAs (an-atom e) l → Left s at (l ++ k)
           → Read s out r (name e (out .next)) (emit e L (out .next)) (size e) k
       go e l k L (nonterminal-text {a = a}) h =
           let b = first s at x X (n a) k h in
@@ -167,9 +167,9 @@ module _ (s : List ℕ) (at e : ℕ) (A₁ : AtomEnd s at e) (x : Lexed) (X : Le
   abbrev wrapped : Emit → Step
   wrapped p = record { at = x .end; name = out .next; out = p }
 
-  suffix-read : (o : Emit) (a : Step) (p : Emit) → Counts out (headsOf (x .lexeme)) o → AtomRead s at o a
+  suffix-read : (o : Emit) (a : Step) (p : Emit) → CountsOn out (headsOf (x .lexeme)) o → AtomRead s at o a
       → Adds (a .out) p (tailRules (x .lexeme) (out .next) (a .name)) 0
-      → (b : Expr item) (w k : List Lex) (q : Suffix) (L : ℕ) → Written (an-atom b) w → Left s at ((w ++ (suffix q ∷ [])) ++ k)
+      → (b : Expr item) (w k : List Lex) (q : Suffix) (L : ℕ) → WrittenAs (an-atom b) w → Left s at ((w ++ (suffix q ∷ [])) ++ k)
       → Read s out (wrapped p) (name (suffixed b q) (out .next)) (emit (suffixed b q) L (out .next)) (size (suffixed b q)) k
   suffix-read o a p c r d b w k q L v h =
       let j = behind-suffix s at e A₁ x X b w q k v h in
@@ -177,7 +177,7 @@ module _ (s : List ℕ) (at e : ℕ) (A₁ : AtomEnd s at e) (x : Lexed) (X : Le
       let l = g .same in
       let i = headsOf (lexemeOf (suffix q)) in
       let R = r .reads b w (suffix q ∷ k) 0 v (left-by (append-assoc w (suffix q ∷ []) k) h) in
-      let c′ : Counts out i o = subst (λ (y : Lexeme). Counts out (headsOf y) o) l c in
+      let c′ : CountsOn out i o = subst (λ (y : Lexeme). CountsOn out (headsOf y) o) l c in
       let d′ : Adds (a .out) p (tailOf q (out .next) (a .name)) 0 = subst (λ (y : Lexeme). Adds (a .out) p (tailRules y (out .next) (a .name)) 0) l d in
       let u : Adds out (a .out) (emit b 0 (out .next + i)) (i + size b) = adds-then (λ z. emit b 0 z) c′ (R .adds) in
       let t′ = adds-also u d′ in
@@ -196,7 +196,7 @@ module _ (s : List ℕ) (at e : ℕ) (A₁ : AtomEnd s at e) (x : Lexed) (X : Le
       tails-long f q m m′ =
           omega (arith, length-append f (tailOf q (out .next) m), length-append f (tailOf q (out .next) m′), tail-length (lexemeOf (suffix q)) (out .next) m m′)
 
-  pub tailed-read : (o : Emit) (a : Step) (p : Emit) → sortOf (x .lexeme) ≡ 5 → Counts out (headsOf (x .lexeme)) o → AtomRead s at o a
+  pub tailed-read : (o : Emit) (a : Step) (p : Emit) → sortOf (x .lexeme) ≡ 5 → CountsOn out (headsOf (x .lexeme)) o → AtomRead s at o a
       → Adds (a .out) p (tailRules (x .lexeme) (out .next) (a .name)) 0
       → ItemRead s at out (wrapped p)
   tailed-read o a p z c r d =
@@ -211,7 +211,7 @@ module _ (s : List ℕ) (at e : ℕ) (A₁ : AtomEnd s at e) (x : Lexed) (X : Le
           (v .3)
 
   -- no room for what stands after the item
-  pub crowded-read : (o : Emit) (b : ℕ) → sortOf (x .lexeme) ≡ 5 → at ≤ length s → Counts out (headsOf (x .lexeme)) o → o .over ≡ true
+  pub crowded-read : (o : Emit) (b : ℕ) → sortOf (x .lexeme) ≡ 5 → at ≤ length s → CountsOn out (headsOf (x .lexeme)) o → o .over ≡ true
       → ItemRead s at out (record { at = at; name = b; out = o })
   crowded-read o b z m c y = record { from = omega arith; within = m; room = c .room; reads = λ f l k L w i h. go f l k L i h (item-view w) }
     where
@@ -243,12 +243,12 @@ crowd {s} {out} {r} {a} {new} {k} {rest} q newq kq A₁ z g h l =
     cause : Cause out k (length new)
     cause = cause-more out kq (length newq) k (length new) h l (⊎-elim (λ y. A₁ .why y) (λ y. absurd (z y)) (is-over (q .over)))
 
-module _ (s : List ℕ) (at : ℕ) (out o : Emit) (F : Counts out 1 o) (i : Step) (I : ItemRead s at o i) (x : Lexed) (X : Lexes s (i .at) x) where
+module _ (s : List ℕ) (at : ℕ) (out o : Emit) (F : CountsOn out 1 o) (i : Step) (I : ItemRead s at o i) (x : Lexed) (X : Lexes s (i .at) x) where
   -- the first item of a sequence
-  begun : (g : Expr item) (w k : List Lex) → Written (an-item g) w → NoSuffix k → Left s at (w ++ k) → Adds out (i .out) (emit g 0 (out .next + 1)) (1 + size g)
+  begun : (g : Expr item) (w k : List Lex) → WrittenAs (an-item g) w → NoSuffix k → Left s at (w ++ k) → Adds out (i .out) (emit g 0 (out .next + 1)) (1 + size g)
   begun g w k v p h = adds-then (λ z. emit g 0 z) F (I .reads g w k 0 v p h .adds)
 
-  named-first : (g : Expr item) (w k : List Lex) → Written (an-item g) w → NoSuffix k → Left s at (w ++ k) → i .out .over ≡ false
+  named-first : (g : Expr item) (w k : List Lex) → WrittenAs (an-item g) w → NoSuffix k → Left s at (w ++ k) → i .out .over ≡ false
       → i .name ≡ name g (out .next + 1)
   named-first g w k v p h z = let R = I .reads g w k 0 v p h in R .named z ∙ ap (name g) (F .next (R .adds .room z))
 
@@ -256,7 +256,7 @@ module _ (s : List ℕ) (at : ℕ) (out o : Emit) (F : Counts out 1 o) (i : Step
       → SequenceRead s at out (record { at = i .at; name = out .next; out = p })
   single-read p z P = record { from = I .from; within = I .within; room = λ u. F .room (I .room (P .room u)); reads = go }
     where
-      go : (e : Expr made) (l k : List Lex) (L : ℕ) → Written (one e) l → RowStop k → Left s at (l ++ k)
+      go : (e : Expr made) (l k : List Lex) (L : ℕ) → WrittenAs (one e) l → RowStop k → Left s at (l ++ k)
           → Read s out (record { at = i .at; name = out .next; out = p }) (out .next) (emit e L (out .next)) (size e) k
       go e l k L (single-text {e = g} w) c h =
           let u = adds-also (begun g l k w (c .suffixes) h) P in
@@ -286,7 +286,7 @@ module _ (s : List ℕ) (at : ℕ) (out o : Emit) (F : Counts out 1 o) (i : Step
   several-read r p z T P =
       record { from = omega (arith, I .from, X .from, T .from); within = T .within; room = λ u. F .room (I .room (T .room (P .room u))); reads = go }
     where
-      go : (e : Expr made) (l k : List Lex) (L : ℕ) → Written (one e) l → RowStop k → Left s at (l ++ k)
+      go : (e : Expr made) (l k : List Lex) (L : ℕ) → WrittenAs (one e) l → RowStop k → Left s at (l ++ k)
           → Read s out (record { at = r .at; name = out .next; out = p }) (out .next) (emit e L (out .next)) (size e) k
       go e l k L (single-text {e = g} w) c h =
           crowd (i .out) (emit g 0 (out .next + 1)) (1 + size g) (begun g l k w (c .suffixes) h)
@@ -343,7 +343,7 @@ module _ (s : List ℕ) (at e : ℕ) (N : ItemEnd s at e) (x : Lexed) (X : Lexes
   pub rest-several : sortOf (x .lexeme) ≡ 4 → SequenceRead s at out r → RestRead s at out r
   rest-several z q = record { from = q .from; within = q .within; room = q .room; reads = go }
     where
-      go : (f : Expr item) (l k : List Lex) (L : ℕ) → Written (a-row f) l → RowStop k → Left s at (l ++ k)
+      go : (f : Expr item) (l k : List Lex) (L : ℕ) → WrittenAs (a-row f) l → RowStop k → Left s at (l ++ k)
           → Read s out r (name f (out .next)) (emit f L (out .next)) (size f) k
       go f l k L (last-text w) c h = absurd (no-join s e x X k (N .ends f l k w (c .suffixes) h) (c .joins) z)
       go f l k L (then-text {m = m} {e = g} {f = j} w v) c h = q .reads (pair m g j) l k L (several-text w v) c h
@@ -351,7 +351,7 @@ module _ (s : List ℕ) (at e : ℕ) (N : ItemEnd s at e) (x : Lexed) (X : Lexes
   pub rest-single : (sortOf (x .lexeme) ≡ 4 → ⊥) → ItemRead s at out r → RestRead s at out r
   rest-single z q = record { from = q .from; within = q .within; room = q .room; reads = go }
     where
-      go : (f : Expr item) (l k : List Lex) (L : ℕ) → Written (a-row f) l → RowStop k → Left s at (l ++ k)
+      go : (f : Expr item) (l k : List Lex) (L : ℕ) → WrittenAs (a-row f) l → RowStop k → Left s at (l ++ k)
           → Read s out r (name f (out .next)) (emit f L (out .next)) (size f) k
       go f l k L (last-text w) c h = q .reads f l k L w (c .suffixes) h
       go f l k L (then-text {m = m} {e = g} {f = j} {k = w₁} {l = w₂} w v) c h =
@@ -373,7 +373,7 @@ module _ (s : List ℕ) (at L : ℕ) (out : Emit) (a : Step) (S : SequenceRead s
   pub last-read : (sortOf (x .lexeme) ≡ 3 → ⊥) → AlternativesRead s at L out (record { at = a .at; name = L; out = q })
   last-read z = record { from = S .from; within = S .within; room = λ u. S .room (P .room u); reads = go }
     where
-      go : (e : Expr alternatives) (l k : List Lex) → Written (many e) l → Stop k → Left s at (l ++ k)
+      go : (e : Expr alternatives) (l k : List Lex) → WrittenAs (many e) l → Stop k → Left s at (l ++ k)
           → Read s out (record { at = a .at; name = L; out = q }) L (emit e L (out .next)) (size e) k
       go e l k (only-text {e = g} w) c h =
           let R = S .reads g l k L w (c .row) h in
@@ -389,7 +389,7 @@ module _ (s : List ℕ) (at L : ℕ) (out : Emit) (a : Step) (S : SequenceRead s
   pub more-read : (r : Step) → sortOf (x .lexeme) ≡ 3 → AlternativesRead s (x .end) L q r → AlternativesRead s at L out r
   more-read r z T = record { from = omega (arith, S .from, X .from, T .from); within = T .within; room = λ u. S .room (P .room (T .room u)); reads = go }
     where
-      go : (e : Expr alternatives) (l k : List Lex) → Written (many e) l → Stop k → Left s at (l ++ k) → Read s out r L (emit e L (out .next)) (size e) k
+      go : (e : Expr alternatives) (l k : List Lex) → WrittenAs (many e) l → Stop k → Left s at (l ++ k) → Read s out r L (emit e L (out .next)) (size e) k
       go e l k (only-text {e = g} w) c h =
           let R = S .reads g l k L w (c .row) h in
           crowd (a .out) (emit g L (out .next)) (size g) (R .adds) (λ y. no-bar s (a .at) x X k (R .left y) (c .more) z) (λ y. P .room (T .room y))

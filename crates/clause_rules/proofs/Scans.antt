@@ -10,7 +10,7 @@ use Rattle.clauses.specs.Flat.{closes}
 use Rattle.lexemes.specs.declared.Lexeme.{Lexeme}
 use Rattle.lexemes.specs.declared.Lexeme.the-variants as Lexeme
 use Rattle.lexemes.specs.declared.Lexed.{Lexed}
-use Rattle.lexemes.specs.Answers.{Lexes, Tells}
+use Rattle.lexemes.specs.Answers.{Lexes, LexemeTells}
 use Rattle.clause_rules.specs.Signs.{sortOf}
 use Rattle.clause_rules.specs.Ends.{Left, GroupEnd}
 use Rattle.clause_rules.specs.Scanning.{Scan}
@@ -20,7 +20,7 @@ pub scan-start : (s : List ℕ) (at : ℕ) → at ≤ length s → Scan s at at 
 scan-start s at h = record { from = omega arith; within = h; few = omega arith; same = λ k e. (k, e, refl) }
 
 -- a lexeme that is one goes further
-pub goes-on : (s : List ℕ) (at : ℕ) (l : Lexeme) (e : ℕ) → Tells s at l e → (sortOf l ≡ 6 → ⊥) → at < e
+pub goes-on : (s : List ℕ) (at : ℕ) (l : Lexeme) (e : ℕ) → LexemeTells s at l e → (sortOf l ≡ 6 → ⊥) → at < e
 goes-on s at (Lexeme.Nonterminal a) e h z = h .further
 goes-on s at (Lexeme.Terminal a) e h z = h .further
 goes-on s at Lexeme.Open e h z = h .further

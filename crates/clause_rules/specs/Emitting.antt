@@ -9,7 +9,7 @@ use Rattle.grammar.specs.declared.Rule.{Rule}
 use Rattle.grammar.specs.declared.UnaryMark.the-variants as UnaryMark
 use Rattle.grammar.specs.Trees.{Rules}
 use Rattle.clauses.specs.Clauses as C
-use Rattle.clauses.specs.Expansion.{E, A, U, B, begins}
+use Rattle.clauses.specs.Expansion.{E, A, U, B, repeatBegins}
 use Rattle.lexemes.specs.declared.Lexeme.{Lexeme}
 use Rattle.lexemes.specs.declared.Lexeme.the-variants as Lexeme
 use Rattle.clause_rules.specs.declared.Emit.{Emit}
@@ -34,8 +34,8 @@ pub record Adds (o p : Emit) (new : Rules) (k : ℕ) : Type 0 where
 abbrev pub Pushed : Emit → Rule → Emit → Type 0
 Pushed o r p = Adds o p (r ∷ []) 0
 
-abbrev pub Counts : Emit → ℕ → Emit → Type 0
-Counts o k p = Adds o p [] k
+abbrev pub CountsOn : Emit → ℕ → Emit → Type 0
+CountsOn o k p = Adds o p [] k
 
 abbrev pub atomRules : ℕ → ℕ → Rules
 atomRules n a = A n a ∷ []
@@ -43,8 +43,8 @@ atomRules n a = A n a ∷ []
 -- the rules of what stands after an item B, where n is its first nonterminal
 abbrev pub tailRules : Lexeme → ℕ → ℕ → Rules
 tailRules Lexeme.Maybe n b = U n b UnaryMark.None ∷ E n ∷ []
-tailRules (Lexeme.Plus m) n b = begins C.one n b ∷ U n (n + 1) UnaryMark.None ∷ B (n + 1) n b m ∷ []
-tailRules (Lexeme.Star m) n b = begins C.zero n b ∷ U n (n + 1) UnaryMark.None ∷ B (n + 1) n b m ∷ []
+tailRules (Lexeme.Plus m) n b = repeatBegins C.one n b ∷ U n (n + 1) UnaryMark.None ∷ B (n + 1) n b m ∷ []
+tailRules (Lexeme.Star m) n b = repeatBegins C.zero n b ∷ U n (n + 1) UnaryMark.None ∷ B (n + 1) n b m ∷ []
 tailRules (Lexeme.Marked m) n b = U n b m ∷ []
 tailRules (Lexeme.Join m) n b = []
 tailRules (Lexeme.Nonterminal a) n b = []

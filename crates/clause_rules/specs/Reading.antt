@@ -8,7 +8,7 @@ use Rattle.grammar.specs.Trees.{Rules}
 use Rattle.clauses.specs.Clauses.{Expr, item, made, alternatives}
 use Rattle.clauses.specs.Expansion.{A, size, name}
 use Rattle.clauses.specs.Emission.{emit}
-use Rattle.clauses.specs.Text.{Lex, an-atom, an-item, a-row, one, many, Written}
+use Rattle.clauses.specs.Text.{Lex, an-atom, an-item, a-row, one, many, WrittenAs}
 use Rattle.clauses.proofs.Legible.{NoSuffix, RowStop, Stop}
 use Rattle.lexemes.specs.declared.Lexeme.{Lexeme}
 use Rattle.lexemes.specs.declared.Lexeme.the-variants as Lexeme
@@ -27,35 +27,35 @@ pub record AtomRead (s : List ℕ) (at : ℕ) (out : Emit) (r : Step) : Type 0 w
   pub from : at ≤ r .at
   pub within : r .at ≤ length s
   pub room : r .out .over ≡ false → out .over ≡ false
-  pub reads : (e : Expr item) (l k : List Lex) (L : ℕ) → Written (an-atom e) l → Left s at (l ++ k)
+  pub reads : (e : Expr item) (l k : List Lex) (L : ℕ) → WrittenAs (an-atom e) l → Left s at (l ++ k)
       → Read s out r (name e (out .next)) (emit e L (out .next)) (size e) k
 
 pub record ItemRead (s : List ℕ) (at : ℕ) (out : Emit) (r : Step) : Type 0 where
   pub from : at ≤ r .at
   pub within : r .at ≤ length s
   pub room : r .out .over ≡ false → out .over ≡ false
-  pub reads : (e : Expr item) (l k : List Lex) (L : ℕ) → Written (an-item e) l → NoSuffix k → Left s at (l ++ k)
+  pub reads : (e : Expr item) (l k : List Lex) (L : ℕ) → WrittenAs (an-item e) l → NoSuffix k → Left s at (l ++ k)
       → Read s out r (name e (out .next)) (emit e L (out .next)) (size e) k
 
 pub record RestRead (s : List ℕ) (at : ℕ) (out : Emit) (r : Step) : Type 0 where
   pub from : at ≤ r .at
   pub within : r .at ≤ length s
   pub room : r .out .over ≡ false → out .over ≡ false
-  pub reads : (e : Expr item) (l k : List Lex) (L : ℕ) → Written (a-row e) l → RowStop k → Left s at (l ++ k)
+  pub reads : (e : Expr item) (l k : List Lex) (L : ℕ) → WrittenAs (a-row e) l → RowStop k → Left s at (l ++ k)
       → Read s out r (name e (out .next)) (emit e L (out .next)) (size e) k
 
 pub record SequenceRead (s : List ℕ) (at : ℕ) (out : Emit) (r : Step) : Type 0 where
   pub from : at ≤ r .at
   pub within : r .at ≤ length s
   pub room : r .out .over ≡ false → out .over ≡ false
-  pub reads : (e : Expr made) (l k : List Lex) (L : ℕ) → Written (one e) l → RowStop k → Left s at (l ++ k)
+  pub reads : (e : Expr made) (l k : List Lex) (L : ℕ) → WrittenAs (one e) l → RowStop k → Left s at (l ++ k)
       → Read s out r (out .next) (emit e L (out .next)) (size e) k
 
 pub record AlternativesRead (s : List ℕ) (at L : ℕ) (out : Emit) (r : Step) : Type 0 where
   pub from : at ≤ r .at
   pub within : r .at ≤ length s
   pub room : r .out .over ≡ false → out .over ≡ false
-  pub reads : (e : Expr alternatives) (l k : List Lex) → Written (many e) l → Stop k → Left s at (l ++ k) → Read s out r L (emit e L (out .next)) (size e) k
+  pub reads : (e : Expr alternatives) (l k : List Lex) → WrittenAs (many e) l → Stop k → Left s at (l ++ k) → Read s out r L (emit e L (out .next)) (size e) k
 
 -- an item that is no group, by its lexeme
 pub record LeafRead (l : Lexeme) (end : ℕ) (out : Emit) (r : Step) : Type 0 where

@@ -14,7 +14,7 @@ ghost use Rattle.lexemes.specs.declared.Lexeme.the-variants as Lexeme;
 ghost use Rattle.clauses.specs.Expansion.{U, B};
 ghost use lib.ListN.{length};
 ghost use Rattle.clause_rules.specs.Signs.{sortOf, bindingOf, headsOf};
-ghost use Rattle.clause_rules.specs.Emitting.{Pushed, Counts, Adds, atomRules, tailRules};
+ghost use Rattle.clause_rules.specs.Emitting.{Pushed, CountsOn, Adds, atomRules, tailRules};
 ghost use Rattle.clause_rules.specs.Ends.{GroupEnd, AtomEnd, ItemEnd};
 ghost use Rattle.clause_rules.specs.Reading.{AtomRead, ItemRead, RestRead, SequenceRead, AlternativesRead, LeafRead};
 
@@ -98,7 +98,7 @@ fn push(out: Emit, rule: Rule) -> Emit
 
 // One new nonterminal more.
 fn fresh(out: Emit) -> Emit
-    ensures { λ r. ⌜ Counts out 1 r ⌝ }
+    ensures { λ r. ⌜ CountsOn out 1 r ⌝ }
 {
     let rules = out.rules;
     if out.next < 64 {
@@ -139,7 +139,7 @@ fn heads(l: Lexeme) -> u8
 
 // The new nonterminals of what stands after an item: they come before those of the item.
 fn opened(out: Emit, l: Lexeme) -> Emit
-    ensures { λ r. ⌜ Counts out (headsOf l) r ⌝ }
+    ensures { λ r. ⌜ CountsOn out (headsOf l) r ⌝ }
 {
     let k = heads(l);
     if k == 0 {

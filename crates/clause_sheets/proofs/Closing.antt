@@ -30,9 +30,9 @@ use Rattle.sheets.specs.declared.Fault.the-variants as Fault
 use Rattle.sheets.specs.Items.{Reading, accepted, refused, next, stop, end, itemsFrom}
 use Rattle.sheets.specs.RuleSheets.{finish}
 use Rattle.sheets.proofs.Accepted.{items-hold}
-use Rattle.clause_sheets.specs.ClauseSheets.{clauseSaid, clauseStep, clausesOf, fits, expanded, clausesFrom}
+use Rattle.clause_sheets.specs.ClauseSheets.{clauseSaid, clauseStep, clausesOf, expansionFits, expanded, clausesFrom}
 use Rattle.clause_sheets.specs.Emitted.{emitAll}
-use Rattle.clause_sheets.specs.Checks.{Taken, LinesEmitted, PassedAs}
+use Rattle.clause_sheets.specs.Checks.{RulesTaken, LinesEmitted, PassedAs}
 use Rattle.sheets.specs.declared.Outcome.{Outcome}
 use Rattle.sheets.specs.declared.Outcome.the-variants.{Accepted, Refused}
 use Rattle.clause_sheets.specs.Ends.{AllSaid}
@@ -129,10 +129,10 @@ module _ (ps : List (List ℕ)) (p : ℕ) (W : AllSaid ps p) where
   abbrev sheet : Clauses
   sheet = clausesOf (W .lines)
 
-  ends : clausesFrom ps ≡ cond (fits sheet) (finish (accepted (expansion sheet))) (refused Fault.ClauseMany 0)
+  ends : clausesFrom ps ≡ cond (expansionFits sheet) (finish (accepted (expansion sheet))) (refused Fault.ClauseMany 0)
   ends = ap expanded (W .said)
 
-  no-fit : fits sheet ≡ false → clausesFrom ps ≡ refused Fault.ClauseMany 0
+  no-fit : expansionFits sheet ≡ false → clausesFrom ps ≡ refused Fault.ClauseMany 0
   no-fit e = ends ∙ ap (λ (b : Bool). cond b (finish (accepted (expansion sheet))) (refused Fault.ClauseMany 0)) e
 
   -- a new nonterminal past 63
@@ -199,7 +199,7 @@ module _ {ps : List (List ℕ)} {p : ℕ} {first out : Emit} (w : Walked ps p fi
   pub out-few : out .over ≡ false → out .count ≤ 128
   out-few e = adds .few e (omega (arith, w .begun .0))
 
-  module _ (e : out .over ≡ false) {h g : Grammar} (q : h .count ≡ 0) (taken : Taken (rising 64 (take (out .count) (out .rules))) h g) where
+  module _ (e : out .over ≡ false) {h g : Grammar} (q : h .count ≡ 0) (taken : RulesTaken (rising 64 (take (out .count) (out .rules))) h g) where
     within : pastAll lines + sizeAll lines ≤ 64
     within = let z = adds .low e (omega (arith, w .begun .1, w .low)) in omega (arith, adds .next e, w .begun .1, w .said .most)
 
@@ -209,8 +209,8 @@ module _ {ps : List (List ℕ)} {p : ℕ} {first out : Emit} (w : Walked ps p fi
     as-met : take (out .count) (out .rules) ≡ met
     as-met = adds .rules e ∙ ap (λ (k : ℕ). take k (first .rules) ++ met) (w .begun .0)
 
-    all-taken : Taken (expansion lines) h g
-    all-taken = subst (λ (y : Rules). Taken y h g) (ap (rising 64) as-met ∙ sorted-expansion lines within) taken
+    all-taken : RulesTaken (expansion lines) h g
+    all-taken = subst (λ (y : Rules). RulesTaken y h g) (ap (rising 64) as-met ∙ sorted-expansion lines within) taken
 
     fit : h .count + length (expansion lines) ≤ 128
     fit = omega (arith, same-many ps p (w .said) within, short)

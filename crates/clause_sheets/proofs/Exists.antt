@@ -15,11 +15,11 @@ use Rattle.sheets.specs.Items.{Reading, accepted, refused, itemsFrom}
 use Rattle.sheets.specs.RuleSheets.{finish}
 use Rattle.sheets.proofs.Accepted.{items-line}
 use Rattle.sheets.proofs.Walks.{names-line, first-line, finish-line}
-use Rattle.clause_sheets.specs.ClauseSheets.{clauseStep, clausesOf, fits, expanded, clausesFrom, clauseNames, clauseSheet}
+use Rattle.clause_sheets.specs.ClauseSheets.{clauseStep, clausesOf, expansionFits, expanded, clausesFrom, clauseNames, clauseSheet}
 
 expanded-line : (x : Reading ClauseLine) (n : ℕ) (f : Fault) (l : ℕ) → ((g : Fault) (m : ℕ) → x ≡ refused g m → m ≤ n) → expanded x ≡ refused f l → l ≤ n
 expanded-line (refused g m) n f l h e = let j : m ≡ l = cc in omega (arith, h g m refl)
-expanded-line (accepted c) n f l h e = go (fits (clausesOf c)) e
+expanded-line (accepted c) n f l h e = go (expansionFits (clausesOf c)) e
   where
     whole : Reading Rule
     whole = accepted (expansion (clausesOf c))

@@ -19,9 +19,9 @@ use Rattle.fields.specs.Answers.{numberField}
 use Rattle.fields.proofs.Lines.{fields-of}
 use Rattle.fields.proofs.Pieces.{pieces-first}
 use Rattle.clauses.specs.Clauses.{Expr, alternatives}
-use Rattle.clauses.specs.Expansion.{max, past, size}
+use Rattle.clauses.specs.Expansion.{max, pastExpr, size}
 use Rattle.clauses.specs.Emission.{emit}
-use Rattle.clauses.specs.Text.{Lex, many, Written, Says, depth}
+use Rattle.clauses.specs.Text.{Lex, many, WrittenAs, IsExpression, depth}
 use Rattle.clauses.proofs.Legible.{nothing-next}
 use Rattle.clauses.proofs.Deciding.{says?, max-is}
 use Rattle.clause_lines.specs.declared.Checked.{Checked}
@@ -55,7 +55,7 @@ drop-take (suc m) (suc k) (x ∷ l) = drop-take m k l ∙ ap (λ (i : ℕ). take
 nothing-said : expression [] ≡ unwritten
 nothing-said = go (says? [])
   where
-    go : (d : Dec (Says [])) → shallowOnly d ≡ unwritten
+    go : (d : Dec (IsExpression [])) → shallowOnly d ≡ unwritten
     go (no f) = refl
     go (yes y) = absurd (let z : _≡_ {A = Bool} false true = accepts (y .expr) [] (y .written) in let w : _≡_ {A = ℕ} 0 1 = cc in omega arith)
 
@@ -153,19 +153,19 @@ emitted-not line out e =
 pub record Says′ (x : List ℕ) (e : Expr alternatives) : Type 0 where
   pub lexes : List Lex
   pub lexed : lexemes x ≡ some lexes
-  pub written : Written (many e) lexes
+  pub written : WrittenAs (many e) lexes
 
 good-expression : (x : List ℕ) (e : Expr alternatives) → expression x ≡ good e → Says′ x e
 good-expression x e h = go (lexemes x) refl h
   where
-    pick : (l : List Lex) → lexemes x ≡ some l → (d : Dec (Says l)) → shallowOnly d ≡ good e → Says′ x e
+    pick : (l : List Lex) → lexemes x ≡ some l → (d : Dec (IsExpression l)) → shallowOnly d ≡ good e → Says′ x e
     pick l j (no f) q = absurd (let z : _≡_ {A = ℕ} 0 1 = cc in omega arith)
     pick l j (yes y) q = which (leb (depth (y .expr)) 16) q
       where
         which : (b : Bool) → cond b (good (y .expr)) deep ≡ good e → Says′ x e
         which true z =
             let w : y .expr ≡ e = cc in
-            record { lexes = l; lexed = j; written = subst (λ (k : Expr alternatives). Written (many k) l) w (y .written) }
+            record { lexes = l; lexed = j; written = subst (λ (k : Expr alternatives). WrittenAs (many k) l) w (y .written) }
         which false z = absurd (let w : _≡_ {A = ℕ} 0 1 = cc in omega arith)
 
     go : (o : Option (List Lex)) → lexemes x ≡ o → lexemesSay o ≡ good e → Says′ x e
@@ -198,7 +198,7 @@ max-left a b h = sym (max-is a b a (omega arith) h (λ k p q. p))
 
 pub good-checked : (least p q : ℕ) (o : Said (Expr alternatives)) → checkedOf o ≡ Checked.Good p → q ≡ max least p
     → LineChecked.Good q ≡ expressionChecked least o
-good-checked least p q (good e) h j = let z : past e ≡ p = cc in ap LineChecked.Good (j ∙ ap (max least) (sym z))
+good-checked least p q (good e) h j = let z : pastExpr e ≡ p = cc in ap LineChecked.Good (j ∙ ap (max least) (sym z))
 good-checked least p q unwritten h j = absurd (let z : _≡_ {A = ℕ} 0 1 = cc in omega arith)
 good-checked least p q deep h j = absurd (let z : _≡_ {A = ℕ} 0 1 = cc in omega arith)
 

@@ -7,7 +7,7 @@ use native.Mathlib.Omega.{arith}
 use Rattle.grammar.specs.Trees.{Rules}
 use Rattle.fields.specs.Pieces.{pieces, isEmpty, sameBytes}
 use Rattle.clauses.specs.Clauses.{Clauses}
-use Rattle.clauses.specs.Expansion.{max, past, pastAll, expansion}
+use Rattle.clauses.specs.Expansion.{max, pastExpr, pastAll, expansion}
 use Rattle.clauses.specs.Matching.{OneToOne}
 use Rattle.clauses.proofs.Match.{clauses-match}
 use Rattle.clauses.proofs.Sorted.{max-bounds}
@@ -15,7 +15,7 @@ use Rattle.clause_lines.specs.ClauseLines.{ClauseLine}
 use Rattle.sheets.specs.declared.Fault.the-variants as Fault
 use Rattle.sheets.specs.Items.{Reading, accepted, refused, itemsFrom, withNames}
 use Rattle.sheets.specs.RuleSheets.{anyOf, isStart, finish}
-use Rattle.clause_sheets.specs.ClauseSheets.{clauseStep, clausesOf, fits, expanded, clausesFrom, clauseNames, clauseSheet}
+use Rattle.clause_sheets.specs.ClauseSheets.{clauseStep, clausesOf, expansionFits, expanded, clausesFrom, clauseNames, clauseSheet}
 
 pub record Meant (g : Rules) : Type 0 where
   pub clauses : Clauses
@@ -33,13 +33,13 @@ finished-as v g e = go (anyOf isStart v) refl e
 some-line : (l : List ClauseLine) → anyOf isStart (expansion (clausesOf l)) ≡ true → 0 < pastAll (clausesOf l)
 some-line [] e = absurd (let z : _≡_ {A = ℕ} 0 1 = cc in omega arith)
 some-line (c ∷ l) e =
-    let x = max-bounds (max (c .left + 1) (past (c .expr))) (pastAll (clausesOf l)) in
-    let y = max-bounds (c .left + 1) (past (c .expr)) in
+    let x = max-bounds (max (c .left + 1) (pastExpr (c .expr))) (pastAll (clausesOf l)) in
+    let y = max-bounds (c .left + 1) (pastExpr (c .expr)) in
     omega arith
 
 of-lines : (x : Reading ClauseLine) (g : Rules) → expanded x ≡ accepted g → Meant g
 of-lines (refused f n) g e = absurd (let z : _≡_ {A = ℕ} 0 1 = cc in omega arith)
-of-lines (accepted l) g e = go (fits (clausesOf l)) e
+of-lines (accepted l) g e = go (expansionFits (clausesOf l)) e
   where
     go : (b : Bool) → cond b (finish (accepted (expansion (clausesOf l)))) (refused Fault.ClauseMany 0) ≡ accepted g → Meant g
     go false q = absurd (let z : _≡_ {A = ℕ} 0 1 = cc in omega arith)

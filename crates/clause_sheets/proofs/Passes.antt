@@ -17,7 +17,7 @@ use Rattle.sheets.specs.declared.Fault.the-variants as Fault
 use Rattle.sheets.specs.declared.Outcome.{Outcome}
 use Rattle.sheets.specs.declared.Outcome.the-variants.{Accepted, Refused}
 use Rattle.sheets.specs.Items.{Reading, accepted, refused, next, stop, end, onStep, itemsFrom}
-use Rattle.clauses.specs.Expansion.{max, past, pastAll, size, sizeAll}
+use Rattle.clauses.specs.Expansion.{max, pastExpr, pastAll, size, sizeAll}
 use Rattle.clauses.specs.Emission.{emit}
 use Rattle.clauses.proofs.Deciding.{max-is, max-assoc, max-zero}
 use Rattle.clause_rules.specs.declared.Emit.{Emit}
@@ -34,11 +34,11 @@ zero-max : (a : ℕ) → max 0 a ≡ a
 zero-max a = max-is 0 a a (omega arith) (omega arith) (λ k p q. q)
 
 -- one line more
-past-snoc : (l : List ClauseLine) (c : ClauseLine) → pastAll (clausesOf (l ++ (c ∷ []))) ≡ max (pastAll (clausesOf l)) (max (c .left + 1) (past (c .expr)))
-past-snoc [] c = max-zero (max (c .left + 1) (past (c .expr))) ∙ sym (zero-max (max (c .left + 1) (past (c .expr))))
+past-snoc : (l : List ClauseLine) (c : ClauseLine) → pastAll (clausesOf (l ++ (c ∷ []))) ≡ max (pastAll (clausesOf l)) (max (c .left + 1) (pastExpr (c .expr)))
+past-snoc [] c = max-zero (max (c .left + 1) (pastExpr (c .expr))) ∙ sym (zero-max (max (c .left + 1) (pastExpr (c .expr))))
 past-snoc (d ∷ l) c =
-    ap (max (max (d .left + 1) (past (d .expr)))) (past-snoc l c)
-    ∙ max-assoc (max (d .left + 1) (past (d .expr))) (pastAll (clausesOf l)) (max (c .left + 1) (past (c .expr)))
+    ap (max (max (d .left + 1) (pastExpr (d .expr)))) (past-snoc l c)
+    ∙ max-assoc (max (d .left + 1) (pastExpr (d .expr))) (pastAll (clausesOf l)) (max (c .left + 1) (pastExpr (c .expr)))
 
 size-snoc : (l : List ClauseLine) (c : ClauseLine) → sizeAll (clausesOf (l ++ (c ∷ []))) ≡ sizeAll (clausesOf l) + size (c .expr)
 size-snoc [] c = let z : size (c .expr) + 0 ≡ 0 + size (c .expr) = omega arith in z
@@ -112,7 +112,7 @@ module _ {s : List ℕ} {start n p at : ℕ} (P : Passing s start n p at) {c : C
       go unwritten j e = absurd (let z : _≡_ {A = ℕ} 0 1 = cc in omega arith)
       go deep j e = absurd (let z : _≡_ {A = ℕ} 0 1 = cc in omega arith)
       go (good k) j e =
-          let u : q ≡ max (k .left + 1) (past (k .expr)) = cc in
+          let u : q ≡ max (k .left + 1) (pastExpr (k .expr)) = cc in
           record {
             low = omega arith;
             few = omega (arith, P .few, line-less s at (P .low) c is);

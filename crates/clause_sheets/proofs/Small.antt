@@ -17,13 +17,13 @@ use Rattle.grammar.specs.Trees.{Rules}
 use Rattle.grammar.specs.Content.{SmallClause, SmallRule}
 use Rattle.clauses.specs.Clauses.{alternatives, one, Expr, Clauses}
 use Rattle.clauses.specs.Expansion.{A, expandFrom, pastAll, sizeAll, expansion}
-use Rattle.clauses.specs.Text.{maybe, repeats, marks, Lex, n, t, opening, closing, bar, suffix, join, Part, an-atom, an-item, a-row, many, Written, nonterminal-text, terminal-text, group-text, bare-text, optional-text, repeated-text, marked-text, last-text, then-text, single-text, several-text, only-text, or-text}
+use Rattle.clauses.specs.Text.{maybe, repeats, marks, Lex, n, t, opening, closing, bar, suffix, join, Phrase, an-atom, an-item, a-row, many, WrittenAs, nonterminal-text, terminal-text, group-text, bare-text, optional-text, repeated-text, marked-text, last-text, then-text, single-text, several-text, only-text, or-text}
 use Rattle.clauses.specs.Text as X
-use Rattle.clauses.specs.Text.{Says, depth}
+use Rattle.clauses.specs.Text.{IsExpression, depth}
 use Rattle.clauses.proofs.Deciding.{says?}
 use Rattle.fields.proofs.Pick.{either}
 use Rattle.fields.specs.Words.{numeralOf}
-use Rattle.lexemes.specs.Lexemes.{Found, starts, digits, ranged, items, Sign, signs, firstOf, lexeme, onto, then, from, lexemes}
+use Rattle.lexemes.specs.Lexemes.{LexFound, starts, frontDigits, ranged, items, Sign, signs, firstSign, lexeme, ontoLexemes, then, from, lexemes}
 use Rattle.clause_lines.specs.ClauseLines.{good, deep, shallowOnly, lexemesSay, expression}
 use Rattle.clauses.proofs.Bounds.{Terms, TermsAll, Below}
 use Rattle.clauses.proofs.Range.{expansion-low}
@@ -63,14 +63,14 @@ split : (l k : List Lex) → Every TermLex (l ++ k) → Every TermLex l × Every
 split [] k h = (tt, h)
 split (x ∷ l) k h = let z = split l k (h .1) in ((h .0, z .0), z .1)
 
-abbrev TermPart : Part → Type 0
+abbrev TermPart : Phrase → Type 0
 TermPart (an-atom e) = Terms e
 TermPart (an-item e) = Terms e
 TermPart (a-row e) = Terms e
 TermPart (X.one e) = Terms e
 TermPart (many e) = Terms e
 
-pub terms-written : {p : Part} {l : List Lex} → Written p l → Every TermLex l → TermPart p
+pub terms-written : {p : Phrase} {l : List Lex} → WrittenAs p l → Every TermLex l → TermPart p
 terms-written (nonterminal-text) h = tt
 terms-written (terminal-text) h = h .0
 terms-written (group-text {l = l} w) h = terms-written w (split l (closing ∷ []) (h .1) .0)
@@ -86,7 +86,7 @@ terms-written (only-text w) h = terms-written w h
 terms-written (or-text {k = k} {l = l} w v) h = let z = split k (bar ∷ l) h in (terms-written w (z .0), terms-written v (z .1 .1))
 
 -- the terminals of lexemes that are read are 0 to 63
-abbrev TermFound : Found → Type 0
+abbrev TermFound : LexFound → Type 0
 TermFound none = Unit {0}
 TermFound (some y) = TermLex (y .0)
 
@@ -100,12 +100,12 @@ ranged-other k (some v) = either TermFound (leb v 63) (λ e. tt) (λ e. tt)
 
 items-term : (s : List ℕ) → TermFound (items s)
 items-term s =
-    let k = 1 + length (digits (drop 1 s)) in
-    let o = numeralOf (digits (drop 1 s)) in
+    let k = 1 + length (frontDigits (drop 1 s)) in
+    let o = numeralOf (frontDigits (drop 1 s)) in
     either TermFound (starts (110 ∷ []) s) (λ e. ranged-other k o) (λ e. either TermFound (starts (116 ∷ []) s) (λ e. ranged-term k o) (λ e. tt))
 
 -- signs are no terminals
-first-term : (l : List Sign) (s : List ℕ) → Every (λ (x : Sign). TermLex (x .lex)) l → TermFound (firstOf l s)
+first-term : (l : List Sign) (s : List ℕ) → Every (λ (x : Sign). TermLex (x .lex)) l → TermFound (firstSign l s)
 first-term [] s h = items-term s
 first-term (x ∷ l) s h = either TermFound (starts (x .bytes) s) (λ e. h .0) (λ e. first-term l s (h .1))
 
@@ -116,7 +116,7 @@ signs-term = (tt, (tt, (tt, (tt, (tt, (tt, (tt, (tt, (tt, (tt, (tt, (tt, (tt, (t
 lexeme-term : (s : List ℕ) → TermFound (lexeme s)
 lexeme-term s = first-term signs s signs-term
 
-every-onto : (x : Lex) (o : Option (List Lex)) (l : List Lex) → onto x o ≡ some l → TermLex x → ((k : List Lex) → o ≡ some k → Every TermLex k)
+every-onto : (x : Lex) (o : Option (List Lex)) (l : List Lex) → ontoLexemes x o ≡ some l → TermLex x → ((k : List Lex) → o ≡ some k → Every TermLex k)
     → Every TermLex l
 every-onto x none l e h f = absurd (let z : _≡_ {A = ℕ} 0 1 = cc in omega arith)
 every-onto x (some k) l e h f = let z : _≡_ {A = List Lex} (x ∷ k) l = cc in subst (λ (y : List Lex). Every TermLex y) z (h, f k refl)
@@ -126,12 +126,12 @@ from-terms [] k l e = let z : _≡_ {A = List Lex} [] l = cc in subst (λ (y : L
 from-terms (b ∷ s) (suc k) l e = from-terms s k l e
 from-terms (b ∷ s) zero l e = go (lexeme (b ∷ s)) (lexeme-term (b ∷ s)) e (λ j m h. from-terms s j m h)
   where
-    go : (o : Found) → TermFound o → then o (λ j. from s j) ≡ some l → ((j : ℕ) (m : List Lex) → from s j ≡ some m → Every TermLex m) → Every TermLex l
+    go : (o : LexFound) → TermFound o → then o (λ j. from s j) ≡ some l → ((j : ℕ) (m : List Lex) → from s j ≡ some m → Every TermLex m) → Every TermLex l
     go none h e f = absurd (let z : _≡_ {A = ℕ} 0 1 = cc in omega arith)
     go (some y) h e f = every-onto (y .0) (from s (y .1 - 1)) l e h (f (y .1 - 1))
 
 -- the expression that bytes say
-said-terms : (l : List Lex) (d : Dec (Says l)) (e : Expr alternatives) → Every TermLex l → shallowOnly d ≡ good e → Terms e
+said-terms : (l : List Lex) (d : Dec (IsExpression l)) (e : Expr alternatives) → Every TermLex l → shallowOnly d ≡ good e → Terms e
 said-terms l (no f) e h q = absurd (let z : _≡_ {A = ℕ} 0 1 = cc in omega arith)
 said-terms l (yes y) e h q = go (leb (depth (y .expr)) 16) q
   where

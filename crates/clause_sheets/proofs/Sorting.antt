@@ -11,22 +11,22 @@ use borrow.Author.Tests.{ne-eqb, eq-eqb}
 use Rattle.grammar.specs.declared.Rule.{Rule}
 use Rattle.grammar.specs.Trees.{Rules}
 use Rattle.clauses.specs.Clauses as C
-use Rattle.clauses.specs.Clauses.{alternatives, Expr, only, or, Clauses, line}
-use Rattle.clauses.specs.Expansion.{size, choices, rules, expandFrom, of, rising, pastAll, sizeAll, expansion}
+use Rattle.clauses.specs.Clauses.{alternatives, Expr, only, or, Clauses, a-line}
+use Rattle.clauses.specs.Expansion.{size, alternativeRules, exprRules, expandFrom, of, rising, pastAll, sizeAll, expansion}
 use Rattle.clauses.specs.Emission.{emit}
 use Rattle.clauses.proofs.Bounds.{UnderAll}
-use Rattle.clauses.proofs.Order.{Same, same-refl, same-append, met, same-rising}
+use Rattle.clauses.proofs.Order.{SameByLeft, same-refl, same-append, met, same-rising}
 use Rattle.clauses.proofs.Sorted.{under-all, of-members}
 use Rattle.clauses.proofs.Lines.{sheet-owned}
 use Rattle.clause_sheets.specs.Emitted.{emitAll}
 
-line-same : (e : Expr alternatives) (L n : ℕ) → L < n → Same (emit e L n) (choices L e n ++ rules e n)
+line-same : (e : Expr alternatives) (L n : ℕ) → L < n → SameByLeft (emit e L n) (alternativeRules L e n ++ exprRules e n)
 line-same (only e) L n h = met (only e) L n h
 line-same (or e f) L n h = met (or e f) L n h
 
-all-same : (N : ℕ) (c : Clauses) (n : ℕ) → UnderAll N c → N ≤ n → Same (emitAll c n) (expandFrom c n)
+all-same : (N : ℕ) (c : Clauses) (n : ℕ) → UnderAll N c → N ≤ n → SameByLeft (emitAll c n) (expandFrom c n)
 all-same N C.none n u h = same-refl
-all-same N (line L e c) n u h = same-append (line-same e L n (let z = u .0 in omega arith)) (all-same N c (n + size e) (u .1 .1) (omega arith))
+all-same N (a-line L e c) n u h = same-append (line-same e L n (let z = u .0 in omega arith)) (all-same N c (n + size e) (u .1 .1) (omega arith))
 
 pub met-all : (c : Clauses) (K : ℕ) → rising K (emitAll c (pastAll c)) ≡ rising K (expandFrom c (pastAll c))
 met-all c K = same-rising K (all-same (pastAll c) c (pastAll c) (under-all c (pastAll c) (le-refl _)) (le-refl _))
@@ -76,7 +76,7 @@ members-of L (h ∷ g) r q m =
     there false i = i
 
 -- the rules as met have the lefts of the expansion
-same-members : (a b : Rules) → Same a b → (K : ℕ) → ((r : Rule) → List·Memᴰ r b → r .left < K) → (r : Rule) → List·Memᴰ r a → r .left < K
+same-members : (a b : Rules) → SameByLeft a b → (K : ℕ) → ((r : Rule) → List·Memᴰ r b → r .left < K) → (r : Rule) → List·Memᴰ r a → r .left < K
 same-members a b p K f r m = f r (of-members (r .left) b r (subst (λ (x : Rules). List·Memᴰ r x) (p .at-left (r .left)) (members-of (r .left) a r refl m)))
 
 pub met-lefts : (c : Clauses) (r : Rule) → List·Memᴰ r (emitAll c (pastAll c)) → r .left < pastAll c + sizeAll c

@@ -7,7 +7,7 @@ use Rattle.grammar.specs.Content.{rules as rulesOf}
 use Prim.Native.Nat.{ℕ, _+_, _≤_}
 use lib.ListN.{length}
 use Rattle.fields.specs.Pieces.{piecesFrom}
-use Rattle.clauses.specs.Expansion.{max, past, pastAll, size, sizeAll}
+use Rattle.clauses.specs.Expansion.{max, pastExpr, pastAll, size, sizeAll}
 use Rattle.clauses.specs.Clauses.{Expr, alternatives}
 use Rattle.clauses.specs.Emission.{emit}
 use Rattle.clause_rules.specs.declared.Emit.{Emit}
@@ -23,13 +23,13 @@ use Rattle.clause_sheets.specs.Emitted.{emitAll}
 
 -- one past the largest nonterminal of a line
 abbrev pub lineChecked : Said ClauseLine → LineChecked
-lineChecked (good c) = LineChecked.Good (max (c .left + 1) (past (c .expr)))
+lineChecked (good c) = LineChecked.Good (max (c .left + 1) (pastExpr (c .expr)))
 lineChecked unwritten = LineChecked.Form
 lineChecked deep = LineChecked.Deep
 
 -- the same by the left, which is below `least`
 abbrev pub expressionChecked : ℕ → Said (Expr alternatives) → LineChecked
-expressionChecked least (good e) = LineChecked.Good (max least (past e))
+expressionChecked least (good e) = LineChecked.Good (max least (pastExpr e))
 expressionChecked least unwritten = LineChecked.Form
 expressionChecked least deep = LineChecked.Deep
 
@@ -63,6 +63,6 @@ pub record Emitting (s : List ℕ) (start : ℕ) (out r : Emit) (at : ℕ) : Typ
       (sizeAll (clausesOf seen))
 
 -- the rules are put behind those of g, where there is room for all
-pub record Taken (new : Rules) (g r : Grammar) : Type 0 where
+pub record RulesTaken (new : Rules) (g r : Grammar) : Type 0 where
   pub count : g .count + length new ≤ 128 → r .count ≡ g .count + length new
   pub rules : g .count + length new ≤ 128 → rulesOf r ≡ rulesOf g ++ new

@@ -26,7 +26,7 @@ ghost use Rattle.sheets.specs.Items.{itemsFrom};
 ghost use Rattle.sheets.specs.Promises.{RulesRead};
 ghost use Rattle.clause_lines.specs.ClauseLines.{clauseLine, expression};
 ghost use Rattle.clause_sheets.specs.ClauseSheets.{clauseStep, clausesFrom, clauseSheet};
-ghost use Rattle.clause_sheets.specs.Checks.{lineChecked, expressionChecked, PassedAs, LineEmitted, LinesEmitted, Taken};
+ghost use Rattle.clause_sheets.specs.Checks.{lineChecked, expressionChecked, PassedAs, LineEmitted, LinesEmitted, RulesTaken};
 ghost use Rattle.clause_sheets.specs.Ends.{AllSaid};
 
 // One past a line's largest nonterminal; or 41; or 42.
@@ -170,7 +170,7 @@ fn lines_emit(s: &[u8], start: usize, first: Emit) -> Emit
 
 // One rule more, where there is room.
 fn append(g: Grammar, x: Rule) -> Grammar
-    ensures { λ r. ⌜ Taken (x ∷ []) g r ⌝ }
+    ensures { λ r. ⌜ RulesTaken (x ∷ []) g r ⌝ }
 {
     let mut rules = g.rules;
     let m = g.count;
@@ -187,7 +187,7 @@ fn append(g: Grammar, x: Rule) -> Grammar
 // The rules of one left, after those taken so far.
 fn taken(rules: [Rule; 128], n: usize, left: u8, first: Grammar) -> Grammar
     requires { ⌜ n ≤ 128 ⌝ }
-    ensures { λ r. ⌜ Taken (of left (take n rules)) first r ⌝ }
+    ensures { λ r. ⌜ RulesTaken (of left (take n rules)) first r ⌝ }
 {
     let mut g = first;
     let mut i = 0;
@@ -206,7 +206,7 @@ fn taken(rules: [Rule; 128], n: usize, left: u8, first: Grammar) -> Grammar
 // The first n rules by rising left, 0 to 63, after those taken so far.
 fn sorted(rules: [Rule; 128], n: usize, first: Grammar) -> Grammar
     requires { ⌜ n ≤ 128 ⌝ }
-    ensures { λ r. ⌜ Taken (rising 64 (take n rules)) first r ⌝ }
+    ensures { λ r. ⌜ RulesTaken (rising 64 (take n rules)) first r ⌝ }
 {
     let mut g = first;
     let mut left: u8 = 0;

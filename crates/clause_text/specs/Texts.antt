@@ -9,5 +9,5 @@ use Rattle.clause_calls.specs.Expand.{ExpandOf}
 
 -- the answer and its line, then the bytes of the sheet that is given; bytes enough for it are lent
 pub data ExpandText (clauses text : List ℕ) : Type 0 where
-  expanded : {out out′ : List ℕ} {r : ListReply} → length out ≡ 4096 → ExpandOf clauses out out′ r
+  expanding : {out out′ : List ℕ} {r : ListReply} → length out ≡ 4096 → ExpandOf clauses out out′ r
       → text ≡ head (answerText (r .answer)) (r .line) ++ take (r .count) out′ → ExpandText clauses text

@@ -9,8 +9,8 @@ use lib.ListN.{length, length-append}
 use Rattle.grammar.specs.declared.UnaryMark.{UnaryMark}
 use Rattle.grammar.specs.declared.UnaryMark.the-variants as UnaryMark
 use Rattle.grammar.specs.declared.BinaryMark.{BinaryMark}
-use Rattle.clauses.specs.Clauses.{item, made, alternatives, Least, Expr, nonterminal, part, terminal, group, mark, pair, optional, repeated, only, or}
-use Rattle.clauses.specs.Text.{Suffix, maybe, repeats, marks, Lex, n, t, opening, closing, bar, suffix, join, Part, an-atom, an-item, a-row, one, many, Written, nonterminal-text, terminal-text, group-text, bare-text, optional-text, repeated-text, marked-text, last-text, then-text, single-text, several-text, only-text, or-text}
+use Rattle.clauses.specs.Clauses.{item, made, alternatives, AtLeast, Expr, nonterminal, a-part, terminal, group, mark, pair, optional, repeated, only, or}
+use Rattle.clauses.specs.Text.{Suffix, maybe, repeats, marks, Lex, n, t, opening, closing, bar, suffix, join, Phrase, an-atom, an-item, a-row, one, many, WrittenAs, nonterminal-text, terminal-text, group-text, bare-text, optional-text, repeated-text, marked-text, last-text, then-text, single-text, several-text, only-text, or-text}
 use Rattle.clauses.specs.Flat.{State, due, plain, grouped, suffixed, fits, both, is-due, past-item, run}
 
 both-parts : (a b : Bool) → both a b ≡ true → (a ≡ true) × (b ≡ true)
@@ -23,12 +23,12 @@ never e = absurd (let z : _≡_ {A = ℕ} 0 1 = cc in omega arith)
 -- how an atom leaves the state
 abbrev leaves : Expr item → State
 leaves (nonterminal a) = plain
-leaves (part (terminal a)) = plain
-leaves (part (group e)) = grouped
-leaves (part (mark m e)) = suffixed
-leaves (part (pair m e f)) = suffixed
-leaves (part (optional e)) = suffixed
-leaves (part (repeated q m e)) = suffixed
+leaves (a-part (terminal a)) = plain
+leaves (a-part (group e)) = grouped
+leaves (a-part (mark m e)) = suffixed
+leaves (a-part (pair m e f)) = suffixed
+leaves (a-part (optional e)) = suffixed
+leaves (a-part (repeated q m e)) = suffixed
 
 -- the rest after alternatives: nothing, or a closing parenthesis and what follows it
 abbrev Ended : ℕ → List Lex → Type 0
@@ -40,7 +40,7 @@ pub record AtomOut (d : ℕ) (l : List Lex) : Type 0 where
   pub text : List Lex
   pub rest : List Lex
   pub split : l ≡ text ++ rest
-  pub written : Written (an-atom expr) text
+  pub written : WrittenAs (an-atom expr) text
   pub goes : run rest (leaves expr) d ≡ true
   pub took : 1 ≤ length text
 
@@ -50,7 +50,7 @@ pub record ItemOut (d : ℕ) (l : List Lex) : Type 0 where
   pub rest : List Lex
   pub state : State
   pub split : l ≡ text ++ rest
-  pub written : Written (an-item expr) text
+  pub written : WrittenAs (an-item expr) text
   pub goes : run rest state d ≡ true
   pub blocked : (q : Suffix) (k : List Lex) → rest ≡ suffix q ∷ k → ⊥
   pub later : is-due state ≡ false
@@ -61,7 +61,7 @@ pub record ManyOut (d : ℕ) (l : List Lex) : Type 0 where
   pub text : List Lex
   pub rest : List Lex
   pub split : l ≡ text ++ rest
-  pub written : Written (many expr) text
+  pub written : WrittenAs (many expr) text
   pub ended : Ended d rest
 
 Manys : ℕ → Type 0
@@ -72,12 +72,12 @@ atom : (k : ℕ) → Manys k → (d : ℕ) (l : List Lex) → length l ≤ suc k
 unfolding Manys
 atom k f d [] h r = never r
 atom k f d (n a ∷ l) h r = record { expr = nonterminal a; text = n a ∷ []; rest = l; split = refl; written = nonterminal-text; goes = r; took = omega arith }
-atom k f d (t a ∷ l) h r = record { expr = part (terminal a); text = t a ∷ []; rest = l; split = refl; written = terminal-text; goes = r; took = omega arith }
+atom k f d (t a ∷ l) h r = record { expr = a-part (terminal a); text = t a ∷ []; rest = l; split = refl; written = terminal-text; goes = r; took = omega arith }
 atom k f d (opening ∷ l) h r =
     let m = f (suc d) l (omega arith) r in
     let e = m .ended in
     record {
-      expr = part (group (m .expr));
+      expr = a-part (group (m .expr));
       text = opening ∷ (m .text ++ (closing ∷ []));
       rest = e .0;
       split = ap (λ (x : List Lex). opening ∷ x) (m .split ∙ ap (λ (x : List Lex). m .text ++ x) (e .1) ∙ sym (append-assoc (m .text) (closing ∷ []) (e .0)));
@@ -91,19 +91,19 @@ atom k f d (suffix q ∷ l) h r = never r
 atom k f d (join m ∷ l) h r = never r
 atom k f d (bar ∷ l) h r = never r
 
-with-suffix : (e : Expr item) (l : List Lex) (q : Suffix) → Written (an-atom e) l → fits (leaves e) q ≡ true
-    → (f : Expr item) × Written (an-item f) (l ++ (suffix q ∷ []))
-with-suffix e l maybe w h = (part (optional e), optional-text w)
-with-suffix e l (repeats q m) w h = (part (repeated q m e), repeated-text w)
+with-suffix : (e : Expr item) (l : List Lex) (q : Suffix) → WrittenAs (an-atom e) l → fits (leaves e) q ≡ true
+    → (f : Expr item) × WrittenAs (an-item f) (l ++ (suffix q ∷ []))
+with-suffix e l maybe w h = (a-part (optional e), optional-text w)
+with-suffix e l (repeats q m) w h = (a-part (repeated q m e), repeated-text w)
 with-suffix e l (marks m) w h = go e l w h
   where
-    go : (e : Expr item) (l : List Lex) → Written (an-atom e) l → fits (leaves e) (marks m) ≡ true
-        → (f : Expr item) × Written (an-item f) (l ++ (suffix (marks m) ∷ []))
+    go : (e : Expr item) (l : List Lex) → WrittenAs (an-atom e) l → fits (leaves e) (marks m) ≡ true
+        → (f : Expr item) × WrittenAs (an-item f) (l ++ (suffix (marks m) ∷ []))
     go e l (nonterminal-text) h = never h
     go e l (terminal-text) h = never h
-    go e l (group-text {e = f} w) h = (part (mark m (part (group f))), marked-text (group-text w))
+    go e l (group-text {e = f} w) h = (a-part (mark m (a-part (group f))), marked-text (group-text w))
 
-not-due : (e : Expr item) (l : List Lex) → Written (an-atom e) l → is-due (leaves e) ≡ false
+not-due : (e : Expr item) (l : List Lex) → WrittenAs (an-atom e) l → is-due (leaves e) ≡ false
 not-due e l (nonterminal-text) = refl
 not-due e l (terminal-text) = refl
 not-due e l (group-text w) = refl
@@ -157,7 +157,7 @@ pub record RowOut (d : ℕ) (l : List Lex) : Type 0 where
   pub text : List Lex
   pub rest : List Lex
   pub split : l ≡ text ++ rest
-  pub written : Written (a-row expr) text
+  pub written : WrittenAs (a-row expr) text
   pub stopped : Stopped d rest
   pub took : 1 ≤ length text
 
@@ -186,7 +186,7 @@ row-of k f d l h i (join m ∷ r) e g =
     let x = ap length (i .split ∙ ap (λ (y : List Lex). i .text ++ y) e) in
     let o = f d r (omega (arith, x, length-append (i .text) (join m ∷ r), i .took)) (both-parts (past-item (i .state)) _ g .1) in
     record {
-      expr = part (pair m (i .expr) (o .expr));
+      expr = a-part (pair m (i .expr) (o .expr));
       text = i .text ++ (join m ∷ o .text);
       rest = o .rest;
       split =
@@ -198,7 +198,7 @@ row-of k f d l h i (join m ∷ r) e g =
     }
 
 -- a row as an alternative
-as-one : (e : Expr item) (l : List Lex) → Written (a-row e) l → (f : Expr made) × Written (one f) l
+as-one : (e : Expr item) (l : List Lex) → WrittenAs (a-row e) l → (f : Expr made) × WrittenAs (one f) l
 as-one e l (last-text {e = g} w) = (mark UnaryMark.None g, single-text w)
 as-one e l (then-text {m = m} {e = g} {f = f} w v) = (pair m g f, several-text w v)
 
@@ -240,17 +240,17 @@ parsed zero = ((λ d l h r. none l d h r), (λ d l h r. none l d h r))
 parsed (suc k) = let p = parsed k in let f = step-row k (p .0) (p .1) in (f, step-many k f (p .1))
 
 -- what the flat test takes is written so
-pub accepted : (l : List Lex) → run l due 0 ≡ true → (e : Expr alternatives) × Written (many e) l
+pub accepted : (l : List Lex) → run l due 0 ≡ true → (e : Expr alternatives) × WrittenAs (many e) l
 unfolding Manys
 accepted l r =
     let m = parsed (length l) .1 0 l (omega arith) r in
-    (m .expr, subst (λ (x : List Lex). Written (many (m .expr)) x) (sym (m .split ∙ ap (λ (x : List Lex). m .text ++ x) (m .ended) ∙ append-nil (m .text))) (m .written))
+    (m .expr, subst (λ (x : List Lex). WrittenAs (many (m .expr)) x) (sym (m .split ∙ ap (λ (x : List Lex). m .text ++ x) (m .ended) ∙ append-nil (m .text))) (m .written))
 
 -- the flat test passes over what is written
 abbrev Passes : List Lex → State → Type 0
 Passes l s = (k : List Lex) (d : ℕ) → run (l ++ k) due d ≡ run k s d
 
-abbrev Runs : Part → List Lex → Type 0
+abbrev Runs : Phrase → List Lex → Type 0
 Runs (an-atom e) l = Passes l (leaves e)
 Runs (an-item e) l = (s : State) × (past-item s ≡ true) × Passes l s
 Runs (a-row e) l = (s : State) × (past-item s ≡ true) × Passes l s
@@ -260,8 +260,8 @@ Runs (many e) l = (s : State) × (past-item s ≡ true) × Passes l s
 seen : (s : State) (b : Bool) → past-item s ≡ true → both (past-item s) b ≡ b
 seen s b e = rw e refl
 
-fits-some : (e : Expr item) (l : List Lex) (b : Bool) → Written (an-atom e) l
-    → (both (fits (leaves e) maybe) b ≡ b) × ((q : Least) (m : BinaryMark) → both (fits (leaves e) (repeats q m)) b ≡ b) × (past-item (leaves e) ≡ true)
+fits-some : (e : Expr item) (l : List Lex) (b : Bool) → WrittenAs (an-atom e) l
+    → (both (fits (leaves e) maybe) b ≡ b) × ((q : AtLeast) (m : BinaryMark) → both (fits (leaves e) (repeats q m)) b ≡ b) × (past-item (leaves e) ≡ true)
 fits-some e l b (nonterminal-text) = (refl, (λ q m. refl), refl)
 fits-some e l b (terminal-text) = (refl, (λ q m. refl), refl)
 fits-some e l b (group-text w) = (refl, (λ q m. refl), refl)
@@ -269,7 +269,7 @@ fits-some e l b (group-text w) = (refl, (λ q m. refl), refl)
 after : (l x k : List Lex) (d : ℕ) (s : State) → Passes l s → run ((l ++ x) ++ k) due d ≡ run (x ++ k) s d
 after l x k d s p = ap (λ (y : List Lex). run y due d) (append-assoc l x k) ∙ p (x ++ k) d
 
-runs : {p : Part} {l : List Lex} → Written p l → Runs p l
+runs : {p : Phrase} {l : List Lex} → WrittenAs p l → Runs p l
 runs (nonterminal-text) = λ k d. refl
 runs (terminal-text) = λ k d. refl
 runs (group-text {l = l} w) =
@@ -293,5 +293,5 @@ runs (or-text {k = x} {l = y} w v) =
     let r = runs w in let o = runs v in (o .0, o .1, λ k d. after x (bar ∷ y) k d (r .0) (r .2) ∙ seen (r .0) (run (y ++ k) due d) (r .1) ∙ o .2 k d)
 
 -- what is written so, the flat test takes
-pub accepts : (e : Expr alternatives) (l : List Lex) → Written (many e) l → run l due 0 ≡ true
+pub accepts : (e : Expr alternatives) (l : List Lex) → WrittenAs (many e) l → run l due 0 ≡ true
 accepts e l w = let r = runs w in ap (λ (x : List Lex). run x due 0) (sym (append-nil l)) ∙ r .2 [] 0 ∙ seen (r .0) true (r .1)

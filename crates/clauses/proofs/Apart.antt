@@ -9,9 +9,9 @@ use Rattle.grammar.specs.declared.UnaryMark.{UnaryMark}
 use Rattle.grammar.specs.declared.UnaryMark.the-variants as UnaryMark
 use Rattle.grammar.specs.Trees.{Rules}
 use Rattle.clauses.specs.Clauses as C
-use Rattle.clauses.specs.Clauses.{Sort, item, alternatives, Least, one, Expr, nonterminal, part, terminal, group, mark, pair, optional, repeated, only, or, Clauses, line}
+use Rattle.clauses.specs.Clauses.{Sort, item, alternatives, AtLeast, one, Expr, nonterminal, a-part, terminal, group, mark, pair, optional, repeated, only, or, Clauses, a-line}
 use Rattle.clauses.specs.Readings.{left, right, clause}
-use Rattle.clauses.specs.Expansion.{E, A, U, B, size, name, choices, begins, rules, expandFrom, sizeAll, of, rising, pastAll, expansion}
+use Rattle.clauses.specs.Expansion.{E, A, U, B, size, name, alternativeRules, repeatBegins, exprRules, expandFrom, sizeAll, of, rising, pastAll, expansion}
 use Rattle.clauses.proofs.Bounds.{Under, UnderAll, start, Clash, AllApart}
 use Rattle.grammar.specs.Choices.{Alike, Distinct}
 use Rattle.grammar.proofs.ChoiceLaws.{member-at}
@@ -44,34 +44,34 @@ never-alike p q c = ⊎-elim (λ k. k) (λ k. k) (rw (p, q) at (c .alike))
 turned : {r s : Rule} → Clash r s → Clash s r
 turned c = record { left = sym (c .left); alike = ⊎-elim inr inl (c .alike) }
 
-apart-choices : (L : ℕ) (e : Expr alternatives) (n : ℕ) → AllApart (choices L e n)
+apart-choices : (L : ℕ) (e : Expr alternatives) (n : ℕ) → AllApart (alternativeRules L e n)
 apart-choices L (only e) n = ((λ s m c. List·Memᴰ·not-nil m), tt)
 apart-choices L (or e f) n =
     ((λ s m c. let a = choices-among L f (n + size e) s m in let b = among-range f (n + size e) (a .0) (a .1) in let g = made-grows e in let t = same-target refl (a .2) c in omega arith), apart-choices L f (n + size e))
 
 -- the head's left is below all of the rest's
-apart-head : (h : Rule) {s : Sort} (e : Expr s) (n : ℕ) → h .left < n → AllApart (rules e n) → AllApart (h ∷ rules e n)
+apart-head : (h : Rule) {s : Sort} (e : Expr s) (n : ℕ) → h .left < n → AllApart (exprRules e n) → AllApart (h ∷ exprRules e n)
 apart-head h e n l p = ((λ s m c. let o = owned e n s m in let z = c .left in omega arith), p)
 
-begins-apart : (q : Least) (N n : ℕ) (e : Expr item) (s : Rule) → Under N e → N ≤ n → s ≡ U n (n + 1) UnaryMark.None → Clash (begins q n (name e (n + 2))) s → ⊥
+begins-apart : (q : AtLeast) (N n : ℕ) (e : Expr item) (s : Rule) → Under N e → N ≤ n → s ≡ U n (n + 1) UnaryMark.None → Clash (repeatBegins q n (name e (n + 2))) s → ⊥
 begins-apart one N n e s u h q c = not-fresh N n e u h (same-target refl q c)
 begins-apart C.zero N n e s u h q c = never-alike refl q c
 
-begins-at : (q : Least) (n B : ℕ) → begins q n B .left ≡ n
+begins-at : (q : AtLeast) (n B : ℕ) → repeatBegins q n B .left ≡ n
 begins-at one n B = refl
 begins-at C.zero n B = refl
 
-apart-rules : {s : Sort} (N : ℕ) (e : Expr s) (n : ℕ) → Under N e → N ≤ n → AllApart (rules e n)
+apart-rules : {s : Sort} (N : ℕ) (e : Expr s) (n : ℕ) → Under N e → N ≤ n → AllApart (exprRules e n)
 apart-rules N (nonterminal L) n u h = tt
-apart-rules N (part e) n u h = apart-rules N e n u h
+apart-rules N (a-part e) n u h = apart-rules N e n u h
 apart-rules N (terminal a) n u h = ((λ s m c. List·Memᴰ·not-nil m), tt)
 apart-rules N (group e) n u h =
-    apart-lefts (choices n e (n + 1)) (rules e (n + 1)) (apart-choices n e (n + 1)) (apart-rules N e (n + 1) u (omega arith))
+    apart-lefts (alternativeRules n e (n + 1)) (exprRules e (n + 1)) (apart-choices n e (n + 1)) (apart-rules N e (n + 1) u (omega arith))
     (λ r s i j c. let z = choices-left n e (n + 1) r i in let o = owned e (n + 1) s j in omega arith)
 apart-rules N (mark m e) n u h = apart-head (U n (name e (n + 1)) m) e (n + 1) (omega arith) (apart-rules N e (n + 1) u (omega arith))
 apart-rules N (pair m e f) n u h = (
-  (λ s i c. let z = c .left in ⊎-elim (λ j. let o = owned e (n + 1) s j in omega arith) (λ j. let o = owned f (n + 1 + size e) s j in omega arith) (List·Memᴰ·append-cases (rules e (n + 1)) i)),
-  apart-lefts (rules e (n + 1)) (rules f (n + 1 + size e)) (apart-rules N e (n + 1) (u .0) (omega arith))
+  (λ s i c. let z = c .left in ⊎-elim (λ j. let o = owned e (n + 1) s j in omega arith) (λ j. let o = owned f (n + 1 + size e) s j in omega arith) (List·Memᴰ·append-cases (exprRules e (n + 1)) i)),
+  apart-lefts (exprRules e (n + 1)) (exprRules f (n + 1 + size e)) (apart-rules N e (n + 1) (u .0) (omega arith))
       (apart-rules N f (n + 1 + size e) (u .1) (omega arith))
       (λ r s i j c. let o = owned e (n + 1) r i in let q = owned f (n + 1 + size e) s j in omega arith),
 )
@@ -89,14 +89,14 @@ apart-rules N (repeated q m e) n u h = (
 )
 apart-rules N (only e) n u h = apart-rules N e n u h
 apart-rules N (or e f) n u h =
-    apart-lefts (rules e n) (rules f (n + size e)) (apart-rules N e n (u .0) h) (apart-rules N f (n + size e) (u .1) (omega arith))
+    apart-lefts (exprRules e n) (exprRules f (n + size e)) (apart-rules N e n (u .0) h) (apart-rules N f (n + size e) (u .1) (omega arith))
     (λ r s i j c. let o = owned e n r i in let q = owned f (n + size e) s j in omega arith)
 
 apart-sheet : (N : ℕ) (c : Clauses) (n : ℕ) → UnderAll N c → N ≤ n → AllApart (expandFrom c n)
 apart-sheet N C.none n u h = tt
-apart-sheet N (line L e c) n u h =
-    apart-append (choices L e n ++ rules e n) (expandFrom c (n + size e))
-    (apart-lefts (choices L e n) (rules e n) (apart-choices L e n) (apart-rules N e n (u .1 .0) h) (λ r s i j z. let a = choices-left L e n r i in let o = owned e n s j in let y = u .0 in omega arith))
+apart-sheet N (a-line L e c) n u h =
+    apart-append (alternativeRules L e n ++ exprRules e n) (expandFrom c (n + size e))
+    (apart-lefts (alternativeRules L e n) (exprRules e n) (apart-choices L e n) (apart-rules N e n (u .1 .0) h) (λ r s i j z. let a = choices-left L e n r i in let o = owned e n s j in let y = u .0 in omega arith))
     (apart-sheet N c (n + size e) (u .1 .1) (omega arith))
     (λ r s i j z. ⊎-elim
     (λ k. let a = choices-among L e n r k in let b = among-range e n (a .0) (a .1) in
@@ -107,7 +107,7 @@ apart-sheet N (line L e c) n u h =
     let g = start-from (p .0) (n + size e) in
     let t = same-target (a .2) (d .2) z in omega arith)
     (λ k. let o = owned e n r k in let x = z .left in ⊎-elim (λ w. omega arith) (λ w. omega arith) (sheet-owned {N = N} c (n + size e) s (u .1 .1) (omega arith) j))
-    (List·Memᴰ·append-cases (choices L e n) i))
+    (List·Memᴰ·append-cases (alternativeRules L e n) i))
 
 put-apart : (b : Bool) (h : Rule) (g f : Rules) → ((r : Rule) → List·Memᴰ r g → List·Memᴰ r f) → AllApart g
     → ((s : Rule) → List·Memᴰ s f → Clash h s → ⊥) → AllApart (put b h g)

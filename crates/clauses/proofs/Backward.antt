@@ -14,8 +14,8 @@ use Rattle.grammar.specs.declared.Token.{Token}
 use Rattle.grammar.specs.Layout as Mark
 use Rattle.grammar.specs.Trees.{Rules, Covers, Tree, empty, leaf, unary, binary, root, word, Valid, valid-empty, valid-leaf, valid-unary, valid-binary}
 use Rattle.clauses.specs.Clauses as C
-use Rattle.clauses.specs.Clauses.{Sort, item, made, alternatives, Least, one, Expr, nonterminal, part, terminal, group, mark, pair, optional, repeated, only, or, Clauses}
-use Rattle.clauses.specs.Readings.{Place, left, right, Reading, clause, itself, token, within, marked, both, present, absent, nothing, first, more, sole, this, other, spells, Keeps}
+use Rattle.clauses.specs.Clauses.{Sort, item, made, alternatives, AtLeast, one, Expr, nonterminal, a-part, terminal, group, mark, pair, optional, repeated, only, or, Clauses}
+use Rattle.clauses.specs.Readings.{ClausePlace, left, right, ClauseReading, clause, itself, a-token, within, marked, both, present, absent, nothing, first, more, sole, this, other, spells, MarksKept}
 use Rattle.clauses.specs.Expansion.{A, B, size, name}
 use Rattle.clauses.proofs.Bounds.{start, Among}
 use Rattle.clauses.proofs.Placed.{Placed, in-part, in-only, in-group, in-mark, in-optional, in-repeated, in-first, in-second, in-this, in-other}
@@ -25,23 +25,23 @@ use Rattle.clauses.proofs.Forward.{tree, tree-word, Expands, at, keeps-
 
 -- a reading of e whose tree is t
 pub record Back (c : Clauses) (N : ℕ) {s : Sort} (e : Expr s) (n : ℕ) (t : Tree) : Type 0 where
-  pub reading : Reading c s e
-  pub kept : Keeps reading
+  pub reading : ClauseReading c s e
+  pub kept : MarksKept reading
   pub same : tree N n reading ≡ t
 
 -- the fresh C of a repeat: what was read so far, and one more
-pub record Rest (c : Clauses) (N : ℕ) (q : Least) (μ : BinaryMark) (e : Expr item) (n : ℕ) (t : Tree) : Type 0 where
-  pub before : Reading c made (repeated q μ e)
-  pub next : Reading c item e
+pub record Rest (c : Clauses) (N : ℕ) (q : AtLeast) (μ : BinaryMark) (e : Expr item) (n : ℕ) (t : Tree) : Type 0 where
+  pub before : ClauseReading c made (repeated q μ e)
+  pub next : ClauseReading c item e
   pub marks : Mark.Binary μ (spells before) (spells next)
-  pub kept₁ : Keeps before
-  pub kept₂ : Keeps next
+  pub kept₁ : MarksKept before
+  pub kept₂ : MarksKept next
   pub same : binary (n + 1) (tree N n before) (tree N (n + 2) next) ≡ t
 
 pub record Backs (c : Clauses) (N : ℕ) (g : Rules) (t : Tree) : Type 0 where
   pub node : (e : Expr made) (n : ℕ) → Placed N g e n → root t ≡ n → Back c N e n t
   pub written : (L n : ℕ) → L < N → root t ≡ L → Back c N (nonterminal L) n t
-  pub rest : (q : Least) (μ : BinaryMark) (e : Expr item) (n : ℕ) → Placed N g (repeated q μ e) n → root t ≡ n + 1 → Rest c N q μ e n t
+  pub rest : (q : AtLeast) (μ : BinaryMark) (e : Expr item) (n : ℕ) → Placed N g (repeated q μ e) n → root t ≡ n + 1 → Rest c N q μ e n t
 
 abbrev kind : Clause → ℕ
 kind Empty = 0
@@ -81,7 +81,7 @@ module _ {c : Clauses} {N : ℕ} where
   node-leaf L n x y t (terminal a) v h o =
       let low : x ≡ a = cc in
       let high : y ≡ a = cc in
-      record { reading = token {a = a} t (omega (arith, v .low, v .high)); kept = tt; same = ap (λ (i : ℕ). leaf i t) (sym h) }
+      record { reading = a-token {a = a} t (omega (arith, v .low, v .high)); kept = tt; same = ap (λ (i : ℕ). leaf i t) (sym h) }
   node-leaf L n x y t (group e) v h o = clash _ _ (o .2) (λ z. omega arith)
   node-leaf L n x y t (mark μ e) v h o = clash _ _ o (λ z. omega arith)
   node-leaf L n x y t (pair μ e f) v h o = clash _ _ o (λ z. omega arith)
@@ -90,13 +90,13 @@ module _ {c : Clauses} {N : ℕ} where
   node-leaf L n x y t (repeated C.zero μ e) v h o = ⊎-elim (λ q. clash _ _ q (λ z. omega arith)) (λ q. clash _ _ q (λ z. omega arith)) o
 
   -- one more of a repeat
-  again : (L n : ℕ) (t : Tree) (q : Least) (μ : BinaryMark) (e : Expr item) → L ≡ n → Rest c N q μ e n t → Back c N (repeated q μ e) n (unary L t)
+  again : (L n : ℕ) (t : Tree) (q : AtLeast) (μ : BinaryMark) (e : Expr item) → L ≡ n → Rest c N q μ e n t → Back c N (repeated q μ e) n (unary L t)
   again L n t q μ e h r = record { reading = more (r .before) (r .next); kept = (r .marks, (r .kept₁, r .kept₂)); same = over-path h (r .same) }
 
 module _ {c : Clauses} {N : ℕ} {g : Rules} where
   pub on-item : {t : Tree} → Backs c N g t → (e : Expr item) (n : ℕ) → Placed N g e n → root t ≡ name e n → Back c N e n t
   on-item b (nonterminal L) n p h = b .written L n (p .under) h
-  on-item b (part e) n p h = let r = b .node e n (in-part p) h in record { reading = itself (r .reading); kept = r .kept; same = r .same }
+  on-item b (a-part e) n p h = let r = b .node e n (in-part p) h in record { reading = itself (r .reading); kept = r .kept; same = r .same }
 
   pub pick : {t : Tree} → Backs c N g t → (e : Expr alternatives) (n : ℕ) → Placed N g e n → Among e n (root t) → Back c N e n t
   pick b (only e) n p h = let r = b .node e n (in-only p) h in record { reading = sole (r .reading); kept = r .kept; same = r .same }
@@ -139,7 +139,7 @@ module _ {c : Clauses} {N : ℕ} {g : Rules} where
 module _ {c : Clauses} {N : ℕ} {g : Rules} (x : Expands c N g) where
   -- a rule of a written nonterminal goes over to an alternative of one of its lines
   lined : (L : ℕ) (k : Clause) → L < N → List·Memᴰ (rule L k) g
-      → (p : Place c) × (i : ℕ) × (left p ≡ L) × Among (right p) (start p N) i × (k ≡ Unary i UnaryMark.None)
+      → (p : ClausePlace c) × (i : ℕ) × (left p ≡ L) × Among (right p) (start p N) i × (k ≡ Unary i UnaryMark.None)
   lined L k h m =
       let s = lines {N = N} c N (rule L k) (x .under) (omega arith) h (x .down _ m) in
       let a = choices-among (left (s .0)) (right (s .0)) (start (s .0) N) (rule L k) (s .1) in
@@ -162,11 +162,11 @@ module _ {c : Clauses} {N : ℕ} {g : Rules} (x : Expands c N g) where
       (subst (λ (i : ℕ). Among (right (l .0)) (start (l .0) N) i) (sym (same-below (l .4))) (l .3)) in
       record { reading = clause (l .0) (l .2) (s .reading); kept = s .kept; same = over-path q (s .same) }
 
-  fresh : {P : Type 0} (q : Least) (μ : BinaryMark) (e : Expr item) (n L : ℕ) (k : Clause) → Placed N g (repeated q μ e) n → L ≡ n + 1
+  fresh : {P : Type 0} (q : AtLeast) (μ : BinaryMark) (e : Expr item) (n L : ℕ) (k : Clause) → Placed N g (repeated q μ e) n → L ≡ n + 1
       → List·Memᴰ (rule L k) g → (kind k ≡ 3 → ⊥) → P
   fresh q μ e n L k p h m f = absurd (f (ap kind (own-fresh q μ e n k p (mem-at h m))))
 
-  rest-binary : (L : ℕ) (m : BinaryMark) (t u : Tree) (q : Least) (μ : BinaryMark) (e : Expr item) (n : ℕ) → Placed N g (repeated q μ e) n → L ≡ n + 1
+  rest-binary : (L : ℕ) (m : BinaryMark) (t u : Tree) (q : AtLeast) (μ : BinaryMark) (e : Expr item) (n : ℕ) → Placed N g (repeated q μ e) n → L ≡ n + 1
       → List·Memᴰ (rule L (Binary (root t) (root u) m)) g → Mark.Binary m (word t) (word u) → Backs c N g t → Backs c N g u
       → Rest c N q μ e n (binary L t u)
   rest-binary L m t u q μ e n p h r k b d =

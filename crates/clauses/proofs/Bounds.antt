@@ -9,14 +9,14 @@ use Rattle.grammar.specs.declared.Clause.the-variants.{Empty, Atom, Unary, Bina
 use Rattle.grammar.specs.Trees.{Rules}
 use Rattle.grammar.specs.Choices.{Alike}
 use Rattle.clauses.specs.Clauses as C
-use Rattle.clauses.specs.Clauses.{Sort, alternatives, Expr, nonterminal, part, terminal, group, mark, pair, optional, repeated, only, or, Clauses, line}
-use Rattle.clauses.specs.Readings.{Place, here, later}
+use Rattle.clauses.specs.Clauses.{Sort, alternatives, Expr, nonterminal, a-part, terminal, group, mark, pair, optional, repeated, only, or, Clauses, a-line}
+use Rattle.clauses.specs.Readings.{ClausePlace, here, later}
 use Rattle.clauses.specs.Expansion.{size}
 
 -- every nonterminal written in a part, in a sheet, is below N
 abbrev pub Under : {s : Sort} → ℕ → Expr s → Type 0
 Under N (nonterminal A) = A < N
-Under N (part e) = Under N e
+Under N (a-part e) = Under N e
 Under N (terminal a) = Unit {0}
 Under N (group e) = Under N e
 Under N (mark m e) = Under N e
@@ -28,12 +28,12 @@ Under N (or e f) = Under N e × Under N f
 
 abbrev pub UnderAll : ℕ → Clauses → Type 0
 UnderAll N C.none = Unit {0}
-UnderAll N (line L e c) = (L < N) × (Under N e × UnderAll N c)
+UnderAll N (a-line L e c) = (L < N) × (Under N e × UnderAll N c)
 
 -- every terminal written in a part, in a sheet, is below 64
 abbrev pub Terms : {s : Sort} → Expr s → Type 0
 Terms (nonterminal A) = Unit {0}
-Terms (part e) = Terms e
+Terms (a-part e) = Terms e
 Terms (terminal a) = a < 64
 Terms (group e) = Terms e
 Terms (mark m e) = Terms e
@@ -45,10 +45,10 @@ Terms (or e f) = Terms e × Terms f
 
 abbrev pub TermsAll : Clauses → Type 0
 TermsAll C.none = Unit {0}
-TermsAll (line L e c) = Terms e × TermsAll c
+TermsAll (a-line L e c) = Terms e × TermsAll c
 
 -- the first new nonterminal of the line at a place, where the sheet's first is n
-abbrev pub start : {c : Clauses} → Place c → ℕ → ℕ
+abbrev pub start : {c : Clauses} → ClausePlace c → ℕ → ℕ
 start here n = n
 start (later {e = e} p) n = start p (n + size e)
 

@@ -4,16 +4,16 @@ use mathlib.Core.Bool.{Bool, true, false}
 use mathlib.Core.List.{List, [], _∷_, _++_}
 use Prim.Native.Nat.{ℕ, _+_, _≤_}
 use native.Mathlib.Omega.{arith}
-use Rattle.clauses.specs.Expansion.{max, past}
-use Rattle.clauses.specs.Text.{maybe, repeats, marks, Lex, closing, bar, suffix, join, Part, an-atom, an-item, a-row, one, many, Written, nonterminal-text, terminal-text, group-text, bare-text, optional-text, repeated-text, marked-text, last-text, then-text, single-text, several-text, only-text, or-text, Says}
+use Rattle.clauses.specs.Expansion.{max, pastExpr}
+use Rattle.clauses.specs.Text.{maybe, repeats, marks, Lex, closing, bar, suffix, join, Phrase, an-atom, an-item, a-row, one, many, WrittenAs, nonterminal-text, terminal-text, group-text, bare-text, optional-text, repeated-text, marked-text, last-text, then-text, single-text, several-text, only-text, or-text, IsExpression}
 use Rattle.clauses.specs.Flat.{due, run, pastLex, pastLexes}
 use Rattle.clauses.proofs.Accepts.{accepted, accepts}
 use Rattle.clauses.proofs.Sorted.{max-bounds, max-least}
 
-pub says? : (l : List Lex) → Dec (Says l)
+pub says? : (l : List Lex) → Dec (IsExpression l)
 says? l = go (run l due 0) refl
   where
-    go : (b : Bool) → run l due 0 ≡ b → Dec (Says l)
+    go : (b : Bool) → run l due 0 ≡ b → Dec (IsExpression l)
     go true e = let a = accepted l e in yes (record { expr = a .0; written = a .1 })
     go false e = no (λ s. let z = sym (accepts (s .expr) l (s .written)) ∙ e in let y : _≡_ {A = ℕ} 0 1 = cc in omega arith)
 
@@ -40,12 +40,12 @@ past-append : (l k : List Lex) → pastLexes (l ++ k) ≡ max (pastLexes l) (pas
 past-append [] k = sym (zero-max (pastLexes k))
 past-append (x ∷ l) k = ap (max (pastLex x)) (past-append l k) ∙ max-assoc (pastLex x) (pastLexes l) (pastLexes k)
 
-abbrev pastPart : Part → ℕ
-pastPart (an-atom e) = past e
-pastPart (an-item e) = past e
-pastPart (a-row e) = past e
-pastPart (one e) = past e
-pastPart (many e) = past e
+abbrev pastPart : Phrase → ℕ
+pastPart (an-atom e) = pastExpr e
+pastPart (an-item e) = pastExpr e
+pastPart (a-row e) = pastExpr e
+pastPart (one e) = pastExpr e
+pastPart (many e) = pastExpr e
 
 plain : (l k : List Lex) (a : ℕ) → pastLexes k ≡ 0 → pastLexes l ≡ a → pastLexes (l ++ k) ≡ a
 plain l k a e f = past-append l k ∙ ap (max (pastLexes l)) e ∙ max-zero (pastLexes l) ∙ f
@@ -53,17 +53,17 @@ plain l k a e f = past-append l k ∙ ap (max (pastLexes l)) e ∙ max-zero (pas
 both : (l k : List Lex) (x : Lex) (a b : ℕ) → pastLex x ≡ 0 → pastLexes l ≡ a → pastLexes k ≡ b → pastLexes (l ++ (x ∷ k)) ≡ max a b
 both l k x a b e f g = past-append l (x ∷ k) ∙ (λ i. max (f i) ((ap (λ (y : ℕ). max y (pastLexes k)) e ∙ zero-max (pastLexes k) ∙ g) i))
 
-pub past-written : {p : Part} {l : List Lex} → Written p l → pastLexes l ≡ pastPart p
+pub past-written : {p : Phrase} {l : List Lex} → WrittenAs p l → pastLexes l ≡ pastPart p
 past-written (nonterminal-text {a = a}) = max-zero (a + 1)
 past-written (terminal-text) = refl
-past-written (group-text {e = e} {l = l} w) = zero-max _ ∙ plain l (closing ∷ []) (past e) refl (past-written w)
+past-written (group-text {e = e} {l = l} w) = zero-max _ ∙ plain l (closing ∷ []) (pastExpr e) refl (past-written w)
 past-written (bare-text w) = past-written w
-past-written (optional-text {e = e} {l = l} w) = plain l (suffix maybe ∷ []) (past e) refl (past-written w)
-past-written (repeated-text {q = q} {m = m} {e = e} {l = l} w) = plain l (suffix (repeats q m) ∷ []) (past e) refl (past-written w)
-past-written (marked-text {m = m} {e = e} {l = l} w) = plain l (suffix (marks m) ∷ []) (past e) refl (past-written w)
+past-written (optional-text {e = e} {l = l} w) = plain l (suffix maybe ∷ []) (pastExpr e) refl (past-written w)
+past-written (repeated-text {q = q} {m = m} {e = e} {l = l} w) = plain l (suffix (repeats q m) ∷ []) (pastExpr e) refl (past-written w)
+past-written (marked-text {m = m} {e = e} {l = l} w) = plain l (suffix (marks m) ∷ []) (pastExpr e) refl (past-written w)
 past-written (last-text w) = past-written w
-past-written (then-text {m = m} {e = e} {f = f} {k = k} {l = l} w v) = both k l (join m) (past e) (past f) refl (past-written w) (past-written v)
+past-written (then-text {m = m} {e = e} {f = f} {k = k} {l = l} w v) = both k l (join m) (pastExpr e) (pastExpr f) refl (past-written w) (past-written v)
 past-written (single-text w) = past-written w
-past-written (several-text {m = m} {e = e} {f = f} {k = k} {l = l} w v) = both k l (join m) (past e) (past f) refl (past-written w) (past-written v)
+past-written (several-text {m = m} {e = e} {f = f} {k = k} {l = l} w v) = both k l (join m) (pastExpr e) (pastExpr f) refl (past-written w) (past-written v)
 past-written (only-text w) = past-written w
-past-written (or-text {e = e} {f = f} {k = k} {l = l} w v) = both k l bar (past e) (past f) refl (past-written w) (past-written v)
+past-written (or-text {e = e} {f = f} {k = k} {l = l} w v) = both k l bar (pastExpr e) (pastExpr f) refl (past-written w) (past-written v)

@@ -7,12 +7,12 @@ use Prim.Native.Nat.{ℕ, suc, _+_, _≤_, _<_}
 use native.Mathlib.Omega.{arith}
 use lib.Dec.{T, ltb, ltb→lt, nltb→le, lt→ltb}
 use Rattle.clauses.specs.Expansion.{max}
-use Rattle.clauses.specs.Text.{maybe, repeats, marks, Lex, closing, bar, suffix, join, Part, Written, nonterminal-text, terminal-text, group-text, bare-text, optional-text, repeated-text, marked-text, last-text, then-text, single-text, several-text, only-text, or-text, depth, depthOf}
+use Rattle.clauses.specs.Text.{maybe, repeats, marks, Lex, closing, bar, suffix, join, Phrase, WrittenAs, nonterminal-text, terminal-text, group-text, bare-text, optional-text, repeated-text, marked-text, last-text, then-text, single-text, several-text, only-text, or-text, depth, depthOf}
 use Rattle.clauses.specs.Flat.{both, closes, shallow}
 use Rattle.clauses.proofs.Sorted.{max-bounds, max-least}
 
 -- the search for a closing parenthesis passes over what is written
-pub passed : {p : Part} {l : List Lex} → Written p l → (k : List Lex) (d : ℕ) → closes (l ++ k) d ≡ closes k d
+pub passed : {p : Phrase} {l : List Lex} → WrittenAs p l → (k : List Lex) (d : ℕ) → closes (l ++ k) d ≡ closes k d
 passed (nonterminal-text) k d = refl
 passed (terminal-text) k d = refl
 passed (group-text {l = l} w) k d = ap (λ (y : List Lex). closes y (suc d)) (append-assoc l (closing ∷ []) k) ∙ passed w (closing ∷ k) (suc d)
@@ -31,7 +31,7 @@ passed (only-text w) k d = passed w k d
 passed (or-text {k = x} {l = y} w v) k d = ap (λ (z : List Lex). closes z d) (append-assoc x (bar ∷ y) k) ∙ passed w (bar ∷ (y ++ k)) d ∙ passed v k d
 
 -- after the opening parenthesis of a group comes its text, and after its closing one the rest
-pub after-group : {p : Part} {l : List Lex} → Written p l → (k : List Lex) → closes (l ++ (closing ∷ k)) 0 ≡ k
+pub after-group : {p : Phrase} {l : List Lex} → WrittenAs p l → (k : List Lex) → closes (l ++ (closing ∷ k)) 0 ≡ k
 after-group w k = passed w (closing ∷ k) 0
 
 less : (a b : ℕ) → (a < b) ⊎ (b ≤ a)
@@ -65,7 +65,7 @@ module _ (m : ℕ) where
   glue : (x y k : List Lex) (d : ℕ) (b : Bool) → shallow m (x ++ (y ++ k)) d ≡ b → shallow m ((x ++ y) ++ k) d ≡ b
   glue x y k d b e = ap (λ (z : List Lex). shallow m z d) (append-assoc x y k) ∙ e
 
-  fit-in : {p : Part} {l : List Lex} → Written p l → (k : List Lex) (d : ℕ) → d + depthOf p ≤ m → shallow m (l ++ k) d ≡ shallow m k d
+  fit-in : {p : Phrase} {l : List Lex} → WrittenAs p l → (k : List Lex) (d : ℕ) → d + depthOf p ≤ m → shallow m (l ++ k) d ≡ shallow m k d
   fit-in (nonterminal-text) k d h = refl
   fit-in (terminal-text) k d h = refl
   fit-in (group-text {l = l} w) k d h =
@@ -93,7 +93,7 @@ module _ (m : ℕ) where
           ⊎-elim (λ q. let z = max-least a b b (omega arith) (omega arith) in omega arith)
           (λ q. let z = max-least a b a (omega arith) (omega arith) in omega arith) (less a b)
 
-  fit-out : {p : Part} {l : List Lex} → Written p l → (k : List Lex) (d : ℕ) → d ≤ m → m < d + depthOf p → shallow m (l ++ k) d ≡ false
+  fit-out : {p : Phrase} {l : List Lex} → WrittenAs p l → (k : List Lex) (d : ℕ) → d ≤ m → m < d + depthOf p → shallow m (l ++ k) d ≡ false
   fit-out (nonterminal-text) k d g h = absurd (omega arith)
   fit-out (terminal-text) k d g h = absurd (omega arith)
   fit-out (group-text {l = l} w) k d g h =
@@ -116,8 +116,8 @@ module _ (m : ℕ) where
       glue x (bar ∷ y) k d false
       (⊎-elim (λ q. fit-out w (bar ∷ (y ++ k)) d g q) (λ q. fit-in w (bar ∷ (y ++ k)) d (q .0) ∙ fit-out v k d g (q .1)) (either (depth e) (depth f) d h))
 
-  pub shallow-in : {p : Part} {l : List Lex} → Written p l → depthOf p ≤ m → shallow m l 0 ≡ true
+  pub shallow-in : {p : Phrase} {l : List Lex} → WrittenAs p l → depthOf p ≤ m → shallow m l 0 ≡ true
   shallow-in {p} {l} w h = ap (λ (z : List Lex). shallow m z 0) (sym (append-nil l)) ∙ fit-in w [] 0 (omega arith)
 
-  pub shallow-out : {p : Part} {l : List Lex} → Written p l → m < depthOf p → shallow m l 0 ≡ false
+  pub shallow-out : {p : Phrase} {l : List Lex} → WrittenAs p l → m < depthOf p → shallow m l 0 ≡ false
   shallow-out {p} {l} w h = ap (λ (z : List Lex). shallow m z 0) (sym (append-nil l)) ∙ fit-out w [] 0 (omega arith) (omega arith)

@@ -13,17 +13,17 @@ use Rattle.grammar.specs.Layout.{Word}
 use Rattle.grammar.specs.Layout as Mark
 use Rattle.grammar.specs.Trees.{Rules, Covers, Tree, empty, leaf, unary, binary, root, word, HasUnary, HasBinary, Valid, valid-empty, valid-leaf, valid-unary, valid-binary}
 use Rattle.clauses.specs.Clauses.{Sort, item, made, alternatives, Expr, terminal, Clauses}
-use Rattle.clauses.specs.Readings.{Place, left, right, Reading, clause, itself, token, within, marked, both, present, absent, nothing, first, more, sole, this, other, spells, Keeps}
-use Rattle.clauses.specs.Expansion.{A, U, B, size, name, choices, rules, expandFrom}
+use Rattle.clauses.specs.Readings.{ClausePlace, left, right, ClauseReading, clause, itself, a-token, within, marked, both, present, absent, nothing, first, more, sole, this, other, spells, MarksKept}
+use Rattle.clauses.specs.Expansion.{A, U, B, size, name, alternativeRules, exprRules, expandFrom}
 use Rattle.clauses.proofs.Bounds.{UnderAll, start, Among}
 use Rattle.clauses.proofs.Placed.{Placed, in-part, in-only, in-group, in-mark, in-optional, in-repeated, in-first, in-second, in-this, in-other}
 use Rattle.clauses.proofs.Lines.{placed, chosen, among-choices}
 
 -- the tree of a reading of a part whose new nonterminals begin with n; N is the sheet's first
-abbrev pub tree : {c : Clauses} {s : Sort} {e : Expr s} (N n : ℕ) → Reading c s e → Tree
+abbrev pub tree : {c : Clauses} {s : Sort} {e : Expr s} (N n : ℕ) → ClauseReading c s e → Tree
 tree N n (clause {A = L} p h r) = unary L (tree N (start p N) r)
 tree N n (itself r) = tree N n r
-tree N n (token t h) = leaf n t
+tree N n (a-token t h) = leaf n t
 tree N n (within r) = unary n (tree N (n + 1) r)
 tree N n (marked r) = unary n (tree N (n + 1) r)
 tree N n (both {e = e} r s) = binary n (tree N (n + 1) r) (tree N (n + 1 + size e) s)
@@ -36,10 +36,10 @@ tree N n (sole r) = tree N n r
 tree N n (this r) = tree N n r
 tree N n (other {e = e} r) = tree N (n + size e) r
 
-pub tree-word : {c : Clauses} {s : Sort} {e : Expr s} (N n : ℕ) (r : Reading c s e) → word (tree N n r) ≡ spells r
+pub tree-word : {c : Clauses} {s : Sort} {e : Expr s} (N n : ℕ) (r : ClauseReading c s e) → word (tree N n r) ≡ spells r
 tree-word N n (clause p h r) = tree-word N (start p N) r
 tree-word N n (itself r) = tree-word N n r
-tree-word N n (token t h) = refl
+tree-word N n (a-token t h) = refl
 tree-word N n (within r) = tree-word N (n + 1) r
 tree-word N n (marked r) = tree-word N (n + 1) r
 tree-word N n (both {e = e} r s) = let p = tree-word N (n + 1) r in let q = tree-word N (n + 1 + size e) s in λ i. p i ++ q i
@@ -52,8 +52,8 @@ tree-word N n (sole r) = tree-word N n r
 tree-word N n (this r) = tree-word N n r
 tree-word N n (other {e = e} r) = tree-word N (n + size e) r
 
-pub root-made : {c : Clauses} {e : Expr made} (N n : ℕ) (r : Reading c made e) → root (tree N n r) ≡ n
-root-made N n (token t h) = refl
+pub root-made : {c : Clauses} {e : Expr made} (N n : ℕ) (r : ClauseReading c made e) → root (tree N n r) ≡ n
+root-made N n (a-token t h) = refl
 root-made N n (within r) = refl
 root-made N n (marked r) = refl
 root-made N n (both r s) = refl
@@ -63,11 +63,11 @@ root-made N n nothing = refl
 root-made N n (first r) = refl
 root-made N n (more r s) = refl
 
-pub root-item : {c : Clauses} {e : Expr item} (N n : ℕ) (r : Reading c item e) → root (tree N n r) ≡ name e n
+pub root-item : {c : Clauses} {e : Expr item} (N n : ℕ) (r : ClauseReading c item e) → root (tree N n r) ≡ name e n
 root-item N n (clause p h r) = refl
 root-item N n (itself r) = root-made N n r
 
-pub root-among : {c : Clauses} {e : Expr alternatives} (N n : ℕ) (r : Reading c alternatives e) → Among e n (root (tree N n r))
+pub root-among : {c : Clauses} {e : Expr alternatives} (N n : ℕ) (r : ClauseReading c alternatives e) → Among e n (root (tree N n r))
 root-among N n (sole r) = root-made N n r
 root-among N n (this r) = inl (root-made N n r)
 root-among N n (other {e = e} r) = inr (root-among N (n + size e) r)
@@ -97,7 +97,7 @@ pub record Expands (c : Clauses) (N : ℕ) (g : Rules) : Type 0 where
   pub under : UnderAll N c
 
 module _ {c : Clauses} {N : ℕ} {g : Rules} (x : Expands c N g) where
-  pub at : (p : Place c) → Placed N g (right p) (start p N)
+  pub at : (p : ClausePlace c) → Placed N g (right p) (start p N)
   at p = placed p N (x .under) (omega arith) (x .up) (λ r m h l. x .down r m)
 
   has-unary : {A B C : ℕ} {m : UnaryMark} → B ≡ C → List·Memᴰ (U A C m) g → HasUnary g A B m
@@ -106,17 +106,17 @@ module _ {c : Clauses} {N : ℕ} {g : Rules} (x : Expands c N g) where
   has-binary : {K L P Q R : ℕ} {m : BinaryMark} → L ≡ P → Q ≡ R → List·Memᴰ (B K P R m) g → HasBinary g K L Q m
   has-binary e f h = rw (e, f) h
 
-  pub valid : {s : Sort} {e : Expr s} (n : ℕ) (r : Reading c s e) → Placed N g e n → Keeps r → Valid g (tree N n r)
+  pub valid : {s : Sort} {e : Expr s} (n : ℕ) (r : ClauseReading c s e) → Placed N g e n → MarksKept r → Valid g (tree N n r)
   valid n (clause {A = L} p h r) i k =
-      let q : List·Memᴰ (U L (root (tree N (start p N) r)) UnaryMark.None) (choices (left p) (right p) (start p N)) = rw h
+      let q : List·Memᴰ (U L (root (tree N (start p N) r)) UnaryMark.None) (alternativeRules (left p) (right p) (start p N)) = rw h
       (among-choices L (right p) (start p N) _ (root-among N (start p N) r)) in
       over (x .up _ (chosen p N q)) (valid (start p N) r (at p) k)
   valid n (itself r) i k = valid n r (in-part i) k
-  valid n (token {a = a} t h) i k =
+  valid n (a-token {a = a} t h) i k =
       let covers : Covers a a (t .terminal) = record { low = omega arith; high = omega arith } in
       valid-leaf (record { low = a; high = a; rule = i .up (List·Memᴰ·head refl); covers = covers })
   valid n (within {e = e} r) i k =
-      over (i .up (Memᴰ·append-left (rules e (n + 1)) (among-choices n e (n + 1) _ (root-among N (n + 1) r)))) (valid (n + 1) r (in-group i) k)
+      over (i .up (Memᴰ·append-left (exprRules e (n + 1)) (among-choices n e (n + 1) _ (root-among N (n + 1) r)))) (valid (n + 1) r (in-group i) k)
   valid n (marked {m = m} r) i k =
       valid-unary m (has-unary (root-item N (n + 1) r) (i .up (List·Memᴰ·head refl))) (keeps-one m (tree-word N (n + 1) r) (k .0))
       (valid (n + 1) r (in-mark i) (k .1))

@@ -6,8 +6,8 @@ use Prim.Native.Nat.{ℕ}
 use native.Mathlib.Omega.{arith}
 use Rattle.grammar.specs.declared.UnaryMark.the-variants as UnaryMark
 use Rattle.grammar.specs.declared.BinaryMark.{BinaryMark}
-use Rattle.clauses.specs.Clauses.{item, made, alternatives, Expr, nonterminal, part, terminal, group, mark, pair, optional, repeated, only, or}
-use Rattle.clauses.specs.Text.{Suffix, maybe, repeats, marks, Lex, n, t, opening, closing, bar, suffix, join, Part, an-atom, an-item, a-row, one, many, Written, nonterminal-text, terminal-text, group-text, bare-text, optional-text, repeated-text, marked-text, last-text, then-text, single-text, several-text, only-text, or-text}
+use Rattle.clauses.specs.Clauses.{item, made, alternatives, Expr, nonterminal, a-part, terminal, group, mark, pair, optional, repeated, only, or}
+use Rattle.clauses.specs.Text.{Suffix, maybe, repeats, marks, Lex, n, t, opening, closing, bar, suffix, join, Phrase, an-atom, an-item, a-row, one, many, WrittenAs, nonterminal-text, terminal-text, group-text, bare-text, optional-text, repeated-text, marked-text, last-text, then-text, single-text, several-text, only-text, or-text}
 
 -- what may not come next
 pub record NoSuffix (x : List Lex) : Type 0 where
@@ -43,21 +43,21 @@ nothing-next =
     record { row = record { suffixes = record { bars = λ q l e. let z : _≡_ {A = ℕ} 0 1 = cc in omega arith }; joins = record { bars = λ q l e. let z : _≡_ {A = ℕ} 0 1 = cc in omega arith } }; more = record { bars = λ l e. let z : _≡_ {A = ℕ} 0 1 = cc in omega arith } }
 
 abbrev DetAtom : Expr item → List Lex → Type 0
-DetAtom e l = (f : Expr item) (m x y : List Lex) → Written (an-atom f) m → l ++ x ≡ m ++ y → (e ≡ f) × (x ≡ y)
+DetAtom e l = (f : Expr item) (m x y : List Lex) → WrittenAs (an-atom f) m → l ++ x ≡ m ++ y → (e ≡ f) × (x ≡ y)
 
 abbrev DetItem : Expr item → List Lex → Type 0
-DetItem e l = (f : Expr item) (m x y : List Lex) → Written (an-item f) m → NoSuffix x → NoSuffix y → l ++ x ≡ m ++ y → (e ≡ f) × (x ≡ y)
+DetItem e l = (f : Expr item) (m x y : List Lex) → WrittenAs (an-item f) m → NoSuffix x → NoSuffix y → l ++ x ≡ m ++ y → (e ≡ f) × (x ≡ y)
 
 abbrev DetRow : Expr item → List Lex → Type 0
-DetRow e l = (f : Expr item) (m x y : List Lex) → Written (a-row f) m → RowStop x → RowStop y → l ++ x ≡ m ++ y → (e ≡ f) × (x ≡ y)
+DetRow e l = (f : Expr item) (m x y : List Lex) → WrittenAs (a-row f) m → RowStop x → RowStop y → l ++ x ≡ m ++ y → (e ≡ f) × (x ≡ y)
 
 abbrev DetOne : Expr made → List Lex → Type 0
-DetOne e l = (f : Expr made) (m x y : List Lex) → Written (one f) m → RowStop x → RowStop y → l ++ x ≡ m ++ y → (e ≡ f) × (x ≡ y)
+DetOne e l = (f : Expr made) (m x y : List Lex) → WrittenAs (one f) m → RowStop x → RowStop y → l ++ x ≡ m ++ y → (e ≡ f) × (x ≡ y)
 
 abbrev DetMany : Expr alternatives → List Lex → Type 0
-DetMany e l = (f : Expr alternatives) (m x y : List Lex) → Written (many f) m → Stop x → Stop y → l ++ x ≡ m ++ y → (e ≡ f) × (x ≡ y)
+DetMany e l = (f : Expr alternatives) (m x y : List Lex) → WrittenAs (many f) m → Stop x → Stop y → l ++ x ≡ m ++ y → (e ≡ f) × (x ≡ y)
 
-abbrev Det : Part → List Lex → Type 0
+abbrev Det : Phrase → List Lex → Type 0
 Det (an-atom e) l = DetAtom e l
 Det (an-item e) l = DetItem e l
 Det (a-row e) l = DetRow e l
@@ -97,34 +97,34 @@ det-n a f m x y (nonterminal-text) e = (ap nonterminal (number-n e), tails e)
 det-n a f m x y (terminal-text) e = differ e (λ z. omega arith)
 det-n a f m x y (group-text w) e = differ e (λ z. omega arith)
 
-det-t : (a : ℕ) → DetAtom (part (terminal a)) (t a ∷ [])
+det-t : (a : ℕ) → DetAtom (a-part (terminal a)) (t a ∷ [])
 det-t a f m x y (nonterminal-text) e = differ e (λ z. omega arith)
-det-t a f m x y (terminal-text) e = (ap (λ (b : ℕ). part (terminal b)) (number-t e), tails e)
+det-t a f m x y (terminal-text) e = (ap (λ (b : ℕ). a-part (terminal b)) (number-t e), tails e)
 det-t a f m x y (group-text w) e = differ e (λ z. omega arith)
 
-det-group : (e : Expr alternatives) (l : List Lex) → DetMany e l → DetAtom (part (group e)) (opening ∷ (l ++ (closing ∷ [])))
+det-group : (e : Expr alternatives) (l : List Lex) → DetMany e l → DetAtom (a-part (group e)) (opening ∷ (l ++ (closing ∷ [])))
 det-group e l d f m x y (nonterminal-text) q = differ q (λ z. omega arith)
 det-group e l d f m x y (terminal-text) q = differ q (λ z. omega arith)
 det-group e l d f m x y (group-text {e = g} {l = k} w) q =
     let r = d g k (closing ∷ x) (closing ∷ y) w (closing-next x) (closing-next y)
     (sym (append-assoc l (closing ∷ []) x) ∙ tails q ∙ append-assoc k (closing ∷ []) y) in
-    (ap (λ (h : Expr alternatives). part (group h)) (r .0), tails (r .1))
+    (ap (λ (h : Expr alternatives). a-part (group h)) (r .0), tails (r .1))
 
 abbrev pub suffixed : Expr item → Suffix → Expr item
-suffixed a maybe = part (optional a)
-suffixed a (repeats q m) = part (repeated q m a)
-suffixed a (marks m) = part (mark m a)
+suffixed a maybe = a-part (optional a)
+suffixed a (repeats q m) = a-part (repeated q m a)
+suffixed a (marks m) = a-part (mark m a)
 
 -- an item is an atom, bare or with a suffix
 abbrev pub ItemView : Expr item → List Lex → Type 0
 ItemView f m =
-    (a : Expr item) × (k : List Lex) × Written (an-atom a) k × (((f ≡ a) × (m ≡ k)) ⊎ ((q : Suffix) × (f ≡ suffixed a q) × (m ≡ k ++ (suffix q ∷ []))))
+    (a : Expr item) × (k : List Lex) × WrittenAs (an-atom a) k × (((f ≡ a) × (m ≡ k)) ⊎ ((q : Suffix) × (f ≡ suffixed a q) × (m ≡ k ++ (suffix q ∷ []))))
 
-pub item-view : {f : Expr item} {m : List Lex} → Written (an-item f) m → ItemView f m
+pub item-view : {f : Expr item} {m : List Lex} → WrittenAs (an-item f) m → ItemView f m
 item-view (bare-text {e = a} {l = k} w) = (a, k, w, inl (refl, refl))
 item-view (optional-text {e = a} {l = k} w) = (a, k, w, inr (maybe, refl, refl))
 item-view (repeated-text {q = q} {m = b} {e = a} {l = k} w) = (a, k, w, inr (repeats q b, refl, refl))
-item-view (marked-text {m = b} {e = a} {l = k} w) = (part (group a), k, w, inr (marks b, refl, refl))
+item-view (marked-text {m = b} {e = a} {l = k} w) = (a-part (group a), k, w, inr (marks b, refl, refl))
 
 det-bare : (e : Expr item) (l : List Lex) → DetAtom e l → DetItem e l
 det-bare e l d f m x y w p q r = go (item-view w)
@@ -153,7 +153,7 @@ det-last e l d f m x y (last-text w) p q r = d f m x y w (p .suffixes) (q .suffi
 det-last e l d f m x y (then-text {m = b} {e = g} {f = h} {k = k} {l = j} w v) p q r =
     let z = d g k x (join b ∷ (j ++ y)) w (p .suffixes) (join-next b (j ++ y)) (r ∙ append-assoc k (join b ∷ j) y) in absurd (p .joins .bars b (j ++ y) (z .1))
 
-det-then : (b : BinaryMark) (e f : Expr item) (k l : List Lex) → DetItem e k → DetRow f l → DetRow (part (pair b e f)) (k ++ (join b ∷ l))
+det-then : (b : BinaryMark) (e f : Expr item) (k l : List Lex) → DetItem e k → DetRow f l → DetRow (a-part (pair b e f)) (k ++ (join b ∷ l))
 det-then b e f k l d c g m x y (last-text w) p q r =
     let z = d g m (join b ∷ (l ++ x)) y w (join-next b (l ++ x)) (q .suffixes) (sym (append-assoc k (join b ∷ l) x) ∙ r) in
     absurd (q .joins .bars b (l ++ x) (sym (z .1)))
@@ -162,7 +162,7 @@ det-then b e f k l d c g m x y (then-text {m = b′} {e = e′} {f = f′} {k = 
     (sym (append-assoc k (join b ∷ l) x) ∙ r ∙ append-assoc k′ (join b′ ∷ l′) y) in
     let s = c f′ l′ x y v p q (tails (z .1)) in
     let j = number-j (z .1) in
-    ((λ i. part (pair (j i) (z .0 i) (s .0 i))), s .1)
+    ((λ i. a-part (pair (j i) (z .0 i) (s .0 i))), s .1)
 
 det-single : (e : Expr item) (l : List Lex) → DetItem e l → DetOne (mark UnaryMark.None e) l
 det-single e l d f m x y (single-text {e = g} w) p q r =
@@ -196,14 +196,14 @@ det-or e f k l d c g m x y (or-text {e = e′} {f = f′} {k = k′} {l = l′} 
     let s = c f′ l′ x y v p q (tails (z .1)) in
     ((λ i. or (z .0 i) (s .0 i)), s .1)
 
-det : {p : Part} {l : List Lex} → Written p l → Det p l
+det : {p : Phrase} {l : List Lex} → WrittenAs p l → Det p l
 det (nonterminal-text {a = a}) = det-n a
 det (terminal-text {a = a}) = det-t a
 det (group-text {e = e} {l = l} w) = det-group e l (det w)
 det (bare-text {e = e} {l = l} w) = det-bare e l (det w)
 det (optional-text {e = e} {l = l} w) = det-suffix e l maybe (det w)
 det (repeated-text {q = q} {m = m} {e = e} {l = l} w) = det-suffix e l (repeats q m) (det w)
-det (marked-text {m = m} {e = e} {l = l} w) = det-suffix (part (group e)) l (marks m) (det w)
+det (marked-text {m = m} {e = e} {l = l} w) = det-suffix (a-part (group e)) l (marks m) (det w)
 det (last-text {e = e} {l = l} w) = det-last e l (det w)
 det (then-text {m = m} {e = e} {f = f} {k = k} {l = l} w v) = det-then m e f k l (det w) (det v)
 det (single-text {e = e} {l = l} w) = det-single e l (det w)
@@ -212,5 +212,5 @@ det (only-text {e = e} {l = l} w) = det-only e l (det w)
 det (or-text {e = e} {f = f} {k = k} {l = l} w v) = det-or e f k l (det w) (det v)
 
 -- one line, one expression
-pub legible : (e f : Expr alternatives) (l : List Lex) → Written (many e) l → Written (many f) l → e ≡ f
+pub legible : (e f : Expr alternatives) (l : List Lex) → WrittenAs (many e) l → WrittenAs (many f) l → e ≡ f
 legible e f l w v = det w f l [] [] v nothing-next nothing-next refl .0

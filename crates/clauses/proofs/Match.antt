@@ -6,7 +6,7 @@ use native.Mathlib.Omega.{arith}
 use Rattle.grammar.specs.Layout.{Word}
 use Rattle.grammar.specs.Trees.{Rules, Tree, word, Witness}
 use Rattle.clauses.specs.Clauses.{item, nonterminal, Clauses}
-use Rattle.clauses.specs.Readings.{Reading, Reads}
+use Rattle.clauses.specs.Readings.{ClauseReading, Reads}
 use Rattle.clauses.specs.Expansion.{pastAll, expansion}
 use Rattle.clauses.specs.Matching.{OneToOne}
 use Rattle.clauses.proofs.Placed.{Placed}
@@ -19,7 +19,7 @@ module _ {c : Clauses} {N : ℕ} {g : Rules} (x : Expands c N g) (L : ℕ) (h : 
   here-placed : Placed N g (nonterminal L) N
   here-placed = record { up = λ m. absurd (List·Memᴰ·not-nil m); down = λ m k l. absurd (omega arith); under = h; above = omega arith }
 
-  complete : (w : Word) (t : Tree) → Witness g L w t → (r : Reading c item (nonterminal L)) × Reads c L w r × (tree N N r ≡ t)
+  complete : (w : Word) (t : Tree) → Witness g L w t → (r : ClauseReading c item (nonterminal L)) × Reads c L w r × (tree N N r ≡ t)
   complete w t v =
       let b = back x (v .valid) .written L N h (v .rooted) in
       (b .reading, record { spelled = sym (tree-word N N (b .reading)) ∙ ap word (b .same) ∙ v .spelled; kept = b .kept }, b .same)

@@ -7,8 +7,8 @@ use native.Mathlib.Omega.{arith}
 use Rattle.grammar.specs.declared.Rule.{Rule}
 use Rattle.grammar.specs.Trees.{Rules}
 use Rattle.clauses.specs.Clauses as C
-use Rattle.clauses.specs.Clauses.{Sort, alternatives, Least, one, Expr, nonterminal, part, terminal, group, mark, pair, optional, repeated, only, or}
-use Rattle.clauses.specs.Expansion.{A, B, size, name, choices, begins, rules}
+use Rattle.clauses.specs.Clauses.{Sort, alternatives, AtLeast, one, Expr, nonterminal, a-part, terminal, group, mark, pair, optional, repeated, only, or}
+use Rattle.clauses.specs.Expansion.{A, B, size, name, alternativeRules, repeatBegins, exprRules}
 
 -- r's left is one of k numbers from n on
 pub record Owned (n k : ℕ) (r : Rule) : Type 0 where
@@ -16,7 +16,7 @@ pub record Owned (n k : ℕ) (r : Rule) : Type 0 where
   pub below : r .left < n + k
 
 -- all lefts are L
-pub choices-left : (L : ℕ) (e : Expr alternatives) (n : ℕ) (r : Rule) → List·Memᴰ r (choices L e n) → r .left ≡ L
+pub choices-left : (L : ℕ) (e : Expr alternatives) (n : ℕ) (r : Rule) → List·Memᴰ r (alternativeRules L e n) → r .left ≡ L
 choices-left L (only e) n r m = ⊎-elim (λ q. ap (λ (x : Rule). x .left) q) (λ k. absurd (List·Memᴰ·not-nil k)) (List·Memᴰ·cases-cons m)
 choices-left L (or e f) n r m = ⊎-elim (λ q. ap (λ (x : Rule). x .left) q) (λ k. choices-left L f (n + size e) r k) (List·Memᴰ·cases-cons m)
 
@@ -28,21 +28,21 @@ at-head {n} {k} {r} {h} p q f m =
 pub wider : {n k n′ k′ : ℕ} {r : Rule} → n′ ≤ n → n + k ≤ n′ + k′ → Owned n k r → Owned n′ k′ r
 wider p q o = record { from = omega arith; below = omega arith }
 
-pub begins-left : (q : Least) (n B : ℕ) → begins q n B .left ≡ n
+pub begins-left : (q : AtLeast) (n B : ℕ) → repeatBegins q n B .left ≡ n
 begins-left one n B = refl
 begins-left C.zero n B = refl
 
-pub owned : {s : Sort} (e : Expr s) (n : ℕ) (r : Rule) → List·Memᴰ r (rules e n) → Owned n (size e) r
+pub owned : {s : Sort} (e : Expr s) (n : ℕ) (r : Rule) → List·Memᴰ r (exprRules e n) → Owned n (size e) r
 owned (nonterminal A) n r m = absurd (List·Memᴰ·not-nil m)
-owned (part e) n r m = owned e n r m
+owned (a-part e) n r m = owned e n r m
 owned (terminal a) n r m = at-head (omega arith) (omega arith) (λ k. absurd (List·Memᴰ·not-nil k)) m
 owned (group e) n r m =
     ⊎-elim (λ k. let z = choices-left n e (n + 1) r k in record { from = omega arith; below = omega arith })
-    (λ k. wider (omega arith) (omega arith) (owned e (n + 1) r k)) (List·Memᴰ·append-cases (choices n e (n + 1)) m)
+    (λ k. wider (omega arith) (omega arith) (owned e (n + 1) r k)) (List·Memᴰ·append-cases (alternativeRules n e (n + 1)) m)
 owned (mark μ e) n r m = at-head (omega arith) (omega arith) (λ k. wider (omega arith) (omega arith) (owned e (n + 1) r k)) m
 owned (pair μ e f) n r m =
     at-head (omega arith) (omega arith)
-    (λ k. ⊎-elim (λ l. wider (omega arith) (omega arith) (owned e (n + 1) r l)) (λ l. wider (omega arith) (omega arith) (owned f (n + 1 + size e) r l)) (List·Memᴰ·append-cases (rules e (n + 1)) k)) m
+    (λ k. ⊎-elim (λ l. wider (omega arith) (omega arith) (owned e (n + 1) r l)) (λ l. wider (omega arith) (omega arith) (owned f (n + 1 + size e) r l)) (List·Memᴰ·append-cases (exprRules e (n + 1)) k)) m
 owned (optional e) n r m =
     at-head (omega arith) (omega arith) (λ k. at-head (omega arith) (omega arith) (λ l. wider (omega arith) (omega arith) (owned e (n + 1) r l)) k) m
 owned (repeated q μ e) n r m =
@@ -52,4 +52,4 @@ owned (repeated q μ e) n r m =
 owned (only e) n r m = owned e n r m
 owned (or e f) n r m =
     ⊎-elim (λ k. wider (omega arith) (omega arith) (owned e n r k)) (λ k. wider (omega arith) (omega arith) (owned f (n + size e) r k))
-    (List·Memᴰ·append-cases (rules e n) m)
+    (List·Memᴰ·append-cases (exprRules e n) m)

@@ -8,15 +8,15 @@ use Rattle.grammar.specs.declared.Rule.{Rule}
 use Rattle.grammar.specs.declared.UnaryMark.{UnaryMark}
 use Rattle.grammar.specs.declared.BinaryMark.{BinaryMark}
 use Rattle.grammar.specs.Trees.{Rules}
-use Rattle.clauses.specs.Clauses.{Sort, item, made, alternatives, Least, Expr, part, group, mark, pair, optional, repeated, only, or}
+use Rattle.clauses.specs.Clauses.{Sort, item, made, alternatives, AtLeast, Expr, a-part, group, mark, pair, optional, repeated, only, or}
 use Rattle.clauses.specs.Readings.{left}
-use Rattle.clauses.specs.Expansion.{size, name, choices, rules}
+use Rattle.clauses.specs.Expansion.{size, name, alternativeRules, exprRules}
 use Rattle.clauses.proofs.Bounds.{Under}
 use Rattle.clauses.proofs.Numbers.{owned, choices-left, begins-left}
 
 pub record Placed (N : ℕ) (g : Rules) {s : Sort} (e : Expr s) (n : ℕ) : Type 0 where
-  pub up : {r : Rule} → List·Memᴰ r (rules e n) → List·Memᴰ r g
-  pub down : {r : Rule} → List·Memᴰ r g → n ≤ r .left → r .left < n + size e → List·Memᴰ r (rules e n)
+  pub up : {r : Rule} → List·Memᴰ r (exprRules e n) → List·Memᴰ r g
+  pub down : {r : Rule} → List·Memᴰ r g → n ≤ r .left → r .left < n + size e → List·Memᴰ r (exprRules e n)
   pub under : Under N e
   pub above : N ≤ n
 
@@ -25,22 +25,22 @@ pub skip : {r h : Rule} {g : Rules} → (r .left ≡ h .left → ⊥) → List·
 skip f m = ⊎-elim (λ e. absurd (f (ap (λ (x : Rule). x .left) e))) (λ k. k) (List·Memᴰ·cases-cons m)
 
 module _ {N : ℕ} {g : Rules} where
-  pub in-part : {e : Expr made} {n : ℕ} → Placed N g (part e) n → Placed N g e n
+  pub in-part : {e : Expr made} {n : ℕ} → Placed N g (a-part e) n → Placed N g e n
   in-part p = record { up = p .up; down = p .down; under = p .under; above = p .above }
 
   pub in-only : {e : Expr made} {n : ℕ} → Placed N g (only e) n → Placed N g e n
   in-only p = record { up = p .up; down = p .down; under = p .under; above = p .above }
 
-  pub to-part : {e : Expr made} {n : ℕ} → Placed N g e n → Placed N g (part e) n
+  pub to-part : {e : Expr made} {n : ℕ} → Placed N g e n → Placed N g (a-part e) n
   to-part p = record { up = p .up; down = p .down; under = p .under; above = p .above }
 
   pub in-group : {e : Expr alternatives} {n : ℕ} → Placed N g (group e) n → Placed N g e (n + 1)
   in-group {e} {n} p =
       record {
-        up = λ m. p .up (Memᴰ·append-right (choices n e (n + 1)) m);
+        up = λ m. p .up (Memᴰ·append-right (alternativeRules n e (n + 1)) m);
         down =
             λ {r} m h l. ⊎-elim (λ k. let z = choices-left n e (n + 1) r k in absurd (omega arith)) (λ k. k)
-            (List·Memᴰ·append-cases (choices n e (n + 1)) (p .down m (omega arith) (omega arith)));
+            (List·Memᴰ·append-cases (alternativeRules n e (n + 1)) (p .down m (omega arith) (omega arith)));
         under = p .under;
         above = let z = p .above in omega arith;
       }
@@ -63,7 +63,7 @@ module _ {N : ℕ} {g : Rules} where
         above = let z = p .above in omega arith;
       }
 
-  pub in-repeated : {q : Least} {μ : BinaryMark} {e : Expr item} {n : ℕ} → Placed N g (repeated q μ e) n → Placed N g e (n + 2)
+  pub in-repeated : {q : AtLeast} {μ : BinaryMark} {e : Expr item} {n : ℕ} → Placed N g (repeated q μ e) n → Placed N g e (n + 2)
   in-repeated {q} {e = e} {n} p =
       record {
         up = λ m. p .up (List·Memᴰ·tail (List·Memᴰ·tail (List·Memᴰ·tail m)));
@@ -77,9 +77,9 @@ module _ {N : ℕ} {g : Rules} where
   pub in-first : {μ : BinaryMark} {e f : Expr item} {n : ℕ} → Placed N g (pair μ e f) n → Placed N g e (n + 1)
   in-first {e} {f} {n} p =
       record {
-        up = λ m. p .up (List·Memᴰ·tail (Memᴰ·append-left (rules f (n + 1 + size e)) m));
+        up = λ m. p .up (List·Memᴰ·tail (Memᴰ·append-left (exprRules f (n + 1 + size e)) m));
         down = λ {r} m h l. ⊎-elim (λ k. k) (λ k. let o = owned f (n + 1 + size e) r k in absurd (omega arith))
-            (List·Memᴰ·append-cases (rules e (n + 1)) (skip (λ z. omega arith) (p .down m (omega arith) (omega arith))));
+            (List·Memᴰ·append-cases (exprRules e (n + 1)) (skip (λ z. omega arith) (p .down m (omega arith) (omega arith))));
         under = p .under .0;
         above = let z = p .above in omega arith;
       }
@@ -87,9 +87,9 @@ module _ {N : ℕ} {g : Rules} where
   pub in-second : {μ : BinaryMark} {e f : Expr item} {n : ℕ} → Placed N g (pair μ e f) n → Placed N g f (n + 1 + size e)
   in-second {e} {f} {n} p =
       record {
-        up = λ m. p .up (List·Memᴰ·tail (Memᴰ·append-right (rules e (n + 1)) m));
+        up = λ m. p .up (List·Memᴰ·tail (Memᴰ·append-right (exprRules e (n + 1)) m));
         down = λ {r} m h l. ⊎-elim (λ k. let o = owned e (n + 1) r k in absurd (omega arith)) (λ k. k)
-            (List·Memᴰ·append-cases (rules e (n + 1)) (skip (λ z. omega arith) (p .down m (omega arith) (omega arith))));
+            (List·Memᴰ·append-cases (exprRules e (n + 1)) (skip (λ z. omega arith) (p .down m (omega arith) (omega arith))));
         under = p .under .1;
         above = let z = p .above in omega arith;
       }
@@ -97,10 +97,10 @@ module _ {N : ℕ} {g : Rules} where
   pub in-this : {e : Expr made} {f : Expr alternatives} {n : ℕ} → Placed N g (or e f) n → Placed N g e n
   in-this {e} {f} {n} p =
       record {
-        up = λ m. p .up (Memᴰ·append-left (rules f (n + size e)) m);
+        up = λ m. p .up (Memᴰ·append-left (exprRules f (n + size e)) m);
         down =
             λ {r} m h l. ⊎-elim (λ k. k) (λ k. let o = owned f (n + size e) r k in absurd (omega arith))
-            (List·Memᴰ·append-cases (rules e n) (p .down m (omega arith) (omega arith)));
+            (List·Memᴰ·append-cases (exprRules e n) (p .down m (omega arith) (omega arith)));
         under = p .under .0;
         above = p .above;
       }
@@ -108,10 +108,10 @@ module _ {N : ℕ} {g : Rules} where
   pub in-other : {e : Expr made} {f : Expr alternatives} {n : ℕ} → Placed N g (or e f) n → Placed N g f (n + size e)
   in-other {e} {f} {n} p =
       record {
-        up = λ m. p .up (Memᴰ·append-right (rules e n) m);
+        up = λ m. p .up (Memᴰ·append-right (exprRules e n) m);
         down =
             λ {r} m h l. ⊎-elim (λ k. let o = owned e n r k in absurd (omega arith)) (λ k. k)
-            (List·Memᴰ·append-cases (rules e n) (p .down m (omega arith) (omega arith)));
+            (List·Memᴰ·append-cases (exprRules e n) (p .down m (omega arith) (omega arith)));
         under = p .under .1;
         above = let z = p .above in omega arith;
       }

@@ -7,9 +7,9 @@ use native.Mathlib.Omega.{arith}
 use Rattle.grammar.specs.declared.Rule.{Rule}
 use Rattle.grammar.specs.Trees.{Rules}
 use Rattle.clauses.specs.Clauses as C
-use Rattle.clauses.specs.Clauses.{Sort, Expr, nonterminal, part, terminal, group, mark, pair, optional, repeated, only, or, Clauses, line}
+use Rattle.clauses.specs.Clauses.{Sort, Expr, nonterminal, a-part, terminal, group, mark, pair, optional, repeated, only, or, Clauses, a-line}
 use Rattle.clauses.specs.Readings.{left}
-use Rattle.clauses.specs.Expansion.{expandFrom, sizeAll, of, rising, max, past, pastAll, expansion}
+use Rattle.clauses.specs.Expansion.{expandFrom, sizeAll, of, rising, max, pastExpr, pastAll, expansion}
 use Rattle.clauses.proofs.Bounds.{Under, UnderAll}
 use Rattle.clauses.proofs.Lines.{sheet-owned}
 use Rattle.clauses.proofs.Forward.{Expands}
@@ -64,23 +64,23 @@ pick-max false m n e = let z = nltb→le m n (rw e tt) in (omega arith, omega ar
 pub max-bounds : (m n : ℕ) → (m ≤ max m n) × (n ≤ max m n)
 max-bounds m n = pick-max (ltb m n) m n refl
 
-under-past : {s : Sort} (e : Expr s) (N : ℕ) → past e ≤ N → Under N e
+under-past : {s : Sort} (e : Expr s) (N : ℕ) → pastExpr e ≤ N → Under N e
 under-past (nonterminal L) N h = omega arith
-under-past (part e) N h = under-past e N h
+under-past (a-part e) N h = under-past e N h
 under-past (terminal a) N h = tt
 under-past (group e) N h = under-past e N h
 under-past (mark m e) N h = under-past e N h
-under-past (pair m e f) N h = let z = max-bounds (past e) (past f) in (under-past e N (le-trans (z .0) h), under-past f N (le-trans (z .1) h))
+under-past (pair m e f) N h = let z = max-bounds (pastExpr e) (pastExpr f) in (under-past e N (le-trans (z .0) h), under-past f N (le-trans (z .1) h))
 under-past (optional e) N h = under-past e N h
 under-past (repeated q m e) N h = under-past e N h
 under-past (only e) N h = under-past e N h
-under-past (or e f) N h = let z = max-bounds (past e) (past f) in (under-past e N (le-trans (z .0) h), under-past f N (le-trans (z .1) h))
+under-past (or e f) N h = let z = max-bounds (pastExpr e) (pastExpr f) in (under-past e N (le-trans (z .0) h), under-past f N (le-trans (z .1) h))
 
 pub under-all : (c : Clauses) (N : ℕ) → pastAll c ≤ N → UnderAll N c
 under-all C.none N h = tt
-under-all (line L e c) N h =
-    let z = max-bounds (max (L + 1) (past e)) (pastAll c) in
-    let y = max-bounds (L + 1) (past e) in
+under-all (a-line L e c) N h =
+    let z = max-bounds (max (L + 1) (pastExpr e)) (pastAll c) in
+    let y = max-bounds (L + 1) (pastExpr e) in
     (let a = le-trans (y .0) (le-trans (z .0) h) in omega arith, (under-past e N (le-trans (y .1) (le-trans (z .0) h)), under-all c N (le-trans (z .1) h)))
 
 pub expands : (c : Clauses) → Expands c (pastAll c) (expansion c)

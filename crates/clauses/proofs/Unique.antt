@@ -7,8 +7,8 @@ use Rattle.grammar.specs.declared.BinaryMark.{BinaryMark}
 use Rattle.grammar.specs.declared.Token.{Token}
 use Rattle.grammar.specs.Trees.{Rules, Tree, empty, leaf, unary, binary, root}
 use Rattle.clauses.specs.Clauses as C
-use Rattle.clauses.specs.Clauses.{Sort, item, made, alternatives, Least, one, Expr, nonterminal, part, terminal, group, mark, pair, optional, repeated, only, or, Clauses}
-use Rattle.clauses.specs.Readings.{Place, here, later, left, right, Reading, clause, itself, token, within, marked, both, present, absent, nothing, first, more, sole, this, other}
+use Rattle.clauses.specs.Clauses.{Sort, item, made, alternatives, AtLeast, one, Expr, nonterminal, a-part, terminal, group, mark, pair, optional, repeated, only, or, Clauses}
+use Rattle.clauses.specs.Readings.{ClausePlace, here, later, left, right, ClauseReading, clause, itself, a-token, within, marked, both, present, absent, nothing, first, more, sole, this, other}
 use Rattle.clauses.specs.Expansion.{A, size, name}
 use Rattle.clauses.proofs.Bounds.{Under, start}
 use Rattle.clauses.proofs.Placed.{Placed, in-part, in-only, in-group, in-mark, in-optional, in-repeated, in-first, in-second, in-this, in-other}
@@ -17,7 +17,7 @@ use Rattle.clauses.proofs.Forward.{tree, root-made, root-item, root-amo
 use native.Mathlib.Nat.{ℕ-set}
 
 -- lines have numbers of their own
-pub same-place : {c : Clauses} (p q : Place c) (n k : ℕ) → start p n ≤ k → k < start p n + size (right p) → start q n ≤ k
+pub same-place : {c : Clauses} (p q : ClausePlace c) (n k : ℕ) → start p n ≤ k → k < start p n + size (right p) → start q n ≤ k
     → k < start q n + size (right q) → p ≡ q
 same-place here here n k a b d f = refl
 same-place (here {e = e}) (later q) n k a b d f = let z = start-from q (n + size e) in absurd (omega arith)
@@ -27,7 +27,7 @@ same-place (later {e = e} p) (later q) n k a b d f = ap later (same-place p q (n
 -- an item of a repeat is not its fresh C
 pub not-fresh : (N n : ℕ) (e : Expr item) → Under N e → N ≤ n → name e (n + 2) ≡ n + 1 → ⊥
 not-fresh N n (nonterminal L) u h q = omega arith
-not-fresh N n (part e) u h q = omega arith
+not-fresh N n (a-part e) u h q = omega arith
 
 below : {L K : ℕ} {s t : Tree} → unary L s ≡ unary K t → s ≡ t
 below e = cc
@@ -45,28 +45,28 @@ shape (unary L t) = 2
 shape (binary L s t) = 3
 
 token-same : {c : Clauses} {a : ℕ} (t u : Token) (h : t .terminal ≡ a) (k : u .terminal ≡ a) → t ≡ u
-    → _≡_ {A = Reading c made (terminal a)} (token t h) (token u k)
+    → _≡_ {A = ClauseReading c made (terminal a)} (a-token t h) (a-token u k)
 token-same {c} {a} t u h k e =
-    (subst (λ (v : Token). (l : v .terminal ≡ a) → _≡_ {A = Reading c made (terminal a)} (token t h) (token v l)) e (λ l. ap (λ (z : t .terminal ≡ a). token t z) (ℕ-set _ _ h l))) k
+    (subst (λ (v : Token). (l : v .terminal ≡ a) → _≡_ {A = ClauseReading c made (terminal a)} (a-token t h) (a-token v l)) e (λ l. ap (λ (z : t .terminal ≡ a). a-token t z) (ℕ-set _ _ h l))) k
 
 -- what a reading is, by its expression
-abbrev View : {c : Clauses} {s : Sort} (e : Expr s) → Reading c s e → Type 0
-View {c} (nonterminal L) v = (p : Place c) × (h : left p ≡ L) × (u : Reading c alternatives (right p)) × (v ≡ clause p h u)
-View {c} (part e) v = (u : Reading c made e) × (v ≡ itself u)
-View {c} (terminal a) v = (t : Token) × (h : t .terminal ≡ a) × (v ≡ token t h)
-View {c} (group e) v = (u : Reading c alternatives e) × (v ≡ within u)
-View {c} (mark m e) v = (u : Reading c item e) × (v ≡ marked u)
-View {c} (pair m e f) v = (u : Reading c item e) × (w : Reading c item f) × (v ≡ both u w)
-View {c} (optional e) v = ((u : Reading c item e) × (v ≡ present u)) ⊎ (v ≡ absent)
-View {c} (repeated one m e) v = ((u : Reading c item e) × (v ≡ first u)) ⊎ ((u : Reading c made (repeated one m e)) × (w : Reading c item e) × (v ≡ more u w))
-View {c} (repeated C.zero m e) v = (v ≡ nothing) ⊎ ((u : Reading c made (repeated C.zero m e)) × (w : Reading c item e) × (v ≡ more u w))
-View {c} (only e) v = (u : Reading c made e) × (v ≡ sole u)
-View {c} (or e f) v = ((u : Reading c made e) × (v ≡ this u)) ⊎ ((u : Reading c alternatives f) × (v ≡ other u))
+abbrev View : {c : Clauses} {s : Sort} (e : Expr s) → ClauseReading c s e → Type 0
+View {c} (nonterminal L) v = (p : ClausePlace c) × (h : left p ≡ L) × (u : ClauseReading c alternatives (right p)) × (v ≡ clause p h u)
+View {c} (a-part e) v = (u : ClauseReading c made e) × (v ≡ itself u)
+View {c} (terminal a) v = (t : Token) × (h : t .terminal ≡ a) × (v ≡ a-token t h)
+View {c} (group e) v = (u : ClauseReading c alternatives e) × (v ≡ within u)
+View {c} (mark m e) v = (u : ClauseReading c item e) × (v ≡ marked u)
+View {c} (pair m e f) v = (u : ClauseReading c item e) × (w : ClauseReading c item f) × (v ≡ both u w)
+View {c} (optional e) v = ((u : ClauseReading c item e) × (v ≡ present u)) ⊎ (v ≡ absent)
+View {c} (repeated one m e) v = ((u : ClauseReading c item e) × (v ≡ first u)) ⊎ ((u : ClauseReading c made (repeated one m e)) × (w : ClauseReading c item e) × (v ≡ more u w))
+View {c} (repeated C.zero m e) v = (v ≡ nothing) ⊎ ((u : ClauseReading c made (repeated C.zero m e)) × (w : ClauseReading c item e) × (v ≡ more u w))
+View {c} (only e) v = (u : ClauseReading c made e) × (v ≡ sole u)
+View {c} (or e f) v = ((u : ClauseReading c made e) × (v ≡ this u)) ⊎ ((u : ClauseReading c alternatives f) × (v ≡ other u))
 
-view : {c : Clauses} {s : Sort} {e : Expr s} (v : Reading c s e) → View e v
+view : {c : Clauses} {s : Sort} {e : Expr s} (v : ClauseReading c s e) → View e v
 view (clause p h u) = (p, h, u, refl)
 view (itself u) = (u, refl)
-view (token t h) = (t, h, refl)
+view (a-token t h) = (t, h, refl)
 view (within u) = (u, refl)
 view (marked u) = (u, refl)
 view (both u w) = (u, w, refl)
@@ -83,26 +83,26 @@ view (other u) = inr (u, refl)
 apart : {s t : Tree} → s ≡ t → (shape s ≡ shape t → ⊥) → ⊥
 apart e f = f (ap shape e)
 
-more-same : {c : Clauses} {q : Least} {m : BinaryMark} {e : Expr item} {r v : Reading c made (repeated q m e)} {s u : Reading c item e} → r ≡ v
-    → s ≡ u → _≡_ {A = Reading c made (repeated q m e)} (more r s) (more v u)
+more-same : {c : Clauses} {q : AtLeast} {m : BinaryMark} {e : Expr item} {r v : ClauseReading c made (repeated q m e)} {s u : ClauseReading c item e} → r ≡ v
+    → s ≡ u → _≡_ {A = ClauseReading c made (repeated q m e)} (more r s) (more v u)
 more-same a b = λ j. more (a j) (b j)
 
 -- alternatives have numbers of their own
-other-side : {c : Clauses} (N n : ℕ) (e : Expr made) (f : Expr alternatives) (r : Reading c made e) (v : Reading c alternatives f)
+other-side : {c : Clauses} (N n : ℕ) (e : Expr made) (f : Expr alternatives) (r : ClauseReading c made e) (v : ClauseReading c alternatives f)
     → tree N n r ≡ tree N (n + size e) v → ⊥
 other-side N n e f r v d =
     let a = among-range f (n + size e) _ (root-among N (n + size e) v) in let b = root-made N n r in let z = ap root d in let w = made-grows e in omega arith
 
 module _ {c : Clauses} {N : ℕ} {g : Rules} (x : Expands c N g) where
-  line-same : {L : ℕ} (p q : Place c) (h : left p ≡ L) (k : left q ≡ L) (r : Reading c alternatives (right p)) (s : Reading c alternatives (right q))
-      → ((v : Reading c alternatives (right p)) → tree N (start p N) r ≡ tree N (start p N) v → r ≡ v) → tree N (start p N) r ≡ tree N (start q N) s
-      → _≡_ {A = Reading c item (nonterminal L)} (clause p h r) (clause q k s)
+  line-same : {L : ℕ} (p q : ClausePlace c) (h : left p ≡ L) (k : left q ≡ L) (r : ClauseReading c alternatives (right p)) (s : ClauseReading c alternatives (right q))
+      → ((v : ClauseReading c alternatives (right p)) → tree N (start p N) r ≡ tree N (start p N) v → r ≡ v) → tree N (start p N) r ≡ tree N (start q N) s
+      → _≡_ {A = ClauseReading c item (nonterminal L)} (clause p h r) (clause q k s)
   line-same {L} p q h k r s ih e = (subst F pq (λ l v d i. clause p (ℕ-set _ _ h l i) (ih v d i))) k s e
     where
-      F : Place c → Type 0
+      F : ClausePlace c → Type 0
       F y =
-          (l : left y ≡ L) (v : Reading c alternatives (right y)) → tree N (start p N) r ≡ tree N
-          (start y N) v → _≡_ {A = Reading c item (nonterminal L)} (clause p h r) (clause y l v)
+          (l : left y ≡ L) (v : ClauseReading c alternatives (right y)) → tree N (start p N) r ≡ tree N
+          (start y N) v → _≡_ {A = ClauseReading c item (nonterminal L)} (clause p h r) (clause y l v)
 
       pq : p ≡ q
       pq =
@@ -111,11 +111,11 @@ module _ {c : Clauses} {N : ℕ} {g : Rules} (x : Expands c N g) where
           let z = ap root e in
           same-place p q N (root (tree N (start p N) r)) (a .0) (a .1) (omega arith) (omega arith)
 
-  pub unique : {s : Sort} {e : Expr s} (n : ℕ) (r v : Reading c s e) → Placed N g e n → tree N n r ≡ tree N n v → r ≡ v
+  pub unique : {s : Sort} {e : Expr s} (n : ℕ) (r v : ClauseReading c s e) → Placed N g e n → tree N n r ≡ tree N n v → r ≡ v
   unique n (clause {A = L} p h r) v i d =
       let w = view v in line-same p (w .0) h (w .1) r (w .2) (λ u z. unique (start p N) r u (at x p) z) (below (d ∙ ap (tree N n) (w .3))) ∙ sym (w .3)
   unique n (itself r) v i d = let w = view v in ap itself (unique n r (w .0) (in-part i) (d ∙ ap (tree N n) (w .1))) ∙ sym (w .1)
-  unique n (token t h) v i d = let w = view v in token-same t (w .0) h (w .1) (tokens (d ∙ ap (tree N n) (w .2))) ∙ sym (w .2)
+  unique n (a-token t h) v i d = let w = view v in token-same t (w .0) h (w .1) (tokens (d ∙ ap (tree N n) (w .2))) ∙ sym (w .2)
   unique n (within r) v i d = let w = view v in ap within (unique (n + 1) r (w .0) (in-group i) (below (d ∙ ap (tree N n) (w .1)))) ∙ sym (w .1)
   unique n (marked r) v i d = let w = view v in ap marked (unique (n + 1) r (w .0) (in-mark i) (below (d ∙ ap (tree N n) (w .1)))) ∙ sym (w .1)
   unique n (both {e = e} r s) v i d =

@@ -10,14 +10,14 @@ pub data Sort : Type 0 where
   item made alternatives : Sort
 
 -- `+` repeats from one on, `*` from zero on
-pub data Least : Type 0 where
-  one zero : Least
+pub data AtLeast : Type 0 where
+  one zero : AtLeast
 
 pub data Expr : Sort → Type 0 where
   -- n4
   nonterminal : ℕ → Expr item
   -- any other item, and a rest of two or more items
-  part : Expr made → Expr item
+  a-part : Expr made → Expr item
   -- t2
   terminal : ℕ → Expr made
   -- (a | b)
@@ -29,7 +29,7 @@ pub data Expr : Sort → Type 0 where
   -- an item with `?` behind it
   optional : Expr item → Expr made
   -- an item with `+` or `*` behind it, or, with align, `+:align` or `*:align`
-  repeated : Least → BinaryMark → Expr item → Expr made
+  repeated : AtLeast → BinaryMark → Expr item → Expr made
   -- the last alternative, and one that others follow
   only : Expr made → Expr alternatives
   or : Expr made → Expr alternatives → Expr alternatives
@@ -37,4 +37,4 @@ pub data Expr : Sort → Type 0 where
 -- a clause sheet: each line gives a nonterminal, its left, and an expression; several lines may have one left
 pub data Clauses : Type 0 where
   none : Clauses
-  line : ℕ → Expr alternatives → Clauses → Clauses
+  a-line : ℕ → Expr alternatives → Clauses → Clauses

@@ -10,7 +10,7 @@ use Rattle.grammar.specs.declared.BinaryMark.{BinaryMark}
 use Rattle.grammar.specs.declared.Clause.the-variants.{Empty, Atom, Unary, Binary}
 use Rattle.grammar.specs.Trees.{Rules}
 use Rattle.clauses.specs.Clauses as C
-use Rattle.clauses.specs.Clauses.{Sort, item, alternatives, Least, one, Expr, nonterminal, part, terminal, group, mark, pair, optional, repeated, only, or, Clauses, line}
+use Rattle.clauses.specs.Clauses.{Sort, item, alternatives, AtLeast, one, Expr, nonterminal, a-part, terminal, group, mark, pair, optional, repeated, only, or, Clauses, a-line}
 
 -- rules by their letters
 abbrev pub E : ℕ → Rule
@@ -30,7 +30,7 @@ B A C D m = record { left = A; clause = Binary C D m }
 -- with n is n itself (a repeat's C is n + 1), then come those of the parts in it, in the order of the text
 abbrev pub size : {s : Sort} → Expr s → ℕ
 size (nonterminal A) = 0
-size (part e) = size e
+size (a-part e) = size e
 size (terminal a) = 1
 size (group e) = 1 + size e
 size (mark m e) = 1 + size e
@@ -43,37 +43,37 @@ size (or e f) = size e + size f
 -- the nonterminal of an item whose new ones begin with n; an `n` item stands for itself
 abbrev pub name : Expr item → ℕ → ℕ
 name (nonterminal A) n = A
-name (part e) n = n
+name (a-part e) n = n
 
 -- alternatives are reached by U rules with `none`, from a line's left or from a group
-abbrev pub choices : ℕ → Expr alternatives → ℕ → Rules
-choices L (only e) n = U L n UnaryMark.None ∷ []
-choices L (or e f) n = U L n UnaryMark.None ∷ choices L f (n + size e)
+abbrev pub alternativeRules : ℕ → Expr alternatives → ℕ → Rules
+alternativeRules L (only e) n = U L n UnaryMark.None ∷ []
+alternativeRules L (or e f) n = U L n UnaryMark.None ∷ alternativeRules L f (n + size e)
 
 -- how a repeat n of B begins: `+` with one B, `*` with none
-abbrev pub begins : Least → ℕ → ℕ → Rule
-begins one n B = U n B UnaryMark.None
-begins C.zero n B = E n
+abbrev pub repeatBegins : AtLeast → ℕ → ℕ → Rule
+repeatBegins one n B = U n B UnaryMark.None
+repeatBegins C.zero n B = E n
 
 -- The rules of a part's new nonterminals, which begin with n. Longer sequences split off their first item; the first nonterminal of a marked group
 -- has a U rule of that mark to the second. Repeats expand as in source document 000, section 3:
 -- A → B? gives A → B, A → ε; A → B+ gives A → B, A → C, C → A B; A → B* gives A → ε, A → C, C → A B
-abbrev pub rules : {s : Sort} → Expr s → ℕ → Rules
-rules (nonterminal A) n = []
-rules (part e) n = rules e n
-rules (terminal a) n = A n a ∷ []
-rules (group e) n = choices n e (n + 1) ++ rules e (n + 1)
-rules (mark m e) n = U n (name e (n + 1)) m ∷ rules e (n + 1)
-rules (pair m e f) n = B n (name e (n + 1)) (name f (n + 1 + size e)) m ∷ (rules e (n + 1) ++ rules f (n + 1 + size e))
-rules (optional e) n = U n (name e (n + 1)) UnaryMark.None ∷ E n ∷ rules e (n + 1)
-rules (repeated q m e) n = begins q n (name e (n + 2)) ∷ U n (n + 1) UnaryMark.None ∷ B (n + 1) n (name e (n + 2)) m ∷ rules e (n + 2)
-rules (only e) n = rules e n
-rules (or e f) n = rules e n ++ rules f (n + size e)
+abbrev pub exprRules : {s : Sort} → Expr s → ℕ → Rules
+exprRules (nonterminal A) n = []
+exprRules (a-part e) n = exprRules e n
+exprRules (terminal a) n = A n a ∷ []
+exprRules (group e) n = alternativeRules n e (n + 1) ++ exprRules e (n + 1)
+exprRules (mark m e) n = U n (name e (n + 1)) m ∷ exprRules e (n + 1)
+exprRules (pair m e f) n = B n (name e (n + 1)) (name f (n + 1 + size e)) m ∷ (exprRules e (n + 1) ++ exprRules f (n + 1 + size e))
+exprRules (optional e) n = U n (name e (n + 1)) UnaryMark.None ∷ E n ∷ exprRules e (n + 1)
+exprRules (repeated q m e) n = repeatBegins q n (name e (n + 2)) ∷ U n (n + 1) UnaryMark.None ∷ B (n + 1) n (name e (n + 2)) m ∷ exprRules e (n + 2)
+exprRules (only e) n = exprRules e n
+exprRules (or e f) n = exprRules e n ++ exprRules f (n + size e)
 
 -- the rules of a sheet whose new nonterminals begin with n, line by line
 abbrev pub expandFrom : Clauses → ℕ → Rules
 expandFrom C.none n = []
-expandFrom (line L e c) n = (choices L e n ++ rules e n) ++ expandFrom c (n + size e)
+expandFrom (a-line L e c) n = (alternativeRules L e n ++ exprRules e n) ++ expandFrom c (n + size e)
 
 -- the rules of one left, in the order given
 abbrev pub of : ℕ → Rules → Rules
@@ -89,26 +89,26 @@ abbrev pub max : ℕ → ℕ → ℕ
 max m n = elim (ltb m n) [ true ↦ n | false ↦ m ]
 
 -- one past the largest nonterminal written in a part, and in a sheet, its lefts too
-abbrev pub past : {s : Sort} → Expr s → ℕ
-past (nonterminal A) = A + 1
-past (part e) = past e
-past (terminal a) = 0
-past (group e) = past e
-past (mark m e) = past e
-past (pair m e f) = max (past e) (past f)
-past (optional e) = past e
-past (repeated q m e) = past e
-past (only e) = past e
-past (or e f) = max (past e) (past f)
+abbrev pub pastExpr : {s : Sort} → Expr s → ℕ
+pastExpr (nonterminal A) = A + 1
+pastExpr (a-part e) = pastExpr e
+pastExpr (terminal a) = 0
+pastExpr (group e) = pastExpr e
+pastExpr (mark m e) = pastExpr e
+pastExpr (pair m e f) = max (pastExpr e) (pastExpr f)
+pastExpr (optional e) = pastExpr e
+pastExpr (repeated q m e) = pastExpr e
+pastExpr (only e) = pastExpr e
+pastExpr (or e f) = max (pastExpr e) (pastExpr f)
 
 abbrev pub pastAll : Clauses → ℕ
 pastAll C.none = 0
-pastAll (line L e c) = max (max (L + 1) (past e)) (pastAll c)
+pastAll (a-line L e c) = max (max (L + 1) (pastExpr e)) (pastAll c)
 
 -- how many new nonterminals a sheet gets
 abbrev pub sizeAll : Clauses → ℕ
 sizeAll C.none = 0
-sizeAll (line L e c) = size e + sizeAll c
+sizeAll (a-line L e c) = size e + sizeAll c
 
 -- a clause sheet's rules: the new nonterminals are numbered upward from one past the largest one written, and the rules stand by rising left,
 -- then in the order of the text or of the paper's expansion

@@ -5,12 +5,12 @@ use Rattle.grammar.specs.declared.UnaryMark.{UnaryMark}
 use Rattle.grammar.specs.declared.UnaryMark.the-variants as UnaryMark
 use Rattle.grammar.specs.declared.BinaryMark.{BinaryMark}
 use Rattle.clauses.specs.Expansion.{max}
-use Rattle.clauses.specs.Clauses.{Sort, item, made, alternatives, Least, Expr, nonterminal, part, terminal, group, mark, pair, optional, repeated, only, or}
+use Rattle.clauses.specs.Clauses.{Sort, item, made, alternatives, AtLeast, Expr, nonterminal, a-part, terminal, group, mark, pair, optional, repeated, only, or}
 
 -- what may stand after an item: ?, + * +:align *:align, and after a group :offside :offalign :single
 pub data Suffix : Type 0 where
   maybe : Suffix
-  repeats : Least → BinaryMark → Suffix
+  repeats : AtLeast → BinaryMark → Suffix
   marks : UnaryMark → Suffix
 
 -- n4, t2, (, ), ` | `, what stands after an item, and what stands between two: a blank, or :align: or :indent: with a blank on either side
@@ -21,41 +21,41 @@ pub data Lex : Type 0 where
   join : BinaryMark → Lex
 
 -- what is written: an item without what stands after it, an item, the items of a sequence from one on, an alternative, alternatives
-pub data Part : Type 0 where
-  an-atom an-item a-row : Expr item → Part
-  one : Expr made → Part
-  many : Expr alternatives → Part
+pub data Phrase : Type 0 where
+  an-atom an-item a-row : Expr item → Phrase
+  one : Expr made → Phrase
+  many : Expr alternatives → Phrase
 
 -- a part is written so; nothing is empty
-pub data Written : Part → List Lex → Type 0 where
+pub data WrittenAs : Phrase → List Lex → Type 0 where
   -- an item is `n4`, `t2` or a group in parentheses
-  nonterminal-text : {a : ℕ} → Written (an-atom (nonterminal a)) (n a ∷ [])
-  terminal-text : {a : ℕ} → Written (an-atom (part (terminal a))) (t a ∷ [])
-  group-text : {e : Expr alternatives} {l : List Lex} → Written (many e) l → Written (an-atom (part (group e))) (opening ∷ (l ++ (closing ∷ [])))
+  nonterminal-text : {a : ℕ} → WrittenAs (an-atom (nonterminal a)) (n a ∷ [])
+  terminal-text : {a : ℕ} → WrittenAs (an-atom (a-part (terminal a))) (t a ∷ [])
+  group-text : {e : Expr alternatives} {l : List Lex} → WrittenAs (many e) l → WrittenAs (an-atom (a-part (group e))) (opening ∷ (l ++ (closing ∷ [])))
   -- after an item may stand one of ?, +, *, +:align, *:align or, after a group, :offside, :offalign, :single
-  bare-text : {e : Expr item} {l : List Lex} → Written (an-atom e) l → Written (an-item e) l
-  optional-text : {e : Expr item} {l : List Lex} → Written (an-atom e) l → Written (an-item (part (optional e))) (l ++ (suffix maybe ∷ []))
-  repeated-text : {q : Least} {m : BinaryMark} {e : Expr item} {l : List Lex} → Written (an-atom e) l
-      → Written (an-item (part (repeated q m e))) (l ++ (suffix (repeats q m) ∷ []))
-  marked-text : {m : UnaryMark} {e : Expr alternatives} {l : List Lex} → Written (an-atom (part (group e))) l
-      → Written (an-item (part (mark m (part (group e))))) (l ++ (suffix (marks m) ∷ []))
+  bare-text : {e : Expr item} {l : List Lex} → WrittenAs (an-atom e) l → WrittenAs (an-item e) l
+  optional-text : {e : Expr item} {l : List Lex} → WrittenAs (an-atom e) l → WrittenAs (an-item (a-part (optional e))) (l ++ (suffix maybe ∷ []))
+  repeated-text : {q : AtLeast} {m : BinaryMark} {e : Expr item} {l : List Lex} → WrittenAs (an-atom e) l
+      → WrittenAs (an-item (a-part (repeated q m e))) (l ++ (suffix (repeats q m) ∷ []))
+  marked-text : {m : UnaryMark} {e : Expr alternatives} {l : List Lex} → WrittenAs (an-atom (a-part (group e))) l
+      → WrittenAs (an-item (a-part (mark m (a-part (group e))))) (l ++ (suffix (marks m) ∷ []))
   -- items follow one another with one blank, or with :align: or :indent: between them, which binds the left one to all that follows it
-  last-text : {e : Expr item} {l : List Lex} → Written (an-item e) l → Written (a-row e) l
-  then-text : {m : BinaryMark} {e f : Expr item} {k l : List Lex} → Written (an-item e) k → Written (a-row f) l
-      → Written (a-row (part (pair m e f))) (k ++ (join m ∷ l))
+  last-text : {e : Expr item} {l : List Lex} → WrittenAs (an-item e) l → WrittenAs (a-row e) l
+  then-text : {m : BinaryMark} {e f : Expr item} {k l : List Lex} → WrittenAs (an-item e) k → WrittenAs (a-row f) l
+      → WrittenAs (a-row (a-part (pair m e f))) (k ++ (join m ∷ l))
   -- an alternative holds one item, or several
-  single-text : {e : Expr item} {l : List Lex} → Written (an-item e) l → Written (one (mark UnaryMark.None e)) l
-  several-text : {m : BinaryMark} {e f : Expr item} {k l : List Lex} → Written (an-item e) k → Written (a-row f) l
-      → Written (one (pair m e f)) (k ++ (join m ∷ l))
+  single-text : {e : Expr item} {l : List Lex} → WrittenAs (an-item e) l → WrittenAs (one (mark UnaryMark.None e)) l
+  several-text : {m : BinaryMark} {e f : Expr item} {k l : List Lex} → WrittenAs (an-item e) k → WrittenAs (a-row f) l
+      → WrittenAs (one (pair m e f)) (k ++ (join m ∷ l))
   -- alternatives are parted by ` | `
-  only-text : {e : Expr made} {l : List Lex} → Written (one e) l → Written (many (only e)) l
-  or-text : {e : Expr made} {f : Expr alternatives} {k l : List Lex} → Written (one e) k → Written (many f) l
-      → Written (many (or e f)) (k ++ (bar ∷ l))
+  only-text : {e : Expr made} {l : List Lex} → WrittenAs (one e) l → WrittenAs (many (only e)) l
+  or-text : {e : Expr made} {f : Expr alternatives} {k l : List Lex} → WrittenAs (one e) k → WrittenAs (many f) l
+      → WrittenAs (many (or e f)) (k ++ (bar ∷ l))
 
 -- how many levels of groups an expression has
 abbrev pub depth : {s : Sort} → Expr s → ℕ
 depth (nonterminal a) = 0
-depth (part e) = depth e
+depth (a-part e) = depth e
 depth (terminal a) = 0
 depth (group e) = suc (depth e)
 depth (mark m e) = depth e
@@ -66,7 +66,7 @@ depth (only e) = depth e
 depth (or e f) = max (depth e) (depth f)
 
 -- how deep a part of a line is
-abbrev pub depthOf : Part → ℕ
+abbrev pub depthOf : Phrase → ℕ
 depthOf (an-atom e) = depth e
 depthOf (an-item e) = depth e
 depthOf (a-row e) = depth e
@@ -74,6 +74,6 @@ depthOf (one e) = depth e
 depthOf (many e) = depth e
 
 -- lexemes say an expression if one is written so
-pub record Says (l : List Lex) : Type 0 where
+pub record IsExpression (l : List Lex) : Type 0 where
   pub expr : Expr alternatives
-  pub written : Written (many expr) l
+  pub written : WrittenAs (many expr) l

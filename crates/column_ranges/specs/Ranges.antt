@@ -17,7 +17,7 @@ abbrev pub Ranges : Type 0
 Ranges = List RangeToken
 
 -- t is r in a column within its ends; its width is 1
-pub record Within (r : RangeToken) (t : Token) : Type 0 where
+pub record WithinEnds (r : RangeToken) (t : Token) : Type 0 where
   pub terminal : t .terminal ≡ r .terminal
   pub line : line t ≡ r .line .0
   pub low : r .low .0 ≤ col t
@@ -29,10 +29,10 @@ abbrev pub Chosen : Ranges → Word → Type 0
 Chosen [] [] = Unit {0}
 Chosen [] (t ∷ w) = ⊥
 Chosen (r ∷ rs) [] = ⊥
-Chosen (r ∷ rs) (t ∷ w) = Within r t × Chosen rs w
+Chosen (r ∷ rs) (t ∷ w) = WithinEnds r t × Chosen rs w
 
 -- some choice of columns within the ends, with positions properly rising, gives the verdict v
-pub record Gives (g : Rules) (rs : Ranges) (v : Verdict) : Type 0 where
+pub record SomeChoiceGives (g : Rules) (rs : Ranges) (v : Verdict) : Type 0 where
   pub word : Word
   pub chosen : Chosen rs word
   pub rising : Rising word
@@ -43,17 +43,17 @@ abbrev pub columns : RangeToken → ℕ
 columns r = r .high .0 + 1 - r .low .0
 
 -- how many choices the ends allow, rising or not: one of no tokens
-abbrev pub choices : Ranges → ℕ
-choices [] = 1
-choices (r ∷ rs) = columns r * choices rs
+abbrev pub choiceCount : Ranges → ℕ
+choiceCount [] = 1
+choiceCount (r ∷ rs) = columns r * choiceCount rs
 
 -- 49: more are refused
-abbrev pub limit : ℕ
-limit = 65536
+abbrev pub choiceLimit : ℕ
+choiceLimit = 65536
 
 -- the first `count` of the tokens
-abbrev pub ranged : RangeSentence → Ranges
-ranged s = take (s .count) (s .tokens)
+abbrev pub rangesOf : RangeSentence → Ranges
+rangesOf s = take (s .count) (s .tokens)
 
 -- what refusals 13 and 48 see to: ends in the order of their names, and a column's bounds
 pub record Ended (r : RangeToken) : Type 0 where
@@ -64,10 +64,10 @@ pub record Ended (r : RangeToken) : Type 0 where
 -- at most 64 tokens, each with its ends
 pub record Spread (s : RangeSentence) : Type 0 where
   pub few : s .count ≤ 64
-  pub whole : length (ranged s) ≡ s .count
-  pub ended : Every Ended (ranged s)
+  pub whole : length (rangesOf s) ≡ s .count
+  pub ended : Every Ended (rangesOf s)
 
 -- m counts the choices, where they are within the limit; otherwise it is above the limit as they are
-pub record Counts (rs : Ranges) (m : ℕ) : Type 0 where
-  pub exact : m ≤ limit → m ≡ choices rs
-  pub over : limit < m → limit < choices rs
+pub record CountsChoices (rs : Ranges) (m : ℕ) : Type 0 where
+  pub exact : m ≤ choiceLimit → m ≡ choiceCount rs
+  pub over : choiceLimit < m → choiceLimit < choiceCount rs

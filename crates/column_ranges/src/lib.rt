@@ -2,7 +2,7 @@
 use grammar::Column;
 use grammar::Line;
 ghost use mathlib.Core.Path.{_≡_};
-ghost use Rattle.column_ranges.specs.Ranges.{columns as columnsOf, ranged, Ended, Spread, Counts};
+ghost use Rattle.column_ranges.specs.Ranges.{columns as columnsOf, rangesOf, Ended, Spread, CountsChoices};
 
 // A terminal on a line, its column known between two ends.
 pub struct RangeToken {
@@ -31,7 +31,7 @@ pub fn columns(t: RangeToken) -> usize
 // How many choices the ends allow; above the limit of 65,536 the product is left as it is.
 pub fn count(r: RangeSentence) -> usize
     requires { ⌜ Spread r ⌝ }
-    ensures { λ m. ⌜ Counts (ranged r) m ⌝ }
+    ensures { λ m. ⌜ CountsChoices (rangesOf r) m ⌝ }
 {
     let mut m: usize = 1;
     let mut i = r.count;

@@ -14,7 +14,7 @@ use Rattle.grammar.specs.declared.Clause.{Clause}
 use Rattle.grammar.specs.declared.Clause.the-variants as Clause
 use Rattle.grammar.specs.Layout.{Word}
 use Rattle.grammar.specs.Trees.{Tree, empty, leaf, unary, binary, root, word, Rules, Valid, valid-empty, valid-leaf, valid-unary, valid-binary, Witness, Derives}
-use Rattle.grammar.specs.Choices.{Top, Takes, Choice, Before, Same, height, Gives, LowChoice}
+use Rattle.grammar.specs.Choices.{Top, Takes, Choice, ChoiceBefore, Same, height, GivesHeight, LowChoice}
 use Rattle.grammar.specs.Content.{rules, SmallClause, SmallRule, Formed}
 use Rattle.grammar.specs.SpanSheet.{part}
 use Rattle.grammar.proofs.Lists.{mem-every}
@@ -22,20 +22,20 @@ use Rattle.grammar.proofs.ChoiceLaws.{takes-of, member-at}
 use Rattle.marks.proofs.Words.{cut, part-length}
 use Rattle.chart.specs.Choosing.{NextAt, NoneFrom}
 use Rattle.rows.specs.declared.Step.{Step}
-use Rattle.rows.specs.Steps.{stepOf}
+use Rattle.rows.specs.Steps.{stepOfClause}
 use Rattle.heights.specs.Least.{LeastHeight, numberAt, HeightSheet}
 use Rattle.derivation.specs.Picks.{HasChoice}
 use Rattle.derivation.specs.Lows.{heightBy}
-use Rattle.derivation.proofs.Pending.{shape, shape-of}
+use Rattle.derivation.proofs.Pending.{nodeShape, shape-of}
 use Rattle.derivation.proofs.PickLaws.{choice-within}
 
 -- how high the top of t stands over children as low as can be
 abbrev pub highOf : List ℕ → ℕ → Tree → ℕ → ℕ → ℕ
-highOf hs n t s len = heightBy hs n (shape false t .kind) (shape false t .first) (shape false t .second) (shape false t .split) s len
+highOf hs n t s len = heightBy hs n (nodeShape false t .kind) (nodeShape false t .first) (nodeShape false t .second) (nodeShape false t .split) s len
 
 -- the choices before (p, k) are higher than the least height
 pub record Higher (g : Rules) (w : Word) (hs : List ℕ) (A s len p k : ℕ) : Type 0 where
-  pub each : (q l : ℕ) (c : Choice g A (part w s len) q l) → Before q l p k → numberAt hs (length w) s len A < highOf hs (length w) (c .tree) s len
+  pub each : (q l : ℕ) (c : Choice g A (part w s len) q l) → ChoiceBefore q l p k → numberAt hs (length w) s len A < highOf hs (length w) (c .tree) s len
 
 module _ {g : Rules} {w : Word} {hs : List ℕ} (sheet : HeightSheet g w hs) where
   least-of : {t : Tree} → Valid g t → (s len : ℕ) → s + len ≤ length w → word t ≡ part w s len → LeastHeight g (root t) (part w s len) (numberAt hs (length w) s len (root t))
@@ -95,14 +95,14 @@ module _ {g : Rules} {w : Word} {hs : List ℕ} (sheet : HeightSheet g w hs) whe
     higher-none = record { each = λ q l c h. absurd (⊎-elim (λ x. omega arith) (λ x. omega (arith, x .1)) h) }
 
     -- what the rule at its place says of a choice's tree
-    pub high-by : (q l : ℕ) (c : Choice g A (part w s len) q l) (r : Rule) → getElem? g q ≡ some r → (m : Bool) (st : Step) → st ≡ stepOf (r .clause) l m → heightBy hs (length w) (st .kind) (st .first) (st .second) (st .split) s len ≡ highOf hs (length w) (c .tree) s len
+    pub high-by : (q l : ℕ) (c : Choice g A (part w s len) q l) (r : Rule) → getElem? g q ≡ some r → (m : Bool) (st : Step) → st ≡ stepOfClause (r .clause) l m → heightBy hs (length w) (st .kind) (st .first) (st .second) (st .split) s len ≡ highOf hs (length w) (c .tree) s len
     high-by q l c r e m st h =
         let x = c .takes .stands in
         let y : r ≡ c .takes .rule = cc in
-        let z : st ≡ shape m (c .tree) = h ∙ ap (λ (v : Rule). stepOf (v .clause) l m) y ∙ shape-of (c .tree) (c .takes .rule) l m (c .takes .top) in
+        let z : st ≡ nodeShape m (c .tree) = h ∙ ap (λ (v : Rule). stepOfClause (v .clause) l m) y ∙ shape-of (c .tree) (c .takes .rule) l m (c .takes .top) in
         ap (λ (v : Step). heightBy hs (length w) (v .kind) (v .first) (v .second) (v .split) s len) z ∙ same m (c .tree)
       where
-        same : (m : Bool) (t : Tree) → heightBy hs (length w) (shape m t .kind) (shape m t .first) (shape m t .second) (shape m t .split) s len ≡ highOf hs (length w) t s len
+        same : (m : Bool) (t : Tree) → heightBy hs (length w) (nodeShape m t .kind) (nodeShape m t .first) (nodeShape m t .second) (nodeShape m t .split) s len ≡ highOf hs (length w) t s len
         same m (empty A) = refl
         same m (leaf A t) = refl
         same m (unary A t) = refl
@@ -112,18 +112,18 @@ module _ {g : Rules} {w : Word} {hs : List ℕ} (sheet : HeightSheet g w hs) whe
     high-same : (q l : ℕ) (c d : Choice g A (part w s len) q l) → highOf hs (length w) (c .tree) s len ≡ highOf hs (length w) (d .tree) s len
     high-same q l c d = sym (high-by q l c (d .takes .rule) (d .takes .stands) false _ refl) ∙ high-by q l d (d .takes .rule) (d .takes .stands) false _ refl
 
-    before-next : (i j q l : ℕ) → Before i j q (l + 1) → Before i j q l ⊎ Same i j q l
+    before-next : (i j q l : ℕ) → ChoiceBefore i j q (l + 1) → ChoiceBefore i j q l ⊎ Same i j q l
     before-next i j q l (inl x) = inl (inl x)
     before-next i j q l (inr x) = go (ℕ-discrete j l)
       where
-        go : Dec (j ≡ l) → Before i j q l ⊎ Same i j q l
+        go : Dec (j ≡ l) → ChoiceBefore i j q l ⊎ Same i j q l
         go (yes e) = inr (x .0, e)
         go (no e) = inl (inr (x .0, omega (arith, x .1)))
 
-    before? : (i j p k : ℕ) → Dec (Before i j p k)
+    before? : (i j p k : ℕ) → Dec (ChoiceBefore i j p k)
     before? i j p k = go (decLt i p) (ℕ-discrete i p) (decLt j k)
       where
-        go : Dec (i < p) → Dec (i ≡ p) → Dec (j < k) → Dec (Before i j p k)
+        go : Dec (i < p) → Dec (i ≡ p) → Dec (j < k) → Dec (ChoiceBefore i j p k)
         go (yes x) y z = yes (inl x)
         go (no x) (yes y) (yes z) = yes (inr (y, z))
         go (no x) (yes y) (no z) = no (⊎-elim x (λ u. z (u .1)))
@@ -133,7 +133,7 @@ module _ {g : Rules} {w : Word} {hs : List ℕ} (sheet : HeightSheet g w hs) whe
     pub higher-next : (p k q l : ℕ) → Higher g w hs A s len p k → (x : NextAt g A (part w s len) p k q l) → numberAt hs (length w) s len A < highOf hs (length w) (x .choice .tree) s len → Higher g w hs A s len q (l + 1)
     higher-next p k q l h x y = record { each = λ i j c z. ⊎-elim (λ u. early i j c u (before? i j p k)) (λ u. late i j c u) (before-next i j q l z) }
       where
-        early : (i j : ℕ) (c : Choice g A (part w s len) i j) → Before i j q l → Dec (Before i j p k) → numberAt hs (length w) s len A < highOf hs (length w) (c .tree) s len
+        early : (i j : ℕ) (c : Choice g A (part w s len) i j) → ChoiceBefore i j q l → Dec (ChoiceBefore i j p k) → numberAt hs (length w) s len A < highOf hs (length w) (c .tree) s len
         early i j c u (yes v) = h .each i j c v
         early i j c u (no v) = absurd (x .least i j c v u)
 
@@ -166,7 +166,7 @@ module _ {g : Rules} {w : Word} {hs : List ℕ} (sheet : HeightSheet g w hs) whe
           earliest = λ i j z u. first i j z u (before? i j p k);
         }
       where
-        first : (i j : ℕ) (z : Gives g A (part w s len) i j (numberAt hs (length w) s len A)) → Before i j q l → Dec (Before i j p k) → ⊥
+        first : (i j : ℕ) (z : GivesHeight g A (part w s len) i j (numberAt hs (length w) s len A)) → ChoiceBefore i j q l → Dec (ChoiceBefore i j p k) → ⊥
         first i j z u (yes v) =
             omega (arith, h .each i j (record { tree = z .tree; witness = z .witness; takes = z .takes }) v, high-le (z .witness .valid) s len b (z .witness .spelled), z .high)
         first i j z u (no v) = x .least i j (record { tree = z .tree; witness = z .witness; takes = z .takes }) v u
@@ -180,7 +180,7 @@ module _ {g : Rules} {w : Word} {hs : List ℕ} (sheet : HeightSheet g w hs) whe
         omega (arith, h .each (y .0) (y .1) z (x .early (y .0) (y .1) z), high-le (d .witness .valid) s len b (d .witness .spelled), d .high)
 
     -- one step of the search
-    pub low-step : (n : ℕ) → length w ≡ n → (p k q l : ℕ) → Higher g w hs A s len p k → (x : NextAt g A (part w s len) p k q l) (st : Step) → st ≡ stepOf (x .choice .takes .rule .clause) l false
+    pub low-step : (n : ℕ) → length w ≡ n → (p k q l : ℕ) → Higher g w hs A s len p k → (x : NextAt g A (part w s len) p k q l) (st : Step) → st ≡ stepOfClause (x .choice .takes .rule .clause) l false
         → (h m : ℕ) → h ≡ heightBy hs n (st .kind) (st .first) (st .second) (st .split) s len → m ≡ numberAt hs n s len A
         → (h ≤ m → LowChoice g A (part w s len) q l) × ((h ≤ m → ⊥) → Higher g w hs A s len q (l + 1))
     low-step n e p k q l y x st z h m u v =
@@ -191,13 +191,13 @@ module _ {g : Rules} {w : Word} {hs : List ℕ} (sheet : HeightSheet g w hs) whe
         (λ a. low-found p k q l y x (omega arith), λ a. higher-next p k q l y x (omega arith))
 
 -- the children that a choice's step names are in reach
-step-small : (c : Clause) (k : ℕ) (m : Bool) → SmallClause c → (stepOf c k m .first < 64) × (stepOf c k m .second < 64) × (stepOf c k m .split ≤ k)
+step-small : (c : Clause) (k : ℕ) (m : Bool) → SmallClause c → (stepOfClause c k m .first < 64) × (stepOfClause c k m .second < 64) × (stepOfClause c k m .split ≤ k)
 step-small Clause.Empty k m s = (omega arith, omega arith, omega arith)
 step-small (Clause.Atom a b) k m s = (omega arith, omega arith, omega arith)
 step-small (Clause.Unary B u) k m s = (s, omega arith, omega arith)
 step-small (Clause.Binary B C u) k m s = (s .0, s .1, omega arith)
 
-pub step-inside : {g : Grammar} → Formed g → (w : Word) (A i n q l : ℕ) (c : Choice (rules g) A (part w i n) q l) (st : Step) → st ≡ stepOf (c .takes .rule .clause) l false → (st .first < 64) × (st .second < 64) × (st .split ≤ n)
+pub step-inside : {g : Grammar} → Formed g → (w : Word) (A i n q l : ℕ) (c : Choice (rules g) A (part w i n) q l) (st : Step) → st ≡ stepOfClause (c .takes .rule .clause) l false → (st .first < 64) × (st .second < 64) × (st .split ≤ n)
 step-inside {g} f w A i n q l c st e =
     let r = mem-every SmallRule (rules g) (f .small) (member-at (rules g) q (c .takes .stands)) in
     let x = step-small (c .takes .rule .clause) l false (r .clause) in
@@ -224,7 +224,7 @@ module _ (hs : List ℕ) (n B C s len : ℕ) where
 pub rank : ℕ → ℕ → ℕ
 rank p k = (128 - p) * 66 + (66 - k)
 
-pub rank-less : (p k q l : ℕ) → p ≤ 128 → k ≤ 65 → q < 128 → l ≤ 64 → (Before q l p k → ⊥) → rank q (l + 1) < rank p k
+pub rank-less : (p k q l : ℕ) → p ≤ 128 → k ≤ 65 → q < 128 → l ≤ 64 → (ChoiceBefore q l p k → ⊥) → rank q (l + 1) < rank p k
 unfolding rank
 rank-less p k q l a b c d h = go (decLt p q) (ℕ-discrete p q) (decLt l k)
   where

@@ -21,7 +21,7 @@ use Rattle.derivation.specs.Wanted.{Goal, Laid}
 use Rattle.rows.specs.Bytes.{splice}
 use Rattle.rows.specs.Steps.{kidsOf, entriesOf, closedStep, Branched}
 use Rattle.rows.proofs.BytesLaws.{length-splice, take-splice, drop-splice, drop-splice-high}
-use Rattle.derivation.proofs.Pending.{Pending, entries, rowsAll, kids, shape, shownKids, shownShape, Sits, Fork, Aim}
+use Rattle.derivation.proofs.Pending.{Pending, entries, rowsAll, kids, nodeShape, shownKids, shownShape, Sits, Fork, Aim}
 
 -- 1. the rows shown of a tree: its own, then those of its children
 
@@ -32,32 +32,32 @@ module _ (sees : View) where
   pub rows-split : (t : Tree) (i : ℕ) → shownRows sees i t ≡ row t i ++ rowsAll sees (shownKids sees t i)
   rows-split (empty A) i = go (sees A)
     where
-      go : (b : Bool) → cond b (A ∷ 0 ∷ 0 ∷ 0 ∷ []) (closedRow i (empty A)) ≡ (A ∷ cond b (shape false (empty A)) (closedStep false) .kind ∷ 0 ∷ 0 ∷ []) ++ rowsAll sees (cond b [] [])
+      go : (b : Bool) → cond b (A ∷ 0 ∷ 0 ∷ 0 ∷ []) (closedRow i (empty A)) ≡ (A ∷ cond b (nodeShape false (empty A)) (closedStep false) .kind ∷ 0 ∷ 0 ∷ []) ++ rowsAll sees (cond b [] [])
       go true = refl
       go false = refl
   rows-split (leaf A t) i = go (sees A)
     where
-      go : (b : Bool) → cond b (A ∷ 1 ∷ i ∷ 1 ∷ []) (closedRow i (leaf A t)) ≡ (A ∷ cond b (shape false (leaf A t)) (closedStep false) .kind ∷ i ∷ 1 ∷ []) ++ rowsAll sees (cond b [] [])
+      go : (b : Bool) → cond b (A ∷ 1 ∷ i ∷ 1 ∷ []) (closedRow i (leaf A t)) ≡ (A ∷ cond b (nodeShape false (leaf A t)) (closedStep false) .kind ∷ i ∷ 1 ∷ []) ++ rowsAll sees (cond b [] [])
       go true = refl
       go false = refl
   rows-split (unary A t) i = go (sees A)
     where
       go : (b : Bool) → cond b (A ∷ 2 ∷ startOf i (length (word t)) ∷ length (word t) ∷ shownRows sees i t) (closedRow i (unary A t))
-          ≡ (A ∷ cond b (shape false (unary A t)) (closedStep false) .kind ∷ startOf i (length (word t)) ∷ length (word t) ∷ []) ++ rowsAll sees (cond b (kids (unary A t) i) [])
+          ≡ (A ∷ cond b (nodeShape false (unary A t)) (closedStep false) .kind ∷ startOf i (length (word t)) ∷ length (word t) ∷ []) ++ rowsAll sees (cond b (kids (unary A t) i) [])
       go true = rw append-nil refl
       go false = refl
   rows-split (binary A s t) i = go (sees A)
     where
       go : (b : Bool)
           → cond b (A ∷ 3 ∷ startOf i (length (word s ++ word t)) ∷ length (word s ++ word t) ∷ (shownRows sees i s ++ shownRows sees (i + length (word s)) t)) (closedRow i (binary A s t))
-          ≡ (A ∷ cond b (shape false (binary A s t)) (closedStep false) .kind ∷ startOf i (length (word s ++ word t)) ∷ length (word s ++ word t) ∷ []) ++ rowsAll sees (cond b (kids (binary A s t) i) [])
+          ≡ (A ∷ cond b (nodeShape false (binary A s t)) (closedStep false) .kind ∷ startOf i (length (word s ++ word t)) ∷ length (word s ++ word t) ∷ []) ++ rowsAll sees (cond b (kids (binary A s t) i) [])
       go true = rw (append-nil (shownRows sees (i + length (word s)) t)) refl
       go false = refl
 
   pub kids-count : (t : Tree) (i : ℕ) (m : Bool) → length (shownKids sees t i) ≡ kidsOf (shownShape sees m t .kind)
   kids-count t i m = go (sees (root t)) t
     where
-      go : (b : Bool) (t : Tree) → length (cond b (kids t i) []) ≡ kidsOf (cond b (shape m t) (closedStep m) .kind)
+      go : (b : Bool) (t : Tree) → length (cond b (kids t i) []) ≡ kidsOf (cond b (nodeShape m t) (closedStep m) .kind)
       go true (empty A) = refl
       go true (leaf A t) = refl
       go true (unary A t) = refl
@@ -69,7 +69,7 @@ module _ (sees : View) where
   kids-entries t i m = go (sees (root t)) t
     where
       go : (b : Bool) (t : Tree)
-          → entriesOf (cond b (shape m t) (closedStep m) .kind) (cond b (shape m t) (closedStep m) .first) (cond b (shape m t) (closedStep m) .second) (cond b (shape m t) (closedStep m) .split) i (length (word t))
+          → entriesOf (cond b (nodeShape m t) (closedStep m) .kind) (cond b (nodeShape m t) (closedStep m) .first) (cond b (nodeShape m t) (closedStep m) .second) (cond b (nodeShape m t) (closedStep m) .split) i (length (word t))
           ≡ entries (cond b (kids t i) [])
       go true (empty A) = refl
       go true (leaf A t) = refl
@@ -223,7 +223,7 @@ module _ {sees : View} {g : Rules} {w : Word} {u : Tree} {s : Bool} {out : List 
   turn-row : getD out (4 * top) 0 ∷ st .kind ∷ startOf at (getD out (4 * top + 2) 0) ∷ getD out (4 * top + 2) 0 ∷ [] ≡ row sees (x .tree) at
   turn-row = rw (e, x .length-byte, x .left) (same-kind (x .tree))
     where
-      kind-same : (b : Bool) (t : Tree) → cond b (shape m t) (closedStep m) .kind ≡ cond b (shape false t) (closedStep false) .kind
+      kind-same : (b : Bool) (t : Tree) → cond b (nodeShape m t) (closedStep m) .kind ≡ cond b (nodeShape false t) (closedStep false) .kind
       kind-same true (empty A) = refl
       kind-same true (leaf A t) = refl
       kind-same true (unary A t) = refl

@@ -8,12 +8,12 @@ use lib.ListN.{length, getElem?}
 use Rattle.grammar.specs.declared.Rule.{Rule}
 use Rattle.grammar.specs.Layout.{Word, Every}
 use Rattle.grammar.specs.Trees.{Tree, empty, leaf, unary, binary, root, word, Rules, TwoTrees}
-use Rattle.grammar.specs.Choices.{Top, Takes, Choice, OnlyChoice, OtherChoice, Node, Each, Beneath, Preferred, First, FirstTree, SecondTree, Swerves, Second, here, below, left, right, Distinct}
+use Rattle.grammar.specs.Choices.{Top, Takes, Choice, OnlyChoice, OtherChoice, Node, Each, Beneath, Preferred, AllPreferred, FirstTree, SecondTree, Swerves, Second, here, below, left, right, Distinct}
 use Rattle.shown.specs.Shown.{View, shownRows}
 use Rattle.grammar.specs.SpanSheet.{part}
 use Rattle.grammar.proofs.ChoiceLaws.{takes-unique, other-same, not-only, top-of, beneath-of, second-rooted, second-spelled, keep-unary, keep-binary, two-trees, two-not-only, preferred-choice, preferred-same}
 use Rattle.rows.specs.declared.Step.{Step}
-use Rattle.rows.specs.Steps.{stepOf, closedStep}
+use Rattle.rows.specs.Steps.{stepOfClause, closedStep}
 use Rattle.derivation.specs.Picks.{Picks, Passes}
 
 -- a tree to be written, and where its word starts
@@ -41,20 +41,20 @@ kids (unary A t) i = record { tree = t; start = i } ∷ []
 kids (binary A s t) i = record { tree = s; start = i } ∷ record { tree = t; start = i + length (word s) } ∷ []
 
 -- what the writer has to know of a node
-abbrev pub shape : Bool → Tree → Step
-shape m (empty A) = record { kind = 0; first = 0; second = 0; split = 0; seeking = m }
-shape m (leaf A t) = record { kind = 1; first = 0; second = 0; split = 0; seeking = m }
-shape m (unary A t) = record { kind = 2; first = root t; second = 0; split = 0; seeking = m }
-shape m (binary A s t) = record { kind = 3; first = root s; second = root t; split = length (word s); seeking = m }
+abbrev pub nodeShape : Bool → Tree → Step
+nodeShape m (empty A) = record { kind = 0; first = 0; second = 0; split = 0; seeking = m }
+nodeShape m (leaf A t) = record { kind = 1; first = 0; second = 0; split = 0; seeking = m }
+nodeShape m (unary A t) = record { kind = 2; first = root t; second = 0; split = 0; seeking = m }
+nodeShape m (binary A s t) = record { kind = 3; first = root s; second = root t; split = length (word s); seeking = m }
 
 -- the same of a node as it is shown
 abbrev pub shownKids : View → Tree → ℕ → List Pending
 shownKids sees t i = cond (sees (root t)) (kids t i) []
 
 abbrev pub shownShape : View → Bool → Tree → Step
-shownShape sees m t = cond (sees (root t)) (shape m t) (closedStep m)
+shownShape sees m t = cond (sees (root t)) (nodeShape m t) (closedStep m)
 
-pub shape-of : (t : Tree) (r : Rule) (k : ℕ) (m : Bool) → Top r k t → stepOf (r .clause) k m ≡ shape m t
+pub shape-of : (t : Tree) (r : Rule) (k : ℕ) (m : Bool) → Top r k t → stepOfClause (r .clause) k m ≡ nodeShape m t
 shape-of (empty A) r k m e = rw (e .0) refl
 shape-of (leaf A t) r k m e = rw (e .2) refl
 shape-of (unary A t) r k m e = rw (e .1) refl
@@ -72,7 +72,7 @@ pub data Fork (g : Rules) : List Pending → List Pending → Type 0 where
 
 -- each is a first tree
 abbrev pub AllFirst : Rules → List Pending → Type 0
-AllFirst g ps = Every (λ (p : Pending). First g (p .tree)) ps
+AllFirst g ps = Every (λ (p : Pending). AllPreferred g (p .tree)) ps
 
 -- what is aimed at: first trees, or (seeking) those but for the second tree of one
 abbrev pub Aim : Rules → Bool → List Pending → Type 0
@@ -80,7 +80,7 @@ Aim g false us = AllFirst g us
 Aim g true us = (ts : List Pending) × AllFirst g ts × Fork g ts us
 
 -- what the rule at the place says of the tree
-takes-shape : {g : Rules} {t : Tree} {p k : ℕ} → Takes g t p k → (r : Rule) → getElem? g p ≡ some r → (m : Bool) → stepOf (r .clause) k m ≡ shape m t
+takes-shape : {g : Rules} {t : Tree} {p k : ℕ} → Takes g t p k → (r : Rule) → getElem? g p ≡ some r → (m : Bool) → stepOfClause (r .clause) k m ≡ nodeShape m t
 takes-shape {g} {t} {p} {k} a r e m = let x = a .stands in let y : r ≡ a .rule = cc in rw y (shape-of t (a .rule) k m (a .top))
 
 first-kids : (g : Rules) (t : Tree) (i : ℕ) (ps : List Pending) → Beneath g (Preferred g) t → AllFirst g ps → AllFirst g (kids t i ++ ps)
@@ -97,10 +97,10 @@ only-no-other {p = p} {k} {q} {l} o f x =
 
 -- the step at a node, and what is aimed at beneath and after it
 abbrev pub Stepped : Rules → Bool → ℕ → Tree → ℕ → List Pending → Rule → Type 0
-Stepped g m l t i ps r = (stepOf (r .clause) l m ≡ shape m t) × Aim g m (kids t i ++ ps)
+Stepped g m l t i ps r = (stepOfClause (r .clause) l m ≡ nodeShape m t) × Aim g m (kids t i ++ ps)
 
 module _ {g : Rules} (d : Distinct g) where
-  step-first : (t : Tree) (i : ℕ) (ps : List Pending) → First g t → AllFirst g ps → (q l : ℕ) → Preferred g (root t) (word t) q l
+  step-first : (t : Tree) (i : ℕ) (ps : List Pending) → AllPreferred g t → AllFirst g ps → (q l : ℕ) → Preferred g (root t) (word t) q l
       → (r : Rule) → getElem? g q ≡ some r → Stepped g false l t i ps r
   step-first t i ps f a q l c r e =
       let n = top-of g (Preferred g) t f in
@@ -108,7 +108,7 @@ module _ {g : Rules} (d : Distinct g) where
       let k : Takes g t q l = rw (s .0, s .1) at (n .takes) in
       (takes-shape k r e false, first-kids g t i ps (beneath-of g (Preferred g) t f) a)
 
-  step-swerve : (t u : Tree) (i : ℕ) (ps : List Pending) → First g t → AllFirst g ps → Swerves g t u → (p k q l : ℕ) → Preferred g (root u) (word u) p k → OtherChoice g (root u) (word u) p k q l
+  step-swerve : (t u : Tree) (i : ℕ) (ps : List Pending) → AllPreferred g t → AllFirst g ps → Swerves g t u → (p k q l : ℕ) → Preferred g (root u) (word u) p k → OtherChoice g (root u) (word u) p k q l
       → (r : Rule) → getElem? g q ≡ some r → Stepped g false l u i ps r
   step-swerve t u i ps f a sw p k q l c o r e =
       let n = top-of g (Preferred g) t f in
@@ -188,7 +188,7 @@ module _ {g : Rules} (d : Distinct g) where
   aim-pass false p ps a true c = absurd c
   aim-pass true p ps a m c = go (a .2) (a .1) m c
     where
-      first : {t : Tree} → First g t → FirstTree g (root t) (word t) t
+      first : {t : Tree} → AllPreferred g t → FirstTree g (root t) (word t) t
       first f = record { rooted = refl; spelled = refl; first = f }
 
       go : {ts : List Pending} → Fork g ts (p ∷ ps) → AllFirst g ts → (m : Bool) → Passes g (root (p .tree)) (word (p .tree)) true m → Aim g m ps

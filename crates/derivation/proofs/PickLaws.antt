@@ -15,7 +15,7 @@ use Rattle.grammar.specs.declared.Grammar.{Grammar}
 use Rattle.grammar.specs.declared.Sentence.{Sentence}
 use Rattle.grammar.specs.Layout.{Word}
 use Rattle.grammar.specs.Trees.{Rules}
-use Rattle.grammar.specs.Choices.{Choice, Before, Same, OnlyChoice, OtherChoice, FirstChoice, Preferred}
+use Rattle.grammar.specs.Choices.{Choice, ChoiceBefore, Same, OnlyChoice, OtherChoice, FirstChoice, Preferred}
 use Rattle.grammar.specs.Content.{rules, spelled, Formed, SmallRule}
 use Rattle.grammar.specs.SpanSheet.{part, secondWord}
 use Rattle.grammar.proofs.Lists.{mem-every}
@@ -26,9 +26,9 @@ use Rattle.grammar.proofs.ChoiceLaws.{tri, member-at}
 use Rattle.grammar.proofs.ByKind.{inside, choice-can}
 use Rattle.chart.specs.Choosing.{NextAt, NoneFrom}
 use Rattle.rows.specs.declared.Step.{Step}
-use Rattle.rows.specs.Steps.{stepOf}
+use Rattle.rows.specs.Steps.{stepOfClause}
 use Rattle.derivation.specs.Wanted.{Charted, Ready}
-use Rattle.derivation.specs.Picks.{HasChoice, Picks, Chosen, Passes}
+use Rattle.derivation.specs.Picks.{HasChoice, Picks, PickedStep, Passes}
 
 -- a choice's rule is one of the sheet's, and its left length one of the word's
 pub choice-within : {g : Grammar} → Formed g → (w : Word) (A i n q l : ℕ) → Choice (rules g) A (part w i n) q l → (q < g .count) × (l ≤ n)
@@ -42,17 +42,17 @@ choice-near {g} {s} r A i n q l h c =
     let x = choice-within (r .formed) (spelled s) A i n q l c in
     (omega (arith, x .0, r .formed .few), omega (arith, x .1, r .positioned .few))
 
-nothing-before : (q l : ℕ) → Before q l 0 0 → ⊥
+nothing-before : (q l : ℕ) → ChoiceBefore q l 0 0 → ⊥
 nothing-before q l b = ⊎-elim (λ x. omega arith) (λ x. omega arith) b
 
 pub first-of-next : {g : Rules} {A : ℕ} {w : Word} {p k : ℕ} → NextAt g A w 0 0 p k → FirstChoice g A w p k
 first-of-next x = record { choice = x .choice; least = λ q l c b. x .least q l c (nothing-before q l) b }
 
-not-both : (i j p k : ℕ) → Before i j p k → Same i j p k ⊎ Before p k i j → ⊥
+not-both : (i j p k : ℕ) → ChoiceBefore i j p k → Same i j p k ⊎ ChoiceBefore p k i j → ⊥
 not-both i j p k a b = ⊎-elim (λ x. ⊎-elim (λ y. omega (arith, y .0)) (λ y. ⊎-elim (λ z. omega arith) (λ z. omega (arith, z .0)) y) b) (λ x. ⊎-elim (λ y. omega (arith, x .1, y .1)) (λ y. ⊎-elim (λ z. omega (arith, x .0)) (λ z. omega (arith, x .1, z .1)) y) b) a
 
 -- what is not after the first choice is the first choice
-up-to-first : {g : Rules} {A : ℕ} {w : Word} {p k : ℕ} → FirstChoice g A w p k → (q l : ℕ) → Choice g A w q l → Before q l p (k + 1) → Same q l p k
+up-to-first : {g : Rules} {A : ℕ} {w : Word} {p k : ℕ} → FirstChoice g A w p k → (q l : ℕ) → Choice g A w q l → ChoiceBefore q l p (k + 1) → Same q l p k
 up-to-first {g} {A} {w} {p} {k} f q l c b = ⊎-elim (λ x. absurd (f .least q l c (inl x))) (λ x. (x .0, at (ℕ-discrete l k) (x .0) (x .1))) b
   where
     at : Dec (l ≡ k) → q ≡ p → l < k + 1 → l ≡ k
@@ -63,7 +63,7 @@ pub other-of-next : {g : Rules} {A : ℕ} {w : Word} {p k q l : ℕ} → FirstCh
 other-of-next {g} {A} {w} {p} {k} {q} {l} f x =
     record { choice = x .choice; other = λ e. x .late (inr (e .0, omega (arith, e .1))); least = λ i j c b. at i j c b (tri i j p (k + 1)) }
   where
-    at : (i j : ℕ) → Choice g A w i j → Before i j q l → Before i j p (k + 1) ⊎ (Same i j p (k + 1) ⊎ Before p (k + 1) i j) → Same i j p k
+    at : (i j : ℕ) → Choice g A w i j → ChoiceBefore i j q l → ChoiceBefore i j p (k + 1) ⊎ (Same i j p (k + 1) ⊎ ChoiceBefore p (k + 1) i j) → Same i j p k
     at i j c b (inl h) = up-to-first f i j c h
     at i j c b (inr h) = absurd (x .least i j c (λ z. not-both i j p (k + 1) z h) b)
 
@@ -88,13 +88,13 @@ getElem?-take (y ∷ l) (suc n) (suc p) e = getElem?-take l n p e
 
 -- the step of the rule at a choice's place
 pub chosen : (g : Grammar) {A : ℕ} {w : Word} {s : Bool} {p k : ℕ} (m : Bool) {st : Step} → Choice (rules g) A w p k → Picks (rules g) A w s p k m
-    → ((x : Rule) → getElem? (g .rules) p ≡ some x → st ≡ stepOf (x .clause) k m) → Chosen (rules g) A w s st
+    → ((x : Rule) → getElem? (g .rules) p ≡ some x → st ≡ stepOfClause (x .clause) k m) → PickedStep (rules g) A w s st
 chosen g {A} {w} {s} {p} {k} m {st} c h f =
     let e = f (c .takes .rule) (getElem?-take (g .rules) (g .count) p (c .takes .stands)) in
     let j : st .seeking ≡ m = ap (λ (x : Step). x .seeking) e ∙ same (c .takes .rule .clause) in
-    record { place = p; split = k; rule = c .takes .rule; stands = c .takes .stands; step = e ∙ ap (λ (x : Bool). stepOf (c .takes .rule .clause) k x) (sym j); picks = rw j h }
+    record { place = p; split = k; rule = c .takes .rule; stands = c .takes .stands; step = e ∙ ap (λ (x : Bool). stepOfClause (c .takes .rule .clause) k x) (sym j); picks = rw j h }
   where
-    same : (x : Clause) → stepOf x k m .seeking ≡ m
+    same : (x : Clause) → stepOfClause x k m .seeking ≡ m
     same Clause.Empty = refl
     same (Clause.Atom a b) = refl
     same (Clause.Unary B n) = refl

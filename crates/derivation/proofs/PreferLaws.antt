@@ -15,7 +15,7 @@ use Rattle.heights.specs.Least.{HeightSheet}
 use Rattle.chart.specs.declared.Pick.{Pick}
 use Rattle.chart.specs.declared.Pick.the-variants as Pick
 use Rattle.chart.specs.Choosing.{NextChoice}
-use Rattle.derivation.specs.Wanted.{Charted, Lent, Ready}
+use Rattle.derivation.specs.Wanted.{Charted, LentHeights, Ready}
 use Rattle.derivation.specs.Picks.{HasChoice}
 use Rattle.derivation.specs.Lows.{LowPick, PreferredPick}
 use Rattle.derivation.proofs.PickLaws.{first-of-next, none-of-none}

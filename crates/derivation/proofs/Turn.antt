@@ -21,15 +21,15 @@ use Rattle.derivation.specs.Written.{places}
 use Rattle.derivation.specs.Showing.{filledShown}
 use Rattle.derivation.specs.Wanted.{Ready, Goal, Wanted, Laid}
 use Rattle.rows.specs.Bytes.{splice}
-use Rattle.rows.specs.Steps.{kidsOf, stepOf, closedStep, entriesOf, Branched}
-use Rattle.derivation.specs.Picks.{HasChoice, Chosen, Looked, seen, closed}
-use Rattle.derivation.proofs.Pending.{kids, shape, shownKids, shownShape, Aim, aim-step, aim-pass, aim-choice}
+use Rattle.rows.specs.Steps.{kidsOf, stepOfClause, closedStep, entriesOf, Branched}
+use Rattle.derivation.specs.Picks.{HasChoice, PickedStep, Looked, seen, closed}
+use Rattle.derivation.proofs.Pending.{kids, nodeShape, shownKids, shownShape, Aim, aim-step, aim-pass, aim-choice}
 use Rattle.derivation.proofs.Memory.{goal-unique, State, state-start, Popped, pop, turn, over, laid-full, laid-short}
 
 shape-kind : (sees : View) (m : Bool) (t : Tree) → shownShape sees m t .kind ≤ 4
 shape-kind sees m t = go (sees (root t)) t
   where
-    go : (b : Bool) (t : Tree) → cond b (shape m t) (closedStep m) .kind ≤ 4
+    go : (b : Bool) (t : Tree) → cond b (nodeShape m t) (closedStep m) .kind ≤ 4
     go true (empty A) = omega arith
     go true (leaf A t) = omega arith
     go true (unary A t) = omega arith
@@ -39,7 +39,7 @@ shape-kind sees m t = go (sees (root t)) t
 shape-split : (sees : View) (m : Bool) (t : Tree) → shownShape sees m t .split ≤ length (word t)
 shape-split sees m t = go (sees (root t)) t
   where
-    go : (b : Bool) (t : Tree) → cond b (shape m t) (closedStep m) .split ≤ length (word t)
+    go : (b : Bool) (t : Tree) → cond b (nodeShape m t) (closedStep m) .split ≤ length (word t)
     go true (empty A) = omega arith
     go true (leaf A t) = omega arith
     go true (unary A t) = omega arith

@@ -9,7 +9,7 @@ use Rattle.grammar.specs.Layout.{Word}
 use Rattle.grammar.specs.Trees.{Rules, TwoTrees}
 use Rattle.grammar.specs.Choices.{Choice, OnlyChoice, OtherChoice, Preferred}
 use Rattle.rows.specs.declared.Step.{Step}
-use Rattle.rows.specs.Steps.{stepOf, closedStep}
+use Rattle.rows.specs.Steps.{stepOfClause, closedStep}
 use Rattle.shown.specs.Shown.{View}
 
 -- A has a choice at w
@@ -24,12 +24,12 @@ Picks g A w true p k false = (q : ℕ) × (l : ℕ) × Preferred g A w q l × Ot
 Picks g A w true p k true = OnlyChoice g A w p k
 
 -- the step of what is picked
-pub record Chosen (g : Rules) (A : ℕ) (w : Word) (seeking : Bool) (st : Step) : Type 0 where
+pub record PickedStep (g : Rules) (A : ℕ) (w : Word) (seeking : Bool) (st : Step) : Type 0 where
   pub place : ℕ
   pub split : ℕ
   pub rule : Rule
   pub stands : getElem? g place ≡ some rule
-  pub step : st ≡ stepOf (rule .clause) split (st .seeking)
+  pub step : st ≡ stepOfClause (rule .clause) split (st .seeking)
   pub picks : Picks g A w seeking place split (st .seeking)
 
 -- whether the seeking goes on behind a closed node: it ends there if the trees part beneath it, that is, if A has two trees over w
@@ -41,5 +41,5 @@ Passes g A w true true = TwoTrees g A w → ⊥
 
 -- the step of a node as it is shown: what is picked, or a closed node
 pub data Looked (sees : View) (g : Rules) (A : ℕ) (w : Word) (seeking : Bool) (st : Step) : Type 0 where
-  seen : sees A ≡ true → Chosen g A w seeking st → Looked sees g A w seeking st
+  seen : sees A ≡ true → PickedStep g A w seeking st → Looked sees g A w seeking st
   closed : sees A ≡ false → st ≡ closedStep (st .seeking) → Passes g A w seeking (st .seeking) → Looked sees g A w seeking st

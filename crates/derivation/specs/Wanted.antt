@@ -25,7 +25,7 @@ pub record Charted (g : Grammar) (s : Sentence) (ws : List ℕ) : Type 0 where
   pub sheet : SpanSheet (rules g) (spelled s) ws
 
 -- the heights that are lent: none where the sheet has no loop, else the least heights of w
-pub record Lent (g : Rules) (w : Word) (hs : List ℕ) : Type 0 where
+pub record LentHeights (g : Rules) (w : Word) (hs : List ℕ) : Type 0 where
   pub flat : length hs ≡ 0 → Cyclic g → ⊥
   pub looping : 0 < length hs → Cyclic g × HeightSheet g w hs
 
@@ -34,7 +34,7 @@ pub record Ready (g : Grammar) (s : Sentence) (ws hs : List ℕ) : Type 0 where
   pub formed : Formed g
   pub positioned : Positioned s
   pub sheet : SpanSheet (rules g) (spelled s) ws
-  pub lent : Lent (rules g) (spelled s) hs
+  pub lent : LentHeights (rules g) (spelled s) hs
 
 -- u is the first tree of A over w or, seeking, the second
 abbrev pub Goal : Rules → ℕ → Word → Bool → Tree → Type 0

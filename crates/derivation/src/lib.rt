@@ -27,7 +27,7 @@ ghost use Rattle.grammar.specs.SpanSheet.{part};
 ghost use Rattle.derivation.specs.Written.{Written};
 ghost use Rattle.derivation.specs.Wanted.{Charted, Ready, Goal, Wanted, Laid};
 ghost use Rattle.derivation.specs.Lows.{heightBy, Inside, LowPick, PreferredPick};
-ghost use Rattle.derivation.specs.Picks.{HasChoice, Chosen, Passes, Looked};
+ghost use Rattle.derivation.specs.Picks.{HasChoice, PickedStep, Passes, Looked};
 ghost use Rattle.derivation.specs.Showing.{ShownWritten};
 ghost use Rattle.heights.specs.Least.{HeightSheet};
 ghost use Rattle.shown.specs.Shown.{member};
@@ -146,7 +146,7 @@ fn after(
     requires { ⌜ Charted g s (now words) × (start + len ≤ s .count) ⌝ }
     requires { ⌜ FirstChoice (rules g) a (part (spelled s) start len) p k ⌝ }
     requires { ⌜ Preferred (rules g) a (part (spelled s) start len) p k ⌝ }
-    ensures { λ r. ⌜ Chosen (rules g) a (part (spelled s) start len) true r ⌝ }
+    ensures { λ r. ⌜ PickedStep (rules g) a (part (spelled s) start len) true r ⌝ }
 {
     let other = next_choice(words, s, g, a, start, len, p, k + 1);
     match other {
@@ -168,7 +168,7 @@ fn swerve(
 ) -> Step
     requires { ⌜ Charted g s (now words) × (start + len ≤ s .count) ⌝ }
     requires { ⌜ Preferred (rules g) a (part (spelled s) start len) p k ⌝ }
-    ensures { λ r. ⌜ Chosen (rules g) a (part (spelled s) start len) true r ⌝ }
+    ensures { λ r. ⌜ PickedStep (rules g) a (part (spelled s) start len) true r ⌝ }
 {
     let found = next_choice(words, s, g, a, start, len, 0, 0);
     match found {
@@ -198,7 +198,7 @@ pub fn choose(
 ) -> Step
     requires { ⌜ Ready g s (now words) (now hs) × (i + n ≤ s .count) ⌝ }
     requires { ⌜ HasChoice (rules g) a (part (spelled s) i n) ⌝ }
-    ensures { λ r. ⌜ Chosen (rules g) a (part (spelled s) i n) seeking r ⌝ }
+    ensures { λ r. ⌜ PickedStep (rules g) a (part (spelled s) i n) seeking r ⌝ }
 {
     let start = wide(i);
     let len = wide(n);

@@ -21,7 +21,7 @@ use Rattle.grammar.specs.Sweeps.{isAtom}
 use Rattle.grammar.specs.Content.{rules, SmallRule, Formed}
 use Rattle.grammar.proofs.Lists.{mem-every}
 use Rattle.grammar.proofs.Atoms.{is-covers, atom-is, atom-more, atom-here, atom-cases}
-use Rattle.dominance.specs.Dominance.{Replaces, withLeft, Lefts, Part, Serves, Replaced, Spares, Spared}
+use Rattle.dominance.specs.Dominance.{Replaces, addLeft, Lefts, Subset, Serves, Replaced, Spares, Spared}
 
 -- ---- the lefts of one rule more
 
@@ -42,7 +42,7 @@ module _ (g : Rules) (r : Rule) (a s : ℕ) (l : Lefts g a s) where
     );
   }
 
-  lefts-rule : Lefts (g ++ (r ∷ [])) a (withLeft s r a)
+  lefts-rule : Lefts (g ++ (r ∷ [])) a (addLeft s r a)
   lefts-rule = go (isAtom a (r .clause)) refl
     where
       go : (x : Bool) → isAtom a (r .clause) ≡ x → Lefts (g ++ (r ∷ [])) a (cond x (insert s (r .left)) s)
@@ -50,14 +50,14 @@ module _ (g : Rules) (r : Rule) (a s : ℕ) (l : Lefts g a s) where
       go false e = lefts-other (λ q. true-not-false (sym q ∙ e))
 
 -- the rule at i is taken in
-pub lefts-step : (g : Rules) (d : Rule) (i a s u : ℕ) → i < length g → Lefts (take i g) a s → u ≡ withLeft s (getD g i d) a → Lefts (take (i + 1) g) a u
+pub lefts-step : (g : Rules) (d : Rule) (i a s u : ℕ) → i < length g → Lefts (take i g) a s → u ≡ addLeft s (getD g i d) a → Lefts (take (i + 1) g) a u
 lefts-step g d i a s u h l e = rw (add-one i, take-suc g i d, e) (lefts-rule (take i g) (getD g i d) a s l)
 
 -- an A rule that covers a adds its left, one that does not nothing
-pub with-same : (s a b e : ℕ) (r : Rule) → r .clause ≡ Clause.Atom b e → b ≤ a → a ≤ e → withLeft s r a ≡ insert s (r .left)
+pub with-same : (s a b e : ℕ) (r : Rule) → r .clause ≡ Clause.Atom b e → b ≤ a → a ≤ e → addLeft s r a ≡ insert s (r .left)
 with-same s a b e r k l h = rw (atom-is a b e (r .clause) k (record { low = l; high = h }))
 
-pub with-other : (s a b e : ℕ) (r : Rule) → r .clause ≡ Clause.Atom b e → (Covers b e a → ⊥) → withLeft s r a ≡ s
+pub with-other : (s a b e : ℕ) (r : Rule) → r .clause ≡ Clause.Atom b e → (Covers b e a → ⊥) → addLeft s r a ≡ s
 with-other s a b e r k n = go (isAtom a (r .clause)) refl
   where
     go : (x : Bool) → isAtom a (r .clause) ≡ x → cond x (insert s (r .left)) s ≡ s
@@ -78,7 +78,7 @@ part-more s t a h k x b m = go (decLt x a)
 pub left-small : (g : Grammar) → Formed g → {A a : ℕ} → HasAtom (rules g) A a → A < 64
 left-small g f m = mem-every SmallRule (rules g) (f .small) (m .rule) .left
 
-pub serves-of : (g : Rules) (kept s t y : ℕ) → In kept y → Lefts g y t → Part s t → Serves g kept s y
+pub serves-of : (g : Rules) (kept s t y : ℕ) → In kept y → Lefts g y t → Subset s t → Serves g kept s y
 serves-of g kept s t y k l p = record { held = k; lefts = λ A h m. l .is A .0 (p .each A h m) }
 
 pub replaced-of : (g : Grammar) → Formed g → (kept s x y : ℕ) → y < x → Lefts (rules g) x s → Serves (rules g) kept s y → Replaced (rules g) kept x

@@ -12,7 +12,7 @@ use Rattle.grammar.specs.declared.Token.{Token}
 use Rattle.grammar.specs.declared.Cell.{Cell}
 use Rattle.grammar.specs.Layout.{Word, Every}
 use Rattle.grammar.specs.Trees.{Rules, TwoTrees, HasAtom}
-use Rattle.grammar.specs.Candidates.{Candidate, Before, CellBefore, placed, sentence}
+use Rattle.grammar.specs.Candidates.{Candidate, CellsBefore, CellBefore, placed, sentence}
 use Rattle.grammar.proofs.Transfer.{Alike, two-keeps}
 use Rattle.candidates.specs.Terminals.{Among}
 use Rattle.candidates.specs.Windows.{Fit}
@@ -104,12 +104,12 @@ module _ (g : Rules) (s kept : ℕ) (sp : Spared g s kept) where
       go (yes e) = inr (⊎-elim (λ x. inl (e ∙ x .0, x .1)) (λ x. inr (e ∙ x .0, x .1, x .2)) h)
       go (no n) = inl (omega (arith, chosen (c .terminal) .low, equal))
 
-  pub renamed-before : (ds cs : List Cell) → Before ds cs → Before (renamed ds) cs
+  pub renamed-before : (ds cs : List Cell) → CellsBefore ds cs → CellsBefore (renamed ds) cs
   renamed-before [] cs b = b
   renamed-before (d ∷ ds) [] b = b
   renamed-before (d ∷ ds) (c ∷ cs) (inl b) = inl (cell-before d c b)
   renamed-before (d ∷ ds) (c ∷ cs) (inr b) = go (ℕ-discrete (rename (d .terminal)) (d .terminal)) (renamed-before ds cs (b .1))
     where
-      go : Dec (rename (d .terminal) ≡ d .terminal) → Before (renamed ds) cs → Before (renamed (d ∷ ds)) (c ∷ cs)
+      go : Dec (rename (d .terminal) ≡ d .terminal) → CellsBefore (renamed ds) cs → CellsBefore (renamed (d ∷ ds)) (c ∷ cs)
       go (yes e) h = inr (cell-same d e ∙ b .0, h)
       go (no n) h = inl (inl (omega (arith, chosen (d .terminal) .low, ap (λ (x : Cell). x .terminal) (b .0))))

@@ -21,15 +21,15 @@ pub record Spared (g : Rules) (s kept : ℕ) : Type 0 where
 -- ---- inner: contracts of the functions that find them
 
 -- the set with the rule's left besides, if its clause covers the terminal a
-abbrev pub withLeft : ℕ → Rule → ℕ → ℕ
-withLeft set r a = cond (isAtom a (r .clause)) (insert set (r .left)) set
+abbrev pub addLeft : ℕ → Rule → ℕ → ℕ
+addLeft set r a = cond (isAtom a (r .clause)) (insert set (r .left)) set
 
 -- s is the set of the lefts of the A rules that cover a
 pub record Lefts (g : Rules) (a s : ℕ) : Type 0 where
   pub is : (A : ℕ) → In s A ↔ HasAtom g A a
 
 -- each member of s is one of t
-pub record Part (s t : ℕ) : Type 0 where
+pub record Subset (s t : ℕ) : Type 0 where
   pub each : (A : ℕ) → A < 64 → In s A → In t A
 
 -- y is kept, and has all the lefts in s

@@ -10,12 +10,12 @@ ghost use mathlib.Core.Bool.{true, false};
 ghost use Prim.Native.Nat.{_+_, _<_};
 ghost use Rattle.sets.specs.Sets.{In};
 ghost use Rattle.grammar.specs.Content.{rules, SmallRule, Formed};
-ghost use Rattle.dominance.specs.Dominance.{withLeft, Lefts, Part, Serves, Replaced, Spares, Spared};
+ghost use Rattle.dominance.specs.Dominance.{addLeft, Lefts, Subset, Serves, Replaced, Spares, Spared};
 
 // The set with the rule's left besides, if it is an A rule that covers `a`.
 fn with_left(set: u64, r: Rule, a: u8) -> u64
     requires { ⌜ SmallRule r ⌝ }
-    ensures { λ u. ⌜ u ≡ withLeft set r a ⌝ }
+    ensures { λ u. ⌜ u ≡ addLeft set r a ⌝ }
 {
     let c = r.clause;
     match c {
@@ -62,7 +62,7 @@ fn lacks(s: u64, t: u64, a: u8) -> bool
 
 // Is each member of s one of t?
 fn within(s: u64, t: u64) -> bool
-    ensures { λ r. ⌜ (r ≡ true → Part s t) ⌝ }
+    ensures { λ r. ⌜ (r ≡ true → Subset s t) ⌝ }
 {
     let mut a: u8 = 0;
     while a < 64 {

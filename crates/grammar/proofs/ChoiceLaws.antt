@@ -17,7 +17,7 @@ use Rattle.grammar.specs.declared.Clause.the-variants as Clause
 use Rattle.grammar.specs.Layout.{Word}
 use Rattle.grammar.specs.Layout as Mark
 use Rattle.grammar.specs.Trees.{Tree, empty, leaf, unary, binary, root, word, Rules, Valid, valid-empty, valid-leaf, valid-unary, valid-binary, Witness, OneTree, TwoTrees}
-use Rattle.grammar.specs.Choices.{Top, Takes, Choice, Before, Same, FirstChoice, OnlyChoice, OtherChoice, height, Gives, LowChoice, Ask, Node, Each, Beneath, Preferred, straight, looping, First, FirstTree, Swerves, Second, here, below, left, right, SecondTree, Alike, Distinct}
+use Rattle.grammar.specs.Choices.{Top, Takes, Choice, ChoiceBefore, Same, FirstChoice, OnlyChoice, OtherChoice, height, GivesHeight, LowChoice, Ask, Node, Each, Beneath, Preferred, straight, looping, AllPreferred, FirstTree, Swerves, Second, here, below, left, right, SecondTree, Alike, Distinct}
 
 -- 1. a choice is taken at one place only
 
@@ -136,10 +136,10 @@ module _ (g : Rules) (P Q R S : Ask) (d : Decides P Q) (e : Decides R S) where
 
 -- 3. the order of choices
 
-pub tri : (p k q l : ℕ) → Before p k q l ⊎ (Same p k q l ⊎ Before q l p k)
+pub tri : (p k q l : ℕ) → ChoiceBefore p k q l ⊎ (Same p k q l ⊎ ChoiceBefore q l p k)
 tri p k q l = go (decLt p q) (decLt q p) (decLt k l) (decLt l k)
   where
-    go : Dec (p < q) → Dec (q < p) → Dec (k < l) → Dec (l < k) → Before p k q l ⊎ (Same p k q l ⊎ Before q l p k)
+    go : Dec (p < q) → Dec (q < p) → Dec (k < l) → Dec (l < k) → ChoiceBefore p k q l ⊎ (Same p k q l ⊎ ChoiceBefore q l p k)
     go (yes a) b c d = inl (inl a)
     go (no a) (yes b) c d = inr (inr (inl b))
     go (no a) (no b) (yes c) d = inl (inr (omega arith, c))
@@ -151,7 +151,7 @@ tri p k q l = go (decLt p q) (decLt q p) (decLt k l) (decLt l k)
 pub first-same : {g : Rules} (A : ℕ) (w : Word) (p k q l : ℕ) → FirstChoice g A w p k → FirstChoice g A w q l → Same p k q l
 first-same A w p k q l a b = go (tri p k q l)
   where
-    go : Before p k q l ⊎ (Same p k q l ⊎ Before q l p k) → Same p k q l
+    go : ChoiceBefore p k q l ⊎ (Same p k q l ⊎ ChoiceBefore q l p k) → Same p k q l
     go (inl h) = absurd (b .least p k (a .choice) h)
     go (inr (inl h)) = h
     go (inr (inr h)) = absurd (a .least q l (b .choice) h)
@@ -163,7 +163,7 @@ low-same {g} A w p k q l a b = go (tri p k q l)
     same : a .least ≡ b .least
     same = omega (arith, a .lowest (b .gives .tree) (b .gives .witness), b .lowest (a .gives .tree) (a .gives .witness), a .gives .high, b .gives .high)
 
-    go : Before p k q l ⊎ (Same p k q l ⊎ Before q l p k) → Same p k q l
+    go : ChoiceBefore p k q l ⊎ (Same p k q l ⊎ ChoiceBefore q l p k) → Same p k q l
     go (inl h) = absurd (b .earliest p k (rw same at (a .gives)) h)
     go (inr (inl h)) = h
     go (inr (inr h)) = absurd (a .earliest q l (rw (← same) at (b .gives)) h)
@@ -234,7 +234,7 @@ one-tree {t = t} a b = record { tree = t; witness = first-witness a; only = only
 pub other-same : {g : Rules} (p k : ℕ) → Decides (λ A w q l. OtherChoice g A w p k q l) (λ A w q l. OtherChoice g A w p k q l)
 other-same p k A w q l q′ l′ a b = go (tri q l q′ l′)
   where
-    go : Before q l q′ l′ ⊎ (Same q l q′ l′ ⊎ Before q′ l′ q l) → Same q l q′ l′
+    go : ChoiceBefore q l q′ l′ ⊎ (Same q l q′ l′ ⊎ ChoiceBefore q′ l′ q l) → Same q l q′ l′
     go (inl h) = absurd (a .other (b .least q l (a .choice) h))
     go (inr (inl h)) = h
     go (inr (inr h)) = absurd (b .other (a .least q′ l′ (b .choice) h))

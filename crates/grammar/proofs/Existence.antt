@@ -10,7 +10,7 @@ use lib.ListN.{length, length-append}
 use Rattle.grammar.specs.declared.BinaryMark.{BinaryMark}
 use Rattle.grammar.specs.Layout.{Word}
 use Rattle.grammar.specs.Trees.{Tree, empty, leaf, unary, binary, root, word, Rules, HasBinary, Valid, valid-empty, valid-leaf, valid-unary, valid-binary, Derives, NoTree, OneTree, TwoTrees}
-use Rattle.grammar.specs.Choices.{Choice, Same, FirstChoice, OnlyChoice, OtherChoice, LowChoice, Node, Each, Preferred, straight, looping, First, FirstTree, Second, here, below, left, right, SecondTree, Distinct}
+use Rattle.grammar.specs.Choices.{Choice, Same, FirstChoice, OnlyChoice, OtherChoice, LowChoice, Node, Each, Preferred, straight, looping, AllPreferred, FirstTree, Second, here, below, left, right, SecondTree, Distinct}
 use Rattle.grammar.specs.Cycles.{Nullable, Edge, by-unary, by-left, by-right, Cyclic}
 use Rattle.grammar.proofs.Lists.{both?}
 use Rattle.grammar.proofs.ChoiceLaws.{takes-of, preferred-choice, each-map, two-not-only, one-tree, two-trees}
@@ -177,7 +177,7 @@ module _ {g : Rules} where
           )
 
   -- a first tree has one choice only at each node, or a second tree
-  pub fork : (t : Tree) → First g t → Fork g t
+  pub fork : (t : Tree) → AllPreferred g t → Fork g t
   fork (empty A) n = fork-top (empty A) n
   fork (leaf A x) n = fork-top (leaf A x) n
   fork (unary A t) n = go (fork-top (unary A t) (n .0)) (fork t (n .1))

@@ -4,7 +4,7 @@ use mathlib.Core.Logic.{_⊎_, inl, inr, ⊎-elim}
 use Prim.Native.Nat.{ℕ, zero, suc, _≤_, _<_}
 use native.Mathlib.Omega.{arith}
 use native.Mathlib.Decide.{ℕ-discrete}
-use Rattle.grammar.specs.Choices.{Before}
+use Rattle.grammar.specs.Choices.{ChoiceBefore}
 
 pub record Least (Q : ℕ → Type 0) : Type 0 where
   pub at : ℕ
@@ -31,7 +31,7 @@ pub record Least₂ (P : ℕ → ℕ → Type 0) : Type 0 where
   pub place : ℕ
   pub split : ℕ
   pub holds : P place split
-  pub before : (q l : ℕ) → P q l → Before q l place split → ⊥
+  pub before : (q l : ℕ) → P q l → ChoiceBefore q l place split → ⊥
 
 module _ (P : ℕ → ℕ → Type 0) (d : (p k : ℕ) → Dec (P p k)) (n m : ℕ) (inside : (p k : ℕ) → P p k → (p < n) × (k ≤ m)) where
   row : (p : ℕ) → Dec (Least (P p))

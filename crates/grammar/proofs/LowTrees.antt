@@ -12,7 +12,7 @@ use Rattle.grammar.specs.declared.Clause.{Clause}
 use Rattle.grammar.specs.declared.Clause.the-variants as Clause
 use Rattle.grammar.specs.Layout.{Word}
 use Rattle.grammar.specs.Trees.{Tree, empty, leaf, unary, binary, root, word, Rules, Valid, valid-empty, valid-leaf, valid-unary, valid-binary, Witness, Derives}
-use Rattle.grammar.specs.Choices.{Top, Takes, Choice, height, Gives, LowChoice, Ask, Node, Each, Beneath}
+use Rattle.grammar.specs.Choices.{Top, Takes, Choice, height, GivesHeight, LowChoice, Ask, Node, Each, Beneath}
 use Rattle.grammar.proofs.ChoiceLaws.{member-at, takes-of, each-of}
 use Rattle.grammar.proofs.ByKind.{top-left, inside}
 use Rattle.grammar.proofs.Least.{Least, seek, Least₂, seek₂}

@@ -10,7 +10,7 @@ use Rattle.grammar.specs.declared.Token.{Token}
 use Rattle.grammar.specs.declared.Cell.{Cell}
 use Rattle.grammar.specs.Layout.{Word, line, col, width, Every}
 use Rattle.grammar.specs.Trees.{Tree, empty, leaf, unary, binary, word, Rules, Valid, valid-empty, valid-leaf, valid-unary, valid-binary, Witness, TwoTrees}
-use Rattle.grammar.proofs.Transfer.{Keeps, Alike, same-atoms, two-keeps, every-join, keeps-line-le}
+use Rattle.grammar.proofs.Transfer.{KeepsOrders, Alike, same-atoms, two-keeps, every-join, keeps-line-le}
 use Rattle.grammar.specs.Candidates.{After, RisingFrom, Rising, Wide, token, placed, sentence, Terminal, Ranged, Cells, Arrangement, Candidate}
 
 abbrev In : Token → Word → Type 0
@@ -147,7 +147,7 @@ abbrev moved : ℕ → Word → Token → Token
 moved p w t = record { terminal = t .terminal; line = record { 0 = 1 + climb p w (line t) }; column = record { 0 = rank w (col t) + 1 }; width = record { 0 = 1 } }
 
 module _ (p : ℕ) (w : Word) (s : Sorted p w) where
-  moved-keeps : (a b : Token) → In a w → In b w → Keeps (moved p w) a b
+  moved-keeps : (a b : Token) → In a w → In b w → KeepsOrders (moved p w) a b
   moved-keeps a b i j =
       elim (decLe (line a) (line b)) [
         | yes h ↦

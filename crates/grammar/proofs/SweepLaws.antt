@@ -9,8 +9,8 @@ use lib.ListN.{length}
 use Rattle.grammar.specs.declared.Cell.{Cell}
 use Rattle.grammar.specs.Layout.{Word, Every, width}
 use Rattle.grammar.specs.Trees.{Rules, TwoTrees}
-use Rattle.grammar.specs.Candidates.{Rising, Wide, placed, sentence, Terminal, Candidate, CellBefore, Before, Earlier}
-use Rattle.grammar.specs.Sweeps.{Clear, FirstTwo, Answer, clear, found, Answers}
+use Rattle.grammar.specs.Candidates.{Rising, Wide, placed, sentence, Terminal, Candidate, CellBefore, CellsBefore, Earlier}
+use Rattle.grammar.specs.Sweeps.{Clear, FirstTwo, SweepAnswer, clear, found, Answers}
 use Rattle.grammar.proofs.Normalization.{Normal, normal}
 
 pub cell-path : {c d : Cell} → c .terminal ≡ d .terminal → c .step ≡ d .step → c .column ≡ d .column → c ≡ d
@@ -43,13 +43,13 @@ cell-total c d = by-terminal (compare (c .terminal) (d .terminal))
     by-terminal (inr (inl t)) = by-step t (compare (c .step) (d .step))
     by-terminal (inr (inr l)) = inr (inr (inl l))
 
-pub before-total : (cs ds : List Cell) → length cs ≡ length ds → Before cs ds ⊎ ((cs ≡ ds) ⊎ Before ds cs)
+pub before-total : (cs ds : List Cell) → length cs ≡ length ds → CellsBefore cs ds ⊎ ((cs ≡ ds) ⊎ CellsBefore ds cs)
 before-total [] [] e = inr (inl refl)
 before-total [] (d ∷ ds) e = absurd (omega arith)
 before-total (c ∷ cs) [] e = absurd (omega arith)
 before-total (c ∷ cs) (d ∷ ds) e = go (cell-total c d) (before-total cs ds (omega arith))
   where
-    go : CellBefore c d ⊎ ((c ≡ d) ⊎ CellBefore d c) → Before cs ds ⊎ ((cs ≡ ds) ⊎ Before ds cs) → Before (c ∷ cs) (d ∷ ds) ⊎ ((c ∷ cs ≡ d ∷ ds) ⊎ Before (d ∷ ds) (c ∷ cs))
+    go : CellBefore c d ⊎ ((c ≡ d) ⊎ CellBefore d c) → CellsBefore cs ds ⊎ ((cs ≡ ds) ⊎ CellsBefore ds cs) → CellsBefore (c ∷ cs) (d ∷ ds) ⊎ ((c ∷ cs ≡ d ∷ ds) ⊎ CellsBefore (d ∷ ds) (c ∷ cs))
     go (inl l) r = inl (inl l)
     go (inr (inr l)) r = inr (inr (inl l))
     go (inr (inl q)) (inl l) = inl (inr (q, l))
@@ -99,7 +99,7 @@ module _ {g : Rules} where
       c .none (sentence cs) (sentence-wide 1 cs) (f .candidate .rising) (omega (arith, f .low)) (omega (arith, f .high)) (f .two)
 
 -- a sweep has only one answer
-pub answer-unique : (g : Rules) (k : ℕ) (a b : Answer) → Answers g k a → Answers g k b → a ≡ b
+pub answer-unique : (g : Rules) (k : ℕ) (a b : SweepAnswer) → Answers g k a → Answers g k b → a ≡ b
 answer-unique g k clear clear x y = refl
 answer-unique g k clear (found ds) x y = absurd (never-both y x)
 answer-unique g k (found cs) clear x y = absurd (never-both x y)

@@ -36,11 +36,11 @@ relabel-word f (unary A t) = relabel-word f t
 relabel-word f (binary A s t) = rw (relabel-word f s, relabel-word f t) (sym (map-append f (word s) (word t)))
 
 -- the number of tokens
-abbrev pub size : Tree → ℕ
-size (empty A) = 0
-size (leaf A t) = 1
-size (unary A t) = size t
-size (binary A s t) = size s + size t
+abbrev pub tokenCount : Tree → ℕ
+tokenCount (empty A) = 0
+tokenCount (leaf A t) = 1
+tokenCount (unary A t) = tokenCount t
+tokenCount (binary A s t) = tokenCount s + tokenCount t
 
 -- the tree's shape, with the tokens of a word in its leaves
 abbrev pub refill : Tree → Word → Tree
@@ -48,15 +48,15 @@ refill (empty A) w = empty A
 refill (leaf A t) [] = empty A
 refill (leaf A t) (x ∷ w) = leaf A x
 refill (unary A t) w = unary A (refill t w)
-refill (binary A s t) w = binary A (refill s w) (refill t (drop (size s) w))
+refill (binary A s t) w = binary A (refill s w) (refill t (drop (tokenCount s) w))
 
-relabel-size : (f : Token → Token) (t : Tree) → size (relabel f t) ≡ size t
+relabel-size : (f : Token → Token) (t : Tree) → tokenCount (relabel f t) ≡ tokenCount t
 relabel-size f (empty A) = refl
 relabel-size f (leaf A t) = refl
 relabel-size f (unary A t) = relabel-size f t
 relabel-size f (binary A s t) = cc (relabel-size f s, relabel-size f t)
 
-size-word : (t : Tree) → length (word t) ≡ size t
+size-word : (t : Tree) → length (word t) ≡ tokenCount t
 size-word (empty A) = refl
 size-word (leaf A t) = refl
 size-word (unary A t) = size-word t
@@ -75,7 +75,7 @@ refill-word (empty A) v = refl
 refill-word (leaf A t) v = refl
 refill-word (unary A t) v = ap (unary A) (refill-word t v)
 refill-word (binary A s t) v =
-    rw (append-assoc (word s) (word t) v, refill-word s (word t ++ v), drop-at (word s) (word t ++ v) (size s) (size-word s), refill-word t v)
+    rw (append-assoc (word s) (word t) v, refill-word s (word t ++ v), drop-at (word s) (word t ++ v) (tokenCount s) (size-word s), refill-word t v)
 
 -- a tree is settled by its shape and its word
 pub relabel-inj : (f : Token → Token) (s t : Tree) → relabel f s ≡ relabel f t → word s ≡ word t → s ≡ t
@@ -114,14 +114,14 @@ last-map f a [] = refl
 last-map f a (b ∷ u) = last-map f b u
 
 -- of two tokens, f keeps what the marks look at: the orders of lines and of columns
-pub record Keeps (f : Token → Token) (a b : Token) : Type 0 where
+pub record KeepsOrders (f : Token → Token) (a b : Token) : Type 0 where
   pub columns : (col a < col b) ↔ (col (f a) < col (f b))
   pub lines : (line a < line b) ↔ (line (f a) < line (f b))
 
 -- f keeps that of any two tokens that have P, and the A rules that have a token's terminal have its image's
 pub record Alike (g : Rules) (P : Token → Type 0) (f : Token → Token) : Type 0 where
   pub atoms : (a : Token) → P a → (A : ℕ) → HasAtom g A (a .terminal) → HasAtom g A (f a .terminal)
-  pub keeps : (a b : Token) → P a → P b → Keeps f a b
+  pub keeps : (a b : Token) → P a → P b → KeepsOrders f a b
 
 -- so it is where the terminal is the same
 pub same-atoms : (g : Rules) (a b : Token) → b .terminal ≡ a .terminal → (A : ℕ) → HasAtom g A (a .terminal) → HasAtom g A (b .terminal)

@@ -74,11 +74,11 @@ CellBefore a b =
     ⊎ ((a .terminal ≡ b .terminal) × (a .step ≡ b .step) × (a .column < b .column))
 
 -- within a length, compare token by token
-abbrev pub Before : List Cell → List Cell → Type 0
-Before [] ds = ⊥
-Before (c ∷ cs) [] = ⊥
-Before (c ∷ cs) (d ∷ ds) = CellBefore c d ⊎ ((c ≡ d) × Before cs ds)
+abbrev pub CellsBefore : List Cell → List Cell → Type 0
+CellsBefore [] ds = ⊥
+CellsBefore (c ∷ cs) [] = ⊥
+CellsBefore (c ∷ cs) (d ∷ ds) = CellBefore c d ⊎ ((c ≡ d) × CellsBefore cs ds)
 
 -- shorter ones come first
 abbrev pub Earlier : List Cell → List Cell → Type 0
-Earlier cs ds = (length cs < length ds) ⊎ ((length cs ≡ length ds) × Before cs ds)
+Earlier cs ds = (length cs < length ds) ⊎ ((length cs ≡ length ds) × CellsBefore cs ds)

@@ -40,8 +40,8 @@ pub record Choice (g : Rules) (A : ℕ) (w : Word) (p k : ℕ) : Type 0 where
   pub takes : Takes g tree p k
 
 -- choices are ordered by the rule's place in the sheet, then by the length of the left word, rising
-abbrev pub Before : ℕ → ℕ → ℕ → ℕ → Type 0
-Before p k q l = (p < q) ⊎ ((p ≡ q) × (k < l))
+abbrev pub ChoiceBefore : ℕ → ℕ → ℕ → ℕ → Type 0
+ChoiceBefore p k q l = (p < q) ⊎ ((p ≡ q) × (k < l))
 
 abbrev pub Same : ℕ → ℕ → ℕ → ℕ → Type 0
 Same p k q l = (p ≡ q) × (k ≡ l)
@@ -49,7 +49,7 @@ Same p k q l = (p ≡ q) × (k ≡ l)
 -- the first choice: no choice comes before it
 pub record FirstChoice (g : Rules) (A : ℕ) (w : Word) (p k : ℕ) : Type 0 where
   pub choice : Choice g A w p k
-  pub least : (q l : ℕ) → Choice g A w q l → Before q l p k → ⊥
+  pub least : (q l : ℕ) → Choice g A w q l → ChoiceBefore q l p k → ⊥
 
 -- the only choice: the node has not two or more
 pub record OnlyChoice (g : Rules) (A : ℕ) (w : Word) (p k : ℕ) : Type 0 where
@@ -60,7 +60,7 @@ pub record OnlyChoice (g : Rules) (A : ℕ) (w : Word) (p k : ℕ) : Type 0 wher
 pub record OtherChoice (g : Rules) (A : ℕ) (w : Word) (p k q l : ℕ) : Type 0 where
   pub choice : Choice g A w q l
   pub other : Same q l p k → ⊥
-  pub least : (q′ l′ : ℕ) → Choice g A w q′ l′ → Before q′ l′ q l → Same q′ l′ p k
+  pub least : (q′ l′ : ℕ) → Choice g A w q′ l′ → ChoiceBefore q′ l′ q l → Same q′ l′ p k
 
 -- the height of a tree: how many nodes stand on its longest way down
 abbrev pub height : Tree → ℕ
@@ -70,7 +70,7 @@ height (unary A t) = suc (height t)
 height (binary A s t) = suc (max (height s) (height t))
 
 -- (p, k) gives the height h: some valid tree of A over w that takes it is h high
-pub record Gives (g : Rules) (A : ℕ) (w : Word) (p k h : ℕ) : Type 0 where
+pub record GivesHeight (g : Rules) (A : ℕ) (w : Word) (p k h : ℕ) : Type 0 where
   pub tree : Tree
   pub witness : Witness g A w tree
   pub takes : Takes g tree p k
@@ -79,9 +79,9 @@ pub record Gives (g : Rules) (A : ℕ) (w : Word) (p k h : ℕ) : Type 0 where
 -- the earliest choice among those giving the least height
 pub record LowChoice (g : Rules) (A : ℕ) (w : Word) (p k : ℕ) : Type 0 where
   pub least : ℕ
-  pub gives : Gives g A w p k least
+  pub gives : GivesHeight g A w p k least
   pub lowest : (t : Tree) → Witness g A w t → least ≤ height t
-  pub earliest : (q l : ℕ) → Gives g A w q l least → Before q l p k → ⊥
+  pub earliest : (q l : ℕ) → GivesHeight g A w q l least → ChoiceBefore q l p k → ⊥
 
 -- what is asked of a node: of its nonterminal, its word, the place of its rule and its left length
 abbrev pub Ask : Type 1
@@ -114,14 +114,14 @@ pub data Preferred (g : Rules) (A : ℕ) (w : Word) (p k : ℕ) : Type 0 where
   looping : Cyclic g → LowChoice g A w p k → Preferred g A w p k
 
 -- t takes that choice at each node
-abbrev pub First : Rules → Tree → Type 0
-First g t = Each g (Preferred g) t
+abbrev pub AllPreferred : Rules → Tree → Type 0
+AllPreferred g t = Each g (Preferred g) t
 
 -- t is the first tree of A over w
 pub record FirstTree (g : Rules) (A : ℕ) (w : Word) (t : Tree) : Type 0 where
   pub rooted : root t ≡ A
   pub spelled : word t ≡ w
-  pub first : First g t
+  pub first : AllPreferred g t
 
 -- u takes, at the top, the first choice that t does not, and first trees beneath
 pub record Swerves (g : Rules) (t u : Tree) : Type 0 where

@@ -24,11 +24,11 @@ pub record FirstTwo (g : Rules) (k : ℕ) (cs : List Cell) : Type 0 where
   pub earlier : (ds : List Cell) → 1 ≤ length ds → Candidate (Terminal g) (length ds) ds → Earlier ds cs → TwoTrees g 0 (sentence ds) → ⊥
 
 -- the answer of a sweep
-pub data Answer : Type 0 where
-  clear : Answer
-  found : List Cell → Answer
+pub data SweepAnswer : Type 0 where
+  clear : SweepAnswer
+  found : List Cell → SweepAnswer
 
-abbrev pub Answers : Rules → ℕ → Answer → Type 0
+abbrev pub Answers : Rules → ℕ → SweepAnswer → Type 0
 Answers g k clear = Clear g k
 Answers g k (found cs) = FirstTwo g k cs
 

@@ -19,7 +19,7 @@ use Rattle.codes.proofs.Laws.{coded-at, coded-length, part-kind}
 use Rattle.chart.specs.Tables.{Leave, no-rule, rule}
 use Rattle.heights.specs.Least.{numberAt}
 use Rattle.heights.specs.Tall.{none, table, Tall, Measured, Over, Room}
-use Rattle.heights.specs.Falls.{Falls, stays, put, total, sum, Passed, Between, Inner, Ends, AllEnds, Either, Stopped, Shut}
+use Rattle.heights.specs.Falls.{Falls, stays, put, rowSum, sum, Passed, Between, Inner, Ends, AllEnds, Either, Stopped, Shut}
 use Rattle.heights.proofs.TallLaws.{tall-down, tall-le, tall-inner}
 use Rattle.heights.proofs.Bounds.{Put, total-less}
 
@@ -67,8 +67,8 @@ module _ (l : List ℕ) (n s len A h : ℕ) (few : n ≤ 64) (f : s + len ≤ n)
 
 -- ---- numbers that fall, one after the other
 
-total-le : (p q : ℕ → ℕ) → ((B : ℕ) → p B ≤ q B) → (k : ℕ) → total p k ≤ total q k
-unfolding total
+total-le : (p q : ℕ → ℕ) → ((B : ℕ) → p B ≤ q B) → (k : ℕ) → rowSum p k ≤ rowSum q k
+unfolding rowSum
 total-le p q h zero = omega arith
 total-le p q h (suc k) = omega (arith, h k, total-le p q h k)
 

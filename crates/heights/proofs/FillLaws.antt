@@ -16,8 +16,8 @@ use Rattle.chart.specs.Tables.{rule}
 use Rattle.heights.specs.Least.{HeightSheet}
 use Rattle.heights.specs.Tall.{none, table, Tall, byWord}
 use Rattle.heights.specs.Falls.{Shut}
-use Rattle.heights.specs.Filled.{Done, Earlier, Filled}
-use Rattle.heights.proofs.TallLaws.{tall-by, Right, least-height}
+use Rattle.heights.specs.Filled.{Done, SpanEarlier, Filled}
+use Rattle.heights.proofs.TallLaws.{tall-by, RightHeights, least-height}
 use Rattle.heights.proofs.Bounds.{small-none, small-end}
 use Rattle.heights.proofs.FallLaws.{Lefts, falls-rest}
 use Rattle.heights.proofs.RowLaws.{Row, row-falls}
@@ -54,18 +54,18 @@ filled-on {l} {m} {g} {w} {start} {len} lefts pos fit f x =
     rest = falls-rest lefts (row-of f fit .room) (x .falls)
 
     -- a part of an earlier span has another row
-    clear : (a b : ℕ) → a + b ≤ length w → Earlier a b start len → (a′ b′ : ℕ) → a ≤ a′ → a′ + b′ ≤ a + b → pairAt (length w) a′ b′ ≡ pairAt (length w) start len → ⊥
+    clear : (a b : ℕ) → a + b ≤ length w → SpanEarlier a b start len → (a′ b′ : ℕ) → a ≤ a′ → a′ + b′ ≤ a + b → pairAt (length w) a′ b′ ≡ pairAt (length w) start len → ⊥
     clear a b h d a′ b′ k n e =
         let q = pairAt-same (length w) a′ b′ start len (omega arith) fit e in
         ⊎-elim (λ z. omega (arith, q .0)) (λ z. ⊎-elim (λ y. omega (arith, q .0)) (λ y. omega (arith, q .0, y .0, y .1)) d) (q .1)
 
-    old : (a b : ℕ) → a + b ≤ length w → Earlier a b start len → Done m g w a b
+    old : (a b : ℕ) → a + b ≤ length w → SpanEarlier a b start len → Done m g w a b
     old a b h d = done-kept a b h (λ s′ len′ B p q. rest s′ len′ B (omega arith) (clear a b h d s′ len′ p q)) (f .done a b h d)
 
     mine : Done m g w start len
     mine = record { closed = x .closed; small = λ B h. omega (arith, small-end (row .small) B h) }
 
-    done : (a b : ℕ) → a + b ≤ length w → Earlier a b (start + 1) len → Done m g w a b
+    done : (a b : ℕ) → a + b ≤ length w → SpanEarlier a b (start + 1) len → Done m g w a b
     done a b h (inl z) = old a b h (inl z)
     done a b h (inr z) = go (decLt a start)
       where
@@ -73,7 +73,7 @@ filled-on {l} {m} {g} {w} {start} {len} lefts pos fit f x =
         go (yes y) = old a b h (inr (z .0, y))
         go (no y) = subst₂ (Done m g w) (let e : start ≡ a = omega (arith, z .1) in e) (sym (z .0)) mine
 
-    fresh : (a b B : ℕ) → a + b ≤ length w → (Earlier a b (start + 1) len → ⊥) → none ≤ table m (length w) a b B
+    fresh : (a b B : ℕ) → a + b ≤ length w → (SpanEarlier a b (start + 1) len → ⊥) → none ≤ table m (length w) a b B
     fresh a b B h n =
         let e = rest a b B h (λ q. other q) in
         let z = f .fresh a b B h (λ d. n (⊎-elim inl (λ y. inr (y .0, omega (arith, y .1))) d)) in
@@ -95,7 +95,7 @@ filled-row {l} {g} {w} {start} {len} past f =
       fresh = λ a b B h n. f .fresh a b B h (λ d. n (⊎-elim (λ y. inl (omega arith)) (λ y. inl (omega (arith, y .0))) d));
     }
   where
-    go : (a b : ℕ) → a + b ≤ length w → Dec (b < len) → Earlier a b 0 (len + 1) → Earlier a b start len
+    go : (a b : ℕ) → a + b ≤ length w → Dec (b < len) → SpanEarlier a b 0 (len + 1) → SpanEarlier a b start len
     go a b h (yes x) d = inl x
     go a b h (no x) (inl y) = inr (omega arith, omega arith)
     go a b h (no x) (inr y) = absurd (omega (arith, y .1))
@@ -133,11 +133,11 @@ filled-first {l} {m} {g} {w} lefts f x =
         }
     at a (suc b) e = absurd (omega arith)
 
-    done : (a b : ℕ) → a + b ≤ length w → Earlier a b 0 1 → Done m g w a b
+    done : (a b : ℕ) → a + b ≤ length w → SpanEarlier a b 0 1 → Done m g w a b
     done a b h (inl y) = at a b (omega arith)
     done a b h (inr y) = absurd (omega (arith, y .1))
 
-    fresh : (a b B : ℕ) → a + b ≤ length w → (Earlier a b 0 1 → ⊥) → none ≤ table m (length w) a b B
+    fresh : (a b B : ℕ) → a + b ≤ length w → (SpanEarlier a b 0 1 → ⊥) → none ≤ table m (length w) a b B
     fresh a b B h n =
         let e = rest a b B h (λ q. let z = pairAt-same (length w) a b 0 0 h (omega arith) q in n (inl (omega (arith, z .0)))) in
         let z = f .fresh a b B h (λ d. ⊎-elim (λ y. omega arith) (λ y. omega (arith, y .1)) d) in omega arith
@@ -160,7 +160,7 @@ filled-right {l} {g} {w} f = record { long = f .long; least = λ s len A h d. le
     within : (a b : ℕ) → a + b ≤ length w → Done l g w a b
     within a b h = f .done a b h (inl (omega arith))
 
-    right : Right (table l (length w)) g w 65533
+    right : RightHeights (table l (length w)) g w 65533
     right =
         record {
           sound = λ a b A h n. f .ground .each a b A h (omega arith);

@@ -24,7 +24,7 @@ use Rattle.heights.specs.Tall.{none, table, Tall, byWord, Room}
 use Rattle.heights.specs.Falls.{Falls, stays, put, Passed, Inner, AllEnds, Stopped, Shut}
 use Rattle.heights.specs.Filled.{Grounded}
 use Rattle.heights.proofs.TallLaws.{tall-view, tall-low, grown}
-use Rattle.heights.proofs.Bounds.{Put, Small, small-put, placed}
+use Rattle.heights.proofs.Bounds.{Put, Small, small-put, rowPlaced}
 use Rattle.heights.proofs.FallLaws.{put-row, put-rest, Lefts, shut-of}
 
 -- the left sides of codes are nonterminals
@@ -101,7 +101,7 @@ module _ {l : List ℕ} {g : Rules} {w : Word} {start len : ℕ} (lefts : Lefts 
         room = record { few = few; fits = fits; long = length-set l _ h ∙ x .room .long };
         ground = record { each = ground };
         less = λ a b B q r. less a b B q r;
-        small = small-put none (lefts i b) put′ (x .small) (tall-low (table l (length w)) (byWord w start len) none start len (64 * len + placed none (table l (length w) start len)) (x .small .each) shorter (rule g i .clause) k h t n);
+        small = small-put none (lefts i b) put′ (x .small) (tall-low (table l (length w)) (byWord w start len) none start len (64 * len + rowPlaced none (table l (length w) start len)) (x .small .each) shorter (rule g i .clause) k h t n);
       }
     where
       m : List ℕ
@@ -110,7 +110,7 @@ module _ {l : List ℕ} {g : Rules} {w : Word} {start len : ℕ} (lefts : Lefts 
       put′ : Put (table l (length w) start len) (table m (length w) start len) (rule g i .left) h
       put′ = put-row l (length w) start len (rule g i .left) h few fits (lefts i b) (x .room .long) d
 
-      shorter : (a b′ B : ℕ) → a + b′ ≤ start + len → b′ < len → table l (length w) a b′ B < none → table l (length w) a b′ B ≤ 64 * len + placed none (table l (length w) start len)
+      shorter : (a b′ B : ℕ) → a + b′ ≤ start + len → b′ < len → table l (length w) a b′ B < none → table l (length w) a b′ B ≤ 64 * len + rowPlaced none (table l (length w) start len)
       shorter a b′ B u q r = omega (arith, x .less a b′ B (omega (arith, fits)) q r)
 
       ground : (a b′ B : ℕ) → a + b′ ≤ length w → table m (length w) a b′ B < none → (t : Tree) × Witness g B (part w a b′) t × (height t ≤ table m (length w) a b′ B)

@@ -68,7 +68,7 @@ tall-inner hs hs′ v s len (Clause.Binary B C m) k h a b e t =
     (t .0, t .1, t .2 ∙ ap₂ (λ (x y : ℕ). suc (max x y)) (sym (e s k B (omega arith) (omega arith))) (sym (e (s + k) (len - k) C (omega arith) (omega arith))))
 
 -- what the table has to meet; the numbers from `most` + 2 on say that there is no tree, and there is a gap before them
-pub record Right (hs : Heights) (g : Rules) (w : Word) (most : ℕ) : Type 0 where
+pub record RightHeights (hs : Heights) (g : Rules) (w : Word) (most : ℕ) : Type 0 where
   pub sound : (s len A : ℕ) → s + len ≤ length w → hs s len A ≤ most → (t : Tree) × Witness g A (part w s len) t × (height t ≤ hs s len A)
   pub closed : (s len i l h : ℕ) → s + len ≤ length w → i < length g → Tall hs (byWord w s len) s len (rule g i .clause) l h → hs s len (rule g i .left) ≤ h
   pub gap : (s len A : ℕ) → s + len ≤ length w → hs s len A ≤ suc most → hs s len A ≤ most
@@ -174,7 +174,7 @@ module _ (hs : Heights) (g : Rules) (w : Word) (most : ℕ)
       → (t : Tree) × Witness g (rule g i .left) (part w s len) t × (height t ≤ h)
   grown s len i l h b y q n = grow s len (rule g i .left) i l h (rule g i .clause) b (there g i y) q n
 
-module _ {hs : Heights} {g : Rules} {w : Word} {most : ℕ} (r : Right hs g w most) where
+module _ {hs : Heights} {g : Rules} {w : Word} {most : ℕ} (r : RightHeights hs g w most) where
   -- what is derived is low
   settled : (t : Tree) → Valid g t → (s len : ℕ) → s + len ≤ length w → word t ≡ part w s len → hs s len (root t) ≤ most
   settled t v s len b e = go t v s len b e

@@ -33,7 +33,7 @@ use Rattle.grammar.proofs.ByKind.{getElem?-lt}
 use Rattle.lengths.specs.declared.Index.{Index}
 use Rattle.lengths.specs.Lengths.{CanHave}
 use Rattle.lengths.specs.Indexes.{at, Shaped, Exact}
-use Rattle.lengths.specs.Passes.{SumTo, Has, firstOf, secondOf, Makes, Gives, Applied, Possible, by-empty, by-atom, by-unary, by-binary, Sound, Passed, Idle, Held, weigh}
+use Rattle.lengths.specs.Passes.{SumTo, Has, firstOf, secondOf, Makes, GivesByIndex, Applied, Possible, by-empty, by-atom, by-unary, by-binary, Sound, Passed, Idle, Held, weigh}
 use Rattle.lengths.proofs.SmallSets.{or-left, or-right, or-only, or-ge, or-small, high-none, small-same}
 use Rattle.lengths.proofs.Possibly.{can-possible, possible-can}
 
@@ -69,7 +69,7 @@ exact-none = record {
 -- ---- what a rule gives
 
 module _ {g : Rules} {x : Index} (s : Sound g x) where
-  gives-by : (A : ℕ) (c : Clause) → List·Memᴰ (record { left = A; clause = c }) g → (n : ℕ) → Gives x c n → Possible g A n
+  gives-by : (A : ℕ) (c : Clause) → List·Memᴰ (record { left = A; clause = c }) g → (n : ℕ) → GivesByIndex x c n → Possible g A n
   gives-by A Clause.Empty m n h = rw h (by-empty m)
   gives-by A (Clause.Atom a b) m n h = rw (h .0) (by-atom a (record { low = a; high = b; rule = m; covers = record { low = le-refl a; high = h .1 } }))
   gives-by A (Clause.Unary B k) m n h = by-unary B k m (s .is B n h)
@@ -82,7 +82,7 @@ module _ {g : Rules} {x : Index} (s : Sound g x) where
   }
 
 -- the index with a set in the place of the left's
-pub applied-set : (x : Index) (r : Rule) (s : ℕ) → Shaped x → r .left < 64 → Has (Gives x (r .clause)) s → Applied x r (record { sets = set (x .sets) (r .left) (bitOr (at x (r .left)) s) })
+pub applied-set : (x : Index) (r : Rule) (s : ℕ) → Shaped x → r .left < 64 → Has (GivesByIndex x (r .clause)) s → Applied x r (record { sets = set (x .sets) (r .left) (bitOr (at x (r .left)) s) })
 applied-set x r s sh l h = record { shaped = record { size = simp length-set (sh .size); small = small }; more = more; adds = adds; only = only }
   where
     y : ℕ → ℕ
@@ -106,10 +106,10 @@ applied-set x r s sh l h = record { shaped = record { size = simp length-set (sh
       | no n ↦ rw (other A n) (le-refl (at x A))
     ]
 
-    adds : (n : ℕ) → Gives x (r .clause) n → In (getD (set (x .sets) (r .left) (bitOr (at x (r .left)) s)) (r .left) 0) n
+    adds : (n : ℕ) → GivesByIndex x (r .clause) n → In (getD (set (x .sets) (r .left) (bitOr (at x (r .left)) s)) (r .left) 0) n
     adds n i = rw same (or-right (at x (r .left)) s (h .is n .1 i))
 
-    only : (A n : ℕ) → In (getD (set (x .sets) (r .left) (bitOr (at x (r .left)) s)) A 0) n → In (at x A) n ⊎ ((r .left ≡ A) × Gives x (r .clause) n)
+    only : (A n : ℕ) → In (getD (set (x .sets) (r .left) (bitOr (at x (r .left)) s)) A 0) n → In (at x A) n ⊎ ((r .left ≡ A) × GivesByIndex x (r .clause) n)
     only A n i = elim (ℕ-discrete A (r .left)) [
       | yes e ↦ ⊎-elim (λ j. inl (rw e j)) (λ j. inr (sym e, h .is n .0 j)) (or-only (at x (r .left)) s n (rw (e, same) at i))
       | no m ↦ inl (rw (other A m) at i)
@@ -128,7 +128,7 @@ module _ {g : Rules} where
     still = still;
   }
     where
-      still : z ≡ x → (q : ℕ) → q < p + 1 → (r′ : Rule) → getElem? g q ≡ some r′ → (n : ℕ) → Gives x (r′ .clause) n → In (at x (r′ .left)) n
+      still : z ≡ x → (q : ℕ) → q < p + 1 → (r′ : Rule) → getElem? g q ≡ some r′ → (n : ℕ) → GivesByIndex x (r′ .clause) n → In (at x (r′ .left)) n
       still e q l r′ st′ n i = go (ℕ-discrete q p)
         where
           same : y ≡ x
@@ -143,7 +143,7 @@ module _ {g : Rules} where
 
 -- ---- an index to which no rule gives anything has all
 
-module _ {g : Rules} {x : Index} (shut : (r : Rule) → List·Memᴰ r g → (n : ℕ) → Gives x (r .clause) n → In (at x (r .left)) n) where
+module _ {g : Rules} {x : Index} (shut : (r : Rule) → List·Memᴰ r g → (n : ℕ) → GivesByIndex x (r .clause) n → In (at x (r .left)) n) where
   complete : {A n : ℕ} → Possible g A n → n < 8 → In (at x A) n
   complete (by-empty m) l = shut _ m 0 refl
   complete (by-atom a m) l = shut _ (m .rule) 1 (refl, omega (arith, m .covers .low, m .covers .high))
@@ -183,7 +183,7 @@ passed-all {g} {x} {y} h w s e = shut-exact shut s
         let l : x .sets ≡ y .sets = weigh-same (x .sets) (y .sets) (s .shaped .size ∙ sym (w .sound .shaped .size)) (w .more) (omega (arith, e)) in
         λ i. record { sets = sym l i }
 
-    shut : (r : Rule) → List·Memᴰ r (rules g) → (n : ℕ) → Gives x (r .clause) n → In (at x (r .left)) n
+    shut : (r : Rule) → List·Memᴰ r (rules g) → (n : ℕ) → GivesByIndex x (r .clause) n → In (at x (r .left)) n
     shut r m = let p = place-of m in w .still same (p .0) (omega (arith, getElem?-lt (rules g) (p .0) (p .1), h .whole)) r (p .1)
 
 -- else it is heavier
@@ -258,10 +258,10 @@ module _ (s t : ℕ) where
   makes-binary {r = r} e h = makes-at r e h
 
 -- what the index has for a clause's nonterminals
-pub makes-gives : (x : Index) (k : Clause) (b c r : ℕ) → b ≡ firstOf k → c ≡ secondOf k → Has (Makes (at x b) (at x c) k) r → Has (Gives x k) r
+pub makes-gives : (x : Index) (k : Clause) (b c r : ℕ) → b ≡ firstOf k → c ≡ secondOf k → Has (Makes (at x b) (at x c) k) r → Has (GivesByIndex x k) r
 makes-gives x k b c r e d h = go k (rw (e, d) at h)
   where
-    go : (k : Clause) → Has (Makes (at x (firstOf k)) (at x (secondOf k)) k) r → Has (Gives x k) r
+    go : (k : Clause) → Has (Makes (at x (firstOf k)) (at x (secondOf k)) k) r → Has (GivesByIndex x k) r
     go Clause.Empty h = h
     go (Clause.Atom a b) h = h
     go (Clause.Unary B m) h = h
@@ -310,7 +310,7 @@ pub sound-more : {g : Rules} {x : Index} (r : Rule) → Exact g x → Sound (g +
 sound-more {g} {x} r e = let s = exact-sound e in record { shaped = e .shaped; is = λ A n h. possible-more r (s .is A n h) }
 
 -- a clause gives lengths below 8
-gives-small : (x : Index) → Shaped x → (k : Clause) (n : ℕ) → Gives x k n → n < 8
+gives-small : (x : Index) → Shaped x → (k : Clause) (n : ℕ) → GivesByIndex x k n → n < 8
 gives-small x s Clause.Empty n h = omega (arith, h)
 gives-small x s (Clause.Atom a b) n h = omega (arith, h .0)
 gives-small x s (Clause.Unary B m) n h = high-none (at x B) n (s .small B) h
@@ -326,11 +326,11 @@ exact-idle {g} {x} {r} k e m = record {
 pub exact-more : {g : Rules} {x : Index} (r : Rule) → Every SmallRule g → Exact g x → Idle x r → Exact (g ++ (r ∷ [])) x
 exact-more {g} {x} r k e i = shut-exact shut (sound-more r e)
   where
-    shut : (q : Rule) → List·Memᴰ q (g ++ (r ∷ [])) → (n : ℕ) → Gives x (q .clause) n → In (at x (q .left)) n
+    shut : (q : Rule) → List·Memᴰ q (g ++ (r ∷ [])) → (n : ℕ) → GivesByIndex x (q .clause) n → In (at x (q .left)) n
     shut q m n h = ⊎-elim (λ y. exact-idle k e y .has n h) (λ y. subst (Idle x) (sym (List·Memᴰ·eq-of-singleton y)) i .has n h) (List·Memᴰ·append-cases g m)
 
 -- a test whether a rule gives nothing new
-pub idle-says : (x : Index) (r : Rule) (s : ℕ) → Shaped x → Has (Gives x (r .clause)) s → Says (eqb (bitOr (at x (r .left)) s) (at x (r .left))) (Idle x r)
+pub idle-says : (x : Index) (r : Rule) (s : ℕ) → Shaped x → Has (GivesByIndex x (r .clause)) s → Says (eqb (bitOr (at x (r .left)) s) (at x (r .left))) (Idle x r)
 idle-says x r s sh h =
     says-iff
     (λ e. record { has = λ n i. rw e at (or-right (at x (r .left)) s (h .is n .1 i)) })

@@ -53,18 +53,18 @@ Makes s t (Clause.Unary B m) n = In s n
 Makes s t (Clause.Binary B C m) n = SumTo s t 8 n
 
 -- the same, by the lengths that the index has for them
-abbrev pub Gives : Index → Clause → ℕ → Type 0
-Gives x Clause.Empty n = n ≡ 0
-Gives x (Clause.Atom a b) n = (n ≡ 1) × (a ≤ b)
-Gives x (Clause.Unary B m) n = In (at x B) n
-Gives x (Clause.Binary B C m) n = SumTo (at x B) (at x C) 8 n
+abbrev pub GivesByIndex : Index → Clause → ℕ → Type 0
+GivesByIndex x Clause.Empty n = n ≡ 0
+GivesByIndex x (Clause.Atom a b) n = (n ≡ 1) × (a ≤ b)
+GivesByIndex x (Clause.Unary B m) n = In (at x B) n
+GivesByIndex x (Clause.Binary B C m) n = SumTo (at x B) (at x C) 8 n
 
 -- y is x with what the rule gives besides
 pub record Applied (x : Index) (r : Rule) (y : Index) : Type 0 where
   pub shaped : Shaped y
   pub more : (A : ℕ) → at x A ≤ at y A
-  pub adds : (n : ℕ) → Gives x (r .clause) n → In (at y (r .left)) n
-  pub only : (A n : ℕ) → In (at y A) n → In (at x A) n ⊎ ((r .left ≡ A) × Gives x (r .clause) n)
+  pub adds : (n : ℕ) → GivesByIndex x (r .clause) n → In (at y (r .left)) n
+  pub only : (A n : ℕ) → In (at y A) n → In (at x A) n ⊎ ((r .left ≡ A) × GivesByIndex x (r .clause) n)
 
 -- A can have length n, by the rules: `CanHave` without its tree
 pub data Possible (g : Rules) : ℕ → ℕ → Type 0 where
@@ -82,11 +82,11 @@ pub record Sound (g : Rules) (x : Index) : Type 0 where
 pub record Passed (g : Rules) (p : ℕ) (x y : Index) : Type 0 where
   pub sound : Sound g y
   pub more : (A : ℕ) → at x A ≤ at y A
-  pub still : y ≡ x → (q : ℕ) → q < p → (r : Rule) → getElem? g q ≡ some r → (n : ℕ) → Gives x (r .clause) n → In (at x (r .left)) n
+  pub still : y ≡ x → (q : ℕ) → q < p → (r : Rule) → getElem? g q ≡ some r → (n : ℕ) → GivesByIndex x (r .clause) n → In (at x (r .left)) n
 
 -- the rule gives x nothing that x lacks
 pub record Idle (x : Index) (r : Rule) : Type 0 where
-  pub has : (n : ℕ) → Gives x (r .clause) n → In (at x (r .left)) n
+  pub has : (n : ℕ) → GivesByIndex x (r .clause) n → In (at x (r .left)) n
 
 -- a grammar of at most 128 rules, their numbers in range
 pub record Held (g : Grammar) : Type 0 where

@@ -15,15 +15,15 @@ use Rattle.clauses.specs.Clauses as C
 use Rattle.clauses.specs.Text.{maybe, repeats, marks, Lex, n, t, opening, closing, bar, suffix, join}
 use Rattle.lexemes.specs.declared.Lexeme.{Lexeme}
 use Rattle.lexemes.specs.declared.Lexeme.the-variants as Lexeme
-use Rattle.lexemes.specs.Lexemes.{Found, starts, digits, ranged, numbered, items, Sign, signs, firstOf, lexeme, onto, then, from, lexemes}
-use Rattle.lexemes.specs.Answers.{lexemeOf, asLexed, standing, Front, Ended, Tells, Numbers, NumberAt, Lexes}
+use Rattle.lexemes.specs.Lexemes.{LexFound, starts, frontDigits, ranged, numbered, items, Sign, signs, firstSign, lexeme, ontoLexemes, then, from, lexemes}
+use Rattle.lexemes.specs.Answers.{lexemeOf, asLexed, standing, Front, Ended, LexemeTells, Numbers, NumberAt, Lexes}
 use Rattle.fields.proofs.Pick.{hit, miss, either}
 use Rattle.fields.specs.declared.Number.{Number}
 use Rattle.fields.specs.declared.Number.the-variants as Number
 use Rattle.fields.specs.Answers.{asNumber}
 
 -- a lexeme that is found has at least one byte, and no more than there are
-pub record Fits (s : List ℕ) (o : Found) : Type 0 where
+pub record Fits (s : List ℕ) (o : LexFound) : Type 0 where
   pub has : (x : Lex) (k : ℕ) → o ≡ some (x, k) → (1 ≤ k) × (k ≤ length s)
 
 no-false : {P : Type 0} → false ≡ true → P
@@ -45,30 +45,30 @@ fits-some : (s : List ℕ) (x : Lex) (k : ℕ) → 1 ≤ k → k ≤ length s �
 fits-some s x k p q =
     record { has = λ y l e. let u : _≡_ {A = Lex × ℕ} (x, k) (y, l) = cc in let z : k ≡ l = ap (λ (v : Lex × ℕ). v .1) u in (omega arith, omega arith) }
 
-fits-cond : (s : List ℕ) (b : Bool) (o r : Found) → (b ≡ true → Fits s o) → Fits s r → Fits s (cond b o r)
+fits-cond : (s : List ℕ) (b : Bool) (o r : LexFound) → (b ≡ true → Fits s o) → Fits s r → Fits s (cond b o r)
 fits-cond s true o r f g = f refl
 fits-cond s false o r f g = g
 
-fits-sign : (s p : List ℕ) (x : Lex) (r : Found) → 1 ≤ length p → Fits s r → Fits s (cond (starts p s) (some (x, length p)) r)
+fits-sign : (s p : List ℕ) (x : Lex) (r : LexFound) → 1 ≤ length p → Fits s r → Fits s (cond (starts p s) (some (x, length p)) r)
 fits-sign s p x r l g = fits-cond s (starts p s) (some (x, length p)) r (λ e. fits-some s x (length p) l (starts-length p s e)) g
 
-pub digits-length : (s : List ℕ) → length (digits s) ≤ length s
+pub digits-length : (s : List ℕ) → length (frontDigits s) ≤ length s
 digits-length [] = omega arith
 digits-length (b ∷ s) = go (isDigit b) (digits-length s)
   where
-    go : (c : Bool) → length (digits s) ≤ length s → length (cond c (b ∷ digits s) []) ≤ length (b ∷ s)
+    go : (c : Bool) → length (frontDigits s) ≤ length s → length (cond c (b ∷ frontDigits s) []) ≤ length (b ∷ s)
     go true h = omega arith
     go false h = omega arith
 
 fits-number : (s p : List ℕ) (f : ℕ → Lex) → length p ≡ 1 → starts p s ≡ true → Fits s (numbered f (drop 1 s))
-fits-number s p f h e = go (numeralOf (digits (drop 1 s)))
+fits-number s p f h e = go (numeralOf (frontDigits (drop 1 s)))
   where
-    bound : 1 + length (digits (drop 1 s)) ≤ length s
+    bound : 1 + length (frontDigits (drop 1 s)) ≤ length s
     bound = omega (arith, digits-length (drop 1 s), length-drop 1 s, starts-length p s e)
 
-    go : (o : Option ℕ) → Fits s (ranged f (1 + length (digits (drop 1 s))) o)
+    go : (o : Option ℕ) → Fits s (ranged f (1 + length (frontDigits (drop 1 s))) o)
     go none = fits-none s
-    go (some v) = fits-cond s (leb v 63) (some (f v, 1 + length (digits (drop 1 s)))) none (λ z. fits-some s (f v) _ (omega arith) bound) (fits-none s)
+    go (some v) = fits-cond s (leb v 63) (some (f v, 1 + length (frontDigits (drop 1 s)))) none (λ z. fits-some s (f v) _ (omega arith) bound) (fits-none s)
 
 fits-items : (s : List ℕ) → Fits s (items s)
 fits-items s =
@@ -80,9 +80,9 @@ abbrev pub Bytes : List Sign → Type 0
 Bytes [] = Unit {0}
 Bytes (x ∷ l) = (1 ≤ length (x .bytes)) × Bytes l
 
-fits-first : (l : List Sign) (s : List ℕ) → Bytes l → Fits s (firstOf l s)
+fits-first : (l : List Sign) (s : List ℕ) → Bytes l → Fits s (firstSign l s)
 fits-first [] s h = fits-items s
-fits-first (x ∷ l) s h = fits-sign s (x .bytes) (x .lex) (firstOf l s) (h .0) (fits-first l s (h .1))
+fits-first (x ∷ l) s h = fits-sign s (x .bytes) (x .lex) (firstSign l s) (h .0) (fits-first l s (h .1))
 
 pub signs-bytes : Bytes signs
 unfolding signs
@@ -97,8 +97,8 @@ unfolding signs
 signs-many = refl
 
 -- a number that is none of those before
-pub past : {i k : ℕ} → k ≤ i → (i ≡ k → ⊥) → suc k ≤ i
-past h f = omega (arith, f)
+pub none-before : {i k : ℕ} → k ≤ i → (i ≡ k → ⊥) → suc k ≤ i
+none-before h f = omega (arith, f)
 
 fits-lexeme : (s : List ℕ) → Fits s (lexeme s)
 fits-lexeme s = fits-first signs s signs-bytes
@@ -109,23 +109,23 @@ standing-within p s = either (λ k. k ≤ length s) (starts p s) (starts-length 
 
 -- the search for the first sign has come to the one with the number i: it stands there
 pub search-stands : (l : List Sign) (s : List ℕ) (i : ℕ) (d : Sign) → i < length l → 0 < standing (getD l i d .bytes) s
-    → firstOf (drop i l) s ≡ some (getD l i d .lex, standing (getD l i d .bytes) s)
+    → firstSign (drop i l) s ≡ some (getD l i d .lex, standing (getD l i d .bytes) s)
 search-stands [] s i d h k = absurd (omega arith)
 search-stands (x ∷ l) s (suc i) d h k = search-stands l s i d (omega arith) k
 search-stands (x ∷ l) s zero d h k = go (starts (x .bytes) s) k
   where
-    go : (b : Bool) → 0 < cond b (length (x .bytes)) 0 → cond b (some (x .lex, length (x .bytes))) (firstOf l s) ≡ some (x .lex, cond b (length (x .bytes)) 0)
+    go : (b : Bool) → 0 < cond b (length (x .bytes)) 0 → cond b (some (x .lex, length (x .bytes))) (firstSign l s) ≡ some (x .lex, cond b (length (x .bytes)) 0)
     go true k = refl
     go false k = absurd (omega arith)
 
 -- or it does not
 pub search-on : (l : List Sign) (s : List ℕ) (i : ℕ) (d : Sign) → Bytes l → i < length l → standing (getD l i d .bytes) s ≡ 0
-    → firstOf (drop i l) s ≡ firstOf (drop (suc i) l) s
+    → firstSign (drop i l) s ≡ firstSign (drop (suc i) l) s
 search-on [] s i d b h k = absurd (omega arith)
 search-on (x ∷ l) s (suc i) d b h k = search-on l s i d (b .1) (omega arith) k
 search-on (x ∷ l) s zero d b h k = go (starts (x .bytes) s) k
   where
-    go : (c : Bool) → cond c (length (x .bytes)) 0 ≡ 0 → cond c (some (x .lex, length (x .bytes))) (firstOf l s) ≡ firstOf l s
+    go : (c : Bool) → cond c (length (x .bytes)) 0 ≡ 0 → cond c (some (x .lex, length (x .bytes))) (firstSign l s) ≡ firstSign l s
     go true k = absurd (omega (arith, b .0))
     go false k = refl
 
@@ -137,21 +137,21 @@ from-drop (b ∷ s) zero h = refl
 from-drop (b ∷ s) (suc k) h = from-drop s k (omega arith)
 
 -- the lexemes of bytes that begin with a lexeme
-front-of : (s : List ℕ) (x : Lex) (k : ℕ) → lexeme s ≡ some (x, k) → 1 ≤ length s → lexemes s ≡ onto x (lexemes (drop k s))
+front-of : (s : List ℕ) (x : Lex) (k : ℕ) → lexeme s ≡ some (x, k) → 1 ≤ length s → lexemes s ≡ ontoLexemes x (lexemes (drop k s))
 front-of [] x k e h = absurd (omega arith)
 front-of (b ∷ s) x zero e h = let z = fits-lexeme (b ∷ s) .has x zero e in absurd (omega arith)
 front-of (b ∷ s) x (suc k) e h =
     let z = fits-lexeme (b ∷ s) .has x (suc k) e in
-    ap (λ (o : Found). then o (λ j. from s j)) e ∙ ap (λ (j : ℕ). onto x (from s j)) (less-one k) ∙ ap (onto x) (from-drop s k (omega arith))
+    ap (λ (o : LexFound). then o (λ j. from s j)) e ∙ ap (λ (j : ℕ). ontoLexemes x (from s j)) (less-one k) ∙ ap (ontoLexemes x) (from-drop s k (omega arith))
   where
     less-one : (j : ℕ) → suc j - 1 ≡ j
     less-one j = omega arith
 
 front-none : (s : List ℕ) → lexeme s ≡ none → 1 ≤ length s → lexemes s ≡ none
 front-none [] e h = absurd (omega arith)
-front-none (b ∷ s) e h = ap (λ (o : Found). then o (λ j. from s j)) e
+front-none (b ∷ s) e h = ap (λ (o : LexFound). then o (λ j. from s j)) e
 
-tells : (s : List ℕ) (at : ℕ) (x : Lex) (e : ℕ) → Front s at x e → Tells s at (lexemeOf x) e
+tells : (s : List ℕ) (at : ℕ) (x : Lex) (e : ℕ) → Front s at x e → LexemeTells s at (lexemeOf x) e
 tells s at (n a) e f = f
 tells s at (t a) e f = f
 tells s at opening e f = f
@@ -170,7 +170,7 @@ found-tells s at h = go (lexeme (drop at s)) refl
     long : 1 ≤ length (drop at s)
     long = omega (arith, length-drop at s)
 
-    go : (o : Found) → lexeme (drop at s) ≡ o → Lexes s at (asLexed at o)
+    go : (o : LexFound) → lexeme (drop at s) ≡ o → Lexes s at (asLexed at o)
     go none e = record { from = omega arith; within = omega arith; tells = record { front = front-none (drop at s) e long } }
     go (some y) e =
         let z = fits-lexeme (drop at s) .has (y .0) (y .1) e in
@@ -178,7 +178,7 @@ found-tells s at h = go (lexeme (drop at s)) refl
           from = omega arith;
           within = omega (arith, length-drop at s);
           tells = tells s at (y .0) (at + y .1)
-              (record { further = omega arith; within = omega (arith, length-drop at s); front = front-of (drop at s) (y .0) (y .1) e long ∙ ap (λ (r : List ℕ). onto (y .0) (lexemes r)) (drop-drop (y .1) at s) });
+              (record { further = omega arith; within = omega (arith, length-drop at s); front = front-of (drop at s) (y .0) (y .1) e long ∙ ap (λ (r : List ℕ). ontoLexemes (y .0) (lexemes r)) (drop-drop (y .1) at s) });
         }
 
 pub none-left : (s : List ℕ) (at : ℕ) → at ≡ length s → Ended s at
@@ -202,16 +202,16 @@ module _ (p s : List ℕ) (i j : ℕ) where
   starts-more h k d = rw (drop-cons p i 0 h, drop-cons s j 0 k, eq-eqb (getD p i 0) (getD s j 0) d, add-one i, add-one j) refl
 
 module _ (s : List ℕ) (i : ℕ) where
-  pub digits-over : length s ≤ i → digits (drop i s) ≡ []
+  pub digits-over : length s ≤ i → frontDigits (drop i s) ≡ []
   digits-over h = rw (drop-of-length-le s {i = i} h) refl
 
-  pub digits-low : i < length s → getD s i 0 < 48 → digits (drop i s) ≡ []
+  pub digits-low : i < length s → getD s i 0 < 48 → frontDigits (drop i s) ≡ []
   digits-low h l = rw (drop-cons s i 0 h, lt-leb 48 (getD s i 0) l) refl
 
-  pub digits-high : i < length s → 48 ≤ getD s i 0 → 57 < getD s i 0 → digits (drop i s) ≡ []
+  pub digits-high : i < length s → 48 ≤ getD s i 0 → 57 < getD s i 0 → frontDigits (drop i s) ≡ []
   digits-high h l u = rw (drop-cons s i 0 h, le-leb 48 (getD s i 0) l, lt-leb (getD s i 0) 57 u) refl
 
-  pub digits-more : i < length s → 48 ≤ getD s i 0 → getD s i 0 ≤ 57 → digits (drop i s) ≡ getD s i 0 ∷ digits (drop (i + 1) s)
+  pub digits-more : i < length s → 48 ≤ getD s i 0 → getD s i 0 ≤ 57 → frontDigits (drop i s) ≡ getD s i 0 ∷ frontDigits (drop (i + 1) s)
   digits-more h l u = rw (drop-cons s i 0 h, le-leb 48 (getD s i 0) l, le-leb (getD s i 0) 57 u, add-one) refl
 
 pub starts-begin : (p s : List ℕ) (at : ℕ) → starts p (drop at s) ≡ starts (drop 0 p) (drop (at + 0) s)
@@ -244,30 +244,30 @@ numbers-high o v e h = record { is = λ l. absurd (omega arith); isnt = λ l f k
 pub numbers-none : (o : Option ℕ) → o ≡ none → Numbers o 64
 numbers-none o e = record { is = λ l. absurd (omega arith); isnt = λ l f k. ap (ranged f k) e }
 
-module _ (s : List ℕ) (at e v : ℕ) (h : e ≡ at + 1 + length (digits (drop (at + 1) s))) (g : Numbers (numeralOf (take (e - (at + 1)) (drop (at + 1) s))) v) where
-  same-digits : take (e - (at + 1)) (drop (at + 1) s) ≡ digits (drop 1 (drop at s))
+module _ (s : List ℕ) (at e v : ℕ) (h : e ≡ at + 1 + length (frontDigits (drop (at + 1) s))) (g : Numbers (numeralOf (take (e - (at + 1)) (drop (at + 1) s))) v) where
+  same-digits : take (e - (at + 1)) (drop (at + 1) s) ≡ frontDigits (drop 1 (drop at s))
   same-digits =
-      ap (λ (k : ℕ). take k (drop (at + 1) s)) (let z : e - (at + 1) ≡ length (digits (drop (at + 1) s)) = omega arith in z) ∙ taken (drop (at + 1) s)
-      ∙ ap digits (sym (drop-drop 1 at s))
+      ap (λ (k : ℕ). take k (drop (at + 1) s)) (let z : e - (at + 1) ≡ length (frontDigits (drop (at + 1) s)) = omega arith in z) ∙ taken (drop (at + 1) s)
+      ∙ ap frontDigits (sym (drop-drop 1 at s))
     where
-      taken : (r : List ℕ) → take (length (digits r)) r ≡ digits r
+      taken : (r : List ℕ) → take (length (frontDigits r)) r ≡ frontDigits r
       taken [] = refl
       taken (b ∷ r) = go (isDigit b) (taken r)
         where
-          go : (c : Bool) → take (length (digits r)) r ≡ digits r → take (length (cond c (b ∷ digits r) [])) (b ∷ r) ≡ cond c (b ∷ digits r) []
+          go : (c : Bool) → take (length (frontDigits r)) r ≡ frontDigits r → take (length (cond c (b ∷ frontDigits r) [])) (b ∷ r) ≡ cond c (b ∷ frontDigits r) []
           go true z = ap (λ (x : List ℕ). b ∷ x) z
           go false z = refl
 
-  place : at + (1 + length (digits (drop 1 (drop at s)))) ≡ e
-  place = let z = ap (λ (r : List ℕ). length (digits r)) (drop-drop 1 at s) in omega arith
+  place : at + (1 + length (frontDigits (drop 1 (drop at s)))) ≡ e
+  place = let z = ap (λ (r : List ℕ). length (frontDigits r)) (drop-drop 1 at s) in omega arith
 
   pub number-at : NumberAt s at (record { value = v; end = e })
   number-at =
       record {
-        is = λ l f. ap (λ (o : Option ℕ). asLexed at (ranged f (1 + length (digits (drop 1 (drop at s)))) o)) (ap numeralOf (sym same-digits) ∙ g .is l)
+        is = λ l f. ap (λ (o : Option ℕ). asLexed at (ranged f (1 + length (frontDigits (drop 1 (drop at s)))) o)) (ap numeralOf (sym same-digits) ∙ g .is l)
             ∙ ap (asLexed at) (hit (le-leb v 63 (omega arith)) _ _) ∙ ap (λ (k : ℕ). record { lexeme = lexemeOf (f v); end = k }) place;
         isnt =
-            λ l f. ap (λ (o : Option ℕ). asLexed at (ranged f (1 + length (digits (drop 1 (drop at s)))) o)) (ap numeralOf (sym same-digits))
+            λ l f. ap (λ (o : Option ℕ). asLexed at (ranged f (1 + length (frontDigits (drop 1 (drop at s)))) o)) (ap numeralOf (sym same-digits))
             ∙ ap (asLexed at) (g .isnt l f _);
       }
 
@@ -280,7 +280,7 @@ pub record First (s : List ℕ) (at : ℕ) (l : Lexeme) (e : ℕ) (x : Lex) (k :
   pub rest : lexemes (drop e s) ≡ some k
   pub further : at < e
 
-onto-first : (y x : Lex) (o : Option (List Lex)) (k : List Lex) → onto y o ≡ some (x ∷ k) → (y ≡ x) × (o ≡ some k)
+onto-first : (y x : Lex) (o : Option (List Lex)) (k : List Lex) → ontoLexemes y o ≡ some (x ∷ k) → (y ≡ x) × (o ≡ some k)
 onto-first y x none k e = absurd (let z : _≡_ {A = ℕ} 0 1 = cc in omega arith)
 onto-first y x (some l) k e = let z : _≡_ {A = List Lex} (y ∷ l) (x ∷ k) = cc in (let u : y ≡ x = cc in u, let u : l ≡ k = cc in ap some u)
 
@@ -290,7 +290,7 @@ front-first s at y e x k f h =
     let z = onto-first y x (lexemes (drop e s)) k (sym (f .front) ∙ h) in
     record { same = ap lexemeOf (z .0); rest = z .1; further = f .further }
 
-pub told-first : (s : List ℕ) (at : ℕ) (l : Lexeme) (e : ℕ) (x : Lex) (k : List Lex) → Tells s at l e → lexemes (drop at s) ≡ some (x ∷ k) → First s at l e x k
+pub told-first : (s : List ℕ) (at : ℕ) (l : Lexeme) (e : ℕ) (x : Lex) (k : List Lex) → LexemeTells s at l e → lexemes (drop at s) ≡ some (x ∷ k) → First s at l e x k
 told-first s at (Lexeme.Nonterminal a) e x k f h = front-first s at (n a) e x k f h
 told-first s at (Lexeme.Terminal a) e x k f h = front-first s at (t a) e x k f h
 told-first s at Lexeme.Open e x k f h = front-first s at opening e x k f h
@@ -309,12 +309,12 @@ told-first s at Lexeme.Not e x k f h =
 front-end : {P : Type 0} (s : List ℕ) (at : ℕ) (y : Lex) (e : ℕ) → Front s at y e → lexemes (drop at s) ≡ some [] → P
 front-end {P} s at y e f h = go (lexemes (drop e s)) (sym (f .front) ∙ h)
   where
-    go : (q : Option (List Lex)) → onto y q ≡ some [] → P
+    go : (q : Option (List Lex)) → ontoLexemes y q ≡ some [] → P
     go none z = absurd (let u : _≡_ {A = ℕ} 0 1 = cc in omega arith)
     go (some l) z = absurd (let u : _≡_ {A = ℕ} 0 1 = cc in omega arith)
 
 -- where no lexeme is left, the end is told
-pub told-end : (s : List ℕ) (at : ℕ) (l : Lexeme) (e : ℕ) → Tells s at l e → lexemes (drop at s) ≡ some [] → l ≡ Lexeme.End
+pub told-end : (s : List ℕ) (at : ℕ) (l : Lexeme) (e : ℕ) → LexemeTells s at l e → lexemes (drop at s) ≡ some [] → l ≡ Lexeme.End
 told-end s at (Lexeme.Nonterminal a) e f h = front-end s at (n a) e f h
 told-end s at (Lexeme.Terminal a) e f h = front-end s at (t a) e f h
 told-end s at Lexeme.Open e f h = front-end s at opening e f h

@@ -11,7 +11,7 @@ use Rattle.lexemes.specs.declared.Lexeme.{Lexeme}
 use Rattle.lexemes.specs.declared.Lexeme.the-variants as Lexeme
 use Rattle.lexemes.specs.declared.Lexed.{Lexed}
 use Rattle.lexemes.specs.declared.Counted.{Counted}
-use Rattle.lexemes.specs.Lexemes.{Found, starts, ranged, numbered, Sign, sign, signs, lexemes, onto}
+use Rattle.lexemes.specs.Lexemes.{LexFound, starts, ranged, numbered, Sign, sign, signs, lexemes, ontoLexemes}
 
 -- a lexeme as an enum of the code
 abbrev pub lexemeOf : Lex → Lexeme
@@ -27,7 +27,7 @@ lexemeOf (suffix (marks m)) = Lexeme.Marked m
 lexemeOf (join m) = Lexeme.Join m
 
 -- what stands at a place, and the place behind it
-abbrev pub asLexed : ℕ → Found → Lexed
+abbrev pub asLexed : ℕ → LexFound → Lexed
 asLexed at (some y) = record { lexeme = lexemeOf (y .0); end = at + y .1 }
 asLexed at none = record { lexeme = Lexeme.Not; end = at }
 
@@ -53,7 +53,7 @@ pub record NumberAt (s : List ℕ) (at : ℕ) (r : Counted) : Type 0 where
 pub record Front (s : List ℕ) (at : ℕ) (x : Lex) (e : ℕ) : Type 0 where
   pub further : at < e
   pub within : e ≤ length s
-  pub front : lexemes (drop at s) ≡ onto x (lexemes (drop e s))
+  pub front : lexemes (drop at s) ≡ ontoLexemes x (lexemes (drop e s))
 
 -- no byte is left; or no lexeme stands there
 pub record Ended (s : List ℕ) (at : ℕ) : Type 0 where
@@ -63,22 +63,22 @@ pub record Bad (s : List ℕ) (at : ℕ) : Type 0 where
   pub front : lexemes (drop at s) ≡ none
 
 -- what a lexeme and its end tell of the bytes from a place on
-abbrev pub Tells : List ℕ → ℕ → Lexeme → ℕ → Type 0
-Tells s at (Lexeme.Nonterminal a) e = Front s at (n a) e
-Tells s at (Lexeme.Terminal a) e = Front s at (t a) e
-Tells s at Lexeme.Open e = Front s at opening e
-Tells s at Lexeme.Close e = Front s at closing e
-Tells s at Lexeme.Bar e = Front s at bar e
-Tells s at Lexeme.Maybe e = Front s at (suffix maybe) e
-Tells s at (Lexeme.Plus m) e = Front s at (suffix (repeats C.one m)) e
-Tells s at (Lexeme.Star m) e = Front s at (suffix (repeats C.zero m)) e
-Tells s at (Lexeme.Marked m) e = Front s at (suffix (marks m)) e
-Tells s at (Lexeme.Join m) e = Front s at (join m) e
-Tells s at Lexeme.End e = Ended s at
-Tells s at Lexeme.Not e = Bad s at
+abbrev pub LexemeTells : List ℕ → ℕ → Lexeme → ℕ → Type 0
+LexemeTells s at (Lexeme.Nonterminal a) e = Front s at (n a) e
+LexemeTells s at (Lexeme.Terminal a) e = Front s at (t a) e
+LexemeTells s at Lexeme.Open e = Front s at opening e
+LexemeTells s at Lexeme.Close e = Front s at closing e
+LexemeTells s at Lexeme.Bar e = Front s at bar e
+LexemeTells s at Lexeme.Maybe e = Front s at (suffix maybe) e
+LexemeTells s at (Lexeme.Plus m) e = Front s at (suffix (repeats C.one m)) e
+LexemeTells s at (Lexeme.Star m) e = Front s at (suffix (repeats C.zero m)) e
+LexemeTells s at (Lexeme.Marked m) e = Front s at (suffix (marks m)) e
+LexemeTells s at (Lexeme.Join m) e = Front s at (join m) e
+LexemeTells s at Lexeme.End e = Ended s at
+LexemeTells s at Lexeme.Not e = Bad s at
 
 -- what stands at a place
 pub record Lexes (s : List ℕ) (at : ℕ) (r : Lexed) : Type 0 where
   pub from : at ≤ r .end
   pub within : r .end ≤ length s
-  pub tells : Tells s at (r .lexeme) (r .end)
+  pub tells : LexemeTells s at (r .lexeme) (r .end)

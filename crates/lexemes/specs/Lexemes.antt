@@ -12,8 +12,8 @@ use Rattle.clauses.specs.Clauses as C
 use Rattle.clauses.specs.Text.{maybe, repeats, marks, Lex, n, t, opening, closing, bar, suffix, join}
 
 -- a lexeme with the number of its bytes, if there is one
-abbrev pub Found : Type 0
-Found = Option (Lex × ℕ)
+abbrev pub LexFound : Type 0
+LexFound = Option (Lex × ℕ)
 
 -- the bytes p stand at the front of s
 abbrev pub starts : List ℕ → List ℕ → Bool
@@ -22,21 +22,21 @@ starts (x ∷ p) [] = false
 starts (x ∷ p) (y ∷ s) = eqb x y && starts p s
 
 -- the digits at the front of s
-abbrev pub digits : List ℕ → List ℕ
-digits [] = []
-digits (b ∷ s) = cond (isDigit b) (b ∷ digits s) []
+abbrev pub frontDigits : List ℕ → List ℕ
+frontDigits [] = []
+frontDigits (b ∷ s) = cond (isDigit b) (b ∷ frontDigits s) []
 
 -- a number 0 to 63
-abbrev pub ranged : (ℕ → Lex) → ℕ → Option ℕ → Found
+abbrev pub ranged : (ℕ → Lex) → ℕ → Option ℕ → LexFound
 ranged f k (some v) = cond (leb v 63) (some (f v, k)) none
 ranged f k none = none
 
 -- a number as in rule sheets, behind a letter
-abbrev pub numbered : (ℕ → Lex) → List ℕ → Found
-numbered f s = ranged f (1 + length (digits s)) (numeralOf (digits s))
+abbrev pub numbered : (ℕ → Lex) → List ℕ → LexFound
+numbered f s = ranged f (1 + length (frontDigits s)) (numeralOf (frontDigits s))
 
 -- n4 t2
-abbrev pub items : List ℕ → Found
+abbrev pub items : List ℕ → LexFound
 items s = cond (starts (110 ∷ []) s) (numbered n (drop 1 s)) (cond (starts (116 ∷ []) s) (numbered t (drop 1 s)) none)
 
 -- a sign: its bytes, and the lexeme that it is
@@ -71,21 +71,21 @@ signs =
     ∷ []
 
 -- the first of the signs that stands at the front of s, or an item
-abbrev pub firstOf : List Sign → List ℕ → Found
-firstOf [] s = items s
-firstOf (x ∷ l) s = cond (starts (x .bytes) s) (some (x .lex, length (x .bytes))) (firstOf l s)
+abbrev pub firstSign : List Sign → List ℕ → LexFound
+firstSign [] s = items s
+firstSign (x ∷ l) s = cond (starts (x .bytes) s) (some (x .lex, length (x .bytes))) (firstSign l s)
 
-abbrev pub lexeme : List ℕ → Found
-lexeme s = firstOf signs s
+abbrev pub lexeme : List ℕ → LexFound
+lexeme s = firstSign signs s
 
 -- one lexeme more in front, where the rest are lexemes
-abbrev pub onto : Lex → Option (List Lex) → Option (List Lex)
-onto x (some l) = some (x ∷ l)
-onto x none = none
+abbrev pub ontoLexemes : Lex → Option (List Lex) → Option (List Lex)
+ontoLexemes x (some l) = some (x ∷ l)
+ontoLexemes x none = none
 
 -- what is found, and what k says of the lexemes behind it, given how many more bytes it has
-abbrev pub then : Found → (ℕ → Option (List Lex)) → Option (List Lex)
-then (some y) k = onto (y .0) (k (y .1 - 1))
+abbrev pub then : LexFound → (ℕ → Option (List Lex)) → Option (List Lex)
+then (some y) k = ontoLexemes (y .0) (k (y .1 - 1))
 then none k = none
 
 -- the lexemes of s after its first k bytes, which belong to the lexeme before

@@ -5,7 +5,7 @@ use grammar::UnaryMark;
 ghost use mathlib.Core.Path.{_≡_};
 ghost use Prim.Native.Nat.{_+_, _≤_, _<_};
 ghost use lib.ListN.{length, drop};
-ghost use Rattle.lexemes.specs.Lexemes.{starts, digits, items, lexeme as found};
+ghost use Rattle.lexemes.specs.Lexemes.{starts, frontDigits, items, lexeme as found};
 ghost use Rattle.fields.specs.Words.{numeralOf};
 ghost use Rattle.lexemes.specs.Answers.{lexemeOf, asLexed, signAt, standing, Numbers, NumberAt, Lexes};
 
@@ -58,7 +58,7 @@ fn starts_with(s: &[u8], at: usize, p: &[u8]) -> bool
 // Where the digits from a place on end.
 fn digits_end(s: &[u8], at: usize) -> usize
     requires { ⌜ at ≤ length (now s) ⌝ }
-    ensures { λ r. ⌜ r ≡ at + length (digits (drop at (now (s .entry)))) ⌝ }
+    ensures { λ r. ⌜ r ≡ at + length (frontDigits (drop at (now (s .entry)))) ⌝ }
 {
     let mut i = at;
     while i < s.len() {

@@ -6,7 +6,7 @@ use Prim.Native.Nat.{ℕ, _+_, _≤_, _<_}
 use lib.ListN.{length, take}
 use Rattle.lists.specs.declared.Listing.{Listing}
 use Rattle.lists.specs.declared.Listed.{Listed}
-use Rattle.lists.specs.Lists.{Gives}
+use Rattle.lists.specs.Lists.{GivesList}
 
 -- the bytes of n entries were put at the front of the lent ones; or they do not fit
 pub record Puts (bytes : List ℕ) (n : ℕ) (lent lent′ : List ℕ) (l : Listing) : Type 0 where
@@ -36,4 +36,4 @@ unfit = record { fits = false; count = 0 }
 
 -- all was put
 pub record Ended (old new : List ℕ) (l : Listing) (r : Listed) : Type 0 where
-  pub gives : {bytes : List ℕ} {n : ℕ} {lent : List ℕ} → Puts bytes n lent old l → Gives listed unfit bytes n lent new r
+  pub gives : {bytes : List ℕ} {n : ℕ} {lent : List ℕ} → Puts bytes n lent old l → GivesList listed unfit bytes n lent new r

@@ -4,7 +4,7 @@ use rows::clear;
 ghost use mathlib.Core.Path.{_≡_};
 ghost use Prim.Native.Nat.{_≤_};
 ghost use lib.ListN.{length, replicate};
-ghost use Rattle.lists.specs.Lists.{Gives};
+ghost use Rattle.lists.specs.Lists.{GivesList};
 ghost use Rattle.lists.specs.Putting.{Begun, PutMore, Ended, listed, unfit};
 
 // A list while it is put: the place behind what was put, the number of entries so far, and whether all of it had room.
@@ -98,7 +98,7 @@ pub fn finish(out: &mut [u8], l: Listing) -> Listed
 
 // A whole list at once, an entry a byte.
 pub fn give(out: &mut [u8], bytes: &[u8]) -> Listed
-    ensures { λ r. ⌜ Gives listed unfit (now (bytes .entry)) (length (now (bytes .entry))) (now (out .entry)) (now (out .exit)) r ⌝ }
+    ensures { λ r. ⌜ GivesList listed unfit (now (bytes .entry)) (length (now (bytes .entry))) (now (out .entry)) (now (out .exit)) r ⌝ }
 {
     let l = put(out, begin(), bytes, bytes.len());
     finish(out, l)

@@ -5,10 +5,10 @@ use native.Mathlib.Omega.{arith}
 use lib.ListN.{length, getD}
 use lib.Seq.{getD-take, length-take-le}
 use Rattle.marks.specs.declared.Draft.{Draft}
-use Rattle.marks.specs.Half.{no-token, token}
+use Rattle.marks.specs.Half.{no-token, tokenAt}
 use Rattle.marks.specs.Drafts.{drafted}
 
-pub drafted-at : (d : Draft) (i : ℕ) → i < d .count → token (drafted d) i ≡ getD (d .tokens) i no-token
+pub drafted-at : (d : Draft) (i : ℕ) → i < d .count → tokenAt (drafted d) i ≡ getD (d .tokens) i no-token
 drafted-at d i h = getD-take (d .count) (d .tokens) i no-token h
 
 -- a draft is as long as its count says

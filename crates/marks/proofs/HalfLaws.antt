@@ -13,7 +13,7 @@ use Rattle.grammar.specs.Layout.{Word, Keeps, Pairs}
 use Rattle.grammar.specs.Layout as Mark
 use Rattle.grammar.specs.Trees.{Covers}
 use Rattle.grammar.specs.SpanSheet.{part}
-use Rattle.marks.specs.Half.{Half, token, Completes, MayBe, MayKeep, MayPair}
+use Rattle.marks.specs.Half.{Half, tokenAt, Completes, MayBe, MayKeep, MayPair}
 use Rattle.marks.proofs.Words.{part-at, part-length, unary-span, span-unary, no-left, no-right, binary-span, one-token}
 
 -- ---- what holds of a completion may hold
@@ -25,8 +25,8 @@ module _ (h : Half) (w : Word) (c : Completes h w) where
       n : len ≡ 1
       n = sym (part-length w s len fit) ∙ ap length e
 
-      at : token w s ≡ t
-      at = let q : token w s ∷ [] ≡ t ∷ [] = sym (one-token w s (omega (arith, n))) ∙ ap (part w s) (sym n) ∙ e in cc
+      at : tokenAt w s ≡ t
+      at = let q : tokenAt w s ∷ [] ≡ t ∷ [] = sym (one-token w s (omega (arith, n))) ∙ ap (part w s) (sym n) ∙ e in cc
 
   pub may-keep : (m : UnaryMark) (s len : ℕ) → s + len ≤ length w → Mark.Unary m (part w s len) → MayKeep m h s len
   may-keep m s len fit u = record { keeps = λ i l k. subst₂ (Keeps m) (c .same s (omega arith)) (c .same (s + i) k) (unary-span m w s len fit u i l) }
@@ -40,7 +40,7 @@ module _ (h : Half) (w : Word) (c : Completes h w) where
 
 module _ (h : Half) (fits : h .known ≤ length (h .word)) where
   pub is-one : (s a b : ℕ) → s + 1 ≤ h .known → MayBe h s a b → (t : Token) × (part (h .word) s 1 ≡ t ∷ []) × Covers a b (t .terminal)
-  is-one s a b k q = (token (h .word) s, one-token (h .word) s (omega arith), q .terminal)
+  is-one s a b k q = (tokenAt (h .word) s, one-token (h .word) s (omega arith), q .terminal)
 
   pub does-keep : (m : UnaryMark) (s len : ℕ) → s + len ≤ h .known → MayKeep m h s len → Mark.Unary m (part (h .word) s len)
   does-keep m s len k q = span-unary m (h .word) s len (omega arith) (λ i l. q .keeps i l (omega arith))

@@ -21,7 +21,7 @@ use Rattle.marks.specs.declared.Least.{Least}
 use Rattle.marks.specs.declared.SpanMarks.{SpanMarks}
 use Rattle.marks.specs.declared.Draft.{Draft}
 use Rattle.marks.specs.Drafts.{half}
-use Rattle.marks.specs.Half.{Half, no-token, token, MayKeep, MayPair}
+use Rattle.marks.specs.Half.{Half, no-token, tokenAt, MayKeep, MayPair}
 use Rattle.marks.specs.Later.{OffsideBy, OffalignBy}
 use Rattle.marks.proofs.DraftLaws.{drafted-at}
 use Rattle.marks.specs.Marked.{Included, Grown, Joined, opened, Advanced, alone, Pairing, Carried, Marked}
@@ -32,9 +32,9 @@ use Rattle.marks.proofs.Pairings.{pairing-none, pairing-more, flagged, 
 
 -- all of it stands on one line
 keep-one : (h : Half) (s : ℕ) → MayKeep UnaryMark.Single h s 1
-keep-one h s = record { keeps = λ i l k. ap (λ (x : ℕ). token (h .word) x .line .0) (let e : s + i ≡ s = omega arith in e) }
+keep-one h s = record { keeps = λ i l k. ap (λ (x : ℕ). tokenAt (h .word) x .line .0) (let e : s + i ≡ s = omega arith in e) }
 
-pub carried-first : (h : Half) (s t c : ℕ) → t ≡ token (h .word) s .terminal → c ≡ col (token (h .word) s) → Carried h s 1 (alone t c)
+pub carried-first : (h : Half) (s t c : ℕ) → t ≡ tokenAt (h .word) s .terminal → c ≡ col (tokenAt (h .word) s) → Carried h s 1 (alone t c)
 carried-first h s t c b d = record {
   first = d;
   least = least-first h s;
@@ -48,7 +48,7 @@ carried-first h s t c b d = record {
 
 -- what the token at s + l adds to the first l
 abbrev pub NextJoined : Half → ℕ → ℕ → SpanMarks → SpanMarks → Type 0
-NextJoined h s l k r = Advanced k l (s + l) (h .known) (token (h .word) s) (token (h .word) (s + l - 1)) (token (h .word) (s + l)) r
+NextJoined h s l k r = Advanced k l (s + l) (h .known) (tokenAt (h .word) s) (tokenAt (h .word) (s + l - 1)) (tokenAt (h .word) (s + l)) r
 
 -- three tokens of a draft are asked
 pub next-joined : (d : Draft) (s l : ℕ) (k r : SpanMarks) → s + l < d .count
@@ -59,7 +59,7 @@ next-joined d s l k r h =
 
 -- a known token is asked for its line
 line-more : (h : Half) (s l : ℕ) (b c : Bool) → s + l < h .known
-    → Says b (MayKeep UnaryMark.Single h s l) → Says c ((b ≡ true) × Keeps UnaryMark.Single (token (h .word) s) (token (h .word) (s + l))) → Says c (MayKeep UnaryMark.Single h s (l + 1))
+    → Says b (MayKeep UnaryMark.Single h s l) → Says c ((b ≡ true) × Keeps UnaryMark.Single (tokenAt (h .word) s) (tokenAt (h .word) (s + l))) → Says c (MayKeep UnaryMark.Single h s (l + 1))
 line-more h s l b c known p q =
     says-iff (λ t. record { keeps = below-more _ _ (p .is (t .0) .keeps) (λ k. t .1) })
     (λ t. (flagged p .1 (record { keeps = λ i x. t .keeps i (omega arith) }), t .keeps l (omega arith) known)) q
@@ -70,7 +70,7 @@ line-open h s l b known p =
     says-iff (λ t. record { keeps = below-more _ _ (t .keeps) (λ k. absurd (omega (arith, k, known))) }) (λ t. record { keeps = λ i x. t .keeps i (omega arith) }) p
 
 pair-more : (m : BinaryMark) (h : Half) (s l set r : ℕ) → 0 < l → s + l < h .known
-    → Grown set l (Pairs m (token (h .word) s) (token (h .word) (s + l - 1)) (token (h .word) (s + l))) r → Pairing m h s l set → Pairing m h s (l + 1) r
+    → Grown set l (Pairs m (tokenAt (h .word) s) (tokenAt (h .word) (s + l - 1)) (tokenAt (h .word) (s + l))) r → Pairing m h s l set → Pairing m h s (l + 1) r
 pair-more m h s l set r pos known g p =
     pairing-more m h s l set r (g .flag) pos (says-iff (λ f. record { pairs = λ x y k. f }) (λ t. t .pairs (omega arith) (omega arith) known) (g .says)) (g .included) p
 
@@ -84,7 +84,7 @@ pair-open m h s l set pos known p = pairing-more m h s l set (insert set l) true
     all = record { is = λ y. refl; isnt = λ n. absurd (true-not-false n) }
 
 known-more : (h : Half) (s l : ℕ) (k r : SpanMarks) → 0 < l → s + l < h .known → Carried h s l k
-    → Joined k l (token (h .word) s) (token (h .word) (s + l - 1)) (token (h .word) (s + l)) r → Carried h s (l + 1) r
+    → Joined k l (tokenAt (h .word) s) (tokenAt (h .word) (s + l - 1)) (tokenAt (h .word) (s + l)) r → Carried h s (l + 1) r
 known-more h s l k r pos known p j = record {
   first = j .first ∙ p .first;
   least = least-more h s l (k .least) (r .least) known (p .least) (j .least);

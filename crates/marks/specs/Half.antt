@@ -17,22 +17,22 @@ abbrev pub no-token : Token
 no-token = record { terminal = 0; line = record { 0 = 0 }; column = record { 0 = 0 }; width = record { 0 = 0 } }
 
 -- the token at i
-abbrev pub token : Word → ℕ → Token
-token w i = getD w i no-token
+abbrev pub tokenAt : Word → ℕ → Token
+tokenAt w i = getD w i no-token
 
 -- w is as long, and has the known tokens
 pub record Completes (h : Half) (w : Word) : Type 0 where
   pub long : length w ≡ length (h .word)
-  pub same : (i : ℕ) → i < h .known → token w i ≡ token (h .word) i
+  pub same : (i : ℕ) → i < h .known → tokenAt w i ≡ tokenAt (h .word) i
 
 -- the token at s is one of the terminals from a to b
 pub record MayBe (h : Half) (s a b : ℕ) : Type 0 where
-  pub terminal : Covers a b (token (h .word) s .terminal)
+  pub terminal : Covers a b (tokenAt (h .word) s .terminal)
 
 -- the unary mark may hold of the span of len tokens from s on
 pub record MayKeep (m : UnaryMark) (h : Half) (s len : ℕ) : Type 0 where
-  pub keeps : (i : ℕ) → i < len → s + i < h .known → Keeps m (token (h .word) s) (token (h .word) (s + i))
+  pub keeps : (i : ℕ) → i < len → s + i < h .known → Keeps m (tokenAt (h .word) s) (tokenAt (h .word) (s + i))
 
 -- the binary mark may hold of the span of l tokens from s on and that of r tokens after it
 pub record MayPair (m : BinaryMark) (h : Half) (s l r : ℕ) : Type 0 where
-  pub pairs : 0 < l → 0 < r → s + l < h .known → Pairs m (token (h .word) s) (token (h .word) (s + l - 1)) (token (h .word) (s + l))
+  pub pairs : 0 < l → 0 < r → s + l < h .known → Pairs m (tokenAt (h .word) s) (tokenAt (h .word) (s + l - 1)) (tokenAt (h .word) (s + l))

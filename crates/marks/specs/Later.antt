@@ -5,19 +5,19 @@ use Rattle.grammar.specs.declared.Token.{Token}
 use Rattle.grammar.specs.Layout.{line, col}
 use Rattle.marks.specs.declared.Least.{Least}
 use Rattle.marks.specs.declared.Least.the-variants as Least
-use Rattle.marks.specs.Half.{Half, token}
+use Rattle.marks.specs.Half.{Half, tokenAt}
 
 -- of the span of len tokens from s on, the token at s + i is known and stands on a line later than the first token's
 pub record Later (h : Half) (s len i : ℕ) : Type 0 where
   pub inside : i < len
   pub known : s + i < h .known
-  pub below : line (token (h .word) s) < line (token (h .word) (s + i))
+  pub below : line (tokenAt (h .word) s) < line (tokenAt (h .word) (s + i))
 
 -- v is the least column of such tokens, or says that there is none
 abbrev pub LeastLater : Half → ℕ → ℕ → Least → Type 0
 LeastLater h s len Least.None = (i : ℕ) → Later h s len i → ⊥
 LeastLater h s len (Least.At c) =
-    ((i : ℕ) × Later h s len i × (col (token (h .word) (s + i)) ≡ c)) × ((i : ℕ) → Later h s len i → c ≤ col (token (h .word) (s + i)))
+    ((i : ℕ) × Later h s len i × (col (tokenAt (h .word) (s + i)) ≡ c)) × ((i : ℕ) → Later h s len i → c ≤ col (tokenAt (h .word) (s + i)))
 
 -- the least of v and the column c
 abbrev pub lesser : Least → ℕ → Least

@@ -15,7 +15,7 @@ use Rattle.grammar.specs.Trees.{Covers}
 use Rattle.marks.specs.declared.Least.{Least}
 use Rattle.marks.specs.declared.Least.the-variants as Least
 use Rattle.marks.specs.declared.SpanMarks.{SpanMarks}
-use Rattle.marks.specs.Half.{Half, token, MayBe, MayKeep, MayPair}
+use Rattle.marks.specs.Half.{Half, tokenAt, MayBe, MayKeep, MayPair}
 use Rattle.marks.specs.Later.{LeastLater, Grows, OffsideBy, OffalignBy}
 
 -- by the marks k a span of one token is one of the terminals from a to b
@@ -75,12 +75,12 @@ pub record Pairing (m : BinaryMark) (h : Half) (s to set : ℕ) : Type 0 where
 
 -- k is the marks of len tokens from s on, as they are carried from a span to the one that has a token more
 pub record Carried (h : Half) (s len : ℕ) (k : SpanMarks) : Type 0 where
-  pub first : k .first ≡ col (token (h .word) s)
+  pub first : k .first ≡ col (tokenAt (h .word) s)
   pub least : LeastLater h s len (k .least)
   pub single : Says (k .single) (MayKeep UnaryMark.Single h s len)
   pub align : Pairing BinaryMark.Align h s len (k .align)
   pub indent : Pairing BinaryMark.Indent h s len (k .indent)
-  pub terminal : k .terminal ≡ token (h .word) s .terminal
+  pub terminal : k .terminal ≡ tokenAt (h .word) s .terminal
 
 -- the marks k of the span of len tokens from s on are those of the definitions; where the span has a token, its carried
 -- value is the least column on lines later than the first token's

@@ -15,52 +15,52 @@ use Rattle.grammar.specs.Candidates.{Terminal, Candidate, Earlier, sentence}
 use Rattle.grammar.specs.Sweeps.{Clear, FirstTwo, terminalCount, terminalsBelow}
 use Rattle.grammar.proofs.SweepLaws.{clear-of, sentence-length, sentence-wide}
 use Rattle.numbers.specs.Numbers.{number, numberFrom, capacity}
-use Rattle.numbers.specs.Shares.{begins, total, NoneIn, LowestIn, Reported, Reports}
+use Rattle.numbers.specs.Shares.{firstOfShare, total, NoneIn, LowestIn, Reported, Reports}
 use Rattle.numbers.proofs.NumberLaws.{number-lt, number-mono, capacity-all}
 use Rattle.numbers.proofs.TerminalPlaces.{place-rising, place-below}
 
 -- ---- runs that follow one another
 
-pub begins-first : (M p : ℕ) → begins M p 0 ≡ 0
-unfolding begins
+pub begins-first : (M p : ℕ) → firstOfShare M p 0 ≡ 0
+unfolding firstOfShare
 begins-first M p = omega (arith, zero-mul (M / p))
 
 -- one of the first shares, as many as the remainder, has one more than M ÷ p
-pub begins-more : (M p i : ℕ) → i < M % p → begins M p (suc i) ≡ begins M p i + (M / p + 1)
-unfolding begins
+pub begins-more : (M p i : ℕ) → i < M % p → firstOfShare M p (suc i) ≡ firstOfShare M p i + (M / p + 1)
+unfolding firstOfShare
 begins-more M p i h = omega (arith, suc-mul i (M / p))
 
 -- the others have M ÷ p
-pub begins-else : (M p i : ℕ) → M % p ≤ i → begins M p (suc i) ≡ begins M p i + M / p
-unfolding begins
+pub begins-else : (M p i : ℕ) → M % p ≤ i → firstOfShare M p (suc i) ≡ firstOfShare M p i + M / p
+unfolding firstOfShare
 begins-else M p i h = omega (arith, suc-mul i (M / p))
 
-begins-le : (M p i : ℕ) → begins M p i ≤ begins M p (suc i)
+begins-le : (M p i : ℕ) → firstOfShare M p i ≤ firstOfShare M p (suc i)
 begins-le M p i = go (decLt i (M % p))
   where
-    go : Dec (i < M % p) → begins M p i ≤ begins M p (suc i)
+    go : Dec (i < M % p) → firstOfShare M p i ≤ firstOfShare M p (suc i)
     go (yes l) = omega (arith, begins-more M p i l)
     go (no l) = omega (arith, begins-else M p i (omega arith))
 
-pub begins-mono : (M p i j : ℕ) → i ≤ j → begins M p i ≤ begins M p j
-begins-mono M p i j h = le-ind (λ (m : ℕ). begins M p i ≤ begins M p m) (omega arith) (λ m l v. omega (arith, v, begins-le M p m)) j h
+pub begins-mono : (M p i j : ℕ) → i ≤ j → firstOfShare M p i ≤ firstOfShare M p j
+begins-mono M p i j h = le-ind (λ (m : ℕ). firstOfShare M p i ≤ firstOfShare M p m) (omega arith) (λ m l v. omega (arith, v, begins-le M p m)) j h
 
 -- the last share ends with M
-pub begins-last : (M p : ℕ) → 1 ≤ p → begins M p p ≡ M
-unfolding begins
+pub begins-last : (M p : ℕ) → 1 ≤ p → firstOfShare M p p ≡ M
+unfolding firstOfShare
 begins-last M p h = omega (arith, div-add-mod' M p, mul-comm p (M / p), mod-lt M {m = p} (omega arith))
 
 -- every number is in a share
-pub share-some : (M p N j : ℕ) → N < begins M p j → (i : ℕ) × (i < j) × (begins M p i ≤ N) × (N < begins M p (suc i))
+pub share-some : (M p N j : ℕ) → N < firstOfShare M p j → (i : ℕ) × (i < j) × (firstOfShare M p i ≤ N) × (N < firstOfShare M p (suc i))
 share-some M p N zero h = absurd (omega (arith, begins-first M p))
-share-some M p N (suc j) h = go (decLt N (begins M p j)) (share-some M p N j)
+share-some M p N (suc j) h = go (decLt N (firstOfShare M p j)) (share-some M p N j)
   where
-    go : Dec (N < begins M p j) → (N < begins M p j → (i : ℕ) × (i < j) × (begins M p i ≤ N) × (N < begins M p (suc i))) → (i : ℕ) × (i < suc j) × (begins M p i ≤ N) × (N < begins M p (suc i))
+    go : Dec (N < firstOfShare M p j) → (N < firstOfShare M p j → (i : ℕ) × (i < j) × (firstOfShare M p i ≤ N) × (N < firstOfShare M p (suc i))) → (i : ℕ) × (i < suc j) × (firstOfShare M p i ≤ N) × (N < firstOfShare M p (suc i))
     go (yes l) ih = let q = ih l in (q .0, omega (arith, q .1), q .2, q .3)
     go (no l) ih = (j, omega arith, omega arith, h)
 
 -- and in no other
-pub share-once : (M p N i j : ℕ) → begins M p i ≤ N → N < begins M p (suc i) → begins M p j ≤ N → N < begins M p (suc j) → i ≡ j
+pub share-once : (M p N i j : ℕ) → firstOfShare M p i ≤ N → N < firstOfShare M p (suc i) → firstOfShare M p j ≤ N → N < firstOfShare M p (suc j) → i ≡ j
 share-once M p N i j a b c d = go (decLt i j) (decLt j i)
   where
     go : Dec (i < j) → Dec (j < i) → i ≡ j
@@ -87,7 +87,7 @@ module _ (g : Rules) (small : (x : ℕ) → Terminal g x → x < 64) where
   -- ---- all shares and the sweep
 
   -- the share of a candidate of length n among p
-  pub share-of : (n p : ℕ) (cs : List Cell) → 1 ≤ n → 1 ≤ p → Candidate (Terminal g) n cs → (i : ℕ) × (i < p) × (begins (total g n) p i ≤ number g n cs) × (number g n cs < begins (total g n) p (suc i))
+  pub share-of : (n p : ℕ) (cs : List Cell) → 1 ≤ n → 1 ≤ p → Candidate (Terminal g) n cs → (i : ℕ) × (i < p) × (firstOfShare (total g n) p i ≤ number g n cs) × (number g n cs < firstOfShare (total g n) p (suc i))
   share-of n p cs h l k = share-some (total g n) p (number g n cs) p (omega (arith, number-below n cs h k, begins-last (total g n) p l))
 
   -- all shares of the lengths 1 to k are clear: the sweep is
@@ -106,7 +106,7 @@ module _ (g : Rules) (small : (x : ℕ) → Terminal g x → x < 64) where
     reported : (n : ℕ) (ds : List Cell) → 1 ≤ n → Candidate (Terminal g) n ds → TwoTrees g 0 (sentence ds) → (i : ℕ) × (i < p n) × ((es : List Cell) × (r n i ≡ some es) × (number g n es ≤ number g n ds))
     reported n ds h d two = let q = share-of n (p n) ds h (pos n) d in (q .0, q .1, at (r n (q .0)) refl (q .2) (q .3) (right n (q .0) h (q .1)))
       where
-        at : {i : ℕ} (o : Option (List Cell)) → r n i ≡ o → begins (total g n) (p n) i ≤ number g n ds → number g n ds < begins (total g n) (p n) (suc i) → Reports g n (p n) i (r n i)
+        at : {i : ℕ} (o : Option (List Cell)) → r n i ≡ o → firstOfShare (total g n) (p n) i ≤ number g n ds → number g n ds < firstOfShare (total g n) (p n) (suc i) → Reports g n (p n) i (r n i)
             → (es : List Cell) × (r n i ≡ some es) × (number g n es ≤ number g n ds)
         at {i} none e a b x = absurd ((subst (Reports g n (p n) i) e x) .none ds d a b two)
         at {i} (some es) e a b x = (es, e, least (decLt (number g n ds) (number g n es)))
@@ -130,7 +130,7 @@ module _ (g : Rules) (small : (x : ℕ) → Terminal g x → x < 64) where
       earlier = earlier;
     }
       where
-        y : LowestIn g n (begins (total g n) (p n) i) (begins (total g n) (p n) (suc i)) cs
+        y : LowestIn g n (firstOfShare (total g n) (p n) i) (firstOfShare (total g n) (p n) (suc i)) cs
         y = subst (Reports g n (p n) i) e (right n i l h)
 
         some-none : {o : Option (List Cell)} {es : List Cell} → o ≡ some es → o ≡ none → ⊥
@@ -247,12 +247,12 @@ module _ (g : Rules) (small : (x : ℕ) → Terminal g x → x < 64) where
 
 -- ---- as the code works it out
 
-pub begins-low : (M p i : ℕ) → i < M % p → i * (M / p) + i ≡ begins M p i
-unfolding begins
+pub begins-low : (M p i : ℕ) → i < M % p → i * (M / p) + i ≡ firstOfShare M p i
+unfolding firstOfShare
 begins-low M p i h = omega arith
 
-pub begins-high : (M p i : ℕ) → M % p ≤ i → i * (M / p) + M % p ≡ begins M p i
-unfolding begins
+pub begins-high : (M p i : ℕ) → M % p ≤ i → i * (M / p) + M % p ≡ firstOfShare M p i
+unfolding firstOfShare
 begins-high M p i h = omega arith
 
 pub product-small : (M p i : ℕ) → M ≤ 4294967296 → i ≤ 64 → i * (M / p) ≤ 274877906944

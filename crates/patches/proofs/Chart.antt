@@ -37,14 +37,14 @@ pair w A D m s t =
     let r = keep (within? (word s ++ word t) w) q in
     keep (eq? D (root t)) r
 
-abbrev pub pairs : Word → List Tree → ℕ → ℕ → ℕ → BinaryMark → Tree → List Tree
-pairs w C A B D m s = let r = collect (pair w A D m s) C in keep (eq? B (root s)) r
+abbrev pub pairsOf : Word → List Tree → ℕ → ℕ → ℕ → BinaryMark → Tree → List Tree
+pairsOf w C A B D m s = let r = collect (pair w A D m s) C in keep (eq? B (root s)) r
 
 abbrev pub by : Word → List Tree → ℕ → Clause → List Tree
 by w C A Empty = empty A ∷ []
 by w C A (Atom a b) = leaves w A a b
 by w C A (Unary B m) = collect (over A B m) C
-by w C A (Binary B D m) = collect (pairs w C A B D m) C
+by w C A (Binary B D m) = collect (pairsOf w C A B D m) C
 
 abbrev pub rule : Word → List Tree → Rule → List Tree
 rule w C r = by w C (r .left) (r .clause)
@@ -90,7 +90,7 @@ complete g w C same (unary A t) (valid-unary m h μ v) i =
 complete g w C same (binary A s t) (valid-binary m h μ v u) i =
     subst (λ (l : List Tree). List·Memᴰ (binary A s t) l) same
     (mem-collect (rule w C) g h
-    (mem-collect (pairs w C A (root s) (root t) m) C (complete g w C same s v (infix-left (word s) (word t) i))
+    (mem-collect (pairsOf w C A (root s) (root t) m) C (complete g w C same s v (infix-left (word s) (word t) i))
     (mem-keep (eq? (root s) (root s)) refl
     (mem-collect (pair w A (root t) m s) C (complete g w C same t u (infix-right (word s) (word t) i))
     (mem-keep (eq? (root t) (root t)) refl

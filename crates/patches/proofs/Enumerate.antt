@@ -13,7 +13,7 @@ use Rattle.grammar.specs.declared.Clause.{Clause}
 use Rattle.grammar.specs.declared.Clause.the-variants.{Empty, Atom, Unary, Binary}
 use Rattle.grammar.specs.Layout.{Word, line, col, width}
 use Rattle.grammar.specs.Trees.{Rules}
-use Rattle.grammar.specs.Candidates.{After, RisingFrom, Rising, sentence, Terminal, Ranged, Cells, Arrangement, Candidate, CellBefore, Before, Earlier}
+use Rattle.grammar.specs.Candidates.{After, RisingFrom, Rising, sentence, Terminal, Ranged, Cells, Arrangement, Candidate, CellBefore, CellsBefore, Earlier}
 use Rattle.grammar.proofs.Lists.{eq?, le?, both?, or?, map?, some?, Some, collect, mem-collect}
 use Rattle.grammar.specs.Sweeps.{isAtom}
 use Rattle.grammar.proofs.Atoms.{covers-is, has-atom}
@@ -54,7 +54,7 @@ cell-before? a b =
     (or? (both? (eq? (a .terminal) (b .terminal)) (le? (suc (a .step)) (b .step)))
     (both₃? (eq? (a .terminal) (b .terminal)) (eq? (a .step) (b .step)) (le? (suc (a .column)) (b .column))))
 
-abbrev pub before? : (cs ds : List Cell) → Dec (Before cs ds)
+abbrev pub before? : (cs ds : List Cell) → Dec (CellsBefore cs ds)
 before? [] ds = no (λ x. x)
 before? (c ∷ cs) [] = no (λ x. x)
 before? (c ∷ cs) (d ∷ ds) = let r = before? cs ds in or? (cell-before? c d) (both? (cell? c d) r)
@@ -78,21 +78,21 @@ abbrev pub terminal? : (g : Rules) (a : ℕ) → Dec (Terminal g a)
 terminal? g a = map? (some? (λ (r : Rule). true? (isAtom a (r .clause))) g) terminal-of of-terminal
 
 -- n numbers from a upward
-abbrev pub from : ℕ → ℕ → List ℕ
-from a zero = []
-from a (suc n) = a ∷ from (suc a) n
+abbrev pub numbersFrom : ℕ → ℕ → List ℕ
+numbersFrom a zero = []
+numbersFrom a (suc n) = a ∷ numbersFrom (suc a) n
 
-mem-from : (a n x : ℕ) → a ≤ x → x < a + n → List·Memᴰ x (from a n)
+mem-from : (a n x : ℕ) → a ≤ x → x < a + n → List·Memᴰ x (numbersFrom a n)
 mem-from a zero x l h = absurd (omega arith)
 mem-from a (suc n) x l h = go (λ p q. mem-from (suc a) n x p q) (eq? x a)
   where
-    go : (suc a ≤ x → x < suc a + n → List·Memᴰ x (from (suc a) n)) → Dec (x ≡ a) → List·Memᴰ x (from a (suc n))
+    go : (suc a ≤ x → x < suc a + n → List·Memᴰ x (numbersFrom (suc a) n)) → Dec (x ≡ a) → List·Memᴰ x (numbersFrom a (suc n))
     go below (yes e) = List·Memᴰ·head e
     go below (no d) = List·Memᴰ·tail (below (omega arith) (omega arith))
 
 abbrev atom-of : Clause → List ℕ
 atom-of Empty = []
-atom-of (Atom a b) = from a (suc b - a)
+atom-of (Atom a b) = numbersFrom a (suc b - a)
 atom-of (Unary B m) = []
 atom-of (Binary B C m) = []
 
@@ -137,13 +137,13 @@ cell-of a s c = record { terminal = a; step = s; column = c }
 
 -- the cells with a step of at most m, in columns 1 to n
 abbrev pub options : Rules → ℕ → ℕ → List Cell
-options g n m = collect (λ a. collect (λ s. map (cell-of a s) (from 1 n)) (from 0 (suc m))) (atoms g)
+options g n m = collect (λ a. collect (λ s. map (cell-of a s) (numbersFrom 1 n)) (numbersFrom 0 (suc m))) (atoms g)
 
 mem-options : (g : Rules) (n m : ℕ) (c : Cell) → Ranged (Terminal g) n m c → List·Memᴰ c (options g n m)
 mem-options g n m c r =
-    mem-collect (λ a. collect (λ s. map (cell-of a s) (from 1 n)) (from 0 (suc m))) (atoms g) (mem-atoms g (c .terminal) (r .terminal))
-    (mem-collect (λ s. map (cell-of (c .terminal) s) (from 1 n)) (from 0 (suc m)) (mem-from 0 (suc m) (c .step) (omega arith) (omega (arith, r .step)))
-    (mem-map (cell-of (c .terminal) (c .step)) (from 1 n) (mem-from 1 n (c .column) (r .low) (omega (arith, r .high)))))
+    mem-collect (λ a. collect (λ s. map (cell-of a s) (numbersFrom 1 n)) (numbersFrom 0 (suc m))) (atoms g) (mem-atoms g (c .terminal) (r .terminal))
+    (mem-collect (λ s. map (cell-of (c .terminal) s) (numbersFrom 1 n)) (numbersFrom 0 (suc m)) (mem-from 0 (suc m) (c .step) (omega arith) (omega (arith, r .step)))
+    (mem-map (cell-of (c .terminal) (c .step)) (numbersFrom 1 n) (mem-from 1 n (c .column) (r .low) (omega (arith, r .high)))))
 
 -- the lists of j cells, the first with a step of at most m
 abbrev pub listed : Rules → ℕ → ℕ → ℕ → List (List Cell)
@@ -160,8 +160,8 @@ mem-listed g n m (suc j) (c ∷ cs) e k =
 
 -- the arrangements of length 1 to k
 abbrev pub up-to : Rules → ℕ → List (List Cell)
-up-to g k = collect (λ n. listed g n 0 n) (from 1 k)
+up-to g k = collect (λ n. listed g n 0 n) (numbersFrom 1 k)
 
 pub mem-up-to : (g : Rules) (k n : ℕ) (cs : List Cell) → 1 ≤ n → n ≤ k → Candidate (Terminal g) n cs → List·Memᴰ cs (up-to g k)
 mem-up-to g k n cs l h c =
-    mem-collect (λ n. listed g n 0 n) (from 1 k) (mem-from 1 k n l (omega arith)) (mem-listed g n 0 n cs (c .arranged .size) (c .arranged .cells))
+    mem-collect (λ n. listed g n 0 n) (numbersFrom 1 k) (mem-from 1 k n l (omega arith)) (mem-listed g n 0 n cs (c .arranged .size) (c .arranged .cells))

@@ -14,10 +14,10 @@ use Rattle.grammar.specs.declared.Clause.the-variants.{Empty, Atom, Unary, Bina
 use Rattle.grammar.specs.Layout.{Word, Every}
 use Rattle.grammar.specs.Trees.{Tree, empty, leaf, unary, binary, word, Rules, Valid, valid-empty, valid-leaf, valid-unary, valid-binary, TwoTrees}
 use Rattle.grammar.specs.Candidates.{Rising, sentence, Terminal, Candidate, Earlier}
-use Rattle.grammar.specs.Sweeps.{FirstTwo, Answer, clear, found, Answers}
+use Rattle.grammar.specs.Sweeps.{FirstTwo, SweepAnswer, clear, found, Answers}
 use Rattle.grammar.proofs.Lists.{both?, le?, and, and-left, and-right, all, all-every, holds, holds-yes, mem-every}
 use Rattle.grammar.proofs.SweepLaws.{clear-of}
-use Rattle.patches.specs.Claims.{two, Claim, verdict, sweep, every-sweep-clear, Holds}
+use Rattle.patches.specs.Claims.{two, Claim, verdict, sweep, every-sweep-clear, ClaimHolds}
 use Rattle.patches.specs.Patches.{patches}
 use Rattle.patches.proofs.Enumerate.{rising?, earlier?, candidate?, up-to, mem-up-to}
 use Rattle.patches.proofs.Verdicts.{chart, chart-good, reads, read, at-most-one, not-two}
@@ -106,12 +106,12 @@ check (sweep g k clear) = all (single g) (up-to g k)
 check (sweep g k (found cs)) = first? g k cs
 check (every-sweep-clear g) = no-atoms g
 
-pub checked : (c : Claim) → T (check c) → Holds c
+pub checked : (c : Claim) → T (check c) → ClaimHolds c
 checked (verdict g A w v) t = read g A w v (chart g w) (chart-good g w) t
 checked (sweep g k clear) t = clear-of k (no-double g k t)
 checked (sweep g k (found cs)) t = first-right g k cs t
 checked (every-sweep-clear g) t = silent g t
 
 -- P1 to P9
-pub patches-hold : Every Holds patches
+pub patches-hold : Every ClaimHolds patches
 patches-hold = all-every check checked patches tt

@@ -6,7 +6,7 @@ use Prim.Native.Nat.{ℕ, zero, suc}
 use lib.Dec.{T}
 use Rattle.grammar.specs.Layout.{Word, Every}
 use Rattle.grammar.specs.Trees.{Tree, root, word, Rules, Valid, Witness, NoTree, OneTree, TwoTrees}
-use Rattle.patches.specs.Claims.{Verdict, none, one, two, Is}
+use Rattle.patches.specs.Claims.{TreeCount, none, one, two, Is}
 use Rattle.grammar.proofs.Lists.{eq?, keep, collect, list?, every-keep, mem-keep, every-collect, mem-collect, mem-every, holds}
 use Rattle.grammar.proofs.Marks.{word?}
 use Rattle.patches.proofs.Infixes.{Infix, infix-self}
@@ -77,7 +77,7 @@ exactly g A w C h =
     }
 
 -- what a list of all trees shows
-abbrev pub shows : Verdict → List Tree → Bool
+abbrev pub shows : TreeCount → List Tree → Bool
 shows none [] = true
 shows none (t ∷ l) = false
 shows one [] = false
@@ -96,7 +96,7 @@ two-shown g A w [] x h = absurd h
 two-shown g A w (t ∷ []) x h = absurd h
 two-shown g A w (t ∷ s ∷ l) x h = record { first = t; second = s; witness₁ = x .0; witness₂ = x .1 .0; differ = differ (tree? t s) h }
 
-pub shown : (g : Rules) (A : ℕ) (w : Word) (v : Verdict) (l : List Tree) → Exactly g A w l → T (shows v l) → Is v g A w
+pub shown : (g : Rules) (A : ℕ) (w : Word) (v : TreeCount) (l : List Tree) → Exactly g A w l → T (shows v l) → Is v g A w
 shown g A w none [] x h = record { none = λ t k. List·Memᴰ·not-nil (x .whole t k) }
 shown g A w none (t ∷ l) x h = absurd h
 shown g A w one [] x h = absurd h
@@ -105,13 +105,13 @@ shown g A w one (t ∷ s ∷ l) x h = absurd h
 shown g A w two l x h = two-shown g A w l (x .sound) h
 
 -- the test of a verdict, and that it is right
-abbrev pub reads : Verdict → ℕ → Word → Chart → Bool
+abbrev pub reads : TreeCount → ℕ → Word → Chart → Bool
 reads none A w (unfinished C) = false
 reads one A w (unfinished C) = false
 reads two A w (unfinished C) = shows two (trees A w C)
 reads v A w (finished C) = shows v (trees A w C)
 
-pub read : (g : Rules) (A : ℕ) (w : Word) (v : Verdict) (c : Chart) → Good g w c → T (reads v A w c) → Is v g A w
+pub read : (g : Rules) (A : ℕ) (w : Word) (v : TreeCount) (c : Chart) → Good g w c → T (reads v A w c) → Is v g A w
 read g A w none (unfinished C) h t = absurd t
 read g A w one (unfinished C) h t = absurd t
 read g A w two (unfinished C) h t = two-shown g A w (trees A w C) (sound-trees g A w C h) t

@@ -19,7 +19,7 @@ use Rattle.grammar.specs.Choices.{Top, Takes, Same, Alike, Distinct}
 use Rattle.grammar.proofs.ChoiceLaws.{takes-of, append-inj}
 use Rattle.grammar.proofs.ByKind.{derives-of, top-left}
 use Rattle.places.specs.LocalAmbiguity as Pl
-use Rattle.places.specs.LocalAmbiguity.{Step, by-unary, by-left, by-right, Reaches, stay, step, Within, SubDerivation, Similar, Dissimilar, LocallyAmbiguous}
+use Rattle.places.specs.LocalAmbiguity.{OneStep, by-unary, by-left, by-right, Reaches, stay, step, Within, SubDerivation, Similar, Dissimilar, LocallyAmbiguous}
 use Rattle.places.specs.Places.{Several}
 
 -- 1. one step up: a tree over a tree
@@ -45,7 +45,7 @@ within-trans T x (Pl.below {s = s} y) = Pl.below (within-trans s x y)
 within-trans T x (Pl.left {u = u} y) = Pl.left (within-trans u x y)
 within-trans T x (Pl.right {v = v} y) = Pl.right (within-trans v x y)
 
-step-sub : {g : Rules} {A B : ℕ} {w v : Word} → Step g A w B v → SubDerivation g A w B v
+step-sub : {g : Rules} {A B : ℕ} {w v : Word} → OneStep g A w B v → SubDerivation g A w B v
 step-sub (by-unary {A = A} m h x) = record { extend = λ t y. (unary A t, over-unary m h x t y, Pl.below Pl.here) }
 step-sub (by-left {A = A} m h x d e) = record { extend = λ t y. (binary A t (d .tree), rw e (over-binary m h x t (d .tree) y (d .witness)), Pl.left Pl.here) }
 step-sub (by-right {A = A} m h x d e) = record { extend = λ t y. (binary A (d .tree) t, rw e (over-binary m h x (d .tree) t (d .witness) y), Pl.right Pl.here) }
@@ -193,7 +193,7 @@ several-two d s =
       differ = λ e. x .differ (subst (Similar (x .first)) e (similar-refl (x .first)));
     }
 
-step-two : {g : Rules} {A B : ℕ} {w v : Word} → Step g A w B v → TwoTrees g B v → TwoTrees g A w
+step-two : {g : Rules} {A B : ℕ} {w v : Word} → OneStep g A w B v → TwoTrees g B v → TwoTrees g A w
 step-two (by-unary {A = A} m h x) t =
     record {
       first = unary A (t .first);
@@ -230,7 +230,7 @@ pub record Found (g : Rules) (A : ℕ) (w : Word) : Type 0 where
   pub reached : Reaches g A w nonterminal part
   pub several : Several g nonterminal part
 
-found-step : {g : Rules} {A B : ℕ} {w v : Word} → Step g A w B v → Found g B v → Found g A w
+found-step : {g : Rules} {A B : ℕ} {w v : Word} → OneStep g A w B v → Found g B v → Found g A w
 found-step s f = record { nonterminal = f .nonterminal; part = f .part; reached = step s (f .reached); several = f .several }
 
 -- the tops of two trees are similar, or there are two choices

@@ -14,12 +14,12 @@ use Rattle.grammar.specs.Choices.{Distinct}
 use Rattle.grammar.specs.Rows.{startOf}
 use Rattle.grammar.specs.SpanSheet.{part}
 use Rattle.grammar.specs.Candidates.{After, RisingFrom, Rising, Wide}
-use Rattle.marks.specs.Half.{no-token, token}
+use Rattle.marks.specs.Half.{no-token, tokenAt}
 use Rattle.marks.proofs.Words.{part-length, every-at, cut}
 use Rattle.places.specs.LocalAmbiguity as Paper
 use Rattle.places.specs.LocalAmbiguity.{Reaches, Within, Dissimilar}
 use Rattle.places.specs.Places as Pl
-use Rattle.places.specs.Places.{Several, Inside, Contains, Place}
+use Rattle.places.specs.Places.{Several, StandsIn, Contains, Place}
 use Rattle.places.proofs.PaperLaws.{reaches-sub, within-reaches, several-dissimilar, dissimilar-several, several-two, reaches-two, two-found}
 
 -- ---- a nonempty word stands at one place: tokens rise, and each has a width
@@ -34,30 +34,30 @@ not-after : (a : Token) → 1 ≤ width a → After a a → ⊥
 not-after a h (inl x) = omega arith
 not-after a h (inr x) = omega (arith, x .1)
 
-after-at : (a : Token) (w : Word) → RisingFrom a w → (k : ℕ) → k < length w → After a (token w k)
+after-at : (a : Token) (w : Word) → RisingFrom a w → (k : ℕ) → k < length w → After a (tokenAt w k)
 after-at a [] r k h = absurd (omega arith)
 after-at a (b ∷ w) r zero h = r .0
-after-at a (b ∷ w) r (suc k) h = after-then a b (token w k) (r .0) (after-at b w (r .1) k (omega arith))
+after-at a (b ∷ w) r (suc k) h = after-then a b (tokenAt w k) (r .0) (after-at b w (r .1) k (omega arith))
 
 rising-rest : (a : Token) (w : Word) → RisingFrom a w → Rising w
 rising-rest a [] r = tt
 rising-rest a (b ∷ w) r = r .1
 
-later-after : (w : Word) → Rising w → (i j : ℕ) → i < j → j < length w → After (token w i) (token w j)
+later-after : (w : Word) → Rising w → (i j : ℕ) → i < j → j < length w → After (tokenAt w i) (tokenAt w j)
 later-after [] r i j l h = absurd (omega arith)
 later-after (a ∷ w) r i zero l h = absurd (omega arith)
 later-after (a ∷ w) r zero (suc j) l h = after-at a w r j (omega arith)
 later-after (a ∷ w) r (suc i) (suc j) l h = later-after w (rising-rest a w r) i j (omega arith) (omega arith)
 
-apart : (w : Word) → Wide w → Rising w → (i j : ℕ) → i < length w → j < length w → token w i ≡ token w j → i ≡ j
+apart : (w : Word) → Wide w → Rising w → (i j : ℕ) → i < length w → j < length w → tokenAt w i ≡ tokenAt w j → i ≡ j
 apart w v r i j h k e = go (decLt i j) (decLt j i)
   where
-    never : (m : ℕ) → m < length w → After (token w m) (token w m) → ⊥
-    never m l = not-after (token w m) (every-at (λ t. 1 ≤ width t) w v m l)
+    never : (m : ℕ) → m < length w → After (tokenAt w m) (tokenAt w m) → ⊥
+    never m l = not-after (tokenAt w m) (every-at (λ t. 1 ≤ width t) w v m l)
 
     go : Dec (i < j) → Dec (j < i) → i ≡ j
-    go (yes l) q = absurd (never j k (subst (λ (x : Token). After x (token w j)) e (later-after w r i j l k)))
-    go (no l) (yes m) = absurd (never i h (subst (λ (x : Token). After x (token w i)) (sym e) (later-after w r j i m h)))
+    go (yes l) q = absurd (never j k (subst (λ (x : Token). After x (tokenAt w j)) e (later-after w r i j l k)))
+    go (no l) (yes m) = absurd (never i h (subst (λ (x : Token). After x (tokenAt w i)) (sym e) (later-after w r j i m h)))
     go (no l) (no m) = omega arith
 
 part-same : (ts : Word) → Wide ts → Rising ts → (s s′ len : ℕ) → 0 < len → s + len ≤ length ts → s′ + len ≤ length ts → part ts s len ≡ part ts s′ len → s ≡ s′
@@ -93,7 +93,7 @@ lies-right ts u w i A a =
 pub lies-whole : {g : Rules} {ts : Word} {T : Tree} → Witness g 0 ts T → Lies ts T 0
 lies-whole {ts = ts} x = record { fits = rw (x .spelled) (omega arith); spelled = rw (x .spelled) (sym (part-whole ts)) }
 
-inside-lies : {t : Tree} (ts : Word) (T : Tree) (i j : ℕ) → Inside t i T j → Lies ts T i → Lies ts t j
+inside-lies : {t : Tree} (ts : Word) (T : Tree) (i j : ℕ) → StandsIn t i T j → Lies ts T i → Lies ts t j
 inside-lies ts T i j Pl.top a = a
 inside-lies ts (unary A s) i j (Pl.below x) a = inside-lies ts s i j x (record { fits = a .fits; spelled = a .spelled })
 inside-lies ts (binary A u w) i j (Pl.left x) a = inside-lies ts u i j x (lies-left ts u w i A a)
@@ -123,13 +123,13 @@ span-fits {ts = ts} {start = start} {len = len} p = at len (p .long) (p .starts)
 
 -- ---- places in the paper's sense
 
-within-of : {t T : Tree} {i j : ℕ} → Inside t i T j → Within t T
+within-of : {t T : Tree} {i j : ℕ} → StandsIn t i T j → Within t T
 within-of Pl.top = Paper.here
 within-of (Pl.below x) = Paper.below (within-of x)
 within-of (Pl.left x) = Paper.left (within-of x)
 within-of (Pl.right x) = Paper.right (within-of x)
 
-inside-of : {t T : Tree} (i : ℕ) → Within t T → (j : ℕ) × Inside t i T j
+inside-of : {t T : Tree} (i : ℕ) → Within t T → (j : ℕ) × StandsIn t i T j
 inside-of i Paper.here = (i, Pl.top)
 inside-of i (Paper.below x) = let y = inside-of i x in (y .0, Pl.below (y .1))
 inside-of i (Paper.left x) = let y = inside-of i x in (y .0, Pl.left (y .1))

@@ -21,11 +21,11 @@ pub record Several (g : Rules) (A : ℕ) (w : Word) : Type 0 where
   pub differ : Same place₁ split₁ place₂ split₂ → ⊥
 
 -- in the tree T, whose word starts at i, stands the node t, whose word starts at j
-pub data Inside (t : Tree) : ℕ → Tree → ℕ → Type 0 where
-  top : {i : ℕ} → Inside t i t i
-  below : {i j A : ℕ} {s : Tree} → Inside t i s j → Inside t i (unary A s) j
-  left : {i j A : ℕ} {u v : Tree} → Inside t i u j → Inside t i (binary A u v) j
-  right : {i j A : ℕ} {u v : Tree} → Inside t (i + length (word u)) v j → Inside t i (binary A u v) j
+pub data StandsIn (t : Tree) : ℕ → Tree → ℕ → Type 0 where
+  top : {i : ℕ} → StandsIn t i t i
+  below : {i j A : ℕ} {s : Tree} → StandsIn t i s j → StandsIn t i (unary A s) j
+  left : {i j A : ℕ} {u v : Tree} → StandsIn t i u j → StandsIn t i (binary A u v) j
+  right : {i j A : ℕ} {u v : Tree} → StandsIn t (i + length (word u)) v j → StandsIn t i (binary A u v) j
 
 -- some whole valid tree of the sentence contains A over the word of len tokens from start on; an empty word has start 0
 pub record Contains (g : Rules) (ts : Word) (A start len : ℕ) : Type 0 where
@@ -33,7 +33,7 @@ pub record Contains (g : Rules) (ts : Word) (A start len : ℕ) : Type 0 where
   pub witness : Witness g 0 ts whole
   pub node : Tree
   pub from : ℕ
-  pub inside : Inside node 0 whole from
+  pub inside : StandsIn node 0 whole from
   pub rooted : root node ≡ A
   pub long : length (word node) ≡ len
   pub starts : startOf from len ≡ start

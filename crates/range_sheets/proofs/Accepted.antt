@@ -20,7 +20,7 @@ use Rattle.sheets.specs.declared.Fault.the-variants as Fault
 use Rattle.sheets.specs.Items.{Step, next, stop, end, Reading, accepted, refused, stepAt, itemsFrom}
 use Rattle.sheets.proofs.Accepted.{items-hold}
 use Rattle.column_ranges.specs.declared.RangeToken.{RangeToken}
-use Rattle.column_ranges.specs.Ranges.{Ranges, choices, limit, ranged, Ended}
+use Rattle.column_ranges.specs.Ranges.{Ranges, choiceCount, choiceLimit, rangesOf, Ended}
 use Rattle.range_sheets.specs.declared.RangeLine.{RangeLine}
 use Rattle.range_sheets.specs.declared.RangeLine.the-variants as RangeLine
 use Rattle.sheets.specs.declared.Outcome.{Outcome}
@@ -28,15 +28,15 @@ use Rattle.sheets.specs.declared.Outcome.the-variants as Outcome
 use Rattle.sheets.specs.Promises.{readingOf}
 use Rattle.range_sheets.specs.declared.RangeRead.{RangeRead}
 use Rattle.range_sheets.specs.Promises.{RangesRead}
-use Rattle.range_sheets.specs.RangeLines.{endsOf, rangeOf, rangeFields, rangeLine, afterTerminal, afterLine, afterLow, afterHigh}
-use Rattle.range_sheets.specs.RangeSheets.{rangeSaid, rangeSays, rangeStep, counted}
+use Rattle.range_sheets.specs.RangeLines.{endsOf, rangeOf, rangeFields, rangeLine, afterRangeTerminal, afterRangeLine, afterRangeLow, afterRangeHigh}
+use Rattle.range_sheets.specs.RangeSheets.{rangeSaid, rangeSays, rangeStep, fewChoices}
 
 -- the end of a sheet
-pub counted-few : (rs : Ranges) → choices rs ≤ limit → counted (accepted rs) ≡ accepted rs
-counted-few rs h = ap (λ (b : Bool). cond b (accepted rs) (refused Fault.ManyChoices 0)) (le-leb (choices rs) limit h)
+pub counted-few : (rs : Ranges) → choiceCount rs ≤ choiceLimit → fewChoices (accepted rs) ≡ accepted rs
+counted-few rs h = ap (λ (b : Bool). cond b (accepted rs) (refused Fault.ManyChoices 0)) (le-leb (choiceCount rs) choiceLimit h)
 
-pub counted-many : (rs : Ranges) → limit < choices rs → counted (accepted rs) ≡ refused Fault.ManyChoices 0
-counted-many rs h = ap (λ (b : Bool). cond b (accepted rs) (refused Fault.ManyChoices 0)) (lt-leb (choices rs) limit h)
+pub counted-many : (rs : Ranges) → choiceLimit < choiceCount rs → fewChoices (accepted rs) ≡ refused Fault.ManyChoices 0
+counted-many rs h = ap (λ (b : Bool). cond b (accepted rs) (refused Fault.ManyChoices 0)) (lt-leb (choiceCount rs) choiceLimit h)
 
 -- an accepted sheet is not refused
 pub not-refused : {f : Fault} {l : ℕ} → Outcome.Accepted ≡ Outcome.Refused f l → ⊥
@@ -47,11 +47,11 @@ not-refused e = let z : _≡_ {A = ℕ} 0 1 = ap rank e in omega arith
     rank (Outcome.Refused f l) = 1
 
 -- what was read is what the sheet says
-pub ranges-are : {r : RangeRead} {want : Reading RangeToken} → RangesRead r want → r .outcome ≡ Outcome.Accepted → want ≡ accepted (ranged (r .sentence))
-ranges-are {r} x e = sym (x .is) ∙ ap (λ (o : Outcome). readingOf o (ranged (r .sentence))) e
+pub ranges-are : {r : RangeRead} {want : Reading RangeToken} → RangesRead r want → r .outcome ≡ Outcome.Accepted → want ≡ accepted (rangesOf (r .sentence))
+ranges-are {r} x e = sym (x .is) ∙ ap (λ (o : Outcome). readingOf o (rangesOf (r .sentence))) e
 
 pub ranges-not : {r : RangeRead} {want : Reading RangeToken} {f : Fault} {l : ℕ} → RangesRead r want → r .outcome ≡ Outcome.Refused f l → want ≡ refused f l
-ranges-not {r} x e = sym (x .is) ∙ ap (λ (o : Outcome). readingOf o (ranged (r .sentence))) e
+ranges-not {r} x e = sym (x .is) ∙ ap (λ (o : Outcome). readingOf o (rangesOf (r .sentence))) e
 
 -- ---- the ends of accepted tokens
 
@@ -83,10 +83,10 @@ of-fine t l a b = go (leb t 63) (leb 1 l && leb l 65535) (leb 1 a) (leb a 65535)
 
 fields-fine : (fs : List (List ℕ)) → Fine (rangeFields fs)
 fields-fine =
-    with-holds Fine RangeLine.Form tt numeralOf afterTerminal
-    (λ t. with-holds Fine RangeLine.Form tt numeralOf (afterLine t)
-    (λ l. with-holds Fine RangeLine.Form tt numeralOf (afterLow t l)
-    (λ a. with-holds Fine RangeLine.Form tt numeralOf (afterHigh t l a) (λ b. end-holds Fine RangeLine.Form tt (rangeOf t l a b) (of-fine t l a b)))))
+    with-holds Fine RangeLine.Form tt numeralOf afterRangeTerminal
+    (λ t. with-holds Fine RangeLine.Form tt numeralOf (afterRangeLine t)
+    (λ l. with-holds Fine RangeLine.Form tt numeralOf (afterRangeLow t l)
+    (λ a. with-holds Fine RangeLine.Form tt numeralOf (afterRangeHigh t l a) (λ b. end-holds Fine RangeLine.Form tt (rangeOf t l a b) (of-fine t l a b)))))
 
 said-ended : (line : List ℕ) (t : RangeToken) → rangeSays [] line ≡ next t → Ended t
 said-ended line t e = go (rangeLine line) (fields-fine (pieces 32 line)) e

@@ -6,16 +6,16 @@ use Rattle.sheets.specs.declared.Outcome.the-variants.{Accepted, Refused}
 use Rattle.sheets.specs.Items.{Reading, Step, next, stop, end}
 use Rattle.sheets.specs.Promises.{readingOf}
 use Rattle.column_ranges.specs.declared.RangeToken.{RangeToken}
-use Rattle.column_ranges.specs.Ranges.{choices, limit, ranged, Spread}
+use Rattle.column_ranges.specs.Ranges.{choiceCount, choiceLimit, rangesOf, Spread}
 use Rattle.range_sheets.specs.declared.RangeStep.{RangeStep}
 use Rattle.range_sheets.specs.declared.RangeStep.the-variants as RangeStep
 use Rattle.range_sheets.specs.declared.RangeRead.{RangeRead}
 
 -- the answer is the wanted reading; accepted tokens have their ends in order, and few enough choices
 pub record RangesRead (r : RangeRead) (want : Reading RangeToken) : Type 0 where
-  pub is : readingOf (r .outcome) (ranged (r .sentence)) ≡ want
+  pub is : readingOf (r .outcome) (rangesOf (r .sentence)) ≡ want
   pub spread : r .outcome ≡ Accepted → Spread (r .sentence)
-  pub few : r .outcome ≡ Accepted → choices (ranged (r .sentence)) ≤ limit
+  pub few : r .outcome ≡ Accepted → choiceCount (rangesOf (r .sentence)) ≤ choiceLimit
   pub none : (f : Fault) (l : ℕ) → r .outcome ≡ Refused f l → r .sentence .count ≡ 0
 
 abbrev pub asRangeStep : RangeStep → Step RangeToken

@@ -19,20 +19,20 @@ abbrev pub rangeOf : ℕ → ℕ → ℕ → ℕ → RangeLine
 rangeOf t l a b = cond (leb t 63 && (leb 1 l && leb l 65535) && (leb 1 a && leb a 65535) && (leb 1 b && leb b 65535)) (endsOf t l a b) RangeLine.Range
 
 -- 12: not four numbers of one to five digits
-abbrev pub afterHigh : ℕ → ℕ → ℕ → ℕ → List (List ℕ) → RangeLine
-afterHigh t l a b fs = atEnd RangeLine.Form fs (rangeOf t l a b)
+abbrev pub afterRangeHigh : ℕ → ℕ → ℕ → ℕ → List (List ℕ) → RangeLine
+afterRangeHigh t l a b fs = atEnd RangeLine.Form fs (rangeOf t l a b)
 
-abbrev pub afterLow : ℕ → ℕ → ℕ → List (List ℕ) → RangeLine
-afterLow t l a fs = withField RangeLine.Form numeralOf fs (afterHigh t l a)
+abbrev pub afterRangeLow : ℕ → ℕ → ℕ → List (List ℕ) → RangeLine
+afterRangeLow t l a fs = withField RangeLine.Form numeralOf fs (afterRangeHigh t l a)
 
-abbrev pub afterLine : ℕ → ℕ → List (List ℕ) → RangeLine
-afterLine t l fs = withField RangeLine.Form numeralOf fs (afterLow t l)
+abbrev pub afterRangeLine : ℕ → ℕ → List (List ℕ) → RangeLine
+afterRangeLine t l fs = withField RangeLine.Form numeralOf fs (afterRangeLow t l)
 
-abbrev pub afterTerminal : ℕ → List (List ℕ) → RangeLine
-afterTerminal t fs = withField RangeLine.Form numeralOf fs (afterLine t)
+abbrev pub afterRangeTerminal : ℕ → List (List ℕ) → RangeLine
+afterRangeTerminal t fs = withField RangeLine.Form numeralOf fs (afterRangeLine t)
 
 abbrev pub rangeFields : List (List ℕ) → RangeLine
-rangeFields fs = withField RangeLine.Form numeralOf fs afterTerminal
+rangeFields fs = withField RangeLine.Form numeralOf fs afterRangeTerminal
 
 -- the line's bytes without its byte 10, parted by blanks
 abbrev pub rangeLine : List ℕ → RangeLine

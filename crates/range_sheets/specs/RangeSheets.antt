@@ -7,7 +7,7 @@ use Rattle.fields.specs.Pieces.{pieces}
 use Rattle.sheets.specs.declared.Fault.the-variants as Fault
 use Rattle.sheets.specs.Items.{Reading, accepted, refused, Step, next, stop, lineStep, itemsFrom, withNames}
 use Rattle.column_ranges.specs.declared.RangeToken.{RangeToken}
-use Rattle.column_ranges.specs.Ranges.{Ranges, choices, limit}
+use Rattle.column_ranges.specs.Ranges.{Ranges, choiceCount, choiceLimit}
 use Rattle.range_sheets.specs.declared.RangeLine.{RangeLine}
 use Rattle.range_sheets.specs.declared.RangeLine.the-variants as RangeLine
 use Rattle.range_sheets.specs.RangeLines.{rangeLine}
@@ -27,9 +27,9 @@ abbrev pub rangeStep : Ranges → List ℕ → Bool → Step RangeToken
 rangeStep = lineStep 64 Fault.TokenMany Fault.TokenForm rangeSays
 
 -- at the end, 49: the ends allow more than 65,536 choices, rising or not; line 0
-abbrev pub counted : Reading RangeToken → Reading RangeToken
-counted (accepted rs) = cond (leb (choices rs) limit) (accepted rs) (refused Fault.ManyChoices 0)
-counted (refused f l) = refused f l
+abbrev pub fewChoices : Reading RangeToken → Reading RangeToken
+fewChoices (accepted rs) = cond (leb (choiceCount rs) choiceLimit) (accepted rs) (refused Fault.ManyChoices 0)
+fewChoices (refused f l) = refused f l
 
 -- term line low high
 abbrev pub rangeNames : List ℕ
@@ -38,4 +38,4 @@ rangeNames =
 
 -- 11 (these names only), then line by line, then 49
 abbrev pub rangeSheet : List ℕ → Reading RangeToken
-rangeSheet s = counted (withNames (refused Fault.TokenNames 1) rangeNames (pieces 10 s) (itemsFrom rangeStep []))
+rangeSheet s = fewChoices (withNames (refused Fault.TokenNames 1) rangeNames (pieces 10 s) (itemsFrom rangeStep []))

@@ -18,9 +18,9 @@ ghost use Rattle.lines.specs.Turns.{turnOf};
 ghost use Rattle.fields.specs.Pieces.{piecesFrom, bytesLeft, fieldsLeft};
 ghost use Rattle.sheets.specs.declared.Fault.the-variants as Fault;
 ghost use Rattle.sheets.specs.Items.{accepted, refused, stepAt, itemsFrom};
-ghost use Rattle.column_ranges.specs.Ranges.{ranged, Spread};
+ghost use Rattle.column_ranges.specs.Ranges.{rangesOf, Spread};
 ghost use Rattle.range_sheets.specs.RangeLines.{endsOf, rangeOf, rangeFields};
-ghost use Rattle.range_sheets.specs.RangeSheets.{rangeSays, rangeStep, counted, rangeSheet};
+ghost use Rattle.range_sheets.specs.RangeSheets.{rangeSays, rangeStep, fewChoices, rangeSheet};
 ghost use Rattle.range_sheets.specs.Promises.{asRangeStep, RangesRead};
 
 // A token with its column's ends, or the first of the conditions 12, 13, 48 that holds of the line.
@@ -158,7 +158,7 @@ fn refuse_ranges(tokens: [RangeToken; 64], f: Fault, line: usize) -> RangeRead
 // The end of a range sheet: refusal 49.
 fn finished(tokens: [RangeToken; 64], n: usize) -> RangeRead
     requires { ⌜ Spread (record { tokens = tokens; count = n }) ⌝ }
-    ensures { λ r. ⌜ RangesRead r (counted (accepted (ranged (record { tokens = tokens; count = n })))) ⌝ }
+    ensures { λ r. ⌜ RangesRead r (fewChoices (accepted (rangesOf (record { tokens = tokens; count = n })))) ⌝ }
 {
     let s = RangeSentence { tokens, count: n };
     if 65536 < count(s) {
@@ -173,7 +173,7 @@ fn finished(tokens: [RangeToken; 64], n: usize) -> RangeRead
 // The lines from a place on.
 fn ranges_from(s: &[u8], start: usize) -> RangeRead
     requires { ⌜ start ≤ length (now s) ⌝ }
-    ensures { λ r. ⌜ RangesRead r (counted (itemsFrom rangeStep [] (piecesFrom 10 (now (s .entry)) start))) ⌝ }
+    ensures { λ r. ⌜ RangesRead r (fewChoices (itemsFrom rangeStep [] (piecesFrom 10 (now (s .entry)) start))) ⌝ }
 {
     let mut tokens = no_ranges();
     let mut n: usize = 0;

@@ -25,7 +25,7 @@ use Rattle.spans.proofs.Places.{pairAt-same, pairAt-below, pairAt-empty, pairs-
 use Rattle.spans.specs.Changes.{Cleared}
 use Rattle.chart.specs.Tables.{rule}
 use Rattle.places.specs.Places as Pl
-use Rattle.places.specs.Places.{Inside, Contains}
+use Rattle.places.specs.Places.{StandsIn, Contains}
 use Rattle.places.proofs.PlaceLaws.{Lies, part-whole, lies-left, lies-right, lies-whole}
 use Rattle.reach.specs.Reached.{Bit, Reached}
 use Rattle.reach.specs.Joining.{Joins}
@@ -170,7 +170,7 @@ module _ (g : Rules) (w : Word) (rs : List ℕ) (d : Done g w (length w) rs 0) w
       )
 
   -- each node of a whole tree is in the words
-  node-in : {t : Tree} (T : Tree) (i j : ℕ) → Inside t i T j → Valid g T → Lies w T i → Bit rs (length w) i (length (word T)) (root T)
+  node-in : {t : Tree} (T : Tree) (i j : ℕ) → StandsIn t i T j → Valid g T → Lies w T i → Bit rs (length w) i (length (word T)) (root T)
       → Bit rs (length w) j (length (word t)) (root t)
   node-in T i j Pl.top v a b = b
   node-in (unary A s) i j (Pl.below x) (valid-unary m h y v) a b =

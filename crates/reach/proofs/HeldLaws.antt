@@ -24,7 +24,7 @@ use Rattle.spans.proofs.Places.{pairAt-same, pairAt-shorter}
 use Rattle.chart.specs.Tables.{rule}
 use Rattle.chart.proofs.PickLaws.{part-take, part-drop}
 use Rattle.places.specs.Places as Pl
-use Rattle.places.specs.Places.{Inside}
+use Rattle.places.specs.Places.{StandsIn}
 use Rattle.places.proofs.PaperLaws.{over-unary, over-binary}
 use Rattle.reach.specs.Reached.{Bit}
 use Rattle.reach.specs.Joining.{Joins, Kid}
@@ -32,7 +32,7 @@ use Rattle.reach.specs.Spreading.{Kids, Held, Sound}
 
 -- ---- what lies beneath a choice of what is held is held
 
-inside-then : {t s : Tree} (T : Tree) (i j k : ℕ) → Inside s i T j → Inside t j s k → Inside t i T k
+inside-then : {t s : Tree} (T : Tree) (i j k : ℕ) → StandsIn s i T j → StandsIn t j s k → StandsIn t i T k
 inside-then T i j k Pl.top y = y
 inside-then (unary A s) i j k (Pl.below x) y = Pl.below (inside-then s i j k x y)
 inside-then (binary A u v) i j k (Pl.left x) y = Pl.left (inside-then u i j k x y)
@@ -77,18 +77,18 @@ module _ (g : Rules) (w : Word) (s len A : ℕ) (fit : s + len ≤ length w) (x 
           subst (λ (v : Word). Witness g A v (binary A t u)) (sym (part-cut w s len l low))
           (over-binary m (member-at g p st) (rw (part-take w s len fit l low, part-drop w s len fit l low) at (q .3)) t u y z)
 
-      on-left : (t : Tree) → Witness g B (part w s l) t → (T : Tree) × Witness g 0 w T × (from : ℕ) × Inside t 0 T from × (startOf from l ≡ startOf s l)
+      on-left : (t : Tree) → Witness g B (part w s l) t → (T : Tree) × Witness g 0 w T × (from : ℕ) × StandsIn t 0 T from × (startOf from l ≡ startOf s l)
       on-left t y =
           let z = x .extends (binary A t (dr .tree)) (over t (dr .tree) y (dr .witness)) in
           (z .0, z .1, z .2, inside-then (z .0) 0 (z .2) (z .2) (z .3) (Pl.left Pl.top), start-front s (z .2) l len low (z .4))
 
       on-right : (t : Tree) → Witness g C (part w (s + l) (len - l)) t
-          → (T : Tree) × Witness g 0 w T × (from : ℕ) × Inside t 0 T from × (startOf from (len - l) ≡ startOf (s + l) (len - l))
+          → (T : Tree) × Witness g 0 w T × (from : ℕ) × StandsIn t 0 T from × (startOf from (len - l) ≡ startOf (s + l) (len - l))
       on-right t y =
           let z = x .extends (binary A (dl .tree) t) (over (dl .tree) t (dl .witness) y) in
           let n : length (word (dl .tree)) ≡ l = ap length (dl .witness .spelled) ∙ part-length w s l (omega (arith, low, fit)) in
           let e : l + (len - l) ≡ len = omega (arith, low) in
-          let at : Inside t (z .2) (binary A (dl .tree) t) (z .2 + l) = subst (λ (v : ℕ). Inside t (z .2) (binary A (dl .tree) t) (z .2 + v)) n (Pl.right Pl.top) in
+          let at : StandsIn t (z .2) (binary A (dl .tree) t) (z .2 + l) = subst (λ (v : ℕ). StandsIn t (z .2) (binary A (dl .tree) t) (z .2 + v)) n (Pl.right Pl.top) in
           (z .0, z .1, z .2 + l, inside-then (z .0) 0 (z .2) (z .2 + l) (z .3) at, start-on s (z .2) l (len - l) len e (z .4))
 
   held-clause : (p l : ℕ) (c : Clause) → getElem? g p ≡ some (record { left = A; clause = c }) → Can g (part w s len) c l → Kids (Held g w) s len c l

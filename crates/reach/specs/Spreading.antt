@@ -16,7 +16,7 @@ use Rattle.marks.specs.declared.SpanMarks.{SpanMarks}
 use Rattle.marks.specs.Drafts.{drafted}
 use Rattle.marks.specs.Marked.{Marked}
 use Rattle.chart.specs.Tables.{Table, rule}
-use Rattle.places.specs.Places.{Inside}
+use Rattle.places.specs.Places.{StandsIn}
 use Rattle.reach.specs.Reached.{Bit}
 
 -- the words are the span sheet of a draft that is known whole
@@ -36,7 +36,7 @@ Kids R s len (Clause.Binary B C m) l = R s l B × R (s + l) (len - l) C
 -- A has a tree over the span, and each tree of it there stands in a whole tree of w
 pub record Held (g : Rules) (w : Word) (s len A : ℕ) : Type 0 where
   pub derives : Derives g A (part w s len)
-  pub extends : (t : Tree) → Witness g A (part w s len) t → (T : Tree) × Witness g 0 w T × (from : ℕ) × Inside t 0 T from × (startOf from len ≡ startOf s len)
+  pub extends : (t : Tree) → Witness g A (part w s len) t → (T : Tree) × Witness g 0 w T × (from : ℕ) × StandsIn t 0 T from × (startOf from len ≡ startOf s len)
 
 -- all that the words rs have is so
 pub record Sound (g : Rules) (w : Word) (n : ℕ) (rs : List ℕ) : Type 0 where

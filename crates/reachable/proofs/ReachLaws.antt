@@ -18,9 +18,9 @@ use Rattle.codes.specs.Codes.{unaryMark, binaryMark, left, kind, mark, first, s
 use Rattle.codes.proofs.Laws.{is-unary, is-binary, low-kind, coded-length, coded-at}
 use Rattle.order.proofs.Places.{no-rule, there}
 use Rattle.reachable.specs.Reach.{Reached, start, by-unary, by-left, by-right}
-use Rattle.reachable.specs.Steps.{Part, AddsParts}
+use Rattle.reachable.specs.Steps.{HasPart, AddsParts}
 
-part-reached : {g : Rules} (A : ℕ) (c : Clause) (Y : ℕ) → List·Memᴰ (record { left = A; clause = c }) g → Reached g A → Part c Y → Reached g Y
+part-reached : {g : Rules} (A : ℕ) (c : Clause) (Y : ℕ) → List·Memᴰ (record { left = A; clause = c }) g → Reached g A → HasPart c Y → Reached g Y
 part-reached A Clause.Empty Y m h p = absurd p
 part-reached A (Clause.Atom a b) Y m h p = absurd p
 part-reached A (Clause.Unary B k) Y m h p = subst (Reached _) p (by-unary k h m)
@@ -47,20 +47,20 @@ module _ {g : Rules} {s : ℕ} (shut : (r : Rule) → List·Memᴰ r g → (Y : 
 -- ---- by the digits of a code
 
 -- the kinds that have no nonterminal
-pub parts-none : (s n : ℕ) → kind n < 2 → Grown (Part (clause n)) s s
-parts-none s n h = grown-none (low-kind (λ (c : Clause). (Y : ℕ) → Part c Y → In s Y) n h (λ Y p. absurd p) (λ a b Y p. absurd p))
+pub parts-none : (s n : ℕ) → kind n < 2 → Grown (HasPart (clause n)) s s
+parts-none s n h = grown-none (low-kind (λ (c : Clause). (Y : ℕ) → HasPart c Y → In s Y) n h (λ Y p. absurd p) (λ a b Y p. absurd p))
 
-pub parts-one : (s n b r : ℕ) → kind n ≡ 2 → b ≡ first n → r ≡ insert s b → Grown (Part (clause n)) s r
+pub parts-one : (s n b r : ℕ) → kind n ≡ 2 → b ≡ first n → r ≡ insert s b → Grown (HasPart (clause n)) s r
 parts-one s n b r h e f =
-    subst₂ (λ (c : Clause) (x : ℕ). Grown (Part c) s x) (is-unary n b (unaryMark (mark n)) h e refl) (sym f) (grown-with s b refl (λ Y p. p))
+    subst₂ (λ (c : Clause) (x : ℕ). Grown (HasPart c) s x) (is-unary n b (unaryMark (mark n)) h e refl) (sym f) (grown-with s b refl (λ Y p. p))
 
-pub parts-two : (s n b d t r : ℕ) → 3 ≤ kind n → b ≡ first n → d ≡ second n → t ≡ insert s b → r ≡ insert t d → Grown (Part (clause n)) s r
+pub parts-two : (s n b d t r : ℕ) → 3 ≤ kind n → b ≡ first n → d ≡ second n → t ≡ insert s b → r ≡ insert t d → Grown (HasPart (clause n)) s r
 parts-two s n b d t r h e f u v =
-    subst (λ (c : Clause). Grown (Part c) s r) (is-binary n b d (binaryMark (mark n)) h e f refl)
+    subst (λ (c : Clause). Grown (HasPart c) s r) (is-binary n b d (binaryMark (mark n)) h e f refl)
     (grown-both (subst (Grown (λ Y. b ≡ Y) s) (sym u) (grown-with s b refl (λ Y p. p))) (subst (Grown (λ Y. d ≡ Y) t) (sym v) (grown-with t d refl (λ Y p. p))) (λ Y p. p) (λ Y p. p))
 
 -- where the left is 0 or a member
-pub spread-in : (s n a r : ℕ) → a ≡ left n → (a ≡ 0) ⊎ In s a → Grown (Part (clause n)) s r → Grown (AddsParts s (decode n)) s r
+pub spread-in : (s n a r : ℕ) → a ≡ left n → (a ≡ 0) ⊎ In s a → Grown (HasPart (clause n)) s r → Grown (AddsParts s (decode n)) s r
 spread-in s n a r e w g = let q : (left n ≡ 0) ⊎ In s (left n) = subst (λ (x : ℕ). (x ≡ 0) ⊎ In s x) e w in grown-map g (λ Y p. (q, p)) (λ Y p. p .1)
 
 pub spread-out : (s n a : ℕ) → a ≡ left n → (a ≡ 0 → ⊥) → (In s a → ⊥) → Grown (AddsParts s (decode n)) s s

@@ -12,15 +12,15 @@ use Rattle.grammar.specs.Choices.{Distinct}
 use Rattle.order.proofs.Places.{no-rule}
 
 -- the clause has Y
-abbrev pub Part : Clause → ℕ → Type 0
-Part Clause.Empty Y = ⊥
-Part (Clause.Atom a b) Y = ⊥
-Part (Clause.Unary B m) Y = B ≡ Y
-Part (Clause.Binary B C m) Y = (B ≡ Y) ⊎ (C ≡ Y)
+abbrev pub HasPart : Clause → ℕ → Type 0
+HasPart Clause.Empty Y = ⊥
+HasPart (Clause.Atom a b) Y = ⊥
+HasPart (Clause.Unary B m) Y = B ≡ Y
+HasPart (Clause.Binary B C m) Y = (B ≡ Y) ⊎ (C ≡ Y)
 
 -- the rule adds Y to what 0 reaches, s: its left is 0 or a member
 abbrev pub AddsParts : ℕ → Rule → ℕ → Type 0
-AddsParts s r Y = ((r .left ≡ 0) ⊎ In s (r .left)) × Part (r .clause) Y
+AddsParts s r Y = ((r .left ≡ 0) ⊎ In s (r .left)) × HasPart (r .clause) Y
 
 -- out has those of the first i rules of g whose left is in s, each from a place of g
 pub record Picked (g : Rules) (s i : ℕ) (out : Rules) : Type 0 where

@@ -12,11 +12,11 @@ ghost use Rattle.acyclic.specs.Exact.{Exactly};
 ghost use Rattle.acyclic.specs.Passes.{Grown, Passed};
 ghost use Rattle.codes.specs.Codes.{clause, decode, decoded};
 ghost use Rattle.reachable.specs.Reach.{Reached, Trimmed};
-ghost use Rattle.reachable.specs.Steps.{Part, AddsParts, Picked};
+ghost use Rattle.reachable.specs.Steps.{HasPart, AddsParts, Picked};
 
 // The set with the nonterminals besides that the clause of a code has.
 fn with_parts(set: u64, code: u64) -> u64
-    ensures { λ r. ⌜ Grown (Part (clause code)) set r ⌝ }
+    ensures { λ r. ⌜ Grown (HasPart (clause code)) set r ⌝ }
 {
     let k = kind_of(code);
     if k < 2 {

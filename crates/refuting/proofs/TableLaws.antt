@@ -15,7 +15,7 @@ use Rattle.grammar.specs.Layout.{Word}
 use Rattle.grammar.specs.Trees.{Rules}
 use Rattle.grammar.specs.Candidates.{Candidate, sentence}
 use Rattle.grammar.specs.SpanSheet.{pairs, pairAt, firstWord, secondWord}
-use Rattle.spans.specs.Changes.{Past, Kept, Wrote}
+use Rattle.spans.specs.Changes.{Past, Kept, WrotePair}
 use Rattle.spans.proofs.Places.{pairAt-same, pairAt-empty, pairAt-shorter}
 use Rattle.spans.proofs.ChangeLaws.{past-same, past-then, kept-past}
 use Rattle.candidates.specs.Terminals.{Among}
@@ -25,7 +25,7 @@ use Rattle.chart.proofs.ExactLaws.{empty-exact}
 use Rattle.chart.proofs.FillLaws.{first-kept, second-kept}
 use Rattle.chart.proofs.LeafLaws.{leaf-allows}
 use Rattle.refuting.specs.Refuting.{terminalAt}
-use Rattle.refuting.specs.Tables.{Tabled, Gathered, United, Small, Slot, Takes, LaidTo, Laid}
+use Rattle.refuting.specs.Tables.{Tabled, Gathered, United, Small, Slot, TakesPair, LaidTo, Laid}
 use Rattle.refuting.proofs.CellLaws.{cells-terminal}
 
 below-two : (n : ℕ) → n % 2 < 2
@@ -65,7 +65,7 @@ module _ {g : Rules} {s x : ℕ} {table table₁ : List ℕ} {p q : ℕ} (f : Ga
   }
 
   -- one that is worked out
-  pub gathered-more : {table₂ : List ℕ} {a b p′ q′ : ℕ} → x < 64 → Leaf g x a b → Wrote table₁ table₂ x a b → United p a p′ → United q b q′ → Gathered g s (x + 1) table table₂ p′ q′
+  pub gathered-more : {table₂ : List ℕ} {a b p′ q′ : ℕ} → x < 64 → Leaf g x a b → WrotePair table₁ table₂ x a b → United p a p′ → United q b q′ → Gathered g s (x + 1) table table₂ p′ q′
   gathered-more {table₂} {a} {b} {p′} {q′} low l w u v = record {
     leaf = λ y h m. ⊎-elim
         (λ k. subst₂ (Leaf g y) (sym (w .kept .rest (2 * y) (λ e. omega arith) (λ e. omega arith))) (sym (w .kept .rest (2 * y + 1) (λ e. omega arith) (λ e. omega arith))) (f .leaf y k m))
@@ -81,7 +81,7 @@ module _ {g : Rules} {s x : ℕ} {table table₁ : List ℕ} {p q : ℕ} (f : Ga
       new = record { one = λ t e A d. u .right A (l .one t e A .1 d); two = λ t e A d. v .right A (l .two t e A .1 d) }
 
 -- the last two pairs are written
-pub tabled-of : {g : Rules} {s p q a b : ℕ} {t t₁ t₂ t₃ : List ℕ} → length t ≡ 132 → Gathered g s 64 t t₁ p q → EmptyPair g a b → Wrote t₁ t₂ 64 p q → Wrote t₂ t₃ 65 a b → Tabled g s t₃
+pub tabled-of : {g : Rules} {s p q a b : ℕ} {t t₁ t₂ t₃ : List ℕ} → length t ≡ 132 → Gathered g s 64 t t₁ p q → EmptyPair g a b → WrotePair t₁ t₂ 64 p q → WrotePair t₂ t₃ 65 a b → Tabled g s t₃
 tabled-of {g} {s} {p} {q} {a} {b} {t} {t₁} {t₂} {t₃} e f x v w = record {
   long = w .kept .long ∙ v .kept .long ∙ f .past .long ∙ e;
   leaf = λ y m. subst₂ (Leaf g y) (sym (low (2 * y) (let z : y < 64 = m .0 in omega arith))) (sym (low (2 * y + 1) (let z : y < 64 = m .0 in omega arith))) (f .leaf y (m .0) (m .1));
@@ -124,10 +124,10 @@ module _ {table : List ℕ} {cs : List Cell} {n b : ℕ} where
   pub laid-none : (ws : List ℕ) → LaidTo table cs n b 0 ws ws
   laid-none ws = record { takes = λ k h. absurd (not-suc-le-zero h); past = past-same (2 * pairs n) ws }
 
-  pub laid-more : {i r : ℕ} {ws ws₁ ws₂ : List ℕ} → i < n → Slot cs b i r → LaidTo table cs n b i ws ws₁ → Wrote ws₁ ws₂ (pairAt n i 1) (getD table (2 * r) 0) (getD table (2 * r + 1) 0) → LaidTo table cs n b (i + 1) ws ws₂
+  pub laid-more : {i r : ℕ} {ws ws₁ ws₂ : List ℕ} → i < n → Slot cs b i r → LaidTo table cs n b i ws ws₁ → WrotePair ws₁ ws₂ (pairAt n i 1) (getD table (2 * r) 0) (getD table (2 * r + 1) 0) → LaidTo table cs n b (i + 1) ws ws₂
   laid-more {i} {r} {ws} {ws₁} {ws₂} h x f w = record { takes = λ k l q y. go k l q y (decLt k i); past = past-then (f .past) (kept-past n i 1 (omega arith) (w .kept)) }
     where
-      go : (k : ℕ) → k < i + 1 → (q : ℕ) → Slot cs b k q → Dec (k < i) → Takes table ws₂ n k q
+      go : (k : ℕ) → k < i + 1 → (q : ℕ) → Slot cs b k q → Dec (k < i) → TakesPair table ws₂ n k q
       go k l q y (yes m) =
           let o = other-pair n i k 1 h (omega arith) (λ u v. omega arith) in
           let z = f .takes k m q y in
@@ -135,10 +135,10 @@ module _ {table : List ℕ} {cs : List Cell} {n b : ℕ} where
       go k l q y (no m) =
           let e : i ≡ k = omega arith in
           let z : r ≡ q = slot-same x (subst (λ (u : ℕ). Slot cs b u q) (sym e) y) in
-          subst₂ (λ (u v : ℕ). Takes table ws₂ n u v) e z (record { first = w .first; second = w .second })
+          subst₂ (λ (u v : ℕ). TakesPair table ws₂ n u v) e z (record { first = w .first; second = w .second })
 
   -- the empty word's pair is the first
-  pub laid-all : {ws ws₁ ws₂ : List ℕ} {i : ℕ} → n ≤ i → LaidTo table cs n b i ws ws₁ → Wrote ws₁ ws₂ 0 (getD table 130 0) (getD table 131 0) → Laid table cs n b ws ws₂
+  pub laid-all : {ws ws₁ ws₂ : List ℕ} {i : ℕ} → n ≤ i → LaidTo table cs n b i ws ws₁ → WrotePair ws₁ ws₂ 0 (getD table 130 0) (getD table 131 0) → Laid table cs n b ws ws₂
   laid-all {ws} {ws₁} {ws₂} {i} h f w = record {
     tokens = record {
       takes = λ k l r x.

@@ -19,13 +19,13 @@ use Rattle.grammar.specs.SpanSheet.{pairs, pairAt, firstWord, secondWord}
 use Rattle.marks.specs.declared.Draft.{Draft}
 use Rattle.marks.specs.Drafts.{half, drafted}
 use Rattle.marks.specs.Half.{Half}
-use Rattle.spans.specs.Changes.{Past, Wrote}
+use Rattle.spans.specs.Changes.{Past, WrotePair}
 use Rattle.spans.proofs.ChangeLaws.{past-same, past-then, kept-past}
 use Rattle.chart.specs.Sheets.{Exact, Ready, Settles, Charted}
 use Rattle.chart.proofs.SheetLaws.{reads-second}
 use Rattle.chart.proofs.FillLaws.{first-kept, second-kept}
 use Rattle.chart.proofs.OpenLaws.{open-none, open-less}
-use Rattle.refuting.specs.Refuting.{terminalAt, Twinned, Standing, Loose, Poised, Tried, Below, Ended, Spent, Struck, Done}
+use Rattle.refuting.specs.Refuting.{terminalAt, Twinned, Standing, Loose, Poised, PositionTried, Below, Ended, Spent, Struck, Done}
 use Rattle.chart.specs.Leaves.{Leaf, Allows, LeafAt, May}
 use Rattle.refuting.specs.Tables.{Tabled, Laid}
 use Rattle.refuting.proofs.TableLaws.{among-cells, laid-empty, laid-leaf, laid-free}
@@ -34,14 +34,14 @@ use Rattle.refuting.proofs.WordLaws.{right-leaf, leaves-of, may-given, 
 
 module _ {g : Rules} {n i : ℕ} {cs : List Cell} where
   -- no fill
-  pub tried-out : {hold : ℕ} {ws : List ℕ} → ((s : ℕ) → Twinned g s n hold (i + 1) (i + 1) cs) → Standing g n i cs ws → Tried true g n hold i cs ws ws
+  pub tried-out : {hold : ℕ} {ws : List ℕ} → ((s : ℕ) → Twinned g s n hold (i + 1) (i + 1) cs) → Standing g n i cs ws → PositionTried true g n hold i cs ws ws
   tried-out {hold} {ws} r st = record { out = λ e. r; stays = λ e. st; on = λ e. absurd (true-not-false e); past = past-same (2 * pairs n) ws }
 
   pub ready-draft : {ws : List ℕ} (d : Draft) → i < n → length cs ≡ n → drafted d ≡ sentence cs → d .count ≡ n → d .known ≡ i + 1 → Standing g n i cs ws → Ready g (half d) (d .count) ws i n
   ready-draft {ws} d h size e c k st = subst (λ (y : ℕ). Ready g (record { word = drafted d; known = y }) (d .count) ws i n) (sym k)
       (subst (λ (m : ℕ). Ready g (record { word = drafted d; known = i + 1 }) m ws i n) (sym c) (standing-ready h size e st))
 
-  pub tried-settled : {hold : ℕ} {ws ws′ : List ℕ} {r : Bool} (d : Draft) → i < n → length cs ≡ n → drafted d ≡ sentence cs → d .count ≡ n → d .known ≡ i + 1 → Standing g n i cs ws → Settles r g (half d) (d .count) ws ws′ → Tried r g n hold i cs ws ws′
+  pub tried-settled : {hold : ℕ} {ws ws′ : List ℕ} {r : Bool} (d : Draft) → i < n → length cs ≡ n → drafted d ≡ sentence cs → d .count ≡ n → d .known ≡ i + 1 → Standing g n i cs ws → Settles r g (half d) (d .count) ws ws′ → PositionTried r g n hold i cs ws ws′
   tried-settled {hold} {ws} {ws′} {r} d h size e c k st y = record {
     out = λ q s. refuted-hopeless e size (z .none q) (λ a b u l. st .fixed a (omega arith) l) (λ a b l. absurd (omega arith));
     stays = λ q. standing-back h size on;
@@ -81,13 +81,13 @@ module _ {g : Rules} {n b : ℕ} {cs : List Cell} where
 
 module _ {g : Rules} {s n b j : ℕ} {cs : List Cell} (low : b ≤ j) (h : j < n) where
   -- the pair of the token at j is written
-  pub wrote-loose : {ws ws′ : List ℕ} {p q : ℕ} → Wrote ws ws′ (pairAt n j 1) p q → Loose g s n b j cs ws → Loose g s n b j cs ws′
+  pub wrote-loose : {ws ws′ : List ℕ} {p q : ℕ} → WrotePair ws ws′ (pairAt n j 1) p q → Loose g s n b j cs ws → Loose g s n b j cs ws′
   wrote-loose w l = loose-kept low h (w .kept) l
 
   pub ready-loose : {ws : List ℕ} (d : Draft) → length cs ≡ n → drafted d ≡ sentence cs → d .count ≡ n → d .known ≡ b → Loose g s n b j cs ws → Ready g (half d) (d .count) ws b (j + 1)
   ready-loose d size e c k l = ready-at d c k (loose-ready low h (turned-self j cs) size e l)
 
-  pub struck-settled : {r : Bool} {ws ws₁ ws₂ : List ℕ} {x p q : ℕ} (d : Draft) → length cs ≡ n → drafted d ≡ sentence cs → d .count ≡ n → d .known ≡ b → terminalAt cs j ≡ x → Wrote ws ws₁ (pairAt n j 1) p q → Leaf g x p q
+  pub struck-settled : {r : Bool} {ws ws₁ ws₂ : List ℕ} {x p q : ℕ} (d : Draft) → length cs ≡ n → drafted d ≡ sentence cs → d .count ≡ n → d .known ≡ b → terminalAt cs j ≡ x → WrotePair ws ws₁ (pairAt n j 1) p q → Leaf g x p q
       → Loose g s n b j cs ws → Settles r g (half d) (d .count) ws₁ ws₂ → Struck r g s n b j cs ws ws₂
   struck-settled {r} {ws} {ws₁} {ws₂} {x} {p} {q} d size e c k t w al lo y =
       let z = settles-at d c k y in
@@ -111,7 +111,7 @@ module _ {g : Rules} {s n b j i : ℕ} {cs : List Cell} (e : i ≡ j - 1) (low :
   poised-down {ws} p = poised-loose (let z : b ≤ i = omega arith in z) (let z : i < n = omega arith in z) (subst (λ (k : ℕ). Poised g s n b k cs ws) (sym (next-up i j b e low far)) p)
 
   -- the last write: the token is free again
-  pub done-full : {hold : ℕ} {ws ws₁ ws₂ : List ℕ} {p q : ℕ} → Past (2 * pairs n) ws ws₁ → Loose g s n b i cs ws₁ → Below g s n hold b i 64 cs → Wrote ws₁ ws₂ (pairAt n i 1) p q → ((x : ℕ) → Among s x → Allows g x p q) → Done false g s n hold b j cs ws ws₂
+  pub done-full : {hold : ℕ} {ws ws₁ ws₂ : List ℕ} {p q : ℕ} → Past (2 * pairs n) ws ws₁ → Loose g s n b i cs ws₁ → Below g s n hold b i 64 cs → WrotePair ws₁ ws₂ (pairAt n i 1) p q → ((x : ℕ) → Among s x → Allows g x p q) → Done false g s n hold b j cs ws ws₂
   done-full {hold} {ws} {ws₁} {ws₂} {p} {q} pa l be w f = record {
     out = λ u. subst (λ (k : ℕ). Twinned g s n hold b k cs) (next-up i j b e low far) (below-all h be);
     stays = λ u. subst (λ (k : ℕ). Poised g s n b k cs ws₂) (next-up i j b e low far) (loose-free (let z : b ≤ i = omega arith in z) h (λ x a. subst₂ (Allows g x) (sym (w .first)) (sym (w .second)) (f x a)) (wrote-loose (let z : b ≤ i = omega arith in z) h w l));

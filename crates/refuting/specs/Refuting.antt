@@ -104,7 +104,7 @@ pub record Loose (g : Rules) (s n b j : ℕ) (cs : List Cell) (ws : List ℕ) : 
   pub free : (i : ℕ) → b ≤ i → i < j → (x : ℕ) → Among s x → May g n ws i x
 
 -- a position is tried: it is refuted, and the words stand as before; or they stand with it
-pub record Tried (r : Bool) (g : Rules) (n h i : ℕ) (cs : List Cell) (ws ws′ : List ℕ) : Type 0 where
+pub record PositionTried (r : Bool) (g : Rules) (n h i : ℕ) (cs : List Cell) (ws ws′ : List ℕ) : Type 0 where
   pub out : r ≡ true → (s : ℕ) → Twinned g s n h (i + 1) (i + 1) cs
   pub stays : r ≡ true → Standing g n i cs ws′
   pub on : r ≡ false → Standing g n (i + 1) cs ws′

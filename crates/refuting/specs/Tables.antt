@@ -42,13 +42,13 @@ pub record Slot (cs : List Cell) (b i r : ℕ) : Type 0 where
   pub free : b ≤ i → r ≡ 64
 
 -- the token at i has the pair r of the table
-pub record Takes (table ws : List ℕ) (n i r : ℕ) : Type 0 where
+pub record TakesPair (table ws : List ℕ) (n i r : ℕ) : Type 0 where
   pub first : firstWord ws n i 1 ≡ getD table (2 * r) 0
   pub second : secondWord ws n i 1 ≡ getD table (2 * r + 1) 0
 
 -- the first i tokens have their first pairs
 pub record LaidTo (table : List ℕ) (cs : List Cell) (n b i : ℕ) (ws ws′ : List ℕ) : Type 0 where
-  pub takes : (k : ℕ) → k < i → (r : ℕ) → Slot cs b k r → Takes table ws′ n k r
+  pub takes : (k : ℕ) → k < i → (r : ℕ) → Slot cs b k r → TakesPair table ws′ n k r
   pub past : Past (2 * pairs n) ws ws′
 
 -- so have all, and the empty word its own

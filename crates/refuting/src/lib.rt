@@ -22,7 +22,7 @@ ghost use Rattle.codes.specs.Codes.{decoded};
 ghost use Rattle.grammar.specs.Choices.{Distinct};
 ghost use Rattle.grammar.specs.Trees.{TwoTrees};
 ghost use Rattle.grammar.specs.SpanSheet.{pairs, pairAt};
-ghost use Rattle.spans.specs.Changes.{Past, Wrote};
+ghost use Rattle.spans.specs.Changes.{Past, WrotePair};
 ghost use Rattle.grammar.specs.Candidates.{sentence};
 ghost use Rattle.grammar.specs.Candidates as Of;
 ghost use Rattle.candidates.specs.Terminals.{Among};
@@ -32,7 +32,7 @@ ghost use Rattle.candidates.specs.Spelling.{LowSteps};
 ghost use Rattle.chart.specs.Leaves.{EmptyPair};
 ghost use Rattle.twins.specs.Twins.{Renames};
 ghost use Rattle.refuting.specs.Tables.{Small, Slot, Laid, United, Gathered, Tabled};
-ghost use Rattle.refuting.specs.Refuting.{Standing, Moved, Rises, terminalAt, Turned, Loose, Poised, Tried, Ended, Spent, Struck, Done, Refuted, Twinned};
+ghost use Rattle.refuting.specs.Refuting.{Standing, Moved, Rises, terminalAt, Turned, Loose, Poised, PositionTried, Ended, Spent, Struck, Done, Refuted, Twinned};
 
 // The candidate's sentence of n tokens, of which the first `known` count.
 fn draft(c: Candidate, n: usize, known: usize) -> Draft
@@ -86,7 +86,7 @@ fn shut(codes: &[u64], c: Candidate, n: usize, i: usize, h: usize, words: &mut [
     requires { ⌜ Distinct (decoded (now codes)) ⌝ }
     requires { ⌜ 2 * pairs n ≤ length (now words) ⌝ }
     requires { ⌜ Standing (decoded (now codes)) n i (cells c 0 n) (now words) ⌝ }
-    ensures { λ r. ⌜ Tried r (decoded (now (codes .entry))) n h i (cells c 0 n) (now (words .entry)) (now (words .exit)) ⌝ }
+    ensures { λ r. ⌜ PositionTried r (decoded (now (codes .entry))) n h i (cells c 0 n) (now (words .entry)) (now (words .exit)) ⌝ }
 {
     if !rises(c, n, i) {
         return true;
@@ -162,7 +162,7 @@ fn turned(c: Candidate, n: usize, j: usize, x: u8) -> Candidate
 fn give(words: &mut [u64], n: usize, j: usize, one: u64, two: u64)
     requires { ⌜ (n ≤ 7) × (j < n) ⌝ }
     requires { ⌜ 2 * pairs n ≤ length (now words) ⌝ }
-    ensures { λ r. ⌜ Wrote (now (words .entry)) (now (words .exit)) (pairAt n j 1) one two ⌝ }
+    ensures { λ r. ⌜ WrotePair (now (words .entry)) (now (words .exit)) (pairAt n j 1) one two ⌝ }
 {
     let p = pair_at(n, j, 1);
     write(words, p, one, two);

@@ -28,11 +28,11 @@ use Rattle.rights.specs.declared.Right.{Right}
 use Rattle.rights.specs.declared.RightLine.{RightLine}
 use Rattle.rights.specs.declared.RightLine.the-variants as RightLine
 use Rattle.rights.specs.RightLines.{mayOf, lastOf, rightOf, afterHigh, afterLow, afterUser, rightFields, rightLine}
-use Rattle.rights.specs.RightSheets.{rightSaid, stepOf, rightStep, itemsOf, covers, maySee, mayChange, Holds}
+use Rattle.rights.specs.RightSheets.{rightSaid, rightLineStep, rightStep, itemsOf, covers, maySee, mayChange, RightsHeld}
 
 -- 1. a line by what it is
 
-pub step-turn : (line : List ℕ) (ended : Bool) → stepAt Fault.Rights Fault.Rights (rightSaid (rightLine line)) (turnOf 1 0 line ended) ≡ stepOf line ended
+pub step-turn : (line : List ℕ) (ended : Bool) → stepAt Fault.Rights Fault.Rights (rightSaid (rightLine line)) (turnOf 1 0 line ended) ≡ rightLineStep line ended
 step-turn line true = refl
 step-turn line false = go (isEmpty line)
   where
@@ -42,12 +42,12 @@ step-turn line false = go (isEmpty line)
 
 -- 2. a right's range
 
-pub record Ranged (r : Right) : Type 0 where
+pub record RightRanged (r : Right) : Type 0 where
   pub rises : r .low ≤ r .high
   pub small : r .high < 64
 
 abbrev RangedLine : RightLine → Type 0
-RangedLine (RightLine.Good r) = Ranged r
+RangedLine (RightLine.Good r) = RightRanged r
 RangedLine RightLine.Bad = Unit {0}
 
 of-ranged : (u l h : ℕ) (m : Bool) → RangedLine (rightOf u l h m)
@@ -77,10 +77,10 @@ next-inj : (q r : Right) → next q ≡ next r → q ≡ r
 next-inj q r e = cc
 
 -- a line that gives a right is ended, and the right has a range
-pub gives-right : (line : List ℕ) (ended : Bool) (r : Right) → next r ≡ stepOf line ended → (ended ≡ true) × Ranged r
+pub gives-right : (line : List ℕ) (ended : Bool) (r : Right) → next r ≡ rightLineStep line ended → (ended ≡ true) × RightRanged r
 gives-right line true r e = (refl, go (rightLine line) (line-ranged line) e)
   where
-    go : (x : RightLine) → RangedLine x → next r ≡ rightSaid x → Ranged r
+    go : (x : RightLine) → RangedLine x → next r ≡ rightSaid x → RightRanged r
     go (RightLine.Good q) h e = rw (next-inj r q e) h
     go RightLine.Bad h e = absurd (let z : _≡_ {A = ℕ} 0 1 = cc in omega arith)
 gives-right line false r e = absurd (go (isEmpty line) e)
@@ -103,11 +103,11 @@ any-snoc p (q ∷ l) r = rw (any-snoc p l r) (go (p q) (anyOf p l) (p r))
     go true b c = refl
     go false b c = refl
 
-pub holds-none : (u : ℕ) → Holds [] u 0 0
+pub holds-none : (u : ℕ) → RightsHeld [] u 0 0
 holds-none u = record { see = member-none; change = member-none }
 
-pub holds-more : {rs : List Right} {u a b a′ b′ : ℕ} (r : Right) → Holds rs u a b
-    → ((A : ℕ) → member a′ A ≡ member a A || covers r u A) → ((A : ℕ) → member b′ A ≡ member b A || (r .change && covers r u A)) → Holds (rs ++ r ∷ []) u a′ b′
+pub holds-more : {rs : List Right} {u a b a′ b′ : ℕ} (r : Right) → RightsHeld rs u a b
+    → ((A : ℕ) → member a′ A ≡ member a A || covers r u A) → ((A : ℕ) → member b′ A ≡ member b A || (r .change && covers r u A)) → RightsHeld (rs ++ r ∷ []) u a′ b′
 holds-more {rs} {u} r x f g = record {
   see = λ A. f A ∙ ap (λ (t : Bool). t || covers r u A) (x .see A) ∙ sym (any-snoc (λ q. covers q u A) rs r);
   change = λ A. g A ∙ ap (λ (t : Bool). t || (r .change && covers r u A)) (x .change A) ∙ sym (any-snoc (λ q. q .change && covers q u A) rs r);
@@ -121,19 +121,19 @@ pub record Reading-on (s : List ℕ) (start u sees changes n at : ℕ) : Type 0 
   pub rights : List Right
   pub many : length rights ≡ n
   pub same : itemsOf (piecesFrom 10 s start) ≡ itemsFrom rightStep rights (piecesFrom 10 s at)
-  pub holds : Holds rights u sees changes
+  pub holds : RightsHeld rights u sees changes
 
 pub on-start : (s : List ℕ) (start u : ℕ) → start ≤ length s → Reading-on s start u 0 0 0 start
 on-start s start u h = record { low = h; count = omega arith; rights = []; many = refl; same = refl; holds = holds-none u }
 
 module _ {s : List ℕ} {start u sees changes n at : ℕ} (T : Reading-on s start u sees changes n at) {c : Cursor} (is : c ≡ lineAt s at) where
   abbrev made : Step Right
-  made = stepOf (bytesLeft s c) (ltb (c .end) (length s))
+  made = rightLineStep (bytesLeft s c) (ltb (c .end) (length s))
 
   turn : itemsOf (piecesFrom 10 s start) ≡ onStep (T .rights) made (λ t. itemsFrom rightStep (T .rights ++ t ∷ []) (piecesFrom 10 s (c .end + 1)))
   turn = T .same ∙ rw (line-cut s at (T .low) c is, more-left 10 s (c .end)) refl
 
-  pub on-took : {r : Right} → next r ≡ made → (c .end < length s) × Ranged r
+  pub on-took : {r : Right} → next r ≡ made → (c .end < length s) × RightRanged r
   on-took {r} h = let g = gives-right (bytesLeft s c) (ltb (c .end) (length s)) r h in (ltb-true (c .end) (length s) (g .0), g .1)
 
   pub on-less : {r : Right} → next r ≡ made → length s - (c .end + 1) < length s - at

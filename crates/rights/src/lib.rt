@@ -16,7 +16,7 @@ ghost use lib.Dec.{leb, ltb, eqb};
 ghost use Rattle.fields.specs.Pieces.{bytesLeft, fieldsLeft, piecesFrom};
 ghost use Rattle.shown.specs.Shown.{member};
 ghost use Rattle.rights.specs.RightLines.{rightOf, rightFields, lastOf, mayOf};
-ghost use Rattle.rights.specs.RightSheets.{stepOf, itemsOf, rightsSheet, covers, Gives};
+ghost use Rattle.rights.specs.RightSheets.{rightLineStep, itemsOf, rightsSheet, covers, RightsGiven};
 ghost use Rattle.sheets.specs.declared.Fault.the-variants as Faults;
 ghost use Rattle.sheets.specs.Items.{refused};
 ghost use Rattle.rights.specs.Answers.{asMay, asStep};
@@ -121,7 +121,7 @@ fn right_line(s: &[u8], c: Cursor) -> RightLine
 // What the cursor's line gives.
 fn right_step(s: &[u8], c: Cursor) -> RightStep
     requires { ⌜ (c .at ≤ c .end) × (c .end ≤ length (now s)) ⌝ }
-    ensures { λ r. ⌜ asStep r ≡ stepOf (bytesLeft (now (s .entry)) c) (ltb (c .end) (length (now (s .entry)))) ⌝ }
+    ensures { λ r. ⌜ asStep r ≡ rightLineStep (bytesLeft (now (s .entry)) c) (ltb (c .end) (length (now (s .entry)))) ⌝ }
 {
     match turn_at(s, c, 0, 1) {
         Turn::End => RightStep::End,
@@ -174,7 +174,7 @@ fn with_change(set: u64, r: Right, user: usize) -> u64
 
 // A refused rights sheet.
 fn refuse_rights(line: usize, user: usize) -> RightsRead
-    ensures { λ r. ⌜ Gives (refused Faults.Rights line) user r ⌝ }
+    ensures { λ r. ⌜ RightsGiven (refused Faults.Rights line) user r ⌝ }
 {
     RightsRead {
         outcome: Outcome::Refused(Fault::Rights, line),
@@ -186,7 +186,7 @@ fn refuse_rights(line: usize, user: usize) -> RightsRead
 // The rights lines from a place on.
 fn rights_from(s: &[u8], start: usize, user: usize) -> RightsRead
     requires { ⌜ (2 ≤ start) × (start ≤ length (now s)) ⌝ }
-    ensures { λ r. ⌜ Gives (itemsOf (piecesFrom 10 (now (s .entry)) start)) user r ⌝ }
+    ensures { λ r. ⌜ RightsGiven (itemsOf (piecesFrom 10 (now (s .entry)) start)) user r ⌝ }
 {
     let mut sees: u64 = 0;
     let mut changes: u64 = 0;
@@ -217,7 +217,7 @@ fn rights_from(s: &[u8], start: usize, user: usize) -> RightsRead
 
 // The rights sheet: what it lets the user see and change, or refusal 50 with its line.
 pub fn read_rights(s: &[u8], user: usize) -> RightsRead
-    ensures { λ r. ⌜ Gives (rightsSheet (now (s .entry))) user r ⌝ }
+    ensures { λ r. ⌜ RightsGiven (rightsSheet (now (s .entry))) user r ⌝ }
 {
     let c = Cursor::line(s, 0);
     let end = c.end;

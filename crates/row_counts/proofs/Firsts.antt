@@ -9,28 +9,28 @@ use lib.Seq.{take-all}
 use Rattle.grammar.specs.declared.Grammar.{Grammar}
 use Rattle.grammar.specs.Layout.{Word}
 use Rattle.grammar.specs.Trees.{Tree, root, word, Rules}
-use Rattle.grammar.specs.Choices.{First, FirstTree, Preferred, Distinct}
+use Rattle.grammar.specs.Choices.{AllPreferred, FirstTree, Preferred, Distinct}
 use Rattle.grammar.specs.Content.{rules, SmallRule, Formed}
 use Rattle.grammar.specs.SpanSheet.{part}
 use Rattle.grammar.proofs.Lists.{mem-every}
 use Rattle.grammar.proofs.ByKind.{top-left}
 use Rattle.grammar.proofs.ChoiceLaws.{top-of, member-at, preferred-choice}
 use Rattle.rows.specs.declared.Step.{Step}
-use Rattle.derivation.specs.Picks.{Chosen, HasChoice}
-use Rattle.derivation.proofs.Pending.{shape, aim-step}
+use Rattle.derivation.specs.Picks.{PickedStep, HasChoice}
+use Rattle.derivation.proofs.Pending.{nodeShape, aim-step}
 use Rattle.row_counts.specs.Walks.{FirstThere}
 
-pub first-shape : {g : Rules} → Distinct g → (t : Tree) → First g t → (A : ℕ) (w : Word) → root t ≡ A → word t ≡ w → (st : Step) → Chosen g A w false st
-    → st ≡ shape (st .seeking) t
+pub first-shape : {g : Rules} → Distinct g → (t : Tree) → AllPreferred g t → (A : ℕ) (w : Word) → root t ≡ A → word t ≡ w → (st : Step) → PickedStep g A w false st
+    → st ≡ nodeShape (st .seeking) t
 first-shape d t f A w a b st c =
     c .step
     ∙ aim-step d false (record { tree = t; start = 0 }) [] (f, tt) (c .place) (c .split) (st .seeking) (rw (a, b) (c .picks)) (c .rule) (c .stands) .0
 
-pub first-choice : {g : Rules} (t : Tree) → First g t → (A : ℕ) (w : Word) → root t ≡ A → word t ≡ w → HasChoice g A w
+pub first-choice : {g : Rules} (t : Tree) → AllPreferred g t → (A : ℕ) (w : Word) → root t ≡ A → word t ≡ w → HasChoice g A w
 first-choice {g} t f A w a b = let n = top-of g (Preferred g) t f in (n .place, n .split, rw (← a, ← b) (preferred-choice g _ _ _ _ (n .holds)))
 
 -- the root of a first tree is a nonterminal
-pub root-small : {g : Grammar} → Formed g → (t : Tree) → First (rules g) t → root t < 64
+pub root-small : {g : Grammar} → Formed g → (t : Tree) → AllPreferred (rules g) t → root t < 64
 root-small {g} f t h =
     let n = top-of (rules g) (Preferred (rules g)) t h in
     let r = mem-every SmallRule (rules g) (f .small) (member-at (rules g) (n .place) (n .takes .stands)) in

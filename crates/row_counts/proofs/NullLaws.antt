@@ -10,12 +10,12 @@ use lib.ListN.{length, getD, set, replicate, length-set, length-replicate}
 use lib.Seq.{getD-set-same, getD-set-other}
 use Rattle.grammar.specs.Layout.{Word}
 use Rattle.grammar.specs.Trees.{Tree, empty, leaf, unary, binary, root, word, Rules}
-use Rattle.grammar.specs.Choices.{First, FirstTree, Distinct}
+use Rattle.grammar.specs.Choices.{AllPreferred, FirstTree, Distinct}
 use Rattle.grammar.specs.Rows.{rowCount}
 use Rattle.grammar.proofs.ChoiceLaws.{first-unique}
 use Rattle.rows.specs.declared.Step.{Step}
-use Rattle.derivation.specs.Picks.{Chosen}
-use Rattle.derivation.proofs.Pending.{shape}
+use Rattle.derivation.specs.Picks.{PickedStep}
+use Rattle.derivation.proofs.Pending.{nodeShape}
 use Rattle.row_counts.specs.Capped.{capped}
 use Rattle.row_counts.specs.Nulls.{Nulls, Sound, oneMore, twoMore, nullSize, KidsKnown, zeros, Passed, Either}
 use Rattle.row_counts.proofs.Firsts.{first-shape}
@@ -35,7 +35,7 @@ no-words [] v e = (refl, e)
 no-words (a ∷ u) v e = absurd (let z : _≡_ {A = ℕ} 0 1 = cc in omega arith)
 
 module _ {g : Rules} where
-  first-of : {t : Tree} → First g t → word t ≡ [] → FirstTree g (root t) [] t
+  first-of : {t : Tree} → AllPreferred g t → word t ≡ [] → FirstTree g (root t) [] t
   first-of f e = record { rooted = refl; spelled = e; first = f }
 
   module _ (z : List ℕ) (known : Sound g z) where
@@ -60,8 +60,8 @@ module _ {g : Rules} where
     two-more (suc x) (suc y) m n e f h k = ap₂ (λ (a b : ℕ). capped (suc (a + b))) e f ∙ capped-suc-two m n
 
     -- where the children's are known, the node's is found
-    size-known : (m : Bool) (t : Tree) → First g t → word t ≡ [] → KidsKnown z t
-        → nullSize z (shape m t .kind) (shape m t .first) (shape m t .second) ≡ capped (rowCount t)
+    size-known : (m : Bool) (t : Tree) → AllPreferred g t → word t ≡ [] → KidsKnown z t
+        → nullSize z (nodeShape m t .kind) (nodeShape m t .first) (nodeShape m t .second) ≡ capped (rowCount t)
     unfolding capped
     size-known m (empty A) f e k = refl
     size-known m (leaf A t) f e k = refl
@@ -81,7 +81,7 @@ module _ {g : Rules} where
     two-known (suc x) (suc y) h = (omega arith, omega arith)
 
     -- and where it is found, the children's are known
-    kids-known : (m : Bool) (t : Tree) → 0 < nullSize z (shape m t .kind) (shape m t .first) (shape m t .second) → KidsKnown z t
+    kids-known : (m : Bool) (t : Tree) → 0 < nullSize z (nodeShape m t .kind) (nodeShape m t .first) (nodeShape m t .second) → KidsKnown z t
     kids-known m (empty A) h = tt
     kids-known m (leaf A t) h = tt
     kids-known m (unary A t) h = one-known (getD z (root t) 0) h
@@ -89,11 +89,11 @@ module _ {g : Rules} where
 
     -- ---- one try
 
-    module _ (d : Distinct g) (A : ℕ) (t : Tree) (f : FirstTree g A [] t) (st : Step) (c : Chosen g A [] false st) where
-      tried-shape : st ≡ shape (st .seeking) t
+    module _ (d : Distinct g) (A : ℕ) (t : Tree) (f : FirstTree g A [] t) (st : Step) (c : PickedStep g A [] false st) where
+      tried-shape : st ≡ nodeShape (st .seeking) t
       tried-shape = first-shape d t (f .first) A [] (f .rooted) (f .spelled) st c
 
-      tried-size : nullSize z (st .kind) (st .first) (st .second) ≡ nullSize z (shape (st .seeking) t .kind) (shape (st .seeking) t .first) (shape (st .seeking) t .second)
+      tried-size : nullSize z (st .kind) (st .first) (st .second) ≡ nullSize z (nodeShape (st .seeking) t .kind) (nodeShape (st .seeking) t .first) (nodeShape (st .seeking) t .second)
       tried-size = ap (λ (x : Step). nullSize z (x .kind) (x .first) (x .second)) tried-shape
 
       pub found-size : (n : ℕ) → n ≡ nullSize z (st .kind) (st .first) (st .second) → 0 < n → n ≡ capped (rowCount t)
@@ -186,16 +186,16 @@ module _ {g : Rules} where
       sound : Sound g l
       sound = subst (Sound g) (p .same q) (p .sound)
 
-      here : (t : Tree) → First g t → word t ≡ [] → KidsKnown l t → 0 < getD l (root t) 0
+      here : (t : Tree) → AllPreferred g t → word t ≡ [] → KidsKnown l t → 0 < getD l (root t) 0
       here t f e k = p .tried q (root t) t (low (root t) t (first-of f e)) (first-of f e) k
 
-      at : (t : Tree) → First g t → word t ≡ [] → 0 < getD l (root t) 0
+      at : (t : Tree) → AllPreferred g t → word t ≡ [] → 0 < getD l (root t) 0
       at (empty A) f e = here (empty A) f e tt
       at (leaf A t) f e = here (leaf A t) f e tt
       at (unary A t) f e = here (unary A t) f e (at t (f .1) e)
       at (binary A s t) f e = let w = no-words (word s) (word t) e in here (binary A s t) f e (at s (f .1 .0) (w .0), at t (f .1 .1) (w .1))
 
-      all : (t : Tree) → First g t → word t ≡ [] → (A : ℕ) → FirstTree g A [] t → 0 < getD l A 0
+      all : (t : Tree) → AllPreferred g t → word t ≡ [] → (A : ℕ) → FirstTree g A [] t → 0 < getD l A 0
       all t f e A x = subst (λ (B : ℕ). 0 < getD l B 0) (x .rooted) (at t f e)
 
 -- ---- nothing is known at first

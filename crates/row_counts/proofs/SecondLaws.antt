@@ -9,7 +9,7 @@ use Rattle.sets.specs.Sets.{In}
 use Rattle.grammar.specs.declared.Grammar.{Grammar}
 use Rattle.grammar.specs.Layout.{Word}
 use Rattle.grammar.specs.Trees.{Tree, empty, leaf, unary, binary, root, word, Rules}
-use Rattle.grammar.specs.Choices.{First, FirstTree, Second, SecondTree, Preferred, Beneath, OnlyChoice, Each, Distinct}
+use Rattle.grammar.specs.Choices.{AllPreferred, FirstTree, Second, SecondTree, Preferred, Beneath, OnlyChoice, Each, Distinct}
 use Rattle.grammar.specs.Rows.{rowCount}
 use Rattle.grammar.specs.Content.{rules, Formed}
 use Rattle.grammar.specs.SpanSheet.{part, secondWord, SpanSheet}
@@ -17,8 +17,8 @@ use Rattle.grammar.proofs.ChoiceLaws.{second-tree-unique, second-rooted, second
 use Rattle.marks.proofs.Words.{cut, part-length}
 use Rattle.rows.specs.declared.Step.{Step}
 use Rattle.derivation.specs.Wanted.{Wanted}
-use Rattle.derivation.specs.Picks.{Chosen, HasChoice}
-use Rattle.derivation.proofs.Pending.{Pending, shape, kids, Fork, now, later, Aim, AllFirst, aim-step, aim-choice}
+use Rattle.derivation.specs.Picks.{PickedStep, HasChoice}
+use Rattle.derivation.proofs.Pending.{Pending, nodeShape, kids, Fork, now, later, Aim, AllFirst, aim-step, aim-choice}
 use Rattle.row_counts.specs.declared.Way.{Way}
 use Rattle.row_counts.specs.Capped.{capped}
 use Rattle.row_counts.specs.Seconds.{Parted, Onward, BesideThere, Beside}
@@ -92,7 +92,7 @@ not-both e h = let z : _≡_ {A = ℕ} 0 1 = cc in omega arith
 pub record SecondWalk (g : Rules) (w : Word) (goal a i l total : ℕ) : Type 0 where
   pub first : Tree
   pub second : Tree
-  pub taken : First g first
+  pub taken : AllPreferred g first
   pub parts : Second g first second
   pub rooted : root first ≡ a
   pub spelled : word first ≡ part w i l
@@ -118,8 +118,8 @@ module _ {g : Grammar} {w : Word} {goal a i l total : ℕ} (f : Formed g) (x : S
   pub second-choice : HasChoice (rules g) a (part w i l)
   second-choice = rw (← root-is, ← word-is) (aim-choice (rules g) true (record { tree = x .second; start = i }) [] aim)
 
-  module _ (st : Step) (c : Chosen (rules g) a (part w i l) true st) where
-    stepped : (st ≡ shape (st .seeking) (x .second)) × Aim (rules g) (st .seeking) (kids (x .second) i ++ [])
+  module _ (st : Step) (c : PickedStep (rules g) a (part w i l) true st) where
+    stepped : (st ≡ nodeShape (st .seeking) (x .second)) × Aim (rules g) (st .seeking) (kids (x .second) i ++ [])
     stepped =
         let y = aim-step (f .distinct) true (record { tree = x .second; start = i }) [] aim (c .place) (c .split) (st .seeking) (rw (root-is, word-is) (c .picks)) (c .rule) (c .stands) in
         (c .step ∙ y .0, y .1)
@@ -149,18 +149,18 @@ module _ {g : Grammar} {w : Word} {goal a i l total : ℕ} (f : Formed g) (x : S
     aim-fork false e h = absurd (let z : _≡_ {A = ℕ} 0 1 = cc in omega arith)
 
     module _ (seek : st .seeking ≡ true) (ws : List ℕ) (sheet : SpanSheet (rules g) w ws) where
-      two-of : {t u : Tree} (s n : ℕ) → s + n ≤ length w → First (rules g) t → Second (rules g) t u → word t ≡ part w s n
+      two-of : {t u : Tree} (s n : ℕ) → s + n ≤ length w → AllPreferred (rules g) t → Second (rules g) t u → word t ≡ part w s n
           → In (secondWord ws (length w) s n) (root t)
       two-of {t} s n h p q e =
           sheet .two s n (root t) h (root-small f t p) .1
           (two-trees (f .distinct) (record { tree = t; first = record { rooted = refl; spelled = e; first = p }; second = q }))
 
-      one-of : (t : Tree) (s n : ℕ) → s + n ≤ length w → First (rules g) t → Each (rules g) (OnlyChoice (rules g)) t → word t ≡ part w s n
+      one-of : (t : Tree) (s n : ℕ) → s + n ≤ length w → AllPreferred (rules g) t → Each (rules g) (OnlyChoice (rules g)) t → word t ≡ part w s n
           → In (secondWord ws (length w) s n) (root t) → ⊥
       one-of t s n h p q e y =
           two-not-only {t = t} (record { rooted = refl; spelled = e; first = p }) (sheet .two s n (root t) h (root-small f t p) .0 y) q
 
-      going : (t u : Tree) (b s n : ℕ) → First (rules g) t → Second (rules g) t u → root t ≡ b → word t ≡ part w s n → s + n ≤ length w
+      going : (t u : Tree) (b s n : ℕ) → AllPreferred (rules g) t → Second (rules g) t u → root t ≡ b → word t ≡ part w s n → s + n ≤ length w
           → (own total′ k : ℕ) → own ≡ capped (1 + k) → total′ ≡ capped (total + own) → rowCount (x .second) ≡ suc (k + rowCount u) → SecondWalk (rules g) w
           goal b s n total′
       going t u b s n p q r v h own total′ k e m j =
@@ -180,7 +180,7 @@ module _ {g : Grammar} {w : Word} {goal a i l total : ℕ} (f : Formed g) (x : S
           → Onway (rules g) w goal total d
       onway d o = go (x .second) refl (stepped .0) word-is (aim-fork (st .seeking) seek (stepped .1) .1) (aim-fork (st .seeking) seek (stepped .1) .2)
         where
-          go : {ts : List Pending} (u : Tree) → x .second ≡ u → st ≡ shape (st .seeking) u → word u ≡ part w i l → AllFirst (rules g) ts
+          go : {ts : List Pending} (u : Tree) → x .second ≡ u → st ≡ nodeShape (st .seeking) u → word u ≡ part w i l → AllFirst (rules g) ts
               → Fork (rules g) ts (kids u i ++ []) → Onway (rules g) w goal total d
           go (unary A u) q e v fs (now {t = t} b) =
               let kind : st .kind ≡ 2 = ap (λ (y : Step). y .kind) e in
@@ -243,7 +243,7 @@ module _ {g : Grammar} {w : Word} {goal a i l total : ℕ} (f : Formed g) (x : S
     pub split-le : st .split ≤ l
     split-le = go (x .second) (stepped .0) word-is
       where
-        go : (u : Tree) → st ≡ shape (st .seeking) u → word u ≡ part w i l → st .split ≤ l
+        go : (u : Tree) → st ≡ nodeShape (st .seeking) u → word u ≡ part w i l → st .split ≤ l
         go (empty A) e v = omega (arith, ap (λ (y : Step). y .split) e)
         go (leaf A y) e v = omega (arith, ap (λ (y : Step). y .split) e)
         go (unary A u) e v = omega (arith, ap (λ (y : Step). y .split) e)

@@ -13,8 +13,8 @@ use Rattle.grammar.specs.Content.{rules, SmallClause, SmallRule, Formed}
 use Rattle.grammar.proofs.Lists.{mem-every}
 use Rattle.grammar.proofs.ChoiceLaws.{member-at}
 use Rattle.rows.specs.declared.Step.{Step}
-use Rattle.rows.specs.Steps.{stepOf}
-use Rattle.derivation.specs.Picks.{Chosen}
+use Rattle.rows.specs.Steps.{stepOfClause}
+use Rattle.derivation.specs.Picks.{PickedStep}
 use Rattle.row_counts.specs.Capped.{capped}
 use Rattle.row_counts.specs.Nulls.{oneMore, twoMore, nullSize}
 use Rattle.row_counts.proofs.CappedLaws.{capped-suc}
@@ -72,13 +72,13 @@ module _ (z : List ℕ) (B C : ℕ) where
   null-both (suc (suc (suc k))) s r h q a b e f = two-some (getD z B 0) (getD z C 0) s r a b e f
 
 -- the children that a step names are nonterminals
-step-small : (c : Clause) (k : ℕ) (m : Bool) → SmallClause c → (stepOf c k m .first < 64) × (stepOf c k m .second < 64)
+step-small : (c : Clause) (k : ℕ) (m : Bool) → SmallClause c → (stepOfClause c k m .first < 64) × (stepOfClause c k m .second < 64)
 step-small Clause.Empty k m s = (omega arith, omega arith)
 step-small (Clause.Atom a b) k m s = (omega arith, omega arith)
 step-small (Clause.Unary B u) k m s = (s, omega arith)
 step-small (Clause.Binary B C u) k m s = (s .0, s .1)
 
-pub chosen-small : {g : Grammar} {A : ℕ} {w : Word} {s : Bool} {st : Step} → Formed g → Chosen (rules g) A w s st → (st .first < 64) × (st .second < 64)
+pub chosen-small : {g : Grammar} {A : ℕ} {w : Word} {s : Bool} {st : Step} → Formed g → PickedStep (rules g) A w s st → (st .first < 64) × (st .second < 64)
 chosen-small {g} {st = st} f c =
     let r = mem-every SmallRule (rules g) (f .small) (member-at (rules g) (c .place) (c .stands)) in
     let x = step-small (c .rule .clause) (c .split) (st .seeking) (r .clause) in

@@ -10,7 +10,7 @@ use lib.Seq.{getD-set-same, getD-set-other}
 use Rattle.grammar.specs.declared.Grammar.{Grammar}
 use Rattle.grammar.specs.Layout.{Word, Every}
 use Rattle.grammar.specs.Trees.{Tree, empty, leaf, unary, binary, root, word, Rules}
-use Rattle.grammar.specs.Choices.{First, FirstTree}
+use Rattle.grammar.specs.Choices.{AllPreferred, FirstTree}
 use Rattle.grammar.specs.Rows.{rowCount}
 use Rattle.grammar.specs.Content.{rules, Formed}
 use Rattle.grammar.specs.SpanSheet.{part}
@@ -18,8 +18,8 @@ use Rattle.grammar.proofs.ChoiceLaws.{first-unique}
 use Rattle.grammar.proofs.ByKind.{no-word}
 use Rattle.marks.proofs.Words.{Cut, cut, part-length}
 use Rattle.rows.specs.declared.Step.{Step}
-use Rattle.derivation.specs.Picks.{Chosen}
-use Rattle.derivation.proofs.Pending.{shape}
+use Rattle.derivation.specs.Picks.{PickedStep}
+use Rattle.derivation.proofs.Pending.{nodeShape}
 use Rattle.row_counts.specs.Capped.{capped}
 use Rattle.row_counts.specs.Nulls.{Nulls}
 use Rattle.row_counts.specs.Walks.{FirstThere, Own, Down}
@@ -28,18 +28,18 @@ use Rattle.row_counts.proofs.CappedLaws.{capped-le, capped-one, capped-
 
 -- ---- what waits
 
-abbrev pub rowsOf : List Tree → ℕ
-rowsOf [] = 0
-rowsOf (t ∷ ts) = rowCount t + rowsOf ts
+abbrev pub rowsOfAll : List Tree → ℕ
+rowsOfAll [] = 0
+rowsOfAll (t ∷ ts) = rowCount t + rowsOfAll ts
 
 -- the trees that wait stand one after the other from pos on, and are noted by their start
-pub data Line (names longs : List ℕ) (w : Word) (end : ℕ) : ℕ → List Tree → Type 0 where
-  done : {pos : ℕ} → pos ≡ end → Line names longs w end pos []
+pub data TreeLine (names longs : List ℕ) (w : Word) (end : ℕ) : ℕ → List Tree → Type 0 where
+  done : {pos : ℕ} → pos ≡ end → TreeLine names longs w end pos []
   next : {pos : ℕ} {t : Tree} {ts : List Tree} (n : ℕ) → word t ≡ part w pos n → 0 < n → pos + n ≤ end → getD names pos 0 ≡ root t → getD longs pos 0 ≡ n
-      → Line names longs w end (pos + n) ts → Line names longs w end pos (t ∷ ts)
+      → TreeLine names longs w end (pos + n) ts → TreeLine names longs w end pos (t ∷ ts)
 
-line-set : {names longs : List ℕ} {w : Word} {end pos : ℕ} {ts : List Tree} (x b c : ℕ) → x < pos → Line names longs w end pos ts
-    → Line (set names x b) (set longs x c) w end pos ts
+line-set : {names longs : List ℕ} {w : Word} {end pos : ℕ} {ts : List Tree} (x b c : ℕ) → x < pos → TreeLine names longs w end pos ts
+    → TreeLine (set names x b) (set longs x c) w end pos ts
 line-set x b c h (done e) = done e
 line-set {names} {longs} {pos = pos} x b c h (next n s p f u v r) =
     next n s p f (getD-set-other names x pos b 0 (λ e. omega arith) ∙ u) (getD-set-other longs x pos c 0 (λ e. omega arith) ∙ v)
@@ -50,15 +50,15 @@ line-set {names} {longs} {pos = pos} x b c h (next n s p f u v r) =
 pub record Walk (g : Rules) (w : Word) (goal : ℕ) (end : ℕ) (names longs : List ℕ) (a i l total : ℕ) : Type 0 where
   pub tree : Tree
   pub rest : List Tree
-  pub first : First g tree
-  pub firsts : Every (First g) rest
+  pub first : AllPreferred g tree
+  pub firsts : Every (AllPreferred g) rest
   pub rooted : root tree ≡ a
   pub spelled : word tree ≡ part w i l
   pub some : 0 < l
   pub fits : i + l ≤ end
   pub within : end ≤ length w
-  pub line : Line names longs w end (i + l) rest
-  pub sum : capped (total + (rowCount tree + rowsOf rest)) ≡ capped goal
+  pub line : TreeLine names longs w end (i + l) rest
+  pub sum : capped (total + (rowCount tree + rowsOfAll rest)) ≡ capped goal
   pub few : total ≤ 4294967296
 
 -- the sums
@@ -90,14 +90,14 @@ own-le {z} {kind} {B} {C} {k} {l} {r} o = go (decLt kind 3) (ℕ-discrete k 0) (
     go (no x) (no y) (no u) = omega (arith, o .inner (omega arith) (omega arith) u)
 
 module _ {g : Grammar} {w : Word} {goal end : ℕ} {names longs : List ℕ} {a i l total : ℕ} (f : Formed g) (x : Walk (rules g) w goal end names longs a i l total)
-    (z : List ℕ) (nulls : Nulls (rules g) z) (st : Step) (c : Chosen (rules g) a (part w i l) false st) where
-  shaped : st ≡ shape (st .seeking) (x .tree)
+    (z : List ℕ) (nulls : Nulls (rules g) z) (st : Step) (c : PickedStep (rules g) a (part w i l) false st) where
+  shaped : st ≡ nodeShape (st .seeking) (x .tree)
   shaped = first-shape (f .distinct) (x .tree) (x .first) a (part w i l) (x .rooted) (x .spelled) st c
 
   long-is : length (word (x .tree)) ≡ l
   long-is = ap length (x .spelled) ∙ part-length w i l (omega (arith, x .fits, x .within))
 
-  null-count : (t : Tree) → First (rules g) t → length (word t) ≡ 0 → getD z (root t) 0 ≡ capped (rowCount t)
+  null-count : (t : Tree) → AllPreferred (rules g) t → length (word t) ≡ 0 → getD z (root t) 0 ≡ capped (rowCount t)
   null-count t h e = nulls .count (root t) t (root-small f t h) (record { rooted = refl; spelled = no-word (word t) e; first = h })
 
   -- what a leaf leaves
@@ -105,7 +105,7 @@ module _ {g : Grammar} {w : Word} {goal end : ℕ} {names longs : List ℕ} {a i
     leaf-long : l ≡ 1
     leaf-long = go (x .tree) shaped long-is
       where
-        go : (t : Tree) → st ≡ shape (st .seeking) t → length (word t) ≡ l → l ≡ 1
+        go : (t : Tree) → st ≡ nodeShape (st .seeking) t → length (word t) ≡ l → l ≡ 1
         go (empty A) e h = absurd (omega (arith, x .some))
         go (leaf A y) e h = sym h
         go (unary A t) e h = absurd (omega (arith, ap (λ (q : Step). q .kind) e))
@@ -114,29 +114,29 @@ module _ {g : Grammar} {w : Word} {goal end : ℕ} {names longs : List ℕ} {a i
     leaf-rows : rowCount (x .tree) ≡ 1
     leaf-rows = go (x .tree) shaped
       where
-        go : (t : Tree) → st ≡ shape (st .seeking) t → rowCount t ≡ 1
+        go : (t : Tree) → st ≡ nodeShape (st .seeking) t → rowCount t ≡ 1
         go (empty A) e = refl
         go (leaf A y) e = refl
         go (unary A t) e = absurd (omega (arith, ap (λ (q : Step). q .kind) e))
         go (binary A t u) e = absurd (omega (arith, ap (λ (q : Step). q .kind) e))
 
-    leaf-sum : capped (total′ + rowsOf (x .rest)) ≡ capped goal
+    leaf-sum : capped (total′ + rowsOfAll (x .rest)) ≡ capped goal
     leaf-sum =
-        sum-on total own total′ 0 (rowsOf (x .rest)) (rowCount (x .tree) + rowsOf (x .rest)) goal (x .sum) (o .low (omega arith) ∙ one-is) s
+        sum-on total own total′ 0 (rowsOfAll (x .rest)) (rowCount (x .tree) + rowsOfAll (x .rest)) goal (x .sum) (o .low (omega arith) ∙ one-is) s
         (omega (arith, leaf-rows))
 
     -- the walk is at its end
     pub leaf-end : i + 1 ≡ end → total′ ≡ capped goal
     leaf-end e = go (x .rest) (x .line) leaf-sum
       where
-        go : (ts : List Tree) → Line names longs w end (i + l) ts → capped (total′ + rowsOf ts) ≡ capped goal → total′ ≡ capped goal
+        go : (ts : List Tree) → TreeLine names longs w end (i + l) ts → capped (total′ + rowsOfAll ts) ≡ capped goal → total′ ≡ capped goal
         go [] d q = capped-same total′ goal (few-on total own total′ s) q
         go (t ∷ ts) (next n b p r u v q) y = absurd (omega (arith, leaf-long))
 
     pub leaf-next : (i + 1 ≡ end → ⊥) → Walk (rules g) w goal end names longs (getD names (i + 1) 0) (i + 1) (getD longs (i + 1) 0) total′
-    leaf-next e = go (x .rest) (x .firsts) (subst (λ (q : ℕ). Line names longs w end (i + q) (x .rest)) leaf-long (x .line)) leaf-sum
+    leaf-next e = go (x .rest) (x .firsts) (subst (λ (q : ℕ). TreeLine names longs w end (i + q) (x .rest)) leaf-long (x .line)) leaf-sum
       where
-        go : (ts : List Tree) → Every (First (rules g)) ts → Line names longs w end (i + 1) ts → capped (total′ + rowsOf ts) ≡ capped goal
+        go : (ts : List Tree) → Every (AllPreferred (rules g)) ts → TreeLine names longs w end (i + 1) ts → capped (total′ + rowsOfAll ts) ≡ capped goal
             → Walk (rules g) w goal end names longs (getD names (i + 1) 0) (i + 1) (getD longs (i + 1) 0) total′
         go [] fs (done q) y = absurd (e q)
         go (t ∷ ts) fs (next n b p r u v q) y =
@@ -159,7 +159,7 @@ module _ {g : Grammar} {w : Word} {goal end : ℕ} {names longs : List ℕ} {a i
   module _ (own total′ b n : ℕ) (o : Own z (st .kind) (st .first) (st .second) (st .split) l own) (s : total′ ≡ capped (total + own)) (k : 2 ≤ st .kind)
       (d : Down (st .kind) (st .first) (st .second) (st .split) l b n) where
     -- one child alone goes on
-    one-on : (t : Tree) → First (rules g) t → root t ≡ b → word t ≡ part w i l → n ≡ l → (e : ℕ) → own ≡ capped (1 + e)
+    one-on : (t : Tree) → AllPreferred (rules g) t → root t ≡ b → word t ≡ part w i l → n ≡ l → (e : ℕ) → own ≡ capped (1 + e)
         → rowCount (x .tree) ≡ (1 + e) + rowCount t → Walk (rules g) w goal end names longs b i n total′
     one-on t h r q m e p j =
         record {
@@ -173,7 +173,7 @@ module _ {g : Grammar} {w : Word} {goal end : ℕ} {names longs : List ℕ} {a i
           fits = omega (arith, x .fits);
           within = x .within;
           line = rw m (x .line);
-          sum = sum-on total own total′ e (rowCount t + rowsOf (x .rest)) (rowCount (x .tree) + rowsOf (x .rest)) goal (x .sum) p s (omega arith);
+          sum = sum-on total own total′ e (rowCount t + rowsOfAll (x .rest)) (rowCount (x .tree) + rowsOfAll (x .rest)) goal (x .sum) p s (omega arith);
           few = few-on total own total′ s;
         }
 
@@ -189,7 +189,7 @@ module _ {g : Grammar} {w : Word} {goal end : ℕ} {names longs : List ℕ} {a i
     on : Same × (Push × (n ≤ l))
     on = go (x .tree) refl shaped (x .first) (x .spelled)
       where
-        go : (t : Tree) → x .tree ≡ t → st ≡ shape (st .seeking) t → First (rules g) t → word t ≡ part w i l → Same × (Push × (n ≤ l))
+        go : (t : Tree) → x .tree ≡ t → st ≡ nodeShape (st .seeking) t → AllPreferred (rules g) t → word t ≡ part w i l → Same × (Push × (n ≤ l))
         go (empty A) q e h v = absurd (omega (arith, ap (λ (y : Step). y .kind) e))
         go (leaf A y) q e h v = absurd (omega (arith, ap (λ (y : Step). y .kind) e))
         go (unary A t) q e h v =
@@ -259,10 +259,10 @@ module _ {g : Grammar} {w : Word} {goal end : ℕ} {names longs : List ℕ} {a i
                           next {pos = i + n} {t = u} {ts = x .rest} (l - n) (rw nt (cu .rest)) (omega arith) (omega (arith, x .fits))
                           (getD-set-same names (i + n) (st .second) 0 (omega (arith, x .fits)) ∙ snd)
                           (getD-set-same longs (i + n) (l - n) 0 (omega (arith, x .fits)))
-                          (subst (λ (p : ℕ). Line (set names (i + n) (st .second)) (set longs (i + n) (l - n)) w end p (x .rest)) (let p : i + l ≡ i + n + (l - n) = omega arith in p)
+                          (subst (λ (p : ℕ). TreeLine (set names (i + n) (st .second)) (set longs (i + n) (l - n)) w end p (x .rest)) (let p : i + l ≡ i + n + (l - n) = omega arith in p)
                           (line-set (i + n) (st .second) (l - n) (omega arith) (x .line)));
                       sum =
-                          sum-on total own total′ 0 (rowCount t + (rowCount u + rowsOf (x .rest))) (rowCount (x .tree) + rowsOf (x .rest)) goal (x .sum)
+                          sum-on total own total′ 0 (rowCount t + (rowCount u + rowsOfAll (x .rest))) (rowCount (x .tree) + rowsOfAll (x .rest)) goal (x .sum)
                           (o .inner three (omega (arith, split)) (λ p. y (sym split ∙ p)) ∙ one-is) s (rw q (omega arith));
                       few = few-on total own total′ s;
                     }

@@ -10,14 +10,14 @@ use Rattle.grammar.specs.Choices.{Beneath, Preferred, FirstTree}
 use Rattle.grammar.specs.Rows.{rowCount}
 use Rattle.grammar.specs.SpanSheet.{part, pairs}
 use Rattle.rows.specs.declared.Step.{Step}
-use Rattle.derivation.proofs.Pending.{shape}
+use Rattle.derivation.proofs.Pending.{nodeShape}
 use Rattle.row_counts.specs.declared.Way.{Way}
 use Rattle.row_counts.specs.Capped.{capped}
 use Rattle.row_counts.specs.Walks.{FirstThere}
 
 -- u has this step at its top, over the span of l tokens from i on, and first trees beneath
 pub record Parted (g : Rules) (w : Word) (st : Step) (i l : ℕ) (u : Tree) : Type 0 where
-  pub shaped : st ≡ shape (st .seeking) u
+  pub shaped : st ≡ nodeShape (st .seeking) u
   pub spelled : word u ≡ part w i l
   pub beneath : Beneath g (Preferred g) u
 

@@ -20,7 +20,7 @@ ghost use Rattle.grammar.specs.Content.{rules, spelled};
 ghost use Rattle.sets.specs.Sets.{In};
 ghost use Rattle.grammar.specs.SpanSheet.{part, secondWord};
 ghost use Rattle.derivation.specs.Wanted.{Charted, Ready, Goal, Wanted};
-ghost use Rattle.derivation.specs.Picks.{HasChoice, Chosen};
+ghost use Rattle.derivation.specs.Picks.{HasChoice, PickedStep};
 ghost use Rattle.row_counts.specs.Capped.{capped};
 ghost use Rattle.row_counts.specs.RowCounts.{Tells};
 ghost use Rattle.row_counts.specs.Nulls.{HasFirsts, Nulls, Sound, nullSize, Passed, Either};

@@ -10,7 +10,7 @@ use Rattle.grammar.specs.declared.Rule.{Rule}
 use Rattle.grammar.specs.declared.Clause.{Clause}
 use Rattle.grammar.specs.Rows.{startOf}
 use Rattle.rows.specs.Bytes.{splice}
-use Rattle.rows.specs.Steps.{stepOf, kidsOf, entriesOf, Branches, Branched}
+use Rattle.rows.specs.Steps.{stepOfClause, kidsOf, entriesOf, Branches, Branched}
 use Rattle.rows.proofs.BytesLaws.{length-splice, take-splice-low, drop-splice}
 
 pub kids-none : (k : ℕ) → k < 2 → kidsOf k ≡ 0
@@ -42,7 +42,7 @@ getD-of [] p x d e = absurd (let z : _≡_ {A = ℕ} 0 1 = cc in omega arith)
 getD-of (y ∷ l) zero x d e = cc
 getD-of (y ∷ l) (suc p) x d e = getD-of l p x d e
 
-pub step-at : (l : List Rule) (p : ℕ) (x d : Rule) (c : Clause) (k : ℕ) (m : Bool) → getElem? l p ≡ some x → getD l p d .clause ≡ c → stepOf c k m ≡ stepOf (x .clause) k m
+pub step-at : (l : List Rule) (p : ℕ) (x d : Rule) (c : Clause) (k : ℕ) (m : Bool) → getElem? l p ≡ some x → getD l p d .clause ≡ c → stepOfClause c k m ≡ stepOfClause (x .clause) k m
 step-at l p x d c k m e f = rw (← getD-of l p x d e, f) refl
 
 module _ {l : List ℕ} {top i n kind k : ℕ} (b : Branches l top i n kind k) where

@@ -9,11 +9,11 @@ use Rattle.grammar.specs.declared.Clause.the-variants as Clause
 use Rattle.rows.specs.declared.Step.{Step}
 
 -- the step of a rule with this clause and a left word of k tokens
-abbrev pub stepOf : Clause → ℕ → Bool → Step
-stepOf Clause.Empty k seeking = record { kind = 0; first = 0; second = 0; split = 0; seeking = seeking }
-stepOf (Clause.Atom a b) k seeking = record { kind = 1; first = 0; second = 0; split = 0; seeking = seeking }
-stepOf (Clause.Unary B m) k seeking = record { kind = 2; first = B; second = 0; split = 0; seeking = seeking }
-stepOf (Clause.Binary B C m) k seeking = record { kind = 3; first = B; second = C; split = k; seeking = seeking }
+abbrev pub stepOfClause : Clause → ℕ → Bool → Step
+stepOfClause Clause.Empty k seeking = record { kind = 0; first = 0; second = 0; split = 0; seeking = seeking }
+stepOfClause (Clause.Atom a b) k seeking = record { kind = 1; first = 0; second = 0; split = 0; seeking = seeking }
+stepOfClause (Clause.Unary B m) k seeking = record { kind = 2; first = B; second = 0; split = 0; seeking = seeking }
+stepOfClause (Clause.Binary B C m) k seeking = record { kind = 3; first = B; second = C; split = k; seeking = seeking }
 
 -- the step of a closed node
 abbrev pub closedStep : Bool → Step

@@ -9,7 +9,7 @@ ghost use lib.ListN.{length, getElem?, take, replicate};
 ghost use Rattle.grammar.specs.declared.Rule.{Rule};
 ghost use Rattle.grammar.specs.Rows.{startOf};
 ghost use Rattle.rows.specs.Bytes.{splice};
-ghost use Rattle.rows.specs.Steps.{kidsOf, stepOf, entriesOf, Branches, Branched};
+ghost use Rattle.rows.specs.Steps.{kidsOf, stepOfClause, entriesOf, Branches, Branched};
 
 // What the writer has to know of a node: its kind (0 E, 1 A, 2 U, 3 B, 4 closed), its children's nonterminals, the length of the left word,
 // and whether the node at which the second tree parts from the first is still to come.
@@ -68,7 +68,7 @@ pub fn start_of(i: u8, n: u8) -> u8
 // The step of the rule at a place, with a left word of k tokens.
 pub fn step_of(g: Grammar, p: usize, k: usize, seeking: bool) -> Step
     requires { ⌜ (p < 128) × (k ≤ 64) ⌝ }
-    ensures { λ r. ⌜ ((x : Rule) → getElem? (g .rules) p ≡ some x → r ≡ stepOf (x .clause) k seeking) ⌝ }
+    ensures { λ r. ⌜ ((x : Rule) → getElem? (g .rules) p ≡ some x → r ≡ stepOfClause (x .clause) k seeking) ⌝ }
 {
     let split = k as u8;
     let rule = g.rules[p];

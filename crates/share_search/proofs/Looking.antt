@@ -18,7 +18,7 @@ use Rattle.candidates.proofs.Measure.{left, left-falls}
 use Rattle.numbers.specs.Blocks.{numberIn, room, least}
 use Rattle.twins.specs.Twins.{Replaceable, Renames, Passable}
 use Rattle.refuting.specs.Refuting.{Twinned}
-use Rattle.share_search.specs.Searching.{Meets, Barren, NoneBefore, Looked, Turn, Searched, hit, miss}
+use Rattle.share_search.specs.Searching.{Meets, Barren, NoneBefore, Looked, ShareTurn, Searched, hit, miss}
 use Rattle.share_search.proofs.Turns.{begin, onward, whole, first-meets, barren-early, barren-twin}
 
 -- ---- twins
@@ -63,23 +63,23 @@ module _ {g : Rules} {s n lo b : ℕ} {cs : List Cell} (small : s < 2 ^ 64) (le 
 -- ---- where the search stands
 
 -- at the first candidate
-pub turn-first : {g : Rules} {s n lo : ℕ} {cs : List Cell} → s < 2 ^ 64 → First s n cs → Turn g s n lo 0 cs
+pub turn-first : {g : Rules} {s n lo : ℕ} {cs : List Cell} → s < 2 ^ 64 → First s n cs → ShareTurn g s n lo 0 cs
 turn-first small f = record { before = begin small f; known = omega arith }
 
 -- ruled out: at the least candidate past the block
-pub turn-next : {g : Rules} {s n lo b upto : ℕ} {out : Bool} {cs rs : List Cell} → s < 2 ^ 64 → Turn g s n lo b cs → Looked out g s n lo b cs → out ≡ true → Follows s n b cs upto rs → Turn g s n lo upto rs
+pub turn-next : {g : Rules} {s n lo b upto : ℕ} {out : Bool} {cs rs : List Cell} → s < 2 ^ 64 → ShareTurn g s n lo b cs → Looked out g s n lo b cs → out ≡ true → Follows s n b cs upto rs → ShareTurn g s n lo upto rs
 turn-next small t l e f = record { before = onward small (t .before) (l .barren e) f; known = omega (arith, f .high, t .known) }
 
 -- not ruled out: a cell more
-pub turn-more : {g : Rules} {s n lo b : ℕ} {cs : List Cell} → Turn g s n lo b cs → (b ≡ n → ⊥) → Turn g s n lo (b + 1) cs
+pub turn-more : {g : Rules} {s n lo b : ℕ} {cs : List Cell} → ShareTurn g s n lo b cs → (b ≡ n → ⊥) → ShareTurn g s n lo (b + 1) cs
 turn-more t h = record { before = t .before; known = omega (arith, t .known, h) }
 
 -- fewer candidates are left past a block
-pub next-falls : {g : Rules} {s n lo b upto : ℕ} {cs rs : List Cell} → n ≤ 7 → Turn g s n lo b cs → Follows s n b cs upto rs → left rs < left cs
+pub next-falls : {g : Rules} {s n lo b upto : ℕ} {cs rs : List Cell} → n ≤ 7 → ShareTurn g s n lo b cs → Follows s n b cs upto rs → left rs < left cs
 next-falls {s = s} {n} {cs = cs} few t f = left-falls s n few (t .before .candidate) (f .candidate) (f .later cs (t .before .candidate) refl)
 
 -- not ruled out, and all cells looked at: it is found, and its number is its block's
-pub hit-of : {g : Rules} {s n lo hi b N : ℕ} {out : Bool} {cs : List Cell} → s < 2 ^ 64 → Turn g s n lo b cs → Looked out g s n lo b cs → out ≡ false → b ≡ n → N ≡ least s n b cs → N < hi → Searched g s n lo hi n N cs
+pub hit-of : {g : Rules} {s n lo hi b N : ℕ} {out : Bool} {cs : List Cell} → s < 2 ^ 64 → ShareTurn g s n lo b cs → Looked out g s n lo b cs → out ≡ false → b ≡ n → N ≡ least s n b cs → N < hi → Searched g s n lo hi n N cs
 hit-of {s = s} {n} {N = N} {cs = cs} small t l e i q h =
     let z = whole s n cs (t .before .candidate .arranged .size) in
     let y : N ≡ numberIn s n cs = q ∙ ap (λ (x : ℕ). least s n x cs) i ∙ z .0 in

@@ -11,7 +11,7 @@ use lib.Seq.{take-all}
 use Rattle.sets.proofs.Says.{true-not-false}
 use Rattle.grammar.specs.declared.Cell.{Cell}
 use Rattle.grammar.specs.Trees.{Rules, TwoTrees}
-use Rattle.grammar.specs.Candidates.{Candidate, Before, sentence}
+use Rattle.grammar.specs.Candidates.{Candidate, CellsBefore, sentence}
 use Rattle.grammar.proofs.SweepLaws.{before-total}
 use Rattle.candidates.specs.Terminals.{Among}
 use Rattle.candidates.specs.Succession.{Shares, First, Follows, Ends}

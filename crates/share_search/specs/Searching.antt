@@ -5,7 +5,7 @@ use mathlib.Core.List.{List}
 use Prim.Native.Nat.{ℕ, _+_, _*_, _≤_, _<_}
 use Rattle.grammar.specs.declared.Cell.{Cell}
 use Rattle.grammar.specs.Trees.{Rules, TwoTrees}
-use Rattle.grammar.specs.Candidates.{Candidate, Before, sentence}
+use Rattle.grammar.specs.Candidates.{Candidate, CellsBefore, sentence}
 use Rattle.candidates.specs.Terminals.{Among}
 use Rattle.candidates.specs.Succession.{Shares}
 use Rattle.numbers.specs.Blocks.{numberIn}
@@ -19,12 +19,12 @@ pub record Meets (g : Rules) (s n lo : ℕ) (cs : List Cell) : Type 0 where
 -- the first of these
 pub record Lowest (g : Rules) (s n lo : ℕ) (cs : List Cell) : Type 0 where
   pub meets : Meets g s n lo cs
-  pub none : (ds : List Cell) → Meets g s n lo ds → Before ds cs → ⊥
+  pub none : (ds : List Cell) → Meets g s n lo ds → CellsBefore ds cs → ⊥
 
 -- cs is a candidate of length n, and the first of these is not before it
 pub record NoneBefore (g : Rules) (s n lo : ℕ) (cs : List Cell) : Type 0 where
   pub candidate : Candidate (Among s) n cs
-  pub none : (ds : List Cell) → Lowest g s n lo ds → Before ds cs → ⊥
+  pub none : (ds : List Cell) → Lowest g s n lo ds → CellsBefore ds cs → ⊥
 
 -- it is none of those that share cs's first b cells
 pub record Barren (g : Rules) (s n lo b : ℕ) (cs : List Cell) : Type 0 where
@@ -36,7 +36,7 @@ pub record Looked (out : Bool) (g : Rules) (s n lo b : ℕ) (cs : List Cell) : T
   pub meets : out ≡ false → b ≡ n → Meets g s n lo cs
 
 -- where the search stands: at the candidate cs, about to look at its first b cells
-pub record Turn (g : Rules) (s n lo b : ℕ) (cs : List Cell) : Type 0 where
+pub record ShareTurn (g : Rules) (s n lo b : ℕ) (cs : List Cell) : Type 0 where
   pub before : NoneBefore g s n lo cs
   pub known : b ≤ n
 

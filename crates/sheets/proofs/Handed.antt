@@ -20,7 +20,7 @@ use Rattle.sheets.specs.declared.SentenceRead.{SentenceRead}
 use Rattle.sheets.specs.Items.{Reading, accepted, refused}
 use Rattle.sheets.specs.TokenSheets.{tokenSheet}
 use Rattle.sheets.specs.Promises.{readingOf, RulesRead, TokensRead}
-use Rattle.sheets.specs.RefusedLines.{Held, in-rules, in-tokens, nowhere, ofRules, ofTokens, heldBy, LinePart, Hands}
+use Rattle.sheets.specs.RefusedLines.{HeldLine, in-rules, in-tokens, no-line, ofRules, ofTokens, heldBy, LinePart, Hands}
 use Rattle.sheets.specs.LinesIn.{LineIn}
 
 module _ {q : SentenceRead} {want : Reading Token} (p : TokensRead q want) {o : Outcome} (e : q .outcome ≡ o) where
@@ -53,7 +53,7 @@ module _ (R T r : RefT (List ℕ)) where
   hands-none a e h = by-readings a e h
 
 -- what is held does not go by the items that were read
-held-any : (o : Outcome) (v w : Rules) (h : Held) → ofRules (readingOf o v) h ≡ ofRules (readingOf o w) h
+held-any : (o : Outcome) (v w : Rules) (h : HeldLine) → ofRules (readingOf o v) h ≡ ofRules (readingOf o w) h
 held-any Accepted v w h = refl
 held-any (Refused f zero) v w h = refl
 held-any (Refused f (suc l)) v w h = refl

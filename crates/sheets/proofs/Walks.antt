@@ -22,7 +22,7 @@ use Rattle.sheets.specs.declared.Fault.the-variants as Fault
 use Rattle.sheets.specs.Items.{Reading, accepted, refused, itemsFrom, withNames}
 use Rattle.sheets.specs.RuleSheets.{anyOf, isStart, ruleStep, finish, rulesFrom, ruleNames, ruleSheet}
 use Rattle.sheets.specs.TokenSheets.{tokenStep, tokenNames, wideNames, wideSheet, tokenSheet}
-use Rattle.sheets.specs.RefusedLines.{startOf, LinePart}
+use Rattle.sheets.specs.RefusedLines.{pieceStart, LinePart}
 use Rattle.sheets.proofs.Loop.{line-in, line-less, line-cut}
 use Rattle.sheets.proofs.Accepted.{items-line}
 
@@ -31,16 +31,16 @@ pub record Walk (s : List ℕ) (n at left : ℕ) : Type 0 where
   pub low : at ≤ length s
   pub there : left < length (piecesFrom 10 s at)
   pub same : getD (pieces 10 s) n [] ≡ getD (piecesFrom 10 s at) left []
-  pub start : startOf (pieces 10 s) n ≡ at + startOf (piecesFrom 10 s at) left
+  pub start : pieceStart (pieces 10 s) n ≡ at + pieceStart (piecesFrom 10 s at) left
 
 pub walk-start : (s : List ℕ) (n : ℕ) → n < length (pieces 10 s) → Walk s n 0 n
-walk-start s n h = record { low = zero-le; there = rw (from-zero 10 s) h; same = rw (from-zero 10 s) refl; start = rw (from-zero 10 s, zero-add (startOf (pieces 10 s) n)) refl }
+walk-start s n h = record { low = zero-le; there = rw (from-zero 10 s) h; same = rw (from-zero 10 s) refl; start = rw (from-zero 10 s, zero-add (pieceStart (pieces 10 s) n)) refl }
 
 getD-next : (p : List ℕ) (ps : List (List ℕ)) (n : ℕ) → 0 < n → getD (p ∷ ps) n [] ≡ getD ps (n - 1) []
 getD-next p ps zero h = absurd (omega arith)
 getD-next p ps (suc n) h = let e : suc n - 1 ≡ n = omega arith in rw e refl
 
-startOf-next : (p : List ℕ) (ps : List (List ℕ)) (n : ℕ) → 0 < n → startOf (p ∷ ps) n ≡ length p + 1 + startOf ps (n - 1)
+startOf-next : (p : List ℕ) (ps : List (List ℕ)) (n : ℕ) → 0 < n → pieceStart (p ∷ ps) n ≡ length p + 1 + pieceStart ps (n - 1)
 startOf-next p ps zero h = absurd (omega arith)
 startOf-next p ps (suc n) h = let e : suc n - 1 ≡ n = omega arith in rw e refl
 
@@ -89,7 +89,7 @@ module _ {s : List ℕ} {n at left : ℕ} (w : Walk s n at left) {c : Cursor} (i
     here : bytesLeft s c ≡ getD (pieces 10 s) n []
     here = sym (w .same ∙ rw (cut, zero-left) refl)
 
-    at-start : at ≡ startOf (pieces 10 s) n
+    at-start : at ≡ pieceStart (pieces 10 s) n
     at-start = sym (w .start ∙ rw (cut, zero-left) (omega arith))
 
     fits : c .end - c .at ≡ length (getD (pieces 10 s) n [])

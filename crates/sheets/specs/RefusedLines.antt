@@ -13,43 +13,43 @@ use Rattle.sheets.specs.RuleSheets.{ruleSheet}
 use Rattle.sheets.specs.TokenSheets.{tokenSheet}
 
 -- the sheet that holds the refused line, and how many lines stand before it there; or there is no such line
-pub data Held : Type 0 where
-  in-rules : ℕ → Held
-  in-tokens : ℕ → Held
-  nowhere : Held
+pub data HeldLine : Type 0 where
+  in-rules : ℕ → HeldLine
+  in-tokens : ℕ → HeldLine
+  no-line : HeldLine
 
 -- a refusal's line counts from 1; line 0 is no line
-abbrev pub ofTokens : Reading Token → Held
-ofTokens (accepted w) = nowhere
-ofTokens (refused f zero) = nowhere
+abbrev pub ofTokens : Reading Token → HeldLine
+ofTokens (accepted w) = no-line
+ofTokens (refused f zero) = no-line
 ofTokens (refused f (suc n)) = in-tokens n
 
-abbrev pub ofRules : Reading Rule → Held → Held
+abbrev pub ofRules : Reading Rule → HeldLine → HeldLine
 ofRules (accepted w) tokens = tokens
-ofRules (refused f zero) tokens = nowhere
+ofRules (refused f zero) tokens = no-line
 ofRules (refused f (suc n)) tokens = in-rules n
 
 -- the sheet with the rules is read first, and gives this
-abbrev pub heldBy : Reading Rule → List ℕ → Held
+abbrev pub heldBy : Reading Rule → List ℕ → HeldLine
 heldBy given tokens = ofRules given (ofTokens (tokenSheet tokens))
 
 -- the refused line of a rule sheet and a token sheet
-abbrev pub refusedLine : List ℕ → List ℕ → Held
+abbrev pub refusedLine : List ℕ → List ℕ → HeldLine
 refusedLine rules tokens = heldBy (ruleSheet rules) tokens
 
 -- where the piece with n pieces before it begins, each with its byte
-abbrev pub startOf : List (List ℕ) → ℕ → ℕ
-startOf ps zero = 0
-startOf [] (suc n) = 0
-startOf (p ∷ ps) (suc n) = length p + 1 + startOf ps n
+abbrev pub pieceStart : List (List ℕ) → ℕ → ℕ
+pieceStart ps zero = 0
+pieceStart [] (suc n) = 0
+pieceStart (p ∷ ps) (suc n) = length p + 1 + pieceStart ps n
 
 -- r is the part of the sheet that is its line with n lines before it, without its byte 10
 pub record LinePart (sheet : RefT (List ℕ)) (n : ℕ) (r : RefT (List ℕ)) : Type 0 where
-  pub part : Part sheet (startOf (pieces 10 (sheet .now)) n) (length (getD (pieces 10 (sheet .now)) n [])) r
+  pub part : Part sheet (pieceStart (pieces 10 (sheet .now)) n) (length (getD (pieces 10 (sheet .now)) n [])) r
   pub line : r .now ≡ getD (pieces 10 (sheet .now)) n []
 
 -- what is handed back; with no such line, the first zero bytes of the rule sheet
-abbrev pub Hands : RefT (List ℕ) → RefT (List ℕ) → RefT (List ℕ) → Held → Type 0
+abbrev pub Hands : RefT (List ℕ) → RefT (List ℕ) → RefT (List ℕ) → HeldLine → Type 0
 Hands rules tokens r (in-rules n) = LinePart rules n r
 Hands rules tokens r (in-tokens n) = LinePart tokens n r
-Hands rules tokens r nowhere = Part rules 0 0 r
+Hands rules tokens r no-line = Part rules 0 0 r

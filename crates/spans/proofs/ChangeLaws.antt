@@ -8,7 +8,7 @@ use native.Mathlib.Decide.{ℕ-discrete}
 use lib.ListN.{length, getD, drop, set, length-set, length-drop}
 use lib.Seq.{getD-set-same, getD-set-other, getD-drop, ext-getD}
 use Rattle.grammar.specs.SpanSheet.{pairs, pairAt}
-use Rattle.spans.specs.Changes.{Past, Cleared, Kept, Wrote}
+use Rattle.spans.specs.Changes.{Past, Cleared, Kept, WrotePair}
 use Rattle.spans.proofs.Places.{pairAt-below}
 
 pub past-same : (k : ℕ) (ws : List ℕ) → Past k ws ws
@@ -52,7 +52,7 @@ kept-past n start len h k =
     let l = pairAt-below n start len h in
     record { long = k .long; rest = λ q m. k .rest q (omega arith) (omega arith) }
 
-pub wrote : (ws : List ℕ) (p a b : ℕ) → 2 * p + 1 < length ws → Wrote ws (set (set ws (2 * p) a) (2 * p + 1) b) p a b
+pub wrote : (ws : List ℕ) (p a b : ℕ) → 2 * p + 1 < length ws → WrotePair ws (set (set ws (2 * p) a) (2 * p + 1) b) p a b
 wrote ws p a b h = record {
   kept = record {
     long = length-set (set ws (2 * p) a) (2 * p + 1) b ∙ length-set ws (2 * p) a;

@@ -20,7 +20,7 @@ pub record Kept (ws ws′ : List ℕ) (p : ℕ) : Type 0 where
   pub rest : (q : ℕ) → (q ≡ 2 * p → ⊥) → (q ≡ 2 * p + 1 → ⊥) → getD ws′ q 0 ≡ getD ws q 0
 
 -- and holds a and b there
-pub record Wrote (ws ws′ : List ℕ) (p a b : ℕ) : Type 0 where
+pub record WrotePair (ws ws′ : List ℕ) (p a b : ℕ) : Type 0 where
   pub kept : Kept ws ws′ p
   pub first : getD ws′ (2 * p) 0 ≡ a
   pub second : getD ws′ (2 * p + 1) 0 ≡ b

@@ -6,7 +6,7 @@ ghost use lib.ListN.{length};
 ghost use Rattle.sets.specs.Says.{Says};
 ghost use Rattle.sets.specs.Sets.{In};
 ghost use Rattle.grammar.specs.SpanSheet.{pairs, pairAt, firstWord, secondWord};
-ghost use Rattle.spans.specs.Changes.{Cleared, Wrote};
+ghost use Rattle.spans.specs.Changes.{Cleared, WrotePair};
 ghost use Rattle.spans.specs.Reach.{Reach};
 
 // How many words the span sheet of `n` tokens has.
@@ -62,7 +62,7 @@ pub fn in_second(words: &[u64], n: usize, start: usize, len: usize, a: u8) -> bo
 // Write both words of the pair `p`.
 pub fn write(words: &mut [u64], p: usize, a: u64, b: u64)
     requires { ⌜ 2 * p + 1 < length (now words) ⌝ }
-    ensures { λ r. ⌜ Wrote (now (words .entry)) (now (words .exit)) p a b ⌝ }
+    ensures { λ r. ⌜ WrotePair (now (words .entry)) (now (words .exit)) p a b ⌝ }
 {
     let at = 2 * p;
     words[at] = a;

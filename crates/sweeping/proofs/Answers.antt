@@ -18,7 +18,7 @@ use Rattle.grammar.specs.Sweeps.{found, terminalCount}
 use Rattle.grammar.specs.SpanSheet.{pairs}
 use Rattle.grammar.specs.Content.{spelled, Positioned}
 use Rattle.grammar.proofs.SweepLaws.{shorter-clear, sentence-length}
-use Rattle.counting.specs.Counts.{Counts}
+use Rattle.counting.specs.Counts.{HowMany}
 use Rattle.lengths.specs.declared.Index.{Index}
 use Rattle.lengths.specs.Indexes.{at, Exact}
 use Rattle.lengths.proofs.Possibly.{derives-can}
@@ -137,17 +137,17 @@ found-low {g} {k} {n} {cs} e h (nothing z c) = (omega arith, no-steps cs (e ∙ 
     no-steps (d ∷ ds) q = absurd (omega arith)
 
 -- and is the answer
-pub swept-of : {g : Rules} {k n m : ℕ} {cs : List Cell} {r : Sentence} → length cs ≡ n → Found g k n cs → Spells cs n r → Counts (TriedBy g k (answerOf n cs)) m → Swept g k r m
+pub swept-of : {g : Rules} {k n m : ℕ} {cs : List Cell} {r : Sentence} → length cs ≡ n → Found g k n cs → Spells cs n r → HowMany (TriedBy g k (answerOf n cs)) m → Swept g k r m
 swept-of {g} {k} {n} {m} {cs} {r} e (nothing z c) x q =
     clear c (x .count ∙ z) (subst (λ (m : ℕ). drop m (r .tokens) ≡ replicate (64 - m) nowhere) z (x .past))
-    (subst (λ (i : ℕ). Counts (TriedBy g k (answerOf i cs)) m) z q)
+    (subst (λ (i : ℕ). HowMany (TriedBy g k (answerOf i cs)) m) z q)
 swept-of {g} {k} {n} {m} {cs} {r} e (first f) x q =
     two f (shorter-clear f) (x .count ∙ sym e)
     (sym (take-append-drop n (r .tokens)) ∙ ap (λ (l : List Token). l ++ drop n (r .tokens)) (x .front) ∙ ap (λ (l : List Token). sentence cs ++ l) (x .past)
     ∙ ap (λ (m : ℕ). sentence cs ++ replicate (64 - m) nowhere) (sym e))
     (tried-two n (omega (arith, f .low, e)) q)
   where
-    tried-two : (i : ℕ) → 1 ≤ i → Counts (TriedBy g k (answerOf i cs)) m → Counts (TriedBy g k (found cs)) m
+    tried-two : (i : ℕ) → 1 ≤ i → HowMany (TriedBy g k (answerOf i cs)) m → HowMany (TriedBy g k (found cs)) m
     tried-two zero l c = absurd (omega arith)
     tried-two (suc i) l c = c
 

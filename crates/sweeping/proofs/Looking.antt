@@ -23,7 +23,7 @@ use Rattle.candidates.specs.Skips.{Stale}
 use Rattle.candidates.proofs.Measure.{left, left-falls}
 use Rattle.refuting.specs.Refuting.{Refuted}
 use Rattle.refuting.proofs.RefutingLaws.{none-in-block}
-use Rattle.sweeping.specs.Searching.{NoneBefore, Barren, Looked, Turn}
+use Rattle.sweeping.specs.Searching.{NoneBefore, Barren, Looked, SweepTurn}
 use Rattle.sweeping.proofs.Turns.{begin, onward}
 
 module _ {g : Rules} {s n b : ℕ} {cs : List Cell} where
@@ -53,23 +53,23 @@ module _ {g : Rules} {s n b : ℕ} {cs : List Cell} where
           sym (take-all b ds (let z = c .arranged .size in omega arith)) ∙ sh ∙ take-all b cs (let z = k .arranged .size in omega arith)
 
 -- at the first candidate of a length
-pub turn-first : {g : Rules} {s n : ℕ} {cs : List Cell} → First s n cs → Turn g s n 0 cs
+pub turn-first : {g : Rules} {s n : ℕ} {cs : List Cell} → First s n cs → SweepTurn g s n 0 cs
 turn-first f = record { before = begin f; known = omega arith }
 
-module _ {g : Rules} {s n b : ℕ} {out : Bool} {cs : List Cell} (t : Turn g s n b cs) (l : Looked out g s n b cs) where
+module _ {g : Rules} {s n b : ℕ} {out : Bool} {cs : List Cell} (t : SweepTurn g s n b cs) (l : Looked out g s n b cs) where
   pub ruled-out : out ≡ true → Barren g s n b cs
   ruled-out e = l .barren e (t .before)
 
   -- ruled out: at the least candidate past the block
-  pub turn-next : {upto : ℕ} {rs : List Cell} → out ≡ true → Follows s n b cs upto rs → Turn g s n upto rs
+  pub turn-next : {upto : ℕ} {rs : List Cell} → out ≡ true → Follows s n b cs upto rs → SweepTurn g s n upto rs
   turn-next e f = record { before = onward (t .before) (ruled-out e) f; known = omega (arith, f .high, t .known) }
 
 -- not ruled out: a cell more
-pub turn-more : {g : Rules} {s n b : ℕ} {cs : List Cell} → Turn g s n b cs → (b ≡ n → ⊥) → Turn g s n (b + 1) cs
+pub turn-more : {g : Rules} {s n b : ℕ} {cs : List Cell} → SweepTurn g s n b cs → (b ≡ n → ⊥) → SweepTurn g s n (b + 1) cs
 turn-more t h = record { before = t .before; known = omega (arith, t .known, h) }
 
 -- fewer candidates are left past a block
-pub next-falls : {g : Rules} {s n b upto : ℕ} {cs rs : List Cell} → n ≤ 7 → Turn g s n b cs → Follows s n b cs upto rs → left rs < left cs
+pub next-falls : {g : Rules} {s n b upto : ℕ} {cs rs : List Cell} → n ≤ 7 → SweepTurn g s n b cs → Follows s n b cs upto rs → left rs < left cs
 next-falls {s = s} {n} {cs = cs} few t f = left-falls s n few (t .before .candidate) (f .candidate) (f .later cs (t .before .candidate) refl)
 
 -- a span sheet for more tokens has at least as many pairs

@@ -8,7 +8,7 @@ use Rattle.sets.specs.Sets.{In}
 use Rattle.grammar.specs.declared.Cell.{Cell}
 use Rattle.grammar.specs.Layout.{Word}
 use Rattle.grammar.specs.Trees.{Rules, TwoTrees}
-use Rattle.grammar.specs.Candidates.{Candidate, Before, sentence}
+use Rattle.grammar.specs.Candidates.{Candidate, CellsBefore, sentence}
 use Rattle.candidates.specs.Terminals.{Among}
 use Rattle.candidates.specs.Succession.{Shares}
 
@@ -23,7 +23,7 @@ pub record Admits (g : Rules) (s : ℕ) : Type 0 where
 -- cs is a candidate of length n, and none before it has two trees
 pub record NoneBefore (g : Rules) (s n : ℕ) (cs : List Cell) : Type 0 where
   pub candidate : Candidate (Among s) n cs
-  pub none : (ds : List Cell) → Candidate (Among s) n ds → Before ds cs → TwoTrees g 0 (sentence ds) → ⊥
+  pub none : (ds : List Cell) → Candidate (Among s) n ds → CellsBefore ds cs → TwoTrees g 0 (sentence ds) → ⊥
 
 -- no candidate of length n that shares cs's first b cells has two trees
 pub record Barren (g : Rules) (s n b : ℕ) (cs : List Cell) : Type 0 where
@@ -49,6 +49,6 @@ pub data Searched (g : Rules) (s k n : ℕ) (cs : List Cell) : Type 0 where
   miss : n ≡ 0 → NoneShorter g s (k + 1) → Searched g s k n cs
 
 -- where the search stands: at the candidate cs of n tokens, about to look at its first b cells
-pub record Turn (g : Rules) (s n b : ℕ) (cs : List Cell) : Type 0 where
+pub record SweepTurn (g : Rules) (s n b : ℕ) (cs : List Cell) : Type 0 where
   pub before : NoneBefore g s n cs
   pub known : b ≤ n

@@ -28,7 +28,7 @@ ghost use Rattle.candidates.specs.Arrays.{cells};
 ghost use Rattle.candidates.specs.Terminals.{Among, Lowest};
 ghost use Rattle.refuting.specs.Tables.{Tabled};
 ghost use Rattle.spans.specs.Changes.{Past};
-ghost use Rattle.counting.specs.Counts.{Counts};
+ghost use Rattle.counting.specs.Counts.{HowMany};
 ghost use Rattle.lengths.specs.Lengths.{CanHave};
 ghost use Rattle.lengths.specs.Indexes.{Exact};
 ghost use Rattle.tally.specs.Tried.{Tried, answerOf};
@@ -185,7 +185,7 @@ fn counted(g: Grammar, lengths: u64, k: usize, n: usize, c: Candidate) -> u64
     requires { ⌜ Bounded (rules g) k ⌝ }
     requires { ⌜ LengthsOf (rules g) lengths ⌝ }
     requires { ⌜ Found (rules g) k n (cells c 0 n) ⌝ }
-    ensures { λ r. ⌜ Counts (Tried (CanHave (rules g) 0) (Of.Terminal (rules g)) k (answerOf n (cells c 0 n))) r ⌝ }
+    ensures { λ r. ⌜ HowMany (Tried (CanHave (rules g) 0) (Of.Terminal (rules g)) k (answerOf n (cells c 0 n))) r ⌝ }
 {
     let all = terminals(g);
     tried(lengths, all, k, n, c)

@@ -14,12 +14,12 @@ use Rattle.chart.specs.Sheets.{Judged}
 use Rattle.sheets.specs.declared.Fault.the-variants as Fault
 use Rattle.teplonga.specs.declared.Answer.{Answer}
 use Rattle.teplonga.specs.declared.Answer.the-variants as Answer
-use Rattle.teplonga.specs.Verdict.{Filled, VerdictOn, short, judging}
+use Rattle.teplonga.specs.Verdict.{SheetFilled, VerdictOn, short, judging}
 
 pub too-few : (g : Rules) (w : Word) (n : ℕ) (ws : List ℕ) → length w ≡ n → length ws < 2 * pairs n → VerdictOn g w ws ws (record { answer = Answer.Refused Fault.FewWords; line = 0 })
 too-few g w n ws e h = short (omega (arith, ap pairs e)) refl refl refl
 
-pub filled-by : {v : Verdict} {g : Rules} {w : Word} {n : ℕ} {ws ws′ : List ℕ} → length w ≡ n → Judged v g w n ws ws′ → Filled g w ws ws′
+pub filled-by : {v : Verdict} {g : Rules} {w : Word} {n : ℕ} {ws ws′ : List ℕ} → length w ≡ n → Judged v g w n ws ws′ → SheetFilled g w ws ws′
 filled-by {w = w} {n = n} e j =
     record {
       long = j .past .long;

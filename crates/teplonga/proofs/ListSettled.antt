@@ -6,7 +6,7 @@ use native.Mathlib.Nat.{le-refl}
 use native.Mathlib.Omega.{arith}
 use lib.ListN.{length}
 use Rattle.lists.specs.declared.Listed.{Listed}
-use Rattle.lists.specs.Lists.{Gives, fits, large}
+use Rattle.lists.specs.Lists.{GivesList, fits, large}
 use Rattle.lists.specs.Putting.{listed, unfit}
 use Rattle.lists.proofs.Settled.{gives-settled, gives-map}
 use Rattle.sheets.specs.declared.Fault.the-variants as Fault
@@ -16,7 +16,7 @@ use Rattle.teplonga.specs.declared.ListReply.{ListReply}
 use Rattle.teplonga.specs.Lists.{ListOn, onList}
 
 module _ {a : Answer} {bytes : List ℕ} {n : ℕ} {lent : List ℕ} where
-  pub list-on : {lent′ : List ℕ} {l : Listed} → Gives listed unfit bytes n lent lent′ l → ListOn a bytes n lent lent′ (onList a l)
+  pub list-on : {lent′ : List ℕ} {l : Listed} → GivesList listed unfit bytes n lent lent′ l → ListOn a bytes n lent lent′ (onList a l)
   list-on g = record { fault = Fault.FewRows; number = refl; gives = gives-map (onList a) g }
 
   pub list-settled : {x y : List ℕ} {r s : ListReply} → ListOn a bytes n lent x r → ListOn a bytes n lent y s → (r ≡ s) × (x ≡ y)
@@ -30,7 +30,7 @@ pub count-of : {r s : ListReply} {n : ℕ} → r ≡ s → s .count ≤ n → r 
 count-of e h = omega (arith, ap (λ (x : ListReply). x .count) e)
 
 gives-count : {given : ℕ → ListReply} {refused : ListReply} {bytes : List ℕ} {n : ℕ} {lent lent′ : List ℕ} {r : ListReply}
-    → ((m : ℕ) → given m .count ≡ m) → refused .count ≡ 0 → n ≤ length bytes → Gives given refused bytes n lent lent′ r → r .count ≤ length lent
+    → ((m : ℕ) → given m .count ≡ m) → refused .count ≡ 0 → n ≤ length bytes → GivesList given refused bytes n lent lent′ r → r .count ≤ length lent
 gives-count {n = n} g z h (fits l e p) = count-of e (omega (arith, g n))
 gives-count g z h (large l e p) = count-of e (omega (arith, z))
 

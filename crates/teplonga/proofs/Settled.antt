@@ -31,10 +31,10 @@ use Rattle.spans.proofs.Uniqueness.{sheet-same}
 use Rattle.teplonga.specs.declared.Answer.{Answer}
 use Rattle.teplonga.specs.declared.Answer.the-variants as Answer
 use Rattle.teplonga.specs.declared.Reply.{Reply}
-use Rattle.teplonga.specs.Answers.{Sheets, accepted, refused, withTokens, withRules, sheets, Says}
+use Rattle.teplonga.specs.Answers.{Sheets, accepted, refused, withTokens, withRules, sheets, AnswerHolds}
 use Rattle.teplonga.specs.declared.TreesReply.{TreesReply}
-use Rattle.teplonga.specs.Verdict.{needed, Filled, VerdictOn, short, judging, VerdictBy, refusing, reading}
-use Rattle.teplonga.specs.Trees.{reply, Shown, treeless, single, both, large-one, large-two, TreesOn, TreesBy}
+use Rattle.teplonga.specs.Verdict.{needed, SheetFilled, VerdictOn, short, judging, VerdictBy, refusing, reading}
+use Rattle.teplonga.specs.Trees.{treesReplyOf, Shown, treeless, single, both, large-one, large-two, TreesOn, TreesBy}
 use Rattle.teplonga.specs.Trees as Trees
 use Rattle.grammar.specs.Rows.{rowCount}
 use Rattle.derivation.specs.Written.{places, filled}
@@ -43,7 +43,7 @@ use Rattle.grammar.proofs.ChoiceLaws.{first-unique, second-tree-unique}
 
 -- 1. answers
 
-pub says-one : (g : Rules) (w : Word) (a b : Answer) → Says a g w → Says b g w → a ≡ b
+pub says-one : (g : Rules) (w : Word) (a b : Answer) → AnswerHolds a g w → AnswerHolds b g w → a ≡ b
 says-one g w Answer.None Answer.None x y = refl
 says-one g w Answer.None Answer.One x y = absurd (none-not-one x y)
 says-one g w Answer.None Answer.Two x y = absurd (none-not-two x y)
@@ -72,7 +72,7 @@ says-one g w (Answer.Refused f) b x y = absurd x
 abbrev pub Words : List ℕ → Type 0
 Words ws = (q : ℕ) → getD ws q 0 < 2 ^ 64
 
-pub filled-same : {g : Rules} {w : Word} {ws a b : List ℕ} → Words a → Words b → Filled g w ws a → Filled g w ws b → a ≡ b
+pub filled-same : {g : Rules} {w : Word} {ws a b : List ℕ} → Words a → Words b → SheetFilled g w ws a → SheetFilled g w ws b → a ≡ b
 filled-same {g} {w} {ws} {a} {b} p q x y =
     let n = needed w in
     let front = sheet-same g w a b p q (x .sheet) (y .sheet) in
@@ -129,8 +129,8 @@ module _ (g : Rules) (w : Word) (one two : List ℕ) where
       ⊎-elim (λ x. omega (arith, ap rowCount p)) (λ x. omega (arith, ap rowCount q)) l
 
   large-same : {f f′ : Fault} {a b c d : List ℕ} {r s : TreesReply} → numberOf f ≡ 22 → numberOf f′ ≡ 22
-      → r ≡ reply (Answer.Refused f) 0 0 0 → s ≡ reply (Answer.Refused f′) 0 0 0 → a ≡ filled one none → b ≡ filled one none → c ≡ filled two none → d ≡ filled two none → Same a b c d r s
-  large-same {f} {f′} m n x y h k i j = (x ∙ ap (λ (z : Fault). reply (Answer.Refused z) 0 0 0) (same-fault f f′ 22 m n) ∙ sym y, (h ∙ sym k, i ∙ sym j))
+      → r ≡ treesReplyOf (Answer.Refused f) 0 0 0 → s ≡ treesReplyOf (Answer.Refused f′) 0 0 0 → a ≡ filled one none → b ≡ filled one none → c ≡ filled two none → d ≡ filled two none → Same a b c d r s
+  large-same {f} {f′} m n x y h k i j = (x ∙ ap (λ (z : Fault). treesReplyOf (Answer.Refused z) 0 0 0) (same-fault f f′ 22 m n) ∙ sym y, (h ∙ sym k, i ∙ sym j))
 
   pub shown-settled : Distinct g → {a b c d : List ℕ} {r s : TreesReply} → Shown g w one a two c r → Shown g w one b two d s → Same a b c d r s
   shown-settled D (treeless p x h i) (treeless q y k j) = (x ∙ sym y, (h ∙ sym k, i ∙ sym j))
@@ -167,7 +167,7 @@ module _ (g : Rules) (w : Word) (one two : List ℕ) where
 trees-on : (g : Rules) (w : Word) {ws a b one two m m′ n n′ : List ℕ} {r s : TreesReply} → Distinct g → Words a → Words b
     → TreesOn g w ws a one m two n r → TreesOn g w ws b one m′ two n′ s → (a ≡ b) × Same m m′ n n′ r s
 trees-on g w D p q (Trees.short {f = f} u v x h i j) (Trees.short {f = f′} m n y k l o) =
-    (h ∙ sym k, (x ∙ ap (λ (z : Fault). reply (Answer.Refused z) 0 0 0) (same-fault f f′ 21 v n) ∙ sym y, (i ∙ sym l, j ∙ sym o)))
+    (h ∙ sym k, (x ∙ ap (λ (z : Fault). treesReplyOf (Answer.Refused z) 0 0 0) (same-fault f f′ 21 v n) ∙ sym y, (i ∙ sym l, j ∙ sym o)))
 trees-on g w D p q (Trees.short u v x h i j) (Trees.showing k y) = absurd (omega (arith, k .sheet .enough, k .long))
 trees-on g w D p q (Trees.showing k y) (Trees.short u v x h i j) = absurd (omega (arith, k .sheet .enough, k .long))
 trees-on g w {one = one} {two = two} D p q (Trees.showing h x) (Trees.showing k y) = (filled-same p q h k, shown-settled g w one two D x y)

@@ -20,9 +20,9 @@ use Rattle.derivation.specs.Written.{places, Written}
 use Rattle.sheets.specs.declared.Fault.the-variants as Fault
 use Rattle.teplonga.specs.declared.Answer.the-variants as Answer
 use Rattle.teplonga.specs.Counted.{counted}
-use Rattle.teplonga.specs.Trees.{reply, Shown, treeless, single, both, large-one, large-two, TreesOn, short}
+use Rattle.teplonga.specs.Trees.{treesReplyOf, Shown, treeless, single, both, large-one, large-two, TreesOn, short}
 
-pub too-few : (g : Rules) (w : Word) (n : ℕ) (ws one two : List ℕ) → length w ≡ n → length ws < 2 * pairs n → TreesOn g w ws ws one one two two (reply (Answer.Refused Fault.FewWords) 0 0 0)
+pub too-few : (g : Rules) (w : Word) (n : ℕ) (ws one two : List ℕ) → length w ≡ n → length ws < 2 * pairs n → TreesOn g w ws ws one one two two (treesReplyOf (Answer.Refused Fault.FewWords) 0 0 0)
 too-few g w n ws one two e h = short (omega (arith, ap pairs e)) refl refl refl refl refl
 
 module _ (g : Rules) (w : Word) where

@@ -10,10 +10,10 @@ use Rattle.grammar.specs.declared.Rule.{Rule}
 use Rattle.grammar.specs.Trees.{Rules}
 use Rattle.grammar.specs.SpanSheet.{pairs}
 use Rattle.grammar.specs.Candidates.{sentence}
-use Rattle.grammar.specs.Sweeps.{FirstTwo, Clear, Answer, found, terminalCount, arrangements}
+use Rattle.grammar.specs.Sweeps.{FirstTwo, Clear, SweepAnswer, found, terminalCount, arrangements}
 use Rattle.grammar.specs.Sweeps as Sweeps
 use Rattle.grammar.proofs.SweepLaws.{answer-unique}
-use Rattle.counting.specs.Counts.{Counts}
+use Rattle.counting.specs.Counts.{HowMany}
 use Rattle.counting.proofs.CountLaws.{counts-unique}
 use Rattle.sweeping.specs.Swept.{TriedBy}
 use Rattle.sheets.specs.declared.Fault.{Fault}
@@ -22,7 +22,7 @@ use Rattle.sheets.specs.Items.{Reading, accepted, refused}
 use Rattle.sheets.specs.RuleSheets.{ruleSheet}
 use Rattle.teplonga.specs.declared.Answer.the-variants as Answer
 use Rattle.teplonga.specs.declared.SweepReply.{SweepReply}
-use Rattle.teplonga.specs.Sweep.{reply, limit, Taken, SweepOn, bound, many, short, clear, two, SweepBy, refusing, reading}
+use Rattle.teplonga.specs.Sweep.{sweepReplyOf, sweepLimit, SweepTaken, SweepOn, bound, many, short, clear, two, SweepBy, refusing, reading}
 use Rattle.sheets.proofs.Numbers.{same-fault}
 
 apart : {o : Reading Rule} {f : Fault} {l : ℕ} {g : Rules} → o ≡ refused f l → o ≡ accepted g → ⊥
@@ -39,8 +39,8 @@ off : {k : ℕ} → (k < 1) ⊎ (7 < k) → 1 ≤ k → k ≤ 7 → ⊥
 off h l u = ⊎-elim (λ x. omega arith) (λ x. omega arith) h
 
 refusal-same : {f f′ : Fault} {a b ws : List ℕ} {r s : SweepReply} (n : ℕ) → numberOf f ≡ n → numberOf f′ ≡ n
-    → r ≡ reply (Answer.Refused f) 0 [] 0 → s ≡ reply (Answer.Refused f′) 0 [] 0 → a ≡ ws → b ≡ ws → (r ≡ s) × (a ≡ b)
-refusal-same {f} {f′} n m o x y h k = (x ∙ ap (λ (z : Fault). reply (Answer.Refused z) 0 [] 0) (same-fault f f′ n m o) ∙ sym y, h ∙ sym k)
+    → r ≡ sweepReplyOf (Answer.Refused f) 0 [] 0 → s ≡ sweepReplyOf (Answer.Refused f′) 0 [] 0 → a ≡ ws → b ≡ ws → (r ≡ s) × (a ≡ b)
+refusal-same {f} {f′} n m o x y h k = (x ∙ ap (λ (z : Fault). sweepReplyOf (Answer.Refused z) 0 [] 0) (same-fault f f′ n m o) ∙ sym y, h ∙ sym k)
 
 never-both : {g : Rules} {k : ℕ} {cs : List Cell} → Clear g k → FirstTwo g k cs → ⊥
 never-both {g} {k} {cs} c f =
@@ -67,7 +67,7 @@ sweep-on g k (short l u m o n x h) (two e c q q′ y i) = absurd (omega (arith, 
 sweep-on g k (clear e c q′ y i) (bound l n x h) = absurd (off l (e .low) (e .high))
 sweep-on g k (clear e c q′ y i) (many l u m n x h) = absurd (omega (arith, m, e .few))
 sweep-on g k (clear e c q′ y i) (short l u m o n x h) = absurd (omega (arith, o, e .enough))
-sweep-on g k (clear d c q′ x h) (clear e b p′ y i) = (x ∙ ap (reply Answer.Clear 0 []) (counts-unique q′ p′) ∙ sym y, h ∙ sym i)
+sweep-on g k (clear d c q′ x h) (clear e b p′ y i) = (x ∙ ap (sweepReplyOf Answer.Clear 0 []) (counts-unique q′ p′) ∙ sym y, h ∙ sym i)
 sweep-on g k (clear d c q′ x h) (two e b o p′ y i) = absurd (never-both c b)
 sweep-on g k (two e c o q′ y i) (bound l n x h) = absurd (off l (e .low) (e .high))
 sweep-on g k (two e c o q′ y i) (many l u m n x h) = absurd (omega (arith, m, e .few))
@@ -76,7 +76,7 @@ sweep-on g k (two e b o p′ y i) (clear d c q′ x h) = absurd (never-both c b)
 sweep-on g k (two {cs = cs} d c o q′ x h) (two {cs = cs′} {m = m′} e b p p′ y i) =
     let q : found cs ≡ found cs′ = answer-unique g k (found cs) (found cs′) c b in
     let w : cs ≡ cs′ = cc in
-    let u = counts-unique q′ (subst (λ (z : List Cell). Counts (TriedBy g k (found z)) m′) (sym w) p′) in
+    let u = counts-unique q′ (subst (λ (z : List Cell). HowMany (TriedBy g k (found z)) m′) (sym w) p′) in
     (x ∙ rw (w, u) (sym y), h ∙ sym i)
 
 pub sweep-settled : {given : Reading Rule} {k : ℕ} {ws a b : List ℕ} {r s : SweepReply} → SweepBy given k ws a r → SweepBy given k ws b s → (r ≡ s) × (a ≡ b)

@@ -17,25 +17,25 @@ use Rattle.sweeping.specs.Swept as Swept
 use Rattle.teplonga.specs.declared.Answer.{Answer}
 use Rattle.teplonga.specs.declared.Answer.the-variants as Answer
 use Rattle.teplonga.specs.declared.SweepReply.{SweepReply}
-use Rattle.teplonga.specs.Sweep.{reply, Taken, SweepOn, clear, two}
+use Rattle.teplonga.specs.Sweep.{sweepReplyOf, SweepTaken, SweepOn, clear, two}
 
 abbrev with : Answer → Sentence → ℕ → SweepReply
 with a s m = record { answer = a; line = 0; sentence = s; tried = m }
 
 -- a sweep that is taken on is bounded
-pub bounded : {g : Rules} {k : ℕ} {ws : List ℕ} → Taken g k ws → Bounded g k
+pub bounded : {g : Rules} {k : ℕ} {ws : List ℕ} → SweepTaken g k ws → Bounded g k
 bounded t = record { low = t .low; high = t .high; few = t .few }
 
-pub swept-clear : {g : Rules} {k m : ℕ} {ws ws′ : List ℕ} (r : Sentence) → Taken g k ws → Swept g k r m → r .count ≡ 0 → ws′ ≡ cleared k ws → SweepOn g k ws ws′ (with Answer.Clear r m)
+pub swept-clear : {g : Rules} {k m : ℕ} {ws ws′ : List ℕ} (r : Sentence) → SweepTaken g k ws → Swept g k r m → r .count ≡ 0 → ws′ ≡ cleared k ws → SweepOn g k ws ws′ (with Answer.Clear r m)
 swept-clear {m = m} r t (Swept.clear c e f q) z h = clear t c q (λ i. with Answer.Clear (record { tokens = f i; count = e i }) m) h
 swept-clear r t (Swept.two f c e d q) z h = absurd (omega (arith, f .low))
 
-pub swept-two : {g : Rules} {k m : ℕ} {ws ws′ : List ℕ} (r : Sentence) → Taken g k ws → Swept g k r m → (r .count ≡ 0 → ⊥) → ws′ ≡ cleared k ws → SweepOn g k ws ws′ (with Answer.Two r m)
+pub swept-two : {g : Rules} {k m : ℕ} {ws ws′ : List ℕ} (r : Sentence) → SweepTaken g k ws → Swept g k r m → (r .count ≡ 0 → ⊥) → ws′ ≡ cleared k ws → SweepOn g k ws ws′ (with Answer.Two r m)
 swept-two r t (Swept.clear c e f q) z h = absurd (z e)
 swept-two {m = m} r t (Swept.two {cs = cs} f c e d q) z h = two t f c q whole h
   where
     n : length cs ≡ length (sentence cs)
     n = sym (sentence-length 1 cs)
 
-    whole : with Answer.Two r m ≡ reply Answer.Two 0 (sentence cs) m
+    whole : with Answer.Two r m ≡ sweepReplyOf Answer.Two 0 (sentence cs) m
     whole = λ i. with Answer.Two (record { tokens = (d ∙ ap (λ (x : ℕ). sentence cs ++ replicate (64 - x) nowhere) n) i; count = (e ∙ n) i }) m

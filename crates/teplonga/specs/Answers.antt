@@ -30,10 +30,10 @@ abbrev pub sheets : List ℕ → List ℕ → Sheets
 sheets rules tokens = withRules (ruleSheet rules) tokens
 
 -- none, one, two: how many valid trees nonterminal 0, the start, has over the word
-abbrev pub Says : Answer → Rules → Word → Type 0
-Says Answer.None g w = NoTree g 0 w
-Says Answer.One g w = OneTree g 0 w
-Says Answer.Two g w = TwoTrees g 0 w
-Says Answer.Clear g w = ⊥
-Says Answer.Given g w = ⊥
-Says (Answer.Refused f) g w = ⊥
+abbrev pub AnswerHolds : Answer → Rules → Word → Type 0
+AnswerHolds Answer.None g w = NoTree g 0 w
+AnswerHolds Answer.One g w = OneTree g 0 w
+AnswerHolds Answer.Two g w = TwoTrees g 0 w
+AnswerHolds Answer.Clear g w = ⊥
+AnswerHolds Answer.Given g w = ⊥
+AnswerHolds (Answer.Refused f) g w = ⊥

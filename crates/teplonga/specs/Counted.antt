@@ -5,11 +5,11 @@ use Rattle.sheets.specs.declared.Fault.the-variants as Fault
 use Rattle.teplonga.specs.declared.Answer.{Answer}
 use Rattle.teplonga.specs.declared.Answer.the-variants as Answer
 use Rattle.teplonga.specs.declared.TreesReply.{TreesReply}
-use Rattle.teplonga.specs.Trees.{reply}
+use Rattle.teplonga.specs.Trees.{treesReplyOf}
 
 abbrev pub byFit : Bool → Answer → Counts → TreesReply
-byFit true a c = reply a 0 (c .first) (c .second)
-byFit false a c = reply (Answer.Refused Fault.FewRows) 0 0 0
+byFit true a c = treesReplyOf a 0 (c .first) (c .second)
+byFit false a c = treesReplyOf (Answer.Refused Fault.FewRows) 0 0 0
 
 abbrev pub counted : Answer → Counts → TreesReply
 counted a c = byFit (c .fits) a c

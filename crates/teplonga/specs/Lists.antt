@@ -4,7 +4,7 @@ use mathlib.Core.Bool.{Bool, true, false}
 use mathlib.Core.List.{List}
 use Prim.Native.Nat.{ℕ}
 use Rattle.lists.specs.declared.Listed.{Listed}
-use Rattle.lists.specs.Lists.{Gives}
+use Rattle.lists.specs.Lists.{GivesList}
 use Rattle.sheets.specs.declared.Fault.{Fault}
 use Rattle.sheets.specs.declared.Fault.the-variants as Fault
 use Rattle.sheets.specs.Refusals.{numberOf}
@@ -19,7 +19,7 @@ listReply a l n = record { answer = a; line = l; count = n }
 pub record ListOn (a : Answer) (bytes : List ℕ) (n : ℕ) (lent lent′ : List ℕ) (r : ListReply) : Type 0 where
   pub fault : Fault
   pub number : numberOf fault ≡ 22
-  pub gives : Gives (listReply a 0) (listReply (Answer.Refused fault) 0 0) bytes n lent lent′ r
+  pub gives : GivesList (listReply a 0) (listReply (Answer.Refused fault) 0 0) bytes n lent lent′ r
 
 -- (inner) the reply on a list that was put
 abbrev pub onFit : Bool → Answer → ℕ → ListReply

@@ -9,7 +9,7 @@ use Rattle.grammar.specs.declared.Rule.{Rule}
 use Rattle.grammar.specs.declared.Sentence.{Sentence}
 use Rattle.candidates.specs.Spelling.{nowhere}
 use Rattle.sweeping.specs.Swept.{cleared, TriedBy}
-use Rattle.counting.specs.Counts.{Counts}
+use Rattle.counting.specs.Counts.{HowMany}
 use Rattle.grammar.specs.Layout.{Word}
 use Rattle.grammar.specs.Trees.{Rules}
 use Rattle.grammar.specs.SpanSheet.{pairs}
@@ -25,51 +25,51 @@ use Rattle.teplonga.specs.declared.Answer.the-variants as Answer
 use Rattle.teplonga.specs.declared.SweepReply.{SweepReply}
 
 -- the answer holds the word, its token places past it are 0, and m candidates were tried
-abbrev pub reply : Answer → ℕ → Word → ℕ → SweepReply
-reply a l w m = record { answer = a; line = l; sentence = record { tokens = w ++ replicate (64 - length w) nowhere; count = length w }; tried = m }
+abbrev pub sweepReplyOf : Answer → ℕ → Word → ℕ → SweepReply
+sweepReplyOf a l w m = record { answer = a; line = l; sentence = record { tokens = w ++ replicate (64 - length w) nowhere; count = length w }; tried = m }
 
 -- the answer's sentence where none was found, and a refusal
-abbrev pub empty : Sentence
-empty = record { tokens = replicate 64 nowhere; count = 0 }
+abbrev pub noSentence : Sentence
+noSentence = record { tokens = replicate 64 nowhere; count = 0 }
 
-abbrev pub refusal : Fault → ℕ → SweepReply
-refusal f l = record { answer = Answer.Refused f; line = l; sentence = empty; tried = 0 }
+abbrev pub sweepRefusal : Fault → ℕ → SweepReply
+sweepRefusal f l = record { answer = Answer.Refused f; line = l; sentence = noSentence; tried = 0 }
 
 -- the most arrangements of the bound's length that a sweep takes on
-abbrev pub limit : ℕ
-limit = 4294967296
+abbrev pub sweepLimit : ℕ
+sweepLimit = 4294967296
 
 -- a sweep that is taken on: 23, 24 and 21 are not given
-pub record Taken (g : Rules) (k : ℕ) (words : List ℕ) : Type 0 where
+pub record SweepTaken (g : Rules) (k : ℕ) (words : List ℕ) : Type 0 where
   pub low : 1 ≤ k
   pub high : k ≤ 7
-  pub few : arrangements (terminalCount g) k ≤ limit
+  pub few : arrangements (terminalCount g) k ≤ sweepLimit
   pub enough : 2 * pairs k ≤ length words
 
 -- the answer on the rules that the sheet gives
 pub data SweepOn (g : Rules) (k : ℕ) (words words′ : List ℕ) (r : SweepReply) : Type 0 where
   -- k not 1 to 7
   bound : {f : Fault} → (k < 1) ⊎ (7 < k) → numberOf f ≡ 23
-      → r ≡ reply (Answer.Refused f) 0 [] 0 → words′ ≡ words → SweepOn g k words words′ r
+      → r ≡ sweepReplyOf (Answer.Refused f) 0 [] 0 → words′ ≡ words → SweepOn g k words words′ r
   -- T^k × 3^(k−1) × k^k above the limit
-  many : {f : Fault} → 1 ≤ k → k ≤ 7 → limit < arrangements (terminalCount g) k → numberOf f ≡ 24
-      → r ≡ reply (Answer.Refused f) 0 [] 0 → words′ ≡ words → SweepOn g k words words′ r
+  many : {f : Fault} → 1 ≤ k → k ≤ 7 → sweepLimit < arrangements (terminalCount g) k → numberOf f ≡ 24
+      → r ≡ sweepReplyOf (Answer.Refused f) 0 [] 0 → words′ ≡ words → SweepOn g k words words′ r
   -- fewer words than the span sheet of k tokens needs
-  short : {f : Fault} → 1 ≤ k → k ≤ 7 → arrangements (terminalCount g) k ≤ limit → length words < 2 * pairs k → numberOf f ≡ 21
-      → r ≡ reply (Answer.Refused f) 0 [] 0 → words′ ≡ words → SweepOn g k words words′ r
+  short : {f : Fault} → 1 ≤ k → k ≤ 7 → arrangements (terminalCount g) k ≤ sweepLimit → length words < 2 * pairs k → numberOf f ≡ 21
+      → r ≡ sweepReplyOf (Answer.Refused f) 0 [] 0 → words′ ≡ words → SweepOn g k words words′ r
   -- clear: no rising sequence of 1 to k tokens, whatever its terminals, lines and columns, has two different valid trees of nonterminal 0;
   -- and all candidates of the lengths that nonterminal 0 can have were tried
-  clear : {m : ℕ} → Taken g k words → Clear g k → Counts (TriedBy g k Sweeps.clear) m
-      → r ≡ reply Answer.Clear 0 [] m → words′ ≡ cleared k words → SweepOn g k words words′ r
+  clear : {m : ℕ} → SweepTaken g k words → Clear g k → HowMany (TriedBy g k Sweeps.clear) m
+      → r ≡ sweepReplyOf Answer.Clear 0 [] m → words′ ≡ cleared k words → SweepOn g k words words′ r
   -- two: the first candidate that has two; no shorter sequence, candidate or not, has two;
   -- and of the candidates of those lengths the ones up to and with it were tried
-  two : {cs : List Cell} {m : ℕ} → Taken g k words → FirstTwo g k cs → Clear g (length cs - 1) → Counts (TriedBy g k (Sweeps.found cs)) m
-      → r ≡ reply Answer.Two 0 (sentence cs) m → words′ ≡ cleared k words → SweepOn g k words words′ r
+  two : {cs : List Cell} {m : ℕ} → SweepTaken g k words → FirstTwo g k cs → Clear g (length cs - 1) → HowMany (TriedBy g k (Sweeps.found cs)) m
+      → r ≡ sweepReplyOf Answer.Two 0 (sentence cs) m → words′ ≡ cleared k words → SweepOn g k words words′ r
 
 -- what a call answers where the sheet with the rules gives this, and what it leaves of the lent words
 pub data SweepBy (given : Reading Rule) (k : ℕ) (words words′ : List ℕ) (r : SweepReply) : Type 0 where
   -- a refused sheet
-  refusing : {f : Fault} {l : ℕ} → given ≡ refused f l → r ≡ reply (Answer.Refused f) l [] 0 → words′ ≡ words → SweepBy given k words words′ r
+  refusing : {f : Fault} {l : ℕ} → given ≡ refused f l → r ≡ sweepReplyOf (Answer.Refused f) l [] 0 → words′ ≡ words → SweepBy given k words words′ r
   reading : {g : Rules} → given ≡ accepted g → SweepOn g k words words′ r → SweepBy given k words words′ r
 
 -- the call on a rule sheet

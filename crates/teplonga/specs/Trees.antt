@@ -16,41 +16,41 @@ use Rattle.teplonga.specs.declared.Answer.{Answer}
 use Rattle.teplonga.specs.declared.Answer.the-variants as Answer
 use Rattle.teplonga.specs.declared.TreesReply.{TreesReply}
 use Rattle.teplonga.specs.Answers.{Sheets, accepted, refused, sheets}
-use Rattle.teplonga.specs.Verdict.{needed, Filled}
+use Rattle.teplonga.specs.Verdict.{needed, SheetFilled}
 
-abbrev pub reply : Answer → ℕ → ℕ → ℕ → TreesReply
-reply a l m n = record { answer = a; line = l; first = m; second = n }
+abbrev pub treesReplyOf : Answer → ℕ → ℕ → ℕ → TreesReply
+treesReplyOf a l m n = record { answer = a; line = l; first = m; second = n }
 
 -- what the answer on an accepted sentence says of its trees, and what stands in both tree memories then
 pub data Shown (g : Rules) (w : Word) (one one′ two two′ : List ℕ) (r : TreesReply) : Type 0 where
   -- none: both memories 0
   treeless : NoTree g 0 w
-      → r ≡ reply Answer.None 0 0 0 → one′ ≡ filled one none → two′ ≡ filled two none → Shown g w one one′ two two′ r
+      → r ≡ treesReplyOf Answer.None 0 0 0 → one′ ≡ filled one none → two′ ≡ filled two none → Shown g w one one′ two two′ r
   -- one: the first tree, and the second memory 0
   single : {t : Tree} → OneTree g 0 w → FirstTree g 0 w t → rowCount t ≤ places one
-      → r ≡ reply Answer.One 0 (rowCount t) 0 → one′ ≡ filled one (some t) → two′ ≡ filled two none → Shown g w one one′ two two′ r
+      → r ≡ treesReplyOf Answer.One 0 (rowCount t) 0 → one′ ≡ filled one (some t) → two′ ≡ filled two none → Shown g w one one′ two two′ r
   -- two: the first and the second tree
   both : {t u : Tree} → TwoTrees g 0 w → FirstTree g 0 w t → SecondTree g 0 w u → rowCount t ≤ places one → rowCount u ≤ places two
-      → r ≡ reply Answer.Two 0 (rowCount t) (rowCount u) → one′ ≡ filled one (some t) → two′ ≡ filled two (some u) → Shown g w one one′ two two′ r
+      → r ≡ treesReplyOf Answer.Two 0 (rowCount t) (rowCount u) → one′ ≡ filled one (some t) → two′ ≡ filled two (some u) → Shown g w one one′ two two′ r
   -- a tree of the answer has more rows than its memory has whole four-byte places: both memories 0
   large-one : {t : Tree} {f : Fault} → OneTree g 0 w → FirstTree g 0 w t → places one < rowCount t → numberOf f ≡ 22
-      → r ≡ reply (Answer.Refused f) 0 0 0 → one′ ≡ filled one none → two′ ≡ filled two none → Shown g w one one′ two two′ r
+      → r ≡ treesReplyOf (Answer.Refused f) 0 0 0 → one′ ≡ filled one none → two′ ≡ filled two none → Shown g w one one′ two two′ r
   large-two : {t u : Tree} {f : Fault} → TwoTrees g 0 w → FirstTree g 0 w t → SecondTree g 0 w u → (places one < rowCount t) ⊎ (places two < rowCount u) → numberOf f ≡ 22
-      → r ≡ reply (Answer.Refused f) 0 0 0 → one′ ≡ filled one none → two′ ≡ filled two none → Shown g w one one′ two two′ r
+      → r ≡ treesReplyOf (Answer.Refused f) 0 0 0 → one′ ≡ filled one none → two′ ≡ filled two none → Shown g w one one′ two two′ r
 
 -- the answer on rules and a word that both sheets give
 pub data TreesOn (g : Rules) (w : Word) (words words′ one one′ two two′ : List ℕ) (r : TreesReply) : Type 0 where
   -- too few words: nothing changes
   short : {f : Fault} → length words < needed w → numberOf f ≡ 21
-      → r ≡ reply (Answer.Refused f) 0 0 0 → words′ ≡ words → one′ ≡ one → two′ ≡ two → TreesOn g w words words′ one one′ two two′ r
+      → r ≡ treesReplyOf (Answer.Refused f) 0 0 0 → words′ ≡ words → one′ ≡ one → two′ ≡ two → TreesOn g w words words′ one one′ two two′ r
   -- otherwise the span sheet is filled, and the trees of the answer are shown, if they fit
-  showing : Filled g w words words′ → Shown g w one one′ two two′ r → TreesOn g w words words′ one one′ two two′ r
+  showing : SheetFilled g w words words′ → Shown g w one one′ two two′ r → TreesOn g w words words′ one one′ two two′ r
 
 -- what a call answers where both sheets give this, and what it leaves of the lent words and of both tree memories
 pub data TreesBy (given : Sheets) (words words′ one one′ two two′ : List ℕ) (r : TreesReply) : Type 0 where
   -- a refused sheet: nothing changes
   refusing : {f : Fault} {l : ℕ} → given ≡ refused f l
-      → r ≡ reply (Answer.Refused f) l 0 0 → words′ ≡ words → one′ ≡ one → two′ ≡ two → TreesBy given words words′ one one′ two two′ r
+      → r ≡ treesReplyOf (Answer.Refused f) l 0 0 → words′ ≡ words → one′ ≡ one → two′ ≡ two → TreesBy given words words′ one one′ two two′ r
   reading : {g : Rules} {w : Word} → given ≡ accepted g w → TreesOn g w words words′ one one′ two two′ r → TreesBy given words words′ one one′ two two′ r
 
 -- the call on a rule sheet and a token sheet

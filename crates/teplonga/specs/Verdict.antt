@@ -11,14 +11,14 @@ use Rattle.sheets.specs.Refusals.{numberOf}
 use Rattle.teplonga.specs.declared.Answer.{Answer}
 use Rattle.teplonga.specs.declared.Answer.the-variants as Answer
 use Rattle.teplonga.specs.declared.Reply.{Reply}
-use Rattle.teplonga.specs.Answers.{Sheets, accepted, refused, sheets, Says}
+use Rattle.teplonga.specs.Answers.{Sheets, accepted, refused, sheets, AnswerHolds}
 
 -- the words that w's span sheet needs
 abbrev pub needed : Word → ℕ
 needed w = 2 * pairs (length w)
 
 -- an accepted call on one sentence leaves its span sheet filled, and words past it never change
-pub record Filled (g : Rules) (w : Word) (words words′ : List ℕ) : Type 0 where
+pub record SheetFilled (g : Rules) (w : Word) (words words′ : List ℕ) : Type 0 where
   pub long : length words′ ≡ length words
   pub sheet : SpanSheet g w words′
   pub past : drop (needed w) words′ ≡ drop (needed w) words
@@ -28,7 +28,7 @@ pub data VerdictOn (g : Rules) (w : Word) (words words′ : List ℕ) (r : Reply
   -- fewer words than the span sheet needs: no word changes
   short : {f : Fault} → length words < needed w → numberOf f ≡ 21 → r ≡ record { answer = Answer.Refused f; line = 0 } → words′ ≡ words → VerdictOn g w words words′ r
   -- none, one or two, and the span sheet filled
-  judging : Says (r .answer) g w → r .line ≡ 0 → Filled g w words words′ → VerdictOn g w words words′ r
+  judging : AnswerHolds (r .answer) g w → r .line ≡ 0 → SheetFilled g w words words′ → VerdictOn g w words words′ r
 
 -- what a call answers where both sheets give this, and what it leaves of the lent words
 pub data VerdictBy (given : Sheets) (words words′ : List ℕ) (r : Reply) : Type 0 where

@@ -274,7 +274,7 @@ pub fn trees(
 
 // The sentence of no tokens.
 pub fn nothing() -> Sentence
-    ensures { λ r. ⌜ r ≡ Sweep.empty ⌝ }
+    ensures { λ r. ⌜ r ≡ Sweep.noSentence ⌝ }
 {
     Sentence {
         tokens: [Token {
@@ -289,7 +289,7 @@ pub fn nothing() -> Sentence
 
 // A refused sweep.
 fn refused_sweep(f: Fault, line: usize) -> SweepReply
-    ensures { λ r. ⌜ r ≡ Sweep.refusal f line ⌝ }
+    ensures { λ r. ⌜ r ≡ Sweep.sweepRefusal f line ⌝ }
 {
     let sentence = nothing();
     SweepReply {
@@ -304,7 +304,7 @@ fn refused_sweep(f: Fault, line: usize) -> SweepReply
 fn taken(g: Grammar, x: Index, k: usize, words: &mut [u64]) -> SweepReply
     requires { ⌜ Formed g ⌝ }
     requires { ⌜ Exact (rulesOf g) x ⌝ }
-    requires { ⌜ Sweep.Taken (rulesOf g) k (now words) ⌝ }
+    requires { ⌜ Sweep.SweepTaken (rulesOf g) k (now words) ⌝ }
     ensures { λ r. ⌜ SweepOn (rulesOf g) k (now (words .entry)) (now (words .exit)) r ⌝ }
 {
     let s = sweep_rules(g, x, k, words);

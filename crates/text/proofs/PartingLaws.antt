@@ -10,27 +10,27 @@ use borrow.Author.Tests.{eq-eqb, ne-eqb}
 use lib.Dec.{eqb}
 use lib.ListN.{length, take, drop, getD}
 use lib.Seq.{take-suc, drop-cons, take-all, drop-length}
-use Rattle.text.specs.Input.{Parts, onto, partsFrom, parts}
+use Rattle.text.specs.Input.{Parts, ontoBefore, partsFrom, parts}
 
 -- bytes put before what is found behind them
 pub ontoAll : List ℕ → Option Parts → Option Parts
 ontoAll [] o = o
-ontoAll (x ∷ u) o = onto x (ontoAll u o)
+ontoAll (x ∷ u) o = ontoBefore x (ontoAll u o)
 
-all-snoc : (u : List ℕ) (x : ℕ) (o : Option Parts) → ontoAll (u ++ (x ∷ [])) o ≡ ontoAll u (onto x o)
+all-snoc : (u : List ℕ) (x : ℕ) (o : Option Parts) → ontoAll (u ++ (x ∷ [])) o ≡ ontoAll u (ontoBefore x o)
 unfolding ontoAll
 all-snoc [] x o = refl
-all-snoc (y ∷ u) x o = ap (onto y) (all-snoc u x o)
+all-snoc (y ∷ u) x o = ap (ontoBefore y) (all-snoc u x o)
 
 all-some : (u v w : List ℕ) → ontoAll u (some (record { before = v; behind = w })) ≡ some (record { before = u ++ v; behind = w })
 unfolding ontoAll
 all-some [] v w = refl
-all-some (y ∷ u) v w = ap (onto y) (all-some u v w)
+all-some (y ∷ u) v w = ap (ontoBefore y) (all-some u v w)
 
 all-none : (u : List ℕ) → ontoAll u none ≡ none
 unfolding ontoAll
 all-none [] = refl
-all-none (y ∷ u) = ap (onto y) (all-none u)
+all-none (y ∷ u) = ap (ontoBefore y) (all-none u)
 
 -- the empty line is looked for from place i on
 pub record Seeking (s : List ℕ) (begins : Bool) (i : ℕ) : Type 0 where
@@ -52,7 +52,7 @@ step s begins i h e k =
       low = omega arith;
       same =
           k .same ∙ ap (λ (l : List ℕ). ontoAll (take i s) (partsFrom begins l)) (drop-cons s i 0 h)
-          ∙ ap (λ (b : Bool). ontoAll (take i s) (cond b (some (record { before = []; behind = drop (suc i) s })) (onto (getD s i 0) (partsFrom (eqb (getD s i 0) 10) (drop (suc i) s))))) e
+          ∙ ap (λ (b : Bool). ontoAll (take i s) (cond b (some (record { before = []; behind = drop (suc i) s })) (ontoBefore (getD s i 0) (partsFrom (eqb (getD s i 0) 10) (drop (suc i) s))))) e
           ∙ sym (all-snoc (take i s) (getD s i 0) (partsFrom (eqb (getD s i 0) 10) (drop (suc i) s)))
           ∙ rw (add-one i, take-suc s i 0 h);
     }
@@ -68,7 +68,7 @@ seeking-line s i h n k = rw (eq-eqb (getD s i 0) 10 n) at (step s false i h refl
 pub seeking-found : (s : List ℕ) (i : ℕ) → i < length s → getD s i 0 ≡ 10 → Seeking s true i → parts s ≡ some (record { before = take i s; behind = drop (i + 1) s })
 seeking-found s i h n k =
     k .same ∙ ap (λ (l : List ℕ). ontoAll (take i s) (partsFrom true l)) (drop-cons s i 0 h)
-    ∙ ap (λ (b : Bool). ontoAll (take i s) (cond b (some (record { before = []; behind = drop (suc i) s })) (onto (getD s i 0) (partsFrom (eqb (getD s i 0) 10) (drop (suc i) s))))) (eq-eqb (getD s i 0) 10 n)
+    ∙ ap (λ (b : Bool). ontoAll (take i s) (cond b (some (record { before = []; behind = drop (suc i) s })) (ontoBefore (getD s i 0) (partsFrom (eqb (getD s i 0) 10) (drop (suc i) s))))) (eq-eqb (getD s i 0) 10 n)
     ∙ all-some (take i s) [] (drop (suc i) s) ∙ rw (append-nil (take i s), add-one i)
 
 pub seeking-end : (s : List ℕ) (begins : Bool) (i : ℕ) → length s ≤ i → Seeking s begins i → parts s ≡ none

@@ -13,14 +13,14 @@ pub record Parts : Type 0 where
   pub before : List ℕ
   pub behind : List ℕ
 
-abbrev pub onto : ℕ → Option Parts → Option Parts
-onto x (some p) = some (record { before = x ∷ p .before; behind = p .behind })
-onto x none = none
+abbrev pub ontoBefore : ℕ → Option Parts → Option Parts
+ontoBefore x (some p) = some (record { before = x ∷ p .before; behind = p .behind })
+ontoBefore x none = none
 
 -- `begins` says that a line begins here
 abbrev pub partsFrom : Bool → List ℕ → Option Parts
 partsFrom begins [] = none
-partsFrom begins (x ∷ s) = cond (begins && eqb x 10) (some (record { before = []; behind = s })) (onto x (partsFrom (eqb x 10) s))
+partsFrom begins (x ∷ s) = cond (begins && eqb x 10) (some (record { before = []; behind = s })) (ontoBefore x (partsFrom (eqb x 10) s))
 
 -- the first empty line parts the input
 abbrev pub parts : List ℕ → Option Parts

@@ -6,7 +6,7 @@ use native.Mathlib.Nat.{add-zero}
 use native.Mathlib.Omega.{arith}
 use lib.ListN.{length, take, drop, getD, length-drop}
 use lib.Seq.{take-add, length-take-le, getD-drop}
-use Rattle.lists.specs.Lists.{bytesOf, Gives, fits, large}
+use Rattle.lists.specs.Lists.{bytesOf, GivesList, fits, large}
 use Rattle.lists.proofs.Entries.{bytes-length}
 use Rattle.places.specs.Places.{Entry, entryBytes}
 use Rattle.call_places.specs.declared.PlacesReply.{PlacesReply}
@@ -50,7 +50,7 @@ counted : {r s : PlacesReply} {m : ℕ} → r ≡ s → 3 * s .count ≤ m → 3
 counted e h = omega (arith, ap (λ (x : PlacesReply). x .count) e)
 
 given-few : {given : ℕ → PlacesReply} {refused : PlacesReply} (es : List Entry) {lent lent′ : List ℕ} {r : PlacesReply} → ((n : ℕ) → given n .count ≡ n) → refused .count ≡ 0
-    → Gives given refused (bytesOf entryBytes es) (length es) lent lent′ r → 3 * r .count ≤ length lent
+    → GivesList given refused (bytesOf entryBytes es) (length es) lent lent′ r → 3 * r .count ≤ length lent
 given-few es g n (fits h e p) = counted e (omega (arith, g (length es), bytes-length entryBytes 3 (λ a. refl) es))
 given-few es g n (large h e p) = counted e (omega (arith, n))
 

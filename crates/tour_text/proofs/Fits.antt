@@ -12,7 +12,7 @@ use Rattle.teplonga.proofs.ListSettled.{count-of, list-count}
 use Rattle.text.proofs.Fits.{Fits, counted}
 use Rattle.call_tours.specs.Show.{ShownTo, treeless, single, both, large-one, large-two, ShowOn, short, showing, ShowOf}
 use Rattle.call_tours.specs.Show as Show
-use Rattle.call_tours.specs.Change.{Done, unfit, given, ChangeOn, barred, allowed, ChangeOf}
+use Rattle.call_tours.specs.Change.{ChangeDone, unfit, given, ChangeOn, barred, allowed, ChangeOf}
 use Rattle.call_tours.specs.Change as Change
 
 shown-fits : {sees : View} {g : Rules} {w : Word} {one one′ two two′ : List ℕ} {r : TreesReply} → ShownTo sees g w one one′ two two′ r → Fits one two r
@@ -32,7 +32,7 @@ show-fit (Show.refusing e x h i j) = counted x (record { first = omega arith; se
 show-fit (Show.barring e f x h i j) = counted x (record { first = omega arith; second = omega arith })
 show-fit (Show.reading e f s) = on-fits s
 
-done-count : {rules : List ℕ} {p : ℕ} {lay bytes bytes′ : List ℕ} {r : ListReply} → Done rules p lay bytes bytes′ r → r .count ≤ length bytes
+done-count : {rules : List ℕ} {p : ℕ} {lay bytes bytes′ : List ℕ} {r : ListReply} → ChangeDone rules p lay bytes bytes′ r → r .count ≤ length bytes
 done-count (unfit e x h) = count-of x (omega arith)
 done-count (given e l) = list-count l
 

@@ -18,5 +18,5 @@ pub data ShowText (rules tokens rights : List ℕ) (user : ℕ) (text : List ℕ
 
 -- the answer and its line, then the bytes of the sheet that is given; bytes enough for a sheet of 16,384 bytes with a longer mark are lent
 pub data ChangeText (rules rights : List ℕ) (user rule : ℕ) (lay text : List ℕ) : Type 0 where
-  changed : {out out′ : List ℕ} {r : ListReply} → length out ≡ 16400 → ChangeOf rules rights user rule lay out out′ r
+  changing : {out out′ : List ℕ} {r : ListReply} → length out ≡ 16400 → ChangeOf rules rights user rule lay out out′ r
       → text ≡ head (answerText (r .answer)) (r .line) ++ take (r .count) out′ → ChangeText rules rights user rule lay text

@@ -13,7 +13,7 @@ use Rattle.grammar.specs.declared.Token.{Token}
 use Rattle.grammar.specs.declared.Cell.{Cell}
 use Rattle.grammar.specs.Layout.{Word, line, col, width, Every}
 use Rattle.grammar.specs.Trees.{Rules, TwoTrees, HasAtom}
-use Rattle.grammar.specs.Candidates.{After, RisingFrom, Rising, token, placed, sentence, Candidate, Before}
+use Rattle.grammar.specs.Candidates.{After, RisingFrom, Rising, token, placed, sentence, Candidate, CellsBefore}
 use Rattle.grammar.proofs.SweepLaws.{cell-path}
 use Rattle.grammar.proofs.Transfer.{Alike, two-keeps}
 use Rattle.candidates.specs.Terminals.{Among}
@@ -145,7 +145,7 @@ recell-fit Q n m p y q [] h f = tt
 recell-fit Q n m p y zero (c ∷ cs) h f = (record { ranged = record { terminal = h; step = f .0 .ranged .step; low = f .0 .ranged .low; high = f .0 .ranged .high }; after = f .0 .after }, f .1)
 recell-fit Q n m p y (suc q) (c ∷ cs) h f = (f .0, recell-fit Q n 2 (c .column) y q cs h (f .1))
 
-recell-before : (x y q : ℕ) (cs : List Cell) → y < x → TerminalAt x q cs → Before (recell y q cs) cs
+recell-before : (x y q : ℕ) (cs : List Cell) → y < x → TerminalAt x q cs → CellsBefore (recell y q cs) cs
 recell-before x y q [] h t = absurd t
 recell-before x y zero (c ∷ cs) h t = inl (inl (omega arith))
 recell-before x y (suc q) (c ∷ cs) h t = inr (refl, recell-before x y q cs h t)

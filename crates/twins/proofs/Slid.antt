@@ -10,7 +10,7 @@ use Rattle.grammar.specs.declared.Token.{Token}
 use Rattle.grammar.specs.declared.Cell.{Cell}
 use Rattle.grammar.specs.Layout.{line, col, Every}
 use Rattle.grammar.specs.Trees.{Rules, TwoTrees}
-use Rattle.grammar.specs.Candidates.{placed, sentence, Candidate, Before}
+use Rattle.grammar.specs.Candidates.{placed, sentence, Candidate, CellsBefore}
 use Rattle.grammar.proofs.SweepLaws.{cell-path}
 use Rattle.grammar.proofs.Transfer.{Alike, same-atoms, two-keeps}
 use Rattle.candidates.specs.Terminals.{Among}
@@ -135,11 +135,11 @@ module _ (k d : ℕ) where
   slide-kept (suc p) (c ∷ cs) f s =
       ap₂ _∷_ (cell-path refl refl (⊎-elim (λ a. a .0) (λ o. ⊎-elim (λ a. absurd (s .0 (a .1) (a .2))) (λ a. a .0) o) (goes k d (c .column) (f .0)))) (slide-kept p cs (f .1) (s .1))
 
-  slide-before : (p : ℕ) (cs : List Cell) → Free k cs → k < d → At (λ c. c .column ≡ d) p cs → Before (slide cs) cs
+  slide-before : (p : ℕ) (cs : List Cell) → Free k cs → k < d → At (λ c. c .column ≡ d) p cs → CellsBefore (slide cs) cs
   slide-before p [] f h t = absurd t
   slide-before p (c ∷ cs) f h t = go (goes k d (c .column) (f .0)) p t (λ q u. slide-before q cs (f .1) h u)
     where
-      go : Goes k d (c .column) (back k d (c .column)) → (p : ℕ) → At (λ c. c .column ≡ d) p (c ∷ cs) → ((q : ℕ) → At (λ c. c .column ≡ d) q cs → Before (slide cs) cs) → Before (slide (c ∷ cs)) (c ∷ cs)
+      go : Goes k d (c .column) (back k d (c .column)) → (p : ℕ) → At (λ c. c .column ≡ d) p (c ∷ cs) → ((q : ℕ) → At (λ c. c .column ≡ d) q cs → CellsBefore (slide cs) cs) → CellsBefore (slide (c ∷ cs)) (c ∷ cs)
       go (inr (inl a)) p t ih = inl (inr (inr (refl, refl, omega (arith, a .0, a .1))))
       go (inl a) zero t ih = absurd (omega (arith, a .1))
       go (inr (inr a)) zero t ih = absurd (omega (arith, a .2))

@@ -6,7 +6,7 @@ use mathlib.Core.List.{List, [], _∷_}
 use Prim.Native.Nat.{ℕ, zero, suc, _+_}
 use Rattle.grammar.specs.declared.Cell.{Cell}
 use Rattle.grammar.specs.Trees.{Rules, TwoTrees}
-use Rattle.grammar.specs.Candidates.{Candidate, Before, sentence}
+use Rattle.grammar.specs.Candidates.{Candidate, CellsBefore, sentence}
 use Rattle.candidates.specs.Terminals.{Among}
 use Rattle.candidates.specs.Succession.{Shares}
 use Rattle.candidates.specs.Skips.{used}
@@ -17,7 +17,7 @@ pub record Twin (g : Rules) (s n p : ℕ) (ds : List Cell) : Type 0 where
   pub cells : List Cell
   pub candidate : Candidate (Among s) n cells
   pub kept : Shares p cells ds
-  pub before : Before cells ds
+  pub before : CellsBefore cells ds
   pub two : TwoTrees g 0 (sentence cells)
 
 -- each candidate that shares cs's first b cells and has two trees has a twin that shares its first p cells

@@ -9,7 +9,7 @@ use lib.ListN.{length, take, drop}
 use Rattle.fields.specs.Pieces.{pieces, fieldsLeft}
 use Rattle.fields.proofs.Pick.{into, skip, miss}
 use Rattle.fields.proofs.Lines.{fields-of}
-use Rattle.call_sheets.specs.CallSheets.{boundStart, showStart, shareStart, changeStart, begins, shareCall, changeCall}
+use Rattle.call_sheets.specs.CallSheets.{boundStart, showStart, shareStart, changeStart, beginsWith, shareCall, changeCall}
 use Rattle.call_sheets.proofs.Laws.{begins-long}
 use Rattle.call_sheets.proofs.numbered_call.Statement.{statement}
 use Rattle.call_sheets.proofs.numbered_call.Tie as tie
@@ -20,37 +20,37 @@ fields-are : (n : ℕ) (s : List ℕ) → n + 1 ≤ length s
 fields-are n s h = fields-of s (record { at = n; end = length s - 1 }) (omega arith) (omega arith)
 
 -- how the sheet begins, and how it does not
-is1 : (c : tie.Then1) → begins boundStart (c .before .before .before .before .args .s .now) ≡ true
+is1 : (c : tie.Then1) → beginsWith boundStart (c .before .before .before .before .args .s .now) ≡ true
 is1 c = sym (c .before .begins .ensures) ∙ c .if1 .taken
 
-no1 : (c : tie.Else1) → begins boundStart (c .before .before .before .before .args .s .now) ≡ false
+no1 : (c : tie.Else1) → beginsWith boundStart (c .before .before .before .before .args .s .now) ≡ false
 no1 c = sym (c .before .begins .ensures) ∙ c .if1 .left
 
 long1 : (c : tie.Then1) → 20 ≤ length (c .before .before .before .before .args .s .now)
 long1 c = begins-long boundStart (c .before .before .before .before .args .s .now) (is1 c)
 
-is2 : (c : tie.Then2) → begins showStart (c .before .before .before .before .before .before .before .args .s .now) ≡ true
+is2 : (c : tie.Then2) → beginsWith showStart (c .before .before .before .before .before .before .before .args .s .now) ≡ true
 is2 c = sym (c .before .begins2 .ensures) ∙ c .if2 .taken
 
-no2 : (c : tie.Else2) → begins showStart (c .before .before .before .before .before .before .before .args .s .now) ≡ false
+no2 : (c : tie.Else2) → beginsWith showStart (c .before .before .before .before .before .before .before .args .s .now) ≡ false
 no2 c = sym (c .before .begins2 .ensures) ∙ c .if2 .left
 
 long2 : (c : tie.Then2) → 16 ≤ length (c .before .before .before .before .before .before .before .args .s .now)
 long2 c = begins-long showStart (c .before .before .before .before .before .before .before .args .s .now) (is2 c)
 
-is3 : (c : tie.Then3) → begins shareStart (c .before .before .before .before .before .before .before .before .before .before .args .s .now) ≡ true
+is3 : (c : tie.Then3) → beginsWith shareStart (c .before .before .before .before .before .before .before .before .before .before .args .s .now) ≡ true
 is3 c = sym (c .before .begins3 .ensures) ∙ c .if3 .taken
 
-no3 : (c : tie.Else3) → begins shareStart (c .before .before .before .before .before .before .before .before .before .before .args .s .now) ≡ false
+no3 : (c : tie.Else3) → beginsWith shareStart (c .before .before .before .before .before .before .before .before .before .before .args .s .now) ≡ false
 no3 c = sym (c .before .begins3 .ensures) ∙ c .if3 .left
 
 long3 : (c : tie.Then3) → 31 ≤ length (c .before .before .before .before .before .before .before .before .before .before .args .s .now)
 long3 c = begins-long shareStart (c .before .before .before .before .before .before .before .before .before .before .args .s .now) (is3 c)
 
-is4 : (c : tie.Then4) → begins changeStart (c .before .before .before .before .before .before .before .before .before .before .before .before .before .args .s .now) ≡ true
+is4 : (c : tie.Then4) → beginsWith changeStart (c .before .before .before .before .before .before .before .before .before .before .before .before .before .args .s .now) ≡ true
 is4 c = sym (c .before .begins4 .ensures) ∙ c .if4 .taken
 
-no4 : (c : tie.Else4) → begins changeStart (c .before .before .before .before .before .before .before .before .before .before .before .before .before .args .s .now) ≡ false
+no4 : (c : tie.Else4) → beginsWith changeStart (c .before .before .before .before .before .before .before .before .before .before .before .before .before .args .s .now) ≡ false
 no4 c = sym (c .before .begins4 .ensures) ∙ c .if4 .left
 
 long4 : (c : tie.Then4) → 27 ≤ length (c .before .before .before .before .before .before .before .before .before .before .before .before .before .args .s .now)

@@ -3,7 +3,7 @@ use borrow.Author.Needs.{needs}
 use mathlib.Core.Path.{subst}
 use Prim.Native.Nat.{ℕ}
 use native.Mathlib.Omega.{arith}
-use Rattle.spans.specs.Changes.{Wrote}
+use Rattle.spans.specs.Changes.{WrotePair}
 use Rattle.spans.proofs.Places.{pairAt-below}
 use Rattle.chart.proofs.close.Statement.{statement}
 use Rattle.chart.proofs.close.Tie as tie
@@ -47,7 +47,7 @@ returns c =
       last = t .saturate .result;
       splits = s .splits .ensures;
       saturated = t .saturate .ensures;
-      wrote = subst (λ (x : ℕ). Wrote (a .words .now) (w .write .last .0) x (t .saturate .result .one) (t .saturate .result .two)) (p .pair-at .ensures) (w .write .ensures);
+      wrote = subst (λ (x : ℕ). WrotePair (a .words .now) (w .write .last .0) x (t .saturate .result .one) (t .saturate .result .two)) (p .pair-at .ensures) (w .write .ensures);
     }
 
 pub close-spec : {M : Type 1} → statement M

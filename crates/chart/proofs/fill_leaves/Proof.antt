@@ -7,16 +7,16 @@ use Rattle.codes.specs.Codes.{decoded}
 use Rattle.grammar.specs.SpanSheet.{pairs}
 use Rattle.marks.specs.Drafts.{drafted}
 use Rattle.marks.proofs.DraftLaws.{drafted-at}
-use Rattle.spans.specs.Changes.{Wrote}
+use Rattle.spans.specs.Changes.{WrotePair}
 use Rattle.spans.proofs.Places.{pairAt-below, pairs-closed}
 use Rattle.grammar.specs.declared.Token.{Token}
 use Rattle.chart.specs.Leaves.{Leaf}
-use Rattle.chart.proofs.SingleLaws.{Written, written-none, written-more, written-all}
+use Rattle.chart.proofs.SingleLaws.{PairsWritten, written-none, written-more, written-all}
 use Rattle.chart.proofs.fill_leaves.Statement.{statement}
 use Rattle.chart.proofs.fill_leaves.Tie as tie
 
 abbrev Inv-loop : tie.InvT-loop
-Inv-loop words₀ codes d n e i₀ words i = Written words₀ words (decoded codes) (drafted d) (d .count) i
+Inv-loop words₀ codes d n e i₀ words i = PairsWritten words₀ words (decoded codes) (drafted d) (d .count) i
 
 abbrev μ-loop : tie.MeasureT-loop
 μ-loop words₀ codes d n e i₀ words i = d .count - i
@@ -66,7 +66,7 @@ loop-again c =
     let at = i .before .loop .i in
     let e = ap (λ (t : Token). t .terminal) (sym (drafted-at d at (i .loop-test .taken))) in
     written-more (i .loop-test .taken) (i .before .loop .inv) (subst (λ (x : ℕ). Leaf (decoded (a .codes .now)) x (l .leaf-pair .result .one) (l .leaf-pair .result .two)) e (l .leaf-pair .ensures))
-    (subst (λ (x : ℕ). Wrote (i .before .loop .words) (w .write2 .last .0) x (l .leaf-pair .result .one) (l .leaf-pair .result .two)) (p .pair-at .ensures) (w .write2 .ensures))
+    (subst (λ (x : ℕ). WrotePair (i .before .loop .words) (w .write2 .last .0) x (l .leaf-pair .result .one) (l .leaf-pair .result .two)) (p .pair-at .ensures) (w .write2 .ensures))
 
 same-length : tie.Need-same-length Inv-loop μ-loop
 same-length c = search needs

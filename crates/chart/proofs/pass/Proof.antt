@@ -8,7 +8,7 @@ use Rattle.codes.specs.Codes.{decoded}
 use Rattle.codes.proofs.Laws.{coded-length, coded-at}
 use Rattle.grammar.specs.declared.Rule.{Rule}
 use Rattle.chart.specs.Tables.{no-rule}
-use Rattle.chart.specs.Passes.{Wide, Pass, pass-none, pass-more}
+use Rattle.chart.specs.Passes.{WholeSide, Pass, pass-none, pass-more}
 use Rattle.chart.proofs.pass.Statement.{statement}
 use Rattle.chart.proofs.pass.Tie as tie
 
@@ -47,7 +47,7 @@ loop-again c =
     let h : i < length (a .codes .now) = omega (arith, l .inv .0, t) in
     let n : l .i ≡ i + 1 = omega (arith, t) in
     let e = coded-at (a .codes .now) no-rule i h in
-    (omega (arith, l .inv .0), pass-more {u = l .u} (subst (λ (x : ℕ). Pass (a .one) (a .two) (a .k) (a .len) (decoded (a .codes .now)) (a .t) x (l .u)) n (l .inv .1)) (subst (λ (r : Rule). Wide (a .one) (a .two) (a .k) (a .len) (r .left) (r .clause) (l .u) (c .try-wide .result)) e (c .try-wide .ensures)))
+    (omega (arith, l .inv .0), pass-more {u = l .u} (subst (λ (x : ℕ). Pass (a .one) (a .two) (a .k) (a .len) (decoded (a .codes .now)) (a .t) x (l .u)) n (l .inv .1)) (subst (λ (r : Rule). WholeSide (a .one) (a .two) (a .k) (a .len) (r .left) (r .clause) (l .u) (c .try-wide .result)) e (c .try-wide .ensures)))
 
 returns : tie.Need-returns Inv-loop μ-loop
 returns c =

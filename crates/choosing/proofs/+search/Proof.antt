@@ -6,11 +6,11 @@ use native.Mathlib.Omega.{arith}
 use lib.ListN.{length, take}
 use Rattle.codes.specs.Codes.{decoded}
 use Rattle.grammar.specs.Trees.{Rules}
-use Rattle.column_ranges.specs.Ranges.{columns, ranged}
+use Rattle.column_ranges.specs.Ranges.{columns, rangesOf}
 use Rattle.column_ranges.proofs.Counting.{range-read, ended-at}
 use Rattle.choosing.specs.Searching.{range}
 use Rattle.choosing.proofs.Placing.{range-ended, put-front}
-use Rattle.choosing.proofs.Choosing.{Turn, searched-read, turn-none, turn-tryable, turn-out, turn-on, turn-all}
+use Rattle.choosing.proofs.Choosing.{ChoosingTurn, searched-read, turn-none, turn-tryable, turn-out, turn-on, turn-all}
 use borrow.Fn.Kinds.{In}
 use borrow.Fn.PlainCycle.{Measures, is, falls, and}
 use Rattle.choosing.proofs.search.Reads as search′
@@ -54,7 +54,7 @@ calls t = (
 )
 
 abbrev search-Inv-loop : search-lts.InvT-loop
-search-Inv-loop codes tokens right i words₀ r n t m found₀ c₀ words found c = Turn (decoded codes) (ranged r) (r .count) right i (take (r .count) tokens) found₀ words₀ words found c
+search-Inv-loop codes tokens right i words₀ r n t m found₀ c₀ words found c = ChoosingTurn (decoded codes) (rangesOf r) (r .count) right i (take (r .count) tokens) found₀ words₀ words found c
 
 abbrev search-μ-loop : search-lts.MeasureT-loop
 search-μ-loop codes tokens right i words₀ r n t m found₀ c₀ words found c = m - c
@@ -120,7 +120,7 @@ search-shut-requires t c κs =
     let long : length (z .args .tokens) ≡ 64 = z .good .1 .1 .0 .1 .0 .1 in
     let q = put-front (z .args .t2) (z .args .tokens) (z .args .i) (c .before .before .before .before .loop .c) (p .0) long h (c .before .before .placed .ensures) (c .before .put .ensures) in
     let ended = range-ended (z .args .t2) (z .args .i) (p .0) h in
-    let few : c .before .before .before .before .loop .c < columns (range (ranged (z .args .t2)) (z .args .i)) = omega (arith, c .before .before .before .loop-test .taken, c .before .before .before .before .before .columns .ensures, ap columns (range-read (z .args .t2) (z .args .i) h)) in
+    let few : c .before .before .before .before .loop .c < columns (range (rangesOf (z .args .t2)) (z .args .i)) = omega (arith, c .before .before .before .loop-test .taken, c .before .before .before .before .before .columns .ensures, ap columns (range-read (z .args .t2) (z .args .i) h)) in
     let l = c .before .before .before .before .loop .inv in
     ((p .0, h, p .1 .1 .1 .low), (p .1 .0, (omega (arith, l .past .long, p .1 .1 .0), turn-tryable (p .0 .whole) h (p .1 .1 .1 .low) (p .1 .1 .1 .placed) ended few q l)))
 
@@ -138,7 +138,7 @@ search-loop-again t c =
     let long : length (z .args .tokens) ≡ 64 = z .good .1 .1 .0 .1 .0 .1 in
     let q = put-front (z .args .t2) (z .args .tokens) (z .args .i) (c .before .before .before .before .before .before .before .before .loop .c) (p .0) long h (c .before .before .before .before .before .before .placed .ensures) (c .before .before .before .before .before .put .ensures) in
     let ended = range-ended (z .args .t2) (z .args .i) (p .0) h in
-    let few : c .before .before .before .before .before .before .before .before .loop .c < columns (range (ranged (z .args .t2)) (z .args .i)) = omega (arith, c .before .before .before .before .before .before .before .loop-test .taken, c .before .before .before .before .before .before .before .before .before .columns .ensures, ap columns (range-read (z .args .t2) (z .args .i) h)) in
+    let few : c .before .before .before .before .before .before .before .before .loop .c < columns (range (rangesOf (z .args .t2)) (z .args .i)) = omega (arith, c .before .before .before .before .before .before .before .loop-test .taken, c .before .before .before .before .before .before .before .before .before .columns .ensures, ap columns (range-read (z .args .t2) (z .args .i) h)) in
     turn-out (p .0 .whole) h (p .1 .1 .1 .low) (p .1 .1 .1 .placed) ended few q (c .before .before .before .before .before .before .before .before .loop .inv) (c .before .before .before .shut .ensures) (c .if2 .taken)
 
 search-add-search : (t : ℕ) → search-lts.Need-add-search (calls t) (search-at t) search′.Post search-Inv-loop search-μ-loop
@@ -171,7 +171,7 @@ search-loop-again-2 t c =
     let long : length (z .args .tokens) ≡ 64 = z .good .1 .1 .0 .1 .0 .1 in
     let q = put-front (z .args .t2) (z .args .tokens) (z .args .i) (c .before .before .before .before .before .before .before .before .before .before .before .before .loop .c) (p .0) long h (c .before .before .before .before .before .before .before .before .before .before .placed .ensures) (c .before .before .before .before .before .before .before .before .before .put .ensures) in
     let ended = range-ended (z .args .t2) (z .args .i) (p .0) h in
-    let few : c .before .before .before .before .before .before .before .before .before .before .before .before .loop .c < columns (range (ranged (z .args .t2)) (z .args .i)) = omega (arith, c .before .before .before .before .before .before .before .before .before .before .before .loop-test .taken, c .before .before .before .before .before .before .before .before .before .before .before .before .before .columns .ensures, ap columns (range-read (z .args .t2) (z .args .i) h)) in
+    let few : c .before .before .before .before .before .before .before .before .before .before .before .before .loop .c < columns (range (rangesOf (z .args .t2)) (z .args .i)) = omega (arith, c .before .before .before .before .before .before .before .before .before .before .before .loop-test .taken, c .before .before .before .before .before .before .before .before .before .before .before .before .before .columns .ensures, ap columns (range-read (z .args .t2) (z .args .i) h)) in
     turn-on (p .0 .whole) h (p .1 .1 .1 .low) (p .1 .1 .1 .placed) ended few q (c .before .before .before .before .before .before .before .before .before .before .before .before .loop .inv) (c .before .before .before .before .before .before .before .shut .ensures) (c .before .before .before .before .if2 .left) (c .before .before .search .ensures)
 
 search-same-length-2 : (t : ℕ) → search-lts.Need-same-length-2 (calls t) (search-at t) search′.Post search-Inv-loop search-μ-loop

@@ -6,7 +6,7 @@ use native.Mathlib.Omega.{arith}
 use Rattle.sets.specs.Says.{Says}
 use Rattle.sets.proofs.Says.{holds, says-iff}
 use Rattle.grammar.specs.Candidates.{After}
-use Rattle.marks.specs.Half.{token}
+use Rattle.marks.specs.Half.{tokenAt}
 use Rattle.sheets.proofs.Accepted.{after-says}
 use Rattle.choosing.proofs.rises.Statement.{statement}
 use Rattle.choosing.proofs.rises.Tie as tie
@@ -46,8 +46,8 @@ comes-after-requires c κs = search needs
 returns-2 : tie.Need-returns-2
 returns-2 c =
     let z = c .before .before .before .before .args in
-    let a = token (z .t1) (z .i - 1) in
-    let b = token (z .t1) (z .i) in
+    let a = tokenAt (z .t1) (z .i - 1) in
+    let b = tokenAt (z .t1) (z .i) in
     says-iff (λ x l. x) (λ f. f (omega (arith, c .before .before .before .if1 .left))) (subst (λ (x : Bool). Says x (After a b)) (sym (c .comes-after .ensures)) (after-says a b))
 
 pub rises-spec : {M : Type 1} → statement M

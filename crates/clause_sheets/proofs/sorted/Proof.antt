@@ -1,6 +1,6 @@
 -- `sorted` meets its contract.
 use Rattle.clauses.specs.Expansion.{rising}
-use Rattle.clause_sheets.specs.Checks.{Taken}
+use Rattle.clause_sheets.specs.Checks.{RulesTaken}
 use Rattle.clause_sheets.proofs.Takes.{taken-none, taken-more, taken-by, rising-step, rising-all}
 use borrow.Author.Needs.{needs}
 use lib.ListN.{take}
@@ -11,7 +11,7 @@ use Rattle.clause_sheets.proofs.sorted.Statement.{statement}
 use Rattle.clause_sheets.proofs.sorted.Tie as tie
 
 abbrev Inv-loop : tie.InvT-loop
-Inv-loop rules n g₀ left₀ g left = (left ≤ 64) × Taken (rising left (take n rules)) g₀ g
+Inv-loop rules n g₀ left₀ g left = (left ≤ 64) × RulesTaken (rising left (take n rules)) g₀ g
 
 abbrev μ-loop : tie.MeasureT-loop
 μ-loop rules n g₀ left₀ g left = 64 - left

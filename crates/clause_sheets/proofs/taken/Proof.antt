@@ -1,7 +1,7 @@
 -- `taken` meets its contract.
 use Rattle.grammar.specs.declared.Clause.the-variants.{Empty}
 use Rattle.clauses.specs.Expansion.{of}
-use Rattle.clause_sheets.specs.Checks.{Taken}
+use Rattle.clause_sheets.specs.Checks.{RulesTaken}
 use Rattle.clause_sheets.proofs.Takes.{taken-none, taken-more, taken-by, taken-all, of-hit, of-miss}
 use borrow.Author.Needs.{needs}
 use lib.ListN.{length, take}
@@ -12,7 +12,7 @@ use Rattle.clause_sheets.proofs.taken.Statement.{statement}
 use Rattle.clause_sheets.proofs.taken.Tie as tie
 
 abbrev Inv-loop : tie.InvT-loop
-Inv-loop n left rules g₀ i₀ g i = (i ≤ n) × Taken (of left (take i rules)) g₀ g
+Inv-loop n left rules g₀ i₀ g i = (i ≤ n) × RulesTaken (of left (take i rules)) g₀ g
 
 abbrev μ-loop : tie.MeasureT-loop
 μ-loop n left rules g₀ i₀ g i = n - i

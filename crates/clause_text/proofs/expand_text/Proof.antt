@@ -5,7 +5,7 @@ use native.Mathlib.Omega.{arith}
 use lib.ListN.{length, length-replicate}
 use lib.Seq.{length-take-le}
 use Rattle.printing.proofs.Writing.{wrote-then}
-use Rattle.clause_text.specs.Texts.{expanded}
+use Rattle.clause_text.specs.Texts.{expanding}
 use Rattle.clause_text.proofs.Fits.{expand-count}
 use borrow.Author.Needs.{needs}
 use Rattle.clause_text.proofs.expand_text.Statement.{statement}
@@ -49,7 +49,7 @@ returns c =
     let h = p .before .before .before .before .before in
     let z = h .before .before .before in
     let long = length-replicate {A = ℕ} 4096 0 in
-    record { text = _; is = expanded long (z .expand .ensures) refl; wrote = wrote-then (h .put-head .ensures .0) (p .put-bytes .ensures) }
+    record { text = _; is = expanding long (z .expand .ensures) refl; wrote = wrote-then (h .put-head .ensures .0) (p .put-bytes .ensures) }
 
 pub expand-text-spec : {M : Type 1} → statement M
 expand-text-spec =

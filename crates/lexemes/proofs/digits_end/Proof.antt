@@ -4,13 +4,13 @@ use mathlib.Core.Path.{_≡_, refl, ap}
 use native.Mathlib.Omega.{arith}
 use borrow.Author.Needs.{needs}
 use lib.ListN.{length, drop}
-use Rattle.lexemes.specs.Lexemes.{digits}
+use Rattle.lexemes.specs.Lexemes.{frontDigits}
 use Rattle.lexemes.proofs.Laws.{digits-over, digits-low, digits-high, digits-more}
 use Rattle.lexemes.proofs.digits_end.Statement.{statement}
 use Rattle.lexemes.proofs.digits_end.Tie as tie
 
 abbrev Inv-loop : tie.InvT-loop
-Inv-loop s at i₀ i = (i ≤ length s) × (at + length (digits (drop at s)) ≡ i + length (digits (drop i s)))
+Inv-loop s at i₀ i = (i ≤ length s) × (at + length (frontDigits (drop at s)) ≡ i + length (frontDigits (drop i s)))
 
 abbrev μ-loop : tie.MeasureT-loop
 μ-loop s at i₀ i = length s - i

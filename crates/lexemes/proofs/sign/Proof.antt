@@ -3,7 +3,7 @@ use mathlib.Core.Path.{_≡_}
 use Prim.Native.Nat.{_≤_}
 use native.Mathlib.Omega.{arith}
 use Rattle.lexemes.specs.Lexemes.{signs}
-use Rattle.lexemes.proofs.Laws.{past}
+use Rattle.lexemes.proofs.Laws.{none-before}
 use Rattle.lexemes.proofs.sign.Statement.{statement}
 use Rattle.lexemes.proofs.sign.Tie as tie
 
@@ -63,8 +63,8 @@ returns-14 : tie.Need-returns-14
 unfolding signs
 returns-14 c =
     let r = c .match .rest in
-    let h : 13 ≤ c .before .args .i = past
-    (past (past (past (past (past (past (past (past (past (past (past (past (omega arith) (r .0 .0 .0 .0 .0 .0 .0 .0 .0 .0 .0 .0 .1)) (r .0 .0 .0 .0 .0 .0 .0 .0 .0 .0 .0 .1)) (r .0 .0 .0 .0 .0 .0 .0 .0 .0 .0 .1)) (r .0 .0 .0 .0 .0 .0 .0 .0 .0 .1)) (r .0 .0 .0 .0 .0 .0 .0 .0 .1)) (r .0 .0 .0 .0 .0 .0 .0 .1)) (r .0 .0 .0 .0 .0 .0 .1)) (r .0 .0 .0 .0 .0 .1)) (r .0 .0 .0 .0 .1)) (r .0 .0 .0 .1)) (r .0 .0 .1)) (r .0 .1)) (r .1) in
+    let h : 13 ≤ c .before .args .i = none-before
+    (none-before (none-before (none-before (none-before (none-before (none-before (none-before (none-before (none-before (none-before (none-before (none-before (omega arith) (r .0 .0 .0 .0 .0 .0 .0 .0 .0 .0 .0 .0 .1)) (r .0 .0 .0 .0 .0 .0 .0 .0 .0 .0 .0 .1)) (r .0 .0 .0 .0 .0 .0 .0 .0 .0 .0 .1)) (r .0 .0 .0 .0 .0 .0 .0 .0 .0 .1)) (r .0 .0 .0 .0 .0 .0 .0 .0 .1)) (r .0 .0 .0 .0 .0 .0 .0 .1)) (r .0 .0 .0 .0 .0 .0 .1)) (r .0 .0 .0 .0 .0 .1)) (r .0 .0 .0 .0 .1)) (r .0 .0 .0 .1)) (r .0 .0 .1)) (r .0 .1)) (r .1) in
     let e : c .before .args .i ≡ 13 = omega arith in
     rw e
 

@@ -7,14 +7,14 @@ use native.Mathlib.Numerals.{add-one}
 use borrow.Author.Needs.{needs}
 use lib.ListN.{drop, length-drop, drop-of-length-le}
 use Rattle.clauses.specs.Text.{opening}
-use Rattle.lexemes.specs.Lexemes.{sign, signs, firstOf, items}
+use Rattle.lexemes.specs.Lexemes.{sign, signs, firstSign, items}
 use Rattle.lexemes.specs.Answers.{asLexed, signAt}
 use Rattle.lexemes.proofs.Laws.{signs-bytes, signs-many, standing-within, search-stands, search-on}
 use Rattle.lexemes.proofs.sign_at.Statement.{statement}
 use Rattle.lexemes.proofs.sign_at.Tie as tie
 
 abbrev Inv-loop : tie.InvT-loop
-Inv-loop s at i₀ i = (i ≤ 14) × (firstOf signs (drop at s) ≡ firstOf (drop i signs) (drop at s))
+Inv-loop s at i₀ i = (i ≤ 14) × (firstSign signs (drop at s) ≡ firstSign (drop i signs) (drop at s))
 
 abbrev μ-loop : tie.MeasureT-loop
 μ-loop s at i₀ i = 14 - i
@@ -68,7 +68,7 @@ returns-2 c =
     let l = c .before .before in
     let a = l .before .before .args in
     let e : drop (l .loop .i) signs ≡ [] = drop-of-length-le signs {i = l .loop .i} (omega (arith, signs-many)) in
-    let g : firstOf signs (drop (a .at) (a .s .now)) ≡ items (drop (a .at) (a .s .now)) = l .loop .inv .1 ∙ rw e refl in
+    let g : firstSign signs (drop (a .at) (a .s .now)) ≡ items (drop (a .at) (a .s .now)) = l .loop .inv .1 ∙ rw e refl in
     c .item-at .ensures ∙ ap (asLexed (a .at)) (sym g)
 
 pub sign-at-spec : {M : Type 1} → statement M

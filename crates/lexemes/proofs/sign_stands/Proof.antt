@@ -4,7 +4,7 @@ use Prim.Native.Nat.{_≤_}
 use native.Mathlib.Omega.{arith}
 use borrow.Author.Needs.{needs}
 use Rattle.lexemes.specs.Lexemes.{signs}
-use Rattle.lexemes.proofs.Laws.{past}
+use Rattle.lexemes.proofs.Laws.{none-before}
 use Rattle.lexemes.proofs.sign_stands.Statement.{statement}
 use Rattle.lexemes.proofs.sign_stands.Tie as tie
 
@@ -148,8 +148,8 @@ returns-14 : tie.Need-returns-14
 unfolding signs
 returns-14 c =
     let r = c .before .before .match .rest in
-    let h : 13 ≤ c .before .before .before .before .args .i = past
-    (past (past (past (past (past (past (past (past (past (past (past (past (omega arith) (r .0 .0 .0 .0 .0 .0 .0 .0 .0 .0 .0 .0 .1)) (r .0 .0 .0 .0 .0 .0 .0 .0 .0 .0 .0 .1)) (r .0 .0 .0 .0 .0 .0 .0 .0 .0 .0 .1)) (r .0 .0 .0 .0 .0 .0 .0 .0 .0 .1)) (r .0 .0 .0 .0 .0 .0 .0 .0 .1)) (r .0 .0 .0 .0 .0 .0 .0 .1)) (r .0 .0 .0 .0 .0 .0 .1)) (r .0 .0 .0 .0 .0 .1)) (r .0 .0 .0 .0 .1)) (r .0 .0 .0 .1)) (r .0 .0 .1)) (r .0 .1)) (r .1) in
+    let h : 13 ≤ c .before .before .before .before .args .i = none-before
+    (none-before (none-before (none-before (none-before (none-before (none-before (none-before (none-before (none-before (none-before (none-before (none-before (omega arith) (r .0 .0 .0 .0 .0 .0 .0 .0 .0 .0 .0 .0 .1)) (r .0 .0 .0 .0 .0 .0 .0 .0 .0 .0 .0 .1)) (r .0 .0 .0 .0 .0 .0 .0 .0 .0 .0 .1)) (r .0 .0 .0 .0 .0 .0 .0 .0 .0 .1)) (r .0 .0 .0 .0 .0 .0 .0 .0 .1)) (r .0 .0 .0 .0 .0 .0 .0 .1)) (r .0 .0 .0 .0 .0 .0 .1)) (r .0 .0 .0 .0 .0 .1)) (r .0 .0 .0 .0 .1)) (r .0 .0 .0 .1)) (r .0 .0 .1)) (r .0 .1)) (r .1) in
     let e : c .before .before .before .before .args .i ≡ 13 = omega arith in
     rw e (c .stands14 .ensures)
 

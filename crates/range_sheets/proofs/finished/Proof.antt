@@ -4,7 +4,7 @@ use native.Mathlib.Omega.{arith}
 use Prim.Native.Nat.{ℕ, _≤_}
 use Rattle.sheets.specs.Items.{Reading}
 use Rattle.column_ranges.specs.declared.RangeToken.{RangeToken}
-use Rattle.column_ranges.specs.Ranges.{choices, limit, ranged}
+use Rattle.column_ranges.specs.Ranges.{choiceCount, choiceLimit, rangesOf}
 use Rattle.range_sheets.specs.Promises.{RangesRead}
 use Rattle.range_sheets.proofs.Accepted.{counted-few, counted-many, not-refused}
 use borrow.Author.Needs.{needs}
@@ -18,15 +18,15 @@ refuse-ranges-requires : tie.Need-refuse-ranges-requires
 refuse-ranges-requires c κs = search needs
 
 returns : tie.Need-returns
-returns c = subst (λ (x : Reading RangeToken). RangesRead (c .refuse-ranges .result) x) (sym (counted-many (ranged (record { tokens = c .before .before .before .args .tokens; count = c .before .before .before .args .n })) (c .before .before .count .ensures .over (omega (arith, c .before .if1 .taken))))) (c .refuse-ranges .ensures)
+returns c = subst (λ (x : Reading RangeToken). RangesRead (c .refuse-ranges .result) x) (sym (counted-many (rangesOf (record { tokens = c .before .before .before .args .tokens; count = c .before .before .before .args .n })) (c .before .before .count .ensures .over (omega (arith, c .before .if1 .taken))))) (c .refuse-ranges .ensures)
 
 returns-2 : tie.Need-returns-2
 returns-2 c =
     let z = c .before .before in
     let e = c .before .count .ensures .exact (omega (arith, c .if1 .left)) in
-    let h : choices (ranged (record { tokens = z .args .tokens; count = z .args .n })) ≤ limit = omega (arith, e, c .if1 .left) in
+    let h : choiceCount (rangesOf (record { tokens = z .args .tokens; count = z .args .n })) ≤ choiceLimit = omega (arith, e, c .if1 .left) in
     record {
-      is = sym (counted-few (ranged (record { tokens = z .args .tokens; count = z .args .n })) h);
+      is = sym (counted-few (rangesOf (record { tokens = z .args .tokens; count = z .args .n })) h);
       spread = λ q. z .pre;
       few = λ q. h;
       none = λ f l q. absurd (not-refused q);

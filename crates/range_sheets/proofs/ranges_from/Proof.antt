@@ -11,7 +11,7 @@ use Rattle.lines.specs.Turns.{turnOf}
 use Rattle.range_sheets.specs.declared.RangeStep.{RangeStep}
 use Rattle.sheets.specs.declared.Fault.the-variants as Fault
 use Rattle.sheets.specs.Items.{stepAt}
-use Rattle.range_sheets.specs.RangeSheets.{rangeSays, counted}
+use Rattle.range_sheets.specs.RangeSheets.{rangeSays, fewChoices}
 use Rattle.range_sheets.specs.Promises.{asRangeStep}
 use Rattle.sheets.proofs.Loop.{Filled, line-in, count, took, moved, turned, stopped, ended}
 use Rattle.range_sheets.proofs.Accepted.{ranges-ended}

@@ -11,7 +11,7 @@ use Rattle.grammar.specs.SpanSheet.{part, pairs}
 use Rattle.sets.specs.Sets.{In}
 use Rattle.grammar.specs.SpanSheet.{secondWord}
 use Rattle.rows.specs.declared.Step.{Step}
-use Rattle.derivation.specs.Picks.{Chosen}
+use Rattle.derivation.specs.Picks.{PickedStep}
 use Rattle.row_counts.specs.declared.Way.{Way}
 use Rattle.row_counts.specs.Seconds.{Onward}
 use Rattle.row_counts.proofs.CappedLaws.{capped-le}
@@ -31,7 +31,7 @@ abbrev μ-loop : tie.MeasureT-loop
 
 -- what the way is for
 way : (z : tie.Start Inv-loop μ-loop) (b i l total : ℕ) (v : SecondGoing (rules (z .args .g)) (spelled (z .args .s)) b i l total) (st : Step)
-    → Chosen (rules (z .args .g)) b (part (spelled (z .args .s)) i l) true st → st .seeking ≡ true
+    → PickedStep (rules (z .args .g)) b (part (spelled (z .args .s)) i l) true st → st .seeking ≡ true
     → (d : Way) → Onward (In (secondWord (z .args .words .now) (z .args .s .count) i (st .split)) (st .first)) (st .kind) (st .first) (st .second) (st .split) i
     l d
     → Onway (rules (z .args .g)) (spelled (z .args .s)) (rowCount (v .wanted .tree)) total d

@@ -10,14 +10,14 @@ use Rattle.spans.specs.Changes.{Past}
 use Rattle.spans.proofs.ChangeLaws.{past-same, past-then}
 use Rattle.candidates.specs.Arrays.{cells}
 use Rattle.candidates.proofs.Measure.{left}
-use Rattle.share_search.specs.Searching.{hit, miss, Turn}
+use Rattle.share_search.specs.Searching.{hit, miss, ShareTurn}
 use Rattle.share_search.proofs.Turns.{over, at-end}
 use Rattle.share_search.proofs.Looking.{turn-first, turn-next, turn-more, next-falls, hit-of}
 use Rattle.share_search.proofs.search.Statement.{statement}
 use Rattle.share_search.proofs.search.Tie as tie
 
 abbrev Inv-loop : tie.InvT-loop
-Inv-loop codes set kept table low n start end words₀ c₀ b₀ words c b = Turn (decoded codes) set n start b (cells c 0 n) × Past (2 * pairs n) words₀ words
+Inv-loop codes set kept table low n start end words₀ c₀ b₀ words c b = ShareTurn (decoded codes) set n start b (cells c 0 n) × Past (2 * pairs n) words₀ words
 
 abbrev μ-loop : tie.MeasureT-loop
 μ-loop codes set kept table low n start end words₀ c₀ b₀ words c b = left (cells c 0 n) * 8 + (n - b)

@@ -11,7 +11,7 @@ use Rattle.spans.specs.Changes.{Past}
 use Rattle.spans.proofs.ChangeLaws.{past-same, past-then}
 use Rattle.candidates.specs.Arrays.{cells}
 use Rattle.candidates.proofs.Measure.{left}
-use Rattle.sweeping.specs.Searching.{NoneShorter, hit, miss, Turn}
+use Rattle.sweeping.specs.Searching.{NoneShorter, hit, miss, SweepTurn}
 use Rattle.sweeping.proofs.Turns.{none-yet, longer, passed-over}
 use Rattle.sweeping.proofs.Looking.{turn-first, turn-next, turn-more, ruled-out, next-falls, pairs-mono, past-longer}
 use Rattle.sweeping.proofs.Answers.{none-left}
@@ -19,7 +19,7 @@ use Rattle.sweeping.proofs.search.Statement.{statement}
 use Rattle.sweeping.proofs.search.Tie as tie
 
 abbrev Inv-loop : tie.InvT-loop
-Inv-loop codes set table low lengths k words₀ n c₀ b₀ words c b = Turn (decoded codes) set n b (cells c 0 n) × Past (2 * pairs k) words₀ words
+Inv-loop codes set table low lengths k words₀ n c₀ b₀ words c b = SweepTurn (decoded codes) set n b (cells c 0 n) × Past (2 * pairs k) words₀ words
 
 abbrev μ-loop : tie.MeasureT-loop
 μ-loop codes set table low lengths k words₀ n c₀ b₀ words c b = left (cells c 0 n) * 8 + (n - b)

@@ -5,7 +5,7 @@ use native.Mathlib.Omega.{arith}
 use lib.ListN.{length, length-replicate}
 use lib.Seq.{length-take-le}
 use Rattle.printing.proofs.Writing.{wrote-then}
-use Rattle.tour_text.specs.Texts.{changed}
+use Rattle.tour_text.specs.Texts.{changing}
 use Rattle.tour_text.proofs.Fits.{change-count}
 use borrow.Author.Needs.{needs}
 use Rattle.tour_text.proofs.change_text.Statement.{statement}
@@ -49,7 +49,7 @@ returns c =
     let h = p .before .before .before .before .before in
     let z = h .before .before .before in
     let long = length-replicate {A = ℕ} 16400 0 in
-    record { text = _; is = changed long (z .change .ensures) refl; wrote = wrote-then (h .put-head .ensures .0) (p .put-bytes .ensures) }
+    record { text = _; is = changing long (z .change .ensures) refl; wrote = wrote-then (h .put-head .ensures .0) (p .put-bytes .ensures) }
 
 pub change-text-spec : {M : Type 1} → statement M
 change-text-spec =
