@@ -8,7 +8,7 @@ use native.Mathlib.Nat.{le-refl}
 use native.Mathlib.Omega.{arith}
 use native.Mathlib.Decide.{ℕ-discrete}
 use lib.ListN.{length, getD, getElem?, take}
-use Rattle.sets.specs.Sets.{In, insert}
+use Rattle.sets.specs.Sets.{In}
 use Rattle.sets.proofs.Sets.{insert-same, insert-keeps, insert-only, insert-ge}
 use Rattle.grammar.specs.declared.Rule.{Rule}
 use Rattle.grammar.specs.declared.Grammar.{Grammar}
@@ -18,6 +18,7 @@ use Rattle.grammar.proofs.Lists.{mem-every}
 use Rattle.grammar.proofs.ChoiceLaws.{member-at, place-of}
 use Rattle.grammar.proofs.ByKind.{getElem?-lt}
 use Rattle.acyclic.specs.Passes.{Grown, Passed}
+use Rattle.sets.specs.Insertion.{insert}
 
 -- nothing is added
 pub grown-none : {P : ℕ → Type 0} {s : ℕ} → ((Y : ℕ) → P Y → In s Y) → Grown P s s

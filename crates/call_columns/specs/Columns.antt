@@ -13,10 +13,10 @@ use Rattle.sheets.specs.RuleSheets.{ruleSheet}
 use Rattle.column_ranges.specs.Ranges.{Ranges}
 use Rattle.choosing.specs.declared.Flags.{Flags}
 use Rattle.choosing.specs.Answers.{FlagsSay}
-use Rattle.sweeping.specs.Swept.{cleared}
 use Rattle.teplonga.specs.declared.Answer.the-variants as Answer
 use Rattle.call_columns.specs.declared.ColumnsReply.{ColumnsReply}
 use Rattle.range_sheets.specs.RangeSheets.{rangeSheet}
+use Rattle.sweeping.specs.Cleared.{cleared}
 
 -- no for each verdict
 abbrev pub no-flags : Flags

@@ -11,8 +11,8 @@ use spans::size;
 use teplonga::Answer;
 ghost use mathlib.Core.Path.{_≡_};
 ghost use Rattle.grammar.specs.Content.{rules as rulesOf, Formed};
-ghost use Rattle.column_ranges.specs.Ranges.{rangesOf, Spread};
 ghost use Rattle.call_columns.specs.Columns.{columnsRefusal, ColumnsOn, ColumnsOf};
+ghost use Rattle.column_ranges.specs.RangeSentences.{rangesOf, Spread};
 
 // Given, or refused with the refused line's number, or 0; and of each verdict: does some rising choice give it? On a refusal
 // all three are no.

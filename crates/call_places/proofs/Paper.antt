@@ -7,7 +7,6 @@ use native.Mathlib.Omega.{arith}
 use lib.ListN.{length}
 use Rattle.grammar.specs.Layout.{Word}
 use Rattle.grammar.specs.Trees.{Rules, TwoTrees}
-use Rattle.grammar.specs.Choices.{Distinct}
 use Rattle.grammar.specs.Rows.{startOf}
 use Rattle.grammar.specs.SpanSheet.{part}
 use Rattle.grammar.proofs.Lists.{mem-every}
@@ -27,6 +26,7 @@ use Rattle.sheets.specs.TokenSheets.{tokenSheet}
 use Rattle.sheets.proofs.Accepted.{GoodTokens, tokens-good}
 use Rattle.teplonga.specs.Answers.{accepted, withTokens, withRules, sheets, AnswerHolds}
 use Rattle.teplonga.proofs.Settled.{apart, sheets-apart}
+use Rattle.grammar.specs.Distinct.{Distinct}
 
 -- the list is empty exactly if the verdict is not two
 pub count-two : (g : Rules) (w : Word) (a : Answer) (es : List Entry) → Distinct g → AnswerHolds a g w → AllPlaces g w es → (length es ≡ 0) ↔ (a ≡ Answer.Two → ⊥)

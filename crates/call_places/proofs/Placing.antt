@@ -7,7 +7,6 @@ use native.Mathlib.Nat.{mul-le-mul-right}
 use lib.ListN.{length}
 use Rattle.grammar.specs.Layout.{Word}
 use Rattle.grammar.specs.Trees.{Rules, TwoTrees}
-use Rattle.grammar.specs.Choices.{Distinct}
 use Rattle.grammar.specs.SpanSheet.{pairs}
 use Rattle.lists.specs.declared.Listed.{Listed}
 use Rattle.lists.proofs.Settled.{gives-map}
@@ -20,6 +19,7 @@ use Rattle.teplonga.specs.Verdict.{SheetFilled}
 use Rattle.call_places.specs.declared.PlacesReply.{PlacesReply}
 use Rattle.call_places.specs.Places.{placesRefusal, PlacesOn, short, listing}
 use Rattle.call_places.specs.Replies.{NothingGiven, replied}
+use Rattle.grammar.specs.Distinct.{Distinct}
 
 -- 64 tokens have 2,081 pairs
 pub pairs-most : (n : ℕ) → n ≤ 64 → pairs n ≤ 2081

@@ -16,11 +16,12 @@ use spans::size;
 use teplonga::Answer;
 ghost use mathlib.Core.Path.{_≡_};
 ghost use Rattle.grammar.specs.Trees.{TwoTrees};
-ghost use Rattle.grammar.specs.Content.{rules as rulesOf, spelled, Formed, Positioned};
+ghost use Rattle.grammar.specs.Content.{rules as rulesOf, Formed, Positioned};
 ghost use Rattle.grammar.specs.SpanSheet.{SpanSheet};
 ghost use Rattle.place_list.specs.Given.{PlacesGiven};
 ghost use Rattle.call_places.specs.Places.{placesRefusal, PlacesOn, PlacesOf};
 ghost use Rattle.call_places.specs.Replies.{NothingGiven, replied};
+ghost use Rattle.grammar.specs.Sentences.{spelled};
 
 // The verdict, with the refused line's number, or 0, and the list's number of entries.
 pub struct PlacesReply {

@@ -7,7 +7,7 @@ use native.Mathlib.Omega.{arith}
 use lib.ListN.{length}
 use Rattle.grammar.specs.Layout.{Word}
 use Rattle.grammar.specs.Trees.{Tree, Rules}
-use Rattle.grammar.specs.Choices.{FirstTree, SecondTree, Distinct}
+use Rattle.grammar.specs.Choices.{FirstTree, SecondTree}
 use Rattle.grammar.specs.Rows.{rowCount}
 use Rattle.grammar.proofs.ChoiceLaws.{first-unique, second-tree-unique}
 use Rattle.grammar.proofs.VerdictLaws.{none-not-one, none-not-two, one-not-two}
@@ -27,6 +27,7 @@ use Rattle.row_counts.specs.declared.RowCount.the-variants as RowCount
 use Rattle.row_counts.specs.RowCounts.{Counted, treeless, single, both, Tells}
 use Rattle.call_rows.specs.declared.RowsReply.{RowsReply}
 use Rattle.call_rows.specs.Rows.{RowsOn, short, counting, RowsOf, refusing, reading}
+use Rattle.grammar.specs.Distinct.{Distinct}
 
 -- refusal 22: a tree of the answer has more rows than its memory has places
 pub record NoRoom (r : TreesReply) : Type 0 where

@@ -5,7 +5,6 @@ use Prim.Native.Nat.{ℕ}
 use native.Mathlib.Omega.{arith}
 use Rattle.grammar.specs.Layout.{Word}
 use Rattle.grammar.specs.Trees.{Rules}
-use Rattle.grammar.specs.Choices.{Distinct}
 use Rattle.sheets.specs.declared.Fault.{Fault}
 use Rattle.sheets.proofs.Numbers.{same-fault}
 use Rattle.teplonga.proofs.Settled.{Words, says-one, filled-same, apart, same-sheets, same-refusal, sheets-apart}
@@ -13,6 +12,7 @@ use Rattle.row_counts.specs.RowCounts.{Tells}
 use Rattle.row_counts.proofs.RowCountLaws.{counted-unique, tells-one}
 use Rattle.call_rows.specs.declared.RowsReply.{RowsReply}
 use Rattle.call_rows.specs.Rows.{rowsRefusal, RowsOn, short, counting, RowsOf, refusing, reading}
+use Rattle.grammar.specs.Distinct.{Distinct}
 
 rows-on : (g : Rules) (w : Word) {ws a b : List ℕ} {r s : RowsReply} → Distinct g → Words a → Words b → RowsOn g w ws a r → RowsOn g w ws b s → (r ≡ s) × (a ≡ b)
 rows-on g w d p q (short {f = f} l n x h) (short {f = f′} m o y k) =

@@ -14,8 +14,9 @@ use spans::size;
 use teplonga::Answer;
 ghost use mathlib.Core.Path.{_≡_};
 ghost use Prim.Native.Nat.{_≤_};
-ghost use Rattle.grammar.specs.Content.{rules as rulesOf, spelled, Formed, Positioned};
+ghost use Rattle.grammar.specs.Content.{rules as rulesOf, Formed, Positioned};
 ghost use Rattle.call_rows.specs.Rows.{rowsRefusal, RowsOn, RowsOf};
+ghost use Rattle.grammar.specs.Sentences.{spelled};
 
 // The verdict, with the refused line's number, or 0, and the row count of each tree, 0 for one that the verdict lacks.
 pub struct RowsReply {

@@ -13,7 +13,6 @@ use Rattle.grammar.specs.Trees.{Rules, TwoTrees}
 use Rattle.grammar.specs.Candidates.{Terminal, Candidate, Earlier, sentence}
 use Rattle.grammar.specs.Sweeps.{Clear, FirstTwo}
 use Rattle.grammar.proofs.SweepLaws.{sentence-length}
-use Rattle.candidates.specs.Spelling.{nowhere}
 use Rattle.numbers.specs.Numbers.{number}
 use Rattle.numbers.specs.Shares.{firstOfShare, total, Reports, LowestIn, NoneIn}
 use Rattle.numbers.proofs.ShareLaws.{number-before, share-of, shares-clear}
@@ -21,7 +20,9 @@ use Rattle.teplonga.specs.declared.Answer.{Answer}
 use Rattle.teplonga.specs.declared.Answer.the-variants as Answer
 use Rattle.call_shares.specs.declared.ShareReply.{ShareReply}
 use Rattle.call_shares.specs.Share.{shareReplyOf, shareRefusal, ShareOn, bound, many, racks, beyond, short, clear, two}
-use Rattle.call_shares.specs.Merge.{Refuses, Leads, Ahead, Merged, first-refuses, second-refuses, second, first, MergedAll, Answered, Sweeps, some-refused, all-clear, first-found}
+use Rattle.call_shares.specs.Merge.{Refuses, Leads, Ahead, Merged, first-refuses, second-refuses, second, first}
+use Rattle.grammar.specs.Sentences.{no-token}
+use Rattle.call_shares.specs.MergedAll.{MergedAll, Answered, Sweeps, some-refused, all-clear, first-found}
 
 -- ---- two reports give one
 
@@ -106,7 +107,7 @@ data Told (g : Rules) (n p i : ℕ) (r : ShareReply) : Type 0 where
   refused : Refuses (r .answer) → Told g n p i r
   nothing : Reports g n p i none → r .answer ≡ Answer.Clear → r .sentence .count ≡ 0 → Told g n p i r
   lowest : {cs : List Cell} → Reports g n p i (some cs) → r .answer ≡ Answer.Two → r .number ≡ number g n cs → r .sentence .count ≡ n
-      → r .sentence ≡ record { tokens = sentence cs ++ replicate (64 - length (sentence cs)) nowhere; count = length (sentence cs) } → Told g n p i r
+      → r .sentence ≡ record { tokens = sentence cs ++ replicate (64 - length (sentence cs)) no-token; count = length (sentence cs) } → Told g n p i r
 
 told : {g : Rules} {n p i : ℕ} {r : ShareReply} → Answered g n p i r → Told g n p i r
 told {g} {n} {p} {i} {r} a = go (a .on)

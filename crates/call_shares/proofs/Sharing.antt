@@ -14,9 +14,7 @@ use Rattle.grammar.specs.Candidates.{sentence}
 use Rattle.grammar.specs.Sweeps.{arrangements, terminalCount}
 use Rattle.grammar.proofs.SweepLaws.{sentence-length}
 use Rattle.candidates.specs.Terminals.{Terminals}
-use Rattle.candidates.specs.Spelling.{nowhere}
 use Rattle.candidates.proofs.Counting.{counted}
-use Rattle.sweeping.specs.Swept.{cleared}
 use Rattle.numbers.specs.Numbers.{number}
 use Rattle.numbers.specs.Shares.{firstOfShare, total, Reports, Reported}
 use Rattle.share_search.specs.Sharing.{Shared}
@@ -25,6 +23,8 @@ use Rattle.teplonga.specs.declared.Answer.{Answer}
 use Rattle.teplonga.specs.declared.Answer.the-variants as Answer
 use Rattle.call_shares.specs.declared.ShareReply.{ShareReply}
 use Rattle.call_shares.specs.Share.{shareReplyOf, ShareTaken, ShareOn, clear, two}
+use Rattle.grammar.specs.Sentences.{no-token}
+use Rattle.sweeping.specs.Cleared.{cleared}
 
 -- M, by the set of the terminals
 pub total-of : (g : Rules) (s n : ℕ) → s < 2 ^ 64 → Terminals g s → arrangements (ones s) n ≡ total g n
@@ -59,4 +59,4 @@ module _ {g : Rules} {n p i : ℕ} {ws ws′ : List ℕ} (t : ShareTaken g n p i
           k = sym (y .candidate .arranged .size) ∙ sym (sentence-length 1 cs)
 
           whole : with Answer.Two N (m / p) (m % p) r ≡ shareReplyOf Answer.Two (number g n cs) (total g n / p) (total g n % p) (sentence cs)
-          whole = λ j. with Answer.Two (e j) (em j / p) (em j % p) (record { tokens = (d ∙ ap (λ (v : ℕ). sentence cs ++ replicate (64 - v) nowhere) k) j; count = (c ∙ k) j })
+          whole = λ j. with Answer.Two (e j) (em j / p) (em j % p) (record { tokens = (d ∙ ap (λ (v : ℕ). sentence cs ++ replicate (64 - v) no-token) k) j; count = (c ∙ k) j })

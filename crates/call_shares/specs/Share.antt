@@ -10,8 +10,6 @@ use Rattle.grammar.specs.Layout.{Word}
 use Rattle.grammar.specs.Trees.{Rules}
 use Rattle.grammar.specs.SpanSheet.{pairs}
 use Rattle.grammar.specs.Candidates.{sentence}
-use Rattle.candidates.specs.Spelling.{nowhere}
-use Rattle.sweeping.specs.Swept.{cleared}
 use Rattle.numbers.specs.Numbers.{number}
 use Rattle.numbers.specs.Shares.{total, Reports}
 use Rattle.sheets.specs.declared.Fault.{Fault}
@@ -22,10 +20,12 @@ use Rattle.teplonga.specs.declared.Answer.{Answer}
 use Rattle.teplonga.specs.declared.Answer.the-variants as Answer
 use Rattle.teplonga.specs.Sweep.{sweepLimit, noSentence}
 use Rattle.call_shares.specs.declared.ShareReply.{ShareReply}
+use Rattle.grammar.specs.Sentences.{no-token}
+use Rattle.sweeping.specs.Cleared.{cleared}
 
 -- the answer with its number, quotient and remainder holds the word, and its token places past it are 0
 abbrev pub shareReplyOf : Answer → ℕ → ℕ → ℕ → Word → ShareReply
-shareReplyOf a N q r w = record { answer = a; line = 0; number = N; quotient = q; remainder = r; sentence = record { tokens = w ++ replicate (64 - length w) nowhere; count = length w } }
+shareReplyOf a N q r w = record { answer = a; line = 0; number = N; quotient = q; remainder = r; sentence = record { tokens = w ++ replicate (64 - length w) no-token; count = length w } }
 
 -- a refusal: no number, no quotient, no remainder and no token
 abbrev pub shareRefusal : Fault → ℕ → ShareReply

@@ -9,11 +9,11 @@ ghost use Prim.Native.Nat.{_+_, _-_, _≤_, _<_};
 ghost use lib.ListN.{length, take, drop};
 ghost use Rattle.fields.specs.Words.{numeralOf};
 ghost use Rattle.fields.specs.Answers.{asNumber};
-ghost use Rattle.fields.specs.Pieces.{fieldsLeft};
 ghost use Rattle.call_sheets.specs.CallSheets.{callOf, numberedCall, withNumber, shareCall, changeCall};
 ghost use Rattle.call_sheets.specs.declared.Call.the-variants.{ClausesSweep as Bounded, Show as Shown};
 ghost use Rattle.call_sheets.specs.OneField.{oneField};
 ghost use Rattle.call_sheets.specs.CallSheets as Sheets;
+ghost use Rattle.fields.specs.Cursors.{fieldsLeft};
 
 // A call with its numbers. That of a change ends with the place in the call sheet where the new mark begins; it ends before the last byte.
 // `Not` is a sheet that is not so written.

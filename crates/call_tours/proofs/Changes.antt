@@ -32,20 +32,22 @@ use Rattle.sheets.specs.declared.Fault.{Fault}
 use Rattle.sheets.specs.declared.Fault.the-variants as Fault
 use Rattle.sheets.specs.Items.{Reading, accepted, refused}
 use Rattle.sheets.specs.RuleSheets.{ruleSheet}
-use Rattle.shown.specs.Shown.{View, member}
+use Rattle.shown.specs.Shown.{View}
 use Rattle.shown.proofs.Members.{member-says}
-use Rattle.changing.specs.Changed.{changed, changedSheet, readChanged, relaid, fitsLay}
+use Rattle.changing.specs.Changed.{changed, changedSheet, readChanged}
 use Rattle.lists.specs.declared.Listed.{Listed}
 use Rattle.lists.specs.Lists.{GivesList}
 use Rattle.lists.specs.Putting.{listed}
 use Rattle.lists.specs.Putting as Putting
 use Rattle.teplonga.specs.declared.Answer.the-variants as Answer
-use Rattle.teplonga.specs.Lists.{onList}
 use Rattle.teplonga.proofs.ListSettled.{list-on}
 use Rattle.changing.proofs.Rereading.{outcome}
 use Rattle.changing.proofs.ChangedLaws.{ChangedAt, changed-at}
 use Rattle.call_tours.specs.Change.{changeRefusal, MayRule, ChangeDone, unfit, given, ChangeOn, barred, allowed}
 use Rattle.call_tours.specs.Inner.{Named}
+use Rattle.shown.specs.Members.{member}
+use Rattle.changing.specs.Relaid.{relaid, fitsLay}
+use Rattle.teplonga.specs.ListReplies.{onList}
 
 -- 1. whether the lay fits
 

@@ -8,10 +8,10 @@ use native.Mathlib.Omega.{arith}
 use lib.ListN.{length, replicate}
 use Rattle.grammar.specs.Layout.{Word}
 use Rattle.grammar.specs.Trees.{Tree, empty, leaf, unary, binary, Rules}
-use Rattle.grammar.specs.Choices.{FirstTree, SecondTree, Distinct}
+use Rattle.grammar.specs.Choices.{FirstTree, SecondTree}
 use Rattle.grammar.proofs.VerdictLaws.{none-not-one, none-not-two, one-not-two}
 use Rattle.grammar.proofs.ChoiceLaws.{first-unique, second-tree-unique}
-use Rattle.shown.specs.Shown.{View, shownRows, shownCount, OnlyBeneath, same-empty, same-leaf, same-unary, same-binary}
+use Rattle.shown.specs.Shown.{View, shownRows, shownCount}
 use Rattle.shown.proofs.ShownLaws.{shown-alike, length-shown}
 use Rattle.derivation.specs.Showing.{filledShown}
 use Rattle.sheets.specs.declared.Fault.{Fault}
@@ -32,6 +32,8 @@ use Rattle.call_tours.specs.Show.{ShownTo, treeless, single, both, large
 use Rattle.call_tours.specs.Show as Show
 use Rattle.call_tours.specs.Change.{changeRefusal, MayRule, ChangeDone, unfit, given, ChangeOn, barred, allowed, ChangeOf}
 use Rattle.call_tours.specs.Change as Change
+use Rattle.grammar.specs.Distinct.{Distinct}
+use Rattle.shown.specs.Beneath.{OnlyBeneath, same-empty, same-leaf, same-unary, same-binary}
 
 -- the same reply and the same memories
 abbrev Same : (a b c d : List ℕ) (r s : TreesReply) → Type 0

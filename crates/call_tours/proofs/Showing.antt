@@ -12,7 +12,7 @@ use Rattle.grammar.specs.Layout.{Word}
 use Rattle.grammar.specs.Trees.{Tree, Rules, NoTree, OneTree, TwoTrees}
 use Rattle.grammar.specs.Choices.{FirstTree, SecondTree}
 use Rattle.grammar.specs.SpanSheet.{pairs}
-use Rattle.shown.specs.Shown.{View, member, shownCount}
+use Rattle.shown.specs.Shown.{View, shownCount}
 use Rattle.derivation.specs.declared.Counts.{Counts}
 use Rattle.derivation.specs.Written.{places, Written}
 use Rattle.derivation.specs.Showing.{ShownWritten}
@@ -21,7 +21,7 @@ use Rattle.sheets.specs.declared.Fault.the-variants as Fault
 use Rattle.sheets.specs.declared.Outcome.the-variants.{Accepted, Refused}
 use Rattle.sheets.specs.Items.{Reading, accepted, refused}
 use Rattle.rights.specs.declared.Right.{Right}
-use Rattle.rights.specs.RightSheets.{maySee, mayChange, RightsHeld, RightsGiven}
+use Rattle.rights.specs.RightSheets.{maySee, mayChange}
 use Rattle.rights.specs.declared.RightsRead.{RightsRead}
 use Rattle.teplonga.specs.declared.Answer.the-variants as Answer
 use Rattle.teplonga.specs.declared.TreesReply.{TreesReply}
@@ -30,6 +30,8 @@ use Rattle.teplonga.specs.Trees.{treesReplyOf}
 use Rattle.teplonga.specs.declared.ListReply.{ListReply}
 use Rattle.call_tours.specs.Change.{ChangeOn}
 use Rattle.call_tours.specs.Show.{ShownTo, treeless, single, both, large-one, large-two, ShowOn, short}
+use Rattle.shown.specs.Members.{member}
+use Rattle.rights.specs.Answers.{RightsHeld, RightsGiven}
 
 pub too-few : (sees : View) (g : Rules) (w : Word) (n : ℕ) (ws one two : List ℕ) → length w ≡ n → length ws < 2 * pairs n → ShowOn sees g w ws ws one one two two (treesReplyOf (Answer.Refused Fault.FewWords) 0 0 0)
 too-few sees g w n ws one two e h = short (omega (arith, ap pairs e)) refl refl refl refl refl

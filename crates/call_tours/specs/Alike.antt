@@ -3,7 +3,8 @@ use Prim.Native.Nat.{ℕ}
 use Rattle.grammar.specs.Layout.{Word}
 use Rattle.grammar.specs.Trees.{Tree, Rules, NoTree, OneTree, TwoTrees}
 use Rattle.grammar.specs.Choices.{FirstTree, SecondTree}
-use Rattle.shown.specs.Shown.{View, OnlyBeneath}
+use Rattle.shown.specs.Shown.{View}
+use Rattle.shown.specs.Beneath.{OnlyBeneath}
 
 -- the same verdict, and first and second trees that differ only beneath nodes that may not be seen; the rules may be others
 pub record Alike (sees : View) (g g′ : Rules) (w w′ : Word) : Type 0 where

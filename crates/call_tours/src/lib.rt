@@ -25,15 +25,16 @@ use teplonga::counted_reply;
 use teplonga::list_reply;
 ghost use mathlib.Core.Path.{_≡_};
 ghost use Prim.Native.Nat.{_≤_};
-ghost use Rattle.grammar.specs.Content.{rules as rulesOf, spelled, Formed, Positioned};
+ghost use Rattle.grammar.specs.Content.{rules as rulesOf, Formed, Positioned};
 ghost use Rattle.sheets.specs.Items.{accepted};
 ghost use Rattle.sheets.specs.RuleSheets.{ruleSheet};
-ghost use Rattle.shown.specs.Shown.{member};
 ghost use Rattle.teplonga.specs.Trees as Trees;
 ghost use Rattle.teplonga.specs.declared.Answer.the-variants as Answers;
 ghost use Rattle.call_tours.specs.Show.{ShowOn, ShowOf};
 ghost use Rattle.call_tours.specs.Change.{changeRefusal, ChangeDone, ChangeOn, ChangeOf};
 ghost use Rattle.call_tours.specs.Inner.{Named};
+ghost use Rattle.grammar.specs.Sentences.{spelled};
+ghost use Rattle.shown.specs.Members.{member};
 
 // The trees of rules and a sentence that were read, as they are shown to a user who sees these nonterminals.
 fn shown_to(

@@ -11,15 +11,16 @@ use Rattle.grammar.specs.declared.Cell.{Cell}
 use Rattle.grammar.specs.declared.Token.{Token}
 use Rattle.grammar.specs.declared.Sentence.{Sentence}
 use Rattle.grammar.specs.Layout.{Word}
-use Rattle.grammar.specs.Content.{spelled, Positioned}
+use Rattle.grammar.specs.Content.{Positioned}
 use Rattle.grammar.specs.Candidates.{token, placed, sentence, Cells}
 use Rattle.grammar.specs.Candidates as Of
 use Rattle.grammar.proofs.SweepLaws.{sentence-length}
 use Rattle.candidates.specs.declared.Candidate.{Candidate}
 use Rattle.candidates.specs.Arrays.{cellAt, cells}
 use Rattle.candidates.specs.Succession.{Shares}
-use Rattle.candidates.specs.Spelling.{LowSteps, nowhere, Spells}
+use Rattle.candidates.specs.Spelling.{LowSteps, Spells}
 use Rattle.candidates.proofs.Windows.{cells-turn, cells-end}
+use Rattle.grammar.specs.Sentences.{spelled, no-token}
 
 -- a candidate's steps are at most 2
 pub low-steps : {Q : ℕ → Type 0} {n : ℕ} {cs : List Cell} → Of.Candidate Q n cs → LowSteps cs
@@ -36,9 +37,9 @@ pub record Spelling (c : Candidate) (n : ℕ) (tokens : List Token) (line i : �
   pub low : line ≤ 1 + 2 * i
   pub steps : LowSteps (cells c i (n - i))
   pub front : take i tokens ++ placed line (cells c i (n - i)) ≡ sentence (cells c 0 n)
-  pub past : drop i tokens ≡ replicate (64 - i) nowhere
+  pub past : drop i tokens ≡ replicate (64 - i) no-token
 
-pub spelled-none : (c : Candidate) (n : ℕ) → LowSteps (cells c 0 n) → Spelling c n (replicate 64 nowhere) 1 0
+pub spelled-none : (c : Candidate) (n : ℕ) → LowSteps (cells c 0 n) → Spelling c n (replicate 64 no-token) 1 0
 spelled-none c n s = record { size = refl; at = omega arith; low = omega arith; steps = rw (sub-zero n) s; front = rw (sub-zero n); past = refl }
 
 module _ (c : Candidate) (n : ℕ) (tokens : List Token) (line i : ℕ) (h : i < n) (l : n ≤ 7) (s : Spelling c n tokens line i) where
@@ -67,11 +68,11 @@ module _ (c : Candidate) (n : ℕ) (tokens : List Token) (line i : ℕ) (h : i <
       spelled : take i tokens ++ (t ∷ placed (line + d .step) (cells c (suc i) (n - suc i))) ≡ sentence (cells c 0 n)
       spelled = ap (λ (x : Cell). take i tokens ++ (token (line + x .step) x ∷ placed (line + x .step) (cells c (suc i) (n - suc i)))) e ∙ (rw (cells-turn n i c h, add-one i) at (s .front))
 
-      rest : drop (suc i) tokens ≡ replicate (64 - suc i) nowhere
+      rest : drop (suc i) tokens ≡ replicate (64 - suc i) no-token
       rest =
           let k : 64 - i ≡ suc (64 - suc i) = omega arith in
-          let p : drop i tokens ≡ nowhere ∷ replicate (64 - suc i) nowhere = rw k at (s .past) in
-          let q : drop i tokens ≡ getD tokens i nowhere ∷ drop (suc i) tokens = drop-cons tokens i nowhere inside in
+          let p : drop i tokens ≡ no-token ∷ replicate (64 - suc i) no-token = rw k at (s .past) in
+          let q : drop i tokens ≡ getD tokens i no-token ∷ drop (suc i) tokens = drop-cons tokens i no-token inside in
           cc
 
 pub spelled-whole : (c : Candidate) (n : ℕ) (tokens : List Token) (line i : ℕ) → n ≤ i → Spelling c n tokens line i → Spells (cells c 0 n) n (record { tokens = tokens; count = n })

@@ -11,7 +11,7 @@ use lib.ListN.{length, getD, take}
 use lib.Seq.{take-suc}
 use Rattle.sets.specs.declared.Member.{Member}
 use Rattle.sets.specs.declared.Member.the-variants.{At, Nothing}
-use Rattle.sets.specs.Sets.{In, insert}
+use Rattle.sets.specs.Sets.{In}
 use Rattle.sets.specs.Firsts.{FirstFrom}
 use Rattle.sets.proofs.Sets.{in-zero, insert-same, insert-keeps, insert-only}
 use Rattle.grammar.specs.declared.Cell.{Cell}
@@ -27,6 +27,7 @@ use Rattle.grammar.specs.Sweeps.{isAtom}
 use Rattle.grammar.proofs.Lists.{mem-every}
 use Rattle.grammar.proofs.Atoms.{is-covers, atom-is, atom-more, atom-here, atom-cases}
 use Rattle.candidates.specs.Terminals.{Among, Lowest, Terminals, Ranging, Widened}
+use Rattle.sets.specs.Insertion.{insert}
 
 -- ---- the numbers of a range, one by one
 

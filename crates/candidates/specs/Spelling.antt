@@ -4,21 +4,17 @@ use mathlib.Core.List.{List}
 use Prim.Native.Nat.{ℕ, _-_, _≤_}
 use lib.ListN.{take, drop, replicate}
 use Rattle.grammar.specs.declared.Cell.{Cell}
-use Rattle.grammar.specs.declared.Token.{Token}
 use Rattle.grammar.specs.declared.Sentence.{Sentence}
 use Rattle.grammar.specs.Layout.{Every}
 use Rattle.grammar.specs.Candidates.{sentence}
+use Rattle.grammar.specs.Sentences.{no-token}
 
 -- no step is above 2
 abbrev pub LowSteps : List Cell → Type 0
 LowSteps cs = Every (λ c. c .step ≤ 2) cs
 
--- a token place past a sentence: all 0
-abbrev pub nowhere : Token
-nowhere = record { terminal = 0; line = record { 0 = 0 }; column = record { 0 = 0 }; width = record { 0 = 0 } }
-
 -- r holds the sentence of the n cells cs, and its token places past it are 0
 pub record Spells (cs : List Cell) (n : ℕ) (r : Sentence) : Type 0 where
   pub count : r .count ≡ n
   pub front : take n (r .tokens) ≡ sentence cs
-  pub past : drop n (r .tokens) ≡ replicate (64 - n) nowhere
+  pub past : drop n (r .tokens) ≡ replicate (64 - n) no-token

@@ -27,10 +27,11 @@ use Rattle.sheets.specs.Items.{Reading, accepted, refused, itemsFrom, withNames
 use Rattle.sheets.specs.RuleSheets.{anyOf, isStart, ruleStep, finish, rulesFrom, ruleNames, ruleSheet}
 use Rattle.sheets.specs.RefusedLines.{pieceStart}
 use Rattle.sheets.proofs.Accepted.{GoodRules, rules-good, finish-good}
-use Rattle.changing.specs.Changed.{lineOf, layStart, layEnd, changed, relaid}
+use Rattle.changing.specs.Changed.{lineOf, layStart, layEnd, changed}
 use Rattle.changing.proofs.Replacing.{pieces-replaced, piece-at, free-take, free-join}
 use Rattle.changing.proofs.Relaying.{Five, five-of, line-other, lay-no-line}
 use Rattle.changing.proofs.Rereading.{KeyKept, outcome, Changed, items-changed, empty-set}
+use Rattle.changing.specs.Relaid.{relaid}
 
 -- 1. an accepted sheet: its names, and the lines behind them
 

@@ -7,7 +7,7 @@ use native.Mathlib.Omega.{arith}
 use lib.ListN.{length, take, drop, length-append, length-drop}
 use lib.Seq.{length-take-le, take-all}
 use Rattle.fields.specs.declared.Cursor.{Cursor}
-use Rattle.fields.specs.Pieces.{pieces, before, lineAt}
+use Rattle.fields.specs.Pieces.{pieces, before}
 use Rattle.fields.proofs.Pieces.{before-take, before-le}
 use Rattle.sheets.specs.RefusedLines.{pieceStart}
 use Rattle.lists.specs.declared.Listed.{Listed}
@@ -15,6 +15,7 @@ use Rattle.lists.specs.Lists.{GivesList}
 use Rattle.lists.specs.Putting.{listed, unfit}
 use Rattle.changing.specs.Changed.{lineOf, layStart, layEnd, changed}
 use Rattle.changing.proofs.Replacing.{piece-at, piece-before}
+use Rattle.fields.specs.Cursors.{lineAt}
 
 -- 1. the line of the rule at place p
 

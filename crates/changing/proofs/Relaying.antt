@@ -24,9 +24,9 @@ use Rattle.lines.specs.declared.RuleLine.{RuleLine}
 use Rattle.lines.specs.declared.RuleLine.the-variants.{Good, Form, Range, Unfit, Reversed}
 use Rattle.lines.specs.RuleLines.{shape, plainRule, atomRule, unaryRule, binaryRule, layRule, upTo, ruleOf, afterLay, afterSecond, afterFirst, afterKind, afterLeft, ruleFields, ruleLine}
 use Rattle.sheets.specs.RefusedLines.{pieceStart}
-use Rattle.changing.specs.Changed.{relaid}
 use Rattle.fields.proofs.Cuts.{FreeOf, pieces-free, same-path}
 use Rattle.changing.proofs.Replacing.{pieces-upto}
+use Rattle.changing.specs.Relaid.{relaid}
 
 -- 1. a word of lay has neither byte 10 nor byte 32
 

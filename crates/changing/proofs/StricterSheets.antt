@@ -27,10 +27,11 @@ use Rattle.sheets.specs.Items.{Reading, accepted, refused}
 use Rattle.sheets.specs.RuleSheets.{ruleSheet}
 use Rattle.shown.specs.Stricter.{StricterClause, same, unary, binary, Stricter, none-left, more}
 use Rattle.shown.proofs.StricterLaws.{stays-none, never-two}
-use Rattle.changing.specs.Changed.{lineOf, layField, changed, changedSheet, relaid, readChanged}
+use Rattle.changing.specs.Changed.{lineOf, changed, changedSheet, readChanged}
 use Rattle.changing.proofs.Relaying.{Five, five-of, laid-of}
 use Rattle.changing.proofs.Rereading.{outcome}
 use Rattle.changing.proofs.ChangedLaws.{ChangedAt, changed-at, SameBut, relaid-but}
+use Rattle.changing.specs.Relaid.{layField, relaid}
 
 -- 1. one rule
 

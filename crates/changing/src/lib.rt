@@ -11,9 +11,10 @@ ghost use Prim.Native.Nat.{_<_};
 ghost use lib.ListN.{length};
 ghost use Rattle.fields.specs.Pieces.{pieces};
 ghost use Rattle.sheets.specs.RefusedLines.{pieceStart};
-ghost use Rattle.changing.specs.Changed.{lineOf, layStart, layEnd, changed, oneWord, twoWords, fitsLay};
+ghost use Rattle.changing.specs.Changed.{lineOf, layStart, layEnd, changed};
 ghost use Rattle.lists.specs.Lists.{GivesList};
 ghost use Rattle.lists.specs.Putting.{listed, unfit};
+ghost use Rattle.changing.specs.Relaid.{oneWord, twoWords, fitsLay};
 
 // Where the lay of a rule begins and ends.
 pub struct Field {

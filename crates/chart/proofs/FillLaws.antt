@@ -16,7 +16,6 @@ use Rattle.grammar.specs.declared.Clause.{Clause}
 use Rattle.grammar.specs.declared.Clause.the-variants as Clause
 use Rattle.grammar.specs.Layout.{Word}
 use Rattle.grammar.specs.Trees.{Rules, Derives, TwoTrees}
-use Rattle.grammar.specs.Choices.{Distinct}
 use Rattle.grammar.specs.Content.{rules, Formed}
 use Rattle.grammar.specs.SpanSheet.{part, pairs, pairAt, firstWord, secondWord}
 use Rattle.marks.specs.declared.SpanMarks.{SpanMarks}
@@ -35,6 +34,7 @@ use Rattle.chart.specs.Sheets.{Exact}
 use Rattle.chart.proofs.PassLaws.{inner-from, passes-from}
 use Rattle.chart.proofs.Coverage.{each-found, again-found}
 use Rattle.chart.proofs.Views.{tokens-marks, stand-view, again-view}
+use Rattle.grammar.specs.Distinct.{Distinct}
 
 -- ---- a word of the pair p is as it was, where the pair is another
 

@@ -14,7 +14,6 @@ use Rattle.grammar.specs.declared.Clause.the-variants as Clause
 use Rattle.grammar.specs.declared.BinaryMark.{BinaryMark}
 use Rattle.grammar.specs.declared.BinaryMark.the-variants as BinaryMark
 use Rattle.grammar.specs.Trees.{Rules, Derives, TwoTrees}
-use Rattle.grammar.specs.Choices.{Distinct}
 use Rattle.grammar.specs.SpanSheet.{part, firstWord, secondWord}
 use Rattle.marks.specs.declared.SpanMarks.{SpanMarks}
 use Rattle.marks.specs.Half.{Half}
@@ -28,6 +27,7 @@ use Rattle.chart.specs.Passes.{LeafFits, Leaves, leaves-none, leaves-mor
 use Rattle.chart.specs.Filling.{Ground}
 use Rattle.chart.proofs.TallyLaws.{Done, Standing, took-one, took-two, took-in-one, took-in-two, From, from-none, from-same, Brings, from-took, from-sets}
 use Rattle.chart.proofs.Soundness.{sound-stand, sound-again}
+use Rattle.grammar.specs.Distinct.{Distinct}
 
 -- the same try, of what fits as well
 pub took-if : {fits fits′ below : Type 0} {a : ℕ} {t u : Tally} → (fits → fits′) → (fits′ → fits) → Took fits below a t u → Took fits′ below a t u

@@ -6,10 +6,10 @@ use lib.Seq.{getD-take}
 use Rattle.codes.proofs.Laws.{every-rule}
 use Rattle.grammar.specs.declared.Grammar.{Grammar}
 use Rattle.grammar.specs.Trees.{Rules}
-use Rattle.grammar.specs.Choices.{Alike, Distinct}
 use Rattle.grammar.specs.Content.{rules, SmallRule, Formed}
 use Rattle.order.proofs.Places.{there}
 use Rattle.chart.specs.Tables.{no-rule, rule}
+use Rattle.grammar.specs.Distinct.{Alike, Distinct}
 
 -- the rule at a place is small
 pub small-at : {g : Grammar} → Formed g → (i : ℕ) → i < length (rules g) → SmallRule (rule (rules g) i)

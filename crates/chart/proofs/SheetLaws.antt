@@ -15,7 +15,6 @@ use Rattle.sets.specs.Sets.{In}
 use Rattle.sets.proofs.Says.{true-not-false}
 use Rattle.grammar.specs.Layout.{Word}
 use Rattle.grammar.specs.Trees.{Rules, Tree, Tree-discrete, Witness, Derives, NoTree, OneTree, TwoTrees}
-use Rattle.grammar.specs.Choices.{Distinct}
 use Rattle.grammar.specs.SpanSheet.{part, pairs, pairAt, firstWord, secondWord, SpanSheet}
 use Rattle.grammar.proofs.Marks.{token?}
 use Rattle.grammar.proofs.VerdictLaws.{none-not-one, none-not-two, one-not-two}
@@ -33,13 +32,15 @@ use Rattle.chart.specs.Tables.{Table, One, Two, byTokens, Stand, Again}
 use Rattle.chart.specs.Passes.{Room}
 use Rattle.chart.specs.Leaves.{Allows, LeafAt, May}
 use Rattle.chart.specs.Filling.{Told, Settled, Ground, Closed, Given, Passed, Filled, Grown}
-use Rattle.chart.specs.Sheets.{Exact, Begun, Ready, Meets, CoversMet, Charted, Holds, Judged, Hopeless, Settles}
+use Rattle.chart.specs.Sheets.{Exact, Begun, Ready, Meets, CoversMet, Charted, Judged, Hopeless, Settles}
 use Rattle.chart.proofs.Completeness.{complete, same}
 use Rattle.chart.proofs.Soundness.{sound-stand, sound-again}
 use Rattle.chart.proofs.FillLaws.{settled-kept, settled-empty}
 use Rattle.chart.proofs.ExactLaws.{exact-less, null-one, null-two}
 use Rattle.chart.proofs.LeafLaws.{leaf-allows, leaf-one, leaf-more, may-one, may-two}
 use Rattle.chart.proofs.OpenLaws.{open-settled, settled-open, open-none, given-settled}
+use Rattle.grammar.specs.Distinct.{Distinct}
+use Rattle.chart.specs.Verdicts.{Holds}
 
 -- ---- what is kept
 

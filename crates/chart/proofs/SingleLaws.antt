@@ -10,7 +10,6 @@ use Rattle.grammar.specs.declared.Token.{Token}
 use Rattle.grammar.specs.Layout.{Word}
 use Rattle.sets.specs.Sets.{In}
 use Rattle.grammar.specs.Trees.{Rules, Derives, TwoTrees}
-use Rattle.grammar.specs.Choices.{Distinct}
 use Rattle.grammar.specs.SpanSheet.{pairs, spans, pairAt, firstWord, secondWord}
 use Rattle.marks.specs.Half.{Half, tokenAt}
 use Rattle.marks.specs.Marked.{alone}
@@ -28,6 +27,7 @@ use Rattle.chart.proofs.FillLaws.{closed, settled-empty, given-same, fi
 use Rattle.chart.proofs.ExactLaws.{empty-exact, exact-words}
 use Rattle.chart.proofs.LeafLaws.{exact-leaf}
 use Rattle.chart.proofs.SheetLaws.{exact-settled, charted}
+use Rattle.grammar.specs.Distinct.{Distinct}
 
 -- ---- the empty word
 

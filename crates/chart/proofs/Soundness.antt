@@ -11,7 +11,7 @@ use Rattle.grammar.specs.declared.Clause.the-variants as Clause
 use Rattle.grammar.specs.Layout.{Word}
 use Rattle.grammar.specs.Layout as Mark
 use Rattle.grammar.specs.Trees.{Rules, Tree, empty, leaf, unary, binary, root, word, Valid, valid-empty, valid-leaf, valid-unary, valid-binary, Witness, Derives, TwoTrees}
-use Rattle.grammar.specs.Choices.{Alike, Distinct, Same}
+use Rattle.grammar.specs.Choices.{Same}
 use Rattle.grammar.specs.SpanSheet.{part}
 use Rattle.marks.specs.Half.{Half}
 use Rattle.marks.proofs.Words.{part-cut, part-length}
@@ -21,6 +21,7 @@ use Rattle.chart.specs.Tables.Again.{apart, below}
 use Rattle.order.proofs.Places.{member}
 use Rattle.chart.proofs.RulePlaces.{distinct-at}
 use Rattle.chart.proofs.Completeness.{Headed}
+use Rattle.grammar.specs.Distinct.{Alike, Distinct}
 
 -- one tree follows clauses that are alike, with one left length
 headed-alike : (t : Tree) (c c′ : Clause) (l l′ : ℕ) → Headed t c l → Headed t c′ l′ → Alike c c′ × (l ≡ l′)

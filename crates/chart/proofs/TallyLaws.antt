@@ -5,11 +5,12 @@ use mathlib.Core.Bool.{Bool, true, false}
 use Prim.Native.Nat.{ℕ, _≤_}
 use native.Mathlib.Omega.{arith}
 use Rattle.sets.specs.Says.{Says}
-use Rattle.sets.specs.Sets.{In, insert}
+use Rattle.sets.specs.Sets.{In}
 use Rattle.sets.proofs.Sets.{insert-same, insert-keeps, insert-only, insert-ge, in-zero}
 use Rattle.chart.specs.declared.Tally.{Tally}
 use Rattle.grammar.specs.Choices.{Same}
 use Rattle.chart.specs.Passes.{Found, Took, fell, stood, none}
+use Rattle.sets.specs.Insertion.{insert}
 
 -- the choices (rule, left length) that are done
 abbrev pub Done : Type 1

@@ -6,3 +6,4 @@ pub mod Openness
 pub mod Sheets
 pub mod Choosing
 pub mod Searches
+pub mod Verdicts

@@ -7,7 +7,7 @@ use mathlib.Core.Logic.{_⊎_}
 use Prim.Native.Nat.{ℕ, _+_, _-_, _*_, _≤_, _<_}
 use lib.ListN.{length, getD}
 use Rattle.sets.specs.Says.{Says}
-use Rattle.sets.specs.Sets.{In, insert}
+use Rattle.sets.specs.Sets.{In}
 use Rattle.grammar.specs.declared.Clause.{Clause}
 use Rattle.grammar.specs.declared.Clause.the-variants as Clause
 use Rattle.grammar.specs.Trees.{Rules}
@@ -20,6 +20,7 @@ use Rattle.chart.specs.declared.Pair.{Pair}
 use Rattle.chart.specs.declared.Sides.{Sides}
 use Rattle.chart.specs.declared.Stretch.{Stretch}
 use Rattle.chart.specs.Tables.{rule}
+use Rattle.sets.specs.Insertion.{insert}
 
 -- the span of len tokens from s on lies among n tokens, and the words are enough for their span sheet
 pub record Room (ws : List ℕ) (n s len : ℕ) : Type 0 where

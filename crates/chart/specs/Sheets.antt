@@ -1,13 +1,13 @@
 -- What the calls that fill a span sheet promise.
 use mathlib.Core.Path.{_≡_}
-use mathlib.Core.Bool.{Bool, true, false}
+use mathlib.Core.Bool.{Bool, true}
 use mathlib.Core.List.{List}
 use mathlib.Core.Logic.{_↔_}
 use Prim.Native.Nat.{ℕ, _+_, _*_, _≤_, _<_}
 use lib.ListN.{length}
 use Rattle.sets.specs.Sets.{In}
 use Rattle.grammar.specs.Layout.{Word}
-use Rattle.grammar.specs.Trees.{Rules, Derives, NoTree, OneTree, TwoTrees}
+use Rattle.grammar.specs.Trees.{Rules, Derives, TwoTrees}
 use Rattle.grammar.specs.SpanSheet.{part, pairs, firstWord, secondWord, SpanSheet}
 use Rattle.marks.specs.Half.{Half, Completes, tokenAt}
 use Rattle.spans.specs.Changes.{Past}
@@ -16,6 +16,7 @@ use Rattle.chart.specs.Leaves.{LeafAt, May}
 use Rattle.chart.specs.Filling.{Given}
 use Rattle.chart.specs.declared.Verdict.{Verdict}
 use Rattle.chart.specs.declared.Verdict.the-variants as Verdict
+use Rattle.chart.specs.Verdicts.{Holds}
 
 -- of the spans of w that end at or before token `to`, the words ws, as a span sheet of n tokens, say exactly what has a valid tree and what has two
 pub record Exact (g : Rules) (w : Word) (n : ℕ) (ws : List ℕ) (to : ℕ) : Type 0 where
@@ -55,12 +56,6 @@ pub record Charted (ws ws′ : List ℕ) (g : Rules) (h : Half) (n : ℕ) : Type
   pub given : Given ws ws′ n
   pub beyond : Open g n ws′ (h .known)
   pub past : Past (2 * pairs n) ws ws′
-
--- none, one or two: A has no valid tree over w, just one, or at least two
-abbrev pub Holds : Verdict → Rules → ℕ → Word → Type 0
-Holds Verdict.None g A w = NoTree g A w
-Holds Verdict.One g A w = OneTree g A w
-Holds Verdict.Two g A w = TwoTrees g A w
 
 -- the verdict on a sentence, and its span sheet
 pub record Judged (r : Verdict) (g : Rules) (w : Word) (n : ℕ) (ws ws′ : List ℕ) : Type 0 where

@@ -36,8 +36,7 @@ ghost use Rattle.sets.specs.Says.{Says};
 ghost use Rattle.sets.specs.Sets.{In};
 ghost use Rattle.grammar.specs.declared.Clause.the-variants as Kind;
 ghost use Rattle.codes.specs.Codes.{binaryMark, mark, decode, decoded};
-ghost use Rattle.grammar.specs.Choices.{Distinct};
-ghost use Rattle.grammar.specs.Content.{rules, spelled, SmallClause, SmallRule, Formed};
+ghost use Rattle.grammar.specs.Content.{rules, SmallClause, SmallRule, Formed};
 ghost use Rattle.grammar.specs.SpanSheet.{pairs, part, SpanSheet};
 ghost use Rattle.marks.specs.Drafts.{half, drafted};
 ghost use Rattle.marks.specs.Marked.{UnaryBy, BinaryBy};
@@ -50,6 +49,8 @@ ghost use Rattle.chart.specs.Filling.{Whole, Joins, Filled, Grown};
 ghost use Rattle.chart.specs.Sheets.{Exact, Begun, Ready, Charted, Judged, Settles};
 ghost use Rattle.chart.specs.Choosing.{NextChoice};
 ghost use Rattle.chart.specs.Searches.{FirstSplit, FirstPick};
+ghost use Rattle.grammar.specs.Distinct.{Distinct};
+ghost use Rattle.grammar.specs.Sentences.{spelled};
 
 // What a pass over the rules of a span has found: the nonterminals for which a rule stands, and the span's two sets with
 // what the pass adds.

@@ -13,7 +13,6 @@ use Rattle.sets.proofs.Says.{true-not-false, says-iff}
 use Rattle.grammar.specs.declared.Token.{Token}
 use Rattle.grammar.specs.Layout.{Word, col}
 use Rattle.grammar.specs.Trees.{Rules, Derives, NoTree, OneTree, TwoTrees}
-use Rattle.grammar.specs.Choices.{Distinct}
 use Rattle.grammar.specs.Candidates.{After, Rising}
 use Rattle.grammar.specs.SpanSheet.{pairs, firstWord, secondWord}
 use Rattle.marks.specs.Half.{Half, tokenAt}
@@ -21,7 +20,7 @@ use Rattle.chart.specs.Leaves.{Leaf, Allows, LeafAt, May}
 use Rattle.chart.specs.Filling.{Given}
 use Rattle.chart.specs.declared.Verdict.{Verdict}
 use Rattle.chart.specs.declared.Verdict.the-variants as Verdict
-use Rattle.chart.specs.Sheets.{Exact, Begun, Ready, Meets, CoversMet, Charted, Holds}
+use Rattle.chart.specs.Sheets.{Exact, Begun, Ready, Meets, CoversMet, Charted}
 use Rattle.chart.proofs.ExactLaws.{exact-less, exact-front}
 use Rattle.chart.proofs.LeafLaws.{leaf-allows}
 use Rattle.chart.proofs.OpenLaws.{open-none}
@@ -31,12 +30,15 @@ use Rattle.order.proofs.Same.{two-same, one-same, none-under}
 use Rattle.spans.specs.Changes.{Past, Cleared}
 use Rattle.spans.proofs.ChangeLaws.{past-same, past-then}
 use Rattle.column_ranges.specs.declared.RangeToken.{RangeToken}
-use Rattle.column_ranges.specs.Ranges.{Ranges, WithinEnds, Chosen, SomeChoiceGives, columns, Ended}
+use Rattle.column_ranges.specs.Ranges.{Ranges, WithinEnds, Chosen, SomeChoiceGives, columns}
 use Rattle.choosing.specs.declared.Flags.{Flags}
 use Rattle.choosing.specs.declared.Tried.{Tried}
 use Rattle.choosing.specs.Answers.{flag, FlagsSay}
 use Rattle.choosing.specs.Searching.{range, Placed, Begins, Standing, Grown, Finds, FindsBelow, inColumn, MayBe, Reads, With, Put, Poised, Tryable, Trying, Searched}
 use Rattle.choosing.proofs.Placing.{chosen-long, chosen-at, rising-at, within-placed, placed-within, put-before, put-terminal, put-tryable, placed-next, placed-chosen, placed-rising, same-word, same-front}
+use Rattle.grammar.specs.Distinct.{Distinct}
+use Rattle.chart.specs.Verdicts.{Holds}
+use Rattle.column_ranges.specs.RangeSentences.{Ended}
 
 -- ---- the words
 

@@ -13,12 +13,14 @@ use Rattle.sets.proofs.Says.{says-iff}
 use Rattle.grammar.specs.declared.Token.{Token}
 use Rattle.grammar.specs.Layout.{Word, line, col, width, Every}
 use Rattle.grammar.specs.Candidates.{After, RisingFrom, Rising}
-use Rattle.marks.specs.Half.{no-token, tokenAt}
+use Rattle.marks.specs.Half.{tokenAt}
 use Rattle.column_ranges.specs.declared.RangeToken.{RangeToken}
 use Rattle.column_ranges.specs.declared.RangeSentence.{RangeSentence}
-use Rattle.column_ranges.specs.Ranges.{Ranges, WithinEnds, Chosen, columns, rangesOf, Ended, Spread}
+use Rattle.column_ranges.specs.Ranges.{Ranges, WithinEnds, Chosen, columns}
 use Rattle.column_ranges.proofs.Counting.{range-read, ended-at}
 use Rattle.choosing.specs.Searching.{no-range, range, Placed, inColumn, Put, Tryable}
+use Rattle.grammar.specs.Sentences.{no-token}
+use Rattle.column_ranges.specs.RangeSentences.{rangesOf, Ended, Spread}
 
 -- ---- choices, token by token
 

@@ -15,13 +15,14 @@ use Rattle.marks.specs.Half.{tokenAt}
 use Rattle.chart.specs.Leaves.{LeafAt}
 use Rattle.chart.specs.declared.Verdict.{Verdict}
 use Rattle.chart.specs.declared.Verdict.the-variants as Verdict
-use Rattle.chart.specs.Sheets.{Exact, Holds}
+use Rattle.chart.specs.Sheets.{Exact}
 use Rattle.spans.specs.Changes.{Past}
 use Rattle.column_ranges.specs.declared.RangeToken.{RangeToken}
 use Rattle.column_ranges.specs.Ranges.{Ranges, WithinEnds, Chosen, SomeChoiceGives}
 use Rattle.choosing.specs.declared.Flags.{Flags}
 use Rattle.choosing.specs.declared.Tried.{Tried}
 use Rattle.choosing.specs.Answers.{flag}
+use Rattle.chart.specs.Verdicts.{Holds}
 
 -- what stands past the end
 abbrev pub no-range : RangeToken

@@ -24,16 +24,17 @@ ghost use Prim.Native.Nat.{_+_, _-_, _*_, _≤_, _<_};
 ghost use lib.ListN.{length, take, set};
 ghost use Rattle.sets.specs.Says.{Says};
 ghost use Rattle.codes.specs.Codes.{decoded};
-ghost use Rattle.grammar.specs.Choices.{Distinct};
 ghost use Rattle.grammar.specs.Content.{rules, Formed};
 ghost use Rattle.grammar.specs.SpanSheet.{pairs};
 ghost use Rattle.grammar.specs.Candidates.{After};
 ghost use Rattle.marks.specs.Half.{tokenAt};
 ghost use Rattle.chart.specs.declared.Verdict.{Verdict};
 ghost use Rattle.spans.specs.Changes.{Cleared};
-ghost use Rattle.column_ranges.specs.Ranges.{columns as columnsOf, rangesOf, Ended, Spread};
+ghost use Rattle.column_ranges.specs.Ranges.{columns as columnsOf};
 ghost use Rattle.choosing.specs.Answers.{flag, FlagsSay};
 ghost use Rattle.choosing.specs.Searching.{inColumn as placedAt, MayBe, Reads, With, Placed, Standing, Poised, Searched, Tryable, Trying};
+ghost use Rattle.grammar.specs.Distinct.{Distinct};
+ghost use Rattle.column_ranges.specs.RangeSentences.{rangesOf, Ended, Spread};
 
 // Of each verdict: does some rising choice give it?
 pub struct Flags {

@@ -6,7 +6,6 @@ use Prim.Native.Nat.{ℕ}
 use native.Mathlib.Omega.{arith}
 use Rattle.grammar.specs.declared.Rule.{Rule}
 use Rattle.grammar.specs.Trees.{Rules}
-use Rattle.grammar.specs.Choices.{Distinct}
 use Rattle.sheets.specs.declared.Fault.{Fault}
 use Rattle.sheets.specs.Items.{Reading, accepted, refused}
 use Rattle.clauses.proofs.Apart.{expansion-distinct}
@@ -21,6 +20,7 @@ use Rattle.teplonga.proofs.SweepSettled.{sweep-settled}
 use Rattle.teplonga.proofs.ListSettled.{list-settled}
 use Rattle.clause_calls.specs.Calls.{clauseSheets, ClauseVerdict, ClauseTrees, ClauseSweep}
 use Rattle.clause_calls.specs.Expand.{ExpandOf, refusing, giving}
+use Rattle.grammar.specs.Distinct.{Distinct}
 
 -- the rules of an expansion are distinct
 pub clauses-apart : (clauses tokens : List ℕ) → Apart (clauseSheets clauses tokens)

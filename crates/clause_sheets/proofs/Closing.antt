@@ -13,7 +13,6 @@ use Rattle.grammar.specs.declared.Grammar.{Grammar}
 use Rattle.grammar.specs.Trees.{Rules}
 use Rattle.grammar.specs.Content.{Formed, SmallRule}
 use Rattle.grammar.specs.Layout.{Every}
-use Rattle.grammar.specs.Choices.{Distinct}
 use mathlib.Core.Option.{Option, none, some}
 use Rattle.fields.specs.Words.{numeralOf}
 use Rattle.grammar.specs.Content.{rules as rulesOf}
@@ -38,6 +37,7 @@ use Rattle.sheets.specs.declared.Outcome.the-variants.{Accepted, Refused}
 use Rattle.clause_sheets.specs.Ends.{AllSaid}
 use Rattle.clause_sheets.proofs.Small.{expression-terms, expansion-small}
 use Rattle.clause_sheets.proofs.Sorting.{sorted-expansion, met-lefts}
+use Rattle.grammar.specs.Distinct.{Distinct}
 
 abbrev put : Bool → Rule → Rules → Rules
 put b h g = elim b [ true ↦ h ∷ g | false ↦ g ]

@@ -12,9 +12,8 @@ use borrow.Author.Tests.{le-leb, lt-leb}
 use Rattle.fields.specs.declared.Cursor.{Cursor}
 use Rattle.fields.specs.declared.NumberField.{NumberField}
 use Rattle.fields.specs.declared.NumberField.the-variants as NumberField
-use Rattle.fields.specs.Pieces.{before, bytesLeft, fieldsLeft}
+use Rattle.fields.specs.Pieces.{before}
 use Rattle.fields.specs.Words.{numeralOf}
-use Rattle.fields.specs.Fields.{withCursor, readField}
 use Rattle.fields.specs.Answers.{numberField}
 use Rattle.fields.proofs.Lines.{fields-of}
 use Rattle.fields.proofs.Pieces.{pieces-first}
@@ -37,6 +36,7 @@ use Rattle.clause_lines.specs.ClauseLines.{ClauseLine, Said, good, unwritten, d
 use Rattle.clause_sheets.specs.declared.LineChecked.{LineChecked}
 use Rattle.clause_sheets.specs.declared.LineChecked.the-variants as LineChecked
 use Rattle.clause_sheets.specs.Checks.{lineChecked, expressionChecked, LineEmitted}
+use Rattle.fields.specs.Cursors.{bytesLeft, fieldsLeft, withCursor, readField}
 
 no-take : (i : ℕ) → _≡_ {A = List ℕ} (take i []) []
 no-take zero = refl

@@ -9,7 +9,7 @@ use lib.Seq.{length-take-le}
 use lib.Dec.{ltb}
 use borrow.Author.Tests.{lt-ltb, le-ltb}
 use Rattle.fields.specs.declared.Cursor.{Cursor}
-use Rattle.fields.specs.Pieces.{piecesFrom, isEmpty, lineAt, bytesLeft}
+use Rattle.fields.specs.Pieces.{isEmpty}
 use Rattle.fields.proofs.Lines.{more-left}
 use Rattle.sheets.proofs.Loop.{line-in, line-less, line-cut}
 use Rattle.sheets.specs.declared.Fault.{Fault}
@@ -29,6 +29,7 @@ use Rattle.clause_sheets.specs.declared.LineChecked.the-variants as Line
 use Rattle.clause_sheets.specs.ClauseSheets.{clauseSaid, clauseStep, clausesOf}
 use Rattle.clause_sheets.specs.Emitted.{emitAll}
 use Rattle.clause_sheets.specs.Checks.{lineChecked, PassedAs, Passing, LineEmitted, LinesEmitted, Emitting}
+use Rattle.fields.specs.Cursors.{piecesFrom, lineAt, bytesLeft}
 
 zero-max : (a : ℕ) → max 0 a ≡ a
 zero-max a = max-is 0 a a (omega arith) (omega arith) (λ k p q. q)

@@ -6,7 +6,6 @@ use Rattle.grammar.specs.Trees.{Rules}
 use Rattle.grammar.specs.Content.{rules as rulesOf}
 use Prim.Native.Nat.{ℕ, _+_, _≤_}
 use lib.ListN.{length}
-use Rattle.fields.specs.Pieces.{piecesFrom}
 use Rattle.clauses.specs.Expansion.{max, pastExpr, pastAll, size, sizeAll}
 use Rattle.clauses.specs.Clauses.{Expr, alternatives}
 use Rattle.clauses.specs.Emission.{emit}
@@ -20,6 +19,7 @@ use Rattle.clause_sheets.specs.declared.LineChecked.{LineChecked}
 use Rattle.clause_sheets.specs.declared.LineChecked.the-variants as LineChecked
 use Rattle.clause_sheets.specs.ClauseSheets.{clauseStep, clausesOf}
 use Rattle.clause_sheets.specs.Emitted.{emitAll}
+use Rattle.fields.specs.Cursors.{piecesFrom}
 
 -- one past the largest nonterminal of a line
 abbrev pub lineChecked : Said ClauseLine → LineChecked

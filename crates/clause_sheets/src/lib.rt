@@ -19,7 +19,6 @@ ghost use mathlib.Core.Bool.{true, false};
 ghost use mathlib.Core.List.{[], _∷_, _++_};
 ghost use Prim.Native.Nat.{_+_, _≤_, _<_};
 ghost use lib.ListN.{length, take};
-ghost use Rattle.fields.specs.Pieces.{piecesFrom, bytesLeft};
 ghost use Rattle.grammar.specs.Content.{rules as rulesOf};
 ghost use Rattle.clauses.specs.Expansion.{max, of, rising};
 ghost use Rattle.sheets.specs.Items.{itemsFrom};
@@ -28,6 +27,7 @@ ghost use Rattle.clause_lines.specs.ClauseLines.{clauseLine, expression};
 ghost use Rattle.clause_sheets.specs.ClauseSheets.{clauseStep, clausesFrom, clauseSheet};
 ghost use Rattle.clause_sheets.specs.Checks.{lineChecked, expressionChecked, PassedAs, LineEmitted, LinesEmitted, RulesTaken};
 ghost use Rattle.clause_sheets.specs.Ends.{AllSaid};
+ghost use Rattle.fields.specs.Cursors.{piecesFrom, bytesLeft};
 
 // One past a line's largest nonterminal; or 41; or 42.
 pub enum LineChecked {

@@ -13,7 +13,6 @@ use Rattle.clauses.specs.Clauses.{Sort, item, alternatives, AtLeast, one
 use Rattle.clauses.specs.Readings.{left, right, clause}
 use Rattle.clauses.specs.Expansion.{E, A, U, B, size, name, alternativeRules, repeatBegins, exprRules, expandFrom, sizeAll, of, rising, pastAll, expansion}
 use Rattle.clauses.proofs.Bounds.{Under, UnderAll, start, Clash, AllApart}
-use Rattle.grammar.specs.Choices.{Alike, Distinct}
 use Rattle.grammar.proofs.ChoiceLaws.{member-at}
 use mathlib.Core.Option.{Option, none, some}
 use lib.ListN.{getElem?}
@@ -25,6 +24,7 @@ use lib.Dec.{T, eqb, eqb→eq}
 use native.Mathlib.Nat.{le-refl}
 use Rattle.clauses.proofs.Sorted.{put, of-members, under-all}
 use Rattle.clauses.proofs.Unique.{not-fresh}
+use Rattle.grammar.specs.Distinct.{Alike, Distinct}
 
 apart-append : (a b : Rules) → AllApart a → AllApart b → ((r s : Rule) → List·Memᴰ r a → List·Memᴰ s b → Clash r s → ⊥) → AllApart (a ++ b)
 apart-append [] b p q f = q

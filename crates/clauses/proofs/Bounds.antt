@@ -7,11 +7,11 @@ use Rattle.grammar.specs.declared.Rule.{Rule}
 use Rattle.grammar.specs.declared.Clause.{Clause}
 use Rattle.grammar.specs.declared.Clause.the-variants.{Empty, Atom, Unary, Binary}
 use Rattle.grammar.specs.Trees.{Rules}
-use Rattle.grammar.specs.Choices.{Alike}
 use Rattle.clauses.specs.Clauses as C
 use Rattle.clauses.specs.Clauses.{Sort, alternatives, Expr, nonterminal, a-part, terminal, group, mark, pair, optional, repeated, only, or, Clauses, a-line}
 use Rattle.clauses.specs.Readings.{ClausePlace, here, later}
 use Rattle.clauses.specs.Expansion.{size}
+use Rattle.grammar.specs.Distinct.{Alike}
 
 -- every nonterminal written in a part, in a sheet, is below N
 abbrev pub Under : {s : Sort} → ℕ → Expr s → Type 0

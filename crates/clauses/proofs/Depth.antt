@@ -7,9 +7,17 @@ use Prim.Native.Nat.{ℕ, suc, _+_, _≤_, _<_}
 use native.Mathlib.Omega.{arith}
 use lib.Dec.{T, ltb, ltb→lt, nltb→le, lt→ltb}
 use Rattle.clauses.specs.Expansion.{max}
-use Rattle.clauses.specs.Text.{maybe, repeats, marks, Lex, closing, bar, suffix, join, Phrase, WrittenAs, nonterminal-text, terminal-text, group-text, bare-text, optional-text, repeated-text, marked-text, last-text, then-text, single-text, several-text, only-text, or-text, depth, depthOf}
+use Rattle.clauses.specs.Text.{maybe, repeats, marks, Lex, closing, bar, suffix, join, Phrase, WrittenAs, nonterminal-text, terminal-text, group-text, bare-text, optional-text, repeated-text, marked-text, last-text, then-text, single-text, several-text, only-text, or-text, depth, an-atom, an-item, a-row, one, many}
 use Rattle.clauses.specs.Flat.{both, closes, shallow}
 use Rattle.clauses.proofs.Sorted.{max-bounds, max-least}
+
+-- how deep a part of a line is
+abbrev pub depthOf : Phrase → ℕ
+depthOf (an-atom e) = depth e
+depthOf (an-item e) = depth e
+depthOf (a-row e) = depth e
+depthOf (one e) = depth e
+depthOf (many e) = depth e
 
 -- the search for a closing parenthesis passes over what is written
 pub passed : {p : Phrase} {l : List Lex} → WrittenAs p l → (k : List Lex) (d : ℕ) → closes (l ++ k) d ≡ closes k d

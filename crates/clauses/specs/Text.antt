@@ -65,14 +65,6 @@ depth (repeated q m e) = depth e
 depth (only e) = depth e
 depth (or e f) = max (depth e) (depth f)
 
--- how deep a part of a line is
-abbrev pub depthOf : Phrase → ℕ
-depthOf (an-atom e) = depth e
-depthOf (an-item e) = depth e
-depthOf (a-row e) = depth e
-depthOf (one e) = depth e
-depthOf (many e) = depth e
-
 -- lexemes say an expression if one is written so
 pub record IsExpression (l : List Lex) : Type 0 where
   pub expr : Expr alternatives

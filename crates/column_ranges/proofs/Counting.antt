@@ -9,7 +9,8 @@ use lib.Seq.{drop-cons, drop-length, getD-take}
 use Rattle.grammar.specs.Layout.{Every}
 use Rattle.column_ranges.specs.declared.RangeToken.{RangeToken}
 use Rattle.column_ranges.specs.declared.RangeSentence.{RangeSentence}
-use Rattle.column_ranges.specs.Ranges.{Ranges, columns, choiceCount, choiceLimit, rangesOf, Ended, Spread, CountsChoices}
+use Rattle.column_ranges.specs.Ranges.{Ranges, columns, choiceCount, choiceLimit}
+use Rattle.column_ranges.specs.RangeSentences.{rangesOf, Ended, Spread, CountsChoices}
 
 -- what stands past the end
 abbrev pub no-range : RangeToken

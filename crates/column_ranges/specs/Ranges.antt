@@ -1,16 +1,14 @@
 -- Tokens whose columns are known between two ends, and what some choice of columns within them gives: 02, request 10.
 use mathlib.Core.Path.{_≡_}
 use mathlib.Core.List.{List, [], _∷_}
-use Prim.Native.Nat.{ℕ, _+_, _-_, _*_, _≤_, _<_}
-use lib.ListN.{length, take}
+use Prim.Native.Nat.{ℕ, _+_, _-_, _*_, _≤_}
 use Rattle.grammar.specs.declared.Token.{Token}
-use Rattle.grammar.specs.Layout.{Word, line, col, width, Every}
+use Rattle.grammar.specs.Layout.{Word, line, col, width}
 use Rattle.grammar.specs.Trees.{Rules}
 use Rattle.grammar.specs.Candidates.{Rising}
 use Rattle.chart.specs.declared.Verdict.{Verdict}
-use Rattle.chart.specs.Sheets.{Holds}
 use Rattle.column_ranges.specs.declared.RangeToken.{RangeToken}
-use Rattle.column_ranges.specs.declared.RangeSentence.{RangeSentence}
+use Rattle.chart.specs.Verdicts.{Holds}
 
 -- the tokens of a range sheet
 abbrev pub Ranges : Type 0
@@ -50,24 +48,3 @@ choiceCount (r ∷ rs) = columns r * choiceCount rs
 -- 49: more are refused
 abbrev pub choiceLimit : ℕ
 choiceLimit = 65536
-
--- the first `count` of the tokens
-abbrev pub rangesOf : RangeSentence → Ranges
-rangesOf s = take (s .count) (s .tokens)
-
--- what refusals 13 and 48 see to: ends in the order of their names, and a column's bounds
-pub record Ended (r : RangeToken) : Type 0 where
-  pub ordered : r .low .0 ≤ r .high .0
-  pub least : 1 ≤ r .low .0
-  pub most : r .high .0 ≤ 65535
-
--- at most 64 tokens, each with its ends
-pub record Spread (s : RangeSentence) : Type 0 where
-  pub few : s .count ≤ 64
-  pub whole : length (rangesOf s) ≡ s .count
-  pub ended : Every Ended (rangesOf s)
-
--- m counts the choices, where they are within the limit; otherwise it is above the limit as they are
-pub record CountsChoices (rs : Ranges) (m : ℕ) : Type 0 where
-  pub exact : m ≤ choiceLimit → m ≡ choiceCount rs
-  pub over : choiceLimit < m → choiceLimit < choiceCount rs

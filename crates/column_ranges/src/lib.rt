@@ -2,7 +2,8 @@
 use grammar::Column;
 use grammar::Line;
 ghost use mathlib.Core.Path.{_≡_};
-ghost use Rattle.column_ranges.specs.Ranges.{columns as columnsOf, rangesOf, Ended, Spread, CountsChoices};
+ghost use Rattle.column_ranges.specs.Ranges.{columns as columnsOf};
+ghost use Rattle.column_ranges.specs.RangeSentences.{rangesOf, Ended, Spread, CountsChoices};
 
 // A terminal on a line, its column known between two ends.
 pub struct RangeToken {

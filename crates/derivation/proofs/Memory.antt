@@ -9,7 +9,6 @@ use lib.ListN.{length, getD, take, drop, replicate, length-append, length-take, 
 use lib.Seq.{drop-drop, take-add, getD-drop, length-take-le, take-all}
 use Rattle.grammar.specs.Layout.{Word, Every}
 use Rattle.grammar.specs.Trees.{Tree, empty, leaf, unary, binary, root, word, Rules}
-use Rattle.grammar.specs.Choices.{Distinct}
 use Rattle.grammar.specs.Rows.{startOf}
 use Rattle.shown.specs.Shown.{View, closedRow, shownRows, shownCount}
 use Rattle.shown.proofs.ShownLaws.{length-shown, some-shown}
@@ -22,6 +21,7 @@ use Rattle.rows.specs.Bytes.{splice}
 use Rattle.rows.specs.Steps.{kidsOf, entriesOf, closedStep, Branched}
 use Rattle.rows.proofs.BytesLaws.{length-splice, take-splice, drop-splice, drop-splice-high}
 use Rattle.derivation.proofs.Pending.{Pending, entries, rowsAll, kids, nodeShape, shownKids, shownShape, Sits, Fork, Aim}
+use Rattle.grammar.specs.Distinct.{Distinct}
 
 -- 1. the rows shown of a tree: its own, then those of its children
 

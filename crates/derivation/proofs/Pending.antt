@@ -8,13 +8,14 @@ use lib.ListN.{length, getElem?}
 use Rattle.grammar.specs.declared.Rule.{Rule}
 use Rattle.grammar.specs.Layout.{Word, Every}
 use Rattle.grammar.specs.Trees.{Tree, empty, leaf, unary, binary, root, word, Rules, TwoTrees}
-use Rattle.grammar.specs.Choices.{Top, Takes, Choice, OnlyChoice, OtherChoice, Node, Each, Beneath, Preferred, AllPreferred, FirstTree, SecondTree, Swerves, Second, here, below, left, right, Distinct}
+use Rattle.grammar.specs.Choices.{Top, Takes, Choice, OnlyChoice, OtherChoice, Node, Each, Beneath, Preferred, AllPreferred, FirstTree, SecondTree, Swerves, Second, here, below, left, right}
 use Rattle.shown.specs.Shown.{View, shownRows}
 use Rattle.grammar.specs.SpanSheet.{part}
 use Rattle.grammar.proofs.ChoiceLaws.{takes-unique, other-same, not-only, top-of, beneath-of, second-rooted, second-spelled, keep-unary, keep-binary, two-trees, two-not-only, preferred-choice, preferred-same}
 use Rattle.rows.specs.declared.Step.{Step}
 use Rattle.rows.specs.Steps.{stepOfClause, closedStep}
 use Rattle.derivation.specs.Picks.{Picks, Passes}
+use Rattle.grammar.specs.Distinct.{Distinct}
 
 -- a tree to be written, and where its word starts
 pub record Pending : Type 0 where

@@ -16,7 +16,7 @@ use Rattle.grammar.specs.declared.Sentence.{Sentence}
 use Rattle.grammar.specs.Layout.{Word}
 use Rattle.grammar.specs.Trees.{Rules}
 use Rattle.grammar.specs.Choices.{Choice, ChoiceBefore, Same, OnlyChoice, OtherChoice, FirstChoice, Preferred}
-use Rattle.grammar.specs.Content.{rules, spelled, Formed, SmallRule}
+use Rattle.grammar.specs.Content.{rules, Formed, SmallRule}
 use Rattle.grammar.specs.SpanSheet.{part, secondWord}
 use Rattle.grammar.proofs.Lists.{mem-every}
 use Rattle.sets.specs.Says.{Says}
@@ -29,6 +29,7 @@ use Rattle.rows.specs.declared.Step.{Step}
 use Rattle.rows.specs.Steps.{stepOfClause}
 use Rattle.derivation.specs.Wanted.{Charted, Ready}
 use Rattle.derivation.specs.Picks.{HasChoice, Picks, PickedStep, Passes}
+use Rattle.grammar.specs.Sentences.{spelled}
 
 -- a choice's rule is one of the sheet's, and its left length one of the word's
 pub choice-within : {g : Grammar} → Formed g → (w : Word) (A i n q l : ℕ) → Choice (rules g) A (part w i n) q l → (q < g .count) × (l ≤ n)

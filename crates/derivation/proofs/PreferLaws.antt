@@ -9,7 +9,7 @@ use Rattle.grammar.specs.Trees.{Rules}
 use Rattle.grammar.specs.Choices.{Preferred, straight, looping}
 use Rattle.grammar.specs.declared.Grammar.{Grammar}
 use Rattle.grammar.specs.declared.Sentence.{Sentence}
-use Rattle.grammar.specs.Content.{rules, spelled}
+use Rattle.grammar.specs.Content.{rules}
 use Rattle.grammar.specs.Cycles.{Cyclic}
 use Rattle.heights.specs.Least.{HeightSheet}
 use Rattle.chart.specs.declared.Pick.{Pick}
@@ -19,6 +19,7 @@ use Rattle.derivation.specs.Wanted.{Charted, LentHeights, Ready}
 use Rattle.derivation.specs.Picks.{HasChoice}
 use Rattle.derivation.specs.Lows.{LowPick, PreferredPick}
 use Rattle.derivation.proofs.PickLaws.{first-of-next, none-of-none}
+use Rattle.grammar.specs.Sentences.{spelled}
 
 pub some : (n : ℕ) → (n ≡ 0 → ⊥) → 0 < n
 some n f = omega arith

@@ -10,11 +10,10 @@ use Rattle.grammar.specs.declared.Grammar.{Grammar}
 use Rattle.grammar.specs.declared.Sentence.{Sentence}
 use Rattle.grammar.specs.Layout.{Word}
 use Rattle.grammar.specs.Trees.{Tree, empty, leaf, unary, binary, root, word, Rules}
-use Rattle.grammar.specs.Choices.{Distinct}
 use Rattle.grammar.specs.Rows.{startOf}
 use Rattle.shown.specs.Shown.{View, shownCount}
 use Rattle.shown.proofs.ShownLaws.{some-shown}
-use Rattle.grammar.specs.Content.{rules, spelled}
+use Rattle.grammar.specs.Content.{rules}
 use Rattle.grammar.specs.SpanSheet.{part}
 use Rattle.rows.specs.declared.Step.{Step}
 use Rattle.derivation.specs.Written.{places}
@@ -25,6 +24,8 @@ use Rattle.rows.specs.Steps.{kidsOf, stepOfClause, closedStep, entriesOf, Branc
 use Rattle.derivation.specs.Picks.{HasChoice, PickedStep, Looked, seen, closed}
 use Rattle.derivation.proofs.Pending.{kids, nodeShape, shownKids, shownShape, Aim, aim-step, aim-pass, aim-choice}
 use Rattle.derivation.proofs.Memory.{goal-unique, State, state-start, Popped, pop, turn, over, laid-full, laid-short}
+use Rattle.grammar.specs.Distinct.{Distinct}
+use Rattle.grammar.specs.Sentences.{spelled}
 
 shape-kind : (sees : View) (m : Bool) (t : Tree) → shownShape sees m t .kind ≤ 4
 shape-kind sees m t = go (sees (root t)) t

@@ -10,18 +10,20 @@ use native.Mathlib.Decide.{decLe}
 use lib.ListN.{length, replicate}
 use Rattle.grammar.specs.Layout.{Word}
 use Rattle.grammar.specs.Trees.{Tree, Rules, Derives, TwoTrees}
-use Rattle.grammar.specs.Choices.{Distinct, FirstTree, SecondTree}
+use Rattle.grammar.specs.Choices.{FirstTree, SecondTree}
 use Rattle.grammar.specs.Rows.{rowCount}
 use Rattle.grammar.proofs.Existence.{first-of-derives, two-iff-second}
 use Rattle.derivation.specs.declared.Counts.{Counts}
 use Rattle.derivation.specs.Written.{places, countOf, filled, Written}
 use Rattle.derivation.specs.Wanted.{Wanted, Laid}
 use Rattle.derivation.specs.Showing.{countShown, filledShown, ShownWritten}
-use Rattle.shown.specs.Shown.{View, member, shownCount}
+use Rattle.shown.specs.Shown.{View, shownCount}
 use Rattle.shown.proofs.ShownLaws.{some-shown, Seen, rows-open, count-open, seen-valid, all-members}
 use Rattle.grammar.specs.declared.Grammar.{Grammar}
 use Rattle.grammar.specs.Content.{rules, Formed}
 use Rattle.grammar.proofs.ChoiceLaws.{first-witness, second-witness}
+use Rattle.grammar.specs.Distinct.{Distinct}
+use Rattle.shown.specs.Members.{member}
 
 -- 1. from one memory to both
 

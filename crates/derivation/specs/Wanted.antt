@@ -10,13 +10,14 @@ use Rattle.grammar.specs.declared.Sentence.{Sentence}
 use Rattle.grammar.specs.Layout.{Word}
 use Rattle.grammar.specs.Trees.{Tree, Rules}
 use Rattle.grammar.specs.Choices.{FirstTree, SecondTree}
-use Rattle.grammar.specs.Content.{rules, spelled, Formed, Positioned}
+use Rattle.grammar.specs.Content.{rules, Formed, Positioned}
 use Rattle.grammar.specs.SpanSheet.{SpanSheet}
 use Rattle.grammar.specs.Cycles.{Cyclic}
 use Rattle.shown.specs.Shown.{View, shownCount}
 use Rattle.heights.specs.Least.{HeightSheet}
 use Rattle.derivation.specs.Written.{places}
 use Rattle.derivation.specs.Showing.{filledShown}
+use Rattle.grammar.specs.Sentences.{spelled}
 
 -- what both sheets gave, and the words that were filled from them
 pub record Charted (g : Grammar) (s : Sentence) (ws : List ℕ) : Type 0 where

@@ -22,7 +22,7 @@ ghost use Prim.Native.Nat.{_+_, _*_, _-_, _≤_, _<_};
 ghost use Rattle.grammar.specs.Trees.{Tree};
 ghost use Rattle.grammar.specs.Choices.{FirstChoice, Preferred, FirstTree, SecondTree};
 ghost use Rattle.grammar.specs.Cycles.{Cyclic};
-ghost use Rattle.grammar.specs.Content.{rules, spelled};
+ghost use Rattle.grammar.specs.Content.{rules};
 ghost use Rattle.grammar.specs.SpanSheet.{part};
 ghost use Rattle.derivation.specs.Written.{Written};
 ghost use Rattle.derivation.specs.Wanted.{Charted, Ready, Goal, Wanted, Laid};
@@ -30,8 +30,9 @@ ghost use Rattle.derivation.specs.Lows.{heightBy, Inside, LowPick, Prefe
 ghost use Rattle.derivation.specs.Picks.{HasChoice, PickedStep, Passes, Looked};
 ghost use Rattle.derivation.specs.Showing.{ShownWritten};
 ghost use Rattle.heights.specs.Least.{HeightSheet};
-ghost use Rattle.shown.specs.Shown.{member};
 ghost use Rattle.rows.specs.Steps.{closedStep};
+ghost use Rattle.grammar.specs.Sentences.{spelled};
+ghost use Rattle.shown.specs.Members.{member};
 
 // How many rows each tree has, 0 for one that is not written; `fits` is false where a tree of the answer has more rows than its
 // memory has places (refusal 22).

@@ -9,7 +9,7 @@ use native.Mathlib.Numerals.{add-one}
 use native.Mathlib.Decide.{decLt}
 use lib.ListN.{length, getD, take}
 use lib.Seq.{take-suc}
-use Rattle.sets.specs.Sets.{In, insert}
+use Rattle.sets.specs.Sets.{In}
 use Rattle.sets.proofs.Says.{true-not-false}
 use Rattle.sets.proofs.Sets.{in-zero, insert-same, insert-keeps, insert-only}
 use Rattle.grammar.specs.declared.Rule.{Rule}
@@ -22,6 +22,7 @@ use Rattle.grammar.specs.Content.{rules, SmallRule, Formed}
 use Rattle.grammar.proofs.Lists.{mem-every}
 use Rattle.grammar.proofs.Atoms.{is-covers, atom-is, atom-more, atom-here, atom-cases}
 use Rattle.dominance.specs.Dominance.{Replaces, addLeft, Lefts, Subset, Serves, Replaced, Spares, Spared}
+use Rattle.sets.specs.Insertion.{insert}
 
 -- ---- the lefts of one rule more
 

@@ -3,11 +3,12 @@ use mathlib.Core.Path.{_≡_}
 use mathlib.Core.Bool.{cond}
 use mathlib.Core.Logic.{_↔_}
 use Prim.Native.Nat.{ℕ, _≤_, _<_}
-use Rattle.sets.specs.Sets.{In, insert}
+use Rattle.sets.specs.Sets.{In}
 use Rattle.grammar.specs.declared.Rule.{Rule}
 use Rattle.grammar.specs.Trees.{Rules, HasAtom}
 use Rattle.grammar.specs.Sweeps.{isAtom}
 use Rattle.candidates.specs.Terminals.{Among}
+use Rattle.sets.specs.Insertion.{insert}
 
 -- y has every left that x has in A rules
 pub record Replaces (g : Rules) (y x : ℕ) : Type 0 where

@@ -10,9 +10,10 @@ use lib.Seq.{length-take-le}
 use lib.Dec.{leb}
 use borrow.Author.Tests.{lt-leb, leb-true, leb-false}
 use Rattle.fields.specs.declared.Cursor.{Cursor}
-use Rattle.fields.specs.Pieces.{before, piecesFrom, fieldsLeft}
-use Rattle.fields.specs.Fields.{withCursor, readField, onValue, withField, atEnd}
+use Rattle.fields.specs.Pieces.{before}
+use Rattle.fields.specs.Fields.{onValue, withField, atEnd}
 use Rattle.fields.proofs.Pieces.{from-step, cut-high, cut-step}
+use Rattle.fields.specs.Cursors.{piecesFrom, fieldsLeft, withCursor, readField}
 
 -- a cursor c of the sheet s whose line ends in the sheet
 module _ (s : List ℕ) (c : Cursor) (inside : c .end ≤ length s) where

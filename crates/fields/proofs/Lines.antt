@@ -11,8 +11,9 @@ use lib.Seq.{length-take-le, drop-nil, take-nil}
 use lib.Dec.{leb, ltb}
 use borrow.Author.Tests.{le-leb, leb-true, leb-false}
 use Rattle.fields.specs.declared.Cursor.{Cursor}
-use Rattle.fields.specs.Pieces.{before, pieces, piecesFrom, lineAt, bytesLeft, fieldsLeft, isEmpty}
+use Rattle.fields.specs.Pieces.{before, pieces, isEmpty}
 use Rattle.fields.proofs.Pieces.{from-step, cut-high, cut-step}
+use Rattle.fields.specs.Cursors.{piecesFrom, lineAt, bytesLeft, fieldsLeft}
 
 drop-take : (at e : ℕ) (s : List ℕ) → drop at (take e s) ≡ take (e - at) (drop at s)
 drop-take zero e s = rw (sub-zero e) refl

@@ -11,7 +11,8 @@ use lib.ListN.{length, take, drop, getD, length-drop, drop-of-length-le}
 use lib.Seq.{drop-cons}
 use lib.Dec.{eqb, leb, leb·suc-suc}
 use borrow.Author.Tests.{eq-eqb, ne-eqb, le-leb, lt-leb}
-use Rattle.fields.specs.Pieces.{before, pieces, onto, piecesFrom}
+use Rattle.fields.specs.Pieces.{before, pieces, onto}
+use Rattle.fields.specs.Cursors.{piecesFrom}
 
 -- at the end nothing stands before b
 pub before-end : (b : ℕ) (s : List ℕ) (i : ℕ) → length s ≤ i → before b (drop i s) ≡ []

@@ -1,19 +1,7 @@
 -- A line's fields, read one after the other: by a cursor, and by what is said of them.
-use Prim.Native.Nat.{ℕ, _+_}
+use Prim.Native.Nat.{ℕ}
 use mathlib.Core.List.{List, [], _∷_}
 use mathlib.Core.Option.{Option, none, some}
-use lib.ListN.{length}
-use Rattle.fields.specs.declared.Cursor.{Cursor}
-
--- what a field was read as, with a cursor
-abbrev pub withCursor : {X : Type 0} → Option X → Cursor → Option (X × Cursor)
-withCursor (some v) c = some (v, c)
-withCursor none c = none
-
--- the first of the fields left at a cursor, where `read` says what a field's bytes are, and the cursor moved past it and past the blank behind it
-abbrev pub readField : {X : Type 0} → (List ℕ → Option X) → Cursor → List (List ℕ) → Option (X × Cursor)
-readField read c [] = none
-readField read c (f ∷ fs) = withCursor (read f) (record { at = c .at + length f + 1; end = c .end })
 
 module _ {R : Type 0} (bad : R) where
   abbrev pub onValue : {X : Type 0} → Option X → (X → R) → R

@@ -3,3 +3,4 @@ pub mod Words
 pub mod Fields
 pub mod Answers
 pub mod Parts
+pub mod Cursors

@@ -2,11 +2,11 @@
 ghost use mathlib.Core.Path.{_≡_};
 ghost use Prim.Native.Nat.{_+_, _-_, _≤_};
 ghost use lib.ListN.{length, drop};
-ghost use Rattle.fields.specs.Pieces.{before, sameBytes, lineAt, fieldsLeft};
+ghost use Rattle.fields.specs.Pieces.{before, sameBytes};
 ghost use Rattle.fields.specs.Parts.{Part};
 ghost use Rattle.fields.specs.Words.{digitsOf, numeralOf, kindOf, layOf, operandOf};
 ghost use Rattle.fields.specs.Answers.{asNumber, asKind, asLay, asOperand, numberField, kindField, layField, operandField};
-ghost use Rattle.fields.specs.Fields.{readField};
+ghost use Rattle.fields.specs.Cursors.{lineAt, fieldsLeft, readField};
 
 // A place in a sheet and the line that it is in: `at` is where the next field begins, one past `end` where no field is left; `end` is
 // where the line ends, the place of its byte 10 or the sheet's end.

@@ -17,7 +17,8 @@ use Rattle.grammar.specs.declared.Clause.the-variants as Clause
 use Rattle.grammar.specs.Layout.{Word}
 use Rattle.grammar.specs.Layout as Mark
 use Rattle.grammar.specs.Trees.{Tree, empty, leaf, unary, binary, root, word, Rules, Valid, valid-empty, valid-leaf, valid-unary, valid-binary, Witness, OneTree, TwoTrees}
-use Rattle.grammar.specs.Choices.{Top, Takes, Choice, ChoiceBefore, Same, FirstChoice, OnlyChoice, OtherChoice, height, GivesHeight, LowChoice, Ask, Node, Each, Beneath, Preferred, straight, looping, AllPreferred, FirstTree, Swerves, Second, here, below, left, right, SecondTree, Alike, Distinct}
+use Rattle.grammar.specs.Choices.{Top, Takes, Choice, ChoiceBefore, Same, FirstChoice, OnlyChoice, OtherChoice, height, GivesHeight, LowChoice, Ask, Node, Each, Beneath, Preferred, straight, looping, AllPreferred, FirstTree, Swerves, Second, here, below, left, right, SecondTree}
+use Rattle.grammar.specs.Distinct.{Alike, Distinct}
 
 -- 1. a choice is taken at one place only
 

@@ -10,7 +10,7 @@ use lib.ListN.{length, length-append}
 use Rattle.grammar.specs.declared.BinaryMark.{BinaryMark}
 use Rattle.grammar.specs.Layout.{Word}
 use Rattle.grammar.specs.Trees.{Tree, empty, leaf, unary, binary, root, word, Rules, HasBinary, Valid, valid-empty, valid-leaf, valid-unary, valid-binary, Derives, NoTree, OneTree, TwoTrees}
-use Rattle.grammar.specs.Choices.{Choice, Same, FirstChoice, OnlyChoice, OtherChoice, LowChoice, Node, Each, Preferred, straight, looping, AllPreferred, FirstTree, Second, here, below, left, right, SecondTree, Distinct}
+use Rattle.grammar.specs.Choices.{Choice, Same, FirstChoice, OnlyChoice, OtherChoice, LowChoice, Node, Each, Preferred, straight, looping, AllPreferred, FirstTree, Second, here, below, left, right, SecondTree}
 use Rattle.grammar.specs.Cycles.{Nullable, Edge, by-unary, by-left, by-right, Cyclic}
 use Rattle.grammar.proofs.Lists.{both?}
 use Rattle.grammar.proofs.ChoiceLaws.{takes-of, preferred-choice, each-map, two-not-only, one-tree, two-trees}
@@ -20,6 +20,7 @@ use Rattle.grammar.proofs.Acyclic.{Ranked, ranked, cyclic?}
 use Rattle.grammar.proofs.CanBy.{KidsBy}
 use Rattle.grammar.proofs.Deciding.{derives?, choice?}
 use Rattle.grammar.proofs.LowTrees.{TreeBy, built, grown-up, low-exists}
+use Rattle.grammar.specs.Distinct.{Distinct}
 
 abbrev pub FirstOf : Rules → ℕ → Word → Type 0
 FirstOf g A w = (t : Tree) × FirstTree g A w t

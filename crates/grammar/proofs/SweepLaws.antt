@@ -10,8 +10,9 @@ use Rattle.grammar.specs.declared.Cell.{Cell}
 use Rattle.grammar.specs.Layout.{Word, Every, width}
 use Rattle.grammar.specs.Trees.{Rules, TwoTrees}
 use Rattle.grammar.specs.Candidates.{Rising, Wide, placed, sentence, Terminal, Candidate, CellBefore, CellsBefore, Earlier}
-use Rattle.grammar.specs.Sweeps.{Clear, FirstTwo, SweepAnswer, clear, found, Answers}
+use Rattle.grammar.specs.Sweeps.{Clear, FirstTwo, SweepAnswer, clear, found}
 use Rattle.grammar.proofs.Normalization.{Normal, normal}
+use Rattle.grammar.specs.SweepAnswers.{Answers}
 
 pub cell-path : {c d : Cell} → c .terminal ≡ d .terminal → c .step ≡ d .step → c .column ≡ d .column → c ≡ d
 cell-path a s k = λ i. record { terminal = a i; step = s i; column = k i }

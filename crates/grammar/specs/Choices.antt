@@ -1,11 +1,9 @@
 -- Choices, the first tree and the second tree: 01, "Trees, choices, span sheet"; on a looping sheet 02, "Rules that loop".
 use mathlib.Core.Path.{_≡_}
-use mathlib.Core.List.{List, [], _∷_}
 use mathlib.Core.Logic.{_⊎_}
 use mathlib.Core.Option.{some}
 use Prim.Native.Nat.{ℕ, suc, _≤_, _<_, max}
 use lib.ListN.{length, getElem?}
-use Rattle.grammar.specs.declared.Token.{Token}
 use Rattle.grammar.specs.declared.UnaryMark.{UnaryMark}
 use Rattle.grammar.specs.declared.BinaryMark.{BinaryMark}
 use Rattle.grammar.specs.declared.Rule.{Rule}
@@ -146,26 +144,3 @@ pub record SecondTree (g : Rules) (A : ℕ) (w : Word) (u : Tree) : Type 0 where
   pub tree : Tree
   pub first : FirstTree g A w tree
   pub second : Second g tree u
-
--- two clauses have the same kind, first and second, under any lay; two of kind A share a terminal
-abbrev pub Alike : Clause → Clause → Type 0
-Alike Clause.Empty Clause.Empty = Unit {0}
-Alike Clause.Empty (Clause.Atom c d) = ⊥
-Alike Clause.Empty (Clause.Unary B n) = ⊥
-Alike Clause.Empty (Clause.Binary B C n) = ⊥
-Alike (Clause.Atom a b) Clause.Empty = ⊥
-Alike (Clause.Atom a b) (Clause.Atom c d) = (x : ℕ) × Covers a b x × Covers c d x
-Alike (Clause.Atom a b) (Clause.Unary B n) = ⊥
-Alike (Clause.Atom a b) (Clause.Binary B C n) = ⊥
-Alike (Clause.Unary A m) Clause.Empty = ⊥
-Alike (Clause.Unary A m) (Clause.Atom c d) = ⊥
-Alike (Clause.Unary A m) (Clause.Unary B n) = A ≡ B
-Alike (Clause.Unary A m) (Clause.Binary B C n) = ⊥
-Alike (Clause.Binary A D m) Clause.Empty = ⊥
-Alike (Clause.Binary A D m) (Clause.Atom c d) = ⊥
-Alike (Clause.Binary A D m) (Clause.Unary B n) = ⊥
-Alike (Clause.Binary A D m) (Clause.Binary B C n) = (A ≡ B) × (D ≡ C)
-
--- no two rules of one left are alike: what refusal 5 keeps off
-pub record Distinct (g : Rules) : Type 0 where
-  pub one : (p q : ℕ) (r s : Rule) → getElem? g p ≡ some r → getElem? g q ≡ some s → r .left ≡ s .left → Alike (r .clause) (s .clause) → p ≡ q

@@ -7,18 +7,15 @@ use Rattle.grammar.specs.declared.Clause.{Clause}
 use Rattle.grammar.specs.declared.Clause.the-variants as Clause
 use Rattle.grammar.specs.declared.Grammar.{Grammar}
 use Rattle.grammar.specs.declared.Sentence.{Sentence}
-use Rattle.grammar.specs.Layout.{Word, Every}
+use Rattle.grammar.specs.Layout.{Every}
 use Rattle.grammar.specs.Trees.{Rules}
-use Rattle.grammar.specs.Choices.{Distinct}
 use Rattle.grammar.specs.Candidates.{Rising}
+use Rattle.grammar.specs.Sentences.{spelled}
+use Rattle.grammar.specs.Distinct.{Distinct}
 
 -- the rules of a grammar: the first `count`
 abbrev pub rules : Grammar → Rules
 rules g = take (g .count) (g .rules)
-
--- the word of a sentence: the first `count` tokens
-abbrev pub spelled : Sentence → Word
-spelled s = take (s .count) (s .tokens)
 
 -- nonterminals and terminals are 0 to 63
 abbrev pub SmallClause : Clause → Type 0

@@ -7,3 +7,6 @@ pub mod SpanSheet
 pub mod Candidates
 pub mod Sweeps
 pub mod Content
+pub mod Distinct
+pub mod SweepAnswers
+pub mod Sentences

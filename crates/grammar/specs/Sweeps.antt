@@ -1,5 +1,5 @@
 -- What a sweep up to the bound k says: 01, "The sweep" (demand 3), and the number that refusal 24 judges.
-use mathlib.Core.Bool.{Bool, true, false, cond, _||_, _&&_}
+use mathlib.Core.Bool.{Bool, false, cond, _||_, _&&_}
 use mathlib.Core.List.{List, [], _∷_}
 use Prim.Native.Nat.{ℕ, zero, suc, _+_, _-_, _*_, _^_, _≤_}
 use lib.ListN.{length}
@@ -27,10 +27,6 @@ pub record FirstTwo (g : Rules) (k : ℕ) (cs : List Cell) : Type 0 where
 pub data SweepAnswer : Type 0 where
   clear : SweepAnswer
   found : List Cell → SweepAnswer
-
-abbrev pub Answers : Rules → ℕ → SweepAnswer → Type 0
-Answers g k clear = Clear g k
-Answers g k (found cs) = FirstTwo g k cs
 
 -- the clause is of kind A and covers the terminal x
 abbrev pub isAtom : ℕ → Clause → Bool

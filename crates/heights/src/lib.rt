@@ -19,7 +19,7 @@ ghost use mathlib.Core.Path.{_≡_};
 ghost use Prim.Native.Nat.{_+_, _-_, _*_, _≤_, _<_, max};
 ghost use lib.ListN.{length, getD, replicate};
 ghost use Rattle.grammar.specs.declared.Clause.the-variants as Kind;
-ghost use Rattle.grammar.specs.Content.{rules, spelled, SmallClause, Formed};
+ghost use Rattle.grammar.specs.Content.{rules, SmallClause, Formed};
 ghost use Rattle.grammar.specs.SpanSheet.{pairAt};
 ghost use Rattle.codes.specs.Codes.{decode, decoded};
 ghost use Rattle.chart.specs.Tables.{byMarks};
@@ -28,6 +28,7 @@ ghost use Rattle.heights.specs.Least.{numberAt, HeightSheet};
 ghost use Rattle.heights.specs.Tall.{table, byWord, Measured, Over, Room};
 ghost use Rattle.heights.specs.Falls.{Passed, Between, Inner, Ends, AllEnds, Either, Stopped, Shut};
 ghost use Rattle.heights.specs.Filled.{Filled, Whole, Settling};
+ghost use Rattle.grammar.specs.Sentences.{spelled};
 
 fn wide(x: u8) -> usize
     ensures { λ r. ⌜ r ≡ x ⌝ }

@@ -10,8 +10,8 @@ use Rattle.grammar.specs.declared.Rule.{Rule}
 use Rattle.grammar.specs.declared.Clause.{Clause}
 use Rattle.grammar.specs.declared.Clause.the-variants as Clause
 use Rattle.grammar.specs.Trees.{Covers}
-use Rattle.grammar.specs.Choices.{Alike}
 use Rattle.lines.specs.Keys.{keyWith, keyOf, sameKey}
+use Rattle.grammar.specs.Distinct.{Alike}
 
 alike-key : (l m : ℕ) (c d : Clause) → l ≡ m → Alike c d → sameKey (keyWith l c) (keyWith m d) ≡ true
 alike-key l m Clause.Empty Clause.Empty e a = rw (eq-eqb l m e) refl

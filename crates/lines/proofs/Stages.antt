@@ -12,11 +12,11 @@ use Rattle.fields.specs.declared.NumberField.the-variants as NumberField
 use Rattle.fields.specs.declared.KindField.the-variants as KindField
 use Rattle.fields.specs.declared.LayField.the-variants as LayField
 use Rattle.fields.specs.declared.OperandField.the-variants as OperandField
-use Rattle.fields.specs.Pieces.{fieldsLeft}
 use Rattle.fields.specs.Words.{numeralOf, kindOf, layOf, operandOf}
-use Rattle.fields.specs.Fields.{readField, withField}
+use Rattle.fields.specs.Fields.{withField}
 use Rattle.fields.specs.Answers.{numberField, kindField, layField, operandField}
 use Rattle.fields.proofs.Fields.{with-good, with-bad}
+use Rattle.fields.specs.Cursors.{fieldsLeft, readField}
 
 number-is : (o : Option (ℕ × Cursor)) (v : ℕ) (d : Cursor) → NumberField.Is v d ≡ numberField o → some (v, d) ≡ o
 number-is (some x) v d e =

@@ -9,9 +9,10 @@ use lib.Seq.{length-take-le}
 use lib.Dec.{leb, ltb}
 use borrow.Author.Tests.{lt-ltb, le-ltb, le-leb, lt-leb}
 use Rattle.fields.specs.declared.Cursor.{Cursor}
-use Rattle.fields.specs.Pieces.{bytesLeft, isEmpty}
+use Rattle.fields.specs.Pieces.{isEmpty}
 use Rattle.lines.specs.declared.Turn.the-variants as Turn
 use Rattle.lines.specs.Turns.{turnOf}
+use Rattle.fields.specs.Cursors.{bytesLeft}
 
 filled : (l : List ℕ) → 0 < length l → isEmpty l ≡ false
 filled [] h = absurd (omega arith)

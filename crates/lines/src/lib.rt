@@ -21,11 +21,11 @@ ghost use mathlib.Core.Bool.{true};
 ghost use Prim.Native.Nat.{_≤_};
 ghost use lib.ListN.{length};
 ghost use lib.Dec.{ltb};
-ghost use Rattle.fields.specs.Pieces.{bytesLeft, fieldsLeft};
 ghost use Rattle.lines.specs.Turns.{turnOf};
 ghost use Rattle.lines.specs.Keys.{unaryKey, keyOf, meets, sameOperands, sameKey};
 ghost use Rattle.lines.specs.RuleLines.{shape, plainRule, atomRule, upTo, unaryRule, binaryRule, layRule, ruleOf, ruleFields};
 ghost use Rattle.lines.specs.TokenLines.{sizedOf, tokenOf, afterWidth, afterColumn, tokenFields};
+ghost use Rattle.fields.specs.Cursors.{bytesLeft, fieldsLeft};
 
 // A rule, or the first of the conditions 2, 3, 4, 44 that holds of the line.
 pub enum RuleLine {

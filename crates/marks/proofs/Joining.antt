@@ -8,7 +8,6 @@ use Prim.Native.Nat.{ℕ, _+_, _-_, _≤_, _<_}
 use native.Mathlib.Omega.{arith}
 use native.Mathlib.Decide.{decLt}
 use Rattle.sets.specs.Says.{Says}
-use Rattle.sets.specs.Sets.{insert}
 use Rattle.sets.proofs.Says.{holds, says-iff, true-not-false}
 use Rattle.grammar.specs.declared.Token.{Token}
 use Rattle.grammar.specs.declared.UnaryMark.{UnaryMark}
@@ -21,12 +20,14 @@ use Rattle.marks.specs.declared.Least.{Least}
 use Rattle.marks.specs.declared.SpanMarks.{SpanMarks}
 use Rattle.marks.specs.declared.Draft.{Draft}
 use Rattle.marks.specs.Drafts.{half}
-use Rattle.marks.specs.Half.{Half, no-token, tokenAt, MayKeep, MayPair}
+use Rattle.marks.specs.Half.{Half, tokenAt, MayKeep, MayPair}
 use Rattle.marks.specs.Later.{OffsideBy, OffalignBy}
 use Rattle.marks.proofs.DraftLaws.{drafted-at}
 use Rattle.marks.specs.Marked.{Included, Grown, Joined, opened, Advanced, alone, Pairing, Carried, Marked}
 use Rattle.marks.proofs.Columns.{least-first, least-more, least-open, offside-by, offalign-by}
 use Rattle.marks.proofs.Pairings.{pairing-none, pairing-more, flagged, unary-marked, binary-marked}
+use Rattle.sets.specs.Insertion.{insert}
+use Rattle.grammar.specs.Sentences.{no-token}
 
 -- ---- one token
 

@@ -6,7 +6,7 @@ use Prim.Native.Nat.{ℕ, _+_, _-_, _≤_, _<_}
 use native.Mathlib.Omega.{arith}
 use native.Mathlib.Decide.{decLt, ℕ-discrete}
 use Rattle.sets.specs.Says.{Says}
-use Rattle.sets.specs.Sets.{In, insert}
+use Rattle.sets.specs.Sets.{In}
 use Rattle.sets.proofs.Sets.{in-zero, insert-same, insert-keeps, insert-only}
 use Rattle.grammar.specs.declared.UnaryMark.{UnaryMark}
 use Rattle.grammar.specs.declared.UnaryMark.the-variants as UnaryMark
@@ -16,6 +16,7 @@ use Rattle.marks.specs.declared.SpanMarks.{SpanMarks}
 use Rattle.marks.specs.Half.{Half, MayKeep, MayPair}
 use Rattle.marks.specs.Later.{OffsideBy, OffalignBy}
 use Rattle.marks.specs.Marked.{UnaryBy, BinaryBy, Included, Pairing}
+use Rattle.sets.specs.Insertion.{insert}
 
 pub pairing-none : (m : BinaryMark) (h : Half) (s to : ℕ) → to ≤ 1 → Pairing m h s to 0
 pairing-none m h s to few = record {

@@ -14,7 +14,8 @@ use Rattle.grammar.specs.declared.BinaryMark.{BinaryMark}
 use Rattle.grammar.specs.Layout.{Word, Every, Keeps, Pairs, last, line, col}
 use Rattle.grammar.specs.Layout as Mark
 use Rattle.grammar.specs.SpanSheet.{part}
-use Rattle.marks.specs.Half.{no-token, tokenAt}
+use Rattle.marks.specs.Half.{tokenAt}
+use Rattle.grammar.specs.Sentences.{no-token}
 
 part-split : (ts : Word) (s l m : ℕ) → part ts s (l + m) ≡ part ts s l ++ part ts (s + l) m
 part-split ts s l m = take-add l m (drop s ts) ∙ ap (λ (x : Word). take l (drop s ts) ++ take m x) (drop-drop l s ts)

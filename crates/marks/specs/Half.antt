@@ -7,14 +7,11 @@ use Rattle.grammar.specs.declared.UnaryMark.{UnaryMark}
 use Rattle.grammar.specs.declared.BinaryMark.{BinaryMark}
 use Rattle.grammar.specs.Layout.{Word, Keeps, Pairs}
 use Rattle.grammar.specs.Trees.{Covers}
+use Rattle.grammar.specs.Sentences.{no-token}
 
 pub record Half : Type 0 where
   pub word : Word
   pub known : ℕ
-
--- what stands past the end of a word
-abbrev pub no-token : Token
-no-token = record { terminal = 0; line = record { 0 = 0 }; column = record { 0 = 0 }; width = record { 0 = 0 } }
 
 -- the token at i
 abbrev pub tokenAt : Word → ℕ → Token

@@ -4,7 +4,7 @@ use mathlib.Core.Bool.{Bool, true, false}
 use mathlib.Core.Logic.{_↔_}
 use Prim.Native.Nat.{ℕ, _-_, _≤_, _<_}
 use Rattle.sets.specs.Says.{Says}
-use Rattle.sets.specs.Sets.{In, insert}
+use Rattle.sets.specs.Sets.{In}
 use Rattle.grammar.specs.declared.UnaryMark.{UnaryMark}
 use Rattle.grammar.specs.declared.UnaryMark.the-variants as UnaryMark
 use Rattle.grammar.specs.declared.BinaryMark.{BinaryMark}
@@ -17,6 +17,7 @@ use Rattle.marks.specs.declared.Least.the-variants as Least
 use Rattle.marks.specs.declared.SpanMarks.{SpanMarks}
 use Rattle.marks.specs.Half.{Half, tokenAt, MayBe, MayKeep, MayPair}
 use Rattle.marks.specs.Later.{LeastLater, Grows, OffsideBy, OffalignBy}
+use Rattle.sets.specs.Insertion.{insert}
 
 -- by the marks k a span of one token is one of the terminals from a to b
 abbrev pub AtomBy : SpanMarks → ℕ → ℕ → Type 0

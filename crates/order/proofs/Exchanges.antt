@@ -11,9 +11,9 @@ use Rattle.codes.specs.Codes.{decode, decoded}
 use Rattle.codes.proofs.Laws.{coded-length, coded-at}
 use Rattle.grammar.specs.declared.Rule.{Rule}
 use Rattle.grammar.specs.Trees.{Rules}
-use Rattle.grammar.specs.Choices.{Alike, Distinct}
 use Rattle.order.specs.Order.{Rearranged, exchanged}
 use Rattle.order.proofs.Places.{no-rule, place, member, there}
+use Rattle.grammar.specs.Distinct.{Alike, Distinct}
 
 pub same-rules : (g : Rules) → Rearranged g g
 same-rules g = record { to = λ r m. m; of = λ r m. m; distinct = λ d. d }

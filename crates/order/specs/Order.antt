@@ -4,7 +4,7 @@ use Prim.Native.Nat.{ℕ}
 use lib.ListN.{getD, set}
 use Rattle.grammar.specs.declared.Rule.{Rule}
 use Rattle.grammar.specs.Trees.{Rules}
-use Rattle.grammar.specs.Choices.{Distinct}
+use Rattle.grammar.specs.Distinct.{Distinct}
 
 -- g′ has the rules of g, and no two alike if g has none
 pub record Rearranged (g g′ : Rules) : Type 0 where

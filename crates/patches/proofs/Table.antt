@@ -14,13 +14,14 @@ use Rattle.grammar.specs.declared.Clause.the-variants.{Empty, Atom, Unary, Bina
 use Rattle.grammar.specs.Layout.{Word, Every}
 use Rattle.grammar.specs.Trees.{Tree, empty, leaf, unary, binary, word, Rules, Valid, valid-empty, valid-leaf, valid-unary, valid-binary, TwoTrees}
 use Rattle.grammar.specs.Candidates.{Rising, sentence, Terminal, Candidate, Earlier}
-use Rattle.grammar.specs.Sweeps.{FirstTwo, SweepAnswer, clear, found, Answers}
+use Rattle.grammar.specs.Sweeps.{FirstTwo, SweepAnswer, clear, found}
 use Rattle.grammar.proofs.Lists.{both?, le?, and, and-left, and-right, all, all-every, holds, holds-yes, mem-every}
 use Rattle.grammar.proofs.SweepLaws.{clear-of}
 use Rattle.patches.specs.Claims.{two, Claim, verdict, sweep, every-sweep-clear, ClaimHolds}
 use Rattle.patches.specs.Patches.{patches}
 use Rattle.patches.proofs.Enumerate.{rising?, earlier?, candidate?, up-to, mem-up-to}
 use Rattle.patches.proofs.Verdicts.{chart, chart-good, reads, read, at-most-one, not-two}
+use Rattle.grammar.specs.SweepAnswers.{Answers}
 
 -- where P holds, the test is asked for
 abbrev where-holds : {P : Type 0} → Dec P → Bool → Bool

@@ -3,7 +3,8 @@ use mathlib.Core.List.{List}
 use Prim.Native.Nat.{ℕ}
 use Rattle.grammar.specs.Layout.{Word}
 use Rattle.grammar.specs.Trees.{Rules, NoTree, OneTree, TwoTrees}
-use Rattle.grammar.specs.Sweeps.{SweepAnswer, clear, Answers}
+use Rattle.grammar.specs.Sweeps.{SweepAnswer, clear}
+use Rattle.grammar.specs.SweepAnswers.{Answers}
 
 pub data TreeCount : Type 0 where
   none one two : TreeCount

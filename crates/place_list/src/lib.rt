@@ -12,7 +12,7 @@ use sets::has;
 use spans::pair_at;
 ghost use Prim.Native.Nat.{_+_, _-_, _≤_, _<_};
 ghost use Rattle.sets.specs.Says.{Says};
-ghost use Rattle.grammar.specs.Content.{rules, spelled, Formed, Positioned};
+ghost use Rattle.grammar.specs.Content.{rules, Formed, Positioned};
 ghost use Rattle.grammar.specs.Rows.{startOf};
 ghost use Rattle.grammar.specs.SpanSheet.{part, SpanSheet};
 ghost use mathlib.Core.Path.{_≡_};
@@ -20,6 +20,7 @@ ghost use Rattle.places.specs.Places.{Several, Contains};
 ghost use Rattle.place_list.specs.Scene.{Scene};
 ghost use Rattle.place_list.specs.Steps.{entry, Lists};
 ghost use Rattle.place_list.specs.Given.{PlacesGiven};
+ghost use Rattle.grammar.specs.Sentences.{spelled};
 
 // Has `a` two or more choices at the span?
 fn has_several(words: &[u64], s: Sentence, g: Grammar, a: u8, start: usize, len: usize) -> bool

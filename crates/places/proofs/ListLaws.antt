@@ -5,10 +5,10 @@ use mathlib.Core.List.{List, [], _∷_, List·Memᴰ, List·Memᴰ·head, List·
 use native.Mathlib.Omega.{arith}
 use Rattle.grammar.specs.Layout.{Word, Every}
 use Rattle.grammar.specs.Trees.{Rules, TwoTrees}
-use Rattle.grammar.specs.Choices.{Distinct}
 use Rattle.grammar.proofs.Lists.{mem-every}
 use Rattle.places.specs.Places.{Place, Entry, Sooner, Ordered, AllPlaces}
 use Rattle.places.proofs.PlaceLaws.{place-two, two-place}
+use Rattle.grammar.specs.Distinct.{Distinct}
 
 sooner-not : (e f : Entry) → Sooner e f → Sooner f e → ⊥
 sooner-not e f (inl x) (inl y) = omega arith

@@ -15,12 +15,13 @@ use Rattle.grammar.specs.declared.BinaryMark.{BinaryMark}
 use Rattle.grammar.specs.Layout.{Word}
 use Rattle.grammar.specs.Layout as Mark
 use Rattle.grammar.specs.Trees.{Tree, empty, leaf, unary, binary, root, word, Rules, Covers, HasUnary, HasBinary, Valid, valid-unary, valid-binary, Witness, Derives, TwoTrees}
-use Rattle.grammar.specs.Choices.{Top, Takes, Same, Alike, Distinct}
+use Rattle.grammar.specs.Choices.{Top, Takes, Same}
 use Rattle.grammar.proofs.ChoiceLaws.{takes-of, append-inj}
 use Rattle.grammar.proofs.ByKind.{derives-of, top-left}
 use Rattle.places.specs.LocalAmbiguity as Pl
 use Rattle.places.specs.LocalAmbiguity.{OneStep, by-unary, by-left, by-right, Reaches, stay, step, Within, SubDerivation, Similar, Dissimilar, LocallyAmbiguous}
 use Rattle.places.specs.Places.{Several}
+use Rattle.grammar.specs.Distinct.{Alike, Distinct}
 
 -- 1. one step up: a tree over a tree
 

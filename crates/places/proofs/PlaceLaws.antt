@@ -10,17 +10,18 @@ use lib.Seq.{drop-cons, take-all}
 use Rattle.grammar.specs.declared.Token.{Token}
 use Rattle.grammar.specs.Layout.{Word, width}
 use Rattle.grammar.specs.Trees.{Tree, unary, binary, root, word, Rules, Witness, TwoTrees}
-use Rattle.grammar.specs.Choices.{Distinct}
 use Rattle.grammar.specs.Rows.{startOf}
 use Rattle.grammar.specs.SpanSheet.{part}
 use Rattle.grammar.specs.Candidates.{After, RisingFrom, Rising, Wide}
-use Rattle.marks.specs.Half.{no-token, tokenAt}
+use Rattle.marks.specs.Half.{tokenAt}
 use Rattle.marks.proofs.Words.{part-length, every-at, cut}
 use Rattle.places.specs.LocalAmbiguity as Paper
 use Rattle.places.specs.LocalAmbiguity.{Reaches, Within, Dissimilar}
 use Rattle.places.specs.Places as Pl
 use Rattle.places.specs.Places.{Several, StandsIn, Contains, Place}
 use Rattle.places.proofs.PaperLaws.{reaches-sub, within-reaches, several-dissimilar, dissimilar-several, several-two, reaches-two, two-found}
+use Rattle.grammar.specs.Distinct.{Distinct}
+use Rattle.grammar.specs.Sentences.{no-token}
 
 -- ---- a nonempty word stands at one place: tokens rise, and each has a width
 

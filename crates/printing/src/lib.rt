@@ -3,8 +3,8 @@ ghost use mathlib.Core.Path.{_≡_};
 ghost use mathlib.Core.List.{List, [], _∷_, _++_};
 ghost use Prim.Native.Nat.{ℕ, _+_, _*_, _≤_, _<_};
 ghost use lib.ListN.{length, take, getD};
-ghost use Rattle.grammar.specs.Content.{spelled};
 ghost use Rattle.printing.specs.Printing.{decimal, Wrote, field, lastField, letterOf, rowText, rowLines, tokenText, tokenLines};
+ghost use Rattle.grammar.specs.Sentences.{spelled};
 use grammar::Sentence;
 use grammar::Token;
 

@@ -20,7 +20,7 @@ use Rattle.sheets.specs.declared.Fault.the-variants as Fault
 use Rattle.sheets.specs.Items.{Step, next, stop, end, Reading, accepted, refused, stepAt, itemsFrom}
 use Rattle.sheets.proofs.Accepted.{items-hold}
 use Rattle.column_ranges.specs.declared.RangeToken.{RangeToken}
-use Rattle.column_ranges.specs.Ranges.{Ranges, choiceCount, choiceLimit, rangesOf, Ended}
+use Rattle.column_ranges.specs.Ranges.{Ranges, choiceCount, choiceLimit}
 use Rattle.range_sheets.specs.declared.RangeLine.{RangeLine}
 use Rattle.range_sheets.specs.declared.RangeLine.the-variants as RangeLine
 use Rattle.sheets.specs.declared.Outcome.{Outcome}
@@ -30,6 +30,7 @@ use Rattle.range_sheets.specs.declared.RangeRead.{RangeRead}
 use Rattle.range_sheets.specs.Promises.{RangesRead}
 use Rattle.range_sheets.specs.RangeLines.{endsOf, rangeOf, rangeFields, rangeLine, afterRangeTerminal, afterRangeLine, afterRangeLow, afterRangeHigh}
 use Rattle.range_sheets.specs.RangeSheets.{rangeSaid, rangeSays, rangeStep, fewChoices}
+use Rattle.column_ranges.specs.RangeSentences.{rangesOf, Ended}
 
 -- the end of a sheet
 pub counted-few : (rs : Ranges) → choiceCount rs ≤ choiceLimit → fewChoices (accepted rs) ≡ accepted rs

@@ -6,10 +6,11 @@ use Rattle.sheets.specs.declared.Outcome.the-variants.{Accepted, Refused}
 use Rattle.sheets.specs.Items.{Reading, Step, next, stop, end}
 use Rattle.sheets.specs.Promises.{readingOf}
 use Rattle.column_ranges.specs.declared.RangeToken.{RangeToken}
-use Rattle.column_ranges.specs.Ranges.{choiceCount, choiceLimit, rangesOf, Spread}
+use Rattle.column_ranges.specs.Ranges.{choiceCount, choiceLimit}
 use Rattle.range_sheets.specs.declared.RangeStep.{RangeStep}
 use Rattle.range_sheets.specs.declared.RangeStep.the-variants as RangeStep
 use Rattle.range_sheets.specs.declared.RangeRead.{RangeRead}
+use Rattle.column_ranges.specs.RangeSentences.{rangesOf, Spread}
 
 -- the answer is the wanted reading; accepted tokens have their ends in order, and few enough choices
 pub record RangesRead (r : RangeRead) (want : Reading RangeToken) : Type 0 where

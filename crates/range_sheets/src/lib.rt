@@ -15,13 +15,13 @@ ghost use Prim.Native.Nat.{_≤_};
 ghost use lib.ListN.{length};
 ghost use lib.Dec.{ltb};
 ghost use Rattle.lines.specs.Turns.{turnOf};
-ghost use Rattle.fields.specs.Pieces.{piecesFrom, bytesLeft, fieldsLeft};
 ghost use Rattle.sheets.specs.declared.Fault.the-variants as Fault;
 ghost use Rattle.sheets.specs.Items.{accepted, refused, stepAt, itemsFrom};
-ghost use Rattle.column_ranges.specs.Ranges.{rangesOf, Spread};
 ghost use Rattle.range_sheets.specs.RangeLines.{endsOf, rangeOf, rangeFields};
 ghost use Rattle.range_sheets.specs.RangeSheets.{rangeSays, rangeStep, fewChoices, rangeSheet};
 ghost use Rattle.range_sheets.specs.Promises.{asRangeStep, RangesRead};
+ghost use Rattle.fields.specs.Cursors.{piecesFrom, bytesLeft, fieldsLeft};
+ghost use Rattle.column_ranges.specs.RangeSentences.{rangesOf, Spread};
 
 // A token with its column's ends, or the first of the conditions 12, 13, 48 that holds of the line.
 pub enum RangeLine {

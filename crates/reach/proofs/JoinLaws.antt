@@ -7,11 +7,12 @@ use native.Mathlib.Omega.{arith}
 use native.Mathlib.Decide.{ℕ-discrete}
 use lib.ListN.{length, getD, set, length-set}
 use lib.Seq.{getD-set-same, getD-set-other}
-use Rattle.sets.specs.Sets.{In, insert}
+use Rattle.sets.specs.Sets.{In}
 use Rattle.sets.proofs.Sets.{insert-same, insert-keeps, insert-only, insert-ge}
 use Rattle.grammar.specs.declared.Rule.{Rule}
 use Rattle.marks.specs.declared.SpanMarks.{SpanMarks}
 use Rattle.reach.specs.Joining.{Joins, ClauseKids, RuleKids}
+use Rattle.sets.specs.Insertion.{insert}
 
 -- nothing is put in
 pub joins-none : (rs : List ℕ) → Joins (λ q B. ⊥) rs rs

@@ -5,7 +5,7 @@ use mathlib.Core.List.{List}
 use Prim.Native.Nat.{ℕ, _+_, _-_, _*_, _≤_, _<_}
 use native.Mathlib.Omega.{arith}
 use lib.ListN.{length, getD}
-use Rattle.sets.specs.Sets.{In, insert}
+use Rattle.sets.specs.Sets.{In}
 use Rattle.sets.proofs.Sets.{in-zero, insert-only}
 use Rattle.grammar.specs.declared.Rule.{Rule}
 use Rattle.grammar.specs.Layout.{Word}
@@ -28,6 +28,7 @@ use Rattle.reach.specs.Reached.{Bit}
 use Rattle.reach.specs.Joining.{Space, Joins, ChoiceKids}
 use Rattle.reach.specs.Spreading.{Known, Working, Spreads, Works, Worked}
 use Rattle.reach.proofs.HeldLaws.{kids-held, kid-held, sound-joins, kids-in, kids-kept, kid-low}
+use Rattle.sets.specs.Insertion.{insert}
 
 -- the rules are small
 abbrev pub Smalls : Rules → Type 0

@@ -21,7 +21,7 @@ ghost use Prim.Native.Nat.{_+_, _≤_, _<_};
 ghost use lib.ListN.{length};
 ghost use Rattle.sets.specs.Says.{Says};
 ghost use Rattle.sets.specs.Sets.{In};
-ghost use Rattle.grammar.specs.Content.{rules, spelled, SmallClause, Formed};
+ghost use Rattle.grammar.specs.Content.{rules, SmallClause, Formed};
 ghost use Rattle.grammar.specs.Trees.{Derives};
 ghost use Rattle.grammar.specs.SpanSheet.{pairs, pairAt, SpanSheet};
 ghost use Rattle.codes.specs.Codes.{decode, decoded};
@@ -30,6 +30,7 @@ ghost use Rattle.chart.specs.Passes.{Room};
 ghost use Rattle.reach.specs.Reached.{Reached};
 ghost use Rattle.reach.specs.Joining.{Space, Joins, Kid, LeftKids, ClauseKids, RuleKids, ChoiceKids, Fresh};
 ghost use Rattle.reach.specs.Spreading.{Known, Spreads, Worked, Begun, Done};
+ghost use Rattle.grammar.specs.Sentences.{spelled};
 
 // Put `a` into the set at `p`.
 fn add(reach: &mut [u64], p: usize, a: u8)

@@ -12,7 +12,6 @@ use lib.Seq.{getD-append-seam, take-suc-set}
 use Rattle.sets.specs.Sets.{In}
 use Rattle.grammar.specs.declared.Rule.{Rule}
 use Rattle.grammar.specs.Trees.{Rules}
-use Rattle.grammar.specs.Choices.{Distinct, Alike}
 use Rattle.acyclic.specs.Exact.{Exactly}
 use Rattle.codes.specs.Codes.{left, decode, decoded}
 use Rattle.codes.proofs.Laws.{coded-length, coded-at}
@@ -20,6 +19,7 @@ use Rattle.order.proofs.Places.{no-rule, place, member, there}
 use Rattle.order.proofs.Exchanges.{from-there}
 use Rattle.reachable.specs.Reach.{Reached, Trimmed}
 use Rattle.reachable.specs.Steps.{Picked}
+use Rattle.grammar.specs.Distinct.{Distinct, Alike}
 
 pub picked-none : (g : Rules) (s : ℕ) → Picked g s 0 []
 picked-none g s = record {

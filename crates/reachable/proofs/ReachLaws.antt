@@ -5,7 +5,7 @@ use mathlib.Core.List.{List, List·Memᴰ}
 use mathlib.Core.Option.{some}
 use Prim.Native.Nat.{ℕ, _≤_, _<_}
 use lib.ListN.{length, getD, getElem?}
-use Rattle.sets.specs.Sets.{In, insert}
+use Rattle.sets.specs.Sets.{In}
 use Rattle.sets.proofs.Sets.{insert-same, insert-keeps, insert-only}
 use Rattle.grammar.specs.declared.Rule.{Rule}
 use Rattle.grammar.specs.declared.Clause.{Clause}
@@ -19,6 +19,7 @@ use Rattle.codes.proofs.Laws.{is-unary, is-binary, low-kind, coded-length, code
 use Rattle.order.proofs.Places.{no-rule, there}
 use Rattle.reachable.specs.Reach.{Reached, start, by-unary, by-left, by-right}
 use Rattle.reachable.specs.Steps.{HasPart, AddsParts}
+use Rattle.sets.specs.Insertion.{insert}
 
 part-reached : {g : Rules} (A : ℕ) (c : Clause) (Y : ℕ) → List·Memᴰ (record { left = A; clause = c }) g → Reached g A → HasPart c Y → Reached g Y
 part-reached A Clause.Empty Y m h p = absurd p

@@ -5,7 +5,7 @@ use Rattle.grammar.specs.declared.Rule.{Rule}
 use Rattle.grammar.specs.declared.UnaryMark.{UnaryMark}
 use Rattle.grammar.specs.declared.BinaryMark.{BinaryMark}
 use Rattle.grammar.specs.Trees.{Rules, HasUnary, HasBinary}
-use Rattle.grammar.specs.Choices.{Distinct}
+use Rattle.grammar.specs.Distinct.{Distinct}
 
 -- 0 reaches itself, and what a rule of a nonterminal that it reaches has
 pub data Reached (g : Rules) : ℕ → Type 0 where

@@ -8,8 +8,8 @@ use Rattle.grammar.specs.declared.Rule.{Rule}
 use Rattle.grammar.specs.declared.Clause.{Clause}
 use Rattle.grammar.specs.declared.Clause.the-variants as Clause
 use Rattle.grammar.specs.Trees.{Rules}
-use Rattle.grammar.specs.Choices.{Distinct}
 use Rattle.order.proofs.Places.{no-rule}
+use Rattle.grammar.specs.Distinct.{Distinct}
 
 -- the clause has Y
 abbrev pub HasPart : Clause → ℕ → Type 0

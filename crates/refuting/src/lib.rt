@@ -19,7 +19,6 @@ ghost use Prim.Native.Nat.{_+_, _*_, _≤_, _<_};
 ghost use lib.ListN.{length};
 ghost use Rattle.sets.specs.Says.{Says};
 ghost use Rattle.codes.specs.Codes.{decoded};
-ghost use Rattle.grammar.specs.Choices.{Distinct};
 ghost use Rattle.grammar.specs.Trees.{TwoTrees};
 ghost use Rattle.grammar.specs.SpanSheet.{pairs, pairAt};
 ghost use Rattle.spans.specs.Changes.{Past, WrotePair};
@@ -33,6 +32,7 @@ ghost use Rattle.chart.specs.Leaves.{EmptyPair};
 ghost use Rattle.twins.specs.Twins.{Renames};
 ghost use Rattle.refuting.specs.Tables.{Small, Slot, Laid, United, Gathered, Tabled};
 ghost use Rattle.refuting.specs.Refuting.{Standing, Moved, Rises, terminalAt, Turned, Loose, Poised, PositionTried, Ended, Spent, Struck, Done, Refuted, Twinned};
+ghost use Rattle.grammar.specs.Distinct.{Distinct};
 
 // The candidate's sentence of n tokens, of which the first `known` count.
 fn draft(c: Candidate, n: usize, known: usize) -> Draft

@@ -10,7 +10,7 @@ use lib.Dec.{leb, ltb}
 use borrow.Author.Tests.{leb-true, ltb-true}
 use Rattle.sets.proofs.Says.{true-not-false}
 use Rattle.fields.specs.declared.Cursor.{Cursor}
-use Rattle.fields.specs.Pieces.{pieces, piecesFrom, isEmpty, lineAt, bytesLeft}
+use Rattle.fields.specs.Pieces.{pieces, isEmpty}
 use Rattle.fields.specs.Words.{numeralOf}
 use Rattle.fields.specs.Fields.{onValue, withField}
 use Rattle.fields.proofs.Fields.{with-holds}
@@ -22,13 +22,15 @@ use Rattle.sheets.specs.declared.Fault.the-variants as Fault
 use Rattle.sheets.specs.Items.{Step, next, stop, end, Reading, accepted, refused, stepAt, onStep, itemsFrom}
 use Rattle.sheets.specs.RuleSheets.{anyOf}
 use Rattle.sheets.proofs.Loop.{line-cut, line-less}
-use Rattle.shown.specs.Shown.{member}
 use Rattle.shown.proofs.Members.{member-none}
 use Rattle.rights.specs.declared.Right.{Right}
 use Rattle.rights.specs.declared.RightLine.{RightLine}
 use Rattle.rights.specs.declared.RightLine.the-variants as RightLine
 use Rattle.rights.specs.RightLines.{mayOf, lastOf, rightOf, afterHigh, afterLow, afterUser, rightFields, rightLine}
-use Rattle.rights.specs.RightSheets.{rightSaid, rightLineStep, rightStep, itemsOf, covers, maySee, mayChange, RightsHeld}
+use Rattle.rights.specs.RightSheets.{rightSaid, rightLineStep, rightStep, itemsOf, covers, maySee, mayChange}
+use Rattle.fields.specs.Cursors.{piecesFrom, lineAt, bytesLeft}
+use Rattle.shown.specs.Members.{member}
+use Rattle.rights.specs.Answers.{RightsHeld}
 
 -- 1. a line by what it is
 

@@ -8,7 +8,7 @@ use lib.ListN.{length}
 use lib.Dec.{eqb}
 use borrow.Author.Tests.{eqb-false, ne-eqb}
 use Rattle.fields.specs.declared.Cursor.{Cursor}
-use Rattle.fields.specs.Pieces.{pieces, before, piecesFrom, sameBytes, bytesLeft, fieldsLeft}
+use Rattle.fields.specs.Pieces.{pieces, before, sameBytes}
 use Rattle.fields.proofs.Pieces.{pieces-first}
 use Rattle.fields.proofs.Lines.{fields-of}
 use Rattle.fields.proofs.Fields.{left-none}
@@ -17,6 +17,7 @@ use Rattle.fields.proofs.Cuts.{FreeOf, Cut, whole, after, cut-of, pieces-free, 
 use Rattle.rights.specs.declared.May.the-variants as May
 use Rattle.rights.specs.RightLines.{mayOf, lastOf}
 use Rattle.rights.specs.Answers.{asMay}
+use Rattle.fields.specs.Cursors.{piecesFrom, bytesLeft, fieldsLeft}
 
 -- bytes with a blank are no word without one
 blank-not : (u v w : List ℕ) → FreeOf 32 w → sameBytes (u ++ 32 ∷ v) w ≡ false

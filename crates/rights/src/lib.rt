@@ -13,13 +13,13 @@ ghost use mathlib.Core.List.{[]};
 ghost use Prim.Native.Nat.{ℕ, _≤_, _<_};
 ghost use lib.ListN.{length};
 ghost use lib.Dec.{leb, ltb, eqb};
-ghost use Rattle.fields.specs.Pieces.{bytesLeft, fieldsLeft, piecesFrom};
-ghost use Rattle.shown.specs.Shown.{member};
 ghost use Rattle.rights.specs.RightLines.{rightOf, rightFields, lastOf, mayOf};
-ghost use Rattle.rights.specs.RightSheets.{rightLineStep, itemsOf, rightsSheet, covers, RightsGiven};
+ghost use Rattle.rights.specs.RightSheets.{rightLineStep, itemsOf, rightsSheet, covers};
 ghost use Rattle.sheets.specs.declared.Fault.the-variants as Faults;
 ghost use Rattle.sheets.specs.Items.{refused};
-ghost use Rattle.rights.specs.Answers.{asMay, asStep};
+ghost use Rattle.rights.specs.Answers.{asMay, asStep, RightsGiven};
+ghost use Rattle.fields.specs.Cursors.{bytesLeft, fieldsLeft, piecesFrom};
+ghost use Rattle.shown.specs.Members.{member};
 
 // A line of a rights sheet: its user, its range of nonterminals, and whether it says `change`, which includes seeing.
 pub struct Right {

@@ -9,7 +9,7 @@ use lib.Seq.{take-all}
 use Rattle.grammar.specs.declared.Grammar.{Grammar}
 use Rattle.grammar.specs.Layout.{Word}
 use Rattle.grammar.specs.Trees.{Tree, root, word, Rules}
-use Rattle.grammar.specs.Choices.{AllPreferred, FirstTree, Preferred, Distinct}
+use Rattle.grammar.specs.Choices.{AllPreferred, FirstTree, Preferred}
 use Rattle.grammar.specs.Content.{rules, SmallRule, Formed}
 use Rattle.grammar.specs.SpanSheet.{part}
 use Rattle.grammar.proofs.Lists.{mem-every}
@@ -19,6 +19,7 @@ use Rattle.rows.specs.declared.Step.{Step}
 use Rattle.derivation.specs.Picks.{PickedStep, HasChoice}
 use Rattle.derivation.proofs.Pending.{nodeShape, aim-step}
 use Rattle.row_counts.specs.Walks.{FirstThere}
+use Rattle.grammar.specs.Distinct.{Distinct}
 
 pub first-shape : {g : Rules} → Distinct g → (t : Tree) → AllPreferred g t → (A : ℕ) (w : Word) → root t ≡ A → word t ≡ w → (st : Step) → PickedStep g A w false st
     → st ≡ nodeShape (st .seeking) t

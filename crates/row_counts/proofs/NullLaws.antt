@@ -10,7 +10,7 @@ use lib.ListN.{length, getD, set, replicate, length-set, length-replicate}
 use lib.Seq.{getD-set-same, getD-set-other}
 use Rattle.grammar.specs.Layout.{Word}
 use Rattle.grammar.specs.Trees.{Tree, empty, leaf, unary, binary, root, word, Rules}
-use Rattle.grammar.specs.Choices.{AllPreferred, FirstTree, Distinct}
+use Rattle.grammar.specs.Choices.{AllPreferred, FirstTree}
 use Rattle.grammar.specs.Rows.{rowCount}
 use Rattle.grammar.proofs.ChoiceLaws.{first-unique}
 use Rattle.rows.specs.declared.Step.{Step}
@@ -20,6 +20,7 @@ use Rattle.row_counts.specs.Capped.{capped}
 use Rattle.row_counts.specs.Nulls.{Nulls, Sound, oneMore, twoMore, nullSize, KidsKnown, zeros, Passed, Either}
 use Rattle.row_counts.proofs.Firsts.{first-shape}
 use Rattle.row_counts.proofs.CappedLaws.{capped-le, capped-suc, capped-suc-two, capped-pos}
+use Rattle.grammar.specs.Distinct.{Distinct}
 
 -- a tree has a row
 some-row : (t : Tree) → 0 < rowCount t

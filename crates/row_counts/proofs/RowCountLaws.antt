@@ -4,7 +4,6 @@ use Prim.Native.Nat.{ℕ, zero, suc, _≤_, _<_}
 use native.Mathlib.Omega.{arith}
 use Rattle.grammar.specs.Trees.{Rules}
 use Rattle.grammar.specs.Layout.{Word}
-use Rattle.grammar.specs.Choices.{Distinct}
 use Rattle.grammar.specs.Rows.{rowCount}
 use Rattle.grammar.proofs.ChoiceLaws.{first-unique, second-tree-unique}
 use Rattle.grammar.proofs.VerdictLaws.{none-not-one, none-not-two, one-not-two}
@@ -12,6 +11,7 @@ use Rattle.row_counts.specs.declared.RowCount.{RowCount}
 use Rattle.row_counts.specs.declared.RowCount.the-variants as RowCount
 use Rattle.row_counts.specs.RowCounts.{Counted, treeless, single, both, Tells}
 use Rattle.row_counts.specs.Capped.{capped}
+use Rattle.grammar.specs.Distinct.{Distinct}
 
 pub exact-of : (n c : ℕ) → n < 4294967296 → n ≡ capped c → (n ≡ c) × (c ≤ 4294967295)
 unfolding capped

@@ -9,7 +9,7 @@ use Rattle.sets.specs.Sets.{In}
 use Rattle.grammar.specs.declared.Grammar.{Grammar}
 use Rattle.grammar.specs.Layout.{Word}
 use Rattle.grammar.specs.Trees.{Tree, empty, leaf, unary, binary, root, word, Rules}
-use Rattle.grammar.specs.Choices.{AllPreferred, FirstTree, Second, SecondTree, Preferred, Beneath, OnlyChoice, Each, Distinct}
+use Rattle.grammar.specs.Choices.{AllPreferred, FirstTree, Second, SecondTree, Preferred, Beneath, OnlyChoice, Each}
 use Rattle.grammar.specs.Rows.{rowCount}
 use Rattle.grammar.specs.Content.{rules, Formed}
 use Rattle.grammar.specs.SpanSheet.{part, secondWord, SpanSheet}
@@ -24,6 +24,7 @@ use Rattle.row_counts.specs.Capped.{capped}
 use Rattle.row_counts.specs.Seconds.{Parted, Onward, BesideThere, Beside}
 use Rattle.row_counts.proofs.CappedLaws.{capped-one, sum-on, few-on, one-is}
 use Rattle.row_counts.proofs.Firsts.{root-small, all-of}
+use Rattle.grammar.specs.Distinct.{Distinct}
 
 -- ---- a node with first trees beneath
 

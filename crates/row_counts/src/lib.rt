@@ -16,7 +16,7 @@ ghost use Rattle.grammar.specs.Trees.{Tree};
 ghost use Rattle.grammar.specs.Choices.{FirstTree, SecondTree};
 ghost use Rattle.grammar.specs.Cycles.{Cyclic};
 ghost use Rattle.grammar.specs.Rows.{rowCount};
-ghost use Rattle.grammar.specs.Content.{rules, spelled};
+ghost use Rattle.grammar.specs.Content.{rules};
 ghost use Rattle.sets.specs.Sets.{In};
 ghost use Rattle.grammar.specs.SpanSheet.{part, secondWord};
 ghost use Rattle.derivation.specs.Wanted.{Charted, Ready, Goal, Wanted};
@@ -26,6 +26,7 @@ ghost use Rattle.row_counts.specs.RowCounts.{Tells};
 ghost use Rattle.row_counts.specs.Nulls.{HasFirsts, Nulls, Sound, nullSize, Passed, Either};
 ghost use Rattle.row_counts.specs.Walks.{Own, Down, FirstThere};
 ghost use Rattle.row_counts.specs.Seconds.{Parted, PartedThere, Onto, Onward, BesideThere, Beside};
+ghost use Rattle.grammar.specs.Sentences.{spelled};
 
 // The least count that is not told.
 const LIMIT: u64 = 4294967296;

@@ -8,7 +8,8 @@ use native.Mathlib.Decide.{ℕ-discrete, decLt}
 use lib.Bits.{bitOr, bitAnd, or-shr, or-step, or-add-and, and-le-r, or-lt}
 use lib.Pow.{pow-pos, pow-lt, pow-add, shl-shr}
 use lib.Arith.{digits-mod}
-use Rattle.sets.specs.Sets.{In, insert}
+use Rattle.sets.specs.Sets.{In}
+use Rattle.sets.specs.Insertion.{insert}
 
 pub in-dec : (s a : ℕ) → Dec (In s a)
 in-dec s a = go (ℕ-discrete (s / 2 ^ a % 2) 1)

@@ -1,3 +1,4 @@
 pub mod Says
 pub mod Sets
 pub mod Firsts
+pub mod Insertion

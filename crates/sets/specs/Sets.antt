@@ -1,12 +1,7 @@
 -- Sets of numbers as the binary digits of a number: bit a is 1 exactly if a is a member.
 use mathlib.Core.Path.{_≡_}
 use Prim.Native.Nat.{ℕ, _/_, _%_, _^_}
-use lib.Bits.{bitOr}
 
 -- bit a of s is 1
 pub record In (s a : ℕ) : Type 0 where
   pub digit : s / 2 ^ a % 2 ≡ 1
-
--- the set s and a besides
-unfoldable pub insert : ℕ → ℕ → ℕ
-insert s a = bitOr s (2 ^ a)

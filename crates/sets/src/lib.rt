@@ -1,9 +1,10 @@
 // Sets of numbers below 64, as the binary digits of a word.
 ghost use mathlib.Core.Path.{_≡_};
 ghost use Prim.Native.Nat.{_<_, _≤_};
-ghost use Rattle.sets.specs.Sets.{In, insert};
+ghost use Rattle.sets.specs.Sets.{In};
 ghost use Rattle.sets.specs.Says.{Says};
 ghost use Rattle.sets.specs.Firsts.{FirstFrom};
+ghost use Rattle.sets.specs.Insertion.{insert};
 
 // A member, or none.
 pub enum Member {

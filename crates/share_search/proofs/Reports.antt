@@ -20,7 +20,7 @@ use Rattle.grammar.specs.Sweeps.{arrangements, terminalCount}
 use Rattle.grammar.proofs.SweepLaws.{before-total}
 use Rattle.candidates.specs.Terminals as Set
 use Rattle.candidates.specs.Terminals.{Among, Terminals}
-use Rattle.candidates.specs.Spelling.{LowSteps, Spells, nowhere}
+use Rattle.candidates.specs.Spelling.{LowSteps, Spells}
 use Rattle.candidates.proofs.Counting.{counted}
 use Rattle.candidates.proofs.Spelling.{low-steps}
 use Rattle.candidates.proofs.TerminalSets.{no-candidate, candidate-over}
@@ -32,6 +32,7 @@ use Rattle.numbers.proofs.SetPlaces.{number-in, place-below}
 use Rattle.numbers.proofs.BlockLaws.{number-rises}
 use Rattle.share_search.specs.Searching.{Meets, Searched, hit, miss}
 use Rattle.share_search.specs.Sharing.{Shared, clear, two, Found, nothing, lowest}
+use Rattle.grammar.specs.Sentences.{no-token}
 
 -- a set with a least terminal, of a sweep that is taken on
 pub few-of : (g : Rules) (s n low : ℕ) → s < 2 ^ 64 → 1 ≤ n → n ≤ 7 → Terminals g s → Set.Lowest s low → arrangements (terminalCount g) n ≤ 4294967296 → Few s n
@@ -80,7 +81,7 @@ found-low c h (lowest e q x) = (omega arith, rw e (low-steps (x .candidate)))
 
 -- and is the answer
 pub shared-of : {g : Rules} {n lo hi l N : ℕ} (c : Array.Candidate) {r : Sentence} → Found g n lo hi l N (cells c 0 n) → Spells (cells c 0 l) l r → Shared g n lo hi N r
-shared-of c {r} (nothing e q x) y = clear x q (y .count ∙ e) (subst (λ (m : ℕ). drop m (r .tokens) ≡ replicate (64 - m) nowhere) e (y .past))
+shared-of c {r} (nothing e q x) y = clear x q (y .count ∙ e) (subst (λ (m : ℕ). drop m (r .tokens) ≡ replicate (64 - m) no-token) e (y .past))
 shared-of {g} {n} {lo} {hi} {l} {N} c {r} (lowest e q x) y =
     let z : Spells (cells c 0 n) n r = subst (λ (m : ℕ). Spells (cells c 0 m) m r) e y in
     two x q (z .count) (sym (take-append-drop n (r .tokens)) ∙ ap (λ (v : List Token). v ++ drop n (r .tokens)) (z .front) ∙ ap (λ (v : List Token). sentence (cells c 0 n) ++ v) (z .past))

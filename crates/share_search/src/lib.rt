@@ -20,7 +20,6 @@ ghost use Prim.Native.Nat.{_+_, _*_, _≤_, _<_};
 ghost use lib.ListN.{length};
 ghost use Rattle.codes.specs.Codes.{decoded};
 ghost use Rattle.grammar.specs.Candidates as Of;
-ghost use Rattle.grammar.specs.Choices.{Distinct};
 ghost use Rattle.grammar.specs.Content.{rules, Formed};
 ghost use Rattle.grammar.specs.SpanSheet.{pairs};
 ghost use Rattle.grammar.specs.Sweeps.{arrangements, terminalCount};
@@ -29,11 +28,12 @@ ghost use Rattle.candidates.specs.Terminals.{Among, Lowest};
 ghost use Rattle.refuting.specs.Tables.{Tabled};
 ghost use Rattle.twins.specs.Twins.{Renames, Replaceable};
 ghost use Rattle.spans.specs.Changes.{Past};
-ghost use Rattle.sweeping.specs.Swept.{cleared};
 ghost use Rattle.numbers.specs.Blocks.{Few, least, room};
 ghost use mathlib.Core.Bool.{true};
 ghost use Rattle.share_search.specs.Searching.{Looked, Searched};
 ghost use Rattle.share_search.specs.Sharing.{Shared, Found};
+ghost use Rattle.grammar.specs.Distinct.{Distinct};
+ghost use Rattle.sweeping.specs.Cleared.{cleared};
 
 // The fewest of the first b cells such that no arrangement that has them has a number below `start`; b + 1 if even one that
 // has all b may have.

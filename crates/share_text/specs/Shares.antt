@@ -3,13 +3,13 @@ use mathlib.Core.Path.{_≡_}
 use mathlib.Core.List.{List, [], _∷_, _++_}
 use Prim.Native.Nat.{ℕ}
 use lib.ListN.{length}
-use Rattle.grammar.specs.Content.{spelled}
 use Rattle.printing.specs.Printing.{decimal}
 use Rattle.teplonga.specs.declared.Answer.{Answer}
 use Rattle.teplonga.specs.declared.Answer.the-variants as Answer
 use Rattle.text.specs.Output.{answerText, head, sentenceText}
 use Rattle.call_shares.specs.declared.ShareReply.{ShareReply}
 use Rattle.call_shares.specs.Share.{ShareOf}
+use Rattle.grammar.specs.Sentences.{spelled}
 
 -- the number for two, else `-`
 abbrev pub numberText : Answer → ℕ → List ℕ

@@ -16,7 +16,6 @@ use Rattle.grammar.specs.declared.Rule.{Rule}
 use Rattle.grammar.specs.declared.Token.{Token}
 use Rattle.grammar.specs.Layout.{Word, Every, line, col, width, last}
 use Rattle.grammar.specs.Trees.{Rules}
-use Rattle.grammar.specs.Choices.{Alike, Distinct}
 use Rattle.grammar.specs.Content.{SmallRule}
 use Rattle.grammar.specs.Candidates.{After, RisingFrom, Rising, Wide}
 use Rattle.grammar.proofs.Lists.{every-append}
@@ -44,6 +43,7 @@ use Rattle.sheets.specs.RuleSheets.{hasKey, anyOf, isStart, freshStep, r
 use Rattle.sheets.specs.TokenSheets.{after, follows, orderStep, tokenSaid, tokenSays, tokenStep, tokenNames, wideNames, wideSheet, tokenSheet}
 use Rattle.sheets.proofs.AnyOf.{any-none}
 use Rattle.sheets.proofs.Loop.{next-only}
+use Rattle.grammar.specs.Distinct.{Alike, Distinct}
 
 module _ {A : Type 0} (step : List A → List ℕ → Bool → Step A) where
   -- what each step keeps, the accepted items have

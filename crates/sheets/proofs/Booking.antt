@@ -12,7 +12,6 @@ use Rattle.grammar.specs.declared.Rule.{Rule}
 use Rattle.grammar.specs.Trees.{Rules}
 use Rattle.grammar.specs.Content.{rules, SmallRule}
 use Rattle.fields.specs.declared.Cursor.{Cursor}
-use Rattle.fields.specs.Pieces.{piecesFrom, lineAt, bytesLeft}
 use Rattle.lines.specs.declared.Turn.{Turn}
 use Rattle.lines.specs.Turns.{turnOf}
 use Rattle.lengths.specs.declared.Book.{Book}
@@ -26,6 +25,7 @@ use Rattle.sheets.specs.RuleSheets.{ruleSays, ruleStep}
 use Rattle.sheets.specs.Promises.{Adds}
 use Rattle.sheets.proofs.Loop.{Filled, turned, took, next-only}
 use Rattle.sheets.proofs.Accepted.{rule-small}
+use Rattle.fields.specs.Cursors.{piecesFrom, lineAt, bytesLeft}
 
 -- the loop's invariant: the book's rules are read, and its index is true
 pub record Reads (s : List ℕ) (start : ℕ) (b : Book) (at : ℕ) : Type 0 where

@@ -9,7 +9,7 @@ use Rattle.grammar.specs.declared.Rule.{Rule}
 use Rattle.grammar.specs.declared.Token.{Token}
 use Rattle.grammar.specs.Layout.{Word}
 use Rattle.grammar.specs.Trees.{Rules}
-use Rattle.grammar.specs.Content.{rules, spelled}
+use Rattle.grammar.specs.Content.{rules}
 use Rattle.fields.specs.Pieces.{pieces}
 use Rattle.fields.specs.Parts.{Part}
 use Rattle.sheets.specs.declared.Fault.{Fault}
@@ -22,6 +22,7 @@ use Rattle.sheets.specs.TokenSheets.{tokenSheet}
 use Rattle.sheets.specs.Promises.{readingOf, RulesRead, TokensRead}
 use Rattle.sheets.specs.RefusedLines.{HeldLine, in-rules, in-tokens, no-line, ofRules, ofTokens, heldBy, LinePart, Hands}
 use Rattle.sheets.specs.LinesIn.{LineIn}
+use Rattle.grammar.specs.Sentences.{spelled}
 
 module _ {q : SentenceRead} {want : Reading Token} (p : TokensRead q want) {o : Outcome} (e : q .outcome ≡ o) where
   pub tokens-answer : want ≡ readingOf o (spelled (q .sentence))

@@ -10,12 +10,13 @@ use lib.Seq.{length-take-le, take-suc-set}
 use lib.Dec.{ltb, leb}
 use borrow.Author.Tests.{leb-false, ltb-true}
 use Rattle.fields.specs.declared.Cursor.{Cursor}
-use Rattle.fields.specs.Pieces.{piecesFrom, isEmpty, lineAt, bytesLeft}
+use Rattle.fields.specs.Pieces.{isEmpty}
 use Rattle.fields.proofs.Lines.{line-step, line-high, line-low, more-left}
 use Rattle.lines.specs.declared.Turn.the-variants as Turn
 use Rattle.lines.specs.Turns.{turnOf}
 use Rattle.sheets.specs.declared.Fault.{Fault}
 use Rattle.sheets.specs.Items.{Step, next, stop, end, Reading, accepted, refused, stepAt, lineStep, onStep, itemsFrom}
+use Rattle.fields.specs.Cursors.{piecesFrom, lineAt, bytesLeft}
 
 -- the line that begins at a place
 module _ (s : List ℕ) (at : ℕ) (low : at ≤ length s) (c : Cursor) (is : c ≡ lineAt s at) where

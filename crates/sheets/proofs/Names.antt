@@ -8,10 +8,11 @@ use lib.ListN.{length, take, drop}
 use lib.Dec.{ltb}
 use borrow.Author.Tests.{lt-ltb, le-ltb}
 use Rattle.fields.specs.declared.Cursor.{Cursor}
-use Rattle.fields.specs.Pieces.{pieces, piecesFrom, sameBytes, isEmpty, lineAt, bytesLeft}
+use Rattle.fields.specs.Pieces.{pieces, sameBytes, isEmpty}
 use Rattle.fields.proofs.Pieces.{from-zero}
 use Rattle.fields.proofs.Lines.{line-step, more-left}
 use Rattle.sheets.specs.Items.{Reading, withNames}
+use Rattle.fields.specs.Cursors.{piecesFrom, lineAt, bytesLeft}
 
 module _ {A : Type 0} (bad : Reading A) (names s : List ℕ) (k : List (List ℕ) → Reading A) where
   abbrev tried : Cursor → Reading A

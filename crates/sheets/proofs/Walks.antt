@@ -14,7 +14,7 @@ use Rattle.grammar.specs.declared.Rule.{Rule}
 use Rattle.grammar.specs.declared.Token.{Token}
 use Rattle.grammar.specs.Trees.{Rules}
 use Rattle.fields.specs.declared.Cursor.{Cursor}
-use Rattle.fields.specs.Pieces.{before, pieces, piecesFrom, isEmpty, sameBytes, lineAt, bytesLeft}
+use Rattle.fields.specs.Pieces.{before, pieces, isEmpty, sameBytes}
 use Rattle.fields.specs.Parts.{Part}
 use Rattle.fields.proofs.Pieces.{from-zero, pieces-first}
 use Rattle.sheets.specs.declared.Fault.{Fault}
@@ -25,6 +25,7 @@ use Rattle.sheets.specs.TokenSheets.{tokenStep, tokenNames, wideNames, w
 use Rattle.sheets.specs.RefusedLines.{pieceStart, LinePart}
 use Rattle.sheets.proofs.Loop.{line-in, line-less, line-cut}
 use Rattle.sheets.proofs.Accepted.{items-line}
+use Rattle.fields.specs.Cursors.{piecesFrom, lineAt, bytesLeft}
 
 -- the walk's invariant: the line with `left` lines before it from `at` on is the line with n lines before it
 pub record Walk (s : List ℕ) (n at left : ℕ) : Type 0 where

@@ -5,7 +5,7 @@ use mathlib.Core.List.{List}
 use lib.ListN.{take}
 use Rattle.grammar.specs.declared.Rule.{Rule}
 use Rattle.grammar.specs.declared.Token.{Token}
-use Rattle.grammar.specs.Content.{rules, spelled, Formed, Positioned}
+use Rattle.grammar.specs.Content.{rules, Formed, Positioned}
 use Rattle.lengths.specs.declared.Book.{Book}
 use Rattle.lengths.specs.Indexes.{Exact}
 use Rattle.lengths.specs.Books.{Appended}
@@ -19,6 +19,7 @@ use Rattle.sheets.specs.declared.RuleStep.the-variants as RuleStep
 use Rattle.sheets.specs.declared.TokenStep.{TokenStep}
 use Rattle.sheets.specs.declared.TokenStep.the-variants as TokenStep
 use Rattle.sheets.specs.Items.{Reading, accepted, refused, Step, next, stop, end}
+use Rattle.grammar.specs.Sentences.{spelled}
 
 -- an outcome with the items that were read, as a reading
 abbrev pub readingOf : {A : Type 0} → Outcome → List A → Reading A

@@ -27,7 +27,7 @@ ghost use Rattle.grammar.specs.Content.{rules as rulesOf, Formed};
 ghost use Rattle.lengths.specs.Indexes.{Exact};
 ghost use Rattle.lengths.specs.Books.{Booked};
 ghost use Rattle.lines.specs.Turns.{turnOf};
-ghost use Rattle.fields.specs.Pieces.{pieces, piecesFrom, bytesLeft};
+ghost use Rattle.fields.specs.Pieces.{pieces};
 ghost use Rattle.sheets.specs.Refusals.{numberOf};
 ghost use Rattle.sheets.specs.Items.{accepted, refused, stepAt, itemsFrom};
 ghost use Rattle.sheets.specs.RuleSheets.{hasKey, anyOf, isStart, freshStep, ruleSays, finish, rulesFrom, ruleSheet};
@@ -35,6 +35,7 @@ ghost use Rattle.sheets.specs.TokenSheets.{after, orderStep, tokenSays, 
 ghost use Rattle.sheets.specs.RefusedLines.{LinePart, Hands, heldBy, refusedLine};
 ghost use Rattle.sheets.specs.LinesIn.{LineIn};
 ghost use Rattle.sheets.specs.Promises.{readingOf, asRuleStep, asTokenStep, Adds, RulesRead, TokensRead};
+ghost use Rattle.fields.specs.Cursors.{piecesFrom, bytesLeft};
 
 // The refusals, in the order of 01's table with 02's in their places; `numberOf` in specs/ has their numbers. Many are given by later crates.
 pub enum Fault {

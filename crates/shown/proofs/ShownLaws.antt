@@ -12,7 +12,9 @@ use Rattle.grammar.specs.Trees.{Tree, empty, leaf, unary, binary, root, word, R
 use Rattle.grammar.specs.Content.{SmallRule}
 use Rattle.grammar.proofs.Lists.{mem-every}
 use Rattle.grammar.specs.Rows.{startOf, rows, rowCount}
-use Rattle.shown.specs.Shown.{View, member, closedRow, shownRows, shownCount, OnlyBeneath, closed, same-empty, same-leaf, same-unary, same-binary}
+use Rattle.shown.specs.Shown.{View, closedRow, shownRows, shownCount}
+use Rattle.shown.specs.Members.{member}
+use Rattle.shown.specs.Beneath.{OnlyBeneath, closed, same-empty, same-leaf, same-unary, same-binary}
 
 -- 1. a closed node
 

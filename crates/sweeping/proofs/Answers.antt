@@ -16,18 +16,17 @@ use Rattle.grammar.specs.Trees.{Rules, TwoTrees}
 use Rattle.grammar.specs.Candidates.{Terminal, Candidate, sentence}
 use Rattle.grammar.specs.Sweeps.{found, terminalCount}
 use Rattle.grammar.specs.SpanSheet.{pairs}
-use Rattle.grammar.specs.Content.{spelled, Positioned}
+use Rattle.grammar.specs.Content.{Positioned}
 use Rattle.grammar.proofs.SweepLaws.{shorter-clear, sentence-length}
 use Rattle.counting.specs.Counts.{HowMany}
 use Rattle.lengths.specs.declared.Index.{Index}
 use Rattle.lengths.specs.Indexes.{at, Exact}
 use Rattle.lengths.proofs.Possibly.{derives-can}
-use Rattle.tally.specs.Tried.{answerOf, Hit}
 use Rattle.tally.specs.Rows.{Fair}
 use Rattle.spans.specs.Changes.{Past, Cleared}
 use Rattle.spans.proofs.ChangeLaws.{past-then, past-drop}
 use Rattle.candidates.specs.Terminals.{Among}
-use Rattle.candidates.specs.Spelling.{LowSteps, Spells, nowhere}
+use Rattle.candidates.specs.Spelling.{LowSteps, Spells}
 use Rattle.candidates.proofs.Spelling.{low-steps}
 use Rattle.candidates.proofs.TerminalSets.{no-candidate, candidate-over}
 use Rattle.order.specs.Order.{Rearranged}
@@ -37,8 +36,11 @@ use Rattle.reachable.proofs.TreeLaws.{two-trimmed}
 use Rattle.dominance.specs.Dominance.{Spared}
 use Rattle.dominance.proofs.Renaming.{renamed, renamed-candidate, renamed-two, renamed-before}
 use Rattle.sweeping.specs.Searching.{NoneShorter, Admits, Hits, Searched, hit, miss}
-use Rattle.sweeping.specs.Swept.{LengthsOf, Bounded, TriedBy, Swept, clear, two, Found, nothing, first, cleared}
+use Rattle.sweeping.specs.Swept.{LengthsOf, Bounded, Swept, clear, two, Found, nothing, first}
 use Rattle.sweeping.proofs.Turns.{clear-found, first-found}
+use Rattle.grammar.specs.Sentences.{spelled, no-token}
+use Rattle.tally.specs.Searched.{answerOf, Hit}
+use Rattle.sweeping.specs.Cleared.{TriedBy, cleared}
 
 -- the lengths up to k are all done
 pub none-left : {g : Rules} {s n : ℕ} (k : ℕ) → k < n → n ≤ k + 1 → NoneShorter g s n → NoneShorter g s (k + 1)
@@ -139,12 +141,12 @@ found-low {g} {k} {n} {cs} e h (nothing z c) = (omega arith, no-steps cs (e ∙ 
 -- and is the answer
 pub swept-of : {g : Rules} {k n m : ℕ} {cs : List Cell} {r : Sentence} → length cs ≡ n → Found g k n cs → Spells cs n r → HowMany (TriedBy g k (answerOf n cs)) m → Swept g k r m
 swept-of {g} {k} {n} {m} {cs} {r} e (nothing z c) x q =
-    clear c (x .count ∙ z) (subst (λ (m : ℕ). drop m (r .tokens) ≡ replicate (64 - m) nowhere) z (x .past))
+    clear c (x .count ∙ z) (subst (λ (m : ℕ). drop m (r .tokens) ≡ replicate (64 - m) no-token) z (x .past))
     (subst (λ (i : ℕ). HowMany (TriedBy g k (answerOf i cs)) m) z q)
 swept-of {g} {k} {n} {m} {cs} {r} e (first f) x q =
     two f (shorter-clear f) (x .count ∙ sym e)
     (sym (take-append-drop n (r .tokens)) ∙ ap (λ (l : List Token). l ++ drop n (r .tokens)) (x .front) ∙ ap (λ (l : List Token). sentence cs ++ l) (x .past)
-    ∙ ap (λ (m : ℕ). sentence cs ++ replicate (64 - m) nowhere) (sym e))
+    ∙ ap (λ (m : ℕ). sentence cs ++ replicate (64 - m) no-token) (sym e))
     (tried-two n (omega (arith, f .low, e)) q)
   where
     tried-two : (i : ℕ) → 1 ≤ i → HowMany (TriedBy g k (answerOf i cs)) m → HowMany (TriedBy g k (found cs)) m
@@ -168,8 +170,8 @@ all-cleared k {m} {ws} {ws′} {ws″} e h p d =
 -- ---- what a caller reads off
 
 -- the answer's word is the candidate's sentence
-pub spelled-two : (cs : List Cell) (r : Sentence) → r .count ≡ length cs → r .tokens ≡ sentence cs ++ replicate (64 - length cs) nowhere → spelled r ≡ sentence cs
-spelled-two cs r e t = ap (λ (m : ℕ). take m (r .tokens)) e ∙ ap (take (length cs)) t ∙ take-at (sentence cs) (replicate (64 - length cs) nowhere) (length cs) (sentence-length 1 cs)
+pub spelled-two : (cs : List Cell) (r : Sentence) → r .count ≡ length cs → r .tokens ≡ sentence cs ++ replicate (64 - length cs) no-token → spelled r ≡ sentence cs
+spelled-two cs r e t = ap (λ (m : ℕ). take m (r .tokens)) e ∙ ap (take (length cs)) t ∙ take-at (sentence cs) (replicate (64 - length cs) no-token) (length cs) (sentence-length 1 cs)
 
 -- and the answer is a sentence as the token sheet's reader would give
 pub swept-positioned : {g : Rules} {k m : ℕ} {r : Sentence} → k ≤ 7 → Swept g k r m → Positioned r

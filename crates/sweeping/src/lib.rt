@@ -20,7 +20,6 @@ ghost use mathlib.Core.Path.{_≡_};
 ghost use Prim.Native.Nat.{_*_, _≤_};
 ghost use lib.ListN.{length};
 ghost use Rattle.codes.specs.Codes.{decoded};
-ghost use Rattle.grammar.specs.Choices.{Distinct};
 ghost use Rattle.grammar.specs.Candidates as Of;
 ghost use Rattle.grammar.specs.Content.{rules, Formed};
 ghost use Rattle.grammar.specs.SpanSheet.{pairs};
@@ -31,9 +30,12 @@ ghost use Rattle.spans.specs.Changes.{Past};
 ghost use Rattle.counting.specs.Counts.{HowMany};
 ghost use Rattle.lengths.specs.Lengths.{CanHave};
 ghost use Rattle.lengths.specs.Indexes.{Exact};
-ghost use Rattle.tally.specs.Tried.{Tried, answerOf};
+ghost use Rattle.tally.specs.Tried.{Tried};
 ghost use Rattle.sweeping.specs.Searching.{Looked, Admits, Searched};
-ghost use Rattle.sweeping.specs.Swept.{LengthsOf, Bounded, Swept, Found, cleared};
+ghost use Rattle.sweeping.specs.Swept.{LengthsOf, Bounded, Swept, Found};
+ghost use Rattle.grammar.specs.Distinct.{Distinct};
+ghost use Rattle.tally.specs.Searched.{answerOf};
+ghost use Rattle.sweeping.specs.Cleared.{cleared};
 
 // Is none of the candidates that share the first b cells the first with two trees? Where b is n and the answer is no, this
 // one has two.

@@ -13,7 +13,8 @@ use Rattle.sheets.specs.declared.Fault.the-variants as Fault
 use Rattle.sheets.proofs.Numbers.{same-fault}
 use Rattle.teplonga.specs.declared.Answer.{Answer}
 use Rattle.teplonga.specs.declared.ListReply.{ListReply}
-use Rattle.teplonga.specs.Lists.{ListOn, onList}
+use Rattle.teplonga.specs.Lists.{ListOn}
+use Rattle.teplonga.specs.ListReplies.{onList}
 
 module _ {a : Answer} {bytes : List ℕ} {n : ℕ} {lent : List ℕ} where
   pub list-on : {lent′ : List ℕ} {l : Listed} → GivesList listed unfit bytes n lent lent′ l → ListOn a bytes n lent lent′ (onList a l)

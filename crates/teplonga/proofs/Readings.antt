@@ -4,7 +4,7 @@ use mathlib.Core.List.{List}
 use Prim.Native.Nat.{ℕ}
 use Rattle.grammar.specs.declared.Rule.{Rule}
 use Rattle.grammar.specs.declared.Token.{Token}
-use Rattle.grammar.specs.Content.{rules, spelled}
+use Rattle.grammar.specs.Content.{rules}
 use Rattle.sheets.specs.declared.Fault.{Fault}
 use Rattle.sheets.specs.declared.Outcome.{Outcome}
 use Rattle.sheets.specs.declared.Outcome.the-variants.{Accepted, Refused}
@@ -21,6 +21,7 @@ use Rattle.teplonga.specs.declared.SweepReply.{SweepReply}
 use Rattle.teplonga.specs.Verdict.{VerdictBy}
 use Rattle.teplonga.specs.Trees.{TreesBy}
 use Rattle.teplonga.specs.Sweep.{SweepBy}
+use Rattle.grammar.specs.Sentences.{spelled}
 
 pub rules-are : {r : GrammarRead} {want : Reading Rule} → RulesRead r want → r .outcome ≡ Accepted → want ≡ Sheet.accepted (rules (r .grammar))
 rules-are {r} x e = sym (x .is) ∙ ap (λ (o : Outcome). readingOf o (rules (r .grammar))) e

@@ -10,7 +10,7 @@ use lib.Seq.{ext-getD, getD-take, length-take-le}
 use Rattle.grammar.specs.declared.Cell.{Cell}
 use Rattle.grammar.specs.Layout.{Word, Every}
 use Rattle.grammar.specs.Trees.{Tree, Rules, NoTree, OneTree, TwoTrees}
-use Rattle.grammar.specs.Choices.{FirstTree, SecondTree, Distinct}
+use Rattle.grammar.specs.Choices.{FirstTree, SecondTree}
 use Rattle.grammar.specs.SpanSheet.{pairs, SpanSheet}
 use Rattle.grammar.specs.Candidates.{sentence}
 use Rattle.grammar.specs.Sweeps.{Clear, FirstTwo, found}
@@ -40,6 +40,7 @@ use Rattle.grammar.specs.Rows.{rowCount}
 use Rattle.derivation.specs.Written.{places, filled}
 use mathlib.Core.Option.{none, some}
 use Rattle.grammar.proofs.ChoiceLaws.{first-unique, second-tree-unique}
+use Rattle.grammar.specs.Distinct.{Distinct}
 
 -- 1. answers
 

@@ -10,7 +10,7 @@ use native.Mathlib.Decide.{decLe}
 use lib.ListN.{length}
 use Rattle.grammar.specs.Layout.{Word}
 use Rattle.grammar.specs.Trees.{Tree, Rules, NoTree, OneTree, TwoTrees}
-use Rattle.grammar.specs.Choices.{FirstTree, SecondTree, Distinct}
+use Rattle.grammar.specs.Choices.{FirstTree, SecondTree}
 use Rattle.grammar.specs.Rows.{rowCount}
 use Rattle.grammar.specs.SpanSheet.{pairs}
 use Rattle.grammar.proofs.Existence.{FirstOf, first-of-derives, two-iff-second}
@@ -21,6 +21,7 @@ use Rattle.sheets.specs.declared.Fault.the-variants as Fault
 use Rattle.teplonga.specs.declared.Answer.the-variants as Answer
 use Rattle.teplonga.specs.Counted.{counted}
 use Rattle.teplonga.specs.Trees.{treesReplyOf, Shown, treeless, single, both, large-one, large-two, TreesOn, short}
+use Rattle.grammar.specs.Distinct.{Distinct}
 
 pub too-few : (g : Rules) (w : Word) (n : ℕ) (ws one two : List ℕ) → length w ≡ n → length ws < 2 * pairs n → TreesOn g w ws ws one one two two (treesReplyOf (Answer.Refused Fault.FewWords) 0 0 0)
 too-few g w n ws one two e h = short (omega (arith, ap pairs e)) refl refl refl refl refl

@@ -15,7 +15,6 @@ use Rattle.grammar.specs.Sweeps as Sweeps
 use Rattle.grammar.proofs.SweepLaws.{answer-unique}
 use Rattle.counting.specs.Counts.{HowMany}
 use Rattle.counting.proofs.CountLaws.{counts-unique}
-use Rattle.sweeping.specs.Swept.{TriedBy}
 use Rattle.sheets.specs.declared.Fault.{Fault}
 use Rattle.sheets.specs.Refusals.{numberOf}
 use Rattle.sheets.specs.Items.{Reading, accepted, refused}
@@ -24,6 +23,7 @@ use Rattle.teplonga.specs.declared.Answer.the-variants as Answer
 use Rattle.teplonga.specs.declared.SweepReply.{SweepReply}
 use Rattle.teplonga.specs.Sweep.{sweepReplyOf, sweepLimit, SweepTaken, SweepOn, bound, many, short, clear, two, SweepBy, refusing, reading}
 use Rattle.sheets.proofs.Numbers.{same-fault}
+use Rattle.sweeping.specs.Cleared.{TriedBy}
 
 apart : {o : Reading Rule} {f : Fault} {l : ℕ} {g : Rules} → o ≡ refused f l → o ≡ accepted g → ⊥
 apart e d = let z : _≡_ {A = ℕ} 0 1 = cc in omega arith

@@ -11,13 +11,14 @@ use Rattle.grammar.specs.Trees.{Rules}
 use Rattle.grammar.specs.Candidates.{sentence}
 use Rattle.grammar.specs.Sweeps.{FirstTwo}
 use Rattle.grammar.proofs.SweepLaws.{sentence-length}
-use Rattle.candidates.specs.Spelling.{nowhere}
-use Rattle.sweeping.specs.Swept.{Swept, Bounded, cleared}
+use Rattle.sweeping.specs.Swept.{Swept, Bounded}
 use Rattle.sweeping.specs.Swept as Swept
 use Rattle.teplonga.specs.declared.Answer.{Answer}
 use Rattle.teplonga.specs.declared.Answer.the-variants as Answer
 use Rattle.teplonga.specs.declared.SweepReply.{SweepReply}
 use Rattle.teplonga.specs.Sweep.{sweepReplyOf, SweepTaken, SweepOn, clear, two}
+use Rattle.grammar.specs.Sentences.{no-token}
+use Rattle.sweeping.specs.Cleared.{cleared}
 
 abbrev with : Answer → Sentence → ℕ → SweepReply
 with a s m = record { answer = a; line = 0; sentence = s; tried = m }
@@ -38,4 +39,4 @@ swept-two {m = m} r t (Swept.two {cs = cs} f c e d q) z h = two t f c q whole h
     n = sym (sentence-length 1 cs)
 
     whole : with Answer.Two r m ≡ sweepReplyOf Answer.Two 0 (sentence cs) m
-    whole = λ i. with Answer.Two (record { tokens = (d ∙ ap (λ (x : ℕ). sentence cs ++ replicate (64 - x) nowhere) n) i; count = (e ∙ n) i }) m
+    whole = λ i. with Answer.Two (record { tokens = (d ∙ ap (λ (x : ℕ). sentence cs ++ replicate (64 - x) no-token) n) i; count = (e ∙ n) i }) m

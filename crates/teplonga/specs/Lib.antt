@@ -5,3 +5,5 @@ pub mod Sweep
 pub mod Counted
 pub mod Lists
 pub mod Told
+pub mod ListReplies
+pub mod SweepReplies

@@ -1,9 +1,7 @@
 -- The answer of a call that gives a list: 01, "Where each refusal is checked", behind the table.
 use mathlib.Core.Path.{_≡_}
-use mathlib.Core.Bool.{Bool, true, false}
 use mathlib.Core.List.{List}
 use Prim.Native.Nat.{ℕ}
-use Rattle.lists.specs.declared.Listed.{Listed}
 use Rattle.lists.specs.Lists.{GivesList}
 use Rattle.sheets.specs.declared.Fault.{Fault}
 use Rattle.sheets.specs.declared.Fault.the-variants as Fault
@@ -20,11 +18,3 @@ pub record ListOn (a : Answer) (bytes : List ℕ) (n : ℕ) (lent lent′ : List
   pub fault : Fault
   pub number : numberOf fault ≡ 22
   pub gives : GivesList (listReply a 0) (listReply (Answer.Refused fault) 0 0) bytes n lent lent′ r
-
--- (inner) the reply on a list that was put
-abbrev pub onFit : Bool → Answer → ℕ → ListReply
-onFit true a n = listReply a 0 n
-onFit false a n = listReply (Answer.Refused Fault.FewRows) 0 0
-
-abbrev pub onList : Answer → Listed → ListReply
-onList a l = onFit (l .fits) a (l .count)

@@ -7,8 +7,6 @@ use lib.ListN.{length, replicate}
 use Rattle.grammar.specs.declared.Cell.{Cell}
 use Rattle.grammar.specs.declared.Rule.{Rule}
 use Rattle.grammar.specs.declared.Sentence.{Sentence}
-use Rattle.candidates.specs.Spelling.{nowhere}
-use Rattle.sweeping.specs.Swept.{cleared, TriedBy}
 use Rattle.counting.specs.Counts.{HowMany}
 use Rattle.grammar.specs.Layout.{Word}
 use Rattle.grammar.specs.Trees.{Rules}
@@ -23,17 +21,16 @@ use Rattle.sheets.specs.RuleSheets.{ruleSheet}
 use Rattle.teplonga.specs.declared.Answer.{Answer}
 use Rattle.teplonga.specs.declared.Answer.the-variants as Answer
 use Rattle.teplonga.specs.declared.SweepReply.{SweepReply}
+use Rattle.grammar.specs.Sentences.{no-token}
+use Rattle.sweeping.specs.Cleared.{cleared, TriedBy}
 
 -- the answer holds the word, its token places past it are 0, and m candidates were tried
 abbrev pub sweepReplyOf : Answer → ℕ → Word → ℕ → SweepReply
-sweepReplyOf a l w m = record { answer = a; line = l; sentence = record { tokens = w ++ replicate (64 - length w) nowhere; count = length w }; tried = m }
+sweepReplyOf a l w m = record { answer = a; line = l; sentence = record { tokens = w ++ replicate (64 - length w) no-token; count = length w }; tried = m }
 
--- the answer's sentence where none was found, and a refusal
+-- the answer's sentence where none was found
 abbrev pub noSentence : Sentence
-noSentence = record { tokens = replicate 64 nowhere; count = 0 }
-
-abbrev pub sweepRefusal : Fault → ℕ → SweepReply
-sweepRefusal f l = record { answer = Answer.Refused f; line = l; sentence = noSentence; tried = 0 }
+noSentence = record { tokens = replicate 64 no-token; count = 0 }
 
 -- the most arrangements of the bound's length that a sweep takes on
 abbrev pub sweepLimit : ℕ

@@ -27,17 +27,19 @@ use sweeping::sweep_rules;
 ghost use mathlib.Core.Path.{_≡_};
 ghost use mathlib.Core.List.{[]};
 ghost use Prim.Native.Nat.{_≤_};
-ghost use Rattle.grammar.specs.Content.{rules as rulesOf, spelled, Formed, Positioned};
+ghost use Rattle.grammar.specs.Content.{rules as rulesOf, Formed, Positioned};
 ghost use Rattle.lengths.specs.Indexes.{Exact};
 ghost use Rattle.sheets.specs.Promises.{RulesRead};
 ghost use Rattle.teplonga.specs.Answers.{withRules};
 ghost use Rattle.teplonga.specs.Told.{told};
 ghost use Rattle.teplonga.specs.Verdict.{VerdictOn, VerdictBy, VerdictOf};
 ghost use Rattle.teplonga.specs.Counted.{counted};
-ghost use Rattle.teplonga.specs.Lists.{onList};
 ghost use Rattle.teplonga.specs.Trees.{TreesOn, TreesBy, TreesOf};
 ghost use Rattle.teplonga.specs.Sweep.{SweepOn, SweepBy, SweepOf};
 ghost use Rattle.teplonga.specs.Sweep as Sweep;
+ghost use Rattle.teplonga.specs.SweepReplies.{sweepRefusal};
+ghost use Rattle.grammar.specs.Sentences.{spelled};
+ghost use Rattle.teplonga.specs.ListReplies.{onList};
 
 // The answers: none, one, two, clear, refused-N, and given for what a call gives otherwise.
 pub enum Answer {
@@ -289,7 +291,7 @@ pub fn nothing() -> Sentence
 
 // A refused sweep.
 fn refused_sweep(f: Fault, line: usize) -> SweepReply
-    ensures { λ r. ⌜ r ≡ Sweep.sweepRefusal f line ⌝ }
+    ensures { λ r. ⌜ r ≡ sweepRefusal f line ⌝ }
 {
     let sentence = nothing();
     SweepReply {

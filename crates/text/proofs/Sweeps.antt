@@ -10,7 +10,8 @@ use Rattle.fields.specs.Answers.{asNumber}
 use Rattle.text.specs.Input.{Parts, parts}
 use Rattle.text.specs.Programs.{SweepTextOf, longest}
 use Rattle.text.specs.Programs as Program
-use Rattle.text.specs.Printed.{Printed, SweptAt, unbound, bound}
+use Rattle.text.specs.Printed.{Printed}
+use Rattle.text.specs.Swept.{SweptAt, unbound, bound}
 
 abbrev numberOf : Number → Option ℕ
 numberOf (Number.Is v) = some v

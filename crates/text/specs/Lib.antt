@@ -3,3 +3,4 @@ pub mod Output
 pub mod Parting
 pub mod Programs
 pub mod Printed
+pub mod Swept

@@ -12,9 +12,9 @@ use Rattle.teplonga.specs.declared.TreesReply.{TreesReply}
 use Rattle.teplonga.specs.Trees.{TreesBy}
 use Rattle.teplonga.specs.declared.SweepReply.{SweepReply}
 use Rattle.teplonga.specs.Sweep.{SweepBy}
-use Rattle.grammar.specs.Content.{spelled}
 use Rattle.text.specs.Input.{Parts, parts, boundOf}
 use Rattle.text.specs.Output.{refusedText, answerText, head, treesText, sentenceText}
+use Rattle.grammar.specs.Sentences.{spelled}
 
 -- the longest input that is read
 abbrev pub longest : ℕ

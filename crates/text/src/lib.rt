@@ -16,7 +16,6 @@ ghost use mathlib.Core.Path.{_≡_};
 ghost use mathlib.Core.List.{_∷_, _++_};
 ghost use Prim.Native.Nat.{_+_, _*_, _≤_, _<_};
 ghost use lib.ListN.{length, take, drop};
-ghost use Rattle.grammar.specs.Content.{spelled};
 ghost use Rattle.printing.specs.Printing.{Wrote, lastField, rowLines, tokenLines};
 ghost use Rattle.sheets.specs.Refusals.{numberOf};
 ghost use Rattle.sheets.specs.RuleSheets.{ruleSheet};
@@ -26,7 +25,9 @@ ghost use Rattle.fields.specs.Answers.{asNumber};
 ghost use Rattle.text.specs.Input.{boundOf};
 ghost use Rattle.text.specs.Parting.{Parted};
 ghost use Rattle.text.specs.Programs.{TreesText, SweepText, CheckOf, SweepTextOf};
-ghost use Rattle.text.specs.Printed.{Printed, SweptAt};
+ghost use Rattle.text.specs.Printed.{Printed};
+ghost use Rattle.grammar.specs.Sentences.{spelled};
+ghost use Rattle.text.specs.Swept.{SweptAt};
 
 // A place in the input, or none.
 pub enum Place {

@@ -5,12 +5,12 @@ use native.Mathlib.Omega.{arith}
 use lib.ListN.{length}
 use Rattle.grammar.specs.SpanSheet.{pairs}
 use Rattle.spans.proofs.ChangeLaws.{past-same}
-use Rattle.sweeping.specs.Swept.{cleared}
 use Rattle.sweeping.proofs.Answers.{all-cleared}
 use Rattle.call_columns.specs.Columns.{short, given}
 use borrow.Author.Needs.{needs}
 use Rattle.call_columns.proofs.answered.Statement.{statement}
 use Rattle.call_columns.proofs.answered.Tie as tie
+use Rattle.sweeping.specs.Cleared.{cleared}
 
 size-requires : tie.Need-size-requires
 size-requires c κs = search needs

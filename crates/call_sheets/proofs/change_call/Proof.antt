@@ -8,7 +8,7 @@ use borrow.Author.Needs.{needs}
 use lib.ListN.{length, take, drop, length-drop}
 use lib.Seq.{length-take-le}
 use Rattle.fields.specs.declared.Cursor.{Cursor}
-use Rattle.fields.specs.Pieces.{pieces, bytesLeft, fieldsLeft}
+use Rattle.fields.specs.Pieces.{pieces}
 use Rattle.fields.proofs.Fields.{left-none}
 use Rattle.fields.proofs.Lines.{fields-of}
 use Rattle.lines.proofs.Stages.{number-good, number-bad}
@@ -18,6 +18,7 @@ use Rattle.call_sheets.specs.CallSheets.{changeCall, changeSecond, chang
 use Rattle.call_sheets.proofs.Laws.{end-not, end-one, left-bad}
 use Rattle.call_sheets.proofs.change_call.Statement.{statement}
 use Rattle.call_sheets.proofs.change_call.Tie as tie
+use Rattle.fields.specs.Cursors.{bytesLeft, fieldsLeft}
 
 abbrev start : tie.After-known-told → tie.Start
 start c = c .before .before .before .before .before

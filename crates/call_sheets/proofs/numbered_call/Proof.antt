@@ -6,13 +6,14 @@ use Prim.Native.Nat.{ℕ, _+_, _-_, _≤_}
 use native.Mathlib.Omega.{arith}
 use borrow.Author.Needs.{needs}
 use lib.ListN.{length, take, drop}
-use Rattle.fields.specs.Pieces.{pieces, fieldsLeft}
+use Rattle.fields.specs.Pieces.{pieces}
 use Rattle.fields.proofs.Pick.{into, skip, miss}
 use Rattle.fields.proofs.Lines.{fields-of}
 use Rattle.call_sheets.specs.CallSheets.{boundStart, showStart, shareStart, changeStart, beginsWith, shareCall, changeCall}
 use Rattle.call_sheets.proofs.Laws.{begins-long}
 use Rattle.call_sheets.proofs.numbered_call.Statement.{statement}
 use Rattle.call_sheets.proofs.numbered_call.Tie as tie
+use Rattle.fields.specs.Cursors.{fieldsLeft}
 
 -- the fields from a place to the last byte
 fields-are : (n : ℕ) (s : List ℕ) → n + 1 ≤ length s

@@ -5,13 +5,13 @@ use native.Mathlib.Omega.{arith}
 use borrow.Author.Needs.{needs}
 use lib.ListN.{length}
 use Rattle.fields.specs.declared.Cursor.{Cursor}
-use Rattle.fields.specs.Pieces.{fieldsLeft}
 use Rattle.fields.proofs.Fields.{end-good, end-bad}
 use Rattle.lines.proofs.Stages.{number-good, number-bad}
 use Rattle.call_sheets.specs.declared.Call.the-variants as Call
 use Rattle.call_sheets.specs.CallSheets.{shareCall, shareSecond, shareThird, shareEnd}
 use Rattle.call_sheets.proofs.share_call.Statement.{statement}
 use Rattle.call_sheets.proofs.share_call.Tie as tie
+use Rattle.fields.specs.Cursors.{fieldsLeft}
 
 -- the value and the cursor of each field, by the place where it was read
 abbrev start : tie.After-known-told → tie.Start

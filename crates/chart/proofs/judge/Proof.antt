@@ -5,10 +5,10 @@ use mathlib.Core.Path.{_≡_, refl, sym}
 use native.Mathlib.Omega.{arith}
 use lib.ListN.{length, length-map}
 use lib.Seq.{length-take-le}
-use Rattle.grammar.specs.Content.{spelled}
 use Rattle.chart.proofs.SheetLaws.{judged, judged-over, reads-none, reads-one, reads-two}
 use Rattle.chart.proofs.judge.Statement.{statement}
 use Rattle.chart.proofs.judge.Tie as tie
+use Rattle.grammar.specs.Sentences.{spelled}
 
 -- the array of tokens has 64 places
 whole : (c : tie.Start) → length (spelled (c .args .s)) ≡ c .args .s .count

@@ -5,11 +5,11 @@ use Prim.Native.Nat.{ℕ, _*_, _≤_}
 use native.Mathlib.Omega.{arith}
 use lib.ListN.{length, length-map}
 use lib.Seq.{length-take-le}
-use Rattle.grammar.specs.Content.{spelled}
 use Rattle.grammar.specs.SpanSheet.{pairs}
 use Rattle.chart.proofs.PickLaws.{next-found}
 use Rattle.chart.proofs.next_choice.Statement.{statement}
 use Rattle.chart.proofs.next_choice.Tie as tie
+use Rattle.grammar.specs.Sentences.{spelled}
 
 -- the array of tokens has 64 places
 whole : (c : tie.Start) → length (spelled (c .args .s)) ≡ c .args .s .count

@@ -6,7 +6,7 @@ use native.Mathlib.Omega.{arith}
 use lib.ListN.{length, take}
 use Rattle.codes.specs.Codes.{decoded}
 use Rattle.grammar.specs.Trees.{Rules}
-use Rattle.column_ranges.specs.Ranges.{columns, rangesOf}
+use Rattle.column_ranges.specs.Ranges.{columns}
 use Rattle.column_ranges.proofs.Counting.{range-read, ended-at}
 use Rattle.choosing.specs.Searching.{range}
 use Rattle.choosing.proofs.Placing.{range-ended, put-front}
@@ -24,6 +24,7 @@ use Rattle.choosing.proofs.with_verdict.Reads as with-verdict-reads
 use Rattle.column_ranges.proofs.columns.Reads as columns-reads
 use Rattle.choosing.proofs.+search.{statement}
 use Rattle.choosing.proofs.+search.Tie.{close}
+use Rattle.column_ranges.specs.RangeSentences.{rangesOf}
 
 abbrev μ-search : Measures 2 search-kinds.ps ℕ
 μ-search κs a = a .1 .0 .count - a .1 .1 .1 .1 .0

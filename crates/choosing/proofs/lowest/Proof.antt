@@ -4,7 +4,6 @@ use mathlib.Core.Path.{_≡_, sym, ap, _∙_}
 use Prim.Native.Nat.{ℕ, _-_, _≤_, _<_}
 use native.Mathlib.Omega.{arith}
 use lib.ListN.{length, length-set}
-use Rattle.column_ranges.specs.Ranges.{Ended}
 use Rattle.column_ranges.proofs.Counting.{ended-at}
 use Rattle.choosing.proofs.Placing.{Lowest, lowest-none, lowest-more, lowest-placed}
 use Rattle.choosing.proofs.lowest.Statement.{statement}
@@ -13,6 +12,7 @@ use Rattle.choosing.proofs.lowest.Reads as reads
 use Rattle.choosing.proofs.lowest.Lts as lts
 use Rattle.choosing.proofs.no_tokens.Reads as no-tokens-reads
 use Rattle.choosing.proofs.placed.Reads as placed-reads
+use Rattle.column_ranges.specs.RangeSentences.{Ended}
 
 abbrev Inv-loop : tie.InvT-loop
 Inv-loop r u₀ i₀ u i = Lowest r u i

@@ -1,7 +1,6 @@
 -- `clauses_from` meets its contract.
 use Rattle.clause_sheets.specs.ClauseSheets.{clauseStep}
 use Rattle.clause_sheets.proofs.Closing.{found-refused, found-all}
-use Rattle.fields.specs.Pieces.{piecesFrom}
 use Rattle.sheets.specs.Promises.{RulesRead}
 use Rattle.sheets.specs.Items.{Reading, itemsFrom}
 use Rattle.grammar.specs.declared.Rule.{Rule}
@@ -10,6 +9,7 @@ use mathlib.Core.Path.{sym, subst}
 use borrow.Author.Needs.{needs}
 use Rattle.clause_sheets.proofs.clauses_from.Statement.{statement}
 use Rattle.clause_sheets.proofs.clauses_from.Tie as tie
+use Rattle.fields.specs.Cursors.{piecesFrom}
 
 lines-check-requires : tie.Need-lines-check-requires
 lines-check-requires c κs = search needs

@@ -3,13 +3,13 @@ use mathlib.Core.Path.{_≡_, refl, sym, subst}
 use native.Mathlib.Omega.{arith}
 use borrow.Author.Needs.{needs}
 use Rattle.grammar.specs.declared.Rule.{Rule}
-use Rattle.fields.specs.Pieces.{piecesFrom}
 use Rattle.sheets.specs.declared.GrammarRead.{GrammarRead}
 use Rattle.sheets.specs.Items.{Reading}
 use Rattle.sheets.specs.Promises.{RulesRead}
 use Rattle.clause_sheets.proofs.Closing.{Walked, past-far, out-over, out-few, out-formed, out-end}
 use Rattle.clause_sheets.proofs.expand_from.Statement.{statement}
 use Rattle.clause_sheets.proofs.expand_from.Tie as tie
+use Rattle.fields.specs.Cursors.{piecesFrom}
 
 -- a reading of the same sheet
 reads-as : {r : GrammarRead} {x y : Reading Rule} → y ≡ x → RulesRead r x → RulesRead r y

@@ -2,10 +2,10 @@
 use mathlib.Core.Path.{sym, _∙_}
 use native.Mathlib.Omega.{arith}
 use Rattle.clause_sheets.proofs.LineParts.{split, unsplit, too-high, no-blank, checked-behind, checked-not}
-use Rattle.fields.specs.Pieces.{bytesLeft}
 use borrow.Author.Needs.{needs}
 use Rattle.clause_sheets.proofs.line_check.Statement.{statement}
 use Rattle.clause_sheets.proofs.line_check.Tie as tie
+use Rattle.fields.specs.Cursors.{bytesLeft}
 
 number-requires : tie.Need-number-requires
 number-requires c κs = search needs

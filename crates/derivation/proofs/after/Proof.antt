@@ -4,13 +4,14 @@ use mathlib.Core.Bool.{true, false}
 use Prim.Native.Nat.{ℕ, _+_, _≤_, _<_}
 use native.Mathlib.Omega.{arith}
 use Rattle.grammar.specs.Choices.{Choice, OtherChoice, OnlyChoice}
-use Rattle.grammar.specs.Content.{rules, spelled}
+use Rattle.grammar.specs.Content.{rules}
 use Rattle.grammar.specs.SpanSheet.{part}
 use Rattle.chart.specs.Choosing.{NextChoice}
 use Rattle.grammar.proofs.ChoiceLaws.{preferred-choice}
 use Rattle.derivation.proofs.PickLaws.{other-of-next, only-of-none, chosen, choice-near}
 use Rattle.derivation.proofs.after.Statement.{statement}
 use Rattle.derivation.proofs.after.Tie as tie
+use Rattle.grammar.specs.Sentences.{spelled}
 
 -- the choices at the node
 abbrev At : tie.Start → ℕ → ℕ → Type 0

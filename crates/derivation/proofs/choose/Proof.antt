@@ -7,7 +7,7 @@ use Prim.Native.Nat.{ℕ, suc, _+_, _-_, _*_, _≤_, _<_, max}
 use native.Mathlib.Omega.{arith}
 use lib.ListN.{length}
 use Rattle.grammar.specs.Choices.{Choice, FirstChoice, Preferred, Same, LowChoice, OtherChoice, straight, looping}
-use Rattle.grammar.specs.Content.{rules, spelled}
+use Rattle.grammar.specs.Content.{rules}
 use Rattle.grammar.specs.SpanSheet.{part}
 use Rattle.grammar.proofs.ChoiceLaws.{preferred-choice}
 use Rattle.chart.specs.Choosing.{NextAt, NextChoice}
@@ -15,6 +15,7 @@ use Rattle.derivation.specs.Lows.{PreferredPick}
 use Rattle.derivation.proofs.PickLaws.{choice-near, chosen, charted}
 use Rattle.derivation.proofs.choose.Statement.{statement}
 use Rattle.derivation.proofs.choose.Tie as tie
+use Rattle.grammar.specs.Sentences.{spelled}
 
 wide-requires : tie.Need-wide-requires
 wide-requires c κs = search needs

@@ -7,7 +7,7 @@ use Prim.Native.Nat.{ℕ, suc, _+_, _-_, _*_, _≤_, _<_, max}
 use native.Mathlib.Omega.{arith}
 use lib.ListN.{length}
 use Rattle.grammar.specs.Choices.{Choice, FirstChoice, Preferred, Same, LowChoice, OtherChoice, straight, looping}
-use Rattle.grammar.specs.Content.{rules, spelled}
+use Rattle.grammar.specs.Content.{rules}
 use Rattle.grammar.specs.SpanSheet.{part}
 use Rattle.grammar.proofs.ChoiceLaws.{preferred-choice}
 use Rattle.chart.specs.Choosing.{NextAt, NextChoice}
@@ -16,6 +16,7 @@ use Rattle.derivation.proofs.PickLaws.{choice-near, charted, getElem?-t
 use Rattle.derivation.proofs.LowLaws.{Higher, higher-none, low-step, low-there, step-inside, rank, rank-less}
 use Rattle.derivation.proofs.low_choice.Statement.{statement}
 use Rattle.derivation.proofs.low_choice.Tie as tie
+use Rattle.grammar.specs.Sentences.{spelled}
 
 -- The loop's invariant: the choices passed are higher than the least height. One of the rest gives it.
 

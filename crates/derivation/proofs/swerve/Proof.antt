@@ -7,7 +7,7 @@ use Prim.Native.Nat.{ℕ, suc, _+_, _-_, _*_, _≤_, _<_, max}
 use native.Mathlib.Omega.{arith}
 use lib.ListN.{length}
 use Rattle.grammar.specs.Choices.{Choice, FirstChoice, Preferred, Same, LowChoice, OtherChoice, straight, looping}
-use Rattle.grammar.specs.Content.{rules, spelled}
+use Rattle.grammar.specs.Content.{rules}
 use Rattle.grammar.specs.SpanSheet.{part}
 use Rattle.grammar.proofs.ChoiceLaws.{preferred-choice}
 use Rattle.chart.specs.Choosing.{NextAt, NextChoice}
@@ -15,6 +15,7 @@ use mathlib.Core.Path.{subst₂}
 use Rattle.derivation.proofs.PickLaws.{choice-near, chosen, other-of-first, first-of-next, none-of-none}
 use Rattle.derivation.proofs.swerve.Statement.{statement}
 use Rattle.derivation.proofs.swerve.Tie as tie
+use Rattle.grammar.specs.Sentences.{spelled}
 
 next-choice-requires : tie.Need-next-choice-requires
 next-choice-requires c κs = let z = c .before in let a = z .args in let r = z .pre .0 .0 in ((r .positioned .few, z .pre .0 .1), (r .formed, r .sheet))

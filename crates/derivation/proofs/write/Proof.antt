@@ -4,13 +4,14 @@ use mathlib.Core.Path.{_≡_, refl}
 use Prim.Native.Nat.{_+_, _*_, _-_, _/_, _≤_}
 use native.Mathlib.Omega.{arith}
 use lib.ListN.{length, getD}
-use Rattle.grammar.specs.Content.{rules, spelled}
-use Rattle.shown.specs.Shown.{member}
+use Rattle.grammar.specs.Content.{rules}
 use Rattle.rows.proofs.StepLaws.{kids-le}
 use Rattle.derivation.proofs.Memory.{Popped}
 use Rattle.derivation.proofs.Turn.{Running, running-start, running-over, running-done, laid-none, popped, within, has-choice, chosen-kind, chosen-split, chosen-turn, chosen-over}
 use Rattle.derivation.proofs.write.Statement.{statement}
 use Rattle.derivation.proofs.write.Tie as tie
+use Rattle.grammar.specs.Sentences.{spelled}
+use Rattle.shown.specs.Members.{member}
 
 abbrev Inv-loop : tie.InvT-loop
 Inv-loop words hs s g sees out₀ seeking places n₀ top₀ seek₀ out n top seek = Running (member sees) g s seeking (length out₀) places out n top seek

@@ -9,13 +9,13 @@ use Rattle.fields.specs.declared.Cursor.{Cursor}
 use Rattle.fields.specs.declared.Kind.{Kind}
 use Rattle.fields.specs.declared.Lay.{Lay}
 use Rattle.fields.specs.declared.Operand.{Operand}
-use Rattle.fields.specs.Pieces.{fieldsLeft}
 use Rattle.fields.proofs.Fields.{end-good, end-bad}
 use Rattle.lines.specs.declared.RuleLine.the-variants.{Form}
 use Rattle.lines.specs.RuleLines.{ruleFields, afterLeft, afterKind, afterFirst, afterSecond, afterLay}
 use Rattle.lines.proofs.Stages.{number-good, number-bad, kind-good, kind-bad, operand-good, operand-bad, lay-good, lay-bad}
 use Rattle.lines.proofs.rule_line.Statement.{statement}
 use Rattle.lines.proofs.rule_line.Tie as tie
+use Rattle.fields.specs.Cursors.{fieldsLeft}
 
 -- the start, and the value and the cursor of each field, by the place where it was read
 abbrev start₁ : tie.After-known-told → tie.Start

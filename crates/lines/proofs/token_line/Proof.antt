@@ -7,12 +7,12 @@ use native.Mathlib.Omega.{arith}
 use borrow.Author.Needs.{needs}
 use lib.ListN.{length}
 use Rattle.fields.specs.declared.Cursor.{Cursor}
-use Rattle.fields.specs.Pieces.{fieldsLeft}
 use Rattle.lines.specs.declared.TokenLine.the-variants.{Form}
 use Rattle.lines.specs.TokenLines.{tokenFields, afterTerminal, afterLine, afterColumn}
 use Rattle.lines.proofs.Stages.{number-good, number-bad}
 use Rattle.lines.proofs.token_line.Statement.{statement}
 use Rattle.lines.proofs.token_line.Tie as tie
+use Rattle.fields.specs.Cursors.{fieldsLeft}
 
 -- the start, and the value and the cursor of each field, by the place where it was read
 abbrev start₁ : tie.After-known-told → tie.Start

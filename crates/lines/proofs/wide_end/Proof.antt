@@ -2,13 +2,13 @@
 use mathlib.Core.Path.{_≡_, sym, _∙_}
 use native.Mathlib.Omega.{arith}
 use borrow.Author.Needs.{needs}
-use Rattle.fields.specs.Pieces.{fieldsLeft}
 use Rattle.lines.specs.declared.TokenLine.the-variants.{Form}
 use mathlib.Core.Bool.{true}
 use Rattle.lines.specs.TokenLines.{afterWidth, afterColumn}
 use Rattle.lines.proofs.Stages.{number-good, number-bad}
 use Rattle.lines.proofs.wide_end.Statement.{statement}
 use Rattle.lines.proofs.wide_end.Tie as tie
+use Rattle.fields.specs.Cursors.{fieldsLeft}
 
 abbrev start : tie.After-known-told → tie.Start
 start c = c .before .before .before .before .before

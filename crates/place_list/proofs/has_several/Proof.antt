@@ -2,10 +2,10 @@
 use borrow.Author.Needs.{needs}
 use native.Mathlib.Omega.{arith}
 use Rattle.sets.proofs.Says.{holds, fails}
-use Rattle.grammar.specs.Content.{spelled}
 use Rattle.place_list.proofs.ChoiceLaws.{several-none, several-only, several-two, left-small}
 use Rattle.place_list.proofs.has_several.Statement.{statement}
 use Rattle.place_list.proofs.has_several.Tie as tie
+use Rattle.grammar.specs.Sentences.{spelled}
 
 next-choice-requires : tie.Need-next-choice-requires
 next-choice-requires c κs = search needs

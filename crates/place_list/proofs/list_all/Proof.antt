@@ -2,11 +2,12 @@
 use mathlib.Core.Path.{_≡_, refl, _∙_}
 use Prim.Native.Nat.{_≤_}
 use native.Mathlib.Omega.{arith}
-use Rattle.grammar.specs.Content.{rules, spelled}
+use Rattle.grammar.specs.Content.{rules}
 use Rattle.place_list.specs.Steps.{entry, Lists}
 use Rattle.place_list.proofs.ListLaws.{lists-none, lists-then}
 use Rattle.place_list.proofs.list_all.Statement.{statement}
 use Rattle.place_list.proofs.list_all.Tie as tie
+use Rattle.grammar.specs.Sentences.{spelled}
 
 abbrev Inv-loop : tie.InvT-loop
 Inv-loop words reach s g list₀ k₀ len₀ list k len =

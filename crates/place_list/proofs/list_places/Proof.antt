@@ -1,9 +1,9 @@
 -- `list_places` meets its contract: from the first position to the last, then the list's end.
-use Rattle.grammar.specs.Content.{spelled}
 use Rattle.place_list.proofs.ListLaws.{listed-first, listed-all}
 use borrow.Author.Needs.{needs}
 use Rattle.place_list.proofs.list_places.Statement.{statement}
 use Rattle.place_list.proofs.list_places.Tie as tie
+use Rattle.grammar.specs.Sentences.{spelled}
 
 begin-requires : tie.Need-begin-requires
 begin-requires c κs = search needs

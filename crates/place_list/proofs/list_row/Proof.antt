@@ -1,11 +1,12 @@
 -- `list_row` meets its contract. The loop's invariant: the places over the spans that begin before `start`, and over all longer ones, are listed.
 use Prim.Native.Nat.{_+_, _-_, _≤_}
 use native.Mathlib.Omega.{arith}
-use Rattle.grammar.specs.Content.{rules, spelled}
+use Rattle.grammar.specs.Content.{rules}
 use Rattle.place_list.specs.Steps.{entry, Lists}
 use Rattle.place_list.proofs.ListLaws.{lists-none, lists-then, lists-right, lists-down, start-some}
 use Rattle.place_list.proofs.list_row.Statement.{statement}
 use Rattle.place_list.proofs.list_row.Tie as tie
+use Rattle.grammar.specs.Sentences.{spelled}
 
 abbrev Inv-loop : tie.InvT-loop
 Inv-loop words reach s g len list₀ n k₀ start₀ list k start =

@@ -6,7 +6,7 @@ use Prim.Native.Nat.{ℕ, _-_, _≤_, _<_}
 use native.Mathlib.Omega.{arith}
 use lib.ListN.{length, getD}
 use Rattle.sets.specs.Sets.{In}
-use Rattle.grammar.specs.Content.{rules, spelled}
+use Rattle.grammar.specs.Content.{rules}
 use Rattle.grammar.specs.SpanSheet.{pairs, pairAt}
 use Rattle.spans.proofs.Places.{pairAt-below}
 use Rattle.places.specs.Places.{Contains}
@@ -15,6 +15,7 @@ use Rattle.place_list.proofs.ChoiceLaws.{bit-contained, contained-bit}
 use Rattle.place_list.proofs.ListLaws.{lists-none, lists-then, lists-skip}
 use Rattle.place_list.proofs.list_span.Statement.{statement}
 use Rattle.place_list.proofs.list_span.Tie as tie
+use Rattle.grammar.specs.Sentences.{spelled}
 
 abbrev Inv-loop : tie.InvT-loop
 Inv-loop words reach s g start len list₀ p set k₀ a₀ list k a = (a ≤ 64) × Lists (rules g) (spelled s) list₀ list k₀ k (entry 0 start len) (entry a start len)

@@ -4,12 +4,13 @@ use native.Mathlib.Omega.{arith}
 use Prim.Native.Nat.{ℕ, _≤_}
 use Rattle.sheets.specs.Items.{Reading}
 use Rattle.column_ranges.specs.declared.RangeToken.{RangeToken}
-use Rattle.column_ranges.specs.Ranges.{choiceCount, choiceLimit, rangesOf}
+use Rattle.column_ranges.specs.Ranges.{choiceCount, choiceLimit}
 use Rattle.range_sheets.specs.Promises.{RangesRead}
 use Rattle.range_sheets.proofs.Accepted.{counted-few, counted-many, not-refused}
 use borrow.Author.Needs.{needs}
 use Rattle.range_sheets.proofs.finished.Statement.{statement}
 use Rattle.range_sheets.proofs.finished.Tie as tie
+use Rattle.column_ranges.specs.RangeSentences.{rangesOf}
 
 count-requires : tie.Need-count-requires
 count-requires c κs = search needs

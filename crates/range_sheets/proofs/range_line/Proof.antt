@@ -6,13 +6,13 @@ use native.Mathlib.Omega.{arith}
 use borrow.Author.Needs.{needs}
 use lib.ListN.{length}
 use Rattle.fields.specs.declared.Cursor.{Cursor}
-use Rattle.fields.specs.Pieces.{fieldsLeft}
 use Rattle.fields.proofs.Fields.{end-good, end-bad}
 use Rattle.range_sheets.specs.declared.RangeLine.the-variants.{Form}
 use Rattle.range_sheets.specs.RangeLines.{rangeFields, afterRangeTerminal, afterRangeLine, afterRangeLow, afterRangeHigh}
 use Rattle.lines.proofs.Stages.{number-good, number-bad}
 use Rattle.range_sheets.proofs.range_line.Statement.{statement}
 use Rattle.range_sheets.proofs.range_line.Tie as tie
+use Rattle.fields.specs.Cursors.{fieldsLeft}
 
 -- the start, and the value and the cursor of each field, by the place where it was read
 abbrev start₁ : tie.After-known-told → tie.Start

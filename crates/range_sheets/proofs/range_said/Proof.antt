@@ -2,7 +2,6 @@
 use mathlib.Core.Path.{_≡_, sym, ap, _∙_}
 use mathlib.Core.List.{[]}
 use borrow.Author.Needs.{needs}
-use Rattle.fields.specs.Pieces.{bytesLeft}
 use Rattle.fields.proofs.Lines.{fields-of}
 use Rattle.range_sheets.specs.declared.RangeLine.{RangeLine}
 use Rattle.range_sheets.specs.RangeLines.{rangeFields}
@@ -10,6 +9,7 @@ use Rattle.range_sheets.specs.RangeSheets.{rangeSaid, rangeSays}
 use borrow.Author.Needs.{needs}
 use Rattle.range_sheets.proofs.range_said.Statement.{statement}
 use Rattle.range_sheets.proofs.range_said.Tie as tie
+use Rattle.fields.specs.Cursors.{bytesLeft}
 
 -- what the line was read as
 said : (c : tie.After-range-line) (x : RangeLine) → c .range-line .result ≡ x → rangeSaid x ≡ rangeSays [] (bytesLeft (c .before .before .args .s .now) (c .before .before .args .c))

@@ -4,7 +4,6 @@ use borrow.Author.Needs.{needs}
 use lib.ListN.{length}
 use mathlib.Core.List.{[]}
 use lib.Dec.{ltb}
-use Rattle.fields.specs.Pieces.{bytesLeft}
 use Rattle.lines.specs.declared.Turn.{Turn}
 use Rattle.lines.specs.Turns.{turnOf}
 use Rattle.sheets.specs.declared.Fault.the-variants as Fault
@@ -12,6 +11,7 @@ use Rattle.sheets.specs.Items.{stepAt}
 use Rattle.range_sheets.specs.RangeSheets.{rangeSays}
 use Rattle.range_sheets.proofs.range_step.Statement.{statement}
 use Rattle.range_sheets.proofs.range_step.Tie as tie
+use Rattle.fields.specs.Cursors.{bytesLeft}
 
 -- what the line is
 said : (c : tie.After-turn-at) (x : Turn) → c .turn-at .result ≡ x

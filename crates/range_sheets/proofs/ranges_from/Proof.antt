@@ -6,7 +6,6 @@ use borrow.Author.Needs.{needs}
 use lib.ListN.{length, take}
 use mathlib.Core.List.{[]}
 use lib.Dec.{ltb, lit≤}
-use Rattle.fields.specs.Pieces.{piecesFrom, bytesLeft}
 use Rattle.lines.specs.Turns.{turnOf}
 use Rattle.range_sheets.specs.declared.RangeStep.{RangeStep}
 use Rattle.sheets.specs.declared.Fault.the-variants as Fault
@@ -17,6 +16,7 @@ use Rattle.sheets.proofs.Loop.{Filled, line-in, count, took, moved, turned, sto
 use Rattle.range_sheets.proofs.Accepted.{ranges-ended}
 use Rattle.range_sheets.proofs.ranges_from.Statement.{statement}
 use Rattle.range_sheets.proofs.ranges_from.Tie as tie
+use Rattle.fields.specs.Cursors.{piecesFrom, bytesLeft}
 
 abbrev Inv-loop : tie.InvT-loop
 Inv-loop s start tokens₀ n₀ at₀ tokens n at = Filled 64 Fault.TokenMany Fault.TokenForm rangeSays s start tokens n at

@@ -6,7 +6,7 @@ use native.Mathlib.Omega.{arith}
 use lib.ListN.{length, take, length-map}
 use lib.Seq.{length-take-le}
 use Rattle.grammar.specs.Trees.{Rules}
-use Rattle.grammar.specs.Content.{rules, spelled}
+use Rattle.grammar.specs.Content.{rules}
 use Rattle.grammar.specs.SpanSheet.{pairAt}
 use Rattle.codes.proofs.Laws.{coded-whole}
 use Rattle.marks.specs.declared.Draft.{Draft}
@@ -14,6 +14,7 @@ use Rattle.reach.specs.Spreading.{Known, Done}
 use Rattle.reach.proofs.DoneLaws.{done-start, reached}
 use Rattle.reach.proofs.reached.Statement.{statement}
 use Rattle.reach.proofs.reached.Tie as tie
+use Rattle.grammar.specs.Sentences.{spelled}
 
 -- the array of tokens has 64 places
 whole : (c : tie.Start) → length (spelled (c .args .s)) ≡ c .args .s .count

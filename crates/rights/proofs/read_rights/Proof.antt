@@ -11,9 +11,10 @@ use Rattle.sheets.specs.Items.{Reading, refused}
 use Rattle.sheets.proofs.Names.{names-good, names-other, names-open}
 use Rattle.fields.proofs.Cuts.{same-path}
 use Rattle.rights.specs.declared.Right.{Right}
-use Rattle.rights.specs.RightSheets.{rightNames, itemsOf, RightsGiven}
+use Rattle.rights.specs.RightSheets.{rightNames, itemsOf}
 use Rattle.rights.proofs.read_rights.Statement.{statement}
 use Rattle.rights.proofs.read_rights.Tie as tie
+use Rattle.rights.specs.Answers.{RightsGiven}
 
 line-requires : tie.Need-line-requires
 line-requires c κs = search needs

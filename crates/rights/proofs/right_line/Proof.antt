@@ -8,7 +8,6 @@ use native.Mathlib.Omega.{arith}
 use borrow.Author.Needs.{needs}
 use lib.ListN.{length}
 use Rattle.fields.specs.declared.Cursor.{Cursor}
-use Rattle.fields.specs.Pieces.{fieldsLeft}
 use Rattle.fields.specs.Fields.{onValue}
 use Rattle.lines.proofs.Stages.{number-good, number-bad}
 use Rattle.rights.specs.declared.RightLine.{RightLine}
@@ -19,6 +18,7 @@ use Rattle.rights.specs.RightLines.{mayOf, lastOf, rightOf, rightFields,
 use Rattle.rights.specs.Answers.{asMay}
 use Rattle.rights.proofs.right_line.Statement.{statement}
 use Rattle.rights.proofs.right_line.Tie as tie
+use Rattle.fields.specs.Cursors.{fieldsLeft}
 
 -- what the last field was read as
 as-change : (o : Option Bool) → May.Change ≡ asMay o → o ≡ some true

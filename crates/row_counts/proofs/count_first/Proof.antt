@@ -4,10 +4,11 @@ use mathlib.Core.Path.{_≡_, ap, _∙_, subst}
 use Prim.Native.Nat.{ℕ, _-_}
 use lib.ListN.{getD}
 use Rattle.grammar.specs.Choices.{FirstTree}
-use Rattle.grammar.specs.Content.{rules, spelled}
+use Rattle.grammar.specs.Content.{rules}
 use Rattle.grammar.specs.SpanSheet.{part}
 use Rattle.row_counts.proofs.count_first.Statement.{statement}
 use Rattle.row_counts.proofs.count_first.Tie as tie
+use Rattle.grammar.specs.Sentences.{spelled}
 
 wide-requires : tie.Need-wide-requires
 wide-requires c κs = search needs

@@ -6,12 +6,13 @@ use native.Mathlib.Omega.{arith}
 use lib.ListN.{getD}
 use lib.ListN.{length-set}
 use Rattle.grammar.specs.Rows.{rowCount}
-use Rattle.grammar.specs.Content.{rules, spelled}
+use Rattle.grammar.specs.Content.{rules}
 use Rattle.row_counts.proofs.Firsts.{first-choice}
 use Rattle.row_counts.proofs.SizeLaws.{chosen-small}
 use Rattle.row_counts.proofs.WalkLaws.{Walk, Going, walk-start, own-le, own-some, less-left, leaf-end, leaf-next, down-le, down-push, down-same, walk-all, walk-large}
 use Rattle.row_counts.proofs.walk.Statement.{statement}
 use Rattle.row_counts.proofs.walk.Tie as tie
+use Rattle.grammar.specs.Sentences.{spelled}
 
 -- The loop's invariant is `Going`; each turn counts one node with tokens. The measure is what the count can still grow by.
 

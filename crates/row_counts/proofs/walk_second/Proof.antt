@@ -6,7 +6,7 @@ use native.Mathlib.Omega.{arith}
 use lib.ListN.{length}
 use borrow.Author.Tests.{not-true, not-false}
 use Rattle.grammar.specs.Rows.{rowCount}
-use Rattle.grammar.specs.Content.{rules, spelled}
+use Rattle.grammar.specs.Content.{rules}
 use Rattle.grammar.specs.SpanSheet.{part, pairs}
 use Rattle.sets.specs.Sets.{In}
 use Rattle.grammar.specs.SpanSheet.{secondWord}
@@ -20,6 +20,7 @@ use Rattle.row_counts.proofs.WalkLaws.{less-left}
 use Rattle.row_counts.proofs.SecondLaws.{SecondGoing, Onway, second-start, second-choice, here-parted, here-end, split-le, onway, beside-some, second-all, second-large}
 use Rattle.row_counts.proofs.walk_second.Statement.{statement}
 use Rattle.row_counts.proofs.walk_second.Tie as tie
+use Rattle.grammar.specs.Sentences.{spelled}
 
 -- The loop's invariant is `SecondGoing`; each turn goes one node down. The measure is what the count can still grow by.
 

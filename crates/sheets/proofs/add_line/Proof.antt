@@ -4,7 +4,6 @@ use mathlib.Core.Path.{_≡_, sym, ap, _∙_}
 use lib.ListN.{length}
 use lib.Dec.{ltb}
 use Rattle.grammar.specs.Content.{rules}
-use Rattle.fields.specs.Pieces.{bytesLeft}
 use Rattle.lines.specs.Turns.{turnOf}
 use Rattle.sheets.specs.declared.RuleStep.{RuleStep}
 use Rattle.sheets.specs.declared.Fault.the-variants as Fault
@@ -14,6 +13,7 @@ use Rattle.sheets.specs.Promises.{asRuleStep}
 use Rattle.sheets.proofs.Booking.{rule-fits, adds-stop, adds-end}
 use Rattle.sheets.proofs.add_line.Statement.{statement}
 use Rattle.sheets.proofs.add_line.Tie as tie
+use Rattle.fields.specs.Cursors.{bytesLeft}
 
 -- what the line gave
 gave : (c : tie.After-rule-step) (x : RuleStep) → c .rule-step .result ≡ x

@@ -2,13 +2,13 @@
 use mathlib.Core.Path.{_≡_, sym, ap, _∙_}
 use borrow.Author.Needs.{needs}
 use lib.ListN.{take}
-use Rattle.fields.specs.Pieces.{bytesLeft}
 use Rattle.fields.proofs.Lines.{fields-of}
 use Rattle.lines.specs.declared.RuleLine.{RuleLine}
 use Rattle.lines.specs.RuleLines.{ruleFields}
 use Rattle.sheets.specs.RuleSheets.{ruleSaid, ruleSays}
 use Rattle.sheets.proofs.rule_said.Statement.{statement}
 use Rattle.sheets.proofs.rule_said.Tie as tie
+use Rattle.fields.specs.Cursors.{bytesLeft}
 
 -- what the line was read as
 said : (c : tie.After-rule-line) (x : RuleLine) → c .rule-line .result ≡ x

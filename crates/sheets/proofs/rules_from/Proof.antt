@@ -6,7 +6,6 @@ use borrow.Author.Needs.{needs}
 use lib.ListN.{length, take}
 use lib.Dec.{ltb, lit≤}
 use Rattle.grammar.specs.Content.{rules}
-use Rattle.fields.specs.Pieces.{piecesFrom, bytesLeft}
 use Rattle.lines.specs.Turns.{turnOf}
 use Rattle.lengths.specs.declared.Book.{Book}
 use Rattle.sheets.specs.declared.RuleStep.{RuleStep}
@@ -19,6 +18,7 @@ use Rattle.sheets.proofs.Accepted.{rules-kept}
 use Rattle.sheets.proofs.Booking.{Reads, adds-as, reads-none, reads-turn}
 use Rattle.sheets.proofs.rules_from.Statement.{statement}
 use Rattle.sheets.proofs.rules_from.Tie as tie
+use Rattle.fields.specs.Cursors.{piecesFrom, bytesLeft}
 
 abbrev Inv-loop : tie.InvT-loop
 Inv-loop s start book₀ at₀ book at = Reads s start book at

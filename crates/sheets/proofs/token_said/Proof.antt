@@ -2,13 +2,13 @@
 use mathlib.Core.Path.{_≡_, sym, ap, _∙_}
 use borrow.Author.Needs.{needs}
 use lib.ListN.{take}
-use Rattle.fields.specs.Pieces.{bytesLeft}
 use Rattle.fields.proofs.Lines.{fields-of}
 use Rattle.lines.specs.declared.TokenLine.{TokenLine}
 use Rattle.lines.specs.TokenLines.{tokenFields}
 use Rattle.sheets.specs.TokenSheets.{tokenSaid, tokenSays}
 use Rattle.sheets.proofs.token_said.Statement.{statement}
 use Rattle.sheets.proofs.token_said.Tie as tie
+use Rattle.fields.specs.Cursors.{bytesLeft}
 
 -- what the line was read as
 said : (c : tie.After-token-line) (x : TokenLine) → c .token-line .result ≡ x

@@ -5,7 +5,6 @@ use native.Mathlib.Omega.{arith}
 use borrow.Author.Needs.{needs}
 use lib.ListN.{length, take}
 use lib.Dec.{ltb, lit≤}
-use Rattle.fields.specs.Pieces.{piecesFrom, bytesLeft}
 use Rattle.lines.specs.Turns.{turnOf}
 use Rattle.sheets.specs.declared.TokenStep.{TokenStep}
 use Rattle.sheets.specs.declared.Fault.the-variants as Fault
@@ -16,6 +15,7 @@ use Rattle.sheets.proofs.Loop.{Filled, line-in, count, took, moved, tur
 use Rattle.sheets.proofs.Accepted.{tokens-placed}
 use Rattle.sheets.proofs.tokens_from.Statement.{statement}
 use Rattle.sheets.proofs.tokens_from.Tie as tie
+use Rattle.fields.specs.Cursors.{piecesFrom, bytesLeft}
 
 abbrev Inv-loop : tie.InvT-loop
 Inv-loop s start wide tokens₀ n₀ at₀ tokens n at = Filled 64 Fault.TokenMany Fault.TokenForm (tokenSays wide) s start tokens n at

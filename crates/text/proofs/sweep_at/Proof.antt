@@ -4,11 +4,11 @@ use Prim.Native.Nat.{_+_, _-_}
 use native.Mathlib.Omega.{arith}
 use lib.ListN.{length, take, drop, length-drop}
 use lib.Seq.{length-take-le, take-all}
-use Rattle.text.specs.Printed.{unbound, bound}
 use Rattle.text.proofs.Sweeps.{number-was}
 use borrow.Author.Needs.{needs}
 use Rattle.text.proofs.sweep_at.Statement.{statement}
 use Rattle.text.proofs.sweep_at.Tie as tie
+use Rattle.text.specs.Swept.{unbound, bound}
 
 add-j : tie.Need-add-j
 add-j c = search needs

@@ -12,13 +12,12 @@ use Rattle.fields.specs.declared.KindWord.{KindWord}
 use Rattle.fields.specs.declared.KindWord.the-variants as KindWord
 use Rattle.fields.specs.declared.KindField.{KindField}
 use Rattle.fields.specs.declared.KindField.the-variants as KindField
-use Rattle.fields.specs.Pieces.{fieldsLeft}
 use Rattle.fields.specs.Words.{kindOf}
-use Rattle.fields.specs.Fields.{withCursor, readField}
 use Rattle.fields.specs.Answers.{asKind, kindField}
 use Rattle.fields.proofs.Fields.{line-long, left-none, field-high, field-here}
 use Rattle.fields.proofs.Cursor.kind.Statement.{statement}
 use Rattle.fields.proofs.Cursor.kind.Tie as tie
+use Rattle.fields.specs.Cursors.{fieldsLeft, withCursor, readField}
 
 -- what the code makes of the word that it read
 abbrev moved : KindWord → Cursor → KindField

@@ -12,13 +12,12 @@ use Rattle.fields.specs.declared.LayWord.{LayWord}
 use Rattle.fields.specs.declared.LayWord.the-variants as LayWord
 use Rattle.fields.specs.declared.LayField.{LayField}
 use Rattle.fields.specs.declared.LayField.the-variants as LayField
-use Rattle.fields.specs.Pieces.{fieldsLeft}
 use Rattle.fields.specs.Words.{layOf}
-use Rattle.fields.specs.Fields.{withCursor, readField}
 use Rattle.fields.specs.Answers.{asLay, layField}
 use Rattle.fields.proofs.Fields.{line-long, left-none, field-high, field-here}
 use Rattle.fields.proofs.Cursor.lay.Statement.{statement}
 use Rattle.fields.proofs.Cursor.lay.Tie as tie
+use Rattle.fields.specs.Cursors.{fieldsLeft, withCursor, readField}
 
 -- what the code makes of the word that it read
 abbrev moved : LayWord → Cursor → LayField

@@ -11,13 +11,12 @@ use Rattle.fields.specs.declared.Number.{Number}
 use Rattle.fields.specs.declared.Number.the-variants as Number
 use Rattle.fields.specs.declared.NumberField.{NumberField}
 use Rattle.fields.specs.declared.NumberField.the-variants as NumberField
-use Rattle.fields.specs.Pieces.{fieldsLeft}
 use Rattle.fields.specs.Words.{numeralOf}
-use Rattle.fields.specs.Fields.{withCursor, readField}
 use Rattle.fields.specs.Answers.{asNumber, numberField}
 use Rattle.fields.proofs.Fields.{line-long, left-none, field-high, field-here}
 use Rattle.fields.proofs.Cursor.number.Statement.{statement}
 use Rattle.fields.proofs.Cursor.number.Tie as tie
+use Rattle.fields.specs.Cursors.{fieldsLeft, withCursor, readField}
 
 -- what the code makes of the word that it read
 abbrev moved : Number → Cursor → NumberField

@@ -12,13 +12,12 @@ use Rattle.fields.specs.declared.OperandWord.{OperandWord}
 use Rattle.fields.specs.declared.OperandWord.the-variants as OperandWord
 use Rattle.fields.specs.declared.OperandField.{OperandField}
 use Rattle.fields.specs.declared.OperandField.the-variants as OperandField
-use Rattle.fields.specs.Pieces.{fieldsLeft}
 use Rattle.fields.specs.Words.{operandOf}
-use Rattle.fields.specs.Fields.{withCursor, readField}
 use Rattle.fields.specs.Answers.{asOperand, operandField}
 use Rattle.fields.proofs.Fields.{line-long, left-none, field-high, field-here}
 use Rattle.fields.proofs.Cursor.operand.Statement.{statement}
 use Rattle.fields.proofs.Cursor.operand.Tie as tie
+use Rattle.fields.specs.Cursors.{fieldsLeft, withCursor, readField}
 
 -- what the code makes of the word that it read
 abbrev moved : OperandWord → Cursor → OperandField
