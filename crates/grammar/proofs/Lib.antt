@@ -14,3 +14,4 @@ pub mod Normalization
 pub mod VerdictLaws
 pub mod SweepLaws
 pub mod Atoms
+pub mod Positions

@@ -1,7 +1,6 @@
 -- All arrangements of a length as a list that antt computes, and the order of candidates decided.
-use mathlib.Core.Path.{_≡_, refl, sym, ap, subst, subst⁻¹}
-use mathlib.Core.Logic.{_⊎_, inl, inr, ⊎-elim}
-use mathlib.Core.List.{List, [], _∷_, _++_, map, List·Memᴰ, List·Memᴰ·head, List·Memᴰ·tail}
+use mathlib.Core.Path.{_≡_, refl, sym, ap}
+use mathlib.Core.List.{List, [], _∷_, map, List·Memᴰ, List·Memᴰ·head, List·Memᴰ·tail}
 use mathlib.Core.Bool.{Bool, true, false}
 use Prim.Native.Nat.{ℕ, zero, suc, _+_, _-_, _≤_, _<_}
 use native.Mathlib.Omega.{arith}
@@ -11,9 +10,10 @@ use Rattle.grammar.specs.declared.Cell.{Cell}
 use Rattle.grammar.specs.declared.Rule.{Rule}
 use Rattle.grammar.specs.declared.Clause.{Clause}
 use Rattle.grammar.specs.declared.Clause.the-variants.{Empty, Atom, Unary, Binary}
-use Rattle.grammar.specs.Layout.{Word, line, col, width}
+use Rattle.grammar.specs.Layout.{Word}
 use Rattle.grammar.specs.Trees.{Rules}
-use Rattle.grammar.specs.Candidates.{After, RisingFrom, Rising, sentence, Terminal, Ranged, Cells, Arrangement, Candidate, CellBefore, CellsBefore, Earlier}
+use Rattle.grammar.specs.Candidates.{RisingFrom, Rising, sentence, Terminal, Ranged, Cells, Candidate, CellBefore, CellsBefore, Earlier}
+use Rattle.grammar.proofs.Positions.{after?}
 use Rattle.grammar.proofs.Lists.{eq?, le?, both?, or?, map?, some?, Some, collect, mem-collect}
 use Rattle.grammar.specs.Sweeps.{isAtom}
 use Rattle.grammar.proofs.Atoms.{covers-is, has-atom}
@@ -21,9 +21,6 @@ use Rattle.grammar.proofs.SweepLaws.{cell-path}
 use Rattle.sets.proofs.Says.{true-not-false}
 
 -- 1. decisions
-
-abbrev pub after? : (s t : Token) → Dec (After s t)
-after? s t = or? (le? (suc (line s)) (line t)) (both? (eq? (line s) (line t)) (le? (col s + width s) (col t)))
 
 abbrev pub rising-from? : (a : Token) (w : Word) → Dec (RisingFrom a w)
 rising-from? a [] = yes tt

@@ -1,31 +1,16 @@
 -- P1 to P9 of 01, "Patches to try", and rules that loop (02), as one table.
 use mathlib.Core.List.{List, [], _∷_}
 use Prim.Native.Nat.{ℕ}
-use Rattle.grammar.specs.declared.Rule.{Rule}
 use Rattle.grammar.specs.declared.Token.{Token}
 use Rattle.grammar.specs.declared.Cell.{Cell}
 use Rattle.grammar.specs.declared.UnaryMark.{UnaryMark}
 use Rattle.grammar.specs.declared.UnaryMark.the-variants as UnaryMark
 use Rattle.grammar.specs.declared.BinaryMark.{BinaryMark}
 use Rattle.grammar.specs.declared.BinaryMark.the-variants as BinaryMark
-use Rattle.grammar.specs.declared.Clause.the-variants.{Empty, Atom, Unary, Binary}
-use Rattle.grammar.specs.Layout.{Word}
 use Rattle.grammar.specs.Trees.{Rules}
 use Rattle.grammar.specs.Sweeps.{clear, found}
+use Rattle.clauses.specs.Expansion.{E, A, U, B}
 use Rattle.patches.specs.Claims.{Claim, verdict, sweep, every-sweep-clear, none, one, two}
-
--- the lines of a rule sheet, by kind
-abbrev pub E : ℕ → Rule
-E A = record { left = A; clause = Empty }
-
-abbrev pub A : ℕ → ℕ → Rule
-A B a = record { left = B; clause = Atom a a }
-
-abbrev pub U : ℕ → ℕ → UnaryMark → Rule
-U A B m = record { left = A; clause = Unary B m }
-
-abbrev pub B : ℕ → ℕ → ℕ → BinaryMark → Rule
-B A C D m = record { left = A; clause = Binary C D m }
 
 -- a token of terminal 0 and width 1 at a line and a column
 abbrev pub at : ℕ → ℕ → Token

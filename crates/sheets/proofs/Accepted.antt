@@ -40,7 +40,9 @@ use Rattle.sheets.specs.declared.Fault.{Fault}
 use Rattle.sheets.specs.declared.Fault.the-variants as Fault
 use Rattle.sheets.specs.Items.{Step, next, stop, end, Reading, accepted, refused, stepAt, lineStep, onStep, itemsFrom, withNames}
 use Rattle.sheets.specs.RuleSheets.{hasKey, anyOf, isStart, freshStep, ruleSaid, ruleSays, ruleStep, finish, rulesFrom, ruleNames, ruleSheet}
-use Rattle.sheets.specs.TokenSheets.{after, follows, orderStep, tokenSaid, tokenSays, tokenStep, tokenNames, wideNames, wideSheet, tokenSheet}
+use Rattle.grammar.proofs.Positions.{after?}
+use Rattle.sheets.specs.Following.{after, follows}
+use Rattle.sheets.specs.TokenSheets.{inOrder, orderStep, tokenSaid, tokenSays, tokenStep, tokenNames, wideNames, wideSheet, tokenSheet}
 use Rattle.sheets.proofs.AnyOf.{any-none}
 use Rattle.sheets.proofs.Loop.{next-only}
 use Rattle.grammar.specs.Distinct.{Alike, Distinct}
@@ -182,6 +184,17 @@ after-says a b = go (ltb (line a) (line b)) refl (eqb (line a) (line b)) refl
         let l = ltb-false (line a) (line b) h in
         fails (⊎-elim (λ c. omega arith) (λ c. eqb-false (line a) (line b) k (c .0)))
 
+-- refusal 15 by the test
+pub order-computed : (seen : Word) (t : Token) → orderStep seen t ≡ cond (follows seen t) (next t) (stop Fault.TokenOrder)
+order-computed [] t = refl
+order-computed (a ∷ w) t = go (after? (last a w) t) (after (last a w) t) refl
+  where
+    go : (d : Dec (After (last a w) t)) (b : Bool) → after (last a w) t ≡ b → inOrder d t ≡ cond b (next t) (stop Fault.TokenOrder)
+    go (yes h) true e = refl
+    go (yes h) false e = absurd (after-says (last a w) t .isnt e h)
+    go (no n) true e = absurd (n (after-says (last a w) t .is e))
+    go (no n) false e = refl
+
 rising-from : (a : Token) (w : Word) (t : Token) → RisingFrom a w → After (last a w) t → RisingFrom a (w ++ t ∷ [])
 rising-from a [] t r h = (h, tt)
 rising-from a (b ∷ w) t r h = (r .0, rising-from b w t (r .1) h)
@@ -196,7 +209,7 @@ pub record Placed (w : Word) : Type 0 where
   pub rising : Rising w
 
 order-placed : (seen : Word) (u t : Token) → 1 ≤ width u → Placed seen → orderStep seen u ≡ next t → Placed (seen ++ t ∷ [])
-order-placed seen u t l r e = go (follows seen u) refl e
+order-placed seen u t l r e = go (follows seen u) refl (sym (order-computed seen u) ∙ e)
   where
     go : (b : Bool) → follows seen u ≡ b → cond b (next u) (stop Fault.TokenOrder) ≡ next t → Placed (seen ++ t ∷ [])
     go true h e =

@@ -5,3 +5,4 @@ pub mod TokenSheets
 pub mod RefusedLines
 pub mod LinesIn
 pub mod Promises
+pub mod Following

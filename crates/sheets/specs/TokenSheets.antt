@@ -1,10 +1,10 @@
 -- What a token sheet says: its tokens, or the refusal with its line. 01, refusals 11 to 15; request 9, widths and refusal 47.
-use Prim.Native.Nat.{ℕ, _+_}
+use Prim.Native.Nat.{ℕ}
 use mathlib.Core.List.{List, [], _∷_}
-use mathlib.Core.Bool.{Bool, true, false, cond, _&&_, _||_}
-use lib.Dec.{eqb, ltb, leb}
+use mathlib.Core.Bool.{Bool, true, false}
 use Rattle.grammar.specs.declared.Token.{Token}
-use Rattle.grammar.specs.Layout.{Word, line, col, past, last}
+use Rattle.grammar.specs.Layout.{Word, last}
+use Rattle.grammar.proofs.Positions.{after?}
 use Rattle.fields.specs.Pieces.{pieces}
 use Rattle.lines.specs.declared.TokenLine.{TokenLine}
 use Rattle.lines.specs.declared.TokenLine.the-variants as TokenLine
@@ -12,18 +12,15 @@ use Rattle.lines.specs.TokenLines.{tokenLine}
 use Rattle.sheets.specs.declared.Fault.the-variants as Fault
 use Rattle.sheets.specs.Items.{Reading, refused, Step, next, stop, lineStep, itemsFrom, withNames}
 
--- b comes after a: a later line, or the same line and a column at or past a's column plus width
-abbrev pub after : Token → Token → Bool
-after a b = ltb (line a) (line b) || (eqb (line a) (line b) && leb (past a) (col b))
-
--- t comes after the last of the tokens seen
-abbrev pub follows : Word → Token → Bool
-follows [] t = true
-follows (a ∷ w) t = after (last a w) t
-
 -- 15: not after the token before
+abbrev pub inOrder : {P : Type 0} → Dec P → Token → Step Token
+inOrder (yes h) t = next t
+inOrder (no n) t = stop Fault.TokenOrder
+
+-- the first token may stand anywhere
 abbrev pub orderStep : Word → Token → Step Token
-orderStep seen t = cond (follows seen t) (next t) (stop Fault.TokenOrder)
+orderStep [] t = next t
+orderStep (a ∷ w) t = inOrder (after? (last a w) t) t
 
 -- 12, 13, 47, 15
 abbrev pub tokenSaid : Word → TokenLine → Step Token

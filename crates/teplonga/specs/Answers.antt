@@ -4,7 +4,9 @@ use Prim.Native.Nat.{ℕ}
 use Rattle.grammar.specs.declared.Rule.{Rule}
 use Rattle.grammar.specs.declared.Token.{Token}
 use Rattle.grammar.specs.Layout.{Word}
-use Rattle.grammar.specs.Trees.{Rules, NoTree, OneTree, TwoTrees}
+use Rattle.grammar.specs.Trees.{Rules}
+use Rattle.chart.specs.declared.Verdict.the-variants as Verdict
+use Rattle.chart.specs.Verdicts.{Holds}
 use Rattle.sheets.specs.declared.Fault.{Fault}
 use Rattle.sheets.specs.Items.{Reading}
 use Rattle.sheets.specs.Items as Sheet
@@ -29,11 +31,11 @@ withRules (Sheet.refused f l) tokens = refused f l
 abbrev pub sheets : List ℕ → List ℕ → Sheets
 sheets rules tokens = withRules (ruleSheet rules) tokens
 
--- none, one, two: how many valid trees nonterminal 0, the start, has over the word
+-- none, one, two: what the verdict says of nonterminal 0, the start, and the word
 abbrev pub AnswerHolds : Answer → Rules → Word → Type 0
-AnswerHolds Answer.None g w = NoTree g 0 w
-AnswerHolds Answer.One g w = OneTree g 0 w
-AnswerHolds Answer.Two g w = TwoTrees g 0 w
+AnswerHolds Answer.None g w = Holds Verdict.None g 0 w
+AnswerHolds Answer.One g w = Holds Verdict.One g 0 w
+AnswerHolds Answer.Two g w = Holds Verdict.Two g 0 w
 AnswerHolds Answer.Clear g w = ⊥
 AnswerHolds Answer.Given g w = ⊥
 AnswerHolds (Answer.Refused f) g w = ⊥

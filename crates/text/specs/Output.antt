@@ -6,6 +6,7 @@ use Rattle.grammar.specs.Layout.{Word}
 use Rattle.printing.specs.Printing.{decimal, field, lastField, rowLines, tokenLines}
 use Rattle.sheets.specs.declared.Fault.{Fault}
 use Rattle.sheets.specs.Refusals.{numberOf}
+use Rattle.sheets.specs.TokenSheets.{tokenNames}
 use Rattle.teplonga.specs.declared.Answer.{Answer}
 use Rattle.teplonga.specs.declared.Answer.the-variants as Answer
 
@@ -36,10 +37,6 @@ treeNames =
     116 ∷ 114 ∷ 101 ∷ 101 ∷ 32 ∷ 108 ∷ 101 ∷ 102 ∷ 116 ∷ 32 ∷ 107 ∷ 105 ∷ 110 ∷ 100 ∷ 32 ∷ 115 ∷ 116 ∷ 97 ∷ 114 ∷ 116 ∷ 32
     ∷ 108 ∷ 101 ∷ 110 ∷ 103 ∷ 116 ∷ 104 ∷ 10 ∷ []
 
--- the line `term line col`
-abbrev pub tokenNames : List ℕ
-tokenNames = 116 ∷ 101 ∷ 114 ∷ 109 ∷ 32 ∷ 108 ∷ 105 ∷ 110 ∷ 101 ∷ 32 ∷ 99 ∷ 111 ∷ 108 ∷ 10 ∷ []
-
 -- tree lines and their names, left out for `none` and refusals; one and two are the trees' rows
 abbrev pub treesText : Answer → List ℕ → List ℕ → List ℕ
 treesText Answer.None one two = []
@@ -49,11 +46,11 @@ treesText Answer.Clear one two = []
 treesText Answer.Given one two = []
 treesText (Answer.Refused f) one two = []
 
--- for `two` a token sheet
+-- for `two` a token sheet: its names and its lines
 abbrev pub sentenceText : Answer → Word → List ℕ
 sentenceText Answer.None w = []
 sentenceText Answer.One w = []
-sentenceText Answer.Two w = tokenNames ++ tokenLines w
+sentenceText Answer.Two w = (tokenNames ++ (10 ∷ [])) ++ tokenLines w
 sentenceText Answer.Clear w = []
 sentenceText Answer.Given w = []
 sentenceText (Answer.Refused f) w = []

@@ -20,7 +20,7 @@ ghost use Rattle.printing.specs.Printing.{Wrote, lastField, rowLines, tokenLine
 ghost use Rattle.sheets.specs.Refusals.{numberOf};
 ghost use Rattle.sheets.specs.RuleSheets.{ruleSheet};
 ghost use Rattle.teplonga.specs.Answers.{sheets};
-ghost use Rattle.text.specs.Output.{refusedText, answerText, head, treeNames, tokenNames, treesText, sentenceText};
+ghost use Rattle.text.specs.Output.{refusedText, answerText, head, treeNames, treesText, sentenceText};
 ghost use Rattle.fields.specs.Answers.{asNumber};
 ghost use Rattle.text.specs.Input.{boundOf};
 ghost use Rattle.text.specs.Parting.{Parted};

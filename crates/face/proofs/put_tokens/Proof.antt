@@ -4,16 +4,13 @@ use Prim.Native.Nat.{_+_, _*_, _-_, _≤_}
 use native.Mathlib.Omega.{arith}
 use borrow.Author.Needs.{needs}
 use lib.ListN.{length, take, length-map}
-use Rattle.grammar.specs.declared.Token.{Token}
+use Rattle.grammar.specs.Sentences.{no-token}
 use Rattle.printing.specs.Printing.{Wrote}
 use Rattle.printing.proofs.Writing.{wrote-none, wrote-then}
 use Rattle.face.specs.Face.{tokenWords}
 use Rattle.face.proofs.Words.{words-more}
 use Rattle.face.proofs.put_tokens.Statement.{statement}
 use Rattle.face.proofs.put_tokens.Tie as tie
-
-abbrev no-token : Token
-no-token = record { terminal = 0; line = record { 0 = 0 }; column = record { 0 = 0 }; width = record { 0 = 0 } }
 
 abbrev Inv-loop : tie.InvT-loop
 Inv-loop found₀ at s i₀ next₀ found i next =
