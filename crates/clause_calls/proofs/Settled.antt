@@ -1,5 +1,5 @@
 -- The promises of the calls for clause sheets settle the answer and the lent memory: two results that meet a promise are the same.
--- Of the verdict and the sweep this is what `verdict-settled` and `sweep-settled` say of any sheets.
+-- Of the verdict, the sweep and the refused line this is what `verdict-settled`, `sweep-settled` and `held-settled` say of any sheets.
 use mathlib.Core.Path.{_≡_, sym, _∙_, subst}
 use mathlib.Core.List.{List}
 use Prim.Native.Nat.{ℕ}
@@ -8,6 +8,9 @@ use Rattle.grammar.specs.declared.Rule.{Rule}
 use Rattle.grammar.specs.Trees.{Rules}
 use Rattle.sheets.specs.declared.Fault.{Fault}
 use Rattle.sheets.specs.Items.{Reading, accepted, refused}
+use denote.Ref.{RefT}
+use Rattle.sheets.specs.RefusedLines.{heldBy, Hands}
+use Rattle.sheets.proofs.Settled.{SamePart, held-settled}
 use Rattle.clauses.proofs.Apart.{expansion-distinct}
 use Rattle.clause_sheets.specs.ClauseSheets.{clauseSheet}
 use Rattle.clause_sheets.proofs.Meaning.{meant}
@@ -38,6 +41,11 @@ module _ (clauses : List ℕ) where
 
   pub clause-sweep-settled : {k : ℕ} {ws a b : List ℕ} {r s : SweepReply} → ClauseSweep clauses k ws a r → ClauseSweep clauses k ws b s → (r ≡ s) × (a ≡ b)
   clause-sweep-settled x y = sweep-settled x y
+
+-- the refused line
+pub clause-refused-line-settled : (clauses tokens r s : RefT (List ℕ)) → Hands clauses tokens r (heldBy (clauseSheet (clauses .now)) (tokens .now))
+    → Hands clauses tokens s (heldBy (clauseSheet (clauses .now)) (tokens .now)) → SamePart r s
+clause-refused-line-settled clauses tokens r s = held-settled clauses tokens r s (clauseSheet (clauses .now))
 
 -- expand
 apart : {o : Reading Rule} {f : Fault} {l : ℕ} {g : Rules} → o ≡ refused f l → o ≡ accepted g → ⊥

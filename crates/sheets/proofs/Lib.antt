@@ -7,3 +7,4 @@ pub mod Walks
 pub mod Handed
 pub mod Samples
 pub mod Booking
+pub mod Settled
