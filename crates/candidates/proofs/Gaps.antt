@@ -1,4 +1,4 @@
--- Columns left out: where they are more than the cells to come, one stays left out; so a candidate with such cells reads like an earlier one.
+-- Columns left out: where they are more than the cells to come, one stays left out; so a candidate with such cells is no better than an earlier one.
 use mathlib.Core.Path.{_≡_, refl, sym, _∙_, ap, ap₂}
 use mathlib.Core.Bool.{Bool, true, false, cond, _||_}
 use mathlib.Core.List.{List, [], _∷_, _++_, append-nil}

@@ -1,4 +1,4 @@
--- Candidates that read like an earlier one, so that a search need not look at them: 01 asks only for the first that has two trees.
+-- Candidates that are no better than an earlier one (it has two trees where they have), so that a search need not look at them: 01 asks only for the first that has two trees.
 use mathlib.Core.Path.{_≡_}
 use mathlib.Core.Bool.{Bool, false, cond, _||_}
 use mathlib.Core.List.{List, [], _∷_}
@@ -18,7 +18,7 @@ pub record TwoBefore (g : Rules) (s n : ℕ) (cs : List Cell) : Type 0 where
   pub before : CellsBefore cells cs
   pub two : TwoTrees g 0 (sentence cells)
 
--- each candidate that shares cs's first b cells reads like one before all that do: if it has two trees, that one has
+-- each candidate that shares cs's first b cells is no better than one before all that do: if it has two trees, that one has
 pub record Stale (n b : ℕ) (cs : List Cell) : Type 0 where
   pub earlier : (g : Rules) (s : ℕ) (ds es : List Cell) → Candidate (Among s) n ds → Shares b ds cs → Shares b es cs → TwoTrees g 0 (sentence ds) → TwoBefore g s n es
 

@@ -317,7 +317,7 @@ impl Candidate {
         g
     }
 
-    // Does each candidate that shares the first b cells read like an earlier one? So it is where a step of two lines could be one,
+    // Does each candidate that shares the first b cells do no better than an earlier one? So it is where a step of two lines could be one,
     // and where the columns leave out more than the cells to come can fill.
     pub fn stale(self, n: usize, b: usize) -> bool
         requires { ⌜ (b ≤ n) × (n ≤ 7) ⌝ }

@@ -1,4 +1,4 @@
--- By a cell that reads like an earlier one, or by the refutation of the block.
+-- By a cell that is no better than an earlier one, or by the refutation of the block.
 use borrow.Author.Needs.{needs}
 use Rattle.spans.proofs.ChangeLaws.{past-same}
 use Rattle.share_search.proofs.Looking.{outdone-passable, outdone-twinned}

@@ -1,4 +1,4 @@
--- A look meets its contract: by the candidate alone where it reads like an earlier one, else by refuting the block, and where no cell is open by the sentence's own sheet.
+-- A look meets its contract: by the candidate alone where it is no better than an earlier one, else by refuting the block, and where no cell is open by the sentence's own sheet.
 use borrow.Author.Needs.{needs}
 use native.Mathlib.Omega.{arith}
 use Rattle.spans.proofs.ChangeLaws.{past-same}
