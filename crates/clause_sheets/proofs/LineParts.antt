@@ -42,10 +42,6 @@ no-take : (i : ℕ) → _≡_ {A = List ℕ} (take i []) []
 no-take zero = refl
 no-take (suc i) = refl
 
-no-drop : (i : ℕ) → _≡_ {A = List ℕ} (drop i []) []
-no-drop zero = refl
-no-drop (suc i) = refl
-
 drop-take : (m k : ℕ) (l : List ℕ) → drop k (take m l) ≡ take (m - k) (drop k l)
 drop-take m zero l = ap (λ (i : ℕ). take i l) (let z : m ≡ m - 0 = omega arith in z)
 drop-take m (suc k) [] = ap (drop (suc k)) (no-take m) ∙ sym (no-take (m - suc k))

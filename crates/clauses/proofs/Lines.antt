@@ -74,10 +74,6 @@ pub start-from : {c : Clauses} (p : ClausePlace c) (n : ℕ) → n ≤ start p n
 start-from here n = omega arith
 start-from (later {e = e} p) n = let z = start-from p (n + size e) in omega arith
 
-pub start-below : {c : Clauses} (p : ClausePlace c) (n : ℕ) → start p n + size (right p) ≤ n + sizeAll c
-start-below here n = omega arith
-start-below (later {e = e} p) n = let z = start-below p (n + size e) in omega arith
-
 pub made-grows : (e : Expr made) → 1 ≤ size e
 made-grows (terminal a) = omega arith
 made-grows (group e) = omega arith

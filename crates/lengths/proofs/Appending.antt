@@ -1,15 +1,13 @@
 -- A book with one rule more.
-use mathlib.Core.Path.{_≡_, refl, sym, _∙_, ap, subst}
-use mathlib.Core.List.{List, [], _∷_, _++_}
-use Prim.Native.Nat.{ℕ, zero, suc, _+_, _≤_, _<_}
+use mathlib.Core.Path.{_≡_, refl}
+use mathlib.Core.List.{[], _∷_, _++_}
+use Prim.Native.Nat.{_+_, _<_}
 use native.Mathlib.Omega.{arith}
 use native.Mathlib.Numerals.{add-one}
-use lib.ListN.{length, take, set, length-set, length-append}
+use lib.ListN.{set, length-set}
 use lib.Seq.{length-take-le, take-suc-set}
 use Rattle.grammar.specs.declared.Rule.{Rule}
 use Rattle.grammar.specs.declared.Grammar.{Grammar}
-use Rattle.grammar.specs.Layout.{Every}
-use Rattle.grammar.specs.Trees.{Rules}
 use Rattle.grammar.specs.Content.{rules, SmallRule}
 use Rattle.grammar.proofs.Lists.{every-append}
 use Rattle.lengths.specs.declared.Index.{Index}
@@ -46,7 +44,3 @@ module _ (b : Book) (r : Rule) (k : Booked b) (room : b .grammar .count < 128) (
     count = refl;
     rules = rules-longer;
   }
-
--- no rules
-pub booked-none : (l : List Rule) (x : Index) → length l ≡ 128 → Exact [] x → Booked (record { grammar = record { rules = l; count = 0 }; index = x })
-booked-none l x e h = record { long = e; held = record { few = omega arith; whole = refl; small = tt }; exact = h }

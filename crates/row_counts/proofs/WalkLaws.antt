@@ -61,11 +61,6 @@ pub record Walk (g : Rules) (w : Word) (goal : ℕ) (end : ℕ) (names longs : L
   pub sum : capped (total + (rowCount tree + rowsOfAll rest)) ≡ capped goal
   pub few : total ≤ 4294967296
 
--- the sums
-pub rises : (total own total′ : ℕ) → total < 4294967296 → 0 < own → total′ ≡ capped (total + own) → total < total′
-unfolding capped
-rises total own total′ h k e = omega arith
-
 pub less-left : (total own total′ : ℕ) → total < 4294967296 → 0 < own → total′ ≡ capped (total + own) → 4294967296 - total′ < 4294967296 - total
 unfolding capped
 less-left total own total′ h k e = omega arith

@@ -1,11 +1,11 @@
 -- Laws of sets: what a set with one more member has, and how large its number is.
 use mathlib.Core.Path.{_≡_, sym, ap, _∙_}
 use mathlib.Core.Logic.{_⊎_, inl, inr}
-use Prim.Native.Nat.{ℕ, zero, suc, _+_, _-_, _*_, _/_, _%_, _^_, _≤_, _<_, max}
+use Prim.Native.Nat.{ℕ, suc, _+_, _-_, _*_, _/_, _%_, _^_, _≤_, _<_, max}
 use native.Mathlib.Nat.{zero-div, div-eq-of-lt, mul-mod-left, div-self, one-mul, mod-eq-of-lt}
 use native.Mathlib.Omega.{arith}
 use native.Mathlib.Decide.{ℕ-discrete, decLt}
-use lib.Bits.{bitOr, bitAnd, or-shr, or-step, or-add-and, and-le-r, or-lt}
+use lib.Bits.{bitOr, or-shr, or-step, or-add-and, and-le-r}
 use lib.Pow.{pow-pos, pow-lt, pow-add, shl-shr}
 use lib.Arith.{digits-mod}
 use Rattle.sets.specs.Sets.{In}
@@ -61,10 +61,6 @@ insert-only s a b h = go (decLt a b) (decLt b a)
 pub insert-ge : (s a : ℕ) → s ≤ insert s a
 unfolding insert
 insert-ge s a = omega (arith, or-add-and s (2 ^ a), and-le-r s (2 ^ a))
-
-pub insert-lt : (s a : ℕ) → s < 2 ^ 64 → a < 64 → insert s a < 2 ^ 64
-unfolding insert
-insert-lt s a h l = or-lt 64 s (2 ^ a) h (pow-lt l)
 
 -- what `set | (1 << a)` computes
 pub insert-shl : (s a : ℕ) → a < 64 → bitOr s ((1 * 2 ^ a) % 2 ^ 64) ≡ insert s a

@@ -1,8 +1,8 @@
 -- Laws of the rows shown: trees that differ only beneath closed rows are shown alike; with all open, the rows are 01's.
 use mathlib.Core.Path.{_≡_, refl, sym, ap, _∙_}
 use mathlib.Core.Bool.{Bool, true, false, cond, _&&_}
-use mathlib.Core.List.{List, [], _∷_, _++_}
-use Prim.Native.Nat.{ℕ, zero, suc, _+_, _*_, _<_, _≤_}
+use mathlib.Core.List.{[], _∷_, _++_}
+use Prim.Native.Nat.{ℕ, zero, suc, _+_, _*_, _<_}
 use native.Mathlib.Omega.{arith}
 use native.Mathlib.Decide.{ℕ-discrete}
 use lib.ListN.{length, length-append}
@@ -23,12 +23,6 @@ rows-closed sees i (empty A) e = rw e
 rows-closed sees i (leaf A t) e = rw e
 rows-closed sees i (unary A t) e = rw e
 rows-closed sees i (binary A s t) e = rw e
-
-pub count-closed : (sees : View) (t : Tree) → sees (root t) ≡ false → shownCount sees t ≡ 1
-count-closed sees (empty A) e = refl
-count-closed sees (leaf A t) e = refl
-count-closed sees (unary A t) e = rw e
-count-closed sees (binary A s t) e = rw e
 
 -- 2. trees that differ only beneath closed rows are shown alike
 

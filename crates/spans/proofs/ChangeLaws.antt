@@ -40,12 +40,6 @@ cleared-more ws ws′ n h c = record {
     go q l (yes e) = ap (λ (x : ℕ). getD (set ws′ n 0) x 0) e ∙ getD-set-same ws′ n 0 0 (omega (arith, c .past .long))
     go q l (no k) = getD-set-other ws′ n q 0 0 k ∙ c .zeros q (omega arith)
 
-pub kept-same : (ws : List ℕ) (p : ℕ) → Kept ws ws p
-kept-same ws p = record { long = refl; rest = λ q m n. refl }
-
-pub kept-then : {ws ws′ ws″ : List ℕ} {p : ℕ} → Kept ws ws′ p → Kept ws′ ws″ p → Kept ws ws″ p
-kept-then a b = record { long = b .long ∙ a .long; rest = λ q m n. b .rest q m n ∙ a .rest q m n }
-
 -- a pair of the sheet is none of the words past it
 pub kept-past : {ws ws′ : List ℕ} (n start len : ℕ) → start + len ≤ n → Kept ws ws′ (pairAt n start len) → Past (2 * pairs n) ws ws′
 kept-past n start len h k =

@@ -5,7 +5,7 @@ use mathlib.Core.List.{List, [], _∷_, _++_}
 use Prim.Native.Nat.{ℕ, zero, suc, _+_, _-_, _*_, _≤_, _<_}
 use native.Mathlib.Omega.{arith}
 use lib.ListN.{length, take, drop, replicate, length-take, length-replicate, getD-replicate, take-append-drop}
-use lib.Seq.{getD-take, ext-getD, take-at}
+use lib.Seq.{getD-take, ext-getD}
 use lib.Count.{ones}
 use Rattle.sets.specs.Sets.{In}
 use Rattle.grammar.specs.declared.Cell.{Cell}
@@ -16,7 +16,6 @@ use Rattle.grammar.specs.Trees.{Rules, TwoTrees}
 use Rattle.grammar.specs.Candidates.{Terminal, Candidate, sentence}
 use Rattle.grammar.specs.Sweeps.{found, terminalCount}
 use Rattle.grammar.specs.SpanSheet.{pairs}
-use Rattle.grammar.specs.Content.{Positioned}
 use Rattle.grammar.proofs.SweepLaws.{shorter-clear, sentence-length}
 use Rattle.counting.specs.Counts.{HowMany}
 use Rattle.lengths.specs.declared.Index.{Index}
@@ -38,7 +37,7 @@ use Rattle.dominance.proofs.Renaming.{renamed, renamed-candidate, renamed-two, 
 use Rattle.sweeping.specs.Searching.{NoneShorter, Admits, Hits, Searched, hit, miss}
 use Rattle.sweeping.specs.Swept.{LengthsOf, Bounded, Swept, clear, two, Found, nothing, first}
 use Rattle.sweeping.proofs.Turns.{clear-found, first-found}
-use Rattle.grammar.specs.Sentences.{spelled, no-token}
+use Rattle.grammar.specs.Sentences.{no-token}
 use Rattle.tally.specs.Searched.{answerOf, Hit}
 use Rattle.sweeping.specs.Cleared.{TriedBy, cleared}
 
@@ -166,18 +165,3 @@ all-cleared k {m} {ws} {ws′} {ws″} e h p d =
     sym (take-append-drop (2 * pairs k) ws″)
     ∙ ap (λ (l : List ℕ). l ++ drop (2 * pairs k) ws″) (zeroed (2 * pairs k) ws′ ws″ (omega (arith, p .long, c .past .long)) c)
     ∙ ap (λ (l : List ℕ). replicate (2 * pairs k) 0 ++ l) (past-drop (past-then p (c .past)))
-
--- ---- what a caller reads off
-
--- the answer's word is the candidate's sentence
-pub spelled-two : (cs : List Cell) (r : Sentence) → r .count ≡ length cs → r .tokens ≡ sentence cs ++ replicate (64 - length cs) no-token → spelled r ≡ sentence cs
-spelled-two cs r e t = ap (λ (m : ℕ). take m (r .tokens)) e ∙ ap (take (length cs)) t ∙ take-at (sentence cs) (replicate (64 - length cs) no-token) (length cs) (sentence-length 1 cs)
-
--- and the answer is a sentence as the token sheet's reader would give
-pub swept-positioned : {g : Rules} {k m : ℕ} {r : Sentence} → k ≤ 7 → Swept g k r m → Positioned r
-swept-positioned {r = r} h (clear c e t q′) =
-    let q : spelled r ≡ [] = ap (λ (m : ℕ). take m (r .tokens)) e in
-    record { few = omega arith; whole = ap length q ∙ sym e; rising = rw q tt }
-swept-positioned {r = r} h (two {cs = cs} f c e t q′) =
-    let q : spelled r ≡ sentence cs = spelled-two cs r e t in
-    record { few = omega (arith, f .high); whole = ap length q ∙ sentence-length 1 cs ∙ sym e; rising = rw q (f .candidate .rising) }
