@@ -10,6 +10,7 @@ use Rattle.fields.specs.declared.Kind.{Kind}
 use Rattle.fields.specs.declared.Lay.{Lay}
 use Rattle.fields.specs.declared.Operand.{Operand}
 use Rattle.fields.proofs.Fields.{end-good, end-bad}
+use Rattle.lines.specs.declared.RuleLine.{RuleLine}
 use Rattle.lines.specs.declared.RuleLine.the-variants.{Form}
 use Rattle.lines.specs.RuleLines.{ruleFields, afterLeft, afterKind, afterFirst, afterSecond, afterLay}
 use Rattle.lines.proofs.Stages.{number-good, number-bad, kind-good, kind-bad, operand-good, operand-bad, lay-good, lay-bad}
@@ -17,81 +18,104 @@ use Rattle.lines.proofs.rule_line.Statement.{statement}
 use Rattle.lines.proofs.rule_line.Tie as tie
 use Rattle.fields.specs.Cursors.{fieldsLeft}
 
--- the start, and the value and the cursor of each field, by the place where it was read
+-- from a field that was read: the start, the field read before it, and its value with the cursor behind it
 abbrev start₁ : tie.After-known-told → tie.Start
 start₁ c = c .before .before .before .before .before
 
 abbrev read₁ : tie.After-known-told → ℕ × (Cursor × Unit {0})
 read₁ c = c .before .l .given .0
 
-abbrev start₂ : tie.After-known-told2 → tie.Start
-start₂ c = start₁ (c .before .before .before .before)
+abbrev back₂ : tie.After-known-told2 → tie.After-known-told
+back₂ c = c .before .before .before .before
 
 abbrev read₂ : tie.After-known-told2 → Kind × (Cursor × Unit {0})
 read₂ c = c .before .k .given .0
 
-abbrev start₃ : tie.After-known-told3 → tie.Start
-start₃ c = start₂ (c .before .before .before .before)
+abbrev back₃ : tie.After-known-told3 → tie.After-known-told2
+back₃ c = c .before .before .before .before
 
 abbrev read₃ : tie.After-known-told3 → Operand × (Cursor × Unit {0})
 read₃ c = c .before .a .given .0
 
-abbrev start₄ : tie.After-known-told4 → tie.Start
-start₄ c = start₃ (c .before .before .before .before)
+abbrev back₄ : tie.After-known-told4 → tie.After-known-told3
+back₄ c = c .before .before .before .before
 
 abbrev read₄ : tie.After-known-told4 → Operand × (Cursor × Unit {0})
 read₄ c = c .before .b .given .0
 
-abbrev start₅ : tie.After-known-told5 → tie.Start
-start₅ c = start₄ (c .before .before .before .before)
+abbrev back₅ : tie.After-known-told5 → tie.After-known-told4
+back₅ c = c .before .before .before .before
 
 abbrev read₅ : tie.After-known-told5 → Lay × (Cursor × Unit {0})
 read₅ c = c .before .y .given .0
 
--- what is left to say after each field
-stage1 : (c : tie.After-known-told) → (ruleFields (fieldsLeft (start₁ c .args .s .now) (start₁ c .args .c)) ≡ afterLeft (read₁ c .0) (fieldsLeft (start₁ c .args .s .now) (read₁ c .1 .0))) × (read₁ c .1 .0 .end ≡ start₁ c .args .c .end)
+abbrev start₂ : tie.After-known-told2 → tie.Start
+start₂ c = start₁ (back₂ c)
+
+abbrev start₃ : tie.After-known-told3 → tie.Start
+start₃ c = start₂ (back₃ c)
+
+abbrev start₄ : tie.After-known-told4 → tie.Start
+start₄ c = start₃ (back₄ c)
+
+abbrev start₅ : tie.After-known-told5 → tie.Start
+start₅ c = start₄ (back₅ c)
+
+-- what the line says by its next field
+abbrev next₁ : tie.After-known-told → Kind → List (List ℕ) → RuleLine
+next₁ c = afterKind (read₁ c .0)
+
+abbrev next₂ : tie.After-known-told2 → Operand → List (List ℕ) → RuleLine
+next₂ c = afterFirst (read₁ (back₂ c) .0) (read₂ c .0)
+
+abbrev next₃ : tie.After-known-told3 → Operand → List (List ℕ) → RuleLine
+next₃ c = let d = back₃ c in afterSecond (read₁ (back₂ d) .0) (read₂ d .0) (read₃ c .0)
+
+abbrev next₄ : tie.After-known-told4 → Lay → List (List ℕ) → RuleLine
+next₄ c = let e = back₄ c in let d = back₃ e in afterLay (read₁ (back₂ d) .0) (read₂ d .0) (read₃ e .0) (read₄ c .0)
+
+-- with the cursor d, what the line says is what `rest` says of the fields left; d ends where the line does
+record Stage (s : tie.Start) (rest : List (List ℕ) → RuleLine) (d : Cursor) : Type 0 where
+  pub says : ruleFields (fieldsLeft (s .args .s .now) (s .args .c)) ≡ rest (fieldsLeft (s .args .s .now) d)
+  pub ends : d .end ≡ s .args .c .end
+
+stage1 : (c : tie.After-known-told) → Stage (start₁ c) (afterLeft (read₁ c .0)) (read₁ c .1 .0)
 stage1 c =
-    number-good Form afterLeft (start₁ c .args .s .now) (start₁ c .args .c) _ _ (sym (c .before .l .given .1) ∙ c .before .before .before .number .ensures)
+    let s = start₁ c .args in
+    let l = number-good Form afterLeft (s .s .now) (s .c) _ _ (sym (c .before .l .given .1) ∙ c .before .before .before .number .ensures) in
+    record { says = l .0; ends = l .1 }
 
-stage2 : (c : tie.After-known-told2) → (ruleFields (fieldsLeft (start₂ c .args .s .now) (start₂ c .args .c)) ≡ afterKind (read₁ (c .before .before .before .before) .0) (read₂ c .0) (fieldsLeft (start₂ c .args .s .now) (read₂ c .1 .0))) × (read₂ c .1 .0 .end ≡ start₂ c .args .c .end)
+stage2 : (c : tie.After-known-told2) → Stage (start₂ c) (next₁ (back₂ c) (read₂ c .0)) (read₂ c .1 .0)
 stage2 c =
-    let s = c .before .before .before .before in
-    let l = kind-good Form (afterKind (read₁ s .0)) (start₁ s .args .s .now) (read₁ s .1 .0) _ _ (sym (c .before .k .given .1) ∙ c .before .before .before .kind .ensures) in
-    (stage1 s .0 ∙ l .0, l .1 ∙ stage1 s .1)
+    let s = back₂ c in
+    let r = sym (c .before .k .given .1) ∙ c .before .before .before .kind .ensures in
+    let l = kind-good Form (next₁ s) (start₁ s .args .s .now) (read₁ s .1 .0) _ _ r in
+    record { says = stage1 s .says ∙ l .0; ends = l .1 ∙ stage1 s .ends }
 
-stage3 : (c : tie.After-known-told3) → (ruleFields (fieldsLeft (start₃ c .args .s .now) (start₃ c .args .c)) ≡ afterFirst (read₁ (c .before .before .before .before .before .before .before .before) .0) (read₂ (c .before .before .before .before) .0) (read₃ c .0) (fieldsLeft (start₃ c .args .s .now) (read₃ c .1 .0))) × (read₃ c .1 .0 .end ≡ start₃ c .args .c .end)
+stage3 : (c : tie.After-known-told3) → Stage (start₃ c) (next₂ (back₃ c) (read₃ c .0)) (read₃ c .1 .0)
 stage3 c =
-    let s = c .before .before .before .before in
-    let l = operand-good Form (afterFirst (read₁ (s .before .before .before .before) .0) (read₂ s .0)) (start₂ s .args .s .now) (read₂ s .1 .0) _ _ (sym (c .before .a .given .1) ∙ c .before .before .before .operand .ensures) in
-    (stage2 s .0 ∙ l .0, l .1 ∙ stage2 s .1)
+    let s = back₃ c in
+    let r = sym (c .before .a .given .1) ∙ c .before .before .before .operand .ensures in
+    let l = operand-good Form (next₂ s) (start₂ s .args .s .now) (read₂ s .1 .0) _ _ r in
+    record { says = stage2 s .says ∙ l .0; ends = l .1 ∙ stage2 s .ends }
 
-stage4 : (c : tie.After-known-told4) → (ruleFields (fieldsLeft (start₄ c .args .s .now) (start₄ c .args .c)) ≡ afterSecond (read₁ (c .before .before .before .before .before .before .before .before .before .before .before .before) .0) (read₂ (c .before .before .before .before .before .before .before .before) .0) (read₃ (c .before .before .before .before) .0) (read₄ c .0) (fieldsLeft (start₄ c .args .s .now) (read₄ c .1 .0))) × (read₄ c .1 .0 .end ≡ start₄ c .args .c .end)
+stage4 : (c : tie.After-known-told4) → Stage (start₄ c) (next₃ (back₄ c) (read₄ c .0)) (read₄ c .1 .0)
 stage4 c =
-    let s = c .before .before .before .before in
-    let l = operand-good Form (afterSecond (read₁ (s .before .before .before .before .before .before .before .before) .0) (read₂ (s .before .before .before .before) .0) (read₃ s .0)) (start₃ s .args .s .now) (read₃ s .1 .0) _ _ (sym (c .before .b .given .1) ∙ c .before .before .before .operand2 .ensures) in
-    (stage3 s .0 ∙ l .0, l .1 ∙ stage3 s .1)
+    let s = back₄ c in
+    let r = sym (c .before .b .given .1) ∙ c .before .before .before .operand2 .ensures in
+    let l = operand-good Form (next₃ s) (start₃ s .args .s .now) (read₃ s .1 .0) _ _ r in
+    record { says = stage3 s .says ∙ l .0; ends = l .1 ∙ stage3 s .ends }
 
-stage5 : (c : tie.After-known-told5) → (ruleFields (fieldsLeft (start₅ c .args .s .now) (start₅ c .args .c)) ≡ afterLay (read₁ (c .before .before .before .before .before .before .before .before .before .before .before .before .before .before .before .before) .0) (read₂ (c .before .before .before .before .before .before .before .before .before .before .before .before) .0) (read₃ (c .before .before .before .before .before .before .before .before) .0) (read₄ (c .before .before .before .before) .0) (read₅ c .0) (fieldsLeft (start₅ c .args .s .now) (read₅ c .1 .0))) × (read₅ c .1 .0 .end ≡ start₅ c .args .c .end)
+stage5 : (c : tie.After-known-told5) → Stage (start₅ c) (next₄ (back₅ c) (read₅ c .0)) (read₅ c .1 .0)
 stage5 c =
-    let s = c .before .before .before .before in
-    let l = lay-good Form (afterLay (read₁ (s .before .before .before .before .before .before .before .before .before .before .before .before) .0) (read₂ (s .before .before .before .before .before .before .before .before) .0) (read₃ (s .before .before .before .before) .0) (read₄ s .0)) (start₄ s .args .s .now) (read₄ s .1 .0) _ _ (sym (c .before .y .given .1) ∙ c .before .before .before .lay .ensures) in
-    (stage4 s .0 ∙ l .0, l .1 ∙ stage4 s .1)
+    let s = back₅ c in
+    let r = sym (c .before .y .given .1) ∙ c .before .before .before .lay .ensures in
+    let l = lay-good Form (next₄ s) (start₄ s .args .s .now) (read₄ s .1 .0) _ _ r in
+    record { says = stage4 s .says ∙ l .0; ends = l .1 ∙ stage4 s .ends }
 
--- the cursor behind each field is still in the sheet
-inside₁ : (c : tie.After-known-told) → read₁ c .1 .0 .end ≤ length (start₁ c .args .s .now)
-inside₁ c = omega (arith, stage1 c .1, start₁ c .pre)
-
-inside₂ : (c : tie.After-known-told2) → read₂ c .1 .0 .end ≤ length (start₂ c .args .s .now)
-inside₂ c = omega (arith, stage2 c .1, start₂ c .pre)
-
-inside₃ : (c : tie.After-known-told3) → read₃ c .1 .0 .end ≤ length (start₃ c .args .s .now)
-inside₃ c = omega (arith, stage3 c .1, start₃ c .pre)
-
-inside₄ : (c : tie.After-known-told4) → read₄ c .1 .0 .end ≤ length (start₄ c .args .s .now)
-inside₄ c = omega (arith, stage4 c .1, start₄ c .pre)
-
-inside₅ : (c : tie.After-known-told5) → read₅ c .1 .0 .end ≤ length (start₅ c .args .s .now)
-inside₅ c = omega (arith, stage5 c .1, start₅ c .pre)
+-- the cursor is still in the sheet
+inside : {s : tie.Start} {rest : List (List ℕ) → RuleLine} {d : Cursor} → Stage s rest d → d .end ≤ length (s .args .s .now)
+inside {s} x = omega (arith, x .ends, s .pre)
 
 number-requires : tie.Need-number-requires
 number-requires c κs = search needs
@@ -108,7 +132,7 @@ returns c =
     sym (number-bad Form afterLeft (n .before .before .args .s .now) (n .before .before .args .c) (sym (c .enum-told .given .1) ∙ n .number .ensures))
 
 kind-requires : tie.Need-kind-requires
-kind-requires c κs = inside₁ c
+kind-requires c κs = inside (stage1 c)
 
 enum-known-k : tie.Need-enum-known-k
 enum-known-k c = search needs
@@ -120,10 +144,10 @@ returns-2 : tie.Need-returns-2
 returns-2 c =
     let n = c .before .before in
     let s = n .before in
-    sym (stage1 s .0 ∙ kind-bad Form (afterKind (read₁ s .0)) (start₁ s .args .s .now) (read₁ s .1 .0) (sym (c .enum-told2 .given .1) ∙ n .kind .ensures))
+    sym (stage1 s .says ∙ kind-bad Form (next₁ s) (start₁ s .args .s .now) (read₁ s .1 .0) (sym (c .enum-told2 .given .1) ∙ n .kind .ensures))
 
 operand-requires : tie.Need-operand-requires
-operand-requires c κs = inside₂ c
+operand-requires c κs = inside (stage2 c)
 
 enum-known-a : tie.Need-enum-known-a
 enum-known-a c = search needs
@@ -135,10 +159,10 @@ returns-3 : tie.Need-returns-3
 returns-3 c =
     let n = c .before .before in
     let s = n .before in
-    sym (stage2 s .0 ∙ operand-bad Form (afterFirst (read₁ (s .before .before .before .before) .0) (read₂ s .0)) (start₂ s .args .s .now) (read₂ s .1 .0) (sym (c .enum-told3 .given .1) ∙ n .operand .ensures))
+    sym (stage2 s .says ∙ operand-bad Form (next₂ s) (start₂ s .args .s .now) (read₂ s .1 .0) (sym (c .enum-told3 .given .1) ∙ n .operand .ensures))
 
 operand-requires-2 : tie.Need-operand-requires-2
-operand-requires-2 c κs = inside₃ c
+operand-requires-2 c κs = inside (stage3 c)
 
 enum-known-b : tie.Need-enum-known-b
 enum-known-b c = search needs
@@ -150,10 +174,10 @@ returns-4 : tie.Need-returns-4
 returns-4 c =
     let n = c .before .before in
     let s = n .before in
-    sym (stage3 s .0 ∙ operand-bad Form (afterSecond (read₁ (s .before .before .before .before .before .before .before .before) .0) (read₂ (s .before .before .before .before) .0) (read₃ s .0)) (start₃ s .args .s .now) (read₃ s .1 .0) (sym (c .enum-told4 .given .1) ∙ n .operand2 .ensures))
+    sym (stage3 s .says ∙ operand-bad Form (next₃ s) (start₃ s .args .s .now) (read₃ s .1 .0) (sym (c .enum-told4 .given .1) ∙ n .operand2 .ensures))
 
 lay-requires : tie.Need-lay-requires
-lay-requires c κs = inside₄ c
+lay-requires c κs = inside (stage4 c)
 
 enum-known-y : tie.Need-enum-known-y
 enum-known-y c = search needs
@@ -165,12 +189,12 @@ returns-5 : tie.Need-returns-5
 returns-5 c =
     let n = c .before .before in
     let s = n .before in
-    sym (stage4 s .0 ∙ lay-bad Form (afterLay (read₁ (s .before .before .before .before .before .before .before .before .before .before .before .before) .0) (read₂ (s .before .before .before .before .before .before .before .before) .0) (read₃ (s .before .before .before .before) .0) (read₄ s .0)) (start₄ s .args .s .now) (read₄ s .1 .0) (sym (c .enum-told5 .given .1) ∙ n .lay .ensures))
+    sym (stage4 s .says ∙ lay-bad Form (next₄ s) (start₄ s .args .s .now) (read₄ s .1 .0) (sym (c .enum-told5 .given .1) ∙ n .lay .ensures))
 
 returns-6 : tie.Need-returns-6
 returns-6 c =
     let s = c .before .before in
-    sym (stage5 s .0 ∙ end-bad Form _ (start₅ s .args .s .now) (read₅ s .1 .0) (inside₅ s) (c .if1 .taken))
+    sym (stage5 s .says ∙ end-bad Form _ (start₅ s .args .s .now) (read₅ s .1 .0) (inside (stage5 s)) (c .if1 .taken))
 
 rule-of-requires : tie.Need-rule-of-requires
 rule-of-requires c κs = search needs
@@ -178,7 +202,7 @@ rule-of-requires c κs = search needs
 returns-7 : tie.Need-returns-7
 returns-7 c =
     let s = c .before .before .before in
-    c .rule-of .ensures ∙ sym (stage5 s .0 ∙ end-good Form _ (start₅ s .args .s .now) (read₅ s .1 .0) (inside₅ s) (c .before .if1 .left))
+    c .rule-of .ensures ∙ sym (stage5 s .says ∙ end-good Form _ (start₅ s .args .s .now) (read₅ s .1 .0) (inside (stage5 s)) (c .before .if1 .left))
 
 pub rule-line-spec : {M : Type 1} → statement M
 rule-line-spec =

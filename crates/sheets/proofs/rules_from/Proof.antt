@@ -1,4 +1,5 @@
--- `sheets::rules_from` meets its contract. The loop's invariant: what the rest of the sheet says after the rules read is what the sheet says, and the index is true of the rules read.
+-- `sheets::rules_from` meets its contract. The loop's invariant: what the rest of the sheet says after the rules read is what the sheet says,
+-- and the index is true of the rules read.
 use mathlib.Core.Path.{_≡_, refl, sym, ap, _∙_}
 use Prim.Native.Nat.{ℕ, _+_, _-_, _<_}
 use native.Mathlib.Omega.{arith}
@@ -6,6 +7,8 @@ use borrow.Author.Needs.{needs}
 use lib.ListN.{length, take}
 use lib.Dec.{ltb, lit≤}
 use Rattle.grammar.specs.Content.{rules}
+use mathlib.Core.List.{List}
+use Rattle.lines.specs.declared.Turn.{Turn}
 use Rattle.lines.specs.Turns.{turnOf}
 use Rattle.lengths.specs.declared.Book.{Book}
 use Rattle.sheets.specs.declared.RuleStep.{RuleStep}
@@ -26,13 +29,24 @@ Inv-loop s start book₀ at₀ book at = Reads s start book at
 abbrev μ-loop : tie.MeasureT-loop
 μ-loop s start book₀ at₀ book at = length s - at
 
+-- the sheet, the bytes of the line, and what the line is before its fields are looked at
+abbrev sheet : tie.After-add-line Inv-loop μ-loop → List ℕ
+sheet c = c .before .before .before .before .before .args .s .now
+
+abbrev bytes : tie.After-add-line Inv-loop μ-loop → List ℕ
+bytes c = bytesLeft (sheet c) (c .before .line .result)
+
+abbrev turn : tie.After-add-line Inv-loop μ-loop → Turn
+turn c = turnOf 128 (c .before .before .loop .book .grammar .count) (bytes c) (ltb (c .before .line .result .end) (length (sheet c)))
+
 -- what the line gave
 gave : (c : tie.After-add-line Inv-loop μ-loop) (x : RuleStep) → c .add-line .result .step ≡ x
-    → asRuleStep x ≡ stepAt Fault.RuleMany Fault.RuleForm (ruleSays (rules (c .before .before .loop .book .grammar)) (bytesLeft (c .before .before .before .before .before .args .s .now) (c .before .line .result))) (turnOf 128 (c .before .before .loop .book .grammar .count) (bytesLeft (c .before .before .before .before .before .args .s .now) (c .before .line .result)) (ltb (c .before .line .result .end) (length (c .before .before .before .before .before .args .s .now))))
+    → asRuleStep x ≡ stepAt Fault.RuleMany Fault.RuleForm (ruleSays (rules (c .before .before .loop .book .grammar)) (bytes c)) (turn c)
 gave c x is = ap asRuleStep (sym is) ∙ c .add-line .ensures .0
 
 -- and what it made of the book
-made : (c : tie.After-add-line Inv-loop μ-loop) (x : RuleStep) → c .add-line .result .step ≡ x → Adds (c .before .before .loop .book) x (c .add-line .result .book)
+made : (c : tie.After-add-line Inv-loop μ-loop) (x : RuleStep) → c .add-line .result .step ≡ x
+    → Adds (c .before .before .loop .book) x (c .add-line .result .book)
 made c x is = adds-as _ _ is (c .add-line .ensures .1)
 
 no-book-requires : tie.Need-no-book-requires Inv-loop μ-loop
@@ -45,7 +59,10 @@ line-requires : tie.Need-line-requires Inv-loop μ-loop
 line-requires c κs = c .loop .inv .filled .low
 
 add-line-requires : tie.Need-add-line-requires Inv-loop μ-loop
-add-line-requires c κs = (let i = line-in _ _ (c .before .loop .inv .filled .low) _ (c .line .ensures) in (i .0, i .1, c .before .loop .inv .booked))
+add-line-requires c κs =
+    let T = c .before .loop .inv in
+    let i = line-in _ _ (T .filled .low) _ (c .line .ensures) in
+    (i .0, i .1, T .booked)
 
 enum-told : tie.Need-enum-told Inv-loop μ-loop
 enum-told c = search needs
@@ -95,9 +112,11 @@ finished-requires c κs =
     let t = c .before .before in
     let m = t .before .before .before in
     let T = m .before .before .loop .inv in
-    let a = m .before .before .before .before .before in
-    let k = rules-kept (piecesFrom 10 (a .args .s .now) (a .args .start)) _ (ended (T .filled) (m .before .line .ensures) (gave m _ (t .enum-told2 .given .1))) in
-    rw (made m _ (t .enum-told2 .given .1)) (record { few = T .filled .few; whole = count (T .filled); small = k .small; distinct = k .distinct }, T .booked .exact)
+    let a = m .before .before .before .before .before .args in
+    let e = ended (T .filled) (m .before .line .ensures) (gave m _ (t .enum-told2 .given .1)) in
+    let k = rules-kept (piecesFrom 10 (a .s .now) (a .start)) _ e in
+    rw (made m _ (t .enum-told2 .given .1))
+    (record { few = T .filled .few; whole = count (T .filled); small = k .small; distinct = k .distinct }, T .booked .exact)
 
 returns-2 : tie.Need-returns-2 Inv-loop μ-loop
 returns-2 c =

@@ -5,10 +5,13 @@ use native.Mathlib.Omega.{arith}
 use borrow.Author.Needs.{needs}
 use lib.ListN.{length, take}
 use lib.Dec.{ltb, lit≤}
+use mathlib.Core.List.{List}
+use Rattle.grammar.specs.declared.Token.{Token}
+use Rattle.lines.specs.declared.Turn.{Turn}
 use Rattle.lines.specs.Turns.{turnOf}
 use Rattle.sheets.specs.declared.TokenStep.{TokenStep}
 use Rattle.sheets.specs.declared.Fault.the-variants as Fault
-use Rattle.sheets.specs.Items.{Reading, stepAt}
+use Rattle.sheets.specs.Items.{Step, stepAt}
 use Rattle.sheets.specs.TokenSheets.{tokenSays}
 use Rattle.sheets.specs.Promises.{asTokenStep}
 use Rattle.sheets.proofs.Loop.{Filled, line-in, count, took, moved, turned, stopped, ended}
@@ -23,15 +26,33 @@ Inv-loop s start wide tokens₀ n₀ at₀ tokens n at = Filled 64 Fault.TokenMa
 abbrev μ-loop : tie.MeasureT-loop
 μ-loop s start wide tokens₀ n₀ at₀ tokens n at = length s - at
 
+-- the sheet, the bytes of the line, and what the line is before its fields are looked at
+abbrev sheet : tie.After-token-step Inv-loop μ-loop → List ℕ
+sheet c = c .before .before .before .before .before .args .s .now
+
+abbrev bytes : tie.After-token-step Inv-loop μ-loop → List ℕ
+bytes c = bytesLeft (sheet c) (c .before .line .result)
+
+abbrev turn : tie.After-token-step Inv-loop μ-loop → Turn
+turn c = turnOf 64 (c .before .before .loop .n) (bytes c) (ltb (c .before .line .result .end) (length (sheet c)))
+
+abbrev says : tie.After-token-step Inv-loop μ-loop → Step Token
+says c =
+    tokenSays (c .before .before .before .before .before .args .wide) (take (c .before .before .loop .n) (c .before .before .loop .tokens)) (bytes c)
+
 -- what the line gave
 gave : (c : tie.After-token-step Inv-loop μ-loop) (x : TokenStep) → c .token-step .result ≡ x
-    → asTokenStep x ≡ stepAt Fault.TokenMany Fault.TokenForm (tokenSays (c .before .before .before .before .before .args .wide) (take (c .before .before .loop .n) (c .before .before .loop .tokens)) (bytesLeft (c .before .before .before .before .before .args .s .now) (c .before .line .result))) (turnOf 64 (c .before .before .loop .n) (bytesLeft (c .before .before .before .before .before .args .s .now) (c .before .line .result)) (ltb (c .before .line .result .end) (length (c .before .before .before .before .before .args .s .now))))
+    → asTokenStep x ≡ stepAt Fault.TokenMany Fault.TokenForm (says c) (turn c)
 gave c x is = ap asTokenStep (sym is) ∙ c .token-step .ensures
 
 -- it gave an item
-taken : (c : tie.After-known-told Inv-loop μ-loop) → (c .before .before .before .before .before .loop .n < 64) × (c .before .before .before .before .line .result .end < length (c .before .before .before .before .before .before .before .before .args .s .now))
+abbrev line-of : tie.After-known-told Inv-loop μ-loop → tie.After-token-step Inv-loop μ-loop
+line-of c = c .before .before .before
+
+taken : (c : tie.After-known-told Inv-loop μ-loop)
+    → (line-of c .before .before .loop .n < 64) × (line-of c .before .line .result .end < length (sheet (line-of c)))
 taken c =
-    let m = c .before .before .before in
+    let m = line-of c in
     took (m .before .before .loop .inv) (m .before .line .ensures) (gave m _ (c .before .t .given .1))
 
 no-tokens-requires : tie.Need-no-tokens-requires Inv-loop μ-loop
@@ -44,7 +65,9 @@ line-requires : tie.Need-line-requires Inv-loop μ-loop
 line-requires c κs = c .loop .inv .low
 
 token-step-requires : tie.Need-token-step-requires Inv-loop μ-loop
-token-step-requires c κs = (let i = line-in _ _ (c .before .loop .inv .low) _ (c .line .ensures) in (i .0, i .1, c .before .loop .inv .few))
+token-step-requires c κs =
+    let i = line-in _ _ (c .before .loop .inv .low) _ (c .line .ensures) in
+    (i .0, i .1, c .before .loop .inv .few)
 
 enum-known-t : tie.Need-enum-known-t Inv-loop μ-loop
 enum-known-t c = search needs
@@ -92,11 +115,11 @@ returns-2 : tie.Need-returns-2 Inv-loop μ-loop
 returns-2 c =
     let m = c .before .before in
     let T = m .before .before .loop .inv in
-    let b = m .before .before .before .before .before in
+    let b = m .before .before .before .before .before .args in
     let e = ended T (m .before .line .ensures) (gave m _ (c .enum-told .given .1)) in
     record {
       is = sym e;
-      positioned = λ a. record { few = T .few; whole = count T; rising = tokens-placed (b .args .wide) (piecesFrom 10 (b .args .s .now) (b .args .start)) _ e .rising };
+      positioned = λ a. record { few = T .few; whole = count T; rising = tokens-placed (b .wide) (piecesFrom 10 (b .s .now) (b .start)) _ e .rising };
       none = λ f l a. absurd (let z : _≡_ {A = ℕ} 0 1 = cc in omega arith);
     }
 
