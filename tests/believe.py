@@ -12,14 +12,21 @@ LIST = (TOP / "docs" / "BELIEVE.md").read_text()
 
 
 class Believe(unittest.TestCase):
-    def believe(self, text):
-        """Status and errors with this list."""
+    def believe(self, text, more=None):
+        """Status and errors with this list, and with what `more` puts behind a file of crates/."""
         room = Path(tempfile.mkdtemp())
         self.addCleanup(shutil.rmtree, room)
         (room / "bin").mkdir()
         (room / "docs").mkdir()
         shutil.copy(TOP / "bin" / "believe", room / "bin")
-        (room / "crates").symlink_to(TOP / "crates")
+        if more:
+            file, lines = more
+            kept = shutil.ignore_patterns("must-fail", "data", "proofs")
+            shutil.copytree(TOP / "crates", room / "crates", ignore=kept)
+            with (room / "crates" / file).open("a") as out:
+                out.write(lines)
+        else:
+            (room / "crates").symlink_to(TOP / "crates")
         (room / "docs" / "BELIEVE.md").write_text(text)
         ended = subprocess.run([room / "bin" / "believe"], capture_output=True, text=True, check=False)
         return ended.returncode, ended.stderr
@@ -38,6 +45,14 @@ class Believe(unittest.TestCase):
         more = "crates/chart/specs/Tables.antt"
         status, errors = self.believe(LIST + f"- `{more}`\n")
         self.assertEqual((status, errors), (1, f"believe: docs/BELIEVE.md lists {more}, on which no public promise rests\n"))
+
+    def test_a_second_meaning_is_told(self):
+        status, errors = self.believe(LIST, ("chart/specs/Tables.antt", "\nabbrev pub rowCount : ℕ → ℕ\nrowCount n = n\n"))
+        self.assertEqual((status, errors), (1, "believe: rowCount is defined in crates/chart/specs/Tables.antt and in crates/grammar/specs/Rows.antt\n"))
+
+    def test_a_definition_besides_is_told(self):
+        status, errors = self.believe(LIST, ("grammar/specs/Rows.antt", "\nabbrev pub twice : ℕ → ℕ\ntwice n = n + n\n"))
+        self.assertEqual((status, errors), (1, "believe: no public promise rests on twice in crates/grammar/specs/Rows.antt\n"))
 
     def test_a_public_function_left_out_is_told(self):
         status, errors = self.believe(LIST.replace("`calling::calls_text`", ""))
