@@ -250,9 +250,9 @@ fn try_split(t: Tally, code: u64, p: Sides, k: SpanMarks, left: usize, len: usiz
 }
 
 // Where the codes of B rules stand: all of them from `from` to below `to`.
-struct Stretch {
-    from: usize,
-    to: usize,
+pub struct Stretch {
+    pub from: usize,
+    pub to: usize,
 }
 
 // The place of the first B rule, or the number of rules.
@@ -285,7 +285,7 @@ fn past_binary(codes: &[u64]) -> usize
 }
 
 // Where they stand.
-fn binaries(codes: &[u64]) -> Stretch
+pub fn binaries(codes: &[u64]) -> Stretch
     ensures { λ r. ⌜ Stretches (now (codes .entry)) r ⌝ }
 {
     let from = first_binary(codes);
