@@ -1,0 +1,4 @@
+pub mod LaneWords
+pub mod Existing
+pub mod Carrying
+pub mod Filling

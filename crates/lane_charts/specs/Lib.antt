@@ -1,0 +1,2 @@
+pub mod MarkWords
+pub mod LaneCharts
