@@ -8,9 +8,9 @@ use lib.ListN.{length}
 use Rattle.sets.specs.Says.{Says}
 use Rattle.grammar.specs.Trees.{Rules}
 use Rattle.grammar.specs.SpanSheet.{pairs}
-use Rattle.choosing.specs.declared.Flags.{Flags}
+use Rattle.lane_search.specs.declared.Flags.{Flags}
 use Rattle.chart.specs.declared.Verdict.the-variants as Verdict
-use Rattle.choosing.specs.Answers.{FlagsSay}
+use Rattle.lane_search.specs.Answers.{FlagsSay}
 use Rattle.sheets.proofs.Numbers.{same-fault}
 use Rattle.column_ranges.specs.Ranges.{Ranges}
 use Rattle.sheets.specs.declared.Fault.{Fault}

@@ -11,8 +11,8 @@ use Rattle.sheets.specs.Refusals.{numberOf}
 use Rattle.sheets.specs.Items.{accepted, refused}
 use Rattle.sheets.specs.RuleSheets.{ruleSheet}
 use Rattle.column_ranges.specs.Ranges.{Ranges}
-use Rattle.choosing.specs.declared.Flags.{Flags}
-use Rattle.choosing.specs.Answers.{FlagsSay}
+use Rattle.lane_search.specs.declared.Flags.{Flags}
+use Rattle.lane_search.specs.Answers.{FlagsSay}
 use Rattle.teplonga.specs.declared.Answer.the-variants as Answer
 use Rattle.call_columns.specs.declared.ColumnsReply.{ColumnsReply}
 use Rattle.range_sheets.specs.RangeSheets.{rangeSheet}

@@ -1,41 +1,44 @@
 -- What the search keeps and finds: the words from fill to fill, and the flags from column to column.
 use mathlib.Core.Path.{_≡_, refl, sym, ap, _∙_, subst, subst₂}
 use mathlib.Core.Bool.{Bool, true, false}
-use mathlib.Core.List.{List, [], _∷_}
-use mathlib.Core.Logic.{_⊎_, inl, inr, ⊎-elim}
+use mathlib.Core.List.{List}
+use mathlib.Core.Logic.{_⊎_, ⊎-elim}
 use Prim.Native.Nat.{ℕ, _+_, _-_, _*_, _≤_, _<_}
 use native.Mathlib.Omega.{arith}
+use native.Mathlib.Nat.{mul-le-mul-right}
 use native.Mathlib.Decide.{decLt, ℕ-discrete}
-use lib.ListN.{length, take}
-use Rattle.sets.specs.Says.{Says}
-use Rattle.sets.specs.Sets.{In}
+use lib.ListN.{length}
 use Rattle.sets.proofs.Says.{true-not-false, says-iff}
 use Rattle.grammar.specs.declared.Token.{Token}
 use Rattle.grammar.specs.Layout.{Word, col}
-use Rattle.grammar.specs.Trees.{Rules, Derives, NoTree, OneTree, TwoTrees}
-use Rattle.grammar.specs.Candidates.{After, Rising}
-use Rattle.grammar.specs.SpanSheet.{pairs, firstWord, secondWord}
-use Rattle.marks.specs.Half.{Half, tokenAt}
-use Rattle.chart.specs.Leaves.{Leaf, Allows, LeafAt, May}
-use Rattle.chart.specs.Filling.{Given}
+use Rattle.grammar.specs.Trees.{Rules, Derives, TwoTrees}
+use Rattle.grammar.specs.Candidates.{After}
+use Rattle.grammar.specs.SpanSheet.{pairs}
+use Rattle.marks.specs.Half.{tokenAt}
+use Rattle.chart.specs.Leaves.{Leaf, LeafAt, May}
 use Rattle.chart.specs.declared.Verdict.{Verdict}
 use Rattle.chart.specs.declared.Verdict.the-variants as Verdict
-use Rattle.chart.specs.Sheets.{Exact, Begun, Ready, Meets, CoversMet, Charted}
+use Rattle.chart.specs.Sheets.{Begun, Ready, Meets, Charted}
 use Rattle.chart.proofs.ExactLaws.{exact-less, exact-front}
 use Rattle.chart.proofs.LeafLaws.{leaf-allows}
 use Rattle.chart.proofs.OpenLaws.{open-none}
-use Rattle.chart.proofs.SheetLaws.{whole-part, reads-none, reads-one, reads-two, verdict-same}
+use Rattle.chart.proofs.SheetLaws.{whole-part}
 use Rattle.order.specs.Order.{Rearranged}
 use Rattle.order.proofs.Same.{two-same, one-same, none-under}
 use Rattle.spans.specs.Changes.{Past, Cleared}
 use Rattle.spans.proofs.ChangeLaws.{past-same, past-then}
-use Rattle.column_ranges.specs.declared.RangeToken.{RangeToken}
-use Rattle.column_ranges.specs.Ranges.{Ranges, WithinEnds, Chosen, SomeChoiceGives, columns}
-use Rattle.choosing.specs.declared.Flags.{Flags}
+use Rattle.column_ranges.specs.Ranges.{Ranges, WithinEnds, SomeChoiceGives, columns}
+use Rattle.lane_search.specs.declared.Flags.{Flags}
 use Rattle.choosing.specs.declared.Tried.{Tried}
-use Rattle.choosing.specs.Answers.{flag, FlagsSay}
-use Rattle.choosing.specs.Searching.{range, Placed, Begins, Standing, Grown, Finds, FindsBelow, inColumn, MayBe, Reads, With, Put, Poised, Tryable, Trying, Searched}
-use Rattle.choosing.proofs.Placing.{chosen-long, chosen-at, rising-at, within-placed, placed-within, put-before, put-terminal, put-tryable, placed-next, placed-chosen, placed-rising, same-word, same-front}
+use Rattle.lane_search.specs.Answers.{flag, FlagsSay}
+use Rattle.lane_search.specs.Searching.{Placed, Begins, Grown, Finds, inColumn}
+use Rattle.lane_search.specs.Batches.{RestTried}
+use Rattle.lane_search.proofs.Choices.{chosen-long, chosen-at, rising-at, within-standing, placed-within, same-front}
+use Rattle.lane_search.proofs.Flagging.{grown-none, grown-more}
+use Rattle.lane_columns.specs.LaneColumns.{range}
+use Rattle.lane_charts.specs.LaneCharts.{Spreads}
+use Rattle.choosing.specs.Searching.{Standing, FindsBelow, MayBe, Put, Gridded, Poised, Tryable, Trying, Searched}
+use Rattle.choosing.proofs.Placing.{put-before, put-terminal, put-tryable, placed-next}
 use Rattle.grammar.specs.Distinct.{Distinct}
 use Rattle.chart.specs.Verdicts.{Holds}
 use Rattle.column_ranges.specs.RangeSentences.{Ended}
@@ -120,36 +123,7 @@ finds-idle {g} {rs} {n} {i} {w} {ws} {ws′} {f} size p st c idle = record { all
         let long : length x ≡ n = chosen-long rs x (b .chosen) ∙ size in
         c .covers .two x (meets size p (st .leaves) b) 0 n 0 (omega (arith, long)) (subst (TwoTrees g 0) (sym (whole-part x n long)) h)
 
--- ---- all tokens are chosen
-
-module _ {g : Rules} {rs : Ranges} {n : ℕ} {w : Word} {ws : List ℕ} (size : length rs ≡ n) (p : Placed rs w n) (st : Standing g n n w ws) where
-  read : (v : Verdict) → Reads ws n v → Holds v g 0 w
-  read Verdict.None r = reads-none (p .long ∙ size) (st .right) r
-  read Verdict.One r = reads-one (p .long ∙ size) (st .right) (r .0) (r .1)
-  read Verdict.Two r = reads-two (p .long ∙ size) (st .right) r
-
-  gives : (v : Verdict) → Reads ws n v → SomeChoiceGives g rs v
-  gives v r = record { word = w; chosen = placed-chosen (sym size) p; rising = placed-rising (sym size) p; verdict = read v r }
-
-  pub grown-read : {f r : Flags} (v : Verdict) → Reads ws n v → With f v r → Grown g rs f r
-  grown-read v e y = record { kept = y .kept; given = λ u s. ⊎-elim inl (λ z. inr (subst (SomeChoiceGives g rs) (sym z) (gives v e))) (y .given u s) }
-
-  pub finds-read : {f r : Flags} (v : Verdict) → Reads ws n v → With f v r → Finds g rs w n r
-  finds-read {f} {r} v e y = record {
-    all = λ u x b.
-        let long : length x ≡ length w = chosen-long rs x (b .chosen) ∙ sym (p .long) in
-        let same : x ≡ w = same-word long (λ k h. b .same k (omega (arith, p .long))) in
-        let z : u ≡ v = verdict-same g 0 w u v (subst (Holds u g 0) same (b .verdict)) (read v e) in
-        subst (λ (a : Verdict). flag r a ≡ true) (sym z) (y .set);
-  }
-
 -- ---- from column to column
-
-pub grown-none : {g : Rules} {rs : Ranges} (f : Flags) → Grown g rs f f
-grown-none f = record { kept = λ v e. e; given = λ v e. inl e }
-
-pub grown-more : {g : Rules} {rs : Ranges} {f r s : Flags} → Grown g rs f r → Grown g rs r s → Grown g rs f s
-grown-more x y = record { kept = λ v e. y .kept v (x .kept v e); given = λ v e. ⊎-elim (λ z. x .given v z) inr (y .given v e) }
 
 module _ {g : Rules} {rs : Ranges} {w : Word} {i : ℕ} (h : i < length rs) where
   pub below-none : (c : ℕ) (f : Flags) → c ≤ range rs i .low .0 → FindsBelow g rs w i c f
@@ -165,7 +139,7 @@ module _ {g : Rules} {rs : Ranges} {w : Word} {i : ℕ} (h : i < length rs) wher
       go v x b k (no l) = y .all v x (record { chosen = b .chosen; rising = b .rising; verdict = b .verdict; same = λ j m. same j m (ℕ-discrete j i) })
         where
           here : tokenAt x i ≡ inColumn (range rs i) c
-          here = within-placed (range rs i) (tokenAt x i) c (chosen-at rs x (b .chosen) i h) (omega arith)
+          here = within-standing (range rs i) (tokenAt x i) (range rs i .low .0 + c) (chosen-at rs x (b .chosen) i h) (omega arith)
 
           same : (j : ℕ) → j < i + 1 → Dec (j ≡ i) → tokenAt x j ≡ tokenAt u j
           same j m (yes e) = ap (tokenAt x) e ∙ here ∙ sym (q .here) ∙ ap (tokenAt u) (sym e)
@@ -192,54 +166,6 @@ idle-all f ws n a b c Verdict.None m = a
 idle-all f ws n a b c Verdict.One m = b m
 idle-all f ws n a b c Verdict.Two m = c m
 
-pub with-none : (f : Flags) (v : Verdict) → v ≡ Verdict.None → With f v (record { none = true; one = f .one; two = f .two })
-with-none f v e = subst (λ (u : Verdict). With f u r) (sym e) (record { set = refl; kept = kept; given = given })
-  where
-    r : Flags
-    r = record { none = true; one = f .one; two = f .two }
-
-    kept : (u : Verdict) → flag f u ≡ true → flag r u ≡ true
-    kept Verdict.None h = refl
-    kept Verdict.One h = h
-    kept Verdict.Two h = h
-
-    given : (u : Verdict) → flag r u ≡ true → (flag f u ≡ true) ⊎ (u ≡ Verdict.None)
-    given Verdict.None h = inr refl
-    given Verdict.One h = inl h
-    given Verdict.Two h = inl h
-
-pub with-one : (f : Flags) (v : Verdict) → v ≡ Verdict.One → With f v (record { none = f .none; one = true; two = f .two })
-with-one f v e = subst (λ (u : Verdict). With f u r) (sym e) (record { set = refl; kept = kept; given = given })
-  where
-    r : Flags
-    r = record { none = f .none; one = true; two = f .two }
-
-    kept : (u : Verdict) → flag f u ≡ true → flag r u ≡ true
-    kept Verdict.None h = h
-    kept Verdict.One h = refl
-    kept Verdict.Two h = h
-
-    given : (u : Verdict) → flag r u ≡ true → (flag f u ≡ true) ⊎ (u ≡ Verdict.One)
-    given Verdict.None h = inl h
-    given Verdict.One h = inr refl
-    given Verdict.Two h = inl h
-
-pub with-two : (f : Flags) (v : Verdict) → v ≡ Verdict.Two → With f v (record { none = f .none; one = f .one; two = true })
-with-two f v e = subst (λ (u : Verdict). With f u r) (sym e) (record { set = refl; kept = kept; given = given })
-  where
-    r : Flags
-    r = record { none = f .none; one = f .one; two = true }
-
-    kept : (u : Verdict) → flag f u ≡ true → flag r u ≡ true
-    kept Verdict.None h = h
-    kept Verdict.One h = h
-    kept Verdict.Two h = refl
-
-    given : (u : Verdict) → flag r u ≡ true → (flag f u ≡ true) ⊎ (u ≡ Verdict.Two)
-    given Verdict.None h = inl h
-    given Verdict.One h = inl h
-    given Verdict.Two h = inr refl
-
 -- ---- a column is tried
 
 module _ {g : Rules} {rs : Ranges} {n e i : ℕ} {w : Word} {f : Flags} {ws : List ℕ} (size : length rs ≡ n) (h : i < n) where
@@ -260,7 +186,7 @@ module _ {g : Rules} {rs : Ranges} {n e i : ℕ} {w : Word} {f : Flags} {ws : Li
       out = λ z. absurd (true-not-false (sym z));
       back = st;
       low = λ z. omega arith;
-      on = λ z. record { inside = omega arith; low = omega arith; whole = λ u. absurd (omega arith); placed = placed-next y a; stands = st };
+      on = λ z. record { inside = omega arith; low = omega arith; placed = placed-next y a; stands = st };
       past = past-same _ ws;
     }
 
@@ -271,7 +197,7 @@ module _ {g : Rules} {rs : Ranges} {n e i : ℕ} {w : Word} {f : Flags} {ws : Li
       out = λ z. finds-idle size (y .before) on c (idle z);
       back = standing-less e (omega arith) on;
       low = λ z. omega arith;
-      on = λ z. record { inside = omega arith; low = omega arith; whole = λ u. u; placed = placed-next y a; stands = on };
+      on = λ z. record { inside = omega arith; low = omega arith; placed = placed-next y a; stands = on };
       past = c .past;
     }
       where
@@ -281,57 +207,82 @@ module _ {g : Rules} {rs : Ranges} {n e i : ℕ} {w : Word} {f : Flags} {ws : Li
 -- ---- the columns of the token at i, one after the other
 
 -- the first c columns are tried: the words stand as before, and what these columns give is found
-pub record ChoosingTurn (g : Rules) (rs : Ranges) (n e i : ℕ) (w : Word) (f : Flags) (ws ws′ : List ℕ) (found : Flags) (c : ℕ) : Type 0 where
+pub record ChoosingTurn (g : Rules) (rs : Ranges) (n e i : ℕ) (w : Word) (f : Flags) (ws ws′ grid grid′ : List ℕ) (found : Flags) (c : ℕ) : Type 0 where
   pub past : Past (2 * pairs n) ws ws′
   pub stands : Standing g n e w ws′
   pub grown : Grown g rs f found
   pub below : FindsBelow g rs w i (range rs i .low .0 + c) found
+  pub size : length grid′ ≡ length grid
+  pub gridded : Gridded g rs n grid′
 
-module _ {g : Rules} {rs : Ranges} {n e i : ℕ} {w : Word} {f : Flags} {ws : List ℕ} (size : length rs ≡ n) where
-  -- all tokens are chosen
-  pub searched-read : {r : Flags} {v : Verdict} → i ≡ n → Poised g rs n e i w ws → Reads ws n v → With f v r → Searched g rs n e i w f ws ws r
-  searched-read {r} {v} z y reads with = record {
-    grown = grown-read size p st v reads with;
-    finds = subst (λ (k : ℕ). Finds g rs w k r) (sym z) (finds-read size p st v reads with);
-    stands = y .stands;
+-- u is w with the token at i in the column that stands c past its lower end
+pub record Stepped (rs : Ranges) (w u : Word) (i c : ℕ) : Type 0 where
+  pub ended : Ended (range rs i)
+  pub few : c < columns (range rs i)
+  pub put : Put w u i (inColumn (range rs i) c)
+
+module _ {g : Rules} {rs : Ranges} {n e i : ℕ} {w : Word} {f : Flags} {ws grid : List ℕ} where
+  -- all choices are tried at once
+  pub searched-rest : {grid′ : List ℕ} {r : Flags} → Standing g n e w ws → Gridded g rs n grid → RestTried g rs n i w grid grid′ f r → Searched g rs n e i w f ws ws grid grid′ r
+  searched-rest st d t = record {
+    grown = t .grown;
+    finds = t .finds;
+    stands = st;
     past = past-same _ ws;
+    size = t .size;
+    gridded = record { enough = omega (arith, t .size, d .enough); ready = t .again };
   }
-    where
-      p : Placed rs w n
-      p = subst (Placed rs w) z (y .placed)
 
-      st : Standing g n n w ws
-      st = subst (λ (k : ℕ). Standing g n k w ws) (y .whole z) (y .stands)
+  module _ (size : length rs ≡ n) (h : i < n) (low : e ≤ i) (p : Placed rs w i) where
+    pub turn-none : Standing g n e w ws → Gridded g rs n grid → ChoosingTurn g rs n e i w f ws ws grid grid f 0
+    turn-none st d = record {
+      past = past-same _ ws;
+      stands = st;
+      grown = grown-none f;
+      below = below-none (omega arith) (range rs i .low .0 + 0) f (omega arith);
+      size = refl;
+      gridded = d;
+    }
 
-  module _ (h : i < n) (low : e ≤ i) (p : Placed rs w i) where
-    pub turn-none : Standing g n e w ws → ChoosingTurn g rs n e i w f ws ws f 0
-    turn-none st = record { past = past-same _ ws; stands = st; grown = grown-none f; below = below-none (omega arith) (range rs i .low .0 + 0) f (omega arith) }
+    module _ {c : ℕ} {u : Word} {found : Flags} {ws₁ grid₁ : List ℕ} (q : Stepped rs w u i c) (t : ChoosingTurn g rs n e i w f ws ws₁ grid grid₁ found c) where
+      within : WithinEnds (range rs i) (inColumn (range rs i) c)
+      within = placed-within (range rs i) c (q .ended) (q .few)
 
-    module _ {c : ℕ} {u : Word} {found : Flags} {ws₁ : List ℕ} (ended : Ended (range rs i)) (few : c < columns (range rs i)) (q : Put w u i (inColumn (range rs i) c))
-        (t : ChoosingTurn g rs n e i w f ws ws₁ found c) where
       pub turn-tryable : Tryable rs u i × Standing g n e u ws₁
-      turn-tryable = (put-tryable (omega arith) p q (placed-within (range rs i) c ended few), standing-put size h low p q (placed-within (range rs i) c ended few) (t .stands))
+      turn-tryable = (put-tryable (omega arith) p (q .put) within, standing-put size h low p (q .put) within (t .stands))
 
       -- nothing new can come of the column
-      pub turn-out : {r : Tried} {ws₂ : List ℕ} → Trying g rs n e i u found ws₁ ws₂ r → r .out ≡ true → ChoosingTurn g rs n e i w f ws ws₂ found (c + 1)
+      pub turn-out : {r : Tried} {ws₂ : List ℕ} → Trying g rs n e i u found ws₁ ws₂ r → r .out ≡ true → ChoosingTurn g rs n e i w f ws ws₂ grid grid₁ found (c + 1)
       turn-out y z = record {
         past = past-then (t .past) (y .past);
-        stands = standing-unput size h low p q (placed-within (range rs i) c ended few) (y .back);
+        stands = standing-unput size h low p (q .put) within (y .back);
         grown = t .grown;
-        below = below-more (omega arith) c p q (λ v d. d) (y .out z) (t .below);
+        below = below-more (omega arith) c p (q .put) (λ v d. d) (y .out z) (t .below);
+        size = t .size;
+        gridded = t .gridded;
       }
 
       -- what the column gives is found
-      pub turn-on : {r : Tried} {ws₂ ws₃ : List ℕ} {next : Flags} → Trying g rs n e i u found ws₁ ws₂ r → r .out ≡ false → Searched g rs n (r .right) (i + 1) u found ws₂ ws₃ next → ChoosingTurn g rs n e i w f ws ws₃ next (c + 1)
+      pub turn-on : {r : Tried} {ws₂ ws₃ grid₂ : List ℕ} {next : Flags} → Trying g rs n e i u found ws₁ ws₂ r → r .out ≡ false
+          → Searched g rs n (r .right) (i + 1) u found ws₂ ws₃ grid₁ grid₂ next → ChoosingTurn g rs n e i w f ws ws₃ grid grid₂ next (c + 1)
       turn-on y z x = record {
         past = past-then (t .past) (past-then (y .past) (x .past));
-        stands = standing-unput size h low p q (placed-within (range rs i) c ended few) (standing-less e (y .low z) (x .stands));
+        stands = standing-unput size h low p (q .put) within (standing-less e (y .low z) (x .stands));
         grown = grown-more (t .grown) (x .grown);
-        below = below-more (omega arith) c p q (x .grown .kept) (x .finds) (t .below);
+        below = below-more (omega arith) c p (q .put) (x .grown .kept) (x .finds) (t .below);
+        size = x .size ∙ t .size;
+        gridded = x .gridded;
       }
 
-    pub turn-all : {c : ℕ} {ws′ : List ℕ} {found : Flags} → Ended (range rs i) → columns (range rs i) ≤ c → ChoosingTurn g rs n e i w f ws ws′ found c → Searched g rs n e i w f ws ws′ found
-    turn-all {c} ended all t = record { grown = t .grown; finds = below-all (omega arith) c ended all (t .below); stands = t .stands; past = t .past }
+    pub turn-all : {c : ℕ} {ws′ grid′ : List ℕ} {found : Flags} → Ended (range rs i) → columns (range rs i) ≤ c → ChoosingTurn g rs n e i w f ws ws′ grid grid′ found c → Searched g rs n e i w f ws ws′ grid grid′ found
+    turn-all {c} ended all t = record {
+      grown = t .grown;
+      finds = below-all (omega arith) c ended all (t .below);
+      stands = t .stands;
+      past = t .past;
+      size = t .size;
+      gridded = t .gridded;
+    }
 
 -- ---- rules in another order
 
@@ -354,9 +305,30 @@ none-set Verdict.One = refl
 none-set Verdict.Two = refl
 
 pub poised-begun : {g : Rules} {rs : Ranges} {n : ℕ} {w : Word} {ws ws′ : List ℕ} → Placed rs w 0 → Begun ws ws′ g w n → Poised g rs n 0 0 w ws′
-poised-begun p b = record { inside = omega arith; low = omega arith; whole = λ e. e; placed = p; stands = standing-begun b }
+poised-begun p b = record { inside = omega arith; low = omega arith; placed = p; stands = standing-begun b }
 
 pub cleared-all : {m k : ℕ} {ws ws₁ ws₂ ws₃ : List ℕ} → m ≡ k → Past k ws ws₁ → Past k ws₁ ws₂ → Cleared ws₂ ws₃ m → Cleared ws ws₃ k
 cleared-all {m} {k} e p q d =
     let c = rw e at d in
     record { zeros = c .zeros; past = past-then p (past-then q (c .past)) }
+
+-- 64 tokens have room in the grid
+pub grid-room : (n : ℕ) → n ≤ 64 → 128 * pairs n ≤ 266368
+unfolding pairs
+grid-room n h = omega (arith, mul-le-mul-right (n + 1) h)
+
+-- the pairs of single tokens, laid into all lanes
+pub gridded-spread : {g : Rules} {rs : Ranges} {n : ℕ} {w : Word} {ws ws′ grid grid′ : List ℕ} → length rs ≡ n → Placed rs w 0 → Begun ws ws′ g w n → 128 * pairs n ≤ length grid → Spreads ws′ grid grid′ n → Gridded g rs n grid′
+gridded-spread {g} {rs} {n} {w} {ws} {ws′} size p b room t = record {
+  enough = omega (arith, t .size);
+  ready = record {
+    lane = λ c few. (
+      ws′,
+      t .lane c few,
+      record {
+        empty = λ x. exact-front x refl (b .empty);
+        leaves = λ i h. subst (LeafAt g n ws′ i) (p .terminals i (omega arith)) (b .leaves i h);
+      },
+    );
+  };
+}

@@ -1,63 +1,27 @@
--- Tokens put into columns one after the other: what stays, and what a choice that begins so has.
-use mathlib.Core.Path.{_≡_, refl, sym, ap, _∙_, subst, subst₂}
+-- Tokens put into columns one after the other: what stays.
+use mathlib.Core.Path.{_≡_, sym, ap, _∙_, subst, subst₂}
 use mathlib.Core.Bool.{Bool}
-use mathlib.Core.List.{List, [], _∷_}
-use Prim.Native.Nat.{ℕ, zero, suc, _+_, _-_, _≤_, _<_, min}
+use mathlib.Core.List.{List}
+use Prim.Native.Nat.{ℕ, _+_, _-_, _≤_, _<_}
 use native.Mathlib.Omega.{arith}
 use native.Mathlib.Decide.{ℕ-discrete}
-use native.Mathlib.Numerals.{add-one}
-use lib.ListN.{length, getD, take, set, length-set, length-take}
-use lib.Seq.{ext-getD, getD-take, getD-set-same, getD-set-other, length-take-le}
+use lib.ListN.{length, getD, take, set, length-set}
+use lib.Seq.{getD-take, getD-set-same, getD-set-other, length-take-le}
 use Rattle.sets.specs.Says.{Says}
 use Rattle.sets.proofs.Says.{says-iff}
 use Rattle.grammar.specs.declared.Token.{Token}
-use Rattle.grammar.specs.Layout.{Word, line, col, width, Every}
-use Rattle.grammar.specs.Candidates.{After, RisingFrom, Rising}
+use Rattle.grammar.specs.Layout.{Word}
+use Rattle.grammar.specs.Candidates.{After}
 use Rattle.marks.specs.Half.{tokenAt}
 use Rattle.column_ranges.specs.declared.RangeToken.{RangeToken}
 use Rattle.column_ranges.specs.declared.RangeSentence.{RangeSentence}
-use Rattle.column_ranges.specs.Ranges.{Ranges, WithinEnds, Chosen, columns}
-use Rattle.column_ranges.proofs.Counting.{range-read, ended-at}
-use Rattle.choosing.specs.Searching.{no-range, range, Placed, inColumn, Put, Tryable}
+use Rattle.column_ranges.specs.Ranges.{Ranges, WithinEnds}
+use Rattle.column_ranges.proofs.Counting.{range-read}
+use Rattle.lane_columns.specs.LaneColumns.{no-range, range}
+use Rattle.lane_search.specs.Searching.{inColumn, Placed}
+use Rattle.choosing.specs.Searching.{Put, Tryable}
 use Rattle.grammar.specs.Sentences.{no-token}
-use Rattle.column_ranges.specs.RangeSentences.{rangesOf, Ended, Spread}
-
--- ---- choices, token by token
-
-pub chosen-long : (rs : Ranges) (x : Word) → Chosen rs x → length x ≡ length rs
-chosen-long [] [] c = refl
-chosen-long [] (t ∷ x) c = absurd c
-chosen-long (r ∷ rs) [] c = absurd c
-chosen-long (r ∷ rs) (t ∷ x) c = ap suc (chosen-long rs x (c .1))
-
-pub chosen-at : (rs : Ranges) (x : Word) → Chosen rs x → (i : ℕ) → i < length rs → WithinEnds (range rs i) (tokenAt x i)
-chosen-at [] x c i h = absurd (omega arith)
-chosen-at (r ∷ rs) [] c i h = absurd c
-chosen-at (r ∷ rs) (t ∷ x) c zero h = c .0
-chosen-at (r ∷ rs) (t ∷ x) c (suc i) h = chosen-at rs x (c .1) i (omega arith)
-
-pub at-chosen : (rs : Ranges) (x : Word) → length x ≡ length rs → ((i : ℕ) → i < length rs → WithinEnds (range rs i) (tokenAt x i)) → Chosen rs x
-at-chosen [] [] e f = tt
-at-chosen [] (t ∷ x) e f = absurd (omega (arith, e))
-at-chosen (r ∷ rs) [] e f = absurd (omega (arith, e))
-at-chosen (r ∷ rs) (t ∷ x) e f = (f 0 (omega arith), at-chosen rs x (omega (arith, e)) (λ i h. f (suc i) (omega arith)))
-
-from-at : (a : Token) (x : Word) → RisingFrom a x → (i : ℕ) → i < length x → After (tokenAt (a ∷ x) i) (tokenAt x i)
-from-at a [] r i h = absurd (omega arith)
-from-at a (b ∷ x) r zero h = r .0
-from-at a (b ∷ x) r (suc i) h = from-at b x (r .1) i (omega arith)
-
-pub rising-at : (x : Word) → Rising x → (i : ℕ) → i + 1 < length x → After (tokenAt x i) (tokenAt x (i + 1))
-rising-at [] r i h = absurd (omega arith)
-rising-at (a ∷ x) r i h = rw (add-one i) (from-at a x r i (omega arith))
-
-at-from : (a : Token) (x : Word) → ((i : ℕ) → i < length x → After (tokenAt (a ∷ x) i) (tokenAt x i)) → RisingFrom a x
-at-from a [] f = tt
-at-from a (b ∷ x) f = (f 0 (omega arith), at-from b x (λ i h. f (suc i) (omega arith)))
-
-pub at-rising : (x : Word) → ((i : ℕ) → i + 1 < length x → After (tokenAt x i) (tokenAt x (i + 1))) → Rising x
-at-rising [] f = tt
-at-rising (a ∷ x) f = at-from a x (λ i h. rw (add-one i) at (f i (omega arith)))
+use Rattle.column_ranges.specs.RangeSentences.{rangesOf, Spread}
 
 -- ---- a token put at a place
 
@@ -69,14 +33,6 @@ put-at tokens n i t m h = record {
       let j : k < n = omega (arith, length-take-le n tokens m) in
       getD-take n (set tokens i t) k no-token j ∙ getD-set-other tokens i k t no-token d ∙ sym (getD-take n tokens k no-token j);
 }
-
--- a column within the ends
-pub placed-within : (r : RangeToken) (c : ℕ) → Ended r → c < columns r → WithinEnds r (inColumn r c)
-placed-within r c e h = record { terminal = refl; line = refl; low = omega arith; high = omega (arith, e .ordered); width = refl }
-
--- a token within the ends is one of the columns
-pub within-placed : (r : RangeToken) (t : Token) (c : ℕ) → WithinEnds r t → col t ≡ r .low .0 + c → t ≡ inColumn r c
-within-placed r t c w e = λ i. record { terminal = w .terminal i; line = record { 0 = w .line i }; column = record { 0 = e i }; width = record { 0 = w .width i } }
 
 apart : {k i : ℕ} → k < i → k ≡ i → ⊥
 apart h e = omega arith
@@ -122,24 +78,6 @@ module _ {rs : Ranges} {w : Word} {i : ℕ} where
       rising k m (yes e) l = subst₂ (λ (j j′ : ℕ). After (tokenAt w j) (tokenAt w j′)) (let z : i - 1 ≡ k = omega arith in z) (sym e) (a (omega arith))
       rising k m (no d) l = y .before .rising k (omega arith) m
 
--- all tokens are chosen
-module _ {rs : Ranges} {w : Word} {i : ℕ} (e : i ≡ length rs) (p : Placed rs w i) where
-  pub placed-chosen : Chosen rs w
-  placed-chosen = at-chosen rs w (p .long) (λ k h. p .within k (omega arith) h)
-
-  pub placed-rising : Rising w
-  placed-rising = at-rising w (λ k h. p .rising k (omega (arith, p .long)) (omega (arith, p .long)))
-
--- words of the same tokens are the same
-pub same-word : {w x : Word} → length x ≡ length w → ((k : ℕ) → k < length w → tokenAt x k ≡ tokenAt w k) → x ≡ w
-same-word {w} {x} e f = ext-getD no-token x w e (λ k h. f k (omega (arith, e)))
-
--- and have the same front
-pub same-front : (w x : Word) (i : ℕ) → length x ≡ length w → ((k : ℕ) → k < i → tokenAt x k ≡ tokenAt w k) → take i x ≡ take i w
-same-front w x i e f = ext-getD no-token (take i x) (take i w) (length-take i x ∙ ap (λ (m : ℕ). min i m) e ∙ sym (length-take i w)) (λ k h.
-    let j : k < i = omega (arith, length-take i x) in
-    getD-take i x k no-token j ∙ f k j ∙ sym (getD-take i w k no-token j))
-
 -- ---- all tokens in their lowest columns
 
 -- the first i tokens have their terminals
@@ -175,10 +113,6 @@ rises-front tokens n i h =
     let x : tokenAt (take n tokens) (i - 1) ≡ tokenAt tokens (i - 1) = getD-take n tokens (i - 1) no-token (omega arith) in
     let y : tokenAt (take n tokens) i ≡ tokenAt tokens i = getD-take n tokens i no-token h in
     says-iff (λ f l. subst₂ After (sym x) (sym y) (f l)) (λ f l. subst₂ After x y (f l))
-
--- the range at i has its ends
-pub range-ended : (r : RangeSentence) (i : ℕ) → Spread r → i < r .count → Ended (range (rangesOf r) i)
-range-ended r i p h = subst Ended (sym (range-read r i h)) (ended-at p i h)
 
 -- the array with the token at i in a column
 pub put-front : (r : RangeSentence) (tokens : List Token) {u : List Token} (i c : ℕ) {t : Token} → Spread r → length tokens ≡ 64 → i < r .count → t ≡ inColumn (getD (r .tokens) i no-range) c → u ≡ set tokens i t

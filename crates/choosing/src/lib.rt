@@ -1,6 +1,5 @@
 // Which verdicts some choice of columns gives. Columns are chosen token by token, and what no choice that begins so can give
-// anew is not looked at further.
-use chart::Verdict;
+// anew is not looked at further; where few choices are left, they are tried in lanes.
 use chart::fill;
 use chart::fill_leaves;
 use column_ranges::RangeSentence;
@@ -11,6 +10,9 @@ use grammar::Grammar;
 use grammar::Line;
 use grammar::Token;
 use grammar::Width;
+use lane_charts::spread;
+use lane_search::Flags;
+use lane_search::try_rest;
 use marks::Draft;
 use order::ordered;
 use sheets::comes_after;
@@ -31,17 +33,11 @@ ghost use Rattle.marks.specs.Half.{tokenAt};
 ghost use Rattle.chart.specs.declared.Verdict.{Verdict};
 ghost use Rattle.spans.specs.Changes.{Cleared};
 ghost use Rattle.column_ranges.specs.Ranges.{columns as columnsOf};
-ghost use Rattle.choosing.specs.Answers.{flag, FlagsSay};
-ghost use Rattle.choosing.specs.Searching.{inColumn as placedAt, MayBe, Reads, With, Placed, Standing, Poised, Searched, Tryable, Trying};
+ghost use Rattle.lane_search.specs.Answers.{flag, FlagsSay};
+ghost use Rattle.lane_search.specs.Searching.{inColumn as placedAt, Placed};
+ghost use Rattle.choosing.specs.Searching.{MayBe, Standing, Gridded, Poised, Searched, Tryable, Trying, Few};
 ghost use Rattle.grammar.specs.Distinct.{Distinct};
 ghost use Rattle.column_ranges.specs.RangeSentences.{rangesOf, Ended, Spread};
-
-// Of each verdict: does some rising choice give it?
-pub struct Flags {
-    pub none: bool,
-    pub one: bool,
-    pub two: bool,
-}
 
 // A column that was tried: can nothing new come of it? If it can, up to which token the words are right.
 struct Tried {
@@ -148,43 +144,6 @@ fn idle(words: &[u64], n: usize, f: Flags) -> bool
     false
 }
 
-// The verdict that the pair of the whole word tells.
-fn verdict(words: &[u64], n: usize) -> Verdict
-    requires { ⌜ (n ≤ 64) × (2 * pairs n ≤ length (now words)) ⌝ }
-    ensures { λ r. ⌜ Reads (now (words .entry)) n r ⌝ }
-{
-    if !in_first(words, n, 0, n, 0) {
-        return Verdict::None;
-    }
-    if in_second(words, n, 0, n, 0) {
-        return Verdict::Two;
-    }
-    Verdict::One
-}
-
-// The flags with a verdict besides.
-fn with_verdict(f: Flags, v: Verdict) -> Flags
-    ensures { λ r. ⌜ With f v r ⌝ }
-{
-    match v {
-        Verdict::None => Flags {
-            none: true,
-            one: f.one,
-            two: f.two,
-        },
-        Verdict::One => Flags {
-            none: f.none,
-            one: true,
-            two: f.two,
-        },
-        Verdict::Two => Flags {
-            none: f.none,
-            one: f.one,
-            two: true,
-        },
-    }
-}
-
 // Try the column of the token at i. The words are filled anew only where the next token has several columns, or there is none.
 fn shut(
     codes: &[u64],
@@ -219,7 +178,26 @@ fn shut(
     Tried { out, right: known }
 }
 
-// The verdicts of all choices that begin with the first i tokens, besides those found before.
+// How many choices the tokens from i on have; 0 where those behind the first of them have 256 or more, or all more than 65,536.
+fn few(r: RangeSentence, i: usize) -> usize
+    requires { ⌜ Spread r × (i ≤ r .count) ⌝ }
+    ensures { λ m. ⌜ Few (rangesOf r) i m ⌝ }
+{
+    let mut m: usize = 1;
+    let mut k = r.count;
+    while i < k {
+        if 255 < m {
+            return 0;
+        }
+        k -= 1;
+        let t = r.tokens[k];
+        m = m * columns(t);
+    }
+    if 65536 < m { 0 } else { m }
+}
+
+// The verdicts of all choices that begin with the first i tokens, besides those found before. Few choices are tried in lanes; else
+// the token at i goes through its columns.
 fn search(
     codes: &[u64],
     r: RangeSentence,
@@ -227,18 +205,20 @@ fn search(
     right: usize,
     i: usize,
     words: &mut [u64],
+    grid: &mut [u16],
     f: Flags,
 ) -> Flags
     requires { ⌜ Spread r ⌝ }
     requires { ⌜ Distinct (decoded (now codes)) ⌝ }
     requires { ⌜ 2 * pairs (r .count) ≤ length (now words) ⌝ }
+    requires { ⌜ Gridded (decoded (now codes)) (rangesOf r) (r .count) (now grid) ⌝ }
     requires { ⌜ Poised (decoded (now codes)) (rangesOf r) (r .count) right i (take (r .count) tokens) (now words) ⌝ }
-    ensures { λ a. ⌜ Searched (decoded (now (codes .entry))) (rangesOf r) (r .count) right i (take (r .count) tokens) f (now (words .entry)) (now (words .exit)) a ⌝ }
+    ensures { λ a. ⌜ Searched (decoded (now (codes .entry))) (rangesOf r) (r .count) right i (take (r .count) tokens) f
+        (now (words .entry)) (now (words .exit)) (now (grid .entry)) (now (grid .exit)) a ⌝ }
 {
-    let n = r.count;
-    if i == n {
-        let v = verdict(words, n);
-        return with_verdict(f, v);
+    let all = few(r, i);
+    if 0 < all {
+        return try_rest(codes, r, tokens, i, all, grid, f);
     }
     let t = r.tokens[i];
     let m = columns(t);
@@ -251,7 +231,7 @@ fn search(
             c += 1;
             continue;
         }
-        found = search(codes, r, u, tried.right, i + 1, words, found);
+        found = search(codes, r, u, tried.right, i + 1, words, grid, found);
         c += 1;
     }
     found
@@ -275,12 +255,14 @@ pub fn choose(g: Grammar, r: RangeSentence, words: &mut [u64]) -> Flags
         known: n,
     };
     fill_leaves(words, d, &codes[..k]);
+    let mut grid = [0u16; 266368];
+    spread(words, &mut grid, n);
     let nothing = Flags {
         none: false,
         one: false,
         two: false,
     };
-    let f = search(&codes[..k], r, tokens, 0, 0, words, nothing);
+    let f = search(&codes[..k], r, tokens, 0, 0, words, &mut grid, nothing);
     let m = size(n);
     clear(words, m);
     f

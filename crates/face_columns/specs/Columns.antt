@@ -4,7 +4,7 @@ use mathlib.Core.Bool.{Bool, true, false}
 use mathlib.Core.List.{List, [], _∷_}
 use Prim.Native.Nat.{ℕ}
 use Rattle.face.specs.Face.{packed, AtFront}
-use Rattle.choosing.specs.declared.Flags.{Flags}
+use Rattle.lane_search.specs.declared.Flags.{Flags}
 use Rattle.call_columns.specs.declared.ColumnsReply.{ColumnsReply}
 use Rattle.call_columns.specs.Columns.{ColumnsOf}
 

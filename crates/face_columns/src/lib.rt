@@ -1,8 +1,8 @@
 // The call on columns read off a photograph for C and Rust: numbers and slices alone.
 use call_columns::columns;
-use choosing::Flags;
 use face::pack;
 use face::put_word;
+use lane_search::Flags;
 ghost use mathlib.Core.Path.{_≡_};
 ghost use Rattle.face.specs.Face.{AtFront};
 ghost use Rattle.face_columns.specs.Columns.{flagWord, flagWords, ColumnsWord};

@@ -20,50 +20,39 @@ Inv-loop r u₀ i₀ u i = Lowest r u i
 abbrev μ-loop : tie.MeasureT-loop
 μ-loop r u₀ i₀ u i = r .count - i
 
--- src/lib.rt:92:17
 no-tokens-requires : tie.Need-no-tokens-requires Inv-loop μ-loop
 no-tokens-requires c κs = search needs
 
--- src/lib.rt:94:5
 loop-holds : tie.Need-loop-holds Inv-loop μ-loop
 loop-holds c = lowest-none _ _ (c .no-tokens .ensures)
 
--- src/lib.rt:95:17
 mul-t : tie.Need-mul-t Inv-loop μ-loop
 mul-t c = search needs
 
--- src/lib.rt:95:17
 element-copy-out-t : tie.Need-element-copy-out-t Inv-loop μ-loop
 element-copy-out-t c = omega (arith, c .before .before .before .pre .few, c .loop-test .taken)
 
--- src/lib.rt:96:16
 placed-requires : tie.Need-placed-requires Inv-loop μ-loop
 placed-requires c κs =
     let z = c .before .before .before .before in
     let e = ended-at (z .pre) (c .before .before .loop .i) (c .before .loop-test .taken) in
     (e, omega (arith, e .ordered))
 
--- src/lib.rt:96:9
 mul-u : tie.Need-mul-u Inv-loop μ-loop
 mul-u c = search needs
 
--- src/lib.rt:96:9
 array-set-from-u : tie.Need-array-set-from-u Inv-loop μ-loop
 array-set-from-u c = search needs
 
--- src/lib.rt:97:9
 add-i : tie.Need-add-i Inv-loop μ-loop
 add-i c = search needs
 
--- src/lib.rt:94:5
 loop-less : tie.Need-loop-less Inv-loop μ-loop
 loop-less c = omega (arith, c .before .before .loop-test .taken)
 
--- src/lib.rt:94:5
 loop-again : tie.Need-loop-again Inv-loop μ-loop
 loop-again c = lowest-more (c .before .before .before .before .before .pre) (c .before .before .loop-test .taken) (c .before .before .before .loop .inv) (c .placed .ensures)
 
--- src/lib.rt:88:1
 returns : tie.Need-returns Inv-loop μ-loop
 returns c = lowest-placed (c .before .before .before .pre) (omega (arith, c .loop-test .left)) (c .before .loop .inv)
 

@@ -1,7 +1,8 @@
+-- The first token comes after none; the others are compared.
 use borrow.Author.Needs.{needs}
-use mathlib.Core.Path.{_≡_, sym, subst}
+use mathlib.Core.Path.{sym, subst}
 use mathlib.Core.Bool.{Bool}
-use Prim.Native.Nat.{_-_, _<_}
+use Prim.Native.Nat.{_-_}
 use native.Mathlib.Omega.{arith}
 use Rattle.sets.specs.Says.{Says}
 use Rattle.sets.proofs.Says.{holds, says-iff}
@@ -10,39 +11,28 @@ use Rattle.marks.specs.Half.{tokenAt}
 use Rattle.sheets.proofs.Accepted.{after-says}
 use Rattle.choosing.proofs.rises.Statement.{statement}
 use Rattle.choosing.proofs.rises.Tie as tie
-use Rattle.choosing.proofs.rises.Reads as reads
-use Rattle.choosing.proofs.rises.Lts as lts
-use Rattle.sheets.proofs.comes_after.Reads as comes-after-reads
 
--- src/lib.rt:108:9
 returns : tie.Need-returns
 returns c = holds (λ l. absurd (omega (arith, c .if1 .taken, l)))
 
--- src/lib.rt:110:13
 sub-j : tie.Need-sub-j
 sub-j c = search needs
 
--- src/lib.rt:111:13
 mul-a : tie.Need-mul-a
 mul-a c = search needs
 
--- src/lib.rt:111:13
 array-copy-out-a : tie.Need-array-copy-out-a
 array-copy-out-a c = search needs
 
--- src/lib.rt:112:13
 mul-b : tie.Need-mul-b
 mul-b c = search needs
 
--- src/lib.rt:112:13
 array-copy-out-b : tie.Need-array-copy-out-b
 array-copy-out-b c = search needs
 
--- src/lib.rt:113:5
 comes-after-requires : tie.Need-comes-after-requires
 comes-after-requires c κs = search needs
 
--- src/lib.rt:103:1
 returns-2 : tie.Need-returns-2
 returns-2 c =
     let z = c .before .before .before .before .args in

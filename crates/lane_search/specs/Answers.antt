@@ -5,7 +5,7 @@ use Rattle.grammar.specs.Trees.{Rules}
 use Rattle.chart.specs.declared.Verdict.{Verdict}
 use Rattle.chart.specs.declared.Verdict.the-variants as Verdict
 use Rattle.column_ranges.specs.Ranges.{Ranges, SomeChoiceGives}
-use Rattle.choosing.specs.declared.Flags.{Flags}
+use Rattle.lane_search.specs.declared.Flags.{Flags}
 
 -- the flag of a verdict
 abbrev pub flag : Flags → Verdict → Bool

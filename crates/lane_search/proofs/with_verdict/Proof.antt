@@ -1,31 +1,24 @@
+-- A verdict, a flag.
 use borrow.Author.Needs.{needs}
-use Rattle.choosing.proofs.Choosing.{with-none, with-one, with-two}
-use Rattle.choosing.proofs.with_verdict.Statement.{statement}
-use Rattle.choosing.proofs.with_verdict.Tie as tie
-use Rattle.choosing.proofs.with_verdict.Reads as reads
-use Rattle.choosing.proofs.with_verdict.Lts as lts
+use Rattle.lane_search.proofs.Flagging.{with-none, with-one, with-two}
+use Rattle.lane_search.proofs.with_verdict.Statement.{statement}
+use Rattle.lane_search.proofs.with_verdict.Tie as tie
 
--- src/lib.rt:167:26
 enum-told : tie.Need-enum-told
 enum-told c = search needs
 
--- src/lib.rt:172:25
 enum-told-2 : tie.Need-enum-told-2
 enum-told-2 c = search needs
 
--- src/lib.rt:177:25
 enum-told-3 : tie.Need-enum-told-3
 enum-told-3 c = search needs
 
--- src/lib.rt:163:1
 returns : tie.Need-returns
 returns c = with-none (c .before .before .args .f) (c .before .before .args .v) (c .enum-told .given .1)
 
--- src/lib.rt:163:1
 returns-2 : tie.Need-returns-2
 returns-2 c = with-one (c .before .before .args .f) (c .before .before .args .v) (c .enum-told2 .given .1)
 
--- src/lib.rt:163:1
 returns-3 : tie.Need-returns-3
 returns-3 c = with-two (c .before .before .args .f) (c .before .before .args .v) (c .enum-told3 .given .1)
 

@@ -1,0 +1,5 @@
+pub mod Choices
+pub mod Numbering
+pub mod Flagging
+pub mod Laying
+pub mod Trying

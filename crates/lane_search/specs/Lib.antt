@@ -1,0 +1,4 @@
+pub mod Answers
+pub mod Searching
+pub mod Numbers
+pub mod Batches
