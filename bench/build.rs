@@ -8,7 +8,8 @@ fn main() {
     let bench = std::env::var("CARGO_MANIFEST_DIR").expect("set by cargo");
     let folder = format!("{bench}/../target/staticlib");
     println!("cargo:rustc-link-search=native={folder}");
-    for name in ["face", "face_trees", "face_clauses", "face_tours", "face_shares"] {
+    for name in ["face", "face_trees", "face_clauses", "face_tours", "face_shares", "face_columns"]
+    {
         println!("cargo:rerun-if-changed={folder}/lib{name}.a");
         println!("cargo:rustc-link-lib=static={name}");
     }

@@ -19,6 +19,10 @@ mod c;
 #[path = "../../rust/src/c_clauses.rs"]
 mod c_clauses;
 
+#[cfg(feature = "library")]
+#[path = "../../rust/src/c_columns.rs"]
+mod c_columns;
+
 // How many words of `found` a share is lent; the Rust crate says it in its module of this name.
 #[cfg(feature = "library")]
 mod sentence {

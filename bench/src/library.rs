@@ -42,6 +42,7 @@ pub use linked::{sweep, verdict};
 pub use crate::{
     c::trees,
     c_clauses::{expand, verdict as clause_verdict},
+    c_columns::columns,
     c_shares::share,
     c_tours::{change, show},
     c_trees::{places, rows},

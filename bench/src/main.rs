@@ -1,7 +1,9 @@
 //! Prints the tables of the benchmark: `bench [LETTERS] [SECONDS]`. The letters
-//! choose among the tables a to h; the seconds bound the search of table e.
+//! choose among the tables a to j; the seconds bound the search of table e.
 
 mod calls;
+#[cfg(feature = "library")]
+mod columns;
 #[cfg(feature = "library")]
 mod expansions;
 mod growth;
@@ -17,7 +19,7 @@ mod worst;
 const SEARCH_SECONDS: f64 = 90.0;
 
 fn main() {
-    let mut letters = "abcdefghi".to_string();
+    let mut letters = "abcdefghij".to_string();
     let mut seconds = SEARCH_SECONDS;
     for argument in std::env::args().skip(1) {
         match argument.parse() {
@@ -46,8 +48,10 @@ fn main() {
             'h' => expansions::clause_sheets(),
             #[cfg(feature = "library")]
             'i' => shares::shares(),
+            #[cfg(feature = "library")]
+            'j' => columns::columns(),
             #[cfg(not(feature = "library"))]
-            'f' | 'h' | 'i' => println!("({letter}) The library is not linked.\n"),
+            'f' | 'h' | 'i' | 'j' => println!("({letter}) The library is not linked.\n"),
             _ => eprintln!("no table {letter}"),
         }
     }

@@ -1,6 +1,7 @@
 //! The twin: the library's two measured calls in plain Rust, by the same algorithm.
 
 pub mod chart;
+pub mod columns;
 pub mod grammar;
 pub mod order;
 pub mod sheets;
