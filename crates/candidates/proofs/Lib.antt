@@ -2,11 +2,6 @@ pub mod CellOrder
 pub mod ListOrder
 pub mod Windows
 pub mod Spelling
-pub mod Places
-pub mod Lowering
-pub mod Narrowing
-pub mod Gaps
-pub mod Columns
 pub mod TerminalSets
 pub mod Counting
 pub mod Limit

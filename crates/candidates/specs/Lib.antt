@@ -3,4 +3,3 @@ pub mod Arrays
 pub mod Succession
 pub mod Windows
 pub mod Spelling
-pub mod Skips

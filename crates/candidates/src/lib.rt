@@ -10,7 +10,6 @@ use grammar::Width;
 use sets::Member;
 use sets::first_from;
 ghost use mathlib.Core.Path.{_≡_};
-ghost use mathlib.Core.Bool.{true};
 ghost use Prim.Native.Nat.{_≤_, _<_};
 ghost use Rattle.sets.specs.Says.{Says};
 ghost use Rattle.grammar.specs.Content.{rules, Formed, SmallClause};
@@ -21,7 +20,6 @@ ghost use Rattle.candidates.specs.Arrays.{cellAt, cells};
 ghost use Rattle.candidates.specs.Succession.{First, Succeeds};
 ghost use Rattle.candidates.specs.Windows.{Fits, LeastSpot, Room, Advances, largestStep, columnBefore, Changed, Lowered, Filled, Raises};
 ghost use Rattle.candidates.specs.Spelling.{LowSteps, Spells};
-ghost use Rattle.candidates.specs.Skips.{Stale, used, missing, Widest};
 
 // A line step and a column.
 struct Spot {
@@ -265,72 +263,6 @@ impl Candidate {
             tokens: tokens,
             count: n,
         }
-    }
-
-    // The greatest column of the first b cells.
-    fn widest(self, b: usize) -> u16
-        requires { ⌜ (1 ≤ b) × (b ≤ 7) ⌝ }
-        ensures { λ r. ⌜ Widest (self .columns) b r ⌝ }
-    {
-        let mut w = self.columns[0];
-        let mut i: usize = 1;
-        while i < b {
-            let k = self.columns[i];
-            if w < k {
-                w = k;
-                i += 1;
-                continue;
-            }
-            i += 1;
-        }
-        w
-    }
-
-    // Is one of the first b cells in column j?
-    pub fn uses(self, b: usize, j: u16) -> bool
-        requires { ⌜ b ≤ 7 ⌝ }
-        ensures { λ r. ⌜ r ≡ used j (cells self 0 b) ⌝ }
-    {
-        let mut i: usize = 0;
-        while i < b {
-            if self.columns[i] == j {
-                return true;
-            }
-            i += 1;
-        }
-        false
-    }
-
-    // How many of the columns 1 to m the first b cells leave out.
-    fn gaps(self, b: usize, m: u16) -> usize
-        requires { ⌜ b ≤ 7 ⌝ }
-        ensures { λ r. ⌜ r ≡ missing m (cells self 0 b) ⌝ }
-    {
-        let mut g: usize = 0;
-        let mut j: u16 = 0;
-        while j < m {
-            j += 1;
-            if !self.uses(b, j) {
-                g += 1;
-            }
-        }
-        g
-    }
-
-    // Does each candidate that shares the first b cells do no better than an earlier one? So it is where a step of two lines could be one,
-    // and where the columns leave out more than the cells to come can fill.
-    pub fn stale(self, n: usize, b: usize) -> bool
-        requires { ⌜ (b ≤ n) × (n ≤ 7) ⌝ }
-        ensures { λ r. ⌜ (r ≡ true → Stale n b (cells self 0 n)) ⌝ }
-    {
-        if b == 0 {
-            return false;
-        }
-        if self.steps[b - 1] == Self::LARGEST_STEP {
-            return true;
-        }
-        let w = self.widest(b);
-        n - b < self.gaps(b, w)
     }
 }
 

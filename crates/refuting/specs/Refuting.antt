@@ -10,7 +10,6 @@ use Rattle.grammar.specs.Trees.{Rules, TwoTrees}
 use Rattle.grammar.specs.Candidates.{Candidate, sentence}
 use Rattle.candidates.specs.Terminals.{Among}
 use Rattle.candidates.specs.Succession.{Shares}
-use Rattle.candidates.specs.Skips.{TwoBefore}
 use Rattle.twins.specs.Twins.{Twin}
 use Rattle.spans.specs.Changes.{Past}
 use Rattle.grammar.specs.SpanSheet.{pairs}
@@ -29,11 +28,6 @@ terminalAt cs i = getD cs i no-cell .terminal
 -- ds has cs's terminals from j on
 pub record Spelt (n j : ℕ) (ds cs : List Cell) : Type 0 where
   pub same : (i : ℕ) → j ≤ i → i < n → terminalAt ds i ≡ terminalAt cs i
-
--- no candidate that shares cs's first b cells, and has its terminals from j on, is the first with two trees:
--- if it has two, one before it has
-pub record Refuted (g : Rules) (s n b j : ℕ) (cs : List Cell) : Type 0 where
-  pub earlier : (ds : List Cell) → Candidate (Among s) n ds → Shares b ds cs → Spelt n j ds cs → TwoTrees g 0 (sentence ds) → TwoBefore g s n ds
 
 -- each candidate that shares cs's first b cells, and has its terminals from j on, has a twin that shares its first h cells, if
 -- it has two trees

@@ -29,9 +29,9 @@ ghost use Rattle.marks.specs.Drafts.{drafted};
 ghost use Rattle.candidates.specs.Arrays.{cells};
 ghost use Rattle.candidates.specs.Spelling.{LowSteps};
 ghost use Rattle.chart.specs.Leaves.{EmptyPair};
-ghost use Rattle.twins.specs.Twins.{Renames};
+ghost use Rattle.twins.specs.Twins.{Renames, Replaceable};
 ghost use Rattle.refuting.specs.Tables.{Small, Slot, Laid, United, Gathered, Tabled};
-ghost use Rattle.refuting.specs.Refuting.{Standing, Moved, Rises, terminalAt, Turned, Loose, Poised, PositionTried, Ended, Spent, Struck, Done, Refuted, Twinned};
+ghost use Rattle.refuting.specs.Refuting.{Standing, Moved, Rises, terminalAt, Turned, Loose, Poised, PositionTried, Ended, Spent, Struck, Done};
 ghost use Rattle.grammar.specs.Distinct.{Distinct};
 
 // The candidate's sentence of n tokens, of which the first `known` count.
@@ -305,7 +305,7 @@ pub fn twinned(
     requires { ⌜ Distinct (decoded (now codes)) ⌝ }
     requires { ⌜ 2 * pairs n ≤ length (now words) ⌝ }
     requires { ⌜ Tabled (decoded (now codes)) set (now table) ⌝ }
-    ensures { λ r. ⌜ (r ≡ true → Twinned (decoded (now (codes .entry))) set n h b n (cells c 0 n)) × Past (2 * pairs n) (now (words .entry)) (now (words .exit)) ⌝ }
+    ensures { λ r. ⌜ (r ≡ true → Replaceable (decoded (now (codes .entry))) set n b h (cells c 0 n)) × Past (2 * pairs n) (now (words .entry)) (now (words .exit)) ⌝ }
 {
     begin(codes, set, table, c, n, b, words);
     !terms(codes, set, kept, table, c, n, b, h, n, words)
@@ -325,7 +325,7 @@ pub fn refutes(
     requires { ⌜ Distinct (decoded (now codes)) ⌝ }
     requires { ⌜ 2 * pairs n ≤ length (now words) ⌝ }
     requires { ⌜ Tabled (decoded (now codes)) set (now table) ⌝ }
-    ensures { λ r. ⌜ (r ≡ true → Refuted (decoded (now (codes .entry))) set n b n (cells c 0 n)) × Past (2 * pairs n) (now (words .entry)) (now (words .exit)) ⌝ }
+    ensures { λ r. ⌜ (r ≡ true → Replaceable (decoded (now (codes .entry))) set n b 0 (cells c 0 n)) × Past (2 * pairs n) (now (words .entry)) (now (words .exit)) ⌝ }
 {
     twinned(codes, set, set, table, c, n, b, 0, words)
 }

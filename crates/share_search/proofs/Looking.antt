@@ -2,10 +2,9 @@
 use mathlib.Core.Path.{_≡_, refl, sym, ap, _∙_, subst}
 use mathlib.Core.Bool.{Bool, true, false, not}
 use mathlib.Core.List.{List}
-use Prim.Native.Nat.{ℕ, _+_, _-_, _*_, _^_, _≤_, _<_}
+use Prim.Native.Nat.{ℕ, _+_, _-_, _^_, _≤_, _<_}
 use borrow.Author.Tests.{not-true, not-false}
 use native.Mathlib.Omega.{arith}
-use lib.ListN.{length, take}
 use lib.Seq.{take-all}
 use Rattle.sets.specs.Says.{Says}
 use Rattle.sets.proofs.Says.{true-not-false}
@@ -16,18 +15,9 @@ use Rattle.candidates.specs.Terminals.{Among}
 use Rattle.candidates.specs.Succession.{Shares, First, Follows}
 use Rattle.candidates.proofs.Measure.{left, left-falls}
 use Rattle.numbers.specs.Blocks.{numberIn, room, least}
-use Rattle.twins.specs.Twins.{Replaceable, Renames, Passable}
-use Rattle.refuting.specs.Refuting.{Twinned}
-use Rattle.share_search.specs.Searching.{Meets, Barren, NoneBefore, Looked, ShareTurn, Searched, hit, miss}
+use Rattle.twins.specs.Twins.{Replaceable}
+use Rattle.share_search.specs.Searching.{Looked, ShareTurn, Searched, hit}
 use Rattle.share_search.proofs.Turns.{begin, onward, whole, first-meets, barren-early, barren-twin}
-
--- ---- twins
-
-pub outdone-passable : {g : Rules} {s kept n b h : ℕ} {cs : List Cell} → Renames g s kept → Passable s kept n b h cs → Replaceable g s n b h cs
-outdone-passable {g} r p = p .replaceable g r
-
-pub outdone-twinned : {g : Rules} {s n b h : ℕ} {cs : List Cell} → Twinned g s n h b n cs → Replaceable g s n b h cs
-outdone-twinned t = record { twin = λ ds c sh two. t .twin ds c sh (record { same = λ i l u. absurd (omega arith) }) two }
 
 -- ---- a look
 

@@ -1,12 +1,12 @@
 -- What a look tells, and where the search stands after it.
-use mathlib.Core.Path.{_≡_, refl, sym, ap, _∙_, subst}
-use mathlib.Core.Bool.{Bool, true, false, not}
+use mathlib.Core.Path.{_≡_, refl, sym, _∙_, subst}
+use mathlib.Core.Bool.{Bool, true, not}
 use mathlib.Core.List.{List}
 use Prim.Native.Nat.{ℕ, _+_, _-_, _*_, _≤_, _<_}
 use borrow.Author.Tests.{not-true, not-false}
 use native.Mathlib.Nat.{mul-le-mul}
 use native.Mathlib.Omega.{arith}
-use lib.ListN.{length, take}
+use lib.ListN.{length}
 use lib.Seq.{take-all}
 use Rattle.sets.specs.Says.{Says}
 use Rattle.sets.proofs.Says.{true-not-false}
@@ -19,27 +19,24 @@ use Rattle.spans.proofs.Places.{pairs-closed}
 use Rattle.spans.proofs.ChangeLaws.{past-more}
 use Rattle.candidates.specs.Terminals.{Among}
 use Rattle.candidates.specs.Succession.{Shares, First, Follows}
-use Rattle.candidates.specs.Skips.{Stale}
 use Rattle.candidates.proofs.Measure.{left, left-falls}
-use Rattle.refuting.specs.Refuting.{Refuted}
-use Rattle.refuting.proofs.RefutingLaws.{none-in-block}
+use Rattle.twins.specs.Twins.{Replaceable, Slack}
+use Rattle.twins.proofs.Blocks.{none-in-block}
 use Rattle.sweeping.specs.Searching.{NoneBefore, Barren, Looked, SweepTurn}
 use Rattle.sweeping.proofs.Turns.{begin, onward}
 
 module _ {g : Rules} {s n b : ℕ} {cs : List Cell} where
+  -- each has an earlier one, and none before the block has two trees
+  twins-barren : n ≤ 7 → Replaceable g s n b 0 cs → NoneBefore g s n cs → Barren g s n b cs
+  twins-barren few r q = record { none = none-in-block few (q .candidate) (q .none) r }
+
   -- what reads like something earlier needs no look at a chart
-  pub looked-stale : Stale n b cs → Looked true g s n b cs
-  looked-stale st = record {
-    barren = λ e q. record { none = λ ds c sh t. let x = st .earlier g s ds cs c sh refl t in q .none (x .cells) (x .candidate) (x .before) (x .two) };
-    two = λ e. absurd (true-not-false e);
-  }
+  pub looked-slack : n ≤ 7 → Slack n b 0 cs → Looked true g s n b cs
+  looked-slack few sl = record { barren = λ e. twins-barren few (sl .replaceable g s); two = λ e. absurd (true-not-false e) }
 
   -- some cells are open
-  pub looked-refuted : {out : Bool} → n ≤ 7 → (b ≡ n → ⊥) → (out ≡ true → Refuted g s n b n cs) → Looked out g s n b cs
-  looked-refuted few far r = record {
-    barren = λ e q. record { none = none-in-block few (q .candidate) (q .none) (r e) };
-    two = λ e h. absurd (far h);
-  }
+  pub looked-refuted : {out : Bool} → n ≤ 7 → (b ≡ n → ⊥) → (out ≡ true → Replaceable g s n b 0 cs) → Looked out g s n b cs
+  looked-refuted few far r = record { barren = λ e. twins-barren few (r e); two = λ e h. absurd (far h) }
 
   -- none is: what shares all cells is the candidate itself
   pub looked-whole : {two : Bool} → b ≡ n → Says two (TwoTrees g 0 (sentence cs)) → Looked (not two) g s n b cs

@@ -16,6 +16,7 @@ use sets::has;
 use spans::clear;
 use spans::size;
 use tally::tried;
+use twins::slack;
 ghost use mathlib.Core.Path.{_≡_};
 ghost use Prim.Native.Nat.{_*_, _≤_};
 ghost use lib.ListN.{length};
@@ -54,7 +55,7 @@ fn look(
     requires { ⌜ Tabled (decoded (now codes)) set (now table) ⌝ }
     ensures { λ r. ⌜ Looked r (decoded (now (codes .entry))) set n b (cells c 0 n) × Past (2 * pairs n) (now (words .entry)) (now (words .exit)) ⌝ }
 {
-    if c.stale(n, b) {
+    if 0 < b && slack(c, n, b, 0) {
         return true;
     }
     if b == n {

@@ -1,19 +1,18 @@
 -- The three rules, as the code has them.
-use mathlib.Core.Path.{_≡_, refl, sym, _∙_, ap, subst}
+use mathlib.Core.Path.{_≡_, sym, _∙_, ap, subst}
 use mathlib.Core.Bool.{false}
 use mathlib.Core.List.{List}
 use Prim.Native.Nat.{ℕ, _-_, _≤_, _<_}
 use native.Mathlib.Omega.{arith}
-use lib.ListN.{take}
 use Rattle.sets.specs.Sets.{In}
 use Rattle.grammar.specs.declared.Cell.{Cell}
 use Rattle.grammar.specs.Candidates as Of
 use Rattle.candidates.specs.declared.Candidate.{Candidate}
 use Rattle.candidates.specs.Terminals.{Among}
 use Rattle.candidates.specs.Arrays.{cellAt, cells}
-use Rattle.candidates.proofs.Places.{at-cells}
 use Rattle.candidates.proofs.Windows.{take-cells, fits-here}
 use Rattle.twins.specs.Twins.{lacking, Slack, Passable}
+use Rattle.twins.proofs.Places.{at-cells}
 use Rattle.twins.proofs.Lowered.{step-replaceable}
 use Rattle.twins.proofs.Renamed.{terminal-replaceable}
 use Rattle.twins.proofs.Lacking.{gap-replaceable}

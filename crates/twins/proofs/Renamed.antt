@@ -2,28 +2,25 @@
 use mathlib.Core.Path.{_≡_, refl, sym, _∙_, ap, ap₂, subst}
 use mathlib.Core.Bool.{Bool, true, false, cond, _&&_}
 use mathlib.Core.List.{List, [], _∷_, map}
-use mathlib.Core.Logic.{_⊎_, inl, inr, ⊎-elim, _↔_}
+use mathlib.Core.Logic.{inl, inr, _↔_}
 use Prim.Native.Nat.{ℕ, zero, suc, _+_, _≤_, _<_}
 use native.Mathlib.Omega.{arith}
 use native.Mathlib.Decide.{ℕ-discrete}
 use lib.Dec.{eqb}
 use lib.ListN.{length, take}
-use borrow.Author.Tests.{eqb-true, eqb-false}
+use borrow.Author.Tests.{eqb-true, eq-eqb}
 use Rattle.grammar.specs.declared.Token.{Token}
 use Rattle.grammar.specs.declared.Cell.{Cell}
 use Rattle.grammar.specs.Layout.{Word, line, col, width, Every}
 use Rattle.grammar.specs.Trees.{Rules, TwoTrees, HasAtom}
 use Rattle.grammar.specs.Candidates.{After, RisingFrom, Rising, token, placed, sentence, Candidate, CellsBefore}
-use Rattle.grammar.proofs.SweepLaws.{cell-path}
 use Rattle.grammar.proofs.Transfer.{Alike, two-keeps}
 use Rattle.candidates.specs.Terminals.{Among}
-use Rattle.candidates.specs.Succession.{Shares}
 use Rattle.candidates.specs.Windows.{Fit}
-use Rattle.candidates.proofs.Places.{at-shared}
-use Rattle.candidates.proofs.Gaps.{eqb-is, eqb-isnt}
 use Rattle.candidates.proofs.ListOrder.{fit-candidate, candidate-fit}
 use Rattle.dominance.specs.Dominance.{Replaces, Spared}
 use Rattle.twins.specs.Twins.{Twin, Replaceable, TerminalAt, Renames}
+use Rattle.twins.proofs.Places.{at-shared}
 use Rattle.twins.proofs.Lowered.{twin-less}
 
 -- ---- tokens that come after one another
@@ -63,7 +60,7 @@ module _ (u : Token) (y : ℕ) where
 
   at-itself : rename u ≡ record { terminal = y; line = u .line; column = u .column; width = u .width }
   unfolding same
-  at-itself = rw (eqb-is (line u) (line u) refl, eqb-is (col u) (col u) refl, eqb-is (u .terminal) (u .terminal) refl)
+  at-itself = rw (eq-eqb (line u) (line u) refl, eq-eqb (col u) (col u) refl, eq-eqb (u .terminal) (u .terminal) refl)
 
   after-apart : (t : Token) → 1 ≤ width t → After t u → rename t ≡ t
   after-apart t k (inl h) = apart t (λ e f. omega arith)

@@ -1,5 +1,5 @@
 -- A column that no token is in can be filled from above: the tokens of the columns past it, up to some column, go one column back, and each mark that held holds.
-use mathlib.Core.Path.{_≡_, refl, sym, _∙_, ap, ap₂, subst}
+use mathlib.Core.Path.{_≡_, refl, _∙_, ap, ap₂, subst}
 use mathlib.Core.List.{List, [], _∷_, map}
 use mathlib.Core.Logic.{_⊎_, inl, inr, ⊎-elim}
 use Prim.Native.Nat.{ℕ, zero, suc, _+_, _-_, _≤_, _<_, min}
@@ -14,12 +14,14 @@ use Rattle.grammar.specs.Candidates.{placed, sentence, Candidate, CellsBefore}
 use Rattle.grammar.proofs.SweepLaws.{cell-path}
 use Rattle.grammar.proofs.Transfer.{Alike, same-atoms, two-keeps}
 use Rattle.candidates.specs.Terminals.{Among}
-use Rattle.candidates.specs.Succession.{Shares}
 use Rattle.candidates.specs.Windows.{Fit}
-use Rattle.candidates.proofs.Places.{At}
-use Rattle.candidates.proofs.Narrowing.{Free}
 use Rattle.candidates.proofs.ListOrder.{fit-candidate, candidate-fit}
-use Rattle.twins.specs.Twins.{Twin}
+use Rattle.twins.specs.Twins.{At, Twin}
+
+-- no cell is in column k
+abbrev pub Free : ℕ → List Cell → Type 0
+Free k [] = Unit {0}
+Free k (c ∷ cs) = (c .column ≡ k → ⊥) × Free k cs
 
 -- the columns past k, up to d, one back
 abbrev back : ℕ → ℕ → ℕ → ℕ

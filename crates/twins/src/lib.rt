@@ -1,5 +1,5 @@
-// Candidates that may be passed over though the search does not begin with the first: each has an earlier one that reads
-// alike and keeps its first cells.
+// Candidates that may be passed over: each has an earlier one that reads alike and keeps its first h cells. A sweep, which
+// begins with the first candidate, keeps none; a share keeps those that hold the earlier one inside it.
 use candidates::Candidate;
 use sets::has;
 ghost use mathlib.Core.Path.{_≡_};
@@ -8,7 +8,22 @@ ghost use Prim.Native.Nat.{_≤_, _<_};
 ghost use Rattle.grammar.specs.Candidates as Of;
 ghost use Rattle.candidates.specs.Terminals.{Among};
 ghost use Rattle.candidates.specs.Arrays.{cells};
-ghost use Rattle.twins.specs.Twins.{lacking, Slack, Passable};
+ghost use Rattle.twins.specs.Twins.{used, lacking, Slack, Passable};
+
+// Is one of the first b cells in column j?
+fn uses(c: Candidate, b: usize, j: u16) -> bool
+    requires { ⌜ b ≤ 7 ⌝ }
+    ensures { λ r. ⌜ r ≡ used j (cells c 0 b) ⌝ }
+{
+    let mut i: usize = 0;
+    while i < b {
+        if c.columns[i] == j {
+            return true;
+        }
+        i += 1;
+    }
+    false
+}
 
 // How many columns the first b cells leave out right below one of theirs that none of the first h cells is in.
 fn lacks(c: Candidate, n: usize, b: usize, h: usize) -> usize
@@ -19,8 +34,8 @@ fn lacks(c: Candidate, n: usize, b: usize, h: usize) -> usize
     let mut v: usize = 0;
     let mut j: u16 = n as u16;
     while 0 < j {
-        if c.uses(b, j) {
-            w = !c.uses(h, j);
+        if uses(c, b, j) {
+            w = !uses(c, h, j);
             j -= 1;
             continue;
         }

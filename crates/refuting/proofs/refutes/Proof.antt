@@ -1,7 +1,7 @@
 -- No cell is held, and all terminals are kept.
 use borrow.Author.Needs.{needs}
 use native.Mathlib.Omega.{arith}
-use Rattle.refuting.proofs.RefutingLaws.{refuted-twins, renames-all}
+use Rattle.refuting.proofs.RefutingLaws.{renames-all}
 use Rattle.refuting.proofs.refutes.Statement.{statement}
 use Rattle.refuting.proofs.refutes.Tie as tie
 
@@ -14,7 +14,7 @@ same-length : tie.Need-same-length
 same-length c = search needs
 
 returns : tie.Need-returns
-returns c = let q = c .before .before .twinned .ensures in (λ e. refuted-twins (q .0 e), q .1)
+returns c = c .before .before .twinned .ensures
 
 pub refutes-spec : {M : Type 1} → statement M
 refutes-spec = tie.close (tie.spec twinned-requires same-length returns)

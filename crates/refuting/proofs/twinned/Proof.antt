@@ -4,6 +4,7 @@ use borrow.Author.Tests.{not-true}
 use native.Mathlib.Omega.{arith}
 use Rattle.spans.proofs.ChangeLaws.{past-then}
 use Rattle.candidates.proofs.Spelling.{low-steps}
+use Rattle.refuting.proofs.RefutingLaws.{twinned-all}
 use Rattle.refuting.proofs.twinned.Statement.{statement}
 use Rattle.refuting.proofs.twinned.Tie as tie
 
@@ -22,7 +23,7 @@ same-length c = search needs
 returns : tie.Need-returns
 returns c =
     let q = c .before .before .terms .ensures in
-    (λ e. q .out (not-true _ e), past-then (c .before .before .before .before .before .before .begin .ensures .1) (q .past))
+    (λ e. twinned-all (q .out (not-true _ e)), past-then (c .before .before .before .before .before .before .begin .ensures .1) (q .past))
 
 pub twinned-spec : {M : Type 1} → statement M
 twinned-spec = tie.close (tie.spec begin-requires terms-requires same-length returns)

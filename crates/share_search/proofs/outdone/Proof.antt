@@ -1,7 +1,6 @@
 -- By a cell that is no better than an earlier one, or by the refutation of the block.
 use borrow.Author.Needs.{needs}
 use Rattle.spans.proofs.ChangeLaws.{past-same}
-use Rattle.share_search.proofs.Looking.{outdone-passable, outdone-twinned}
 use Rattle.share_search.proofs.outdone.Statement.{statement}
 use Rattle.share_search.proofs.outdone.Tie as tie
 
@@ -11,7 +10,7 @@ passable-requires c κs = let z = c .before .before .before in ((z .pre .0 .1, z
 returns : tie.Need-returns
 returns c =
     let z = c .before .before .before .before .before in
-    (λ e. outdone-passable (z .pre .0 .4) (c .before .passable .ensures (c .if1 .taken)), past-same _ _)
+    (λ e. c .before .passable .ensures (c .if1 .taken) .replaceable _ (z .pre .0 .4), past-same _ _)
 
 twinned-requires : tie.Need-twinned-requires
 twinned-requires c κs = search needs
@@ -20,7 +19,7 @@ same-length : tie.Need-same-length
 same-length c = search needs
 
 returns-2 : tie.Need-returns-2
-returns-2 c = let q = c .before .before .twinned .ensures in (λ e. outdone-twinned (q .0 e), q .1)
+returns-2 c = c .before .before .twinned .ensures
 
 pub outdone-spec : {M : Type 1} → statement M
 outdone-spec = tie.close (tie.spec passable-requires returns twinned-requires same-length returns-2)

@@ -2,19 +2,21 @@
 use borrow.Author.Needs.{needs}
 use native.Mathlib.Omega.{arith}
 use Rattle.spans.proofs.ChangeLaws.{past-same}
-use Rattle.sweeping.proofs.Looking.{looked-stale, looked-refuted, looked-whole}
+use Rattle.sweeping.proofs.Looking.{looked-slack, looked-refuted, looked-whole}
 use Rattle.sweeping.proofs.look.Statement.{statement}
 use Rattle.sweeping.proofs.look.Tie as tie
 
-stale-requires : tie.Need-stale-requires
-stale-requires c κs = search needs
+slack-requires : tie.Need-slack-requires
+slack-requires c κs = let z = c .before .before .before .before in (omega (arith, c .if1 .taken), z .pre .0 .1, z .pre .0 .0)
 
 returns : tie.Need-returns
-returns c = (looked-stale (c .before .stale .ensures (c .if1 .taken)), past-same _ _)
+returns c =
+    let z = c .before .before .before .before .before .before in
+    (looked-slack (z .pre .0 .0) (c .before .slack .ensures (c .if2 .taken)), past-same _ _)
 
 has-two-requires : tie.Need-has-two-requires
 has-two-requires c κs =
-    let z = c .before .before .before .before .before .before .before in
+    let z = c .before .before .before .before .before .before in
     ((z .pre .0 .0, z .pre .0 .2), z .pre .1)
 
 same-length : tie.Need-same-length
@@ -23,10 +25,10 @@ same-length c = search needs
 returns-2 : tie.Need-returns-2
 returns-2 c =
     let h = c .before .before .has-two .ensures in
-    (looked-whole (c .before .before .before .before .if2 .taken) (h .0), h .1)
+    (looked-whole (c .before .before .before .before .if3 .taken) (h .0), h .1)
 
 refutes-requires : tie.Need-refutes-requires
-refutes-requires c κs = c .before .before .before .before .before .before .before .pre
+refutes-requires c κs = c .before .before .before .before .before .before .pre
 
 same-length-2 : tie.Need-same-length-2
 same-length-2 c = search needs
@@ -34,14 +36,14 @@ same-length-2 c = search needs
 returns-3 : tie.Need-returns-3
 returns-3 c =
     let h = c .before .before .refutes .ensures in
-    let z = c .before .before .before .before .before .before .before .before .before .before in
-    (looked-refuted (z .pre .0 .0) (c .before .before .before .before .if2 .left) (h .0), h .1)
+    let z = c .before .before .before .before .before .before .before .before .before in
+    (looked-refuted (z .pre .0 .0) (c .before .before .before .before .if3 .left) (h .0), h .1)
 
 pub look-spec : {M : Type 1} → statement M
 look-spec =
     tie.close
     (tie.spec
-    stale-requires
+    slack-requires
     returns
     has-two-requires
     same-length

@@ -1,5 +1,4 @@
 -- `twins::passable` meets its contract: a smaller terminal, or other positions.
-use borrow.Author.Needs.{needs}
 use borrow.Author.Tests.{not-true}
 use native.Mathlib.Omega.{arith}
 use Rattle.sets.proofs.Says.{true-not-false}

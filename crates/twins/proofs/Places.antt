@@ -5,15 +5,10 @@ use Prim.Native.Nat.{ℕ, zero, suc, _+_, _<_}
 use native.Mathlib.Omega.{arith}
 use lib.ListN.{length, take}
 use Rattle.grammar.specs.declared.Cell.{Cell}
 use Rattle.candidates.specs.declared.Candidate.{Candidate}
 use Rattle.candidates.specs.Arrays.{cellAt, cells}
 use Rattle.candidates.specs.Succession.{Shares}
-
--- there is a cell at p, and it has P
-abbrev pub At : (Cell → Type 0) → ℕ → List Cell → Type 0
-At P p [] = ⊥
-At P zero (c ∷ cs) = P c
-At P (suc p) (c ∷ cs) = At P p cs
+use Rattle.twins.specs.Twins.{At}
 
 module _ (P : Cell → Type 0) where
   -- what shares the cell at p has P there too

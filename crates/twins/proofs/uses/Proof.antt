@@ -1,20 +1,20 @@
--- `candidates::Candidate::uses` meets its contract. The loop's invariant: the column is used by the first b cells exactly if it is by those from i on.
+-- `twins::uses` meets its contract. The loop's invariant: the column is used by the first b cells exactly if it is by those from i on.
 use borrow.Author.Needs.{needs}
 use native.Mathlib.Omega.{arith}
 use mathlib.Core.Path.{_≡_, sym, _∙_}
 use Prim.Native.Nat.{_-_, _≤_}
 use native.Mathlib.Nat.{sub-zero}
-use Rattle.candidates.specs.Skips.{used}
+use Rattle.twins.specs.Twins.{used}
 use Rattle.candidates.specs.Arrays.{cells}
-use Rattle.candidates.proofs.Columns.{used-here, used-past, used-end}
-use Rattle.candidates.proofs.Candidate.uses.Statement.{statement}
-use Rattle.candidates.proofs.Candidate.uses.Tie as tie
+use Rattle.twins.proofs.Columns.{used-here, used-past, used-end}
+use Rattle.twins.proofs.uses.Statement.{statement}
+use Rattle.twins.proofs.uses.Tie as tie
 
 abbrev Inv-loop : tie.InvT-loop
-Inv-loop b j self i₀ i = (i ≤ b) × (used j (cells self 0 b) ≡ used j (cells self i (b - i)))
+Inv-loop b j c i₀ i = (i ≤ b) × (used j (cells c 0 b) ≡ used j (cells c i (b - i)))
 
 abbrev μ-loop : tie.MeasureT-loop
-μ-loop b j self i₀ i = b - i
+μ-loop b j c i₀ i = b - i
 
 loop-holds : tie.Need-loop-holds Inv-loop μ-loop
 loop-holds c = (omega arith, rw (sub-zero (c .args .b)))
