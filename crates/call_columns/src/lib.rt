@@ -7,10 +7,14 @@ use range_sheets::read_ranges;
 use sheets::Fault;
 use sheets::Outcome;
 use sheets::read_rules;
+use sheets::refused_read;
 use spans::size;
 use teplonga::Answer;
 ghost use mathlib.Core.Path.{_≡_};
 ghost use Rattle.grammar.specs.Content.{rules as rulesOf, Formed};
+ghost use Rattle.sheets.specs.RuleSheets.{ruleSheet};
+ghost use Rattle.sheets.specs.RefusedLines.{heldBy, Hands};
+ghost use Rattle.range_sheets.specs.RangeSheets.{rangeSheet};
 ghost use Rattle.call_columns.specs.Columns.{columnsRefusal, ColumnsOn, ColumnsOf};
 ghost use Rattle.column_ranges.specs.RangeSentences.{rangesOf, Spread};
 
@@ -76,4 +80,16 @@ pub fn columns(rules: &[u8], ranges: &[u8], words: &mut [u64]) -> ColumnsReply
             }
         }
     }
+}
+
+// The refused line of a call with a rule sheet and a range sheet, as a part of the sheet that holds it; with no such line, the
+// rule sheet's first zero bytes.
+pub fn refused_line<'a>(rules: &'a [u8], ranges: &'a [u8]) -> &'a [u8]
+    ensures { λ r. ⌜ Hands (rules .entry) (ranges .entry) r (heldBy (ruleSheet (now (rules .entry))) (rangeSheet (now (ranges .entry)))) ⌝ }
+{
+    let g = read_rules(rules);
+    let t = read_ranges(ranges);
+    let o = g.outcome;
+    let p = t.outcome;
+    refused_read(o, p, rules, ranges)
 }

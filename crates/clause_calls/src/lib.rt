@@ -5,6 +5,7 @@ use lists::give;
 use printing::put_bytes;
 use rule_text::put_rules;
 use sheets::Outcome;
+use sheets::read_tokens;
 use sheets::refused_read;
 use teplonga::Answer;
 use teplonga::ListReply;
@@ -17,6 +18,7 @@ use teplonga::trees_read;
 use teplonga::verdict_read;
 ghost use lib.ListN.{length};
 ghost use Rattle.grammar.specs.Content.{rules as rulesOf, Formed};
+ghost use Rattle.sheets.specs.TokenSheets.{tokenSheet};
 ghost use Rattle.sheets.specs.RefusedLines.{heldBy, Hands};
 ghost use Rattle.teplonga.specs.declared.Answer.the-variants as Answer;
 ghost use Rattle.teplonga.specs.Lists.{ListOn};
@@ -85,9 +87,11 @@ pub fn expand(clauses: &[u8], out: &mut [u8]) -> ListReply
 // The refused line of a call with a clause sheet and a token sheet, as a part of the sheet that holds it;
 // with no such line, the clause sheet's first zero bytes.
 pub fn refused_line<'a>(clauses: &'a [u8], tokens: &'a [u8]) -> &'a [u8]
-    ensures { λ r. ⌜ Hands (clauses .entry) (tokens .entry) r (heldBy (clauseSheet (now (clauses .entry))) (now (tokens .entry))) ⌝ }
+    ensures { λ r. ⌜ Hands (clauses .entry) (tokens .entry) r (heldBy (clauseSheet (now (clauses .entry))) (tokenSheet (now (tokens .entry)))) ⌝ }
 {
     let g = read_clauses(clauses);
+    let t = read_tokens(tokens);
     let o = g.outcome;
-    refused_read(o, clauses, tokens)
+    let p = t.outcome;
+    refused_read(o, p, clauses, tokens)
 }

@@ -8,6 +8,7 @@ use face::pack;
 use face::put_counts;
 use face::put_found;
 use face::put_one;
+ghost use Rattle.sheets.specs.TokenSheets.{tokenSheet};
 ghost use Rattle.sheets.specs.RefusedLines.{heldBy, Hands};
 ghost use Rattle.clause_sheets.specs.ClauseSheets.{clauseSheet};
 ghost use Rattle.clause_calls.specs.Calls.{clauseSheets};
@@ -77,7 +78,7 @@ pub extern "C" fn teplonga_clause_refused_line<'a>(
     tokens: &'a [u8],
     line: &mut &'a [u8],
 )
-    ensures { λ r. ⌜ Hands (clauses .entry) (tokens .entry) (now (line .exit)) (heldBy (clauseSheet (now (clauses .entry))) (now (tokens .entry))) ⌝ }
+    ensures { λ r. ⌜ Hands (clauses .entry) (tokens .entry) (now (line .exit)) (heldBy (clauseSheet (now (clauses .entry))) (tokenSheet (now (tokens .entry)))) ⌝ }
 {
     *line = refused_line(clauses, tokens);
 }

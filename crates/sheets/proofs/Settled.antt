@@ -27,9 +27,9 @@ module _ (rules tokens r s : RefT (List ℕ)) where
   hands-settled (in-tokens n) x y = part-settled (x .part) (y .part)
   hands-settled no-line x y = part-settled x y
 
-  -- whatever the sheet with the rules gives
-  pub held-settled : (given : Reading Rule) → Hands rules tokens r (heldBy given (tokens .now)) → Hands rules tokens s (heldBy given (tokens .now)) → SamePart r s
-  held-settled given = hands-settled (heldBy given (tokens .now))
+  -- whatever the sheets give
+  pub held-settled : {A : Type 0} (given : Reading Rule) (read : Reading A) → Hands rules tokens r (heldBy given read) → Hands rules tokens s (heldBy given read) → SamePart r s
+  held-settled given read = hands-settled (heldBy given read)
 
   pub refused-line-settled : Hands rules tokens r (refusedLine (rules .now) (tokens .now)) → Hands rules tokens s (refusedLine (rules .now) (tokens .now))
       → SamePart r s

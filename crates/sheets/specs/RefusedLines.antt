@@ -5,7 +5,6 @@ use mathlib.Core.List.{List, [], _∷_}
 use lib.ListN.{length, getD}
 use denote.Ref.{RefT}
 use Rattle.grammar.specs.declared.Rule.{Rule}
-use Rattle.grammar.specs.declared.Token.{Token}
 use Rattle.fields.specs.Pieces.{pieces}
 use Rattle.fields.specs.Parts.{Part}
 use Rattle.sheets.specs.Items.{Reading, accepted, refused}
@@ -18,8 +17,8 @@ pub data HeldLine : Type 0 where
   in-tokens : ℕ → HeldLine
   no-line : HeldLine
 
--- a refusal's line counts from 1; line 0 is no line
-abbrev pub ofTokens : Reading Token → HeldLine
+-- what a sheet gives, that with the tokens: a refusal's line counts from 1; line 0 is no line
+abbrev pub ofTokens : {A : Type 0} → Reading A → HeldLine
 ofTokens (accepted w) = no-line
 ofTokens (refused f zero) = no-line
 ofTokens (refused f (suc n)) = in-tokens n
@@ -29,13 +28,13 @@ ofRules (accepted w) tokens = tokens
 ofRules (refused f zero) tokens = no-line
 ofRules (refused f (suc n)) tokens = in-rules n
 
--- the sheet with the rules is read first, and gives this
-abbrev pub heldBy : Reading Rule → List ℕ → HeldLine
-heldBy given tokens = ofRules given (ofTokens (tokenSheet tokens))
+-- the sheet with the rules is read first; they give this
+abbrev pub heldBy : {A : Type 0} → Reading Rule → Reading A → HeldLine
+heldBy rules tokens = ofRules rules (ofTokens tokens)
 
 -- the refused line of a rule sheet and a token sheet
 abbrev pub refusedLine : List ℕ → List ℕ → HeldLine
-refusedLine rules tokens = heldBy (ruleSheet rules) tokens
+refusedLine rules tokens = heldBy (ruleSheet rules) (tokenSheet tokens)
 
 -- where the piece with n pieces before it begins, each with its byte
 abbrev pub pieceStart : List (List ℕ) → ℕ → ℕ

@@ -33,8 +33,8 @@ ghost use Rattle.sheets.specs.Items.{accepted, refused, stepAt, itemsFro
 ghost use Rattle.sheets.specs.RuleSheets.{hasKey, anyOf, isStart, freshStep, ruleSays, finish, rulesFrom, ruleSheet};
 ghost use Rattle.sheets.specs.Following.{after};
 ghost use Rattle.sheets.specs.TokenSheets.{orderStep, tokenSays, tokenStep, tokenSheet};
-ghost use Rattle.sheets.specs.RefusedLines.{LinePart, Hands, heldBy, refusedLine};
-ghost use Rattle.sheets.specs.LinesIn.{LineIn};
+ghost use Rattle.sheets.specs.RefusedLines.{LinePart, Hands, refusedLine};
+ghost use Rattle.sheets.specs.LinesIn.{LineIn, heldOf};
 ghost use Rattle.sheets.specs.Promises.{readingOf, asRuleStep, asTokenStep, Adds, RulesRead, TokensRead};
 ghost use Rattle.fields.specs.Cursors.{piecesFrom, bytesLeft};
 
@@ -447,11 +447,12 @@ fn line_after<'a>(s: &'a [u8], n: usize) -> &'a [u8]
     Cursor::line(s, at).bytes(s)
 }
 
-// The refused line of a call with both sheets, where the one with the rules was read so: as a part of the sheet that holds it;
-// with no such line, the first zero bytes of the sheet with the rules.
-pub fn refused_read<'a>(o: Outcome, rules: &'a [u8], tokens: &'a [u8]) -> &'a [u8]
+// The refused line of a call with two sheets that were read so: as a part of the sheet that holds it; with no such line, the
+// first zero bytes of the sheet with the rules.
+pub fn refused_read<'a>(o: Outcome, p: Outcome, rules: &'a [u8], tokens: &'a [u8]) -> &'a [u8]
     requires { ⌜ LineIn (now rules) o ⌝ }
-    ensures { λ r. ⌜ Hands (rules .entry) (tokens .entry) r (heldBy (readingOf o []) (now (tokens .entry))) ⌝ }
+    requires { ⌜ LineIn (now tokens) p ⌝ }
+    ensures { λ r. ⌜ Hands (rules .entry) (tokens .entry) r (heldOf o p) ⌝ }
 {
     if let Outcome::Refused(_, l) = o {
         if l == 0 {
@@ -459,8 +460,6 @@ pub fn refused_read<'a>(o: Outcome, rules: &'a [u8], tokens: &'a [u8]) -> &'a [u
         }
         return line_after(rules, l - 1);
     }
-    let t = read_tokens(tokens);
-    let p = t.outcome;
     if let Outcome::Refused(_, m) = p {
         if m == 0 {
             return &rules[..0];
@@ -475,6 +474,8 @@ pub fn refused_line<'a>(rules: &'a [u8], tokens: &'a [u8]) -> &'a [u8]
     ensures { λ r. ⌜ Hands (rules .entry) (tokens .entry) r (refusedLine (now (rules .entry)) (now (tokens .entry))) ⌝ }
 {
     let g = read_rules(rules);
+    let t = read_tokens(tokens);
     let o = g.outcome;
-    refused_read(o, rules, tokens)
+    let p = t.outcome;
+    refused_read(o, p, rules, tokens)
 }

@@ -1,9 +1,8 @@
--- `refused_read` meets its contract: by what the readers answer, and a refused line is a line of its sheet.
+-- `refused_read` meets its contract: by the outcomes, and a refused line is a line of its sheet.
 use mathlib.Core.Path.{_≡_, refl}
 use native.Mathlib.Omega.{arith}
+use Rattle.sheets.proofs.Handed.{hands-rules, hands-zero, hands-tokens, hands-tokens-zero, hands-none}
 use borrow.Author.Needs.{needs}
-use Rattle.sheets.proofs.Walks.{token-exists}
-use Rattle.sheets.proofs.Handed.{tokens-answer, hands-rules, hands-zero, hands-tokens, hands-tokens-zero, hands-none}
 use Rattle.sheets.proofs.refused_read.Statement.{statement}
 use Rattle.sheets.proofs.refused_read.Tie as tie
 
@@ -17,7 +16,7 @@ returns : tie.Need-returns
 returns c =
     let o = c .before .before .before in
     let a = o .before .before .before .before .args in
-    hands-zero (a .rules) (a .tokens) _ (o .o .given .1) (c .before .if1 .taken) (record { block = refl; offset = omega arith; holds = refl })
+    hands-zero (a .rules) (a .tokens) _ _ (o .o .given .1) (c .before .if1 .taken) (record { block = refl; offset = omega arith; holds = refl })
 
 sub-line-after : tie.Need-sub-line-after
 sub-line-after c = search needs
@@ -25,21 +24,17 @@ sub-line-after c = search needs
 line-after-requires : tie.Need-line-after-requires
 line-after-requires c κs =
     let o = c .before .before in
-    let s = o .before .before .before .before in
-    let h = rw (o .o .given .1) at (s .pre) in
+    let h = rw (o .o .given .1) at (o .before .before .before .before .pre .0) in
     omega (arith, h, c .if1 .left)
 
 returns-2 : tie.Need-returns-2
 returns-2 c =
     let o = c .before .before .before in
     let a = o .before .before .before .before .args in
-    hands-rules (a .rules) (a .tokens) _ _ (o .o .given .1) (c .before .if1 .left) (c .line-after .ensures)
+    hands-rules (a .rules) (a .tokens) _ _ _ (o .o .given .1) (c .before .if1 .left) (c .line-after .ensures)
 
 enum-told : tie.Need-enum-told
 enum-told c = search needs
-
-read-tokens-requires : tie.Need-read-tokens-requires
-read-tokens-requires c κs = search needs
 
 enum-known-p : tie.Need-enum-known-p
 enum-known-p c = search needs
@@ -50,10 +45,9 @@ slice-aggregate-result-2 c = search needs
 returns-3 : tie.Need-returns-3
 returns-3 c =
     let p = c .before .before .before in
-    let q = p .before .before in
-    let a = q .before .before .before .before .before .args in
-    let e = tokens-answer (q .read-tokens .ensures) (p .p .given .1) in
-    hands-tokens-zero (a .rules) (a .tokens) _ (q .before .enum-told .given .1) e (c .before .if2 .taken) (record { block = refl; offset = omega arith; holds = refl })
+    let t = p .before .before in
+    let a = t .before .before .before .before .args in
+    hands-tokens-zero (a .rules) (a .tokens) _ (t .enum-told .given .1) (p .p .given .1) (c .before .if2 .taken) (record { block = refl; offset = omega arith; holds = refl })
 
 sub-line-after-2 : tie.Need-sub-line-after-2
 sub-line-after-2 c = search needs
@@ -61,18 +55,15 @@ sub-line-after-2 c = search needs
 line-after-requires-2 : tie.Need-line-after-requires-2
 line-after-requires-2 c κs =
     let p = c .before .before in
-    let q = p .before .before in
-    let e = tokens-answer (q .read-tokens .ensures) (p .p .given .1) in
-    let o = p .p .given .0 in
-    omega (arith, token-exists (q .before .before .before .before .before .args .tokens .now) (o .0) (o .1 .0) e, c .if2 .left)
+    let h = rw (p .p .given .1) at (p .before .before .before .before .before .before .pre .1) in
+    omega (arith, h, c .if2 .left)
 
 returns-4 : tie.Need-returns-4
 returns-4 c =
     let p = c .before .before .before in
-    let q = p .before .before in
-    let a = q .before .before .before .before .before .args in
-    let e = tokens-answer (q .read-tokens .ensures) (p .p .given .1) in
-    hands-tokens (a .rules) (a .tokens) _ _ (q .before .enum-told .given .1) e (c .before .if2 .left) (c .line-after2 .ensures)
+    let t = p .before .before in
+    let a = t .before .before .before .before .args in
+    hands-tokens (a .rules) (a .tokens) _ _ (t .enum-told .given .1) (p .p .given .1) (c .before .if2 .left) (c .line-after2 .ensures)
 
 enum-told-2 : tie.Need-enum-told-2
 enum-told-2 c = search needs
@@ -82,10 +73,9 @@ slice-aggregate-result-3 c = search needs
 
 returns-5 : tie.Need-returns-5
 returns-5 c =
-    let q = c .before .before .before in
-    let a = q .before .before .before .before .before .args in
-    let e = tokens-answer (q .read-tokens .ensures) (c .before .enum-told2 .given .1) in
-    hands-none (a .rules) (a .tokens) _ (q .before .enum-told .given .1) e (record { block = refl; offset = omega arith; holds = refl })
+    let t = c .before .before .before in
+    let a = t .before .before .before .before .args in
+    hands-none (a .rules) (a .tokens) _ (t .enum-told .given .1) (c .before .enum-told2 .given .1) (record { block = refl; offset = omega arith; holds = refl })
 
 pub refused-read-spec : {M : Type 1} → statement M
 refused-read-spec =
@@ -98,7 +88,6 @@ refused-read-spec =
     line-after-requires
     returns-2
     enum-told
-    read-tokens-requires
     enum-known-p
     slice-aggregate-result-2
     returns-3
