@@ -37,7 +37,8 @@ pub record Leveling (k x : ℕ) (cols cols′ : List ℕ) (c : ℕ) : Type 0 whe
 pub leveling-none : (k x : ℕ) (cols : List ℕ) → Leveling k x cols cols 0
 leveling-none k x cols = record { size = refl; here = λ d h. absurd (omega arith); rest = λ j d n h. refl }
 
-pub leveling-more : {k x c : ℕ} {cols cols′ : List ℕ} → c < 16 → 16 * k + c < length cols → Leveling k x cols cols′ c → Leveling k x cols (set cols′ (16 * k + c) x) (c + 1)
+pub leveling-more : {k x c : ℕ} {cols cols′ : List ℕ} → c < 16 → 16 * k + c < length cols → Leveling k x cols cols′ c
+    → Leveling k x cols (set cols′ (16 * k + c) x) (c + 1)
 leveling-more {k} {x} {c} {cols} {cols′} few h l = record {
   size = length-set cols′ (16 * k + c) x ∙ l .size;
   here = λ d a. go d a (ℕ-discrete d c);
@@ -144,7 +145,8 @@ module _ {rs : Ranges} {i m b : ℕ} {cols : List ℕ} where
   pub batching-none : Batching rs i m b cols cols 0
   batching-none = record { size = refl; front = λ k d h l. refl; lane = λ d h. absurd (omega arith) }
 
-  pub batching-more : {cols′ cols″ : List ℕ} {c q : ℕ} → c < 16 → InBatch m b c q → Laid rs i q c cols′ cols″ → Batching rs i m b cols cols′ c → Batching rs i m b cols cols″ (c + 1)
+  pub batching-more : {cols′ cols″ : List ℕ} {c q : ℕ} → c < 16 → InBatch m b c q → Laid rs i q c cols′ cols″ → Batching rs i m b cols cols′ c
+      → Batching rs i m b cols cols″ (c + 1)
   batching-more {cols′} {cols″} {c} {q} few n l t = record {
     size = l .size ∙ t .size;
     front = λ k d a e. l .front k d a e ∙ t .front k d a e;

@@ -76,7 +76,8 @@ module _ (n : ℕ) {c p : ℕ} (e : p ≡ pairAt n 0 n) where
   pub lane-two : {b : Bool} (grid : List ℕ) → Says b (In (getD grid (64 * (2 * p + 1)) 0) c) → b ≡ true → ReadsIn grid n c Verdict.Two
   lane-two {b} grid s h = subst (λ (z : ℕ). In (getD grid (64 * (2 * z + 1)) 0) c) e (s .is h)
 
-  pub lane-one : {a b : Bool} (grid : List ℕ) → Says a (In (getD grid (64 * (2 * p)) 0) c) → a ≡ true → Says b (In (getD grid (64 * (2 * p + 1)) 0) c) → b ≡ false → ReadsIn grid n c Verdict.One
+  pub lane-one : {a b : Bool} (grid : List ℕ) → Says a (In (getD grid (64 * (2 * p)) 0) c) → a ≡ true → Says b (In (getD grid (64 * (2 * p + 1)) 0) c)
+      → b ≡ false → ReadsIn grid n c Verdict.One
   lane-one {a} {b} grid s h t k = subst (λ (z : ℕ). In (getD grid (64 * (2 * z)) 0) c × (In (getD grid (64 * (2 * z + 1)) 0) c → ⊥)) e (s .is h, t .isnt k)
 
 -- ---- verdicts, lane by lane
@@ -159,7 +160,8 @@ module _ {rs : Ranges} {n v : ℕ} {cols : List ℕ} (size : length rs ≡ n) (t
   }
 
   -- the lanes that rise are told
-  pub tried-filled : {g : Rules} {grid grid′ : List ℕ} {f r : Flags} → HasChoices rs cols → Charts g rs n cols grid grid′ → Tells grid′ n v 16 f r → BatchTried g rs n cols grid grid′ f r
+  pub tried-filled : {g : Rules} {grid grid′ : List ℕ} {f r : Flags} → HasChoices rs cols → Charts g rs n cols grid grid′ → Tells grid′ n v 16 f r
+      → BatchTried g rs n cols grid grid′ f r
   tried-filled {g} {grid} {grid′} {f} {r} has t s = record {
     size = t .size;
     again = t .again;
@@ -236,7 +238,8 @@ module _ {rs : Ranges} {i m : ℕ} {w : Word} {start : List ℕ} (st : Started r
     pub resting-none : Prepared g rs n grid → Resting g rs n i m w start grid grid f f 0
     resting-none a = record { fronted = st .fronted; size = refl; again = a; grown = grown-none _; finds = λ q l. absurd (omega arith) }
 
-    pub resting-more : {cols cols′ grid′ grid″ : List ℕ} {r s : Flags} {b : ℕ} → Batch rs i m b cols cols′ → BatchTried g rs n cols′ grid′ grid″ r s → Resting g rs n i m w cols grid grid′ f r b
+    pub resting-more : {cols cols′ grid′ grid″ : List ℕ} {r s : Flags} {b : ℕ} → Batch rs i m b cols cols′ → BatchTried g rs n cols′ grid′ grid″ r s
+        → Resting g rs n i m w cols grid grid′ f r b
         → Resting g rs n i m w cols′ grid grid″ f s (b + 1)
     resting-more {cols} {cols′} {grid′} {grid″} {r} {s} {b} t y z = record {
       fronted = fronted-batch (z .fronted) t;
@@ -246,7 +249,8 @@ module _ {rs : Ranges} {i m : ℕ} {w : Word} {start : List ℕ} (st : Started r
       finds = λ q a l x v o. go q a l x v o (decLt q (16 * b));
     }
       where
-        go : (q : ℕ) → q < 16 * (b + 1) → q < m → Rising (beginning rs w i q) → (v : Verdict) → Holds v g 0 (beginning rs w i q) → Dec (q < 16 * b) → flag s v ≡ true
+        go : (q : ℕ) → q < 16 * (b + 1) → q < m → Rising (beginning rs w i q) → (v : Verdict) → Holds v g 0 (beginning rs w i q) → Dec (q < 16 * b)
+            → flag s v ≡ true
         go q a l x v o (yes d) = y .grown .kept v (z .finds q d l x v o)
         go q a l x v o (no d) =
             let few : q - 16 * b < 16 = omega arith in
@@ -269,5 +273,6 @@ module _ {rs : Ranges} {i m : ℕ} {w : Word} {start : List ℕ} (st : Started r
     }
 
     -- nothing new can come
-    pub resting-full : {cols grid′ : List ℕ} {r : Flags} {b : ℕ} → ((v : Verdict) → flag r v ≡ true) → Resting g rs n i m w cols grid grid′ f r b → RestTried g rs n i w grid grid′ f r
+    pub resting-full : {cols grid′ : List ℕ} {r : Flags} {b : ℕ} → ((v : Verdict) → flag r v ≡ true) → Resting g rs n i m w cols grid grid′ f r b
+        → RestTried g rs n i w grid grid′ f r
     resting-full e z = record { size = z .size; again = z .again; grown = z .grown; finds = record { all = λ v x y. e v } }

@@ -18,7 +18,6 @@ ghost use lib.ListN.{length, take, drop, getD};
 ghost use Rattle.sets.specs.Says.{Says};
 ghost use Rattle.sets.specs.Sets.{In};
 ghost use Rattle.codes.specs.Codes.{decoded};
-ghost use Rattle.grammar.specs.Candidates.{After};
 ghost use Rattle.grammar.specs.SpanSheet.{pairs};
 ghost use Rattle.chart.specs.declared.Verdict.{Verdict};
 ghost use Rattle.column_ranges.specs.Ranges.{choiceCount};
@@ -73,7 +72,7 @@ fn full(f: Flags) -> bool
 }
 
 // Put the token at k into the column x in all lanes.
-fn level(cols: &mut [u16], k: usize, x: u16)
+fn lay_level(cols: &mut [u16], k: usize, x: u16)
     requires { ⌜ k < 64 ⌝ }
     requires { ⌜ length (now cols) ≡ 1024 ⌝ }
     ensures { λ u. ⌜ Leveled k x (now (cols .entry)) (now (cols .exit)) ⌝ }
@@ -94,7 +93,7 @@ fn lay_front(cols: &mut [u16], tokens: [Token; 64], i: usize)
     let mut k: usize = 0;
     while k < i {
         let t = tokens[k];
-        level(cols, k, t.column.0);
+        lay_level(cols, k, t.column.0);
         k += 1;
     }
 }

@@ -87,7 +87,7 @@ search-try-rest-requires t c κs =
     let p = c .before .before .before .before .before .before .pre .1 in
     let y = p .1 .1 .1 .1 in
     let m = c .before .before .few .ensures in
-    ((p .0, y .inside), (p .1 .0, ((m .exact (c .before .if1 .taken), m .bound), (p .1 .1 .1 .0 .enough, (p .1 .1 .1 .0 .ready, y .placed)))))
+    ((p .0, y .inside), (p .1 .0, ((omega (arith, m .exact (c .before .if1 .taken)), omega (arith, m .bound)), (p .1 .1 .1 .0 .enough, (p .1 .1 .1 .0 .ready, y .placed)))))
 
 search-same-length : (t : ℕ) → search-lts.Need-same-length (calls t) (search-at t) search′.Post search-Inv-loop search-μ-loop
 search-same-length t c = c .before .before .try-rest .ensures .size

@@ -78,8 +78,8 @@ loop-again c =
     let s = c .before .before .before .before .before .before in
     let i = c .before .before .before in
     let k = i .before .loop .k in
-    let few = s .pre .0 .few in
-    laying-more (s .pre .1 .1) (omega (arith, i .loop-test .taken, s .pre .0 .whole)) (omega (arith, i .loop-test .taken, few, s .pre .1 .1, s .pre .1 .2)) (range-read (s .args .t2) k (i .loop-test .taken)) (c .before .columns .ensures) (i .before .loop .inv)
+    laying-more (s .pre .1 .1) (omega (arith, i .loop-test .taken, s .pre .0 .whole)) (omega (arith, i .loop-test .taken, s .pre .0 .few, s .pre .1 .1, s .pre .1 .2))
+    (range-read (s .args .t2) k (i .loop-test .taken)) (c .before .columns .ensures) (i .before .loop .inv)
 
 same-length : tie.Need-same-length Inv-loop μ-loop
 same-length c = c .before .loop .inv .size

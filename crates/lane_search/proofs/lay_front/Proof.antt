@@ -23,8 +23,8 @@ mul-t c = search needs
 array-copy-out-t : tie.Need-array-copy-out-t Inv-loop μ-loop
 array-copy-out-t c = omega (arith, c .loop-test .taken, c .before .before .before .pre .0)
 
-level-requires : tie.Need-level-requires Inv-loop μ-loop
-level-requires c κs =
+lay-level-requires : tie.Need-lay-level-requires Inv-loop μ-loop
+lay-level-requires c κs =
     let s = c .before .before .before .before .before in
     (omega (arith, c .before .before .loop-test .taken, s .pre .0), c .before .before .before .loop .inv .size)
 
@@ -37,7 +37,7 @@ loop-less c = omega (arith, c .before .before .before .before .before .loop-test
 loop-again : tie.Need-loop-again Inv-loop μ-loop
 loop-again c =
     let l = c .before .before .before .before .before .before in
-    fronted-more refl (l .loop .inv) (c .before .before .level .ensures)
+    fronted-more refl (l .loop .inv) (c .before .before .lay-level .ensures)
 
 same-length : tie.Need-same-length Inv-loop μ-loop
 same-length c = c .before .loop .inv .size ∙ sym (c .before .before .before .pre .1)
@@ -54,7 +54,7 @@ lay-front-spec =
     loop-holds
     mul-t
     array-copy-out-t
-    level-requires
+    lay-level-requires
     add-k
     loop-less
     loop-again

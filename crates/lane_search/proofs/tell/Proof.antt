@@ -46,8 +46,9 @@ loop-less-2 c = search needs
 
 loop-again-2 : tie.Need-loop-again-2 Inv-loop μ-loop
 loop-again-2 c =
-    let i = c .before .before .before .before in
-    tells-in (i .loop-test .taken) (c .before .before .before .has .ensures .is (not-false _ (c .before .before .if1 .left))) (c .before .verdict .ensures) (c .with-verdict .ensures) (i .before .loop .inv)
+    let h = c .before .before .before in
+    let i = h .before in
+    tells-in (i .loop-test .taken) (h .has .ensures .is (not-false _ (c .before .before .if1 .left))) (c .before .verdict .ensures) (c .with-verdict .ensures) (i .before .loop .inv)
 
 returns : tie.Need-returns Inv-loop μ-loop
 returns c = tells-all (omega (arith, c .loop-test .left)) (c .before .loop .inv)

@@ -29,8 +29,10 @@ same-length c = c .before .before .before .before .fill .ensures .size
 
 returns-2 : tie.Need-returns-2
 returns-2 c =
-    let p = c .before .before .before .before .before .before .before .before .before .before .before .pre in
-    tried-filled (p .0 .whole) (c .before .before .before .before .before .before .before .rising .ensures) (p .1 .1 .1 .1 .1) (c .before .before .before .before .fill .ensures) (c .tell .ensures)
+    let f = c .before .before .before .before in
+    let v = f .before .before .before in
+    let p = v .before .before .before .before .pre in
+    tried-filled (p .0 .whole) (v .rising .ensures) (p .1 .1 .1 .1 .1) (f .fill .ensures) (c .tell .ensures)
 
 pub try-batch-spec : {M : Type 1} → statement M
 try-batch-spec =

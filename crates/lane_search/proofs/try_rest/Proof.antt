@@ -12,7 +12,9 @@ use Rattle.lane_search.proofs.try_rest.Tie as tie
 use Rattle.column_ranges.specs.RangeSentences.{rangesOf}
 
 abbrev Inv-loop : tie.InvT-loop
-Inv-loop codes r i m grid₀ cols₀ found₀ b₀ grid cols found b = (b ≤ 65536) × ((w : Word) → Started (rangesOf r) i m w cols₀ → Resting (decoded codes) (rangesOf r) (r .count) i m w cols grid₀ grid found₀ found b)
+Inv-loop codes r i m grid₀ cols₀ found₀ b₀ grid cols found b =
+    (b ≤ 65536)
+    × ((w : Word) → Started (rangesOf r) i m w cols₀ → Resting (decoded codes) (rangesOf r) (r .count) i m w cols grid₀ grid found₀ found b)
 
 abbrev μ-loop : tie.MeasureT-loop
 μ-loop codes r i m grid₀ cols₀ found₀ b₀ grid cols found b = 65536 - b
@@ -52,48 +54,58 @@ slice-aggregate-lay-batch c = sym (c .before .before .loop .inv .1 _ (started (c
 
 lay-batch-requires : tie.Need-lay-batch-requires Inv-loop μ-loop
 lay-batch-requires c κs =
-    let s = c .before .before .before .before .before .before .before .before in
-    let k = c .before .before .before in
-    let l = c .before .before .loop .inv in
-    (s .pre .0 .0, ((s .pre .0 .1, l .1 _ (started k) .fronted .size), (omega (arith, c .before .loop-test .taken), l .0)))
+    let l = c .before .before in
+    let k = l .before in
+    let s = k .before .before .before .before .before in
+    (s .pre .0 .0, ((s .pre .0 .1, l .loop .inv .1 _ (started k) .fronted .size), (omega (arith, c .before .loop-test .taken), l .loop .inv .0)))
 
 slice-aggregate-try-batch : tie.Need-slice-aggregate-try-batch Inv-loop μ-loop
 slice-aggregate-try-batch c = search needs
 
 try-batch-requires : tie.Need-try-batch-requires Inv-loop μ-loop
 try-batch-requires c κs =
-    let s = c .before .before .before .before .before .before .before .before .before .before .before .before in
-    let k = c .before .before .before .before .before .before .before in
-    let l = c .before .before .before .before .before .before .loop .inv .1 _ (started k) in
-    let y = c .before .before .before .lay-batch .ensures in
-    (s .pre .0 .0, (s .pre .1 .0, (omega (arith, l .size, s .pre .1 .1 .1 .0), (y .size ∙ l .fronted .size, (l .again, batch-choices (started k) (l .fronted) y)))))
+    let a = c .before .before .before in
+    let k = a .before .before .before .before in
+    let s = k .before .before .before .before .before in
+    let l = a .before .before .before .loop .inv .1 _ (started k) in
+    let y = a .lay-batch .ensures in
+    let choices = batch-choices (started k) (l .fronted) y in
+    (s .pre .0 .0, (s .pre .1 .0, (omega (arith, l .size, s .pre .1 .1 .1 .0), (y .size ∙ l .fronted .size, (l .again, choices)))))
 
 full-requires : tie.Need-full-requires Inv-loop μ-loop
 full-requires c κs = search needs
 
 same-length : tie.Need-same-length Inv-loop μ-loop
 same-length c =
-    let k = c .before .before .before .before .before .before .before .before .before .before .before .before in
-    c .before .before .before .before .try-batch .ensures .size ∙ c .before .before .before .before .before .before .before .before .before .before .before .loop .inv .1 _ (started k) .size
+    let y = c .before .before .before .before in
+    let a = y .before .before .before .before in
+    let l = a .before .before .before in
+    y .try-batch .ensures .size ∙ l .loop .inv .1 _ (started (l .before)) .size
 
 returns : tie.Need-returns Inv-loop μ-loop
 returns c =
-    let k = c .before .before .before .before .before .before .before .before .before .before .before .before in
-    resting-full (started k) (c .before .full .ensures (c .if1 .taken))
-    (resting-more (started k) (c .before .before .before .before .before .before .before .before .lay-batch .ensures) (c .before .before .before .before .try-batch .ensures) (c .before .before .before .before .before .before .before .before .before .before .before .loop .inv .1 _ (started k)))
+    let y = c .before .before .before .before in
+    let a = y .before .before .before .before in
+    let l = a .before .before .before in
+    let k = started (l .before) in
+    resting-full k (c .before .full .ensures (c .if1 .taken)) (resting-more k (a .lay-batch .ensures) (y .try-batch .ensures) (l .loop .inv .1 _ k))
 
 add-b : tie.Need-add-b Inv-loop μ-loop
 add-b c = omega (arith, c .before .before .before .before .before .before .before .before .before .before .before .loop .inv .0)
 
 loop-less : tie.Need-loop-less Inv-loop μ-loop
-loop-less c = omega (arith, c .before .before .before .before .before .before .before .before .before .before .loop-test .taken, c .before .before .before .before .before .before .before .before .before .before .before .before .before .before .before .before .before .pre .1 .1 .0 .1)
+loop-less c =
+    let i = c .before .before .before .before .before .before .before .before .before .before in
+    omega (arith, i .loop-test .taken, i .before .before .before .before .before .before .before .pre .1 .1 .0 .1)
 
 loop-again : tie.Need-loop-again Inv-loop μ-loop
 loop-again c =
-    let s = c .before .before .before .before .before .before .before .before .before .before .before .before .before .before .before .before .before in (
-      omega (arith, c .before .before .before .before .before .before .before .before .before .before .loop-test .taken, s .pre .1 .1 .0 .1),
-      λ w st.
-          resting-more st (c .before .before .before .before .before .before .before .before .lay-batch .ensures) (c .before .before .before .before .try-batch .ensures) (c .before .before .before .before .before .before .before .before .before .before .before .loop .inv .1 w st),
+    let y = c .before .before .before .before in
+    let a = y .before .before .before .before in
+    let l = a .before .before .before in
+    let s = l .before .before .before .before .before .before in (
+      omega (arith, a .before .before .loop-test .taken, s .pre .1 .1 .0 .1),
+      λ w st. resting-more st (a .lay-batch .ensures) (y .try-batch .ensures) (l .loop .inv .1 w st),
     )
 
 same-length-2 : tie.Need-same-length-2 Inv-loop μ-loop

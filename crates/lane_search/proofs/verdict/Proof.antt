@@ -32,7 +32,9 @@ in-lane-requires c κs =
     (omega (arith, p, b, s .pre .1), s .pre .2)
 
 returns : tie.Need-returns
-returns c = lane-none (c .before .before .before .before .args .n) (c .before .before .pair-at .ensures) (c .before .before .before .before .args .grid .now) (c .before .in-lane .ensures) (not-true _ (c .if1 .taken))
+returns c =
+    let a = c .before .before .before .before .args in
+    lane-none (a .n) (c .before .before .pair-at .ensures) (a .grid .now) (c .before .in-lane .ensures) (not-true _ (c .if1 .taken))
 
 add-in-lane : tie.Need-add-in-lane
 add-in-lane c =
@@ -56,12 +58,16 @@ in-lane-requires-2 c κs =
     (omega (arith, p, b, s .pre .1), s .pre .2)
 
 returns-2 : tie.Need-returns-2
-returns-2 c = lane-two (c .before .before .before .before .before .before .args .n) (c .before .before .before .before .pair-at .ensures) (c .before .before .before .before .before .before .args .grid .now) (c .before .in-lane2 .ensures) (c .if2 .taken)
+returns-2 c =
+    let p = c .before .before .before .before in
+    let a = p .before .before .args in
+    lane-two (a .n) (p .pair-at .ensures) (a .grid .now) (c .before .in-lane2 .ensures) (c .if2 .taken)
 
 returns-3 : tie.Need-returns-3
 returns-3 c =
     let q = c .before .before .before in
-    lane-one (q .before .before .before .args .n) (q .before .pair-at .ensures) (q .before .before .before .args .grid .now) (q .in-lane .ensures) (not-false _ (c .before .before .if1 .left)) (c .before .in-lane2 .ensures) (c .if2 .left)
+    let a = q .before .before .before .args in
+    lane-one (a .n) (q .before .pair-at .ensures) (a .grid .now) (q .in-lane .ensures) (not-false _ (c .before .before .if1 .left)) (c .before .in-lane2 .ensures) (c .if2 .left)
 
 pub verdict-spec : {M : Type 1} → statement M
 verdict-spec =

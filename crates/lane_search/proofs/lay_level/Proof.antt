@@ -3,8 +3,8 @@ use borrow.Author.Needs.{needs}
 use Prim.Native.Nat.{_-_}
 use native.Mathlib.Omega.{arith}
 use Rattle.lane_search.proofs.Laying.{Leveling, leveling-none, leveling-more, leveling-all}
-use Rattle.lane_search.proofs.level.Statement.{statement}
-use Rattle.lane_search.proofs.level.Tie as tie
+use Rattle.lane_search.proofs.lay_level.Statement.{statement}
+use Rattle.lane_search.proofs.lay_level.Tie as tie
 
 abbrev Inv-loop : tie.InvT-loop
 Inv-loop cols₀ k x c₀ cols c = Leveling k x cols₀ cols c
@@ -44,8 +44,8 @@ same-length c = c .before .loop .inv .size
 returns : tie.Need-returns Inv-loop μ-loop
 returns c = leveling-all (omega (arith, c .loop-test .left)) (c .before .loop .inv)
 
-pub level-spec : {M : Type 1} → statement M
-level-spec =
+pub lay-level-spec : {M : Type 1} → statement M
+lay-level-spec =
     tie.close
     (tie.spec
     Inv-loop
