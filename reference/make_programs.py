@@ -1,14 +1,15 @@
-"""Writes the cases for a program and what the reference answers to them.
+"""Writes the cases for the programs `check` and `sweep`, and for the number of candidates tried, with the reference's answers.
 
-    make_programs.py NAME STDIN STDOUT           write the two files
-    make_programs.py --check NAME STDIN STDOUT   compare with them; status 1 if not the same
+    make_programs.py STDIN STDOUT           write the two files
+    make_programs.py --check STDIN STDOUT   compare with them; status 1 if not the same
 
-NAME is `check` or `sweep`.
+STDIN: each case is a header of 6 bytes (length of the case in five digits,
+byte 10), then the case: a letter, `c` check or `s` sweep, and the program's
+input; or `t`, a bound in five digits and a rule sheet.  The next case follows
+at once.
 
-STDIN: each case is a header of 6 bytes (length of the input in five digits,
-byte 10), then the input.  The next case follows at once.
-
-STDOUT: for each case the program's whole output.
+STDOUT: for each case the program's whole output; for `t` how many candidates
+the sweep tries, and byte 10.
 
 Both modes have status 1 too where a case made by hand is not answered as it
 was meant to be; then nothing is written.
@@ -22,6 +23,7 @@ import far
 import far_cases
 import sweep_cases
 import teplonga
+import tried_cases
 
 
 class Far:
@@ -34,17 +36,14 @@ class Far:
         return (text for _, text in self.meant())
 
 
-# The cases of a program, part by part, each with what answers them.
-PROGRAMS = {
-    "check": [
-        (check_cases, teplonga.check_program),
-        (Far(far_cases.check_meant), far.check_program),
-    ],
-    "sweep": [
-        (sweep_cases, teplonga.sweep_program),
-        (Far(far_cases.sweep_meant), far.sweep_program),
-    ],
-}
+# The cases of both programs, part by part: the letter, the cases, what answers them, and how each output begins.
+PARTS = [
+    (b"c", check_cases, teplonga.check_program, b"answer line\n"),
+    (b"c", Far(far_cases.check_meant), far.check_program, b"answer line\n"),
+    (b"s", sweep_cases, teplonga.sweep_program, b"answer line\n"),
+    (b"s", Far(far_cases.sweep_meant), far.sweep_program, b"answer line\n"),
+    (b"t", tried_cases, tried_cases.output, b""),
+]
 
 
 def framed(text):
@@ -52,13 +51,13 @@ def framed(text):
     return b"%05d\n" % len(text) + text
 
 
-def astray(meant, outputs):
-    """The first case whose output does not go on as meant, or None.
+def astray(meant, outputs, begin):
+    """The first case whose output does not begin so and go on as meant, or None.
 
     The cases of `meant` come first among all cases.
     """
     for (answer, text), output in zip(meant, outputs):
-        if not output.startswith(b"answer line\n" + answer):
+        if not output.startswith(begin + answer):
             return (text, output, answer)
     return None
 
@@ -80,21 +79,21 @@ def kept(paths, made, check):
 
 def main(arguments):
     check = "--check" in arguments
-    named = [each for each in arguments if each != "--check"]
-    if len(named) != 3 or named[0] not in PROGRAMS:
-        print("usage: make_programs.py [--check] check|sweep STDIN STDOUT", file=sys.stderr)
+    paths = [Path(each) for each in arguments if each != "--check"]
+    if len(paths) != 2:
+        print("usage: make_programs.py [--check] STDIN STDOUT", file=sys.stderr)
         return 2
     inputs, outputs = [], []
-    for listed, program in PROGRAMS[named[0]]:
+    for letter, listed, program, begin in PARTS:
         texts = list(listed.cases())
         answers = [program(text) for text in texts]
-        wrong = astray(listed.meant(), answers)
+        wrong = astray(listed.meant(), answers, begin)
         if wrong is not None:
             print("input %r\n  got   %r\n  meant %r" % wrong)
             return 1
-        inputs += texts
+        inputs += [letter + text for text in texts]
         outputs += answers
-    return kept(map(Path, named[1:]), (b"".join(map(framed, inputs)), b"".join(outputs)), check)
+    return kept(paths, (b"".join(map(framed, inputs)), b"".join(outputs)), check)
 
 
 if __name__ == "__main__":

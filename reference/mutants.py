@@ -4,9 +4,8 @@
 
 A mutant is the reference with one mistake put in, of the kind that a limit, a
 shift or a short cut of other code may have.  It dies by the first input of the
-vectors (`crates/checks`, `crates/sweeps`) to which it writes another output
-than they hold.  The cases that a mutant is meant to die by are tried first,
-then all.
+vectors (`crates/checks`) to which it writes another output than they hold.  The
+cases that a mutant is meant to die by are tried first, then all.
 """
 
 import sys
@@ -17,23 +16,26 @@ import far_cases
 import teplonga
 from far import put
 
-CRATES = Path(__file__).resolve().parent.parent / "crates"
+CHECKED = Path(__file__).resolve().parent.parent / "crates" / "checks"
 
 
 # ------------------------------------------------------------------ the vectors
 
-def vectors(crate):
-    """Each input of a test program with its output."""
-    data = (CRATES / crate / "stdin").read_bytes()
-    names = b"answer line\n"
-    outputs = [names + text for text in (CRATES / crate / "stdout").read_bytes().split(names)[1:]]
-    inputs, at = [], 0
+def vectors(letter):
+    """Each input of a program, `check` or `sweep` by its letter, with its output."""
+    data = (CHECKED / "stdin").read_bytes()
+    cases, at = [], 0
     while at < len(data):
         length = int(data[at : at + 5])
-        inputs.append(data[at + 6 : at + 6 + length])
+        cases.append(data[at + 6 : at + 6 + length])
         at += 6 + length
-    assert len(inputs) == len(outputs)
-    return dict(zip(inputs, outputs))
+    asked = [case for case in cases if case[:1] in (b"c", b"s")]
+    # the numbers of candidates tried are the last lines, one a case
+    lines = (CHECKED / "stdout").read_bytes().splitlines(keepends=True)
+    names = b"answer line\n"
+    outputs = [names + text for text in b"".join(lines[: len(lines) + len(asked) - len(cases)]).split(names)[1:]]
+    assert len(asked) == len(outputs)
+    return {case[1:]: output for case, output in zip(asked, outputs) if case[:1] == letter}
 
 
 # ------------------------------------------------------------- mistakes of `check`
@@ -332,11 +334,11 @@ class Mutated:
 
 def main():
     lives = 0
-    for crate, module, program, mutants in (
-        ("checks", teplonga, far.check_program, CHECKS),
-        ("sweeps", far, far.sweep_program, SWEEPS),
+    for letter, module, program, mutants in (
+        (b"c", teplonga, far.check_program, CHECKS),
+        (b"s", far, far.sweep_program, SWEEPS),
     ):
-        held = vectors(crate)
+        held = vectors(letter)
         for name, make, meant in mutants:
             told = is_told(Mutated(module, make()), program, meant, held)
             lives += not told

@@ -42,7 +42,7 @@ class Believe(unittest.TestCase):
             self.assertEqual((status, errors), (1, f"believe: docs/BELIEVE.md does not list {line}\n"))
 
     def test_a_file_too_many_is_told(self):
-        more = "crates/chart/specs/Tables.antt"
+        more = "crates/tables/specs/Tables.antt"
         status, errors = self.believe(LIST + f"- `{more}`\n")
         self.assertEqual((status, errors), (1, f"believe: docs/BELIEVE.md lists {more}, on which no public promise rests\n"))
 

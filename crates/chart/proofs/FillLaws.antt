@@ -23,16 +23,18 @@ use Rattle.marks.specs.Half.{Half}
 use Rattle.marks.specs.Marked.{Marked}
 use Rattle.spans.specs.Changes.{Past, Kept, WrotePair}
 use Rattle.spans.proofs.Places.{pairAt-same, pairAt-empty}
-use Rattle.chart.specs.Tables.{Table, One, Two, Leave, byTokens, byMarks, Fits, Stand, Again, Below, rule}
-use Rattle.chart.specs.Tables.Again.{apart, below}
-use Rattle.chart.specs.declared.Tally.{Tally}
-use Rattle.chart.specs.Passes.{Inner, by-splits, Saturated}
-use Rattle.chart.specs.Filling.{Told, Settled, Ground, Closed, Joins, Given, Filled, Grown}
+use Rattle.spans.proofs.ChangeLaws.{kept-then}
+use Rattle.tables.specs.Tables.{Table, One, Two, Leave, byTokens, byMarks, Fits, Stand, Again, Below, rule}
+use Rattle.tables.specs.Tables.Again.{apart, below}
+use Rattle.joins.specs.declared.Tally.{Tally}
+use Rattle.joins.specs.Passes.{Inner, by-splits, Saturated, Joins}
+use Rattle.tables.specs.Settled.{Told, Settled, Ground}
+use Rattle.chart.specs.Filling.{Closed, Given, Filled, Grown}
 use Rattle.chart.specs.Openness.{anything, Open}
 use Rattle.chart.specs.Sheets.{Exact}
-use Rattle.chart.proofs.PassLaws.{inner-from, passes-from}
-use Rattle.chart.proofs.Coverage.{each-found, again-found}
-use Rattle.chart.proofs.Views.{tokens-marks, stand-view, again-view}
+use Rattle.joins.proofs.PassLaws.{inner-from, passes-from}
+use Rattle.joins.proofs.Coverage.{each-found, again-found}
+use Rattle.tables.proofs.Views.{tokens-marks, stand-view, again-view}
 use Rattle.grammar.specs.Distinct.{Distinct}
 
 -- ---- a word of the pair p is as it was, where the pair is another

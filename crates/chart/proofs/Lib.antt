@@ -1,15 +1,6 @@
-pub mod TallyLaws
-pub mod RulePlaces
-pub mod Completeness
-pub mod Soundness
-pub mod Views
-pub mod PassLaws
-pub mod CodeLaws
-pub mod Coverage
 pub mod FillLaws
 pub mod ExactLaws
 pub mod LeafLaws
 pub mod OpenLaws
 pub mod SheetLaws
 pub mod SingleLaws
-pub mod PickLaws

@@ -6,10 +6,10 @@ use native.Mathlib.Omega.{arith}
 use native.Mathlib.Decide.{ℕ-discrete}
 use Rattle.grammar.specs.Trees.{Rules}
 use Rattle.marks.specs.Half.{Half}
-use Rattle.chart.specs.Tables.{Table, One, Two, byTokens, Stand, Again}
-use Rattle.chart.specs.Filling.{Told, Settled}
+use Rattle.tables.specs.Tables.{Table, One, Two, byTokens, Stand, Again}
+use Rattle.tables.specs.Settled.{Told, Settled}
 use Rattle.chart.specs.Openness.{anything, Open}
-use Rattle.chart.proofs.Views.{Yields, stand-view, again-view}
+use Rattle.tables.proofs.Views.{Yields, stand-view, again-view}
 
 -- where nothing is known, the tokens leave everything
 open-yields : (h : Half) (a b : ℕ) → h .known ≤ a → 1 < b → Yields anything (byTokens h a b) b

@@ -1,13 +1,14 @@
 -- The whole span sheet: kept spans are settled, the rows are filled one after the other, and once all spans are settled the
 -- sheet is exact as far as the word is known and misses nothing of the rest.
-use mathlib.Core.Path.{_≡_, refl, sym, _∙_, subst, subst₂}
+use mathlib.Core.Path.{_≡_, refl, sym, ap, _∙_, subst, subst₂}
 use mathlib.Core.Logic.{_⊎_, inl, inr, ⊎-elim, _↔_}
 use mathlib.Core.Bool.{Bool, true, false, not}
-use mathlib.Core.List.{List}
-use Prim.Native.Nat.{ℕ, _+_, _*_, _≤_, _<_}
+use mathlib.Core.List.{List, [], _∷_}
+use Prim.Native.Nat.{ℕ, zero, suc, _+_, _-_, _*_, _^_, _≤_, _<_, min}
 use native.Mathlib.Omega.{arith}
+use native.Mathlib.Nat.{not-suc-le-zero}
 use native.Mathlib.Decide.{decLt, ℕ-discrete}
-use lib.ListN.{length}
+use lib.ListN.{length, getD, take, drop}
 use lib.Seq.{take-all}
 use Rattle.sets.specs.Says.{Says}
 use Rattle.sets.specs.Sets.{In}
@@ -19,18 +20,21 @@ use Rattle.grammar.proofs.Marks.{token?}
 use Rattle.grammar.proofs.VerdictLaws.{none-not-one, none-not-two, one-not-two}
 use Rattle.marks.specs.Half.{Half, Completes, tokenAt}
 use Rattle.marks.proofs.HalfLaws.{completes-self}
-use Rattle.spans.specs.Changes.{Past}
-use Rattle.spans.proofs.Places.{pairAt-same}
+use Rattle.spans.specs.Changes.{Past, Kept}
+use Rattle.spans.proofs.Places.{pairAt-same, pairAt-empty, pairAt-shorter, pairs-closed}
+use Rattle.spans.proofs.ChangeLaws.{past-same, past-then, past-more, kept-past}
+use Rattle.spans.proofs.Uniqueness.{words-same}
 use Rattle.order.specs.Order.{Rearranged}
 use Rattle.order.proofs.Same.{derives-same, two-same, one-same, none-under}
 use Rattle.chart.specs.declared.Verdict.{Verdict}
 use Rattle.chart.specs.declared.Verdict.the-variants as Verdict
-use Rattle.chart.specs.Tables.{One, Two, byTokens, Stand, Again}
+use Rattle.tables.specs.Tables.{Table, One, Two, byTokens, Stand, Again, Room}
 use Rattle.chart.specs.Leaves.{Allows, LeafAt, May}
-use Rattle.chart.specs.Filling.{Told, Settled, Ground, Closed, Given, Passed, Filled, Grown}
+use Rattle.tables.specs.Settled.{Told, Settled, Ground}
+use Rattle.chart.specs.Filling.{Closed, Given, Passed, Filled, Grown}
 use Rattle.chart.specs.Sheets.{Exact, Begun, Ready, Meets, CoversMet, Charted, Judged, Hopeless, Settles}
-use Rattle.chart.proofs.Completeness.{complete, same}
-use Rattle.chart.proofs.Soundness.{sound-stand, sound-again}
+use Rattle.tables.proofs.Completeness.{complete, same}
+use Rattle.tables.proofs.Soundness.{sound-stand, sound-again}
 use Rattle.chart.proofs.FillLaws.{settled-kept, settled-empty}
 use Rattle.chart.proofs.ExactLaws.{exact-less, null-one, null-two}
 use Rattle.chart.proofs.LeafLaws.{leaf-allows, leaf-one, leaf-more, may-one, may-two}
@@ -330,3 +334,9 @@ verdict-same g A w Verdict.One Verdict.Two h k = absurd (one-not-two h k)
 verdict-same g A w Verdict.Two Verdict.None h k = absurd (none-not-two k h)
 verdict-same g A w Verdict.Two Verdict.One h k = absurd (one-not-two k h)
 verdict-same g A w Verdict.Two Verdict.Two h k = refl
+
+-- two calls of `judge` on the same words leave the same words
+pub judged-same : {r r′ : Verdict} {g : Rules} {w : Word} {n : ℕ} {ws a b : List ℕ} → length w ≡ n → ((q : ℕ) → getD a q 0 < 2 ^ 64) → ((q : ℕ) → getD b q 0 < 2 ^ 64)
+    → Judged r g w n ws a → Judged r′ g w n ws b → a ≡ b
+judged-same {g} {w} {ws = ws} {a} {b} e small small′ x y =
+    words-same g w a b small small′ (x .sheet) (y .sheet) ws (subst (λ (m : ℕ). Past (2 * pairs m) ws a) (sym e) (x .past)) (subst (λ (m : ℕ). Past (2 * pairs m) ws b) (sym e) (y .past))

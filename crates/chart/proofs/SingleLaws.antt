@@ -17,11 +17,12 @@ use Rattle.marks.proofs.Joining.{carried-first, carried-all, no-tokens}
 use Rattle.spans.specs.Changes.{Past, Kept, WrotePair}
 use Rattle.spans.proofs.Places.{pairAt-same, pairAt-empty}
 use Rattle.spans.proofs.ChangeLaws.{past-same, past-then, kept-past}
-use Rattle.chart.specs.declared.Tally.{Tally}
-use Rattle.chart.specs.Tables.{One, Two}
-use Rattle.chart.specs.Passes.{Leaves, by-leaves, Saturated}
+use Rattle.joins.specs.declared.Tally.{Tally}
+use Rattle.tables.specs.Tables.{One, Two}
+use Rattle.joins.specs.Passes.{Leaves, by-leaves, Saturated}
 use Rattle.chart.specs.Leaves.{EmptyPair, Leaf, LeafAt}
-use Rattle.chart.specs.Filling.{Settled, Closed}
+use Rattle.tables.specs.Settled.{Settled}
+use Rattle.chart.specs.Filling.{Closed}
 use Rattle.chart.specs.Sheets.{Exact, Begun}
 use Rattle.chart.proofs.FillLaws.{closed, settled-empty, given-same, first-kept, second-kept}
 use Rattle.chart.proofs.ExactLaws.{empty-exact, exact-words}

@@ -3,18 +3,15 @@ use mathlib.Core.Path.{_≡_}
 use mathlib.Core.List.{List}
 use mathlib.Core.Logic.{_⊎_}
 use Prim.Native.Nat.{ℕ, _+_, _*_, _≤_, _<_}
-use lib.ListN.{length, getD}
-use Rattle.grammar.specs.Layout.{Word}
-use Rattle.grammar.specs.Trees.{Rules, Derives, TwoTrees}
-use Rattle.grammar.specs.SpanSheet.{part, pairs, pairAt, firstWord, secondWord}
+use lib.ListN.{length}
+use Rattle.grammar.specs.Trees.{Rules}
+use Rattle.grammar.specs.SpanSheet.{pairs, pairAt, firstWord, secondWord}
 use Rattle.marks.specs.declared.Draft.{Draft}
-use Rattle.marks.specs.declared.SpanMarks.{SpanMarks}
 use Rattle.marks.specs.Half.{Half}
 use Rattle.marks.specs.Drafts.{drafted}
-use Rattle.spans.specs.Changes.{Kept, Past, WrotePair}
-use Rattle.chart.specs.declared.Tally.{Tally}
-use Rattle.chart.specs.Passes.{Splits, Saturated}
-use Rattle.chart.specs.Tables.{Table, One, Two, byTokens, Stand, Again}
+use Rattle.spans.specs.Changes.{Kept, Past}
+use Rattle.tables.specs.Tables.{One, Two}
+use Rattle.tables.specs.Settled.{Settled}
 
 -- the draft is as long as its count says, and no more of it is known
 pub record Whole (d : Draft) : Type 0 where
@@ -22,33 +19,10 @@ pub record Whole (d : Draft) : Type 0 where
   pub long : length (drafted d) ≡ d .count
   pub inner : d .known ≤ d .count
 
--- the span is not one open token: the pair of such a token is given
-abbrev pub Told : Half → ℕ → ℕ → Type 0
-Told h s len = len ≡ 1 → s < h .known
-
--- what the tables have of the span has trees, where it is known, and they have all that stands over it
-pub record Settled (one two : Table) (g : Rules) (h : Half) (s len : ℕ) : Type 0 where
-  pub some : (A : ℕ) → s + len ≤ h .known → one s len A → Derives g A (part (h .word) s len)
-  pub more : (A : ℕ) → s + len ≤ h .known → two s len A → TwoTrees g A (part (h .word) s len)
-  pub each : (A i l : ℕ) → Told h s len → Stand one g (byTokens h s len) s len A i l → one s len A
-  pub again : (A : ℕ) → Told h s len → Again one two g (byTokens h s len) s len A → two s len A
-
--- all shorter parts of the span are settled
-pub record Ground (ws : List ℕ) (g : Rules) (h : Half) (n s len : ℕ) : Type 0 where
-  pub parts : (a b : ℕ) → s ≤ a → a + b ≤ s + len → b < len → Settled (One ws n) (Two ws n) g h a b
-
 -- the span is settled, and no other pair has changed
 pub record Closed (ws ws′ : List ℕ) (g : Rules) (h : Half) (n s len : ℕ) : Type 0 where
   pub kept : Kept ws ws′ (pairAt n s len)
   pub settled : Settled (One ws′ n) (Two ws′ n) g h s len
-
--- how a span of two tokens or more is settled by its marks k: what stands by shorter parts, then passes
-pub record Joins (ws ws′ : List ℕ) (g : Rules) (n s len : ℕ) (k : SpanMarks) : Type 0 where
-  pub inner : Tally
-  pub last : Tally
-  pub splits : Splits ws n s len k g len inner
-  pub saturated : Saturated (getD ws 0 0) (getD ws 1 0) k len g inner last
-  pub wrote : WrotePair ws ws′ (pairAt n s len) (last .one) (last .two)
 
 -- the pairs of single tokens are as they were
 pub record Given (ws ws′ : List ℕ) (n : ℕ) : Type 0 where

@@ -3,7 +3,7 @@
 use Prim.Native.Nat.{ℕ, _+_, _≤_, _<_}
 use mathlib.Core.List.{List}
 use Rattle.grammar.specs.Trees.{Rules}
-use Rattle.chart.specs.Tables.{One, Two, Leave, Stand, Again}
+use Rattle.tables.specs.Tables.{One, Two, Leave, Stand, Again}
 
 -- an open token leaves everything to every clause
 abbrev pub anything : Leave

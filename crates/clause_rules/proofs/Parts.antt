@@ -23,13 +23,13 @@ use Rattle.lexemes.specs.declared.Lexeme.{Lexeme}
 use Rattle.lexemes.specs.declared.Lexeme.the-variants as Lexeme
 use Rattle.lexemes.specs.declared.Lexed.{Lexed}
 use Rattle.lexemes.specs.Answers.{lexemeOf, Lexes}
-use Rattle.clause_rules.specs.declared.Emit.{Emit}
-use Rattle.clause_rules.specs.declared.Step.{Step}
-use Rattle.clause_rules.specs.Signs.{sortOf, bindingOf, headsOf}
-use Rattle.clause_rules.specs.Emitting.{Cause, Adds, Pushed, CountsOn, tailRules}
+use Rattle.emits.specs.declared.Emit.{Emit}
+use Rattle.emits.specs.declared.Step.{Step}
+use Rattle.emits.specs.Signs.{sortOf, bindingOf, headsOf}
+use Rattle.emits.specs.Emitting.{Cause, Adds, Pushed, CountsOn, tailRules, LeafRead}
 use Rattle.clause_rules.specs.Ends.{Left, GroupEnd, AtomEnd, ItemEnd}
-use Rattle.clause_rules.specs.Reading.{Read, AtomRead, ItemRead, RestRead, SequenceRead, AlternativesRead, LeafRead}
-use Rattle.clause_rules.proofs.Adding.{adds-over, cause-more, adds-then, adds-also, adds-same, adds-when, adds-nothing}
+use Rattle.clause_rules.specs.Reading.{Read, AtomRead, ItemRead, RestRead, SequenceRead, AlternativesRead}
+use Rattle.emits.proofs.Adding.{adds-over, cause-more, adds-then, adds-also, adds-same, adds-when, adds-nothing}
 use Rattle.clause_rules.proofs.Firsts.{first, behind, sort-of, no-suffix, no-join, no-bar, suffix-told}
 
 not-both : {c : Bool} → c ≡ true → c ≡ false → ⊥

@@ -1,20 +1,18 @@
 -- For inner functions: what the readers of an expression have written when they are behind it.
 use mathlib.Core.Path.{_≡_}
 use mathlib.Core.Bool.{false}
-use mathlib.Core.List.{List, [], _∷_, _++_}
+use mathlib.Core.List.{List, _++_}
 use Prim.Native.Nat.{ℕ, _≤_}
 use lib.ListN.{length}
 use Rattle.grammar.specs.Trees.{Rules}
 use Rattle.clauses.specs.Clauses.{Expr, item, made, alternatives}
-use Rattle.clauses.specs.Expansion.{A, size, name}
+use Rattle.clauses.specs.Expansion.{size, name}
 use Rattle.clauses.specs.Emission.{emit}
 use Rattle.clauses.specs.Text.{Lex, an-atom, an-item, a-row, one, many, WrittenAs}
 use Rattle.clauses.proofs.Legible.{NoSuffix, RowStop, Stop}
-use Rattle.lexemes.specs.declared.Lexeme.{Lexeme}
-use Rattle.lexemes.specs.declared.Lexeme.the-variants as Lexeme
-use Rattle.clause_rules.specs.declared.Emit.{Emit}
-use Rattle.clause_rules.specs.declared.Step.{Step}
-use Rattle.clause_rules.specs.Emitting.{Adds}
+use Rattle.emits.specs.declared.Emit.{Emit}
+use Rattle.emits.specs.declared.Step.{Step}
+use Rattle.emits.specs.Emitting.{Adds}
 use Rattle.clause_rules.specs.Ends.{Left}
 
 -- the new rules and new nonterminals of a part; unless there was no room, its nonterminal and the lexemes behind it
@@ -56,10 +54,3 @@ pub record AlternativesRead (s : List ℕ) (at L : ℕ) (out : Emit) (r : Step) 
   pub within : r .at ≤ length s
   pub room : r .out .over ≡ false → out .over ≡ false
   pub reads : (e : Expr alternatives) (l k : List Lex) → WrittenAs (many e) l → Stop k → Left s at (l ++ k) → Read s out r L (emit e L (out .next)) (size e) k
-
--- an item that is no group, by its lexeme
-pub record LeafRead (l : Lexeme) (end : ℕ) (out : Emit) (r : Step) : Type 0 where
-  pub at : r .at ≡ end
-  pub room : r .out .over ≡ false → out .over ≡ false
-  pub nonterminal : (a : ℕ) → l ≡ Lexeme.Nonterminal a → (r .name ≡ a) × (r .out ≡ out)
-  pub terminal : (a : ℕ) → l ≡ Lexeme.Terminal a → (r .name ≡ out .next) × Adds out (r .out) (A (out .next) a ∷ []) 1

@@ -1,8 +1,8 @@
 // The reader of clause sheets, for any bytes: the grammar of their expansion, or the refusal with its line.
 use clause_lines::Checked;
 use clause_lines::check;
-use clause_rules::Emit;
 use clause_rules::alternatives;
+use emits::Emit;
 use fields::Cursor;
 use fields::NumberField;
 use grammar::Grammar;

@@ -16,11 +16,12 @@ use Rattle.grammar.proofs.ChoiceLaws.{append-inj, first-unique, second-tree-uni
 use Rattle.rows.specs.declared.Step.{Step}
 use Rattle.derivation.specs.Written.{places}
 use Rattle.derivation.specs.Showing.{filledShown}
-use Rattle.derivation.specs.Wanted.{Goal, Laid}
+use Rattle.nodes.specs.Wanted.{Goal}
+use Rattle.derivation.specs.Laid.{Laid}
 use Rattle.rows.specs.Bytes.{splice}
 use Rattle.rows.specs.Steps.{kidsOf, entriesOf, closedStep, Branched}
 use Rattle.rows.proofs.BytesLaws.{length-splice, take-splice, drop-splice, drop-splice-high}
-use Rattle.derivation.proofs.Pending.{Pending, entries, rowsAll, kids, nodeShape, shownKids, shownShape, Sits, Fork, Aim}
+use Rattle.nodes.proofs.Pending.{Pending, entries, rowsAll, kids, nodeShape, shownKids, shownShape, Sits, Fork, Aim}
 use Rattle.grammar.specs.Distinct.{Distinct}
 
 -- 1. the rows shown of a tree: its own, then those of its children

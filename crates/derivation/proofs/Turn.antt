@@ -18,11 +18,12 @@ use Rattle.grammar.specs.SpanSheet.{part}
 use Rattle.rows.specs.declared.Step.{Step}
 use Rattle.derivation.specs.Written.{places}
 use Rattle.derivation.specs.Showing.{filledShown}
-use Rattle.derivation.specs.Wanted.{Ready, Goal, Wanted, Laid}
+use Rattle.nodes.specs.Wanted.{Ready, Goal, Wanted}
+use Rattle.derivation.specs.Laid.{Laid}
 use Rattle.rows.specs.Bytes.{splice}
 use Rattle.rows.specs.Steps.{kidsOf, stepOfClause, closedStep, entriesOf, Branched}
-use Rattle.derivation.specs.Picks.{HasChoice, PickedStep, Looked, seen, closed}
-use Rattle.derivation.proofs.Pending.{kids, nodeShape, shownKids, shownShape, Aim, aim-step, aim-pass, aim-choice}
+use Rattle.nodes.specs.Picks.{HasChoice, PickedStep, Looked, seen, closed}
+use Rattle.nodes.proofs.Pending.{kids, nodeShape, shownKids, shownShape, Aim, aim-step, aim-pass, aim-choice}
 use Rattle.derivation.proofs.Memory.{goal-unique, State, state-start, Popped, pop, turn, over, laid-full, laid-short}
 use Rattle.grammar.specs.Distinct.{Distinct}
 use Rattle.grammar.specs.Sentences.{spelled}

@@ -15,7 +15,8 @@ use Rattle.grammar.specs.Rows.{rowCount}
 use Rattle.grammar.proofs.Existence.{first-of-derives, two-iff-second}
 use Rattle.derivation.specs.declared.Counts.{Counts}
 use Rattle.derivation.specs.Written.{places, countOf, filled, Written}
-use Rattle.derivation.specs.Wanted.{Wanted, Laid}
+use Rattle.nodes.specs.Wanted.{Wanted}
+use Rattle.derivation.specs.Laid.{Laid}
 use Rattle.derivation.specs.Showing.{countShown, filledShown, ShownWritten}
 use Rattle.shown.specs.Shown.{View, shownCount}
 use Rattle.shown.proofs.ShownLaws.{some-shown, Seen, rows-open, count-open, seen-valid, all-members}

@@ -1,5 +1,3 @@
 pub mod Written
 pub mod Showing
-pub mod Wanted
-pub mod Picks
-pub mod Lows
+pub mod Laid

@@ -16,7 +16,7 @@ use Rattle.grammar.specs.SpanSheet.{pairAt, pairs}
 use Rattle.spans.proofs.Places.{pairAt-below, pairAt-shorter, pairs-spans, spans-closed, spans-bound}
 use Rattle.codes.specs.Codes.{kind, clause, decode, decoded}
 use Rattle.codes.proofs.Laws.{coded-at, coded-length, part-kind}
-use Rattle.chart.specs.Tables.{Leave, no-rule, rule}
+use Rattle.tables.specs.Tables.{Leave, no-rule, rule}
 use Rattle.heights.specs.Least.{numberAt}
 use Rattle.heights.specs.Tall.{none, table, Tall, Measured, Over, Room}
 use Rattle.heights.specs.Falls.{Falls, stays, put, rowSum, sum, Passed, Between, Inner, Ends, AllEnds, Either, Stopped, Shut}

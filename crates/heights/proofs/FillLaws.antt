@@ -12,7 +12,7 @@ use Rattle.grammar.specs.Layout.{Word}
 use Rattle.grammar.specs.Trees.{Rules}
 use Rattle.grammar.specs.SpanSheet.{part, pairAt}
 use Rattle.spans.proofs.Places.{pairAt-same, pairAt-empty}
-use Rattle.chart.specs.Tables.{rule}
+use Rattle.tables.specs.Tables.{rule}
 use Rattle.heights.specs.Least.{HeightSheet}
 use Rattle.heights.specs.Tall.{none, table, Tall, byWord}
 use Rattle.heights.specs.Falls.{Shut}

@@ -18,8 +18,8 @@ use Rattle.marks.specs.Marked.{Marked}
 use Rattle.marks.proofs.HalfLaws.{may-be, may-keep, may-pair, is-one, does-keep, does-pair, completes-self}
 use Rattle.codes.specs.Codes.{decoded}
 use Rattle.codes.proofs.Laws.{small-decode, coded-at, coded-length}
-use Rattle.chart.specs.Tables.{Leave, byTokens, byMarks, no-rule, rule}
-use Rattle.chart.proofs.Views.{Yields, marks-tokens, tokens-marks}
+use Rattle.tables.specs.Tables.{Leave, byTokens, byMarks, no-rule, rule}
+use Rattle.tables.proofs.Views.{Yields, marks-tokens, tokens-marks}
 use Rattle.heights.specs.Tall.{none, table, Tall, byWord, Room}
 use Rattle.heights.specs.Falls.{Falls, stays, put, Passed, Inner, AllEnds, Stopped, Shut}
 use Rattle.heights.specs.Filled.{Grounded}

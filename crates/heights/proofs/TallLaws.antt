@@ -20,8 +20,8 @@ use Rattle.grammar.proofs.ChoiceLaws.{member-at, takes-of}
 use Rattle.grammar.proofs.ByKind.{top-left, no-word, getElem?-lt}
 use Rattle.marks.proofs.Words.{part-cut, part-length, cut}
 use Rattle.order.proofs.Places.{there}
-use Rattle.chart.specs.Tables.{Leave, rule}
-use Rattle.chart.proofs.Views.{Yields}
+use Rattle.tables.specs.Tables.{Leave, rule}
+use Rattle.tables.proofs.Views.{Yields}
 use Rattle.heights.specs.Least.{LeastHeight}
 use Rattle.heights.specs.Tall.{Heights, Tall, byWord}
 

@@ -10,7 +10,7 @@ use Rattle.grammar.specs.Layout.{Word}
 use Rattle.grammar.specs.Layout as Mark
 use Rattle.grammar.specs.Trees.{Covers}
 use Rattle.grammar.specs.SpanSheet.{part}
-use Rattle.chart.specs.Tables.{Leave}
+use Rattle.tables.specs.Tables.{Leave}
 use Rattle.heights.specs.Least.{numberAt}
 
 -- start, length, nonterminal

@@ -22,7 +22,7 @@ ghost use Rattle.grammar.specs.declared.Clause.the-variants as Kind;
 ghost use Rattle.grammar.specs.Content.{rules, SmallClause, Formed};
 ghost use Rattle.grammar.specs.SpanSheet.{pairAt};
 ghost use Rattle.codes.specs.Codes.{decode, decoded};
-ghost use Rattle.chart.specs.Tables.{byMarks};
+ghost use Rattle.tables.specs.Tables.{byMarks};
 ghost use Rattle.marks.specs.Drafts.{drafted};
 ghost use Rattle.heights.specs.Least.{numberAt, HeightSheet};
 ghost use Rattle.heights.specs.Tall.{table, byWord, Measured, Over, Room};

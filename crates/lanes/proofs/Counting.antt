@@ -13,9 +13,9 @@ use lib.Seq.{getD-set-same, getD-set-other}
 use Rattle.sets.specs.Sets.{In}
 use Rattle.sets.proofs.Says.{holds, fails}
 use Rattle.sets.proofs.Sets.{in-zero, in-dec, insert-same, insert-keeps, insert-only, insert-lt}
-use Rattle.chart.specs.declared.Tally.{Tally}
-use Rattle.chart.specs.Passes.{Took}
-use Rattle.chart.specs.Passes.Took.{fell, stood}
+use Rattle.joins.specs.declared.Tally.{Tally}
+use Rattle.joins.specs.Passes.{Took}
+use Rattle.joins.specs.Passes.Took.{fell, stood}
 use Rattle.lanes.specs.Lanes.{Lane, Tallied, Added, Wider}
 use Rattle.lanes.proofs.Bits.{in-or, in-and, in-word, or-ge}
 use Rattle.sets.specs.Insertion.{insert}

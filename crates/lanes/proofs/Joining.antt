@@ -13,9 +13,8 @@ use Rattle.grammar.specs.SpanSheet.{pairs, pairAt}
 use Rattle.marks.specs.declared.SpanMarks.{SpanMarks}
 use Rattle.spans.specs.Changes.{WrotePair}
 use Rattle.spans.proofs.Places.{pairAt-below}
-use Rattle.chart.specs.declared.Tally.{Tally}
-use Rattle.chart.specs.Passes.{none}
-use Rattle.chart.specs.Filling.{Joins}
+use Rattle.joins.specs.declared.Tally.{Tally}
+use Rattle.joins.specs.Passes.{none, Joins}
 use Rattle.lanes.specs.Lanes.{Lane, Sheeted, MarkedBy, Tallied, Stored}
 use Rattle.lanes.specs.Tries.{Each, Turns, Aside, SplitsTried, SaturatedTried}
 use Rattle.lanes.specs.Joining.{JoinsEach}

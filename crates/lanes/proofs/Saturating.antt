@@ -8,8 +8,8 @@ use native.Mathlib.Decide.{ℕ-discrete}
 use lib.ListN.{length, getD, drop, set, length-set, length-drop}
 use lib.Seq.{getD-drop, getD-set-same, getD-set-other}
 use Rattle.spans.proofs.Uniqueness.{sets-same}
-use Rattle.chart.specs.declared.Tally.{Tally}
-use Rattle.chart.specs.Passes.{resumed, passes-none, passes-more}
+use Rattle.joins.specs.declared.Tally.{Tally}
+use Rattle.joins.specs.Passes.{resumed, passes-none, passes-more}
 use Rattle.lanes.specs.Lanes.{Lane, Wider, Tallied, Resumed, Alike}
 use Rattle.lanes.specs.Tries.{Each, PassTried, Turns, PassesTried, SaturatedTried}
 use Rattle.lanes.proofs.Bits.{in-as}

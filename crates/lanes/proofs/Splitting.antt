@@ -15,11 +15,11 @@ use Rattle.marks.specs.Marked.{BinaryBy}
 use Rattle.codes.specs.Codes.{left, kind, mark, first, second, clause, binaryMark, decoded}
 use Rattle.codes.proofs.Laws.{is-binary, coded-length, coded-at}
 use Rattle.spans.proofs.Places.{pairAt-below}
-use Rattle.chart.specs.declared.Tally.{Tally}
-use Rattle.chart.specs.Tables.{no-rule}
-use Rattle.chart.specs.Passes.{Took, sidesAt, SplitFits, SplitBelow, Unpaired, SplitRow, row-none, row-more, Splits, splits-none, splits-more}
-use Rattle.chart.specs.Passes.Took.{fell}
-use Rattle.chart.proofs.CodeLaws.{split-low, row-upto}
+use Rattle.joins.specs.declared.Tally.{Tally}
+use Rattle.tables.specs.Tables.{no-rule}
+use Rattle.joins.specs.Passes.{Took, sidesAt, SplitFits, SplitBelow, Unpaired, SplitRow, row-none, row-more, Splits, splits-none, splits-more}
+use Rattle.joins.specs.Passes.Took.{fell}
+use Rattle.joins.proofs.CodeLaws.{split-low, row-upto}
 use Rattle.lanes.specs.Lanes.{Lane, Sheeted, MarkedBy, Space, Tallied, Paired}
 use Rattle.lanes.specs.Tries.{Each, BinaryWord, AtCut, SplitTried, RowTried, SplitsTried}
 use Rattle.lanes.proofs.Bits.{and-three, or-both, in-as, in-all}

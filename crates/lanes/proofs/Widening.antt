@@ -12,10 +12,10 @@ use Rattle.marks.specs.declared.SpanMarks.{SpanMarks}
 use Rattle.marks.specs.Marked.{UnaryBy}
 use Rattle.codes.specs.Codes.{left, kind, mark, first, second, unaryMark, decoded}
 use Rattle.codes.proofs.Laws.{coded-length, coded-at}
-use Rattle.chart.specs.Tables.{no-rule}
-use Rattle.chart.specs.Passes.{WholeSide, Pass, pass-none, pass-more}
-use Rattle.chart.specs.Passes.Beside.{both}
-use Rattle.chart.proofs.CodeLaws.{wide-low, wide-unary, wide-binary}
+use Rattle.tables.specs.Tables.{no-rule}
+use Rattle.joins.specs.Passes.{WholeSide, Pass, pass-none, pass-more}
+use Rattle.joins.specs.Passes.Beside.{both}
+use Rattle.joins.proofs.CodeLaws.{wide-low, wide-unary, wide-binary}
 use Rattle.lanes.specs.Lanes.{MarkedBy}
 use Rattle.lanes.specs.Tries.{Each, UnaryWord, BesideTried, WideTried, PassTried}
 use Rattle.lanes.proofs.Bits.{and-both, or-both, in-as, in-all}

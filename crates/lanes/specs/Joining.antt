@@ -5,7 +5,7 @@ use Prim.Native.Nat.{ℕ, _<_}
 use lib.ListN.{length}
 use Rattle.codes.specs.Codes.{decoded}
 use Rattle.marks.specs.declared.SpanMarks.{SpanMarks}
-use Rattle.chart.specs.Filling.{Joins}
+use Rattle.joins.specs.Passes.{Joins}
 use Rattle.lanes.specs.Lanes.{Sheeted, MarkedBy}
 
 -- in each lane, the grid after it is a span sheet in which the span is joined

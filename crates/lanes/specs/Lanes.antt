@@ -11,7 +11,7 @@ use Rattle.grammar.specs.declared.BinaryMark.the-variants as BinaryMark
 use Rattle.grammar.specs.SpanSheet.{pairs, firstWord, secondWord}
 use Rattle.marks.specs.declared.SpanMarks.{SpanMarks}
 use Rattle.marks.specs.Marked.{UnaryBy, BinaryBy}
-use Rattle.chart.specs.declared.Tally.{Tally}
+use Rattle.joins.specs.declared.Tally.{Tally}
 
 -- the 64 words from p on are, in lane c, the set s
 pub record Lane (c : ℕ) (ws : List ℕ) (p s : ℕ) : Type 0 where

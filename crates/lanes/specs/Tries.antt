@@ -9,8 +9,8 @@ use Rattle.grammar.specs.declared.BinaryMark.the-variants as BinaryMark
 use Rattle.marks.specs.declared.SpanMarks.{SpanMarks}
 use Rattle.marks.specs.Marked.{BinaryBy}
 use Rattle.codes.specs.Codes.{decode, decoded}
-use Rattle.chart.specs.declared.Tally.{Tally}
-use Rattle.chart.specs.Passes.{Took, sidesAt, SplitFits, SplitBelow, SplitRow, none, Splits, Beside, WholeSide, Pass, Passes, Saturated}
+use Rattle.joins.specs.declared.Tally.{Tally}
+use Rattle.joins.specs.Passes.{Took, sidesAt, SplitFits, SplitBelow, SplitRow, none, Splits, Beside, WholeSide, Pass, Passes, Saturated}
 use Rattle.lanes.specs.Lanes.{Lane, Sheeted, MarkedBy, Tallied, Paired, Wider}
 
 -- what happens to the tally of a lane

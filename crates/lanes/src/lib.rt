@@ -1,19 +1,19 @@
 // Spans of sixteen sentences at once: a word has a bit for each of them (a lane). The sentences have the same terminals and
 // differ in layout. A tally is 192 words: which lanes have seen a rule for A (word A), which have a tree (64 + A), which have
 // two (128 + A).
-use chart::Stretch;
-use chart::binaries;
 use codes::first_of;
 use codes::kind_of;
 use codes::left_of;
 use codes::mark_of;
 use codes::second_of;
+use joins::Stretch;
+use joins::binaries;
 use spans::pair_at;
 ghost use mathlib.Core.Path.{_≡_};
 ghost use Prim.Native.Nat.{ℕ, _+_, _*_, _^_, _≤_, _<_};
 ghost use lib.ListN.{length, getD};
 ghost use Rattle.sets.specs.Says.{Says};
-ghost use Rattle.chart.specs.Passes.{Stretches};
+ghost use Rattle.joins.specs.Passes.{Stretches};
 ghost use Rattle.lanes.specs.Lanes.{Added, Space, Resumed, Alike, Stored};
 ghost use Rattle.lanes.specs.Tries.{Each, BinaryWord, SplitTried, RowTried, SplitsTried, UnaryWord, BesideTried, WideTried, PassTried, Turns, SaturatedTried};
 ghost use Rattle.lanes.specs.Joining.{JoinsEach};

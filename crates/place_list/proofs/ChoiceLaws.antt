@@ -11,8 +11,8 @@ use Rattle.grammar.specs.Rows.{startOf}
 use Rattle.grammar.specs.SpanSheet.{part, pairAt}
 use Rattle.grammar.proofs.ByKind.{inside}
 use Rattle.marks.proofs.Words.{part-length}
-use Rattle.chart.specs.Choosing.{NextAt, NoneFrom}
-use Rattle.chart.proofs.PickLaws.{next-first, next-none, next-other, next-only}
+use Rattle.picks.specs.Choosing.{NextAt, NoneFrom}
+use Rattle.picks.proofs.PickLaws.{next-first, next-none, next-other, next-only}
 use Rattle.places.specs.Places.{Several, Contains}
 use Rattle.reach.specs.Reached.{Reached}
 

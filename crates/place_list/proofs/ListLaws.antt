@@ -15,8 +15,8 @@ use Rattle.grammar.specs.Rows.{startOf}
 use Rattle.grammar.proofs.Lists.{every-append}
 use Rattle.grammar.proofs.ByKind.{choice-can, getElem?-lt}
 use Rattle.order.proofs.Places.{there}
-use Rattle.chart.specs.Tables.{rule}
-use Rattle.chart.proofs.RulePlaces.{small-at}
+use Rattle.tables.specs.Tables.{rule}
+use Rattle.tables.proofs.RulePlaces.{small-at}
 use Rattle.lists.specs.declared.Listing.{Listing}
 use Rattle.lists.specs.Putting.{Puts, PutMore, Begun}
 use Rattle.lists.proofs.Entries.{bytes-snoc}

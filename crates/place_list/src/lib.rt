@@ -1,6 +1,4 @@
 // The list of all places at which the readings of a sentence part, in lent bytes.
-use chart::Pick;
-use chart::next_choice;
 use grammar::Grammar;
 use grammar::Sentence;
 use lists::Listed;
@@ -8,6 +6,8 @@ use lists::Listing;
 use lists::begin;
 use lists::finish;
 use lists::put;
+use picks::Pick;
+use picks::next_choice;
 use sets::has;
 use spans::pair_at;
 ghost use Prim.Native.Nat.{_+_, _-_, _≤_, _<_};

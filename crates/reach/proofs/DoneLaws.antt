@@ -23,7 +23,7 @@ use Rattle.marks.proofs.Words.{part-length}
 use Rattle.order.proofs.Places.{there}
 use Rattle.spans.proofs.Places.{pairAt-same, pairAt-below, pairAt-empty, pairs-spans}
 use Rattle.spans.specs.Changes.{Cleared}
-use Rattle.chart.specs.Tables.{rule}
+use Rattle.tables.specs.Tables.{rule}
 use Rattle.places.specs.Places as Pl
 use Rattle.places.specs.Places.{StandsIn, Contains}
 use Rattle.places.proofs.PlaceLaws.{Lies, part-whole, lies-left, lies-right, lies-whole}

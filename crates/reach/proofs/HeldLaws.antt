@@ -21,8 +21,8 @@ use Rattle.grammar.proofs.ByKind.{Can, choice-can, getElem?-lt}
 use Rattle.marks.proofs.Words.{part-length, part-cut}
 use Rattle.order.proofs.Places.{there}
 use Rattle.spans.proofs.Places.{pairAt-same, pairAt-shorter}
-use Rattle.chart.specs.Tables.{rule}
-use Rattle.chart.proofs.PickLaws.{part-take, part-drop}
+use Rattle.tables.specs.Tables.{rule}
+use Rattle.picks.proofs.PickLaws.{part-take, part-drop}
 use Rattle.places.specs.Places as Pl
 use Rattle.places.specs.Places.{StandsIn}
 use Rattle.places.proofs.PaperLaws.{over-unary, over-binary}

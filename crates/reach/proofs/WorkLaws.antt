@@ -20,10 +20,9 @@ use Rattle.marks.specs.Marked.{Marked}
 use Rattle.order.proofs.Places.{there}
 use Rattle.codes.specs.Codes.{decoded}
 use Rattle.codes.proofs.Laws.{small-decode, coded-length, coded-at}
-use Rattle.chart.specs.Tables.{One, byMarks, byTokens, Stand, no-rule, rule}
-use Rattle.chart.specs.Passes.{Room}
-use Rattle.chart.proofs.Views.{fits-le, lefts-le, stand-view, marks-tokens, tokens-marks}
-use Rattle.chart.proofs.PickLaws.{whole, stand-choice, choice-stand}
+use Rattle.tables.specs.Tables.{One, byMarks, byTokens, Stand, no-rule, rule, Room}
+use Rattle.tables.proofs.Views.{fits-le, lefts-le, stand-view, marks-tokens, tokens-marks}
+use Rattle.picks.proofs.PickLaws.{whole, stand-choice, choice-stand}
 use Rattle.reach.specs.Reached.{Bit}
 use Rattle.reach.specs.Joining.{Space, Joins, ChoiceKids}
 use Rattle.reach.specs.Spreading.{Known, Working, Spreads, Works, Worked}

@@ -13,7 +13,7 @@ use Rattle.grammar.specs.declared.Clause.the-variants as Clause
 use Rattle.grammar.specs.Trees.{Rules}
 use Rattle.grammar.specs.SpanSheet.{pairs, pairAt}
 use Rattle.marks.specs.declared.SpanMarks.{SpanMarks}
-use Rattle.chart.specs.Tables.{One, byMarks, Fits, Stand, rule}
+use Rattle.tables.specs.Tables.{One, byMarks, Fits, Stand, rule}
 
 -- the span lies among n tokens, and there is a word for each of their pairs
 pub record Space (rs : List ℕ) (n s len : ℕ) : Type 0 where

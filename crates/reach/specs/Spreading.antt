@@ -15,7 +15,7 @@ use Rattle.marks.specs.declared.Draft.{Draft}
 use Rattle.marks.specs.declared.SpanMarks.{SpanMarks}
 use Rattle.marks.specs.Drafts.{drafted}
 use Rattle.marks.specs.Marked.{Marked}
-use Rattle.chart.specs.Tables.{Table, rule}
+use Rattle.tables.specs.Tables.{Table, rule}
 use Rattle.places.specs.Places.{StandsIn}
 use Rattle.reach.specs.Reached.{Bit}
 

@@ -1,6 +1,4 @@
 // Which nonterminals some whole valid tree contains over which word, read off the span sheet: one word a span, the longest spans first.
-use chart::clause_fits;
-use chart::last_left;
 use codes::encode;
 use codes::left_of;
 use codes::rule_of;
@@ -10,6 +8,8 @@ use grammar::Sentence;
 use marks::Draft;
 use marks::SpanMarks;
 use marks::span_marks;
+use picks::clause_fits;
+use picks::last_left;
 use sets::Member;
 use sets::has;
 use sets::with;
@@ -26,7 +26,7 @@ ghost use Rattle.grammar.specs.Trees.{Derives};
 ghost use Rattle.grammar.specs.SpanSheet.{pairs, pairAt, SpanSheet};
 ghost use Rattle.codes.specs.Codes.{decode, decoded};
 ghost use Rattle.marks.specs.Drafts.{drafted};
-ghost use Rattle.chart.specs.Passes.{Room};
+ghost use Rattle.tables.specs.Tables.{Room};
 ghost use Rattle.reach.specs.Reached.{Reached};
 ghost use Rattle.reach.specs.Joining.{Space, Joins, Kid, LeftKids, ClauseKids, RuleKids, ChoiceKids, Fresh};
 ghost use Rattle.reach.specs.Spreading.{Known, Spreads, Worked, Begun, Done};

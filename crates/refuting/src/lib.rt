@@ -1,7 +1,7 @@
 // Refuting a block of candidates: terminals first, from the last token backward, then positions. A candidate may be passed
 // over if an earlier one that has its first h cells has two trees where it has.
 use candidates::Candidate;
-use chart::Pair;
+use joins::Pair;
 use chart::empty_pair;
 use chart::fill;
 use chart::hopeless;

@@ -18,8 +18,8 @@ use Rattle.grammar.proofs.ChoiceLaws.{first-unique}
 use Rattle.grammar.proofs.ByKind.{no-word}
 use Rattle.marks.proofs.Words.{Cut, cut, part-length}
 use Rattle.rows.specs.declared.Step.{Step}
-use Rattle.derivation.specs.Picks.{PickedStep}
-use Rattle.derivation.proofs.Pending.{nodeShape}
+use Rattle.nodes.specs.Picks.{PickedStep}
+use Rattle.nodes.proofs.Pending.{nodeShape}
 use Rattle.row_counts.specs.Capped.{capped}
 use Rattle.row_counts.specs.Nulls.{Nulls}
 use Rattle.row_counts.specs.Walks.{FirstThere, Own, Down}
@@ -60,6 +60,11 @@ pub record Walk (g : Rules) (w : Word) (goal : ℕ) (end : ℕ) (names longs : L
   pub line : TreeLine names longs w end (i + l) rest
   pub sum : capped (total + (rowCount tree + rowsOfAll rest)) ≡ capped goal
   pub few : total ≤ 4294967296
+
+-- the sums
+pub rises : (total own total′ : ℕ) → total < 4294967296 → 0 < own → total′ ≡ capped (total + own) → total < total′
+unfolding capped
+rises total own total′ h k e = omega arith
 
 pub less-left : (total own total′ : ℕ) → total < 4294967296 → 0 < own → total′ ≡ capped (total + own) → 4294967296 - total′ < 4294967296 - total
 unfolding capped

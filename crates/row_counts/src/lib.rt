@@ -1,10 +1,10 @@
 // How many rows the first and the second tree have, without writing them: a walk along the nodes that have tokens. A tree
 // over the empty word can be astronomically large, so its rows are counted once a nonterminal, in a table.
 use acyclic::cyclic;
-use derivation::choose;
 use grammar::Grammar;
 use grammar::Sentence;
 use heights::heights;
+use nodes::choose;
 use rows::Step;
 use spans::in_first;
 use spans::in_second;
@@ -19,8 +19,8 @@ ghost use Rattle.grammar.specs.Rows.{rowCount};
 ghost use Rattle.grammar.specs.Content.{rules};
 ghost use Rattle.sets.specs.Sets.{In};
 ghost use Rattle.grammar.specs.SpanSheet.{part, secondWord};
-ghost use Rattle.derivation.specs.Wanted.{Charted, Ready, Goal, Wanted};
-ghost use Rattle.derivation.specs.Picks.{HasChoice, PickedStep};
+ghost use Rattle.nodes.specs.Wanted.{Charted, Ready, Goal, Wanted};
+ghost use Rattle.nodes.specs.Picks.{HasChoice, PickedStep};
 ghost use Rattle.row_counts.specs.Capped.{capped};
 ghost use Rattle.row_counts.specs.RowCounts.{Tells};
 ghost use Rattle.row_counts.specs.Nulls.{HasFirsts, Nulls, Sound, nullSize, Passed, Either};

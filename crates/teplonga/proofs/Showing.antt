@@ -15,7 +15,7 @@ use Rattle.grammar.specs.Rows.{rowCount}
 use Rattle.grammar.specs.SpanSheet.{pairs}
 use Rattle.grammar.proofs.Existence.{FirstOf, first-of-derives, two-iff-second}
 use Rattle.derivation.specs.declared.Counts.{Counts}
-use Rattle.derivation.specs.Wanted.{Wanted}
+use Rattle.nodes.specs.Wanted.{Wanted}
 use Rattle.derivation.specs.Written.{places, Written}
 use Rattle.sheets.specs.declared.Fault.the-variants as Fault
 use Rattle.teplonga.specs.declared.Answer.the-variants as Answer

@@ -4,7 +4,7 @@ use mathlib.Core.Path.{subst}
 use Rattle.codes.specs.Codes.{decoded}
 use lib.ListN.{length}
 use Rattle.marks.specs.declared.SpanMarks.{SpanMarks}
-use Rattle.chart.specs.Passes.{Leaves, Saturated}
+use Rattle.joins.specs.Passes.{Leaves, Saturated}
 use Rattle.chart.proofs.SingleLaws.{empty-found}
 use Rattle.chart.proofs.empty_pair.Statement.{statement}
 use Rattle.chart.proofs.empty_pair.Tie as tie

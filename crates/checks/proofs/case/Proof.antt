@@ -1,7 +1,6 @@
 -- `checks::case` is safe: what was put stands within the output.
 use mathlib.Core.Path.{sym}
 use lib.Seq.{length-take-le}
-use Rattle.text.proofs.Within.{printed-within}
 use borrow.Author.Needs.{needs}
 use Rattle.checks.proofs.case.Statement.{statement}
 use Rattle.checks.proofs.case.Tie as tie
@@ -18,17 +17,17 @@ returns c = search needs
 array-share-prefix-space : tie.Need-array-share-prefix-space
 array-share-prefix-space c = search needs
 
-slice-aggregate-check-text : tie.Need-slice-aggregate-check-text
-slice-aggregate-check-text c = sym (length-take-le _ _ (search needs))
+slice-aggregate-output : tie.Need-slice-aggregate-output
+slice-aggregate-output c = sym (length-take-le _ _ (search needs))
 
-check-text-requires : tie.Need-check-text-requires
-check-text-requires c κs = search needs
+output-requires : tie.Need-output-requires
+output-requires c κs = search needs
 
 array-share-prefix-out : tie.Need-array-share-prefix-out
-array-share-prefix-out c = printed-within (c .check-text .ensures)
+array-share-prefix-out c = search needs
 
 slice-aggregate-write-all : tie.Need-slice-aggregate-write-all
-slice-aggregate-write-all c = sym (length-take-le _ _ (printed-within (c .before .check-text .ensures)))
+slice-aggregate-write-all c = sym (length-take-le _ _ (c .before .output .ensures))
 
 write-all-requires : tie.Need-write-all-requires
 write-all-requires c κs = search needs
@@ -44,8 +43,8 @@ case-spec =
     next-case-requires
     returns
     array-share-prefix-space
-    slice-aggregate-check-text
-    check-text-requires
+    slice-aggregate-output
+    output-requires
     array-share-prefix-out
     slice-aggregate-write-all
     write-all-requires

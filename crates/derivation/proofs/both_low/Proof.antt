@@ -1,6 +1,6 @@
 -- `both_low` meets its contract: a local array that is lent holds the least heights.
 use borrow.Author.Needs.{needs}
-use Rattle.derivation.proofs.PreferLaws.{ready-low}
+use Rattle.nodes.proofs.PreferLaws.{ready-low}
 use Rattle.derivation.proofs.both_low.Statement.{statement}
 use Rattle.derivation.proofs.both_low.Tie as tie
 

@@ -8,7 +8,7 @@ use Rattle.grammar.specs.Trees.{Rules}
 use Rattle.codes.specs.Codes.{decoded}
 use Rattle.codes.proofs.Laws.{coded-length, coded-at}
 use Rattle.marks.specs.declared.SpanMarks.{SpanMarks}
-use Rattle.chart.specs.Tables.{no-rule, rule}
+use Rattle.tables.specs.Tables.{no-rule, rule}
 use Rattle.reach.specs.Joining.{Joins, RuleKids}
 use Rattle.reach.proofs.JoinLaws.{Under, joins-zero, joins-next, joins-all, joins-as, joins-rule}
 use Rattle.reach.proofs.spread_choices.Statement.{statement}

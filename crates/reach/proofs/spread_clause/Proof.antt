@@ -2,8 +2,8 @@
 use borrow.Author.Needs.{needs}
 use Prim.Native.Nat.{_+_, _-_}
 use native.Mathlib.Omega.{arith}
-use Rattle.chart.specs.Tables.{One, byMarks}
-use Rattle.chart.proofs.Views.{fits-le, lefts-le}
+use Rattle.tables.specs.Tables.{One, byMarks}
+use Rattle.tables.proofs.Views.{fits-le, lefts-le}
 use Rattle.reach.specs.Joining.{Joins, LeftKids}
 use Rattle.reach.proofs.JoinLaws.{Under, joins-zero, joins-next, joins-all}
 use Rattle.reach.proofs.spread_clause.Statement.{statement}

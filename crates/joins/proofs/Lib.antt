@@ -1,0 +1,4 @@
+pub mod TallyLaws
+pub mod PassLaws
+pub mod CodeLaws
+pub mod Coverage

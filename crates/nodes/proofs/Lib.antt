@@ -1,0 +1,4 @@
+pub mod PickLaws
+pub mod Pending
+pub mod LowLaws
+pub mod PreferLaws

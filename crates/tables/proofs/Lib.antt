@@ -1,0 +1,4 @@
+pub mod RulePlaces
+pub mod Views
+pub mod Completeness
+pub mod Soundness
