@@ -23,7 +23,6 @@ use Rattle.marks.specs.Half.{Half}
 use Rattle.marks.specs.Marked.{Marked}
 use Rattle.spans.specs.Changes.{Past, Kept, WrotePair}
 use Rattle.spans.proofs.Places.{pairAt-same, pairAt-empty}
-use Rattle.spans.proofs.ChangeLaws.{kept-then}
 use Rattle.tables.specs.Tables.{Table, One, Two, Leave, byTokens, byMarks, Fits, Stand, Again, Below, rule}
 use Rattle.tables.specs.Tables.Again.{apart, below}
 use Rattle.joins.specs.declared.Tally.{Tally}

@@ -23,7 +23,6 @@ use Rattle.marks.proofs.HalfLaws.{completes-self}
 use Rattle.spans.specs.Changes.{Past, Kept}
 use Rattle.spans.proofs.Places.{pairAt-same, pairAt-empty, pairAt-shorter, pairs-closed}
 use Rattle.spans.proofs.ChangeLaws.{past-same, past-then, past-more, kept-past}
-use Rattle.spans.proofs.Uniqueness.{words-same}
 use Rattle.order.specs.Order.{Rearranged}
 use Rattle.order.proofs.Same.{derives-same, two-same, one-same, none-under}
 use Rattle.chart.specs.declared.Verdict.{Verdict}
@@ -334,9 +333,3 @@ verdict-same g A w Verdict.One Verdict.Two h k = absurd (one-not-two h k)
 verdict-same g A w Verdict.Two Verdict.None h k = absurd (none-not-two k h)
 verdict-same g A w Verdict.Two Verdict.One h k = absurd (one-not-two k h)
 verdict-same g A w Verdict.Two Verdict.Two h k = refl
-
--- two calls of `judge` on the same words leave the same words
-pub judged-same : {r r′ : Verdict} {g : Rules} {w : Word} {n : ℕ} {ws a b : List ℕ} → length w ≡ n → ((q : ℕ) → getD a q 0 < 2 ^ 64) → ((q : ℕ) → getD b q 0 < 2 ^ 64)
-    → Judged r g w n ws a → Judged r′ g w n ws b → a ≡ b
-judged-same {g} {w} {ws = ws} {a} {b} e small small′ x y =
-    words-same g w a b small small′ (x .sheet) (y .sheet) ws (subst (λ (m : ℕ). Past (2 * pairs m) ws a) (sym e) (x .past)) (subst (λ (m : ℕ). Past (2 * pairs m) ws b) (sym e) (y .past))

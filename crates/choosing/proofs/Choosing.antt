@@ -35,13 +35,12 @@ use Rattle.lane_search.specs.Searching.{Placed, Begins, Grown, Finds, inColumn}
 use Rattle.lane_search.specs.Batches.{RestTried}
 use Rattle.lane_search.proofs.Choices.{chosen-long, chosen-at, rising-at, within-standing, placed-within, same-front}
 use Rattle.lane_search.proofs.Flagging.{grown-none, grown-more}
-use Rattle.lane_columns.specs.LaneColumns.{range}
+use Rattle.column_ranges.specs.RangeSentences.{range, Ended}
 use Rattle.lane_charts.specs.LaneCharts.{Spreads}
 use Rattle.choosing.specs.Searching.{Standing, FindsBelow, MayBe, Put, Gridded, Poised, Tryable, Trying, Searched}
 use Rattle.choosing.proofs.Placing.{put-before, put-terminal, put-tryable, placed-next}
 use Rattle.grammar.specs.Distinct.{Distinct}
 use Rattle.chart.specs.Verdicts.{Holds}
-use Rattle.column_ranges.specs.RangeSentences.{Ended}
 
 -- ---- the words
 

@@ -10,10 +10,9 @@ use Rattle.grammar.specs.Layout.{Every}
 use Rattle.column_ranges.specs.declared.RangeSentence.{RangeSentence}
 use Rattle.column_ranges.specs.Ranges.{Ranges, columns, choiceCount}
 use Rattle.column_ranges.proofs.Counting.{Counting, counting-none, counting-more, product-fits}
-use Rattle.lane_columns.specs.LaneColumns.{no-range}
+use Rattle.column_ranges.specs.RangeSentences.{no-range, rangesOf, Ended, Spread}
 use Rattle.lane_search.proofs.Numbering.{every-drop}
 use Rattle.choosing.specs.Searching.{Few}
-use Rattle.column_ranges.specs.RangeSentences.{rangesOf, Ended, Spread}
 
 -- there is a choice
 choices-some : (rs : Ranges) → Every Ended rs → 0 < choiceCount rs

@@ -17,11 +17,10 @@ use Rattle.column_ranges.specs.declared.RangeToken.{RangeToken}
 use Rattle.column_ranges.specs.declared.RangeSentence.{RangeSentence}
 use Rattle.column_ranges.specs.Ranges.{Ranges, WithinEnds}
 use Rattle.column_ranges.proofs.Counting.{range-read}
-use Rattle.lane_columns.specs.LaneColumns.{no-range, range}
+use Rattle.column_ranges.specs.RangeSentences.{no-range, range, rangesOf, Spread}
 use Rattle.lane_search.specs.Searching.{inColumn, Placed}
 use Rattle.choosing.specs.Searching.{Put, Tryable}
 use Rattle.grammar.specs.Sentences.{no-token}
-use Rattle.column_ranges.specs.RangeSentences.{rangesOf, Spread}
 
 -- ---- a token put at a place
 

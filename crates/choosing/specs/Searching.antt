@@ -16,7 +16,7 @@ use Rattle.chart.specs.declared.Verdict.the-variants as Verdict
 use Rattle.chart.specs.Sheets.{Exact}
 use Rattle.spans.specs.Changes.{Past}
 use Rattle.column_ranges.specs.Ranges.{Ranges, WithinEnds, choiceCount, choiceLimit}
-use Rattle.lane_columns.specs.LaneColumns.{range}
+use Rattle.column_ranges.specs.RangeSentences.{range}
 use Rattle.lane_charts.specs.LaneCharts.{Prepared}
 use Rattle.lane_search.specs.declared.Flags.{Flags}
 use Rattle.lane_search.specs.Answers.{flag}

@@ -10,11 +10,7 @@ use Rattle.grammar.specs.Layout.{Every}
 use Rattle.column_ranges.specs.declared.RangeToken.{RangeToken}
 use Rattle.column_ranges.specs.declared.RangeSentence.{RangeSentence}
 use Rattle.column_ranges.specs.Ranges.{Ranges, columns, choiceCount, choiceLimit}
-use Rattle.column_ranges.specs.RangeSentences.{rangesOf, Ended, Spread, CountsChoices}
-
--- what stands past the end
-abbrev pub no-range : RangeToken
-no-range = record { terminal = 0; line = record { 0 = 0 }; low = record { 0 = 0 }; high = record { 0 = 0 } }
+use Rattle.column_ranges.specs.RangeSentences.{rangesOf, Ended, Spread, CountsChoices, no-range}
 
 every-at : (P : RangeToken → Type 0) (rs : Ranges) → Every P rs → (i : ℕ) → i < length rs → P (getD rs i no-range)
 every-at P [] e i h = absurd (omega arith)

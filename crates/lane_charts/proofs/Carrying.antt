@@ -20,7 +20,8 @@ use Rattle.marks.specs.Half.{Half, tokenAt, MayKeep, MayPair}
 use Rattle.marks.specs.Marked.{Carried, Marked}
 use Rattle.marks.proofs.Joining.{carried-all}
 use Rattle.column_ranges.specs.Ranges.{Ranges}
-use Rattle.lane_columns.specs.LaneColumns.{range, column, InLane, Those}
+use Rattle.lane_columns.specs.LaneColumns.{column, InLane, Those}
+use Rattle.column_ranges.specs.RangeSentences.{range}
 use Rattle.sets.proofs.Sets.{in-zero}
 use Rattle.lanes.specs.Lanes.{MarkedBy}
 use Rattle.lanes.proofs.Bits.{in-or, in-and}

@@ -24,7 +24,8 @@ use Rattle.chart.proofs.FillLaws.{first-kept, second-kept, given-same, given-ke
 use Rattle.chart.proofs.OpenLaws.{open-none}
 use Rattle.chart.proofs.SheetLaws.{begun, charted, filled-next, filled-end, filled-ground, filled-on}
 use Rattle.column_ranges.specs.Ranges.{Ranges}
-use Rattle.lane_columns.specs.LaneColumns.{range, InLane}
+use Rattle.lane_columns.specs.LaneColumns.{InLane}
+use Rattle.column_ranges.specs.RangeSentences.{range}
 use Rattle.lanes.specs.Lanes.{Lane, Sheeted}
 use Rattle.lanes.specs.Joining.{JoinsEach}
 use Rattle.lane_charts.specs.MarkWords.{whole, MarksEach}

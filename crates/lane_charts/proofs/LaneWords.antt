@@ -8,7 +8,8 @@ use Rattle.grammar.specs.declared.Token.{Token}
 use Rattle.grammar.specs.Layout.{Word, line, col}
 use Rattle.marks.specs.Half.{tokenAt}
 use Rattle.column_ranges.specs.Ranges.{Ranges}
-use Rattle.lane_columns.specs.LaneColumns.{range, standing, column, InLane}
+use Rattle.lane_columns.specs.LaneColumns.{standing, column, InLane}
+use Rattle.column_ranges.specs.RangeSentences.{range}
 
 -- the ranges' tokens in the columns f
 abbrev wordBy : Ranges → (ℕ → ℕ) → Word

@@ -12,7 +12,8 @@ use Rattle.chart.specs.Filling.{Filled}
 use Rattle.chart.specs.Sheets.{Exact}
 use Rattle.column_ranges.specs.Ranges.{Ranges}
 use Rattle.lanes.specs.Lanes.{Sheeted}
-use Rattle.lane_columns.specs.LaneColumns.{range, InLane}
+use Rattle.lane_columns.specs.LaneColumns.{InLane}
+use Rattle.column_ranges.specs.RangeSentences.{range}
 use Rattle.lane_charts.specs.MarkWords.{whole}
 
 -- the pairs of the empty word and of single tokens, which go by no column, are right in the sheet ws

@@ -5,11 +5,9 @@ use mathlib.Core.Logic.{_⊎_, ⊎-elim, _↔_}
 use Prim.Native.Nat.{ℕ, _+_, _^_, _≤_, _<_}
 use native.Mathlib.Omega.{arith}
 use native.Mathlib.Decide.{decLt}
-use lib.Bits.{or-lt}
-use lib.Pow.{pow-lt}
 use Rattle.sets.specs.Says.{Says}
 use Rattle.sets.specs.Sets.{In}
-use Rattle.sets.proofs.Sets.{in-zero, insert-same, insert-keeps, insert-only}
+use Rattle.sets.proofs.Sets.{in-zero, insert-same, insert-keeps, insert-only, insert-lt}
 use Rattle.marks.specs.Marked.{Included}
 use Rattle.lane_columns.specs.LaneColumns.{Those, Upto}
 use Rattle.sets.specs.Insertion.{insert}
@@ -18,16 +16,11 @@ use Rattle.sets.specs.Insertion.{insert}
 pub upto-none : {P : ℕ → Type 0} → Upto 0 0 P
 upto-none = record { small = omega arith; each = λ d x. absurd (omega arith); only = λ d i. absurd (in-zero d i) }
 
--- a set of lanes with one more
-lane-small : (v c : ℕ) → c < 16 → v < 2 ^ 16 → insert v c < 2 ^ 16
-unfolding insert
-lane-small v c l h = or-lt 16 v (2 ^ c) h (pow-lt l)
-
 -- the next lane
 pub upto-next : {v c r : ℕ} {P : ℕ → Type 0} (yes : Bool) → c < 16 → Says yes (P c) → Included v c yes r → Upto v c P → Upto r (c + 1) P
 upto-next {v} {c} {r} {P} true l s e u =
     subst (λ (x : ℕ). Upto x (c + 1) P) (sym (e .is refl)) (record {
-      small = lane-small v c l (u .small);
+      small = insert-lt 16 v c (u .small) l;
       each = λ d x. go d x (decLt d c);
       only = λ d i. ⊎-elim (λ j. omega (arith, u .only d j)) (λ q. omega arith) (insert-only v c d i);
     })

@@ -11,14 +11,7 @@ use Rattle.grammar.specs.Layout.{Word}
 use Rattle.marks.specs.Half.{tokenAt}
 use Rattle.column_ranges.specs.declared.RangeToken.{RangeToken}
 use Rattle.column_ranges.specs.Ranges.{Ranges}
-
--- what stands past the end of ranges
-abbrev pub no-range : RangeToken
-no-range = record { terminal = 0; line = record { 0 = 0 }; low = record { 0 = 0 }; high = record { 0 = 0 } }
-
--- the range at i
-abbrev pub range : Ranges → ℕ → RangeToken
-range rs i = getD rs i no-range
+use Rattle.column_ranges.specs.RangeSentences.{range}
 
 -- the token of r in the column x
 abbrev pub standing : RangeToken → ℕ → Token

@@ -14,10 +14,10 @@ use Rattle.column_ranges.specs.declared.RangeToken.{RangeToken}
 use Rattle.column_ranges.specs.declared.RangeSentence.{RangeSentence}
 use Rattle.column_ranges.specs.Ranges.{Ranges, WithinEnds, Chosen, columns}
 use Rattle.column_ranges.proofs.Counting.{range-read, ended-at}
-use Rattle.lane_columns.specs.LaneColumns.{range, standing}
+use Rattle.lane_columns.specs.LaneColumns.{standing}
+use Rattle.column_ranges.specs.RangeSentences.{range, rangesOf, Ended, Spread}
 use Rattle.lane_search.specs.Searching.{inColumn}
 use Rattle.grammar.specs.Sentences.{no-token}
-use Rattle.column_ranges.specs.RangeSentences.{rangesOf, Ended, Spread}
 
 pub chosen-long : (rs : Ranges) (x : Word) → Chosen rs x → length x ≡ length rs
 chosen-long [] [] c = refl

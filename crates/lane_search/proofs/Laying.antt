@@ -11,11 +11,11 @@ use Rattle.grammar.specs.Layout.{Word, col}
 use Rattle.marks.specs.Half.{tokenAt}
 use Rattle.column_ranges.specs.declared.RangeToken.{RangeToken}
 use Rattle.column_ranges.specs.Ranges.{Ranges, columns}
-use Rattle.lane_columns.specs.LaneColumns.{no-range, range, column}
+use Rattle.lane_columns.specs.LaneColumns.{column}
+use Rattle.column_ranges.specs.RangeSentences.{no-range, range, Ended}
 use Rattle.lane_search.specs.Searching.{inColumn}
 use Rattle.lane_search.specs.Numbers.{chosenAt}
 use Rattle.lane_search.specs.Batches.{Leveled, Fronted, Laid, InBatch, LaneBatch, Batch}
-use Rattle.column_ranges.specs.RangeSentences.{Ended}
 
 -- ---- one column
 

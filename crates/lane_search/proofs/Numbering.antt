@@ -10,12 +10,11 @@ use lib.Seq.{length-take-le, getD-take, getD-drop, getD-append-add}
 use Rattle.grammar.specs.Layout.{Word, col, Every}
 use Rattle.marks.specs.Half.{tokenAt}
 use Rattle.column_ranges.specs.Ranges.{Ranges, WithinEnds, Chosen, columns, choiceCount}
-use Rattle.lane_columns.specs.LaneColumns.{no-range, range}
+use Rattle.column_ranges.specs.RangeSentences.{no-range, range, Ended}
 use Rattle.lane_search.specs.Searching.{inColumn, Placed}
 use Rattle.lane_search.specs.Numbers.{chosenAt, beginning}
 use Rattle.lane_search.proofs.Choices.{chosen-long, chosen-at, at-chosen, placed-within, within-standing, same-front}
 use Rattle.grammar.specs.Sentences.{no-token}
-use Rattle.column_ranges.specs.RangeSentences.{Ended}
 
 -- ---- a number gives a choice
 

@@ -26,7 +26,8 @@ use Rattle.chart.specs.Sheets.{Exact}
 use Rattle.chart.proofs.SheetLaws.{reads-none, reads-one, reads-two, verdict-same}
 use Rattle.column_ranges.specs.Ranges.{Ranges, Chosen, SomeChoiceGives, choiceCount}
 use Rattle.lanes.specs.Lanes.{Sheeted}
-use Rattle.lane_columns.specs.LaneColumns.{range, standing, column, InLane, Those}
+use Rattle.lane_columns.specs.LaneColumns.{standing, column, InLane, Those}
+use Rattle.column_ranges.specs.RangeSentences.{range, Ended}
 use Rattle.lane_charts.specs.LaneCharts.{Prepared, Charts}
 use Rattle.lane_search.specs.declared.Flags.{Flags}
 use Rattle.lane_search.specs.Answers.{flag}
@@ -38,7 +39,6 @@ use Rattle.lane_search.proofs.Numbering.{beginning-front, beginning-bac
 use Rattle.lane_search.proofs.Flagging.{grown-none, grown-more}
 use Rattle.grammar.specs.Sentences.{no-token}
 use Rattle.chart.specs.Verdicts.{Holds}
-use Rattle.column_ranges.specs.RangeSentences.{Ended}
 
 -- ---- rising
 

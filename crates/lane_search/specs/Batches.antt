@@ -15,7 +15,8 @@ use Rattle.marks.specs.Half.{tokenAt}
 use Rattle.chart.specs.declared.Verdict.{Verdict}
 use Rattle.chart.specs.declared.Verdict.the-variants as Verdict
 use Rattle.column_ranges.specs.Ranges.{Ranges, Chosen}
-use Rattle.lane_columns.specs.LaneColumns.{range, standing, column, InLane}
+use Rattle.lane_columns.specs.LaneColumns.{standing, column, InLane}
+use Rattle.column_ranges.specs.RangeSentences.{range}
 use Rattle.lane_charts.specs.LaneCharts.{Prepared}
 use Rattle.lane_search.specs.declared.Flags.{Flags}
 use Rattle.lane_search.specs.Answers.{flag}

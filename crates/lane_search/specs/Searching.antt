@@ -12,7 +12,8 @@ use Rattle.marks.specs.Half.{tokenAt}
 use Rattle.chart.specs.declared.Verdict.{Verdict}
 use Rattle.column_ranges.specs.declared.RangeToken.{RangeToken}
 use Rattle.column_ranges.specs.Ranges.{Ranges, WithinEnds, Chosen, SomeChoiceGives}
-use Rattle.lane_columns.specs.LaneColumns.{range, standing}
+use Rattle.lane_columns.specs.LaneColumns.{standing}
+use Rattle.column_ranges.specs.RangeSentences.{range}
 use Rattle.lane_search.specs.declared.Flags.{Flags}
 use Rattle.lane_search.specs.Answers.{flag}
 use Rattle.chart.specs.Verdicts.{Holds}

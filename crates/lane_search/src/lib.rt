@@ -21,13 +21,13 @@ ghost use Rattle.codes.specs.Codes.{decoded};
 ghost use Rattle.grammar.specs.SpanSheet.{pairs};
 ghost use Rattle.chart.specs.declared.Verdict.{Verdict};
 ghost use Rattle.column_ranges.specs.Ranges.{choiceCount};
-ghost use Rattle.lane_columns.specs.LaneColumns.{range, standing as standingIn, column, Those};
+ghost use Rattle.lane_columns.specs.LaneColumns.{standing as standingIn, column, Those};
+ghost use Rattle.column_ranges.specs.RangeSentences.{range, rangesOf, Spread};
 ghost use Rattle.lane_charts.specs.LaneCharts.{Prepared};
 ghost use Rattle.lane_search.specs.Answers.{flag};
 ghost use Rattle.lane_search.specs.Searching.{With, Placed};
 ghost use Rattle.lane_search.specs.Batches.{Leveled, Fronted, Laid, InBatch, Batch, RisesTo, ReadsIn, Tells, HasChoices, BatchTried, RestTried};
 ghost use Rattle.grammar.specs.Distinct.{Distinct};
-ghost use Rattle.column_ranges.specs.RangeSentences.{rangesOf, Spread};
 
 // Of each verdict: does some rising choice give it?
 pub struct Flags {

@@ -40,7 +40,7 @@ record Grows (ws ws′ : List ℕ) (p a x : ℕ) : Type 0 where
 module _ {c : ℕ} {ws ws′ : List ℕ} {p a x s : ℕ} (g : Grows ws ws′ p a x) (l : a < 64) (h : Lane c ws p s) where
   -- a lane that is added
   lane-in : In x c → Lane c ws′ p (insert s a)
-  lane-in m = record { small = insert-lt s a (h .small) l; bits = λ A k. go A k (ℕ-discrete A a) }
+  lane-in m = record { small = insert-lt 64 s a (h .small) l; bits = λ A k. go A k (ℕ-discrete A a) }
     where
       go : (A : ℕ) → A < 64 → Dec (A ≡ a) → In (insert s a) A ↔ In (getD ws′ (p + A) 0) c
       go A k (yes e) =

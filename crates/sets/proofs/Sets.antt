@@ -5,7 +5,7 @@ use Prim.Native.Nat.{ℕ, suc, _+_, _-_, _*_, _/_, _%_, _^_, _≤_, _<_, max}
 use native.Mathlib.Nat.{zero-div, div-eq-of-lt, mul-mod-left, div-self, one-mul, mod-eq-of-lt}
 use native.Mathlib.Omega.{arith}
 use native.Mathlib.Decide.{ℕ-discrete, decLt}
-use lib.Bits.{bitOr, or-shr, or-step, or-add-and, and-le-r}
+use lib.Bits.{bitOr, or-shr, or-step, or-add-and, and-le-r, or-lt}
 use lib.Pow.{pow-pos, pow-lt, pow-add, shl-shr}
 use lib.Arith.{digits-mod}
 use Rattle.sets.specs.Sets.{In}
@@ -61,6 +61,11 @@ insert-only s a b h = go (decLt a b) (decLt b a)
 pub insert-ge : (s a : ℕ) → s ≤ insert s a
 unfolding insert
 insert-ge s a = omega (arith, or-add-and s (2 ^ a), and-le-r s (2 ^ a))
+
+-- a set of numbers below k is below 2^k
+pub insert-lt : (k s a : ℕ) → s < 2 ^ k → a < k → insert s a < 2 ^ k
+unfolding insert
+insert-lt k s a h l = or-lt k s (2 ^ a) h (pow-lt l)
 
 -- what `set | (1 << a)` computes
 pub insert-shl : (s a : ℕ) → a < 64 → bitOr s ((1 * 2 ^ a) % 2 ^ 64) ≡ insert s a

@@ -8,7 +8,7 @@ use Rattle.codes.specs.Codes.{decoded}
 use Rattle.column_ranges.specs.declared.RangeToken.{RangeToken}
 use Rattle.column_ranges.specs.declared.RangeSentence.{RangeSentence}
 use Rattle.column_ranges.proofs.Counting.{range-read}
-use Rattle.lane_columns.specs.LaneColumns.{no-range, range}
+use Rattle.column_ranges.specs.RangeSentences.{no-range, range, rangesOf}
 use Rattle.lane_charts.specs.MarkWords.{MarksEach}
 use Rattle.lane_charts.specs.LaneCharts.{FilledEach}
 use Rattle.lane_charts.proofs.Carrying.{marks-first, marks-more}
@@ -22,7 +22,6 @@ use Rattle.lane_charts.proofs.grow.Reads as grow-reads
 use Rattle.lane_columns.proofs.before.Reads as before-reads
 use Rattle.lane_columns.proofs.level.Reads as level-reads
 use Rattle.lanes.proofs.close.Reads as close-reads
-use Rattle.column_ranges.specs.RangeSentences.{rangesOf}
 
 abbrev Inv-loop : tie.InvT-loop
 Inv-loop grid₀ cols codes start r n la marks₀ len₀ grid marks len =
