@@ -168,6 +168,16 @@ idle-all f ws n a b c Verdict.Two m = c m
 -- ---- a column is tried
 
 module _ {g : Rules} {rs : Ranges} {n e i : ℕ} {w : Word} {f : Flags} {ws : List ℕ} (size : length rs ≡ n) (h : i < n) where
+  -- nothing is left to find
+  pub trying-full : {right : ℕ} → ((v : Verdict) → flag f v ≡ true) → Standing g n e w ws → Trying g rs n e i w f ws ws (record { out = true; right = right })
+  trying-full a st = record {
+    out = λ z. record { all = λ v x b. a v };
+    back = st;
+    low = λ z. absurd (true-not-false z);
+    on = λ z. absurd (true-not-false z);
+    past = past-same _ ws;
+  }
+
   -- it does not come after the one before
   pub trying-falling : {right : ℕ} → ((0 < i → After (tokenAt w (i - 1)) (tokenAt w i)) → ⊥) → Standing g n e w ws → Trying g rs n e i w f ws ws (record { out = true; right = right })
   trying-falling a st = record {

@@ -12,6 +12,7 @@ use grammar::Token;
 use grammar::Width;
 use lane_charts::spread;
 use lane_search::Flags;
+use lane_search::full;
 use lane_search::try_rest;
 use marks::Draft;
 use order::ordered;
@@ -145,7 +146,7 @@ fn idle(words: &[u64], n: usize, f: Flags) -> bool
 }
 
 // Try the column of the token at i. The words are filled anew only where the next token has several columns, or there is none.
-fn shut(
+fn look(
     codes: &[u64],
     r: RangeSentence,
     tokens: [Token; 64],
@@ -176,6 +177,28 @@ fn shut(
     fill(words, d, codes, right, n);
     let out = idle(words, n, f);
     Tried { out, right: known }
+}
+
+// The same, but where nothing new can come, all three being found.
+fn shut(
+    codes: &[u64],
+    r: RangeSentence,
+    tokens: [Token; 64],
+    right: usize,
+    i: usize,
+    words: &mut [u64],
+    f: Flags,
+) -> Tried
+    requires { ⌜ Spread r × (i < r .count) × (right ≤ i) ⌝ }
+    requires { ⌜ Distinct (decoded (now codes)) ⌝ }
+    requires { ⌜ 2 * pairs (r .count) ≤ length (now words) ⌝ }
+    requires { ⌜ Tryable (rangesOf r) (take (r .count) tokens) i × Standing (decoded (now codes)) (r .count) right (take (r .count) tokens) (now words) ⌝ }
+    ensures { λ t. ⌜ Trying (decoded (now (codes .entry))) (rangesOf r) (r .count) right i (take (r .count) tokens) f (now (words .entry)) (now (words .exit)) t ⌝ }
+{
+    if full(f) {
+        return Tried { out: true, right };
+    }
+    look(codes, r, tokens, right, i, words, f)
 }
 
 // How many choices the tokens from i on have; 0 where those behind the first of them have 256 or more, or all more than 65,536.

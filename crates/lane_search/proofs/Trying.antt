@@ -17,7 +17,7 @@ use Rattle.grammar.specs.Trees.{Rules}
 use Rattle.grammar.specs.Candidates.{After, Rising}
 use Rattle.grammar.specs.SpanSheet.{pairs, pairAt, firstWord, secondWord}
 use Rattle.spans.proofs.Places.{pairAt-below}
-use Rattle.sheets.specs.TokenSheets.{after}
+use Rattle.sheets.specs.Following.{after}
 use Rattle.sheets.proofs.Accepted.{after-says}
 use Rattle.marks.specs.Half.{tokenAt}
 use Rattle.chart.specs.declared.Verdict.{Verdict}
@@ -33,7 +33,7 @@ use Rattle.lane_search.specs.declared.Flags.{Flags}
 use Rattle.lane_search.specs.Answers.{flag}
 use Rattle.lane_search.specs.Searching.{Placed, Grown, With}
 use Rattle.lane_search.specs.Numbers.{beginning}
-use Rattle.lane_search.specs.Batches.{Fronted, Numbered, Batch, RisesTo, ReadsIn, HasLane, SomeLane, Tells, HasChoices, BatchTried, RestTried}
+use Rattle.lane_search.specs.Batches.{Fronted, Numbered, Batch, RisesTo, ReadsIn, HasLane, SomeLane, TellsLanes, HasChoices, BatchTried, RestTried}
 use Rattle.lane_search.proofs.Choices.{chosen-long, chosen-at, rising-at, at-rising, within-standing, same-word}
 use Rattle.lane_search.proofs.Numbering.{beginning-front, beginning-back, beginning-chosen, beginning-all}
 use Rattle.lane_search.proofs.Flagging.{grown-none, grown-more}
@@ -83,10 +83,10 @@ module _ (n : ℕ) {c p : ℕ} (e : p ≡ pairAt n 0 n) where
 -- ---- verdicts, lane by lane
 
 module _ {grid : List ℕ} {n v : ℕ} {f : Flags} where
-  pub tells-none : Tells grid n v 0 f f
+  pub tells-none : TellsLanes grid n v 0 f f
   tells-none = record { kept = λ u e. e; given = λ u e. inl e; found = λ d h m. absurd (omega arith) }
 
-  pub tells-in : {c : ℕ} {u : Verdict} {r s : Flags} → c < 16 → In v c → ReadsIn grid n c u → With r u s → Tells grid n v c f r → Tells grid n v (c + 1) f s
+  pub tells-in : {c : ℕ} {u : Verdict} {r s : Flags} → c < 16 → In v c → ReadsIn grid n c u → With r u s → TellsLanes grid n v c f r → TellsLanes grid n v (c + 1) f s
   tells-in {c} {u} {r} {s} few m reads with t = record {
     kept = λ a e. with .kept a (t .kept a e);
     given = λ a e. ⊎-elim (t .given a) (λ q. inr (subst (SomeLane grid n v) (sym q) (record { lane = c; few = few; member = m; reads = reads }))) (with .given a e);
@@ -99,14 +99,14 @@ module _ {grid : List ℕ} {n v : ℕ} {f : Flags} where
           let y = t .found d (omega arith) i in
           record { verdict = y .verdict; reads = y .reads; set = with .kept (y .verdict) (y .set) }
 
-  pub tells-out : {c : ℕ} {r : Flags} → (In v c → ⊥) → Tells grid n v c f r → Tells grid n v (c + 1) f r
+  pub tells-out : {c : ℕ} {r : Flags} → (In v c → ⊥) → TellsLanes grid n v c f r → TellsLanes grid n v (c + 1) f r
   tells-out {c} {r} out t = record { kept = t .kept; given = t .given; found = λ d h i. go d h i (ℕ-discrete d c) }
     where
       go : (d : ℕ) → d < c + 1 → In v d → Dec (d ≡ c) → HasLane grid n d r
       go d h i (yes e) = absurd (out (subst (In v) e i))
       go d h i (no apart) = t .found d (omega arith) i
 
-  pub tells-all : {c : ℕ} {r : Flags} → 16 ≤ c → Tells grid n v c f r → Tells grid n v 16 f r
+  pub tells-all : {c : ℕ} {r : Flags} → 16 ≤ c → TellsLanes grid n v c f r → TellsLanes grid n v 16 f r
   tells-all h t = record { kept = t .kept; given = t .given; found = λ d a i. t .found d (omega arith) i }
 
 -- ---- a batch
@@ -160,7 +160,7 @@ module _ {rs : Ranges} {n v : ℕ} {cols : List ℕ} (size : length rs ≡ n) (t
   }
 
   -- the lanes that rise are told
-  pub tried-filled : {g : Rules} {grid grid′ : List ℕ} {f r : Flags} → HasChoices rs cols → Charts g rs n cols grid grid′ → Tells grid′ n v 16 f r
+  pub tried-filled : {g : Rules} {grid grid′ : List ℕ} {f r : Flags} → HasChoices rs cols → Charts g rs n cols grid grid′ → TellsLanes grid′ n v 16 f r
       → BatchTried g rs n cols grid grid′ f r
   tried-filled {g} {grid} {grid′} {f} {r} has t s = record {
     size = t .size;

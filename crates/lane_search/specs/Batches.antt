@@ -93,7 +93,7 @@ pub record SomeLane (grid : List ℕ) (n v : ℕ) (u : Verdict) : Type 0 where
   pub reads : ReadsIn grid n lane u
 
 -- r is f with the verdicts of the lanes before c that the word v has
-pub record Tells (grid : List ℕ) (n v c : ℕ) (f r : Flags) : Type 0 where
+pub record TellsLanes (grid : List ℕ) (n v c : ℕ) (f r : Flags) : Type 0 where
   pub kept : (u : Verdict) → flag f u ≡ true → flag r u ≡ true
   pub given : (u : Verdict) → flag r u ≡ true → (flag f u ≡ true) ⊎ SomeLane grid n v u
   pub found : (d : ℕ) → d < c → In v d → HasLane grid n d r

@@ -26,7 +26,7 @@ ghost use Rattle.column_ranges.specs.RangeSentences.{range, rangesOf, Spread};
 ghost use Rattle.lane_charts.specs.LaneCharts.{Prepared};
 ghost use Rattle.lane_search.specs.Answers.{flag};
 ghost use Rattle.lane_search.specs.Searching.{With, Placed};
-ghost use Rattle.lane_search.specs.Batches.{Leveled, Fronted, Laid, InBatch, Batch, RisesTo, ReadsIn, Tells, HasChoices, BatchTried, RestTried};
+ghost use Rattle.lane_search.specs.Batches.{Leveled, Fronted, Laid, InBatch, Batch, RisesTo, ReadsIn, TellsLanes, HasChoices, BatchTried, RestTried};
 ghost use Rattle.grammar.specs.Distinct.{Distinct};
 
 // Of each verdict: does some rising choice give it?
@@ -60,7 +60,7 @@ fn with_verdict(f: Flags, v: Verdict) -> Flags
 }
 
 // Are all three set, so that nothing new can come?
-fn full(f: Flags) -> bool
+pub fn full(f: Flags) -> bool
     ensures { λ b. ⌜ (b ≡ true → (v : Verdict) → flag f v ≡ true) ⌝ }
 {
     if f.none {
@@ -217,7 +217,7 @@ fn verdict(grid: &[u16], n: usize, c: usize) -> Verdict
 // The flags with the verdicts of the lanes in v besides.
 fn tell(grid: &[u16], n: usize, v: u64, f: Flags) -> Flags
     requires { ⌜ (n ≤ 64) × (128 * pairs n ≤ length (now grid)) ⌝ }
-    ensures { λ r. ⌜ Tells (now (grid .entry)) n v 16 f r ⌝ }
+    ensures { λ r. ⌜ TellsLanes (now (grid .entry)) n v 16 f r ⌝ }
 {
     let mut found = f;
     let mut c: usize = 0;

@@ -16,7 +16,7 @@ use Rattle.spans.proofs.Places.{pairAt-below}
 use Rattle.joins.specs.declared.Tally.{Tally}
 use Rattle.joins.specs.Passes.{none, Joins}
 use Rattle.lanes.specs.Lanes.{Lane, Sheeted, MarkedBy, Tallied, Stored}
-use Rattle.lanes.specs.Tries.{Each, Turns, Aside, SplitsTried, SaturatedTried}
+use Rattle.lanes.specs.Tries.{EachLane, Turns, Aside, SplitsTried, SaturatedTried}
 use Rattle.lanes.specs.Joining.{JoinsEach}
 use Rattle.lanes.proofs.Bits.{in-word}
 use Rattle.lanes.proofs.Saturating.{lane-moved}
@@ -93,7 +93,7 @@ sheeted-stored {c} {grid} {grid′} {ws} {t} n p {v} low sh st x = record {
 
 -- ---- the span is joined
 
-pub joins-each : {grid grid′ codes marks b t : List ℕ} (n s len : ℕ) → s + len ≤ n → 0 < len → Each (SplitsTried grid codes marks n s len len) blank b
+pub joins-each : {grid grid′ codes marks b t : List ℕ} (n s len : ℕ) → s + len ≤ n → 0 < len → EachLane (SplitsTried grid codes marks n s len len) blank b
     → Turns (SaturatedTried grid codes marks) b t → Stored grid grid′ (pairAt n s len) t → JoinsEach grid grid′ codes marks n s len
 joins-each {grid} {grid′} {codes} {marks} {b} {t} n s len fit pos spl sat st = record { size = st .size; lane = lane }
   where

@@ -11,7 +11,7 @@ use Rattle.spans.proofs.Uniqueness.{sets-same}
 use Rattle.joins.specs.declared.Tally.{Tally}
 use Rattle.joins.specs.Passes.{resumed, passes-none, passes-more}
 use Rattle.lanes.specs.Lanes.{Lane, Wider, Tallied, Resumed, Alike}
-use Rattle.lanes.specs.Tries.{Each, PassTried, Turns, PassesTried, SaturatedTried}
+use Rattle.lanes.specs.Tries.{EachLane, PassTried, Turns, PassesTried, SaturatedTried}
 use Rattle.lanes.proofs.Bits.{in-as}
 
 -- a lane of words that are the same, wherever they stand
@@ -27,7 +27,7 @@ module _ (grid codes marks : List ℕ) where
   pub turns-none : (b : List ℕ) → length b ≡ 192 → Turns (PassesTried grid codes marks) b b
   turns-none b e = record { size = e; lane = λ c m u x. (u, x, λ one two len k o. passes-none) }
 
-  module _ {b t r t′ : List ℕ} (w : Turns (PassesTried grid codes marks) b t) (re : Resumed b t r) (p : Each (PassTried grid codes marks 0) r t′) where
+  module _ {b t r t′ : List ℕ} (w : Turns (PassesTried grid codes marks) b t) (re : Resumed b t r) (p : EachLane (PassTried grid codes marks 0) r t′) where
     -- where the pass begins
     begins : {c : ℕ} {u v : Tally} → Tallied c b u → Tallied c t v → Tallied c r (resumed u v)
     begins x y = record {

@@ -21,7 +21,7 @@ use Rattle.joins.specs.Passes.{Took, sidesAt, SplitFits, SplitBelow, Unpaired, 
 use Rattle.joins.specs.Passes.Took.{fell}
 use Rattle.joins.proofs.CodeLaws.{split-low, row-upto}
 use Rattle.lanes.specs.Lanes.{Lane, Sheeted, MarkedBy, Space, Tallied, Paired}
-use Rattle.lanes.specs.Tries.{Each, BinaryWord, AtCut, SplitTried, RowTried, SplitsTried}
+use Rattle.lanes.specs.Tries.{EachLane, BinaryWord, AtCut, SplitTried, RowTried, SplitsTried}
 use Rattle.lanes.proofs.Bits.{and-three, or-both, in-as, in-all}
 use Rattle.lanes.proofs.Counting.{Counted, wider-same, wider-then}
 
@@ -39,7 +39,7 @@ mark-lane {c} {align} {indent} {d} {w} {len = len} {l = l} {k = k} m b h = go d 
 
 module _ {t : List ℕ} (grid : List ℕ) (code p q align indent : ℕ) where
   -- a rule that is not binary
-  pub split-skip : kind code < 3 → Each (SplitTried grid code p q align indent) t t
+  pub split-skip : kind code < 3 → EachLane (SplitTried grid code p q align indent) t t
   split-skip h = record {
     long = wider-same t;
     lane = λ c m u x. (u, x, λ ws n s len l k y. fell (split-low (sidesAt ws n s len l) k len l code h) refl);
@@ -48,7 +48,7 @@ module _ {t : List ℕ} (grid : List ℕ) (code p q align indent : ℕ) where
   -- a binary one: the words of both operands, and of the mark
   pub split-by : {t′ : List ℕ} (a b e m : ℕ) → 3 ≤ kind code → a ≡ left code → b ≡ first code → e ≡ second code → BinaryWord (mark code) align indent m
       → Counted t a (bitAnd (bitAnd (getD grid (p + b) 0) (getD grid (q + e) 0)) m) (bitOr (getD grid (p + 64 + b) 0) (getD grid (q + 64 + e) 0)) t′
-      → Each (SplitTried grid code p q align indent) t t′
+      → EachLane (SplitTried grid code p q align indent) t t′
   split-by {t′} a b e m h ea eb ee bw r = record { long = r .long; lane = λ c lc u x. let y = r .lane c u x in (y .after, y .tallied, tried c lc u x) }
     where
       tried : (c : ℕ) (lc : c < 16) (u : Tally) (x : Tallied c t u) → SplitTried grid code p q align indent c u (r .lane c u x .after)
@@ -64,8 +64,8 @@ module _ {t : List ℕ} (grid : List ℕ) (code p q align indent : ℕ) where
 
 module _ (grid codes : List ℕ) (p q align indent : ℕ) where
   -- codes of other rules are passed over
-  pub row-tried-on : {t t′ : List ℕ} (i j : ℕ) → i ≤ j → j ≤ length codes → Unpaired codes i j → Each (RowTried grid codes i p q align indent) t t′
-      → Each (RowTried grid codes j p q align indent) t t′
+  pub row-tried-on : {t t′ : List ℕ} (i j : ℕ) → i ≤ j → j ≤ length codes → Unpaired codes i j → EachLane (RowTried grid codes i p q align indent) t t′
+      → EachLane (RowTried grid codes j p q align indent) t t′
   row-tried-on i j h b f a = record {
     long = a .long;
     lane = λ c m u x.
@@ -73,11 +73,11 @@ module _ (grid codes : List ℕ) (p q align indent : ℕ) where
         (r .0, r .1, λ ws n s len l k y. row-upto (sidesAt ws n s len l) k len l codes u i j h b f (r .2 ws n s len l k y));
   }
 
-  pub row-tried-none : (t : List ℕ) → Each (RowTried grid codes 0 p q align indent) t t
+  pub row-tried-none : (t : List ℕ) → EachLane (RowTried grid codes 0 p q align indent) t t
   row-tried-none t = record { long = wider-same t; lane = λ c m u x. (u, x, λ ws n s len l k y. row-none) }
 
-  pub row-tried-more : {t t′ t″ : List ℕ} (i : ℕ) → i < length codes → Each (RowTried grid codes i p q align indent) t t′
-      → Each (SplitTried grid (getD codes i 0) p q align indent) t′ t″ → Each (RowTried grid codes (i + 1) p q align indent) t t″
+  pub row-tried-more : {t t′ t″ : List ℕ} (i : ℕ) → i < length codes → EachLane (RowTried grid codes i p q align indent) t t′
+      → EachLane (SplitTried grid (getD codes i 0) p q align indent) t′ t″ → EachLane (RowTried grid codes (i + 1) p q align indent) t t″
   row-tried-more {t} {t′} {t″} i h a b = record {
     long = wider-then (a .long) (b .long);
     lane = λ c m u x.
@@ -112,16 +112,16 @@ sheeted-pair {c} {grid} {ws} n s len fit h =
     }
 
 module _ (grid codes marks : List ℕ) (n s len : ℕ) where
-  pub splits-tried-none : (t : List ℕ) → Each (SplitsTried grid codes marks n s len 1) t t
+  pub splits-tried-none : (t : List ℕ) → EachLane (SplitsTried grid codes marks n s len 1) t t
   splits-tried-none t = record {
     long = wider-same t;
     lane = λ c m u x. (u, x, λ e ws k a b. subst (Splits ws n s len k (decoded codes) 1) (sym e) splits-none);
   }
 
   pub splits-tried-more : {t t′ t″ : List ℕ} (l p q : ℕ) → 0 < l → l < len → s + len ≤ n → p ≡ 128 * pairAt n s l → q ≡ 128 * pairAt n (s + l) (len - l)
-      → Each (SplitsTried grid codes marks n s len l) t t′
-      → Each (RowTried grid codes (length codes) p q (getD marks (64 + l) 0) (getD marks (128 + l) 0)) t′ t″
-      → Each (SplitsTried grid codes marks n s len (l + 1)) t t″
+      → EachLane (SplitsTried grid codes marks n s len l) t t′
+      → EachLane (RowTried grid codes (length codes) p q (getD marks (64 + l) 0) (getD marks (128 + l) 0)) t′ t″
+      → EachLane (SplitsTried grid codes marks n s len (l + 1)) t t″
   splits-tried-more {t} {t′} {t″} l p q pos low fit ep eq a b = record {
     long = wider-then (a .long) (b .long);
     lane = λ c m u x.

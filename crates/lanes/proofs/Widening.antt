@@ -17,7 +17,7 @@ use Rattle.joins.specs.Passes.{WholeSide, Pass, pass-none, pass-more}
 use Rattle.joins.specs.Passes.Beside.{both}
 use Rattle.joins.proofs.CodeLaws.{wide-low, wide-unary, wide-binary}
 use Rattle.lanes.specs.Lanes.{MarkedBy}
-use Rattle.lanes.specs.Tries.{Each, UnaryWord, BesideTried, WideTried, PassTried}
+use Rattle.lanes.specs.Tries.{EachLane, UnaryWord, BesideTried, WideTried, PassTried}
 use Rattle.lanes.proofs.Bits.{and-both, or-both, in-as, in-all}
 use Rattle.lanes.proofs.Counting.{Counted, lane-at, wider-same, wider-then}
 
@@ -35,7 +35,7 @@ unary-lane {c} {d} {w} {len} {marks} {k} m b h = go d b
 pub beside-both : {t t′ t″ : List ℕ} (grid : List ℕ) (a b e : ℕ) → b < 64 → e < 64
     → Counted t a (bitAnd (getD grid b 0) (getD t (64 + e) 0)) (bitOr (getD grid (64 + b) 0) (getD t (128 + e) 0)) t′
     → Counted t′ a (bitAnd (getD t′ (64 + b) 0) (getD grid e 0)) (bitOr (getD t′ (128 + b) 0) (getD grid (64 + e) 0)) t″
-    → Each (BesideTried grid a b e) t t″
+    → EachLane (BesideTried grid a b e) t t″
 beside-both grid a b e sb se d d′ = record {
   long = wider-then (d .long) (d′ .long);
   lane = λ c m u x.
@@ -54,11 +54,11 @@ beside-both grid a b e sb se d d′ = record {
 -- ---- the rule of a code
 
 module _ {t : List ℕ} (grid marks : List ℕ) (code : ℕ) where
-  pub wide-skip : kind code < 2 → Each (WideTried grid marks code) t t
+  pub wide-skip : kind code < 2 → EachLane (WideTried grid marks code) t t
   wide-skip h = record { long = wider-same t; lane = λ c m u x. (u, x, λ one two len k y. wide-low one two k len code u h) }
 
   pub wide-one : {t′ : List ℕ} (a b m : ℕ) → kind code ≡ 2 → a ≡ left code → b ≡ first code → UnaryWord marks (mark code) m
-      → Counted t a (bitAnd (getD t (64 + b) 0) m) (getD t (128 + b) 0) t′ → Each (WideTried grid marks code) t t′
+      → Counted t a (bitAnd (getD t (64 + b) 0) m) (getD t (128 + b) 0) t′ → EachLane (WideTried grid marks code) t t′
   wide-one a b m h ea eb uw d = record {
     long = d .long;
     lane = λ c q u x.
@@ -72,8 +72,8 @@ module _ {t : List ℕ} (grid marks : List ℕ) (code : ℕ) where
         );
   }
 
-  pub wide-two : {t′ : List ℕ} (a b e : ℕ) → 3 ≤ kind code → a ≡ left code → b ≡ first code → e ≡ second code → Each (BesideTried grid a b e) t t′
-      → Each (WideTried grid marks code) t t′
+  pub wide-two : {t′ : List ℕ} (a b e : ℕ) → 3 ≤ kind code → a ≡ left code → b ≡ first code → e ≡ second code → EachLane (BesideTried grid a b e) t t′
+      → EachLane (WideTried grid marks code) t t′
   wide-two a b e h ea eb ee d = record {
     long = d .long;
     lane = λ c q u x.
@@ -84,14 +84,14 @@ module _ {t : List ℕ} (grid marks : List ℕ) (code : ℕ) where
 -- ---- a pass
 
 module _ (grid codes marks : List ℕ) where
-  pub pass-tried-none : (t : List ℕ) → Each (PassTried grid codes marks (length codes)) t t
+  pub pass-tried-none : (t : List ℕ) → EachLane (PassTried grid codes marks (length codes)) t t
   pass-tried-none t = record {
     long = wider-same t;
     lane = λ c m u x. (u, x, λ one two len k y. subst (λ (i : ℕ). Pass one two k len (decoded codes) u i u) (coded-length codes) pass-none);
   }
 
-  pub pass-tried-more : {t t′ t″ : List ℕ} (i : ℕ) → i < length codes → Each (PassTried grid codes marks (i + 1)) t t′
-      → Each (WideTried grid marks (getD codes i 0)) t′ t″ → Each (PassTried grid codes marks i) t t″
+  pub pass-tried-more : {t t′ t″ : List ℕ} (i : ℕ) → i < length codes → EachLane (PassTried grid codes marks (i + 1)) t t′
+      → EachLane (WideTried grid marks (getD codes i 0)) t′ t″ → EachLane (PassTried grid codes marks i) t t″
   pass-tried-more {t} {t′} {t″} i h a b = record {
     long = wider-then (a .long) (b .long);
     lane = λ c m u x.

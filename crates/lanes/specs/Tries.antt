@@ -18,7 +18,7 @@ abbrev pub Happens : Type 1
 Happens = ℕ → Tally → Tally → Type 0
 
 -- t′ is t after P happened in each lane
-pub record Each (P : Happens) (t t′ : List ℕ) : Type 0 where
+pub record EachLane (P : Happens) (t t′ : List ℕ) : Type 0 where
   pub long : Wider t t′
   pub lane : (c : ℕ) → c < 16 → (u : Tally) → Tallied c t u → (v : Tally) × Tallied c t′ v × P c u v
 

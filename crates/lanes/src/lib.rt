@@ -15,7 +15,7 @@ ghost use lib.ListN.{length, getD};
 ghost use Rattle.sets.specs.Says.{Says};
 ghost use Rattle.joins.specs.Passes.{Stretches};
 ghost use Rattle.lanes.specs.Lanes.{Added, Space, Resumed, Alike, Stored};
-ghost use Rattle.lanes.specs.Tries.{Each, BinaryWord, SplitTried, RowTried, SplitsTried, UnaryWord, BesideTried, WideTried, PassTried, Turns, SaturatedTried};
+ghost use Rattle.lanes.specs.Tries.{EachLane, BinaryWord, SplitTried, RowTried, SplitsTried, UnaryWord, BesideTried, WideTried, PassTried, Turns, SaturatedTried};
 ghost use Rattle.lanes.specs.Joining.{JoinsEach};
 
 // Count a rule for `a` in the lanes w; in the lanes b a word below it has two trees.
@@ -55,7 +55,7 @@ fn place(x: u8) -> usize
 fn try_split(t: &mut [u16], grid: &[u16], code: u64, p: usize, q: usize, align: u16, indent: u16)
     requires { ⌜ length (now t) ≡ 192 ⌝ }
     requires { ⌜ (p + 128 ≤ length (now grid)) × (q + 128 ≤ length (now grid)) ⌝ }
-    ensures { λ r. ⌜ Each (SplitTried (now (grid .entry)) code p q align indent) (now (t .entry)) (now (t .exit)) ⌝ }
+    ensures { λ r. ⌜ EachLane (SplitTried (now (grid .entry)) code p q align indent) (now (t .entry)) (now (t .exit)) ⌝ }
 {
     if kind_of(code) < 3 {
         return;
@@ -86,7 +86,7 @@ fn try_splits(
     requires { ⌜ length (now t) ≡ 192 ⌝ }
     requires { ⌜ (p + 128 ≤ length (now grid)) × (q + 128 ≤ length (now grid)) ⌝ }
     requires { ⌜ Stretches (now codes) s ⌝ }
-    ensures { λ r. ⌜ Each (RowTried (now (grid .entry)) (now (codes .entry)) (length (now (codes .entry))) p q align indent) (now (t .entry)) (now (t .exit)) ⌝ }
+    ensures { λ r. ⌜ EachLane (RowTried (now (grid .entry)) (now (codes .entry)) (length (now (codes .entry))) p q align indent) (now (t .entry)) (now (t .exit)) ⌝ }
 {
     let to = s.to;
     let mut i = s.from;
@@ -111,7 +111,7 @@ fn splits(
     requires { ⌜ length (now marks) ≡ 192 ⌝ }
     requires { ⌜ Space (now grid) n start len ⌝ }
     requires { ⌜ 0 < len ⌝ }
-    ensures { λ r. ⌜ Each (SplitsTried (now (grid .entry)) (now (codes .entry)) (now (marks .entry)) n start len len) (now (t .entry)) (now (t .exit)) ⌝ }
+    ensures { λ r. ⌜ EachLane (SplitsTried (now (grid .entry)) (now (codes .entry)) (now (marks .entry)) n start len len) (now (t .entry)) (now (t .exit)) ⌝ }
 {
     let s = binaries(codes);
     let mut left = 1;
@@ -147,7 +147,7 @@ fn try_beside(t: &mut [u16], grid: &[u16], a: usize, b: usize, e: usize)
     requires { ⌜ length (now t) ≡ 192 ⌝ }
     requires { ⌜ 128 ≤ length (now grid) ⌝ }
     requires { ⌜ (a < 64) × (b < 64) × (e < 64) ⌝ }
-    ensures { λ r. ⌜ Each (BesideTried (now (grid .entry)) a b e) (now (t .entry)) (now (t .exit)) ⌝ }
+    ensures { λ r. ⌜ EachLane (BesideTried (now (grid .entry)) a b e) (now (t .entry)) (now (t .exit)) ⌝ }
 {
     let x = grid[b] & t[64 + e];
     let y = grid[64 + b] | t[128 + e];
@@ -162,7 +162,7 @@ fn try_wide(t: &mut [u16], grid: &[u16], marks: &[u16], code: u64)
     requires { ⌜ length (now t) ≡ 192 ⌝ }
     requires { ⌜ length (now marks) ≡ 192 ⌝ }
     requires { ⌜ 128 ≤ length (now grid) ⌝ }
-    ensures { λ r. ⌜ Each (WideTried (now (grid .entry)) (now (marks .entry)) code) (now (t .entry)) (now (t .exit)) ⌝ }
+    ensures { λ r. ⌜ EachLane (WideTried (now (grid .entry)) (now (marks .entry)) code) (now (t .entry)) (now (t .exit)) ⌝ }
 {
     let kind = kind_of(code);
     if kind < 2 {
@@ -186,7 +186,7 @@ fn pass(t: &mut [u16], grid: &[u16], codes: &[u64], marks: &[u16])
     requires { ⌜ length (now t) ≡ 192 ⌝ }
     requires { ⌜ length (now marks) ≡ 192 ⌝ }
     requires { ⌜ 128 ≤ length (now grid) ⌝ }
-    ensures { λ r. ⌜ Each (PassTried (now (grid .entry)) (now (codes .entry)) (now (marks .entry)) 0) (now (t .entry)) (now (t .exit)) ⌝ }
+    ensures { λ r. ⌜ EachLane (PassTried (now (grid .entry)) (now (codes .entry)) (now (marks .entry)) 0) (now (t .entry)) (now (t .exit)) ⌝ }
 {
     let mut i = codes.len();
     while 0 < i {

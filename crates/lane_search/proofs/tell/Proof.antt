@@ -3,13 +3,13 @@ use borrow.Author.Needs.{needs}
 use Prim.Native.Nat.{_-_}
 use native.Mathlib.Omega.{arith}
 use borrow.Author.Tests.{not-true, not-false}
-use Rattle.lane_search.specs.Batches.{Tells}
+use Rattle.lane_search.specs.Batches.{TellsLanes}
 use Rattle.lane_search.proofs.Trying.{tells-none, tells-in, tells-out, tells-all}
 use Rattle.lane_search.proofs.tell.Statement.{statement}
 use Rattle.lane_search.proofs.tell.Tie as tie
 
 abbrev Inv-loop : tie.InvT-loop
-Inv-loop grid n v found₀ c₀ found c = Tells grid n v c found₀ found
+Inv-loop grid n v found₀ c₀ found c = TellsLanes grid n v c found₀ found
 
 abbrev μ-loop : tie.MeasureT-loop
 μ-loop grid n v found₀ c₀ found c = 16 - c

@@ -4,13 +4,13 @@ use mathlib.Core.Path.{_≡_, _∙_, subst}
 use Prim.Native.Nat.{ℕ, _+_, _-_, _≤_}
 use native.Mathlib.Omega.{arith}
 use lib.ListN.{length}
-use Rattle.lanes.specs.Tries.{Each, PassTried}
+use Rattle.lanes.specs.Tries.{EachLane, PassTried}
 use Rattle.lanes.proofs.Widening.{pass-tried-none, pass-tried-more}
 use Rattle.lanes.proofs.pass.Statement.{statement}
 use Rattle.lanes.proofs.pass.Tie as tie
 
 abbrev Inv-loop : tie.InvT-loop
-Inv-loop t₀ grid codes marks i₀ t i = (i ≤ length codes) × Each (PassTried grid codes marks i) t₀ t
+Inv-loop t₀ grid codes marks i₀ t i = (i ≤ length codes) × EachLane (PassTried grid codes marks i) t₀ t
 
 abbrev μ-loop : tie.MeasureT-loop
 μ-loop t₀ grid codes marks i₀ t i = i
@@ -45,7 +45,7 @@ loop-again c =
     let n : l .i ≡ i + 1 = omega (arith, b .loop-test .taken) in (
       omega (arith, l .inv .0),
       pass-tried-more (a .grid .now) (a .codes .now) (a .marks .now) i (omega (arith, l .inv .0, b .loop-test .taken))
-          (subst (λ (j : ℕ). Each (PassTried (a .grid .now) (a .codes .now) (a .marks .now) j) (a .t .now) (l .t)) n (l .inv .1))
+          (subst (λ (j : ℕ). EachLane (PassTried (a .grid .now) (a .codes .now) (a .marks .now) j) (a .t .now) (l .t)) n (l .inv .1))
           (c .before .before .try-wide .ensures),
     )
 
@@ -57,7 +57,7 @@ returns c =
     let l = c .before .loop in
     let a = c .before .before .before .before .before .before .args in
     let e : l .i ≡ 0 = omega (arith, c .loop-test .left) in
-    subst (λ (j : ℕ). Each (PassTried (a .grid .now) (a .codes .now) (a .marks .now) j) (a .t .now) (l .t)) e (l .inv .1)
+    subst (λ (j : ℕ). EachLane (PassTried (a .grid .now) (a .codes .now) (a .marks .now) j) (a .t .now) (l .t)) e (l .inv .1)
 
 pub pass-spec : {M : Type 1} → statement M
 pass-spec =

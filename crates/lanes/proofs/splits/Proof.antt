@@ -5,13 +5,13 @@ use Prim.Native.Nat.{ℕ, _+_, _-_, _*_, _≤_, _<_}
 use native.Mathlib.Omega.{arith}
 use lib.ListN.{length}
 use Rattle.grammar.specs.SpanSheet.{pairAt}
-use Rattle.lanes.specs.Tries.{Each, SplitsTried}
+use Rattle.lanes.specs.Tries.{EachLane, SplitsTried}
 use Rattle.lanes.proofs.Splitting.{pair-inside, splits-tried-none, splits-tried-more}
 use Rattle.lanes.proofs.splits.Statement.{statement}
 use Rattle.lanes.proofs.splits.Tie as tie
 
 abbrev Inv-loop : tie.InvT-loop
-Inv-loop t₀ grid codes marks n start len s left₀ t left = (0 < left) × (left ≤ len) × Each (SplitsTried grid codes marks n start len left) t₀ t
+Inv-loop t₀ grid codes marks n start len s left₀ t left = (0 < left) × (left ≤ len) × EachLane (SplitsTried grid codes marks n start len left) t₀ t
 
 abbrev μ-loop : tie.MeasureT-loop
 μ-loop t₀ grid codes marks n start len s left₀ t left = len - left
@@ -133,7 +133,7 @@ returns c =
     let l = c .before .loop in
     let a = c .before .before .before .before .before .before .before .args in
     let e : l .left ≡ a .len = omega (arith, l .inv .1, c .loop-test .left) in
-    subst (λ (j : ℕ). Each (SplitsTried (a .grid .now) (a .codes .now) (a .marks .now) (a .n) (a .start) (a .len) j) (a .t .now) (l .t)) e (l .inv .2)
+    subst (λ (j : ℕ). EachLane (SplitsTried (a .grid .now) (a .codes .now) (a .marks .now) (a .n) (a .start) (a .len) j) (a .t .now) (l .t)) e (l .inv .2)
 
 pub splits-spec : {M : Type 1} → statement M
 splits-spec =

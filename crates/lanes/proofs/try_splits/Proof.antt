@@ -4,13 +4,13 @@ use mathlib.Core.Path.{_∙_}
 use Prim.Native.Nat.{_-_, _≤_, _<_}
 use native.Mathlib.Omega.{arith}
 use lib.ListN.{length}
-use Rattle.lanes.specs.Tries.{Each, RowTried}
+use Rattle.lanes.specs.Tries.{EachLane, RowTried}
 use Rattle.lanes.proofs.Splitting.{row-tried-none, row-tried-on, row-tried-more}
 use Rattle.lanes.proofs.try_splits.Statement.{statement}
 use Rattle.lanes.proofs.try_splits.Tie as tie
 
 abbrev Inv-loop : tie.InvT-loop
-Inv-loop t₀ grid codes p q align indent to i₀ t i = (to ≤ length codes) × (i ≤ length codes) × Each (RowTried grid codes i p q align indent) t₀ t
+Inv-loop t₀ grid codes p q align indent to i₀ t i = (to ≤ length codes) × (i ≤ length codes) × EachLane (RowTried grid codes i p q align indent) t₀ t
 
 abbrev μ-loop : tie.MeasureT-loop
 μ-loop t₀ grid codes p q align indent to i₀ t i = to - i
