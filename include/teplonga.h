@@ -2,8 +2,8 @@
  * Teplonga's calls for C and C++, on x86-64 Linux.
  *
  * Link: `rt staticlib NAME` proves a library and writes target/staticlib/libNAME.a, where NAME is
- * face, face_trees (rows and places), face_clauses (clause sheets), face_tours (show and change) or
- * face_shares (shares of a sweep);
+ * face, face_trees (rows and places), face_clauses (clause sheets), face_tours (show and change),
+ * face_shares (shares of a sweep) or face_columns (columns known between two ends);
  * a program takes those that have the functions that it calls, and nothing else:
  *
  *     cc -I include program.c target/staticlib/libface.a target/staticlib/libface_trees.a
@@ -330,6 +330,11 @@ typedef struct teplonga_part {
 void teplonga_refused_line(const uint8_t *rules, size_t rules_length,
                            const uint8_t *tokens, size_t tokens_length,
                            teplonga_part *line);
+
+/* The same of a rule sheet and a range sheet: the line of the refusals of teplonga_columns but 21. */
+void teplonga_columns_refused_line(const uint8_t *rules, size_t rules_length,
+                                   const uint8_t *ranges, size_t ranges_length,
+                                   teplonga_part *line);
 
 /*
  * Clause sheets. The verdict, the trees, the sweep and the refused line take a clause sheet where

@@ -111,6 +111,14 @@ def columns_call(rules, ranges, words):
     return ("given", 0, tuple(each in found for each in base.ANSWERS), [0] * needed + list(words[needed:]))
 
 
+def refused_line(rules, ranges):
+    """"the refused line itself, without its byte 10"; with no such line no bytes."""
+    for sheet, reading in ((rules, base.read_rules(rules)), (ranges, read_ranges(ranges))):
+        if reading[0] == "refused":
+            return sheet.split(b"\n")[reading[2] - 1] if reading[2] else b""
+    return b""
+
+
 def columns_output(rules, ranges):
     """What the program `calls` writes for `columns` and these two sheets."""
     words = [0] * base.words_needed(base.MOST_TOKENS)

@@ -317,6 +317,27 @@ static void chosen_columns(void)
     CHECK(all_words(lent, 7, 7) && all_words(found, 3, 0));
 }
 
+/* The refused line is this part of the rule sheet (or of the range sheet). */
+static void columns_line_is(const char *rules, const char *ranges, int in_ranges, size_t start, size_t length)
+{
+    struct sheet r = sheet(rules), t = sheet(ranges);
+    teplonga_part line = { r.at, 0 };
+
+    teplonga_columns_refused_line(r.at, r.length, t.at, t.length, &line);
+    CHECK(line.at == (in_ranges ? t.at : r.at) + start);
+    CHECK(line.length == length);
+}
+
+static void columns_refused_lines(void)
+{
+    columns_line_is(PLAIN "0 A 0 - none\n", RANGE_NAMES "0 1 2 1\n", 0, 53, 12);
+    columns_line_is(PLAIN, RANGE_NAMES "0 1 1 1\n0 1 2 1\n", 1, 27, 7);
+    columns_line_is(PLAIN, THREE, 1, 0, 13);
+    /* 49 has line 0 */
+    columns_line_is(PLAIN, RANGE_NAMES "0 1 1 256\n0 2 1 257\n", 0, 0, 0);
+    columns_line_is(PLAIN, RANGE_NAMES "0 1 1 2\n", 0, 0, 0);
+}
+
 /* --------------------------------------------------------------------- places */
 
 static uint64_t places(const char *rules, const char *tokens, size_t n, size_t size, uint64_t **lent, uint8_t **list, uint64_t **count)
@@ -727,6 +748,7 @@ int main(int count, char **arguments)
         looping_trees();
         row_counts();
         chosen_columns();
+        columns_refused_lines();
         all_places();
         clauses();
         shown();

@@ -114,10 +114,11 @@ def share(rules, length, racks, index, words, salt):
 
 
 def chosen(rules, ranges, words, salt):
-    answer, line, flags, after = columns.columns_call(
-        bytes_of(rules), bytes_of(ranges), lent_words(int(salt), int(words))
-    )
-    return f"{answer} {line} flags {' '.join(str(int(flag)) for flag in flags)} {shown_words(after)}"
+    """With the refused line, which has a call of its own."""
+    rules, ranges = bytes_of(rules), bytes_of(ranges)
+    answer, line, flags, after = columns.columns_call(rules, ranges, lent_words(int(salt), int(words)))
+    text = hexed(columns.refused_line(rules, ranges))
+    return f"{answer} {line} flags {' '.join(str(int(flag)) for flag in flags)} line {text} {shown_words(after)}"
 
 
 def show(rules, tokens, rights, user, words, first, second, salt):

@@ -1,5 +1,7 @@
-//! The C function of the call on columns; as in [`crate::c`], nothing checks
-//! this declaration but the tests.
+//! The C functions of the calls on columns; as in [`crate::c`], nothing checks
+//! these declarations but the tests.
+
+use crate::c::{within, Part};
 
 extern "C" {
     fn teplonga_columns(
@@ -12,6 +14,14 @@ extern "C" {
         found: *mut u64,
         found_length: usize,
     ) -> u64;
+
+    fn teplonga_columns_refused_line(
+        rules: *const u8,
+        rules_length: usize,
+        ranges: *const u8,
+        ranges_length: usize,
+        line: *mut Part,
+    );
 }
 
 /// The answer's code times 2^32 plus the line, and a word for each of none,
@@ -33,4 +43,21 @@ pub fn columns(rules: &[u8], ranges: &[u8], words: &mut [u64]) -> (u64, [u64; 3]
         )
     };
     (word, found)
+}
+
+/// The refused line, as a part of the sheet that holds it.
+pub fn refused_line<'a>(rules: &'a [u8], ranges: &'a [u8]) -> &'a [u8] {
+    let mut line = Part { at: rules.as_ptr(), length: 0 };
+    // SAFETY: each pointer comes with its slice's length; `line` is a part of
+    // `rules` and is lent to this call alone.
+    unsafe {
+        teplonga_columns_refused_line(
+            rules.as_ptr(),
+            rules.len(),
+            ranges.as_ptr(),
+            ranges.len(),
+            &mut line,
+        );
+    }
+    within(rules, &line).or_else(|| within(ranges, &line)).expect("a part of one of the sheets")
 }

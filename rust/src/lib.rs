@@ -15,7 +15,7 @@
 //! | [`columns()`] | which verdicts some choice of columns within two ends gives |
 //! | [`sweep`] | the first short sentence that has two trees, or clear |
 //! | [`share`] | one share of a sweep that is divided among racks |
-//! | [`refused_line`] | the refused line itself, as a part of its sheet |
+//! | [`refused_line`], [`columns_refused_line`] | the refused line itself, as a part of its sheet |
 //! | [`clauses`] | a module: verdict, trees, sweep and refused line of clause sheets, and the rule sheet that one expands to |
 //!
 //! Each reply has a `result`: the answer, or a [`Refused`] as an error.
@@ -180,6 +180,19 @@ pub fn rows(rules: &[u8], tokens: &[u8], words: &mut [u64]) -> RowsReply {
 pub fn columns(rules: &[u8], ranges: &[u8], words: &mut [u64]) -> ColumnsReply {
     let (word, found) = c_columns::columns(rules, ranges, words);
     ColumnsReply::unpacked(word, found)
+}
+
+/// The refused line of a rule sheet and a range sheet, as
+/// [`refused_line`] has it.
+///
+/// ```
+/// let rules = b"left kind first second lay\n0 A 0 - none\n";
+/// let ranges = b"term line low high\n0 1 2 1\n";
+/// assert_eq!(teplonga::columns_refused_line(rules, ranges), b"0 1 2 1");
+/// ```
+#[must_use]
+pub fn columns_refused_line<'a>(rules: &'a [u8], ranges: &'a [u8]) -> &'a [u8] {
+    c_columns::refused_line(rules, ranges)
 }
 
 /// The verdict, and the list of every nonterminal and word at which a whole

@@ -5,6 +5,11 @@ use mathlib.Core.List.{List}
 use Prim.Native.Nat.{ℕ, _*_, _≤_, _<_}
 use native.Mathlib.Omega.{arith}
 use lib.ListN.{length}
+use denote.Ref.{RefT}
+use Rattle.sheets.specs.RuleSheets.{ruleSheet}
+use Rattle.sheets.specs.RefusedLines.{heldBy, Hands}
+use Rattle.sheets.proofs.Settled.{SamePart, held-settled}
+use Rattle.range_sheets.specs.RangeSheets.{rangeSheet}
 use Rattle.sets.specs.Says.{Says}
 use Rattle.grammar.specs.Trees.{Rules}
 use Rattle.grammar.specs.SpanSheet.{pairs}
@@ -65,3 +70,9 @@ columns-settled rules ranges (bad-ranges e m x h) (reading d n y) = absurd (apar
 columns-settled rules ranges (reading d n y) (bad-rules e x h) = absurd (apart e d)
 columns-settled rules ranges (reading d n y) (bad-ranges e m x h) = absurd (apart m n)
 columns-settled rules ranges (reading {g = g} {rs = rs} e m x) (reading d n y) = columns-on g rs x (rw (← same-items e d, ← same-items m n) at y)
+
+-- ---- the refused line
+
+pub columns-refused-line-settled : (rules ranges r s : RefT (List ℕ)) → Hands rules ranges r (heldBy (ruleSheet (rules .now)) (rangeSheet (ranges .now)))
+    → Hands rules ranges s (heldBy (ruleSheet (rules .now)) (rangeSheet (ranges .now))) → SamePart r s
+columns-refused-line-settled rules ranges r s = held-settled rules ranges r s (ruleSheet (rules .now)) (rangeSheet (ranges .now))

@@ -9,6 +9,7 @@ use Rattle.grammar.specs.Trees.{Rules}
 use Rattle.sheets.specs.declared.Fault.{Fault}
 use Rattle.sheets.specs.Items.{Reading, accepted, refused}
 use denote.Ref.{RefT}
+use Rattle.sheets.specs.TokenSheets.{tokenSheet}
 use Rattle.sheets.specs.RefusedLines.{heldBy, Hands}
 use Rattle.sheets.proofs.Settled.{SamePart, held-settled}
 use Rattle.clauses.proofs.Apart.{expansion-distinct}
@@ -43,9 +44,9 @@ module _ (clauses : List ℕ) where
   clause-sweep-settled x y = sweep-settled x y
 
 -- the refused line
-pub clause-refused-line-settled : (clauses tokens r s : RefT (List ℕ)) → Hands clauses tokens r (heldBy (clauseSheet (clauses .now)) (tokens .now))
-    → Hands clauses tokens s (heldBy (clauseSheet (clauses .now)) (tokens .now)) → SamePart r s
-clause-refused-line-settled clauses tokens r s = held-settled clauses tokens r s (clauseSheet (clauses .now))
+pub clause-refused-line-settled : (clauses tokens r s : RefT (List ℕ)) → Hands clauses tokens r (heldBy (clauseSheet (clauses .now)) (tokenSheet (tokens .now)))
+    → Hands clauses tokens s (heldBy (clauseSheet (clauses .now)) (tokenSheet (tokens .now))) → SamePart r s
+clause-refused-line-settled clauses tokens r s = held-settled clauses tokens r s (clauseSheet (clauses .now)) (tokenSheet (tokens .now))
 
 -- expand
 apart : {o : Reading Rule} {f : Fault} {l : ℕ} {g : Rules} → o ≡ refused f l → o ≡ accepted g → ⊥

@@ -1,10 +1,14 @@
 // The call on columns read off a photograph for C and Rust: numbers and slices alone.
 use call_columns::columns;
+use call_columns::refused_line;
 use face::pack;
 use face::put_word;
 use lane_search::Flags;
 ghost use mathlib.Core.Path.{_≡_};
 ghost use Rattle.face.specs.Face.{AtFront};
+ghost use Rattle.sheets.specs.RuleSheets.{ruleSheet};
+ghost use Rattle.sheets.specs.RefusedLines.{heldBy, Hands};
+ghost use Rattle.range_sheets.specs.RangeSheets.{rangeSheet};
 ghost use Rattle.face_columns.specs.Columns.{flagWord, flagWords, ColumnsWord};
 
 // Yes is 1, no is 0.
@@ -44,4 +48,16 @@ pub extern "C" fn teplonga_columns(
     let f = p.found;
     put_flags(found, f);
     pack(a, p.line)
+}
+
+// The refused line itself, as a part of the sheet that holds it. An exported function returns no reference, so `line` gets the part.
+#[no_mangle]
+pub extern "C" fn teplonga_columns_refused_line<'a>(
+    rules: &'a [u8],
+    ranges: &'a [u8],
+    line: &mut &'a [u8],
+)
+    ensures { λ r. ⌜ Hands (rules .entry) (ranges .entry) (now (line .exit)) (heldBy (ruleSheet (now (rules .entry))) (rangeSheet (now (ranges .entry)))) ⌝ }
+{
+    *line = refused_line(rules, ranges);
 }

@@ -3,7 +3,7 @@
 use std::fmt::{Display, Write};
 use std::str::FromStr;
 
-use teplonga::{change, clauses, columns, places, rows, share, show};
+use teplonga::{change, clauses, columns, columns_refused_line, places, rows, share, show};
 use teplonga::{refused_line, sweep, trees, verdict};
 use teplonga::{Reply, RowCount, Rows, SweepReply, Token, TreesReply};
 
@@ -262,7 +262,8 @@ fn columns_answer(rules: &[u8], ranges: &[u8], words: u64, salt: u64) -> String 
     let mut words = lent::words(salt, words as usize);
     let reply = columns(rules, ranges, words.part_mut());
     let [none, one, two] = [reply.none, reply.one, reply.two].map(u8::from);
-    let text = format!("{} {} flags {none} {one} {two}", reply.answer, reply.line);
+    let line = hexed(columns_refused_line(rules, ranges));
+    let text = format!("{} {} flags {none} {one} {two} line {line}", reply.answer, reply.line);
     format!("{text} {}{}", shown_words(words.part()), remark(words.sides_kept()))
 }
 
