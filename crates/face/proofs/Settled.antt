@@ -11,7 +11,8 @@ use Rattle.sheets.specs.Items.{Reading}
 use Rattle.teplonga.specs.Answers.{Sheets}
 use Rattle.teplonga.proofs.Settled.{Words, Apart, verdict-settled, trees-settled}
 use Rattle.teplonga.proofs.SweepSettled.{sweep-settled}
-use Rattle.face.specs.Face.{packed, AtFront, few, written, foundWords, countWords, VerdictWord, TreesWord, SweepWord}
+use Rattle.face.specs.Face.{packed, VerdictWord, TreesWord, SweepWord}
+use Rattle.face_words.specs.Words.{AtFront, few, written, foundWords, countWords}
 
 pub front-settled : {n : ℕ} {ws vs lent a b : List ℕ} → ws ≡ vs → AtFront n ws lent a → AtFront n vs lent b → a ≡ b
 front-settled e (few l x) (few m y) = x ∙ sym y

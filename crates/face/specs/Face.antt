@@ -1,13 +1,9 @@
--- What the C functions hand over: an answer and its line as one number, a sentence and row counts as words.
+-- What the C functions hand over: an answer and its line as one number, and what the words of a sentence and of row counts say.
 use mathlib.Core.Path.{_≡_}
 use mathlib.Core.Bool.{cond}
-use mathlib.Core.List.{List, [], _∷_, _++_}
-use Prim.Native.Nat.{ℕ, _+_, _*_, _≤_, _<_}
-use lib.ListN.{length, take, drop}
+use mathlib.Core.List.{List}
+use Prim.Native.Nat.{ℕ, _+_, _*_}
 use lib.Dec.{ltb}
-use Rattle.grammar.specs.declared.Token.{Token}
-use Rattle.grammar.specs.declared.Sentence.{Sentence}
-use Rattle.grammar.specs.Layout.{Word, line, col}
 use Rattle.grammar.specs.declared.Rule.{Rule}
 use Rattle.sheets.specs.Items.{Reading}
 use Rattle.sheets.specs.Refusals.{numberOf}
@@ -20,6 +16,7 @@ use Rattle.teplonga.specs.Answers.{Sheets}
 use Rattle.teplonga.specs.Verdict.{VerdictBy}
 use Rattle.teplonga.specs.Trees.{TreesBy}
 use Rattle.teplonga.specs.Sweep.{SweepBy}
+use Rattle.face_words.specs.Words.{AtFront, foundWords, countWords}
 
 -- an answer's code: 0 none, 1 one, 2 two, 3 clear, 4 given, 100 + N refused-N
 abbrev pub codeOf : Answer → ℕ
@@ -40,34 +37,12 @@ pub record VerdictWord (given : Sheets) (words words′ : List ℕ) (r : ℕ) : 
   pub promise : VerdictBy given words words′ reply
   pub word : r ≡ packed (reply .answer) (reply .line)
 
--- n words stand at the front of the lent ones, and those past them are unchanged; fewer than n lent ones are left as they were
-pub data AtFront (n : ℕ) (ws lent lent′ : List ℕ) : Type 0 where
-  few : length lent < n → lent′ ≡ lent → AtFront n ws lent lent′
-  written : n ≤ length lent → lent′ ≡ ws ++ drop n lent → AtFront n ws lent lent′
-
--- terminal, line and column of each token
-abbrev pub tokenWords : Word → List ℕ
-tokenWords [] = []
-tokenWords (t ∷ w) = t .terminal ∷ line t ∷ col t ∷ tokenWords w
-
--- a sentence as 22 words: its length and the places of seven tokens
-abbrev pub sentenceWords : Sentence → List ℕ
-sentenceWords s = s .count ∷ tokenWords (take 7 (s .tokens))
-
--- a sentence as these words, and behind them how many candidates were tried
-abbrev pub foundWords : Sentence → ℕ → List ℕ
-foundWords s m = sentenceWords s ++ (m ∷ [])
-
 -- `teplonga_sweep` hands over what `sweep` answers, the answer's sentence and the number of candidates tried in words, where the sheet with the rules gives this
 pub record SweepWord (given : Reading Rule) (k : ℕ) (words words′ found found′ : List ℕ) (r : ℕ) : Type 0 where
   pub reply : SweepReply
   pub promise : SweepBy given k words words′ reply
   pub sentence : AtFront 23 (foundWords (reply .sentence) (reply .tried)) found found′
   pub word : r ≡ packed (reply .answer) (reply .line)
-
--- the row counts of both trees as two words
-abbrev pub countWords : ℕ → ℕ → List ℕ
-countWords m n = m ∷ n ∷ []
 
 -- `teplonga_trees` hands over what `trees` answers, and the trees' row counts in words, where both sheets give this
 pub record TreesWord (given : Sheets) (words words′ one one′ two two′ counts counts′ : List ℕ) (r : ℕ) : Type 0 where

@@ -2,7 +2,8 @@
 use mathlib.Core.Path.{_≡_}
 use mathlib.Core.List.{List, [], _∷_}
 use Prim.Native.Nat.{ℕ}
-use Rattle.face.specs.Face.{packed, AtFront}
+use Rattle.face.specs.Face.{packed}
+use Rattle.face_words.specs.Words.{AtFront}
 use Rattle.teplonga.specs.declared.ListReply.{ListReply}
 use Rattle.clause_calls.specs.Expand.{ExpandOf}
 

@@ -3,7 +3,8 @@ use mathlib.Core.Path.{_≡_}
 use mathlib.Core.Bool.{Bool, true, false}
 use mathlib.Core.List.{List, [], _∷_}
 use Prim.Native.Nat.{ℕ}
-use Rattle.face.specs.Face.{packed, AtFront}
+use Rattle.face.specs.Face.{packed}
+use Rattle.face_words.specs.Words.{AtFront}
 use Rattle.lane_search.specs.declared.Flags.{Flags}
 use Rattle.call_columns.specs.declared.ColumnsReply.{ColumnsReply}
 use Rattle.call_columns.specs.Columns.{ColumnsOf}

@@ -2,10 +2,10 @@
 use call_columns::columns;
 use call_columns::refused_line;
 use face::pack;
-use face::put_word;
+use face_words::put_word;
 use lane_search::Flags;
 ghost use mathlib.Core.Path.{_≡_};
-ghost use Rattle.face.specs.Face.{AtFront};
+ghost use Rattle.face_words.specs.Words.{AtFront};
 ghost use Rattle.sheets.specs.RuleSheets.{ruleSheet};
 ghost use Rattle.sheets.specs.RefusedLines.{heldBy, Hands};
 ghost use Rattle.range_sheets.specs.RangeSheets.{rangeSheet};

@@ -2,7 +2,8 @@
 use mathlib.Core.Path.{_≡_, sym, ap, _∙_}
 use mathlib.Core.List.{List}
 use Prim.Native.Nat.{ℕ}
-use Rattle.face.specs.Face.{packed, sentenceWords}
+use Rattle.face.specs.Face.{packed}
+use Rattle.face_words.specs.Words.{sentenceWords}
 use Rattle.face.proofs.Settled.{front-settled}
 use Rattle.call_shares.specs.declared.ShareReply.{ShareReply}
 use Rattle.call_shares.proofs.ShareSettled.{share-settled}

@@ -1,11 +1,11 @@
 // The call for one share of a sweep for C and Rust: numbers and slices alone.
 use call_shares::share;
 use face::pack;
-use face::put_sentence;
-use face::put_word;
+use face_words::put_sentence;
+use face_words::put_word;
 use grammar::Sentence;
 ghost use mathlib.Core.Path.{_≡_};
-ghost use Rattle.face.specs.Face.{AtFront, sentenceWords};
+ghost use Rattle.face_words.specs.Words.{AtFront, sentenceWords};
 ghost use Rattle.face_shares.specs.Shares.{shareWords, ShareWord};
 
 // The lowest number, M ÷ p and its remainder, where the lent words are enough for them.

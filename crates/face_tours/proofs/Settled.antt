@@ -5,7 +5,8 @@ use Prim.Native.Nat.{ℕ}
 use Rattle.teplonga.specs.declared.TreesReply.{TreesReply}
 use Rattle.teplonga.specs.declared.ListReply.{ListReply}
 use Rattle.teplonga.proofs.Settled.{Words}
-use Rattle.face.specs.Face.{packed, countWords}
+use Rattle.face.specs.Face.{packed}
+use Rattle.face_words.specs.Words.{countWords}
 use Rattle.face.proofs.Settled.{front-settled}
 use Rattle.call_tours.proofs.Settled.{show-settled, change-settled}
 use Rattle.face_tours.specs.Tours.{ShowWord, ChangeWord}

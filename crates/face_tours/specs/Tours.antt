@@ -2,7 +2,8 @@
 use mathlib.Core.Path.{_≡_}
 use mathlib.Core.List.{List, [], _∷_}
 use Prim.Native.Nat.{ℕ}
-use Rattle.face.specs.Face.{packed, AtFront, countWords}
+use Rattle.face.specs.Face.{packed}
+use Rattle.face_words.specs.Words.{AtFront, countWords}
 use Rattle.teplonga.specs.declared.TreesReply.{TreesReply}
 use Rattle.teplonga.specs.declared.ListReply.{ListReply}
 use Rattle.call_tours.specs.Show.{ShowOf}

@@ -2,8 +2,8 @@
 use call_tours::change;
 use call_tours::show;
 use face::pack;
-use face::put_counts;
-use face::put_one;
+use face_words::put_counts;
+use face_words::put_one;
 ghost use Rattle.face_tours.specs.Tours.{ShowWord, ChangeWord};
 
 // The trees as a user may see them: the verdict's code times 2^32 plus the line's number. The words get the span sheet,

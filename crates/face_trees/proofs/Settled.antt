@@ -3,7 +3,8 @@ use mathlib.Core.Path.{_≡_, sym, ap, _∙_}
 use mathlib.Core.List.{List, [], _∷_}
 use Prim.Native.Nat.{ℕ}
 use Rattle.teplonga.proofs.Settled.{Words}
-use Rattle.face.specs.Face.{packed, countWords}
+use Rattle.face.specs.Face.{packed}
+use Rattle.face_words.specs.Words.{countWords}
 use Rattle.face.proofs.Settled.{front-settled}
 use Rattle.call_rows.specs.declared.RowsReply.{RowsReply}
 use Rattle.call_rows.proofs.Settled.{rows-settled}

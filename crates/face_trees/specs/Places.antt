@@ -2,7 +2,8 @@
 use mathlib.Core.Path.{_≡_}
 use mathlib.Core.List.{List, [], _∷_}
 use Prim.Native.Nat.{ℕ}
-use Rattle.face.specs.Face.{packed, AtFront}
+use Rattle.face.specs.Face.{packed}
+use Rattle.face_words.specs.Words.{AtFront}
 use Rattle.call_places.specs.declared.PlacesReply.{PlacesReply}
 use Rattle.call_places.specs.Places.{PlacesOf}
 

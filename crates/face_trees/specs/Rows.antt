@@ -2,7 +2,8 @@
 use mathlib.Core.Path.{_≡_}
 use mathlib.Core.List.{List}
 use Prim.Native.Nat.{ℕ}
-use Rattle.face.specs.Face.{packed, AtFront, countWords}
+use Rattle.face.specs.Face.{packed}
+use Rattle.face_words.specs.Words.{AtFront, countWords}
 use Rattle.row_counts.specs.declared.RowCount.{RowCount}
 use Rattle.row_counts.specs.declared.RowCount.the-variants as RowCount
 use Rattle.call_rows.specs.declared.RowsReply.{RowsReply}

@@ -2,8 +2,8 @@
 use call_places::places;
 use call_rows::rows;
 use face::pack;
-use face::put_counts;
-use face::put_one;
+use face_words::put_counts;
+use face_words::put_one;
 use row_counts::RowCount;
 ghost use mathlib.Core.Path.{_≡_};
 ghost use Rattle.face_trees.specs.Places.{PlacesWord};

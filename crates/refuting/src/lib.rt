@@ -1,12 +1,12 @@
 // Refuting a block of candidates: terminals first, from the last token backward, then positions. A candidate may be passed
 // over if an earlier one that has its first h cells has two trees where it has.
 use candidates::Candidate;
-use joins::Pair;
 use chart::empty_pair;
 use chart::fill;
 use chart::hopeless;
 use chart::leaf_pair;
 use grammar::Cell;
+use joins::Pair;
 use marks::Draft;
 use sets::has;
 use spans::in_second;

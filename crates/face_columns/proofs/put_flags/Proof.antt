@@ -1,8 +1,8 @@
 -- `put_flags` meets its contract, by the number of lent words.
 use mathlib.Core.Path.{refl}
 use Rattle.printing.proofs.Writing.{wrote-then}
-use Rattle.face.specs.Face.{few, written}
-use Rattle.face.proofs.Words.{wrote-front}
+use Rattle.face_words.specs.Words.{few, written}
+use Rattle.face_words.proofs.Words.{wrote-front}
 use borrow.Author.Needs.{needs}
 use Rattle.face_columns.proofs.put_flags.Statement.{statement}
 use Rattle.face_columns.proofs.put_flags.Tie as tie

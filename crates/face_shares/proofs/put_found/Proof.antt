@@ -2,8 +2,8 @@
 use mathlib.Core.Path.{_≡_, refl}
 use native.Mathlib.Omega.{arith}
 use lib.ListN.{length, length-map}
-use Rattle.face.specs.Face.{few, written}
-use Rattle.face.proofs.Words.{sentence-length, wrote-front}
+use Rattle.face_words.specs.Words.{few, written}
+use Rattle.face_words.proofs.Words.{sentence-length, wrote-front}
 use borrow.Author.Needs.{needs}
 use Rattle.face_shares.proofs.put_found.Statement.{statement}
 use Rattle.face_shares.proofs.put_found.Tie as tie

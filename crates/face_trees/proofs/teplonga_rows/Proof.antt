@@ -1,5 +1,5 @@
 -- `teplonga_rows` meets its contract: the counts as numbers, and the answer with its line.
-use Rattle.face.specs.Face.{AtFront, countWords}
+use Rattle.face_words.specs.Words.{AtFront, countWords}
 use borrow.Author.Needs.{needs}
 use Rattle.face_trees.proofs.teplonga_rows.Statement.{statement}
 use Rattle.face_trees.proofs.teplonga_rows.Tie as tie

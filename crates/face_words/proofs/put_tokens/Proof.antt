@@ -1,4 +1,4 @@
--- `face::put_tokens` meets its contract. The loop's invariant: the words of the first `i` tokens are put.
+-- `face_words::put_tokens` meets its contract. The loop's invariant: the words of the first `i` tokens are put.
 use mathlib.Core.Path.{_≡_}
 use Prim.Native.Nat.{_+_, _*_, _-_, _≤_}
 use native.Mathlib.Omega.{arith}
@@ -7,10 +7,10 @@ use lib.ListN.{length, take, length-map}
 use Rattle.grammar.specs.Sentences.{no-token}
 use Rattle.printing.specs.Printing.{Wrote}
 use Rattle.printing.proofs.Writing.{wrote-none, wrote-then}
-use Rattle.face.specs.Face.{tokenWords}
-use Rattle.face.proofs.Words.{words-more}
-use Rattle.face.proofs.put_tokens.Statement.{statement}
-use Rattle.face.proofs.put_tokens.Tie as tie
+use Rattle.face_words.specs.Words.{tokenWords}
+use Rattle.face_words.proofs.Words.{words-more}
+use Rattle.face_words.proofs.put_tokens.Statement.{statement}
+use Rattle.face_words.proofs.put_tokens.Tie as tie
 
 abbrev Inv-loop : tie.InvT-loop
 Inv-loop found₀ at s i₀ next₀ found i next =

@@ -1,14 +1,14 @@
--- `face::put_counts` meets its contract, by the number of lent words.
+-- `face_words::put_counts` meets its contract, by the number of lent words.
 use mathlib.Core.Path.{refl}
 use Rattle.printing.proofs.Writing.{wrote-then}
-use Rattle.face.specs.Face.{few, written}
-use Rattle.face.proofs.Words.{wrote-front}
+use Rattle.face_words.specs.Words.{few, written}
+use Rattle.face_words.proofs.Words.{wrote-front}
 use borrow.Author.Needs.{needs}
-use Rattle.face.proofs.put_counts.Statement.{statement}
-use Rattle.face.proofs.put_counts.Tie as tie
-use Rattle.face.proofs.put_counts.Reads as reads
-use Rattle.face.proofs.put_counts.Lts as lts
-use Rattle.face.proofs.put_word.Reads as put-word-reads
+use Rattle.face_words.proofs.put_counts.Statement.{statement}
+use Rattle.face_words.proofs.put_counts.Tie as tie
+use Rattle.face_words.proofs.put_counts.Reads as reads
+use Rattle.face_words.proofs.put_counts.Lts as lts
+use Rattle.face_words.proofs.put_word.Reads as put-word-reads
 
 put-word-requires : tie.Need-put-word-requires
 put-word-requires c κs = search needs

@@ -1,12 +1,12 @@
--- `face::put_sentence` meets its contract: the length, then the tokens.
+-- `face_words::put_sentence` meets its contract: the length, then the tokens.
 use Rattle.printing.proofs.Writing.{wrote-then}
 use borrow.Author.Needs.{needs}
-use Rattle.face.proofs.put_sentence.Statement.{statement}
-use Rattle.face.proofs.put_sentence.Tie as tie
-use Rattle.face.proofs.put_sentence.Reads as reads
-use Rattle.face.proofs.put_sentence.Lts as lts
-use Rattle.face.proofs.put_tokens.Reads as put-tokens-reads
-use Rattle.face.proofs.put_word.Reads as put-word-reads
+use Rattle.face_words.proofs.put_sentence.Statement.{statement}
+use Rattle.face_words.proofs.put_sentence.Tie as tie
+use Rattle.face_words.proofs.put_sentence.Reads as reads
+use Rattle.face_words.proofs.put_sentence.Lts as lts
+use Rattle.face_words.proofs.put_tokens.Reads as put-tokens-reads
+use Rattle.face_words.proofs.put_word.Reads as put-word-reads
 
 -- src/lib.rt:80:9
 put-word-requires : tie.Need-put-word-requires

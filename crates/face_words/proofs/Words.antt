@@ -10,7 +10,7 @@ use Rattle.grammar.specs.declared.Token.{Token}
 use Rattle.grammar.specs.declared.Sentence.{Sentence}
 use Rattle.grammar.specs.Layout.{Word, line, col}
 use Rattle.printing.specs.Printing.{Wrote}
-use Rattle.face.specs.Face.{tokenWords, sentenceWords, foundWords}
+use Rattle.face_words.specs.Words.{tokenWords, sentenceWords, foundWords}
 
 words-snoc : (w : Word) (t : Token) → tokenWords (w ++ (t ∷ [])) ≡ tokenWords w ++ (t .terminal ∷ line t ∷ col t ∷ [])
 words-snoc [] t = refl

@@ -1,10 +1,10 @@
--- `face::put_word` meets its contract, by `wrote-one`.
+-- `face_words::put_word` meets its contract, by `wrote-one`.
 use borrow.Author.Needs.{needs}
 use Rattle.printing.proofs.Writing.{wrote-one}
-use Rattle.face.proofs.put_word.Statement.{statement}
-use Rattle.face.proofs.put_word.Tie as tie
-use Rattle.face.proofs.put_word.Reads as reads
-use Rattle.face.proofs.put_word.Lts as lts
+use Rattle.face_words.proofs.put_word.Statement.{statement}
+use Rattle.face_words.proofs.put_word.Tie as tie
+use Rattle.face_words.proofs.put_word.Reads as reads
+use Rattle.face_words.proofs.put_word.Lts as lts
 
 -- src/lib.rt:46:5
 mul-found : tie.Need-mul-found

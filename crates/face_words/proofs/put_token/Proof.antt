@@ -1,11 +1,11 @@
--- `face::put_token` meets its contract, word by word.
+-- `face_words::put_token` meets its contract, word by word.
 use Rattle.printing.proofs.Writing.{wrote-then}
 use borrow.Author.Needs.{needs}
-use Rattle.face.proofs.put_token.Statement.{statement}
-use Rattle.face.proofs.put_token.Tie as tie
-use Rattle.face.proofs.put_token.Reads as reads
-use Rattle.face.proofs.put_token.Lts as lts
-use Rattle.face.proofs.put_word.Reads as put-word-reads
+use Rattle.face_words.proofs.put_token.Statement.{statement}
+use Rattle.face_words.proofs.put_token.Tie as tie
+use Rattle.face_words.proofs.put_token.Reads as reads
+use Rattle.face_words.proofs.put_token.Lts as lts
+use Rattle.face_words.proofs.put_word.Reads as put-word-reads
 
 -- src/lib.rt:55:33
 cast-put-word : tie.Need-cast-put-word

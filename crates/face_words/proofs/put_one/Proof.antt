@@ -1,10 +1,10 @@
 -- `put_one` meets its contract, by the number of lent words.
 use mathlib.Core.Path.{refl}
-use Rattle.face.specs.Face.{few, written}
-use Rattle.face.proofs.Words.{wrote-front}
+use Rattle.face_words.specs.Words.{few, written}
+use Rattle.face_words.proofs.Words.{wrote-front}
 use borrow.Author.Needs.{needs}
-use Rattle.face.proofs.put_one.Statement.{statement}
-use Rattle.face.proofs.put_one.Tie as tie
+use Rattle.face_words.proofs.put_one.Statement.{statement}
+use Rattle.face_words.proofs.put_one.Tie as tie
 
 put-word-requires : tie.Need-put-word-requires
 put-word-requires c κs = search needs

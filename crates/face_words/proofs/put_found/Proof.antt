@@ -1,14 +1,14 @@
--- `face::put_found` meets its contract, by the number of lent words.
+-- `face_words::put_found` meets its contract, by the number of lent words.
 use mathlib.Core.Path.{_≡_, refl}
 use native.Mathlib.Omega.{arith}
 use Prim.Native.Nat.{_≤_}
 use lib.ListN.{length, length-map}
 use Rattle.printing.proofs.Writing.{wrote-then}
-use Rattle.face.specs.Face.{few, written}
-use Rattle.face.proofs.Words.{sentence-length, found-length, wrote-front}
+use Rattle.face_words.specs.Words.{few, written}
+use Rattle.face_words.proofs.Words.{sentence-length, found-length, wrote-front}
 use borrow.Author.Needs.{needs}
-use Rattle.face.proofs.put_found.Statement.{statement}
-use Rattle.face.proofs.put_found.Tie as tie
+use Rattle.face_words.proofs.put_found.Statement.{statement}
+use Rattle.face_words.proofs.put_found.Tie as tie
 
 -- the sentence has 64 places
 array : (s : tie.Start) → length (s .args .s .tokens) ≡ 64
