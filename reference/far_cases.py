@@ -162,6 +162,9 @@ def long_sheets():
     yield "two 0", check(" / ".join(chain(64) + ["63 U 0 - none"]), (1, 1))
     yield "none 0", check(" / ".join(chain(64)[:-1] + filler(60) + ["63 U 33 - none"]), (1, 1))
     yield "two 0", check(" / ".join(chain(64) + ["0 A 0 - none"]), (1, 1))
+    # A loop that no tree uses, far up: first trees go by least height all the same.
+    for loop in ("40 U 41 - none / 41 U 40 - none", "62 B 63 62 none / 63 E - - none", "63 U 63 - none"):
+        yield "two 0", check(f"0 U 1 - none / 0 A 0 - none / 1 U 2 - none / 2 A 0 - none / {loop}", (1, 1))
     empties = chain(64)[:-1] + ["63 E - - none"]
     yield "one 0", check(" / ".join(empties))
     yield "two 0", check(" / ".join(empties + ["40 E - - none"]))

@@ -261,20 +261,18 @@ def replaced(below):
 
 
 def shortest_only():
-    """The sweep ends at the first length that has a tree."""
-    old = far.first_from
+    """The sweep ends at the first length that may have a tree."""
 
-    def first(grammar, prefix, terminals, length):
-        return old(grammar, prefix, terminals, length) if not getattr(grammar, "seen", False) else None
+    def first(rules, bound):
+        grammar = far.HalfKnown(rules)
+        terminals = teplonga.terminals_of(rules)
+        for length in range(1, bound + 1):
+            if terminals and grammar.count(teplonga.START, (None,) * length) > 0:
+                return far.first_from(grammar, (), terminals, length)
+            grammar.forget()
+        return None
 
-    class Seeing(far.HalfKnown):
-        seen = False
-
-        def forget(self):
-            self.seen = any(nonterminal == 0 and count == 1 for (nonterminal, _), count in getattr(self, "counts", {}).items())
-            super().forget()
-
-    return {"first_from": first, "HalfKnown": Seeing}
+    return {"first_ambiguous": first}
 
 
 def line(token, prefix):
