@@ -17,13 +17,14 @@
  * its own lent memory. They allocate nothing, take no lock, set no errno and make no system call.
  *
  * Stack: the verdict, a sweep, a share, a changed mark and the refused line need 16 KB, places 32 KB,
- * columns 160 KB, trees, row counts and trees shown 300 KB, whatever they are asked. A call on a clause
+ * trees, row counts and trees shown 300 KB, columns 750 KB, whatever they are asked. A call on a clause
  * sheet needs up to 800 KB: its readers call each other, most deeply in groups within groups.
  * TEPLONGA_STACK bytes are enough for any call.
  *
- * Time: a verdict or its trees take some milliseconds on the largest sheets. A sweep may take long:
- * sheets can be built whose sweep takes minutes, and it cannot be interrupted, so run it in a thread
- * or a process that may be given up.
+ * Time: a verdict or its trees take some milliseconds on the largest sheets, columns of 64 tokens with
+ * 65,536 choices under 128 rules up to a minute or so. A sweep may take longer: sheets can be built
+ * whose sweep takes minutes, and it cannot be interrupted, so run it in a thread or a process that may
+ * be given up.
  */
 #ifndef TEPLONGA_H
 #define TEPLONGA_H

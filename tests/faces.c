@@ -650,7 +650,7 @@ static void make_big(void)
         sprintf(big_tokens + strlen(big_tokens), "0 %d %d\n", i + 1, i + 1);
     strcpy(big_ranges, RANGE_NAMES);
     for (int i = 0; i < TEPLONGA_MOST_TOKENS; i++)
-        sprintf(big_ranges + strlen(big_ranges), "0 %d %d %d\n", i + 1, i + 1, i == 62 ? i + 2 : i + 1);
+        sprintf(big_ranges + strlen(big_ranges), "0 %d %d %d\n", i + 1, i + 1, i == 63 ? i + 300 : i + 1);
     strcpy(big_clauses, "left clause\n0 ");
     for (int i = 0; i < 15; i++)
         strcat(big_clauses, "(n0 ");
