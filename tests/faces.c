@@ -317,25 +317,28 @@ static void chosen_columns(void)
     CHECK(all_words(lent, 7, 7) && all_words(found, 3, 0));
 }
 
-/* The refused line is this part of the rule sheet (or of the range sheet). */
-static void columns_line_is(const char *rules, const char *ranges, int in_ranges, size_t start, size_t length)
-{
-    struct sheet r = sheet(rules), t = sheet(ranges);
-    teplonga_part line = { r.at, 0 };
+/* A call for a refused line. */
+typedef void line_call(const uint8_t *, size_t, const uint8_t *, size_t, teplonga_part *);
 
-    teplonga_columns_refused_line(r.at, r.length, t.at, t.length, &line);
-    CHECK(line.at == (in_ranges ? t.at : r.at) + start);
+/* The refused line is this part of the first sheet (or of the second). */
+static void line_is(line_call *call, const char *first, const char *second, int in_second, size_t start, size_t length)
+{
+    struct sheet a = sheet(first), b = sheet(second);
+    teplonga_part line = { a.at, 0 };
+
+    call(a.at, a.length, b.at, b.length, &line);
+    CHECK(line.at == (in_second ? b.at : a.at) + start);
     CHECK(line.length == length);
 }
 
 static void columns_refused_lines(void)
 {
-    columns_line_is(PLAIN "0 A 0 - none\n", RANGE_NAMES "0 1 2 1\n", 0, 53, 12);
-    columns_line_is(PLAIN, RANGE_NAMES "0 1 1 1\n0 1 2 1\n", 1, 27, 7);
-    columns_line_is(PLAIN, THREE, 1, 0, 13);
+    line_is(teplonga_columns_refused_line, PLAIN "0 A 0 - none\n", RANGE_NAMES "0 1 2 1\n", 0, 53, 12);
+    line_is(teplonga_columns_refused_line, PLAIN, RANGE_NAMES "0 1 1 1\n0 1 2 1\n", 1, 27, 7);
+    line_is(teplonga_columns_refused_line, PLAIN, THREE, 1, 0, 13);
     /* 49 has line 0 */
-    columns_line_is(PLAIN, RANGE_NAMES "0 1 1 256\n0 2 1 257\n", 0, 0, 0);
-    columns_line_is(PLAIN, RANGE_NAMES "0 1 1 2\n", 0, 0, 0);
+    line_is(teplonga_columns_refused_line, PLAIN, RANGE_NAMES "0 1 1 256\n0 2 1 257\n", 0, 0, 0);
+    line_is(teplonga_columns_refused_line, PLAIN, RANGE_NAMES "0 1 1 2\n", 0, 0, 0);
 }
 
 /* --------------------------------------------------------------------- places */
@@ -580,27 +583,16 @@ static void shares(void)
 
 /* --------------------------------------------------------------- refused line */
 
-/* The refused line is this part of the rule sheet (or of the token sheet). */
-static void line_is(const char *rules, const char *tokens, int in_tokens, size_t start, size_t length)
-{
-    struct sheet r = sheet(rules), t = sheet(tokens);
-    teplonga_part line = { r.at, 0 };
-
-    teplonga_refused_line(r.at, r.length, t.at, t.length, &line);
-    CHECK(line.at == (in_tokens ? t.at : r.at) + start);
-    CHECK(line.length == length);
-}
-
 static void refused_lines(void)
 {
-    line_is(PLAIN "0 A 0 - none\n", THREE, 0, 53, 12);
-    line_is(RULE_NAMES "0 A 0 - none\n0 X", THREE, 0, 40, 3);
-    line_is(PLAIN, TOKEN_NAMES "0 1 1\n0 1 1\n", 1, 20, 5);
-    line_is(PLAIN, "x\n", 1, 0, 1);
-    line_is(RULE_NAMES "1 U 1 - none\n", TOKEN_NAMES "x\n", 0, 0, 0);
-    line_is(RULE_NAMES "0 U 0 - none\n", TOKEN_NAMES "x\n", 1, 14, 1);
-    line_is(PLAIN, THREE, 0, 0, 0);
-    line_is("", "", 0, 0, 0);
+    line_is(teplonga_refused_line, PLAIN "0 A 0 - none\n", THREE, 0, 53, 12);
+    line_is(teplonga_refused_line, RULE_NAMES "0 A 0 - none\n0 X", THREE, 0, 40, 3);
+    line_is(teplonga_refused_line, PLAIN, TOKEN_NAMES "0 1 1\n0 1 1\n", 1, 20, 5);
+    line_is(teplonga_refused_line, PLAIN, "x\n", 1, 0, 1);
+    line_is(teplonga_refused_line, RULE_NAMES "1 U 1 - none\n", TOKEN_NAMES "x\n", 0, 0, 0);
+    line_is(teplonga_refused_line, RULE_NAMES "0 U 0 - none\n", TOKEN_NAMES "x\n", 1, 14, 1);
+    line_is(teplonga_refused_line, PLAIN, THREE, 0, 0, 0);
+    line_is(teplonga_refused_line, "", "", 0, 0, 0);
 }
 
 /* -------------------------------------------------------------- threads, stack */
