@@ -20,6 +20,7 @@ mod c;
 mod c_clauses;
 
 #[cfg(feature = "library")]
+#[allow(dead_code)]
 #[path = "../../rust/src/c_columns.rs"]
 mod c_columns;
 
