@@ -98,7 +98,8 @@ class Declarations(unittest.TestCase):
             self.assertEqual(of_rust(path.read_text()), {}, str(path))
 
     def test_each_function_is_called_by_the_test_in_C(self):
-        called = set(re.findall(r"\b(teplonga_\w+)\(", (TOP / "tests" / "faces.c").read_text()))
+        # by its name, or handed to a function that calls it
+        called = set(re.findall(r"\b(teplonga_\w+)(?:\(|, )", (TOP / "tests" / "faces.c").read_text()))
         self.assertEqual(set(of_header()) - called, set())
 
     def test_a_difference_is_seen(self):
