@@ -71,6 +71,14 @@ columns-settled rules ranges (reading d n y) (bad-rules e x h) = absurd (apart e
 columns-settled rules ranges (reading d n y) (bad-ranges e m x h) = absurd (apart m n)
 columns-settled rules ranges (reading {g = g} {rs = rs} e m x) (reading d n y) = columns-on g rs x (rw (← same-items e d, ← same-items m n) at y)
 
+-- of the lent words only their number counts: the reply is the same whatever stood there before
+pub columns-reply : (rules ranges : List ℕ) {ws vs a b : List ℕ} {r s : ColumnsReply} → length ws ≡ length vs
+    → ColumnsOf rules ranges ws a r → ColumnsOf rules ranges vs b s → r ≡ s
+columns-reply rules ranges e (bad-rules d x h) y = columns-settled rules ranges (bad-rules d x refl) y .0
+columns-reply rules ranges e (bad-ranges d m x h) y = columns-settled rules ranges (bad-ranges d m x refl) y .0
+columns-reply rules ranges e (reading d m (short l n x h)) y = columns-settled rules ranges (reading d m (short (omega arith) n x refl)) y .0
+columns-reply rules ranges e (reading d m (given l n x h)) y = columns-settled rules ranges (reading d m (given (omega arith) n x refl)) y .0
+
 -- ---- the refused line
 
 pub columns-refused-line-settled : (rules ranges r s : RefT (List ℕ)) → Hands rules ranges r (heldBy (ruleSheet (rules .now)) (rangeSheet (ranges .now)))

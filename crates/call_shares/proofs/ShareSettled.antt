@@ -122,3 +122,18 @@ share-settled rules n p i (reading d y) (refusing e x h) = absurd (apart e d)
 share-settled rules n p i (reading {g = g} e x) (reading d y) =
     let z = same-rules e d in
     share-on g (small-terminals rules g e) n p i x (rw (← z) at y)
+
+-- of the lent words only their number counts: the reply is the same whatever stood there before
+module _ {ws vs : List ℕ} (e : length ws ≡ length vs) where
+  taken-moved : {g : Rules} {n p i : ℕ} → ShareTaken g n p i ws → ShareTaken g n p i vs
+  taken-moved t = record { size = t .size; some = t .some; most = t .most; below = t .below; enough = omega (arith, t .enough) }
+
+  pub share-reply : (rules : List ℕ) (n p i : ℕ) {a b : List ℕ} {r s : ShareReply} → ShareOf rules n p i ws a r → ShareOf rules n p i vs b s → r ≡ s
+  share-reply rules n p i (refusing d x h) y = share-settled rules n p i (refusing d x refl) y .0
+  share-reply rules n p i (reading d (bound l m x h)) y = share-settled rules n p i (reading d (bound l m x refl)) y .0
+  share-reply rules n p i (reading d (many k u o q x h)) y = share-settled rules n p i (reading d (many k u o q x refl)) y .0
+  share-reply rules n p i (reading d (racks k o q x h)) y = share-settled rules n p i (reading d (racks k o q x refl)) y .0
+  share-reply rules n p i (reading d (beyond k u o q v x h)) y = share-settled rules n p i (reading d (beyond k u o q v x refl)) y .0
+  share-reply rules n p i (reading d (short k u o q v w x h)) y = share-settled rules n p i (reading d (short k u o q (omega arith) w x refl)) y .0
+  share-reply rules n p i (reading d (clear t c x h)) y = share-settled rules n p i (reading d (clear (taken-moved t) c x refl)) y .0
+  share-reply rules n p i (reading d (two t c x h)) y = share-settled rules n p i (reading d (two (taken-moved t) c x refl)) y .0

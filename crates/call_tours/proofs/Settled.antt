@@ -1,8 +1,8 @@
 -- The promises of `show` and `change` settle the answer and the lent memory: two results that meet a promise are the same.
-use mathlib.Core.Path.{_≡_, sym, ap, _∙_, subst}
+use mathlib.Core.Path.{_≡_, refl, sym, ap, _∙_, subst}
 use mathlib.Core.Logic.{_⊎_, inl, inr, ⊎-elim}
 use mathlib.Core.List.{List, _++_}
-use mathlib.Core.Option.{none, some}
+use mathlib.Core.Option.{Option, none, some}
 use Prim.Native.Nat.{ℕ, _*_, _-_, _≤_, _<_}
 use native.Mathlib.Omega.{arith}
 use lib.ListN.{length, replicate}
@@ -13,7 +13,7 @@ use Rattle.grammar.proofs.VerdictLaws.{none-not-one, none-not-two, one-not-two}
 use Rattle.grammar.proofs.ChoiceLaws.{first-unique, second-tree-unique}
 use Rattle.shown.specs.Shown.{View, shownRows, shownCount}
 use Rattle.shown.proofs.ShownLaws.{shown-alike, length-shown}
-use Rattle.derivation.specs.Showing.{filledShown}
+use Rattle.derivation.specs.Showing.{shownOf, countShown, filledShown}
 use Rattle.sheets.specs.declared.Fault.{Fault}
 use Rattle.sheets.specs.Refusals.{numberOf}
 use Rattle.sheets.specs.Items.{Reading}
@@ -26,6 +26,7 @@ use Rattle.teplonga.specs.Trees.{treesReplyOf}
 use Rattle.sheets.proofs.Numbers.{same-fault}
 use Rattle.teplonga.proofs.Settled.{Words, filled-same, apart, same-sheets, same-refusal, sheets-apart}
 use Rattle.teplonga.proofs.ListSettled.{list-settled}
+use Rattle.teplonga.proofs.Lent.{SameRows, rows-same, refusal-rows, SameBytes, bytes-same, refusal-bytes, list-moved}
 use Rattle.teplonga.specs.declared.ListReply.{ListReply}
 use Rattle.call_tours.specs.Alike.{Alike}
 use Rattle.call_tours.specs.Show.{ShownTo, treeless, single, both, large-one, large-two, ShowOn, ShowOf}
@@ -176,3 +177,68 @@ change-settled (Change.reading e f x) (Change.reading d c y) =
     let z = same-rights e d in
     let v = same-rights f c in
     change-on x (rw (← z, ← v) at y)
+
+-- 3. of what is lent only its length counts: the reply, and what it counts, are the same whatever stood there before
+
+shown-filled : (sees : View) (one other : List ℕ) → length one ≡ length other → (t : Option Tree) → filledShown sees one t ≡ filledShown sees other t
+shown-filled sees one other e t = ap (λ (k : ℕ). shownOf sees t ++ replicate (k - 4 * countShown sees t) 0) e
+
+module _ {sees : View} {g : Rules} {w : Word} {one one₂ two two₂ : List ℕ} (e : length one ≡ length one₂) (d : length two ≡ length two₂) where
+  shown-moved : {a c : List ℕ} {r : TreesReply} → ShownTo sees g w one a two c r → ShownTo sees g w one₂ a two₂ c r
+  shown-moved (treeless p x h i) = treeless p x (h ∙ shown-filled sees one one₂ e none) (i ∙ shown-filled sees two two₂ d none)
+  shown-moved (single {t = t} p a l x h i) = single p a (omega arith) x (h ∙ shown-filled sees one one₂ e (some t)) (i ∙ shown-filled sees two two₂ d none)
+  shown-moved (both {t = t} {u = u} p a b l m x h i) =
+      both p a b (omega arith) (omega arith) x (h ∙ shown-filled sees one one₂ e (some t)) (i ∙ shown-filled sees two two₂ d (some u))
+  shown-moved (large-one p a l n x h i) = large-one p a (omega arith) n x (h ∙ shown-filled sees one one₂ e none) (i ∙ shown-filled sees two two₂ d none)
+  shown-moved (large-two p a b l n x h i) =
+      large-two p a b (⊎-elim (λ z. inl (omega arith)) (λ z. inr (omega arith)) l) n x (h ∙ shown-filled sees one one₂ e none) (i ∙ shown-filled sees two two₂ d none)
+
+module _ {ws vs one one₂ two two₂ : List ℕ} (e : length ws ≡ length vs) (d : length one ≡ length one₂) (c : length two ≡ length two₂) {a b m m′ n n′ : List ℕ} {r s : TreesReply} where
+  show-on-reply : (sees : View) (g : Rules) (w : Word) → Distinct g → ShowOn sees g w ws a one m two n r → ShowOn sees g w vs b one₂ m′ two₂ n′ s → SameRows m m′ n n′ r s
+  show-on-reply sees g w D (Show.short {f = f} u v x h i j) (Show.short {f = f′} p q y k l o) = refusal-rows m m′ n n′ (same-fault f f′ 21 v q, refl) x y
+  show-on-reply sees g w D (Show.short u v x h i j) (Show.showing k y) = absurd (omega (arith, k .sheet .enough, k .long))
+  show-on-reply sees g w D (Show.showing k y) (Show.short u v x h i j) = absurd (omega (arith, k .sheet .enough, k .long))
+  show-on-reply sees g w D (Show.showing h x) (Show.showing k y) = rows-same m m′ n n′ (nothing-leaks sees (alike-self sees g w D) one₂ two₂ (shown-moved d c x) y)
+
+  pub show-reply : {rules tokens rights : List ℕ} {user : ℕ} → ShowOf rules tokens rights user ws a one m two n r → ShowOf rules tokens rights user vs b one₂ m′ two₂ n′ s
+      → SameRows m m′ n n′ r s
+  show-reply (Show.refusing p x h i j) (Show.refusing q y k l o) = refusal-rows m m′ n n′ (same-refusal p q) x y
+  show-reply (Show.refusing p x h i j) (Show.barring q f y k l o) = absurd (apart p q)
+  show-reply (Show.refusing p x h i j) (Show.reading q f y) = absurd (apart p q)
+  show-reply (Show.barring q f y k l o) (Show.refusing p x h i j) = absurd (apart p q)
+  show-reply (Show.barring p f x h i j) (Show.barring q f′ y k l o) = refusal-rows m m′ n n′ (same-fifty f f′) x y
+  show-reply (Show.barring p f x h i j) (Show.reading q f′ y) = absurd (never-both f f′)
+  show-reply (Show.reading q f y) (Show.refusing p x h i j) = absurd (apart p q)
+  show-reply (Show.reading q f′ y) (Show.barring p f x h i j) = absurd (never-both f f′)
+  show-reply {rules} {tokens} {user = user} (Show.reading {g = g} {w = w} {rs = rs} p f x) (Show.reading q f′ y) =
+      let z = same-sheets p q in
+      let v = same-rights f f′ in
+      show-on-reply (maySee rs user) g w (sheets-apart rules tokens .distinct g w p) x (rw (← z .0, ← z .1, ← v) at y)
+
+-- the same reply, and the same bytes, as many as it counts
+module _ {out other : List ℕ} (e : length out ≡ length other) {m n : List ℕ} {r s : ListReply} where
+  done-reply : {rules : List ℕ} {p : ℕ} {lay : List ℕ} → ChangeDone rules p lay out m r → ChangeDone rules p lay other n s → SameBytes m n r s
+  done-reply (unfit q x h) (unfit d y k) = refusal-bytes m n (same-fifty q d) x y
+  done-reply (unfit q x h) (given d y) = absurd (never-both q d)
+  done-reply (given d y) (unfit q x h) = absurd (never-both q d)
+  done-reply (given q x) (given d y) = bytes-same m n (list-settled (list-moved e x) y)
+
+  change-on-reply : {may : View} {rules : List ℕ} {g : Rules} {p : ℕ} {lay : List ℕ} → ChangeOn may rules g p lay out m r → ChangeOn may rules g p lay other n s → SameBytes m n r s
+  change-on-reply (barred {f = f} q v x h) (barred {f = f′} d o y k) = refusal-bytes m n (same-fault f f′ 51 v o, refl) x y
+  change-on-reply (barred q v x h) (allowed d y) = absurd (q d)
+  change-on-reply (allowed d y) (barred q v x h) = absurd (q d)
+  change-on-reply (allowed q x) (allowed d y) = done-reply x y
+
+  pub change-reply : {rules rights : List ℕ} {user p : ℕ} {lay : List ℕ} → ChangeOf rules rights user p lay out m r → ChangeOf rules rights user p lay other n s → SameBytes m n r s
+  change-reply (Change.refusing q x h) (Change.refusing d y k) = refusal-bytes m n (same-fifty q d) x y
+  change-reply (Change.refusing q x h) (Change.barring d f y k) = absurd (never-both q d)
+  change-reply (Change.refusing q x h) (Change.reading d f y) = absurd (never-both q d)
+  change-reply (Change.barring d f y k) (Change.refusing q x h) = absurd (never-both q d)
+  change-reply (Change.barring q f x h) (Change.barring d f′ y k) = refusal-bytes m n (same-fifty f f′) x y
+  change-reply (Change.barring q f x h) (Change.reading d f′ y) = absurd (never-both f f′)
+  change-reply (Change.reading d f y) (Change.refusing q x h) = absurd (never-both q d)
+  change-reply (Change.reading d f′ y) (Change.barring q f x h) = absurd (never-both f f′)
+  change-reply (Change.reading q f x) (Change.reading d f′ y) =
+      let z = same-rights q d in
+      let v = same-rights f f′ in
+      change-on-reply x (rw (← z, ← v) at y)

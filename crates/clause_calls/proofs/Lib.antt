@@ -1,2 +1,4 @@
 pub mod Answers
 pub mod Settled
+pub mod ReadBack
+pub mod SameSheet

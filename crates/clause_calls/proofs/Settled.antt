@@ -4,6 +4,7 @@ use mathlib.Core.Path.{_≡_, sym, _∙_, subst}
 use mathlib.Core.List.{List}
 use Prim.Native.Nat.{ℕ}
 use native.Mathlib.Omega.{arith}
+use lib.ListN.{length}
 use Rattle.grammar.specs.declared.Rule.{Rule}
 use Rattle.grammar.specs.Trees.{Rules}
 use Rattle.sheets.specs.declared.Fault.{Fault}
@@ -22,6 +23,7 @@ use Rattle.teplonga.specs.declared.ListReply.{ListReply}
 use Rattle.teplonga.proofs.Settled.{Words, Apart, apart-of, verdict-settled, trees-settled}
 use Rattle.teplonga.proofs.SweepSettled.{sweep-settled}
 use Rattle.teplonga.proofs.ListSettled.{list-settled}
+use Rattle.teplonga.proofs.Lent.{SameBytes, bytes-same, refusal-bytes, list-moved}
 use Rattle.clause_calls.specs.Calls.{clauseSheets, ClauseVerdict, ClauseTrees, ClauseSweep}
 use Rattle.clause_calls.specs.Expand.{ExpandOf, refusing, giving}
 use Rattle.grammar.specs.Distinct.{Distinct}
@@ -62,3 +64,16 @@ expand-settled (giving d y) (refusing e x h) = absurd (apart e d)
 expand-settled (giving {g = g} e x) (giving {g = h} d y) =
     let z : g ≡ h = cc in
     list-settled x (rw (← z) at y)
+
+-- of the lent bytes only their number counts: the reply, and the bytes that it counts, are the same whatever stood there before
+pub expand-reply : {clauses out other a b : List ℕ} {r s : ListReply} → length out ≡ length other
+    → ExpandOf clauses out a r → ExpandOf clauses other b s → SameBytes a b r s
+expand-reply {a = a} {b = b} c (refusing {f = f} {l = l} e x h) (refusing {f = g} {l = m} d y k) =
+    let p : f ≡ g = cc in
+    let q : l ≡ m = cc in
+    refusal-bytes a b (p, q) x y
+expand-reply c (refusing e x h) (giving d y) = absurd (apart e d)
+expand-reply c (giving d y) (refusing e x h) = absurd (apart e d)
+expand-reply {a = a} {b = b} c (giving {g = g} e x) (giving {g = h} d y) =
+    let z : g ≡ h = cc in
+    bytes-same a b (list-settled (list-moved c x) (rw (← z) at y))

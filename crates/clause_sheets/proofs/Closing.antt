@@ -120,7 +120,7 @@ step-good seen p false c e = go (isEmpty p) e
     go true q = absurd (let z : _≡_ {A = ℕ} 0 1 = cc in omega arith)
     go false q = absurd (let z : _≡_ {A = ℕ} 0 1 = cc in omega arith)
 
-all-terms : (ps : List (List ℕ)) (l : List ClauseLine) → itemsFrom clauseStep [] ps ≡ accepted l → TermsAll (clausesOf l)
+pub all-terms : (ps : List (List ℕ)) (l : List ClauseLine) → itemsFrom clauseStep [] ps ≡ accepted l → TermsAll (clausesOf l)
 all-terms ps l =
     items-hold clauseStep (λ w. TermsAll (clausesOf w)) (λ seen p b c e h. terms-snoc seen c h (line-terms p c (step-good seen p b c e))) [] ps l tt
 

@@ -1,5 +1,5 @@
--- What an accepted clause sheet means: its rules are an expansion, and the readings of a sentence under its clauses match the trees of the start one to one.
-use mathlib.Core.Path.{_≡_, refl, sym, subst}
+-- What an accepted clause sheet means: its rules are the expansion of its own clauses, and the readings of a sentence under these match the trees of the start one to one.
+use mathlib.Core.Path.{_≡_, refl, sym, ap, _∙_, subst}
 use mathlib.Core.Bool.{Bool, true, false, cond, not, _&&_}
 use mathlib.Core.List.{List, [], _∷_}
 use Prim.Native.Nat.{ℕ, _+_, _<_}
@@ -16,11 +16,20 @@ use Rattle.sheets.specs.declared.Fault.the-variants as Fault
 use Rattle.sheets.specs.Items.{Reading, accepted, refused, itemsFrom, withNames}
 use Rattle.sheets.specs.RuleSheets.{anyOf, isStart, finish}
 use Rattle.clause_sheets.specs.ClauseSheets.{clauseStep, clausesOf, expansionFits, expanded, clausesFrom, clauseNames, clauseSheet}
+use Rattle.clause_sheets.specs.Own.{sheetLines, ClausesBy, OwnClauses}
 
-pub record Meant (g : Rules) : Type 0 where
+-- lines that were read so, and the rules that they give
+pub record MeantBy (x : Reading ClauseLine) (g : Rules) : Type 0 where
   pub clauses : Clauses
+  pub own : ClausesBy x clauses
+  pub fits : expansionFits clauses ≡ true
+  pub start : anyOf isStart g ≡ true
   pub rules : g ≡ expansion clauses
   pub match : OneToOne clauses g 0
+
+-- the sheet s gives the rules g
+abbrev pub Meant : List ℕ → Rules → Type 0
+Meant s g = MeantBy (sheetLines s) g
 
 finished-as : (v g : Rules) → finish (accepted v) ≡ accepted g → (g ≡ v) × (anyOf isStart v ≡ true)
 finished-as v g e = go (anyOf isStart v) refl e
@@ -37,23 +46,38 @@ some-line (c ∷ l) e =
     let y = max-bounds (c .left + 1) (pastExpr (c .expr)) in
     omega arith
 
-of-lines : (x : Reading ClauseLine) (g : Rules) → expanded x ≡ accepted g → Meant g
+of-lines : (x : Reading ClauseLine) (g : Rules) → expanded x ≡ accepted g → MeantBy x g
 of-lines (refused f n) g e = absurd (let z : _≡_ {A = ℕ} 0 1 = cc in omega arith)
-of-lines (accepted l) g e = go (expansionFits (clausesOf l)) e
+of-lines (accepted l) g e = go (expansionFits (clausesOf l)) refl e
   where
-    go : (b : Bool) → cond b (finish (accepted (expansion (clausesOf l)))) (refused Fault.ClauseMany 0) ≡ accepted g → Meant g
-    go false q = absurd (let z : _≡_ {A = ℕ} 0 1 = cc in omega arith)
-    go true q =
+    go : (b : Bool) → expansionFits (clausesOf l) ≡ b → cond b (finish (accepted (expansion (clausesOf l)))) (refused Fault.ClauseMany 0) ≡ accepted g → MeantBy (accepted l) g
+    go false k q = absurd (let z : _≡_ {A = ℕ} 0 1 = cc in omega arith)
+    go true k q =
         let f = finished-as (expansion (clausesOf l)) g q in
-        record { clauses = clausesOf l; rules = f .0; match = subst (λ (y : Rules). OneToOne (clausesOf l) y 0) (sym (f .0)) (clauses-match (clausesOf l) 0 (some-line l (f .1))) }
+        record {
+          clauses = clausesOf l;
+          own = record { lines = l; given = refl; are = refl };
+          fits = k;
+          start = subst (λ (y : Rules). anyOf isStart y ≡ true) (sym (f .0)) (f .1);
+          rules = f .0;
+          match = subst (λ (y : Rules). OneToOne (clausesOf l) y 0) (sym (f .0)) (clauses-match (clausesOf l) 0 (some-line l (f .1)));
+        }
 
-pub meant : (s : List ℕ) (g : Rules) → clauseSheet s ≡ accepted g → Meant g
-meant s g e = go (pieces 10 s) e
+-- the sheet is read line by line, then expanded
+pub sheet-expanded : (s : List ℕ) → clauseSheet s ≡ expanded (sheetLines s)
+sheet-expanded s = go (pieces 10 s)
   where
-    go : (ps : List (List ℕ)) → withNames (refused Fault.RuleNames 1) clauseNames ps clausesFrom ≡ accepted g → Meant g
-    go [] q = absurd (let z : _≡_ {A = ℕ} 0 1 = cc in omega arith)
-    go (h ∷ ps) q = which (not (isEmpty ps) && sameBytes h clauseNames) q
+    go : (ps : List (List ℕ)) → withNames (refused Fault.RuleNames 1) clauseNames ps clausesFrom ≡ expanded (withNames (refused Fault.RuleNames 1) clauseNames ps (itemsFrom clauseStep []))
+    go [] = refl
+    go (h ∷ ps) = which (not (isEmpty ps) && sameBytes h clauseNames)
       where
-        which : (b : Bool) → cond b (clausesFrom ps) (refused Fault.RuleNames 1) ≡ accepted g → Meant g
-        which true q = of-lines (itemsFrom clauseStep [] ps) g q
-        which false q = absurd (let z : _≡_ {A = ℕ} 0 1 = cc in omega arith)
+        which : (b : Bool) → cond b (clausesFrom ps) (refused Fault.RuleNames 1) ≡ expanded (cond b (itemsFrom clauseStep [] ps) (refused Fault.RuleNames 1))
+        which true = refl
+        which false = refl
+
+pub meant : (s : List ℕ) (g : Rules) → clauseSheet s ≡ accepted g → Meant s g
+meant s g e = of-lines (sheetLines s) g (sym (sheet-expanded s) ∙ e)
+
+-- a sheet's clauses are one
+pub own-one : (s : List ℕ) {c d : Clauses} → OwnClauses s c → OwnClauses s d → c ≡ d
+own-one s a b = let z : a .lines ≡ b .lines = cc (a .given, b .given) in a .are ∙ ap clausesOf z ∙ sym (b .are)

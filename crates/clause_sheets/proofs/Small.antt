@@ -32,7 +32,7 @@ use Rattle.clauses.proofs.Lines.{sheet-owned}
 
 small-clause : (K : ℕ) (k : Clause) → K ≤ 64 → Below K k → SmallClause k
 small-clause K Empty h b = tt
-small-clause K (Atom a c) h b = b
+small-clause K (Atom a c) h b = (b .0, b .1)
 small-clause K (Unary c m) h b = omega arith
 small-clause K (Binary c d m) h b = (omega (arith, b .0), omega (arith, b .1))
 

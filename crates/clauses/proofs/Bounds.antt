@@ -2,7 +2,7 @@
 use mathlib.Core.Path.{_≡_}
 use mathlib.Core.Logic.{_⊎_}
 use mathlib.Core.List.{[], _∷_, List·Memᴰ}
-use Prim.Native.Nat.{ℕ, _+_, _<_}
+use Prim.Native.Nat.{ℕ, _+_, _≤_, _<_}
 use Rattle.grammar.specs.declared.Rule.{Rule}
 use Rattle.grammar.specs.declared.Clause.{Clause}
 use Rattle.grammar.specs.declared.Clause.the-variants.{Empty, Atom, Unary, Binary}
@@ -67,9 +67,9 @@ abbrev pub AllApart : Rules → Type 0
 AllApart [] = Unit {0}
 AllApart (r ∷ g) = ((s : Rule) → List·Memᴰ s g → Clash r s → ⊥) × AllApart g
 
--- every nonterminal of a clause is below K, and every terminal below 64
+-- every nonterminal of a clause is below K, every terminal below 64, and no range of terminals reverses
 abbrev pub Below : ℕ → Clause → Type 0
 Below K Empty = Unit {0}
-Below K (Atom a b) = (a < 64) × (b < 64)
+Below K (Atom a b) = (a < 64) × (b < 64) × (a ≤ b)
 Below K (Unary B m) = B < K
 Below K (Binary B C m) = (B < K) × (C < K)

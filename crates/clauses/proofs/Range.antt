@@ -34,7 +34,7 @@ module _ (N K : ℕ) (h : N ≤ K) where
   rules-low : {s : Sort} (e : Expr s) (n : ℕ) (r : Rule) → Under N e → Terms e → n + size e ≤ K → List·Memᴰ r (exprRules e n) → Below K (r .clause)
   rules-low (nonterminal L) n r u t l m = absurd (List·Memᴰ·not-nil m)
   rules-low (a-part e) n r u t l m = rules-low e n r u t l m
-  rules-low (terminal a) n r u t l m = ⊎-elim (λ q. low K r (A n a) q (t, t)) (λ i. absurd (List·Memᴰ·not-nil i)) (List·Memᴰ·cases-cons m)
+  rules-low (terminal a) n r u t l m = ⊎-elim (λ q. low K r (A n a) q (t, t, le-refl a)) (λ i. absurd (List·Memᴰ·not-nil i)) (List·Memᴰ·cases-cons m)
   rules-low (group e) n r u t l m =
       ⊎-elim (λ i. choices-low n e (n + 1) r (omega arith) i) (λ i. rules-low e (n + 1) r u t (omega arith) i)
       (List·Memᴰ·append-cases (alternativeRules n e (n + 1)) m)

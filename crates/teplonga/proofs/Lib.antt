@@ -5,3 +5,4 @@ pub mod Readings
 pub mod Judging
 pub mod Showing
 pub mod Sweeping
+pub mod Lent

@@ -3,3 +3,4 @@ pub mod Fits
 pub mod Bounds
 pub mod Sweeps
 pub mod Within
+pub mod Settled

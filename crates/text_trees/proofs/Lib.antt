@@ -1,1 +1,2 @@
 pub mod PlaceLines
+pub mod Settled
