@@ -8,6 +8,8 @@ that is known. It goes by the answer and looks in the refused line for what the 
 import re
 import sys
 
+from reading.clauses import IllWritten, clause_of
+from reading.sheets import parted
 from refusals import table
 
 # the sheets that a program's input holds, each parted from the next by an empty line; of `calls` by the call
@@ -75,18 +77,6 @@ class Line:
             if i >= len(self.fields) or wrong(i, self.fields[i]):
                 return self.field(i)
         return self.field(count)
-
-
-def parted(data, count):
-    """The sheets of an input: the last one takes all the rest."""
-    sheets = []
-    for _ in range(count - 1):
-        found = re.match(rb"(?:[^\n]+\n)*\n", data)
-        if not found:
-            return None
-        sheets.append(data[: found.end() - 1])
-        data = data[found.end() :]
-    return sheets + [data]
 
 
 def sheets_of(program, data):
@@ -170,37 +160,13 @@ def twice(lines, at):
     return next(i for i in range(1, at) if alike(rule_key(lines[i]), key))
 
 
-CLAUSE_LEFT = re.compile(rb"[0-9]{1,5}(?= )")
-CLAUSE_ITEM = re.compile(rb"[nt]([0-9]{1,5})")
-CLAUSE_REPEAT = re.compile(rb"[+*]:align|[?+*]")
-CLAUSE_SUFFIX = re.compile(rb"[+*]:align|[?+*]|:(?:offside|offalign|single)")
-CLAUSE_BETWEEN = re.compile(rb" :(?:align|indent): | \| | ")
-
-
 def clause_form_fault(line):
     """Refusal 41: the first place at which the line can no longer go on to be so written."""
-    data, depth = line.data, 0
-    left = CLAUSE_LEFT.match(data)
-    if not left or int(left[0]) > 63:
-        return line.field(0)
-    at = left.end() + 1
-    while True:
-        while data[at : at + 1] == b"(":
-            at, depth = at + 1, depth + 1
-        item = CLAUSE_ITEM.match(data, at)
-        if not item or int(item[1]) > 63:
-            return at, item.end() if item else min(at + 1, len(data))
-        at, suffix = item.end(), CLAUSE_REPEAT
-        while True:
-            found = suffix.match(data, at)
-            at, suffix = found.end() if found else at, CLAUSE_SUFFIX
-            if not depth or data[at : at + 1] != b")":
-                break
-            at, depth = at + 1, depth - 1
-        between = CLAUSE_BETWEEN.match(data, at)
-        if not between:
-            return at, min(at + 1, len(data))
-        at = between.end()
+    try:
+        clause_of(0, line.data.decode("latin-1"))
+    except IllWritten as error:
+        return error.place
+    return line.end()
 
 
 def clause_deep_fault(line):
@@ -284,20 +250,30 @@ def drawn(line, span):
     return [dots + text, " " * len(dots) + mark]
 
 
+def looked_for(number):
+    """The refusal of a number; nothing where the table has none."""
+    return next((refusal for refusal in table() if refusal.number == number), None)
+
+
+def found(program, number, number_of_line, data):
+    """The sheet that a refusal is about, its lines, the field at fault, and another line that it is about."""
+    names = sheets_of(program, data)
+    about = ABOUT[looked_for(number).where.removeprefix("each ").split(" ")[0]]
+    sheet = next(name for name in names if name in about)
+    lines = lines_of(parted(data, len(names))[names.index(sheet)])
+    return sheet, lines, *fault(number, sheet, lines, number_of_line - 1)
+
+
 def explained(program, answer, number_of_line, data):
     """The words, a line each."""
     number = int(answer.removeprefix("refused-"))
-    refusal = next((refusal for refusal in table() if refusal.number == number), None)
+    refusal = looked_for(number)
     if refusal is None:
         return [f"{answer}: docs/refusals.tsv has no such number"]
     if number_of_line == 0:
         return [f"{answer}: {refusal.meaning}"]
-    names = sheets_of(program, data)
-    about = ABOUT[refusal.where.removeprefix("each ").split(" ")[0]]
-    sheet = next(name for name in names if name in about)
-    lines = lines_of(parted(data, len(names))[names.index(sheet)])
+    sheet, lines, span, other = found(program, number, number_of_line, data)
     at = number_of_line - 1
-    span, other = fault(number, sheet, lines, at)
     words = [f"{answer}, {sheet}, line {number_of_line}: {refusal.meaning}"]
     words += ["    " + text for text in drawn(lines[at], span)]
     if not lines[at].ended and span == lines[at].end():
@@ -307,14 +283,16 @@ def explained(program, answer, number_of_line, data):
     return words
 
 
-def main(program, answer, line):
-    data = sys.stdin.buffer.read()
+def said(program, answer, line, data):
+    """The words; where a line is not looked at rightly, the sentence alone."""
     try:
-        said = explained(program, answer, int(line), data)
+        return explained(program, answer, line, data)
     except (LookupError, ValueError, TypeError, StopIteration):
-        # a line that is not looked at rightly: the sentence alone
-        said = explained(program, answer, 0, data)
-    print("\n".join(said))
+        return explained(program, answer, 0, data)
+
+
+def main(program, answer, line):
+    print("\n".join(said(program, answer, int(line), sys.stdin.buffer.read())))
 
 
 if __name__ == "__main__":

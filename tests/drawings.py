@@ -319,17 +319,21 @@ class Options(unittest.TestCase):
         self.assertEqual(run(DRAW, "a", "b").returncode, 2)
 
     def test_clauses_are_drawn_by_the_rules_that_they_expand_to(self):
-        """With scripts in the place of those that answer: the trees are those of `clauses`, the rules those of `expand`."""
+        """With a program in the place of `calls`: the trees are those of `clauses`, the rules those of `expand`."""
         for name in ("bin", "scripts"):
             shutil.copytree(TOP / name, self.room / name)
+        (self.room / "crates").mkdir()
+        (self.room / "crates.txt").write_text("")
         rules, tokens = teplonga.parted(EXAMPLES["two-trees.check"])
         (self.room / "clauses").write_bytes(run(CHECK, data=EXAMPLES["two-trees.check"]).stdout)
         (self.room / "expand").write_bytes(b"answer line\ngiven 0\n" + rules)
-        script = self.room / "bin" / "teplonga"
-        script.write_text(f"#!/bin/sh\ncat > '{self.room}'/asked-$2\ncat '{self.room}'/$2\n")
+        script = self.room / "target" / "bin" / "calls"
+        script.parent.mkdir(parents=True)
+        kept = f"'{self.room}'/asked-$call"
+        script.write_text(f"#!/bin/sh\nread names\nread call\nread empty\ncat > {kept}\ncat '{self.room}'/$call\n")
         script.chmod(0o755)
         clauses = b"left clause\n0 n0 n0 | t0\n"
-        ended = run(self.room / "bin" / "draw", "--clauses", data=clauses + b"\n" + tokens)
+        ended = run(self.room / "bin" / "draw", "--clauses", "--expanded", data=clauses + b"\n" + tokens)
         self.assertEqual((ended.returncode, ended.stderr), (0, b""))
         self.assertEqual(ended.stdout, run(DRAW, data=EXAMPLES["two-trees.check"]).stdout)
         self.assertEqual((self.room / "asked-clauses").read_bytes(), clauses + b"\n" + tokens)

@@ -1,1 +1,1 @@
-"""Pictures of a patch and its trees, made from the sheets and from what the proved program answers."""
+"""Pictures of a patch and its trees or readings, made of the boxes that scripts/reading gives."""

@@ -1,138 +1,286 @@
-"""A tree: nonterminals on the nodes, kinds and marks on the edges, tokens in order at the bottom."""
+"""Trees of boxes: where each box stands, and its lines; tokens in order at the bottom."""
 
+from collections import Counter
 from html import escape
+from itertools import accumulate
 
-from .svg import NAME, NOTE, box, line, tag, text, width
-from .trees import word_of
+from .svg import NAME, NOTE, box as rounded, line, tag, text, width, wrapped
 
-LEVEL, HIGH, GAP = 54, 22, 10
+HIGH, GAP, RING = 22, 12, 8
 
-# a slot is at least so wide
-LEAST = 40
+# between two levels; with room for what stands on the lines
+BAR, LABELLED_BAR = 26, 32
+
+# a note is no wider than so, and has no more lines
+WIDEST, MOST_LINES = 210, 2
+
+# below an empty box its ε, beneath a closed one that it is
+BENEATH = 18
+
+COLOURS = ("one", "two")
 
 
-def edge_label(node):
-    """The rule's kind and its mark, if it has one."""
-    if node.rule is None or node.rule.lay == "none":
-        return node.kind
-    return f"{node.kind} {node.rule.lay}"
+def note_lines(box):
+    """A note in lines, shortened where it is long: the box's title says it in full."""
+    if not box.note or box.is_plain:
+        return []
+    lines = wrapped(box.note, NOTE, max(WIDEST, width(box.title, NAME)))
+    if len(lines) > MOST_LINES:
+        lines = [*lines[: MOST_LINES - 1], f"{lines[MOST_LINES - 1]} …"]
+    return lines
 
 
 class Panel:
-    """Where the nodes of a tree stand. Each token and each empty word has a slot; a node stands above its own."""
+    """One tree: where its boxes stand. A box stands over the columns of its words, so no lines cross."""
 
-    def __init__(self, tree, tokens, names):
-        self.nodes = list(tree.walk())
-        self.tokens, self.names = tokens, names
-        self.place = {id(node): place for place, node in enumerate(self.nodes)}
-        self.depth, self.slots, self.ends = {}, {}, []
-        self.levels(tree)
-        self.count(tree)
+    def __init__(self, top, tokens, colour="ink", is_numbered=False):
+        self.top, self.tokens, self.colour, self.is_numbered = top, tokens, colour, is_numbered
+        self.boxes = list(top.walk())
+        self.notes = {id(box): note_lines(box) for box in self.boxes}
+        self.depth, self.x, self.y = {id(top): 0}, {}, {}
+        for box in self.boxes:
+            for below in box.below:
+                self.depth[id(below)] = self.depth[id(box)] + 1
 
-    def levels(self, tree):
-        waiting = [(tree, 0)]
-        while waiting:
-            node, depth = waiting.pop()
-            self.depth[id(node)] = depth
-            if not node.below:
-                self.ends.append(node)
-            waiting.extend((below, depth + 1) for below in reversed(node.below))
+    def leaves(self):
+        """The boxes with nothing below them, from left to right, each with the number of tokens before it."""
+        before = 0
+        for box in self.boxes:
+            if not box.below:
+                yield box, before
+                before += box.length
 
-    def count(self, tree):
-        """How many slots each node has: those of what is below it."""
-        for node in reversed(self.nodes):
-            self.slots[id(node)] = sum(self.slots[id(below)] for below in node.below) or 1
+    def own(self, box):
+        """How wide a box is, with what stands on its lines and beneath it at the bottom."""
+        if box.kind == "token":
+            return max(width(box.title, NAME) + 12, width(self.tokens[box.start].place, NOTE))
+        beneath = max(width(box.words, NOTE) + 12, width(box.label, NOTE) + 4, width(self.beneath(box), NOTE))
+        return max(self.size(box)[0], beneath)
+
+    @staticmethod
+    def beneath(box):
+        return "closed" if box.kind == "closed" else ""
+
+    def size(self, box):
+        """How wide and high a box is drawn."""
+        notes = self.notes[id(box)]
+        widest = max([width(box.title, NAME), *[width(each, NOTE) for each in notes]])
+        return widest + 14, (HIGH if box.title else 6) + (NOTE + 4) * len(notes)
+
+    def heights(self):
+        """How high each level is; tokens stand at the bottom and are on none."""
+        levels = {}
+        for box in self.boxes:
+            if box.kind != "token":
+                depth = self.depth[id(box)]
+                more = BENEATH if (box.is_empty and not box.label) or box.kind == "closed" else 0
+                levels[depth] = max(levels.get(depth, 0), self.size(box)[1] + more)
+        return levels
+
+    def arrange(self, left, tops, bars, columns):
+        """Sets each box's middle and top, and the height of the bar to what is below it."""
+        ranges, self.bars = columns.ranges(self), bars
+
+        def room(box):
+            low, high = (left + end for end in columns.ends(*ranges[id(box)]))
+            return low + self.own(box) / 2, high - self.own(box) / 2
+
+        for box in reversed(self.boxes):
+            low, high = room(box)
+            middles = [self.x[id(each)] for each in box.below] or [low, high]
+            # a box stays over its columns, also where what is below stands to one side
+            self.x[id(box)] = min(max((middles[0] + middles[-1]) / 2, low), high)
+        for box in self.boxes:
+            self.y[id(box)] = tops.get(self.depth[id(box)], 0)
+            if len(box.below) == 1 and box.below[0].below:
+                # an only one stands straight below, where it has room
+                low, high = room(box.below[0])
+                if low <= self.x[id(box)] <= high:
+                    self.x[id(box.below[0])] = self.x[id(box)]
+
+    def draw(self, number, noun, bottom):
+        edges = [self.edge(box, bottom) for box in self.boxes if box.kind != "token"]
+        nodes = [self.token(box, bottom) if box.kind == "token" else self.box(box) for box in self.boxes]
+        return tag("g", *edges, *nodes, class_=noun, data_tree=number)
+
+    def colour_of(self, box):
+        return self.colour if box.differs or self.colour == "ink" else "shared"
+
+    def data(self, box):
+        """What a reader of the picture is told of a box: its words, its place in the sheet, how many are below it."""
+        spans = " ".join(f"{at}:{begin}-{end}" for at, begin, end in box.spans)
+        told = {"data_start": box.start, "data_length": box.length, "data_below": len(box.below)}
+        return {**told, **({"data_pieces": spans} if spans else {}), **({"data_key": box.key} if box.key else {})}
+
+    def row(self, box):
+        """Of a box of a nonterminal, which ones it stands for; of a rule's, its kind besides."""
+        lefts = [node.left for node in box.nodes if node.left is not None]
+        if box.kind not in ("node", "closed") or not lefts:
+            return {}
+        told = {"data_left": " ".join(map(str, lefts))}
+        if box.label or box.kind == "closed":
+            told["data_kind"] = box.label[:1] or "C"
+        return told
+
+    def box(self, box):
+        x, y, (wide, high) = self.x[id(box)], self.y[id(box)], self.size(box)
+        colour, weight = self.colour_of(box), " wide" if box.differs else ""
+        dashed = box.kind in ("fold", "closed") or (box.is_empty and not box.label)
+        dash = {"stroke_dasharray": "5 3"} if dashed else {}
+        ring = [rounded(x, y + high / 2, wide + RING, high + RING, f"line {colour}-line wide")] if box.parts else []
+        fill = "token" if box.kind == "piece" else "paper"
+        frame = rounded(x, y + high / 2, wide, high, f"{fill} {colour}-line{weight}", **dash)
+        said, at = [], y + HIGH / 2
+        if box.title:
+            said, at = [text(x, at, box.title, NAME, colour)], at + HIGH / 2 + 5
+        for each in self.notes[id(box)]:
+            said.append(text(x, at if box.title else at - 1, each, NOTE, colour if box.differs else "soft"))
+            at += NOTE + 4
+        return tag(
+            "g",
+            tag("title", escape(box.said)),
+            *ring,
+            frame,
+            *said,
+            class_=f"box {box.kind}{' parts' if box.parts else ''}",
+            **self.row(box),
+            **self.data(box),
+            data_look="differs" if box.differs else "shared",
+        )
+
+    def edge(self, box, bottom):
+        """The lines to all below a box, dots down to tokens, with the box's label on them."""
+        x, low = self.x[id(box)], self.y[id(box)] + self.size(box)[1]
+        weight = f"{self.colour_of(box)}-line{' wide' if box.differs else ''}"
+        soft = self.colour if box.differs else "soft"
+        bar = self.bars[self.depth[id(box)]]
+        if box.kind == "closed":
+            lines = [text(x, low + 9, "closed", NOTE, "soft")]
+        elif box.kind == "fold":
+            lines = [line([(x, low), (x, bottom - HIGH / 2)], f"{weight} dots"), self.folded_words(box, bottom)]
+        elif not box.below:
+            down, at = (bar + 10, bar + 18) if box.label else (low, low + 10)
+            lines = [line([(x, low), (x, down)], weight)] if box.label else []
+            lines.append(text(x, at, "ε", NAME, soft))
+        else:
+            lines = list(self.lines(box, low, bar, bottom, weight))
+        if box.label:
+            lines += [rounded(x, bar, width(box.label, NOTE) + 4, NOTE + 3, "paper"), text(x, bar, box.label, NOTE, soft)]
+        return tag("g", *lines, class_="edge")
+
+    def lines(self, box, low, bar, bottom, weight):
+        x = self.x[id(box)]
+        ends = [self.x[id(each)] for each in box.below]
+        straight = all(abs(end - x) < 0.1 for end in ends)
+        if not straight:
+            yield line([(x, low), (x, bar)], weight)
+            yield line([(min(x, *ends), bar), (max(x, *ends), bar)], weight)
+        for end, each in zip(ends, box.below):
+            is_token = each.kind == "token"
+            down = bottom - HIGH / 2 if is_token else self.y[id(each)]
+            yield line([(end, low if straight else bar), (end, down)], f"{weight} dots" if is_token else weight)
+
+    def folded_words(self, box, bottom):
+        x = self.x[id(box)]
+        if not box.words:
+            return text(x, bottom, "ε", NAME, "soft")
+        return "".join(
+            [
+                rounded(x, bottom, width(box.words, NOTE) + 12, HIGH, "token rule-line"),
+                text(x, bottom, box.words, NOTE, "soft"),
+                text(x, bottom + 20, self.tokens[box.start].place, NOTE, "soft"),
+            ]
+        )
+
+    def token(self, box, bottom):
+        x, place = self.x[id(box)], self.tokens[box.start].place
+        notes = [str(box.start), place] if self.is_numbered else [place]
+        # a token stands for the group or the `?` around it too, so readings may part at it
+        wide = width(box.title, NAME) + 12 + RING
+        ring = [rounded(x, bottom, wide, HIGH + RING, f"line {self.colour}-line wide")] if box.parts else []
+        return tag(
+            "g",
+            tag("title", escape(box.said)),
+            *ring,
+            rounded(x, bottom, width(box.title, NAME) + 12, HIGH, "token ink-line", stroke_width=0.8),
+            text(x, bottom, box.title),
+            *[text(x, bottom + 20 + 14 * n, each, NOTE, "soft") for n, each in enumerate(notes)],
+            class_=f"box leaf{' parts' if box.parts else ''}",
+            data_token=box.start,
+            **self.data(box),
+        )
+
+
+class Columns:
+    """One scale for all trees: a column for each token and, between tokens, for the empty words of any tree, so that a
+    token stands at the same place in both."""
+
+    def __init__(self, panels, count):
+        empties = [Counter(before for box, before in panel.leaves() if not box.length) for panel in panels]
+        self.gap, self.token, at = [], [], 0
+        for place in range(count + 1):
+            self.gap.append(at)
+            at += max(counted[place] for counted in empties)
+            self.token.append(at)
+            at += place < count
+        self.wide = [0] * max(at, 1)
+        # the narrowest first: what a wider one lacks is shared among its columns
+        spans = [(*self.ranges(panel)[id(box)], panel.own(box) + GAP) for panel in panels for box in panel.boxes]
+        for first, last, own in sorted(spans, key=lambda span: span[1] - span[0]):
+            self.widen(first, last, own - sum(self.wide[first : last + 1]))
+        self.at = list(accumulate(self.wide, initial=0))
+
+    def ranges(self, panel):
+        """The first and the last column of each box."""
+        found, used = {}, Counter()
+        for box, before in panel.leaves():
+            if box.length:
+                found[id(box)] = (self.token[before], self.token[before + box.length - 1])
+            else:
+                found[id(box)] = (self.gap[before] + used[before],) * 2
+                used[before] += 1
+        for box in reversed(panel.boxes):
+            if box.below:
+                found[id(box)] = (found[id(box.below[0])][0], found[id(box.below[-1])][1])
+        return found
+
+    def widen(self, first, last, lacking):
+        if lacking > 0:
+            shared = [column for column in range(first, last + 1) if self.wide[column]] or [first]
+            for column in shared:
+                self.wide[column] += lacking / len(shared)
+
+    def ends(self, first, last):
+        """Where the columns begin and end, without the gap to the next one."""
+        return self.at[first], self.at[last + 1] - GAP
+
+
+class Scale:
+    """All trees on one scale: the same levels and columns, and their tokens at one height."""
+
+    def __init__(self, tops, tokens, noun):
+        self.noun = noun
+        # tokens are told by their number where the sentences name them so
+        self.is_numbered = noun == "tree"
+        colours = COLOURS if len(tops) == 2 else ("ink",)
+        self.panels = [Panel(top, tokens, colour, self.is_numbered) for top, colour in zip(tops, colours)]
+        self.columns = Columns(self.panels, len(tokens))
+        self.wide = self.columns.at[-1] - GAP
+        self.bar = LABELLED_BAR if any(box.label for top in tops for box in top.walk()) else BAR
+        self.levels = {}
+        for panel in self.panels:
+            for depth, high in panel.heights().items():
+                self.levels[depth] = max(self.levels.get(depth, 0), high)
+
+    def draw(self, place, left, top):
+        """A tree with its corner at left, top."""
+        tops, bars, at = {}, {}, top + RING
+        for depth in sorted(self.levels):
+            tops[depth], bars[depth] = at, at + self.levels[depth] + self.bar / 2
+            at += self.levels[depth] + self.bar
+        self.panels[place].arrange(left, tops, bars, self.columns)
+        return self.panels[place].draw(place + 1, self.noun, at + HIGH / 2)
 
     @property
-    def deepest(self):
-        return max(self.depth.values())
-
-    def slot(self):
-        """How wide a slot has to be: a node of two or more slots has room for two about its middle."""
-        least = 0
-        for node in self.nodes:
-            own = max(width(self.names.nonterminal(node.left), NAME) + 12, width(edge_label(node), NOTE) + 4)
-            least = max(least, own / min(self.slots[id(node)], 2))
-        for token in self.tokens:
-            own = max(width(self.names.terminal(token.terminal), NAME) + 12, width(f"{token.line}:{token.col}", NOTE))
-            least = max(least, own)
-        return max(least + GAP, LEAST)
-
-    def arrange(self, left, top, slot):
-        """Sets each node's middle."""
-        self.slot_wide, self.x, self.y = slot, {}, {}
-        for n, node in enumerate(self.ends):
-            self.x[id(node)] = left + (n + 0.5) * slot
-        for node in reversed(self.nodes):
-            if node.below:
-                places = [self.x[id(below)] for below in node.below]
-                self.x[id(node)] = (places[0] + places[-1]) / 2
-        for node in self.nodes:
-            self.y[id(node)] = top + HIGH / 2 + LEVEL * self.depth[id(node)]
-
-    def draw(self, number, looks, bottom):
-        """The elements; `looks` says of each node, by its place, how it is drawn; tokens stand at `bottom`."""
-        edges = [self.edge(node, looks[place], bottom) for place, node in enumerate(self.nodes)]
-        nodes = [self.node(node, number, looks[place]) for place, node in enumerate(self.nodes)]
-        tokens = [self.token(node, bottom) for node in self.ends if node.kind == "A"]
-        closed = [self.closed(node) for node in self.ends if node.kind == "C"]
-        return tag("g", *edges, *tokens, *closed, *nodes, class_="tree", data_tree=number)
-
-    def node(self, node, number, look):
-        x, y = self.x[id(node)], self.y[id(node)]
-        name = self.names.nonterminal(node.left)
-        wide = width(name, NAME) + 12
-        ring = [box(x, y, wide + 8, HIGH + 8, f"line {look.colour}-line wide")] if look.parts else []
-        weight = " wide" if look.differs else ""
-        said = f"{name} over {word_of(node)}" + (f": {self.names.rule(node.rule)}" if node.rule else "")
-        return tag(
-            "g",
-            tag("title", escape(said)),
-            *ring,
-            box(x, y, wide, HIGH, f"paper {look.colour}-line{weight}"),
-            text(x, y, name, NAME, look.colour if look.differs else "ink" if look.colour == "ink" else "shared"),
-            class_="node parts" if look.parts else "node",
-            data_tree=number,
-            data_left=node.left,
-            data_kind=node.kind,
-            data_start=node.start,
-            data_length=node.length,
-            data_look="differs" if look.differs else "shared",
-        )
-
-    def edge(self, node, look, bottom):
-        """The lines to all below a node, with the rule's kind and mark on them."""
-        x, y = self.x[id(node)], self.y[id(node)] + HIGH / 2
-        bar = self.y[id(node)] + LEVEL / 2
-        weight = f"{look.colour}-line{' wide' if look.differs else ''}"
-        if node.kind == "C":
-            return ""
-        if node.kind == "E":
-            lines = [line([(x, y), (x, bar + 10)], weight), text(x, bar + 18, "ε", NAME, look.colour if look.differs else "soft")]
-        elif node.kind == "A":
-            lines = [line([(x, y), (x, bottom - HIGH / 2)], f"{weight} dots")]
-        elif node.kind == "U":
-            lines = [line([(x, y), (x, self.y[id(node.below[0])] - HIGH / 2)], weight)]
-        else:
-            ends = [(self.x[id(below)], self.y[id(below)] - HIGH / 2) for below in node.below]
-            lines = [line([(x, y), (x, bar)], weight)]
-            lines += [line([(x, bar), (end, bar), (end, low)], weight) for end, low in ends]
-        said = edge_label(node)
-        label = [box(x, bar, width(said, NOTE) + 4, NOTE + 3, "paper"), text(x, bar, said, NOTE, look.colour if look.differs else "soft")]
-        return tag("g", *lines, *label, class_="edge", data_rule="" if node.rule is None else node.rule.line)
-
-    def token(self, node, bottom):
-        x, token = self.x[id(node)], self.tokens[node.start]
-        label = self.names.terminal(token.terminal)
-        return tag(
-            "g",
-            box(x, bottom, width(label, NAME) + 12, HIGH, "token ink-line", stroke_width=0.8),
-            text(x, bottom, label),
-            text(x, bottom + 20, str(node.start), NOTE, "soft"),
-            text(x, bottom + 34, f"{token.line}:{token.col}", NOTE, "soft"),
-            class_="leaf",
-            data_token=node.start,
-        )
-
-    def closed(self, node):
-        return text(self.x[id(node)], self.y[id(node)] + HIGH, "closed", NOTE, "soft")
+    def high(self):
+        return RING + sum(high + self.bar for high in self.levels.values()) + HIGH + (38 if self.is_numbered else 24)

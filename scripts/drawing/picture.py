@@ -1,58 +1,24 @@
-"""The whole picture: a caption, the patch, and beneath it the tree or both trees."""
+"""The whole picture: what is said, the patch, and beneath it the tree or reading, or both."""
 
 from html import escape
-from typing import NamedTuple
 
-from .panel import HIGH, LEVEL, Panel
+from reading.boxes import Folds
+from reading.sentences import plain
+
+from .panel import RING, Scale
 from .patch import Patch
 from .svg import COLOURS, NAME, NOTE, box, css, tag, text, width, wrapped
-from .trees import only_in, parting, word_of
 
 MARGIN, BETWEEN, LEAST = 24, 48, 640
 
-COUNTS = {"none": "no tree", "one": "one tree", "two": "two trees"}
+# two trees stand beside one another up to so wide a picture, else one below the other
+MOST_BESIDE = 1600
 
 
-class Look(NamedTuple):
-    """How a node is drawn."""
-
-    colour: str
-    differs: bool
-    parts: bool
-
-
-def looks(panel, only, colour, parts):
-    """How each node of a tree is drawn, by its place in the walk."""
-    made = []
-    for place, node in enumerate(panel.nodes):
-        is_parting = node is parts
-        differs = place in only or is_parting
-        made.append(Look(colour if differs else "shared" if colour != "ink" else "ink", differs, is_parting))
-    return made
-
-
-def taken(node, found, names):
-    """What a tree takes where the trees part: the rule in full and the left word's length."""
-    told = names.rule(node.rule) if node.rule else f"kind {node.kind}"
-    length = found.left_length(node)
-    return told if length is None else f"{told}, with {length} token{'s' if length != 1 else ''} on the left"
-
-
-def caption(word, trees, tokens, names):
-    """What the picture shows, in sentences."""
-    count = f"{len(tokens) or 'no'} token{'s' if len(tokens) != 1 else ''}"
-    yield f"{COUNTS[word]} of nonterminal {names.nonterminal(0)} over {count}"
-    found = parting(*trees) if len(trees) == 2 else None
-    if found:
-        yield f"They part at nonterminal {names.nonterminal(found.first.left)} over {word_of(found.first)}."
-        for number, node in enumerate(found, start=1):
-            yield f"Tree {number} takes {taken(node, found, names)}."
-
-
-def legend(left, y):
+def legend(left, y, noun):
     """What the colours say."""
     x = left
-    for colour, said in (("shared", "in both trees"), ("one", "in tree 1 only"), ("two", "in tree 2 only")):
+    for colour, said in (("shared", f"in both {noun}s"), ("one", f"in {noun} 1 only"), ("two", f"in {noun} 2 only")):
         yield box(x + 9, y, 18, 14, f"paper {colour}-line{'' if colour == 'shared' else ' wide'}")
         yield text(x + 24, y, said, NOTE, "soft", "start")
         x += 40 + width(said, NOTE)
@@ -61,72 +27,82 @@ def legend(left, y):
     yield text(x + 28, y, "where they part", NOTE, "soft", "start")
 
 
+def tops_of(answer, fold=False, opened=()):
+    """The boxes of an answer as pictures show them."""
+    boxes = answer.boxes()
+    tops = boxes.all(chained=True)
+    return Folds(boxes, opened).folded(tops) if fold and len(tops) == 2 else tops
+
+
+def svg(wide, high, parts, said="", title="", style=""):
+    return tag(
+        "svg",
+        tag("title", escape(title or said)),
+        *([tag("desc", escape(said))] if title else []),
+        *([tag("style", style)] if style else []),
+        *parts,
+        xmlns="http://www.w3.org/2000/svg",
+        width=float(round(wide)),
+        height=float(round(high)),
+        viewBox=f"0 0 {round(wide)} {round(high)}",
+        role="img",
+    )
+
+
+def separate(tops, tokens, noun):
+    """Each tree as a picture of its own, without a style: for a page that has it."""
+    scale = Scale(tops, tokens, noun) if tops else None
+    for place in range(len(tops)):
+        said = f"{noun} {place + 1}" if len(tops) == 2 else noun
+        yield svg(scale.wide + 2 * RING, scale.high, [scale.draw(place, RING, 0)], said)
+
+
 class Picture:
     """All parts put on one sheet."""
 
-    def __init__(self, word, trees, tokens, names):
-        self.word, self.trees, self.tokens, self.names = word, trees, tokens, names
-        self.patch = Patch(tokens, names)
-        self.panels = [Panel(tree, tokens, names) for tree in trees]
-        self.slot = max([panel.slot() for panel in self.panels], default=0)
-        wides = [self.slot * len(panel.ends) for panel in self.panels]
-        self.wide = max(LEAST, self.patch.wide, sum(wides) + BETWEEN * (len(wides) - 1)) + 2 * MARGIN
+    def __init__(self, answer, fold=False):
+        self.answer, self.sentences = answer, [plain(each) for each in answer.sentences()]
+        self.tops = tops_of(answer, fold)
+        self.scale = Scale(self.tops, answer.tokens, answer.noun) if self.tops else None
+        self.patch = Patch(answer.tokens, answer.names)
+        own = self.scale.wide if self.scale else 0
+        both = len(self.tops) * (own + BETWEEN) - BETWEEN
+        self.beside = both <= MOST_BESIDE
+        self.wide = max(LEAST, self.patch.wide, both if self.beside else own) + 2 * MARGIN
         self.parts = list(self.draw())
 
     def draw(self):
         """The elements, from the top down; sets how high the picture is."""
         y = MARGIN
-        for place, sentence in enumerate(caption(self.word, self.trees, self.tokens, self.names)):
+        for place, sentence in enumerate(self.sentences):
             size, look = (NAME + 3, "ink bold") if place == 0 else (NAME - 1, "ink")
-            for part in wrapped(sentence, size, max(LEAST, self.wide - 2 * MARGIN)):
+            for part in wrapped(sentence, size, self.wide - 2 * MARGIN):
                 yield text(MARGIN, y, part, size, look, "start")
                 y += size + 7
-        if len(self.trees) == 2:
-            yield from legend(MARGIN, y + 8)
+        if len(self.tops) == 2:
+            yield from legend(MARGIN, y + 8, self.answer.noun)
             y += 30
-        y += 12
-        yield self.patch.draw(MARGIN, y)
-        y += self.patch.high + 24
-        if self.panels:
-            yield from self.both(y)
-            y += 26 + LEVEL * (max(panel.deepest for panel in self.panels) + 1) + HIGH + 44
+        yield self.patch.draw(MARGIN, y + 12)
+        y += 36 + self.patch.high
+        left = MARGIN
+        for place in range(len(self.tops)):
+            yield from self.tree(place, left, y)
+            if self.beside:
+                left += self.scale.wide + BETWEEN
+            else:
+                y += 46 + self.scale.high
+        y += 22 + self.scale.high if self.scale and self.beside else 0
         self.high = y + MARGIN
 
-    def both(self, top):
-        """The trees side by side, on one scale and to one depth."""
-        bottom = top + 26 + LEVEL * (max(panel.deepest for panel in self.panels) + 1) + HIGH / 2
-        found = parting(*self.trees) if len(self.trees) == 2 else None
-        left = MARGIN
-        for number, panel in enumerate(self.panels, start=1):
-            panel.arrange(left, top + 26, self.slot)
-            other = self.trees[2 - number] if len(self.trees) == 2 else None
-            colour = ("one", "two")[number - 1] if other else "ink"
-            yield text(left, top + 6, f"tree {number}" if other else "tree", NAME, f"{colour} bold", "start")
-            node = found[number - 1] if found else None
-            drawn = looks(panel, only_in(self.trees[number - 1], other), colour, self.own(panel, node))
-            yield panel.draw(number, drawn, bottom)
-            left += self.slot * len(panel.ends) + BETWEEN
-
-    @staticmethod
-    def own(panel, node):
-        """The node itself, not one like it."""
-        return next((each for each in panel.nodes if each is node), None)
+    def tree(self, place, left, top):
+        noun = self.answer.noun
+        said = f"{noun} {place + 1}" if len(self.tops) == 2 else noun
+        yield text(left, top + 6, said, NAME, f"{self.scale.panels[place].colour} bold", "start")
+        yield self.scale.draw(place, left, top + 22)
 
     def svg(self):
-        said = " ".join(caption(self.word, self.trees, self.tokens, self.names))
-        return tag(
-            "svg",
-            tag("title", escape(COUNTS[self.word])),
-            tag("desc", escape(said)),
-            tag("style", css()),
-            tag("rect", width="100%", height="100%", class_="paper"),
-            *self.parts,
-            xmlns="http://www.w3.org/2000/svg",
-            width=float(round(self.wide)),
-            height=float(round(self.high)),
-            viewBox=f"0 0 {round(self.wide)} {round(self.high)}",
-            role="img",
-        )
+        parts = [tag("rect", width="100%", height="100%", class_="paper"), *self.parts]
+        return svg(self.wide, self.high, parts, " ".join(self.sentences), self.sentences[0], css())
 
     def html(self, title):
         """A page that holds the picture and scrolls where it is larger than the window."""

@@ -1,7 +1,8 @@
 """Elements of SVG as text, and how wide a text is."""
 
-import unicodedata
 from xml.sax.saxutils import escape, quoteattr
+
+from reading.cells import cells
 
 FONT = "ui-monospace, 'DejaVu Sans Mono', Menlo, Consolas, 'Liberation Mono', monospace"
 
@@ -41,8 +42,7 @@ def rules(name, colour):
 
 def width(text, size):
     """How wide a text is at most."""
-    letters = sum(2 if unicodedata.east_asian_width(letter) in "WF" else 1 for letter in text)
-    return letters * LETTER * size
+    return cells(text) * LETTER * size
 
 
 def number(value):
