@@ -21,6 +21,10 @@ class Unanswered(Exception):
     """Something could not be read, written, built or run; the words say what."""
 
 
+class TimeUp(Unanswered):
+    """A program took longer than it may."""
+
+
 class Refusal(NamedTuple):
     """A refusal: the program, its input, the number and the line."""
 
@@ -138,7 +142,8 @@ class Programs:
                 # the input is taken once
                 data, passed = None, time.monotonic() - began
                 if self.seconds and passed > self.seconds:
-                    raise Unanswered(f"the program took more than {self.seconds} seconds and was stopped") from None
+                    said = f"the program took more than {self.seconds} seconds and was stopped"
+                    raise TimeUp(said) from None
                 if self.is_over and self.is_over():
                     raise Unanswered("nobody waits for the answer") from None
                 if self.progress:

@@ -7,7 +7,7 @@ tell. To add one, write it and put it into WAYS.
 import re
 from typing import Callable, NamedTuple, Optional
 
-from asking import TOP, Refused, Unanswered
+from asking import TOP, Refused, TimeUp, Unanswered
 from reading.answers import CLAUSES
 from reading.sheets import is_clauses, tokens_of
 from reading.spelling import count_of
@@ -92,6 +92,10 @@ def sweep(sheet):
             word, rest = sheet.word(swept(sheet, bound))
         except Refused as refused:
             if refused.refusal.number != TOO_LARGE or known is None:
+                raise
+            return known
+        except TimeUp:
+            if known is None:
                 raise
             return known
         if word == "two":

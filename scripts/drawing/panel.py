@@ -255,14 +255,18 @@ class Columns:
         return self.at[first], self.at[last + 1] - GAP
 
 
+def colours_of(tops):
+    return COLOURS if len(tops) == 2 else ("ink",)
+
+
 class Scale:
     """All trees on one scale: the same levels and columns, and their tokens at one height."""
 
-    def __init__(self, tops, tokens, noun):
+    def __init__(self, tops, tokens, noun, colours=None):
         self.noun = noun
         # tokens are told by their number where the sentences name them so
         self.is_numbered = noun == "tree"
-        colours = COLOURS if len(tops) == 2 else ("ink",)
+        colours = colours or colours_of(tops)
         self.panels = [Panel(top, tokens, colour, self.is_numbered) for top, colour in zip(tops, colours)]
         self.columns = Columns(self.panels, len(tokens))
         self.wide = self.columns.at[-1] - GAP
@@ -280,6 +284,10 @@ class Scale:
             at += self.levels[depth] + self.bar
         self.panels[place].arrange(left, tops, bars, self.columns)
         return self.panels[place].draw(place + 1, self.noun, at + HIGH / 2)
+
+    def alone(self, place):
+        """One tree as a picture of its own: its parts, how wide and how high it is."""
+        return self.draw(place, RING, 0), self.wide + 2 * RING, self.high
 
     @property
     def high(self):

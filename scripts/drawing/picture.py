@@ -5,7 +5,7 @@ from html import escape
 from reading.boxes import Folds
 from reading.sentences import plain
 
-from .panel import RING, Scale
+from .panel import Scale, colours_of
 from .patch import Patch
 from .svg import COLOURS, NAME, NOTE, box, css, tag, text, width, wrapped
 
@@ -49,12 +49,14 @@ def svg(wide, high, parts, said="", title="", style=""):
     )
 
 
-def separate(tops, tokens, noun):
+def separate(tops, tokens, noun, on_one_scale=True):
     """Each tree as a picture of its own, without a style: for a page that has it."""
-    scale = Scale(tops, tokens, noun) if tops else None
-    for place in range(len(tops)):
+    scale = Scale(tops, tokens, noun) if tops and on_one_scale else None
+    for place, (top, colour) in enumerate(zip(tops, colours_of(tops))):
         said = f"{noun} {place + 1}" if len(tops) == 2 else noun
-        yield svg(scale.wide + 2 * RING, scale.high, [scale.draw(place, RING, 0)], said)
+        made = scale.alone(place) if scale else Scale([top], tokens, noun, [colour]).alone(0)
+        drawn, wide, high = made
+        yield svg(wide, high, [drawn], said)
 
 
 class Picture:

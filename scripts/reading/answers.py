@@ -11,7 +11,8 @@ from .spelling import Names
 
 
 class Answer(NamedTuple):
-    """The verdict, the trees or readings, and where two of them part; `noun` says which they are."""
+    """The verdict, the trees or readings, and where two of them part; `noun` says which they are, `rules` is the rule
+    sheet that they follow."""
 
     verdict: str
     line: str
@@ -20,6 +21,7 @@ class Answer(NamedTuple):
     parting: Optional[Parting]
     names: Names
     noun: str
+    rules: bytes
 
     def sentences(self):
         return list(reading_sentences(self) if self.noun == "reading" else tree_sentences(self))
@@ -98,4 +100,4 @@ def answer_of(output, question, rules, names):
     made = [maker.made(listed) for listed in rows]
     found = parting(*made) if len(made) == 2 else None
     noun = "reading" if in_words else "tree"
-    return Answer(answer.split(" ")[0], answer, tokens, made, found, Names(names, sheet), noun)
+    return Answer(answer.split(" ")[0], answer, tokens, made, found, Names(names, sheet), noun, rules)

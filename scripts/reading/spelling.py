@@ -23,10 +23,10 @@ class Names:
     """Names for nonterminals and terminals; where there are none, numbers, as the sheet has them: of a clause sheet
     (`sheet`) with `n` or `t` before them."""
 
-    def __init__(self, text="", sheet=None):
-        self.sheet = sheet
+    def __init__(self, text="", sheet=None, in_clauses=False):
+        self.sheet, self.in_clauses = sheet, in_clauses or sheet is not None
         self.nonterminals, self.terminals = {}, {}
-        for number, line in enumerate(text.splitlines(), start=1):
+        for number, line in enumerate(text.split("\n"), start=1):
             if line.strip() and not line.startswith("#"):
                 self.take(number, line)
 
@@ -38,10 +38,10 @@ class Names:
         named[int(found[2])] = found[3]
 
     def nonterminal(self, number):
-        return self.nonterminals.get(number) or (f"n{number}" if self.sheet else str(number))
+        return self.nonterminals.get(number) or (f"n{number}" if self.in_clauses else str(number))
 
     def terminal(self, number):
-        return self.terminals.get(number) or (f"t{number}" if self.sheet else str(number))
+        return self.terminals.get(number) or (f"t{number}" if self.in_clauses else str(number))
 
     # ---- rules
 
