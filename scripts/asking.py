@@ -46,7 +46,9 @@ class Refusal(NamedTuple):
         return words.looked_for(self.number).meaning
 
     def fault(self):
-        """The sheet, the bytes of its line, where the field at fault is there, and another line that it is about."""
+        """The sheet, the bytes of its line, where the field at fault is there, and another line
+        that it is about.
+        """
         try:
             sheet, lines, span, other = words.found(self.program, self.number, self.line, self.data)
             return sheet, lines[self.line - 1].data, span, other
@@ -71,8 +73,8 @@ def refusal_of(program, data, output):
 class Programs:
     """The programs in target/bin, proved and built first where that is due.
 
-    `seconds` limits each run, `turns` how many run at once; `is_over` says, while one runs, whether nobody waits for it
-    any more; `progress` is told, while one runs, for how many seconds it has.
+    `seconds` limits each run, `turns` how many run at once; `is_over` says, while one runs, whether
+    nobody waits for it any more; `progress` is told, while one runs, for how many seconds it has.
     """
 
     def __init__(self, name, seconds=None, turns=None, is_over=None, progress=None):
@@ -85,12 +87,16 @@ class Programs:
         for program in programs:
             if program not in self.built:
                 script = TOP / "scripts" / "build.sh"
-                if subprocess.run([script, self.name, program], stdin=subprocess.DEVNULL, check=False).returncode:
+                if subprocess.run(
+                    [script, self.name, program], stdin=subprocess.DEVNULL, check=False
+                ).returncode:
                     raise Unanswered(f"the program {program} could not be built")
                 self.built.add(program)
 
     def answer(self, program, *sheets, call=None):
-        """A program's output for these sheets, where it does not refuse; `call` has the call sheet's two lines."""
+        """A program's output for these sheets, where it does not refuse; `call` has the call
+        sheet's two lines.
+        """
         data = b"\n".join([*([call] if call else []), *sheets])
         self.build(program)
         output = self.run([TOP / "target" / "bin" / program], data)
@@ -115,7 +121,11 @@ class Programs:
     def run_now(self, command, data):
         try:
             made = subprocess.Popen(
-                command, stdin=subprocess.PIPE, stdout=subprocess.PIPE, stderr=subprocess.PIPE, start_new_session=True
+                command,
+                stdin=subprocess.PIPE,
+                stdout=subprocess.PIPE,
+                stderr=subprocess.PIPE,
+                start_new_session=True,
             )
         except OSError as error:
             raise Unanswered(f"the program could not be run: {error.strerror}") from error
@@ -127,7 +137,9 @@ class Programs:
                 raise
         said = errors.decode("utf-8", "replace").strip()
         if made.returncode < 0:
-            raise Unanswered(f"the program was ended by signal {-made.returncode} (does the stack have 2 MB?)")
+            raise Unanswered(
+                f"the program was ended by signal {-made.returncode} (does the stack have 2 MB?)"
+            )
         if made.returncode > 1 or not output:
             raise Unanswered(f"the program gave no answer{': ' if said else ''}{said}")
         return output

@@ -17,12 +17,13 @@ from reading.sheets import is_clauses
 from reading.spelling import Names
 
 COMMAND = "bin/teplonga"
-ABOUT = """A rule sheet or a clause sheet, told by its first line: is there a patch that can be read in two
-ways? Asks `always` where that call stands, then the sweep at the largest bound that is not refused, then the
-finder where it stands, and says in a sentence what is known, what told it and what of it is proved. For two
-readings the patch follows, on its lines and columns, and both readings."""
-EXITS = """Exit status: 0 clear at every length, 4 two readings, 5 not told beyond some length, 1 a refusal,
-2 bad usage, 3 no answer."""
+ABOUT = """A rule sheet or a clause sheet, told by its first line: is there a patch that can be read
+in two ways? Asks `always` where that call stands, then the sweep at the largest bound that is not
+refused, then the finder where it stands, and says in a sentence what is known, what told it and
+what of it is proved. For two readings the patch follows, on its lines and columns, and both
+readings."""
+EXITS = """Exit status: 0 clear at every length, 4 two readings, 5 not told beyond some length, 1 a
+refusal, 2 bad usage, 3 no answer."""
 STATUS = {"clear": 0, "two": 4, "so far": 5}
 
 # what takes longer is told of on a terminal, in seconds
@@ -30,7 +31,9 @@ LONG = 1
 
 
 class Progress:
-    """A line on standard error that tells what is being done, where that is a terminal and it takes long."""
+    """A line on standard error that tells what is being done, where that is a terminal and it takes
+    long.
+    """
 
     def __init__(self, out=sys.stderr):
         self.out, self.doing, self.is_shown = out, "", False
@@ -58,21 +61,35 @@ def options(args):
     add = parser.add_argument
     add("file", nargs="?", metavar="FILE", default="-", help="without it, or for -, standard input")
     add("--names", metavar="NAMES", help=commands.NAMES_HELP)
-    add("--draw", metavar="OUT", help="draw both readings into this file (SVG, or a page where it ends in .html)")
+    add(
+        "--draw",
+        metavar="OUT",
+        help="draw both readings into this file (SVG, or a page where it ends in .html)",
+    )
     add("--seconds", metavar="S", type=float, default=10, help="how long the finder may look (10)")
-    add("-v", action="store_true", help="accepted as by the other calls; what a refusal means is always said")
+    add(
+        "-v",
+        action="store_true",
+        help="accepted as by the other calls; what a refusal means is always said",
+    )
     return parser.parse_args(args)
 
 
 def patch_of(programs, data, tokens, names):
-    """A found patch as text, and its answer: read once more as it is written, so it is proved of the text itself."""
-    sheet = Sheet(data.decode("ascii")).agree(expansion(programs, data)) if is_clauses(data) else None
+    """A found patch as text, and its answer: read once more as it is written, so it is proved of
+    the text itself.
+    """
+    sheet = (
+        Sheet(data.decode("ascii")).agree(expansion(programs, data)) if is_clauses(data) else None
+    )
     by_names = Names(names, sheet)
     text = text_of(tokens, by_names)
     question = Question(is_clauses(data), data, sheet_of(words_in(text, by_names)))
     answer = read(programs, question, names)
     if answer.verdict != "two":
-        raise Unanswered(f"the patch was found to have two readings, and as text has {answer.verdict}")
+        raise Unanswered(
+            f"the patch was found to have two readings, and as text has {answer.verdict}"
+        )
     return text, answer
 
 

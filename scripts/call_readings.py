@@ -1,5 +1,7 @@
 #!/usr/bin/env python3
-"""The call `readings` of bin/teplonga: readings of a patch in the words of the clauses, as outlines."""
+"""The call `readings` of bin/teplonga: readings of a patch in the words of the clauses, as
+outlines.
+"""
 
 import argparse
 import sys
@@ -12,17 +14,24 @@ from reading.outline import outline
 from reading.sentences import plain
 
 COMMAND = "bin/teplonga"
-ABOUT = """A clause sheet, an empty line and a token sheet: none, one or two, and each reading as an outline, a
-node a line, with line and column of its first token: the nonterminal and the alternative that it takes, the
-items in order, a repeat as a list. `>` stands where two readings part, `|` at what differs."""
-EXITS = """Exit status: 0 an answer, 1 a refusal, 2 bad usage, 3 no answer: something could not be read, written,
-built or run, or the script's expansion is not the proved one."""
+ABOUT = """A clause sheet, an empty line and a token sheet: none, one or two, and each reading as an
+outline, a node a line, with line and column of its first token: the nonterminal and the alternative
+that it takes, the items in order, a repeat as a list. `>` stands where two readings part, `|` at
+what differs."""
+EXITS = """Exit status: 0 an answer, 1 a refusal, 2 bad usage, 3 no answer: something could not be
+read, written, built or run, or the script's expansion is not the proved one."""
 
 
 def options(args):
     parser = argparse.ArgumentParser(prog=f"{COMMAND} readings", description=ABOUT, epilog=EXITS)
     add = parser.add_argument
-    add("files", nargs="*", metavar="FILE", default=["-"], help="without one, or for -, standard input")
+    add(
+        "files",
+        nargs="*",
+        metavar="FILE",
+        default=["-"],
+        help="without one, or for -, standard input",
+    )
     add("--names", metavar="NAMES", help=commands.NAMES_HELP)
     add("--fold", action="store_true", help="fold up what both readings share")
     add("--user", metavar="NUMBER", type=int, choices=range(100_000), help=commands.USER_HELP)

@@ -15,7 +15,9 @@ def read(name):
     try:
         return sys.stdin.buffer.read() if name == "-" else Path(name).read_bytes()
     except OSError as error:
-        raise Unanswered(f"{'standard input' if name == '-' else name}: {error.strerror}") from error
+        raise Unanswered(
+            f"{'standard input' if name == '-' else name}: {error.strerror}"
+        ) from error
 
 
 def read_names(name):
@@ -45,8 +47,9 @@ def said(command, *lines):
 
 
 def ended(command, act, refused, names=None):
-    """The exit status of what a command does: 1 for a refusal, which is told, 2 for names that are none, 3 where
-    there is no answer."""
+    """The exit status of what a command does: 1 for a refusal, which is told, 2 for names that are
+    none, 3 where there is no answer.
+    """
     try:
         return act()
     except Refused as error:

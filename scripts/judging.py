@@ -1,7 +1,7 @@
 """Is there a patch that a sheet reads in two ways? The ways to tell, one after the other.
 
-A way is a function of a question. It gives what it knows (`Known`), or nothing where it does not stand here, or cannot
-tell. To add one, write it and put it into WAYS.
+A way is a function of a question. It gives what it knows (`Known`), or nothing where it does not
+stand here, or cannot tell. To add one, write it and put it into WAYS.
 """
 
 import re
@@ -18,8 +18,10 @@ NO_TOKENS = b"term line col\n"
 
 
 class Known(NamedTuple):
-    """What is known of a sheet. `verdict` is `clear` (at every length), `two` (a patch with two readings, `tokens`) or
-    `so far` (clear up to so many tokens, `bound`); `by` says what told it, and `proved` what is proved of that."""
+    """What is known of a sheet. `verdict` is `clear` (at every length), `two` (a patch with two
+    readings, `tokens`) or `so far` (clear up to so many tokens, `bound`); `by` says what told it,
+    and `proved` what is proved of that.
+    """
 
     verdict: str
     by: str
@@ -38,8 +40,9 @@ class Known(NamedTuple):
 
 
 class Inquiry(NamedTuple):
-    """A question: the sheet, the programs, the largest bound of a sweep, and how long the finder may look. `say` is told
-    what is being done."""
+    """A question: the sheet, the programs, the largest bound of a sweep, and how long the finder
+    may look. `say` is told what is being done.
+    """
 
     data: bytes
     programs: object
@@ -120,7 +123,9 @@ def find(sheet):
         return None
     sheet.say("looking for a longer patch")
     try:
-        output = sheet.programs.run([command, "find", "--seconds", str(sheet.seconds), "-"], sheet.data)
+        output = sheet.programs.run(
+            [command, "find", "--seconds", str(sheet.seconds), "-"], sheet.data
+        )
     except Unanswered:
         return None
     word, rest = sheet.word(output)

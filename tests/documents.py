@@ -22,10 +22,18 @@ def pairs(text):
     """Each output that is shown, with the input before it."""
     before = None
     for block in blocks(text):
-        if block.startswith("answer line\n"):
+        if block.startswith(("answer line\n", "two readings: ")):
             yield before, block
-        elif block.startswith(("left kind", "bound\n", "call\n")) and "\n\n" in block:
-            before = block
+        elif block.startswith(("left kind", "left clause\n", "bound\n", "call\n")):
+            before = block if "\n\n" in block or block.startswith("left clause\n") else before
+
+
+def command(shown):
+    """What answers an input: a program, or a call of bin/teplonga for a clause sheet."""
+    first, call = shown.split("\n")[0], [TOP / "bin" / "teplonga"]
+    if first == "left clause":
+        return [*call, "readings"] if "\n\n" in shown else [*call, "judge"]
+    return [TOP / "target" / "bin" / {"bound": "sweeper", "call": "calls"}.get(first, "checker")]
 
 
 class Documents(unittest.TestCase):
@@ -33,11 +41,10 @@ class Documents(unittest.TestCase):
         count = 0
         for name in ("README.md", "docs/FORMAT.md"):
             for shown, answer in pairs((TOP / name).read_text()):
-                program = {"bound": "sweeper", "call": "calls"}.get(shown.split("\n")[0], "checker")
-                ended = subprocess.run([TOP / "target" / "bin" / program], input=shown, capture_output=True, text=True, check=False)
+                ended = subprocess.run(command(shown), input=shown, capture_output=True, text=True, check=False)
                 self.assertEqual(ended.stdout, answer, name)
                 count += 1
-        self.assertGreaterEqual(count, 4)
+        self.assertGreaterEqual(count, 6)
 
     def test_every_file_that_is_named_is_there(self):
         for name in ("README.md", *(f"docs/{path.name}" for path in (TOP / "docs").glob("*.md"))):

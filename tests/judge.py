@@ -36,13 +36,17 @@ PROGRAMS = Programs("tests/judge.py")
 
 def judge(*words, data=b"", top=TOP, **more):
     command = [str(word) for word in (top / "bin" / "teplonga", "judge", *words)]
-    ended = subprocess.run(command, input=data, capture_output=True, check=False, timeout=120, **more)
+    ended = subprocess.run(
+        command, input=data, capture_output=True, check=False, timeout=120, **more
+    )
     return ended.returncode, ended.stdout.decode(), ended.stderr.decode()
 
 
 def has_always():
     try:
-        return PROGRAMS.answer("calls", SINGLE, call=b"call\nalways\n").startswith(b"answer line\nclear")
+        return PROGRAMS.answer("calls", SINGLE, call=b"call\nalways\n").startswith(
+            b"answer line\nclear"
+        )
     except Refused:
         return False
 
@@ -54,12 +58,17 @@ class Told(unittest.TestCase):
 
     def test_two(self):
         status, out, errors = judge("--names", EXAMPLES / "block.names", data=BLOCK)
-        front = "two readings: told by the sweep; proved of it: both trees, and that no shorter patch has two"
+        proved = "proved of it: both trees, and that no shorter patch has two"
+        front = f"two readings: told by the sweep; {proved}"
         patch = ["", "    1", "1 | do", "2 | nop", "3 | nop", ""]
         self.assertEqual((status, errors), (4, ""))
         self.assertEqual(out.splitlines()[:7], [front, *patch])
         readings = (EXAMPLES / "block.readings").read_bytes()
-        read = subprocess.run([CALL, "readings", "--names", EXAMPLES / "block.names"], input=readings, capture_output=True)
+        read = subprocess.run(
+            [CALL, "readings", "--names", EXAMPLES / "block.names"],
+            input=readings,
+            capture_output=True,
+        )
         self.assertEqual(out.splitlines()[7:], read.stdout.decode().splitlines()[2:])
 
     def test_two_under_rules(self):
@@ -80,7 +89,10 @@ class Told(unittest.TestCase):
     def test_clear_so_far(self):
         status, out, _ = judge(data=REPAIRED)
         front = "clear up to 6 tokens, not told beyond: told by the sweep; "
-        self.assertEqual((status, out), (5, f"{front}proved of every patch of up to 6 tokens, wherever they stand\n"))
+        self.assertEqual(
+            (status, out),
+            (5, f"{front}proved of every patch of up to 6 tokens, wherever they stand\n"),
+        )
         status, out, _ = judge("--draw", self.room / "out", data=REPAIRED)
         self.assertEqual((status, list(self.room.iterdir())), (5, []))
 
@@ -88,7 +100,10 @@ class Told(unittest.TestCase):
         for path in sorted(EXAMPLES.glob("*.clauses")):
             status, out, _ = judge(path)
             self.assertEqual(status == 4, path.name == "block.clauses", path)
-            self.assertRegex(out, "^(two readings|clear at every length|clear up to [5-7] tokens, not told beyond): ")
+            self.assertRegex(
+                out,
+                "^(two readings|clear at every length|clear up to [5-7] tokens, not told beyond): ",
+            )
 
     def test_a_refusal_has_its_words(self):
         for data, said in (
@@ -114,7 +129,9 @@ class Told(unittest.TestCase):
         names = EXAMPLES / "block.names"
         self.assertEqual(judge("--names", names, "--draw", self.room / "a.svg", data=BLOCK)[0], 4)
         tokens = sheet_of(words_in("do\nnop\nnop", Names(names.read_text())))
-        drawn = subprocess.run([DRAW, "--clauses", "--names", names], input=BLOCK + b"\n" + tokens, capture_output=True)
+        drawn = subprocess.run(
+            [DRAW, "--clauses", "--names", names], input=BLOCK + b"\n" + tokens, capture_output=True
+        )
         self.assertEqual((self.room / "a.svg").read_bytes(), drawn.stdout)
         judge("--draw", self.room / "a.html", data=BLOCK)
         self.assertTrue((self.room / "a.html").read_text().startswith("<!doctype html>"))
@@ -122,7 +139,13 @@ class Told(unittest.TestCase):
     def test_progress_on_a_terminal(self):
         screen, terminal = pty.openpty()
         slow = Slow(self.room, 3)
-        ended = subprocess.run([slow.command, "judge"], input=BLOCK, stdout=subprocess.PIPE, stderr=terminal, check=False)
+        ended = subprocess.run(
+            [slow.command, "judge"],
+            input=BLOCK,
+            stdout=subprocess.PIPE,
+            stderr=terminal,
+            check=False,
+        )
         os.close(terminal)
         said = os.read(screen, 10_000).decode()
         os.close(screen)
@@ -184,7 +207,11 @@ class Ways(unittest.TestCase):
         script = self.room.command.read_text()
         script = script.replace("  readings  ", "  find                  a patch\n  readings  ", 1)
         found = f"printf 'answer line\\n{answer}'; exit 0"
-        script = script.replace("case $call in\n", f"case $call in\nfind) echo \"$@\" > '{self.room.room}/words'; {found} ;;\n", 1)
+        script = script.replace(
+            "case $call in\n",
+            f"case $call in\nfind) echo \"$@\" > '{self.room.room}/words'; {found} ;;\n",
+            1,
+        )
         self.room.put("bin/teplonga", script)
 
     def judge(self, data):
@@ -196,7 +223,8 @@ class Ways(unittest.TestCase):
     def test_clear_at_every_length(self):
         self.with_always("clear 0")
         for data in (REPAIRED, SINGLE):
-            said = "clear at every length: told by `always`; proved of every patch, whatever its length\n"
+            proved = "proved of every patch, whatever its length"
+            said = f"clear at every length: told by `always`; {proved}\n"
             self.assertEqual(self.judge(data), (0, said, ""))
 
     def test_always_cannot_tell(self):
@@ -213,7 +241,11 @@ class Ways(unittest.TestCase):
         self.with_find(f"two 0\\nterm line col\\n{tokens}")
         status, out, _ = self.judge(sheet)
         self.assertEqual(status, 4)
-        self.assertTrue(out.startswith("two readings: told by the finder; proved of it: both trees; that no shorter"))
+        self.assertTrue(
+            out.startswith(
+                "two readings: told by the finder; proved of it: both trees; that no shorter"
+            )
+        )
         self.assertIn("\n1 | t0 t1 t2 t3 t4 t5\n", out)
         self.assertEqual((self.room.room / "words").read_text(), "--seconds 10 -\n")
 
@@ -255,15 +287,30 @@ class Patches(unittest.TestCase):
         return [(word.line, word.col, word.text, word.terminal) for word in words_in(text, NAMES)]
 
     def test_words(self):
-        listed = [(1, 1, "do", 1), (1, 4, "nop", 0), (3, 3, "end if", 2), (3, 10, "12", 12), (3, 13, "t1", 1), (3, 16, "7", 5)]
+        listed = [
+            (1, 1, "do", 1),
+            (1, 4, "nop", 0),
+            (3, 3, "end if", 2),
+            (3, 10, "12", 12),
+            (3, 13, "t1", 1),
+            (3, 16, "7", 5),
+        ]
         self.assertEqual(self.words("do nop\n\n  end if 12 t1 7"), listed)
-        listed = [(1, 1, "x", None), (1, 3, "do!", None), (1, 7, "64", None), (1, 10, "\t", None), (1, 12, "end", None)]
+        listed = [
+            (1, 1, "x", None),
+            (1, 3, "do!", None),
+            (1, 7, "64", None),
+            (1, 10, "\t", None),
+            (1, 12, "end", None),
+        ]
         self.assertEqual(self.words("x do! 64 \t end iffy"), [*listed, (1, 16, "iffy", None)])
 
     def test_columns_are_those_of_the_grid(self):
         """A wide letter takes two columns, one that stands on another none."""
         listed = words_in("語 do e\u0301 nop", NAMES)
-        self.assertEqual([(word.col, word.width) for word in listed], [(1, 2), (4, 2), (7, 1), (9, 3)])
+        self.assertEqual(
+            [(word.col, word.width) for word in listed], [(1, 2), (4, 2), (7, 1), (9, 3)]
+        )
 
     def test_written_and_read(self):
         """Tokens written as text keep their terminals and how their lines and columns compare."""

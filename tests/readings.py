@@ -1,5 +1,6 @@
 #!/usr/bin/env python3
-"""Readings: outlines and pictures read back by the clauses alone, and compared with the rows of the program.
+"""Readings: outlines and pictures read back by the clauses alone, and compared with the rows of the
+program.
 
     tests/readings.py        needs the built programs
 """
@@ -43,8 +44,11 @@ def run(*words, data=b"", **more):
 
 # ---- what is shown, and which rows are shown so
 
+
 class Shown(NamedTuple):
-    """A node as it is shown: a nonterminal's name or nothing, a text or nothing, and what is below it."""
+    """A node as it is shown: a nonterminal's name or nothing, a text or nothing, and what is below
+    it.
+    """
 
     name: str
     text: str
@@ -119,14 +123,21 @@ def in_picture(group, below):
 
 
 class Reader:
-    """Finds all trees that are shown as something is, by the reference's own reading of the clause sheet."""
+    """Finds all trees that are shown as something is, by the reference's own reading of the clause
+    sheet.
+    """
 
     def __init__(self, sheet, tokens):
         lines = sheet.decode("ascii").splitlines()[1:]
         self.texts = [line.split(" ", 1)[1] for line in lines]
-        self.lines = [(int(line.split(" ")[0]), reference.alternatives(text.encode())) for line, text in zip(lines, self.texts)]
+        self.lines = [
+            (int(line.split(" ")[0]), reference.alternatives(text.encode()))
+            for line, text in zip(lines, self.texts)
+        ]
         self.made = reference.Expansion(self.lines)
-        self.terminals = [int(line.split(" ")[0]) for line in tokens.decode("ascii").splitlines()[1:]]
+        self.terminals = [
+            int(line.split(" ")[0]) for line in tokens.decode("ascii").splitlines()[1:]
+        ]
 
     def text(self, line, piece, end=None):
         """A piece's text, numbers without leading zeros."""
@@ -149,13 +160,20 @@ class Reader:
         if node.name != f"n{left}":
             return []
         found = []
-        listed = [(line, each) for line, (number, all_of) in enumerate(self.lines) if number == left for each in all_of]
+        listed = [
+            (line, each)
+            for line, (number, all_of) in enumerate(self.lines)
+            if number == left
+            for each in all_of
+        ]
         for line, taken in self.told(listed, node.text):
             found += self.over(left, "U", start, self.taken(line, taken, node, start))
         return found
 
     def told(self, listed, text):
-        """The alternatives that a text tells: the one so written, or the one of several that it says."""
+        """The alternatives that a text tells: the one so written, or the one of several that it
+        says.
+        """
         number = re.fullmatch(r"(.*) \(([0-9]+) of ([0-9]+) alike\)", text)
         wanted = number[1] if number else text
         alike = [(line, each) for line, each in listed if self.text(line, each) == wanted]
@@ -164,14 +182,18 @@ class Reader:
         return alike if len(alike) == 1 else []
 
     def taken(self, line, taken, node, start):
-        """The trees of an alternative. The one group without a choice that it is, or the one repeat, is left out."""
+        """The trees of an alternative. The one group without a choice that it is, or the one
+        repeat, is left out.
+        """
         number = self.made.numbers[self.made.alternative(line, taken)]
         (item, *more) = taken.items
         if more:
             return self.sequence(line, taken, 0, node.below, start, number)
         if item.kind == "group" and not item.suffix[:1] in ("?", "+", "*") and len(item.value) == 1:
             inner = self.taken(line, item.value[0], node, start)
-            found = self.marked(line, item, start, self.over(self.made.atom_number(line, item), "U", start, inner))
+            found = self.marked(
+                line, item, start, self.over(self.made.atom_number(line, item), "U", start, inner)
+            )
         elif item.suffix[:1] in ("?", "+", "*"):
             found = self.repeated(line, item, node.below, start)
         elif item.kind == "t" and not node.below:
@@ -188,7 +210,10 @@ class Reader:
         first = self.item(line, taken.items[place], below[0], start)
         if len(below) == 1:
             return first
-        behind = place + 1 < len(taken.items) - 1 and self.made.numbers[self.made.rest(line, taken, place + 1)]
+        behind = (
+            place + 1 < len(taken.items) - 1
+            and self.made.numbers[self.made.rest(line, taken, place + 1)]
+        )
         found = []
         for rows, at in first:
             for more, end in self.sequence(line, taken, place + 1, below[1:], at, behind):
@@ -197,7 +222,11 @@ class Reader:
 
     def item(self, line, item, node, start):
         if item.suffix[:1] in ("+", "*"):
-            return self.repeated(line, item, node.below, start) if self.is_piece(node, self.text(line, item)) else []
+            return (
+                self.repeated(line, item, node.below, start)
+                if self.is_piece(node, self.text(line, item))
+                else []
+            )
         if item.suffix == "?":
             if not node.below and node.is_empty and self.is_piece(node, self.text(line, item)):
                 return self.repeated(line, item, [], start)
@@ -210,12 +239,16 @@ class Reader:
 
     def marked(self, line, item, start, found):
         is_marked = item.suffix.startswith(":")
-        return self.over(self.made.item_number(line, item), "U", start, found) if is_marked else found
+        return (
+            self.over(self.made.item_number(line, item), "U", start, found) if is_marked else found
+        )
 
     def repeated(self, line, item, below, start):
         number = self.made.item_number(line, item)
         if not below:
-            return [([self.row(number, "E", start, start)], start)] if item.suffix[0] in "?*" else []
+            return (
+                [([self.row(number, "E", start, start)], start)] if item.suffix[0] in "?*" else []
+            )
         if len(below) == 1 and item.suffix[0] in "?+":
             return self.over(number, "U", start, self.atom(line, item, below[0], start))
         if item.suffix == "?":
@@ -233,7 +266,9 @@ class Reader:
         if item.kind == "t":
             is_token = not node.name and not node.below and not node.is_empty
             return self.token(line, item, node.text, start) if is_token else []
-        return self.over(self.made.atom_number(line, item), "U", start, self.group(line, item, node, start))
+        return self.over(
+            self.made.atom_number(line, item), "U", start, self.group(line, item, node, start)
+        )
 
     def token(self, line, item, text, start):
         if text != f"t{item.value}" or self.terminals[start : start + 1] != [item.value]:
@@ -241,11 +276,17 @@ class Reader:
         return [([(self.made.atom_number(line, item), "A", start, 1)], start + 1)]
 
     def group(self, line, item, node, start):
-        """A group is left out where it is plain which alternative of one item is taken; else it has its text."""
+        """A group is left out where it is plain which alternative of one item is taken; else it has
+        its text.
+        """
         mark = item.suffix if item.suffix.startswith(":") else ""
         listed = [(line, each) for each in item.value]
         if not mark:
-            plain = [(each, self.item(line, each.items[0], node, start)) for each in item.value if len(each.items) == 1]
+            plain = [
+                (each, self.item(line, each.items[0], node, start))
+                for each in item.value
+                if len(each.items) == 1
+            ]
             plain = [(each, found) for each, found in plain if found]
             if len(plain) == 1:
                 number = self.made.numbers[self.made.alternative(line, plain[0][0])]
@@ -254,12 +295,21 @@ class Reader:
             return []
         if len(listed) == 1:
             end = item.end if mark else item.atom_end
-            return self.taken(line, listed[0][1], node, start) if node.text == self.text(line, item, end) else []
+            return (
+                self.taken(line, listed[0][1], node, start)
+                if node.text == self.text(line, item, end)
+                else []
+            )
         text = node.text.removesuffix(f"  {mark}") if mark else node.text
-        return [each for _, taken in self.told(listed, text) for each in self.taken(line, taken, node, start)]
+        return [
+            each
+            for _, taken in self.told(listed, text)
+            for each in self.taken(line, taken, node, start)
+        ]
 
 
 # ---- what is asked
+
 
 def drawn_sheets(count, seed):
     """Sheets drawn by chance that are often ambiguous, with tokens."""
@@ -267,7 +317,11 @@ def drawn_sheets(count, seed):
 
     def item(depth):
         is_symbol = depth > 2 or draw.random() < 0.6
-        made = draw.choice(["n0", "n1", "t0", "t0", "t1", "t01"]) if is_symbol else f"({alternatives(depth + 1)})"
+        made = (
+            draw.choice(["n0", "n1", "t0", "t0", "t1", "t01"])
+            if is_symbol
+            else f"({alternatives(depth + 1)})"
+        )
         suffixes = ["?", "+", "*", "+:align", "*:align"]
         suffixes += [":offside", ":offalign", ":single"] if made[0] == "(" else []
         return made + (draw.choice(suffixes) if draw.random() < 0.4 else "")
@@ -284,8 +338,12 @@ def drawn_sheets(count, seed):
         places, line, col = [], 1, 1
         for _ in range(draw.randint(0, 5)):
             places.append(f"{draw.choice([0, 1])} {line} {col}\n")
-            line, col = (line + 1, draw.choice([1, 1, 2])) if draw.random() < 0.4 else (line, col + 2)
-        yield ("left clause\n" + "".join(lines)).encode(), ("term line col\n" + "".join(places)).encode()
+            line, col = (
+                (line + 1, draw.choice([1, 1, 2])) if draw.random() < 0.4 else (line, col + 2)
+            )
+        yield ("left clause\n" + "".join(lines)).encode(), (
+            "term line col\n" + "".join(places)
+        ).encode()
 
 
 def cases():
@@ -318,14 +376,18 @@ class Whole(unittest.TestCase):
         return [each for each in self.answers if each[2]]
 
     def test_there_are_enough_of_each(self):
-        counts = [len([1 for *_, rows in self.answers if len(rows) == count]) for count in (0, 1, 2)]
+        counts = [
+            len([1 for *_, rows in self.answers if len(rows) == count]) for count in (0, 1, 2)
+        ]
         self.assertGreater(min(counts), 100, counts)
 
     def test_the_expansion_is_the_proved_one_and_the_references(self):
         for question, _, _ in self.answers:
             sheet = Sheet(question.sheet.decode("ascii"))
             accepted, rules = reference.read_clauses(question.sheet)
-            self.assertEqual((accepted, sheet.expansion()), ("accepted", reference.rule_sheet(rules)))
+            self.assertEqual(
+                (accepted, sheet.expansion()), ("accepted", reference.rule_sheet(rules))
+            )
 
     def test_outlines_show_just_the_rows(self):
         for question, answer, rows in self.readings():
@@ -350,7 +412,9 @@ class Whole(unittest.TestCase):
             terminals = Reader(question.sheet, question.tokens).terminals
             for lines in self.outlines(answer):
                 top, places, *_ = outlined(lines)
-                self.assertEqual(self.token_places(top, places), [token.place for token in answer.tokens], lines)
+                self.assertEqual(
+                    self.token_places(top, places), [token.place for token in answer.tokens], lines
+                )
                 self.assertEqual(len(terminals), len(answer.tokens))
 
     def token_places(self, top, places):
@@ -402,7 +466,9 @@ class Whole(unittest.TestCase):
             self.assertEqual(parts, [1, 1] if len(rows) == 2 else [0] * len(rows))
 
     def visible(self, tree):
-        """What is written in a box is what its title says: all of it, or its front, or that below says it."""
+        """What is written in a box is what its title says: all of it, or its front, or that below
+        says it.
+        """
         for group in groups(tree, "box"):
             texts, classes = shown(group), group.get("class").split()
             said = group.find(SVG + "title").text
@@ -414,7 +480,10 @@ class Whole(unittest.TestCase):
                 self.assertEqual(", ".join(texts), said)
             elif texts:
                 note, said = " ".join(texts), said.replace("  ", " ")
-                self.assertTrue(note == said or (note.endswith(" …") and said.startswith(note[:-2])), (note, said))
+                self.assertTrue(
+                    note == said or (note.endswith(" …") and said.startswith(note[:-2])),
+                    (note, said),
+                )
             else:
                 self.assertRegex(said, r"^[nt][0-9]+$")
 
@@ -425,7 +494,9 @@ class Whole(unittest.TestCase):
         for place in reversed(range(len(boxes))):
             below[place] = [done.pop() for _ in range(int(boxes[place].get("data-below")))]
             done.append(place)
-        above = [place for place in range(len(boxes)) if "leaf" not in boxes[place].get("class").split()]
+        above = [
+            place for place in range(len(boxes)) if "leaf" not in boxes[place].get("class").split()
+        ]
         for place, edge in zip(above, groups(tree, "edge"), strict=True):
             lines = list(points(edge))
             if not below[place]:
@@ -452,7 +523,9 @@ class Whole(unittest.TestCase):
                 for other_low, _, other_left, other_right, other in places[nth + 1 :]:
                     if other_low >= high:
                         break
-                    self.assertFalse(left < other_right and other_left < right, (question, said, other))
+                    self.assertFalse(
+                        left < other_right and other_left < right, (question, said, other)
+                    )
 
 
 class Commands(unittest.TestCase):
@@ -463,8 +536,11 @@ class Commands(unittest.TestCase):
         self.addCleanup(shutil.rmtree, self.room)
 
     def test_the_block(self):
-        ended = run(CALL, "readings", "--names", EXAMPLES / "block.names", EXAMPLES / "block.readings")
-        said = "They part at stmt+:align in block, 1:1 to 3:1: the first takes [do nop nop], the second [do nop] [nop]."
+        ended = run(
+            CALL, "readings", "--names", EXAMPLES / "block.names", EXAMPLES / "block.readings"
+        )
+        where = "They part at stmt+:align in block, 1:1 to 3:1"
+        said = f"{where}: the first takes [do nop nop], the second [do nop] [nop]."
         wanted = f"""answer line
 two 0
 {said}
@@ -487,18 +563,31 @@ reading 2
 
     def test_one_and_none(self):
         one, none = BLOCK.rsplit(b"0 3 1\n")[0], BLOCK.replace(b"0 3 1", b"0 3 2")
-        self.assertEqual(run(CALL, "readings", data=one).stdout.decode().splitlines()[1:3], ["one 0", "reading"])
+        self.assertEqual(
+            run(CALL, "readings", data=one).stdout.decode().splitlines()[1:3], ["one 0", "reading"]
+        )
         self.assertEqual(run(CALL, "readings", data=none).stdout, b"answer line\nnone 0\n")
 
     def test_refusals_are_the_programs(self):
-        for data in (b"", b"left clause\n0 t0\n", b"x" * 16_385, BLOCK.replace(b"n1+", b"n1 +"), BLOCK + b"0 1 1\n"):
+        for data in (
+            b"",
+            b"left clause\n0 t0\n",
+            b"x" * 16_385,
+            BLOCK.replace(b"n1+", b"n1 +"),
+            BLOCK + b"0 1 1\n",
+        ):
             program = run(CALL, "-v", "clauses", data=data)
             for words in (["-v", "readings"], ["readings", "-v"]):
                 ended = run(CALL, *words, data=data)
-                self.assertEqual((ended.returncode, ended.stdout, ended.stderr), (1, program.stdout, program.stderr))
+                self.assertEqual(
+                    (ended.returncode, ended.stdout, ended.stderr),
+                    (1, program.stdout, program.stderr),
+                )
             self.assertEqual(run(CALL, "readings", data=data).stderr, b"")
             ended = run(DRAW, "--clauses", data=data)
-            self.assertEqual((ended.returncode, ended.stdout, ended.stderr), (1, b"", program.stderr))
+            self.assertEqual(
+                (ended.returncode, ended.stdout, ended.stderr), (1, b"", program.stderr)
+            )
 
     def test_usage_and_files(self):
         self.assertEqual(run(CALL, "readings", "--nope").returncode, 2)
@@ -509,7 +598,9 @@ reading 2
         self.assertEqual((ended.returncode, ended.stdout), (2, b""))
         path = EXAMPLES / "block.readings"
         ended = run(CALL, "readings", path, self.room / "none", path)
-        self.assertEqual((ended.returncode, ended.stdout), (3, run(CALL, "readings", path).stdout * 2))
+        self.assertEqual(
+            (ended.returncode, ended.stdout), (3, run(CALL, "readings", path).stdout * 2)
+        )
         self.assertEqual(ended.stderr.decode().count("==> "), 3)
 
     def test_expanded_trees_are_those_of_the_rules(self):
@@ -518,33 +609,52 @@ reading 2
         self.assertEqual(run(DRAW, "--clauses", "--expanded", data=BLOCK).stdout, by_rules)
 
     def test_the_picture_of_the_example(self):
-        drawn_now = run(DRAW, "--clauses", "--names", EXAMPLES / "block.names", EXAMPLES / "block.readings").stdout
+        drawn_now = run(
+            DRAW, "--clauses", "--names", EXAMPLES / "block.names", EXAMPLES / "block.readings"
+        ).stdout
         self.assertEqual((TOP / "docs" / "pictures" / "readings.svg").read_bytes(), drawn_now)
 
     def test_closed_nodes_stay_closed(self):
-        """For each set of nonterminals that a user may see: nothing of what is below a closed row is shown."""
+        """For each set of nonterminals that a user may see: nothing of what is below a closed row
+        is shown.
+        """
         for last in range(9):
             rights = f"\nuser low high may\n4 0 {last} see\n".encode()
             ended = run(CALL, "readings", "--user", 4, data=BLOCK + rights)
             self.assertEqual(ended.returncode, 0, ended.stderr)
             shown_rows = self.shown_rows(last)
             for number, rows in enumerate(shown_rows, start=1):
-                lines = ended.stdout.decode().split(f"reading {number}\n")[1].split("reading 2\n")[0].splitlines()
+                lines = (
+                    ended.stdout.decode()
+                    .split(f"reading {number}\n")[1]
+                    .split("reading 2\n")[0]
+                    .splitlines()
+                )
                 closed = [row for row in rows if row[1] == "C"]
-                self.assertEqual(len([line for line in lines if line.endswith("  closed")]), len(closed), lines)
+                self.assertEqual(
+                    len([line for line in lines if line.endswith("  closed")]), len(closed), lines
+                )
                 tokens = [row for row in rows if row[1] == "A"]
-                told = [node for node in leaves(outlined(lines)[0]) if not node.text.endswith("closed")]
+                told = [
+                    node for node in leaves(outlined(lines)[0]) if not node.text.endswith("closed")
+                ]
                 self.assertEqual(len(told), len(tokens), lines)
-            picture = ElementTree.fromstring(run(DRAW, "--clauses", "--user", 4, data=BLOCK + rights).stdout)
+            picture = ElementTree.fromstring(
+                run(DRAW, "--clauses", "--user", 4, data=BLOCK + rights).stdout
+            )
             drawn_closed = [len(groups(tree, "closed")) for tree in groups(picture, "reading")]
-            self.assertEqual(drawn_closed, [len([1 for row in rows if row[1] == "C"]) for rows in shown_rows])
+            self.assertEqual(
+                drawn_closed, [len([1 for row in rows if row[1] == "C"]) for rows in shown_rows]
+            )
 
     @staticmethod
     def shown_rows(last):
         sheet, tokens = parted(BLOCK)
         rules = PROGRAMS.answer("calls", sheet, call=b"call\nexpand\n").split(b"\n", 2)[2]
         rights = f"user low high may\n4 0 {last} see\n".encode()
-        return rows_of(PROGRAMS.answer("calls", rules, tokens, rights, call=b"call user\nshow 4\n"))[1]
+        return rows_of(
+            PROGRAMS.answer("calls", rules, tokens, rights, call=b"call user\nshow 4\n")
+        )[1]
 
     def test_rules_for_a_user(self):
         data = (EXAMPLES / "two-trees.check").read_bytes() + b"\nuser low high may\n"
@@ -569,7 +679,9 @@ class Failures(unittest.TestCase):
         (self.room / "expand").write_bytes(b"answer line\ngiven 0\n" + expansion)
         (self.room / "clauses").write_bytes(rows)
         made = self.room / "target" / "bin" / "calls"
-        made.write_text(f"#!/bin/sh\nread names\nread call\ncat >/dev/null\ncat '{self.room}'/$call\n")
+        made.write_text(
+            f"#!/bin/sh\nread names\nread call\ncat >/dev/null\ncat '{self.room}'/$call\n"
+        )
         made.chmod(0o755)
 
     def ended(self):
@@ -582,22 +694,41 @@ class Failures(unittest.TestCase):
         rows = PROGRAMS.answer("calls", *parted(BLOCK), call=b"call\nclauses\n")
         self.program(sheet.expansion(), rows)
         self.assertEqual([status for status, *_ in self.ended()], [0, 0])
-        for damaged in (sheet.expansion().replace(b"A 1", b"A 2"), sheet.expansion() + b"9 E - - none\n", b""):
+        for damaged in (
+            sheet.expansion().replace(b"A 1", b"A 2"),
+            sheet.expansion() + b"9 E - - none\n",
+            b"",
+        ):
             self.program(damaged, rows)
             for status, out, errors in self.ended():
                 self.assertEqual((status, out), (3, b""))
-                self.assertIn("the script's expansion is not the one that the call `expand` gave", errors)
+                self.assertIn(
+                    "the script's expansion is not the one that the call `expand` gave", errors
+                )
 
     def test_rows_that_follow_no_rule(self):
         sheet = Sheet(parted(BLOCK)[0].decode())
-        for row in ("1 0 U 0 3\n1 7 B 0 3\n", "1 0 U 0 3\n1 2 E 0 0\n", "1 63 A 0 1\n", "1 2 U 0 3\n"):
-            self.program(sheet.expansion(), f"answer line\none 0\ntree left kind start length\n{row}".encode())
+        for row in (
+            "1 0 U 0 3\n1 7 B 0 3\n",
+            "1 0 U 0 3\n1 2 E 0 0\n",
+            "1 63 A 0 1\n",
+            "1 2 U 0 3\n",
+        ):
+            self.program(
+                sheet.expansion(),
+                f"answer line\none 0\ntree left kind start length\n{row}".encode(),
+            )
             for status, out, _ in self.ended():
                 self.assertEqual((status, out), (3, b""), row)
 
     def test_roles(self):
         sheet = Sheet("left clause\n0 t0 t1\n")
-        for rows in ([(0, "U", 0, 1), (2, "A", 0, 1)], [(1, "B", 0, 2)], [(9, "A", 0, 1)], [(2, "A", 0, 1)]):
+        for rows in (
+            [(0, "U", 0, 1), (2, "A", 0, 1)],
+            [(1, "B", 0, 2)],
+            [(9, "A", 0, 1)],
+            [(2, "A", 0, 1)],
+        ):
             with self.assertRaises((Disagreement, ValueError)):
                 Readings(sheet).made(rows)
 

@@ -1,9 +1,11 @@
 #!/usr/bin/env python3
-"""The whiteboard: what the page asks, the server's manners, and the page itself in a browser without a window.
+"""The whiteboard: what the page asks, the server's manners, and the page itself in a browser
+without a window.
 
     tests/whiteboard.py        needs the built programs; the last part needs Chromium and its driver
 
-WHITEBOARD_SHOT=docs/pictures/whiteboard.png tests/whiteboard.py Page.test_the_papers_block makes README's picture.
+WHITEBOARD_SHOT=docs/pictures/whiteboard.png tests/whiteboard.py Page.test_the_papers_block makes
+README's picture.
 """
 
 import json
@@ -68,11 +70,15 @@ class Shown(unittest.TestCase):
 
     def test_refusals_stand_at_their_place(self):
         self.assertEqual(self.notes(sheet="left clause\n0 t0 |"), [("sheet", 2, 5, 6)])
-        self.assertEqual(self.notes(sheet="left clause\n0 (t0 | t1):inside"), [("sheet", 2, 11, 12)])
+        self.assertEqual(
+            self.notes(sheet="left clause\n0 (t0 | t1):inside"), [("sheet", 2, 11, 12)]
+        )
         self.assertEqual(self.notes(sheet="left clause\n\n0 t0"), [("sheet", 2, 0, 0)])
         self.assertEqual(self.notes(sheet=""), [("sheet", 1, 0, 0)])
         self.assertEqual(self.notes(sheet="left clause\n0 t0 é"), [("sheet", 2, 5, 6)])
-        self.assertEqual(self.notes(sheet="left kind first second lay\n0 U 0 - align"), [("sheet", 2, 8, 13)])
+        self.assertEqual(
+            self.notes(sheet="left kind first second lay\n0 U 0 - align"), [("sheet", 2, 8, 13)]
+        )
         self.assertEqual(self.notes(sheet="left clause\n1 t0"), [("sheet", 0, 0, 0)])
         self.assertEqual(self.notes(names="n 0 block\nq"), [("names", 2, 0, 1)])
         self.assertEqual(self.notes(patch=" ".join(["0"] * 65)), [("patch", 1, 128, 129)])
@@ -93,9 +99,16 @@ class Shown(unittest.TestCase):
     def test_odd_characters(self):
         """Whatever is typed, what is shown can be."""
         odd = "\x00\x01\x0b\ud800\uffff\u2028<&'"
-        fields = {"names": f"n 0 a{odd}\nn 1 b\nt 0 nop\nt 1 do{odd}\n", "patch": f"do{odd}\nnop\nnop"}
+        fields = {
+            "names": f"n 0 a{odd}\nn 1 b\nt 0 nop\nt 1 do{odd}\n",
+            "patch": f"do{odd}\nnop\nnop",
+        }
         self.assertEqual(at(**fields).shown(True)["verdict"], "two")
-        for made in (at(**fields).shown(True), at(patch=odd).shown(True), at(sheet=odd).shown(True)):
+        for made in (
+            at(**fields).shown(True),
+            at(patch=odd).shown(True),
+            at(sheet=odd).shown(True),
+        ):
             json.dumps(made).encode("ascii")
             for reading in made["readings"]:
                 ElementTree.fromstring(reading["svg"])
@@ -110,8 +123,12 @@ class Shown(unittest.TestCase):
         draw = random.Random(5)
         letters = "left clause\n0123 ntn0t1()|?+*::alignoffside -ABUE<>&é語\t"
         for _ in range(150):
-            fields = {name: "".join(draw.choices(letters, k=draw.randint(0, 60))) for name in desk.FIELDS}
-            fields["sheet"] = draw.choice(["left clause\n", "left kind first second lay\n", ""]) + fields["sheet"]
+            fields = {
+                name: "".join(draw.choices(letters, k=draw.randint(0, 60))) for name in desk.FIELDS
+            }
+            fields["sheet"] = (
+                draw.choice(["left clause\n", "left kind first second lay\n", ""]) + fields["sheet"]
+            )
             made = at(fields).shown(True)
             json.dumps(made).encode("ascii")
             self.assertTrue(sentence(made))
@@ -122,19 +139,28 @@ class Shown(unittest.TestCase):
         self.assertEqual(made["verdict"], "two")
         rows = [len(reading["rows"]) for reading in made["readings"]]
         self.assertLess(max(rows), 12)
-        keys = [[row["key"] for row in reading["rows"] if row["key"]] for reading in made["readings"]]
+        keys = [
+            [row["key"] for row in reading["rows"] if row["key"]] for reading in made["readings"]
+        ]
         self.assertTrue(keys[0] and keys[1])
         opened = at(patch=patch).shown(True, [keys[0][0]])
         self.assertGreater(len(opened["readings"][0]["rows"]), 60)
         self.assertEqual(opened["readings"][1]["rows"], made["readings"][1]["rows"])
         pictures = [ElementTree.fromstring(reading["svg"]) for reading in opened["readings"]]
-        self.assertEqual([len(each.findall(".//*[@data-key]")) for each in pictures], [0, len(keys[1])])
+        self.assertEqual(
+            [len(each.findall(".//*[@data-key]")) for each in pictures], [0, len(keys[1])]
+        )
         self.assertLess(int(pictures[1].get("width")), 300)
 
     def test_pieces_are_in_the_sheet(self):
         """Each row has the piece of the sheet that it stands for."""
         lines = BLOCK.split("\n")
-        wanted = {"block: stmt+:align": "n1+:align", "stmt: do block": "t1 n0", "do": "t1", "stmt: nop": "t0"}
+        wanted = {
+            "block: stmt+:align": "n1+:align",
+            "stmt: do block": "t1 n0",
+            "do": "t1",
+            "stmt: nop": "t0",
+        }
         for reading in at().shown(False)["readings"]:
             for row in reading["rows"]:
                 pieces = [lines[line - 1][begin:end] for line, begin, end in row["pieces"]]
@@ -151,10 +177,14 @@ class Why(unittest.TestCase):
 
     def test_a_mark_that_fails(self):
         said, told = self.why(REPAIRED, "do\nnop\nnop")
-        self.assertIn("It would be one but for offside in (do block):offside, 1:1 to 3:1: nop at 2:1 is", said)
+        self.assertIn(
+            "It would be one but for offside in (do block):offside, 1:1 to 3:1: nop at 2:1 is", said
+        )
         self.assertEqual(told, {"tokens": [1], "pieces": [(3, 7, 22)]})
         said, told = self.why(REPAIRED, "do\n  nop\n nop")
-        self.assertIn("but for align in stmt+:align, 2:3 to 3:2: nop at 3:2 does not stand in column 3.", said)
+        self.assertIn(
+            "but for align in stmt+:align, 2:3 to 3:2: nop at 3:2 does not stand in column 3.", said
+        )
         self.assertEqual(told, {"tokens": [2], "pieces": [(2, 2, 11)]})
 
     def test_each_mark(self):
@@ -172,17 +202,24 @@ class Why(unittest.TestCase):
             self.assertEqual((told["tokens"], len(told["pieces"])), ([1], 1))
 
     def test_a_beginning(self):
-        self.assertIn("do nop can begin a block, but t3 at 3:1 cannot follow", self.why(REPAIRED, "do\n  nop\n3")[0])
+        self.assertIn(
+            "do nop can begin a block, but t3 at 3:1 cannot follow",
+            self.why(REPAIRED, "do\n  nop\n3")[0],
+        )
         self.assertIn("behind do at 1:1 something is missing", self.why(REPAIRED, "do")[0])
         self.assertIn("No block begins with t3 at 1:1.", self.why(REPAIRED, "3")[0])
         self.assertIn("its clauses never end", self.why("left clause\n0 n0 t0\n", "0")[0])
 
     def test_beginnings_by_the_program(self):
-        """What is said of a beginning, beside all that goes on from it by up to three tokens, the marks left out."""
+        """What is said of a beginning, beside all that goes on from it by up to three tokens, the
+        marks left out.
+        """
         terminals, count = (0, 1), 0
         for sheet, _ in drawn_sheets(60, 3):
             try:
-                expanded = PROGRAMS.answer("calls", sheet, call=b"call\nexpand\n").split(b"\n", 2)[2]
+                expanded = PROGRAMS.answer("calls", sheet, call=b"call\nexpand\n").split(b"\n", 2)[
+                    2
+                ]
             except Refused:
                 continue
             rules = re.sub(rb" (align|indent|offside|offalign|single)\n", b" none\n", expanded)
@@ -194,7 +231,9 @@ class Why(unittest.TestCase):
                     self.assertEqual(told.length(word), len(word), (sheet, word))
                     count += 1
                 if told.length(word) < len(word):
-                    self.assertFalse([each for each in words if each[: len(word)] == word], (sheet, word))
+                    self.assertFalse(
+                        [each for each in words if each[: len(word)] == word], (sheet, word)
+                    )
         self.assertGreater(count, 100)
 
     def test_marks_by_the_program(self):
@@ -214,12 +253,15 @@ class Why(unittest.TestCase):
             mark = found.sentence[1]
             lines = sheet.decode().split("\n")
             text = lines[line - 1][begin:end]
-            # a mark that binds stands behind the first item of the piece; one of a group or repeat at its end
+            # a mark that binds stands behind the first item of the piece; one of a group or repeat
+            # at its end
             without = {text.removesuffix(f":{mark}"), unbound(text, mark)} - {text}
             tried = []
             for each in without:
                 lines[line - 1] = lines[line - 1][:begin] + each + lines[line - 1][end:]
-                tried.append(read(PROGRAMS, Question(True, "\n".join(lines).encode(), tokens)).verdict)
+                tried.append(
+                    read(PROGRAMS, Question(True, "\n".join(lines).encode(), tokens)).verdict
+                )
                 lines = sheet.decode().split("\n")
             self.assertTrue(any(verdict != "none" for verdict in tried), (sheet, tokens, found))
             count += 1
@@ -262,7 +304,10 @@ class Files(unittest.TestCase):
 
     def test_the_commands_read_what_is_saved(self):
         files, said = self.saved()
-        self.assertEqual(sorted(files), [f"board.{each}" for each in ("clauses", "names", "readings", "svg", "whiteboard")])
+        self.assertEqual(
+            sorted(files),
+            [f"board.{each}" for each in ("clauses", "names", "readings", "svg", "whiteboard")],
+        )
         self.assertEqual(said, "")
         for name, text in files.items():
             (self.room / name).write_text(text, encoding="utf-8")
@@ -279,7 +324,9 @@ class Files(unittest.TestCase):
         self.assertEqual(desk.opened([files["board.readings"], files["board.names"]]), (whole, ""))
         self.assertEqual(desk.opened([files["board.whiteboard"]]), (desk.EXAMPLE, ""))
         self.assertEqual(desk.opened([files["board.readings"]], NAMES)[0]["patch"], whole["patch"])
-        self.assertEqual(desk.opened([files["board.readings"]], "malformed")[0]["patch"], "t1\nt0\nt0")
+        self.assertEqual(
+            desk.opened([files["board.readings"]], "malformed")[0]["patch"], "t1\nt0\nt0"
+        )
         self.assertEqual(desk.opened([files["board.clauses"]]), ({"sheet": BLOCK}, ""))
 
     def test_rules(self):
@@ -287,8 +334,12 @@ class Files(unittest.TestCase):
         fields, _ = desk.opened([rules])
         self.assertEqual(fields["patch"], "0 0 0")
         files, _ = self.saved(**fields, names="")
-        self.assertEqual(sorted(files), ["board.check", "board.rules", "board.svg", "board.whiteboard"])
-        self.assertEqual(desk.opened([(EXAMPLES / "p2.sweep").read_text()])[0]["sheet"][:9], "left kind")
+        self.assertEqual(
+            sorted(files), ["board.check", "board.rules", "board.svg", "board.whiteboard"]
+        )
+        self.assertEqual(
+            desk.opened([(EXAMPLES / "p2.sweep").read_text()])[0]["sheet"][:9], "left kind"
+        )
 
     def test_unknown_words_are_in_the_state_alone(self):
         files, said = self.saved(patch="fud")
@@ -373,7 +424,9 @@ class Slow(unittest.TestCase):
         self.assertEqual((said, len(self.pids())), (["the program"] * 2, 2))
 
     def test_a_program_ends_with_its_request(self):
-        """The page goes away while a program runs: in a copy of the scripts whose programs do not end."""
+        """The page goes away while a program runs: in a copy of the scripts whose programs do not
+        end.
+        """
         for name in ("bin", "scripts", "docs"):
             shutil.copytree(TOP / name, self.room / name)
         (self.room / "crates").mkdir()
@@ -385,7 +438,8 @@ class Slow(unittest.TestCase):
         self.addCleanup(end, served)
         body = json.dumps(desk.EXAMPLE).encode()
         host = f"127.0.0.1:{port}"
-        head = f"POST /api/read HTTP/1.1\r\nHost: {host}\r\nOrigin: http://{host}\r\nContent-Type: application/json\r\n"
+        head = f"POST /api/read HTTP/1.1\r\nHost: {host}\r\nOrigin: http://{host}\r\n"
+        head += "Content-Type: application/json\r\n"
         link = socket.create_connection(("127.0.0.1", port))
         link.sendall(head.encode() + f"Content-Length: {len(body)}\r\n\r\n".encode() + body)
         for _ in range(500):
@@ -431,7 +485,9 @@ class Manners(unittest.TestCase):
         host = f"127.0.0.1:{self.port}"
         sent = {"Host": host, "Origin": f"http://{host}", "Content-Type": "application/json"}
         sent |= {key.replace("_", "-"): value for key, value in headers.items()}
-        link.request(method, path, body, {key: value for key, value in sent.items() if value is not None})
+        link.request(
+            method, path, body, {key: value for key, value in sent.items() if value is not None}
+        )
         answer = link.getresponse()
         data = answer.read()
         link.close()
@@ -454,14 +510,25 @@ class Manners(unittest.TestCase):
             (415, {"Content_Type": "text/plain"}),
             (415, {"Content_Type": None}),
         ):
-            self.assertEqual(self.status("POST", "/api/read", self.asked, **headers), status, headers)
+            self.assertEqual(
+                self.status("POST", "/api/read", self.asked, **headers), status, headers
+            )
         # a name that was rebound to this machine: its host is in both headers
         rebound = f"rebound.example:{self.port}"
-        self.assertEqual(self.status("POST", "/api/read", self.asked, Host=rebound, Origin=f"http://{rebound}"), 403)
+        self.assertEqual(
+            self.status("POST", "/api/read", self.asked, Host=rebound, Origin=f"http://{rebound}"),
+            403,
+        )
         self.assertEqual(self.status("GET", "/", Host="evil.example"), 403)
 
     def test_a_fixed_set_of_paths(self):
-        for path in ("/../bin/whiteboard", "/page.py", "/api/read", "/page.js?x", "http://127.0.0.1/"):
+        for path in (
+            "/../bin/whiteboard",
+            "/page.py",
+            "/api/read",
+            "/page.js?x",
+            "http://127.0.0.1/",
+        ):
             self.assertEqual(self.status("GET", path), 404, path)
         for path in ("/", "/api/", "/api/__init__", "/api/write", "/api/read/", "/page.js"):
             self.assertEqual(self.status("POST", path, self.asked), 404, path)
@@ -476,16 +543,29 @@ class Manners(unittest.TestCase):
     def test_the_page_asks_no_other_host(self):
         for path in FILES:
             text = self.answer("GET", path)[1].decode()
-            self.assertNotRegex(text, r"(?:src|href)=\"(?!/|data:)|@import|url\(|https?://(?!www\.w3\.org)")
+            self.assertNotRegex(
+                text, r"(?:src|href)=\"(?!/|data:)|@import|url\(|https?://(?!www\.w3\.org)"
+            )
 
     def test_bad_questions(self):
-        for status, body in ((400, "[" * 90_000), (400, "[]"), (400, "{"), (400, "\xff"), (413, "x" * 500_000)):
+        for status, body in (
+            (400, "[" * 90_000),
+            (400, "[]"),
+            (400, "{"),
+            (400, "\xff"),
+            (413, "x" * 500_000),
+        ):
             self.assertEqual(self.status("POST", "/api/read", body), status, body[:9])
         self.assertEqual(self.status("POST", "/api/read", None, Content_Length="-1"), 411)
         self.assertEqual(self.status("POST", "/api/read", None, Content_Length="9" * 30), 413)
         said = json.loads(self.answer("POST", "/api/read", json.dumps({"sheet": "é" * 8193}))[1])
         self.assertIn("16,384", said["notes"][0]["said"])
-        odd = [{"sheet": None, "names": 3, "patch": []}, {"fold": "x", "opened": {}}, {"opened": [[]] * 99}, {}]
+        odd = [
+            {"sheet": None, "names": 3, "patch": []},
+            {"fold": "x", "opened": {}},
+            {"opened": [[]] * 99},
+            {},
+        ]
         for asked in odd:
             for path in ("read", "look", "open", "save", "start"):
                 answer, data = self.answer("POST", f"/api/{path}", json.dumps(asked))
@@ -494,9 +574,13 @@ class Manners(unittest.TestCase):
 
     def test_looking(self):
         for bound in (0, 8, -1, "3", None, True, 2.5):
-            said = json.loads(self.answer("POST", "/api/look", json.dumps({**desk.EXAMPLE, "bound": bound}))[1])["said"]
+            said = json.loads(
+                self.answer("POST", "/api/look", json.dumps({**desk.EXAMPLE, "bound": bound}))[1]
+            )["said"]
             self.assertEqual(said, "Patches of 1 to 7 tokens can be swept.")
-        found = json.loads(self.answer("POST", "/api/look", json.dumps({**desk.EXAMPLE, "bound": 4}))[1])
+        found = json.loads(
+            self.answer("POST", "/api/look", json.dumps({**desk.EXAMPLE, "bound": 4}))[1]
+        )
         self.assertEqual(found["patch"], "do\nnop\nnop")
 
     def test_a_mistake_of_ours_is_a_sentence(self):
@@ -505,22 +589,36 @@ class Manners(unittest.TestCase):
             answer, data = self.answer("POST", "/api/start", "{}")
         finally:
             Server.first = before
-        self.assertEqual((answer.status, json.loads(data)["said"]), (500, "The whiteboard made a mistake: ZeroDivisionError."))
+        self.assertEqual(
+            (answer.status, json.loads(data)["said"]),
+            (500, "The whiteboard made a mistake: ZeroDivisionError."),
+        )
 
 
 class Command(unittest.TestCase):
     def run_it(self, *words):
-        ended = subprocess.run([BOARD, *map(str, words)], capture_output=True, check=False, timeout=60)
+        ended = subprocess.run(
+            [BOARD, *map(str, words)], capture_output=True, check=False, timeout=60
+        )
         return ended.returncode, ended.stdout, ended.stderr.decode()
 
     def test_usage(self):
-        for words in (["--nope"], ["a", "b"], ["--port", "x"], ["--port", "65536"], ["--port", "-1"]):
+        for words in (
+            ["--nope"],
+            ["a", "b"],
+            ["--port", "x"],
+            ["--port", "65536"],
+            ["--port", "-1"],
+        ):
             self.assertEqual(self.run_it(*words)[:2], (2, b""), words)
         self.assertIn(b"usage: bin/whiteboard", self.run_it("--help")[1])
 
     def test_what_cannot_be_served(self):
         status, out, errors = self.run_it("no such file")
-        self.assertEqual((status, out, errors), (3, b"", "bin/whiteboard: no such file: No such file or directory\n"))
+        self.assertEqual(
+            (status, out, errors),
+            (3, b"", "bin/whiteboard: no such file: No such file or directory\n"),
+        )
         with socket.socket() as taken:
             taken.bind(("127.0.0.1", 0))
             taken.listen()
@@ -538,7 +636,9 @@ class Command(unittest.TestCase):
         link.close()
         self.assertEqual(found["fields"]["sheet"], (EXAMPLES / "block.clauses").read_text())
         self.assertEqual(found["fields"]["names"], (EXAMPLES / "block.names").read_text())
-        self.assertEqual((found["fields"]["patch"], found["file"], found["said"]), ("", "block.clauses", ""))
+        self.assertEqual(
+            (found["fields"]["patch"], found["file"], found["said"]), ("", "block.clauses", "")
+        )
 
 
 SETTLED = "return !waiting && !running && !$('look').disabled"
@@ -571,7 +671,9 @@ class Page(unittest.TestCase):
         self.assertTrue(said.startswith(says), said)
 
     def all(self, css, what="textContent"):
-        return self.browser.run(f"return [...document.querySelectorAll(arguments[0])].map(e => e.{what})", css)
+        return self.browser.run(
+            f"return [...document.querySelectorAll(arguments[0])].map(e => e.{what})", css
+        )
 
     def test_the_papers_block(self):
         browser = self.browser
@@ -637,7 +739,10 @@ class Page(unittest.TestCase):
         # the picture is as small as that of three tokens
         wide = max(map(int, self.all("#readings svg", "getAttribute('width')")))
         self.assertLess(wide, 700)
-        self.browser.run("document.querySelector('#readings .fold').dispatchEvent(new MouseEvent('click', {bubbles: true}))")
+        self.browser.run(
+            "const click = new MouseEvent('click', {bubbles: true});"
+            "document.querySelector('#readings .fold').dispatchEvent(click)"
+        )
         self.browser.wait(SETTLED)
         self.browser.wait("return document.querySelectorAll('#readings .box').length > 60")
         self.browser.fill("#patch", "\n".join(["nop"] * 65))
@@ -671,14 +776,26 @@ class Page(unittest.TestCase):
     def test_the_outline(self):
         self.browser.click("label:has([value=outline])")
         rows = self.all("#readings .first .text")
-        self.assertEqual(rows, ["block: stmt+:align", "stmt: do block", "do", "block: stmt+:align", "stmt: nop", "stmt: nop"])
+        self.assertEqual(
+            rows,
+            [
+                "block: stmt+:align",
+                "stmt: do block",
+                "do",
+                "block: stmt+:align",
+                "stmt: nop",
+                "stmt: nop",
+            ],
+        )
         self.assertEqual(len(self.all(".rows .parts")), 2)
         self.browser.point(".first .rows li:nth-child(2)")
         self.assertEqual(self.all(".under .lit"), ["t1 n0", "do", "nop", "nop"])
 
     def test_markup_is_text(self):
         """What is typed is text, wherever it is shown."""
-        self.browser.fill("#names", 'n 0 <img src=x onerror=alert(1)>\nn 1 stmt\nt 0 nop\nt 1 <b>"&\n')
+        self.browser.fill(
+            "#names", 'n 0 <img src=x onerror=alert(1)>\nn 1 stmt\nt 0 nop\nt 1 <b>"&\n'
+        )
         self.browser.fill("#patch", '<b>"&\nnop\nnop')
         self.settled("Two readings.")
         for view in ("outline", "tree"):
@@ -725,7 +842,8 @@ class Page(unittest.TestCase):
         self.browser.look(dark=True)
         self.assertNotEqual(self.browser.run(paper), light)
         self.browser.look(media="print")
-        gone = "return [...document.querySelectorAll(arguments[0])].every(e => !e.getClientRects().length)"
+        every = "return [...document.querySelectorAll(arguments[0])].every"
+        gone = f"{every}(e => !e.getClientRects().length)"
         self.assertTrue(self.browser.run(gone, "header, .tools, #sheet, #names, textarea, .help"))
         self.assertFalse(self.browser.run(gone, "#readings svg"))
         self.assertFalse(self.browser.run(gone, "#answer"))

@@ -31,7 +31,9 @@ def note_lines(box):
 
 
 class Panel:
-    """One tree: where its boxes stand. A box stands over the columns of its words, so no lines cross."""
+    """One tree: where its boxes stand. A box stands over the columns of its words, so no lines
+    cross.
+    """
 
     def __init__(self, top, tokens, colour="ink", is_numbered=False):
         self.top, self.tokens, self.colour, self.is_numbered = top, tokens, colour, is_numbered
@@ -43,7 +45,9 @@ class Panel:
                 self.depth[id(below)] = self.depth[id(box)] + 1
 
     def leaves(self):
-        """The boxes with nothing below them, from left to right, each with the number of tokens before it."""
+        """The boxes with nothing below them, from left to right, each with the number of tokens
+        before it.
+        """
         before = 0
         for box in self.boxes:
             if not box.below:
@@ -54,7 +58,9 @@ class Panel:
         """How wide a box is, with what stands on its lines and beneath it at the bottom."""
         if box.kind == "token":
             return max(width(box.title, NAME) + 12, width(self.tokens[box.start].place, NOTE))
-        beneath = max(width(box.words, NOTE) + 12, width(box.label, NOTE) + 4, width(self.beneath(box), NOTE))
+        beneath = max(
+            width(box.words, NOTE) + 12, width(box.label, NOTE) + 4, width(self.beneath(box), NOTE)
+        )
         return max(self.size(box)[0], beneath)
 
     @staticmethod
@@ -100,17 +106,25 @@ class Panel:
 
     def draw(self, number, noun, bottom):
         edges = [self.edge(box, bottom) for box in self.boxes if box.kind != "token"]
-        nodes = [self.token(box, bottom) if box.kind == "token" else self.box(box) for box in self.boxes]
+        nodes = [
+            self.token(box, bottom) if box.kind == "token" else self.box(box) for box in self.boxes
+        ]
         return tag("g", *edges, *nodes, class_=noun, data_tree=number)
 
     def colour_of(self, box):
         return self.colour if box.differs or self.colour == "ink" else "shared"
 
     def data(self, box):
-        """What a reader of the picture is told of a box: its words, its place in the sheet, how many are below it."""
+        """What a reader of the picture is told of a box: its words, its place in the sheet, how
+        many are below it.
+        """
         spans = " ".join(f"{at}:{begin}-{end}" for at, begin, end in box.spans)
         told = {"data_start": box.start, "data_length": box.length, "data_below": len(box.below)}
-        return {**told, **({"data_pieces": spans} if spans else {}), **({"data_key": box.key} if box.key else {})}
+        return {
+            **told,
+            **({"data_pieces": spans} if spans else {}),
+            **({"data_key": box.key} if box.key else {}),
+        }
 
     def row(self, box):
         """Of a box of a nonterminal, which ones it stands for; of a rule's, its kind besides."""
@@ -127,14 +141,20 @@ class Panel:
         colour, weight = self.colour_of(box), " wide" if box.differs else ""
         dashed = box.kind in ("fold", "closed") or (box.is_empty and not box.label)
         dash = {"stroke_dasharray": "5 3"} if dashed else {}
-        ring = [rounded(x, y + high / 2, wide + RING, high + RING, f"line {colour}-line wide")] if box.parts else []
+        ring = (
+            [rounded(x, y + high / 2, wide + RING, high + RING, f"line {colour}-line wide")]
+            if box.parts
+            else []
+        )
         fill = "token" if box.kind == "piece" else "paper"
         frame = rounded(x, y + high / 2, wide, high, f"{fill} {colour}-line{weight}", **dash)
         said, at = [], y + HIGH / 2
         if box.title:
             said, at = [text(x, at, box.title, NAME, colour)], at + HIGH / 2 + 5
         for each in self.notes[id(box)]:
-            said.append(text(x, at if box.title else at - 1, each, NOTE, colour if box.differs else "soft"))
+            said.append(
+                text(x, at if box.title else at - 1, each, NOTE, colour if box.differs else "soft")
+            )
             at += NOTE + 4
         return tag(
             "g",
@@ -157,7 +177,10 @@ class Panel:
         if box.kind == "closed":
             lines = [text(x, low + 9, "closed", NOTE, "soft")]
         elif box.kind == "fold":
-            lines = [line([(x, low), (x, bottom - HIGH / 2)], f"{weight} dots"), self.folded_words(box, bottom)]
+            lines = [
+                line([(x, low), (x, bottom - HIGH / 2)], f"{weight} dots"),
+                self.folded_words(box, bottom),
+            ]
         elif not box.below:
             down, at = (bar + 10, bar + 18) if box.label else (low, low + 10)
             lines = [line([(x, low), (x, down)], weight)] if box.label else []
@@ -165,7 +188,10 @@ class Panel:
         else:
             lines = list(self.lines(box, low, bar, bottom, weight))
         if box.label:
-            lines += [rounded(x, bar, width(box.label, NOTE) + 4, NOTE + 3, "paper"), text(x, bar, box.label, NOTE, soft)]
+            lines += [
+                rounded(x, bar, width(box.label, NOTE) + 4, NOTE + 3, "paper"),
+                text(x, bar, box.label, NOTE, soft),
+            ]
         return tag("g", *lines, class_="edge")
 
     def lines(self, box, low, bar, bottom, weight):
@@ -178,7 +204,10 @@ class Panel:
         for end, each in zip(ends, box.below):
             is_token = each.kind == "token"
             down = bottom - HIGH / 2 if is_token else self.y[id(each)]
-            yield line([(end, low if straight else bar), (end, down)], f"{weight} dots" if is_token else weight)
+            yield line(
+                [(end, low if straight else bar), (end, down)],
+                f"{weight} dots" if is_token else weight,
+            )
 
     def folded_words(self, box, bottom):
         x = self.x[id(box)]
@@ -197,12 +226,18 @@ class Panel:
         notes = [str(box.start), place] if self.is_numbered else [place]
         # a token stands for the group or the `?` around it too, so readings may part at it
         wide = width(box.title, NAME) + 12 + RING
-        ring = [rounded(x, bottom, wide, HIGH + RING, f"line {self.colour}-line wide")] if box.parts else []
+        ring = (
+            [rounded(x, bottom, wide, HIGH + RING, f"line {self.colour}-line wide")]
+            if box.parts
+            else []
+        )
         return tag(
             "g",
             tag("title", escape(box.said)),
             *ring,
-            rounded(x, bottom, width(box.title, NAME) + 12, HIGH, "token ink-line", stroke_width=0.8),
+            rounded(
+                x, bottom, width(box.title, NAME) + 12, HIGH, "token ink-line", stroke_width=0.8
+            ),
             text(x, bottom, box.title),
             *[text(x, bottom + 20 + 14 * n, each, NOTE, "soft") for n, each in enumerate(notes)],
             class_=f"box leaf{' parts' if box.parts else ''}",
@@ -212,11 +247,14 @@ class Panel:
 
 
 class Columns:
-    """One scale for all trees: a column for each token and, between tokens, for the empty words of any tree, so that a
-    token stands at the same place in both."""
+    """One scale for all trees: a column for each token and, between tokens, for the empty words of
+    any tree, so that a token stands at the same place in both.
+    """
 
     def __init__(self, panels, count):
-        empties = [Counter(before for box, before in panel.leaves() if not box.length) for panel in panels]
+        empties = [
+            Counter(before for box, before in panel.leaves() if not box.length) for panel in panels
+        ]
         self.gap, self.token, at = [], [], 0
         for place in range(count + 1):
             self.gap.append(at)
@@ -225,7 +263,11 @@ class Columns:
             at += place < count
         self.wide = [0] * max(at, 1)
         # the narrowest first: what a wider one lacks is shared among its columns
-        spans = [(*self.ranges(panel)[id(box)], panel.own(box) + GAP) for panel in panels for box in panel.boxes]
+        spans = [
+            (*self.ranges(panel)[id(box)], panel.own(box) + GAP)
+            for panel in panels
+            for box in panel.boxes
+        ]
         for first, last, own in sorted(spans, key=lambda span: span[1] - span[0]):
             self.widen(first, last, own - sum(self.wide[first : last + 1]))
         self.at = list(accumulate(self.wide, initial=0))
@@ -267,7 +309,9 @@ class Scale:
         # tokens are told by their number where the sentences name them so
         self.is_numbered = noun == "tree"
         colours = colours or colours_of(tops)
-        self.panels = [Panel(top, tokens, colour, self.is_numbered) for top, colour in zip(tops, colours)]
+        self.panels = [
+            Panel(top, tokens, colour, self.is_numbered) for top, colour in zip(tops, colours)
+        ]
         self.columns = Columns(self.panels, len(tokens))
         self.wide = self.columns.at[-1] - GAP
         self.bar = LABELLED_BAR if any(box.label for top in tops for box in top.walk()) else BAR
@@ -291,4 +335,9 @@ class Scale:
 
     @property
     def high(self):
-        return RING + sum(high + self.bar for high in self.levels.values()) + HIGH + (38 if self.is_numbered else 24)
+        return (
+            RING
+            + sum(high + self.bar for high in self.levels.values())
+            + HIGH
+            + (38 if self.is_numbered else 24)
+        )

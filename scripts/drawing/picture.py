@@ -18,7 +18,11 @@ MOST_BESIDE = 1600
 def legend(left, y, noun):
     """What the colours say."""
     x = left
-    for colour, said in (("shared", f"in both {noun}s"), ("one", f"in {noun} 1 only"), ("two", f"in {noun} 2 only")):
+    for colour, said in (
+        ("shared", f"in both {noun}s"),
+        ("one", f"in {noun} 1 only"),
+        ("two", f"in {noun} 2 only"),
+    ):
         yield box(x + 9, y, 18, 14, f"paper {colour}-line{'' if colour == 'shared' else ' wide'}")
         yield text(x + 24, y, said, NOTE, "soft", "start")
         x += 40 + width(said, NOTE)
@@ -110,15 +114,20 @@ class Picture:
         """A page that holds the picture and scrolls where it is larger than the window."""
         light, dark = COLOURS["paper"]
         style = (
-            f"html{{color-scheme:light dark;background:{light};font:13px sans-serif}}body{{margin:0}}svg{{display:block}}"
+            f"html{{color-scheme:light dark;background:{light};font:13px sans-serif}}"
+            "body{margin:0}svg{display:block}"
             "#fit{margin:10px 6px 0 24px;position:sticky;left:24px}label{position:sticky;left:48px}"
             "#fit:checked~svg{width:100%;height:auto}"
             f"@media (prefers-color-scheme:dark){{html{{background:{dark};color:#e6e8eb}}}}"
-            f"@media print{{html{{background:{light}}}label,#fit{{display:none}}svg{{max-width:100%;height:auto}}}}"
+            f"@media print{{html{{background:{light}}}label,#fit{{display:none}}"
+            "svg{max-width:100%;height:auto}}"
         )
-        fit = '<input type="checkbox" id="fit"><label for="fit">fit the picture to the window</label>'
+        fit = (
+            '<input type="checkbox" id="fit"><label for="fit">fit the picture to the window</label>'
+        )
         return (
             '<!doctype html>\n<html lang="en">\n<head>\n<meta charset="utf-8">\n'
             '<meta name="viewport" content="width=device-width, initial-scale=1">\n'
-            f"<title>{escape(title)}</title>\n<style>{style}</style>\n</head>\n<body>\n{fit}\n{self.svg()}\n</body>\n</html>\n"
+            f"<title>{escape(title)}</title>\n<style>{style}</style>\n</head>\n<body>\n"
+            f"{fit}\n{self.svg()}\n</body>\n</html>\n"
         )

@@ -1,1 +1,3 @@
-"""What sheets say, and what the proved programs' rows show of them: readings, boxes, outlines, and sentences."""
+"""What sheets say, and what the proved programs' rows show of them: readings, boxes, outlines, and
+sentences.
+"""

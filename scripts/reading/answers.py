@@ -11,8 +11,9 @@ from .spelling import Names
 
 
 class Answer(NamedTuple):
-    """The verdict, the trees or readings, and where two of them part; `noun` says which they are, `rules` is the rule
-    sheet that they follow."""
+    """The verdict, the trees or readings, and where two of them part; `noun` says which they are,
+    `rules` is the rule sheet that they follow.
+    """
 
     verdict: str
     line: str
@@ -47,8 +48,9 @@ def expansion(programs, sheet):
 
 
 class Question(NamedTuple):
-    """A sheet, of clauses or of rules, and a token sheet; for a user besides, and a rights sheet; `is_expanded`: a
-    clause sheet is asked about by the rules of its expansion."""
+    """A sheet, of clauses or of rules, and a token sheet; for a user besides, and a rights sheet;
+    `is_expanded`: a clause sheet is asked about by the rules of its expansion.
+    """
 
     is_clauses: bool
     sheet: bytes
@@ -60,7 +62,9 @@ class Question(NamedTuple):
     def ask(self, programs, rules):
         """What the proved program answers; `rules` is the rule sheet."""
         if self.user is not None:
-            return programs.answer("calls", rules, self.tokens, self.rights, call=show_call(self.user))
+            return programs.answer(
+                "calls", rules, self.tokens, self.rights, call=show_call(self.user)
+            )
         if self.is_clauses:
             return programs.answer("calls", self.sheet, self.tokens, call=CLAUSES)
         return programs.answer("checker", self.sheet, self.tokens)
@@ -74,18 +78,24 @@ def show_call(user):
 
 
 def question_of(programs, data, clauses, user=None):
-    """The question that an input is. One that is too long or lacks a sheet is refused, by the program itself."""
+    """The question that an input is. One that is too long or lacks a sheet is refused, by the
+    program itself.
+    """
     sheets = parted(data, 2 if user is None else 3)
     if sheets is None or len(data) > MOST_BYTES:
         data = data[: MOST_BYTES + 1]
         call = CLAUSES if clauses and user is None else None if user is None else show_call(user)
         programs.answer("calls" if call else "checker", data, call=call)
-        raise Disagreement("the input has too few sheets or too many bytes, and the program does not refuse it")
+        raise Disagreement(
+            "the input has too few sheets or too many bytes, and the program does not refuse it"
+        )
     return Question(clauses, *sheets, user=user)
 
 
 def read(programs, question, names=""):
-    """How a token sheet can be read. A clause sheet's expansion is compared with the proved one before anything."""
+    """How a token sheet can be read. A clause sheet's expansion is compared with the proved one
+    before anything.
+    """
     rules = expansion(programs, question.sheet) if question.is_clauses else question.sheet
     return answer_of(question.ask(programs, rules), question, rules, names)
 
@@ -100,4 +110,6 @@ def answer_of(output, question, rules, names):
     made = [maker.made(listed) for listed in rows]
     found = parting(*made) if len(made) == 2 else None
     noun = "reading" if in_words else "tree"
-    return Answer(answer.split(" ")[0], answer, tokens, made, found, Names(names, sheet), noun, rules)
+    return Answer(
+        answer.split(" ")[0], answer, tokens, made, found, Names(names, sheet), noun, rules
+    )

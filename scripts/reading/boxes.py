@@ -1,8 +1,8 @@
 """Compact boxes: what a picture or an outline shows of a tree or a reading.
 
-A box of a reading stands for a node and those that say nothing beside it: the group or repeat that is all of an
-alternative, the group around one item, the item that stands for a `?`. What is left out is always told by a box's
-text, so two readings that differ never look alike.
+A box of a reading stands for a node and those that say nothing beside it: the group or repeat that
+is all of an alternative, the group around one item, the item that stands for a `?`. What is left
+out is always told by a box's text, so two readings that differ never look alike.
 """
 
 from dataclasses import dataclass, field, replace
@@ -14,14 +14,17 @@ from .spelling import count_of
 # a chain of nonterminals is one box while its title is no longer than this
 LONGEST_CHAIN = 28
 
-# so many boxes in a row that both readings share are folded to one; of tokens alone, which are small, so many
+# so many boxes in a row that both readings share are folded to one; of tokens alone, which are
+# small, so many
 FOLDED_RUN, FOLDED_TOKENS = 3, 8
 
 
 @dataclass(eq=False)
 class Box:
-    """`kind` is `node` (of a nonterminal), `piece` (a group or repeat), `token`, `closed` or `fold` (what both readings
-    share); `label` stands on the lines below it, `words` at the bottom beneath a fold."""
+    """`kind` is `node` (of a nonterminal), `piece` (a group or repeat), `token`, `closed` or `fold`
+    (what both readings share); `label` stands on the lines below it, `words` at the bottom beneath
+    a fold.
+    """
 
     kind: str
     title: str
@@ -57,7 +60,11 @@ class Box:
     def spans(self):
         """The pieces of the sheet that a box stands for: line and characters."""
         pieces = [node.taken if node.kind == "clause" else node.piece for node in self.nodes]
-        return list(dict.fromkeys(piece.span for piece in pieces if piece)) if self.kind != "fold" else []
+        return (
+            list(dict.fromkeys(piece.span for piece in pieces if piece))
+            if self.kind != "fold"
+            else []
+        )
 
 
 class Boxes:
@@ -76,7 +83,9 @@ class Boxes:
     def token(self, node, _):
         token = self.tokens[node.start]
         name = self.names.terminal(token.terminal)
-        return Box("token", name, "", node.start, node.length, [node], said=f"{name}, {token.place}")
+        return Box(
+            "token", name, "", node.start, node.length, [node], said=f"{name}, {token.place}"
+        )
 
     def closed(self, node, _):
         """Of a closed node that it is there, and of what."""
@@ -120,10 +129,16 @@ class ReadingBoxes(Boxes):
         return self.names.sheet.alternatives(node.left)
 
     def told(self, node):
-        """The text of the alternative that a node takes, and which one it is where another is written alike."""
+        """The text of the alternative that a node takes, and which one it is where another is
+        written alike.
+        """
         text, alternatives = self.names.spelled(node.taken), self.alternatives(node)
         alike = [each for each in alternatives if self.names.spelled(each) == text]
-        return text if len(alike) == 1 else f"{text} ({alike.index(node.taken) + 1} of {len(alike)} alike)"
+        return (
+            text
+            if len(alike) == 1
+            else f"{text} ({alike.index(node.taken) + 1} of {len(alike)} alike)"
+        )
 
     def clause(self, node, made):
         name, text = self.names.nonterminal(node.left), self.told(node)
@@ -177,11 +192,15 @@ def is_symbol(alternative):
 def tells_itself(taken, alternatives):
     """Is it plain from its one item which alternative is taken?"""
     mine = faces(taken)
-    return bool(mine) and not any(mine & faces(other) for other in alternatives if other is not taken)
+    return bool(mine) and not any(
+        mine & faces(other) for other in alternatives if other is not taken
+    )
 
 
 def absorbed(nodes, below):
-    """While all that stands below is a repeat, or a group without a choice, it is part of the box above it."""
+    """While all that stands below is a repeat, or a group without a choice, it is part of the box
+    above it.
+    """
     while len(below) == 1 and below[0].kind == "group" and len(below[0].piece.alternatives) == 1:
         nodes, below = [*nodes, below[0]], list(below[0].below)
     if len(below) == 1 and below[0].kind == "repeat":
@@ -196,8 +215,9 @@ def through(node, made):
 
 
 def mark(top, only, parts):
-    """What differs: what stands in this tree only, and all that leads to where they part. (The like of that may stand
-    in the other tree too, elsewhere: empty words are alike wherever they are.)"""
+    """What differs: what stands in this tree only, and all that leads to where they part. (The like
+    of that may stand in the other tree too, elsewhere: empty words are alike wherever they are.)
+    """
     leads = set()
     for box in reversed(list(top.walk())):
         box.parts = any(node is parts for node in box.nodes)
@@ -207,7 +227,9 @@ def mark(top, only, parts):
 
 
 def chain(box):
-    """The same with a nonterminal that is one other put into one box with it, where they look alike."""
+    """The same with a nonterminal that is one other put into one box with it, where they look
+    alike.
+    """
     made = {}
     for each in reversed(list(box.walk())):
         each.below = [made[id(below)] for below in each.below]
@@ -228,8 +250,11 @@ def chained(box):
 
 # ---- folds
 
+
 class Folds:
-    """Folds up what both trees share: long runs, and all below a box; but for those that are opened."""
+    """Folds up what both trees share: long runs, and all below a box; but for those that are
+    opened.
+    """
 
     def __init__(self, boxes, opened=()):
         self.tokens, self.names, self.opened = boxes.tokens, boxes.names, set(opened)
@@ -264,7 +289,11 @@ class Folds:
         least = FOLDED_TOKENS if all(each.kind == "token" for each in run) else FOLDED_RUN
         if len(run) >= least:
             return self.one(run)
-        return [each for box in run for each in (self.one([box]) if box.length > 1 and box.below else [box])]
+        return [
+            each
+            for box in run
+            for each in (self.one([box]) if box.length > 1 and box.below else [box])
+        ]
 
     def one(self, run):
         """One box for a run of boxes; the boxes themselves where it is opened."""

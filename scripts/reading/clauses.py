@@ -1,7 +1,9 @@
-"""A clause sheet taken apart, and its expansion worked out again, so that each nonterminal of it has a piece of text.
+"""A clause sheet taken apart, and its expansion worked out again, so that each nonterminal of it
+has a piece of text.
 
-The sheet is one that the proved call `expand` has accepted. `Sheet.agree` compares what is worked out here with what
-that call wrote, byte for byte: only then do the roles below say what the nonterminals of a tree stand for.
+The sheet is one that the proved call `expand` has accepted. `Sheet.agree` compares what is worked
+out here with what that call wrote, byte for byte: only then do the roles below say what the
+nonterminals of a tree stand for.
 """
 
 import re
@@ -20,7 +22,9 @@ LARGEST = 63
 
 
 class Disagreement(Exception):
-    """The expansion worked out here is not the one of the proved call, or a tree does not follow it."""
+    """The expansion worked out here is not the one of the proved call, or a tree does not follow
+    it.
+    """
 
 
 class IllWritten(Exception):
@@ -42,7 +46,9 @@ class Piece:
 
 @dataclass(eq=False)
 class Item(Piece):
-    """An item with its suffix: `n`, `t` or `group`, and the nonterminals that the expansion gives it."""
+    """An item with its suffix: `n`, `t` or `group`, and the nonterminals that the expansion gives
+    it.
+    """
 
     line: int
     begin: int
@@ -68,7 +74,9 @@ class Item(Piece):
 
 @dataclass(eq=False)
 class Alternative(Piece):
-    """A sequence of items, what binds each to all that follows it, and the nonterminals of its rests."""
+    """A sequence of items, what binds each to all that follows it, and the nonterminals of its
+    rests.
+    """
 
     line: int
     begin: int
@@ -112,15 +120,18 @@ class Clause(NamedTuple):
 
 
 class Role(NamedTuple):
-    """What a nonterminal of the expansion stands for: `clause`, `alternative`, `rest`, `token`, `group`, `marked`,
-    `repeat` or `fresh`, and the piece of text (of a clause its nonterminal)."""
+    """What a nonterminal of the expansion stands for: `clause`, `alternative`, `rest`, `token`,
+    `group`, `marked`, `repeat` or `fresh`, and the piece of text (of a clause its nonterminal).
+    """
 
     name: str
     piece: object = None
 
 
 class Reader:
-    """One line, read from left to right; groups that are open stand on a stack, since lines may be deep."""
+    """One line, read from left to right; groups that are open stand on a stack, since lines may be
+    deep.
+    """
 
     def __init__(self, line, text):
         self.line, self.text, self.at = line, text, 0
@@ -151,7 +162,9 @@ class Reader:
         self.open[-1].alternatives.append(Alternative(self.line, self.at))
 
     def items_to_next(self):
-        """An item, with all groups that begin or end with it; and what stands between it and the next one."""
+        """An item, with all groups that begin or end with it; and what stands between it and the
+        next one.
+        """
         begun = self.at
         while self.take(OPEN):
             group = self.item("group", begun)
@@ -181,12 +194,16 @@ class Reader:
 
 
 def clause_of(line, text):
-    """The clause in a line; fails at the first place at which the line cannot go on to be so written."""
+    """The clause in a line; fails at the first place at which the line cannot go on to be so
+    written.
+    """
     return Reader(line, text).clause()
 
 
 class Sheet:
-    """A clause sheet: its clauses, the roles of all nonterminals of its expansion, and the expansion's rules."""
+    """A clause sheet: its clauses, the roles of all nonterminals of its expansion, and the
+    expansion's rules.
+    """
 
     def __init__(self, text):
         self.lines = text.splitlines()
@@ -208,7 +225,9 @@ class Sheet:
             try:
                 yield clause_of(number, line)
             except IllWritten as error:
-                raise Disagreement(f"line {number} of the clause sheet is {error}: {line}") from error
+                raise Disagreement(
+                    f"line {number} of the clause sheet is {error}: {line}"
+                ) from error
 
     def text(self, piece):
         """A piece as it is written."""
@@ -217,7 +236,9 @@ class Sheet:
 
     def alternatives(self, left):
         """All alternatives of a nonterminal."""
-        return [each for clause in self.clauses if clause.left == left for each in clause.alternatives]
+        return [
+            each for clause in self.clauses if clause.left == left for each in clause.alternatives
+        ]
 
     # ---- numbers, on the way through the text: what contains the other comes first
 

@@ -1,4 +1,6 @@
-"""Rows of a tree turned into nodes: of the rules themselves, or of readings in the clauses' own words."""
+"""Rows of a tree turned into nodes: of the rules themselves, or of readings in the clauses' own
+words.
+"""
 
 from typing import NamedTuple, Optional, Union
 
@@ -10,9 +12,11 @@ BELOW = {"E": 0, "A": 0, "U": 1, "B": 2, "C": 0}
 
 
 class Node(NamedTuple):
-    """A node. `kind` is `clause` (of a nonterminal that is written, `left`), `group`, `repeat` (a list of its items'
-    words), `token` or `closed`; `piece` is the text that it stands for, `taken` the alternative or the rule that it
-    takes. Two nodes of one sentence have the same `like` exactly if they and all below them are the same."""
+    """A node. `kind` is `clause` (of a nonterminal that is written, `left`), `group`, `repeat` (a
+    list of its items' words), `token` or `closed`; `piece` is the text that it stands for, `taken`
+    the alternative or the rule that it takes. Two nodes of one sentence have the same `like`
+    exactly if they and all below them are the same.
+    """
 
     kind: str
     left: Optional[int]
@@ -52,7 +56,9 @@ class Maker:
         raise NotImplementedError
 
     def made(self, rows):
-        """The top node of a tree's rows. They are in walking order, so backwards all below a row is done."""
+        """The top node of a tree's rows. They are in walking order, so backwards all below a row is
+        done.
+        """
         done = []
         for left, kind, start, length in reversed(rows):
             if kind not in BELOW or len(done) < BELOW[kind]:
@@ -81,7 +87,7 @@ class Trees(Maker):
         return self.node("clause", span, left=left, taken=rule, below=nodes)
 
     def followed(self, left, kind, start, symbols):
-        """The rule that a row follows: no two rules of a sheet are alike, so there is one at most."""
+        """The rule that a row follows: no two rules of a sheet are alike, so one at most."""
         for rule in self.rules:
             if (rule.left, rule.kind) != (left, kind):
                 continue
@@ -95,7 +101,7 @@ class Trees(Maker):
 
 
 class Readings(Maker):
-    """Readings under a clause sheet. Of an alternative and its rests the value is a list of nodes."""
+    """Readings under a clause sheet. Of an alternative or a rest the value is a list of nodes."""
 
     def __init__(self, sheet):
         super().__init__()
@@ -179,7 +185,9 @@ class Readings(Maker):
 
 
 class Parting(NamedTuple):
-    """The first node at which two readings part, as it is in each, and the nonterminal's node it stands in."""
+    """The first node at which two readings part, as it is in each, and the nonterminal's node it
+    stands in.
+    """
 
     first: Node
     second: Node
@@ -187,8 +195,10 @@ class Parting(NamedTuple):
 
 
 def parting(first, second):
-    """Where two readings part: the highest node that takes another alternative (or follows another rule), or gives
-    other words to what is below it. Nothing where they are alike, as closed ones may be."""
+    """Where two readings part: the highest node that takes another alternative (or follows another
+    rule), or gives other words to what is below it. Nothing where they are alike, as closed ones
+    may be.
+    """
     within = first
     while first.like != second.like:
         within = first if first.left is not None else within

@@ -21,7 +21,9 @@ class Row(NamedTuple):
 
 
 def rows_of(top, tokens):
-    """The rows from the top down. A token that is all of a box, as its text says, stands in the box's row."""
+    """The rows from the top down. A token that is all of a box, as its text says, stands in the
+    box's row.
+    """
     waiting, rows = [(top, 0)], []
     while waiting:
         box, depth = waiting.pop()

@@ -1,4 +1,6 @@
-"""A patch as text: words on lines and columns, each a terminal by its name or number; and tokens written so."""
+"""A patch as text: words on lines and columns, each a terminal by its name or number; and tokens
+written so.
+"""
 
 import re
 from typing import NamedTuple, Optional
@@ -10,7 +12,9 @@ MOST_COLUMN, MOST_LINE = 200, 400
 
 
 class Word(NamedTuple):
-    """A word at its place: the column on the grid, and the letters of the line; its terminal, or why it has none."""
+    """A word at its place: the column on the grid, and the letters of the line; its terminal, or
+    why it has none.
+    """
 
     line: int
     col: int
@@ -29,7 +33,9 @@ class Word(NamedTuple):
 
 
 class Vocabulary:
-    """What words mean: names first, the longest first, then numbers, plain or as a clause writes them."""
+    """What words mean: names first, the longest first, then numbers, plain or as a clause writes
+    them.
+    """
 
     def __init__(self, names):
         self.numbers = {}
@@ -87,8 +93,9 @@ def label_of(terminal, names, vocabulary):
 
 
 def text_of(tokens, names):
-    """Tokens as text. Where their names have no room, or places are far, columns move: all in one order, and tokens
-    that stood below one another still do, so every mark says the same."""
+    """Tokens as text. Where their names have no room, or places are far, columns move: all in one
+    order, and tokens that stood below one another still do, so every mark says the same.
+    """
     vocabulary = Vocabulary(names)
     labels = [label_of(token.terminal, names, vocabulary) for token in tokens]
     lines, columns = places([token.line for token in tokens], MOST_LINE), columns_of(tokens, labels)

@@ -1,4 +1,6 @@
-"""What is said of an answer. A sentence is a list of parts; pieces of a sheet or a patch are marked as such."""
+"""What is said of an answer. A sentence is a list of parts; pieces of a sheet or a patch are marked
+as such.
+"""
 
 from .spelling import count_of
 
@@ -39,19 +41,30 @@ def rule_taken(node, names):
 
 def tree_sentences(answer):
     count, names = count_of(len(answer.tokens), "token"), answer.names
-    yield [f"{COUNTS[answer.verdict]} of nonterminal ", Code(names.nonterminal(0)), f" over {count}"]
+    yield [
+        f"{COUNTS[answer.verdict]} of nonterminal ",
+        Code(names.nonterminal(0)),
+        f" over {count}",
+    ]
     found = answer.parting
     if found:
         node = found.first
-        yield ["They part at nonterminal ", Code(names.nonterminal(node.left)), f" over {word_of(node)}."]
+        yield [
+            "They part at nonterminal ",
+            Code(names.nonterminal(node.left)),
+            f" over {word_of(node)}.",
+        ]
         for number, each in enumerate(found[:2], start=1):
             yield [f"Tree {number} takes {rule_taken(each, names)}."]
 
 
 # ---- of readings
 
+
 def splits_of(nodes, tokens, names):
-    """What two nodes give to each of their items; what is the same at the front and at the end is left out."""
+    """What two nodes give to each of their items; what is the same at the front and at the end is
+    left out.
+    """
     below = [list(node.below) for node in nodes]
     front = same_at_front(below)
     end = same_at_front([each[front:][::-1] for each in below])
@@ -64,7 +77,10 @@ def splits_of(nodes, tokens, names):
 def same_at_front(lists):
     """How many nodes two lists begin with alike, short of a whole list."""
     same = 0
-    while all(len(each) > same + 1 for each in lists) and len({each[same].like for each in lists}) == 1:
+    while (
+        all(len(each) > same + 1 for each in lists)
+        and len({each[same].like for each in lists}) == 1
+    ):
         same += 1
     return same
 
@@ -86,7 +102,13 @@ def what_of(node, within, names):
 def reading_sentences(answer):
     tokens, names, found = answer.tokens, answer.names, answer.parting
     if answer.verdict != "two":
-        what = f"these {len(tokens)} tokens" if len(tokens) > 1 else "this token" if tokens else "nothing"
+        what = (
+            f"these {len(tokens)} tokens"
+            if len(tokens) > 1
+            else "this token"
+            if tokens
+            else "nothing"
+        )
         count = "No" if answer.verdict == "none" else "One"
         yield [f"{count} reading of {what} as ", Code(names.nonterminal(0)), "."]
         return

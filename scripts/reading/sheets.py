@@ -36,8 +36,9 @@ class Token(NamedTuple):
 
 
 def parted(data, count=2):
-    """The sheets of an input, each parted from the next by an empty line; the last one takes all the rest. Nothing
-    where there are fewer."""
+    """The sheets of an input, each parted from the next by an empty line; the last one takes all
+    the rest. Nothing where there are fewer.
+    """
     sheets = []
     for _ in range(count - 1):
         found = re.match(rb"(?:[^\n]+\n)*\n", data)

@@ -20,8 +20,9 @@ class BadNames(ValueError):
 
 
 class Names:
-    """Names for nonterminals and terminals; where there are none, numbers, as the sheet has them: of a clause sheet
-    (`sheet`) with `n` or `t` before them."""
+    """Names for nonterminals and terminals; where there are none, numbers, as the sheet has them:
+    of a clause sheet (`sheet`) with `n` or `t` before them.
+    """
 
     def __init__(self, text="", sheet=None, in_clauses=False):
         self.sheet, self.in_clauses = sheet, in_clauses or sheet is not None
@@ -36,6 +37,12 @@ class Names:
             raise BadNames(number, line)
         named = self.nonterminals if found[1] == "n" else self.terminals
         named[int(found[2])] = found[3]
+
+    def as_in_clauses(self):
+        """The same names; numbers as a clause has them."""
+        made = Names(in_clauses=True)
+        made.nonterminals, made.terminals = self.nonterminals, self.terminals
+        return made
 
     def nonterminal(self, number):
         return self.nonterminals.get(number) or (f"n{number}" if self.in_clauses else str(number))
@@ -66,7 +73,7 @@ class Names:
     # ---- pieces of clauses
 
     def quoted(self, number):
-        """A terminal within a clause: in quotes where its name could be taken for something else."""
+        """A terminal within a clause: in quotes where its name could mean something else."""
         name = self.terminal(number)
         plain = re.fullmatch(r"\w+", name) and name not in self.nonterminals.values()
         return name if plain else f"'{name}'"

@@ -1,7 +1,7 @@
 """Why a patch has no reading: the mark that fails, or how far a beginning goes.
 
-The verdict `none` is the proved program's, and so is every tree that is looked at here. Which mark of a tree fails, and
-how far some word begins as the patch does, is worked out by these functions.
+The verdict `none` is the proved program's, and so is every tree that is looked at here. Which mark
+of a tree fails, and how far some word begins as the patch does, is worked out by these functions.
 """
 
 from collections import defaultdict
@@ -27,6 +27,7 @@ class Why(NamedTuple):
 
 
 # ---- marks
+
 
 def failing(rule, node, tokens):
     """The token by which a node's mark fails and how, in words; nothing where it holds."""
@@ -83,8 +84,13 @@ def failures(tree, rules, tokens):
 
 # ---- beginnings
 
+
 def symbols(rule):
-    return [each for each in (rule.first, rule.second) if each is not None] if rule.kind in "UB" else []
+    return (
+        [each for each in (rule.first, rule.second) if each is not None]
+        if rule.kind in "UB"
+        else []
+    )
 
 
 def fixed(rules, is_in):
@@ -96,12 +102,16 @@ def fixed(rules, is_in):
 
 
 class Beginnings:
-    """How far a list of terminals goes as the beginning of some word of nonterminal 0, all marks aside."""
+    """How far a list of terminals goes as the beginning of some word of nonterminal 0, all marks
+    aside.
+    """
 
     def __init__(self, rules):
         has_words = fixed(rules, lambda rule, found: all(each in found for each in symbols(rule)))
         rules = [rule for rule in rules if all(each in has_words for each in symbols(rule))]
-        self.empty = fixed(rules, lambda rule, found: rule.kind != "A" and found.issuperset(symbols(rule)))
+        self.empty = fixed(
+            rules, lambda rule, found: rule.kind != "A" and found.issuperset(symbols(rule))
+        )
         self.by_left = defaultdict(list)
         for rule in rules:
             self.by_left[rule.left].append(rule)
@@ -112,7 +122,9 @@ class Beginnings:
             return -1
         sets = [self.closed({(rule, 0, 0) for rule in self.by_left[0]}, [], 0)]
         for at, terminal in enumerate(terminals):
-            met = {(rule, 1, begun) for rule, dot, begun in sets[at] if self.meets(rule, dot, terminal)}
+            met = {
+                (rule, 1, begun) for rule, dot, begun in sets[at] if self.meets(rule, dot, terminal)
+            }
             if not met:
                 return at
             sets.append(self.closed(met, sets, at + 1))
@@ -123,7 +135,9 @@ class Beginnings:
         return rule.kind == "A" and dot == 0 and rule.covers(terminal)
 
     def closed(self, items, sets, at):
-        """All that follows from these items: rules that may begin here, and those that go on behind an ended one."""
+        """All that follows from these items: rules that may begin here, and those that go on behind
+        an ended one.
+        """
         found, waiting = set(items), list(items)
         while waiting:
             for more in self.follows(waiting.pop(), found, sets, at):
@@ -149,6 +163,7 @@ class Beginnings:
 
 # ---- why
 
+
 class Asked(NamedTuple):
     """A question whose answer is `none`: the programs, the token sheet, the answer."""
 
@@ -157,12 +172,18 @@ class Asked(NamedTuple):
     answer: object
 
     def tree(self, without):
-        """The first tree under the sheet without the marks of these lines; nothing where there is none."""
+        """The first tree under the sheet without the marks of these lines; nothing where there is
+        none.
+        """
         rules = rules_of(self.answer.rules)
         lines = [without_mark(rule) if rule.line in without else rule.text for rule in rules]
         sheet = NAMES + "".join(f"{line}\n" for line in lines)
         _, rows = rows_of(self.programs.answer("checker", sheet.encode("ascii"), self.tokens))
-        return Trees(rules_of(sheet.encode("ascii")), self.answer.tokens).made(rows[0]) if rows else None
+        return (
+            Trees(rules_of(sheet.encode("ascii")), self.answer.tokens).made(rows[0])
+            if rows
+            else None
+        )
 
 
 def without_mark(rule):
@@ -196,7 +217,13 @@ def why_marked(asked, found, is_only):
         piece = names.sheet.roles[failure.rule.left].piece
     token = tokens[failure.token]
     front = "It would be one but for " if is_only else "Several marks fail, among them "
-    sentence = [front, Code(failure.rule.lay), " in ", Code(names.spelled(piece)), f", {over(failure.node, tokens)}: "]
+    sentence = [
+        front,
+        Code(failure.rule.lay),
+        " in ",
+        Code(names.spelled(piece)),
+        f", {over(failure.node, tokens)}: ",
+    ]
     sentence += [Code(names.terminal(token.terminal)), f" at {token.place} {failure.how}."]
     return Why(sentence, [failure.token], piece.span)
 
@@ -212,7 +239,9 @@ def why_not_begun(asked, rules):
             return Why(["The patch is empty, and no ", start, " is."], [])
         last = tokens[-1]
         behind = [Code(names.terminal(last.terminal)), f" at {last.place}"]
-        return Why(["It can begin a ", start, ", but behind ", *behind, " something is missing."], [])
+        return Why(
+            ["It can begin a ", start, ", but behind ", *behind, " something is missing."], []
+        )
     token = tokens[length]
     next_one = [Code(names.terminal(token.terminal)), f" at {token.place}"]
     if length == 0:

@@ -8,11 +8,11 @@ from drawing.picture import Picture, separate, tops_of
 from judging import Inquiry, judged
 from reading.answers import Question, read
 from reading.boxes import Folds
-from reading.clauses import Disagreement
+from reading.clauses import SYMBOL, Disagreement
 from reading.outline import rows_of
 from reading.patches import sheet_of, text_of, words_in
 from reading.sentences import Code
-from reading.sheets import is_clauses, tokens_of
+from reading.sheets import is_clauses, rule_of, tokens_of
 from reading.spelling import BadNames, Names, count_of
 from reading.why import Asked, why
 
@@ -47,18 +47,21 @@ def clause_hint(line, first, last):
             "no suffix that may stand here: ? + * +:align *:align behind an item, "
             ":offside :offalign :single behind a group"
         )
-    return "the clause cannot go on like this: a blank and an item, or a blank, | and a blank may follow"
+    return "the clause cannot go on like this: a blank and an item may follow, or ` | `"
 
 
 class Fault(Exception):
-    """Something in a field, so that nothing is asked: the field, the line (0: none), the letters, and the words."""
+    """Something in a field, so that nothing is asked: the field, the line (0: none), the letters,
+    and the words.
+    """
 
     def __init__(self, field, line, span, said):
         super().__init__(said)
         self.note = {"field": field, "line": line, "from": span[0], "to": span[1], "said": said}
 
 
-# what no picture or file can hold: control characters but line ends and tabs, and halves of characters
+# what no picture or file can hold: control characters but line ends and tabs, and halves of
+# characters
 UNFIT = re.compile(r"[\x00-\x08\x0b-\x1f\x7f-\x9f\ud800-\udfff\ufffe\uffff]")
 
 
@@ -74,7 +77,8 @@ def is_short(text):
 def nothing(notes):
     """What is shown where nothing is read."""
     sentences = [note_sentence(notes)] if notes else []
-    return {"notes": notes, "words": [], "sentences": sentences, "verdict": "", "readings": [], "why": None}
+    shown = {"notes": notes, "words": [], "sentences": sentences, "verdict": "", "readings": []}
+    return {**shown, "why": None, "glosses": {}}
 
 
 def shown_word(word):
@@ -88,7 +92,10 @@ def shown_parts(parts):
 
 def shown_row(row):
     box = row.box
-    told = {name: getattr(box, name) for name in ("kind", "start", "length", "differs", "parts", "said", "key")}
+    told = {
+        name: getattr(box, name)
+        for name in ("kind", "start", "length", "differs", "parts", "said", "key")
+    }
     return {**told, "depth": row.depth, "place": row.place, "text": row.text, "pieces": box.spans}
 
 
@@ -112,12 +119,19 @@ class Desk:
             raise Fault("names", error.line, (0, length), said) from error
 
     def sheet(self):
-        """The sheet's bytes. Empty lines at its end are no part of it; one within it would part the input."""
+        """The sheet's bytes. Empty lines at its end are no part of it; one within it would part the
+        input.
+        """
         lines = self.text["sheet"].rstrip("\n").split("\n")
         if lines == [""]:
             raise Fault("sheet", 1, (0, 0), "write a sheet here: its first line is `left clause`")
         if "" in lines:
-            raise Fault("sheet", lines.index("") + 1, (0, 0), "this line is empty, and no line of a sheet is")
+            raise Fault(
+                "sheet",
+                lines.index("") + 1,
+                (0, 0),
+                "this line is empty, and no line of a sheet is",
+            )
         return ("\n".join(lines) + "\n").encode("utf-8")
 
     def words(self):
@@ -135,6 +149,7 @@ class Desk:
         try:
             words = self.words()
             made["words"] = [shown_word(word) for word in words]
+            made["glosses"] = self.glosses()
             unknown = [word for word in words if word.terminal is None]
             made["notes"] = [unknown_note(word) for word in unknown]
             if unknown and self.free() is not None:
@@ -160,7 +175,10 @@ class Desk:
             first, *rest = sentences[0]
             sentences[0] = [first[0].upper() + first[1:], *rest, "."]
         if answer.verdict == "none" and not answer.tokens:
-            sentences = [["The patch is empty."], ["Write words into it, or look for two readings."]]
+            sentences = [
+                ["The patch is empty."],
+                ["Write words into it, or look for two readings."],
+            ]
         elif answer.verdict == "none":
             found = why(Asked(self.programs, question.tokens, answer))
             sentences.append(found.sentence)
@@ -172,6 +190,15 @@ class Desk:
             "why": reason,
             "noun": answer.noun,
         }
+
+    def glosses(self):
+        """The lines of the sheet by names, where there are any, by their numbers."""
+        lines, names = self.text["sheet"].split("\n"), self.names()
+        if not (names.nonterminals or names.terminals):
+            return {}
+        clauses = is_clauses(self.text["sheet"].encode("utf-8"))
+        told = [(n, by_names(n, line, clauses, names)) for n, line in enumerate(lines[1:], start=2)]
+        return {n: text for n, text in told if text}
 
     def free(self):
         """The lowest terminal of the sheet that has no name."""
@@ -216,12 +243,18 @@ class Desk:
             return {"said": said, "verdict": known.verdict}
         names = Names(self.text["names"], in_clauses=is_clauses(sheet))
         count = count_of(len(known.tokens), "token")
-        return {"said": f"{said} It has {count}.", "patch": text_of(known.tokens, names), "verdict": "two"}
+        return {
+            "said": f"{said} It has {count}.",
+            "patch": text_of(known.tokens, names),
+            "verdict": "two",
+        }
 
     # ---- files
 
     def files(self, name):
-        """The fields as files: those that bin/check, bin/teplonga and bin/draw read, and one with all of them."""
+        """The fields as files: those that bin/check, bin/teplonga and bin/draw read, and one with
+        all of them.
+        """
         state = json.dumps(self.text, ensure_ascii=False, indent=1) + "\n"
         made = [file(f"{name}.whiteboard", state, "all three fields in one file, for this page")]
         if self.text["names"].strip():
@@ -232,14 +265,25 @@ class Desk:
             return {"files": made, "said": f"The sheet and the patch cannot be saved yet: {fault}."}
         clauses = is_clauses(sheet)
         suffix = "clauses" if clauses else "rules"
-        made.append(file(f"{name}.{suffix}", sheet.decode("utf-8"), "the sheet, for bin/teplonga judge"))
+        made.append(
+            file(f"{name}.{suffix}", sheet.decode("utf-8"), "the sheet, for bin/teplonga judge")
+        )
         unknown = [word.text for word in words if word.terminal is None]
         if unknown:
-            said = f"The patch has a word that is no terminal ({unknown[0][:LONGEST_MARK]}), so it is in the first file alone."
+            word = unknown[0][:LONGEST_MARK]
+            said = f"The word {word} is no terminal, so the patch is in the first file alone."
             return {"files": made, "said": said}
         both = (sheet + b"\n" + sheet_of(words)).decode("utf-8")
-        read_by = "bin/teplonga readings and bin/draw --clauses" if clauses else "bin/check and bin/draw"
-        made.append(file(f"{name}.{'readings' if clauses else 'check'}", both, f"sheet and patch, for {read_by}"))
+        read_by = (
+            "bin/teplonga readings and bin/draw --clauses" if clauses else "bin/check and bin/draw"
+        )
+        made.append(
+            file(
+                f"{name}.{'readings' if clauses else 'check'}",
+                both,
+                f"sheet and patch, for {read_by}",
+            )
+        )
         return {"files": [*made, *self.picture(name, words)], "said": ""}
 
     def picture(self, name, words):
@@ -272,8 +316,22 @@ def readings(answer, fold, opened):
         yield {"svg": svg, "rows": [shown_row(row) for row in rows_of(top, answer.tokens)]}
 
 
+def by_names(number, line, clauses, names):
+    """A line of a sheet by names; nothing where it is none."""
+    try:
+        if not clauses:
+            return names.spelled_rule(rule_of(number, line))
+        left, clause = re.fullmatch(r"([0-9]{1,5}) (.+)", line).groups()
+        in_clauses = names.as_in_clauses()
+        return f"{in_clauses.nonterminal(int(left))}: {SYMBOL.sub(in_clauses.symbol, clause)}"
+    except (AttributeError, ValueError):
+        return None
+
+
 def unknown_note(word):
-    return Fault("patch", word.line, (word.begin, word.end), f"{word.text[:LONGEST_MARK]}: {word.why}").note
+    return Fault(
+        "patch", word.line, (word.begin, word.end), f"{word.text[:LONGEST_MARK]}: {word.why}"
+    ).note
 
 
 PLACES = {"sheet": "the sheet", "names": "the names", "patch": "the patch"}
@@ -293,7 +351,8 @@ def note_sentence(notes):
 # ---- opening files
 
 TOKEN_SHEET = re.compile(
-    r"term line col\n([0-9]{1,5}( [0-9]{1,5}){2}\n)*|term line col width\n([0-9]{1,5}( [0-9]{1,5}){3}\n)*"
+    r"term line col\n([0-9]{1,5}( [0-9]{1,5}){2}\n)*"
+    r"|term line col width\n([0-9]{1,5}( [0-9]{1,5}){3}\n)*"
 )
 
 
@@ -309,8 +368,10 @@ def opened_state(text):
 
 
 def opened(texts, names=""):
-    """The fields from the texts of files: all of them, names, a sheet, or a sheet with a token sheet behind an empty
-    line. Tokens are written by the names among the files, or by these. What could not be taken is said."""
+    """The fields from the texts of files: all of them, names, a sheet, or a sheet with a token
+    sheet behind an empty line. Tokens are written by the names among the files, or by these. What
+    could not be taken is said.
+    """
     fields, tokens, said = {}, None, ""
     for text in map(fit, texts):
         first = next((line for line in text.split("\n") if line and not line.startswith("#")), "")

@@ -19,12 +19,14 @@ COMMAND = "bin/whiteboard"
 MOST_BODY = 6 * 4 * desk.MOST_BYTES
 MOST_OPENED = 64
 
-# seconds that a program may take for an answer, and when one looks for two readings; how many run at once
+# seconds that a program may take for an answer, and when one looks for two readings; how many run
+# at once
 SECONDS, LOOKING, AT_ONCE = 10, 20, 2
 
 HEADERS = {
-    "Content-Security-Policy": "default-src 'none'; script-src 'self'; style-src 'self'; connect-src 'self'; "
-    "img-src 'self' data:; base-uri 'none'; form-action 'none'; frame-ancestors 'none'",
+    "Content-Security-Policy": "default-src 'none'; script-src 'self'; style-src 'self'; "
+    "connect-src 'self'; img-src 'self' data:; base-uri 'none'; form-action 'none'; "
+    "frame-ancestors 'none'",
     "X-Content-Type-Options": "nosniff",
     "Referrer-Policy": "no-referrer",
     "Cross-Origin-Resource-Policy": "same-origin",
@@ -34,7 +36,9 @@ HEADERS = {
 
 def colours():
     """The pictures' colours, for the page to use too."""
-    light, dark = ("".join(f"--{name}:{pair[n]};" for name, pair in COLOURS.items()) for n in (0, 1))
+    light, dark = (
+        "".join(f"--{name}:{pair[n]};" for name, pair in COLOURS.items()) for n in (0, 1)
+    )
     in_dark = f"@media (prefers-color-scheme:dark){{:root{{{dark}}}}}"
     return f":root{{{light}}}{in_dark}@media print{{:root{{{light}}}}}\n{css()}\n".encode("utf-8")
 
@@ -78,7 +82,11 @@ class Handler(BaseHTTPRequestHandler):
             self.close_connection = True
         except Exception as error:  # noqa: BLE001  (a mistake of ours: a sentence, never a trace)
             self.close_connection = True
-            self.answer(500, "application/json", said(f"The whiteboard made a mistake: {type(error).__name__}."))
+            self.answer(
+                500,
+                "application/json",
+                said(f"The whiteboard made a mistake: {type(error).__name__}."),
+            )
 
     def page(self):
         if self.path not in FILES:
@@ -153,6 +161,7 @@ def said(text):
 
 # ---- the questions of the page
 
+
 def start(server, _asked, _programs):
     fields, note = server.first()
     name = server.file.name if server.file else ""
@@ -223,7 +232,9 @@ class Server(ThreadingHTTPServer):
         return f"http://127.0.0.1:{self.server_port}/"
 
     def first(self):
-        """The fields that the page begins with: the file's, with the names beside it, or an example."""
+        """The fields that the page begins with: the file's, with the names beside it, or an
+        example.
+        """
         if not self.file:
             return dict(desk.EXAMPLE), ""
         try:

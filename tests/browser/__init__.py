@@ -1,4 +1,6 @@
-"""A browser without a window, by the WebDriver protocol over HTTP: Chromium and its driver, of Debian's packages."""
+"""A browser without a window, by the WebDriver protocol over HTTP: Chromium and its driver, of
+Debian's packages.
+"""
 
 import base64
 import json
@@ -21,11 +23,13 @@ KEYS = {
     "Home": "\ue011",
     "Backspace": "\ue003",
 }
-MISSING = "no browser: `apt-get install chromium chromium-driver` gives one; the rest is tested all the same"
+MISSING = "no browser (`apt-get install chromium chromium-driver` gives one): the rest is tested"
 
 
 def is_installed():
-    return bool(shutil.which("chromedriver") and (shutil.which("chromium") or shutil.which("google-chrome")))
+    return bool(
+        shutil.which("chromedriver") and (shutil.which("chromium") or shutil.which("google-chrome"))
+    )
 
 
 def free_port():
@@ -39,11 +43,16 @@ class Browser:
         port = free_port()
         self.base = f"http://127.0.0.1:{port}"
         command = ["chromedriver", f"--port={port}"]
-        self.driver = subprocess.Popen(command, stdout=subprocess.DEVNULL, stderr=subprocess.DEVNULL)
+        self.driver = subprocess.Popen(
+            command, stdout=subprocess.DEVNULL, stderr=subprocess.DEVNULL
+        )
         args = ["--headless=new", "--hide-scrollbars", "--window-size=1400,900", "--disable-gpu"]
         # a sandbox needs another user than root
         args += ["--no-sandbox"] if os.geteuid() == 0 else []
-        options = {"args": args, "prefs": {"download.default_directory": str(downloads)} if downloads else {}}
+        options = {
+            "args": args,
+            "prefs": {"download.default_directory": str(downloads)} if downloads else {},
+        }
         asked = {"capabilities": {"alwaysMatch": {"goog:chromeOptions": options}}}
         self.base += f"/session/{self.begun(asked)['sessionId']}"
 
@@ -89,7 +98,12 @@ class Browser:
         """The pointer moves onto an element."""
         origin = {ELEMENT: self.find(css)}
         move = {"type": "pointerMove", "duration": 0, "origin": origin, "x": 0, "y": 0}
-        pointer = {"type": "pointer", "id": "mouse", "parameters": {"pointerType": "mouse"}, "actions": [move]}
+        pointer = {
+            "type": "pointer",
+            "id": "mouse",
+            "parameters": {"pointerType": "mouse"},
+            "actions": [move],
+        }
         self.call("POST", "/actions", {"actions": [pointer]})
 
     def type(self, css, text):
@@ -103,7 +117,9 @@ class Browser:
             pressed = [KEYS.get(each, each) for each in held]
             actions += [{"type": "keyDown", "value": each} for each in pressed]
             actions += [{"type": "keyUp", "value": each} for each in reversed(pressed)]
-        self.call("POST", "/actions", {"actions": [{"type": "key", "id": "keys", "actions": actions}]})
+        self.call(
+            "POST", "/actions", {"actions": [{"type": "key", "id": "keys", "actions": actions}]}
+        )
 
     def fill(self, css, text):
         """All text of a field, as a hand types it."""

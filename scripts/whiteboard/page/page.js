@@ -66,6 +66,7 @@ class Editor {
     this.list = place.querySelector(".notes");
     this.marks = [];
     this.notes = [];
+    this.glosses = {};
     this.area.addEventListener("input", () => {
       this.keep();
       this.draw();
@@ -102,6 +103,9 @@ class Editor {
     const before = this.drawn ?? lines;
     this.marks = this.marks.filter((mark) => piece(lines, mark) === mark.text);
     this.notes = this.notes.filter((note) => lines[note.line - 1] === before[note.line - 1]);
+    for (const line of Object.keys(this.glosses)) {
+      if (lines[line - 1] !== before[line - 1]) delete this.glosses[line];
+    }
   }
 
   follow() {
@@ -129,7 +133,8 @@ class Editor {
     this.follow();
   }
 
-  /** A line's pieces: a span for each mark, at least one letter wide; then what is said of it. */
+  /** A line's pieces: a span for each mark, at least one letter wide; then what is said of it,
+   * or the line by names. */
   *line(line, number) {
     const notes = this.notes.filter((note) => note.line === number);
     const faults = notes.map((note) => ({ ...note, class: "fault" }));
@@ -144,6 +149,7 @@ class Editor {
     }
     yield letters.slice(at).join("");
     if (notes.length) yield element("span", "lens", notes[0].said);
+    else if (this.glosses[number]) yield element("span", "gloss", this.glosses[number]);
   }
 
   drawNotes() {
@@ -155,7 +161,8 @@ class Editor {
     const item = element("li");
     if (note.line) item.append(button("", `line ${note.line}`, () => this.go(note)));
     item.append(element("span", "", note.said));
-    if (note.offer) item.append(button("offer", `name it: ${note.offer}`, () => offered(note.offer)));
+    const { offer } = note;
+    if (offer) item.append(button("offer", `name it: ${offer}`, () => offered(offer)));
     return item;
   }
 
@@ -247,43 +254,49 @@ async function now() {
   for (const [name, editor] of Object.entries(editors)) {
     editor.notes = found.notes.filter((note) => note.field === name);
   }
+  editors.sheet.glosses = found.glosses;
   light(null);
   editors.names.draw();
   const isOld = !found.verdict && $("readings").childElementCount > 0;
   const old = isOld ? [[{ text: "Below is what was read before." }]] : [];
-  tell([...found.sentences, ...old], found.verdict === "none" && !words.length ? "empty" : found.verdict);
+  const isEmpty = found.verdict === "none" && !words.length;
+  tell([...found.sentences, ...old], isEmpty ? "empty" : found.verdict);
   $("readings").classList.toggle("stale", !found.verdict);
   if (found.verdict) show(found.readings, found.noun);
 }
 
 /** The answer: its first sentence stands out, pieces of sheet and patch have their letters. */
 function tell(sentences, verdict) {
-  const parts = (sentence) => sentence.map((part) => element(part.code ? "code" : "span", "", part.text));
-  const [first, ...rest] = sentences.map(parts);
+  const part = ({ code, text }) => element(code ? "code" : "span", "", text);
+  const [first, ...rest] = sentences.map((parts) => parts.map(part));
   $("answer").dataset.verdict = verdict;
   document.querySelector("#answer strong").replaceChildren(...first);
-  document.querySelector("#answer > span").replaceChildren(...rest.flatMap((each) => [...each, " "]));
+  const more = rest.flatMap((each) => [...each, " "]);
+  document.querySelector("#answer > span").replaceChildren(...more);
 }
 
 const viewOf = () => document.querySelector('input[name="view"]:checked').value;
 let isChosen = false;
 
-/** Shows readings; as long as nobody has chosen a view, as trees where they fit, else as outlines. */
+/** Shows readings; until somebody chooses a view, as trees where they fit, else as outlines. */
 function show(readings, noun) {
   const place = $("readings");
   place.readings = readings;
   place.noun = noun;
-  const made = (view) => readings.map((reading, n) => shown(reading, n, readings.length === 2, view, noun));
+  const both = readings.length === 2;
+  const made = (view) => readings.map((reading, n) => shown(reading, n, both, view, noun));
   const before = [...place.querySelectorAll(".scroll")].map((each) => each.scrollLeft);
   if (!isChosen) {
     place.replaceChildren(...made("tree"));
     const fits = [...place.querySelectorAll("svg")].every(
       (svg) => Number(svg.getAttribute("width")) <= 1.25 * place.clientWidth,
     );
-    document.querySelector(`input[name="view"][value="${fits ? "tree" : "outline"}"]`).checked = true;
+    const view = fits ? "tree" : "outline";
+    document.querySelector(`input[name="view"][value="${view}"]`).checked = true;
   }
   place.replaceChildren(...made(viewOf()));
   place.querySelectorAll(".scroll").forEach((scroll, n) => see(scroll, before[n] ?? 0));
+  document.querySelector(".views").hidden = readings.length === 0;
   $("legend").hidden = readings.length !== 2;
   $("hint").hidden = readings.length === 0;
   $("repair").hidden = readings.length !== 2 || noun === "tree";
@@ -304,7 +317,8 @@ function shown(reading, n, both, view, noun) {
   const side = both ? ["first", "second"][n] : "";
   const made = element("section", `shown ${side} ${view === "outline" ? "outlined" : ""}`);
   const name = noun === "tree" ? "tree" : "reading";
-  const title = element("h2", "", both ? `${name[0].toUpperCase()}${name.slice(1)} ${n + 1}` : `The ${name}`);
+  const heading = both ? `${name[0].toUpperCase()}${name.slice(1)} ${n + 1}` : `The ${name}`;
+  const title = element("h2", "", heading);
   const scroll = element("div", "scroll");
   scroll.tabIndex = 0;
   scroll.setAttribute("role", "group");
@@ -460,7 +474,10 @@ $("how").addEventListener("click", () => {
   $("help").querySelector("summary").focus();
 });
 $("open").addEventListener("click", () => $("files").click());
-$("files").addEventListener("change", () => open($("files").files).then(() => ($("files").value = "")));
+$("files").addEventListener("change", async () => {
+  await open($("files").files);
+  $("files").value = "";
+});
 $("save").addEventListener("toggle", () => $("save").open && save());
 $("fold").addEventListener("change", () => {
   opened = [];
