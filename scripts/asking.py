@@ -107,26 +107,24 @@ class Programs:
             raise Refused(refusal)
         return output
 
-    def run(self, command, data):
-        """The whole output of a command, once it has its turn."""
+    def run(self, command, data, is_heard=False):
+        """The whole output of a command, once it has its turn; `is_heard`: what it says on standard
+        error passes through.
+        """
         if self.turns is None:
-            return self.run_now(command, data)
+            return self.run_now(command, data, is_heard)
         if not self.turns.acquire(timeout=self.seconds):
             raise Unanswered("other questions are being answered: try again")
         try:
-            return self.run_now(command, data)
+            return self.run_now(command, data, is_heard)
         finally:
             self.turns.release()
 
-    def run_now(self, command, data):
+    def run_now(self, command, data, is_heard=False):
         try:
-            made = subprocess.Popen(
-                command,
-                stdin=subprocess.PIPE,
-                stdout=subprocess.PIPE,
-                stderr=subprocess.PIPE,
-                start_new_session=True,
-            )
+            errors = None if is_heard else subprocess.PIPE
+            pipes = {"stdin": subprocess.PIPE, "stdout": subprocess.PIPE, "stderr": errors}
+            made = subprocess.Popen(command, **pipes, start_new_session=True)
         except OSError as error:
             raise Unanswered(f"the program could not be run: {error.strerror}") from error
         with made:
@@ -135,7 +133,7 @@ class Programs:
             except BaseException:
                 stop(made)
                 raise
-        said = errors.decode("utf-8", "replace").strip()
+        said = (errors or b"").decode("utf-8", "replace").strip()
         if made.returncode < 0:
             raise Unanswered(
                 f"the program was ended by signal {-made.returncode} (does the stack have 2 MB?)"

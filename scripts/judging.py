@@ -121,11 +121,14 @@ def find(sheet):
     help_text = sheet.programs.run([command], b"")
     if not re.search(rb"^  find\b", help_text, re.MULTILINE):
         return None
+    is_limited = bool(sheet.programs.seconds)
+    if is_limited and not (TOP / "target" / "bin" / "finder").exists():
+        # it would be built first, which takes longer than there is time
+        return None
     sheet.say("looking for a longer patch")
+    words = ["find", "--seconds", str(sheet.seconds), "-"]
     try:
-        output = sheet.programs.run(
-            [command, "find", "--seconds", str(sheet.seconds), "-"], sheet.data
-        )
+        output = sheet.programs.run([command, *words], sheet.data, is_heard=not is_limited)
     except Unanswered:
         return None
     word, rest = sheet.word(output)

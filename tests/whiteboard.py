@@ -684,7 +684,7 @@ class Page(unittest.TestCase):
         self.assertEqual(len(self.all("#readings svg")), 2)
         self.assertEqual(self.all("#readings .parts title"), ["block: stmt+:align (line 2)"] * 2)
         if os.environ.get("WHITEBOARD_SHOT"):
-            browser.look(1180, 700)
+            browser.look(1000, 700)
             browser.run("document.activeElement.blur(); window.scrollTo(0, 0)")
             browser.shot(os.environ["WHITEBOARD_SHOT"])
             browser.look()
@@ -703,6 +703,15 @@ class Page(unittest.TestCase):
         self.assertEqual(self.all(".under .fault"), [":"])
         self.assertEqual(self.all(".gutter .fault"), ["3\n"])
         self.assertEqual(len(self.all(".under .lens")), 1)
+        self.assertEqual(self.all(".under .gloss"), ["block: stmt+:align"])
+        # what is said beside a line moves no mark: the letters beneath stand as those of the field
+        for high, lines in zip(self.all(".under", "offsetHeight"), (4, 4, 3)):
+            self.assertLessEqual(abs(high - 24 * lines - 16), 25)
+        heights = "const [a, b] = document.querySelectorAll('.under .gloss, .under .fault');"
+        heights += (
+            "return b.getBoundingClientRect().top - a.parentElement.getBoundingClientRect().top"
+        )
+        self.assertAlmostEqual(self.browser.run(heights), 8 + 2 * 24 + 3, delta=3)
         # what was read before stays, dimmed
         self.assertEqual(len(self.all("#readings.stale svg")), 2)
         self.browser.click("#sheet-notes button")

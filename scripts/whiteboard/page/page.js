@@ -75,7 +75,10 @@ class Editor {
       later();
     });
     this.area.addEventListener("scroll", () => this.follow());
-    if (this.ruler) document.addEventListener("selectionchange", () => this.rule());
+    if (this.ruler) {
+      document.addEventListener("selectionchange", () => this.rule());
+      this.area.addEventListener("blur", () => this.rule());
+    }
   }
 
   get text() {
