@@ -656,6 +656,30 @@ reading 2
             PROGRAMS.answer("calls", rules, tokens, rights, call=b"call user\nshow 4\n")
         )[1]
 
+    def test_closed_nodes_by_chance(self):
+        """A box for each closed row and a token for each leaf that is shown, whatever may be seen."""
+        draw, count = random.Random(9), 0
+        for sheet, tokens in drawn_sheets(250, 31):
+            low = draw.randrange(4)
+            ranges = f"4 {low} {low + draw.randrange(12)} see\n4 0 {draw.randrange(3)} see\n"
+            rights = f"user low high may\n{ranges}".encode()
+            try:
+                answer = read(PROGRAMS, Question(True, sheet, tokens, rights, 4))
+                rules = PROGRAMS.answer("calls", sheet, call=b"call\nexpand\n").split(b"\n", 2)[2]
+                show = b"call user\nshow 4\n"
+                rows = rows_of(PROGRAMS.answer("calls", rules, tokens, rights, call=show))[1]
+            except Refused:
+                continue
+            for top, listed in zip(answer.boxes().all(chained=True), rows, strict=True):
+                kinds = [box.kind for box in top.walk()]
+                for kind, letter in (("closed", "C"), ("token", "A")):
+                    wanted = [row for row in listed if row[1] == letter]
+                    self.assertEqual(kinds.count(kind), len(wanted), (sheet, rights, listed))
+                count += kinds.count("closed")
+            ElementTree.fromstring(Picture(answer).svg())
+            "\n".join(outline(answer.boxes().all(), answer.tokens))
+        self.assertGreater(count, 30)
+
     def test_rules_for_a_user(self):
         data = (EXAMPLES / "two-trees.check").read_bytes() + b"\nuser low high may\n"
         picture = ElementTree.fromstring(run(DRAW, "--user", 5, data=data).stdout)

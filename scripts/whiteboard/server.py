@@ -6,7 +6,7 @@ import socket
 from http.server import BaseHTTPRequestHandler, ThreadingHTTPServer
 from pathlib import Path
 
-from asking import Programs, Unanswered, at_most
+from asking import Programs, at_most
 from drawing.svg import COLOURS, css
 from reading.cells import WIDE
 
