@@ -1,0 +1,44 @@
+//! A sentence with lines and columns.
+
+use teplonga::{verdict, words_for, Answer, Column, Line, Token};
+
+use crate::layout::Layout;
+use crate::search::Model;
+
+/// A patch that may have two trees; the proved verdict decides.
+#[derive(Clone, Debug, PartialEq, Eq)]
+pub struct Patch(pub Vec<Token>);
+
+impl Patch {
+    /// The patch of a model: a token's column is one past the number of columns left of it.
+    pub fn of(model: &Model, layout: &Layout, terminals: &[usize]) -> Patch {
+        let count = terminals.len();
+        let is_left = |a: usize, b: usize| !model.holds(layout.at_most(b, a));
+        // of the tokens in one column the first counts
+        let counts = |a: usize| (0..a).all(|b| is_left(a, b) || is_left(b, a));
+        let columns = (0..count)
+            .map(|it| 1 + (0..it.max(count)).filter(|&a| is_left(a, it) && counts(a)).count());
+        let mut line = 0;
+        let mut tokens = Vec::new();
+        for (token, column) in columns.enumerate() {
+            line += u16::from(model.holds(layout.begins(token)));
+            let terminal = u8::try_from(terminals[token]).expect("a terminal is below 64");
+            let column = u16::try_from(column).expect("a column is at most 64");
+            tokens.push(Token { terminal, line: Line(line), column: Column(column) });
+        }
+        Patch(tokens)
+    }
+
+    /// The token sheet.
+    pub fn sheet(&self) -> String {
+        let row = |it: &Token| format!("{} {} {}\n", it.terminal, it.line.0, it.column.0);
+        let rows: String = self.0.iter().map(row).collect();
+        format!("term line col\n{rows}")
+    }
+
+    /// Does the proved verdict say that it has two trees?
+    pub fn is_two(&self, rules: &[u8]) -> bool {
+        let mut words = vec![0; words_for(self.0.len())];
+        verdict(rules, self.sheet().as_bytes(), &mut words).answer == Answer::Two
+    }
+}
