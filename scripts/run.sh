@@ -117,6 +117,16 @@ build() { # PROGRAM
     touch "$top/target/bin/$1"
 }
 
+# Sees that the program is there. A script whose program is built in another way has a function of its own.
+ready() { # PROGRAM
+    is_built "$1" || build "$1"
+}
+
+# Runs the program on standard input, likewise.
+run() { # PROGRAM
+    "$top/target/bin/$1"
+}
+
 # Why a file cannot be read; nothing where it seems that it can.
 unreadable() { # FILE
     if [ "$1" = - ] || [ "$1" = /dev/stdin ]; then
@@ -132,7 +142,7 @@ unreadable() { # FILE
 
 # The output of the program for what stands on standard input, in `out`; its sentence is on standard error already.
 ask() { # PROGRAM FILE
-    out=$("$top/target/bin/$1")
+    out=$(run "$1")
     ended=$?
     if [ "$ended" -gt 128 ]; then
         unanswered "$2: the program was ended by signal $((ended - 128)) (does the stack have 2 MB?)"
@@ -194,7 +204,7 @@ answers() { # PROGRAM FRONT FILE ..
     shift 2
     [ $# -gt 0 ] || set -- -
     if [ -t 2 ]; then words=1; fi
-    is_built "$program" || build "$program" || exit 3
+    ready "$program" || exit 3
     several=$#
     for file in "$@"; do
         if [ "$several" -gt 1 ]; then printf '==> %s <==\n' "$file" >&2; fi

@@ -83,6 +83,8 @@ def sheets_of(program, data):
     """The names of the sheets of an input."""
     if program in SHEETS:
         return SHEETS[program]
+    if program == "finder":
+        return ["clause sheet" if data.startswith(b"left clause\n") else "rule sheet"]
     names, values, *_ = data.split(b"\n", 2)
     call = values.split(b" ")[0].decode("latin-1")
     return CALLS["clauses bound" if (call, names) == ("clauses", b"call bound") else call]
