@@ -66,7 +66,7 @@ find_options() {
 
 # The crates that export C functions.
 faces() {
-    (cd "$top/crates" && grep -l 'pub extern "C" fn' */src/*.rt) | cut -d/ -f1 | sort -u
+    (cd "$top/crates" && grep -l 'pub extern "C" fn' */src/*.rt 2>/dev/null) | cut -d/ -f1 | sort -u
 }
 
 # Is the library of a crate no older than what it is made of?

@@ -75,7 +75,7 @@ impl<'a> Finder<'a> {
         let Problem { formula, tokens, layout } = Problem::of(&self.sheet, length, limits)?;
         let mut search: Box<dyn Search> = match self.solver {
             Some(program) => Box::new(Outside::new(program, formula)),
-            None => Box::new(Learning::new(formula)),
+            None => Box::new(Learning::new(formula, limits)?),
         };
         let Some(model) = search.solve(&[], limits)? else { return Ok(None) };
         let (classes, literals) = tokens.in_model(&model);

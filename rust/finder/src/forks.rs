@@ -188,12 +188,12 @@ mod tests {
             let mut formula = Formula::new();
             let all: Vec<Literal> = (0..count).map(|_| formula.variable(false)).collect();
             two_of(Literal::TRUE, &all, &mut formula);
-            let mut search = Learning::new(formula);
+            let mut limits = Limits::new(Duration::from_secs(3600), usize::MAX);
+            let mut search = Learning::new(formula, &limits).unwrap();
             for chosen in 0..1_u32 << count {
                 let is = |place: usize| chosen >> place & 1 == 1;
                 let assumed: Vec<Literal> =
                     (0..count).map(|it| if is(it) { all[it] } else { !all[it] }).collect();
-                let mut limits = Limits::new(Duration::from_secs(3600), usize::MAX);
                 let found = search.solve(&assumed, &mut limits).unwrap().is_some();
                 assert_eq!(found, chosen.count_ones() > 1, "{chosen:b} of {count}");
             }

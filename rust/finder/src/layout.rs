@@ -184,7 +184,7 @@ mod tests {
             let begins = a == 0 || places[a].0 > places[a - 1].0;
             formula.clause(&[if begins { layout.begins(a) } else { !layout.begins(a) }]);
         }
-        Learning::new(formula).solve(&[], &mut limits()).unwrap()
+        Learning::new(formula, &limits()).unwrap().solve(&[], &mut limits()).unwrap()
     }
 
     #[test]

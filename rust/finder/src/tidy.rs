@@ -136,3 +136,62 @@ fn drop_column(tokens: &mut [Token], column: u16) {
     let past = tokens.iter_mut().filter(|it| it.column.0 > column);
     past.for_each(|it| it.column.0 -= 1);
 }
+
+#[cfg(test)]
+mod tests {
+    use super::*;
+    use crate::formula::Formula;
+    use crate::search::learning::Learning;
+    use std::time::Duration;
+    use teplonga::{Column, Line};
+
+    const TOKENS: usize = 4;
+
+    fn limits(seconds: u64) -> Limits {
+        Limits::new(Duration::from_secs(seconds), usize::MAX)
+    }
+
+    fn places(patch: &Patch) -> Vec<(u16, u16)> {
+        patch.0.iter().map(|token| (token.line.0, token.column.0)).collect()
+    }
+
+    fn patch(places: &[(u16, u16)]) -> Patch {
+        let token =
+            |&(line, column)| Token { terminal: 0, line: Line(line), column: Column(column) };
+        Patch(places.iter().map(token).collect())
+    }
+
+    /// Four tokens of which the last is to be left of the third, tidied in so many seconds.
+    fn tidied(seconds: u64) -> Patch {
+        let mut formula = Formula::new();
+        let layout = Layout::any(TOKENS, &mut formula, &limits(3600)).unwrap();
+        formula.clause(&[!layout.at_most(2, 3)]);
+        // all lines begin until tidying asks for fewer
+        formula.likely.iter_mut().for_each(|likely| *likely = true);
+        let mut search = Learning::new(formula, &limits(3600)).unwrap();
+        let model = search.solve(&[], &mut limits(3600)).unwrap().unwrap();
+        let tidy = Tidy::new(&mut search, &layout, &limits(seconds), (Vec::new(), model));
+        Patch::of(&tidy.model(TOKENS), &layout, &[0; TOKENS])
+    }
+
+    #[test]
+    fn lines_are_few_and_begin_under_others() {
+        assert_eq!(places(&tidied(3600)), [(1, 1), (1, 2), (1, 3), (2, 1)]);
+        let untidied = places(&tidied(0));
+        assert_eq!(untidied.iter().map(|place| place.0).collect::<Vec<_>>(), [1, 2, 3, 4]);
+    }
+
+    #[test]
+    fn gaps_are_closed_as_far_as_the_verdict_stays() {
+        let rules = b"left kind first second lay\n0 B 0 0 none\n0 A 0 - none\n";
+        let wide = patch(&[(1, 2), (1, 5), (2, 9), (2, 12)]);
+        assert_eq!(
+            places(&close_up(wide.clone(), rules, &limits(3600))),
+            [(1, 1), (1, 2), (2, 2), (2, 3)]
+        );
+        assert_eq!(close_up(wide.clone(), rules, &limits(0)), wide);
+        let aligned = b"left kind first second lay\n0 B 0 0 align\n0 A 0 - none\n";
+        let column = patch(&[(1, 3), (2, 3), (3, 3)]);
+        assert_eq!(places(&close_up(column, aligned, &limits(3600))), [(1, 1), (2, 1), (3, 1)]);
+    }
+}

@@ -13,6 +13,9 @@ const RUN: u64 = 64;
 /// Watches to go through between two looks at the limits: some tenths of a millisecond.
 const UNLOOKED: usize = 1 << 15;
 
+/// Clauses to watch between two looks.
+const CLAUSES: usize = 1 << 12;
+
 /// Learned clauses to keep before the first are freed.
 const LEARNED: usize = 4000;
 
@@ -45,7 +48,7 @@ pub struct Learning {
 
 impl Learning {
     /// Takes over the formula's clauses.
-    pub fn new(formula: Formula) -> Learning {
+    pub fn new(formula: Formula, limits: &Limits) -> Result<Learning, Stop> {
         let variables = formula.likely.len();
         let mut search = Learning {
             clauses: formula.clauses,
@@ -59,15 +62,18 @@ impl Learning {
             unlooked: 0,
             impossible: formula.impossible,
         };
-        search.watch_all();
-        search
+        search.watch_all(limits)?;
+        Ok(search)
     }
 
     /// Watches the first two literals of every clause; a clause of one literal sets it.
-    fn watch_all(&mut self) {
+    fn watch_all(&mut self, limits: &Limits) -> Result<(), Stop> {
         self.watches.iter_mut().for_each(Vec::clear);
         let mut alone = Vec::new();
-        for clause in self.clauses.iter() {
+        for (count, clause) in self.clauses.iter().enumerate() {
+            if count % CLAUSES == 0 {
+                limits.look()?;
+            }
             match *self.clauses.literals(clause) {
                 [] => self.impossible = true,
                 [literal] => alone.push(literal),
@@ -83,6 +89,7 @@ impl Learning {
                 self.trail.set(literal, None);
             }
         }
+        Ok(())
     }
 
     /// Sets all that follows; the clause that has become false, if one has.
@@ -183,19 +190,19 @@ impl Learning {
     /// Frees the half of the learned clauses that is worth least. To be asked at level 0, where all
     /// has been followed: there no reason is looked at any more, and the two watched literals of a
     /// clause are still its first.
-    fn free(&mut self) {
+    fn free(&mut self, limits: &Limits) -> Result<(), Stop> {
         let worth = |clauses: &Clauses, clause: Clause| {
             (clauses.score(clause), clauses.literals(clause).len())
         };
         let learned = self.clauses.iter().filter(|&it| self.clauses.score(it) > 0);
         let mut worths: Vec<_> = learned.map(|clause| worth(&self.clauses, clause)).collect();
         worths.sort_unstable();
-        let Some(&middle) = worths.get(worths.len() / 2) else { return };
+        let Some(&middle) = worths.get(worths.len() / 2) else { return Ok(()) };
         self.clauses
             .retain(|all, clause| all.score(clause) <= KEPT_SCORE || worth(all, clause) < middle);
         self.learned = self.clauses.iter().filter(|&it| self.clauses.score(it) > 0).count();
         self.most_learned = (self.most_learned + self.most_learned / 10).max(2 * self.learned);
-        self.watch_all();
+        self.watch_all(limits)
     }
 
     /// The next literal to decide on: an assumed one, else the most active variable's. An error
@@ -261,7 +268,7 @@ impl Learning {
             restarts += 1;
             self.back(0);
             if self.learned > self.most_learned {
-                self.free();
+                self.free(limits)?;
             }
         }
     }
@@ -338,7 +345,7 @@ mod tests {
         let mut counts = [0; 2];
         for seed in 0..400 {
             let clauses = drawn(seed, 9, 30 + seed as usize % 20);
-            let mut search = Learning::new(formula(9, &clauses));
+            let mut search = Learning::new(formula(9, &clauses), &limits()).unwrap();
             for assumed in drawn(seed + 1000, 9, 3) {
                 let found = search.solve(&assumed, &mut limits()).unwrap();
                 assert_eq!(found.is_some(), tried(9, &clauses, &assumed), "{seed}");
@@ -367,7 +374,7 @@ mod tests {
 
     #[test]
     fn learned_clauses_are_freed_and_nothing_is_lost() {
-        let mut search = Learning::new(pigeons(7));
+        let mut search = Learning::new(pigeons(7), &limits()).unwrap();
         search.most_learned = 50;
         assert_eq!(search.solve(&[], &mut limits()), Ok(None));
         assert!(search.most_learned > 50, "none were freed");
@@ -378,12 +385,15 @@ mod tests {
 
     #[test]
     fn it_ends_where_its_limits_do() {
-        let mut search = Learning::new(pigeons(9));
+        let mut search = Learning::new(pigeons(9), &limits()).unwrap();
         let mut few = limits().with_conflicts(100);
         assert_eq!(search.solve(&[], &mut few), Err(Stop::Conflicts));
         let mut short = Limits::new(Duration::from_millis(5), usize::MAX);
         assert_eq!(search.solve(&[], &mut short), Err(Stop::Time));
-        assert_eq!(Learning::new(pigeons(3)).solve(&[], &mut limits()), Ok(None));
+        assert_eq!(
+            Learning::new(pigeons(3), &limits()).unwrap().solve(&[], &mut limits()),
+            Ok(None)
+        );
     }
 
     #[test]
