@@ -31,7 +31,7 @@ impl Empty {
     }
 }
 
-/// The nonterminals below a rule that may have the empty word; none of an A rule, which has a token.
+/// The nonterminals below a rule that may have the empty word; none of an A rule: it has a token.
 fn parts(rule: &Rule) -> Option<[Option<usize>; 2]> {
     match rule.kind {
         Kind::Empty => Some([None, None]),

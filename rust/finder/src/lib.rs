@@ -4,8 +4,8 @@
 //! both trees and the layout at once: the nodes of all trees of that length, their choices, the
 //! order of the columns and the beginnings of lines become variables that are true or false, and
 //! clauses say how they hang together (`trees`, `layout`, `tokens`). One more clause asks for a
-//! fork: a node in a whole tree that has two choices (`forks`). A model of all clauses is a sentence
-//! (`patch`), which is then made easy to read (`tidy`).
+//! fork: a node in a whole tree that has two choices (`forks`). A model of all clauses (`search`) is
+//! a sentence (`patch`), which is then made easy to read (`tidy`).
 //!
 //! Nothing of it is proved. A sentence counts because the proved verdict says `two` of it, and
 //! where nothing is found nothing is claimed.

@@ -19,9 +19,9 @@ impl Patch {
         let left_of = |it: usize| (0..count).filter(move |&a| is_left(a, it) && counts(a)).count();
         let mut line = 0;
         let mut tokens = Vec::new();
-        for token in 0..count {
+        for (token, &terminal) in terminals.iter().enumerate() {
             line += u16::from(model.holds(layout.begins(token)));
-            let terminal = u8::try_from(terminals[token]).expect("a terminal is below 64");
+            let terminal = u8::try_from(terminal).expect("a terminal is below 64");
             let column = u16::try_from(1 + left_of(token)).expect("a column is at most 64");
             tokens.push(Token { terminal, line: Line(line), column: Column(column) });
         }
