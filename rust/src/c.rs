@@ -1,4 +1,5 @@
-//! The proved library's C functions. All of the crate's `unsafe` is here.
+//! The proved library's C functions, declared once, and each as a function on
+//! slices. All of the crate's `unsafe` is in the macro `call`.
 //!
 //! The library is proved on slices: pointers that are not null, each with its
 //! length. It reads and writes within them alone, keeps none of them, and asks
@@ -54,93 +55,349 @@ extern "C" {
         tokens_length: usize,
         line: *mut Part,
     );
+
+    fn teplonga_rows(
+        rules: *const u8,
+        rules_length: usize,
+        tokens: *const u8,
+        tokens_length: usize,
+        words: *mut u64,
+        words_length: usize,
+        counts: *mut u64,
+        counts_length: usize,
+    ) -> u64;
+
+    fn teplonga_places(
+        rules: *const u8,
+        rules_length: usize,
+        tokens: *const u8,
+        tokens_length: usize,
+        words: *mut u64,
+        words_length: usize,
+        list: *mut u8,
+        list_length: usize,
+        count: *mut u64,
+        count_length: usize,
+    ) -> u64;
+
+    fn teplonga_clause_verdict(
+        clauses: *const u8,
+        clauses_length: usize,
+        tokens: *const u8,
+        tokens_length: usize,
+        words: *mut u64,
+        words_length: usize,
+    ) -> u64;
+
+    fn teplonga_clause_trees(
+        clauses: *const u8,
+        clauses_length: usize,
+        tokens: *const u8,
+        tokens_length: usize,
+        words: *mut u64,
+        words_length: usize,
+        first: *mut u8,
+        first_length: usize,
+        second: *mut u8,
+        second_length: usize,
+        counts: *mut u64,
+        counts_length: usize,
+    ) -> u64;
+
+    fn teplonga_clause_sweep(
+        clauses: *const u8,
+        clauses_length: usize,
+        bound: usize,
+        words: *mut u64,
+        words_length: usize,
+        found: *mut u64,
+        found_length: usize,
+    ) -> u64;
+
+    fn teplonga_expand(
+        clauses: *const u8,
+        clauses_length: usize,
+        sheet: *mut u8,
+        sheet_length: usize,
+        count: *mut u64,
+        count_length: usize,
+    ) -> u64;
+
+    fn teplonga_clause_refused_line(
+        clauses: *const u8,
+        clauses_length: usize,
+        tokens: *const u8,
+        tokens_length: usize,
+        line: *mut Part,
+    );
+
+    fn teplonga_show(
+        rules: *const u8,
+        rules_length: usize,
+        tokens: *const u8,
+        tokens_length: usize,
+        rights: *const u8,
+        rights_length: usize,
+        user: usize,
+        words: *mut u64,
+        words_length: usize,
+        first: *mut u8,
+        first_length: usize,
+        second: *mut u8,
+        second_length: usize,
+        counts: *mut u64,
+        counts_length: usize,
+    ) -> u64;
+
+    fn teplonga_change(
+        rules: *const u8,
+        rules_length: usize,
+        rights: *const u8,
+        rights_length: usize,
+        user: usize,
+        rule: usize,
+        lay: *const u8,
+        lay_length: usize,
+        bytes: *mut u8,
+        bytes_length: usize,
+        count: *mut u64,
+        count_length: usize,
+    ) -> u64;
+
+    fn teplonga_share(
+        rules: *const u8,
+        rules_length: usize,
+        length: usize,
+        racks: usize,
+        index: usize,
+        words: *mut u64,
+        words_length: usize,
+        numbers: *mut u64,
+        numbers_length: usize,
+        found: *mut u64,
+        found_length: usize,
+    ) -> u64;
+
+    fn teplonga_columns(
+        rules: *const u8,
+        rules_length: usize,
+        ranges: *const u8,
+        ranges_length: usize,
+        words: *mut u64,
+        words_length: usize,
+        found: *mut u64,
+        found_length: usize,
+    ) -> u64;
+
+    fn teplonga_columns_refused_line(
+        rules: *const u8,
+        rules_length: usize,
+        ranges: *const u8,
+        ranges_length: usize,
+        line: *mut Part,
+    );
 }
 
-/// The verdict's code times 2^32 plus the line.
-pub fn verdict(rules: &[u8], tokens: &[u8], words: &mut [u64]) -> u64 {
-    // SAFETY: each pointer comes with its slice's length, and `words` is lent
-    // to this call alone.
-    unsafe {
-        teplonga_verdict(
-            rules.as_ptr(),
-            rules.len(),
-            tokens.as_ptr(),
-            tokens.len(),
-            words.as_mut_ptr(),
-            words.len(),
-        )
-    }
+/// Calls a C function: `read` hands on a slice, `write` a slice that is lent to
+/// be written, `number` a number, `part` the place of a part.
+macro_rules! call {
+    ($function:ident: $($way:ident $argument:expr),+) => {
+        call!(@ $function [] $($way $argument),+)
+    };
+    (@ $function:ident [$($given:expr),*] read $slice:expr $(, $($rest:tt)*)?) => {
+        call!(@ $function [$($given,)* $slice.as_ptr(), $slice.len()] $($($rest)*)?)
+    };
+    (@ $function:ident [$($given:expr),*] write $slice:expr $(, $($rest:tt)*)?) => {
+        call!(@ $function [$($given,)* $slice.as_mut_ptr(), $slice.len()] $($($rest)*)?)
+    };
+    (@ $function:ident [$($given:expr),*] number $number:expr $(, $($rest:tt)*)?) => {
+        call!(@ $function [$($given,)* $number] $($($rest)*)?)
+    };
+    (@ $function:ident [$($given:expr),*] part $part:expr $(, $($rest:tt)*)?) => {
+        call!(@ $function [$($given,)* &mut $part] $($($rest)*)?)
+    };
+    // SAFETY: each pointer comes with its slice's length. What is written is
+    // borrowed mutably, so it is lent to this call alone and overlaps nothing
+    // else of it. A part begins as one of the first sheet.
+    (@ $function:ident [$($given:expr),*]) => {
+        unsafe { $function($($given),*) }
+    };
 }
 
-/// The same for the trees, and the row counts of both.
+/// The answer of a call: its code times 2^32 plus the line.
+pub type Word = u64;
+
+/// The verdict.
+pub fn verdict(rules: &[u8], tokens: &[u8], words: &mut [u64]) -> Word {
+    call!(teplonga_verdict: read rules, read tokens, write words)
+}
+
+/// The verdict on a clause sheet.
+pub fn clause_verdict(clauses: &[u8], tokens: &[u8], words: &mut [u64]) -> Word {
+    call!(teplonga_clause_verdict: read clauses, read tokens, write words)
+}
+
+/// The verdict, and the row counts of both trees.
 pub fn trees(
     rules: &[u8],
     tokens: &[u8],
     words: &mut [u64],
     first: &mut [u8],
     second: &mut [u8],
-) -> (u64, [usize; 2]) {
+) -> (Word, [usize; 2]) {
     let mut counts = [0; 2];
-    // SAFETY: each pointer comes with its slice's length; `words`, `first`,
-    // `second` and `counts` are lent to this call alone, apart from each other.
-    let word = unsafe {
-        teplonga_trees(
-            rules.as_ptr(),
-            rules.len(),
-            tokens.as_ptr(),
-            tokens.len(),
-            words.as_mut_ptr(),
-            words.len(),
-            first.as_mut_ptr(),
-            first.len(),
-            second.as_mut_ptr(),
-            second.len(),
-            counts.as_mut_ptr(),
-            counts.len(),
-        )
-    };
-    (word, counts.map(|count: u64| count as usize))
+    let word = call!(
+        teplonga_trees: read rules, read tokens, write words, write first, write second,
+        write counts
+    );
+    (word, counts.map(in_memory))
 }
 
-/// The same for the sweep. `found` gets the sentence and how many candidates
-/// were tried, if it has 23 words.
-pub fn sweep(rules: &[u8], bound: usize, words: &mut [u64], found: &mut [u64]) -> u64 {
-    // SAFETY: each pointer comes with its slice's length; `words` and `found`
-    // are lent to this call alone, apart from each other.
-    unsafe {
-        teplonga_sweep(
-            rules.as_ptr(),
-            rules.len(),
-            bound,
-            words.as_mut_ptr(),
-            words.len(),
-            found.as_mut_ptr(),
-            found.len(),
-        )
-    }
+/// The same for a clause sheet.
+pub fn clause_trees(
+    clauses: &[u8],
+    tokens: &[u8],
+    words: &mut [u64],
+    first: &mut [u8],
+    second: &mut [u8],
+) -> (Word, [usize; 2]) {
+    let mut counts = [0; 2];
+    let word = call!(
+        teplonga_clause_trees: read clauses, read tokens, write words, write first, write second,
+        write counts
+    );
+    (word, counts.map(in_memory))
+}
+
+/// The verdict, and the numbers of rows shown of both trees.
+pub fn show(
+    [rules, tokens, rights]: [&[u8]; 3],
+    user: usize,
+    words: &mut [u64],
+    first: &mut [u8],
+    second: &mut [u8],
+) -> (Word, [usize; 2]) {
+    let mut counts = [0; 2];
+    let word = call!(
+        teplonga_show: read rules, read tokens, read rights, number user, write words,
+        write first, write second, write counts
+    );
+    (word, counts.map(in_memory))
+}
+
+/// The verdict, and the row counts of both trees, 2^32 for more than can be
+/// told.
+pub fn rows(rules: &[u8], tokens: &[u8], words: &mut [u64]) -> (Word, [u64; 2]) {
+    let mut counts = [0; 2];
+    let word = call!(teplonga_rows: read rules, read tokens, write words, write counts);
+    (word, counts)
+}
+
+/// The verdict, and the list's number of entries.
+pub fn places(rules: &[u8], tokens: &[u8], words: &mut [u64], list: &mut [u8]) -> (Word, usize) {
+    let mut count = [0; 1];
+    let word = call!(
+        teplonga_places: read rules, read tokens, write words, write list, write count
+    );
+    (word, in_memory(count[0]))
+}
+
+/// A word for each of none, one and two: 1 for yes.
+pub fn columns(rules: &[u8], ranges: &[u8], words: &mut [u64]) -> (Word, [u64; 3]) {
+    let mut found = [0; 3];
+    let word = call!(teplonga_columns: read rules, read ranges, write words, write found);
+    (word, found)
+}
+
+/// The sweep. `found` gets the sentence and how many candidates were tried, if
+/// it has 23 words.
+pub fn sweep(rules: &[u8], bound: usize, words: &mut [u64], found: &mut [u64]) -> Word {
+    call!(teplonga_sweep: read rules, number bound, write words, write found)
+}
+
+/// The same for a clause sheet.
+pub fn clause_sweep(clauses: &[u8], bound: usize, words: &mut [u64], found: &mut [u64]) -> Word {
+    call!(teplonga_clause_sweep: read clauses, number bound, write words, write found)
+}
+
+/// One share of a sweep: the lowest number, the quotient and the remainder.
+pub fn share(
+    rules: &[u8],
+    [length, racks, index]: [usize; 3],
+    words: &mut [u64],
+    found: &mut [u64],
+) -> (Word, [u64; 3]) {
+    let mut numbers = [0; 3];
+    let word = call!(
+        teplonga_share: read rules, number length, number racks, number index, write words,
+        write numbers, write found
+    );
+    (word, numbers)
+}
+
+/// The number of bytes of the changed sheet.
+pub fn change(
+    rules: &[u8],
+    rights: &[u8],
+    [user, rule]: [usize; 2],
+    lay: &[u8],
+    bytes: &mut [u8],
+) -> (Word, usize) {
+    let mut count = [0; 1];
+    let word = call!(
+        teplonga_change: read rules, read rights, number user, number rule, read lay, write bytes,
+        write count
+    );
+    (word, in_memory(count[0]))
+}
+
+/// The number of bytes of the expanded sheet.
+pub fn expand(clauses: &[u8], sheet: &mut [u8]) -> (Word, usize) {
+    let mut count = [0; 1];
+    let word = call!(teplonga_expand: read clauses, write sheet, write count);
+    (word, in_memory(count[0]))
 }
 
 /// The refused line, as a part of the sheet that holds it.
 pub fn refused_line<'a>(rules: &'a [u8], tokens: &'a [u8]) -> &'a [u8] {
-    let mut line = Part { at: rules.as_ptr(), length: 0 };
-    // SAFETY: each pointer comes with its slice's length; `line` is a part of
-    // `rules` and is lent to this call alone.
-    unsafe {
-        teplonga_refused_line(
-            rules.as_ptr(),
-            rules.len(),
-            tokens.as_ptr(),
-            tokens.len(),
-            &mut line,
-        );
-    }
-    within(rules, &line).or_else(|| within(tokens, &line)).expect("a part of one of the sheets")
+    let mut line = start_of(rules);
+    call!(teplonga_refused_line: read rules, read tokens, part line);
+    within_either(rules, tokens, &line)
+}
+
+/// That of a clause sheet and a token sheet.
+pub fn clause_refused_line<'a>(clauses: &'a [u8], tokens: &'a [u8]) -> &'a [u8] {
+    let mut line = start_of(clauses);
+    call!(teplonga_clause_refused_line: read clauses, read tokens, part line);
+    within_either(clauses, tokens, &line)
+}
+
+/// That of a rule sheet and a range sheet.
+pub fn columns_refused_line<'a>(rules: &'a [u8], ranges: &'a [u8]) -> &'a [u8] {
+    let mut line = start_of(rules);
+    call!(teplonga_columns_refused_line: read rules, read ranges, part line);
+    within_either(rules, ranges, &line)
+}
+
+/// A count of what lies in memory.
+fn in_memory(count: u64) -> usize {
+    count as usize
+}
+
+/// The first zero bytes of a sheet.
+fn start_of(sheet: &[u8]) -> Part {
+    Part { at: sheet.as_ptr(), length: 0 }
 }
 
 /// The part as a slice of this sheet, if it lies within.
-pub fn within<'a>(sheet: &'a [u8], part: &Part) -> Option<&'a [u8]> {
+fn within<'a>(sheet: &'a [u8], part: &Part) -> Option<&'a [u8]> {
     let start = part.at.addr().checked_sub(sheet.as_ptr().addr())?;
     sheet.get(start..start.checked_add(part.length)?)
+}
+
+/// The part as a slice of the one sheet or the other.
+fn within_either<'a>(one: &'a [u8], other: &'a [u8], part: &Part) -> &'a [u8] {
+    within(one, part).or_else(|| within(other, part)).expect("a part of one of the sheets")
 }
 
 #[cfg(test)]

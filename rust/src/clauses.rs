@@ -3,7 +3,7 @@
 //! They promise of the rules that a clause sheet expands to what the calls of
 //! the same names promise of a rule sheet.
 
-use crate::{c_clauses, sentence, Reply, SheetReply, SweepReply, TreesReply};
+use crate::{c, sentence, Reply, SheetReply, SweepReply, TreesReply};
 
 /// The most bytes of an expanded rule sheet.
 pub const MOST_EXPANDED: usize = 4096;
@@ -18,11 +18,22 @@ pub const MOST_EXPANDED: usize = 4096;
 /// assert_eq!(verdict(clauses, tokens, &mut vec![0; words_for(3)]).answer, Answer::Two);
 /// ```
 pub fn verdict(clauses: &[u8], tokens: &[u8], words: &mut [u64]) -> Reply {
-    Reply::unpacked(c_clauses::verdict(clauses, tokens, words))
+    Reply::unpacked(c::clause_verdict(clauses, tokens, words))
 }
 
 /// The verdict, and the rows of the first and the second tree under the
 /// expanded rules.
+///
+/// ```
+/// use teplonga::{clauses::trees, words_for, Answer};
+///
+/// let clauses = b"left clause\n0 t0 | n0 n0\n";
+/// let tokens = b"term line col\n0 1 1\n0 1 2\n0 1 3\n";
+/// let (mut first, mut second) = ([0; 4 * 32], [0; 4 * 32]);
+/// let reply = trees(clauses, tokens, &mut vec![0; words_for(3)], &mut first, &mut second);
+/// assert_eq!(reply.answer, Answer::Two);
+/// assert_eq!((reply.first.len(), reply.second.len()), (13, 13));
+/// ```
 pub fn trees<'a>(
     clauses: &[u8],
     tokens: &[u8],
@@ -30,14 +41,23 @@ pub fn trees<'a>(
     first: &'a mut [u8],
     second: &'a mut [u8],
 ) -> TreesReply<'a> {
-    let (word, counts) = c_clauses::trees(clauses, tokens, words, first, second);
+    let (word, counts) = c::clause_trees(clauses, tokens, words, first, second);
     TreesReply::unpacked(word, counts, first, second)
 }
 
 /// The first candidate of 1 to `bound` tokens that has two readings, or clear.
+///
+/// ```
+/// use teplonga::{clauses::sweep, words_for};
+///
+/// let clauses = b"left clause\n0 n1+:align\n1 t0 | t1 n0\n";
+/// let reply = sweep(clauses, 5, &mut vec![0; words_for(5)]);
+/// let words: Vec<u8> = reply.sentence().iter().map(|token| token.terminal).collect();
+/// assert_eq!(words, [1, 0, 0]);
+/// ```
 pub fn sweep(clauses: &[u8], bound: usize, words: &mut [u64]) -> SweepReply {
     let mut found = [0; sentence::PLACES];
-    let word = c_clauses::sweep(clauses, bound, words, &mut found);
+    let word = c::clause_sweep(clauses, bound, words, &mut found);
     SweepReply::unpacked(word, &found)
 }
 
@@ -55,7 +75,7 @@ pub fn sweep(clauses: &[u8], bound: usize, words: &mut [u64]) -> SweepReply {
 /// assert_eq!(expand(b"left clause\n0 t5\n", &mut lent).sheet, rules);
 /// ```
 pub fn expand<'a>(clauses: &[u8], sheet: &'a mut [u8]) -> SheetReply<'a> {
-    let (word, count) = c_clauses::expand(clauses, sheet);
+    let (word, count) = c::expand(clauses, sheet);
     SheetReply::unpacked(word, count, sheet)
 }
 
@@ -68,5 +88,5 @@ pub fn expand<'a>(clauses: &[u8], sheet: &'a mut [u8]) -> SheetReply<'a> {
 /// ```
 #[must_use]
 pub fn refused_line<'a>(clauses: &'a [u8], tokens: &'a [u8]) -> &'a [u8] {
-    c_clauses::refused_line(clauses, tokens)
+    c::clause_refused_line(clauses, tokens)
 }

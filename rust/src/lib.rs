@@ -42,16 +42,6 @@
 mod answer;
 #[allow(unsafe_code)]
 mod c;
-#[allow(unsafe_code)]
-mod c_clauses;
-#[allow(unsafe_code)]
-mod c_columns;
-#[allow(unsafe_code)]
-mod c_shares;
-#[allow(unsafe_code)]
-mod c_tours;
-#[allow(unsafe_code)]
-mod c_trees;
 pub mod clauses;
 mod columns;
 mod place;
@@ -162,7 +152,7 @@ pub fn trees<'a>(
 /// assert_eq!((reply.first, reply.second), (RowCount::Exact(5), RowCount::Exact(5)));
 /// ```
 pub fn rows(rules: &[u8], tokens: &[u8], words: &mut [u64]) -> RowsReply {
-    let (word, counts) = c_trees::rows(rules, tokens, words);
+    let (word, counts) = c::rows(rules, tokens, words);
     RowsReply::unpacked(word, counts)
 }
 
@@ -178,7 +168,7 @@ pub fn rows(rules: &[u8], tokens: &[u8], words: &mut [u64]) -> RowsReply {
 /// assert_eq!((reply.none, reply.one, reply.two), (true, true, false));
 /// ```
 pub fn columns(rules: &[u8], ranges: &[u8], words: &mut [u64]) -> ColumnsReply {
-    let (word, found) = c_columns::columns(rules, ranges, words);
+    let (word, found) = c::columns(rules, ranges, words);
     ColumnsReply::unpacked(word, found)
 }
 
@@ -192,7 +182,7 @@ pub fn columns(rules: &[u8], ranges: &[u8], words: &mut [u64]) -> ColumnsReply {
 /// ```
 #[must_use]
 pub fn columns_refused_line<'a>(rules: &'a [u8], ranges: &'a [u8]) -> &'a [u8] {
-    c_columns::refused_line(rules, ranges)
+    c::columns_refused_line(rules, ranges)
 }
 
 /// The verdict, and the list of every nonterminal and word at which a whole
@@ -218,7 +208,7 @@ pub fn places<'a>(
     words: &mut [u64],
     list: &'a mut [u8],
 ) -> PlacesReply<'a> {
-    let (word, count) = c_trees::places(rules, tokens, words, list);
+    let (word, count) = c::places(rules, tokens, words, list);
     PlacesReply::unpacked(word, count, list)
 }
 
@@ -248,7 +238,7 @@ pub fn show<'a>(
     first: &'a mut [u8],
     second: &'a mut [u8],
 ) -> TreesReply<'a> {
-    let (word, counts) = c_tours::show(sheets, user, words, first, second);
+    let (word, counts) = c::show(sheets, user, words, first, second);
     TreesReply::unpacked(word, counts, first, second)
 }
 
@@ -275,7 +265,7 @@ pub fn change<'a>(
     lay: &[u8],
     bytes: &'a mut [u8],
 ) -> SheetReply<'a> {
-    let (word, count) = c_tours::change(rules, rights, user, rule, lay, bytes);
+    let (word, count) = c::change(rules, rights, [user, rule], lay, bytes);
     SheetReply::unpacked(word, count, bytes)
 }
 
@@ -332,7 +322,7 @@ pub fn share(
     words: &mut [u64],
 ) -> ShareReply {
     let mut found = [0; sentence::PLACES];
-    let (word, numbers) = c_shares::share(rules, [length, racks, index], words, &mut found);
+    let (word, numbers) = c::share(rules, [length, racks, index], words, &mut found);
     ShareReply::unpacked(word, numbers, &found)
 }
 
