@@ -6,11 +6,8 @@ fn main() {
         return;
     }
     let bench = std::env::var("CARGO_MANIFEST_DIR").expect("set by cargo");
-    let folder = format!("{bench}/../target/staticlib");
+    let folder = format!("{bench}/../target/lib");
     println!("cargo:rustc-link-search=native={folder}");
-    for name in ["face", "face_trees", "face_clauses", "face_tours", "face_shares", "face_columns"]
-    {
-        println!("cargo:rerun-if-changed={folder}/lib{name}.a");
-        println!("cargo:rustc-link-lib=static={name}");
-    }
+    println!("cargo:rerun-if-changed={folder}/libteplonga.a");
+    println!("cargo:rustc-link-lib=static=teplonga");
 }

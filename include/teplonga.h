@@ -1,12 +1,11 @@
 /*
  * Teplonga's calls for C and C++, on x86-64 Linux.
  *
- * Link: `rt staticlib NAME` proves a library and writes target/staticlib/libNAME.a, where NAME is
- * face, face_trees (rows and places), face_clauses (clause sheets), face_tours (show and change),
- * face_shares (shares of a sweep) or face_columns (columns known between two ends);
- * a program takes those that have the functions that it calls, and nothing else:
+ * Link: `bin/library` proves the library and makes target/lib/libteplonga.a and libteplonga.so, and
+ * `bin/install` installs them. A program needs one of them and nothing else:
  *
- *     cc -I include program.c target/staticlib/libface.a target/staticlib/libface_trees.a
+ *     cc program.c $(pkg-config --cflags --libs teplonga)
+ *     cc -I include program.c target/lib/libteplonga.a
  *
  * Lent memory: sheets and memory are a pointer and a number of places. A pointer is never NULL, not
  * even with no places, and what is lent to a call to be written is lent to it once and overlaps

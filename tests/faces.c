@@ -3,7 +3,7 @@
  * patches. Lent memory stands between pages that may not be touched, at the end of its room and at the front, so a
  * read or write outside of it ends the test. Prints one line and ends with status 0, or says what is wrong.
  *
- *     cc -I include tests/faces.c target/staticlib/lib*.a -pthread
+ *     cc -I include tests/faces.c target/lib/libteplonga.a -pthread
  */
 #define _GNU_SOURCE
 #include <pthread.h>
