@@ -1,6 +1,7 @@
 """Questions, each with the answer of the reference in the line after it.
 
-    ask.py COUNT SEED    questions drawn by chance
+    ask.py COUNT SEED    questions drawn by chance, and then, for each answer of
+                         `required.txt` that none of them got, one that gets it
     ask.py -             the questions of standard input
 
 What questions look like is told in `questions.py`. An answer holds all that the
@@ -24,6 +25,9 @@ import shares  # noqa: E402
 import teplonga  # noqa: E402
 import tours  # noqa: E402
 from questions import hexed  # noqa: E402
+
+# Questions that are drawn for one answer, at most.
+TRIES = 50_000
 
 
 def bytes_of(text):
@@ -164,15 +168,48 @@ def answer(question):
     return CALLS[call](*arguments)
 
 
+def kind(question, reply):
+    """The call and the word of its answer."""
+    return (question.split(" ", 1)[0], reply.split(" ", 1)[0])
+
+
+def required():
+    """The answers that each call is to give at least once."""
+    with open(os.path.join(HERE, "required.txt"), encoding="ascii") as file:
+        lines = [line.split() for line in file if not line.startswith("#")]
+    return [(call, word) for call, *words in lines for word in words]
+
+
+def asked_for(wanted, seed):
+    """A question of this call that gets this answer, and the answer."""
+    for question in questions.of_call(wanted[0], f"{seed} {wanted}", TRIES):
+        reply = answer(question)
+        if kind(question, reply) == wanted:
+            return question, reply
+    sys.exit(f"no question was drawn that gets {' '.join(wanted)}")
+
+
+def drawn(count, seed):
+    """The drawn questions with their answers, then those for answers not met."""
+    met = set()
+    for question in questions.questions(count, seed):
+        reply = answer(question)
+        met.add(kind(question, reply))
+        yield question, reply
+    for wanted in required():
+        if wanted not in met:
+            yield asked_for(wanted, seed)
+
+
 def main():
     if sys.argv[1:] == ["-"]:
-        asked = sys.stdin.read().splitlines()
+        asked = ((question, answer(question)) for question in sys.stdin.read().splitlines())
     elif len(sys.argv) == 3:
-        asked = questions.questions(int(sys.argv[1]), int(sys.argv[2]))
+        asked = drawn(int(sys.argv[1]), int(sys.argv[2]))
     else:
         sys.exit(__doc__)
-    for question in asked:
-        print(question, answer(question), sep="\n")
+    for question, reply in asked:
+        print(question, reply, sep="\n")
 
 
 main()

@@ -324,8 +324,10 @@ def clause_pair(chance):
     way = chance.random()
     if way < 0.2:
         return sheets.clauses_damaged(chance, sheet), tokens
-    if way < 0.35:
+    if way < 0.3:
         return sheet, sheets.damaged(chance, tokens)
+    if way < 0.35:
+        return sheet, drawn(chance, {tokens_damaged: 3, past_64: 1})[1]
     return sheet, tokens
 
 
@@ -344,7 +346,17 @@ def of_clauses(chance):
     return f"clause-trees {hexed(sheet)} {hexed(tokens)} {words} {first} {second} {salt(chance)}"
 
 
+def of_many_terminals(chance):
+    """A clause sheet with more terminals than a long sweep takes."""
+    count = chance.randint(8, 24)
+    sheet = f"left clause\n0 {' | '.join(f't{terminal}' for terminal in range(count))}\n".encode()
+    bound = chance.randint(5, 7)
+    return f"clause-sweep {hexed(sheet)} {bound} {words_needed(bound)} {salt(chance)}"
+
+
 def of_a_clause_sweep(chance):
+    if chance.random() < 0.05:
+        return of_many_terminals(chance)
     sheet, _ = clause_pair(chance)
     reading, bound = clauses.read_clauses(sheet), chance.randint(0, 8)
     if reading[0] == "accepted":
@@ -370,12 +382,12 @@ def of_a_share(chance):
     """Shares of few arrangements, and refusals."""
     rules = sheets.rule_sheet(sheets.sound_rules(chance))
     if chance.random() < 0.15:
-        rules = sheets.damaged(chance, rules)
+        rules = drawn(chance, UNSOUND)[0]
     reading = teplonga.read_rules(rules)
     count = len(teplonga.terminals_of(reading[1])) if reading[0] == "accepted" else 1
     length = next((n for n in (3, 2, 1) if count**n * 3 ** (n - 1) * n**n <= 600), 1)
     if chance.random() < 0.1:
-        length = chance.choice([0, 8, 99, (1 << 64) - 1] + ([7] if count > 60 else []))
+        length = chance.choice([0, 8, 99, (1 << 64) - 1] + ([7, 7, 7] if count > 4 else []))
     racks = chance.choice([1, 2, 3, 5, 12, 64, 64, 0, 65])
     index = chance.choice([0, racks - 1 if racks else 0, racks, chance.randint(0, 70)])
     words = lent_words(chance, words_needed(min(length, 9)))
@@ -398,8 +410,10 @@ def of_columns(chance):
     sheet = ("term line low high\n" + "".join(lines)).encode()
     if chance.random() < 0.2:
         sheet = sheets.damaged(chance, sheet)
+    if chance.random() < 0.02:
+        sheet = ("term line low high\n" + "0 1 1 1\n" * chance.choice([65, 66])).encode()
     if chance.random() < 0.1:
-        rules = sheets.damaged(chance, rules)
+        rules = drawn(chance, UNSOUND)[0]
     words = lent_words(chance, words_needed(len(lines)))
     return f"columns {hexed(rules)} {hexed(sheet)} {words} {salt(chance)}"
 
@@ -425,7 +439,7 @@ def of_a_tour(chance):
 
 
 def of_a_change(chance):
-    rules, _ = drawn(chance, {short: 8, rules_damaged: 1})
+    rules, _ = drawn(chance, {short: 400, **UNSOUND})
     rights = rights_sheet(chance) if chance.random() < 0.4 else b"user low high may\n5 0 63 change\n"
     rule = chance.choice([1, 1, 2, 3, 0, len(rules.splitlines()) - 1, len(rules.splitlines())])
     lay = chance.choice(["none", "align", "indent", "offside", "offalign", "single", "", "foo", "none ", "a\nb"])
@@ -507,3 +521,30 @@ def questions(count, seed):
     chance = random.Random(seed)
     for _ in range(count):
         yield drawn(chance, QUESTIONS)
+
+
+# Where the calls come up.
+DRAWN_BY = {
+    "verdict": of_a_verdict,
+    "trees": of_trees,
+    "rows": of_counts,
+    "places": of_places,
+    "line": of_a_line,
+    "sweep": of_a_sweep,
+    "clause-verdict": of_clauses,
+    "clause-trees": of_clauses,
+    "clause-line": of_clauses,
+    "clause-sweep": of_a_clause_sweep,
+    "expand": of_an_expansion,
+    "share": of_a_share,
+    "columns": of_columns,
+    "show": of_a_tour,
+    "change": of_a_change,
+}
+
+
+def of_call(call, seed, count):
+    """So many questions, those of this call among them."""
+    chance = random.Random(seed)
+    drawn_questions = (DRAWN_BY[call](chance) for _ in range(count))
+    return (question for question in drawn_questions if question.startswith(f"{call} "))

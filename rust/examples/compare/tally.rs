@@ -21,36 +21,15 @@ const CALLS: [&str; 15] = [
     "change",
 ];
 
+/// A line a call: the call, and the answers that it must have given at least
+/// once in a whole run.
+const REQUIRED: &str = include_str!("../../compare/required.txt");
+
 /// The answers that a call must have given at least once in a whole run.
 fn required(call: &str) -> Vec<String> {
-    let words: &[&str] = match call.trim_start_matches("clause-") {
-        "verdict" | "trees" | "rows" | "places" => &["none", "one", "two"],
-        "show" => &["none", "one", "two"],
-        "sweep" | "share" => &["two", "clear"],
-        "expand" | "columns" | "change" => &["given"],
-        _ => &[],
-    };
-    let rules: &[u8] = match call {
-        "expand" => &[1, 7, 41, 42, 43],
-        "share" | "columns" | "change" => &[1, 2],
-        _ if call.starts_with("clause-") => &[1, 7, 41, 43],
-        _ => &[1, 2, 3, 4, 5, 6, 7, 44],
-    };
-    let others: &[u8] = match call {
-        "sweep" => &[21, 23, 24],
-        "share" => &[21, 23, 45, 46],
-        "columns" => &[11, 12, 13, 48, 49, 21],
-        "show" => &[12, 13, 50, 21, 22],
-        "change" => &[4, 22, 50, 51],
-        "clause-sweep" => &[21, 23],
-        "trees" | "places" => &[11, 12, 13, 14, 15, 47, 21, 22],
-        "clause-trees" => &[12, 13, 15, 21, 22],
-        "expand" => &[22],
-        _ if call.starts_with("clause-") => &[12, 13, 15, 21],
-        _ => &[11, 12, 13, 14, 15, 47, 21],
-    };
-    let numbers = rules.iter().chain(others).map(|number| format!("refused-{number}"));
-    words.iter().map(|word| word.to_string()).chain(numbers).collect()
+    let lines = REQUIRED.lines().filter(|line| !line.starts_with('#'));
+    let words = lines.map(|line| line.split(' ')).find(|words| words.clone().next() == Some(call));
+    words.expect("a line a call").skip(1).map(str::to_string).collect()
 }
 
 /// The answers in the order of the table.
