@@ -88,9 +88,10 @@ crates_of() { # CRATE
         END { visit(wanted) }' "$top/crates.txt"
 }
 
-# Is the program there, and no older than what it is made of?
+# Is the program there, and no older than what it is made of? Where it is installed its sources are not there.
 is_built() { # PROGRAM
     [ -x "$top/target/bin/$1" ] || return 1
+    [ -e "$top/crates.txt" ] || return 0
     [ -z "$(cd "$top/crates" && find $(crates_of "$1") \( -name '*.rt' -o -name '*.antt' \) -newer "../target/bin/$1" -print)" ]
 }
 
