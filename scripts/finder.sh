@@ -64,28 +64,16 @@ find_options() {
     done
 }
 
-# The crates that export C functions.
-faces() {
-    (cd "$top/crates" && grep -l 'pub extern "C" fn' */src/*.rt 2>/dev/null) | cut -d/ -f1 | sort -u
-}
-
-# Is the library of a crate no older than what it is made of?
-has_library() { # CRATE
-    [ -e "$top/target/staticlib/lib$1.a" ] || return 1
-    [ -z "$(cd "$top/crates" && find $(crates_of "$1") \( -name '*.rt' -o -name '*.antt' \) -newer "../target/staticlib/lib$1.a" -print)" ]
-}
-
-# Is the finder there, and no older than its sources and the libraries?
+# Is the finder there, and no older than its sources and the library? Where it is installed its sources are not there.
 is_finder_built() {
     [ -x "$top/target/bin/finder" ] || return 1
-    for face in $(faces); do
-        has_library "$face" || return 1
-    done
-    [ -z "$(cd "$top" && find rust target/staticlib -name target -prune -o \
+    [ -e "$top/crates.txt" ] || return 0
+    "$top/bin/library" --made || return 1
+    [ -z "$(cd "$top" && find rust target/lib -name target -prune -o \
         \( -name '*.rs' -o -name '*.toml' -o -name '*.a' \) -newer target/bin/finder -print)" ]
 }
 
-# Proves the libraries, where they are not there yet, and builds the finder.
+# Proves the library, where it is not there yet, and builds the finder.
 build_finder() {
     for tool in rt cargo; do
         command -v "$tool" >/dev/null 2>&1 || {
@@ -98,9 +86,7 @@ build_finder() {
     log=$top/target/build-finder.log
     (
         cd "$top" || exit
-        for face in $(faces); do
-            has_library "$face" || rt staticlib "$face" || exit
-        done
+        bin/library || exit
         cargo build --release --manifest-path rust/finder/Cargo.toml --target-dir target/cargo || exit
         cp target/cargo/release/finder target/bin/finder && touch target/bin/finder
     ) </dev/null >"$log" 2>&1 || {
