@@ -14,10 +14,12 @@ use Rattle.grammar.specs.SpanSheet.{firstWord, secondWord}
 use Rattle.marks.specs.declared.SpanMarks.{SpanMarks}
 use Rattle.marks.specs.Marked.{UnaryBy}
 use Rattle.joins.specs.declared.Tally.{Tally}
+use Rattle.cuts.specs.Cuts as Cuts
+use Rattle.cuts.specs.Counts.More.{apart as two-choices, below as one-doubled}
 use Rattle.tables.specs.Tables.{One, Two, byMarks, Fits, Stand, Below, Again, rule}
 use Rattle.tables.specs.Tables.Again.{apart, below}
 use Rattle.joins.specs.Passes.{none, sidesAt, SplitFits, SplitBelow, SplitRow, row-none, row-more, Splits, splits-none, splits-more}
-use Rattle.joins.specs.Passes.{LeafFits, Leaves, leaves-none, leaves-more, Inner, by-leaves, by-splits, Beside, alone, both, WholeSide, Pass, pass-none, pass-more, resumed, Passes, passes-none, passes-more, Saturated}
+use Rattle.joins.specs.Passes.{LeafFits, Leaves, leaves-none, leaves-more, Inner, by-leaves, by-splits, by-cuts, Beside, alone, both, WholeSide, Pass, pass-none, pass-more, resumed, Passes, passes-none, passes-more, Saturated}
 use Rattle.joins.proofs.TallyLaws.{Done, Standing, All, all-none, all-same, all-sets, all-took, Still, still-same, still-took}
 use Rattle.joins.proofs.PassLaws.{Inside, AtEnd, inside-or-edge, InnerDone, LeafDone, SplitDone, WideDone, HalfDone, below-or-at, after-or-at, splits-pos, passes-one, passes-two}
 
@@ -98,10 +100,53 @@ module _ (ws ws′ : List ℕ) (g : Rules) (n s len : ℕ) (k : SpanMarks)
   inside-below h (Clause.Unary B m) l d q = absurd d
   inside-below h (Clause.Binary B C m) l d q = d .1
 
+  -- the same, all cuts at once: what stands by the words after stands by the words before
+  cut-fits : (l : ℕ) → 0 < l → l < len → (c : Clause) → Fits (One ws′ n) (byMarks k len) s len c l → Fits (One ws n) (byMarks k len) s len c l
+  cut-fits l x y Clause.Empty q = absurd (omega (arith, q .1))
+  cut-fits l x y (Clause.Atom a a′) q = absurd (omega (arith, q .1))
+  cut-fits l x y (Clause.Unary B m) q = absurd (omega (arith, q .2))
+  cut-fits l x y (Clause.Binary B C m) q =
+      (q .0, subst (λ (z : ℕ). In z B) (first s l y (omega arith)) (q .1), subst (λ (z : ℕ). In z C) (first (s + l) (len - l) (omega arith) (omega arith)) (q .2), q .3)
+
+  cut-below : (l : ℕ) → 0 < l → l < len → (c : Clause) → Fits (One ws′ n) (byMarks k len) s len c l → Below (Two ws′ n) s len c l → Below (Two ws n) s len c l
+  cut-below l x y Clause.Empty q b = b
+  cut-below l x y (Clause.Atom a a′) q b = b
+  cut-below l x y (Clause.Unary B m) q b = absurd (omega (arith, q .2))
+  cut-below l x y (Clause.Binary B C m) q b =
+      ⊎-elim (λ z. inl (subst (λ (z : ℕ). In z B) (second s l y (omega arith)) z)) (λ z. inr (subst (λ (z : ℕ). In z C) (second (s + l) (len - l) (omega arith) (omega arith)) z)) b
+
+  inside-above : 2 ≤ len → (c : Clause) (l : ℕ) → Inside len c l → Fits (One ws′ n) (byMarks k len) s len c l → 0 < l
+  inside-above h Clause.Empty l d q = omega (arith, q .0)
+  inside-above h (Clause.Atom a a′) l d q = omega (arith, q .0)
+  inside-above h (Clause.Unary B m) l d q = absurd d
+  inside-above h (Clause.Binary B C m) l d q = d .0
+
+  cuts-all : 2 ≤ len → (t : Tally) → t .seen ≡ t .one → Cuts.Splits ws n s len k g (record { one = t .one; two = t .two }) → All Held Doubled (InnerDone g len) t
+  cuts-all h t e f = record {
+    seen = λ A j l d c. subst (λ (z : ℕ). In z A) (sym e) (f .one A .1 (record { rule = j; cut = l; stands = parted A j l d c }));
+    one = λ A j l d c. f .one A .1 (record { rule = j; cut = l; stands = parted A j l d c });
+    apart = λ A j l j′ l′ d d′ c c′ o. f .two A .1 (two-choices j l j′ l′ (parted A j l d c) (parted A j′ l′ d′ c′) o);
+    below = λ A j l d c b. f .two A .1 (one-doubled j l (parted A j l d c) (cut-below l (above A j l d c) (under A j l d c) (rule g j .clause) (c .fits) b));
+  }
+    where
+      above : (A j l : ℕ) → InnerDone g len j l → Held A j l → 0 < l
+      above A j l d c = inside-above h (rule g j .clause) l d (c .fits)
+
+      under : (A j l : ℕ) → InnerDone g len j l → Held A j l → l < len
+      under A j l d c = inside-below h (rule g j .clause) l d (c .fits)
+
+      parted : (A j l : ℕ) → InnerDone g len j l → Held A j l → Cuts.Parted ws n s len k g A j l
+      parted A j l d c = record {
+        some = above A j l d c;
+        rest = under A j l d c;
+        stand = record { within = c .within; left = c .left; fits = cut-fits l (above A j l d c) (under A j l d c) (rule g j .clause) (c .fits) };
+      }
+
   inner-all : (t : Tally) → Inner ws n s len k g t → All Held Doubled (InnerDone g len) t
   inner-all t (by-leaves h q) = all-same Held Doubled (LeafDone g len (length g)) (InnerDone g len) t (λ A j l d c. (c .within, d)) (leaves-all h q)
   inner-all t (by-splits h q) =
       all-same Held Doubled (SplitDone g len len 0) (InnerDone g len) t (λ A j l d c. (d, inl (inside-below h (rule g j .clause) l d (c .fits)))) (splits-all h (omega arith) q)
+  inner-all t (by-cuts h e f) = cuts-all h t e f
 
   -- ---- the choices with the whole span on one side
 

@@ -19,11 +19,14 @@ use Rattle.marks.specs.declared.SpanMarks.{SpanMarks}
 use Rattle.marks.specs.Half.{Half}
 use Rattle.marks.specs.Marked.{Marked, UnaryBy, BinaryBy}
 use Rattle.joins.specs.declared.Tally.{Tally}
+use Rattle.cuts.specs.Cuts as Cuts
+use Rattle.cuts.specs.Counts as Counts
+use Rattle.cuts.specs.Counts.More.{apart as two-choices, below as one-doubled}
 use Rattle.joins.specs.declared.Sides.{Sides}
 use Rattle.tables.specs.Tables.{Table, One, Two, Leave, byTokens, byMarks, Fits, Stand, Below, Again, rule}
 use Rattle.tables.specs.Tables.Again.{apart, below}
 use Rattle.joins.specs.Passes.{Took, fell, stood, none, sidesAt, SplitFits, SplitBelow, SplitRow, row-none, row-more, Splits, splits-none, splits-more}
-use Rattle.joins.specs.Passes.{LeafFits, Leaves, leaves-none, leaves-more, Inner, by-leaves, by-splits, Beside, alone, both, WholeSide, Pass, pass-none, pass-more, resumed, Passes, passes-none, passes-more, Saturated}
+use Rattle.joins.specs.Passes.{LeafFits, Leaves, leaves-none, leaves-more, Inner, by-leaves, by-splits, by-cuts, Beside, alone, both, WholeSide, Pass, pass-none, pass-more, resumed, Passes, passes-none, passes-more, Saturated}
 use Rattle.tables.specs.Settled.{Ground}
 use Rattle.joins.proofs.TallyLaws.{Done, Standing, took-one, took-two, took-in-one, took-in-two, From, from-none, from-same, Brings, from-took, from-sets}
 use Rattle.tables.proofs.Soundness.{sound-stand, sound-again}
@@ -291,9 +294,46 @@ module _ (g : Rules) (h : Half) (inner : h .known ≤ length (h .word)) (distinc
         from-same Real HasOne HasTwo (SplitDone g len l (length g)) (SplitDone g len (l + 1) 0) u (λ j m d. (d .0, inl (⊎-elim (λ z. omega arith) (λ z. omega (arith, z .0)) (d .1))))
         (row-from l (splits-pos q) (omega arith) (omega arith) w (splits-from (omega arith) q))
 
+    -- the same, all cuts at once
+    cut-truth : (l : ℕ) → 0 < l → l < len → (c : Clause) → Fits (One ws n) (byMarks k len) s len c l → Fits (Truth g h) (byTokens h s len) s len c l
+    cut-truth l x y Clause.Empty q = absurd (omega (arith, q .1))
+    cut-truth l x y (Clause.Atom a a′) q = absurd (omega (arith, q .1))
+    cut-truth l x y (Clause.Unary B m) q = absurd (omega (arith, q .2))
+    cut-truth l x y (Clause.Binary B C m) q = split-truth l x y (Clause.Binary B C m) (q .1, q .2, q .3)
+
+    cut-below : (l : ℕ) → 0 < l → l < len → (c : Clause) → Fits (One ws n) (byMarks k len) s len c l → Below (Two ws n) s len c l → Below (Truth₂ g h) s len c l
+    cut-below l x y Clause.Empty q b = b
+    cut-below l x y (Clause.Atom a a′) q b = b
+    cut-below l x y (Clause.Unary B m) q b = absurd (omega (arith, q .2))
+    cut-below l x y (Clause.Binary B C m) q b = split-below l x y (Clause.Binary B C m) b
+
+    cut-inside : (l : ℕ) → 0 < l → l < len → (c : Clause) → Fits (One ws n) (byMarks k len) s len c l → Inside len c l
+    cut-inside l x y Clause.Empty q = tt
+    cut-inside l x y (Clause.Atom a a′) q = tt
+    cut-inside l x y (Clause.Unary B m) q = absurd (omega (arith, q .2))
+    cut-inside l x y (Clause.Binary B C m) q = (x, y)
+
+    real : (A j l : ℕ) → Cuts.Parted ws n s len k g A j l → Real A j l
+    real A j l c = record { within = c .stand .within; left = c .stand .left; fits = cut-truth l (c .some) (c .rest) (rule g j .clause) (c .stand .fits) }
+
+    cuts-from : (t : Tally) → t .seen ≡ t .one → Cuts.Splits ws n s len k g (record { one = t .one; two = t .two }) → Sounds (InnerDone g len) t
+    cuts-from t e f = record {
+      seen = λ A i.
+          let q = f .one A .0 (subst (λ (z : ℕ). In z A) e i) in
+          let c = q .stands in
+          (q .rule, q .cut, cut-inside (q .cut) (c .some) (c .rest) (rule g (q .rule) .clause) (c .stand .fits), real A (q .rule) (q .cut) c);
+      one = λ A i. let q = f .one A .0 i in sound-stand (Truth g h) g h inner s len kn (λ a b A x y m. m) A (q .rule) (q .cut) (real A (q .rule) (q .cut) (q .stands));
+      two = λ A i. again-two A (again A (f .two A .0 i));
+    }
+      where
+        again : (A : ℕ) → Counts.More (Cuts.Parted ws n s len k g) (λ i l. Below (Two ws n) s len (rule g i .clause) l) A → Again (Truth g h) (Truth₂ g h) g (byTokens h s len) s len A
+        again A (two-choices i l j m x y d) = apart i l j m (real A i l x) (real A j m y) d
+        again A (one-doubled i l x b) = below i l (real A i l x) (cut-below l (x .some) (x .rest) (rule g i .clause) (x .stand .fits) b)
+
     pub inner-from : (t : Tally) → Inner ws n s len k g t → Sounds (InnerDone g len) t
     inner-from t (by-leaves x q) = from-same Real HasOne HasTwo (LeafDone g len (length g)) (InnerDone g len) t (λ j l d. d .1) (leaves-from (omega arith) q)
     inner-from t (by-splits x q) = from-same Real HasOne HasTwo (SplitDone g len len 0) (InnerDone g len) t (λ j l d. d .0) (splits-from (omega arith) q)
+    inner-from t (by-cuts x e f) = cuts-from t e f
 
   -- one and two have what has trees of the empty word
   module _ (one two : ℕ) (nulls : 0 < len → (a A : ℕ) → s ≤ a → a ≤ s + len → In one A → Derives g A (part (h .word) a 0))

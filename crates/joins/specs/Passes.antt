@@ -16,6 +16,7 @@ use Rattle.codes.specs.Codes.{kind}
 use Rattle.marks.specs.declared.SpanMarks.{SpanMarks}
 use Rattle.marks.specs.Marked.{AtomBy, UnaryBy, BinaryBy}
 use Rattle.spans.specs.Changes.{WrotePair}
+use Rattle.cuts.specs.Cuts as Cuts
 use Rattle.joins.specs.declared.Tally.{Tally}
 use Rattle.joins.specs.declared.Pair.{Pair}
 use Rattle.joins.specs.declared.Sides.{Sides}
@@ -106,6 +107,7 @@ pub data Leaves (k : SpanMarks) (len : ℕ) (g : Rules) : ℕ → Tally → Type
 pub data Inner (ws : List ℕ) (n s len : ℕ) (k : SpanMarks) (g : Rules) (t : Tally) : Type 0 where
   by-leaves : len < 2 → Leaves k len g (length g) t → Inner ws n s len k g t
   by-splits : 2 ≤ len → Splits ws n s len k g len t → Inner ws n s len k g t
+  by-cuts : 2 ≤ len → t .seen ≡ t .one → Cuts.Splits ws n s len k g (record { one = t .one; two = t .two }) → Inner ws n s len k g t
 
 -- ---- what has the whole span on one side
 

@@ -249,7 +249,7 @@ fn cut(words: &[u64], n: usize, start: usize, len: usize, left: usize) -> Sides
 }
 
 // The tally before any rule.
-fn blank() -> Tally
+pub fn blank() -> Tally
     ensures { λ r. ⌜ r ≡ none ⌝ }
 {
     Tally {
@@ -277,7 +277,7 @@ fn splits(words: &[u64], n: usize, codes: &[u64], start: usize, len: usize, k: S
 }
 
 // Try a rule for no token or one.
-fn try_leaf(t: Tally, r: Rule, k: SpanMarks, len: usize) -> Tally
+pub fn try_leaf(t: Tally, r: Rule, k: SpanMarks, len: usize) -> Tally
     requires { ⌜ SmallRule r ⌝ }
     ensures { λ u. ⌜ Took (LeafFits k len (r .clause)) ⊥ (r .left) t u ⌝ }
 {
@@ -313,7 +313,7 @@ pub fn leaves(codes: &[u64], k: SpanMarks, len: usize) -> Tally
 }
 
 // Try a unary clause `b` for `a` over the span that the tally is of.
-fn try_unary(t: Tally, a: u8, b: u8, m: UnaryMark, k: SpanMarks) -> Tally
+pub fn try_unary(t: Tally, a: u8, b: u8, m: UnaryMark, k: SpanMarks) -> Tally
     requires { ⌜ (a < 64) × (b < 64) ⌝ }
     ensures { λ u. ⌜ Took (In (t .one) b × UnaryBy k m) (In (t .two) b) a t u ⌝ }
 {
@@ -357,7 +357,7 @@ fn try_right_empty(t: Tally, a: u8, b: u8, e: u8, one: u64, two: u64) -> Tally
 }
 
 // Try a binary clause over the span and the empty word, whose pair is `one` and `two`; the span is of `len` tokens.
-fn try_beside(t: Tally, a: u8, b: u8, e: u8, one: u64, two: u64, len: usize) -> Tally
+pub fn try_beside(t: Tally, a: u8, b: u8, e: u8, one: u64, two: u64, len: usize) -> Tally
     requires { ⌜ (a < 64) × (b < 64) × (e < 64) ⌝ }
     ensures { λ u. ⌜ Beside one two len a b e t u ⌝ }
 {
@@ -427,7 +427,7 @@ pub fn saturate(b: Tally, codes: &[u64], k: SpanMarks, one: u64, two: u64, len: 
 }
 
 // Are the words as they were?
-fn unchanged(f: u64, g: u64, a: u64, b: u64) -> bool
+pub fn unchanged(f: u64, g: u64, a: u64, b: u64) -> bool
     ensures { λ r. ⌜ Says r ((a ≡ f) × (b ≡ g)) ⌝ }
 {
     if a == f { b == g } else { false }

@@ -1,0 +1,4 @@
+pub mod ClosingLaws
+pub mod SettleLaws
+pub mod PassClosure
+pub mod TableLaws

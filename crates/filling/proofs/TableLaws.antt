@@ -1,0 +1,68 @@
+-- The closure table: an entry for each nonterminal and for each way in which unary marks can hold, made by passes once; over a span the
+-- entries of what stands by its parts are put together.
+use mathlib.Core.Path.{_≡_}
+use mathlib.Core.Logic.{_↔_}
+use Prim.Native.Nat.{ℕ, zero, suc, _<_}
+use Rattle.sets.specs.Sets.{In}
+use Rattle.sets.specs.Insertion.{insert}
+use Rattle.grammar.specs.declared.Clause.{Clause}
+use Rattle.grammar.specs.declared.Clause.the-variants as Clause
+use Rattle.grammar.specs.declared.UnaryMark.{UnaryMark}
+use Rattle.grammar.specs.Trees.{Rules}
+use Rattle.marks.specs.declared.SpanMarks.{SpanMarks}
+use Rattle.marks.specs.Marked.{UnaryBy}
+use Rattle.tables.specs.Tables.{rule}
+use Rattle.cuts.specs.declared.Pair.{Pair}
+use Rattle.cuts.specs.Closure.{Follows, Doubles, Closure, Entry, Just, Never, Unites}
+use Rattle.cuts.proofs.ClosureLaws.{follows-as, doubles-as, closure-entry, table-closure}
+use Rattle.joins.specs.declared.Tally.{Tally}
+use Rattle.joins.specs.Passes.{Saturated}
+use Rattle.filling.specs.SpanLinks.{Over, LinkAt, spanLinks}
+use Rattle.filling.specs.Closing.{tallied}
+use Rattle.filling.proofs.PassClosure.{passes-closure}
+
+over-as : (p q : UnaryMark → Type 0) → ((m : UnaryMark) → p m → q m) → (one : ℕ) (c : Clause) (l B : ℕ) → Over p one c l B → Over q one c l B
+over-as p q f one Clause.Empty l B o = o
+over-as p q f one (Clause.Atom a b) l B o = o
+over-as p q f one (Clause.Unary C m) zero B o = (o .0, f m (o .1))
+over-as p q f one (Clause.Unary C m) (suc l) B o = o
+over-as p q f one (Clause.Binary C D m) zero B o = o
+over-as p q f one (Clause.Binary C D m) (suc zero) B o = o
+over-as p q f one (Clause.Binary C D m) (suc (suc l)) B o = o
+
+module _ (g : Rules) (one two : ℕ) where
+  -- an entry goes by the marks that hold
+  pub entry-as : (p q : UnaryMark → Type 0) → ((m : UnaryMark) → p m ↔ q m) → (B : ℕ) (u : Pair) → Entry (spanLinks g p one two) B u → Entry (spanLinks g q one two) B u
+  entry-as p q f B u e = record {
+    one = λ A. (λ i. there (e .one A .0 i), λ x. e .one A .1 (back x));
+    two = λ A. (λ i. there₂ (e .two A .0 i), λ x. e .two A .1 (back₂ x));
+  }
+    where
+      to : (A i l C : ℕ) → LinkAt g p one A i l C → LinkAt g q one A i l C
+      to A i l C x = record { within = x .within; left = x .left; over = over-as p q (λ m. f m .0) one (rule g i .clause) l C (x .over) }
+
+      of : (A i l C : ℕ) → LinkAt g q one A i l C → LinkAt g p one A i l C
+      of A i l C x = record { within = x .within; left = x .left; over = over-as q p (λ m. f m .1) one (rule g i .clause) l C (x .over) }
+
+      there : {A : ℕ} → Follows (spanLinks g p one two) (Just B) A → Follows (spanLinks g q one two) (Just B) A
+      there = follows-as (spanLinks g p one two) (spanLinks g q one two) (Just B) (Just B) Never Never to (λ i l x. x) (λ A x. x) (λ A x. x)
+
+      there₂ : {A : ℕ} → Doubles (spanLinks g p one two) (Just B) Never A → Doubles (spanLinks g q one two) (Just B) Never A
+      there₂ = doubles-as (spanLinks g p one two) (spanLinks g q one two) (Just B) (Just B) Never Never to (λ i l x. x) (λ A x. x) (λ A x. x)
+
+      back : {A : ℕ} → Follows (spanLinks g q one two) (Just B) A → Follows (spanLinks g p one two) (Just B) A
+      back = follows-as (spanLinks g q one two) (spanLinks g p one two) (Just B) (Just B) Never Never of (λ i l x. x) (λ A x. x) (λ A x. x)
+
+      back₂ : {A : ℕ} → Doubles (spanLinks g q one two) (Just B) Never A → Doubles (spanLinks g p one two) (Just B) Never A
+      back₂ = doubles-as (spanLinks g q one two) (spanLinks g p one two) (Just B) (Just B) Never Never of (λ i l x. x) (λ A x. x) (λ A x. x)
+
+  -- passes from B alone make its entry: k are marks of the kind, and any length will do
+  pub passes-entry : (k : SpanMarks) (len : ℕ) → 0 < len → (B : ℕ) (t : Tally) → Saturated one two k len g (tallied (record { one = insert 0 B; two = 0 })) t
+      → Entry (spanLinks g (UnaryBy k) one two) B (record { one = t .one; two = t .two })
+  passes-entry k len pos B t s =
+      closure-entry (spanLinks g (UnaryBy k) one two) B (record { one = t .one; two = t .two }) (passes-closure g k one two len pos (record { one = insert 0 B; two = 0 }) t s)
+
+  -- over a span with the marks k, by the table of a kind whose marks hold alike
+  pub table-span : (holds : UnaryMark → Type 0) (k : SpanMarks) → ((m : UnaryMark) → holds m ↔ UnaryBy k m) → (up : ℕ → Pair) (p t : Pair) → ((B : ℕ) → In (p .one) B → Entry (spanLinks g holds one two) B (up B))
+      → ((A : ℕ) → In (p .two) A → In (p .one) A) → Unites up (In (p .one)) (In (p .two)) t → Closure (spanLinks g (UnaryBy k) one two) p t
+  table-span holds k f up p t e sub u = table-closure (spanLinks g (UnaryBy k) one two) up p t (λ B i. entry-as holds (UnaryBy k) f B (up B) (e B i)) sub u

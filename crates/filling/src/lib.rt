@@ -1,0 +1,334 @@
+// The span sheet of a grammar and a sentence, each span settled all cuts at once; the verdict by it.
+use chart::Verdict;
+use cuts::Pair;
+use cuts::cut_masks;
+use cuts::put;
+use cuts::splits;
+use grammar::Grammar;
+use grammar::Sentence;
+use joins::Tally;
+use links::leaves;
+use links::link_rules;
+use links::saturated;
+use marks::Draft;
+use marks::SpanMarks;
+use marks::first_marks;
+use marks::with_next;
+use spans::clear;
+use spans::in_first;
+use spans::in_second;
+use spans::pair_at;
+use spans::write;
+ghost use mathlib.Core.Path.{_≡_};
+ghost use Prim.Native.Nat.{_+_, _*_, _≤_, _<_};
+ghost use lib.ListN.{length, getD};
+ghost use Rattle.grammar.specs.Content.{rules, Formed};
+ghost use Rattle.grammar.specs.SpanSheet.{pairs};
+ghost use Rattle.grammar.specs.Sentences.{spelled};
+ghost use Rattle.marks.specs.Drafts.{half, drafted};
+ghost use Rattle.spans.specs.Changes.{Past};
+ghost use Rattle.tables.specs.Tables.{Room};
+ghost use Rattle.cuts.specs.Cuts.{Mirrors};
+ghost use Rattle.links.specs.LinkRules.{LinkRules};
+ghost use Rattle.chart.specs.Filling.{Whole, Filled, Grown};
+ghost use Rattle.chart.specs.Leaves.{EmptyPair, Leaf};
+ghost use Rattle.chart.specs.Sheets.{Exact, Begun, Ready, Charted, Judged, Settles};
+ghost use Rattle.filling.specs.Closing.{Found, CutJoins, Columns};
+
+// The pair of the empty word.
+pub fn empty_pair(g: Grammar) -> Pair
+    requires { ⌜ Formed g ⌝ }
+    ensures { λ r. ⌜ EmptyPair (rules g) (r .one) (r .two) ⌝ }
+{
+    let k = first_marks(0, 0);
+    let b = leaves(g, k, 0);
+    let t = saturated(b, g, k, 0, 0, 0);
+    Pair {
+        one: t.one,
+        two: t.two,
+    }
+}
+
+// The pair of a token with the terminal `x`, wherever it stands; the empty word's is `one` and `two`.
+pub fn leaf_pair(g: Grammar, x: u8, one: u64, two: u64) -> Pair
+    requires { ⌜ Formed g ⌝ }
+    requires { ⌜ EmptyPair (rules g) one two ⌝ }
+    ensures { λ r. ⌜ Leaf (rules g) x (r .one) (r .two) ⌝ }
+{
+    let k = first_marks(x, 0);
+    let b = leaves(g, k, 1);
+    let t = saturated(b, g, k, one, two, 1);
+    Pair {
+        one: t.one,
+        two: t.two,
+    }
+}
+
+// Write the pairs of the empty word and of each token of the draft.
+pub fn fill_leaves(words: &mut [u64], d: Draft, g: Grammar)
+    requires { ⌜ d .count ≤ 64 ⌝ }
+    requires { ⌜ 2 * pairs (d .count) ≤ length (now words) ⌝ }
+    requires { ⌜ Formed g ⌝ }
+    ensures { λ r. ⌜ Begun (now (words .entry)) (now (words .exit)) (rules g) (drafted d) (d .count) ⌝ }
+{
+    let n = d.count;
+    let e = empty_pair(g);
+    write(words, 0, e.one, e.two);
+    let mut i: usize = 0;
+    while i < n {
+        let t = d.tokens[i];
+        let l = leaf_pair(g, t.terminal, e.one, e.two);
+        let p = pair_at(n, i, 1);
+        write(words, p, l.one, l.two);
+        i += 1;
+    }
+}
+
+// What stands over a span of two tokens or more: by two shorter parts, by the words of cuts; then passes over the links `w`.
+fn find(
+    rows: &[u64],
+    cols: &[u64],
+    g: Grammar,
+    w: Grammar,
+    k: SpanMarks,
+    start: usize,
+    len: usize,
+    e: Pair,
+) -> Tally
+    requires { ⌜ Formed g ⌝ }
+    requires { ⌜ LinkRules (e .one) g w ⌝ }
+    requires { ⌜ (0 < len) × (start + len ≤ 64) ⌝ }
+    requires { ⌜ (length (now rows) ≡ 128) × (length (now cols) ≡ 8320) ⌝ }
+    ensures { λ t. ⌜ Found (now (rows .entry)) (now (cols .entry)) (rules g) k start len e t ⌝ }
+{
+    let m = cut_masks(k, start);
+    let p = splits(g, rows, cols, 128 * (start + len), m);
+    let b = Tally {
+        seen: p.one,
+        one: p.one,
+        two: p.two,
+    };
+    saturated(b, w, k, e.one, e.two, len)
+}
+
+// Settle the span and take it in.
+fn close(
+    words: &mut [u64],
+    rows: &mut [u64],
+    cols: &mut [u64],
+    n: usize,
+    g: Grammar,
+    w: Grammar,
+    k: SpanMarks,
+    start: usize,
+    len: usize,
+)
+    requires { ⌜ Room (now words) n start len × (0 < len) ⌝ }
+    requires { ⌜ Formed g ⌝ }
+    requires { ⌜ LinkRules (getD (now words) 0 0) g w ⌝ }
+    requires { ⌜ Mirrors (now words) n start len (now rows) (now cols) ⌝ }
+    ensures { λ r. ⌜ CutJoins (now (words .entry)) (now (words .exit)) (rules g) n start len k ⌝ }
+    ensures { λ r. ⌜ Mirrors (now (words .exit)) n start (len + 1) (now (rows .exit)) (now (cols .exit)) ⌝ }
+{
+    let e = Pair {
+        one: words[0],
+        two: words[1],
+    };
+    let t = find(rows, cols, g, w, k, start, len, e);
+    let q = pair_at(n, start, len);
+    write(words, q, t.one, t.two);
+    let p = Pair {
+        one: t.one,
+        two: t.two,
+    };
+    put(rows, cols, start, start + len, p);
+}
+
+// Take in a span that is settled.
+fn load(words: &[u64], rows: &mut [u64], cols: &mut [u64], n: usize, start: usize, len: usize)
+    requires { ⌜ Room (now words) n start len × (0 < len) ⌝ }
+    requires { ⌜ Mirrors (now words) n start len (now rows) (now cols) ⌝ }
+    ensures { λ r. ⌜ Mirrors (now (words .entry)) n start (len + 1) (now (rows .exit)) (now (cols .exit)) ⌝ }
+{
+    let at = 2 * pair_at(n, start, len);
+    let p = Pair {
+        one: words[at],
+        two: words[at + 1],
+    };
+    put(rows, cols, start, start + len, p);
+}
+
+// Begin a start: its rows have its first token.
+fn begin(words: &[u64], rows: &mut [u64], cols: &mut [u64], n: usize, start: usize)
+    requires { ⌜ Room (now words) n start 1 ⌝ }
+    requires { ⌜ length (now rows) ≡ 128 ⌝ }
+    requires { ⌜ Columns (now words) n (start + 1) (now cols) ⌝ }
+    ensures { λ r. ⌜ Mirrors (now (words .entry)) n start 2 (now (rows .exit)) (now (cols .exit)) ⌝ }
+{
+    clear(rows, 128);
+    load(words, rows, cols, n, start, 1);
+}
+
+// Settle the spans of two tokens or more that begin at `start` and end past `from`. Their marks, and with them the least
+// column on later lines, are carried along, a token at a time.
+pub fn fill_start(
+    words: &mut [u64],
+    rows: &mut [u64],
+    cols: &mut [u64],
+    d: Draft,
+    g: Grammar,
+    w: Grammar,
+    from: usize,
+    start: usize,
+)
+    requires { ⌜ Whole d × (start < d .count) ⌝ }
+    requires { ⌜ 2 * pairs (d .count) ≤ length (now words) ⌝ }
+    requires { ⌜ Formed g ⌝ }
+    requires { ⌜ LinkRules (getD (now words) 0 0) g w ⌝ }
+    requires { ⌜ (length (now rows) ≡ 128) × Columns (now words) (d .count) (start + 1) (now cols) ⌝ }
+    requires { ⌜ Filled (now words) (rules g) (half d) (d .count) from (start + 1) (d .count + 1) ⌝ }
+    ensures { λ r. ⌜ Grown (now (words .entry)) (now (words .exit)) (rules g) (half d) (d .count) from start ⌝ }
+    ensures { λ r. ⌜ Columns (now (words .exit)) (d .count) start (now (cols .exit)) ⌝ }
+    ensures { λ r. ⌜ getD (now (words .exit)) 0 0 ≡ getD (now (words .entry)) 0 0 ⌝ }
+{
+    let n = d.count;
+    let known = d.known;
+    let a = d.tokens[start];
+    let mut k = first_marks(a.terminal, a.column.0);
+    begin(words, rows, cols, n, start);
+    let mut len: usize = 1;
+    while start + len < n {
+        let at = start + len;
+        let z = d.tokens[at - 1];
+        let t = d.tokens[at];
+        k = with_next(k, a, z, t, len, at, known);
+        len += 1;
+        if start + len <= from {
+            load(words, rows, cols, n, start, len);
+            continue;
+        }
+        close(words, rows, cols, n, g, w, k, start, len);
+    }
+}
+
+// Take in the spans of a start, all of them settled.
+fn load_start(words: &[u64], rows: &mut [u64], cols: &mut [u64], n: usize, start: usize)
+    requires { ⌜ Room (now words) n start 1 ⌝ }
+    requires { ⌜ length (now rows) ≡ 128 ⌝ }
+    requires { ⌜ Columns (now words) n (start + 1) (now cols) ⌝ }
+    ensures { λ r. ⌜ Columns (now (words .entry)) n start (now (cols .exit)) ⌝ }
+{
+    begin(words, rows, cols, n, start);
+    let mut len: usize = 2;
+    while start + len <= n {
+        load(words, rows, cols, n, start, len);
+        len += 1;
+    }
+}
+
+// Those of all starts from `to` on.
+fn load_from(words: &[u64], rows: &mut [u64], cols: &mut [u64], n: usize, to: usize)
+    requires { ⌜ Room (now words) n to 0 ⌝ }
+    requires { ⌜ length (now rows) ≡ 128 ⌝ }
+    requires { ⌜ Columns (now words) n n (now cols) ⌝ }
+    ensures { λ r. ⌜ Columns (now (words .entry)) n to (now (cols .exit)) ⌝ }
+{
+    let mut start = n;
+    while to < start {
+        start -= 1;
+        load_start(words, rows, cols, n, start);
+    }
+}
+
+// Settle the spans of all starts before `to`.
+fn fill_starts(
+    words: &mut [u64],
+    rows: &mut [u64],
+    cols: &mut [u64],
+    d: Draft,
+    g: Grammar,
+    w: Grammar,
+    from: usize,
+    to: usize,
+)
+    requires { ⌜ Whole d × (to ≤ d .count) ⌝ }
+    requires { ⌜ 2 * pairs (d .count) ≤ length (now words) ⌝ }
+    requires { ⌜ Formed g ⌝ }
+    requires { ⌜ LinkRules (getD (now words) 0 0) g w ⌝ }
+    requires { ⌜ (length (now rows) ≡ 128) × Columns (now words) (d .count) to (now cols) ⌝ }
+    requires { ⌜ Filled (now words) (rules g) (half d) (d .count) from to (d .count + 1) ⌝ }
+    ensures { λ r. ⌜ Grown (now (words .entry)) (now (words .exit)) (rules g) (half d) (d .count) from 0 ⌝ }
+{
+    let mut start = to;
+    while 0 < start {
+        start -= 1;
+        fill_start(words, rows, cols, d, g, w, from, start);
+    }
+}
+
+// Fill the span sheet of the draft anew, but for the spans that end at or before the token `from` and those that begin
+// at or past the token `to`: no token of these has changed. The pairs of the empty word and of single tokens are given.
+pub fn fill(words: &mut [u64], d: Draft, g: Grammar, from: usize, to: usize)
+    requires { ⌜ (d .count ≤ 64) × (d .known ≤ d .count) ⌝ }
+    requires { ⌜ 2 * pairs (d .count) ≤ length (now words) ⌝ }
+    requires { ⌜ Formed g ⌝ }
+    requires { ⌜ Ready (rules g) (half d) (d .count) (now words) from to ⌝ }
+    ensures { λ r. ⌜ Charted (now (words .entry)) (now (words .exit)) (rules g) (half d) (d .count) ⌝ }
+{
+    let n = d.count;
+    let mut rows = [0u64; 128];
+    let mut cols = [0u64; 8320];
+    load_from(words, &mut rows, &mut cols, n, to);
+    let w = link_rules(g, words[0]);
+    fill_starts(words, &mut rows, &mut cols, d, g, w, from, to);
+}
+
+// Fill all of the span sheet of the draft, which is known.
+fn fill_all(words: &mut [u64], d: Draft, g: Grammar)
+    requires { ⌜ (d .count ≤ 64) × (d .known ≡ d .count) ⌝ }
+    requires { ⌜ 2 * pairs (d .count) ≤ length (now words) ⌝ }
+    requires { ⌜ Formed g ⌝ }
+    ensures { λ r. ⌜ Exact (rules g) (drafted d) (d .count) (now (words .exit)) (d .count) ⌝ }
+    ensures { λ r. ⌜ Past (2 * pairs (d .count)) (now (words .entry)) (now (words .exit)) ⌝ }
+{
+    fill_leaves(words, d, g);
+    fill(words, d, g, 0, d.count);
+}
+
+// The verdict on the sentence, and its span sheet.
+pub fn judge(words: &mut [u64], s: Sentence, g: Grammar) -> Verdict
+    requires { ⌜ s .count ≤ 64 ⌝ }
+    requires { ⌜ 2 * pairs (s .count) ≤ length (now words) ⌝ }
+    requires { ⌜ Formed g ⌝ }
+    ensures { λ r. ⌜ Judged r (rules g) (spelled s) (s .count) (now (words .entry)) (now (words .exit)) ⌝ }
+{
+    let n = s.count;
+    let tokens = s.tokens;
+    let d = Draft {
+        tokens,
+        count: n,
+        known: n,
+    };
+    fill_all(words, d, g);
+    if !in_first(words, n, 0, n, 0) {
+        return Verdict::None;
+    }
+    if in_second(words, n, 0, n, 0) {
+        return Verdict::Two;
+    }
+    Verdict::One
+}
+
+// Has no completion of the draft two trees, its open tokens being what their pairs allow? (Where all of it is known: has it
+// not?) The pairs of spans that end at or before the token `from`, and of those that begin at or past the token `to`, are kept.
+pub fn no_two(words: &mut [u64], d: Draft, g: Grammar, from: usize, to: usize) -> bool
+    requires { ⌜ (d .count ≤ 64) × (d .known ≤ d .count) ⌝ }
+    requires { ⌜ 2 * pairs (d .count) ≤ length (now words) ⌝ }
+    requires { ⌜ Formed g ⌝ }
+    requires { ⌜ Ready (rules g) (half d) (d .count) (now words) from to ⌝ }
+    ensures { λ r. ⌜ Settles r (rules g) (half d) (d .count) (now (words .entry)) (now (words .exit)) ⌝ }
+{
+    let n = d.count;
+    fill(words, d, g, from, to);
+    !in_second(words, n, 0, n, 0)
+}
