@@ -18,15 +18,16 @@ use spans::clear;
 use spans::in_first;
 use spans::in_second;
 use spans::pair_at;
+use spans::size;
 use spans::write;
 ghost use mathlib.Core.Path.{_≡_};
 ghost use Prim.Native.Nat.{_+_, _*_, _≤_, _<_};
 ghost use lib.ListN.{length, getD};
 ghost use Rattle.grammar.specs.Content.{rules, Formed};
-ghost use Rattle.grammar.specs.SpanSheet.{pairs};
+ghost use Rattle.grammar.specs.SpanSheet.{pairs, pairAt};
 ghost use Rattle.grammar.specs.Sentences.{spelled};
 ghost use Rattle.marks.specs.Drafts.{half, drafted};
-ghost use Rattle.spans.specs.Changes.{Past};
+ghost use Rattle.spans.specs.Changes.{Past, WrotePair};
 ghost use Rattle.tables.specs.Tables.{Room};
 ghost use Rattle.cuts.specs.Cuts.{Mirrors};
 ghost use Rattle.links.specs.LinkRules.{LinkRules};
@@ -34,6 +35,7 @@ ghost use Rattle.chart.specs.Filling.{Whole, Filled, Grown};
 ghost use Rattle.chart.specs.Leaves.{EmptyPair, Leaf};
 ghost use Rattle.chart.specs.Sheets.{Exact, Begun, Ready, Charted, Judged, Settles};
 ghost use Rattle.filling.specs.Closing.{Found, CutJoins, Columns};
+ghost use Rattle.filling.specs.Kept.{Prepared, Mirrored};
 
 // The pair of the empty word.
 pub fn empty_pair(g: Grammar) -> Pair
@@ -319,16 +321,84 @@ pub fn judge(words: &mut [u64], s: Sentence, g: Grammar) -> Verdict
     Verdict::One
 }
 
-// Has no completion of the draft two trees, its open tokens being what their pairs allow? (Where all of it is known: has it
-// not?) The pairs of spans that end at or before the token `from`, and of those that begin at or past the token `to`, are kept.
-pub fn no_two(words: &mut [u64], d: Draft, g: Grammar, from: usize, to: usize) -> bool
-    requires { ⌜ (d .count ≤ 64) × (d .known ≤ d .count) ⌝ }
+// ---- a search over words of at most 7 tokens
+
+// Make the kept words for the rules.
+pub fn prepare(kept: &mut [u64], g: Grammar)
+    requires { ⌜ Formed g ⌝ }
+    requires { ⌜ length (now kept) ≡ 2563 ⌝ }
+    ensures { λ r. ⌜ Prepared (rules g) (now (kept .exit)) ⌝ }
+{
+    clear(kept, 2563);
+}
+
+// Begin the span sheets of n tokens.
+pub fn open_sheet(words: &mut [u64], kept: &mut [u64], g: Grammar, n: usize)
+    requires { ⌜ n ≤ 7 ⌝ }
+    requires { ⌜ 2 * pairs n ≤ length (now words) ⌝ }
+    requires { ⌜ Prepared (rules g) (now kept) ⌝ }
+    ensures { λ r. ⌜ Mirrored (rules g) n (now (words .exit)) (now (kept .exit)) ⌝ }
+    ensures { λ r. ⌜ Past (2 * pairs n) (now (words .entry)) (now (words .exit)) ⌝ }
+{
+    clear(words, size(n));
+    clear(kept, 2048);
+}
+
+// Give the empty word its pair.
+pub fn give_empty(words: &mut [u64], kept: &mut [u64], g: Grammar, n: usize, one: u64, two: u64)
+    requires { ⌜ n ≤ 7 ⌝ }
+    requires { ⌜ 2 * pairs n ≤ length (now words) ⌝ }
+    requires { ⌜ Mirrored (rules g) n (now words) (now kept) ⌝ }
+    ensures { λ r. ⌜ WrotePair (now (words .entry)) (now (words .exit)) 0 one two ⌝ }
+    ensures { λ r. ⌜ Mirrored (rules g) n (now (words .exit)) (now (kept .exit)) ⌝ }
+{
+    write(words, 0, one, two);
+}
+
+// Give the token at i a pair.
+pub fn give(words: &mut [u64], kept: &mut [u64], g: Grammar, n: usize, i: usize, one: u64, two: u64)
+    requires { ⌜ (n ≤ 7) × (i < n) ⌝ }
+    requires { ⌜ 2 * pairs n ≤ length (now words) ⌝ }
+    requires { ⌜ Mirrored (rules g) n (now words) (now kept) ⌝ }
+    ensures { λ r. ⌜ WrotePair (now (words .entry)) (now (words .exit)) (pairAt n i 1) one two ⌝ }
+    ensures { λ r. ⌜ Mirrored (rules g) n (now (words .exit)) (now (kept .exit)) ⌝ }
+{
+    let p = pair_at(n, i, 1);
+    write(words, p, one, two);
+}
+
+// Fill the span sheet of the draft anew, as `fill` does.
+pub fn refill(words: &mut [u64], kept: &mut [u64], d: Draft, g: Grammar, from: usize, to: usize)
+    requires { ⌜ (d .count ≤ 7) × (d .known ≤ d .count) ⌝ }
     requires { ⌜ 2 * pairs (d .count) ≤ length (now words) ⌝ }
     requires { ⌜ Formed g ⌝ }
     requires { ⌜ Ready (rules g) (half d) (d .count) (now words) from to ⌝ }
+    requires { ⌜ Mirrored (rules g) (d .count) (now words) (now kept) ⌝ }
+    ensures { λ r. ⌜ Charted (now (words .entry)) (now (words .exit)) (rules g) (half d) (d .count) ⌝ }
+    ensures { λ r. ⌜ Mirrored (rules g) (d .count) (now (words .exit)) (now (kept .exit)) ⌝ }
+{
+    fill(words, d, g, from, to);
+}
+
+// Fill it so. Has no completion of the draft two trees, its open tokens being what their pairs allow? (Where all of it is
+// known: has it not?)
+pub fn no_two(
+    words: &mut [u64],
+    kept: &mut [u64],
+    d: Draft,
+    g: Grammar,
+    from: usize,
+    to: usize,
+) -> bool
+    requires { ⌜ (d .count ≤ 7) × (d .known ≤ d .count) ⌝ }
+    requires { ⌜ 2 * pairs (d .count) ≤ length (now words) ⌝ }
+    requires { ⌜ Formed g ⌝ }
+    requires { ⌜ Ready (rules g) (half d) (d .count) (now words) from to ⌝ }
+    requires { ⌜ Mirrored (rules g) (d .count) (now words) (now kept) ⌝ }
     ensures { λ r. ⌜ Settles r (rules g) (half d) (d .count) (now (words .entry)) (now (words .exit)) ⌝ }
+    ensures { λ r. ⌜ Mirrored (rules g) (d .count) (now (words .exit)) (now (kept .exit)) ⌝ }
 {
     let n = d.count;
-    fill(words, d, g, from, to);
+    refill(words, kept, d, g, from, to);
     !in_second(words, n, 0, n, 0)
 }
