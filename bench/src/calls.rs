@@ -89,6 +89,22 @@ impl Call {
         (0..rounds).map(|_| per_call(times, &mut call)).fold(f64::INFINITY, f64::min)
     }
 
+    /// The least CPU seconds of so many rounds of the plain verdict, which must
+    /// leave the twin's words.
+    pub fn seconds_plain(&self, rounds: usize) -> f64 {
+        let Input::Tokens(tokens) = &self.input else {
+            return 0.0;
+        };
+        let (mut lent, mut ours) = (Lent::new(), Lent::new());
+        self.twin(&mut ours);
+        let mut call = || twin::verdict_plain(&self.rules, tokens, &mut lent.words);
+        let times = repeats(timed(&mut call).0);
+        let seconds =
+            (0..rounds).map(|_| per_call(times, &mut call)).fold(f64::INFINITY, f64::min);
+        assert!(lent.words == ours.words, "{}: plain words", self.name);
+        seconds
+    }
+
     /// The fills of the twin's sweep without the index of lengths, and the least
     /// CPU seconds of so many rounds.
     pub fn over_all_lengths(&self, rounds: usize) -> (u64, f64) {

@@ -47,18 +47,22 @@ fn largest_verdicts() -> impl Iterator<Item = Call> {
 /// (b) Verdicts of the largest sheets.
 pub fn verdicts() {
     println!("(b) Verdict of 64 tokens under 128 rules\n");
-    println!("| family | what it has | answer | twin, CPU ms | library, CPU ms |");
-    println!("|---|---|---|---|---|");
+    print!("| family | what it has | answer | plain, CPU ms | twin, CPU ms ");
+    println!("| library, CPU ms | plain/library |");
+    println!("|---|---|---|---|---|---|---|");
     let mut worst = (0.0, "");
     for (family, call) in families::VERDICT.iter().zip(largest_verdicts()) {
         let said = answer(call.twin(&mut Lent::new()));
         let times = call.times(ROUNDS);
+        let plain = call.seconds_plain(ROUNDS);
         println!(
-            "| {} | {} | {said} | {:.2} | {} |",
+            "| {} | {} | {said} | {:.2} | {:.3} | {} | {} |",
             family.name,
             family.what,
+            1e3 * plain,
             1e3 * times.twin,
-            shown(times.library, 1e-3, 2),
+            shown(times.library, 1e-3, 3),
+            times.library.map_or("-".to_string(), |library| format!("{:.1}", plain / library)),
         );
         let seconds = times.library.unwrap_or(times.twin);
         if worst.0 < seconds {

@@ -4,6 +4,7 @@ pub mod chart;
 pub mod columns;
 pub mod grammar;
 pub mod order;
+pub mod plain;
 pub mod sheets;
 pub mod sweep;
 pub mod tried;
@@ -50,6 +51,14 @@ pub fn verdict_walked(rules: &[u8], tokens: &[u8], words: &mut [u64]) -> Result<
     let tokens = sheets::read_tokens(tokens)?;
     order::arrange(&mut rules);
     chart::fill_walked(words, &rules, &tokens);
+    Ok(chart::verdict(words, tokens.len()))
+}
+
+/// The same, as a good programmer would write it first.
+pub fn verdict_plain(rules: &[u8], tokens: &[u8], words: &mut [u64]) -> Result<Verdict, Refusal> {
+    let rules = sheets::read_rules(rules)?;
+    let tokens = sheets::read_tokens(tokens)?;
+    plain::fill(words, &rules, &tokens);
     Ok(chart::verdict(words, tokens.len()))
 }
 

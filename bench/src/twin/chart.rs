@@ -17,7 +17,7 @@ pub fn size(n: usize) -> usize {
 }
 
 /// The place of a span's first word in the sheet of `n` tokens.
-fn place(n: usize, start: usize, len: usize) -> usize {
+pub(super) fn place(n: usize, start: usize, len: usize) -> usize {
     if len == 0 {
         return 0;
     }
@@ -34,11 +34,11 @@ pub struct Pair {
 }
 
 impl Pair {
-    fn at(words: &[u64], place: usize) -> Pair {
+    pub(super) fn at(words: &[u64], place: usize) -> Pair {
         Pair { one: words[place], two: words[place + 1] }
     }
 
-    fn put(self, words: &mut [u64], place: usize) {
+    pub(super) fn put(self, words: &mut [u64], place: usize) {
         words[place] = self.one;
         words[place + 1] = self.two;
     }
@@ -49,7 +49,7 @@ impl Pair {
 /// decide offside and offalign; a flag for single; sets of left lengths for the
 /// binary marks.
 #[derive(Clone, Copy)]
-struct Marks {
+pub(super) struct Marks {
     first: Column,
     least: Option<Column>,
     single: bool,
@@ -95,7 +95,7 @@ impl Marks {
     }
 
     /// The same from the span's first token on: what carrying spares.
-    fn walked(sentence: &Half, start: usize, len: usize) -> Marks {
+    pub(super) fn walked(sentence: &Half, start: usize, len: usize) -> Marks {
         let mut marks = Marks::of(sentence.tokens[start].column);
         for left in 1..len {
             marks.grow(sentence, start, left);
@@ -103,7 +103,7 @@ impl Marks {
         marks
     }
 
-    fn unary(&self, mark: UnaryMark) -> bool {
+    pub(super) fn unary(&self, mark: UnaryMark) -> bool {
         match mark {
             UnaryMark::None => true,
             UnaryMark::Offside => self.least.is_none_or(|least| self.first < least),
@@ -114,7 +114,7 @@ impl Marks {
 
     /// Does the mark hold with `left` tokens of the span on its left, and some
     /// on its right?
-    fn binary(&self, mark: BinaryMark, left: usize) -> bool {
+    pub(super) fn binary(&self, mark: BinaryMark, left: usize) -> bool {
         match mark {
             BinaryMark::None => true,
             BinaryMark::Align => has(self.align, left as u8),

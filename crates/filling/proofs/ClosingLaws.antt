@@ -12,54 +12,88 @@ use Rattle.grammar.specs.Layout.{Every}
 use Rattle.grammar.specs.SpanSheet.{pairAt, firstWord, secondWord}
 use Rattle.marks.specs.declared.SpanMarks.{SpanMarks}
 use Rattle.marks.specs.Half.{Half}
-use Rattle.marks.specs.Marked.{Marked}
+use Rattle.marks.specs.Marked.{Marked, UnaryBy}
+use Rattle.grammar.specs.declared.UnaryMark.the-variants as UnaryMark
+use Rattle.sets.specs.Sets.{In}
 use Rattle.spans.specs.Changes.{Kept, WrotePair, Cleared}
 use Rattle.spans.proofs.Places.{pairAt-of}
 use Rattle.tables.specs.Settled.{Ground}
 use Rattle.cuts.specs.declared.Pair.{Pair}
 use Rattle.cuts.specs.declared.Masks.{Masks}
-use Rattle.cuts.specs.Cuts.{Masked, CutCounts, Mirrors}
+use Rattle.cuts.specs.Cuts.{wordsOf, Masked, CutCounts, Parted, Mirrors}
 use Rattle.cuts.specs.Puts.{PutPair, PutRow}
-use Rattle.cuts.proofs.TryLaws.{mirrored}
+use Rattle.cuts.proofs.TryLaws.{every-rule, mirrored}
 use Rattle.cuts.proofs.MirrorLaws.{mirrors-put, mirrors-next, mirrors-end, columns-none}
-use Rattle.joins.specs.declared.Tally.{Tally}
-use Rattle.joins.specs.Passes.{by-cuts, Saturated}
-use Rattle.links.specs.LinkRules.{Thinned, LinkRules}
-use Rattle.links.proofs.ThinLaws.{saturated-all}
+use Rattle.cuts.specs.Counts as Counts
+use Rattle.cuts.specs.Closure.{Closure, Entry, Unites}
+use Rattle.cuts.proofs.CountLaws.{counts-nested}
+use Rattle.tables.specs.Tables.{no-rule}
+use Rattle.chains.specs.SpanLinks.{spanLinks}
+use Rattle.chains.specs.Chains.{HoldsAt, Leveled, Chains}
+use Rattle.chains.proofs.TableLaws.{table-span}
 use Rattle.chart.specs.Filling.{Closed}
-use Rattle.chart.proofs.FillLaws.{closed}
-use Rattle.filling.specs.Closing.{tallied, Found, CutJoins, Columns}
+use Rattle.filling.specs.Closing.{Begins, Found, CutJoins, Columns}
+use Rattle.filling.proofs.SettleLaws.{closure-settled}
 
 -- what rows and columns say of the span sheet that they mirror
-pub found-joins : {ws ws′ : List ℕ} {g : Rules} {n s len : ℕ} {k : SpanMarks} {rows cols : List ℕ} {e : Pair} {t : Tally} → n ≤ 64 → s + len ≤ n → Every SmallRule g → Mirrors ws n s len rows cols
-    → e .one ≡ getD ws 0 0 → e .two ≡ getD ws 1 0 → Found rows cols g k s len e t → WrotePair ws ws′ (pairAt n s len) (t .one) (t .two) → CutJoins ws ws′ g n s len k
-found-joins {ws} {ws′} {g} {n} {s} {len} {k} {rows} {cols} {e} {t} few fit small m x y f w = record {
-  inner = f .inner;
-  last = t;
-  splits = mirrored ws n s len k rows cols (f .masks) few fit m (f .masked) g small (f .inner) (f .counts);
-  saturated = rw (← x, ← y) (f .saturated);
-  wrote = w;
-}
+pub found-joins : {ws ws′ : List ℕ} {g : Rules} {n s len : ℕ} {k : SpanMarks} {rows cols table : List ℕ} {e t : Pair} → n ≤ 64 → s + len ≤ n → Every SmallRule g → Mirrors ws n s len rows cols
+    → Begins ws e → Chains g e table → Found rows cols table g k s len t → WrotePair ws ws′ (pairAt n s len) (t .one) (t .two) → CutJoins ws ws′ g n s len k
+found-joins {ws} {ws′} {g} {n} {s} {len} {k} {rows} {cols} {table} {e} {t} few fit small m b h f w =
+    let sp = mirrored ws n s len k rows cols (f .masks) few fit m (f .masked) g small (f .inner) (f .counts) in
+    record {
+      inner = f .inner;
+      last = t;
+      empty = e;
+      table = table;
+      level = f .level;
+      splits = sp;
+      begins = b;
+      chains = h;
+      leveled = f .leveled;
+      bounded = λ B i. lefts B (sp .one B .0 i);
+      unites = f .unites;
+      wrote = w;
+    }
+  where
+    lefts : (B : ℕ) → Counts.Some (Parted ws n s len k g) B → B < 64
+    lefts B q = let x = every-rule SmallRule no-rule g small (q .rule) (q .stands .stand .within) .left in omega (arith, q .stands .stand .left)
+
+-- single has offside with it
+single-offside : {h : Half} {s len : ℕ} {k : SpanMarks} → Marked h s len k → UnaryBy k UnaryMark.Single → UnaryBy k UnaryMark.Offside
+single-offside m x = m .unary UnaryMark.Offside .1 (record { keeps = λ i a b z. absurd (let y = m .unary UnaryMark.Single .0 x .keeps i a b in omega arith) })
 
 -- so it is closed
 pub cut-joined : (ws ws′ : List ℕ) (g : Rules) (h : Half) (n s len : ℕ) (k : SpanMarks) → Distinct g → h .known ≤ length (h .word) → s + len ≤ n → 2 ≤ len → Marked h s len k → Ground ws g h n s len → CutJoins ws ws′ g n s len k → Closed ws ws′ g h n s len
-cut-joined ws ws′ g h n s len k distinct known fit long marked ground j =
-    closed ws ws′ g h n s len k (tallied (j .inner)) (j .last) distinct known fit marked ground (by-cuts long refl (j .splits)) (j .saturated) (j .wrote)
+cut-joined ws ws′ g h n s len k distinct known fit long marked ground j = record {
+  kept = j .wrote .kept;
+  settled = closure-settled ws g h n s len k (j .inner) distinct known fit long marked ground (j .splits) ws′ (j .last) closure (j .wrote);
+}
+  where
+    entries : (B : ℕ) → In (j .inner .one) B → Entry (spanLinks g (HoldsAt (j .level)) (getD ws 0 0) (getD ws 1 0)) B (wordsOf (j .table) (128 * j .level) B)
+    entries B i = rw (j .begins .one, j .begins .two) (j .chains .entry (j .level) B (j .leveled .small) (j .bounded B i))
+
+    closure : Closure (spanLinks g (UnaryBy k) (getD ws 0 0) (getD ws 1 0)) (j .inner) (j .last)
+    closure = table-span g (getD ws 0 0) (getD ws 1 0) (HoldsAt (j .level)) k (j .leveled .holds (single-offside marked)) (wordsOf (j .table) (128 * j .level)) (j .inner) (j .last) entries (counts-nested (j .splits)) (j .unites)
 
 -- the pair of the empty word is not written
-pub empty-kept : {ws ws′ : List ℕ} (n s len : ℕ) → 0 < len → Kept ws ws′ (pairAt n s len) → getD ws′ 0 0 ≡ getD ws 0 0
-empty-kept n s len pos k = k .rest 0 (omega (arith, pairAt-of n s len pos)) (omega (arith, pairAt-of n s len pos))
+pub empty-kept : {ws ws′ : List ℕ} {e : Pair} (n s len : ℕ) → 0 < len → Kept ws ws′ (pairAt n s len) → Begins ws e → Begins ws′ e
+empty-kept n s len pos k b = record {
+  one = k .rest 0 (omega (arith, pairAt-of n s len pos)) (omega (arith, pairAt-of n s len pos)) ∙ b .one;
+  two = k .rest 1 (omega (arith, pairAt-of n s len pos)) (omega (arith, pairAt-of n s len pos)) ∙ b .two;
+}
 
 -- ---- what the functions find
 
-pub found-of : {rows cols : List ℕ} {g w : Grammar} {k : SpanMarks} {s len : ℕ} {e p : Pair} {m : Masks} {t : Tally} → Formed g → LinkRules (e .one) g w → 0 < len → Masked k s m
-    → CutCounts rows cols (128 * (s + len)) m (rules g) (g .count) p → Saturated (e .one) (e .two) k len (rules w) (tallied p) t → Found rows cols (rules g) k s len e t
-found-of {rows} {cols} {g} {w} {k} {s} {len} {e} {p} {m} {t} f v pos mk c q = record {
+pub found-of : {rows cols table : List ℕ} {g : Grammar} {k : SpanMarks} {s len l : ℕ} {p t : Pair} {m : Masks} → Formed g → Masked k s m
+    → CutCounts rows cols (128 * (s + len)) m (rules g) (g .count) p → Leveled k l → Unites (wordsOf table (128 * l)) (In (p .one)) (In (p .two)) t → Found rows cols table (rules g) k s len t
+found-of {rows} {cols} {table} {g} {k} {s} {len} {l} {p} {t} {m} f mk c v u = record {
   inner = p;
   masks = m;
+  level = l;
   masked = mk;
   counts = subst (λ (x : ℕ). CutCounts rows cols (128 * (s + len)) m (rules g) x p) (sym (f .whole)) c;
-  saturated = saturated-all (e .one) (e .two) k len pos (subst₂ (λ (x y : ℕ). Thinned (e .one) (rules g) (rules w) x y) (sym (f .whole)) (sym (v .ruled .whole)) (v .thinned)) q;
+  leveled = v;
+  unites = u;
 }
 
 -- a span that is settled is taken in
@@ -82,8 +116,8 @@ pub ending : {ws : List ℕ} {n s len : ℕ} {rows cols : List ℕ} → n < s + 
 ending h m = record { size = m .long; each = mirrors-end h m }
 
 -- before all starts the columns are 0
-pub no-columns : (ws : List ℕ) (n : ℕ) → Columns ws n n (replicate 8320 0)
-no-columns ws n = record { size = length-replicate {A = ℕ} 8320 0; each = columns-none ws n (replicate 8320 0) (zeros 8320) }
+pub no-columns : (ws : List ℕ) (n m : ℕ) → 128 * (n + 1) ≤ m → Columns ws n n (replicate m 0)
+no-columns ws n m h = record { size = omega (arith, length-replicate {A = ℕ} m 0); each = columns-none ws n (replicate m 0) (zeros m) }
   where
     zeros : (k q : ℕ) → getD {A = ℕ} (replicate k 0) q 0 ≡ 0
     zeros zero q = refl

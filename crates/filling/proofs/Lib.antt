@@ -1,4 +1,2 @@
-pub mod ClosingLaws
 pub mod SettleLaws
-pub mod PassClosure
-pub mod TableLaws
+pub mod ClosingLaws

@@ -30,7 +30,7 @@ use Rattle.cuts.specs.Counts as Counts
 use Rattle.cuts.specs.Counts.More.{apart as two-choices, below as one-doubled}
 use Rattle.cuts.specs.Cuts.{Parted, Splits}
 use Rattle.cuts.specs.Closure.{Links, Follows, by-parts, by-link, Doubles, both-parts, part-and-link, both-links, link-below, link-beside, Closure}
-use Rattle.filling.specs.SpanLinks.{Over, Beside, LinkAt, spanLinks, leftOf}
+use Rattle.chains.specs.SpanLinks.{Over, Beside, LinkAt, spanLinks, leftOf}
 
 edge-mark : (k : SpanMarks) (len : ℕ) (m : BinaryMark) (l : ℕ) → (0 < l → l < len → ⊥) → BinaryBy k len m l
 edge-mark k len BinaryMark.None l out = tt

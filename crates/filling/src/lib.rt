@@ -1,14 +1,15 @@
 // The span sheet of a grammar and a sentence, each span settled all cuts at once; the verdict by it.
+use chains::chains;
+use chains::level_of;
 use chart::Verdict;
 use cuts::Pair;
 use cuts::cut_masks;
 use cuts::put;
 use cuts::splits;
+use cuts::unite;
 use grammar::Grammar;
 use grammar::Sentence;
-use joins::Tally;
 use links::leaves;
-use links::link_rules;
 use links::saturated;
 use marks::Draft;
 use marks::SpanMarks;
@@ -22,7 +23,7 @@ use spans::size;
 use spans::write;
 ghost use mathlib.Core.Path.{_≡_};
 ghost use Prim.Native.Nat.{_+_, _*_, _≤_, _<_};
-ghost use lib.ListN.{length, getD};
+ghost use lib.ListN.{length};
 ghost use Rattle.grammar.specs.Content.{rules, Formed};
 ghost use Rattle.grammar.specs.SpanSheet.{pairs, pairAt};
 ghost use Rattle.grammar.specs.Sentences.{spelled};
@@ -30,11 +31,11 @@ ghost use Rattle.marks.specs.Drafts.{half, drafted};
 ghost use Rattle.spans.specs.Changes.{Past, WrotePair};
 ghost use Rattle.tables.specs.Tables.{Room};
 ghost use Rattle.cuts.specs.Cuts.{Mirrors};
-ghost use Rattle.links.specs.LinkRules.{LinkRules};
+ghost use Rattle.chains.specs.Chains.{Chains};
 ghost use Rattle.chart.specs.Filling.{Whole, Filled, Grown};
 ghost use Rattle.chart.specs.Leaves.{EmptyPair, Leaf};
 ghost use Rattle.chart.specs.Sheets.{Exact, Begun, Ready, Charted, Judged, Settles};
-ghost use Rattle.filling.specs.Closing.{Found, CutJoins, Columns};
+ghost use Rattle.filling.specs.Closing.{Begins, Found, CutJoins, Columns};
 ghost use Rattle.filling.specs.Kept.{Prepared, Mirrored};
 
 // The pair of the empty word.
@@ -86,64 +87,52 @@ pub fn fill_leaves(words: &mut [u64], d: Draft, g: Grammar)
     }
 }
 
-// What stands over a span of two tokens or more: by two shorter parts, by the words of cuts; then passes over the links `w`.
+// What stands over a span of two tokens or more: by two shorter parts, by the words of cuts; then by the table of chains.
 fn find(
     rows: &[u64],
     cols: &[u64],
+    table: &[u64],
     g: Grammar,
-    w: Grammar,
     k: SpanMarks,
     start: usize,
     len: usize,
-    e: Pair,
-) -> Tally
+) -> Pair
     requires { ⌜ Formed g ⌝ }
-    requires { ⌜ LinkRules (e .one) g w ⌝ }
     requires { ⌜ (0 < len) × (start + len ≤ 64) ⌝ }
-    requires { ⌜ (length (now rows) ≡ 128) × (length (now cols) ≡ 8320) ⌝ }
-    ensures { λ t. ⌜ Found (now (rows .entry)) (now (cols .entry)) (rules g) k start len e t ⌝ }
+    requires { ⌜ (length (now rows) ≡ 128) × (128 * (start + len + 1) ≤ length (now cols)) ⌝ }
+    requires { ⌜ length (now table) ≡ 512 ⌝ }
+    ensures { λ t. ⌜ Found (now (rows .entry)) (now (cols .entry)) (now (table .entry)) (rules g) k start len t ⌝ }
 {
     let m = cut_masks(k, start);
     let p = splits(g, rows, cols, 128 * (start + len), m);
-    let b = Tally {
-        seen: p.one,
-        one: p.one,
-        two: p.two,
-    };
-    saturated(b, w, k, e.one, e.two, len)
+    let l = level_of(k);
+    unite(table, 128 * l, p)
 }
 
-// Settle the span and take it in.
+// Settle the span and take it in; `e` is the pair of the empty word.
 fn close(
     words: &mut [u64],
     rows: &mut [u64],
     cols: &mut [u64],
+    table: &[u64],
     n: usize,
     g: Grammar,
-    w: Grammar,
+    e: Pair,
     k: SpanMarks,
     start: usize,
     len: usize,
 )
     requires { ⌜ Room (now words) n start len × (0 < len) ⌝ }
     requires { ⌜ Formed g ⌝ }
-    requires { ⌜ LinkRules (getD (now words) 0 0) g w ⌝ }
+    requires { ⌜ Begins (now words) e × Chains (rules g) e (now table) ⌝ }
     requires { ⌜ Mirrors (now words) n start len (now rows) (now cols) ⌝ }
     ensures { λ r. ⌜ CutJoins (now (words .entry)) (now (words .exit)) (rules g) n start len k ⌝ }
     ensures { λ r. ⌜ Mirrors (now (words .exit)) n start (len + 1) (now (rows .exit)) (now (cols .exit)) ⌝ }
 {
-    let e = Pair {
-        one: words[0],
-        two: words[1],
-    };
-    let t = find(rows, cols, g, w, k, start, len, e);
+    let t = find(rows, cols, table, g, k, start, len);
     let q = pair_at(n, start, len);
     write(words, q, t.one, t.two);
-    let p = Pair {
-        one: t.one,
-        two: t.two,
-    };
-    put(rows, cols, start, start + len, p);
+    put(rows, cols, start, start + len, t);
 }
 
 // Take in a span that is settled.
@@ -177,21 +166,22 @@ pub fn fill_start(
     words: &mut [u64],
     rows: &mut [u64],
     cols: &mut [u64],
+    table: &[u64],
     d: Draft,
     g: Grammar,
-    w: Grammar,
+    e: Pair,
     from: usize,
     start: usize,
 )
     requires { ⌜ Whole d × (start < d .count) ⌝ }
     requires { ⌜ 2 * pairs (d .count) ≤ length (now words) ⌝ }
     requires { ⌜ Formed g ⌝ }
-    requires { ⌜ LinkRules (getD (now words) 0 0) g w ⌝ }
+    requires { ⌜ Begins (now words) e × Chains (rules g) e (now table) ⌝ }
     requires { ⌜ (length (now rows) ≡ 128) × Columns (now words) (d .count) (start + 1) (now cols) ⌝ }
     requires { ⌜ Filled (now words) (rules g) (half d) (d .count) from (start + 1) (d .count + 1) ⌝ }
     ensures { λ r. ⌜ Grown (now (words .entry)) (now (words .exit)) (rules g) (half d) (d .count) from start ⌝ }
     ensures { λ r. ⌜ Columns (now (words .exit)) (d .count) start (now (cols .exit)) ⌝ }
-    ensures { λ r. ⌜ getD (now (words .exit)) 0 0 ≡ getD (now (words .entry)) 0 0 ⌝ }
+    ensures { λ r. ⌜ Begins (now (words .exit)) e ⌝ }
 {
     let n = d.count;
     let known = d.known;
@@ -209,7 +199,7 @@ pub fn fill_start(
             load(words, rows, cols, n, start, len);
             continue;
         }
-        close(words, rows, cols, n, g, w, k, start, len);
+        close(words, rows, cols, table, n, g, e, k, start, len);
     }
 }
 
@@ -247,16 +237,17 @@ fn fill_starts(
     words: &mut [u64],
     rows: &mut [u64],
     cols: &mut [u64],
+    table: &[u64],
     d: Draft,
     g: Grammar,
-    w: Grammar,
+    e: Pair,
     from: usize,
     to: usize,
 )
     requires { ⌜ Whole d × (to ≤ d .count) ⌝ }
     requires { ⌜ 2 * pairs (d .count) ≤ length (now words) ⌝ }
     requires { ⌜ Formed g ⌝ }
-    requires { ⌜ LinkRules (getD (now words) 0 0) g w ⌝ }
+    requires { ⌜ Begins (now words) e × Chains (rules g) e (now table) ⌝ }
     requires { ⌜ (length (now rows) ≡ 128) × Columns (now words) (d .count) to (now cols) ⌝ }
     requires { ⌜ Filled (now words) (rules g) (half d) (d .count) from to (d .count + 1) ⌝ }
     ensures { λ r. ⌜ Grown (now (words .entry)) (now (words .exit)) (rules g) (half d) (d .count) from 0 ⌝ }
@@ -264,7 +255,7 @@ fn fill_starts(
     let mut start = to;
     while 0 < start {
         start -= 1;
-        fill_start(words, rows, cols, d, g, w, from, start);
+        fill_start(words, rows, cols, table, d, g, e, from, start);
     }
 }
 
@@ -278,11 +269,16 @@ pub fn fill(words: &mut [u64], d: Draft, g: Grammar, from: usize, to: usize)
     ensures { λ r. ⌜ Charted (now (words .entry)) (now (words .exit)) (rules g) (half d) (d .count) ⌝ }
 {
     let n = d.count;
+    let e = Pair {
+        one: words[0],
+        two: words[1],
+    };
+    let mut table = [0u64; 512];
+    chains(&mut table, g, e);
     let mut rows = [0u64; 128];
     let mut cols = [0u64; 8320];
     load_from(words, &mut rows, &mut cols, n, to);
-    let w = link_rules(g, words[0]);
-    fill_starts(words, &mut rows, &mut cols, d, g, w, from, to);
+    fill_starts(words, &mut rows, &mut cols, &table, d, g, e, from, to);
 }
 
 // Fill all of the span sheet of the draft, which is known.

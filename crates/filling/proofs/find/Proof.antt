@@ -1,41 +1,61 @@
 use borrow.Author.Needs.{needs}
+use native.Mathlib.Omega.{arith}
+use Rattle.cuts.proofs.CountLaws.{counts-nested}
 use Rattle.filling.proofs.ClosingLaws.{found-of}
 use Rattle.filling.proofs.find.Statement.{statement}
 use Rattle.filling.proofs.find.Tie as tie
 use Rattle.filling.proofs.find.Reads as reads
 use Rattle.filling.proofs.find.Lts as lts
+use Rattle.chains.proofs.level_of.Reads as level-of-reads
 use Rattle.cuts.proofs.cut_masks.Reads as cut-masks-reads
 use Rattle.cuts.proofs.splits.Reads as splits-reads
-use Rattle.links.proofs.saturated.Reads as saturated-reads
+use Rattle.cuts.proofs.unite.Reads as unite-reads
 
--- src/lib.rt:45:9
+-- src/lib.rt:106:9
 cut-masks-requires : tie.Need-cut-masks-requires
 cut-masks-requires c κs = search needs
 
--- src/lib.rt:46:42
+-- src/lib.rt:107:42
 add-splits : tie.Need-add-splits
 add-splits c = search needs
 
--- src/lib.rt:46:35
+-- src/lib.rt:107:35
 mul-splits : tie.Need-mul-splits
 mul-splits c = search needs
 
--- src/lib.rt:46:9
+-- src/lib.rt:107:9
 splits-requires : tie.Need-splits-requires
 splits-requires c κs = search needs
 
--- src/lib.rt:52:5
-saturated-requires : tie.Need-saturated-requires
-saturated-requires c κs = search needs
+-- src/lib.rt:108:9
+level-of-requires : tie.Need-level-of-requires
+level-of-requires c κs = search needs
 
--- src/lib.rt:29:1
+-- src/lib.rt:109:18
+mul-unite : tie.Need-mul-unite
+mul-unite c = search needs
+
+-- src/lib.rt:109:5
+unite-requires : tie.Need-unite-requires
+unite-requires c κs =
+    let z = c .before .before .before .before .before .before in
+    (omega (arith, c .level-of .ensures .small, z .pre .1 .1 .1), record { within = counts-nested (c .before .splits .ensures) })
+
+-- src/lib.rt:91:1
 returns : tie.Need-returns
 returns c =
-    let y = c .before in
-    let z = y .before .before .before .before in
-    found-of (z .pre .0) (z .pre .1 .0) (z .pre .1 .1 .0 .0) (y .before .cut-masks .ensures) (y .splits .ensures) (c .saturated .ensures)
+    let s = c .before .before in
+    found-of (s .before .before .before .before .before .pre .0) (s .before .cut-masks .ensures) (s .splits .ensures) (c .before .level-of .ensures) (c .unite .ensures)
 
 pub find-spec : {M : Type 1} → statement M
 find-spec =
     tie.close
-    (tie.spec cut-masks-requires add-splits mul-splits splits-requires saturated-requires returns)
+    (tie.spec
+    cut-masks-requires
+    add-splits
+    mul-splits
+    splits-requires
+    level-of-requires
+    mul-unite
+    unite-requires
+    returns)

@@ -11,14 +11,14 @@ use Rattle.filling.proofs.load_from.Lts as lts
 use Rattle.filling.proofs.load_start.Reads as load-start-reads
 
 abbrev Inv-loop : tie.InvT-loop
-Inv-loop words rows₀ cols₀ n to start₀ rows cols start = (to ≤ start) × (start ≤ n) × (length rows ≡ 128) × Columns words n start cols
+Inv-loop words rows₀ cols₀ n to start₀ rows cols start = (to ≤ start) × (start ≤ n) × (length rows ≡ 128) × Columns words n start cols × (length cols ≡ length cols₀)
 
 abbrev μ-loop : tie.MeasureT-loop
 μ-loop words rows₀ cols₀ n to start₀ rows cols start = start
 
 -- src/lib.rt:180:5
 loop-holds : tie.Need-loop-holds Inv-loop μ-loop
-loop-holds c = let z = c .before .before .before in (omega (arith, z .pre .0 .fits), omega arith, z .pre .1 .0, z .pre .1 .1)
+loop-holds c = let z = c .before .before .before in (omega (arith, z .pre .0 .fits), omega arith, z .pre .1 .0, z .pre .1 .1, refl)
 
 -- src/lib.rt:181:9
 sub-start : tie.Need-sub-start Inv-loop μ-loop
@@ -39,7 +39,7 @@ loop-less c = omega (arith, c .before .before .before .before .before .before .b
 
 -- src/lib.rt:180:5
 loop-again : tie.Need-loop-again Inv-loop μ-loop
-loop-again c = let l = c .before .before .before .before .before .before .before .before .loop .inv in (omega (arith, c .before .before .before .before .before .before .before .loop-test .taken), omega (arith, l .1), search needs, c .before .before .before .before .load-start .ensures)
+loop-again c = let l = c .before .before .before .before .before .before .before .before .loop .inv in (omega (arith, c .before .before .before .before .before .before .before .loop-test .taken), omega (arith, l .1), search needs, c .before .before .before .before .load-start .ensures, c .before .before .before .before .load-start .kept .1 .1 .0 ∙ l .4)
 
 -- src/lib.rt:173:1
 same-length : tie.Need-same-length Inv-loop μ-loop
@@ -47,7 +47,7 @@ same-length c = c .before .loop .inv .2 ∙ sym (c .before .before .before .befo
 
 -- src/lib.rt:173:1
 same-length-2 : tie.Need-same-length-2 Inv-loop μ-loop
-same-length-2 c = c .before .loop .inv .3 .size ∙ sym (c .before .before .before .before .before .pre .1 .1 .size)
+same-length-2 c = c .before .loop .inv .4
 
 -- src/lib.rt:173:1
 returns : tie.Need-returns Inv-loop μ-loop

@@ -14,7 +14,7 @@ use Rattle.filling.proofs.begin.Reads as begin-reads
 use Rattle.filling.proofs.load.Reads as load-reads
 
 abbrev Inv-loop : tie.InvT-loop
-Inv-loop words rows₀ cols₀ n start len₀ rows cols len = (2 ≤ len) × (start + len ≤ n + 1) × Mirrors words n start len rows cols
+Inv-loop words rows₀ cols₀ n start len₀ rows cols len = (2 ≤ len) × (start + len ≤ n + 1) × Mirrors words n start len rows cols × (length cols ≡ length cols₀)
 
 abbrev μ-loop : tie.MeasureT-loop
 μ-loop words rows₀ cols₀ n start len₀ rows cols len = n + 1 - len
@@ -25,7 +25,7 @@ begin-requires c κs = let z = c .before .before .before .before .before in (z .
 
 -- src/lib.rt:166:5
 loop-holds : tie.Need-loop-holds Inv-loop μ-loop
-loop-holds c = (omega arith, omega (arith, c .before .before .before .before .before .before .before .before .before .before .pre .0 .fits), c .before .before .before .before .begin .ensures)
+loop-holds c = (omega arith, omega (arith, c .before .before .before .before .before .before .before .before .before .before .pre .0 .fits), c .before .before .before .before .begin .ensures, refl)
 
 -- src/lib.rt:166:11
 add-loop : tie.Need-add-loop Inv-loop μ-loop
@@ -49,7 +49,7 @@ loop-less c = omega (arith, c .before .before .before .before .before .before .b
 
 -- src/lib.rt:166:5
 loop-again : tie.Need-loop-again Inv-loop μ-loop
-loop-again c = let l = c .before .before .before .before .before .before .before .before .loop .inv in (omega (arith, l .0), omega (arith, c .before .before .before .before .before .before .before .loop-test .taken), c .before .before .before .before .load .ensures)
+loop-again c = let l = c .before .before .before .before .before .before .before .before .loop .inv in (omega (arith, l .0), omega (arith, c .before .before .before .before .before .before .before .loop-test .taken), c .before .before .before .before .load .ensures, c .before .before .before .before .load .kept .1 .1 .0 ∙ l .3)
 
 -- src/lib.rt:158:1
 same-length : tie.Need-same-length Inv-loop μ-loop
@@ -57,7 +57,7 @@ same-length c = c .before .loop .inv .2 .wide ∙ sym (c .before .before .before
 
 -- src/lib.rt:158:1
 same-length-2 : tie.Need-same-length-2 Inv-loop μ-loop
-same-length-2 c = c .before .loop .inv .2 .long ∙ sym (c .before .before .before .before .before .before .before .before .before .before .before .before .pre .1 .1 .size)
+same-length-2 c = c .before .loop .inv .3 ∙ c .before .before .before .before .before .before .begin .kept .1 .1 .0
 
 -- src/lib.rt:158:1
 returns : tie.Need-returns Inv-loop μ-loop

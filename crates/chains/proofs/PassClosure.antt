@@ -19,8 +19,8 @@ use Rattle.joins.specs.declared.Tally.{Tally}
 use Rattle.joins.specs.Passes.{alone, both, WholeSide, Pass, pass-none, pass-more, resumed, Passes, passes-none, passes-more, Saturated}
 use Rattle.joins.proofs.TallyLaws.{Done, Standing, From, from-same, Brings, from-took, from-sets, All, all-sets, Still, still-same, still-took}
 use Rattle.joins.proofs.PassLaws.{pass-within, passes-one, passes-two}
-use Rattle.filling.specs.SpanLinks.{Over, Beside, LinkAt, spanLinks}
-use Rattle.filling.specs.Closing.{tallied}
+use Rattle.chains.specs.SpanLinks.{Over, Beside, LinkAt, spanLinks}
+use Rattle.chains.specs.Chains.{tallied}
 
 -- the choices of the rules from i on, and those besides of rule i that have no word on the left
 abbrev Upon : ℕ → Done

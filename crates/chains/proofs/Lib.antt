@@ -1,0 +1,3 @@
+pub mod PassClosure
+pub mod TableLaws
+pub mod ChainLaws

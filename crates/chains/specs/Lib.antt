@@ -1,0 +1,2 @@
+pub mod SpanLinks
+pub mod Chains
