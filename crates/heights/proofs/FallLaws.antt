@@ -3,23 +3,23 @@ use mathlib.Core.Path.{_≡_, refl, sym, ap, ap₂, _∙_, subst}
 use mathlib.Core.Logic.{_⊎_, inl, inr, ⊎-elim}
 use mathlib.Core.Bool.{Bool, true, false}
 use mathlib.Core.List.{List, [], _∷_}
-use Prim.Native.Nat.{ℕ, zero, suc, _+_, _-_, _*_, _≤_, _<_, max}
+use Prim.Native.Nat.{ℕ, zero, suc, _+_, _-_, _*_, _≤_, _<_, max, min}
 use native.Mathlib.Omega.{arith}
 use native.Mathlib.Decide.{ℕ-discrete, decLt}
-use lib.ListN.{length, getD, set, length-set}
+use lib.ListN.{length, getD, set, length-set, List·getD-eq-default}
 use lib.Seq.{getD-set-same, getD-set-other}
 use Rattle.grammar.specs.declared.Rule.{Rule}
 use Rattle.grammar.specs.declared.Clause.{Clause}
 use Rattle.grammar.specs.declared.Clause.the-variants as Clause
+use Rattle.grammar.specs.declared.BinaryMark.{BinaryMark}
 use Rattle.grammar.specs.Trees.{Rules}
 use Rattle.grammar.specs.SpanSheet.{pairAt, pairs}
-use Rattle.spans.proofs.Places.{pairAt-below, pairAt-shorter, pairs-spans, spans-closed, spans-bound}
-use Rattle.codes.specs.Codes.{kind, clause, decode, decoded}
-use Rattle.codes.proofs.Laws.{coded-at, coded-length, part-kind}
-use Rattle.tables.specs.Tables.{Leave, no-rule, rule}
+use Rattle.spans.proofs.Places.{pairAt-below, pairAt-empty, pairAt-shorter, pairs-spans, spans-closed, spans-bound}
+use Rattle.marks.specs.declared.SpanMarks.{SpanMarks}
+use Rattle.tables.specs.Tables.{Leave, byMarks, rule}
 use Rattle.heights.specs.Least.{numberAt}
-use Rattle.heights.specs.Tall.{none, table, Tall, Measured, Over, Room}
-use Rattle.heights.specs.Falls.{Falls, stays, put, rowSum, sum, Passed, Between, Inner, Ends, AllEnds, Either, Stopped, Shut}
+use Rattle.heights.specs.Tall.{none, table, Tall, Measured, Lowest, Over, Room}
+use Rattle.heights.specs.Falls.{Lowered, Idle, Falls, stays, put, rowSum, sum, Passed, Between, Inner, Ends, AllEnds, Either, Stopped, Shut}
 use Rattle.heights.proofs.TallLaws.{tall-down, tall-le, tall-inner}
 use Rattle.heights.proofs.Bounds.{Put, total-less}
 
@@ -104,30 +104,6 @@ module _ {g : Rules} {v : Leave} {n start len : ℕ} (lefts : Lefts g) where
   pub passed-none : {l : List ℕ} (D : ℕ → ℕ → Type 0) → ((i k h : ℕ) → D i k → Tall (table l n) v start len (rule g i .clause) k h → ⊥) → Passed g v n start len D l l false
   passed-none D f = record { falls = stays; fell = λ e. absurd (let z : _≡_ {A = ℕ} 0 1 = cc in omega arith); same = λ e. refl; tried = λ i k h d t. absurd (f i k h d t) }
 
-  module _ {l : List ℕ} (r : Room l n start len) (i k h : ℕ) (b : i < length g) (t : Measured (table l n) v start len (rule g i .clause) k h) where
-    pub passed-put : h < table l n start len (rule g i .left) → table l n start len (rule g i .left) ≤ 65535 → Passed g v n start len (λ j q. (j ≡ i) × (q ≡ k)) l (set l (2081 * rule g i .left + pairAt n start len) h) true
-    passed-put d u =
-        let p = put-row l n start len (rule g i .left) h (r .few) (r .fits) (lefts i b) (r .long) d in
-        record {
-          falls = put i k h b (t .is (omega arith)) (omega arith) d stays;
-          fell = λ e. total-less p 64 (lefts i b);
-          same = λ e. absurd (let z : _≡_ {A = ℕ} 0 1 = cc in omega arith);
-          tried = λ j q c x y.
-              let y′ : Tall (table l n) v start len (rule g i .clause) k c = rw (x .0, x .1) at y in
-              rw (x .0) (omega (arith, p .here, t .low c y′));
-        }
-
-    pub passed-skip : table l n start len (rule g i .left) ≤ h → Passed g v n start len (λ j q. (j ≡ i) × (q ≡ k)) l l false
-    passed-skip d =
-        record {
-          falls = stays;
-          fell = λ e. absurd (let z : _≡_ {A = ℕ} 0 1 = cc in omega arith);
-          same = λ e. refl;
-          tried = λ j q c x y.
-              let y′ : Tall (table l n) v start len (rule g i .clause) k c = rw (x .0, x .1) at y in
-              rw (x .0) (omega (arith, t .low c y′));
-        }
-
   pub passed-then : {l m o : List ℕ} {a b r : Bool} (D E F : ℕ → ℕ → Type 0) → Room l n start len
       → Passed g v n start len D l m a → Passed g v n start len E m o b → Either a b r → ((i k : ℕ) → F i k → D i k ⊎ E i k) → Passed g v n start len F l o r
   passed-then {l} {m} {o} {a} {b} {r} D E F room x y e f =
@@ -161,15 +137,11 @@ lt-or-eq q k h = go (decLt q k)
 
 -- a left length more, and a rule more
 module _ {g : Rules} {v : Leave} {n start len : ℕ} {l m o : List ℕ} {a b r : Bool} (lefts : Lefts g) (room : Room l n start len) (i : ℕ) where
-  pub between-more : (from k : ℕ) → Passed g v n start len (Between i from k) l m a → Passed g v n start len (λ j q. (j ≡ i) × (q ≡ k)) m o b → Either a b r
-      → Passed g v n start len (Between i from (k + 1)) l o r
-  between-more from k x y e = passed-then lefts _ _ _ room x y e (λ j q d. ⊎-elim (λ z. inl (d .0, d .1, z)) (λ z. inr (d .0, z)) (lt-or-eq q k (d .2)))
-
   pub inner-more : Passed g v n start len (Inner len i) l m a → Passed g v n start len (Between i 1 len) m o b → Either a b r → Passed g v n start len (Inner len (i + 1)) l o r
   inner-more x y e = passed-then lefts _ _ _ room x y e (λ j q d. ⊎-elim (λ z. inl (z, d .1, d .2)) (λ z. inr (z, omega (arith, d .1), d .2)) (lt-or-eq j i (d .0)))
 
-  pub ends-both : Passed g v n start len (λ j q. (j ≡ i) × (q ≡ 0)) l m a → Passed g v n start len (λ j q. (j ≡ i) × (q ≡ len)) m o b → Either a b r → Passed g v n start len (Ends len i) l o r
-  ends-both x y e = passed-then lefts _ _ _ room x y e (λ j q d. ⊎-elim (λ z. inl (d .0, z)) (λ z. inr (d .0, z)) (d .1))
+  pub ends-both : Passed g v n start len (Between i 0 1) l m a → Passed g v n start len (Between i len (len + 1)) m o b → Either a b r → Passed g v n start len (Ends len i) l o r
+  ends-both x y e = passed-then lefts _ _ _ room x y e (λ j q d. ⊎-elim (λ z. inl (d .0, omega arith, omega arith)) (λ z. inr (d .0, omega arith, omega arith)) (d .1))
 
   pub ends-more : Passed g v n start len (AllEnds len i) l m a → Passed g v n start len (Ends len i) m o b → Either a b r → Passed g v n start len (AllEnds len (i + 1)) l o r
   ends-more x y e = passed-then lefts _ _ _ room x y e (λ j q d. ⊎-elim (λ z. inl (z, d .1)) (λ z. inr (z, d .1)) (lt-or-eq j i (d .0)))
@@ -221,41 +193,158 @@ module _ {hs : ℕ → ℕ → ℕ → ℕ} {v : Leave} {s len l : ℕ} where
   pub measured-binary : (B C : ℕ) (m : _) (a b r : ℕ) → l ≤ len → v .binary m l → a ≡ hs s l B → b ≡ hs (s + l) (len - l) C → Over a b r → Measured hs v s len (Clause.Binary B C m) l r
   measured-binary B C m a b r e h p q u = record { is = λ x. (e, h, u .is x ∙ ap₂ (λ (y z : ℕ). suc (max y z)) p q); low = λ k t. omega (arith, u .low, t .2) }
 
--- ---- one try, as the code makes it
+-- ---- the left lengths of a clause, one after the other
 
-module _ {v : Leave} {n start len : ℕ} {l : List ℕ} (cs : List ℕ) (lefts : Lefts (decoded cs)) (room : Room l n start len) (i k h at : ℕ) (r : Rule) (b : i < length cs) (e : r ≡ decode (getD cs i 0))
-    (t : Measured (table l n) v start len (r .clause) k h) (p : at ≡ 2081 * r .left + pairAt n start len) (q : at < 133184) where
-  is-rule : r ≡ rule (decoded cs) i
-  is-rule = e ∙ coded-at cs no-rule i b
+module _ {hs : ℕ → ℕ → ℕ → ℕ} {v : Leave} {s len : ℕ} (c : Clause) where
+  pub lowest-none : (from : ℕ) → Lowest hs v s len c from from 65535
+  lowest-none from = record { is = λ x. absurd (omega arith); low = λ l h a b t. absurd (omega arith) }
 
-  here : at ≡ 2081 * rule (decoded cs) i .left + pairAt n start len
-  here = p ∙ ap (λ (y : Rule). 2081 * y .left + pairAt n start len) is-rule
+  pub lowest-one : (l : ℕ) {r : ℕ} → Measured hs v s len c l r → Lowest hs v s len c l (l + 1) r
+  lowest-one l {r} m = record {
+    is = λ x. (l, omega arith, omega arith, m .is x);
+    low = λ q h a b t. m .low h (subst (λ (y : ℕ). Tall hs v s len c y h) (let z : q ≡ l = omega arith in z) t);
+  }
 
-  cell-of : getD l at 0 ≡ table l n start len (rule (decoded cs) i .left)
-  cell-of = getD-any l at 0 65535 (omega (arith, room .long)) ∙ ap (λ (y : ℕ). getD l y 65535) here
+  pub lowest-more : (from to : ℕ) {a b : ℕ} → from ≤ to → Lowest hs v s len c from to a → Measured hs v s len c to b → Lowest hs v s len c from (to + 1) (min a b)
+  lowest-more from to {a} {b} f x m = record { is = λ h. is h (decLt a b); low = λ l h y z t. low l h y z t (decLt l to) }
+    where
+      is : min a b < none → Dec (a < b) → (l : ℕ) × (from ≤ l) × (l < to + 1) × Tall hs v s len c l (min a b)
+      is h (yes d) =
+          let e : min a b ≡ a = omega arith in
+          let y = x .is (omega arith) in (y .0, y .1, omega (arith, y .2), subst (λ (r : ℕ). Tall hs v s len c (y .0) r) (sym e) (y .3))
+      is h (no d) = let e : min a b ≡ b = omega arith in (to, f, omega arith, subst (λ (r : ℕ). Tall hs v s len c to r) (sym e) (m .is (omega arith)))
 
-  measured : Measured (table l n) v start len (rule (decoded cs) i .clause) k h
-  measured = subst (λ (y : Rule). Measured (table l n) v start len (y .clause) k h) is-rule t
+      low : (l h : ℕ) → from ≤ l → l < to + 1 → Tall hs v s len c l h → Dec (l < to) → min a b ≤ h
+      low l h y z t (yes d) = omega (arith, x .low l h y d t)
+      low l h y z t (no d) = omega (arith, m .low h (subst (λ (q : ℕ). Tall hs v s len c q h) (let e : l ≡ to = omega arith in e) t))
 
-  inside-rules : i < length (decoded cs)
-  inside-rules = omega (arith, coded-length cs)
+  pub lowest-end : {r : ℕ} (to end : ℕ) → (to ≤ end) ⊎ (to ≡ 1) → end ≤ to → Lowest hs v s len c 1 to r → Lowest hs v s len c 1 end r
+  lowest-end to end e h x = record {
+    is = λ k. let y = x .is k in (y .0, y .1, ⊎-elim (λ z. omega (arith, y .2)) (λ z. absurd (omega (arith, y .1, y .2))) e, y .3);
+    low = λ l k a b t. x .low l k a (omega arith) t;
+  }
 
-  pub lower-yes : h < getD l at 0 → getD l at 0 ≤ 65535 → Passed (decoded cs) v n start len (λ j y. (j ≡ i) × (y ≡ k)) l (set l at h) true
-  lower-yes d u =
-      subst (λ (y : ℕ). Passed (decoded cs) v n start len (λ j z. (j ≡ i) × (z ≡ k)) l (set l y h) true) (sym here)
-      (passed-put lefts room i k h inside-rules measured (omega (arith, cell-of)) (omega (arith, cell-of)))
+-- ---- a rule tried, as the code does it: a pass over that rule alone
 
-  pub lower-no : getD l at 0 ≤ h → Passed (decoded cs) v n start len (λ j y. (j ≡ i) × (y ≡ k)) l l false
-  lower-no d = passed-skip lefts room i k h inside-rules measured (omega (arith, cell-of))
+pub lefts-one : (r : Rule) → r .left < 64 → Lefts (r ∷ [])
+lefts-one r h zero b = h
+lefts-one r h (suc i) b = absurd (omega arith)
 
--- only a binary rule stands with a token or more on either side
-pub low-none : {v : Leave} {n start len : ℕ} {l : List ℕ} (cs : List ℕ) (lefts : Lefts (decoded cs)) (i : ℕ) → i < length cs → kind (getD cs i 0) < 3 → Passed (decoded cs) v n start len (Between i 1 len) l l false
-low-none {v} {n} {start} {len} {l} cs lefts i b c = passed-none lefts _ go
+cell-of : {n start len : ℕ} {l : List ℕ} (A at : ℕ) → A < 64 → Room l n start len → at ≡ 2081 * A + pairAt n start len → getD l at 0 ≡ table l n start len A
+cell-of {n} {start} {len} {l} A at small room p =
+    getD-any l at 0 65535 (omega (arith, inside n start len (room .few) (room .fits), room .long)) ∙ ap (λ (y : ℕ). getD l y 65535) p
+
+module _ {v : Leave} {n start len : ℕ} {l : List ℕ} (r : Rule) (small : r .left < 64) (room : Room l n start len) (from to h at : ℕ)
+    (p : at ≡ 2081 * r .left + pairAt n start len) (x : Lowest (table l n) v start len (r .clause) from to h) where
+  pub passed-lowest : {m : List ℕ} {fell : Bool} → Lowered l m at h fell → Passed (r ∷ []) v n start len (Between 0 from to) l m fell
+  passed-lowest {m} {fell} y = go fell refl
+    where
+      same : getD l at 0 ≡ table l n start len (r .left)
+      same = cell-of (r .left) at small room p
+
+      lowest : (j q c : ℕ) → Between 0 from to j q → Tall (table l n) v start len (rule (r ∷ []) j .clause) q c → h ≤ c
+      lowest j q c d t = x .low q c (d .1) (d .2) (subst (λ (i : ℕ). Tall (table l n) v start len (rule (r ∷ []) i .clause) q c) (d .0) t)
+
+      go : (b : Bool) → fell ≡ b → Passed (r ∷ []) v n start len (Between 0 from to) l m fell
+      go true e =
+          let z = y .yes e in
+          let here : m ≡ set l (2081 * r .left + pairAt n start len) h = z .2 ∙ ap (λ (i : ℕ). set l i h) p in
+          let w = put-row l n start len (r .left) h (room .few) (room .fits) small (room .long) (omega (arith, z .0, same)) in
+          let k = x .is (omega (arith, z .0, z .1)) in
+          rw here (record {
+            falls = put {l = l} 0 (k .0) h (omega arith) (k .3) (omega (arith, z .0, z .1)) (omega (arith, z .0, same)) stays;
+            fell = λ f. total-less w 64 small;
+            same = λ f. absurd (let u : _≡_ {A = ℕ} 0 1 = cc in omega arith);
+            tried = λ j q c d t. subst (λ (i : ℕ). table (set l (2081 * r .left + pairAt n start len) h) n start len (rule (r ∷ []) i .left) ≤ c) (sym (d .0)) (omega (arith, w .here, lowest j q c d t));
+          })
+      go false e =
+          let z = y .not e in
+          rw (z .1) (record {
+            falls = stays;
+            fell = λ f. absurd (let u : _≡_ {A = ℕ} 0 1 = cc in omega arith);
+            same = λ f. refl;
+            tried = λ j q c d t. subst (λ (i : ℕ). table l n start len (rule (r ∷ []) i .left) ≤ c) (sym (d .0)) (omega (arith, z .0, same, lowest j q c d t));
+          })
+
+-- as one of the rules g
+module _ {g : Rules} {v : Leave} {n start len : ℕ} (r : Rule) (i : ℕ) (b : i < length g) (e : rule g i ≡ r) where
+  falls-in : {l m : List ℕ} → Falls (r ∷ []) v n start len l m → Falls g v n start len l m
+  falls-in stays = stays
+  falls-in {l} {m} (put zero k h c t a d f) =
+      put i k h b (subst (λ (y : Rule). Tall (table l n) v start len (y .clause) k h) (sym e) t) a (subst (λ (y : Rule). h < table l n start len (y .left)) (sym e) d)
+      (subst (λ (y : Rule). Falls g v n start len (set l (2081 * y .left + pairAt n start len) h) m) (sym e) (falls-in f))
+  falls-in (put (suc j) k h c t a d f) = absurd (omega arith)
+
+  pub passed-in : {l m : List ℕ} {fell : Bool} (D E : ℕ → ℕ → Type 0) → ((j q : ℕ) → E j q → (j ≡ i) × D 0 q) → Passed (r ∷ []) v n start len D l m fell → Passed g v n start len E l m fell
+  passed-in {l} {m} D E f x = record {
+    falls = falls-in (x .falls);
+    fell = x .fell;
+    same = x .same;
+    tried = λ j q h d t.
+        let y = f j q d in
+        let at : rule g j ≡ r = ap (λ (z : ℕ). rule g z) (y .0) ∙ e in
+        subst (λ (z : Rule). table m n start len (z .left) ≤ h) (sym at) (x .tried 0 q h (y .1) (subst (λ (z : Rule). Tall (table l n) v start len (z .clause) q h) at t));
+  }
+
+-- nothing stands with the empty word on one side
+pub idle-none : {k : SpanMarks} {n start len : ℕ} {l : List ℕ} (r : Rule) → r .left < 64 → Idle l n (r .clause) → Passed (r ∷ []) (byMarks k len) n start len (Ends len 0) l l false
+idle-none {k} {n} {start} {len} {l} r small x = record {
+  falls = stays;
+  fell = λ f. absurd (let u : _≡_ {A = ℕ} 0 1 = cc in omega arith);
+  same = λ f. refl;
+  tried = λ j q h d t.
+      subst (λ (i : ℕ). table l n start len (rule (r ∷ []) i .left) ≤ h) (sym (d .0))
+      (x .high k start len q h (r .left) (d .1) (subst (λ (i : ℕ). Tall (table l n) (byMarks k len) start len (rule (r ∷ []) i .clause) q h) (d .0) t));
+}
+
+-- neither side has a height over the empty word
+pub idle-binary : (l : List ℕ) (n B C : ℕ) (m : BinaryMark) → ((i : ℕ) → getD l i 65535 ≤ 65535) → 65535 ≤ getD l (2081 * B) 65535 → 65535 ≤ getD l (2081 * C) 65535
+    → Idle l n (Clause.Binary B C m)
+idle-binary l n B C m few x y = record { high = λ k s len q h A e t. ⊎-elim (λ z. left k s len q h A z t) (λ z. right k s len q h A z t) e }
   where
-    not : (q h : ℕ) → 1 ≤ q → Tall (table l n) v start len (clause (getD cs i 0)) q h → ⊥
-    not q h z = part-kind (λ (x : Clause). Tall (table l n) v start len x q h → ⊥) (getD cs i 0) c (λ t. omega (arith, t .1)) (λ a b t. omega (arith, t .1)) (λ a u t. omega (arith, t .1))
+    row : (s A : ℕ) → table l n s 0 A ≡ getD l (2081 * A) 65535
+    row s A = ap (λ (i : ℕ). getD l i 65535) (let z : 2081 * A + pairAt n s 0 ≡ 2081 * A = omega (arith, pairAt-empty n s) in z)
 
-    go : (j q h : ℕ) → Between i 1 len j q → Tall (table l n) v start len (rule (decoded cs) j .clause) q h → ⊥
-    go j q h d t =
-        let t′ : Tall (table l n) v start len (rule (decoded cs) i .clause) q h = rw (d .0) at t in
-        not q h (d .1) (subst (λ (y : Rule). Tall (table l n) v start len (y .clause) q h) (sym (coded-at cs no-rule i b)) t′)
+    left : (k : SpanMarks) (s len q h A : ℕ) → q ≡ 0 → Tall (table l n) (byMarks k len) s len (Clause.Binary B C m) q h → table l n s len A ≤ h
+    left k s len q h A e t =
+        let u : table l n s q B ≡ table l n s 0 B = ap (λ (i : ℕ). table l n s i B) e in
+        omega (arith, t .2, few (2081 * A + pairAt n s len), row s B)
+
+    right : (k : SpanMarks) (s len q h A : ℕ) → q ≡ len → Tall (table l n) (byMarks k len) s len (Clause.Binary B C m) q h → table l n s len A ≤ h
+    right k s len q h A e t =
+        let u : table l n (s + q) (len - q) C ≡ table l n (s + q) 0 C = ap (λ (i : ℕ). table l n (s + q) i C) (let z : len - q ≡ 0 = omega arith in z) in
+        omega (arith, t .2, few (2081 * A + pairAt n s len), row (s + q) C)
+
+-- a clause that is not binary stands nowhere with a token or more on either side
+abbrev Whole : Clause → Type 0
+Whole Clause.Empty = Unit {0}
+Whole (Clause.Atom a b) = Unit {0}
+Whole (Clause.Unary B m) = Unit {0}
+Whole (Clause.Binary B C m) = ⊥
+
+whole-none : (hs : ℕ → ℕ → ℕ → ℕ) (v : Leave) (s len : ℕ) (c : Clause) (q h : ℕ) → Whole c → 1 ≤ q → Tall hs v s len c q h → ⊥
+whole-none hs v s len Clause.Empty q h w b t = omega (arith, t .1)
+whole-none hs v s len (Clause.Atom x y) q h w b t = omega (arith, t .1)
+whole-none hs v s len (Clause.Unary B m) q h w b t = omega (arith, t .1)
+whole-none hs v s len (Clause.Binary B C m) q h w b t = w
+
+pub split-none : {v : Leave} {n start len : ℕ} {l : List ℕ} (r : Rule) → r .left < 64 → {c : Clause} → r .clause ≡ c → Whole c → Passed (r ∷ []) v n start len (Between 0 1 len) l l false
+split-none {v} {n} {start} {len} {l} r small {c} e w =
+    passed-none (lefts-one r small) _ (λ j q h d t.
+    whole-none (table l n) v start len (r .clause) q h (subst Whole (sym e) w) (d .1) (subst (λ (i : ℕ). Tall (table l n) v start len (rule (r ∷ []) i .clause) q h) (d .0) t))
+
+-- what stands for the missing is no more than a number
+pub few-numbers : (l : List ℕ) → ((i : ℕ) → getD l i 0 ≤ 65535) → (i : ℕ) → getD l i 65535 ≤ 65535
+few-numbers l f i = go (decLt i (length l))
+  where
+    go : Dec (i < length l) → getD l i 65535 ≤ 65535
+    go (yes h) = omega (arith, getD-any l i 0 65535 h, f i)
+    go (no h) = let h′ : length l ≤ i = omega arith in omega (arith, List·getD-eq-default l 65535 h′)
+
+-- so it is by the numbers that the code reads
+pub idle-by : (l : List ℕ) (n B C : ℕ) (m : BinaryMark) (x y : ℕ) → length l ≡ 133184 → ((i : ℕ) → getD l i 0 ≤ 65535) → x ≡ B → y ≡ C → B < 64 → C < 64
+    → 65535 ≤ getD l (2081 * x) 0 → 65535 ≤ getD l (2081 * y) 0 → Idle l n (Clause.Binary B C m)
+idle-by l n B C m x y long few e f b c p q = idle-binary l n B C m (few-numbers l few) (read B x e b p) (read C y f c q)
+  where
+    read : (A z : ℕ) → z ≡ A → A < 64 → 65535 ≤ getD l (2081 * z) 0 → 65535 ≤ getD l (2081 * A) 65535
+    read A z e h p = subst (λ (u : ℕ). 65535 ≤ u) (ap (λ (u : ℕ). getD l (2081 * u) 0) e ∙ getD-any l (2081 * A) 0 65535 (omega arith)) p

@@ -7,6 +7,8 @@ use native.Mathlib.Omega.{arith}
 use native.Mathlib.Decide.{ℕ-discrete, decLt}
 use lib.ListN.{length, getD, set, length-set}
 use Rattle.grammar.specs.declared.Clause.{Clause}
+use Rattle.grammar.specs.declared.Grammar.{Grammar}
+use Rattle.grammar.specs.Content.{rules, Formed}
 use Rattle.grammar.specs.Layout.{Word}
 use Rattle.grammar.specs.Trees.{Tree, Rules, Witness}
 use Rattle.grammar.specs.Choices.{height}
@@ -16,9 +18,8 @@ use Rattle.marks.specs.declared.SpanMarks.{SpanMarks}
 use Rattle.marks.specs.Half.{Half}
 use Rattle.marks.specs.Marked.{Marked}
 use Rattle.marks.proofs.HalfLaws.{may-be, may-keep, may-pair, is-one, does-keep, does-pair, completes-self}
-use Rattle.codes.specs.Codes.{decoded}
-use Rattle.codes.proofs.Laws.{small-decode, coded-at, coded-length}
-use Rattle.tables.specs.Tables.{Leave, byTokens, byMarks, no-rule, rule}
+use Rattle.tables.specs.Tables.{Leave, byTokens, byMarks, rule}
+use Rattle.tables.proofs.RulePlaces.{small-at}
 use Rattle.tables.proofs.Views.{Yields, marks-tokens, tokens-marks}
 use Rattle.heights.specs.Tall.{none, table, Tall, byWord, Room}
 use Rattle.heights.specs.Falls.{Falls, stays, put, Passed, Inner, AllEnds, Stopped, Shut}
@@ -27,11 +28,9 @@ use Rattle.heights.proofs.TallLaws.{tall-view, tall-low, grown}
 use Rattle.heights.proofs.Bounds.{Put, Small, small-put, rowPlaced}
 use Rattle.heights.proofs.FallLaws.{put-row, put-rest, Lefts, shut-of}
 
--- the left sides of codes are nonterminals
-pub lefts-decoded : (cs : List ℕ) → Lefts (decoded cs)
-lefts-decoded cs i h =
-    let e = coded-at cs no-rule i (omega (arith, coded-length cs)) in
-    subst (λ (r : _). r .left < 64) e (small-decode (getD cs i 0) .left)
+-- the left sides of rules are nonterminals
+pub lefts-formed : {g : Grammar} → Formed g → Lefts (rules g)
+lefts-formed f i h = small-at f i h .left
 
 -- ---- by the marks, by the words
 

@@ -45,6 +45,11 @@ pub record Measured (hs : Heights) (v : Leave) (s len : ℕ) (c : Clause) (l r :
   pub is : r < none → Tall hs v s len c l r
   pub low : (h : ℕ) → Tall hs v s len c l h → r ≤ h
 
+-- r is how high the clause stands at least, with from `from` to below `to` tokens on its left
+pub record Lowest (hs : Heights) (v : Leave) (s len : ℕ) (c : Clause) (from to r : ℕ) : Type 0 where
+  pub is : r < none → (l : ℕ) × (from ≤ l) × (l < to) × Tall hs v s len c l r
+  pub low : (l h : ℕ) → from ≤ l → l < to → Tall hs v s len c l h → r ≤ h
+
 -- one more than the larger of a and b, where that is a height
 pub record Over (a b r : ℕ) : Type 0 where
   pub is : r < none → r ≡ suc (max a b)

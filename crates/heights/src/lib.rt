@@ -1,11 +1,9 @@
 // The least heights of all trees of a sentence, one number for a nonterminal and a span: what the first tree of a looping
 // sheet goes by. Spans are settled from the shortest on; a span's numbers are lowered until no rule stands lower.
-use codes::encode;
-use codes::kind_of;
-use codes::rule_of;
 use grammar::BinaryMark;
 use grammar::Clause;
 use grammar::Grammar;
+use grammar::Rule;
 use grammar::Sentence;
 use grammar::UnaryMark;
 use marks::Draft;
@@ -16,17 +14,18 @@ use marks::allows_unary;
 use marks::span_marks;
 use spans::pair_at;
 ghost use mathlib.Core.Path.{_≡_};
-ghost use Prim.Native.Nat.{_+_, _-_, _*_, _≤_, _<_, max};
+ghost use mathlib.Core.Bool.{true};
+ghost use mathlib.Core.List.{[], _∷_};
+ghost use Prim.Native.Nat.{_+_, _-_, _*_, _≤_, _<_, min};
 ghost use lib.ListN.{length, getD, replicate};
 ghost use Rattle.grammar.specs.declared.Clause.the-variants as Kind;
-ghost use Rattle.grammar.specs.Content.{rules, SmallClause, Formed};
+ghost use Rattle.grammar.specs.Content.{rules, SmallClause, SmallRule, Formed};
 ghost use Rattle.grammar.specs.SpanSheet.{pairAt};
-ghost use Rattle.codes.specs.Codes.{decode, decoded};
 ghost use Rattle.tables.specs.Tables.{byMarks};
 ghost use Rattle.marks.specs.Drafts.{drafted};
 ghost use Rattle.heights.specs.Least.{numberAt, HeightSheet};
-ghost use Rattle.heights.specs.Tall.{table, byWord, Measured, Over, Room};
-ghost use Rattle.heights.specs.Falls.{Passed, Between, Inner, Ends, AllEnds, Either, Stopped, Shut};
+ghost use Rattle.heights.specs.Tall.{table, byWord, Measured, Lowest, Over, Room};
+ghost use Rattle.heights.specs.Falls.{Lowered, Idle, Passed, Between, Inner, Ends, AllEnds, Either, Stopped, Shut};
 ghost use Rattle.heights.specs.Filled.{Filled, Whole, Settling};
 ghost use Rattle.grammar.specs.Sentences.{spelled};
 
@@ -164,25 +163,11 @@ fn either(a: bool, b: bool) -> bool
     b
 }
 
-// Try the rule at `i` with `left` tokens on its left: does the number of its left side fall?
-fn lower(
-    hs: &mut [u16],
-    n: usize,
-    codes: &[u64],
-    i: usize,
-    start: usize,
-    len: usize,
-    left: usize,
-    k: SpanMarks,
-) -> bool
-    requires { ⌜ Room (now hs) n start len ⌝ }
-    requires { ⌜ i < length (now codes) ⌝ }
-    ensures { λ r. ⌜ Passed (decoded (now (codes .entry))) (byMarks k len) n start len (λ j q. (j ≡ i) × (q ≡ left)) (now (hs .entry)) (now (hs .exit)) r ⌝ }
+// Put the height `h` where it is lower than the number there. Did it fall?
+fn put_lower(hs: &mut [u16], at: usize, h: u16) -> bool
+    requires { ⌜ at < length (now hs) ⌝ }
+    ensures { λ r. ⌜ Lowered (now (hs .entry)) (now (hs .exit)) at h r ⌝ }
 {
-    let r = rule_of(codes[i]);
-    let c = r.clause;
-    let h = tall(hs, n, c, start, len, left, k);
-    let at = cell(n, start, len, r.left);
     if h < hs[at] {
         hs[at] = h;
         return true;
@@ -190,109 +175,139 @@ fn lower(
     false
 }
 
-// Try it with each left length from `from` on and before `to`.
-fn lower_between(
+// Try the rule with `left` tokens on its left: does the number of its left side fall?
+fn lower(
     hs: &mut [u16],
     n: usize,
-    codes: &[u64],
-    i: usize,
+    r: Rule,
     start: usize,
     len: usize,
-    from: usize,
-    to: usize,
+    left: usize,
     k: SpanMarks,
 ) -> bool
-    requires { ⌜ Room (now hs) n start len ⌝ }
-    requires { ⌜ i < length (now codes) ⌝ }
-    ensures { λ r. ⌜ Passed (decoded (now (codes .entry))) (byMarks k len) n start len (Between i from to) (now (hs .entry)) (now (hs .exit)) r ⌝ }
+    requires { ⌜ Room (now hs) n start len × SmallRule r ⌝ }
+    ensures { λ fell. ⌜ Passed (r ∷ []) (byMarks k len) n start len (Between 0 left (left + 1)) (now (hs .entry)) (now (hs .exit)) fell ⌝ }
 {
-    let mut fell = false;
-    let mut left = from;
-    while left < to {
-        let more = lower(hs, n, codes, i, start, len, left, k);
-        fell = either(fell, more);
-        left += 1;
-    }
-    fell
+    let c = r.clause;
+    let h = tall(hs, n, c, start, len, left, k);
+    let at = cell(n, start, len, r.left);
+    put_lower(hs, at, h)
 }
 
-// Try it with a token or more on either side; only a binary rule can stand so.
-fn lower_split(
-    hs: &mut [u16],
+// The lesser of two numbers.
+fn lesser(a: u16, b: u16) -> u16
+    ensures { λ r. ⌜ r ≡ min a b ⌝ }
+{
+    if a < b {
+        return a;
+    }
+    b
+}
+
+// How high a binary clause stands at least, with a token or more on either side.
+fn lowest_cut(
+    hs: &[u16],
     n: usize,
-    codes: &[u64],
-    i: usize,
+    b: u8,
+    e: u8,
+    m: BinaryMark,
     start: usize,
     len: usize,
     k: SpanMarks,
-) -> bool
+) -> u16
     requires { ⌜ Room (now hs) n start len ⌝ }
-    requires { ⌜ i < length (now codes) ⌝ }
-    ensures { λ r. ⌜ Passed (decoded (now (codes .entry))) (byMarks k len) n start len (Between i 1 len) (now (hs .entry)) (now (hs .exit)) r ⌝ }
+    requires { ⌜ (b < 64) × (e < 64) ⌝ }
+    ensures { λ r. ⌜ Lowest (table (now (hs .entry)) n) (byMarks k len) start len (Kind.Binary b e m) 1 len r ⌝ }
 {
-    if kind_of(codes[i]) < 3 {
-        return false;
+    let mut best: u16 = 65535;
+    let mut left: usize = 1;
+    while left < len {
+        let h = binary_tall(hs, n, b, e, m, start, len, left, k);
+        best = lesser(best, h);
+        left += 1;
     }
-    lower_between(hs, n, codes, i, start, len, 1, len, k)
+    best
+}
+
+// Try the rule with a token or more on either side; only a binary rule can stand so.
+fn lower_split(hs: &mut [u16], n: usize, r: Rule, start: usize, len: usize, k: SpanMarks) -> bool
+    requires { ⌜ Room (now hs) n start len × SmallRule r ⌝ }
+    ensures { λ fell. ⌜ Passed (r ∷ []) (byMarks k len) n start len (Between 0 1 len) (now (hs .entry)) (now (hs .exit)) fell ⌝ }
+{
+    let c = r.clause;
+    match c {
+        Clause::Empty => false,
+        Clause::Atom(_, _) => false,
+        Clause::Unary(_, _) => false,
+        Clause::Binary(b, e, m) => {
+            let h = lowest_cut(hs, n, b, e, m, start, len, k);
+            let at = cell(n, start, len, r.left);
+            put_lower(hs, at, h)
+        }
+    }
 }
 
 // Each rule with a token or more on either side: shorter parts do not change, so once is enough.
-fn lower_inner(
-    hs: &mut [u16],
-    n: usize,
-    codes: &[u64],
-    start: usize,
-    len: usize,
-    k: SpanMarks,
-) -> bool
-    requires { ⌜ Room (now hs) n start len ⌝ }
-    ensures { λ r. ⌜ Passed (decoded (now (codes .entry))) (byMarks k len) n start len (Inner len (length (now (codes .entry)))) (now (hs .entry)) (now (hs .exit)) r ⌝ }
+fn lower_inner(hs: &mut [u16], n: usize, g: Grammar, start: usize, len: usize, k: SpanMarks) -> bool
+    requires { ⌜ Room (now hs) n start len × Formed g ⌝ }
+    ensures { λ r. ⌜ Passed (rules g) (byMarks k len) n start len (Inner len (g .count)) (now (hs .entry)) (now (hs .exit)) r ⌝ }
 {
     let mut fell = false;
     let mut i = 0;
-    while i < codes.len() {
-        let more = lower_split(hs, n, codes, i, start, len, k);
+    while i < g.count {
+        let r = g.rules[i];
+        let more = lower_split(hs, n, r, start, len, k);
         fell = either(fell, more);
         i += 1;
     }
     fell
 }
 
-// Try the rule at `i` with the empty word on one side.
-fn lower_ends(
-    hs: &mut [u16],
-    n: usize,
-    codes: &[u64],
-    i: usize,
-    start: usize,
-    len: usize,
-    k: SpanMarks,
-) -> bool
-    requires { ⌜ Room (now hs) n start len ⌝ }
-    requires { ⌜ i < length (now codes) ⌝ }
-    ensures { λ r. ⌜ Passed (decoded (now (codes .entry))) (byMarks k len) n start len (Ends len i) (now (hs .entry)) (now (hs .exit)) r ⌝ }
+// Is the clause binary, and has neither side a height over the empty word? Then it stands nowhere with the empty word on
+// one side.
+fn idle(hs: &[u16], n: usize, c: Clause) -> bool
+    requires { ⌜ (length (now hs) ≡ 133184) × SmallClause c ⌝ }
+    ensures { λ r. ⌜ (r ≡ true → Idle (now (hs .entry)) n c) ⌝ }
 {
-    let a = lower(hs, n, codes, i, start, len, 0, k);
-    let b = lower(hs, n, codes, i, start, len, len, k);
+    match c {
+        Clause::Empty => false,
+        Clause::Atom(_, _) => false,
+        Clause::Unary(_, _) => false,
+        Clause::Binary(b, e, _) => {
+            let x = 2081 * wide(b);
+            if hs[x] < 65535 {
+                return false;
+            }
+            let y = 2081 * wide(e);
+            if hs[y] < 65535 { false } else { true }
+        }
+    }
+}
+
+// Try the rule with the empty word on one side.
+fn lower_ends(hs: &mut [u16], n: usize, r: Rule, start: usize, len: usize, k: SpanMarks) -> bool
+    requires { ⌜ Room (now hs) n start len × SmallRule r ⌝ }
+    ensures { λ fell. ⌜ Passed (r ∷ []) (byMarks k len) n start len (Ends len 0) (now (hs .entry)) (now (hs .exit)) fell ⌝ }
+{
+    let c = r.clause;
+    if idle(hs, n, c) {
+        return false;
+    }
+    let a = lower(hs, n, r, start, len, 0, k);
+    let b = lower(hs, n, r, start, len, len, k);
     either(a, b)
 }
 
 // Each rule with the empty word on one side.
-fn lower_all(
-    hs: &mut [u16],
-    n: usize,
-    codes: &[u64],
-    start: usize,
-    len: usize,
-    k: SpanMarks,
-) -> bool
-    requires { ⌜ Room (now hs) n start len ⌝ }
-    ensures { λ r. ⌜ Passed (decoded (now (codes .entry))) (byMarks k len) n start len (AllEnds len (length (now (codes .entry)))) (now (hs .entry)) (now (hs .exit)) r ⌝ }
+fn lower_all(hs: &mut [u16], n: usize, g: Grammar, start: usize, len: usize, k: SpanMarks) -> bool
+    requires { ⌜ Room (now hs) n start len × Formed g ⌝ }
+    ensures { λ r. ⌜ Passed (rules g) (byMarks k len) n start len (AllEnds len (g .count)) (now (hs .entry)) (now (hs .exit)) r ⌝ }
 {
     let mut fell = false;
     let mut i = 0;
-    while i < codes.len() {
-        let more = lower_ends(hs, n, codes, i, start, len, k);
+    while i < g.count {
+        let r = g.rules[i];
+        let more = lower_ends(hs, n, r, start, len, k);
         fell = either(fell, more);
         i += 1;
     }
@@ -300,12 +315,12 @@ fn lower_all(
 }
 
 // That, until nothing falls.
-fn lower_on(hs: &mut [u16], n: usize, codes: &[u64], start: usize, len: usize, k: SpanMarks)
-    requires { ⌜ Room (now hs) n start len ⌝ }
-    ensures { λ r. ⌜ Stopped (decoded (now (codes .entry))) (byMarks k len) n start len (AllEnds len (length (now (codes .entry)))) (now (hs .entry)) (now (hs .exit)) ⌝ }
+fn lower_on(hs: &mut [u16], n: usize, g: Grammar, start: usize, len: usize, k: SpanMarks)
+    requires { ⌜ Room (now hs) n start len × Formed g ⌝ }
+    ensures { λ r. ⌜ Stopped (rules g) (byMarks k len) n start len (AllEnds len (g .count)) (now (hs .entry)) (now (hs .exit)) ⌝ }
 {
     loop {
-        let more = lower_all(hs, n, codes, start, len, k);
+        let more = lower_all(hs, n, g, start, len, k);
         if !more {
             return;
         }
@@ -313,41 +328,41 @@ fn lower_on(hs: &mut [u16], n: usize, codes: &[u64], start: usize, len: usize, k
 }
 
 // Settle the numbers of the span.
-fn settle(hs: &mut [u16], d: Draft, codes: &[u64], start: usize, len: usize)
-    requires { ⌜ Settling d (now hs) start len ⌝ }
-    ensures { λ r. ⌜ Shut (decoded (now (codes .entry))) (byWord (drafted d) start len) (length (drafted d)) start len (now (hs .entry)) (now (hs .exit)) ⌝ }
+fn settle(hs: &mut [u16], d: Draft, g: Grammar, start: usize, len: usize)
+    requires { ⌜ Settling d (now hs) start len × Formed g ⌝ }
+    ensures { λ r. ⌜ Shut (rules g) (byWord (drafted d) start len) (length (drafted d)) start len (now (hs .entry)) (now (hs .exit)) ⌝ }
 {
     let n = d.count;
     let k = span_marks(d, start, len);
-    let fell = lower_inner(hs, n, codes, start, len, k);
-    lower_on(hs, n, codes, start, len, k);
+    let fell = lower_inner(hs, n, g, start, len, k);
+    lower_on(hs, n, g, start, len, k);
 }
 
 // Settle all spans of `len` tokens.
-fn settle_row(hs: &mut [u16], d: Draft, codes: &[u64], len: usize)
-    requires { ⌜ Whole d × (0 < len) × (len ≤ d .count) ⌝ }
-    requires { ⌜ Filled (now hs) (decoded (now codes)) (drafted d) 0 len ⌝ }
-    ensures { λ r. ⌜ Filled (now (hs .exit)) (decoded (now (codes .entry))) (drafted d) 0 (len + 1) ⌝ }
+fn settle_row(hs: &mut [u16], d: Draft, g: Grammar, len: usize)
+    requires { ⌜ Whole d × (0 < len) × (len ≤ d .count) × Formed g ⌝ }
+    requires { ⌜ Filled (now hs) (rules g) (drafted d) 0 len ⌝ }
+    ensures { λ r. ⌜ Filled (now (hs .exit)) (rules g) (drafted d) 0 (len + 1) ⌝ }
 {
     let n = d.count;
     let mut start = 0;
     while start + len <= n {
-        settle(hs, d, codes, start, len);
+        settle(hs, d, g, start, len);
         start += 1;
     }
 }
 
 // Settle all spans, from the empty word on.
-fn settle_all(hs: &mut [u16], d: Draft, codes: &[u64])
-    requires { ⌜ Whole d ⌝ }
-    requires { ⌜ Filled (now hs) (decoded (now codes)) (drafted d) 0 0 ⌝ }
-    ensures { λ r. ⌜ HeightSheet (decoded (now (codes .entry))) (drafted d) (now (hs .exit)) ⌝ }
+fn settle_all(hs: &mut [u16], d: Draft, g: Grammar)
+    requires { ⌜ Whole d × Formed g ⌝ }
+    requires { ⌜ Filled (now hs) (rules g) (drafted d) 0 0 ⌝ }
+    ensures { λ r. ⌜ HeightSheet (rules g) (drafted d) (now (hs .exit)) ⌝ }
 {
     let n = d.count;
-    settle(hs, d, codes, 0, 0);
+    settle(hs, d, g, 0, 0);
     let mut len = 1;
     while len <= n {
-        settle_row(hs, d, codes, len);
+        settle_row(hs, d, g, len);
         len += 1;
     }
 }
@@ -366,7 +381,5 @@ pub fn heights(hs: &mut [u16], s: Sentence, g: Grammar)
         count: n,
         known: n,
     };
-    let codes = encode(g);
-    let m = g.count;
-    settle_all(hs, d, &codes[..m]);
+    settle_all(hs, d, g);
 }

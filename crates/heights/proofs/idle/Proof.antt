@@ -1,0 +1,94 @@
+-- Only a binary clause is idle, by two numbers of the empty word.
+use borrow.Author.Needs.{needs}
+use mathlib.Core.Path.{_≡_, refl, sym, ap, _∙_, subst}
+use Prim.Native.Nat.{ℕ, _+_, _-_, _*_, _≤_, _<_}
+use native.Mathlib.Omega.{arith}
+use mathlib.Core.Bool.{true, false}
+use Rattle.grammar.specs.Content.{SmallClause}
+use Rattle.heights.specs.Falls.{Idle}
+use Rattle.heights.proofs.FallLaws.{idle-by}
+use Rattle.heights.proofs.idle.Statement.{statement}
+use Rattle.heights.proofs.idle.Tie as tie
+
+enum-told : tie.Need-enum-told
+enum-told c = search needs
+
+enum-told-2 : tie.Need-enum-told-2
+enum-told-2 c = search needs
+
+enum-told-3 : tie.Need-enum-told-3
+enum-told-3 c = search needs
+
+enum-known-c : tie.Need-enum-known-c
+enum-known-c c = search needs
+
+wide-requires : tie.Need-wide-requires
+wide-requires c κs = search needs
+
+mul-x : tie.Need-mul-x
+mul-x c = search needs
+
+mul-if1 : tie.Need-mul-if1
+mul-if1 c = search needs
+
+shared-slice-read-if1 : tie.Need-shared-slice-read-if1
+shared-slice-read-if1 c = (let s = rw (c .before .before .before .c .given .1) at (c .before .before .before .before .before .before .pre .1) in omega (arith, s .0, c .before .wide .ensures, c .before .before .before .before .before .before .pre .0))
+
+returns : tie.Need-returns
+returns c = λ e. absurd (let z : _≡_ {A = ℕ} 0 1 = cc in omega arith)
+
+wide-requires-2 : tie.Need-wide-requires-2
+wide-requires-2 c κs = search needs
+
+mul-y : tie.Need-mul-y
+mul-y c = search needs
+
+mul-if2 : tie.Need-mul-if2
+mul-if2 c = search needs
+
+shared-slice-read-if2 : tie.Need-shared-slice-read-if2
+shared-slice-read-if2 c = (let s = rw (c .before .before .before .before .before .before .c .given .1) at (c .before .before .before .before .before .before .before .before .before .pre .1) in omega (arith, s .1, c .before .wide2 .ensures, c .before .before .before .before .before .before .before .before .before .pre .0))
+
+returns-2 : tie.Need-returns-2
+returns-2 c = λ e. absurd (let z : _≡_ {A = ℕ} 0 1 = cc in omega arith)
+
+returns-3 : tie.Need-returns-3
+returns-3 c = λ e. absurd (let z : _≡_ {A = ℕ} 0 1 = cc in omega arith)
+
+returns-4 : tie.Need-returns-4
+returns-4 c = λ e. absurd (let z : _≡_ {A = ℕ} 0 1 = cc in omega arith)
+
+returns-5 : tie.Need-returns-5
+returns-5 c = λ e. absurd (let z : _≡_ {A = ℕ} 0 1 = cc in omega arith)
+
+returns-6 : tie.Need-returns-6
+returns-6 c = λ e.
+    let z = c .before .before .before .before .before .before .before .before .before .before in
+    let l = z .args .hs .now in
+    let s = rw (c .before .before .before .before .before .before .before .c .given .1) at (z .pre .1) in
+    rw (c .before .before .before .before .before .before .before .c .given .1)
+    (idle-by l _ _ _ _ _ _ (z .pre .0) (λ i. omega (arith, c .before .shared-slice-known3 .given i)) (c .before .before .before .before .before .wide .ensures) (c .before .before .wide2 .ensures) (s .0) (s .1)
+    (omega (arith, c .before .before .before .if1 .left)) (omega (arith, c .if2 .left)))
+
+pub idle-spec : {M : Type 1} → statement M
+idle-spec =
+    tie.close
+    (tie.spec
+    enum-told
+    enum-told-2
+    enum-told-3
+    enum-known-c
+    wide-requires
+    mul-x
+    mul-if1
+    shared-slice-read-if1
+    returns
+    wide-requires-2
+    mul-y
+    mul-if2
+    shared-slice-read-if2
+    returns-2
+    returns-3
+    returns-4
+    returns-5
+    returns-6)

@@ -1,0 +1,33 @@
+-- The number falls, or it was no higher.
+use borrow.Author.Needs.{needs}
+use mathlib.Core.Path.{_≡_, refl, sym, ap, _∙_, subst}
+use Prim.Native.Nat.{ℕ, _+_, _-_, _*_, _≤_, _<_}
+use native.Mathlib.Omega.{arith}
+use mathlib.Core.Bool.{true, false}
+use Rattle.heights.proofs.put_lower.Statement.{statement}
+use Rattle.heights.proofs.put_lower.Tie as tie
+
+mul-if1 : tie.Need-mul-if1
+mul-if1 c = search needs
+
+slice-read-if1 : tie.Need-slice-read-if1
+slice-read-if1 c = search needs
+
+mul-hs : tie.Need-mul-hs
+mul-hs c = search needs
+
+slice-write-hs : tie.Need-slice-write-hs
+slice-write-hs c = search needs
+
+same-length : tie.Need-same-length
+same-length c = search needs
+
+returns : tie.Need-returns
+returns c = record { yes = λ e. (c .if1 .taken, omega (arith, c .before .slice-known .given (c .before .before .args .at)), refl); not = λ e. absurd (let z : _≡_ {A = ℕ} 0 1 = cc in omega arith) }
+
+returns-2 : tie.Need-returns-2
+returns-2 c = record { yes = λ e. absurd (let z : _≡_ {A = ℕ} 0 1 = cc in omega arith); not = λ e. (c .if1 .left, refl) }
+
+pub put-lower-spec : {M : Type 1} → statement M
+put-lower-spec =
+    tie.close (tie.spec mul-if1 slice-read-if1 mul-hs slice-write-hs same-length returns returns-2)
