@@ -1,17 +1,21 @@
 -- Laws of words with members put in.
 use mathlib.Core.Path.{_≡_, refl, sym, ap, _∙_, subst}
-use mathlib.Core.Logic.{_⊎_, inl, inr, ⊎-elim}
+use mathlib.Core.Logic.{_⊎_, inl, inr, ⊎-elim, _↔_}
 use mathlib.Core.List.{List}
-use Prim.Native.Nat.{ℕ, _+_, _-_, _<_}
+use Prim.Native.Nat.{ℕ, zero, suc, _+_, _-_, _/_, _%_, _^_, _≤_, _<_}
 use native.Mathlib.Omega.{arith}
-use native.Mathlib.Decide.{ℕ-discrete}
+use native.Mathlib.Decide.{ℕ-discrete, decLt}
+use native.Mathlib.Nat.{mod-lt}
+use lib.Bits.{bitAnd, bitXor, xor-step, xor-shr, differ}
+use lib.Arith.{digits-mod}
 use lib.ListN.{length, getD, set, length-set}
 use lib.Seq.{getD-set-same, getD-set-other}
 use Rattle.sets.specs.Sets.{In}
-use Rattle.sets.proofs.Sets.{insert-same, insert-keeps, insert-only, insert-ge}
+use Rattle.sets.proofs.Sets.{in-zero, insert-same, insert-keeps, insert-only, insert-ge}
 use Rattle.grammar.specs.declared.Rule.{Rule}
 use Rattle.marks.specs.declared.SpanMarks.{SpanMarks}
-use Rattle.reach.specs.Joining.{Joins, ClauseKids, RuleKids}
+use Rattle.cuts.proofs.Bits.{in-and}
+use Rattle.reach.specs.Joining.{Joins, ClauseKids}
 use Rattle.sets.specs.Insertion.{insert}
 
 -- nothing is put in
@@ -84,12 +88,54 @@ pub joins-all : (P : ℕ → ℕ → ℕ → Type 0) (m : ℕ) {rs rs′ : List 
     → Joins (λ q B. (l : ℕ) × P l q B) rs rs′
 joins-all P m a f = joins-as (λ q B x. (x .0, x .2)) (λ q B x. (x .0, f (x .0) q B (x .1), x .1)) a
 
--- ---- members beneath a rule that is read in two ways
+-- turns that put in nothing are passed over
+pub joins-jump : (P : ℕ → ℕ → ℕ → Type 0) (m o : ℕ) {rs rs′ : List ℕ} → m ≤ o → ((l q B : ℕ) → m ≤ l → l < o → P l q B → ⊥) → Joins (Under P m) rs rs′ → Joins (Under P o) rs rs′
+joins-jump P m o h f a = joins-as (λ q B x. (x .0, omega (arith, x .1), x .2)) (λ q B x. (x .0, back q B x (decLt (x .0) m), x .2)) a
+  where
+    back : (q B : ℕ) → (x : Under P o q B) → Dec (x .0 < m) → x .0 < m
+    back q B x (yes e) = e
+    back q B x (no e) = absurd (f (x .0) q B (omega arith) (x .1) (x .2))
 
-module _ (ws : List ℕ) (n s len : ℕ) (k : SpanMarks) where
-  pub joins-clause : {r r′ : Rule} {rs rs′ : List ℕ} → r ≡ r′ → Joins (ClauseKids ws n s len k (r .clause)) rs rs′
-      → Joins (ClauseKids ws n s len k (r′ .clause)) rs rs′
-  joins-clause {rs = rs} {rs′} e j = subst (λ (r : Rule). Joins (ClauseKids ws n s len k (r .clause)) rs rs′) e j
+-- members beneath a rule that is read in two ways
+pub joins-clause : (ws : List ℕ) (n s len : ℕ) (k : SpanMarks) {r r′ : Rule} {rs rs′ : List ℕ} → r ≡ r′ → Joins (ClauseKids ws n s len k (r .clause)) rs rs′
+    → Joins (ClauseKids ws n s len k (r′ .clause)) rs rs′
+joins-clause ws n s len k {rs = rs} {rs′} e j = subst (λ (r : Rule). Joins (ClauseKids ws n s len k (r .clause)) rs rs′) e j
 
-  pub joins-rule : (A : ℕ) {r r′ : Rule} {rs rs′ : List ℕ} → r ≡ r′ → Joins (RuleKids ws n s len k A r) rs rs′ → Joins (RuleKids ws n s len k A r′) rs rs′
-  joins-rule A {rs = rs} {rs′} e j = subst (λ (r : Rule). Joins (RuleKids ws n s len k A r) rs rs′) e j
+-- ---- a member of one set and not of another
+
+xor-digit : (x y c : ℕ) → bitXor x y / 2 ^ c % 2 ≡ differ (x / 2 ^ c % 2) (y / 2 ^ c % 2)
+xor-digit x y c = ap (λ (n : ℕ). n % 2) (xor-shr x y c ∙ xor-step (x / 2 ^ c) (y / 2 ^ c)) ∙ digits-mod _ (small (x / 2 ^ c % 2) (y / 2 ^ c % 2) (mod-lt (x / 2 ^ c) (omega arith)) (mod-lt (y / 2 ^ c) (omega arith)))
+  where
+    small : (a b : ℕ) → a < 2 → b < 2 → differ a b < 2
+    small zero b h k = k
+    small (suc zero) zero h k = omega arith
+    small (suc zero) (suc zero) h k = omega arith
+    small (suc (suc a)) b h k = absurd (omega arith)
+    small (suc zero) (suc (suc b)) h k = absurd (omega arith)
+
+pub in-less : (x y c : ℕ) → In (bitAnd x (bitXor x y)) c ↔ (In x c × (In y c → ⊥))
+in-less x y c = (
+  λ h. let a = in-and x (bitXor x y) c .0 h in (a .0, λ b. let e : differ (x / 2 ^ c % 2) (y / 2 ^ c % 2) ≡ 1 = sym (xor-digit x y c) ∙ a .1 .digit in clash (x / 2 ^ c % 2) (y / 2 ^ c % 2) (a .0 .digit) (b .digit) e),
+  λ p. in-and x (bitXor x y) c .1 (p .0, record { digit = xor-digit x y c ∙ apart (x / 2 ^ c % 2) (y / 2 ^ c % 2) (p .0 .digit) (mod-lt (y / 2 ^ c) (omega arith)) (λ e. p .1 (record { digit = e })) }),
+)
+  where
+    clash : (a b : ℕ) → a ≡ 1 → b ≡ 1 → differ a b ≡ 1 → ⊥
+    clash zero b e f g = omega arith
+    clash (suc a) zero e f g = omega arith
+    clash (suc zero) (suc zero) e f g = omega arith
+    clash (suc zero) (suc (suc b)) e f g = omega arith
+    clash (suc (suc a)) (suc b) e f g = omega arith
+
+    apart : (a b : ℕ) → a ≡ 1 → b < 2 → (b ≡ 1 → ⊥) → differ a b ≡ 1
+    apart zero b e h f = omega arith
+    apart (suc zero) zero e h f = refl
+    apart (suc zero) (suc zero) e h f = absurd (f refl)
+    apart (suc zero) (suc (suc b)) e h f = absurd (omega arith)
+    apart (suc (suc a)) b e h f = omega arith
+
+pub none-less : (x y : ℕ) → bitAnd x (bitXor x y) ≡ 0 → (c : ℕ) → In x c → In y c
+none-less x y e c h = go (ℕ-discrete (y / 2 ^ c % 2) 1)
+  where
+    go : Dec (y / 2 ^ c % 2 ≡ 1) → In y c
+    go (yes z) = record { digit = z }
+    go (no z) = absurd (in-zero c (subst (λ (s : ℕ). In s c) e (in-less x y c .1 (h, λ b. z (b .digit)))))

@@ -18,9 +18,7 @@ use Rattle.marks.specs.declared.Draft.{Draft}
 use Rattle.marks.specs.declared.SpanMarks.{SpanMarks}
 use Rattle.marks.specs.Marked.{Marked}
 use Rattle.order.proofs.Places.{there}
-use Rattle.codes.specs.Codes.{decoded}
-use Rattle.codes.proofs.Laws.{small-decode, coded-length, coded-at}
-use Rattle.tables.specs.Tables.{One, byMarks, byTokens, Stand, no-rule, rule, Room}
+use Rattle.tables.specs.Tables.{One, byMarks, byTokens, Stand, rule, Room}
 use Rattle.tables.proofs.Views.{fits-le, lefts-le, stand-view, marks-tokens, tokens-marks}
 use Rattle.picks.proofs.PickLaws.{whole, stand-choice, choice-stand}
 use Rattle.reach.specs.Reached.{Bit}
@@ -117,10 +115,6 @@ works-more ws g n s len k small fit rs rs₁ rs₂ done A x b j = record {
 pub works-end : (ws : List ℕ) (g : Rules) (n s len : ℕ) (k : SpanMarks) → Smalls g → (rs rs′ : List ℕ) (done : ℕ)
     → Works ws g n s len k rs rs′ done → ((A : ℕ) → A < 64 → Bit rs′ n s len A → In done A) → Worked ws g n s len k rs rs′
 works-end ws g n s len k small rs rs′ done x f = record { spreads = λ w e y m. working-end g w n s len rs rs′ done small (x .working w e y m) f }
-
--- the rules of codes are small
-pub smalls : (cs : List ℕ) → Smalls (decoded cs)
-smalls cs i h = let l : i < length cs = omega (arith, coded-length cs) in subst SmallRule (coded-at cs no-rule i l) (small-decode (getD cs i 0))
 
 -- the words are enough for the span sheet
 pub sheet-room : {ws : List ℕ} {g : Rules} {d : Draft} {rs : List ℕ} {s len : ℕ} → Known ws g d → Space rs (d .count) s len → Room ws (d .count) s len

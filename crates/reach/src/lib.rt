@@ -1,7 +1,4 @@
 // Which nonterminals some whole valid tree contains over which word, read off the span sheet: one word a span, the longest spans first.
-use codes::encode;
-use codes::left_of;
-use codes::rule_of;
 use grammar::Clause;
 use grammar::Grammar;
 use grammar::Sentence;
@@ -10,8 +7,8 @@ use marks::SpanMarks;
 use marks::span_marks;
 use picks::clause_fits;
 use picks::last_left;
+use picks::list_rules;
 use sets::Member;
-use sets::has;
 use sets::with;
 use spans::clear;
 use spans::pair_at;
@@ -19,16 +16,14 @@ use spans::size;
 ghost use mathlib.Core.Path.{_≡_};
 ghost use Prim.Native.Nat.{_+_, _≤_, _<_};
 ghost use lib.ListN.{length};
-ghost use Rattle.sets.specs.Says.{Says};
-ghost use Rattle.sets.specs.Sets.{In};
 ghost use Rattle.grammar.specs.Content.{rules, SmallClause, Formed};
 ghost use Rattle.grammar.specs.Trees.{Derives};
 ghost use Rattle.grammar.specs.SpanSheet.{pairs, pairAt, SpanSheet};
-ghost use Rattle.codes.specs.Codes.{decode, decoded};
 ghost use Rattle.marks.specs.Drafts.{drafted};
 ghost use Rattle.tables.specs.Tables.{Room};
+ghost use Rattle.picks.specs.RuleLists.{Listed};
 ghost use Rattle.reach.specs.Reached.{Reached};
-ghost use Rattle.reach.specs.Joining.{Space, Joins, Kid, LeftKids, ClauseKids, RuleKids, ChoiceKids, Fresh};
+ghost use Rattle.reach.specs.Joining.{Space, Joins, Kid, LeftKids, ClauseKids, ChoiceKids, Fresh};
 ghost use Rattle.reach.specs.Spreading.{Known, Spreads, Worked, Begun, Done};
 ghost use Rattle.grammar.specs.Sentences.{spelled};
 
@@ -106,72 +101,40 @@ fn spread_clause(
     }
 }
 
-// Put in what lies beneath the rule of a code, where it is one of `a`.
-fn try_rule(
-    words: &[u64],
-    reach: &mut [u64],
-    n: usize,
-    code: u64,
-    a: u8,
-    start: usize,
-    len: usize,
-    k: SpanMarks,
-)
-    requires { ⌜ Room (now words) n start len × Space (now reach) n start len ⌝ }
-    ensures { λ r. ⌜ Joins (RuleKids (now (words .entry)) n start len k a (decode code)) (now (reach .entry)) (now (reach .exit)) ⌝ }
-{
-    if left_of(code) != a {
-        return;
-    }
-    let r = rule_of(code);
-    let c = r.clause;
-    spread_clause(words, reach, n, c, start, len, k);
-}
-
-// Put in what lies beneath each choice of `a` at the span.
+// Put in what lies beneath each choice of `a` at the span, rule by rule along the list of its rules.
 fn spread_choices(
     words: &[u64],
     reach: &mut [u64],
     n: usize,
-    codes: &[u64],
+    g: Grammar,
+    lists: &[u64],
     a: u8,
     start: usize,
     len: usize,
     k: SpanMarks,
 )
     requires { ⌜ Room (now words) n start len × Space (now reach) n start len ⌝ }
-    ensures { λ r. ⌜ Joins (ChoiceKids (now (words .entry)) (decoded (now (codes .entry))) n start len k a) (now (reach .entry)) (now (reach .exit)) ⌝ }
+    requires { ⌜ Formed g × Listed (rules g) (now lists) × (a < 64) ⌝ }
+    ensures { λ r. ⌜ Joins (ChoiceKids (now (words .entry)) (rules g) n start len k a) (now (reach .entry)) (now (reach .exit)) ⌝ }
 {
-    let mut i = 0;
-    while i < codes.len() {
-        try_rule(words, reach, n, codes[i], a, start, len, k);
-        i += 1;
+    let mut i = lists[a as usize] as usize;
+    while i < g.count {
+        let r = g.rules[i];
+        let c = r.clause;
+        spread_clause(words, reach, n, c, start, len, k);
+        i = lists[64 + i] as usize;
     }
-}
-
-// Is `a` in the set, and not yet done?
-fn awaits(set: u64, done: u64, a: u8) -> bool
-    requires { ⌜ a < 64 ⌝ }
-    ensures { λ r. ⌜ Says r (In set a × (In done a → ⊥)) ⌝ }
-{
-    if has(done, a) {
-        return false;
-    }
-    has(set, a)
 }
 
 // A member of the set that is not yet done.
 fn fresh(set: u64, done: u64) -> Member
     ensures { λ r. ⌜ Fresh set done r ⌝ }
 {
-    let mut t = 0;
-    while t < 64 {
-        if awaits(set, done, t) {
-            return Member::At(t);
-        }
-        t += 1;
+    let rest = set & (set ^ done);
+    if rest == 0 {
+        return Member::Nothing;
     }
-    Member::Nothing
+    Member::At(u64::trailing_zeros(rest) as u8)
 }
 
 // Put in what lies beneath all that the span has, until nothing of it is left untried.
@@ -179,13 +142,15 @@ fn work_off(
     words: &[u64],
     reach: &mut [u64],
     n: usize,
-    codes: &[u64],
+    g: Grammar,
+    lists: &[u64],
     start: usize,
     len: usize,
     k: SpanMarks,
 )
     requires { ⌜ Room (now words) n start len × Space (now reach) n start len ⌝ }
-    ensures { λ r. ⌜ Worked (now (words .entry)) (decoded (now (codes .entry))) n start len k (now (reach .entry)) (now (reach .exit)) ⌝ }
+    requires { ⌜ Formed g × Listed (rules g) (now lists) ⌝ }
+    ensures { λ r. ⌜ Worked (now (words .entry)) (rules g) n start len k (now (reach .entry)) (now (reach .exit)) ⌝ }
 {
     let p = pair_at(n, start, len);
     let mut done = 0;
@@ -196,7 +161,7 @@ fn work_off(
                 return;
             }
             Member::At(a) => {
-                spread_choices(words, reach, n, codes, a, start, len, k);
+                spread_choices(words, reach, n, g, lists, a, start, len, k);
                 done = with(done, a);
             }
         }
@@ -204,43 +169,51 @@ fn work_off(
 }
 
 // Work off the span.
-fn spread_span(words: &[u64], reach: &mut [u64], d: Draft, codes: &[u64], start: usize, len: usize)
-    requires { ⌜ Known (now words) (decoded (now codes)) d ⌝ }
+fn spread_span(
+    words: &[u64],
+    reach: &mut [u64],
+    d: Draft,
+    g: Grammar,
+    lists: &[u64],
+    start: usize,
+    len: usize,
+)
+    requires { ⌜ Known (now words) (rules g) d × Formed g × Listed (rules g) (now lists) ⌝ }
     requires { ⌜ Space (now reach) (d .count) start len ⌝ }
-    ensures { λ r. ⌜ Spreads (decoded (now (codes .entry))) (drafted d) (d .count) start len (now (reach .entry)) (now (reach .exit)) ⌝ }
+    ensures { λ r. ⌜ Spreads (rules g) (drafted d) (d .count) start len (now (reach .entry)) (now (reach .exit)) ⌝ }
 {
     let n = d.count;
     let k = span_marks(d, start, len);
-    work_off(words, reach, n, codes, start, len, k);
+    work_off(words, reach, n, g, lists, start, len, k);
 }
 
 // Work off the spans of `len` tokens.
-fn spread_row(words: &[u64], reach: &mut [u64], d: Draft, codes: &[u64], len: usize)
-    requires { ⌜ Known (now words) (decoded (now codes)) d ⌝ }
+fn spread_row(words: &[u64], reach: &mut [u64], d: Draft, g: Grammar, lists: &[u64], len: usize)
+    requires { ⌜ Known (now words) (rules g) d × Formed g × Listed (rules g) (now lists) ⌝ }
     requires { ⌜ (0 < len) × (len ≤ d .count) ⌝ }
-    requires { ⌜ Done (decoded (now codes)) (drafted d) (d .count) (now reach) (pairAt (d .count) 0 (len + 1)) ⌝ }
-    ensures { λ r. ⌜ Done (decoded (now (codes .entry))) (drafted d) (d .count) (now (reach .exit)) (pairAt (d .count) 0 len) ⌝ }
+    requires { ⌜ Done (rules g) (drafted d) (d .count) (now reach) (pairAt (d .count) 0 (len + 1)) ⌝ }
+    ensures { λ r. ⌜ Done (rules g) (drafted d) (d .count) (now (reach .exit)) (pairAt (d .count) 0 len) ⌝ }
 {
     let n = d.count;
     let mut start = n - len + 1;
     while 0 < start {
         start -= 1;
-        spread_span(words, reach, d, codes, start, len);
+        spread_span(words, reach, d, g, lists, start, len);
     }
 }
 
 // Work off all spans, the longest first and the empty word last.
-fn spread_all(words: &[u64], reach: &mut [u64], d: Draft, codes: &[u64])
-    requires { ⌜ Known (now words) (decoded (now codes)) d ⌝ }
-    requires { ⌜ Done (decoded (now codes)) (drafted d) (d .count) (now reach) (pairAt (d .count) 0 (d .count + 1)) ⌝ }
-    ensures { λ r. ⌜ Done (decoded (now (codes .entry))) (drafted d) (d .count) (now (reach .exit)) 0 ⌝ }
+fn spread_all(words: &[u64], reach: &mut [u64], d: Draft, g: Grammar, lists: &[u64])
+    requires { ⌜ Known (now words) (rules g) d × Formed g × Listed (rules g) (now lists) ⌝ }
+    requires { ⌜ Done (rules g) (drafted d) (d .count) (now reach) (pairAt (d .count) 0 (d .count + 1)) ⌝ }
+    ensures { λ r. ⌜ Done (rules g) (drafted d) (d .count) (now (reach .exit)) 0 ⌝ }
 {
     let mut len = d.count;
     while 0 < len {
-        spread_row(words, reach, d, codes, len);
+        spread_row(words, reach, d, g, lists, len);
         len -= 1;
     }
-    spread_span(words, reach, d, codes, 0, 0);
+    spread_span(words, reach, d, g, lists, 0, 0);
 }
 
 // Words for all pairs of `n` tokens, in which only the whole sentence has a member, the start.
@@ -268,8 +241,8 @@ pub fn reached(words: &[u64], s: Sentence, g: Grammar, reach: &mut [u64])
         count: n,
         known: n,
     };
-    let codes = encode(g);
-    let m = g.count;
+    let mut lists = [0u64; 192];
+    list_rules(g, &mut lists);
     begin(reach, n);
-    spread_all(words, reach, d, &codes[..m]);
+    spread_all(words, reach, d, g, &lists);
 }

@@ -8,7 +8,6 @@ use lib.Seq.{length-take-le}
 use Rattle.grammar.specs.Trees.{Rules}
 use Rattle.grammar.specs.Content.{rules}
 use Rattle.grammar.specs.SpanSheet.{pairAt}
-use Rattle.codes.proofs.Laws.{coded-whole}
 use Rattle.marks.specs.declared.Draft.{Draft}
 use Rattle.reach.specs.Spreading.{Known, Done}
 use Rattle.reach.proofs.DoneLaws.{done-start, reached}
@@ -22,33 +21,27 @@ whole c =
     let long : length (c .args .s .tokens) ≡ 64 = simp length-map at (c .good .1 .0 .1 .1 .0 .1 .0 .1) in
     length-take-le (c .args .s .count) (c .args .s .tokens) (omega (arith, c .pre .0 .0))
 
-encode-requires : tie.Need-encode-requires
-encode-requires c κs = search needs
+slice-aggregate-list-rules : tie.Need-slice-aggregate-list-rules
+slice-aggregate-list-rules c = search needs
+
+list-rules-requires : tie.Need-list-rules-requires
+list-rules-requires c κs = search needs
 
 begin-requires : tie.Need-begin-requires
 begin-requires c κs = search needs
 
-array-share-prefix-codes : tie.Need-array-share-prefix-codes
-array-share-prefix-codes c = search needs
-
 slice-aggregate-spread-all : tie.Need-slice-aggregate-spread-all
-slice-aggregate-spread-all c =
-    let e = c .before .before .before .before .before .before in
-    let z = e .before .before .before .before in
-    sym (coded-whole (take (z .args .g .count) (e .encode .result)) (e .encode .ensures) ∙ z .pre .1 .0 .whole)
+slice-aggregate-spread-all c = search needs
 
 spread-all-requires : tie.Need-spread-all-requires
 spread-all-requires c κs =
     let b = c .before .before .before .before in
-    let e = b .before .before in
-    let z = e .before .before .before .before in
+    let r = b .before .before .before in
+    let z = r .before .before .before .before .before in
     let s = z .args .s in
-    let d : Draft = record { tokens = s .tokens; count = s .count; known = s .count } in
-    let x = sym (e .encode .ensures) in
     let l = whole z in (
-      subst (λ (g : Rules). Known (z .args .words .now) g d) x (record { few = z .pre .0 .0; long = l; known = refl; sheet = z .pre .1 .1 .0 }),
-      subst (λ (g : Rules). Done g (spelled s) (s .count) (b .begin .last .0) (pairAt (s .count) 0 (s .count + 1))) x
-          (done-start (rules (z .args .g)) (spelled s) (s .count) (b .begin .last .0) l (z .pre .1 .1 .1) (b .begin .ensures)),
+      (record { few = z .pre .0 .0; long = l; known = refl; sheet = z .pre .1 .1 .0 }, z .pre .1 .0, r .list-rules .ensures),
+      done-start (rules (z .args .g)) (spelled s) (s .count) (b .begin .last .0) l (z .pre .1 .1 .1) (b .begin .ensures),
     )
 
 same-length : tie.Need-same-length
@@ -57,19 +50,17 @@ same-length c = search needs
 returns : tie.Need-returns
 returns c =
     let a = c .before .before in
-    let e = a .before .before .before .before .before .before .before in
-    let z = e .before .before .before .before in
+    let z = a .before .before .before .before .before .before .before .before .before .before .before .before .before in
     let s = z .args .s in
-    reached (rules (z .args .g)) (spelled s) (s .count) (a .spread-all .last .1 .0) (whole z)
-    (subst (λ (g : Rules). Done g (spelled s) (s .count) (a .spread-all .last .1 .0) 0) (e .encode .ensures) (a .spread-all .ensures))
+    reached (rules (z .args .g)) (spelled s) (s .count) (a .spread-all .last .1 .0) (whole z) (a .spread-all .ensures)
 
 pub reached-spec : {M : Type 1} → statement M
 reached-spec =
     tie.close
     (tie.spec
-    encode-requires
+    slice-aggregate-list-rules
+    list-rules-requires
     begin-requires
-    array-share-prefix-codes
     slice-aggregate-spread-all
     spread-all-requires
     same-length

@@ -4,7 +4,7 @@ use Prim.Native.Nat.{ℕ, _+_, _-_, _≤_}
 use native.Mathlib.Omega.{arith}
 use lib.ListN.{length}
 use Rattle.grammar.specs.SpanSheet.{pairAt}
-use Rattle.codes.specs.Codes.{decoded}
+use Rattle.grammar.specs.Content.{rules}
 use Rattle.marks.specs.Drafts.{drafted}
 use Rattle.reach.specs.Spreading.{Done}
 use Rattle.reach.proofs.DoneLaws.{last-next}
@@ -12,11 +12,11 @@ use Rattle.reach.proofs.spread_all.Statement.{statement}
 use Rattle.reach.proofs.spread_all.Tie as tie
 
 abbrev Inv-loop : tie.InvT-loop
-Inv-loop words reach₀ d codes len₀ reach len =
-    (length reach ≡ length reach₀) × (len ≤ d .count) × Done (decoded codes) (drafted d) (d .count) reach (pairAt (d .count) 0 (len + 1))
+Inv-loop words reach₀ d g lists len₀ reach len =
+    (length reach ≡ length reach₀) × (len ≤ d .count) × Done (rules g) (drafted d) (d .count) reach (pairAt (d .count) 0 (len + 1))
 
 abbrev μ-loop : tie.MeasureT-loop
-μ-loop words reach₀ d codes len₀ reach len = len
+μ-loop words reach₀ d g lists len₀ reach len = len
 
 loop-holds : tie.Need-loop-holds Inv-loop μ-loop
 loop-holds c = (refl, omega arith, c .before .before .before .pre .1)
@@ -42,7 +42,7 @@ loop-again c =
     let a = z .args in (
       o .spread-row .kept .1 .0 ∙ l .inv .0,
       omega (arith, l .inv .1),
-      subst (λ (x : ℕ). Done (decoded (a .codes .now)) (drafted (a .d)) (a .d .count) (o .spread-row .last .1 .0) (pairAt (a .d .count) 0 x))
+      subst (λ (x : ℕ). Done (rules (a .g)) (drafted (a .d)) (a .d .count) (o .spread-row .last .1 .0) (pairAt (a .d .count) 0 x))
           (let e : l .len ≡ l .len - 1 + 1 = omega (arith, i .loop-test .taken) in e) (o .spread-row .ensures),
     )
 
@@ -50,7 +50,7 @@ spread-span-requires : tie.Need-spread-span-requires Inv-loop μ-loop
 spread-span-requires c κs =
     let l = c .before .before .loop in
     let z = c .before .before .before .before .before .before in
-    (z .pre .0, record { few = z .pre .0 .few; fits = omega arith; enough = l .inv .2 .long })
+    (z .pre .0, record { few = z .pre .0 .0 .few; fits = omega arith; enough = l .inv .2 .long })
 
 same-length : tie.Need-same-length Inv-loop μ-loop
 same-length c = c .before .before .spread-span .kept .1 .0 ∙ c .before .before .before .before .before .loop .inv .0

@@ -4,7 +4,7 @@ use Prim.Native.Nat.{ℕ, _+_, _-_, _≤_}
 use native.Mathlib.Omega.{arith}
 use lib.ListN.{length}
 use Rattle.grammar.specs.SpanSheet.{pairAt}
-use Rattle.codes.specs.Codes.{decoded}
+use Rattle.grammar.specs.Content.{rules}
 use Rattle.marks.specs.Drafts.{drafted}
 use Rattle.reach.specs.Spreading.{Done}
 use Rattle.reach.proofs.DoneLaws.{row-start, row-next}
@@ -12,17 +12,17 @@ use Rattle.reach.proofs.spread_row.Statement.{statement}
 use Rattle.reach.proofs.spread_row.Tie as tie
 
 abbrev Inv-loop : tie.InvT-loop
-Inv-loop words reach₀ d codes len n start₀ reach start =
-    (length reach ≡ length reach₀) × (start ≤ d .count - len + 1) × Done (decoded codes) (drafted d) (d .count) reach (pairAt (d .count) start len)
+Inv-loop words reach₀ d g lists len n start₀ reach start =
+    (length reach ≡ length reach₀) × (start ≤ d .count - len + 1) × Done (rules g) (drafted d) (d .count) reach (pairAt (d .count) start len)
 
 abbrev μ-loop : tie.MeasureT-loop
-μ-loop words reach₀ d codes len n start₀ reach start = start
+μ-loop words reach₀ d g lists len n start₀ reach start = start
 
 sub-start : tie.Need-sub-start Inv-loop μ-loop
 sub-start c = omega (arith, c .before .before .before .pre .1 .0)
 
 add-start : tie.Need-add-start Inv-loop μ-loop
-add-start c = omega (arith, c .before .before .before .pre .0 .few)
+add-start c = omega (arith, c .before .before .before .pre .0 .0 .few)
 
 loop-holds : tie.Need-loop-holds Inv-loop μ-loop
 loop-holds c = let z = c .before .before .before in (refl, omega arith, row-start _ _ _ _ _ (z .pre .1 .0 .0) (z .pre .1 .0 .1) (z .pre .1 .1))
@@ -34,7 +34,7 @@ spread-span-requires : tie.Need-spread-span-requires Inv-loop μ-loop
 spread-span-requires c κs =
     let l = c .before .before .loop in
     let z = c .before .before .before .before .before .before in
-    (z .pre .0, record { few = z .pre .0 .few; fits = omega (arith, l .inv .1, c .before .loop-test .taken, z .pre .1 .0); enough = l .inv .2 .long })
+    (z .pre .0, record { few = z .pre .0 .0 .few; fits = omega (arith, l .inv .1, c .before .loop-test .taken, z .pre .1 .0); enough = l .inv .2 .long })
 
 loop-less : tie.Need-loop-less Inv-loop μ-loop
 loop-less c = omega (arith, c .before .before .before .before .loop-test .taken)
@@ -59,7 +59,7 @@ returns c =
     let args = c .before .before .before .before .before .args in
     let l = c .before .loop in
     let a = args in
-    subst (λ (s : ℕ). Done (decoded (a .codes .now)) (drafted (a .d)) (a .d .count) (l .reach) (pairAt (a .d .count) s (a .len)))
+    subst (λ (s : ℕ). Done (rules (a .g)) (drafted (a .d)) (a .d .count) (l .reach) (pairAt (a .d .count) s (a .len)))
     (let e : l .start ≡ 0 = omega (arith, c .loop-test .left) in e) (l .inv .2)
 
 pub spread-row-spec : {M : Type 1} → statement M

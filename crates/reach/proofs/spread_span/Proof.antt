@@ -9,12 +9,12 @@ use Rattle.reach.proofs.spread_span.Statement.{statement}
 use Rattle.reach.proofs.spread_span.Tie as tie
 
 span-marks-requires : tie.Need-span-marks-requires
-span-marks-requires c κs = search needs
+span-marks-requires c κs = let z = c .before .before .before in record { few = z .pre .1 .few; fits = z .pre .1 .fits }
 
 work-off-requires : tie.Need-work-off-requires
 work-off-requires c κs =
     let z = c .before .before .before .before .before in
-    (sheet-room (z .pre .0) (z .pre .1), z .pre .1)
+    ((sheet-room (z .pre .0 .0) (z .pre .1), z .pre .1), (z .pre .0 .1, z .pre .0 .2))
 
 same-length : tie.Need-same-length
 same-length c = search needs
@@ -24,7 +24,7 @@ returns c =
     let o = c .before .before in
     let m = o .before .before in
     let z = m .before .before .before .before in
-    let k = z .pre .0 in
+    let k = z .pre .0 .0 in
     o .work-off .ensures .spreads (drafted (z .args .d)) (k .long) (k .sheet)
     (subst (λ (x : ℕ). Marked (record { word = drafted (z .args .d); known = x }) (z .args .start) (z .args .len) (m .span-marks .result)) (k .known) (m .span-marks .ensures))
 
