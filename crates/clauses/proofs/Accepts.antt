@@ -13,11 +13,11 @@ use Rattle.clauses.specs.Clauses.{item, made, alternatives, AtLeast, Exp
 use Rattle.clauses.specs.Text.{Suffix, maybe, repeats, marks, Lex, n, t, opening, closing, bar, suffix, join, Phrase, an-atom, an-item, a-row, one, many, WrittenAs, nonterminal-text, terminal-text, group-text, bare-text, optional-text, repeated-text, marked-text, last-text, then-text, single-text, several-text, only-text, or-text}
 use Rattle.clauses.specs.Flat.{State, due, plain, grouped, suffixed, fits, both, is-due, past-item, run}
 
-both-parts : (a b : Bool) → both a b ≡ true → (a ≡ true) × (b ≡ true)
+pub both-parts : (a b : Bool) → both a b ≡ true → (a ≡ true) × (b ≡ true)
 both-parts true b e = (refl, e)
 both-parts false b e = absurd (let z : _≡_ {A = ℕ} 0 1 = cc in omega arith)
 
-never : {P : Type 0} → false ≡ true → P
+pub never : {P : Type 0} → false ≡ true → P
 never e = absurd (let z : _≡_ {A = ℕ} 0 1 = cc in omega arith)
 
 -- how an atom leaves the state
@@ -64,12 +64,11 @@ pub record ManyOut (d : ℕ) (l : List Lex) : Type 0 where
   pub written : WrittenAs (many expr) text
   pub ended : Ended d rest
 
-Manys : ℕ → Type 0
+abbrev pub Manys : ℕ → Type 0
 Manys k = (d : ℕ) (l : List Lex) → length l ≤ k → run l due d ≡ true → ManyOut d l
 
 -- an atom, where shorter alternatives can be told
-atom : (k : ℕ) → Manys k → (d : ℕ) (l : List Lex) → length l ≤ suc k → run l due d ≡ true → AtomOut d l
-unfolding Manys
+unfoldable pub atom : (k : ℕ) → Manys k → (d : ℕ) (l : List Lex) → length l ≤ suc k → run l due d ≡ true → AtomOut d l
 atom k f d [] h r = never r
 atom k f d (n a ∷ l) h r = record { expr = nonterminal a; text = n a ∷ []; rest = l; split = refl; written = nonterminal-text; goes = r; took = omega arith }
 atom k f d (t a ∷ l) h r = record { expr = a-part (terminal a); text = t a ∷ []; rest = l; split = refl; written = terminal-text; goes = r; took = omega arith }
@@ -91,7 +90,7 @@ atom k f d (suffix q ∷ l) h r = never r
 atom k f d (join m ∷ l) h r = never r
 atom k f d (bar ∷ l) h r = never r
 
-with-suffix : (e : Expr item) (l : List Lex) (q : Suffix) → WrittenAs (an-atom e) l → fits (leaves e) q ≡ true
+unfoldable pub with-suffix : (e : Expr item) (l : List Lex) (q : Suffix) → WrittenAs (an-atom e) l → fits (leaves e) q ≡ true
     → (f : Expr item) × WrittenAs (an-item f) (l ++ (suffix q ∷ []))
 with-suffix e l maybe w h = (a-part (optional e), optional-text w)
 with-suffix e l (repeats q m) w h = (a-part (repeated q m e), repeated-text w)
@@ -103,16 +102,16 @@ with-suffix e l (marks m) w h = go e l w h
     go e l (terminal-text) h = never h
     go e l (group-text {e = f} w) h = (a-part (mark m (a-part (group f))), marked-text (group-text w))
 
-not-due : (e : Expr item) (l : List Lex) → WrittenAs (an-atom e) l → is-due (leaves e) ≡ false
+pub not-due : (e : Expr item) (l : List Lex) → WrittenAs (an-atom e) l → is-due (leaves e) ≡ false
 not-due e l (nonterminal-text) = refl
 not-due e l (terminal-text) = refl
 not-due e l (group-text w) = refl
 
-no-second : (d : ℕ) (r : List Lex) → run r suffixed d ≡ true → (q : Suffix) (k : List Lex) → r ≡ suffix q ∷ k → ⊥
+pub no-second : (d : ℕ) (r : List Lex) → run r suffixed d ≡ true → (q : Suffix) (k : List Lex) → r ≡ suffix q ∷ k → ⊥
 no-second d r h q k e = never (ap (λ (x : List Lex). run x suffixed d) (sym e) ∙ h)
 
 -- an atom with its suffix, if one follows
-item-of : {d : ℕ} {l : List Lex} (a : AtomOut d l) (r : List Lex) → a .rest ≡ r → run r (leaves (a .expr)) d ≡ true
+unfoldable pub item-of : {d : ℕ} {l : List Lex} (a : AtomOut d l) (r : List Lex) → a .rest ≡ r → run r (leaves (a .expr)) d ≡ true
     → ((q : Suffix) (k : List Lex) → r ≡ suffix q ∷ k → ⊥) ⊎ ((q : Suffix) × (k : List Lex) × (r ≡ suffix q ∷ k)) → ItemOut d l
 item-of a r e h (inl bars) =
     record { expr = a .expr; text = a .text; rest = r; state = leaves (a .expr); split = a .split ∙ ap (λ (x : List Lex). a .text ++ x) e; written = bare-text (a .written); goes = h; blocked = bars; later = not-due (a .expr) (a .text) (a .written); took = a .took }
@@ -135,7 +134,7 @@ item-of {d} {l} a r e h (inr s) =
     }
 
 -- does a suffix come first?
-first-suffix : (r : List Lex) → ((q : Suffix) (k : List Lex) → r ≡ suffix q ∷ k → ⊥) ⊎ ((q : Suffix) × (k : List Lex) × (r ≡ suffix q ∷ k))
+unfoldable pub first-suffix : (r : List Lex) → ((q : Suffix) (k : List Lex) → r ≡ suffix q ∷ k → ⊥) ⊎ ((q : Suffix) × (k : List Lex) × (r ≡ suffix q ∷ k))
 first-suffix [] = inl (λ q k e. let z : _≡_ {A = ℕ} 0 1 = cc in omega arith)
 first-suffix (n a ∷ r) = inl (λ q k e. let z : _≡_ {A = ℕ} 0 1 = cc in omega arith)
 first-suffix (t a ∷ r) = inl (λ q k e. let z : _≡_ {A = ℕ} 0 1 = cc in omega arith)
@@ -145,7 +144,7 @@ first-suffix (bar ∷ r) = inl (λ q k e. let z : _≡_ {A = ℕ} 0 1 = cc in om
 first-suffix (suffix q ∷ r) = inr (q, r, refl)
 first-suffix (join m ∷ r) = inl (λ q k e. let z : _≡_ {A = ℕ} 0 1 = cc in omega arith)
 
-item-out : {d : ℕ} {l : List Lex} → AtomOut d l → ItemOut d l
+unfoldable pub item-out : {d : ℕ} {l : List Lex} → AtomOut d l → ItemOut d l
 item-out a = item-of a (a .rest) refl (a .goes) (first-suffix (a .rest))
 
 -- after a row: the alternatives end, or another follows
@@ -161,18 +160,17 @@ pub record RowOut (d : ℕ) (l : List Lex) : Type 0 where
   pub stopped : Stopped d rest
   pub took : 1 ≤ length text
 
-Rows : ℕ → Type 0
+abbrev pub Rows : ℕ → Type 0
 Rows k = (d : ℕ) (l : List Lex) → length l ≤ k → run l due d ≡ true → RowOut d l
 
-ends-here : {d : ℕ} {l : List Lex} (i : ItemOut d l) (r : List Lex) → i .rest ≡ r → Stopped d r → RowOut d l
+unfoldable pub ends-here : {d : ℕ} {l : List Lex} (i : ItemOut d l) (r : List Lex) → i .rest ≡ r → Stopped d r → RowOut d l
 ends-here i r e s =
     record { expr = i .expr; text = i .text; rest = r; split = i .split ∙ ap (λ (x : List Lex). i .text ++ x) e; written = last-text (i .written); stopped = s; took = i .took }
 
-refuted : {P : Type 0} (b c : Bool) → b ≡ false → both b c ≡ true → P
+pub refuted : {P : Type 0} (b c : Bool) → b ≡ false → both b c ≡ true → P
 refuted b c e h = never (sym e ∙ both-parts b c h .0)
 
-row-of : (k : ℕ) → Rows k → (d : ℕ) (l : List Lex) → length l ≤ suc k → (i : ItemOut d l) (r : List Lex) → i .rest ≡ r → run r (i .state) d ≡ true → RowOut d l
-unfolding Rows
+unfoldable pub row-of : (k : ℕ) → Rows k → (d : ℕ) (l : List Lex) → length l ≤ suc k → (i : ItemOut d l) (r : List Lex) → i .rest ≡ r → run r (i .state) d ≡ true → RowOut d l
 row-of k f zero l h i [] e g = ends-here i [] e (inl refl)
 row-of k f (suc d) l h i [] e g = never (both-parts (past-item (i .state)) false g .1)
 row-of k f d l h i (n a ∷ r) e g = refuted _ _ (i .later) g
@@ -198,12 +196,11 @@ row-of k f d l h i (join m ∷ r) e g =
     }
 
 -- a row as an alternative
-as-one : (e : Expr item) (l : List Lex) → WrittenAs (a-row e) l → (f : Expr made) × WrittenAs (one f) l
+unfoldable pub as-one : (e : Expr item) (l : List Lex) → WrittenAs (a-row e) l → (f : Expr made) × WrittenAs (one f) l
 as-one e l (last-text {e = g} w) = (mark UnaryMark.None g, single-text w)
 as-one e l (then-text {m = m} {e = g} {f = f} w v) = (pair m g f, several-text w v)
 
-many-of : (k : ℕ) → Manys k → (d : ℕ) (l : List Lex) → length l ≤ suc k → (o : RowOut d l) → Stopped d (o .rest) → ManyOut d l
-unfolding Manys
+unfoldable pub many-of : (k : ℕ) → Manys k → (d : ℕ) (l : List Lex) → length l ≤ suc k → (o : RowOut d l) → Stopped d (o .rest) → ManyOut d l
 many-of k f d l h o (inl x) =
     let w = as-one (o .expr) (o .text) (o .written) in
     record { expr = only (w .0); text = o .text; rest = o .rest; split = o .split; written = only-text (w .1); ended = x }
@@ -222,16 +219,13 @@ many-of k f d l h o (inr s) =
       ended = m .ended;
     }
 
-step-row : (k : ℕ) → Rows k → Manys k → Rows (suc k)
-unfolding Rows
+unfoldable pub step-row : (k : ℕ) → Rows k → Manys k → Rows (suc k)
 step-row k f g d l h r = let i = item-out (atom k g d l h r) in row-of k f d l h i (i .rest) refl (i .goes)
 
-step-many : (k : ℕ) → Rows (suc k) → Manys k → Manys (suc k)
-unfolding Rows Manys
+unfoldable pub step-many : (k : ℕ) → Rows (suc k) → Manys k → Manys (suc k)
 step-many k f g d l h r = let o = f d l h r in many-of k g d l h o (o .stopped)
 
-parsed : (k : ℕ) → Rows k × Manys k
-unfolding Rows Manys
+unfoldable pub parsed : (k : ℕ) → Rows k × Manys k
 parsed zero = ((λ d l h r. none l d h r), (λ d l h r. none l d h r))
   where
     none : {P : Type 0} (l : List Lex) (d : ℕ) → length l ≤ 0 → run l due d ≡ true → P
@@ -240,8 +234,7 @@ parsed zero = ((λ d l h r. none l d h r), (λ d l h r. none l d h r))
 parsed (suc k) = let p = parsed k in let f = step-row k (p .0) (p .1) in (f, step-many k f (p .1))
 
 -- what the flat test takes is written so
-pub accepted : (l : List Lex) → run l due 0 ≡ true → (e : Expr alternatives) × WrittenAs (many e) l
-unfolding Manys
+unfoldable pub accepted : (l : List Lex) → run l due 0 ≡ true → (e : Expr alternatives) × WrittenAs (many e) l
 accepted l r =
     let m = parsed (length l) .1 0 l (omega arith) r in
     (m .expr, subst (λ (x : List Lex). WrittenAs (many (m .expr)) x) (sym (m .split ∙ ap (λ (x : List Lex). m .text ++ x) (m .ended) ∙ append-nil (m .text))) (m .written))

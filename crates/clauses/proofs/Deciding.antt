@@ -10,7 +10,7 @@ use Rattle.clauses.specs.Flat.{due, run, pastLex, pastLexes}
 use Rattle.clauses.proofs.Accepts.{accepted, accepts}
 use Rattle.clauses.proofs.Sorted.{max-bounds, max-least}
 
-pub says? : (l : List Lex) → Dec (IsExpression l)
+unfoldable pub says? : (l : List Lex) → Dec (IsExpression l)
 says? l = go (run l due 0) refl
   where
     go : (b : Bool) → run l due 0 ≡ b → Dec (IsExpression l)

@@ -3,3 +3,4 @@ pub mod Chart
 pub mod Verdicts
 pub mod Enumerate
 pub mod Table
+pub mod Expanded

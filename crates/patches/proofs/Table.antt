@@ -3,7 +3,7 @@ use mathlib.Core.Path.{_≡_, refl, sym, _∙_, subst}
 use mathlib.Core.Bool.{Bool, true, false}
 use mathlib.Core.List.{List, [], _∷_, _++_, List·Memᴰ}
 use mathlib.Core.Logic.{⊎-elim}
-use Prim.Native.Nat.{ℕ, _≤_}
+use Prim.Native.Nat.{ℕ, _-_, _≤_}
 use native.Mathlib.Nat.{not-suc-le-zero, le-trans}
 use native.Mathlib.Omega.{arith}
 use lib.Dec.{T}
@@ -11,17 +11,20 @@ use lib.ListN.{length}
 use Rattle.grammar.specs.declared.Cell.{Cell}
 use Rattle.grammar.specs.declared.Clause.{Clause}
 use Rattle.grammar.specs.declared.Clause.the-variants.{Empty, Atom, Unary, Binary}
-use Rattle.grammar.specs.Layout.{Word, Every}
+use Rattle.grammar.specs.Layout.{Word, Every, line, col}
 use Rattle.grammar.specs.Trees.{Tree, empty, leaf, unary, binary, word, Rules, Valid, valid-empty, valid-leaf, valid-unary, valid-binary, TwoTrees}
 use Rattle.grammar.specs.Candidates.{Rising, sentence, Terminal, Candidate, Earlier}
-use Rattle.grammar.specs.Sweeps.{FirstTwo, SweepAnswer, clear, found}
+use Rattle.grammar.specs.Sweeps.{Clear, FirstTwo}
 use Rattle.grammar.proofs.Lists.{both?, le?, and, and-left, and-right, all, all-every, holds, holds-yes, mem-every}
 use Rattle.grammar.proofs.SweepLaws.{clear-of}
-use Rattle.patches.specs.Claims.{two, Claim, verdict, sweep, every-sweep-clear, ClaimHolds}
+use Rattle.grammar.proofs.Marks.{word?}
+use Rattle.sheets.specs.Items.{Reading, accepted, refused}
+use Rattle.sheets.specs.RuleSheets.{ruleSheet}
+use Rattle.sheets.specs.TokenSheets.{tokenSheet}
+use Rattle.patches.specs.Claims.{two-trees, Claim, verdict, lefts, sweep, every-sweep-clear, clear, two-at, Gives, FoundAt, ClaimHolds}
 use Rattle.patches.specs.Patches.{patches}
 use Rattle.patches.proofs.Enumerate.{rising?, earlier?, candidate?, up-to, mem-up-to}
-use Rattle.patches.proofs.Verdicts.{chart, chart-good, reads, read, at-most-one, not-two}
-use Rattle.grammar.specs.SweepAnswers.{Answers}
+use Rattle.patches.proofs.Verdicts.{chart, chart-good, reads, read, at-most-one, not-two, left-lengths, lefts-right}
 
 -- where P holds, the test is asked for
 abbrev where-holds : {P : Type 0} → Dec P → Bool → Bool
@@ -52,7 +55,7 @@ spared g cs ds = let s = single g ds in where-holds (earlier? ds cs) s
 abbrev first? : Rules → ℕ → List Cell → Bool
 first? g k cs =
     let e = all (spared g cs) (up-to g k) in
-    let r = and (reads two 0 (sentence cs) (chart g (sentence cs))) e in
+    let r = and (reads two-trees 0 (sentence cs) (chart g (sentence cs))) e in
     and (holds (both? (candidate? g (length cs) cs) (both? (le? 1 (length cs)) (le? (length cs) k)))) r
 
 earlier-length : (ds cs : List Cell) → Earlier ds cs → length ds ≤ length cs
@@ -61,7 +64,7 @@ earlier-length ds cs e = ⊎-elim (λ h. omega arith) (λ h. omega arith) e
 first-right : (g : Rules) (k : ℕ) (cs : List Cell) → T (first? g k cs) → FirstTwo g k cs
 first-right g k cs t =
     let a = holds (both? (candidate? g (length cs) cs) (both? (le? 1 (length cs)) (le? (length cs) k))) in
-    let b = reads two 0 (sentence cs) (chart g (sentence cs)) in
+    let b = reads two-trees 0 (sentence cs) (chart g (sentence cs)) in
     let e = all (spared g cs) (up-to g k) in
     let h = holds-yes (both? (candidate? g (length cs) cs) (both? (le? 1 (length cs)) (le? (length cs) k))) (and-left a (and b e) t) in
     let r = and-right a (and b e) t in
@@ -69,7 +72,7 @@ first-right g k cs t =
       low = h .1 .0;
       high = h .1 .1;
       candidate = h .0;
-      two = read g 0 (sentence cs) two (chart g (sentence cs)) (chart-good g (sentence cs)) (and-left b e r);
+      two = read g 0 (sentence cs) two-trees (chart g (sentence cs)) (chart-good g (sentence cs)) (and-left b e r);
       earlier =
           λ ds l c f. mem-every (λ es. Earlier es cs → Rising (sentence es) → TwoTrees g 0 (sentence es) → ⊥) (up-to g k)
           (all-every (spared g cs) (λ es s q. single-right g es (where-right (earlier? es cs) (single g es) s q)) (up-to g k) (and-right b e r))
@@ -92,7 +95,7 @@ wordless g n (leaf A t) (valid-leaf h) = absurd (mem-every (λ r. T (no-atom (r 
 wordless g n (unary A t) (valid-unary m h μ v) = wordless g n t v
 wordless g n (binary A s t) (valid-binary m h μ v u) = rw (wordless g n s v) (wordless g n t u)
 
-silent : (g : Rules) → T (no-atoms g) → (k : ℕ) → Answers g k clear
+silent : (g : Rules) → T (no-atoms g) → (k : ℕ) → Clear g k
 silent g n k =
     record {
       none =
@@ -100,18 +103,51 @@ silent g n k =
           (subst (λ (x : Word). 1 ≤ length x) (sym (pair .witness₁ .spelled) ∙ wordless g n (pair .first) (pair .witness₁ .valid)) some);
     }
 
+-- the cells of a word whose lines rise from line 1 on
+abbrev cellsFrom : ℕ → Word → List Cell
+cellsFrom l [] = []
+cellsFrom l (t ∷ w) = record { terminal = t .terminal; step = line t - l; column = col t } ∷ cellsFrom (line t) w
+
+abbrev found-at : Rules → ℕ → Word → Bool
+found-at g k w = let r = first? g k (cellsFrom 1 w) in and (holds (word? (sentence (cellsFrom 1 w)) w)) r
+
+found-right : (g : Rules) (k : ℕ) (w : Word) → T (found-at g k w) → FoundAt g k w
+found-right g k w t =
+    let same = holds (word? (sentence (cellsFrom 1 w)) w) in
+    let first = first? g k (cellsFrom 1 w) in
+    record {
+      cells = cellsFrom 1 w;
+      spelled = holds-yes (word? (sentence (cellsFrom 1 w)) w) (and-left same first t);
+      first = first-right g k (cellsFrom 1 w) (and-right same first t);
+    }
+
+-- what a sheet gives passes the test
+abbrev given : {A : Type 0} → Reading A → (List A → Bool) → Bool
+given (accepted l) p = p l
+given (refused f n) p = false
+
+given-right : {A : Type 0} {P : List A → Type 0} (o : Reading A) (p : List A → Bool) → ((l : List A) → T (p l) → P l) → T (given o p) → Gives o P
+given-right (accepted l) p h t = record { items = l; reads = refl; holds = h l t }
+given-right (refused f n) p h t = absurd t
+
 -- the test of a claim
 abbrev pub check : Claim → Bool
-check (verdict g A w v) = reads v A w (chart g w)
-check (sweep g k clear) = all (single g) (up-to g k)
-check (sweep g k (found cs)) = first? g k cs
-check (every-sweep-clear g) = no-atoms g
+check (verdict rules tokens A v) = given (ruleSheet rules) (λ g. given (tokenSheet tokens) (λ w. reads v A w (chart g w)))
+check (lefts rules tokens A l) = given (ruleSheet rules) (λ g. given (tokenSheet tokens) (λ w. left-lengths A w (chart g w) l))
+check (sweep rules k clear) = given (ruleSheet rules) (λ g. all (single g) (up-to g k))
+check (sweep rules k (two-at tokens)) = given (ruleSheet rules) (λ g. given (tokenSheet tokens) (found-at g k))
+check (every-sweep-clear rules) = given (ruleSheet rules) no-atoms
 
 pub checked : (c : Claim) → T (check c) → ClaimHolds c
-checked (verdict g A w v) t = read g A w v (chart g w) (chart-good g w) t
-checked (sweep g k clear) t = clear-of k (no-double g k t)
-checked (sweep g k (found cs)) t = first-right g k cs t
-checked (every-sweep-clear g) t = silent g t
+checked (verdict rules tokens A v) t =
+    given-right (ruleSheet rules) _
+    (λ g. given-right (tokenSheet tokens) (λ w. reads v A w (chart g w)) (λ w. read g A w v (chart g w) (chart-good g w))) t
+checked (lefts rules tokens A l) t =
+    given-right (ruleSheet rules) _
+    (λ g. given-right (tokenSheet tokens) (λ w. left-lengths A w (chart g w) l) (λ w. lefts-right g A w l (chart g w) (chart-good g w))) t
+checked (sweep rules k clear) t = given-right (ruleSheet rules) _ (λ g h. clear-of k (no-double g k h)) t
+checked (sweep rules k (two-at tokens)) t = given-right (ruleSheet rules) _ (λ g. given-right (tokenSheet tokens) (found-at g k) (found-right g k)) t
+checked (every-sweep-clear rules) t = given-right (ruleSheet rules) no-atoms silent t
 
 -- P1 to P9
 pub patches-hold : Every ClaimHolds patches

@@ -1,13 +1,13 @@
 -- A chart that has come to rest settles whether a nonterminal has no valid tree of a word, one, or two; one that has not (a loop has no end) may show two.
 use mathlib.Core.Path.{_≡_, refl, sym, _∙_, subst, subst⁻¹}
 use mathlib.Core.Bool.{Bool, true, false, not}
-use mathlib.Core.List.{List, [], _∷_, _++_, List·Memᴰ, List·Memᴰ·head, List·Memᴰ·tail, List·Memᴰ·not-nil, List·Memᴰ·eq-of-singleton}
+use mathlib.Core.List.{List, [], _∷_, _++_, map, List·Memᴰ, List·Memᴰ·head, List·Memᴰ·tail, List·Memᴰ·not-nil, List·Memᴰ·eq-of-singleton}
 use Prim.Native.Nat.{ℕ, zero, suc}
 use lib.Dec.{T}
 use Rattle.grammar.specs.Layout.{Word, Every}
 use Rattle.grammar.specs.Trees.{Tree, root, word, Rules, Valid, Witness, NoTree, OneTree, TwoTrees}
-use Rattle.patches.specs.Claims.{TreeCount, none, one, two, Is}
-use Rattle.grammar.proofs.Lists.{eq?, keep, collect, list?, every-keep, mem-keep, every-collect, mem-collect, mem-every, holds}
+use Rattle.patches.specs.Claims.{TreeCount, no-tree, one-tree, two-trees, Is, Exactly, leftLength, LeftLengths}
+use Rattle.grammar.proofs.Lists.{eq?, keep, collect, list?, every-keep, mem-keep, every-collect, mem-collect, mem-every, holds, holds-yes}
 use Rattle.grammar.proofs.Marks.{word?}
 use Rattle.patches.proofs.Infixes.{Infix, infix-self}
 use Rattle.patches.proofs.Chart.{tree?, step, step-sound, complete}
@@ -54,11 +54,6 @@ pick A w t = let r = keep (word? (word t) w) (t ∷ []) in keep (eq? (root t) A)
 abbrev pub trees : ℕ → Word → List Tree → List Tree
 trees A w C = collect (pick A w) C
 
--- l is all of the trees of A over w
-pub record Exactly (g : Rules) (A : ℕ) (w : Word) (l : List Tree) : Type 0 where
-  pub sound : Every (Witness g A w) l
-  pub whole : (t : Tree) → Witness g A w t → List·Memᴰ t l
-
 sound-trees : (g : Rules) (A : ℕ) (w : Word) (C : List Tree) → Every (Valid g) C → Every (Witness g A w) (trees A w C)
 sound-trees g A w C h =
     every-collect (Witness g A w) (pick A w) C
@@ -78,43 +73,43 @@ exactly g A w C h =
 
 -- what a list of all trees shows
 abbrev pub shows : TreeCount → List Tree → Bool
-shows none [] = true
-shows none (t ∷ l) = false
-shows one [] = false
-shows one (t ∷ []) = true
-shows one (t ∷ s ∷ l) = false
-shows two [] = false
-shows two (t ∷ []) = false
-shows two (t ∷ s ∷ l) = not (holds (tree? t s))
+shows no-tree [] = true
+shows no-tree (t ∷ l) = false
+shows one-tree [] = false
+shows one-tree (t ∷ []) = true
+shows one-tree (t ∷ s ∷ l) = false
+shows two-trees [] = false
+shows two-trees (t ∷ []) = false
+shows two-trees (t ∷ s ∷ l) = not (holds (tree? t s))
 
 differ : {s t : Tree} (d : Dec (s ≡ t)) → T (not (holds d)) → s ≡ t → ⊥
 differ (yes p) h e = h
 differ (no n) h e = n e
 
-two-shown : (g : Rules) (A : ℕ) (w : Word) (l : List Tree) → Every (Witness g A w) l → T (shows two l) → TwoTrees g A w
+two-shown : (g : Rules) (A : ℕ) (w : Word) (l : List Tree) → Every (Witness g A w) l → T (shows two-trees l) → TwoTrees g A w
 two-shown g A w [] x h = absurd h
 two-shown g A w (t ∷ []) x h = absurd h
 two-shown g A w (t ∷ s ∷ l) x h = record { first = t; second = s; witness₁ = x .0; witness₂ = x .1 .0; differ = differ (tree? t s) h }
 
 pub shown : (g : Rules) (A : ℕ) (w : Word) (v : TreeCount) (l : List Tree) → Exactly g A w l → T (shows v l) → Is v g A w
-shown g A w none [] x h = record { none = λ t k. List·Memᴰ·not-nil (x .whole t k) }
-shown g A w none (t ∷ l) x h = absurd h
-shown g A w one [] x h = absurd h
-shown g A w one (t ∷ []) x h = record { tree = t; witness = x .sound .0; only = λ s k. List·Memᴰ·eq-of-singleton (x .whole s k) }
-shown g A w one (t ∷ s ∷ l) x h = absurd h
-shown g A w two l x h = two-shown g A w l (x .sound) h
+shown g A w no-tree [] x h = record { none = λ t k. List·Memᴰ·not-nil (x .whole t k) }
+shown g A w no-tree (t ∷ l) x h = absurd h
+shown g A w one-tree [] x h = absurd h
+shown g A w one-tree (t ∷ []) x h = record { tree = t; witness = x .sound .0; only = λ s k. List·Memᴰ·eq-of-singleton (x .whole s k) }
+shown g A w one-tree (t ∷ s ∷ l) x h = absurd h
+shown g A w two-trees l x h = two-shown g A w l (x .sound) h
 
 -- the test of a verdict, and that it is right
 abbrev pub reads : TreeCount → ℕ → Word → Chart → Bool
-reads none A w (unfinished C) = false
-reads one A w (unfinished C) = false
-reads two A w (unfinished C) = shows two (trees A w C)
+reads no-tree A w (unfinished C) = false
+reads one-tree A w (unfinished C) = false
+reads two-trees A w (unfinished C) = shows two-trees (trees A w C)
 reads v A w (finished C) = shows v (trees A w C)
 
 pub read : (g : Rules) (A : ℕ) (w : Word) (v : TreeCount) (c : Chart) → Good g w c → T (reads v A w c) → Is v g A w
-read g A w none (unfinished C) h t = absurd t
-read g A w one (unfinished C) h t = absurd t
-read g A w two (unfinished C) h t = two-shown g A w (trees A w C) (sound-trees g A w C h) t
+read g A w no-tree (unfinished C) h t = absurd t
+read g A w one-tree (unfinished C) h t = absurd t
+read g A w two-trees (unfinished C) h t = two-shown g A w (trees A w C) (sound-trees g A w C h) t
 read g A w v (finished C) h t = shown g A w v (trees A w C) (exactly g A w C h) t
 
 -- at most one tree
@@ -135,3 +130,13 @@ at-most-one A w (finished C) = few (trees A w C)
 pub not-two : (g : Rules) (A : ℕ) (w : Word) (c : Chart) → Good g w c → T (at-most-one A w c) → TwoTrees g A w → ⊥
 not-two g A w (unfinished C) h t = absurd t
 not-two g A w (finished C) h t = few-right g A w (trees A w C) (exactly g A w C h) t
+
+-- the lengths of the left words of all trees
+abbrev pub left-lengths : ℕ → Word → Chart → List ℕ → Bool
+left-lengths A w (unfinished C) l = false
+left-lengths A w (finished C) l = holds (list? eq? (map leftLength (trees A w C)) l)
+
+pub lefts-right : (g : Rules) (A : ℕ) (w : Word) (l : List ℕ) (c : Chart) → Good g w c → T (left-lengths A w c l) → LeftLengths g A w l
+lefts-right g A w l (unfinished C) h t = absurd t
+lefts-right g A w l (finished C) h t =
+    record { trees = trees A w C; exactly = exactly g A w C h; lefts = holds-yes (list? eq? (map leftLength (trees A w C)) l) t }

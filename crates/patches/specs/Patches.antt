@@ -1,74 +1,70 @@
--- P1 to P9 of 01, "Patches to try", and rules that loop (02), as one table.
-use mathlib.Core.List.{List, [], _∷_}
+-- P1 to P9 of 01, "Patches to try", with the sheets as it prints them, and rules that loop (02, request 13), as one table.
+use mathlib.Core.List.{List, [], _∷_, _++_}
 use Prim.Native.Nat.{ℕ}
-use Rattle.grammar.specs.declared.Token.{Token}
-use Rattle.grammar.specs.declared.Cell.{Cell}
-use Rattle.grammar.specs.declared.UnaryMark.{UnaryMark}
-use Rattle.grammar.specs.declared.UnaryMark.the-variants as UnaryMark
-use Rattle.grammar.specs.declared.BinaryMark.{BinaryMark}
-use Rattle.grammar.specs.declared.BinaryMark.the-variants as BinaryMark
-use Rattle.grammar.specs.Trees.{Rules}
-use Rattle.grammar.specs.Sweeps.{clear, found}
-use Rattle.clauses.specs.Expansion.{E, A, U, B}
-use Rattle.patches.specs.Claims.{Claim, verdict, sweep, every-sweep-clear, none, one, two}
+use Prim.Native.String.{String}
+use Rattle.patches.specs.Bytes.{bytes}
+use Rattle.patches.specs.Claims.{Claim, verdict, lefts, sweep, every-sweep-clear, clear, two-at, no-tree, one-tree, two-trees}
 
--- a token of terminal 0 and width 1 at a line and a column
-abbrev pub at : ℕ → ℕ → Token
-at l c = record { terminal = 0; line = record { 0 = l }; column = record { 0 = c }; width = record { 0 = 1 } }
+-- the lines behind a sheet's names
+abbrev pub rules : String → List ℕ
+rules lines = bytes "left kind first second lay\n" ++ bytes lines
 
--- a cell of terminal 0: a line step and a column
-abbrev pub cell : ℕ → ℕ → Cell
-cell s c = record { terminal = 0; step = s; column = c }
+abbrev pub tokens : String → List ℕ
+tokens lines = bytes "term line col\n" ++ bytes lines
 
-abbrev pub three : Cell → Cell → Cell → List Cell
-three a b c = a ∷ b ∷ c ∷ []
+abbrev pub p1 : List ℕ
+p1 = rules "0 B 0 0 none\n0 A 0 - none\n"
 
--- P1 to P3
-abbrev pub chain : BinaryMark → Rules
-chain m = B 0 0 0 m ∷ A 0 0 ∷ []
+abbrev pub p2 : List ℕ
+p2 = rules "0 B 0 0 align\n0 A 0 - none\n"
 
-abbrev pub p4 : Rules
-p4 = B 0 1 1 BinaryMark.None ∷ A 1 0 ∷ E 1 ∷ []
+abbrev pub p3 : List ℕ
+p3 = rules "0 B 0 0 indent\n0 A 0 - none\n"
 
-abbrev pub p5 : Rules
-p5 = B 0 1 2 BinaryMark.None ∷ U 0 1 UnaryMark.None ∷ E 1 ∷ E 2 ∷ []
+abbrev pub p4 : List ℕ
+p4 = rules "0 B 1 1 none\n1 A 0 - none\n1 E - - none\n"
 
--- P6 and P7
-abbrev pub p6 : UnaryMark → Rules
-p6 m = U 0 1 m ∷ B 1 2 2 BinaryMark.None ∷ A 2 0 ∷ []
+abbrev pub p5 : List ℕ
+p5 = rules "0 B 1 2 none\n0 U 1 - none\n1 E - - none\n2 E - - none\n"
 
-abbrev pub p8 : Rules
-p8 = B 0 1 1 BinaryMark.Indent ∷ A 1 0 ∷ []
+abbrev pub p6 : List ℕ
+p6 = rules "0 U 1 - offside\n1 B 2 2 none\n2 A 0 - none\n"
 
-abbrev pub p9 : Rules
-p9 = U 0 1 UnaryMark.Single ∷ U 1 2 UnaryMark.None ∷ U 1 3 UnaryMark.None ∷ B 2 4 4 BinaryMark.Indent ∷ B 3 4 4 BinaryMark.None ∷ A 4 0 ∷ []
+abbrev pub p7 : List ℕ
+p7 = rules "0 U 1 - offalign\n1 B 2 2 none\n2 A 0 - none\n"
+
+abbrev pub p8 : List ℕ
+p8 = rules "0 B 1 1 indent\n1 A 0 - none\n"
+
+abbrev pub p9 : List ℕ
+p9 = rules "0 U 1 - single\n1 U 2 - none\n1 U 3 - none\n2 B 4 4 indent\n3 B 4 4 none\n4 A 0 - none\n"
 
 -- rules that loop: 02's, and a loop that no tree uses
-abbrev pub looping : Rules
-looping = U 0 0 UnaryMark.None ∷ A 0 0 ∷ []
+abbrev pub looping : List ℕ
+looping = rules "0 U 0 - none\n0 A 0 - none\n"
 
-abbrev pub idle : Rules
-idle = A 0 0 ∷ U 1 1 UnaryMark.None ∷ []
+abbrev pub idle : List ℕ
+idle = rules "0 A 0 - none\n1 U 1 - none\n"
 
--- (1,1) (1,2) (1,3) has the steps 0, 0, 0; (1,1) (2,1) (3,1) and (1,1) (2,2) (3,3) have 0, 1, 1
 abbrev pub patches : List Claim
 patches =
-    sweep (chain BinaryMark.None) 2 clear
-    ∷ sweep (chain BinaryMark.None) 3 (found (three (cell 0 1) (cell 0 2) (cell 0 3)))
-    ∷ sweep (chain BinaryMark.Align) 3 (found (three (cell 0 1) (cell 1 1) (cell 1 1)))
-    ∷ sweep (chain BinaryMark.Indent) 3 (found (three (cell 0 1) (cell 1 2) (cell 1 3)))
-    ∷ verdict p4 0 (at 1 1 ∷ []) two
-    ∷ verdict p5 0 [] two
+    sweep p1 2 clear
+    ∷ sweep p1 3 (two-at (tokens "0 1 1\n0 1 2\n0 1 3\n"))
+    ∷ sweep p2 3 (two-at (tokens "0 1 1\n0 2 1\n0 3 1\n"))
+    ∷ sweep p3 3 (two-at (tokens "0 1 1\n0 2 2\n0 3 3\n"))
+    ∷ verdict p4 (tokens "0 1 1\n") 0 two-trees
+    ∷ lefts p4 (tokens "0 1 1\n") 0 (1 ∷ 0 ∷ [])
+    ∷ verdict p5 (tokens "") 0 two-trees
     ∷ every-sweep-clear p5
-    ∷ verdict (p6 UnaryMark.Offside) 0 (at 1 3 ∷ at 2 3 ∷ []) none
-    ∷ verdict (p6 UnaryMark.Offside) 0 (at 1 3 ∷ at 2 4 ∷ []) one
-    ∷ verdict (p6 UnaryMark.Offalign) 0 (at 1 3 ∷ at 2 3 ∷ []) one
-    ∷ verdict (p6 UnaryMark.Offalign) 0 (at 1 3 ∷ at 2 2 ∷ []) none
-    ∷ verdict p8 0 (at 1 1 ∷ at 2 2 ∷ []) one
-    ∷ verdict p8 0 (at 1 1 ∷ at 3 2 ∷ []) one
-    ∷ verdict p8 0 (at 1 1 ∷ at 2 1 ∷ []) none
-    ∷ verdict p9 0 (at 1 1 ∷ at 2 2 ∷ []) none
-    ∷ verdict p9 1 (at 1 1 ∷ at 2 2 ∷ []) two
-    ∷ verdict looping 0 (at 1 1 ∷ []) two
-    ∷ verdict idle 0 (at 1 1 ∷ []) one
+    ∷ verdict p6 (tokens "0 1 3\n0 2 3\n") 0 no-tree
+    ∷ verdict p6 (tokens "0 1 3\n0 2 4\n") 0 one-tree
+    ∷ verdict p7 (tokens "0 1 3\n0 2 3\n") 0 one-tree
+    ∷ verdict p7 (tokens "0 1 3\n0 2 2\n") 0 no-tree
+    ∷ verdict p8 (tokens "0 1 1\n0 2 2\n") 0 one-tree
+    ∷ verdict p8 (tokens "0 1 1\n0 3 2\n") 0 one-tree
+    ∷ verdict p8 (tokens "0 1 1\n0 2 1\n") 0 no-tree
+    ∷ verdict p9 (tokens "0 1 1\n0 2 2\n") 0 no-tree
+    ∷ verdict p9 (tokens "0 1 1\n0 2 2\n") 1 two-trees
+    ∷ verdict looping (tokens "0 1 1\n") 0 two-trees
+    ∷ verdict idle (tokens "0 1 1\n") 0 one-tree
     ∷ []
