@@ -21,7 +21,7 @@ use Rattle.column_ranges.specs.Ranges.{Ranges}
 use Rattle.sheets.specs.declared.Fault.{Fault}
 use Rattle.teplonga.specs.declared.Answer.the-variants as Answer
 use Rattle.call_columns.specs.declared.ColumnsReply.{ColumnsReply}
-use Rattle.sheets.specs.Items.{Reading, accepted, refused}
+use Rattle.sheets.proofs.Once.{apart, same-items, same-refusal}
 use Rattle.call_columns.specs.Columns.{columnsRefusal, ColumnsOn, short, given, ColumnsOf, bad-rules, bad-ranges, reading}
 
 -- two bools that say the same thing are the same
@@ -46,15 +46,6 @@ columns-on g rs (given {f = f} l n x h) (given {f = f′} m o y k) =
     (x ∙ ap (λ (z : Flags). record { answer = Answer.Given; line = 0; found = z }) (flags-same f f′ n o) ∙ sym y, h ∙ sym k)
 
 -- ---- the whole promise
-
-apart : {A : Type 0} {o : Reading A} {f : Fault} {l : ℕ} {x : List A} → o ≡ refused f l → o ≡ accepted x → ⊥
-apart e d = let z : _≡_ {A = ℕ} 0 1 = cc in omega arith
-
-same-items : {A : Type 0} {o : Reading A} {x y : List A} → o ≡ accepted x → o ≡ accepted y → x ≡ y
-same-items e d = cc
-
-same-refusal : {A : Type 0} {o : Reading A} {f f′ : Fault} {l l′ : ℕ} → o ≡ refused f l → o ≡ refused f′ l′ → (f ≡ f′) × (l ≡ l′)
-same-refusal e d = (cc, cc)
 
 refusals : {f f′ : Fault} {l l′ : ℕ} {ws a b : List ℕ} {r s : ColumnsReply} → (f ≡ f′) × (l ≡ l′) → r ≡ columnsRefusal f l → s ≡ columnsRefusal f′ l′ → a ≡ ws → b ≡ ws → (r ≡ s) × (a ≡ b)
 refusals z x y h k = (x ∙ (λ i. columnsRefusal (z .0 i) (z .1 i)) ∙ sym y, h ∙ sym k)

@@ -7,8 +7,8 @@ use lib.ListN.{length}
 use Rattle.grammar.specs.Trees.{Rules}
 use Rattle.grammar.specs.SpanSheet.{pairs}
 use Rattle.sheets.specs.declared.Fault.{Fault}
-use Rattle.sheets.specs.Refusals.{numberOf}
-use Rattle.sheets.specs.Items.{accepted, refused}
+use Rattle.sheets.specs.Refusals.{numberOf, RefusedAs}
+use Rattle.sheets.specs.Items.{accepted}
 use Rattle.sheets.specs.RuleSheets.{ruleSheet}
 use Rattle.column_ranges.specs.Ranges.{Ranges}
 use Rattle.lane_search.specs.declared.Flags.{Flags}
@@ -36,6 +36,6 @@ pub data ColumnsOn (g : Rules) (rs : Ranges) (words words′ : List ℕ) (r : Co
 
 -- what the call answers, and what it leaves of the lent words: the rule sheet's refusals come first, then the range sheet's
 pub data ColumnsOf (rules ranges words words′ : List ℕ) (r : ColumnsReply) : Type 0 where
-  bad-rules : {f : Fault} {l : ℕ} → ruleSheet rules ≡ refused f l → r ≡ columnsRefusal f l → words′ ≡ words → ColumnsOf rules ranges words words′ r
-  bad-ranges : {g : Rules} {f : Fault} {l : ℕ} → ruleSheet rules ≡ accepted g → rangeSheet ranges ≡ refused f l → r ≡ columnsRefusal f l → words′ ≡ words → ColumnsOf rules ranges words words′ r
+  bad-rules : {f : Fault} {l : ℕ} → RefusedAs (ruleSheet rules) f l → r ≡ columnsRefusal f l → words′ ≡ words → ColumnsOf rules ranges words words′ r
+  bad-ranges : {g : Rules} {f : Fault} {l : ℕ} → ruleSheet rules ≡ accepted g → RefusedAs (rangeSheet ranges) f l → r ≡ columnsRefusal f l → words′ ≡ words → ColumnsOf rules ranges words words′ r
   reading : {g : Rules} {rs : Ranges} → ruleSheet rules ≡ accepted g → rangeSheet ranges ≡ accepted rs → ColumnsOn g rs words words′ r → ColumnsOf rules ranges words words′ r

@@ -7,11 +7,12 @@ use Rattle.grammar.specs.Layout.{Word}
 use Rattle.grammar.specs.Trees.{Rules}
 use Rattle.lists.specs.Lists.{bytesOf, GivesList}
 use Rattle.places.specs.Places.{Entry, AllPlaces, entryBytes}
+use Rattle.sheets.specs.Items.{accepted}
 use Rattle.sheets.specs.declared.Fault.{Fault}
-use Rattle.sheets.specs.Refusals.{numberOf}
+use Rattle.sheets.specs.Refusals.{numberOf, RefusedAs}
 use Rattle.teplonga.specs.declared.Answer.{Answer}
 use Rattle.teplonga.specs.declared.Answer.the-variants as Answer
-use Rattle.teplonga.specs.Answers.{accepted, refused, sheets, AnswerHolds}
+use Rattle.teplonga.specs.Answers.{sheets, AnswerHolds}
 use Rattle.teplonga.specs.Verdict.{needed, SheetFilled}
 use Rattle.call_places.specs.declared.PlacesReply.{PlacesReply}
 
@@ -36,7 +37,7 @@ pub data PlacesOn (g : Rules) (w : Word) (words words′ list list′ : List ℕ
 -- what the call answers, and what it leaves of the lent words and of the lent bytes
 pub data PlacesOf (rules tokens words words′ list list′ : List ℕ) (r : PlacesReply) : Type 0 where
   -- a refused sheet: nothing changes
-  refusing : {f : Fault} {l : ℕ} → sheets rules tokens ≡ refused f l
+  refusing : {f : Fault} {l : ℕ} → RefusedAs (sheets rules tokens) f l
       → r ≡ placesRefusal f l → words′ ≡ words → list′ ≡ list → PlacesOf rules tokens words words′ list list′ r
-  reading : {g : Rules} {w : Word} → sheets rules tokens ≡ accepted g w → PlacesOn g w words words′ list list′ r
+  reading : {g : Rules} {w : Word} → sheets rules tokens ≡ accepted (g, w) → PlacesOn g w words words′ list list′ r
       → PlacesOf rules tokens words words′ list list′ r

@@ -11,17 +11,19 @@ use Rattle.grammar.specs.Choices.{FirstTree, SecondTree}
 use Rattle.grammar.specs.Rows.{rowCount}
 use Rattle.grammar.proofs.ChoiceLaws.{first-unique, second-tree-unique}
 use Rattle.grammar.proofs.VerdictLaws.{none-not-one, none-not-two, one-not-two}
-use Rattle.derivation.specs.Written.{places}
+use Rattle.derivation.specs.Written.{rowRoom}
 use Rattle.sheets.specs.declared.Fault.{Fault}
 use Rattle.sheets.specs.Refusals.{numberOf}
 use Rattle.teplonga.specs.declared.Answer.{Answer}
 use Rattle.teplonga.specs.declared.Answer.the-variants as Answer
 use Rattle.teplonga.specs.declared.TreesReply.{TreesReply}
-use Rattle.teplonga.specs.Answers.{accepted, sheets}
+use Rattle.sheets.specs.Items.{accepted}
+use Rattle.sheets.proofs.Once.{apart}
+use Rattle.teplonga.specs.Answers.{sheets}
 use Rattle.teplonga.specs.Verdict.{needed}
 use Rattle.teplonga.specs.Trees.{treesReplyOf, Shown, TreesOn, TreesOf}
 use Rattle.teplonga.specs.Trees as Show
-use Rattle.teplonga.proofs.Settled.{apart, same-sheets, sheets-apart}
+use Rattle.teplonga.proofs.Settled.{same-sheets, sheets-apart}
 use Rattle.row_counts.specs.declared.RowCount.{RowCount}
 use Rattle.row_counts.specs.declared.RowCount.the-variants as RowCount
 use Rattle.row_counts.specs.RowCounts.{Counted, treeless, single, both, Tells}
@@ -61,7 +63,7 @@ short-no f h a b e = let z : f ≡ h = cc in omega (arith, ap numberOf z)
 
 module _ {g : Rules} (d : Distinct g) {w : Word} {m n : ℕ} {one one′ two two′ : List ℕ} {r : TreesReply} where
   -- what was counted fits
-  shown-fits : Counted g w m n → Shown g w one one′ two two′ r → m ≤ places one → n ≤ places two → NoRoom r → ⊥
+  shown-fits : Counted g w m n → Shown g w one one′ two two′ r → m ≤ rowRoom one → n ≤ rowRoom two → NoRoom r → ⊥
   shown-fits c (Show.treeless p e a b) h k = other-answer e none-no
   shown-fits c (Show.single o f l e a b) h k = other-answer e one-no
   shown-fits c (Show.both p f s l l′ e a b) h k = other-answer e two-no
@@ -74,7 +76,7 @@ module _ {g : Rules} (d : Distinct g) {w : Word} {m n : ℕ} {one one′ two two
       absurd (⊎-elim (λ z. omega (arith, same-first f f′)) (λ z. omega (arith, same-second d s s′)) l)
 
   -- less does not
-  shown-short : Counted g w m n → Shown g w one one′ two two′ r → (places one < m) ⊎ (places two < n) → NoRoom r
+  shown-short : Counted g w m n → Shown g w one one′ two two′ r → (rowRoom one < m) ⊎ (rowRoom two < n) → NoRoom r
   shown-short c (Show.large-one {f = f} o t l q e a b) z = no-room f q e
   shown-short c (Show.large-two {f = f} o t s l q e a b) z = no-room f q e
   shown-short (treeless p x y) (Show.treeless o e a b) z = absurd (⊎-elim (λ k. omega arith) (λ k. omega arith) z)
@@ -98,7 +100,7 @@ pub record Exactly (r : RowsReply) (m n : ℕ) : Type 0 where
 
 module _ {rules tokens ws ws′ : List ℕ} {r : RowsReply} {m n : ℕ} {vs vs′ one one′ two two′ : List ℕ} {q : TreesReply} where
   -- with that many rows it is never refused 22
-  pub enough-rows : RowsOf rules tokens ws ws′ r → Exactly r m n → TreesOf rules tokens vs vs′ one one′ two two′ q → m ≤ places one → n ≤ places two → NoRoom q → ⊥
+  pub enough-rows : RowsOf rules tokens ws ws′ r → Exactly r m n → TreesOf rules tokens vs vs′ one one′ two two′ q → m ≤ rowRoom one → n ≤ rowRoom two → NoRoom q → ⊥
   enough-rows (refusing {f = f} e x h) k t a b v = absurd (k .answered f (ap (λ (y : RowsReply). y .answer) x))
   enough-rows (reading e (short {f = f} l o x h)) k t a b v = absurd (k .answered f (ap (λ (y : RowsReply). y .answer) x))
   enough-rows (reading e (counting y o c t u h)) k (Show.refusing d z i j l) a b v = absurd (apart d e)
@@ -110,8 +112,8 @@ module _ {rules tokens ws ws′ : List ℕ} {r : RowsReply} {m n : ℕ} {vs vs�
 
   -- with words enough, and with one fewer in either memory, if that count was not 0, it is
   pub one-row-fewer : RowsOf rules tokens ws ws′ r → Exactly r m n → TreesOf rules tokens vs vs′ one one′ two two′ q
-      → ((g : Rules) (w : Word) → sheets rules tokens ≡ accepted g w → needed w ≤ length vs)
-      → (suc (places one) ≡ m) ⊎ (suc (places two) ≡ n) → NoRoom q
+      → ((g : Rules) (w : Word) → sheets rules tokens ≡ accepted (g, w) → needed w ≤ length vs)
+      → (suc (rowRoom one) ≡ m) ⊎ (suc (rowRoom two) ≡ n) → NoRoom q
   one-row-fewer (refusing {f = f} e x h) k t a b = absurd (k .answered f (ap (λ (y : RowsReply). y .answer) x))
   one-row-fewer (reading e (short {f = f} l o x h)) k t a b = absurd (k .answered f (ap (λ (y : RowsReply). y .answer) x))
   one-row-fewer (reading e (counting y o c t u h)) k (Show.refusing d z i j l) a b = absurd (apart d e)

@@ -5,10 +5,11 @@ use Prim.Native.Nat.{ℕ, _<_}
 use lib.ListN.{length}
 use Rattle.grammar.specs.Layout.{Word}
 use Rattle.grammar.specs.Trees.{Rules}
+use Rattle.sheets.specs.Items.{accepted}
 use Rattle.sheets.specs.declared.Fault.{Fault}
-use Rattle.sheets.specs.Refusals.{numberOf}
+use Rattle.sheets.specs.Refusals.{numberOf, RefusedAs}
 use Rattle.teplonga.specs.declared.Answer.the-variants as Answer
-use Rattle.teplonga.specs.Answers.{accepted, refused, sheets, AnswerHolds}
+use Rattle.teplonga.specs.Answers.{sheets, AnswerHolds}
 use Rattle.teplonga.specs.Verdict.{needed, SheetFilled}
 use Rattle.row_counts.specs.declared.RowCount.the-variants as RowCount
 use Rattle.row_counts.specs.RowCounts.{Counted, Tells}
@@ -29,5 +30,5 @@ pub data RowsOn (g : Rules) (w : Word) (words words′ : List ℕ) (r : RowsRepl
 -- what the call answers, and what it leaves of the lent words
 pub data RowsOf (rules tokens words words′ : List ℕ) (r : RowsReply) : Type 0 where
   -- a refused sheet: its number and line; no word changes
-  refusing : {f : Fault} {l : ℕ} → sheets rules tokens ≡ refused f l → r ≡ rowsRefusal f l → words′ ≡ words → RowsOf rules tokens words words′ r
-  reading : {g : Rules} {w : Word} → sheets rules tokens ≡ accepted g w → RowsOn g w words words′ r → RowsOf rules tokens words words′ r
+  refusing : {f : Fault} {l : ℕ} → RefusedAs (sheets rules tokens) f l → r ≡ rowsRefusal f l → words′ ≡ words → RowsOf rules tokens words words′ r
+  reading : {g : Rules} {w : Word} → sheets rules tokens ≡ accepted (g, w) → RowsOn g w words words′ r → RowsOf rules tokens words words′ r

@@ -8,7 +8,6 @@ use native.Mathlib.Omega.{arith}
 use native.Mathlib.Decide.{decLt}
 use lib.ListN.{length}
 use Rattle.grammar.specs.declared.Cell.{Cell}
-use Rattle.grammar.specs.declared.Rule.{Rule}
 use Rattle.grammar.specs.Trees.{Rules}
 use Rattle.grammar.specs.SpanSheet.{pairs}
 use Rattle.grammar.specs.Candidates.{Terminal, sentence}
@@ -20,7 +19,8 @@ use Rattle.numbers.specs.Shares.{total, NoneIn, LowestIn}
 use Rattle.numbers.proofs.ShareLaws.{number-before}
 use Rattle.sheets.specs.declared.Fault.{Fault}
 use Rattle.sheets.specs.Refusals.{numberOf}
-use Rattle.sheets.specs.Items.{Reading, accepted, refused}
+use Rattle.sheets.specs.Items.{accepted}
+use Rattle.sheets.proofs.Once.{apart, same-items, same-refusal}
 use Rattle.sheets.specs.RuleSheets.{ruleSheet}
 use Rattle.sheets.proofs.Accepted.{rules-good}
 use Rattle.teplonga.specs.declared.Answer.the-variants as Answer
@@ -28,15 +28,6 @@ use Rattle.teplonga.specs.Sweep.{sweepLimit}
 use Rattle.sheets.proofs.Numbers.{same-fault}
 use Rattle.call_shares.specs.declared.ShareReply.{ShareReply}
 use Rattle.call_shares.specs.Share.{shareReplyOf, shareRefusal, Length, ShareTaken, ShareOn, bound, many, racks, beyond, short, clear, two, ShareOf, refusing, reading}
-
-apart : {o : Reading Rule} {f : Fault} {l : ℕ} {g : Rules} → o ≡ refused f l → o ≡ accepted g → ⊥
-apart e d = let z : _≡_ {A = ℕ} 0 1 = cc in omega arith
-
-same-rules : {o : Reading Rule} {g g′ : Rules} → o ≡ accepted g → o ≡ accepted g′ → g ≡ g′
-same-rules e d = cc
-
-same-refusal : {o : Reading Rule} {f f′ : Fault} {l l′ : ℕ} → o ≡ refused f l → o ≡ refused f′ l′ → (f ≡ f′) × (l ≡ l′)
-same-refusal e d = (cc, cc)
 
 refusal-same : {f f′ : Fault} {a b ws : List ℕ} {r s : ShareReply} (n : ℕ) → numberOf f ≡ n → numberOf f′ ≡ n → r ≡ shareRefusal f 0 → s ≡ shareRefusal f′ 0 → a ≡ ws → b ≡ ws → (r ≡ s) × (a ≡ b)
 refusal-same {f} {f′} n m o x y h k = (x ∙ ap (λ (z : Fault). shareRefusal z 0) (same-fault f f′ n m o) ∙ sym y, h ∙ sym k)
@@ -79,8 +70,8 @@ module _ (g : Rules) (small : (x : ℕ) → Terminal g x → x < 64) (n p i : �
   share-on (racks k o q y e) (racks l m w x h) = refusal-same 45 q w y x e h
   share-on (racks k o q y e) (beyond l m v w z x h) = absurd (off o m v)
   share-on (racks k o q y e) (short l m v w z f x h) = absurd (off o m v)
-  share-on (racks k o q y e) (clear t c x h) = absurd (off o (t .some) (t .most))
-  share-on (racks k o q y e) (two t c x h) = absurd (off o (t .some) (t .most))
+  share-on (racks k o q y e) (clear t c x h) = absurd (off o (t .least) (t .most))
+  share-on (racks k o q y e) (two t c x h) = absurd (off o (t .least) (t .most))
   share-on (beyond k u o q v y e) (bound l m x h) = absurd (off l (k .low) (k .high))
   share-on (beyond k u o q v y e) (many l w m z x h) = absurd (omega (arith, m, k .few))
   share-on (beyond k u o q v y e) (racks l m w x h) = absurd (off m u o)
@@ -97,14 +88,14 @@ module _ (g : Rules) (small : (x : ℕ) → Terminal g x → x < 64) (n p i : �
   share-on (short k u o q v w y e) (two t c x h) = absurd (omega (arith, t .enough))
   share-on (clear t c y e) (bound l m x h) = absurd (off l (t .size .low) (t .size .high))
   share-on (clear t c y e) (many k u o q x h) = absurd (omega (arith, o, t .size .few))
-  share-on (clear t c y e) (racks k o q x h) = absurd (off o (t .some) (t .most))
+  share-on (clear t c y e) (racks k o q x h) = absurd (off o (t .least) (t .most))
   share-on (clear t c y e) (beyond k u o q v x h) = absurd (omega (arith, t .below))
   share-on (clear t c y e) (short k u o q v w x h) = absurd (omega (arith, t .enough))
   share-on (clear t c y e) (clear u d x h) = (y ∙ sym x, e ∙ sym h)
   share-on (clear t c y e) (two u d x h) = absurd (never-both c d)
   share-on (two t c y e) (bound l m x h) = absurd (off l (t .size .low) (t .size .high))
   share-on (two t c y e) (many k u o q x h) = absurd (omega (arith, o, t .size .few))
-  share-on (two t c y e) (racks k o q x h) = absurd (off o (t .some) (t .most))
+  share-on (two t c y e) (racks k o q x h) = absurd (off o (t .least) (t .most))
   share-on (two t c y e) (beyond k u o q v x h) = absurd (omega (arith, t .below))
   share-on (two t c y e) (short k u o q v w x h) = absurd (omega (arith, t .enough))
   share-on (two t c y e) (clear u d x h) = absurd (never-both d c)
@@ -120,13 +111,13 @@ share-settled rules n p i (refusing e x h) (refusing d y k) = let z = same-refus
 share-settled rules n p i (refusing e x h) (reading d y) = absurd (apart e d)
 share-settled rules n p i (reading d y) (refusing e x h) = absurd (apart e d)
 share-settled rules n p i (reading {g = g} e x) (reading d y) =
-    let z = same-rules e d in
+    let z = same-items e d in
     share-on g (small-terminals rules g e) n p i x (rw (← z) at y)
 
 -- of the lent words only their number counts: the reply is the same whatever stood there before
 module _ {ws vs : List ℕ} (e : length ws ≡ length vs) where
   taken-moved : {g : Rules} {n p i : ℕ} → ShareTaken g n p i ws → ShareTaken g n p i vs
-  taken-moved t = record { size = t .size; some = t .some; most = t .most; below = t .below; enough = omega (arith, t .enough) }
+  taken-moved t = record { size = t .size; least = t .least; most = t .most; below = t .below; enough = omega (arith, t .enough) }
 
   pub share-reply : (rules : List ℕ) (n p i : ℕ) {a b : List ℕ} {r s : ShareReply} → ShareOf rules n p i ws a r → ShareOf rules n p i vs b s → r ≡ s
   share-reply rules n p i (refusing d x h) y = share-settled rules n p i (refusing d x refl) y .0

@@ -6,14 +6,14 @@ use Prim.Native.Nat.{ℕ, zero, suc, _-_, _^_, _≤_, _<_}
 use native.Mathlib.Omega.{arith}
 use native.Mathlib.Nat.{pow-suc, pow-le-pow-left, pow-le-pow-right, mul-le-mul, mul-zero, zero-mul, le-trans}
 use Rattle.grammar.specs.declared.Cell.{Cell}
-use Rattle.grammar.specs.declared.Rule.{Rule}
 use Rattle.grammar.specs.Trees.{Rules}
 use Rattle.grammar.specs.Sweeps.{Clear, FirstTwo, found, terminalCount, arrangements}
 use Rattle.grammar.specs.Candidates as Candidates
 use Rattle.grammar.specs.Sweeps as Sweeps
 use Rattle.grammar.proofs.SweepLaws.{answer-unique}
 use Rattle.sheets.specs.declared.Fault.{Fault}
-use Rattle.sheets.specs.Items.{Reading, accepted, refused}
+use Rattle.sheets.specs.Items.{accepted}
+use Rattle.sheets.proofs.Once.{apart}
 use Rattle.sheets.specs.RuleSheets.{ruleSheet}
 use Rattle.teplonga.specs.declared.Answer.{Answer}
 use Rattle.teplonga.specs.declared.Answer.the-variants as Answer
@@ -53,9 +53,6 @@ data Kept (r : ShareReply) : Type 0 where
 kept-not : {r : ShareReply} → Kept r → Refuses (r .answer) → ⊥
 kept-not (nothing e l z) x = subst Refuses e x
 kept-not (lowest e l) x = subst Refuses e x
-
-apart : {o : Reading Rule} {f : Fault} {l : ℕ} {g : Rules} → o ≡ refused f l → o ≡ accepted g → ⊥
-apart e d = let z : _≡_ {A = ℕ} 0 1 = cc in omega arith
 
 off : {lo hi k : ℕ} → (k < lo) ⊎ (hi < k) → lo ≤ k → k ≤ hi → ⊥
 off h l u = ⊎-elim (λ x. omega arith) (λ x. omega arith) h

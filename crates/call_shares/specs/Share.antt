@@ -13,8 +13,8 @@ use Rattle.grammar.specs.Candidates.{sentence}
 use Rattle.numbers.specs.Numbers.{number}
 use Rattle.numbers.specs.Shares.{total, Reports}
 use Rattle.sheets.specs.declared.Fault.{Fault}
-use Rattle.sheets.specs.Refusals.{numberOf}
-use Rattle.sheets.specs.Items.{accepted, refused}
+use Rattle.sheets.specs.Refusals.{numberOf, RefusedAs}
+use Rattle.sheets.specs.Items.{accepted}
 use Rattle.sheets.specs.RuleSheets.{ruleSheet}
 use Rattle.teplonga.specs.declared.Answer.{Answer}
 use Rattle.teplonga.specs.declared.Answer.the-variants as Answer
@@ -40,7 +40,7 @@ pub record Length (g : Rules) (n : ℕ) : Type 0 where
 -- a share that is taken on: 45, 46 and 21 are not given either
 pub record ShareTaken (g : Rules) (n p i : ℕ) (words : List ℕ) : Type 0 where
   pub size : Length g n
-  pub some : 1 ≤ p
+  pub least : 1 ≤ p
   pub most : p ≤ 64
   pub below : i < p
   pub enough : 2 * pairs n ≤ length words
@@ -72,6 +72,6 @@ pub data ShareOn (g : Rules) (n p i : ℕ) (words words′ : List ℕ) (r : Shar
 -- what the call answers, and what it leaves of the lent words
 pub data ShareOf (rules : List ℕ) (n p i : ℕ) (words words′ : List ℕ) (r : ShareReply) : Type 0 where
   -- a refused rule sheet
-  refusing : {f : Fault} {l : ℕ} → ruleSheet rules ≡ refused f l
+  refusing : {f : Fault} {l : ℕ} → RefusedAs (ruleSheet rules) f l
       → r ≡ shareRefusal f l → words′ ≡ words → ShareOf rules n p i words words′ r
   reading : {g : Rules} → ruleSheet rules ≡ accepted g → ShareOn g n p i words words′ r → ShareOf rules n p i words words′ r

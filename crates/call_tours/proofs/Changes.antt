@@ -28,7 +28,6 @@ use Rattle.fields.specs.Words.{layOf}
 use Rattle.fields.specs.Answers.{asLay}
 use Rattle.lines.specs.declared.RuleLine.{RuleLine}
 use Rattle.lines.specs.declared.RuleLine.the-variants as RuleLine
-use Rattle.sheets.specs.declared.Fault.{Fault}
 use Rattle.sheets.specs.declared.Fault.the-variants as Fault
 use Rattle.sheets.specs.Items.{Reading, accepted, refused}
 use Rattle.sheets.specs.RuleSheets.{ruleSheet}
@@ -116,7 +115,7 @@ word-not none e = refl
 module _ (s : List ℕ) (p : ℕ) (c : Clause) (n : Named s p c) (lay : List ℕ) where
   -- no word of lay
   pub done-form : LayWord.Not ≡ asLay (layOf lay) → (bytes : List ℕ) → ChangeDone s p lay bytes bytes (changeRefusal Fault.RuleForm (p + 1))
-  done-form e bytes = unfit (ap (readChanged s p lay) (word-not (layOf lay) e)) refl refl
+  done-form e bytes = unfit (record { is = ap (readChanged s p lay) (word-not (layOf lay) e) }) refl refl
 
   module _ (y : Lay) (is : LayWord.Is y ≡ asLay (layOf lay)) where
     word : layOf lay ≡ some y
@@ -128,7 +127,7 @@ module _ (s : List ℕ) (p : ℕ) (c : Clause) (n : Named s p c) (lay : List ℕ
     pub done-lay : fitsLay c y ≡ false → (bytes : List ℕ) → ChangeDone s p lay bytes bytes (changeRefusal Fault.RuleLay (p + 1))
     done-lay e bytes =
         let f : length (n .at .front) + 2 ≡ p + 1 = omega (arith, n .at .place) in
-        unfit (reads RuleLine.Unfit (relaid-unfit (n .at .rule .left) (n .at .rule .clause) y (ap (λ (x : Clause). fitsLay x y) (sym (n .is)) ∙ e)) ∙ ap (refused Fault.RuleLay) f) refl refl
+        unfit (record { is = reads RuleLine.Unfit (relaid-unfit (n .at .rule .left) (n .at .rule .clause) y (ap (λ (x : Clause). fitsLay x y) (sym (n .is)) ∙ e)) ∙ ap (refused 4) f }) refl refl
 
     good : fitsLay c y ≡ true → (h : Rules) × (changedSheet s p lay ≡ accepted h)
     good e =
@@ -141,23 +140,23 @@ module _ (s : List ℕ) (p : ℕ) (c : Clause) (n : Named s p c) (lay : List ℕ
 
 -- 3. which refusals the changed sheet can get: 2 and 4 in that rule's line, no other
 
-lay-refused : (front back : Rules) (x : RuleLine) (p : ℕ) → length front + 1 ≡ p → (Good x ⊎ (x ≡ RuleLine.Unfit)) → {f : Fault} {l : ℕ} → outcome front back x ≡ refused f l → (f ≡ Fault.RuleLay) × (l ≡ p + 1)
+lay-refused : (front back : Rules) (x : RuleLine) (p : ℕ) → length front + 1 ≡ p → (Good x ⊎ (x ≡ RuleLine.Unfit)) → {n l : ℕ} → outcome front back x ≡ refused n l → (n ≡ 4) × (l ≡ p + 1)
 lay-refused front back x p h (inl q) e = absurd (let k = q .1 in let j : outcome front back x ≡ accepted (front ++ q .0 ∷ back) = ap (outcome front back) k in let z : _≡_ {A = ℕ} 0 1 = cc in omega arith)
-lay-refused front back x p h (inr q) {f} {l} e =
-    let j : outcome front back x ≡ refused Fault.RuleLay (length front + 2) = ap (outcome front back) q in
-    let a : Fault.RuleLay ≡ f = cc in
+lay-refused front back x p h (inr q) {n} {l} e =
+    let j : outcome front back x ≡ refused 4 (length front + 2) = ap (outcome front back) q in
+    let a : _≡_ {A = ℕ} 4 n = cc in
     let b : length front + 2 ≡ l = cc in
     (sym a, omega arith)
 
-pub changed-refused : (s : List ℕ) (g : Rules) (p : ℕ) → ChangedAt s g p → (lay : List ℕ) {f : Fault} {l : ℕ} → changedSheet s p lay ≡ refused f l → ((f ≡ Fault.RuleForm) ⊎ (f ≡ Fault.RuleLay)) × (l ≡ p + 1)
-changed-refused s g p c lay {f} {l} e = go (layOf lay) refl e
+pub changed-refused : (s : List ℕ) (g : Rules) (p : ℕ) → ChangedAt s g p → (lay : List ℕ) {n l : ℕ} → changedSheet s p lay ≡ refused n l → ((n ≡ 2) ⊎ (n ≡ 4)) × (l ≡ p + 1)
+changed-refused s g p c lay {n} {l} e = go (layOf lay) refl e
   where
     fits-or-not : (y : Lay) (b : Bool) → fitsLay (c .rule .clause) y ≡ b → Good (relaid (c .rule .left) (c .rule .clause) y) ⊎ (relaid (c .rule .left) (c .rule .clause) y ≡ RuleLine.Unfit)
     fits-or-not y true h = inl (relaid-good (c .rule .left) (c .rule .clause) y h)
     fits-or-not y false h = inr (relaid-unfit (c .rule .left) (c .rule .clause) y h)
 
-    go : (o : Option Lay) → layOf lay ≡ o → readChanged s p lay o ≡ refused f l → ((f ≡ Fault.RuleForm) ⊎ (f ≡ Fault.RuleLay)) × (l ≡ p + 1)
-    go none h e = let a : Fault.RuleForm ≡ f = cc in let b : p + 1 ≡ l = cc in (inl (sym a), sym b)
+    go : (o : Option Lay) → layOf lay ≡ o → readChanged s p lay o ≡ refused n l → ((n ≡ 2) ⊎ (n ≡ 4)) × (l ≡ p + 1)
+    go none h e = let a : _≡_ {A = ℕ} 2 n = cc in let b : p + 1 ≡ l = cc in (inl (sym a), sym b)
     go (some y) h e =
         let r = lay-refused (c .front) (c .back) (relaid (c .rule .left) (c .rule .clause) y) p (c .place) (fits-or-not y (fitsLay (c .rule .clause) y) refl) (sym (c .reads lay y h) ∙ e) in
         (inr (r .0), r .1)

@@ -7,8 +7,6 @@ use mathlib.Core.Option.{some}
 use Prim.Native.Nat.{ℕ, _*_, _-_, _<_}
 use native.Mathlib.Omega.{arith}
 use lib.ListN.{length, replicate}
-use Rattle.grammar.specs.declared.Rule.{Rule}
-use Rattle.grammar.specs.declared.Token.{Token}
 use Rattle.grammar.specs.Content.{SmallRule}
 use Rattle.grammar.specs.Layout.{Word, Every}
 use Rattle.grammar.specs.Trees.{Tree, Rules, Valid}
@@ -20,17 +18,16 @@ use Rattle.derivation.specs.Written.{filled}
 use Rattle.derivation.specs.Showing.{filledShown}
 use Rattle.rights.specs.declared.Right.{Right}
 use Rattle.rights.specs.RightSheets.{rightsSheet, maySee}
-use Rattle.sheets.specs.Items.{Reading}
-use Rattle.sheets.specs.Items as Sheet
+use Rattle.sheets.specs.Items.{accepted}
+use Rattle.sheets.proofs.Once.{apart, same-items}
 use Rattle.sheets.specs.RuleSheets.{ruleSheet}
-use Rattle.sheets.specs.TokenSheets.{tokenSheet}
 use Rattle.sheets.proofs.Accepted.{rules-good}
 use Rattle.teplonga.specs.declared.Answer.the-variants as Answer
 use Rattle.teplonga.specs.declared.TreesReply.{TreesReply}
-use Rattle.teplonga.specs.Answers.{accepted, withTokens, withRules, sheets}
+use Rattle.teplonga.specs.Answers.{sheets}
 use Rattle.teplonga.specs.Trees.{treesReplyOf, Shown, TreesOn, TreesOf}
 use Rattle.teplonga.specs.Trees as Trees
-use Rattle.teplonga.proofs.Settled.{apart}
+use Rattle.teplonga.proofs.Settled.{both-sheets}
 use Rattle.call_tours.specs.Show.{ShownTo, treeless, single, both, large-one, large-two, ShowOn, short, showing, ShowOf, refusing, barring, reading}
 
 module _ (sees : View) (all : (A : ℕ) → A < 64 → sees A ≡ true) (g : Rules) (small : Every SmallRule g) where
@@ -61,23 +58,11 @@ module _ (sees : View) (all : (A : ℕ) → A < 64 → sees A ≡ true) (g : Rul
   open-trees (short l n x h i j) = Trees.short l n x h i j
   open-trees (showing f s) = Trees.showing f (open-shown s)
 
--- the rules of two sheets that are accepted are small
-sheets-small : (rules tokens : List ℕ) (g : Rules) (w : Word) → sheets rules tokens ≡ accepted g w → Every SmallRule g
-sheets-small rules tokens g w e = of-rules (ruleSheet rules) refl e
-  where
-    of-rules : (o : Reading Rule) → ruleSheet rules ≡ o → withRules o tokens ≡ accepted g w → Every SmallRule g
-    of-rules (Sheet.refused f l) k q = absurd (apart refl q)
-    of-rules (Sheet.accepted h) k q = of-tokens (tokenSheet tokens) q
-      where
-        of-tokens : (y : Reading Token) → withTokens h y ≡ accepted g w → Every SmallRule g
-        of-tokens (Sheet.refused f l) d = absurd (apart refl d)
-        of-tokens (Sheet.accepted v) d = let z : h ≡ g = cc in subst (Every SmallRule) z (rules-good rules h k .small)
-
 -- the whole promise: with rights that let the user see every nonterminal from 0 to 63, `show` is `trees`
-pub open-show : {rules tokens rights : List ℕ} {user : ℕ} {rs : List Right} → rightsSheet rights ≡ Sheet.accepted rs → ((A : ℕ) → A < 64 → maySee rs user A ≡ true)
+pub open-show : {rules tokens rights : List ℕ} {user : ℕ} {rs : List Right} → rightsSheet rights ≡ accepted rs → ((A : ℕ) → A < 64 → maySee rs user A ≡ true)
     → {words words′ one one′ two two′ : List ℕ} {r : TreesReply} → ShowOf rules tokens rights user words words′ one one′ two two′ r → TreesOf rules tokens words words′ one one′ two two′ r
 open-show e all (refusing d x h i j) = Trees.refusing d x h i j
-open-show e all (barring d f x h i j) = absurd (let z : _≡_ {A = ℕ} 0 1 = cc in omega arith)
+open-show e all (barring d f x h i j) = absurd (apart f e)
 open-show {rules} {tokens} {user = user} {rs = rs} e all (reading {g = g} {w = w} {rs = qs} d f x) =
-    let z : qs ≡ rs = cc in
-    Trees.reading d (open-trees (maySee rs user) all g (sheets-small rules tokens g w d) (rw z at x))
+    let z : qs ≡ rs = same-items f e in
+    Trees.reading d (open-trees (maySee rs user) all g (rules-good rules g (both-sheets (ruleSheet rules) tokens g w d .0) .small) (rw z at x))

@@ -8,8 +8,8 @@ use Rattle.shown.specs.Beneath.{OnlyBeneath}
 
 -- the same verdict, and first and second trees that differ only beneath nodes that may not be seen; the rules may be others
 pub record Alike (sees : View) (g g′ : Rules) (w w′ : Word) : Type 0 where
-  pub none : NoTree g 0 w → NoTree g′ 0 w′
-  pub one : OneTree g 0 w → OneTree g′ 0 w′
-  pub two : TwoTrees g 0 w → TwoTrees g′ 0 w′
+  pub no-tree : NoTree g 0 w → NoTree g′ 0 w′
+  pub one-tree : OneTree g 0 w → OneTree g′ 0 w′
+  pub two-trees : TwoTrees g 0 w → TwoTrees g′ 0 w′
   pub first : {t t′ : Tree} → FirstTree g 0 w t → FirstTree g′ 0 w′ t′ → OnlyBeneath sees t t′
   pub second : {u u′ : Tree} → SecondTree g 0 w u → SecondTree g′ 0 w′ u′ → OnlyBeneath sees u u′

@@ -9,8 +9,8 @@ use Rattle.grammar.specs.declared.Rule.{Rule}
 use Rattle.grammar.specs.Trees.{Rules}
 use Rattle.shown.specs.Shown.{View}
 use Rattle.sheets.specs.declared.Fault.{Fault}
-use Rattle.sheets.specs.Refusals.{numberOf}
-use Rattle.sheets.specs.Items.{accepted, refused}
+use Rattle.sheets.specs.Refusals.{numberOf, RefusedAs}
+use Rattle.sheets.specs.Items.{accepted}
 use Rattle.sheets.specs.RuleSheets.{ruleSheet}
 use Rattle.rights.specs.declared.Right.{Right}
 use Rattle.rights.specs.RightSheets.{rightsSheet, mayChange}
@@ -33,7 +33,7 @@ pub record MayRule (may : View) (g : Rules) (p : ℕ) : Type 0 where
 -- the answer where the user may replace that rule's mark
 pub data ChangeDone (rules : List ℕ) (p : ℕ) (lay bytes bytes′ : List ℕ) (r : ListReply) : Type 0 where
   -- no word of lay (2 in that rule's line), or the changed sheet is refused: nothing changes
-  unfit : {f : Fault} {l : ℕ} → changedSheet rules p lay ≡ refused f l → r ≡ changeRefusal f l → bytes′ ≡ bytes → ChangeDone rules p lay bytes bytes′ r
+  unfit : {f : Fault} {l : ℕ} → RefusedAs (changedSheet rules p lay) f l → r ≡ changeRefusal f l → bytes′ ≡ bytes → ChangeDone rules p lay bytes bytes′ r
   -- otherwise it is given as a list of its bytes, or refused 22
   given : {h : Rules} → changedSheet rules p lay ≡ accepted h → ListOn Answer.Given (changed rules p lay) (length (changed rules p lay)) bytes bytes′ r
       → ChangeDone rules p lay bytes bytes′ r
@@ -47,8 +47,8 @@ pub data ChangeOn (may : View) (rules : List ℕ) (g : Rules) (p : ℕ) (lay byt
 -- what the call answers, and what it leaves of the lent bytes
 pub data ChangeOf (rules rights : List ℕ) (user p : ℕ) (lay bytes bytes′ : List ℕ) (r : ListReply) : Type 0 where
   -- a refused rule sheet, then a refused rights sheet
-  refusing : {f : Fault} {l : ℕ} → ruleSheet rules ≡ refused f l → r ≡ changeRefusal f l → bytes′ ≡ bytes → ChangeOf rules rights user p lay bytes bytes′ r
-  barring : {g : Rules} {f : Fault} {l : ℕ} → ruleSheet rules ≡ accepted g → rightsSheet rights ≡ refused f l
+  refusing : {f : Fault} {l : ℕ} → RefusedAs (ruleSheet rules) f l → r ≡ changeRefusal f l → bytes′ ≡ bytes → ChangeOf rules rights user p lay bytes bytes′ r
+  barring : {g : Rules} {f : Fault} {l : ℕ} → ruleSheet rules ≡ accepted g → RefusedAs (rightsSheet rights) f l
       → r ≡ changeRefusal f l → bytes′ ≡ bytes → ChangeOf rules rights user p lay bytes bytes′ r
   reading : {g : Rules} {rs : List Right} → ruleSheet rules ≡ accepted g → rightsSheet rights ≡ accepted rs
       → ChangeOn (mayChange rs user) rules g p lay bytes bytes′ r → ChangeOf rules rights user p lay bytes bytes′ r

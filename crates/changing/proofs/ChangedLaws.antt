@@ -21,8 +21,6 @@ use Rattle.lines.specs.declared.RuleLine.{RuleLine}
 use Rattle.lines.specs.declared.RuleLine.the-variants as RuleLine
 use Rattle.lines.specs.RuleLines.{ruleLine, plainRule, unaryRule, binaryRule}
 use Rattle.lines.specs.Keys.{keyOf, keyWith}
-use Rattle.sheets.specs.declared.Fault.{Fault}
-use Rattle.sheets.specs.declared.Fault.the-variants as Fault
 use Rattle.sheets.specs.Items.{Reading, accepted, refused, itemsFrom, withNames}
 use Rattle.sheets.specs.RuleSheets.{anyOf, isStart, ruleStep, finish, rulesFrom, ruleNames, ruleSheet}
 use Rattle.sheets.specs.RefusedLines.{pieceStart}
@@ -42,10 +40,10 @@ pub record Sheet (s : List ℕ) (g : Rules) : Type 0 where
   pub head : not (isEmpty lines) && sameBytes names ruleNames ≡ true
   pub items : itemsFrom ruleStep [] lines ≡ accepted g
 
-finished : (x : Reading Rule) (g : Rules) → finish x ≡ accepted g → x ≡ accepted g
+finished : (x : Reading Rules) (g : Rules) → finish x ≡ accepted g → x ≡ accepted g
 finished (accepted w) g e = go (anyOf isStart w) e
   where
-    go : (b : Bool) → cond b (accepted w) (refused Fault.NoStart 0) ≡ accepted g → accepted w ≡ accepted g
+    go : (b : Bool) → cond b (accepted w) (refused 7 0) ≡ accepted g → accepted w ≡ accepted g
     go true e = e
     go false e = absurd (let z : _≡_ {A = ℕ} 0 1 = cc in omega arith)
 finished (refused f l) g e = absurd (let z : _≡_ {A = ℕ} 0 1 = cc in omega arith)
@@ -54,11 +52,11 @@ pub sheet-of : (s : List ℕ) (g : Rules) → ruleSheet s ≡ accepted g → She
 sheet-of s g e = go (pieces 10 s) refl e
   where
     by-head : (h : List ℕ) (ps : List (List ℕ)) → pieces 10 s ≡ h ∷ ps → (b : Bool) → not (isEmpty ps) && sameBytes h ruleNames ≡ b
-        → cond b (rulesFrom ps) (refused Fault.RuleNames 1) ≡ accepted g → Sheet s g
+        → cond b (rulesFrom ps) (refused 1 1) ≡ accepted g → Sheet s g
     by-head h ps i true k e = record { names = h; lines = ps; are = i; head = k; items = finished (itemsFrom ruleStep [] ps) g e }
     by-head h ps i false k e = absurd (let z : _≡_ {A = ℕ} 0 1 = cc in omega arith)
 
-    go : (qs : List (List ℕ)) → pieces 10 s ≡ qs → withNames (refused Fault.RuleNames 1) ruleNames qs rulesFrom ≡ accepted g → Sheet s g
+    go : (qs : List (List ℕ)) → pieces 10 s ≡ qs → withNames (refused 1 1) ruleNames qs rulesFrom ≡ accepted g → Sheet s g
     go [] i e = absurd (let z : _≡_ {A = ℕ} 0 1 = cc in omega arith)
     go (h ∷ ps) i e = by-head h ps i (not (isEmpty ps) && sameBytes h ruleNames) refl e
 
@@ -208,7 +206,7 @@ module _ (s : List ℕ) (g : Rules) (accepts : ruleSheet s ≡ accepted g) (i : 
 
     sheet-reads : ruleSheet (changed s (suc i) lay) ≡ outcome (at .front) (at .back) x
     sheet-reads =
-        ap (λ (qs : List (List ℕ)). withNames (refused Fault.RuleNames 1) ruleNames qs rulesFrom) (changed-lines s (suc i) lay is-here has-five y word ∙ ap (λ (qs : List (List ℕ)). set qs (suc i) new) (sheet .are))
+        ap (λ (qs : List (List ℕ)). withNames (refused 1 1) ruleNames qs rulesFrom) (changed-lines s (suc i) lay is-here has-five y word ∙ ap (λ (qs : List (List ℕ)). set qs (suc i) new) (sheet .are))
         ∙ rw (empty-set (sheet .lines) i new, sheet .head) from-lines
 
   changed-suc : ChangedAt s g (suc i)

@@ -19,8 +19,6 @@ use Rattle.lines.specs.Turns.{turnOf}
 use Rattle.lines.specs.RuleLines.{ruleLine}
 use Rattle.lines.specs.declared.Key.{Key}
 use Rattle.lines.specs.Keys.{keyOf, sameKey}
-use Rattle.sheets.specs.declared.Fault.{Fault}
-use Rattle.sheets.specs.declared.Fault.the-variants as Fault
 use Rattle.sheets.specs.Items.{Step, next, stop, end, Reading, accepted, refused, stepAt, lineStep, onStep, itemsFrom}
 use Rattle.sheets.specs.RuleSheets.{hasKey, anyOf, freshStep, ruleSaid, ruleSays, ruleStep}
 use Rattle.sheets.proofs.Loop.{next-only}
@@ -97,7 +95,7 @@ rest-same u v (p ∷ ps) w k e =
 -- 2. a line that gives a rule
 
 -- what a whole line says that gives an item
-step-said : (said : Step Rule) (u : Turn) (t : Rule) → stepAt Fault.RuleMany Fault.RuleForm said u ≡ next t → said ≡ next t
+step-said : (said : Step Rule) (u : Turn) (t : Rule) → stepAt 6 2 said u ≡ next t → said ≡ next t
 step-said said Turn.End t e = absurd (let z : _≡_ {A = ℕ} 0 1 = cc in omega arith)
 step-said said Turn.Many t e = absurd (let z : _≡_ {A = ℕ} 0 1 = cc in omega arith)
 step-said said Turn.Open t e = absurd (let z : _≡_ {A = ℕ} 0 1 = cc in omega arith)
@@ -115,11 +113,11 @@ next-inj r t e = cc
 
 gives : (seen : Rules) (p : List ℕ) (b : Bool) (t : Rule) → ruleStep seen p b ≡ next t → GivesRule seen p b t
 gives seen p b t e =
-    let n = next-only 128 Fault.RuleMany Fault.RuleForm (length seen) (ruleSays seen p) p b t (sym e) in
+    let n = next-only 128 6 2 (length seen) (ruleSays seen p) p b t (sym e) in
     go (n .1) (n .0) (ruleLine p) refl (step-said (ruleSays seen p) (turnOf 128 (length seen) p b) t e)
   where
     fresh-of : b ≡ true → length seen < 128 → (r : Rule) → ruleLine p ≡ RuleLine.Good r → (f : Bool) → anyOf (hasKey (keyOf r)) seen ≡ f
-        → cond f (stop Fault.RuleTwice) (next r) ≡ next t → GivesRule seen p b t
+        → cond f (stop 5) (next r) ≡ next t → GivesRule seen p b t
     fresh-of ends few r h true k e = absurd (let z : _≡_ {A = ℕ} 0 1 = cc in omega arith)
     fresh-of ends few r h false k e = let j = next-inj r t e in record { ends = ends; few = few; says = h ∙ ap RuleLine.Good j; fresh = rw j at k }
 
@@ -141,12 +139,12 @@ KeyKept RuleLine.Unfit r = Unit {0}
 KeyKept RuleLine.Reversed r = Unit {0}
 
 -- what the lines give then: the rules with that one in its place, or its refusal in its line
-abbrev pub outcome : Rules → Rules → RuleLine → Reading Rule
+abbrev pub outcome : Rules → Rules → RuleLine → Reading Rules
 outcome front back (RuleLine.Good s) = accepted (front ++ s ∷ back)
-outcome front back RuleLine.Form = refused Fault.RuleForm (length front + 2)
-outcome front back RuleLine.Range = refused Fault.RuleRange (length front + 2)
-outcome front back RuleLine.Unfit = refused Fault.RuleLay (length front + 2)
-outcome front back RuleLine.Reversed = refused Fault.RuleReversed (length front + 2)
+outcome front back RuleLine.Form = refused 2 (length front + 2)
+outcome front back RuleLine.Range = refused 3 (length front + 2)
+outcome front back RuleLine.Unfit = refused 4 (length front + 2)
+outcome front back RuleLine.Reversed = refused 44 (length front + 2)
 
 -- the rule that line n gives, and what the lines give with another in its place
 pub record Changed (seen : Rules) (ps : List (List ℕ)) (n : ℕ) (w : Rules) : Type 0 where

@@ -3,15 +3,14 @@ use Prim.Native.Nat.{ℕ, _+_}
 use mathlib.Core.List.{List, [], _++_}
 use mathlib.Core.Option.{Option, none, some}
 use lib.ListN.{length, getD, take, drop}
-use Rattle.grammar.specs.declared.Rule.{Rule}
 use Rattle.fields.specs.declared.Lay.{Lay}
 use Rattle.fields.specs.declared.Lay.the-variants as Lay
 use Rattle.fields.specs.Pieces.{pieces}
 use Rattle.fields.specs.Words.{layOf}
-use Rattle.sheets.specs.declared.Fault.the-variants as Fault
 use Rattle.sheets.specs.Items.{Reading, refused}
 use Rattle.sheets.specs.RefusedLines.{pieceStart}
 use Rattle.sheets.specs.RuleSheets.{ruleSheet}
+use Rattle.grammar.specs.Trees.{Rules}
 
 -- the line of the rule at place p, counted from 1: p lines stand before it, that of the names too
 abbrev pub lineOf : List ℕ → ℕ → List ℕ
@@ -29,9 +28,9 @@ abbrev pub changed : List ℕ → ℕ → List ℕ → List ℕ
 changed s p lay = take (layStart s p) s ++ (lay ++ drop (layEnd s p) s)
 
 -- what the changed sheet says: bytes that are no word of lay are refused 2 in that rule's line; else all checks are made afresh
-abbrev pub readChanged : List ℕ → ℕ → List ℕ → Option Lay → Reading Rule
+abbrev pub readChanged : List ℕ → ℕ → List ℕ → Option Lay → Reading Rules
 readChanged s p lay (some y) = ruleSheet (changed s p lay)
-readChanged s p lay none = refused Fault.RuleForm (p + 1)
+readChanged s p lay none = refused 2 (p + 1)
 
-abbrev pub changedSheet : List ℕ → ℕ → List ℕ → Reading Rule
+abbrev pub changedSheet : List ℕ → ℕ → List ℕ → Reading Rules
 changedSheet s p lay = readChanged s p lay (layOf lay)

@@ -5,15 +5,11 @@ use Prim.Native.Nat.{ℕ, _+_}
 use native.Mathlib.Omega.{arith}
 use lib.ListN.{length}
 use Rattle.grammar.specs.declared.Cell.{Cell}
-use Rattle.grammar.specs.declared.Rule.{Rule}
-use Rattle.grammar.specs.declared.Token.{Token}
 use Rattle.grammar.specs.Layout.{Word, Every}
 use Rattle.grammar.specs.Trees.{Tree, Rules, word, Valid, valid-empty, valid-leaf, valid-unary, valid-binary, TwoTrees}
 use Rattle.grammar.specs.Candidates.{Terminal, Cells, Candidate, placed, sentence}
 use Rattle.grammar.proofs.Lists.{every-append}
 use Rattle.grammar.specs.Sweeps.{Clear, FirstTwo}
-use Rattle.sheets.specs.Items.{Reading}
-use Rattle.sheets.specs.Items as Sheet
 use Rattle.sheets.specs.TokenSheets.{tokenSheet}
 use Rattle.clauses.specs.Clauses.{Clauses}
 use Rattle.clauses.specs.Matching.{OneToOne}
@@ -24,7 +20,8 @@ use Rattle.teplonga.specs.declared.Answer.{Answer}
 use Rattle.teplonga.specs.declared.Answer.the-variants as Answer
 use Rattle.teplonga.specs.declared.Reply.{Reply}
 use Rattle.teplonga.specs.declared.SweepReply.{SweepReply}
-use Rattle.teplonga.specs.Answers.{accepted, refused, withTokens, withRules, AnswerHolds}
+use Rattle.teplonga.specs.Answers.{AnswerHolds}
+use Rattle.teplonga.proofs.Settled.{both-sheets}
 use Rattle.teplonga.specs.Verdict as Verdict
 use Rattle.teplonga.specs.Sweep as Sweep
 use Rattle.clause_calls.specs.Calls.{ClauseVerdict, ClauseSweep}
@@ -39,25 +36,13 @@ said-readings c g w m Answer.Clear s = s
 said-readings c g w m Answer.Given s = s
 said-readings c g w m (Answer.Refused f) s = s
 
--- both sheets accepted: the rules are the clause sheet's, the word is the token sheet's
-own-sheets : (x : Reading Rule) (t : List ℕ) (g : Rules) (w : Word) → withRules x t ≡ accepted g w → (x ≡ Sheet.accepted g) × (tokenSheet t ≡ Sheet.accepted w)
-own-sheets (Sheet.refused f l) t g w e = absurd (let z : _≡_ {A = ℕ} 0 1 = cc in omega arith)
-own-sheets (Sheet.accepted v) t g w e = go (tokenSheet t) e
-  where
-    go : (y : Reading Token) → withTokens v y ≡ accepted g w → (Sheet.accepted v ≡ Sheet.accepted g) × (y ≡ Sheet.accepted w)
-    go (Sheet.accepted u) q =
-        let z : v ≡ g = cc in
-        let k : u ≡ w = cc in
-        (ap Sheet.accepted z, ap Sheet.accepted k)
-    go (Sheet.refused f l) q = absurd (let z : _≡_ {A = ℕ} 0 1 = cc in omega arith)
-
 -- 1. the verdict
 
 pub verdict-reads : (s t : List ℕ) {ws ws′ : List ℕ} {r : Reply} → ClauseVerdict s t ws ws′ r → VerdictReads s t r
 verdict-reads s t (Verdict.refusing e x h) = Meaning.refusing (ap (λ (z : Reply). z .answer) x)
 verdict-reads s t (Verdict.reading e (Verdict.short l n x h)) = Meaning.refusing (ap (λ (z : Reply). z .answer) x)
 verdict-reads s t {r = r} (Verdict.reading {g = g} {w = w} e (Verdict.judging a n h)) =
-    let o = own-sheets (clauseSheet s) t g w e in
+    let o = both-sheets (clauseSheet s) t g w e in
     let m = meant s g (o .0) in
     Meaning.saying (m .own) (o .1) (said-readings (m .clauses) g w (m .match) (r .answer) a)
 

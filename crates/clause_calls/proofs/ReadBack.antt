@@ -377,8 +377,8 @@ fresh seen r g d h x = any-not (hasKey (keyOf r)) seen never
 
 one-step : (seen : Rules) (r : Rule) (g : Rules) → length seen < 128 → Distinct (seen ++ r ∷ g) → Every Legible seen → (x : Legible r) → ruleStep seen (rule-line r x .bytes) true ≡ next r
 one-step seen r g l d h x =
-    ap (λ (b : Bool). stepAt Fault.RuleMany Fault.RuleForm (ruleSaid seen (ruleLine (rule-line r x .bytes))) (cond b Turn.Many Turn.Whole)) (lt-leb 128 (length seen) l)
-    ∙ ap (ruleSaid seen) (rule-line r x .says) ∙ ap (λ (b : Bool). cond b (stop Fault.RuleTwice) (next r)) (fresh seen r g d h x)
+    ap (λ (b : Bool). stepAt 6 2 (ruleSaid seen (ruleLine (rule-line r x .bytes))) (cond b Turn.Many Turn.Whole)) (lt-leb 128 (length seen) l)
+    ∙ ap (ruleSaid seen) (rule-line r x .says) ∙ ap (λ (b : Bool). cond b (stop 5) (next r)) (fresh seen r g d h x)
 
 all-items : (seen g : Rules) → length (seen ++ g) ≤ 128 → Distinct (seen ++ g) → Every Legible seen → (h : Every Legible g) → itemsFrom ruleStep seen (rows g h) ≡ accepted (seen ++ g)
 unfolding rows
@@ -395,10 +395,10 @@ all-items seen (r ∷ g) l d k h =
 
 -- behind the names the lines are read
 names-read : (names rest : List ℕ) (ps : List (List ℕ)) → FreeOf 10 names → sameBytes names names ≡ true → pieces 10 rest ≡ ps → isEmpty ps ≡ false
-    → withNames (refused Fault.RuleNames 1) names (pieces 10 (names ++ (10 ∷ rest))) rulesFrom ≡ rulesFrom ps
+    → withNames (refused 1 1) names (pieces 10 (names ++ (10 ∷ rest))) rulesFrom ≡ rulesFrom ps
 names-read names rest ps f s e n =
-    ap (λ (qs : List (List ℕ)). withNames (refused Fault.RuleNames 1) names qs rulesFrom) (pieces-cut 10 names rest f ∙ ap (λ (qs : List (List ℕ)). names ∷ qs) e)
-    ∙ (λ i. cond (not (n i) && s i) (rulesFrom ps) (refused Fault.RuleNames 1))
+    ap (λ (qs : List (List ℕ)). withNames (refused 1 1) names qs rulesFrom) (pieces-cut 10 names rest f ∙ ap (λ (qs : List (List ℕ)). names ∷ qs) e)
+    ∙ (λ i. cond (not (n i) && s i) (rulesFrom ps) (refused 1 1))
 
 names-free : FreeOf 10 ruleNames
 names-free = free-of 10 ruleNames refl

@@ -5,10 +5,9 @@ use mathlib.Core.List.{List}
 use Prim.Native.Nat.{ℕ}
 use native.Mathlib.Omega.{arith}
 use lib.ListN.{length}
-use Rattle.grammar.specs.declared.Rule.{Rule}
 use Rattle.grammar.specs.Trees.{Rules}
 use Rattle.sheets.specs.declared.Fault.{Fault}
-use Rattle.sheets.specs.Items.{Reading, accepted, refused}
+use Rattle.sheets.proofs.Once.{apart, same-items, same-refusal}
 use denote.Ref.{RefT}
 use Rattle.sheets.specs.TokenSheets.{tokenSheet}
 use Rattle.sheets.specs.RefusedLines.{heldBy, Hands}
@@ -51,29 +50,20 @@ pub clause-refused-line-settled : (clauses tokens r s : RefT (List ℕ)) → Han
 clause-refused-line-settled clauses tokens r s = held-settled clauses tokens r s (clauseSheet (clauses .now)) (tokenSheet (tokens .now))
 
 -- expand
-apart : {o : Reading Rule} {f : Fault} {l : ℕ} {g : Rules} → o ≡ refused f l → o ≡ accepted g → ⊥
-apart e d = let z : _≡_ {A = ℕ} 0 1 = cc in omega arith
-
 pub expand-settled : {clauses out a b : List ℕ} {r s : ListReply} → ExpandOf clauses out a r → ExpandOf clauses out b s → (r ≡ s) × (a ≡ b)
-expand-settled (refusing {f = f} {l = l} e x h) (refusing {f = g} {l = m} d y k) =
-    let p : f ≡ g = cc in
-    let q : l ≡ m = cc in
-    (x ∙ rw (p, q) (sym y), h ∙ sym k)
+expand-settled (refusing e x h) (refusing d y k) = let z = same-refusal e d in (x ∙ rw (z .0, z .1) (sym y), h ∙ sym k)
 expand-settled (refusing e x h) (giving d y) = absurd (apart e d)
 expand-settled (giving d y) (refusing e x h) = absurd (apart e d)
-expand-settled (giving {g = g} e x) (giving {g = h} d y) =
-    let z : g ≡ h = cc in
+expand-settled (giving e x) (giving d y) =
+    let z = same-items e d in
     list-settled x (rw (← z) at y)
 
 -- of the lent bytes only their number counts: the reply, and the bytes that it counts, are the same whatever stood there before
 pub expand-reply : {clauses out other a b : List ℕ} {r s : ListReply} → length out ≡ length other
     → ExpandOf clauses out a r → ExpandOf clauses other b s → SameBytes a b r s
-expand-reply {a = a} {b = b} c (refusing {f = f} {l = l} e x h) (refusing {f = g} {l = m} d y k) =
-    let p : f ≡ g = cc in
-    let q : l ≡ m = cc in
-    refusal-bytes a b (p, q) x y
+expand-reply {a = a} {b = b} c (refusing e x h) (refusing d y k) = refusal-bytes a b (same-refusal e d) x y
 expand-reply c (refusing e x h) (giving d y) = absurd (apart e d)
 expand-reply c (giving d y) (refusing e x h) = absurd (apart e d)
-expand-reply {a = a} {b = b} c (giving {g = g} e x) (giving {g = h} d y) =
-    let z : g ≡ h = cc in
+expand-reply {a = a} {b = b} c (giving e x) (giving d y) =
+    let z = same-items e d in
     bytes-same a b (list-settled (list-moved c x) (rw (← z) at y))

@@ -5,8 +5,9 @@ use Prim.Native.Nat.{ℕ}
 use lib.ListN.{length}
 use Rattle.grammar.specs.Trees.{Rules}
 use Rattle.rule_text.specs.RuleText.{rulesText}
+use Rattle.sheets.specs.Refusals.{RefusedAs}
 use Rattle.sheets.specs.declared.Fault.{Fault}
-use Rattle.sheets.specs.Items.{accepted, refused}
+use Rattle.sheets.specs.Items.{accepted}
 use Rattle.sheets.specs.RuleSheets.{ruleNames}
 use Rattle.teplonga.specs.declared.Answer.the-variants as Answer
 use Rattle.teplonga.specs.declared.ListReply.{ListReply}
@@ -20,6 +21,6 @@ sheetText g = ruleNames ++ (10 ∷ rulesText g)
 -- what the call answers, and what it leaves of the lent bytes; an entry of the list is a byte
 pub data ExpandOf (clauses out out′ : List ℕ) (r : ListReply) : Type 0 where
   -- a refused clause sheet: its number and line; no byte changes
-  refusing : {f : Fault} {l : ℕ} → clauseSheet clauses ≡ refused f l → r ≡ listReply (Answer.Refused f) l 0 → out′ ≡ out → ExpandOf clauses out out′ r
+  refusing : {f : Fault} {l : ℕ} → RefusedAs (clauseSheet clauses) f l → r ≡ listReply (Answer.Refused f) l 0 → out′ ≡ out → ExpandOf clauses out out′ r
   -- the sheet of the expansion's rules
   giving : {g : Rules} → clauseSheet clauses ≡ accepted g → ListOn Answer.Given (sheetText g) (length (sheetText g)) out out′ r → ExpandOf clauses out out′ r

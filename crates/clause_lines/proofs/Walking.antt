@@ -3,7 +3,7 @@ use mathlib.Core.Path.{_≡_, refl, sym, _∙_, ap}
 use mathlib.Core.Bool.{Bool, true, false, cond, not, _&&_, _||_}
 use mathlib.Core.List.{List, _∷_}
 use mathlib.Core.Option.{Option, none, some}
-use Prim.Native.Nat.{ℕ, zero, suc, _+_, _-_, _≤_, _<_}
+use Prim.Native.Nat.{ℕ, zero, suc, _+_, _-_, _≤_, _<_, max}
 use native.Mathlib.Omega.{arith}
 use native.Mathlib.Numerals.{add-one}
 use lib.ListN.{drop}
@@ -11,7 +11,7 @@ use lib.Dec.{leb, eqb, ltb, ltb→lt, nltb→le, leb→le, nleb→lt}
 use borrow.Author.Tests.{le-leb, lt-leb, eq-eqb, ne-eqb}
 use Rattle.grammar.specs.declared.BinaryMark.the-variants as BinaryMark
 use Rattle.clauses.specs.Clauses as C
-use Rattle.clauses.specs.Expansion.{max, pastExpr}
+use Rattle.clauses.specs.Expansion.{pastExpr}
 use Rattle.clauses.specs.Text.{maybe, repeats, marks, Lex, n, t, opening, closing, bar, suffix, join, IsExpression, depth}
 use Rattle.clauses.specs.Flat as F
 use Rattle.clauses.specs.Flat.{due, grouped, run, shallow, both, zero?, pastLexes, is-due, past-item}
@@ -96,9 +96,9 @@ run-step closing l s (suc d) =
     less : (c : ℕ) → c ≡ suc c - 1
     less c = omega arith
 run-step bar l s d = both-is _ _ _ (past-same s)
-run-step (suffix maybe) l s d = both-is _ _ _ (repeat-same s C.one BinaryMark.None .0)
-run-step (suffix (repeats C.one m)) l s d = both-is _ _ _ (repeat-same s C.one m .1)
-run-step (suffix (repeats C.zero m)) l s d = both-is _ _ _ (repeat-same s C.zero m .1)
+run-step (suffix maybe) l s d = both-is _ _ _ (repeat-same s C.from-one BinaryMark.None .0)
+run-step (suffix (repeats C.from-one m)) l s d = both-is _ _ _ (repeat-same s C.from-one m .1)
+run-step (suffix (repeats C.from-zero m)) l s d = both-is _ _ _ (repeat-same s C.from-zero m .1)
 run-step (suffix (marks m)) l s d = both-is _ _ _ (mark-same s m)
 run-step (join m) l s d = both-is _ _ _ (past-same s)
 
@@ -154,11 +154,11 @@ module _ (w : Walk) (e : ℕ) where
   on-step (suffix maybe) (some l) h =
       λ i. pick (run-on (suffix maybe) l (w .state) (w .deep) h i) (not (w .over) && shallow 16 l (w .deep))
       (max (w .past) (max-is 0 (pastLexes l) (pastLexes l) (omega arith) (omega arith) (λ k p q. q) i))
-  on-step (suffix (repeats C.one m)) (some l) h =
-      λ i. pick (run-on (suffix (repeats C.one m)) l (w .state) (w .deep) h i) (not (w .over) && shallow 16 l (w .deep))
+  on-step (suffix (repeats C.from-one m)) (some l) h =
+      λ i. pick (run-on (suffix (repeats C.from-one m)) l (w .state) (w .deep) h i) (not (w .over) && shallow 16 l (w .deep))
       (max (w .past) (max-is 0 (pastLexes l) (pastLexes l) (omega arith) (omega arith) (λ k p q. q) i))
-  on-step (suffix (repeats C.zero m)) (some l) h =
-      λ i. pick (run-on (suffix (repeats C.zero m)) l (w .state) (w .deep) h i) (not (w .over) && shallow 16 l (w .deep))
+  on-step (suffix (repeats C.from-zero m)) (some l) h =
+      λ i. pick (run-on (suffix (repeats C.from-zero m)) l (w .state) (w .deep) h i) (not (w .over) && shallow 16 l (w .deep))
       (max (w .past) (max-is 0 (pastLexes l) (pastLexes l) (omega arith) (omega arith) (λ k p q. q) i))
   on-step (suffix (marks m)) (some l) h =
       λ i. pick (run-on (suffix (marks m)) l (w .state) (w .deep) h i) (not (w .over) && shallow 16 l (w .deep))
@@ -189,8 +189,8 @@ told-on s w Lexeme.Open e f h = front-on w e s opening f h
 told-on s w Lexeme.Close e f h = front-on w e s closing f h
 told-on s w Lexeme.Bar e f h = front-on w e s bar f h
 told-on s w Lexeme.Maybe e f h = front-on w e s (suffix maybe) f h
-told-on s w (Lexeme.Plus m) e f h = front-on w e s (suffix (repeats C.one m)) f h
-told-on s w (Lexeme.Star m) e f h = front-on w e s (suffix (repeats C.zero m)) f h
+told-on s w (Lexeme.Plus m) e f h = front-on w e s (suffix (repeats C.from-one m)) f h
+told-on s w (Lexeme.Star m) e f h = front-on w e s (suffix (repeats C.from-zero m)) f h
 told-on s w (Lexeme.Marked m) e f h = front-on w e s (suffix (marks m)) f h
 told-on s w (Lexeme.Join m) e f h = front-on w e s (join m) f h
 told-on s w Lexeme.End e f h = never h
@@ -204,8 +204,8 @@ told-off s w Lexeme.Open e f g h = front-off w e s opening f h
 told-off s w Lexeme.Close e f g h = front-off w e s closing f h
 told-off s w Lexeme.Bar e f g h = front-off w e s bar f h
 told-off s w Lexeme.Maybe e f g h = front-off w e s (suffix maybe) f h
-told-off s w (Lexeme.Plus m) e f g h = front-off w e s (suffix (repeats C.one m)) f h
-told-off s w (Lexeme.Star m) e f g h = front-off w e s (suffix (repeats C.zero m)) f h
+told-off s w (Lexeme.Plus m) e f g h = front-off w e s (suffix (repeats C.from-one m)) f h
+told-off s w (Lexeme.Star m) e f g h = front-off w e s (suffix (repeats C.from-zero m)) f h
 told-off s w (Lexeme.Marked m) e f g h = front-off w e s (suffix (marks m)) f h
 told-off s w (Lexeme.Join m) e f g h = front-off w e s (join m) f h
 told-off s w Lexeme.End e f g h = never (sym g)

@@ -1,11 +1,11 @@
 -- For inner functions: the flat walk over an expression's lexemes.
-use Prim.Native.Nat.{ℕ, _+_, _-_}
+use Prim.Native.Nat.{ℕ, _+_, _-_, max}
 use mathlib.Core.List.{List}
 use mathlib.Core.Bool.{Bool, true, false, cond, not, _&&_, _||_}
 use mathlib.Core.Option.{Option, none, some}
 use lib.ListN.{drop}
 use lib.Dec.{leb, eqb}
-use Rattle.clauses.specs.Expansion.{max, pastExpr}
+use Rattle.clauses.specs.Expansion.{pastExpr}
 use Rattle.clauses.specs.Clauses.{Expr, alternatives}
 use Rattle.clauses.specs.Text.{Lex}
 use Rattle.clauses.specs.Flat as F

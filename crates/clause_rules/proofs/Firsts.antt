@@ -17,8 +17,8 @@ sortLex x = sortOf (lexemeOf x)
 
 suffix-sort : (q : Suffix) → sortLex (suffix q) ≡ 5
 suffix-sort maybe = refl
-suffix-sort (repeats C.one m) = refl
-suffix-sort (repeats C.zero m) = refl
+suffix-sort (repeats C.from-one m) = refl
+suffix-sort (repeats C.from-zero m) = refl
 suffix-sort (marks m) = refl
 
 module _ (s : List ℕ) (at : ℕ) (r : Lexed) (h : Lexes s at r) where

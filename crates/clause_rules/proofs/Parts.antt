@@ -122,14 +122,14 @@ tailOf q i b = tailRules (lexemeOf (suffix q)) i b
 suffix-rules : (q : Suffix) (a : Expr item) (L i : ℕ)
     → emit (suffixed a q) L i ≡ emit a 0 (i + headsOf (lexemeOf (suffix q))) ++ tailOf q i (name a (i + headsOf (lexemeOf (suffix q))))
 suffix-rules maybe a L i = refl
-suffix-rules (repeats C.one m) a L i = refl
-suffix-rules (repeats C.zero m) a L i = refl
+suffix-rules (repeats C.from-one m) a L i = refl
+suffix-rules (repeats C.from-zero m) a L i = refl
 suffix-rules (marks m) a L i = refl
 
 suffix-size : (q : Suffix) (a : Expr item) → headsOf (lexemeOf (suffix q)) + size a ≡ size (suffixed a q)
 suffix-size maybe a = refl
-suffix-size (repeats C.one m) a = refl
-suffix-size (repeats C.zero m) a = refl
+suffix-size (repeats C.from-one m) a = refl
+suffix-size (repeats C.from-zero m) a = refl
 suffix-size (marks m) a = refl
 
 suffix-name : (q : Suffix) (a : Expr item) (i : ℕ) → name (suffixed a q) i ≡ i

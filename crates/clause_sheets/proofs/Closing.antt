@@ -25,7 +25,9 @@ use Rattle.emits.specs.declared.Emit.{Emit}
 use Rattle.emits.specs.Emitting.{Adds, Cause}
 use Rattle.clause_lines.specs.ClauseLines.{ClauseLine, Said, good, unwritten, deep, expression, withLeft, leftSays, clauseLine}
 use Rattle.sheets.specs.declared.Fault.{Fault}
-use Rattle.sheets.specs.declared.Fault.the-variants as Fault
+use Rattle.sheets.specs.Refusals.{numberOf}
+use Rattle.sheets.specs.Promises.{readingOf}
+use Rattle.sheets.proofs.Once.{never-both}
 use Rattle.sheets.specs.Items.{Reading, accepted, refused, next, stop, end, itemsFrom}
 use Rattle.sheets.specs.RuleSheets.{finish}
 use Rattle.sheets.proofs.Accepted.{items-hold}
@@ -116,7 +118,7 @@ step-good seen p true c e = go (clauseLine p) e
     go deep q = absurd (let z : _≡_ {A = ℕ} 0 1 = cc in omega arith)
 step-good seen p false c e = go (isEmpty p) e
   where
-    go : (a : Bool) → cond a end (stop Fault.ClauseForm) ≡ next c → clauseLine p ≡ good c
+    go : (a : Bool) → cond a end (stop 41) ≡ next c → clauseLine p ≡ good c
     go true q = absurd (let z : _≡_ {A = ℕ} 0 1 = cc in omega arith)
     go false q = absurd (let z : _≡_ {A = ℕ} 0 1 = cc in omega arith)
 
@@ -129,24 +131,24 @@ module _ (ps : List (List ℕ)) (p : ℕ) (W : AllSaid ps p) where
   abbrev sheet : Clauses
   sheet = clausesOf (W .lines)
 
-  ends : clausesFrom ps ≡ cond (expansionFits sheet) (finish (accepted (expansion sheet))) (refused Fault.ClauseMany 0)
+  ends : clausesFrom ps ≡ cond (expansionFits sheet) (finish (accepted (expansion sheet))) (refused 43 0)
   ends = ap expanded (W .said)
 
-  no-fit : expansionFits sheet ≡ false → clausesFrom ps ≡ refused Fault.ClauseMany 0
-  no-fit e = ends ∙ ap (λ (b : Bool). cond b (finish (accepted (expansion sheet))) (refused Fault.ClauseMany 0)) e
+  no-fit : expansionFits sheet ≡ false → clausesFrom ps ≡ refused 43 0
+  no-fit e = ends ∙ ap (λ (b : Bool). cond b (finish (accepted (expansion sheet))) (refused 43 0)) e
 
   -- a new nonterminal past 63
-  pub past-many : 64 < pastAll sheet + sizeAll sheet → clausesFrom ps ≡ refused Fault.ClauseMany 0
+  pub past-many : 64 < pastAll sheet + sizeAll sheet → clausesFrom ps ≡ refused 43 0
   past-many h = no-fit (ap (λ (b : Bool). b && leb (length (expansion sheet)) 128) (lt-leb (pastAll sheet + sizeAll sheet) 64 h))
 
   same-many : pastAll sheet + sizeAll sheet ≤ 64 → length (expansion sheet) ≡ length (emitAll sheet (pastAll sheet))
   same-many h = ap length (sym (sorted-expansion sheet h)) ∙ same-length 64 (emitAll sheet (pastAll sheet)) (λ r m. let z = met-lefts sheet r m in omega arith)
 
   -- over 128 rules
-  pub rules-many : 128 < length (emitAll sheet (pastAll sheet)) → clausesFrom ps ≡ refused Fault.ClauseMany 0
+  pub rules-many : 128 < length (emitAll sheet (pastAll sheet)) → clausesFrom ps ≡ refused 43 0
   rules-many h = go (leb (pastAll sheet + sizeAll sheet) 64) refl
     where
-      go : (b : Bool) → leb (pastAll sheet + sizeAll sheet) 64 ≡ b → clausesFrom ps ≡ refused Fault.ClauseMany 0
+      go : (b : Bool) → leb (pastAll sheet + sizeAll sheet) 64 ≡ b → clausesFrom ps ≡ refused 43 0
       go false e = no-fit (ap (λ (b : Bool). b && leb (length (expansion sheet)) 128) e)
       go true e =
           let z = same-many (leb→le (pastAll sheet + sizeAll sheet) 64 (rw e tt)) in
@@ -155,7 +157,7 @@ module _ (ps : List (List ℕ)) (p : ℕ) (W : AllSaid ps p) where
   pub room-for : pastAll sheet + sizeAll sheet ≤ 64 → length (emitAll sheet (pastAll sheet)) ≤ 128 → clausesFrom ps ≡ finish (accepted (expansion sheet))
   room-for h k =
       let z = same-many h in
-      ends ∙ ap (λ (b : Bool). cond b (finish (accepted (expansion sheet))) (refused Fault.ClauseMany 0))
+      ends ∙ ap (λ (b : Bool). cond b (finish (accepted (expansion sheet))) (refused 43 0))
       (ap (λ (b : Bool). b && leb (length (expansion sheet)) 128) (le-leb (pastAll sheet + sizeAll sheet) 64 h) ∙ le-leb (length (expansion sheet)) 128 (omega arith))
 
   -- the grammar that holds the expansion is formed
@@ -188,10 +190,10 @@ module _ {ps : List (List ℕ)} {p : ℕ} {first out : Emit} (w : Walked ps p fi
   adds =
       subst (λ (k : ℕ). Adds first out (emitAll lines k) (sizeAll lines)) (w .begun .1 ∙ w .said .most) (w .emitted .adds (w .said .lines) (w .said .said))
 
-  pub out-over : out .over ≡ true → clausesFrom ps ≡ refused Fault.ClauseMany 0
+  pub out-over : out .over ≡ true → clausesFrom ps ≡ refused 43 0
   out-over e = go (adds .why e)
     where
-      go : Cause first (sizeAll lines) (length met) → clausesFrom ps ≡ refused Fault.ClauseMany 0
+      go : Cause first (sizeAll lines) (length met) → clausesFrom ps ≡ refused 43 0
       go (inl x) = absurd (let z = sym (w .begun .2) ∙ x in let y : _≡_ {A = ℕ} 0 1 = cc in omega arith)
       go (inr (inl x)) = past-many ps p (w .said) (omega (arith, w .begun .1, w .said .most))
       go (inr (inr x)) = rules-many ps p (w .said) (omega (arith, w .begun .0))
@@ -225,20 +227,21 @@ module _ {ps : List (List ℕ)} {p : ℕ} {first out : Emit} (w : Walked ps p fi
     out-end = room-for ps p (w .said) within short ∙ ap (λ (y : Rules). finish (accepted y)) (sym holds)
 
 -- what the first walk has found
-pub found-refused : (x : Reading ClauseLine) (o : Outcome) (p : ℕ) (f : Fault) (l : ℕ) → PassedAs x o p → o ≡ Refused f l → expanded x ≡ refused f l
+pub found-refused : (x : Reading (List ClauseLine)) (o : Outcome) (p : ℕ) (f : Fault) (l : ℕ) → PassedAs x o p → o ≡ Refused f l → expanded x ≡ refused (numberOf f) l
 found-refused (accepted m) o p f l h e = absurd (let z : Accepted ≡ Refused f l = sym (h .0) ∙ e in let y : _≡_ {A = ℕ} 0 1 = cc in omega arith)
-found-refused (refused f′ l′) o p f l h e =
-    let z : Refused f′ l′ ≡ Refused f l = sym h ∙ e in
-    let a : f′ ≡ f = cc in
-    let b : l′ ≡ l = cc in
+found-refused (refused n m) o p f l h e =
+    let z : _≡_ {A = Reading (Unit {0})} (refused n m) (refused (numberOf f) l) = sym h ∙ ap (λ (y : Outcome). readingOf {A = Unit {0}} y tt) e in
+    let a : n ≡ numberOf f = cc in
+    let b : m ≡ l = cc in
     (λ i. refused (a i) (b i))
 
 pub found-all : (ps : List (List ℕ)) (o : Outcome) (p : ℕ) → PassedAs (itemsFrom clauseStep [] ps) o p → o ≡ Accepted → AllSaid ps p
 found-all ps o p h e = go (itemsFrom clauseStep [] ps) refl h
   where
-    go : (x : Reading ClauseLine) → itemsFrom clauseStep [] ps ≡ x → PassedAs x o p → AllSaid ps p
+    go : (x : Reading (List ClauseLine)) → itemsFrom clauseStep [] ps ≡ x → PassedAs x o p → AllSaid ps p
     go (accepted l) j k = record { lines = l; said = j; most = k .1 }
-    go (refused f l) j k = absurd (let z : Refused f l ≡ Accepted = sym k ∙ e in let y : _≡_ {A = ℕ} 0 1 = cc in omega arith)
+    go (refused f l) j k =
+        absurd (never-both refl (sym k ∙ ap (λ (y : Outcome). readingOf {A = Unit {0}} y tt) e))
 
-pub past-far : (ps : List (List ℕ)) (p : ℕ) → AllSaid ps p → 64 < p → clausesFrom ps ≡ refused Fault.ClauseMany 0
+pub past-far : (ps : List (List ℕ)) (p : ℕ) → AllSaid ps p → 64 < p → clausesFrom ps ≡ refused 43 0
 past-far ps p W h = let z = W .most in past-many ps p W (omega arith)

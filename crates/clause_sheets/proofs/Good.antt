@@ -20,7 +20,6 @@ use Rattle.clauses.proofs.Bounds.{TermsAll, Below}
 use Rattle.clauses.proofs.Range.{expansion-low}
 use Rattle.clauses.proofs.Apart.{expansion-distinct}
 use Rattle.clause_lines.specs.ClauseLines.{ClauseLine}
-use Rattle.sheets.specs.declared.Fault.the-variants as Fault
 use Rattle.sheets.specs.Items.{accepted, refused, itemsFrom, withNames}
 use Rattle.sheets.specs.RuleSheets.{anyOf, isStart}
 use Rattle.sheets.proofs.Accepted.{GoodRules}
@@ -34,11 +33,11 @@ use Rattle.clause_sheets.proofs.Meaning.{Meant, meant}
 sheet-terms : (s : List ℕ) (l : List ClauseLine) → sheetLines s ≡ accepted l → TermsAll (clausesOf l)
 sheet-terms s l e = go (pieces 10 s) e
   where
-    go : (ps : List (List ℕ)) → withNames (refused Fault.RuleNames 1) clauseNames ps (itemsFrom clauseStep []) ≡ accepted l → TermsAll (clausesOf l)
+    go : (ps : List (List ℕ)) → withNames (refused 1 1) clauseNames ps (itemsFrom clauseStep []) ≡ accepted l → TermsAll (clausesOf l)
     go [] q = absurd (let z : _≡_ {A = ℕ} 0 1 = cc in omega arith)
     go (h ∷ ps) q = which (not (isEmpty ps) && sameBytes h clauseNames) q
       where
-        which : (b : Bool) → cond b (itemsFrom clauseStep [] ps) (refused Fault.RuleNames 1) ≡ accepted l → TermsAll (clausesOf l)
+        which : (b : Bool) → cond b (itemsFrom clauseStep [] ps) (refused 1 1) ≡ accepted l → TermsAll (clausesOf l)
         which true q = all-terms ps l q
         which false q = absurd (let z : _≡_ {A = ℕ} 0 1 = cc in omega arith)
 

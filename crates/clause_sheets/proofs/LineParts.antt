@@ -3,7 +3,7 @@ use mathlib.Core.Path.{_≡_, refl, sym, _∙_, ap, subst}
 use mathlib.Core.Bool.{Bool, true, false, cond}
 use mathlib.Core.List.{List, [], _∷_, append-nil}
 use mathlib.Core.Option.{Option, none, some}
-use Prim.Native.Nat.{ℕ, zero, suc, _+_, _-_, _≤_, _<_}
+use Prim.Native.Nat.{ℕ, zero, suc, _+_, _-_, _≤_, _<_, max}
 use native.Mathlib.Omega.{arith}
 use lib.ListN.{length, take, drop, length-drop, drop-of-length-le}
 use lib.Seq.{length-take-le}
@@ -18,7 +18,7 @@ use Rattle.fields.specs.Answers.{numberField}
 use Rattle.fields.proofs.Lines.{fields-of}
 use Rattle.fields.proofs.Pieces.{pieces-first}
 use Rattle.clauses.specs.Clauses.{Expr, alternatives}
-use Rattle.clauses.specs.Expansion.{max, pastExpr, size}
+use Rattle.clauses.specs.Expansion.{pastExpr, size}
 use Rattle.clauses.specs.Emission.{emit}
 use Rattle.clauses.specs.Text.{Lex, many, WrittenAs, IsExpression, depth}
 use Rattle.clauses.proofs.Legible.{nothing-next}

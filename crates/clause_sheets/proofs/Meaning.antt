@@ -2,24 +2,23 @@
 use mathlib.Core.Path.{_≡_, refl, sym, ap, _∙_, subst}
 use mathlib.Core.Bool.{Bool, true, false, cond, not, _&&_}
 use mathlib.Core.List.{List, [], _∷_}
-use Prim.Native.Nat.{ℕ, _+_, _<_}
+use Prim.Native.Nat.{ℕ, _+_, _<_, max}
 use native.Mathlib.Omega.{arith}
 use Rattle.grammar.specs.Trees.{Rules}
 use Rattle.fields.specs.Pieces.{pieces, isEmpty, sameBytes}
 use Rattle.clauses.specs.Clauses.{Clauses}
-use Rattle.clauses.specs.Expansion.{max, pastExpr, pastAll, expansion}
+use Rattle.clauses.specs.Expansion.{pastExpr, pastAll, expansion}
 use Rattle.clauses.specs.Matching.{OneToOne}
 use Rattle.clauses.proofs.Match.{clauses-match}
 use Rattle.clauses.proofs.Sorted.{max-bounds}
 use Rattle.clause_lines.specs.ClauseLines.{ClauseLine}
-use Rattle.sheets.specs.declared.Fault.the-variants as Fault
 use Rattle.sheets.specs.Items.{Reading, accepted, refused, itemsFrom, withNames}
 use Rattle.sheets.specs.RuleSheets.{anyOf, isStart, finish}
 use Rattle.clause_sheets.specs.ClauseSheets.{clauseStep, clausesOf, expansionFits, expanded, clausesFrom, clauseNames, clauseSheet}
 use Rattle.clause_sheets.specs.Own.{sheetLines, ClausesBy, OwnClauses}
 
 -- lines that were read so, and the rules that they give
-pub record MeantBy (x : Reading ClauseLine) (g : Rules) : Type 0 where
+pub record MeantBy (x : Reading (List ClauseLine)) (g : Rules) : Type 0 where
   pub clauses : Clauses
   pub own : ClausesBy x clauses
   pub fits : expansionFits clauses ≡ true
@@ -34,7 +33,7 @@ Meant s g = MeantBy (sheetLines s) g
 finished-as : (v g : Rules) → finish (accepted v) ≡ accepted g → (g ≡ v) × (anyOf isStart v ≡ true)
 finished-as v g e = go (anyOf isStart v) refl e
   where
-    go : (b : Bool) → anyOf isStart v ≡ b → cond b (accepted v) (refused Fault.NoStart 0) ≡ accepted g → (g ≡ v) × (anyOf isStart v ≡ true)
+    go : (b : Bool) → anyOf isStart v ≡ b → cond b (accepted v) (refused 7 0) ≡ accepted g → (g ≡ v) × (anyOf isStart v ≡ true)
     go true h q = let j : v ≡ g = cc in (sym j, h)
     go false h q = absurd (let z : _≡_ {A = ℕ} 0 1 = cc in omega arith)
 
@@ -46,11 +45,11 @@ some-line (c ∷ l) e =
     let y = max-bounds (c .left + 1) (pastExpr (c .expr)) in
     omega arith
 
-of-lines : (x : Reading ClauseLine) (g : Rules) → expanded x ≡ accepted g → MeantBy x g
+of-lines : (x : Reading (List ClauseLine)) (g : Rules) → expanded x ≡ accepted g → MeantBy x g
 of-lines (refused f n) g e = absurd (let z : _≡_ {A = ℕ} 0 1 = cc in omega arith)
 of-lines (accepted l) g e = go (expansionFits (clausesOf l)) refl e
   where
-    go : (b : Bool) → expansionFits (clausesOf l) ≡ b → cond b (finish (accepted (expansion (clausesOf l)))) (refused Fault.ClauseMany 0) ≡ accepted g → MeantBy (accepted l) g
+    go : (b : Bool) → expansionFits (clausesOf l) ≡ b → cond b (finish (accepted (expansion (clausesOf l)))) (refused 43 0) ≡ accepted g → MeantBy (accepted l) g
     go false k q = absurd (let z : _≡_ {A = ℕ} 0 1 = cc in omega arith)
     go true k q =
         let f = finished-as (expansion (clausesOf l)) g q in
@@ -67,11 +66,11 @@ of-lines (accepted l) g e = go (expansionFits (clausesOf l)) refl e
 pub sheet-expanded : (s : List ℕ) → clauseSheet s ≡ expanded (sheetLines s)
 sheet-expanded s = go (pieces 10 s)
   where
-    go : (ps : List (List ℕ)) → withNames (refused Fault.RuleNames 1) clauseNames ps clausesFrom ≡ expanded (withNames (refused Fault.RuleNames 1) clauseNames ps (itemsFrom clauseStep []))
+    go : (ps : List (List ℕ)) → withNames (refused 1 1) clauseNames ps clausesFrom ≡ expanded (withNames (refused 1 1) clauseNames ps (itemsFrom clauseStep []))
     go [] = refl
     go (h ∷ ps) = which (not (isEmpty ps) && sameBytes h clauseNames)
       where
-        which : (b : Bool) → cond b (clausesFrom ps) (refused Fault.RuleNames 1) ≡ expanded (cond b (itemsFrom clauseStep [] ps) (refused Fault.RuleNames 1))
+        which : (b : Bool) → cond b (clausesFrom ps) (refused 1 1) ≡ expanded (cond b (itemsFrom clauseStep [] ps) (refused 1 1))
         which true = refl
         which false = refl
 

@@ -2,7 +2,7 @@
 use mathlib.Core.Path.{_≡_, refl, sym, _∙_, ap, subst}
 use mathlib.Core.Bool.{Bool, true, false, cond, not, _&&_}
 use mathlib.Core.List.{List, [], _∷_, _++_, append-assoc, append-nil}
-use Prim.Native.Nat.{ℕ, _+_, _-_, _≤_, _<_}
+use Prim.Native.Nat.{ℕ, _+_, _-_, _≤_, _<_, max}
 use native.Mathlib.Omega.{arith}
 use lib.ListN.{length, drop, length-append, length-drop}
 use lib.Seq.{length-take-le}
@@ -16,8 +16,10 @@ use Rattle.sheets.specs.declared.Fault.{Fault}
 use Rattle.sheets.specs.declared.Fault.the-variants as Fault
 use Rattle.sheets.specs.declared.Outcome.{Outcome}
 use Rattle.sheets.specs.declared.Outcome.the-variants.{Accepted, Refused}
+use Rattle.sheets.specs.Refusals.{numberOf}
+use Rattle.sheets.specs.Promises.{readingOf}
 use Rattle.sheets.specs.Items.{Reading, accepted, refused, next, stop, end, onStep, itemsFrom}
-use Rattle.clauses.specs.Expansion.{max, pastExpr, pastAll, size, sizeAll}
+use Rattle.clauses.specs.Expansion.{pastExpr, pastAll, size, sizeAll}
 use Rattle.clauses.specs.Emission.{emit}
 use Rattle.clauses.proofs.Deciding.{max-is, max-assoc, max-zero}
 use Rattle.emits.specs.declared.Emit.{Emit}
@@ -65,11 +67,11 @@ module _ (s : List ℕ) (at : ℕ) (low : at ≤ length s) (c : Cursor) (is : c 
   text = bytesLeft s c
 
   -- the lines behind it, once it has given one more
-  abbrev behind : ClauseLine → Reading ClauseLine
+  abbrev behind : ClauseLine → Reading (List ClauseLine)
   behind t = itemsFrom clauseStep (seen ++ t ∷ []) (piecesFrom 10 s (c .end + 1))
 
-  abbrev by : Bool → Reading ClauseLine
-  by ended = onStep seen (cond (not ended && isEmpty text) end (cond ended (clauseSaid (clauseLine text)) (stop Fault.ClauseForm))) behind
+  abbrev by : Bool → Reading (List ClauseLine)
+  by ended = onStep seen (cond (not ended && isEmpty text) end (cond ended (clauseSaid (clauseLine text)) (stop 41))) behind
 
   turn : itemsFrom clauseStep seen (piecesFrom 10 s at) ≡ by (ltb (c .end) (length s))
   turn = rw (line-cut s at low c is, more-left 10 s (c .end)) refl
@@ -77,7 +79,7 @@ module _ (s : List ℕ) (at : ℕ) (low : at ≤ length s) (c : Cursor) (is : c 
   whole : (c .end < length s) → itemsFrom clauseStep seen (piecesFrom 10 s at) ≡ onStep seen (clauseSaid (clauseLine text)) behind
   whole h = turn ∙ ap by (lt-ltb (c .end) (length s) h)
 
-  open-line : length s ≤ c .end → itemsFrom clauseStep seen (piecesFrom 10 s at) ≡ onStep seen (cond (isEmpty text) end (stop Fault.ClauseForm)) behind
+  open-line : length s ≤ c .end → itemsFrom clauseStep seen (piecesFrom 10 s at) ≡ onStep seen (cond (isEmpty text) end (stop 41)) behind
   open-line h = turn ∙ ap by (le-ltb (c .end) (length s) h)
 
   long : length text ≡ c .end - c .at
@@ -101,8 +103,8 @@ module _ (s : List ℕ) (at : ℕ) (low : at ≤ length s) (c : Cursor) (is : c 
 pub pass-start : (s : List ℕ) (start : ℕ) → start ≤ length s → Passing s start 0 0 start
 pass-start s start h = record { low = h; few = omega arith; seen = []; count = refl; same = refl; most = refl }
 
-passed-refused : (x : Reading ClauseLine) (f : Fault) (m : ℕ) (o : Outcome) (p : ℕ) → x ≡ refused f m → o ≡ Refused f m → PassedAs x o p
-passed-refused x f m o p e h = subst (λ (y : Reading ClauseLine). PassedAs y o p) (sym e) h
+passed-refused : (x : Reading (List ClauseLine)) (f : Fault) (m : ℕ) (o : Outcome) (p : ℕ) → x ≡ refused (numberOf f) m → o ≡ Refused f m → PassedAs x o p
+passed-refused x f m o p e h = subst (λ (y : Reading (List ClauseLine)). PassedAs y o p) (sym e) (ap (λ (y : Outcome). readingOf {A = Unit {0}} y tt) h)
 
 module _ {s : List ℕ} {start n p at : ℕ} (P : Passing s start n p at) {c : Cursor} (is : c ≡ lineAt s at) where
   pub pass-good : (q p′ : ℕ) → c .end < length s → LineChecked.Good q ≡ lineChecked (clauseLine (bytesLeft s c)) → p′ ≡ max p q
@@ -125,7 +127,7 @@ module _ {s : List ℕ} {start n p at : ℕ} (P : Passing s start n p at) {c : C
             most = m ∙ (λ i. max (P .most i) (u i)) ∙ sym (past-snoc (P .seen) k);
           }
 
-  refused-at : (f : Fault) → itemsFrom clauseStep (P .seen) (piecesFrom 10 s at) ≡ refused f (length (P .seen) + 2)
+  refused-at : (f : Fault) → itemsFrom clauseStep (P .seen) (piecesFrom 10 s at) ≡ refused (numberOf f) (length (P .seen) + 2)
       → PassedAs (itemsFrom clauseStep [] (piecesFrom 10 s start)) (Refused f (n + 2)) 0
   refused-at f e = passed-refused _ f (length (P .seen) + 2) (Refused f (n + 2)) 0 (P .same ∙ e) (ap (λ (k : ℕ). Refused f (k + 2)) (sym (P .count)))
 
@@ -134,7 +136,7 @@ module _ {s : List ℕ} {start n p at : ℕ} (P : Passing s start n p at) {c : C
   pass-form h g = refused-at Fault.ClauseForm (whole s at (P .low) c is (P .seen) h ∙ go (clauseLine (bytesLeft s c)) g)
     where
       go : (o : Said ClauseLine) → LineChecked.Form ≡ lineChecked o
-          → onStep (P .seen) (clauseSaid o) (λ t. itemsFrom clauseStep (P .seen ++ t ∷ []) (piecesFrom 10 s (c .end + 1))) ≡ refused Fault.ClauseForm
+          → onStep (P .seen) (clauseSaid o) (λ t. itemsFrom clauseStep (P .seen ++ t ∷ []) (piecesFrom 10 s (c .end + 1))) ≡ refused 41
           (length (P .seen) + 2)
       go unwritten e = refl
       go deep e = absurd (let z : _≡_ {A = ℕ} 0 1 = cc in omega arith)
@@ -145,14 +147,14 @@ module _ {s : List ℕ} {start n p at : ℕ} (P : Passing s start n p at) {c : C
   pass-deep h g = refused-at Fault.ClauseDeep (whole s at (P .low) c is (P .seen) h ∙ go (clauseLine (bytesLeft s c)) g)
     where
       go : (o : Said ClauseLine) → LineChecked.Deep ≡ lineChecked o
-          → onStep (P .seen) (clauseSaid o) (λ t. itemsFrom clauseStep (P .seen ++ t ∷ []) (piecesFrom 10 s (c .end + 1))) ≡ refused Fault.ClauseDeep
+          → onStep (P .seen) (clauseSaid o) (λ t. itemsFrom clauseStep (P .seen ++ t ∷ []) (piecesFrom 10 s (c .end + 1))) ≡ refused 42
           (length (P .seen) + 2)
       go unwritten e = absurd (let z : _≡_ {A = ℕ} 0 1 = cc in omega arith)
       go deep e = refl
       go (good k) e = absurd (let z : _≡_ {A = ℕ} 0 1 = cc in omega arith)
 
-  at-end : Bool → Reading ClauseLine
-  at-end b = onStep (P .seen) (cond b end (stop Fault.ClauseForm)) (λ t. itemsFrom clauseStep (P .seen ++ t ∷ []) (piecesFrom 10 s (c .end + 1)))
+  at-end : Bool → Reading (List ClauseLine)
+  at-end b = onStep (P .seen) (cond b end (stop 41)) (λ t. itemsFrom clauseStep (P .seen ++ t ∷ []) (piecesFrom 10 s (c .end + 1)))
 
   pub pass-open : length s ≤ c .end → (c .at ≡ c .end → ⊥) → PassedAs (itemsFrom clauseStep [] (piecesFrom 10 s start)) (Refused Fault.ClauseForm (n + 2)) 0
   unfolding at-end
@@ -161,7 +163,7 @@ module _ {s : List ℕ} {start n p at : ℕ} (P : Passing s start n p at) {c : C
   pub pass-end : length s ≤ c .end → c .at ≡ c .end → PassedAs (itemsFrom clauseStep [] (piecesFrom 10 s start)) Accepted p
   unfolding at-end
   pass-end h g =
-      subst (λ (y : Reading ClauseLine). PassedAs y Accepted p)
+      subst (λ (y : Reading (List ClauseLine)). PassedAs y Accepted p)
       (sym (P .same ∙ open-line s at (P .low) c is (P .seen) h ∙ ap at-end (empty-line s at (P .low) c is (P .seen) g))) (refl, P .most)
 
 -- the second walk
@@ -190,7 +192,7 @@ module _ {s : List ℕ} {start at : ℕ} {out r : Emit} (M : Emitting s start ou
   emit-end h = record { adds = λ l e. let w = M .adds l e in go l (w .0) (w .2) (isEmpty (bytesLeft s c)) (sym (open-line s at (M .low) c is (w .0) h) ∙ w .1) }
     where
       go : (l seen : List ClauseLine) → Adds out r (emitAll (clausesOf seen) (out .next)) (sizeAll (clausesOf seen)) → (b : Bool)
-          → onStep seen (cond b end (stop Fault.ClauseForm)) (λ t. itemsFrom clauseStep (seen ++ t ∷ []) (piecesFrom 10 s (c .end + 1))) ≡ accepted l
+          → onStep seen (cond b end (stop 41)) (λ t. itemsFrom clauseStep (seen ++ t ∷ []) (piecesFrom 10 s (c .end + 1))) ≡ accepted l
           → Adds out r (emitAll (clausesOf l) (out .next)) (sizeAll (clausesOf l))
       go l seen a true e = let z : seen ≡ l = cc in subst (λ (y : List ClauseLine). Adds out r (emitAll (clausesOf y) (out .next)) (sizeAll (clausesOf y))) z a
       go l seen a false e = absurd (let z : _≡_ {A = ℕ} 0 1 = cc in omega arith)

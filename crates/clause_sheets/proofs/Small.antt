@@ -15,7 +15,7 @@ use Rattle.grammar.specs.declared.Clause.the-variants.{Empty, Atom, Unary, Bina
 use Rattle.grammar.specs.Layout.{Every}
 use Rattle.grammar.specs.Trees.{Rules}
 use Rattle.grammar.specs.Content.{SmallClause, SmallRule}
-use Rattle.clauses.specs.Clauses.{alternatives, one, Expr, Clauses}
+use Rattle.clauses.specs.Clauses.{alternatives, Expr, Clauses}
 use Rattle.clauses.specs.Expansion.{A, expandFrom, pastAll, sizeAll, expansion}
 use Rattle.clauses.specs.Text.{maybe, repeats, marks, Lex, n, t, opening, closing, bar, suffix, join, Phrase, an-atom, an-item, a-row, many, WrittenAs, nonterminal-text, terminal-text, group-text, bare-text, optional-text, repeated-text, marked-text, last-text, then-text, single-text, several-text, only-text, or-text}
 use Rattle.clauses.specs.Text as X

@@ -25,7 +25,7 @@ line-same (only e) L n h = met (only e) L n h
 line-same (or e f) L n h = met (or e f) L n h
 
 all-same : (N : ℕ) (c : Clauses) (n : ℕ) → UnderAll N c → N ≤ n → SameByLeft (emitAll c n) (expandFrom c n)
-all-same N C.none n u h = same-refl
+all-same N C.no-line n u h = same-refl
 all-same N (a-line L e c) n u h = same-append (line-same e L n (let z = u .0 in omega arith)) (all-same N c (n + size e) (u .1 .1) (omega arith))
 
 pub met-all : (c : Clauses) (K : ℕ) → rising K (emitAll c (pastAll c)) ≡ rising K (expandFrom c (pastAll c))

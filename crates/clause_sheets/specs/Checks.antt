@@ -4,9 +4,9 @@ use mathlib.Core.List.{List, [], _++_}
 use Rattle.grammar.specs.declared.Grammar.{Grammar}
 use Rattle.grammar.specs.Trees.{Rules}
 use Rattle.grammar.specs.Content.{rules as rulesOf}
-use Prim.Native.Nat.{ℕ, _+_, _≤_}
+use Prim.Native.Nat.{ℕ, _+_, _≤_, max}
 use lib.ListN.{length}
-use Rattle.clauses.specs.Expansion.{max, pastExpr, pastAll, size, sizeAll}
+use Rattle.clauses.specs.Expansion.{pastExpr, pastAll, size, sizeAll}
 use Rattle.clauses.specs.Clauses.{Expr, alternatives}
 use Rattle.clauses.specs.Emission.{emit}
 use Rattle.emits.specs.declared.Emit.{Emit}
@@ -14,6 +14,7 @@ use Rattle.emits.specs.Emitting.{Adds}
 use Rattle.clause_lines.specs.ClauseLines.{ClauseLine, Said, good, unwritten, deep, clauseLine}
 use Rattle.sheets.specs.declared.Outcome.{Outcome}
 use Rattle.sheets.specs.declared.Outcome.the-variants.{Accepted, Refused}
+use Rattle.sheets.specs.Promises.{readingOf}
 use Rattle.sheets.specs.Items.{Reading, accepted, refused, itemsFrom}
 use Rattle.clause_sheets.specs.declared.LineChecked.{LineChecked}
 use Rattle.clause_sheets.specs.declared.LineChecked.the-variants as LineChecked
@@ -34,9 +35,9 @@ expressionChecked least unwritten = LineChecked.Form
 expressionChecked least deep = LineChecked.Deep
 
 -- the sheet's clauses are accepted with one past their largest nonterminal, or refused
-abbrev pub PassedAs : Reading ClauseLine → Outcome → ℕ → Type 0
+abbrev pub PassedAs : Reading (List ClauseLine) → Outcome → ℕ → Type 0
 PassedAs (accepted l) o p = (o ≡ Accepted) × (p ≡ pastAll (clausesOf l))
-PassedAs (refused f n) o p = o ≡ Refused f n
+PassedAs (refused k n) o p = readingOf {A = Unit {0}} o tt ≡ refused k n
 
 -- the first walk has come to a place
 pub record Passing (s : List ℕ) (start n p at : ℕ) : Type 0 where

@@ -9,5 +9,5 @@ use Rattle.clauses.specs.Emission.{emit}
 
 -- the first new nonterminal is n
 abbrev pub emitAll : Clauses → ℕ → Rules
-emitAll C.none n = []
+emitAll C.no-line n = []
 emitAll (a-line l e c) n = emit e l n ++ emitAll c (n + size e)

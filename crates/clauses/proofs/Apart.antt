@@ -9,7 +9,7 @@ use Rattle.grammar.specs.declared.UnaryMark.{UnaryMark}
 use Rattle.grammar.specs.declared.UnaryMark.the-variants as UnaryMark
 use Rattle.grammar.specs.Trees.{Rules}
 use Rattle.clauses.specs.Clauses as C
-use Rattle.clauses.specs.Clauses.{Sort, item, alternatives, AtLeast, one, Expr, nonterminal, a-part, terminal, group, mark, pair, optional, repeated, only, or, Clauses, a-line}
+use Rattle.clauses.specs.Clauses.{Sort, item, alternatives, AtLeast, from-one, Expr, nonterminal, a-part, terminal, group, mark, pair, optional, repeated, only, or, Clauses, a-line}
 use Rattle.clauses.specs.Readings.{left, right, clause}
 use Rattle.clauses.specs.Expansion.{E, A, U, B, size, name, alternativeRules, repeatBegins, exprRules, expandFrom, sizeAll, of, rising, pastAll, expansion}
 use Rattle.clauses.proofs.Bounds.{Under, UnderAll, start, Clash, AllApart}
@@ -54,12 +54,12 @@ apart-head : (h : Rule) {s : Sort} (e : Expr s) (n : ℕ) → h .left < n → Al
 apart-head h e n l p = ((λ s m c. let o = owned e n s m in let z = c .left in omega arith), p)
 
 begins-apart : (q : AtLeast) (N n : ℕ) (e : Expr item) (s : Rule) → Under N e → N ≤ n → s ≡ U n (n + 1) UnaryMark.None → Clash (repeatBegins q n (name e (n + 2))) s → ⊥
-begins-apart one N n e s u h q c = not-fresh N n e u h (same-target refl q c)
-begins-apart C.zero N n e s u h q c = never-alike refl q c
+begins-apart from-one N n e s u h q c = not-fresh N n e u h (same-target refl q c)
+begins-apart C.from-zero N n e s u h q c = never-alike refl q c
 
 begins-at : (q : AtLeast) (n B : ℕ) → repeatBegins q n B .left ≡ n
-begins-at one n B = refl
-begins-at C.zero n B = refl
+begins-at from-one n B = refl
+begins-at C.from-zero n B = refl
 
 apart-rules : {s : Sort} (N : ℕ) (e : Expr s) (n : ℕ) → Under N e → N ≤ n → AllApart (exprRules e n)
 apart-rules N (nonterminal L) n u h = tt
@@ -93,7 +93,7 @@ apart-rules N (or e f) n u h =
     (λ r s i j c. let o = owned e n r i in let q = owned f (n + size e) s j in omega arith)
 
 apart-sheet : (N : ℕ) (c : Clauses) (n : ℕ) → UnderAll N c → N ≤ n → AllApart (expandFrom c n)
-apart-sheet N C.none n u h = tt
+apart-sheet N C.no-line n u h = tt
 apart-sheet N (a-line L e c) n u h =
     apart-append (alternativeRules L e n ++ exprRules e n) (expandFrom c (n + size e))
     (apart-lefts (alternativeRules L e n) (exprRules e n) (apart-choices L e n) (apart-rules N e n (u .1 .0) h) (λ r s i j z. let a = choices-left L e n r i in let o = owned e n s j in let y = u .0 in omega arith))

@@ -14,7 +14,7 @@ use Rattle.grammar.specs.declared.Token.{Token}
 use Rattle.grammar.specs.Layout as Mark
 use Rattle.grammar.specs.Trees.{Rules, Covers, Tree, empty, leaf, unary, binary, root, word, Valid, valid-empty, valid-leaf, valid-unary, valid-binary}
 use Rattle.clauses.specs.Clauses as C
-use Rattle.clauses.specs.Clauses.{Sort, item, made, alternatives, AtLeast, one, Expr, nonterminal, a-part, terminal, group, mark, pair, optional, repeated, only, or, Clauses}
+use Rattle.clauses.specs.Clauses.{Sort, item, made, alternatives, AtLeast, from-one, Expr, nonterminal, a-part, terminal, group, mark, pair, optional, repeated, only, or, Clauses}
 use Rattle.clauses.specs.Readings.{ClausePlace, left, right, ClauseReading, clause, itself, a-token, within, marked, both, present, absent, nothing, first, more, sole, this, other, spells, MarksKept}
 use Rattle.clauses.specs.Expansion.{A, B, size, name}
 use Rattle.clauses.proofs.Bounds.{start, Among}
@@ -74,8 +74,8 @@ module _ {c : Clauses} {N : ℕ} where
   node-empty L n (mark μ e) h o = clash _ _ o (λ z. omega arith)
   node-empty L n (pair μ e f) h o = clash _ _ o (λ z. omega arith)
   node-empty L n (optional e) h o = record { reading = absent; kept = tt; same = ap empty (sym h) }
-  node-empty L n (repeated one μ e) h o = ⊎-elim (λ q. clash _ _ q (λ z. omega arith)) (λ q. clash _ _ q (λ z. omega arith)) o
-  node-empty L n (repeated C.zero μ e) h o = record { reading = nothing; kept = tt; same = ap empty (sym h) }
+  node-empty L n (repeated from-one μ e) h o = ⊎-elim (λ q. clash _ _ q (λ z. omega arith)) (λ q. clash _ _ q (λ z. omega arith)) o
+  node-empty L n (repeated C.from-zero μ e) h o = record { reading = nothing; kept = tt; same = ap empty (sym h) }
 
   node-leaf : (L n x y : ℕ) (t : Token) (e : Expr made) → Covers x y (t .terminal) → L ≡ n → Own e n (Atom x y) → Back c N e n (leaf L t)
   node-leaf L n x y t (terminal a) v h o =
@@ -86,8 +86,8 @@ module _ {c : Clauses} {N : ℕ} where
   node-leaf L n x y t (mark μ e) v h o = clash _ _ o (λ z. omega arith)
   node-leaf L n x y t (pair μ e f) v h o = clash _ _ o (λ z. omega arith)
   node-leaf L n x y t (optional e) v h o = ⊎-elim (λ q. clash _ _ q (λ z. omega arith)) (λ q. clash _ _ q (λ z. omega arith)) o
-  node-leaf L n x y t (repeated one μ e) v h o = ⊎-elim (λ q. clash _ _ q (λ z. omega arith)) (λ q. clash _ _ q (λ z. omega arith)) o
-  node-leaf L n x y t (repeated C.zero μ e) v h o = ⊎-elim (λ q. clash _ _ q (λ z. omega arith)) (λ q. clash _ _ q (λ z. omega arith)) o
+  node-leaf L n x y t (repeated from-one μ e) v h o = ⊎-elim (λ q. clash _ _ q (λ z. omega arith)) (λ q. clash _ _ q (λ z. omega arith)) o
+  node-leaf L n x y t (repeated C.from-zero μ e) v h o = ⊎-elim (λ q. clash _ _ q (λ z. omega arith)) (λ q. clash _ _ q (λ z. omega arith)) o
 
   -- one more of a repeat
   again : (L n : ℕ) (t : Tree) (q : AtLeast) (μ : BinaryMark) (e : Expr item) → L ≡ n → Rest c N q μ e n t → Back c N (repeated q μ e) n (unary L t)
@@ -116,11 +116,11 @@ module _ {c : Clauses} {N : ℕ} {g : Rules} where
   node-unary L n m t (optional e) h p (inl o) k b =
       let r = on-item b e (n + 1) (in-optional p) (same-below o) in record { reading = present (r .reading); kept = r .kept; same = over-path h (r .same) }
   node-unary L n m t (optional e) h p (inr o) k b = clash _ _ o (λ z. omega arith)
-  node-unary L n m t (repeated one μ e) h p (inl o) k b =
+  node-unary L n m t (repeated from-one μ e) h p (inl o) k b =
       let r = on-item b e (n + 2) (in-repeated p) (same-below o) in record { reading = first (r .reading); kept = r .kept; same = over-path h (r .same) }
-  node-unary L n m t (repeated one μ e) h p (inr o) k b = again L n t one μ e h (b .rest one μ e n p (same-below o))
-  node-unary L n m t (repeated C.zero μ e) h p (inl o) k b = clash _ _ o (λ z. omega arith)
-  node-unary L n m t (repeated C.zero μ e) h p (inr o) k b = again L n t C.zero μ e h (b .rest C.zero μ e n p (same-below o))
+  node-unary L n m t (repeated from-one μ e) h p (inr o) k b = again L n t from-one μ e h (b .rest from-one μ e n p (same-below o))
+  node-unary L n m t (repeated C.from-zero μ e) h p (inl o) k b = clash _ _ o (λ z. omega arith)
+  node-unary L n m t (repeated C.from-zero μ e) h p (inr o) k b = again L n t C.from-zero μ e h (b .rest C.from-zero μ e n p (same-below o))
 
   node-binary : (L n : ℕ) (m : BinaryMark) (t u : Tree) (e : Expr made) → L ≡ n → Placed N g e n → Own e n (Binary (root t) (root u) m)
       → Mark.Binary m (word t) (word u) → Backs c N g t → Backs c N g u → Back c N e n (binary L t u)
@@ -133,8 +133,8 @@ module _ {c : Clauses} {N : ℕ} {g : Rules} where
       let s = on-item d f (n + 1 + size e) (in-second p) (q .1) in
       record { reading = both (r .reading) (s .reading); kept = (keeps-two μ (sym (words r)) (sym (words s)) (rw (q .2) at k), (r .kept, s .kept)); same = λ i. binary (sym h i) (r .same i) (s .same i) }
   node-binary L n m t u (optional e) h p o k b d = ⊎-elim (λ q. clash _ _ q (λ z. omega arith)) (λ q. clash _ _ q (λ z. omega arith)) o
-  node-binary L n m t u (repeated one μ e) h p o k b d = ⊎-elim (λ q. clash _ _ q (λ z. omega arith)) (λ q. clash _ _ q (λ z. omega arith)) o
-  node-binary L n m t u (repeated C.zero μ e) h p o k b d = ⊎-elim (λ q. clash _ _ q (λ z. omega arith)) (λ q. clash _ _ q (λ z. omega arith)) o
+  node-binary L n m t u (repeated from-one μ e) h p o k b d = ⊎-elim (λ q. clash _ _ q (λ z. omega arith)) (λ q. clash _ _ q (λ z. omega arith)) o
+  node-binary L n m t u (repeated C.from-zero μ e) h p o k b d = ⊎-elim (λ q. clash _ _ q (λ z. omega arith)) (λ q. clash _ _ q (λ z. omega arith)) o
 
 module _ {c : Clauses} {N : ℕ} {g : Rules} (x : Expands c N g) where
   -- a rule of a written nonterminal goes over to an alternative of one of its lines

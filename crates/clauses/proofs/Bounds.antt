@@ -27,7 +27,7 @@ Under N (only e) = Under N e
 Under N (or e f) = Under N e × Under N f
 
 abbrev pub UnderAll : ℕ → Clauses → Type 0
-UnderAll N C.none = Unit {0}
+UnderAll N C.no-line = Unit {0}
 UnderAll N (a-line L e c) = (L < N) × (Under N e × UnderAll N c)
 
 -- every terminal written in a part, in a sheet, is below 64
@@ -44,7 +44,7 @@ Terms (only e) = Terms e
 Terms (or e f) = Terms e × Terms f
 
 abbrev pub TermsAll : Clauses → Type 0
-TermsAll C.none = Unit {0}
+TermsAll C.no-line = Unit {0}
 TermsAll (a-line L e c) = Terms e × TermsAll c
 
 -- the first new nonterminal of the line at a place, where the sheet's first is n

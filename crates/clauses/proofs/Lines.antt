@@ -19,7 +19,7 @@ use Rattle.clauses.proofs.Placed.{Placed}
 module _ {N : ℕ} where
   -- a rule of the sheet goes from a written nonterminal or from a new one
   pub sheet-owned : (c : Clauses) (n : ℕ) (r : Rule) → UnderAll N c → N ≤ n → List·Memᴰ r (expandFrom c n) → (r .left < N) ⊎ Owned n (sizeAll c) r
-  sheet-owned C.none n r u h m = absurd (List·Memᴰ·not-nil m)
+  sheet-owned C.no-line n r u h m = absurd (List·Memᴰ·not-nil m)
   sheet-owned (a-line L e c) n r u h m =
       ⊎-elim
       (λ k. ⊎-elim (λ l. let z = choices-left L e n r l in let y = u .0 in inl (omega arith)) (λ l. let o = owned e n r l in inr (record { from = omega arith; below = omega arith })) (List·Memᴰ·append-cases (alternativeRules L e n) k))
@@ -49,7 +49,7 @@ module _ {N : ℕ} where
 
   pub lines : (c : Clauses) (n : ℕ) (r : Rule) → UnderAll N c → N ≤ n → r .left < N → List·Memᴰ r (expandFrom c n)
       → (p : ClausePlace c) × List·Memᴰ r (alternativeRules (left p) (right p) (start p n))
-  lines C.none n r u h l m = absurd (List·Memᴰ·not-nil m)
+  lines C.no-line n r u h l m = absurd (List·Memᴰ·not-nil m)
   lines (a-line L e c) n r u h l m =
       ⊎-elim
       (λ k. ⊎-elim (λ i. (here, i)) (λ i. let o = owned e n r i in absurd (omega arith)) (List·Memᴰ·append-cases (alternativeRules L e n) k))

@@ -7,7 +7,7 @@ use native.Mathlib.Omega.{arith}
 use Rattle.grammar.specs.declared.Rule.{Rule}
 use Rattle.grammar.specs.Trees.{Rules}
 use Rattle.clauses.specs.Clauses as C
-use Rattle.clauses.specs.Clauses.{Sort, alternatives, AtLeast, one, Expr, nonterminal, a-part, terminal, group, mark, pair, optional, repeated, only, or}
+use Rattle.clauses.specs.Clauses.{Sort, alternatives, AtLeast, from-one, Expr, nonterminal, a-part, terminal, group, mark, pair, optional, repeated, only, or}
 use Rattle.clauses.specs.Expansion.{A, B, size, name, alternativeRules, repeatBegins, exprRules}
 
 -- r's left is one of k numbers from n on
@@ -29,8 +29,8 @@ pub wider : {n k n′ k′ : ℕ} {r : Rule} → n′ ≤ n → n + k ≤ n′ +
 wider p q o = record { from = omega arith; below = omega arith }
 
 pub begins-left : (q : AtLeast) (n B : ℕ) → repeatBegins q n B .left ≡ n
-begins-left one n B = refl
-begins-left C.zero n B = refl
+begins-left from-one n B = refl
+begins-left C.from-zero n B = refl
 
 pub owned : {s : Sort} (e : Expr s) (n : ℕ) (r : Rule) → List·Memᴰ r (exprRules e n) → Owned n (size e) r
 owned (nonterminal A) n r m = absurd (List·Memᴰ·not-nil m)

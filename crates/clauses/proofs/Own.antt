@@ -12,7 +12,7 @@ use Rattle.grammar.specs.declared.BinaryMark.{BinaryMark}
 use Rattle.grammar.specs.declared.Clause.the-variants.{Empty, Atom, Unary, Binary}
 use Rattle.grammar.specs.Trees.{Rules}
 use Rattle.clauses.specs.Clauses as C
-use Rattle.clauses.specs.Clauses.{Sort, item, made, AtLeast, one, Expr, terminal, group, mark, pair, optional, repeated}
+use Rattle.clauses.specs.Clauses.{Sort, item, made, AtLeast, from-one, Expr, terminal, group, mark, pair, optional, repeated}
 use Rattle.clauses.specs.Readings.{left}
 use Rattle.clauses.specs.Expansion.{size, name, alternativeRules, exprRules}
 use Rattle.clauses.proofs.Bounds.{Among}
@@ -26,8 +26,8 @@ Own (group e) n k = (i : ℕ) × Among e (n + 1) i × (k ≡ Unary i UnaryMark.N
 Own (mark m e) n k = k ≡ Unary (name e (n + 1)) m
 Own (pair m e f) n k = k ≡ Binary (name e (n + 1)) (name f (n + 1 + size e)) m
 Own (optional e) n k = (k ≡ Unary (name e (n + 1)) UnaryMark.None) ⊎ (k ≡ Empty)
-Own (repeated one m e) n k = (k ≡ Unary (name e (n + 2)) UnaryMark.None) ⊎ (k ≡ Unary (n + 1) UnaryMark.None)
-Own (repeated C.zero m e) n k = (k ≡ Empty) ⊎ (k ≡ Unary (n + 1) UnaryMark.None)
+Own (repeated from-one m e) n k = (k ≡ Unary (name e (n + 2)) UnaryMark.None) ⊎ (k ≡ Unary (n + 1) UnaryMark.None)
+Own (repeated C.from-zero m e) n k = (k ≡ Empty) ⊎ (k ≡ Unary (n + 1) UnaryMark.None)
 
 abbrev pub rule : ℕ → Clause → Rule
 rule n k = record { left = n; clause = k }
@@ -51,11 +51,11 @@ own-here (pair μ e f) n k m =
 own-here (optional e) n k m =
     ⊎-elim (λ q. inl (same-clause q))
     (λ i. ⊎-elim (λ q. inr (same-clause q)) (λ j. absurd (out-of e (n + 1) (omega arith) j)) (List·Memᴰ·cases-cons i)) (List·Memᴰ·cases-cons m)
-own-here (repeated one μ e) n k m =
+own-here (repeated from-one μ e) n k m =
     ⊎-elim (λ q. inl (same-clause q))
     (λ i. ⊎-elim (λ q. inr (same-clause q)) (λ j. absurd (out-of e (n + 2) (omega arith) (skip (λ z. omega arith) j))) (List·Memᴰ·cases-cons i))
     (List·Memᴰ·cases-cons m)
-own-here (repeated C.zero μ e) n k m =
+own-here (repeated C.from-zero μ e) n k m =
     ⊎-elim (λ q. inl (same-clause q))
     (λ i. ⊎-elim (λ q. inr (same-clause q)) (λ j. absurd (out-of e (n + 2) (omega arith) (skip (λ z. omega arith) j))) (List·Memᴰ·cases-cons i))
     (List·Memᴰ·cases-cons m)

@@ -8,7 +8,7 @@ use Rattle.grammar.specs.declared.Rule.{Rule}
 use Rattle.grammar.specs.declared.UnaryMark.{UnaryMark}
 use Rattle.grammar.specs.declared.UnaryMark.the-variants as UnaryMark
 use Rattle.clauses.specs.Clauses as C
-use Rattle.clauses.specs.Clauses.{Sort, item, alternatives, AtLeast, one, Expr, nonterminal, a-part, terminal, group, mark, pair, optional, repeated, only, or, Clauses, a-line}
+use Rattle.clauses.specs.Clauses.{Sort, item, alternatives, AtLeast, from-one, Expr, nonterminal, a-part, terminal, group, mark, pair, optional, repeated, only, or, Clauses, a-line}
 use Rattle.clauses.specs.Readings.{clause}
 use Rattle.clauses.specs.Expansion.{E, A, U, B, size, name, alternativeRules, repeatBegins, exprRules, expandFrom, sizeAll, pastAll, expansion}
 use Rattle.clauses.proofs.Bounds.{Terms, TermsAll, Under, UnderAll, Below}
@@ -28,8 +28,8 @@ module _ (N K : ℕ) (h : N ≤ K) where
   choices-low L e n r l m = let a = choices-among L e n r m in let b = among-range e n (a .0) (a .1) in low K r (U L (a .0) UnaryMark.None) (a .2) (omega arith)
 
   begins-low : (q : AtLeast) (n B : ℕ) → B < K → Below K (repeatBegins q n B .clause)
-  begins-low one n B l = l
-  begins-low C.zero n B l = tt
+  begins-low from-one n B l = l
+  begins-low C.from-zero n B l = tt
 
   rules-low : {s : Sort} (e : Expr s) (n : ℕ) (r : Rule) → Under N e → Terms e → n + size e ≤ K → List·Memᴰ r (exprRules e n) → Below K (r .clause)
   rules-low (nonterminal L) n r u t l m = absurd (List·Memᴰ·not-nil m)
@@ -66,7 +66,7 @@ module _ (N K : ℕ) (h : N ≤ K) where
       (List·Memᴰ·append-cases (exprRules e n) m)
 
   sheet-low : (c : Clauses) (n : ℕ) (r : Rule) → UnderAll N c → TermsAll c → n + sizeAll c ≤ K → List·Memᴰ r (expandFrom c n) → Below K (r .clause)
-  sheet-low C.none n r u t l m = absurd (List·Memᴰ·not-nil m)
+  sheet-low C.no-line n r u t l m = absurd (List·Memᴰ·not-nil m)
   sheet-low (a-line L e c) n r u t l m =
       ⊎-elim
       (λ i. ⊎-elim (λ j. choices-low L e n r (omega arith) j) (λ j. rules-low e n r (u .1 .0) (t .0) (omega arith) j) (List·Memᴰ·append-cases (alternativeRules L e n) i))

@@ -2,14 +2,14 @@
 use mathlib.Core.Path.{_≡_, refl, sym, _∙_, ap, subst}
 use mathlib.Core.Logic.{⊎-elim}
 use mathlib.Core.List.{[], _∷_, List·Memᴰ, List·Memᴰ·head, List·Memᴰ·tail, Memᴰ·append-left, Memᴰ·append-right, List·Memᴰ·append-cases, List·Memᴰ·cases-cons, List·Memᴰ·not-nil}
-use Prim.Native.Nat.{ℕ, zero, suc, _+_, _≤_, _<_}
+use Prim.Native.Nat.{ℕ, zero, suc, _+_, _≤_, _<_, max}
 use native.Mathlib.Omega.{arith}
 use Rattle.grammar.specs.declared.Rule.{Rule}
 use Rattle.grammar.specs.Trees.{Rules}
 use Rattle.clauses.specs.Clauses as C
 use Rattle.clauses.specs.Clauses.{Sort, Expr, nonterminal, a-part, terminal, group, mark, pair, optional, repeated, only, or, Clauses, a-line}
 use Rattle.clauses.specs.Readings.{left}
-use Rattle.clauses.specs.Expansion.{expandFrom, sizeAll, of, rising, max, pastExpr, pastAll, expansion}
+use Rattle.clauses.specs.Expansion.{expandFrom, sizeAll, of, rising, pastExpr, pastAll, expansion}
 use Rattle.clauses.proofs.Bounds.{Under, UnderAll}
 use Rattle.clauses.proofs.Lines.{sheet-owned}
 use Rattle.clauses.proofs.Forward.{Expands}
@@ -57,12 +57,8 @@ members-rising (suc K) g r h m = go (λ l. members-rising K g r l m) (ltb (r .le
     go f true e = Memᴰ·append-left (of K g) (f (ltb→lt (r .left) K (rw e tt)))
     go f false e = Memᴰ·append-right (rising K g) (members-of K g r (let z = nltb→le (r .left) K (rw e tt) in omega arith) m)
 
-pick-max : (b : Bool) (m n : ℕ) → ltb m n ≡ b → (m ≤ elim b [ true ↦ n | false ↦ m ]) × (n ≤ elim b [ true ↦ n | false ↦ m ])
-pick-max true m n e = let z = ltb→lt m n (rw e tt) in (omega arith, omega arith)
-pick-max false m n e = let z = nltb→le m n (rw e tt) in (omega arith, omega arith)
-
 pub max-bounds : (m n : ℕ) → (m ≤ max m n) × (n ≤ max m n)
-max-bounds m n = pick-max (ltb m n) m n refl
+max-bounds m n = (omega arith, omega arith)
 
 under-past : {s : Sort} (e : Expr s) (N : ℕ) → pastExpr e ≤ N → Under N e
 under-past (nonterminal L) N h = omega arith
@@ -77,7 +73,7 @@ under-past (only e) N h = under-past e N h
 under-past (or e f) N h = let z = max-bounds (pastExpr e) (pastExpr f) in (under-past e N (le-trans (z .0) h), under-past f N (le-trans (z .1) h))
 
 pub under-all : (c : Clauses) (N : ℕ) → pastAll c ≤ N → UnderAll N c
-under-all C.none N h = tt
+under-all C.no-line N h = tt
 under-all (a-line L e c) N h =
     let z = max-bounds (max (L + 1) (pastExpr e)) (pastAll c) in
     let y = max-bounds (L + 1) (pastExpr e) in
@@ -94,9 +90,5 @@ expands c =
       under = u;
     }
 
-pick-least : (b : Bool) (m n k : ℕ) → m ≤ k → n ≤ k → elim b [ true ↦ n | false ↦ m ] ≤ k
-pick-least true m n k p q = q
-pick-least false m n k p q = p
-
 pub max-least : (m n k : ℕ) → m ≤ k → n ≤ k → max m n ≤ k
-max-least m n k p q = pick-least (ltb m n) m n k p q
+max-least m n k p q = omega arith

@@ -7,7 +7,7 @@ use Rattle.grammar.specs.declared.BinaryMark.{BinaryMark}
 use Rattle.grammar.specs.declared.Token.{Token}
 use Rattle.grammar.specs.Trees.{Rules, Tree, empty, leaf, unary, binary, root}
 use Rattle.clauses.specs.Clauses as C
-use Rattle.clauses.specs.Clauses.{Sort, item, made, alternatives, AtLeast, one, Expr, nonterminal, a-part, terminal, group, mark, pair, optional, repeated, only, or, Clauses}
+use Rattle.clauses.specs.Clauses.{Sort, item, made, alternatives, AtLeast, from-one, Expr, nonterminal, a-part, terminal, group, mark, pair, optional, repeated, only, or, Clauses}
 use Rattle.clauses.specs.Readings.{ClausePlace, here, later, left, right, ClauseReading, clause, itself, a-token, within, marked, both, present, absent, nothing, first, more, sole, this, other}
 use Rattle.clauses.specs.Expansion.{A, size, name}
 use Rattle.clauses.proofs.Bounds.{Under, start}
@@ -58,8 +58,8 @@ View {c} (group e) v = (u : ClauseReading c alternatives e) × (v ≡ within u)
 View {c} (mark m e) v = (u : ClauseReading c item e) × (v ≡ marked u)
 View {c} (pair m e f) v = (u : ClauseReading c item e) × (w : ClauseReading c item f) × (v ≡ both u w)
 View {c} (optional e) v = ((u : ClauseReading c item e) × (v ≡ present u)) ⊎ (v ≡ absent)
-View {c} (repeated one m e) v = ((u : ClauseReading c item e) × (v ≡ first u)) ⊎ ((u : ClauseReading c made (repeated one m e)) × (w : ClauseReading c item e) × (v ≡ more u w))
-View {c} (repeated C.zero m e) v = (v ≡ nothing) ⊎ ((u : ClauseReading c made (repeated C.zero m e)) × (w : ClauseReading c item e) × (v ≡ more u w))
+View {c} (repeated from-one m e) v = ((u : ClauseReading c item e) × (v ≡ first u)) ⊎ ((u : ClauseReading c made (repeated from-one m e)) × (w : ClauseReading c item e) × (v ≡ more u w))
+View {c} (repeated C.from-zero m e) v = (v ≡ nothing) ⊎ ((u : ClauseReading c made (repeated C.from-zero m e)) × (w : ClauseReading c item e) × (v ≡ more u w))
 View {c} (only e) v = (u : ClauseReading c made e) × (v ≡ sole u)
 View {c} (or e f) v = ((u : ClauseReading c made e) × (v ≡ this u)) ⊎ ((u : ClauseReading c alternatives f) × (v ≡ other u))
 
@@ -74,8 +74,8 @@ view (present u) = inl (u, refl)
 view absent = inr refl
 view nothing = inl refl
 view (first u) = inl (u, refl)
-view (more {q = one} u w) = inr (u, w, refl)
-view (more {q = C.zero} u w) = inr (u, w, refl)
+view (more {q = from-one} u w) = inr (u, w, refl)
+view (more {q = C.from-zero} u w) = inr (u, w, refl)
 view (sole u) = (u, refl)
 view (this u) = inl (u, refl)
 view (other u) = inr (u, refl)
@@ -132,10 +132,10 @@ module _ {c : Clauses} {N : ℕ} {g : Rules} (x : Expands c N g) where
   unique n (first {e = e} r) v i d =
       ⊎-elim (λ w. ap first (unique (n + 2) r (w .0) (in-repeated i) (below (d ∙ ap (tree N n) (w .1)))) ∙ sym (w .1))
       (λ w. absurd (not-fresh N n e (i .under) (i .above) (sym (root-item N (n + 2) r) ∙ ap root (below (d ∙ ap (tree N n) (w .2)))))) (view v)
-  unique n (more {q = one} {e = e} r s) v i d =
+  unique n (more {q = from-one} {e = e} r s) v i d =
       ⊎-elim (λ w. absurd (not-fresh N n e (i .under) (i .above) (sym (root-item N (n + 2) (w .0)) ∙ sym (ap root (below (d ∙ ap (tree N n) (w .1)))))))
       (λ w. more-same (unique n r (w .0) i (sides (below (d ∙ ap (tree N n) (w .2))) .0)) (unique (n + 2) s (w .1) (in-repeated i) (sides (below (d ∙ ap (tree N n) (w .2))) .1)) ∙ sym (w .2)) (view v)
-  unique n (more {q = C.zero} {e = e} r s) v i d =
+  unique n (more {q = C.from-zero} {e = e} r s) v i d =
       ⊎-elim (λ w. absurd (apart (d ∙ ap (tree N n) w) (λ z. omega arith)))
       (λ w. more-same (unique n r (w .0) i (sides (below (d ∙ ap (tree N n) (w .2))) .0)) (unique (n + 2) s (w .1) (in-repeated i) (sides (below (d ∙ ap (tree N n) (w .2))) .1)) ∙ sym (w .2)) (view v)
   unique n (sole r) v i d = let w = view v in ap sole (unique n r (w .0) (in-only i) (d ∙ ap (tree N n) (w .1))) ∙ sym (w .1)

@@ -11,7 +11,7 @@ pub data Sort : Type 0 where
 
 -- `+` repeats from one on, `*` from zero on
 pub data AtLeast : Type 0 where
-  one zero : AtLeast
+  from-one from-zero : AtLeast
 
 pub data Expr : Sort → Type 0 where
   -- n4
@@ -36,5 +36,5 @@ pub data Expr : Sort → Type 0 where
 
 -- a clause sheet: each line gives a nonterminal, its left, and an expression; several lines may have one left
 pub data Clauses : Type 0 where
-  none : Clauses
+  no-line : Clauses
   a-line : ℕ → Expr alternatives → Clauses → Clauses

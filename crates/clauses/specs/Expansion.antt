@@ -1,8 +1,8 @@
 -- A clause sheet expanded to a rule sheet: its new nonterminals, their numbers, their rules and the order of the rules. 02, request 2.
 use mathlib.Core.Bool.{true, false}
 use mathlib.Core.List.{[], _∷_, _++_}
-use Prim.Native.Nat.{ℕ, zero, suc, _+_}
-use lib.Dec.{eqb, ltb}
+use Prim.Native.Nat.{ℕ, zero, suc, _+_, max}
+use lib.Dec.{eqb}
 use Rattle.grammar.specs.declared.Rule.{Rule}
 use Rattle.grammar.specs.declared.UnaryMark.{UnaryMark}
 use Rattle.grammar.specs.declared.UnaryMark.the-variants as UnaryMark
@@ -10,7 +10,7 @@ use Rattle.grammar.specs.declared.BinaryMark.{BinaryMark}
 use Rattle.grammar.specs.declared.Clause.the-variants.{Empty, Atom, Unary, Binary}
 use Rattle.grammar.specs.Trees.{Rules}
 use Rattle.clauses.specs.Clauses as C
-use Rattle.clauses.specs.Clauses.{Sort, item, alternatives, AtLeast, one, Expr, nonterminal, a-part, terminal, group, mark, pair, optional, repeated, only, or, Clauses, a-line}
+use Rattle.clauses.specs.Clauses.{Sort, item, alternatives, AtLeast, from-one, Expr, nonterminal, a-part, terminal, group, mark, pair, optional, repeated, only, or, Clauses, a-line}
 
 -- rules by their letters
 abbrev pub E : ℕ → Rule
@@ -52,8 +52,8 @@ alternativeRules L (or e f) n = U L n UnaryMark.None ∷ alternativeRules L f (n
 
 -- how a repeat n of B begins: `+` with one B, `*` with none
 abbrev pub repeatBegins : AtLeast → ℕ → ℕ → Rule
-repeatBegins one n B = U n B UnaryMark.None
-repeatBegins C.zero n B = E n
+repeatBegins from-one n B = U n B UnaryMark.None
+repeatBegins C.from-zero n B = E n
 
 -- The rules of a part's new nonterminals, which begin with n. Longer sequences split off their first item; the first nonterminal of a marked group
 -- has a U rule of that mark to the second. Repeats expand as in source document 000, section 3:
@@ -72,7 +72,7 @@ exprRules (or e f) n = exprRules e n ++ exprRules f (n + size e)
 
 -- the rules of a sheet whose new nonterminals begin with n, line by line
 abbrev pub expandFrom : Clauses → ℕ → Rules
-expandFrom C.none n = []
+expandFrom C.no-line n = []
 expandFrom (a-line L e c) n = (alternativeRules L e n ++ exprRules e n) ++ expandFrom c (n + size e)
 
 -- the rules of one left, in the order given
@@ -84,9 +84,6 @@ of L (r ∷ g) = elim (eqb (r .left) L) [ true ↦ r ∷ of L g | false ↦ of L
 abbrev pub rising : ℕ → Rules → Rules
 rising zero g = []
 rising (suc L) g = rising L g ++ of L g
-
-abbrev pub max : ℕ → ℕ → ℕ
-max m n = elim (ltb m n) [ true ↦ n | false ↦ m ]
 
 -- one past the largest nonterminal written in a part, and in a sheet, its lefts too
 abbrev pub pastExpr : {s : Sort} → Expr s → ℕ
@@ -102,12 +99,12 @@ pastExpr (only e) = pastExpr e
 pastExpr (or e f) = max (pastExpr e) (pastExpr f)
 
 abbrev pub pastAll : Clauses → ℕ
-pastAll C.none = 0
+pastAll C.no-line = 0
 pastAll (a-line L e c) = max (max (L + 1) (pastExpr e)) (pastAll c)
 
 -- how many new nonterminals a sheet gets
 abbrev pub sizeAll : Clauses → ℕ
-sizeAll C.none = 0
+sizeAll C.no-line = 0
 sizeAll (a-line L e c) = size e + sizeAll c
 
 -- a clause sheet's rules: the new nonterminals are numbered upward from one past the largest one written, and the rules stand by rising left,

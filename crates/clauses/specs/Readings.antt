@@ -7,7 +7,7 @@ use Rattle.grammar.specs.declared.UnaryMark.{UnaryMark}
 use Rattle.grammar.specs.declared.BinaryMark.{BinaryMark}
 use Rattle.grammar.specs.Layout.{Word}
 use Rattle.grammar.specs.Layout as Mark
-use Rattle.clauses.specs.Clauses.{Sort, item, made, alternatives, AtLeast, one, zero, Expr, nonterminal, a-part, terminal, group, mark, pair, optional, repeated, only, or, Clauses, a-line}
+use Rattle.clauses.specs.Clauses.{Sort, item, made, alternatives, AtLeast, from-one, from-zero, Expr, nonterminal, a-part, terminal, group, mark, pair, optional, repeated, only, or, Clauses, a-line}
 
 -- a line of the sheet, with its left and its alternatives
 pub data ClausePlace : Clauses → Type 0 where
@@ -33,8 +33,8 @@ pub data ClauseReading (c : Clauses) : (s : Sort) → Expr s → Type 0 where
   both : {m : BinaryMark} {e f : Expr item} → ClauseReading c item e → ClauseReading c item f → ClauseReading c made (pair m e f)
   present : {e : Expr item} → ClauseReading c item e → ClauseReading c made (optional e)
   absent : {e : Expr item} → ClauseReading c made (optional e)
-  nothing : {m : BinaryMark} {e : Expr item} → ClauseReading c made (repeated zero m e)
-  first : {m : BinaryMark} {e : Expr item} → ClauseReading c item e → ClauseReading c made (repeated one m e)
+  nothing : {m : BinaryMark} {e : Expr item} → ClauseReading c made (repeated from-zero m e)
+  first : {m : BinaryMark} {e : Expr item} → ClauseReading c item e → ClauseReading c made (repeated from-one m e)
   more : {q : AtLeast} {m : BinaryMark} {e : Expr item} → ClauseReading c made (repeated q m e) → ClauseReading c item e → ClauseReading c made (repeated q m e)
   sole : {e : Expr made} → ClauseReading c made e → ClauseReading c alternatives (only e)
   this : {e : Expr made} {f : Expr alternatives} → ClauseReading c made e → ClauseReading c alternatives (or e f)

@@ -1,10 +1,9 @@
 -- How expressions are written, by lexemes, and how deep groups are nested. 02, request 2.
 use mathlib.Core.List.{List, [], _∷_, _++_}
-use Prim.Native.Nat.{ℕ, suc}
+use Prim.Native.Nat.{ℕ, suc, max}
 use Rattle.grammar.specs.declared.UnaryMark.{UnaryMark}
 use Rattle.grammar.specs.declared.UnaryMark.the-variants as UnaryMark
 use Rattle.grammar.specs.declared.BinaryMark.{BinaryMark}
-use Rattle.clauses.specs.Expansion.{max}
 use Rattle.clauses.specs.Clauses.{Sort, item, made, alternatives, AtLeast, Expr, nonterminal, a-part, terminal, group, mark, pair, optional, repeated, only, or}
 
 -- what may stand after an item: ?, + * +:align *:align, and after a group :offside :offalign :single

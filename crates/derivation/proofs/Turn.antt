@@ -16,7 +16,7 @@ use Rattle.shown.proofs.ShownLaws.{some-shown}
 use Rattle.grammar.specs.Content.{rules}
 use Rattle.grammar.specs.SpanSheet.{part}
 use Rattle.rows.specs.declared.Step.{Step}
-use Rattle.derivation.specs.Written.{places}
+use Rattle.derivation.specs.Written.{rowRoom}
 use Rattle.derivation.specs.Showing.{filledShown}
 use Rattle.nodes.specs.Wanted.{Ready, Goal, Wanted}
 use Rattle.derivation.specs.Laid.{Laid}
@@ -125,7 +125,7 @@ module _ {sees : View} {g : Grammar} {s : Sentence} {ws hs : List ℕ} {seeking 
     popped h = pop (x .state) h
 
     -- no room for the children
-    pub running-over : cap < shownCount sees (x .tree) → (l m : List ℕ) → long ≡ length l → cap ≡ places l
+    pub running-over : cap < shownCount sees (x .tree) → (l m : List ℕ) → long ≡ length l → cap ≡ rowRoom l
         → m ≡ filledShown sees out none → (u : Tree) → Goal (rules g) 0 (spelled s) seeking u → Laid sees u l m 0
     running-over h l m e f z u a =
         let j = goal-unique (r .formed .distinct) 0 (spelled s) seeking u (x .tree) a (x .goal) in
@@ -140,5 +140,5 @@ module _ {sees : View} {g : Grammar} {s : Sentence} {ws hs : List ℕ} {seeking 
         rw j (laid-full (x .state) h l m (x .same ∙ e) z)
 
 -- no place at all
-pub laid-none : (sees : View) (l m : List ℕ) → places l ≡ 0 → m ≡ filledShown sees l none → (u : Tree) → Laid sees u l m 0
+pub laid-none : (sees : View) (l m : List ℕ) → rowRoom l ≡ 0 → m ≡ filledShown sees l none → (u : Tree) → Laid sees u l m 0
 laid-none sees l m h e u = laid-short sees u l m (omega (arith, some-shown sees u)) e

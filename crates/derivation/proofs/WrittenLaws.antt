@@ -14,10 +14,10 @@ use Rattle.grammar.specs.Choices.{FirstTree, SecondTree}
 use Rattle.grammar.specs.Rows.{rowCount}
 use Rattle.grammar.proofs.Existence.{first-of-derives, two-iff-second}
 use Rattle.derivation.specs.declared.Counts.{Counts}
-use Rattle.derivation.specs.Written.{places, countOf, filled, Written}
+use Rattle.derivation.specs.Written.{rowRoom, countOf, filled}
 use Rattle.nodes.specs.Wanted.{Wanted}
 use Rattle.derivation.specs.Laid.{Laid}
-use Rattle.derivation.specs.Showing.{countShown, filledShown, ShownWritten}
+use Rattle.derivation.specs.Showing.{countShown, filledShown}
 use Rattle.shown.specs.Shown.{View, shownCount}
 use Rattle.shown.proofs.ShownLaws.{some-shown, Seen, rows-open, count-open, seen-valid, all-members}
 use Rattle.grammar.specs.declared.Grammar.{Grammar}
@@ -25,31 +25,32 @@ use Rattle.grammar.specs.Content.{rules, Formed}
 use Rattle.grammar.proofs.ChoiceLaws.{first-witness, second-witness}
 use Rattle.grammar.specs.Distinct.{Distinct}
 use Rattle.shown.specs.Members.{member}
+use Rattle.derivation.specs.Memories.{Written, ShownWritten}
 
 -- 1. from one memory to both
 
 module _ (sees : View) (t u : Option Tree) {l₁ l₂ m₁ m₂ : List ℕ} where
-  pub written-fits : {r₁ r₂ : ℕ} → countShown sees t ≤ places l₁ → countShown sees u ≤ places l₂ → m₁ ≡ filledShown sees l₁ t → m₂ ≡ filledShown sees l₂ u → r₁ ≡ countShown sees t → r₂ ≡ countShown sees u
+  pub written-fits : {r₁ r₂ : ℕ} → countShown sees t ≤ rowRoom l₁ → countShown sees u ≤ rowRoom l₂ → m₁ ≡ filledShown sees l₁ t → m₂ ≡ filledShown sees l₂ u → r₁ ≡ countShown sees t → r₂ ≡ countShown sees u
       → ShownWritten sees t u l₁ l₂ m₁ m₂ (record { fits = true; first = r₁; second = r₂ })
   written-fits h k e f a b = record { fits = λ _ _. (e, f, cc); short = λ z. ⊎-elim (λ x. absurd (omega arith)) (λ x. absurd (omega arith)) z }
 
-  pub written-short : (places l₁ < countShown sees t) ⊎ (places l₂ < countShown sees u) → m₁ ≡ filledShown sees l₁ none → m₂ ≡ filledShown sees l₂ none
+  pub written-short : (rowRoom l₁ < countShown sees t) ⊎ (rowRoom l₂ < countShown sees u) → m₁ ≡ filledShown sees l₁ none → m₂ ≡ filledShown sees l₂ none
       → ShownWritten sees t u l₁ l₂ m₁ m₂ (record { fits = false; first = 0; second = 0 })
   written-short z e f = record { fits = λ h k. ⊎-elim (λ x. absurd (omega arith)) (λ x. absurd (omega arith)) z; short = λ _. (e, f, refl) }
 
 -- the number of rows says whether they fit
 module _ (sees : View) (t : Tree) {l m : List ℕ} {r : ℕ} (x : Laid sees t l m r) where
-  laid-zero : r ≡ 0 → places l < shownCount sees t
-  laid-zero e = go (decLe (shownCount sees t) (places l))
+  laid-zero : r ≡ 0 → rowRoom l < shownCount sees t
+  laid-zero e = go (decLe (shownCount sees t) (rowRoom l))
     where
-      go : Dec (shownCount sees t ≤ places l) → places l < shownCount sees t
+      go : Dec (shownCount sees t ≤ rowRoom l) → rowRoom l < shownCount sees t
       go (yes h) = absurd (omega (arith, x .enough h .1, some-shown sees t))
       go (no h) = omega arith
 
-  laid-some : (r ≡ 0 → ⊥) → shownCount sees t ≤ places l
-  laid-some f = go (decLe (shownCount sees t) (places l))
+  laid-some : (r ≡ 0 → ⊥) → shownCount sees t ≤ rowRoom l
+  laid-some f = go (decLe (shownCount sees t) (rowRoom l))
     where
-      go : Dec (shownCount sees t ≤ places l) → shownCount sees t ≤ places l
+      go : Dec (shownCount sees t ≤ rowRoom l) → shownCount sees t ≤ rowRoom l
       go (yes h) = h
       go (no h) = absurd (f (x .short (omega arith) .1))
 
@@ -86,12 +87,12 @@ none-written e f = record { fits = λ _ _. (e, f, refl); short = λ z. ⊎-elim 
 
 pub written-unique : (t u : Option Tree) (l₁ l₂ m₁ m₂ m₁′ m₂′ : List ℕ) (r r′ : Counts) → Written t u l₁ l₂ m₁ m₂ r → Written t u l₁ l₂ m₁′ m₂′ r′
     → (m₁ ≡ m₁′) × (m₂ ≡ m₂′) × (r ≡ r′)
-written-unique t u l₁ l₂ m₁ m₂ m₁′ m₂′ r r′ x y = go (decLe (countOf t) (places l₁)) (decLe (countOf u) (places l₂))
+written-unique t u l₁ l₂ m₁ m₂ m₁′ m₂′ r r′ x y = go (decLe (countOf t) (rowRoom l₁)) (decLe (countOf u) (rowRoom l₂))
   where
-    by-short : (places l₁ < countOf t) ⊎ (places l₂ < countOf u) → (m₁ ≡ m₁′) × (m₂ ≡ m₂′) × (r ≡ r′)
+    by-short : (rowRoom l₁ < countOf t) ⊎ (rowRoom l₂ < countOf u) → (m₁ ≡ m₁′) × (m₂ ≡ m₂′) × (r ≡ r′)
     by-short h = (x .short h .0 ∙ sym (y .short h .0), x .short h .1 ∙ sym (y .short h .1), x .short h .2 ∙ sym (y .short h .2))
 
-    go : Dec (countOf t ≤ places l₁) → Dec (countOf u ≤ places l₂) → (m₁ ≡ m₁′) × (m₂ ≡ m₂′) × (r ≡ r′)
+    go : Dec (countOf t ≤ rowRoom l₁) → Dec (countOf u ≤ rowRoom l₂) → (m₁ ≡ m₁′) × (m₂ ≡ m₂′) × (r ≡ r′)
     go (yes h) (yes k) = (x .fits h k .0 ∙ sym (y .fits h k .0), x .fits h k .1 ∙ sym (y .fits h k .1), x .fits h k .2 ∙ sym (y .fits h k .2))
     go (no h) d = by-short (inl (omega arith))
     go (yes h) (no k) = by-short (inr (omega arith))

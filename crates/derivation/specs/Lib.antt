@@ -1,3 +1,4 @@
 pub mod Written
 pub mod Showing
+pub mod Memories
 pub mod Laid

@@ -17,12 +17,11 @@ ghost use Rattle.grammar.specs.Trees.{Tree};
 ghost use Rattle.grammar.specs.Choices.{FirstTree, SecondTree};
 ghost use Rattle.grammar.specs.Cycles.{Cyclic};
 ghost use Rattle.grammar.specs.Content.{rules};
-ghost use Rattle.derivation.specs.Written.{Written};
 ghost use Rattle.nodes.specs.Wanted.{Charted, Ready, Goal, Wanted};
 ghost use Rattle.derivation.specs.Laid.{Laid};
-ghost use Rattle.derivation.specs.Showing.{ShownWritten};
 ghost use Rattle.grammar.specs.Sentences.{spelled};
 ghost use Rattle.shown.specs.Members.{member};
+ghost use Rattle.derivation.specs.Memories.{Written, ShownWritten};
 
 // How many rows each tree has, 0 for one that is not written; `fits` is false where a tree of the answer has more rows than its
 // memory has places (refusal 22).

@@ -44,8 +44,8 @@ atomRules n a = A n a ∷ []
 -- the rules of what stands after an item B, where n is its first nonterminal
 abbrev pub tailRules : Lexeme → ℕ → ℕ → Rules
 tailRules Lexeme.Maybe n b = U n b UnaryMark.None ∷ E n ∷ []
-tailRules (Lexeme.Plus m) n b = repeatBegins C.one n b ∷ U n (n + 1) UnaryMark.None ∷ B (n + 1) n b m ∷ []
-tailRules (Lexeme.Star m) n b = repeatBegins C.zero n b ∷ U n (n + 1) UnaryMark.None ∷ B (n + 1) n b m ∷ []
+tailRules (Lexeme.Plus m) n b = repeatBegins C.from-one n b ∷ U n (n + 1) UnaryMark.None ∷ B (n + 1) n b m ∷ []
+tailRules (Lexeme.Star m) n b = repeatBegins C.from-zero n b ∷ U n (n + 1) UnaryMark.None ∷ B (n + 1) n b m ∷ []
 tailRules (Lexeme.Marked m) n b = U n b m ∷ []
 tailRules (Lexeme.Join m) n b = []
 tailRules (Lexeme.Nonterminal a) n b = []

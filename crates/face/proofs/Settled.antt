@@ -6,13 +6,13 @@ use native.Mathlib.Omega.{arith}
 use Rattle.teplonga.specs.declared.Reply.{Reply}
 use Rattle.teplonga.specs.declared.TreesReply.{TreesReply}
 use Rattle.teplonga.specs.declared.SweepReply.{SweepReply}
-use Rattle.grammar.specs.declared.Rule.{Rule}
 use Rattle.sheets.specs.Items.{Reading}
 use Rattle.teplonga.specs.Answers.{Sheets}
 use Rattle.teplonga.proofs.Settled.{Words, Apart, verdict-settled, trees-settled}
 use Rattle.teplonga.proofs.SweepSettled.{sweep-settled}
 use Rattle.face.specs.Face.{packed, VerdictWord, TreesWord, SweepWord}
 use Rattle.face_words.specs.Words.{AtFront, few, written, foundWords, countWords}
+use Rattle.grammar.specs.Trees.{Rules}
 
 pub front-settled : {n : ℕ} {ws vs lent a b : List ℕ} → ws ≡ vs → AtFront n ws lent a → AtFront n vs lent b → a ≡ b
 front-settled e (few l x) (few m y) = x ∙ sym y
@@ -36,7 +36,7 @@ trees-word-settled d p q x y =
       (z .0, (z .1 .1 .0, (z .1 .1 .1, front-settled (ap (λ (v : TreesReply). countWords (v .first) (v .second)) e) (x .rows) (y .rows)))),
     )
 
-pub sweep-word-settled : {given : Reading Rule} {k : ℕ} {ws a b found f f′ : List ℕ} {r s : ℕ}
+pub sweep-word-settled : {given : Reading Rules} {k : ℕ} {ws a b found f f′ : List ℕ} {r s : ℕ}
     → SweepWord given k ws a found f r → SweepWord given k ws b found f′ s → (r ≡ s) × ((a ≡ b) × (f ≡ f′))
 sweep-word-settled x y =
     let z = sweep-settled (x .promise) (y .promise) in (

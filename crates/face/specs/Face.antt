@@ -4,7 +4,6 @@ use mathlib.Core.Bool.{cond}
 use mathlib.Core.List.{List}
 use Prim.Native.Nat.{ℕ, _+_, _*_}
 use lib.Dec.{ltb}
-use Rattle.grammar.specs.declared.Rule.{Rule}
 use Rattle.sheets.specs.Items.{Reading}
 use Rattle.sheets.specs.Refusals.{numberOf}
 use Rattle.teplonga.specs.declared.Answer.{Answer}
@@ -17,6 +16,7 @@ use Rattle.teplonga.specs.Verdict.{VerdictBy}
 use Rattle.teplonga.specs.Trees.{TreesBy}
 use Rattle.teplonga.specs.Sweep.{SweepBy}
 use Rattle.face_words.specs.Words.{AtFront, foundWords, countWords}
+use Rattle.grammar.specs.Trees.{Rules}
 
 -- an answer's code: 0 none, 1 one, 2 two, 3 clear, 4 given, 100 + N refused-N
 abbrev pub codeOf : Answer → ℕ
@@ -38,7 +38,7 @@ pub record VerdictWord (given : Sheets) (words words′ : List ℕ) (r : ℕ) : 
   pub word : r ≡ packed (reply .answer) (reply .line)
 
 -- `teplonga_sweep` hands over what `sweep` answers, the answer's sentence and the number of candidates tried in words, where the sheet with the rules gives this
-pub record SweepWord (given : Reading Rule) (k : ℕ) (words words′ found found′ : List ℕ) (r : ℕ) : Type 0 where
+pub record SweepWord (given : Reading Rules) (k : ℕ) (words words′ found found′ : List ℕ) (r : ℕ) : Type 0 where
   pub reply : SweepReply
   pub promise : SweepBy given k words words′ reply
   pub sentence : AtFront 23 (foundWords (reply .sentence) (reply .tried)) found found′

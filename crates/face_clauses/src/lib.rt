@@ -43,7 +43,7 @@ pub extern "C" fn teplonga_clause_trees(
     pack(a, p.line)
 }
 
-// The sweep: its code times 2^32 plus the line's number. `found` gets the answer's sentence.
+// The sweep: its code times 2^32 plus the line's number. `found` gets the answer's sentence and the number of candidates tried.
 #[no_mangle]
 pub extern "C" fn teplonga_clause_sweep(
     clauses: &[u8],

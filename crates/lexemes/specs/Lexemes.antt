@@ -60,10 +60,10 @@ signs =
     ∷ sign (32 ∷ []) (join BinaryMark.None)
     -- ? +:align + *:align *
     ∷ sign (63 ∷ []) (suffix maybe)
-    ∷ sign (43 ∷ 58 ∷ 97 ∷ 108 ∷ 105 ∷ 103 ∷ 110 ∷ []) (suffix (repeats C.one BinaryMark.Align))
-    ∷ sign (43 ∷ []) (suffix (repeats C.one BinaryMark.None))
-    ∷ sign (42 ∷ 58 ∷ 97 ∷ 108 ∷ 105 ∷ 103 ∷ 110 ∷ []) (suffix (repeats C.zero BinaryMark.Align))
-    ∷ sign (42 ∷ []) (suffix (repeats C.zero BinaryMark.None))
+    ∷ sign (43 ∷ 58 ∷ 97 ∷ 108 ∷ 105 ∷ 103 ∷ 110 ∷ []) (suffix (repeats C.from-one BinaryMark.Align))
+    ∷ sign (43 ∷ []) (suffix (repeats C.from-one BinaryMark.None))
+    ∷ sign (42 ∷ 58 ∷ 97 ∷ 108 ∷ 105 ∷ 103 ∷ 110 ∷ []) (suffix (repeats C.from-zero BinaryMark.Align))
+    ∷ sign (42 ∷ []) (suffix (repeats C.from-zero BinaryMark.None))
     -- :offside :offalign :single
     ∷ sign (58 ∷ 111 ∷ 102 ∷ 102 ∷ 115 ∷ 105 ∷ 100 ∷ 101 ∷ []) (suffix (marks UnaryMark.Offside))
     ∷ sign (58 ∷ 111 ∷ 102 ∷ 102 ∷ 97 ∷ 108 ∷ 105 ∷ 103 ∷ 110 ∷ []) (suffix (marks UnaryMark.Offalign))

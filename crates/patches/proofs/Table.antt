@@ -122,12 +122,12 @@ found-right g k w t =
     }
 
 -- what a sheet gives passes the test
-abbrev given : {A : Type 0} → Reading A → (List A → Bool) → Bool
+abbrev given : {A : Type 0} → Reading A → (A → Bool) → Bool
 given (accepted l) p = p l
 given (refused f n) p = false
 
-given-right : {A : Type 0} {P : List A → Type 0} (o : Reading A) (p : List A → Bool) → ((l : List A) → T (p l) → P l) → T (given o p) → Gives o P
-given-right (accepted l) p h t = record { items = l; reads = refl; holds = h l t }
+given-right : {A : Type 0} {P : A → Type 0} (o : Reading A) (p : A → Bool) → ((l : A) → T (p l) → P l) → T (given o p) → Gives o P
+given-right (accepted l) p h t = record { content = l; reads = refl; holds = h l t }
 given-right (refused f n) p h t = absurd t
 
 -- the test of a claim

@@ -39,11 +39,11 @@ pub record LeftLengths (g : Rules) (A : ℕ) (w : Word) (lengths : List ℕ) : T
   pub exactly : Exactly g A w trees
   pub lefts : map leftLength trees ≡ lengths
 
--- a sheet gives items of which P holds
-pub record Gives {A : Type 0} (given : Reading A) (P : List A → Type 0) : Type 0 where
-  pub items : List A
-  pub reads : given ≡ accepted items
-  pub holds : P items
+-- a sheet gives something of which P holds
+pub record Gives {A : Type 0} (given : Reading A) (P : A → Type 0) : Type 0 where
+  pub content : A
+  pub reads : given ≡ accepted content
+  pub holds : P content
 
 -- the answer of a sweep: clear, or the found sentence as a token sheet
 pub data SweepClaim : Type 0 where

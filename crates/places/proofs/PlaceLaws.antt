@@ -180,18 +180,24 @@ place-iff d v a A start len b s = (
 pub place-two : {g : Rules} {ts : Word} {A start len : ℕ} → Distinct g → Place g ts A start len → TwoTrees g 0 ts
 place-two d p = reaches-two (contains-reached (p .contained)) (several-two d (p .several))
 
-pub two-place : {g : Rules} {ts : Word} → TwoTrees g 0 ts → (A : ℕ) × (start : ℕ) × (len : ℕ) × Place g ts A start len
-two-place {g} {ts} t =
-    let f = two-found t in
-    let c = f .several .choice₁ in
-    let T = reaches-sub (f .reached) .extend (c .tree) (c .witness) in
+-- what is reached and has a tree stands somewhere in the sentence
+pub reached-stands : {g : Rules} {ts : Word} {A : ℕ} {v : Word} → Reaches g 0 ts A v → (t : Tree) → Witness g A v t
+    → (start : ℕ) × Contains g ts A start (length v) × (part ts start (length v) ≡ v)
+reached-stands {g} {ts} {A} {v} r t x =
+    let T = reaches-sub r .extend t x in
     let n = inside-of 0 (T .2) in
-    let p : Contains g ts (f .nonterminal) (startOf (n .0) (length (f .part))) (length (f .part)) =
+    let p : Contains g ts A (startOf (n .0) (length v)) (length v) =
     record
-    { whole = T .0; witness = T .1; node = c .tree; from = n .0; inside = n .1; rooted = c .witness .rooted; long = ap length (c .witness .spelled); starts = refl }
-    in (
-      f .nonterminal,
-      startOf (n .0) (length (f .part)),
-      length (f .part),
-      record { contained = p; several = subst (Several g (f .nonterminal)) (sym (c .witness .spelled) ∙ node-word p) (f .several) },
-    )
+    { whole = T .0; witness = T .1; node = t; from = n .0; inside = n .1; rooted = x .rooted; long = ap length (x .spelled); starts = refl }
+    in (startOf (n .0) (length v), p, sym (node-word p) ∙ x .spelled)
+
+-- where it has two dissimilar trees, that is a place
+pub reached-place : {g : Rules} {ts : Word} {A : ℕ} {v : Word} → Reaches g 0 ts A v → Several g A v
+    → (start : ℕ) × Place g ts A start (length v) × (part ts start (length v) ≡ v)
+reached-place {g} {A = A} r d =
+    let c = d .choice₁ in
+    let f = reached-stands r (c .tree) (c .witness) in
+    (f .0, record { contained = f .1; several = subst (Several g A) (sym (f .2)) d }, f .2)
+
+pub two-place : {g : Rules} {ts : Word} → TwoTrees g 0 ts → (A : ℕ) × (start : ℕ) × (len : ℕ) × Place g ts A start len
+two-place t = let f = two-found t in let p = reached-place (f .reached) (f .several) in (f .nonterminal, p .0, length (f .part), p .1)

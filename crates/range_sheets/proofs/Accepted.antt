@@ -16,7 +16,7 @@ use Rattle.lines.specs.declared.Turn.{Turn}
 use Rattle.lines.specs.declared.Turn.the-variants as Turn
 use Rattle.lines.specs.Turns.{turnOf}
 use Rattle.sheets.specs.declared.Fault.{Fault}
-use Rattle.sheets.specs.declared.Fault.the-variants as Fault
+use Rattle.sheets.specs.Refusals.{RefusedAs}
 use Rattle.sheets.specs.Items.{Step, next, stop, end, Reading, accepted, refused, stepAt, itemsFrom}
 use Rattle.sheets.proofs.Accepted.{items-hold}
 use Rattle.column_ranges.specs.declared.RangeToken.{RangeToken}
@@ -34,10 +34,10 @@ use Rattle.column_ranges.specs.RangeSentences.{rangesOf, Ended}
 
 -- the end of a sheet
 pub counted-few : (rs : Ranges) → choiceCount rs ≤ choiceLimit → fewChoices (accepted rs) ≡ accepted rs
-counted-few rs h = ap (λ (b : Bool). cond b (accepted rs) (refused Fault.ManyChoices 0)) (le-leb (choiceCount rs) choiceLimit h)
+counted-few rs h = ap (λ (b : Bool). cond b (accepted rs) (refused 49 0)) (le-leb (choiceCount rs) choiceLimit h)
 
-pub counted-many : (rs : Ranges) → choiceLimit < choiceCount rs → fewChoices (accepted rs) ≡ refused Fault.ManyChoices 0
-counted-many rs h = ap (λ (b : Bool). cond b (accepted rs) (refused Fault.ManyChoices 0)) (lt-leb (choiceCount rs) choiceLimit h)
+pub counted-many : (rs : Ranges) → choiceLimit < choiceCount rs → fewChoices (accepted rs) ≡ refused 49 0
+counted-many rs h = ap (λ (b : Bool). cond b (accepted rs) (refused 49 0)) (lt-leb (choiceCount rs) choiceLimit h)
 
 -- an accepted sheet is not refused
 pub not-refused : {f : Fault} {l : ℕ} → Outcome.Accepted ≡ Outcome.Refused f l → ⊥
@@ -48,11 +48,11 @@ not-refused e = let z : _≡_ {A = ℕ} 0 1 = ap rank e in omega arith
     rank (Outcome.Refused f l) = 1
 
 -- what was read is what the sheet says
-pub ranges-are : {r : RangeRead} {want : Reading RangeToken} → RangesRead r want → r .outcome ≡ Outcome.Accepted → want ≡ accepted (rangesOf (r .sentence))
+pub ranges-are : {r : RangeRead} {want : Reading (List RangeToken)} → RangesRead r want → r .outcome ≡ Outcome.Accepted → want ≡ accepted (rangesOf (r .sentence))
 ranges-are {r} x e = sym (x .is) ∙ ap (λ (o : Outcome). readingOf o (rangesOf (r .sentence))) e
 
-pub ranges-not : {r : RangeRead} {want : Reading RangeToken} {f : Fault} {l : ℕ} → RangesRead r want → r .outcome ≡ Outcome.Refused f l → want ≡ refused f l
-ranges-not {r} x e = sym (x .is) ∙ ap (λ (o : Outcome). readingOf o (rangesOf (r .sentence))) e
+pub ranges-not : {r : RangeRead} {want : Reading (List RangeToken)} {f : Fault} {l : ℕ} → RangesRead r want → r .outcome ≡ Outcome.Refused f l → RefusedAs want f l
+ranges-not {r} x e = record { is = sym (x .is) ∙ ap (λ (o : Outcome). readingOf o (rangesOf (r .sentence))) e }
 
 -- ---- the ends of accepted tokens
 
@@ -98,7 +98,7 @@ said-ended line t e = go (rangeLine line) (fields-fine (pieces 32 line)) e
     go RangeLine.Ends f e = absurd (let z : _≡_ {A = ℕ} 0 1 = cc in omega arith)
     go (RangeLine.Good r) f e = let j : r ≡ t = cc in subst Ended j f
 
-step-said : (said : Step RangeToken) (x : Turn) (t : RangeToken) → stepAt Fault.TokenMany Fault.TokenForm said x ≡ next t → said ≡ next t
+step-said : (said : Step RangeToken) (x : Turn) (t : RangeToken) → stepAt 14 12 said x ≡ next t → said ≡ next t
 step-said said Turn.End t e = absurd (let z : _≡_ {A = ℕ} 0 1 = cc in omega arith)
 step-said said Turn.Many t e = absurd (let z : _≡_ {A = ℕ} 0 1 = cc in omega arith)
 step-said said Turn.Open t e = absurd (let z : _≡_ {A = ℕ} 0 1 = cc in omega arith)

@@ -7,8 +7,6 @@ use native.Mathlib.Omega.{arith}
 use lib.Dec.{leb}
 use lib.ListN.{length}
 use Rattle.fields.specs.Pieces.{pieces}
-use Rattle.sheets.specs.declared.Fault.{Fault}
-use Rattle.sheets.specs.declared.Fault.the-variants as Fault
 use Rattle.sheets.specs.Items.{Reading, accepted, refused, itemsFrom, withNames}
 use Rattle.sheets.proofs.Accepted.{items-line}
 use Rattle.sheets.proofs.Walks.{names-line, first-line}
@@ -16,19 +14,19 @@ use Rattle.column_ranges.specs.declared.RangeToken.{RangeToken}
 use Rattle.column_ranges.specs.Ranges.{choiceCount, choiceLimit}
 use Rattle.range_sheets.specs.RangeSheets.{rangeStep, fewChoices, rangeNames, rangeSheet}
 
-counted-line : (x : Reading RangeToken) (n : ℕ) (f : Fault) (l : ℕ) → ((g : Fault) (m : ℕ) → x ≡ refused g m → m ≤ n) → fewChoices x ≡ refused f l → l ≤ n
+counted-line : (x : Reading (List RangeToken)) (n : ℕ) (f : ℕ) (l : ℕ) → ((g : ℕ) (m : ℕ) → x ≡ refused g m → m ≤ n) → fewChoices x ≡ refused f l → l ≤ n
 counted-line (accepted w) n f l h e = go (leb (choiceCount w) choiceLimit) e
   where
-    go : (b : Bool) → cond b (accepted w) (refused Fault.ManyChoices 0) ≡ refused f l → l ≤ n
+    go : (b : Bool) → cond b (accepted w) (refused 49 0) ≡ refused f l → l ≤ n
     go true e = absurd (let z : _≡_ {A = ℕ} 0 1 = cc in omega arith)
     go false e = let j : _≡_ {A = ℕ} 0 l = cc in omega arith
 counted-line (refused g m) n f l h e = let j : m ≡ l = cc in omega (arith, h g m refl)
 
-pub range-exists : (s : List ℕ) (f : Fault) (l : ℕ) → rangeSheet s ≡ refused f l → l ≤ length (pieces 10 s)
+pub range-exists : (s : List ℕ) (f : ℕ) (l : ℕ) → rangeSheet s ≡ refused f l → l ≤ length (pieces 10 s)
 range-exists s f l = counted-line read (length (pieces 10 s)) f l lines
   where
-    read : Reading RangeToken
-    read = withNames (refused Fault.TokenNames 1) rangeNames (pieces 10 s) (itemsFrom rangeStep [])
+    read : Reading (List RangeToken)
+    read = withNames (refused 11 1) rangeNames (pieces 10 s) (itemsFrom rangeStep [])
 
-    lines : (g : Fault) (m : ℕ) → withNames (refused Fault.TokenNames 1) rangeNames (pieces 10 s) (itemsFrom rangeStep []) ≡ refused g m → m ≤ length (pieces 10 s)
-    lines g m = names-line (refused Fault.TokenNames 1) rangeNames (itemsFrom rangeStep []) (λ ps f l e. omega (arith, items-line rangeStep [] ps f l e)) (pieces 10 s) g m (first-line Fault.TokenNames s g m)
+    lines : (g : ℕ) (m : ℕ) → withNames (refused 11 1) rangeNames (pieces 10 s) (itemsFrom rangeStep []) ≡ refused g m → m ≤ length (pieces 10 s)
+    lines g m = names-line (refused 11 1) rangeNames (itemsFrom rangeStep []) (λ ps f l e. omega (arith, items-line rangeStep [] ps f l e)) (pieces 10 s) g m (first-line 11 s g m)

@@ -16,6 +16,7 @@ ghost use lib.ListN.{length};
 ghost use lib.Dec.{ltb};
 ghost use Rattle.lines.specs.Turns.{turnOf};
 ghost use Rattle.sheets.specs.declared.Fault.the-variants as Fault;
+ghost use Rattle.sheets.specs.Refusals.{numberOf};
 ghost use Rattle.sheets.specs.Items.{accepted, refused, stepAt, itemsFrom};
 ghost use Rattle.range_sheets.specs.RangeLines.{endsOf, rangeOf, rangeFields};
 ghost use Rattle.range_sheets.specs.RangeSheets.{rangeSays, rangeStep, fewChoices, rangeSheet};
@@ -126,7 +127,7 @@ fn range_said(s: &[u8], c: Cursor) -> RangeStep
 // What the cursor's line gives after n tokens.
 fn range_step(s: &[u8], c: Cursor, n: usize) -> RangeStep
     requires { ⌜ (c .at ≤ c .end) × (c .end ≤ length (now s)) ⌝ }
-    ensures { λ r. ⌜ asRangeStep r ≡ stepAt Fault.TokenMany Fault.TokenForm (rangeSays [] (bytesLeft (now (s .entry)) c)) (turnOf 64 n (bytesLeft (now (s .entry)) c) (ltb (c .end) (length (now (s .entry))))) ⌝ }
+    ensures { λ r. ⌜ asRangeStep r ≡ stepAt 14 12 (rangeSays [] (bytesLeft (now (s .entry)) c)) (turnOf 64 n (bytesLeft (now (s .entry)) c) (ltb (c .end) (length (now (s .entry))))) ⌝ }
 {
     match lines::turn_at(s, c, n, 64) {
         Turn::End => RangeStep::End,
@@ -147,7 +148,7 @@ fn no_ranges() -> [RangeToken; 64] {
 
 // A refused range sheet.
 fn refuse_ranges(tokens: [RangeToken; 64], f: Fault, line: usize) -> RangeRead
-    ensures { λ r. ⌜ RangesRead r (refused f line) ⌝ }
+    ensures { λ r. ⌜ RangesRead r (refused (numberOf f) line) ⌝ }
 {
     RangeRead {
         outcome: Outcome::Refused(f, line),

@@ -18,7 +18,6 @@ use Rattle.fields.proofs.Lines.{more-left}
 use Rattle.lines.specs.declared.Turn.{Turn}
 use Rattle.lines.specs.declared.Turn.the-variants as Turn
 use Rattle.lines.specs.Turns.{turnOf}
-use Rattle.sheets.specs.declared.Fault.the-variants as Fault
 use Rattle.sheets.specs.Items.{Step, next, stop, end, Reading, accepted, refused, stepAt, onStep, itemsFrom}
 use Rattle.sheets.specs.RuleSheets.{anyOf}
 use Rattle.sheets.proofs.Loop.{line-cut, line-less}
@@ -34,11 +33,11 @@ use Rattle.rights.specs.Answers.{RightsHeld}
 
 -- 1. a line by what it is
 
-pub step-turn : (line : List ℕ) (ended : Bool) → stepAt Fault.Rights Fault.Rights (rightSaid (rightLine line)) (turnOf 1 0 line ended) ≡ rightLineStep line ended
+pub step-turn : (line : List ℕ) (ended : Bool) → stepAt 50 50 (rightSaid (rightLine line)) (turnOf 1 0 line ended) ≡ rightLineStep line ended
 step-turn line true = refl
 step-turn line false = go (isEmpty line)
   where
-    go : (b : Bool) → stepAt Fault.Rights Fault.Rights (rightSaid (rightLine line)) (cond b Turn.End Turn.Open) ≡ cond b end (stop Fault.Rights)
+    go : (b : Bool) → stepAt 50 50 (rightSaid (rightLine line)) (cond b Turn.End Turn.Open) ≡ cond b end (stop 50)
     go true = refl
     go false = refl
 
@@ -87,7 +86,7 @@ gives-right line true r e = (refl, go (rightLine line) (line-ranged line) e)
     go RightLine.Bad h e = absurd (let z : _≡_ {A = ℕ} 0 1 = cc in omega arith)
 gives-right line false r e = absurd (go (isEmpty line) e)
   where
-    go : (b : Bool) → next r ≡ cond b end (stop Fault.Rights) → ⊥
+    go : (b : Bool) → next r ≡ cond b end (stop 50) → ⊥
     go true e = let z : _≡_ {A = ℕ} 0 1 = cc in omega arith
     go false e = let z : _≡_ {A = ℕ} 0 1 = cc in omega arith
 
@@ -152,7 +151,7 @@ module _ {s : List ℕ} {start u sees changes n at : ℕ} (T : Reading-on s star
     holds = holds-more r (T .holds) f g;
   }
 
-  pub on-stop : stop Fault.Rights ≡ made → itemsOf (piecesFrom 10 s start) ≡ refused Fault.Rights (n + 2)
+  pub on-stop : stop 50 ≡ made → itemsOf (piecesFrom 10 s start) ≡ refused 50 (n + 2)
   on-stop h = turn ∙ rw (← h, T .many) refl
 
   pub on-end : end ≡ made → itemsOf (piecesFrom 10 s start) ≡ accepted (T .rights)

@@ -15,7 +15,6 @@ ghost use lib.ListN.{length};
 ghost use lib.Dec.{leb, ltb, eqb};
 ghost use Rattle.rights.specs.RightLines.{rightOf, rightFields, lastOf, mayOf};
 ghost use Rattle.rights.specs.RightSheets.{rightLineStep, itemsOf, rightsSheet, covers};
-ghost use Rattle.sheets.specs.declared.Fault.the-variants as Faults;
 ghost use Rattle.sheets.specs.Items.{refused};
 ghost use Rattle.rights.specs.Answers.{asMay, asStep, RightsGiven};
 ghost use Rattle.fields.specs.Cursors.{bytesLeft, fieldsLeft, piecesFrom};
@@ -174,7 +173,7 @@ fn with_change(set: u64, r: Right, user: usize) -> u64
 
 // A refused rights sheet.
 fn refuse_rights(line: usize, user: usize) -> RightsRead
-    ensures { λ r. ⌜ RightsGiven (refused Faults.Rights line) user r ⌝ }
+    ensures { λ r. ⌜ RightsGiven (refused 50 line) user r ⌝ }
 {
     RightsRead {
         outcome: Outcome::Refused(Fault::Rights, line),

@@ -36,8 +36,6 @@ use Rattle.lines.specs.Keys.{keyOf, sameKey}
 use Rattle.lines.proofs.Small.{line-small}
 use Rattle.lines.proofs.Widths.{line-wide}
 use Rattle.lines.proofs.KeyLaws.{key-same, key-back}
-use Rattle.sheets.specs.declared.Fault.{Fault}
-use Rattle.sheets.specs.declared.Fault.the-variants as Fault
 use Rattle.sheets.specs.Items.{Step, next, stop, end, Reading, accepted, refused, stepAt, lineStep, onStep, itemsFrom, withNames}
 use Rattle.sheets.specs.RuleSheets.{hasKey, anyOf, isStart, freshStep, ruleSaid, ruleSays, ruleStep, finish, rulesFrom, ruleNames, ruleSheet}
 use Rattle.grammar.proofs.Positions.{after?}
@@ -61,7 +59,7 @@ module _ {A : Type 0} (step : List A → List ℕ → Bool → Step A) where
       go again end h e = let j : seen ≡ w = cc in rw j at q
 
   -- a refusal's line is one of the lines behind the items seen
-  pub items-line : (seen : List A) (ps : List (List ℕ)) (f : Fault) (l : ℕ) → itemsFrom step seen ps ≡ refused f l → l ≤ length seen + 1 + length ps
+  pub items-line : (seen : List A) (ps : List (List ℕ)) (f : ℕ) (l : ℕ) → itemsFrom step seen ps ≡ refused f l → l ≤ length seen + 1 + length ps
   items-line seen [] f l e = absurd (let z : _≡_ {A = ℕ} 0 1 = cc in omega arith)
   items-line seen (p ∷ ps) f l e = go (λ t. items-line (seen ++ t ∷ []) ps f l) (step seen p (not (isEmpty ps))) e
     where
@@ -72,14 +70,14 @@ module _ {A : Type 0} (step : List A → List ℕ → Bool → Step A) where
       go again end e = absurd (let z : _≡_ {A = ℕ} 0 1 = cc in omega arith)
 
 -- an item is what a whole line says
-step-said : {A : Type 0} (many form : Fault) (said : Step A) (u : Turn) (t : A) → stepAt many form said u ≡ next t → said ≡ next t
+step-said : {A : Type 0} (many form : ℕ) (said : Step A) (u : Turn) (t : A) → stepAt many form said u ≡ next t → said ≡ next t
 step-said many form said Turn.End t e = absurd (let z : _≡_ {A = ℕ} 0 1 = cc in omega arith)
 step-said many form said Turn.Many t e = absurd (let z : _≡_ {A = ℕ} 0 1 = cc in omega arith)
 step-said many form said Turn.Open t e = absurd (let z : _≡_ {A = ℕ} 0 1 = cc in omega arith)
 step-said many form said Turn.Whole t e = e
 
 -- at most `most` items
-items-few : {A : Type 0} (most : ℕ) (many form : Fault) (says : List A → List ℕ → Step A) (ps : List (List ℕ)) (w : List A)
+items-few : {A : Type 0} (most : ℕ) (many form : ℕ) (says : List A → List ℕ → Step A) (ps : List (List ℕ)) (w : List A)
     → itemsFrom (lineStep most many form says) [] ps ≡ accepted w → length w ≤ most
 items-few {A} most many form says ps w =
     items-hold (lineStep most many form says) (λ v. length v ≤ most)
@@ -87,9 +85,9 @@ items-few {A} most many form says ps w =
     [] ps w zero-le
 
 -- the lines behind the names of an accepted sheet
-names-accepted : {A : Type 0} (bad : Reading A) (names : List ℕ) (k : List (List ℕ) → Reading A) (Q : List A → Type 0)
-    → ((w : List A) → bad ≡ accepted w → Q w)
-    → ((ps : List (List ℕ)) (w : List A) → k ps ≡ accepted w → Q w) → (ps : List (List ℕ)) (w : List A) → withNames bad names ps k ≡ accepted w → Q w
+names-accepted : {A : Type 0} (bad : Reading A) (names : List ℕ) (k : List (List ℕ) → Reading A) (Q : A → Type 0)
+    → ((w : A) → bad ≡ accepted w → Q w)
+    → ((ps : List (List ℕ)) (w : A) → k ps ≡ accepted w → Q w) → (ps : List (List ℕ)) (w : A) → withNames bad names ps k ≡ accepted w → Q w
 names-accepted bad names k Q o h [] w e = o w e
 names-accepted bad names k Q o h (p ∷ ps) w e = go (not (isEmpty ps) && sameBytes p names) e
   where
@@ -98,7 +96,7 @@ names-accepted bad names k Q o h (p ∷ ps) w e = go (not (isEmpty ps) && sameBy
     go false e = o w e
 
 -- a refusal accepts nothing
-refused-not : {A : Type 0} {f : Fault} {l : ℕ} {w : List A} → refused f l ≡ accepted w → ⊥
+refused-not : {A : Type 0} {f : ℕ} {l : ℕ} {w : List A} → refused f l ≡ accepted w → ⊥
 refused-not e = let z : _≡_ {A = ℕ} 0 1 = cc in omega arith
 
 -- 1. rules
@@ -132,7 +130,7 @@ pub record Kept (w : Rules) : Type 0 where
 fresh-kept : (seen : Rules) (r t : Rule) → SmallRule r → Kept seen → freshStep seen r ≡ next t → Kept (seen ++ t ∷ [])
 fresh-kept seen r t sm k e = go (anyOf (hasKey (keyOf r)) seen) refl e
   where
-    go : (b : Bool) → anyOf (hasKey (keyOf r)) seen ≡ b → cond b (stop Fault.RuleTwice) (next r) ≡ next t → Kept (seen ++ t ∷ [])
+    go : (b : Bool) → anyOf (hasKey (keyOf r)) seen ≡ b → cond b (stop 5) (next r) ≡ next t → Kept (seen ++ t ∷ [])
     go true h e = absurd (let z : _≡_ {A = ℕ} 0 1 = cc in omega arith)
     go false h e =
         let j : r ≡ t = cc in
@@ -149,10 +147,10 @@ said-kept seen line t k e = go (ruleLine line) refl e
     go (RuleLine.Good r) h e = fresh-kept seen r t (line-small line r h) k e
 
 -- a rule that a line gives is in range
-pub rule-small : (seen : Rules) (line : List ℕ) (u : Turn) (t : Rule) → next t ≡ stepAt Fault.RuleMany Fault.RuleForm (ruleSays seen line) u → SmallRule t
-rule-small seen line u t e = go (ruleLine line) refl (step-said Fault.RuleMany Fault.RuleForm (ruleSays seen line) u t (sym e))
+pub rule-small : (seen : Rules) (line : List ℕ) (u : Turn) (t : Rule) → next t ≡ stepAt 6 2 (ruleSays seen line) u → SmallRule t
+rule-small seen line u t e = go (ruleLine line) refl (step-said 6 2 (ruleSays seen line) u t (sym e))
   where
-    fresh-small : (r : Rule) → SmallRule r → (b : Bool) → cond b (stop Fault.RuleTwice) (next r) ≡ next t → SmallRule t
+    fresh-small : (r : Rule) → SmallRule r → (b : Bool) → cond b (stop 5) (next r) ≡ next t → SmallRule t
     fresh-small r sm true e = absurd (let z : _≡_ {A = ℕ} 0 1 = cc in omega arith)
     fresh-small r sm false e = let j : r ≡ t = cc in rw (← j) sm
 
@@ -166,7 +164,7 @@ rule-small seen line u t e = go (ruleLine line) refl (step-said Fault.RuleMany F
 pub rules-kept : (ps : List (List ℕ)) (w : Rules) → itemsFrom ruleStep [] ps ≡ accepted w → Kept w
 rules-kept ps w =
     items-hold ruleStep Kept
-    (λ seen p b t e k. said-kept seen p t k (step-said Fault.RuleMany Fault.RuleForm (ruleSays seen p) (turnOf 128 (length seen) p b) t e))
+    (λ seen p b t e k. said-kept seen p t k (step-said 6 2 (ruleSays seen p) (turnOf 128 (length seen) p b) t e))
     [] ps w (record { small = tt; distinct = record { one = λ p q r s e. absurd (let z : _≡_ {A = ℕ} 0 1 = cc in omega arith) } })
 
 -- 2. tokens
@@ -185,11 +183,11 @@ after-says a b = go (ltb (line a) (line b)) refl (eqb (line a) (line b)) refl
         fails (⊎-elim (λ c. omega arith) (λ c. eqb-false (line a) (line b) k (c .0)))
 
 -- refusal 15 by the test
-pub order-computed : (seen : Word) (t : Token) → orderStep seen t ≡ cond (follows seen t) (next t) (stop Fault.TokenOrder)
+pub order-computed : (seen : Word) (t : Token) → orderStep seen t ≡ cond (follows seen t) (next t) (stop 15)
 order-computed [] t = refl
 order-computed (a ∷ w) t = go (after? (last a w) t) (after (last a w) t) refl
   where
-    go : (d : Dec (After (last a w) t)) (b : Bool) → after (last a w) t ≡ b → inOrder d t ≡ cond b (next t) (stop Fault.TokenOrder)
+    go : (d : Dec (After (last a w) t)) (b : Bool) → after (last a w) t ≡ b → inOrder d t ≡ cond b (next t) (stop 15)
     go (yes h) true e = refl
     go (yes h) false e = absurd (after-says (last a w) t .isnt e h)
     go (no n) true e = absurd (n (after-says (last a w) t .is e))
@@ -211,7 +209,7 @@ pub record Placed (w : Word) : Type 0 where
 order-placed : (seen : Word) (u t : Token) → 1 ≤ width u → Placed seen → orderStep seen u ≡ next t → Placed (seen ++ t ∷ [])
 order-placed seen u t l r e = go (follows seen u) refl (sym (order-computed seen u) ∙ e)
   where
-    go : (b : Bool) → follows seen u ≡ b → cond b (next u) (stop Fault.TokenOrder) ≡ next t → Placed (seen ++ t ∷ [])
+    go : (b : Bool) → follows seen u ≡ b → cond b (next u) (stop 15) ≡ next t → Placed (seen ++ t ∷ [])
     go true h e =
         let j : u ≡ t = cc in
         rw (← j) (record { wide = every-append (λ x. 1 ≤ width x) seen (u ∷ []) (r .wide) (l, tt); rising = rising-snoc seen u (r .rising) h })
@@ -229,7 +227,7 @@ said-placed wide seen line t r e = go (tokenLine wide line) refl e
 pub tokens-placed : (wide : Bool) (ps : List (List ℕ)) (w : Word) → itemsFrom (tokenStep wide) [] ps ≡ accepted w → Placed w
 tokens-placed wide ps w =
     items-hold (tokenStep wide) Placed
-    (λ seen p b t e r. said-placed wide seen p t r (step-said Fault.TokenMany Fault.TokenForm (tokenSays wide seen p) (turnOf 64 (length seen) p b) t e))
+    (λ seen p b t e r. said-placed wide seen p t r (step-said 14 12 (tokenSays wide seen p) (turnOf 64 (length seen) p b) t e))
     [] ps w (record { wide = tt; rising = tt })
 
 last-snoc : (a : Token) (w : Word) (t : Token) → last a (w ++ t ∷ []) ≡ t
@@ -253,7 +251,7 @@ module _ (w : Rules) where
   pub finish-good : anyOf isStart w ≡ true → finish (accepted w) ≡ accepted w
   finish-good e = rw e
 
-  pub finish-none : anyOf isStart w ≡ false → finish (accepted w) ≡ refused Fault.NoStart 0
+  pub finish-none : anyOf isStart w ≡ false → finish (accepted w) ≡ refused 7 0
   finish-none e = rw e
 
 -- 4. whole sheets
@@ -266,22 +264,22 @@ pub record GoodRules (w : Rules) : Type 0 where
   pub start : anyOf isStart w ≡ true
 
 -- the end accepts what came to it
-finish-kept : (x : Reading Rule) (w : Rules) → finish x ≡ accepted w → (x ≡ accepted w) × (anyOf isStart w ≡ true)
+finish-kept : (x : Reading Rules) (w : Rules) → finish x ≡ accepted w → (x ≡ accepted w) × (anyOf isStart w ≡ true)
 finish-kept (accepted v) w e = go (anyOf isStart v) refl e
   where
-    go : (b : Bool) → anyOf isStart v ≡ b → cond b (accepted v) (refused Fault.NoStart 0) ≡ accepted w → (accepted v ≡ accepted w) × (anyOf isStart w ≡ true)
+    go : (b : Bool) → anyOf isStart v ≡ b → cond b (accepted v) (refused 7 0) ≡ accepted w → (accepted v ≡ accepted w) × (anyOf isStart w ≡ true)
     go true h e = let j : v ≡ w = cc in (e, rw j at h)
     go false h e = absurd (let z : _≡_ {A = ℕ} 0 1 = cc in omega arith)
 finish-kept (refused f l) w e = absurd (let z : _≡_ {A = ℕ} 0 1 = cc in omega arith)
 
 pub rules-good : (s : List ℕ) (w : Rules) → ruleSheet s ≡ accepted w → GoodRules w
-rules-good s w = names-accepted (refused Fault.RuleNames 1) ruleNames rulesFrom GoodRules (λ v e. absurd (refused-not e)) lines-good (pieces 10 s) w
+rules-good s w = names-accepted (refused 1 1) ruleNames rulesFrom GoodRules (λ v e. absurd (refused-not e)) lines-good (pieces 10 s) w
   where
     lines-good : (ps : List (List ℕ)) (v : Rules) → rulesFrom ps ≡ accepted v → GoodRules v
     lines-good ps v e =
         let f = finish-kept (itemsFrom ruleStep [] ps) v e in
         let k = rules-kept ps v (f .0) in
-        record { few = items-few 128 Fault.RuleMany Fault.RuleForm ruleSays ps v (f .0); small = k .small; distinct = k .distinct; start = f .1 }
+        record { few = items-few 128 6 2 ruleSays ps v (f .0); small = k .small; distinct = k .distinct; start = f .1 }
 
 -- the tokens of an accepted sheet
 pub record GoodTokens (w : Word) : Type 0 where
@@ -292,8 +290,8 @@ pub record GoodTokens (w : Word) : Type 0 where
 pub tokens-good : (s : List ℕ) (w : Word) → tokenSheet s ≡ accepted w → GoodTokens w
 tokens-good s w =
     names-accepted (wideSheet s) tokenNames (itemsFrom (tokenStep false) []) GoodTokens
-    (λ v e. names-accepted (refused Fault.TokenNames 1) wideNames (itemsFrom (tokenStep true) []) GoodTokens (λ u d. absurd (refused-not d)) (good true) (pieces 10 s) v e)
+    (λ v e. names-accepted (refused 11 1) wideNames (itemsFrom (tokenStep true) []) GoodTokens (λ u d. absurd (refused-not d)) (good true) (pieces 10 s) v e)
     (good false) (pieces 10 s) w
   where
     good : (wide : Bool) (ps : List (List ℕ)) (v : Word) → itemsFrom (tokenStep wide) [] ps ≡ accepted v → GoodTokens v
-    good wide ps v e = record { few = items-few 64 Fault.TokenMany Fault.TokenForm (tokenSays wide) ps v e; wide = tokens-placed wide ps v e .wide; rising = tokens-placed wide ps v e .rising }
+    good wide ps v e = record { few = items-few 64 14 12 (tokenSays wide) ps v e; wide = tokens-placed wide ps v e .wide; rising = tokens-placed wide ps v e .rising }

@@ -9,12 +9,14 @@ use Rattle.grammar.specs.declared.Rule.{Rule}
 use Rattle.fields.specs.Pieces.{pieces}
 use Rattle.fields.specs.Parts.{Part}
 use Rattle.sheets.specs.declared.Fault.{Fault}
+use Rattle.sheets.specs.Refusals.{numberOf}
 use Rattle.sheets.specs.declared.Outcome.{Outcome}
 use Rattle.sheets.specs.declared.Outcome.the-variants.{Accepted, Refused}
 use Rattle.sheets.specs.Items.{Reading, refused}
 use Rattle.sheets.specs.Promises.{readingOf}
 use Rattle.sheets.specs.RefusedLines.{HeldLine, ofTokens, heldBy, LinePart, Hands}
 use Rattle.sheets.specs.LinesIn.{LineIn, heldOf, secondHeld}
+use Rattle.grammar.specs.Trees.{Rules}
 
 module _ (R T r : RefT (List ℕ)) where
   -- what is held, by the outcomes
@@ -40,22 +42,22 @@ module _ (R T r : RefT (List ℕ)) where
 
 -- ---- what is held does not go by the items that were read
 
-tokens-held : {A : Type 0} (p : Outcome) (w : List A) → secondHeld p ≡ ofTokens (readingOf p w)
+tokens-held : {A : Type 0} (p : Outcome) (w : A) → secondHeld p ≡ ofTokens (readingOf p w)
 tokens-held Accepted w = refl
 tokens-held (Refused f zero) w = refl
 tokens-held (Refused f (suc n)) w = refl
 
-rules-held : {A : Type 0} (o p : Outcome) (v : List Rule) (w : List A) → heldOf o p ≡ heldBy (readingOf o v) (readingOf p w)
+rules-held : {A : Type 0} (o p : Outcome) (v : Rules) (w : A) → heldOf o p ≡ heldBy (readingOf o v) (readingOf p w)
 rules-held Accepted p v w = tokens-held p w
 rules-held (Refused f zero) p v w = refl
 rules-held (Refused f (suc n)) p v w = refl
 
-pub held-same : {A : Type 0} (o p : Outcome) (v : List Rule) (w : List A) {rules : Reading Rule} {tokens : Reading A}
+pub held-same : {A : Type 0} (o p : Outcome) (v : Rules) (w : A) {rules : Reading Rules} {tokens : Reading A}
     → readingOf o v ≡ rules → readingOf p w ≡ tokens → heldOf o p ≡ heldBy rules tokens
 held-same o p v w e f = rw (← e, ← f) (rules-held o p v w)
 
 -- a refusal's line is a line of the sheet that gives it
-pub line-in : {A : Type 0} (s : List ℕ) (o : Outcome) (w : List A) {want : Reading A} → readingOf o w ≡ want
-    → ((f : Fault) (l : ℕ) → want ≡ refused f l → l ≤ length (pieces 10 s)) → LineIn s o
+pub line-in : {A : Type 0} (s : List ℕ) (o : Outcome) (w : A) {want : Reading A} → readingOf o w ≡ want
+    → ((n l : ℕ) → want ≡ refused n l → l ≤ length (pieces 10 s)) → LineIn s o
 line-in s Accepted w e h = tt
-line-in s (Refused f l) w e h = h f l (sym e)
+line-in s (Refused f l) w e h = h (numberOf f) l (sym e)

@@ -1,4 +1,5 @@
 pub mod Numbers
+pub mod Once
 pub mod AnyOf
 pub mod Names
 pub mod Loop

@@ -14,7 +14,6 @@ use Rattle.fields.specs.Pieces.{isEmpty}
 use Rattle.fields.proofs.Lines.{line-step, line-high, line-low, more-left}
 use Rattle.lines.specs.declared.Turn.the-variants as Turn
 use Rattle.lines.specs.Turns.{turnOf}
-use Rattle.sheets.specs.declared.Fault.{Fault}
 use Rattle.sheets.specs.Items.{Step, next, stop, end, Reading, accepted, refused, stepAt, lineStep, onStep, itemsFrom}
 use Rattle.fields.specs.Cursors.{piecesFrom, lineAt, bytesLeft}
 
@@ -35,7 +34,7 @@ module _ (s : List ℕ) (at : ℕ) (low : at ≤ length s) (c : Cursor) (is : c 
   pub line-cut : piecesFrom 10 s at ≡ bytesLeft s c ∷ piecesFrom 10 s (c .end + 1)
   line-cut = subst (λ (x : Cursor). piecesFrom 10 s at ≡ bytesLeft s x ∷ piecesFrom 10 s (x .end + 1)) (sym is) (line-step s at low)
 
-module _ {A : Type 0} (most : ℕ) (many form : Fault) where
+module _ {A : Type 0} (most : ℕ) (many form : ℕ) where
   -- an item is taken only as one of `most`, and only from an ended line
   pub next-only : (n : ℕ) (said : Step A) (line : List ℕ) (ended : Bool) (t : A) → next t ≡ stepAt many form said (turnOf most n line ended) → (n < most) × (ended ≡ true)
   next-only n said line true t e = (go (leb most n) refl e, refl)
@@ -51,13 +50,13 @@ module _ {A : Type 0} (most : ℕ) (many form : Fault) where
       go false false e = let z : _≡_ {A = ℕ} 0 1 = cc in omega arith
 
 -- the loop's invariant: the first n of the array are read, and the rest of the sheet says after them what the sheet says
-pub record Filled {A : Type 0} (most : ℕ) (many form : Fault) (says : List A → List ℕ → Step A) (s : List ℕ) (start : ℕ) (arr : List A) (n at : ℕ) : Type 0 where
+pub record Filled {A : Type 0} (most : ℕ) (many form : ℕ) (says : List A → List ℕ → Step A) (s : List ℕ) (start : ℕ) (arr : List A) (n at : ℕ) : Type 0 where
   pub low : at ≤ length s
   pub few : n ≤ most
   pub long : length arr ≡ most
   pub same : itemsFrom (lineStep most many form says) [] (piecesFrom 10 s start) ≡ itemsFrom (lineStep most many form says) (take n arr) (piecesFrom 10 s at)
 
-module _ {A : Type 0} {most : ℕ} {many form : Fault} {says : List A → List ℕ → Step A} {s : List ℕ} {start : ℕ} {arr : List A} {n at : ℕ}
+module _ {A : Type 0} {most : ℕ} {many form : ℕ} {says : List A → List ℕ → Step A} {s : List ℕ} {start : ℕ} {arr : List A} {n at : ℕ}
     (T : Filled most many form says s start arr n at) where
   pub count : length (take n arr) ≡ n
   count = length-take-le n arr (omega (arith, T .few, T .long))
@@ -91,7 +90,7 @@ module _ {A : Type 0} {most : ℕ} {many form : Fault} {says : List A → List �
           same = turn ∙ rw (← h, add-one n, take-suc-set arr n t k) refl;
         }
 
-    pub stopped : {f : Fault} → stop f ≡ made → itemsFrom (lineStep most many form says) [] (piecesFrom 10 s start) ≡ refused f (n + 2)
+    pub stopped : {f : ℕ} → stop f ≡ made → itemsFrom (lineStep most many form says) [] (piecesFrom 10 s start) ≡ refused f (n + 2)
     stopped h = turn ∙ rw (← h, count) refl
 
     pub ended : end ≡ made → itemsFrom (lineStep most many form says) [] (piecesFrom 10 s start) ≡ accepted (take n arr)

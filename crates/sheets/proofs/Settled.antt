@@ -3,10 +3,10 @@ use mathlib.Core.Path.{_≡_, sym, _∙_}
 use mathlib.Core.List.{List}
 use Prim.Native.Nat.{ℕ}
 use denote.Ref.{RefT}
-use Rattle.grammar.specs.declared.Rule.{Rule}
 use Rattle.fields.specs.Parts.{Part}
 use Rattle.sheets.specs.Items.{Reading}
 use Rattle.sheets.specs.RefusedLines.{HeldLine, in-rules, in-tokens, no-line, heldBy, refusedLine, Hands}
+use Rattle.grammar.specs.Trees.{Rules}
 
 -- both point to the same byte, and hold the same bytes
 pub record SamePart (r s : RefT (List ℕ)) : Type 0 where
@@ -28,7 +28,7 @@ module _ (rules tokens r s : RefT (List ℕ)) where
   hands-settled no-line x y = part-settled x y
 
   -- whatever the sheets give
-  pub held-settled : {A : Type 0} (given : Reading Rule) (read : Reading A) → Hands rules tokens r (heldBy given read) → Hands rules tokens s (heldBy given read) → SamePart r s
+  pub held-settled : {A : Type 0} (given : Reading Rules) (read : Reading A) → Hands rules tokens r (heldBy given read) → Hands rules tokens s (heldBy given read) → SamePart r s
   held-settled given read = hands-settled (heldBy given read)
 
   pub refused-line-settled : Hands rules tokens r (refusedLine (rules .now) (tokens .now)) → Hands rules tokens s (refusedLine (rules .now) (tokens .now))

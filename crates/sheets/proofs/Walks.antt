@@ -10,15 +10,11 @@ use lib.Seq.{length-take-le}
 use lib.Dec.{leb}
 use borrow.Author.Tests.{leb-true}
 use denote.Ref.{RefT}
-use Rattle.grammar.specs.declared.Rule.{Rule}
-use Rattle.grammar.specs.declared.Token.{Token}
 use Rattle.grammar.specs.Trees.{Rules}
 use Rattle.fields.specs.declared.Cursor.{Cursor}
 use Rattle.fields.specs.Pieces.{before, pieces, isEmpty, sameBytes}
 use Rattle.fields.specs.Parts.{Part}
 use Rattle.fields.proofs.Pieces.{from-zero, pieces-first}
-use Rattle.sheets.specs.declared.Fault.{Fault}
-use Rattle.sheets.specs.declared.Fault.the-variants as Fault
 use Rattle.sheets.specs.Items.{Reading, accepted, refused, itemsFrom, withNames}
 use Rattle.sheets.specs.RuleSheets.{anyOf, isStart, ruleStep, finish, rulesFrom, ruleNames, ruleSheet}
 use Rattle.sheets.specs.TokenSheets.{tokenStep, tokenNames, wideNames, wideSheet, tokenSheet}
@@ -104,8 +100,8 @@ walk-end w is h p = record { part = rw (← fits w is h, ← (starts w is ∙ at
 -- a refusal's line is a line of the sheet, or 0
 
 pub names-line : {A : Type 0} (bad : Reading A) (names : List ℕ) (k : List (List ℕ) → Reading A)
-    → ((ps : List (List ℕ)) (f : Fault) (l : ℕ) → k ps ≡ refused f l → l ≤ 1 + length ps)
-    → (ps : List (List ℕ)) (f : Fault) (l : ℕ) → (bad ≡ refused f l → l ≤ length ps) → withNames bad names ps k ≡ refused f l → l ≤ length ps
+    → ((ps : List (List ℕ)) (f : ℕ) (l : ℕ) → k ps ≡ refused f l → l ≤ 1 + length ps)
+    → (ps : List (List ℕ)) (f : ℕ) (l : ℕ) → (bad ≡ refused f l → l ≤ length ps) → withNames bad names ps k ≡ refused f l → l ≤ length ps
 names-line bad names k h [] f l o e = o e
 names-line bad names k h (q ∷ qs) f l o e = go (not (isEmpty qs) && sameBytes q names) e
   where
@@ -114,27 +110,27 @@ names-line bad names k h (q ∷ qs) f l o e = go (not (isEmpty qs) && sameBytes 
     go false e = o e
 
 -- a sheet has a line 1
-pub first-line : {A : Type 0} (g : Fault) (s : List ℕ) (f : Fault) (l : ℕ) → _≡_ {A = Reading A} (refused g 1) (refused f l) → l ≤ length (pieces 10 s)
+pub first-line : {A : Type 0} (g : ℕ) (s : List ℕ) (f : ℕ) (l : ℕ) → _≡_ {A = Reading A} (refused g 1) (refused f l) → l ≤ length (pieces 10 s)
 first-line g s f l e = let j : 1 ≡ l = cc in omega (arith, ap length (pieces-first 10 s))
 
-pub finish-line : (x : Reading Rule) (n : ℕ) (f : Fault) (l : ℕ) → ((g : Fault) (m : ℕ) → x ≡ refused g m → m ≤ n) → finish x ≡ refused f l → l ≤ n
+pub finish-line : (x : Reading Rules) (n : ℕ) (f : ℕ) (l : ℕ) → ((g : ℕ) (m : ℕ) → x ≡ refused g m → m ≤ n) → finish x ≡ refused f l → l ≤ n
 finish-line (accepted w) n f l h e = go (anyOf isStart w) e
   where
-    go : (b : Bool) → cond b (accepted w) (refused Fault.NoStart 0) ≡ refused f l → l ≤ n
+    go : (b : Bool) → cond b (accepted w) (refused 7 0) ≡ refused f l → l ≤ n
     go true e = absurd (let z : _≡_ {A = ℕ} 0 1 = cc in omega arith)
     go false e = let j : _≡_ {A = ℕ} 0 l = cc in omega arith
 finish-line (refused g m) n f l h e = let j : m ≡ l = cc in omega (arith, h g m refl)
 
-pub rule-exists : (s : List ℕ) (f : Fault) (l : ℕ) → ruleSheet s ≡ refused f l → l ≤ length (pieces 10 s)
+pub rule-exists : (s : List ℕ) (f : ℕ) (l : ℕ) → ruleSheet s ≡ refused f l → l ≤ length (pieces 10 s)
 rule-exists s f l =
-    names-line (refused Fault.RuleNames 1) ruleNames rulesFrom
+    names-line (refused 1 1) ruleNames rulesFrom
     (λ ps f l. finish-line (itemsFrom ruleStep [] ps) (1 + length ps) f l (λ g m e. omega (arith, items-line ruleStep [] ps g m e)))
-    (pieces 10 s) f l (first-line Fault.RuleNames s f l)
+    (pieces 10 s) f l (first-line 1 s f l)
 
-pub token-exists : (s : List ℕ) (f : Fault) (l : ℕ) → tokenSheet s ≡ refused f l → l ≤ length (pieces 10 s)
+pub token-exists : (s : List ℕ) (f : ℕ) (l : ℕ) → tokenSheet s ≡ refused f l → l ≤ length (pieces 10 s)
 token-exists s f l =
     names-line (wideSheet s) tokenNames (itemsFrom (tokenStep false) []) (lines false) (pieces 10 s) f l
-    (names-line (refused Fault.TokenNames 1) wideNames (itemsFrom (tokenStep true) []) (lines true) (pieces 10 s) f l (first-line Fault.TokenNames s f l))
+    (names-line (refused 11 1) wideNames (itemsFrom (tokenStep true) []) (lines true) (pieces 10 s) f l (first-line 11 s f l))
   where
-    lines : (wide : Bool) (ps : List (List ℕ)) (f : Fault) (l : ℕ) → itemsFrom (tokenStep wide) [] ps ≡ refused f l → l ≤ 1 + length ps
+    lines : (wide : Bool) (ps : List (List ℕ)) (f : ℕ) (l : ℕ) → itemsFrom (tokenStep wide) [] ps ≡ refused f l → l ≤ 1 + length ps
     lines wide ps f l e = omega (arith, items-line (tokenStep wide) [] ps f l e)

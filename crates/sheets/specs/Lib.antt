@@ -1,5 +1,5 @@
-pub mod Refusals
 pub mod Items
+pub mod Refusals
 pub mod RuleSheets
 pub mod TokenSheets
 pub mod RefusedLines

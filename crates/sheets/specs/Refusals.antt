@@ -1,7 +1,9 @@
 -- The refusals and their numbers: 01, "Where each refusal is checked".
+use mathlib.Core.Path.{_≡_}
 use Prim.Native.Nat.{ℕ}
 use Rattle.sheets.specs.declared.Fault.{Fault}
 use Rattle.sheets.specs.declared.Fault.the-variants as Fault
+use Rattle.sheets.specs.Items.{Reading, refused}
 
 abbrev pub numberOf : Fault → ℕ
 numberOf Fault.RuleNames = 1
@@ -31,3 +33,7 @@ numberOf Fault.BadRacks = 45
 numberOf Fault.BadShare = 46
 numberOf Fault.FewWords = 21
 numberOf Fault.FewRows = 22
+
+-- the code's refusal f has the number that a sheet's refusal has; l is its line
+pub record RefusedAs {A : Type 0} (given : Reading A) (f : Fault) (l : ℕ) : Type 0 where
+  pub is : given ≡ refused (numberOf f) l

@@ -4,12 +4,12 @@ use Prim.Native.Nat.{ℕ, zero, suc, _+_}
 use mathlib.Core.List.{List, [], _∷_}
 use lib.ListN.{length, getD}
 use denote.Ref.{RefT}
-use Rattle.grammar.specs.declared.Rule.{Rule}
 use Rattle.fields.specs.Pieces.{pieces}
 use Rattle.fields.specs.Parts.{Part}
 use Rattle.sheets.specs.Items.{Reading, accepted, refused}
 use Rattle.sheets.specs.RuleSheets.{ruleSheet}
 use Rattle.sheets.specs.TokenSheets.{tokenSheet}
+use Rattle.grammar.specs.Trees.{Rules}
 
 -- the sheet that holds the refused line, and how many lines stand before it there; or there is no such line
 pub data HeldLine : Type 0 where
@@ -23,13 +23,13 @@ ofTokens (accepted w) = no-line
 ofTokens (refused f zero) = no-line
 ofTokens (refused f (suc n)) = in-tokens n
 
-abbrev pub ofRules : Reading Rule → HeldLine → HeldLine
+abbrev pub ofRules : Reading Rules → HeldLine → HeldLine
 ofRules (accepted w) tokens = tokens
 ofRules (refused f zero) tokens = no-line
 ofRules (refused f (suc n)) tokens = in-rules n
 
 -- the sheet with the rules is read first; they give this
-abbrev pub heldBy : {A : Type 0} → Reading Rule → Reading A → HeldLine
+abbrev pub heldBy : {A : Type 0} → Reading Rules → Reading A → HeldLine
 heldBy rules tokens = ofRules rules (ofTokens tokens)
 
 -- the refused line of a rule sheet and a token sheet

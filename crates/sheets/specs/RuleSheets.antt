@@ -11,7 +11,6 @@ use Rattle.lines.specs.declared.RuleLine.the-variants as RuleLine
 use Rattle.lines.specs.RuleLines.{ruleLine}
 use Rattle.lines.specs.declared.Key.{Key}
 use Rattle.lines.specs.Keys.{keyOf, sameKey}
-use Rattle.sheets.specs.declared.Fault.the-variants as Fault
 use Rattle.sheets.specs.Items.{Reading, accepted, refused, Step, next, stop, end, lineStep, itemsFrom, withNames}
 
 -- a rule has the key
@@ -29,14 +28,14 @@ anyOf p (x ∷ xs) = p x || anyOf p xs
 
 -- 5: an earlier line has the same left, kind, first and second, under any lay; of kind A, the same left and a terminal of this one
 abbrev pub freshStep : Rules → Rule → Step Rule
-freshStep seen r = cond (anyOf (hasKey (keyOf r)) seen) (stop Fault.RuleTwice) (next r)
+freshStep seen r = cond (anyOf (hasKey (keyOf r)) seen) (stop 5) (next r)
 
 -- 2, 3, 4, 44, 5
 abbrev pub ruleSaid : Rules → RuleLine → Step Rule
-ruleSaid seen RuleLine.Form = stop Fault.RuleForm
-ruleSaid seen RuleLine.Range = stop Fault.RuleRange
-ruleSaid seen RuleLine.Unfit = stop Fault.RuleLay
-ruleSaid seen RuleLine.Reversed = stop Fault.RuleReversed
+ruleSaid seen RuleLine.Form = stop 2
+ruleSaid seen RuleLine.Range = stop 3
+ruleSaid seen RuleLine.Unfit = stop 4
+ruleSaid seen RuleLine.Reversed = stop 44
 ruleSaid seen (RuleLine.Good r) = freshStep seen r
 
 abbrev pub ruleSays : Rules → List ℕ → Step Rule
@@ -44,15 +43,15 @@ ruleSays seen line = ruleSaid seen (ruleLine line)
 
 -- a rule line after the rules seen: 6 (a 129th rule), then 2, 3, 4, 44, 5
 abbrev pub ruleStep : Rules → List ℕ → Bool → Step Rule
-ruleStep = lineStep 128 Fault.RuleMany Fault.RuleForm ruleSays
+ruleStep = lineStep 128 6 2 ruleSays
 
 -- at the end: 7 (no rule has left 0)
-abbrev pub finish : Reading Rule → Reading Rule
-finish (accepted w) = cond (anyOf isStart w) (accepted w) (refused Fault.NoStart 0)
+abbrev pub finish : Reading Rules → Reading Rules
+finish (accepted w) = cond (anyOf isStart w) (accepted w) (refused 7 0)
 finish (refused f l) = refused f l
 
 -- the rule lines, then the end
-abbrev pub rulesFrom : List (List ℕ) → Reading Rule
+abbrev pub rulesFrom : List (List ℕ) → Reading Rules
 rulesFrom ps = finish (itemsFrom ruleStep [] ps)
 
 -- left kind first second lay
@@ -62,5 +61,5 @@ ruleNames =
     ∷ 108 ∷ 97 ∷ 121 ∷ []
 
 -- 1, then line by line, then 7
-abbrev pub ruleSheet : List ℕ → Reading Rule
-ruleSheet s = withNames (refused Fault.RuleNames 1) ruleNames (pieces 10 s) rulesFrom
+abbrev pub ruleSheet : List ℕ → Reading Rules
+ruleSheet s = withNames (refused 1 1) ruleNames (pieces 10 s) rulesFrom

@@ -9,13 +9,12 @@ use Rattle.fields.specs.Pieces.{pieces}
 use Rattle.lines.specs.declared.TokenLine.{TokenLine}
 use Rattle.lines.specs.declared.TokenLine.the-variants as TokenLine
 use Rattle.lines.specs.TokenLines.{tokenLine}
-use Rattle.sheets.specs.declared.Fault.the-variants as Fault
 use Rattle.sheets.specs.Items.{Reading, refused, Step, next, stop, lineStep, itemsFrom, withNames}
 
 -- 15: not after the token before
 abbrev pub inOrder : {P : Type 0} → Dec P → Token → Step Token
 inOrder (yes h) t = next t
-inOrder (no n) t = stop Fault.TokenOrder
+inOrder (no n) t = stop 15
 
 -- the first token may stand anywhere
 abbrev pub orderStep : Word → Token → Step Token
@@ -24,9 +23,9 @@ orderStep (a ∷ w) t = inOrder (after? (last a w) t) t
 
 -- 12, 13, 47, 15
 abbrev pub tokenSaid : Word → TokenLine → Step Token
-tokenSaid seen TokenLine.Form = stop Fault.TokenForm
-tokenSaid seen TokenLine.Range = stop Fault.TokenRange
-tokenSaid seen TokenLine.Width = stop Fault.TokenWidth
+tokenSaid seen TokenLine.Form = stop 12
+tokenSaid seen TokenLine.Range = stop 13
+tokenSaid seen TokenLine.Width = stop 47
 tokenSaid seen (TokenLine.Good t) = orderStep seen t
 
 abbrev pub tokenSays : Bool → Word → List ℕ → Step Token
@@ -34,7 +33,7 @@ tokenSays wide seen line = tokenSaid seen (tokenLine wide line)
 
 -- a token line after the tokens seen: 14 (a 65th token), then 12, 13, 47, 15; `wide`: the names have `width`
 abbrev pub tokenStep : Bool → Word → List ℕ → Bool → Step Token
-tokenStep wide = lineStep 64 Fault.TokenMany Fault.TokenForm (tokenSays wide)
+tokenStep wide = lineStep 64 14 12 (tokenSays wide)
 
 -- term line col
 abbrev pub tokenNames : List ℕ
@@ -45,9 +44,9 @@ abbrev pub wideNames : List ℕ
 wideNames = 116 ∷ 101 ∷ 114 ∷ 109 ∷ 32 ∷ 108 ∷ 105 ∷ 110 ∷ 101 ∷ 32 ∷ 99 ∷ 111 ∷ 108 ∷ 32 ∷ 119 ∷ 105 ∷ 100 ∷ 116 ∷ 104 ∷ []
 
 -- 11, then line by line, with widths
-abbrev pub wideSheet : List ℕ → Reading Token
-wideSheet s = withNames (refused Fault.TokenNames 1) wideNames (pieces 10 s) (itemsFrom (tokenStep true) [])
+abbrev pub wideSheet : List ℕ → Reading Word
+wideSheet s = withNames (refused 11 1) wideNames (pieces 10 s) (itemsFrom (tokenStep true) [])
 
 -- the old names, then line by line, with width 1; or the names with `width`
-abbrev pub tokenSheet : List ℕ → Reading Token
+abbrev pub tokenSheet : List ℕ → Reading Word
 tokenSheet s = withNames (wideSheet s) tokenNames (pieces 10 s) (itemsFrom (tokenStep false) [])

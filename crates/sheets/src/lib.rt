@@ -196,7 +196,7 @@ fn rule_said(s: &[u8], c: Cursor, rules: [Rule; 128], n: usize) -> RuleStep
 // What the cursor's line gives after the first n rules.
 fn rule_step(s: &[u8], c: Cursor, rules: [Rule; 128], n: usize) -> RuleStep
     requires { ⌜ (c .at ≤ c .end) × (c .end ≤ length (now s)) × (n ≤ 128) ⌝ }
-    ensures { λ r. ⌜ asRuleStep r ≡ stepAt Fault.RuleMany Fault.RuleForm (ruleSays (take n rules) (bytesLeft (now (s .entry)) c)) (turnOf 128 n (bytesLeft (now (s .entry)) c) (ltb (c .end) (length (now (s .entry))))) ⌝ }
+    ensures { λ r. ⌜ asRuleStep r ≡ stepAt 6 2 (ruleSays (take n rules) (bytesLeft (now (s .entry)) c)) (turnOf 128 n (bytesLeft (now (s .entry)) c) (ltb (c .end) (length (now (s .entry))))) ⌝ }
 {
     match lines::turn_at(s, c, n, 128) {
         Turn::End => RuleStep::End,
@@ -208,7 +208,7 @@ fn rule_step(s: &[u8], c: Cursor, rules: [Rule; 128], n: usize) -> RuleStep
 
 // A refused rule sheet.
 pub fn refuse_rules(rules: [Rule; 128], f: Fault, line: usize) -> GrammarRead
-    ensures { λ r. ⌜ RulesRead r (refused f line) ⌝ }
+    ensures { λ r. ⌜ RulesRead r (refused (numberOf f) line) ⌝ }
 {
     let index = no_lengths();
     GrammarRead {
@@ -244,7 +244,7 @@ pub struct Added {
 // The cursor's line after the rules of a book: its rule is appended, and a line that gives none leaves the book as it was.
 fn add_line(s: &[u8], c: Cursor, book: Book) -> Added
     requires { ⌜ (c .at ≤ c .end) × (c .end ≤ length (now s)) × Booked book ⌝ }
-    ensures { λ r. ⌜ asRuleStep (r .step) ≡ stepAt Fault.RuleMany Fault.RuleForm (ruleSays (rulesOf (book .grammar)) (bytesLeft (now (s .entry)) c)) (turnOf 128 (book .grammar .count) (bytesLeft (now (s .entry)) c) (ltb (c .end) (length (now (s .entry))))) ⌝ }
+    ensures { λ r. ⌜ asRuleStep (r .step) ≡ stepAt 6 2 (ruleSays (rulesOf (book .grammar)) (bytesLeft (now (s .entry)) c)) (turnOf 128 (book .grammar .count) (bytesLeft (now (s .entry)) c) (ltb (c .end) (length (now (s .entry))))) ⌝ }
     ensures { λ r. ⌜ Adds book (r .step) (r .book) ⌝ }
 {
     let g = book.grammar;
@@ -356,7 +356,7 @@ fn token_said(s: &[u8], c: Cursor, tokens: [Token; 64], n: usize, wide: bool) ->
 // What the cursor's line gives after the first n tokens.
 fn token_step(s: &[u8], c: Cursor, tokens: [Token; 64], n: usize, wide: bool) -> TokenStep
     requires { ⌜ (c .at ≤ c .end) × (c .end ≤ length (now s)) × (n ≤ 64) ⌝ }
-    ensures { λ r. ⌜ asTokenStep r ≡ stepAt Fault.TokenMany Fault.TokenForm (tokenSays wide (take n tokens) (bytesLeft (now (s .entry)) c)) (turnOf 64 n (bytesLeft (now (s .entry)) c) (ltb (c .end) (length (now (s .entry))))) ⌝ }
+    ensures { λ r. ⌜ asTokenStep r ≡ stepAt 14 12 (tokenSays wide (take n tokens) (bytesLeft (now (s .entry)) c)) (turnOf 64 n (bytesLeft (now (s .entry)) c) (ltb (c .end) (length (now (s .entry))))) ⌝ }
 {
     match lines::turn_at(s, c, n, 64) {
         Turn::End => TokenStep::End,
@@ -377,7 +377,7 @@ fn no_tokens() -> [Token; 64] {
 
 // A refused token sheet.
 fn refuse_tokens(tokens: [Token; 64], f: Fault, line: usize) -> SentenceRead
-    ensures { λ r. ⌜ TokensRead r (refused f line) ⌝ }
+    ensures { λ r. ⌜ TokensRead r (refused (numberOf f) line) ⌝ }
 {
     SentenceRead {
         outcome: Outcome::Refused(f, line),

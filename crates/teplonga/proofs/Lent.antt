@@ -6,7 +6,6 @@ use mathlib.Core.Option.{Option, none, some}
 use Prim.Native.Nat.{ℕ, _*_, _-_}
 use native.Mathlib.Omega.{arith}
 use lib.ListN.{length, take, replicate}
-use Rattle.grammar.specs.declared.Rule.{Rule}
 use Rattle.grammar.specs.Layout.{Word}
 use Rattle.grammar.specs.Trees.{Tree, Rules}
 use Rattle.grammar.specs.Distinct.{Distinct}
@@ -25,7 +24,8 @@ use Rattle.teplonga.specs.Trees.{treesReplyOf, Shown, treeless, single, 
 use Rattle.teplonga.specs.Sweep.{SweepTaken, SweepBy}
 use Rattle.teplonga.specs.Sweep as Sweep
 use Rattle.teplonga.specs.Lists.{listReply, ListOn}
-use Rattle.teplonga.proofs.Settled.{Apart, apart, same-sheets, same-refusal, shown-settled}
+use Rattle.sheets.proofs.Once.{apart, same-refusal}
+use Rattle.teplonga.proofs.Settled.{Apart, same-sheets, shown-settled}
 use Rattle.teplonga.proofs.SweepSettled.{sweep-settled}
 
 -- 1. the trees
@@ -81,7 +81,7 @@ module _ {ws vs : List ℕ} (e : length ws ≡ length vs) where
   taken-moved : {g : Rules} {k : ℕ} → SweepTaken g k ws → SweepTaken g k vs
   taken-moved t = record { low = t .low; high = t .high; few = t .few; enough = omega (arith, t .enough) }
 
-  pub sweep-reply : {given : Reading Rule} {k : ℕ} {a b : List ℕ} {r s : SweepReply} → SweepBy given k ws a r → SweepBy given k vs b s → r ≡ s
+  pub sweep-reply : {given : Reading Rules} {k : ℕ} {a b : List ℕ} {r s : SweepReply} → SweepBy given k ws a r → SweepBy given k vs b s → r ≡ s
   sweep-reply (Sweep.refusing d x h) y = sweep-settled (Sweep.refusing d x refl) y .0
   sweep-reply (Sweep.reading d (Sweep.bound l n x h)) y = sweep-settled (Sweep.reading d (Sweep.bound l n x refl)) y .0
   sweep-reply (Sweep.reading d (Sweep.many l u m n x h)) y = sweep-settled (Sweep.reading d (Sweep.many l u m n x refl)) y .0

@@ -20,24 +20,22 @@ use Rattle.grammar.proofs.SweepLaws.{answer-unique}
 use Rattle.sheets.specs.declared.Fault.{Fault}
 use Rattle.sheets.specs.Refusals.{numberOf}
 use Rattle.sheets.proofs.Numbers.{same-fault}
-use Rattle.sheets.specs.Items.{Reading}
-use Rattle.sheets.specs.Items as Sheet
+use Rattle.sheets.specs.Items.{Reading, accepted, refused}
+use Rattle.sheets.proofs.Once.{never-both, apart, same-items, same-refusal}
 use Rattle.sheets.specs.RuleSheets.{ruleSheet}
 use Rattle.sheets.specs.TokenSheets.{tokenSheet}
 use Rattle.sheets.proofs.Accepted.{rules-good}
-use Rattle.grammar.specs.declared.Rule.{Rule}
-use Rattle.grammar.specs.declared.Token.{Token}
 use Rattle.spans.proofs.Uniqueness.{sheet-same}
 use Rattle.teplonga.specs.declared.Answer.{Answer}
 use Rattle.teplonga.specs.declared.Answer.the-variants as Answer
 use Rattle.teplonga.specs.declared.Reply.{Reply}
-use Rattle.teplonga.specs.Answers.{Sheets, accepted, refused, withTokens, withRules, sheets, AnswerHolds}
+use Rattle.teplonga.specs.Answers.{Sheets, withTokens, withRules, sheets, AnswerHolds}
 use Rattle.teplonga.specs.declared.TreesReply.{TreesReply}
 use Rattle.teplonga.specs.Verdict.{needed, SheetFilled, VerdictOn, short, judging, VerdictBy, refusing, reading}
 use Rattle.teplonga.specs.Trees.{treesReplyOf, Shown, treeless, single, both, large-one, large-two, TreesOn, TreesBy}
 use Rattle.teplonga.specs.Trees as Trees
 use Rattle.grammar.specs.Rows.{rowCount}
-use Rattle.derivation.specs.Written.{places, filled}
+use Rattle.derivation.specs.Written.{rowRoom, filled}
 use mathlib.Core.Option.{none, some}
 use Rattle.grammar.proofs.ChoiceLaws.{first-unique, second-tree-unique}
 use Rattle.grammar.specs.Distinct.{Distinct}
@@ -81,14 +79,19 @@ filled-same {g} {w} {ws} {a} {b} p q x y =
 
 -- 3. the verdict
 
-pub apart : {o : Sheets} {f : Fault} {l : ℕ} {g : Rules} {w : Word} → o ≡ refused f l → o ≡ accepted g w → ⊥
-apart e d = let z : _≡_ {A = ℕ} 0 1 = cc in omega arith
+pub same-sheets : {o : Sheets} {g g′ : Rules} {w w′ : Word} → o ≡ accepted (g, w) → o ≡ accepted (g′, w′) → (g ≡ g′) × (w ≡ w′)
+same-sheets e d = let z = same-items e d in (ap (λ (p : Rules × Word). p .0) z, ap (λ (p : Rules × Word). p .1) z)
 
-pub same-sheets : {o : Sheets} {g g′ : Rules} {w w′ : Word} → o ≡ accepted g w → o ≡ accepted g′ w′ → (g ≡ g′) × (w ≡ w′)
-same-sheets e d = (cc, cc)
-
-pub same-refusal : {o : Sheets} {f f′ : Fault} {l l′ : ℕ} → o ≡ refused f l → o ≡ refused f′ l′ → (f ≡ f′) × (l ≡ l′)
-same-refusal e d = (cc, cc)
+-- both sheets are accepted: the rules are the first sheet's, the word is the token sheet's
+pub both-sheets : (o : Reading Rules) (tokens : List ℕ) (g : Rules) (w : Word) → withRules o tokens ≡ accepted (g, w) → (o ≡ accepted g) × (tokenSheet tokens ≡ accepted w)
+both-sheets (refused n l) tokens g w e = absurd (never-both refl e)
+both-sheets (accepted h) tokens g w e = go (tokenSheet tokens) e
+  where
+    go : (q : Reading Word) → withTokens h q ≡ accepted (g, w) → (accepted h ≡ accepted g) × (q ≡ accepted w)
+    go (refused n l) d = absurd (never-both refl d)
+    go (accepted v) d =
+        let z = same-items refl d in
+        (ap (λ (p : Rules × Word). accepted (p .0)) z, ap (λ (p : Rules × Word). accepted (p .1)) z)
 
 verdict-on : (g : Rules) (w : Word) {ws a b : List ℕ} {r s : Reply} → Words a → Words b → VerdictOn g w ws a r → VerdictOn g w ws b s → (r ≡ s) × (a ≡ b)
 verdict-on g w p q (short {f = f} l n x h) (short {f = f′} m o y k) =
@@ -119,11 +122,11 @@ Same a b c d r s = (r ≡ s) × ((a ≡ b) × (c ≡ d))
 
 module _ (g : Rules) (w : Word) (one two : List ℕ) where
   -- the trees of one answer fit both times or neither
-  never-one : {t t′ : Tree} → FirstTree g 0 w t → FirstTree g 0 w t′ → rowCount t ≤ places one → places one < rowCount t′ → ⊥
+  never-one : {t t′ : Tree} → FirstTree g 0 w t → FirstTree g 0 w t′ → rowCount t ≤ rowRoom one → rowRoom one < rowCount t′ → ⊥
   never-one {t} {t′} a b h k = let e : t ≡ t′ = first-unique a b in omega (arith, ap rowCount e)
 
   never-two : Distinct g → {t t′ u u′ : Tree} → FirstTree g 0 w t → FirstTree g 0 w t′ → SecondTree g 0 w u → SecondTree g 0 w u′
-      → rowCount t ≤ places one → rowCount u ≤ places two → (places one < rowCount t′) ⊎ (places two < rowCount u′) → ⊥
+      → rowCount t ≤ rowRoom one → rowCount u ≤ rowRoom two → (rowRoom one < rowCount t′) ⊎ (rowRoom two < rowCount u′) → ⊥
   never-two d {t} {t′} {u} {u′} a b c e h k l =
       let p : t ≡ t′ = first-unique a b in
       let q : u ≡ u′ = second-tree-unique d c e in
@@ -175,15 +178,10 @@ trees-on g w {one = one} {two = two} D p q (Trees.showing h x) (Trees.showing k 
 
 -- the rules that sheets give are distinct: what refusal 5 sees to
 pub record Apart (given : Sheets) : Type 0 where
-  pub distinct : (g : Rules) (w : Word) → given ≡ accepted g w → Distinct g
+  pub distinct : (g : Rules) (w : Word) → given ≡ accepted (g, w) → Distinct g
 
-pub apart-of : (o : Reading Rule) (tokens : List ℕ) → ((g : Rules) → o ≡ Sheet.accepted g → Distinct g) → Apart (withRules o tokens)
-apart-of (Sheet.refused f l) tokens d = record { distinct = λ g w e. absurd (apart refl e) }
-apart-of (Sheet.accepted h) tokens d = record { distinct = λ g w e. subst Distinct (inner g w (tokenSheet tokens) e) (d h refl) }
-  where
-    inner : (g : Rules) (w : Word) (q : Reading Token) → withTokens h q ≡ accepted g w → h ≡ g
-    inner g w (Sheet.accepted v) e = cc
-    inner g w (Sheet.refused f l) e = absurd (apart refl e)
+pub apart-of : (o : Reading Rules) (tokens : List ℕ) → ((g : Rules) → o ≡ accepted g → Distinct g) → Apart (withRules o tokens)
+apart-of o tokens d = record { distinct = λ g w e. d g (both-sheets o tokens g w e .0) }
 
 pub sheets-apart : (rules tokens : List ℕ) → Apart (sheets rules tokens)
 sheets-apart rules tokens = apart-of (ruleSheet rules) tokens (λ g e. rules-good rules g e .distinct)

@@ -16,12 +16,13 @@ use Rattle.grammar.specs.SpanSheet.{pairs}
 use Rattle.grammar.proofs.Existence.{FirstOf, first-of-derives, two-iff-second}
 use Rattle.derivation.specs.declared.Counts.{Counts}
 use Rattle.nodes.specs.Wanted.{Wanted}
-use Rattle.derivation.specs.Written.{places, Written}
+use Rattle.derivation.specs.Written.{rowRoom}
 use Rattle.sheets.specs.declared.Fault.the-variants as Fault
 use Rattle.teplonga.specs.declared.Answer.the-variants as Answer
 use Rattle.teplonga.specs.Counted.{counted}
 use Rattle.teplonga.specs.Trees.{treesReplyOf, Shown, treeless, single, both, large-one, large-two, TreesOn, short}
 use Rattle.grammar.specs.Distinct.{Distinct}
+use Rattle.derivation.specs.Memories.{Written}
 
 pub too-few : (g : Rules) (w : Word) (n : ℕ) (ws one two : List ℕ) → length w ≡ n → length ws < 2 * pairs n → TreesOn g w ws ws one one two two (treesReplyOf (Answer.Refused Fault.FewWords) 0 0 0)
 too-few g w n ws one two e h = short (omega (arith, ap pairs e)) refl refl refl refl refl
@@ -47,22 +48,22 @@ module _ (g : Rules) (w : Word) where
         treeless p (ap (counted Answer.None) (y .2)) (y .0) (y .1)
 
     pub shown-one : {t : Tree} → OneTree g 0 w → FirstTree g 0 w t → Written (some t) none one two one′ two′ c → Shown g w one one′ two two′ (counted Answer.One c)
-    shown-one {t} p f x = go (decLe (rowCount t) (places one))
+    shown-one {t} p f x = go (decLe (rowCount t) (rowRoom one))
       where
-        go : Dec (rowCount t ≤ places one) → Shown g w one one′ two two′ (counted Answer.One c)
+        go : Dec (rowCount t ≤ rowRoom one) → Shown g w one one′ two two′ (counted Answer.One c)
         go (yes h) = let y = x .fits h (omega arith) in single p f h (ap (counted Answer.One) (y .2)) (y .0) (y .1)
         go (no h) =
-            let l : places one < rowCount t = omega arith in
+            let l : rowRoom one < rowCount t = omega arith in
             let y = x .short (inl l) in
             large-one p f l refl (ap (counted Answer.One) (y .2)) (y .0) (y .1)
 
     pub shown-two : {t u : Tree} → TwoTrees g 0 w → FirstTree g 0 w t → SecondTree g 0 w u → Written (some t) (some u) one two one′ two′ c → Shown g w one one′ two two′ (counted Answer.Two c)
-    shown-two {t} {u} p f s x = go (decLe (rowCount t) (places one)) (decLe (rowCount u) (places two))
+    shown-two {t} {u} p f s x = go (decLe (rowCount t) (rowRoom one)) (decLe (rowCount u) (rowRoom two))
       where
-        large : (places one < rowCount t) ⊎ (places two < rowCount u) → Shown g w one one′ two two′ (counted Answer.Two c)
+        large : (rowRoom one < rowCount t) ⊎ (rowRoom two < rowCount u) → Shown g w one one′ two two′ (counted Answer.Two c)
         large l = let y = x .short l in large-two p f s l refl (ap (counted Answer.Two) (y .2)) (y .0) (y .1)
 
-        go : Dec (rowCount t ≤ places one) → Dec (rowCount u ≤ places two) → Shown g w one one′ two two′ (counted Answer.Two c)
+        go : Dec (rowCount t ≤ rowRoom one) → Dec (rowCount u ≤ rowRoom two) → Shown g w one one′ two two′ (counted Answer.Two c)
         go (yes h) (yes k) = let y = x .fits h k in both p f s h k (ap (counted Answer.Two) (y .2)) (y .0) (y .1)
         go (yes h) (no k) = large (inr (omega arith))
         go (no h) k = large (inl (omega arith))

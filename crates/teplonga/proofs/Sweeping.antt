@@ -16,7 +16,8 @@ use Rattle.sweeping.specs.Swept as Swept
 use Rattle.teplonga.specs.declared.Answer.{Answer}
 use Rattle.teplonga.specs.declared.Answer.the-variants as Answer
 use Rattle.teplonga.specs.declared.SweepReply.{SweepReply}
-use Rattle.teplonga.specs.Sweep.{sweepReplyOf, SweepTaken, SweepOn, clear, two}
+use Rattle.teplonga.specs.Sweep.{sweepReplyOf, SweepTaken, clear, two}
+use Rattle.teplonga.specs.SweepReplies.{SweepOn}
 use Rattle.grammar.specs.Sentences.{no-token}
 use Rattle.sweeping.specs.Cleared.{cleared}
 

@@ -7,3 +7,4 @@ pub mod Lists
 pub mod Told
 pub mod ListReplies
 pub mod SweepReplies
+pub mod WithoutIndex

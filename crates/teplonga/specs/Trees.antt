@@ -9,13 +9,14 @@ use Rattle.grammar.specs.Layout.{Word}
 use Rattle.grammar.specs.Trees.{Tree, Rules, NoTree, OneTree, TwoTrees}
 use Rattle.grammar.specs.Choices.{FirstTree, SecondTree}
 use Rattle.grammar.specs.Rows.{rowCount}
-use Rattle.derivation.specs.Written.{places, filled}
+use Rattle.derivation.specs.Written.{rowRoom, filled}
+use Rattle.sheets.specs.Items.{accepted}
 use Rattle.sheets.specs.declared.Fault.{Fault}
-use Rattle.sheets.specs.Refusals.{numberOf}
+use Rattle.sheets.specs.Refusals.{numberOf, RefusedAs}
 use Rattle.teplonga.specs.declared.Answer.{Answer}
 use Rattle.teplonga.specs.declared.Answer.the-variants as Answer
 use Rattle.teplonga.specs.declared.TreesReply.{TreesReply}
-use Rattle.teplonga.specs.Answers.{Sheets, accepted, refused, sheets}
+use Rattle.teplonga.specs.Answers.{Sheets, sheets}
 use Rattle.teplonga.specs.Verdict.{needed, SheetFilled}
 
 abbrev pub treesReplyOf : Answer → ℕ → ℕ → ℕ → TreesReply
@@ -27,15 +28,15 @@ pub data Shown (g : Rules) (w : Word) (one one′ two two′ : List ℕ) (r : Tr
   treeless : NoTree g 0 w
       → r ≡ treesReplyOf Answer.None 0 0 0 → one′ ≡ filled one none → two′ ≡ filled two none → Shown g w one one′ two two′ r
   -- one: the first tree, and the second memory 0
-  single : {t : Tree} → OneTree g 0 w → FirstTree g 0 w t → rowCount t ≤ places one
+  single : {t : Tree} → OneTree g 0 w → FirstTree g 0 w t → rowCount t ≤ rowRoom one
       → r ≡ treesReplyOf Answer.One 0 (rowCount t) 0 → one′ ≡ filled one (some t) → two′ ≡ filled two none → Shown g w one one′ two two′ r
   -- two: the first and the second tree
-  both : {t u : Tree} → TwoTrees g 0 w → FirstTree g 0 w t → SecondTree g 0 w u → rowCount t ≤ places one → rowCount u ≤ places two
+  both : {t u : Tree} → TwoTrees g 0 w → FirstTree g 0 w t → SecondTree g 0 w u → rowCount t ≤ rowRoom one → rowCount u ≤ rowRoom two
       → r ≡ treesReplyOf Answer.Two 0 (rowCount t) (rowCount u) → one′ ≡ filled one (some t) → two′ ≡ filled two (some u) → Shown g w one one′ two two′ r
   -- a tree of the answer has more rows than its memory has whole four-byte places: both memories 0
-  large-one : {t : Tree} {f : Fault} → OneTree g 0 w → FirstTree g 0 w t → places one < rowCount t → numberOf f ≡ 22
+  large-one : {t : Tree} {f : Fault} → OneTree g 0 w → FirstTree g 0 w t → rowRoom one < rowCount t → numberOf f ≡ 22
       → r ≡ treesReplyOf (Answer.Refused f) 0 0 0 → one′ ≡ filled one none → two′ ≡ filled two none → Shown g w one one′ two two′ r
-  large-two : {t u : Tree} {f : Fault} → TwoTrees g 0 w → FirstTree g 0 w t → SecondTree g 0 w u → (places one < rowCount t) ⊎ (places two < rowCount u) → numberOf f ≡ 22
+  large-two : {t u : Tree} {f : Fault} → TwoTrees g 0 w → FirstTree g 0 w t → SecondTree g 0 w u → (rowRoom one < rowCount t) ⊎ (rowRoom two < rowCount u) → numberOf f ≡ 22
       → r ≡ treesReplyOf (Answer.Refused f) 0 0 0 → one′ ≡ filled one none → two′ ≡ filled two none → Shown g w one one′ two two′ r
 
 -- the answer on rules and a word that both sheets give
@@ -49,9 +50,9 @@ pub data TreesOn (g : Rules) (w : Word) (words words′ one one′ two two′ : 
 -- what a call answers where both sheets give this, and what it leaves of the lent words and of both tree memories
 pub data TreesBy (given : Sheets) (words words′ one one′ two two′ : List ℕ) (r : TreesReply) : Type 0 where
   -- a refused sheet: nothing changes
-  refusing : {f : Fault} {l : ℕ} → given ≡ refused f l
+  refusing : {f : Fault} {l : ℕ} → RefusedAs given f l
       → r ≡ treesReplyOf (Answer.Refused f) l 0 0 → words′ ≡ words → one′ ≡ one → two′ ≡ two → TreesBy given words words′ one one′ two two′ r
-  reading : {g : Rules} {w : Word} → given ≡ accepted g w → TreesOn g w words words′ one one′ two two′ r → TreesBy given words words′ one one′ two two′ r
+  reading : {g : Rules} {w : Word} → given ≡ accepted (g, w) → TreesOn g w words words′ one one′ two two′ r → TreesBy given words words′ one one′ two two′ r
 
 -- the call on a rule sheet and a token sheet
 abbrev pub TreesOf : (rules tokens words words′ one one′ two two′ : List ℕ) (r : TreesReply) → Type 0

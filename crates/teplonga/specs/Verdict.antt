@@ -6,12 +6,13 @@ use lib.ListN.{length, drop}
 use Rattle.grammar.specs.Layout.{Word}
 use Rattle.grammar.specs.Trees.{Rules}
 use Rattle.grammar.specs.SpanSheet.{pairs, SpanSheet}
+use Rattle.sheets.specs.Items.{accepted}
 use Rattle.sheets.specs.declared.Fault.{Fault}
-use Rattle.sheets.specs.Refusals.{numberOf}
+use Rattle.sheets.specs.Refusals.{numberOf, RefusedAs}
 use Rattle.teplonga.specs.declared.Answer.{Answer}
 use Rattle.teplonga.specs.declared.Answer.the-variants as Answer
 use Rattle.teplonga.specs.declared.Reply.{Reply}
-use Rattle.teplonga.specs.Answers.{Sheets, accepted, refused, sheets, AnswerHolds}
+use Rattle.teplonga.specs.Answers.{Sheets, sheets, AnswerHolds}
 
 -- the words that w's span sheet needs
 abbrev pub needed : Word → ℕ
@@ -33,8 +34,8 @@ pub data VerdictOn (g : Rules) (w : Word) (words words′ : List ℕ) (r : Reply
 -- what a call answers where both sheets give this, and what it leaves of the lent words
 pub data VerdictBy (given : Sheets) (words words′ : List ℕ) (r : Reply) : Type 0 where
   -- a refused sheet: its number and line; no word changes
-  refusing : {f : Fault} {l : ℕ} → given ≡ refused f l → r ≡ record { answer = Answer.Refused f; line = l } → words′ ≡ words → VerdictBy given words words′ r
-  reading : {g : Rules} {w : Word} → given ≡ accepted g w → VerdictOn g w words words′ r → VerdictBy given words words′ r
+  refusing : {f : Fault} {l : ℕ} → RefusedAs given f l → r ≡ record { answer = Answer.Refused f; line = l } → words′ ≡ words → VerdictBy given words words′ r
+  reading : {g : Rules} {w : Word} → given ≡ accepted (g, w) → VerdictOn g w words words′ r → VerdictBy given words words′ r
 
 -- the call on a rule sheet and a token sheet
 abbrev pub VerdictOf : (rules tokens words words′ : List ℕ) (r : Reply) → Type 0

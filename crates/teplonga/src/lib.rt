@@ -35,9 +35,9 @@ ghost use Rattle.teplonga.specs.Told.{told};
 ghost use Rattle.teplonga.specs.Verdict.{VerdictOn, VerdictBy, VerdictOf};
 ghost use Rattle.teplonga.specs.Counted.{counted};
 ghost use Rattle.teplonga.specs.Trees.{TreesOn, TreesBy, TreesOf};
-ghost use Rattle.teplonga.specs.Sweep.{SweepOn, SweepBy, SweepOf};
+ghost use Rattle.teplonga.specs.Sweep.{SweepBy, SweepOf};
 ghost use Rattle.teplonga.specs.Sweep as Sweep;
-ghost use Rattle.teplonga.specs.SweepReplies.{sweepRefusal};
+ghost use Rattle.teplonga.specs.SweepReplies.{sweepRefusal, SweepOn};
 ghost use Rattle.grammar.specs.Sentences.{spelled};
 ghost use Rattle.teplonga.specs.ListReplies.{onList};
 

@@ -6,7 +6,6 @@ use native.Mathlib.Omega.{arith}
 use lib.ListN.{length}
 use Rattle.grammar.specs.Layout.{Word}
 use Rattle.grammar.specs.Trees.{Rules}
-use Rattle.grammar.specs.declared.Rule.{Rule}
 use Rattle.sheets.specs.Items.{Reading}
 use Rattle.teplonga.specs.Answers.{Sheets}
 use Rattle.teplonga.specs.declared.TreesReply.{TreesReply}
@@ -15,13 +14,14 @@ use Rattle.grammar.specs.Candidates.{sentence}
 use Rattle.grammar.proofs.SweepLaws.{sentence-length}
 use Rattle.teplonga.specs.declared.SweepReply.{SweepReply}
 use Rattle.teplonga.specs.Sweep as Sweep
-use Rattle.derivation.specs.Written.{places}
+use Rattle.teplonga.specs.SweepReplies.{SweepOn}
+use Rattle.derivation.specs.Written.{rowRoom}
 use Rattle.teplonga.specs.Trees.{Shown, treeless, single, both, large-one, large-two, TreesOn, short, showing, TreesBy, refusing, reading}
 
 -- each count is at most the memory's places
 pub record Fits (one two : List ℕ) (r : TreesReply) : Type 0 where
-  pub first : r .first ≤ places one
-  pub second : r .second ≤ places two
+  pub first : r .first ≤ rowRoom one
+  pub second : r .second ≤ rowRoom two
 
 pub counted : {one two : List ℕ} {r s : TreesReply} → r ≡ s → Fits one two s → Fits one two r
 counted e f =
@@ -49,13 +49,13 @@ trees-fit (reading e s) = on-fits s
 none-few : {r s : SweepReply} → r ≡ s → s .sentence .count ≤ 7 → r .sentence .count ≤ 7
 none-few e h = omega (arith, ap (λ (x : SweepReply). x .sentence .count) e)
 
-on-few : {g : Rules} {k : ℕ} {words words′ : List ℕ} {r : SweepReply} → Sweep.SweepOn g k words words′ r → r .sentence .count ≤ 7
+on-few : {g : Rules} {k : ℕ} {words words′ : List ℕ} {r : SweepReply} → SweepOn g k words words′ r → r .sentence .count ≤ 7
 on-few (Sweep.bound l n x h) = none-few x (omega arith)
 on-few (Sweep.many l u m n x h) = none-few x (omega arith)
 on-few (Sweep.short l u m o n x h) = none-few x (omega arith)
 on-few (Sweep.clear t c q x h) = none-few x (omega arith)
 on-few (Sweep.two {cs = cs} t f c q x h) = none-few x (omega (arith, sentence-length 1 cs, f .high, t .high))
 
-pub sweep-few : {given : Reading Rule} {k : ℕ} {words words′ : List ℕ} {r : SweepReply} → Sweep.SweepBy given k words words′ r → r .sentence .count ≤ 7
+pub sweep-few : {given : Reading Rules} {k : ℕ} {words words′ : List ℕ} {r : SweepReply} → Sweep.SweepBy given k words words′ r → r .sentence .count ≤ 7
 sweep-few (Sweep.refusing e x h) = none-few x (omega arith)
 sweep-few (Sweep.reading e s) = on-few s

@@ -5,7 +5,6 @@ use mathlib.Core.Option.{Option, none, some}
 use Prim.Native.Nat.{ℕ}
 use native.Mathlib.Omega.{arith}
 use lib.ListN.{take, drop, take-append-drop}
-use Rattle.grammar.specs.declared.Rule.{Rule}
 use Rattle.grammar.specs.Sentences.{spelled}
 use Rattle.printing.specs.Printing.{Wrote}
 use Rattle.sheets.specs.Items.{Reading}
@@ -17,6 +16,7 @@ use Rattle.text.specs.Output.{answerText, head, treesText, sentenceText}
 use Rattle.text.specs.Programs.{TreesText, answered, SweepText, swept, CheckOf, SweepTextOf}
 use Rattle.text.specs.Programs as Programs
 use Rattle.text.specs.Printed.{Printed}
+use Rattle.grammar.specs.Trees.{Rules}
 
 -- 1. the answer on sheets
 
@@ -25,7 +25,7 @@ trees-text-settled d (answered l x p) (answered k y q) =
     let z = trees-reply (l .enough ∙ sym (k .enough)) (l .first ∙ sym (k .first)) (l .second ∙ sym (k .second)) d x y in
     p ∙ (λ i. head (answerText (z .0 i .answer)) (z .0 i .line) ++ treesText (z .0 i .answer) (z .1 .0 i) (z .1 .1 i)) ∙ sym q
 
-pub sweep-text-settled : {k : ℕ} {given : Reading Rule} {a b : List ℕ} → SweepText k given a → SweepText k given b → a ≡ b
+pub sweep-text-settled : {k : ℕ} {given : Reading Rules} {a b : List ℕ} → SweepText k given a → SweepText k given b → a ≡ b
 sweep-text-settled (swept l x p) (swept m y q) =
     p ∙ ap (λ (r : SweepReply). head (answerText (r .answer)) (r .line) ++ sentenceText (r .answer) (spelled (r .sentence))) (sweep-reply (l ∙ sym m) x y) ∙ sym q
 

@@ -4,7 +4,6 @@ use mathlib.Core.List.{List, _++_}
 use mathlib.Core.Option.{none, some}
 use Prim.Native.Nat.{ℕ, _*_, _≤_, _<_}
 use lib.ListN.{length, take}
-use Rattle.grammar.specs.declared.Rule.{Rule}
 use Rattle.sheets.specs.Items.{Reading}
 use Rattle.sheets.specs.RuleSheets.{ruleSheet}
 use Rattle.teplonga.specs.Answers.{Sheets, sheets}
@@ -15,6 +14,7 @@ use Rattle.teplonga.specs.Sweep.{SweepBy}
 use Rattle.text.specs.Input.{Parts, parts, boundOf}
 use Rattle.text.specs.Output.{refusedText, answerText, head, treesText, sentenceText}
 use Rattle.grammar.specs.Sentences.{spelled}
+use Rattle.grammar.specs.Trees.{Rules}
 
 -- the longest input that is read
 abbrev pub longest : ℕ
@@ -33,7 +33,7 @@ pub data TreesText (given : Sheets) (text : List ℕ) : Type 0 where
       → TreesText given text
 
 -- the answer on a bound and a sheet that gives this, and the found sentence; words enough for 7 tokens are lent
-pub data SweepText (k : ℕ) (given : Reading Rule) (text : List ℕ) : Type 0 where
+pub data SweepText (k : ℕ) (given : Reading Rules) (text : List ℕ) : Type 0 where
   swept : {words words′ : List ℕ} {r : SweepReply} → length words ≡ 58 → SweepBy given k words words′ r
       → text ≡ head (answerText (r .answer)) (r .line) ++ sentenceText (r .answer) (spelled (r .sentence))
       → SweepText k given text

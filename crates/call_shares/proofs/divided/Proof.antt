@@ -38,7 +38,7 @@ returns-4 c =
 taken-requires : tie.Need-taken-requires
 taken-requires c κs =
     let a = c .before .before .before .before .before .before .before in
-    (a .pre .0, record { size = a .pre .1; some = omega arith; most = omega arith; below = omega arith; enough = omega (arith, c .before .before .size .ensures, c .before .if4 .left) })
+    (a .pre .0, record { size = a .pre .1; least = omega arith; most = omega arith; below = omega arith; enough = omega (arith, c .before .before .size .ensures, c .before .if4 .left) })
 
 same-length : tie.Need-same-length
 same-length c = search needs

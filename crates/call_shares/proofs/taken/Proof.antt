@@ -28,7 +28,7 @@ whole c = c .all-numbers .ensures ∙ total-of _ _ (c .before .before .before .a
 begins-at-requires : tie.Need-begins-at-requires
 begins-at-requires c κs =
     let t = c .before .before .before .pre .1 in
-    (omega (arith, whole c, t .size .few), t .some, omega (arith, t .below, t .most))
+    (omega (arith, whole c, t .size .few), t .least, omega (arith, t .below, t .most))
 
 add-begins-at : tie.Need-add-begins-at
 add-begins-at c = search needs
@@ -36,7 +36,7 @@ add-begins-at c = search needs
 begins-at-requires-2 : tie.Need-begins-at-requires-2
 begins-at-requires-2 c κs =
     let t = c .before .before .before .before .pre .1 in
-    (omega (arith, whole (c .before), t .size .few), t .some, omega (arith, t .below, t .most))
+    (omega (arith, whole (c .before), t .size .few), t .least, omega (arith, t .below, t .most))
 
 share-rules-requires : tie.Need-share-rules-requires
 share-rules-requires c κs =

@@ -3,13 +3,13 @@ use Rattle.clause_sheets.specs.ClauseSheets.{clauseStep}
 use Rattle.clause_sheets.proofs.Closing.{found-refused, found-all}
 use Rattle.sheets.specs.Promises.{RulesRead}
 use Rattle.sheets.specs.Items.{Reading, itemsFrom}
-use Rattle.grammar.specs.declared.Rule.{Rule}
 use mathlib.Core.List.{[]}
 use mathlib.Core.Path.{sym, subst}
 use borrow.Author.Needs.{needs}
 use Rattle.clause_sheets.proofs.clauses_from.Statement.{statement}
 use Rattle.clause_sheets.proofs.clauses_from.Tie as tie
 use Rattle.fields.specs.Cursors.{piecesFrom}
+use Rattle.grammar.specs.Trees.{Rules}
 
 lines-check-requires : tie.Need-lines-check-requires
 lines-check-requires c κs = search needs
@@ -32,7 +32,7 @@ expand-from-requires c κs =
 
 returns : tie.Need-returns
 returns c =
-    subst (λ (x : Reading Rule). RulesRead (c .refuse-rules .result) x)
+    subst (λ (x : Reading Rules). RulesRead (c .refuse-rules .result) x)
     (sym (found-refused (itemsFrom clauseStep [] (piecesFrom 10 (c .before .before .before .before .before .before .before .args .s .now) (c .before .before .before .before .before .before .before .args .start))) _ _ _ _ (c .before .before .before .before .before .lines-check .ensures) (c .before .before .before .o .given .1))) (c .refuse-rules .ensures)
 
 returns-2 : tie.Need-returns-2

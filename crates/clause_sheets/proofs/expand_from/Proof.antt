@@ -2,7 +2,6 @@
 use mathlib.Core.Path.{_≡_, refl, sym, subst}
 use native.Mathlib.Omega.{arith}
 use borrow.Author.Needs.{needs}
-use Rattle.grammar.specs.declared.Rule.{Rule}
 use Rattle.sheets.specs.declared.GrammarRead.{GrammarRead}
 use Rattle.sheets.specs.Items.{Reading}
 use Rattle.sheets.specs.Promises.{RulesRead}
@@ -10,9 +9,10 @@ use Rattle.clause_sheets.proofs.Closing.{Walked, past-far, out-over, ou
 use Rattle.clause_sheets.proofs.expand_from.Statement.{statement}
 use Rattle.clause_sheets.proofs.expand_from.Tie as tie
 use Rattle.fields.specs.Cursors.{piecesFrom}
+use Rattle.grammar.specs.Trees.{Rules}
 
 -- a reading of the same sheet
-reads-as : {r : GrammarRead} {x y : Reading Rule} → y ≡ x → RulesRead r x → RulesRead r y
+reads-as : {r : GrammarRead} {x y : Reading Rules} → y ≡ x → RulesRead r x → RulesRead r y
 reads-as {r} e k = subst (RulesRead r) (sym e) k
 
 walked : (c : tie.After-lines-emit) → let s = c .before .before .before .before in

@@ -2,15 +2,14 @@
 use Rattle.clause_sheets.specs.ClauseSheets.{clauseNames, clausesFrom}
 use Rattle.sheets.proofs.Names.{names-good, names-other, names-open}
 use lib.Seq.{length-take-le}
-use Rattle.sheets.specs.declared.Fault.the-variants as Fault
 use Rattle.sheets.specs.Promises.{RulesRead}
 use Rattle.sheets.specs.Items.{Reading, refused}
-use Rattle.grammar.specs.declared.Rule.{Rule}
 use native.Mathlib.Omega.{arith}
 use mathlib.Core.Path.{sym, subst, _∙_}
 use borrow.Author.Needs.{needs}
 use Rattle.clause_sheets.proofs.read_clauses.Statement.{statement}
 use Rattle.clause_sheets.proofs.read_clauses.Tie as tie
+use Rattle.grammar.specs.Trees.{Rules}
 
 line-requires : tie.Need-line-requires
 line-requires c κs = search needs
@@ -33,8 +32,8 @@ clauses-from-requires c κs = search needs
 returns : tie.Need-returns
 returns c =
     let p = c .before .before .before .before .before .before in
-    subst (λ (x : Reading Rule). RulesRead (c .clauses-from .result) x)
-    (names-good (refused Fault.RuleNames 1) clauseNames (p .before .before .args .s .now) clausesFrom (p .line .result) (p .line .ensures) (c .before .before .before .before .before .if1 .taken) (sym (c .before .if2 .taken) ∙ c .before .before .same .ensures)) (c .clauses-from .ensures)
+    subst (λ (x : Reading Rules). RulesRead (c .clauses-from .result) x)
+    (names-good (refused 1 1) clauseNames (p .before .before .args .s .now) clausesFrom (p .line .result) (p .line .ensures) (c .before .before .before .before .before .if1 .taken) (sym (c .before .if2 .taken) ∙ c .before .before .same .ensures)) (c .clauses-from .ensures)
 
 no-rules-requires : tie.Need-no-rules-requires
 no-rules-requires c κs = search needs
@@ -45,8 +44,8 @@ refuse-rules-requires c κs = search needs
 returns-2 : tie.Need-returns-2
 returns-2 c =
     let p = c .before .before .before .before .before .before .before in
-    subst (λ (x : Reading Rule). RulesRead (c .refuse-rules .result) x)
-    (names-other (refused Fault.RuleNames 1) clauseNames (p .before .before .args .s .now) clausesFrom (p .line .result) (p .line .ensures) (c .before .before .before .before .before .before .if1 .taken) (sym (c .before .before .if2 .left) ∙ c .before .before .before .same .ensures)) (c .refuse-rules .ensures)
+    subst (λ (x : Reading Rules). RulesRead (c .refuse-rules .result) x)
+    (names-other (refused 1 1) clauseNames (p .before .before .args .s .now) clausesFrom (p .line .result) (p .line .ensures) (c .before .before .before .before .before .before .if1 .taken) (sym (c .before .before .if2 .left) ∙ c .before .before .before .same .ensures)) (c .refuse-rules .ensures)
 
 no-rules-requires-2 : tie.Need-no-rules-requires-2
 no-rules-requires-2 c κs = search needs
@@ -57,8 +56,8 @@ refuse-rules-requires-2 c κs = search needs
 returns-3 : tie.Need-returns-3
 returns-3 c =
     let p = c .before .before .before in
-    subst (λ (x : Reading Rule). RulesRead (c .refuse-rules2 .result) x)
-    (names-open (refused Fault.RuleNames 1) clauseNames (p .before .before .args .s .now) clausesFrom (p .line .result) (p .line .ensures) (c .before .before .if1 .left)) (c .refuse-rules2 .ensures)
+    subst (λ (x : Reading Rules). RulesRead (c .refuse-rules2 .result) x)
+    (names-open (refused 1 1) clauseNames (p .before .before .args .s .now) clausesFrom (p .line .result) (p .line .ensures) (c .before .before .if1 .left)) (c .refuse-rules2 .ensures)
 
 pub read-clauses-spec : {M : Type 1} → statement M
 read-clauses-spec =

@@ -11,6 +11,7 @@ use borrow.Author.Needs.{needs}
 use Rattle.range_sheets.proofs.finished.Statement.{statement}
 use Rattle.range_sheets.proofs.finished.Tie as tie
 use Rattle.column_ranges.specs.RangeSentences.{rangesOf}
+use mathlib.Core.List.{List}
 
 count-requires : tie.Need-count-requires
 count-requires c κs = search needs
@@ -19,7 +20,7 @@ refuse-ranges-requires : tie.Need-refuse-ranges-requires
 refuse-ranges-requires c κs = search needs
 
 returns : tie.Need-returns
-returns c = subst (λ (x : Reading RangeToken). RangesRead (c .refuse-ranges .result) x) (sym (counted-many (rangesOf (record { tokens = c .before .before .before .args .tokens; count = c .before .before .before .args .n })) (c .before .before .count .ensures .over (omega (arith, c .before .if1 .taken))))) (c .refuse-ranges .ensures)
+returns c = subst (λ (x : Reading (List RangeToken)). RangesRead (c .refuse-ranges .result) x) (sym (counted-many (rangesOf (record { tokens = c .before .before .before .args .tokens; count = c .before .before .before .args .n })) (c .before .before .count .ensures .over (omega (arith, c .before .if1 .taken))))) (c .refuse-ranges .ensures)
 
 returns-2 : tie.Need-returns-2
 returns-2 c =
@@ -30,7 +31,7 @@ returns-2 c =
       is = sym (counted-few (rangesOf (record { tokens = z .args .tokens; count = z .args .n })) h);
       spread = λ q. z .pre;
       few = λ q. h;
-      none = λ f l q. absurd (not-refused q);
+      emptied = λ f l q. absurd (not-refused q);
     }
 
 pub finished-spec : {M : Type 1} → statement M

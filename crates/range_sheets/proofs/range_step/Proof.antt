@@ -6,7 +6,6 @@ use mathlib.Core.List.{[]}
 use lib.Dec.{ltb}
 use Rattle.lines.specs.declared.Turn.{Turn}
 use Rattle.lines.specs.Turns.{turnOf}
-use Rattle.sheets.specs.declared.Fault.the-variants as Fault
 use Rattle.sheets.specs.Items.{stepAt}
 use Rattle.range_sheets.specs.RangeSheets.{rangeSays}
 use Rattle.range_sheets.proofs.range_step.Statement.{statement}
@@ -15,11 +14,11 @@ use Rattle.fields.specs.Cursors.{bytesLeft}
 
 -- what the line is
 said : (c : tie.After-turn-at) (x : Turn) → c .turn-at .result ≡ x
-    → stepAt Fault.TokenMany Fault.TokenForm (rangeSays [] (bytesLeft (c .before .before .args .s .now) (c .before .before .args .c))) x
-    ≡ stepAt Fault.TokenMany Fault.TokenForm (rangeSays [] (bytesLeft (c .before .before .args .s .now) (c .before .before .args .c))) (turnOf 64 (c .before .before .args .n) (bytesLeft (c .before .before .args .s .now) (c .before .before .args .c)) (ltb (c .before .before .args .c .end) (length (c .before .before .args .s .now))))
+    → stepAt 14 12 (rangeSays [] (bytesLeft (c .before .before .args .s .now) (c .before .before .args .c))) x
+    ≡ stepAt 14 12 (rangeSays [] (bytesLeft (c .before .before .args .s .now) (c .before .before .args .c))) (turnOf 64 (c .before .before .args .n) (bytesLeft (c .before .before .args .s .now) (c .before .before .args .c)) (ltb (c .before .before .args .c .end) (length (c .before .before .args .s .now))))
 said c x is =
     let a = c .before .before .args in
-    ap (stepAt Fault.TokenMany Fault.TokenForm (rangeSays [] (bytesLeft (a .s .now) (a .c)))) (sym is ∙ c .turn-at .ensures)
+    ap (stepAt 14 12 (rangeSays [] (bytesLeft (a .s .now) (a .c)))) (sym is ∙ c .turn-at .ensures)
 
 turn-at-requires : tie.Need-turn-at-requires
 turn-at-requires c κs = search needs

@@ -8,7 +8,6 @@ use mathlib.Core.List.{[]}
 use lib.Dec.{ltb, lit≤}
 use Rattle.lines.specs.Turns.{turnOf}
 use Rattle.range_sheets.specs.declared.RangeStep.{RangeStep}
-use Rattle.sheets.specs.declared.Fault.the-variants as Fault
 use Rattle.sheets.specs.Items.{stepAt}
 use Rattle.range_sheets.specs.RangeSheets.{rangeSays, fewChoices}
 use Rattle.range_sheets.specs.Promises.{asRangeStep}
@@ -19,14 +18,14 @@ use Rattle.range_sheets.proofs.ranges_from.Tie as tie
 use Rattle.fields.specs.Cursors.{piecesFrom, bytesLeft}
 
 abbrev Inv-loop : tie.InvT-loop
-Inv-loop s start tokens₀ n₀ at₀ tokens n at = Filled 64 Fault.TokenMany Fault.TokenForm rangeSays s start tokens n at
+Inv-loop s start tokens₀ n₀ at₀ tokens n at = Filled 64 14 12 rangeSays s start tokens n at
 
 abbrev μ-loop : tie.MeasureT-loop
 μ-loop s start tokens₀ n₀ at₀ tokens n at = length s - at
 
 -- what the line gave
 gave : (c : tie.After-range-step Inv-loop μ-loop) (x : RangeStep) → c .range-step .result ≡ x
-    → asRangeStep x ≡ stepAt Fault.TokenMany Fault.TokenForm (rangeSays [] (bytesLeft (c .before .before .before .before .before .args .s .now) (c .before .line .result))) (turnOf 64 (c .before .before .loop .n) (bytesLeft (c .before .before .before .before .before .args .s .now) (c .before .line .result)) (ltb (c .before .line .result .end) (length (c .before .before .before .before .before .args .s .now))))
+    → asRangeStep x ≡ stepAt 14 12 (rangeSays [] (bytesLeft (c .before .before .before .before .before .args .s .now) (c .before .line .result))) (turnOf 64 (c .before .before .loop .n) (bytesLeft (c .before .before .before .before .before .args .s .now) (c .before .line .result)) (ltb (c .before .line .result .end) (length (c .before .before .before .before .before .args .s .now))))
 gave c x is = ap asRangeStep (sym is) ∙ c .range-step .ensures
 
 -- it gave an item

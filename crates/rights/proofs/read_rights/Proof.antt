@@ -6,7 +6,6 @@ use native.Mathlib.Omega.{arith}
 use borrow.Author.Needs.{needs}
 use lib.ListN.{length, take}
 use lib.Seq.{length-take-le}
-use Rattle.sheets.specs.declared.Fault.the-variants as Fault
 use Rattle.sheets.specs.Items.{Reading, refused}
 use Rattle.sheets.proofs.Names.{names-good, names-other, names-open}
 use Rattle.fields.proofs.Cuts.{same-path}
@@ -43,7 +42,7 @@ returns : tie.Need-returns
 returns c =
     let p = c .before .before .before .before .before .before in
     let z = p .before .before .args in
-    subst (λ (x : Reading Right). RightsGiven x (z .user) (c .rights-from .result)) (names-good (refused Fault.Rights 1) rightNames (z .s .now) itemsOf (p .line .result) (p .line .ensures) (c .before .before .before .before .before .if1 .taken) (sym (c .before .if2 .taken) ∙ c .before .before .same .ensures)) (c .rights-from .ensures)
+    subst (λ (x : Reading (List Right)). RightsGiven x (z .user) (c .rights-from .result)) (names-good (refused 50 1) rightNames (z .s .now) itemsOf (p .line .result) (p .line .ensures) (c .before .before .before .before .before .if1 .taken) (sym (c .before .if2 .taken) ∙ c .before .before .same .ensures)) (c .rights-from .ensures)
 
 refuse-rights-requires : tie.Need-refuse-rights-requires
 refuse-rights-requires c κs = search needs
@@ -52,7 +51,7 @@ returns-2 : tie.Need-returns-2
 returns-2 c =
     let p = c .before .before .before .before .before .before in
     let z = p .before .before .args in
-    subst (λ (x : Reading Right). RightsGiven x (z .user) (c .refuse-rights .result)) (names-other (refused Fault.Rights 1) rightNames (z .s .now) itemsOf (p .line .result) (p .line .ensures) (c .before .before .before .before .before .if1 .taken) (sym (c .before .if2 .left) ∙ c .before .before .same .ensures)) (c .refuse-rights .ensures)
+    subst (λ (x : Reading (List Right)). RightsGiven x (z .user) (c .refuse-rights .result)) (names-other (refused 50 1) rightNames (z .s .now) itemsOf (p .line .result) (p .line .ensures) (c .before .before .before .before .before .if1 .taken) (sym (c .before .if2 .left) ∙ c .before .before .same .ensures)) (c .refuse-rights .ensures)
 
 refuse-rights-requires-2 : tie.Need-refuse-rights-requires-2
 refuse-rights-requires-2 c κs = search needs
@@ -61,7 +60,7 @@ returns-3 : tie.Need-returns-3
 returns-3 c =
     let p = c .before .before in
     let z = p .before .before .args in
-    subst (λ (x : Reading Right). RightsGiven x (z .user) (c .refuse-rights2 .result)) (names-open (refused Fault.Rights 1) rightNames (z .s .now) itemsOf (p .line .result) (p .line .ensures) (c .before .if1 .left)) (c .refuse-rights2 .ensures)
+    subst (λ (x : Reading (List Right)). RightsGiven x (z .user) (c .refuse-rights2 .result)) (names-open (refused 50 1) rightNames (z .s .now) itemsOf (p .line .result) (p .line .ensures) (c .before .if1 .left)) (c .refuse-rights2 .ensures)
 
 pub read-rights-spec : {M : Type 1} → statement M
 read-rights-spec =

@@ -6,7 +6,6 @@ use lib.Dec.{ltb}
 use Rattle.grammar.specs.Content.{rules}
 use Rattle.lines.specs.Turns.{turnOf}
 use Rattle.sheets.specs.declared.RuleStep.{RuleStep}
-use Rattle.sheets.specs.declared.Fault.the-variants as Fault
 use Rattle.sheets.specs.Items.{stepAt}
 use Rattle.sheets.specs.RuleSheets.{ruleSays}
 use Rattle.sheets.specs.Promises.{asRuleStep}
@@ -17,7 +16,7 @@ use Rattle.fields.specs.Cursors.{bytesLeft}
 
 -- what the line gave
 gave : (c : tie.After-rule-step) (x : RuleStep) → c .rule-step .result ≡ x
-    → asRuleStep x ≡ stepAt Fault.RuleMany Fault.RuleForm (ruleSays (rules (c .before .before .before .before .args .book .grammar)) (bytesLeft (c .before .before .before .before .args .s .now) (c .before .before .before .before .args .c))) (turnOf 128 (c .before .before .before .before .args .book .grammar .count) (bytesLeft (c .before .before .before .before .args .s .now) (c .before .before .before .before .args .c)) (ltb (c .before .before .before .before .args .c .end) (length (c .before .before .before .before .args .s .now))))
+    → asRuleStep x ≡ stepAt 6 2 (ruleSays (rules (c .before .before .before .before .args .book .grammar)) (bytesLeft (c .before .before .before .before .args .s .now) (c .before .before .before .before .args .c))) (turnOf 128 (c .before .before .before .before .args .book .grammar .count) (bytesLeft (c .before .before .before .before .args .s .now) (c .before .before .before .before .args .c)) (ltb (c .before .before .before .before .args .c .end) (length (c .before .before .before .before .args .s .now))))
 gave c x is = ap asRuleStep (sym is) ∙ c .rule-step .ensures
 
 rule-step-requires : tie.Need-rule-step-requires

@@ -18,7 +18,7 @@ returns c =
     record {
       is = sym (finish-good (rules (a .args .g)) (sym (h .has-start .ensures) ∙ c .if1 .taken));
       formed = λ e. a .pre .0;
-      none = λ f l e. absurd (let z : _≡_ {A = ℕ} 0 1 = cc in omega arith);
+      emptied = λ f l e. absurd (let z : _≡_ {A = ℕ} 0 1 = cc in omega arith);
       exact = a .pre .1;
     }
 

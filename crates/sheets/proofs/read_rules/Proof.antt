@@ -4,14 +4,13 @@ use mathlib.Core.List.{[]}
 use native.Mathlib.Omega.{arith}
 use borrow.Author.Needs.{needs}
 use lib.Seq.{length-take-le}
-use Rattle.grammar.specs.declared.Rule.{Rule}
-use Rattle.sheets.specs.declared.Fault.the-variants as Fault
 use Rattle.sheets.specs.Items.{Reading, refused}
 use Rattle.sheets.specs.RuleSheets.{ruleNames, rulesFrom}
 use Rattle.sheets.specs.Promises.{RulesRead}
 use Rattle.sheets.proofs.Names.{names-good, names-other, names-open}
 use Rattle.sheets.proofs.read_rules.Statement.{statement}
 use Rattle.sheets.proofs.read_rules.Tie as tie
+use Rattle.grammar.specs.Trees.{Rules}
 
 line-requires : tie.Need-line-requires
 line-requires c κs = search needs
@@ -34,7 +33,7 @@ rules-from-requires c κs = search needs
 returns : tie.Need-returns
 returns c =
     let p = c .before .before .before .before .before .before in
-    subst (λ (x : Reading Rule). RulesRead (c .rules-from .result) x) (names-good (refused Fault.RuleNames 1) ruleNames (p .before .before .args .s .now) rulesFrom (p .line .result) (p .line .ensures) (c .before .before .before .before .before .if1 .taken) (sym (c .before .if2 .taken) ∙ c .before .before .same .ensures)) (c .rules-from .ensures)
+    subst (λ (x : Reading Rules). RulesRead (c .rules-from .result) x) (names-good (refused 1 1) ruleNames (p .before .before .args .s .now) rulesFrom (p .line .result) (p .line .ensures) (c .before .before .before .before .before .if1 .taken) (sym (c .before .if2 .taken) ∙ c .before .before .same .ensures)) (c .rules-from .ensures)
 
 no-rules-requires : tie.Need-no-rules-requires
 no-rules-requires c κs = search needs
@@ -45,7 +44,7 @@ refuse-rules-requires c κs = search needs
 returns-2 : tie.Need-returns-2
 returns-2 c =
     let p = c .before .before .before .before .before .before .before in
-    subst (λ (x : Reading Rule). RulesRead (c .refuse-rules .result) x) (names-other (refused Fault.RuleNames 1) ruleNames (p .before .before .args .s .now) rulesFrom (p .line .result) (p .line .ensures) (c .before .before .before .before .before .before .if1 .taken) (sym (c .before .before .if2 .left) ∙ c .before .before .before .same .ensures)) (c .refuse-rules .ensures)
+    subst (λ (x : Reading Rules). RulesRead (c .refuse-rules .result) x) (names-other (refused 1 1) ruleNames (p .before .before .args .s .now) rulesFrom (p .line .result) (p .line .ensures) (c .before .before .before .before .before .before .if1 .taken) (sym (c .before .before .if2 .left) ∙ c .before .before .before .same .ensures)) (c .refuse-rules .ensures)
 
 no-rules-requires-2 : tie.Need-no-rules-requires-2
 no-rules-requires-2 c κs = search needs
@@ -56,7 +55,7 @@ refuse-rules-requires-2 c κs = search needs
 returns-3 : tie.Need-returns-3
 returns-3 c =
     let p = c .before .before .before in
-    subst (λ (x : Reading Rule). RulesRead (c .refuse-rules2 .result) x) (names-open (refused Fault.RuleNames 1) ruleNames (p .before .before .args .s .now) rulesFrom (p .line .result) (p .line .ensures) (c .before .before .if1 .left)) (c .refuse-rules2 .ensures)
+    subst (λ (x : Reading Rules). RulesRead (c .refuse-rules2 .result) x) (names-open (refused 1 1) ruleNames (p .before .before .args .s .now) rulesFrom (p .line .result) (p .line .ensures) (c .before .before .if1 .left)) (c .refuse-rules2 .ensures)
 
 pub read-rules-spec : {M : Type 1} → statement M
 read-rules-spec =

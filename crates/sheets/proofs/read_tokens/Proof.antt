@@ -5,14 +5,13 @@ use mathlib.Core.List.{[]}
 use native.Mathlib.Omega.{arith}
 use borrow.Author.Needs.{needs}
 use lib.Seq.{length-take-le}
-use Rattle.grammar.specs.declared.Token.{Token}
-use Rattle.sheets.specs.declared.Fault.the-variants as Fault
 use Rattle.sheets.specs.Items.{Reading, refused, itemsFrom}
 use Rattle.sheets.specs.TokenSheets.{tokenNames, wideNames, tokenStep, wideSheet, tokenSheet}
 use Rattle.sheets.specs.Promises.{TokensRead}
 use Rattle.sheets.proofs.Names.{names-good, names-other, names-open}
 use Rattle.sheets.proofs.read_tokens.Statement.{statement}
 use Rattle.sheets.proofs.read_tokens.Tie as tie
+use Rattle.grammar.specs.Layout.{Word}
 
 -- not the old names: what the sheet says is what it says with widths
 not-old : (c : tie.Else2) → wideSheet (c .before .before .before .before .before .before .before .args .s .now) ≡ tokenSheet (c .before .before .before .before .before .before .before .args .s .now)
@@ -45,7 +44,7 @@ returns c =
     let t = c .before .before .before .before .before in
     let p = t .before in
     let s = p .before .before .args .s .now in
-    subst (λ (x : Reading Token). TokensRead (c .tokens-from .result) x) (names-good (wideSheet s) tokenNames s (itemsFrom (tokenStep false) []) (p .line .result) (p .line .ensures) (t .if1 .taken) (sym (c .before .if2 .taken) ∙ c .before .before .same .ensures)) (c .tokens-from .ensures)
+    subst (λ (x : Reading Word). TokensRead (c .tokens-from .result) x) (names-good (wideSheet s) tokenNames s (itemsFrom (tokenStep false) []) (p .line .result) (p .line .ensures) (t .if1 .taken) (sym (c .before .if2 .taken) ∙ c .before .before .same .ensures)) (c .tokens-from .ensures)
 
 slice-aggregate-same-3 : tie.Need-slice-aggregate-same-3
 slice-aggregate-same-3 c = sym (length-take-le _ _ (omega (arith, c .before .before .before .before .before .if1 .taken)))
@@ -68,8 +67,8 @@ returns-2 c =
     let t = o .before .before .before .before in
     let p = t .before in
     let s = p .before .before .args .s .now in
-    subst (λ (x : Reading Token). TokensRead (c .tokens-from2 .result) x)
-    (names-good (refused Fault.TokenNames 1) wideNames s (itemsFrom (tokenStep true) []) (p .line .result) (p .line .ensures) (t .if1 .taken) (sym (c .before .if3 .taken) ∙ c .before .before .same2 .ensures) ∙ not-old o)
+    subst (λ (x : Reading Word). TokensRead (c .tokens-from2 .result) x)
+    (names-good (refused 11 1) wideNames s (itemsFrom (tokenStep true) []) (p .line .result) (p .line .ensures) (t .if1 .taken) (sym (c .before .if3 .taken) ∙ c .before .before .same2 .ensures) ∙ not-old o)
     (c .tokens-from2 .ensures)
 
 no-tokens-requires : tie.Need-no-tokens-requires
@@ -84,8 +83,8 @@ returns-3 c =
     let t = o .before .before .before .before in
     let p = t .before in
     let s = p .before .before .args .s .now in
-    subst (λ (x : Reading Token). TokensRead (c .refuse-tokens .result) x)
-    (names-other (refused Fault.TokenNames 1) wideNames s (itemsFrom (tokenStep true) []) (p .line .result) (p .line .ensures) (t .if1 .taken) (sym (c .before .before .if3 .left) ∙ c .before .before .before .same2 .ensures) ∙ not-old o)
+    subst (λ (x : Reading Word). TokensRead (c .refuse-tokens .result) x)
+    (names-other (refused 11 1) wideNames s (itemsFrom (tokenStep true) []) (p .line .result) (p .line .ensures) (t .if1 .taken) (sym (c .before .before .if3 .left) ∙ c .before .before .before .same2 .ensures) ∙ not-old o)
     (c .refuse-tokens .ensures)
 
 no-tokens-requires-2 : tie.Need-no-tokens-requires-2
@@ -98,8 +97,8 @@ returns-4 : tie.Need-returns-4
 returns-4 c =
     let p = c .before .before .before in
     let s = p .before .before .args .s .now in
-    subst (λ (x : Reading Token). TokensRead (c .refuse-tokens2 .result) x)
-    (names-open (refused Fault.TokenNames 1) wideNames s (itemsFrom (tokenStep true) []) (p .line .result) (p .line .ensures) (c .before .before .if1 .left)
+    subst (λ (x : Reading Word). TokensRead (c .refuse-tokens2 .result) x)
+    (names-open (refused 11 1) wideNames s (itemsFrom (tokenStep true) []) (p .line .result) (p .line .ensures) (c .before .before .if1 .left)
     ∙ names-open (wideSheet s) tokenNames s (itemsFrom (tokenStep false) []) (p .line .result) (p .line .ensures) (c .before .before .if1 .left))
     (c .refuse-tokens2 .ensures)
 

@@ -12,7 +12,6 @@ use Rattle.lines.specs.declared.Turn.{Turn}
 use Rattle.lines.specs.Turns.{turnOf}
 use Rattle.lengths.specs.declared.Book.{Book}
 use Rattle.sheets.specs.declared.RuleStep.{RuleStep}
-use Rattle.sheets.specs.declared.Fault.the-variants as Fault
 use Rattle.sheets.specs.Items.{stepAt}
 use Rattle.sheets.specs.RuleSheets.{ruleSays, finish}
 use Rattle.sheets.specs.Promises.{asRuleStep, Adds}
@@ -41,7 +40,7 @@ turn c = turnOf 128 (c .before .before .loop .book .grammar .count) (bytes c) (l
 
 -- what the line gave
 gave : (c : tie.After-add-line Inv-loop μ-loop) (x : RuleStep) → c .add-line .result .step ≡ x
-    → asRuleStep x ≡ stepAt Fault.RuleMany Fault.RuleForm (ruleSays (rules (c .before .before .loop .book .grammar)) (bytes c)) (turn c)
+    → asRuleStep x ≡ stepAt 6 2 (ruleSays (rules (c .before .before .loop .book .grammar)) (bytes c)) (turn c)
 gave c x is = ap asRuleStep (sym is) ∙ c .add-line .ensures .0
 
 -- and what it made of the book

@@ -10,7 +10,6 @@ use Rattle.grammar.specs.declared.Token.{Token}
 use Rattle.lines.specs.declared.Turn.{Turn}
 use Rattle.lines.specs.Turns.{turnOf}
 use Rattle.sheets.specs.declared.TokenStep.{TokenStep}
-use Rattle.sheets.specs.declared.Fault.the-variants as Fault
 use Rattle.sheets.specs.Items.{Step, stepAt}
 use Rattle.sheets.specs.TokenSheets.{tokenSays}
 use Rattle.sheets.specs.Promises.{asTokenStep}
@@ -21,7 +20,7 @@ use Rattle.sheets.proofs.tokens_from.Tie as tie
 use Rattle.fields.specs.Cursors.{piecesFrom, bytesLeft}
 
 abbrev Inv-loop : tie.InvT-loop
-Inv-loop s start wide tokens₀ n₀ at₀ tokens n at = Filled 64 Fault.TokenMany Fault.TokenForm (tokenSays wide) s start tokens n at
+Inv-loop s start wide tokens₀ n₀ at₀ tokens n at = Filled 64 14 12 (tokenSays wide) s start tokens n at
 
 abbrev μ-loop : tie.MeasureT-loop
 μ-loop s start wide tokens₀ n₀ at₀ tokens n at = length s - at
@@ -42,7 +41,7 @@ says c =
 
 -- what the line gave
 gave : (c : tie.After-token-step Inv-loop μ-loop) (x : TokenStep) → c .token-step .result ≡ x
-    → asTokenStep x ≡ stepAt Fault.TokenMany Fault.TokenForm (says c) (turn c)
+    → asTokenStep x ≡ stepAt 14 12 (says c) (turn c)
 gave c x is = ap asTokenStep (sym is) ∙ c .token-step .ensures
 
 -- it gave an item
@@ -120,7 +119,7 @@ returns-2 c =
     record {
       is = sym e;
       positioned = λ a. record { few = T .few; whole = count T; rising = tokens-placed (b .wide) (piecesFrom 10 (b .s .now) (b .start)) _ e .rising };
-      none = λ f l a. absurd (let z : _≡_ {A = ℕ} 0 1 = cc in omega arith);
+      emptied = λ f l a. absurd (let z : _≡_ {A = ℕ} 0 1 = cc in omega arith);
     }
 
 pub tokens-from-spec : {M : Type 1} → statement M
