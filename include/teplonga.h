@@ -21,9 +21,9 @@
  * TEPLONGA_STACK bytes are enough for any call.
  *
  * Time: a verdict or its trees take some milliseconds on the largest sheets, columns of 64 tokens with
- * 65,536 choices under 128 rules up to a minute or so. A sweep may take longer: sheets can be built
- * whose sweep takes minutes, and it cannot be interrupted, so run it in a thread or a process that may
- * be given up.
+ * 65,536 choices under 128 rules up to a minute or so. The worst sweep known takes three to four
+ * seconds; no bound is claimed, and it cannot be interrupted, so run it in a thread or a process that
+ * may be given up.
  */
 #ifndef TEPLONGA_H
 #define TEPLONGA_H
