@@ -29,8 +29,9 @@ use Rattle.cuts.specs.declared.Pair.{Pair}
 use Rattle.cuts.specs.Cuts.{wordsOf}
 use Rattle.cuts.specs.Closure.{Links, Follows, by-parts, by-link, Doubles, both-parts, part-and-link, both-links, link-below, link-beside, Entry, Just, Never}
 use Rattle.links.specs.LinkRules.{Idle, Thinned, thin-none, thin-keep, thin-drop, LinkRules}
-use Rattle.chains.specs.SpanLinks.{Over, LinkAt, spanLinks}
+use Rattle.chains.specs.SpanLinks.{Over, Beside, LinkAt, spanLinks}
 use Rattle.chains.specs.Chains.{rank, HoldsAt, Leveled, MarksAt, Before, Upto, Chains, Under, Unders, Ranked, Unranked, Copied}
+use Rattle.cuts.proofs.ClosureLaws.{follows-as, doubles-as}
 use Rattle.chains.proofs.TableLaws.{entry-as}
 
 -- ---- levels
@@ -231,3 +232,41 @@ module _ {g w : Grammar} (f : Formed g) (e : Pair) (v : LinkRules (e .one) g w) 
       go i B a k z (no y) =
           let b : i < l + 1 = ⊎-elim (λ x. x) (λ x. absurd (y (x .0))) z in
           subst (Entry (spanLinks (rules g) (HoldsAt i) (e .one) (e .two)) B) (λ x. record { one = sym (c .else (128 * i + 2 * B) (omega arith)) x; two = sym (c .else (128 * i + 2 * B + 1) (omega arith)) x }) (t .entry i B a k (inl b))
+
+-- ---- a pair of the empty word that has the same members
+
+over-for : (holds : UnaryMark → Type 0) (one one′ : ℕ) → ((A : ℕ) → In one A → In one′ A) → (c : Clause) (l B : ℕ) → Over holds one c l B → Over holds one′ c l B
+over-for holds one one′ f Clause.Empty l B o = o
+over-for holds one one′ f (Clause.Atom a b) l B o = o
+over-for holds one one′ f (Clause.Unary C m) zero B o = o
+over-for holds one one′ f (Clause.Unary C m) (suc l) B o = o
+over-for holds one one′ f (Clause.Binary C D m) zero B o = (o .0, f C (o .1))
+over-for holds one one′ f (Clause.Binary C D m) (suc zero) B o = (o .0, f D (o .1))
+over-for holds one one′ f (Clause.Binary C D m) (suc (suc l)) B o = o
+
+beside-for : (two two′ : ℕ) → ((A : ℕ) → In two A → In two′ A) → (c : Clause) (l : ℕ) → Beside two c l → Beside two′ c l
+beside-for two two′ f Clause.Empty l b = b
+beside-for two two′ f (Clause.Atom a b′) l b = b
+beside-for two two′ f (Clause.Unary C m) l b = b
+beside-for two two′ f (Clause.Binary C D m) zero b = f C b
+beside-for two two′ f (Clause.Binary C D m) (suc zero) b = f D b
+beside-for two two′ f (Clause.Binary C D m) (suc (suc l)) b = b
+
+module _ (g : Rules) (holds : UnaryMark → Type 0) (e e′ : Pair) (one : (A : ℕ) → In (e .one) A → In (e′ .one) A) (two : (A : ℕ) → In (e .two) A → In (e′ .two) A) (B : ℕ) where
+  link-for : (A i l C : ℕ) → LinkAt g holds (e .one) A i l C → LinkAt g holds (e′ .one) A i l C
+  link-for A i l C x = record { within = x .within; left = x .left; over = over-for holds (e .one) (e′ .one) one (rule g i .clause) l C (x .over) }
+
+  follows-for : {A : ℕ} → Follows (spanLinks g holds (e .one) (e .two)) (Just B) A → Follows (spanLinks g holds (e′ .one) (e′ .two)) (Just B) A
+  follows-for = follows-as (spanLinks g holds (e .one) (e .two)) (spanLinks g holds (e′ .one) (e′ .two)) (Just B) (Just B) Never Never link-for (λ i l. beside-for (e .two) (e′ .two) two (rule g i .clause) l) (λ A x. x) (λ A x. x)
+
+  doubles-for : {A : ℕ} → Doubles (spanLinks g holds (e .one) (e .two)) (Just B) Never A → Doubles (spanLinks g holds (e′ .one) (e′ .two)) (Just B) Never A
+  doubles-for = doubles-as (spanLinks g holds (e .one) (e .two)) (spanLinks g holds (e′ .one) (e′ .two)) (Just B) (Just B) Never Never link-for (λ i l. beside-for (e .two) (e′ .two) two (rule g i .clause) l) (λ A x. x) (λ A x. x)
+
+pub chains-for : {g : Rules} {e e′ : Pair} {table : List ℕ} → ((A : ℕ) → In (e .one) A ↔ In (e′ .one) A) → ((A : ℕ) → In (e .two) A ↔ In (e′ .two) A) → Chains g e table → Chains g e′ table
+chains-for {g} {e} {e′} one two t = record {
+  size = t .size;
+  entry = λ i B h k. let x = t .entry i B h k in record {
+    one = λ A. (λ y. follows-for g (HoldsAt i) e e′ (λ C. one C .0) (λ C. two C .0) B (x .one A .0 y), λ f. x .one A .1 (follows-for g (HoldsAt i) e′ e (λ C. one C .1) (λ C. two C .1) B f));
+    two = λ A. (λ y. doubles-for g (HoldsAt i) e e′ (λ C. one C .0) (λ C. two C .0) B (x .two A .0 y), λ f. x .two A .1 (doubles-for g (HoldsAt i) e′ e (λ C. one C .1) (λ C. two C .1) B f));
+  };
+}

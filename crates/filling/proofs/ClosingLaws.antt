@@ -1,10 +1,12 @@
 -- A span that is settled all cuts at once is closed, as the chart's are.
 use mathlib.Core.Path.{_≡_, refl, sym, ap, _∙_, subst, subst₂}
-use mathlib.Core.List.{List}
+use mathlib.Core.List.{List, []}
+use mathlib.Core.Logic.{_↔_}
 use Prim.Native.Nat.{ℕ, zero, suc, _+_, _*_, _≤_, _<_}
 use native.Mathlib.Omega.{arith}
 use lib.ListN.{length, getD, replicate, length-replicate}
-use Rattle.grammar.specs.Trees.{Rules}
+use Rattle.grammar.specs.Layout.{Word}
+use Rattle.grammar.specs.Trees.{Rules, Derives, TwoTrees}
 use Rattle.grammar.specs.Distinct.{Distinct}
 use Rattle.grammar.specs.declared.Grammar.{Grammar}
 use Rattle.grammar.specs.Content.{rules, SmallRule, Formed}
@@ -16,7 +18,7 @@ use Rattle.marks.specs.Marked.{Marked, UnaryBy}
 use Rattle.grammar.specs.declared.UnaryMark.the-variants as UnaryMark
 use Rattle.sets.specs.Sets.{In}
 use Rattle.spans.specs.Changes.{Kept, WrotePair, Cleared}
-use Rattle.spans.proofs.Places.{pairAt-of}
+use Rattle.spans.proofs.Places.{pairAt-of, pairAt-empty}
 use Rattle.tables.specs.Settled.{Ground}
 use Rattle.cuts.specs.declared.Pair.{Pair}
 use Rattle.cuts.specs.declared.Masks.{Masks}
@@ -31,7 +33,10 @@ use Rattle.tables.specs.Tables.{no-rule}
 use Rattle.chains.specs.SpanLinks.{spanLinks}
 use Rattle.chains.specs.Chains.{HoldsAt, Leveled, Chains}
 use Rattle.chains.proofs.TableLaws.{table-span}
+use Rattle.chains.proofs.ChainLaws.{chains-for}
 use Rattle.chart.specs.Filling.{Closed}
+use Rattle.chart.specs.Sheets.{Exact}
+use Rattle.filling.specs.Kept.{Prepared}
 use Rattle.filling.specs.Closing.{Begins, Found, CutJoins, Columns}
 use Rattle.filling.proofs.SettleLaws.{closure-settled}
 
@@ -123,3 +128,13 @@ no-columns ws n m h = record { size = omega (arith, length-replicate {A = ℕ} m
     zeros zero q = refl
     zeros (suc k) zero = refl
     zeros (suc k) (suc q) = zeros k q
+
+-- the kept table goes with every sheet whose first two words are the pair of the empty word
+pub kept-chains : {g : Rules} {kept ws : List ℕ} {w : Word} {n to : ℕ} → Prepared g kept → Exact g w n ws to → Chains g (record { one = getD ws 0 0; two = getD ws 1 0 }) kept
+kept-chains {g} {kept} {ws} {w} {n} {to} p x = chains-for (λ A. (λ i. one A .1 (p .right .one A .0 i), λ i. p .right .one A .1 (one A .0 i))) (λ A. (λ i. two A .1 (p .right .two A .0 i), λ i. p .right .two A .1 (two A .0 i))) (p .chains)
+  where
+    one : (A : ℕ) → In (getD ws 0 0) A ↔ Derives g A []
+    one A = subst (λ (q : ℕ). In (getD ws (2 * q) 0) A ↔ Derives g A []) (pairAt-empty n 0) (x .one 0 0 A (omega arith))
+
+    two : (A : ℕ) → In (getD ws 1 0) A ↔ TwoTrees g A []
+    two A = subst (λ (q : ℕ). In (getD ws (2 * q + 1) 0) A ↔ TwoTrees g A []) (pairAt-empty n 0) (x .two 0 0 A (omega arith))

@@ -322,10 +322,11 @@ pub fn judge(words: &mut [u64], s: Sentence, g: Grammar) -> Verdict
 // Make the kept words for the rules.
 pub fn prepare(kept: &mut [u64], g: Grammar)
     requires { ⌜ Formed g ⌝ }
-    requires { ⌜ length (now kept) ≡ 2563 ⌝ }
+    requires { ⌜ length (now kept) ≡ 512 ⌝ }
     ensures { λ r. ⌜ Prepared (rules g) (now (kept .exit)) ⌝ }
 {
-    clear(kept, 2563);
+    let e = empty_pair(g);
+    chains(kept, g, e);
 }
 
 // Begin the span sheets of n tokens.
@@ -337,7 +338,6 @@ pub fn open_sheet(words: &mut [u64], kept: &mut [u64], g: Grammar, n: usize)
     ensures { λ r. ⌜ Past (2 * pairs n) (now (words .entry)) (now (words .exit)) ⌝ }
 {
     clear(words, size(n));
-    clear(kept, 2048);
 }
 
 // Give the empty word its pair.
@@ -373,7 +373,15 @@ pub fn refill(words: &mut [u64], kept: &mut [u64], d: Draft, g: Grammar, from: u
     ensures { λ r. ⌜ Charted (now (words .entry)) (now (words .exit)) (rules g) (half d) (d .count) ⌝ }
     ensures { λ r. ⌜ Mirrored (rules g) (d .count) (now (words .exit)) (now (kept .exit)) ⌝ }
 {
-    fill(words, d, g, from, to);
+    let n = d.count;
+    let e = Pair {
+        one: words[0],
+        two: words[1],
+    };
+    let mut rows = [0u64; 128];
+    let mut cols = [0u64; 1024];
+    load_from(words, &mut rows, &mut cols, n, to);
+    fill_starts(words, &mut rows, &mut cols, kept, d, g, e, from, to);
 }
 
 // Fill it so. Has no completion of the draft two trees, its open tokens being what their pairs allow? (Where all of it is
