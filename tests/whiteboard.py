@@ -361,7 +361,7 @@ class Looking(unittest.TestCase):
         self.assertEqual((found["verdict"], found["patch"]), ("two", "do\nnop\nnop"))
 
     def test_clear(self):
-        found = at().found(2, 1)
+        found = at(sheet=REPAIRED).found(2, 1)
         self.assertNotIn("patch", found)
         self.assertIn(found["verdict"], ("so far", "clear"))
 
