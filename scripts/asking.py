@@ -74,13 +74,14 @@ class Programs:
     """The programs in target/bin, proved and built first where that is due.
 
     `seconds` limits each run, `turns` how many run at once; `is_over` says, while one runs, whether
-    nobody waits for it any more; `progress` is told, while one runs, for how many seconds it has.
+    nobody waits for it any more; `progress` is told, while one runs, for how many seconds it has;
+    `built` are those that need no look.
     """
 
-    def __init__(self, name, seconds=None, turns=None, is_over=None, progress=None):
+    def __init__(self, name, seconds=None, turns=None, is_over=None, progress=None, built=()):
         self.name, self.seconds, self.turns = name, seconds, turns
         self.is_over, self.progress = is_over, progress
-        self.built = set()
+        self.built = set(built)
 
     def build(self, *programs):
         """Sees that programs are built, and no older than their sources."""

@@ -151,7 +151,7 @@ class Told(unittest.TestCase):
         said = os.read(screen, 10_000).decode()
         os.close(screen)
         self.assertEqual(ended.returncode, 4)
-        self.assertRegex(said, r"sweeping all patches of up to [1-3] tokens?: [12] s")
+        self.assertRegex(said, r"sweeping all patches of up to [1-3] tokens?: [0-9]+ s")
         self.assertTrue(said.endswith("\r\x1b[K"))
         self.assertEqual(judge(data=BLOCK, top=self.room)[2], "")
 

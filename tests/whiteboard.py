@@ -402,26 +402,26 @@ class Slow(unittest.TestCase):
         self.assertTrue(self.gone(*self.pids()))
 
     def test_two_at_once(self):
-        turns, said = at_most(2), []
+        """A third one waits for its turn, and where it gets none it says so."""
+        turns, over, said = at_most(2), threading.Event(), []
 
         def ask():
             try:
-                Programs("test", 0.5, turns).run([self.slow], b"")
+                Programs("test", 60, turns, over.is_set).run([self.slow], b"")
             except Unanswered as error:
-                said.append(str(error)[:11])
+                said.append(str(error))
 
         threads = [threading.Thread(target=ask) for _ in range(2)]
         for thread in threads:
             thread.start()
-        for _ in range(200):
-            if (self.room / "pids").exists() and len(self.pids()) == 2:
-                break
+        while not (self.room / "pids").exists() or len(self.pids()) < 2:
             time.sleep(0.01)
         with self.assertRaisesRegex(Unanswered, "try again"):
             Programs("test", 0.1, turns).run([self.slow], b"")
+        over.set()
         for thread in threads:
             thread.join()
-        self.assertEqual((said, len(self.pids())), (["the program"] * 2, 2))
+        self.assertEqual((said, len(self.pids())), (["nobody waits for the answer"] * 2, 2))
 
     def test_a_program_ends_with_its_request(self):
         """The page goes away while a program runs: in a copy of the scripts whose programs do not

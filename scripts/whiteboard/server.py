@@ -99,8 +99,8 @@ class Handler(BaseHTTPRequestHandler):
         if self.path not in QUESTIONS:
             raise Bad(404, "there is no such question")
         asked = self.body()
-        programs = Programs(COMMAND, SECONDS, self.server.turns, self.is_over)
-        programs.built = self.server.built
+        server = self.server
+        programs = Programs(COMMAND, SECONDS, server.turns, self.is_over, built=server.built)
         answer = QUESTIONS[self.path](self.server, asked, programs)
         return "application/json", json.dumps(answer).encode("ascii")
 
