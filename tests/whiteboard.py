@@ -35,6 +35,7 @@ from reading.answers import Question, read, rows_of  # noqa: E402
 from reading.sheets import rules_of, tokens_of  # noqa: E402
 from reading.why import Asked, Beginnings, why  # noqa: E402
 from whiteboard import desk  # noqa: E402
+from whiteboard.files import FIELDS, opened  # noqa: E402
 from whiteboard.server import FILES, Server  # noqa: E402
 
 BOARD, CALL, DRAW = TOP / "bin" / "whiteboard", TOP / "bin" / "teplonga", TOP / "bin" / "draw"
@@ -114,7 +115,7 @@ class Shown(unittest.TestCase):
                 ElementTree.fromstring(reading["svg"])
 
     def test_what_is_too_long(self):
-        for field in desk.FIELDS:
+        for field in FIELDS:
             with self.assertRaises(desk.Fault):
                 at(**{field: "é" * 8_193})
 
@@ -124,7 +125,7 @@ class Shown(unittest.TestCase):
         letters = "left clause\n0123 ntn0t1()|?+*::alignoffside -ABUE<>&é語\t"
         for _ in range(150):
             fields = {
-                name: "".join(draw.choices(letters, k=draw.randint(0, 60))) for name in desk.FIELDS
+                name: "".join(draw.choices(letters, k=draw.randint(0, 60))) for name in FIELDS
             }
             fields["sheet"] = (
                 draw.choice(["left clause\n", "left kind first second lay\n", ""]) + fields["sheet"]
@@ -143,10 +144,10 @@ class Shown(unittest.TestCase):
             [row["key"] for row in reading["rows"] if row["key"]] for reading in made["readings"]
         ]
         self.assertTrue(keys[0] and keys[1])
-        opened = at(patch=patch).shown(True, [keys[0][0]])
-        self.assertGreater(len(opened["readings"][0]["rows"]), 60)
-        self.assertEqual(opened["readings"][1]["rows"], made["readings"][1]["rows"])
-        pictures = [ElementTree.fromstring(reading["svg"]) for reading in opened["readings"]]
+        after = at(patch=patch).shown(True, [keys[0][0]])
+        self.assertGreater(len(after["readings"][0]["rows"]), 60)
+        self.assertEqual(after["readings"][1]["rows"], made["readings"][1]["rows"])
+        pictures = [ElementTree.fromstring(reading["svg"]) for reading in after["readings"]]
         self.assertEqual(
             [len(each.findall(".//*[@data-key]")) for each in pictures], [0, len(keys[1])]
         )
@@ -321,38 +322,34 @@ class Files(unittest.TestCase):
     def test_what_is_saved_opens_as_it_was(self):
         files, _ = self.saved()
         whole = {**desk.EXAMPLE, "patch": "do\nnop\nnop"}
-        self.assertEqual(desk.opened([files["board.readings"], files["board.names"]]), (whole, ""))
-        self.assertEqual(desk.opened([files["board.whiteboard"]]), (desk.EXAMPLE, ""))
-        self.assertEqual(desk.opened([files["board.readings"]], NAMES)[0]["patch"], whole["patch"])
-        self.assertEqual(
-            desk.opened([files["board.readings"]], "malformed")[0]["patch"], "t1\nt0\nt0"
-        )
-        self.assertEqual(desk.opened([files["board.clauses"]]), ({"sheet": BLOCK}, ""))
+        self.assertEqual(opened([files["board.readings"], files["board.names"]]), (whole, ""))
+        self.assertEqual(opened([files["board.whiteboard"]]), (desk.EXAMPLE, ""))
+        self.assertEqual(opened([files["board.readings"]], NAMES)[0]["patch"], whole["patch"])
+        self.assertEqual(opened([files["board.readings"]], "malformed")[0]["patch"], "t1\nt0\nt0")
+        self.assertEqual(opened([files["board.clauses"]]), ({"sheet": BLOCK}, ""))
 
     def test_rules(self):
         rules = (EXAMPLES / "two-trees.check").read_text()
-        fields, _ = desk.opened([rules])
+        fields, _ = opened([rules])
         self.assertEqual(fields["patch"], "0 0 0")
         files, _ = self.saved(**fields, names="")
         self.assertEqual(
             sorted(files), ["board.check", "board.rules", "board.svg", "board.whiteboard"]
         )
-        self.assertEqual(
-            desk.opened([(EXAMPLES / "p2.sweep").read_text()])[0]["sheet"][:9], "left kind"
-        )
+        self.assertEqual(opened([(EXAMPLES / "p2.sweep").read_text()])[0]["sheet"][:9], "left kind")
 
     def test_unknown_words_are_in_the_state_alone(self):
         files, said = self.saved(patch="fud")
         self.assertEqual(sorted(files), ["board.clauses", "board.names", "board.whiteboard"])
         self.assertIn("fud", said)
-        self.assertEqual(desk.opened([files["board.whiteboard"]])[0]["patch"], "fud")
+        self.assertEqual(opened([files["board.whiteboard"]])[0]["patch"], "fud")
         files, said = self.saved(sheet="")
         self.assertEqual(sorted(files), ["board.names", "board.whiteboard"])
 
     def test_what_is_no_file_of_ours(self):
-        self.assertIn("left out", desk.opened(["left clause\n0 t0\n\nterm line\n0 1\n"])[1])
+        self.assertIn("left out", opened(["left clause\n0 t0\n\nterm line\n0 1\n"])[1])
         for text in ("", "{", '{"sheet": 1}', "[" * 9_999, "\x00"):
-            json.dumps(desk.opened([text])).encode("ascii")
+            json.dumps(opened([text])).encode("ascii")
 
 
 class Looking(unittest.TestCase):

@@ -10,13 +10,13 @@ from asking import Programs, at_most
 from drawing.svg import COLOURS, css
 from reading.cells import WIDE
 
-from . import desk
+from . import desk, files
 
 PAGE = Path(__file__).parent / "page"
 COMMAND = "bin/whiteboard"
 
 # a field's bytes may each be six in JSON
-MOST_BODY = 6 * 4 * desk.MOST_BYTES
+MOST_BODY = 6 * 4 * files.MOST_BYTES
 MOST_OPENED = 64
 
 # seconds that a program may take for an answer, and when one looks for two readings; how many run
@@ -165,7 +165,7 @@ def said(text):
 def start(server, _asked, _programs):
     fields, note = server.first()
     name = server.file.name if server.file else ""
-    return {"fields": fields, "file": name, "said": note, "wide": WIDE, "bytes": desk.MOST_BYTES}
+    return {"fields": fields, "file": name, "said": note, "wide": WIDE, "bytes": files.MOST_BYTES}
 
 
 def read(_server, asked, programs):
@@ -191,11 +191,11 @@ def look(_server, asked, programs):
 def open_files(_server, asked, _programs):
     texts = asked.get("files")
     is_list = isinstance(texts, list) and all(isinstance(text, str) for text in texts)
-    if not is_list or not all(len(text) <= 4 * desk.MOST_BYTES for text in texts):
-        return {"said": f"A file has at most {desk.MOST_BYTES:,} bytes a sheet."}
-    fields, note = desk.opened(texts, str(asked.get("names", "")))
-    if not all(desk.is_short(text) for text in fields.values()):
-        return {"said": f"A file has at most {desk.MOST_BYTES:,} bytes a sheet."}
+    if not is_list or not all(len(text) <= 4 * files.MOST_BYTES for text in texts):
+        return {"said": f"A file has at most {files.MOST_BYTES:,} bytes a sheet."}
+    fields, note = files.opened(texts, str(asked.get("names", "")))
+    if not all(files.is_short(text) for text in fields.values()):
+        return {"said": f"A file has at most {files.MOST_BYTES:,} bytes a sheet."}
     return {"fields": fields, "said": f"Opened: {', '.join(fields) or 'nothing'}. {note}".strip()}
 
 
@@ -243,9 +243,9 @@ class Server(ThreadingHTTPServer):
             texts += [beside.read_text(encoding="utf-8")] if beside.exists() else []
         except (OSError, ValueError) as error:
             reason = error.strerror if isinstance(error, OSError) else "not text in UTF-8"
-            return dict.fromkeys(desk.FIELDS, ""), f"{self.file.name} could not be read: {reason}."
-        fields, note = desk.opened(texts)
-        return dict.fromkeys(desk.FIELDS, "") | fields, note
+            return dict.fromkeys(files.FIELDS, ""), f"{self.file.name} could not be read: {reason}."
+        fields, note = files.opened(texts)
+        return dict.fromkeys(files.FIELDS, "") | fields, note
 
     def handle_error(self, request, client_address):
         pass
