@@ -258,7 +258,7 @@ def looked_for(number):
 
 
 def found(program, number, number_of_line, data):
-    """The sheet that a refusal is about, its lines, the field at fault, and another line that it is about."""
+    """The sheet that a refusal is about, its lines, the field at fault, and another line."""
     names = sheets_of(program, data)
     about = ABOUT[looked_for(number).where.removeprefix("each ").split(" ")[0]]
     sheet = next(name for name in names if name in about)

@@ -657,7 +657,7 @@ reading 2
         )[1]
 
     def test_closed_nodes_by_chance(self):
-        """A box for each closed row and a token for each leaf that is shown, whatever may be seen."""
+        """A box for each closed row and a token for each leaf shown, whatever may be seen."""
         draw, count = random.Random(9), 0
         for sheet, tokens in drawn_sheets(250, 31):
             low = draw.randrange(4)

@@ -73,7 +73,16 @@ def shown_word(word):
 
 
 def shown_parts(parts):
-    return [{"text": part, "code": isinstance(part, Code)} for part in parts]
+    """The parts of a sentence; what stands in backticks is a piece of a sheet too."""
+    made = []
+    for part in parts:
+        if isinstance(part, Code):
+            made.append({"text": part, "code": True})
+            continue
+        pieces = re.split(r"`([^`]*)`", part)
+        told = [{"text": text, "code": bool(n % 2)} for n, text in enumerate(pieces)]
+        made += [each for each in told if each["text"]]
+    return made
 
 
 def shown_row(row):

@@ -302,6 +302,7 @@ function show(readings, noun) {
   document.querySelector(".views").hidden = readings.length === 0;
   $("legend").hidden = readings.length !== 2;
   $("hint").hidden = readings.length === 0;
+  $("line").textContent = noun === "tree" ? "rule" : "clause";
   $("repair").hidden = readings.length !== 2 || noun === "tree";
   $("fold").closest("label").hidden = readings.length !== 2;
 }
