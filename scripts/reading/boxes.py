@@ -134,11 +134,9 @@ class ReadingBoxes(Boxes):
         """
         text, alternatives = self.names.spelled(node.taken), self.alternatives(node)
         alike = [each for each in alternatives if self.names.spelled(each) == text]
-        return (
-            text
-            if len(alike) == 1
-            else f"{text} ({alike.index(node.taken) + 1} of {len(alike)} alike)"
-        )
+        if len(alike) == 1:
+            return text
+        return f"{text} ({alike.index(node.taken) + 1} of {len(alike)} alike)"
 
     def clause(self, node, made):
         name, text = self.names.nonterminal(node.left), self.told(node)
