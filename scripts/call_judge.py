@@ -8,8 +8,7 @@ import commands
 from asking import Programs, Unanswered
 from drawing.picture import Picture
 from judging import Inquiry, judged
-from reading.answers import Question, expansion, read
-from reading.clauses import Sheet
+from reading.answers import Question, read
 from reading.outline import outline
 from reading.patches import ruled, sheet_of, text_of, words_in
 from reading.sentences import plain
@@ -79,10 +78,7 @@ def patch_of(programs, data, tokens, names):
     """A found patch as text, and its answer: read once more as it is written, so it is proved of
     the text itself.
     """
-    sheet = (
-        Sheet(data.decode("ascii")).agree(expansion(programs, data)) if is_clauses(data) else None
-    )
-    by_names = Names(names, sheet)
+    by_names = Names(names, in_clauses=is_clauses(data))
     text = text_of(tokens, by_names)
     question = Question(is_clauses(data), data, sheet_of(words_in(text, by_names)))
     answer = read(programs, question, names)

@@ -105,25 +105,30 @@ class Panel:
 
     def draw(self, number, noun, bottom):
         edges = [self.edge(box, bottom) for box in self.boxes if box.kind != "token"]
-        nodes = [
-            self.token(box, bottom) if box.kind == "token" else self.box(box) for box in self.boxes
-        ]
+        nodes = [self.node(box, bottom) for box in self.boxes]
         return tag("g", *edges, *nodes, class_=noun, data_tree=number)
+
+    def node(self, box, bottom):
+        return self.token(box, bottom) if box.kind == "token" else self.box(box)
 
     def colour_of(self, box):
         return self.colour if box.differs or self.colour == "ink" else "shared"
+
+    def ring(self, box, x, y, wide, high):
+        """Around a box at which the trees part."""
+        look = f"line {self.colour}-line wide"
+        return [rounded(x, y, wide + RING, high + RING, look)] if box.parts else []
 
     def data(self, box):
         """What a reader of the picture is told of a box: its words, its place in the sheet, how
         many are below it.
         """
-        spans = " ".join(f"{at}:{begin}-{end}" for at, begin, end in box.spans)
         told = {"data_start": box.start, "data_length": box.length, "data_below": len(box.below)}
-        return {
-            **told,
-            **({"data_pieces": spans} if spans else {}),
-            **({"data_key": box.key} if box.key else {}),
-        }
+        if box.spans:
+            told["data_pieces"] = " ".join(f"{at}:{begin}-{end}" for at, begin, end in box.spans)
+        if box.key:
+            told["data_key"] = box.key
+        return told
 
     def row(self, box):
         """Of a box of a nonterminal, which ones it stands for; of a rule's, its kind besides."""
@@ -140,20 +145,15 @@ class Panel:
         colour, weight = self.colour_of(box), " wide" if box.differs else ""
         dashed = box.kind in ("fold", "closed") or (box.is_empty and not box.label)
         dash = {"stroke_dasharray": "5 3"} if dashed else {}
-        ring = (
-            [rounded(x, y + high / 2, wide + RING, high + RING, f"line {colour}-line wide")]
-            if box.parts
-            else []
-        )
+        ring = self.ring(box, x, y + high / 2, wide, high)
         fill = "token" if box.kind == "piece" else "paper"
         frame = rounded(x, y + high / 2, wide, high, f"{fill} {colour}-line{weight}", **dash)
         said, at = [], y + HIGH / 2
         if box.title:
             said, at = [text(x, at, box.title, NAME, colour)], at + HIGH / 2 + 5
+        soft = colour if box.differs else "soft"
         for each in self.notes[id(box)]:
-            said.append(
-                text(x, at if box.title else at - 1, each, NOTE, colour if box.differs else "soft")
-            )
+            said.append(text(x, at if box.title else at - 1, each, NOTE, soft))
             at += NOTE + 4
         return tag(
             "g",
@@ -224,12 +224,7 @@ class Panel:
         x, place = self.x[id(box)], self.tokens[box.start].place
         notes = [str(box.start), place] if self.is_numbered else [place]
         # a token stands for the group or the `?` around it too, so readings may part at it
-        wide = width(box.title, NAME) + 12 + RING
-        ring = (
-            [rounded(x, bottom, wide, HIGH + RING, f"line {self.colour}-line wide")]
-            if box.parts
-            else []
-        )
+        ring = self.ring(box, x, bottom, width(box.title, NAME) + 12, HIGH)
         return tag(
             "g",
             tag("title", escape(box.said)),

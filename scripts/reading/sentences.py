@@ -102,13 +102,7 @@ def what_of(node, within, names):
 def reading_sentences(answer):
     tokens, names, found = answer.tokens, answer.names, answer.parting
     if answer.verdict != "two":
-        what = (
-            f"these {len(tokens)} tokens"
-            if len(tokens) > 1
-            else "this token"
-            if tokens
-            else "nothing"
-        )
+        what = ("nothing", "this token", f"these {len(tokens)} tokens")[min(len(tokens), 2)]
         count = "No" if answer.verdict == "none" else "One"
         yield [f"{count} reading of {what} as ", Code(names.nonterminal(0)), "."]
         return
