@@ -93,6 +93,10 @@ class Shown(unittest.TestCase):
         places = [note[:2] for note in self.notes(patch="fud", sheet="left clause\n0 t0 |")]
         self.assertEqual(places, [("patch", 1), ("sheet", 2)])
 
+    def test_many_words_are_told_in_short(self):
+        made = at(patch="fud " * 4_000).shown(True)
+        self.assertEqual((len(made["words"]), len(made["notes"])), (4_000, 100))
+
     def test_a_name_is_offered(self):
         made = at(names="t 0 nop", patch="do nop").shown(False)
         self.assertEqual(made["notes"][0]["offer"], "t 1 do")

@@ -18,7 +18,7 @@ from reading.why import Asked, why
 
 from .files import FIELDS, MOST_BYTES, file, fit, is_short
 
-LONGEST_MARK = 120
+LONGEST_MARK, MOST_NOTES = 120, 100
 
 # the refusal of a clause line that is not so written
 CLAUSE_FORM = 41
@@ -146,7 +146,7 @@ class Desk:
             made["words"] = [shown_word(word) for word in words]
             made["glosses"] = self.glosses()
             unknown = [word for word in words if word.terminal is None]
-            made["notes"] = [unknown_note(word) for word in unknown]
+            made["notes"] = [unknown_note(word) for word in unknown[:MOST_NOTES]]
             if unknown and self.free() is not None:
                 made["notes"][0]["offer"] = f"t {self.free()} {unknown[0].text}"
             # a sheet is looked at although words of the patch have no terminals
