@@ -19,20 +19,26 @@ def blocks(text):
 
 
 def pairs(text):
-    """Each output that is shown, with the input before it."""
-    before = None
+    """Each output that is shown, with the input before it; of `judge` that is a sheet alone."""
+    before = sheet = None
     for block in blocks(text):
-        if block.startswith(("answer line\n", "two readings: ")):
+        if block.startswith("answer line\n"):
             yield before, block
-        elif block.startswith(("left kind", "left clause\n", "bound\n", "call\n")):
-            before = block if "\n\n" in block or block.startswith("left clause\n") else before
+        elif block.startswith("two readings: "):
+            yield sheet, block
+        elif block.startswith(("left kind", "left clause\n", "bound\n", "call\n")) and "\n\n" in block:
+            before = block
+        elif block.startswith("left "):
+            sheet = block
 
 
 def command(shown):
-    """What answers an input: a program, or a call of bin/teplonga for a clause sheet."""
-    first, call = shown.split("\n")[0], [TOP / "bin" / "teplonga"]
+    """What answers an input: a program, or a call of bin/teplonga."""
+    first, call = shown.split("\n")[0], TOP / "bin" / "teplonga"
+    if "\n\n" not in shown:
+        return [call, "judge"]
     if first == "left clause":
-        return [*call, "readings"] if "\n\n" in shown else [*call, "judge"]
+        return [call, "readings"]
     return [TOP / "target" / "bin" / {"bound": "sweeper", "call": "calls"}.get(first, "checker")]
 
 
