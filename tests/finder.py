@@ -246,10 +246,12 @@ class Others(unittest.TestCase):
             status, out, errors = find("--solver", solver, data=PLAIN)
             self.assertEqual((status, out), (3, b""), solver)
             self.assertIn(f"{solver} {said}\n", errors)
-        slow = self.program("exec sleep 1000")
-        status, out, errors = find("--seconds", "0.2", "--solver", slow, data=PLAIN)
-        self.assertEqual((status, out), (0, UNKNOWN))
-        self.assertIn("the 0.2 seconds are over\n", errors)
+        # by itself, and where it leaves another program behind that holds its output open
+        for script in ("exec sleep 1000", "sleep 90; echo"):
+            slow = self.program(script)
+            status, out, errors = find("--seconds", "0.2", "--solver", slow, data=PLAIN, timeout=60)
+            self.assertEqual((status, out), (0, UNKNOWN))
+            self.assertIn("the 0.2 seconds are over\n", errors)
 
 
 class First(unittest.TestCase):

@@ -39,7 +39,7 @@ impl Guide {
 pub fn places(calls: Option<&str>, rules: &[u8], limits: &Limits) -> Result<Guide, Stop> {
     let Some(program) = calls else { return Ok(Guide::Everywhere) };
     let input = [b"call\nalways\n\n", rules].concat();
-    let answer = child::answer(program, |out| out.write_all(&input), limits)?;
+    let answer = child::answer(program, move |out| out.write_all(&input), limits)?;
     let text = String::from_utf8(answer.unwrap_or_default()).unwrap_or_default();
     Ok(read(&text).unwrap_or(Guide::Everywhere))
 }

@@ -104,6 +104,11 @@ fn said(up_to: usize, unconfirmed: &[usize], stop: Option<&Stop>, options: &Opti
     words
 }
 
+/// A line on standard error, if it can be written.
+fn say(line: &str) {
+    let _ = writeln!(io::stderr(), "{line}");
+}
+
 /// The program's output; a sentence where there is none.
 fn output(input: Vec<u8>, options: &Options) -> Result<String, String> {
     let time = Duration::from_secs_f64(options.seconds);
@@ -114,10 +119,10 @@ fn output(input: Vec<u8>, options: &Options) -> Result<String, String> {
     };
     match looked(&rules, options, &mut limits) {
         Found::Patch(patch) => return Ok(format!("answer line\ntwo 0\n{}", patch.sheet())),
-        Found::Clear => eprintln!("nothing to be found: the test for every length says clear"),
+        Found::Clear => say("nothing to be found: the test for every length says clear"),
         Found::Nothing { stop: Some(Stop::Solver(why)), .. } => return Err(why),
         Found::Nothing { up_to, unconfirmed, stop } => {
-            eprintln!("{}", said(up_to, &unconfirmed, stop.as_ref(), options));
+            say(&said(up_to, &unconfirmed, stop.as_ref(), options));
         }
     }
     Ok("answer line\nunknown 0\n".to_string())
@@ -146,13 +151,13 @@ fn main() -> ExitCode {
     let words: Result<Vec<String>, _> =
         std::env::args_os().skip(1).map(|it| it.into_string()).collect();
     let Some(options) = words.ok().and_then(|words| Options::of(&words)) else {
-        eprintln!("{USAGE}");
+        say(USAGE);
         return ExitCode::from(BAD_USAGE);
     };
     match run(&options) {
         Ok(()) => ExitCode::SUCCESS,
         Err(why) => {
-            eprintln!("{why}");
+            say(&why);
             ExitCode::from(NO_ANSWER)
         }
     }

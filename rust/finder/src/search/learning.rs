@@ -5,6 +5,7 @@ use crate::limits::{Limits, Stop};
 use crate::search::conflict::{Conflict, Lesson, Seen};
 use crate::search::order::Order;
 use crate::search::trail::Trail;
+use crate::search::watches::Watches;
 use crate::search::{Model, Search};
 
 /// Conflicts of the shortest run between two restarts.
@@ -13,28 +14,15 @@ const RUN: u64 = 64;
 /// Watches to go through between two looks at the limits: some tenths of a millisecond.
 const UNLOOKED: usize = 1 << 15;
 
-/// Clauses to watch between two looks.
-const CLAUSES: usize = 1 << 12;
-
 /// Learned clauses to keep before the first are freed.
 const LEARNED: usize = 4000;
 
 /// Learned clauses of so few levels are kept whatever there is besides.
 const KEPT_SCORE: usize = 2;
 
-/// A clause that waits for a literal to become false, and another literal of it: where that one is
-/// true the clause need not be looked at.
-#[derive(Clone, Copy)]
-struct Watch {
-    clause: Clause,
-    other: Literal,
-}
-
 /// The search and all that it has learned.
 pub struct Learning {
-    clauses: Clauses,
-    /// By literal: the clauses to look at where it becomes true, since its opposite is watched.
-    watches: Vec<Vec<Watch>>,
+    watches: Watches,
     trail: Trail,
     order: Order,
     /// By variable: the value that it had last, or is likely to have.
@@ -42,7 +30,6 @@ pub struct Learning {
     seen: Seen,
     learned: usize,
     most_learned: usize,
-    unlooked: usize,
     impossible: bool,
 }
 
@@ -51,108 +38,22 @@ impl Learning {
     pub fn new(formula: Formula, limits: &Limits) -> Result<Learning, Stop> {
         let variables = formula.likely.len();
         let mut search = Learning {
-            clauses: formula.clauses,
-            watches: vec![Vec::new(); 2 * variables],
+            watches: Watches::new(formula.clauses, variables),
             trail: Trail::new(variables),
             order: Order::new(variables, &formula.early),
             likely: formula.likely,
             seen: Seen::new(variables),
             learned: 0,
             most_learned: LEARNED,
-            unlooked: 0,
             impossible: formula.impossible,
         };
-        search.watch_all(limits)?;
+        for literal in search.watches.renew(limits)? {
+            search.impossible |= search.trail.is_false(literal);
+            if search.trail.value(literal).is_none() {
+                search.trail.set(literal, None);
+            }
+        }
         Ok(search)
-    }
-
-    /// Watches the first two literals of every clause; a clause of one literal sets it.
-    fn watch_all(&mut self, limits: &Limits) -> Result<(), Stop> {
-        self.watches.iter_mut().for_each(Vec::clear);
-        let mut alone = Vec::new();
-        for (count, clause) in self.clauses.iter().enumerate() {
-            if count % CLAUSES == 0 {
-                limits.look()?;
-            }
-            match *self.clauses.literals(clause) {
-                [] => self.impossible = true,
-                [literal] => alone.push(literal),
-                [a, b, ..] => {
-                    self.watches[(!a).place()].push(Watch { clause, other: b });
-                    self.watches[(!b).place()].push(Watch { clause, other: a });
-                }
-            }
-        }
-        for literal in alone {
-            self.impossible |= self.trail.is_false(literal);
-            if self.trail.value(literal).is_none() {
-                self.trail.set(literal, None);
-            }
-        }
-        Ok(())
-    }
-
-    /// Sets all that follows; the clause that has become false, if one has.
-    fn follow(&mut self) -> Option<Clause> {
-        while let Some(&literal) = self.trail.literals().get(self.trail.next) {
-            self.trail.next += 1;
-            let mut list = std::mem::take(&mut self.watches[literal.place()]);
-            self.unlooked += list.len();
-            let conflict = self.follow_one(literal, &mut list);
-            self.watches[literal.place()] = list;
-            if conflict.is_some() {
-                return conflict;
-            }
-        }
-        None
-    }
-
-    /// Looks at the clauses that wait for this literal, and leaves in the list those that still do.
-    fn follow_one(&mut self, literal: Literal, list: &mut Vec<Watch>) -> Option<Clause> {
-        let (mut from, mut to) = (0, 0);
-        let mut conflict = None;
-        while from < list.len() && conflict.is_none() {
-            let watch = list[from];
-            from += 1;
-            list[to] = watch;
-            to += 1;
-            if self.trail.is_true(watch.other) {
-                continue;
-            }
-            let first = self.first_other(watch.clause, !literal);
-            if first != watch.other && self.trail.is_true(first) {
-                list[to - 1].other = first;
-            } else if let Some(instead) = self.watch_another(watch.clause) {
-                to -= 1;
-                self.watches[(!instead).place()].push(Watch { other: first, ..watch });
-            } else if self.trail.is_false(first) {
-                conflict = Some(watch.clause);
-            } else {
-                list[to - 1].other = first;
-                self.trail.set(first, Some(watch.clause));
-            }
-        }
-        list.copy_within(from.., to);
-        list.truncate(to + list.len() - from);
-        conflict
-    }
-
-    /// Puts the watched literal that is false second; the other one.
-    fn first_other(&mut self, clause: Clause, false_one: Literal) -> Literal {
-        let literals = self.clauses.literals_mut(clause);
-        if literals[0] == false_one {
-            literals.swap(0, 1);
-        }
-        literals[0]
-    }
-
-    /// Puts a literal that is not false in the second place, where there is one.
-    fn watch_another(&mut self, clause: Clause) -> Option<Literal> {
-        let literals = self.clauses.literals_mut(clause);
-        let trail = &self.trail;
-        let place = 2 + literals[2..].iter().position(|&literal| !trail.is_false(literal))?;
-        literals.swap(1, place);
-        Some(literals[1])
     }
 
     /// Takes back the levels past this one, and remembers the values.
@@ -169,22 +70,15 @@ impl Learning {
         if self.trail.levels() == 0 {
             return false;
         }
-        let Learning { clauses, trail, order, seen, .. } = self;
-        let mut look = Conflict { clauses, trail, order, seen };
+        let Learning { watches, trail, order, seen, .. } = self;
+        let mut look = Conflict { clauses: &watches.clauses, trail, order, seen };
         let Lesson { literals, level, score } = look.lesson(conflict);
         self.back(level);
         self.order.grow();
-        let reason = (literals.len() > 1).then(|| self.keep(&literals, score));
+        let reason = (literals.len() > 1).then(|| self.watches.add(&literals, score));
+        self.learned += usize::from(reason.is_some());
         self.trail.set(literals[0], reason);
         true
-    }
-
-    fn keep(&mut self, literals: &[Literal], score: usize) -> Clause {
-        let clause = self.clauses.push(literals, score);
-        self.learned += 1;
-        self.watches[(!literals[0]).place()].push(Watch { clause, other: literals[1] });
-        self.watches[(!literals[1]).place()].push(Watch { clause, other: literals[0] });
-        clause
     }
 
     /// Frees the half of the learned clauses that is worth least. To be asked at level 0, where all
@@ -194,15 +88,16 @@ impl Learning {
         let worth = |clauses: &Clauses, clause: Clause| {
             (clauses.score(clause), clauses.literals(clause).len())
         };
-        let learned = self.clauses.iter().filter(|&it| self.clauses.score(it) > 0);
-        let mut worths: Vec<_> = learned.map(|clause| worth(&self.clauses, clause)).collect();
+        let clauses = &mut self.watches.clauses;
+        let learned = clauses.iter().filter(|&it| clauses.score(it) > 0);
+        let mut worths: Vec<_> = learned.map(|clause| worth(clauses, clause)).collect();
         worths.sort_unstable();
         let Some(&middle) = worths.get(worths.len() / 2) else { return Ok(()) };
-        self.clauses
-            .retain(|all, clause| all.score(clause) <= KEPT_SCORE || worth(all, clause) < middle);
-        self.learned = self.clauses.iter().filter(|&it| self.clauses.score(it) > 0).count();
+        clauses.retain(|all, it| all.score(it) <= KEPT_SCORE || worth(all, it) < middle);
+        self.learned = clauses.iter().filter(|&it| clauses.score(it) > 0).count();
         self.most_learned = (self.most_learned + self.most_learned / 10).max(2 * self.learned);
-        self.watch_all(limits)
+        // clauses of one literal have set it long ago
+        self.watches.renew(limits).map(drop)
     }
 
     /// The next literal to decide on: an assumed one, else the most active variable's. An error
@@ -233,7 +128,7 @@ impl Learning {
     ) -> Result<Option<Option<Model>>, Stop> {
         let mut met = 0;
         loop {
-            if let Some(conflict) = self.follow() {
+            if let Some(conflict) = self.watches.follow(&mut self.trail) {
                 met += 1;
                 if !self.learn(conflict) {
                     self.impossible = true;
@@ -242,8 +137,8 @@ impl Learning {
                 limits.conflict()?;
                 continue;
             }
-            if self.unlooked > UNLOOKED {
-                self.unlooked = 0;
+            if self.watches.gone_through > UNLOOKED {
+                self.watches.gone_through = 0;
                 limits.look()?;
             }
             if met >= conflicts || self.learned > self.most_learned {
@@ -379,8 +274,8 @@ mod tests {
         assert_eq!(search.solve(&[], &mut limits()), Ok(None));
         assert!(search.most_learned > 50, "none were freed");
         assert!(search.learned <= search.most_learned + 1);
-        let learned = search.clauses.iter().filter(|&it| search.clauses.score(it) > 0).count();
-        assert_eq!(learned, search.learned);
+        let clauses = &search.watches.clauses;
+        assert_eq!(clauses.iter().filter(|&it| clauses.score(it) > 0).count(), search.learned);
     }
 
     #[test]

@@ -5,6 +5,7 @@ pub mod learning;
 pub mod order;
 pub mod outside;
 pub mod trail;
+pub mod watches;
 
 use crate::formula::Literal;
 use crate::limits::{Limits, Stop};

@@ -1,34 +1,22 @@
 //! A search by another program, which reads DIMACS and answers as solvers of that kind do.
 
 use std::io::{self, Write};
+use std::sync::Arc;
 
 use crate::child;
-use crate::formula::{Clauses, Formula, Literal};
+use crate::formula::{Formula, Literal};
 use crate::limits::{Limits, Stop};
 use crate::search::{Model, Search};
 
 /// A formula and the program that is asked about it, anew each time.
 pub struct Outside {
     program: String,
-    formula: Formula,
-    count: usize,
+    formula: Arc<Formula>,
 }
 
 impl Outside {
     pub fn new(program: &str, formula: Formula) -> Outside {
-        let count = formula.clauses.iter().count();
-        Outside { program: program.to_string(), formula, count }
-    }
-
-    /// Assumed literals are clauses of their own.
-    fn write(&self, assumed: &[Literal], out: &mut dyn Write) -> io::Result<()> {
-        let clauses: &Clauses = &self.formula.clauses;
-        writeln!(out, "p cnf {} {}", self.formula.likely.len(), self.count + assumed.len())?;
-        for clause in clauses.iter() {
-            write_clause(clauses.literals(clause), out)?;
-        }
-        assumed.iter().try_for_each(|&literal| write_clause(&[literal], out))?;
-        out.flush()
+        Outside { program: program.to_string(), formula: Arc::new(formula) }
     }
 
     /// The model of a solver's answer: `s SATISFIABLE` and lines of values that begin with `v`, or
@@ -63,6 +51,18 @@ impl Outside {
     }
 }
 
+/// The formula in DIMACS. Assumed literals are clauses of their own.
+fn write(formula: &Formula, assumed: &[Literal], out: &mut dyn Write) -> io::Result<()> {
+    let clauses = &formula.clauses;
+    let count = clauses.iter().count() + assumed.len();
+    writeln!(out, "p cnf {} {count}", formula.likely.len())?;
+    for clause in clauses.iter() {
+        write_clause(clauses.literals(clause), out)?;
+    }
+    assumed.iter().try_for_each(|&literal| write_clause(&[literal], out))?;
+    out.flush()
+}
+
 /// Variables are numbered from 1 on, the opposite by the number below 0.
 fn write_clause(literals: &[Literal], out: &mut dyn Write) -> io::Result<()> {
     for literal in literals {
@@ -77,7 +77,9 @@ impl Search for Outside {
         if self.formula.impossible {
             return Ok(None);
         }
-        let asked = child::answer(&self.program, |out| self.write(assumed, out), limits)?;
+        let (formula, assumed) = (Arc::clone(&self.formula), assumed.to_vec());
+        let written = move |out: &mut dyn Write| write(&formula, &assumed, out);
+        let asked = child::answer(&self.program, written, limits)?;
         let answer = asked.ok_or_else(|| self.failed("cannot be run"))?;
         self.read(&String::from_utf8_lossy(&answer))
     }
@@ -98,7 +100,7 @@ mod tests {
     fn clauses_are_written_in_dimacs() {
         let (outside, a, _) = outside();
         let mut written = Vec::new();
-        outside.write(&[!a], &mut written).unwrap();
+        write(&outside.formula, &[!a], &mut written).unwrap();
         assert_eq!(written, b"p cnf 3 3\n1 0\n2 -3 0\n-2 0\n");
     }
 
