@@ -41,10 +41,16 @@ impl Limits {
     pub fn look(&self) -> Result<(), Stop> {
         if Instant::now() >= self.until {
             Err(Stop::Time)
-        } else if counted::bytes() > self.most_bytes {
-            Err(Stop::Memory)
         } else {
-            Ok(())
+            self.allow(0)
+        }
+    }
+
+    /// Looks at the memory that it will be with so many bytes more.
+    pub fn allow(&self, bytes: usize) -> Result<(), Stop> {
+        match counted::bytes().saturating_add(bytes) > self.most_bytes {
+            true => Err(Stop::Memory),
+            false => Ok(()),
         }
     }
 
@@ -71,6 +77,8 @@ mod tests {
         assert_eq!(Limits::new(Duration::ZERO, usize::MAX).look(), Err(Stop::Time));
         let lent = vec![1_u8; 1 << 20];
         assert_eq!(Limits::new(hour, lent.len()).look(), Err(Stop::Memory));
+        let room = Limits::new(hour, 1 << 40);
+        assert_eq!([room.allow(1 << 20), room.allow(1 << 40)], [Ok(()), Err(Stop::Memory)]);
         let mut two = Limits::new(hour, usize::MAX).with_conflicts(2);
         let taken = [two.conflict(), two.conflict(), two.conflict()];
         assert_eq!(taken, [Ok(()), Ok(()), Err(Stop::Conflicts)]);

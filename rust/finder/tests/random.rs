@@ -1,7 +1,7 @@
 //! The finder beside the library's own sweep, on sheets drawn by chance: where the sweep finds a
 //! sentence the finder finds one of the same length, else it finds none of one token or more.
 
-use std::collections::HashMap;
+use std::collections::{BTreeMap, HashMap};
 use std::time::Duration;
 
 use finder::{Finder, Found, Guide, Limits};
@@ -62,9 +62,26 @@ fn swept(rules: &[u8]) -> Option<(usize, Option<usize>)> {
     })
 }
 
-fn found(rules: &[u8], bound: usize) -> Option<usize> {
+/// A guide that leaves nothing out: all pairs of rules of each nonterminal.
+fn all_pairs(rules: &[u8]) -> Guide {
+    let text = String::from_utf8_lossy(rules);
+    let lefts: Vec<usize> = text
+        .lines()
+        .skip(1)
+        .map(|line| line.split(' ').next().expect("a left").parse().expect("a number"))
+        .collect();
+    let mut pairs: BTreeMap<usize, Vec<(usize, usize)>> = BTreeMap::new();
+    for (second, &left) in lefts.iter().enumerate() {
+        let own = (0..=second).filter(|&first| lefts[first] == left);
+        pairs.entry(left).or_default().extend(own.map(|first| (first, second)));
+    }
+    Guide::At(pairs)
+}
+
+/// The length of the sentence that the finder finds.
+fn found(rules: &[u8], bound: usize, guide: Guide) -> Option<usize> {
     let mut limits = Limits::new(Duration::from_secs(3600), 512 << 20);
-    match Finder::new(rules, bound, Guide::Everywhere, None).find(&mut limits) {
+    match Finder::new(rules, bound, guide, None).find(&mut limits) {
         Found::Patch(patch) => {
             let mut words = vec![0; words_for(patch.0.len())];
             let reply = verdict(rules, patch.sheet().as_bytes(), &mut words);
@@ -90,9 +107,11 @@ fn lengths_are_those_of_the_sweep() {
         count += 1;
         let sheet = String::from_utf8_lossy(&rules);
         // the sentence of no tokens comes last
-        let found = found(&rules, bound).filter(|&length| length > 0);
-        assert_eq!(found, shortest, "up to {bound}:\n{sheet}");
-        *lengths.entry(found).or_default() += 1;
+        for guide in [Guide::Everywhere, all_pairs(&rules)] {
+            let found = found(&rules, bound, guide).filter(|&length| length > 0);
+            assert_eq!(found, shortest, "up to {bound}:\n{sheet}");
+        }
+        *lengths.entry(shortest).or_default() += 1;
     }
     let often = |length| lengths.get(&length).copied().unwrap_or(0);
     assert!((1..=5).all(|length| often(Some(length)) > 0) && often(None) > 100, "{lengths:?}");

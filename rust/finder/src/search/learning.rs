@@ -17,6 +17,9 @@ const UNLOOKED: usize = 1 << 15;
 /// Learned clauses to keep before the first are freed.
 const LEARNED: usize = 4000;
 
+/// Bytes that a variable takes, its two lists of watches included while they are empty.
+const VARIABLE: usize = 96;
+
 /// Learned clauses of so few levels are kept whatever there is besides.
 const KEPT_SCORE: usize = 2;
 
@@ -37,6 +40,7 @@ impl Learning {
     /// Takes over the formula's clauses.
     pub fn new(formula: Formula, limits: &Limits) -> Result<Learning, Stop> {
         let variables = formula.likely.len();
+        limits.allow(VARIABLE * variables)?;
         let mut search = Learning {
             watches: Watches::new(formula.clauses, variables),
             trail: Trail::new(variables),
