@@ -1,5 +1,6 @@
-# The call `find` of bin/teplonga; sourced by it after scripts/run.sh. The finder is a program in plain Rust (rust/finder)
-# that is linked with the proved library, so it is built in another way than the proved programs, and it takes options.
+# The call `find` of bin/teplonga; sourced by it after scripts/run.sh. The finder is a program in
+# plain Rust (rust/finder) that is linked with the proved library, so it is built in another way than
+# the proved programs, and it takes options.
 
 seconds=10
 to=24
@@ -77,17 +78,19 @@ is_finder_built() {
 build_finder() {
     for tool in rt cargo; do
         command -v "$tool" >/dev/null 2>&1 || {
-            say "the finder is not built yet (or older than its sources), and the command \`$tool\`, which it is built with, is not found: see README.md, \"Run\""
+            say "the finder is not built yet (or older than its sources), and the command" \
+                "\`$tool\`, which it is built with, is not found: see README.md, \"Run\""
             return 1
         }
     done
-    say "the finder is built first, and the library that it asks is proved: some minutes where that is not done yet"
+    say "the finder is built first: some minutes where the library that it asks is not proved yet"
     mkdir -p "$top/target/bin" || return 1
     log=$top/target/build-finder.log
     (
         cd "$top" || exit
         bin/library || exit
-        cargo build --release --manifest-path rust/finder/Cargo.toml --target-dir target/cargo || exit
+        cargo build --release --manifest-path rust/finder/Cargo.toml \
+            --target-dir target/cargo || exit
         cp target/cargo/release/finder target/bin/finder && touch target/bin/finder
     ) </dev/null >"$log" 2>&1 || {
         say "it could not be built; target/build-finder.log says why"
