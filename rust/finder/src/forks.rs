@@ -81,11 +81,12 @@ impl Forks<'_> {
         }
     }
 
-    /// A literal that is true only where a parent is.
+    /// A literal that is true only where a parent is. One of its own may ask for a tree besides; a
+    /// parent's may not, since a bare choice hands it down whether there is a tree or not.
     fn reached(&mut self, node: Node, parents: &[Literal]) -> Literal {
         let tree = self.trees.tree(node);
         let reached = self.trees.formula.some(parents);
-        if parents.len() > 1 {
+        if !parents.contains(&reached) {
             self.trees.formula.implies(reached, &[tree]);
         }
         reached

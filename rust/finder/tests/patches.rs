@@ -53,6 +53,15 @@ fn a_fork_below_a_loop() {
     assert_eq!(found(&rules(text), 24), Some(vec![(1, 1), (2, 2)]));
 }
 
+/// Nonterminal 1 can be reached from the start in two ways, and the fork is in 2, in words that 1
+/// does not have: what can be reached need not have a tree.
+#[test]
+fn a_fork_beside_what_has_no_tree() {
+    let text = "0 U 1 - none / 0 U 2 - none / 0 U 3 - none / 3 U 1 - single / 1 B 6 6 indent / \
+        6 A 0 - none / 2 B 4 4 none / 2 B 5 5 none / 4 A 1 - none / 5 A 1 - none";
+    assert_eq!(found(&rules(text), 24), Some(vec![(1, 1), (1, 2)]));
+}
+
 /// A rule for two words of its nonterminal, whose leaves are words of so many tokens.
 fn stretched(mark: &str, tokens: usize) -> Vec<u8> {
     let link = |at: usize| format!("{} B 63 {} none", at - 1, at);
