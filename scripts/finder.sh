@@ -1,6 +1,6 @@
 # The call `find` of bin/teplonga; sourced by it after scripts/run.sh. The finder is a program in
-# plain Rust (rust/finder) that is linked with the proved library, so it is built in another way than
-# the proved programs, and it takes options.
+# plain Rust (rust/finder) that is linked with the proved library, so it is built in another way
+# than the proved programs, and it takes options.
 
 seconds=10
 to=24

@@ -22,13 +22,14 @@ impl Chance {
         words[self.below(words.len())]
     }
 
-    fn rule(&mut self, nonterminals: usize, terminals: usize) -> String {
+    /// A rule, of which more or fewer are unary.
+    fn rule(&mut self, nonterminals: usize, terminals: usize, unary: usize) -> String {
         let left = self.below(nonterminals);
         let (first, second) = (self.below(nonterminals), self.below(nonterminals));
-        match self.below(20) {
+        match self.below(16 + unary) {
             0 => format!("{left} E - - none"),
             1..=6 => format!("{left} A {} - none", self.below(terminals)),
-            7..=10 => {
+            16.. => {
                 let lay = self.one(&["none", "none", "offside", "offalign", "single"]);
                 format!("{left} U {first} - {lay}")
             }
@@ -39,12 +40,15 @@ impl Chance {
         }
     }
 
-    /// A sheet of few rules.
+    /// A sheet of few rules; or one of more rules, nonterminals and terminals with many unary rules
+    /// among them, in which fewer words have two trees.
     fn sheet(&mut self) -> Vec<u8> {
-        let (nonterminals, terminals) = (1 + self.below(5), 1 + self.below(3));
-        let rules = 2 + self.below(9);
-        let lines: String =
-            (0..rules).map(|_| format!("{}\n", self.rule(nonterminals, terminals))).collect();
+        let (nonterminals, terminals, rules, unary) = match self.below(2) {
+            0 => (1 + self.below(5), 1 + self.below(3), 2 + self.below(9), 4),
+            _ => (4 + self.below(6), 4 + self.below(4), 10 + self.below(10), 16),
+        };
+        let mut line = || format!("{}\n", self.rule(nonterminals, terminals, unary));
+        let lines: String = (0..rules).map(|_| line()).collect();
         format!("left kind first second lay\n{lines}").into_bytes()
     }
 }
