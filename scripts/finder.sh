@@ -50,6 +50,10 @@ find_options() {
             [ -n "${2-}" ] || bad_value "$1" "the name of a program"
             solver=$2
             ;;
+        -h | --help)
+            printf '%s\n' "$help"
+            exit 0
+            ;;
         --)
             taken=$((taken + 1))
             return

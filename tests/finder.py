@@ -239,6 +239,7 @@ class Inputs(unittest.TestCase):
             find("--seconds", ".5", "--to", "007", "--memory", "64", "--", "-", data=PLAIN)[0], 0
         )
         self.assertIn(b"\n  find ", run(CALL)[1])
+        self.assertEqual(find("--to", "5", "--help"), run(CALL, "--help"))
 
     def test_a_failed_write_is_3(self):
         self.assertEqual(run("sh", "-c", f"'{FINDER}' >/dev/full", data=PLAIN)[0], 3)

@@ -52,3 +52,34 @@ impl Tokens {
         (classes, literals)
     }
 }
+
+#[cfg(test)]
+mod tests {
+    use super::*;
+    use crate::limits::Limits;
+    use crate::search::{learning::Learning, Search};
+    use std::time::Duration;
+
+    #[test]
+    fn a_token_is_of_one_class() {
+        let limits = || Limits::new(Duration::from_secs(3600), usize::MAX);
+        let mut formula = Formula::new();
+        let mut tokens = Tokens::any(2, 3, &mut formula);
+        let [low, high] = [0b011, 0b110].map(|set| tokens.of(0, set, &mut formula));
+        assert_eq!(tokens.of(0, 0b111, &mut formula), Literal::TRUE);
+        assert_eq!(tokens.of(0, 0b110, &mut formula), high);
+        let last = tokens.of(1, 0b100, &mut formula);
+        let mut search = Learning::new(formula, &limits()).unwrap();
+        let model = search.solve(&[low, high, last], &mut limits()).unwrap().unwrap();
+        let (classes, literals) = tokens.in_model(&model);
+        assert_eq!((classes, literals[1]), (vec![1, 2], last));
+    }
+
+    #[test]
+    fn of_one_class_nothing_is_asked() {
+        let mut formula = Formula::new();
+        let mut tokens = Tokens::any(2, 1, &mut formula);
+        assert_eq!(tokens.of(1, 1, &mut formula), Literal::TRUE);
+        assert_eq!(tokens.in_model(&Model::new(vec![true])).0, [0, 0]);
+    }
+}
