@@ -81,6 +81,11 @@ def find(*words, **more):
     return run(CALL, "find", *words, **more)
 
 
+def unguided(path, *words, **more):
+    """The finder by itself, which does not ask the test for every length."""
+    return run(FINDER, *words, data=path.read_bytes(), **more)
+
+
 def has_two(path, tokens):
     """Does the unrelated implementation say that a sentence has two trees?"""
     checked = teplonga.check_program(path.read_bytes() + b"\n" + tokens)
@@ -116,12 +121,10 @@ class Variants(unittest.TestCase):
 
     def test_nothing_is_found_where_there_is_nothing(self):
         for name, most in (("block-repaired", 16), ("haskell", 16), ("fsharp", 12), ("yaml", 7)):
+            path, words = SHEETS / f"{name}.rules", ["--seconds", "600", "--to", most]
             said = f"nothing found up to {most} tokens\n"
-            self.assertEqual(
-                find("--seconds", "600", "--to", most, SHEETS / f"{name}.rules", timeout=900),
-                (0, UNKNOWN, said),
-                name,
-            )
+            self.assertEqual(unguided(path, *words, timeout=900), (0, UNKNOWN, said), name)
+            self.assertEqual(find(*words, path, timeout=900)[:2], (0, UNKNOWN), name)
 
     def test_the_sentence_that_README_shows(self):
         text = (TOP / "README.md").read_text()
@@ -254,7 +257,7 @@ class Limits(unittest.TestCase):
 
     def test_a_tenth_of_a_second(self):
         # all of these lengths would take hours
-        status, out, errors = find("--seconds", "0.1", "--to", "64", SHEETS / "yaml.rules")
+        status, out, errors = unguided(SHEETS / "yaml.rules", "--seconds", "0.1", "--to", "64")
         self.assertEqual((status, out), (0, UNKNOWN))
         self.assertRegex(
             errors, r"^nothing found( up to \d+ tokens?)?: the 0\.1 seconds are over\n$"
@@ -327,9 +330,8 @@ class Others(unittest.TestCase):
             self.assertEqual(len(tokens.splitlines()) - 1, length, name)
             self.assertTrue(has_two(path, tokens), name)
         said = "nothing found up to 8 tokens\n"
-        self.assertEqual(
-            find("--to", "8", "--solver", "cadical", SHEETS / "haskell.rules"), (0, UNKNOWN, said)
-        )
+        none = unguided(SHEETS / "haskell.rules", "--to", "8", "--solver", "cadical")
+        self.assertEqual(none, (0, UNKNOWN, said))
 
     def test_a_solver_is_not_believed(self):
         solver = self.program("cat > /dev/null; echo 's SATISFIABLE'; echo 'v 0'")
