@@ -1,0 +1,9 @@
+-- Clear at every length.
+use Rattle.grammar.specs.Layout.{Word}
+use Rattle.grammar.specs.Trees.{Rules, TwoTrees}
+use Rattle.grammar.specs.Candidates.{Rising, Wide}
+
+-- no sequence of tokens, of any length, none at all included, has two trees of 0: whatever its
+-- terminals, lines, columns and widths, if it rises and each width is 1 or more
+pub record AlwaysClear (g : Rules) : Type 0 where
+  pub clear : (w : Word) → Rising w → Wide w → TwoTrees g 0 w → ⊥
