@@ -1,0 +1,9 @@
+pub mod Every
+pub mod LevelLaws
+pub mod Nodes
+pub mod OffsetLaws
+pub mod NodeLaws
+pub mod SettingLaws
+pub mod PairLaws
+pub mod ClearLaws
+pub mod DoubtLaws

@@ -1,3 +1,4 @@
+pub mod InOrder
 pub mod PaperLaws
 pub mod PlaceLaws
 pub mod ListLaws

@@ -1,11 +1,12 @@
 -- The list of places: there is one at most, and it is empty exactly if the sentence has not two trees.
-use mathlib.Core.Path.{_≡_, refl, sym, ap₂, _∙_, subst}
-use mathlib.Core.Logic.{_⊎_, inl, inr, ⊎-elim, _↔_}
-use mathlib.Core.List.{List, [], _∷_, List·Memᴰ, List·Memᴰ·head, List·Memᴰ·tail}
+use mathlib.Core.Path.{_≡_, refl, subst}
+use mathlib.Core.Logic.{inl, inr, _↔_}
+use mathlib.Core.List.{List, [], _∷_, List·Memᴰ}
 use native.Mathlib.Omega.{arith}
 use Rattle.grammar.specs.Layout.{Word, Every}
 use Rattle.grammar.specs.Trees.{Rules, TwoTrees}
 use Rattle.grammar.proofs.Lists.{mem-every}
+use Rattle.places.proofs.InOrder.{InOrder, no-member, same-entries}
 use Rattle.places.specs.Places.{Place, Entry, Sooner, Ordered, AllPlaces}
 use Rattle.places.proofs.PlaceLaws.{place-two, two-place}
 use Rattle.grammar.specs.Distinct.{Distinct}
@@ -21,44 +22,14 @@ sooner-not e f (inr (inr x)) (inl y) = omega (arith, x .0)
 sooner-not e f (inr (inr x)) (inr (inl y)) = omega (arith, x .1, y .1)
 sooner-not e f (inr (inr x)) (inr (inr y)) = omega (arith, x .2, y .2)
 
--- a member is the first entry or one after it
-first-or : {e f : Entry} {es : List Entry} → List·Memᴰ e (f ∷ es) → (e ≡ f) ⊎ List·Memᴰ e es
-first-or (List·Memᴰ·head h) = inl h
-first-or (List·Memᴰ·tail m) = inr m
-
-no-member : {e : Entry} → List·Memᴰ e [] → ⊥
-no-member = elim [ ]
-
--- entries in order are settled by which they are
-same-entries : (es fs : List Entry) → Ordered es → Ordered fs → ((e : Entry) → List·Memᴰ e es → List·Memᴰ e fs)
-    → ((e : Entry) → List·Memᴰ e fs → List·Memᴰ e es) → es ≡ fs
-same-entries [] [] o p to of = refl
-same-entries [] (f ∷ fs) o p to of = absurd (no-member (of f (List·Memᴰ·head refl)))
-same-entries (e ∷ es) [] o p to of = absurd (no-member (to e (List·Memᴰ·head refl)))
-same-entries (e ∷ es) (f ∷ fs) o p to of = ap₂ (λ (x : Entry) (l : List Entry). x ∷ l) one (same-entries es fs (o .1) (p .1) (rest-to one) (rest-of one))
-  where
-    one : e ≡ f
-    one =
-        ⊎-elim (λ x. x)
-        (λ x. ⊎-elim (λ y. sym y) (λ y. absurd (sooner-not f e (mem-every (Sooner f) fs (p .0) x) (mem-every (Sooner e) es (o .0) y))) (first-or (of f (List·Memᴰ·head refl))))
-        (first-or (to e (List·Memᴰ·head refl)))
-
-    rest-to : e ≡ f → (x : Entry) → List·Memᴰ x es → List·Memᴰ x fs
-    rest-to q x m =
-        ⊎-elim
-        (λ y. let z : Sooner e e = subst (Sooner e) (y ∙ sym q) (mem-every (Sooner e) es (o .0) m) in absurd (sooner-not e e z z))
-        (λ y. y) (first-or (to x (List·Memᴰ·tail m)))
-
-    rest-of : e ≡ f → (x : Entry) → List·Memᴰ x fs → List·Memᴰ x es
-    rest-of q x m =
-        ⊎-elim
-        (λ y. let z : Sooner f f = subst (Sooner f) (y ∙ q) (mem-every (Sooner f) fs (p .0) m) in absurd (sooner-not f f z z))
-        (λ y. y) (first-or (of x (List·Memᴰ·tail m)))
+in-order : (es : List Entry) → Ordered es → InOrder Sooner es
+in-order [] o = tt
+in-order (e ∷ es) o = (o .0, in-order es (o .1))
 
 -- THE LIST IS SETTLED
 pub places-same : {g : Rules} {ts : Word} {es fs : List Entry} → AllPlaces g ts es → AllPlaces g ts fs → es ≡ fs
 places-same {es = es} {fs} a b =
-    same-entries es fs (a .ordered) (b .ordered)
+    same-entries Sooner sooner-not es fs (in-order es (a .ordered)) (in-order fs (b .ordered))
     (λ e m. b .all (e .nonterminal) (e .start) (e .len) (mem-every _ es (a .each) m))
     (λ e m. a .all (e .nonterminal) (e .start) (e .len) (mem-every _ fs (b .each) m))
 

@@ -44,7 +44,7 @@ rising-rest : (a : Token) (w : Word) → RisingFrom a w → Rising w
 rising-rest a [] r = tt
 rising-rest a (b ∷ w) r = r .1
 
-later-after : (w : Word) → Rising w → (i j : ℕ) → i < j → j < length w → After (tokenAt w i) (tokenAt w j)
+pub later-after : (w : Word) → Rising w → (i j : ℕ) → i < j → j < length w → After (tokenAt w i) (tokenAt w j)
 later-after [] r i j l h = absurd (omega arith)
 later-after (a ∷ w) r i zero l h = absurd (omega arith)
 later-after (a ∷ w) r zero (suc j) l h = after-at a w r j (omega arith)
