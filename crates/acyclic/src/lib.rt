@@ -12,7 +12,7 @@ ghost use Rattle.acyclic.specs.Exact.{Exactly};
 ghost use Rattle.acyclic.specs.Passes.{Grown, Passed, Ready, AddsLeft, LeadsTo, AddsTargets};
 
 // Do members of the set make the clause's word empty?
-fn ready(set: u64, c: Clause) -> bool
+pub fn ready(set: u64, c: Clause) -> bool
     requires { ⌜ SmallClause c ⌝ }
     ensures { λ r. ⌜ Says r (Ready set c) ⌝ }
 {

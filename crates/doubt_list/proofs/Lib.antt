@@ -1,0 +1,3 @@
+pub mod Doubting
+pub mod ListLaws
+pub mod Going

@@ -1,0 +1,25 @@
+-- `doubt_list::list_same` meets its contract.
+use native.Mathlib.Omega.{arith}
+use Rattle.doubt_list.proofs.Going.{lists-same}
+use borrow.Author.Needs.{needs}
+use Rattle.doubt_list.proofs.list_same.Statement.{statement}
+use Rattle.doubt_list.proofs.list_same.Tie as tie
+
+marked-requires : tie.Need-marked-requires
+marked-requires c κs = search needs
+
+put-if-requires : tie.Need-put-if-requires
+put-if-requires c κs = search needs
+
+same-length : tie.Need-same-length
+same-length c = search needs
+
+returns : tie.Need-returns
+returns c =
+    let p = c .before .before in
+    let m = p .before .before in
+    let z = m .before .before .before in
+    lists-same (z .pre .0) (z .args .a) (z .args .p) (z .pre .1 .0 .0) (z .pre .1 .0 .1) (z .pre .1 .1) (m .marked .ensures) (p .put-if .ensures)
+
+pub list-same-spec : {M : Type 1} → statement M
+list-same-spec = tie.close (tie.spec marked-requires put-if-requires same-length returns)

@@ -1,0 +1,53 @@
+-- `doubt_list::put_if` meets its contract.
+use mathlib.Core.Path.{refl, sym, _∙_}
+use borrow.Author.Tests.{not-true, not-false}
+use Rattle.sets.proofs.Says.{true-not-false}
+use borrow.Author.Needs.{needs}
+use Rattle.doubt_list.proofs.put_if.Statement.{statement}
+use Rattle.doubt_list.proofs.put_if.Tie as tie
+
+returns : tie.Need-returns
+returns c = record { put = λ e. absurd (true-not-false (sym e ∙ not-true _ (c .if1 .taken))); same = λ e. (refl, refl) }
+
+add-t10 : tie.Need-add-t10
+add-t10 c = search needs
+
+cast-t11 : tie.Need-cast-t11
+cast-t11 c = search needs
+
+add-t12 : tie.Need-add-t12
+add-t12 c = search needs
+
+cast-t13 : tie.Need-cast-t13
+cast-t13 c = search needs
+
+slice-aggregate-put : tie.Need-slice-aggregate-put
+slice-aggregate-put c = search needs
+
+put-requires : tie.Need-put-requires
+put-requires c κs = search needs
+
+same-length : tie.Need-same-length
+same-length c = search needs
+
+returns-2 : tie.Need-returns-2
+returns-2 c =
+    let p = c .before .before in
+    record {
+      put = λ e. (p .put .ensures, p .put .kept .0);
+      same = λ e. absurd (true-not-false (sym (not-false _ (p .before .before .before .if1 .left)) ∙ e));
+    }
+
+pub put-if-spec : {M : Type 1} → statement M
+put-if-spec =
+    tie.close
+    (tie.spec
+    returns
+    add-t10
+    cast-t11
+    add-t12
+    cast-t13
+    slice-aggregate-put
+    put-requires
+    same-length
+    returns-2)
