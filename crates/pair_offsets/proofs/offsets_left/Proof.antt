@@ -1,0 +1,47 @@
+use mathlib.Core.Path.{_≡_}
+use Prim.Native.Nat.{_≤_, _-_}
+use native.Mathlib.Omega.{arith}
+use borrow.Author.Needs.{needs}
+use Rattle.pair_offsets.specs.Lists.{OffsetsLeft}
+use Rattle.pair_offsets.proofs.ListLaws.{left-none, left-more}
+use Rattle.pair_offsets.proofs.offsets_left.Statement.{statement}
+use Rattle.pair_offsets.proofs.offsets_left.Tie as tie
+
+abbrev Inv-loop : tie.InvT-loop
+Inv-loop list from end m r₀ i₀ r i = (from ≤ i) × (i ≤ end) × OffsetsLeft list from i m r
+
+abbrev μ-loop : tie.MeasureT-loop
+μ-loop list from end m r₀ i₀ r i = end - i
+
+loop-holds : tie.Need-loop-holds Inv-loop μ-loop
+loop-holds c = (omega arith, search needs, left-none _ _ _)
+
+mul-t : tie.Need-mul-t Inv-loop μ-loop
+mul-t c = search needs
+
+shared-slice-read-t : tie.Need-shared-slice-read-t Inv-loop μ-loop
+shared-slice-read-t c = search needs
+
+with-offset-requires : tie.Need-with-offset-requires Inv-loop μ-loop
+with-offset-requires c κs = search needs
+
+add-i : tie.Need-add-i Inv-loop μ-loop
+add-i c = search needs
+
+loop-less : tie.Need-loop-less Inv-loop μ-loop
+loop-less c = search needs
+
+loop-again : tie.Need-loop-again Inv-loop μ-loop
+loop-again c =
+    let i = c .before .before .before .loop .inv in
+    (omega (arith, i .0), search needs, left-more (i .0) (i .2) (c .with-offset .ensures))
+
+returns : tie.Need-returns Inv-loop μ-loop
+returns c =
+    let e : c .before .loop .i ≡ c .before .before .before .args .end = omega arith in
+    rw e at (c .before .loop .inv .2)
+
+pub offsets-left-spec : {M : Type 1} → statement M
+offsets-left-spec =
+    tie.close
+    (tie.spec Inv-loop μ-loop loop-holds mul-t shared-slice-read-t with-offset-requires add-i loop-less loop-again returns)

@@ -1,0 +1,49 @@
+use Rattle.sets.proofs.Says.{fails, says-iff}
+use borrow.Author.Needs.{needs}
+use Rattle.pair_offsets.proofs.sames.Statement.{statement}
+use Rattle.pair_offsets.proofs.sames.Tie as tie
+use Rattle.pair_offsets.proofs.sames.Reads as reads
+use Rattle.pair_offsets.proofs.sames.Lts as lts
+use Rattle.pair_offsets.proofs.same.Reads as same-reads
+
+same-requires : tie.Need-same-requires
+same-requires c κs = search needs
+
+same-requires-2 : tie.Need-same-requires-2
+same-requires-2 c κs = search needs
+
+same-requires-3 : tie.Need-same-requires-3
+same-requires-3 c κs = search needs
+
+returns : tie.Need-returns
+returns c =
+    let s₁ = c .before .before .before .before .same .ensures in
+    let s₂ = c .before .before .same2 .ensures in
+    record {
+      says = λ x y z i j k.
+          says-iff
+          (λ e.
+          record {
+            same₁ = s₁ .says x y z i j k .is (c .before .before .before .if1 .taken);
+            same₂ = s₂ .says y x z j i k .is (c .before .if2 .taken);
+            same₃ = e;
+          }) (λ s. s .same₃) (c .same3 .ensures .says z x y k i j);
+    }
+
+returns-2 : tie.Need-returns-2
+returns-2 c =
+    record {
+      says = λ x y z i j k.
+          fails (λ s. c .before .same2 .ensures .says y x z j i k .isnt (c .if2 .left) (s .same₂));
+    }
+
+returns-3 : tie.Need-returns-3
+returns-3 c =
+    record {
+      says = λ x y z i j k.
+          fails (λ s. c .before .same .ensures .says x y z i j k .isnt (c .if1 .left) (s .same₁));
+    }
+
+pub sames-spec : {M : Type 1} → statement M
+sames-spec =
+    tie.close (tie.spec same-requires same-requires-2 same-requires-3 returns returns-2 returns-3)
