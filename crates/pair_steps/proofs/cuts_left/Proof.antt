@@ -1,0 +1,34 @@
+use borrow.Author.Needs.{needs}
+use Rattle.pair_steps.proofs.cuts_left.Statement.{statement}
+use Rattle.pair_steps.proofs.cuts_left.Tie as tie
+use Rattle.pair_steps.proofs.cuts_left.Reads as reads
+use Rattle.pair_steps.proofs.cuts_left.Lts as lts
+use Rattle.pair_steps.proofs.ahead.Reads as ahead-reads
+use Rattle.pair_steps.proofs.pair.Reads as pair-reads
+
+pair-requires : tie.Need-pair-requires
+pair-requires c κs = search needs
+
+ahead-requires : tie.Need-ahead-requires
+ahead-requires c κs = search needs
+
+ahead-requires-2 : tie.Need-ahead-requires-2
+ahead-requires-2 c κs = search needs
+
+returns : tie.Need-returns
+returns c =
+    let e0 = c .before .before .pair .ensures in
+    let e1 = c .before .ahead .ensures in
+    let e2 = c .ahead2 .ensures in
+    record {
+      keeps = λ k h p.
+          e2 .keeps k (e1 .keeps k (e0 .keeps k h (p .0)) (p .1)) (p .2);
+      only = λ k h.
+          let q2 = e2 .only k h in
+          let q1 = e1 .only k (q2 .0) in
+          let q0 = e0 .only k (q1 .0) in
+          (q0 .0, (q0 .1, q1 .1, q2 .1));
+    }
+
+pub cuts-left-spec : {M : Type 1} → statement M
+cuts-left-spec = tie.close (tie.spec pair-requires ahead-requires ahead-requires-2 returns)

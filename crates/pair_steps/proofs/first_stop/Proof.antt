@@ -1,0 +1,24 @@
+use Rattle.pair_steps.specs.Leaving.{firstStop}
+use Rattle.pair_steps.proofs.NarrowLaws.{first-more}
+use mathlib.Core.Path.{_≡_, refl, sym, ap}
+use native.Mathlib.Omega.{arith}
+use borrow.Author.Needs.{needs}
+use Rattle.pair_steps.proofs.first_stop.Statement.{statement}
+use Rattle.pair_steps.proofs.first_stop.Tie as tie
+use Rattle.pair_steps.proofs.first_stop.Reads as reads
+use Rattle.pair_steps.proofs.first_stop.Lts as lts
+
+returns : tie.Need-returns
+returns c = search needs
+
+returns-2 : tie.Need-returns-2
+returns-2 c = search needs
+
+returns-3 : tie.Need-returns-3
+returns-3 c =
+    let a = c .before .before .args in
+    first-more (a .kids) (a .cut) (a .stop) (λ e. omega (arith, e, c .before .if1 .left))
+    (λ e. omega (arith, e, c .if2 .left))
+
+pub first-stop-spec : {M : Type 1} → statement M
+first-stop-spec = tie.close (tie.spec returns returns-2 returns-3)

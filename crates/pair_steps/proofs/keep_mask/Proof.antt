@@ -1,0 +1,35 @@
+use Rattle.pair_steps.proofs.NarrowLaws.{all-mask, keep-none, keep-offside, keep-offalign, keep-single}
+use borrow.Author.Needs.{needs}
+use Rattle.pair_steps.proofs.keep_mask.Statement.{statement}
+use Rattle.pair_steps.proofs.keep_mask.Tie as tie
+use Rattle.pair_steps.proofs.keep_mask.Reads as reads
+use Rattle.pair_steps.proofs.keep_mask.Lts as lts
+
+enum-told : tie.Need-enum-told
+enum-told c = search needs
+
+enum-told-2 : tie.Need-enum-told-2
+enum-told-2 c = search needs
+
+enum-told-3 : tie.Need-enum-told-3
+enum-told-3 c = search needs
+
+enum-told-4 : tie.Need-enum-told-4
+enum-told-4 c = search needs
+
+returns : tie.Need-returns
+returns c = rw (c .enum-told .given .1) (all-mask keep-none)
+
+returns-2 : tie.Need-returns-2
+returns-2 c = rw (c .enum-told2 .given .1) keep-offside
+
+returns-3 : tie.Need-returns-3
+returns-3 c = rw (c .enum-told3 .given .1) keep-offalign
+
+returns-4 : tie.Need-returns-4
+returns-4 c = rw (c .enum-told4 .given .1) keep-single
+
+pub keep-mask-spec : {M : Type 1} → statement M
+keep-mask-spec =
+    tie.close
+    (tie.spec enum-told enum-told-2 enum-told-3 enum-told-4 returns returns-2 returns-3 returns-4)

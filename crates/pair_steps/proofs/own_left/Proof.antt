@@ -1,0 +1,24 @@
+use Rattle.pair_steps.proofs.NarrowLaws.{narrow-and, narrow-then, narrow-as}
+use borrow.Author.Needs.{needs}
+use Rattle.pair_steps.proofs.own_left.Statement.{statement}
+use Rattle.pair_steps.proofs.own_left.Tie as tie
+use Rattle.pair_steps.proofs.own_left.Reads as reads
+use Rattle.pair_steps.proofs.own_left.Lts as lts
+use Rattle.pair_steps.proofs.ahead.Reads as ahead-reads
+use Rattle.pair_steps.proofs.inside.Reads as inside-reads
+
+inside-requires : tie.Need-inside-requires
+inside-requires c κs = search needs
+
+ahead-requires : tie.Need-ahead-requires
+ahead-requires c κs = search needs
+
+returns : tie.Need-returns
+returns c =
+    narrow-as (λ k p. (p .0 .0, p .0 .1, p .1)) (λ k p. ((p .0, p .1), p .2))
+    (narrow-then
+    (narrow-then (c .before .before .inside .ensures) (narrow-and _ _ _ (λ k p. p) (λ k p. p)))
+    (c .ahead .ensures))
+
+pub own-left-spec : {M : Type 1} → statement M
+own-left-spec = tie.close (tie.spec inside-requires ahead-requires returns)
