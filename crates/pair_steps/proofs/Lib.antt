@@ -1,2 +1,3 @@
 pub mod NarrowLaws
 pub mod FoundLaws
+pub mod TokenLaws

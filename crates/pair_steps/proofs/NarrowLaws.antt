@@ -37,7 +37,7 @@ shifted x b k =
 in-shift : (x b k : ℕ) → In x (b + k) → In (x / 2 ^ b) k
 in-shift x b k h = record { digit = shifted x b k ∙ h .digit }
 
-shift-in : (x b k : ℕ) → In (x / 2 ^ b) k → In x (b + k)
+pub shift-in : (x b k : ℕ) → In (x / 2 ^ b) k → In x (b + k)
 shift-in x b k h = record { digit = sym (shifted x b k) ∙ h .digit }
 
 pub narrow-and : (m x : ℕ) (P : ℕ → Type 0) → ((k : ℕ) → P k → In x k) → ((k : ℕ) → In x k → P k)

@@ -3,7 +3,7 @@ use grammar::BinaryMark;
 use grammar::UnaryMark;
 use pair_offsets::Frame;
 use pair_offsets::Masks;
-ghost use Prim.Native.Nat.{_+_, _≤_, _<_};
+ghost use Prim.Native.Nat.{_+_, _≤_, _<_, min};
 ghost use mathlib.Core.Path.{_≡_};
 ghost use lib.ListN.{length};
 ghost use Rattle.sets.specs.Sets.{In};
@@ -13,6 +13,8 @@ ghost use Rattle.pair_steps.specs.Leaving.{Coded, Narrowed, Narrows, Wit
 ghost use Rattle.pair_steps.specs.Leaving.{StartsLeave, StartCutLeave, CutStartLeave};
 ghost use Rattle.pair_steps.specs.Leaving.{CutsLeave, OwnLeave, firstStop, secondStop};
 ghost use Rattle.pair_steps.specs.Leaving.{OffsetsFound};
+ghost use Rattle.pair_steps.specs.Tokens.{allTerminals, AtPlace, AtCut, AtStop, BeginsLeave};
+ghost use Rattle.pair_steps.specs.Tokens.{NodesLeave, KidsLeave, TokensLeave, TokensFound};
 
 // A node that has tokens: how many children with tokens it has, its nonterminal and theirs; the
 // offsets that it allows its start and a start inside, its start and its cut, and a start before its
@@ -244,4 +246,118 @@ pub fn offsets_found(
         cn: cn,
     };
     pair_offsets::offsets_left(list, from, end, m)
+}
+
+// The terminals of `m` left at `r`: those of the set, if `r` is `p`.
+fn at_place(m: u64, p: u8, r: u8, set: u64) -> u64
+    ensures { λ q. ⌜ Narrowed m (AtPlace p r set) q ⌝ }
+{
+    if p == r {
+        return m & set;
+    }
+    m
+}
+
+// The same of the cut of a node that has two children.
+fn at_cut(m: u64, kids: u8, p: u8, r: u8, set: u64) -> u64
+    ensures { λ q. ⌜ Narrowed m (AtCut kids p r set) q ⌝ }
+{
+    if kids < 2 {
+        return m;
+    }
+    at_place(m, p, r, set)
+}
+
+// The same of the place where one of two pieces that share a token ends and the other goes on.
+fn at_stop(m: u64, a: u8, b: u8, c: u8, d: u8, r: u8, set: u64) -> u64
+    ensures { λ q. ⌜ Narrowed m (AtStop a b c d r set) q ⌝ }
+{
+    if a < d {
+        if c < b {
+            if b < d {
+                return at_place(m, b, r, set);
+            }
+            if d < b {
+                return at_place(m, d, r, set);
+            }
+        }
+    }
+    m
+}
+
+// The terminals left at `r` by the nodes that start there.
+fn begins_left(f: Frame, x: Node, y: Node, r: u8) -> u64
+    ensures { λ q. ⌜ Narrowed allTerminals (BeginsLeave f x y r) q ⌝ }
+{
+    let m1 = at_place(18446744073709551615, f.start, r, x.begin);
+    let m2 = at_cut(m1, x.kids, f.cut, r, x.next);
+    let m3 = at_place(m2, f.begin, r, y.begin);
+    at_cut(m3, y.kids, f.split, r, y.next)
+}
+
+// Those of `m` left by a node and a child of the other. The first children stop at `t` and `v`, the
+// second at `u` and `s`.
+fn nodes_leave(m: u64, f: Frame, t: u8, v: u8, u: u8, s: u8, n: Words, r: u8) -> u64
+    ensures { λ q. ⌜ Narrowed m (NodesLeave f t v u s n r) q ⌝ }
+{
+    let m1 = at_stop(m, f.begin, f.end, f.start, t, r, n.yc);
+    let m2 = at_stop(m1, f.begin, f.end, f.cut, u, r, n.yd);
+    let m3 = at_stop(m2, f.start, f.stop, f.begin, v, r, n.xc);
+    at_stop(m3, f.start, f.stop, f.split, s, r, n.xd)
+}
+
+// Those of `m` left by two children.
+fn kids_leave(m: u64, f: Frame, t: u8, v: u8, u: u8, s: u8, n: Words, r: u8) -> u64
+    ensures { λ q. ⌜ Narrowed m (KidsLeave f t v u s n r) q ⌝ }
+{
+    let m1 = at_stop(m, f.start, t, f.begin, v, r, n.cc);
+    let m2 = at_stop(m1, f.start, t, f.split, s, r, n.cd);
+    let m3 = at_stop(m2, f.cut, u, f.begin, v, r, n.dc);
+    at_stop(m3, f.cut, u, f.split, s, r, n.dd)
+}
+
+// The terminals left at `r`.
+fn tokens_at(f: Frame, x: Node, y: Node, n: Words, r: u8) -> u64
+    ensures { λ q. ⌜ Narrowed allTerminals (TokensLeave f x y n r) q ⌝ }
+{
+    let t = first_stop(x.kids, f.cut, f.stop);
+    let v = first_stop(y.kids, f.split, f.end);
+    let u = second_stop(x.kids, f.stop);
+    let s = second_stop(y.kids, f.end);
+    let m1 = begins_left(f, x, y, r);
+    let m2 = nodes_leave(m1, f, t, v, u, s, n, r);
+    kids_leave(m2, f, t, v, u, s, n, r)
+}
+
+fn lesser(a: u8, b: u8) -> u8
+    ensures { λ r. ⌜ r ≡ min a b ⌝ }
+{
+    if a < b {
+        return a;
+    }
+    b
+}
+
+// The terminals left at the stop that comes first, if one is left at each start; none elsewhere.
+pub fn tokens_found(f: Frame, x: Node, y: Node, n: Words) -> u64
+    ensures { λ r. ⌜ TokensFound f x y n r ⌝ }
+{
+    let a = tokens_at(f, x, y, n, f.start);
+    if a == 0 {
+        return 0;
+    }
+    let b = tokens_at(f, x, y, n, f.cut);
+    if b == 0 {
+        return 0;
+    }
+    let c = tokens_at(f, x, y, n, f.begin);
+    if c == 0 {
+        return 0;
+    }
+    let d = tokens_at(f, x, y, n, f.split);
+    if d == 0 {
+        return 0;
+    }
+    let e = lesser(f.stop, f.end);
+    tokens_at(f, x, y, n, e)
 }

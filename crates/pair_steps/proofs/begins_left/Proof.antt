@@ -1,0 +1,41 @@
+use borrow.Author.Needs.{needs}
+use Rattle.pair_steps.proofs.begins_left.Statement.{statement}
+use Rattle.pair_steps.proofs.begins_left.Tie as tie
+use Rattle.pair_steps.proofs.begins_left.Reads as reads
+use Rattle.pair_steps.proofs.begins_left.Lts as lts
+use Rattle.pair_steps.proofs.at_cut.Reads as at-cut-reads
+use Rattle.pair_steps.proofs.at_place.Reads as at-place-reads
+
+at-place-requires : tie.Need-at-place-requires
+at-place-requires c κs = search needs
+
+at-cut-requires : tie.Need-at-cut-requires
+at-cut-requires c κs = search needs
+
+at-place-requires-2 : tie.Need-at-place-requires-2
+at-place-requires-2 c κs = search needs
+
+at-cut-requires-2 : tie.Need-at-cut-requires-2
+at-cut-requires-2 c κs = search needs
+
+returns : tie.Need-returns
+returns c =
+    let e0 = c .before .before .before .at-place .ensures in
+    let e1 = c .before .before .at-cut .ensures in
+    let e2 = c .before .at-place2 .ensures in
+    let e3 = c .at-cut2 .ensures in
+    record {
+      keeps = λ k h p.
+          e3 .keeps k (e2 .keeps k (e1 .keeps k (e0 .keeps k h (p .0)) (p .1)) (p .2)) (p .3);
+      only = λ k h.
+          let q3 = e3 .only k h in
+          let q2 = e2 .only k (q3 .0) in
+          let q1 = e1 .only k (q2 .0) in
+          let q0 = e0 .only k (q1 .0) in
+          (q0 .0, (q0 .1, q1 .1, q2 .1, q3 .1));
+    }
+
+pub begins-left-spec : {M : Type 1} → statement M
+begins-left-spec =
+    tie.close
+    (tie.spec at-place-requires at-cut-requires at-place-requires-2 at-cut-requires-2 returns)

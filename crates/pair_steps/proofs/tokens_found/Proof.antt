@@ -1,0 +1,60 @@
+use Rattle.pair_steps.proofs.TokenLaws.{none-start, none-cut, none-begin, none-split, found-some}
+use borrow.Author.Needs.{needs}
+use Rattle.pair_steps.proofs.tokens_found.Statement.{statement}
+use Rattle.pair_steps.proofs.tokens_found.Tie as tie
+use Rattle.pair_steps.proofs.tokens_found.Reads as reads
+use Rattle.pair_steps.proofs.tokens_found.Lts as lts
+use Rattle.pair_steps.proofs.lesser.Reads as lesser-reads
+use Rattle.pair_steps.proofs.tokens_at.Reads as tokens-at-reads
+
+tokens-at-requires : tie.Need-tokens-at-requires
+tokens-at-requires c κs = search needs
+
+returns : tie.Need-returns
+returns c = none-start _ _ _ _ (c .before .tokens-at .ensures) (c .if1 .taken)
+
+tokens-at-requires-2 : tie.Need-tokens-at-requires-2
+tokens-at-requires-2 c κs = search needs
+
+returns-2 : tie.Need-returns-2
+returns-2 c = none-cut _ _ _ _ (c .before .tokens-at2 .ensures) (c .if2 .taken)
+
+tokens-at-requires-3 : tie.Need-tokens-at-requires-3
+tokens-at-requires-3 c κs = search needs
+
+returns-3 : tie.Need-returns-3
+returns-3 c = none-begin _ _ _ _ (c .before .tokens-at3 .ensures) (c .if3 .taken)
+
+tokens-at-requires-4 : tie.Need-tokens-at-requires-4
+tokens-at-requires-4 c κs = search needs
+
+returns-4 : tie.Need-returns-4
+returns-4 c = none-split _ _ _ _ (c .before .tokens-at4 .ensures) (c .if4 .taken)
+
+lesser-requires : tie.Need-lesser-requires
+lesser-requires c κs = search needs
+
+tokens-at-requires-5 : tie.Need-tokens-at-requires-5
+tokens-at-requires-5 c κs = search needs
+
+returns-5 : tie.Need-returns-5
+returns-5 c =
+    found-some _ _ _ _ (c .before .before .before .before .before .before .before .before .before .tokens-at .ensures) (c .before .before .before .before .before .before .before .before .if1 .left) (c .before .before .before .before .before .before .before .tokens-at2 .ensures)
+    (c .before .before .before .before .before .before .if2 .left) (c .before .before .before .before .before .tokens-at3 .ensures) (c .before .before .before .before .if3 .left) (c .before .before .before .tokens-at4 .ensures)
+    (c .before .before .if4 .left) (c .before .lesser .ensures) (c .tokens-at5 .ensures)
+
+pub tokens-found-spec : {M : Type 1} → statement M
+tokens-found-spec =
+    tie.close
+    (tie.spec
+    tokens-at-requires
+    returns
+    tokens-at-requires-2
+    returns-2
+    tokens-at-requires-3
+    returns-3
+    tokens-at-requires-4
+    returns-4
+    lesser-requires
+    tokens-at-requires-5
+    returns-5)
