@@ -1,4 +1,5 @@
--- What is looked for is found: what a rule adds belongs to it, and a set to which no rule adds has all of it.
+-- What is looked for is found: what a rule adds belongs to it, and a set to which no rule adds has
+-- all of it.
 use mathlib.Core.Path.{_≡_, refl, sym, subst}
 use mathlib.Core.Logic.{_⊎_, inl, inr, ⊎-elim}
 use mathlib.Core.List.{List·Memᴰ}
@@ -19,10 +20,13 @@ use Rattle.acyclic.specs.Exact.{Exactly}
 use Rattle.pairs.specs.Survey.{Productive, by-atom, by-unary, by-both, by-first, by-second, HasWord}
 use Rattle.pairs.specs.Survey.{Occurs, at-top, in-unary, in-first, in-second}
 use Rattle.pairs.specs.Survey.{CanBegin, with-atom, with-unary, with-first, with-second}
-use Rattle.pairs.specs.Survey.{rank, stronger, onwardMark, Inherits, none-at-top, from-unary, to-first, to-only, to-second}
+use Rattle.pairs.specs.Survey.{rank, stronger, onwardMark, Inherits, none-at-top, from-unary}
+use Rattle.pairs.specs.Survey.{to-first, to-only, to-second}
 use Rattle.survey.specs.declared.Aim.{Aim}
 use Rattle.survey.specs.declared.Aim.the-variants as Aim
-use Rattle.survey.specs.Sources.{Worded, Under, Filled, AddsFilled, Begins, AddsBegins, Stands, AddsStands, Heads, Follows, AddsFront, AddsFollow, AddsHeads}
+use Rattle.survey.specs.Sources.{Worded, Under, Filled, AddsFilled, Begins, AddsBegins}
+use Rattle.survey.specs.Sources.{Stands, AddsStands, Heads, Follows, AddsFront, AddsFollow}
+use Rattle.survey.specs.Sources.{AddsHeads}
 use Rattle.survey.specs.Closing.{AtMost, Aimed, AddsBy, Loose, Prepared, Shut}
 
 -- the rule with this left and clause
@@ -30,7 +34,8 @@ abbrev Has : Rules → ℕ → Clause → Type 0
 Has g A c = List·Memᴰ (record { left = A; clause = c }) g
 
 -- a set with 0 besides
-pub under-exact : {P : ℕ → Type 0} {s : ℕ} → P 0 → ((Y : ℕ) → In s Y → P Y) → ((Y : ℕ) → P Y → Under s Y) → Exactly (insert s 0) P
+pub under-exact : {P : ℕ → Type 0} {s : ℕ} → P 0 → ((Y : ℕ) → In s Y → P Y)
+    → ((Y : ℕ) → P Y → Under s Y) → Exactly (insert s 0) P
 under-exact {P} {s} top sound all =
     record {
       is = λ B i. ⊎-elim (sound B) (λ e. subst P (sym e) top) (insert-only s 0 B i);
@@ -79,22 +84,29 @@ onward-loose UnaryMark.Single h = absurd (omega arith)
 module _ {g : Rules} {ns : ℕ} (x : Exactly ns (Nullable g)) where
   -- with words that have tokens
   module _ (s : ℕ) where
-    filled-by : ((Y : ℕ) → In s Y → Productive g Y) → (A : ℕ) (c : Clause) → Has g A c → Filled ns s c → Productive g A
-    filled-by h A (Clause.Atom a b) m l = by-atom {x = a} (record { low = a; high = b; rule = m; covers = record { low = le-refl a; high = l } })
+    filled-by : ((Y : ℕ) → In s Y → Productive g Y) → (A : ℕ) (c : Clause) → Has g A c
+        → Filled ns s c → Productive g A
+    filled-by h A (Clause.Atom a b) m l =
+        by-atom {x = a}
+        (record { low = a; high = b; rule = m; covers = record { low = le-refl a; high = l } })
     filled-by h A (Clause.Unary B k) m i = by-unary k m (h B i)
     filled-by h A (Clause.Binary B C k) m (inl (i, inl n)) = by-first k m (h B i) (x .is C n)
     filled-by h A (Clause.Binary B C k) m (inl (i, inr j)) = by-both k m (h B i) (h C j)
     filled-by h A (Clause.Binary B C k) m (inr (n, j)) = by-second k m (x .is B n) (h C j)
 
-    pub filled-sound : ((Y : ℕ) → In s Y → Productive g Y) → (r : Rule) → List·Memᴰ r g → (Y : ℕ) → AddsFilled ns s r Y → Productive g Y
-    filled-sound h r m Y a = subst (Productive g) (a .0) (filled-by h (r .left) (r .clause) m (a .1))
+    pub filled-sound : ((Y : ℕ) → In s Y → Productive g Y) → (r : Rule) → List·Memᴰ r g → (Y : ℕ)
+        → AddsFilled ns s r Y → Productive g Y
+    filled-sound h r m Y a =
+        subst (Productive g) (a .0) (filled-by h (r .left) (r .clause) m (a .1))
 
     module _ (shut : (r : Rule) → List·Memᴰ r g → (Y : ℕ) → AddsFilled ns s r Y → In s Y) where
       pub filled-all : {A : ℕ} → Productive g A → In s A
-      filled-all (by-atom a) = shut _ (a .rule) _ (refl, omega (arith, a .covers .low, a .covers .high))
+      filled-all (by-atom a) =
+          shut _ (a .rule) _ (refl, omega (arith, a .covers .low, a .covers .high))
       filled-all (by-unary k m p) = shut _ m _ (refl, filled-all p)
       filled-all (by-both k m p q) = shut _ m _ (refl, inl (filled-all p, inr (filled-all q)))
-      filled-all (by-first {D = D} k m p n) = shut _ m _ (refl, inl (filled-all p, inl (x .all D n)))
+      filled-all (by-first {D = D} k m p n) =
+          shut _ m _ (refl, inl (filled-all p, inl (x .all D n)))
       filled-all (by-second {C = C} k m n q) = shut _ m _ (refl, inr (x .all C n, filled-all q))
 
   module _ {ps : ℕ} (y : Exactly ps (Productive g)) where
@@ -106,14 +118,18 @@ module _ {g : Rules} {ns : ℕ} (x : Exactly ns (Nullable g)) where
 
     -- with words that begin with z
     module _ (z s : ℕ) where
-      begins-by : ((Y : ℕ) → In s Y → CanBegin g Y z) → (A : ℕ) (c : Clause) → Has g A c → Begins ns ps z s c → CanBegin g A z
-      begins-by h A (Clause.Atom a b) m v = with-atom (record { low = a; high = b; rule = m; covers = v })
+      begins-by : ((Y : ℕ) → In s Y → CanBegin g Y z) → (A : ℕ) (c : Clause) → Has g A c
+          → Begins ns ps z s c → CanBegin g A z
+      begins-by h A (Clause.Atom a b) m v =
+          with-atom (record { low = a; high = b; rule = m; covers = v })
       begins-by h A (Clause.Unary B k) m i = with-unary k m (h B i)
       begins-by h A (Clause.Binary B C k) m (inl (i, w)) = with-first k m (h B i) (has-word w)
       begins-by h A (Clause.Binary B C k) m (inr (n, j)) = with-second k m (x .is B n) (h C j)
 
-      pub begins-sound : ((Y : ℕ) → In s Y → CanBegin g Y z) → (r : Rule) → List·Memᴰ r g → (Y : ℕ) → AddsBegins ns ps z s r Y → CanBegin g Y z
-      begins-sound h r m Y a = subst (λ A. CanBegin g A z) (a .0) (begins-by h (r .left) (r .clause) m (a .1))
+      pub begins-sound : ((Y : ℕ) → In s Y → CanBegin g Y z) → (r : Rule) → List·Memᴰ r g → (Y : ℕ)
+          → AddsBegins ns ps z s r Y → CanBegin g Y z
+      begins-sound h r m Y a =
+          subst (λ A. CanBegin g A z) (a .0) (begins-by h (r .left) (r .clause) m (a .1))
 
       module _ (shut : (r : Rule) → List·Memᴰ r g → (Y : ℕ) → AddsBegins ns ps z s r Y → In s Y) where
         pub begins-all : {A : ℕ} → CanBegin g A z → In s A
@@ -127,20 +143,26 @@ module _ {g : Rules} {ns : ℕ} (x : Exactly ns (Nullable g)) where
       occurs-under : ((Y : ℕ) → In s Y → Occurs g Y) → {A : ℕ} → Under s A → Occurs g A
       occurs-under h {A} = ⊎-elim (λ e. rw e at-top) (h A)
 
-      stands-by : (A : ℕ) (c : Clause) (Y : ℕ) → Has g A c → Occurs g A → Stands ns ps c Y → Occurs g Y
+      stands-by : (A : ℕ) (c : Clause) (Y : ℕ) → Has g A c → Occurs g A → Stands ns ps c Y
+          → Occurs g Y
       stands-by A (Clause.Unary B k) Y m o (w, e) = rw e at (in-unary k m o (has-word w))
-      stands-by A (Clause.Binary B C k) Y m o ((v, w), inl e) = rw e at (in-first k m o (has-word v) (has-word w))
-      stands-by A (Clause.Binary B C k) Y m o ((v, w), inr e) = rw e at (in-second k m o (has-word v) (has-word w))
+      stands-by A (Clause.Binary B C k) Y m o ((v, w), inl e) =
+          rw e at (in-first k m o (has-word v) (has-word w))
+      stands-by A (Clause.Binary B C k) Y m o ((v, w), inr e) =
+          rw e at (in-second k m o (has-word v) (has-word w))
 
-      pub stands-sound : ((Y : ℕ) → In s Y → Occurs g Y) → (r : Rule) → List·Memᴰ r g → (Y : ℕ) → AddsStands ns ps s r Y → Occurs g Y
+      pub stands-sound : ((Y : ℕ) → In s Y → Occurs g Y) → (r : Rule) → List·Memᴰ r g → (Y : ℕ)
+          → AddsStands ns ps s r Y → Occurs g Y
       stands-sound h r m Y a = stands-by (r .left) (r .clause) Y m (occurs-under h (a .0)) (a .1)
 
       module _ (shut : (r : Rule) → List·Memᴰ r g → (Y : ℕ) → AddsStands ns ps s r Y → In s Y) where
         pub stands-all : {A : ℕ} → Occurs g A → Under s A
         stands-all at-top = inl refl
         stands-all (in-unary k m o w) = inr (shut _ m _ (stands-all o, (worded w, refl)))
-        stands-all (in-first k m o v w) = inr (shut _ m _ (stands-all o, ((worded v, worded w), inl refl)))
-        stands-all (in-second k m o v w) = inr (shut _ m _ (stands-all o, ((worded v, worded w), inr refl)))
+        stands-all (in-first k m o v w) =
+            inr (shut _ m _ (stands-all o, ((worded v, worded w), inl refl)))
+        stands-all (in-second k m o v w) =
+            inr (shut _ m _ (stands-all o, ((worded v, worded w), inr refl)))
 
     -- that inherit a mark of rank at most k
     module _ {k loose : ℕ} (o : Loose g k loose) (s : ℕ) where
@@ -150,7 +172,8 @@ module _ {g : Rules} {ns : ℕ} (x : Exactly ns (Nullable g)) where
       most-under : ((Y : ℕ) → In s Y → AtMost g k Y) → {A : ℕ} → Under s A → AtMost g k A
       most-under h {A} = ⊎-elim (λ e. rw e most-top) (h A)
 
-      front-by : (A : ℕ) (c : Clause) (Y : ℕ) → Has g A c → AtMost g k A → Heads ns ps k c Y → AtMost g k Y
+      front-by : (A : ℕ) (c : Clause) (Y : ℕ) → Has g A c → AtMost g k A → Heads ns ps k c Y
+          → AtMost g k Y
       front-by A (Clause.Unary B n) Y m t ((p, l), e) =
           subst (AtMost g k) e (record { mark = stronger (t .mark) n; inherits = from-unary n m (t .inherits) (y .is B p); low = strong-low (t .mark) n (t .low) l })
       front-by A (Clause.Binary B C n) Y m t (inl ((p, w), e)) =
@@ -165,14 +188,18 @@ module _ {g : Rules} {ns : ℕ} (x : Exactly ns (Nullable g)) where
         pub low : rank (onwardMark mark) ≤ k
 
       onward : ((Y : ℕ) → In s Y → AtMost g k Y) → {A : ℕ} → Under s A ⊎ In loose A → Onward A
-      onward h (inl u) = let t = most-under h u in record { mark = t .mark; inherits = t .inherits; low = onward-low (t .mark) (t .low) }
-      onward h {A} (inr i) = let t = o .sound A i in record { mark = t .mark; inherits = t .inherits; low = onward-loose (t .mark) (t .low) }
+      onward h (inl u) =
+          let t = most-under h u in record { mark = t .mark; inherits = t .inherits; low = onward-low (t .mark) (t .low) }
+      onward h {A} (inr i) =
+          let t = o .sound A i in record { mark = t .mark; inherits = t .inherits; low = onward-loose (t .mark) (t .low) }
 
-      follow-by : (A : ℕ) (c : Clause) (Y : ℕ) → Has g A c → Onward A → Follows ps c Y → AtMost g k Y
+      follow-by : (A : ℕ) (c : Clause) (Y : ℕ) → Has g A c → Onward A → Follows ps c Y
+          → AtMost g k Y
       follow-by A (Clause.Binary B C n) Y m t ((p, q), e) =
           subst (AtMost g k) e (record { mark = onwardMark (t .mark); inherits = to-second n m (t .inherits) (y .is B p) (y .is C q); low = t .low })
 
-      pub heads-sound : ((Y : ℕ) → In s Y → AtMost g k Y) → (r : Rule) → List·Memᴰ r g → (Y : ℕ) → AddsHeads ns ps k loose s r Y → AtMost g k Y
+      pub heads-sound : ((Y : ℕ) → In s Y → AtMost g k Y) → (r : Rule) → List·Memᴰ r g → (Y : ℕ)
+          → AddsHeads ns ps k loose s r Y → AtMost g k Y
       heads-sound h r m Y (inl a) = front-by (r .left) (r .clause) Y m (most-under h (a .0)) (a .1)
       heads-sound h r m Y (inr a) = follow-by (r .left) (r .clause) Y m (onward h (a .0)) (a .1)
 
@@ -182,8 +209,10 @@ module _ {g : Rules} {ns : ℕ} (x : Exactly ns (Nullable g)) where
         heads-all (from-unary {C = C} {l = l} n m i p) h =
             let q = strong-high l n h in
             inr (shut _ m _ (inl (heads-all i (q .0), ((y .all C p, q .1), refl))))
-        heads-all (to-first {C = C} n m i p w) h = inr (shut _ m _ (inl (heads-all i h, inl ((y .all C p, worded w), refl))))
-        heads-all (to-only {C = C} {D = D} n m i p q) h = inr (shut _ m _ (inl (heads-all i h, inr ((x .all C p, y .all D q), refl))))
+        heads-all (to-first {C = C} n m i p w) h =
+            inr (shut _ m _ (inl (heads-all i h, inl ((y .all C p, worded w), refl))))
+        heads-all (to-only {C = C} {D = D} n m i p q) h =
+            inr (shut _ m _ (inl (heads-all i h, inr ((x .all C p, y .all D q), refl))))
         heads-all (to-second {A = A} {C = C} {D = D} {l = l} n m i p q) h =
             inr (shut _ m _ (inr (⊎-elim (λ e. inl (heads-all i e)) (λ e. inr e) (o .wide A l i h), ((y .all C p, y .all D q), refl))))
 
@@ -216,11 +245,17 @@ not-single UnaryMark.Offside e h = omega arith
 not-single UnaryMark.Single e h = absurd (omega arith)
 
 pub loose-less : {g : Rules} {s : ℕ} (k : ℕ) → k ≤ 1 → Exactly s (AtMost g 2) → Loose g k s
-loose-less k e x = record { sound = x .is; wide = λ A l i h. inr (x .all A (record { mark = l; inherits = i; low = not-single l e h })) }
+loose-less k e x =
+    record {
+      sound = x .is;
+      wide = λ A l i h. inr (x .all A (record { mark = l; inherits = i; low = not-single l e h }));
+    }
 
 -- what a rule adds belongs to what is looked for
-pub aim-sound : {g : Rules} {ns : ℕ} → Exactly ns (Nullable g) → (a : Aim) (ps : ℕ) → Prepared g a ps
-    → (s : ℕ) → ((Y : ℕ) → In s Y → Aimed g a Y) → (r : Rule) → List·Memᴰ r g → (Y : ℕ) → AddsBy a ns ps s r Y → Aimed g a Y
+pub aim-sound : {g : Rules} {ns : ℕ} → Exactly ns (Nullable g) → (a : Aim) (ps : ℕ)
+    → Prepared g a ps
+    → (s : ℕ) → ((Y : ℕ) → In s Y → Aimed g a Y) → (r : Rule) → List·Memᴰ r g →
+    (Y : ℕ) → AddsBy a ns ps s r Y → Aimed g a Y
 aim-sound x Aim.Filled ps p s = filled-sound x s
 aim-sound x (Aim.Begins z) ps p s = begins-sound x p z s
 aim-sound x Aim.Stands ps p s = stands-sound x p s
@@ -231,11 +266,14 @@ module _ {g : Rules} {ns : ℕ} (x : Exactly ns (Nullable g)) where
   filled-exact {s} h = record { is = h .sound; all = λ B p. filled-all x s (h .shut) p }
 
   module _ {ps : ℕ} (y : Exactly ps (Productive g)) where
-    pub begins-exact : {z s : ℕ} → Shut (AddsBegins ns ps z) (λ A. CanBegin g A z) g s → Exactly s (λ A. CanBegin g A z)
+    pub begins-exact : {z s : ℕ} → Shut (AddsBegins ns ps z) (λ A. CanBegin g A z) g s
+        → Exactly s (λ A. CanBegin g A z)
     begins-exact {z} {s} h = record { is = h .sound; all = λ B p. begins-all x y z s (h .shut) p }
 
-    pub stands-exact : {s : ℕ} → Shut (AddsStands ns ps) (Occurs g) g s → Exactly (insert s 0) (Occurs g)
+    pub stands-exact : {s : ℕ} → Shut (AddsStands ns ps) (Occurs g) g s
+        → Exactly (insert s 0) (Occurs g)
     stands-exact {s} h = under-exact at-top (h .sound) (λ B p. stands-all x y s (h .shut) p)
 
-    pub most-exact : {k loose s : ℕ} → Loose g k loose → Shut (AddsHeads ns ps k loose) (AtMost g k) g s → Exactly (insert s 0) (AtMost g k)
+    pub most-exact : {k loose s : ℕ} → Loose g k loose
+        → Shut (AddsHeads ns ps k loose) (AtMost g k) g s → Exactly (insert s 0) (AtMost g k)
     most-exact {s = s} o h = under-exact (most-top x y o s) (h .sound) (most-all x y o s (h .shut))

@@ -16,7 +16,8 @@ use Rattle.survey.proofs.Sources.{in-three}
 
 -- a mark of rank k or less, and none of a lower rank
 module _ {g : Rules} {s : ℕ} {A : ℕ} where
-  above : (k : ℕ) → Exactly s (AtMost g k) → (In s A → ⊥) → (m : UnaryMark) → Inherits g A m → suc k ≤ rank m
+  above : (k : ℕ) → Exactly s (AtMost g k) → (In s A → ⊥) → (m : UnaryMark) → Inherits g A m
+      → suc k ≤ rank m
   above k x n m i = go (rank m) (λ h. n (x .all A (record { mark = m; inherits = i; low = h })))
     where
       go : (r : ℕ) → (r ≤ k → ⊥) → suc k ≤ r
@@ -35,14 +36,16 @@ unrank-rank UnaryMark.Offalign = refl
 unrank-rank UnaryMark.Offside = refl
 unrank-rank UnaryMark.Single = refl
 
-same : {g : Rules} {A : ℕ} (m : UnaryMark) (t : AtMost g (rank m) A) → rank m ≤ rank (t .mark) → Inherits g A m
+same : {g : Rules} {A : ℕ} (m : UnaryMark) (t : AtMost g (rank m) A) → rank m ≤ rank (t .mark)
+    → Inherits g A m
 same {g} {A} m t h =
     let e : rank (t .mark) ≡ rank m = omega (arith, h, t .low) in
     subst (Inherits g A) (sym (unrank-rank (t .mark)) ∙ ap unrank e ∙ unrank-rank m) (t .inherits)
 
 module _ {g : Rules} {l : Levels} (x : LevelsOf g l) where
   pub level-weakest : (A : ℕ) (m : UnaryMark) → LevelIs l A (Level.Keeps m) → Weakest g A m
-  level-weakest A UnaryMark.None i = let t = x .none .is A i in record { inherits = same UnaryMark.None t (omega arith); least = λ k j. omega arith }
+  level-weakest A UnaryMark.None i =
+      let t = x .none .is A i in record { inherits = same UnaryMark.None t (omega arith); least = λ k j. omega arith }
   level-weakest A UnaryMark.Offalign (n, i) =
       let t = x .offalign .is A i in
       let a = above 0 (x .none) n in

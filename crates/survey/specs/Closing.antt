@@ -39,7 +39,8 @@ AddsBy (Aim.Heads k loose) ns ps = AddsHeads ns ps k loose
 -- `loose` is of use to those that inherit a mark of rank k or less
 pub record Loose (g : Rules) (k loose : ℕ) : Type 0 where
   pub sound : (A : ℕ) → In loose A → AtMost g 2 A
-  pub wide : (A : ℕ) (l : UnaryMark) → Inherits g A l → rank (onwardMark l) ≤ k → (rank l ≤ k) ⊎ In loose A
+  pub wide : (A : ℕ) (l : UnaryMark) → Inherits g A l → rank (onwardMark l) ≤ k
+      → (rank l ≤ k) ⊎ In loose A
 
 -- what must be known beforehand
 abbrev pub Prepared : Rules → Aim → ℕ → Type 0

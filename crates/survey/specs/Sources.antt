@@ -1,4 +1,5 @@
--- Predicates of inner functions only: what a rule adds to a set of nonterminals, for each of the sets that are looked for.
+-- Predicates of inner functions only: what a rule adds to a set of nonterminals, for each of the
+-- sets that are looked for.
 use mathlib.Core.Path.{_≡_}
 use mathlib.Core.Logic.{_⊎_}
 use Prim.Native.Nat.{ℕ, _≤_}

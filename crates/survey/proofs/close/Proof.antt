@@ -1,4 +1,5 @@
--- `survey::close` meets its contract. The loop's invariant: members have the property. The set's number grows with each turn but the last, after which no rule adds to it.
+-- `survey::close` meets its contract. The loop's invariant: members have the property. The set's
+-- number grows with each turn but the last, after which no rule adds to it.
 use Prim.Native.Nat.{ℕ, _-_, _^_}
 use native.Mathlib.Omega.{arith}
 use Rattle.sets.specs.Sets.{In}
@@ -22,7 +23,11 @@ pass-requires : tie.Need-pass-requires Inv-loop μ-loop
 pass-requires c κs = c .before .pre
 
 returns : tie.Need-returns Inv-loop μ-loop
-returns c = record { sound = c .before .before .loop .inv; shut = passed-all (c .before .pass .ensures) (c .before .before .before .pre .0 .whole) (c .if1 .taken) }
+returns c =
+    record {
+      sound = c .before .before .loop .inv;
+      shut = passed-all (c .before .pass .ensures) (c .before .before .before .pre .0 .whole) (c .if1 .taken);
+    }
 
 loop-less : tie.Need-loop-less Inv-loop μ-loop
 loop-less c = omega (arith, c .before .pass .ensures .more, c .before .pass .ok)

@@ -28,7 +28,8 @@ either-requires c κs = search needs
 returns : tie.Need-returns
 returns c =
     let h = c .before .before .before in
-    let x = says-both (c .before .before .both .ensures) (h .before .before .before .has .ensures) (h .before .before .worded .ensures) in
+    let x = says-both (c .before .before .both .ensures) (h .before .before .before .has .ensures)
+    (h .before .before .worded .ensures) in
     let y = says-both (c .before .both2 .ensures) (h .before .has2 .ensures) (h .has3 .ensures) in
     says-either (c .either .ensures) x y
 

@@ -12,7 +12,8 @@ returns : tie.Need-returns
 returns c = holds (inl (c .if1 .taken))
 
 returns-2 : tie.Need-returns-2
-returns-2 c = says-iff inr (⊎-elim (λ e. absurd (c .if1 .left e)) (λ i. i)) (c .before .has .ensures)
+returns-2 c =
+    says-iff inr (⊎-elim (λ e. absurd (c .if1 .left e)) (λ i. i)) (c .before .has .ensures)
 
 pub under-spec : {M : Type 1} → statement M
 under-spec = tie.close (tie.spec has-requires returns returns-2)

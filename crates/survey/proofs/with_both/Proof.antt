@@ -22,7 +22,8 @@ with-if-requires-2 c κs = search needs
 returns : tie.Need-returns
 returns c =
     let h = c .before .before in
-    let y = says-both (h .both .ensures) (h .before .before .worded .ensures) (h .before .worded2 .ensures) in
+    let y = says-both (h .both .ensures) (h .before .before .worded .ensures)
+    (h .before .worded2 .ensures) in
     grown-two (grown-if y (c .before .with-if .ensures)) (grown-if y (c .with-if2 .ensures))
 
 pub with-both-spec : {M : Type 1} → statement M

@@ -19,7 +19,8 @@ with-if-requires c κs = search needs
 returns : tie.Need-returns
 returns c =
     let h = c .before .before in
-    let y = says-both (c .before .both .ensures) (h .has .ensures) (says-most (h .before .rank-of .ensures)) in
+    let y = says-both (c .before .both .ensures) (h .has .ensures)
+    (says-most (h .before .rank-of .ensures)) in
     grown-if y (c .with-if .ensures)
 
 pub with-child-spec : {M : Type 1} → statement M

@@ -31,8 +31,10 @@ with-if-requires-2 c κs = search needs
 returns : tie.Need-returns
 returns c =
     let h = c .before .before .before .before in
-    let x = says-both (c .before .before .before .both .ensures) (h .before .before .before .has .ensures) (h .before .before .worded .ensures) in
-    let y = says-both (c .before .before .both2 .ensures) (h .before .has2 .ensures) (h .has3 .ensures) in
+    let x = says-both (c .before .before .before .both .ensures)
+    (h .before .before .before .has .ensures) (h .before .before .worded .ensures) in
+    let y = says-both (c .before .before .both2 .ensures) (h .before .has2 .ensures)
+    (h .has3 .ensures) in
     grown-then (grown-if x (c .before .with-if .ensures)) (grown-if y (c .with-if2 .ensures))
 
 pub with-front-spec : {M : Type 1} → statement M

@@ -18,7 +18,8 @@ worded-requires : tie.Need-worded-requires
 worded-requires c κs = rw (c .before .c .given .1) at (c .before .before .before .pre)
 
 with-if-requires : tie.Need-with-if-requires
-with-if-requires c κs = rw (c .before .before .c .given .1) at (c .before .before .before .before .pre)
+with-if-requires c κs =
+    rw (c .before .before .c .given .1) at (c .before .before .before .before .pre)
 
 enum-known-c-2 : tie.Need-enum-known-c-2
 enum-known-c-2 c = search needs
@@ -33,7 +34,9 @@ returns-2 : tie.Need-returns-2
 returns-2 c = rw (c .enum-told2 .given .1) (grown-none (λ Y p. absurd p))
 
 returns-3 : tie.Need-returns-3
-returns-3 c = rw (c .before .before .before .c .given .1) (grown-if (c .before .worded .ensures) (c .with-if .ensures))
+returns-3 c =
+    rw (c .before .before .before .c .given .1)
+    (grown-if (c .before .worded .ensures) (c .with-if .ensures))
 
 returns-4 : tie.Need-returns-4
 returns-4 c = rw (c .before .before .c2 .given .1) (c .with-both .ensures)

@@ -18,7 +18,8 @@ with-if-requires c κs = search needs
 
 returns : tie.Need-returns
 returns c =
-    let y = says-both (c .before .both .ensures) (c .before .before .before .has .ensures) (c .before .before .has2 .ensures) in
+    let y = says-both (c .before .both .ensures) (c .before .before .before .has .ensures)
+    (c .before .before .has2 .ensures) in
     grown-if y (c .with-if .ensures)
 
 pub with-second-spec : {M : Type 1} → statement M

@@ -14,7 +14,8 @@ either-requires : tie.Need-either-requires
 either-requires c κs = search needs
 
 returns : tie.Need-returns
-returns c = says-either (c .either .ensures) (c .before .before .has .ensures) (c .before .has2 .ensures)
+returns c =
+    says-either (c .either .ensures) (c .before .before .has .ensures) (c .before .has2 .ensures)
 
 pub worded-spec : {M : Type 1} → statement M
 worded-spec = tie.close (tie.spec has-requires has-requires-2 either-requires returns)
