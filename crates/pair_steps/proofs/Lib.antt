@@ -1,3 +1,9 @@
 pub mod NarrowLaws
 pub mod FoundLaws
 pub mod TokenLaws
+pub mod SideLaws
+pub mod CoupleLaws
+pub mod OffsetSteps
+pub mod TokenSteps
+pub mod StepLaws
+pub mod CompleteLaws

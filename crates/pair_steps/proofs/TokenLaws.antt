@@ -15,7 +15,7 @@ use Rattle.pair_steps.specs.declared.Node.{Node}
 use Rattle.pair_steps.specs.declared.Words.{Words}
 use Rattle.pair_steps.specs.Leaving.{Narrowed, firstStop, secondStop}
 use Rattle.pair_steps.specs.Tokens.{allTerminals, BeginsLeave, NodesLeave, KidsLeave, TokensBy, TokensLeave}
-use Rattle.pair_steps.specs.Tokens.{SomeAt, StartsHave, TokensFound}
+use Rattle.pair_steps.specs.Tokens.{SomeAt, PointsHave, TokensFound}
 use Rattle.pair_steps.proofs.NarrowLaws.{shift-in}
 
 -- 1. members of a word
@@ -56,6 +56,12 @@ some-from (suc fuel) w h n = by (some-from fuel (w / 2)) (ℕ-discrete (w % 2) 1
 pub some-in : (w : ℕ) → (w ≡ 0 → ⊥) → (z : ℕ) × In w z
 some-in w n = some-from w w (omega arith) n
 
+pub min-low : (a b : ℕ) → a < b → a ≡ min a b
+min-low a b h = omega arith
+
+pub min-high : (a b : ℕ) → (a < b → ⊥) → b ≡ min a b
+min-high a b h = omega arith
+
 -- 2. what is left at a point
 
 module _ (f : Frame) (x y : Node) (n : Words) where
@@ -88,41 +94,33 @@ module _ (f : Frame) (x y : Node) (n : Words) where
   has-none p e s =
       in-zero (s .terminal) (rw e at (p .keeps (s .terminal) (in-all (s .terminal) (s .low)) (s .leaves)))
 
-  pub found-none : (StartsHave f x y n → ⊥) → TokensFound f x y n 0
-  found-none h =
-      record { all = λ s z l e. absurd (h s); only = λ z i. absurd (in-zero z i) }
+  found-none : (PointsHave f x y n → ⊥) → TokensFound f x y n 0
+  found-none h = record { all = λ s z l e. absurd (h s); only = λ z i. absurd (in-zero z i) }
 
-  pub none-start : {a : ℕ} → Narrowed allTerminals (TokensLeave f x y n (f .start)) a → a ≡ 0
-      → TokensFound f x y n 0
-  none-start p e = found-none (λ s. has-none p e (s .start))
+  -- none is left at a point
+  pub none-at : (r : ℕ) → (PointsHave f x y n → SomeAt f x y n r) → {a : ℕ}
+      → Narrowed allTerminals (TokensLeave f x y n r) a → a ≡ 0 → TokensFound f x y n 0
+  none-at r h p e = found-none (λ s. has-none p e (h s))
 
-  pub none-cut : {a : ℕ} → Narrowed allTerminals (TokensLeave f x y n (f .cut)) a → a ≡ 0
-      → TokensFound f x y n 0
-  none-cut p e = found-none (λ s. has-none p e (s .cut))
+  abbrev Left : ℕ → ℕ → Type 0
+  Left r a = Narrowed allTerminals (TokensLeave f x y n r) a × (a ≡ 0 → ⊥)
 
-  pub none-begin : {a : ℕ} → Narrowed allTerminals (TokensLeave f x y n (f .begin)) a → a ≡ 0
-      → TokensFound f x y n 0
-  none-begin p e = found-none (λ s. has-none p e (s .begin))
-
-  pub none-split : {a : ℕ} → Narrowed allTerminals (TokensLeave f x y n (f .split)) a → a ≡ 0
-      → TokensFound f x y n 0
-  none-split p e = found-none (λ s. has-none p e (s .split))
-
-  pub found-some : {a b c d e r : ℕ} → Narrowed allTerminals (TokensLeave f x y n (f .start)) a → (a ≡ 0 → ⊥)
-      → Narrowed allTerminals (TokensLeave f x y n (f .cut)) b → (b ≡ 0 → ⊥)
-      → Narrowed allTerminals (TokensLeave f x y n (f .begin)) c → (c ≡ 0 → ⊥)
-      → Narrowed allTerminals (TokensLeave f x y n (f .split)) d → (d ≡ 0 → ⊥) → e ≡ min (f .stop) (f .end)
-      → Narrowed allTerminals (TokensLeave f x y n e) r → TokensFound f x y n r
-  found-some p₁ n₁ p₂ n₂ p₃ n₃ p₄ n₄ eq p =
+  pub found-some : {a b c d e k r m : ℕ} → Left (f .start) a → Left (f .cut) b → Left (f .begin) c
+      → Left (f .split) d → Left (f .stop) e → Left (f .end) k → m ≡ min (f .stop) (f .end)
+      → Narrowed allTerminals (TokensLeave f x y n m) r → TokensFound f x y n r
+  found-some p₁ p₂ p₃ p₄ p₅ p₆ eq p =
       record {
         all = λ s z l e. p .keeps z (in-all z l) (rw eq e);
         only = λ z i.
-            let q = p .only z i in (
+            let q = p .only z i in
+            (
               record {
-                start = has-some p₁ n₁;
-                cut = has-some p₂ n₂;
-                begin = has-some p₃ n₃;
-                split = has-some p₄ n₄;
+                start = has-some (p₁ .0) (p₁ .1);
+                cut = has-some (p₂ .0) (p₂ .1);
+                begin = has-some (p₃ .0) (p₃ .1);
+                split = has-some (p₄ .0) (p₄ .1);
+                stop = has-some (p₅ .0) (p₅ .1);
+                end = has-some (p₆ .0) (p₆ .1);
               },
               all-low z (q .0),
               rw eq at (q .1),

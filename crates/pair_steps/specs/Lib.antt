@@ -1,3 +1,5 @@
 pub mod Nodes
 pub mod Leaving
 pub mod Tokens
+pub mod Tables
+pub mod Suiting

@@ -1,7 +1,6 @@
 -- A head as a struct of numbers. For the contracts of inner functions only.
 use mathlib.Core.Path.{_≡_}
-use mathlib.Core.Logic.{_↔_}
-use Prim.Native.Nat.{ℕ, _+_, _≤_, _<_}
+use Prim.Native.Nat.{ℕ, _+_, _^_, _≤_, _<_}
 use Rattle.sets.specs.Sets.{In}
 use Rattle.grammar.specs.declared.UnaryMark.{UnaryMark}
 use Rattle.grammar.specs.declared.UnaryMark.the-variants as UnaryMark
@@ -21,16 +20,16 @@ kidCount (tip a b) = 0
 kidCount (one C l k) = 1
 kidCount (two C D k l) = 2
 
--- Q of the first child that has tokens, or of the second, if there is one
-abbrev pub OfFirst : Form → (ℕ → Type 0) → Type 0
-OfFirst (tip a b) Q = Unit {0}
-OfFirst (one C l k) Q = Q C
-OfFirst (two C D k l) Q = Q C
+-- the children with tokens, 0 where there is none
+abbrev pub firstOf : Form → ℕ
+firstOf (tip a b) = 0
+firstOf (one C l k) = C
+firstOf (two C D k l) = C
 
-abbrev pub OfSecond : Form → (ℕ → Type 0) → Type 0
-OfSecond (tip a b) Q = Unit {0}
-OfSecond (one C l k) Q = Unit {0}
-OfSecond (two C D k l) Q = Q D
+abbrev pub secondOf : Form → ℕ
+secondOf (tip a b) = 0
+secondOf (one C l k) = 0
+secondOf (two C D k l) = D
 
 -- the offset of a binary mark's two first tokens, and that of a token before the second word and
 -- its first
@@ -61,11 +60,16 @@ PartAsked (tip a b) o = Unit {0}
 PartAsked (one C l k) o = Unit {0}
 PartAsked (two C D k l) o = Parted k o
 
--- the terminals at its start
+-- the terminals at its start, and at its cut if it has two children
 abbrev pub BeginAsked : Rules → Form → ℕ → Type 0
 BeginAsked g (tip a b) z = Covers a b z
 BeginAsked g (one C l k) z = CanBegin g C z
 BeginAsked g (two C D k l) z = CanBegin g C z
+
+abbrev pub NextAsked : Rules → Form → ℕ → Type 0
+NextAsked g (tip a b) z = Unit {0}
+NextAsked g (one C l k) z = Unit {0}
+NextAsked g (two C D k l) z = CanBegin g D z
 
 -- the inherited mark; a leaf's does not matter
 abbrev pub levelOf : Form → UnaryMark
@@ -87,14 +91,15 @@ pub record NodeOf (g : Rules) (x : Head) (v : Node) : Type 0 where
   pub looks : HasForm g (x .sort) (x .shape) (x .form)
   pub kids : v .kids ≡ kidCount (x .form)
   pub sort : v .sort ≡ x .sort
-  pub first : OfFirst (x .form) (λ C. v .first ≡ C)
-  pub second : OfSecond (x .form) (λ D. v .second ≡ D)
+  pub first : v .first ≡ firstOf (x .form)
+  pub second : v .second ≡ secondOf (x .form)
   pub keep : Mask (v .keep) (KeepAsked (x .form))
   pub join : Mask (v .join) (JoinAsked (x .form))
   pub apart : Mask (v .apart) (PartAsked (x .form))
   pub begin : SetOf (v .begin) (BeginAsked g (x .form))
-  pub next : OfSecond (x .form) (λ D. SetOf (v .next) (CanBegin g D))
+  pub next : 2 ≤ v .kids → SetOf (v .next) (NextAsked g (x .form))
   pub small : (v .sort < 64) × (v .first < 64) × (v .second < 64)
+  pub low : (v .begin < 2 ^ 64) × (v .next < 2 ^ 64)
 
 -- and the head has the weakest mark that its nonterminal inherits
 pub record Weakest (g : Rules) (x : Head) : Type 0 where

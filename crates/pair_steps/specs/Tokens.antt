@@ -63,14 +63,18 @@ pub record SomeAt (f : Frame) (x y : Node) (n : Words) (r : ℕ) : Type 0 where
   pub low : terminal < 64
   pub leaves : TokensLeave f x y n r terminal
 
--- one is left at each start
-pub record StartsHave (f : Frame) (x y : Node) (n : Words) : Type 0 where
+-- one is left at each point
+pub record PointsHave (f : Frame) (x y : Node) (n : Words) : Type 0 where
   pub start : SomeAt f x y n (f .start)
   pub cut : SomeAt f x y n (f .cut)
   pub begin : SomeAt f x y n (f .begin)
   pub split : SomeAt f x y n (f .split)
+  pub stop : SomeAt f x y n (f .stop)
+  pub end : SomeAt f x y n (f .end)
 
--- r has those left at the stop that comes first, if one is left at each start
+-- r has those left at the stop that comes first, if one is left at each point
 pub record TokensFound (f : Frame) (x y : Node) (n : Words) (r : ℕ) : Type 0 where
-  pub all : StartsHave f x y n → (z : ℕ) → z < 64 → TokensLeave f x y n (min (f .stop) (f .end)) z → In r z
-  pub only : (z : ℕ) → In r z → StartsHave f x y n × (z < 64) × TokensLeave f x y n (min (f .stop) (f .end)) z
+  pub all : PointsHave f x y n → (z : ℕ) → z < 64 → TokensLeave f x y n (min (f .stop) (f .end)) z
+      → In r z
+  pub only : (z : ℕ) → In r z
+      → PointsHave f x y n × (z < 64) × TokensLeave f x y n (min (f .stop) (f .end)) z

@@ -3,7 +3,7 @@ use grammar::BinaryMark;
 use grammar::UnaryMark;
 use pair_offsets::Frame;
 use pair_offsets::Masks;
-ghost use Prim.Native.Nat.{_+_, _≤_, _<_, min};
+ghost use Prim.Native.Nat.{_+_, _≤_, _<_};
 ghost use mathlib.Core.Path.{_≡_};
 ghost use lib.ListN.{length};
 ghost use Rattle.sets.specs.Sets.{In};
@@ -329,35 +329,32 @@ fn tokens_at(f: Frame, x: Node, y: Node, n: Words, r: u8) -> u64
     kids_leave(m2, f, t, v, u, s, n, r)
 }
 
-fn lesser(a: u8, b: u8) -> u8
-    ensures { λ r. ⌜ r ≡ min a b ⌝ }
-{
-    if a < b {
-        return a;
-    }
-    b
-}
-
-// The terminals left at the stop that comes first, if one is left at each start; none elsewhere.
+// The terminals left at the stop that comes first, if one is left at each point; none elsewhere.
 pub fn tokens_found(f: Frame, x: Node, y: Node, n: Words) -> u64
     ensures { λ r. ⌜ TokensFound f x y n r ⌝ }
 {
-    let a = tokens_at(f, x, y, n, f.start);
+    if tokens_at(f, x, y, n, f.start) == 0 {
+        return 0;
+    }
+    if tokens_at(f, x, y, n, f.cut) == 0 {
+        return 0;
+    }
+    if tokens_at(f, x, y, n, f.begin) == 0 {
+        return 0;
+    }
+    if tokens_at(f, x, y, n, f.split) == 0 {
+        return 0;
+    }
+    let a = tokens_at(f, x, y, n, f.stop);
     if a == 0 {
         return 0;
     }
-    let b = tokens_at(f, x, y, n, f.cut);
+    let b = tokens_at(f, x, y, n, f.end);
     if b == 0 {
         return 0;
     }
-    let c = tokens_at(f, x, y, n, f.begin);
-    if c == 0 {
-        return 0;
+    if f.stop < f.end {
+        return a;
     }
-    let d = tokens_at(f, x, y, n, f.split);
-    if d == 0 {
-        return 0;
-    }
-    let e = lesser(f.stop, f.end);
-    tokens_at(f, x, y, n, e)
+    b
 }

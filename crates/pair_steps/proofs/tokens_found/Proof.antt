@@ -1,47 +1,71 @@
-use Rattle.pair_steps.proofs.TokenLaws.{none-start, none-cut, none-begin, none-split, found-some}
+use Rattle.pair_steps.proofs.TokenLaws.{none-at, found-some, min-low, min-high}
+use native.Mathlib.Omega.{arith}
 use borrow.Author.Needs.{needs}
 use Rattle.pair_steps.proofs.tokens_found.Statement.{statement}
 use Rattle.pair_steps.proofs.tokens_found.Tie as tie
 use Rattle.pair_steps.proofs.tokens_found.Reads as reads
 use Rattle.pair_steps.proofs.tokens_found.Lts as lts
-use Rattle.pair_steps.proofs.lesser.Reads as lesser-reads
 use Rattle.pair_steps.proofs.tokens_at.Reads as tokens-at-reads
 
 tokens-at-requires : tie.Need-tokens-at-requires
 tokens-at-requires c κs = search needs
 
 returns : tie.Need-returns
-returns c = none-start _ _ _ _ (c .before .tokens-at .ensures) (c .if1 .taken)
+returns c = none-at _ _ _ _ _ (λ s. s .start) (c .before .tokens-at .ensures) (c .if1 .taken)
 
 tokens-at-requires-2 : tie.Need-tokens-at-requires-2
 tokens-at-requires-2 c κs = search needs
 
 returns-2 : tie.Need-returns-2
-returns-2 c = none-cut _ _ _ _ (c .before .tokens-at2 .ensures) (c .if2 .taken)
+returns-2 c = none-at _ _ _ _ _ (λ s. s .cut) (c .before .tokens-at2 .ensures) (c .if2 .taken)
 
 tokens-at-requires-3 : tie.Need-tokens-at-requires-3
 tokens-at-requires-3 c κs = search needs
 
 returns-3 : tie.Need-returns-3
-returns-3 c = none-begin _ _ _ _ (c .before .tokens-at3 .ensures) (c .if3 .taken)
+returns-3 c = none-at _ _ _ _ _ (λ s. s .begin) (c .before .tokens-at3 .ensures) (c .if3 .taken)
 
 tokens-at-requires-4 : tie.Need-tokens-at-requires-4
 tokens-at-requires-4 c κs = search needs
 
 returns-4 : tie.Need-returns-4
-returns-4 c = none-split _ _ _ _ (c .before .tokens-at4 .ensures) (c .if4 .taken)
-
-lesser-requires : tie.Need-lesser-requires
-lesser-requires c κs = search needs
+returns-4 c = none-at _ _ _ _ _ (λ s. s .split) (c .before .tokens-at4 .ensures) (c .if4 .taken)
 
 tokens-at-requires-5 : tie.Need-tokens-at-requires-5
 tokens-at-requires-5 c κs = search needs
 
 returns-5 : tie.Need-returns-5
-returns-5 c =
-    found-some _ _ _ _ (c .before .before .before .before .before .before .before .before .before .tokens-at .ensures) (c .before .before .before .before .before .before .before .before .if1 .left) (c .before .before .before .before .before .before .before .tokens-at2 .ensures)
-    (c .before .before .before .before .before .before .if2 .left) (c .before .before .before .before .before .tokens-at3 .ensures) (c .before .before .before .before .if3 .left) (c .before .before .before .tokens-at4 .ensures)
-    (c .before .before .if4 .left) (c .before .lesser .ensures) (c .tokens-at5 .ensures)
+returns-5 c = none-at _ _ _ _ _ (λ s. s .stop) (c .before .tokens-at5 .ensures) (c .if5 .taken)
+
+tokens-at-requires-6 : tie.Need-tokens-at-requires-6
+tokens-at-requires-6 c κs = search needs
+
+returns-6 : tie.Need-returns-6
+returns-6 c = none-at _ _ _ _ _ (λ s. s .end) (c .before .tokens-at6 .ensures) (c .if6 .taken)
+
+returns-7 : tie.Need-returns-7
+returns-7 c =
+    found-some _ _ _ _
+    (c .before .before .before .before .before .before .before .before .before .before .before .before .before .tokens-at .ensures, c .before .before .before .before .before .before .before .before .before .before .before .before .if1 .left)
+    (c .before .before .before .before .before .before .before .before .before .before .before .tokens-at2 .ensures, c .before .before .before .before .before .before .before .before .before .before .if2 .left)
+    (c .before .before .before .before .before .before .before .before .before .tokens-at3 .ensures, c .before .before .before .before .before .before .before .before .if3 .left)
+    (c .before .before .before .before .before .before .before .tokens-at4 .ensures, c .before .before .before .before .before .before .if4 .left)
+    (c .before .before .before .before .before .tokens-at5 .ensures, c .before .before .before .before .if5 .left)
+    (c .before .before .before .tokens-at6 .ensures, c .before .before .if6 .left)
+    (min-low _ _ (omega (arith, c .if7 .taken)))
+    (c .before .before .before .before .before .tokens-at5 .ensures)
+
+returns-8 : tie.Need-returns-8
+returns-8 c =
+    found-some _ _ _ _
+    (c .before .before .before .before .before .before .before .before .before .before .before .before .before .tokens-at .ensures, c .before .before .before .before .before .before .before .before .before .before .before .before .if1 .left)
+    (c .before .before .before .before .before .before .before .before .before .before .before .tokens-at2 .ensures, c .before .before .before .before .before .before .before .before .before .before .if2 .left)
+    (c .before .before .before .before .before .before .before .before .before .tokens-at3 .ensures, c .before .before .before .before .before .before .before .before .if3 .left)
+    (c .before .before .before .before .before .before .before .tokens-at4 .ensures, c .before .before .before .before .before .before .if4 .left)
+    (c .before .before .before .before .before .tokens-at5 .ensures, c .before .before .before .before .if5 .left)
+    (c .before .before .before .tokens-at6 .ensures, c .before .before .if6 .left)
+    (min-high _ _ (omega (arith, c .if7 .left)))
+    (c .before .before .before .tokens-at6 .ensures)
 
 pub tokens-found-spec : {M : Type 1} → statement M
 tokens-found-spec =
@@ -55,6 +79,9 @@ tokens-found-spec =
     returns-3
     tokens-at-requires-4
     returns-4
-    lesser-requires
     tokens-at-requires-5
-    returns-5)
+    returns-5
+    tokens-at-requires-6
+    returns-6
+    returns-7
+    returns-8)
