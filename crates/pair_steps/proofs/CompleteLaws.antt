@@ -10,7 +10,7 @@ use Rattle.grammar.specs.Trees.{Rules}
 use Rattle.pairs.specs.Shapes.{Form, tip, one, two, Head}
 use Rattle.pairs.specs.Relations.{less, equal, more, order, Offset}
 use Rattle.pairs.specs.Settings.{Corner, start₁, cut₁, start₂, cut₂, Point, at, stop₁, stop₂, points}
-use Rattle.pairs.specs.Settings.{Setting, setting, MeetIn, InsideIn, FitIn, whole₁, whole₂, relationIn, nextIn, nextBy}
+use Rattle.pairs.specs.Settings.{Setting, setting, Even, MeetIn, InsideIn, FitIn, whole₁, whole₂, relationIn, nextIn, nextBy}
 use Rattle.pairs.specs.Facts.{Couple, couples, behindIn}
 use Rattle.pairs.proofs.OffsetLaws.{is-order, is-of}
 use Rattle.pair_offsets.specs.declared.Frame.{Frame}
@@ -21,12 +21,12 @@ use Rattle.pair_offsets.proofs.EvenLaws.{six-path, six-even, six-code}
 use Rattle.pair_steps.specs.declared.Node.{Node}
 use Rattle.pair_steps.specs.declared.Words.{Words}
 use Rattle.pair_steps.specs.Nodes.{kidCount, NextAsked, NodeOf, shapeNumber}
-use Rattle.pair_steps.specs.Leaving.{Leaves}
+use Rattle.pair_steps.specs.Leaving.{firstStop, secondStop, Leaves}
 use Rattle.pair_steps.specs.Tokens.{TokensLeave}
 use Rattle.pair_steps.specs.Tables.{InTable, LowTable, WordsOf, NextsOf}
 use Rattle.pair_steps.specs.Suiting.{Placed, Suits}
 use Rattle.pair_steps.proofs.TokenLaws.{in-low}
-use Rattle.pair_steps.proofs.SideLaws.{Parts, parts-of}
+use Rattle.pair_steps.proofs.SideLaws.{PlacedIn, Parts, parts-of}
 use Rattle.pair_steps.proofs.CoupleLaws.{Related, Followed, relations-of, Terminals, terminals-of}
 use Rattle.pair_steps.proofs.OffsetSteps.{Asked, leaves-of}
 use Rattle.pair_steps.proofs.TokenSteps.{AskedTokens, tokens-of}
@@ -213,3 +213,104 @@ module _ (g : Rules) (m : List ℕ) (low : LowTable m) (f : Frame) (x y : Head) 
                 dd = follow (low .low _) (a .dd);
               };
         }
+
+    abbrev Follows : ℕ → ℕ → ℕ → ℕ → ℕ → Type 0
+    Follows a b c d W = a < d → c < b → (b < d → In W (val b)) × (d < b → In W (val d))
+
+    -- where the first node stops inside the second, a terminal is asked
+    inside₁ : (h : Form) (W W′ : ℕ) → W < 2 ^ 64 → W′ < 2 ^ 64
+        → PlacedIn g (setting (rankOf f) (sixOf t) (λ p. val (rankOf f p))) h start₂ cut₂ stop₂
+        → Follows (f .start) (f .stop) (f .begin) (firstStop (kidCount h) (f .split) (f .end)) W
+        → Follows (f .start) (f .stop) (f .split) (secondStop (kidCount h) (f .end)) W′
+        → (2 ≤ kidCount h → In (vy .next) (val (f .split))) → f .stop < f .end → val (f .stop) < 64
+    inside₁ (tip a b) W W′ i i′ p u v k lt = absurd (p .0 stop₁ (inner (at start₂) stop₂ stop₁ (suits .behind) lt))
+    inside₁ (one C a b) W W′ i i′ p u v k lt =
+        in-low W (val (f .stop)) i (u (suits .before) (suits .behind) .0 lt)
+    inside₁ (two C D a b) W W′ i i′ p u v k lt = by (decLt (f .stop) (f .split)) (decLt (f .split) (f .stop))
+      where
+        by : Dec (f .stop < f .split) → Dec (f .split < f .stop) → val (f .stop) < 64
+        by (yes h) z = in-low W (val (f .stop)) i (u (omega (arith, suits .some₁)) (suits .behind) .0 h)
+        by (no h) (yes z) = in-low W′ (val (f .stop)) i′ (v (suits .before) z .0 lt)
+        by (no h) (no z) =
+            let e : f .split ≡ f .stop = omega arith in
+            subst (λ (r : ℕ). val r < 64) e
+            (in-low (vy .next) (val (f .split)) (ny .low .1) (k (omega arith)))
+
+    inside₂ : (h : Form) (W W′ : ℕ) → W < 2 ^ 64 → W′ < 2 ^ 64
+        → PlacedIn g (setting (rankOf f) (sixOf t) (λ p. val (rankOf f p))) h start₁ cut₁ stop₁
+        → Follows (f .begin) (f .end) (f .start) (firstStop (kidCount h) (f .cut) (f .stop)) W
+        → Follows (f .begin) (f .end) (f .cut) (secondStop (kidCount h) (f .stop)) W′
+        → (2 ≤ kidCount h → In (vx .next) (val (f .cut))) → f .end < f .stop → val (f .end) < 64
+    inside₂ (tip a b) W W′ i i′ p u v k lt = absurd (p .0 stop₂ (inner (at start₁) stop₁ stop₂ (suits .before) lt))
+    inside₂ (one C a b) W W′ i i′ p u v k lt =
+        in-low W (val (f .end)) i (u (suits .behind) (suits .before) .0 lt)
+    inside₂ (two C D a b) W W′ i i′ p u v k lt = by (decLt (f .end) (f .cut)) (decLt (f .cut) (f .end))
+      where
+        by : Dec (f .end < f .cut) → Dec (f .cut < f .end) → val (f .end) < 64
+        by (yes h) z = in-low W (val (f .end)) i (u (omega (arith, suits .some₂)) (suits .before) .0 h)
+        by (no h) (yes z) = in-low W′ (val (f .end)) i′ (v (suits .behind) z .0 lt)
+        by (no h) (no z) =
+            let e : f .cut ≡ f .end = omega arith in
+            subst (λ (r : ℕ). val r < 64) e
+            (in-low (vx .next) (val (f .cut)) (nx .low .1) (k (omega arith)))
+
+    first-stop : (order (f .stop) (f .end) ≡ equal → ⊥)
+        → clamp (val (min (f .stop) (f .end)))
+        ≡ nextIn (setting (rankOf f) (sixOf t) (λ p. val (rankOf f p))) (whole₁ x) (whole₂ y)
+    first-stop d = by (decLt (f .stop) (f .end)) (decLt (f .end) (f .stop))
+      where
+        a : Terminals m f (sixOf t) val x y
+        a = asked .terminals
+
+        by : Dec (f .stop < f .end) → Dec (f .end < f .stop)
+            → clamp (val (min (f .stop) (f .end)))
+            ≡ nextIn (setting (rankOf f) (sixOf t) (λ p. val (rankOf f p))) (whole₁ x) (whole₂ y)
+        by (yes h) z =
+            let e : min (f .stop) (f .end) ≡ f .stop = omega arith in
+            let q =
+            inside₁ (y .form) _ _ (low .low _) (low .low _) (parts₂ .placed) (a .xc) (a .xd)
+            (λ k. asked .next₂ (rw (ny .kids) k)) h in
+            rw (is-order less (f .stop) (f .end) h, e) (sym (clamp-same (val (f .stop)) q))
+        by (no h) (yes z) =
+            let e : min (f .stop) (f .end) ≡ f .end = omega arith in
+            let q =
+            inside₂ (x .form) _ _ (low .low _) (low .low _) (parts₁ .placed) (a .yc) (a .yd)
+            (λ k. asked .next₁ (rw (nx .kids) k)) z in
+            rw (is-order more (f .stop) (f .end) z, e) (sym (clamp-same (val (f .end)) q))
+        by (no h) (no z) =
+            absurd (d (is-order equal (f .stop) (f .end) (let e : f .stop ≡ f .end = omega arith in e)))
+
+    found-six : EvenSix f t → Found (sixOf t) (λ p. val (rankOf f p))
+    found-six e =
+        record {
+          six = t;
+          val = λ r. clamp (val r);
+          suits = suits;
+          even = e;
+          leaves = leaves;
+          starts = sym (six-code t .0);
+          good = tokens-of g m f (sixOf t) x y vx vy nx ny n ns (λ r. clamp (val r)) clamped;
+          small = λ r. clamp-low (val r);
+          next = first-stop;
+        }
+
+  -- WHAT MAY BE BY THE TABLE IS FOUND
+  pub found : (l : Corner → Corner → Offset) (z : Point → ℕ) → Told l z → Found l z
+  found l z t =
+      let v : EvenOffsets (rankOf f) l =
+      record { same = k .same; alike = k .alike; turn = k .turn; three = k .three } in
+      let p : l ≡ sixOf (sixCode l) = six-path f l v in
+      let q : z ≡ (λ r. look f z points (rankOf f r)) = λ i r. is r i in
+      let t′ : Told (sixOf (sixCode l)) (λ r. look f z points (rankOf f r)) =
+      subst (λ (u : Point → ℕ). Told (sixOf (sixCode l)) u) q
+      (subst (λ (j : Corner → Corner → Offset). Told j z) p t) in
+      let r = found-six (sixCode l) (look f z points) t′ (six-even f l v) in
+      subst (λ (j : Corner → Corner → Offset). Found j z) (sym p)
+      (subst (λ (u : Point → ℕ). Found (sixOf (sixCode l)) u) (sym q) r)
+    where
+      k : Even (setting (rankOf f) l z)
+      k = t .fit .even
+
+      is : (r : Point) → z r ≡ look f z points (rankOf f r)
+      is r =
+          looked f z (λ a b e. k .token a b (is-order equal (rankOf f a) (rankOf f b) e)) points r (member r)

@@ -211,8 +211,7 @@ module _ (m : List ℕ) (f : Frame) (l : Corner → Corner → Offset) (val : �
   follows-of k j W r p q =
       let b = rankOf f (k .till) in
       let d = rankOf f (j .till) in
-      let s = met m f l (λ p. val (rankOf f p)) x y k j p q in
-      (
+      let s = met m f l (λ p. val (rankOf f p)) x y k j p q in (
         λ h. subst (In W) (next-less b d (val b) (val d) h) (r s (apart-less b d h)),
         λ h. subst (In W) (next-more b d (val b) (val d) h) (r s (apart-more b d h)),
       )

@@ -113,7 +113,6 @@ module _ (g : Rules) (m : List ℕ) (f : Frame) (x y : Head) (vx vy : Node) (nx 
       followed : Every (Followed m f (sixOf t) val x y) (couples x y)
       followed = of-terminals m f (sixOf t) val x y (tokens .terminals)
 
-
       parts₁ : Parts g (setting (rankOf f) (sixOf t) (λ p. val (rankOf f p))) (x .form) start₁ cut₁ stop₁
       parts₁ =
           record {

@@ -112,8 +112,7 @@ module _ (f : Frame) (x y : Node) (n : Words) where
       record {
         all = λ s z l e. p .keeps z (in-all z l) (rw eq e);
         only = λ z i.
-            let q = p .only z i in
-            (
+            let q = p .only z i in (
               record {
                 start = has-some (p₁ .0) (p₁ .1);
                 cut = has-some (p₂ .0) (p₂ .1);
