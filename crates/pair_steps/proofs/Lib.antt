@@ -7,3 +7,5 @@ pub mod OffsetSteps
 pub mod TokenSteps
 pub mod StepLaws
 pub mod CompleteLaws
+pub mod RankLaws
+pub mod ClosedLaws

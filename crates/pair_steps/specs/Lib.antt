@@ -3,3 +3,5 @@ pub mod Leaving
 pub mod Tokens
 pub mod Tables
 pub mod Suiting
+pub mod Ranks
+pub mod Closing

@@ -182,7 +182,7 @@ fn own_left(i: u8, m: u8, j: u8, x: Node) -> u64
 }
 
 // Where the first child of a node stops, by how many children with tokens it has; 0 if none.
-fn first_stop(kids: u8, cut: u8, stop: u8) -> u8
+pub fn first_stop(kids: u8, cut: u8, stop: u8) -> u8
     ensures { λ r. ⌜ r ≡ firstStop kids cut stop ⌝ }
 {
     if kids == 0 {
@@ -195,7 +195,7 @@ fn first_stop(kids: u8, cut: u8, stop: u8) -> u8
 }
 
 // Where the second does.
-fn second_stop(kids: u8, stop: u8) -> u8
+pub fn second_stop(kids: u8, stop: u8) -> u8
     ensures { λ r. ⌜ r ≡ secondStop kids stop ⌝ }
 {
     if kids < 2 {
