@@ -8,14 +8,18 @@ use Rattle.grammar.specs.declared.BinaryMark.{BinaryMark}
 use Rattle.grammar.specs.declared.BinaryMark.the-variants as BinaryMark
 use Rattle.grammar.specs.Layout.{Every}
 use Rattle.grammar.specs.Trees.{Rules}
-use Rattle.pairs.specs.Shapes.{Form, tip, one, two}
+use Rattle.pairs.specs.Shapes.{Form, tip, one, two, Head}
 use Rattle.pairs.specs.Relations.{Order, less, equal, beside}
 use Rattle.pairs.specs.Settings.{Corner, start₁, cut₁, start₂, cut₂, Point, at, stop₁, stop₂, corners, points}
-use Rattle.pairs.specs.Settings.{Setting, Side, sidesOf, InsideIn, AllowsOffset, JoinsIn, SitsIn}
-use Rattle.pairs.specs.Facts.{Couple, Fact, withEach, crossed, sorts}
+use Rattle.pairs.specs.Settings.{Setting, Side, sidesOf, whole₁, whole₂, sides₁, sides₂, InsideIn, AllowsOffset, JoinsIn, SitsIn}
+use Rattle.pairs.specs.Facts.{Couple, Fact, withEach, crossed, couples, against, sorts}
+use Rattle.pairs.proofs.Every.{every-map}
+use Rattle.pairs.proofs.PairLaws.{every-with, every-crossed}
 use Rattle.pairs.specs.Relations.{Relation}
 use Rattle.pair_steps.specs.Nodes.{kidCount, firstOf, secondOf, Joint, Parted, KeepAsked, JoinAsked, PartAsked}
-use Rattle.pair_steps.specs.Nodes.{BeginAsked, NextAsked}
+use Rattle.pair_steps.specs.Nodes.{BeginAsked, NextAsked, NodeOf}
+use Rattle.pair_steps.specs.declared.Node.{Node}
+use Rattle.pair_steps.specs.Tables.{Proper}
 use Rattle.pair_steps.specs.Leaving.{firstStop, secondStop}
 
 -- 1. corners and points
@@ -170,3 +174,42 @@ module _ (f : Point → ℕ) (Q : ℕ → Corner → ℕ → Type 0) where
   both-each (tip a b) i m j e = tt
   both-each (one C l k) i m j e = (e .0, tt)
   both-each (two C D k l) i m j e = (e .0, (e .1, tt))
+
+-- 4. nonterminals below 64
+
+small-sides : (h : Form) (i m : Corner) (j : Point) → firstOf h < 64 → secondOf h < 64
+    → Every (λ s. s .sort < 64) (sidesOf h i m j)
+small-sides (tip a b) i m j p q = tt
+small-sides (one C l k) i m j p q = (p, tt)
+small-sides (two C D k l) i m j p q = (p, (q, tt))
+
+-- the facts of a couple have places of their own
+pub record ProperCouple (c : Couple) : Type 0 where
+  pub fact : (r : Relation) → Proper (c .fact r)
+  pub left : c .left .sort < 64
+  pub right : c .right .sort < 64
+
+pub proper-couples : {g : Rules} {x y : Head} {vx vy : Node} → NodeOf g x vx → NodeOf g y vy
+    → Every ProperCouple (couples x y)
+proper-couples {g} {x} {y} {vx} {vy} nx ny =
+    every-with ProperCouple (whole₁ x) (against (x .shape)) (sides₂ y)
+    (withEach (whole₂ y) (against (y .shape)) (sides₁ x) (crossed (sides₁ x) (sides₂ y)))
+    (every-map (λ s h. record { fact = λ r. (nx .place, h); left = omega (arith, nx .sort, nx .small .0); right = h })
+    (sides₂ y) small₂)
+    (every-with ProperCouple (whole₂ y) (against (y .shape)) (sides₁ x) (crossed (sides₁ x) (sides₂ y))
+    (every-map (λ s h. record { fact = λ r. (ny .place, h); left = omega (arith, ny .sort, ny .small .0); right = h })
+    (sides₁ x) small₁)
+    (every-crossed ProperCouple (sides₁ x) (sides₂ y)
+    (every-map
+    (λ s h. every-map (λ u k. record { fact = λ r. (h, k); left = h; right = k }) (sides₂ y) small₂)
+    (sides₁ x) small₁)))
+  where
+    small₁ : Every (λ s. s .sort < 64) (sides₁ x)
+    small₁ =
+        small-sides (x .form) start₁ cut₁ stop₁ (omega (arith, nx .first, nx .small .1))
+        (omega (arith, nx .second, nx .small .2))
+
+    small₂ : Every (λ s. s .sort < 64) (sides₂ y)
+    small₂ =
+        small-sides (y .form) start₂ cut₂ stop₂ (omega (arith, ny .first, ny .small .1))
+        (omega (arith, ny .second, ny .small .2))

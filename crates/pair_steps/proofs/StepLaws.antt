@@ -12,8 +12,8 @@ use Rattle.grammar.proofs.Lists.{mem-every}
 use Rattle.pairs.specs.Shapes.{Form, tip, one, two, Head}
 use Rattle.pairs.specs.Relations.{less, equal, order, Offset}
 use Rattle.pairs.specs.Settings.{Corner, start₁, cut₁, start₂, cut₂, Point, at, stop₁, stop₂, points}
-use Rattle.pairs.specs.Settings.{Setting, setting, Even, InsideIn, FitIn, whole₁, whole₂, nextIn}
-use Rattle.pairs.specs.Facts.{Fact, stand, couples, Might, two-nodes}
+use Rattle.pairs.specs.Settings.{Setting, setting, Even, InsideIn, FitIn, relationIn}
+use Rattle.pairs.specs.Facts.{stand, couples, behindIn, Might, two-nodes}
 use Rattle.pairs.proofs.OffsetLaws.{is-order, is-of}
 use Rattle.pair_offsets.specs.declared.Frame.{Frame}
 use Rattle.pair_offsets.specs.Frames.{rankOf}
@@ -26,7 +26,7 @@ use Rattle.pair_steps.specs.Tokens.{TokensLeave}
 use Rattle.pair_steps.specs.Tables.{InTable, LowTable, SoundTable, WordsOf, NextsOf}
 use Rattle.pair_steps.specs.Suiting.{Placed, Suits}
 use Rattle.pair_steps.proofs.TokenLaws.{in-low}
-use Rattle.pair_steps.proofs.SideLaws.{PlacedIn, Parts, parts-of, of-parts}
+use Rattle.pair_steps.proofs.SideLaws.{PlacedIn, Parts, of-parts, ProperCouple, proper-couples}
 use Rattle.pair_steps.proofs.CoupleLaws.{Related, Followed, relations-of, of-relations, terminals-of, of-terminals}
 use Rattle.pair_steps.proofs.OffsetSteps.{Asked, leaves-of, of-leaves}
 use Rattle.pair_steps.proofs.TokenSteps.{AskedTokens, tokens-of, of-tokens}
@@ -98,8 +98,14 @@ module _ (g : Rules) (m : List ℕ) (f : Frame) (x y : Head) (vx vy : Node) (nx 
       → Might g (stand (setting (rankOf f) (sixOf t) (λ p. val (rankOf f p))) x y)
   may-stand so su t ev le val good =
       two-nodes (rankOf f) (sixOf t) (λ p. val (rankOf f p)) x y fit
-      (λ c h k. so .sound (c .fact _) (mem-every (Related m f (sixOf t) (λ p. val (rankOf f p)) x y) (couples x y) related h .related k))
-      (λ c h k d. so .sound _ (mem-every (Followed m f (sixOf t) val x y) (couples x y) followed h .followed k d))
+      (λ c h k.
+      so .sound (c .fact (relationIn (setting (rankOf f) (sixOf t) (λ p. val (rankOf f p))) (c .left) (c .right)))
+      (mem-every ProperCouple (couples x y) (proper-couples nx ny) h .fact _)
+      (mem-every (Related m f (sixOf t) (λ p. val (rankOf f p)) x y) (couples x y) related h .related k))
+      (λ c h k d.
+      let q = mem-every ProperCouple (couples x y) (proper-couples nx ny) h in
+      so .sound (behindIn (setting (rankOf f) (sixOf t) (λ p. val (rankOf f p))) (c .left) (c .right))
+      (q .left, q .right) (mem-every (Followed m f (sixOf t) val x y) (couples x y) followed h .followed k d))
     where
       asked : Asked g m f x y vx vy nx ny w ws (λ p. val (rankOf f p)) t
       asked = of-leaves g m f x y vx vy nx ny w ws (λ p. val (rankOf f p)) t le

@@ -8,7 +8,7 @@ use Rattle.grammar.specs.declared.BinaryMark.{BinaryMark}
 use Rattle.grammar.specs.declared.BinaryMark.the-variants as BinaryMark
 use Rattle.grammar.specs.Trees.{Rules, Covers}
 use Rattle.pairs.specs.Survey.{CanBegin, rank, Inherits}
-use Rattle.pairs.specs.Shapes.{Form, tip, one, two, Shape, all, first, second, HasForm, Head}
+use Rattle.pairs.specs.Shapes.{Form, tip, one, two, Shape, all, first, second, ruleOfShape, HasForm, Head}
 use Rattle.pairs.specs.Relations.{Offset, beside, below, equal, more}
 use Rattle.pairs.specs.Settings.{AllowsOffset}
 use Rattle.pair_offsets.specs.Codes.{offsetCode}
@@ -89,6 +89,7 @@ pub record SetOf (r : ℕ) (P : ℕ → Type 0) : Type 0 where
 -- the struct describes the head
 pub record NodeOf (g : Rules) (x : Head) (v : Node) : Type 0 where
   pub looks : HasForm g (x .sort) (x .shape) (x .form)
+  pub place : ruleOfShape (x .shape) < 128
   pub kids : v .kids ≡ kidCount (x .form)
   pub sort : v .sort ≡ x .sort
   pub first : v .first ≡ firstOf (x .form)

@@ -6,7 +6,7 @@ use Prim.Native.Nat.{ℕ, _+_, _*_, _^_, _<_}
 use lib.ListN.{getD}
 use Rattle.sets.specs.Sets.{In}
 use Rattle.grammar.specs.Trees.{Rules}
-use Rattle.pairs.specs.Shapes.{Shape}
+use Rattle.pairs.specs.Shapes.{Shape, ruleOfShape}
 use Rattle.pairs.specs.Relations.{Order, order, Relation}
 use Rattle.pairs.specs.Facts.{Fact, stand, against, sorts, behind, Might}
 use Rattle.pair_offsets.specs.declared.Frame.{Frame}
@@ -38,9 +38,17 @@ InTable t (behind A B o p z) = In (nextWord t A B o p) z
 pub record LowTable (t : List ℕ) : Type 0 where
   pub low : (i : ℕ) → getD t i 0 < 2 ^ 64
 
--- it has only what may be
+-- the fact is one that has a place of its own: of rules with places below 128 and of nonterminals
+-- below 64
+abbrev pub Proper : Fact → Type 0
+Proper (stand σ x y) = Unit {0}
+Proper (against s B r) = (ruleOfShape s < 128) × (B < 64)
+Proper (sorts A B r) = (A < 64) × (B < 64)
+Proper (behind A B o p z) = (A < 64) × (B < 64)
+
+-- the table has only what may be
 pub record SoundTable (g : Rules) (t : List ℕ) : Type 0 where
-  pub sound : (a : Fact) → InTable t a → Might g a
+  pub sound : (a : Fact) → Proper a → InTable t a → Might g a
 
 -- the words of two nodes, whose shapes have the numbers i and j
 pub record WordsOf (t : List ℕ) (x y : Node) (i j : ℕ) (w : Words) : Type 0 where
