@@ -10,6 +10,7 @@ use cuts::unite;
 use grammar::Grammar;
 use grammar::Sentence;
 use links::leaves;
+use links::link_rules;
 use links::saturated;
 use marks::Draft;
 use marks::SpanMarks;
@@ -27,6 +28,7 @@ ghost use lib.ListN.{length};
 ghost use Rattle.grammar.specs.Content.{rules, Formed};
 ghost use Rattle.grammar.specs.SpanSheet.{pairs, pairAt};
 ghost use Rattle.grammar.specs.Sentences.{spelled};
+ghost use Rattle.marks.specs.Half.{tokenAt};
 ghost use Rattle.marks.specs.Drafts.{half, drafted};
 ghost use Rattle.spans.specs.Changes.{Past, WrotePair};
 ghost use Rattle.tables.specs.Tables.{Room};
@@ -35,7 +37,7 @@ ghost use Rattle.chains.specs.Chains.{Chains};
 ghost use Rattle.chart.specs.Filling.{Whole, Filled, Grown};
 ghost use Rattle.chart.specs.Leaves.{EmptyPair, Leaf};
 ghost use Rattle.chart.specs.Sheets.{Exact, Begun, Ready, Charted, Judged, Settles};
-ghost use Rattle.filling.specs.Closing.{Begins, Found, CutJoins, Columns};
+ghost use Rattle.filling.specs.Closing.{Leading, Begins, Found, CutJoins, Columns};
 ghost use Rattle.filling.specs.Kept.{Prepared, Mirrored};
 
 // The pair of the empty word.
@@ -60,11 +62,51 @@ pub fn leaf_pair(g: Grammar, x: u8, one: u64, two: u64) -> Pair
 {
     let k = first_marks(x, 0);
     let b = leaves(g, k, 1);
-    let t = saturated(b, g, k, one, two, 1);
+    let w = link_rules(g, one);
+    let t = saturated(b, w, k, one, two, 1);
     Pair {
         one: t.one,
         two: t.two,
     }
+}
+
+// The first token that has the terminal of the token at i.
+fn first_like(d: Draft, i: usize) -> usize
+    requires { ⌜ (i < d .count) × (d .count ≤ 64) ⌝ }
+    ensures { λ j. ⌜ (j ≤ i) × (tokenAt (drafted d) j .terminal ≡ tokenAt (drafted d) i .terminal) ⌝ }
+{
+    let a = d.tokens[i];
+    let mut j: usize = 0;
+    while j < i {
+        let t = d.tokens[j];
+        if t.terminal == a.terminal {
+            return j;
+        }
+        j += 1;
+    }
+    i
+}
+
+// The pair of the token at i, those of the tokens before it being written; the empty word's is `e`.
+fn leaf_at(words: &[u64], d: Draft, g: Grammar, e: Pair, i: usize) -> Pair
+    requires { ⌜ (i < d .count) × (d .count ≤ 64) ⌝ }
+    requires { ⌜ 2 * pairs (d .count) ≤ length (now words) ⌝ }
+    requires { ⌜ Formed g ⌝ }
+    requires { ⌜ EmptyPair (rules g) (e .one) (e .two) ⌝ }
+    requires { ⌜ Leading (rules g) (drafted d) (d .count) (now words) i ⌝ }
+    ensures { λ r. ⌜ Leaf (rules g) (tokenAt (drafted d) i .terminal) (r .one) (r .two) ⌝ }
+{
+    let n = d.count;
+    let j = first_like(d, i);
+    if j < i {
+        let at = 2 * pair_at(n, j, 1);
+        return Pair {
+            one: words[at],
+            two: words[at + 1],
+        };
+    }
+    let t = d.tokens[i];
+    leaf_pair(g, t.terminal, e.one, e.two)
 }
 
 // Write the pairs of the empty word and of each token of the draft.
@@ -79,8 +121,7 @@ pub fn fill_leaves(words: &mut [u64], d: Draft, g: Grammar)
     write(words, 0, e.one, e.two);
     let mut i: usize = 0;
     while i < n {
-        let t = d.tokens[i];
-        let l = leaf_pair(g, t.terminal, e.one, e.two);
+        let l = leaf_at(words, d, g, e, i);
         let p = pair_at(n, i, 1);
         write(words, p, l.one, l.two);
         i += 1;

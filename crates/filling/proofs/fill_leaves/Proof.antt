@@ -1,4 +1,3 @@
--- The loop's invariant: the pairs of the tokens passed are written.
 use borrow.Author.Needs.{needs}
 use mathlib.Core.Path.{_≡_, sym, ap, subst}
 use Prim.Native.Nat.{ℕ, _-_, _*_, _≤_, _<_}
@@ -6,38 +5,35 @@ use native.Mathlib.Omega.{arith}
 use Rattle.grammar.specs.Content.{rules}
 use Rattle.grammar.specs.SpanSheet.{pairs}
 use Rattle.marks.specs.Drafts.{drafted}
-use Rattle.marks.proofs.DraftLaws.{drafted-at}
 use Rattle.spans.specs.Changes.{WrotePair}
 use Rattle.spans.proofs.Places.{pairAt-below, pairs-closed}
-use Rattle.grammar.specs.declared.Token.{Token}
-use Rattle.chart.specs.Leaves.{Leaf}
 use Rattle.chart.proofs.SingleLaws.{PairsWritten, written-none, written-more, written-all}
+use Rattle.filling.specs.Closing.{Leading}
 use Rattle.filling.proofs.fill_leaves.Statement.{statement}
 use Rattle.filling.proofs.fill_leaves.Tie as tie
 
 abbrev Inv-loop : tie.InvT-loop
-Inv-loop words₀ g d n e i₀ words i = PairsWritten words₀ words (rules g) (drafted d) (d .count) i
+Inv-loop words₀ d g n e i₀ words i = PairsWritten words₀ words (rules g) (drafted d) (d .count) i
 
 abbrev μ-loop : tie.MeasureT-loop
-μ-loop words₀ g d n e i₀ words i = d .count - i
+μ-loop words₀ d g n e i₀ words i = d .count - i
 
 empty-pair-requires : tie.Need-empty-pair-requires Inv-loop μ-loop
 empty-pair-requires c κs = c .before .pre .1 .1
 
 write-requires : tie.Need-write-requires Inv-loop μ-loop
-write-requires c κs = let z = c .before .before .before in omega (arith, z .pre .1 .0, pairs-closed (z .args .t2 .count))
+write-requires c κs = let z = c .before .before .before in omega (arith, z .pre .1 .0, pairs-closed (z .args .d .count))
 
 loop-holds : tie.Need-loop-holds Inv-loop μ-loop
 loop-holds c = written-none _ _ (c .before .before .before .before .empty-pair .ensures) (c .before .before .write .ensures)
 
-mul-t : tie.Need-mul-t Inv-loop μ-loop
-mul-t c = search needs
-
-element-copy-out-t : tie.Need-element-copy-out-t Inv-loop μ-loop
-element-copy-out-t c = search needs
-
-leaf-pair-requires : tie.Need-leaf-pair-requires Inv-loop μ-loop
-leaf-pair-requires c κs = (c .before .before .before .before .before .before .before .before .before .pre .1 .1, c .before .before .before .before .before .before .before .empty-pair .ensures)
+leaf-at-requires : tie.Need-leaf-at-requires Inv-loop μ-loop
+leaf-at-requires c κs =
+    let i = c .before in
+    let w = i .before .before .before .before in
+    let z = w .before .before .before .before in
+    let l = i .before .loop in
+    ((i .loop-test .taken, z .pre .0), (omega (arith, l .inv .past .long, w .write .ensures .kept .long, z .pre .1 .0), (z .pre .1 .1, (w .before .before .empty-pair .ensures, record { leaves = l .inv .leaves }))))
 
 pair-at-requires : tie.Need-pair-at-requires Inv-loop μ-loop
 pair-at-requires c κs = search needs
@@ -45,15 +41,16 @@ pair-at-requires c κs = search needs
 write-requires-2 : tie.Need-write-requires-2 Inv-loop μ-loop
 write-requires-2 c κs =
     let i = c .before .before .before .before in
-    let z = i .before .before .before .before .before .before .before .before in
-    let n = z .args .t2 .count in
-    omega (arith, c .before .pair-at .ensures, pairAt-below n (i .before .loop .i) 1 (omega (arith, i .loop-test .taken)), i .before .loop .inv .past .long, i .before .before .before .before .write .ensures .kept .long, z .pre .1 .0)
+    let w = i .before .before .before .before in
+    let z = w .before .before .before .before in
+    let n = z .args .d .count in
+    omega (arith, c .before .pair-at .ensures, pairAt-below n (i .before .loop .i) 1 (omega (arith, i .loop-test .taken)), i .before .loop .inv .past .long, w .write .ensures .kept .long, z .pre .1 .0)
 
 add-i : tie.Need-add-i Inv-loop μ-loop
 add-i c = search needs
 
 loop-less : tie.Need-loop-less Inv-loop μ-loop
-loop-less c = search needs
+loop-less c = omega (arith, c .before .before .before .before .before .before .before .loop-test .taken)
 
 loop-again : tie.Need-loop-again Inv-loop μ-loop
 loop-again c =
@@ -61,12 +58,8 @@ loop-again c =
     let p = w .before .before in
     let l = p .before in
     let i = l .before .before in
-    let a = i .before .before .before .before .before .before .before .before .args in
-    let d = a .t2 in
-    let at = i .before .loop .i in
-    let e = ap (λ (t : Token). t .terminal) (sym (drafted-at d at (i .loop-test .taken))) in
-    written-more (i .loop-test .taken) (i .before .loop .inv) (subst (λ (x : ℕ). Leaf (rules (a .g)) x (l .leaf-pair .result .one) (l .leaf-pair .result .two)) e (l .leaf-pair .ensures))
-    (subst (λ (x : ℕ). WrotePair (i .before .loop .words) (w .write2 .last .0) x (l .leaf-pair .result .one) (l .leaf-pair .result .two)) (p .pair-at .ensures) (w .write2 .ensures))
+    written-more (i .loop-test .taken) (i .before .loop .inv) (l .leaf-at .ensures)
+    (subst (λ (x : ℕ). WrotePair (i .before .loop .words) (w .write2 .last .0) x (l .leaf-at .result .one) (l .leaf-at .result .two)) (p .pair-at .ensures) (w .write2 .ensures))
 
 same-length : tie.Need-same-length Inv-loop μ-loop
 same-length c = search needs
@@ -83,9 +76,7 @@ fill-leaves-spec =
     empty-pair-requires
     write-requires
     loop-holds
-    mul-t
-    element-copy-out-t
-    leaf-pair-requires
+    leaf-at-requires
     pair-at-requires
     write-requires-2
     add-i

@@ -1,0 +1,67 @@
+use borrow.Author.Needs.{needs}
+use mathlib.Core.Path.{_≡_, refl, sym, ap, _∙_}
+use Prim.Native.Nat.{ℕ, _+_, _-_, _≤_, _<_}
+use native.Mathlib.Omega.{arith}
+use Rattle.grammar.specs.declared.Token.{Token}
+use Rattle.marks.specs.Drafts.{drafted}
+use Rattle.marks.proofs.DraftLaws.{drafted-at}
+use Rattle.filling.proofs.first_like.Statement.{statement}
+use Rattle.filling.proofs.first_like.Tie as tie
+
+abbrev Inv-loop : tie.InvT-loop
+Inv-loop i d a j₀ j = j ≤ i
+
+abbrev μ-loop : tie.MeasureT-loop
+μ-loop i d a j₀ j = i - j
+
+mul-a : tie.Need-mul-a Inv-loop μ-loop
+mul-a c = search needs
+
+element-copy-out-a : tie.Need-element-copy-out-a Inv-loop μ-loop
+element-copy-out-a c = omega (arith, c .pre .0, c .pre .1)
+
+loop-holds : tie.Need-loop-holds Inv-loop μ-loop
+loop-holds c = omega arith
+
+mul-t : tie.Need-mul-t Inv-loop μ-loop
+mul-t c = search needs
+
+element-copy-out-t : tie.Need-element-copy-out-t Inv-loop μ-loop
+element-copy-out-t c = omega (arith, c .before .before .before .pre .0, c .before .before .before .pre .1, c .loop-test .taken)
+
+returns : tie.Need-returns Inv-loop μ-loop
+returns c =
+    let z = c .before .before .before .before .before .before .before in
+    let d = z .args .t1 in
+    let h = c .before .before .before .before .loop-test .taken in
+    let j = c .before .before .before .before .before .loop .j in
+    (omega (arith, h), ap (λ (t : Token). t .terminal) (drafted-at d j (omega (arith, h, z .pre .0))) ∙ c .if1 .taken ∙ sym (ap (λ (t : Token). t .terminal) (drafted-at d (z .args .i) (z .pre .0))))
+
+add-j : tie.Need-add-j Inv-loop μ-loop
+add-j c = search needs
+
+loop-less : tie.Need-loop-less Inv-loop μ-loop
+loop-less c = omega (arith, c .before .before .before .before .loop-test .taken)
+
+loop-again : tie.Need-loop-again Inv-loop μ-loop
+loop-again c = omega (arith, c .before .before .before .before .loop-test .taken)
+
+returns-2 : tie.Need-returns-2 Inv-loop μ-loop
+returns-2 c = (omega arith, refl)
+
+pub first-like-spec : {M : Type 1} → statement M
+first-like-spec =
+    tie.close
+    (tie.spec
+    Inv-loop
+    μ-loop
+    mul-a
+    element-copy-out-a
+    loop-holds
+    mul-t
+    element-copy-out-t
+    returns
+    add-j
+    loop-less
+    loop-again
+    returns-2)

@@ -1,0 +1,90 @@
+use borrow.Author.Needs.{needs}
+use mathlib.Core.Path.{_≡_, sym, ap, subst}
+use Prim.Native.Nat.{ℕ, _+_, _*_, _≤_, _<_}
+use native.Mathlib.Omega.{arith}
+use lib.ListN.{length, getD}
+use Rattle.grammar.specs.declared.Token.{Token}
+use Rattle.grammar.specs.Content.{rules}
+use Rattle.marks.specs.Half.{tokenAt}
+use Rattle.marks.specs.Drafts.{drafted}
+use Rattle.marks.proofs.DraftLaws.{drafted-at}
+use Rattle.spans.proofs.Places.{pairAt-below}
+use Rattle.chart.specs.Leaves.{Leaf}
+use Rattle.filling.proofs.leaf_at.Statement.{statement}
+use Rattle.filling.proofs.leaf_at.Tie as tie
+
+first-like-requires : tie.Need-first-like-requires
+first-like-requires c κs = c .before .pre .0
+
+pair-at-requires : tie.Need-pair-at-requires
+pair-at-requires c κs = let z = c .before .before .before in (z .pre .0 .1, omega (arith, c .if1 .taken, z .pre .0 .0))
+
+-- the pair of the token found lies in the sheet
+inside : (c : tie.After-pair-at) → let z = c .before .before .before .before in 2 * c .pair-at .result + 1 < length (z .args .words .now)
+inside c =
+    let z = c .before .before .before .before in
+    omega (arith, c .pair-at .ensures, z .pre .1 .0, pairAt-below (z .args .t2 .count) (c .before .before .first-like .result) 1 (omega (arith, c .before .if1 .taken, z .pre .0 .0)))
+
+mul-at : tie.Need-mul-at
+mul-at c = omega (arith, inside c, c .before .before .before .before .good .0 .1)
+
+mul-t13 : tie.Need-mul-t13
+mul-t13 c = omega (arith, inside c, c .before .before .before .before .good .0 .1)
+
+shared-slice-read-t15 : tie.Need-shared-slice-read-t15
+shared-slice-read-t15 c = omega (arith, inside (c .before))
+
+add-t16 : tie.Need-add-t16
+add-t16 c = omega (arith, inside (c .before), c .before .before .before .before .before .good .0 .1)
+
+mul-t17 : tie.Need-mul-t17
+mul-t17 c = omega (arith, inside (c .before), c .before .before .before .before .before .good .0 .1)
+
+shared-slice-read-t19 : tie.Need-shared-slice-read-t19
+shared-slice-read-t19 c = omega (arith, inside (c .before .before))
+
+returns : tie.Need-returns
+returns c =
+    let p = c .before .before in
+    let f = p .before .before in
+    let z = f .before .before in
+    let a = z .args in
+    let g = rules (a .g) in
+    let ws = a .words .now in
+    let j = f .first-like .result in
+    let w = drafted (a .t2) in
+    subst (λ (x : ℕ). Leaf g x (getD ws (2 * p .pair-at .result) 0) (getD ws (2 * p .pair-at .result + 1) 0)) (f .first-like .ensures .1)
+    (subst (λ (q : ℕ). Leaf g (tokenAt w j .terminal) (getD ws (2 * q) 0) (getD ws (2 * q + 1) 0)) (sym (p .pair-at .ensures)) (z .pre .1 .1 .1 .1 .leaves j (p .before .if1 .taken)))
+
+mul-t : tie.Need-mul-t
+mul-t c = search needs
+
+element-copy-out-t : tie.Need-element-copy-out-t
+element-copy-out-t c = let z = c .before .before .before in omega (arith, z .pre .0 .0, z .pre .0 .1)
+
+leaf-pair-requires : tie.Need-leaf-pair-requires
+leaf-pair-requires c κs = let z = c .before .before .before .before in (z .pre .1 .1 .0, z .pre .1 .1 .1 .0)
+
+returns-2 : tie.Need-returns-2
+returns-2 c =
+    let z = c .before .before .before .before .before in
+    let a = z .args in
+    subst (λ (x : ℕ). Leaf (rules (a .g)) x (c .leaf-pair .result .one) (c .leaf-pair .result .two)) (ap (λ (t : Token). t .terminal) (sym (drafted-at (a .t2) (a .i) (z .pre .0 .0)))) (c .leaf-pair .ensures)
+
+pub leaf-at-spec : {M : Type 1} → statement M
+leaf-at-spec =
+    tie.close
+    (tie.spec
+    first-like-requires
+    pair-at-requires
+    mul-at
+    mul-t13
+    shared-slice-read-t15
+    add-t16
+    mul-t17
+    shared-slice-read-t19
+    returns
+    mul-t
+    element-copy-out-t
+    leaf-pair-requires
+    returns-2)
