@@ -24,3 +24,7 @@ pub record Listed (g : Rules) (l : List ℕ) : Type 0 where
   pub long : length l ≡ 192
   pub firsts : Firsts g 64 l
   pub nexts : Nexts g (length g) l
+
+-- the rule at i, where there is one, is one of A
+abbrev pub IsOf : Rules → ℕ → ℕ → Type 0
+IsOf g A i = i < length g → rule g i .left ≡ A

@@ -5,14 +5,22 @@ use mathlib.Core.List.{List}
 use native.Mathlib.Omega.{arith}
 use lib.ListN.{length, getD}
 use Rattle.sets.specs.Sets.{In}
+use Rattle.grammar.specs.declared.Grammar.{Grammar}
 use Rattle.grammar.specs.Layout.{Word}
+use Rattle.grammar.specs.Content.{rules, Formed}
+use Rattle.marks.specs.declared.SpanMarks.{SpanMarks}
+use Rattle.sets.proofs.Says.{holds, fails}
+use mathlib.Core.Bool.{true, false}
 use Rattle.grammar.specs.Trees.{Rules}
 use Rattle.grammar.specs.Rows.{startOf}
-use Rattle.grammar.specs.SpanSheet.{part, pairAt}
-use Rattle.grammar.proofs.ByKind.{inside}
-use Rattle.marks.proofs.Words.{part-length}
+use Rattle.grammar.specs.SpanSheet.{pairAt}
+use Rattle.picks.specs.declared.Pick.the-variants as Pick
 use Rattle.picks.specs.Choosing.{NextAt, NoneFrom}
-use Rattle.picks.proofs.PickLaws.{next-first, next-none, next-other, next-only}
+use Rattle.picks.specs.Searches.{Stood, FirstPick}
+use Rattle.picks.proofs.PickLaws.{next-found, next-first, next-none, next-other, next-only}
+use Rattle.tables.specs.Tables.{One, byMarks, rule}
+use Rattle.tables.proofs.Views.{fits-le, lefts-le}
+use Rattle.place_list.specs.SeveralBy.{SeveralBy}
 use Rattle.places.specs.Places.{Several, Contains}
 use Rattle.reach.specs.Reached.{Reached}
 
@@ -34,9 +42,27 @@ module _ {g : Rules} {A : ℕ} {w : Word} where
       let o = next-other (next-first a) b in
       record { place₁ = p; split₁ = k; place₂ = q; split₂ = l; choice₁ = a .choice; choice₂ = b .choice; differ = λ e. o .other (sym (e .0), sym (e .1)) }
 
--- the left length of a choice is small
-pub left-small : {g : Rules} {A : ℕ} (w : Word) (s len : ℕ) {p k i j : ℕ} → s + len ≤ length w → NextAt g A (part w s len) i j p k → k ≤ len
-left-small {A = A} w s len {p} {k} h a = omega (arith, inside A (part w s len) p k (a .choice) .1, part-length w s len h)
+-- by the marks of the span, along the rules of A
+module _ {g : Grammar} {ws : List ℕ} {n A s len : ℕ} {k : SpanMarks} (formed : Formed g) where
+  pub by-none : FirstPick ws g n s len k A 0 0 Pick.Nothing → SeveralBy false g ws n A s len k
+  by-none a = record { says = λ w e f x m. fails (several-none (next-found g w ws s len k A 0 0 formed n Pick.Nothing e f x m a)) }
+
+  pub by-only : (p l : ℕ) → FirstPick ws g n s len k A 0 0 (Pick.At p l) → FirstPick ws g n s len k A p (l + 1) Pick.Nothing → SeveralBy false g ws n A s len k
+  by-only p l a b = record {
+    says = λ w e f x m.
+        fails (several-only (next-found g w ws s len k A 0 0 formed n (Pick.At p l) e f x m a) (next-found g w ws s len k A p (l + 1) formed n Pick.Nothing e f x m b));
+  }
+
+  pub by-two : (p l q h : ℕ) → FirstPick ws g n s len k A 0 0 (Pick.At p l) → FirstPick ws g n s len k A p (l + 1) (Pick.At q h) → SeveralBy true g ws n A s len k
+  by-two p l q h a b = record {
+    says = λ w e f x m.
+        holds (several-two (next-found g w ws s len k A 0 0 formed n (Pick.At p l) e f x m a) (next-found g w ws s len k A p (l + 1) formed n (Pick.At q h) e f x m b));
+  }
+
+-- the left length of what stands is small
+pub left-low : (g : Grammar) (ws : List ℕ) (n A s len i l : ℕ) (k : SpanMarks) → Stood ws g n s len k A i l → l ≤ len
+left-low g ws n A s len i l k c =
+    omega (arith, fits-le (One ws n) (byMarks k len) s len (rule (rules g) i .clause) l (c .fits), lefts-le (rule (rules g) i .clause) len)
 
 -- ---- what some whole tree contains, by its bit
 

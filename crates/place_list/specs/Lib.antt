@@ -1,3 +1,4 @@
 pub mod Scene
 pub mod Steps
 pub mod Given
+pub mod SeveralBy

@@ -1,14 +1,24 @@
 -- The first choice, then the next.
 use borrow.Author.Needs.{needs}
+use Rattle.picks.specs.declared.Pick.the-variants as Pick
+use Rattle.picks.proofs.ListLaws.{pick-first}
+use Rattle.place_list.proofs.ChoiceLaws.{by-none, by-only, by-two, left-low}
 use native.Mathlib.Omega.{arith}
-use Rattle.sets.proofs.Says.{holds, fails}
-use Rattle.place_list.proofs.ChoiceLaws.{several-none, several-only, several-two, left-small}
 use Rattle.place_list.proofs.has_several.Statement.{statement}
 use Rattle.place_list.proofs.has_several.Tie as tie
-use Rattle.grammar.specs.Sentences.{spelled}
 
-next-choice-requires : tie.Need-next-choice-requires
-next-choice-requires c κs = search needs
+mul-i : tie.Need-mul-i
+mul-i c = omega (arith, c .before .before .pre .0 .1)
+
+shared-slice-read-i : tie.Need-shared-slice-read-i
+shared-slice-read-i c = omega (arith, c .before .before .before .pre .0 .1, c .before .before .before .pre .1 .1 .long)
+
+next-listed-requires : tie.Need-next-listed-requires
+next-listed-requires c κs =
+    let z = c .before .before .before in
+    let a = z .args in
+    let f = z .pre .1 .1 .firsts .first (a .a) (z .pre .0 .1) in
+    (z .pre .0 .0, (z .pre .1, f .is))
 
 enum-told : tie.Need-enum-told
 enum-told c = search needs
@@ -16,14 +26,19 @@ enum-told c = search needs
 enum-known-first : tie.Need-enum-known-first
 enum-known-first c = search needs
 
-add-next-choice : tie.Need-add-next-choice
-add-next-choice c =
-    let z = c .before .before .before .before .before in
-    let a = rw (c .before .first .given .1) at (c .before .before .before .next-choice .ensures) in
-    omega (arith, left-small (spelled (z .args .s)) (z .args .start) (z .args .len) (omega (arith, z .pre .0 .1 .few)) a, z .pre .0)
+add-next-listed : tie.Need-add-next-listed
+add-next-listed c =
+    let z = c .before .before .before .before .before .before .before in
+    let a = z .args in
+    let x = rw (c .before .first .given .1) at (c .before .before .before .next-listed .ensures) in
+    omega (arith, left-low (a .g) (a .words .now) (a .n) (a .a) (a .start) (a .len) (c .before .first .given .0 .0) (c .before .first .given .0 .1 .0) (a .k) (x .1), z .pre .0 .0 .few, z .pre .0 .0 .fits)
 
-next-choice-requires-2 : tie.Need-next-choice-requires-2
-next-choice-requires-2 c κs = search needs
+next-listed-requires-2 : tie.Need-next-listed-requires-2
+next-listed-requires-2 c κs =
+    let z = c .before .before .before .before .before .before .before in
+    let a = z .args in
+    let x = rw (c .before .first .given .1) at (c .before .before .before .next-listed .ensures) in
+    (z .pre .0 .0, (z .pre .1, λ h. x .1 .left))
 
 enum-told-2 : tie.Need-enum-told-2
 enum-told-2 c = search needs
@@ -32,31 +47,30 @@ enum-told-3 : tie.Need-enum-told-3
 enum-told-3 c = search needs
 
 returns : tie.Need-returns
-returns c = let a = rw (c .enum-told .given .1) at (c .before .before .next-choice .ensures) in fails (several-none a)
+returns c =
+    let z = c .before .before .before .before .before .before in
+    let a = z .args in
+    let f = z .pre .1 .1 .firsts .first (a .a) (z .pre .0 .1) in
+    let x = rw (c .enum-told .given .1) at (c .before .before .next-listed .ensures) in
+    by-none (z .pre .1 .0) (pick-first (a .words .now) (a .g) (a .n) (a .start) (a .len) (a .k) (a .a) 0 0 _ Pick.Nothing f x)
 
 returns-2 : tie.Need-returns-2
 returns-2 c =
-    let a = rw (c .before .before .before .before .first .given .1) at (c .before .before .before .before .before .before .next-choice .ensures) in
-    let b = rw (c .enum-told2 .given .1) at (c .before .before .next-choice2 .ensures) in
-    fails (several-only a b)
+    let z = c .before .before .before .before .before .before .before .before .before .before in
+    let a = z .args in
+    let f = z .pre .1 .1 .firsts .first (a .a) (z .pre .0 .1) in
+    let x = rw (c .before .before .before .before .first .given .1) at (c .before .before .before .before .before .before .next-listed .ensures) in
+    let y = rw (c .enum-told2 .given .1) at (c .before .before .next-listed2 .ensures) in
+    by-only (z .pre .1 .0) (c .before .before .before .before .first .given .0 .0) (c .before .before .before .before .first .given .0 .1 .0) (pick-first (a .words .now) (a .g) (a .n) (a .start) (a .len) (a .k) (a .a) 0 0 _ (Pick.At (c .before .before .before .before .first .given .0 .0) (c .before .before .before .before .first .given .0 .1 .0)) f x) y
 
 returns-3 : tie.Need-returns-3
 returns-3 c =
-    let a = rw (c .before .before .before .before .first .given .1) at (c .before .before .before .before .before .before .next-choice .ensures) in
-    let b = rw (c .enum-told3 .given .1) at (c .before .before .next-choice2 .ensures) in
-    holds (several-two a b)
+    let z = c .before .before .before .before .before .before .before .before .before .before in
+    let a = z .args in
+    let f = z .pre .1 .1 .firsts .first (a .a) (z .pre .0 .1) in
+    let x = rw (c .before .before .before .before .first .given .1) at (c .before .before .before .before .before .before .next-listed .ensures) in
+    let y = rw (c .enum-told3 .given .1) at (c .before .before .next-listed2 .ensures) in
+    by-two (z .pre .1 .0) (c .before .before .before .before .first .given .0 .0) (c .before .before .before .before .first .given .0 .1 .0) _ _ (pick-first (a .words .now) (a .g) (a .n) (a .start) (a .len) (a .k) (a .a) 0 0 _ (Pick.At (c .before .before .before .before .first .given .0 .0) (c .before .before .before .before .first .given .0 .1 .0)) f x) y
 
 pub has-several-spec : {M : Type 1} → statement M
-has-several-spec =
-    tie.close
-    (tie.spec
-    next-choice-requires
-    enum-told
-    enum-known-first
-    add-next-choice
-    next-choice-requires-2
-    enum-told-2
-    enum-told-3
-    returns
-    returns-2
-    returns-3)
+has-several-spec = tie.close (tie.spec mul-i shared-slice-read-i next-listed-requires enum-told enum-known-first add-next-listed next-listed-requires-2 enum-told-2 enum-told-3 returns returns-2 returns-3)

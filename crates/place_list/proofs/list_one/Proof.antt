@@ -1,24 +1,33 @@
 -- `list_one` meets its contract: the place is passed or put.
 use borrow.Author.Needs.{needs}
 use borrow.Author.Tests.{not-true, not-false}
+use mathlib.Core.Path.{_≡_, subst}
+use Prim.Native.Nat.{ℕ, _*_, _≤_}
+use lib.ListN.{length}
+use Rattle.grammar.specs.SpanSheet.{pairs}
+use Rattle.grammar.specs.Sentences.{spelled}
 use Rattle.place_list.proofs.ListLaws.{lists-skip, lists-put}
 use Rattle.place_list.proofs.list_one.Statement.{statement}
 use Rattle.place_list.proofs.list_one.Tie as tie
 
 has-several-requires : tie.Need-has-several-requires
-has-several-requires c κs = search needs
+has-several-requires c κs =
+    let z = c .before .before .before in
+    let a = z .args in
+    ((record { few = z .pre .0 .1 .few; fits = z .pre .0 .2; enough = subst (λ (n : ℕ). 2 * pairs n ≤ length (a .words .now)) (z .pre .0 .1 .whole) (z .pre .1 .0 .0 .enough) }, z .pre .1 .1 .0 .0), (z .pre .0 .0, z .pre .0 .3))
 
 returns : tie.Need-returns
 returns c =
-    let s = c .before .before .before .before in
-    lists-skip (s .args .a) (s .args .start) (s .args .len) (s .pre .1 .1)
-    (λ p. c .before .has-several .ensures .isnt (not-true _ (c .if1 .taken)) (p .several))
+    let z = c .before .before .before .before .before in
+    let a = z .args in
+    let q = c .before .has-several .ensures .says (spelled (a .s)) (z .pre .0 .1 .whole) (z .pre .0 .2) (z .pre .1 .0 .0) (z .pre .1 .1 .0 .1) in
+    lists-skip (a .a) (a .start) (a .len) (z .pre .1 .1 .1) (λ p. q .isnt (not-true _ (c .if1 .taken)) (p .several))
 
-cast-t12 : tie.Need-cast-t12
-cast-t12 c = search needs
+cast-t15 : tie.Need-cast-t15
+cast-t15 c = search needs
 
-cast-t13 : tie.Need-cast-t13
-cast-t13 c = search needs
+cast-t16 : tie.Need-cast-t16
+cast-t16 c = search needs
 
 slice-aggregate-put : tie.Need-slice-aggregate-put
 slice-aggregate-put c = search needs
@@ -31,21 +40,10 @@ same-length c = search needs
 
 returns-2 : tie.Need-returns-2
 returns-2 c =
-    let p = c .before .before in
-    let i = p .before .before .before in
-    let s = i .before .before .before .before in
-    let several = i .before .has-several .ensures .is (not-false _ (i .if1 .left)) in
-    lists-put (s .args .a) (s .args .start) (s .args .len) (record { contained = s .pre .1 .0 .1; several = several }) (p .put .kept .0) (p .put .ensures)
+    let z = c .before .before .before .before .before .before .before .before .before .before in
+    let a = z .args in
+    let q = c .before .before .before .before .before .before .has-several .ensures .says (spelled (a .s)) (z .pre .0 .1 .whole) (z .pre .0 .2) (z .pre .1 .0 .0) (z .pre .1 .1 .0 .1) in
+    lists-put (a .a) (a .start) (a .len) (record { contained = z .pre .1 .0 .1; several = q .is (not-false _ (c .before .before .before .before .before .if1 .left)) }) (c .before .before .put .kept .0) (c .before .before .put .ensures)
 
 pub list-one-spec : {M : Type 1} → statement M
-list-one-spec =
-    tie.close
-    (tie.spec
-    has-several-requires
-    returns
-    cast-t12
-    cast-t13
-    slice-aggregate-put
-    put-requires
-    same-length
-    returns-2)
+list-one-spec = tie.close (tie.spec has-several-requires returns cast-t15 cast-t16 slice-aggregate-put put-requires same-length returns-2)
