@@ -22,10 +22,12 @@ use Rattle.grammar.proofs.ByKind.{Can, choice-can, can-choice, getElem?-lt}
 use Rattle.acyclic.specs.Exact.{Exactly}
 use Rattle.acyclic.specs.Passes.{Ready}
 use Rattle.acyclic.proofs.Growth.{small-at}
-use Rattle.pairs.specs.Shapes.{Shape, Form, HasForm, tips, ones, twos, firsts, seconds, ruleOfShape, Head}
+use Rattle.pairs.specs.Shapes.{Shape, Form, HasForm, tips, ones, twos, firsts, seconds, ruleOfShape}
+use Rattle.pairs.specs.Shapes.{Head}
 use Rattle.pairs.specs.Settings.{Setting, FitIn}
 use Rattle.pairs.specs.Facts.{Fact, stand, Might, two-nodes}
-use Rattle.pairs.specs.Doubts.{Seen, TwoNodes, Why, two-rules, two-cuts, two-empty, Doubt, Doubted, DoubtBy}
+use Rattle.pairs.specs.Doubts.{Seen, TwoNodes, Why, two-rules, two-cuts, two-empty, Doubt, Doubted}
+use Rattle.pairs.specs.Doubts.{DoubtBy}
 use Rattle.doubt_list.specs.Marks.{Bit, Together, Marked, RuleOf, EmptyTwice}
 use Rattle.doubt_list.specs.Steps.{doubt}
 
@@ -76,7 +78,8 @@ small-rule {g} {p} f r =
       place = omega (arith, getElem?-lt (rules g) p (r .stands), f .whole, f .few);
     }
 
-rules-of : {g : Rules} (A p q : ℕ) (y : Why) → DoubtBy g A p q y → RuleOf g p A × RuleOf g q A × (p ≤ q)
+rules-of : {g : Rules} (A p q : ℕ) (y : Why) → DoubtBy g A p q y
+    → RuleOf g p A × RuleOf g q A × (p ≤ q)
 rules-of A p q two-rules d = (nodes-first (d .2), nodes-second (d .2), omega (arith, d .1))
 rules-of A p q two-cuts d = (nodes-first (d .2), nodes-second (d .2), omega (arith, d .1))
 rules-of A p q two-empty d = (choice-rule (d .2), choice-rule (d .3), omega (arith, d .1))
@@ -112,20 +115,26 @@ module _ {g : Rules} {t : List ℕ} (m : Marked g t) {A p q : ℕ} (r : RuleOf g
   nodes-bit : Seen g A → TwoNodes g A p q → Bit t p q
   nodes-bit s n = m .is p q h k .1 (record { left = A; seen = s; nodes = n })
 
-pub says-rules : {g : Rules} {t : List ℕ} {A p q : ℕ} {b : Bool} → Marked g t → RuleOf g p A → p < q → q < 128 → Says b (Bit t p q)
+pub says-rules : {g : Rules} {t : List ℕ} {A p q : ℕ} {b : Bool} → Marked g t → RuleOf g p A → p < q
+    → q < 128 → Says b (Bit t p q)
     → Says b (Doubted g (doubt A p q two-rules))
 says-rules {p = p} {q = q} m r h k s =
     let le : p ≤ q = omega (arith, h) in
-    says-iff (λ i. let x = bit-nodes m r le k i in (x .0, h, x .1)) (λ d. nodes-bit m r le k (d .0) (d .2)) s
+    says-iff (λ i. let x = bit-nodes m r le k i in (x .0, h, x .1))
+    (λ d. nodes-bit m r le k (d .0) (d .2)) s
 
-pub says-cuts : {g : Rules} {t : List ℕ} {A p : ℕ} {b : Bool} → Marked g t → RuleOf g p A → p < 128 → Says b (Bit t p p)
+pub says-cuts : {g : Rules} {t : List ℕ} {A p : ℕ} {b : Bool} → Marked g t → RuleOf g p A → p < 128
+    → Says b (Bit t p p)
     → Says b (Doubted g (doubt A p p two-cuts))
 says-cuts m r k s =
-    says-iff (λ i. let x = bit-nodes m r (omega arith) k i in (x .0, refl, x .1)) (λ d. nodes-bit m r (omega arith) k (d .0) (d .2)) s
+    says-iff (λ i. let x = bit-nodes m r (omega arith) k i in (x .0, refl, x .1))
+    (λ d. nodes-bit m r (omega arith) k (d .0) (d .2)) s
 
-pub says-empty : {g : Rules} {A p q : ℕ} {b : Bool} → p < q → Says b (EmptyTwice g A p q) → Says b (Doubted g (doubt A p q two-empty))
+pub says-empty : {g : Rules} {A p q : ℕ} {b : Bool} → p < q → Says b (EmptyTwice g A p q)
+    → Says b (Doubted g (doubt A p q two-empty))
 says-empty h s =
-    says-iff (λ e. (e .occurs, h, e .first, e .second)) (λ d. record { occurs = d .0; first = d .2; second = d .3 }) s
+    says-iff (λ e. (e .occurs, h, e .first, e .second))
+    (λ d. record { occurs = d .0; first = d .2; second = d .3 }) s
 
 -- ---- rules for the empty word
 
@@ -138,12 +147,15 @@ module _ {g : Rules} {ns : ℕ} (x : Exactly ns (Nullable g)) where
 
   can-ready : (c : Clause) → Can g [] c 0 → Ready ns c
   can-ready Clause.Empty e = tt
-  can-ready (Clause.Atom a b) e = let z = e .1 in absurd (let y : _≡_ {A = ℕ} 0 1 = cc in omega arith)
+  can-ready (Clause.Atom a b) e =
+      let z = e .1 in absurd (let y : _≡_ {A = ℕ} 0 1 = cc in omega arith)
   can-ready (Clause.Unary B k) e = x .all B (e .0)
   can-ready (Clause.Binary B C k) e = (x .all B (e .1), x .all C (e .2))
 
-  pub says-choice : {p : ℕ} {b : Bool} (r : Rule) → getElem? g p ≡ some r → Says b (Ready ns (r .clause)) → Says b (Choice g (r .left) [] p 0)
-  says-choice {p} r st s = says-iff (λ h. can-choice g p (r .left) (r .clause) [] 0 st (ready-can (r .clause) h)) back s
+  pub says-choice : {p : ℕ} {b : Bool} (r : Rule) → getElem? g p ≡ some r
+      → Says b (Ready ns (r .clause)) → Says b (Choice g (r .left) [] p 0)
+  says-choice {p} r st s =
+      says-iff (λ h. can-choice g p (r .left) (r .clause) [] 0 st (ready-can (r .clause) h)) back s
     where
       back : Choice g (r .left) [] p 0 → Ready ns (r .clause)
       back c =

@@ -16,7 +16,8 @@ use Rattle.grammar.proofs.Lists.{every-append}
 use Rattle.lists.specs.declared.Listing.{Listing}
 use Rattle.lists.specs.Putting.{Puts, PutMore, Begun}
 use Rattle.lists.proofs.Entries.{bytes-snoc}
-use Rattle.pairs.specs.Doubts.{Why, two-rules, two-cuts, two-empty, Doubt, Doubted, whyCode, DoubtBefore, DoubtsInOrder, AllDoubts}
+use Rattle.pairs.specs.Doubts.{Why, two-rules, two-cuts, two-empty, Doubt, Doubted, whyCode}
+use Rattle.pairs.specs.Doubts.{DoubtBefore, DoubtsInOrder, AllDoubts}
 use Rattle.doubt_list.specs.Entries.{doubtBytes}
 use Rattle.doubt_list.specs.Steps.{at, numberOf, ListedTo, Lists, PutIf}
 use Rattle.doubt_list.proofs.Doubting.{Small, OfRules, doubt-rules}
@@ -40,9 +41,11 @@ module _ {A : Type 0} where
   mem-last [] a = List·Memᴰ·head refl
   mem-last (b ∷ l) a = List·Memᴰ·tail (mem-last l a)
 
-ordered-snoc : (l : List Doubt) (d : Doubt) → DoubtsInOrder l → Every (λ e. DoubtBefore e d) l → DoubtsInOrder (l ++ d ∷ [])
+ordered-snoc : (l : List Doubt) (d : Doubt) → DoubtsInOrder l → Every (λ e. DoubtBefore e d) l
+    → DoubtsInOrder (l ++ d ∷ [])
 ordered-snoc [] d o b = (tt, tt)
-ordered-snoc (e ∷ l) d o b = (every-append (DoubtBefore e) l (d ∷ []) (o .0) (b .0, tt), ordered-snoc l d (o .1) (b .1))
+ordered-snoc (e ∷ l) d o b =
+    (every-append (DoubtBefore e) l (d ∷ []) (o .0) (b .0, tt), ordered-snoc l d (o .1) (b .1))
 
 -- ---- numbers and order
 
@@ -76,19 +79,25 @@ number-before d e x y h = go (decLt (d .nonterminal) (e .nonterminal))
     small′ : whyCode (e .why) < 3
     small′ = why-small (e .why)
 
-    go₃ : d .nonterminal ≡ e .nonterminal → d .first ≡ e .first → Dec (d .second < e .second) → DoubtBefore d e
+    go₃ : d .nonterminal ≡ e .nonterminal → d .first ≡ e .first → Dec (d .second < e .second)
+        → DoubtBefore d e
     go₃ a b (yes k) = inr (inr (inl (a, b, k)))
     go₃ a b (no k) =
-        let s : d .second ≡ e .second = omega (arith, x .first, x .second, y .first, y .second, small, small′, a, b, h, k) in
+        let s : d .second ≡ e .second = omega
+            (arith, x .first, x .second, y .first, y .second, small, small′, a, b, h, k) in
         inr (inr (inr (a, b, s, omega (arith, a, b, s, h))))
 
     go₂ : d .nonterminal ≡ e .nonterminal → Dec (d .first < e .first) → DoubtBefore d e
     go₂ a (yes k) = inr (inl (a, k))
-    go₂ a (no k) = go₃ a (omega (arith, x .first, x .second, y .first, y .second, small, small′, a, h, k)) (decLt (d .second) (e .second))
+    go₂ a (no k) =
+        go₃ a (omega (arith, x .first, x .second, y .first, y .second, small, small′, a, h, k))
+        (decLt (d .second) (e .second))
 
     go : Dec (d .nonterminal < e .nonterminal) → DoubtBefore d e
     go (yes k) = inl k
-    go (no k) = go₂ (omega (arith, x .first, x .second, y .first, y .second, small, small′, h, k)) (decLt (d .first) (e .first))
+    go (no k) =
+        go₂ (omega (arith, x .first, x .second, y .first, y .second, small, small′, h, k))
+        (decLt (d .first) (e .first))
 
 number-same : (d e : Doubt) → Few d → Few e → numberOf d ≡ numberOf e → d ≡ e
 number-same d e x y h =
@@ -118,11 +127,14 @@ module _ {g : Grammar} (f : Formed g) where
   few-of : (d : Doubt) → Doubted (rules g) d → Few d
   few-of d h = let r = doubt-rules f d h in record { first = r .small .place; second = r .few }
 
-  pub lists-none : {out : List ℕ} {l : Listing} {n : ℕ} → l .count ≤ l .at → Lists (rules g) out out l l n n
+  pub lists-none : {out : List ℕ} {l : Listing} {n : ℕ} → l .count ≤ l .at
+      → Lists (rules g) out out l l n n
   lists-none h = record { few = h; long = refl; goes = λ x. x }
 
-  pub lists-then : {a b c : List ℕ} {l m r : Listing} {i j k : ℕ} → Lists (rules g) a b l m i j → Lists (rules g) b c m r j k → Lists (rules g) a c l r i k
-  lists-then p q = record { few = q .few; long = q .long ∙ p .long; goes = λ h. q .goes (p .goes h) }
+  pub lists-then : {a b c : List ℕ} {l m r : Listing} {i j k : ℕ} → Lists (rules g) a b l m i j
+      → Lists (rules g) b c m r j k → Lists (rules g) a c l r i k
+  lists-then p q =
+      record { few = q .few; long = q .long ∙ p .long; goes = λ h. q .goes (p .goes h) }
 
   -- no doubt has a number from m on and below n
   pub lists-skip : {out : List ℕ} {l : Listing} (m n : ℕ) → l .count ≤ l .at → m ≤ n
@@ -137,20 +149,26 @@ module _ {g : Grammar} (f : Formed g) where
               each = x .each;
               all = λ d p i. all x d p i (decLt (numberOf d) m);
               ordered = x .ordered;
-              before = every-as (λ d. numberOf d < m) (λ d. numberOf d < n) (x .entries) (λ d i. omega (arith, i, k)) (x .before);
+              before =
+                  every-as (λ d. numberOf d < m) (λ d. numberOf d < n) (x .entries)
+                  (λ d i. omega (arith, i, k)) (x .before);
               puts = x .puts;
             };
       }
     where
-      all : {lent out : List ℕ} {l : Listing} (x : ListedTo (rules g) lent out l m) (d : Doubt) → Doubted (rules g) d → numberOf d < n → Dec (numberOf d < m) → List·Memᴰ d (x .entries)
+      all : {lent out : List ℕ} {l : Listing} (x : ListedTo (rules g) lent out l m) (d : Doubt)
+          → Doubted (rules g) d → numberOf d < n → Dec (numberOf d < m) → List·Memᴰ d (x .entries)
       all x d p i (yes j) = x .all d p j
       all x d p i (no j) = absurd (none d (doubt-rules f d p) p (omega (arith, j)) i)
 
-  lists-put : {old new : List ℕ} {l r : Listing} (d : Doubt) → Doubted (rules g) d → length new ≡ length old
-      → PutMore (doubtBytes d) 1 old new l r → Lists (rules g) old new l r (numberOf d) (suc (numberOf d))
+  lists-put : {old new : List ℕ} {l r : Listing} (d : Doubt) → Doubted (rules g) d
+      → length new ≡ length old
+      → PutMore (doubtBytes d) 1 old new l r → Lists (rules g) old new l r (numberOf d)
+      (suc (numberOf d))
   lists-put {old} {new} {l} {r} d p h q = record { few = q .few; long = h; goes = goes }
     where
-      goes : {lent : List ℕ} → ListedTo (rules g) lent old l (numberOf d) → ListedTo (rules g) lent new r (suc (numberOf d))
+      goes : {lent : List ℕ} → ListedTo (rules g) lent old l (numberOf d)
+          → ListedTo (rules g) lent new r (suc (numberOf d))
       goes {lent} x =
           record {
             entries = x .entries ++ d ∷ [];
@@ -165,22 +183,29 @@ module _ {g : Grammar} (f : Formed g) where
                 every-append (λ e. numberOf e < suc (numberOf d)) (x .entries) (d ∷ [])
                 (every-as (λ e. numberOf e < numberOf d) (λ e. numberOf e < suc (numberOf d)) (x .entries) (λ e i. omega (arith, i)) (x .before)) (omega arith, tt);
             puts =
-                subst₂ (λ (b : List ℕ) (k : ℕ). Puts b k lent new r) (sym (bytes-snoc doubtBytes (x .entries) d)) (sym (length-append (x .entries) (d ∷ [])))
+                subst₂ (λ (b : List ℕ) (k : ℕ). Puts b k lent new r)
+                (sym (bytes-snoc doubtBytes (x .entries) d))
+                (sym (length-append (x .entries) (d ∷ [])))
                 (q .puts (x .puts));
           }
         where
-          all : (e : Doubt) → Doubted (rules g) e → numberOf e < suc (numberOf d) → Dec (numberOf e < numberOf d) → List·Memᴰ e (x .entries ++ d ∷ [])
+          all : (e : Doubt) → Doubted (rules g) e → numberOf e < suc (numberOf d)
+              → Dec (numberOf e < numberOf d) → List·Memᴰ e (x .entries ++ d ∷ [])
           all e y i (yes j) = mem-left (x .entries) (d ∷ []) (x .all e y j)
           all e y i (no j) =
               let same = number-same e d (few-of e y) (few-of d p) (omega (arith, i, j)) in
-              subst (λ (z : Doubt). List·Memᴰ z (x .entries ++ d ∷ [])) (sym same) (mem-last (x .entries) d)
+              subst (λ (z : Doubt). List·Memᴰ z (x .entries ++ d ∷ [])) (sym same)
+              (mem-last (x .entries) d)
 
   -- an entry was put exactly if it is a doubt
-  pub lists-if : {yes : Bool} {old new : List ℕ} {l r : Listing} (d : Doubt) → Few d → Says yes (Doubted (rules g) d) → l .count ≤ l .at
-      → PutIf yes (doubtBytes d) old new l r → Lists (rules g) old new l r (numberOf d) (suc (numberOf d))
+  pub lists-if : {yes : Bool} {old new : List ℕ} {l r : Listing} (d : Doubt) → Few d
+      → Says yes (Doubted (rules g) d) → l .count ≤ l .at
+      → PutIf yes (doubtBytes d) old new l r → Lists (rules g) old new l r (numberOf d)
+      (suc (numberOf d))
   lists-if {yes} {old} {new} {l} {r} d x s h q = go yes s q
     where
-      go : (b : Bool) → Says b (Doubted (rules g) d) → PutIf b (doubtBytes d) old new l r → Lists (rules g) old new l r (numberOf d) (suc (numberOf d))
+      go : (b : Bool) → Says b (Doubted (rules g) d) → PutIf b (doubtBytes d) old new l r
+          → Lists (rules g) old new l r (numberOf d) (suc (numberOf d))
       go true s q = let p = q .put refl in lists-put d (s .is refl) (p .1) (p .0)
       go false s q =
           let p = q .same refl in
@@ -191,10 +216,24 @@ module _ {g : Grammar} (f : Formed g) where
   -- ---- the first number and the last
 
   pub listed-first : {lent : List ℕ} {l : Listing} → Begun l → ListedTo (rules g) lent lent l 0
-  listed-first {lent} b = record { entries = []; each = tt; all = λ d p i. absurd (omega (arith, i)); ordered = tt; before = tt; puts = b .puts lent }
+  listed-first {lent} b =
+      record {
+        entries = [];
+        each = tt;
+        all = λ d p i. absurd (omega (arith, i));
+        ordered = tt;
+        before = tt;
+        puts = b .puts lent;
+      }
 
-  pub listed-all : {lent out : List ℕ} {l : Listing} (x : ListedTo (rules g) lent out l (at 64 0 0 0)) → AllDoubts (rules g) (x .entries)
-  listed-all x = record { each = x .each; all = λ d p. x .all d p (last d (doubt-rules f d p)); ordered = x .ordered }
+  pub listed-all : {lent out : List ℕ} {l : Listing} (x : ListedTo (rules g) lent out l (at 64 0 0 0))
+      → AllDoubts (rules g) (x .entries)
+  listed-all x =
+      record {
+        each = x .each;
+        all = λ d p. x .all d p (last d (doubt-rules f d p));
+        ordered = x .ordered;
+      }
     where
       last : (d : Doubt) → OfRules g d → numberOf d < at 64 0 0 0
       last d o = omega (arith, o .small .left, o .small .place, o .few, why-small (d .why))

@@ -1,4 +1,5 @@
--- What the list writer reads: a bit for each two rules that may read one word, or one rule that may part it twice.
+-- What the list writer reads: a bit for each two rules that may read one word, or one rule that
+-- may part it twice.
 use mathlib.Core.Path.{_≡_}
 use mathlib.Core.Logic.{_↔_}
 use mathlib.Core.List.{List, []}

@@ -22,7 +22,8 @@ at A p q y = 49152 * A + 384 * p + 3 * q + y
 abbrev pub numberOf : Doubt → ℕ
 numberOf d = at (d .nonterminal) (d .first) (d .second) (whyCode (d .why))
 
--- all doubts of numbers below n were put into the lent bytes, in order, and no more; they have become out
+-- all doubts of numbers below n were put into the lent bytes, in order, and no more; they have
+-- become out
 pub record ListedTo (g : Rules) (lent out : List ℕ) (l : Listing) (n : ℕ) : Type 0 where
   pub entries : List Doubt
   pub each : Every (Doubted g) entries

@@ -1,4 +1,5 @@
--- Tables of 64 sets: the nonterminals by the terminal that they begin with, and the terminals by nonterminal.
+-- Tables of 64 sets: the nonterminals by the terminal that they begin with, and the terminals by
+-- nonterminal.
 use mathlib.Core.List.{List}
 use Prim.Native.Nat.{ℕ, _≤_, _<_}
 use lib.ListN.{length, getD}

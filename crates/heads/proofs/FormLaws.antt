@@ -13,14 +13,17 @@ use Rattle.grammar.specs.Trees.{Rules}
 use Rattle.grammar.specs.Cycles.{Nullable}
 use Rattle.acyclic.specs.Exact.{Exactly}
 use Rattle.pairs.specs.Survey.{Productive, Inherits}
-use Rattle.pairs.specs.Shapes.{Form, tip, one, two, Shape, RuleAt, HasForm, tips, ones, twos, firsts, seconds}
+use Rattle.pairs.specs.Shapes.{Form, tip, one, two, Shape, RuleAt, HasForm, tips, ones, twos}
+use Rattle.pairs.specs.Shapes.{firsts, seconds}
 use Rattle.survey.specs.Closing.{Weakest}
 use Rattle.heads.specs.declared.Looks.{Looks}
 use Rattle.heads.specs.declared.Looks.the-variants as Looks
 use Rattle.heads.specs.declared.Shaped.{Shaped}
-use Rattle.heads.specs.Forms.{shapeBy, AllForm, FirstForm, SecondForm, FormBy, SaysForm, MarkOf, LooksLike, ShapedAs}
+use Rattle.heads.specs.Forms.{shapeBy, AllForm, FirstForm, SecondForm, FormBy, SaysForm}
+use Rattle.heads.specs.Forms.{MarkOf, LooksLike, ShapedAs}
 
-inherits-of : {g : Rules} {A : ℕ} {s : Shape} {f : Form} → HasForm g A s f → (l : UnaryMark) × Inherits g A l
+inherits-of : {g : Rules} {A : ℕ} {s : Shape} {f : Form} → HasForm g A s f
+    → (l : UnaryMark) × Inherits g A l
 inherits-of (tips i r) = (_, i)
 inherits-of (ones i r p) = (_, i)
 inherits-of (twos i r p q) = (_, i)
@@ -54,21 +57,26 @@ module _ (ns ps : ℕ) (l : UnaryMark) where
 
 module _ {g : Rules} {ns ps : ℕ} (x : Exactly ns (Nullable g)) (y : Exactly ps (Productive g)) where
   module _ (A p : ℕ) (l : UnaryMark) (i : Inherits g A l) where
-    all-form : (c : Clause) (f : Form) → RuleAt g p A c → AllForm ps l c f → HasForm g A (shapeBy 0 p) f
+    all-form : (c : Clause) (f : Form) → RuleAt g p A c → AllForm ps l c f
+        → HasForm g A (shapeBy 0 p) f
     all-form (Clause.Atom a b) f r e = subst (HasForm g A (shapeBy 0 p)) (sym e) (tips i r)
-    all-form (Clause.Unary C m) f r (u, e) = subst (HasForm g A (shapeBy 0 p)) (sym e) (ones i r (y .is C u))
+    all-form (Clause.Unary C m) f r (u, e) =
+        subst (HasForm g A (shapeBy 0 p)) (sym e) (ones i r (y .is C u))
     all-form (Clause.Binary C D m) f r ((u, v), e) =
         subst (HasForm g A (shapeBy 0 p)) (sym e) (twos i r (y .is C u) (y .is D v))
 
-    first-form : (c : Clause) (f : Form) → RuleAt g p A c → FirstForm ns ps l c f → HasForm g A (shapeBy 1 p) f
+    first-form : (c : Clause) (f : Form) → RuleAt g p A c → FirstForm ns ps l c f
+        → HasForm g A (shapeBy 1 p) f
     first-form (Clause.Binary C D m) f r ((u, v), e) =
         subst (HasForm g A (shapeBy 1 p)) (sym e) (firsts i r (y .is C u) (x .is D v))
 
-    second-form : (c : Clause) (f : Form) → RuleAt g p A c → SecondForm ns ps l c f → HasForm g A (shapeBy 2 p) f
+    second-form : (c : Clause) (f : Form) → RuleAt g p A c → SecondForm ns ps l c f
+        → HasForm g A (shapeBy 2 p) f
     second-form (Clause.Binary C D m) f r ((u, v), e) =
         subst (HasForm g A (shapeBy 2 p)) (sym e) (seconds i r (x .is C u) (y .is D v))
 
-    form-has : (k : ℕ) (c : Clause) (f : Form) → RuleAt g p A c → FormBy k ns ps l c f → HasForm g A (shapeBy k p) f
+    form-has : (k : ℕ) (c : Clause) (f : Form) → RuleAt g p A c → FormBy k ns ps l c f
+        → HasForm g A (shapeBy k p) f
     form-has zero = all-form
     form-has (suc zero) = first-form
     form-has (suc (suc k)) = second-form
@@ -79,25 +87,33 @@ module _ {g : Rules} {ns ps : ℕ} (x : Exactly ns (Nullable g)) (y : Exactly ps
     pub form : Form
     pub by : FormBy k ns ps l (r .clause) form
 
-  at-rule : (k p A : ℕ) (l : UnaryMark) (c : Clause) (f : Form) {r : Rule} → getElem? g p ≡ some r → RuleAt g p A c → FormBy k ns ps l c f → Given k p A l r
+  at-rule : (k p A : ℕ) (l : UnaryMark) (c : Clause) (f : Form) {r : Rule} → getElem? g p ≡ some r
+      → RuleAt g p A c → FormBy k ns ps l c f → Given k p A l r
   at-rule k p A l c f {r} st r′ h =
       let e : record { left = A; clause = c } ≡ r = cc in
       subst (Given k p A l) e (record { left = refl; form = f; by = h })
 
-  has-form : (k : ℕ) {p A : ℕ} {f : Form} (l : UnaryMark) {r : Rule} → getElem? g p ≡ some r → HasForm g A (shapeBy k p) f → Given k p A l r
-  has-form zero {p} {A} l st (tips {a = a} {b = b} i r) = at-rule 0 p A l (Clause.Atom a b) (tip a b) st r refl
-  has-form zero {p} {A} l st (ones {C = C} {m = m} i r u) = at-rule 0 p A l (Clause.Unary C m) (one C l m) st r (y .all C u, refl)
+  has-form : (k : ℕ) {p A : ℕ} {f : Form} (l : UnaryMark) {r : Rule} → getElem? g p ≡ some r
+      → HasForm g A (shapeBy k p) f → Given k p A l r
+  has-form zero {p} {A} l st (tips {a = a} {b = b} i r) =
+      at-rule 0 p A l (Clause.Atom a b) (tip a b) st r refl
+  has-form zero {p} {A} l st (ones {C = C} {m = m} i r u) =
+      at-rule 0 p A l (Clause.Unary C m) (one C l m) st r (y .all C u, refl)
   has-form zero {p} {A} l st (twos {C = C} {D = D} {m = m} i r u v) =
       at-rule 0 p A l (Clause.Binary C D m) (two C D m l) st r ((y .all C u, y .all D v), refl)
   has-form (suc zero) {p} {A} l st (firsts {C = C} {D = D} {m = m} i r u v) =
-      at-rule 1 p A l (Clause.Binary C D m) (one C l UnaryMark.None) st r ((y .all C u, x .all D v), refl)
+      at-rule 1 p A l (Clause.Binary C D m) (one C l UnaryMark.None) st r
+      ((y .all C u, x .all D v), refl)
   has-form (suc (suc k)) {p} {A} l st (seconds {C = C} {D = D} {m = m} i r u v) =
-      at-rule (suc (suc k)) p A l (Clause.Binary C D m) (one D l UnaryMark.None) st r ((x .all C u, y .all D v), refl)
+      at-rule (suc (suc k)) p A l (Clause.Binary C D m) (one D l UnaryMark.None) st r
+      ((x .all C u, y .all D v), refl)
 
   module _ (k p : ℕ) (r : Rule) (st : getElem? g p ≡ some r) (small : r .left < 64) where
     -- no mark is inherited
-    pub shaped-none : ((l : UnaryMark) → Inherits g (r .left) l → ⊥) → ShapedAs g (shapeBy k p) (record { sort = r .left; looks = Looks.Nothing })
-    shaped-none n = record { small = small; says = λ f x. none (r .left) f (x .form); none = λ e. none }
+    pub shaped-none : ((l : UnaryMark) → Inherits g (r .left) l → ⊥)
+        → ShapedAs g (shapeBy k p) (record { sort = r .left; looks = Looks.Nothing })
+    shaped-none n =
+        record { small = small; says = λ f x. none (r .left) f (x .form); none = λ e. none }
       where
         none : (A : ℕ) (f : Form) → HasForm g A (shapeBy k p) f → ⊥
         none A f h =
@@ -106,9 +122,15 @@ module _ {g : Rules} {ns ps : ℕ} (x : Exactly ns (Nullable g)) (y : Exactly ps
             n (i .0) (subst (λ (B : ℕ). Inherits g B (i .0)) (sym (t .left)) (i .1))
 
     -- under the weakest mark
-    pub shaped-by : (l : UnaryMark) → Weakest g (r .left) l → (looks : Looks) → SaysForm looks (FormBy k ns ps l (r .clause))
+    pub shaped-by : (l : UnaryMark) → Weakest g (r .left) l → (looks : Looks)
+        → SaysForm looks (FormBy k ns ps l (r .clause))
         → ShapedAs g (shapeBy k p) (record { sort = r .left; looks = looks })
-    shaped-by l w looks s = record { small = small; says = says looks s; none = λ e. none (subst (λ (z : Looks). SaysForm z (FormBy k ns ps l (r .clause))) e s) }
+    shaped-by l w looks s =
+        record {
+          small = small;
+          says = says looks s;
+          none = λ e. none (subst (λ (z : Looks). SaysForm z (FormBy k ns ps l (r .clause))) e s);
+        }
       where
         like : (f : Form) → FormBy k ns ps l (r .clause) f → LooksLike g (r .left) (shapeBy k p) f
         like f h =
@@ -119,10 +141,12 @@ module _ {g : Rules} {ns ps : ℕ} (x : Exactly ns (Nullable g)) (y : Exactly ps
               under = mark-by ns ps l k (r .clause) f h;
             }
 
-        none : ((f : Form) → FormBy k ns ps l (r .clause) f → ⊥) → (A : ℕ) (f : Form) → HasForm g A (shapeBy k p) f → ⊥
+        none : ((f : Form) → FormBy k ns ps l (r .clause) f → ⊥) → (A : ℕ) (f : Form)
+            → HasForm g A (shapeBy k p) f → ⊥
         none n A f h = let t = has-form k l st h in n (t .form) (t .by)
 
-        says : (z : Looks) → SaysForm z (FormBy k ns ps l (r .clause)) → SaysForm z (LooksLike g (r .left) (shapeBy k p))
+        says : (z : Looks) → SaysForm z (FormBy k ns ps l (r .clause))
+            → SaysForm z (LooksLike g (r .left) (shapeBy k p))
         says Looks.Nothing n = λ f x. none n (r .left) f (x .form)
         says (Looks.Tip a b) h = like (tip a b) h
         says (Looks.One C m n) h = like (one C m n) h

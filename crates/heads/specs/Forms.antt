@@ -1,4 +1,5 @@
--- What a shape looks like: the form of its nodes under the weakest mark that its nonterminal inherits, or nothing.
+-- What a shape looks like: the form of its nodes under the weakest mark that its nonterminal
+-- inherits, or nothing.
 use mathlib.Core.Path.{_≡_}
 use Prim.Native.Nat.{ℕ, zero, suc, _<_}
 use Rattle.sets.specs.Sets.{In}
@@ -20,7 +21,8 @@ shapeBy zero p = all p
 shapeBy (suc zero) p = first p
 shapeBy (suc (suc k)) p = second p
 
--- the forms that a clause gives under the mark l; ns are the nullable nonterminals, ps the productive ones
+-- the forms that a clause gives under the mark l; ns are the nullable nonterminals, ps the
+-- productive ones
 abbrev pub AllForm : ℕ → UnaryMark → Clause → Form → Type 0
 AllForm ps l Clause.Empty f = ⊥
 AllForm ps l (Clause.Atom a b) f = f ≡ tip a b

@@ -9,13 +9,15 @@ has-requires : tie.Need-has-requires
 has-requires c κs = search needs
 
 returns : tie.Need-returns
-returns c = fails (λ x. c .before .has .ensures .isnt (not-true _ (c .if1 .taken)) (c .before .before .pre .0 .2 .all _ (x .occurs)))
+returns c =
+    fails (λ x. c .before .has .ensures .isnt (not-true _ (c .if1 .taken)) (c .before .before .pre .0 .2 .all _ (x .occurs)))
 
 empty-by-requires : tie.Need-empty-by-requires
 empty-by-requires c κs = search needs
 
 returns-2 : tie.Need-returns-2
-returns-2 c = fails (λ x. c .before .empty-by .ensures .isnt (not-true _ (c .if2 .taken)) (x .first))
+returns-2 c =
+    fails (λ x. c .before .empty-by .ensures .isnt (not-true _ (c .if2 .taken)) (x .first))
 
 empty-by-requires-2 : tie.Need-empty-by-requires-2
 empty-by-requires-2 c κs = search needs
@@ -26,7 +28,8 @@ returns-3 c =
     let h = e .before .before in
     let o = h .has .ensures .is (not-false _ (e .before .if1 .left)) in
     let f = e .empty-by .ensures .is (not-false _ (c .before .if2 .left)) in
-    says-iff (λ x. record { occurs = h .before .pre .0 .2 .is _ o; first = f; second = x }) (λ x. x .second) (c .empty-by2 .ensures)
+    says-iff (λ x. record { occurs = h .before .pre .0 .2 .is _ o; first = f; second = x })
+    (λ x. x .second) (c .empty-by2 .ensures)
 
 pub both-empty-spec : {M : Type 1} → statement M
 both-empty-spec =

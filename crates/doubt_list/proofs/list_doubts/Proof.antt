@@ -1,4 +1,5 @@
--- `doubt_list::list_doubts` meets its contract: from the first number to the last, then the list's end.
+-- `doubt_list::list_doubts` meets its contract: from the first number to the last, then the list's
+-- end.
 use Rattle.doubt_list.proofs.ListLaws.{listed-first, listed-all}
 use borrow.Author.Needs.{needs}
 use Rattle.doubt_list.proofs.list_doubts.Statement.{statement}

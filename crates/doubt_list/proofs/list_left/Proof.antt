@@ -1,4 +1,5 @@
--- `doubt_list::list_left` meets its contract. The loop's invariant: the rules before p were looked at.
+-- `doubt_list::list_left` meets its contract. The loop's invariant: the rules before p were looked
+-- at.
 use Prim.Native.Nat.{_-_, _≤_}
 use native.Mathlib.Omega.{arith}
 use borrow.Author.Tests.{not-true, not-false}
@@ -10,19 +11,22 @@ use Rattle.doubt_list.proofs.list_left.Statement.{statement}
 use Rattle.doubt_list.proofs.list_left.Tie as tie
 
 abbrev Inv-loop : tie.InvT-loop
-Inv-loop g s marks a list₀ count k₀ p₀ list k p = (p ≤ count) × Lists (rules g) list₀ list k₀ k (at a 0 0 0) (at a p 0 0)
+Inv-loop g s marks a list₀ count k₀ p₀ list k p =
+    (p ≤ count) × Lists (rules g) list₀ list k₀ k (at a 0 0 0) (at a p 0 0)
 
 abbrev μ-loop : tie.MeasureT-loop
 μ-loop g s marks a list₀ count k₀ p₀ list k p = count - p
 
 loop-holds : tie.Need-loop-holds Inv-loop μ-loop
-loop-holds c = let z = c .before .before in (omega arith, lists-none (z .pre .0 .formed) (z .pre .1 .1))
+loop-holds c =
+    let z = c .before .before in (omega arith, lists-none (z .pre .0 .formed) (z .pre .1 .1))
 
 of-left-requires : tie.Need-of-left-requires Inv-loop μ-loop
 of-left-requires c κs = (c .before .before .before .before .pre .0 .formed, c .loop-test .taken)
 
 add-p : tie.Need-add-p Inv-loop μ-loop
-add-p c = omega (arith, c .before .before .loop-test .taken, c .before .before .before .before .before .before .pre .0 .formed .few)
+add-p c =
+    omega (arith, c .before .before .loop-test .taken, c .before .before .before .before .before .before .pre .0 .formed .few)
 
 loop-less : tie.Need-loop-less Inv-loop μ-loop
 loop-less c = omega (arith, c .before .before .loop-test .taken)
@@ -42,7 +46,8 @@ list-rule-requires c κs =
     (z .pre .0, ((z .pre .1 .0, c .before .before .before .loop-test .taken, r), c .before .before .before .before .loop .inv .1 .few))
 
 add-p-2 : tie.Need-add-p-2 Inv-loop μ-loop
-add-p-2 c = omega (arith, c .before .before .before .before .before .before .loop-test .taken, c .before .before .before .before .before .before .before .before .before .before .pre .0 .formed .few)
+add-p-2 c =
+    omega (arith, c .before .before .before .before .before .before .loop-test .taken, c .before .before .before .before .before .before .before .before .before .before .pre .0 .formed .few)
 
 loop-less-2 : tie.Need-loop-less-2 Inv-loop μ-loop
 loop-less-2 c = omega (arith, c .before .before .before .before .before .before .loop-test .taken)

@@ -17,12 +17,16 @@ place e = let z = start e in omega (arith, z .pre .1 .0 .1, z .pre .1 .0 .2)
 
 -- the entry of two rules that may read one word
 rules-listed : (e : tie.After-both-empty)
-    → Lists (rules (start e .args .g)) (start e .args .list .now) (e .before .before .before .put-if .last .1 .1 .1 .1 .1 .0) (start e .args .l)
-    (e .before .before .before .put-if .result) (at (start e .args .a) (start e .args .p) (start e .args .q) 0) (at (start e .args .a) (start e .args .p) (start e .args .q) 2)
+    → Lists (rules (start e .args .g)) (start e .args .list .now)
+    (e .before .before .before .put-if .last .1 .1 .1 .1 .1 .0) (start e .args .l)
+    (e .before .before .before .put-if .result)
+    (at (start e .args .a) (start e .args .p) (start e .args .q) 0)
+    (at (start e .args .a) (start e .args .p) (start e .args .q) 2)
 rules-listed e =
     let z = start e in
     let i = e .before .before .before in
-    lists-rules (z .pre .0) (z .args .a) (z .args .p) (place e) (z .args .q) (z .pre .1 .0 .1) (z .pre .1 .0 .2) (z .pre .1 .0 .3) (z .pre .1 .1)
+    lists-rules (z .pre .0) (z .args .a) (z .args .p) (place e) (z .args .q) (z .pre .1 .0 .1)
+    (z .pre .1 .0 .2) (z .pre .1 .0 .3) (z .pre .1 .1)
     (i .before .before .marked .ensures) (i .put-if .ensures)
 
 marked-requires : tie.Need-marked-requires
@@ -37,7 +41,8 @@ both-empty-requires c κs = search needs
 put-if-requires-2 : tie.Need-put-if-requires-2
 put-if-requires-2 c κs =
     let z = start (c .before) in
-    (rules-listed (c .before) .few, omega (arith, z .pre .1 .0, z .pre .0 .formed .few), omega (arith, z .pre .1 .0, z .pre .0 .formed .few))
+    (rules-listed (c .before) .few, omega (arith, z .pre .1 .0, z .pre .0 .formed .few),
+    omega (arith, z .pre .1 .0, z .pre .0 .formed .few))
 
 same-length : tie.Need-same-length
 same-length c = search needs

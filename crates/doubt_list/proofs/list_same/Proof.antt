@@ -19,7 +19,8 @@ returns c =
     let p = c .before .before in
     let m = p .before .before in
     let z = m .before .before .before in
-    lists-same (z .pre .0) (z .args .a) (z .args .p) (z .pre .1 .0 .0) (z .pre .1 .0 .1) (z .pre .1 .1) (m .marked .ensures) (p .put-if .ensures)
+    lists-same (z .pre .0) (z .args .a) (z .args .p) (z .pre .1 .0 .0) (z .pre .1 .0 .1)
+    (z .pre .1 .1) (m .marked .ensures) (p .put-if .ensures)
 
 pub list-same-spec : {M : Type 1} → statement M
 list-same-spec = tie.close (tie.spec marked-requires put-if-requires same-length returns)

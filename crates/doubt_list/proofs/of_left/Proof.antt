@@ -17,9 +17,11 @@ abbrev blank : Rule
 blank = record { left = 0; clause = Empty }
 
 -- the rule that is read
-rule : (c : tie.Start) → getElem? (rules (c .args .t1)) (c .args .p) ≡ some (getD (c .args .t1 .rules) (c .args .p) blank)
+rule : (c : tie.Start)
+    → getElem? (rules (c .args .t1)) (c .args .p) ≡ some (getD (c .args .t1 .rules) (c .args .p) blank)
 rule c =
-    rule-at (c .args .t1) (c .args .p) blank (sym (length-map (c .args .t1 .rules) _) ∙ c .good .0 .1 .1 .0 .1 .0 .1)
+    rule-at (c .args .t1) (c .args .p) blank
+    (sym (length-map (c .args .t1 .rules) _) ∙ c .good .0 .1 .1 .0 .1 .0 .1)
     (c .pre .0 .few) (c .pre .1)
 
 mul-rule : tie.Need-mul-rule
@@ -31,7 +33,8 @@ element-copy-out-rule c = search needs
 returns : tie.Need-returns
 returns c =
     let r = rule (c .before .before) in
-    says-iff (λ e. record { rule = _; stands = r; left = e }) (λ x. one-left (record { rule = _; stands = r; left = refl }) x) (says-eqb _ _)
+    says-iff (λ e. record { rule = _; stands = r; left = e })
+    (λ x. one-left (record { rule = _; stands = r; left = refl }) x) (says-eqb _ _)
 
 pub of-left-spec : {M : Type 1} → statement M
 of-left-spec = tie.close (tie.spec mul-rule element-copy-out-rule returns)

@@ -7,7 +7,11 @@ use Rattle.doubt_list.proofs.put_if.Statement.{statement}
 use Rattle.doubt_list.proofs.put_if.Tie as tie
 
 returns : tie.Need-returns
-returns c = record { put = λ e. absurd (true-not-false (sym e ∙ not-true _ (c .if1 .taken))); same = λ e. (refl, refl) }
+returns c =
+    record {
+      put = λ e. absurd (true-not-false (sym e ∙ not-true _ (c .if1 .taken)));
+      same = λ e. (refl, refl);
+    }
 
 add-t10 : tie.Need-add-t10
 add-t10 c = search needs
@@ -35,7 +39,8 @@ returns-2 c =
     let p = c .before .before in
     record {
       put = λ e. (p .put .ensures, p .put .kept .0);
-      same = λ e. absurd (true-not-false (sym (not-false _ (p .before .before .before .if1 .left)) ∙ e));
+      same =
+          λ e. absurd (true-not-false (sym (not-false _ (p .before .before .before .if1 .left)) ∙ e));
     }
 
 pub put-if-spec : {M : Type 1} → statement M

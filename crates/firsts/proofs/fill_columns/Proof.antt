@@ -1,4 +1,5 @@
--- `firsts::fill_columns` meets its contract. The loop's invariant: the sets of the terminals below x stand.
+-- `firsts::fill_columns` meets its contract. The loop's invariant: the sets of the terminals below
+-- x stand.
 use mathlib.Core.Path.{_≡_, refl, _∙_}
 use Prim.Native.Nat.{_-_, _≤_}
 use native.Mathlib.Omega.{arith}
@@ -10,7 +11,8 @@ use Rattle.firsts.proofs.fill_columns.Statement.{statement}
 use Rattle.firsts.proofs.fill_columns.Tie as tie
 
 abbrev Inv-loop : tie.InvT-loop
-Inv-loop g nulls prods out₀ x₀ out x = (x ≤ 64) × (length out ≡ length out₀) × ByTerminal (rules g) x out
+Inv-loop g nulls prods out₀ x₀ out x =
+    (x ≤ 64) × (length out ≡ length out₀) × ByTerminal (rules g) x out
 
 abbrev μ-loop : tie.MeasureT-loop
 μ-loop g nulls prods out₀ x₀ out x = 64 - x
@@ -28,7 +30,8 @@ mul-out : tie.Need-mul-out Inv-loop μ-loop
 mul-out c = omega (arith, c .before .loop-test .taken)
 
 slice-write-out : tie.Need-slice-write-out Inv-loop μ-loop
-slice-write-out c = omega (arith, c .before .loop-test .taken, c .before .before .loop .inv .1, c .before .before .before .before .pre .1)
+slice-write-out c =
+    omega (arith, c .before .loop-test .taken, c .before .before .loop .inv .1, c .before .before .before .before .pre .1)
 
 add-x : tie.Need-add-x Inv-loop μ-loop
 add-x c = omega arith
@@ -45,7 +48,8 @@ same-length : tie.Need-same-length Inv-loop μ-loop
 same-length c = c .before .loop .inv .1
 
 returns : tie.Need-returns Inv-loop μ-loop
-returns c = let e : c .before .loop .x ≡ 64 = omega (arith, c .before .loop .inv .0) in rw e at (c .before .loop .inv .2)
+returns c =
+    let e : c .before .loop .x ≡ 64 = omega (arith, c .before .loop .inv .0) in rw e at (c .before .loop .inv .2)
 
 pub fill-columns-spec : {M : Type 1} → statement M
 fill-columns-spec =

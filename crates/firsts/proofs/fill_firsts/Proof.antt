@@ -20,7 +20,11 @@ same-length : tie.Need-same-length
 same-length c = search needs
 
 returns : tie.Need-returns
-returns c = rows-exact (c .before .before .before .before .before .before .before .before .before .pre .0 .0) (c .before .before .before .before .before .before .fill-columns .ensures) (c .before .before .fill-rows .ensures)
+returns c =
+    rows-exact
+    (c .before .before .before .before .before .before .before .before .before .pre .0 .0)
+    (c .before .before .before .before .before .before .fill-columns .ensures)
+    (c .before .before .fill-rows .ensures)
 
 pub fill-firsts-spec : {M : Type 1} → statement M
 fill-firsts-spec =

@@ -1,4 +1,5 @@
--- `firsts::fill_rows` meets its contract. The loop's invariant: the rows of the nonterminals below a stand.
+-- `firsts::fill_rows` meets its contract. The loop's invariant: the rows of the nonterminals below
+-- a stand.
 use mathlib.Core.Path.{_≡_, refl, _∙_}
 use Prim.Native.Nat.{_-_, _≤_}
 use native.Mathlib.Omega.{arith}
@@ -27,7 +28,8 @@ mul-out : tie.Need-mul-out Inv-loop μ-loop
 mul-out c = omega (arith, c .before .loop-test .taken)
 
 slice-write-out : tie.Need-slice-write-out Inv-loop μ-loop
-slice-write-out c = omega (arith, c .before .loop-test .taken, c .before .before .loop .inv .1, c .before .before .before .before .before .pre .1)
+slice-write-out c =
+    omega (arith, c .before .loop-test .taken, c .before .before .loop .inv .1, c .before .before .before .before .before .pre .1)
 
 add-a : tie.Need-add-a Inv-loop μ-loop
 add-a c = omega arith
@@ -44,7 +46,8 @@ same-length : tie.Need-same-length Inv-loop μ-loop
 same-length c = c .before .loop .inv .1
 
 returns : tie.Need-returns Inv-loop μ-loop
-returns c = let e : c .before .loop .a ≡ 64 = omega (arith, c .before .loop .inv .0) in rw e at (c .before .loop .inv .2)
+returns c =
+    let e : c .before .loop .a ≡ 64 = omega (arith, c .before .loop .inv .0) in rw e at (c .before .loop .inv .2)
 
 pub fill-rows-spec : {M : Type 1} → statement M
 fill-rows-spec =

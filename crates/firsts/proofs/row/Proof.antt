@@ -24,7 +24,8 @@ mul-column : tie.Need-mul-column Inv-loop μ-loop
 mul-column c = omega (arith, c .loop-test .taken)
 
 shared-slice-read-column : tie.Need-shared-slice-read-column Inv-loop μ-loop
-shared-slice-read-column c = omega (arith, c .before .loop-test .taken, c .before .before .before .before .pre .1)
+shared-slice-read-column c =
+    omega (arith, c .before .loop-test .taken, c .before .before .before .before .pre .1)
 
 has-requires : tie.Need-has-requires Inv-loop μ-loop
 has-requires c κs = c .before .before .before .before .pre .0
@@ -36,7 +37,8 @@ loop-less : tie.Need-loop-less Inv-loop μ-loop
 loop-less c = omega arith
 
 loop-again : tie.Need-loop-again Inv-loop μ-loop
-loop-again c = (omega arith, row-skip (c .before .before .before .before .loop .inv .1) (c .before .has .ensures .isnt (not-true _ (c .if1 .taken))))
+loop-again c =
+    (omega arith, row-skip (c .before .before .before .before .loop .inv .1) (c .before .has .ensures .isnt (not-true _ (c .if1 .taken))))
 
 with-requires : tie.Need-with-requires Inv-loop μ-loop
 with-requires c κs = omega arith
@@ -48,10 +50,12 @@ loop-less-2 : tie.Need-loop-less-2 Inv-loop μ-loop
 loop-less-2 c = omega arith
 
 loop-again-2 : tie.Need-loop-again-2 Inv-loop μ-loop
-loop-again-2 c = (omega arith, rw (c .with .ensures) (row-with (c .before .before .before .before .before .loop .inv .1) (c .before .before .has .ensures .is (not-false _ (c .before .if1 .left)))))
+loop-again-2 c =
+    (omega arith, rw (c .with .ensures) (row-with (c .before .before .before .before .before .loop .inv .1) (c .before .before .has .ensures .is (not-false _ (c .before .if1 .left)))))
 
 returns : tie.Need-returns Inv-loop μ-loop
-returns c = let e : c .before .loop .x ≡ 64 = omega (arith, c .before .loop .inv .0) in rw e at (c .before .loop .inv .1)
+returns c =
+    let e : c .before .loop .x ≡ 64 = omega (arith, c .before .loop .inv .0) in rw e at (c .before .loop .inv .1)
 
 pub row-spec : {M : Type 1} → statement M
 row-spec =

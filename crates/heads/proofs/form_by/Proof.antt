@@ -22,7 +22,8 @@ second-of-requires c κs = search needs
 returns-3 : tie.Need-returns-3
 returns-3 c =
     let z = c .before .before .before .args in
-    kind-more (z .kind) (z .nulls) (z .prods) (z .l) (z .c) (c .second-of .result) (c .before .before .if1 .left) (c .before .if2 .left) (c .second-of .ensures)
+    kind-more (z .kind) (z .nulls) (z .prods) (z .l) (z .c) (c .second-of .result)
+    (c .before .before .if1 .left) (c .before .if2 .left) (c .second-of .ensures)
 
 pub form-by-spec : {M : Type 1} → statement M
 form-by-spec =
