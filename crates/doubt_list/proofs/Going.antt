@@ -45,9 +45,9 @@ module _ {g : Grammar} {s : Sets} {t : List ℕ} (z : Ground g s t) where
           → numberOf d < at A (p + 1) 0 0 → ⊥
       none d o x i j =
           let a : d .nonterminal ≡ A = omega
-              (arith, k, b, o .small .place, o .few, why-small (d .why), i, j) in
+          (arith, k, b, o .small .place, o .few, why-small (d .why), i, j) in
           let e : d .first ≡ p = omega
-              (arith, k, b, o .small .place, o .few, why-small (d .why), i, j, a) in
+          (arith, k, b, o .small .place, o .few, why-small (d .why), i, j, a) in
           omega (arith, a, e, i, o .last, c, why-small (d .why))
 
   pub skip-rule : {old : List ℕ} {l : Listing} (A p : ℕ) → p < 128 → l .count ≤ l .at
@@ -58,9 +58,9 @@ module _ {g : Grammar} {s : Sets} {t : List ℕ} (z : Ground g s t) where
           → numberOf d < at A (p + 1) 0 0 → ⊥
       none d o x i j =
           let a : d .nonterminal ≡ A = omega
-              (arith, k, o .small .place, o .few, why-small (d .why), i, j) in
+          (arith, k, o .small .place, o .few, why-small (d .why), i, j) in
           let e : d .first ≡ p = omega
-              (arith, k, o .small .place, o .few, why-small (d .why), i, j, a) in
+          (arith, k, o .small .place, o .few, why-small (d .why), i, j, a) in
           n (subst₂ (λ (i j : ℕ). RuleOf (rules g) i j) e a (o .first))
 
   pub skip-rest : {old : List ℕ} {l : Listing} (A p : ℕ) → l .count ≤ l .at → g .count ≤ p → p ≤ 128
@@ -71,7 +71,7 @@ module _ {g : Grammar} {s : Sets} {t : List ℕ} (z : Ground g s t) where
           → numberOf d < at (A + 1) 0 0 0 → ⊥
       none d o x i j =
           let a : d .nonterminal ≡ A = omega
-              (arith, b, o .small .place, o .few, why-small (d .why), i, j) in
+          (arith, b, o .small .place, o .few, why-small (d .why), i, j) in
           omega (arith, a, i, o .last, o .order, c, o .few, why-small (d .why))
 
   module _ (A p : ℕ) (k : p < g .count) where
@@ -84,9 +84,9 @@ module _ {g : Grammar} {s : Sets} {t : List ℕ} (z : Ground g s t) where
         → numberOf d < at A p p 1 → ⊥
     none-before d o x i j =
         let a : d .nonterminal ≡ A = omega
-            (arith, few, o .small .place, o .few, why-small (d .why), i, j) in
+        (arith, few, o .small .place, o .few, why-small (d .why), i, j) in
         let e : d .first ≡ p = omega
-            (arith, few, o .small .place, o .few, why-small (d .why), i, j, a) in
+        (arith, few, o .small .place, o .few, why-small (d .why), i, j, a) in
         let q : d .second ≡ p = omega (arith, a, e, i, j, o .order) in
         omega (arith, a, e, q, j, same-why (rules g) (d .nonterminal) (d .first) (d .second) (d .why) (e ∙ sym q) x)
 
@@ -94,9 +94,9 @@ module _ {g : Grammar} {s : Sets} {t : List ℕ} (z : Ground g s t) where
         → numberOf d < at A p (p + 1) 0 → ⊥
     none-behind d o x i j =
         let a : d .nonterminal ≡ A = omega
-            (arith, few, o .small .place, o .few, why-small (d .why), i, j) in
+        (arith, few, o .small .place, o .few, why-small (d .why), i, j) in
         let e : d .first ≡ p = omega
-            (arith, few, o .small .place, o .few, why-small (d .why), i, j, a) in
+        (arith, few, o .small .place, o .few, why-small (d .why), i, j, a) in
         let q : d .second ≡ p = omega (arith, a, e, i, j, o .order) in
         omega (arith, a, e, q, i, same-why (rules g) (d .nonterminal) (d .first) (d .second) (d .why) (e ∙ sym q) x)
 
@@ -105,7 +105,7 @@ module _ {g : Grammar} {s : Sets} {t : List ℕ} (z : Ground g s t) where
         → Lists (rules g) old new l k (at A p 0 0) (at A p (p + 1) 0)
     lists-same r h b q =
         let x = lists-if (z .formed) (doubt A p p two-cuts) (record { first = few; second = few })
-            (says-cuts (z .marked) r few b) h q in
+        (says-cuts (z .marked) r few b) h q in
         let y = lists-as {n′ = at A p p 2} refl (omega arith) x in
         lists-then (z .formed)
         (lists-skip (z .formed) (at A p 0 0) (at A p p 1) h (omega arith) none-before)
@@ -121,9 +121,9 @@ module _ {g : Grammar} {s : Sets} {t : List ℕ} (z : Ground g s t) where
           → numberOf d < at A p q 2 → ⊥
       none-between d o x i j =
           let a : d .nonterminal ≡ A = omega
-              (arith, few, few′, o .small .place, o .few, why-small (d .why), i, j) in
+          (arith, few, few′, o .small .place, o .few, why-small (d .why), i, j) in
           let e : d .first ≡ p = omega
-              (arith, few, few′, o .small .place, o .few, why-small (d .why), i, j, a) in
+          (arith, few, few′, o .small .place, o .few, why-small (d .why), i, j, a) in
           let f : d .second ≡ q = omega (arith, few′, why-small (d .why), i, j, a, e) in
           apart-why (rules g) (d .nonterminal) (d .first) (d .second) (d .why)
           (omega (arith, e, f, m)) x (omega (arith, a, e, f, i, j))
@@ -133,7 +133,7 @@ module _ {g : Grammar} {s : Sets} {t : List ℕ} (z : Ground g s t) where
           → Lists (rules g) old mid l k (at A p q 0) (at A p q 2)
       lists-rules r h b x =
           let y = lists-if (z .formed) (doubt A p q two-rules)
-              (record { first = few; second = few′ }) (says-rules (z .marked) r m few′ b) h x in
+          (record { first = few; second = few′ }) (says-rules (z .marked) r m few′ b) h x in
           let w = lists-as {n′ = at A p q 1} refl (omega arith) y in
           lists-then (z .formed) w
           (lists-skip (z .formed) (at A p q 1) (at A p q 2) (w .few) (omega arith) none-between)

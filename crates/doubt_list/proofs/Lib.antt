@@ -1,3 +1,4 @@
 pub mod Doubting
 pub mod ListLaws
 pub mod Going
+pub mod Settled

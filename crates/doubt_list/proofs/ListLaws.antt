@@ -84,7 +84,7 @@ number-before d e x y h = go (decLt (d .nonterminal) (e .nonterminal))
     go₃ a b (yes k) = inr (inr (inl (a, b, k)))
     go₃ a b (no k) =
         let s : d .second ≡ e .second = omega
-            (arith, x .first, x .second, y .first, y .second, small, small′, a, b, h, k) in
+        (arith, x .first, x .second, y .first, y .second, small, small′, a, b, h, k) in
         inr (inr (inr (a, b, s, omega (arith, a, b, s, h))))
 
     go₂ : d .nonterminal ≡ e .nonterminal → Dec (d .first < e .first) → DoubtBefore d e

@@ -21,9 +21,10 @@ loop-holds c =
     let z = c .before .before in (omega arith, lists-none (z .pre .0 .formed) (z .pre .1))
 
 list-left-requires : tie.Need-list-left-requires Inv-loop μ-loop
-list-left-requires c κs =
-    (c .before .before .before .before .before .pre .0,
-    (c .before .loop-test .taken, c .before .before .loop .inv .1 .few))
+list-left-requires c κs = (
+  c .before .before .before .before .before .pre .0,
+  (c .before .loop-test .taken, c .before .before .loop .inv .1 .few),
+)
 
 add-a : tie.Need-add-a Inv-loop μ-loop
 add-a c = omega (arith, c .before .before .before .before .loop-test .taken)

@@ -40,9 +40,11 @@ loop-less c = omega (arith, c .before .before .before .before .loop-test .taken)
 loop-again : tie.Need-loop-again Inv-loop μ-loop
 loop-again c =
     let z = c .before .before .before .before .before .before .before .before in
-    let i = c .before .before .before .before .before .loop .inv in
-    (omega (arith, i .0), omega (arith, c .before .before .before .before .loop-test .taken),
-    lists-then (z .pre .0 .formed) (i .2) (c .before .before .list-pair .ensures))
+    let i = c .before .before .before .before .before .loop .inv in (
+      omega (arith, i .0),
+      omega (arith, c .before .before .before .before .loop-test .taken),
+      lists-then (z .pre .0 .formed) (i .2) (c .before .before .list-pair .ensures),
+    )
 
 same-length : tie.Need-same-length Inv-loop μ-loop
 same-length c = c .before .loop .inv .2 .long

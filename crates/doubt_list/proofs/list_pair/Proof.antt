@@ -40,9 +40,11 @@ both-empty-requires c κs = search needs
 
 put-if-requires-2 : tie.Need-put-if-requires-2
 put-if-requires-2 c κs =
-    let z = start (c .before) in
-    (rules-listed (c .before) .few, omega (arith, z .pre .1 .0, z .pre .0 .formed .few),
-    omega (arith, z .pre .1 .0, z .pre .0 .formed .few))
+    let z = start (c .before) in (
+      rules-listed (c .before) .few,
+      omega (arith, z .pre .1 .0, z .pre .0 .formed .few),
+      omega (arith, z .pre .1 .0, z .pre .0 .formed .few),
+    )
 
 same-length : tie.Need-same-length
 same-length c = search needs

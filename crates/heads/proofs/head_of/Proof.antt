@@ -54,7 +54,7 @@ returns-2 : tie.Need-returns-2
 returns-2 c =
     let z = c .before .before .before .before .before .before in
     let i = rw (c .before .before .level .given .1) at
-        (c .before .before .before .before .level-of .ensures) in
+    (c .before .before .before .before .level-of .ensures) in
     shaped-by (z .pre .1 .0) (z .pre .1 .1) (z .args .kind) (z .args .p) _ (rule z)
     (small-at (z .pre .0 .0) _ (rule z) .left)
     _ (level-weakest (z .pre .1 .2) _ _ i) (c .form-by .result) (c .form-by .ensures)
