@@ -1,5 +1,10 @@
 -- Words of a table, read and joined.
-use mathlib.Core.Path.{_≡_, ap, _∙_}
+use mathlib.Core.Path.{_≡_, sym, ap, _∙_, subst}
+use mathlib.Core.Logic.{_⊎_, inl, inr, ⊎-elim}
+use mathlib.Core.Bool.{Bool, true}
+use native.Mathlib.Decide.{ℕ-discrete}
+use Rattle.sets.specs.Sets.{In}
+use Rattle.sets.proofs.Bits.{in-or}
 use mathlib.Core.List.{List}
 use Prim.Native.Nat.{ℕ, _<_}
 use lib.Bits.{bitOr}
@@ -12,7 +17,7 @@ use Rattle.pair_steps.specs.declared.Node.{Node}
 use Rattle.pair_steps.specs.declared.Words.{Words}
 use Rattle.pair_steps.specs.Leaving.{firstStop, secondStop}
 use Rattle.pair_steps.specs.Tables.{NextsBy, NextsOf}
-use Rattle.pair_tables.specs.Stepping.{Joined}
+use Rattle.pair_tables.specs.Stepping.{Joined, Put}
 
 pub nexts-by : (m : List ℕ) (f : Frame) (x y : Node) (n : Words) {p q u s : ℕ}
     → p ≡ firstStop (x .kids) (f .cut) (f .stop) → q ≡ firstStop (y .kids) (f .split) (f .end)
@@ -29,3 +34,46 @@ joined t at s h =
       word = getD-set-same t at (bitOr (getD t at 0) s) 0 h;
       still = λ e. ap (set t at) (eqb-true (bitOr (getD t at 0) s) (getD t at 0) e) ∙ set-getD t at 0;
     }
+
+-- three words joined, one after the other
+module _ {t u v w : List ℕ} {a b c s p q : ℕ} {x y z : Bool} (j : Joined t u a s x) (k : Joined u v b p y)
+    (l : Joined v w c q z) where
+  joined-in : {o n : List ℕ} {at e : ℕ} {r : Bool} → Joined o n at e r → (i g : ℕ) → In (getD n i 0) g
+      → In (getD o i 0) g ⊎ ((i ≡ at) × In e g)
+  joined-in {o} {n} {at} {e} m i g h = by (ℕ-discrete i at)
+    where
+      by : Dec (i ≡ at) → In (getD o i 0) g ⊎ ((i ≡ at) × In e g)
+      by (yes d) =
+          ⊎-elim (λ f. inl (subst (λ (z : ℕ). In (getD o z 0) g) (sym d) f)) (λ f. inr (d, f))
+          (in-or (getD o at 0) e g .0 (subst (λ (z : ℕ). In z g) (m .word) (subst (λ (z : ℕ). In (getD n z 0) g) d h)))
+      by (no d) = inl (subst (λ (z : ℕ). In z g) (m .other i d) h)
+
+  joined-keeps : {o n : List ℕ} {at e : ℕ} {r : Bool} → Joined o n at e r → (i g : ℕ) → In (getD o i 0) g
+      → In (getD n i 0) g
+  joined-keeps {o} {n} {at} {e} m i g h = by (ℕ-discrete i at)
+    where
+      by : Dec (i ≡ at) → In (getD n i 0) g
+      by (yes d) =
+          subst (λ (z : ℕ). In (getD n z 0) g) (sym d)
+          (subst (λ (z : ℕ). In z g) (sym (m .word))
+          (in-or (getD o at 0) e g .1 (inl (subst (λ (z : ℕ). In (getD o z 0) g) d h))))
+      by (no d) = subst (λ (z : ℕ). In z g) (sym (m .other i d)) h
+
+  joined-has : {o n : List ℕ} {at e : ℕ} {r : Bool} → Joined o n at e r → (g : ℕ) → In e g → In (getD n at 0) g
+  joined-has {o} {n} {at} {e} m g h = subst (λ (z : ℕ). In z g) (sym (m .word)) (in-or (getD o at 0) e g .1 (inr h))
+
+  pub put-all : (r : Bool) → (r ≡ true → (x ≡ true) × (y ≡ true) × (z ≡ true)) → Put t w a b c s p q r
+  put-all r e =
+      record {
+        size = l .size ∙ (k .size ∙ j .size);
+        keeps = λ i g h. joined-keeps l i g (joined-keeps k i g (joined-keeps j i g h));
+        has₁ = λ g h. joined-keeps l a g (joined-keeps k a g (joined-has j g h));
+        has₂ = λ g h. joined-keeps l b g (joined-has k g h);
+        has₃ = λ g h. joined-has l g h;
+        only = λ i g h.
+            ⊎-elim
+            (λ m.
+            ⊎-elim (λ n. ⊎-elim (λ o. inl o) (λ o. inr (inl o)) (joined-in j i g n)) (λ n. inr (inr (inl n)))
+            (joined-in k i g m)) (λ m. inr (inr (inr m))) (joined-in l i g h);
+        still = λ d. let f = e d in l .still (f .2) ∙ (k .still (f .1) ∙ j .still (f .0));
+      }

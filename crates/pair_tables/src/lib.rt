@@ -8,7 +8,7 @@ ghost use Rattle.pairs.specs.Relations.{order};
 ghost use Rattle.pair_steps.specs.Tables.{shapeWord, sortWord, nextWord, WordsOf, NextsOf};
 ghost use Rattle.pair_steps.specs.Leaving.{firstStop, secondStop};
 ghost use Rattle.pair_tables.specs.Reading.{Room, Small};
-ghost use Rattle.pair_tables.specs.Stepping.{Joined};
+ghost use Rattle.pair_tables.specs.Stepping.{Joined, Put, relationBits, nextPlace, Stepped};
 ghost use lib.ListN.{length};
 
 // The word of a shape and a nonterminal.
@@ -100,4 +100,73 @@ fn join(t: &mut [u64], at: usize, set: u64) -> bool
     let all = old | set;
     t[at] = all;
     all == old
+}
+
+// Puts members into three words; had they them all?
+fn put(t: &mut [u64], a: usize, b: usize, c: usize, bits: u64, set: u64) -> bool
+    requires { ⌜ (a < length (now t)) × (b < length (now t)) × (c < length (now t)) ⌝ }
+    ensures { λ r. ⌜ Put (now (t .entry)) (now (t .exit)) a b c bits bits set r ⌝ }
+{
+    let x = join(t, a, bits);
+    let y = join(t, b, bits);
+    let z = join(t, c, set);
+    if x {
+        if y {
+            return z;
+        }
+    }
+    false
+}
+
+// The offsets of the two starts, as bits of the word of relations with these orders.
+fn relation_bits(f: Frame, r: u64) -> u64
+    ensures { λ q. ⌜ q ≡ relationBits f r ⌝ }
+{
+    let o = pair_steps::order_code(f.start, f.begin);
+    let p = pair_steps::order_code(f.stop, f.end);
+    (r & 15) << (12 * o + 4 * p)
+}
+
+// Where the terminals of two nonterminals with these orders stand.
+fn next_place(f: Frame, a: u8, b: u8) -> usize
+    requires { ⌜ (a < 64) × (b < 64) ⌝ }
+    ensures { λ q. ⌜ (q ≡ nextPlace f a b) × (q < 65536) ⌝ }
+{
+    let o = pair_steps::order_code(f.start, f.begin) as usize;
+    let p = pair_steps::order_code(f.stop, f.end) as usize;
+    28672 + (9 * (64 * (a as usize) + b as usize) + (3 * o + p))
+}
+
+// Puts what two nodes over a frame can be by the table into it; the sixes of offsets that can stand
+// together over the frame are listed. Had it all?
+pub fn step(
+    t: &mut [u64],
+    f: Frame,
+    x: Node,
+    y: Node,
+    i: usize,
+    j: usize,
+    list: &[u64],
+    from: usize,
+    end: usize,
+) -> bool
+    requires { ⌜ Room (now t) × Small x × Small y × (i < 384) × (j < 384) ⌝ }
+    requires { ⌜ (from ≤ end) × (end ≤ length (now list)) ⌝ }
+    ensures { λ r. ⌜ Stepped f x y i j (now (list .entry)) from end (now (t .entry)) (now (t .exit)) r ⌝ }
+{
+    let w = words_of(t, x, y, i, j);
+    let r = pair_steps::offsets_found(f, x, y, w, list, from, end);
+    if r == 0 {
+        return true;
+    }
+    let n = nexts_of(t, f, x, y);
+    let q = pair_steps::tokens_found(f, x, y, n);
+    if q == 0 {
+        return true;
+    }
+    let bits = relation_bits(f, r);
+    let c = next_place(f, x.sort, y.sort);
+    let a = x.sort as usize;
+    let b = y.sort as usize;
+    put(t, 64 * i + b, 24576 + (64 * a + b), c, bits, q)
 }
