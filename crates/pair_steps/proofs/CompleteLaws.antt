@@ -17,7 +17,7 @@ use Rattle.pair_offsets.specs.declared.Frame.{Frame}
 use Rattle.pair_offsets.specs.Frames.{rankOf}
 use Rattle.pair_offsets.specs.Codes.{offsetCode}
 use Rattle.pair_offsets.specs.Evens.{EvenOffsets, sixCode, sixOf, EvenSix}
-use Rattle.pair_offsets.proofs.EvenLaws.{six-path, six-even, six-code}
+use Rattle.pair_offsets.proofs.EvenLaws.{six-path, six-low, six-even, six-code}
 use Rattle.pair_steps.specs.declared.Node.{Node}
 use Rattle.pair_steps.specs.declared.Words.{Words}
 use Rattle.pair_steps.specs.Nodes.{kidCount, NextAsked, NodeOf, shapeNumber}
@@ -111,6 +111,7 @@ module _ (g : Rules) (m : List ℕ) (low : LowTable m) (f : Frame) (x y : Head) 
     pub six : ℕ
     pub val : ℕ → ℕ
     pub suits : Suits f (vx .kids) (vy .kids)
+    pub low-six : six < 4096
     pub even : EvenSix f six
     pub leaves : Leaves f vx vy w six
     pub starts : six % 4 ≡ offsetCode (l start₁ start₂)
@@ -280,10 +281,11 @@ module _ (g : Rules) (m : List ℕ) (low : LowTable m) (f : Frame) (x y : Head) 
         by (no h) (no z) =
             absurd (d (is-order equal (f .stop) (f .end) (let e : f .stop ≡ f .end = omega arith in e)))
 
-    found-six : EvenSix f t → Found (sixOf t) (λ p. val (rankOf f p))
-    found-six e =
+    found-six : t < 4096 → EvenSix f t → Found (sixOf t) (λ p. val (rankOf f p))
+    found-six b e =
         record {
           six = t;
+          low-six = b;
           val = λ r. clamp (val r);
           suits = suits;
           even = e;
@@ -304,7 +306,7 @@ module _ (g : Rules) (m : List ℕ) (low : LowTable m) (f : Frame) (x y : Head) 
       let t′ : Told (sixOf (sixCode l)) (λ r. look f z points (rankOf f r)) =
       subst (λ (u : Point → ℕ). Told (sixOf (sixCode l)) u) q
       (subst (λ (j : Corner → Corner → Offset). Told j z) p t) in
-      let r = found-six (sixCode l) (look f z points) t′ (six-even f l v) in
+      let r = found-six (sixCode l) (look f z points) t′ (six-low f l v) (six-even f l v) in
       subst (λ (j : Corner → Corner → Offset). Found j z) (sym p)
       (subst (λ (u : Point → ℕ). Found (sixOf (sixCode l)) u) (sym q) r)
     where
