@@ -41,7 +41,7 @@ pub record LowTable (t : List ℕ) : Type 0 where
 -- the fact is one that has a place of its own: of rules with places below 128 and of nonterminals
 -- below 64
 abbrev pub Proper : Fact → Type 0
-Proper (stand σ x y) = Unit {0}
+Proper (stand σ x y) = ⊥
 Proper (against s B r) = (ruleOfShape s < 128) × (B < 64)
 Proper (sorts A B r) = (A < 64) × (B < 64)
 Proper (behind A B o p z) = (A < 64) × (B < 64)
