@@ -1,6 +1,6 @@
 // The public call for places: all nonterminals and words at which the readings of a sentence part (02, request 11).
 use chart::Verdict;
-use chart::judge;
+use filling::judge;
 use grammar::Grammar;
 use grammar::Sentence;
 use lists::Listed;

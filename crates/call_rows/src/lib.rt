@@ -1,6 +1,6 @@
 // The public call for row counts: how many rows each tree has, before memory is set aside for them (02, request 6).
 use chart::Verdict;
-use chart::judge;
+use filling::judge;
 use grammar::Grammar;
 use grammar::Sentence;
 use row_counts::RowCount;

@@ -2,12 +2,12 @@
 use changing::lay_fits;
 use changing::put_changed;
 use chart::Verdict;
-use chart::judge;
 use derivation::show_both;
 use derivation::show_first;
 use derivation::write_none;
 use fields::LayWord;
 use fields::lay_word;
+use filling::judge;
 use grammar::Clause;
 use grammar::Grammar;
 use grammar::Sentence;
