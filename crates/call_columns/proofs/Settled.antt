@@ -13,9 +13,9 @@ use Rattle.range_sheets.specs.RangeSheets.{rangeSheet}
 use Rattle.sets.specs.Says.{Says}
 use Rattle.grammar.specs.Trees.{Rules}
 use Rattle.grammar.specs.SpanSheet.{pairs}
-use Rattle.lane_search.specs.declared.Flags.{Flags}
+use Rattle.column_search.specs.declared.Flags.{Flags}
 use Rattle.chart.specs.declared.Verdict.the-variants as Verdict
-use Rattle.lane_search.specs.Answers.{FlagsSay}
+use Rattle.column_search.specs.Answers.{FlagsSay}
 use Rattle.sheets.proofs.Numbers.{same-fault}
 use Rattle.column_ranges.specs.Ranges.{Ranges}
 use Rattle.sheets.specs.declared.Fault.{Fault}

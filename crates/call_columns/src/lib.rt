@@ -1,8 +1,8 @@
 // The public call for columns read off a photograph: which verdicts some choice of columns within the ends gives (02, request 10).
-use choosing::choose;
 use column_ranges::RangeSentence;
+use column_search::Flags;
+use column_search::choose;
 use grammar::Grammar;
-use lane_search::Flags;
 use range_sheets::read_ranges;
 use sheets::Fault;
 use sheets::Outcome;

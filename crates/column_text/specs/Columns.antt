@@ -7,7 +7,7 @@ use lib.ListN.{length}
 use Rattle.teplonga.specs.declared.Answer.{Answer}
 use Rattle.teplonga.specs.declared.Answer.the-variants as Answer
 use Rattle.text.specs.Output.{answerText, head}
-use Rattle.lane_search.specs.declared.Flags.{Flags}
+use Rattle.column_search.specs.declared.Flags.{Flags}
 use Rattle.call_columns.specs.declared.ColumnsReply.{ColumnsReply}
 use Rattle.call_columns.specs.Columns.{ColumnsOf}
 

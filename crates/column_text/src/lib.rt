@@ -1,6 +1,6 @@
 // The whole output of the call on columns read off a photograph, in a lent buffer; its sheets are parted already.
 use call_columns::columns;
-use lane_search::Flags;
+use column_search::Flags;
 use printing::put_byte;
 use printing::put_bytes;
 use teplonga::Answer;

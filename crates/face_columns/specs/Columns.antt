@@ -5,7 +5,7 @@ use mathlib.Core.List.{List, [], _∷_}
 use Prim.Native.Nat.{ℕ}
 use Rattle.face.specs.Face.{packed}
 use Rattle.face_words.specs.Words.{AtFront}
-use Rattle.lane_search.specs.declared.Flags.{Flags}
+use Rattle.column_search.specs.declared.Flags.{Flags}
 use Rattle.call_columns.specs.declared.ColumnsReply.{ColumnsReply}
 use Rattle.call_columns.specs.Columns.{ColumnsOf}
 

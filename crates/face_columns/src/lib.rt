@@ -1,9 +1,9 @@
 // The call on columns read off a photograph for C and Rust: numbers and slices alone.
 use call_columns::columns;
 use call_columns::refused_line;
+use column_search::Flags;
 use face::pack;
 use face_words::put_word;
-use lane_search::Flags;
 ghost use mathlib.Core.Path.{_≡_};
 ghost use Rattle.face_words.specs.Words.{AtFront};
 ghost use Rattle.sheets.specs.RuleSheets.{ruleSheet};

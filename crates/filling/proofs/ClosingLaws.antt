@@ -67,18 +67,21 @@ found-joins {ws} {ws′} {g} {n} {s} {len} {k} {rows} {cols} {table} {e} {t} few
 single-offside : {h : Half} {s len : ℕ} {k : SpanMarks} → Marked h s len k → UnaryBy k UnaryMark.Single → UnaryBy k UnaryMark.Offside
 single-offside m x = m .unary UnaryMark.Offside .1 (record { keeps = λ i a b z. absurd (let y = m .unary UnaryMark.Single .0 x .keeps i a b in omega arith) })
 
--- so it is closed
-pub cut-joined : (ws ws′ : List ℕ) (g : Rules) (h : Half) (n s len : ℕ) (k : SpanMarks) → Distinct g → h .known ≤ length (h .word) → s + len ≤ n → 2 ≤ len → Marked h s len k → Ground ws g h n s len → CutJoins ws ws′ g n s len k → Closed ws ws′ g h n s len
-cut-joined ws ws′ g h n s len k distinct known fit long marked ground j = record {
-  kept = j .wrote .kept;
-  settled = closure-settled ws g h n s len k (j .inner) distinct known fit long marked ground (j .splits) ws′ (j .last) closure (j .wrote);
-}
+-- what is written is what follows
+pub cut-closure : (ws ws′ : List ℕ) (g : Rules) (n s len : ℕ) (k : SpanMarks) → (UnaryBy k UnaryMark.Single → UnaryBy k UnaryMark.Offside) → (j : CutJoins ws ws′ g n s len k)
+    → Closure (spanLinks g (UnaryBy k) (getD ws 0 0) (getD ws 1 0)) (j .inner) (j .last)
+cut-closure ws ws′ g n s len k single j =
+    table-span g (getD ws 0 0) (getD ws 1 0) (HoldsAt (j .level)) k (j .leveled .holds single) (wordsOf (j .table) (128 * j .level)) (j .inner) (j .last) entries (counts-nested (j .splits)) (j .unites)
   where
     entries : (B : ℕ) → In (j .inner .one) B → Entry (spanLinks g (HoldsAt (j .level)) (getD ws 0 0) (getD ws 1 0)) B (wordsOf (j .table) (128 * j .level) B)
     entries B i = rw (j .begins .one, j .begins .two) (j .chains .entry (j .level) B (j .leveled .small) (j .bounded B i))
 
-    closure : Closure (spanLinks g (UnaryBy k) (getD ws 0 0) (getD ws 1 0)) (j .inner) (j .last)
-    closure = table-span g (getD ws 0 0) (getD ws 1 0) (HoldsAt (j .level)) k (j .leveled .holds (single-offside marked)) (wordsOf (j .table) (128 * j .level)) (j .inner) (j .last) entries (counts-nested (j .splits)) (j .unites)
+-- so it is closed
+pub cut-joined : (ws ws′ : List ℕ) (g : Rules) (h : Half) (n s len : ℕ) (k : SpanMarks) → Distinct g → h .known ≤ length (h .word) → s + len ≤ n → 2 ≤ len → Marked h s len k → Ground ws g h n s len → CutJoins ws ws′ g n s len k → Closed ws ws′ g h n s len
+cut-joined ws ws′ g h n s len k distinct known fit long marked ground j = record {
+  kept = j .wrote .kept;
+  settled = closure-settled ws g h n s len k (j .inner) distinct known fit long marked ground (j .splits) ws′ (j .last) (cut-closure ws ws′ g n s len k (single-offside marked) j) (j .wrote);
+}
 
 -- the pair of the empty word is not written
 pub empty-kept : {ws ws′ : List ℕ} {e : Pair} (n s len : ℕ) → 0 < len → Kept ws ws′ (pairAt n s len) → Begins ws e → Begins ws′ e

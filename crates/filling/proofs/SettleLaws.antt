@@ -24,7 +24,7 @@ use Rattle.tables.specs.Tables.{Table, One, Two, byTokens, byMarks, Fits, Stand
 use Rattle.tables.specs.Tables.Again.{apart, below}
 use Rattle.tables.specs.Settled.{Settled, Ground}
 use Rattle.tables.proofs.Soundness.{sound-stand, sound-again}
-use Rattle.tables.proofs.Views.{tokens-marks, stand-view, again-view}
+use Rattle.tables.proofs.Views.{Yields, marks-tokens, tokens-marks, stand-view, again-view}
 use Rattle.cuts.specs.declared.Pair.{Pair}
 use Rattle.cuts.specs.Counts as Counts
 use Rattle.cuts.specs.Counts.More.{apart as two-choices, below as one-doubled}
@@ -60,25 +60,27 @@ left-edge : (len l m : ℕ) → 0 < l → l < len → l ≡ leftOf m len → ⊥
 left-edge len l zero x y e = omega arith
 left-edge len l (suc m) x y e = omega arith
 
-module _ (ws : List ℕ) (g : Rules) (h : Half) (n s len : ℕ) (k : SpanMarks) (p : Pair) (distinct : Distinct g) (known : h .known ≤ length (h .word)) (fit : s + len ≤ n) (long : 2 ≤ len)
-    (marked : Marked h s len k) (ground : Ground ws g h n s len) (sp : Splits ws n s len k g p) where
+module _ (ws : List ℕ) (g : Rules) (n s len : ℕ) (k : SpanMarks) (p : Pair) (fit : s + len ≤ n) (long : 2 ≤ len) (sp : Splits ws n s len k g p) where
   abbrev links : Links
   links = spanLinks g (UnaryBy k) (getD ws 0 0) (getD ws 1 0)
 
-  abbrev Truth : Table
-  Truth a b A = Derives g A (part (h .word) a b)
-
-  abbrev Truth₂ : Table
-  Truth₂ a b A = TwoTrees g A (part (h .word) a b)
-
   -- ---- what follows has trees
 
-  module _ (kn : s + len ≤ h .known) where
+  -- in a half-known word that leaves to a clause at least what the marks do, where what the words have of the parts has trees
+  module _ (h : Half) (distinct : Distinct g) (known : h .known ≤ length (h .word)) (kn : s + len ≤ h .known) (under : Yields (byMarks k len) (byTokens h s len) len)
+      (sound : (a b A : ℕ) → s ≤ a → a + b ≤ s + len → b < len → One ws n a b A → Derives g A (part (h .word) a b))
+      (sound₂ : (a b A : ℕ) → s ≤ a → a + b ≤ s + len → b < len → Two ws n a b A → TwoTrees g A (part (h .word) a b)) where
+    abbrev Truth : Table
+    Truth a b A = Derives g A (part (h .word) a b)
+
+    abbrev Truth₂ : Table
+    Truth₂ a b A = TwoTrees g A (part (h .word) a b)
+
     nulls : (a A : ℕ) → s ≤ a → a ≤ s + len → In (getD ws 0 0) A → Truth a 0 A
-    nulls a A x y m = ground .parts a 0 x (omega arith) (omega arith) .some A (omega arith) (subst (λ (q : ℕ). In (getD ws (2 * q) 0) A) (sym (pairAt-empty n a)) m)
+    nulls a A x y m = sound a 0 A x (omega arith) (omega arith) (subst (λ (q : ℕ). In (getD ws (2 * q) 0) A) (sym (pairAt-empty n a)) m)
 
     nulls₂ : (a A : ℕ) → s ≤ a → a ≤ s + len → In (getD ws 1 0) A → Truth₂ a 0 A
-    nulls₂ a A x y m = ground .parts a 0 x (omega arith) (omega arith) .more A (omega arith) (subst (λ (q : ℕ). In (getD ws (2 * q + 1) 0) A) (sym (pairAt-empty n a)) m)
+    nulls₂ a A x y m = sound₂ a 0 A x (omega arith) (omega arith) (subst (λ (q : ℕ). In (getD ws (2 * q + 1) 0) A) (sym (pairAt-empty n a)) m)
 
     Real : ℕ → ℕ → ℕ → Type 0
     Real A i l = Stand Truth g (byTokens h s len) s len A i l
@@ -86,19 +88,19 @@ module _ (ws : List ℕ) (g : Rules) (h : Half) (n s len : ℕ) (k : SpanMarks) 
     fits-over : (c : Clause) (l B : ℕ) → Over (UnaryBy k) (getD ws 0 0) c l B → Truth s len B → Fits Truth (byTokens h s len) s len c (leftOf l len)
     fits-over Clause.Empty l B o d = absurd o
     fits-over (Clause.Atom a b) l B o d = absurd o
-    fits-over (Clause.Unary C m) zero B o d = (subst (λ (x : ℕ). Truth s len x) (o .0) d, marked .unary m .0 (o .1), refl)
+    fits-over (Clause.Unary C m) zero B o d = (subst (λ (x : ℕ). Truth s len x) (o .0) d, under .unary m (o .1), refl)
     fits-over (Clause.Unary C m) (suc l) B o d = absurd o
     fits-over (Clause.Binary C D m) zero B o d = (
       omega arith,
       nulls s C (omega arith) (omega arith) (o .1),
       at-part (λ (a b : ℕ). Truth a b D) (let e : s ≡ s + 0 = omega arith in e) (let e : len ≡ len - 0 = omega arith in e) (subst (λ (x : ℕ). Truth s len x) (o .0) d),
-      marked .binary m 0 (omega arith) .0 (edge-mark k len m 0 (λ x y. omega arith)),
+      under .binary m 0 (omega arith) (edge-mark k len m 0 (λ x y. omega arith)),
     )
     fits-over (Clause.Binary C D m) (suc zero) B o d = (
       omega arith,
       subst (λ (x : ℕ). Truth s len x) (o .0) d,
       subst (λ (b : ℕ). Truth (s + len) b D) (let e : 0 ≡ len - len = omega arith in e) (nulls (s + len) D (omega arith) (omega arith) (o .1)),
-      marked .binary m len (omega arith) .0 (edge-mark k len m len (λ x y. omega arith)),
+      under .binary m len (omega arith) (edge-mark k len m len (λ x y. omega arith)),
     )
     fits-over (Clause.Binary C D m) (suc (suc l)) B o d = absurd o
 
@@ -130,9 +132,9 @@ module _ (ws : List ℕ) (g : Rules) (h : Half) (n s len : ℕ) (k : SpanMarks) 
     part-fits l x y (Clause.Unary B m) q = absurd (omega (arith, q .2))
     part-fits l x y (Clause.Binary B C m) q = (
       omega arith,
-      ground .parts s l (omega arith) (omega arith) y .some B (omega arith) (q .1),
-      ground .parts (s + l) (len - l) (omega arith) (omega arith) (omega arith) .some C (omega arith) (q .2),
-      marked .binary m l (omega arith) .0 (q .3),
+      sound s l B (omega arith) (omega arith) y (q .1),
+      sound (s + l) (len - l) C (omega arith) (omega arith) (omega arith) (q .2),
+      under .binary m l (omega arith) (q .3),
     )
 
     part-below : (l : ℕ) → 0 < l → l < len → (c : Clause) → Fits (One ws n) (byMarks k len) s len c l → Below (Two ws n) s len c l → Below Truth₂ s len c l
@@ -140,7 +142,7 @@ module _ (ws : List ℕ) (g : Rules) (h : Half) (n s len : ℕ) (k : SpanMarks) 
     part-below l x y (Clause.Atom a b′) q b = b
     part-below l x y (Clause.Unary B m) q b = absurd (omega (arith, q .2))
     part-below l x y (Clause.Binary B C m) q b =
-        ⊎-elim (λ z. inl (ground .parts s l (omega arith) (omega arith) y .more B (omega arith) z)) (λ z. inr (ground .parts (s + l) (len - l) (omega arith) (omega arith) (omega arith) .more C (omega arith) z)) b
+        ⊎-elim (λ z. inl (sound₂ s l B (omega arith) (omega arith) y z)) (λ z. inr (sound₂ (s + l) (len - l) C (omega arith) (omega arith) (omega arith) z)) b
 
     part-real : (A i l : ℕ) → Parted ws n s len k g A i l → Real A i l
     unfolding Real
@@ -153,7 +155,7 @@ module _ (ws : List ℕ) (g : Rules) (h : Half) (n s len : ℕ) (k : SpanMarks) 
     real-two : (A : ℕ) → Again Truth Truth₂ g (byTokens h s len) s len A → Truth₂ s len A
     real-two = sound-again Truth Truth₂ g h known distinct s len kn (λ a b A x y m. m) (λ a b A x y m. m)
 
-    follows-true : {A : ℕ} → Follows links (In (p .one)) A → Truth s len A
+    pub follows-true : {A : ℕ} → Follows links (In (p .one)) A → Truth s len A
     follows-true {A} (by-parts i) = let q = sp .one A .0 i in real-one A (q .rule) (q .cut) (part-real A (q .rule) (q .cut) (q .stands))
     follows-true {A} (by-link i l B x f) = real-one A i (leftOf l len) (wide-real A i l B x (follows-true f))
 
@@ -162,7 +164,7 @@ module _ (ws : List ℕ) (g : Rules) (h : Half) (n s len : ℕ) (k : SpanMarks) 
     more-true A (two-choices i l j m x y d) = real-two A (apart i l j m (part-real A i l x) (part-real A j m y) d)
     more-true A (one-doubled i l x b) = real-two A (below i l (part-real A i l x) (part-below l (x .some) (x .rest) (rule g i .clause) (x .stand .fits) b))
 
-    doubles-true : {A : ℕ} → Doubles links (In (p .one)) (In (p .two)) A → Truth₂ s len A
+    pub doubles-true : {A : ℕ} → Doubles links (In (p .one)) (In (p .two)) A → Truth₂ s len A
     unfolding Real
     doubles-true {A} (both-parts i) = more-true A (sp .two A .0 i)
     doubles-true {A} (part-and-link i l B m x f) =
@@ -297,11 +299,24 @@ module _ (ws : List ℕ) (g : Rules) (h : Half) (n s len : ℕ) (k : SpanMarks) 
         go (edge v) =
             ⊎-elim (λ z. link-below i (v .side) (v .over) (linked A i l c v) (follows i v) (cl .two (v .over) .0 z)) (λ z. link-beside i (v .side) (v .over) (linked A i l c v) (follows i v) z) (v .low b)
 
-    -- the span is settled
-    pub closure-settled : Settled (One ws′ n) (Two ws′ n) g h s len
-    closure-settled = record {
-      some = λ A kn m. follows-true kn (cl .one A .0 (to A (w .first) m));
-      more = λ A kn m. doubles-true kn (cl .two A .0 (to A (w .second) m));
-      each = λ A i l u c. each A i l (stand-view (One ws′ n) g (byTokens h s len) (byMarks k len) s len A i l (tokens-marks h s len k marked) c);
-      again = λ A u c. again A (again-view (One ws′ n) (Two ws′ n) g (byTokens h s len) (byMarks k len) s len A (tokens-marks h s len k marked) c);
-    }
+-- the span is settled
+pub closure-settled : (ws : List ℕ) (g : Rules) (h : Half) (n s len : ℕ) (k : SpanMarks) (p : Pair) → Distinct g → h .known ≤ length (h .word) → s + len ≤ n → 2 ≤ len → Marked h s len k → Ground ws g h n s len
+    → Splits ws n s len k g p → (ws′ : List ℕ) (t : Pair) → Closure (spanLinks g (UnaryBy k) (getD ws 0 0) (getD ws 1 0)) p t → WrotePair ws ws′ (pairAt n s len) (t .one) (t .two) → Settled (One ws′ n) (Two ws′ n) g h s len
+closure-settled ws g h n s len k p distinct known fit long marked ground sp ws′ t cl w = record {
+  some = λ A kn m. follows-true ws g n s len k p fit long sp h distinct known kn under (sound kn) (sound₂ kn) (cl .one A .0 (subst (λ (x : ℕ). In x A) (w .first) m));
+  more = λ A kn m. doubles-true ws g n s len k p fit long sp h distinct known kn under (sound kn) (sound₂ kn) (cl .two A .0 (subst (λ (x : ℕ). In x A) (w .second) m));
+  each = λ A i l u c. each ws g n s len k p fit long sp ws′ t cl w A i l (stand-view (One ws′ n) g (byTokens h s len) (byMarks k len) s len A i l over c);
+  again = λ A u c. again ws g n s len k p fit long sp ws′ t cl w A (again-view (One ws′ n) (Two ws′ n) g (byTokens h s len) (byMarks k len) s len A over c);
+}
+  where
+    under : Yields (byMarks k len) (byTokens h s len) len
+    under = marks-tokens h s len k marked
+
+    over : Yields (byTokens h s len) (byMarks k len) len
+    over = tokens-marks h s len k marked
+
+    sound : s + len ≤ h .known → (a b A : ℕ) → s ≤ a → a + b ≤ s + len → b < len → One ws n a b A → Derives g A (part (h .word) a b)
+    sound kn a b A x y z m = ground .parts a b x y z .some A (omega arith) m
+
+    sound₂ : s + len ≤ h .known → (a b A : ℕ) → s ≤ a → a + b ≤ s + len → b < len → Two ws n a b A → TwoTrees g A (part (h .word) a b)
+    sound₂ kn a b A x y z m = ground .parts a b x y z .more A (omega arith) m

@@ -151,7 +151,7 @@ fn find(
 }
 
 // Settle the span and take it in; `e` is the pair of the empty word.
-fn close(
+pub fn close(
     words: &mut [u64],
     rows: &mut [u64],
     cols: &mut [u64],
@@ -191,7 +191,7 @@ fn load(words: &[u64], rows: &mut [u64], cols: &mut [u64], n: usize, start: usiz
 }
 
 // Begin a start: its rows have its first token.
-fn begin(words: &[u64], rows: &mut [u64], cols: &mut [u64], n: usize, start: usize)
+pub fn begin(words: &[u64], rows: &mut [u64], cols: &mut [u64], n: usize, start: usize)
     requires { ⌜ Room (now words) n start 1 ⌝ }
     requires { ⌜ length (now rows) ≡ 128 ⌝ }
     requires { ⌜ Columns (now words) n (start + 1) (now cols) ⌝ }

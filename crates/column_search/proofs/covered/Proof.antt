@@ -1,0 +1,34 @@
+use borrow.Author.Needs.{needs}
+use borrow.Author.Tests.{not-true, not-false}
+use mathlib.Core.Path.{sym}
+use Rattle.sets.proofs.Says.{true-not-false}
+use Rattle.column_search.proofs.Searching.{implies-all}
+use Rattle.column_search.proofs.covered.Statement.{statement}
+use Rattle.column_search.proofs.covered.Tie as tie
+
+implies-requires : tie.Need-implies-requires
+implies-requires c κs = search needs
+
+returns : tie.Need-returns
+returns c = λ e. absurd (true-not-false (sym e))
+
+implies-requires-2 : tie.Need-implies-requires-2
+implies-requires-2 c κs = search needs
+
+returns-2 : tie.Need-returns-2
+returns-2 c = λ e. absurd (true-not-false (sym e))
+
+implies-requires-3 : tie.Need-implies-requires-3
+implies-requires-3 c κs = search needs
+
+returns-3 : tie.Need-returns-3
+returns-3 c =
+    let b = c .before in
+    let a = b .before .before in
+    let z = a .before .before in
+    λ e. implies-all (z .args .o) (z .args .f) (a .before .implies .ensures (not-false _ (a .if1 .left))) (b .before .implies2 .ensures (not-false _ (b .if2 .left))) (c .implies3 .ensures e)
+
+pub covered-spec : {M : Type 1} → statement M
+covered-spec =
+    tie.close
+    (tie.spec implies-requires returns implies-requires-2 returns-2 implies-requires-3 returns-3)

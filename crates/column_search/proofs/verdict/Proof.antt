@@ -1,0 +1,25 @@
+use borrow.Author.Needs.{needs}
+use borrow.Author.Tests.{not-true, not-false}
+use Rattle.column_search.proofs.verdict.Statement.{statement}
+use Rattle.column_search.proofs.verdict.Tie as tie
+
+in-first-requires : tie.Need-in-first-requires
+in-first-requires c κs = search needs
+
+returns : tie.Need-returns
+returns c = c .before .in-first .ensures .isnt (not-true _ (c .if1 .taken))
+
+in-second-requires : tie.Need-in-second-requires
+in-second-requires c κs = search needs
+
+returns-2 : tie.Need-returns-2
+returns-2 c = c .before .in-second .ensures .is (c .if2 .taken)
+
+returns-3 : tie.Need-returns-3
+returns-3 c =
+    let e = c .before .before in
+    (e .before .in-first .ensures .is (not-false _ (e .if1 .left)), c .before .in-second .ensures .isnt (c .if2 .left))
+
+pub verdict-spec : {M : Type 1} → statement M
+verdict-spec =
+    tie.close (tie.spec in-first-requires returns in-second-requires returns-2 returns-3)

@@ -1,0 +1,228 @@
+// Which verdicts some choice of columns gives. Ranges are narrowed token by token, until one choice is left.
+use chart::Verdict;
+use column_ranges::RangeSentence;
+use column_ranges::columns;
+use column_ranges::count;
+use filling::fill_leaves;
+use grammar::Grammar;
+use marks::Draft;
+use narrowing::lowest_sentence;
+use narrowing::may_rise;
+use narrowing::narrowed;
+use narrowing::next_token;
+use range_charts::fill_ranges;
+use range_marks::exchanged_ends;
+use spans::clear;
+use spans::in_first;
+use spans::in_second;
+use spans::size;
+ghost use mathlib.Core.Path.{_≡_};
+ghost use mathlib.Core.Bool.{true};
+ghost use Prim.Native.Nat.{_*_, _≤_};
+ghost use lib.ListN.{length};
+ghost use Rattle.grammar.specs.Content.{rules, Formed};
+ghost use Rattle.grammar.specs.SpanSheet.{pairs};
+ghost use Rattle.chart.specs.declared.Verdict.{Verdict};
+ghost use Rattle.spans.specs.Changes.{Cleared};
+ghost use Rattle.column_ranges.specs.RangeSentences.{rangesOf, Spread};
+ghost use Rattle.narrowing.specs.Narrowing.{Singles, MayRise};
+ghost use Rattle.range_charts.specs.RangeCharts.{Leaved};
+ghost use Rattle.column_search.specs.Answers.{flag, FlagsSay};
+ghost use Rattle.column_search.specs.Searching.{With, Leaves, Reads, Foreseen, Idles, Searched};
+
+// Of each verdict: does some rising choice give it?
+pub struct Flags {
+    pub none: bool,
+    pub one: bool,
+    pub two: bool,
+}
+
+// The flags with a verdict besides.
+fn with_verdict(f: Flags, v: Verdict) -> Flags
+    ensures { λ r. ⌜ With f v r ⌝ }
+{
+    match v {
+        Verdict::None => Flags {
+            none: true,
+            one: f.one,
+            two: f.two,
+        },
+        Verdict::One => Flags {
+            none: f.none,
+            one: true,
+            two: f.two,
+        },
+        Verdict::Two => Flags {
+            none: f.none,
+            one: f.one,
+            two: true,
+        },
+    }
+}
+
+// Are all three set, so that nothing new can come?
+fn full(f: Flags) -> bool
+    ensures { λ b. ⌜ (b ≡ true → (v : Verdict) → flag f v ≡ true) ⌝ }
+{
+    if f.none {
+        if f.one {
+            return f.two;
+        }
+    }
+    false
+}
+
+// The verdict by the pair of the whole word.
+fn verdict(words: &[u64], n: usize) -> Verdict
+    requires { ⌜ (n ≤ 64) × (2 * pairs n ≤ length (now words)) ⌝ }
+    ensures { λ v. ⌜ Reads (now (words .entry)) n v ⌝ }
+{
+    if !in_first(words, n, 0, n, 0) {
+        return Verdict::None;
+    }
+    if in_second(words, n, 0, n, 0) {
+        return Verdict::Two;
+    }
+    Verdict::One
+}
+
+// The verdict of the one choice that is left, besides those found before.
+fn try_choice(g: Grammar, r: RangeSentence, words: &mut [u64], f: Flags) -> Flags
+    requires { ⌜ Formed g ⌝ }
+    requires { ⌜ Spread r × Singles (rangesOf r) × MayRise (rangesOf r) ⌝ }
+    requires { ⌜ 2 * pairs (r .count) ≤ length (now words) ⌝ }
+    requires { ⌜ Leaved (rules g) (rangesOf r) (r .count) (now words) ⌝ }
+    ensures { λ a. ⌜ Searched (rules g) (rangesOf r) (r .count) f (now (words .entry)) (now (words .exit)) a ⌝ }
+{
+    fill_ranges(words, r, g);
+    let v = verdict(words, r.count);
+    with_verdict(f, v)
+}
+
+// The verdicts that some choice may give: none where nothing must have a tree, one where something may and need not have two, two where
+// something may.
+fn outlook(g: Grammar, r: RangeSentence, words: &mut [u64]) -> Flags
+    requires { ⌜ Formed g ⌝ }
+    requires { ⌜ Spread r ⌝ }
+    requires { ⌜ 2 * pairs (r .count) ≤ length (now words) ⌝ }
+    requires { ⌜ Leaved (rules g) (rangesOf r) (r .count) (now words) ⌝ }
+    ensures { λ o. ⌜ Foreseen (rules g) (rangesOf r) (r .count) (now (words .entry)) (now (words .exit)) o ⌝ }
+{
+    let n = r.count;
+    fill_ranges(words, r, g);
+    let may_one = in_first(words, n, 0, n, 0);
+    let may_two = in_second(words, n, 0, n, 0);
+    let x = exchanged_ends(r);
+    fill_ranges(words, x, g);
+    let must_one = in_first(words, n, 0, n, 0);
+    let must_two = in_second(words, n, 0, n, 0);
+    Flags {
+        none: !must_one,
+        one: may_one && !must_two,
+        two: may_two,
+    }
+}
+
+// Is b set where a is?
+fn implies(a: bool, b: bool) -> bool
+    ensures { λ r. ⌜ (r ≡ true → a ≡ true → b ≡ true) ⌝ }
+{
+    if a { b } else { true }
+}
+
+// Is each flag of o set in f?
+fn covered(o: Flags, f: Flags) -> bool
+    ensures { λ b. ⌜ (b ≡ true → (v : Verdict) → flag o v ≡ true → flag f v ≡ true) ⌝ }
+{
+    if !implies(o.none, f.none) {
+        return false;
+    }
+    if !implies(o.one, f.one) {
+        return false;
+    }
+    implies(o.two, f.two)
+}
+
+// Can nothing new come of the ranges, by what may and what must hold? Asked where 64 choices or more are left.
+fn idle(g: Grammar, r: RangeSentence, words: &mut [u64], f: Flags) -> bool
+    requires { ⌜ Formed g ⌝ }
+    requires { ⌜ Spread r ⌝ }
+    requires { ⌜ 2 * pairs (r .count) ≤ length (now words) ⌝ }
+    requires { ⌜ Leaved (rules g) (rangesOf r) (r .count) (now words) ⌝ }
+    ensures { λ b. ⌜ Idles (rules g) (rangesOf r) (r .count) f (now (words .entry)) (now (words .exit)) b ⌝ }
+{
+    if count(r) < 64 {
+        return false;
+    }
+    let o = outlook(g, r, words);
+    covered(o, f)
+}
+
+// Can nothing new come of the ranges, all three being found or no choice rising?
+fn settled(r: RangeSentence, f: Flags) -> bool
+    requires { ⌜ Spread r ⌝ }
+    ensures { λ b. ⌜ Leaves (rangesOf r) f b ⌝ }
+{
+    if full(f) {
+        return true;
+    }
+    !may_rise(r)
+}
+
+// The verdicts of all choices, besides those found before. A token with several columns goes through them.
+fn search(g: Grammar, r: RangeSentence, words: &mut [u64], f: Flags) -> Flags
+    requires { ⌜ Formed g ⌝ }
+    requires { ⌜ Spread r ⌝ }
+    requires { ⌜ 2 * pairs (r .count) ≤ length (now words) ⌝ }
+    requires { ⌜ Leaved (rules g) (rangesOf r) (r .count) (now words) ⌝ }
+    ensures { λ a. ⌜ Searched (rules g) (rangesOf r) (r .count) f (now (words .entry)) (now (words .exit)) a ⌝ }
+{
+    if settled(r, f) {
+        return f;
+    }
+    let t = next_token(r);
+    if r.count <= t {
+        return try_choice(g, r, words, f);
+    }
+    if idle(g, r, words, f) {
+        return f;
+    }
+    let a = r.tokens[t];
+    let m = columns(a);
+    let mut found = f;
+    let mut c: usize = 0;
+    while c < m {
+        let s = narrowed(r, t, c);
+        found = search(g, s, words, found);
+        c += 1;
+    }
+    found
+}
+
+// Which verdicts some rising choice of columns gives; the words that the search needed end 0.
+pub fn choose(g: Grammar, r: RangeSentence, words: &mut [u64]) -> Flags
+    requires { ⌜ Formed g ⌝ }
+    requires { ⌜ Spread r ⌝ }
+    requires { ⌜ 2 * pairs (r .count) ≤ length (now words) ⌝ }
+    ensures { λ f. ⌜ FlagsSay (rules g) (rangesOf r) f ⌝ }
+    ensures { λ f. ⌜ Cleared (now (words .entry)) (now (words .exit)) (2 * pairs (r .count)) ⌝ }
+{
+    let nothing = Flags {
+        none: false,
+        one: false,
+        two: false,
+    };
+    let s = lowest_sentence(r);
+    let tokens = s.tokens;
+    let n = r.count;
+    let d = Draft {
+        tokens,
+        count: n,
+        known: n,
+    };
+    fill_leaves(words, d, g);
+    let f = search(g, r, words, nothing);
+    let m = size(n);
+    clear(words, m);
+    f
+}

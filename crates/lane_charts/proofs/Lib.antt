@@ -1,4 +1,0 @@
-pub mod LaneWords
-pub mod Existing
-pub mod Carrying
-pub mod Filling

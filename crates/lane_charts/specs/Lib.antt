@@ -1,2 +1,0 @@
-pub mod MarkWords
-pub mod LaneCharts

@@ -1,5 +1,0 @@
-pub mod Choices
-pub mod Numbering
-pub mod Flagging
-pub mod Laying
-pub mod Trying

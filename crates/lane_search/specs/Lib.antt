@@ -1,4 +1,0 @@
-pub mod Answers
-pub mod Searching
-pub mod Numbers
-pub mod Batches

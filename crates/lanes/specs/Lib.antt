@@ -1,3 +1,0 @@
-pub mod Lanes
-pub mod Tries
-pub mod Joining

@@ -1,0 +1,96 @@
+// The span sheet of ranges: what may have trees in some columns within the ends; with the ends exchanged what must have them in all;
+// where each token has one column, what has them.
+use chains::chains;
+use column_ranges::RangeSentence;
+use cuts::Pair;
+use filling::begin;
+use filling::close;
+use grammar::Grammar;
+use range_marks::first_of;
+use range_marks::stretched;
+ghost use mathlib.Core.Path.{_≡_};
+ghost use Prim.Native.Nat.{_+_, _*_, _≤_, _<_};
+ghost use lib.ListN.{length};
+ghost use Rattle.grammar.specs.Content.{rules, Formed};
+ghost use Rattle.grammar.specs.SpanSheet.{pairs};
+ghost use Rattle.chains.specs.Chains.{Chains};
+ghost use Rattle.filling.specs.Closing.{Begins, Columns};
+ghost use Rattle.column_ranges.specs.RangeSentences.{rangesOf};
+ghost use Rattle.range_charts.specs.RangeCharts.{Counted, SolvedFrom, Solves, Advances};
+
+// Settle the spans of two tokens or more that begin at `start`. Their marks are carried along, a token at a time.
+fn fill_start(
+    words: &mut [u64],
+    rows: &mut [u64],
+    cols: &mut [u64],
+    table: &[u64],
+    r: RangeSentence,
+    g: Grammar,
+    e: Pair,
+    start: usize,
+)
+    requires { ⌜ Counted r × (start < r .count) ⌝ }
+    requires { ⌜ 2 * pairs (r .count) ≤ length (now words) ⌝ }
+    requires { ⌜ Formed g ⌝ }
+    requires { ⌜ Begins (now words) e × Chains (rules g) e (now table) ⌝ }
+    requires { ⌜ (length (now rows) ≡ 128) × Columns (now words) (r .count) (start + 1) (now cols) ⌝ }
+    requires { ⌜ SolvedFrom (now words) (rules g) (rangesOf r) (r .count) (start + 1) (r .count + 1) ⌝ }
+    ensures { λ u. ⌜ Advances (now (words .entry)) (now (words .exit)) (rules g) (rangesOf r) (r .count) start ⌝ }
+    ensures { λ u. ⌜ Columns (now (words .exit)) (r .count) start (now (cols .exit)) ⌝ }
+{
+    let n = r.count;
+    let a = r.tokens[start];
+    let mut k = first_of(a);
+    begin(words, rows, cols, n, start);
+    let mut len: usize = 1;
+    while start + len < n {
+        let at = start + len;
+        let z = r.tokens[at - 1];
+        let t = r.tokens[at];
+        k = stretched(k, a, z, t, len);
+        len += 1;
+        close(words, rows, cols, table, n, g, e, k, start, len);
+    }
+}
+
+// Settle the spans of all starts.
+fn fill_starts(
+    words: &mut [u64],
+    rows: &mut [u64],
+    cols: &mut [u64],
+    table: &[u64],
+    r: RangeSentence,
+    g: Grammar,
+    e: Pair,
+)
+    requires { ⌜ Counted r ⌝ }
+    requires { ⌜ 2 * pairs (r .count) ≤ length (now words) ⌝ }
+    requires { ⌜ Formed g ⌝ }
+    requires { ⌜ Begins (now words) e × Chains (rules g) e (now table) ⌝ }
+    requires { ⌜ (length (now rows) ≡ 128) × Columns (now words) (r .count) (r .count) (now cols) ⌝ }
+    ensures { λ u. ⌜ Advances (now (words .entry)) (now (words .exit)) (rules g) (rangesOf r) (r .count) 0 ⌝ }
+{
+    let mut start = r.count;
+    while 0 < start {
+        start -= 1;
+        fill_start(words, rows, cols, table, r, g, e, start);
+    }
+}
+
+// Fill the span sheet of the ranges. The pairs of the empty word and of single tokens are given.
+pub fn fill_ranges(words: &mut [u64], r: RangeSentence, g: Grammar)
+    requires { ⌜ Counted r ⌝ }
+    requires { ⌜ 2 * pairs (r .count) ≤ length (now words) ⌝ }
+    requires { ⌜ Formed g ⌝ }
+    ensures { λ u. ⌜ Solves (now (words .entry)) (now (words .exit)) (rules g) (rangesOf r) (r .count) ⌝ }
+{
+    let e = Pair {
+        one: words[0],
+        two: words[1],
+    };
+    let mut table = [0u64; 512];
+    chains(&mut table, g, e);
+    let mut rows = [0u64; 128];
+    let mut cols = [0u64; 8320];
+    fill_starts(words, &mut rows, &mut cols, &table, r, g, e);
+}

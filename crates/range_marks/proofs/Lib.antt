@@ -1,0 +1,2 @@
+pub mod Stretching
+pub mod Bounds
