@@ -99,8 +99,7 @@ impl Call {
         self.twin(&mut ours);
         let mut call = || twin::verdict_plain(&self.rules, tokens, &mut lent.words);
         let times = repeats(timed(&mut call).0);
-        let seconds =
-            (0..rounds).map(|_| per_call(times, &mut call)).fold(f64::INFINITY, f64::min);
+        let seconds = (0..rounds).map(|_| per_call(times, &mut call)).fold(f64::INFINITY, f64::min);
         assert!(lent.words == ours.words, "{}: plain words", self.name);
         seconds
     }

@@ -70,7 +70,11 @@ fn ways(
                     continue;
                 }
                 let part = |from: usize, size: usize| {
-                    if size == len { own } else { Pair::at(words, place(n, from, size)) }
+                    if size == len {
+                        own
+                    } else {
+                        Pair::at(words, place(n, from, size))
+                    }
                 };
                 let first = trees(part(start, left), b);
                 if first > 0 {
