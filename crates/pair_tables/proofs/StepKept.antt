@@ -34,7 +34,7 @@ use Rattle.pair_tables.specs.Stepping.{Put, relationBits, nextPlace, Ste
 
 -- 1. bits moved up
 
-code-low : (o : Order) → orderCode o ≤ 2
+pub code-low : (o : Order) → orderCode o ≤ 2
 code-low less = omega arith
 code-low equal = omega arith
 code-low more = omega arith

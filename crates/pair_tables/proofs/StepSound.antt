@@ -1,0 +1,165 @@
+-- WHAT A STEP PUTS INTO A SOUND TABLE MAY BE.
+use mathlib.Core.Path.{_≡_, refl, sym, ap, _∙_, subst}
+use mathlib.Core.Logic.{_⊎_, inl, inr, ⊎-elim}
+use mathlib.Core.List.{List}
+use Prim.Native.Nat.{ℕ, suc, _+_, _-_, _*_, _/_, _%_, _^_, _≤_, _<_, min}
+use native.Mathlib.Omega.{arith}
+use native.Mathlib.Nat.{div-div-eq-div-mul, mod-eq-of-lt, mul-le-mul-right, mul-mod-left, div-eq-of-lt}
+use native.Mathlib.Decide.{decLt, ℕ-discrete}
+use lib.Bits.{bitAnd, and-le-r}
+use lib.Pow.{pow-add, pow-mono, shl-shr}
+use Rattle.sets.specs.Sets.{In}
+use Rattle.sets.proofs.Bits.{in-and}
+use Rattle.grammar.specs.Trees.{Rules}
+use Rattle.pairs.specs.Shapes.{Head}
+use Rattle.pairs.specs.Relations.{Order, less, equal, more, order}
+use Rattle.pairs.specs.Settings.{Point, at, start₁, cut₁, start₂, cut₂, stop₁, stop₂, setting}
+use Rattle.pairs.specs.Facts.{stand, Might}
+use Rattle.pair_offsets.specs.declared.Frame.{Frame}
+use Rattle.pair_offsets.specs.Frames.{rankOf}
+use Rattle.pair_offsets.specs.Codes.{orderCode}
+use Rattle.pair_offsets.specs.Evens.{sixOf, EvenSix}
+use Rattle.pair_offsets.specs.Lists.{Listing}
+use Rattle.pair_steps.specs.declared.Node.{Node}
+use Rattle.pair_steps.specs.declared.Words.{Words}
+use Rattle.pair_steps.specs.Nodes.{NodeOf, shapeNumber}
+use Rattle.pair_steps.specs.Leaving.{OffsetsFound}
+use Rattle.pair_steps.specs.Tokens.{TokensLeave, SomeAt, PointsHave, TokensFound}
+use Rattle.pair_steps.specs.Tables.{SoundTable, WordsOf, NextsOf}
+use Rattle.pair_steps.specs.Suiting.{Suits}
+use Rattle.pair_steps.proofs.StepLaws.{may-stand}
+use Rattle.pair_tables.specs.Stepping.{relationBits}
+use Rattle.pair_tables.proofs.StepKept.{code-low}
+
+-- 1. bits moved up, read back
+
+four : (k : ℕ) → In 15 k → k < 4
+four k i = by (decLt k 4)
+  where
+    by : Dec (k < 4) → k < 4
+    by (yes h) = h
+    by (no h) =
+        let p : 4 ≤ k = omega arith in
+        let q : 2 ^ 4 ≤ 2 ^ k = pow-mono p in
+        let e : 15 / 2 ^ k ≡ 0 = div-eq-of-lt (omega arith) in
+        absurd (omega (arith, i .digit, ap (λ (n : ℕ). n % 2) e))
+
+pub record Moved (r b z : ℕ) : Type 0 where
+  pub offset : ℕ
+  pub low : offset < 4
+  pub has : In r offset
+  pub is : z ≡ b + offset
+
+moved : (r b z : ℕ) → b ≤ 32 → In ((bitAnd r 15 * 2 ^ b) % 2 ^ 64) z → Moved r b z
+moved r b z l i = by (decLt z b)
+  where
+    y : ℕ
+    y = bitAnd r 15
+
+    small : bitAnd r 15 * 2 ^ b < 2 ^ 64
+    small =
+        let m : 2 ^ b ≤ 2 ^ 32 = pow-mono l in
+        let p : bitAnd r 15 * 2 ^ b ≤ 15 * 2 ^ b = mul-le-mul-right (2 ^ b) (and-le-r r 15) in
+        omega arith
+
+    digit : bitAnd r 15 * 2 ^ b / 2 ^ z % 2 ≡ 1
+    digit = sym (ap (λ (n : ℕ). n / 2 ^ z % 2) (mod-eq-of-lt small)) ∙ i .digit
+
+    by : Dec (z < b) → Moved r b z
+    by (yes h) =
+        let e : b ≡ (b - suc z) + 1 + z = omega arith in
+        let f : bitAnd r 15 * 2 ^ b ≡ bitAnd r 15 * 2 ^ (b - suc z) * 2 * 2 ^ z =
+        ap (λ (n : ℕ). bitAnd r 15 * 2 ^ n) e
+        ∙ (ap (λ (n : ℕ). bitAnd r 15 * n) (pow-add 2 ((b - suc z) + 1) z ∙ ap (λ (n : ℕ). n * 2 ^ z) (pow-add 2 (b - suc z) 1))
+        ∙ omega arith) in
+        let k : bitAnd r 15 * 2 ^ b / 2 ^ z % 2 ≡ 0 =
+        ap (λ (n : ℕ). n / 2 ^ z % 2) f
+        ∙ (ap (λ (n : ℕ). n % 2) (shl-shr (bitAnd r 15 * 2 ^ (b - suc z) * 2) z)
+        ∙ mul-mod-left (bitAnd r 15 * 2 ^ (b - suc z)) 2) in
+        absurd (omega (arith, digit, k))
+    by (no h) =
+        let e : z ≡ b + (z - b) = omega arith in
+        let d : In (bitAnd r 15) (z - b) =
+        record {
+          digit =
+              sym
+              (ap (λ (n : ℕ). bitAnd r 15 * 2 ^ b / 2 ^ n % 2) e
+              ∙ (ap (λ (n : ℕ). bitAnd r 15 * 2 ^ b / n % 2) (pow-add 2 b (z - b))
+              ∙ (ap (λ (n : ℕ). n % 2) (sym (div-div-eq-div-mul (bitAnd r 15 * 2 ^ b) (2 ^ b) (2 ^ (z - b))))
+              ∙ ap (λ (n : ℕ). n / 2 ^ (z - b) % 2) (shl-shr (bitAnd r 15) b))))
+              ∙ digit;
+        } in
+        let q = in-and r 15 (z - b) .0 d in
+        record { offset = z - b; low = four (z - b) (q .1); has = q .0; is = e }
+
+pub bits-moved : (f : Frame) (r z : ℕ) → In (relationBits f r) z
+    → Moved r (12 * orderCode (order (f .start) (f .begin)) + 4 * orderCode (order (f .stop) (f .end))) z
+bits-moved f r z i =
+    moved r (12 * orderCode (order (f .start) (f .begin)) + 4 * orderCode (order (f .stop) (f .end))) z
+    (omega (arith, code-low (order (f .start) (f .begin)), code-low (order (f .stop) (f .end)))) i
+
+-- 2. a terminal at each number, z at the stop that comes first
+
+module _ (f : Frame) (x y : Node) (n : Words) (h : PointsHave f x y n) (z : ℕ)
+    (e : TokensLeave f x y n (min (f .stop) (f .end)) z) where
+  record Chosen (r : ℕ) : Type 0 where
+    terminal : ℕ
+    first : r ≡ min (f .stop) (f .end) → terminal ≡ z
+    good : (p : Point) → r ≡ rankOf f p → TokensLeave f x y n r terminal
+
+  some-at : (p : Point) → SomeAt f x y n (rankOf f p)
+  some-at (at start₁) = h .start
+  some-at (at cut₁) = h .cut
+  some-at (at start₂) = h .begin
+  some-at (at cut₂) = h .split
+  some-at stop₁ = h .stop
+  some-at stop₂ = h .end
+
+  here : (p : Point) (r : ℕ) → (r ≡ min (f .stop) (f .end) → ⊥) → r ≡ rankOf f p → Chosen r
+  here p r m k =
+      record {
+        terminal = some-at p .terminal;
+        first = λ q. absurd (m q);
+        good = λ q j. subst (λ (s : ℕ). TokensLeave f x y n s (some-at p .terminal)) (sym k) (some-at p .leaves);
+      }
+
+  choose : (r : ℕ) → Chosen r
+  choose r =
+      by (ℕ-discrete r (min (f .stop) (f .end))) (ℕ-discrete r (f .start)) (ℕ-discrete r (f .cut))
+      (ℕ-discrete r (f .begin)) (ℕ-discrete r (f .split)) (ℕ-discrete r (f .stop)) (ℕ-discrete r (f .end))
+    where
+      by : Dec (r ≡ min (f .stop) (f .end)) → Dec (r ≡ f .start) → Dec (r ≡ f .cut) → Dec (r ≡ f .begin)
+          → Dec (r ≡ f .split) → Dec (r ≡ f .stop) → Dec (r ≡ f .end) → Chosen r
+      by (yes k) a b c d g i =
+          record {
+            terminal = z;
+            first = λ q. refl;
+            good = λ q j. subst (λ (s : ℕ). TokensLeave f x y n s z) (sym k) e;
+          }
+      by (no m) (yes k) b c d g i = here (at start₁) r m k
+      by (no m) (no a) (yes k) c d g i = here (at cut₁) r m k
+      by (no m) (no a) (no b) (yes k) d g i = here (at start₂) r m k
+      by (no m) (no a) (no b) (no c) (yes k) g i = here (at cut₂) r m k
+      by (no m) (no a) (no b) (no c) (no d) (yes k) i = here stop₁ r m k
+      by (no m) (no a) (no b) (no c) (no d) (no g) (yes k) = here stop₂ r m k
+      by (no m) (no a) (no b) (no c) (no d) (no g) (no i) =
+          record { terminal = 0; first = λ q. absurd (m q); good = none }
+        where
+          none : (p : Point) → r ≡ rankOf f p → TokensLeave f x y n r 0
+          none (at start₁) k = absurd (a k)
+          none (at cut₁) k = absurd (b k)
+          none (at start₂) k = absurd (c k)
+          none (at cut₂) k = absurd (d k)
+          none stop₁ k = absurd (g k)
+          none stop₂ k = absurd (i k)
+
+  pub value : ℕ → ℕ
+  value r = choose r .terminal
+
+  pub value-first : value (min (f .stop) (f .end)) ≡ z
+  unfolding value
+  value-first = choose (min (f .stop) (f .end)) .first refl
+
+  pub value-good : (p : Point) → TokensLeave f x y n (rankOf f p) (value (rankOf f p))
+  unfolding value
+  value-good p = choose (rankOf f p) .good p refl
