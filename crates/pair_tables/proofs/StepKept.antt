@@ -139,4 +139,4 @@ module _ (g : Rules) (t : List ℕ) (low : LowTable t) (f : Frame) (hx hy : Head
   step-kept (no-terminals {w = w} {n} ws o ns v) e m ms =
       absurd
       (in-zero (fd w n (as-words ws) ns .val (min (f .stop) (f .end))) (terminal-found w n (as-words ws) ns 0 v))
-  step-kept (puts ws o ns v p) e m ms = put-kept ws o ns v p e
+  step-kept (puts ws o z ns v y p) e m ms = put-kept ws o ns v p e

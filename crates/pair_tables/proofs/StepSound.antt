@@ -11,13 +11,16 @@ use lib.Pow.{pow-add, pow-mono, shl-shr}
 use Rattle.sets.specs.Sets.{In}
 use Rattle.sets.proofs.Bits.{in-and}
 use Rattle.grammar.specs.Trees.{Rules}
-use Rattle.pairs.specs.Shapes.{Head}
-use Rattle.pairs.specs.Relations.{Order, less, equal, more, order}
+use Rattle.pairs.specs.Shapes.{Shape, all, first, second, ruleOfShape, Head}
+use Rattle.pairs.specs.Relations.{Order, less, equal, more, order, Offset, Relation}
 use Rattle.pairs.specs.Settings.{Point, at, start₁, cut₁, start₂, cut₂, stop₁, stop₂, setting}
 use Rattle.pairs.specs.Facts.{stand, Might}
 use Rattle.pair_offsets.specs.declared.Frame.{Frame}
 use Rattle.pair_offsets.specs.Frames.{rankOf}
-use Rattle.pair_offsets.specs.Codes.{orderCode}
+use Rattle.pair_offsets.specs.Codes.{orderCode, offsetCode, offsetOf, bitOf}
+use Rattle.pair_offsets.proofs.SayLaws.{code-of, offset-low}
+use Rattle.pair_offsets.proofs.EvenLaws.{six-code}
+use lib.ListN.{getD}
 use Rattle.pair_offsets.specs.Evens.{sixOf, EvenSix}
 use Rattle.pair_offsets.specs.Lists.{Listing}
 use Rattle.pair_steps.specs.declared.Node.{Node}
@@ -163,3 +166,79 @@ module _ (f : Frame) (x y : Node) (n : Words) (h : PointsHave f x y n) (z : ℕ)
   pub value-good : (p : Point) → TokensLeave f x y n (rankOf f p) (value (rankOf f p))
   unfolding value
   value-good p = choose (rankOf f p) .good p refl
+
+-- 3. orders and relations by their codes
+
+order-one : (a b : Order) → orderCode a ≡ orderCode b → a ≡ b
+order-one less less e = refl
+order-one less equal e = absurd (omega arith)
+order-one less more e = absurd (omega arith)
+order-one equal less e = absurd (omega arith)
+order-one equal equal e = refl
+order-one equal more e = absurd (omega arith)
+order-one more less e = absurd (omega arith)
+order-one more equal e = absurd (omega arith)
+order-one more more e = refl
+
+relation-one : (r : Relation) (o p : Order) (c : Offset)
+    → bitOf r ≡ 12 * orderCode o + 4 * orderCode p + offsetCode c
+    → r ≡ record { starts = o; stops = p; offset = c }
+relation-one r o p c e =
+    let a = code-low (r .starts) in
+    let b = code-low (r .stops) in
+    let d = offset-low (r .offset) in
+    let o′ = code-low o in
+    let p′ = code-low p in
+    let c′ = offset-low c in
+    let x : orderCode (r .starts) ≡ orderCode o = omega arith in
+    let y : orderCode (r .stops) ≡ orderCode p = omega arith in
+    let z : offsetCode (r .offset) ≡ offsetCode c = omega arith in
+    let u = order-one (r .starts) o x in
+    let v = order-one (r .stops) p y in
+    let w : r .offset ≡ c = sym (code-of (r .offset)) ∙ (ap offsetOf z ∙ code-of c) in
+    λ i. record { starts = u i; stops = v i; offset = w i }
+
+shape-one : (s r : Shape) → ruleOfShape s < 128 → ruleOfShape r < 128 → shapeNumber s ≡ shapeNumber r → s ≡ r
+shape-one (all p) (all q) h k e = ap all e
+shape-one (all p) (first q) h k e = absurd (omega arith)
+shape-one (all p) (second q) h k e = absurd (omega arith)
+shape-one (first p) (all q) h k e = absurd (omega arith)
+shape-one (first p) (first q) h k e = ap first (let d : p ≡ q = omega arith in d)
+shape-one (first p) (second q) h k e = absurd (omega arith)
+shape-one (second p) (all q) h k e = absurd (omega arith)
+shape-one (second p) (first q) h k e = absurd (omega arith)
+shape-one (second p) (second q) h k e = ap second (let d : p ≡ q = omega arith in d)
+
+shape-low : (s : Shape) → ruleOfShape s < 128 → shapeNumber s < 384
+shape-low (all p) h = omega arith
+shape-low (first p) h = omega arith
+shape-low (second p) h = omega arith
+
+-- 4. the step
+
+module _ (g : Rules) (t : List ℕ) (so : SoundTable g t) (f : Frame) (hx hy : Head) (x y : Node) (nx : NodeOf g hx x)
+    (ny : NodeOf g hy y) {i j : ℕ} (ix : i ≡ shapeNumber (hx .shape)) (iy : j ≡ shapeNumber (hy .shape))
+    (su : Suits f (x .kids) (y .kids)) (list old : List ℕ) (from end : ℕ) (listed : Listing f old list from 4096 end)
+    (w n : Words) (ws : WordsOf t x y (shapeNumber (hx .shape)) (shapeNumber (hy .shape)) w) (ns : NextsOf t f x y n)
+    (r q : ℕ) (o : OffsetsFound f x y w list from end r) (v : TokensFound f x y n q) where
+  record Stands (k z : ℕ) : Type 0 where
+    six : ℕ
+    val : ℕ → ℕ
+    code : offsetCode (sixOf six start₁ start₂) ≡ k
+    first : val (min (f .stop) (f .end)) ≡ z
+    may : Might g (stand (setting (rankOf f) (sixOf six) (λ p. val (rankOf f p))) hx hy)
+
+  stands : (k z : ℕ) → In r k → In q z → Stands k z
+  stands k z a b =
+      let e = o .only k a in
+      let d = v .only z b in
+      record {
+        six = getD list (e .place) 0;
+        val = value f x y n (d .0) z (d .2);
+        code = six-code (getD list (e .place) 0) .0 ∙ e .starts;
+        first = value-first f x y n (d .0) z (d .2);
+        may =
+            may-stand g t f hx hy x y nx ny w ws n ns so su (getD list (e .place) 0)
+            (listed .only (e .place) (e .low) (e .high)) (e .leaves) (value f x y n (d .0) z (d .2))
+            (value-good f x y n (d .0) z (d .2));
+      }

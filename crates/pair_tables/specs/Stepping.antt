@@ -56,6 +56,6 @@ pub data Stepped (f : Frame) (x y : Node) (i j : ℕ) (list : List ℕ) (from en
       → OffsetsFound f x y w list from end r → NextsOf t f x y n → TokensFound f x y n 0
       → Stepped f x y i j list from end t t true
   puts : {t u : List ℕ} {w n : Words} {r q : ℕ} {b : Bool} → WordsOf t x y i j w
-      → OffsetsFound f x y w list from end r → NextsOf t f x y n → TokensFound f x y n q
-      → Put t u (64 * i + y .sort) (24576 + (64 * x .sort + y .sort)) (nextPlace f (x .sort) (y .sort))
+      → OffsetsFound f x y w list from end r → (r ≡ 0 → ⊥) → NextsOf t f x y n → TokensFound f x y n q
+      → (q ≡ 0 → ⊥) → Put t u (64 * i + y .sort) (24576 + (64 * x .sort + y .sort)) (nextPlace f (x .sort) (y .sort))
       (relationBits f r) (relationBits f r) q b → Stepped f x y i j list from end t u b

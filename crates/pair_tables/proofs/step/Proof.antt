@@ -82,8 +82,9 @@ returns-3 : tie.Need-returns-3
 returns-3 c =
     let q = c .before .before .before .before .before .before .next-place .ensures .0 in
     let e = c .before .before .before .before .before .before .before .relation-bits .ensures in
-    puts (c .before .before .before .before .before .before .before .before .before .before .before .before .before .before .words-of .ensures) (c .before .before .before .before .before .before .before .before .before .before .before .before .before .offsets-found .ensures) (c .before .before .before .before .before .before .before .before .before .before .nexts-of .ensures)
-    (c .before .before .before .before .before .before .before .before .before .tokens-found .ensures) (rw (q, e) at (c .before .before .put .ensures))
+    puts (c .before .before .before .before .before .before .before .before .before .before .before .before .before .before .words-of .ensures) (c .before .before .before .before .before .before .before .before .before .before .before .before .before .offsets-found .ensures) (c .before .before .before .before .before .before .before .before .before .before .before .before .if1 .left)
+    (c .before .before .before .before .before .before .before .before .before .before .nexts-of .ensures) (c .before .before .before .before .before .before .before .before .before .tokens-found .ensures) (c .before .before .before .before .before .before .before .before .if2 .left)
+    (rw (q, e) at (c .before .before .put .ensures))
 
 pub step-spec : {M : Type 1} → statement M
 step-spec =
