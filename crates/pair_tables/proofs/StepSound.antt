@@ -13,8 +13,10 @@ use Rattle.sets.proofs.Bits.{in-and}
 use Rattle.grammar.specs.Trees.{Rules}
 use Rattle.pairs.specs.Shapes.{Shape, all, first, second, ruleOfShape, Head}
 use Rattle.pairs.specs.Relations.{Order, less, equal, more, order, Offset, Relation}
-use Rattle.pairs.specs.Settings.{Point, at, start₁, cut₁, start₂, cut₂, stop₁, stop₂, setting}
-use Rattle.pairs.specs.Facts.{stand, Might}
+use Rattle.pairs.specs.Settings.{Point, at, start₁, cut₁, start₂, cut₂, stop₁, stop₂, setting, nextBy}
+use Rattle.pairs.specs.Facts.{Fact, stand, against, sorts, behind, Might, of-node, of-sorts, of-next}
+use Rattle.pairs.proofs.OffsetLaws.{is-order}
+use mathlib.Core.Bool.{Bool}
 use Rattle.pair_offsets.specs.declared.Frame.{Frame}
 use Rattle.pair_offsets.specs.Frames.{rankOf}
 use Rattle.pair_offsets.specs.Codes.{orderCode, offsetCode, offsetOf, bitOf}
@@ -28,10 +30,11 @@ use Rattle.pair_steps.specs.declared.Words.{Words}
 use Rattle.pair_steps.specs.Nodes.{NodeOf, shapeNumber}
 use Rattle.pair_steps.specs.Leaving.{OffsetsFound}
 use Rattle.pair_steps.specs.Tokens.{TokensLeave, SomeAt, PointsHave, TokensFound}
-use Rattle.pair_steps.specs.Tables.{SoundTable, WordsOf, NextsOf}
+use Rattle.pair_steps.specs.Tables.{Proper, InTable, nextWord, SoundTable, WordsOf, NextsOf}
 use Rattle.pair_steps.specs.Suiting.{Suits}
 use Rattle.pair_steps.proofs.StepLaws.{may-stand}
-use Rattle.pair_tables.specs.Stepping.{relationBits}
+use Rattle.pair_steps.proofs.TokenLaws.{some-in}
+use Rattle.pair_tables.specs.Stepping.{Put, relationBits, nextPlace, Stepped, no-offsets, no-terminals, puts}
 use Rattle.pair_tables.proofs.StepKept.{code-low}
 
 -- 1. bits moved up, read back
@@ -242,3 +245,134 @@ module _ (g : Rules) (t : List ℕ) (so : SoundTable g t) (f : Frame) (hx hy : H
             (listed .only (e .place) (e .low) (e .high)) (e .leaves) (value f x y n (d .0) z (d .2))
             (value-good f x y n (d .0) z (d .2));
       }
+
+  next-is : (val : ℕ → ℕ) (z : ℕ) → val (min (f .stop) (f .end)) ≡ z
+      → nextBy (order (f .stop) (f .end)) (val (f .stop)) (val (f .end)) ≡ z
+  next-is val z e = by (decLt (f .stop) (f .end)) (decLt (f .end) (f .stop))
+    where
+      by : Dec (f .stop < f .end) → Dec (f .end < f .stop)
+          → nextBy (order (f .stop) (f .end)) (val (f .stop)) (val (f .end)) ≡ z
+      by (yes h) k =
+          let d : min (f .stop) (f .end) ≡ f .stop = omega arith in
+          rw (is-order less (f .stop) (f .end) h) (ap val (sym d) ∙ e)
+      by (no h) (yes k) =
+          let d : min (f .stop) (f .end) ≡ f .end = omega arith in
+          rw (is-order more (f .stop) (f .end) k) (ap val (sym d) ∙ e)
+      by (no h) (no k) =
+          let c : f .stop ≡ f .end = omega arith in
+          let d : min (f .stop) (f .end) ≡ f .stop = omega arith in
+          rw (is-order equal (f .stop) (f .end) c) (ap val (sym d) ∙ e)
+
+  module _ (r-some : r ≡ 0 → ⊥) (q-some : q ≡ 0 → ⊥) where
+    -- a bit that the step put into a word of relations
+    relation-of : (rl : Relation) → In (relationBits f r) (bitOf rl)
+        → (m : ℕ) × (val : ℕ → ℕ) × (rl ≡ record { starts = order (f .start) (f .begin); stops = order (f .stop) (f .end); offset = sixOf m start₁ start₂ })
+        × Might g (stand (setting (rankOf f) (sixOf m) (λ p. val (rankOf f p))) hx hy)
+    relation-of rl h =
+        let mv = bits-moved f r (bitOf rl) h in
+        let z = some-in q q-some in
+        let s = stands (mv .offset) (z .0) (mv .has) (z .1) in (
+          s .six,
+          s .val,
+          relation-one rl (order (f .start) (f .begin)) (order (f .stop) (f .end)) (sixOf (s .six) start₁ start₂)
+              (mv .is ∙ ap (λ (k : ℕ). 12 * orderCode (order (f .start) (f .begin)) + 4 * orderCode (order (f .stop) (f .end)) + k) (sym (s .code))),
+          s .may,
+        )
+
+    sort-low : (x .sort < 64) × (y .sort < 64)
+    sort-low = (nx .small .0, ny .small .0)
+
+    i-low : i < 384
+    i-low = rw ix (shape-low (hx .shape) (nx .place))
+
+    put-sound : {u : List ℕ} {b : Bool}
+        → Put t u (64 * i + y .sort) (24576 + (64 * x .sort + y .sort)) (nextPlace f (x .sort) (y .sort))
+        (relationBits f r) (relationBits f r) q b → SoundTable g u
+    put-sound {u} p = record { sound = all-sound }
+      where
+        node : (s : Shape) (B : ℕ) (rl : Relation) → (ruleOfShape s < 128) × (B < 64)
+            → In (getD t (64 * shapeNumber s + B) 0) (bitOf rl)
+            ⊎ ((64 * shapeNumber s + B ≡ 64 * i + y .sort) × In (relationBits f r) (bitOf rl))
+            ⊎ ((64 * shapeNumber s + B ≡ 24576 + (64 * x .sort + y .sort)) × In (relationBits f r) (bitOf rl))
+            ⊎ ((64 * shapeNumber s + B ≡ nextPlace f (x .sort) (y .sort)) × In q (bitOf rl))
+            → Might g (against s B rl)
+        node s B rl pr (inl h) = so .sound (against s B rl) pr h
+        node s B rl pr (inr (inl h)) =
+            let e = h .0 in
+            let c = sort-low .1 in
+            let d = pr .1 in
+            let a : shapeNumber s ≡ i = omega arith in
+            let b : B ≡ y .sort = omega arith in
+            let m = relation-of rl (h .1) in
+            let u₁ = shape-one s (hx .shape) (pr .0) (nx .place) (a ∙ ix) in
+            let u₂ = b ∙ ny .sort in
+            subst (Might g) (λ z. against (sym u₁ z) (sym u₂ z) (sym (m .2) z)) (of-node (m .3))
+        node s B rl pr (inr (inr (inl h))) = absurd (omega (arith, h .0, shape-low s (pr .0), pr .1))
+        node s B rl pr (inr (inr (inr h))) = absurd (omega (arith, h .0, shape-low s (pr .0), pr .1))
+
+        both : (A B : ℕ) (rl : Relation) → (A < 64) × (B < 64)
+            → In (getD t (24576 + (64 * A + B)) 0) (bitOf rl)
+            ⊎ ((24576 + (64 * A + B) ≡ 64 * i + y .sort) × In (relationBits f r) (bitOf rl))
+            ⊎ ((24576 + (64 * A + B) ≡ 24576 + (64 * x .sort + y .sort)) × In (relationBits f r) (bitOf rl))
+            ⊎ ((24576 + (64 * A + B) ≡ nextPlace f (x .sort) (y .sort)) × In q (bitOf rl)) → Might g (sorts A B rl)
+        both A B rl pr (inl h) = so .sound (sorts A B rl) pr h
+        both A B rl pr (inr (inl h)) = absurd (omega (arith, h .0, i-low, sort-low .1))
+        both A B rl pr (inr (inr (inl h))) =
+            let e = h .0 in
+            let c = sort-low .1 in
+            let d = pr .1 in
+            let a : A ≡ x .sort = omega arith in
+            let b : B ≡ y .sort = omega arith in
+            let m = relation-of rl (h .1) in
+            let u₁ = a ∙ nx .sort in
+            let u₂ = b ∙ ny .sort in
+            subst (Might g) (λ z. sorts (sym u₁ z) (sym u₂ z) (sym (m .2) z)) (of-sorts (m .3))
+        both A B rl pr (inr (inr (inr h))) = absurd (omega (arith, h .0, pr .0, pr .1))
+
+        next : (A B : ℕ) (a b : Order) (z : ℕ) → (A < 64) × (B < 64)
+            → In (nextWord t A B a b) z
+            ⊎ ((28672 + (9 * (64 * A + B) + (3 * orderCode a + orderCode b)) ≡ 64 * i + y .sort) × In (relationBits f r) z)
+            ⊎ ((28672 + (9 * (64 * A + B) + (3 * orderCode a + orderCode b)) ≡ 24576 + (64 * x .sort + y .sort)) × In (relationBits f r) z)
+            ⊎ ((28672 + (9 * (64 * A + B) + (3 * orderCode a + orderCode b)) ≡ nextPlace f (x .sort) (y .sort)) × In q z)
+            → Might g (behind A B a b z)
+        next A B a b z pr (inl h) = so .sound (behind A B a b z) pr h
+        next A B a b z pr (inr (inl h)) = absurd (omega (arith, h .0, i-low, sort-low .1))
+        next A B a b z pr (inr (inr (inl h))) = absurd (omega (arith, h .0, sort-low .0, sort-low .1))
+        next A B a b z pr (inr (inr (inr h))) =
+            let e = h .0 in
+            let c₁ = code-low a in
+            let c₂ = code-low b in
+            let c₃ = code-low (order (f .start) (f .begin)) in
+            let c₄ = code-low (order (f .stop) (f .end)) in
+            let c₅ = sort-low .1 in
+            let c₆ = pr .1 in
+            let k : 64 * A + B ≡ 64 * x .sort + y .sort = omega arith in
+            let k₁ : A ≡ x .sort = omega arith in
+            let k₂ : B ≡ y .sort = omega arith in
+            let k₃ : orderCode a ≡ orderCode (order (f .start) (f .begin)) = omega arith in
+            let k₄ : orderCode b ≡ orderCode (order (f .stop) (f .end)) = omega arith in
+            let u₁ = k₁ ∙ nx .sort in
+            let u₂ = k₂ ∙ ny .sort in
+            let u₃ = order-one a (order (f .start) (f .begin)) k₃ in
+            let u₄ = order-one b (order (f .stop) (f .end)) k₄ in
+            let o = some-in r r-some in
+            let s = stands (o .0) z (o .1) (h .1) in
+            let u₅ = next-is (s .val) z (s .first) in
+            subst (Might g) (λ y. behind (sym u₁ y) (sym u₂ y) (sym u₃ y) (sym u₄ y) (u₅ y)) (of-next (s .may))
+
+        all-sound : (a : Fact) → Proper a → InTable u a → Might g a
+        all-sound (stand σ x y) pr h = absurd pr
+        all-sound (against s B rl) pr h = node s B rl pr (p .only (64 * shapeNumber s + B) (bitOf rl) h)
+        all-sound (sorts A B rl) pr h = both A B rl pr (p .only (24576 + (64 * A + B)) (bitOf rl) h)
+        all-sound (behind A B a b z) pr h =
+            next A B a b z pr (p .only (28672 + (9 * (64 * A + B) + (3 * orderCode a + orderCode b))) z h)
+
+-- A STEP KEEPS A TABLE SOUND
+pub step-sound : (g : Rules) (t : List ℕ) → SoundTable g t → (f : Frame) (hx hy : Head) (x y : Node) → NodeOf g hx x
+    → NodeOf g hy y → {i j : ℕ} → i ≡ shapeNumber (hx .shape) → j ≡ shapeNumber (hy .shape)
+    → Suits f (x .kids) (y .kids) → (list old : List ℕ) (from end : ℕ) → Listing f old list from 4096 end
+    → {u : List ℕ} {b : Bool} → Stepped f x y i j list from end t u b → SoundTable g u
+step-sound g t so f hx hy x y nx ny ix iy su list old from end l (no-offsets ws o) = so
+step-sound g t so f hx hy x y nx ny ix iy su list old from end l (no-terminals ws o ns v) = so
+step-sound g t so f hx hy x y nx ny ix iy su list old from end l (puts {w = w} {n} {r} {q} ws o rs ns v qs p) =
+    put-sound g t so f hx hy x y nx ny ix iy su list old from end l w n (rw (ix, iy) at ws) ns r q o v rs qs p
