@@ -5,13 +5,13 @@ use Prim.Native.Nat.{ℕ, _+_, _*_, _/_, _%_, _≤_, _<_}
 use native.Mathlib.Omega.{arith}
 use Rattle.sets.specs.Says.{Says}
 use Rattle.sets.proofs.Says.{says-iff}
-use Rattle.pairs.specs.Relations.{less, equal, order, Offset, beside, Tri}
+use Rattle.pairs.specs.Relations.{less, equal, order, Offset, beside}
 use Rattle.pairs.specs.Settings.{Corner, start₁, cut₁, start₂, cut₂, at}
 use Rattle.pairs.proofs.OffsetLaws.{is-order, is-of}
 use Rattle.pair_offsets.specs.declared.Frame.{Frame}
 use Rattle.pair_offsets.specs.Frames.{rankOf}
 use Rattle.pair_offsets.specs.Codes.{offsetCode, offsetOf}
-use Rattle.pair_offsets.specs.Evens.{EvenOffsets, sixCode, sixOf, EvenSix, Sames, Tris, Trio, TrioSays}
+use Rattle.pair_offsets.specs.Evens.{EvenOffsets, sixCode, sixOf, EvenSix, Trio, TrioSays}
 use Rattle.pair_offsets.proofs.SayLaws.{code-of, of-code, offset-low}
 
 -- 1. three of the starts

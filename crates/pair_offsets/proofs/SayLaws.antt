@@ -1,14 +1,14 @@
 -- What the tests of offsets say.
-use mathlib.Core.Path.{_≡_, refl, sym, ap, _∙_, subst}
+use mathlib.Core.Path.{_≡_, refl, sym, ap, _∙_}
 use mathlib.Core.Bool.{Bool, true, false}
 use Prim.Native.Nat.{ℕ, zero, suc, _+_, _*_, _/_, _%_, _^_, _≤_, _<_}
 use native.Mathlib.Omega.{arith}
 use lib.Dec.{eqb}
 use Rattle.sets.specs.Says.{Says}
 use Rattle.sets.proofs.Says.{holds, fails, says-iff, says-eqb}
-use Rattle.pairs.specs.Relations.{Order, less, equal, more, Offset, beside, below, Tri}
+use Rattle.pairs.specs.Relations.{less, equal, more, Offset, beside, below, Tri}
 use Rattle.pair_offsets.specs.Codes.{orderCode, offsetCode, offsetOf}
-use Rattle.pair_offsets.specs.Evens.{TriSays, Sames, Tris, SameSays}
+use Rattle.pair_offsets.specs.Evens.{TriSays, Tris, SameSays}
 
 -- 1. codes
 

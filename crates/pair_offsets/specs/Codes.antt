@@ -1,5 +1,4 @@
 -- Orders, offsets and relations as numbers. For the contracts of inner functions only.
-use mathlib.Core.Path.{_≡_}
 use Prim.Native.Nat.{ℕ, zero, suc, _+_, _*_}
 use Rattle.pairs.specs.Relations.{Order, less, equal, more, Offset, beside, below, Relation}
 

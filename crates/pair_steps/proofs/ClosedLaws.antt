@@ -1,6 +1,6 @@
 -- A CLOSED TABLE HAS ALL THAT MAY BE.
 use mathlib.Core.Path.{_≡_, refl, sym, ap, _∙_, subst, subst⁻¹}
-use mathlib.Core.List.{List, [], _∷_, List·Memᴰ}
+use mathlib.Core.List.{List, List·Memᴰ}
 use Prim.Native.Nat.{ℕ, _≤_}
 use native.Mathlib.Omega.{arith}
 use Rattle.grammar.specs.declared.UnaryMark.{UnaryMark}
@@ -9,10 +9,10 @@ use Rattle.grammar.specs.Layout.{Every}
 use Rattle.grammar.specs.Trees.{Rules}
 use Rattle.pairs.specs.Survey.{rank, Inherits}
 use Rattle.pairs.specs.Shapes.{Form, tip, one, two, Shape, HasForm, tips, ones, twos, firsts, seconds, Head}
-use Rattle.pairs.specs.Relations.{Order, less, equal, more, Offset, beside, below, Relation}
+use Rattle.pairs.specs.Relations.{equal, Offset, beside, below, Relation}
 use Rattle.pairs.specs.Settings.{Corner, start₁, cut₁, start₂, cut₂, Point, at, stop₁, stop₂, corners, Setting, setting}
-use Rattle.pairs.specs.Settings.{AllowsOffset, InsideIn, KeepsIn, SitsIn, MeetIn, FitIn, whole₁, whole₂, sides₁, sides₂, relationIn}
-use Rattle.pairs.specs.Facts.{Fact, stand, against, sorts, behind, Couple, withEach, crossed, couples, behindIn, Might}
+use Rattle.pairs.specs.Settings.{AllowsOffset, InsideIn, KeepsIn, SitsIn, whole₁, whole₂, sides₁, sides₂, relationIn}
+use Rattle.pairs.specs.Facts.{Fact, stand, against, sorts, behind, Couple, withEach, crossed, couples, Might}
 use Rattle.pairs.specs.Facts.{two-nodes, of-node, of-sorts, of-next}
 use Rattle.pairs.proofs.Every.{every-map, every-all}
 use Rattle.pairs.proofs.PairLaws.{every-with, every-crossed}

@@ -1,5 +1,5 @@
 -- What may be by the table, a step finds.
-use mathlib.Core.Path.{_≡_, refl, sym, ap, _∙_, subst}
+use mathlib.Core.Path.{_≡_, refl, sym, ap, subst}
 use mathlib.Core.List.{List, [], _∷_, List·Memᴰ, List·Memᴰ·head, List·Memᴰ·tail}
 use Prim.Native.Nat.{ℕ, _%_, _^_, _≤_, _<_, min}
 use native.Mathlib.Omega.{arith}
@@ -10,7 +10,7 @@ use Rattle.grammar.specs.Trees.{Rules}
 use Rattle.pairs.specs.Shapes.{Form, tip, one, two, Head}
 use Rattle.pairs.specs.Relations.{less, equal, more, order, Offset}
 use Rattle.pairs.specs.Settings.{Corner, start₁, cut₁, start₂, cut₂, Point, at, stop₁, stop₂, points}
-use Rattle.pairs.specs.Settings.{Setting, setting, Even, MeetIn, InsideIn, FitIn, whole₁, whole₂, relationIn, nextIn, nextBy}
+use Rattle.pairs.specs.Settings.{Setting, setting, Even, MeetIn, InsideIn, FitIn, whole₁, whole₂, relationIn, nextIn}
 use Rattle.pairs.specs.Facts.{Couple, couples, behindIn}
 use Rattle.pairs.proofs.OffsetLaws.{is-order, is-of}
 use Rattle.pair_offsets.specs.declared.Frame.{Frame}
@@ -20,7 +20,7 @@ use Rattle.pair_offsets.specs.Evens.{EvenOffsets, sixCode, sixOf, EvenSix}
 use Rattle.pair_offsets.proofs.EvenLaws.{six-path, six-low, six-even, six-code}
 use Rattle.pair_steps.specs.declared.Node.{Node}
 use Rattle.pair_steps.specs.declared.Words.{Words}
-use Rattle.pair_steps.specs.Nodes.{kidCount, NextAsked, NodeOf, shapeNumber}
+use Rattle.pair_steps.specs.Nodes.{kidCount, NodeOf, shapeNumber}
 use Rattle.pair_steps.specs.Leaving.{firstStop, secondStop, Leaves}
 use Rattle.pair_steps.specs.Tokens.{TokensLeave}
 use Rattle.pair_steps.specs.Tables.{InTable, LowTable, WordsOf, NextsOf}
@@ -28,7 +28,7 @@ use Rattle.pair_steps.specs.Suiting.{Placed, Suits}
 use Rattle.pair_steps.proofs.TokenLaws.{in-low}
 use Rattle.pair_steps.proofs.SideLaws.{PlacedIn, Parts, parts-of}
 use Rattle.pair_steps.proofs.CoupleLaws.{Related, Followed, relations-of, Terminals, terminals-of}
-use Rattle.pair_steps.proofs.OffsetSteps.{Asked, leaves-of}
+use Rattle.pair_steps.proofs.OffsetSteps.{leaves-of}
 use Rattle.pair_steps.proofs.TokenSteps.{AskedTokens, tokens-of}
 use Rattle.pair_steps.proofs.StepLaws.{in-placed}
 

@@ -1,26 +1,24 @@
 -- What a table says of the couples of two nodes over a frame, word by word.
-use mathlib.Core.Path.{_≡_, refl, sym, ap, subst}
-use mathlib.Core.List.{List, [], _∷_}
-use Prim.Native.Nat.{ℕ, _+_, _*_, _<_}
+use mathlib.Core.Path.{_≡_, refl, sym, subst}
+use mathlib.Core.List.{List}
+use Prim.Native.Nat.{ℕ, _<_}
 use native.Mathlib.Omega.{arith}
 use native.Mathlib.Decide.{decLt}
-use lib.ListN.{getD}
 use Rattle.sets.specs.Sets.{In}
 use Rattle.grammar.specs.Layout.{Every}
-use Rattle.pairs.specs.Shapes.{Form, Head}
+use Rattle.pairs.specs.Shapes.{Head}
 use Rattle.pairs.specs.Relations.{less, equal, more, order, Offset}
 use Rattle.pairs.specs.Settings.{Corner, start₁, cut₁, start₂, cut₂, Point, at, stop₁, stop₂, Setting, setting}
-use Rattle.pairs.specs.Settings.{Side, sidesOf, whole₁, whole₂, sides₁, sides₂, MeetIn, relationIn, nextBy, nextIn}
+use Rattle.pairs.specs.Settings.{Side, whole₁, whole₂, sides₁, sides₂, MeetIn, relationIn, nextBy, nextIn}
 use Rattle.pairs.specs.Facts.{against, sorts, behind, Couple, withEach, crossed, couples, behindIn}
 use Rattle.pairs.proofs.Every.{every-map}
 use Rattle.pairs.proofs.OffsetLaws.{is-order, is-of}
 use Rattle.pairs.proofs.PairLaws.{every-with, every-crossed}
 use Rattle.pair_offsets.specs.declared.Frame.{Frame}
 use Rattle.pair_offsets.specs.Frames.{rankOf}
-use Rattle.pair_offsets.specs.Codes.{orderCode, offsetCode, bitOf}
+use Rattle.pair_offsets.specs.Codes.{offsetCode}
 use Rattle.pair_steps.specs.Nodes.{kidCount, firstOf, secondOf, shapeNumber}
 use Rattle.pair_steps.specs.Leaving.{Narrows, firstStop, secondStop}
-use Rattle.pair_steps.specs.Tokens.{AtStop}
 use Rattle.pair_steps.specs.Tables.{shapeWord, sortWord, nextWord, InTable}
 use Rattle.pair_steps.proofs.SideLaws.{with-every, crossed-every, each-both, both-each}
 

@@ -1,5 +1,5 @@
 -- What is left of sets, and the masks of the marks.
-use mathlib.Core.Path.{_≡_, refl, sym, ap, _∙_, subst}
+use mathlib.Core.Path.{_≡_, refl, sym, ap, _∙_}
 use Prim.Native.Nat.{ℕ, zero, suc, _+_, _*_, _/_, _%_, _^_, _≤_, _<_}
 use native.Mathlib.Omega.{arith}
 use native.Mathlib.Nat.{div-div-eq-div-mul}
@@ -9,7 +9,7 @@ use Rattle.sets.specs.Sets.{In}
 use Rattle.sets.proofs.Bits.{in-and}
 use Rattle.grammar.specs.declared.UnaryMark.the-variants as UnaryMark
 use Rattle.grammar.specs.declared.BinaryMark.the-variants as BinaryMark
-use Rattle.pairs.specs.Relations.{Order, less, equal, more, order, Offset, beside, below}
+use Rattle.pairs.specs.Relations.{less, equal, more, Offset, beside, below}
 use Rattle.pairs.specs.Settings.{AllowsOffset}
 use Rattle.pairs.proofs.OffsetLaws.{is-order}
 use Rattle.pair_offsets.specs.Codes.{orderCode, offsetCode}

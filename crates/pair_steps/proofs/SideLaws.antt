@@ -1,7 +1,7 @@
 -- Nodes and their children in a setting, by their parts.
-use mathlib.Core.Path.{_≡_, refl, sym, ap, subst}
+use mathlib.Core.Path.{_≡_}
 use mathlib.Core.List.{List, [], _∷_}
-use Prim.Native.Nat.{ℕ, _≤_, _<_}
+use Prim.Native.Nat.{ℕ, _<_}
 use native.Mathlib.Omega.{arith}
 use Rattle.grammar.specs.declared.UnaryMark.{UnaryMark}
 use Rattle.grammar.specs.declared.BinaryMark.{BinaryMark}
@@ -9,7 +9,7 @@ use Rattle.grammar.specs.declared.BinaryMark.the-variants as BinaryMark
 use Rattle.grammar.specs.Layout.{Every}
 use Rattle.grammar.specs.Trees.{Rules}
 use Rattle.pairs.specs.Shapes.{Form, tip, one, two, Head}
-use Rattle.pairs.specs.Relations.{Order, less, equal, beside}
+use Rattle.pairs.specs.Relations.{less, equal, beside}
 use Rattle.pairs.specs.Settings.{Corner, start₁, cut₁, start₂, cut₂, Point, at, stop₁, stop₂, corners, points}
 use Rattle.pairs.specs.Settings.{Setting, Side, sidesOf, whole₁, whole₂, sides₁, sides₂, InsideIn, AllowsOffset, JoinsIn, SitsIn}
 use Rattle.pairs.specs.Facts.{Couple, Fact, withEach, crossed, couples, against, sorts}

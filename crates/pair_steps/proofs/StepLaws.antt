@@ -1,35 +1,31 @@
 -- A STEP IS EXACT: what it finds may be, and what may be by the table it finds.
-use mathlib.Core.Path.{_≡_, refl, sym, ap, _∙_, subst}
-use mathlib.Core.List.{List, [], _∷_, List·Memᴰ, List·Memᴰ·head, List·Memᴰ·tail}
-use Prim.Native.Nat.{ℕ, _^_, _≤_, _<_, min}
+use mathlib.Core.Path.{refl, ap, subst}
+use mathlib.Core.List.{List}
+use Prim.Native.Nat.{ℕ, _≤_, _<_}
 use native.Mathlib.Omega.{arith}
-use native.Mathlib.Decide.{decLt, ℕ-discrete}
-use lib.ListN.{getD}
-use Rattle.sets.specs.Sets.{In}
 use Rattle.grammar.specs.Layout.{Every}
 use Rattle.grammar.specs.Trees.{Rules}
 use Rattle.grammar.proofs.Lists.{mem-every}
 use Rattle.pairs.specs.Shapes.{Form, tip, one, two, Head}
-use Rattle.pairs.specs.Relations.{less, equal, order, Offset}
-use Rattle.pairs.specs.Settings.{Corner, start₁, cut₁, start₂, cut₂, Point, at, stop₁, stop₂, points}
-use Rattle.pairs.specs.Settings.{Setting, setting, Even, InsideIn, FitIn, relationIn}
+use Rattle.pairs.specs.Relations.{less, equal, Offset}
+use Rattle.pairs.specs.Settings.{Corner, start₁, cut₁, start₂, cut₂, Point, at, stop₁, stop₂}
+use Rattle.pairs.specs.Settings.{Setting, setting, InsideIn, FitIn, relationIn}
 use Rattle.pairs.specs.Facts.{stand, couples, behindIn, Might, two-nodes}
 use Rattle.pairs.proofs.OffsetLaws.{is-order, is-of}
 use Rattle.pair_offsets.specs.declared.Frame.{Frame}
 use Rattle.pair_offsets.specs.Frames.{rankOf}
-use Rattle.pair_offsets.specs.Evens.{EvenOffsets, sixOf, EvenSix}
+use Rattle.pair_offsets.specs.Evens.{sixOf, EvenSix}
 use Rattle.pair_steps.specs.declared.Node.{Node}
 use Rattle.pair_steps.specs.declared.Words.{Words}
 use Rattle.pair_steps.specs.Nodes.{kidCount, NextAsked, NodeOf, shapeNumber}
 use Rattle.pair_steps.specs.Leaving.{Leaves}
 use Rattle.pair_steps.specs.Tokens.{TokensLeave}
-use Rattle.pair_steps.specs.Tables.{InTable, LowTable, SoundTable, WordsOf, NextsOf}
+use Rattle.pair_steps.specs.Tables.{SoundTable, WordsOf, NextsOf}
 use Rattle.pair_steps.specs.Suiting.{Placed, Suits}
-use Rattle.pair_steps.proofs.TokenLaws.{in-low}
 use Rattle.pair_steps.proofs.SideLaws.{PlacedIn, Parts, of-parts, ProperCouple, proper-couples}
-use Rattle.pair_steps.proofs.CoupleLaws.{Related, Followed, relations-of, of-relations, terminals-of, of-terminals}
-use Rattle.pair_steps.proofs.OffsetSteps.{Asked, leaves-of, of-leaves}
-use Rattle.pair_steps.proofs.TokenSteps.{AskedTokens, tokens-of, of-tokens}
+use Rattle.pair_steps.proofs.CoupleLaws.{Related, Followed, of-relations, of-terminals}
+use Rattle.pair_steps.proofs.OffsetSteps.{Asked, of-leaves}
+use Rattle.pair_steps.proofs.TokenSteps.{AskedTokens, of-tokens}
 
 -- 1. how nodes lie
 

@@ -6,8 +6,8 @@ use Prim.Native.Nat.{ℕ, _+_, _*_, _^_, _<_}
 use lib.ListN.{getD}
 use Rattle.sets.specs.Sets.{In}
 use Rattle.grammar.specs.Trees.{Rules}
-use Rattle.pairs.specs.Shapes.{Shape, ruleOfShape}
-use Rattle.pairs.specs.Relations.{Order, order, Relation}
+use Rattle.pairs.specs.Shapes.{ruleOfShape}
+use Rattle.pairs.specs.Relations.{Order, order}
 use Rattle.pairs.specs.Facts.{Fact, stand, against, sorts, behind, Might}
 use Rattle.pair_offsets.specs.declared.Frame.{Frame}
 use Rattle.pair_offsets.specs.Codes.{orderCode, bitOf}

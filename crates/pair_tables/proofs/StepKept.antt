@@ -1,8 +1,8 @@
 -- WHERE A STEP ADDS NOTHING, the table has what may be of its nodes over its frame.
-use mathlib.Core.Path.{_≡_, refl, sym, ap, ap₂, _∙_, subst}
+use mathlib.Core.Path.{_≡_, sym, ap, _∙_, subst}
 use mathlib.Core.Bool.{Bool, true}
 use mathlib.Core.List.{List}
-use Prim.Native.Nat.{ℕ, zero, suc, _+_, _*_, _/_, _%_, _^_, _≤_, _<_, min}
+use Prim.Native.Nat.{ℕ, _+_, _*_, _/_, _%_, _^_, _≤_, _<_, min}
 use native.Mathlib.Omega.{arith}
 use native.Mathlib.Nat.{div-div-eq-div-mul, mod-eq-of-lt, mul-le-mul-right}
 use lib.Bits.{bitAnd, and-le-r}
@@ -14,22 +14,21 @@ use Rattle.sets.proofs.Bits.{in-and}
 use Rattle.grammar.specs.Trees.{Rules}
 use Rattle.pairs.specs.Shapes.{Head}
 use Rattle.pairs.specs.Relations.{Order, less, equal, more, order, Offset}
-use Rattle.pairs.specs.Settings.{Corner, start₁, start₂, Point, setting, whole₁, whole₂, nextIn}
+use Rattle.pairs.specs.Settings.{Corner, start₁, start₂, Point, setting}
 use Rattle.pair_offsets.specs.declared.Frame.{Frame}
 use Rattle.pair_offsets.specs.Frames.{rankOf}
 use Rattle.pair_offsets.specs.Codes.{orderCode, offsetCode}
-use Rattle.pair_offsets.specs.Evens.{EvenSix}
 use Rattle.pair_offsets.specs.Lists.{Listing}
 use Rattle.pair_offsets.proofs.SayLaws.{offset-low}
 use Rattle.pair_steps.specs.declared.Node.{Node}
 use Rattle.pair_steps.specs.declared.Words.{Words}
 use Rattle.pair_steps.specs.Nodes.{NodeOf, shapeNumber}
-use Rattle.pair_steps.specs.Leaving.{Leaves, FoundWith, OffsetsFound}
-use Rattle.pair_steps.specs.Tokens.{TokensLeave, PointsHave, TokensFound}
+use Rattle.pair_steps.specs.Leaving.{Leaves, OffsetsFound}
+use Rattle.pair_steps.specs.Tokens.{PointsHave, TokensFound}
 use Rattle.pair_steps.specs.Tables.{LowTable, WordsOf, NextsOf}
 use Rattle.pair_steps.specs.Closing.{ToldBy, Kept}
 use Rattle.pair_steps.proofs.NarrowLaws.{fifteen}
-use Rattle.pair_steps.proofs.CompleteLaws.{Told, Found, found}
+use Rattle.pair_steps.proofs.CompleteLaws.{Found, found}
 use Rattle.pair_tables.specs.Stepping.{Put, relationBits, nextPlace, Stepped, no-offsets, no-terminals, puts}
 
 -- 1. bits moved up

@@ -1,6 +1,6 @@
 -- WHAT A STEP PUTS INTO A SOUND TABLE MAY BE.
 use mathlib.Core.Path.{_≡_, refl, sym, ap, _∙_, subst}
-use mathlib.Core.Logic.{_⊎_, inl, inr, ⊎-elim}
+use mathlib.Core.Logic.{_⊎_, inl, inr}
 use mathlib.Core.List.{List}
 use Prim.Native.Nat.{ℕ, suc, _+_, _-_, _*_, _/_, _%_, _^_, _≤_, _<_, min}
 use native.Mathlib.Omega.{arith}
@@ -23,7 +23,7 @@ use Rattle.pair_offsets.specs.Codes.{orderCode, offsetCode, offsetOf, bitOf}
 use Rattle.pair_offsets.proofs.SayLaws.{code-of, offset-low}
 use Rattle.pair_offsets.proofs.EvenLaws.{six-code}
 use lib.ListN.{getD}
-use Rattle.pair_offsets.specs.Evens.{sixOf, EvenSix}
+use Rattle.pair_offsets.specs.Evens.{sixOf}
 use Rattle.pair_offsets.specs.Lists.{Listing}
 use Rattle.pair_steps.specs.declared.Node.{Node}
 use Rattle.pair_steps.specs.declared.Words.{Words}

@@ -1,6 +1,6 @@
 -- THE THEOREM: a sheet that passes the test is clear at every length.
 use mathlib.Core.Path.{_≡_, refl, sym, ap, _∙_, subst}
-use mathlib.Core.List.{[], _∷_, _++_, List·Memᴰ}
+use mathlib.Core.List.{[], _++_, List·Memᴰ}
 use Prim.Native.Nat.{ℕ, _+_, _≤_, _<_}
 use native.Mathlib.Omega.{arith}
 use native.Mathlib.Decide.{decLt}
@@ -9,7 +9,7 @@ use Rattle.grammar.specs.declared.UnaryMark.the-variants as UnaryMark
 use Rattle.grammar.specs.Layout.{Word}
 use Rattle.grammar.specs.Trees.{Tree, unary, binary, root, word, Rules, Valid, valid-unary, valid-binary}
 use Rattle.grammar.specs.Trees.{Witness, TwoTrees}
-use Rattle.grammar.specs.Choices.{Takes, Choice, Same}
+use Rattle.grammar.specs.Choices.{Choice, Same}
 use Rattle.grammar.specs.Rows.{rowCount}
 use Rattle.grammar.specs.Candidates.{Rising, Wide}
 use Rattle.grammar.specs.Sweeps.{Clear}
@@ -22,13 +22,13 @@ use Rattle.places.proofs.PlaceLaws.{Lies, lies-left, lies-right, lies-whole}
 use Rattle.pairs.specs.Always.{AlwaysClear}
 use Rattle.pairs.specs.Survey.{at-top, none-at-top, Occurs}
 use Rattle.pairs.specs.Shapes.{Form, children, ruleOfShape}
-use Rattle.pairs.specs.Relations.{equal, order}
+use Rattle.pairs.specs.Relations.{equal}
 use Rattle.pairs.specs.Doubts.{OneSpan, Seen, seen-top, seen-child, TwoNodes, two-rules, two-cuts, two-empty}
 use Rattle.pairs.specs.Doubts.{PassesTest}
 use Rattle.pairs.proofs.LevelLaws.{no-mark, Stock, bare, full, stock, Kept, kept-below, kept-first, kept-second}
 use Rattle.pairs.proofs.OffsetLaws.{is-order, is-of}
-use Rattle.pairs.proofs.Nodes.{Piece, Meet, Spot, headOf, settingOf}
-use Rattle.pairs.proofs.NodeLaws.{piece, splitOf, Sprout, Heirs, sprout}
+use Rattle.pairs.proofs.Nodes.{Piece, Meet, headOf, settingOf}
+use Rattle.pairs.proofs.NodeLaws.{piece, Sprout, Heirs, sprout}
 use Rattle.pairs.proofs.PairLaws.{pair}
 
 module _ (g : Rules) (w : Word) (rise : Rising w) (wide : Wide w) where

@@ -1,5 +1,5 @@
 -- The pair lemma: two nodes of two trees over one rising sentence that share a token may stand so.
-use mathlib.Core.Path.{_≡_, subst}
+use mathlib.Core.Path.{subst}
 use mathlib.Core.List.{List, [], _∷_}
 use Prim.Native.Nat.{ℕ, zero, suc, _+_, _<_}
 use native.Mathlib.Omega.{arith}
@@ -13,7 +13,7 @@ use Rattle.pairs.specs.Settings.{whole₁, whole₂, sides₁, sides₂,
 use Rattle.pairs.specs.Facts.{Fact, stand, against, sorts, behind, Couple, withEach, crossed, couples}
 use Rattle.pairs.specs.Facts.{behindIn, Might, two-nodes, of-node, of-sorts, of-next}
 use Rattle.pairs.proofs.Every.{every-map}
-use Rattle.pairs.proofs.Nodes.{Piece, Meet, relation, nextAt, Spot, headOf, kids}
+use Rattle.pairs.proofs.Nodes.{Piece, Meet, relation, nextAt, Spot, headOf}
 use Rattle.pairs.proofs.Nodes.{point, offsets, terminals, settingOf, pieceOf}
 use Rattle.pairs.proofs.NodeLaws.{Grown, Rooted, topped}
 use Rattle.pairs.proofs.SettingLaws.{fit-in, each-side, meets}

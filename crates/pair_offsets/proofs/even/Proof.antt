@@ -3,9 +3,6 @@ use Rattle.sets.proofs.Says.{fails}
 use borrow.Author.Needs.{needs}
 use Rattle.pair_offsets.proofs.even.Statement.{statement}
 use Rattle.pair_offsets.proofs.even.Tie as tie
-use Rattle.pair_offsets.proofs.even.Reads as reads
-use Rattle.pair_offsets.proofs.even.Lts as lts
-use Rattle.pair_offsets.proofs.fine.Reads as fine-reads
 
 fine-requires : tie.Need-fine-requires
 fine-requires c κs = search needs

@@ -2,10 +2,6 @@ use Rattle.sets.proofs.Says.{fails, says-iff}
 use borrow.Author.Needs.{needs}
 use Rattle.pair_offsets.proofs.fine.Statement.{statement}
 use Rattle.pair_offsets.proofs.fine.Tie as tie
-use Rattle.pair_offsets.proofs.fine.Reads as reads
-use Rattle.pair_offsets.proofs.fine.Lts as lts
-use Rattle.pair_offsets.proofs.sames.Reads as sames-reads
-use Rattle.pair_offsets.proofs.tris.Reads as tris-reads
 
 sames-requires : tie.Need-sames-requires
 sames-requires c κs = search needs

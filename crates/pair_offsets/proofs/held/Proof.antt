@@ -2,9 +2,6 @@ use Rattle.sets.proofs.Says.{fails, says-iff}
 use borrow.Author.Needs.{needs}
 use Rattle.pair_offsets.proofs.held.Statement.{statement}
 use Rattle.pair_offsets.proofs.held.Tie as tie
-use Rattle.pair_offsets.proofs.held.Reads as reads
-use Rattle.pair_offsets.proofs.held.Lts as lts
-use Rattle.pair_offsets.proofs.member.Reads as member-reads
 
 member-requires : tie.Need-member-requires
 member-requires c κs = search needs

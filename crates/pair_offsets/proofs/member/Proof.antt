@@ -2,8 +2,6 @@ use Rattle.sets.proofs.Says.{says-iff, says-eqb}
 use borrow.Author.Needs.{needs}
 use Rattle.pair_offsets.proofs.member.Statement.{statement}
 use Rattle.pair_offsets.proofs.member.Tie as tie
-use Rattle.pair_offsets.proofs.member.Reads as reads
-use Rattle.pair_offsets.proofs.member.Lts as lts
 
 shr-result : tie.Need-shr-result
 shr-result c = search needs

@@ -2,9 +2,6 @@ use Rattle.pair_offsets.proofs.ListLaws.{pushed, passed}
 use borrow.Author.Needs.{needs}
 use Rattle.pair_offsets.proofs.push_even.Statement.{statement}
 use Rattle.pair_offsets.proofs.push_even.Tie as tie
-use Rattle.pair_offsets.proofs.push_even.Reads as reads
-use Rattle.pair_offsets.proofs.push_even.Lts as lts
-use Rattle.pair_offsets.proofs.even.Reads as even-reads
 
 even-requires : tie.Need-even-requires
 even-requires c κs = search needs

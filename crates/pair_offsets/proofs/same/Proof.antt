@@ -2,8 +2,6 @@ use native.Mathlib.Omega.{arith}
 use Rattle.pair_offsets.proofs.SayLaws.{same-one, same-off, same-two}
 use Rattle.pair_offsets.proofs.same.Statement.{statement}
 use Rattle.pair_offsets.proofs.same.Tie as tie
-use Rattle.pair_offsets.proofs.same.Reads as reads
-use Rattle.pair_offsets.proofs.same.Lts as lts
 
 returns : tie.Need-returns
 returns c = same-one _ _ _ _ _ (omega (arith, c .before .if1 .taken)) (omega (arith, c .if2 .taken))

@@ -2,9 +2,6 @@ use Rattle.sets.proofs.Says.{fails, says-iff}
 use borrow.Author.Needs.{needs}
 use Rattle.pair_offsets.proofs.sames.Statement.{statement}
 use Rattle.pair_offsets.proofs.sames.Tie as tie
-use Rattle.pair_offsets.proofs.sames.Reads as reads
-use Rattle.pair_offsets.proofs.sames.Lts as lts
-use Rattle.pair_offsets.proofs.same.Reads as same-reads
 
 same-requires : tie.Need-same-requires
 same-requires c κs = search needs

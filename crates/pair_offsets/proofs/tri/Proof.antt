@@ -2,8 +2,6 @@ use Rattle.pair_offsets.proofs.SayLaws.{tri-says}
 use borrow.Author.Needs.{needs}
 use Rattle.pair_offsets.proofs.tri.Statement.{statement}
 use Rattle.pair_offsets.proofs.tri.Tie as tie
-use Rattle.pair_offsets.proofs.tri.Reads as reads
-use Rattle.pair_offsets.proofs.tri.Lts as lts
 
 mul-at : tie.Need-mul-at
 mul-at c = search needs

@@ -3,9 +3,6 @@ use native.Mathlib.Omega.{arith}
 use borrow.Author.Needs.{needs}
 use Rattle.pair_offsets.proofs.tris.Statement.{statement}
 use Rattle.pair_offsets.proofs.tris.Tie as tie
-use Rattle.pair_offsets.proofs.tris.Reads as reads
-use Rattle.pair_offsets.proofs.tris.Lts as lts
-use Rattle.pair_offsets.proofs.tri.Reads as tri-reads
 
 tri-requires : tie.Need-tri-requires
 tri-requires c κs = search needs

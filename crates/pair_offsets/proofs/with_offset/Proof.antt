@@ -2,10 +2,6 @@ use Rattle.pair_offsets.proofs.ListLaws.{added, not-added}
 use borrow.Author.Needs.{needs}
 use Rattle.pair_offsets.proofs.with_offset.Statement.{statement}
 use Rattle.pair_offsets.proofs.with_offset.Tie as tie
-use Rattle.pair_offsets.proofs.with_offset.Reads as reads
-use Rattle.pair_offsets.proofs.with_offset.Lts as lts
-use Rattle.pair_offsets.proofs.held.Reads as held-reads
-use Rattle.sets.proofs.with.Reads as with-reads
 
 held-requires : tie.Need-held-requires
 held-requires c κs = search needs

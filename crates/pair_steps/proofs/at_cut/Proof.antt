@@ -3,9 +3,6 @@ use native.Mathlib.Omega.{arith}
 use borrow.Author.Needs.{needs}
 use Rattle.pair_steps.proofs.at_cut.Statement.{statement}
 use Rattle.pair_steps.proofs.at_cut.Tie as tie
-use Rattle.pair_steps.proofs.at_cut.Reads as reads
-use Rattle.pair_steps.proofs.at_cut.Lts as lts
-use Rattle.pair_steps.proofs.at_place.Reads as at-place-reads
 
 returns : tie.Need-returns
 returns c = narrow-none _ _ (λ k p q. absurd (omega (arith, p, c .if1 .taken)))

@@ -3,9 +3,6 @@ use native.Mathlib.Omega.{arith}
 use borrow.Author.Needs.{needs}
 use Rattle.pair_steps.proofs.at_stop.Statement.{statement}
 use Rattle.pair_steps.proofs.at_stop.Tie as tie
-use Rattle.pair_steps.proofs.at_stop.Reads as reads
-use Rattle.pair_steps.proofs.at_stop.Lts as lts
-use Rattle.pair_steps.proofs.at_place.Reads as at-place-reads
 
 at-place-requires : tie.Need-at-place-requires
 at-place-requires c κs = search needs

@@ -1,10 +1,6 @@
 use borrow.Author.Needs.{needs}
 use Rattle.pair_steps.proofs.begins_left.Statement.{statement}
 use Rattle.pair_steps.proofs.begins_left.Tie as tie
-use Rattle.pair_steps.proofs.begins_left.Reads as reads
-use Rattle.pair_steps.proofs.begins_left.Lts as lts
-use Rattle.pair_steps.proofs.at_cut.Reads as at-cut-reads
-use Rattle.pair_steps.proofs.at_place.Reads as at-place-reads
 
 at-place-requires : tie.Need-at-place-requires
 at-place-requires c κs = search needs

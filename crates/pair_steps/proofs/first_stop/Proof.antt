@@ -1,12 +1,8 @@
-use Rattle.pair_steps.specs.Leaving.{firstStop}
 use Rattle.pair_steps.proofs.NarrowLaws.{first-more}
-use mathlib.Core.Path.{_≡_, refl, sym, ap}
 use native.Mathlib.Omega.{arith}
 use borrow.Author.Needs.{needs}
 use Rattle.pair_steps.proofs.first_stop.Statement.{statement}
 use Rattle.pair_steps.proofs.first_stop.Tie as tie
-use Rattle.pair_steps.proofs.first_stop.Reads as reads
-use Rattle.pair_steps.proofs.first_stop.Lts as lts
 
 returns : tie.Need-returns
 returns c = search needs

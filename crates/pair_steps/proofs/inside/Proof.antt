@@ -1,10 +1,7 @@
 use Rattle.pair_steps.proofs.NarrowLaws.{narrow-and, narrow-none}
 use native.Mathlib.Omega.{arith}
-use borrow.Author.Needs.{needs}
 use Rattle.pair_steps.proofs.inside.Statement.{statement}
 use Rattle.pair_steps.proofs.inside.Tie as tie
-use Rattle.pair_steps.proofs.inside.Reads as reads
-use Rattle.pair_steps.proofs.inside.Lts as lts
 
 returns : tie.Need-returns
 returns c =

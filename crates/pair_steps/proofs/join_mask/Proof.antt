@@ -2,8 +2,6 @@ use Rattle.pair_steps.proofs.NarrowLaws.{all-mask, join-align, join-ind
 use borrow.Author.Needs.{needs}
 use Rattle.pair_steps.proofs.join_mask.Statement.{statement}
 use Rattle.pair_steps.proofs.join_mask.Tie as tie
-use Rattle.pair_steps.proofs.join_mask.Reads as reads
-use Rattle.pair_steps.proofs.join_mask.Lts as lts
 
 enum-told : tie.Need-enum-told
 enum-told c = search needs

@@ -2,8 +2,6 @@ use Rattle.pair_steps.proofs.NarrowLaws.{all-mask, keep-none, keep-offs
 use borrow.Author.Needs.{needs}
 use Rattle.pair_steps.proofs.keep_mask.Statement.{statement}
 use Rattle.pair_steps.proofs.keep_mask.Tie as tie
-use Rattle.pair_steps.proofs.keep_mask.Reads as reads
-use Rattle.pair_steps.proofs.keep_mask.Lts as lts
 
 enum-told : tie.Need-enum-told
 enum-told c = search needs

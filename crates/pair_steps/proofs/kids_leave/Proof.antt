@@ -1,9 +1,6 @@
 use borrow.Author.Needs.{needs}
 use Rattle.pair_steps.proofs.kids_leave.Statement.{statement}
 use Rattle.pair_steps.proofs.kids_leave.Tie as tie
-use Rattle.pair_steps.proofs.kids_leave.Reads as reads
-use Rattle.pair_steps.proofs.kids_leave.Lts as lts
-use Rattle.pair_steps.proofs.at_stop.Reads as at-stop-reads
 
 at-stop-requires : tie.Need-at-stop-requires
 at-stop-requires c κs = search needs

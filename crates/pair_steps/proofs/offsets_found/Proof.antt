@@ -2,16 +2,6 @@ use Rattle.pair_steps.proofs.FoundLaws.{none-ac, none-an, none-mc, foun
 use borrow.Author.Needs.{needs}
 use Rattle.pair_steps.proofs.offsets_found.Statement.{statement}
 use Rattle.pair_steps.proofs.offsets_found.Tie as tie
-use Rattle.pair_steps.proofs.offsets_found.Reads as reads
-use Rattle.pair_steps.proofs.offsets_found.Lts as lts
-use Rattle.pair_offsets.proofs.offsets_left.Reads as offsets-left-reads
-use Rattle.pair_steps.proofs.cut_start_left.Reads as cut-start-left-reads
-use Rattle.pair_steps.proofs.cuts_left.Reads as cuts-left-reads
-use Rattle.pair_steps.proofs.first_stop.Reads as first-stop-reads
-use Rattle.pair_steps.proofs.own_left.Reads as own-left-reads
-use Rattle.pair_steps.proofs.second_stop.Reads as second-stop-reads
-use Rattle.pair_steps.proofs.start_cut_left.Reads as start-cut-left-reads
-use Rattle.pair_steps.proofs.starts_left.Reads as starts-left-reads
 
 first-stop-requires : tie.Need-first-stop-requires
 first-stop-requires c κs = search needs

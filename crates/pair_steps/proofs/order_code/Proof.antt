@@ -2,8 +2,6 @@ use Rattle.pair_steps.proofs.NarrowLaws.{code-less, code-more, code-equ
 use native.Mathlib.Omega.{arith}
 use Rattle.pair_steps.proofs.order_code.Statement.{statement}
 use Rattle.pair_steps.proofs.order_code.Tie as tie
-use Rattle.pair_steps.proofs.order_code.Reads as reads
-use Rattle.pair_steps.proofs.order_code.Lts as lts
 
 returns : tie.Need-returns
 returns c = code-less _ _ (omega (arith, c .if1 .taken))

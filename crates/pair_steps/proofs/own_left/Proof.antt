@@ -2,10 +2,6 @@ use Rattle.pair_steps.proofs.NarrowLaws.{narrow-and, narrow-then, narro
 use borrow.Author.Needs.{needs}
 use Rattle.pair_steps.proofs.own_left.Statement.{statement}
 use Rattle.pair_steps.proofs.own_left.Tie as tie
-use Rattle.pair_steps.proofs.own_left.Reads as reads
-use Rattle.pair_steps.proofs.own_left.Lts as lts
-use Rattle.pair_steps.proofs.ahead.Reads as ahead-reads
-use Rattle.pair_steps.proofs.inside.Reads as inside-reads
 
 inside-requires : tie.Need-inside-requires
 inside-requires c κs = search needs

@@ -3,9 +3,6 @@ use native.Mathlib.Omega.{arith}
 use borrow.Author.Needs.{needs}
 use Rattle.pair_steps.proofs.pair.Statement.{statement}
 use Rattle.pair_steps.proofs.pair.Tie as tie
-use Rattle.pair_steps.proofs.pair.Reads as reads
-use Rattle.pair_steps.proofs.pair.Lts as lts
-use Rattle.pair_steps.proofs.order_code.Reads as order-code-reads
 
 order-code-requires : tie.Need-order-code-requires
 order-code-requires c κs = search needs

@@ -2,8 +2,6 @@ use Rattle.pair_steps.proofs.NarrowLaws.{second-less, second-more}
 use native.Mathlib.Omega.{arith}
 use Rattle.pair_steps.proofs.second_stop.Statement.{statement}
 use Rattle.pair_steps.proofs.second_stop.Tie as tie
-use Rattle.pair_steps.proofs.second_stop.Reads as reads
-use Rattle.pair_steps.proofs.second_stop.Lts as lts
 
 returns : tie.Need-returns
 returns c = let a = c .before .args in second-less (a .kids) (a .stop) (omega (arith, c .if1 .taken))

@@ -2,13 +2,6 @@ use Rattle.pair_steps.proofs.TokenLaws.{tokens-narrow}
 use borrow.Author.Needs.{needs}
 use Rattle.pair_steps.proofs.tokens_at.Statement.{statement}
 use Rattle.pair_steps.proofs.tokens_at.Tie as tie
-use Rattle.pair_steps.proofs.tokens_at.Reads as reads
-use Rattle.pair_steps.proofs.tokens_at.Lts as lts
-use Rattle.pair_steps.proofs.begins_left.Reads as begins-left-reads
-use Rattle.pair_steps.proofs.first_stop.Reads as first-stop-reads
-use Rattle.pair_steps.proofs.kids_leave.Reads as kids-leave-reads
-use Rattle.pair_steps.proofs.nodes_leave.Reads as nodes-leave-reads
-use Rattle.pair_steps.proofs.second_stop.Reads as second-stop-reads
 
 first-stop-requires : tie.Need-first-stop-requires
 first-stop-requires c κs = search needs

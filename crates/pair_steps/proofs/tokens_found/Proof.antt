@@ -3,9 +3,6 @@ use native.Mathlib.Omega.{arith}
 use borrow.Author.Needs.{needs}
 use Rattle.pair_steps.proofs.tokens_found.Statement.{statement}
 use Rattle.pair_steps.proofs.tokens_found.Tie as tie
-use Rattle.pair_steps.proofs.tokens_found.Reads as reads
-use Rattle.pair_steps.proofs.tokens_found.Lts as lts
-use Rattle.pair_steps.proofs.tokens_at.Reads as tokens-at-reads
 
 tokens-at-requires : tie.Need-tokens-at-requires
 tokens-at-requires c κs = search needs

@@ -2,8 +2,6 @@ use Rattle.pair_tables.proofs.TableLaws.{joined}
 use borrow.Author.Needs.{needs}
 use Rattle.pair_tables.proofs.join.Statement.{statement}
 use Rattle.pair_tables.proofs.join.Tie as tie
-use Rattle.pair_tables.proofs.join.Reads as reads
-use Rattle.pair_tables.proofs.join.Lts as lts
 
 mul-old : tie.Need-mul-old
 mul-old c = search needs

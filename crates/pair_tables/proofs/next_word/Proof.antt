@@ -2,9 +2,6 @@ use mathlib.Core.Path.{refl}
 use borrow.Author.Needs.{needs}
 use Rattle.pair_tables.proofs.next_word.Statement.{statement}
 use Rattle.pair_tables.proofs.next_word.Tie as tie
-use Rattle.pair_tables.proofs.next_word.Reads as reads
-use Rattle.pair_tables.proofs.next_word.Lts as lts
-use Rattle.pair_steps.proofs.order_code.Reads as order-code-reads
 
 order-code-requires : tie.Need-order-code-requires
 order-code-requires c κs = search needs

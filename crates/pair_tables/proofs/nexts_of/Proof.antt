@@ -2,11 +2,6 @@ use Rattle.pair_tables.proofs.TableLaws.{nexts-by}
 use borrow.Author.Needs.{needs}
 use Rattle.pair_tables.proofs.nexts_of.Statement.{statement}
 use Rattle.pair_tables.proofs.nexts_of.Tie as tie
-use Rattle.pair_tables.proofs.nexts_of.Reads as reads
-use Rattle.pair_tables.proofs.nexts_of.Lts as lts
-use Rattle.pair_steps.proofs.first_stop.Reads as first-stop-reads
-use Rattle.pair_steps.proofs.second_stop.Reads as second-stop-reads
-use Rattle.pair_tables.proofs.next_word.Reads as next-word-reads
 
 first-stop-requires : tie.Need-first-stop-requires
 first-stop-requires c κs = search needs

@@ -4,9 +4,6 @@ use Rattle.pair_tables.proofs.TableLaws.{put-all}
 use borrow.Author.Needs.{needs}
 use Rattle.pair_tables.proofs.put.Statement.{statement}
 use Rattle.pair_tables.proofs.put.Tie as tie
-use Rattle.pair_tables.proofs.put.Reads as reads
-use Rattle.pair_tables.proofs.put.Lts as lts
-use Rattle.pair_tables.proofs.join.Reads as join-reads
 
 join-requires : tie.Need-join-requires
 join-requires c κs = search needs

@@ -2,9 +2,6 @@ use mathlib.Core.Path.{refl}
 use borrow.Author.Needs.{needs}
 use Rattle.pair_tables.proofs.relation_bits.Statement.{statement}
 use Rattle.pair_tables.proofs.relation_bits.Tie as tie
-use Rattle.pair_tables.proofs.relation_bits.Reads as reads
-use Rattle.pair_tables.proofs.relation_bits.Lts as lts
-use Rattle.pair_steps.proofs.order_code.Reads as order-code-reads
 
 order-code-requires : tie.Need-order-code-requires
 order-code-requires c κs = search needs

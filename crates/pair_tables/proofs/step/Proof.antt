@@ -3,15 +3,6 @@ use native.Mathlib.Omega.{arith}
 use borrow.Author.Needs.{needs}
 use Rattle.pair_tables.proofs.step.Statement.{statement}
 use Rattle.pair_tables.proofs.step.Tie as tie
-use Rattle.pair_tables.proofs.step.Reads as reads
-use Rattle.pair_tables.proofs.step.Lts as lts
-use Rattle.pair_steps.proofs.offsets_found.Reads as offsets-found-reads
-use Rattle.pair_steps.proofs.tokens_found.Reads as tokens-found-reads
-use Rattle.pair_tables.proofs.next_place.Reads as next-place-reads
-use Rattle.pair_tables.proofs.nexts_of.Reads as nexts-of-reads
-use Rattle.pair_tables.proofs.put.Reads as put-reads
-use Rattle.pair_tables.proofs.relation_bits.Reads as relation-bits-reads
-use Rattle.pair_tables.proofs.words_of.Reads as words-of-reads
 
 words-of-requires : tie.Need-words-of-requires
 words-of-requires c κs = search needs
