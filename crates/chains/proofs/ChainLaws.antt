@@ -27,7 +27,7 @@ use Rattle.spans.specs.Changes.{WrotePair}
 use Rattle.tables.specs.Tables.{rule}
 use Rattle.cuts.specs.declared.Pair.{Pair}
 use Rattle.cuts.specs.Cuts.{wordsOf}
-use Rattle.cuts.specs.Closure.{Links, Follows, by-parts, by-link, Doubles, both-parts, part-and-link, both-links, link-below, link-beside, Entry, Just, Never}
+use Rattle.cuts.specs.Closure.{Links, Follows, by-parts, by-link, Doubles, both-parts, part-and-link, both-links, link-below, link-beside, ChainEntry, Just, Never}
 use Rattle.links.specs.LinkRules.{Idle, Thinned, thin-none, thin-keep, thin-drop, LinkRules}
 use Rattle.chains.specs.SpanLinks.{Over, Beside, LinkAt, spanLinks}
 use Rattle.chains.specs.Chains.{rank, HoldsAt, Leveled, MarksAt, Before, Upto, Chains, Under, Unders, Ranked, Unranked, Copied}
@@ -127,7 +127,7 @@ module _ (k : Links) (B : ℕ) (out : (A i l : ℕ) → k .link A i l B → ⊥)
   no-two {A} (link-below i l C x f d) = out A i l (subst (k .link A i l) (itself f) x)
   no-two {A} (link-beside i l C x f d) = out A i l (subst (k .link A i l) (itself f) x)
 
-  pub entry-itself : Entry k B (record { one = insert 0 B; two = 0 })
+  pub entry-itself : ChainEntry k B (record { one = insert 0 B; two = 0 })
   entry-itself = record {
     one = λ A. (λ x. by-parts (⊎-elim (λ z. absurd (in-zero A z)) (λ z. z) (insert-only 0 B A x)), λ f. subst (In (insert 0 B)) (sym (itself f)) (insert-same 0 B));
     two = λ A. (λ x. absurd (in-zero A x), λ d. absurd (no-two d));
@@ -137,7 +137,7 @@ module _ {g w : Grammar} (f : Formed g) (e : Pair) (v : LinkRules (e .one) g w) 
   thinned : Thinned (e .one) (rules g) (rules w) (length (rules g)) (w .count)
   thinned = subst (λ (x : ℕ). Thinned (e .one) (rules g) (rules w) x (w .count)) (sym (f .whole)) (v .thinned)
 
-  pub entry-alone : {set : ℕ} → Unders (rules w) (w .count) set → (holds : UnaryMark → Type 0) (B : ℕ) → (In set B → ⊥) → Entry (spanLinks (rules g) holds (e .one) (e .two)) B (record { one = insert 0 B; two = 0 })
+  pub entry-alone : {set : ℕ} → Unders (rules w) (w .count) set → (holds : UnaryMark → Type 0) (B : ℕ) → (In set B → ⊥) → ChainEntry (spanLinks (rules g) holds (e .one) (e .two)) B (record { one = insert 0 B; two = 0 })
   entry-alone {set} u holds B out = entry-itself (spanLinks (rules g) holds (e .one) (e .two)) B away
     where
       away : (A i l : ℕ) → LinkAt (rules g) holds (e .one) A i l B → ⊥
@@ -146,7 +146,7 @@ module _ {g w : Grammar} (f : Formed g) (e : Pair) (v : LinkRules (e .one) g w) 
           out (u .all (z .0) (z .1) B (over-under holds (e .one) (rule (rules w) (z .0) .clause) l B (subst (λ (c : Clause). Over holds (e .one) c l B) (sym (z .2)) (x .over))))
 
   -- no mark tells the level l from the one below
-  pub entry-below : (l : ℕ) → Unranked (l + 1) (rules w) (w .count) → (B : ℕ) (u : Pair) → Entry (spanLinks (rules g) (HoldsAt l) (e .one) (e .two)) B u → Entry (spanLinks (rules g) (HoldsAt (l + 1)) (e .one) (e .two)) B u
+  pub entry-below : (l : ℕ) → Unranked (l + 1) (rules w) (w .count) → (B : ℕ) (u : Pair) → ChainEntry (spanLinks (rules g) (HoldsAt l) (e .one) (e .two)) B u → ChainEntry (spanLinks (rules g) (HoldsAt (l + 1)) (e .one) (e .two)) B u
   entry-below l n = entry-as (rules g) (e .one) (e .two) (HoldsAt l) (HoldsAt (l + 1)) same
     where
       unary : (c : Clause) → Idle (e .one) c → ((C : ℕ) × (m : UnaryMark) × (c ≡ Clause.Unary C m)) → ⊥
@@ -164,7 +164,7 @@ module _ {g w : Grammar} (f : Formed g) (e : Pair) (v : LinkRules (e .one) g w) 
 -- ---- one entry after the other
 
 module _ (g : Rules) (e : Pair) {table table′ : List ℕ} {l b : ℕ} (hl : l < 4) (hb : b < 64) (u : Pair) (w : WrotePair table table′ (64 * l + b) (u .one) (u .two)) (t : Upto g e table l b)
-    (x : Entry (spanLinks g (HoldsAt l) (e .one) (e .two)) b u) where
+    (x : ChainEntry (spanLinks g (HoldsAt l) (e .one) (e .two)) b u) where
   other : (i B : ℕ) → B < 64 → Before l b i B → (64 * i + B ≡ 64 * l + b → ⊥)
   other i B h (inl z) q = omega arith
   other i B h (inr z) q = omega (arith, z .0, z .1)
@@ -181,10 +181,10 @@ module _ (g : Rules) (e : Pair) {table table′ : List ℕ} {l b : ℕ} (hl : l 
       mine : wordsOf table′ (128 * l) b ≡ u
       mine = λ i. record { one = (ap (λ (q : ℕ). getD table′ q 0) (let z : 128 * l + 2 * b ≡ 2 * (64 * l + b) = omega arith in z) ∙ w .first) i; two = (ap (λ (q : ℕ). getD table′ q 0) (let z : 128 * l + 2 * b + 1 ≡ 2 * (64 * l + b) + 1 = omega arith in z) ∙ w .second) i }
 
-      go : (i B : ℕ) → i < 4 → B < 64 → Before l (b + 1) i B → Dec (i ≡ l) → Dec (B ≡ b) → Entry (spanLinks g (HoldsAt i) (e .one) (e .two)) B (wordsOf table′ (128 * i) B)
-      go i B h k z (yes p) (yes q) = rw (p, q) (subst (Entry (spanLinks g (HoldsAt l) (e .one) (e .two)) b) (sym mine) x)
-      go i B h k z (yes p) (no q) = let y : Before l b i B = inr (p, ⊎-elim (λ z. omega arith) (λ z. omega (arith, z .1)) z) in subst (Entry (spanLinks g (HoldsAt i) (e .one) (e .two)) B) (sym (same-words i B k y)) (t .entry i B h k y)
-      go i B h k z (no p) q = let y : Before l b i B = inl (⊎-elim (λ z. z) (λ z. absurd (p (z .0))) z) in subst (Entry (spanLinks g (HoldsAt i) (e .one) (e .two)) B) (sym (same-words i B k y)) (t .entry i B h k y)
+      go : (i B : ℕ) → i < 4 → B < 64 → Before l (b + 1) i B → Dec (i ≡ l) → Dec (B ≡ b) → ChainEntry (spanLinks g (HoldsAt i) (e .one) (e .two)) B (wordsOf table′ (128 * i) B)
+      go i B h k z (yes p) (yes q) = rw (p, q) (subst (ChainEntry (spanLinks g (HoldsAt l) (e .one) (e .two)) b) (sym mine) x)
+      go i B h k z (yes p) (no q) = let y : Before l b i B = inr (p, ⊎-elim (λ z. omega arith) (λ z. omega (arith, z .1)) z) in subst (ChainEntry (spanLinks g (HoldsAt i) (e .one) (e .two)) B) (sym (same-words i B k y)) (t .entry i B h k y)
+      go i B h k z (no p) q = let y : Before l b i B = inl (⊎-elim (λ z. z) (λ z. absurd (p (z .0))) z) in subst (ChainEntry (spanLinks g (HoldsAt i) (e .one) (e .two)) B) (sym (same-words i B k y)) (t .entry i B h k y)
 
 pub upto-none : (g : Rules) (e : Pair) (table : List ℕ) → length table ≡ 512 → Upto g e table 0 0
 upto-none g e table s = record { size = s; entry = λ i B h k z. ⊎-elim (λ y. absurd (omega arith)) (λ y. absurd (omega (arith, y .1))) z }
@@ -221,8 +221,8 @@ module _ {g w : Grammar} (f : Formed g) (e : Pair) (v : LinkRules (e .one) g w) 
   pub upto-copied : {ws ws′ : List ℕ} (l : ℕ) → l < 3 → Unranked (l + 1) (rules w) (w .count) → Upto (rules g) e ws (l + 1) 0 → Copied ws ws′ l 128 → Upto (rules g) e ws′ (l + 1) 64
   upto-copied {ws} {ws′} l h n t c = record { size = c .size ∙ t .size; entry = λ i B a k z. go i B a k z (ℕ-discrete i (l + 1)) }
     where
-      go : (i B : ℕ) → i < 4 → B < 64 → Before (l + 1) 64 i B → Dec (i ≡ l + 1) → Entry (spanLinks (rules g) (HoldsAt i) (e .one) (e .two)) B (wordsOf ws′ (128 * i) B)
-      go i B a k z (yes y) = rw y (subst (Entry (spanLinks (rules g) (HoldsAt (l + 1)) (e .one) (e .two)) B) (λ x. record { one = first x; two = second x }) (entry-below f e v l n B (wordsOf ws (128 * l) B) (t .entry l B (omega arith) k (inl (omega arith)))))
+      go : (i B : ℕ) → i < 4 → B < 64 → Before (l + 1) 64 i B → Dec (i ≡ l + 1) → ChainEntry (spanLinks (rules g) (HoldsAt i) (e .one) (e .two)) B (wordsOf ws′ (128 * i) B)
+      go i B a k z (yes y) = rw y (subst (ChainEntry (spanLinks (rules g) (HoldsAt (l + 1)) (e .one) (e .two)) B) (λ x. record { one = first x; two = second x }) (entry-below f e v l n B (wordsOf ws (128 * l) B) (t .entry l B (omega arith) k (inl (omega arith)))))
         where
           first : getD ws (128 * l + 2 * B) 0 ≡ getD ws′ (128 * (l + 1) + 2 * B) 0
           first = sym (ap (λ (q : ℕ). getD ws′ q 0) (let y : 128 * (l + 1) + 2 * B ≡ 128 * l + 2 * B + 128 = omega arith in y) ∙ c .here (2 * B) (omega arith))
@@ -231,7 +231,7 @@ module _ {g w : Grammar} (f : Formed g) (e : Pair) (v : LinkRules (e .one) g w) 
           second = sym (ap (λ (q : ℕ). getD ws′ q 0) (let y : 128 * (l + 1) + 2 * B + 1 ≡ 128 * l + (2 * B + 1) + 128 = omega arith in y) ∙ c .here (2 * B + 1) (omega arith) ∙ ap (λ (q : ℕ). getD ws q 0) (let y : 128 * l + (2 * B + 1) ≡ 128 * l + 2 * B + 1 = omega arith in y))
       go i B a k z (no y) =
           let b : i < l + 1 = ⊎-elim (λ x. x) (λ x. absurd (y (x .0))) z in
-          subst (Entry (spanLinks (rules g) (HoldsAt i) (e .one) (e .two)) B) (λ x. record { one = sym (c .else (128 * i + 2 * B) (omega arith)) x; two = sym (c .else (128 * i + 2 * B + 1) (omega arith)) x }) (t .entry i B a k (inl b))
+          subst (ChainEntry (spanLinks (rules g) (HoldsAt i) (e .one) (e .two)) B) (λ x. record { one = sym (c .else (128 * i + 2 * B) (omega arith)) x; two = sym (c .else (128 * i + 2 * B + 1) (omega arith)) x }) (t .entry i B a k (inl b))
 
 -- ---- a pair of the empty word that has the same members
 

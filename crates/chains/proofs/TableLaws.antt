@@ -14,7 +14,7 @@ use Rattle.marks.specs.declared.SpanMarks.{SpanMarks}
 use Rattle.marks.specs.Marked.{UnaryBy}
 use Rattle.tables.specs.Tables.{rule}
 use Rattle.cuts.specs.declared.Pair.{Pair}
-use Rattle.cuts.specs.Closure.{Follows, Doubles, Closure, Entry, Just, Never, Unites}
+use Rattle.cuts.specs.Closure.{Follows, Doubles, Closure, ChainEntry, Just, Never, Unites}
 use Rattle.cuts.proofs.ClosureLaws.{follows-as, doubles-as, closure-entry, table-closure}
 use Rattle.joins.specs.declared.Tally.{Tally}
 use Rattle.joins.specs.Passes.{Saturated}
@@ -34,7 +34,7 @@ over-as p q one (Clause.Binary C D m) f (suc (suc l)) B o = o
 
 module _ (g : Rules) (one two : ℕ) where
   -- an entry goes by the marks of unary rules that hold
-  pub entry-as : (p q : UnaryMark → Type 0) → ((i : ℕ) → i < length g → (C : ℕ) (m : UnaryMark) → rule g i .clause ≡ Clause.Unary C m → p m ↔ q m) → (B : ℕ) (u : Pair) → Entry (spanLinks g p one two) B u → Entry (spanLinks g q one two) B u
+  pub entry-as : (p q : UnaryMark → Type 0) → ((i : ℕ) → i < length g → (C : ℕ) (m : UnaryMark) → rule g i .clause ≡ Clause.Unary C m → p m ↔ q m) → (B : ℕ) (u : Pair) → ChainEntry (spanLinks g p one two) B u → ChainEntry (spanLinks g q one two) B u
   entry-as p q f B u e = record {
     one = λ A. (λ i. there (e .one A .0 i), λ x. e .one A .1 (back x));
     two = λ A. (λ i. there₂ (e .two A .0 i), λ x. e .two A .1 (back₂ x));
@@ -60,11 +60,11 @@ module _ (g : Rules) (one two : ℕ) where
 
   -- passes from B alone make its entry: k are marks of the kind, and any length will do
   pub passes-entry : (k : SpanMarks) (len : ℕ) → 0 < len → (B : ℕ) (t : Tally) → Saturated one two k len g (tallied (record { one = insert 0 B; two = 0 })) t
-      → Entry (spanLinks g (UnaryBy k) one two) B (record { one = t .one; two = t .two })
+      → ChainEntry (spanLinks g (UnaryBy k) one two) B (record { one = t .one; two = t .two })
   passes-entry k len pos B t s =
       closure-entry (spanLinks g (UnaryBy k) one two) B (record { one = t .one; two = t .two }) (passes-closure g k one two len pos (record { one = insert 0 B; two = 0 }) t s)
 
   -- over a span with the marks k, by the table of a kind whose marks hold alike
-  pub table-span : (holds : UnaryMark → Type 0) (k : SpanMarks) → ((m : UnaryMark) → holds m ↔ UnaryBy k m) → (up : ℕ → Pair) (p t : Pair) → ((B : ℕ) → In (p .one) B → Entry (spanLinks g holds one two) B (up B))
+  pub table-span : (holds : UnaryMark → Type 0) (k : SpanMarks) → ((m : UnaryMark) → holds m ↔ UnaryBy k m) → (up : ℕ → Pair) (p t : Pair) → ((B : ℕ) → In (p .one) B → ChainEntry (spanLinks g holds one two) B (up B))
       → ((A : ℕ) → In (p .two) A → In (p .one) A) → Unites up (In (p .one)) (In (p .two)) t → Closure (spanLinks g (UnaryBy k) one two) p t
   table-span holds k f up p t e sub u = table-closure (spanLinks g (UnaryBy k) one two) up p t (λ B i. entry-as holds (UnaryBy k) (λ i h C m z. f m) B (up B) (e B i)) sub u

@@ -15,7 +15,7 @@ use Rattle.marks.specs.Marked.{UnaryBy}
 use Rattle.tables.specs.Tables.{rule}
 use Rattle.cuts.specs.declared.Pair.{Pair}
 use Rattle.cuts.specs.Cuts.{wordsOf}
-use Rattle.cuts.specs.Closure.{Entry}
+use Rattle.cuts.specs.Closure.{ChainEntry}
 use Rattle.joins.specs.declared.Tally.{Tally}
 use Rattle.chains.specs.SpanLinks.{spanLinks}
 
@@ -50,12 +50,12 @@ Before l b i B = (i < l) ⊎ ((i ≡ l) × (B < b))
 -- the table has the entries of the places passed; e is the pair of the empty word
 pub record Upto (g : Rules) (e : Pair) (table : List ℕ) (l b : ℕ) : Type 0 where
   pub size : length table ≡ 512
-  pub entry : (i B : ℕ) → i < 4 → B < 64 → Before l b i B → Entry (spanLinks g (HoldsAt i) (e .one) (e .two)) B (wordsOf table (128 * i) B)
+  pub entry : (i B : ℕ) → i < 4 → B < 64 → Before l b i B → ChainEntry (spanLinks g (HoldsAt i) (e .one) (e .two)) B (wordsOf table (128 * i) B)
 
 -- all of them
 pub record Chains (g : Rules) (e : Pair) (table : List ℕ) : Type 0 where
   pub size : length table ≡ 512
-  pub entry : (i B : ℕ) → i < 4 → B < 64 → Entry (spanLinks g (HoldsAt i) (e .one) (e .two)) B (wordsOf table (128 * i) B)
+  pub entry : (i B : ℕ) → i < 4 → B < 64 → ChainEntry (spanLinks g (HoldsAt i) (e .one) (e .two)) B (wordsOf table (128 * i) B)
 
 -- B is an operand of the clause, which may have a span for it that is its own
 abbrev pub Under : Clause → ℕ → Type 0

@@ -19,7 +19,7 @@ ghost use Prim.Native.Nat.{_<_};
 ghost use lib.ListN.{length};
 ghost use Rattle.sets.specs.Says.{Says};
 ghost use Rattle.grammar.specs.Content.{rules, SmallClause, Formed};
-ghost use Rattle.cuts.specs.Closure.{Entry};
+ghost use Rattle.cuts.specs.Closure.{ChainEntry};
 ghost use Rattle.links.specs.LinkRules.{Ruled, LinkRules};
 ghost use Rattle.chains.specs.SpanLinks.{spanLinks};
 ghost use Rattle.chains.specs.Chains.{rank, HoldsAt, Leveled, MarksAt, Upto, Chains, WithUnder, Unders, Ranked, Unranked, Copied};
@@ -133,7 +133,7 @@ fn chain(g: Grammar, w: Grammar, e: Pair, l: usize, b: u8) -> Pair
     requires { ⌜ (l < 4) × (b < 64) ⌝ }
     requires { ⌜ Formed g ⌝ }
     requires { ⌜ LinkRules (e .one) g w ⌝ }
-    ensures { λ r. ⌜ Entry (spanLinks (rules g) (HoldsAt l) (e .one) (e .two)) b r ⌝ }
+    ensures { λ r. ⌜ ChainEntry (spanLinks (rules g) (HoldsAt l) (e .one) (e .two)) b r ⌝ }
 {
     let k = level_marks(l);
     let one = with(0, b);

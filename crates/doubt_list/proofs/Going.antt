@@ -15,7 +15,7 @@ use Rattle.pairs.specs.Doubts.{Why, two-rules, two-cuts, two-empty, Doubt, Doub
 use Rattle.pairs.specs.Doubts.{whyCode}
 use Rattle.doubt_list.specs.declared.Sets.{Sets}
 use Rattle.doubt_list.specs.Marks.{Bit, RuleOf, EmptyTwice, Ground}
-use Rattle.doubt_list.specs.Steps.{at, doubt, numberOf, four, Lists, PutIf}
+use Rattle.doubt_list.specs.Steps.{at, doubt, doubtNumber, four, Lists, PutIf}
 use Rattle.doubt_list.proofs.Doubting.{OfRules, says-rules, says-cuts, says-empty}
 use Rattle.doubt_list.proofs.ListLaws.{why-small, lists-then, lists-skip, lists-if}
 
@@ -41,8 +41,8 @@ module _ {g : Grammar} {s : Sets} {t : List ℕ} (z : Ground g s t) where
       → Lists (rules g) old old l l (at A p q 0) (at A (p + 1) 0 0)
   skip-places A p q k h c b = lists-skip (z .formed) _ _ h (omega (arith, b)) none
     where
-      none : (d : Doubt) → OfRules g d → Doubted (rules g) d → at A p q 0 ≤ numberOf d
-          → numberOf d < at A (p + 1) 0 0 → ⊥
+      none : (d : Doubt) → OfRules g d → Doubted (rules g) d → at A p q 0 ≤ doubtNumber d
+          → doubtNumber d < at A (p + 1) 0 0 → ⊥
       none d o x i j =
           let a : d .nonterminal ≡ A = omega
           (arith, k, b, o .small .place, o .few, why-small (d .why), i, j) in
@@ -54,8 +54,8 @@ module _ {g : Grammar} {s : Sets} {t : List ℕ} (z : Ground g s t) where
       → (RuleOf (rules g) p A → ⊥) → Lists (rules g) old old l l (at A p 0 0) (at A (p + 1) 0 0)
   skip-rule A p k h n = lists-skip (z .formed) _ _ h (omega arith) none
     where
-      none : (d : Doubt) → OfRules g d → Doubted (rules g) d → at A p 0 0 ≤ numberOf d
-          → numberOf d < at A (p + 1) 0 0 → ⊥
+      none : (d : Doubt) → OfRules g d → Doubted (rules g) d → at A p 0 0 ≤ doubtNumber d
+          → doubtNumber d < at A (p + 1) 0 0 → ⊥
       none d o x i j =
           let a : d .nonterminal ≡ A = omega
           (arith, k, o .small .place, o .few, why-small (d .why), i, j) in
@@ -67,8 +67,8 @@ module _ {g : Grammar} {s : Sets} {t : List ℕ} (z : Ground g s t) where
       → Lists (rules g) old old l l (at A p 0 0) (at (A + 1) 0 0 0)
   skip-rest A p h c b = lists-skip (z .formed) _ _ h (omega (arith, b)) none
     where
-      none : (d : Doubt) → OfRules g d → Doubted (rules g) d → at A p 0 0 ≤ numberOf d
-          → numberOf d < at (A + 1) 0 0 0 → ⊥
+      none : (d : Doubt) → OfRules g d → Doubted (rules g) d → at A p 0 0 ≤ doubtNumber d
+          → doubtNumber d < at (A + 1) 0 0 0 → ⊥
       none d o x i j =
           let a : d .nonterminal ≡ A = omega
           (arith, b, o .small .place, o .few, why-small (d .why), i, j) in
@@ -80,8 +80,8 @@ module _ {g : Grammar} {s : Sets} {t : List ℕ} (z : Ground g s t) where
 
     -- ---- one rule
 
-    none-before : (d : Doubt) → OfRules g d → Doubted (rules g) d → at A p 0 0 ≤ numberOf d
-        → numberOf d < at A p p 1 → ⊥
+    none-before : (d : Doubt) → OfRules g d → Doubted (rules g) d → at A p 0 0 ≤ doubtNumber d
+        → doubtNumber d < at A p p 1 → ⊥
     none-before d o x i j =
         let a : d .nonterminal ≡ A = omega
         (arith, few, o .small .place, o .few, why-small (d .why), i, j) in
@@ -90,8 +90,8 @@ module _ {g : Grammar} {s : Sets} {t : List ℕ} (z : Ground g s t) where
         let q : d .second ≡ p = omega (arith, a, e, i, j, o .order) in
         omega (arith, a, e, q, j, same-why (rules g) (d .nonterminal) (d .first) (d .second) (d .why) (e ∙ sym q) x)
 
-    none-behind : (d : Doubt) → OfRules g d → Doubted (rules g) d → at A p p 2 ≤ numberOf d
-        → numberOf d < at A p (p + 1) 0 → ⊥
+    none-behind : (d : Doubt) → OfRules g d → Doubted (rules g) d → at A p p 2 ≤ doubtNumber d
+        → doubtNumber d < at A p (p + 1) 0 → ⊥
     none-behind d o x i j =
         let a : d .nonterminal ≡ A = omega
         (arith, few, o .small .place, o .few, why-small (d .why), i, j) in
@@ -117,8 +117,8 @@ module _ {g : Grammar} {s : Sets} {t : List ℕ} (z : Ground g s t) where
       few′ : q < 128
       few′ = omega (arith, n, z .formed .few)
 
-      none-between : (d : Doubt) → OfRules g d → Doubted (rules g) d → at A p q 1 ≤ numberOf d
-          → numberOf d < at A p q 2 → ⊥
+      none-between : (d : Doubt) → OfRules g d → Doubted (rules g) d → at A p q 1 ≤ doubtNumber d
+          → doubtNumber d < at A p q 2 → ⊥
       none-between d o x i j =
           let a : d .nonterminal ≡ A = omega
           (arith, few, few′, o .small .place, o .few, why-small (d .why), i, j) in

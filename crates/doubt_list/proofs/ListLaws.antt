@@ -19,7 +19,7 @@ use Rattle.lists.proofs.Entries.{bytes-snoc}
 use Rattle.pairs.specs.Doubts.{Why, two-rules, two-cuts, two-empty, Doubt, Doubted, whyCode}
 use Rattle.pairs.specs.Doubts.{DoubtBefore, DoubtsInOrder, AllDoubts}
 use Rattle.doubt_list.specs.Entries.{doubtBytes}
-use Rattle.doubt_list.specs.Steps.{at, numberOf, ListedTo, Lists, PutIf}
+use Rattle.doubt_list.specs.Steps.{at, doubtNumber, ListedTo, Lists, PutIf}
 use Rattle.doubt_list.proofs.Doubting.{Small, OfRules, doubt-rules}
 
 -- ---- lists with one entry more
@@ -70,7 +70,7 @@ pub record Few (d : Doubt) : Type 0 where
   pub first : d .first < 128
   pub second : d .second < 128
 
-number-before : (d e : Doubt) → Few d → Few e → numberOf d < numberOf e → DoubtBefore d e
+number-before : (d e : Doubt) → Few d → Few e → doubtNumber d < doubtNumber e → DoubtBefore d e
 number-before d e x y h = go (decLt (d .nonterminal) (e .nonterminal))
   where
     small : whyCode (d .why) < 3
@@ -99,7 +99,7 @@ number-before d e x y h = go (decLt (d .nonterminal) (e .nonterminal))
         go₂ (omega (arith, x .first, x .second, y .first, y .second, small, small′, h, k))
         (decLt (d .first) (e .first))
 
-number-same : (d e : Doubt) → Few d → Few e → numberOf d ≡ numberOf e → d ≡ e
+number-same : (d e : Doubt) → Few d → Few e → doubtNumber d ≡ doubtNumber e → d ≡ e
 number-same d e x y h =
     λ i. record { nonterminal = a i; first = b i; second = s i; why = why-same (d .why) (e .why) w i }
   where
@@ -138,7 +138,7 @@ module _ {g : Grammar} (f : Formed g) where
 
   -- no doubt has a number from m on and below n
   pub lists-skip : {out : List ℕ} {l : Listing} (m n : ℕ) → l .count ≤ l .at → m ≤ n
-      → ((d : Doubt) → OfRules g d → Doubted (rules g) d → m ≤ numberOf d → numberOf d < n → ⊥) → Lists (rules g) out out l l m n
+      → ((d : Doubt) → OfRules g d → Doubted (rules g) d → m ≤ doubtNumber d → doubtNumber d < n → ⊥) → Lists (rules g) out out l l m n
   lists-skip m n h k none =
       record {
         few = h;
@@ -147,41 +147,41 @@ module _ {g : Grammar} (f : Formed g) where
             record {
               entries = x .entries;
               each = x .each;
-              all = λ d p i. all x d p i (decLt (numberOf d) m);
+              all = λ d p i. all x d p i (decLt (doubtNumber d) m);
               ordered = x .ordered;
               before =
-                  every-as (λ d. numberOf d < m) (λ d. numberOf d < n) (x .entries)
+                  every-as (λ d. doubtNumber d < m) (λ d. doubtNumber d < n) (x .entries)
                   (λ d i. omega (arith, i, k)) (x .before);
               puts = x .puts;
             };
       }
     where
       all : {lent out : List ℕ} {l : Listing} (x : ListedTo (rules g) lent out l m) (d : Doubt)
-          → Doubted (rules g) d → numberOf d < n → Dec (numberOf d < m) → List·Memᴰ d (x .entries)
+          → Doubted (rules g) d → doubtNumber d < n → Dec (doubtNumber d < m) → List·Memᴰ d (x .entries)
       all x d p i (yes j) = x .all d p j
       all x d p i (no j) = absurd (none d (doubt-rules f d p) p (omega (arith, j)) i)
 
   lists-put : {old new : List ℕ} {l r : Listing} (d : Doubt) → Doubted (rules g) d
       → length new ≡ length old
-      → PutMore (doubtBytes d) 1 old new l r → Lists (rules g) old new l r (numberOf d)
-      (suc (numberOf d))
+      → PutMore (doubtBytes d) 1 old new l r → Lists (rules g) old new l r (doubtNumber d)
+      (suc (doubtNumber d))
   lists-put {old} {new} {l} {r} d p h q = record { few = q .few; long = h; goes = goes }
     where
-      goes : {lent : List ℕ} → ListedTo (rules g) lent old l (numberOf d)
-          → ListedTo (rules g) lent new r (suc (numberOf d))
+      goes : {lent : List ℕ} → ListedTo (rules g) lent old l (doubtNumber d)
+          → ListedTo (rules g) lent new r (suc (doubtNumber d))
       goes {lent} x =
           record {
             entries = x .entries ++ d ∷ [];
             each = every-append (Doubted (rules g)) (x .entries) (d ∷ []) (x .each) (p, tt);
-            all = λ e y i. all e y i (decLt (numberOf e) (numberOf d));
+            all = λ e y i. all e y i (decLt (doubtNumber e) (doubtNumber d));
             ordered =
                 ordered-snoc (x .entries) d (x .ordered)
-                (every-as (λ e. Doubted (rules g) e × (numberOf e < numberOf d)) (λ e. DoubtBefore e d) (x .entries)
+                (every-as (λ e. Doubted (rules g) e × (doubtNumber e < doubtNumber d)) (λ e. DoubtBefore e d) (x .entries)
                 (λ e y. number-before e d (few-of e (y .0)) (few-of d p) (y .1))
-                (every-both (Doubted (rules g)) (λ e. numberOf e < numberOf d) (x .entries) (x .each) (x .before)));
+                (every-both (Doubted (rules g)) (λ e. doubtNumber e < doubtNumber d) (x .entries) (x .each) (x .before)));
             before =
-                every-append (λ e. numberOf e < suc (numberOf d)) (x .entries) (d ∷ [])
-                (every-as (λ e. numberOf e < numberOf d) (λ e. numberOf e < suc (numberOf d)) (x .entries) (λ e i. omega (arith, i)) (x .before)) (omega arith, tt);
+                every-append (λ e. doubtNumber e < suc (doubtNumber d)) (x .entries) (d ∷ [])
+                (every-as (λ e. doubtNumber e < doubtNumber d) (λ e. doubtNumber e < suc (doubtNumber d)) (x .entries) (λ e i. omega (arith, i)) (x .before)) (omega arith, tt);
             puts =
                 subst₂ (λ (b : List ℕ) (k : ℕ). Puts b k lent new r)
                 (sym (bytes-snoc doubtBytes (x .entries) d))
@@ -189,8 +189,8 @@ module _ {g : Grammar} (f : Formed g) where
                 (q .puts (x .puts));
           }
         where
-          all : (e : Doubt) → Doubted (rules g) e → numberOf e < suc (numberOf d)
-              → Dec (numberOf e < numberOf d) → List·Memᴰ e (x .entries ++ d ∷ [])
+          all : (e : Doubt) → Doubted (rules g) e → doubtNumber e < suc (doubtNumber d)
+              → Dec (doubtNumber e < doubtNumber d) → List·Memᴰ e (x .entries ++ d ∷ [])
           all e y i (yes j) = mem-left (x .entries) (d ∷ []) (x .all e y j)
           all e y i (no j) =
               let same = number-same e d (few-of e y) (few-of d p) (omega (arith, i, j)) in
@@ -200,17 +200,17 @@ module _ {g : Grammar} (f : Formed g) where
   -- an entry was put exactly if it is a doubt
   pub lists-if : {yes : Bool} {old new : List ℕ} {l r : Listing} (d : Doubt) → Few d
       → Says yes (Doubted (rules g) d) → l .count ≤ l .at
-      → PutIf yes (doubtBytes d) old new l r → Lists (rules g) old new l r (numberOf d)
-      (suc (numberOf d))
+      → PutIf yes (doubtBytes d) old new l r → Lists (rules g) old new l r (doubtNumber d)
+      (suc (doubtNumber d))
   lists-if {yes} {old} {new} {l} {r} d x s h q = go yes s q
     where
       go : (b : Bool) → Says b (Doubted (rules g) d) → PutIf b (doubtBytes d) old new l r
-          → Lists (rules g) old new l r (numberOf d) (suc (numberOf d))
+          → Lists (rules g) old new l r (doubtNumber d) (suc (doubtNumber d))
       go true s q = let p = q .put refl in lists-put d (s .is refl) (p .1) (p .0)
       go false s q =
           let p = q .same refl in
           rw (p .0, p .1)
-          (lists-skip (numberOf d) (suc (numberOf d)) h (omega arith) (λ e o y i j. absurd (s .isnt refl
+          (lists-skip (doubtNumber d) (suc (doubtNumber d)) h (omega arith) (λ e o y i j. absurd (s .isnt refl
           (subst (Doubted (rules g)) (number-same e d (few-of e y) x (omega (arith, i, j))) y))))
 
   -- ---- the first number and the last
@@ -235,5 +235,5 @@ module _ {g : Grammar} (f : Formed g) where
         ordered = x .ordered;
       }
     where
-      last : (d : Doubt) → OfRules g d → numberOf d < at 64 0 0 0
+      last : (d : Doubt) → OfRules g d → doubtNumber d < at 64 0 0 0
       last d o = omega (arith, o .small .left, o .small .place, o .few, why-small (d .why))

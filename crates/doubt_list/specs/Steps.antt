@@ -19,17 +19,17 @@ doubt A p q y = record { nonterminal = A; first = p; second = q; why = y }
 abbrev pub at : ℕ → ℕ → ℕ → ℕ → ℕ
 at A p q y = 49152 * A + 384 * p + 3 * q + y
 
-abbrev pub numberOf : Doubt → ℕ
-numberOf d = at (d .nonterminal) (d .first) (d .second) (whyCode (d .why))
+abbrev pub doubtNumber : Doubt → ℕ
+doubtNumber d = at (d .nonterminal) (d .first) (d .second) (whyCode (d .why))
 
 -- all doubts of numbers below n were put into the lent bytes, in order, and no more; they have
 -- become out
 pub record ListedTo (g : Rules) (lent out : List ℕ) (l : Listing) (n : ℕ) : Type 0 where
   pub entries : List Doubt
   pub each : Every (Doubted g) entries
-  pub all : (d : Doubt) → Doubted g d → numberOf d < n → List·Memᴰ d entries
+  pub all : (d : Doubt) → Doubted g d → doubtNumber d < n → List·Memᴰ d entries
   pub ordered : DoubtsInOrder entries
-  pub before : Every (λ d. numberOf d < n) entries
+  pub before : Every (λ d. doubtNumber d < n) entries
   pub puts : Puts (bytesOf doubtBytes entries) (length entries) lent out l
 
 -- those of numbers from m on and below n were put besides

@@ -27,7 +27,7 @@ use Rattle.cuts.specs.Puts.{PutPair, PutRow}
 use Rattle.cuts.proofs.TryLaws.{every-rule, mirrored}
 use Rattle.cuts.proofs.MirrorLaws.{mirrors-put, mirrors-next, mirrors-end, columns-none}
 use Rattle.cuts.specs.Counts as Counts
-use Rattle.cuts.specs.Closure.{Closure, Entry, Unites}
+use Rattle.cuts.specs.Closure.{Closure, ChainEntry, Unites}
 use Rattle.cuts.proofs.CountLaws.{counts-nested}
 use Rattle.tables.specs.Tables.{no-rule}
 use Rattle.chains.specs.SpanLinks.{spanLinks}
@@ -73,7 +73,7 @@ pub cut-closure : (ws ws′ : List ℕ) (g : Rules) (n s len : ℕ) (k : SpanMar
 cut-closure ws ws′ g n s len k single j =
     table-span g (getD ws 0 0) (getD ws 1 0) (HoldsAt (j .level)) k (j .leveled .holds single) (wordsOf (j .table) (128 * j .level)) (j .inner) (j .last) entries (counts-nested (j .splits)) (j .unites)
   where
-    entries : (B : ℕ) → In (j .inner .one) B → Entry (spanLinks g (HoldsAt (j .level)) (getD ws 0 0) (getD ws 1 0)) B (wordsOf (j .table) (128 * j .level) B)
+    entries : (B : ℕ) → In (j .inner .one) B → ChainEntry (spanLinks g (HoldsAt (j .level)) (getD ws 0 0) (getD ws 1 0)) B (wordsOf (j .table) (128 * j .level) B)
     entries B i = rw (j .begins .one, j .begins .two) (j .chains .entry (j .level) B (j .leveled .small) (j .bounded B i))
 
 -- so it is closed

@@ -16,7 +16,7 @@ use Rattle.grammar.specs.Trees.{Rules}
 use Rattle.grammar.proofs.Lists.{mem-every}
 use Rattle.acyclic.specs.Exact.{Exactly}
 use Rattle.pairs.specs.Survey.{CanBegin, with-atom, with-unary, with-first, with-second}
-use Rattle.firsts.specs.Rows.{ByTerminal, ByNonterminal, RowOf, RowsOf}
+use Rattle.firsts.specs.Rows.{ByTerminal, ByNonterminal, RowOf, TakesRows}
 
 -- P holds of the first k + 1 words, if v, which has it, is the word at k
 one-more : (P : ℕ → ℕ → Type 0) (t : List ℕ) (k v : ℕ) → k < length t
@@ -33,8 +33,8 @@ pub columns-more : {g : Rules} {k v : ℕ} {t : List ℕ} → k < length t → B
 columns-more {g} {k} {v} {t} h x y =
     record { each = one-more (λ x s. Exactly s (λ A. CanBegin g A x)) t k v h (x .each) y }
 
-pub rows-more : {k v : ℕ} {t u : List ℕ} → k < length u → RowsOf t k u → RowOf t k 64 v
-    → RowsOf t (k + 1) (set u k v)
+pub rows-more : {k v : ℕ} {t u : List ℕ} → k < length u → TakesRows t k u → RowOf t k 64 v
+    → TakesRows t (k + 1) (set u k v)
 rows-more {k} {v} {t} {u} h x y =
     record { each = one-more (λ A s. RowOf t A 64 s) u k v h (x .each) y }
 
@@ -87,7 +87,7 @@ terminal-small f (with-unary k m h) = terminal-small f h
 terminal-small f (with-first k m h w) = terminal-small f h
 terminal-small f (with-second k m n h) = terminal-small f h
 
-pub rows-exact : {g : Grammar} {t u : List ℕ} → Formed g → ByTerminal (rules g) 64 t → RowsOf t 64 u
+pub rows-exact : {g : Grammar} {t u : List ℕ} → Formed g → ByTerminal (rules g) 64 t → TakesRows t 64 u
     → ByNonterminal (rules g) 64 u
 rows-exact {g} {t} {u} f c r = record { each = each }
   where

@@ -23,5 +23,5 @@ pub record RowOf (t : List ℕ) (A n r : ℕ) : Type 0 where
   pub all : (x : ℕ) → x < n → In (getD t x 0) A → In r x
 
 -- each of the first n sets is the row of its number
-pub record RowsOf (t : List ℕ) (n : ℕ) (u : List ℕ) : Type 0 where
+pub record TakesRows (t : List ℕ) (n : ℕ) (u : List ℕ) : Type 0 where
   pub each : (A : ℕ) → A < n → RowOf t A 64 (getD u A 0)

@@ -10,7 +10,7 @@ ghost use Rattle.grammar.specs.Cycles.{Nullable};
 ghost use Rattle.grammar.specs.Content.{rules, Formed};
 ghost use Rattle.acyclic.specs.Exact.{Exactly};
 ghost use Rattle.pairs.specs.Survey.{Productive};
-ghost use Rattle.firsts.specs.Rows.{ByTerminal, ByNonterminal, RowOf, RowsOf};
+ghost use Rattle.firsts.specs.Rows.{ByTerminal, ByNonterminal, RowOf, TakesRows};
 
 // The nonterminals that begin with each terminal.
 fn fill_columns(g: Grammar, nulls: u64, prods: u64, out: &mut [u64])
@@ -47,7 +47,7 @@ fn row(columns: &[u64], a: u8) -> u64
 // The rows of all nonterminals.
 fn fill_rows(columns: &[u64], out: &mut [u64])
     requires { ⌜ (64 ≤ length (now columns)) × (64 ≤ length (now out)) ⌝ }
-    ensures { λ r. ⌜ RowsOf (now (columns .entry)) 64 (now (out .exit)) ⌝ }
+    ensures { λ r. ⌜ TakesRows (now (columns .entry)) 64 (now (out .exit)) ⌝ }
 {
     let mut a: u8 = 0;
     while a < 64 {

@@ -23,7 +23,7 @@ use Rattle.column_ranges.specs.RangeSentences.{range, rangesOf}
 use Rattle.range_marks.specs.RangeMarks.{RangeMarked}
 
 -- at most 64 tokens, whatever their ends
-pub record Counted (r : RangeSentence) : Type 0 where
+pub record CountFits (r : RangeSentence) : Type 0 where
   pub few : r .count ≤ 64
   pub whole : length (rangesOf r) ≡ r .count
 

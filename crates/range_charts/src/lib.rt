@@ -16,7 +16,7 @@ ghost use Rattle.grammar.specs.SpanSheet.{pairs};
 ghost use Rattle.chains.specs.Chains.{Chains};
 ghost use Rattle.filling.specs.Closing.{Begins, Columns};
 ghost use Rattle.column_ranges.specs.RangeSentences.{rangesOf};
-ghost use Rattle.range_charts.specs.RangeCharts.{Counted, SolvedFrom, Solves, Advances};
+ghost use Rattle.range_charts.specs.RangeCharts.{CountFits, SolvedFrom, Solves, Advances};
 
 // Settle the spans of two tokens or more that begin at `start`. Their marks are carried along, a token at a time.
 fn fill_start(
@@ -29,7 +29,7 @@ fn fill_start(
     e: Pair,
     start: usize,
 )
-    requires { ⌜ Counted r × (start < r .count) ⌝ }
+    requires { ⌜ CountFits r × (start < r .count) ⌝ }
     requires { ⌜ 2 * pairs (r .count) ≤ length (now words) ⌝ }
     requires { ⌜ Formed g ⌝ }
     requires { ⌜ Begins (now words) e × Chains (rules g) e (now table) ⌝ }
@@ -63,7 +63,7 @@ fn fill_starts(
     g: Grammar,
     e: Pair,
 )
-    requires { ⌜ Counted r ⌝ }
+    requires { ⌜ CountFits r ⌝ }
     requires { ⌜ 2 * pairs (r .count) ≤ length (now words) ⌝ }
     requires { ⌜ Formed g ⌝ }
     requires { ⌜ Begins (now words) e × Chains (rules g) e (now table) ⌝ }
@@ -79,7 +79,7 @@ fn fill_starts(
 
 // Fill the span sheet of the ranges. The pairs of the empty word and of single tokens are given.
 pub fn fill_ranges(words: &mut [u64], r: RangeSentence, g: Grammar)
-    requires { ⌜ Counted r ⌝ }
+    requires { ⌜ CountFits r ⌝ }
     requires { ⌜ 2 * pairs (r .count) ≤ length (now words) ⌝ }
     requires { ⌜ Formed g ⌝ }
     ensures { λ u. ⌜ Solves (now (words .entry)) (now (words .exit)) (rules g) (rangesOf r) (r .count) ⌝ }

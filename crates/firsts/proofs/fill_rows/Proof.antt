@@ -4,13 +4,13 @@ use mathlib.Core.Path.{_≡_, refl, _∙_}
 use Prim.Native.Nat.{_-_, _≤_}
 use native.Mathlib.Omega.{arith}
 use lib.ListN.{length, length-set}
-use Rattle.firsts.specs.Rows.{RowsOf}
+use Rattle.firsts.specs.Rows.{TakesRows}
 use Rattle.firsts.proofs.RowLaws.{rows-more}
 use Rattle.firsts.proofs.fill_rows.Statement.{statement}
 use Rattle.firsts.proofs.fill_rows.Tie as tie
 
 abbrev Inv-loop : tie.InvT-loop
-Inv-loop columns out₀ a₀ out a = (a ≤ 64) × (length out ≡ length out₀) × RowsOf columns a out
+Inv-loop columns out₀ a₀ out a = (a ≤ 64) × (length out ≡ length out₀) × TakesRows columns a out
 
 abbrev μ-loop : tie.MeasureT-loop
 μ-loop columns out₀ a₀ out a = 64 - a
