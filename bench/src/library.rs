@@ -39,11 +39,4 @@ mod linked {
 pub use linked::{sweep, verdict};
 
 #[cfg(feature = "library")]
-pub use crate::{
-    c::trees,
-    c_clauses::{expand, verdict as clause_verdict},
-    c_columns::columns,
-    c_shares::share,
-    c_tours::{change, show},
-    c_trees::{places, rows},
-};
+pub use crate::c::{change, clause_verdict, columns, expand, places, rows, share, show, trees};

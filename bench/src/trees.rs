@@ -62,6 +62,6 @@ fn family_row(family: &Family) {
         whole.1[1],
         shown[0],
         shown[1],
-        least(|| library::change(rules, OPEN, 5, 1, b"none", &mut bytes)),
+        least(|| library::change(rules, OPEN, [5, 1], b"none", &mut bytes)),
     );
 }
