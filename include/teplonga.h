@@ -15,13 +15,14 @@
  * Calls are reentrant: they have no state of their own and may run in any threads at once, each on
  * its own lent memory. They allocate nothing, take no lock, set no errno and make no system call.
  *
- * Stack: the verdict, a sweep, a share, a changed mark and the refused line need 16 KB, places 32 KB,
- * trees, row counts and trees shown 300 KB, columns 750 KB, whatever they are asked. A call on a clause
+ * Stack: a sweep, a share, a changed mark and the refused line need 20 KB, the verdict, columns and
+ * places 110 KB, trees, row counts and trees shown 360 KB, whatever they are asked. A call on a clause
  * sheet needs up to 800 KB: its readers call each other, most deeply in groups within groups.
  * TEPLONGA_STACK bytes are enough for any call.
  *
- * Time: a verdict or its trees take some milliseconds on the largest sheets, columns of 64 tokens with
- * 65,536 choices under 128 rules up to a minute or so. The worst sweep known takes three to four
+ * Time: a verdict takes about a millisecond on the largest sheets, its trees some milliseconds. Columns
+ * of 64 tokens with 65,536 choices take a tenth of a second where what may and what must hold settles
+ * them; where each choice has to be looked at, as many verdicts. The worst sweep known takes some three
  * seconds; no bound is claimed, and it cannot be interrupted, so run it in a thread or a process that
  * may be given up.
  */

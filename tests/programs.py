@@ -355,7 +355,7 @@ class Programs(Room):
         for name, size, data, wanted in (
             ("checker", 640, GOOD, TWO),
             ("sweeper", 320, SWEPT, teplonga.sweep_program(SWEPT)),
-            ("calls", 1400, called, calls.calls_program(called)),
+            ("calls", 1120, called, calls.calls_program(called)),
         ):
             self.assertEqual(run("sh", "-c", f"ulimit -s {size} && '{BUILT / name}'", data=data), (0, wanted, ""))
 
