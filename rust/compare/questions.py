@@ -312,8 +312,17 @@ SWEEPS = {small_sweep: 70, refused_sweep: 20, bound_off: 5, about_the_limit: 5}
 
 # --------------------------------------------------------------- clause sheets
 
+def nested(chance):
+    """Groups within groups, to sixteen levels or deeper, and a few tokens."""
+    depth = chance.choice([16, 17, 18])
+    sheet = f"left clause\n0 {'(' * depth}t0{')' * depth}\n".encode()
+    return sheet, long_tokens(chance, [Rule(START, "A", 0, None, "none")], chance.randint(0, 3))
+
+
 def clause_pair(chance):
     """A clause sheet and a token sheet; one of them is damaged now and then."""
+    if chance.random() < 0.02:
+        return nested(chance)
     for _ in range(4):
         sheet = sheets.clause_sheet(chance)
         reading = clauses.read_clauses(sheet)
