@@ -70,7 +70,7 @@ class Believe(unittest.TestCase):
     def test_a_law_about_something_else_is_told(self):
         status, errors = self.believe(LIST.replace("`call_tours/Alike`, ", ""))
         self.assertEqual(status, 1)
-        self.assertIn("nothing-leaks in crates/call_tours/proofs/Leaks.antt: the statement rests besides on call_tours/Alike", errors)
+        self.assertIn("nothing-leaks in crates/call_tours/proofs/Leaks.antt: the statement rests besides on answering/Settled call_tours/Alike", errors)
 
     def test_a_public_function_left_out_is_told(self):
         status, errors = self.believe(LIST.replace("`calling::calls_text`", ""))

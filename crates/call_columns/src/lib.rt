@@ -1,4 +1,5 @@
 // The public call for columns read off a photograph: which verdicts some choice of columns within the ends gives (02, request 10).
+use answering::Answer;
 use column_ranges::RangeSentence;
 use column_search::Flags;
 use column_search::choose;
@@ -9,7 +10,6 @@ use sheets::Outcome;
 use sheets::read_rules;
 use sheets::refused_read;
 use spans::size;
-use teplonga::Answer;
 ghost use mathlib.Core.Path.{_≡_};
 ghost use Rattle.grammar.specs.Content.{rules as rulesOf, Formed};
 ghost use Rattle.sheets.specs.RuleSheets.{ruleSheet};

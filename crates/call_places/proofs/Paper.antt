@@ -16,17 +16,17 @@ use Rattle.places.specs.Places.{Entry, AllPlaces}
 use Rattle.places.proofs.PaperLaws.{dissimilar-several}
 use Rattle.places.proofs.PlaceLaws.{place-iff, reached-place}
 use Rattle.places.proofs.ListLaws.{places-empty}
-use Rattle.teplonga.specs.declared.Answer.{Answer}
-use Rattle.teplonga.specs.declared.Answer.the-variants as Answer
+use Rattle.answering.specs.declared.Answer.{Answer}
+use Rattle.answering.specs.declared.Answer.the-variants as Answer
 use Rattle.sheets.specs.Items.{accepted}
 use Rattle.sheets.specs.RuleSheets.{ruleSheet}
 use Rattle.sheets.proofs.Accepted.{tokens-good}
-use Rattle.teplonga.specs.Answers.{sheets, AnswerHolds}
+use Rattle.answering.specs.Answers.{sheets, AnswerHolds}
 use Rattle.sheets.specs.declared.Fault.{Fault}
 use Rattle.lists.specs.Lists.{fits, large}
 use Rattle.call_places.specs.declared.PlacesReply.{PlacesReply}
 use Rattle.call_places.specs.Places.{short, listing, PlacesOf, refusing, reading}
-use Rattle.teplonga.proofs.Settled.{both-sheets, sheets-apart}
+use Rattle.answering.proofs.Settled.{both-sheets, sheets-apart}
 use Rattle.grammar.specs.Distinct.{Distinct}
 
 -- the list is empty exactly if the verdict is not two

@@ -12,9 +12,9 @@ use Rattle.places.specs.Places.{Entry, entryBytes}
 use Rattle.places.proofs.ListLaws.{places-same}
 use Rattle.sheets.specs.declared.Fault.{Fault}
 use Rattle.sheets.proofs.Numbers.{same-fault}
-use Rattle.teplonga.specs.declared.Answer.{Answer}
+use Rattle.answering.specs.declared.Answer.{Answer}
 use Rattle.sheets.proofs.Once.{apart, same-refusal}
-use Rattle.teplonga.proofs.Settled.{Words, says-one, filled-same, same-sheets}
+use Rattle.answering.proofs.Settled.{Words, says-one, filled-same, same-sheets}
 use Rattle.call_places.specs.declared.PlacesReply.{PlacesReply}
 use Rattle.call_places.specs.Places.{placesReplyOf, placesRefusal, PlacesOn, short, listing, PlacesOf, refusing, reading}
 

@@ -1,4 +1,5 @@
 // The public call for places: all nonterminals and words at which the readings of a sentence part (02, request 11).
+use answering::Answer;
 use chart::Verdict;
 use filling::judge;
 use grammar::Grammar;
@@ -13,7 +14,6 @@ use sheets::Outcome;
 use sheets::read_rules;
 use sheets::read_tokens;
 use spans::size;
-use teplonga::Answer;
 ghost use mathlib.Core.Path.{_≡_};
 ghost use Rattle.grammar.specs.Trees.{TwoTrees};
 ghost use Rattle.grammar.specs.Content.{rules as rulesOf, Formed, Positioned};

@@ -11,24 +11,24 @@ use Rattle.grammar.specs.Choices.{FirstTree, SecondTree}
 use Rattle.grammar.specs.Rows.{rowCount}
 use Rattle.grammar.proofs.ChoiceLaws.{first-unique, second-tree-unique}
 use Rattle.grammar.proofs.VerdictLaws.{none-not-one, none-not-two, one-not-two}
-use Rattle.derivation.specs.Written.{rowRoom}
+use Rattle.derivation.specs.Written.{inFull, rowRoom}
 use Rattle.sheets.specs.declared.Fault.{Fault}
 use Rattle.sheets.specs.Refusals.{numberOf}
-use Rattle.teplonga.specs.declared.Answer.{Answer}
-use Rattle.teplonga.specs.declared.Answer.the-variants as Answer
-use Rattle.teplonga.specs.declared.TreesReply.{TreesReply}
+use Rattle.answering.specs.declared.Answer.{Answer}
+use Rattle.answering.specs.declared.Answer.the-variants as Answer
+use Rattle.answering.specs.declared.TreesReply.{TreesReply}
 use Rattle.sheets.specs.Items.{accepted}
 use Rattle.sheets.proofs.Once.{apart}
-use Rattle.teplonga.specs.Answers.{sheets}
-use Rattle.teplonga.specs.Verdict.{needed}
-use Rattle.teplonga.specs.Trees.{treesReplyOf, Shown, TreesOn, TreesOf}
-use Rattle.teplonga.specs.Trees as Show
-use Rattle.teplonga.proofs.Settled.{same-sheets, sheets-apart}
+use Rattle.answering.specs.Answers.{sheets}
+use Rattle.answering.specs.Verdict.{needed}
+use Rattle.answering.specs.Trees.{treesReplyOf, Shown, TreesOf}
+use Rattle.answering.specs.Trees as Show
+use Rattle.answering.proofs.Settled.{same-sheets, sheets-apart}
 use Rattle.row_counts.specs.declared.RowCount.{RowCount}
 use Rattle.row_counts.specs.declared.RowCount.the-variants as RowCount
 use Rattle.row_counts.specs.RowCounts.{Counted, treeless, single, both, Tells}
 use Rattle.call_rows.specs.declared.RowsReply.{RowsReply}
-use Rattle.call_rows.specs.Rows.{RowsOn, short, counting, RowsOf, refusing, reading}
+use Rattle.call_rows.specs.Rows.{short, counting, RowsOf, refusing, reading}
 use Rattle.grammar.specs.Distinct.{Distinct}
 
 -- refusal 22: a tree of the answer has more rows than its memory has places
@@ -63,7 +63,7 @@ short-no f h a b e = let z : f ≡ h = cc in omega (arith, ap numberOf z)
 
 module _ {g : Rules} (d : Distinct g) {w : Word} {m n : ℕ} {one one′ two two′ : List ℕ} {r : TreesReply} where
   -- what was counted fits
-  shown-fits : Counted g w m n → Shown g w one one′ two two′ r → m ≤ rowRoom one → n ≤ rowRoom two → NoRoom r → ⊥
+  shown-fits : Counted g w m n → Shown inFull g w one one′ two two′ r → m ≤ rowRoom one → n ≤ rowRoom two → NoRoom r → ⊥
   shown-fits c (Show.treeless p e a b) h k = other-answer e none-no
   shown-fits c (Show.single o f l e a b) h k = other-answer e one-no
   shown-fits c (Show.both p f s l l′ e a b) h k = other-answer e two-no
@@ -76,7 +76,7 @@ module _ {g : Rules} (d : Distinct g) {w : Word} {m n : ℕ} {one one′ two two
       absurd (⊎-elim (λ z. omega (arith, same-first f f′)) (λ z. omega (arith, same-second d s s′)) l)
 
   -- less does not
-  shown-short : Counted g w m n → Shown g w one one′ two two′ r → (rowRoom one < m) ⊎ (rowRoom two < n) → NoRoom r
+  shown-short : Counted g w m n → Shown inFull g w one one′ two two′ r → (rowRoom one < m) ⊎ (rowRoom two < n) → NoRoom r
   shown-short c (Show.large-one {f = f} o t l q e a b) z = no-room f q e
   shown-short c (Show.large-two {f = f} o t s l q e a b) z = no-room f q e
   shown-short (treeless p x y) (Show.treeless o e a b) z = absurd (⊎-elim (λ k. omega arith) (λ k. omega arith) z)

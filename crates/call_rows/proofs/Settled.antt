@@ -8,9 +8,9 @@ use Rattle.grammar.specs.Layout.{Word}
 use Rattle.grammar.specs.Trees.{Rules}
 use Rattle.sheets.specs.declared.Fault.{Fault}
 use Rattle.sheets.proofs.Numbers.{same-fault}
-use Rattle.teplonga.specs.Answers.{AnswerHolds}
+use Rattle.answering.specs.Answers.{AnswerHolds}
 use Rattle.sheets.proofs.Once.{apart, same-refusal}
-use Rattle.teplonga.proofs.Settled.{Words, says-one, filled-same, same-sheets, sheets-apart}
+use Rattle.answering.proofs.Settled.{Words, says-one, filled-same, same-sheets, sheets-apart}
 use Rattle.row_counts.specs.RowCounts.{Counted, Tells}
 use Rattle.row_counts.proofs.RowCountLaws.{counted-unique, tells-one}
 use Rattle.call_rows.specs.declared.RowsReply.{RowsReply}

@@ -1,4 +1,5 @@
 // The public call for row counts: how many rows each tree has, before memory is set aside for them (02, request 6).
+use answering::Answer;
 use chart::Verdict;
 use filling::judge;
 use grammar::Grammar;
@@ -11,7 +12,6 @@ use sheets::Outcome;
 use sheets::read_rules;
 use sheets::read_tokens;
 use spans::size;
-use teplonga::Answer;
 ghost use mathlib.Core.Path.{_≡_};
 ghost use Prim.Native.Nat.{_≤_};
 ghost use Rattle.grammar.specs.Content.{rules as rulesOf, Formed, Positioned};

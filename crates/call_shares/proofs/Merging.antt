@@ -16,8 +16,8 @@ use Rattle.grammar.proofs.SweepLaws.{sentence-length}
 use Rattle.numbers.specs.Numbers.{number}
 use Rattle.numbers.specs.Shares.{firstOfShare, total, Reports, LowestIn, NoneIn}
 use Rattle.numbers.proofs.ShareLaws.{number-before, share-of, shares-clear}
-use Rattle.teplonga.specs.declared.Answer.{Answer}
-use Rattle.teplonga.specs.declared.Answer.the-variants as Answer
+use Rattle.answering.specs.declared.Answer.{Answer}
+use Rattle.answering.specs.declared.Answer.the-variants as Answer
 use Rattle.call_shares.specs.declared.ShareReply.{ShareReply}
 use Rattle.call_shares.specs.Share.{shareReplyOf, shareRefusal, ShareOn, bound, many, racks, beyond, short, clear, two}
 use Rattle.call_shares.specs.Merge.{Refuses, Leads, Ahead, Merged, first-refuses, second-refuses, second, first}

@@ -23,8 +23,8 @@ use Rattle.sheets.specs.Items.{accepted}
 use Rattle.sheets.proofs.Once.{apart, same-items, same-refusal}
 use Rattle.sheets.specs.RuleSheets.{ruleSheet}
 use Rattle.sheets.proofs.Accepted.{rules-good}
-use Rattle.teplonga.specs.declared.Answer.the-variants as Answer
-use Rattle.teplonga.specs.Sweep.{sweepLimit}
+use Rattle.answering.specs.declared.Answer.the-variants as Answer
+use Rattle.answering.specs.Sweep.{sweepLimit}
 use Rattle.sheets.proofs.Numbers.{same-fault}
 use Rattle.call_shares.specs.declared.ShareReply.{ShareReply}
 use Rattle.call_shares.specs.Share.{shareReplyOf, shareRefusal, Length, ShareTaken, ShareOn, bound, many, racks, beyond, short, clear, two, ShareOf, refusing, reading}

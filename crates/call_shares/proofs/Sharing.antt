@@ -19,8 +19,8 @@ use Rattle.numbers.specs.Numbers.{number}
 use Rattle.numbers.specs.Shares.{firstOfShare, total, Reports, Reported}
 use Rattle.share_search.specs.Sharing.{Shared}
 use Rattle.share_search.specs.Sharing as Of
-use Rattle.teplonga.specs.declared.Answer.{Answer}
-use Rattle.teplonga.specs.declared.Answer.the-variants as Answer
+use Rattle.answering.specs.declared.Answer.{Answer}
+use Rattle.answering.specs.declared.Answer.the-variants as Answer
 use Rattle.call_shares.specs.declared.ShareReply.{ShareReply}
 use Rattle.call_shares.specs.Share.{shareReplyOf, ShareTaken, ShareOn, clear, two}
 use Rattle.grammar.specs.Sentences.{no-token}

@@ -15,11 +15,11 @@ use Rattle.sheets.specs.declared.Fault.{Fault}
 use Rattle.sheets.specs.Items.{accepted}
 use Rattle.sheets.proofs.Once.{apart}
 use Rattle.sheets.specs.RuleSheets.{ruleSheet}
-use Rattle.teplonga.specs.declared.Answer.{Answer}
-use Rattle.teplonga.specs.declared.Answer.the-variants as Answer
-use Rattle.teplonga.specs.declared.SweepReply.{SweepReply}
-use Rattle.teplonga.specs.Sweep.{sweepLimit, noSentence, SweepTaken, SweepOf}
-use Rattle.teplonga.specs.Sweep as Sweep
+use Rattle.answering.specs.declared.Answer.{Answer}
+use Rattle.answering.specs.declared.Answer.the-variants as Answer
+use Rattle.answering.specs.declared.SweepReply.{SweepReply}
+use Rattle.answering.specs.Sweep.{sweepLimit, noSentence, SweepTaken, SweepOf}
+use Rattle.answering.specs.Sweep as Sweep
 use Rattle.call_shares.specs.declared.ShareReply.{ShareReply}
 use Rattle.call_shares.specs.Share.{ShareOn, bound, many, racks, beyond, short, clear, two, ShareOf, refusing, reading}
 use Rattle.call_shares.specs.Merge.{Refuses, Merged, first-refuses, second-refuses, second, first}

@@ -11,8 +11,8 @@ use Rattle.grammar.specs.declared.Cell.{Cell}
 use Rattle.grammar.specs.Candidates.{sentence}
 use Rattle.grammar.specs.Sweeps.{Clear, FirstTwo}
 use Rattle.numbers.specs.Numbers.{number}
-use Rattle.teplonga.specs.declared.Answer.{Answer}
-use Rattle.teplonga.specs.declared.Answer.the-variants as Answer
+use Rattle.answering.specs.declared.Answer.{Answer}
+use Rattle.answering.specs.declared.Answer.the-variants as Answer
 use Rattle.grammar.specs.Sentences.{no-token}
 
 -- a merged with each of the reports in turn

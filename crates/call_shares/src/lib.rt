@@ -1,4 +1,6 @@
 // The public call for one share of a sweep that is divided among racks, and the merging of their reports (02, request 8).
+use answering::Answer;
+use answering::nothing;
 use candidates::terminal_count;
 use candidates::terminals;
 use candidates::within_limit;
@@ -11,8 +13,6 @@ use sheets::Fault;
 use sheets::Outcome;
 use sheets::read_rules;
 use spans::size;
-use teplonga::Answer;
-use teplonga::nothing;
 ghost use mathlib.Core.Path.{_≡_};
 ghost use Prim.Native.Nat.{_≤_};
 ghost use Rattle.grammar.specs.Content.{rules as rulesOf, Formed};

@@ -38,15 +38,15 @@ use Rattle.lists.specs.declared.Listed.{Listed}
 use Rattle.lists.specs.Lists.{GivesList}
 use Rattle.lists.specs.Putting.{listed}
 use Rattle.lists.specs.Putting as Putting
-use Rattle.teplonga.specs.declared.Answer.the-variants as Answer
-use Rattle.teplonga.proofs.ListSettled.{list-on}
+use Rattle.answering.specs.declared.Answer.the-variants as Answer
+use Rattle.answering.proofs.ListSettled.{list-on}
 use Rattle.changing.proofs.Rereading.{outcome}
 use Rattle.changing.proofs.ChangedLaws.{ChangedAt, changed-at}
 use Rattle.call_tours.specs.Change.{changeRefusal, MayRule, ChangeDone, unfit, given, ChangeOn, barred, allowed}
 use Rattle.call_tours.specs.Inner.{Named}
 use Rattle.shown.specs.Members.{member}
 use Rattle.changing.specs.Relaid.{relaid, fitsLay}
-use Rattle.teplonga.specs.ListReplies.{onList}
+use Rattle.answering.specs.ListReplies.{onList}
 
 -- 1. whether the lay fits
 

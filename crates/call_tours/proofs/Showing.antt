@@ -1,22 +1,14 @@
--- The trees of what was read, as they are shown, by what the tree writer answers.
+-- What the rights sheet gives, by what its reader answers; the sets that were read are what a user may see and change.
 use mathlib.Core.Path.{_≡_, refl, sym, ap, _∙_, subst}
-use mathlib.Core.Logic.{_⊎_, inl, inr}
-use mathlib.Core.Bool.{true, false}
 use mathlib.Core.List.{List}
-use mathlib.Core.Option.{none, some}
-use Prim.Native.Nat.{ℕ, _*_, _≤_, _<_}
+use Prim.Native.Nat.{ℕ}
 use native.Mathlib.Omega.{arith}
-use native.Mathlib.Decide.{decLe}
-use lib.ListN.{length}
 use Rattle.grammar.specs.Layout.{Word}
-use Rattle.grammar.specs.Trees.{Tree, Rules, NoTree, OneTree, TwoTrees}
-use Rattle.grammar.specs.Choices.{FirstTree, SecondTree}
-use Rattle.grammar.specs.SpanSheet.{pairs}
-use Rattle.shown.specs.Shown.{View, shownCount}
-use Rattle.derivation.specs.declared.Counts.{Counts}
-use Rattle.derivation.specs.Written.{rowRoom}
+use Rattle.grammar.specs.Trees.{Rules}
+use Rattle.shown.specs.Shown.{View}
+use Rattle.shown.specs.Members.{member}
+use Rattle.derivation.specs.Written.{seenBy}
 use Rattle.sheets.specs.declared.Fault.{Fault}
-use Rattle.sheets.specs.declared.Fault.the-variants as Fault
 use Rattle.sheets.specs.declared.Outcome.{Outcome}
 use Rattle.sheets.specs.declared.Outcome.the-variants.{Accepted, Refused}
 use Rattle.sheets.specs.Refusals.{numberOf, RefusedAs}
@@ -26,46 +18,11 @@ use Rattle.sheets.specs.Items.{Reading, accepted, refused}
 use Rattle.rights.specs.declared.Right.{Right}
 use Rattle.rights.specs.RightSheets.{maySee, mayChange}
 use Rattle.rights.specs.declared.RightsRead.{RightsRead}
-use Rattle.teplonga.specs.declared.Answer.the-variants as Answer
-use Rattle.teplonga.specs.declared.TreesReply.{TreesReply}
-use Rattle.teplonga.specs.Counted.{counted}
-use Rattle.teplonga.specs.Trees.{treesReplyOf}
-use Rattle.teplonga.specs.declared.ListReply.{ListReply}
-use Rattle.call_tours.specs.Change.{ChangeOn}
-use Rattle.call_tours.specs.Show.{ShownTo, treeless, single, both, large-one, large-two, ShowOn, short}
-use Rattle.shown.specs.Members.{member}
-use Rattle.derivation.specs.Memories.{Written, ShownWritten}
 use Rattle.rights.specs.Answers.{RightsHeld, RightsGiven}
-
-pub too-few : (sees : View) (g : Rules) (w : Word) (n : ℕ) (ws one two : List ℕ) → length w ≡ n → length ws < 2 * pairs n → ShowOn sees g w ws ws one one two two (treesReplyOf (Answer.Refused Fault.FewWords) 0 0 0)
-too-few sees g w n ws one two e h = short (omega (arith, ap pairs e)) refl refl refl refl refl
-
-module _ (sees : View) (g : Rules) (w : Word) {one two one′ two′ : List ℕ} {c : Counts} where
-  pub shown-none : NoTree g 0 w → Written none none one two one′ two′ c → ShownTo sees g w one one′ two two′ (counted Answer.None c)
-  shown-none p x =
-      let y = x .fits (omega arith) (omega arith) in
-      treeless p (ap (counted Answer.None) (y .2)) (y .0) (y .1)
-
-  pub shown-one : {t : Tree} → OneTree g 0 w → FirstTree g 0 w t → ShownWritten sees (some t) none one two one′ two′ c → ShownTo sees g w one one′ two two′ (counted Answer.One c)
-  shown-one {t} p f x = go (decLe (shownCount sees t) (rowRoom one))
-    where
-      go : Dec (shownCount sees t ≤ rowRoom one) → ShownTo sees g w one one′ two two′ (counted Answer.One c)
-      go (yes h) = let y = x .fits h (omega arith) in single p f h (ap (counted Answer.One) (y .2)) (y .0) (y .1)
-      go (no h) =
-          let l : rowRoom one < shownCount sees t = omega arith in
-          let y = x .short (inl l) in
-          large-one p f l refl (ap (counted Answer.One) (y .2)) (y .0) (y .1)
-
-  pub shown-two : {t u : Tree} → TwoTrees g 0 w → FirstTree g 0 w t → SecondTree g 0 w u → ShownWritten sees (some t) (some u) one two one′ two′ c → ShownTo sees g w one one′ two two′ (counted Answer.Two c)
-  shown-two {t} {u} p f s x = go (decLe (shownCount sees t) (rowRoom one)) (decLe (shownCount sees u) (rowRoom two))
-    where
-      large : (rowRoom one < shownCount sees t) ⊎ (rowRoom two < shownCount sees u) → ShownTo sees g w one one′ two two′ (counted Answer.Two c)
-      large l = let y = x .short l in large-two p f s l refl (ap (counted Answer.Two) (y .2)) (y .0) (y .1)
-
-      go : Dec (shownCount sees t ≤ rowRoom one) → Dec (shownCount sees u ≤ rowRoom two) → ShownTo sees g w one one′ two two′ (counted Answer.Two c)
-      go (yes h) (yes k) = let y = x .fits h k in both p f s h k (ap (counted Answer.Two) (y .2)) (y .0) (y .1)
-      go (yes h) (no k) = large (inr (omega arith))
-      go (no h) k = large (inl (omega arith))
+use Rattle.answering.specs.declared.TreesReply.{TreesReply}
+use Rattle.answering.specs.Trees.{TreesOn}
+use Rattle.answering.specs.declared.ListReply.{ListReply}
+use Rattle.call_tours.specs.Change.{ChangeOn}
 
 -- the sets that were read are what the sheet lets the user see and change
 module _ {rs : List Right} {u a b : ℕ} (h : RightsHeld rs u a b) where
@@ -75,8 +32,8 @@ module _ {rs : List Right} {u a b : ℕ} (h : RightsHeld rs u a b) where
   changes-is : _≡_ {A = View} (member b) (mayChange rs u)
   changes-is = λ i A. h .change A i
 
-  pub by-sees : {g : Rules} {w : Word} {ws ws′ one one′ two two′ : List ℕ} {r : TreesReply} → ShowOn (member a) g w ws ws′ one one′ two two′ r → ShowOn (maySee rs u) g w ws ws′ one one′ two two′ r
-  by-sees {g} {w} {ws} {ws′} {one} {one′} {two} {two′} {r} x = subst (λ (v : View). ShowOn v g w ws ws′ one one′ two two′ r) sees-is x
+  pub by-sees : {g : Rules} {w : Word} {ws ws′ one one′ two two′ : List ℕ} {r : TreesReply} → TreesOn (seenBy (member a)) g w ws ws′ one one′ two two′ r → TreesOn (seenBy (maySee rs u)) g w ws ws′ one one′ two two′ r
+  by-sees {g} {w} {ws} {ws′} {one} {one′} {two} {two′} {r} x = subst (λ (v : View). TreesOn (seenBy v) g w ws ws′ one one′ two two′ r) sees-is x
 
   pub by-changes : {s : List ℕ} {g : Rules} {p : ℕ} {lay l m : List ℕ} {r : ListReply} → ChangeOn (member b) s g p lay l m r → ChangeOn (mayChange rs u) s g p lay l m r
   by-changes {s} {g} {p} {lay} {l} {m} {r} x = subst (λ (v : View). ChangeOn v s g p lay l m r) changes-is x

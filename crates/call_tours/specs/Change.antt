@@ -15,9 +15,9 @@ use Rattle.sheets.specs.RuleSheets.{ruleSheet}
 use Rattle.rights.specs.declared.Right.{Right}
 use Rattle.rights.specs.RightSheets.{rightsSheet, mayChange}
 use Rattle.changing.specs.Changed.{changed, changedSheet}
-use Rattle.teplonga.specs.declared.Answer.the-variants as Answer
-use Rattle.teplonga.specs.declared.ListReply.{ListReply}
-use Rattle.teplonga.specs.Lists.{listReply, ListOn}
+use Rattle.answering.specs.declared.Answer.the-variants as Answer
+use Rattle.answering.specs.declared.ListReply.{ListReply}
+use Rattle.answering.specs.Lists.{listReply, ListOn}
 
 -- a refused call gives no sheet
 abbrev pub changeRefusal : Fault → ℕ → ListReply

@@ -1,79 +1,32 @@
 // The public calls on a shared tour (02, request 12): the trees as a user may see them, and a rule sheet with a mark that a user may change.
+use answering::Answer;
+use answering::ListReply;
+use answering::TreesReply;
+use answering::list_reply;
+use answering::shown;
 use changing::lay_fits;
 use changing::put_changed;
-use chart::Verdict;
-use derivation::show_both;
-use derivation::show_first;
-use derivation::write_none;
 use fields::LayWord;
 use fields::lay_word;
-use filling::judge;
 use grammar::Clause;
 use grammar::Grammar;
-use grammar::Sentence;
 use rights::read_rights;
 use sets::has;
 use sheets::Fault;
 use sheets::Outcome;
 use sheets::read_rules;
 use sheets::read_tokens;
-use spans::size;
-use teplonga::Answer;
-use teplonga::ListReply;
-use teplonga::TreesReply;
-use teplonga::counted_reply;
-use teplonga::list_reply;
 ghost use mathlib.Core.Path.{_≡_};
 ghost use Prim.Native.Nat.{_≤_};
-ghost use Rattle.grammar.specs.Content.{rules as rulesOf, Formed, Positioned};
+ghost use Rattle.grammar.specs.Content.{rules as rulesOf, Formed};
 ghost use Rattle.sheets.specs.Items.{accepted};
 ghost use Rattle.sheets.specs.RuleSheets.{ruleSheet};
-ghost use Rattle.teplonga.specs.Trees as Trees;
-ghost use Rattle.teplonga.specs.declared.Answer.the-variants as Answers;
-ghost use Rattle.call_tours.specs.Show.{ShowOn, ShowOf};
+ghost use Rattle.answering.specs.Trees as Trees;
+ghost use Rattle.answering.specs.declared.Answer.the-variants as Answers;
+ghost use Rattle.call_tours.specs.Show.{ShowOf};
 ghost use Rattle.call_tours.specs.Change.{changeRefusal, ChangeDone, ChangeOn, ChangeOf};
 ghost use Rattle.call_tours.specs.Inner.{Named};
-ghost use Rattle.grammar.specs.Sentences.{spelled};
 ghost use Rattle.shown.specs.Members.{member};
-
-// The trees of rules and a sentence that were read, as they are shown to a user who sees these nonterminals.
-fn shown_to(
-    words: &mut [u64],
-    s: Sentence,
-    g: Grammar,
-    sees: u64,
-    first: &mut [u8],
-    second: &mut [u8],
-) -> TreesReply
-    requires { ⌜ Formed g ⌝ }
-    requires { ⌜ Positioned s ⌝ }
-    ensures { λ r. ⌜ ShowOn (member sees) (rulesOf g) (spelled s) (now (words .entry)) (now (words .exit)) (now (first .entry)) (now (first .exit)) (now (second .entry)) (now (second .exit)) r ⌝ }
-{
-    let n = s.count;
-    if words.len() < size(n) {
-        return TreesReply {
-            answer: Answer::Refused(Fault::FewWords),
-            line: 0,
-            first: 0,
-            second: 0,
-        };
-    }
-    let v = judge(words, s, g);
-    match v {
-        Verdict::None => {
-            let c = write_none(first, second);
-            counted_reply(Answer::None, c)
-        }
-        Verdict::One => {
-            let c = show_first(words, s, g, sees, first, second);
-            counted_reply(Answer::One, c)
-        }
-        Verdict::Two => {
-            let c = show_both(words, s, g, sees, first, second);
-            counted_reply(Answer::Two, c)
-        }
-    }
-}
 
 // A refused call for trees.
 fn refused_trees(f: Fault, line: usize) -> TreesReply
@@ -116,7 +69,7 @@ pub fn show(
                         Outcome::Accepted => {
                             let g = a.grammar;
                             let s = b.sentence;
-                            shown_to(words, s, g, c.sees, first, second)
+                            shown(words, s, g, c.sees, first, second)
                         }
                     }
                 }

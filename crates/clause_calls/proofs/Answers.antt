@@ -16,14 +16,14 @@ use Rattle.clauses.specs.Matching.{OneToOne}
 use Rattle.clauses.proofs.Verdicts.{no-reading, one-reading, two-readings, two-trees}
 use Rattle.clause_sheets.specs.ClauseSheets.{clauseSheet}
 use Rattle.clause_sheets.proofs.Meaning.{meant}
-use Rattle.teplonga.specs.declared.Answer.{Answer}
-use Rattle.teplonga.specs.declared.Answer.the-variants as Answer
-use Rattle.teplonga.specs.declared.Reply.{Reply}
-use Rattle.teplonga.specs.declared.SweepReply.{SweepReply}
-use Rattle.teplonga.specs.Answers.{AnswerHolds}
-use Rattle.teplonga.proofs.Settled.{both-sheets}
-use Rattle.teplonga.specs.Verdict as Verdict
-use Rattle.teplonga.specs.Sweep as Sweep
+use Rattle.answering.specs.declared.Answer.{Answer}
+use Rattle.answering.specs.declared.Answer.the-variants as Answer
+use Rattle.answering.specs.declared.Reply.{Reply}
+use Rattle.answering.specs.declared.SweepReply.{SweepReply}
+use Rattle.answering.specs.Answers.{AnswerHolds}
+use Rattle.answering.proofs.Settled.{both-sheets}
+use Rattle.answering.specs.Verdict as Verdict
+use Rattle.answering.specs.Sweep as Sweep
 use Rattle.clause_calls.specs.Calls.{ClauseVerdict, ClauseSweep}
 use Rattle.clause_calls.specs.Meaning.{SaysReadings, VerdictReads, ClearReadings, AnyTerminal, FirstTwoReadings, SweepReads}
 use Rattle.clause_calls.specs.Meaning as Meaning

@@ -15,17 +15,17 @@ use Rattle.sheets.specs.Items.{accepted}
 use Rattle.sheets.specs.RuleSheets.{ruleSheet}
 use Rattle.clause_sheets.specs.ClauseSheets.{clauseSheet}
 use Rattle.clause_sheets.proofs.Good.{sheet-good, sheet-forward}
-use Rattle.teplonga.specs.declared.Answer.{Answer}
-use Rattle.teplonga.specs.declared.Answer.the-variants as Answer
-use Rattle.teplonga.specs.declared.Reply.{Reply}
-use Rattle.teplonga.specs.declared.TreesReply.{TreesReply}
-use Rattle.teplonga.specs.declared.SweepReply.{SweepReply}
-use Rattle.teplonga.specs.declared.ListReply.{ListReply}
-use Rattle.teplonga.specs.Lists.{listReply}
-use Rattle.teplonga.specs.Verdict.{VerdictOf}
-use Rattle.teplonga.specs.Trees.{TreesOf}
-use Rattle.teplonga.specs.Sweep.{SweepOf}
-use Rattle.teplonga.proofs.Readings.{verdict-by, trees-by, sweep-by}
+use Rattle.answering.specs.declared.Answer.{Answer}
+use Rattle.answering.specs.declared.Answer.the-variants as Answer
+use Rattle.answering.specs.declared.Reply.{Reply}
+use Rattle.answering.specs.declared.TreesReply.{TreesReply}
+use Rattle.answering.specs.declared.SweepReply.{SweepReply}
+use Rattle.answering.specs.declared.ListReply.{ListReply}
+use Rattle.answering.specs.Lists.{listReply}
+use Rattle.answering.specs.Verdict.{VerdictOf}
+use Rattle.answering.specs.Trees.{TreesOf}
+use Rattle.answering.specs.Sweep.{SweepOf}
+use Rattle.answering.proofs.Readings.{verdict-by, trees-by, sweep-by}
 use Rattle.clause_calls.specs.Calls.{ClauseVerdict, ClauseTrees, ClauseSweep}
 use Rattle.clause_calls.specs.Expand.{sheetText, ExpandOf, refusing, giving}
 use Rattle.clause_calls.proofs.ReadBack.{Legible, reads-back}

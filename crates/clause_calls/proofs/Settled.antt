@@ -15,14 +15,14 @@ use Rattle.sheets.proofs.Settled.{SamePart, held-settled}
 use Rattle.clauses.proofs.Apart.{expansion-distinct}
 use Rattle.clause_sheets.specs.ClauseSheets.{clauseSheet}
 use Rattle.clause_sheets.proofs.Meaning.{meant}
-use Rattle.teplonga.specs.declared.Reply.{Reply}
-use Rattle.teplonga.specs.declared.TreesReply.{TreesReply}
-use Rattle.teplonga.specs.declared.SweepReply.{SweepReply}
-use Rattle.teplonga.specs.declared.ListReply.{ListReply}
-use Rattle.teplonga.proofs.Settled.{Words, Apart, apart-of, verdict-settled, trees-settled}
-use Rattle.teplonga.proofs.SweepSettled.{sweep-settled}
-use Rattle.teplonga.proofs.ListSettled.{list-settled}
-use Rattle.teplonga.proofs.Lent.{SameBytes, bytes-same, refusal-bytes, list-moved}
+use Rattle.answering.specs.declared.Reply.{Reply}
+use Rattle.answering.specs.declared.TreesReply.{TreesReply}
+use Rattle.answering.specs.declared.SweepReply.{SweepReply}
+use Rattle.answering.specs.declared.ListReply.{ListReply}
+use Rattle.answering.proofs.Settled.{Words, Apart, apart-of, verdict-settled, trees-settled}
+use Rattle.answering.proofs.SweepSettled.{sweep-settled}
+use Rattle.answering.proofs.ListSettled.{list-settled}
+use Rattle.answering.proofs.Lent.{SameBytes, bytes-same, refusal-bytes, list-moved}
 use Rattle.clause_calls.specs.Calls.{clauseSheets, ClauseVerdict, ClauseTrees, ClauseSweep}
 use Rattle.clause_calls.specs.Expand.{ExpandOf, refusing, giving}
 use Rattle.grammar.specs.Distinct.{Distinct}

@@ -1,13 +1,13 @@
 -- The promises of the calls for clause sheets: the same as those for rule sheets, with what the clause sheet gives. 02, request 2.
 use mathlib.Core.List.{List}
 use Prim.Native.Nat.{ℕ}
-use Rattle.teplonga.specs.declared.Reply.{Reply}
-use Rattle.teplonga.specs.declared.TreesReply.{TreesReply}
-use Rattle.teplonga.specs.declared.SweepReply.{SweepReply}
-use Rattle.teplonga.specs.Answers.{Sheets, withRules}
-use Rattle.teplonga.specs.Verdict.{VerdictBy}
-use Rattle.teplonga.specs.Trees.{TreesBy}
-use Rattle.teplonga.specs.Sweep.{SweepBy}
+use Rattle.answering.specs.declared.Reply.{Reply}
+use Rattle.answering.specs.declared.TreesReply.{TreesReply}
+use Rattle.answering.specs.declared.SweepReply.{SweepReply}
+use Rattle.answering.specs.Answers.{Sheets, withRules}
+use Rattle.answering.specs.Verdict.{VerdictBy}
+use Rattle.answering.specs.Trees.{TreesBy}
+use Rattle.answering.specs.Sweep.{SweepBy}
 use Rattle.clause_sheets.specs.ClauseSheets.{clauseSheet}
 
 -- both sheets: the rules of the expansion and the word, or the first refusal, those of the clause sheet before those of the token sheet

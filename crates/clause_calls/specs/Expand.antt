@@ -9,9 +9,9 @@ use Rattle.sheets.specs.Refusals.{RefusedAs}
 use Rattle.sheets.specs.declared.Fault.{Fault}
 use Rattle.sheets.specs.Items.{accepted}
 use Rattle.sheets.specs.RuleSheets.{ruleNames}
-use Rattle.teplonga.specs.declared.Answer.the-variants as Answer
-use Rattle.teplonga.specs.declared.ListReply.{ListReply}
-use Rattle.teplonga.specs.Lists.{listReply, ListOn}
+use Rattle.answering.specs.declared.Answer.the-variants as Answer
+use Rattle.answering.specs.declared.ListReply.{ListReply}
+use Rattle.answering.specs.Lists.{listReply, ListOn}
 use Rattle.clause_sheets.specs.ClauseSheets.{clauseSheet}
 
 -- the rule sheet of rules: the names, then a line for each

@@ -3,7 +3,7 @@ use mathlib.Core.Path.{_≡_}
 use mathlib.Core.List.{List, _++_}
 use Prim.Native.Nat.{ℕ}
 use lib.ListN.{length, take}
-use Rattle.teplonga.specs.declared.ListReply.{ListReply}
+use Rattle.answering.specs.declared.ListReply.{ListReply}
 use Rattle.text.specs.Output.{answerText, head}
 use Rattle.clause_calls.specs.Expand.{ExpandOf}
 

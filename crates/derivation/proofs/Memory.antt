@@ -14,8 +14,7 @@ use Rattle.shown.specs.Shown.{View, closedRow, shownRows, shownCount}
 use Rattle.shown.proofs.ShownLaws.{length-shown, some-shown}
 use Rattle.grammar.proofs.ChoiceLaws.{append-inj, first-unique, second-tree-unique, second-rooted, second-spelled}
 use Rattle.rows.specs.declared.Step.{Step}
-use Rattle.derivation.specs.Written.{rowRoom}
-use Rattle.derivation.specs.Showing.{filledShown}
+use Rattle.derivation.specs.Written.{rowRoom, seenBy, filled}
 use Rattle.nodes.specs.Wanted.{Goal}
 use Rattle.derivation.specs.Laid.{Laid}
 use Rattle.rows.specs.Bytes.{splice}
@@ -310,5 +309,5 @@ module _ {sees : View} {g : Rules} {w : Word} {u : Tree} {s : Bool} {out : List 
       record { enough = λ _. (rw (k, r, ← e) f, j); short = λ h′. absurd (omega (arith, x .count, x .within, x .room)) }
 
 -- nothing is, for want of room
-pub laid-short : (sees : View) (u : Tree) (l m : List ℕ) → rowRoom l < shownCount sees u → m ≡ filledShown sees l none → Laid sees u l m 0
+pub laid-short : (sees : View) (u : Tree) (l m : List ℕ) → rowRoom l < shownCount sees u → m ≡ filled (seenBy sees) l none → Laid sees u l m 0
 laid-short sees u l m h f = record { enough = λ h′. absurd (omega arith); short = λ _. (f, refl) }

@@ -16,14 +16,13 @@ use Rattle.shown.proofs.ShownLaws.{some-shown}
 use Rattle.grammar.specs.Content.{rules}
 use Rattle.grammar.specs.SpanSheet.{part}
 use Rattle.rows.specs.declared.Step.{Step}
-use Rattle.derivation.specs.Written.{rowRoom}
-use Rattle.derivation.specs.Showing.{filledShown}
+use Rattle.derivation.specs.Written.{rowRoom, seenBy, filled}
 use Rattle.nodes.specs.Wanted.{Ready, Goal, Wanted}
 use Rattle.derivation.specs.Laid.{Laid}
 use Rattle.rows.specs.Bytes.{splice}
-use Rattle.rows.specs.Steps.{kidsOf, stepOfClause, closedStep, entriesOf, Branched}
-use Rattle.nodes.specs.Picks.{HasChoice, PickedStep, Looked, seen, closed}
-use Rattle.nodes.proofs.Pending.{kids, nodeShape, shownKids, shownShape, Aim, aim-step, aim-pass, aim-choice}
+use Rattle.rows.specs.Steps.{kidsOf, closedStep, entriesOf, Branched}
+use Rattle.nodes.specs.Picks.{HasChoice, Looked, seen, closed}
+use Rattle.nodes.proofs.Pending.{nodeShape, shownKids, shownShape, Aim, aim-step, aim-pass, aim-choice}
 use Rattle.derivation.proofs.Memory.{goal-unique, State, state-start, Popped, pop, turn, over, laid-full, laid-short}
 use Rattle.grammar.specs.Distinct.{Distinct}
 use Rattle.grammar.specs.Sentences.{spelled}
@@ -126,7 +125,7 @@ module _ {sees : View} {g : Grammar} {s : Sentence} {ws hs : List ℕ} {seeking 
 
     -- no room for the children
     pub running-over : cap < shownCount sees (x .tree) → (l m : List ℕ) → long ≡ length l → cap ≡ rowRoom l
-        → m ≡ filledShown sees out none → (u : Tree) → Goal (rules g) 0 (spelled s) seeking u → Laid sees u l m 0
+        → m ≡ filled (seenBy sees) out none → (u : Tree) → Goal (rules g) 0 (spelled s) seeking u → Laid sees u l m 0
     running-over h l m e f z u a =
         let j = goal-unique (r .formed .distinct) 0 (spelled s) seeking u (x .tree) a (x .goal) in
         let k : length out ≡ length l = x .same ∙ e in
@@ -140,5 +139,5 @@ module _ {sees : View} {g : Grammar} {s : Sentence} {ws hs : List ℕ} {seeking 
         rw j (laid-full (x .state) h l m (x .same ∙ e) z)
 
 -- no place at all
-pub laid-none : (sees : View) (l m : List ℕ) → rowRoom l ≡ 0 → m ≡ filledShown sees l none → (u : Tree) → Laid sees u l m 0
+pub laid-none : (sees : View) (l m : List ℕ) → rowRoom l ≡ 0 → m ≡ filled (seenBy sees) l none → (u : Tree) → Laid sees u l m 0
 laid-none sees l m h e u = laid-short sees u l m (omega (arith, some-shown sees u)) e

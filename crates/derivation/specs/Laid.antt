@@ -5,10 +5,9 @@ use mathlib.Core.Option.{none, some}
 use Prim.Native.Nat.{ℕ, _≤_, _<_}
 use Rattle.grammar.specs.Trees.{Tree}
 use Rattle.shown.specs.Shown.{View, shownCount}
-use Rattle.derivation.specs.Written.{rowRoom}
-use Rattle.derivation.specs.Showing.{filledShown}
+use Rattle.derivation.specs.Written.{rowRoom, seenBy, filled}
 
 -- the memory l has become m, with the rows shown of u, r of them; zeros and 0 where they do not fit
 pub record Laid (sees : View) (u : Tree) (l m : List ℕ) (r : ℕ) : Type 0 where
-  pub enough : shownCount sees u ≤ rowRoom l → (m ≡ filledShown sees l (some u)) × (r ≡ shownCount sees u)
-  pub short : rowRoom l < shownCount sees u → (m ≡ filledShown sees l none) × (r ≡ 0)
+  pub enough : shownCount sees u ≤ rowRoom l → (m ≡ filled (seenBy sees) l (some u)) × (r ≡ shownCount sees u)
+  pub short : rowRoom l < shownCount sees u → (m ≡ filled (seenBy sees) l none) × (r ≡ 0)

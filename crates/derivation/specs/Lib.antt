@@ -1,4 +1,3 @@
 pub mod Written
-pub mod Showing
 pub mod Memories
 pub mod Laid

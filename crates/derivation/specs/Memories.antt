@@ -6,25 +6,14 @@ use mathlib.Core.Logic.{_⊎_}
 use mathlib.Core.Option.{Option, none}
 use Prim.Native.Nat.{ℕ, _≤_, _<_}
 use Rattle.grammar.specs.Trees.{Tree}
-use Rattle.shown.specs.Shown.{View}
 use Rattle.derivation.specs.declared.Counts.{Counts}
-use Rattle.derivation.specs.Written.{rowRoom, countOf, filled}
-use Rattle.derivation.specs.Showing.{countShown, filledShown}
+use Rattle.derivation.specs.Written.{Display, rowRoom, countOf, filled}
 
 -- the memories l₁ and l₂ have become m₁ and m₂, and r is answered, where t and u are the trees of the answer
-pub record Written (t u : Option Tree) (l₁ l₂ m₁ m₂ : List ℕ) (r : Counts) : Type 0 where
+pub record Written (dis : Display) (t u : Option Tree) (l₁ l₂ m₁ m₂ : List ℕ) (r : Counts) : Type 0 where
   -- the rows of both, and how many they are
-  pub fits : countOf t ≤ rowRoom l₁ → countOf u ≤ rowRoom l₂
-      → (m₁ ≡ filled l₁ t) × (m₂ ≡ filled l₂ u) × (r ≡ record { fits = true; first = countOf t; second = countOf u })
+  pub fits : countOf dis t ≤ rowRoom l₁ → countOf dis u ≤ rowRoom l₂
+      → (m₁ ≡ filled dis l₁ t) × (m₂ ≡ filled dis l₂ u) × (r ≡ record { fits = true; first = countOf dis t; second = countOf dis u })
   -- refusal 22: a tree of the answer has more rows than its memory has whole four-byte places; both tree memories are 0
-  pub short : (rowRoom l₁ < countOf t) ⊎ (rowRoom l₂ < countOf u)
-      → (m₁ ≡ filled l₁ none) × (m₂ ≡ filled l₂ none) × (r ≡ record { fits = false; first = 0; second = 0 })
-
--- the same, shown to a user who sees this much
-pub record ShownWritten (sees : View) (t u : Option Tree) (l₁ l₂ m₁ m₂ : List ℕ) (r : Counts) : Type 0 where
-  -- the rows shown of both, and how many they are
-  pub fits : countShown sees t ≤ rowRoom l₁ → countShown sees u ≤ rowRoom l₂
-      → (m₁ ≡ filledShown sees l₁ t) × (m₂ ≡ filledShown sees l₂ u) × (r ≡ record { fits = true; first = countShown sees t; second = countShown sees u })
-  -- refusal 22: more rows are shown of a tree than its memory has whole four-byte places; both tree memories are 0
-  pub short : (rowRoom l₁ < countShown sees t) ⊎ (rowRoom l₂ < countShown sees u)
-      → (m₁ ≡ filledShown sees l₁ none) × (m₂ ≡ filledShown sees l₂ none) × (r ≡ record { fits = false; first = 0; second = 0 })
+  pub short : (rowRoom l₁ < countOf dis t) ⊎ (rowRoom l₂ < countOf dis u)
+      → (m₁ ≡ filled dis l₁ none) × (m₂ ≡ filled dis l₂ none) × (r ≡ record { fits = false; first = 0; second = 0 })

@@ -21,7 +21,8 @@ ghost use Rattle.nodes.specs.Wanted.{Charted, Ready, Goal, Wanted};
 ghost use Rattle.derivation.specs.Laid.{Laid};
 ghost use Rattle.grammar.specs.Sentences.{spelled};
 ghost use Rattle.shown.specs.Members.{member};
-ghost use Rattle.derivation.specs.Memories.{Written, ShownWritten};
+ghost use Rattle.derivation.specs.Written.{Display, seenBy};
+ghost use Rattle.derivation.specs.Memories.{Written};
 
 // How many rows each tree has, 0 for one that is not written; `fits` is false where a tree of the answer has more rows than its
 // memory has places (refusal 22).
@@ -78,7 +79,7 @@ pub fn write(
 
 // The verdict is none: neither tree.
 pub fn write_none(first: &mut [u8], second: &mut [u8]) -> Counts
-    ensures { λ r. ⌜ Written none none (now (first .entry)) (now (second .entry)) (now (first .exit)) (now (second .exit)) r ⌝ }
+    ensures { λ r. ⌜ ((dis : Display) → Written dis none none (now (first .entry)) (now (second .entry)) (now (first .exit)) (now (second .exit)) r) ⌝ }
 {
     clear(first, 0);
     clear(second, 0);
@@ -102,7 +103,7 @@ fn first_by(
     requires { ⌜ Ready g s (now words) (now hs) ⌝ }
     requires { ⌜ Wanted (rules g) 0 (spelled s) false ⌝ }
     ensures { λ r. ⌜ ((t : Tree) → FirstTree (rules g) 0 (spelled s) t
-        → ShownWritten (member sees) (some t) none (now (first .entry)) (now (second .entry)) (now (first .exit)) (now (second .exit)) r) ⌝ }
+        → Written (seenBy (member sees)) (some t) none (now (first .entry)) (now (second .entry)) (now (first .exit)) (now (second .exit)) r) ⌝ }
 {
     clear(second, 0);
     let n = write(words, hs, s, g, sees, first, false);
@@ -129,7 +130,7 @@ fn both_by(
     requires { ⌜ Ready g s (now words) (now hs) ⌝ }
     requires { ⌜ Wanted (rules g) 0 (spelled s) true ⌝ }
     ensures { λ r. ⌜ ((t u : Tree) → FirstTree (rules g) 0 (spelled s) t → SecondTree (rules g) 0 (spelled s) u
-        → ShownWritten (member sees) (some t) (some u) (now (first .entry)) (now (second .entry)) (now (first .exit)) (now (second .exit)) r) ⌝ }
+        → Written (seenBy (member sees)) (some t) (some u) (now (first .entry)) (now (second .entry)) (now (first .exit)) (now (second .exit)) r) ⌝ }
 {
     let n = write(words, hs, s, g, sees, first, false);
     if n == 0 {
@@ -161,7 +162,7 @@ fn first_low(
     requires { ⌜ Wanted (rules g) 0 (spelled s) false ⌝ }
     requires { ⌜ Cyclic (rules g) ⌝ }
     ensures { λ r. ⌜ ((t : Tree) → FirstTree (rules g) 0 (spelled s) t
-        → ShownWritten (member sees) (some t) none (now (first .entry)) (now (second .entry)) (now (first .exit)) (now (second .exit)) r) ⌝ }
+        → Written (seenBy (member sees)) (some t) none (now (first .entry)) (now (second .entry)) (now (first .exit)) (now (second .exit)) r) ⌝ }
 {
     let mut hs = [65535u16; 133184];
     heights(&mut hs, s, g);
@@ -181,7 +182,7 @@ fn both_low(
     requires { ⌜ Wanted (rules g) 0 (spelled s) true ⌝ }
     requires { ⌜ Cyclic (rules g) ⌝ }
     ensures { λ r. ⌜ ((t u : Tree) → FirstTree (rules g) 0 (spelled s) t → SecondTree (rules g) 0 (spelled s) u
-        → ShownWritten (member sees) (some t) (some u) (now (first .entry)) (now (second .entry)) (now (first .exit)) (now (second .exit)) r) ⌝ }
+        → Written (seenBy (member sees)) (some t) (some u) (now (first .entry)) (now (second .entry)) (now (first .exit)) (now (second .exit)) r) ⌝ }
 {
     let mut hs = [65535u16; 133184];
     heights(&mut hs, s, g);
@@ -189,7 +190,7 @@ fn both_low(
 }
 
 // The verdict is one: the first tree alone, as it is shown.
-pub fn show_first(
+pub fn write_first(
     words: &[u64],
     s: Sentence,
     g: Grammar,
@@ -200,7 +201,7 @@ pub fn show_first(
     requires { ⌜ Charted g s (now words) ⌝ }
     requires { ⌜ Wanted (rules g) 0 (spelled s) false ⌝ }
     ensures { λ r. ⌜ ((t : Tree) → FirstTree (rules g) 0 (spelled s) t
-        → ShownWritten (member sees) (some t) none (now (first .entry)) (now (second .entry)) (now (first .exit)) (now (second .exit)) r) ⌝ }
+        → Written (seenBy (member sees)) (some t) none (now (first .entry)) (now (second .entry)) (now (first .exit)) (now (second .exit)) r) ⌝ }
 {
     if cyclic(g) {
         return first_low(words, s, g, sees, first, second);
@@ -210,7 +211,7 @@ pub fn show_first(
 }
 
 // The verdict is two: both trees, as they are shown.
-pub fn show_both(
+pub fn write_both(
     words: &[u64],
     s: Sentence,
     g: Grammar,
@@ -221,45 +222,13 @@ pub fn show_both(
     requires { ⌜ Charted g s (now words) ⌝ }
     requires { ⌜ Wanted (rules g) 0 (spelled s) true ⌝ }
     ensures { λ r. ⌜ ((t u : Tree) → FirstTree (rules g) 0 (spelled s) t → SecondTree (rules g) 0 (spelled s) u
-        → ShownWritten (member sees) (some t) (some u) (now (first .entry)) (now (second .entry)) (now (first .exit)) (now (second .exit)) r) ⌝ }
+        → Written (seenBy (member sees)) (some t) (some u) (now (first .entry)) (now (second .entry)) (now (first .exit)) (now (second .exit)) r) ⌝ }
 {
     if cyclic(g) {
         return both_low(words, s, g, sees, first, second);
     }
     let hs = [0u16; 1];
     both_by(words, &hs[..0], s, g, sees, first, second)
-}
-
-// The verdict is one: the first tree alone, with all nonterminals open.
-pub fn write_first(
-    words: &[u64],
-    s: Sentence,
-    g: Grammar,
-    first: &mut [u8],
-    second: &mut [u8],
-) -> Counts
-    requires { ⌜ Charted g s (now words) ⌝ }
-    requires { ⌜ Wanted (rules g) 0 (spelled s) false ⌝ }
-    ensures { λ r. ⌜ ((t : Tree) → FirstTree (rules g) 0 (spelled s) t
-        → Written (some t) none (now (first .entry)) (now (second .entry)) (now (first .exit)) (now (second .exit)) r) ⌝ }
-{
-    show_first(words, s, g, 18446744073709551615, first, second)
-}
-
-// The verdict is two: both trees, with all nonterminals open.
-pub fn write_both(
-    words: &[u64],
-    s: Sentence,
-    g: Grammar,
-    first: &mut [u8],
-    second: &mut [u8],
-) -> Counts
-    requires { ⌜ Charted g s (now words) ⌝ }
-    requires { ⌜ Wanted (rules g) 0 (spelled s) true ⌝ }
-    ensures { λ r. ⌜ ((t u : Tree) → FirstTree (rules g) 0 (spelled s) t → SecondTree (rules g) 0 (spelled s) u
-        → Written (some t) (some u) (now (first .entry)) (now (second .entry)) (now (first .exit)) (now (second .exit)) r) ⌝ }
-{
-    show_both(words, s, g, 18446744073709551615, first, second)
 }
 
 // Refusal 22: no tree is written.

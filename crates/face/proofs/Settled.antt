@@ -3,13 +3,13 @@ use mathlib.Core.Path.{_≡_, sym, ap, _∙_}
 use mathlib.Core.List.{List}
 use Prim.Native.Nat.{ℕ}
 use native.Mathlib.Omega.{arith}
-use Rattle.teplonga.specs.declared.Reply.{Reply}
-use Rattle.teplonga.specs.declared.TreesReply.{TreesReply}
-use Rattle.teplonga.specs.declared.SweepReply.{SweepReply}
+use Rattle.answering.specs.declared.Reply.{Reply}
+use Rattle.answering.specs.declared.TreesReply.{TreesReply}
+use Rattle.answering.specs.declared.SweepReply.{SweepReply}
 use Rattle.sheets.specs.Items.{Reading}
-use Rattle.teplonga.specs.Answers.{Sheets}
-use Rattle.teplonga.proofs.Settled.{Words, Apart, verdict-settled, trees-settled}
-use Rattle.teplonga.proofs.SweepSettled.{sweep-settled}
+use Rattle.answering.specs.Answers.{Sheets}
+use Rattle.answering.proofs.Settled.{Words, Apart, verdict-settled, trees-settled}
+use Rattle.answering.proofs.SweepSettled.{sweep-settled}
 use Rattle.face.specs.Face.{packed, VerdictWord, TreesWord, SweepWord}
 use Rattle.face_words.specs.Words.{AtFront, few, written, foundWords, countWords}
 use Rattle.grammar.specs.Trees.{Rules}

@@ -1,8 +1,8 @@
 // The calls for C and Rust: numbers and slices alone.
+use answering::Answer;
 use face_words::put_counts;
 use face_words::put_found;
 use sheets::fault_number;
-use teplonga::Answer;
 use teplonga::refused_line;
 use teplonga::sweep;
 use teplonga::trees;
@@ -10,7 +10,7 @@ use teplonga::verdict;
 ghost use mathlib.Core.Path.{_≡_};
 ghost use Prim.Native.Nat.{_+_, _<_};
 ghost use Rattle.sheets.specs.RuleSheets.{ruleSheet};
-ghost use Rattle.teplonga.specs.Answers.{sheets};
+ghost use Rattle.answering.specs.Answers.{sheets};
 ghost use Rattle.sheets.specs.RefusedLines.{Hands, refusedLine};
 ghost use Rattle.face.specs.Face.{codeOf, packed, VerdictWord, SweepWord, TreesWord};
 

@@ -3,7 +3,7 @@
 use mathlib.Core.Path.{_≡_, sym, ap, _∙_}
 use mathlib.Core.List.{List, [], _∷_}
 use Prim.Native.Nat.{ℕ}
-use Rattle.teplonga.specs.declared.ListReply.{ListReply}
+use Rattle.answering.specs.declared.ListReply.{ListReply}
 use Rattle.face.specs.Face.{packed}
 use Rattle.face.proofs.Settled.{front-settled}
 use Rattle.clause_calls.proofs.Settled.{expand-settled}

@@ -4,7 +4,7 @@ use mathlib.Core.List.{List, [], _∷_}
 use Prim.Native.Nat.{ℕ}
 use Rattle.face.specs.Face.{packed}
 use Rattle.face_words.specs.Words.{AtFront}
-use Rattle.teplonga.specs.declared.ListReply.{ListReply}
+use Rattle.answering.specs.declared.ListReply.{ListReply}
 use Rattle.clause_calls.specs.Expand.{ExpandOf}
 
 -- `teplonga_expand` hands over what `expand` answers, and the number of bytes in a word

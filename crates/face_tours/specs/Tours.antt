@@ -4,8 +4,8 @@ use mathlib.Core.List.{List, [], _∷_}
 use Prim.Native.Nat.{ℕ}
 use Rattle.face.specs.Face.{packed}
 use Rattle.face_words.specs.Words.{AtFront, countWords}
-use Rattle.teplonga.specs.declared.TreesReply.{TreesReply}
-use Rattle.teplonga.specs.declared.ListReply.{ListReply}
+use Rattle.answering.specs.declared.TreesReply.{TreesReply}
+use Rattle.answering.specs.declared.ListReply.{ListReply}
 use Rattle.call_tours.specs.Show.{ShowOf}
 use Rattle.call_tours.specs.Change.{ChangeOf}
 

@@ -151,7 +151,7 @@ fn put_sentence(t: SentenceRead) {
 fn show<'a>(rules: &'a [u8], tokens: &'a [u8]) {
     put_reading(sheets::read_rules(rules));
     put_sentence(sheets::read_tokens(tokens));
-    let line = sheets::refused_line(rules, tokens);
+    let line = teplonga::refused_line(rules, tokens);
     put(b"line ");
     put_number(line.len() as u64);
     put(b"\n");

@@ -1,4 +1,4 @@
-// The readers of the two sheets, for any bytes: a grammar and a sentence, or the refusal with its line; and the refused line itself.
+// The readers of the two sheets, for any bytes: a grammar and a sentence, or the refusal with its line; and the line that a refusal names.
 use fields::Cursor;
 use grammar::Column;
 use grammar::Grammar;
@@ -33,9 +33,9 @@ ghost use Rattle.sheets.specs.Items.{accepted, refused, stepAt, itemsFro
 ghost use Rattle.sheets.specs.RuleSheets.{hasKey, anyOf, isStart, freshStep, ruleSays, finish, rulesFrom, ruleSheet};
 ghost use Rattle.sheets.specs.Following.{after};
 ghost use Rattle.sheets.specs.TokenSheets.{orderStep, tokenSays, tokenStep, tokenSheet};
-ghost use Rattle.sheets.specs.RefusedLines.{LinePart, Hands, refusedLine};
+ghost use Rattle.sheets.specs.RefusedLines.{LinePart, Hands};
 ghost use Rattle.sheets.specs.LinesIn.{LineIn, heldOf};
-ghost use Rattle.sheets.specs.Promises.{readingOf, asRuleStep, asTokenStep, Adds, RulesRead, TokensRead};
+ghost use Rattle.sheets.specs.Promises.{asRuleStep, asTokenStep, Adds, RulesRead, TokensRead};
 ghost use Rattle.fields.specs.Cursors.{piecesFrom, bytesLeft};
 
 // The refusals, in the order of 01's table with 02's in their places; `numberOf` in specs/ has their numbers. Many are given by later crates.
@@ -467,15 +467,4 @@ pub fn refused_read<'a>(o: Outcome, p: Outcome, rules: &'a [u8], tokens: &'a [u8
         return line_after(tokens, m - 1);
     }
     &rules[..0]
-}
-
-// The refused line of a call with a rule sheet and a token sheet.
-pub fn refused_line<'a>(rules: &'a [u8], tokens: &'a [u8]) -> &'a [u8]
-    ensures { λ r. ⌜ Hands (rules .entry) (tokens .entry) r (refusedLine (now (rules .entry)) (now (tokens .entry))) ⌝ }
-{
-    let g = read_rules(rules);
-    let t = read_tokens(tokens);
-    let o = g.outcome;
-    let p = t.outcome;
-    refused_read(o, p, rules, tokens)
 }

@@ -1,264 +1,23 @@
-// The public calls. The fourth, the refused line itself, is `refused_line` of the readers.
-use candidates::terminal_count;
-use candidates::terminals;
-use candidates::within_limit;
-use chart::Verdict;
-use derivation::Counts;
-use derivation::write_both;
-use derivation::write_first;
-use derivation::write_none;
-use filling::judge;
-use grammar::Column;
-use grammar::Grammar;
-use grammar::Line;
-use grammar::Sentence;
-use grammar::Token;
-use grammar::Width;
-use lengths::Index;
-use lists::Listed;
-use sheets::Fault;
-use sheets::GrammarRead;
-use sheets::Outcome;
+// The public calls on a rule sheet: the verdict, the trees, the sweep and the refused line.
+use answering::Reply;
+use answering::SweepReply;
+use answering::TreesReply;
+use answering::sweep_read;
+use answering::trees_read;
+use answering::verdict_read;
 use sheets::read_rules;
 use sheets::read_tokens;
-pub use sheets::refused_line;
-use spans::size;
-use sweeping::sweep_rules;
-ghost use mathlib.Core.Path.{_≡_};
-ghost use mathlib.Core.List.{[]};
-ghost use Prim.Native.Nat.{_≤_};
-ghost use Rattle.grammar.specs.Content.{rules as rulesOf, Formed, Positioned};
-ghost use Rattle.lengths.specs.Indexes.{Exact};
-ghost use Rattle.sheets.specs.Promises.{RulesRead};
-ghost use Rattle.teplonga.specs.Answers.{withRules};
-ghost use Rattle.teplonga.specs.Told.{told};
-ghost use Rattle.teplonga.specs.Verdict.{VerdictOn, VerdictBy, VerdictOf};
-ghost use Rattle.teplonga.specs.Counted.{counted};
-ghost use Rattle.teplonga.specs.Trees.{TreesOn, TreesBy, TreesOf};
-ghost use Rattle.teplonga.specs.Sweep.{SweepBy, SweepOf};
-ghost use Rattle.teplonga.specs.Sweep as Sweep;
-ghost use Rattle.teplonga.specs.SweepReplies.{sweepRefusal, SweepOn};
-ghost use Rattle.grammar.specs.Sentences.{spelled};
-ghost use Rattle.teplonga.specs.ListReplies.{onList};
-
-// The answers: none, one, two, clear, refused-N, and given for what a call gives otherwise.
-pub enum Answer {
-    None,
-    One,
-    Two,
-    Clear,
-    Given,
-    Refused(Fault),
-}
-
-// The answer of a call for the verdict, with the refused line's number, or 0.
-pub struct Reply {
-    pub answer: Answer,
-    pub line: usize,
-}
-
-// The answer of a call for trees: besides, each tree's row count, 0 for a tree not written.
-pub struct TreesReply {
-    pub answer: Answer,
-    pub line: usize,
-    pub first: usize,
-    pub second: usize,
-}
-
-// The answer of a sweep: besides, the found sentence, of no tokens where none was found, and how many candidates were tried.
-pub struct SweepReply {
-    pub answer: Answer,
-    pub line: usize,
-    pub sentence: Sentence,
-    pub tried: u64,
-}
-
-// The answer of a call that gives a list: besides, its number of entries.
-pub struct ListReply {
-    pub answer: Answer,
-    pub line: usize,
-    pub count: usize,
-}
-
-// The reply on an answer whose list was put, or did not fit.
-pub fn list_reply(a: Answer, l: Listed) -> ListReply
-    ensures { λ r. ⌜ r ≡ onList a l ⌝ }
-{
-    if l.fits {
-        return ListReply {
-            answer: a,
-            line: 0,
-            count: l.count,
-        };
-    }
-    ListReply {
-        answer: Answer::Refused(Fault::FewRows),
-        line: 0,
-        count: 0,
-    }
-}
-
-// The verdict on rules and a sentence that were read.
-fn judged(words: &mut [u64], s: Sentence, g: Grammar) -> Reply
-    requires { ⌜ Formed g ⌝ }
-    requires { ⌜ Positioned s ⌝ }
-    ensures { λ r. ⌜ VerdictOn (rulesOf g) (spelled s) (now (words .entry)) (now (words .exit)) r ⌝ }
-{
-    let n = s.count;
-    if words.len() < size(n) {
-        return Reply {
-            answer: Answer::Refused(Fault::FewWords),
-            line: 0,
-        };
-    }
-    let v = judge(words, s, g);
-    match v {
-        Verdict::None => Reply {
-            answer: Answer::None,
-            line: 0,
-        },
-        Verdict::One => Reply {
-            answer: Answer::One,
-            line: 0,
-        },
-        Verdict::Two => Reply {
-            answer: Answer::Two,
-            line: 0,
-        },
-    }
-}
-
-// The verdict on the rules that were read and a token sheet.
-pub fn verdict_read(a: GrammarRead, tokens: &[u8], words: &mut [u64]) -> Reply
-    requires { ⌜ RulesRead a (told a) ⌝ }
-    ensures { λ r. ⌜ VerdictBy (withRules (told a) (now (tokens .entry))) (now (words .entry)) (now (words .exit)) r ⌝ }
-{
-    let o = a.outcome;
-    match o {
-        Outcome::Refused(f, l) => Reply {
-            answer: Answer::Refused(f),
-            line: l,
-        },
-        Outcome::Accepted => {
-            let b = read_tokens(tokens);
-            let p = b.outcome;
-            match p {
-                Outcome::Refused(f, l) => Reply {
-                    answer: Answer::Refused(f),
-                    line: l,
-                },
-                Outcome::Accepted => {
-                    let g = a.grammar;
-                    let s = b.sentence;
-                    judged(words, s, g)
-                }
-            }
-        }
-    }
-}
+use sheets::refused_read;
+ghost use Rattle.answering.specs.Verdict.{VerdictOf};
+ghost use Rattle.answering.specs.Trees.{TreesOf};
+ghost use Rattle.answering.specs.Sweep.{SweepOf};
+ghost use Rattle.sheets.specs.RefusedLines.{refusedLine, Hands};
 
 // The verdict on a sentence: has it no valid tree of nonterminal 0, one, or two? The span sheet is filled.
 pub fn verdict(rules: &[u8], tokens: &[u8], words: &mut [u64]) -> Reply
     ensures { λ r. ⌜ VerdictOf (now (rules .entry)) (now (tokens .entry)) (now (words .entry)) (now (words .exit)) r ⌝ }
 {
     verdict_read(read_rules(rules), tokens, words)
-}
-
-// The reply on an answer whose trees were written, or did not fit.
-pub fn counted_reply(a: Answer, c: Counts) -> TreesReply
-    ensures { λ r. ⌜ r ≡ counted a c ⌝ }
-{
-    if c.fits {
-        return TreesReply {
-            answer: a,
-            line: 0,
-            first: c.first,
-            second: c.second,
-        };
-    }
-    TreesReply {
-        answer: Answer::Refused(Fault::FewRows),
-        line: 0,
-        first: 0,
-        second: 0,
-    }
-}
-
-// The trees of rules and a sentence that were read.
-fn shown(
-    words: &mut [u64],
-    s: Sentence,
-    g: Grammar,
-    first: &mut [u8],
-    second: &mut [u8],
-) -> TreesReply
-    requires { ⌜ Formed g ⌝ }
-    requires { ⌜ Positioned s ⌝ }
-    ensures { λ r. ⌜ TreesOn (rulesOf g) (spelled s) (now (words .entry)) (now (words .exit)) (now (first .entry)) (now (first .exit)) (now (second .entry)) (now (second .exit)) r ⌝ }
-{
-    let n = s.count;
-    if words.len() < size(n) {
-        return TreesReply {
-            answer: Answer::Refused(Fault::FewWords),
-            line: 0,
-            first: 0,
-            second: 0,
-        };
-    }
-    let v = judge(words, s, g);
-    match v {
-        Verdict::None => {
-            let c = write_none(first, second);
-            counted_reply(Answer::None, c)
-        }
-        Verdict::One => {
-            let c = write_first(words, s, g, first, second);
-            counted_reply(Answer::One, c)
-        }
-        Verdict::Two => {
-            let c = write_both(words, s, g, first, second);
-            counted_reply(Answer::Two, c)
-        }
-    }
-}
-
-// The trees of the rules that were read and a token sheet.
-pub fn trees_read(
-    a: GrammarRead,
-    tokens: &[u8],
-    words: &mut [u64],
-    first: &mut [u8],
-    second: &mut [u8],
-) -> TreesReply
-    requires { ⌜ RulesRead a (told a) ⌝ }
-    ensures { λ r. ⌜ TreesBy (withRules (told a) (now (tokens .entry))) (now (words .entry)) (now (words .exit)) (now (first .entry)) (now (first .exit)) (now (second .entry)) (now (second .exit)) r ⌝ }
-{
-    let o = a.outcome;
-    match o {
-        Outcome::Refused(f, l) => TreesReply {
-            answer: Answer::Refused(f),
-            line: l,
-            first: 0,
-            second: 0,
-        },
-        Outcome::Accepted => {
-            let b = read_tokens(tokens);
-            let p = b.outcome;
-            match p {
-                Outcome::Refused(f, l) => TreesReply {
-                    answer: Answer::Refused(f),
-                    line: l,
-                    first: 0,
-                    second: 0,
-                },
-                Outcome::Accepted => {
-                    let g = a.grammar;
-                    let s = b.sentence;
-                    shown(words, s, g, first, second)
-                }
-            }
-        }
-    }
 }
 
 // The verdict on a sentence, and its one or two trees as rows in the lent memories.
@@ -274,102 +33,20 @@ pub fn trees(
     trees_read(read_rules(rules), tokens, words, first, second)
 }
 
-// The sentence of no tokens.
-pub fn nothing() -> Sentence
-    ensures { λ r. ⌜ r ≡ Sweep.noSentence ⌝ }
-{
-    Sentence {
-        tokens: [Token {
-            terminal: 0,
-            line: Line(0),
-            column: Column(0),
-            width: Width(0),
-        }; 64],
-        count: 0,
-    }
-}
-
-// A refused sweep.
-fn refused_sweep(f: Fault, line: usize) -> SweepReply
-    ensures { λ r. ⌜ r ≡ sweepRefusal f line ⌝ }
-{
-    let sentence = nothing();
-    SweepReply {
-        answer: Answer::Refused(f),
-        line,
-        sentence,
-        tried: 0,
-    }
-}
-
-// An accepted sweep.
-fn taken(g: Grammar, x: Index, k: usize, words: &mut [u64]) -> SweepReply
-    requires { ⌜ Formed g ⌝ }
-    requires { ⌜ Exact (rulesOf g) x ⌝ }
-    requires { ⌜ Sweep.SweepTaken (rulesOf g) k (now words) ⌝ }
-    ensures { λ r. ⌜ SweepOn (rulesOf g) k (now (words .entry)) (now (words .exit)) r ⌝ }
-{
-    let s = sweep_rules(g, x, k, words);
-    let tried = s.tried;
-    let sentence = s.sentence;
-    let n = sentence.count;
-    if n == 0 {
-        return SweepReply {
-            answer: Answer::Clear,
-            line: 0,
-            sentence,
-            tried,
-        };
-    }
-    SweepReply {
-        answer: Answer::Two,
-        line: 0,
-        sentence,
-        tried,
-    }
-}
-
-// The sweep on rules that were read: 23, 24, 21, else its answer.
-fn swept(g: Grammar, x: Index, k: usize, words: &mut [u64]) -> SweepReply
-    requires { ⌜ Formed g ⌝ }
-    requires { ⌜ Exact (rulesOf g) x ⌝ }
-    ensures { λ r. ⌜ SweepOn (rulesOf g) k (now (words .entry)) (now (words .exit)) r ⌝ }
-{
-    if k == 0 {
-        return refused_sweep(Fault::BadBound, 0);
-    }
-    if 7 < k {
-        return refused_sweep(Fault::BadBound, 0);
-    }
-    let t = terminal_count(terminals(g));
-    if !within_limit(t, k as u64) {
-        return refused_sweep(Fault::ManyCandidates, 0);
-    }
-    if words.len() < size(k) {
-        return refused_sweep(Fault::FewWords, 0);
-    }
-    taken(g, x, k, words)
-}
-
-// The sweep on the rules that were read.
-pub fn sweep_read(a: GrammarRead, bound: usize, words: &mut [u64]) -> SweepReply
-    requires { ⌜ RulesRead a (told a) ⌝ }
-    ensures { λ r. ⌜ SweepBy (told a) bound (now (words .entry)) (now (words .exit)) r ⌝ }
-{
-    let o = a.outcome;
-    match o {
-        Outcome::Refused(f, l) => refused_sweep(f, l),
-        Outcome::Accepted => {
-            let g = a.grammar;
-            let x = a.index;
-            swept(g, x, bound, words)
-        }
-    }
-}
-
 // Is there a sentence of 1 to `bound` tokens that can be read in two ways? The first candidate that has two trees, or clear.
 pub fn sweep(rules: &[u8], bound: usize, words: &mut [u64]) -> SweepReply
     ensures { λ r. ⌜ SweepOf (now (rules .entry)) bound (now (words .entry)) (now (words .exit)) r ⌝ }
 {
     sweep_read(read_rules(rules), bound, words)
+}
+
+// The refused line of a call with a rule sheet and a token sheet.
+pub fn refused_line<'a>(rules: &'a [u8], tokens: &'a [u8]) -> &'a [u8]
+    ensures { λ r. ⌜ Hands (rules .entry) (tokens .entry) r (refusedLine (now (rules .entry)) (now (tokens .entry))) ⌝ }
+{
+    let g = read_rules(rules);
+    let t = read_tokens(tokens);
+    let o = g.outcome;
+    let p = t.outcome;
+    refused_read(o, p, rules, tokens)
 }

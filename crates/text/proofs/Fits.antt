@@ -3,20 +3,18 @@ use mathlib.Core.Path.{_≡_, ap}
 use mathlib.Core.List.{List}
 use Prim.Native.Nat.{ℕ, _≤_}
 use native.Mathlib.Omega.{arith}
-use lib.ListN.{length}
 use Rattle.grammar.specs.Layout.{Word}
 use Rattle.grammar.specs.Trees.{Rules}
 use Rattle.sheets.specs.Items.{Reading}
-use Rattle.teplonga.specs.Answers.{Sheets}
-use Rattle.teplonga.specs.declared.TreesReply.{TreesReply}
-use Rattle.grammar.specs.declared.Cell.{Cell}
+use Rattle.answering.specs.Answers.{Sheets}
+use Rattle.answering.specs.declared.TreesReply.{TreesReply}
 use Rattle.grammar.specs.Candidates.{sentence}
 use Rattle.grammar.proofs.SweepLaws.{sentence-length}
-use Rattle.teplonga.specs.declared.SweepReply.{SweepReply}
-use Rattle.teplonga.specs.Sweep as Sweep
-use Rattle.teplonga.specs.SweepReplies.{SweepOn}
-use Rattle.derivation.specs.Written.{rowRoom}
-use Rattle.teplonga.specs.Trees.{Shown, treeless, single, both, large-one, large-two, TreesOn, short, showing, TreesBy, refusing, reading}
+use Rattle.answering.specs.declared.SweepReply.{SweepReply}
+use Rattle.answering.specs.Sweep as Sweep
+use Rattle.answering.specs.SweepReplies.{SweepOn}
+use Rattle.derivation.specs.Written.{Display, rowRoom}
+use Rattle.answering.specs.Trees.{Shown, treeless, single, both, large-one, large-two, TreesOn, short, showing, TreesBy, refusing, reading}
 
 -- each count is at most the memory's places
 pub record Fits (one two : List ℕ) (r : TreesReply) : Type 0 where
@@ -30,14 +28,14 @@ counted e f =
       second = omega (arith, f .second, ap (λ (x : TreesReply). x .second) e);
     }
 
-shown-fits : {g : Rules} {w : Word} {one one′ two two′ : List ℕ} {r : TreesReply} → Shown g w one one′ two two′ r → Fits one two r
+shown-fits : {dis : Display} {g : Rules} {w : Word} {one one′ two two′ : List ℕ} {r : TreesReply} → Shown dis g w one one′ two two′ r → Fits one two r
 shown-fits (treeless p x h i) = counted x (record { first = omega arith; second = omega arith })
 shown-fits (single p t l x h i) = counted x (record { first = l; second = omega arith })
 shown-fits (both p t u l m x h i) = counted x (record { first = l; second = m })
 shown-fits (large-one p t l n x h i) = counted x (record { first = omega arith; second = omega arith })
 shown-fits (large-two p t u l n x h i) = counted x (record { first = omega arith; second = omega arith })
 
-on-fits : {g : Rules} {w : Word} {words words′ one one′ two two′ : List ℕ} {r : TreesReply} → TreesOn g w words words′ one one′ two two′ r → Fits one two r
+pub on-fits : {dis : Display} {g : Rules} {w : Word} {words words′ one one′ two two′ : List ℕ} {r : TreesReply} → TreesOn dis g w words words′ one one′ two two′ r → Fits one two r
 on-fits (short l n x h i j) = counted x (record { first = omega arith; second = omega arith })
 on-fits (showing f s) = shown-fits s
 

@@ -8,10 +8,10 @@ use lib.ListN.{take, drop, take-append-drop}
 use Rattle.grammar.specs.Sentences.{spelled}
 use Rattle.printing.specs.Printing.{Wrote}
 use Rattle.sheets.specs.Items.{Reading}
-use Rattle.teplonga.specs.declared.SweepReply.{SweepReply}
-use Rattle.teplonga.specs.Answers.{Sheets}
-use Rattle.teplonga.proofs.Settled.{Apart, sheets-apart}
-use Rattle.teplonga.proofs.Lent.{trees-reply, sweep-reply}
+use Rattle.answering.specs.declared.SweepReply.{SweepReply}
+use Rattle.answering.specs.Answers.{Sheets}
+use Rattle.answering.proofs.Settled.{Apart, sheets-apart}
+use Rattle.answering.proofs.Lent.{trees-reply, sweep-reply}
 use Rattle.text.specs.Output.{answerText, head, treesText, sentenceText}
 use Rattle.text.specs.Programs.{TreesText, answered, SweepText, swept, CheckOf, SweepTextOf}
 use Rattle.text.specs.Programs as Programs

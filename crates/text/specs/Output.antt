@@ -7,8 +7,8 @@ use Rattle.printing.specs.Printing.{decimal, field, lastField, rowLines, tokenL
 use Rattle.sheets.specs.declared.Fault.{Fault}
 use Rattle.sheets.specs.Refusals.{numberOf}
 use Rattle.sheets.specs.TokenSheets.{tokenNames}
-use Rattle.teplonga.specs.declared.Answer.{Answer}
-use Rattle.teplonga.specs.declared.Answer.the-variants as Answer
+use Rattle.answering.specs.declared.Answer.{Answer}
+use Rattle.answering.specs.declared.Answer.the-variants as Answer
 
 -- `refused-` and the number
 abbrev pub refusedText : ℕ → List ℕ

@@ -6,11 +6,11 @@ use Prim.Native.Nat.{ℕ, _*_, _≤_, _<_}
 use lib.ListN.{length, take}
 use Rattle.sheets.specs.Items.{Reading}
 use Rattle.sheets.specs.RuleSheets.{ruleSheet}
-use Rattle.teplonga.specs.Answers.{Sheets, sheets}
-use Rattle.teplonga.specs.declared.TreesReply.{TreesReply}
-use Rattle.teplonga.specs.Trees.{TreesBy}
-use Rattle.teplonga.specs.declared.SweepReply.{SweepReply}
-use Rattle.teplonga.specs.Sweep.{SweepBy}
+use Rattle.answering.specs.Answers.{Sheets, sheets}
+use Rattle.answering.specs.declared.TreesReply.{TreesReply}
+use Rattle.answering.specs.Trees.{TreesBy}
+use Rattle.answering.specs.declared.SweepReply.{SweepReply}
+use Rattle.answering.specs.Sweep.{SweepBy}
 use Rattle.text.specs.Input.{Parts, parts, boundOf}
 use Rattle.text.specs.Output.{refusedText, answerText, head, treesText, sentenceText}
 use Rattle.grammar.specs.Sentences.{spelled}

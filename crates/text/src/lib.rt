@@ -1,4 +1,5 @@
 // The programs' input and output as bytes.
+use answering::Answer;
 use fields::Number;
 use fields::numeral;
 use fields::same;
@@ -9,7 +10,6 @@ use printing::put_number;
 use printing::put_rows;
 use printing::put_tokens;
 use sheets::fault_number;
-use teplonga::Answer;
 use teplonga::sweep;
 use teplonga::trees;
 ghost use mathlib.Core.Path.{_≡_};
@@ -19,7 +19,7 @@ ghost use lib.ListN.{length, take, drop};
 ghost use Rattle.printing.specs.Printing.{Wrote, lastField, rowLines, tokenLines};
 ghost use Rattle.sheets.specs.Refusals.{numberOf};
 ghost use Rattle.sheets.specs.RuleSheets.{ruleSheet};
-ghost use Rattle.teplonga.specs.Answers.{sheets};
+ghost use Rattle.answering.specs.Answers.{sheets};
 ghost use Rattle.text.specs.Output.{refusedText, answerText, head, treeNames, treesText, sentenceText};
 ghost use Rattle.fields.specs.Answers.{asNumber};
 ghost use Rattle.text.specs.Input.{boundOf};

@@ -3,28 +3,16 @@ use mathlib.Core.List.{List}
 use Prim.Native.Nat.{ℕ, _≤_}
 use native.Mathlib.Omega.{arith}
 use lib.ListN.{length}
-use Rattle.grammar.specs.Layout.{Word}
 use Rattle.grammar.specs.Trees.{Rules}
 use Rattle.shown.specs.Shown.{View}
-use Rattle.teplonga.specs.declared.TreesReply.{TreesReply}
-use Rattle.teplonga.specs.declared.ListReply.{ListReply}
-use Rattle.teplonga.proofs.ListSettled.{count-of, list-count}
-use Rattle.text.proofs.Fits.{Fits, counted}
-use Rattle.call_tours.specs.Show.{ShownTo, treeless, single, both, large-one, large-two, ShowOn, short, showing, ShowOf}
+use Rattle.answering.specs.declared.TreesReply.{TreesReply}
+use Rattle.answering.specs.declared.ListReply.{ListReply}
+use Rattle.answering.proofs.ListSettled.{count-of, list-count}
+use Rattle.text.proofs.Fits.{Fits, counted, on-fits}
+use Rattle.call_tours.specs.Show.{ShowOf}
 use Rattle.call_tours.specs.Show as Show
 use Rattle.call_tours.specs.Change.{ChangeDone, unfit, given, ChangeOn, barred, allowed, ChangeOf}
 use Rattle.call_tours.specs.Change as Change
-
-shown-fits : {sees : View} {g : Rules} {w : Word} {one one′ two two′ : List ℕ} {r : TreesReply} → ShownTo sees g w one one′ two two′ r → Fits one two r
-shown-fits (treeless p x h i) = counted x (record { first = omega arith; second = omega arith })
-shown-fits (single p t l x h i) = counted x (record { first = l; second = omega arith })
-shown-fits (both p t u l m x h i) = counted x (record { first = l; second = m })
-shown-fits (large-one p t l n x h i) = counted x (record { first = omega arith; second = omega arith })
-shown-fits (large-two p t u l n x h i) = counted x (record { first = omega arith; second = omega arith })
-
-on-fits : {sees : View} {g : Rules} {w : Word} {words words′ one one′ two two′ : List ℕ} {r : TreesReply} → ShowOn sees g w words words′ one one′ two two′ r → Fits one two r
-on-fits (short l n x h i j) = counted x (record { first = omega arith; second = omega arith })
-on-fits (showing f s) = shown-fits s
 
 pub show-fit : {rules tokens rights : List ℕ} {user : ℕ} {words words′ one one′ two two′ : List ℕ} {r : TreesReply}
     → ShowOf rules tokens rights user words words′ one one′ two two′ r → Fits one two r

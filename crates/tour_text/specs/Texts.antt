@@ -3,8 +3,8 @@ use mathlib.Core.Path.{_≡_}
 use mathlib.Core.List.{List, _++_}
 use Prim.Native.Nat.{ℕ, _*_}
 use lib.ListN.{length, take}
-use Rattle.teplonga.specs.declared.TreesReply.{TreesReply}
-use Rattle.teplonga.specs.declared.ListReply.{ListReply}
+use Rattle.answering.specs.declared.TreesReply.{TreesReply}
+use Rattle.answering.specs.declared.ListReply.{ListReply}
 use Rattle.text.specs.Output.{answerText, head, treesText}
 use Rattle.text.specs.Programs.{Lent}
 use Rattle.call_tours.specs.Show.{ShowOf}

@@ -1,7 +1,7 @@
 -- `listed` meets its contract: 21 by the words' number, else the list by the chart's verdict.
 use Rattle.grammar.proofs.VerdictLaws.{none-not-two, one-not-two}
-use Rattle.teplonga.specs.declared.Answer.the-variants as Answer
-use Rattle.teplonga.proofs.Judging.{filled-by}
+use Rattle.answering.specs.declared.Answer.the-variants as Answer
+use Rattle.answering.proofs.Judging.{filled-by}
 use Rattle.call_places.proofs.Placing.{too-few, given-none, placed}
 use borrow.Author.Needs.{needs}
 use Rattle.call_places.proofs.listed.Statement.{statement}

@@ -1,6 +1,6 @@
 -- `places` meets its contract: the readers' refusals, else the places of what was read.
 use mathlib.Core.Path.{refl}
-use Rattle.teplonga.proofs.Readings.{refused-rules, refused-tokens, both-accepted}
+use Rattle.answering.proofs.Readings.{refused-rules, refused-tokens, both-accepted}
 use Rattle.call_places.specs.Places.{refusing, reading}
 use borrow.Author.Needs.{needs}
 use Rattle.call_places.proofs.places.Statement.{statement}

@@ -1,6 +1,6 @@
 -- `counted` meets its contract: 21 by the words' number, else the rows of the verdict's trees.
-use Rattle.teplonga.proofs.Judging.{filled-by}
-use Rattle.teplonga.proofs.Showing.{first-there, second-there, wants-first, wants-second}
+use Rattle.answering.proofs.Judging.{filled-by}
+use Rattle.answering.proofs.Showing.{first-there, second-there, wants-first, wants-second}
 use Rattle.call_rows.proofs.Counting.{has-firsts, too-few, counted-none, counted-one, counted-two}
 use borrow.Author.Needs.{needs}
 use Rattle.call_rows.proofs.counted.Statement.{statement}

@@ -1,6 +1,6 @@
 -- `rows` meets its contract: the readers' refusals, else the row counts of what was read.
 use mathlib.Core.Path.{refl}
-use Rattle.teplonga.proofs.Readings.{refused-rules, refused-tokens, both-accepted}
+use Rattle.answering.proofs.Readings.{refused-rules, refused-tokens, both-accepted}
 use Rattle.call_rows.specs.Rows.{refusing, reading}
 use borrow.Author.Needs.{needs}
 use Rattle.call_rows.proofs.rows.Statement.{statement}

@@ -2,9 +2,9 @@
 use borrow.Author.Needs.{needs}
 use Rattle.rights.specs.RightSheets.{rightsSheet}
 use Rattle.call_tours.proofs.Showing.{rights-not, rights-are, by-changes}
-use mathlib.Core.Path.{_≡_, refl, sym, ap, _∙_}
+use mathlib.Core.Path.{refl}
 use Rattle.call_tours.specs.Change.{refusing, barring, reading}
-use Rattle.teplonga.proofs.Readings.{rules-are, rules-not}
+use Rattle.answering.proofs.Readings.{rules-are, rules-not}
 use Rattle.call_tours.proofs.change.Statement.{statement}
 use Rattle.call_tours.proofs.change.Tie as tie
 

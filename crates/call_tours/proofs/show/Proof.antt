@@ -1,9 +1,9 @@
 -- `show` meets its contract: the rule sheet, the token sheet, the rights sheet, then the trees.
 use borrow.Author.Needs.{needs}
-use mathlib.Core.Path.{_≡_, refl, sym, ap, _∙_}
+use mathlib.Core.Path.{refl}
 use Rattle.rights.specs.RightSheets.{rightsSheet}
 use Rattle.call_tours.specs.Show.{refusing, barring, reading}
-use Rattle.teplonga.proofs.Readings.{refused-rules, refused-tokens, both-accepted}
+use Rattle.answering.proofs.Readings.{refused-rules, refused-tokens, both-accepted}
 use Rattle.call_tours.proofs.Showing.{rights-not, rights-are, by-sees}
 use Rattle.call_tours.proofs.show.Statement.{statement}
 use Rattle.call_tours.proofs.show.Tie as tie
@@ -44,8 +44,8 @@ refused-trees-requires-3 c κs = search needs
 enum-told-3 : tie.Need-enum-told-3
 enum-told-3 c = search needs
 
-shown-to-requires : tie.Need-shown-to-requires
-shown-to-requires c κs =
+shown-requires : tie.Need-shown-requires
+shown-requires c κs =
     let r = c .before .before .before .before .before .before .before .before .before .before .before .before .before .read-rules .ensures in
     let e = c .before .before .before .before .before .before .before .before .before .before .before .enum-told .given .1 in
     (r .formed e, c .before .before .before .before .before .before .before .before .before .before .read-tokens .ensures .positioned (c .before .before .before .before .before .before .before .before .enum-told2 .given .1))
@@ -80,7 +80,7 @@ returns-4 c =
     let z = c .before .before .before .before .before .before .before .before .before .before .before .before .before .before .before .before .before .before .before .before .before .before .before .before .before .before .before .args in
     let w = rights-are (rightsSheet (z .rights .now)) (z .user) _ (c .before .before .before .before .before .before .before .before .before .before .before .before .before .before .read-rights .ensures) (c .before .before .before .before .before .before .before .before .before .before .before .before .enum-told3 .given .1) in
     reading (both-accepted (z .tokens .now) (c .before .before .before .before .before .before .before .before .before .before .before .before .before .before .before .before .before .before .before .before .read-rules .ensures) (c .before .before .before .before .before .before .before .before .before .before .before .before .before .before .before .before .before .before .enum-told .given .1) (c .before .before .before .before .before .before .before .before .before .before .before .before .before .before .before .before .before .read-tokens .ensures) (c .before .before .before .before .before .before .before .before .before .before .before .before .before .before .before .enum-told2 .given .1))
-    (w .1) (by-sees (w .2) (c .before .before .before .before .before .before .shown-to .ensures))
+    (w .1) (by-sees (w .2) (c .before .before .before .before .before .before .shown .ensures))
 
 pub show-spec : {M : Type 1} → statement M
 show-spec =
@@ -98,7 +98,7 @@ show-spec =
     enum-known-q
     refused-trees-requires-3
     enum-told-3
-    shown-to-requires
+    shown-requires
     returns
     returns-2
     returns-3

@@ -1,6 +1,6 @@
 -- `expand` meets its contract: the reader's refusals, else the sheet of what was read.
 use mathlib.Core.Path.{refl}
-use Rattle.teplonga.proofs.Readings.{rules-are, rules-not}
+use Rattle.answering.proofs.Readings.{rules-are, rules-not}
 use Rattle.clause_calls.specs.Expand.{refusing, giving}
 use borrow.Author.Needs.{needs}
 use Rattle.clause_calls.proofs.expand.Statement.{statement}

@@ -1,5 +1,5 @@
 -- `sweep` meets its contract: the sweep over what the clause sheet gives.
-use Rattle.teplonga.proofs.Readings.{sweep-by}
+use Rattle.answering.proofs.Readings.{sweep-by}
 use borrow.Author.Needs.{needs}
 use Rattle.clause_calls.proofs.sweep.Statement.{statement}
 use Rattle.clause_calls.proofs.sweep.Tie as tie

@@ -1,5 +1,5 @@
 -- `verdict` meets its contract: the verdict on what the clause sheet gives.
-use Rattle.teplonga.proofs.Readings.{verdict-by}
+use Rattle.answering.proofs.Readings.{verdict-by}
 use borrow.Author.Needs.{needs}
 use Rattle.clause_calls.proofs.verdict.Statement.{statement}
 use Rattle.clause_calls.proofs.verdict.Tie as tie

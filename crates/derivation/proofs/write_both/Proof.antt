@@ -1,12 +1,17 @@
--- `write_both` meets its contract: with all nonterminals open, the rows shown are 01's.
+-- `write_both` meets its contract: the least heights are lent on a looping sheet, none on another.
 use borrow.Author.Needs.{needs}
-use mathlib.Core.Option.{none, some}
-use Rattle.derivation.proofs.WrittenLaws.{written-all, first-seen, second-seen}
+use mathlib.Core.Path.{refl}
+use Rattle.nodes.proofs.PreferLaws.{ready-flat}
 use Rattle.derivation.proofs.write_both.Statement.{statement}
 use Rattle.derivation.proofs.write_both.Tie as tie
 
-show-both-requires : tie.Need-show-both-requires
-show-both-requires c κs = search needs
+cyclic-requires : tie.Need-cyclic-requires
+cyclic-requires c κs = c .before .before .before .pre .0 .formed
+
+both-low-requires : tie.Need-both-low-requires
+both-low-requires c κs =
+    let z = c .before .before .before .before .before .before .before in
+    (z .pre .0, (z .pre .1, c .before .before .before .cyclic .ensures .is (c .before .before .if1 .taken)))
 
 same-length : tie.Need-same-length
 same-length c = search needs
@@ -15,10 +20,40 @@ same-length-2 : tie.Need-same-length-2
 same-length-2 c = search needs
 
 returns : tie.Need-returns
-returns c =
-    let x = c .before .before .before .before in
-    let z = x .before .before .before .before .before .before in
-    λ t u a b. written-all _ (some t) (some u) (first-seen (z .pre .0 .formed) a) (second-seen (z .pre .0 .formed) b) (x .show-both .ensures t u a b)
+returns c = search needs
+
+array-share-prefix-hs : tie.Need-array-share-prefix-hs
+array-share-prefix-hs c = search needs
+
+slice-aggregate-both-by : tie.Need-slice-aggregate-both-by
+slice-aggregate-both-by c = search needs
+
+both-by-requires : tie.Need-both-by-requires
+both-by-requires c κs =
+    let z = c .before .before .before .before .before .before .before .before in
+    (ready-flat (z .pre .0) (c .before .before .before .before .cyclic .ensures .isnt (c .before .before .before .if1 .left)) refl, z .pre .1)
+
+same-length-3 : tie.Need-same-length-3
+same-length-3 c = search needs
+
+same-length-4 : tie.Need-same-length-4
+same-length-4 c = search needs
+
+returns-2 : tie.Need-returns-2
+returns-2 c = search needs
 
 pub write-both-spec : {M : Type 1} → statement M
-write-both-spec = tie.close (tie.spec show-both-requires same-length same-length-2 returns)
+write-both-spec =
+    tie.close
+    (tie.spec
+    cyclic-requires
+    both-low-requires
+    same-length
+    same-length-2
+    returns
+    array-share-prefix-hs
+    slice-aggregate-both-by
+    both-by-requires
+    same-length-3
+    same-length-4
+    returns-2)

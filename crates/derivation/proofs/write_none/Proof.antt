@@ -1,8 +1,5 @@
 -- `write_none` meets its contract: both memories are cleared.
 use borrow.Author.Needs.{needs}
-use mathlib.Core.Path.{refl}
-use mathlib.Core.Option.{none}
-use native.Mathlib.Omega.{arith}
 use Rattle.derivation.proofs.WrittenLaws.{none-written}
 use Rattle.derivation.proofs.write_none.Statement.{statement}
 use Rattle.derivation.proofs.write_none.Tie as tie
@@ -20,7 +17,7 @@ same-length-2 : tie.Need-same-length-2
 same-length-2 c = search needs
 
 returns : tie.Need-returns
-returns c = none-written (c .before .before .before .before .before .before .clear .ensures) (c .before .before .clear2 .ensures)
+returns c = λ dis. none-written dis (c .before .before .before .before .before .before .clear .ensures) (c .before .before .clear2 .ensures)
 
 pub write-none-spec : {M : Type 1} → statement M
 write-none-spec =

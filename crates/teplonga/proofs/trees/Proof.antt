@@ -1,5 +1,5 @@
 -- `trees` meets its contract: the trees of what the rule sheet gives.
-use Rattle.teplonga.proofs.Readings.{trees-by}
+use Rattle.answering.proofs.Readings.{trees-by}
 use borrow.Author.Needs.{needs}
 use Rattle.teplonga.proofs.trees.Statement.{statement}
 use Rattle.teplonga.proofs.trees.Tie as tie

@@ -1,5 +1,5 @@
 -- `verdict` meets its contract: the verdict on what the rule sheet gives.
-use Rattle.teplonga.proofs.Readings.{verdict-by}
+use Rattle.answering.proofs.Readings.{verdict-by}
 use borrow.Author.Needs.{needs}
 use Rattle.teplonga.proofs.verdict.Statement.{statement}
 use Rattle.teplonga.proofs.verdict.Tie as tie
