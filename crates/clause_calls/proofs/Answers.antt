@@ -71,7 +71,7 @@ module _ (g : Rules) where
 
 module _ {c : Clauses} {g : Rules} (m : OneToOne c g 0) where
   clear-readings : {k : ℕ} → Clear g k → ClearReadings c k
-  clear-readings x = record { none = λ w a b l h t. x .none w a b l h (two-trees m w t) }
+  clear-readings x = record { no-two = λ w a b l h t. x .none w a b l h (two-trees m w t) }
 
   first-readings : {k : ℕ} {cs : List Cell} → FirstTwo g k cs → FirstTwoReadings c k cs
   first-readings {cs = cs} x =
@@ -90,7 +90,7 @@ sweep-reads s k (Sweep.reading e (Sweep.many l u m n x h)) = Meaning.refusing (a
 sweep-reads s k (Sweep.reading e (Sweep.short l u m o n x h)) = Meaning.refusing (ap (λ (z : SweepReply). z .answer) x)
 sweep-reads s k (Sweep.reading {g = g} e (Sweep.clear t c q x h)) =
     let m = meant s g e in
-    Meaning.clear (m .own) (clear-readings (m .match) c) x
+    Meaning.saying-clear (m .own) (clear-readings (m .match) c) x
 sweep-reads s k (Sweep.reading {g = g} e (Sweep.two t c o q x h)) =
     let m = meant s g e in
-    Meaning.two (m .own) (first-readings (m .match) c) (clear-readings (m .match) o) x
+    Meaning.saying-two (m .own) (first-readings (m .match) c) (clear-readings (m .match) o) x
