@@ -63,6 +63,11 @@ member f (at cut₂) = List·Memᴰ·tail (List·Memᴰ·tail (List·Memᴰ·tai
 member f stop₁ = List·Memᴰ·tail (List·Memᴰ·tail (List·Memᴰ·tail (List·Memᴰ·tail (List·Memᴰ·head refl))))
 member f stop₂ = List·Memᴰ·tail (List·Memᴰ·tail (List·Memᴰ·tail (List·Memᴰ·tail (List·Memᴰ·tail (List·Memᴰ·head refl)))))
 
+-- points that have their ranks for numbers
+pub ranked-by : (f : Point → ℕ) → ((p : Point) → lower (numbersOf f) (f p) ≡ f p) → Ranked f
+ranked-by f e =
+    record { small = λ p. omega (arith, e p, lower-few (numbersOf f) (f p) (member f p)); rank = e }
+
 module _ (f : Point → ℕ) where
   pub ranks : Point → ℕ
   ranks p = lower (numbersOf f) (f p)
