@@ -13,7 +13,10 @@ use Rattle.sets.proofs.Sets.{in-dec, in-zero, insert-same, insert-keeps, insert
 use Rattle.pair_offsets.specs.declared.Frame.{Frame}
 use Rattle.pair_offsets.specs.declared.Masks.{Masks}
 use Rattle.pair_offsets.specs.Evens.{EvenSix}
+use Rattle.pairs.specs.Settings.{Corner, at}
+use Rattle.pair_offsets.specs.Frames.{rankOf}
 use Rattle.pair_offsets.specs.Lists.{Held, OffsetAdded, LeftWith, OffsetsLeft, Pushed, Listing}
+use Rattle.pair_offsets.specs.Lists.{ListsEvens}
 
 -- 1. reading
 
@@ -68,7 +71,7 @@ pushed f old n t h v =
       size = length-set old n t;
       low = omega arith;
       high = omega arith;
-      kept = λ i p. getD-set-other old n i t 0 (λ e. omega arith);
+      kept = λ i p. getD-set-other old n i t 0 p;
       put = λ v. (omega arith, getD-set-same old n t 0 h);
       only = λ p. (v, getD-set-same old n t 0 h);
     }
@@ -91,6 +94,7 @@ listing-none f old from =
       low = omega arith;
       high = omega arith;
       kept = λ i p. refl;
+      beyond = λ i p. refl;
       all = λ s p. absurd (omega arith);
       only = λ i p q. absurd (omega arith);
     }
@@ -102,7 +106,8 @@ listing-more {f} {old} {mid} {new} {from} {t} {n} {r} a b =
       size = b .size ∙ a .size;
       low = omega (arith, a .low, b .low);
       high = omega (arith, a .high, b .high);
-      kept = λ i p. b .kept i (omega (arith, a .low)) ∙ a .kept i p;
+      kept = λ i p. b .kept i (λ e. omega (arith, a .low)) ∙ a .kept i p;
+      beyond = λ i p. b .kept i (λ e. omega (arith, a .high)) ∙ a .beyond i (omega arith);
       all = λ s p v. by s p v (decLt s t);
       only = λ i p q. of i p q (decLt i n);
     }
@@ -111,15 +116,38 @@ listing-more {f} {old} {mid} {new} {from} {t} {n} {r} a b =
         → (i : ℕ) × (from ≤ i) × (i < r) × (getD new i 0 ≡ s)
     by s p v (yes q) =
         let i = a .all s q v in
-        (i .0, i .1, omega (arith, i .2, b .low), b .kept (i .0) (i .2) ∙ i .3)
+        (i .0, i .1, omega (arith, i .2, b .low), b .kept (i .0) (λ e. omega (arith, i .2)) ∙ i .3)
     by s p v (no q) =
         let e : s ≡ t = omega arith in
         let z = b .put (subst (EvenSix f) e v) in
         (n, a .low, z .0, z .1 ∙ sym e)
 
     of : (i : ℕ) → from ≤ i → i < r → Dec (i < n) → EvenSix f (getD new i 0)
-    of i p q (yes h) = subst (EvenSix f) (sym (b .kept i h)) (a .only i p h)
+    of i p q (yes h) = subst (EvenSix f) (sym (b .kept i (λ e. omega arith))) (a .only i p h)
     of i p q (no h) =
         let e : i ≡ n = omega (arith, b .high) in
         let z = b .only (omega arith) in
         subst (λ (m : ℕ). EvenSix f (getD new m 0)) (sym e) (subst (EvenSix f) (sym (z .1)) (z .0))
+
+-- 3. a list of all sixes, for each frame with the same starts
+
+even-same : {f g : Frame} {s : ℕ} → ((c : Corner) → rankOf f (at c) ≡ rankOf g (at c)) → EvenSix f s → EvenSix g s
+even-same {f} {g} {s} e v =
+    record {
+      even =
+          record {
+            same = λ c d h. v .even .same c d (rw (e c, e d) h);
+            alike = λ c d b h. v .even .alike c d b (rw (e c, e d) h);
+            turn = v .even .turn;
+            three = λ c d b h k. v .even .three c d b (rw (e c, e d) h) (rw (e d, e b) k);
+          };
+    }
+
+pub listed : {f g : Frame} {old new : List ℕ} {from end : ℕ} → ((c : Corner) → rankOf f (at c) ≡ rankOf g (at c))
+    → Listing f old new from 4096 end → ListsEvens g new from end
+listed e l =
+    record {
+      low = l .low;
+      all = λ s h v. l .all s h (even-same (λ c. sym (e c)) v);
+      only = λ i h k. even-same e (l .only i h k);
+    }

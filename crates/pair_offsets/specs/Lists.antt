@@ -36,21 +36,30 @@ pub record OffsetsLeft (list : List ℕ) (from end : ℕ) (m : Masks) (r : ℕ) 
   pub all : (k : ℕ) → LeftWith list from end m k → In r k
   pub only : (k : ℕ) → In r k → LeftWith list from end m k
 
--- t is put at n where it can stand, and nothing before n is changed
+-- t is put at n where it can stand, and nothing else is changed
 pub record Pushed (f : Frame) (old new : List ℕ) (n t r : ℕ) : Type 0 where
   pub size : length new ≡ length old
   pub low : n ≤ r
   pub high : r ≤ n + 1
-  pub kept : (i : ℕ) → i < n → getD new i 0 ≡ getD old i 0
+  pub kept : (i : ℕ) → (i ≡ n → ⊥) → getD new i 0 ≡ getD old i 0
   pub put : EvenSix f t → (n < r) × (getD new n 0 ≡ t)
   pub only : n < r → EvenSix f t × (getD new n 0 ≡ t)
 
--- from place `from` up to `end` stand the sixes below t that can stand over the frame
+-- from place `from` up to `end` stand the sixes below t that can stand over the frame; of the others,
+-- at most t places are changed
 pub record Listing (f : Frame) (old new : List ℕ) (from t end : ℕ) : Type 0 where
   pub size : length new ≡ length old
   pub low : from ≤ end
   pub high : end ≤ from + t
   pub kept : (i : ℕ) → i < from → getD new i 0 ≡ getD old i 0
+  pub beyond : (i : ℕ) → from + t ≤ i → getD new i 0 ≡ getD old i 0
   pub all : (s : ℕ) → s < t → EvenSix f s
       → (i : ℕ) × (from ≤ i) × (i < end) × (getD new i 0 ≡ s)
   pub only : (i : ℕ) → from ≤ i → i < end → EvenSix f (getD new i 0)
+
+-- from place `from` up to `end` stand all the sixes that can stand over the frame
+pub record ListsEvens (f : Frame) (list : List ℕ) (from end : ℕ) : Type 0 where
+  pub low : from ≤ end
+  pub all : (s : ℕ) → s < 4096 → EvenSix f s
+      → (i : ℕ) × (from ≤ i) × (i < end) × (getD list i 0 ≡ s)
+  pub only : (i : ℕ) → from ≤ i → i < end → EvenSix f (getD list i 0)

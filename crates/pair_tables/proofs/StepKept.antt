@@ -18,7 +18,7 @@ use Rattle.pairs.specs.Settings.{Corner, start₁, start₂, Point, setting}
 use Rattle.pair_offsets.specs.declared.Frame.{Frame}
 use Rattle.pair_offsets.specs.Frames.{rankOf}
 use Rattle.pair_offsets.specs.Codes.{orderCode, offsetCode}
-use Rattle.pair_offsets.specs.Lists.{Listing}
+use Rattle.pair_offsets.specs.Lists.{ListsEvens}
 use Rattle.pair_offsets.proofs.SayLaws.{offset-low}
 use Rattle.pair_steps.specs.declared.Node.{Node}
 use Rattle.pair_steps.specs.declared.Words.{Words}
@@ -62,7 +62,7 @@ bits-in f r k h i =
 
 module _ (g : Rules) (t : List ℕ) (low : LowTable t) (f : Frame) (hx hy : Head) (x y : Node) (nx : NodeOf g hx x)
     (ny : NodeOf g hy y) {i j : ℕ} (ix : i ≡ shapeNumber (hx .shape)) (iy : j ≡ shapeNumber (hy .shape))
-    (list old : List ℕ) (from end : ℕ) (listed : Listing f old list from 4096 end)
+    (list : List ℕ) (from end : ℕ) (listed : ListsEvens f list from end)
     (l : Corner → Corner → Offset) (z : Point → ℕ) (told : ToldBy g t (setting (rankOf f) l z) hx hy) where
   module _ (w n : Words) (ws : WordsOf t x y (shapeNumber (hx .shape)) (shapeNumber (hy .shape)) w)
       (ns : NextsOf t f x y n) where

@@ -24,7 +24,7 @@ use Rattle.pair_offsets.proofs.SayLaws.{code-of, offset-low}
 use Rattle.pair_offsets.proofs.EvenLaws.{six-code}
 use lib.ListN.{getD}
 use Rattle.pair_offsets.specs.Evens.{sixOf}
-use Rattle.pair_offsets.specs.Lists.{Listing}
+use Rattle.pair_offsets.specs.Lists.{ListsEvens}
 use Rattle.pair_steps.specs.declared.Node.{Node}
 use Rattle.pair_steps.specs.declared.Words.{Words}
 use Rattle.pair_steps.specs.Nodes.{NodeOf, shapeNumber}
@@ -221,7 +221,7 @@ shape-low (second p) h = omega arith
 
 module _ (g : Rules) (t : List ℕ) (so : SoundTable g t) (f : Frame) (hx hy : Head) (x y : Node) (nx : NodeOf g hx x)
     (ny : NodeOf g hy y) {i j : ℕ} (ix : i ≡ shapeNumber (hx .shape)) (iy : j ≡ shapeNumber (hy .shape))
-    (su : Suits f (x .kids) (y .kids)) (list old : List ℕ) (from end : ℕ) (listed : Listing f old list from 4096 end)
+    (su : Suits f (x .kids) (y .kids)) (list : List ℕ) (from end : ℕ) (listed : ListsEvens f list from end)
     (w n : Words) (ws : WordsOf t x y (shapeNumber (hx .shape)) (shapeNumber (hy .shape)) w) (ns : NextsOf t f x y n)
     (r q : ℕ) (o : OffsetsFound f x y w list from end r) (v : TokensFound f x y n q) where
   record Stands (k z : ℕ) : Type 0 where
@@ -370,9 +370,9 @@ module _ (g : Rules) (t : List ℕ) (so : SoundTable g t) (f : Frame) (hx hy : H
 -- A STEP KEEPS A TABLE SOUND
 pub step-sound : (g : Rules) (t : List ℕ) → SoundTable g t → (f : Frame) (hx hy : Head) (x y : Node) → NodeOf g hx x
     → NodeOf g hy y → {i j : ℕ} → i ≡ shapeNumber (hx .shape) → j ≡ shapeNumber (hy .shape)
-    → Suits f (x .kids) (y .kids) → (list old : List ℕ) (from end : ℕ) → Listing f old list from 4096 end
+    → Suits f (x .kids) (y .kids) → (list : List ℕ) (from end : ℕ) → ListsEvens f list from end
     → {u : List ℕ} {b : Bool} → Stepped f x y i j list from end t u b → SoundTable g u
-step-sound g t so f hx hy x y nx ny ix iy su list old from end l (no-offsets ws o) = so
-step-sound g t so f hx hy x y nx ny ix iy su list old from end l (no-terminals ws o ns v) = so
-step-sound g t so f hx hy x y nx ny ix iy su list old from end l (puts {w = w} {n} {r} {q} ws o rs ns v qs p) =
-    put-sound g t so f hx hy x y nx ny ix iy su list old from end l w n (rw (ix, iy) at ws) ns r q o v rs qs p
+step-sound g t so f hx hy x y nx ny ix iy su list from end l (no-offsets ws o) = so
+step-sound g t so f hx hy x y nx ny ix iy su list from end l (no-terminals ws o ns v) = so
+step-sound g t so f hx hy x y nx ny ix iy su list from end l (puts {w = w} {n} {r} {q} ws o rs ns v qs p) =
+    put-sound g t so f hx hy x y nx ny ix iy su list from end l w n (rw (ix, iy) at ws) ns r q o v rs qs p

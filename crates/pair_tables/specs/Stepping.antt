@@ -1,9 +1,9 @@
 -- Members put into a word of a table. For the contracts of inner functions only.
 use mathlib.Core.Path.{_≡_}
-use mathlib.Core.Bool.{Bool, true}
-use mathlib.Core.List.{List}
+use mathlib.Core.Bool.{Bool, true, false}
+use mathlib.Core.List.{List, [], _∷_}
 use mathlib.Core.Logic.{_⊎_}
-use Prim.Native.Nat.{ℕ, _+_, _*_, _%_, _^_}
+use Prim.Native.Nat.{ℕ, _+_, _*_, _%_, _^_, _≤_, _<_}
 use lib.Bits.{bitAnd, bitOr}
 use lib.ListN.{length, getD}
 use Rattle.sets.specs.Sets.{In}
@@ -16,6 +16,11 @@ use Rattle.pair_steps.specs.Leaving.{OffsetsFound}
 use Rattle.pair_steps.specs.Tokens.{TokensFound}
 use Rattle.pair_steps.specs.Tables.{WordsOf, NextsOf}
 
+-- the sum of a list's words: it grows where a word gets a member more
+abbrev pub wordSum : List ℕ → ℕ
+wordSum [] = 0
+wordSum (n ∷ l) = n + wordSum l
+
 -- the word at a place has the members of a set besides, and the others are as they were; r says that
 -- it had them all
 pub record Joined (old new : List ℕ) (at set : ℕ) (r : Bool) : Type 0 where
@@ -23,6 +28,8 @@ pub record Joined (old new : List ℕ) (at set : ℕ) (r : Bool) : Type 0 where
   pub other : (i : ℕ) → (i ≡ at → ⊥) → getD new i 0 ≡ getD old i 0
   pub word : getD new at 0 ≡ bitOr (getD old at 0) set
   pub still : r ≡ true → new ≡ old
+  pub least : wordSum old ≤ wordSum new
+  pub more : r ≡ false → wordSum old < wordSum new
 
 -- three words have the members of three sets besides; r says that they had them all
 pub record Put (old new : List ℕ) (a b c s p q : ℕ) (r : Bool) : Type 0 where
@@ -33,7 +40,10 @@ pub record Put (old new : List ℕ) (a b c s p q : ℕ) (r : Bool) : Type 0 wher
   pub has₃ : (z : ℕ) → In q z → In (getD new c 0) z
   pub only : (i z : ℕ) → In (getD new i 0) z
       → In (getD old i 0) z ⊎ ((i ≡ a) × In s z) ⊎ ((i ≡ b) × In p z) ⊎ ((i ≡ c) × In q z)
+  pub other : (i : ℕ) → (i ≡ a → ⊥) → (i ≡ b → ⊥) → (i ≡ c → ⊥) → getD new i 0 ≡ getD old i 0
   pub still : r ≡ true → new ≡ old
+  pub least : wordSum old ≤ wordSum new
+  pub more : r ≡ false → wordSum old < wordSum new
 
 -- the offsets, as bits of the word of relations with these orders
 abbrev pub relationBits : Frame → ℕ → ℕ

@@ -138,7 +138,7 @@ fn next_place(f: Frame, a: u8, b: u8) -> usize
 }
 
 // Puts what two nodes over a frame can be by the table into it; the sixes of offsets that can stand
-// together over the frame are listed. Had it all?
+// together over the frame are listed in the same words. Had it all?
 pub fn step(
     t: &mut [u64],
     f: Frame,
@@ -146,16 +146,15 @@ pub fn step(
     y: Node,
     i: usize,
     j: usize,
-    list: &[u64],
     from: usize,
     end: usize,
 ) -> bool
     requires { ⌜ Room (now t) × Small x × Small y × (i < 384) × (j < 384) ⌝ }
-    requires { ⌜ (from ≤ end) × (end ≤ length (now list)) ⌝ }
-    ensures { λ r. ⌜ Stepped f x y i j (now (list .entry)) from end (now (t .entry)) (now (t .exit)) r ⌝ }
+    requires { ⌜ (from ≤ end) × (end ≤ length (now t)) ⌝ }
+    ensures { λ r. ⌜ Stepped f x y i j (now (t .entry)) from end (now (t .entry)) (now (t .exit)) r ⌝ }
 {
     let w = words_of(t, x, y, i, j);
-    let r = pair_steps::offsets_found(f, x, y, w, list, from, end);
+    let r = pair_steps::offsets_found(f, x, y, w, t, from, end);
     if r == 0 {
         return true;
     }

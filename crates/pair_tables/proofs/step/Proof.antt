@@ -14,7 +14,7 @@ same-length : tie.Need-same-length
 same-length c = search needs
 
 returns : tie.Need-returns
-returns c = no-offsets (c .before .before .words-of .ensures) (rw (c .if1 .taken) at (c .before .offsets-found .ensures))
+returns c = no-offsets (c .before .before .before .words-of .ensures) (rw (c .if1 .taken) at (c .before .offsets-found .ensures))
 
 nexts-of-requires : tie.Need-nexts-of-requires
 nexts-of-requires c κs = search needs
@@ -27,7 +27,7 @@ same-length-2 c = search needs
 
 returns-2 : tie.Need-returns-2
 returns-2 c =
-    no-terminals (c .before .before .before .before .before .before .words-of .ensures) (c .before .before .before .before .before .offsets-found .ensures) (c .before .before .nexts-of .ensures)
+    no-terminals (c .before .before .before .before .before .before .before .words-of .ensures) (c .before .before .before .before .before .offsets-found .ensures) (c .before .before .nexts-of .ensures)
     (rw (c .if2 .taken) at (c .before .tokens-found .ensures))
 
 relation-bits-requires : tie.Need-relation-bits-requires
@@ -73,7 +73,7 @@ returns-3 : tie.Need-returns-3
 returns-3 c =
     let q = c .before .before .before .before .before .before .next-place .ensures .0 in
     let e = c .before .before .before .before .before .before .before .relation-bits .ensures in
-    puts (c .before .before .before .before .before .before .before .before .before .before .before .before .before .before .words-of .ensures) (c .before .before .before .before .before .before .before .before .before .before .before .before .before .offsets-found .ensures) (c .before .before .before .before .before .before .before .before .before .before .before .before .if1 .left)
+    puts (c .before .before .before .before .before .before .before .before .before .before .before .before .before .before .before .words-of .ensures) (c .before .before .before .before .before .before .before .before .before .before .before .before .before .offsets-found .ensures) (c .before .before .before .before .before .before .before .before .before .before .before .before .if1 .left)
     (c .before .before .before .before .before .before .before .before .before .before .nexts-of .ensures) (c .before .before .before .before .before .before .before .before .before .tokens-found .ensures) (c .before .before .before .before .before .before .before .before .if2 .left)
     (rw (q, e) at (c .before .before .put .ensures))
 
