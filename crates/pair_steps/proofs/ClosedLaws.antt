@@ -9,11 +9,13 @@ use Rattle.grammar.specs.Layout.{Every}
 use Rattle.grammar.specs.Trees.{Rules}
 use Rattle.pairs.specs.Survey.{rank, Inherits}
 use Rattle.pairs.specs.Shapes.{Form, tip, one, two, Shape, HasForm, tips, ones, twos, firsts, seconds, Head}
+use Rattle.pairs.specs.Shapes.{children}
 use Rattle.pairs.specs.Relations.{equal, Offset, beside, below, Relation}
 use Rattle.pairs.specs.Settings.{Corner, start₁, cut₁, start₂, cut₂, Point, at, stop₁, stop₂, corners, Setting, setting}
-use Rattle.pairs.specs.Settings.{AllowsOffset, InsideIn, KeepsIn, SitsIn, whole₁, whole₂, sides₁, sides₂, relationIn}
+use Rattle.pairs.specs.Settings.{AllowsOffset, MeetIn, InsideIn, KeepsIn, SitsIn, FitIn, whole₁, whole₂}
+use Rattle.pairs.specs.Settings.{sides₁, sides₂, relationIn, nextIn}
 use Rattle.pairs.specs.Facts.{Fact, stand, against, sorts, behind, Couple, withEach, crossed, couples, Might}
-use Rattle.pairs.specs.Facts.{two-nodes, of-node, of-sorts, of-next}
+use Rattle.pairs.specs.Facts.{behindIn, two-nodes, of-node, of-sorts, of-next}
 use Rattle.pairs.proofs.Every.{every-map, every-all}
 use Rattle.pairs.proofs.PairLaws.{every-with, every-crossed}
 use Rattle.grammar.proofs.Lists.{mem-every}
@@ -69,6 +71,11 @@ made-under (ones {l = l} j e p) = (l, j)
 made-under (twos {l = l} j e p q) = (l, j)
 made-under (firsts {l = l} j e p q) = (l, j)
 made-under (seconds {l = l} j e p q) = (l, j)
+
+children-under : (h : Form) (l : UnaryMark) → children (under h l) ≡ children h
+children-under (tip a b) l = refl
+children-under (one C k m) l = refl
+children-under (two C D m k) l = refl
 
 level-inherits : {g : Rules} {A : ℕ} {s : Shape} {h : Form} (l : UnaryMark)
     → ((k : UnaryMark) → Inherits g A k → rank l ≤ rank k) → HasForm g A s h → rank (levelOf (under h l)) ≤ rank l
@@ -152,6 +159,27 @@ lower-by (twos {l = l} j e p q) b = b .least l j
 lower-by (firsts {l = l} j e p q) b = b .least l j
 lower-by (seconds {l = l} j e p q) b = b .least l j
 
+-- y is x under the weakest mark
+pub record Lowered (g : Rules) (x y : Head) : Type 0 where
+  pub sort : y .sort ≡ x .sort
+  pub shape : y .shape ≡ x .shape
+  pub kids : children (y .form) ≡ children (x .form)
+  pub weakest : Weakest g y
+
+-- two nodes under the weakest marks and over points numbered by rank: the table has what they ask of
+-- their children
+pub record ToldRanked (g : Rules) (m : List ℕ) (σ : Setting) (x y : Head) : Type 0 where
+  pub frame : Frame
+  pub offset : Corner → Corner → Offset
+  pub next : Point → ℕ
+  pub by-rank : Ranked (rankOf frame)
+  pub same : σ ≡ setting (rankOf frame) offset next
+  pub left : Head
+  pub right : Head
+  pub lowered₁ : Lowered g x left
+  pub lowered₂ : Lowered g y right
+  pub told : ToldBy g m (setting (rankOf frame) offset next) left right
+
 module _ (g : Rules) (m : List ℕ) (level : (A : ℕ) (l : UnaryMark) → Inherits g A l → Least g A)
     (closed : ClosedTable g m) where
   best : (x : Head) → HasForm g (x .sort) (x .shape) (x .form) → Least g (x .sort)
@@ -196,18 +224,53 @@ module _ (g : Rules) (m : List ℕ) (level : (A : ℕ) (l : UnaryMark) → Inher
       ≡ setting (rankOf (frameOf (ranks f))) l n
   by-frame f l n = by-ranks f l n ∙ (λ i. setting (sym (frame-same (ranks f)) i) l n)
 
-  kept : (f : Point → ℕ) (l : Corner → Corner → Offset) (n : Point → ℕ) (x y : Head)
-      → ToldBy g m (setting f l n) x y → Kept m (setting f l n) x y
-  kept f l n x y t =
+  lowered : (x : Head) (h : HasForm g (x .sort) (x .shape) (x .form))
+      → Lowered g x (headUnder x (best x h .mark))
+  lowered x h =
+      record {
+        sort = refl;
+        shape = refl;
+        kids = children-under (x .form) (best x h .mark);
+        weakest = weakest x h;
+      }
+
+  by-weakest : (f : Point → ℕ) (l : Corner → Corner → Offset) (n : Point → ℕ) (x y : Head)
+      → ToldBy g m (setting f l n) x y → ToldRanked g m (setting f l n) x y
+  by-weakest f l n x y t =
       let e = by-frame f l n in
       let t′ : ToldBy g m (setting (rankOf (frameOf (ranks f))) l n) x y =
       subst (λ (σ : Setting). ToldBy g m σ x y) e t in
+      record {
+        frame = frameOf (ranks f);
+        offset = l;
+        next = n;
+        by-rank = subst⁻¹ Ranked (frame-same (ranks f)) (ranked f);
+        same = e;
+        left = headUnder x (best x (t′ .fit .looks₁) .mark);
+        right = headUnder y (best y (t′ .fit .looks₂) .mark);
+        lowered₁ = lowered x (t′ .fit .looks₁);
+        lowered₂ = lowered y (t′ .fit .looks₂);
+        told = told-under (setting (rankOf (frameOf (ranks f))) l n) x y t′;
+      }
+
+  kept : (σ : Setting) (x y : Head) → ToldRanked g m σ x y → Kept m σ x y
+  kept σ x y r =
       let k =
-      closed .closed (frameOf (ranks f)) (subst⁻¹ Ranked (frame-same (ranks f)) (ranked f)) l n
-      (headUnder x (best x (t′ .fit .looks₁) .mark)) (headUnder y (best y (t′ .fit .looks₂) .mark))
-      (weakest x (t′ .fit .looks₁)) (weakest y (t′ .fit .looks₂))
-      (told-under (setting (rankOf (frameOf (ranks f))) l n) x y t′) in
-      subst (λ (σ : Setting). Kept m σ x y) (sym e) (record { node = k .node; sort = k .sort; next = k .next })
+      closed .closed (r .frame) (r .by-rank) (r .offset) (r .next) (r .left) (r .right) (r .lowered₁ .weakest)
+      (r .lowered₂ .weakest) (r .told) in
+      let s : Relation =
+      relationIn (setting (rankOf (r .frame)) (r .offset) (r .next)) (whole₁ x) (whole₂ y) in
+      subst (λ (σ : Setting). Kept m σ x y) (sym (r .same))
+      (record {
+        node =
+            subst (InTable m) (λ i. against (r .lowered₁ .shape i) (r .lowered₂ .sort i) s) (k .node);
+        sort = subst (InTable m) (λ i. sorts (r .lowered₁ .sort i) (r .lowered₂ .sort i) s) (k .sort);
+        next = λ d.
+            subst (InTable m)
+            (λ i.
+            behind (r .lowered₁ .sort i) (r .lowered₂ .sort i) (s .starts) (s .stops)
+            (nextIn (setting (rankOf (r .frame)) (r .offset) (r .next)) (whole₁ x) (whole₂ y))) (k .next d);
+      })
 
   abbrev Has : Fact → Type 0
   Has (stand σ x y) = Kept m σ x y
@@ -230,15 +293,32 @@ module _ (g : Rules) (m : List ℕ) (level : (A : ℕ) (l : UnaryMark) → Inher
           (every-crossed (λ c. (r : Relation) → Has (c .fact r) → InTable m (c .fact r)) (sides₁ x) (sides₂ y)
           (every-all (λ s. every-all (λ u r h. h) (sides₂ y)) (sides₁ x))))
 
+  told-by : (f : Point → ℕ) (l : Corner → Corner → Offset) (n : Point → ℕ) (x y : Head)
+      → FitIn g (setting f l n) x y
+      → ((c : Couple) → List·Memᴰ c (couples x y) → MeetIn (setting f l n) (c .left) (c .right)
+      → Has (c .fact (relationIn (setting f l n) (c .left) (c .right))))
+      → ((c : Couple) → List·Memᴰ c (couples x y) → MeetIn (setting f l n) (c .left) (c .right)
+      → (relationIn (setting f l n) (c .left) (c .right) .stops ≡ equal → ⊥)
+      → InTable m (behindIn (setting f l n) (c .left) (c .right)))
+      → ToldRanked g m (setting f l n) x y
+  told-by f l n x y fit lies goes =
+      by-weakest f l n x y
+      (record {
+        fit = fit;
+        lies = λ c h k. plain x y c h (relationIn (setting f l n) (c .left) (c .right)) (lies c h k);
+        goes = goes;
+      })
+
   -- A CLOSED TABLE HAS ALL THAT MAY BE
   pub has : {a : Fact} → Might g a → Has a
   has (two-nodes f l n x y fit lies goes) =
-      kept f l n x y
-      (record {
-        fit = fit;
-        lies = λ c h k. plain x y c h (relationIn (setting f l n) (c .left) (c .right)) (has (lies c h k));
-        goes = λ c h k d. has (goes c h k d) d;
-      })
+      kept (setting f l n) x y
+      (told-by f l n x y fit (λ c h k. has (lies c h k)) (λ c h k d. has (goes c h k d) d))
   has (of-node h) = has h .node
   has (of-sorts h) = has h .sort
   has (of-next h) = has h .next
+
+  -- and what two nodes that may stand ask of their children
+  pub told-ranked : {σ : Setting} {x y : Head} → Might g (stand σ x y) → ToldRanked g m σ x y
+  told-ranked (two-nodes f l n x y fit lies goes) =
+      told-by f l n x y fit (λ c h k. has (lies c h k)) (λ c h k d. has (goes c h k d) d)
