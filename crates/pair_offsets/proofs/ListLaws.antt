@@ -143,11 +143,15 @@ even-same {f} {g} {s} e v =
           };
     }
 
-pub listed : {f g : Frame} {old new : List ℕ} {from end : ℕ} → ((c : Corner) → rankOf f (at c) ≡ rankOf g (at c))
-    → Listing f old new from 4096 end → ListsEvens g new from end
-listed e l =
+pub lists-alike : {f g : Frame} {list : List ℕ} {from end : ℕ} → ((c : Corner) → rankOf f (at c) ≡ rankOf g (at c))
+    → ListsEvens f list from end → ListsEvens g list from end
+lists-alike e l =
     record {
       low = l .low;
       all = λ s h v. l .all s h (even-same (λ c. sym (e c)) v);
       only = λ i h k. even-same e (l .only i h k);
     }
+
+pub listed : {f : Frame} {old new : List ℕ} {from end : ℕ} → Listing f old new from 4096 end
+    → ListsEvens f new from end
+listed l = record { low = l .low; all = l .all; only = l .only }

@@ -1,0 +1,61 @@
+use Prim.Native.Nat.{_+_, _*_, _-_, _≤_}
+use mathlib.Core.Path.{_≡_}
+use mathlib.Core.Bool.{false}
+use native.Mathlib.Omega.{arith}
+use borrow.Author.Needs.{needs}
+use Rattle.sets.proofs.Says.{true-not-false}
+use Rattle.pair_entries.specs.Entering.{NoneUseful}
+use Rattle.pair_entries.proofs.EntryLaws.{none-yet, none-more}
+use Rattle.pair_entries.proofs.some_useful.Statement.{statement}
+use Rattle.pair_entries.proofs.some_useful.Tie as tie
+
+abbrev Inv-loop : tie.InvT-loop
+Inv-loop p s₀ s = NoneUseful (36 * p) (36 * p + s) false × (s ≤ 36)
+
+abbrev μ-loop : tie.MeasureT-loop
+μ-loop p s₀ s = 36 - s
+
+loop-holds : tie.Need-loop-holds Inv-loop μ-loop
+loop-holds c = (none-yet _, omega arith)
+
+mul-useful-kinds : tie.Need-mul-useful-kinds Inv-loop μ-loop
+mul-useful-kinds c = search needs
+
+add-useful-kinds : tie.Need-add-useful-kinds Inv-loop μ-loop
+add-useful-kinds c = search needs
+
+useful-kinds-requires : tie.Need-useful-kinds-requires Inv-loop μ-loop
+useful-kinds-requires c κs = search needs
+
+returns : tie.Need-returns Inv-loop μ-loop
+returns c = record { none = λ e. absurd (true-not-false e) }
+
+add-s : tie.Need-add-s Inv-loop μ-loop
+add-s c = search needs
+
+loop-less : tie.Need-loop-less Inv-loop μ-loop
+loop-less c = search needs
+
+loop-again : tie.Need-loop-again Inv-loop μ-loop
+loop-again c = (none-more _ (c .before .before .before .loop .inv .0) (c .before .useful-kinds .ensures) (c .if1 .left), search needs)
+
+returns-2 : tie.Need-returns-2 Inv-loop μ-loop
+returns-2 c =
+    let e : c .before .loop .s ≡ 36 = omega arith in
+    rw e at (c .before .loop .inv .0)
+
+pub some-useful-spec : {M : Type 1} → statement M
+some-useful-spec =
+    tie.close
+    (tie.spec
+    Inv-loop
+    μ-loop
+    loop-holds
+    mul-useful-kinds
+    add-useful-kinds
+    useful-kinds-requires
+    returns
+    add-s
+    loop-less
+    loop-again
+    returns-2)
