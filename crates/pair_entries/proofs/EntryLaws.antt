@@ -6,7 +6,7 @@ use mathlib.Core.List.{List}
 use Prim.Native.Nat.{ℕ, _+_, _*_, _/_, _%_, _≤_, _<_}
 use native.Mathlib.Omega.{arith}
 use native.Mathlib.Numerals.{lt-of-le-of-ne}
-use native.Mathlib.Decide.{decLt, ℕ-discrete}
+use native.Mathlib.Decide.{decLt}
 use lib.ListN.{length, getD, set, length-set}
 use lib.Seq.{getD-set-same, getD-set-other}
 use Rattle.sets.specs.Sets.{In}
@@ -160,7 +160,7 @@ lists-same {f} {t} {u} {from} {end} e l =
       only = λ i h k. subst (EvenSix f) (sym (e i h k)) (l .only i h k);
     }
 
-entry-same : {t u : List ℕ} {top high k : ℕ} → ((i : ℕ) → i < 65540 + 4 * k → 65536 ≤ i → getD u i 0 ≡ getD t i 0)
+pub entry-same : {t u : List ℕ} {top high k : ℕ} → ((i : ℕ) → i < 65540 + 4 * k → 65536 ≤ i → getD u i 0 ≡ getD t i 0)
     → ((i : ℕ) → 66560 ≤ i → i < top → getD u i 0 ≡ getD t i 0) → top ≤ high → EntryAt t top k → EntryAt u high k
 entry-same {t} {u} {top} {high} {k} e l m h =
     let e₁ : codeAt u k ≡ codeAt t k = e (65536 + 4 * k) (omega arith) (omega arith) in

@@ -1,7 +1,6 @@
 // The frames that the search goes over, each with the list of sixes that can stand over it, laid
 // into the words past the table.
 use pair_offsets::Frame;
-ghost use mathlib.Core.Path.{_≡_};
 ghost use Prim.Native.Nat.{_+_, _*_, _≤_, _<_};
 ghost use lib.ListN.{length};
 ghost use Rattle.pair_offsets.specs.Lists.{ListsEvens};

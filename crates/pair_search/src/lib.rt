@@ -1,0 +1,157 @@
+// The search: steps of all pairs of nodes over all frames, until no step adds to the table.
+use pair_steps::Node;
+ghost use mathlib.Core.Path.{_≡_};
+ghost use mathlib.Core.Bool.{_&&_};
+ghost use Prim.Native.Nat.{_+_, _*_, _≤_, _<_};
+ghost use lib.ListN.{length};
+ghost use Rattle.pair_tables.specs.Reading.{Small};
+ghost use Rattle.pair_nodes.specs.Slots.{nodeAt, Present, NodesOf};
+ghost use Rattle.pair_frames.specs.Numbering.{frameAt};
+ghost use Rattle.pair_entries.specs.Entries.{searchWords, codeAt};
+ghost use Rattle.pair_search.specs.Filling.{FilledTable};
+ghost use Rattle.pair_search.specs.Running.{Apt, PairOf, Settled, Ran, Ready, Met};
+ghost use Rattle.pair_search.specs.Running.{Cell, RowTo, RowsTo, Round, Searched, ClearedTo};
+
+fn both(x: bool, y: bool) -> bool
+    ensures { λ r. ⌜ r ≡ (x && y) ⌝ }
+{
+    if x {
+        return y;
+    }
+    false
+}
+
+// Puts 0 into the words that the search needs.
+fn clear(words: &mut [u64])
+    requires { ⌜ searchWords ≤ length (now words) ⌝ }
+    ensures { λ _. ⌜ ClearedTo (now (words .entry)) (now (words .exit)) searchWords ⌝ }
+{
+    let mut i: usize = 0;
+    while i < 73728 {
+        words[i] = 0;
+        i += 1;
+    }
+}
+
+// A step of two nodes over the frame of an entry, if it suits them. Had the table all?
+fn step_entry(words: &mut [u64], k: usize, n: usize, x: Node, y: Node, i: usize, j: usize) -> bool
+    requires { ⌜ Ready (now words) n × (k < n) × Apt x × Apt y × (i < 384) × (j < 384) ⌝ }
+    ensures { λ r. ⌜ Ran (PairOf x y i j) (λ t. Settled x y i j (frameAt (codeAt t k)) t) (now (words .entry)) (now (words .exit)) r ⌝ }
+{
+    let kinds = words[65537 + 4 * k];
+    if sets::has(kinds, 4 * x.kids + y.kids) {
+        let f = pair_frames::frame_at(words[65536 + 4 * k] as usize);
+        let from = words[65538 + 4 * k] as usize;
+        let end = words[65539 + 4 * k] as usize;
+        return pair_tables::step(words, f, x, y, i, j, from, end);
+    }
+    true
+}
+
+// Steps of two nodes over the frames of all entries. Had the table all?
+fn meet(words: &mut [u64], n: usize, x: Node, y: Node, i: usize, j: usize) -> bool
+    requires { ⌜ Ready (now words) n × Apt x × Apt y × (i < 384) × (j < 384) ⌝ }
+    ensures { λ r. ⌜ Ran (PairOf x y i j) (Met x y i j n) (now (words .entry)) (now (words .exit)) r ⌝ }
+{
+    let mut still = true;
+    let mut k: usize = 0;
+    while k < n {
+        let had = step_entry(words, k, n, x, y, i, j);
+        still = both(still, had);
+        k += 1;
+    }
+    still
+}
+
+// Steps of the node `x` with the number `i` and the node `j`, if there is one. Had the table all?
+fn cell(nodes: &[u64], words: &mut [u64], n: usize, x: Node, i: usize, j: usize) -> bool
+    requires { ⌜ Ready (now words) n × (1536 ≤ length (now nodes)) × (i < 384) × (j < 384) ⌝ }
+    requires { ⌜ Present (now nodes) i × (x ≡ nodeAt (now nodes) i) × Small x ⌝ }
+    ensures { λ r. ⌜ Ran (λ g. NodesOf g (now (nodes .entry))) (Cell (now (nodes .entry)) i j n) (now (words .entry)) (now (words .exit)) r ⌝ }
+{
+    if pair_nodes::present(nodes, j) {
+        let y = pair_nodes::node_at(nodes, j);
+        return meet(words, n, x, y, i, j);
+    }
+    true
+}
+
+// Steps of the node `x` with the number `i` and all nodes. Had the table all?
+fn cells(nodes: &[u64], words: &mut [u64], n: usize, x: Node, i: usize) -> bool
+    requires { ⌜ Ready (now words) n × (1536 ≤ length (now nodes)) × (i < 384) ⌝ }
+    requires { ⌜ Present (now nodes) i × (x ≡ nodeAt (now nodes) i) × Small x ⌝ }
+    ensures { λ r. ⌜ Ran (λ g. NodesOf g (now (nodes .entry))) (RowTo (now (nodes .entry)) i n 384) (now (words .entry)) (now (words .exit)) r ⌝ }
+{
+    let mut still = true;
+    let mut j: usize = 0;
+    while j < 384 {
+        let had = cell(nodes, words, n, x, i, j);
+        still = both(still, had);
+        j += 1;
+    }
+    still
+}
+
+// Steps of the node `i`, if there is one, with all nodes. Had the table all?
+fn row(nodes: &[u64], words: &mut [u64], n: usize, i: usize) -> bool
+    requires { ⌜ Ready (now words) n × (1536 ≤ length (now nodes)) × (i < 384) ⌝ }
+    ensures { λ r. ⌜ Ran (λ g. NodesOf g (now (nodes .entry))) (RowTo (now (nodes .entry)) i n 384) (now (words .entry)) (now (words .exit)) r ⌝ }
+{
+    if pair_nodes::present(nodes, i) {
+        let x = pair_nodes::node_at(nodes, i);
+        return cells(nodes, words, n, x, i);
+    }
+    true
+}
+
+// Steps of all nodes with all, over the frames of the entries. Had the table all?
+fn pass(nodes: &[u64], words: &mut [u64], n: usize) -> bool
+    requires { ⌜ Ready (now words) n × (1536 ≤ length (now nodes)) ⌝ }
+    ensures { λ r. ⌜ Ran (λ g. NodesOf g (now (nodes .entry))) (RowsTo (now (nodes .entry)) n 384) (now (words .entry)) (now (words .exit)) r ⌝ }
+{
+    let mut still = true;
+    let mut i: usize = 0;
+    while i < 384 {
+        let had = row(nodes, words, n, i);
+        still = both(still, had);
+        i += 1;
+    }
+    still
+}
+
+// A pass over all frames, entered as many at a time as there is room for. Had the table all?
+fn round(nodes: &[u64], words: &mut [u64]) -> bool
+    requires { ⌜ (searchWords ≤ length (now words)) × (1536 ≤ length (now nodes)) ⌝ }
+    ensures { λ r. ⌜ Round (now (nodes .entry)) 46656 (now (words .entry)) (now (words .exit)) r ⌝ }
+{
+    let mut still = true;
+    let mut p: usize = 0;
+    while p < 1296 {
+        let s = pair_entries::prepare(words, p);
+        let had = pass(nodes, words, s.entries);
+        still = both(still, had);
+        p = s.starts;
+    }
+    still
+}
+
+// Rounds, until one adds nothing.
+fn search(nodes: &[u64], words: &mut [u64])
+    requires { ⌜ (searchWords ≤ length (now words)) × (1536 ≤ length (now nodes)) ⌝ }
+    ensures { λ _. ⌜ Searched (now (nodes .entry)) (now (words .entry)) (now (words .exit)) ⌝ }
+{
+    loop {
+        if round(nodes, words) {
+            return;
+        }
+    }
+}
+
+// The table of the nodes.
+pub fn fill_table(nodes: &[u64], words: &mut [u64])
+    requires { ⌜ (searchWords ≤ length (now words)) × (1536 ≤ length (now nodes)) ⌝ }
+    ensures { λ _. ⌜ FilledTable (now (nodes .entry)) (now (words .entry)) (now (words .exit)) ⌝ }
+{
+    clear(words);
+    search(nodes, words);
+}
