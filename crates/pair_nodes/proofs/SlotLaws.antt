@@ -54,7 +54,7 @@ number-low (all p) h = omega arith
 number-low (first p) h = omega arith
 number-low (second p) h = omega arith
 
-number-rule : (s : Shape) → ruleOfShape s < 128 → shapeNumber s % 128 ≡ ruleOfShape s
+pub number-rule : (s : Shape) → ruleOfShape s < 128 → shapeNumber s % 128 ≡ ruleOfShape s
 number-rule (all p) h = omega arith
 number-rule (first p) h = omega arith
 number-rule (second p) h = omega arith
@@ -316,9 +316,9 @@ module _ {g : Grammar} (fo : Formed g) where
           let t = x .each (shapeNumber (y .shape)) (number-low (y .shape) (place h)) in
           let p = t .all (y .sort) (y .shape) (y .form) h refl in
           let o = t .only p in
-          let e =
-          head-one (rules g) (o .head) y (o .node .looks) h (o .weakest) w
-          (shape-one (o .head .shape) (y .shape) (place (o .node .looks)) (place h) (o .number)) in (
+          let q = o .node .looks in
+          let d = shape-one (o .head .shape) (y .shape) (place q) (place h) (o .number) in
+          let e = head-one (rules g) (o .head) y q h (o .weakest) w d in (
             p,
             subst (λ (z : Head). NodeOf (rules g) z (nodeAt ns (shapeNumber (y .shape)))) e
                 (o .node),
