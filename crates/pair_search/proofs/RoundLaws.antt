@@ -35,8 +35,8 @@ use Rattle.pair_entries.specs.declared.Stage.{Stage}
 use Rattle.pair_entries.specs.Entries.{searchWords, Useful, SameTable}
 use Rattle.pair_entries.specs.Entering.{Prepared}
 use Rattle.pair_search.specs.Filling.{FilledTable}
-use Rattle.pair_search.specs.Running.{PairOf, Settled, Ran, Ready, RowsTo, AllTo}
-use Rattle.pair_search.specs.Running.{tableSum, Round, Searched, ClearedTo}
+use Rattle.pair_search.specs.Running.{PairOf, Settled, Ran, Ready, RowsOf, Rested, AllTo}
+use Rattle.pair_search.specs.Running.{BothSettled, at-first, later, tableSum, Round, Searched, ClearedTo}
 use Rattle.pair_search.proofs.RunLaws.{suits-told, and-true₁, and-true₂}
 
 -- 1. the sum of the table's words
@@ -187,42 +187,114 @@ ready h q =
           record { kinds = e .kinds; lists = e .lists; low = e .low; high = omega (arith, e .high, q .high) };
     }
 
+-- passes, one after the other
+pub record Resting (ns old new : List ℕ) (r : Bool) : Type 0 where
+  pub size : length new ≡ length old
+  pub past : (i : ℕ) → 65536 ≤ i → getD new i 0 ≡ getD old i 0
+  pub sound : (g : Rules) → NodesOf g ns → SoundTable g old → SoundTable g new
+  pub least : wordSum old ≤ wordSum new
+  pub more : r ≡ false → wordSum old < wordSum new
+  pub still : r ≡ true → new ≡ old
+
+pub rest-none : (ns t : List ℕ) → Resting ns t t true
+rest-none ns t =
+    record {
+      size = refl;
+      past = λ i h. refl;
+      sound = λ g h s. s;
+      least = omega arith;
+      more = λ e. absurd (true-not-false e);
+      still = λ e. refl;
+    }
+
+-- one that adds something
+pub rest-more : {ns t u v : List ℕ} {P : List ℕ → Type 0} {r b : Bool} → Resting ns t u r
+    → Ran (λ g. NodesOf g ns) P u v b → b ≡ false → Resting ns t v false
+rest-more a o e =
+    record {
+      size = o .size ∙ a .size;
+      past = λ i h. o .past i h ∙ a .past i h;
+      sound = λ g h s. o .sound g h (a .sound g h s);
+      least = omega (arith, a .least, o .least);
+      more = λ d. omega (arith, a .least, o .more e);
+      still = λ d. absurd (true-not-false (sym d));
+    }
+
+-- the last
+pub rested : {ns t u v : List ℕ} {n : ℕ} {r b : Bool} → Resting ns t u r
+    → Ran (λ g. NodesOf g ns) (RowsOf ns n 384) u v b → b ≡ true → Rested ns n t v r
+rested {ns} {n = n} a o e =
+    record {
+      size = o .size ∙ a .size;
+      past = λ i h. o .past i h ∙ a .past i h;
+      sound = λ g h s. o .sound g h (a .sound g h s);
+      least = omega (arith, a .least, o .least);
+      more = λ d. omega (arith, a .more d, o .least);
+      still = λ d. o .still e ∙ a .still d;
+      rows = subst (RowsOf ns n 384) (sym (o .still e)) (o .then e);
+    }
+
+pub rest-less : {u v : List ℕ} {G : Rules → Type 0} {P : List ℕ → Type 0} {b : Bool} → Ran G P u v b → b ≡ false
+    → LowTable v → 65536 * 2 ^ 64 - tableSum v < 65536 * 2 ^ 64 - tableSum u
+rest-less {u} {v} o e low = omega (arith, table-more u v (o .size) (o .past) (o .more e), table-most v low)
+
 -- the frames of one batch
-batch : {ns t u : List ℕ} {p : ℕ} {s : Stage} → AllTo ns (36 * p) u → Prepared t u p s
-    → RowsTo ns (s .entries) 384 u → AllTo ns (36 * s .starts) u
-batch {ns} {u = u} {p = p} {s} a q r =
+batch : {ns t u v : List ℕ} {p : ℕ} {s : Stage} {r : Bool} → AllTo ns (36 * p) v → Prepared t u p s
+    → Rested ns (s .entries) u v r → AllTo ns (36 * s .starts) v
+batch {ns} {u = u} {v} {p} {s} a q r =
     record { all = λ c h k i j m n o w. by c h k i j m n o w (decLt c (36 * p)) }
   where
     by : (c : ℕ) → c < 36 * s .starts → Useful c → (i j : ℕ) → i < 384 → j < 384 → Present ns i → Present ns j
-        → Dec (c < 36 * p) → Settled (nodeAt ns i) (nodeAt ns j) i j (frameAt c) u
+        → Dec (c < 36 * p) → Settled (nodeAt ns i) (nodeAt ns j) i j (frameAt c) v
     by c h k i j m n o w (yes d) = a .all c d k i j m n o w
     by c h k i j m n o w (no d) =
         let z = q .entries .all c (omega arith) h k in
-        subst (λ (b : ℕ). Settled (nodeAt ns i) (nodeAt ns j) i j (frameAt b) u) (z .2)
-        (r .rows i m .row j n .cell o w .met (z .0) (z .1))
+        let e = r .past (65536 + 4 * z .0) (omega arith) ∙ z .2 in
+        subst (λ (b : ℕ). Settled (nodeAt ns i) (nodeAt ns j) i j (frameAt b) v) e
+        (r .rows .rows i m (omega arith) .row j n (omega arith) .cell o w .met (z .0) (z .1))
 
-pub round-more : {ns t u v w : List ℕ} (p : ℕ) {s : Stage} {r b : Bool} → Round ns (36 * p) t u r → Prepared u v p s
-    → Ran (λ g. NodesOf g ns) (RowsTo ns (s .entries) 384) v w b → Round ns (36 * s .starts) t w (r && b)
-round-more {ns} {t} {u} {v} {w} p {s} {r} {b} a q o =
-    record {
-      size = o .size ∙ (q .same .size ∙ a .size);
-      past = λ i h. o .past i (omega arith) ∙ (q .same .past i h ∙ a .past i h);
-      sound = λ g h k. o .sound g h (sound-same (alike (q .same)) (a .sound g h k));
-      least = omega (arith, a .least, table-same (q .same), grown);
-      more = grows r b (a .more) (o .more);
-      all = λ e.
-          subst (AllTo ns (36 * s .starts)) (sym (o .still (and-true₂ r b e)))
-          (batch (all-same (alike (q .same)) (a .all (and-true₁ r b e))) q (o .then (and-true₂ r b e)));
-    }
-  where
-    grown : tableSum v ≤ tableSum w
-    grown = table-least v w (o .size) (o .past) (o .least)
+module _ {ns t u v w : List ℕ} {p : ℕ} {s : Stage} {r b : Bool} (a : Round ns (36 * p) t u r) (q : Prepared u v p s)
+    (o : Rested ns (s .entries) v w b) where
+  grown : tableSum v ≤ tableSum w
+  grown = table-least v w (o .size) (o .past) (o .least)
 
-    grows : (r b : Bool) → (r ≡ false → tableSum t < tableSum u) → (b ≡ false → wordSum v < wordSum w)
-        → (r && b) ≡ false → tableSum t < tableSum w
-    grows true b m n e =
-        omega (arith, a .least, table-same (q .same), table-more v w (o .size) (o .past) (n e))
-    grows false b m n e = omega (arith, m refl, table-same (q .same), grown)
+  -- the first batch: the frames before it are none
+  pub round-first : p ≡ 0 → Round ns (36 * s .starts) t w true
+  round-first e =
+      record {
+        size = o .size ∙ (q .same .size ∙ a .size);
+        past = λ i h. o .past i (omega arith) ∙ (q .same .past i h ∙ a .past i h);
+        sound = λ g h k. o .sound g h (sound-same (alike (q .same)) (a .sound g h k));
+        least = omega (arith, a .least, table-same (q .same), grown);
+        more = λ d. absurd (true-not-false d);
+        all = λ d. batch (record { all = λ c h. absurd (omega arith) }) q o;
+      }
+
+  -- another one: those before it are settled still if it adds nothing
+  pub round-more : Round ns (36 * s .starts) t w (r && b)
+  round-more =
+      record {
+        size = o .size ∙ (q .same .size ∙ a .size);
+        past = λ i h. o .past i (omega arith) ∙ (q .same .past i h ∙ a .past i h);
+        sound = λ g h k. o .sound g h (sound-same (alike (q .same)) (a .sound g h k));
+        least = omega (arith, a .least, table-same (q .same), grown);
+        more = grows r b (a .more) (o .more);
+        all = λ e.
+            batch
+            (subst (AllTo ns (36 * p)) (sym (o .still (and-true₂ r b e)))
+            (all-same (alike (q .same)) (a .all (and-true₁ r b e)))) q o;
+      }
+    where
+      grows : (r b : Bool) → (r ≡ false → tableSum t < tableSum u) → (b ≡ false → wordSum v < wordSum w)
+          → (r && b) ≡ false → tableSum t < tableSum w
+      grows true b m n e =
+          omega (arith, a .least, table-same (q .same), table-more v w (o .size) (o .past) (n e))
+      grows false b m n e = omega (arith, m refl, table-same (q .same), grown)
+
+pub round-next : {ns t u v w : List ℕ} (p : ℕ) {s : Stage} {r b c : Bool} → Round ns (36 * p) t u r → Prepared u v p s
+    → Rested ns (s .entries) v w b → BothSettled p r b c → Round ns (36 * s .starts) t w c
+round-next p a q o (at-first e) = round-first a q o e
+round-next p a q o later = round-more a q o
 
 -- 4. a table that a round adds nothing to
 

@@ -1,8 +1,8 @@
 -- What steps make of a table, one after the other. For the contracts of inner functions only.
 use mathlib.Core.Path.{_≡_}
-use mathlib.Core.Bool.{Bool, true, false}
+use mathlib.Core.Bool.{Bool, true, false, _&&_}
 use mathlib.Core.List.{List}
-use Prim.Native.Nat.{ℕ, _≤_, _<_}
+use Prim.Native.Nat.{ℕ, _+_, _≤_, _<_}
 use lib.ListN.{length, getD, take}
 use Rattle.grammar.specs.Trees.{Rules}
 use Rattle.pairs.specs.Shapes.{Head}
@@ -59,23 +59,38 @@ pub record Ready (t : List ℕ) (n : ℕ) : Type 0 where
   pub each : (k : ℕ) → k < n → EntryAt t searchWords k
 
 -- two nodes over the frames of the first n entries; the nodes i and j, if there are both; a node with
--- the first m nodes; the first m nodes with all
+-- the last m of 384; the last m with all
 pub record Met (x y : Node) (i j n : ℕ) (t : List ℕ) : Type 0 where
   pub met : (k : ℕ) → k < n → Settled x y i j (frameAt (codeAt t k)) t
 
 pub record Cell (ns : List ℕ) (i j n : ℕ) (t : List ℕ) : Type 0 where
   pub cell : Present ns i → Present ns j → Met (nodeAt ns i) (nodeAt ns j) i j n t
 
-pub record RowTo (ns : List ℕ) (i n m : ℕ) (t : List ℕ) : Type 0 where
-  pub row : (j : ℕ) → j < m → Cell ns i j n t
+pub record RowOf (ns : List ℕ) (i n m : ℕ) (t : List ℕ) : Type 0 where
+  pub row : (j : ℕ) → j < 384 → 384 ≤ j + m → Cell ns i j n t
 
-pub record RowsTo (ns : List ℕ) (n m : ℕ) (t : List ℕ) : Type 0 where
-  pub rows : (i : ℕ) → i < m → RowTo ns i n 384 t
+pub record RowsOf (ns : List ℕ) (n m : ℕ) (t : List ℕ) : Type 0 where
+  pub rows : (i : ℕ) → i < 384 → 384 ≤ i + m → RowOf ns i n 384 t
+
+-- passes until one adds nothing; r says that none did
+pub record Rested (ns : List ℕ) (n : ℕ) (old new : List ℕ) (r : Bool) : Type 0 where
+  pub size : length new ≡ length old
+  pub past : (i : ℕ) → 65536 ≤ i → getD new i 0 ≡ getD old i 0
+  pub sound : (g : Rules) → NodesOf g ns → SoundTable g old → SoundTable g new
+  pub least : wordSum old ≤ wordSum new
+  pub more : r ≡ false → wordSum old < wordSum new
+  pub still : r ≡ true → new ≡ old
+  pub rows : RowsOf ns n 384 new
 
 -- all nodes over the useful frames with numbers below b
 pub record AllTo (ns : List ℕ) (b : ℕ) (t : List ℕ) : Type 0 where
   pub all : (c : ℕ) → c < b → Useful c → (i j : ℕ) → i < 384 → j < 384 → Present ns i → Present ns j
       → Settled (nodeAt ns i) (nodeAt ns j) i j (frameAt c) t
+
+-- r is true for the first batch, and else if both are
+pub data BothSettled (p : ℕ) (x y : Bool) : Bool → Type 0 where
+  at-first : p ≡ 0 → BothSettled p x y true
+  later : BothSettled p x y (x && y)
 
 -- the sum of the table's words
 unfoldable pub tableSum : List ℕ → ℕ

@@ -10,7 +10,7 @@ ghost use Rattle.pair_frames.specs.Numbering.{frameAt};
 ghost use Rattle.pair_entries.specs.Entries.{searchWords, codeAt};
 ghost use Rattle.pair_search.specs.Filling.{FilledTable};
 ghost use Rattle.pair_search.specs.Running.{Apt, PairOf, Settled, Ran, Ready, Met};
-ghost use Rattle.pair_search.specs.Running.{Cell, RowTo, RowsTo, Round, Searched, ClearedTo};
+ghost use Rattle.pair_search.specs.Running.{BothSettled, Cell, RowOf, RowsOf, Rested, Round, Searched, ClearedTo};
 
 fn both(x: bool, y: bool) -> bool
     ensures { λ r. ⌜ r ≡ (x && y) ⌝ }
@@ -76,18 +76,19 @@ fn cell(nodes: &[u64], words: &mut [u64], n: usize, x: Node, i: usize, j: usize)
     true
 }
 
-// Steps of the node `x` with the number `i` and all nodes. Had the table all?
+// Steps of the node `x` with the number `i` and all nodes, the last first: mostly a child's rules
+// stand behind its parent's. Had the table all?
 fn cells(nodes: &[u64], words: &mut [u64], n: usize, x: Node, i: usize) -> bool
     requires { ⌜ Ready (now words) n × (1536 ≤ length (now nodes)) × (i < 384) ⌝ }
     requires { ⌜ Present (now nodes) i × (x ≡ nodeAt (now nodes) i) × Small x ⌝ }
-    ensures { λ r. ⌜ Ran (λ g. NodesOf g (now (nodes .entry))) (RowTo (now (nodes .entry)) i n 384) (now (words .entry)) (now (words .exit)) r ⌝ }
+    ensures { λ r. ⌜ Ran (λ g. NodesOf g (now (nodes .entry))) (RowOf (now (nodes .entry)) i n 384) (now (words .entry)) (now (words .exit)) r ⌝ }
 {
     let mut still = true;
-    let mut j: usize = 0;
-    while j < 384 {
-        let had = cell(nodes, words, n, x, i, j);
+    let mut m: usize = 0;
+    while m < 384 {
+        let had = cell(nodes, words, n, x, i, 383 - m);
         still = both(still, had);
-        j += 1;
+        m += 1;
     }
     still
 }
@@ -95,7 +96,7 @@ fn cells(nodes: &[u64], words: &mut [u64], n: usize, x: Node, i: usize) -> bool
 // Steps of the node `i`, if there is one, with all nodes. Had the table all?
 fn row(nodes: &[u64], words: &mut [u64], n: usize, i: usize) -> bool
     requires { ⌜ Ready (now words) n × (1536 ≤ length (now nodes)) × (i < 384) ⌝ }
-    ensures { λ r. ⌜ Ran (λ g. NodesOf g (now (nodes .entry))) (RowTo (now (nodes .entry)) i n 384) (now (words .entry)) (now (words .exit)) r ⌝ }
+    ensures { λ r. ⌜ Ran (λ g. NodesOf g (now (nodes .entry))) (RowOf (now (nodes .entry)) i n 384) (now (words .entry)) (now (words .exit)) r ⌝ }
 {
     if pair_nodes::present(nodes, i) {
         let x = pair_nodes::node_at(nodes, i);
@@ -107,19 +108,44 @@ fn row(nodes: &[u64], words: &mut [u64], n: usize, i: usize) -> bool
 // Steps of all nodes with all, over the frames of the entries. Had the table all?
 fn pass(nodes: &[u64], words: &mut [u64], n: usize) -> bool
     requires { ⌜ Ready (now words) n × (1536 ≤ length (now nodes)) ⌝ }
-    ensures { λ r. ⌜ Ran (λ g. NodesOf g (now (nodes .entry))) (RowsTo (now (nodes .entry)) n 384) (now (words .entry)) (now (words .exit)) r ⌝ }
+    ensures { λ r. ⌜ Ran (λ g. NodesOf g (now (nodes .entry))) (RowsOf (now (nodes .entry)) n 384) (now (words .entry)) (now (words .exit)) r ⌝ }
 {
     let mut still = true;
-    let mut i: usize = 0;
-    while i < 384 {
-        let had = row(nodes, words, n, i);
+    let mut m: usize = 0;
+    while m < 384 {
+        let had = row(nodes, words, n, 383 - m);
         still = both(still, had);
-        i += 1;
+        m += 1;
     }
     still
 }
 
-// A pass over all frames, entered as many at a time as there is room for. Had the table all?
+// Passes, until one adds nothing. Had the table all at first?
+fn settle(nodes: &[u64], words: &mut [u64], n: usize) -> bool
+    requires { ⌜ Ready (now words) n × (1536 ≤ length (now nodes)) ⌝ }
+    ensures { λ r. ⌜ Rested (now (nodes .entry)) n (now (words .entry)) (now (words .exit)) r ⌝ }
+{
+    let mut still = true;
+    loop {
+        if pass(nodes, words, n) {
+            return still;
+        }
+        still = false;
+    }
+}
+
+// Is the table settled for the frames entered up to now? With the first of them it is; with others
+// if they added nothing to it.
+fn both_settled(p: usize, still: bool, had: bool) -> bool
+    ensures { λ r. ⌜ BothSettled p still had r ⌝ }
+{
+    if p == 0 {
+        return true;
+    }
+    both(still, had)
+}
+
+// Settles the table for all frames, entered as many at a time as there is room for. Is it?
 fn round(nodes: &[u64], words: &mut [u64]) -> bool
     requires { ⌜ (searchWords ≤ length (now words)) × (1536 ≤ length (now nodes)) ⌝ }
     ensures { λ r. ⌜ Round (now (nodes .entry)) 46656 (now (words .entry)) (now (words .exit)) r ⌝ }
@@ -128,14 +154,14 @@ fn round(nodes: &[u64], words: &mut [u64]) -> bool
     let mut p: usize = 0;
     while p < 1296 {
         let s = pair_entries::prepare(words, p);
-        let had = pass(nodes, words, s.entries);
-        still = both(still, had);
+        let had = settle(nodes, words, s.entries);
+        still = both_settled(p, still, had);
         p = s.starts;
     }
     still
 }
 
-// Rounds, until one adds nothing.
+// Rounds, until one leaves the table settled.
 fn search(nodes: &[u64], words: &mut [u64])
     requires { ⌜ (searchWords ≤ length (now words)) × (1536 ≤ length (now nodes)) ⌝ }
     ensures { λ _. ⌜ Searched (now (nodes .entry)) (now (words .entry)) (now (words .exit)) ⌝ }

@@ -3,44 +3,47 @@ use mathlib.Core.Path.{_≡_}
 use native.Mathlib.Omega.{arith}
 use borrow.Author.Needs.{needs}
 use Rattle.pair_nodes.specs.Slots.{NodesOf}
-use Rattle.pair_search.specs.Running.{Ran, RowsTo}
+use Rattle.pair_search.specs.Running.{Ran, RowsOf}
 use Rattle.pair_search.proofs.RunLaws.{ready-same, rows-none, rows-more}
 use Rattle.pair_search.proofs.pass.Statement.{statement}
 use Rattle.pair_search.proofs.pass.Tie as tie
 
 abbrev Inv-loop : tie.InvT-loop
-Inv-loop nodes words₀ n still₀ i₀ words still i = Ran (λ g. NodesOf g nodes) (RowsTo nodes n i) words₀ words still × (i ≤ 384)
+Inv-loop nodes words₀ n still₀ m₀ words still m = Ran (λ g. NodesOf g nodes) (RowsOf nodes n m) words₀ words still × (m ≤ 384)
 
 abbrev μ-loop : tie.MeasureT-loop
-μ-loop nodes words₀ n still₀ i₀ words still i = 384 - i
+μ-loop nodes words₀ n still₀ m₀ words still m = 384 - m
 
 loop-holds : tie.Need-loop-holds Inv-loop μ-loop
 loop-holds c = (rows-none _ _ _, omega arith)
+
+sub-row : tie.Need-sub-row Inv-loop μ-loop
+sub-row c = search needs
 
 row-requires : tie.Need-row-requires Inv-loop μ-loop
 row-requires c κs =
     let r = c .before .before .before .before .before .pre in
     let v = c .before .before .loop .inv .0 in
-    (ready-same (v .size) (v .past) (r .0), r .1, c .before .loop-test .taken)
+    (ready-same (v .size) (v .past) (r .0), r .1, omega arith)
 
 both-requires : tie.Need-both-requires Inv-loop μ-loop
 both-requires c κs = search needs
 
-add-i : tie.Need-add-i Inv-loop μ-loop
-add-i c = search needs
+add-m : tie.Need-add-m Inv-loop μ-loop
+add-m c = search needs
 
 loop-less : tie.Need-loop-less Inv-loop μ-loop
 loop-less c = search needs
 
 loop-again : tie.Need-loop-again Inv-loop μ-loop
-loop-again c = (rw (c .both .ensures) (rows-more _ (c .before .before .before .before .before .before .loop .inv .0) (c .before .before .before .row .ensures)), search needs)
+loop-again c = (rw (c .both .ensures) (rows-more _ (c .before .before .before .before .before .loop-test .taken) (c .before .before .before .before .before .before .loop .inv .0) (c .before .before .before .row .ensures)), search needs)
 
 same-length : tie.Need-same-length Inv-loop μ-loop
 same-length c = c .before .loop .inv .0 .size
 
 returns : tie.Need-returns Inv-loop μ-loop
 returns c =
-    let e : c .before .loop .i ≡ 384 = omega arith in
+    let e : c .before .loop .m ≡ 384 = omega arith in
     rw e at (c .before .loop .inv .0)
 
 pub pass-spec : {M : Type 1} → statement M
@@ -50,9 +53,10 @@ pass-spec =
     Inv-loop
     μ-loop
     loop-holds
+    sub-row
     row-requires
     both-requires
-    add-i
+    add-m
     loop-less
     loop-again
     same-length

@@ -3,7 +3,7 @@ use mathlib.Core.Path.{_≡_}
 use native.Mathlib.Omega.{arith}
 use borrow.Author.Needs.{needs}
 use Rattle.pair_search.specs.Running.{Round}
-use Rattle.pair_search.proofs.RoundLaws.{round-none, round-more, ready}
+use Rattle.pair_search.proofs.RoundLaws.{round-none, round-next, ready}
 use Rattle.pair_search.proofs.round.Statement.{statement}
 use Rattle.pair_search.proofs.round.Tie as tie
 
@@ -19,20 +19,20 @@ loop-holds c = (round-none _ _, omega arith)
 prepare-requires : tie.Need-prepare-requires Inv-loop μ-loop
 prepare-requires c κs = (omega (arith, c .before .before .loop .inv .0 .size, c .before .before .before .before .before .pre .0), c .before .loop-test .taken)
 
-pass-requires : tie.Need-pass-requires Inv-loop μ-loop
-pass-requires c κs =
+settle-requires : tie.Need-settle-requires Inv-loop μ-loop
+settle-requires c κs =
     let q = c .before .before .before .prepare .ensures in
     (ready (omega (arith, q .same .size, c .before .before .before .before .before .before .loop .inv .0 .size, c .before .before .before .before .before .before .before .before .before .pre .0)) q, c .before .before .before .before .before .before .before .before .before .pre .1)
 
-both-requires : tie.Need-both-requires Inv-loop μ-loop
-both-requires c κs = search needs
+both-settled-requires : tie.Need-both-settled-requires Inv-loop μ-loop
+both-settled-requires c κs = search needs
 
 loop-less : tie.Need-loop-less Inv-loop μ-loop
 loop-less c = omega (arith, c .before .before .before .before .before .before .before .prepare .ensures .more, c .before .before .before .before .before .before .before .before .before .loop-test .taken)
 
 loop-again : tie.Need-loop-again Inv-loop μ-loop
 loop-again c = (
-  rw (c .both .ensures) (round-more _ (c .before .before .before .before .before .before .before .before .before .before .loop .inv .0) (c .before .before .before .before .before .before .before .prepare .ensures) (c .before .before .before .pass .ensures)),
+  round-next _ (c .before .before .before .before .before .before .before .before .before .before .loop .inv .0) (c .before .before .before .before .before .before .before .prepare .ensures) (c .before .before .before .settle .ensures) (c .both-settled .ensures),
   c .before .before .before .before .before .before .before .prepare .ensures .most,
 )
 
@@ -52,8 +52,8 @@ round-spec =
     μ-loop
     loop-holds
     prepare-requires
-    pass-requires
-    both-requires
+    settle-requires
+    both-settled-requires
     loop-less
     loop-again
     same-length
