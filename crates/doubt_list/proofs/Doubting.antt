@@ -22,7 +22,7 @@ use Rattle.grammar.proofs.ByKind.{Can, choice-can, can-choice, getElem?-lt}
 use Rattle.acyclic.specs.Exact.{Exactly}
 use Rattle.acyclic.specs.Passes.{Ready}
 use Rattle.acyclic.proofs.Growth.{small-at}
-use Rattle.pairs.specs.Shapes.{Shape, Form, HasForm, tips, ones, twos, firsts, seconds, ruleOfShape}
+use Rattle.pairs.specs.Shapes.{Shape, Form, HasForm, tips, units, twos, firsts, seconds, ruleOfShape}
 use Rattle.pairs.specs.Shapes.{Head}
 use Rattle.pairs.specs.Settings.{Setting, FitIn}
 use Rattle.pairs.specs.Facts.{Fact, stand, Might, two-nodes}
@@ -38,7 +38,7 @@ fits (two-nodes f l n x y h a b) = h
 
 rule-of : {g : Rules} {A : ℕ} {s : Shape} {f : Form} → HasForm g A s f → RuleOf g (ruleOfShape s) A
 rule-of (tips i r) = record { rule = _; stands = r; left = refl }
-rule-of (ones i r p) = record { rule = _; stands = r; left = refl }
+rule-of (units i r p) = record { rule = _; stands = r; left = refl }
 rule-of (twos i r p q) = record { rule = _; stands = r; left = refl }
 rule-of (firsts i r p n) = record { rule = _; stands = r; left = refl }
 rule-of (seconds i r n p) = record { rule = _; stands = r; left = refl }

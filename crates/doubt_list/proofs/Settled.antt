@@ -13,8 +13,10 @@ use Rattle.lists.specs.Lists.{bytesOf, GivesList}
 use Rattle.lists.specs.Putting.{listed, unfit}
 use Rattle.lists.proofs.Settled.{gives-settled}
 use Rattle.places.proofs.InOrder.{InOrder, same-entries}
-use Rattle.pairs.specs.Doubts.{Doubt, Doubted, PassesTest, DoubtBefore, DoubtsInOrder, AllDoubts}
-use Rattle.doubt_list.specs.Entries.{doubtBytes, DoubtsGiven}
+use Rattle.pairs.specs.Doubts.{Doubt, Doubted, DoubtBefore, DoubtsInOrder, AllDoubts}
+use Rattle.pairs.specs.Always.{PassesTest}
+use Rattle.doubt_list.specs.Entries.{doubtBytes}
+use Rattle.doubt_list.specs.Given.{DoubtsGiven}
 
 before-not : (d e : Doubt) → DoubtBefore d e → DoubtBefore e d → ⊥
 before-not d e (inl x) (inl y) = omega arith

@@ -17,7 +17,7 @@ ghost use Rattle.grammar.specs.Choices.{Choice};
 ghost use Rattle.grammar.specs.Content.{rules, Formed};
 ghost use Rattle.acyclic.specs.Exact.{Exactly};
 ghost use Rattle.pairs.specs.Survey.{Occurs};
-ghost use Rattle.doubt_list.specs.Entries.{DoubtsGiven};
+ghost use Rattle.doubt_list.specs.Given.{DoubtsGiven};
 ghost use Rattle.doubt_list.specs.Marks.{Bit, RuleOf, EmptyTwice, Ground};
 ghost use Rattle.doubt_list.specs.Steps.{at, four, Lists, PutIf};
 

@@ -25,7 +25,7 @@ use Rattle.doubt_list.specs.Marks.{Bit, Together, Marked}
 use Rattle.doubt_marks.specs.Standing.{spanFrame, MayOver}
 use Rattle.doubt_marks.specs.Growing.{Grows}
 use Rattle.doubt_marks.specs.Marking.{Self, SeenBy, by-top, by-child}
-use Rattle.doubt_marks.specs.Marking.{Pairs, MarksFor}
+use Rattle.doubt_marks.specs.Marking.{PairsFound, MarksFor}
 use Rattle.doubt_marks.proofs.StandLaws.{standing, over-span, child-of}
 use Rattle.doubt_marks.proofs.StandLaws.{sort-of, there, place₁, place₂, has-child}
 
@@ -109,8 +109,8 @@ module _ {g : Rules} {ns t : List ℕ} (made : NodesMade g ns) (so : SoundTable 
 
     module _ {seen : ℕ} (exact : Exactly seen (SeenBy ns own)) {old marks : List ℕ}
         (clear : Blank old 128)
-        (pairs : Grows (Pairs ns t seen) old marks) where
-      together : (p q : ℕ) → Pairs ns t seen p q → Together g p q
+        (pairs : Grows (PairsFound ns t seen) old marks) where
+      together : (p q : ℕ) → PairsFound ns t seen p q → Together g p q
       together p q d =
           let row = d .is .some in
           let pair = row .is .some in
@@ -144,7 +144,7 @@ module _ {g : Rules} {ns t : List ℕ} (made : NodesMade g ns) (so : SoundTable 
                 };
           }
 
-      pair-of : (p q : ℕ) → p ≤ q → (x : Together g p q) → Pairs ns t seen p q
+      pair-of : (p q : ℕ) → p ≤ q → (x : Together g p q) → PairsFound ns t seen p q
       pair-of p q l z =
           let n = z .nodes in
           let m = n .over .may in
@@ -209,7 +209,7 @@ module _ {g : Rules} {ns t : List ℕ} (made : NodesMade g ns) (so : SoundTable 
 pub marks-for : {ns t zero own first old marks : List ℕ} {seen : ℕ} → Blank zero 384 → Grows
     (Self ns t) zero own
     → Exactly seen (SeenBy ns own) → Blank old 128 → length old ≡ length first
-    → Grows (Pairs ns t seen) old marks → 256 ≤ length first → MarksFor ns t first marks
+    → Grows (PairsFound ns t seen) old marks → 256 ≤ length first → MarksFor ns t first marks
 marks-for blank selves exact clear size pairs long =
     record {
       size = pairs .size ∙ size;

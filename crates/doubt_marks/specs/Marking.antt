@@ -77,8 +77,8 @@ pub record RowOver (ns t : List ℕ) (s : ℕ) (f : Frame) (i p q : ℕ) : Type 
 abbrev pub PairsBy : List ℕ → List ℕ → ℕ → ℕ → ℕ → ℕ → Type 0
 PairsBy ns t s = ByFrame (λ f. Upto 384 (RowOver ns t s f))
 
-abbrev pub Pairs : List ℕ → List ℕ → ℕ → ℕ → ℕ → Type 0
-Pairs ns t s = Upto 16 (PairsBy ns t s)
+abbrev pub PairsFound : List ℕ → List ℕ → ℕ → ℕ → ℕ → Type 0
+PairsFound ns t s = Upto 16 (PairsBy ns t s)
 
 -- the marks of each sheet whose nodes and table these are
 pub record MarksFor (ns t old marks : List ℕ) : Type 0 where

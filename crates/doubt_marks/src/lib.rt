@@ -17,7 +17,7 @@ ghost use Rattle.pair_tables.specs.Reading.{Room, Small};
 ghost use Rattle.doubt_marks.specs.Standing.{spanFrame, StandsBy, MayOver};
 ghost use Rattle.doubt_marks.specs.Growing.{Grows, Upto, OneBit};
 ghost use Rattle.doubt_marks.specs.Marking.{SelfOver, SelfBy, Self, AddsSeen, SeenBy};
-ghost use Rattle.doubt_marks.specs.Marking.{SeenPass, PairOver, RowOver, PairsBy, Pairs};
+ghost use Rattle.doubt_marks.specs.Marking.{SeenPass, PairOver, RowOver, PairsBy, PairsFound};
 ghost use Rattle.doubt_marks.specs.Marking.{MarksFor, MarksFilled};
 
 // The frame of two nodes over one span, by number.
@@ -314,7 +314,7 @@ fn mark_by(nodes: &[u64], table: &[u64], seen: u64, k: usize, marks: &mut [u64])
 fn mark_frames(nodes: &[u64], table: &[u64], seen: u64, marks: &mut [u64])
     requires { ⌜ (1536 ≤ length (now nodes)) × Room (now table) ⌝ }
     requires { ⌜ 256 ≤ length (now marks) ⌝ }
-    ensures { λ r. ⌜ Grows (Pairs (now (nodes .entry)) (now (table .entry)) seen) (now (marks .entry)) (now (marks .exit)) ⌝ }
+    ensures { λ r. ⌜ Grows (PairsFound (now (nodes .entry)) (now (table .entry)) seen) (now (marks .entry)) (now (marks .exit)) ⌝ }
 {
     let mut k: usize = 0;
     while k < 16 {

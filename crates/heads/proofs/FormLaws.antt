@@ -13,7 +13,7 @@ use Rattle.grammar.specs.Trees.{Rules}
 use Rattle.grammar.specs.Cycles.{Nullable}
 use Rattle.acyclic.specs.Exact.{Exactly}
 use Rattle.pairs.specs.Survey.{Productive, Inherits}
-use Rattle.pairs.specs.Shapes.{Form, tip, one, two, Shape, RuleAt, HasForm, tips, ones, twos}
+use Rattle.pairs.specs.Shapes.{Form, tip, one, two, Shape, RuleAt, HasForm, tips, units, twos}
 use Rattle.pairs.specs.Shapes.{firsts, seconds}
 use Rattle.survey.specs.Closing.{Weakest}
 use Rattle.heads.specs.declared.Looks.{Looks}
@@ -25,7 +25,7 @@ use Rattle.heads.specs.Forms.{MarkOf, LooksLike, ShapedAs}
 inherits-of : {g : Rules} {A : ℕ} {s : Shape} {f : Form} → HasForm g A s f
     → (l : UnaryMark) × Inherits g A l
 inherits-of (tips i r) = (_, i)
-inherits-of (ones i r p) = (_, i)
+inherits-of (units i r p) = (_, i)
 inherits-of (twos i r p q) = (_, i)
 inherits-of (firsts i r p n) = (_, i)
 inherits-of (seconds i r n p) = (_, i)
@@ -61,7 +61,7 @@ module _ {g : Rules} {ns ps : ℕ} (x : Exactly ns (Nullable g)) (y : Exactly ps
         → HasForm g A (shapeBy 0 p) f
     all-form (Clause.Atom a b) f r e = subst (HasForm g A (shapeBy 0 p)) (sym e) (tips i r)
     all-form (Clause.Unary C m) f r (u, e) =
-        subst (HasForm g A (shapeBy 0 p)) (sym e) (ones i r (y .is C u))
+        subst (HasForm g A (shapeBy 0 p)) (sym e) (units i r (y .is C u))
     all-form (Clause.Binary C D m) f r ((u, v), e) =
         subst (HasForm g A (shapeBy 0 p)) (sym e) (twos i r (y .is C u) (y .is D v))
 
@@ -97,7 +97,7 @@ module _ {g : Rules} {ns ps : ℕ} (x : Exactly ns (Nullable g)) (y : Exactly ps
       → HasForm g A (shapeBy k p) f → Given k p A l r
   has-form zero {p} {A} l st (tips {a = a} {b = b} i r) =
       at-rule 0 p A l (Clause.Atom a b) (tip a b) st r refl
-  has-form zero {p} {A} l st (ones {C = C} {m = m} i r u) =
+  has-form zero {p} {A} l st (units {C = C} {m = m} i r u) =
       at-rule 0 p A l (Clause.Unary C m) (one C l m) st r (y .all C u, refl)
   has-form zero {p} {A} l st (twos {C = C} {D = D} {m = m} i r u v) =
       at-rule 0 p A l (Clause.Binary C D m) (two C D m l) st r ((y .all C u, y .all D v), refl)

@@ -18,9 +18,10 @@ use Rattle.grammar.specs.Content.{rules, SmallClause, Formed}
 use Rattle.grammar.specs.Trees.{Rules}
 use Rattle.grammar.proofs.ByKind.{getElem?-lt}
 use Rattle.acyclic.proofs.Growth.{small-at}
-use Rattle.pairs.specs.Survey.{rank, Inherits}
+use Rattle.pairs.specs.Survey.{Inherits}
+use Rattle.pairs.specs.Strength.{rank}
 use Rattle.pairs.specs.Shapes.{Form, tip, one, two, Shape, all, first, second, ruleOfShape, RuleAt}
-use Rattle.pairs.specs.Shapes.{HasForm, tips, ones, twos, firsts, seconds, Head}
+use Rattle.pairs.specs.Shapes.{HasForm, tips, units, twos, firsts, seconds, Head}
 use Rattle.survey.specs.declared.Levels.{Levels}
 use Rattle.survey.specs.Closing.{LevelsOf}
 use Rattle.survey.proofs.Weakest.{level-weakest, level-nothing}
@@ -116,28 +117,28 @@ module _ (g : Rules) where
       let o = rule-one p r q in
       let e : Clause.Atom a b ≡ Clause.Atom a′ b′ = o .clause in
       (o .left, cc)
-  form-one (tips {p = p} {a = a} {b = b} i r) (ones {C = C} {m = m} j q _) u v =
+  form-one (tips {p = p} {a = a} {b = b} i r) (units {C = C} {m = m} j q _) u v =
       let e : Clause.Atom a b ≡ Clause.Unary C m = rule-one p r q .clause in
       let z : _≡_ {A = ℕ} 0 1 = cc in absurd (omega arith)
   form-one (tips {p = p} {a = a} {b = b} i r) (twos {C = C} {D = D} {m = m} j q _ _) u v =
       let e : Clause.Atom a b ≡ Clause.Binary C D m = rule-one p r q .clause in
       let z : _≡_ {A = ℕ} 0 1 = cc in absurd (omega arith)
-  form-one (ones {p = p} {C = C} {m = m} i r _) (tips {a = a} {b = b} j q) u v =
+  form-one (units {p = p} {C = C} {m = m} i r _) (tips {a = a} {b = b} j q) u v =
       let e : Clause.Unary C m ≡ Clause.Atom a b = rule-one p r q .clause in
       let z : _≡_ {A = ℕ} 0 1 = cc in absurd (omega arith)
-  form-one (ones {p = p} {C = C} {l = l} {m = m} i r _)
-      (ones {C = C′} {l = l′} {m = m′} j q _) u v =
+  form-one (units {p = p} {C = C} {l = l} {m = m} i r _)
+      (units {C = C′} {l = l′} {m = m′} j q _) u v =
       let o = rule-one p r q in
       let e : Clause.Unary C m ≡ Clause.Unary C′ m′ = o .clause in
       let k : l ≡ l′ = marks-one (o .left) i j u v in
       (o .left, cc)
-  form-one (ones {p = p} {C = C} {m = m} i r _) (twos {C = C′} {D = D} {m = m′} j q _ _) u v =
+  form-one (units {p = p} {C = C} {m = m} i r _) (twos {C = C′} {D = D} {m = m′} j q _ _) u v =
       let e : Clause.Unary C m ≡ Clause.Binary C′ D m′ = rule-one p r q .clause in
       let z : _≡_ {A = ℕ} 0 1 = cc in absurd (omega arith)
   form-one (twos {p = p} {C = C} {D = D} {m = m} i r _ _) (tips {a = a} {b = b} j q) u v =
       let e : Clause.Binary C D m ≡ Clause.Atom a b = rule-one p r q .clause in
       let z : _≡_ {A = ℕ} 0 1 = cc in absurd (omega arith)
-  form-one (twos {p = p} {C = C} {D = D} {m = m} i r _ _) (ones {C = C′} {m = m′} j q _) u v =
+  form-one (twos {p = p} {C = C} {D = D} {m = m} i r _ _) (units {C = C′} {m = m′} j q _) u v =
       let e : Clause.Binary C D m ≡ Clause.Unary C′ m′ = rule-one p r q .clause in
       let z : _≡_ {A = ℕ} 0 1 = cc in absurd (omega arith)
   form-one (twos {p = p} {C = C} {D = D} {l = l} {m = m} i r _ _)
@@ -176,7 +177,7 @@ module _ {g : Grammar} (fo : Formed g) where
 
   place-low : {A : ℕ} {s : Shape} {f : Form} → HasForm (rules g) A s f → ruleOfShape s < g .count
   place-low (tips {p = n} i r) = rule-low n r
-  place-low (ones {p = n} i r p) = rule-low n r
+  place-low (units {p = n} i r p) = rule-low n r
   place-low (twos {p = n} i r p q) = rule-low n r
   place-low (firsts {p = n} i r p q) = rule-low n r
   place-low (seconds {p = n} i r p q) = rule-low n r
@@ -191,7 +192,7 @@ module _ {g : Grammar} (fo : Formed g) where
   small-tip (tips {p = n} i r) = small-clause n r .1
 
   small-one : {A C : ℕ} {l k : UnaryMark} {s : Shape} → HasForm (rules g) A s (one C l k) → C < 64
-  small-one (ones {p = n} i r p) = small-clause n r
+  small-one (units {p = n} i r p) = small-clause n r
   small-one (firsts {p = n} i r p q) = small-clause n r .0
   small-one (seconds {p = n} i r p q) = small-clause n r .1
 

@@ -30,7 +30,7 @@ use Rattle.pair_nodes.specs.Slots.{nodeAt, Present, NodesOf}
 use Rattle.pair_frames.specs.Numbering.{frameAt}
 use Rattle.pair_entries.specs.Entries.{codeAt}
 use Rattle.pair_entries.proofs.EntryLaws.{entry-same}
-use Rattle.pair_search.specs.Running.{Apt, PairOf, Settled, Ran, Ready, Met, Cell, RowOf, RowsOf}
+use Rattle.pair_search.specs.Running.{Apt, PairOf, Settled, Ran, Ready, Met, Cell, RowOf, RowsRun}
 
 -- 1. what two nodes read of a table
 
@@ -228,14 +228,14 @@ row-more {ns = ns} {i} {n} m {t} l a b = ran-then (λ p q. record { row = λ j h
     by p q j h k (no d) = p .row j h (omega arith)
     by p q j h k (yes d) = let e : 383 - m ≡ j = omega arith in subst (λ (j : ℕ). Cell ns i j n t) e q
 
-pub rows-none : {G : Rules → Type 0} (ns : List ℕ) (n : ℕ) (t : List ℕ) → Ran G (RowsOf ns n 0) t t true
+pub rows-none : {G : Rules → Type 0} (ns : List ℕ) (n : ℕ) (t : List ℕ) → Ran G (RowsRun ns n 0) t t true
 rows-none ns n t = stays (record { rows = λ i h k. absurd (omega arith) })
 
 pub rows-more : {G : Rules → Type 0} {ns : List ℕ} {n : ℕ} (m : ℕ) {t u v : List ℕ} {r s : Bool} → m < 384
-    → Ran G (RowsOf ns n m) t u r → Ran G (RowOf ns (383 - m) n 384) u v s → Ran G (RowsOf ns n (m + 1)) t v (r && s)
+    → Ran G (RowsRun ns n m) t u r → Ran G (RowOf ns (383 - m) n 384) u v s → Ran G (RowsRun ns n (m + 1)) t v (r && s)
 rows-more {ns = ns} {n} m {t} l a b = ran-then (λ p q. record { rows = λ i h k. by p q i h k (decLt (i + m) 384) }) a b
   where
-    by : RowsOf ns n m t → RowOf ns (383 - m) n 384 t → (i : ℕ) → i < 384 → 384 ≤ i + (m + 1) → Dec (i + m < 384)
+    by : RowsRun ns n m t → RowOf ns (383 - m) n 384 t → (i : ℕ) → i < 384 → 384 ≤ i + (m + 1) → Dec (i + m < 384)
         → RowOf ns i n 384 t
     by p q i h k (no d) = p .rows i h (omega arith)
     by p q i h k (yes d) = let e : 383 - m ≡ i = omega arith in subst (λ (i : ℕ). RowOf ns i n 384 t) e q

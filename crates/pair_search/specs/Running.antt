@@ -69,7 +69,7 @@ pub record Cell (ns : List ℕ) (i j n : ℕ) (t : List ℕ) : Type 0 where
 pub record RowOf (ns : List ℕ) (i n m : ℕ) (t : List ℕ) : Type 0 where
   pub row : (j : ℕ) → j < 384 → 384 ≤ j + m → Cell ns i j n t
 
-pub record RowsOf (ns : List ℕ) (n m : ℕ) (t : List ℕ) : Type 0 where
+pub record RowsRun (ns : List ℕ) (n m : ℕ) (t : List ℕ) : Type 0 where
   pub rows : (i : ℕ) → i < 384 → 384 ≤ i + m → RowOf ns i n 384 t
 
 -- passes until one adds nothing; r says that none did
@@ -80,7 +80,7 @@ pub record Rested (ns : List ℕ) (n : ℕ) (old new : List ℕ) (r : Bool) : Ty
   pub least : wordSum old ≤ wordSum new
   pub more : r ≡ false → wordSum old < wordSum new
   pub still : r ≡ true → new ≡ old
-  pub rows : RowsOf ns n 384 new
+  pub rows : RowsRun ns n 384 new
 
 -- all nodes over the useful frames with numbers below b
 pub record AllTo (ns : List ℕ) (b : ℕ) (t : List ℕ) : Type 0 where

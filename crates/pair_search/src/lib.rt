@@ -10,7 +10,7 @@ ghost use Rattle.pair_frames.specs.Numbering.{frameAt};
 ghost use Rattle.pair_entries.specs.Entries.{searchWords, codeAt};
 ghost use Rattle.pair_search.specs.Filling.{FilledTable};
 ghost use Rattle.pair_search.specs.Running.{Apt, PairOf, Settled, Ran, Ready, Met};
-ghost use Rattle.pair_search.specs.Running.{BothSettled, Cell, RowOf, RowsOf, Rested, Round, Searched, ClearedTo};
+ghost use Rattle.pair_search.specs.Running.{BothSettled, Cell, RowOf, RowsRun, Rested, Round, Searched, ClearedTo};
 
 fn both(x: bool, y: bool) -> bool
     ensures { λ r. ⌜ r ≡ (x && y) ⌝ }
@@ -108,7 +108,7 @@ fn row(nodes: &[u64], words: &mut [u64], n: usize, i: usize) -> bool
 // Steps of all nodes with all, over the frames of the entries. Had the table all?
 fn pass(nodes: &[u64], words: &mut [u64], n: usize) -> bool
     requires { ⌜ Ready (now words) n × (1536 ≤ length (now nodes)) ⌝ }
-    ensures { λ r. ⌜ Ran (λ g. NodesOf g (now (nodes .entry))) (RowsOf (now (nodes .entry)) n 384) (now (words .entry)) (now (words .exit)) r ⌝ }
+    ensures { λ r. ⌜ Ran (λ g. NodesOf g (now (nodes .entry))) (RowsRun (now (nodes .entry)) n 384) (now (words .entry)) (now (words .exit)) r ⌝ }
 {
     let mut still = true;
     let mut m: usize = 0;

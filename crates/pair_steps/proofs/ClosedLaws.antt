@@ -7,8 +7,9 @@ use Rattle.grammar.specs.declared.UnaryMark.{UnaryMark}
 use Rattle.grammar.specs.declared.UnaryMark.the-variants as UnaryMark
 use Rattle.grammar.specs.Layout.{Every}
 use Rattle.grammar.specs.Trees.{Rules}
-use Rattle.pairs.specs.Survey.{rank, Inherits}
-use Rattle.pairs.specs.Shapes.{Form, tip, one, two, Shape, HasForm, tips, ones, twos, firsts, seconds, Head}
+use Rattle.pairs.specs.Survey.{Inherits}
+use Rattle.pairs.specs.Strength.{rank}
+use Rattle.pairs.specs.Shapes.{Form, tip, one, two, Shape, HasForm, tips, units, twos, firsts, seconds, Head}
 use Rattle.pairs.specs.Shapes.{children}
 use Rattle.pairs.specs.Relations.{equal, Offset, beside, below, Relation}
 use Rattle.pairs.specs.Settings.{Corner, start₁, cut₁, start₂, cut₂, Point, at, stop₁, stop₂, corners, Setting, setting}
@@ -59,7 +60,7 @@ headUnder x l = record { sort = x .sort; shape = x .shape; form = under (x .form
 under-looks : {g : Rules} {A : ℕ} {s : Shape} {h : Form} {l : UnaryMark} → Inherits g A l → HasForm g A s h
     → HasForm g A s (under h l)
 under-looks i (tips j e) = tips j e
-under-looks i (ones j e p) = ones i e p
+under-looks i (units j e p) = units i e p
 under-looks i (twos j e p q) = twos i e p q
 under-looks i (firsts j e p q) = firsts i e p q
 under-looks i (seconds j e p q) = seconds i e p q
@@ -67,7 +68,7 @@ under-looks i (seconds j e p q) = seconds i e p q
 -- the mark that a form was made under
 made-under : {g : Rules} {A : ℕ} {s : Shape} {h : Form} → HasForm g A s h → (l : UnaryMark) × Inherits g A l
 made-under (tips {l = l} j e) = (l, j)
-made-under (ones {l = l} j e p) = (l, j)
+made-under (units {l = l} j e p) = (l, j)
 made-under (twos {l = l} j e p q) = (l, j)
 made-under (firsts {l = l} j e p q) = (l, j)
 made-under (seconds {l = l} j e p q) = (l, j)
@@ -80,7 +81,7 @@ children-under (two C D m k) l = refl
 level-inherits : {g : Rules} {A : ℕ} {s : Shape} {h : Form} (l : UnaryMark)
     → ((k : UnaryMark) → Inherits g A k → rank l ≤ rank k) → HasForm g A s h → rank (levelOf (under h l)) ≤ rank l
 level-inherits l f (tips j e) = omega arith
-level-inherits l f (ones j e p) = omega arith
+level-inherits l f (units j e p) = omega arith
 level-inherits l f (twos j e p q) = omega arith
 level-inherits l f (firsts j e p q) = omega arith
 level-inherits l f (seconds j e p q) = omega arith
@@ -154,7 +155,7 @@ pub record Least (g : Rules) (A : ℕ) : Type 0 where
 lower-by : {g : Rules} {A : ℕ} {s : Shape} {h : Form} → HasForm g A s h → (b : Least g A)
     → rank (levelOf (under h (b .mark))) ≤ rank (levelOf h)
 lower-by (tips j e) b = omega arith
-lower-by (ones {l = l} j e p) b = b .least l j
+lower-by (units {l = l} j e p) b = b .least l j
 lower-by (twos {l = l} j e p q) b = b .least l j
 lower-by (firsts {l = l} j e p q) b = b .least l j
 lower-by (seconds {l = l} j e p q) b = b .least l j

@@ -7,7 +7,8 @@ use Rattle.grammar.specs.declared.UnaryMark.the-variants as UnaryMark
 use Rattle.grammar.specs.declared.BinaryMark.{BinaryMark}
 use Rattle.grammar.specs.declared.BinaryMark.the-variants as BinaryMark
 use Rattle.grammar.specs.Trees.{Rules, Covers}
-use Rattle.pairs.specs.Survey.{CanBegin, rank, Inherits}
+use Rattle.pairs.specs.Survey.{CanBegin, Inherits}
+use Rattle.pairs.specs.Strength.{rank}
 use Rattle.pairs.specs.Shapes.{Form, tip, one, two, Shape, all, first, second, ruleOfShape, HasForm, Head}
 use Rattle.pairs.specs.Relations.{Offset, beside, below, equal, more}
 use Rattle.pairs.specs.Settings.{AllowsOffset}

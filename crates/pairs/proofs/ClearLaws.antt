@@ -19,12 +19,11 @@ use Rattle.places.specs.LocalAmbiguity as Paper
 use Rattle.places.specs.LocalAmbiguity.{Within}
 use Rattle.places.proofs.PaperLaws.{reaches-sub, two-found, Found}
 use Rattle.places.proofs.PlaceLaws.{Lies, lies-left, lies-right, lies-whole}
-use Rattle.pairs.specs.Always.{AlwaysClear}
+use Rattle.pairs.specs.Always.{AlwaysClear, PassesTest}
 use Rattle.pairs.specs.Survey.{at-top, none-at-top, Occurs}
 use Rattle.pairs.specs.Shapes.{Form, children, ruleOfShape}
 use Rattle.pairs.specs.Relations.{equal}
 use Rattle.pairs.specs.Doubts.{OneSpan, Seen, seen-top, seen-child, TwoNodes, two-rules, two-cuts, two-empty}
-use Rattle.pairs.specs.Doubts.{PassesTest}
 use Rattle.pairs.proofs.LevelLaws.{no-mark, Stock, bare, full, stock, Kept, kept-below, kept-first, kept-second}
 use Rattle.pairs.proofs.OffsetLaws.{is-order, is-of}
 use Rattle.pairs.proofs.Nodes.{Piece, Meet, headOf, settingOf}

@@ -7,7 +7,8 @@ use Rattle.grammar.specs.Layout.{Every}
 use Rattle.grammar.specs.Trees.{Rules}
 use Rattle.grammar.proofs.Lists.{mem-every}
 use Rattle.places.proofs.InOrder.{InOrder, no-member, same-entries}
-use Rattle.pairs.specs.Doubts.{Doubt, Doubted, PassesTest, DoubtBefore, DoubtsInOrder, AllDoubts}
+use Rattle.pairs.specs.Doubts.{Doubt, Doubted, DoubtBefore, DoubtsInOrder, AllDoubts}
+use Rattle.pairs.specs.Always.{PassesTest}
 
 -- a doubt that comes before another does not come after it
 not-both : (d e : Doubt) → DoubtBefore d e → DoubtBefore e d → ⊥

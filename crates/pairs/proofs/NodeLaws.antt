@@ -22,7 +22,7 @@ use Rattle.marks.proofs.Words.{part-at}
 use Rattle.places.proofs.PlaceLaws.{Lies, lies-left, lies-right}
 use Rattle.pairs.specs.Survey.{CanBegin}
 use Rattle.pairs.specs.Shapes.{Form, tip, one, two, children, Shape, all, first, second, ruleOfShape}
-use Rattle.pairs.specs.Shapes.{tips, ones, twos, firsts, seconds}
+use Rattle.pairs.specs.Shapes.{tips, units, twos, firsts, seconds}
 use Rattle.pairs.proofs.LevelLaws.{no-mark, Stock, bare, full, stock, null-of, productive, begins}
 use Rattle.pairs.proofs.LevelLaws.{Kept, kept-below, kept-first, kept-second}
 use Rattle.pairs.proofs.Nodes.{terminalAt, Piece, Spot, kids, Fits}
@@ -141,7 +141,7 @@ module _ (g : Rules) (w : Word) where
         is = refl;
         fits =
             record {
-              looks = ones (q .inherits) (c .stands ∙ ap some (c .top .1)) (productive g v f);
+              looks = units (q .inherits) (c .stands ∙ ap some (c .top .1)) (productive g v f);
               some = omega arith;
               inside = l .fits;
               sits = (rw e at (q .keeps), rw e at (c .top .3), refl, begins-at v low f);

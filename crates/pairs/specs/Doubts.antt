@@ -60,10 +60,6 @@ pub record Doubt : Type 0 where
 abbrev pub Doubted : Rules → Doubt → Type 0
 Doubted g d = DoubtBy g (d .nonterminal) (d .first) (d .second) (d .why)
 
--- a sheet passes the test if it has no doubt
-pub record PassesTest (g : Rules) : Type 0 where
-  pub passes : (d : Doubt) → Doubted g d → ⊥
-
 abbrev pub whyCode : Why → ℕ
 whyCode two-rules = 0
 whyCode two-cuts = 1

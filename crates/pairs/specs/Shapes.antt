@@ -40,7 +40,7 @@ RuleAt g p A c = getElem? g p ≡ some (record { left = A; clause = c })
 pub data HasForm (g : Rules) : ℕ → Shape → Form → Type 0 where
   tips : {A p a b : ℕ} {l : UnaryMark} → Inherits g A l → RuleAt g p A (Clause.Atom a b)
       → HasForm g A (all p) (tip a b)
-  ones : {A p C : ℕ} {l m : UnaryMark} → Inherits g A l → RuleAt g p A (Clause.Unary C m)
+  units : {A p C : ℕ} {l m : UnaryMark} → Inherits g A l → RuleAt g p A (Clause.Unary C m)
       → Productive g C → HasForm g A (all p) (one C l m)
   twos : {A p C D : ℕ} {l : UnaryMark} {m : BinaryMark}
       → Inherits g A l → RuleAt g p A (Clause.Binary C D m)

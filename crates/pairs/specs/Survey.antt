@@ -41,13 +41,6 @@ pub data CanBegin (g : Rules) : ℕ → ℕ → Type 0 where
   with-second : {A C D x : ℕ} (m : BinaryMark) → HasBinary g A C D m
       → Nullable g C → CanBegin g D x → CanBegin g A x
 
--- unary marks, the stronger the higher: a word that keeps one keeps each lower one
-abbrev pub rank : UnaryMark → ℕ
-rank UnaryMark.None = 0
-rank UnaryMark.Offalign = 1
-rank UnaryMark.Offside = 2
-rank UnaryMark.Single = 3
-
 abbrev pub stronger : UnaryMark → UnaryMark → UnaryMark
 stronger UnaryMark.None m = m
 stronger UnaryMark.Offalign UnaryMark.None = UnaryMark.Offalign

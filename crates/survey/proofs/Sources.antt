@@ -20,7 +20,8 @@ use Rattle.acyclic.specs.Exact.{Exactly}
 use Rattle.pairs.specs.Survey.{Productive, by-atom, by-unary, by-both, by-first, by-second, HasWord}
 use Rattle.pairs.specs.Survey.{Occurs, at-top, in-unary, in-first, in-second}
 use Rattle.pairs.specs.Survey.{CanBegin, with-atom, with-unary, with-first, with-second}
-use Rattle.pairs.specs.Survey.{rank, stronger, onwardMark, Inherits, none-at-top, from-unary}
+use Rattle.pairs.specs.Survey.{stronger, onwardMark, Inherits, none-at-top, from-unary}
+use Rattle.pairs.specs.Strength.{rank}
 use Rattle.pairs.specs.Survey.{to-first, to-only, to-second}
 use Rattle.survey.specs.declared.Aim.{Aim}
 use Rattle.survey.specs.declared.Aim.the-variants as Aim

@@ -7,7 +7,8 @@ use Rattle.grammar.specs.declared.UnaryMark.{UnaryMark}
 use Rattle.grammar.specs.declared.UnaryMark.the-variants as UnaryMark
 use Rattle.grammar.specs.Trees.{Rules}
 use Rattle.acyclic.specs.Exact.{Exactly}
-use Rattle.pairs.specs.Survey.{rank, Inherits}
+use Rattle.pairs.specs.Survey.{Inherits}
+use Rattle.pairs.specs.Strength.{rank}
 use Rattle.survey.specs.declared.Levels.{Levels}
 use Rattle.survey.specs.declared.Level.{Level}
 use Rattle.survey.specs.declared.Level.the-variants as Level

@@ -13,7 +13,8 @@ use Rattle.survey.specs.declared.Level.{Level}
 use Rattle.survey.specs.declared.Level.the-variants as Level
 use Rattle.survey.specs.declared.Aim.{Aim}
 use Rattle.survey.specs.declared.Aim.the-variants as Aim
-use Rattle.pairs.specs.Survey.{Productive, Occurs, Inherits, CanBegin, rank, onwardMark}
+use Rattle.pairs.specs.Survey.{Productive, Occurs, Inherits, CanBegin, onwardMark}
+use Rattle.pairs.specs.Strength.{rank}
 use Rattle.survey.specs.Sources.{AddsFilled, AddsBegins, AddsStands, AddsHeads}
 
 -- inherits a mark of rank k or less

@@ -9,7 +9,7 @@ use Rattle.grammar.specs.declared.Rule.{Rule}
 use Rattle.grammar.specs.declared.Clause.{Clause}
 use Rattle.grammar.specs.declared.Clause.the-variants as Clause
 use Rattle.grammar.specs.Trees.{Covers}
-use Rattle.pairs.specs.Survey.{rank}
+use Rattle.pairs.specs.Strength.{rank}
 
 -- ns are the nullable nonterminals, ps the productive ones: A has a word
 abbrev pub Worded : ℕ → ℕ → ℕ → Type 0
