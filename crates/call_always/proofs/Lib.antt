@@ -1,0 +1,3 @@
+pub mod Replies
+pub mod Settled
+pub mod Means

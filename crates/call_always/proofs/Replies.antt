@@ -1,0 +1,44 @@
+-- The reply on a list that has entries, and the words that end 0.
+use mathlib.Core.Path.{_≡_, refl, sym, ap, _∙_}
+use mathlib.Core.List.{List, _++_}
+use Prim.Native.Nat.{ℕ, zero, suc, _≤_, _<_}
+use native.Mathlib.Omega.{arith}
+use lib.ListN.{length, take, drop, replicate, length-replicate, getD-replicate, take-append-drop}
+use lib.Seq.{length-take-le, getD-take, ext-getD}
+use Rattle.grammar.specs.Trees.{Rules}
+use Rattle.sheets.specs.Items.{Reading}
+use Rattle.spans.specs.Changes.{Past, Cleared}
+use Rattle.spans.proofs.ChangeLaws.{past-then, past-drop}
+use Rattle.call_always.specs.declared.Told.the-variants as Told
+use Rattle.call_always.specs.declared.AlwaysReply.{AlwaysReply}
+use Rattle.call_always.specs.Always.{alwaysReplyOf, AlwaysBy}
+
+abbrev some : ℕ → AlwaysReply
+some n = record { told = Told.Unknown; line = 0; count = n }
+
+pub some-entries : (n : ℕ) → (n ≡ 0 → ⊥) → some n ≡ alwaysReplyOf n
+some-entries zero h = absurd (h refl)
+some-entries (suc n) h = refl
+
+zeroed : (m : ℕ) (ws ws′ : List ℕ) → m ≤ length ws′ → Cleared ws ws′ m → take m ws′ ≡ replicate m 0
+zeroed m ws ws′ h c =
+    let e = length-take-le m ws′ h in
+    ext-getD 0 (take m ws′) (replicate m 0) (e ∙ sym (length-replicate m 0))
+    (λ i l.
+    let j : i < m = omega arith in
+    getD-take m ws′ i 0 j ∙ c .zeros i j ∙ sym (getD-replicate m i 0 0 j))
+
+-- the words that a call changed, and then cleared
+pub all-emptied : (m : ℕ) {ws ws′ ws″ : List ℕ} → m ≤ length ws → Past m ws ws′ → Cleared ws′ ws″ m
+    → ws″ ≡ replicate m 0 ++ drop m ws
+all-emptied m {ws} {ws′} {ws″} h p c =
+    sym (take-append-drop m ws″)
+    ∙ ap (λ (l : List ℕ). l ++ drop m ws″)
+    (zeroed m ws′ ws″ (omega (arith, p .long, c .past .long)) c)
+    ∙ ap (λ (l : List ℕ). replicate m 0 ++ l) (past-drop (past-then p (c .past)))
+
+-- a promise by what the reader answered is one by the sheet
+pub always-by : {o o′ : Reading Rules} → o ≡ o′
+    → {words words′ list list′ : List ℕ} {r : AlwaysReply}
+    → AlwaysBy o words words′ list list′ r → AlwaysBy o′ words words′ list list′ r
+always-by e x = rw e at x

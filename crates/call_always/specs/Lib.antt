@@ -1,0 +1,3 @@
+pub mod Always
+pub mod Meaning
+pub mod Replying
