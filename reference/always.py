@@ -23,6 +23,9 @@ from teplonga import Token, answer_lines, refused_answer
 SAME_WORD = (0, 0)
 WHYS = ("rules", "cuts", "empty")
 
+# the words that the call is lent at least
+NEEDED = 73_728
+
 
 # ------------------------------------------------------------------- the survey
 
@@ -415,6 +418,17 @@ def answer_on(reading):
 def listed(entries, lent):
     """01's rule for lists, four bytes an entry: (fits, number of entries, the lent bytes after)."""
     return places.in_lent_bytes([(*entry[:3], WHYS.index(entry[3])) for entry in entries], lent)
+
+
+def call_on(reading, words, lent):
+    """(answer, line, number of entries, words after, lent bytes after)."""
+    if reading[0] != "refused" and len(words) < NEEDED:
+        return refused_answer(21), 0, 0, list(words), bytes(lent)
+    answer, line, entries = answer_on(reading)
+    if reading[0] == "refused":
+        return answer, line, 0, list(words), bytes(lent)
+    fits, count, made = listed(entries, lent)
+    return answer if fits else refused_answer(22), 0, count, [0] * NEEDED + list(words[NEEDED:]), made
 
 
 def output_on(reading):

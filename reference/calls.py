@@ -7,6 +7,7 @@ Written from the page on programs alone, on top of the references for the calls.
 
 import sys
 
+import always
 import clauses
 import columns
 import places
@@ -25,6 +26,8 @@ CALLS = {
     (b"call length racks share", b"share"): (3, 3, 1, lambda n, racks, share, rules: shares.share_output(rules, n, racks, share)),
     (b"call", b"columns"): (0, 0, 2, columns.columns_output),
     (b"call", b"places"): (0, 0, 2, places.places_output),
+    (b"call", b"always"): (0, 0, 1, always.always_output),
+    (b"call", b"clauses-always"): (0, 0, 1, always.clauses_always_output),
     (b"call user", b"show"): (1, 1, 3, lambda user, rules, tokens, rights: tours.show_output(rules, tokens, rights, user)),
     (b"call user rule lay", b"change"): (
         2,

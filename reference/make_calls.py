@@ -22,6 +22,7 @@ import sys
 from pathlib import Path
 from typing import NamedTuple
 
+import always_cases
 import calls
 import clause_cases
 import clauses
@@ -105,8 +106,19 @@ def of_columns(case):
     return Call(b"call", b"columns", (), case)
 
 
+def of_always(case):
+    call, sheet = case
+    return Call(b"call", call.encode(), (), (sheet,))
+
+
 # the cases, part by part, each with what a case asks
-PARTS = [(clause_cases, of_clauses), (tree_cases, of_trees), (share_cases, of_shares), (column_cases, of_columns)]
+PARTS = [
+    (clause_cases, of_clauses),
+    (tree_cases, of_trees),
+    (share_cases, of_shares),
+    (column_cases, of_columns),
+    (always_cases, of_always),
+]
 
 
 def goes_on(call, output, answer):

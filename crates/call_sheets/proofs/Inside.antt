@@ -14,7 +14,8 @@ use Rattle.fields.proofs.Fields.{with-holds, end-holds}
 use Rattle.call_sheets.specs.declared.Call.{Call}
 use Rattle.call_sheets.specs.declared.Call.the-variants as Call
 use Rattle.call_sheets.specs.Inside.{Inside}
-use Rattle.call_sheets.specs.CallSheets.{clausesSheet, expandSheet, rowsSheet, columnsSheet, placesSheet, boundStart, shareStart, showStart, changeStart, beginsWith, values, withNumber, shareEnd, shareThird, shareSecond, shareCall, broken, changeEnd, changeSecond, changeCall, numberedCall, callOf}
+use Rattle.call_sheets.specs.CallSheets.{clausesSheet, expandSheet, rowsSheet, columnsSheet, placesSheet, boundStart, shareStart, showStart, changeStart, beginsWith, values, withNumber, shareEnd, shareThird, shareSecond, shareCall, broken, changeEnd, changeSecond, changeCall, alwaysCall, numberedCall, callOf}
+use Rattle.call_sheets.specs.CallSheets.{alwaysSheet, clausesAlwaysSheet}
 use Rattle.call_sheets.proofs.Laws.{begins-long}
 
 module _ (m : ℕ) where
@@ -40,6 +41,11 @@ module _ (m : ℕ) where
   change-inside : 0 < m → (fs : List (List ℕ)) → Inside m (changeCall m fs)
   change-inside h = with-holds (Inside m) Call.Not tt numeralOf (changeSecond m) (λ u. with-holds (Inside m) Call.Not tt numeralOf (changeEnd m u) (end-inside h u))
 
+always-inside : (m : ℕ) (s : List ℕ) → Inside m (alwaysCall s)
+always-inside m s =
+    either m (sameBytes s alwaysSheet) Call.Always _ tt
+    (either m (sameBytes s clausesAlwaysSheet) Call.ClausesAlways Call.Not tt tt)
+
 numbered-inside : (s : List ℕ) → Inside (length s) (numberedCall s)
 numbered-inside s =
     either m (beginsWith boundStart s) (withNumber (numeralOf (values boundStart s)) Call.ClausesSweep) _ (numbered m (numeralOf (values boundStart s)) Call.ClausesSweep (λ v. tt))
@@ -50,9 +56,9 @@ numbered-inside s =
     m : ℕ
     m = length s
 
-    go : (b : Bool) → beginsWith changeStart s ≡ b → Inside (length s) (cond b (changeCall (length s) (pieces 32 (values changeStart s))) Call.Not)
+    go : (b : Bool) → beginsWith changeStart s ≡ b → Inside (length s) (cond b (changeCall (length s) (pieces 32 (values changeStart s))) (alwaysCall s))
     go true e = change-inside (length s) (omega (arith, begins-long changeStart s e)) (pieces 32 (values changeStart s))
-    go false e = tt
+    go false e = always-inside (length s) s
 
 pub call-inside : (s : List ℕ) → Inside (length s) (callOf s)
 call-inside s =

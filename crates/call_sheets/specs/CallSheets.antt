@@ -33,6 +33,16 @@ columnsSheet = 99 ∷ 97 ∷ 108 ∷ 108 ∷ 10 ∷ 99 ∷ 111 ∷ 108 ∷ 117 �
 abbrev pub placesSheet : List ℕ
 placesSheet = 99 ∷ 97 ∷ 108 ∷ 108 ∷ 10 ∷ 112 ∷ 108 ∷ 97 ∷ 99 ∷ 101 ∷ 115 ∷ 10 ∷ []
 
+-- `call`, `always`
+abbrev pub alwaysSheet : List ℕ
+alwaysSheet = 99 ∷ 97 ∷ 108 ∷ 108 ∷ 10 ∷ 97 ∷ 108 ∷ 119 ∷ 97 ∷ 121 ∷ 115 ∷ 10 ∷ []
+
+-- `call`, `clauses-always`
+abbrev pub clausesAlwaysSheet : List ℕ
+clausesAlwaysSheet =
+    99 ∷ 97 ∷ 108 ∷ 108 ∷ 10
+    ∷ 99 ∷ 108 ∷ 97 ∷ 117 ∷ 115 ∷ 101 ∷ 115 ∷ 45 ∷ 97 ∷ 108 ∷ 119 ∷ 97 ∷ 121 ∷ 115 ∷ 10 ∷ []
+
 -- 2. calls with numbers: how the sheet begins, up to the blank behind the call's word
 
 -- `call bound`, `clauses `
@@ -104,13 +114,18 @@ changeCall m fs = withField Call.Not numeralOf fs (changeSecond m)
 
 -- 3. the call that a sheet names
 
+abbrev pub alwaysCall : List ℕ → Call
+alwaysCall s =
+    cond (sameBytes s alwaysSheet) Call.Always
+    (cond (sameBytes s clausesAlwaysSheet) Call.ClausesAlways Call.Not)
+
 abbrev pub numberedCall : List ℕ → Call
 numberedCall s =
     cond (beginsWith boundStart s) (withNumber (numeralOf (values boundStart s)) Call.ClausesSweep)
     (cond (beginsWith showStart s) (withNumber (numeralOf (values showStart s)) Call.Show)
     (cond (beginsWith shareStart s) (shareCall (pieces 32 (values shareStart s)))
     (cond (beginsWith changeStart s) (changeCall (length s) (pieces 32 (values changeStart s)))
-    Call.Not)))
+    (alwaysCall s))))
 
 abbrev pub callOf : List ℕ → Call
 callOf s =

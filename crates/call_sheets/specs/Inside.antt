@@ -14,4 +14,6 @@ Inside m Call.Columns = Unit {0}
 Inside m Call.Places = Unit {0}
 Inside m (Call.Show u) = Unit {0}
 Inside m (Call.Change u r at) = at < m
+Inside m Call.Always = Unit {0}
+Inside m Call.ClausesAlways = Unit {0}
 Inside m Call.Not = Unit {0}

@@ -9,7 +9,7 @@ ghost use Prim.Native.Nat.{_+_, _-_, _≤_, _<_};
 ghost use lib.ListN.{length, take, drop};
 ghost use Rattle.fields.specs.Words.{numeralOf};
 ghost use Rattle.fields.specs.Answers.{asNumber};
-ghost use Rattle.call_sheets.specs.CallSheets.{callOf, numberedCall, withNumber, shareCall, changeCall};
+ghost use Rattle.call_sheets.specs.CallSheets.{callOf, numberedCall, alwaysCall, withNumber, shareCall, changeCall};
 ghost use Rattle.call_sheets.specs.declared.Call.the-variants.{ClausesSweep as Bounded, Show as Shown};
 ghost use Rattle.call_sheets.specs.OneField.{oneField};
 ghost use Rattle.call_sheets.specs.CallSheets as Sheets;
@@ -27,6 +27,8 @@ pub enum Call {
     Places,
     Show(u32),
     Change(u32, u32, usize),
+    Always,
+    ClausesAlways,
     Not,
 }
 
@@ -139,7 +141,20 @@ fn show_call(s: &[u8]) -> Call
     }
 }
 
-// A call with numbers.
+// The test at every length.
+fn always_call(s: &[u8]) -> Call
+    ensures { λ r. ⌜ r ≡ alwaysCall (now (s .entry)) ⌝ }
+{
+    if same(s, b"call\nalways\n") {
+        return Call::Always;
+    }
+    if same(s, b"call\nclauses-always\n") {
+        return Call::ClausesAlways;
+    }
+    Call::Not
+}
+
+// A call with numbers, or the test at every length.
 fn numbered_call(s: &[u8]) -> Call
     ensures { λ r. ⌜ r ≡ numberedCall (now (s .entry)) ⌝ }
 {
@@ -157,7 +172,7 @@ fn numbered_call(s: &[u8]) -> Call
         let end = s.len() - 1;
         return change_call(s, Cursor { at: 26, end });
     }
-    Call::Not
+    always_call(s)
 }
 
 // The call that a call sheet names.

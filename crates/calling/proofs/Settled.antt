@@ -3,6 +3,7 @@ use mathlib.Core.Path.{_≡_, sym, _∙_}
 use mathlib.Core.List.{List}
 use Prim.Native.Nat.{ℕ}
 use native.Mathlib.Omega.{arith}
+use Rattle.always_text.proofs.Settled.{always-text-settled}
 use Rattle.call_sheets.specs.CallSheets.{callOf}
 use Rattle.call_sheets.specs.declared.Call.{Call}
 use Rattle.call_sheets.specs.declared.Call.the-variants as Call
@@ -41,6 +42,8 @@ call-settled sheet Call.Columns behind x y = two-settled (λ s t a b. columns-te
 call-settled sheet Call.Places behind x y = two-settled (λ s t a b. places-text-settled) x y
 call-settled sheet (Call.Show u) behind x y = three-settled (λ r s t a b. show-text-settled) x y
 call-settled sheet (Call.Change u r at) behind x y = two-settled (λ s t a b. change-text-settled) x y
+call-settled sheet Call.Always behind x y = always-text-settled x y
+call-settled sheet Call.ClausesAlways behind x y = always-text-settled x y
 call-settled sheet Call.Not behind x y = x ∙ sym y
 
 pub calls-settled : (input : List ℕ) {a b : List ℕ} → CallsOf input a → CallsOf input b → a ≡ b

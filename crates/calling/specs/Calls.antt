@@ -4,6 +4,7 @@ use mathlib.Core.List.{List}
 use mathlib.Core.Option.{none, some}
 use Prim.Native.Nat.{ℕ, _-_, _≤_, _<_}
 use lib.ListN.{length, take, drop}
+use Rattle.always_text.specs.Always.{AlwaysText}
 use Rattle.call_sheets.specs.CallSheets.{callOf}
 use Rattle.call_sheets.specs.declared.Call.{Call}
 use Rattle.call_sheets.specs.declared.Call.the-variants as Call
@@ -12,6 +13,7 @@ use Rattle.clause_sheets.specs.ClauseSheets.{clauseSheet}
 use Rattle.clause_text.specs.Texts.{ExpandText}
 use Rattle.column_text.specs.Columns.{ColumnsTextOf}
 use Rattle.share_text.specs.Shares.{ShareTextOf}
+use Rattle.sheets.specs.RuleSheets.{ruleSheet}
 use Rattle.text.specs.Input.{Parts, parts}
 use Rattle.text.specs.Output.{refusedText, head}
 use Rattle.text.specs.Programs.{longest, TreesText, SweepText}
@@ -56,6 +58,8 @@ CallText sheet Call.Columns behind text = OnTwoSheets ColumnsTextOf behind text
 CallText sheet Call.Places behind text = OnTwoSheets PlacesTextOf behind text
 CallText sheet (Call.Show u) behind text = OnThreeSheets (ShownText u) behind text
 CallText sheet (Call.Change u r at) behind text = OnTwoSheets (ChangedText sheet u r at) behind text
+CallText sheet Call.Always behind text = AlwaysText (ruleSheet behind) text
+CallText sheet Call.ClausesAlways behind text = AlwaysText (clauseSheet behind) text
 CallText sheet Call.Not behind text = Unwritten text
 
 -- the output: refused-31 for a longer input, refused-32 for one without an empty line, else that of the call

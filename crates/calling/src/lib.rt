@@ -1,4 +1,6 @@
 // The program `calls`: from its input to its whole output in a lent buffer.
+use always_text::always_text;
+use always_text::clauses_always_text;
 use call_sheets::Call;
 use call_sheets::call_of;
 use clause_text::clauses_sweep_text;
@@ -146,6 +148,8 @@ fn answer(call: Call, sheet: &[u8], s: &[u8], out: &mut [u8]) -> usize
         Call::Places => places_call(s, out),
         Call::Show(u) => show_call(s, u, out),
         Call::Change(u, r, at) => change_call(sheet, s, u, r, at, out),
+        Call::Always => always_text(s, out),
+        Call::ClausesAlways => clauses_always_text(s, out),
         Call::Not => put_refusal(out, 32),
     }
 }

@@ -69,7 +69,7 @@ pub fn rows_text(rules: &[u8], tokens: &[u8], out: &mut [u8]) -> usize
 }
 
 // A byte as a number, and the byte `end` behind it.
-fn put_small(out: &mut [u8], at: usize, v: u8, end: u8) -> usize
+pub fn put_small(out: &mut [u8], at: usize, v: u8, end: u8) -> usize
     requires { ⌜ at + 4 ≤ length (now out) ⌝ }
     ensures { λ r. ⌜ Wrote (now (out .entry)) (now (out .exit)) at (decimal v ++ (end ∷ [])) r ⌝ }
     ensures { λ r. ⌜ r ≤ at + 4 ⌝ }

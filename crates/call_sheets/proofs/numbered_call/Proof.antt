@@ -7,7 +7,7 @@ use native.Mathlib.Omega.{arith}
 use borrow.Author.Needs.{needs}
 use lib.ListN.{length, take, drop}
 use Rattle.fields.specs.Pieces.{pieces}
-use Rattle.fields.proofs.Pick.{into, skip, miss}
+use Rattle.fields.proofs.Pick.{into, skip}
 use Rattle.fields.proofs.Lines.{fields-of}
 use Rattle.call_sheets.specs.CallSheets.{boundStart, showStart, shareStart, changeStart, beginsWith, shareCall, changeCall}
 use Rattle.call_sheets.proofs.Laws.{begins-long}
@@ -124,12 +124,16 @@ returns-4 c =
     let call = sym (c .change-call .ensures ∙ ap (changeCall (length s)) (fields-are 26 s (long4 (c .before)))) in
     sym (skip (no1 e1) _ _ _ (skip (no2 e2) _ _ _ (skip (no3 e3) _ _ _ (into (is4 (c .before)) _ _ _ call))))
 
+always-call-requires : tie.Need-always-call-requires
+always-call-requires c κs = search needs
+
 returns-5 : tie.Need-returns-5
 returns-5 c =
-    let e3 = c .before .before .before in
+    let e4 = c .before in
+    let e3 = e4 .before .before .before in
     let e2 = e3 .before .before .before in
     let e1 = e2 .before .before .before in
-    sym (skip (no1 e1) _ _ _ (skip (no2 e2) _ _ _ (skip (no3 e3) _ _ _ (miss (no4 c) _ _))))
+    sym (skip (no1 e1) _ _ _ (skip (no2 e2) _ _ _ (skip (no3 e3) _ _ _ (skip (no4 e4) _ _ _ (sym (c .always-call .ensures))))))
 
 pub numbered-call-spec : {M : Type 1} → statement M
 numbered-call-spec =
@@ -153,4 +157,5 @@ numbered-call-spec =
     sub-end-2
     change-call-requires
     returns-4
+    always-call-requires
     returns-5)

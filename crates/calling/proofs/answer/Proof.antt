@@ -64,6 +64,18 @@ change-call-requires c κs =
 enum-told-6 : tie.Need-enum-told-6
 enum-told-6 c = search needs
 
+always-text-requires : tie.Need-always-text-requires
+always-text-requires c κs = search needs
+
+enum-told-7 : tie.Need-enum-told-7
+enum-told-7 c = search needs
+
+clauses-always-text-requires : tie.Need-clauses-always-text-requires
+clauses-always-text-requires c κs = search needs
+
+enum-told-8 : tie.Need-enum-told-8
+enum-told-8 c = search needs
+
 put-refusal-requires : tie.Need-put-refusal-requires
 put-refusal-requires c κs = search needs
 
@@ -154,7 +166,25 @@ same-length-10 c = search needs
 returns-10 : tie.Need-returns-10
 returns-10 c =
     let z = c .before .before in
-    record { text = head (refusedText 32) 0; is = rw (z .before .before .enum-told6 .given .1) refl; wrote = z .put-refusal .ensures }
+    let a = z .always-text .ensures in
+    record { text = a .text; is = rw (z .before .before .enum-told6 .given .1) (a .is); wrote = a .wrote }
+
+same-length-11 : tie.Need-same-length-11
+same-length-11 c = search needs
+
+returns-11 : tie.Need-returns-11
+returns-11 c =
+    let z = c .before .before in
+    let a = z .clauses-always-text .ensures in
+    record { text = a .text; is = rw (z .before .before .enum-told7 .given .1) (a .is); wrote = a .wrote }
+
+same-length-12 : tie.Need-same-length-12
+same-length-12 c = search needs
+
+returns-12 : tie.Need-returns-12
+returns-12 c =
+    let z = c .before .before in
+    record { text = head (refusedText 32) 0; is = rw (z .before .before .enum-told8 .given .1) refl; wrote = z .put-refusal .ensures }
 
 pub answer-spec : {M : Type 1} → statement M
 answer-spec =
@@ -179,6 +209,10 @@ answer-spec =
     enum-known-call-4
     change-call-requires
     enum-told-6
+    always-text-requires
+    enum-told-7
+    clauses-always-text-requires
+    enum-told-8
     put-refusal-requires
     same-length
     returns
@@ -199,4 +233,8 @@ answer-spec =
     same-length-9
     returns-9
     same-length-10
-    returns-10)
+    returns-10
+    same-length-11
+    returns-11
+    same-length-12
+    returns-12)

@@ -1,0 +1,131 @@
+// The whole output of the calls for the test at every length, in a lent buffer.
+use call_always::Told;
+use call_always::always;
+use clause_always::clauses_always;
+use printing::put_byte;
+use printing::put_bytes;
+use printing::put_number;
+use teplonga::Answer;
+use text::put_head;
+use text_trees::put_small;
+ghost use Prim.Native.Nat.{_+_, _*_, _≤_};
+ghost use lib.ListN.{length, take};
+ghost use Rattle.printing.specs.Printing.{Wrote};
+ghost use Rattle.sheets.specs.RuleSheets.{ruleSheet};
+ghost use Rattle.clause_sheets.specs.ClauseSheets.{clauseSheet};
+ghost use Rattle.text.specs.Output.{head};
+ghost use Rattle.text.specs.Printed.{Printed};
+ghost use Rattle.call_always.specs.declared.Told.the-variants as Told;
+ghost use Rattle.always_text.specs.Always.{toldText, whyText, doubtText, doubtLines};
+ghost use Rattle.always_text.specs.Always.{doubtsText, AlwaysText};
+
+// The first two lines for unknown.
+fn put_unknown(out: &mut [u8], line: usize) -> usize
+    requires { ⌜ 50 ≤ length (now out) ⌝ }
+    ensures { λ r. ⌜ Wrote (now (out .entry)) (now (out .exit)) 0 (head (toldText Told.Unknown) line) r ⌝ }
+    ensures { λ r. ⌜ r ≤ 50 ⌝ }
+{
+    let a = put_bytes(out, 0, b"answer line\n");
+    let b = put_bytes(out, a, b"unknown");
+    let c = put_byte(out, b, 32);
+    let d = put_number(out, c, line as u64);
+    put_byte(out, d, 10)
+}
+
+// The first two lines.
+fn put_told(out: &mut [u8], t: Told, line: usize) -> usize
+    requires { ⌜ 50 ≤ length (now out) ⌝ }
+    ensures { λ r. ⌜ Wrote (now (out .entry)) (now (out .exit)) 0 (head (toldText t) line) r ⌝ }
+    ensures { λ r. ⌜ r ≤ 50 ⌝ }
+{
+    match t {
+        Told::Clear => put_head(out, Answer::Clear, line),
+        Told::Unknown => put_unknown(out, line),
+        Told::Refused(f) => put_head(out, Answer::Refused(f), line),
+    }
+}
+
+// Why, and the byte 10 behind it.
+fn put_why(out: &mut [u8], at: usize, why: u8) -> usize
+    requires { ⌜ at + 6 ≤ length (now out) ⌝ }
+    ensures { λ r. ⌜ Wrote (now (out .entry)) (now (out .exit)) at (whyText why) r ⌝ }
+    ensures { λ r. ⌜ r ≤ at + 6 ⌝ }
+{
+    if why == 0 {
+        return put_bytes(out, at, b"rules\n");
+    }
+    if why == 1 {
+        return put_bytes(out, at, b"cuts\n");
+    }
+    put_bytes(out, at, b"empty\n")
+}
+
+// The line of an entry.
+fn put_doubt(out: &mut [u8], at: usize, left: u8, first: u8, second: u8, why: u8) -> usize
+    requires { ⌜ at + 18 ≤ length (now out) ⌝ }
+    ensures { λ r. ⌜ Wrote (now (out .entry)) (now (out .exit)) at (doubtText left first second why) r ⌝ }
+    ensures { λ r. ⌜ r ≤ at + 18 ⌝ }
+{
+    let a = put_small(out, at, left, 32);
+    let b = put_small(out, a, first, 32);
+    let c = put_small(out, b, second, 32);
+    put_why(out, c, why)
+}
+
+// The lines of the first `count` entries.
+fn put_doubts(out: &mut [u8], at: usize, list: &[u8], count: usize) -> usize
+    requires { ⌜ 4 * count ≤ length (now list) ⌝ }
+    requires { ⌜ at + 18 * count ≤ length (now out) ⌝ }
+    ensures { λ r. ⌜ Wrote (now (out .entry)) (now (out .exit)) at (doubtLines (take (4 * count) (now (list .entry)))) r ⌝ }
+{
+    let mut i = 0;
+    let mut next = at;
+    while i < count {
+        let p = 4 * i;
+        next = put_doubt(out, next, list[p], list[p + 1], list[p + 2], list[p + 3]);
+        i += 1;
+    }
+    next
+}
+
+// The names and the lines of the entries, where it is not known.
+fn put_listed(out: &mut [u8], at: usize, t: Told, list: &[u8], count: usize) -> usize
+    requires { ⌜ 4 * count ≤ length (now list) ⌝ }
+    requires { ⌜ at + 22 + 18 * count ≤ length (now out) ⌝ }
+    ensures { λ r. ⌜ Wrote (now (out .entry)) (now (out .exit)) at (doubtsText t (take (4 * count) (now (list .entry)))) r ⌝ }
+{
+    match t {
+        Told::Clear => at,
+        Told::Unknown => {
+            let next = put_bytes(out, at, b"left first second why\n");
+            put_doubts(out, next, list, count)
+        }
+        Told::Refused(_) => at,
+    }
+}
+
+// The whole output of the call `always`; its length.
+pub fn always_text(rules: &[u8], out: &mut [u8]) -> usize
+    requires { ⌜ 262144 ≤ length (now out) ⌝ }
+    ensures { λ r. ⌜ Printed AlwaysText (ruleSheet (now (rules .entry))) (now (out .entry)) (now (out .exit)) r ⌝ }
+{
+    let mut words = [0u64; 73728];
+    let mut list = [0u8; 57600];
+    let r = always(rules, &mut words, &mut list);
+    let t = r.told;
+    let n = put_told(out, t, r.line);
+    put_listed(out, n, t, &list, r.count)
+}
+
+// The whole output of the call `clauses-always`; its length.
+pub fn clauses_always_text(clauses: &[u8], out: &mut [u8]) -> usize
+    requires { ⌜ 262144 ≤ length (now out) ⌝ }
+    ensures { λ r. ⌜ Printed AlwaysText (clauseSheet (now (clauses .entry))) (now (out .entry)) (now (out .exit)) r ⌝ }
+{
+    let mut words = [0u64; 73728];
+    let mut list = [0u8; 57600];
+    let r = clauses_always(clauses, &mut words, &mut list);
+    let t = r.told;
+    let n = put_told(out, t, r.line);
+    put_listed(out, n, t, &list, r.count)
+}
