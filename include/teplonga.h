@@ -15,8 +15,8 @@
  * Calls are reentrant: they have no state of their own and may run in any threads at once, each on
  * its own lent memory. They allocate nothing, take no lock, set no errno and make no system call.
  *
- * Stack: a sweep, a share, a changed mark and the refused line need 20 KB, the verdict, columns and
- * places 110 KB, trees, row counts and trees shown 360 KB, whatever they are asked. A call on a clause
+ * Stack: a sweep, a share, a changed mark and the refused line need 20 KB, the test at every length
+ * 70 KB, the verdict, columns and places 110 KB, trees, row counts and trees shown 360 KB, whatever they are asked. A call on a clause
  * sheet needs up to 800 KB: its readers call each other, most deeply in groups within groups.
  * TEPLONGA_STACK bytes are enough for any call.
  *
@@ -51,7 +51,7 @@ extern "C" {
 #define TEPLONGA_LINE(answer) ((uint64_t)(answer) & 0xFFFFFFFFu)
 
 /*
- * The codes: none, one, two, clear, given, and 100 + N for refused-N. docs/FORMAT.md has the refusals in
+ * The codes: none, one, two, clear, given, unknown, and 100 + N for refused-N. docs/FORMAT.md has the refusals in
  * the order in which they are looked for, which is also the order here.
  */
 enum {
@@ -60,6 +60,7 @@ enum {
     TEPLONGA_TWO = 2,
     TEPLONGA_CLEAR = 3,
     TEPLONGA_GIVEN = 4,
+    TEPLONGA_UNKNOWN = 5,
     /* made by scripts/refusals.py from docs/refusals.tsv */
     /* 1, rule sheet, line 1: the names are not `left kind first second lay` (of a clause sheet
      * `left clause`), ended by byte 10 */
@@ -123,7 +124,7 @@ enum {
     /* 46, a share: the share is not below the number of racks */
     TEPLONGA_BAD_SHARE = 146,
     /* 21, lent words: fewer words are lent than the span sheet needs (for a sweep or a share: with
-     * as many tokens as the bound or the length) */
+     * as many tokens as the bound or the length; for the test at every length: than 73,728) */
     TEPLONGA_FEW_WORDS = 121,
     /* 22, lent tree rows: a tree of the answer has more rows than its memory has whole places of
      * four bytes (`check` lends 4,096), or a list does not fit into the bytes lent for it */
@@ -148,6 +149,20 @@ enum {
 
 /* The bytes of a place in a list: nonterminal, start, length. */
 #define TEPLONGA_PLACE 3
+
+/* The words that the test at every length needs, whatever the sheet. */
+#define TEPLONGA_ALWAYS_WORDS 73728
+
+/* The bytes of an entry of its list: nonterminal, two rules by their places from 1, why. */
+#define TEPLONGA_DOUBT 4
+
+/* No list has more entries. */
+#define TEPLONGA_MOST_DOUBTS 16384
+
+/* Why: two rules may read one word, one rule may part a word at two places, two have the empty word. */
+#define TEPLONGA_TWO_RULES 0
+#define TEPLONGA_TWO_CUTS 1
+#define TEPLONGA_TWO_EMPTY 2
 
 /* The places of `counts`: the row counts of the first and the second tree. */
 #define TEPLONGA_COUNTS 2
@@ -259,6 +274,25 @@ uint64_t teplonga_sweep(const uint8_t *rules, size_t rules_length,
                         uint64_t *found, size_t found_length);
 
 /*
+ * The test at every length: clear, where no sequence of tokens, whatever its length, terminals, lines,
+ * columns and widths, has two trees; unknown, where the test cannot tell; or refused 1 to 7, 44, 21 or
+ * 22.
+ *
+ * An entry is four bytes: a nonterminal, two of its rules by their places from 1, and why it may have
+ * two trees, one of TEPLONGA_TWO_RULES, TEPLONGA_TWO_CUTS, where both rules are the same, and
+ * TEPLONGA_TWO_EMPTY. The entries stand at the front of `list` by nonterminal, first rule, second rule
+ * and why, and all bytes after them are 0; on `clear` there are none. It needs TEPLONGA_ALWAYS_WORDS
+ * words, and leaves them 0; words past them never change. Every refusal but 22 changes neither words
+ * nor `list`. 22 says that the list does not fit: it leaves those words and all of `list` 0.
+ *
+ * `count` gets the number of entries, 0 on a refusal; words past it never change.
+ */
+uint64_t teplonga_always(const uint8_t *rules, size_t rules_length,
+                         uint64_t *words, size_t words_length,
+                         uint8_t *list, size_t list_length,
+                         uint64_t *count, size_t count_length);
+
+/*
  * The verdict and the trees as a user may see them: none, one or two, or refused 1 to 7, 44, 11 to 15,
  * 47, 50, 21 or 22.
  *
@@ -338,8 +372,8 @@ void teplonga_columns_refused_line(const uint8_t *rules, size_t rules_length,
                                    teplonga_part *line);
 
 /*
- * Clause sheets. The verdict, the trees, the sweep and the refused line take a clause sheet where
- * the calls above take a rule sheet, and promise the same of the rules that it expands to; where
+ * Clause sheets. The verdict, the trees, the sweep, the test at every length and the refused line take
+ * a clause sheet where the calls above take a rule sheet, and promise the same of the rules that it expands to; where
  * those are refused 1 to 7 or 44 these are refused 1, 41 to 43 or 7.
  */
 uint64_t teplonga_clause_verdict(const uint8_t *clauses, size_t clauses_length,
@@ -357,6 +391,12 @@ uint64_t teplonga_clause_sweep(const uint8_t *clauses, size_t clauses_length,
                                size_t bound,
                                uint64_t *words, size_t words_length,
                                uint64_t *found, size_t found_length);
+
+/* The rules of the entries are those of the expansion. */
+uint64_t teplonga_clause_always(const uint8_t *clauses, size_t clauses_length,
+                                uint64_t *words, size_t words_length,
+                                uint8_t *list, size_t list_length,
+                                uint64_t *count, size_t count_length);
 
 void teplonga_clause_refused_line(const uint8_t *clauses, size_t clauses_length,
                                   const uint8_t *tokens, size_t tokens_length,

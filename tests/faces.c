@@ -369,6 +369,53 @@ static void all_places(void)
     CHECK(all_bytes(list, 3, 7) && all_words(lent, 13, 7) && count[0] == 0);
 }
 
+/* ------------------------------------------------------------ at every length */
+
+typedef uint64_t always_call(const uint8_t *, size_t, uint64_t *, size_t, uint8_t *, size_t, uint64_t *, size_t);
+
+/* What is lent holds 7 before the call. */
+struct always {
+    uint64_t *words, *count;
+    uint8_t *list;
+};
+
+static uint64_t always(always_call *call, const char *given, size_t n, size_t size, struct always *lent)
+{
+    struct sheet r = sheet(given);
+
+    lent->words = words(n, 7);
+    lent->list = bytes(size, 7);
+    lent->count = words(2, 7);
+    return call(r.at, r.length, lent->words, n, lent->list, size, lent->count, 2);
+}
+
+#define NEEDED TEPLONGA_ALWAYS_WORDS
+#define CHAIN RULE_NAMES "0 B 1 0 none\n0 U 1 - none\n1 A 0 - none\n"
+
+static void every_length(void)
+{
+    struct always lent;
+
+    CHECK(always(teplonga_always, CHAIN, NEEDED + 1, 5, &lent) == coded(TEPLONGA_CLEAR, 0));
+    CHECK(all_words(lent.words, NEEDED, 0) && lent.words[NEEDED] == 7);
+    CHECK(all_bytes(lent.list, 5, 0) && lent.count[0] == 0 && lent.count[1] == 7);
+    CHECK(always(teplonga_always, PLAIN, NEEDED + 1, 5, &lent) == coded(TEPLONGA_UNKNOWN, 0));
+    CHECK(all_words(lent.words, NEEDED, 0) && lent.words[NEEDED] == 7);
+    CHECK(memcmp(lent.list, "\0\1\1\1\0", 5) == 0 && lent.list[3] == TEPLONGA_TWO_CUTS);
+    CHECK(lent.count[0] == 1 && lent.count[1] == 7);
+    CHECK(always(teplonga_always, PLAIN, NEEDED, TEPLONGA_DOUBT - 1, &lent) == coded(TEPLONGA_FEW_ROWS, 0));
+    CHECK(all_words(lent.words, NEEDED, 0) && all_bytes(lent.list, 3, 0) && lent.count[0] == 0);
+    CHECK(always(teplonga_always, PLAIN, NEEDED - 1, 4, &lent) == coded(TEPLONGA_FEW_WORDS, 0));
+    CHECK(all_words(lent.words, NEEDED - 1, 7) && all_bytes(lent.list, 4, 7) && lent.count[0] == 0);
+    CHECK(always(teplonga_always, RULE_NAMES "0 A 64 - none\n", NEEDED, 4, &lent) == coded(TEPLONGA_RULE_RANGE, 2));
+    CHECK(all_words(lent.words, NEEDED, 7) && all_bytes(lent.list, 4, 7) && lent.count[0] == 0);
+    CHECK(always(teplonga_clause_always, "left clause\n0 t0+ t1\n", NEEDED, 4, &lent) == coded(TEPLONGA_CLEAR, 0));
+    CHECK(always(teplonga_clause_always, "left clause\n0 t0 | t0\n", NEEDED, 4, &lent) == coded(TEPLONGA_UNKNOWN, 0));
+    CHECK(memcmp(lent.list, "\0\1\2\0", 4) == 0 && lent.list[3] == TEPLONGA_TWO_RULES && lent.count[0] == 1);
+    CHECK(always(teplonga_clause_always, "left clause\n0 \n", NEEDED, 4, &lent) == coded(TEPLONGA_CLAUSE_FORM, 2));
+    CHECK(all_words(lent.words, NEEDED, 7) && all_bytes(lent.list, 4, 7) && lent.count[0] == 0);
+}
+
 /* -------------------------------------------------------------------- clauses */
 
 #define CLAUSES "left clause\n0 t0 | n0 n0\n"
@@ -625,7 +672,7 @@ static void threads(void)
 
 /* A large sheet that loops, a long sentence and a long sweep, for the stack; their memory is not on it. */
 static char big_rules[4000], big_tokens[2000], big_ranges[2000], big_sweep[400];
-static uint64_t big_words[4162], big_found[TEPLONGA_FOUND], big_counts[TEPLONGA_COUNTS], big_numbers[3];
+static uint64_t big_words[TEPLONGA_ALWAYS_WORDS], big_found[TEPLONGA_FOUND], big_counts[TEPLONGA_COUNTS], big_numbers[3];
 /* Groups in groups and a long sequence in the innermost: the readers of clauses call each other most deeply. */
 static char big_clauses[400];
 static const uint8_t big_rights[] = RIGHTS "5 0 63 change\n", big_lay[] = "single";
@@ -695,6 +742,12 @@ static void *big_calls(void *which)
     case 10:
         teplonga_share((const uint8_t *)big_sweep, strlen(big_sweep), 5, 12, 7, big_words, 4162, big_numbers, 3, big_found, TEPLONGA_FOUND);
         break;
+    case 11:
+        teplonga_always(rules, r, big_words, TEPLONGA_ALWAYS_WORDS, big_list, sizeof big_list, big_counts, 1);
+        break;
+    case 12:
+        teplonga_clause_always((const uint8_t *)big_clauses, strlen(big_clauses), big_words, TEPLONGA_ALWAYS_WORDS, big_list, sizeof big_list, big_counts, 1);
+        break;
     default:
         teplonga_refused_line(rules, r, tokens, t, &line);
     }
@@ -719,10 +772,10 @@ static size_t stack_of(int which)
 
 static void stacks(void)
 {
-    static const char *names[] = { "verdict", "trees", "sweep", "rows", "places", "clause_trees", "expand", "columns", "show", "change", "share", "refused_line" };
+    static const char *names[] = { "verdict", "trees", "sweep", "rows", "places", "clause_trees", "expand", "columns", "show", "change", "share", "always", "clause_always", "refused_line" };
 
     make_big();
-    for (int which = 0; which < 12; which++) {
+    for (int which = 0; which < 14; which++) {
         size_t used = stack_of(which);
         printf("%s: %zu bytes of stack\n", names[which], used);
         CHECK(used <= TEPLONGA_STACK);
@@ -742,6 +795,7 @@ int main(int count, char **arguments)
         chosen_columns();
         columns_refused_lines();
         all_places();
+        every_length();
         clauses();
         shown();
         changed();

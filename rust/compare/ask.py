@@ -9,6 +9,7 @@ call answers and every lent word and byte after it.
 """
 
 import functools
+import itertools
 import os
 import sys
 
@@ -16,6 +17,7 @@ HERE = os.path.dirname(os.path.abspath(__file__))
 sys.path.insert(0, os.path.join(HERE, "..", "..", "reference"))
 sys.dont_write_bytecode = True
 
+import always  # noqa: E402
 import clauses  # noqa: E402
 import columns  # noqa: E402
 import places  # noqa: E402
@@ -84,6 +86,21 @@ def listed(rules, tokens, words, size, salt):
         bytes_of(rules), bytes_of(tokens), lent_words(salt, int(words)), lent_bytes(salt + 1, int(size))
     )
     return f"{answer} {line} places {count} list {hexed(made)} {shown_words(after)}"
+
+
+def shown_runs(words):
+    """Words, those that are the same together: `3*0` for three zeros."""
+    runs = [(len(list(run)), word) for word, run in itertools.groupby(words)]
+    shown = (f"{word:x}" if count == 1 else f"{count}*{word:x}" for count, word in runs)
+    return " ".join(["words", *shown])
+
+
+def at_every_length(reader, sheet, words, size, salt):
+    salt = int(salt)
+    answer, line, count, after, made = always.call_on(
+        reader(bytes_of(sheet)), lent_words(salt, int(words)), lent_bytes(salt + 1, int(size))
+    )
+    return f"{answer} {line} entries {count} list {hexed(made)} {shown_runs(after)}"
 
 
 def line(calls, rules, tokens):
@@ -155,6 +172,8 @@ CALLS = {
     **{f"clause-{name}": functools.partial(call, clauses) for name, call in BOTH.items()},
     "rows": counts,
     "places": listed,
+    "always": functools.partial(at_every_length, teplonga.read_rules),
+    "clause-always": functools.partial(at_every_length, clauses.read_clauses),
     "expand": expand,
     "share": share,
     "columns": chosen,

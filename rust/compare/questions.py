@@ -10,18 +10,21 @@ what lies in that memory before the call.
     sweep RULES BOUND WORDS SALT
     rows RULES TOKENS WORDS SALT
     places RULES TOKENS WORDS LIST SALT
+    always RULES WORDS LIST SALT
     expand CLAUSES SHEET SALT
     share RULES LENGTH RACKS INDEX WORDS SALT
     columns RULES RANGES WORDS SALT
     show RULES TOKENS RIGHTS USER WORDS FIRST SECOND SALT
     change RULES RIGHTS LAY USER RULE SHEET SALT
 
-The first four have `clause-` before their name where the sheet is a clause
-sheet.
+The first four and `always` have `clause-` before their name where the sheet is
+a clause sheet.
 """
 
 import random
 
+import always
+import always_cases
 import clauses
 import places
 import sheets
@@ -385,6 +388,43 @@ def of_an_expansion(chance):
     return f"expand {hexed(sheet)} {size} {salt(chance)}"
 
 
+# ------------------------------------------------------------- at every length
+
+# The reference takes its time on sheets of more rules.
+MOST_DOUBTED = 9
+
+
+def at_every_length(chance, call, sheet, reading):
+    """Words enough, more, one short or few; bytes about those of the list."""
+    words = always.NEEDED + chance.choice([0, 0, 0, 0, 1, 5])
+    if chance.random() < 0.1:
+        words = chance.choice([0, 1, 20, 20, always.NEEDED - 1])
+    size = 4 * len(always.answer_on(reading)[2]) if reading[0] == "accepted" else 0
+    size = chance.choice([size, size + 3, size + 40, max(size - 1, 0), chance.randint(0, size)])
+    return f"{call} {hexed(sheet)} {words} {size} {salt(chance)}"
+
+
+def is_heavy(reading):
+    return reading[0] == "accepted" and len(reading[1]) > MOST_DOUBTED
+
+
+def of_always(chance):
+    sheet = always_cases.drawn_rules(chance)
+    if chance.random() < 0.3:
+        other = drawn(chance, UNSOUND)[0]
+        sheet = sheet if is_heavy(teplonga.read_rules(other)) else other
+    return at_every_length(chance, "always", sheet, teplonga.read_rules(sheet))
+
+
+def of_clause_always(chance):
+    sheet = nested(chance)[0]
+    if chance.random() < 0.95:
+        sheet, _ = clause_pair(chance)
+    while is_heavy(clauses.read_clauses(sheet)):
+        sheet, _ = clause_pair(chance)
+    return at_every_length(chance, "clause-always", sheet, clauses.read_clauses(sheet))
+
+
 # ------------------------------------------------------------ shares and columns
 
 def of_a_share(chance):
@@ -507,7 +547,7 @@ def of_a_sweep(chance):
 # In thousandths; few questions are costly.
 QUESTIONS = {
     of_a_verdict: 110,
-    of_trees: 170,
+    of_trees: 160,
     of_counts: 100,
     of_places: 100,
     of_a_line: 60,
@@ -519,6 +559,8 @@ QUESTIONS = {
     of_columns: 40,
     of_a_tour: 50,
     of_a_change: 40,
+    of_always: 6,
+    of_clause_always: 4,
     late_sweep: 15,
     long_sentence: 30,
     full_sentence: 1,
@@ -549,6 +591,8 @@ DRAWN_BY = {
     "columns": of_columns,
     "show": of_a_tour,
     "change": of_a_change,
+    "always": of_always,
+    "clause-always": of_clause_always,
 }
 
 

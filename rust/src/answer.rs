@@ -14,16 +14,20 @@ pub enum Answer {
     One,
     /// Two valid trees or more.
     Two,
-    /// A sweep found no sentence that has two trees.
+    /// A sweep found no sentence that has two trees, or the test at every
+    /// length says that there is none.
     Clear,
     /// What was asked for is given.
     Given,
+    /// The test at every length cannot tell.
+    Unknown,
     /// The call is refused.
     Refused(Refusal),
 }
 
 impl Answer {
-    /// The answer of a code: 0 none, 1 one, 2 two, 3 clear, 4 given, 100 + N refused-N.
+    /// The answer of a code: 0 none, 1 one, 2 two, 3 clear, 4 given,
+    /// 5 unknown, 100 + N refused-N.
     fn coded(code: u64) -> Answer {
         match code {
             0 => Answer::None,
@@ -31,6 +35,7 @@ impl Answer {
             2 => Answer::Two,
             3 => Answer::Clear,
             4 => Answer::Given,
+            5 => Answer::Unknown,
             _ => Answer::Refused(refusal(code)),
         }
     }
@@ -65,6 +70,7 @@ impl fmt::Display for Answer {
             Answer::Two => f.write_str("two"),
             Answer::Clear => f.write_str("clear"),
             Answer::Given => f.write_str("given"),
+            Answer::Unknown => f.write_str("unknown"),
             Answer::Refused(refusal) => refusal.fmt(f),
         }
     }
@@ -114,6 +120,7 @@ mod tests {
         assert_eq!(shown(2, 0), "two 0");
         assert_eq!(shown(3, 0), "clear 0");
         assert_eq!(shown(4, 0), "given 0");
+        assert_eq!(shown(5, 0), "unknown 0");
         assert_eq!(shown(101, 1), "refused-1 1");
         assert_eq!(shown(147, u64::from(u32::MAX)), "refused-47 4294967295");
     }

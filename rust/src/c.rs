@@ -178,6 +178,28 @@ extern "C" {
         found_length: usize,
     ) -> u64;
 
+    fn teplonga_always(
+        rules: *const u8,
+        rules_length: usize,
+        words: *mut u64,
+        words_length: usize,
+        list: *mut u8,
+        list_length: usize,
+        count: *mut u64,
+        count_length: usize,
+    ) -> u64;
+
+    fn teplonga_clause_always(
+        clauses: *const u8,
+        clauses_length: usize,
+        words: *mut u64,
+        words_length: usize,
+        list: *mut u8,
+        list_length: usize,
+        count: *mut u64,
+        count_length: usize,
+    ) -> u64;
+
     fn teplonga_columns(
         rules: *const u8,
         rules_length: usize,
@@ -299,6 +321,20 @@ pub fn places(rules: &[u8], tokens: &[u8], words: &mut [u64], list: &mut [u8]) -
     let word = call!(
         teplonga_places: read rules, read tokens, write words, write list, write count
     );
+    (word, in_memory(count[0]))
+}
+
+/// The test at every length, and its list's number of entries.
+pub fn always(rules: &[u8], words: &mut [u64], list: &mut [u8]) -> (Word, usize) {
+    let mut count = [0; 1];
+    let word = call!(teplonga_always: read rules, write words, write list, write count);
+    (word, in_memory(count[0]))
+}
+
+/// The same for a clause sheet.
+pub fn clause_always(clauses: &[u8], words: &mut [u64], list: &mut [u8]) -> (Word, usize) {
+    let mut count = [0; 1];
+    let word = call!(teplonga_clause_always: read clauses, write words, write list, write count);
     (word, in_memory(count[0]))
 }
 

@@ -3,7 +3,7 @@
 //! They promise of the rules that a clause sheet expands to what the calls of
 //! the same names promise of a rule sheet.
 
-use crate::{c, sentence, Reply, SheetReply, SweepReply, TreesReply};
+use crate::{c, sentence, AlwaysReply, Reply, SheetReply, SweepReply, TreesReply};
 
 /// The most bytes of an expanded rule sheet.
 pub const MOST_EXPANDED: usize = 4096;
@@ -59,6 +59,21 @@ pub fn sweep(clauses: &[u8], bound: usize, words: &mut [u64]) -> SweepReply {
     let mut found = [0; sentence::PLACES];
     let word = c::clause_sweep(clauses, bound, words, &mut found);
     SweepReply::unpacked(word, &found)
+}
+
+/// Clear, where no sentence has two readings, whatever its length; unknown,
+/// where the test cannot tell. The rules of the list are those of the expansion.
+///
+/// ```
+/// use teplonga::{clauses::always, Answer, ALWAYS_WORDS};
+///
+/// let (mut words, mut list) = (vec![0; ALWAYS_WORDS], [0; 4 * 16]);
+/// let reply = always(b"left clause\n0 t0+ t1\n", &mut words, &mut list);
+/// assert_eq!(reply.answer, Answer::Clear);
+/// ```
+pub fn always<'a>(clauses: &[u8], words: &mut [u64], list: &'a mut [u8]) -> AlwaysReply<'a> {
+    let (word, count) = c::clause_always(clauses, words, list);
+    AlwaysReply::unpacked(word, count, list)
 }
 
 /// The rule sheet that a clause sheet expands to; [`MOST_EXPANDED`] bytes are

@@ -13,10 +13,11 @@
 //! | [`show`] | the verdict, and the rows of both trees as a user may see them |
 //! | [`change`] | a rule sheet with a mark that a user may change |
 //! | [`columns()`] | which verdicts some choice of columns within two ends gives |
+//! | [`always`] | clear, where no sentence of any length has two trees, or where the test cannot tell |
 //! | [`sweep`] | the first short sentence that has two trees, or clear |
 //! | [`share`] | one share of a sweep that is divided among racks |
 //! | [`refused_line`], [`columns_refused_line`] | the refused line itself, as a part of its sheet |
-//! | [`clauses`] | a module: verdict, trees, sweep and refused line of clause sheets, and the rule sheet that one expands to |
+//! | [`clauses`] | a module: verdict, trees, sweep, the test at every length and refused line of clause sheets, and the rule sheet that one expands to |
 //!
 //! Each reply has a `result`: the answer, or a [`Refused`] as an error.
 //!
@@ -39,6 +40,7 @@
 #![deny(unsafe_code)]
 #![warn(missing_docs)]
 
+mod always;
 mod answer;
 #[allow(unsafe_code)]
 mod c;
@@ -52,6 +54,7 @@ mod share;
 mod sheet;
 mod tree;
 
+pub use always::{AlwaysReply, Doubt, Doubts, Why, ALWAYS_WORDS, DOUBT, MOST_DOUBTS};
 pub use answer::{Answer, Reply};
 pub use columns::ColumnsReply;
 pub use place::{Place, Places, PlacesReply, PLACE};
@@ -291,6 +294,34 @@ pub fn sweep(rules: &[u8], bound: usize, words: &mut [u64]) -> SweepReply {
     let mut found = [0; sentence::PLACES];
     let word = c::sweep(rules, bound, words, &mut found);
     SweepReply::unpacked(word, &found)
+}
+
+/// Clear, where no sentence has two trees, whatever its length; unknown, where
+/// the test cannot tell, with the list of all rules that give rise to doubt.
+///
+/// Clear says that no sequence of tokens, none at all included, has two trees,
+/// whatever its terminals, lines, columns and widths. Unknown says nothing of
+/// that: such a sheet may have no sentence with two trees. The test needs
+/// [`ALWAYS_WORDS`] words and leaves them 0. An entry takes [`DOUBT`] bytes of
+/// `list`, and no list has more than [`MOST_DOUBTS`]; the bytes after the entries
+/// are 0 after an accepted call. A list that does not fit is refused-22: all of
+/// `list` is 0.
+///
+/// ```
+/// use teplonga::{always, Answer, Doubt, Why, ALWAYS_WORDS};
+///
+/// let (mut words, mut list) = (vec![0; ALWAYS_WORDS], [0; 4 * 16]);
+/// let chain = b"left kind first second lay\n0 B 1 0 none\n0 U 1 - none\n1 A 0 - none\n";
+/// assert_eq!(always(chain, &mut words, &mut list).answer, Answer::Clear);
+/// let pairs = b"left kind first second lay\n0 B 0 0 none\n0 A 0 - none\n";
+/// let reply = always(pairs, &mut words, &mut list);
+/// let doubt = Doubt { nonterminal: 0, first: 1, second: 1, why: Why::Cuts };
+/// assert_eq!(reply.answer, Answer::Unknown);
+/// assert_eq!(reply.doubts.collect::<Vec<Doubt>>(), [doubt]);
+/// ```
+pub fn always<'a>(rules: &[u8], words: &mut [u64], list: &'a mut [u8]) -> AlwaysReply<'a> {
+    let (word, count) = c::always(rules, words, list);
+    AlwaysReply::unpacked(word, count, list)
 }
 
 /// The lowest number of share `index` of `racks` whose arrangement of `length`

@@ -78,7 +78,8 @@ pub enum Refusal {
     /// 46, a share: the share is not below the number of racks.
     BadShare = 46,
     /// 21, lent words: fewer words are lent than the span sheet needs (for a sweep
-    /// or a share: with as many tokens as the bound or the length).
+    /// or a share: with as many tokens as the bound or the length; for the test at
+    /// every length: than 73,728).
     FewWords = 21,
     /// 22, lent tree rows: a tree of the answer has more rows than its memory has
     /// whole places of four bytes (`check` lends 4,096), or a list does not fit
@@ -172,7 +173,7 @@ impl Refusal {
             Refusal::BadRacks => "the number of racks is not 1 to 64",
             Refusal::BadShare => "the share is not below the number of racks",
             Refusal::FewWords => {
-                "fewer words are lent than the span sheet needs (for a sweep or a share: with as many tokens as the bound or the length)"
+                "fewer words are lent than the span sheet needs (for a sweep or a share: with as many tokens as the bound or the length; for the test at every length: than 73,728)"
             }
             Refusal::FewRows => {
                 "a tree of the answer has more rows than its memory has whole places of four bytes (`check` lends 4,096), or a list does not fit into the bytes lent for it"

@@ -99,7 +99,7 @@ mod tests {
     const TOKENS: &[u8] = b"term line col\n0 1 1\n0 1 2\n0 1 3\n";
 
     /// Document 01's worked example, asked in every call, with its answers.
-    fn worked() -> [(String, String); 8] {
+    fn worked() -> [(String, String); 9] {
         let (rules, tokens) = (hexed(RULES), hexed(TOKENS));
         let words = "words 0 0 1 0 1 0 1 0 1 0 1 0 1 1";
         let rows = "rows 5 5 first 0003000300010001000301020001010100010201 \
@@ -117,6 +117,12 @@ mod tests {
             (
                 format!("places {rules} {tokens} 14 4 1"),
                 format!("two 0 places 1 list 00000300 {words}"),
+            ),
+            (
+                format!("always {rules} 73730 5 1"),
+                "unknown 0 entries 1 list 0001010100 words 73728*0 \
+                 a55fa2a6ca2c982a 43971c604977143f"
+                    .to_string(),
             ),
             (
                 format!("clause-line {} {tokens}", hexed(b"left clause\n0 \n")),
@@ -157,7 +163,7 @@ mod tests {
             tally.count(&question, &wanted);
         }
         let missing = tally.never_met();
-        assert_eq!(tally.total(), 8);
+        assert_eq!(tally.total(), 9);
         assert!(missing.contains(&"trees refused-22".to_string()));
         assert!(!missing.contains(&"trees two".to_string()));
     }

@@ -3,9 +3,9 @@
 use std::fmt::{Display, Write};
 use std::str::FromStr;
 
-use teplonga::{change, clauses, columns, columns_refused_line, places, rows, share, show};
+use teplonga::{always, change, clauses, columns, columns_refused_line, places, rows, share, show};
 use teplonga::{refused_line, sweep, trees, verdict};
-use teplonga::{Reply, RowCount, Rows, SweepReply, Token, TreesReply};
+use teplonga::{AlwaysReply, Reply, RowCount, Rows, SweepReply, Token, TreesReply};
 
 use crate::lent::{self, Lent};
 
@@ -15,15 +15,17 @@ struct Calls {
     trees: for<'a> fn(&[u8], &[u8], &mut [u64], &'a mut [u8], &'a mut [u8]) -> TreesReply<'a>,
     sweep: fn(&[u8], usize, &mut [u64]) -> SweepReply,
     refused_line: for<'a> fn(&'a [u8], &'a [u8]) -> &'a [u8],
+    always: for<'a> fn(&[u8], &mut [u64], &'a mut [u8]) -> AlwaysReply<'a>,
 }
 
-const OF_RULES: Calls = Calls { verdict, trees, sweep, refused_line };
+const OF_RULES: Calls = Calls { verdict, trees, sweep, refused_line, always };
 
 const OF_CLAUSES: Calls = Calls {
     verdict: clauses::verdict,
     trees: clauses::trees,
     sweep: clauses::sweep,
     refused_line: clauses::refused_line,
+    always: clauses::always,
 };
 
 /// A call with its sheets and its numbers.
@@ -41,7 +43,7 @@ impl Question<'_> {
         let count = match call.trim_start_matches("clause-") {
             "show" | "change" => 3,
             "verdict" | "trees" | "line" | "rows" | "places" | "columns" => 2,
-            "sweep" | "expand" | "share" => 1,
+            "sweep" | "expand" | "share" | "always" => 1,
             _ => panic!("no question: {line}"),
         };
         let sheets = fields.by_ref().take(count).map(sheet).collect();
@@ -74,6 +76,9 @@ impl Question<'_> {
             ("rows", &[rules, tokens], &[words, salt]) => rows_answer(rules, tokens, words, salt),
             ("places", &[rules, tokens], &[words, list, salt]) => {
                 places_answer(rules, tokens, words, list, salt)
+            }
+            ("always", &[sheet], &[words, size, salt]) => {
+                always_answer(&calls, sheet, words, size, salt)
             }
             ("expand", &[sheet], &[size, salt]) => expand_answer(sheet, size, salt),
             ("share", &[rules], &[length, racks, index, words, salt]) => {
@@ -121,6 +126,15 @@ fn put(mut text: String, more: impl Display) -> String {
 
 fn shown_words(words: &[u64]) -> String {
     words.iter().fold("words".to_string(), |text, word| put(text, format_args!(" {word:x}")))
+}
+
+/// The same, with words that are the same together: `3*0` for three zeros.
+fn shown_runs(words: &[u64]) -> String {
+    let runs = words.chunk_by(|one, other| one == other);
+    runs.fold("words".to_string(), |text, run| match run {
+        [word] => put(text, format_args!(" {word:x}")),
+        _ => put(text, format_args!(" {}*{:x}", run.len(), run[0])),
+    })
 }
 
 /// A remark to an answer, where something beside the lent memory has changed.
@@ -231,6 +245,20 @@ fn places_answer(rules: &[u8], tokens: &[u8], words: u64, size: u64, salt: u64) 
     text = put(text, format_args!(" list {} {}", hexed(list.part()), shown_words(words.part())));
     if !list.part().starts_with(&entries) {
         text += " PLACES ARE NOT THE MEMORY'S";
+    }
+    text + remark(words.sides_kept() && list.sides_kept())
+}
+
+fn always_answer(calls: &Calls, sheet: &[u8], words: u64, size: u64, salt: u64) -> String {
+    let mut words = lent::words(salt, words as usize);
+    let mut list = lent::bytes(salt + 1, size as usize);
+    let reply = (calls.always)(sheet, words.part_mut(), list.part_mut());
+    let mut text = format!("{} {} entries {}", reply.answer, reply.line, reply.doubts.len());
+    let entries = reply.doubts.flat_map(|it| [it.nonterminal, it.first, it.second, it.why as u8]);
+    let entries: Vec<u8> = entries.collect();
+    text = put(text, format_args!(" list {} {}", hexed(list.part()), shown_runs(words.part())));
+    if !list.part().starts_with(&entries) {
+        text += " ENTRIES ARE NOT THE MEMORY'S";
     }
     text + remark(words.sides_kept() && list.sides_kept())
 }

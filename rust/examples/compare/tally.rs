@@ -3,7 +3,7 @@
 use std::collections::BTreeMap;
 
 /// The calls, as questions name them.
-const CALLS: [&str; 15] = [
+const CALLS: [&str; 17] = [
     "verdict",
     "trees",
     "rows",
@@ -19,6 +19,8 @@ const CALLS: [&str; 15] = [
     "columns",
     "show",
     "change",
+    "always",
+    "clause-always",
 ];
 
 /// A line a call: the call, and the answers that it must have given at least
@@ -34,7 +36,7 @@ fn required(call: &str) -> Vec<String> {
 
 /// The answers in the order of the table.
 fn answers() -> Vec<String> {
-    let words = ["none", "one", "two", "clear", "given"].map(str::to_string);
+    let words = ["none", "one", "two", "clear", "given", "unknown"].map(str::to_string);
     let numbers = (1..=7).chain(11..=15).chain(21..=24).chain(41..=51);
     words.into_iter().chain(numbers.map(|number| format!("refused-{number}"))).collect()
 }
