@@ -23,7 +23,7 @@ use Rattle.pair_steps.specs.Tables.{LowTable, SoundTable, WordsOf, NextsOf, sha
 use Rattle.pair_steps.specs.Closing.{ToldBy}
 use Rattle.pair_steps.proofs.CompleteLaws.{found}
 use Rattle.pair_tables.specs.Reading.{Small}
-use Rattle.pair_tables.specs.Stepping.{wordSum, Put, nextPlace, Stepped, no-offsets, no-terminals, puts}
+use Rattle.pair_tables.specs.Stepping.{wordSum, Put, nextPlace, Stepped, has-all, no-offsets, no-terminals, puts}
 use Rattle.pair_tables.proofs.StepKept.{code-low, step-kept}
 use Rattle.pair_tables.proofs.StepSound.{step-sound}
 use Rattle.pair_nodes.specs.Slots.{nodeAt, Present, NodesOf}
@@ -130,6 +130,7 @@ module _ {x y : Node} {i j : ℕ} {f : Frame} {t : List ℕ} (low : LowTable t) 
     -- a step over a frame that suits
     pub step-ran : {u : List ℕ} {b : Bool} → Stepped f x y i j t from end t u b
         → Ran (PairOf x y i j) (Settled x y i j f) t u b
+    step-ran (has-all ws m h) = stays (settles (has-all ws m h) refl)
     step-ran (no-offsets ws o) = stays (settles (no-offsets ws o) refl)
     step-ran (no-terminals ws o ns v) = stays (settles (no-terminals ws o ns v) refl)
     step-ran (puts ws o rn ns v qn p) =

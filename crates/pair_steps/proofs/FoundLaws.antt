@@ -12,7 +12,7 @@ use Rattle.pair_offsets.specs.Lists.{Held, OffsetsLeft}
 use Rattle.pair_steps.specs.declared.Node.{Node}
 use Rattle.pair_steps.specs.declared.Words.{Words}
 use Rattle.pair_steps.specs.Leaving.{Narrowed, StartsLeave, StartCutLeave, CutStartLeave, CutsLeave}
-use Rattle.pair_steps.specs.Leaving.{OwnLeave, firstStop, secondStop, LeavesBy, Leaves, OffsetsFound}
+use Rattle.pair_steps.specs.Leaving.{OwnLeave, firstStop, secondStop, LeavesBy, Leaves, StartsMost, OffsetsFound}
 use Rattle.pair_steps.proofs.NarrowLaws.{fifteen}
 
 module _ (f : Frame) (x y : Node) (w : Words) (list : List ℕ) (from end : ℕ) where
@@ -102,3 +102,8 @@ module _ (f : Frame) (x y : Node) (w : Words) (list : List ℕ) (from end : ℕ)
   none-mc eu ev n z =
       none-left (λ n. n / 16 % 4)
       (λ k e. rw z at (n .keeps (k / 16 % 4) (fifteen (k / 16 % 4) (omega arith)) (rw (eu, ev) (e .mc))))
+
+-- at most
+pub starts-most : {f : Frame} {x y : Node} {w : Words} {t v r : ℕ} → t ≡ firstStop (x .kids) (f .cut) (f .stop)
+    → v ≡ firstStop (y .kids) (f .split) (f .end) → Narrowed 15 (StartsLeave f x y t v w) r → StartsMost f x y w r
+starts-most et ev n = record { has = λ k h p. n .keeps k (fifteen k h) (rw (et, ev) p) }

@@ -15,7 +15,7 @@ use Rattle.pair_steps.specs.declared.Node.{Node}
 use Rattle.pair_steps.specs.declared.Words.{Words}
 use Rattle.pair_steps.specs.Leaving.{Narrowed, firstStop, secondStop}
 use Rattle.pair_steps.specs.Tokens.{allTerminals, BeginsLeave, NodesLeave, KidsLeave, TokensBy, TokensLeave}
-use Rattle.pair_steps.specs.Tokens.{SomeAt, PointsHave, TokensFound}
+use Rattle.pair_steps.specs.Tokens.{TokensMost, SomeAt, PointsHave, TokensFound}
 use Rattle.pair_steps.proofs.NarrowLaws.{shift-in}
 
 -- 1. members of a word
@@ -125,3 +125,9 @@ module _ (f : Frame) (x y : Node) (n : Words) where
               rw eq at (q .1),
             );
       }
+
+-- at most
+pub tokens-most : {f : Frame} {x y : Node} {n : Words} {r q : ℕ} → r ≡ min (f .stop) (f .end)
+    → Narrowed allTerminals (TokensLeave f x y n r) q → TokensMost f x y n q
+tokens-most {f} {x} {y} {n} e l =
+    record { has = λ z h p. l .keeps z (in-all z h) (subst (λ (m : ℕ). TokensLeave f x y n m z) (sym e) p) }

@@ -92,6 +92,12 @@ Leaves f x y w n =
     LeavesBy f x y w (firstStop (x .kids) (f .cut) (f .stop)) (firstStop (y .kids) (f .split) (f .end))
     (secondStop (x .kids) (f .stop)) (secondStop (y .kids) (f .end)) n
 
+-- r has what is left to the two starts
+pub record StartsMost (f : Frame) (x y : Node) (w : Words) (r : ℕ) : Type 0 where
+  pub has : (k : ℕ) → k < 4
+      → StartsLeave f x y (firstStop (x .kids) (f .cut) (f .stop)) (firstStop (y .kids) (f .split) (f .end)) w k
+      → In r k
+
 -- a listed six that is as they ask, with k for the offset of the two starts
 pub record FoundWith (f : Frame) (x y : Node) (w : Words) (list : List ℕ) (from end k : ℕ) : Type 0 where
   pub place : ℕ

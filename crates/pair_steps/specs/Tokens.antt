@@ -57,6 +57,10 @@ TokensLeave f x y n r z =
     TokensBy f x y n (firstStop (x .kids) (f .cut) (f .stop)) (firstStop (y .kids) (f .split) (f .end))
     (secondStop (x .kids) (f .stop)) (secondStop (y .kids) (f .end)) r z
 
+-- q has those left at the stop that comes first
+pub record TokensMost (f : Frame) (x y : Node) (n : Words) (q : ℕ) : Type 0 where
+  pub has : (z : ℕ) → z < 64 → TokensLeave f x y n (min (f .stop) (f .end)) z → In q z
+
 -- some terminal is left at r
 pub record SomeAt (f : Frame) (x y : Node) (n : Words) (r : ℕ) : Type 0 where
   pub terminal : ℕ

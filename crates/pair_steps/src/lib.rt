@@ -12,9 +12,9 @@ ghost use Rattle.pair_steps.specs.Nodes.{Mask, Joint, Parted};
 ghost use Rattle.pair_steps.specs.Leaving.{Coded, Narrowed, Narrows, Within, InFront};
 ghost use Rattle.pair_steps.specs.Leaving.{StartsLeave, StartCutLeave, CutStartLeave};
 ghost use Rattle.pair_steps.specs.Leaving.{CutsLeave, OwnLeave, firstStop, secondStop};
-ghost use Rattle.pair_steps.specs.Leaving.{OffsetsFound};
+ghost use Rattle.pair_steps.specs.Leaving.{StartsMost, OffsetsFound};
 ghost use Rattle.pair_steps.specs.Tokens.{allTerminals, AtPlace, AtCut, AtStop, BeginsLeave};
-ghost use Rattle.pair_steps.specs.Tokens.{NodesLeave, KidsLeave, TokensLeave, TokensFound};
+ghost use Rattle.pair_steps.specs.Tokens.{NodesLeave, KidsLeave, TokensLeave, TokensMost, TokensFound};
 
 // A node that has tokens: how many children with tokens it has, its nonterminal and theirs; the
 // offsets that it allows its start and a start inside, its start and its cut, and a start before its
@@ -204,6 +204,15 @@ pub fn second_stop(kids: u8, stop: u8) -> u8
     stop
 }
 
+// The offsets that the two starts can have at most, whatever the other four are.
+pub fn starts_most(f: Frame, x: Node, y: Node, w: Words) -> u64
+    ensures { λ r. ⌜ StartsMost f x y w r ⌝ }
+{
+    let t = first_stop(x.kids, f.cut, f.stop);
+    let v = first_stop(y.kids, f.split, f.end);
+    starts_left(f, x, y, t, v, w)
+}
+
 // The offsets of the two starts that two nodes over a frame can have; the sixes of offsets that can
 // stand together over it are listed.
 pub fn offsets_found(
@@ -327,6 +336,16 @@ fn tokens_at(f: Frame, x: Node, y: Node, n: Words, r: u8) -> u64
     let m1 = begins_left(f, x, y, r);
     let m2 = nodes_leave(m1, f, t, v, u, s, n, r);
     kids_leave(m2, f, t, v, u, s, n, r)
+}
+
+// The terminals left at the stop that comes first, whatever is left at the other points.
+pub fn tokens_most(f: Frame, x: Node, y: Node, n: Words) -> u64
+    ensures { λ r. ⌜ TokensMost f x y n r ⌝ }
+{
+    if f.stop < f.end {
+        return tokens_at(f, x, y, n, f.stop);
+    }
+    tokens_at(f, x, y, n, f.end)
 }
 
 // The terminals left at the stop that comes first, if one is left at each point; none elsewhere.

@@ -23,13 +23,13 @@ use Rattle.pair_offsets.proofs.SayLaws.{offset-low}
 use Rattle.pair_steps.specs.declared.Node.{Node}
 use Rattle.pair_steps.specs.declared.Words.{Words}
 use Rattle.pair_steps.specs.Nodes.{NodeOf, shapeNumber}
-use Rattle.pair_steps.specs.Leaving.{Leaves, OffsetsFound}
+use Rattle.pair_steps.specs.Leaving.{Leaves, StartsMost, OffsetsFound}
 use Rattle.pair_steps.specs.Tokens.{PointsHave, TokensFound}
 use Rattle.pair_steps.specs.Tables.{LowTable, WordsOf, NextsOf}
 use Rattle.pair_steps.specs.Closing.{ToldBy, Kept}
 use Rattle.pair_steps.proofs.NarrowLaws.{fifteen}
 use Rattle.pair_steps.proofs.CompleteLaws.{Found, found}
-use Rattle.pair_tables.specs.Stepping.{Put, relationBits, nextPlace, Stepped, no-offsets, no-terminals, puts}
+use Rattle.pair_tables.specs.Stepping.{Put, relationBits, nextPlace, HasAll, Stepped, has-all, no-offsets, no-terminals, puts}
 
 -- 1. bits moved up
 
@@ -130,9 +130,35 @@ module _ (g : Rules) (t : List ℕ) (low : LowTable t) (f : Frame) (hx hy : Head
             (subst (λ (b : ℕ). In b m) e₃ (p .has₃ m (terminal-found w n s ns q v)));
       }
 
+  has-kept : {w : Words} {m : ℕ} → WordsOf t x y i j w → StartsMost f x y w m → HasAll f x y i m t
+      → Kept t (setting (rankOf f) l z) hx hy
+  has-kept {w} {m} ws s h =
+      let d = fd w (h .nexts) (as-words ws) (h .read) in
+      let k = offsetCode (l start₁ start₂) in
+      let lo : k < 4 = omega (arith, offset-low (l start₁ start₂)) in
+      let c =
+      bits-in f m k lo
+      (subst (In m) (d .starts) (s .has (d .six % 4) (omega arith) (d .leaves .ac))) in
+      let bit : ℕ = 12 * orderCode (order (f .start) (f .begin)) + 4 * orderCode (order (f .stop) (f .end)) + k in
+      let e₁ : getD t (64 * i + y .sort) 0 ≡ getD t (64 * shapeNumber (hx .shape) + hy .sort) 0 =
+      λ a. getD t (64 * ix a + ny .sort a) 0 in
+      let e₂ : getD t (24576 + (64 * x .sort + y .sort)) 0 ≡ getD t (24576 + (64 * hx .sort + hy .sort)) 0 =
+      λ a. getD t (24576 + (64 * nx .sort a + ny .sort a)) 0 in
+      let e₃ : getD t (nextPlace f (x .sort) (y .sort)) 0 ≡ getD t (nextPlace f (hx .sort) (hy .sort)) 0 =
+      λ a. getD t (nextPlace f (nx .sort a) (ny .sort a)) 0 in
+      let p = min (f .stop) (f .end) in
+      record {
+        node = subst (λ (a : ℕ). In a bit) e₁ (h .node bit c);
+        sort = subst (λ (a : ℕ). In a bit) e₂ (h .sort bit c);
+        next = λ a.
+            subst (In (getD t (nextPlace f (hx .sort) (hy .sort)) 0)) (d .next a)
+            (subst (λ (b : ℕ). In b (d .val p)) e₃ (h .next (d .val p) (d .small p) (d .good p)));
+      }
+
   -- A STEP THAT ADDS NOTHING
   pub step-kept : {u : List ℕ} {b : Bool} → Stepped f x y i j list from end t u b → b ≡ true
       → (n : Words) → NextsOf t f x y n → Kept t (setting (rankOf f) l z) hx hy
+  step-kept (has-all ws s h) e n ns = has-kept ws s h
   step-kept (no-offsets {w = w} ws o) e n ns =
       absurd (in-zero (offsetCode (l start₁ start₂)) (offset-found w n (as-words ws) ns 0 o))
   step-kept (no-terminals {w = w} {n} ws o ns v) e m ms =

@@ -34,7 +34,7 @@ use Rattle.pair_steps.specs.Tables.{Proper, InTable, nextWord, SoundTable, Word
 use Rattle.pair_steps.specs.Suiting.{Suits}
 use Rattle.pair_steps.proofs.StepLaws.{may-stand}
 use Rattle.pair_steps.proofs.TokenLaws.{some-in}
-use Rattle.pair_tables.specs.Stepping.{Put, relationBits, nextPlace, Stepped, no-offsets, no-terminals, puts}
+use Rattle.pair_tables.specs.Stepping.{Put, relationBits, nextPlace, Stepped, has-all, no-offsets, no-terminals, puts}
 use Rattle.pair_tables.proofs.StepKept.{code-low}
 
 -- 1. bits moved up, read back
@@ -372,6 +372,7 @@ pub step-sound : (g : Rules) (t : List ℕ) → SoundTable g t → (f : Frame) (
     → NodeOf g hy y → {i j : ℕ} → i ≡ shapeNumber (hx .shape) → j ≡ shapeNumber (hy .shape)
     → Suits f (x .kids) (y .kids) → (list : List ℕ) (from end : ℕ) → ListsEvens f list from end
     → {u : List ℕ} {b : Bool} → Stepped f x y i j list from end t u b → SoundTable g u
+step-sound g t so f hx hy x y nx ny ix iy su list from end l (has-all ws m h) = so
 step-sound g t so f hx hy x y nx ny ix iy su list from end l (no-offsets ws o) = so
 step-sound g t so f hx hy x y nx ny ix iy su list from end l (no-terminals ws o ns v) = so
 step-sound g t so f hx hy x y nx ny ix iy su list from end l (puts {w = w} {n} {r} {q} ws o rs ns v qs p) =

@@ -4,12 +4,12 @@ use mathlib.Core.Logic.{_⊎_, inl, inr, ⊎-elim}
 use mathlib.Core.Bool.{Bool, true, false}
 use native.Mathlib.Decide.{ℕ-discrete}
 use Rattle.sets.specs.Sets.{In}
-use Rattle.sets.proofs.Bits.{in-or}
+use Rattle.sets.proofs.Bits.{in-and, in-or}
 use mathlib.Core.List.{List, [], _∷_}
 use Prim.Native.Nat.{ℕ, zero, suc, _+_, _≤_, _<_}
 use native.Mathlib.Omega.{arith}
 use native.Mathlib.Numerals.{lt-of-le-of-ne}
-use lib.Bits.{bitOr, or-add-and, and-le-r}
+use lib.Bits.{bitAnd, bitOr, or-add-and, and-le-r}
 use lib.Dec.{eqb}
 use lib.ListN.{length, getD, set, length-set}
 use lib.Seq.{getD-set-same, getD-set-other, set-getD}
@@ -101,3 +101,19 @@ module _ {t u v w : List ℕ} {a b c s p q : ℕ} {x y z : Bool} (j : Joined t u
             (⊎-elim (λ f. omega (arith, j .least, k .more f, l .least)) (λ f. omega (arith, j .least, k .least, l .more f)))
             (n d);
       }
+
+-- a word that has a set
+has-and : (a b z : ℕ) → bitAnd a b ≡ b → In b z → In a z
+has-and a b z e h = in-and a b z .0 (subst (λ (n : ℕ). In n z) (sym e) h) .0
+
+pub has-both : {a b s c d r : ℕ} → a ≡ c → b ≡ d → s ≡ r → bitAnd (bitAnd a b) s ≡ s → (z : ℕ) → In r z
+    → In c z × In d z
+has-both {a} {b} {s} {c} {d} {r} ea eb es e z h =
+    let i = subst (λ (n : ℕ). In n z) (sym es) h in
+    let j = in-and a b z .0 (has-and (bitAnd a b) s z e i) in
+    (subst (λ (n : ℕ). In n z) ea (j .0), subst (λ (n : ℕ). In n z) eb (j .1))
+
+pub has-next : {p c : ℕ} (t : List ℕ) (q : ℕ) → p ≡ c → eqb (bitAnd (getD t p 0) q) q ≡ true → (z : ℕ) → In q z
+    → In (getD t c 0) z
+has-next {p} t q e h z i =
+    subst (λ (n : ℕ). In (getD t n 0) z) e (has-and (getD t p 0) q z (eqb-true (bitAnd (getD t p 0) q) q h) i)

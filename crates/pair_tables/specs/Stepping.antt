@@ -3,7 +3,7 @@ use mathlib.Core.Path.{_≡_}
 use mathlib.Core.Bool.{Bool, true, false}
 use mathlib.Core.List.{List, [], _∷_}
 use mathlib.Core.Logic.{_⊎_}
-use Prim.Native.Nat.{ℕ, _+_, _*_, _%_, _^_, _≤_, _<_}
+use Prim.Native.Nat.{ℕ, _+_, _*_, _%_, _^_, _≤_, _<_, min}
 use lib.Bits.{bitAnd, bitOr}
 use lib.ListN.{length, getD}
 use Rattle.sets.specs.Sets.{In}
@@ -12,8 +12,8 @@ use Rattle.pair_offsets.specs.declared.Frame.{Frame}
 use Rattle.pair_offsets.specs.Codes.{orderCode}
 use Rattle.pair_steps.specs.declared.Node.{Node}
 use Rattle.pair_steps.specs.declared.Words.{Words}
-use Rattle.pair_steps.specs.Leaving.{OffsetsFound}
-use Rattle.pair_steps.specs.Tokens.{TokensFound}
+use Rattle.pair_steps.specs.Leaving.{StartsMost, OffsetsFound}
+use Rattle.pair_steps.specs.Tokens.{TokensLeave, TokensFound}
 use Rattle.pair_steps.specs.Tables.{WordsOf, NextsOf}
 
 -- the sum of a list's words: it grows where a word gets a member more
@@ -57,9 +57,23 @@ nextPlace f a b =
     + (9 * (64 * a + b)
     + (3 * orderCode (order (f .start) (f .begin)) + orderCode (order (f .stop) (f .end))))
 
--- a step of two nodes over a frame: no offsets are left, or no terminals, or both are put into the
--- table
+-- the table has the offsets m of the two starts, and the terminals at the stop that comes first
+pub record HasAll (f : Frame) (x y : Node) (i m : ℕ) (t : List ℕ) : Type 0 where
+  pub nexts : Words
+  pub read : NextsOf t f x y nexts
+  pub node : (z : ℕ) → In (relationBits f m) z → In (getD t (64 * i + y .sort) 0) z
+  pub sort : (z : ℕ) → In (relationBits f m) z → In (getD t (24576 + (64 * x .sort + y .sort)) 0) z
+  pub next : (z : ℕ) → z < 64 → TokensLeave f x y nexts (min (f .stop) (f .end)) z
+      → In (getD t (nextPlace f (x .sort) (y .sort)) 0) z
+
+pub record HasSays (f : Frame) (x y : Node) (i m : ℕ) (t : List ℕ) (r : Bool) : Type 0 where
+  pub is : r ≡ true → HasAll f x y i m t
+
+-- a step of two nodes over a frame: the table has all that it could add, or no offsets are left, or
+-- no terminals, or both are put into the table
 pub data Stepped (f : Frame) (x y : Node) (i j : ℕ) (list : List ℕ) (from end : ℕ) : List ℕ → List ℕ → Bool → Type 0 where
+  has-all : {t : List ℕ} {w : Words} {m : ℕ} → WordsOf t x y i j w → StartsMost f x y w m
+      → HasAll f x y i m t → Stepped f x y i j list from end t t true
   no-offsets : {t : List ℕ} {w : Words} → WordsOf t x y i j w → OffsetsFound f x y w list from end 0
       → Stepped f x y i j list from end t t true
   no-terminals : {t : List ℕ} {w n : Words} {r : ℕ} → WordsOf t x y i j w

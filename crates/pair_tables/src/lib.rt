@@ -8,7 +8,7 @@ ghost use Rattle.pairs.specs.Relations.{order};
 ghost use Rattle.pair_steps.specs.Tables.{shapeWord, sortWord, nextWord, WordsOf, NextsOf};
 ghost use Rattle.pair_steps.specs.Leaving.{firstStop, secondStop};
 ghost use Rattle.pair_tables.specs.Reading.{Room, Small};
-ghost use Rattle.pair_tables.specs.Stepping.{Joined, Put, relationBits, nextPlace, Stepped};
+ghost use Rattle.pair_tables.specs.Stepping.{Joined, Put, relationBits, nextPlace, HasSays, Stepped};
 ghost use lib.ListN.{length};
 
 // The word of a shape and a nonterminal.
@@ -137,6 +137,24 @@ fn next_place(f: Frame, a: u8, b: u8) -> usize
     28672 + (9 * (64 * (a as usize) + b as usize) + (3 * o + p))
 }
 
+// Has the table the offsets `m` of the two starts, and all terminals that may stand at the stop that
+// comes first?
+fn had_all(t: &[u64], f: Frame, x: Node, y: Node, i: usize, m: u64) -> bool
+    requires { ⌜ Room (now t) × Small x × Small y × (i < 384) ⌝ }
+    ensures { λ r. ⌜ HasSays f x y i m (now (t .entry)) r ⌝ }
+{
+    let bits = relation_bits(f, m);
+    let one = shape_word(t, i, y.sort);
+    let two = sort_word(t, x.sort, y.sort);
+    if one & two & bits != bits {
+        return false;
+    }
+    let n = nexts_of(t, f, x, y);
+    let q = pair_steps::tokens_most(f, x, y, n);
+    let c = next_place(f, x.sort, y.sort);
+    t[c] & q == q
+}
+
 // Puts what two nodes over a frame can be by the table into it; the sixes of offsets that can stand
 // together over the frame are listed in the same words. Had it all?
 pub fn step(
@@ -154,6 +172,12 @@ pub fn step(
     ensures { λ r. ⌜ Stepped f x y i j (now (t .entry)) from end (now (t .entry)) (now (t .exit)) r ⌝ }
 {
     let w = words_of(t, x, y, i, j);
+    let m = pair_steps::starts_most(f, x, y, w);
+    if m != 0 {
+        if had_all(t, f, x, y, i, m) {
+            return true;
+        }
+    }
     let r = pair_steps::offsets_found(f, x, y, w, t, from, end);
     if r == 0 {
         return true;
