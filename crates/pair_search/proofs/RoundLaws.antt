@@ -35,9 +35,9 @@ use Rattle.pair_entries.specs.declared.Stage.{Stage}
 use Rattle.pair_entries.specs.Entries.{searchWords, Useful, SameTable}
 use Rattle.pair_entries.specs.Entering.{Prepared}
 use Rattle.pair_search.specs.Filling.{FilledTable}
-use Rattle.pair_search.specs.Running.{PairOf, Settled, Ran, Ready, RowsRun, Rested, AllTo}
+use Rattle.pair_search.specs.Running.{PairOf, Settled, Ran, Ready, RowsRun, Quick, Rested, AllTo}
 use Rattle.pair_search.specs.Running.{BothSettled, at-first, later, tableSum, Round, Searched, ClearedTo}
-use Rattle.pair_search.proofs.RunLaws.{suits-told, and-true₁, and-true₂}
+use Rattle.pair_search.proofs.RunLaws.{suits-told, ran-then, and-true₁, and-true₂}
 
 -- 1. the sum of the table's words
 
@@ -232,6 +232,43 @@ rested {ns} {n = n} a o e =
       more = λ d. omega (arith, a .more d, o .least);
       still = λ d. o .still e ∙ a .still d;
       rows = subst (RowsRun ns n 384) (sym (o .still e)) (o .then e);
+    }
+
+-- the last of quick ones, and all passes after them
+pub quick-rested : {ns t u v : List ℕ} {r b : Bool} → Resting ns t u r → Quick ns u v b → b ≡ true → Quick ns t v r
+quick-rested a o e =
+    record {
+      size = o .size ∙ a .size;
+      past = λ i h. o .past i h ∙ a .past i h;
+      sound = λ g h s. o .sound g h (a .sound g h s);
+      least = omega (arith, a .least, o .least);
+      more = λ d. omega (arith, a .more d, o .least);
+      still = λ d. o .still e ∙ a .still d;
+      then = λ d. tt;
+    }
+
+pub quick-then : {ns t u v : List ℕ} {n : ℕ} {r b : Bool} → Quick ns t u r → Rested ns n u v b
+    → Rested ns n t v (r && b)
+quick-then {ns} {t} {u} {v} {r = r} {b} a o =
+    let q : Quick ns u v b =
+    record {
+      size = o .size;
+      past = o .past;
+      sound = o .sound;
+      least = o .least;
+      more = o .more;
+      still = o .still;
+      then = λ d. tt;
+    } in
+    let z : Quick ns t v (r && b) = ran-then (λ c d. tt) a q in
+    record {
+      size = z .size;
+      past = z .past;
+      sound = z .sound;
+      least = z .least;
+      more = z .more;
+      still = z .still;
+      rows = o .rows;
     }
 
 pub rest-less : {u v : List ℕ} {G : Rules → Type 0} {P : List ℕ → Type 0} {b : Bool} → Ran G P u v b → b ≡ false

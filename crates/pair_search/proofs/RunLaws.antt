@@ -84,7 +84,7 @@ suits-told {g} {t} {f} {hx} {hy} {x} {y} low nx ny l n told =
 
 -- 2. one step
 
-stays : {G : Rules → Type 0} {P : List ℕ → Type 0} {t : List ℕ} → P t → Ran G P t t true
+pub stays : {G : Rules → Type 0} {P : List ℕ → Type 0} {t : List ℕ} → P t → Ran G P t t true
 stays p =
     record {
       size = refl;

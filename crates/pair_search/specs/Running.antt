@@ -72,6 +72,10 @@ pub record RowOf (ns : List ℕ) (i n m : ℕ) (t : List ℕ) : Type 0 where
 pub record RowsRun (ns : List ℕ) (n m : ℕ) (t : List ℕ) : Type 0 where
   pub rows : (i : ℕ) → i < 384 → 384 ≤ i + m → RowOf ns i n 384 t
 
+-- steps of some nodes
+abbrev pub Quick : List ℕ → List ℕ → List ℕ → Bool → Type 0
+Quick ns old new r = Ran (λ g. NodesOf g ns) (λ t. Unit {0}) old new r
+
 -- passes until one adds nothing; r says that none did
 pub record Rested (ns : List ℕ) (n : ℕ) (old new : List ℕ) (r : Bool) : Type 0 where
   pub size : length new ≡ length old

@@ -10,7 +10,7 @@ ghost use Rattle.pair_frames.specs.Numbering.{frameAt};
 ghost use Rattle.pair_entries.specs.Entries.{searchWords, codeAt};
 ghost use Rattle.pair_search.specs.Filling.{FilledTable};
 ghost use Rattle.pair_search.specs.Running.{Apt, PairOf, Settled, Ran, Ready, Met};
-ghost use Rattle.pair_search.specs.Running.{BothSettled, Cell, RowOf, RowsRun, Rested, Round, Searched, ClearedTo};
+ghost use Rattle.pair_search.specs.Running.{BothSettled, Cell, RowOf, RowsRun, Quick, Rested, Round, Searched, ClearedTo};
 
 fn both(x: bool, y: bool) -> bool
     ensures { λ r. ⌜ r ≡ (x && y) ⌝ }
@@ -120,8 +120,170 @@ fn pass(nodes: &[u64], words: &mut [u64], n: usize) -> bool
     still
 }
 
+// The nonterminals of a node's children with tokens; all if it has none.
+fn kid_bits(x: Node) -> u64
+    requires { ⌜ Small x ⌝ }
+{
+    if x.kids == 0 {
+        return 18446744073709551615;
+    }
+    let one = sets::with(0, x.first);
+    if x.kids == 1 {
+        return one;
+    }
+    sets::with(one, x.second)
+}
+
+// The nonterminals with which the words of a shape, or behind these of a nonterminal, changed in this
+// pass, and in the one before if that was late in it.
+fn changed(marks: &[u64; 1024], at: usize, late: bool) -> u64
+    requires { ⌜ at < 448 ⌝ }
+{
+    if late {
+        return marks[at] | marks[512 + at];
+    }
+    marks[at]
+}
+
+// The same of a nonterminal: late is a change at the node `i` or after it.
+fn changed_sort(marks: &[u64; 1024], a: u8, i: usize) -> u64
+    requires { ⌜ a < 64 ⌝ }
+{
+    let last = marks[960 + a as usize];
+    changed(marks, 384 + a as usize, last <= i as u64)
+}
+
+// Has a word changed that steps of the nodes `i` and `j` read, since they were made?
+fn touched(marks: &[u64; 1024], x: Node, y: Node, i: usize, j: usize) -> bool
+    requires { ⌜ Small x × Small y × (i < 384) × (j < 384) ⌝ }
+{
+    let kx = kid_bits(x);
+    let ky = kid_bits(y);
+    let a = changed(marks, i, true) | changed_sort(marks, x.sort, i);
+    let b = changed(marks, j, j <= i) | changed_sort(marks, y.sort, i);
+    let c = changed_sort(marks, x.first, i) | changed_sort(marks, x.second, i);
+    ((a | c) & ky) | (b & kx) != 0
+}
+
+// Marks the words of the shape `i` and the nonterminal `a` with the nonterminal `b`, if some were
+// added to.
+fn mark(marks: &mut [u64; 1024], had: bool, i: usize, a: u8, b: u8)
+    requires { ⌜ (i < 384) × (a < 64) × (b < 64) ⌝ }
+{
+    if had {
+        return;
+    }
+    marks[i] = sets::with(marks[i], b);
+    let n = 384 + a as usize;
+    marks[n] = sets::with(marks[n], b);
+    marks[64 + n] = i as u64;
+}
+
+// Makes the marks of this pass those of the one before.
+fn age(marks: &mut [u64; 1024]) {
+    let mut n: usize = 0;
+    while n < 512 {
+        marks[512 + n] = marks[n];
+        marks[n] = 0;
+        n += 1;
+    }
+}
+
+// Steps of the node `x` with the number `i` and the node `j`, if there is one and they read a word
+// that has changed. Had the table all?
+fn quick_cell(
+    nodes: &[u64],
+    words: &mut [u64],
+    marks: &mut [u64; 1024],
+    n: usize,
+    x: Node,
+    i: usize,
+    j: usize,
+) -> bool
+    requires { ⌜ Ready (now words) n × (1536 ≤ length (now nodes)) × (i < 384) × (j < 384) ⌝ }
+    requires { ⌜ Present (now nodes) i × (x ≡ nodeAt (now nodes) i) × Small x ⌝ }
+    ensures { λ r. ⌜ Quick (now (nodes .entry)) (now (words .entry)) (now (words .exit)) r ⌝ }
+{
+    if pair_nodes::present(nodes, j) {
+        let y = pair_nodes::node_at(nodes, j);
+        if touched(marks, x, y, i, j) {
+            let had = cell(nodes, words, n, x, i, j);
+            mark(marks, had, i, x.sort, y.sort);
+            return had;
+        }
+    }
+    true
+}
+
+// The same of the node `x` and all nodes, the last first.
+fn quick_cells(
+    nodes: &[u64],
+    words: &mut [u64],
+    marks: &mut [u64; 1024],
+    n: usize,
+    x: Node,
+    i: usize,
+) -> bool
+    requires { ⌜ Ready (now words) n × (1536 ≤ length (now nodes)) × (i < 384) ⌝ }
+    requires { ⌜ Present (now nodes) i × (x ≡ nodeAt (now nodes) i) × Small x ⌝ }
+    ensures { λ r. ⌜ Quick (now (nodes .entry)) (now (words .entry)) (now (words .exit)) r ⌝ }
+{
+    let mut still = true;
+    let mut m: usize = 0;
+    while m < 384 {
+        let had = quick_cell(nodes, words, marks, n, x, i, 383 - m);
+        still = both(still, had);
+        m += 1;
+    }
+    still
+}
+
+// The same of the node `i`, if there is one.
+fn quick_row(nodes: &[u64], words: &mut [u64], marks: &mut [u64; 1024], n: usize, i: usize) -> bool
+    requires { ⌜ Ready (now words) n × (1536 ≤ length (now nodes)) × (i < 384) ⌝ }
+    ensures { λ r. ⌜ Quick (now (nodes .entry)) (now (words .entry)) (now (words .exit)) r ⌝ }
+{
+    if pair_nodes::present(nodes, i) {
+        let x = pair_nodes::node_at(nodes, i);
+        return quick_cells(nodes, words, marks, n, x, i);
+    }
+    true
+}
+
+// A pass over the nodes that leaves out those that read no word that has changed.
+fn quick_pass(nodes: &[u64], words: &mut [u64], marks: &mut [u64; 1024], n: usize) -> bool
+    requires { ⌜ Ready (now words) n × (1536 ≤ length (now nodes)) ⌝ }
+    ensures { λ r. ⌜ Quick (now (nodes .entry)) (now (words .entry)) (now (words .exit)) r ⌝ }
+{
+    let mut still = true;
+    let mut m: usize = 0;
+    while m < 384 {
+        let had = quick_row(nodes, words, marks, n, 383 - m);
+        still = both(still, had);
+        m += 1;
+    }
+    still
+}
+
+// Such passes, until one adds nothing. Had the table all that they could add?
+fn quick(nodes: &[u64], words: &mut [u64], n: usize) -> bool
+    requires { ⌜ Ready (now words) n × (1536 ≤ length (now nodes)) ⌝ }
+    ensures { λ r. ⌜ Quick (now (nodes .entry)) (now (words .entry)) (now (words .exit)) r ⌝ }
+{
+    let mut marks = [18446744073709551615u64; 1024];
+    let mut still = true;
+    loop {
+        let had = quick_pass(nodes, words, &mut marks, n);
+        if had {
+            return still;
+        }
+        still = false;
+        age(&mut marks);
+    }
+}
+
 // Passes, until one adds nothing. Had the table all at first?
-fn settle(nodes: &[u64], words: &mut [u64], n: usize) -> bool
+fn passes(nodes: &[u64], words: &mut [u64], n: usize) -> bool
     requires { ⌜ Ready (now words) n × (1536 ≤ length (now nodes)) ⌝ }
     ensures { λ r. ⌜ Rested (now (nodes .entry)) n (now (words .entry)) (now (words .exit)) r ⌝ }
 {
@@ -132,6 +294,16 @@ fn settle(nodes: &[u64], words: &mut [u64], n: usize) -> bool
         }
         still = false;
     }
+}
+
+// Quick passes, then passes over all nodes, until one adds nothing. Had the table all at first?
+fn settle(nodes: &[u64], words: &mut [u64], n: usize) -> bool
+    requires { ⌜ Ready (now words) n × (1536 ≤ length (now nodes)) ⌝ }
+    ensures { λ r. ⌜ Rested (now (nodes .entry)) n (now (words .entry)) (now (words .exit)) r ⌝ }
+{
+    let one = quick(nodes, words, n);
+    let two = passes(nodes, words, n);
+    both(one, two)
 }
 
 // Is the table settled for the frames entered up to now? With the first of them it is; with others

@@ -1,41 +1,25 @@
-use mathlib.Core.Path.{_∙_}
-use Prim.Native.Nat.{_*_, _-_, _^_}
-use native.Mathlib.Omega.{arith}
-use Rattle.pair_search.specs.Running.{tableSum}
 use Rattle.pair_search.proofs.RunLaws.{ready-same}
-use Rattle.pair_search.proofs.RoundLaws.{Resting, rest-none, rest-more, rested, rest-less}
+use Rattle.pair_search.proofs.RoundLaws.{quick-then}
+use borrow.Author.Needs.{needs}
 use Rattle.pair_search.proofs.settle.Statement.{statement}
 use Rattle.pair_search.proofs.settle.Tie as tie
 
-abbrev Inv-loop : tie.InvT-loop
-Inv-loop nodes words₀ n still₀ words still = Resting nodes words₀ words still
+quick-requires : tie.Need-quick-requires
+quick-requires c κs = search needs
 
-abbrev μ-loop : tie.MeasureT-loop
-μ-loop nodes words₀ n still₀ words still = 65536 * 2 ^ 64 - tableSum words
+passes-requires : tie.Need-passes-requires
+passes-requires c κs =
+    let q = c .before .before .before .quick .ensures in
+    (ready-same (q .size) (q .past) (c .before .before .before .before .before .before .before .pre .0), c .before .before .before .before .before .before .before .pre .1)
 
-loop-holds : tie.Need-loop-holds Inv-loop μ-loop
-loop-holds c = rest-none _ _
+both-requires : tie.Need-both-requires
+both-requires c κs = search needs
 
-pass-requires : tie.Need-pass-requires Inv-loop μ-loop
-pass-requires c κs =
-    let v = c .before .loop .inv in
-    (ready-same (v .size) (v .past) (c .before .before .before .before .pre .0), c .before .before .before .before .pre .1)
+same-length : tie.Need-same-length
+same-length c = search needs
 
-same-length : tie.Need-same-length Inv-loop μ-loop
-same-length c = c .before .before .before .pass .ensures .size ∙ c .before .before .before .before .before .loop .inv .size
-
-returns : tie.Need-returns Inv-loop μ-loop
-returns c = rested (c .before .before .before .before .before .loop .inv) (c .before .before .before .pass .ensures) (c .if1 .taken)
-
-loop-less : tie.Need-loop-less Inv-loop μ-loop
-loop-less c =
-    rest-less (c .before .before .before .pass .ensures) (c .if1 .left)
-    (record { low = λ i. omega (arith, c .before .slice-known2 .given i) })
-
-loop-again : tie.Need-loop-again Inv-loop μ-loop
-loop-again c = rest-more (c .before .before .before .before .before .loop .inv) (c .before .before .before .pass .ensures) (c .if1 .left)
+returns : tie.Need-returns
+returns c = rw (c .both .ensures) (quick-then (c .before .before .before .before .before .before .before .quick .ensures) (c .before .before .before .passes .ensures))
 
 pub settle-spec : {M : Type 1} → statement M
-settle-spec =
-    tie.close
-    (tie.spec Inv-loop μ-loop loop-holds pass-requires same-length returns loop-less loop-again)
+settle-spec = tie.close (tie.spec quick-requires passes-requires both-requires same-length returns)
