@@ -18,7 +18,8 @@ loop-holds c = (omega arith, pass-none _ _ _)
 
 with-children-requires : tie.Need-with-children-requires Inv-loop μ-loop
 with-children-requires c κs =
-    let z = c .before .before .before .before in (z .pre .0, z .pre .1, c .loop-test .taken)
+    let z = c .before .before .before .before in
+    let l = c .loop-test .taken in (z .pre .0, z .pre .1, omega (arith, l))
 
 add-i : tie.Need-add-i Inv-loop μ-loop
 add-i c = omega (arith, c .before .loop-test .taken)

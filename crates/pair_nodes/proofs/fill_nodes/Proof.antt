@@ -44,7 +44,7 @@ put-shape-requires c κs =
       ),
       (
         (search needs, c .before .before .before .before .before .fill-firsts .ensures),
-        (omega (arith, i .1, z .pre .1), c .before .before .loop-test .taken),
+        (omega (arith, i .1, z .pre .1), omega (arith, c .before .before .loop-test .taken)),
       ),
     )
 
