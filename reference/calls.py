@@ -24,6 +24,7 @@ CALLS = {
     (b"call", b"expand"): (0, 0, 1, clauses.expand_output),
     (b"call", b"rows"): (0, 0, 2, rows.rows_output),
     (b"call length racks share", b"share"): (3, 3, 1, lambda n, racks, share, rules: shares.share_output(rules, n, racks, share)),
+    (b"call", b"merge"): (0, 0, 2, shares.merge_output),
     (b"call", b"columns"): (0, 0, 2, columns.columns_output),
     (b"call", b"places"): (0, 0, 2, places.places_output),
     (b"call", b"always"): (0, 0, 1, always.always_output),

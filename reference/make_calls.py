@@ -27,6 +27,7 @@ import calls
 import clause_cases
 import clauses
 import column_cases
+import merge_cases
 import share_cases
 import teplonga
 import tours
@@ -102,6 +103,10 @@ def of_shares(case):
     return Call(b"call length racks share", b"share", tuple(numbers), (sheet,))
 
 
+def of_merge(case):
+    return Call(b"call", b"merge", (), case)
+
+
 def of_columns(case):
     return Call(b"call", b"columns", (), case)
 
@@ -116,6 +121,7 @@ PARTS = [
     (clause_cases, of_clauses),
     (tree_cases, of_trees),
     (share_cases, of_shares),
+    (merge_cases, of_merge),
     (column_cases, of_columns),
     (always_cases, of_always),
 ]

@@ -2,9 +2,11 @@
 
 Written from document 02 alone, on top of the reference for document 01: all
 arrangements of a length are written down one after the other and numbered.
+What two reports come to is written from the page on programs.
 """
 
 import itertools
+import re
 
 import teplonga as base
 
@@ -95,3 +97,70 @@ def share_output(rules, length, racks, share):
     if answer == "two":
         output += base.token_sheet(sentence)
     return output
+
+
+# a number as `share` prints it
+NUMBER = rb"(0|[1-9][0-9]*)"
+FIRST = rb"answer line\n"
+THREE = rb" 0\nquotient remainder number\n" + NUMBER + b" " + NUMBER + b" "
+REFUSED = re.compile(FIRST + rb"refused-" + NUMBER + b" " + NUMBER + rb"\n")
+CLEAR = re.compile(FIRST + rb"clear" + THREE + rb"-\n")
+LINES = rb"((?:[0-9]+ [0-9]+ [0-9]+\n){1,7})"
+TWO = re.compile(FIRST + rb"two" + THREE + NUMBER + rb"\nterm line col\n" + LINES)
+TOKEN = re.compile(NUMBER + b" " + NUMBER + b" " + NUMBER + rb"\n")
+
+REFUSALS = {*range(1, 8), *range(11, 16), *range(21, 25), *range(41, 52)}
+
+
+def small(numbers):
+    """No number of a report is above the limit of refusal 24."""
+    return all(int(number) <= 4_294_967_296 for number in numbers)
+
+
+def is_token(line):
+    found = TOKEN.fullmatch(line)
+    most = (63, 65_535, 65_535)
+    return found is not None and all(int(n) <= m for n, m in zip(found.groups(), most))
+
+
+def read_report(text):
+    """What a report says: ("refused",), or ("found", tokens, number), or None if it is none."""
+    found = REFUSED.fullmatch(text)
+    if found:
+        return ("refused",) if int(found[1]) in REFUSALS and small(found.groups()) else None
+    found = CLEAR.fullmatch(text)
+    if found:
+        return ("found", 0, 0) if small(found.groups()) else None
+    found = TWO.fullmatch(text)
+    if not found or not small(found.groups()[:3]):
+        return None
+    lines = found[4].splitlines(keepends=True)
+    return ("found", len(lines), int(found[3])) if all(map(is_token, lines)) else None
+
+
+def comes_first(one, two):
+    """Of two reports, is it the first that is taken?
+
+    A refusal, else "the lowest number from the shortest reporting length".
+    """
+    if "refused" in (one[0], two[0]):
+        return one[0] == "refused"
+    if one[1] == 0 or two[1] == 0:
+        return two[1] == 0
+    return one[1:] <= two[1:]
+
+
+def merged(one, two):
+    """Of two replies of `share_call`, without their words: the one that both come to."""
+    def says(reply):
+        return ("refused",) if reply[0].startswith("refused") else ("found", len(reply[5]), reply[2])
+
+    return one if comes_first(says(one), says(two)) else two
+
+
+def merge_output(one, two):
+    """What the program `calls` writes for `merge` and these reports."""
+    reports = [read_report(one), read_report(two)]
+    if None in reports:
+        return base.answer_lines(base.refused_answer(32), 0)
+    return one if comes_first(*reports) else two

@@ -23,6 +23,7 @@ CALLS = {
     "expand": ["call", "clause sheet"],
     "rows": ["call", "rule sheet", "token sheet"],
     "share": ["call", "rule sheet"],
+    "merge": ["call", "report", "report"],
     "columns": ["call", "rule sheet", "range sheet"],
     "places": ["call", "rule sheet", "token sheet"],
     "show": ["call", "rule sheet", "token sheet", "rights sheet"],

@@ -55,6 +55,7 @@ class Room(unittest.TestCase):
 
 CLAUSES = b"left clause\n0 t0 | n0 n0\n"
 TOKENS = b"\nterm line col\n0 1 1\n0 1 2\n0 1 3\n"
+REPORT = b"answer line\nclear 0\nquotient remainder number\n20 3 -\n"
 # words of bin/teplonga, the call sheet that they stand for, and an input
 CALLS = [
     (["rows"], b"call\nrows\n", GOOD),
@@ -65,6 +66,7 @@ CALLS = [
     (["clauses-sweep", "00002"], b"call bound\nclauses 00002\n", CLAUSES),
     (["share", "3", "12", "0"], b"call length racks share\nshare 3 12 0\n", RULES),
     (["share", "2", "12", "00011"], b"call length racks share\nshare 2 12 00011\n", RULES),
+    (["merge"], b"call\nmerge\n", REPORT + b"\n" + REPORT),
     (["columns"], b"call\ncolumns\n", RULES + b"\nterm line low high\n0 1 1 2\n0 1 1 3\n0 2 1 1\n"),
     (["show", "5"], b"call user\nshow 5\n", GOOD + b"\nuser low high may\n5 0 0 see\n"),
     (["show", "16"], b"call user\nshow 16\n", GOOD + b"\nuser low high may\n5 0 0 see\n"),

@@ -155,7 +155,7 @@ fn refuses(a: Answer) -> bool
 }
 
 // Does a report of n tokens and a number come before one of m tokens and another number? One of no tokens is clear.
-fn leads(n: usize, number: u64, m: usize, other: u64) -> bool
+pub fn leads(n: usize, number: u64, m: usize, other: u64) -> bool
     ensures { λ r. ⌜ Says r (Leads n number m other) ⌝ }
 {
     if n == 0 {

@@ -14,7 +14,7 @@ use Rattle.fields.proofs.Fields.{with-holds, end-holds}
 use Rattle.call_sheets.specs.declared.Call.{Call}
 use Rattle.call_sheets.specs.declared.Call.the-variants as Call
 use Rattle.call_sheets.specs.Inside.{Inside}
-use Rattle.call_sheets.specs.CallSheets.{clausesSheet, expandSheet, rowsSheet, columnsSheet, placesSheet, boundStart, shareStart, showStart, changeStart, beginsWith, values, withNumber, shareEnd, shareThird, shareSecond, shareCall, broken, changeEnd, changeSecond, changeCall, alwaysCall, numberedCall, callOf}
+use Rattle.call_sheets.specs.CallSheets.{clausesSheet, expandSheet, rowsSheet, columnsSheet, placesSheet, mergeSheet, boundStart, shareStart, showStart, changeStart, beginsWith, values, withNumber, shareEnd, shareThird, shareSecond, shareCall, broken, changeEnd, changeSecond, changeCall, alwaysCall, numberedCall, callOf}
 use Rattle.call_sheets.specs.CallSheets.{alwaysSheet, clausesAlwaysSheet}
 use Rattle.call_sheets.proofs.Laws.{begins-long}
 
@@ -66,4 +66,5 @@ call-inside s =
     either m (sameBytes s clausesSheet) Call.Clauses _ tt
     (either m (sameBytes s expandSheet) Call.Expand _ tt
     (either m (sameBytes s rowsSheet) Call.Rows _ tt
-    (either m (sameBytes s columnsSheet) Call.Columns _ tt (either m (sameBytes s placesSheet) Call.Places _ tt (numbered-inside s)))))
+    (either m (sameBytes s columnsSheet) Call.Columns _ tt
+    (either m (sameBytes s placesSheet) Call.Places _ tt (either m (sameBytes s mergeSheet) Call.Merge _ tt (numbered-inside s))))))

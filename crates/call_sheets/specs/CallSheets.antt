@@ -43,6 +43,10 @@ clausesAlwaysSheet =
     99 ∷ 97 ∷ 108 ∷ 108 ∷ 10
     ∷ 99 ∷ 108 ∷ 97 ∷ 117 ∷ 115 ∷ 101 ∷ 115 ∷ 45 ∷ 97 ∷ 108 ∷ 119 ∷ 97 ∷ 121 ∷ 115 ∷ 10 ∷ []
 
+-- `call`, `merge`
+abbrev pub mergeSheet : List ℕ
+mergeSheet = 99 ∷ 97 ∷ 108 ∷ 108 ∷ 10 ∷ 109 ∷ 101 ∷ 114 ∷ 103 ∷ 101 ∷ 10 ∷ []
+
 -- 2. calls with numbers: how the sheet begins, up to the blank behind the call's word
 
 -- `call bound`, `clauses `
@@ -134,4 +138,5 @@ callOf s =
     (cond (sameBytes s rowsSheet) Call.Rows
     (cond (sameBytes s columnsSheet) Call.Columns
     (cond (sameBytes s placesSheet) Call.Places
-    (numberedCall s)))))
+    (cond (sameBytes s mergeSheet) Call.Merge
+    (numberedCall s))))))

@@ -10,6 +10,7 @@ Inside m (Call.ClausesSweep k) = Unit {0}
 Inside m Call.Expand = Unit {0}
 Inside m Call.Rows = Unit {0}
 Inside m (Call.Share n p i) = Unit {0}
+Inside m Call.Merge = Unit {0}
 Inside m Call.Columns = Unit {0}
 Inside m Call.Places = Unit {0}
 Inside m (Call.Show u) = Unit {0}

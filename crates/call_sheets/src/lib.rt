@@ -23,6 +23,7 @@ pub enum Call {
     Expand,
     Rows,
     Share(u32, u32, u32),
+    Merge,
     Columns,
     Places,
     Show(u32),
@@ -193,6 +194,9 @@ pub fn call_of(s: &[u8]) -> Call
     }
     if same(s, b"call\nplaces\n") {
         return Call::Places;
+    }
+    if same(s, b"call\nmerge\n") {
+        return Call::Merge;
     }
     numbered_call(s)
 }

@@ -10,6 +10,7 @@ use Rattle.call_sheets.specs.declared.Call.the-variants as Call
 use Rattle.clause_calls.proofs.Settled.{clauses-apart}
 use Rattle.clause_text.proofs.Settled.{expand-text-settled}
 use Rattle.column_text.proofs.Settled.{columns-text-settled}
+use Rattle.reports.proofs.Settled.{merge-text-settled}
 use Rattle.share_text.proofs.Settled.{share-text-settled}
 use Rattle.text.specs.Printed.{Printed}
 use Rattle.text.proofs.Settled.{never-none, same-some, trees-text-settled, sweep-text-settled, printed-settled}
@@ -38,6 +39,7 @@ call-settled sheet (Call.ClausesSweep k) behind x y = sweep-text-settled x y
 call-settled sheet Call.Expand behind x y = expand-text-settled x y
 call-settled sheet Call.Rows behind x y = two-settled (λ s t a b. rows-text-settled) x y
 call-settled sheet (Call.Share n p i) behind x y = share-text-settled x y
+call-settled sheet Call.Merge behind x y = two-settled (λ s t a b. merge-text-settled) x y
 call-settled sheet Call.Columns behind x y = two-settled (λ s t a b. columns-text-settled) x y
 call-settled sheet Call.Places behind x y = two-settled (λ s t a b. places-text-settled) x y
 call-settled sheet (Call.Show u) behind x y = three-settled (λ r s t a b. show-text-settled) x y

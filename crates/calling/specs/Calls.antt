@@ -12,6 +12,7 @@ use Rattle.clause_calls.specs.Calls.{clauseSheets}
 use Rattle.clause_sheets.specs.ClauseSheets.{clauseSheet}
 use Rattle.clause_text.specs.Texts.{ExpandText}
 use Rattle.column_text.specs.Columns.{ColumnsTextOf}
+use Rattle.reports.specs.Reports.{MergeText}
 use Rattle.share_text.specs.Shares.{ShareTextOf}
 use Rattle.sheets.specs.RuleSheets.{ruleSheet}
 use Rattle.text.specs.Input.{Parts, parts}
@@ -54,6 +55,7 @@ CallText sheet (Call.ClausesSweep k) behind text = SweepText k (clauseSheet behi
 CallText sheet Call.Expand behind text = ExpandText behind text
 CallText sheet Call.Rows behind text = OnTwoSheets RowsTextOf behind text
 CallText sheet (Call.Share n p i) behind text = ShareTextOf n p i behind text
+CallText sheet Call.Merge behind text = OnTwoSheets MergeText behind text
 CallText sheet Call.Columns behind text = OnTwoSheets ColumnsTextOf behind text
 CallText sheet Call.Places behind text = OnTwoSheets PlacesTextOf behind text
 CallText sheet (Call.Show u) behind text = OnThreeSheets (ShownText u) behind text

@@ -7,6 +7,7 @@ use clause_text::clauses_sweep_text;
 use clause_text::clauses_text;
 use clause_text::expand_text;
 use column_text::columns_text;
+use reports::merge_text;
 use share_text::share_text;
 use text::Place;
 use text::parting;
@@ -20,6 +21,7 @@ ghost use lib.ListN.{length, take, drop};
 ghost use Rattle.call_sheets.specs.CallSheets.{callOf};
 ghost use Rattle.call_sheets.specs.Inside.{Inside};
 ghost use Rattle.column_text.specs.Columns.{ColumnsTextOf};
+ghost use Rattle.reports.specs.Reports.{MergeText};
 ghost use Rattle.text.specs.Printed.{Printed};
 ghost use Rattle.text_trees.specs.Rows.{RowsTextOf};
 ghost use Rattle.text_trees.specs.Places.{PlacesTextOf};
@@ -66,6 +68,21 @@ fn columns_call(s: &[u8], out: &mut [u8]) -> usize
         Place::At(i) => {
             let j = i + 1;
             columns_text(&s[..i], &s[j..], out)
+        }
+    }
+}
+
+// The call `merge` on the two reports that the first empty line parts.
+fn merge_call(s: &[u8], out: &mut [u8]) -> usize
+    requires { ⌜ 262144 ≤ length (now out) ⌝ }
+    ensures { λ r. ⌜ Printed (OnTwoSheets MergeText) (now (s .entry)) (now (out .entry)) (now (out .exit)) r ⌝ }
+{
+    let place = parting(s);
+    match place {
+        Place::Nowhere => put_refusal(out, 32),
+        Place::At(i) => {
+            let j = i + 1;
+            merge_text(&s[..i], &s[j..], out)
         }
     }
 }
@@ -150,6 +167,7 @@ fn answer(call: Call, sheet: &[u8], s: &[u8], out: &mut [u8]) -> usize
         Call::Change(u, r, at) => change_call(sheet, s, u, r, at, out),
         Call::Always => always_text(s, out),
         Call::ClausesAlways => clauses_always_text(s, out),
+        Call::Merge => merge_call(s, out),
         Call::Not => put_refusal(out, 32),
     }
 }

@@ -38,8 +38,12 @@ shareText Answer.Clear q r N = shareLines Answer.Clear q r N
 shareText Answer.Given q r N = []
 shareText (Answer.Refused f) q r N = []
 
+-- a report: what is printed of a reply
+abbrev pub reportText : ShareReply → List ℕ
+reportText r = (head (answerText (r .answer)) (r .line) ++ shareText (r .answer) (r .quotient) (r .remainder) (r .number)) ++ sentenceText (r .answer) (spelled (r .sentence))
+
 -- the output for share i of p racks over n tokens; it lends words enough for 7 tokens
 pub data ShareTextOf (n p i : ℕ) (rules text : List ℕ) : Type 0 where
   answered : {words words′ : List ℕ} {r : ShareReply} → length words ≡ 58 → ShareOf rules n p i words words′ r
-      → text ≡ (head (answerText (r .answer)) (r .line) ++ shareText (r .answer) (r .quotient) (r .remainder) (r .number)) ++ sentenceText (r .answer) (spelled (r .sentence))
+      → text ≡ reportText r
       → ShareTextOf n p i rules text

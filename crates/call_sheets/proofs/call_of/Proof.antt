@@ -4,7 +4,7 @@ use mathlib.Core.Bool.{false}
 use borrow.Author.Needs.{needs}
 use Rattle.fields.specs.Pieces.{sameBytes}
 use Rattle.fields.proofs.Pick.{hit, skip}
-use Rattle.call_sheets.specs.CallSheets.{clausesSheet, expandSheet, rowsSheet, columnsSheet, placesSheet}
+use Rattle.call_sheets.specs.CallSheets.{clausesSheet, expandSheet, rowsSheet, columnsSheet, placesSheet, mergeSheet}
 use Rattle.call_sheets.proofs.call_of.Statement.{statement}
 use Rattle.call_sheets.proofs.call_of.Tie as tie
 
@@ -23,6 +23,9 @@ no4 c = sym (c .before .same4 .ensures) ∙ c .if4 .left
 
 no5 : (c : tie.Else5) → sameBytes (c .before .before .before .before .before .before .before .before .before .before .before .before .before .before .before .before .args .s .now) placesSheet ≡ false
 no5 c = sym (c .before .same5 .ensures) ∙ c .if5 .left
+
+no6 : (c : tie.Else6) → sameBytes (c .before .before .before .before .before .before .before .before .before .before .before .before .before .before .before .before .before .before .before .args .s .now) mergeSheet ≡ false
+no6 c = sym (c .before .same6 .ensures) ∙ c .if6 .left
 
 slice-aggregate-same : tie.Need-slice-aggregate-same
 slice-aggregate-same c = search needs
@@ -84,17 +87,33 @@ returns-5 c =
     let e1 = e2 .before .before .before in
     sym (skip (no1 e1) _ _ _ (skip (no2 e2) _ _ _ (skip (no3 e3) _ _ _ (skip (no4 e4) _ _ _ (hit (sym (c .before .same5 .ensures) ∙ c .if5 .taken) _ _)))))
 
-numbered-call-requires : tie.Need-numbered-call-requires
-numbered-call-requires c κs = search needs
+slice-aggregate-same-6 : tie.Need-slice-aggregate-same-6
+slice-aggregate-same-6 c = search needs
+
+same-requires-6 : tie.Need-same-requires-6
+same-requires-6 c κs = search needs
 
 returns-6 : tie.Need-returns-6
 returns-6 c =
-    let e5 = c .before in
+    let e5 = c .before .before .before in
     let e4 = e5 .before .before .before in
     let e3 = e4 .before .before .before in
     let e2 = e3 .before .before .before in
     let e1 = e2 .before .before .before in
-    sym (skip (no1 e1) _ _ _ (skip (no2 e2) _ _ _ (skip (no3 e3) _ _ _ (skip (no4 e4) _ _ _ (skip (no5 e5) _ _ _ (sym (c .numbered-call .ensures)))))))
+    sym (skip (no1 e1) _ _ _ (skip (no2 e2) _ _ _ (skip (no3 e3) _ _ _ (skip (no4 e4) _ _ _ (skip (no5 e5) _ _ _ (hit (sym (c .before .same6 .ensures) ∙ c .if6 .taken) _ _))))))
+
+numbered-call-requires : tie.Need-numbered-call-requires
+numbered-call-requires c κs = search needs
+
+returns-7 : tie.Need-returns-7
+returns-7 c =
+    let e6 = c .before in
+    let e5 = e6 .before .before .before in
+    let e4 = e5 .before .before .before in
+    let e3 = e4 .before .before .before in
+    let e2 = e3 .before .before .before in
+    let e1 = e2 .before .before .before in
+    sym (skip (no1 e1) _ _ _ (skip (no2 e2) _ _ _ (skip (no3 e3) _ _ _ (skip (no4 e4) _ _ _ (skip (no5 e5) _ _ _ (skip (no6 e6) _ _ _ (sym (c .numbered-call .ensures))))))))
 
 pub call-of-spec : {M : Type 1} → statement M
 call-of-spec =
@@ -115,5 +134,8 @@ call-of-spec =
     slice-aggregate-same-5
     same-requires-5
     returns-5
+    slice-aggregate-same-6
+    same-requires-6
+    returns-6
     numbered-call-requires
-    returns-6)
+    returns-7)

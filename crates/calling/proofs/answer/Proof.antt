@@ -76,6 +76,12 @@ clauses-always-text-requires c κs = search needs
 enum-told-8 : tie.Need-enum-told-8
 enum-told-8 c = search needs
 
+merge-call-requires : tie.Need-merge-call-requires
+merge-call-requires c κs = search needs
+
+enum-told-9 : tie.Need-enum-told-9
+enum-told-9 c = search needs
+
 put-refusal-requires : tie.Need-put-refusal-requires
 put-refusal-requires c κs = search needs
 
@@ -184,7 +190,16 @@ same-length-12 c = search needs
 returns-12 : tie.Need-returns-12
 returns-12 c =
     let z = c .before .before in
-    record { text = head (refusedText 32) 0; is = rw (z .before .before .enum-told8 .given .1) refl; wrote = z .put-refusal .ensures }
+    let a = z .merge-call .ensures in
+    record { text = a .text; is = rw (z .before .before .enum-told8 .given .1) (a .is); wrote = a .wrote }
+
+same-length-13 : tie.Need-same-length-13
+same-length-13 c = search needs
+
+returns-13 : tie.Need-returns-13
+returns-13 c =
+    let z = c .before .before in
+    record { text = head (refusedText 32) 0; is = rw (z .before .before .enum-told9 .given .1) refl; wrote = z .put-refusal .ensures }
 
 pub answer-spec : {M : Type 1} → statement M
 answer-spec =
@@ -213,6 +228,8 @@ answer-spec =
     enum-told-7
     clauses-always-text-requires
     enum-told-8
+    merge-call-requires
+    enum-told-9
     put-refusal-requires
     same-length
     returns
@@ -237,4 +254,6 @@ answer-spec =
     same-length-11
     returns-11
     same-length-12
-    returns-12)
+    returns-12
+    same-length-13
+    returns-13)

@@ -1,0 +1,93 @@
+-- `merge_call` meets its contract: the first empty line parts the two reports.
+use mathlib.Core.Path.{_≡_, refl, sym}
+use Prim.Native.Nat.{_+_, _-_, _<_}
+use native.Mathlib.Omega.{arith}
+use lib.ListN.{length, take, drop, length-drop}
+use lib.Seq.{length-take-le, take-all}
+use Rattle.calling.specs.Calls.{fewer, two}
+use borrow.Author.Needs.{needs}
+use Rattle.calling.proofs.merge_call.Statement.{statement}
+use Rattle.calling.proofs.merge_call.Tie as tie
+
+-- the empty line stands in the input
+inside : (c : tie.After-known-told) → c .before .place .given .0 .0 < length (c .before .before .before .before .before .before .args .s .now)
+inside c =
+    let p = c .before in
+    let s = p .before .before .parting .ensures in (rw (p .place .given .1) at s) .0
+
+parting-requires : tie.Need-parting-requires
+parting-requires c κs = search needs
+
+enum-told : tie.Need-enum-told
+enum-told c = search needs
+
+put-refusal-requires : tie.Need-put-refusal-requires
+put-refusal-requires c κs = search needs
+
+enum-known-place : tie.Need-enum-known-place
+enum-known-place c = search needs
+
+add-j : tie.Need-add-j
+add-j c =
+    let h = inside c in search needs
+
+slice-aggregate-merge-text : tie.Need-slice-aggregate-merge-text
+slice-aggregate-merge-text c =
+    let h = inside (c .before) in sym (length-take-le _ _ (search needs))
+
+sub-merge-text : tie.Need-sub-merge-text
+sub-merge-text c =
+    let h = inside (c .before) in search needs
+
+part-merge-text-start : tie.Need-part-merge-text-start
+part-merge-text-start c =
+    let h = inside (c .before) in search needs
+
+part-merge-text-end : tie.Need-part-merge-text-end
+part-merge-text-end c = search needs
+
+merge-text-requires : tie.Need-merge-text-requires
+merge-text-requires c κs = search needs
+
+same-length : tie.Need-same-length
+same-length c = search needs
+
+returns : tie.Need-returns
+returns c =
+    let m = c .before .before .before .before in
+    let s = m .before .before .parting .ensures in
+    record { text = _; is = fewer (rw (m .enum-told .given .1) at s) refl; wrote = c .before .before .put-refusal .ensures }
+
+same-length-2 : tie.Need-same-length-2
+same-length-2 c = search needs
+
+returns-2 : tie.Need-returns-2
+returns-2 c =
+    let z = c .before .before in
+    let p = z .before .before .before .before .before in
+    let q = p .before .before in
+    let a = q .before .before .before .args in
+    let n = p .place .given .0 .0 + 1 in
+    let e : take (length (a .s .now) - n) (drop n (a .s .now)) ≡ drop n (a .s .now) =
+    take-all (length (a .s .now) - n) (drop n (a .s .now)) (omega (arith, length-drop n (a .s .now))) in
+    let w = rw e at (z .merge-text .ensures) in
+    let s = q .parting .ensures in record { text = w .text; is = two ((rw (p .place .given .1) at s) .1) (w .is); wrote = w .wrote }
+
+pub merge-call-spec : {M : Type 1} → statement M
+merge-call-spec =
+    tie.close
+    (tie.spec
+    parting-requires
+    enum-told
+    put-refusal-requires
+    enum-known-place
+    add-j
+    slice-aggregate-merge-text
+    sub-merge-text
+    part-merge-text-start
+    part-merge-text-end
+    merge-text-requires
+    same-length
+    returns
+    same-length-2
+    returns-2)
