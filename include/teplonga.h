@@ -43,7 +43,7 @@ extern "C" {
 #define TEPLONGA_STACK 1048576
 
 /*
- * Each call but those for a refused line answers one number: the answer's code in its upper 32 bits and the refused line's
+ * Each call but teplonga_merge and those for a refused line answers one number: the answer's code in its upper 32 bits and the refused line's
  * number in its lower 32 bits. The line counts from 1 in its sheet; it is 0 where there is no such
  * line, and 4,294,967,295 also stands for all later lines.
  */
@@ -348,6 +348,18 @@ uint64_t teplonga_share(const uint8_t *rules, size_t rules_length,
                         uint64_t *words, size_t words_length,
                         uint64_t *numbers, size_t numbers_length,
                         uint64_t *found, size_t found_length);
+
+/*
+ * Which of two reports of shares is the merged one: 0 the first, 1 the second. A report is what
+ * teplonga_share answered, its lowest number (`numbers[0]`) and the length of its sentence
+ * (`found[0]`): first `one`, `number` and `length`, then `two`, `other` and `size`.
+ *
+ * It is the first that is a refusal, else the one with the lower number of the shorter length, else
+ * the first. Merged one by one in any order, the reports of all shares of the lengths 1 to k, with
+ * any number of racks for each length, come to the answer of teplonga_sweep with the bound k.
+ */
+uint64_t teplonga_merge(uint64_t one, uint64_t number, size_t length,
+                        uint64_t two, uint64_t other, size_t size);
 
 /* A part of a sheet: bytes of the sheet itself, not a copy of them. */
 typedef struct teplonga_part {

@@ -126,12 +126,25 @@ def expand(sheet, size, salt):
     return f"{answer} {line} bytes {count} sheet {hexed(made)}"
 
 
+def reported(answer, line, number, quotient, remainder, sentence):
+    found = " ".join("/".join(map(str, token[:3])) for token in sentence) or "-"
+    return f"{answer} {line} numbers {number} {quotient} {remainder} found {found}"
+
+
 def share(rules, length, racks, index, words, salt):
-    answer, line, number, quotient, remainder, sentence, after = shares.share_call(
+    *reply, after = shares.share_call(
         bytes_of(rules), int(length), int(racks), int(index), lent_words(int(salt), int(words))
     )
-    found = " ".join("/".join(map(str, token[:3])) for token in sentence) or "-"
-    return f"{answer} {line} numbers {number} {quotient} {remainder} found {found} {shown_words(after)}"
+    return f"{reported(*reply)} {shown_words(after)}"
+
+
+def merge(rules, *numbers):
+    words = [0] * teplonga.words_needed(7)
+    one, two = (
+        shares.share_call(bytes_of(rules), *map(int, each), words)[:-1]
+        for each in (numbers[:3], numbers[3:])
+    )
+    return reported(*shares.merged(one, two))
 
 
 def chosen(rules, ranges, words, salt):
@@ -176,6 +189,7 @@ CALLS = {
     "clause-always": functools.partial(at_every_length, clauses.read_clauses),
     "expand": expand,
     "share": share,
+    "merge": merge,
     "columns": chosen,
     "show": show,
     "change": change,

@@ -13,6 +13,7 @@ what lies in that memory before the call.
     always RULES WORDS LIST SALT
     expand CLAUSES SHEET SALT
     share RULES LENGTH RACKS INDEX WORDS SALT
+    merge RULES LENGTH RACKS INDEX LENGTH RACKS INDEX
     columns RULES RANGES WORDS SALT
     show RULES TOKENS RIGHTS USER WORDS FIRST SECOND SALT
     change RULES RIGHTS LAY USER RULE SHEET SALT
@@ -443,6 +444,15 @@ def of_a_share(chance):
     return f"share {hexed(rules)} {length} {racks} {index} {words} {salt(chance)}"
 
 
+def of_a_merge(chance):
+    """Two shares of one rule sheet, most of them of the same length."""
+    _, rules, *one = of_a_share(chance).split()[:5]
+    two = [*one[:2], str(chance.randint(0, 12))]
+    if chance.random() < 0.4:
+        two = [chance.choice(["1", "2", "9"]), *two[1:]]
+    return " ".join(["merge", rules, *(one + two if chance.random() < 0.5 else two + one)])
+
+
 def of_columns(chance):
     """A token sheet's tokens with ends about their columns; some ends are damaged."""
     rules, tokens = sound(chance, 0, 5)
@@ -556,6 +566,7 @@ QUESTIONS = {
     of_a_clause_sweep: 24,
     of_an_expansion: 30,
     of_a_share: 30,
+    of_a_merge: 20,
     of_columns: 40,
     of_a_tour: 50,
     of_a_change: 40,
@@ -588,6 +599,7 @@ DRAWN_BY = {
     "clause-sweep": of_a_clause_sweep,
     "expand": of_an_expansion,
     "share": of_a_share,
+    "merge": of_a_merge,
     "columns": of_columns,
     "show": of_a_tour,
     "change": of_a_change,

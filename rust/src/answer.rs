@@ -40,6 +40,18 @@ impl Answer {
         }
     }
 
+    /// The code of the answer.
+    pub(crate) fn code(self) -> u64 {
+        match self {
+            Answer::None => 0,
+            Answer::One => 1,
+            Answer::Two => 2,
+            Answer::Clear => 3,
+            Answer::Given => 4,
+            Answer::Refused(refusal) => 100 + u64::from(refusal.number()),
+        }
+    }
+
     /// The answer, or the refusal with this line as an error.
     pub(crate) fn result(self, line: u32) -> Result<Answer, Refused> {
         match self {

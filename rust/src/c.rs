@@ -200,6 +200,15 @@ extern "C" {
         count_length: usize,
     ) -> u64;
 
+    fn teplonga_merge(
+        one: u64,
+        number: u64,
+        length: usize,
+        two: u64,
+        other: u64,
+        size: usize,
+    ) -> u64;
+
     fn teplonga_columns(
         rules: *const u8,
         rules_length: usize,
@@ -369,6 +378,16 @@ pub fn share(
         write numbers, write found
     );
     (word, numbers)
+}
+
+/// Which of two reports is the merged one, 0 or 1: the answer, the lowest number and
+/// the length of the sentence of each.
+pub fn merge([one, number, length]: [u64; 3], [two, other, size]: [u64; 3]) -> u64 {
+    let [length, size] = [length, size].map(in_memory);
+    call!(
+        teplonga_merge: number one, number number, number length, number two, number other,
+        number size
+    )
 }
 
 /// The number of bytes of the changed sheet.

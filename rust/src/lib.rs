@@ -16,6 +16,7 @@
 //! | [`always`] | clear, where no sentence of any length has two trees, or where the test cannot tell |
 //! | [`sweep`] | the first short sentence that has two trees, or clear |
 //! | [`share`] | one share of a sweep that is divided among racks |
+//! | [`merge`] | two reports of shares as one; all of them come to the sweep's answer |
 //! | [`refused_line`], [`columns_refused_line`] | the refused line itself, as a part of its sheet |
 //! | [`clauses`] | a module: verdict, trees, sweep, the test at every length and refused line of clause sheets, and the rule sheet that one expands to |
 //!
@@ -355,6 +356,30 @@ pub fn share(
     let mut found = [0; sentence::PLACES];
     let (word, numbers) = c::share(rules, [length, racks, index], words, &mut found);
     ShareReply::unpacked(word, numbers, &found)
+}
+
+/// Two reports of shares merged: the first that is a refusal, else the one with the
+/// lower number of the shorter length, else the first.
+///
+/// Merged in any order, the reports of all shares of the lengths 1 to k, with any
+/// number of racks for each length, come to the sweep's answer for the bound k.
+///
+/// ```
+/// use teplonga::{merge, share, sweep, words_for};
+///
+/// let rules = b"left kind first second lay\n0 B 0 0 none\n0 A 0 - none\n";
+/// let mut words = vec![0; words_for(3)];
+/// let all = (1..=3).flat_map(|length| (0..12).map(move |index| (length, index)));
+/// let reports = all.map(|(length, index)| share(rules, length, 12, index, &mut words));
+/// let merged = reports.reduce(merge).expect("there are reports");
+/// assert_eq!(merged.number, 11);
+/// assert_eq!(merged.sentence(), sweep(rules, 3, &mut words).sentence());
+/// ```
+pub fn merge(one: ShareReply, two: ShareReply) -> ShareReply {
+    match c::merge(one.words(), two.words()) {
+        0 => one,
+        _ => two,
+    }
 }
 
 /// The line for which a call with these sheets is refused, without its byte 10,

@@ -1,4 +1,4 @@
-//! One share of a sweep that is divided among racks.
+//! One share of a sweep that is divided among racks, as it is reported.
 
 use crate::sentence::PLACES;
 use crate::{Answer, Refused, SweepReply, Token};
@@ -31,6 +31,13 @@ impl ShareReply {
     #[must_use]
     pub fn sentence(&self) -> &[Token] {
         self.found.sentence()
+    }
+
+    /// What the C function for two reports takes of one: the answer and its line,
+    /// the lowest number, and the length of the sentence.
+    pub(crate) fn words(&self) -> [u64; 3] {
+        let word = self.found.answer.code() << 32 | u64::from(self.found.line);
+        [word, self.number, self.found.length as u64]
     }
 
     pub(crate) fn unpacked(word: u64, numbers: [u64; 3], found: &[u64; PLACES]) -> ShareReply {

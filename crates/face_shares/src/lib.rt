@@ -1,4 +1,6 @@
-// The call for one share of a sweep for C and Rust: numbers and slices alone.
+// The calls for one share of a sweep and for the merging of reports for C and Rust: numbers and
+// slices alone.
+use call_shares::leads;
 use call_shares::share;
 use face::pack;
 use face_words::put_sentence;
@@ -7,6 +9,7 @@ use grammar::Sentence;
 ghost use mathlib.Core.Path.{_≡_};
 ghost use Rattle.face_words.specs.Words.{AtFront, sentenceWords};
 ghost use Rattle.face_shares.specs.Shares.{shareWords, ShareWord};
+ghost use Rattle.face_shares.specs.Merge.{MergeWord};
 
 // The lowest number, M ÷ p and its remainder, where the lent words are enough for them.
 fn put_numbers(numbers: &mut [u64], number: u64, quotient: u64, remainder: u64)
@@ -28,8 +31,8 @@ fn put_found(found: &mut [u64], s: Sentence)
     }
 }
 
-// A share: its code times 2^32 plus the line's number. `numbers` gets the lowest number, the quotient and the remainder,
-// `found` the answer's sentence.
+// A share: its code times 2^32 plus the line's number. `numbers` gets the lowest number, the
+// quotient and the remainder, `found` the answer's sentence.
 #[no_mangle]
 pub extern "C" fn teplonga_share(
     rules: &[u8],
@@ -48,4 +51,29 @@ pub extern "C" fn teplonga_share(
     put_numbers(numbers, p.number, p.quotient, p.remainder);
     put_found(found, s);
     pack(a, p.line)
+}
+
+// Which of two reports is the merged one: 0 the first, 1 the second. A report is what
+// `teplonga_share` answers, the lowest number and the length of the sentence.
+#[no_mangle]
+pub extern "C" fn teplonga_merge(
+    one: u64,
+    number: u64,
+    length: usize,
+    two: u64,
+    other: u64,
+    size: usize,
+) -> u64
+    ensures { λ r. ⌜ MergeWord one number length two other size r ⌝ }
+{
+    if 100 <= one / 4294967296 {
+        return 0;
+    }
+    if 100 <= two / 4294967296 {
+        return 1;
+    }
+    if leads(size, other, length, number) {
+        return 1;
+    }
+    0
 }

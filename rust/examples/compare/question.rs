@@ -3,9 +3,11 @@
 use std::fmt::{Display, Write};
 use std::str::FromStr;
 
-use teplonga::{always, change, clauses, columns, columns_refused_line, places, rows, share, show};
+use teplonga::{always, change, clauses, columns, columns_refused_line, merge, places, rows};
+use teplonga::{share, show};
 use teplonga::{refused_line, sweep, trees, verdict};
-use teplonga::{AlwaysReply, Reply, RowCount, Rows, SweepReply, Token, TreesReply};
+use teplonga::{words_for, MOST_BOUND};
+use teplonga::{AlwaysReply, Reply, RowCount, Rows, ShareReply, SweepReply, Token, TreesReply};
 
 use crate::lent::{self, Lent};
 
@@ -43,7 +45,7 @@ impl Question<'_> {
         let count = match call.trim_start_matches("clause-") {
             "show" | "change" => 3,
             "verdict" | "trees" | "line" | "rows" | "places" | "columns" => 2,
-            "sweep" | "expand" | "share" | "always" => 1,
+            "sweep" | "expand" | "share" | "merge" | "always" => 1,
             _ => panic!("no question: {line}"),
         };
         let sheets = fields.by_ref().take(count).map(sheet).collect();
@@ -84,6 +86,7 @@ impl Question<'_> {
             ("share", &[rules], &[length, racks, index, words, salt]) => {
                 share_answer(rules, [length, racks, index], words, salt)
             }
+            ("merge", &[rules], &[n, p, i, m, q, j]) => merge_answer(rules, [n, p, i], [m, q, j]),
             ("columns", &[rules, ranges], &[words, salt]) => {
                 columns_answer(rules, ranges, words, salt)
             }
@@ -274,6 +277,11 @@ fn share_answer(rules: &[u8], numbers: [u64; 3], words: u64, salt: u64) -> Strin
     let mut words = lent::words(salt, words as usize);
     let [length, racks, index] = numbers.map(|number| number as usize);
     let reply = share(rules, length, racks, index, words.part_mut());
+    let text = reported(&reply);
+    format!("{text} {}{}", shown_words(words.part()), remark(words.sides_kept()))
+}
+
+fn reported(reply: &ShareReply) -> String {
     let mut text = format!("{} {}", reply.found.answer, reply.found.line);
     let numbers = [reply.number, reply.quotient, reply.remainder];
     text = put(text, format_args!(" numbers {} {} {} found", numbers[0], numbers[1], numbers[2]));
@@ -283,7 +291,16 @@ fn share_answer(rules: &[u8], numbers: [u64; 3], words: u64, salt: u64) -> Strin
     if reply.sentence().is_empty() {
         text += " -";
     }
-    format!("{text} {}{}", shown_words(words.part()), remark(words.sides_kept()))
+    text
+}
+
+fn merge_answer(rules: &[u8], one: [u64; 3], two: [u64; 3]) -> String {
+    let mut words = vec![0; words_for(MOST_BOUND)];
+    let mut report = |numbers: [u64; 3]| {
+        let [length, racks, index] = numbers.map(|number| number as usize);
+        share(rules, length, racks, index, &mut words)
+    };
+    reported(&merge(report(one), report(two)))
 }
 
 fn columns_answer(rules: &[u8], ranges: &[u8], words: u64, salt: u64) -> String {

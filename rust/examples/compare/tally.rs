@@ -3,7 +3,7 @@
 use std::collections::BTreeMap;
 
 /// The calls, as questions name them.
-const CALLS: [&str; 17] = [
+const CALLS: [&str; 18] = [
     "verdict",
     "trees",
     "rows",
@@ -16,6 +16,7 @@ const CALLS: [&str; 17] = [
     "clause-line",
     "expand",
     "share",
+    "merge",
     "columns",
     "show",
     "change",
