@@ -1,3 +1,5 @@
-pub mod PassClosure
 pub mod TableLaws
 pub mod ChainLaws
+pub mod CountLaws
+pub mod ReachLaws
+pub mod WordLaws

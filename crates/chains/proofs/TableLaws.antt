@@ -1,11 +1,10 @@
--- The closure table: an entry for each nonterminal and for each way in which unary marks can hold, made by passes once; over a span the
+-- The closure table: an entry for each nonterminal and for each way in which unary marks can hold, made once; over a span the
 -- entries of what stands by its parts are put together.
 use mathlib.Core.Path.{_≡_, refl}
 use mathlib.Core.Logic.{_↔_}
 use Prim.Native.Nat.{ℕ, zero, suc, _<_}
 use lib.ListN.{length}
 use Rattle.sets.specs.Sets.{In}
-use Rattle.sets.specs.Insertion.{insert}
 use Rattle.grammar.specs.declared.Clause.{Clause}
 use Rattle.grammar.specs.declared.Clause.the-variants as Clause
 use Rattle.grammar.specs.declared.UnaryMark.{UnaryMark}
@@ -15,12 +14,8 @@ use Rattle.marks.specs.Marked.{UnaryBy}
 use Rattle.tables.specs.Tables.{rule}
 use Rattle.cuts.specs.declared.Pair.{Pair}
 use Rattle.cuts.specs.Closure.{Follows, Doubles, Closure, ChainEntry, Just, Never, Unites}
-use Rattle.cuts.proofs.ClosureLaws.{follows-as, doubles-as, closure-entry, table-closure}
-use Rattle.joins.specs.declared.Tally.{Tally}
-use Rattle.joins.specs.Passes.{Saturated}
+use Rattle.cuts.proofs.ClosureLaws.{follows-as, doubles-as, table-closure}
 use Rattle.chains.specs.SpanLinks.{Over, LinkAt, spanLinks}
-use Rattle.chains.specs.Chains.{tallied}
-use Rattle.chains.proofs.PassClosure.{passes-closure}
 
 -- a clause goes by its own mark alone
 over-as : (p q : UnaryMark → Type 0) (one : ℕ) (c : Clause) → ((C : ℕ) (m : UnaryMark) → c ≡ Clause.Unary C m → p m → q m) → (l B : ℕ) → Over p one c l B → Over q one c l B
@@ -57,12 +52,6 @@ module _ (g : Rules) (one two : ℕ) where
 
       back₂ : {A : ℕ} → Doubles (spanLinks g q one two) (Just B) Never A → Doubles (spanLinks g p one two) (Just B) Never A
       back₂ = doubles-as (spanLinks g q one two) (spanLinks g p one two) (Just B) (Just B) Never Never of (λ i l x. x) (λ A x. x) (λ A x. x)
-
-  -- passes from B alone make its entry: k are marks of the kind, and any length will do
-  pub passes-entry : (k : SpanMarks) (len : ℕ) → 0 < len → (B : ℕ) (t : Tally) → Saturated one two k len g (tallied (record { one = insert 0 B; two = 0 })) t
-      → ChainEntry (spanLinks g (UnaryBy k) one two) B (record { one = t .one; two = t .two })
-  passes-entry k len pos B t s =
-      closure-entry (spanLinks g (UnaryBy k) one two) B (record { one = t .one; two = t .two }) (passes-closure g k one two len pos (record { one = insert 0 B; two = 0 }) t s)
 
   -- over a span with the marks k, by the table of a kind whose marks hold alike
   pub table-span : (holds : UnaryMark → Type 0) (k : SpanMarks) → ((m : UnaryMark) → holds m ↔ UnaryBy k m) → (up : ℕ → Pair) (p t : Pair) → ((B : ℕ) → In (p .one) B → ChainEntry (spanLinks g holds one two) B (up B))

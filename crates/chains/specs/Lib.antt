@@ -1,2 +1,3 @@
 pub mod SpanLinks
+pub mod Reaching
 pub mod Chains

@@ -1,7 +1,7 @@
 -- A span that is settled all cuts at once is closed, as the chart's are.
 use mathlib.Core.Path.{_≡_, refl, sym, ap, _∙_, subst, subst₂}
 use mathlib.Core.List.{List, []}
-use mathlib.Core.Logic.{_↔_}
+use mathlib.Core.Logic.{inl, inr, _↔_}
 use Prim.Native.Nat.{ℕ, zero, suc, _+_, _*_, _≤_, _<_}
 use native.Mathlib.Omega.{arith}
 use lib.ListN.{length, getD, replicate, length-replicate}
@@ -34,7 +34,7 @@ use Rattle.chains.specs.SpanLinks.{spanLinks}
 use Rattle.chains.specs.Chains.{HoldsAt, Leveled, Chains}
 use Rattle.chains.proofs.TableLaws.{table-span}
 use Rattle.chains.proofs.ChainLaws.{chains-for}
-use Rattle.chart.specs.Filling.{Closed}
+use Rattle.chart.specs.Filling.{Closed, Filled, Grown}
 use Rattle.chart.specs.Sheets.{Exact}
 use Rattle.filling.specs.Kept.{Prepared}
 use Rattle.filling.specs.Closing.{Begins, Found, CutJoins, Columns}
@@ -141,3 +141,11 @@ kept-chains {g} {kept} {ws} {w} {n} {to} p x = chains-for (λ A. (λ i. one A .1
 
     two : (A : ℕ) → In (getD ws 1 0) A ↔ TwoTrees g A []
     two A = subst (λ (q : ℕ). In (getD ws (2 * q + 1) 0) A ↔ TwoTrees g A []) (pairAt-empty n 0) (x .two 0 0 A (omega arith))
+
+-- where there is one token at most, nothing is left to settle
+pub few-grown : {ws : List ℕ} {g : Rules} {h : Half} {n from to : ℕ} → n < 2 → Filled ws g h n from to (n + 1) → Grown ws ws g h n from 0
+few-grown b f = record {
+  filled = record { done = λ s len fit p. f .done s len fit (inr (inl (omega arith))) };
+  given = record { first = λ i k. refl; second = λ i k. refl };
+  past = record { long = refl; rest = λ q k. refl };
+}

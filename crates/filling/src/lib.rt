@@ -301,7 +301,8 @@ fn fill_starts(
 }
 
 // Fill the span sheet of the draft anew, but for the spans that end at or before the token `from` and those that begin
-// at or past the token `to`: no token of these has changed. The pairs of the empty word and of single tokens are given.
+// at or past the token `to`: no token of these has changed. The pairs of the empty word and of single tokens are given,
+// and where there is one token at most, that is all.
 pub fn fill(words: &mut [u64], d: Draft, g: Grammar, from: usize, to: usize)
     requires { ⌜ (d .count ≤ 64) × (d .known ≤ d .count) ⌝ }
     requires { ⌜ 2 * pairs (d .count) ≤ length (now words) ⌝ }
@@ -310,6 +311,9 @@ pub fn fill(words: &mut [u64], d: Draft, g: Grammar, from: usize, to: usize)
     ensures { λ r. ⌜ Charted (now (words .entry)) (now (words .exit)) (rules g) (half d) (d .count) ⌝ }
 {
     let n = d.count;
+    if n < 2 {
+        return;
+    }
     let e = Pair {
         one: words[0],
         two: words[1],

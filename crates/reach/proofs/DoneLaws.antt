@@ -28,7 +28,7 @@ use Rattle.places.specs.Places as Pl
 use Rattle.places.specs.Places.{StandsIn, Contains}
 use Rattle.places.proofs.PlaceLaws.{Lies, part-whole, lies-left, lies-right, lies-whole}
 use Rattle.reach.specs.Reached.{Bit, Reached}
-use Rattle.reach.specs.Joining.{Joins}
+use Rattle.cuts.specs.Joining.{Joins}
 use Rattle.reach.specs.Spreading.{Kids, Held, Spread, Spreads, Begun, Done}
 use Rattle.reach.proofs.HeldLaws.{kids-kept}
 

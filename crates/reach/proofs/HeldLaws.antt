@@ -27,7 +27,8 @@ use Rattle.places.specs.Places as Pl
 use Rattle.places.specs.Places.{StandsIn}
 use Rattle.places.proofs.PaperLaws.{over-unary, over-binary}
 use Rattle.reach.specs.Reached.{Bit}
-use Rattle.reach.specs.Joining.{Joins, Kid}
+use Rattle.cuts.specs.Joining.{Joins}
+use Rattle.reach.specs.Joining.{Kid}
 use Rattle.reach.specs.Spreading.{Kids, Held, Sound}
 
 -- ---- what lies beneath a choice of what is held is held

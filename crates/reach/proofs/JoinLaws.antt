@@ -2,61 +2,21 @@
 use mathlib.Core.Path.{_≡_, refl, sym, ap, _∙_, subst}
 use mathlib.Core.Logic.{_⊎_, inl, inr, ⊎-elim, _↔_}
 use mathlib.Core.List.{List}
-use Prim.Native.Nat.{ℕ, zero, suc, _+_, _-_, _/_, _%_, _^_, _≤_, _<_}
+use Prim.Native.Nat.{ℕ, zero, suc, _+_, _/_, _%_, _^_, _≤_, _<_}
 use native.Mathlib.Omega.{arith}
 use native.Mathlib.Decide.{ℕ-discrete, decLt}
 use native.Mathlib.Nat.{mod-lt}
 use lib.Bits.{bitAnd, bitXor, xor-step, xor-shr, differ}
 use lib.Arith.{digits-mod}
-use lib.ListN.{length, getD, set, length-set}
-use lib.Seq.{getD-set-same, getD-set-other}
 use Rattle.sets.specs.Sets.{In}
-use Rattle.sets.proofs.Sets.{in-zero, insert-same, insert-keeps, insert-only, insert-ge}
+use Rattle.sets.proofs.Sets.{in-zero, insert-same, insert-ge}
 use Rattle.grammar.specs.declared.Rule.{Rule}
 use Rattle.marks.specs.declared.SpanMarks.{SpanMarks}
 use Rattle.cuts.proofs.Bits.{in-and}
-use Rattle.reach.specs.Joining.{Joins, ClauseKids}
+use Rattle.cuts.specs.Joining.{Joins}
+use Rattle.cuts.proofs.JoinLaws.{joins-none, joins-then, joins-as}
+use Rattle.reach.specs.Joining.{ClauseKids}
 use Rattle.sets.specs.Insertion.{insert}
-
--- nothing is put in
-pub joins-none : (rs : List ℕ) → Joins (λ q B. ⊥) rs rs
-joins-none rs = record { long = refl; keeps = λ q B h. h; only = λ q B h. inl h; all = λ q B h. absurd h }
-
--- one member
-pub joins-set : (rs : List ℕ) (p a : ℕ) → p < length rs → Joins (λ q B. (q ≡ p) × (B ≡ a)) rs (set rs p (insert (getD rs p 0) a))
-joins-set rs p a h = record {
-  long = length-set rs p _;
-  keeps = λ q B x. keep q B x (ℕ-discrete q p);
-  only = λ q B x. once q B x (ℕ-discrete q p);
-  all = λ q B x. subst (λ (s : ℕ). In s B) (sym (at q (x .0))) (subst (λ (b : ℕ). In (insert (getD rs p 0) a) b) (sym (x .1)) (insert-same (getD rs p 0) a));
-}
-  where
-    at : (q : ℕ) → q ≡ p → getD (set rs p (insert (getD rs p 0) a)) q 0 ≡ insert (getD rs p 0) a
-    at q e = ap (λ (x : ℕ). getD (set rs p (insert (getD rs p 0) a)) x 0) e ∙ getD-set-same rs p (insert (getD rs p 0) a) 0 h
-
-    keep : (q B : ℕ) → In (getD rs q 0) B → Dec (q ≡ p) → In (getD (set rs p (insert (getD rs p 0) a)) q 0) B
-    keep q B x (yes e) = subst (λ (s : ℕ). In s B) (sym (at q e)) (insert-keeps (getD rs p 0) a (subst (λ (y : ℕ). In (getD rs y 0) B) e x))
-    keep q B x (no e) = subst (λ (s : ℕ). In s B) (sym (getD-set-other rs p q _ 0 e)) x
-
-    once : (q B : ℕ) → In (getD (set rs p (insert (getD rs p 0) a)) q 0) B → Dec (q ≡ p) → In (getD rs q 0) B ⊎ ((q ≡ p) × (B ≡ a))
-    once q B x (yes e) =
-        ⊎-elim (λ y. inl (subst (λ (z : ℕ). In (getD rs z 0) B) (sym e) y)) (λ y. inr (e, y))
-        (insert-only (getD rs p 0) a B (subst (λ (s : ℕ). In s B) (at q e) x))
-    once q B x (no e) = inl (subst (λ (s : ℕ). In s B) (getD-set-other rs p q _ 0 e) x)
-
--- one after the other
-pub joins-then : {P Q : ℕ → ℕ → Type 0} {rs rs′ rs″ : List ℕ} → Joins P rs rs′ → Joins Q rs′ rs″ → Joins (λ q B. P q B ⊎ Q q B) rs rs″
-joins-then a b = record {
-  long = b .long ∙ a .long;
-  keeps = λ q B x. b .keeps q B (a .keeps q B x);
-  only = λ q B x. ⊎-elim (λ y. ⊎-elim inl (λ z. inr (inl z)) (a .only q B y)) (λ y. inr (inr y)) (b .only q B x);
-  all = λ q B x. ⊎-elim (λ y. b .keeps q B (a .all q B y)) (λ y. b .all q B y) x;
-}
-
--- the same members, said otherwise
-pub joins-as : {P Q : ℕ → ℕ → Type 0} {rs rs′ : List ℕ} → ((q B : ℕ) → P q B → Q q B) → ((q B : ℕ) → Q q B → P q B) → Joins P rs rs′ → Joins Q rs rs′
-joins-as f g a =
-    record { long = a .long; keeps = a .keeps; only = λ q B x. ⊎-elim inl (λ y. inr (f q B y)) (a .only q B x); all = λ q B x. a .all q B (g q B x) }
 
 -- a set that gets a new member gets larger
 pub insert-more : (s a : ℕ) → (In s a → ⊥) → s < insert s a

@@ -22,7 +22,8 @@ use Rattle.tables.specs.Tables.{One, byMarks, byTokens, Stand, rule, Room}
 use Rattle.tables.proofs.Views.{fits-le, lefts-le, stand-view, marks-tokens, tokens-marks}
 use Rattle.picks.proofs.PickLaws.{whole, stand-choice, choice-stand}
 use Rattle.reach.specs.Reached.{Bit}
-use Rattle.reach.specs.Joining.{Space, Joins, ChoiceKids}
+use Rattle.cuts.specs.Joining.{Joins}
+use Rattle.reach.specs.Joining.{Space, ChoiceKids}
 use Rattle.reach.specs.Spreading.{Known, Working, Spreads, Works, Worked}
 use Rattle.reach.proofs.HeldLaws.{kids-held, kid-held, sound-joins, kids-in, kids-kept, kid-low}
 use Rattle.sets.specs.Insertion.{insert}

@@ -3,7 +3,7 @@ use mathlib.Core.Path.{_≡_}
 use mathlib.Core.List.{List}
 use mathlib.Core.Logic.{_⊎_}
 use Prim.Native.Nat.{ℕ, _+_, _-_, _≤_, _<_}
-use lib.ListN.{length, getD}
+use lib.ListN.{length}
 use Rattle.sets.specs.declared.Member.{Member}
 use Rattle.sets.specs.declared.Member.the-variants.{At, Nothing}
 use Rattle.sets.specs.Sets.{In}
@@ -20,13 +20,6 @@ pub record Space (rs : List ℕ) (n s len : ℕ) : Type 0 where
   pub few : n ≤ 64
   pub fits : s + len ≤ n
   pub enough : pairs n ≤ length rs
-
--- rs′ is rs with the members P, of a word and a number, besides
-pub record Joins (P : ℕ → ℕ → Type 0) (rs rs′ : List ℕ) : Type 0 where
-  pub long : length rs′ ≡ length rs
-  pub keeps : (q B : ℕ) → In (getD rs q 0) B → In (getD rs′ q 0) B
-  pub only : (q B : ℕ) → In (getD rs′ q 0) B → In (getD rs q 0) B ⊎ P q B
-  pub all : (q B : ℕ) → P q B → In (getD rs′ q 0) B
 
 -- B, at the pair q, lies beneath the clause over the span, with l tokens on its left
 abbrev pub Kid : ℕ → ℕ → ℕ → Clause → ℕ → ℕ → ℕ → Type 0

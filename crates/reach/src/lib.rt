@@ -23,7 +23,8 @@ ghost use Rattle.marks.specs.Drafts.{drafted};
 ghost use Rattle.tables.specs.Tables.{Room};
 ghost use Rattle.picks.specs.RuleLists.{Listed};
 ghost use Rattle.reach.specs.Reached.{Reached};
-ghost use Rattle.reach.specs.Joining.{Space, Joins, Kid, LeftKids, ClauseKids, ChoiceKids, Fresh};
+ghost use Rattle.cuts.specs.Joining.{Joins};
+ghost use Rattle.reach.specs.Joining.{Space, Kid, LeftKids, ClauseKids, ChoiceKids, Fresh};
 ghost use Rattle.reach.specs.Spreading.{Known, Spreads, Worked, Begun, Done};
 ghost use Rattle.grammar.specs.Sentences.{spelled};
 

@@ -4,30 +4,21 @@ use Prim.Native.Nat.{ℕ, _+_, _-_, _≤_, _<_}
 use native.Mathlib.Omega.{arith}
 use Rattle.grammar.specs.Content.{rules}
 use Rattle.chains.specs.Chains.{Upto}
-use Rattle.chains.proofs.ChainLaws.{upto-none, upto-level, upto-all}
+use Rattle.chains.proofs.ChainLaws.{upto-none, upto-all}
 use Rattle.chains.proofs.chains.Statement.{statement}
 use Rattle.chains.proofs.chains.Tie as tie
 
 abbrev Inv-loop : tie.InvT-loop
-Inv-loop table₀ g e w set l₀ table l = Upto (rules g) e table l 0
+Inv-loop table₀ g e l₀ table l = Upto (rules g) e table l
 
 abbrev μ-loop : tie.MeasureT-loop
-μ-loop table₀ g e w set l₀ table l = 4 - l
-
-link-rules-requires : tie.Need-link-rules-requires Inv-loop μ-loop
-link-rules-requires c κs = search needs
-
-unders-requires : tie.Need-unders-requires Inv-loop μ-loop
-unders-requires c κs = c .link-rules .ensures .ruled
+μ-loop table₀ g e l₀ table l = 4 - l
 
 loop-holds : tie.Need-loop-holds Inv-loop μ-loop
-loop-holds c = let z = c .before .before .before in upto-none (rules (z .args .g)) (z .args .e) (z .args .table .now) (z .pre .0)
+loop-holds c = let z = c .before in upto-none (rules (z .args .g)) (z .args .e) (z .args .table .now) (z .pre .0)
 
 next-level-requires : tie.Need-next-level-requires Inv-loop μ-loop
-next-level-requires c κs =
-    let u = c .before .before .before in
-    let z = u .before .before .before in
-    (c .before .loop-test .taken, (z .pre .1, (u .before .link-rules .ensures, (u .unders .ensures, c .before .before .loop .inv))))
+next-level-requires c κs = (c .before .loop-test .taken, (c .before .before .before .before .pre .1, c .before .before .loop .inv))
 
 add-l : tie.Need-add-l Inv-loop μ-loop
 add-l c = search needs
@@ -36,10 +27,10 @@ loop-less : tie.Need-loop-less Inv-loop μ-loop
 loop-less c = omega (arith, c .before .before .before .before .loop-test .taken)
 
 loop-again : tie.Need-loop-again Inv-loop μ-loop
-loop-again c = upto-level (c .before .before .next-level .ensures)
+loop-again c = c .before .before .next-level .ensures
 
 same-length : tie.Need-same-length Inv-loop μ-loop
-same-length c = c .before .loop .inv .size ∙ sym (c .before .before .before .before .before .pre .0)
+same-length c = c .before .loop .inv .size ∙ sym (c .before .before .before .pre .0)
 
 returns : tie.Need-returns Inv-loop μ-loop
 returns c = upto-all (omega (arith, c .loop-test .left)) (c .before .loop .inv)
@@ -50,8 +41,6 @@ chains-spec =
     (tie.spec
     Inv-loop
     μ-loop
-    link-rules-requires
-    unders-requires
     loop-holds
     next-level-requires
     add-l

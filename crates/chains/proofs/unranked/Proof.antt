@@ -22,10 +22,10 @@ more l g i w u = record { none = λ j h x. go j h x (ℕ-discrete j i) }
     go j h x (no e) = u .none j (omega arith) x
 
 abbrev Inv-loop : tie.InvT-loop
-Inv-loop l w i₀ i = (i ≤ w .count) × Unranked l (rules w) i
+Inv-loop l g i₀ i = (i ≤ g .count) × Unranked l (rules g) i
 
 abbrev μ-loop : tie.MeasureT-loop
-μ-loop l w i₀ i = w .count - i
+μ-loop l g i₀ i = g .count - i
 
 loop-holds : tie.Need-loop-holds Inv-loop μ-loop
 loop-holds c = (omega arith, record { none = λ j h x. absurd (omega arith) })

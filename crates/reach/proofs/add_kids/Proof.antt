@@ -6,7 +6,7 @@ use Prim.Native.Nat.{ℕ, _+_, _-_}
 use native.Mathlib.Omega.{arith}
 use Rattle.grammar.specs.Content.{SmallClause}
 use Rattle.spans.proofs.Places.{pairAt-below}
-use Rattle.reach.proofs.JoinLaws.{joins-none, joins-then, joins-as}
+use Rattle.cuts.proofs.JoinLaws.{joins-none, joins-then, joins-as}
 use Rattle.reach.proofs.add_kids.Statement.{statement}
 use Rattle.reach.proofs.add_kids.Tie as tie
 

@@ -9,8 +9,10 @@ use Rattle.grammar.specs.Content.{rules, SmallRule}
 use Rattle.marks.specs.declared.SpanMarks.{SpanMarks}
 use Rattle.tables.specs.Tables.{rule}
 use Rattle.tables.proofs.RulePlaces.{small-at, rule-read}
-use Rattle.reach.specs.Joining.{Joins, RuleKids}
-use Rattle.reach.proofs.JoinLaws.{Under, joins-zero, joins-next, joins-jump, joins-all, joins-as, joins-clause}
+use Rattle.cuts.specs.Joining.{Joins}
+use Rattle.cuts.proofs.JoinLaws.{joins-as}
+use Rattle.reach.specs.Joining.{RuleKids}
+use Rattle.reach.proofs.JoinLaws.{Under, joins-zero, joins-next, joins-jump, joins-all, joins-clause}
 use Rattle.reach.proofs.spread_choices.Statement.{statement}
 use Rattle.reach.proofs.spread_choices.Tie as tie
 

@@ -4,7 +4,8 @@ use Prim.Native.Nat.{_+_, _-_}
 use native.Mathlib.Omega.{arith}
 use Rattle.tables.specs.Tables.{One, byMarks}
 use Rattle.tables.proofs.Views.{fits-le, lefts-le}
-use Rattle.reach.specs.Joining.{Joins, LeftKids}
+use Rattle.cuts.specs.Joining.{Joins}
+use Rattle.reach.specs.Joining.{LeftKids}
 use Rattle.reach.proofs.JoinLaws.{Under, joins-zero, joins-next, joins-all}
 use Rattle.reach.proofs.spread_clause.Statement.{statement}
 use Rattle.reach.proofs.spread_clause.Tie as tie
