@@ -5,7 +5,7 @@ use clause_always::clauses_always;
 use printing::put_byte;
 use printing::put_bytes;
 use printing::put_number;
-use teplonga::Answer;
+use answering::Answer;
 use text::put_head;
 use text_trees::put_small;
 ghost use Prim.Native.Nat.{_+_, _*_, _≤_};

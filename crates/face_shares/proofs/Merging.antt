@@ -3,8 +3,8 @@
 use mathlib.Core.Path.{_≡_, sym, ap, _∙_}
 use Prim.Native.Nat.{ℕ, zero, suc, _/_, _≤_, _<_}
 use native.Mathlib.Omega.{arith}
-use Rattle.teplonga.specs.declared.Answer.{Answer}
-use Rattle.teplonga.specs.declared.Answer.the-variants as Answer
+use Rattle.answering.specs.declared.Answer.{Answer}
+use Rattle.answering.specs.declared.Answer.the-variants as Answer
 use Rattle.face.specs.Face.{codeOf, packed}
 use Rattle.face.proofs.Unpacking.{code-of}
 use Rattle.call_shares.specs.declared.ShareReply.{ShareReply}

@@ -4,8 +4,8 @@ use std::fmt::{Display, Write};
 use std::str::FromStr;
 
 use teplonga::{always, change, clauses, columns, columns_refused_line, merge, places, rows};
-use teplonga::{share, show};
 use teplonga::{refused_line, sweep, trees, verdict};
+use teplonga::{share, show};
 use teplonga::{words_for, MOST_BOUND};
 use teplonga::{AlwaysReply, Reply, RowCount, Rows, ShareReply, SweepReply, Token, TreesReply};
 
