@@ -43,7 +43,8 @@ pub record Settled (x y : Node) (i j : ℕ) (f : Frame) (t : List ℕ) : Type 0 
 
 -- steps lead from one table to another, which is sound for a sheet with G if the one was; r says that
 -- they added nothing, and then P holds
-pub record Ran (G : Rules → Type 0) (P : List ℕ → Type 0) (old new : List ℕ) (r : Bool) : Type 0 where
+pub record Ran (G : Rules → Type 0) (P : List ℕ → Type 0) (old new : List ℕ) (r : Bool)
+    : Type 0 where
   pub size : length new ≡ length old
   pub past : (i : ℕ) → 65536 ≤ i → getD new i 0 ≡ getD old i 0
   pub sound : (g : Rules) → G g → SoundTable g old → SoundTable g new
@@ -72,7 +73,24 @@ pub record RowOf (ns : List ℕ) (i n m : ℕ) (t : List ℕ) : Type 0 where
 pub record RowsRun (ns : List ℕ) (n m : ℕ) (t : List ℕ) : Type 0 where
   pub rows : (i : ℕ) → i < 384 → 384 ≤ i + m → RowOf ns i n 384 t
 
--- steps of some nodes
+-- steps of two nodes, over the frame of an entry and over those of n entries
+abbrev pub EntryRan : Node → Node → ℕ → ℕ → ℕ → List ℕ → List ℕ → Bool → Type 0
+EntryRan x y i j k old new r =
+    Ran (PairOf x y i j) (λ t. Settled x y i j (frameAt (codeAt t k)) t) old new r
+
+abbrev pub MetRan : Node → Node → ℕ → ℕ → ℕ → List ℕ → List ℕ → Bool → Type 0
+MetRan x y i j n old new r = Ran (PairOf x y i j) (Met x y i j n) old new r
+
+-- steps of nodes in their places: of two, of one with all, of all with all, of some
+abbrev pub CellRan : List ℕ → ℕ → ℕ → ℕ → List ℕ → List ℕ → Bool → Type 0
+CellRan ns i j n old new r = Ran (λ g. NodesOf g ns) (Cell ns i j n) old new r
+
+abbrev pub RowRan : List ℕ → ℕ → ℕ → List ℕ → List ℕ → Bool → Type 0
+RowRan ns i n old new r = Ran (λ g. NodesOf g ns) (RowOf ns i n 384) old new r
+
+abbrev pub RowsRan : List ℕ → ℕ → List ℕ → List ℕ → Bool → Type 0
+RowsRan ns n old new r = Ran (λ g. NodesOf g ns) (RowsRun ns n 384) old new r
+
 abbrev pub Quick : List ℕ → List ℕ → List ℕ → Bool → Type 0
 Quick ns old new r = Ran (λ g. NodesOf g ns) (λ t. Unit {0}) old new r
 

@@ -5,12 +5,12 @@ ghost use mathlib.Core.Bool.{_&&_};
 ghost use Prim.Native.Nat.{_+_, _*_, _≤_, _<_};
 ghost use lib.ListN.{length};
 ghost use Rattle.pair_tables.specs.Reading.{Small};
-ghost use Rattle.pair_nodes.specs.Slots.{nodeAt, Present, NodesOf};
-ghost use Rattle.pair_frames.specs.Numbering.{frameAt};
-ghost use Rattle.pair_entries.specs.Entries.{searchWords, codeAt};
+ghost use Rattle.pair_nodes.specs.Slots.{nodeAt, Present};
+ghost use Rattle.pair_entries.specs.Entries.{searchWords};
 ghost use Rattle.pair_search.specs.Filling.{FilledTable};
-ghost use Rattle.pair_search.specs.Running.{Apt, PairOf, Settled, Ran, Ready, Met};
-ghost use Rattle.pair_search.specs.Running.{BothSettled, Cell, RowOf, RowsRun, Quick, Rested, Round, Searched, ClearedTo};
+ghost use Rattle.pair_search.specs.Running.{Apt, Ready, EntryRan, MetRan, CellRan};
+ghost use Rattle.pair_search.specs.Running.{RowRan, RowsRan, Quick, Rested};
+ghost use Rattle.pair_search.specs.Running.{BothSettled, Round, Searched, ClearedTo};
 
 fn both(x: bool, y: bool) -> bool
     ensures { λ r. ⌜ r ≡ (x && y) ⌝ }
@@ -36,7 +36,7 @@ fn clear(words: &mut [u64])
 // A step of two nodes over the frame of an entry, if it suits them. Had the table all?
 fn step_entry(words: &mut [u64], k: usize, n: usize, x: Node, y: Node, i: usize, j: usize) -> bool
     requires { ⌜ Ready (now words) n × (k < n) × Apt x × Apt y × (i < 384) × (j < 384) ⌝ }
-    ensures { λ r. ⌜ Ran (PairOf x y i j) (λ t. Settled x y i j (frameAt (codeAt t k)) t) (now (words .entry)) (now (words .exit)) r ⌝ }
+    ensures { λ r. ⌜ EntryRan x y i j k (now (words .entry)) (now (words .exit)) r ⌝ }
 {
     let kinds = words[65537 + 4 * k];
     if sets::has(kinds, 4 * x.kids + y.kids) {
@@ -51,7 +51,7 @@ fn step_entry(words: &mut [u64], k: usize, n: usize, x: Node, y: Node, i: usize,
 // Steps of two nodes over the frames of all entries. Had the table all?
 fn meet(words: &mut [u64], n: usize, x: Node, y: Node, i: usize, j: usize) -> bool
     requires { ⌜ Ready (now words) n × Apt x × Apt y × (i < 384) × (j < 384) ⌝ }
-    ensures { λ r. ⌜ Ran (PairOf x y i j) (Met x y i j n) (now (words .entry)) (now (words .exit)) r ⌝ }
+    ensures { λ r. ⌜ MetRan x y i j n (now (words .entry)) (now (words .exit)) r ⌝ }
 {
     let mut still = true;
     let mut k: usize = 0;
@@ -67,7 +67,7 @@ fn meet(words: &mut [u64], n: usize, x: Node, y: Node, i: usize, j: usize) -> bo
 fn cell(nodes: &[u64], words: &mut [u64], n: usize, x: Node, i: usize, j: usize) -> bool
     requires { ⌜ Ready (now words) n × (1536 ≤ length (now nodes)) × (i < 384) × (j < 384) ⌝ }
     requires { ⌜ Present (now nodes) i × (x ≡ nodeAt (now nodes) i) × Small x ⌝ }
-    ensures { λ r. ⌜ Ran (λ g. NodesOf g (now (nodes .entry))) (Cell (now (nodes .entry)) i j n) (now (words .entry)) (now (words .exit)) r ⌝ }
+    ensures { λ r. ⌜ CellRan (now (nodes .entry)) i j n (now (words .entry)) (now (words .exit)) r ⌝ }
 {
     if pair_nodes::present(nodes, j) {
         let y = pair_nodes::node_at(nodes, j);
@@ -81,7 +81,7 @@ fn cell(nodes: &[u64], words: &mut [u64], n: usize, x: Node, i: usize, j: usize)
 fn cells(nodes: &[u64], words: &mut [u64], n: usize, x: Node, i: usize) -> bool
     requires { ⌜ Ready (now words) n × (1536 ≤ length (now nodes)) × (i < 384) ⌝ }
     requires { ⌜ Present (now nodes) i × (x ≡ nodeAt (now nodes) i) × Small x ⌝ }
-    ensures { λ r. ⌜ Ran (λ g. NodesOf g (now (nodes .entry))) (RowOf (now (nodes .entry)) i n 384) (now (words .entry)) (now (words .exit)) r ⌝ }
+    ensures { λ r. ⌜ RowRan (now (nodes .entry)) i n (now (words .entry)) (now (words .exit)) r ⌝ }
 {
     let mut still = true;
     let mut m: usize = 0;
@@ -96,7 +96,7 @@ fn cells(nodes: &[u64], words: &mut [u64], n: usize, x: Node, i: usize) -> bool
 // Steps of the node `i`, if there is one, with all nodes. Had the table all?
 fn row(nodes: &[u64], words: &mut [u64], n: usize, i: usize) -> bool
     requires { ⌜ Ready (now words) n × (1536 ≤ length (now nodes)) × (i < 384) ⌝ }
-    ensures { λ r. ⌜ Ran (λ g. NodesOf g (now (nodes .entry))) (RowOf (now (nodes .entry)) i n 384) (now (words .entry)) (now (words .exit)) r ⌝ }
+    ensures { λ r. ⌜ RowRan (now (nodes .entry)) i n (now (words .entry)) (now (words .exit)) r ⌝ }
 {
     if pair_nodes::present(nodes, i) {
         let x = pair_nodes::node_at(nodes, i);
@@ -108,14 +108,14 @@ fn row(nodes: &[u64], words: &mut [u64], n: usize, i: usize) -> bool
 // Steps of all nodes with all, over the frames of the entries. Had the table all?
 fn pass(nodes: &[u64], words: &mut [u64], n: usize) -> bool
     requires { ⌜ Ready (now words) n × (1536 ≤ length (now nodes)) ⌝ }
-    ensures { λ r. ⌜ Ran (λ g. NodesOf g (now (nodes .entry))) (RowsRun (now (nodes .entry)) n 384) (now (words .entry)) (now (words .exit)) r ⌝ }
+    ensures { λ r. ⌜ RowsRan (now (nodes .entry)) n (now (words .entry)) (now (words .exit)) r ⌝ }
 {
     let mut still = true;
-    let mut m: usize = 0;
-    while m < 384 {
-        let had = row(nodes, words, n, 383 - m);
+    let mut k: usize = 0;
+    while k < 384 {
+        let had = row(nodes, words, n, 383 - k);
         still = both(still, had);
-        m += 1;
+        k += 1;
     }
     still
 }

@@ -6,9 +6,9 @@ ghost use Prim.Native.Nat.{_≤_, _<_};
 ghost use mathlib.Core.Path.{_≡_};
 ghost use Rattle.pairs.specs.Relations.{order};
 ghost use Rattle.pair_steps.specs.Tables.{shapeWord, sortWord, nextWord, WordsOf, NextsOf};
-ghost use Rattle.pair_steps.specs.Leaving.{firstStop, secondStop};
 ghost use Rattle.pair_tables.specs.Reading.{Room, Small};
-ghost use Rattle.pair_tables.specs.Stepping.{Joined, Put, relationBits, nextPlace, HasSays, Stepped};
+ghost use Rattle.pair_tables.specs.Stepping.{Joined, Put, relationBits, nextPlace};
+ghost use Rattle.pair_tables.specs.Stepping.{HasSays, Stepped};
 ghost use lib.ListN.{length};
 
 // The word of a shape and a nonterminal.

@@ -9,10 +9,10 @@ use Rattle.pair_search.proofs.pass.Statement.{statement}
 use Rattle.pair_search.proofs.pass.Tie as tie
 
 abbrev Inv-loop : tie.InvT-loop
-Inv-loop nodes words₀ n still₀ m₀ words still m = Ran (λ g. NodesOf g nodes) (RowsRun nodes n m) words₀ words still × (m ≤ 384)
+Inv-loop nodes words₀ n still₀ k₀ words still k = Ran (λ g. NodesOf g nodes) (RowsRun nodes n k) words₀ words still × (k ≤ 384)
 
 abbrev μ-loop : tie.MeasureT-loop
-μ-loop nodes words₀ n still₀ m₀ words still m = 384 - m
+μ-loop nodes words₀ n still₀ k₀ words still k = 384 - k
 
 loop-holds : tie.Need-loop-holds Inv-loop μ-loop
 loop-holds c = (rows-none _ _ _, omega arith)
@@ -29,21 +29,21 @@ row-requires c κs =
 both-requires : tie.Need-both-requires Inv-loop μ-loop
 both-requires c κs = search needs
 
-add-m : tie.Need-add-m Inv-loop μ-loop
-add-m c = search needs
+add-k : tie.Need-add-k Inv-loop μ-loop
+add-k c = search needs
 
 loop-less : tie.Need-loop-less Inv-loop μ-loop
 loop-less c = search needs
 
 loop-again : tie.Need-loop-again Inv-loop μ-loop
-loop-again c = (rw (c .both .ensures) (rows-more _ (c .before .before .before .before .before .loop-test .taken) (c .before .before .before .before .before .before .loop .inv .0) (c .before .before .before .row .ensures)), search needs)
+loop-again c = (rw (c .both .ensures) (rows-more _ (omega arith) (c .before .before .before .before .before .before .loop .inv .0) (c .before .before .before .row .ensures)), search needs)
 
 same-length : tie.Need-same-length Inv-loop μ-loop
 same-length c = c .before .loop .inv .0 .size
 
 returns : tie.Need-returns Inv-loop μ-loop
 returns c =
-    let e : c .before .loop .m ≡ 384 = omega arith in
+    let e : c .before .loop .k ≡ 384 = omega arith in
     rw e at (c .before .loop .inv .0)
 
 pub pass-spec : {M : Type 1} → statement M
@@ -56,7 +56,7 @@ pass-spec =
     sub-row
     row-requires
     both-requires
-    add-m
+    add-k
     loop-less
     loop-again
     same-length

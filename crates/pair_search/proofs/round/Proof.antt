@@ -17,7 +17,7 @@ loop-holds : tie.Need-loop-holds Inv-loop μ-loop
 loop-holds c = (round-none _ _, omega arith)
 
 prepare-requires : tie.Need-prepare-requires Inv-loop μ-loop
-prepare-requires c κs = (omega (arith, c .before .before .loop .inv .0 .size, c .before .before .before .before .before .pre .0), c .before .loop-test .taken)
+prepare-requires c κs = (omega (arith, c .before .before .loop .inv .0 .size, c .before .before .before .before .before .pre .0), omega arith)
 
 settle-requires : tie.Need-settle-requires Inv-loop μ-loop
 settle-requires c κs =
