@@ -249,24 +249,31 @@ no-second h = stays (record { cell = λ p q. absurd (h q) })
 pub no-first : {G : Rules → Type 0} {ns : List ℕ} {i n m : ℕ} {t : List ℕ} → (Present ns i → ⊥) → Ran G (RowOf ns i n m) t t true
 no-first h = stays (record { row = λ j k l. record { cell = λ p q. absurd (h p) } })
 
+-- two nodes that stand there
+pub pair-there : {ns : List ℕ} {i j : ℕ} {x y : Node} → i < 384 → j < 384 → Present ns i → Present ns j → x ≡ nodeAt ns i
+    → y ≡ nodeAt ns j → (g : Rules) → NodesOf g ns → PairOf x y i j g
+pair-there {ns} {i} {j} {x} {y} hi hj pi pj ex ey g o =
+    let a = o .only i hi pi in
+    let b = o .only j hj pj in
+    record {
+      head₁ = a .head;
+      head₂ = b .head;
+      node₁ = subst (NodeOf g (a .head)) (sym ex) (a .node);
+      node₂ = subst (NodeOf g (b .head)) (sym ey) (b .node);
+      number₁ = sym (a .number);
+      number₂ = sym (b .number);
+    }
+
 pub cell-ran : {ns : List ℕ} {i j n : ℕ} {t u : List ℕ} {r : Bool} {x y : Node} → i < 384 → j < 384 → Present ns i
     → Present ns j → x ≡ nodeAt ns i → y ≡ nodeAt ns j → Ran (PairOf x y i j) (Met x y i j n) t u r
     → Ran (λ g. NodesOf g ns) (Cell ns i j n) t u r
-cell-ran {ns} {i} {j} {n} {t} {x = x} {y} hi hj pi pj ex ey a =
-    ran-of pair (λ m. record { cell = λ p q. subst (λ (v : Node). Met v (nodeAt ns j) i j n t) ex (subst (λ (v : Node). Met x v i j n t) ey m) }) a
-  where
-    pair : (g : Rules) → NodesOf g ns → PairOf x y i j g
-    pair g o =
-        let a = o .only i hi pi in
-        let b = o .only j hj pj in
-        record {
-          head₁ = a .head;
-          head₂ = b .head;
-          node₁ = subst (NodeOf g (a .head)) (sym ex) (a .node);
-          node₂ = subst (NodeOf g (b .head)) (sym ey) (b .node);
-          number₁ = sym (a .number);
-          number₂ = sym (b .number);
-        }
+cell-ran {ns} {i} {j} {n} {t} {x = x} hi hj pi pj ex ey a =
+    ran-of (pair-there hi hj pi pj ex ey)
+    (λ m.
+    record {
+      cell = λ p q.
+          subst (λ (v : Node). Met v (nodeAt ns j) i j n t) ex (subst (λ (v : Node). Met x v i j n t) ey m);
+    }) a
 
 pub apt : (ns : List ℕ) (i : ℕ) {x : Node} → x ≡ nodeAt ns i → Small x → Apt x
 apt ns i e s = record { small = s; kids = omega (arith, ap (λ (v : Node). v .kids) e) }

@@ -73,13 +73,16 @@ pub record RowOf (ns : List ℕ) (i n m : ℕ) (t : List ℕ) : Type 0 where
 pub record RowsRun (ns : List ℕ) (n m : ℕ) (t : List ℕ) : Type 0 where
   pub rows : (i : ℕ) → i < 384 → 384 ≤ i + m → RowOf ns i n 384 t
 
--- steps of two nodes, over the frame of an entry and over those of n entries
+-- steps of two nodes, over the frame of an entry, over those of n entries, over some
 abbrev pub EntryRan : Node → Node → ℕ → ℕ → ℕ → List ℕ → List ℕ → Bool → Type 0
 EntryRan x y i j k old new r =
     Ran (PairOf x y i j) (λ t. Settled x y i j (frameAt (codeAt t k)) t) old new r
 
 abbrev pub MetRan : Node → Node → ℕ → ℕ → ℕ → List ℕ → List ℕ → Bool → Type 0
 MetRan x y i j n old new r = Ran (PairOf x y i j) (Met x y i j n) old new r
+
+abbrev pub SomeRan : Node → Node → ℕ → ℕ → List ℕ → List ℕ → Bool → Type 0
+SomeRan x y i j old new r = Ran (PairOf x y i j) (λ t. Unit {0}) old new r
 
 -- steps of nodes in their places: of two, of one with all, of all with all, of some
 abbrev pub CellRan : List ℕ → ℕ → ℕ → ℕ → List ℕ → List ℕ → Bool → Type 0

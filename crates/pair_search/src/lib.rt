@@ -1,5 +1,6 @@
 // The search: steps of all pairs of nodes over all frames, until no step adds to the table.
 use pair_steps::Node;
+use pair_steps::Words;
 ghost use mathlib.Core.Path.{_≡_};
 ghost use mathlib.Core.Bool.{_&&_};
 ghost use Prim.Native.Nat.{_+_, _*_, _≤_, _<_};
@@ -9,7 +10,7 @@ ghost use Rattle.pair_nodes.specs.Slots.{nodeAt, Present};
 ghost use Rattle.pair_entries.specs.Entries.{searchWords};
 ghost use Rattle.pair_search.specs.Filling.{FilledTable};
 ghost use Rattle.pair_search.specs.Running.{Apt, Ready, EntryRan, MetRan, CellRan};
-ghost use Rattle.pair_search.specs.Running.{RowRan, RowsRan, Quick, Rested};
+ghost use Rattle.pair_search.specs.Running.{RowRan, RowsRan, SomeRan, Quick, Rested};
 ghost use Rattle.pair_search.specs.Running.{BothSettled, Round, Searched, ClearedTo};
 
 fn both(x: bool, y: bool) -> bool
@@ -165,6 +166,28 @@ fn touched(marks: &[u64; 1024], x: Node, y: Node, i: usize, j: usize) -> bool
     ((a | c) & ky) | (b & kx) != 0
 }
 
+// Can two nodes with these words be related at all? Each meets a child of the other, if there is one,
+// and if both have children, two of these meet.
+fn can_meet(w: Words, kx: u8, ky: u8) -> bool {
+    if kx != 0 {
+        if w.yc | w.yd == 0 {
+            return false;
+        }
+    }
+    if ky != 0 {
+        if w.xc | w.xd == 0 {
+            return false;
+        }
+    }
+    if kx == 0 {
+        return true;
+    }
+    if ky == 0 {
+        return true;
+    }
+    w.cc | w.cd | w.dc | w.dd != 0
+}
+
 // Marks the words of the shape `i` and the nonterminal `a` with the nonterminal `b`, if some were
 // added to.
 fn mark(marks: &mut [u64; 1024], had: bool, i: usize, a: u8, b: u8)
@@ -189,8 +212,20 @@ fn age(marks: &mut [u64; 1024]) {
     }
 }
 
-// Steps of the node `x` with the number `i` and the node `j`, if there is one and they read a word
-// that has changed. Had the table all?
+// Steps of two nodes over the frames of all entries, if they can meet. Had the table all?
+fn meet_if(words: &mut [u64], n: usize, x: Node, y: Node, i: usize, j: usize) -> bool
+    requires { ⌜ Ready (now words) n × Apt x × Apt y × (i < 384) × (j < 384) ⌝ }
+    ensures { λ r. ⌜ SomeRan x y i j (now (words .entry)) (now (words .exit)) r ⌝ }
+{
+    let w = pair_tables::words_of(words, x, y, i, j);
+    if can_meet(w, x.kids, y.kids) {
+        return meet(words, n, x, y, i, j);
+    }
+    true
+}
+
+// Steps of the node `x` with the number `i` and the node `j`, if there is one, they read a word that
+// has changed, and can meet. Had the table all?
 fn quick_cell(
     nodes: &[u64],
     words: &mut [u64],
@@ -207,7 +242,7 @@ fn quick_cell(
     if pair_nodes::present(nodes, j) {
         let y = pair_nodes::node_at(nodes, j);
         if touched(marks, x, y, i, j) {
-            let had = cell(nodes, words, n, x, i, j);
+            let had = meet_if(words, n, x, y, i, j);
             mark(marks, had, i, x.sort, y.sort);
             return had;
         }
