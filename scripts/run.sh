@@ -163,6 +163,13 @@ explain() { # PROGRAM INPUT ANSWER LINE
     fi
 }
 
+# Between which rules the test at every length cannot tell, on standard error. The finder's unknown has no entries.
+doubts() { # PROGRAM INPUT
+    if [ "$1" = calls ] && command -v python3 >/dev/null 2>&1; then
+        printf '%s\n' "$out" | python3 "$top/scripts/doubts.py" "$2" >&2
+    fi
+}
+
 # Puts FRONT and the input, as far as any program reads it, into a file of our own.
 spool() { # FRONT FILE
     { printf '%s' "$1" && head -c 16385; } >"$lend/input" || {
@@ -195,6 +202,9 @@ answer() { # PROGRAM FRONT FILE
     refused-*)
         worse 1
         if [ "$words" = 1 ]; then explain "$1" "$lend/input" "${line% *}" "${line##* }"; fi
+        ;;
+    unknown*)
+        if [ "$words" = 1 ]; then doubts "$1" "$lend/input"; fi
         ;;
     esac
 }

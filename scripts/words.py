@@ -26,6 +26,8 @@ CALLS = {
     "merge": ["call", "report", "report"],
     "columns": ["call", "rule sheet", "range sheet"],
     "places": ["call", "rule sheet", "token sheet"],
+    "always": ["call", "rule sheet"],
+    "clauses-always": ["call", "clause sheet"],
     "show": ["call", "rule sheet", "token sheet", "rights sheet"],
     "change": ["call", "rule sheet", "rights sheet"],
 }

@@ -60,6 +60,9 @@ REPORT = b"answer line\nclear 0\nquotient remainder number\n20 3 -\n"
 CALLS = [
     (["rows"], b"call\nrows\n", GOOD),
     (["places"], b"call\nplaces\n", GOOD),
+    (["always"], b"call\nalways\n", RULES),
+    (["always"], b"call\nalways\n", RULES.replace(b"0 B 0 0", b"0 B 1 0") + b"1 A 0 - none\n"),
+    (["clauses-always"], b"call\nclauses-always\n", CLAUSES),
     (["clauses"], b"call\nclauses\n", CLAUSES + TOKENS),
     (["expand"], b"call\nexpand\n", CLAUSES),
     (["clauses-sweep", "3"], b"call bound\nclauses 3\n", CLAUSES),
@@ -80,7 +83,7 @@ class Calls(Room):
     def test_each_call(self):
         for words, sheet, data in CALLS:
             output = calls.calls_program(sheet + b"\n" + data)
-            self.assertIn(output.split(b" ")[1].split(b"\n")[1], (b"two", b"given", b"clear"), words)
+            self.assertIn(output.split(b" ")[1].split(b"\n")[1], (b"two", b"given", b"clear", b"unknown"), words)
             self.assertEqual(run(CALL, *words, data=data), (0, output, ""), words)
             self.assertEqual(run(CALL, *words, self.file("input", data)), (0, output, ""), words)
 
@@ -100,6 +103,24 @@ class Calls(Room):
         for count in (16_384, 16_385):
             data = (b"call\nrows\n\n" + GOOD).ljust(count, b"x")
             self.assertEqual(run(BUILT / "calls", data=data)[1], calls.calls_program(data))
+
+    def test_doubts_in_words(self):
+        front = "unknown: the test cannot tell that no sentence has two trees; some sentence may, where\n"
+        status, out, errors = run(CALL, "-v", "always", data=RULES)
+        self.assertEqual((status, out), (0, calls.calls_program(b"call\nalways\n\n" + RULES)))
+        cuts = "  rule 1 of nonterminal 0 may part a word at two places:\n    rule 1: 0 B 0 0 none\n"
+        self.assertEqual(errors, front + cuts)
+        status, out, errors = run(CALL, "-v", "clauses-always", data=b"left clause\n0 t0? | t0?\n")
+        self.assertEqual(status, 0)
+        pair = "    expanded rule 1: 0 U 1 - none\n    expanded rule 2: 0 U 4 - none\n"
+        rules = f"  rules 1 and 2 of nonterminal 0 may read the same words:\n{pair}"
+        empty = f"  rules 1 and 2 of nonterminal 0 both have the empty word:\n{pair}"
+        self.assertEqual(errors, front + rules + empty)
+        self.assertEqual(run(CALL, "-v", "always", data=RULES.replace(b"0 B 0 0", b"0 U 1 -"))[2], "")
+        many = b"".join(b"0 U %d - none\n%d A 0 - none\n" % (n, n) for n in range(1, 9))
+        errors = run(CALL, "-v", "always", data=RULES[:27] + many)[2]
+        self.assertTrue(errors.endswith("\n  and 8 entries more\n"), errors)
+        self.assertEqual(run(CALL, "always", data=RULES)[2], "")
 
     def test_marks_of_a_change(self):
         rights = b"\nuser low high may\n5 0 63 change\n"
@@ -353,11 +374,12 @@ class Programs(Room):
 
     def test_the_stack_that_README_states(self):
         nested = b"left clause\n0 " + b"(n0 " * 15 + b"(n0" + b" n0" * 60 + b")" * 16 + b"\n"
-        called = b"call\nclauses\n\n" + nested + TOKENS
+        called, told = b"call\nclauses\n\n" + nested + TOKENS, b"call\nclauses-always\n\n" + nested
         for name, size, data, wanted in (
             ("checker", 640, GOOD, TWO),
             ("sweeper", 320, SWEPT, teplonga.sweep_program(SWEPT)),
-            ("calls", 1120, called, calls.calls_program(called)),
+            ("calls", 1500, called, calls.calls_program(called)),
+            ("calls", 1500, told, calls.calls_program(told)),
         ):
             self.assertEqual(run("sh", "-c", f"ulimit -s {size} && '{BUILT / name}'", data=data), (0, wanted, ""))
 
