@@ -17,9 +17,8 @@ from reading.spelling import Names
 
 COMMAND = "bin/teplonga"
 ABOUT = """A rule sheet or a clause sheet, told by its first line: is there a patch that can be read
-in two ways? Asks `always` where that call stands, then the sweep at the largest bound that is not
-refused, then the finder where it stands, and says in a sentence what is known, what told it and
-what of it is proved. For two readings the patch follows, on its lines and columns, and both
+in two ways? Asks `always`, then the sweep at the largest bound that is not refused, then the finder,
+and says in a sentence what is known, what told it and what of it is proved. For two readings the patch follows, on its lines and columns, and both
 readings."""
 EXITS = """Exit status: 0 clear at every length, 4 two readings, 5 not told beyond some length, 1 a
 refusal, 2 bad usage, 3 no answer."""

@@ -106,10 +106,7 @@ ready() {
     is_finder_built || build_finder
 }
 
-# The test for every length guides the search where the program `calls` is built.
 run() {
-    calls=''
-    if is_built calls; then calls=$top/target/bin/calls; fi
     "$top/target/bin/finder" --seconds "$seconds" --to "$to" --memory "$memory" \
-        ${solver:+--solver "$solver"} ${calls:+--calls "$calls"}
+        ${solver:+--solver "$solver"}
 }

@@ -13,7 +13,7 @@ from reading.sheets import is_clauses, tokens_of
 from reading.spelling import count_of
 
 LARGEST_BOUND = 7
-TOO_LARGE, NO_SUCH_CALL = 24, 32
+TOO_LARGE = 24
 NO_TOKENS = b"term line col\n"
 
 
@@ -61,15 +61,10 @@ class Inquiry(NamedTuple):
 
 
 def always(sheet):
-    """The test that clears a sheet at every length, where the program has it."""
+    """The test that clears a sheet at every length."""
     call = b"call\nclauses-always\n" if sheet.is_clauses else b"call\nalways\n"
     sheet.say("asking whether it is clear at every length")
-    try:
-        word, _ = sheet.word(sheet.programs.answer("calls", sheet.data, call=call))
-    except Refused as refused:
-        if refused.refusal.number == NO_SUCH_CALL:
-            return None
-        raise
+    word, _ = sheet.word(sheet.programs.answer("calls", sheet.data, call=call))
     proved = "proved of every patch, whatever its length"
     return Known("clear", "`always`", proved) if word == "clear" else None
 

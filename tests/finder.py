@@ -66,6 +66,15 @@ GROWING = (
     + b"".join(b"%d A 0 - none\n" % a for a in range(1, 6))
 )
 
+# 128 rules under which nearly everything meets everything
+DENSE = (
+    RULES
+    + b"".join(
+        b"%d B %d %d none\n" % (a, b, c) for a in range(5) for b in range(5) for c in range(5)
+    )
+    + b"0 A 0 - none\n0 E - - none\n1 A 0 - none\n"
+)
+
 
 def run(*words, data=None, timeout=120, **more):
     """A command's status, output and errors."""
@@ -82,8 +91,8 @@ def find(*words, **more):
 
 
 def unguided(path, *words, **more):
-    """The finder by itself, which does not ask the test for every length."""
-    return run(FINDER, *words, data=path.read_bytes(), **more)
+    """The finder without the test for every length."""
+    return run(FINDER, "--guide", "none", *words, data=path.read_bytes(), **more)
 
 
 def has_two(path, tokens):
@@ -124,7 +133,8 @@ class Variants(unittest.TestCase):
             path, words = SHEETS / f"{name}.rules", ["--seconds", "600", "--to", most]
             said = f"nothing found up to {most} tokens\n"
             self.assertEqual(unguided(path, *words, timeout=900), (0, UNKNOWN, said), name)
-            self.assertEqual(find(*words, path, timeout=900)[:2], (0, UNKNOWN), name)
+            clear = "nothing to be found: the test for every length says clear\n"
+            self.assertEqual(find(*words, path, timeout=900), (0, UNKNOWN, clear), name)
 
     def test_the_sentence_that_README_shows(self):
         text = (TOP / "README.md").read_text()
@@ -235,6 +245,7 @@ class Inputs(unittest.TestCase):
             ["--seconds", "inf"],
             ["--to", "65"],
             ["--memory", "1e3"],
+            ["--guide", "never"],
             ["--nope", "1"],
         ):
             self.assertEqual(run(FINDER, *words, data=PLAIN)[:2], (2, b""), words)
@@ -268,7 +279,8 @@ class Limits(unittest.TestCase):
             with tempfile.TemporaryFile() as data:
                 data.write(GROWING)
                 data.seek(0)
-                words = [FINDER, "--memory", str(most), "--seconds", "600", "--to", "64"]
+                words = [FINDER, "--guide", "none", "--memory", str(most)]
+                words += ["--seconds", "600", "--to", "64"]
                 with subprocess.Popen(
                     words, stdin=data, stdout=subprocess.PIPE, stderr=subprocess.PIPE
                 ) as child:
@@ -284,7 +296,7 @@ class Limits(unittest.TestCase):
 
 
 class Others(unittest.TestCase):
-    """The programs that the finder asks: the test for every length, and a solver."""
+    """What the finder asks: the test for every length, and a solver."""
 
     def setUp(self):
         self.room = Path(tempfile.mkdtemp())
@@ -296,29 +308,19 @@ class Others(unittest.TestCase):
         path.chmod(0o755)
         return path
 
-    def guided(self, answer, sheet=PLAIN, *words):
-        calls = self.program(f"cat > '{self.room}/asked'; printf '{answer}'")
-        ended = run(FINDER, "--calls", calls, *words, data=sheet)
-        self.assertEqual((self.room / "asked").read_bytes(), b"call\nalways\n\n" + sheet)
-        return ended
-
-    def test_places_guide_the_search(self):
-        found = find(data=PLAIN)
-        at = "answer line\\nunknown 0\\nleft first second why\\n"
-        self.assertEqual(self.guided(at + "0 1 1 cuts\\n"), found)
-        self.assertEqual(self.guided("answer line\\nrefused-32 0\\n"), found)
-        # a place at which nothing parts: that nothing is found shows that nothing else is looked at
-        self.assertEqual(
-            self.guided(at + "0 1 2 rules\\n", PLAIN, "--to", "6"),
-            (0, UNKNOWN, "nothing found up to 6 tokens\n"),
-        )
+    def test_the_test_for_every_length_guides_the_search(self):
+        for name, (length, _, _) in VARIANTS.items():
+            path = SHEETS / "variants" / f"{name}.rules"
+            status, out, errors = unguided(path, "--seconds", "600", timeout=900)
+            self.assertEqual((status, errors), (0, ""), name)
+            self.assertEqual(len(out.splitlines()) - 3, length, name)
+        # what is clear at every length is not looked at, however little time there is
         clear = (0, UNKNOWN, "nothing to be found: the test for every length says clear\n")
-        self.assertEqual(self.guided("answer line\\nclear 0\\n"), clear)
+        self.assertEqual(find("--seconds", "2", "--to", "64", SHEETS / "yaml.rules"), clear)
 
-    def test_a_test_that_takes_too_long_is_ended(self):
-        calls = self.program("exec sleep 1000")
-        ended = run(FINDER, "--calls", calls, "--seconds", "0.2", data=PLAIN)
-        self.assertEqual(ended, (0, UNKNOWN, "nothing found: the 0.2 seconds are over\n"))
+    def test_a_test_that_takes_too_long_is_given_up(self):
+        ended = find("--seconds", "0.01", data=DENSE)
+        self.assertEqual(ended, (0, UNKNOWN, "nothing found: the 0.01 seconds are over\n"))
 
     @unittest.skipUnless(shutil.which("cadical"), "cadical is not installed: not tested with it")
     def test_cadical(self):

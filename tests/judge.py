@@ -16,7 +16,7 @@ from pathlib import Path
 
 TOP = Path(__file__).resolve().parent.parent
 CALL, DRAW = TOP / "bin" / "teplonga", TOP / "bin" / "draw"
-EXAMPLES = TOP / "examples"
+EXAMPLES, SHEETS = TOP / "examples", TOP / "bench" / "sheets"
 sys.path[:0] = [str(TOP / "scripts"), str(TOP / "tests")]
 
 from asking import Programs, Refused  # noqa: E402
@@ -34,22 +34,11 @@ SINGLE = b"left kind first second lay\n0 A 0 - none\n"
 PROGRAMS = Programs("tests/judge.py")
 
 
-def judge(*words, data=b"", top=TOP, **more):
-    words = (top / "bin" / "teplonga", "judge", "--seconds", 1, *words)
+def judge(*words, data=b"", top=TOP, seconds=1):
+    words = (top / "bin" / "teplonga", "judge", "--seconds", seconds, *words)
     command = [str(word) for word in words]
-    ended = subprocess.run(
-        command, input=data, capture_output=True, check=False, timeout=120, **more
-    )
+    ended = subprocess.run(command, input=data, capture_output=True, check=False, timeout=300)
     return ended.returncode, ended.stdout.decode(), ended.stderr.decode()
-
-
-def has_always():
-    try:
-        return PROGRAMS.answer("calls", SINGLE, call=b"call\nalways\n").startswith(
-            b"answer line\nclear"
-        )
-    except Refused:
-        return False
 
 
 class Told(unittest.TestCase):
@@ -86,24 +75,22 @@ class Told(unittest.TestCase):
         self.assertIn("\n(no tokens)\n", out)
         self.assertIn("ε", out)
 
-    @unittest.skipIf(has_always(), "`always` tells more")
-    def test_clear_so_far(self):
-        status, out, _ = judge(data=REPAIRED)
-        front = "clear up to 6 tokens, not told beyond: told by the sweep; "
-        self.assertEqual(
-            (status, out),
-            (5, f"{front}proved of every patch of up to 6 tokens, wherever they stand\n"),
-        )
+    def test_clear(self):
+        clear = "clear at every length: told by `always`; "
+        said = f"{clear}proved of every patch, whatever its length\n"
+        self.assertEqual(judge(data=REPAIRED), (0, said, ""))
         status, out, _ = judge("--draw", self.room / "out", data=REPAIRED)
-        self.assertEqual((status, list(self.room.iterdir())), (5, []))
+        self.assertEqual((status, out, list(self.room.iterdir())), (0, said, []))
 
-    def test_the_examples(self):
-        known = {"block.clauses": True, "block-repaired.clauses": False}
-        known |= {"yaml.clauses": False, "haskell.clauses": False}
-        fronts = {0: "clear at every length: ", 4: "two readings: ", 5: "clear up to "}
-        for path in sorted(EXAMPLES.glob("*.clauses")):
-            status, out, _ = judge(path)
-            self.assertEqual(status == 4, known.get(path.name, status == 4), path)
+    def test_the_papers_grammars_and_their_variants(self):
+        """Clear at every length, or a patch with two readings, of each."""
+        clear = {"block-repaired", "yaml", "haskell", "fsharp"}
+        paths = [*EXAMPLES.glob("*.clauses"), *SHEETS.glob("*.rules")]
+        paths += SHEETS.glob("variants/*.rules")
+        fronts = {0: "clear at every length: told by `always`; ", 4: "two readings: told by "}
+        for path in sorted(paths):
+            status, out, _ = judge(path, seconds=60)
+            self.assertEqual(status, 0 if path.stem in clear else 4, path)
             self.assertTrue(out.startswith(fronts[status]), out)
 
     def test_a_refusal_has_its_words(self):

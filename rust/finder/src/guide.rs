@@ -1,8 +1,11 @@
 //! Where two trees can part, as far as the test for every length tells.
 
 use std::collections::BTreeMap;
+use std::sync::mpsc;
+use std::thread;
 
-use crate::child;
+use teplonga::{always, Answer, Doubt, Why, ALWAYS_WORDS, DOUBT, MOST_DOUBTS};
+
 use crate::limits::{Limits, Stop};
 
 /// More pairs of rules of a nonterminal than so many say nothing: any two choices may part there.
@@ -11,7 +14,7 @@ const MOST_PAIRS: usize = 8;
 /// What the test says of a sheet.
 #[derive(Clone, Debug, PartialEq, Eq)]
 pub enum Guide {
-    /// It was not asked or did not answer: trees may part anywhere.
+    /// It was not asked: trees may part anywhere.
     Everywhere,
     /// No sentence of any length has two trees.
     Clear,
@@ -34,44 +37,37 @@ impl Guide {
     }
 }
 
-/// Asks the program `calls` for the call `always` on a rule sheet. A program that has no such call,
-/// or refuses the sheet for its size, leaves the search without a guide.
-pub fn places(calls: Option<&str>, rules: &[u8], limits: &Limits) -> Result<Guide, Stop> {
-    let Some(program) = calls else { return Ok(Guide::Everywhere) };
-    let input = [b"call\nalways\n\n", rules].concat();
-    let answer = child::answer(program, move |out| out.write_all(&input), limits)?;
-    let text = String::from_utf8(answer.unwrap_or_default()).unwrap_or_default();
-    Ok(read(&text).unwrap_or(Guide::Everywhere))
+/// What the library's call `always` says of a rule sheet.
+///
+/// The call cannot be interrupted, so it has a thread of its own; nobody waits for it where the
+/// time is up.
+pub fn places(rules: &[u8], limits: &Limits) -> Result<Guide, Stop> {
+    limits.look()?;
+    let (sheet, (sent, received)) = (rules.to_vec(), mpsc::channel());
+    thread::spawn(move || drop(sent.send(told(&sheet))));
+    received.recv_timeout(limits.left()).map_err(|_| Stop::Time)
 }
 
-/// The guide of an answer; none where it is not as that call answers.
-fn read(answer: &str) -> Option<Guide> {
-    let mut lines = answer.lines();
-    if lines.next()? != "answer line" {
-        return None;
+/// The guide of a sheet; none of one that is refused.
+fn told(rules: &[u8]) -> Guide {
+    let (mut words, mut list) = (vec![0; ALWAYS_WORDS], vec![0; DOUBT * MOST_DOUBTS]);
+    let reply = always(rules, &mut words, &mut list);
+    match reply.answer {
+        Answer::Clear => Guide::Clear,
+        Answer::Unknown => Guide::At(by_nonterminal(reply.doubts)),
+        _ => Guide::Everywhere,
     }
-    match lines.next()? {
-        "clear 0" => return Some(Guide::Clear),
-        "unknown 0" => {}
-        _ => return None,
-    }
-    if lines.next()? != "left first second why" {
-        return None;
-    }
+}
+
+/// The pairs of rules, by their places from 0. Two trees of the empty word are left out: shapes with
+/// an empty side know of them.
+fn by_nonterminal(doubts: impl Iterator<Item = Doubt>) -> BTreeMap<usize, Vec<(usize, usize)>> {
     let mut places: BTreeMap<usize, Vec<(usize, usize)>> = BTreeMap::new();
-    for line in lines {
-        let fields: Vec<&str> = line.split(' ').collect();
-        let &[left, first, second, why] = fields.as_slice() else { return None };
-        let place = |field: &str| field.parse::<usize>().ok()?.checked_sub(1);
-        let pair = (place(first)?, place(second)?);
-        match why {
-            "rules" | "cuts" => places.entry(left.parse().ok()?).or_default().push(pair),
-            // two trees of the empty word: shapes with an empty side know of them
-            "empty" => {}
-            _ => return None,
-        }
+    for Doubt { nonterminal, first, second, .. } in doubts.filter(|it| it.why != Why::Empty) {
+        let pair = (usize::from(first) - 1, usize::from(second) - 1);
+        places.entry(nonterminal.into()).or_default().push(pair);
     }
-    Some(Guide::At(places))
+    places
 }
 
 #[cfg(test)]
@@ -79,33 +75,36 @@ mod tests {
     use super::*;
     use std::time::Duration;
 
+    fn guide(rules: &str) -> Guide {
+        let limits = Limits::new(Duration::from_secs(3600), usize::MAX);
+        let sheet = format!("left kind first second lay\n{rules}");
+        places(sheet.as_bytes(), &limits).expect("an hour is enough")
+    }
+
     #[test]
-    fn answers_are_read() {
-        assert_eq!(read("answer line\nclear 0\n"), Some(Guide::Clear));
-        let entries = "left first second why\n0 1 2 rules\n0 3 3 cuts\n5 7 8 empty\n6 9 10 rules\n";
-        let guide = read(&format!("answer line\nunknown 0\n{entries}")).unwrap();
-        assert_eq!(guide.pairs(0), Some(&[(0, 1), (2, 2)][..]));
-        assert_eq!(guide.pairs(5), Some(&[][..]));
-        assert_eq!(guide.pairs(6), Some(&[(8, 9)][..]));
+    fn the_test_is_asked() {
+        assert_eq!(guide("0 A 0 - none\n"), Guide::Clear);
+        let cuts = guide("0 B 0 0 none\n0 A 0 - none\n");
+        assert_eq!(cuts.pairs(0), Some(&[(0, 0)][..]));
+        assert_eq!(cuts.pairs(1), Some(&[][..]));
+        let rules = guide("0 U 1 - none\n0 U 2 - none\n1 A 0 - none\n2 A 0 - none\n");
+        assert_eq!(rules.pairs(0), Some(&[(0, 1)][..]));
+        let empty = guide("0 U 1 - none\n0 U 2 - none\n1 E - - none\n2 E - - none\n");
+        assert_eq!(empty.pairs(0), Some(&[][..]));
+        assert_eq!(guide("x"), Guide::Everywhere);
         assert_eq!(Guide::Everywhere.pairs(0), None);
-        let other = ["", "answer line\nrefused-32 0\n", "answer line\nunknown 0\nleft first\n"];
-        assert!(other.iter().all(|answer| read(answer).is_none()));
-        let odd = "answer line\nunknown 0\nleft first second why\n0 0 1 rules\n";
-        assert_eq!(read(odd), None);
     }
 
     #[test]
     fn many_pairs_are_any() {
-        let lines: String = (1..=9).map(|rule| format!("0 {rule} 10 rules\n")).collect();
-        let answer = format!("answer line\nunknown 0\nleft first second why\n{lines}");
-        assert_eq!(read(&answer).unwrap().pairs(0), None);
+        let rules: String =
+            (1..=5).map(|at| format!("0 U {at} - none\n{at} A 0 - none\n")).collect();
+        assert_eq!(guide(&rules).pairs(0), None);
     }
 
     #[test]
-    fn without_the_call_it_is_everywhere() {
-        let limits = Limits::new(Duration::from_secs(3600), usize::MAX);
-        assert_eq!(places(None, b"", &limits), Ok(Guide::Everywhere));
-        assert_eq!(places(Some("cat"), b"", &limits), Ok(Guide::Everywhere));
-        assert_eq!(places(Some("no such program"), b"", &limits), Ok(Guide::Everywhere));
+    fn the_time_counts() {
+        let limits = Limits::new(Duration::ZERO, usize::MAX);
+        assert_eq!(places(b"", &limits), Err(Stop::Time));
     }
 }

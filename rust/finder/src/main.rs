@@ -5,11 +5,11 @@ use std::io::{self, Read, Write};
 use std::process::ExitCode;
 use std::time::Duration;
 
-use finder::{places, Finder, Found, Limits, Stop};
+use finder::{places, Finder, Found, Guide, Limits, Stop};
 use teplonga::{clauses, verdict, words_for, Reply, MOST_TOKENS};
 
 const USAGE: &str = "usage: finder [--seconds S] [--to N] [--memory MB] [--solver PROGRAM] \
-    [--calls PROGRAM] < SHEET";
+    [--guide always|none] < SHEET";
 
 /// The most bytes of an input, as of the other programs.
 const MOST_INPUT: usize = 16_384;
@@ -24,13 +24,14 @@ struct Options {
     to: usize,
     memory: usize,
     solver: Option<String>,
-    calls: Option<String>,
+    is_guided: bool,
 }
 
 impl Options {
     /// The options of these words; none where they are no options.
     fn of(words: &[String]) -> Option<Options> {
-        let mut options = Options { seconds: 10.0, to: 24, memory: 512, solver: None, calls: None };
+        let mut options =
+            Options { seconds: 10.0, to: 24, memory: 512, solver: None, is_guided: true };
         for pair in words.chunks(2) {
             let [name, value] = pair else { return None };
             match name.as_str() {
@@ -38,7 +39,7 @@ impl Options {
                 "--to" => options.to = number(value, 1, MOST_TOKENS)?,
                 "--memory" => options.memory = number(value, 1, 8192)?,
                 "--solver" => options.solver = Some(value.clone()),
-                "--calls" => options.calls = Some(value.clone()),
+                "--guide" => options.is_guided = guided(value)?,
                 _ => return None,
             }
         }
@@ -51,6 +52,15 @@ fn seconds(word: &str) -> Option<f64> {
     let plain = word.bytes().all(|byte| byte.is_ascii_digit() || byte == b'.');
     let value: f64 = word.parse().ok().filter(|_| plain)?;
     (value <= 86_400.0).then_some(value)
+}
+
+/// Is the test for every length to guide the search?
+fn guided(word: &str) -> Option<bool> {
+    match word {
+        "always" => Some(true),
+        "none" => Some(false),
+        _ => None,
+    }
 }
 
 fn number(word: &str, least: usize, most: usize) -> Option<usize> {
@@ -80,7 +90,8 @@ fn rules_of(input: Vec<u8>) -> Result<Vec<u8>, String> {
 
 /// What came of looking. The guide's time counts too.
 fn looked(rules: &[u8], options: &Options, limits: &mut Limits) -> Found {
-    match places(options.calls.as_deref(), rules, limits) {
+    let guide = if options.is_guided { places(rules, limits) } else { Ok(Guide::Everywhere) };
+    match guide {
         Ok(guide) => Finder::new(rules, options.to, guide, options.solver.as_deref()).find(limits),
         Err(stop) => Found::Nothing { up_to: 0, unconfirmed: Vec::new(), stop: Some(stop) },
     }
