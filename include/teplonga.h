@@ -43,9 +43,10 @@ extern "C" {
 #define TEPLONGA_STACK 1048576
 
 /*
- * Each call but teplonga_merge and those for a refused line answers one number: the answer's code in its upper 32 bits and the refused line's
- * number in its lower 32 bits. The line counts from 1 in its sheet; it is 0 where there is no such
- * line, and 4,294,967,295 also stands for all later lines.
+ * Each call but teplonga_merge and those for a refused line answers one number: the answer's code
+ * in its upper 32 bits and the refused line's number in its lower 32 bits. The line counts from 1
+ * in its sheet; it is 0 where there is no such line, and 4,294,967,295 also stands for all later
+ * lines.
  */
 #define TEPLONGA_CODE(answer) ((uint64_t)(answer) >> 32)
 #define TEPLONGA_LINE(answer) ((uint64_t)(answer) & 0xFFFFFFFFu)

@@ -630,15 +630,21 @@ static void shares(void)
 
 static void merges(void)
 {
-    const uint64_t two = coded(TEPLONGA_TWO, 0), clear = coded(TEPLONGA_CLEAR, 0), refused = coded(TEPLONGA_RULE_TWICE, 4);
+    const uint64_t two = coded(TEPLONGA_TWO, 0), clear = coded(TEPLONGA_CLEAR, 0);
+    const uint64_t refused = coded(TEPLONGA_RULE_TWICE, 4), other = coded(TEPLONGA_BAD_SHARE, 0);
 
     CHECK(teplonga_merge(clear, 0, 0, clear, 0, 0) == 0);
-    CHECK(teplonga_merge(clear, 0, 0, two, 11, 3) == 1 && teplonga_merge(two, 11, 3, clear, 0, 0) == 0);
-    CHECK(teplonga_merge(two, 12, 3, two, 11, 3) == 1 && teplonga_merge(two, 11, 3, two, 12, 3) == 0);
+    CHECK(teplonga_merge(clear, 0, 0, two, 11, 3) == 1);
+    CHECK(teplonga_merge(two, 11, 3, clear, 0, 0) == 0);
+    CHECK(teplonga_merge(two, 12, 3, two, 11, 3) == 1);
+    CHECK(teplonga_merge(two, 11, 3, two, 12, 3) == 0);
     CHECK(teplonga_merge(two, 11, 3, two, 11, 3) == 0);
-    CHECK(teplonga_merge(two, 11, 3, two, 99, 2) == 1 && teplonga_merge(two, 99, 2, two, 11, 3) == 0);
-    CHECK(teplonga_merge(two, 11, 3, refused, 0, 0) == 1 && teplonga_merge(refused, 0, 0, two, 11, 3) == 0);
-    CHECK(teplonga_merge(refused, 0, 0, coded(TEPLONGA_BAD_SHARE, 0), 0, 0) == 0);
+    CHECK(teplonga_merge(two, 11, 3, two, 99, 2) == 1);
+    CHECK(teplonga_merge(two, 99, 2, two, 11, 3) == 0);
+    CHECK(teplonga_merge(two, 11, 3, refused, 0, 0) == 1);
+    CHECK(teplonga_merge(refused, 0, 0, two, 11, 3) == 0);
+    CHECK(teplonga_merge(refused, 0, 0, other, 0, 0) == 0);
+    CHECK(teplonga_merge(other, 0, 0, refused, 0, 0) == 0);
 }
 
 /* --------------------------------------------------------------- refused line */

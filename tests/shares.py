@@ -5,6 +5,7 @@
 """
 
 import getpass
+import os
 import shutil
 import socket
 import subprocess
@@ -126,6 +127,9 @@ class Hosts(unittest.TestCase):
             command = ["ssh-keygen", "-q", "-t", "ed25519", "-N", "", "-f", self.room / name]
             subprocess.run(command, check=True)
         shutil.copy(self.room / "user.pub", self.room / "authorized")
+        if os.geteuid() == 0:
+            # where sshd leaves its rights behind
+            Path("/run/sshd").mkdir(exist_ok=True)
         self.servers = [self.server(name) for name in ("one", "two", "three")]
         lines = [f"2/ssh -F {self.room}/config {name}\n" for name in ("one", "two", "three")]
         (self.room / "hosts").write_text("".join(lines))

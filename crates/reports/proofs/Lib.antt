@@ -9,3 +9,4 @@ pub mod TellLaws
 pub mod Sizes
 pub mod Merging
 pub mod Settled
+pub mod Printed
