@@ -19,7 +19,7 @@ def blocks(text):
 
 
 def pairs(text):
-    """Each output that is shown, with the input before it; of `judge` that is a sheet alone."""
+    """Each output that is shown, with the input or the command before it; of `judge` that is a sheet alone."""
     before = sheet = None
     for block in blocks(text):
         if block.startswith("answer line\n"):
@@ -28,6 +28,8 @@ def pairs(text):
             yield sheet, block
         elif block.startswith(("left kind", "left clause\n", "bound\n", "call\n")) and "\n\n" in block:
             before = block
+        elif re.fullmatch(r"bin/teplonga .*\n", block):
+            before = block
         elif block.startswith("left "):
             sheet = block
 
@@ -35,6 +37,8 @@ def pairs(text):
 def command(shown):
     """What answers an input: a program, or a call of bin/teplonga."""
     first, call = shown.split("\n")[0], TOP / "bin" / "teplonga"
+    if first.startswith("bin/"):
+        return [TOP / first.split(" ")[0], *(first.split(" ")[1:])]
     if "\n\n" not in shown:
         return [call, "judge"]
     if first == "left clause":
@@ -47,7 +51,8 @@ class Documents(unittest.TestCase):
         count = 0
         for name in ("README.md", "docs/FORMAT.md"):
             for shown, answer in pairs((TOP / name).read_text()):
-                ended = subprocess.run(command(shown), input=shown, capture_output=True, text=True, check=False)
+                told = {"input": shown, "capture_output": True, "text": True, "cwd": TOP}
+                ended = subprocess.run(command(shown), **told, check=False)
                 self.assertEqual(ended.stdout, answer, name)
                 count += 1
         self.assertGreaterEqual(count, 6)
