@@ -35,7 +35,7 @@ use Rattle.pair_entries.specs.declared.Stage.{Stage}
 use Rattle.pair_entries.specs.Entries.{searchWords, Useful, SameTable}
 use Rattle.pair_entries.specs.Entering.{Prepared}
 use Rattle.pair_search.specs.Filling.{FilledTable}
-use Rattle.pair_search.specs.Running.{PairOf, Settled, Ran, Ready, RowsRun, Quick, Rested, AllTo}
+use Rattle.pair_search.specs.Running.{PairOf, Settled, Ran, Ready, LastRows, Quick, Rested, AllTo}
 use Rattle.pair_search.specs.Running.{BothSettled, at-first, later, tableSum, Round, Searched, ClearedTo}
 use Rattle.pair_search.proofs.RunLaws.{suits-told, ran-then, and-true₁, and-true₂}
 
@@ -222,7 +222,7 @@ rest-more a o e =
 
 -- the last
 pub rested : {ns t u v : List ℕ} {n : ℕ} {r b : Bool} → Resting ns t u r
-    → Ran (λ g. NodesOf g ns) (RowsRun ns n 384) u v b → b ≡ true → Rested ns n t v r
+    → Ran (λ g. NodesOf g ns) (LastRows ns n 384) u v b → b ≡ true → Rested ns n t v r
 rested {ns} {n = n} a o e =
     record {
       size = o .size ∙ a .size;
@@ -231,7 +231,7 @@ rested {ns} {n = n} a o e =
       least = omega (arith, a .least, o .least);
       more = λ d. omega (arith, a .more d, o .least);
       still = λ d. o .still e ∙ a .still d;
-      rows = subst (RowsRun ns n 384) (sym (o .still e)) (o .then e);
+      rows = subst (LastRows ns n 384) (sym (o .still e)) (o .then e);
     }
 
 -- the last of quick ones, and all passes after them

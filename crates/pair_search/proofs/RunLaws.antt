@@ -30,7 +30,7 @@ use Rattle.pair_nodes.specs.Slots.{nodeAt, Present, NodesOf}
 use Rattle.pair_frames.specs.Numbering.{frameAt}
 use Rattle.pair_entries.specs.Entries.{codeAt}
 use Rattle.pair_entries.proofs.EntryLaws.{entry-same}
-use Rattle.pair_search.specs.Running.{Apt, PairOf, Settled, Ran, Ready, Met, Cell, RowOf, RowsRun}
+use Rattle.pair_search.specs.Running.{Apt, PairOf, Settled, Ran, Ready, Met, Cell, LastCells, LastRows}
 
 -- 1. what two nodes read of a table
 
@@ -217,36 +217,36 @@ met-more {x = x} {y} {i} {j} k {t} a b = ran-then (λ p q. record { met = λ m h
         let e : k ≡ m = omega arith in
         subst (λ (n : ℕ). Settled x y i j (frameAt (codeAt t n)) t) e q
 
-pub row-none : {G : Rules → Type 0} (ns : List ℕ) (i n : ℕ) (t : List ℕ) → Ran G (RowOf ns i n 0) t t true
+pub row-none : {G : Rules → Type 0} (ns : List ℕ) (i n : ℕ) (t : List ℕ) → Ran G (LastCells ns i n 0) t t true
 row-none ns i n t = stays (record { row = λ j h k. absurd (omega arith) })
 
 pub row-more : {G : Rules → Type 0} {ns : List ℕ} {i n : ℕ} (m : ℕ) {t u v : List ℕ} {r s : Bool} → m < 384
-    → Ran G (RowOf ns i n m) t u r → Ran G (Cell ns i (383 - m) n) u v s → Ran G (RowOf ns i n (m + 1)) t v (r && s)
+    → Ran G (LastCells ns i n m) t u r → Ran G (Cell ns i (383 - m) n) u v s → Ran G (LastCells ns i n (m + 1)) t v (r && s)
 row-more {ns = ns} {i} {n} m {t} l a b = ran-then (λ p q. record { row = λ j h k. by p q j h k (decLt (j + m) 384) }) a b
   where
-    by : RowOf ns i n m t → Cell ns i (383 - m) n t → (j : ℕ) → j < 384 → 384 ≤ j + (m + 1) → Dec (j + m < 384)
+    by : LastCells ns i n m t → Cell ns i (383 - m) n t → (j : ℕ) → j < 384 → 384 ≤ j + (m + 1) → Dec (j + m < 384)
         → Cell ns i j n t
     by p q j h k (no d) = p .row j h (omega arith)
     by p q j h k (yes d) = let e : 383 - m ≡ j = omega arith in subst (λ (j : ℕ). Cell ns i j n t) e q
 
-pub rows-none : {G : Rules → Type 0} (ns : List ℕ) (n : ℕ) (t : List ℕ) → Ran G (RowsRun ns n 0) t t true
+pub rows-none : {G : Rules → Type 0} (ns : List ℕ) (n : ℕ) (t : List ℕ) → Ran G (LastRows ns n 0) t t true
 rows-none ns n t = stays (record { rows = λ i h k. absurd (omega arith) })
 
 pub rows-more : {G : Rules → Type 0} {ns : List ℕ} {n : ℕ} (m : ℕ) {t u v : List ℕ} {r s : Bool} → m < 384
-    → Ran G (RowsRun ns n m) t u r → Ran G (RowOf ns (383 - m) n 384) u v s → Ran G (RowsRun ns n (m + 1)) t v (r && s)
+    → Ran G (LastRows ns n m) t u r → Ran G (LastCells ns (383 - m) n 384) u v s → Ran G (LastRows ns n (m + 1)) t v (r && s)
 rows-more {ns = ns} {n} m {t} l a b = ran-then (λ p q. record { rows = λ i h k. by p q i h k (decLt (i + m) 384) }) a b
   where
-    by : RowsRun ns n m t → RowOf ns (383 - m) n 384 t → (i : ℕ) → i < 384 → 384 ≤ i + (m + 1) → Dec (i + m < 384)
-        → RowOf ns i n 384 t
+    by : LastRows ns n m t → LastCells ns (383 - m) n 384 t → (i : ℕ) → i < 384 → 384 ≤ i + (m + 1) → Dec (i + m < 384)
+        → LastCells ns i n 384 t
     by p q i h k (no d) = p .rows i h (omega arith)
-    by p q i h k (yes d) = let e : 383 - m ≡ i = omega arith in subst (λ (i : ℕ). RowOf ns i n 384 t) e q
+    by p q i h k (yes d) = let e : 383 - m ≡ i = omega arith in subst (λ (i : ℕ). LastCells ns i n 384 t) e q
 
 -- 5. nodes in their places
 
 pub no-second : {G : Rules → Type 0} {ns : List ℕ} {i j n : ℕ} {t : List ℕ} → (Present ns j → ⊥) → Ran G (Cell ns i j n) t t true
 no-second h = stays (record { cell = λ p q. absurd (h q) })
 
-pub no-first : {G : Rules → Type 0} {ns : List ℕ} {i n m : ℕ} {t : List ℕ} → (Present ns i → ⊥) → Ran G (RowOf ns i n m) t t true
+pub no-first : {G : Rules → Type 0} {ns : List ℕ} {i n m : ℕ} {t : List ℕ} → (Present ns i → ⊥) → Ran G (LastCells ns i n m) t t true
 no-first h = stays (record { row = λ j k l. record { cell = λ p q. absurd (h p) } })
 
 -- two nodes that stand there

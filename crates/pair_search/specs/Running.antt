@@ -67,11 +67,11 @@ pub record Met (x y : Node) (i j n : ℕ) (t : List ℕ) : Type 0 where
 pub record Cell (ns : List ℕ) (i j n : ℕ) (t : List ℕ) : Type 0 where
   pub cell : Present ns i → Present ns j → Met (nodeAt ns i) (nodeAt ns j) i j n t
 
-pub record RowOf (ns : List ℕ) (i n m : ℕ) (t : List ℕ) : Type 0 where
+pub record LastCells (ns : List ℕ) (i n m : ℕ) (t : List ℕ) : Type 0 where
   pub row : (j : ℕ) → j < 384 → 384 ≤ j + m → Cell ns i j n t
 
-pub record RowsRun (ns : List ℕ) (n m : ℕ) (t : List ℕ) : Type 0 where
-  pub rows : (i : ℕ) → i < 384 → 384 ≤ i + m → RowOf ns i n 384 t
+pub record LastRows (ns : List ℕ) (n m : ℕ) (t : List ℕ) : Type 0 where
+  pub rows : (i : ℕ) → i < 384 → 384 ≤ i + m → LastCells ns i n 384 t
 
 -- steps of two nodes, over the frame of an entry, over those of n entries, over some
 abbrev pub EntryRan : Node → Node → ℕ → ℕ → ℕ → List ℕ → List ℕ → Bool → Type 0
@@ -89,10 +89,10 @@ abbrev pub CellRan : List ℕ → ℕ → ℕ → ℕ → List ℕ → List ℕ 
 CellRan ns i j n old new r = Ran (λ g. NodesOf g ns) (Cell ns i j n) old new r
 
 abbrev pub RowRan : List ℕ → ℕ → ℕ → List ℕ → List ℕ → Bool → Type 0
-RowRan ns i n old new r = Ran (λ g. NodesOf g ns) (RowOf ns i n 384) old new r
+RowRan ns i n old new r = Ran (λ g. NodesOf g ns) (LastCells ns i n 384) old new r
 
 abbrev pub RowsRan : List ℕ → ℕ → List ℕ → List ℕ → Bool → Type 0
-RowsRan ns n old new r = Ran (λ g. NodesOf g ns) (RowsRun ns n 384) old new r
+RowsRan ns n old new r = Ran (λ g. NodesOf g ns) (LastRows ns n 384) old new r
 
 abbrev pub Quick : List ℕ → List ℕ → List ℕ → Bool → Type 0
 Quick ns old new r = Ran (λ g. NodesOf g ns) (λ t. Unit {0}) old new r
@@ -105,7 +105,7 @@ pub record Rested (ns : List ℕ) (n : ℕ) (old new : List ℕ) (r : Bool) : Ty
   pub least : wordSum old ≤ wordSum new
   pub more : r ≡ false → wordSum old < wordSum new
   pub still : r ≡ true → new ≡ old
-  pub rows : RowsRun ns n 384 new
+  pub rows : LastRows ns n 384 new
 
 -- all nodes over the useful frames with numbers below b
 pub record AllTo (ns : List ℕ) (b : ℕ) (t : List ℕ) : Type 0 where

@@ -3,13 +3,13 @@ use mathlib.Core.Path.{_≡_}
 use native.Mathlib.Omega.{arith}
 use borrow.Author.Needs.{needs}
 use Rattle.pair_nodes.specs.Slots.{NodesOf}
-use Rattle.pair_search.specs.Running.{Ran, RowOf}
+use Rattle.pair_search.specs.Running.{Ran, LastCells}
 use Rattle.pair_search.proofs.RunLaws.{ready-same, row-none, row-more}
 use Rattle.pair_search.proofs.cells.Statement.{statement}
 use Rattle.pair_search.proofs.cells.Tie as tie
 
 abbrev Inv-loop : tie.InvT-loop
-Inv-loop nodes words₀ n x i still₀ m₀ words still m = Ran (λ g. NodesOf g nodes) (RowOf nodes i n m) words₀ words still × (m ≤ 384)
+Inv-loop nodes words₀ n x i still₀ m₀ words still m = Ran (λ g. NodesOf g nodes) (LastCells nodes i n m) words₀ words still × (m ≤ 384)
 
 abbrev μ-loop : tie.MeasureT-loop
 μ-loop nodes words₀ n x i still₀ m₀ words still m = 384 - m

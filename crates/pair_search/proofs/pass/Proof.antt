@@ -3,13 +3,13 @@ use mathlib.Core.Path.{_≡_}
 use native.Mathlib.Omega.{arith}
 use borrow.Author.Needs.{needs}
 use Rattle.pair_nodes.specs.Slots.{NodesOf}
-use Rattle.pair_search.specs.Running.{Ran, RowsRun}
+use Rattle.pair_search.specs.Running.{Ran, LastRows}
 use Rattle.pair_search.proofs.RunLaws.{ready-same, rows-none, rows-more}
 use Rattle.pair_search.proofs.pass.Statement.{statement}
 use Rattle.pair_search.proofs.pass.Tie as tie
 
 abbrev Inv-loop : tie.InvT-loop
-Inv-loop nodes words₀ n still₀ k₀ words still k = Ran (λ g. NodesOf g nodes) (RowsRun nodes n k) words₀ words still × (k ≤ 384)
+Inv-loop nodes words₀ n still₀ k₀ words still k = Ran (λ g. NodesOf g nodes) (LastRows nodes n k) words₀ words still × (k ≤ 384)
 
 abbrev μ-loop : tie.MeasureT-loop
 μ-loop nodes words₀ n still₀ k₀ words still k = 384 - k
