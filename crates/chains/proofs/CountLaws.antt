@@ -14,7 +14,6 @@ use Rattle.grammar.specs.declared.Clause.{Clause}
 use Rattle.grammar.specs.declared.Clause.the-variants as Clause
 use Rattle.grammar.specs.declared.UnaryMark.{UnaryMark}
 use Rattle.grammar.specs.Trees.{Rules}
-use Rattle.grammar.specs.Choices.{Same}
 use Rattle.tables.specs.Tables.{rule}
 use Rattle.cuts.specs.declared.Pair.{Pair}
 use Rattle.cuts.specs.Joining.{Joins}

@@ -1,18 +1,15 @@
 -- What follows by links of links, and the entries of a level.
 use mathlib.Core.Path.{_≡_, refl, sym, _∙_, subst}
-use mathlib.Core.Bool.{Bool, true, false}
 use mathlib.Core.List.{List}
 use mathlib.Core.Logic.{_⊎_, inl, inr, ⊎-elim, _↔_}
 use Prim.Native.Nat.{ℕ, zero, suc, _+_, _<_}
 use native.Mathlib.Omega.{arith}
 use native.Mathlib.Decide.{ℕ-discrete}
-use lib.ListN.{length, getD}
-use Rattle.sets.specs.Sets.{In}
+use lib.ListN.{length}
 use Rattle.grammar.specs.declared.Clause.{Clause}
 use Rattle.grammar.specs.declared.Clause.the-variants as Clause
 use Rattle.grammar.specs.declared.UnaryMark.{UnaryMark}
 use Rattle.grammar.specs.declared.Grammar.{Grammar}
-use Rattle.grammar.specs.Trees.{Rules}
 use Rattle.grammar.specs.Content.{rules, SmallClause, SmallRule, Formed}
 use Rattle.tables.specs.Tables.{no-rule, rule}
 use Rattle.cuts.specs.declared.Pair.{Pair}

@@ -2,7 +2,7 @@
 use mathlib.Core.Path.{_≡_, refl, sym, ap, _∙_, subst}
 use mathlib.Core.List.{List}
 use mathlib.Core.Logic.{_⊎_, inl, inr, ⊎-elim, _↔_}
-use Prim.Native.Nat.{ℕ, _+_, _-_, _*_, _≤_, _<_}
+use Prim.Native.Nat.{ℕ, _+_, _-_, _*_, _<_}
 use native.Mathlib.Omega.{arith}
 use native.Mathlib.Decide.{ℕ-discrete}
 use lib.Bits.{bitAnd, bitOr}
@@ -12,7 +12,6 @@ use Rattle.sets.specs.Sets.{In}
 use Rattle.sets.specs.Insertion.{insert}
 use Rattle.sets.proofs.Sets.{in-zero, insert-same, insert-only}
 use Rattle.spans.specs.Changes.{Cleared}
-use Rattle.cuts.specs.declared.Pair.{Pair}
 use Rattle.cuts.specs.Cuts.{wordsOf}
 use Rattle.cuts.specs.Puts.{Least, PutPair}
 use Rattle.cuts.specs.Joining.{Joins}

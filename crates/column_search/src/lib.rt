@@ -1,8 +1,12 @@
 // Which verdicts some choice of columns gives. Ranges are narrowed token by token, until one choice is left.
+use chains::chains;
 use chart::Verdict;
 use column_ranges::RangeSentence;
 use column_ranges::columns;
 use column_ranges::count;
+use cuts::BinaryRules;
+use cuts::Pair;
+use cuts::binary_rules;
 use filling::fill_leaves;
 use grammar::Grammar;
 use marks::Draft;
@@ -24,6 +28,9 @@ ghost use Rattle.grammar.specs.Content.{rules, Formed};
 ghost use Rattle.grammar.specs.SpanSheet.{pairs};
 ghost use Rattle.chart.specs.declared.Verdict.{Verdict};
 ghost use Rattle.spans.specs.Changes.{Cleared};
+ghost use Rattle.cuts.specs.Places.{Placed};
+ghost use Rattle.chains.specs.Chains.{Chains};
+ghost use Rattle.filling.specs.Closing.{Begins};
 ghost use Rattle.column_ranges.specs.RangeSentences.{rangesOf, Spread};
 ghost use Rattle.narrowing.specs.Narrowing.{Singles, MayRise};
 ghost use Rattle.range_charts.specs.RangeCharts.{Leaved};
@@ -87,33 +94,48 @@ fn verdict(words: &[u64], n: usize) -> Verdict
 }
 
 // The verdict of the one choice that is left, besides those found before.
-fn try_choice(g: Grammar, r: RangeSentence, words: &mut [u64], f: Flags) -> Flags
-    requires { ⌜ Formed g ⌝ }
+fn try_choice(
+    g: Grammar,
+    r: RangeSentence,
+    b: BinaryRules,
+    e: Pair,
+    words: &mut [u64],
+    table: &[u64],
+    f: Flags,
+) -> Flags
+    requires { ⌜ Formed g × Placed (rules g) b ⌝ }
     requires { ⌜ Spread r × Singles (rangesOf r) × MayRise (rangesOf r) ⌝ }
     requires { ⌜ 2 * pairs (r .count) ≤ length (now words) ⌝ }
-    requires { ⌜ Leaved (rules g) (rangesOf r) (r .count) (now words) ⌝ }
+    requires { ⌜ Leaved (rules g) (rangesOf r) (r .count) (now words) × Begins (now words) e × Chains (rules g) e (now table) ⌝ }
     ensures { λ a. ⌜ Searched (rules g) (rangesOf r) (r .count) f (now (words .entry)) (now (words .exit)) a ⌝ }
 {
-    fill_ranges(words, r, g);
+    fill_ranges(words, table, r, g, b, e);
     let v = verdict(words, r.count);
     with_verdict(f, v)
 }
 
 // The verdicts that some choice may give: none where nothing must have a tree, one where something may and need not have two, two where
 // something may.
-fn outlook(g: Grammar, r: RangeSentence, words: &mut [u64]) -> Flags
-    requires { ⌜ Formed g ⌝ }
+fn outlook(
+    g: Grammar,
+    r: RangeSentence,
+    b: BinaryRules,
+    e: Pair,
+    words: &mut [u64],
+    table: &[u64],
+) -> Flags
+    requires { ⌜ Formed g × Placed (rules g) b ⌝ }
     requires { ⌜ Spread r ⌝ }
     requires { ⌜ 2 * pairs (r .count) ≤ length (now words) ⌝ }
-    requires { ⌜ Leaved (rules g) (rangesOf r) (r .count) (now words) ⌝ }
+    requires { ⌜ Leaved (rules g) (rangesOf r) (r .count) (now words) × Begins (now words) e × Chains (rules g) e (now table) ⌝ }
     ensures { λ o. ⌜ Foreseen (rules g) (rangesOf r) (r .count) (now (words .entry)) (now (words .exit)) o ⌝ }
 {
     let n = r.count;
-    fill_ranges(words, r, g);
+    fill_ranges(words, table, r, g, b, e);
     let may_one = in_first(words, n, 0, n, 0);
     let may_two = in_second(words, n, 0, n, 0);
     let x = exchanged_ends(r);
-    fill_ranges(words, x, g);
+    fill_ranges(words, table, x, g, b, e);
     let must_one = in_first(words, n, 0, n, 0);
     let must_two = in_second(words, n, 0, n, 0);
     Flags {
@@ -144,17 +166,25 @@ fn covered(o: Flags, f: Flags) -> bool
 }
 
 // Can nothing new come of the ranges, by what may and what must hold? Asked where 64 choices or more are left.
-fn idle(g: Grammar, r: RangeSentence, words: &mut [u64], f: Flags) -> bool
-    requires { ⌜ Formed g ⌝ }
+fn idle(
+    g: Grammar,
+    r: RangeSentence,
+    b: BinaryRules,
+    e: Pair,
+    words: &mut [u64],
+    table: &[u64],
+    f: Flags,
+) -> bool
+    requires { ⌜ Formed g × Placed (rules g) b ⌝ }
     requires { ⌜ Spread r ⌝ }
     requires { ⌜ 2 * pairs (r .count) ≤ length (now words) ⌝ }
-    requires { ⌜ Leaved (rules g) (rangesOf r) (r .count) (now words) ⌝ }
+    requires { ⌜ Leaved (rules g) (rangesOf r) (r .count) (now words) × Begins (now words) e × Chains (rules g) e (now table) ⌝ }
     ensures { λ b. ⌜ Idles (rules g) (rangesOf r) (r .count) f (now (words .entry)) (now (words .exit)) b ⌝ }
 {
     if count(r) < 64 {
         return false;
     }
-    let o = outlook(g, r, words);
+    let o = outlook(g, r, b, e, words, table);
     covered(o, f)
 }
 
@@ -170,11 +200,19 @@ fn settled(r: RangeSentence, f: Flags) -> bool
 }
 
 // The verdicts of all choices, besides those found before. A token with several columns goes through them.
-fn search(g: Grammar, r: RangeSentence, words: &mut [u64], f: Flags) -> Flags
-    requires { ⌜ Formed g ⌝ }
+fn search(
+    g: Grammar,
+    r: RangeSentence,
+    b: BinaryRules,
+    e: Pair,
+    words: &mut [u64],
+    table: &[u64],
+    f: Flags,
+) -> Flags
+    requires { ⌜ Formed g × Placed (rules g) b ⌝ }
     requires { ⌜ Spread r ⌝ }
     requires { ⌜ 2 * pairs (r .count) ≤ length (now words) ⌝ }
-    requires { ⌜ Leaved (rules g) (rangesOf r) (r .count) (now words) ⌝ }
+    requires { ⌜ Leaved (rules g) (rangesOf r) (r .count) (now words) × Begins (now words) e × Chains (rules g) e (now table) ⌝ }
     ensures { λ a. ⌜ Searched (rules g) (rangesOf r) (r .count) f (now (words .entry)) (now (words .exit)) a ⌝ }
 {
     if settled(r, f) {
@@ -182,9 +220,9 @@ fn search(g: Grammar, r: RangeSentence, words: &mut [u64], f: Flags) -> Flags
     }
     let t = next_token(r);
     if r.count <= t {
-        return try_choice(g, r, words, f);
+        return try_choice(g, r, b, e, words, table, f);
     }
-    if idle(g, r, words, f) {
+    if idle(g, r, b, e, words, table, f) {
         return f;
     }
     let a = r.tokens[t];
@@ -193,10 +231,29 @@ fn search(g: Grammar, r: RangeSentence, words: &mut [u64], f: Flags) -> Flags
     let mut c: usize = 0;
     while c < m {
         let s = narrowed(r, t, c);
-        found = search(g, s, words, found);
+        found = search(g, s, b, e, words, table, found);
         c += 1;
     }
     found
+}
+
+// The same, with what does not go by columns found once: the places of the B rules, the pair of the
+// empty word, and the table of chains.
+fn search_choices(g: Grammar, r: RangeSentence, words: &mut [u64], f: Flags) -> Flags
+    requires { ⌜ Formed g ⌝ }
+    requires { ⌜ Spread r ⌝ }
+    requires { ⌜ 2 * pairs (r .count) ≤ length (now words) ⌝ }
+    requires { ⌜ Leaved (rules g) (rangesOf r) (r .count) (now words) ⌝ }
+    ensures { λ a. ⌜ Searched (rules g) (rangesOf r) (r .count) f (now (words .entry)) (now (words .exit)) a ⌝ }
+{
+    let e = Pair {
+        one: words[0],
+        two: words[1],
+    };
+    let b = binary_rules(g);
+    let mut table = [0u64; 512];
+    chains(&mut table, g, e);
+    search(g, r, b, e, words, &table, f)
 }
 
 // Which verdicts some rising choice of columns gives; the words that the search needed end 0.
@@ -221,7 +278,7 @@ pub fn choose(g: Grammar, r: RangeSentence, words: &mut [u64]) -> Flags
         known: n,
     };
     fill_leaves(words, d, g);
-    let f = search(g, r, words, nothing);
+    let f = search_choices(g, r, words, nothing);
     let m = size(n);
     clear(words, m);
     f

@@ -2,7 +2,9 @@
 use chains::chains;
 use chains::level_of;
 use chart::Verdict;
+use cuts::BinaryRules;
 use cuts::Pair;
+use cuts::binary_rules;
 use cuts::cut_masks;
 use cuts::put;
 use cuts::splits;
@@ -33,6 +35,7 @@ ghost use Rattle.marks.specs.Drafts.{half, drafted};
 ghost use Rattle.spans.specs.Changes.{Past, WrotePair};
 ghost use Rattle.tables.specs.Tables.{Room};
 ghost use Rattle.cuts.specs.Cuts.{Mirrors};
+ghost use Rattle.cuts.specs.Places.{Placed};
 ghost use Rattle.chains.specs.Chains.{Chains};
 ghost use Rattle.chart.specs.Filling.{Whole, Filled, Grown};
 ghost use Rattle.chart.specs.Leaves.{EmptyPair, Leaf};
@@ -129,23 +132,25 @@ pub fn fill_leaves(words: &mut [u64], d: Draft, g: Grammar)
 }
 
 // What stands over a span of two tokens or more: by two shorter parts, by the words of cuts; then by the table of chains.
+// `b` are the places of the B rules.
 fn find(
     rows: &[u64],
     cols: &[u64],
     table: &[u64],
     g: Grammar,
+    b: BinaryRules,
     k: SpanMarks,
     start: usize,
     len: usize,
 ) -> Pair
-    requires { ⌜ Formed g ⌝ }
+    requires { ⌜ Formed g × Placed (rules g) b ⌝ }
     requires { ⌜ (0 < len) × (start + len ≤ 64) ⌝ }
     requires { ⌜ (length (now rows) ≡ 128) × (128 * (start + len + 1) ≤ length (now cols)) ⌝ }
     requires { ⌜ length (now table) ≡ 512 ⌝ }
     ensures { λ t. ⌜ Found (now (rows .entry)) (now (cols .entry)) (now (table .entry)) (rules g) k start len t ⌝ }
 {
     let m = cut_masks(k, start);
-    let p = splits(g, rows, cols, 128 * (start + len), m);
+    let p = splits(g, b, rows, cols, 128 * (start + len), m);
     let l = level_of(k);
     unite(table, 128 * l, p)
 }
@@ -158,19 +163,20 @@ pub fn close(
     table: &[u64],
     n: usize,
     g: Grammar,
+    b: BinaryRules,
     e: Pair,
     k: SpanMarks,
     start: usize,
     len: usize,
 )
     requires { ⌜ Room (now words) n start len × (0 < len) ⌝ }
-    requires { ⌜ Formed g ⌝ }
+    requires { ⌜ Formed g × Placed (rules g) b ⌝ }
     requires { ⌜ Begins (now words) e × Chains (rules g) e (now table) ⌝ }
     requires { ⌜ Mirrors (now words) n start len (now rows) (now cols) ⌝ }
     ensures { λ r. ⌜ CutJoins (now (words .entry)) (now (words .exit)) (rules g) n start len k ⌝ }
     ensures { λ r. ⌜ Mirrors (now (words .exit)) n start (len + 1) (now (rows .exit)) (now (cols .exit)) ⌝ }
 {
-    let t = find(rows, cols, table, g, k, start, len);
+    let t = find(rows, cols, table, g, b, k, start, len);
     let q = pair_at(n, start, len);
     write(words, q, t.one, t.two);
     put(rows, cols, start, start + len, t);
@@ -210,13 +216,14 @@ pub fn fill_start(
     table: &[u64],
     d: Draft,
     g: Grammar,
+    b: BinaryRules,
     e: Pair,
     from: usize,
     start: usize,
 )
     requires { ⌜ Whole d × (start < d .count) ⌝ }
     requires { ⌜ 2 * pairs (d .count) ≤ length (now words) ⌝ }
-    requires { ⌜ Formed g ⌝ }
+    requires { ⌜ Formed g × Placed (rules g) b ⌝ }
     requires { ⌜ Begins (now words) e × Chains (rules g) e (now table) ⌝ }
     requires { ⌜ (length (now rows) ≡ 128) × Columns (now words) (d .count) (start + 1) (now cols) ⌝ }
     requires { ⌜ Filled (now words) (rules g) (half d) (d .count) from (start + 1) (d .count + 1) ⌝ }
@@ -240,7 +247,7 @@ pub fn fill_start(
             load(words, rows, cols, n, start, len);
             continue;
         }
-        close(words, rows, cols, table, n, g, e, k, start, len);
+        close(words, rows, cols, table, n, g, b, e, k, start, len);
     }
 }
 
@@ -281,13 +288,14 @@ fn fill_starts(
     table: &[u64],
     d: Draft,
     g: Grammar,
+    b: BinaryRules,
     e: Pair,
     from: usize,
     to: usize,
 )
     requires { ⌜ Whole d × (to ≤ d .count) ⌝ }
     requires { ⌜ 2 * pairs (d .count) ≤ length (now words) ⌝ }
-    requires { ⌜ Formed g ⌝ }
+    requires { ⌜ Formed g × Placed (rules g) b ⌝ }
     requires { ⌜ Begins (now words) e × Chains (rules g) e (now table) ⌝ }
     requires { ⌜ (length (now rows) ≡ 128) × Columns (now words) (d .count) to (now cols) ⌝ }
     requires { ⌜ Filled (now words) (rules g) (half d) (d .count) from to (d .count + 1) ⌝ }
@@ -296,7 +304,7 @@ fn fill_starts(
     let mut start = to;
     while 0 < start {
         start -= 1;
-        fill_start(words, rows, cols, table, d, g, e, from, start);
+        fill_start(words, rows, cols, table, d, g, b, e, from, start);
     }
 }
 
@@ -320,10 +328,11 @@ pub fn fill(words: &mut [u64], d: Draft, g: Grammar, from: usize, to: usize)
     };
     let mut table = [0u64; 512];
     chains(&mut table, g, e);
+    let b = binary_rules(g);
     let mut rows = [0u64; 128];
     let mut cols = [0u64; 8320];
     load_from(words, &mut rows, &mut cols, n, to);
-    fill_starts(words, &mut rows, &mut cols, &table, d, g, e, from, to);
+    fill_starts(words, &mut rows, &mut cols, &table, d, g, b, e, from, to);
 }
 
 // Fill all of the span sheet of the draft, which is known.
@@ -423,10 +432,11 @@ pub fn refill(words: &mut [u64], kept: &mut [u64], d: Draft, g: Grammar, from: u
         one: words[0],
         two: words[1],
     };
+    let b = binary_rules(g);
     let mut rows = [0u64; 128];
     let mut cols = [0u64; 1024];
     load_from(words, &mut rows, &mut cols, n, to);
-    fill_starts(words, &mut rows, &mut cols, kept, d, g, e, from, to);
+    fill_starts(words, &mut rows, &mut cols, kept, d, g, b, e, from, to);
 }
 
 // Fill it so. Has no completion of the draft two trees, its open tokens being what their pairs allow? (Where all of it is

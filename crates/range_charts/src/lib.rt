@@ -1,7 +1,7 @@
 // The span sheet of ranges: what may have trees in some columns within the ends; with the ends exchanged what must have them in all;
 // where each token has one column, what has them.
-use chains::chains;
 use column_ranges::RangeSentence;
+use cuts::BinaryRules;
 use cuts::Pair;
 use filling::begin;
 use filling::close;
@@ -13,6 +13,7 @@ ghost use Prim.Native.Nat.{_+_, _*_, _≤_, _<_};
 ghost use lib.ListN.{length};
 ghost use Rattle.grammar.specs.Content.{rules, Formed};
 ghost use Rattle.grammar.specs.SpanSheet.{pairs};
+ghost use Rattle.cuts.specs.Places.{Placed};
 ghost use Rattle.chains.specs.Chains.{Chains};
 ghost use Rattle.filling.specs.Closing.{Begins, Columns};
 ghost use Rattle.column_ranges.specs.RangeSentences.{rangesOf};
@@ -26,12 +27,13 @@ fn fill_start(
     table: &[u64],
     r: RangeSentence,
     g: Grammar,
+    b: BinaryRules,
     e: Pair,
     start: usize,
 )
     requires { ⌜ CountFits r × (start < r .count) ⌝ }
     requires { ⌜ 2 * pairs (r .count) ≤ length (now words) ⌝ }
-    requires { ⌜ Formed g ⌝ }
+    requires { ⌜ Formed g × Placed (rules g) b ⌝ }
     requires { ⌜ Begins (now words) e × Chains (rules g) e (now table) ⌝ }
     requires { ⌜ (length (now rows) ≡ 128) × Columns (now words) (r .count) (start + 1) (now cols) ⌝ }
     requires { ⌜ SolvedFrom (now words) (rules g) (rangesOf r) (r .count) (start + 1) (r .count + 1) ⌝ }
@@ -49,7 +51,7 @@ fn fill_start(
         let t = r.tokens[at];
         k = stretched(k, a, z, t, len);
         len += 1;
-        close(words, rows, cols, table, n, g, e, k, start, len);
+        close(words, rows, cols, table, n, g, b, e, k, start, len);
     }
 }
 
@@ -61,11 +63,12 @@ fn fill_starts(
     table: &[u64],
     r: RangeSentence,
     g: Grammar,
+    b: BinaryRules,
     e: Pair,
 )
     requires { ⌜ CountFits r ⌝ }
     requires { ⌜ 2 * pairs (r .count) ≤ length (now words) ⌝ }
-    requires { ⌜ Formed g ⌝ }
+    requires { ⌜ Formed g × Placed (rules g) b ⌝ }
     requires { ⌜ Begins (now words) e × Chains (rules g) e (now table) ⌝ }
     requires { ⌜ (length (now rows) ≡ 128) × Columns (now words) (r .count) (r .count) (now cols) ⌝ }
     ensures { λ u. ⌜ Advances (now (words .entry)) (now (words .exit)) (rules g) (rangesOf r) (r .count) 0 ⌝ }
@@ -73,24 +76,27 @@ fn fill_starts(
     let mut start = r.count;
     while 0 < start {
         start -= 1;
-        fill_start(words, rows, cols, table, r, g, e, start);
+        fill_start(words, rows, cols, table, r, g, b, e, start);
     }
 }
 
-// Fill the span sheet of the ranges. The pairs of the empty word and of single tokens are given.
-pub fn fill_ranges(words: &mut [u64], r: RangeSentence, g: Grammar)
+// Fill the span sheet of the ranges. The pairs of the empty word and of single tokens are given, and so are the places of
+// the B rules, the pair of the empty word and the table of chains: they do not go by columns.
+pub fn fill_ranges(
+    words: &mut [u64],
+    table: &[u64],
+    r: RangeSentence,
+    g: Grammar,
+    b: BinaryRules,
+    e: Pair,
+)
     requires { ⌜ CountFits r ⌝ }
     requires { ⌜ 2 * pairs (r .count) ≤ length (now words) ⌝ }
-    requires { ⌜ Formed g ⌝ }
+    requires { ⌜ Formed g × Placed (rules g) b ⌝ }
+    requires { ⌜ Begins (now words) e × Chains (rules g) e (now table) ⌝ }
     ensures { λ u. ⌜ Solves (now (words .entry)) (now (words .exit)) (rules g) (rangesOf r) (r .count) ⌝ }
 {
-    let e = Pair {
-        one: words[0],
-        two: words[1],
-    };
-    let mut table = [0u64; 512];
-    chains(&mut table, g, e);
     let mut rows = [0u64; 128];
     let mut cols = [0u64; 8320];
-    fill_starts(words, &mut rows, &mut cols, &table, r, g, e);
+    fill_starts(words, &mut rows, &mut cols, table, r, g, b, e);
 }

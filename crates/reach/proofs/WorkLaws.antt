@@ -4,7 +4,7 @@ use mathlib.Core.Logic.{_⊎_, ⊎-elim}
 use mathlib.Core.List.{List}
 use Prim.Native.Nat.{ℕ, _+_, _-_, _*_, _≤_, _<_}
 use native.Mathlib.Omega.{arith}
-use lib.ListN.{length, getD}
+use lib.ListN.{length}
 use Rattle.sets.specs.Sets.{In}
 use Rattle.sets.proofs.Sets.{in-zero, insert-only}
 use Rattle.grammar.specs.declared.Rule.{Rule}

@@ -1,6 +1,5 @@
 use borrow.Author.Needs.{needs}
 use borrow.Author.Tests.{not-true, not-false}
-use native.Mathlib.Omega.{arith}
 use Rattle.cuts.proofs.JoinLaws.{joins-none, joins-as}
 use Rattle.chains.proofs.add_if.Statement.{statement}
 use Rattle.chains.proofs.add_if.Tie as tie

@@ -1,5 +1,4 @@
 use borrow.Author.Needs.{needs}
-use Prim.Native.Nat.{_≤_}
 use native.Mathlib.Omega.{arith}
 use Rattle.sets.proofs.Says.{holds, says-leb}
 use Rattle.chains.proofs.holds_at.Statement.{statement}

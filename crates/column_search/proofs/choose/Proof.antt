@@ -15,8 +15,8 @@ lowest-sentence-requires c κs = search needs
 fill-leaves-requires : tie.Need-fill-leaves-requires
 fill-leaves-requires c κs = search needs
 
-search-requires : tie.Need-search-requires
-search-requires c κs =
+search-choices-requires : tie.Need-search-choices-requires
+search-choices-requires c κs =
     let z = c .before .before .before .before .before .before .before .before in
     let s = c .before .before .before .before .before .before .lowest-sentence in
     let b = c .before .before .before .fill-leaves .ensures in
@@ -28,14 +28,14 @@ size-requires c κs = search needs
 
 clear-requires : tie.Need-clear-requires
 clear-requires c κs =
-    omega (arith, c .before .size .ensures, c .before .before .before .before .search .ensures .leaving .past .long, c .before .before .before .before .before .before .before .before .fill-leaves .ensures .past .long, c .before .before .before .before .before .before .before .before .before .before .before .before .before .pre .1 .1)
+    omega (arith, c .before .size .ensures, c .before .before .before .before .search-choices .ensures .leaving .past .long, c .before .before .before .before .before .before .before .before .fill-leaves .ensures .past .long, c .before .before .before .before .before .before .before .before .before .before .before .before .before .pre .1 .1)
 
 same-length : tie.Need-same-length
-same-length c = c .before .before .clear .ensures .past .long ∙ c .before .before .before .before .before .before .before .search .ensures .leaving .past .long ∙ c .before .before .before .before .before .before .before .before .before .before .before .fill-leaves .ensures .past .long
+same-length c = c .before .before .clear .ensures .past .long ∙ c .before .before .before .before .before .before .before .search-choices .ensures .leaving .past .long ∙ c .before .before .before .before .before .before .before .before .before .before .before .fill-leaves .ensures .past .long
 
 returns : tie.Need-returns
 returns c =
-    let f = c .before .before .before .before .before .before .before .search .ensures in
+    let f = c .before .before .before .before .before .before .before .search-choices .ensures in
     (flags-say nothing-set (f .grown) (f .finds), cleared-after (c .before .before .before .before .size .ensures) (past-then (c .before .before .before .before .before .before .before .before .before .before .before .fill-leaves .ensures .past) (f .leaving .past)) (c .before .before .clear .ensures))
 
 pub choose-spec : {M : Type 1} → statement M
@@ -44,7 +44,7 @@ choose-spec =
     (tie.spec
     lowest-sentence-requires
     fill-leaves-requires
-    search-requires
+    search-choices-requires
     size-requires
     clear-requires
     same-length

@@ -1,6 +1,6 @@
 use borrow.Author.Needs.{needs}
 use mathlib.Core.Path.{subst}
-use Prim.Native.Nat.{ℕ, _+_, _*_, _<_}
+use Prim.Native.Nat.{ℕ}
 use native.Mathlib.Omega.{arith}
 use Rattle.spans.specs.Changes.{WrotePair}
 use Rattle.spans.proofs.Places.{pairAt-below}
@@ -66,7 +66,7 @@ returns c =
     let wrote = subst (λ (x : ℕ). WrotePair (a .words .now) (w .write .last .0) x (t .one) (t .two)) (q .pair-at .ensures) (w .write .ensures) in
     let few = z .pre .0 .0 .few in
     let fit = z .pre .0 .0 .fits in (
-      found-joins few fit (z .pre .1 .0 .small) m (z .pre .1 .1 .0 .0) (z .pre .1 .1 .0 .1) (f .find .ensures) wrote,
+      found-joins few fit (z .pre .1 .0 .0 .small) m (z .pre .1 .1 .0 .0) (z .pre .1 .1 .0 .1) (f .find .ensures) wrote,
       closing (a .words .now) (w .write .last .0) (a .n) (a .start) (a .len) (a .rows .now) (a .cols .now) (p .put .last .0) (p .put .last .1 .0) t few fit (z .pre .0 .1) wrote (p .put .ensures .0) (p .put .ensures .1) m,
     )
 

@@ -1,16 +1,14 @@
 use borrow.Author.Needs.{needs}
-use mathlib.Core.Path.{_≡_, refl, sym, ap, _∙_, subst}
-use Prim.Native.Nat.{ℕ, _+_, _-_, _*_, _≤_, _<_}
+use mathlib.Core.Path.{refl}
+use Prim.Native.Nat.{_-_, _<_}
 use native.Mathlib.Omega.{arith}
-use lib.ListN.{length, getD, length-map}
+use lib.ListN.{length-map}
 use Rattle.grammar.specs.Content.{rules}
-use Rattle.grammar.specs.SpanSheet.{pairs}
 use Rattle.marks.specs.Drafts.{half}
 use Rattle.marks.proofs.DraftLaws.{drafted-length}
 use Rattle.spans.proofs.Places.{pairAt-below}
-use Rattle.chart.specs.Filling.{Whole, Filled, Grown}
+use Rattle.chart.specs.Filling.{Whole}
 use Rattle.chart.proofs.SheetLaws.{begun, charted}
-use Rattle.filling.specs.Closing.{Begins, Columns}
 use Rattle.filling.proofs.ClosingLaws.{no-columns, few-grown}
 use Rattle.filling.proofs.fill.Statement.{statement}
 use Rattle.filling.proofs.fill.Tie as tie
@@ -28,17 +26,20 @@ returns c =
     let b : a .d .count < 2 = c .if1 .taken in
     charted (a .words .now) (a .words .now) (rules (a .g)) (half (a .d)) (a .d .count) (w .long) (w .inner) (a .from) (few-grown b (begun (a .words .now) (rules (a .g)) (half (a .d)) (a .d .count) (a .from) (a .to) (z .pre .1 .1 .0 .distinct) (omega (arith, w .long, w .inner)) (z .pre .1 .1 .1)))
 
-slice-read-t13 : tie.Need-slice-read-t13
-slice-read-t13 c = let z = c .before .before .before in omega (arith, z .pre .1 .0, pairAt-below (z .args .d .count) 0 0 (omega arith))
+slice-read-t14 : tie.Need-slice-read-t14
+slice-read-t14 c = let z = c .before .before .before in omega (arith, z .pre .1 .0, pairAt-below (z .args .d .count) 0 0 (omega arith))
 
-slice-read-t15 : tie.Need-slice-read-t15
-slice-read-t15 c = let z = c .before .before .before .before in omega (arith, z .pre .1 .0, pairAt-below (z .args .d .count) 0 0 (omega arith))
+slice-read-t16 : tie.Need-slice-read-t16
+slice-read-t16 c = let z = c .before .before .before .before in omega (arith, z .pre .1 .0, pairAt-below (z .args .d .count) 0 0 (omega arith))
 
 slice-aggregate-chains : tie.Need-slice-aggregate-chains
 slice-aggregate-chains c = search needs
 
 chains-requires : tie.Need-chains-requires
 chains-requires c κs = search needs
+
+binary-rules-requires : tie.Need-binary-rules-requires
+binary-rules-requires c κs = search needs
 
 slice-aggregate-load-from : tie.Need-slice-aggregate-load-from
 slice-aggregate-load-from c = search needs
@@ -48,7 +49,7 @@ slice-aggregate-load-from-2 c = search needs
 
 load-from-requires : tie.Need-load-from-requires
 load-from-requires c κs =
-    let z = c .before .before .before .before .before .before .before .before .before .before in
+    let z = c .before .before .before .before .before .before .before .before .before .before .before in
     (record { few = z .pre .0 .0; fits = omega (arith, z .pre .1 .1 .1 .within); enough = z .pre .1 .0 }, (refl, no-columns (z .args .words .now) (z .args .d .count) 8320 (omega (arith, z .pre .0 .0))))
 
 slice-aggregate-fill-starts : tie.Need-slice-aggregate-fill-starts
@@ -63,17 +64,17 @@ slice-aggregate-fill-starts-3 c = search needs
 fill-starts-requires : tie.Need-fill-starts-requires
 fill-starts-requires c κs =
     let f = c .before .before .before .before .before .before in
-    let z = c .before .before .before .before .before .before .before .before .before .before .before .before .before .before .before .before .before in
+    let z = c .before .before .before .before .before .before .before .before .before .before .before .before .before .before .before .before .before .before in
     let a = z .args in
     let w = whole z in
-    ((w, z .pre .1 .1 .1 .within), (z .pre .1 .0, (z .pre .1 .1 .0, ((record { one = refl; two = refl }, f .before .before .before .before .before .chains .ensures), ((search needs, f .load-from .ensures), begun (a .words .now) (rules (a .g)) (half (a .d)) (a .d .count) (a .from) (a .to) (z .pre .1 .1 .0 .distinct) (omega (arith, w .long, w .inner)) (z .pre .1 .1 .1))))))
+    ((w, z .pre .1 .1 .1 .within), (z .pre .1 .0, ((z .pre .1 .1 .0, c .before .before .before .before .before .before .before .before .before .before .binary-rules .ensures), ((record { one = refl; two = refl }, c .before .before .before .before .before .before .before .before .before .before .before .before .chains .ensures), ((search needs, f .load-from .ensures), begun (a .words .now) (rules (a .g)) (half (a .d)) (a .d .count) (a .from) (a .to) (z .pre .1 .1 .0 .distinct) (omega (arith, w .long, w .inner)) (z .pre .1 .1 .1))))))
 
 same-length : tie.Need-same-length
 same-length c = search needs
 
 returns-2 : tie.Need-returns-2
 returns-2 c =
-    let z = c .before .before .before .before .before .before .before .before .before .before .before .before .before .before .before .before .before .before .before .before .before .before in
+    let z = c .before .before .before .before .before .before .before .before .before .before .before .before .before .before .before .before .before .before .before .before .before .before .before in
     let a = z .args in
     let w = whole z in
     charted (a .words .now) (c .before .before .before .before .fill-starts .last .0) (rules (a .g)) (half (a .d)) (a .d .count) (w .long) (w .inner) (a .from) (c .before .before .before .before .fill-starts .ensures)
@@ -83,10 +84,11 @@ fill-spec =
     tie.close
     (tie.spec
     returns
-    slice-read-t13
-    slice-read-t15
+    slice-read-t14
+    slice-read-t16
     slice-aggregate-chains
     chains-requires
+    binary-rules-requires
     slice-aggregate-load-from
     slice-aggregate-load-from-2
     load-from-requires

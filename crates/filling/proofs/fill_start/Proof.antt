@@ -1,6 +1,6 @@
 use borrow.Author.Needs.{needs}
 use mathlib.Core.Path.{_≡_, refl, sym, ap, _∙_, subst}
-use Prim.Native.Nat.{ℕ, _+_, _-_, _*_, _≤_, _<_}
+use Prim.Native.Nat.{_+_, _-_, _*_, _≤_, _<_}
 use native.Mathlib.Omega.{arith}
 use lib.ListN.{length}
 use Rattle.grammar.specs.declared.Token.{Token}
@@ -29,12 +29,12 @@ use Rattle.filling.proofs.close.Reads as close-reads
 use Rattle.filling.proofs.load.Reads as load-reads
 
 abbrev Inv-loop : tie.InvT-loop
-Inv-loop words₀ rows₀ cols₀ table g e from start d n known a k₀ len₀ words rows cols k len =
+Inv-loop words₀ rows₀ cols₀ table g b e from start d n known a k₀ len₀ words rows cols k len =
     (0 < len) × (start + len ≤ d .count) × Carried (half d) start len k × Past (2 * pairs (d .count)) words₀ words × Given words₀ words (d .count) × Filled words (rules g) (half d) (d .count) from start (len + 1)
     × Begins words e × Mirrors words (d .count) start (len + 1) rows cols × (length cols ≡ length cols₀)
 
 abbrev μ-loop : tie.MeasureT-loop
-μ-loop words₀ rows₀ cols₀ table g e from start d n known a k₀ len₀ words rows cols k len = d .count - len
+μ-loop words₀ rows₀ cols₀ table g b e from start d n known a k₀ len₀ words rows cols k len = d .count - len
 
 -- src/lib.rt:137:13
 mul-a : tie.Need-mul-a Inv-loop μ-loop
@@ -172,7 +172,7 @@ loop-again-2 c =
     let long : 2 ≤ len = omega (arith, l .0) in
     let far : a .from < a .start + len = omega (arith, k .before .before .before .before .if1 .left) in
     let ws = k .close .last .0 in
-    let j = cut-joined (b .words) ws g h n (a .start) len (m .with-next .result) (z .pre .1 .1 .0 .distinct) (omega (arith, z .pre .0 .0 .long, z .pre .0 .0 .inner)) fit long (carried-all _ _ _ _ (marks m)) (filled-ground (b .words) g h n (a .from) (a .start) len fit (l .5)) (k .close .ensures .0) in (
+    let j = cut-joined (b .words) ws g h n (a .start) len (m .with-next .result) (z .pre .1 .1 .0 .0 .distinct) (omega (arith, z .pre .0 .0 .long, z .pre .0 .0 .inner)) fit long (carried-all _ _ _ _ (marks m)) (filled-ground (b .words) g h n (a .from) (a .start) len fit (l .5)) (k .close .ensures .0) in (
       omega arith,
       fit,
       marks m,

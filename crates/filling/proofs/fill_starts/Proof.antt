@@ -1,10 +1,9 @@
 use borrow.Author.Needs.{needs}
-use mathlib.Core.Path.{_≡_, refl, sym, ap, _∙_, subst}
-use Prim.Native.Nat.{ℕ, _+_, _-_, _*_, _≤_, _<_}
+use mathlib.Core.Path.{_≡_, refl, sym, _∙_, subst}
+use Prim.Native.Nat.{ℕ, _+_, _-_, _≤_}
 use native.Mathlib.Omega.{arith}
 use lib.ListN.{length}
 use Rattle.grammar.specs.Content.{rules}
-use Rattle.grammar.specs.SpanSheet.{pairs}
 use Rattle.marks.specs.Drafts.{half}
 use Rattle.spans.proofs.ChangeLaws.{past-same, past-then}
 use Rattle.chart.specs.Filling.{Filled, Grown}
@@ -17,10 +16,10 @@ use Rattle.filling.proofs.fill_starts.Lts as lts
 use Rattle.filling.proofs.fill_start.Reads as fill-start-reads
 
 abbrev Inv-loop : tie.InvT-loop
-Inv-loop words₀ rows₀ cols₀ table d g e from to start₀ words rows cols start = (start ≤ d .count) × Grown words₀ words (rules g) (half d) (d .count) from start × (length rows ≡ 128) × Columns words (d .count) start cols × Begins words e × (length cols ≡ length cols₀)
+Inv-loop words₀ rows₀ cols₀ table d g b e from to start₀ words rows cols start = (start ≤ d .count) × Grown words₀ words (rules g) (half d) (d .count) from start × (length rows ≡ 128) × Columns words (d .count) start cols × Begins words e × (length cols ≡ length cols₀)
 
 abbrev μ-loop : tie.MeasureT-loop
-μ-loop words₀ rows₀ cols₀ table d g e from to start₀ words rows cols start = start
+μ-loop words₀ rows₀ cols₀ table d g b e from to start₀ words rows cols start = start
 
 -- src/lib.rt:206:5
 loop-holds : tie.Need-loop-holds Inv-loop μ-loop

@@ -45,7 +45,7 @@ unite-requires c κs =
 returns : tie.Need-returns
 returns c =
     let s = c .before .before in
-    found-of (s .before .before .before .before .before .pre .0) (s .before .cut-masks .ensures) (s .splits .ensures) (c .before .level-of .ensures) (c .unite .ensures)
+    found-of (s .before .before .before .before .before .pre .0 .0) (s .before .cut-masks .ensures) (s .splits .ensures) (c .before .level-of .ensures) (c .unite .ensures)
 
 pub find-spec : {M : Type 1} → statement M
 find-spec =

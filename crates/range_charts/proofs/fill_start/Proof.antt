@@ -1,12 +1,11 @@
 -- The loop's invariant: the marks of the span so far, and what is solved.
 use borrow.Author.Needs.{needs}
 use mathlib.Core.Path.{_≡_, refl, sym, ap, _∙_, subst, subst₃}
-use Prim.Native.Nat.{ℕ, _+_, _-_, _*_, _≤_, _<_}
+use Prim.Native.Nat.{_+_, _-_, _*_, _≤_, _<_}
 use native.Mathlib.Omega.{arith}
 use lib.ListN.{length}
 use Rattle.grammar.specs.Content.{rules}
 use Rattle.grammar.specs.SpanSheet.{pairs}
-use Rattle.marks.specs.declared.SpanMarks.{SpanMarks}
 use Rattle.spans.specs.Changes.{Past}
 use Rattle.spans.proofs.ChangeLaws.{past-same, past-then}
 use Rattle.cuts.specs.Cuts.{Mirrors}
@@ -22,12 +21,12 @@ use Rattle.range_charts.proofs.fill_start.Statement.{statement}
 use Rattle.range_charts.proofs.fill_start.Tie as tie
 
 abbrev Inv-loop : tie.InvT-loop
-Inv-loop words₀ rows₀ cols₀ table g e start r n a k₀ len₀ words rows cols k len =
+Inv-loop words₀ rows₀ cols₀ table g b e start r n a k₀ len₀ words rows cols k len =
     (0 < len) × (start + len ≤ r .count) × RangeCarried (rangesOf r) start len k × Past (2 * pairs (r .count)) words₀ words × Small words₀ words (r .count)
     × SolvedFrom words (rules g) (rangesOf r) (r .count) start (len + 1) × Mirrors words (r .count) start (len + 1) rows cols × (length cols ≡ length cols₀)
 
 abbrev μ-loop : tie.MeasureT-loop
-μ-loop words₀ rows₀ cols₀ table g e start r n a k₀ len₀ words rows cols k len = r .count - len
+μ-loop words₀ rows₀ cols₀ table g b e start r n a k₀ len₀ words rows cols k len = r .count - len
 
 mul-a : tie.Need-mul-a Inv-loop μ-loop
 mul-a c = search needs

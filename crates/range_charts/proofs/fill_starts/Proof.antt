@@ -14,10 +14,10 @@ use Rattle.range_charts.proofs.fill_starts.Statement.{statement}
 use Rattle.range_charts.proofs.fill_starts.Tie as tie
 
 abbrev Inv-loop : tie.InvT-loop
-Inv-loop words₀ rows₀ cols₀ table r g e start₀ words rows cols start = (start ≤ r .count) × Advances words₀ words (rules g) (rangesOf r) (r .count) start × (length rows ≡ 128) × Columns words (r .count) start cols × (length cols ≡ length cols₀)
+Inv-loop words₀ rows₀ cols₀ table r g b e start₀ words rows cols start = (start ≤ r .count) × Advances words₀ words (rules g) (rangesOf r) (r .count) start × (length rows ≡ 128) × Columns words (r .count) start cols × (length cols ≡ length cols₀)
 
 abbrev μ-loop : tie.MeasureT-loop
-μ-loop words₀ rows₀ cols₀ table r g e start₀ words rows cols start = start
+μ-loop words₀ rows₀ cols₀ table r g b e start₀ words rows cols start = start
 
 loop-holds : tie.Need-loop-holds Inv-loop μ-loop
 loop-holds c =
