@@ -19,18 +19,18 @@ use Rattle.cuts.specs.declared.Pair.{Pair}
 use Rattle.cuts.specs.Joining.{Joins}
 use Rattle.cuts.proofs.JoinLaws.{joins-none, joins-as}
 use Rattle.chains.specs.SpanLinks.{Over, Beside, LinkAt}
-use Rattle.chains.specs.Reaching.{Has, Selves, Met, Counted, RuleCounted, Step, Forks, fork-self, fork-both, fork-beside, Branching, Branches}
+use Rattle.chains.specs.Reaching.{Has, Selves, Met, LinkCounted, RuleCounted, LinkStep, Forks, fork-self, fork-both, fork-beside, Branching, Branches}
 
 -- ---- one link
 
-pub count-none : {fits doubled : Type 0} (base : List ℕ) (a b : ℕ) (s t : List ℕ) → (fits → ⊥) → Counted fits doubled base a b s s t t
+pub count-none : {fits doubled : Type 0} (base : List ℕ) (a b : ℕ) (s t : List ℕ) → (fits → ⊥) → LinkCounted fits doubled base a b s s t t
 count-none base a b s t n = record {
   adds = joins-as (λ q B x. absurd x) (λ q B x. n (x .0)) (joins-none s);
   doubles = joins-as (λ q B x. absurd x) (λ q B x. n (x .0)) (joins-none t);
 }
 
 pub count-one : {when again : Bool} (base : List ℕ) (a b m : ℕ) {s s′ t t′ : List ℕ} → when ≡ true → Met (getD base b 0) (getD s a 0) again m
-    → Joins (λ q B. (q ≡ a) × In m B) t t′ → Joins (λ q B. (q ≡ a) × In (getD base b 0) B) s s′ → Counted (when ≡ true) (again ≡ true) base a b s s′ t t′
+    → Joins (λ q B. (q ≡ a) × In m B) t t′ → Joins (λ q B. (q ≡ a) × In (getD base b 0) B) s s′ → LinkCounted (when ≡ true) (again ≡ true) base a b s s′ t t′
 count-one base a b m {s} w d t u = record {
   adds = joins-as (λ q B x. (w, x .0, x .1)) (λ q B x. (x .1, x .2)) u;
   doubles = joins-as (λ q B x. let y = d .members B .0 (x .1) in (w, x .0, y .0, ⊎-elim (λ z. inl (subst (λ (p : ℕ). Has s p B) (sym (x .0)) z)) inr (y .1)))
@@ -39,7 +39,7 @@ count-one base a b m {s} w d t u = record {
 
 -- what the flags say
 pub count-says : {when again : Bool} {fits doubled : Type 0} {base : List ℕ} {a b : ℕ} {s s′ t t′ : List ℕ} → when ≡ true ↔ fits → again ≡ true ↔ doubled
-    → Counted (when ≡ true) (again ≡ true) base a b s s′ t t′ → Counted fits doubled base a b s s′ t t′
+    → LinkCounted (when ≡ true) (again ≡ true) base a b s s′ t t′ → LinkCounted fits doubled base a b s s′ t t′
 count-says f d c = record {
   adds = joins-as (λ q B x. (f .0 (x .0), x .1, x .2)) (λ q B x. (f .1 (x .0), x .1, x .2)) (c .adds);
   doubles = joins-as (λ q B x. (f .0 (x .0), x .1, x .2, ⊎-elim inl (λ z. inr (d .0 z)) (x .3))) (λ q B x. (f .1 (x .0), x .1, x .2, ⊎-elim inl (λ z. inr (d .1 z)) (x .3))) (c .doubles);
@@ -56,7 +56,7 @@ says-true {b} {P} s = (s .is, λ p. go b refl p)
 
 module _ (g : Rules) (holds : UnaryMark → Type 0) (e : Pair) (base : List ℕ) where
   abbrev Steps : (ℕ → ℕ → Type 0) → ℕ → ℕ → Type 0
-  Steps D A B = Step g holds (e .one) base D A B
+  Steps D A B = LinkStep g holds (e .one) base D A B
 
   abbrev Link : ℕ → ℕ → ℕ → ℕ → Type 0
   Link A i l C = LinkAt g holds (e .one) A i l C
@@ -108,7 +108,7 @@ module _ (g : Rules) (holds : UnaryMark → Type 0) (e : Pair) (base : List ℕ)
             let u = unlink A (x .over) (subst₂ (λ (p q : ℕ). Link A p q (x .over)) (z .0) (z .1) (x .link)) in
             inr (z .0, z .1, u .2, u .0, subst (λ (y : ℕ). Has base y B) (u .1) (x .has))
 
-    module _ {s s′ t t′ : List ℕ} (c : Counted fits doubled base a b s s′ t t′) (br : Branching g holds e base D s t) where
+    module _ {s s′ t t′ : List ℕ} (c : LinkCounted fits doubled base a b s s′ t t′) (br : Branching g holds e base D s t) where
       one-to : (A B : ℕ) → A < 64 → Has s′ A B → (A ≡ B) ⊎ Steps D′ A B
       one-to A B h x = ⊎-elim (λ y. ⊎-elim inl (λ z. inr (step-more D D′ grow z)) (br .one A B h .0 y)) (λ y. inr (mine (y .0) (y .1) (y .2))) (c .adds .only A B x)
 

@@ -17,7 +17,7 @@ use Rattle.cuts.specs.Cuts.{wordsOf}
 use Rattle.cuts.specs.Closure.{Links, Follows, by-parts, by-link, Doubles, both-parts, part-and-link, both-links, link-below, link-beside, ChainEntry, Just, Never}
 use Rattle.cuts.proofs.TryLaws.{every-rule}
 use Rattle.chains.specs.SpanLinks.{Over, LinkAt, spanLinks}
-use Rattle.chains.specs.Reaching.{Has, Selves, Step, Forks, fork-self, fork-both, fork-beside, Branches, Through, Leads, lead-one, lead-more, Closes, Turned}
+use Rattle.chains.specs.Reaching.{Has, Selves, LinkStep, Forks, fork-self, fork-both, fork-beside, Branches, Through, LeadsTo, lead-one, lead-more, Closes, Turned}
 use Rattle.chains.specs.Chains.{HoldsAt, Level}
 
 -- ---- links of links
@@ -78,7 +78,7 @@ module _ (g : Grammar) (formed : Formed g) (holds : UnaryMark → Type 0) (e : P
   small-down h (by-parts z) = subst (λ (x : ℕ). x < 64) z h
   small-down {A} h (by-link i l C x f) = small-down (small A i l C x .1) f
 
-  within : {A B : ℕ} {base : List ℕ} (x : Step (rules g) holds (e .one) base (λ i l. i < g .count) A B) → x .over < 64
+  within : {A B : ℕ} {base : List ℕ} (x : LinkStep (rules g) holds (e .one) base (λ i l. i < g .count) A B) → x .over < 64
   within {A} x = small A (x .index) (x .side) (x .over) (x .link) .1
 
   count : {A i l C : ℕ} → Link A i l C → i < g .count
@@ -91,7 +91,7 @@ module _ (g : Grammar) (formed : Formed g) (holds : UnaryMark → Type 0) (e : P
   pub reached : {base s t ws : List ℕ} → Selves 64 base → Branches (rules g) holds e base (g .count) s t → Closes s 64 ws → Reached ws
   reached {base} {s} {t} {ws} o b c A B h = (λ x. of h (c .leads A B x), λ f. to h f)
     where
-      of : {A B : ℕ} → A < 64 → Leads s A B → Follows links (Just B) A
+      of : {A B : ℕ} → A < 64 → LeadsTo s A B → Follows links (Just B) A
       of {A} {B} h (lead-one x) = ⊎-elim by-parts (λ y. by-link (y .index) (y .side) (y .over) (y .link) (by-parts (o .own (y .over) (within y) B .0 (y .has)))) (b .one A B h .0 x)
       of h (lead-more x k y) = follows-then links (of h x) (of k y)
 
@@ -104,10 +104,10 @@ module _ (g : Grammar) (formed : Formed g) (holds : UnaryMark → Type 0) (e : P
   -- ---- the entries
 
   module _ {base s t : List ℕ} (r : Reached base) (b : Branches (rules g) holds e base (g .count) s t) where
-    abbrev step : {A B i l C : ℕ} → Link A i l C → Follows links (Just B) C → Step (rules g) holds (e .one) base (λ i l. i < g .count) A B
+    abbrev step : {A B i l C : ℕ} → Link A i l C → Follows links (Just B) C → LinkStep (rules g) holds (e .one) base (λ i l. i < g .count) A B
     step {A} {B} {i} {l} {C} x f = record { index = i; side = l; over = C; done = count x; link = x; has = r C B (small A i l C x .1) .1 f }
 
-    below : {A B : ℕ} (x : Step (rules g) holds (e .one) base (λ i l. i < g .count) A B) → Follows links (Just B) (x .over)
+    below : {A B : ℕ} (x : LinkStep (rules g) holds (e .one) base (λ i l. i < g .count) A B) → Follows links (Just B) (x .over)
     below {A} {B} x = r (x .over) B (within x) .0 (x .has)
 
     one-is : Reached s

@@ -34,7 +34,7 @@ pub record Met (set seen : ℕ) (again : Bool) (r : ℕ) : Type 0 where
   pub members : (B : ℕ) → In r B ↔ (In set B × (In seen B ⊎ (again ≡ true)))
 
 -- a link of a over b is counted, if it is one (fits): s and t become s′ and t′; its empty word may have two trees (doubled)
-pub record Counted (fits doubled : Type 0) (base : List ℕ) (a b : ℕ) (s s′ t t′ : List ℕ) : Type 0 where
+pub record LinkCounted (fits doubled : Type 0) (base : List ℕ) (a b : ℕ) (s s′ t t′ : List ℕ) : Type 0 where
   pub adds : Joins (λ q B. fits × (q ≡ a) × Has base b B) s s′
   pub doubles : Joins (λ q B. fits × (q ≡ a) × Has base b B × (Has s q B ⊎ doubled)) t t′
 
@@ -42,11 +42,11 @@ pub record Counted (fits doubled : Type 0) (base : List ℕ) (a b : ℕ) (s s′
 abbrev pub RuleCounted : (UnaryMark → Type 0) → ℕ → ℕ → List ℕ → ℕ → Clause → List ℕ → List ℕ → List ℕ → List ℕ → Type 0
 RuleCounted holds one two base a Clause.Empty s s′ t t′ = (s′ ≡ s) × (t′ ≡ t)
 RuleCounted holds one two base a (Clause.Atom c d) s s′ t t′ = (s′ ≡ s) × (t′ ≡ t)
-RuleCounted holds one two base a (Clause.Unary B m) s s′ t t′ = Counted (holds m) ⊥ base a B s s′ t t′
-RuleCounted holds one two base a (Clause.Binary B C m) s s′ t t′ = (u : List ℕ) × (v : List ℕ) × Counted (In one B) (In two B) base a C s u t v × Counted (In one C) (In two C) base a B u s′ v t′
+RuleCounted holds one two base a (Clause.Unary B m) s s′ t t′ = LinkCounted (holds m) ⊥ base a B s s′ t t′
+RuleCounted holds one two base a (Clause.Binary B C m) s s′ t t′ = (u : List ℕ) × (v : List ℕ) × LinkCounted (In one B) (In two B) base a C s u t v × LinkCounted (In one C) (In two C) base a B u s′ v t′
 
 -- of the choices D one is a link of A over what has B
-pub record Step (g : Rules) (holds : UnaryMark → Type 0) (one : ℕ) (base : List ℕ) (D : ℕ → ℕ → Type 0) (A B : ℕ) : Type 0 where
+pub record LinkStep (g : Rules) (holds : UnaryMark → Type 0) (one : ℕ) (base : List ℕ) (D : ℕ → ℕ → Type 0) (A B : ℕ) : Type 0 where
   pub index : ℕ
   pub side : ℕ
   pub over : ℕ
@@ -56,15 +56,15 @@ pub record Step (g : Rules) (holds : UnaryMark → Type 0) (one : ℕ) (base : L
 
 -- A has B in two ways by the choices D
 pub data Forks (g : Rules) (holds : UnaryMark → Type 0) (e : Pair) (base : List ℕ) (D : ℕ → ℕ → Type 0) (A B : ℕ) : Type 0 where
-  fork-self : A ≡ B → Step g holds (e .one) base D A B → Forks g holds e base D A B
-  fork-both : (x y : Step g holds (e .one) base D A B) → (Same (x .index) (x .side) (y .index) (y .side) → ⊥) → Forks g holds e base D A B
-  fork-beside : (x : Step g holds (e .one) base D A B) → Beside (e .two) (rule g (x .index) .clause) (x .side) → Forks g holds e base D A B
+  fork-self : A ≡ B → LinkStep g holds (e .one) base D A B → Forks g holds e base D A B
+  fork-both : (x y : LinkStep g holds (e .one) base D A B) → (Same (x .index) (x .side) (y .index) (y .side) → ⊥) → Forks g holds e base D A B
+  fork-beside : (x : LinkStep g holds (e .one) base D A B) → Beside (e .two) (rule g (x .index) .clause) (x .side) → Forks g holds e base D A B
 
 -- the choices D are counted
 pub record Branching (g : Rules) (holds : UnaryMark → Type 0) (e : Pair) (base : List ℕ) (D : ℕ → ℕ → Type 0) (s t : List ℕ) : Type 0 where
   pub wide : length s ≡ 64
   pub wide₂ : length t ≡ 64
-  pub one : (A B : ℕ) → A < 64 → Has s A B ↔ ((A ≡ B) ⊎ Step g holds (e .one) base D A B)
+  pub one : (A B : ℕ) → A < 64 → Has s A B ↔ ((A ≡ B) ⊎ LinkStep g holds (e .one) base D A B)
   pub two : (A B : ℕ) → A < 64 → Has t A B ↔ Forks g holds e base D A B
 
 -- those of the first m rules
@@ -78,15 +78,15 @@ pub record Through (k : ℕ) (ws : List ℕ) (m : ℕ) (ws′ : List ℕ) : Type
   pub joins : Joins (λ q B. (q < m) × Has ws q k × Has ws k B) ws ws′
 
 -- from A down to B by words
-pub data Leads (ws : List ℕ) : ℕ → ℕ → Type 0 where
-  lead-one : {A B : ℕ} → Has ws A B → Leads ws A B
-  lead-more : {A B C : ℕ} → Leads ws A C → C < 64 → Leads ws C B → Leads ws A B
+pub data LeadsTo (ws : List ℕ) : ℕ → ℕ → Type 0 where
+  lead-one : {A B : ℕ} → Has ws A B → LeadsTo ws A B
+  lead-more : {A B C : ℕ} → LeadsTo ws A C → C < 64 → LeadsTo ws C B → LeadsTo ws A B
 
 -- ws′ has what ws leads to, by way of words below m at least
 pub record Closes (ws : List ℕ) (m : ℕ) (ws′ : List ℕ) : Type 0 where
   pub size : length ws′ ≡ 64
   pub keeps : (A B : ℕ) → Has ws A B → Has ws′ A B
-  pub leads : (A B : ℕ) → Has ws′ A B → Leads ws A B
+  pub leads : (A B : ℕ) → Has ws′ A B → LeadsTo ws A B
   pub via : (A C B : ℕ) → A < 64 → C < m → Has ws′ A C → Has ws′ C B → Has ws′ A B
 
 -- ---- the entries

@@ -20,7 +20,7 @@ ghost use Rattle.sets.specs.Says.{Says};
 ghost use Rattle.sets.specs.Sets.{In};
 ghost use Rattle.grammar.specs.Content.{rules, SmallRule, Formed};
 ghost use Rattle.cuts.specs.Joining.{Joins};
-ghost use Rattle.chains.specs.Reaching.{Has, Selves, Met, Counted, RuleCounted, Branches, Through, Closes, Gathers, Turned};
+ghost use Rattle.chains.specs.Reaching.{Has, Selves, Met, LinkCounted, RuleCounted, Branches, Through, Closes, Gathers, Turned};
 ghost use Rattle.chains.specs.Chains.{rank, HoldsAt, Leveled, Upto, Level, Chains, Ranked, Unranked, Stored, Copied};
 
 // The level of a span: 3 where all of its tokens stand on one line, 2 where offside holds, 1 where offalign does, else 0.
@@ -128,7 +128,7 @@ fn met(set: u64, seen: u64, again: bool) -> u64
 fn count(seen: &mut [u64], twice: &mut [u64], base: &[u64], a: u8, b: u8, when: bool, again: bool)
     requires { ⌜ (a < 64) × (b < 64) ⌝ }
     requires { ⌜ (length (now seen) ≡ 64) × (length (now twice) ≡ 64) × (length (now base) ≡ 64) ⌝ }
-    ensures { λ r. ⌜ Counted (when ≡ true) (again ≡ true) (now (base .entry)) a b (now (seen .entry)) (now (seen .exit)) (now (twice .entry)) (now (twice .exit)) ⌝ }
+    ensures { λ r. ⌜ LinkCounted (when ≡ true) (again ≡ true) (now (base .entry)) a b (now (seen .entry)) (now (seen .exit)) (now (twice .entry)) (now (twice .exit)) ⌝ }
 {
     if !when {
         return;

@@ -20,7 +20,7 @@ use Rattle.cuts.specs.Counts.{More}
 use Rattle.cuts.specs.Counts.More.{apart, below}
 use Rattle.cuts.specs.Cuts.{CutFits, CutBelow, CutStand, CutCounts}
 use Rattle.cuts.specs.Puts.{Least}
-use Rattle.cuts.specs.Places.{Binary, WithPlace, PlacedAt}
+use Rattle.cuts.specs.Places.{IsBinary, WithPlace, PlacedAt}
 use Rattle.cuts.proofs.Bits.{in-word}
 use Rattle.cuts.proofs.TryLaws.{cut-more}
 
@@ -32,8 +32,8 @@ placed-none g base = record { all = λ i h b. absurd (omega arith); within = λ 
 pub placed-more : {g : Rules} {base i set r : ℕ} → base + i < length g → WithPlace set i (rule g (base + i) .clause) r → PlacedAt g base i set → PlacedAt g base (i + 1) r
 placed-more {g} {base} {i} {set} {r} h w p = record { all = λ j k b. go j k b (ℕ-discrete j i); within = λ j x. ⊎-elim (p .within j) (λ z. subst (λ (y : ℕ). base + y < length g) (sym z) h) (w .only j x) }
   where
-    go : (j : ℕ) → j < i + 1 → Binary (rule g (base + j) .clause) → Dec (j ≡ i) → In r j
-    go j k b (yes z) = subst (In r) (sym z) (w .has (subst (λ (y : ℕ). Binary (rule g (base + y) .clause)) z b))
+    go : (j : ℕ) → j < i + 1 → IsBinary (rule g (base + j) .clause) → Dec (j ≡ i) → In r j
+    go j k b (yes z) = subst (In r) (sym z) (w .has (subst (λ (y : ℕ). IsBinary (rule g (base + y) .clause)) z b))
     go j k b (no z) = w .keeps j (p .all j (omega arith) b)
 
 -- past the last rule there is none
@@ -43,27 +43,27 @@ past-rule g i h = List·getD-eq-default g no-rule h
 pub placed-end : {g : Rules} {base i set : ℕ} → length g ≤ base + i → PlacedAt g base i set → PlacedAt g base 64 set
 placed-end {g} {base} {i} {set} h p = record { all = λ j k b. go j b (decLt j i); within = p .within }
   where
-    go : (j : ℕ) → Binary (rule g (base + j) .clause) → Dec (j < i) → In set j
+    go : (j : ℕ) → IsBinary (rule g (base + j) .clause) → Dec (j < i) → In set j
     go j b (yes z) = p .all j z b
-    go j b (no z) = absurd (subst (λ r. Binary (r .clause)) (past-rule g (base + j) (omega arith)) b)
+    go j b (no z) = absurd (subst (λ r. IsBinary (r .clause)) (past-rule g (base + j) (omega arith)) b)
 
 -- ---- trying them
 
 module _ (rows cols : List ℕ) (p : ℕ) (w : Masks) (g : Rules) where
-  no-fit : (c : Clause) → (Binary c → ⊥) → (k : ℕ) → CutFits rows cols p w c k → ⊥
+  no-fit : (c : Clause) → (IsBinary c → ⊥) → (k : ℕ) → CutFits rows cols p w c k → ⊥
   no-fit Clause.Empty n k f = f
   no-fit (Clause.Atom a b) n k f = f
   no-fit (Clause.Unary B m) n k f = f
   no-fit (Clause.Binary B C m) n k f = n tt
 
   -- rules that are no B rules are passed over
-  jump-by : (d m : ℕ) (t : Pair) → ((i : ℕ) → m ≤ i → i < m + d → Binary (rule g i .clause) → ⊥) → CutCounts rows cols p w g m t → CutCounts rows cols p w g (m + d) t
+  jump-by : (d m : ℕ) (t : Pair) → ((i : ℕ) → m ≤ i → i < m + d → IsBinary (rule g i .clause) → ⊥) → CutCounts rows cols p w g m t → CutCounts rows cols p w g (m + d) t
   jump-by zero m t n c = subst (λ (x : ℕ). CutCounts rows cols p w g x t) (let z : m ≡ m + 0 = omega arith in z) c
   jump-by (suc d) m t n c =
       subst (λ (x : ℕ). CutCounts rows cols p w g x t) (let z : m + d + 1 ≡ m + suc d = omega arith in z)
       (cut-more rows cols p w g (m + d) t t (record { hits = Hits.None; tells = no-fit (rule g (m + d) .clause) (n (m + d) (omega arith) (omega arith)); adds = refl }) (jump-by d m t (λ i h k. n i h (omega arith)) c))
 
-  jump : (m o : ℕ) (t : Pair) → m ≤ o → ((i : ℕ) → m ≤ i → i < o → Binary (rule g i .clause) → ⊥) → CutCounts rows cols p w g m t → CutCounts rows cols p w g o t
+  jump : (m o : ℕ) (t : Pair) → m ≤ o → ((i : ℕ) → m ≤ i → i < o → IsBinary (rule g i .clause) → ⊥) → CutCounts rows cols p w g m t → CutCounts rows cols p w g o t
   jump m o t h n c =
       let z : m + (o - m) ≡ o = omega arith in
       subst (λ (x : ℕ). CutCounts rows cols p w g x t) z (jump-by (o - m) m t (λ i a b. n i a (omega arith)) c)
@@ -93,7 +93,7 @@ module _ (rows cols : List ℕ) (p : ℕ) (w : Masks) (g : Rules) where
     reach i h k l =
         jump (base + y .upto) (base + i) t (omega arith)
         (λ q a b x. let z : base + (q - base) ≡ q = omega arith in
-        let u = l (q - base) (y .rests (q - base) (omega arith) (pl .all (q - base) (omega arith) (subst (λ (v : ℕ). Binary (rule g v .clause)) (sym z) x))) in omega arith)
+        let u = l (q - base) (y .rests (q - base) (omega arith) (pl .all (q - base) (omega arith) (subst (λ (v : ℕ). IsBinary (rule g v .clause)) (sym z) x))) in omega arith)
         (y .counts)
 
     pub trying-next : {i : ℕ} {u : Pair} → Least rest i → (CutCounts rows cols p w g (base + i) t → CutCounts rows cols p w g (base + i + 1) u) → Trying base set (bitAnd rest (rest - 1)) u

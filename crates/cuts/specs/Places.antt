@@ -10,21 +10,21 @@ use Rattle.grammar.specs.Trees.{Rules}
 use Rattle.tables.specs.Tables.{rule}
 use Rattle.cuts.specs.declared.BinaryRules.{BinaryRules}
 
-abbrev pub Binary : Clause → Type 0
-Binary Clause.Empty = ⊥
-Binary (Clause.Atom a b) = ⊥
-Binary (Clause.Unary B m) = ⊥
-Binary (Clause.Binary B C m) = Unit {0}
+abbrev pub IsBinary : Clause → Type 0
+IsBinary Clause.Empty = ⊥
+IsBinary (Clause.Atom a b) = ⊥
+IsBinary (Clause.Unary B m) = ⊥
+IsBinary (Clause.Binary B C m) = Unit {0}
 
 -- r has what the set has, and i if the clause is binary
 pub record WithPlace (set i : ℕ) (c : Clause) (r : ℕ) : Type 0 where
   pub keeps : (j : ℕ) → In set j → In r j
-  pub has : Binary c → In r i
+  pub has : IsBinary c → In r i
   pub only : (j : ℕ) → In r j → In set j ⊎ (j ≡ i)
 
 -- the set has the places of the B rules among the m from base on, counted from there, and places of rules alone
 pub record PlacedAt (g : Rules) (base m set : ℕ) : Type 0 where
-  pub all : (i : ℕ) → i < m → Binary (rule g (base + i) .clause) → In set i
+  pub all : (i : ℕ) → i < m → IsBinary (rule g (base + i) .clause) → In set i
   pub within : (i : ℕ) → In set i → base + i < length g
 
 -- of all B rules
