@@ -4,6 +4,7 @@ use mathlib.Core.List.{List, [], _∷_, _++_, List·Memᴰ}
 use Prim.Native.Nat.{ℕ, _+_, _≤_, _<_}
 use native.Mathlib.Omega.{arith}
 use lib.ListN.{length, length-append}
+use Rattle.grammar.proofs.Acyclic.{no-parts}
 use Rattle.sets.specs.Sets.{In}
 use Rattle.sets.proofs.Sets.{in-zero}
 use Rattle.grammar.specs.declared.Rule.{Rule}
@@ -15,11 +16,6 @@ use Rattle.grammar.specs.Cycles.{Nullable}
 use Rattle.grammar.proofs.ByKind.{no-word}
 use Rattle.acyclic.specs.Exact.{Exactly}
 use Rattle.acyclic.specs.Passes.{Ready, AddsLeft}
-
-parts : (u v : Word) → u ++ v ≡ [] → (u ≡ []) × (v ≡ [])
-parts u v e =
-    let n = ap length e in
-    (no-word u (omega (arith, length-append u v)), no-word v (omega (arith, length-append u v)))
 
 module _ {g : Rules} where
   null-by : (s : ℕ) → ((Y : ℕ) → In s Y → Nullable g Y) → (A : ℕ) (c : Clause) → List·Memᴰ (record { left = A; clause = c }) g → Ready s c → Nullable g A
@@ -62,7 +58,7 @@ module _ {g : Rules} where
     member (valid-leaf m) e = absurd (let z : _≡_ {A = ℕ} 0 1 = cc in omega arith)
     member (valid-unary {A = A} k m h v) e = shut _ m A (refl, member v e)
     member (valid-binary {A = A} {s = x} {t = y} k m h u v) e =
-        let p = parts (word x) (word y) e in
+        let p = no-parts (word x) (word y) e in
         shut _ m A (refl, (member u (p .0), member v (p .1)))
 
     pub nulls-exact : ((Y : ℕ) → In s Y → Nullable g Y) → Exactly s (Nullable g)

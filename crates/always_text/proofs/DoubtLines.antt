@@ -6,6 +6,7 @@ use native.Mathlib.Nat.{add-zero}
 use native.Mathlib.Omega.{arith}
 use lib.ListN.{length, take, drop, getD, length-drop}
 use lib.Seq.{take-add, length-take-le, getD-drop}
+use Rattle.printing.proofs.Texts.{four}
 use Rattle.grammar.specs.Trees.{Rules}
 use Rattle.lists.specs.Lists.{bytesOf, GivesList, fits, large}
 use Rattle.lists.proofs.Entries.{bytes-length}
@@ -36,15 +37,6 @@ lines-append (suc m) [] b e = absurd (omega arith)
 lines-append (suc m) (A ∷ []) b e = absurd (omega arith)
 lines-append (suc m) (A ∷ p ∷ []) b e = absurd (omega arith)
 lines-append (suc m) (A ∷ p ∷ q ∷ []) b e = absurd (omega arith)
-
--- the entry at i
-four : (l : List ℕ) → 4 ≤ length l
-    → take 4 l ≡ getD l 0 0 ∷ getD l 1 0 ∷ getD l 2 0 ∷ getD l 3 0 ∷ []
-four (a ∷ b ∷ c ∷ d ∷ l) h = refl
-four [] h = absurd (omega arith)
-four (a ∷ []) h = absurd (omega arith)
-four (a ∷ b ∷ []) h = absurd (omega arith)
-four (a ∷ b ∷ c ∷ []) h = absurd (omega arith)
 
 -- the line of the entry at i
 abbrev pub lineAt : ℕ → List ℕ → List ℕ

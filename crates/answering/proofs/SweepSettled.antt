@@ -29,7 +29,7 @@ use Rattle.sweeping.specs.Cleared.{TriedBy}
 off : {k : ℕ} → (k < 1) ⊎ (7 < k) → 1 ≤ k → k ≤ 7 → ⊥
 off h l u = ⊎-elim (λ x. omega arith) (λ x. omega arith) h
 
-never-both : {g : Rules} {k : ℕ} {cs : List Cell} → Clear g k → FirstTwo g k cs → ⊥
+pub never-both : {g : Rules} {k : ℕ} {cs : List Cell} → Clear g k → FirstTwo g k cs → ⊥
 never-both {g} {k} {cs} c f =
     let z : Sweeps.clear ≡ found cs = answer-unique g k Sweeps.clear (found cs) c f in
     let q : _≡_ {A = ℕ} 0 1 = cc in

@@ -3,6 +3,7 @@ use mathlib.Core.Path.{_≡_, refl, ap, _∙_, sym, subst}
 use mathlib.Core.List.{List, [], _∷_}
 use Prim.Native.Nat.{ℕ}
 use lib.ListN.{length}
+use Rattle.pairs.proofs.DoubtLaws.{doubts-empty}
 use Rattle.grammar.specs.Trees.{Rules}
 use Rattle.grammar.specs.Sweeps.{Clear}
 use Rattle.lists.specs.Lists.{bytesOf, GivesList, fits, large}
@@ -13,7 +14,6 @@ use Rattle.pairs.specs.Always.{AlwaysClear}
 use Rattle.pairs.specs.Doubts.{Doubt, AllDoubts}
 use Rattle.pairs.proofs.ClearLaws.{passes-clear, always-sweeps}
 use Rattle.doubt_list.specs.Entries.{doubtBytes}
-use Rattle.doubt_list.proofs.Settled.{doubts-empty}
 use Rattle.call_always.specs.declared.Told.{Told}
 use Rattle.call_always.specs.declared.Told.the-variants as Told
 use Rattle.call_always.specs.declared.AlwaysReply.{AlwaysReply}

@@ -8,7 +8,7 @@ use lib.Seq.{length-take-le, getD-take, ext-getD}
 use Rattle.grammar.specs.Trees.{Rules}
 use Rattle.sheets.specs.Items.{Reading}
 use Rattle.spans.specs.Changes.{Past, Cleared}
-use Rattle.spans.proofs.ChangeLaws.{past-then, past-drop}
+use Rattle.spans.proofs.ChangeLaws.{past-then, past-drop, zeroed}
 use Rattle.call_always.specs.declared.Told.the-variants as Told
 use Rattle.call_always.specs.declared.AlwaysReply.{AlwaysReply}
 use Rattle.call_always.specs.Always.{alwaysReplyOf, AlwaysBy}
@@ -19,14 +19,6 @@ some n = record { told = Told.Unknown; line = 0; count = n }
 pub some-entries : (n : ℕ) → (n ≡ 0 → ⊥) → some n ≡ alwaysReplyOf n
 some-entries zero h = absurd (h refl)
 some-entries (suc n) h = refl
-
-zeroed : (m : ℕ) (ws ws′ : List ℕ) → m ≤ length ws′ → Cleared ws ws′ m → take m ws′ ≡ replicate m 0
-zeroed m ws ws′ h c =
-    let e = length-take-le m ws′ h in
-    ext-getD 0 (take m ws′) (replicate m 0) (e ∙ sym (length-replicate m 0))
-    (λ i l.
-    let j : i < m = omega arith in
-    getD-take m ws′ i 0 j ∙ c .zeros i j ∙ sym (getD-replicate m i 0 0 j))
 
 -- the words that a call changed, and then cleared
 pub all-emptied : (m : ℕ) {ws ws′ ws″ : List ℕ} → m ≤ length ws → Past m ws ws′ → Cleared ws′ ws″ m

@@ -4,6 +4,7 @@ use mathlib.Core.List.{List}
 use Prim.Native.Nat.{ℕ, _*_}
 use native.Mathlib.Omega.{arith}
 use lib.ListN.{length, take}
+use Rattle.pairs.proofs.DoubtLaws.{doubts-same}
 use Rattle.grammar.specs.Trees.{Rules}
 use Rattle.lists.specs.Lists.{bytesOf, GivesList}
 use Rattle.lists.proofs.Settled.{gives-settled, gives-moved}
@@ -13,7 +14,6 @@ use Rattle.sheets.proofs.Numbers.{same-fault}
 use Rattle.sheets.proofs.Once.{apart, same-items, same-refusal}
 use Rattle.pairs.specs.Doubts.{Doubt}
 use Rattle.doubt_list.specs.Entries.{doubtBytes}
-use Rattle.doubt_list.proofs.Settled.{doubts-same}
 use Rattle.call_always.specs.declared.AlwaysReply.{AlwaysReply}
 use Rattle.call_always.specs.Always.{alwaysReplyOf, alwaysRefusal, AlwaysOn, short, listing}
 use Rattle.call_always.specs.Always.{AlwaysBy, refusing, reading}

@@ -5,6 +5,7 @@ use Prim.Native.Nat.{ℕ, _+_, _*_, _≤_, _<_}
 use native.Mathlib.Omega.{arith}
 use native.Mathlib.Nat.{mul-le-mul-right}
 use lib.ListN.{length}
+use Rattle.spans.proofs.Places.{pairs-few}
 use Rattle.grammar.specs.Layout.{Word}
 use Rattle.grammar.specs.Trees.{Rules, TwoTrees}
 use Rattle.grammar.specs.SpanSheet.{pairs}
@@ -22,10 +23,6 @@ use Rattle.call_places.specs.Replies.{NothingGiven, replied}
 use Rattle.grammar.specs.Distinct.{Distinct}
 
 -- 64 tokens have 2,081 pairs
-pub pairs-most : (n : ℕ) → n ≤ 64 → pairs n ≤ 2081
-unfolding pairs
-pairs-most n h = omega (arith, mul-le-mul-right (n + 1) h)
-
 module _ {g : Rules} {w : Word} where
   pub too-few : {n : ℕ} {ws l : List ℕ} {r : PlacesReply} → length w ≡ n → length ws < 2 * pairs n → r ≡ placesRefusal Fault.FewWords 0 → PlacesOn g w ws ws l l r
   too-few e h q = short (omega (arith, ap pairs e)) refl q refl refl

@@ -33,7 +33,7 @@ refusal-same : {f f′ : Fault} {a b ws : List ℕ} {r s : ShareReply} (n : ℕ)
 refusal-same {f} {f′} n m o x y h k = (x ∙ ap (λ (z : Fault). shareRefusal z 0) (same-fault f f′ n m o) ∙ sym y, h ∙ sym k)
 
 -- outside lo to hi
-off : {lo hi k : ℕ} → (k < lo) ⊎ (hi < k) → lo ≤ k → k ≤ hi → ⊥
+pub off : {lo hi k : ℕ} → (k < lo) ⊎ (hi < k) → lo ≤ k → k ≤ hi → ⊥
 off h l u = ⊎-elim (λ x. omega arith) (λ x. omega arith) h
 
 -- the lowest is one

@@ -5,6 +5,7 @@ use mathlib.Core.List.{List, [], _∷_, List·Memᴰ, List·Memᴰ·head, List·
 use Prim.Native.Nat.{ℕ, zero, suc, _-_, _^_, _≤_, _<_}
 use native.Mathlib.Omega.{arith}
 use native.Mathlib.Nat.{pow-suc, pow-le-pow-left, pow-le-pow-right, mul-le-mul, mul-zero, zero-mul, le-trans}
+use Rattle.answering.proofs.SweepSettled.{never-both}
 use Rattle.grammar.specs.declared.Cell.{Cell}
 use Rattle.grammar.specs.Trees.{Rules}
 use Rattle.grammar.specs.Sweeps.{Clear, FirstTwo, found, terminalCount, arrangements}
@@ -26,7 +27,7 @@ use Rattle.call_shares.specs.Merge.{Refuses, Merged, first-refuses, seco
 use Rattle.call_shares.specs.MergedAll.{MergedAll, Answered, some-refused, all-clear, first-found}
 use Rattle.call_shares.specs.MergedAll as MergedAll
 use Rattle.call_shares.specs.Asked.{Asked}
-use Rattle.call_shares.proofs.ShareSettled.{small-terminals}
+use Rattle.call_shares.proofs.ShareSettled.{small-terminals, off}
 use Rattle.call_shares.proofs.Merging.{merged-sweep}
 
 -- 1. fewer tokens have no more arrangements: an answered sweep of k leaves no 24 for a length up to k
@@ -53,9 +54,6 @@ data Kept (r : ShareReply) : Type 0 where
 kept-not : {r : ShareReply} → Kept r → Refuses (r .answer) → ⊥
 kept-not (nothing e l z) x = subst Refuses e x
 kept-not (lowest e l) x = subst Refuses e x
-
-off : {lo hi k : ℕ} → (k < lo) ⊎ (hi < k) → lo ≤ k → k ≤ hi → ⊥
-off h l u = ⊎-elim (λ x. omega arith) (λ x. omega arith) h
 
 module _ {rules : List ℕ} {g : Rules} (e : ruleSheet rules ≡ accepted g) {n p i : ℕ} {r : ShareReply} (x : Asked rules n p i r) where
   answered : Answered g n p i r
@@ -102,12 +100,6 @@ pub record SameAnswer (m : ShareReply) (s : SweepReply) : Type 0 where
   pub answer : m .answer ≡ s .answer
   pub line : m .line ≡ s .line
   pub sentence : m .sentence ≡ s .sentence
-
-never-both : {g : Rules} {k : ℕ} {cs : List Cell} → Clear g k → FirstTwo g k cs → ⊥
-never-both {g} {k} {cs} c f =
-    let z : Sweeps.clear ≡ found cs = answer-unique g k Sweeps.clear (found cs) c f in
-    let q : _≡_ {A = ℕ} 0 1 = cc in
-    omega arith
 
 kept-line : {r : ShareReply} → Kept r → r .line ≡ 0
 kept-line (nothing e l z) = l

@@ -17,7 +17,7 @@ use Rattle.grammar.specs.declared.Clause.{Clause}
 use Rattle.grammar.specs.declared.Clause.the-variants as Clause
 use Rattle.grammar.specs.Trees.{Rules}
 use Rattle.grammar.specs.Content.{rules, Formed, SmallRule}
-use Rattle.grammar.proofs.Lists.{mem-every}
+use Rattle.grammar.proofs.Lists.{mem-every, getElem?-take}
 use Rattle.grammar.proofs.ByKind.{getElem?-lt}
 use Rattle.grammar.proofs.ChoiceLaws.{member-at}
 use Rattle.fields.specs.declared.Lay.{Lay}
@@ -173,12 +173,6 @@ getElem?-getD : (l : Rules) (i : ℕ) (r d : Rule) → getElem? l i ≡ some r �
 getElem?-getD [] i r d e = absurd (let z : _≡_ {A = ℕ} 0 1 = cc in omega arith)
 getElem?-getD (x ∷ l) zero r d e = cc
 getElem?-getD (x ∷ l) (suc i) r d e = getElem?-getD l i r d e
-
-getElem?-take : (l : Rules) (n p : ℕ) {x : Rule} → getElem? (take n l) p ≡ some x → getElem? l p ≡ some x
-getElem?-take l zero p {x} e = absurd (let z : _≡_ {A = ℕ} 0 1 = cc in omega arith)
-getElem?-take [] (suc n) p {x} e = e
-getElem?-take (y ∷ l) (suc n) zero e = e
-getElem?-take (y ∷ l) (suc n) (suc p) e = getElem?-take l n p e
 
 pub barred-zero : (may : View) (s : List ℕ) (g : Rules) (p : ℕ) (lay bytes : List ℕ) → p ≡ 0 → ChangeOn may s g p lay bytes bytes (changeRefusal Fault.NoRight 0)
 barred-zero may s g p lay bytes e = barred (λ m. omega (arith, m .low)) refl refl refl

@@ -6,6 +6,7 @@ use Prim.Native.Nat.{ℕ, zero, suc, _+_, _<_}
 use native.Mathlib.Omega.{arith}
 use native.Mathlib.Decide.{ℕ-discrete}
 use lib.ListN.{length}
+use Rattle.grammar.proofs.Lists.{every-at}
 use Rattle.grammar.specs.declared.Clause.{Clause}
 use Rattle.grammar.specs.declared.Clause.the-variants as Clause
 use Rattle.grammar.specs.declared.UnaryMark.{UnaryMark}
@@ -15,7 +16,6 @@ use Rattle.tables.specs.Tables.{no-rule, rule}
 use Rattle.cuts.specs.declared.Pair.{Pair}
 use Rattle.cuts.specs.Cuts.{wordsOf}
 use Rattle.cuts.specs.Closure.{Links, Follows, by-parts, by-link, Doubles, both-parts, part-and-link, both-links, link-below, link-beside, ChainEntry, Just, Never}
-use Rattle.cuts.proofs.TryLaws.{every-rule}
 use Rattle.chains.specs.SpanLinks.{Over, LinkAt, spanLinks}
 use Rattle.chains.specs.Reaching.{Has, Selves, LinkStep, Forks, fork-self, fork-both, fork-beside, Branches, Through, LeadsTo, lead-one, lead-more, Closes, Turned}
 use Rattle.chains.specs.Chains.{HoldsAt, Level}
@@ -66,7 +66,7 @@ module _ (g : Grammar) (formed : Formed g) (holds : UnaryMark → Type 0) (e : P
 
   small : (A i l C : ℕ) → Link A i l C → (A < 64) × (C < 64)
   small A i l C x =
-      let r = every-rule SmallRule no-rule (rules g) (formed .small) i (x .within) in
+      let r = every-at SmallRule no-rule (rules g) (formed .small) i (x .within) in
       (subst (λ (y : ℕ). y < 64) (x .left) (r .left), small-over (rule (rules g) i .clause) l C (r .clause) (x .over))
 
   -- what follows from B is small if B is, and the other way round

@@ -8,6 +8,7 @@ use native.Mathlib.Decide.{ℕ-discrete}
 use lib.Bits.{bitAnd, bitOr}
 use lib.ListN.{length, getD, set, length-set}
 use lib.Seq.{getD-set-same, getD-set-other}
+use Rattle.sets.proofs.Bits.{in-or}
 use Rattle.sets.specs.Sets.{In}
 use Rattle.sets.specs.Insertion.{insert}
 use Rattle.sets.proofs.Sets.{in-zero, insert-same, insert-only}
@@ -15,7 +16,7 @@ use Rattle.spans.specs.Changes.{Cleared}
 use Rattle.cuts.specs.Cuts.{wordsOf}
 use Rattle.cuts.specs.Puts.{Least, PutPair}
 use Rattle.cuts.specs.Joining.{Joins}
-use Rattle.cuts.proofs.Bits.{in-or, in-word}
+use Rattle.cuts.proofs.Bits.{in-word}
 use Rattle.cuts.proofs.ClosureLaws.{Done}
 use Rattle.cuts.proofs.JoinLaws.{joins-none, joins-then, joins-as}
 use Rattle.chains.specs.Reaching.{Has, Selves, Through, Gathers, Turned}

@@ -62,7 +62,7 @@ sheet-of s g e = go (pieces 10 s) refl e
 
 -- 2. a rule with another lay: its key and its left are kept
 
-rule-inj : (q r : Rule) → RuleLine.Good q ≡ RuleLine.Good r → q ≡ r
+pub rule-inj : (q r : Rule) → RuleLine.Good q ≡ RuleLine.Good r → q ≡ r
 rule-inj q r e = cc
 
 -- what is the same under any lay
@@ -73,7 +73,7 @@ pub record SameBut (r s : Rule) : Type 0 where
 by-good : (r q s : Rule) → RuleLine.Good q ≡ RuleLine.Good s → SameBut r q → SameBut r s
 by-good r q s e x = rw (← rule-inj q s e) x
 
-unfit-not : (s : Rule) → RuleLine.Unfit ≡ RuleLine.Good s → ⊥
+pub unfit-not : (s : Rule) → RuleLine.Unfit ≡ RuleLine.Good s → ⊥
 unfit-not s e = let z : _≡_ {A = ℕ} 0 1 = cc in omega arith
 
 module _ (l : ℕ) (s : Rule) where

@@ -68,7 +68,7 @@ pub record Rest (u v : Rules) (ps : List (List ℕ)) (w : Rules) : Type 0 where
   pub whole : w ≡ u ++ tail
   pub reads : itemsFrom ruleStep v ps ≡ accepted (v ++ tail)
 
-accepted-inj : (u w : Rules) → accepted u ≡ accepted w → u ≡ w
+pub accepted-inj : (u w : Rules) → accepted u ≡ accepted w → u ≡ w
 accepted-inj u w e = cc
 
 pub rest-same : (u v : Rules) (ps : List (List ℕ)) (w : Rules) → SameKeys u v → itemsFrom ruleStep u ps ≡ accepted w → Rest u v ps w

@@ -29,22 +29,16 @@ use Rattle.shown.specs.Stricter.{StricterClause, same, unary, binary, Stricter,
 use Rattle.shown.proofs.StricterLaws.{stays-none, never-two}
 use Rattle.changing.specs.Changed.{lineOf, changed, changedSheet, readChanged}
 use Rattle.changing.proofs.Relaying.{Five, five-of, laid-of}
-use Rattle.changing.proofs.Rereading.{outcome}
-use Rattle.changing.proofs.ChangedLaws.{ChangedAt, changed-at, SameBut, relaid-but}
+use Rattle.changing.proofs.Rereading.{outcome, accepted-inj}
+use Rattle.changing.proofs.ChangedLaws.{ChangedAt, changed-at, SameBut, relaid-but, rule-inj, unfit-not}
 use Rattle.changing.specs.Relaid.{layField, relaid}
 
 -- 1. one rule
 
-good-inj : (q r : Rule) → RuleLine.Good q ≡ RuleLine.Good r → q ≡ r
-good-inj q r e = cc
-
-unfit-not : (s : Rule) → RuleLine.Unfit ≡ RuleLine.Good s → ⊥
-unfit-not s e = let z : _≡_ {A = ℕ} 0 1 = cc in omega arith
-
 module _ (l : ℕ) (q : Rule) where
   -- the clause with another lay
   to : (c : Clause) (x : Rule) → RuleLine.Good x ≡ RuleLine.Good q → StricterClause c (x .clause) → StricterClause c (q .clause)
-  to c x e s = rw (← good-inj x q e) s
+  to c x e s = rw (← rule-inj x q e) s
 
   strict-empty : (y : Lay) → relaid l Clause.Empty y ≡ RuleLine.Good q → StricterClause Clause.Empty (q .clause)
   strict-empty Lay.None e = to Clause.Empty _ e same
@@ -81,14 +75,14 @@ module _ (l : ℕ) (q : Rule) where
 -- the rule r of a line whose lay is none, and what it is under another
 strict-rule : (l : ℕ) (k : Kind) (a b : ℕ) (r q : Rule) (y : Lay) → layRule l k a b Lay.None ≡ RuleLine.Good r → relaid (r .left) (r .clause) y ≡ RuleLine.Good q
     → StricterClause (r .clause) (q .clause)
-strict-rule l Kind.E a b r q y e f = let j = good-inj _ r e in rw (← j) (strict-empty l q y (rw (← j) at f))
+strict-rule l Kind.E a b r q y e f = let j = rule-inj _ r e in rw (← j) (strict-empty l q y (rw (← j) at f))
 strict-rule l Kind.A a b r q y e f = go (leb a b) e
   where
     go : (t : Bool) → cond t (RuleLine.Good (record { left = l; clause = Clause.Atom a b })) RuleLine.Reversed ≡ RuleLine.Good r → StricterClause (r .clause) (q .clause)
-    go true e = let j = good-inj _ r e in rw (← j) (strict-atom l q a b y (rw (← j) at f))
+    go true e = let j = rule-inj _ r e in rw (← j) (strict-atom l q a b y (rw (← j) at f))
     go false e = absurd (let z : _≡_ {A = ℕ} 0 1 = cc in omega arith)
-strict-rule l Kind.U a b r q y e f = let j = good-inj _ r e in rw (← j) (strict-unary l q a y (rw (← j) at f))
-strict-rule l Kind.B a b r q y e f = let j = good-inj _ r e in rw (← j) (strict-binary l q a b y (rw (← j) at f))
+strict-rule l Kind.U a b r q y e f = let j = rule-inj _ r e in rw (← j) (strict-unary l q a y (rw (← j) at f))
+strict-rule l Kind.B a b r q y e f = let j = rule-inj _ r e in rw (← j) (strict-binary l q a b y (rw (← j) at f))
 
 -- 2. the sheets
 
@@ -102,9 +96,6 @@ stricter-one (x ∷ front) back r q e c = more refl same (stricter-one front bac
 
 some-inj : (y z : Lay) → some y ≡ some z → y ≡ z
 some-inj y z e = cc
-
-accepted-inj : (u w : Rules) → accepted u ≡ accepted w → u ≡ w
-accepted-inj u w e = cc
 
 module _ (s : List ℕ) (g : Rules) (p : ℕ) (c : ChangedAt s g p) (was : layOf (layField s p) ≡ some Lay.None) where
   five : Five (pieces 32 (lineOf s p)) (c .rule)

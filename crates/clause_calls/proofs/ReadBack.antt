@@ -9,6 +9,7 @@ use native.Mathlib.Omega.{arith}
 use lib.ListN.{length, getElem?, length-append}
 use lib.Dec.{eqb}
 use borrow.Author.Tests.{eqb-true, le-leb, lt-leb}
+use Rattle.sets.proofs.Basics.{both}
 use Rattle.grammar.specs.declared.Rule.{Rule}
 use Rattle.grammar.specs.declared.Clause.{Clause}
 use Rattle.grammar.specs.declared.Clause.the-variants as Clause
@@ -50,10 +51,6 @@ use Rattle.clause_calls.specs.Expand.{sheetText}
 abbrev isFree : ℕ → List ℕ → Bool
 isFree b [] = true
 isFree b (x ∷ u) = not (eqb x b) && isFree b u
-
-both : (a b : Bool) → (a && b) ≡ true → (a ≡ true) × (b ≡ true)
-both true b e = (refl, e)
-both false b e = absurd (let z : _≡_ {A = ℕ} 0 1 = cc in omega arith)
 
 not-true : (a : Bool) → not a ≡ true → a ≡ false
 not-true true e = absurd (let z : _≡_ {A = ℕ} 0 1 = cc in omega arith)

@@ -9,6 +9,7 @@ use native.Mathlib.Numerals.{add-one}
 use lib.ListN.{drop}
 use lib.Dec.{leb, eqb, ltb, ltb→lt, nltb→le, leb→le, nleb→lt}
 use borrow.Author.Tests.{le-leb, lt-leb, eq-eqb, ne-eqb}
+use Rattle.sets.proofs.Basics.{never}
 use Rattle.grammar.specs.declared.BinaryMark.the-variants as BinaryMark
 use Rattle.clauses.specs.Clauses as C
 use Rattle.clauses.specs.Expansion.{pastExpr}
@@ -32,9 +33,6 @@ use Rattle.clause_lines.specs.ClauseLines.{good, deep, shallowOnly, lexe
 use Rattle.clause_lines.specs.Walks as W
 use Rattle.clause_lines.specs.Walks.{stateOf, isDue, takesRepeat, takesMark, isEnd, may, stateAfter, stepped, answer, answerAt, checkedOf, begun}
 use Rattle.clause_lines.specs.Loops.{Walks}
-
-never : {P : Type 0} → false ≡ true → P
-never e = absurd (let z : _≡_ {A = ℕ} 0 1 = cc in omega arith)
 
 leb-le : {a b : ℕ} → leb a b ≡ true → a ≤ b
 leb-le {a} {b} e = leb→le a b (rw e tt)

@@ -7,6 +7,7 @@ use mathlib.Core.Option.{some}
 use Prim.Native.Nat.{ℕ, zero, _+_, _≤_}
 use native.Mathlib.Omega.{arith}
 use lib.ListN.{length, length-append}
+use Rattle.sets.proofs.Basics.{true-or-false}
 use Rattle.grammar.specs.declared.Rule.{Rule}
 use Rattle.grammar.specs.declared.UnaryMark.{UnaryMark}
 use Rattle.grammar.specs.declared.UnaryMark.the-variants as UnaryMark
@@ -230,18 +231,14 @@ module _ (s : List ℕ) (at e : ℕ) (A₁ : AtomEnd s at e) (x : Lexed) (X : Le
           })
           (v .3)
 
-is-over : (b : Bool) → (b ≡ true) ⊎ (b ≡ false)
-is-over true = inl refl
-is-over false = inr refl
-
 -- no room at a step before: the rest is not looked at
 crowd : {s : List ℕ} {out : Emit} {r : Step} {a : ℕ} {new : Rules} {k : ℕ} {rest : List Lex} (q : Emit) (newq : Rules) (kq : ℕ)
     → Adds out q newq kq → (q .over ≡ false → ⊥) → (r .out .over ≡ false → q .over ≡ false) → kq ≤ k → length newq ≤ length new → Read s out r a new k rest
 crowd {s} {out} {r} {a} {new} {k} {rest} q newq kq A₁ z g h l =
-    record { adds = ⊎-elim (λ y. adds-over y cause) (λ y. absurd (z (g y))) (is-over (r .out .over)); left = λ u. absurd (z (g u)); named = λ u. absurd (z (g u)) }
+    record { adds = ⊎-elim (λ y. adds-over y cause) (λ y. absurd (z (g y))) (true-or-false (r .out .over)); left = λ u. absurd (z (g u)); named = λ u. absurd (z (g u)) }
   where
     cause : Cause out k (length new)
-    cause = cause-more out kq (length newq) k (length new) h l (⊎-elim (λ y. A₁ .why y) (λ y. absurd (z y)) (is-over (q .over)))
+    cause = cause-more out kq (length newq) k (length new) h l (⊎-elim (λ y. A₁ .why y) (λ y. absurd (z y)) (true-or-false (q .over)))
 
 module _ (s : List ℕ) (at : ℕ) (out o : Emit) (F : CountsOn out 1 o) (i : Step) (I : ItemRead s at o i) (x : Lexed) (X : Lexes s (i .at) x) where
   -- the first item of a sequence
@@ -293,7 +290,7 @@ module _ (s : List ℕ) (at : ℕ) (out o : Emit) (F : CountsOn out 1 o) (i : St
           (λ y. no-join s (i .at) x X k (I .reads g l k 0 w (c .suffixes) h .left y) (c .joins) z)
           (λ y. T .room (P .room y)) (omega arith)
           (omega (arith, length-append (emit g 0 (out .next + 1)) (U (out .next) (name g (out .next + 1)) UnaryMark.None ∷ [])))
-      go e l k L (several-text {m = m} {e = g} {f = f} {k = w₁} {l = w₂} w v) c h = ⊎-elim full room (is-over (i .out .over))
+      go e l k L (several-text {m = m} {e = g} {f = f} {k = w₁} {l = w₂} w v) c h = ⊎-elim full room (true-or-false (i .out .over))
         where
           n₁ : ℕ
           n₁ = out .next + 1
@@ -395,7 +392,7 @@ module _ (s : List ℕ) (at L : ℕ) (out : Emit) (a : Step) (S : SequenceRead s
           crowd (a .out) (emit g L (out .next)) (size g) (R .adds) (λ y. no-bar s (a .at) x X k (R .left y) (c .more) z) (λ y. P .room (T .room y))
           (omega arith)
           (omega (arith, length-append (emit g L (out .next)) (U L (out .next) UnaryMark.None ∷ [])))
-      go e l k (or-text {e = g} {f = f} {k = w₁} {l = w₂} w v) c h = ⊎-elim full room (is-over (a .out .over))
+      go e l k (or-text {e = g} {f = f} {k = w₁} {l = w₂} w v) c h = ⊎-elim full room (true-or-false (a .out .over))
         where
           R : Read s out a (out .next) (emit g L (out .next)) (size g) (bar ∷ (w₂ ++ k))
           R = S .reads g w₁ (bar ∷ (w₂ ++ k)) L w (bar-next (w₂ ++ k)) (left-by (append-assoc w₁ (bar ∷ w₂) k) h)

@@ -7,6 +7,7 @@ use native.Mathlib.Omega.{arith}
 use lib.ListN.{length}
 use lib.Dec.{leb}
 use borrow.Author.Tests.{leb-true}
+use Rattle.sets.proofs.Basics.{both}
 use Rattle.grammar.specs.declared.Rule.{Rule}
 use Rattle.grammar.specs.declared.Clause.{Clause}
 use Rattle.grammar.specs.declared.Clause.the-variants.{Empty, Atom, Unary, Binary}
@@ -43,10 +44,6 @@ sheet-terms s l e = go (pieces 10 s) e
 
 own-terms : (s : List ℕ) (g : Rules) (m : Meant s g) → TermsAll (m .clauses)
 own-terms s g m = subst TermsAll (sym (m .own .are)) (sheet-terms s (m .own .lines) (m .own .given))
-
-both : (a b : Bool) → (a && b) ≡ true → (a ≡ true) × (b ≡ true)
-both true b e = (refl, e)
-both false b e = absurd (let z : _≡_ {A = ℕ} 0 1 = cc in omega arith)
 
 -- 43 was not given
 room : (c : Clauses) → expansionFits c ≡ true → (pastAll c + sizeAll c ≤ 64) × (length (expansion c) ≤ 128)

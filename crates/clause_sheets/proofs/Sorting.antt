@@ -16,7 +16,7 @@ use Rattle.clauses.specs.Expansion.{size, alternativeRules, exprRules, expandFr
 use Rattle.clauses.specs.Emission.{emit}
 use Rattle.clauses.proofs.Bounds.{UnderAll}
 use Rattle.clauses.proofs.Order.{SameByLeft, same-refl, same-append, met, same-rising}
-use Rattle.clauses.proofs.Sorted.{under-all, of-members}
+use Rattle.clauses.proofs.Sorted.{under-all, of-members, members-of}
 use Rattle.clauses.proofs.Lines.{sheet-owned}
 use Rattle.clause_sheets.specs.Emitted.{emitAll}
 
@@ -59,21 +59,6 @@ sorted-expansion c h = met-all c 64 ∙ go (64 - (pastAll c + sizeAll c)) (let z
   where
     go : (j : ℕ) → j + (pastAll c + sizeAll c) ≡ 64 → rising 64 (expandFrom c (pastAll c)) ≡ expansion c
     go j e = ap (λ (i : ℕ). rising i (expandFrom c (pastAll c))) (sym e) ∙ rising-more (pastAll c + sizeAll c) j (expandFrom c (pastAll c)) (lefts-low c)
-
--- a rule is among those of its left
-members-of : (L : ℕ) (g : Rules) (r : Rule) → r .left ≡ L → List·Memᴰ r g → List·Memᴰ r (of L g)
-members-of L [] r q m = m
-members-of L (h ∷ g) r q m =
-    ⊎-elim (λ e. here (eqb (h .left) L) (eq-eqb (h .left) L (sym (ap (λ (x : Rule). x .left) e) ∙ q)) e)
-    (λ i. there (eqb (h .left) L) (members-of L g r q i)) (List·Memᴰ·cases-cons m)
-  where
-    here : (b : Bool) → b ≡ true → r ≡ h → List·Memᴰ r (elim b [ true ↦ h ∷ of L g | false ↦ of L g ])
-    here true p e = List·Memᴰ·head e
-    here false p e = absurd (let z : _≡_ {A = ℕ} 0 1 = cc in omega arith)
-
-    there : (b : Bool) → List·Memᴰ r (of L g) → List·Memᴰ r (elim b [ true ↦ h ∷ of L g | false ↦ of L g ])
-    there true i = List·Memᴰ·tail i
-    there false i = i
 
 -- the rules as met have the lefts of the expansion
 same-members : (a b : Rules) → SameByLeft a b → (K : ℕ) → ((r : Rule) → List·Memᴰ r b → r .left < K) → (r : Rule) → List·Memᴰ r a → r .left < K

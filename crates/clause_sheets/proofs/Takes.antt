@@ -9,6 +9,7 @@ use lib.ListN.{length, take, getD, set, length-append}
 use lib.Seq.{take-suc, take-suc-set}
 use lib.Dec.{eqb}
 use borrow.Author.Tests.{eq-eqb, ne-eqb}
+use Rattle.clauses.proofs.Order.{of-append}
 use Rattle.grammar.specs.declared.Rule.{Rule}
 use Rattle.grammar.specs.declared.Grammar.{Grammar}
 use Rattle.grammar.specs.Trees.{Rules}
@@ -37,14 +38,6 @@ taken-one l m x h = record { count = λ z. refl; rules = λ z. rw add-one (take-
 
 abbrev put : Bool → Rule → Rules → Rules
 put b h g = elim b [ true ↦ h ∷ g | false ↦ g ]
-
-of-append : (K : ℕ) (a b : Rules) → of K (a ++ b) ≡ of K a ++ of K b
-of-append K [] b = refl
-of-append K (h ∷ a) b = ap (put (eqb (h .left) K) h) (of-append K a b) ∙ go (eqb (h .left) K)
-  where
-    go : (c : Bool) → put c h (of K a ++ of K b) ≡ put c h (of K a) ++ of K b
-    go true = refl
-    go false = refl
 
 -- one rule more is looked at
 module _ (K : ℕ) (l : Rules) (i : ℕ) (d : Rule) (h : i < length l) where

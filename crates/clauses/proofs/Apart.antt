@@ -16,7 +16,7 @@ use Rattle.clauses.proofs.Bounds.{Under, UnderAll, start, Clash, AllApa
 use Rattle.grammar.proofs.ChoiceLaws.{member-at}
 use mathlib.Core.Option.{Option, none, some}
 use lib.ListN.{getElem?}
-use Rattle.clauses.proofs.Numbers.{owned, choices-left}
+use Rattle.clauses.proofs.Numbers.{owned, choices-left, begins-left}
 use Rattle.clauses.proofs.Lines.{sheet-owned, lines, choices-among, start-from, made-grows, among-range}
 use Rattle.clauses.proofs.Forward.{at}
 use mathlib.Core.Bool.{Bool, true, false}
@@ -57,10 +57,6 @@ begins-apart : (q : AtLeast) (N n : ℕ) (e : Expr item) (s : Rule) → Under N 
 begins-apart from-one N n e s u h q c = not-fresh N n e u h (same-target refl q c)
 begins-apart C.from-zero N n e s u h q c = never-alike refl q c
 
-begins-at : (q : AtLeast) (n B : ℕ) → repeatBegins q n B .left ≡ n
-begins-at from-one n B = refl
-begins-at C.from-zero n B = refl
-
 apart-rules : {s : Sort} (N : ℕ) (e : Expr s) (n : ℕ) → Under N e → N ≤ n → AllApart (exprRules e n)
 apart-rules N (nonterminal L) n u h = tt
 apart-rules N (a-part e) n u h = apart-rules N e n u h
@@ -81,7 +77,7 @@ apart-rules N (optional e) n u h = (
 )
 apart-rules N (repeated q m e) n u h = (
   (λ s i c. ⊎-elim (λ t. begins-apart q N n e s u h t c)
-      (λ j. let z = c .left in let b = begins-at q n (name e (n + 2)) in ⊎-elim (λ t. let y : s .left ≡ n + 1 = ap (λ (x : Rule). x .left) t in omega arith) (λ k. let o = owned e (n + 2) s k in omega arith) (List·Memᴰ·cases-cons j)) (List·Memᴰ·cases-cons i)),
+      (λ j. let z = c .left in let b = begins-left q n (name e (n + 2)) in ⊎-elim (λ t. let y : s .left ≡ n + 1 = ap (λ (x : Rule). x .left) t in omega arith) (λ k. let o = owned e (n + 2) s k in omega arith) (List·Memᴰ·cases-cons j)) (List·Memᴰ·cases-cons i)),
   (
     (λ s i c. let z = c .left in ⊎-elim (λ t. let y : s .left ≡ n + 1 = ap (λ (x : Rule). x .left) t in omega arith) (λ k. let o = owned e (n + 2) s k in omega arith) (List·Memᴰ·cases-cons i)),
     apart-head (B (n + 1) n (name e (n + 2)) m) e (n + 2) (omega arith) (apart-rules N e (n + 2) u (omega arith)),

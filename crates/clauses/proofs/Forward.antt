@@ -4,6 +4,7 @@ use mathlib.Core.Logic.{inl, inr}
 use mathlib.Core.List.{[], _∷_, _++_, List·Memᴰ, List·Memᴰ·head, List·Memᴰ·tail, Memᴰ·append-left}
 use Prim.Native.Nat.{ℕ, _+_}
 use native.Mathlib.Omega.{arith}
+use Rattle.grammar.proofs.Unmarked.{none-unary}
 use Rattle.grammar.specs.declared.Rule.{Rule}
 use Rattle.grammar.specs.declared.UnaryMark.{UnaryMark}
 use Rattle.grammar.specs.declared.UnaryMark.the-variants as UnaryMark
@@ -72,14 +73,6 @@ root-among N n (sole r) = root-made N n r
 root-among N n (this r) = inl (root-made N n r)
 root-among N n (other {e = e} r) = inr (root-among N (n + size e) r)
 
-pub free : (w : Word) → Mark.Unary UnaryMark.None w
-free [] = tt
-free (a ∷ w) = all w
-  where
-    all : (v : Word) → Mark.Every (Mark.Keeps UnaryMark.None a) v
-    all [] = tt
-    all (t ∷ v) = (tt, all v)
-
 pub keeps-one : {w v : Word} (m : UnaryMark) → w ≡ v → Mark.Unary m v → Mark.Unary m w
 keeps-one m e k = rw e k
 
@@ -88,7 +81,7 @@ keeps-two m e f k = rw (e, f) k
 
 -- a unary node without a mark
 over : {g : Rules} {L : ℕ} {t : Tree} → HasUnary g L (root t) UnaryMark.None → Valid g t → Valid g (unary L t)
-over {t} h v = valid-unary UnaryMark.None h (free (word t)) v
+over {t} h v = valid-unary UnaryMark.None h (none-unary (word t)) v
 
 -- the grammar is the sheet's expansion
 pub record Expands (c : Clauses) (N : ℕ) (g : Rules) : Type 0 where

@@ -26,7 +26,7 @@ put-append : (b : Bool) (h : Rule) (x y : Rules) → put b h (x ++ y) ≡ put b 
 put-append true h x y = refl
 put-append false h x y = refl
 
-of-append : (K : ℕ) (a b : Rules) → of K (a ++ b) ≡ of K a ++ of K b
+pub of-append : (K : ℕ) (a b : Rules) → of K (a ++ b) ≡ of K a ++ of K b
 of-append K [] b = refl
 of-append K (h ∷ a) b = ap (put (eqb (h .left) K) h) (of-append K a b) ∙ put-append (eqb (h .left) K) h (of K a) (of K b)
 

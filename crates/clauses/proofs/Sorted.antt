@@ -39,7 +39,7 @@ pub of-members : (L : ℕ) (g : Rules) (r : Rule) → List·Memᴰ r (of L g) �
 of-members L [] r m = m
 of-members L (h ∷ g) r m = put-members (eqb (h .left) L) h (of L g) g r (of-members L g r) m
 
-members-of : (L : ℕ) (g : Rules) (r : Rule) → r .left ≡ L → List·Memᴰ r g → List·Memᴰ r (of L g)
+pub members-of : (L : ℕ) (g : Rules) (r : Rule) → r .left ≡ L → List·Memᴰ r g → List·Memᴰ r (of L g)
 members-of L [] r q m = m
 members-of L (h ∷ g) r q m =
     ⊎-elim (λ e. put-head (eqb (h .left) L) h (of L g) r (eq→test (sym (ap (λ (x : Rule). x .left) e) ∙ q)) e)

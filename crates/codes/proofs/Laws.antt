@@ -13,7 +13,7 @@ use Rattle.grammar.specs.declared.BinaryMark.{BinaryMark}
 use Rattle.grammar.specs.Layout.{Every}
 use Rattle.grammar.specs.Trees.{Rules}
 use Rattle.grammar.specs.Content.{SmallClause, SmallRule}
-use Rattle.grammar.proofs.Lists.{cons-path, cons-parts}
+use Rattle.grammar.proofs.Lists.{cons-path, cons-parts, every-at}
 use Rattle.codes.specs.Codes.{unaryMark, binaryMark, clauseOf, kind, mark, first, second, clause, decode, decoded}
 
 -- ---- the digits of a code
@@ -147,11 +147,6 @@ gives-rule m l r e h c =
     λ i. record { left = p i; clause = k i }
 
 -- ---- lists of codes
-
-pub every-rule : (P : Rule → Type 0) (d : Rule) (g : Rules) → Every P g → (i : ℕ) → i < length g → P (getD g i d)
-every-rule P d [] e i h = absurd (not-suc-le-zero h)
-every-rule P d (x ∷ g) e zero h = e .0
-every-rule P d (x ∷ g) e (suc i) h = every-rule P d g (e .1) i (le-of-suc-le-suc h)
 
 -- a code more is stored
 pub stored : (cs : List ℕ) (g : Rules) (d : Rule) (i n : ℕ) → i < length cs → i < length g → decode n ≡ getD g i d → decoded (take i cs) ≡ take i g → decoded (take (suc i) (set cs i n)) ≡ take (suc i) g

@@ -7,11 +7,11 @@ use native.Mathlib.Decide.{ℕ-discrete}
 use lib.Bits.{bitOr}
 use lib.ListN.{length, getD, set, length-set}
 use lib.Seq.{getD-set-same, getD-set-other}
+use Rattle.sets.proofs.Bits.{in-or}
 use Rattle.sets.specs.Sets.{In}
 use Rattle.sets.specs.Insertion.{insert}
 use Rattle.sets.proofs.Sets.{insert-same, insert-keeps, insert-only}
 use Rattle.cuts.specs.Joining.{Joins}
-use Rattle.cuts.proofs.Bits.{in-or}
 
 -- nothing is put in
 pub joins-none : (rs : List ℕ) → Joins (λ q B. ⊥) rs rs

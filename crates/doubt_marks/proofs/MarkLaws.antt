@@ -5,6 +5,7 @@ use mathlib.Core.List.{List}
 use Prim.Native.Nat.{ℕ, _+_, _*_, _/_, _%_, _≤_, _<_}
 use native.Mathlib.Omega.{arith}
 use lib.ListN.{length, getD}
+use Rattle.pair_steps.proofs.ShapeNumbers.{shape-one, shape-low}
 use Rattle.sets.specs.Sets.{In}
 use Rattle.sets.proofs.Sets.{in-zero}
 use Rattle.grammar.specs.Trees.{Rules}
@@ -20,7 +21,7 @@ use Rattle.pair_steps.specs.Tables.{LowTable, SoundTable}
 use Rattle.pair_steps.specs.Closing.{ClosedTable}
 use Rattle.pair_nodes.specs.Slots.{nodeAt, SlotOf}
 use Rattle.pair_nodes.specs.Putting.{NodesMade}
-use Rattle.pair_nodes.proofs.SlotLaws.{number-low, number-rule, shape-one}
+use Rattle.pair_nodes.proofs.SlotLaws.{number-rule}
 use Rattle.doubt_list.specs.Marks.{Bit, Together, Marked}
 use Rattle.doubt_marks.specs.Standing.{spanFrame, MayOver}
 use Rattle.doubt_marks.specs.Growing.{Grows}
@@ -91,7 +92,7 @@ module _ {g : Rules} {ns t : List ℕ} (made : NodesMade g ns) (so : SoundTable 
                 some =
                     record {
                       place = shapeNumber (x .shape);
-                      low = number-low (x .shape) (place₁ made closed low (o .may));
+                      low = shape-low (x .shape) (place₁ made closed low (o .may));
                       is = record { row = refl; column = refl; may = s .may };
                     };
               };
@@ -100,7 +101,7 @@ module _ {g : Rules} {ns t : List ℕ} (made : NodesMade g ns) (so : SoundTable 
     seen-all : {A : ℕ} → Seen g A → SeenBy ns own A
     seen-all seen-top = by-top
     seen-all (seen-child {C} {σ} {x} h o m) =
-        by-child (shapeNumber (x .shape)) (number-low (x .shape) (place₁ made closed low (o .may)))
+        by-child (shapeNumber (x .shape)) (shape-low (x .shape) (place₁ made closed low (o .may)))
         (there made closed low (o .may)) (own-bit o)
         (subst (SeenBy ns own) (sym (sort-of made closed low (o .may))) (seen-all h))
         (has-child made closed low (o .may) m)
@@ -159,7 +160,7 @@ module _ {g : Rules} {ns t : List ℕ} (made : NodesMade g ns) (so : SoundTable 
                   some =
                       record {
                         place = shapeNumber (n .x .shape);
-                        low = number-low (n .x .shape) (place₁ made closed low m);
+                        low = shape-low (n .x .shape) (place₁ made closed low m);
                         is =
                             record {
                               seen =
@@ -170,7 +171,7 @@ module _ {g : Rules} {ns t : List ℕ} (made : NodesMade g ns) (so : SoundTable 
                               some =
                                   record {
                                     place = shapeNumber (n .y .shape);
-                                    low = number-low (n .y .shape) (place₂ made closed low m);
+                                    low = shape-low (n .y .shape) (place₂ made closed low m);
                                     is =
                                         record {
                                           row =

@@ -8,6 +8,7 @@ use native.Mathlib.Omega.{arith}
 use native.Mathlib.Numerals.{add-one}
 use lib.ListN.{length, take, set, length-append}
 use lib.Seq.{take-suc-set}
+use Rattle.sets.proofs.Basics.{true-or-false}
 use Rattle.grammar.specs.declared.Rule.{Rule}
 use Rattle.grammar.specs.Trees.{Rules}
 use Rattle.emits.specs.declared.Emit.{Emit}
@@ -32,10 +33,6 @@ adds-over e w =
 pub pushed : (rules : Rules) (count : ℕ) (r : Rule) → count < length rules → take (count + 1) (set rules count r) ≡ take count rules ++ (r ∷ [])
 pushed rules count r h = rw add-one (take-suc-set rules count r h)
 
-is-over : (b : Bool) → (b ≡ true) ⊎ (b ≡ false)
-is-over true = inl refl
-is-over false = inr refl
-
 pub cause-more : (o : Emit) (k l i j : ℕ) → k ≤ i → l ≤ j → Cause o k l → Cause o i j
 cause-more o k l i j p q (inl x) = inl x
 cause-more o k l i j p q (inr (inl x)) = inr (inl (omega arith))
@@ -44,7 +41,7 @@ cause-more o k l i j p q (inr (inr x)) = inr (inr (omega arith))
 pub adds-then : {o p q : Emit} {new : Rules} {k j : ℕ} (f : ℕ → Rules) → Adds o p new k → Adds p q (f (p .next)) j → Adds o q (new ++ f (o .next + k)) (k + j)
 adds-then {o} {p} {q} {new} {k} {j} f a b =
     record {
-      why = λ z. ⊎-elim (λ y. earlier (a .why y)) (λ y. ⊎-elim (λ x. earlier (a .why x)) (λ x. later x y) (is-over (p .over))) (b .why z);
+      why = λ z. ⊎-elim (λ y. earlier (a .why y)) (λ y. ⊎-elim (λ x. earlier (a .why x)) (λ x. later x y) (true-or-false (p .over))) (b .why z);
       count =
           λ z. let y = b .room z in b .count z ∙ ap (λ (i : ℕ). i + length (f (p .next))) (a .count y)
           ∙ ap (λ (i : ℕ). o .count + length new + length (f i)) (a .next y) ∙ both-lengths;

@@ -5,6 +5,7 @@ use mathlib.Core.Logic.{inl, inr, _↔_}
 use Prim.Native.Nat.{ℕ, zero, suc, _+_, _*_, _≤_, _<_}
 use native.Mathlib.Omega.{arith}
 use lib.ListN.{length, getD, replicate, length-replicate}
+use Rattle.grammar.proofs.Lists.{every-at}
 use Rattle.grammar.specs.Layout.{Word}
 use Rattle.grammar.specs.Trees.{Rules, Derives, TwoTrees}
 use Rattle.grammar.specs.Distinct.{Distinct}
@@ -24,7 +25,7 @@ use Rattle.cuts.specs.declared.Pair.{Pair}
 use Rattle.cuts.specs.declared.Masks.{Masks}
 use Rattle.cuts.specs.Cuts.{wordsOf, Masked, CutCounts, Parted, Mirrors}
 use Rattle.cuts.specs.Puts.{PutPair, PutRow}
-use Rattle.cuts.proofs.TryLaws.{every-rule, mirrored}
+use Rattle.cuts.proofs.TryLaws.{mirrored}
 use Rattle.cuts.proofs.MirrorLaws.{mirrors-put, mirrors-next, mirrors-end, columns-none}
 use Rattle.cuts.specs.Counts as Counts
 use Rattle.cuts.specs.Closure.{Closure, ChainEntry, Unites}
@@ -61,7 +62,7 @@ found-joins {ws} {ws′} {g} {n} {s} {len} {k} {rows} {cols} {table} {e} {t} few
     }
   where
     lefts : (B : ℕ) → Counts.Some (Parted ws n s len k g) B → B < 64
-    lefts B q = let x = every-rule SmallRule no-rule g small (q .rule) (q .stands .stand .within) .left in omega (arith, q .stands .stand .left)
+    lefts B q = let x = every-at SmallRule no-rule g small (q .rule) (q .stands .stand .within) .left in omega (arith, q .stands .stand .left)
 
 -- single has offside with it
 single-offside : {h : Half} {s len : ℕ} {k : SpanMarks} → Marked h s len k → UnaryBy k UnaryMark.Single → UnaryBy k UnaryMark.Offside

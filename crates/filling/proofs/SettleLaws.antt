@@ -6,6 +6,7 @@ use Prim.Native.Nat.{ℕ, zero, suc, _+_, _-_, _*_, _≤_, _<_}
 use native.Mathlib.Omega.{arith}
 use native.Mathlib.Decide.{ℕ-discrete, decLt}
 use lib.ListN.{length, getD}
+use Rattle.joins.proofs.PassLaws.{edge-mark}
 use Rattle.sets.specs.Sets.{In}
 use Rattle.grammar.specs.declared.Clause.{Clause}
 use Rattle.grammar.specs.declared.Clause.the-variants as Clause
@@ -31,11 +32,6 @@ use Rattle.cuts.specs.Counts.More.{apart as two-choices, below as one-doubled}
 use Rattle.cuts.specs.Cuts.{Parted, Splits}
 use Rattle.cuts.specs.Closure.{Links, Follows, by-parts, by-link, Doubles, both-parts, part-and-link, both-links, link-below, link-beside, Closure}
 use Rattle.chains.specs.SpanLinks.{Over, Beside, LinkAt, spanLinks, leftOf}
-
-edge-mark : (k : SpanMarks) (len : ℕ) (m : BinaryMark) (l : ℕ) → (0 < l → l < len → ⊥) → BinaryBy k len m l
-edge-mark k len BinaryMark.None l out = tt
-edge-mark k len BinaryMark.Align l out = λ x y. absurd (out x y)
-edge-mark k len BinaryMark.Indent l out = λ x y. absurd (out x y)
 
 at-part : (P : ℕ → ℕ → Type 0) {a b c d : ℕ} → a ≡ c → b ≡ d → P a b → P c d
 at-part P e f p = subst₂ P e f p

@@ -11,7 +11,7 @@ use Rattle.grammar.specs.declared.Clause.the-variants as Clause
 use Rattle.grammar.specs.Layout.{Word, Every}
 use Rattle.grammar.specs.Trees.{Tree, empty, leaf, unary, binary, root, word, Rules, Valid, valid-empty, valid-leaf, valid-unary, valid-binary, Derives}
 use Rattle.grammar.specs.Cycles.{Nullable, Edge, by-unary, by-left, by-right, Chain, one, more, Cyclic}
-use Rattle.grammar.proofs.Lists.{eq?, both?, or?, map?, some?, Some, mem?, mem-every, collect, mem-collect}
+use Rattle.grammar.proofs.Lists.{eq?, both?, or?, map?, some?, Some, mem?, mem-every, collect, mem-collect, mem-map}
 use Rattle.grammar.proofs.Saturation.{Saturated, saturate}
 
 -- 1. nullable nonterminals
@@ -29,13 +29,9 @@ ready? S (Clause.Atom a b) = no (λ x. x)
 ready? S (Clause.Unary B m) = mem? B S
 ready? S (Clause.Binary B C m) = both? (mem? B S) (mem? C S)
 
-mem-map : {A B : Type 0} {a : A} (f : A → B) (l : List A) → List·Memᴰ a l → List·Memᴰ (f a) (map f l)
-mem-map f (x ∷ l) (List·Memᴰ·head e) = List·Memᴰ·head (ap f e)
-mem-map f (x ∷ l) (List·Memᴰ·tail m) = List·Memᴰ·tail (mem-map f l m)
-
-no-word : (u v : Word) → u ++ v ≡ [] → (u ≡ []) × (v ≡ [])
-no-word [] v e = (refl, e)
-no-word (a ∷ u) v e = absurd (let z : _≡_ {A = ℕ} 0 1 = cc in omega arith)
+pub no-parts : (u v : Word) → u ++ v ≡ [] → (u ≡ []) × (v ≡ [])
+no-parts [] v e = (refl, e)
+no-parts (a ∷ u) v e = absurd (let z : _≡_ {A = ℕ} 0 1 = cc in omega arith)
 
 module _ (g : Rules) where
   abbrev lefts : List ℕ
@@ -92,7 +88,7 @@ module _ (g : Rules) where
   null-complete (valid-leaf m) e = absurd (let z : _≡_ {A = ℕ} 0 1 = cc in omega arith)
   null-complete (valid-unary {t = t} k m h v) e = null-member m (null-complete v e)
   null-complete (valid-binary {s = s} {t = t} k m h u v) e =
-      let p = no-word (word s) (word t) e in
+      let p = no-parts (word s) (word t) e in
       null-member m (null-complete u (p .0), null-complete v (p .1))
 
   pub nullable? : (A : ℕ) → Dec (Nullable g A)
@@ -203,24 +199,24 @@ pub record Ranked (g : Rules) : Type 0 where
   pub small : (A : ℕ) → rank A ≤ bound
   pub falls : {A B : ℕ} → Edge g A B → rank B < rank A
 
-one-if : {P : Type 0} → Dec P → ℕ
+pub one-if : {P : Type 0} → Dec P → ℕ
 one-if (yes p) = 1
 one-if (no n) = 0
 
-one-if-le : {P Q : Type 0} (d : Dec P) (e : Dec Q) → (P → Q) → one-if d ≤ one-if e
+pub one-if-le : {P Q : Type 0} (d : Dec P) (e : Dec Q) → (P → Q) → one-if d ≤ one-if e
 unfolding one-if
 one-if-le (yes p) (yes q) f = omega arith
 one-if-le (yes p) (no k) f = absurd (k (f p))
 one-if-le (no h) (yes q) f = omega arith
 one-if-le (no h) (no k) f = omega arith
 
-one-if-lt : {P Q : Type 0} (d : Dec P) (e : Dec Q) → (P → ⊥) → Q → one-if d < one-if e
+pub one-if-lt : {P Q : Type 0} (d : Dec P) (e : Dec Q) → (P → ⊥) → Q → one-if d < one-if e
 unfolding one-if
 one-if-lt (yes p) e f q = absurd (f p)
 one-if-lt (no h) (yes k) f q = omega arith
 one-if-lt (no h) (no k) f q = absurd (k q)
 
-one-if-one : {P : Type 0} (d : Dec P) → one-if d ≤ 1
+pub one-if-one : {P : Type 0} (d : Dec P) → one-if d ≤ 1
 unfolding one-if
 one-if-one (yes p) = omega arith
 one-if-one (no h) = omega arith

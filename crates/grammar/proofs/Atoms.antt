@@ -6,16 +6,13 @@ use mathlib.Core.List.{List, [], _∷_, _++_, List·Memᴰ, List·Memᴰ·head, 
 use Prim.Native.Nat.{ℕ}
 use lib.Dec.{leb}
 use borrow.Author.Tests.{le-leb, leb-true}
+use Rattle.sets.proofs.Basics.{both}
 use Rattle.sets.proofs.Says.{true-not-false}
 use Rattle.grammar.specs.declared.Rule.{Rule}
 use Rattle.grammar.specs.declared.Clause.{Clause}
 use Rattle.grammar.specs.declared.Clause.the-variants as Clause
 use Rattle.grammar.specs.Trees.{Rules, Covers, HasAtom}
 use Rattle.grammar.specs.Sweeps.{isAtom}
-
-both : (a b : Bool) → (a && b) ≡ true → (a ≡ true) × (b ≡ true)
-both true b e = (refl, e)
-both false b e = absurd (true-not-false (sym e))
 
 pub is-covers : (a b x : ℕ) → (leb a x && leb x b) ≡ true → Covers a b x
 is-covers a b x e = let h = both (leb a x) (leb x b) e in record { low = leb-true a x (h .0); high = leb-true x b (h .1) }

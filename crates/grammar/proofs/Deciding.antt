@@ -13,16 +13,12 @@ use Rattle.grammar.specs.declared.Clause.{Clause}
 use Rattle.grammar.specs.Layout.{Word, Every}
 use Rattle.grammar.specs.Trees.{Tree, empty, leaf, unary, binary, root, word, Rules, Valid, valid-empty, valid-leaf, valid-unary, valid-binary, Derives}
 use Rattle.grammar.specs.Choices.{Choice}
-use Rattle.grammar.proofs.Lists.{eq?, both?, map?, some?, Some, mem?, mem-every}
+use Rattle.grammar.proofs.Lists.{eq?, both?, map?, some?, Some, mem?, mem-every, mem-map}
 use Rattle.grammar.proofs.Marks.{word?}
 use Rattle.grammar.proofs.ChoiceLaws.{place-of, member-at, takes-of}
 use Rattle.grammar.proofs.ByKind.{derives-of, top-left, choice-can, can-choice}
 use Rattle.grammar.proofs.CanBy.{CanBy, can-by, by-can, can-map, KidsBy, kids-can, can?, some-can?}
 use Rattle.grammar.proofs.Saturation.{Saturated, saturate}
-
-mem-map : {A B : Type 0} {a : A} (f : A → B) (l : List A) → List·Memᴰ a l → List·Memᴰ (f a) (map f l)
-mem-map f (x ∷ l) (List·Memᴰ·head e) = List·Memᴰ·head (ap f e)
-mem-map f (x ∷ l) (List·Memᴰ·tail m) = List·Memᴰ·tail (mem-map f l m)
 
 -- a part of a word is shorter, or all of it
 left-part : (u v : Word) → (length u < length (u ++ v)) ⊎ (u ≡ u ++ v)

@@ -15,3 +15,4 @@ pub mod VerdictLaws
 pub mod SweepLaws
 pub mod Atoms
 pub mod Positions
+pub mod Unmarked

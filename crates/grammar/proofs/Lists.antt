@@ -1,11 +1,15 @@
 -- Decisions that compute, and lists built by `collect` and `keep`, whose members can be told.
-use mathlib.Core.Path.{_≡_, refl, sym, subst, subst⁻¹}
+use mathlib.Core.Path.{_≡_, refl, sym, subst, subst⁻¹, ap}
 use mathlib.Core.Logic.{_⊎_, inl, inr, ⊎-elim}
 use mathlib.Core.Bool.{Bool, true, false}
-use mathlib.Core.List.{List, [], _∷_, _++_, List·Memᴰ, List·Memᴰ·head, List·Memᴰ·tail, List·Memᴰ·cases-cons, List·Memᴰ·not-nil, Memᴰ·append-left, Memᴰ·append-right}
-use Prim.Native.Nat.{ℕ, _≤_, _<_}
+use mathlib.Core.List.{List, [], _∷_, _++_, List·Memᴰ, List·Memᴰ·head, List·Memᴰ·tail, List·Memᴰ·cases-cons, List·Memᴰ·not-nil, Memᴰ·append-left, Memᴰ·append-right, map}
+use Prim.Native.Nat.{ℕ, _≤_, _<_, zero, suc}
 use native.Mathlib.Omega.{arith}
 use lib.Dec.{T, eqb, leb, ltb, eqb→eq, eqb-refl, leb→le, le→leb}
+use lib.ListN.{take, getElem?, length, getD}
+use mathlib.Core.Option.{some}
+use native.Mathlib.Nat.{not-suc-le-zero, le-of-suc-le-suc}
+use Rattle.sets.proofs.Basics.{clash}
 use Rattle.grammar.specs.Layout.{Every}
 
 -- a test with its two lemmas is a decision; what the lemmas say stays shut, so only the test is computed
@@ -146,3 +150,21 @@ module _ {A : Type 0} where
 
 pub mem? : (b : ℕ) (l : List ℕ) → Dec (List·Memᴰ b l)
 mem? b l = map? (some? (λ a. eq? b a) l) (λ s. subst⁻¹ (λ (x : ℕ). List·Memᴰ x l) (s .2) (s .1)) (λ m. (b, m, refl))
+
+pub mem-map : {A B : Type 0} {a : A} (f : A → B) (l : List A) → List·Memᴰ a l
+    → List·Memᴰ (f a) (map f l)
+mem-map f (x ∷ l) (List·Memᴰ·head e) = List·Memᴰ·head (ap f e)
+mem-map f (x ∷ l) (List·Memᴰ·tail m) = List·Memᴰ·tail (mem-map f l m)
+
+pub getElem?-take : {A : Type 0} (l : List A) (n p : ℕ) {x : A} → getElem? (take n l) p ≡ some x
+    → getElem? l p ≡ some x
+getElem?-take l zero p {x} e = absurd (clash cc)
+getElem?-take [] (suc n) p {x} e = e
+getElem?-take (y ∷ l) (suc n) zero e = e
+getElem?-take (y ∷ l) (suc n) (suc p) e = getElem?-take l n p e
+
+pub every-at : {A : Type 0} (P : A → Type 0) (d : A) (l : List A) → Every P l → (i : ℕ)
+    → i < length l → P (getD l i d)
+every-at P d [] e i h = absurd (not-suc-le-zero h)
+every-at P d (x ∷ l) e zero h = e .0
+every-at P d (x ∷ l) e (suc i) h = every-at P d l (e .1) i (le-of-suc-le-suc h)

@@ -8,13 +8,14 @@ use native.Mathlib.Omega.{arith}
 use native.Mathlib.Decide.{ℕ-discrete, decLt}
 use lib.ListN.{length, getD, set, length-set, List·getD-eq-default}
 use lib.Seq.{getD-set-same, getD-set-other}
+use Rattle.sets.proofs.Basics.{lt-or-eq}
 use Rattle.grammar.specs.declared.Rule.{Rule}
 use Rattle.grammar.specs.declared.Clause.{Clause}
 use Rattle.grammar.specs.declared.Clause.the-variants as Clause
 use Rattle.grammar.specs.declared.BinaryMark.{BinaryMark}
 use Rattle.grammar.specs.Trees.{Rules}
 use Rattle.grammar.specs.SpanSheet.{pairAt, pairs}
-use Rattle.spans.proofs.Places.{pairAt-below, pairAt-empty, pairAt-shorter, pairs-spans, spans-closed, spans-bound}
+use Rattle.spans.proofs.Places.{pairAt-below, pairAt-empty, pairAt-shorter, pairs-spans, spans-closed, spans-bound, pairs-few}
 use Rattle.marks.specs.declared.SpanMarks.{SpanMarks}
 use Rattle.tables.specs.Tables.{Leave, byMarks, rule}
 use Rattle.heights.specs.Least.{numberAt}
@@ -22,10 +23,6 @@ use Rattle.heights.specs.Tall.{none, table, Tall, Measured, Lowest, Over
 use Rattle.heights.specs.Falls.{Lowered, Idle, Falls, stays, put, rowSum, sum, Passed, Between, Inner, Ends, AllEnds, Either, Stopped, Shut}
 use Rattle.heights.proofs.TallLaws.{tall-down, tall-le, tall-inner}
 use Rattle.heights.proofs.Bounds.{Put, total-less}
-
--- at most 2081 pairs
-pub pairs-few : (n : ℕ) → n ≤ 64 → pairs n ≤ 2081
-pairs-few n h = omega (arith, pairs-spans n, spans-closed n n (omega arith), spans-bound n n h (omega arith))
 
 pub inside : (n s len : ℕ) → n ≤ 64 → s + len ≤ n → pairAt n s len < 2081
 inside n s len f h = omega (arith, pairAt-below n s len h, pairs-few n f)
@@ -127,13 +124,6 @@ module _ {g : Rules} {v : Leave} {n start len : ℕ} (lefts : Lefts g) where
 
   pub passed-by : {l m : List ℕ} {r : Bool} (D E : ℕ → ℕ → Type 0) → ((i k : ℕ) → E i k → D i k) → Passed g v n start len D l m r → Passed g v n start len E l m r
   passed-by D E f x = record { falls = x .falls; fell = x .fell; same = x .same; tried = λ i k h d t. x .tried i k h (f i k d) t }
-
-lt-or-eq : (q k : ℕ) → q < k + 1 → (q < k) ⊎ (q ≡ k)
-lt-or-eq q k h = go (decLt q k)
-  where
-    go : Dec (q < k) → (q < k) ⊎ (q ≡ k)
-    go (yes x) = inl x
-    go (no x) = inr (omega arith)
 
 -- a left length more, and a rule more
 module _ {g : Rules} {v : Leave} {n start len : ℕ} {l m o : List ℕ} {a b r : Bool} (lefts : Lefts g) (room : Room l n start len) (i : ℕ) where

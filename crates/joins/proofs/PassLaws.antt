@@ -197,7 +197,7 @@ splits-pos splits-none = omega arith
 splits-pos (splits-more q w) = let x = splits-pos q in omega arith
 
 -- where one word is empty each mark holds
-edge-mark : (k : SpanMarks) (len : ℕ) (m : BinaryMark) (l : ℕ) → (0 < l → l < len → ⊥) → BinaryBy k len m l
+pub edge-mark : (k : SpanMarks) (len : ℕ) (m : BinaryMark) (l : ℕ) → (0 < l → l < len → ⊥) → BinaryBy k len m l
 edge-mark k len BinaryMark.None l out = tt
 edge-mark k len BinaryMark.Align l out = λ x y. absurd (out x y)
 edge-mark k len BinaryMark.Indent l out = λ x y. absurd (out x y)

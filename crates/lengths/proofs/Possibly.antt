@@ -5,6 +5,7 @@ use mathlib.Core.List.{List, [], _∷_, _++_, List·Memᴰ, List·Memᴰ·head, 
 use Prim.Native.Nat.{ℕ, zero, suc, _+_, _≤_, _<_}
 use native.Mathlib.Omega.{arith}
 use lib.ListN.{length, length-append}
+use Rattle.grammar.proofs.Unmarked.{none-unary, none-binary}
 use Rattle.grammar.specs.declared.Token.{Token}
 use Rattle.grammar.specs.declared.Rule.{Rule}
 use Rattle.grammar.specs.declared.Clause.{Clause}
@@ -85,15 +86,6 @@ clause-of f = ap (λ (x : Rule). x .clause) (f .is)
 any : (w : Word) (a : Token) → Every (Mark.Keeps UnaryMark.None a) w
 any [] a = tt
 any (t ∷ w) a = (tt, any w a)
-
-none-unary : (w : Word) → Mark.Unary UnaryMark.None w
-none-unary [] = tt
-none-unary (a ∷ w) = any w a
-
-none-binary : (u v : Word) → Mark.Binary BinaryMark.None u v
-none-binary [] v = tt
-none-binary (a ∷ u) [] = tt
-none-binary (a ∷ u) (b ∷ v) = tt
 
 -- a tree under the rules without their marks, of a word of n tokens
 record Shown (g : Rules) (A n : ℕ) : Type 0 where

@@ -10,6 +10,7 @@ use native.Mathlib.Numerals.{add-one}
 use borrow.Author.Tests.{eq-eqb, ne-eqb, le-leb, lt-leb}
 use lib.Seq.{drop-cons, drop-drop}
 use lib.Dec.{leb, eqb}
+use Rattle.sets.proofs.Basics.{both, never}
 use Rattle.fields.specs.Words.{isDigit, numeralOf}
 use Rattle.clauses.specs.Clauses as C
 use Rattle.clauses.specs.Text.{maybe, repeats, marks, Lex, n, t, opening, closing, bar, suffix, join}
@@ -26,17 +27,10 @@ use Rattle.fields.specs.Answers.{asNumber}
 pub record Fits (s : List ℕ) (o : LexFound) : Type 0 where
   pub has : (x : Lex) (k : ℕ) → o ≡ some (x, k) → (1 ≤ k) × (k ≤ length s)
 
-no-false : {P : Type 0} → false ≡ true → P
-no-false e = absurd (let z : _≡_ {A = ℕ} 0 1 = cc in omega arith)
-
-and-parts : (a b : Bool) → (a && b) ≡ true → (a ≡ true) × (b ≡ true)
-and-parts true b e = (refl, e)
-and-parts false b e = no-false e
-
 starts-length : (p s : List ℕ) → starts p s ≡ true → length p ≤ length s
 starts-length [] s e = omega arith
-starts-length (x ∷ p) [] e = no-false e
-starts-length (x ∷ p) (y ∷ s) e = let z = starts-length p s (and-parts (eqb x y) (starts p s) e .1) in omega arith
+starts-length (x ∷ p) [] e = never e
+starts-length (x ∷ p) (y ∷ s) e = let z = starts-length p s (both (eqb x y) (starts p s) e .1) in omega arith
 
 fits-none : (s : List ℕ) → Fits s none
 fits-none s = record { has = λ x k e. absurd (let z : _≡_ {A = ℕ} 0 1 = cc in omega arith) }

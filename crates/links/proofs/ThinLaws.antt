@@ -6,6 +6,7 @@ use native.Mathlib.Omega.{arith}
 use native.Mathlib.Decide.{decLt}
 use lib.ListN.{length, getD, set, take}
 use lib.Seq.{getD-set-same, getD-set-other, getD-take}
+use Rattle.grammar.proofs.Lists.{every-at}
 use Rattle.sets.specs.Sets.{In}
 use Rattle.grammar.specs.declared.Rule.{Rule}
 use Rattle.grammar.specs.declared.Clause.{Clause}
@@ -18,7 +19,6 @@ use Rattle.tables.specs.Tables.{no-rule, rule}
 use Rattle.joins.specs.declared.Tally.{Tally}
 use Rattle.joins.specs.Passes.{Took, fell, Beside, both, WholeSide, Pass, pass-none, pass-more, Passes, passes-none, passes-more, Saturated}
 use Rattle.joins.proofs.PassLaws.{pass-within}
-use Rattle.cuts.proofs.TryLaws.{every-rule}
 use Rattle.links.specs.LinkRules.{Ruled, Idle, Thinned, thin-none, thin-keep, thin-drop}
 
 -- a grammar that is read
@@ -26,7 +26,7 @@ pub formed-ruled : {g : Grammar} → Formed g → Ruled g
 formed-ruled {g} f = record {
   few = f .few;
   whole = f .whole;
-  small = λ i h. every-rule SmallRule no-rule (rules g) (f .small) i (omega (arith, f .whole));
+  small = λ i h. every-at SmallRule no-rule (rules g) (f .small) i (omega (arith, f .whole));
 }
 
 -- ---- picking them out

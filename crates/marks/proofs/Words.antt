@@ -56,7 +56,7 @@ at-every : (P : Token → Type 0) (w : Word) → ((k : ℕ) → k < length w →
 at-every P [] f = tt
 at-every P (a ∷ w) f = (f zero (suc-le-suc zero-le), at-every P w (λ k h. f (suc k) (suc-le-suc h)))
 
-keeps-self : (m : UnaryMark) (a : Token) → Keeps m a a
+pub keeps-self : (m : UnaryMark) (a : Token) → Keeps m a a
 keeps-self UnaryMark.None a = tt
 keeps-self UnaryMark.Offside a = λ h. absurd (lt-irrefl (line a) h)
 keeps-self UnaryMark.Offalign a = λ h. le-refl (col a)

@@ -18,7 +18,7 @@ use Rattle.grammar.specs.Trees.{Rules}
 use Rattle.grammar.specs.Choices.{Choice, ChoiceBefore, Same, OnlyChoice, OtherChoice, FirstChoice, Preferred}
 use Rattle.grammar.specs.Content.{rules, Formed, SmallRule}
 use Rattle.grammar.specs.SpanSheet.{part, secondWord}
-use Rattle.grammar.proofs.Lists.{mem-every}
+use Rattle.grammar.proofs.Lists.{mem-every, getElem?-take}
 use Rattle.sets.specs.Says.{Says}
 use Rattle.sets.specs.Sets.{In}
 use Rattle.spans.specs.Reach.{Reach}
@@ -80,12 +80,6 @@ charted r = record { formed = r .formed; positioned = r .positioned; sheet = r .
 
 pub none-of-none : {g : Rules} {A : ℕ} {w : Word} → HasChoice g A w → NoneFrom g A w 0 0 → ⊥
 none-of-none h x = nothing-before (h .0) (h .1) (x .early (h .0) (h .1) (h .2))
-
-pub getElem?-take : (l : Rules) (n p : ℕ) {x : Rule} → getElem? (take n l) p ≡ some x → getElem? l p ≡ some x
-getElem?-take l zero p {x} e = absurd (let z : _≡_ {A = ℕ} 0 1 = cc in omega arith)
-getElem?-take [] (suc n) p {x} e = e
-getElem?-take (y ∷ l) (suc n) zero e = e
-getElem?-take (y ∷ l) (suc n) (suc p) e = getElem?-take l n p e
 
 -- the step of the rule at a choice's place
 pub chosen : (g : Grammar) {A : ℕ} {w : Word} {s : Bool} {p k : ℕ} (m : Bool) {st : Step} → Choice (rules g) A w p k → Picks (rules g) A w s p k m

@@ -4,6 +4,7 @@ use mathlib.Core.List.{List}
 use Prim.Native.Nat.{ℕ, _<_}
 use native.Mathlib.Omega.{arith}
 use lib.ListN.{length}
+use Rattle.sets.proofs.Basics.{not-zero}
 use Rattle.grammar.specs.Layout.{Word}
 use Rattle.grammar.specs.Trees.{Rules}
 use Rattle.grammar.specs.Choices.{Preferred, straight, looping}
@@ -20,9 +21,6 @@ use Rattle.nodes.specs.Picks.{HasChoice}
 use Rattle.nodes.specs.Lows.{LowPick, PreferredPick}
 use Rattle.nodes.proofs.PickLaws.{first-of-next, none-of-none}
 use Rattle.grammar.specs.Sentences.{spelled}
-
-pub some : (n : ℕ) → (n ≡ 0 → ⊥) → 0 < n
-some n f = omega arith
 
 pub first-pick : {g : Rules} {A : ℕ} {w : Word} → HasChoice g A w → (Cyclic g → ⊥) → (r : Pick) → NextChoice g A w 0 0 r → PreferredPick g A w r
 first-pick h c (Pick.At p k) x = straight c (first-of-next x)

@@ -5,6 +5,7 @@ use Prim.Native.Nat.{ℕ, zero, suc, _+_, _*_, _/_, _%_, _≤_, _<_}
 use native.Mathlib.Omega.{arith}
 use native.Mathlib.Decide.{ℕ-discrete}
 use lib.ListN.{length, getD}
+use Rattle.pair_steps.proofs.ShapeNumbers.{shape-one, shape-low}
 use Rattle.sets.specs.Sets.{In}
 use Rattle.sets.proofs.Sets.{in-dec}
 use Rattle.grammar.specs.declared.UnaryMark.{UnaryMark}
@@ -24,7 +25,7 @@ use Rattle.pairs.specs.Shapes.{Form, tip, one, two, Shape, all, first, second, 
 use Rattle.pairs.specs.Shapes.{HasForm, tips, units, twos, firsts, seconds, Head}
 use Rattle.survey.specs.declared.Levels.{Levels}
 use Rattle.survey.specs.Closing.{LevelsOf}
-use Rattle.survey.proofs.Weakest.{level-weakest, level-nothing}
+use Rattle.survey.proofs.Weakest.{level-weakest, level-nothing, unrank, unrank-rank}
 use Rattle.heads.specs.declared.Looks.{Looks}
 use Rattle.heads.specs.declared.Looks.the-variants as Looks
 use Rattle.heads.specs.declared.Shaped.{Shaped}
@@ -36,24 +37,6 @@ use Rattle.pair_nodes.specs.Putting.{KeptTo, SmallLooks, Shows, SlotBy, 
 use Rattle.pair_nodes.specs.Putting.{SlotIs, SlotPut, SlotsTo, Cleared, HasWeakest}
 
 -- 1. shapes by number
-
-pub shape-one : (s r : Shape) → ruleOfShape s < 128 → ruleOfShape r < 128
-    → shapeNumber s ≡ shapeNumber r
-    → s ≡ r
-shape-one (all p) (all q) h k e = ap all e
-shape-one (all p) (first q) h k e = absurd (omega arith)
-shape-one (all p) (second q) h k e = absurd (omega arith)
-shape-one (first p) (all q) h k e = absurd (omega arith)
-shape-one (first p) (first q) h k e = ap first (let d : p ≡ q = omega arith in d)
-shape-one (first p) (second q) h k e = absurd (omega arith)
-shape-one (second p) (all q) h k e = absurd (omega arith)
-shape-one (second p) (first q) h k e = absurd (omega arith)
-shape-one (second p) (second q) h k e = ap second (let d : p ≡ q = omega arith in d)
-
-pub number-low : (s : Shape) → ruleOfShape s < 128 → shapeNumber s < 384
-number-low (all p) h = omega arith
-number-low (first p) h = omega arith
-number-low (second p) h = omega arith
 
 pub number-rule : (s : Shape) → ruleOfShape s < 128 → shapeNumber s % 128 ≡ ruleOfShape s
 number-rule (all p) h = omega arith
@@ -72,18 +55,6 @@ number-of-kind (suc (suc zero)) p h = omega arith
 number-of-kind (suc (suc (suc k))) p h = absurd (omega arith)
 
 -- 2. one form under the weakest mark
-
-abbrev unrank : ℕ → UnaryMark
-unrank zero = UnaryMark.None
-unrank (suc zero) = UnaryMark.Offalign
-unrank (suc (suc zero)) = UnaryMark.Offside
-unrank (suc (suc (suc n))) = UnaryMark.Single
-
-unrank-rank : (m : UnaryMark) → unrank (rank m) ≡ m
-unrank-rank UnaryMark.None = refl
-unrank-rank UnaryMark.Offalign = refl
-unrank-rank UnaryMark.Offside = refl
-unrank-rank UnaryMark.Single = refl
 
 mark-one : (l m : UnaryMark) → rank l ≤ rank m → rank m ≤ rank l → l ≡ m
 mark-one l m h k =
@@ -314,7 +285,7 @@ module _ {g : Grammar} (fo : Formed g) where
           → Present ns (shapeNumber (y .shape)) × NodeOf (rules g) y
           (nodeAt ns (shapeNumber (y .shape)))
       each y h w =
-          let t = x .each (shapeNumber (y .shape)) (number-low (y .shape) (place h)) in
+          let t = x .each (shapeNumber (y .shape)) (shape-low (y .shape) (place h)) in
           let p = t .all (y .sort) (y .shape) (y .form) h refl in
           let o = t .only p in
           let q = o .node .looks in

@@ -7,6 +7,7 @@ use native.Mathlib.Omega.{arith}
 use native.Mathlib.Decide.{decLt}
 use lib.ListN.{length, getD, take, drop, set, length-set, length-take, length-drop, take-append-drop}
 use lib.Seq.{getD-take, getD-drop, ext-getD, getD-set-same, getD-set-other}
+use Rattle.pair_steps.proofs.ShapeNumbers.{shape-low}
 use Rattle.sets.specs.Sets.{In}
 use Rattle.sets.proofs.Sets.{in-zero}
 use Rattle.sets.proofs.Says.{true-not-false}
@@ -87,11 +88,6 @@ unfolding tableSum
 table-most t l = take-most 65536 t (l .low)
 
 -- 2. tables with the same words
-
-shape-low : (s : Shape) → ruleOfShape s < 128 → shapeNumber s < 384
-shape-low (all p) h = omega arith
-shape-low (first p) h = omega arith
-shape-low (second p) h = omega arith
 
 -- they have the same table
 record Alike (t u : List ℕ) : Type 0 where

@@ -9,3 +9,4 @@ pub mod StepLaws
 pub mod CompleteLaws
 pub mod RankLaws
 pub mod ClosedLaws
+pub mod ShapeNumbers

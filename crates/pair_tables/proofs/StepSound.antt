@@ -8,6 +8,7 @@ use native.Mathlib.Nat.{div-div-eq-div-mul, mod-eq-of-lt, mul-le-mul-right, mul-
 use native.Mathlib.Decide.{decLt, ℕ-discrete}
 use lib.Bits.{bitAnd, and-le-r}
 use lib.Pow.{pow-add, pow-mono, shl-shr}
+use Rattle.pair_steps.proofs.ShapeNumbers.{shape-one, shape-low}
 use Rattle.sets.specs.Sets.{In}
 use Rattle.sets.proofs.Bits.{in-and}
 use Rattle.grammar.specs.Trees.{Rules}
@@ -200,22 +201,6 @@ relation-one r o p c e =
     let v = order-one (r .stops) p y in
     let w : r .offset ≡ c = sym (code-of (r .offset)) ∙ (ap offsetOf z ∙ code-of c) in
     λ i. record { starts = u i; stops = v i; offset = w i }
-
-shape-one : (s r : Shape) → ruleOfShape s < 128 → ruleOfShape r < 128 → shapeNumber s ≡ shapeNumber r → s ≡ r
-shape-one (all p) (all q) h k e = ap all e
-shape-one (all p) (first q) h k e = absurd (omega arith)
-shape-one (all p) (second q) h k e = absurd (omega arith)
-shape-one (first p) (all q) h k e = absurd (omega arith)
-shape-one (first p) (first q) h k e = ap first (let d : p ≡ q = omega arith in d)
-shape-one (first p) (second q) h k e = absurd (omega arith)
-shape-one (second p) (all q) h k e = absurd (omega arith)
-shape-one (second p) (first q) h k e = absurd (omega arith)
-shape-one (second p) (second q) h k e = ap second (let d : p ≡ q = omega arith in d)
-
-shape-low : (s : Shape) → ruleOfShape s < 128 → shapeNumber s < 384
-shape-low (all p) h = omega arith
-shape-low (first p) h = omega arith
-shape-low (second p) h = omega arith
 
 -- 4. the step
 

@@ -11,7 +11,7 @@ use Rattle.pairs.specs.Doubts.{Doubt, Doubted, DoubtBefore, DoubtsInOrde
 use Rattle.pairs.specs.Always.{PassesTest}
 
 -- a doubt that comes before another does not come after it
-not-both : (d e : Doubt) → DoubtBefore d e → DoubtBefore e d → ⊥
+pub not-both : (d e : Doubt) → DoubtBefore d e → DoubtBefore e d → ⊥
 not-both d e (inl x) (inl y) = omega arith
 not-both d e (inl x) (inr (inl y)) = omega (arith, y .0)
 not-both d e (inl x) (inr (inr (inl y))) = omega (arith, y .0)
@@ -29,7 +29,7 @@ not-both d e (inr (inr (inr x))) (inr (inl y)) = omega (arith, x .1, y .1)
 not-both d e (inr (inr (inr x))) (inr (inr (inl y))) = omega (arith, x .2, y .2)
 not-both d e (inr (inr (inr x))) (inr (inr (inr y))) = omega (arith, x .3, y .3)
 
-in-order : (ds : List Doubt) → DoubtsInOrder ds → InOrder DoubtBefore ds
+pub in-order : (ds : List Doubt) → DoubtsInOrder ds → InOrder DoubtBefore ds
 in-order [] o = tt
 in-order (d ∷ ds) o = (o .0, in-order ds (o .1))
 

@@ -14,7 +14,7 @@ use Rattle.grammar.specs.Layout.{Word}
 use Rattle.grammar.specs.Trees.{Rules}
 use Rattle.grammar.specs.Candidates.{RisingFrom, Rising, sentence, Terminal, Ranged, Cells, Candidate, CellBefore, CellsBefore, Earlier}
 use Rattle.grammar.proofs.Positions.{after?}
-use Rattle.grammar.proofs.Lists.{eq?, le?, both?, or?, map?, some?, Some, collect, mem-collect}
+use Rattle.grammar.proofs.Lists.{eq?, le?, both?, or?, map?, some?, Some, collect, mem-collect, mem-map}
 use Rattle.grammar.specs.Sweeps.{isAtom}
 use Rattle.grammar.proofs.Atoms.{covers-is, has-atom}
 use Rattle.grammar.proofs.SweepLaws.{cell-path}
@@ -124,10 +124,6 @@ candidate? g n cs =
     (λ k. (k .arranged .size, (k .arranged .cells, k .rising)))
 
 -- 4. all arrangements
-
-mem-map : {A B : Type 0} {a : A} (f : A → B) (l : List A) → List·Memᴰ a l → List·Memᴰ (f a) (map f l)
-mem-map f (x ∷ l) (List·Memᴰ·head e) = List·Memᴰ·head (ap f e)
-mem-map f (x ∷ l) (List·Memᴰ·tail m) = List·Memᴰ·tail (mem-map f l m)
 
 abbrev pub cell-of : ℕ → ℕ → ℕ → Cell
 cell-of a s c = record { terminal = a; step = s; column = c }

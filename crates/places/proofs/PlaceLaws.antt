@@ -7,6 +7,7 @@ use native.Mathlib.Omega.{arith}
 use native.Mathlib.Decide.{decLt}
 use lib.ListN.{length, take, drop, length-append}
 use lib.Seq.{drop-cons, take-all}
+use Rattle.grammar.proofs.Positions.{after-then}
 use Rattle.grammar.specs.declared.Token.{Token}
 use Rattle.grammar.specs.Layout.{Word, width}
 use Rattle.grammar.specs.Trees.{Tree, unary, binary, root, word, Rules, Witness, TwoTrees}
@@ -24,12 +25,6 @@ use Rattle.grammar.specs.Distinct.{Distinct}
 use Rattle.grammar.specs.Sentences.{no-token}
 
 -- ---- a nonempty word stands at one place: tokens rise, and each has a width
-
-after-then : (a b c : Token) → After a b → After b c → After a c
-after-then a b c (inl x) (inl y) = inl (omega arith)
-after-then a b c (inl x) (inr y) = inl (omega (arith, y .0))
-after-then a b c (inr x) (inl y) = inl (omega (arith, x .0))
-after-then a b c (inr x) (inr y) = inr (x .0 ∙ y .0, omega (arith, x .1, y .1))
 
 not-after : (a : Token) → 1 ≤ width a → After a a → ⊥
 not-after a h (inl x) = omega arith

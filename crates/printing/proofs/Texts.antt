@@ -23,7 +23,7 @@ rows-append t (suc m) (A ∷ k ∷ []) b e = absurd (omega arith)
 rows-append t (suc m) (A ∷ k ∷ s ∷ []) b e = absurd (omega arith)
 
 -- the row at i
-four : (l : List ℕ) → 4 ≤ length l → take 4 l ≡ getD l 0 0 ∷ getD l 1 0 ∷ getD l 2 0 ∷ getD l 3 0 ∷ []
+pub four : (l : List ℕ) → 4 ≤ length l → take 4 l ≡ getD l 0 0 ∷ getD l 1 0 ∷ getD l 2 0 ∷ getD l 3 0 ∷ []
 four (a ∷ b ∷ c ∷ d ∷ l) h = refl
 four [] h = absurd (omega arith)
 four (a ∷ []) h = absurd (omega arith)

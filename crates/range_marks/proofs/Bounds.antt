@@ -8,6 +8,7 @@ use native.Mathlib.Omega.{arith}
 use native.Mathlib.Decide.{ℕ-discrete}
 use lib.ListN.{length, getD, take, set, length-set}
 use lib.Seq.{getD-take, getD-set-same, getD-set-other, length-take-le, ext-getD}
+use Rattle.marks.proofs.Words.{keeps-self}
 use Rattle.grammar.specs.declared.Token.{Token}
 use Rattle.grammar.specs.declared.UnaryMark.{UnaryMark}
 use Rattle.grammar.specs.declared.UnaryMark.the-variants as UnaryMark
@@ -44,12 +45,6 @@ keeps-apart UnaryMark.None x k = tt
 keeps-apart UnaryMark.Offside x k = λ l. let q = k (omega (arith, x .first, x .other)) in omega (arith, x .low, x .high)
 keeps-apart UnaryMark.Offalign x k = λ l. let q = k (omega (arith, x .first, x .other)) in omega (arith, x .low, x .high)
 keeps-apart UnaryMark.Single x k = x .other ∙ k ∙ sym (x .first)
-
-keeps-self : (m : UnaryMark) (a : Token) → Keeps m a a
-keeps-self UnaryMark.None a = tt
-keeps-self UnaryMark.Offside a = λ h. absurd (omega arith)
-keeps-self UnaryMark.Offalign a = λ h. omega arith
-keeps-self UnaryMark.Single a = refl
 
 indent-apart : (z z′ : Token) {a t a′ t′ : Token} → Apart a t a′ t′ → line z′ ≡ line z → Pairs BinaryMark.Indent a z t → Pairs BinaryMark.Indent a′ z′ t′
 indent-apart z z′ x e p = (omega (arith, x .low, x .high, p .0), omega (arith, x .other, e, p .1))

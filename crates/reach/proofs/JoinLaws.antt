@@ -8,11 +8,11 @@ use native.Mathlib.Decide.{ℕ-discrete, decLt}
 use native.Mathlib.Nat.{mod-lt}
 use lib.Bits.{bitAnd, bitXor, xor-step, xor-shr, differ}
 use lib.Arith.{digits-mod}
+use Rattle.sets.proofs.Bits.{in-and}
 use Rattle.sets.specs.Sets.{In}
 use Rattle.sets.proofs.Sets.{in-zero, insert-same, insert-ge}
 use Rattle.grammar.specs.declared.Rule.{Rule}
 use Rattle.marks.specs.declared.SpanMarks.{SpanMarks}
-use Rattle.cuts.proofs.Bits.{in-and}
 use Rattle.cuts.specs.Joining.{Joins}
 use Rattle.cuts.proofs.JoinLaws.{joins-none, joins-then, joins-as}
 use Rattle.reach.specs.Joining.{ClauseKids}

@@ -9,6 +9,7 @@ use native.Mathlib.Nat.{not-suc-le-zero}
 use lib.ListN.{length, getD}
 use lib.Bits.{bitOr, or-shr, or-step}
 use lib.Arith.{digits-mod}
+use Rattle.sets.proofs.Bits.{or-odd, or-digit}
 use Rattle.sets.specs.Sets.{In}
 use Rattle.grammar.specs.declared.Cell.{Cell}
 use Rattle.grammar.specs.Layout.{Word}
@@ -30,12 +31,6 @@ use Rattle.refuting.proofs.CellLaws.{cells-terminal}
 
 below-two : (n : ℕ) → n % 2 < 2
 below-two n = omega arith
-
-or-odd : (x y : ℕ) → bitOr x y % 2 ≡ max (x % 2) (y % 2)
-or-odd x y = ap (λ (n : ℕ). n % 2) (or-step x y) ∙ digits-mod (bitOr (x / 2) (y / 2)) (omega (arith, below-two x, below-two y))
-
-or-digit : (a b A : ℕ) → bitOr a b / 2 ^ A % 2 ≡ max (a / 2 ^ A % 2) (b / 2 ^ A % 2)
-or-digit a b A = ap (λ (x : ℕ). x % 2) (or-shr a b A) ∙ or-odd (a / 2 ^ A) (b / 2 ^ A)
 
 pub united-or : (a b : ℕ) → United a b (bitOr a b)
 united-or a b = record {

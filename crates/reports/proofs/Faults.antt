@@ -7,6 +7,7 @@ use native.Mathlib.Decide.{ℕ-discrete}
 use native.Mathlib.Omega.{arith}
 use lib.Dec.{eqb}
 use borrow.Author.Tests.{eqb-true}
+use Rattle.sets.proofs.Basics.{both}
 use Rattle.sheets.specs.declared.Fault.{Fault}
 use Rattle.sheets.specs.declared.Fault.the-variants as Fault
 use Rattle.sheets.specs.Refusals.{numberOf}
@@ -36,10 +37,6 @@ among-one n (f ∷ fs) e = go (eqb (numberOf f) n) refl e (λ h. among-one n fs 
 abbrev run : ℕ → ℕ → Bool
 run low zero = true
 run low (suc m) = among (low + m) all && run low m
-
-both : (a b : Bool) → (a && b) ≡ true → (a ≡ true) × (b ≡ true)
-both true b e = (refl, e)
-both false b e = absurd (let z : _≡_ {A = ℕ} 0 1 = cc in omega arith)
 
 run-one : (low m : ℕ) → run low m ≡ true → (n : ℕ) → low ≤ n → n < low + m → OfFault n
 run-one low zero e n h k = absurd (omega arith)

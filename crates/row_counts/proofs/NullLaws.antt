@@ -8,6 +8,8 @@ use native.Mathlib.Omega.{arith}
 use native.Mathlib.Decide.{ℕ-discrete, decLt}
 use lib.ListN.{length, getD, set, replicate, length-set, length-replicate}
 use lib.Seq.{getD-set-same, getD-set-other}
+use Rattle.grammar.proofs.Acyclic.{no-parts}
+use Rattle.sets.proofs.Basics.{lt-or-eq}
 use Rattle.grammar.specs.Layout.{Word}
 use Rattle.grammar.specs.Trees.{Tree, empty, leaf, unary, binary, root, word, Rules}
 use Rattle.grammar.specs.Choices.{AllPreferred, FirstTree}
@@ -30,10 +32,6 @@ some-row (unary A t) = omega arith
 some-row (binary A s t) = omega arith
 
 -- ---- the words beneath the empty word are empty
-
-no-words : (u v : Word) → u ++ v ≡ [] → (u ≡ []) × (v ≡ [])
-no-words [] v e = (refl, e)
-no-words (a ∷ u) v e = absurd (let z : _≡_ {A = ℕ} 0 1 = cc in omega arith)
 
 module _ {g : Rules} where
   first-of : {t : Tree} → AllPreferred g t → word t ≡ [] → FirstTree g (root t) [] t
@@ -68,7 +66,7 @@ module _ {g : Rules} where
     size-known m (leaf A t) f e k = refl
     size-known m (unary A t) f e k = one-more (getD z (root t) 0) (rowCount t) (known-count (root t) t (first-of (f .1) e) k) k
     size-known m (binary A s t) f e k =
-        let w = no-words (word s) (word t) e in
+        let w = no-parts (word s) (word t) e in
         two-more (getD z (root s) 0) (getD z (root t) 0) (rowCount s) (rowCount t) (known-count (root s) s (first-of (f .1 .0) (w .0)) (k .0))
         (known-count (root t) t (first-of (f .1 .1) (w .1)) (k .1)) (k .0) (k .1)
 
@@ -113,13 +111,6 @@ zeros-set (zero ∷ l) zero zero h e p = absurd (omega arith)
 zeros-set (zero ∷ l) zero (suc n) h e p = omega arith
 zeros-set (suc x ∷ l) zero n h e p = absurd (omega arith)
 zeros-set (x ∷ l) (suc i) n h e p = omega (arith, zeros-set l i n (omega arith) e p)
-
-lt-or-eq : (q k : ℕ) → q < k + 1 → (q < k) ⊎ (q ≡ k)
-lt-or-eq q k h = go (decLt q k)
-  where
-    go : Dec (q < k) → (q < k) ⊎ (q ≡ k)
-    go (yes x) = inl x
-    go (no x) = inr (omega arith)
 
 module _ {g : Rules} where
   pub passed-none : {l : List ℕ} (D : ℕ → Type 0) → Sound g l → ((A : ℕ) (t : Tree) → D A → FirstTree g A [] t → KidsKnown l t → 0 < getD l A 0)
@@ -194,7 +185,7 @@ module _ {g : Rules} where
       at (empty A) f e = here (empty A) f e tt
       at (leaf A t) f e = here (leaf A t) f e tt
       at (unary A t) f e = here (unary A t) f e (at t (f .1) e)
-      at (binary A s t) f e = let w = no-words (word s) (word t) e in here (binary A s t) f e (at s (f .1 .0) (w .0), at t (f .1 .1) (w .1))
+      at (binary A s t) f e = let w = no-parts (word s) (word t) e in here (binary A s t) f e (at s (f .1 .0) (w .0), at t (f .1 .1) (w .1))
 
       all : (t : Tree) → AllPreferred g t → word t ≡ [] → (A : ℕ) → FirstTree g A [] t → 0 < getD l A 0
       all t f e A x = subst (λ (B : ℕ). 0 < getD l B 0) (x .rooted) (at t f e)

@@ -9,23 +9,23 @@ use lib.Bits.{bitAnd, bitOr, and-step, or-step, and-shr, or-shr}
 use lib.Arith.{digits-mod}
 use Rattle.sets.specs.Sets.{In}
 
-below-two : (n : ℕ) → n % 2 < 2
+pub below-two : (n : ℕ) → n % 2 < 2
 below-two n = mod-lt n (omega arith)
 
-or-odd : (x y : ℕ) → bitOr x y % 2 ≡ max (x % 2) (y % 2)
+pub or-odd : (x y : ℕ) → bitOr x y % 2 ≡ max (x % 2) (y % 2)
 or-odd x y =
     ap (λ (n : ℕ). n % 2) (or-step x y)
     ∙ digits-mod (bitOr (x / 2) (y / 2)) (omega (arith, below-two x, below-two y))
 
-and-odd : (x y : ℕ) → bitAnd x y % 2 ≡ min (x % 2) (y % 2)
+pub and-odd : (x y : ℕ) → bitAnd x y % 2 ≡ min (x % 2) (y % 2)
 and-odd x y =
     ap (λ (n : ℕ). n % 2) (and-step x y)
     ∙ digits-mod (bitAnd (x / 2) (y / 2)) (omega (arith, below-two x, below-two y))
 
-or-digit : (x y c : ℕ) → bitOr x y / 2 ^ c % 2 ≡ max (x / 2 ^ c % 2) (y / 2 ^ c % 2)
+pub or-digit : (x y c : ℕ) → bitOr x y / 2 ^ c % 2 ≡ max (x / 2 ^ c % 2) (y / 2 ^ c % 2)
 or-digit x y c = ap (λ (n : ℕ). n % 2) (or-shr x y c) ∙ or-odd (x / 2 ^ c) (y / 2 ^ c)
 
-and-digit : (x y c : ℕ) → bitAnd x y / 2 ^ c % 2 ≡ min (x / 2 ^ c % 2) (y / 2 ^ c % 2)
+pub and-digit : (x y c : ℕ) → bitAnd x y / 2 ^ c % 2 ≡ min (x / 2 ^ c % 2) (y / 2 ^ c % 2)
 and-digit x y c = ap (λ (n : ℕ). n % 2) (and-shr x y c) ∙ and-odd (x / 2 ^ c) (y / 2 ^ c)
 
 pub in-or : (x y c : ℕ) → In (bitOr x y) c ↔ (In x c ⊎ In y c)

@@ -1,3 +1,4 @@
+pub mod Basics
 pub mod Says
 pub mod Sets
 pub mod Bits

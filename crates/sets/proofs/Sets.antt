@@ -8,6 +8,7 @@ use native.Mathlib.Decide.{ℕ-discrete, decLt}
 use lib.Bits.{bitOr, or-shr, or-step, or-add-and, and-le-r, or-lt}
 use lib.Pow.{pow-pos, pow-lt, pow-add, shl-shr}
 use lib.Arith.{digits-mod}
+use Rattle.sets.proofs.Bits.{or-odd}
 use Rattle.sets.specs.Sets.{In}
 use Rattle.sets.specs.Insertion.{insert}
 
@@ -23,9 +24,6 @@ in-zero a h = let z : _≡_ {A = ℕ} 0 1 = sym (ap (λ (x : ℕ). x % 2) (zero-
 
 below-two : (n : ℕ) → n % 2 < 2
 below-two n = omega arith
-
-or-odd : (x y : ℕ) → bitOr x y % 2 ≡ max (x % 2) (y % 2)
-or-odd x y = ap (λ (n : ℕ). n % 2) (or-step x y) ∙ digits-mod (bitOr (x / 2) (y / 2)) (omega (arith, below-two x, below-two y))
 
 -- the digit b of the set of a alone
 one-same : (a : ℕ) → 2 ^ a / 2 ^ a % 2 ≡ 1

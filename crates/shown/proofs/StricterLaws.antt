@@ -4,6 +4,7 @@ use mathlib.Core.Logic.{_⊎_, inl, inr, ⊎-elim}
 use mathlib.Core.List.{List, [], _∷_, List·Memᴰ, List·Memᴰ·head, List·Memᴰ·tail, List·Memᴰ·not-nil, List·Memᴰ·cases-cons}
 use Prim.Native.Nat.{ℕ, zero, suc}
 use native.Mathlib.Omega.{arith}
+use Rattle.grammar.proofs.Unmarked.{none-unary, none-binary}
 use Rattle.grammar.specs.declared.Rule.{Rule}
 use Rattle.grammar.specs.declared.UnaryMark.{UnaryMark}
 use Rattle.grammar.specs.declared.UnaryMark.the-variants as UnaryMark
@@ -17,19 +18,6 @@ use Rattle.grammar.specs.Trees.{Rules, Tree, root, word, HasEmpty, HasAtom, Has
 use Rattle.shown.specs.Stricter.{StricterClause, same, unary, binary, Stricter, none-left, more}
 
 -- 1. a rule of h stands in g, with the same mark or with none
-
-free : (w : Word) → Mark.Unary UnaryMark.None w
-free [] = tt
-free (a ∷ w) = every w
-  where
-    every : (w : Word) → Mark.Every (Mark.Keeps UnaryMark.None a) w
-    every [] = tt
-    every (b ∷ w) = (tt, every w)
-
-plain : (u v : Word) → Mark.Binary BinaryMark.None u v
-plain [] v = tt
-plain (a ∷ u) [] = tt
-plain (a ∷ u) (b ∷ v) = tt
 
 -- the rule of g that stands where the rule s of h stands
 abbrev Before : Rules → Rule → Type 0
@@ -72,12 +60,12 @@ module _ {g h : Rules} (x : Stricter g h) where
   stricter-valid (valid-unary {A = A} {t = t} m r y v) =
       let i = stricter-valid v in
       let f = found x r in
-      ⊎-elim (λ e. valid-unary m (stands (f .1) (f .2) e) y i) (λ e. valid-unary UnaryMark.None (stands (f .1) (f .2) e) (free (word t)) i) (from-unary (f .3))
+      ⊎-elim (λ e. valid-unary m (stands (f .1) (f .2) e) y i) (λ e. valid-unary UnaryMark.None (stands (f .1) (f .2) e) (none-unary (word t)) i) (from-unary (f .3))
   stricter-valid (valid-binary {A = A} {s = s} {t = t} m r y u v) =
       let i = stricter-valid u in
       let j = stricter-valid v in
       let f = found x r in
-      ⊎-elim (λ e. valid-binary m (stands (f .1) (f .2) e) y i j) (λ e. valid-binary BinaryMark.None (stands (f .1) (f .2) e) (plain (word s) (word t)) i j) (from-binary (f .3))
+      ⊎-elim (λ e. valid-binary m (stands (f .1) (f .2) e) y i j) (λ e. valid-binary BinaryMark.None (stands (f .1) (f .2) e) (none-binary (word s) (word t)) i j) (from-binary (f .3))
 
   stricter-witness : {A : ℕ} {w : Word} {t : Tree} → Witness h A w t → Witness g A w t
   stricter-witness y = record { rooted = y .rooted; spelled = y .spelled; valid = stricter-valid (y .valid) }

@@ -5,8 +5,8 @@ use Prim.Native.Nat.{ℕ, _+_, _-_, _*_, _≤_, _<_}
 use native.Mathlib.Nat.{not-suc-le-zero}
 use native.Mathlib.Omega.{arith}
 use native.Mathlib.Decide.{ℕ-discrete}
-use lib.ListN.{length, getD, drop, set, length-set, length-drop}
-use lib.Seq.{getD-set-same, getD-set-other, getD-drop, ext-getD}
+use lib.ListN.{length, getD, drop, set, length-set, length-drop, take, replicate, length-replicate, getD-replicate}
+use lib.Seq.{getD-set-same, getD-set-other, getD-drop, ext-getD, length-take-le, getD-take}
 use Rattle.grammar.specs.SpanSheet.{pairs, pairAt}
 use Rattle.spans.specs.Changes.{Past, Cleared, Kept, WrotePair}
 use Rattle.spans.proofs.Places.{pairAt-below}
@@ -55,3 +55,13 @@ wrote ws p a b h = record {
   first = getD-set-other (set ws (2 * p) a) (2 * p + 1) (2 * p) b 0 (omega arith) ∙ getD-set-same ws (2 * p) a 0 (omega arith);
   second = getD-set-same (set ws (2 * p) a) (2 * p + 1) b 0 (omega (arith, length-set ws (2 * p) a));
 }
+
+-- words that were cleared are 0
+pub zeroed : (m : ℕ) (ws ws′ : List ℕ) → m ≤ length ws′ → Cleared ws ws′ m
+    → take m ws′ ≡ replicate m 0
+zeroed m ws ws′ h c =
+    let e = length-take-le m ws′ h in
+    ext-getD 0 (take m ws′) (replicate m 0) (e ∙ sym (length-replicate m 0))
+    (λ i l.
+    let j : i < m = omega arith in
+    getD-take m ws′ i 0 j ∙ c .zeros i j ∙ sym (getD-replicate m i 0 0 j))

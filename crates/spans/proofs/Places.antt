@@ -76,3 +76,7 @@ pub pairAt-below : (n s len : ℕ) → s + len ≤ n → pairAt n s len < pairs 
 unfolding pairAt spans
 pairAt-below n s zero h = omega (arith, pairs-spans n)
 pairAt-below n s (suc l) h = omega (arith, pairs-spans n, spans-mono n (suc l) n (omega arith))
+
+pub pairs-few : (n : ℕ) → n ≤ 64 → pairs n ≤ 2081
+unfolding pairs
+pairs-few n h = omega (arith, mul-le-mul-right (n + 1) h)

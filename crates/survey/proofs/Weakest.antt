@@ -25,13 +25,13 @@ module _ {g : Rules} {s : ℕ} {A : ℕ} where
       go r h = omega (arith, h)
 
 -- marks of one rank are the same
-abbrev unrank : ℕ → UnaryMark
+abbrev pub unrank : ℕ → UnaryMark
 unrank zero = UnaryMark.None
 unrank (suc zero) = UnaryMark.Offalign
 unrank (suc (suc zero)) = UnaryMark.Offside
 unrank (suc (suc (suc n))) = UnaryMark.Single
 
-unrank-rank : (m : UnaryMark) → unrank (rank m) ≡ m
+pub unrank-rank : (m : UnaryMark) → unrank (rank m) ≡ m
 unrank-rank UnaryMark.None = refl
 unrank-rank UnaryMark.Offalign = refl
 unrank-rank UnaryMark.Offside = refl

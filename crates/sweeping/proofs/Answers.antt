@@ -23,7 +23,7 @@ use Rattle.lengths.specs.Indexes.{at, Exact}
 use Rattle.lengths.proofs.Possibly.{derives-can}
 use Rattle.tally.specs.Rows.{Fair}
 use Rattle.spans.specs.Changes.{Past, Cleared}
-use Rattle.spans.proofs.ChangeLaws.{past-then, past-drop}
+use Rattle.spans.proofs.ChangeLaws.{past-then, past-drop, zeroed}
 use Rattle.candidates.specs.Terminals.{Among}
 use Rattle.candidates.specs.Spelling.{LowSteps, Spells}
 use Rattle.candidates.proofs.Spelling.{low-steps}
@@ -151,13 +151,6 @@ swept-of {g} {k} {n} {m} {cs} {r} e (first f) x q =
     tried-two : (i : ℕ) → 1 ≤ i → HowMany (TriedBy g k (answerOf i cs)) m → HowMany (TriedBy g k (found cs)) m
     tried-two zero l c = absurd (omega arith)
     tried-two (suc i) l c = c
-
--- the words after the search, cleared
-zeroed : (m : ℕ) (ws ws′ : List ℕ) → m ≤ length ws′ → Cleared ws ws′ m → take m ws′ ≡ replicate m 0
-zeroed m ws ws′ h c =
-    let e : length (take m ws′) ≡ m = length-take m ws′ ∙ omega arith in
-    ext-getD 0 (take m ws′) (replicate m 0) (e ∙ sym (length-replicate m 0))
-    (λ i l. let j : i < m = omega arith in getD-take m ws′ i 0 j ∙ c .zeros i j ∙ sym (getD-replicate m i 0 0 j))
 
 pub all-cleared : (k : ℕ) {m : ℕ} {ws ws′ ws″ : List ℕ} → m ≡ 2 * pairs k → 2 * pairs k ≤ length ws → Past (2 * pairs k) ws ws′ → Cleared ws′ ws″ m → ws″ ≡ cleared k ws
 all-cleared k {m} {ws} {ws′} {ws″} e h p d =

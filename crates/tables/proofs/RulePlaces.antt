@@ -3,7 +3,7 @@ use mathlib.Core.Path.{_≡_}
 use Prim.Native.Nat.{ℕ, _<_}
 use lib.ListN.{length, getD}
 use lib.Seq.{getD-take}
-use Rattle.codes.proofs.Laws.{every-rule}
+use Rattle.grammar.proofs.Lists.{every-at}
 use Rattle.grammar.specs.declared.Grammar.{Grammar}
 use Rattle.grammar.specs.Trees.{Rules}
 use Rattle.grammar.specs.Content.{rules, SmallRule, Formed}
@@ -13,7 +13,7 @@ use Rattle.grammar.specs.Distinct.{Alike, Distinct}
 
 -- the rule at a place is small
 pub small-at : {g : Grammar} → Formed g → (i : ℕ) → i < length (rules g) → SmallRule (rule (rules g) i)
-small-at {g} f i h = every-rule SmallRule no-rule (rules g) (f .small) i h
+small-at {g} f i h = every-at SmallRule no-rule (rules g) (f .small) i h
 
 -- two rules that are alike are one
 pub distinct-at : {g : Rules} → Distinct g → (i j : ℕ) → i < length g → j < length g → rule g i .left ≡ rule g j .left → Alike (rule g i .clause) (rule g j .clause) → i ≡ j

@@ -9,6 +9,7 @@ use native.Mathlib.Decide.{ℕ-discrete}
 use lib.Dec.{eqb}
 use lib.ListN.{length, take}
 use borrow.Author.Tests.{eqb-true, eq-eqb}
+use Rattle.grammar.proofs.Positions.{after-then}
 use Rattle.grammar.specs.declared.Token.{Token}
 use Rattle.grammar.specs.declared.Cell.{Cell}
 use Rattle.grammar.specs.Layout.{Word, line, col, width, Every}
@@ -24,12 +25,6 @@ use Rattle.twins.proofs.Places.{at-shared}
 use Rattle.twins.proofs.Lowered.{twin-less}
 
 -- ---- tokens that come after one another
-
-after-then : (a b c : Token) → After a b → After b c → After a c
-after-then a b c (inl h) (inl k) = inl (omega arith)
-after-then a b c (inl h) (inr k) = inl (omega (arith, k .0))
-after-then a b c (inr h) (inl k) = inl (omega (arith, h .0))
-after-then a b c (inr h) (inr k) = inr (h .0 ∙ k .0, omega (arith, h .1, k .1))
 
 every-after : (a b : Token) (w : Word) → After a b → Every (After b) w → Every (After a) w
 every-after a b [] h e = tt

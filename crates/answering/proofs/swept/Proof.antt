@@ -4,13 +4,11 @@ use mathlib.Core.Logic.{inl, inr}
 use Prim.Native.Nat.{ℕ, _≤_, _<_}
 use native.Mathlib.Omega.{arith}
 use borrow.Author.Tests.{not-true, not-false}
+use Rattle.sets.proofs.Basics.{not-le}
 use Rattle.answering.specs.Sweep.{bound, many, short}
 use borrow.Author.Needs.{needs}
 use Rattle.answering.proofs.swept.Statement.{statement}
 use Rattle.answering.proofs.swept.Tie as tie
-
-not-le : (a b : ℕ) → (a ≤ b → ⊥) → b < a
-not-le a b n = omega arith
 
 refused-sweep-requires : tie.Need-refused-sweep-requires
 refused-sweep-requires c κs = search needs

@@ -1,6 +1,6 @@
 -- `list_two` meets its contract: 2,081 words are enough for the pairs of 64 tokens.
-use Rattle.call_places.proofs.Placing.{pairs-most}
 use borrow.Author.Needs.{needs}
+use Rattle.spans.proofs.Places.{pairs-few}
 use Rattle.call_places.proofs.list_two.Statement.{statement}
 use Rattle.call_places.proofs.list_two.Tie as tie
 
@@ -11,7 +11,7 @@ reached-requires : tie.Need-reached-requires
 reached-requires c κs =
     let s = c .before .before .before in
     let t = s .pre .1 .1 .1 in
-    let most = pairs-most (s .args .s .count) (s .pre .1 .0 .few) in
+    let most = pairs-few (s .args .s .count) (s .pre .1 .0 .few) in
     ((s .pre .1 .0 .few, most), (s .pre .0, (s .pre .1 .1 .0, record { tree = t .first; witness = t .witness₁ })))
 
 slice-aggregate-list-places : tie.Need-slice-aggregate-list-places

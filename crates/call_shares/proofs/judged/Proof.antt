@@ -5,12 +5,10 @@ use Prim.Native.Nat.{ℕ, _≤_, _<_}
 use native.Mathlib.Omega.{arith}
 use borrow.Author.Needs.{needs}
 use borrow.Author.Tests.{not-true, not-false}
+use Rattle.sets.proofs.Basics.{not-le}
 use Rattle.call_shares.specs.Share.{bound, many}
 use Rattle.call_shares.proofs.judged.Statement.{statement}
 use Rattle.call_shares.proofs.judged.Tie as tie
-
-not-le : (a b : ℕ) → (a ≤ b → ⊥) → b < a
-not-le a b n = omega arith
 
 refused-share-requires : tie.Need-refused-share-requires
 refused-share-requires c κs = search needs

@@ -3,10 +3,10 @@ use mathlib.Core.Path.{_≡_, sym, _∙_, subst}
 use Prim.Native.Nat.{ℕ, _-_, _≤_, _<_}
 use native.Mathlib.Omega.{arith}
 use lib.Seq.{getD-take}
+use Rattle.grammar.proofs.Lists.{every-at}
 use Rattle.grammar.specs.declared.Rule.{Rule}
 use Rattle.grammar.specs.Content.{rules, SmallRule}
 use Rattle.tables.specs.Tables.{no-rule}
-use Rattle.cuts.proofs.TryLaws.{every-rule}
 use Rattle.chains.specs.Chains.{HoldsAt}
 use Rattle.chains.specs.Reaching.{RuleCounted, Branches}
 use Rattle.chains.proofs.CountLaws.{branches-none, branches-more}
@@ -39,7 +39,7 @@ count-rule-requires c κs = let z = c .before .before .before .before .before .b
     let g = z .args .t4 in
     let l = c .before .before .before .before .loop in
     let h : l .i < g .count = c .before .before .before .loop-test .taken in
-    (subst SmallRule (getD-take (g .count) (g .rules) (l .i) no-rule h) (every-rule SmallRule no-rule (rules g) (z .pre .0 .small) (l .i) (omega (arith, z .pre .0 .whole))), (l .inv .1 .wide, l .inv .1 .wide₂, z .pre .1 .2))
+    (subst SmallRule (getD-take (g .count) (g .rules) (l .i) no-rule h) (every-at SmallRule no-rule (rules g) (z .pre .0 .small) (l .i) (omega (arith, z .pre .0 .whole))), (l .inv .1 .wide, l .inv .1 .wide₂, z .pre .1 .2))
 
 add-i : tie.Need-add-i Inv-loop μ-loop
 add-i c = search needs

@@ -1,7 +1,7 @@
 use mathlib.Core.Path.{sym, _∙_}
 use mathlib.Core.Logic.{inl, inr, ⊎-elim}
+use Rattle.sets.proofs.Bits.{in-and}
 use Rattle.sets.proofs.Says.{true-not-false}
-use Rattle.cuts.proofs.Bits.{in-and}
 use Rattle.chains.proofs.met.Statement.{statement}
 use Rattle.chains.proofs.met.Tie as tie
 

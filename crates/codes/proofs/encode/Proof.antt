@@ -5,9 +5,10 @@ use native.Mathlib.Numerals.{add-one}
 use native.Mathlib.Omega.{arith}
 use lib.ListN.{length, take, length-set}
 use lib.Seq.{getD-take, take-all}
+use Rattle.grammar.proofs.Lists.{every-at}
 use Rattle.grammar.specs.Content.{rules, SmallRule}
 use Rattle.codes.specs.Codes.{decoded}
-use Rattle.codes.proofs.Laws.{every-rule, stored}
+use Rattle.codes.proofs.Laws.{stored}
 use Rattle.codes.proofs.encode.Statement.{statement}
 use Rattle.codes.proofs.encode.Tie as tie
 
@@ -31,7 +32,7 @@ code-of-requires c κs =
     let z = c .before .before .before in
     let i = c .before .before .loop .i in
     let h : i < z .args .t1 .count = c .before .loop-test .taken in
-    subst SmallRule (getD-take (z .args .t1 .count) (z .args .t1 .rules) i _ h) (every-rule SmallRule _ (rules (z .args .t1)) (z .pre .small) i (omega (arith, z .pre .whole)))
+    subst SmallRule (getD-take (z .args .t1 .count) (z .args .t1 .rules) i _ h) (every-at SmallRule _ (rules (z .args .t1)) (z .pre .small) i (omega (arith, z .pre .whole)))
 
 mul-codes : tie.Need-mul-codes Inv-loop μ-loop
 mul-codes c = omega (arith, c .before .before .before .before .pre .few)

@@ -3,6 +3,7 @@ use mathlib.Core.Path.{sym, subst}
 use Prim.Native.Nat.{_+_, _-_, _<_}
 use native.Mathlib.Omega.{arith}
 use lib.Seq.{getD-take}
+use Rattle.grammar.proofs.Lists.{every-at}
 use Rattle.sets.specs.Sets.{In}
 use Rattle.grammar.specs.declared.Rule.{Rule}
 use Rattle.grammar.specs.Content.{rules, SmallRule}
@@ -11,7 +12,7 @@ use Rattle.cuts.specs.Counts.{TriedOne}
 use Rattle.cuts.specs.Cuts.{CutFits, CutBelow}
 use Rattle.cuts.specs.Puts.{Least}
 use Rattle.cuts.proofs.PutLaws.{rest-less}
-use Rattle.cuts.proofs.TryLaws.{every-rule, cut-more, cut-skip}
+use Rattle.cuts.proofs.TryLaws.{cut-more, cut-skip}
 use Rattle.cuts.proofs.PlaceLaws.{Trying, trying-none, trying-next, trying-end}
 use Rattle.cuts.proofs.try_places.Statement.{statement}
 use Rattle.cuts.proofs.try_places.Tie as tie
@@ -53,7 +54,7 @@ has-requires c κs =
     let m = subst (Least (l .rest)) (sym (c .before .place .ensures)) (c .before .before .lowest .ensures) in
     let y = z .pre .0 .2 .within i (l .inv .among i (m .member)) in
     let h : a .base + i < g .count = omega (arith, z .pre .0 .0 .whole) in
-    (subst SmallRule (getD-take (g .count) (g .rules) (a .base + i) _ h) (every-rule SmallRule _ (rules g) (z .pre .0 .0 .small) (a .base + i) (omega (arith, z .pre .0 .0 .whole)))) .left
+    (subst SmallRule (getD-take (g .count) (g .rules) (a .base + i) _ h) (every-at SmallRule _ (rules g) (z .pre .0 .0 .small) (a .base + i) (omega (arith, z .pre .0 .0 .whole)))) .left
 
 loop-less : tie.Need-loop-less Inv-loop μ-loop
 loop-less c =
@@ -83,7 +84,7 @@ try-rule-requires c κs =
     let m = subst (Least (l .rest)) (sym (c .before .before .before .place .ensures)) (c .before .before .before .before .lowest .ensures) in
     let y = z .pre .0 .2 .within i (l .inv .among i (m .member)) in
     let h : a .base + i < g .count = omega (arith, z .pre .0 .0 .whole) in
-    (subst SmallRule (getD-take (g .count) (g .rules) (a .base + i) _ h) (every-rule SmallRule _ (rules g) (z .pre .0 .0 .small) (a .base + i) (omega (arith, z .pre .0 .0 .whole))), z .pre .1 .0)
+    (subst SmallRule (getD-take (g .count) (g .rules) (a .base + i) _ h) (every-at SmallRule _ (rules g) (z .pre .0 .0 .small) (a .base + i) (omega (arith, z .pre .0 .0 .whole))), z .pre .1 .0)
 
 loop-less-2 : tie.Need-loop-less-2 Inv-loop μ-loop
 loop-less-2 c =

@@ -4,10 +4,10 @@ use Prim.Native.Nat.{ℕ, _+_, _-_, _≤_, _<_}
 use native.Mathlib.Omega.{arith}
 use lib.ListN.{length, getD, length-set, length-take}
 use lib.Seq.{getD-take, length-take-le}
+use Rattle.grammar.proofs.Lists.{every-at}
 use Rattle.grammar.specs.declared.Rule.{Rule}
 use Rattle.grammar.specs.Content.{rules, SmallClause, SmallRule}
 use Rattle.tables.specs.Tables.{no-rule, rule}
-use Rattle.cuts.proofs.TryLaws.{every-rule}
 use Rattle.links.specs.LinkRules.{Idle, Thinned, thin-none, thin-drop}
 use Rattle.links.proofs.ThinLaws.{thin-more, thin-take, thin-from}
 use Rattle.links.proofs.link_rules.Statement.{statement}
@@ -45,7 +45,7 @@ idle-requires c κs =
     let z = c .before .before .before .before in
     let g = z .args .t1 in
     let h : l .i < g .count = c .before .loop-test .taken in
-    (subst SmallRule (getD-take (g .count) (g .rules) (l .i) no-rule h) (every-rule SmallRule no-rule (rules g) (z .pre .small) (l .i) (omega (arith, z .pre .whole)))) .clause
+    (subst SmallRule (getD-take (g .count) (g .rules) (l .i) no-rule h) (every-at SmallRule no-rule (rules g) (z .pre .small) (l .i) (omega (arith, z .pre .whole)))) .clause
 
 -- src/lib.rt:43:5
 loop-less : tie.Need-loop-less Inv-loop μ-loop
@@ -99,7 +99,7 @@ returns c =
       ruled = record {
         few = omega (arith, z .pre .few, l .inv .1);
         whole = length-take-le (l .m) (l .rules) (omega (arith, l .inv .1, l .inv .2));
-        small = thin-from SmallRule (λ j h. every-rule SmallRule no-rule (rules g) (z .pre .small) j (omega (arith, z .pre .whole))) u;
+        small = thin-from SmallRule (λ j h. every-at SmallRule no-rule (rules g) (z .pre .small) j (omega (arith, z .pre .whole))) u;
       };
       thinned = u;
     }

@@ -6,12 +6,13 @@ use mathlib.Core.List.{List}
 use Prim.Native.Nat.{ℕ, suc, _+_, _-_, _*_, _≤_, _<_, max}
 use native.Mathlib.Omega.{arith}
 use lib.ListN.{length}
+use Rattle.grammar.proofs.Lists.{getElem?-take}
 use Rattle.grammar.specs.Choices.{Choice, FirstChoice, Preferred, Same, LowChoice, OtherChoice, straight, looping}
 use Rattle.grammar.specs.Content.{rules}
 use Rattle.grammar.specs.SpanSheet.{part}
 use Rattle.grammar.proofs.ChoiceLaws.{preferred-choice}
 use Rattle.picks.specs.Choosing.{NextAt, NextChoice, NoneFrom}
-use Rattle.nodes.proofs.PickLaws.{choice-near, charted, getElem?-take}
+use Rattle.nodes.proofs.PickLaws.{choice-near, charted}
 use Rattle.nodes.proofs.LowLaws.{Higher, higher-none, low-step, low-there, step-inside, rank, rank-less}
 use Rattle.nodes.proofs.low_choice.Statement.{statement}
 use Rattle.nodes.proofs.low_choice.Tie as tie

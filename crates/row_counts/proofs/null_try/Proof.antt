@@ -8,6 +8,7 @@ use native.Mathlib.Omega.{arith}
 use lib.ListN.{length, getD}
 use borrow.Author.Tests.{not-true, not-false}
 use lib.ListN.{set}
+use Rattle.sets.proofs.Basics.{not-zero}
 use Rattle.sets.specs.Says.{Says}
 use Rattle.sets.specs.Sets.{In}
 use Rattle.grammar.specs.Trees.{Tree, Derives}
@@ -21,9 +22,6 @@ use Rattle.row_counts.proofs.NullLaws.{small, found-size, not-known, pa
 use Rattle.row_counts.proofs.SizeLaws.{chosen-small}
 use Rattle.row_counts.proofs.null_try.Statement.{statement}
 use Rattle.row_counts.proofs.null_try.Tie as tie
-
-some : (n : ℕ) → (n ≡ 0 → ⊥) → 0 < n
-some n f = omega arith
 
 -- the bit of the empty word says whether a derives it
 bit : (z : tie.Start) {b : _} → Says b (In (firstWord (z .args .words .now) (z .args .s .count) 0 0) (z .args .a)) → b ≡ true
@@ -64,7 +62,7 @@ returns c =
     let z = c .before .before .before .before .before .before in
     let a = z .args in
     passed-none _ (z .pre .1 .1)
-    (λ B t d f k. let h = c .if1 .taken in let e : B ≡ wide .result = d ∙ sym (wide .ensures) in some _ (λ q. h (ap (λ (y : ℕ). getD (a .z .now) y 0) (sym e) ∙ q)))
+    (λ B t d f k. let h = c .if1 .taken in let e : B ≡ wide .result = d ∙ sym (wide .ensures) in not-zero _ (λ q. h (ap (λ (y : ℕ). getD (a .z .now) y 0) (sym e) ∙ q)))
 
 in-first-requires : tie.Need-in-first-requires
 in-first-requires c κs =
@@ -133,7 +131,7 @@ returns-4 c =
     let z = c .before .before .before .before .before .before .before .before .before .before .before .before in
     let a = z .args in
     let f = tree z (not-false _ (if2 .left)) (in-first .ensures) in
-    let p : 0 < c .before .null-size .result = some _ (c .if3 .left) in
+    let p : 0 < c .before .null-size .result = not-zero _ (c .if3 .left) in
     let h : getD (a .z .now) (a .a) 0 ≡ 0 = ap (λ (y : ℕ). getD (a .z .now) y 0) (sym (wide .ensures)) ∙ if1 .left in
     subst (λ (x : ℕ). Passed (rules (a .g)) (λ B. B ≡ a .a) (a .z .now) (set (a .z .now) x (c .before .null-size .result)) true) (sym (wide .ensures))
     (passed-found (a .a) (c .before .null-size .result) (f .0) (z .pre .1 .1) (z .pre .0 .1) h p (f .1) (found-size (a .z .now) (z .pre .1 .1) (z .pre .0 .0 .formed .distinct) (a .a) (f .0) (f .1) (choose .result) (choose .ensures) _ (c .before .null-size .ensures) p))
