@@ -68,9 +68,9 @@ class Believe(unittest.TestCase):
         self.assertEqual((status, errors), (1, f"believe: no law nothing-leaks stands in crates/{file}\n"))
 
     def test_a_law_about_something_else_is_told(self):
-        status, errors = self.believe(LIST.replace("`call_tours/Alike`, ", ""))
+        status, errors = self.believe(LIST.replace("`call_rights/Alike`, ", ""))
         self.assertEqual(status, 1)
-        self.assertIn("nothing-leaks in crates/call_tours/proofs/Leaks.antt: the statement rests besides on answering/Settled call_tours/Alike", errors)
+        self.assertIn("nothing-leaks in crates/call_rights/proofs/Leaks.antt: the statement rests besides on answering/Settled call_tours/Alike", errors)
 
     def test_a_public_function_left_out_is_told(self):
         status, errors = self.believe(LIST.replace("`calling::calls_text`", ""))

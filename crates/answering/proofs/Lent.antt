@@ -9,7 +9,7 @@ use lib.ListN.{length, take, replicate}
 use Rattle.grammar.specs.Layout.{Word}
 use Rattle.grammar.specs.Trees.{Tree, Rules}
 use Rattle.grammar.specs.Distinct.{Distinct}
-use Rattle.derivation.specs.Written.{Display, inFull, rowsOf, countOf, filled}
+use Rattle.tree_writer.specs.Written.{Display, inFull, rowsOf, countOf, filled}
 use Rattle.lists.proofs.Settled.{gives-moved}
 use Rattle.sheets.specs.declared.Fault.{Fault}
 use Rattle.sheets.specs.Items.{Reading}

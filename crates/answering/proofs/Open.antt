@@ -12,9 +12,9 @@ use Rattle.grammar.specs.Layout.{Word, Every}
 use Rattle.grammar.specs.Trees.{Tree, Rules, Valid}
 use Rattle.grammar.specs.Rows.{rowCount}
 use Rattle.grammar.proofs.ChoiceLaws.{first-witness, second-witness}
-use Rattle.shown.specs.Shown.{View, shownCount}
-use Rattle.shown.proofs.ShownLaws.{rows-open, count-open, seen-valid}
-use Rattle.derivation.specs.Written.{inFull, seenBy, filled}
+use Rattle.tree_view.specs.Shown.{View, shownCount}
+use Rattle.tree_view.proofs.ShownLaws.{rows-open, count-open, seen-valid}
+use Rattle.tree_writer.specs.Written.{inFull, seenBy, filled}
 use Rattle.answering.specs.declared.Answer.the-variants as Answer
 use Rattle.answering.specs.declared.TreesReply.{TreesReply}
 use Rattle.answering.specs.Trees.{treesReplyOf, Shown, treeless, single, both, large-one, large-two, TreesOn, short, showing}

@@ -27,7 +27,7 @@ use Rattle.answering.specs.declared.TreesReply.{TreesReply}
 use Rattle.answering.specs.Verdict.{needed, SheetFilled, VerdictOn, short, judging, VerdictBy, refusing, reading}
 use Rattle.answering.specs.Trees.{treesReplyOf, Shown, treeless, single, both, large-one, large-two, TreesOn, TreesBy}
 use Rattle.answering.specs.Trees as Trees
-use Rattle.derivation.specs.Written.{Display, inFull, filled}
+use Rattle.tree_writer.specs.Written.{Display, inFull, filled}
 use mathlib.Core.Option.{none, some}
 use Rattle.grammar.proofs.ChoiceLaws.{first-unique, second-tree-unique}
 use Rattle.grammar.specs.Distinct.{Distinct}

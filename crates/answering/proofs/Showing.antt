@@ -13,15 +13,15 @@ use Rattle.grammar.specs.Trees.{Tree, Rules, NoTree, OneTree, TwoTrees}
 use Rattle.grammar.specs.Choices.{FirstTree, SecondTree}
 use Rattle.grammar.specs.SpanSheet.{pairs}
 use Rattle.grammar.proofs.Existence.{FirstOf, first-of-derives, two-iff-second}
-use Rattle.derivation.specs.declared.Counts.{Counts}
-use Rattle.nodes.specs.Wanted.{Wanted}
-use Rattle.derivation.specs.Written.{Display, rowRoom}
+use Rattle.tree_writer.specs.declared.Counts.{Counts}
+use Rattle.tree_choices.specs.Wanted.{Wanted}
+use Rattle.tree_writer.specs.Written.{Display, rowRoom}
 use Rattle.sheets.specs.declared.Fault.the-variants as Fault
 use Rattle.answering.specs.declared.Answer.the-variants as Answer
 use Rattle.answering.specs.Counted.{counted}
 use Rattle.answering.specs.Trees.{treesReplyOf, Shown, treeless, single, both, large-one, large-two, TreesOn, short}
 use Rattle.grammar.specs.Distinct.{Distinct}
-use Rattle.derivation.specs.Memories.{Written}
+use Rattle.tree_writer.specs.Memories.{Written}
 
 pub too-few : (dis : Display) (g : Rules) (w : Word) (n : ℕ) (ws one two : List ℕ) → length w ≡ n → length ws < 2 * pairs n → TreesOn dis g w ws ws one one two two (treesReplyOf (Answer.Refused Fault.FewWords) 0 0 0)
 too-few dis g w n ws one two e h = short (omega (arith, ap pairs e)) refl refl refl refl refl

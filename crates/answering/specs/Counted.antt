@@ -1,6 +1,6 @@
 -- The reply on what the tree writer counts (inner): the trees' counts, or refusal 22.
 use mathlib.Core.Bool.{Bool, true, false}
-use Rattle.derivation.specs.declared.Counts.{Counts}
+use Rattle.tree_writer.specs.declared.Counts.{Counts}
 use Rattle.sheets.specs.declared.Fault.the-variants as Fault
 use Rattle.answering.specs.declared.Answer.{Answer}
 use Rattle.answering.specs.declared.Answer.the-variants as Answer

@@ -9,7 +9,7 @@ use lib.ListN.{length}
 use Rattle.grammar.specs.Layout.{Word}
 use Rattle.grammar.specs.Trees.{Tree, Rules, NoTree, OneTree, TwoTrees}
 use Rattle.grammar.specs.Choices.{FirstTree, SecondTree}
-use Rattle.derivation.specs.Written.{Display, inFull, rowRoom, filled}
+use Rattle.tree_writer.specs.Written.{Display, inFull, rowRoom, filled}
 use Rattle.sheets.specs.Items.{accepted}
 use Rattle.sheets.specs.declared.Fault.{Fault}
 use Rattle.sheets.specs.Refusals.{numberOf, RefusedAs}

@@ -2,7 +2,7 @@
 use mathlib.Core.List.{List}
 use Prim.Native.Nat.{ℕ}
 use Rattle.grammar.specs.Candidates.{Terminal}
-use Rattle.tally.specs.Tried.{Tried}
+use Rattle.tried_count.specs.Tried.{Tried}
 use Rattle.sheets.specs.RuleSheets.{ruleSheet}
 use Rattle.answering.specs.declared.SweepReply.{SweepReply}
 use Rattle.answering.specs.Sweep.{Tries, SweepReading}

@@ -4,11 +4,11 @@
 use calling::calls_text;
 use cases::five;
 use cases::next_case;
-use clause_calls::refused_line;
+use call_clauses::refused_line;
 use clause_text::clauses_text;
 use libc::STDOUT_FILENO;
-use tour_text::change_text;
-use tour_text::show_text;
+use rights_text::change_text;
+use rights_text::show_text;
 ghost use Prim.Native.Nat.{_≤_};
 ghost use lib.ListN.{length};
 

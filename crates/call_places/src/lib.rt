@@ -8,7 +8,7 @@ use lists::Listed;
 use lists::begin;
 use lists::finish;
 use place_list::list_places;
-use reach::reached;
+use contained_spans::reached;
 use sheets::Fault;
 use sheets::Outcome;
 use sheets::read_rules;

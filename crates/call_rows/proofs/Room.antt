@@ -11,7 +11,7 @@ use Rattle.grammar.specs.Choices.{FirstTree, SecondTree}
 use Rattle.grammar.specs.Rows.{rowCount}
 use Rattle.grammar.proofs.ChoiceLaws.{first-unique, second-tree-unique}
 use Rattle.grammar.proofs.VerdictLaws.{none-not-one, none-not-two, one-not-two}
-use Rattle.derivation.specs.Written.{inFull, rowRoom}
+use Rattle.tree_writer.specs.Written.{inFull, rowRoom}
 use Rattle.sheets.specs.declared.Fault.{Fault}
 use Rattle.sheets.specs.Refusals.{numberOf}
 use Rattle.answering.specs.declared.Answer.{Answer}

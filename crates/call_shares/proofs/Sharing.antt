@@ -15,8 +15,8 @@ use Rattle.grammar.specs.Sweeps.{arrangements, terminalCount}
 use Rattle.grammar.proofs.SweepLaws.{sentence-length}
 use Rattle.candidates.specs.Terminals.{Terminals}
 use Rattle.candidates.proofs.Counting.{counted}
-use Rattle.numbers.specs.Numbers.{number}
-use Rattle.numbers.specs.Shares.{firstOfShare, total, Reports, Reported}
+use Rattle.arrangement_numbers.specs.Numbers.{number}
+use Rattle.arrangement_numbers.specs.Shares.{firstOfShare, total, Reports, Reported}
 use Rattle.share_search.specs.Sharing.{Shared}
 use Rattle.share_search.specs.Sharing as Of
 use Rattle.answering.specs.declared.Answer.{Answer}

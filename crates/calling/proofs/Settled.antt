@@ -7,7 +7,7 @@ use Rattle.always_text.proofs.Settled.{always-text-settled}
 use Rattle.call_sheets.specs.CallSheets.{callOf}
 use Rattle.call_sheets.specs.declared.Call.{Call}
 use Rattle.call_sheets.specs.declared.Call.the-variants as Call
-use Rattle.clause_calls.proofs.Settled.{clauses-apart}
+use Rattle.call_clauses.proofs.Settled.{clauses-apart}
 use Rattle.clause_text.proofs.Settled.{expand-text-settled}
 use Rattle.column_text.proofs.Settled.{columns-text-settled}
 use Rattle.reports.proofs.Settled.{merge-text-settled}
@@ -15,7 +15,7 @@ use Rattle.share_text.proofs.Settled.{share-text-settled}
 use Rattle.text.specs.Printed.{Printed}
 use Rattle.text.proofs.Settled.{never-none, same-some, trees-text-settled, sweep-text-settled, printed-settled}
 use Rattle.text_trees.proofs.Settled.{rows-text-settled, places-text-settled}
-use Rattle.tour_text.proofs.Settled.{show-text-settled, change-text-settled}
+use Rattle.rights_text.proofs.Settled.{show-text-settled, change-text-settled}
 use Rattle.calling.specs.Calls.{OnTwoSheets, two, OnThreeSheets, three, CallText, CallsOf, long, whole, called}
 use Rattle.calling.specs.Calls as Calls
 

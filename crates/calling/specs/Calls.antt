@@ -8,7 +8,7 @@ use Rattle.always_text.specs.Always.{AlwaysText}
 use Rattle.call_sheets.specs.CallSheets.{callOf}
 use Rattle.call_sheets.specs.declared.Call.{Call}
 use Rattle.call_sheets.specs.declared.Call.the-variants as Call
-use Rattle.clause_calls.specs.Calls.{clauseSheets}
+use Rattle.call_clauses.specs.Calls.{clauseSheets}
 use Rattle.clause_sheets.specs.ClauseSheets.{clauseSheet}
 use Rattle.clause_text.specs.Texts.{ExpandText}
 use Rattle.column_text.specs.Columns.{ColumnsTextOf}
@@ -20,7 +20,7 @@ use Rattle.text.specs.Output.{refusedText, head}
 use Rattle.text.specs.Programs.{longest, TreesText, SweepText}
 use Rattle.text_trees.specs.Places.{PlacesTextOf}
 use Rattle.text_trees.specs.Rows.{RowsTextOf}
-use Rattle.tour_text.specs.Texts.{ShowText, ChangeText}
+use Rattle.rights_text.specs.Texts.{ShowText, ChangeText}
 
 -- a call sheet not so written, or fewer sheets than the call has
 abbrev pub Unwritten : List ℕ → Type 0

@@ -24,13 +24,13 @@ use Rattle.lexemes.specs.declared.Lexeme.{Lexeme}
 use Rattle.lexemes.specs.declared.Lexeme.the-variants as Lexeme
 use Rattle.lexemes.specs.declared.Lexed.{Lexed}
 use Rattle.lexemes.specs.Answers.{lexemeOf, Lexes}
-use Rattle.emits.specs.declared.Emit.{Emit}
-use Rattle.emits.specs.declared.Step.{Step}
-use Rattle.emits.specs.Signs.{sortOf, bindingOf, headsOf}
-use Rattle.emits.specs.Emitting.{Cause, Adds, Pushed, CountsOn, tailRules, LeafRead}
+use Rattle.rule_output.specs.declared.Emit.{Emit}
+use Rattle.rule_output.specs.declared.Step.{Step}
+use Rattle.rule_output.specs.Signs.{sortOf, bindingOf, headsOf}
+use Rattle.rule_output.specs.Emitting.{Cause, Adds, Pushed, CountsOn, tailRules, LeafRead}
 use Rattle.clause_rules.specs.Ends.{Left, GroupEnd, AtomEnd, ItemEnd}
 use Rattle.clause_rules.specs.Reading.{Read, AtomRead, ItemRead, RestRead, SequenceRead, AlternativesRead}
-use Rattle.emits.proofs.Adding.{adds-over, cause-more, adds-then, adds-also, adds-same, adds-when, adds-nothing}
+use Rattle.rule_output.proofs.Adding.{adds-over, cause-more, adds-then, adds-also, adds-same, adds-when, adds-nothing}
 use Rattle.clause_rules.proofs.Firsts.{first, behind, sort-of, no-suffix, no-join, no-bar, suffix-told}
 
 not-both : {c : Bool} → c ≡ true → c ≡ false → ⊥

@@ -10,9 +10,9 @@ use Rattle.clauses.specs.Expansion.{size, name}
 use Rattle.clauses.specs.Emission.{emit}
 use Rattle.clauses.specs.Text.{Lex, an-atom, an-item, a-row, one, many, WrittenAs}
 use Rattle.clauses.proofs.Legible.{NoSuffix, RowStop, Stop}
-use Rattle.emits.specs.declared.Emit.{Emit}
-use Rattle.emits.specs.declared.Step.{Step}
-use Rattle.emits.specs.Emitting.{Adds}
+use Rattle.rule_output.specs.declared.Emit.{Emit}
+use Rattle.rule_output.specs.declared.Step.{Step}
+use Rattle.rule_output.specs.Emitting.{Adds}
 use Rattle.clause_rules.specs.Ends.{Left}
 
 -- the new rules and new nonterminals of a part; unless there was no room, its nonterminal and the lexemes behind it

@@ -1,12 +1,12 @@
 // The rules of an expression: alternatives, sequence and item readers that call each other while the remaining bytes fall.
 // They are for expressions that are known to be so written; of others they say nothing but that they end.
-use emits::Emit;
-use emits::Step;
-use emits::fresh;
-use emits::leaf;
-use emits::opened;
-use emits::push;
-use emits::tail;
+use rule_output::Emit;
+use rule_output::Step;
+use rule_output::fresh;
+use rule_output::leaf;
+use rule_output::opened;
+use rule_output::push;
+use rule_output::tail;
 use grammar::BinaryMark;
 use grammar::Clause;
 use grammar::Rule;
@@ -16,7 +16,7 @@ use lexemes::lexeme_at;
 ghost use mathlib.Core.Path.{_≡_};
 ghost use Prim.Native.Nat.{_≤_};
 ghost use lib.ListN.{length};
-ghost use Rattle.emits.specs.Signs.{sortOf, bindingOf};
+ghost use Rattle.rule_output.specs.Signs.{sortOf, bindingOf};
 ghost use Rattle.clause_rules.specs.Ends.{GroupEnd, AtomEnd, ItemEnd};
 ghost use Rattle.clause_rules.specs.Reading.{AtomRead, ItemRead, RestRead, SequenceRead, AlternativesRead};
 

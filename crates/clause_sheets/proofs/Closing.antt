@@ -21,8 +21,8 @@ use Rattle.clauses.specs.Clauses.{Clauses}
 use Rattle.clauses.specs.Expansion.{of, rising, pastAll, sizeAll, expansion}
 use Rattle.clauses.proofs.Bounds.{Terms, TermsAll}
 use Rattle.clauses.proofs.Apart.{expansion-distinct}
-use Rattle.emits.specs.declared.Emit.{Emit}
-use Rattle.emits.specs.Emitting.{Adds, Cause}
+use Rattle.rule_output.specs.declared.Emit.{Emit}
+use Rattle.rule_output.specs.Emitting.{Adds, Cause}
 use Rattle.clause_lines.specs.ClauseLines.{ClauseLine, Said, good, unwritten, deep, expression, withLeft, leftSays, clauseLine}
 use Rattle.sheets.specs.declared.Fault.{Fault}
 use Rattle.sheets.specs.Refusals.{numberOf}

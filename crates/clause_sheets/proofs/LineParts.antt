@@ -28,9 +28,9 @@ use Rattle.clause_lines.specs.declared.Checked.the-variants as Checked
 use Rattle.clause_lines.specs.Walks.{checkedOf}
 use Rattle.clauses.proofs.Accepts.{accepts}
 use Rattle.lexemes.specs.Lexemes.{lexemes}
-use Rattle.emits.specs.declared.Emit.{Emit}
-use Rattle.emits.specs.declared.Step.{Step}
-use Rattle.emits.specs.Emitting.{Adds}
+use Rattle.rule_output.specs.declared.Emit.{Emit}
+use Rattle.rule_output.specs.declared.Step.{Step}
+use Rattle.rule_output.specs.Emitting.{Adds}
 use Rattle.clause_rules.specs.Reading.{AlternativesRead}
 use Rattle.clause_lines.specs.ClauseLines.{ClauseLine, Said, good, unwritten, deep, shallowOnly, lexemesSay, expression, withLeft, leftSays, clauseLine}
 use Rattle.clause_sheets.specs.declared.LineChecked.{LineChecked}

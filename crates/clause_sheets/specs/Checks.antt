@@ -9,8 +9,8 @@ use lib.ListN.{length}
 use Rattle.clauses.specs.Expansion.{pastExpr, pastAll, size, sizeAll}
 use Rattle.clauses.specs.Clauses.{Expr, alternatives}
 use Rattle.clauses.specs.Emission.{emit}
-use Rattle.emits.specs.declared.Emit.{Emit}
-use Rattle.emits.specs.Emitting.{Adds}
+use Rattle.rule_output.specs.declared.Emit.{Emit}
+use Rattle.rule_output.specs.Emitting.{Adds}
 use Rattle.clause_lines.specs.ClauseLines.{ClauseLine, Said, good, unwritten, deep, clauseLine}
 use Rattle.sheets.specs.declared.Outcome.{Outcome}
 use Rattle.sheets.specs.declared.Outcome.the-variants.{Accepted, Refused}

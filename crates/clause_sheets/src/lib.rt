@@ -2,7 +2,7 @@
 use clause_lines::Checked;
 use clause_lines::check;
 use clause_rules::alternatives;
-use emits::Emit;
+use rule_output::Emit;
 use fields::Cursor;
 use fields::NumberField;
 use grammar::Grammar;

@@ -5,7 +5,7 @@ use native.Mathlib.Omega.{arith}
 use lib.ListN.{length}
 use Rattle.answering.specs.declared.ListReply.{ListReply}
 use Rattle.answering.proofs.ListSettled.{count-of, list-count}
-use Rattle.clause_calls.specs.Expand.{ExpandOf, refusing, giving}
+use Rattle.call_clauses.specs.Expand.{ExpandOf, refusing, giving}
 
 pub expand-count : {clauses out out′ : List ℕ} {r : ListReply} → ExpandOf clauses out out′ r → r .count ≤ length out
 expand-count (refusing e x h) = count-of x (omega arith)

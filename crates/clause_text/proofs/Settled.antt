@@ -2,7 +2,7 @@
 use mathlib.Core.Path.{_≡_, sym, _∙_}
 use mathlib.Core.List.{List, _++_}
 use Prim.Native.Nat.{ℕ}
-use Rattle.clause_calls.proofs.Settled.{expand-reply}
+use Rattle.call_clauses.proofs.Settled.{expand-reply}
 use Rattle.text.specs.Output.{answerText, head}
 use Rattle.clause_text.specs.Texts.{ExpandText, expanding}
 

@@ -5,7 +5,7 @@ use Prim.Native.Nat.{ℕ}
 use lib.ListN.{length, take}
 use Rattle.answering.specs.declared.ListReply.{ListReply}
 use Rattle.text.specs.Output.{answerText, head}
-use Rattle.clause_calls.specs.Expand.{ExpandOf}
+use Rattle.call_clauses.specs.Expand.{ExpandOf}
 
 -- the answer and its line, then the bytes of the sheet that is given; bytes enough for it are lent
 pub data ExpandText (clauses text : List ℕ) : Type 0 where

@@ -1,7 +1,7 @@
 // The output of the calls on clause sheets, from the sheets to the whole output in a lent buffer.
-use clause_calls::expand;
-use clause_calls::sweep;
-use clause_calls::trees;
+use call_clauses::expand;
+use call_clauses::sweep;
+use call_clauses::trees;
 use printing::put_bytes;
 use text::put_head;
 use text::put_sentence;
@@ -9,7 +9,7 @@ use text::put_trees;
 ghost use Prim.Native.Nat.{_≤_};
 ghost use lib.ListN.{length};
 ghost use Rattle.clause_sheets.specs.ClauseSheets.{clauseSheet};
-ghost use Rattle.clause_calls.specs.Calls.{clauseSheets};
+ghost use Rattle.call_clauses.specs.Calls.{clauseSheets};
 ghost use Rattle.text.specs.Programs.{TreesText, SweepText};
 ghost use Rattle.text.specs.Printed.{Printed};
 ghost use Rattle.clause_text.specs.Texts.{ExpandText};

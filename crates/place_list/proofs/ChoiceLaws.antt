@@ -14,15 +14,15 @@ use mathlib.Core.Bool.{true, false}
 use Rattle.grammar.specs.Trees.{Rules}
 use Rattle.grammar.specs.Rows.{startOf}
 use Rattle.grammar.specs.SpanSheet.{pairAt}
-use Rattle.picks.specs.declared.Pick.the-variants as Pick
-use Rattle.picks.specs.Choosing.{NextAt, NoneFrom}
-use Rattle.picks.specs.Searches.{Stood, FirstPick}
-use Rattle.picks.proofs.PickLaws.{next-found, next-first, next-none, next-other, next-only}
+use Rattle.choices.specs.declared.Pick.the-variants as Pick
+use Rattle.choices.specs.Choosing.{NextAt, NoneFrom}
+use Rattle.choices.specs.Searches.{Stood, FirstPick}
+use Rattle.choices.proofs.PickLaws.{next-found, next-first, next-none, next-other, next-only}
 use Rattle.tables.specs.Tables.{One, byMarks, rule}
 use Rattle.tables.proofs.Views.{fits-le, lefts-le}
 use Rattle.place_list.specs.SeveralBy.{SeveralBy}
 use Rattle.places.specs.Places.{Several, Contains}
-use Rattle.reach.specs.Reached.{Reached}
+use Rattle.contained_spans.specs.Reached.{Reached}
 
 -- ---- two or more choices, by the first and the next
 

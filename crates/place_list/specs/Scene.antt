@@ -5,7 +5,7 @@ use Rattle.grammar.specs.declared.Grammar.{Grammar}
 use Rattle.grammar.specs.declared.Sentence.{Sentence}
 use Rattle.grammar.specs.Content.{rules, Formed, Positioned}
 use Rattle.grammar.specs.SpanSheet.{SpanSheet}
-use Rattle.reach.specs.Reached.{Reached}
+use Rattle.contained_spans.specs.Reached.{Reached}
 use Rattle.grammar.specs.Sentences.{spelled}
 
 -- rules and a sentence as the readers give them, the span sheet, and the words that say what whole trees contain

@@ -21,14 +21,14 @@ use Rattle.lines.specs.Turns.{turnOf}
 use Rattle.sheets.specs.Items.{Step, next, stop, end, Reading, accepted, refused, stepAt, onStep, itemsFrom}
 use Rattle.sheets.specs.RuleSheets.{anyOf}
 use Rattle.sheets.proofs.Loop.{line-cut, line-less}
-use Rattle.shown.proofs.Members.{member-none}
+use Rattle.tree_view.proofs.Members.{member-none}
 use Rattle.rights.specs.declared.Right.{Right}
 use Rattle.rights.specs.declared.RightLine.{RightLine}
 use Rattle.rights.specs.declared.RightLine.the-variants as RightLine
 use Rattle.rights.specs.RightLines.{mayOf, lastOf, rightOf, afterHigh, afterLow, afterUser, rightFields, rightLine}
 use Rattle.rights.specs.RightSheets.{rightSaid, rightLineStep, rightStep, itemsOf, covers, maySee, mayChange}
 use Rattle.fields.specs.Cursors.{piecesFrom, lineAt, bytesLeft}
-use Rattle.shown.specs.Members.{member}
+use Rattle.tree_view.specs.Members.{member}
 use Rattle.rights.specs.Answers.{RightsHeld}
 
 -- 1. a line by what it is

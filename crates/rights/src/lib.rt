@@ -18,7 +18,7 @@ ghost use Rattle.rights.specs.RightSheets.{rightLineStep, itemsOf, right
 ghost use Rattle.sheets.specs.Items.{refused};
 ghost use Rattle.rights.specs.Answers.{asMay, asStep, RightsGiven};
 ghost use Rattle.fields.specs.Cursors.{bytesLeft, fieldsLeft, piecesFrom};
-ghost use Rattle.shown.specs.Members.{member};
+ghost use Rattle.tree_view.specs.Members.{member};
 
 // A line of a rights sheet: its user, its range of nonterminals, and whether it says `change`, which includes seeing.
 pub struct Right {

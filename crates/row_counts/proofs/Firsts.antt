@@ -16,8 +16,8 @@ use Rattle.grammar.proofs.Lists.{mem-every}
 use Rattle.grammar.proofs.ByKind.{top-left}
 use Rattle.grammar.proofs.ChoiceLaws.{top-of, member-at, preferred-choice}
 use Rattle.rows.specs.declared.Step.{Step}
-use Rattle.nodes.specs.Picks.{PickedStep, HasChoice}
-use Rattle.nodes.proofs.Pending.{nodeShape, aim-step}
+use Rattle.tree_choices.specs.Picks.{PickedStep, HasChoice}
+use Rattle.tree_choices.proofs.Pending.{nodeShape, aim-step}
 use Rattle.row_counts.specs.Walks.{FirstThere}
 use Rattle.grammar.specs.Distinct.{Distinct}
 

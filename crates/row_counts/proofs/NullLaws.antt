@@ -16,8 +16,8 @@ use Rattle.grammar.specs.Choices.{AllPreferred, FirstTree}
 use Rattle.grammar.specs.Rows.{rowCount}
 use Rattle.grammar.proofs.ChoiceLaws.{first-unique}
 use Rattle.rows.specs.declared.Step.{Step}
-use Rattle.nodes.specs.Picks.{PickedStep}
-use Rattle.nodes.proofs.Pending.{nodeShape}
+use Rattle.tree_choices.specs.Picks.{PickedStep}
+use Rattle.tree_choices.proofs.Pending.{nodeShape}
 use Rattle.row_counts.specs.Capped.{capped}
 use Rattle.row_counts.specs.Nulls.{Nulls, Sound, oneMore, twoMore, nullSize, KidsKnown, zeros, Passed, Either}
 use Rattle.row_counts.proofs.Firsts.{first-shape}

@@ -16,9 +16,9 @@ use Rattle.grammar.specs.SpanSheet.{part, secondWord, SpanSheet}
 use Rattle.grammar.proofs.ChoiceLaws.{second-tree-unique, second-rooted, second-spelled, two-trees, two-not-only}
 use Rattle.marks.proofs.Words.{cut, part-length}
 use Rattle.rows.specs.declared.Step.{Step}
-use Rattle.nodes.specs.Wanted.{Wanted}
-use Rattle.nodes.specs.Picks.{PickedStep, HasChoice}
-use Rattle.nodes.proofs.Pending.{Pending, nodeShape, kids, Fork, now, later, Aim, AllFirst, aim-step, aim-choice}
+use Rattle.tree_choices.specs.Wanted.{Wanted}
+use Rattle.tree_choices.specs.Picks.{PickedStep, HasChoice}
+use Rattle.tree_choices.proofs.Pending.{Pending, nodeShape, kids, Fork, now, later, Aim, AllFirst, aim-step, aim-choice}
 use Rattle.row_counts.specs.declared.Way.{Way}
 use Rattle.row_counts.specs.Capped.{capped}
 use Rattle.row_counts.specs.Seconds.{Parted, Onward, BesideThere, Beside}

@@ -14,7 +14,7 @@ use Rattle.grammar.proofs.Lists.{mem-every}
 use Rattle.grammar.proofs.ChoiceLaws.{member-at}
 use Rattle.rows.specs.declared.Step.{Step}
 use Rattle.rows.specs.Steps.{stepOfClause}
-use Rattle.nodes.specs.Picks.{PickedStep}
+use Rattle.tree_choices.specs.Picks.{PickedStep}
 use Rattle.row_counts.specs.Capped.{capped}
 use Rattle.row_counts.specs.Nulls.{oneMore, twoMore, nullSize}
 use Rattle.row_counts.proofs.CappedLaws.{capped-suc}

@@ -18,8 +18,8 @@ use Rattle.grammar.proofs.ChoiceLaws.{first-unique}
 use Rattle.grammar.proofs.ByKind.{no-word}
 use Rattle.marks.proofs.Words.{Cut, cut, part-length}
 use Rattle.rows.specs.declared.Step.{Step}
-use Rattle.nodes.specs.Picks.{PickedStep}
-use Rattle.nodes.proofs.Pending.{nodeShape}
+use Rattle.tree_choices.specs.Picks.{PickedStep}
+use Rattle.tree_choices.proofs.Pending.{nodeShape}
 use Rattle.row_counts.specs.Capped.{capped}
 use Rattle.row_counts.specs.Nulls.{Nulls}
 use Rattle.row_counts.specs.Walks.{FirstThere, Own, Down}

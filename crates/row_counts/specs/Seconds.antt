@@ -10,7 +10,7 @@ use Rattle.grammar.specs.Choices.{Beneath, Preferred, FirstTree}
 use Rattle.grammar.specs.Rows.{rowCount}
 use Rattle.grammar.specs.SpanSheet.{part, pairs}
 use Rattle.rows.specs.declared.Step.{Step}
-use Rattle.nodes.proofs.Pending.{nodeShape}
+use Rattle.tree_choices.proofs.Pending.{nodeShape}
 use Rattle.row_counts.specs.declared.Way.{Way}
 use Rattle.row_counts.specs.Capped.{capped}
 use Rattle.row_counts.specs.Walks.{FirstThere}

@@ -24,12 +24,12 @@ use Rattle.candidates.specs.Spelling.{LowSteps, Spells}
 use Rattle.candidates.proofs.Counting.{counted}
 use Rattle.candidates.proofs.Spelling.{low-steps}
 use Rattle.candidates.proofs.TerminalSets.{no-candidate, candidate-over}
-use Rattle.numbers.specs.Numbers.{number}
-use Rattle.numbers.specs.Shares.{NoneIn, LowestIn}
-use Rattle.numbers.specs.Blocks.{placeIn, numberIn, Few}
-use Rattle.numbers.proofs.NumberLaws.{capacity-all}
-use Rattle.numbers.proofs.SetPlaces.{number-in, place-below}
-use Rattle.numbers.proofs.BlockLaws.{number-rises}
+use Rattle.arrangement_numbers.specs.Numbers.{number}
+use Rattle.arrangement_numbers.specs.Shares.{NoneIn, LowestIn}
+use Rattle.arrangement_numbers.specs.Blocks.{placeIn, numberIn, Few}
+use Rattle.arrangement_numbers.proofs.NumberLaws.{capacity-all}
+use Rattle.arrangement_numbers.proofs.SetPlaces.{number-in, place-below}
+use Rattle.arrangement_numbers.proofs.BlockLaws.{number-rises}
 use Rattle.share_search.specs.Searching.{Meets, Searched, hit, miss}
 use Rattle.share_search.specs.Sharing.{Shared, clear, two, Found, nothing, lowest}
 use Rattle.grammar.specs.Sentences.{no-token}

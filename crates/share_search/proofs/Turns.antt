@@ -15,10 +15,10 @@ use Rattle.grammar.specs.Candidates.{Candidate, CellsBefore, sentence}
 use Rattle.grammar.proofs.SweepLaws.{before-total}
 use Rattle.candidates.specs.Terminals.{Among}
 use Rattle.candidates.specs.Succession.{Shares, First, Follows, Ends}
-use Rattle.numbers.specs.Blocks.{numberIn, room, least}
-use Rattle.numbers.proofs.BlockLaws.{number-rises, block-low, block-high}
-use Rattle.twins.specs.Twins.{Twin, Replaceable}
-use Rattle.twins.proofs.Lowered.{shares-less}
+use Rattle.arrangement_numbers.specs.Blocks.{numberIn, room, least}
+use Rattle.arrangement_numbers.proofs.BlockLaws.{number-rises, block-low, block-high}
+use Rattle.equivalents.specs.Twins.{Twin, Replaceable}
+use Rattle.equivalents.proofs.Lowered.{shares-less}
 use Rattle.share_search.specs.Searching.{Meets, Lowest, NoneBefore, Barren, Searched, hit, miss}
 
 module _ {g : Rules} {s n lo : ℕ} (small : s < 2 ^ 64) where

@@ -21,7 +21,7 @@ use Rattle.counting.specs.Counts.{HowMany}
 use Rattle.lengths.specs.declared.Index.{Index}
 use Rattle.lengths.specs.Indexes.{at, Exact}
 use Rattle.lengths.proofs.Possibly.{derives-can}
-use Rattle.tally.specs.Rows.{Fair}
+use Rattle.tried_count.specs.Rows.{Fair}
 use Rattle.spans.specs.Changes.{Past, Cleared}
 use Rattle.spans.proofs.ChangeLaws.{past-then, past-drop, zeroed}
 use Rattle.candidates.specs.Terminals.{Among}
@@ -30,15 +30,15 @@ use Rattle.candidates.proofs.Spelling.{low-steps}
 use Rattle.candidates.proofs.TerminalSets.{no-candidate, candidate-over}
 use Rattle.order.specs.Order.{Rearranged}
 use Rattle.order.proofs.Same.{two-same}
-use Rattle.reachable.specs.Reach.{Trimmed}
-use Rattle.reachable.proofs.TreeLaws.{two-trimmed}
+use Rattle.reachable_rules.specs.Reach.{Trimmed}
+use Rattle.reachable_rules.proofs.TreeLaws.{two-trimmed}
 use Rattle.dominance.specs.Dominance.{Spared}
 use Rattle.dominance.proofs.Renaming.{renamed, renamed-candidate, renamed-two, renamed-before}
 use Rattle.sweeping.specs.Searching.{NoneShorter, Admits, Hits, Searched, hit, miss}
 use Rattle.sweeping.specs.Swept.{LengthsOf, Bounded, Swept, clear, two, Found, nothing, first}
 use Rattle.sweeping.proofs.Turns.{clear-found, first-found}
 use Rattle.grammar.specs.Sentences.{no-token}
-use Rattle.tally.specs.Searched.{answerOf, Hit}
+use Rattle.tried_count.specs.Searched.{answerOf, Hit}
 use Rattle.sweeping.specs.Cleared.{TriedBy, cleared}
 
 -- the lengths up to k are all done

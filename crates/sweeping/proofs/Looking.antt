@@ -20,8 +20,8 @@ use Rattle.spans.proofs.ChangeLaws.{past-more}
 use Rattle.candidates.specs.Terminals.{Among}
 use Rattle.candidates.specs.Succession.{Shares, First, Follows}
 use Rattle.candidates.proofs.Measure.{left, left-falls}
-use Rattle.twins.specs.Twins.{Replaceable, Slack}
-use Rattle.twins.proofs.Blocks.{none-in-block}
+use Rattle.equivalents.specs.Twins.{Replaceable, Slack}
+use Rattle.equivalents.proofs.Blocks.{none-in-block}
 use Rattle.sweeping.specs.Searching.{NoneBefore, Barren, Looked, SweepTurn}
 use Rattle.sweeping.proofs.Turns.{begin, onward}
 

@@ -6,7 +6,7 @@ use Rattle.grammar.specs.Trees.{Rules}
 use Rattle.grammar.specs.Candidates.{Terminal}
 use Rattle.grammar.specs.Sweeps.{SweepAnswer}
 use Rattle.lengths.specs.Lengths.{CanHave}
-use Rattle.tally.specs.Tried.{Tried}
+use Rattle.tried_count.specs.Tried.{Tried}
 use lib.ListN.{drop, replicate}
 use Rattle.grammar.specs.SpanSheet.{pairs}
 

@@ -13,7 +13,7 @@ use Rattle.grammar.proofs.SweepLaws.{sentence-length}
 use Rattle.answering.specs.declared.SweepReply.{SweepReply}
 use Rattle.answering.specs.Sweep as Sweep
 use Rattle.answering.specs.SweepReplies.{SweepOn}
-use Rattle.derivation.specs.Written.{Display, rowRoom}
+use Rattle.tree_writer.specs.Written.{Display, rowRoom}
 use Rattle.answering.specs.Trees.{Shown, treeless, single, both, large-one, large-two, TreesOn, short, showing, TreesBy, refusing, reading}
 
 -- each count is at most the memory's places

@@ -6,7 +6,7 @@ use borrow.Author.Needs.{needs}
 use lib.ListN.{length}
 use Rattle.clause_rules.proofs.Parts.{group-read, leaf-read, bare-read, tailed-read, crowded-read, single-read, several-read, rest-several, rest-single, rest-over, alternatives-over, last-read, more-read}
 use Rattle.clause_rules.proofs.Scans.{lexes-further, one-six, three-six, four-six}
-use Rattle.emits.proofs.Leaves.{pushed-by}
+use Rattle.rule_output.proofs.Leaves.{pushed-by}
 use borrow.Fn.Kinds.{In}
 use borrow.Fn.PlainCycle.{Measures, is, falls, and}
 use Rattle.clause_rules.proofs.alternatives.Reads as alternatives
@@ -26,13 +26,13 @@ use Rattle.clause_rules.proofs.sequence.Kinds as sequence-kinds
 use Rattle.clause_rules.proofs.+alternatives+atom+item+rest+sequence.Lts-sequence as sequence-lts
 use Rattle.clause_rules.proofs.atom_end.Reads as atom-end-reads
 use Rattle.clause_rules.proofs.binding.Reads as binding-reads
-use Rattle.emits.proofs.fresh.Reads as fresh-reads
+use Rattle.rule_output.proofs.fresh.Reads as fresh-reads
 use Rattle.clause_rules.proofs.item_end.Reads as item-end-reads
-use Rattle.emits.proofs.leaf.Reads as leaf-reads
-use Rattle.emits.proofs.opened.Reads as opened-reads
-use Rattle.emits.proofs.push.Reads as push-reads
+use Rattle.rule_output.proofs.leaf.Reads as leaf-reads
+use Rattle.rule_output.proofs.opened.Reads as opened-reads
+use Rattle.rule_output.proofs.push.Reads as push-reads
 use Rattle.clause_rules.proofs.sort.Reads as sort-reads
-use Rattle.emits.proofs.tail.Reads as tail-reads
+use Rattle.rule_output.proofs.tail.Reads as tail-reads
 use Rattle.lexemes.proofs.lexeme_at.Reads as lexeme-at-reads
 use Rattle.clause_rules.proofs.+alternatives+atom+item+rest+sequence.{statement}
 use Rattle.clause_rules.proofs.+alternatives+atom+item+rest+sequence.Tie.{close}

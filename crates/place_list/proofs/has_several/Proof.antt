@@ -1,7 +1,7 @@
 -- The first choice, then the next.
 use borrow.Author.Needs.{needs}
-use Rattle.picks.specs.declared.Pick.the-variants as Pick
-use Rattle.picks.proofs.ListLaws.{pick-first}
+use Rattle.choices.specs.declared.Pick.the-variants as Pick
+use Rattle.choices.proofs.ListLaws.{pick-first}
 use Rattle.place_list.proofs.ChoiceLaws.{by-none, by-only, by-two, left-low}
 use native.Mathlib.Omega.{arith}
 use Rattle.place_list.proofs.has_several.Statement.{statement}

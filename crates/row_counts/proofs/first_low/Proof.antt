@@ -1,6 +1,6 @@
 -- `first_low` meets its contract: a local array that is lent holds the least heights.
 use borrow.Author.Needs.{needs}
-use Rattle.nodes.proofs.PreferLaws.{ready-low}
+use Rattle.tree_choices.proofs.PreferLaws.{ready-low}
 use Rattle.row_counts.proofs.first_low.Statement.{statement}
 use Rattle.row_counts.proofs.first_low.Tie as tie
 

@@ -16,7 +16,7 @@ use Rattle.grammar.specs.Choices.{FirstTree}
 use Rattle.grammar.specs.Content.{rules}
 use Rattle.grammar.specs.SpanSheet.{pairs, firstWord}
 use Rattle.grammar.proofs.ChoiceLaws.{first-witness, takes-of}
-use Rattle.nodes.specs.Picks.{HasChoice}
+use Rattle.tree_choices.specs.Picks.{HasChoice}
 use Rattle.row_counts.specs.Nulls.{Passed}
 use Rattle.row_counts.proofs.NullLaws.{small, found-size, not-known, passed-none, passed-found}
 use Rattle.row_counts.proofs.SizeLaws.{chosen-small}

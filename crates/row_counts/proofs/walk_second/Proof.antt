@@ -11,7 +11,7 @@ use Rattle.grammar.specs.SpanSheet.{part, pairs}
 use Rattle.sets.specs.Sets.{In}
 use Rattle.grammar.specs.SpanSheet.{secondWord}
 use Rattle.rows.specs.declared.Step.{Step}
-use Rattle.nodes.specs.Picks.{PickedStep}
+use Rattle.tree_choices.specs.Picks.{PickedStep}
 use Rattle.row_counts.specs.declared.Way.{Way}
 use Rattle.row_counts.specs.Seconds.{Onward}
 use Rattle.row_counts.proofs.CappedLaws.{capped-le}

@@ -6,7 +6,7 @@ use native.Mathlib.Omega.{arith}
 use lib.ListN.{length}
 use Rattle.spans.proofs.ChangeLaws.{past-same}
 use Rattle.candidates.proofs.TerminalSets.{among-terminal, lowest-of, none-of}
-use Rattle.twins.proofs.Renamed.{renames-of, renames-over}
+use Rattle.equivalents.proofs.Renamed.{renames-of, renames-over}
 use Rattle.sweeping.proofs.Answers.{same-two}
 use Rattle.share_search.proofs.Reports.{few-of, found-of, found-none}
 use Rattle.share_search.proofs.find.Statement.{statement}

@@ -12,11 +12,11 @@ use Rattle.candidates.proofs.Counting.{counted}
 use Rattle.candidates.proofs.TerminalSets.{among-terminal}
 use Rattle.candidates.proofs.Windows.{cells-size}
 use Rattle.candidates.specs.Arrays.{cells}
-use Rattle.tally.proofs.Trying.{tried-over}
+use Rattle.tried_count.proofs.Trying.{tried-over}
 use Rattle.sweeping.proofs.Answers.{hit-of, fair-of}
 use Rattle.sweeping.proofs.counted.Statement.{statement}
 use Rattle.sweeping.proofs.counted.Tie as tie
-use Rattle.tally.specs.Searched.{answerOf}
+use Rattle.tried_count.specs.Searched.{answerOf}
 
 terminals-requires : tie.Need-terminals-requires
 terminals-requires c κs = search needs

@@ -1,0 +1,30 @@
+-- `pack` meets its contract, by the code and the line's size.
+use mathlib.Core.Path.{refl}
+use borrow.Author.Tests.{lt-ltb, le-ltb}
+use Rattle.c_always.specs.Always.{toldPacked}
+use borrow.Author.Needs.{needs}
+use Rattle.c_always.proofs.pack.Statement.{statement}
+use Rattle.c_always.proofs.pack.Tie as tie
+
+code-requires : tie.Need-code-requires
+code-requires c κs = search needs
+
+mul-high : tie.Need-mul-high
+mul-high c = search needs
+
+add-result : tie.Need-add-result
+add-result c = search needs
+
+returns : tie.Need-returns
+unfolding toldPacked
+returns c = rw (lt-ltb _ _ (c .if1 .taken), c .before .code .ensures .0) refl
+
+add-result-2 : tie.Need-add-result-2
+add-result-2 c = search needs
+
+returns-2 : tie.Need-returns-2
+unfolding toldPacked
+returns-2 c = rw (le-ltb _ _ (c .if1 .left), c .before .code .ensures .0) refl
+
+pub pack-spec : {M : Type 1} → statement M
+pack-spec = tie.close (tie.spec code-requires mul-high add-result returns add-result-2 returns-2)

@@ -1,0 +1,52 @@
+-- What the C functions hand over: an answer and its line as one number, and what the words of a sentence and of row counts say.
+use mathlib.Core.Path.{_≡_}
+use mathlib.Core.Bool.{cond}
+use mathlib.Core.List.{List}
+use Prim.Native.Nat.{ℕ, _+_, _*_}
+use lib.Dec.{ltb}
+use Rattle.sheets.specs.Items.{Reading}
+use Rattle.sheets.specs.Refusals.{numberOf}
+use Rattle.answering.specs.declared.Answer.{Answer}
+use Rattle.answering.specs.declared.Answer.the-variants as Answer
+use Rattle.answering.specs.declared.Reply.{Reply}
+use Rattle.answering.specs.declared.SweepReply.{SweepReply}
+use Rattle.answering.specs.declared.TreesReply.{TreesReply}
+use Rattle.answering.specs.Answers.{Sheets}
+use Rattle.answering.specs.Verdict.{VerdictBy}
+use Rattle.answering.specs.Trees.{TreesBy}
+use Rattle.answering.specs.Sweep.{SweepBy}
+use Rattle.c_words.specs.Words.{AtFront, foundWords, countWords}
+use Rattle.grammar.specs.Trees.{Rules}
+
+-- an answer's code: 0 none, 1 one, 2 two, 3 clear, 4 given, 100 + N refused-N
+abbrev pub codeOf : Answer → ℕ
+codeOf Answer.None = 0
+codeOf Answer.One = 1
+codeOf Answer.Two = 2
+codeOf Answer.Clear = 3
+codeOf Answer.Given = 4
+codeOf (Answer.Refused f) = 100 + numberOf f
+
+-- the code times 2^32 plus the line's number; a line past the greatest number of 32 bits counts as that
+unfoldable pub packed : Answer → ℕ → ℕ
+packed a l = codeOf a * 4294967296 + cond (ltb l 4294967295) l 4294967295
+
+-- `teplonga_verdict` hands over what `verdict` answers, where both sheets give this
+pub record VerdictWord (given : Sheets) (words words′ : List ℕ) (r : ℕ) : Type 0 where
+  pub reply : Reply
+  pub promise : VerdictBy given words words′ reply
+  pub word : r ≡ packed (reply .answer) (reply .line)
+
+-- `teplonga_sweep` hands over what `sweep` answers, the answer's sentence and the number of candidates tried in words, where the sheet with the rules gives this
+pub record SweepWord (given : Reading Rules) (k : ℕ) (words words′ found found′ : List ℕ) (r : ℕ) : Type 0 where
+  pub reply : SweepReply
+  pub promise : SweepBy given k words words′ reply
+  pub sentence : AtFront 23 (foundWords (reply .sentence) (reply .tried)) found found′
+  pub word : r ≡ packed (reply .answer) (reply .line)
+
+-- `teplonga_trees` hands over what `trees` answers, and the trees' row counts in words, where both sheets give this
+pub record TreesWord (given : Sheets) (words words′ one one′ two two′ counts counts′ : List ℕ) (r : ℕ) : Type 0 where
+  pub reply : TreesReply
+  pub promise : TreesBy given words words′ one one′ two two′ reply
+  pub rows : AtFront 2 (countWords (reply .first) (reply .second)) counts counts′
+  pub word : r ≡ packed (reply .answer) (reply .line)

@@ -1,0 +1,20 @@
+-- What the C function for a share hands over.
+use mathlib.Core.Path.{_≡_}
+use mathlib.Core.List.{List, [], _∷_}
+use Prim.Native.Nat.{ℕ}
+use Rattle.c_calls.specs.Face.{packed}
+use Rattle.c_words.specs.Words.{AtFront, sentenceWords}
+use Rattle.call_shares.specs.declared.ShareReply.{ShareReply}
+use Rattle.call_shares.specs.Share.{ShareOf}
+
+-- the lowest number, M ÷ p and its remainder as three words
+abbrev pub shareWords : ℕ → ℕ → ℕ → List ℕ
+shareWords N q r = N ∷ q ∷ r ∷ []
+
+-- `teplonga_share` hands over what `share` answers, the three numbers and the answer's sentence in words
+pub record ShareWord (rules : List ℕ) (n p i : ℕ) (words words′ numbers numbers′ found found′ : List ℕ) (r : ℕ) : Type 0 where
+  pub reply : ShareReply
+  pub promise : ShareOf rules n p i words words′ reply
+  pub values : AtFront 3 (shareWords (reply .number) (reply .quotient) (reply .remainder)) numbers numbers′
+  pub sentence : AtFront 22 (sentenceWords (reply .sentence)) found found′
+  pub word : r ≡ packed (reply .answer) (reply .line)

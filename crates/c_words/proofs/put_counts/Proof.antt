@@ -1,0 +1,33 @@
+-- `c_words::put_counts` meets its contract, by the number of lent words.
+use mathlib.Core.Path.{refl}
+use Rattle.printing.proofs.Writing.{wrote-then}
+use Rattle.c_words.specs.Words.{few, written}
+use Rattle.c_words.proofs.Words.{wrote-front}
+use borrow.Author.Needs.{needs}
+use Rattle.c_words.proofs.put_counts.Statement.{statement}
+use Rattle.c_words.proofs.put_counts.Tie as tie
+use Rattle.c_words.proofs.put_counts.Reads as reads
+use Rattle.c_words.proofs.put_counts.Lts as lts
+use Rattle.c_words.proofs.put_word.Reads as put-word-reads
+
+put-word-requires : tie.Need-put-word-requires
+put-word-requires c κs = search needs
+
+put-word-requires-2 : tie.Need-put-word-requires-2
+put-word-requires-2 c κs = search needs
+
+same-length : tie.Need-same-length
+same-length c = search needs
+
+returns : tie.Need-returns
+returns c =
+    let z₂ = c .before .before in
+    let z₁ = z₂ .before .before .before .before in
+    written (search needs) (wrote-front refl (wrote-then (z₁ .put-word .ensures) (z₂ .put-word2 .ensures)))
+
+returns-2 : tie.Need-returns-2
+returns-2 c = few (search needs) refl
+
+pub put-counts-spec : {M : Type 1} → statement M
+put-counts-spec =
+    tie.close (tie.spec put-word-requires put-word-requires-2 same-length returns returns-2)

@@ -1,0 +1,84 @@
+-- A span is worked off (inner: contracts of the functions that do so).
+use mathlib.Core.Path.{_≡_}
+use mathlib.Core.List.{List}
+use Prim.Native.Nat.{ℕ, _+_, _-_, _≤_, _<_}
+use lib.ListN.{length, getD}
+use Rattle.sets.specs.Sets.{In}
+use Rattle.grammar.specs.declared.Clause.{Clause}
+use Rattle.grammar.specs.declared.Clause.the-variants as Clause
+use Rattle.grammar.specs.Layout.{Word}
+use Rattle.grammar.specs.Trees.{Tree, Rules, Witness, Derives}
+use Rattle.grammar.specs.Choices.{Choice}
+use Rattle.grammar.specs.Rows.{startOf}
+use Rattle.grammar.specs.SpanSheet.{part, pairs, pairAt, SpanSheet}
+use Rattle.marks.specs.declared.Draft.{Draft}
+use Rattle.marks.specs.declared.SpanMarks.{SpanMarks}
+use Rattle.marks.specs.Drafts.{drafted}
+use Rattle.marks.specs.Marked.{Marked}
+use Rattle.tables.specs.Tables.{Table, rule}
+use Rattle.places.specs.Places.{StandsIn}
+use Rattle.contained_spans.specs.Reached.{Bit}
+
+-- the words are the span sheet of a draft that is known whole
+pub record Known (ws : List ℕ) (g : Rules) (d : Draft) : Type 0 where
+  pub few : d .count ≤ 64
+  pub long : length (drafted d) ≡ d .count
+  pub known : d .known ≡ d .count
+  pub sheet : SpanSheet g (drafted d) ws
+
+-- what lies beneath a clause is in the table
+abbrev pub Kids : Table → ℕ → ℕ → Clause → ℕ → Type 0
+Kids R s len Clause.Empty l = Unit {0}
+Kids R s len (Clause.Atom a b) l = Unit {0}
+Kids R s len (Clause.Unary B m) l = R s len B
+Kids R s len (Clause.Binary B C m) l = R s l B × R (s + l) (len - l) C
+
+-- A has a tree over the span, and each tree of it there stands in a whole tree of w
+pub record Held (g : Rules) (w : Word) (s len A : ℕ) : Type 0 where
+  pub derives : Derives g A (part w s len)
+  pub extends : (t : Tree) → Witness g A (part w s len) t → (T : Tree) × Witness g 0 w T × (from : ℕ) × StandsIn t 0 T from × (startOf from len ≡ startOf s len)
+
+-- all that the words rs have is so
+pub record Sound (g : Rules) (w : Word) (n : ℕ) (rs : List ℕ) : Type 0 where
+  pub held : (s len A : ℕ) → s + len ≤ n → Bit rs n s len A → Held g w s len A
+
+-- what lies beneath each choice of what rs has of the span is in rs
+abbrev pub Spread : Rules → Word → ℕ → List ℕ → ℕ → ℕ → Type 0
+Spread g w n rs s len = (A i l : ℕ) → Bit rs n s len A → Choice g A (part w s len) i l → Kids (Bit rs n) s len (rule g i .clause) l
+
+-- the span is being worked off, all of `done` is: nothing is lost, nothing past its pair is added, and all that is added is held
+pub record Working (g : Rules) (w : Word) (n s len : ℕ) (rs rs′ : List ℕ) (done : ℕ) : Type 0 where
+  pub long : length rs′ ≡ length rs
+  pub keeps : (q B : ℕ) → In (getD rs q 0) B → In (getD rs′ q 0) B
+  pub past : (q B : ℕ) → pairAt n s len < q → In (getD rs′ q 0) B → In (getD rs q 0) B
+  pub sound : Sound g w n rs → Sound g w n rs′
+  pub tried : (A i l : ℕ) → In done A → Choice g A (part w s len) i l → Kids (Bit rs′ n) s len (rule g i .clause) l
+
+-- it is worked off
+pub record Spreads (g : Rules) (w : Word) (n s len : ℕ) (rs rs′ : List ℕ) : Type 0 where
+  pub long : length rs′ ≡ length rs
+  pub keeps : (q B : ℕ) → In (getD rs q 0) B → In (getD rs′ q 0) B
+  pub past : (q B : ℕ) → pairAt n s len < q → In (getD rs′ q 0) B → In (getD rs q 0) B
+  pub sound : Sound g w n rs → Sound g w n rs′
+  pub spread : Spread g w n rs′ s len
+
+-- the same, of any sentence whose span sheet the words ws are and whose marks over the span are k
+pub record Works (ws : List ℕ) (g : Rules) (n s len : ℕ) (k : SpanMarks) (rs rs′ : List ℕ) (done : ℕ) : Type 0 where
+  pub long : length rs′ ≡ length rs
+  pub working : (w : Word) → length w ≡ n → SpanSheet g w ws → Marked (record { word = w; known = n }) s len k → Working g w n s len rs rs′ done
+
+pub record Worked (ws : List ℕ) (g : Rules) (n s len : ℕ) (k : SpanMarks) (rs rs′ : List ℕ) : Type 0 where
+  pub spreads : (w : Word) → length w ≡ n → SpanSheet g w ws → Marked (record { word = w; known = n }) s len k → Spreads g w n s len rs rs′
+
+-- only the whole sentence has a member, the start
+pub record Begun (n : ℕ) (rs : List ℕ) : Type 0 where
+  pub long : pairs n ≤ length rs
+  pub start : Bit rs n 0 n 0
+  pub only : (q B : ℕ) → q < pairs n → In (getD rs q 0) B → (q ≡ pairAt n 0 n) × (B ≡ 0)
+
+-- all spans from the pair p on are worked off
+pub record Done (g : Rules) (w : Word) (n : ℕ) (rs : List ℕ) (p : ℕ) : Type 0 where
+  pub long : pairs n ≤ length rs
+  pub begun : Bit rs n 0 n 0
+  pub sound : Sound g w n rs
+  pub spread : (s len : ℕ) → s + len ≤ n → p ≤ pairAt n s len → Spread g w n rs s len

@@ -1,0 +1,62 @@
+-- A position that does not rise or is no better than an earlier one is refuted by itself, another one by the span sheet.
+use borrow.Author.Needs.{needs}
+use borrow.Author.Tests.{not-true, not-false}
+use mathlib.Core.Path.{_≡_, refl, sym, ap, _∙_, subst}
+use native.Mathlib.Omega.{arith}
+use Rattle.codes.specs.Codes.{decoded}
+use Rattle.candidates.specs.Arrays.{cells}
+use Rattle.candidates.proofs.Windows.{cells-size}
+use Rattle.pruning.proofs.RefutingLaws.{refuted-falling, refuted-slack}
+use Rattle.pruning.proofs.WordLaws.{standing-ready}
+use Rattle.pruning.proofs.Trying.{tried-out, tried-settled, ready-draft}
+use Rattle.pruning.proofs.shut.Statement.{statement}
+use Rattle.pruning.proofs.shut.Tie as tie
+
+rises-requires : tie.Need-rises-requires
+rises-requires c κs = search needs
+
+returns : tie.Need-returns
+returns c =
+    let z = c .before .before .before .before in
+    let a = z .args in
+    tried-out (λ s. refuted-falling (cells-size (a .c) 0 (a .n)) (z .pre .0 .1) (c .before .rises .ensures (not-true _ (c .if1 .taken)))) (z .pre .1 .1 .1)
+
+add-slack : tie.Need-add-slack
+add-slack c = search needs
+
+slack-requires : tie.Need-slack-requires
+slack-requires c κs = search needs
+
+returns-2 : tie.Need-returns-2
+returns-2 c =
+    let z = c .before .before .before .before .before .before in
+    let a = z .args in
+    tried-out (λ s. refuted-slack (cells-size (a .c) 0 (a .n)) (z .pre .0 .1) (c .before .slack .ensures (c .if2 .taken))) (z .pre .1 .1 .1)
+
+add-draft : tie.Need-add-draft
+add-draft c = search needs
+
+draft-requires : tie.Need-draft-requires
+draft-requires c κs = search needs
+
+hopeless-requires : tie.Need-hopeless-requires
+hopeless-requires c κs =
+    let z = c .before .before .before .before .before .before .before .before in
+    let a = z .args in
+    let d = c .before .draft in
+    let e = d .ensures in
+    ((omega (arith, e .1, z .pre .0 .0), omega (arith, e .1, e .2, z .pre .0 .1)), (rw (e .1) (z .pre .1 .1 .0), (z .pre .1 .0, ready-draft (d .result) (z .pre .0 .1) (cells-size (a .c) 0 (a .n)) (e .0) (e .1) (e .2) (z .pre .1 .1 .1))))
+
+same-length : tie.Need-same-length
+same-length c = search needs
+
+returns-3 : tie.Need-returns-3
+returns-3 c =
+    let z = c .before .before .before .before .before .before .before .before .before .before .before in
+    let a = z .args in
+    let d = c .before .before .before .before .draft in
+    let e = d .ensures in
+    tried-settled (d .result) (z .pre .0 .1) (cells-size (a .c) 0 (a .n)) (e .0) (e .1) (e .2) (z .pre .1 .1 .1) (c .before .before .hopeless .ensures)
+
+pub shut-spec : {M : Type 1} → statement M
+shut-spec = tie.close (tie.spec rises-requires returns add-slack slack-requires returns-2 add-draft draft-requires hopeless-requires same-length returns-3)

@@ -1,0 +1,29 @@
+-- One cell is changed, and its step is as it was.
+use borrow.Author.Needs.{needs}
+use mathlib.Core.Path.{_≡_, refl, sym, ap, _∙_, subst}
+use mathlib.Core.Bool.{true, false}
+use native.Mathlib.Omega.{arith}
+use Rattle.sets.proofs.Says.{true-not-false}
+use Rattle.candidates.specs.Arrays.{cells}
+use Rattle.candidates.proofs.Windows.{cells-size}
+use Rattle.grammar.specs.declared.Cell.{Cell}
+use Rattle.candidates.specs.Arrays.{cellAt}
+use Rattle.pruning.proofs.CellLaws.{turned-of, low-changed, step-at}
+use Rattle.pruning.proofs.turned.Statement.{statement}
+use Rattle.pruning.proofs.turned.Tie as tie
+
+cell-requires : tie.Need-cell-requires
+cell-requires c κs = search needs
+
+with-requires : tie.Need-with-requires
+with-requires c κs = search needs
+
+returns : tie.Need-returns
+returns c =
+    let z = c .before .before in
+    let a = z .args in
+    let d = c .before .cell .ensures in
+    (turned-of (a .c) (c .with .result) (a .n) (a .j) _ (z .pre .0 .1) (c .with .ensures), low-changed (a .c) (c .with .result) (a .n) (a .j) _ (c .with .ensures) (omega (arith, step-at (a .c) (a .n) (a .j) (z .pre .0 .1) (z .pre .1), ap (λ (x : Cell). x .step) d)) (z .pre .1))
+
+pub turned-spec : {M : Type 1} → statement M
+turned-spec = tie.close (tie.spec cell-requires with-requires returns)

@@ -1,0 +1,56 @@
+-- The loop's invariant: members are reached. The set's number grows with each turn but the last, after which no rule adds to it.
+use borrow.Author.Needs.{needs}
+use mathlib.Core.Path.{sym, subst}
+use Prim.Native.Nat.{ℕ, _-_, _^_}
+use native.Mathlib.Omega.{arith}
+use Rattle.sets.specs.Sets.{In}
+use Rattle.sets.proofs.Sets.{in-zero}
+use Rattle.acyclic.specs.Exact.{Exactly}
+use Rattle.acyclic.proofs.Growth.{passed-all}
+use Rattle.codes.specs.Codes.{decoded}
+use Rattle.codes.proofs.Laws.{coded-length}
+use Rattle.reachable_rules.specs.Reach.{Reached}
+use Rattle.reachable_rules.proofs.ReachLaws.{reach-exact}
+use Rattle.reachable_rules.proofs.reached.Statement.{statement}
+use Rattle.reachable_rules.proofs.reached.Tie as tie
+
+abbrev Inv-loop : tie.InvT-loop
+Inv-loop codes set₀ set = (Y : ℕ) → In set Y → Reached (decoded codes) Y
+
+abbrev μ-loop : tie.MeasureT-loop
+μ-loop codes set₀ set = 2 ^ 64 - set
+
+loop-holds : tie.Need-loop-holds Inv-loop μ-loop
+loop-holds c = λ Y m. absurd (in-zero Y m)
+
+reach-pass-requires : tie.Need-reach-pass-requires Inv-loop μ-loop
+reach-pass-requires c κs = tt
+
+with-requires : tie.Need-with-requires Inv-loop μ-loop
+with-requires c κs = omega arith
+
+returns : tie.Need-returns Inv-loop μ-loop
+returns c =
+    let p = c .before .before in
+    let l = p .before in
+    let cs = l .before .before .args .codes .now in
+    subst (λ (s : ℕ). Exactly s (Reached (decoded cs))) (sym (c .with .ensures)) (reach-exact (passed-all (p .reach-pass .ensures) (coded-length cs) (c .before .if1 .taken)) (l .loop .inv))
+
+loop-less : tie.Need-loop-less Inv-loop μ-loop
+loop-less c = omega (arith, c .before .reach-pass .ensures .more, c .before .reach-pass .ok)
+
+loop-again : tie.Need-loop-again Inv-loop μ-loop
+loop-again c = c .before .reach-pass .ensures .sound (c .before .before .loop .inv)
+
+pub reached-spec : {M : Type 1} → statement M
+reached-spec =
+    tie.close
+    (tie.spec
+    Inv-loop
+    μ-loop
+    loop-holds
+    reach-pass-requires
+    with-requires
+    returns
+    loop-less
+    loop-again)

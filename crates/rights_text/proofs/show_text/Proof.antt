@@ -1,0 +1,71 @@
+-- `show_text` meets its contract: the lent arrays are those of the promise of `show`.
+use mathlib.Core.Path.{refl}
+use Prim.Native.Nat.{ℕ}
+use native.Mathlib.Omega.{arith}
+use lib.ListN.{length-replicate}
+use Rattle.printing.proofs.Writing.{wrote-then}
+use Rattle.text.specs.Programs.{Lent}
+use Rattle.rights_text.specs.Texts.{shown}
+use Rattle.rights_text.proofs.Fits.{show-fit}
+use borrow.Author.Needs.{needs}
+use Rattle.rights_text.proofs.show_text.Statement.{statement}
+use Rattle.rights_text.proofs.show_text.Tie as tie
+
+slice-aggregate-show : tie.Need-slice-aggregate-show
+slice-aggregate-show c = search needs
+
+slice-aggregate-show-2 : tie.Need-slice-aggregate-show-2
+slice-aggregate-show-2 c = search needs
+
+slice-aggregate-show-3 : tie.Need-slice-aggregate-show-3
+slice-aggregate-show-3 c = search needs
+
+show-requires : tie.Need-show-requires
+show-requires c κs = search needs
+
+put-head-requires : tie.Need-put-head-requires
+put-head-requires c κs = search needs
+
+slice-aggregate-put-trees : tie.Need-slice-aggregate-put-trees
+slice-aggregate-put-trees c = search needs
+
+slice-aggregate-put-trees-2 : tie.Need-slice-aggregate-put-trees-2
+slice-aggregate-put-trees-2 c = search needs
+
+put-trees-requires : tie.Need-put-trees-requires
+put-trees-requires c κs =
+    let h = c .before .before .before .before .before in
+    let z = h .before .before .before .before .before in
+    let s = z .before .before .before .before .before .before .before .before in
+    let f = show-fit (z .show .ensures) in
+    let one = length-replicate {A = ℕ} 16384 0 in (
+      (omega (arith, f .first, one, z .show .kept .1 .1 .1 .1 .1 .0), omega (arith, f .second, one, z .show .kept .1 .1 .1 .1 .1 .1 .0)),
+      omega (arith, f .first, f .second, one, h .put-head .ensures .1, h .put-head .ensures .0 .long, s .pre),
+    )
+
+same-length : tie.Need-same-length
+same-length c = search needs
+
+returns : tie.Need-returns
+returns c =
+    let p = c .before .before in
+    let h = p .before .before .before .before .before .before in
+    let z = h .before .before .before .before .before in
+    let one = length-replicate {A = ℕ} 16384 0 in
+    let lent : Lent _ _ _ = record { enough = length-replicate {A = ℕ} 4162 0; first = one; second = one } in
+    record { text = _; is = shown lent (z .show .ensures) refl; wrote = wrote-then (h .put-head .ensures .0) (p .put-trees .ensures) }
+
+pub show-text-spec : {M : Type 1} → statement M
+show-text-spec =
+    tie.close
+    (tie.spec
+    slice-aggregate-show
+    slice-aggregate-show-2
+    slice-aggregate-show-3
+    show-requires
+    put-head-requires
+    slice-aggregate-put-trees
+    slice-aggregate-put-trees-2
+    put-trees-requires
+    same-length
+    returns)

@@ -1,0 +1,67 @@
+-- `choose` meets its contract: what the first tree takes is found; while seeking, `swerve` decides.
+use borrow.Author.Needs.{needs}
+use mathlib.Core.Path.{_≡_, refl, sym, ap, ap₂, _∙_, subst}
+use mathlib.Core.Bool.{true, false}
+use mathlib.Core.List.{List}
+use Prim.Native.Nat.{ℕ, suc, _+_, _-_, _*_, _≤_, _<_, max}
+use native.Mathlib.Omega.{arith}
+use lib.ListN.{length}
+use Rattle.grammar.specs.Choices.{Choice, FirstChoice, Preferred, Same, LowChoice, OtherChoice, straight, looping}
+use Rattle.grammar.specs.Content.{rules}
+use Rattle.grammar.specs.SpanSheet.{part}
+use Rattle.grammar.proofs.ChoiceLaws.{preferred-choice}
+use Rattle.choices.specs.Choosing.{NextAt, NextChoice}
+use Rattle.tree_choices.specs.Lows.{PreferredPick}
+use Rattle.tree_choices.proofs.PickLaws.{choice-near, chosen, charted}
+use Rattle.tree_choices.proofs.choose.Statement.{statement}
+use Rattle.tree_choices.proofs.choose.Tie as tie
+use Rattle.grammar.specs.Sentences.{spelled}
+
+wide-requires : tie.Need-wide-requires
+wide-requires c κs = search needs
+
+wide-requires-2 : tie.Need-wide-requires-2
+wide-requires-2 c κs = search needs
+
+preferred-requires : tie.Need-preferred-requires
+preferred-requires c κs = let z = c .before .before .before .before in let a = z .args in ((z .pre .0 .0, omega (arith, z .pre .0 .1, c .before .wide .ensures, c .wide2 .ensures)), rw (c .before .wide .ensures, c .wide2 .ensures) (z .pre .1))
+
+enum-known-found : tie.Need-enum-known-found
+enum-known-found c = search needs
+
+swerve-requires : tie.Need-swerve-requires
+swerve-requires c κs = let z = c .before .before .before .before .before .before .before .before .before in let a = z .args in let y : PreferredPick (rules (a .g)) (a .a) (part (spelled (a .s)) (c .before .before .before .before .before .before .wide .result) (c .before .before .before .before .before .wide2 .result)) (c .before .before .before .before .preferred .result) = c .before .before .before .before .preferred .ensures in let x : Preferred (rules (a .g)) (a .a) (part (spelled (a .s)) (c .before .before .before .before .before .before .wide .result) (c .before .before .before .before .before .wide2 .result)) (c .before .before .found .given .0 .0) (c .before .before .found .given .0 .1 .0) = rw (c .before .before .found .given .1) at y in ((charted (z .pre .0 .0), omega (arith, z .pre .0 .1, c .before .before .before .before .before .before .wide .ensures, c .before .before .before .before .before .wide2 .ensures)), x)
+
+returns : tie.Need-returns
+returns c = let z = c .before .before .before .before .before .before .before .before .before .before in let a = z .args in rw (c .before .if1 .taken, ← c .before .before .before .before .before .before .before .wide .ensures, ← c .before .before .before .before .before .before .wide2 .ensures) (c .swerve .ensures)
+
+step-of-requires : tie.Need-step-of-requires
+step-of-requires c κs = let z = c .before .before .before .before .before .before .before .before .before in let a = z .args in let y : PreferredPick (rules (a .g)) (a .a) (part (spelled (a .s)) (c .before .before .before .before .before .before .wide .result) (c .before .before .before .before .before .wide2 .result)) (c .before .before .before .before .preferred .result) = c .before .before .before .before .preferred .ensures in let x : Preferred (rules (a .g)) (a .a) (part (spelled (a .s)) (c .before .before .before .before .before .before .wide .result) (c .before .before .before .before .before .wide2 .result)) (c .before .before .found .given .0 .0) (c .before .before .found .given .0 .1 .0) = rw (c .before .before .found .given .1) at y in let x′ : Preferred (rules (a .g)) (a .a) (part (spelled (a .s)) (a .i) (a .n)) (c .before .before .found .given .0 .0) (c .before .before .found .given .0 .1 .0) = (rw (c .before .before .before .before .before .before .wide .ensures, c .before .before .before .before .before .wide2 .ensures) at x) in choice-near (charted (z .pre .0 .0)) _ (a .i) (a .n) _ _ (z .pre .0 .1) (preferred-choice _ _ _ _ _ x′)
+
+enum-told : tie.Need-enum-told
+enum-told c = search needs
+
+step-of-requires-2 : tie.Need-step-of-requires-2
+step-of-requires-2 c κs = search needs
+
+returns-2 : tie.Need-returns-2
+returns-2 c = let z = c .before .before .before .before .before .before .before .before .before .before in let a = z .args in let y : PreferredPick (rules (a .g)) (a .a) (part (spelled (a .s)) (c .before .before .before .before .before .before .before .wide .result) (c .before .before .before .before .before .before .wide2 .result)) (c .before .before .before .before .before .preferred .result) = c .before .before .before .before .before .preferred .ensures in let x : Preferred (rules (a .g)) (a .a) (part (spelled (a .s)) (c .before .before .before .before .before .before .before .wide .result) (c .before .before .before .before .before .before .wide2 .result)) (c .before .before .before .found .given .0 .0) (c .before .before .before .found .given .0 .1 .0) = rw (c .before .before .before .found .given .1) at y in let x′ : Preferred (rules (a .g)) (a .a) (part (spelled (a .s)) (a .i) (a .n)) (c .before .before .before .found .given .0 .0) (c .before .before .before .found .given .0 .1 .0) = (rw (c .before .before .before .before .before .before .before .wide .ensures, c .before .before .before .before .before .before .wide2 .ensures) at x) in chosen (a .g) false (preferred-choice _ _ _ _ _ x′) (rw (c .before .if1 .left) x′) (c .step-of .ensures)
+
+returns-3 : tie.Need-returns-3
+returns-3 c = let z = c .before .before .before .before .before .before .before .before in let a = z .args in let y : PreferredPick (rules (a .g)) (a .a) (part (spelled (a .s)) (c .before .before .before .before .before .wide .result) (c .before .before .before .before .wide2 .result)) (c .before .before .before .preferred .result) = c .before .before .before .preferred .ensures in let x : ⊥ = rw (c .before .enum-told .given .1) at y in absurd x
+
+pub choose-spec : {M : Type 1} → statement M
+choose-spec =
+    tie.close
+    (tie.spec
+    wide-requires
+    wide-requires-2
+    preferred-requires
+    enum-known-found
+    swerve-requires
+    returns
+    step-of-requires
+    enum-told
+    step-of-requires-2
+    returns-2
+    returns-3)

@@ -1,0 +1,40 @@
+-- `both_low` meets its contract: a local array that is lent holds the least heights.
+use borrow.Author.Needs.{needs}
+use Rattle.tree_choices.proofs.PreferLaws.{ready-low}
+use Rattle.tree_writer.proofs.both_low.Statement.{statement}
+use Rattle.tree_writer.proofs.both_low.Tie as tie
+
+slice-aggregate-heights : tie.Need-slice-aggregate-heights
+slice-aggregate-heights c = search needs
+
+heights-requires : tie.Need-heights-requires
+heights-requires c κs = search needs
+
+slice-aggregate-both-by : tie.Need-slice-aggregate-both-by
+slice-aggregate-both-by c = search needs
+
+both-by-requires : tie.Need-both-by-requires
+both-by-requires c κs =
+    let z = c .before .before .before .before .before .before .before .before .before in
+    (ready-low (z .pre .0) (z .pre .1 .1) (c .before .before .before .before .heights .ensures), z .pre .1 .0)
+
+same-length : tie.Need-same-length
+same-length c = search needs
+
+same-length-2 : tie.Need-same-length-2
+same-length-2 c = search needs
+
+returns : tie.Need-returns
+returns c = search needs
+
+pub both-low-spec : {M : Type 1} → statement M
+both-low-spec =
+    tie.close
+    (tie.spec
+    slice-aggregate-heights
+    heights-requires
+    slice-aggregate-both-by
+    both-by-requires
+    same-length
+    same-length-2
+    returns)

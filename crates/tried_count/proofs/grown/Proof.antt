@@ -1,0 +1,61 @@
+-- `tried_count::grown` meets its contract. The loop's invariant: the columns below p are done, the others 0.
+use borrow.Author.Needs.{needs}
+use Prim.Native.Nat.{ℕ, _+_, _-_, _*_, _≤_}
+use mathlib.Core.Path.{ap}
+use native.Mathlib.Omega.{arith}
+use Rattle.tried_count.proofs.Columns.{Growing, growing-none, growing-more, growing-end, product-small}
+use Rattle.tried_count.proofs.grown.Statement.{statement}
+use Rattle.tried_count.proofs.grown.Tie as tie
+
+abbrev Inv-loop : tie.InvT-loop
+Inv-loop row t n next₀ p₀ next p = (p ≤ n + 1) × Growing t n row p next
+
+abbrev μ-loop : tie.MeasureT-loop
+μ-loop row t n next₀ p₀ next p = n + 1 - p
+
+loop-holds : tie.Need-loop-holds Inv-loop μ-loop
+loop-holds c = (omega arith, growing-none _ _ _)
+
+ways-at-requires : tie.Need-ways-at-requires Inv-loop μ-loop
+ways-at-requires c κs = search needs
+
+mul-next : tie.Need-mul-next Inv-loop μ-loop
+mul-next c =
+    let a = c .before .before .before in
+    omega (arith, ap (λ (x : ℕ). a .args .t * x) (c .ways-at .ensures), product-small (a .args .t) (a .args .row) (a .args .n) 2 (c .before .before .loop .p) (a .pre .2) (a .pre .0) (omega arith) (a .pre .1))
+
+mul-next-2 : tie.Need-mul-next-2 Inv-loop μ-loop
+mul-next-2 c = search needs
+
+element-write-next : tie.Need-element-write-next Inv-loop μ-loop
+element-write-next c = search needs
+
+add-p : tie.Need-add-p Inv-loop μ-loop
+add-p c = search needs
+
+loop-less : tie.Need-loop-less Inv-loop μ-loop
+loop-less c = search needs
+
+loop-again : tie.Need-loop-again Inv-loop μ-loop
+loop-again c =
+    let l = c .before .before in
+    (omega arith, growing-more _ _ _ _ _ _ (omega arith) (ap (λ (x : ℕ). l .before .args .t * x) (c .ways-at .ensures)) (l .loop .inv .1))
+
+returns : tie.Need-returns Inv-loop μ-loop
+returns c = growing-end _ _ _ _ _ (omega arith) (c .before .loop .inv .1)
+
+pub grown-spec : {M : Type 1} → statement M
+grown-spec =
+    tie.close
+    (tie.spec
+    Inv-loop
+    μ-loop
+    loop-holds
+    ways-at-requires
+    mul-next
+    mul-next-2
+    element-write-next
+    add-p
+    loop-less
+    loop-again
+    returns)
