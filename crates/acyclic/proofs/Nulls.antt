@@ -4,6 +4,7 @@ use mathlib.Core.List.{List, [], _∷_, _++_, List·Memᴰ}
 use Prim.Native.Nat.{ℕ, _+_, _≤_, _<_}
 use native.Mathlib.Omega.{arith}
 use lib.ListN.{length, length-append}
+use Rattle.sets.proofs.Basics.{clash}
 use Rattle.grammar.proofs.Acyclic.{no-parts}
 use Rattle.sets.specs.Sets.{In}
 use Rattle.sets.proofs.Sets.{in-zero}
@@ -55,7 +56,7 @@ module _ {g : Rules} where
   module _ (s : ℕ) (shut : (r : Rule) → List·Memᴰ r g → (Y : ℕ) → AddsLeft s r Y → In s Y) where
     member : {t : Tree} → Valid g t → word t ≡ [] → In s (root t)
     member (valid-empty {A = A} m) e = shut _ m A (refl, tt)
-    member (valid-leaf m) e = absurd (let z : _≡_ {A = ℕ} 0 1 = cc in omega arith)
+    member (valid-leaf m) e = absurd (clash cc)
     member (valid-unary {A = A} k m h v) e = shut _ m A (refl, member v e)
     member (valid-binary {A = A} {s = x} {t = y} k m h u v) e =
         let p = no-parts (word x) (word y) e in

@@ -4,6 +4,7 @@ use mathlib.Core.Logic.{_⊎_, ⊎-elim}
 use mathlib.Core.List.{List, []}
 use Prim.Native.Nat.{ℕ, _≤_, _<_}
 use native.Mathlib.Omega.{arith}
+use Rattle.sets.proofs.Basics.{clash}
 use Rattle.grammar.specs.declared.Cell.{Cell}
 use Rattle.grammar.specs.Layout.{Word}
 use Rattle.grammar.specs.Trees.{Rules}
@@ -32,8 +33,7 @@ off h l u = ⊎-elim (λ x. omega arith) (λ x. omega arith) h
 pub never-both : {g : Rules} {k : ℕ} {cs : List Cell} → Clear g k → FirstTwo g k cs → ⊥
 never-both {g} {k} {cs} c f =
     let z : Sweeps.clear ≡ found cs = answer-unique g k Sweeps.clear (found cs) c f in
-    let q : _≡_ {A = ℕ} 0 1 = cc in
-    omega arith
+    clash cc
 
 -- two sweeps that may try different candidates, and what f keeps of their answers: of the counts no more than is the same in both
 module _ {X : Type 0} (f : SweepReply → X) (P Q : Tries) where

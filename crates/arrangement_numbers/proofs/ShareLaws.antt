@@ -9,6 +9,7 @@ use native.Mathlib.Omega.{arith}
 use native.Mathlib.Nat.{div-add-mod', mod-lt, mod-le, div-le-self, suc-mul, zero-mul, mul-comm, mul-le-mul}
 use native.Mathlib.Decide.{decLt, le-ind}
 use lib.ListN.{length}
+use Rattle.sets.proofs.Basics.{clash}
 use Rattle.grammar.specs.declared.Cell.{Cell}
 use Rattle.grammar.specs.Trees.{Rules, TwoTrees}
 use Rattle.grammar.specs.Candidates.{Terminal, Candidate, Earlier, sentence}
@@ -134,7 +135,7 @@ module _ (g : Rules) (small : (x : ℕ) → Terminal g x → x < 64) where
         y = subst (Reports g n (p n) i) e (right n i l h)
 
         some-none : {o : Option (List Cell)} {es : List Cell} → o ≡ some es → o ≡ none → ⊥
-        some-none a b = let z : _≡_ {A = ℕ} 0 1 = cc in omega arith
+        some-none a b = clash cc
 
         earlier : (ds : List Cell) → 1 ≤ length ds → Candidate (Terminal g) (length ds) ds → Earlier ds cs → TwoTrees g 0 (sentence ds) → ⊥
         earlier ds a c b two = go (decLt (length ds) n)
@@ -159,7 +160,7 @@ module _ (g : Rules) (small : (x : ℕ) → Terminal g x → x < 64) where
     some-is a b = cc
 
     not-some : {o : Option (List Cell)} {cs : List Cell} → o ≡ none → o ≡ some cs → ⊥
-    not-some a b = let z : _≡_ {A = ℕ} 0 1 = cc in omega arith
+    not-some a b = clash cc
 
     up-to : {P : ℕ → Type 0} (j : ℕ) → ((i : ℕ) → i < j → P i) → P j → (i : ℕ) → i < suc j → P i
     up-to {P} j h k i l = elim (decLt i j) [ yes q ↦ h i q | no q ↦ subst P (let e : j ≡ i = omega arith in e) k ]

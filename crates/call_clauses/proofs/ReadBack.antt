@@ -9,6 +9,7 @@ use native.Mathlib.Omega.{arith}
 use lib.ListN.{length, getElem?, length-append}
 use lib.Dec.{eqb}
 use borrow.Author.Tests.{eqb-true, le-leb, lt-leb}
+use Rattle.sets.proofs.Basics.{clash}
 use Rattle.sets.proofs.Basics.{both}
 use Rattle.grammar.specs.declared.Rule.{Rule}
 use Rattle.grammar.specs.declared.Clause.{Clause}
@@ -53,7 +54,7 @@ isFree b [] = true
 isFree b (x ∷ u) = not (eqb x b) && isFree b u
 
 not-true : (a : Bool) → not a ≡ true → a ≡ false
-not-true true e = absurd (let z : _≡_ {A = ℕ} 0 1 = cc in omega arith)
+not-true true e = absurd (clash cc)
 not-true false e = refl
 
 free-of : (b : ℕ) (u : List ℕ) → isFree b u ≡ true → FreeOf b u
@@ -72,7 +73,7 @@ isNumber none n = false
 
 number-is : (o : Option ℕ) (n : ℕ) → isNumber o n ≡ true → o ≡ some n
 number-is (some v) n e = ap some (eqb-true v n e)
-number-is none n e = absurd (let z : _≡_ {A = ℕ} 0 1 = cc in omega arith)
+number-is none n e = absurd (clash cc)
 
 abbrev plain : ℕ → Bool
 plain n = isNumber (numeralOf (decimal n)) n && (not (sameBytes (decimal n) (45 ∷ [])) && (isFree 10 (decimal n) && isFree 32 (decimal n)))

@@ -5,6 +5,7 @@ use Prim.Native.Nat.{ℕ, _-_}
 use native.Mathlib.Omega.{arith}
 use lib.ListN.{length, take, replicate}
 use lib.Seq.{take-at}
+use Rattle.sets.proofs.Basics.{clash}
 use Rattle.grammar.specs.Layout.{Every}
 use Rattle.grammar.specs.Trees.{Rules}
 use Rattle.grammar.specs.Content.{SmallRule}
@@ -59,7 +60,7 @@ given-bytes {bytes} {out} n a (fits h x p) = (λ i. take (x i .count) (p i)) ∙
 given-bytes n a (large h x p) = absurd (n (sym (ap (λ (z : ListReply). z .answer) x) ∙ a))
 
 refused-given : {f : Fault} → Answer.Refused f ≡ Answer.Given → ⊥
-refused-given e = let z : _≡_ {A = ℕ} 0 1 = cc in omega arith
+refused-given e = clash cc
 
 pub expand-reads-back : {s out out′ : List ℕ} {r : ListReply} → ExpandOf s out out′ r → r .answer ≡ Answer.Given → ruleSheet (take (r .count) out′) ≡ clauseSheet s
 expand-reads-back (refusing e x h) a = absurd (refused-given (sym (ap (λ (z : ListReply). z .answer) x) ∙ a))

@@ -8,6 +8,7 @@ use Prim.Native.Nat.{ℕ, zero, suc, _+_, _-_, _≤_, _<_}
 use native.Mathlib.Omega.{arith}
 use native.Mathlib.Decide.{decLe}
 use lib.ListN.{length, getD, getElem?, take, replicate}
+use Rattle.sets.proofs.Basics.{clash}
 use Rattle.sets.proofs.Says.{true-not-false}
 use Rattle.sets.specs.Says.{Says}
 use Rattle.sets.specs.Sets.{In}
@@ -106,10 +107,10 @@ relaid-unfit l (Clause.Binary a b m) Lay.Indent e = absurd (true-not-false e)
 
 word-is : (o : Option Lay) (y : Lay) → LayWord.Is y ≡ asLay o → o ≡ some y
 word-is (some z) y e = cc
-word-is none y e = absurd (let z : _≡_ {A = ℕ} 0 1 = cc in omega arith)
+word-is none y e = absurd (clash cc)
 
 word-not : (o : Option Lay) → LayWord.Not ≡ asLay o → o ≡ none
-word-not (some z) e = absurd (let z : _≡_ {A = ℕ} 0 1 = cc in omega arith)
+word-not (some z) e = absurd (clash cc)
 word-not none e = refl
 
 module _ (s : List ℕ) (p : ℕ) (c : Clause) (n : Named s p c) (lay : List ℕ) where
@@ -141,7 +142,7 @@ module _ (s : List ℕ) (p : ℕ) (c : Clause) (n : Named s p c) (lay : List ℕ
 -- 3. which refusals the changed sheet can get: 2 and 4 in that rule's line, no other
 
 lay-refused : (front back : Rules) (x : RuleLine) (p : ℕ) → length front + 1 ≡ p → (Good x ⊎ (x ≡ RuleLine.Unfit)) → {n l : ℕ} → outcome front back x ≡ refused n l → (n ≡ 4) × (l ≡ p + 1)
-lay-refused front back x p h (inl q) e = absurd (let k = q .1 in let j : outcome front back x ≡ accepted (front ++ q .0 ∷ back) = ap (outcome front back) k in let z : _≡_ {A = ℕ} 0 1 = cc in omega arith)
+lay-refused front back x p h (inl q) e = absurd (let k = q .1 in let j : outcome front back x ≡ accepted (front ++ q .0 ∷ back) = ap (outcome front back) k in clash cc)
 lay-refused front back x p h (inr q) {n} {l} e =
     let j : outcome front back x ≡ refused 4 (length front + 2) = ap (outcome front back) q in
     let a : _≡_ {A = ℕ} 4 n = cc in
@@ -170,7 +171,7 @@ at-place (q ∷ front) back r zero e = absurd (omega arith)
 at-place (q ∷ front) back r (suc i) e = at-place front back r i (omega arith)
 
 getElem?-getD : (l : Rules) (i : ℕ) (r d : Rule) → getElem? l i ≡ some r → getD l i d ≡ r
-getElem?-getD [] i r d e = absurd (let z : _≡_ {A = ℕ} 0 1 = cc in omega arith)
+getElem?-getD [] i r d e = absurd (clash cc)
 getElem?-getD (x ∷ l) zero r d e = cc
 getElem?-getD (x ∷ l) (suc i) r d e = getElem?-getD l i r d e
 

@@ -3,6 +3,7 @@ use mathlib.Core.Path.{_≡_, refl, sym, ap, _∙_, subst}
 use mathlib.Core.List.{List}
 use Prim.Native.Nat.{ℕ}
 use native.Mathlib.Omega.{arith}
+use Rattle.sets.proofs.Basics.{clash}
 use Rattle.grammar.specs.Layout.{Word}
 use Rattle.grammar.specs.Trees.{Rules}
 use Rattle.tree_view.specs.Shown.{View}
@@ -40,7 +41,7 @@ module _ {rs : List Right} {u a b : ℕ} (h : RightsHeld rs u a b) where
 
 -- what the rights sheet gives, by what its reader answers
 pub rights-not : (want : Reading (List Right)) (u : ℕ) (r : RightsRead) {f : Fault} {l : ℕ} → RightsGiven want u r → r .outcome ≡ Refused f l → RefusedAs want f l
-rights-not (accepted rs) u r x e = absurd (let h = x .0 in let z : _≡_ {A = ℕ} 0 1 = cc in omega arith)
+rights-not (accepted rs) u r x e = absurd (let h = x .0 in clash cc)
 rights-not (refused n m) u r {f} {l} x e =
     let h : _≡_ {A = Reading (Unit {0})} (refused n m) (refused (numberOf f) l) = sym (x .0) ∙ ap (λ (o : Outcome). readingOf {A = Unit {0}} o tt) e in
     let a : n ≡ numberOf f = cc in

@@ -5,6 +5,7 @@ use mathlib.Core.List.{List}
 use Prim.Native.Nat.{ℕ, suc, _≤_, _<_}
 use native.Mathlib.Omega.{arith}
 use lib.ListN.{length}
+use Rattle.sets.proofs.Basics.{clash}
 use Rattle.grammar.specs.Layout.{Word}
 use Rattle.grammar.specs.Trees.{Tree, Rules}
 use Rattle.grammar.specs.Choices.{FirstTree, SecondTree}
@@ -50,13 +51,13 @@ no-room : {r : TreesReply} (f : Fault) → numberOf f ≡ 22 → r ≡ treesRepl
 no-room f q e = record { fault = f; number = q; answer = ap (λ (y : TreesReply). y .answer) e }
 
 none-no : (f : Fault) → Answer.None ≡ Answer.Refused f → ⊥
-none-no f e = let z : _≡_ {A = ℕ} 0 1 = cc in omega arith
+none-no f e = clash cc
 
 one-no : (f : Fault) → Answer.One ≡ Answer.Refused f → ⊥
-one-no f e = let z : _≡_ {A = ℕ} 0 1 = cc in omega arith
+one-no f e = clash cc
 
 two-no : (f : Fault) → Answer.Two ≡ Answer.Refused f → ⊥
-two-no f e = let z : _≡_ {A = ℕ} 0 1 = cc in omega arith
+two-no f e = clash cc
 
 short-no : (f h : Fault) → numberOf f ≡ 21 → numberOf h ≡ 22 → Answer.Refused f ≡ Answer.Refused h → ⊥
 short-no f h a b e = let z : f ≡ h = cc in omega (arith, ap numberOf z)

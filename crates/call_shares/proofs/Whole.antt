@@ -5,6 +5,7 @@ use mathlib.Core.List.{List, [], _∷_, List·Memᴰ, List·Memᴰ·head, List·
 use Prim.Native.Nat.{ℕ, zero, suc, _-_, _^_, _≤_, _<_}
 use native.Mathlib.Omega.{arith}
 use native.Mathlib.Nat.{pow-suc, pow-le-pow-left, pow-le-pow-right, mul-le-mul, mul-zero, zero-mul, le-trans}
+use Rattle.sets.proofs.Basics.{clash}
 use Rattle.answering.proofs.SweepSettled.{never-both}
 use Rattle.grammar.specs.declared.Cell.{Cell}
 use Rattle.grammar.specs.Trees.{Rules}
@@ -107,7 +108,7 @@ kept-line (lowest e l) = l
 
 kept-clear : {r : ShareReply} → Kept r → r .answer ≡ Answer.Clear → r .sentence ≡ noSentence
 kept-clear (nothing e l z) d = z
-kept-clear (lowest e l) d = absurd (let z : _≡_ {A = ℕ} 0 1 = cc in omega arith)
+kept-clear (lowest e l) d = absurd (clash cc)
 
 clear-same : {g : Rules} {k : ℕ} {m : ShareReply} {s : SweepReply} {j : ℕ} → Kept m → MergedAll.Sweeps g k m → Clear g k → s ≡ Sweep.sweepReplyOf Answer.Clear 0 [] j → SameAnswer m s
 clear-same y (some-refused x) c e = absurd (kept-not y x)

@@ -7,6 +7,7 @@ use mathlib.Core.Option.{some}
 use Prim.Native.Nat.{ℕ, zero, _+_, _≤_}
 use native.Mathlib.Omega.{arith}
 use lib.ListN.{length, length-append}
+use Rattle.sets.proofs.Basics.{clash}
 use Rattle.sets.proofs.Basics.{true-or-false}
 use Rattle.grammar.specs.declared.Rule.{Rule}
 use Rattle.grammar.specs.declared.UnaryMark.{UnaryMark}
@@ -34,7 +35,7 @@ use Rattle.rule_output.proofs.Adding.{adds-over, cause-more, adds-then, adds-al
 use Rattle.clause_rules.proofs.Firsts.{first, behind, sort-of, no-suffix, no-join, no-bar, suffix-told}
 
 not-both : {c : Bool} → c ≡ true → c ≡ false → ⊥
-not-both p q = let z = sym p ∙ q in let w : _≡_ {A = ℕ} 0 1 = cc in omega arith
+not-both p q = let z = sym p ∙ q in clash cc
 
 left-by : {s : List ℕ} {at : ℕ} {k l : List Lex} → k ≡ l → Left s at k → Left s at l
 left-by e h = record { lexed = h .lexed ∙ ap some e }

@@ -8,6 +8,7 @@ use native.Mathlib.Omega.{arith}
 use lib.ListN.{length, take, drop, length-append}
 use lib.Dec.{leb, eqb, eqb→eq, leb→le}
 use borrow.Author.Tests.{eq-eqb, ne-eqb, le-leb, lt-leb}
+use Rattle.sets.proofs.Basics.{clash}
 use Rattle.grammar.specs.declared.Rule.{Rule}
 use Rattle.grammar.specs.declared.Grammar.{Grammar}
 use Rattle.grammar.specs.Trees.{Rules}
@@ -65,7 +66,7 @@ module _ (K : ℕ) (r : Rule) (g : Rules) (ih : Longer K r g) where
   low-step : r .left < suc K → (b : Bool) → eqb (r .left) K ≡ b → length (rising (suc K) (r ∷ g)) ≡ suc (length (rising (suc K) g))
   low-step h true e = let z = eqb→eq (r .left) K (rw e tt) in let y = ih .high (omega arith) in omega (arith, as-test true e, at true, both)
   low-step h false e =
-      let y = ih .low (less (r .left) K h (λ q. let u = sym (eq-eqb (r .left) K q) ∙ e in let w : _≡_ {A = ℕ} 0 1 = cc in omega arith)) in
+      let y = ih .low (less (r .left) K h (λ q. let u = sym (eq-eqb (r .left) K q) ∙ e in clash cc)) in
       omega (arith, as-test false e, at false, both)
 
   longer-step : Longer (suc K) r g
@@ -94,19 +95,19 @@ terms-snoc (d ∷ l) c h t = (h .0, terms-snoc l c (h .1) t)
 
 left-terms : (v : ℕ) (x : List ℕ) (c : ClauseLine) (o : Said _) → expression x ≡ o → withLeft v o ≡ good c → Terms (c .expr)
 left-terms v x c (good e) j q = let z : record { left = v; expr = e } ≡ c = cc in subst (λ (y : ClauseLine). Terms (y .expr)) z (expression-terms x e j)
-left-terms v x c unwritten j q = absurd (let z : _≡_ {A = ℕ} 0 1 = cc in omega arith)
-left-terms v x c deep j q = absurd (let z : _≡_ {A = ℕ} 0 1 = cc in omega arith)
+left-terms v x c unwritten j q = absurd (clash cc)
+left-terms v x c deep j q = absurd (clash cc)
 
 line-terms : (line : List ℕ) (c : ClauseLine) → clauseLine line ≡ good c → Terms (c .expr)
 line-terms line c h = go (numeralOf (before 32 line)) h
   where
     go : (o : Option ℕ) → leftSays o (expression (drop (length (before 32 line) + 1) line)) ≡ good c → Terms (c .expr)
-    go none q = absurd (let z : _≡_ {A = ℕ} 0 1 = cc in omega arith)
+    go none q = absurd (clash cc)
     go (some v) q = which (leb v 63) q
       where
         which : (b : Bool) → cond b (withLeft v (expression (drop (length (before 32 line) + 1) line))) unwritten ≡ good c → Terms (c .expr)
         which true q = left-terms v (drop (length (before 32 line) + 1) line) c (expression (drop (length (before 32 line) + 1) line)) refl q
-        which false q = absurd (let z : _≡_ {A = ℕ} 0 1 = cc in omega arith)
+        which false q = absurd (clash cc)
 
 -- a line that gives one more clause says it
 step-good : (seen : List ClauseLine) (p : List ℕ) (b : Bool) (c : ClauseLine) → clauseStep seen p b ≡ next c → clauseLine p ≡ good c
@@ -114,13 +115,13 @@ step-good seen p true c e = go (clauseLine p) e
   where
     go : (o : Said ClauseLine) → clauseSaid o ≡ next c → o ≡ good c
     go (good d) q = let z : d ≡ c = cc in ap good z
-    go unwritten q = absurd (let z : _≡_ {A = ℕ} 0 1 = cc in omega arith)
-    go deep q = absurd (let z : _≡_ {A = ℕ} 0 1 = cc in omega arith)
+    go unwritten q = absurd (clash cc)
+    go deep q = absurd (clash cc)
 step-good seen p false c e = go (isEmpty p) e
   where
     go : (a : Bool) → cond a end (stop 41) ≡ next c → clauseLine p ≡ good c
-    go true q = absurd (let z : _≡_ {A = ℕ} 0 1 = cc in omega arith)
-    go false q = absurd (let z : _≡_ {A = ℕ} 0 1 = cc in omega arith)
+    go true q = absurd (clash cc)
+    go false q = absurd (clash cc)
 
 pub all-terms : (ps : List (List ℕ)) (l : List ClauseLine) → itemsFrom clauseStep [] ps ≡ accepted l → TermsAll (clausesOf l)
 all-terms ps l =
@@ -194,7 +195,7 @@ module _ {ps : List (List ℕ)} {p : ℕ} {first out : Emit} (w : Walked ps p fi
   out-over e = go (adds .why e)
     where
       go : Cause first (sizeAll lines) (length met) → clausesFrom ps ≡ refused 43 0
-      go (inl x) = absurd (let z = sym (w .begun .2) ∙ x in let y : _≡_ {A = ℕ} 0 1 = cc in omega arith)
+      go (inl x) = absurd (let z = sym (w .begun .2) ∙ x in clash cc)
       go (inr (inl x)) = past-many ps p (w .said) (omega (arith, w .begun .1, w .said .most))
       go (inr (inr x)) = rules-many ps p (w .said) (omega (arith, w .begun .0))
 
@@ -228,7 +229,7 @@ module _ {ps : List (List ℕ)} {p : ℕ} {first out : Emit} (w : Walked ps p fi
 
 -- what the first walk has found
 pub found-refused : (x : Reading (List ClauseLine)) (o : Outcome) (p : ℕ) (f : Fault) (l : ℕ) → PassedAs x o p → o ≡ Refused f l → expanded x ≡ refused (numberOf f) l
-found-refused (accepted m) o p f l h e = absurd (let z : Accepted ≡ Refused f l = sym (h .0) ∙ e in let y : _≡_ {A = ℕ} 0 1 = cc in omega arith)
+found-refused (accepted m) o p f l h e = absurd (let z : Accepted ≡ Refused f l = sym (h .0) ∙ e in clash cc)
 found-refused (refused n m) o p f l h e =
     let z : _≡_ {A = Reading (Unit {0})} (refused n m) (refused (numberOf f) l) = sym h ∙ ap (λ (y : Outcome). readingOf {A = Unit {0}} y tt) e in
     let a : n ≡ numberOf f = cc in

@@ -5,6 +5,7 @@ use mathlib.Core.List.{List, []}
 use Prim.Native.Nat.{ℕ, _+_, _≤_}
 use native.Mathlib.Omega.{arith}
 use lib.ListN.{length}
+use Rattle.sets.proofs.Basics.{clash}
 use Rattle.fields.specs.Pieces.{pieces}
 use Rattle.clauses.specs.Expansion.{expansion}
 use Rattle.clause_lines.specs.ClauseLines.{ClauseLine}
@@ -24,7 +25,7 @@ expanded-line (accepted c) n f l h e = go (expansionFits (clausesOf c)) e
 
     go : (b : Bool) → cond b (finish whole) (refused 43 0) ≡ refused f l → l ≤ n
     go true e =
-        finish-line whole n f l (λ g m k. absurd (let z : _≡_ {A = ℕ} 0 1 = cc in omega arith)) e
+        finish-line whole n f l (λ g m k. absurd (clash cc)) e
     go false e = let j : _≡_ {A = ℕ} 0 l = cc in omega arith
 
 pub clause-exists : (s : List ℕ) (f : ℕ) (l : ℕ) → clauseSheet s ≡ refused f l → l ≤ length (pieces 10 s)

@@ -7,6 +7,7 @@ use native.Mathlib.Omega.{arith}
 use lib.ListN.{length}
 use lib.Dec.{leb}
 use borrow.Author.Tests.{leb-true}
+use Rattle.sets.proofs.Basics.{clash}
 use Rattle.sets.proofs.Basics.{both}
 use Rattle.grammar.specs.declared.Rule.{Rule}
 use Rattle.grammar.specs.declared.Clause.{Clause}
@@ -35,12 +36,12 @@ sheet-terms : (s : List ℕ) (l : List ClauseLine) → sheetLines s ≡ accepted
 sheet-terms s l e = go (pieces 10 s) e
   where
     go : (ps : List (List ℕ)) → withNames (refused 1 1) clauseNames ps (itemsFrom clauseStep []) ≡ accepted l → TermsAll (clausesOf l)
-    go [] q = absurd (let z : _≡_ {A = ℕ} 0 1 = cc in omega arith)
+    go [] q = absurd (clash cc)
     go (h ∷ ps) q = which (not (isEmpty ps) && sameBytes h clauseNames) q
       where
         which : (b : Bool) → cond b (itemsFrom clauseStep [] ps) (refused 1 1) ≡ accepted l → TermsAll (clausesOf l)
         which true q = all-terms ps l q
-        which false q = absurd (let z : _≡_ {A = ℕ} 0 1 = cc in omega arith)
+        which false q = absurd (clash cc)
 
 own-terms : (s : List ℕ) (g : Rules) (m : Meant s g) → TermsAll (m .clauses)
 own-terms s g m = subst TermsAll (sym (m .own .are)) (sheet-terms s (m .own .lines) (m .own .given))

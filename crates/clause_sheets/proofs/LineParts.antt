@@ -9,6 +9,7 @@ use lib.ListN.{length, take, drop, length-drop, drop-of-length-le}
 use lib.Seq.{length-take-le}
 use lib.Dec.{leb}
 use borrow.Author.Tests.{le-leb, lt-leb}
+use Rattle.sets.proofs.Basics.{clash}
 use Rattle.fields.specs.declared.Cursor.{Cursor}
 use Rattle.fields.specs.declared.NumberField.{NumberField}
 use Rattle.fields.specs.declared.NumberField.the-variants as NumberField
@@ -53,7 +54,7 @@ nothing-said = go (says? [])
   where
     go : (d : Dec (IsExpression [])) → shallowOnly d ≡ unwritten
     go (no f) = refl
-    go (yes y) = absurd (let z : _≡_ {A = Bool} false true = accepts (y .expr) [] (y .written) in let w : _≡_ {A = ℕ} 0 1 = cc in omega arith)
+    go (yes y) = absurd (let z : _≡_ {A = Bool} false true = accepts (y .expr) [] (y .written) in clash cc)
 
 drop-drop : (s : List ℕ) (a b : ℕ) → drop b (drop a s) ≡ drop (a + b) s
 drop-drop s zero b = ap (λ (k : ℕ). drop k s) (let z : b ≡ 0 + b = omega arith in z)
@@ -82,7 +83,7 @@ module _ (s : List ℕ) (c : Cursor) (low : (c .at ≤ c .end) × (c .end ≤ le
     where
       go : (o : Option ℕ) → numeralOf head ≡ o
           → NumberField.Is v d ≡ numberField (withCursor o (record { at = c .at + length head + 1; end = c .end })) → Split v d
-      go none h q = absurd (let z : _≡_ {A = ℕ} 0 1 = cc in omega arith)
+      go none h q = absurd (clash cc)
       go (some w) h q =
           let i : v ≡ w = cc in
           let j : d ≡ record { at = c .at + length head + 1; end = c .end } = cc in
@@ -94,7 +95,7 @@ module _ (s : List ℕ) (c : Cursor) (low : (c .at ≤ c .end) × (c .end ≤ le
       go : (o : Option ℕ) → numeralOf head ≡ o → NumberField.Bad ≡ numberField (withCursor o (record { at = c .at + length head + 1; end = c .end }))
           → clauseLine text ≡ unwritten
       go none h q = ap (λ (x : Option ℕ). leftSays x (expression (drop (length head + 1) text))) h
-      go (some w) h q = absurd (let z : _≡_ {A = ℕ} 0 1 = cc in omega arith)
+      go (some w) h q = absurd (clash cc)
 
   module _ (v : ℕ) (d : Cursor) (S : Split v d) where
     by-left : clauseLine text ≡ cond (leb v 63) (withLeft v (expression (drop (length head + 1) text))) unwritten
@@ -143,7 +144,7 @@ checked-not line e = ap lineChecked (sym e)
 -- an unwritten line has no rules
 pub emitted-not : (line : List ℕ) (out : Emit) → clauseLine line ≡ unwritten → LineEmitted line out out
 emitted-not line out e =
-    record { adds = λ c h. absurd (let z : _≡_ {A = Said ClauseLine} unwritten (good c) = sym e ∙ h in let y : _≡_ {A = ℕ} 0 1 = cc in omega arith) }
+    record { adds = λ c h. absurd (let z : _≡_ {A = Said ClauseLine} unwritten (good c) = sym e ∙ h in clash cc) }
 
 -- what a good expression is
 pub record Says′ (x : List ℕ) (e : Expr alternatives) : Type 0 where
@@ -155,17 +156,17 @@ good-expression : (x : List ℕ) (e : Expr alternatives) → expression x ≡ go
 good-expression x e h = go (lexemes x) refl h
   where
     pick : (l : List Lex) → lexemes x ≡ some l → (d : Dec (IsExpression l)) → shallowOnly d ≡ good e → Says′ x e
-    pick l j (no f) q = absurd (let z : _≡_ {A = ℕ} 0 1 = cc in omega arith)
+    pick l j (no f) q = absurd (clash cc)
     pick l j (yes y) q = which (leb (depth (y .expr)) 16) q
       where
         which : (b : Bool) → cond b (good (y .expr)) deep ≡ good e → Says′ x e
         which true z =
             let w : y .expr ≡ e = cc in
             record { lexes = l; lexed = j; written = subst (λ (k : Expr alternatives). WrittenAs (many k) l) w (y .written) }
-        which false z = absurd (let w : _≡_ {A = ℕ} 0 1 = cc in omega arith)
+        which false z = absurd (clash cc)
 
     go : (o : Option (List Lex)) → lexemes x ≡ o → lexemesSay o ≡ good e → Says′ x e
-    go none j q = absurd (let z : _≡_ {A = ℕ} 0 1 = cc in omega arith)
+    go none j q = absurd (clash cc)
     go (some l) j q = pick l j (says? l) q
 
 emitted-line : (line x : List ℕ) (v : ℕ) (out : Emit) (r : Step) → clauseLine line ≡ withLeft v (expression x) → AlternativesRead x 0 v out r
@@ -174,8 +175,8 @@ emitted-line line x v out r e R = record { adds = λ c h. go c (expression x) re
   where
     go : (c : ClauseLine) (o : Said (Expr alternatives)) → expression x ≡ o → withLeft v o ≡ good c
         → Adds out (r .out) (emit (c .expr) (c .left) (out .next)) (size (c .expr))
-    go c unwritten j q = absurd (let z : _≡_ {A = ℕ} 0 1 = cc in omega arith)
-    go c deep j q = absurd (let z : _≡_ {A = ℕ} 0 1 = cc in omega arith)
+    go c unwritten j q = absurd (clash cc)
+    go c deep j q = absurd (clash cc)
     go c (good k) j q =
         let w : record { left = v; expr = k } ≡ c = cc in
         let g = good-expression x k j in
@@ -195,17 +196,17 @@ max-left a b h = sym (max-is a b a (omega arith) h (λ k p q. p))
 pub good-checked : (least p q : ℕ) (o : Said (Expr alternatives)) → checkedOf o ≡ Checked.Good p → q ≡ max least p
     → LineChecked.Good q ≡ expressionChecked least o
 good-checked least p q (good e) h j = let z : pastExpr e ≡ p = cc in ap LineChecked.Good (j ∙ ap (max least) (sym z))
-good-checked least p q unwritten h j = absurd (let z : _≡_ {A = ℕ} 0 1 = cc in omega arith)
-good-checked least p q deep h j = absurd (let z : _≡_ {A = ℕ} 0 1 = cc in omega arith)
+good-checked least p q unwritten h j = absurd (clash cc)
+good-checked least p q deep h j = absurd (clash cc)
 
 pub form-checked : (least : ℕ) (o : Said (Expr alternatives)) → checkedOf o ≡ Checked.Unwritten → LineChecked.Form ≡ expressionChecked least o
-form-checked least (good e) h = absurd (let z : _≡_ {A = ℕ} 0 1 = cc in omega arith)
+form-checked least (good e) h = absurd (clash cc)
 form-checked least unwritten h = refl
-form-checked least deep h = absurd (let z : _≡_ {A = ℕ} 0 1 = cc in omega arith)
+form-checked least deep h = absurd (clash cc)
 
 pub deep-checked : (least : ℕ) (o : Said (Expr alternatives)) → checkedOf o ≡ Checked.Deep → LineChecked.Deep ≡ expressionChecked least o
-deep-checked least (good e) h = absurd (let z : _≡_ {A = ℕ} 0 1 = cc in omega arith)
-deep-checked least unwritten h = absurd (let z : _≡_ {A = ℕ} 0 1 = cc in omega arith)
+deep-checked least (good e) h = absurd (clash cc)
+deep-checked least unwritten h = absurd (clash cc)
 deep-checked least deep h = refl
 
 pub checked-behind : (s : List ℕ) (c : Cursor) (low : (c .at ≤ c .end) × (c .end ≤ length s)) (v : ℕ) (d : Cursor) → Split s c low v d → v ≤ 63 → d .at ≤ d .end

@@ -4,6 +4,7 @@ use mathlib.Core.Bool.{Bool, true, false, cond, not, _&&_}
 use mathlib.Core.List.{List, [], _∷_}
 use Prim.Native.Nat.{ℕ, _+_, _<_, max}
 use native.Mathlib.Omega.{arith}
+use Rattle.sets.proofs.Basics.{clash}
 use Rattle.grammar.specs.Trees.{Rules}
 use Rattle.fields.specs.Pieces.{pieces, isEmpty, sameBytes}
 use Rattle.clauses.specs.Clauses.{Clauses}
@@ -35,22 +36,22 @@ finished-as v g e = go (anyOf isStart v) refl e
   where
     go : (b : Bool) → anyOf isStart v ≡ b → cond b (accepted v) (refused 7 0) ≡ accepted g → (g ≡ v) × (anyOf isStart v ≡ true)
     go true h q = let j : v ≡ g = cc in (sym j, h)
-    go false h q = absurd (let z : _≡_ {A = ℕ} 0 1 = cc in omega arith)
+    go false h q = absurd (clash cc)
 
 -- a sheet with a start has a line
 some-line : (l : List ClauseLine) → anyOf isStart (expansion (clausesOf l)) ≡ true → 0 < pastAll (clausesOf l)
-some-line [] e = absurd (let z : _≡_ {A = ℕ} 0 1 = cc in omega arith)
+some-line [] e = absurd (clash cc)
 some-line (c ∷ l) e =
     let x = max-bounds (max (c .left + 1) (pastExpr (c .expr))) (pastAll (clausesOf l)) in
     let y = max-bounds (c .left + 1) (pastExpr (c .expr)) in
     omega arith
 
 of-lines : (x : Reading (List ClauseLine)) (g : Rules) → expanded x ≡ accepted g → MeantBy x g
-of-lines (refused f n) g e = absurd (let z : _≡_ {A = ℕ} 0 1 = cc in omega arith)
+of-lines (refused f n) g e = absurd (clash cc)
 of-lines (accepted l) g e = go (expansionFits (clausesOf l)) refl e
   where
     go : (b : Bool) → expansionFits (clausesOf l) ≡ b → cond b (finish (accepted (expansion (clausesOf l)))) (refused 43 0) ≡ accepted g → MeantBy (accepted l) g
-    go false k q = absurd (let z : _≡_ {A = ℕ} 0 1 = cc in omega arith)
+    go false k q = absurd (clash cc)
     go true k q =
         let f = finished-as (expansion (clausesOf l)) g q in
         record {

@@ -8,6 +8,7 @@ use lib.ListN.{length, drop, length-append, length-drop}
 use lib.Seq.{length-take-le}
 use lib.Dec.{ltb}
 use borrow.Author.Tests.{lt-ltb, le-ltb}
+use Rattle.sets.proofs.Basics.{clash}
 use Rattle.fields.specs.declared.Cursor.{Cursor}
 use Rattle.fields.specs.Pieces.{isEmpty}
 use Rattle.fields.proofs.Lines.{more-left}
@@ -112,8 +113,8 @@ module _ {s : List ℕ} {start n p at : ℕ} (P : Passing s start n p at) {c : C
   pass-good q p′ h g m = go (clauseLine (bytesLeft s c)) refl g
     where
       go : (o : Said ClauseLine) → clauseLine (bytesLeft s c) ≡ o → LineChecked.Good q ≡ lineChecked o → Passing s start (n + 1) p′ (c .end + 1)
-      go unwritten j e = absurd (let z : _≡_ {A = ℕ} 0 1 = cc in omega arith)
-      go deep j e = absurd (let z : _≡_ {A = ℕ} 0 1 = cc in omega arith)
+      go unwritten j e = absurd (clash cc)
+      go deep j e = absurd (clash cc)
       go (good k) j e =
           let u : q ≡ max (k .left + 1) (pastExpr (k .expr)) = cc in
           record {
@@ -139,8 +140,8 @@ module _ {s : List ℕ} {start n p at : ℕ} (P : Passing s start n p at) {c : C
           → onStep (P .seen) (clauseSaid o) (λ t. itemsFrom clauseStep (P .seen ++ t ∷ []) (piecesFrom 10 s (c .end + 1))) ≡ refused 41
           (length (P .seen) + 2)
       go unwritten e = refl
-      go deep e = absurd (let z : _≡_ {A = ℕ} 0 1 = cc in omega arith)
-      go (good k) e = absurd (let z : _≡_ {A = ℕ} 0 1 = cc in omega arith)
+      go deep e = absurd (clash cc)
+      go (good k) e = absurd (clash cc)
 
   pub pass-deep : c .end < length s → LineChecked.Deep ≡ lineChecked (clauseLine (bytesLeft s c))
       → PassedAs (itemsFrom clauseStep [] (piecesFrom 10 s start)) (Refused Fault.ClauseDeep (n + 2)) 0
@@ -149,9 +150,9 @@ module _ {s : List ℕ} {start n p at : ℕ} (P : Passing s start n p at) {c : C
       go : (o : Said ClauseLine) → LineChecked.Deep ≡ lineChecked o
           → onStep (P .seen) (clauseSaid o) (λ t. itemsFrom clauseStep (P .seen ++ t ∷ []) (piecesFrom 10 s (c .end + 1))) ≡ refused 42
           (length (P .seen) + 2)
-      go unwritten e = absurd (let z : _≡_ {A = ℕ} 0 1 = cc in omega arith)
+      go unwritten e = absurd (clash cc)
       go deep e = refl
-      go (good k) e = absurd (let z : _≡_ {A = ℕ} 0 1 = cc in omega arith)
+      go (good k) e = absurd (clash cc)
 
   at-end : Bool → Reading (List ClauseLine)
   at-end b = onStep (P .seen) (cond b end (stop 41)) (λ t. itemsFrom clauseStep (P .seen ++ t ∷ []) (piecesFrom 10 s (c .end + 1)))
@@ -180,8 +181,8 @@ module _ {s : List ℕ} {start at : ℕ} {out r : Emit} (M : Emitting s start ou
           → onStep seen (clauseSaid o) (λ t. itemsFrom clauseStep (seen ++ t ∷ []) (piecesFrom 10 s (c .end + 1))) ≡ accepted l
           → (seen : List ClauseLine) × (itemsFrom clauseStep seen (piecesFrom 10 s (c .end + 1)) ≡ accepted l) × Adds out r′
           (emitAll (clausesOf seen) (out .next)) (sizeAll (clausesOf seen))
-      go l seen a unwritten j e = absurd (let z : _≡_ {A = ℕ} 0 1 = cc in omega arith)
-      go l seen a deep j e = absurd (let z : _≡_ {A = ℕ} 0 1 = cc in omega arith)
+      go l seen a unwritten j e = absurd (clash cc)
+      go l seen a deep j e = absurd (clash cc)
       go l seen a (good k) j e = (
         seen ++ (k ∷ []),
         e,
@@ -195,4 +196,4 @@ module _ {s : List ℕ} {start at : ℕ} {out r : Emit} (M : Emitting s start ou
           → onStep seen (cond b end (stop 41)) (λ t. itemsFrom clauseStep (seen ++ t ∷ []) (piecesFrom 10 s (c .end + 1))) ≡ accepted l
           → Adds out r (emitAll (clausesOf l) (out .next)) (sizeAll (clausesOf l))
       go l seen a true e = let z : seen ≡ l = cc in subst (λ (y : List ClauseLine). Adds out r (emitAll (clausesOf y) (out .next)) (sizeAll (clausesOf y))) z a
-      go l seen a false e = absurd (let z : _≡_ {A = ℕ} 0 1 = cc in omega arith)
+      go l seen a false e = absurd (clash cc)

@@ -9,6 +9,7 @@ use native.Mathlib.Nat.{le-refl}
 use native.Mathlib.Omega.{arith}
 use lib.ListN.{length, drop}
 use lib.Dec.{leb, leb→le}
+use Rattle.sets.proofs.Basics.{clash}
 use Rattle.grammar.specs.declared.Rule.{Rule}
 use Rattle.grammar.specs.declared.Clause.{Clause}
 use Rattle.grammar.specs.declared.Clause.the-variants.{Empty, Atom, Unary, Binary}
@@ -118,7 +119,7 @@ lexeme-term s = first-term signs s signs-term
 
 every-onto : (x : Lex) (o : Option (List Lex)) (l : List Lex) → ontoLexemes x o ≡ some l → TermLex x → ((k : List Lex) → o ≡ some k → Every TermLex k)
     → Every TermLex l
-every-onto x none l e h f = absurd (let z : _≡_ {A = ℕ} 0 1 = cc in omega arith)
+every-onto x none l e h f = absurd (clash cc)
 every-onto x (some k) l e h f = let z : _≡_ {A = List Lex} (x ∷ k) l = cc in subst (λ (y : List Lex). Every TermLex y) z (h, f k refl)
 
 from-terms : (s : List ℕ) (k : ℕ) (l : List Lex) → from s k ≡ some l → Every TermLex l
@@ -127,21 +128,21 @@ from-terms (b ∷ s) (suc k) l e = from-terms s k l e
 from-terms (b ∷ s) zero l e = go (lexeme (b ∷ s)) (lexeme-term (b ∷ s)) e (λ j m h. from-terms s j m h)
   where
     go : (o : LexFound) → TermFound o → then o (λ j. from s j) ≡ some l → ((j : ℕ) (m : List Lex) → from s j ≡ some m → Every TermLex m) → Every TermLex l
-    go none h e f = absurd (let z : _≡_ {A = ℕ} 0 1 = cc in omega arith)
+    go none h e f = absurd (clash cc)
     go (some y) h e f = every-onto (y .0) (from s (y .1 - 1)) l e h (f (y .1 - 1))
 
 -- the expression that bytes say
 said-terms : (l : List Lex) (d : Dec (IsExpression l)) (e : Expr alternatives) → Every TermLex l → shallowOnly d ≡ good e → Terms e
-said-terms l (no f) e h q = absurd (let z : _≡_ {A = ℕ} 0 1 = cc in omega arith)
+said-terms l (no f) e h q = absurd (clash cc)
 said-terms l (yes y) e h q = go (leb (depth (y .expr)) 16) q
   where
     go : (b : Bool) → cond b (good (y .expr)) deep ≡ good e → Terms e
     go true z = let j : y .expr ≡ e = cc in subst (λ (x : Expr alternatives). Terms x) j (terms-written (y .written) h)
-    go false z = absurd (let w : _≡_ {A = ℕ} 0 1 = cc in omega arith)
+    go false z = absurd (clash cc)
 
 pub expression-terms : (s : List ℕ) (e : Expr alternatives) → expression s ≡ good e → Terms e
 expression-terms s e h = go (lexemes s) refl h
   where
     go : (o : Option (List Lex)) → lexemes s ≡ o → lexemesSay o ≡ good e → Terms e
-    go none j q = absurd (let z : _≡_ {A = ℕ} 0 1 = cc in omega arith)
+    go none j q = absurd (clash cc)
     go (some l) j q = said-terms l (says? l) e (from-terms s 0 l j) q

@@ -8,6 +8,7 @@ use native.Mathlib.Nat.{le-refl}
 use native.Mathlib.Omega.{arith}
 use lib.Dec.{eqb}
 use borrow.Author.Tests.{ne-eqb, eq-eqb}
+use Rattle.sets.proofs.Basics.{clash}
 use Rattle.grammar.specs.declared.Rule.{Rule}
 use Rattle.grammar.specs.Trees.{Rules}
 use Rattle.clauses.specs.Clauses as C
@@ -37,7 +38,7 @@ none-of K [] f = refl
 none-of K (r ∷ g) f = go (eqb (r .left) K) (ne-eqb (r .left) K (f r (List·Memᴰ·head refl))) (none-of K g (λ s m. f s (List·Memᴰ·tail m)))
   where
     go : (b : Bool) → b ≡ false → of K g ≡ [] → _≡_ {A = Rules} (elim b [ true ↦ r ∷ of K g | false ↦ of K g ]) []
-    go true e ih = absurd (let z : _≡_ {A = ℕ} 0 1 = cc in omega arith)
+    go true e ih = absurd (clash cc)
     go false e ih = ih
 
 rising-more : (K j : ℕ) (g : Rules) → ((r : Rule) → List·Memᴰ r g → r .left < K) → rising (j + K) g ≡ rising K g

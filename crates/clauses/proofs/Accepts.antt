@@ -6,6 +6,7 @@ use mathlib.Core.List.{List, [], _∷_, _++_, append-assoc, append-nil}
 use Prim.Native.Nat.{ℕ, zero, suc, _≤_}
 use native.Mathlib.Omega.{arith}
 use lib.ListN.{length, length-append}
+use Rattle.sets.proofs.Basics.{clash}
 use Rattle.sets.proofs.Basics.{never}
 use Rattle.grammar.specs.declared.UnaryMark.{UnaryMark}
 use Rattle.grammar.specs.declared.UnaryMark.the-variants as UnaryMark
@@ -16,7 +17,7 @@ use Rattle.clauses.specs.Flat.{State, due, plain, grouped, suffixed, fit
 
 pub both-parts : (a b : Bool) → both a b ≡ true → (a ≡ true) × (b ≡ true)
 both-parts true b e = (refl, e)
-both-parts false b e = absurd (let z : _≡_ {A = ℕ} 0 1 = cc in omega arith)
+both-parts false b e = absurd (clash cc)
 
 -- how an atom leaves the state
 abbrev leaves : Expr item → State
@@ -133,14 +134,14 @@ item-of {d} {l} a r e h (inr s) =
 
 -- does a suffix come first?
 unfoldable pub first-suffix : (r : List Lex) → ((q : Suffix) (k : List Lex) → r ≡ suffix q ∷ k → ⊥) ⊎ ((q : Suffix) × (k : List Lex) × (r ≡ suffix q ∷ k))
-first-suffix [] = inl (λ q k e. let z : _≡_ {A = ℕ} 0 1 = cc in omega arith)
-first-suffix (n a ∷ r) = inl (λ q k e. let z : _≡_ {A = ℕ} 0 1 = cc in omega arith)
-first-suffix (t a ∷ r) = inl (λ q k e. let z : _≡_ {A = ℕ} 0 1 = cc in omega arith)
-first-suffix (opening ∷ r) = inl (λ q k e. let z : _≡_ {A = ℕ} 0 1 = cc in omega arith)
-first-suffix (closing ∷ r) = inl (λ q k e. let z : _≡_ {A = ℕ} 0 1 = cc in omega arith)
-first-suffix (bar ∷ r) = inl (λ q k e. let z : _≡_ {A = ℕ} 0 1 = cc in omega arith)
+first-suffix [] = inl (λ q k e. clash cc)
+first-suffix (n a ∷ r) = inl (λ q k e. clash cc)
+first-suffix (t a ∷ r) = inl (λ q k e. clash cc)
+first-suffix (opening ∷ r) = inl (λ q k e. clash cc)
+first-suffix (closing ∷ r) = inl (λ q k e. clash cc)
+first-suffix (bar ∷ r) = inl (λ q k e. clash cc)
 first-suffix (suffix q ∷ r) = inr (q, r, refl)
-first-suffix (join m ∷ r) = inl (λ q k e. let z : _≡_ {A = ℕ} 0 1 = cc in omega arith)
+first-suffix (join m ∷ r) = inl (λ q k e. clash cc)
 
 unfoldable pub item-out : {d : ℕ} {l : List Lex} → AtomOut d l → ItemOut d l
 item-out a = item-of a (a .rest) refl (a .goes) (first-suffix (a .rest))

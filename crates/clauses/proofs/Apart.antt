@@ -4,6 +4,7 @@ use mathlib.Core.Logic.{inl, inr, ⊎-elim}
 use mathlib.Core.List.{[], _∷_, _++_, List·Memᴰ, List·Memᴰ·head, List·Memᴰ·tail, List·Memᴰ·append-cases, List·Memᴰ·cases-cons, List·Memᴰ·not-nil}
 use Prim.Native.Nat.{ℕ, zero, suc, _+_, _≤_, _<_}
 use native.Mathlib.Omega.{arith}
+use Rattle.sets.proofs.Basics.{clash}
 use Rattle.grammar.specs.declared.Rule.{Rule}
 use Rattle.grammar.specs.declared.UnaryMark.{UnaryMark}
 use Rattle.grammar.specs.declared.UnaryMark.the-variants as UnaryMark
@@ -145,7 +146,7 @@ apart-distinct g a = record { one = λ p q r s e f l k. go g a p q r s e f l k }
   where
     go : (g : Rules) → AllApart g → (p q : ℕ) (r s : Rule) → getElem? g p ≡ some r → getElem? g q ≡ some s → r .left ≡ s .left
         → Alike (r .clause) (s .clause) → p ≡ q
-    go [] a p q r s e f l k = absurd (let z : _≡_ {A = ℕ} 0 1 = cc in omega arith)
+    go [] a p q r s e f l k = absurd (clash cc)
     go (h ∷ g) a zero zero r s e f l k = refl
     go (h ∷ g) a zero (suc q) r s e f l k =
         let z : Clash r s = record { left = l; alike = inl k } in

@@ -4,6 +4,7 @@ use mathlib.Core.Bool.{Bool, true, false}
 use mathlib.Core.List.{List, [], _∷_, _++_}
 use Prim.Native.Nat.{ℕ, _+_, _≤_, max}
 use native.Mathlib.Omega.{arith}
+use Rattle.sets.proofs.Basics.{clash}
 use Rattle.clauses.specs.Expansion.{pastExpr}
 use Rattle.clauses.specs.Text.{maybe, repeats, marks, Lex, closing, bar, suffix, join, Phrase, an-atom, an-item, a-row, one, many, WrittenAs, nonterminal-text, terminal-text, group-text, bare-text, optional-text, repeated-text, marked-text, last-text, then-text, single-text, several-text, only-text, or-text, IsExpression}
 use Rattle.clauses.specs.Flat.{due, run, pastLex, pastLexes}
@@ -15,7 +16,7 @@ says? l = go (run l due 0) refl
   where
     go : (b : Bool) → run l due 0 ≡ b → Dec (IsExpression l)
     go true e = let a = accepted l e in yes (record { expr = a .0; written = a .1 })
-    go false e = no (λ s. let z = sym (accepts (s .expr) l (s .written)) ∙ e in let y : _≡_ {A = ℕ} 0 1 = cc in omega arith)
+    go false e = no (λ s. let z = sym (accepts (s .expr) l (s .written)) ∙ e in clash cc)
 
 equal : (a b : ℕ) → a ≤ b → b ≤ a → a ≡ b
 equal a b p q = omega arith

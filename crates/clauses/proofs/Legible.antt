@@ -4,6 +4,7 @@ use mathlib.Core.Logic.{_⊎_, inl, inr, ⊎-elim}
 use mathlib.Core.List.{List, [], _∷_, _++_, append-assoc}
 use Prim.Native.Nat.{ℕ}
 use native.Mathlib.Omega.{arith}
+use Rattle.sets.proofs.Basics.{clash}
 use Rattle.grammar.specs.declared.UnaryMark.the-variants as UnaryMark
 use Rattle.grammar.specs.declared.BinaryMark.{BinaryMark}
 use Rattle.clauses.specs.Clauses.{item, made, alternatives, Expr, nonterminal, a-part, terminal, group, mark, pair, optional, repeated, only, or}
@@ -28,19 +29,19 @@ pub record Stop (x : List Lex) : Type 0 where
   pub more : NoBar x
 
 pub join-next : (m : BinaryMark) (k : List Lex) → NoSuffix (join m ∷ k)
-join-next m k = record { bars = λ q l e. let z : _≡_ {A = ℕ} 0 1 = cc in omega arith }
+join-next m k = record { bars = λ q l e. clash cc }
 
 pub bar-next : (k : List Lex) → RowStop (bar ∷ k)
 bar-next k =
-    record { suffixes = record { bars = λ q l e. let z : _≡_ {A = ℕ} 0 1 = cc in omega arith }; joins = record { bars = λ q l e. let z : _≡_ {A = ℕ} 0 1 = cc in omega arith } }
+    record { suffixes = record { bars = λ q l e. clash cc }; joins = record { bars = λ q l e. clash cc } }
 
 pub closing-next : (k : List Lex) → Stop (closing ∷ k)
 closing-next k =
-    record { row = record { suffixes = record { bars = λ q l e. let z : _≡_ {A = ℕ} 0 1 = cc in omega arith }; joins = record { bars = λ q l e. let z : _≡_ {A = ℕ} 0 1 = cc in omega arith } }; more = record { bars = λ l e. let z : _≡_ {A = ℕ} 0 1 = cc in omega arith } }
+    record { row = record { suffixes = record { bars = λ q l e. clash cc }; joins = record { bars = λ q l e. clash cc } }; more = record { bars = λ l e. clash cc } }
 
 pub nothing-next : Stop []
 nothing-next =
-    record { row = record { suffixes = record { bars = λ q l e. let z : _≡_ {A = ℕ} 0 1 = cc in omega arith }; joins = record { bars = λ q l e. let z : _≡_ {A = ℕ} 0 1 = cc in omega arith } }; more = record { bars = λ l e. let z : _≡_ {A = ℕ} 0 1 = cc in omega arith } }
+    record { row = record { suffixes = record { bars = λ q l e. clash cc }; joins = record { bars = λ q l e. clash cc } }; more = record { bars = λ l e. clash cc } }
 
 abbrev DetAtom : Expr item → List Lex → Type 0
 DetAtom e l = (f : Expr item) (m x y : List Lex) → WrittenAs (an-atom f) m → l ++ x ≡ m ++ y → (e ≡ f) × (x ≡ y)

@@ -7,6 +7,7 @@ use mathlib.Core.Bool.{Bool}
 use Prim.Native.Nat.{ℕ, _≤_, _<_}
 use native.Mathlib.Omega.{arith}
 use lib.ListN.{length, getElem?}
+use Rattle.sets.proofs.Basics.{clash}
 use Rattle.sets.specs.Sets.{In}
 use Rattle.sets.specs.Says.{Says}
 use Rattle.sets.proofs.Says.{says-iff}
@@ -148,7 +149,7 @@ module _ {g : Rules} {ns : ℕ} (x : Exactly ns (Nullable g)) where
   can-ready : (c : Clause) → Can g [] c 0 → Ready ns c
   can-ready Clause.Empty e = tt
   can-ready (Clause.Atom a b) e =
-      let z = e .1 in absurd (let y : _≡_ {A = ℕ} 0 1 = cc in omega arith)
+      let z = e .1 in absurd (clash cc)
   can-ready (Clause.Unary B k) e = x .all B (e .0)
   can-ready (Clause.Binary B C k) e = (x .all B (e .1), x .all C (e .2))
 

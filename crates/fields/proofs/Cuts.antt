@@ -7,6 +7,7 @@ use native.Mathlib.Omega.{arith}
 use lib.ListN.{length}
 use lib.Dec.{eqb}
 use borrow.Author.Tests.{eq-eqb, eqb-true}
+use Rattle.sets.proofs.Basics.{clash}
 use Rattle.fields.specs.Pieces.{pieces, sameBytes}
 
 -- b does not stand in the bytes
@@ -45,7 +46,7 @@ module _ (b : ℕ) where
       go (after u v h) = rw (pieces-cut u v h) (omega arith)
 
 never : false ≡ true → ⊥
-never e = let z : _≡_ {A = ℕ} 0 1 = cc in omega arith
+never e = clash cc
 
 pub same-path : (u v : List ℕ) → sameBytes u v ≡ true → u ≡ v
 same-path [] [] e = refl

@@ -5,6 +5,7 @@ use mathlib.Core.List.{List, [], _∷_, _++_, map, List·Memᴰ, List·Memᴰ·h
 use Prim.Native.Nat.{ℕ, zero, suc, _+_, _≤_, _<_}
 use native.Mathlib.Omega.{arith}
 use lib.ListN.{length, length-append}
+use Rattle.sets.proofs.Basics.{clash}
 use Rattle.grammar.specs.declared.Rule.{Rule}
 use Rattle.grammar.specs.declared.Clause.{Clause}
 use Rattle.grammar.specs.declared.Clause.the-variants as Clause
@@ -31,7 +32,7 @@ ready? S (Clause.Binary B C m) = both? (mem? B S) (mem? C S)
 
 pub no-parts : (u v : Word) → u ++ v ≡ [] → (u ≡ []) × (v ≡ [])
 no-parts [] v e = (refl, e)
-no-parts (a ∷ u) v e = absurd (let z : _≡_ {A = ℕ} 0 1 = cc in omega arith)
+no-parts (a ∷ u) v e = absurd (clash cc)
 
 module _ (g : Rules) where
   abbrev lefts : List ℕ
@@ -85,7 +86,7 @@ module _ (g : Rules) where
 
   null-complete : {t : Tree} → Valid g t → word t ≡ [] → List·Memᴰ (root t) (nulls .members)
   null-complete (valid-empty m) e = null-member m tt
-  null-complete (valid-leaf m) e = absurd (let z : _≡_ {A = ℕ} 0 1 = cc in omega arith)
+  null-complete (valid-leaf m) e = absurd (clash cc)
   null-complete (valid-unary {t = t} k m h v) e = null-member m (null-complete v e)
   null-complete (valid-binary {s = s} {t = t} k m h u v) e =
       let p = no-parts (word s) (word t) e in

@@ -6,6 +6,7 @@ use Prim.Native.Nat.{ℕ, zero, suc, _≤_, _<_}
 use native.Mathlib.Omega.{arith}
 use lib.ListN.{length, getElem?, take, drop, length-append, take-append-drop, length-take}
 use lib.Seq.{take-at, drop-at}
+use Rattle.sets.proofs.Basics.{clash}
 use Rattle.grammar.specs.declared.Token.{Token}
 use Rattle.grammar.specs.declared.Rule.{Rule}
 use Rattle.grammar.specs.declared.Clause.{Clause}
@@ -89,7 +90,7 @@ can-choice g p A (Clause.Binary B C m) w k st e =
     }
 
 pub getElem?-lt : (g : Rules) (p : ℕ) {r : Rule} → getElem? g p ≡ some r → p < length g
-getElem?-lt [] p {r} e = absurd (let z : _≡_ {A = ℕ} 0 1 = cc in omega arith)
+getElem?-lt [] p {r} e = absurd (clash cc)
 getElem?-lt (x ∷ g) zero e = omega arith
 getElem?-lt (x ∷ g) (suc p) e = omega (arith, getElem?-lt g p e)
 

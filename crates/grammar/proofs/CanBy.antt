@@ -7,6 +7,7 @@ use native.Mathlib.Omega.{arith}
 use native.Mathlib.Decide.{decLe, ℕ-discrete}
 use lib.ListN.{length, take, drop, length-append}
 use lib.Seq.{take-at, drop-at}
+use Rattle.sets.proofs.Basics.{clash}
 use Rattle.grammar.specs.declared.Token.{Token}
 use Rattle.grammar.specs.declared.Rule.{Rule}
 use Rattle.grammar.specs.declared.Clause.{Clause}
@@ -71,10 +72,10 @@ kids-can D (binary A s t) d r k e =
 
 nil? : (w : Word) → Dec (w ≡ [])
 nil? [] = yes refl
-nil? (t ∷ w) = no (λ e. let z : _≡_ {A = ℕ} 0 1 = cc in omega arith)
+nil? (t ∷ w) = no (λ e. clash cc)
 
 atom? : (a b k : ℕ) (w : Word) → Dec ((t : Token) × (w ≡ t ∷ []) × Covers a b (t .terminal) × (k ≡ 0))
-atom? a b k [] = no (λ h. let e = h .1 in let z : _≡_ {A = ℕ} 0 1 = cc in omega arith)
+atom? a b k [] = no (λ h. let e = h .1 in clash cc)
 atom? a b k (t ∷ []) = go (decLe a (t .terminal)) (decLe (t .terminal) b) (ℕ-discrete k 0)
   where
     of : (t′ : Token) → t ∷ [] ≡ t′ ∷ [] → Covers a b (t′ .terminal) → Covers a b (t .terminal)
@@ -85,7 +86,7 @@ atom? a b k (t ∷ []) = go (decLe a (t .terminal)) (decLe (t .terminal) b) (ℕ
     go (yes d) (yes e) (no f) = no (λ h. f (h .3))
     go (yes d) (no e) f = no (λ h. e (of (h .0) (h .1) (h .2) .high))
     go (no d) e f = no (λ h. d (of (h .0) (h .1) (h .2) .low))
-atom? a b k (t ∷ u ∷ w) = no (λ h. let e = h .1 in let z : _≡_ {A = ℕ} 0 1 = cc in omega arith)
+atom? a b k (t ∷ u ∷ w) = no (λ h. let e = h .1 in clash cc)
 
 both₃? : {A B C : Type 0} → Dec A → Dec B → Dec C → Dec (A × B × C)
 both₃? (yes a) (yes b) (yes c) = yes (a, b, c)

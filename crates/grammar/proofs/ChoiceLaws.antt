@@ -8,6 +8,7 @@ use native.Mathlib.Omega.{arith}
 use native.Mathlib.Decide.{decLt}
 use lib.Seq.{take-at, drop-at}
 use lib.ListN.{length, getElem?, take, drop}
+use Rattle.sets.proofs.Basics.{clash}
 use Rattle.grammar.specs.declared.Token.{Token}
 use Rattle.grammar.specs.declared.UnaryMark.{UnaryMark}
 use Rattle.grammar.specs.declared.BinaryMark.{BinaryMark}
@@ -27,7 +28,7 @@ place-of (List·Memᴰ·head e) = (0, ap some (sym e))
 place-of (List·Memᴰ·tail m) = let w = place-of m in (suc (w .0), w .1)
 
 pub member-at : (g : Rules) (p : ℕ) {r : Rule} → getElem? g p ≡ some r → List·Memᴰ r g
-member-at [] p {r} e = absurd (let z : _≡_ {A = ℕ} 0 1 = cc in omega arith)
+member-at [] p {r} e = absurd (clash cc)
 member-at (x ∷ g) zero {r} e = let h : r ≡ x = cc in List·Memᴰ·head h
 member-at (x ∷ g) (suc p) e = List·Memᴰ·tail (member-at g p e)
 
@@ -90,23 +91,23 @@ module _ (g : Rules) (P Q S : Ask) (same : Decides P Q) where
 
   agree-step : (t u : Tree) → Node g P t → AgreeBeneath g S t → Node g Q u → Beneath g S u → root t ≡ root u → word t ≡ word u → t ≡ u
   agree-step (empty A) (empty B) n i m j e f = cc
-  agree-step (empty A) (leaf B y) n i m j e f = let h = same-rule (empty A) (leaf B y) n m e f in absurd (let z : _≡_ {A = ℕ} 0 1 = cc in omega arith)
-  agree-step (empty A) (unary B v) n i m j e f = let h = same-rule (empty A) (unary B v) n m e f in absurd (let z : _≡_ {A = ℕ} 0 1 = cc in omega arith)
-  agree-step (empty A) (binary B u v) n i m j e f = let h = same-rule (empty A) (binary B u v) n m e f in absurd (let z : _≡_ {A = ℕ} 0 1 = cc in omega arith)
-  agree-step (leaf A x) (empty B) n i m j e f = let h = same-rule (leaf A x) (empty B) n m e f in absurd (let z : _≡_ {A = ℕ} 0 1 = cc in omega arith)
+  agree-step (empty A) (leaf B y) n i m j e f = let h = same-rule (empty A) (leaf B y) n m e f in absurd (clash cc)
+  agree-step (empty A) (unary B v) n i m j e f = let h = same-rule (empty A) (unary B v) n m e f in absurd (clash cc)
+  agree-step (empty A) (binary B u v) n i m j e f = let h = same-rule (empty A) (binary B u v) n m e f in absurd (clash cc)
+  agree-step (leaf A x) (empty B) n i m j e f = let h = same-rule (leaf A x) (empty B) n m e f in absurd (clash cc)
   agree-step (leaf A x) (leaf B y) n i m j e f = cc
-  agree-step (leaf A x) (unary B v) n i m j e f = let h = same-rule (leaf A x) (unary B v) n m e f in absurd (let z : _≡_ {A = ℕ} 0 1 = cc in omega arith)
-  agree-step (leaf A x) (binary B u v) n i m j e f = let h = same-rule (leaf A x) (binary B u v) n m e f in absurd (let z : _≡_ {A = ℕ} 0 1 = cc in omega arith)
-  agree-step (unary A t) (empty B) n i m j e f = let h = same-rule (unary A t) (empty B) n m e f in absurd (let z : _≡_ {A = ℕ} 0 1 = cc in omega arith)
-  agree-step (unary A t) (leaf B y) n i m j e f = let h = same-rule (unary A t) (leaf B y) n m e f in absurd (let z : _≡_ {A = ℕ} 0 1 = cc in omega arith)
+  agree-step (leaf A x) (unary B v) n i m j e f = let h = same-rule (leaf A x) (unary B v) n m e f in absurd (clash cc)
+  agree-step (leaf A x) (binary B u v) n i m j e f = let h = same-rule (leaf A x) (binary B u v) n m e f in absurd (clash cc)
+  agree-step (unary A t) (empty B) n i m j e f = let h = same-rule (unary A t) (empty B) n m e f in absurd (clash cc)
+  agree-step (unary A t) (leaf B y) n i m j e f = let h = same-rule (unary A t) (leaf B y) n m e f in absurd (clash cc)
   agree-step (unary A t) (unary B v) n i m j e f =
       let h = same-rule (unary A t) (unary B v) n m e f in
       let r : root t ≡ root v = cc in
       let ih : t ≡ v = i v j r f in cc
-  agree-step (unary A t) (binary B u v) n i m j e f = let h = same-rule (unary A t) (binary B u v) n m e f in absurd (let z : _≡_ {A = ℕ} 0 1 = cc in omega arith)
-  agree-step (binary A s t) (empty B) n i m j e f = let h = same-rule (binary A s t) (empty B) n m e f in absurd (let z : _≡_ {A = ℕ} 0 1 = cc in omega arith)
-  agree-step (binary A s t) (leaf B y) n i m j e f = let h = same-rule (binary A s t) (leaf B y) n m e f in absurd (let z : _≡_ {A = ℕ} 0 1 = cc in omega arith)
-  agree-step (binary A s t) (unary B v) n i m j e f = let h = same-rule (binary A s t) (unary B v) n m e f in absurd (let z : _≡_ {A = ℕ} 0 1 = cc in omega arith)
+  agree-step (unary A t) (binary B u v) n i m j e f = let h = same-rule (unary A t) (binary B u v) n m e f in absurd (clash cc)
+  agree-step (binary A s t) (empty B) n i m j e f = let h = same-rule (binary A s t) (empty B) n m e f in absurd (clash cc)
+  agree-step (binary A s t) (leaf B y) n i m j e f = let h = same-rule (binary A s t) (leaf B y) n m e f in absurd (clash cc)
+  agree-step (binary A s t) (unary B v) n i m j e f = let h = same-rule (binary A s t) (unary B v) n m e f in absurd (clash cc)
   agree-step (binary A s t) (binary B u v) n i m j e f =
       let h = same-rule (binary A s t) (binary B u v) n m e f in
       let r₁ : root s ≡ root u = cc in

@@ -8,6 +8,7 @@ use native.Mathlib.Omega.{arith}
 use native.Mathlib.Decide.{decLt, ℕ-discrete}
 use lib.ListN.{length, getElem?, take, drop, length-append}
 use lib.Seq.{take-at, drop-at}
+use Rattle.sets.proofs.Basics.{clash}
 use Rattle.grammar.specs.declared.Rule.{Rule}
 use Rattle.grammar.specs.declared.Clause.{Clause}
 use Rattle.grammar.specs.Layout.{Word, Every}
@@ -127,5 +128,5 @@ module _ (g : Rules) where
           (λ x. can-choice g p A (r .clause) w k st (by-can g w (r .clause) k x)) (back r e)
 
       go : (o : Option Rule) → getElem? g p ≡ o → Dec (Choice g A w p k)
-      go none e = no (λ c. let x = choice-can c .1 in let z : _≡_ {A = ℕ} 0 1 = cc in omega arith)
+      go none e = no (λ c. let x = choice-can c .1 in clash cc)
       go (some r) e = named r e (ℕ-discrete (r .left) A)

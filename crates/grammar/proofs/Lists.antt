@@ -10,6 +10,7 @@ use lib.ListN.{take, getElem?, length, getD}
 use mathlib.Core.Option.{some}
 use native.Mathlib.Nat.{not-suc-le-zero, le-of-suc-le-suc}
 use Rattle.sets.proofs.Basics.{clash}
+use Rattle.sets.proofs.Basics.{clash}
 use Rattle.grammar.specs.Layout.{Every}
 
 -- a test with its two lemmas is a decision; what the lemmas say stays shut, so only the test is computed
@@ -86,7 +87,7 @@ module _ {A : Type 0} where
   cons-parts p = (cc, cc)
 
   pub nil≢cons : {a : A} {l : List A} → [] ≡ a ∷ l → ⊥
-  nil≢cons p = let z : _≡_ {A = ℕ} 0 1 = cc in omega arith
+  nil≢cons p = clash cc
 
   abbrev pub list? : Discrete A → (l m : List A) → Dec (l ≡ m)
   list? d [] [] = yes refl

@@ -7,6 +7,7 @@ use Prim.Native.Nat.{ℕ, zero, suc, _+_, _-_, _≤_, _<_, max}
 use native.Mathlib.Omega.{arith}
 use native.Mathlib.Decide.{decLt, ℕ-discrete, map-dec}
 use lib.ListN.{length, getElem?, take, drop, take-append-drop, length-take}
+use Rattle.sets.proofs.Basics.{clash}
 use Rattle.grammar.specs.declared.Rule.{Rule}
 use Rattle.grammar.specs.declared.Clause.{Clause}
 use Rattle.grammar.specs.declared.Clause.the-variants as Clause
@@ -170,7 +171,7 @@ module _ (g : Rules) where
           map-dec (can-gives g h p A (r .clause) w k st) (back r e) (can? (Grown g h) w (r .clause) k (λ B. d B w) (λ B. d B (take k w)) (λ B. d B (drop k w)))
 
       go : (o : Option Rule) → getElem? g p ≡ o → Dec (GivesIn g (suc h) A w p k)
-      go none e = no (λ c. let x = gives-can c .1 in let z : _≡_ {A = ℕ} 0 1 = cc in omega arith)
+      go none e = no (λ c. let x = gives-can c .1 in clash cc)
       go (some r) e = named r e (ℕ-discrete (r .left) A)
 
   of-grown : {h A : ℕ} {w : Word} → Grown g h A w → (p : ℕ) × (k : ℕ) × GivesIn g h A w p k

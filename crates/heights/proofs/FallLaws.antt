@@ -8,6 +8,7 @@ use native.Mathlib.Omega.{arith}
 use native.Mathlib.Decide.{ℕ-discrete, decLt}
 use lib.ListN.{length, getD, set, length-set, List·getD-eq-default}
 use lib.Seq.{getD-set-same, getD-set-other}
+use Rattle.sets.proofs.Basics.{clash}
 use Rattle.sets.proofs.Basics.{lt-or-eq}
 use Rattle.grammar.specs.declared.Rule.{Rule}
 use Rattle.grammar.specs.declared.Clause.{Clause}
@@ -99,7 +100,7 @@ module _ {g : Rules} {v : Leave} {n start len : ℕ} (lefts : Lefts g) where
   -- ---- tries
 
   pub passed-none : {l : List ℕ} (D : ℕ → ℕ → Type 0) → ((i k h : ℕ) → D i k → Tall (table l n) v start len (rule g i .clause) k h → ⊥) → Passed g v n start len D l l false
-  passed-none D f = record { falls = stays; fell = λ e. absurd (let z : _≡_ {A = ℕ} 0 1 = cc in omega arith); same = λ e. refl; tried = λ i k h d t. absurd (f i k h d t) }
+  passed-none D f = record { falls = stays; fell = λ e. absurd (clash cc); same = λ e. refl; tried = λ i k h d t. absurd (f i k h d t) }
 
   pub passed-then : {l m o : List ℕ} {a b r : Bool} (D E F : ℕ → ℕ → Type 0) → Room l n start len
       → Passed g v n start len D l m a → Passed g v n start len E m o b → Either a b r → ((i k : ℕ) → F i k → D i k ⊎ E i k) → Passed g v n start len F l o r
@@ -244,14 +245,14 @@ module _ {v : Leave} {n start len : ℕ} {l : List ℕ} (r : Rule) (small : r .l
           rw here (record {
             falls = put {l = l} 0 (k .0) h (omega arith) (k .3) (omega (arith, z .0, z .1)) (omega (arith, z .0, same)) stays;
             fell = λ f. total-less w 64 small;
-            same = λ f. absurd (let u : _≡_ {A = ℕ} 0 1 = cc in omega arith);
+            same = λ f. absurd (clash cc);
             tried = λ j q c d t. subst (λ (i : ℕ). table (set l (2081 * r .left + pairAt n start len) h) n start len (rule (r ∷ []) i .left) ≤ c) (sym (d .0)) (omega (arith, w .here, lowest j q c d t));
           })
       go false e =
           let z = y .not e in
           rw (z .1) (record {
             falls = stays;
-            fell = λ f. absurd (let u : _≡_ {A = ℕ} 0 1 = cc in omega arith);
+            fell = λ f. absurd (clash cc);
             same = λ f. refl;
             tried = λ j q c d t. subst (λ (i : ℕ). table l n start len (rule (r ∷ []) i .left) ≤ c) (sym (d .0)) (omega (arith, z .0, same, lowest j q c d t));
           })
@@ -280,7 +281,7 @@ module _ {g : Rules} {v : Leave} {n start len : ℕ} (r : Rule) (i : ℕ) (b : i
 pub idle-none : {k : SpanMarks} {n start len : ℕ} {l : List ℕ} (r : Rule) → r .left < 64 → Idle l n (r .clause) → Passed (r ∷ []) (byMarks k len) n start len (Ends len 0) l l false
 idle-none {k} {n} {start} {len} {l} r small x = record {
   falls = stays;
-  fell = λ f. absurd (let u : _≡_ {A = ℕ} 0 1 = cc in omega arith);
+  fell = λ f. absurd (clash cc);
   same = λ f. refl;
   tried = λ j q h d t.
       subst (λ (i : ℕ). table l n start len (rule (r ∷ []) i .left) ≤ h) (sym (d .0))

@@ -5,6 +5,7 @@ use mathlib.Core.List.{List, [], _∷_, _++_, List·Memᴰ, List·Memᴰ·head, 
 use Prim.Native.Nat.{ℕ, zero, suc, _+_, _≤_, _<_}
 use native.Mathlib.Omega.{arith}
 use lib.ListN.{length, length-append}
+use Rattle.sets.proofs.Basics.{clash}
 use Rattle.grammar.proofs.Unmarked.{none-unary, none-binary}
 use Rattle.grammar.specs.declared.Token.{Token}
 use Rattle.grammar.specs.declared.Rule.{Rule}
@@ -52,26 +53,26 @@ unmarked-from (x ∷ g) {r} m = ⊎-elim (λ e. record { rule = x; there = List�
 
 from-empty : {g : Rules} {A : ℕ} (B : ℕ) (k : Clause) → List·Memᴰ (record { left = B; clause = k }) g → A ≡ B → Clause.Empty ≡ unmarkedClause k → HasEmpty g A
 from-empty B Clause.Empty m e f = rw e m
-from-empty B (Clause.Atom a b) m e f = absurd (let z : _≡_ {A = ℕ} 0 1 = cc in omega arith)
-from-empty B (Clause.Unary C n) m e f = absurd (let z : _≡_ {A = ℕ} 0 1 = cc in omega arith)
-from-empty B (Clause.Binary C D n) m e f = absurd (let z : _≡_ {A = ℕ} 0 1 = cc in omega arith)
+from-empty B (Clause.Atom a b) m e f = absurd (clash cc)
+from-empty B (Clause.Unary C n) m e f = absurd (clash cc)
+from-empty B (Clause.Binary C D n) m e f = absurd (clash cc)
 
 from-atom : {g : Rules} {A l h : ℕ} (B : ℕ) (k : Clause) → List·Memᴰ (record { left = B; clause = k }) g → A ≡ B → Clause.Atom l h ≡ unmarkedClause k → List·Memᴰ (record { left = A; clause = Clause.Atom l h }) g
-from-atom B Clause.Empty m e f = absurd (let z : _≡_ {A = ℕ} 0 1 = cc in omega arith)
+from-atom B Clause.Empty m e f = absurd (clash cc)
 from-atom {l = l} {h = h} B (Clause.Atom b c) m e f = let q : l ≡ b = cc in let p : h ≡ c = cc in rw (e, q, p) m
-from-atom B (Clause.Unary C n) m e f = absurd (let z : _≡_ {A = ℕ} 0 1 = cc in omega arith)
-from-atom B (Clause.Binary C D n) m e f = absurd (let z : _≡_ {A = ℕ} 0 1 = cc in omega arith)
+from-atom B (Clause.Unary C n) m e f = absurd (clash cc)
+from-atom B (Clause.Binary C D n) m e f = absurd (clash cc)
 
 from-unary : {g : Rules} {A : ℕ} {C : ℕ} {n : UnaryMark} (B : ℕ) (k : Clause) → List·Memᴰ (record { left = B; clause = k }) g → A ≡ B → Clause.Unary C n ≡ unmarkedClause k → (m : UnaryMark) × HasUnary g A C m
-from-unary B Clause.Empty m e f = absurd (let z : _≡_ {A = ℕ} 0 1 = cc in omega arith)
-from-unary B (Clause.Atom a b) m e f = absurd (let z : _≡_ {A = ℕ} 0 1 = cc in omega arith)
+from-unary B Clause.Empty m e f = absurd (clash cc)
+from-unary B (Clause.Atom a b) m e f = absurd (clash cc)
 from-unary {C = C} B (Clause.Unary D n) m e f = let q : C ≡ D = cc in (n, rw (e, q) m)
-from-unary B (Clause.Binary D E n) m e f = absurd (let z : _≡_ {A = ℕ} 0 1 = cc in omega arith)
+from-unary B (Clause.Binary D E n) m e f = absurd (clash cc)
 
 from-binary : {g : Rules} {A : ℕ} {C D : ℕ} {n : BinaryMark} (B : ℕ) (k : Clause) → List·Memᴰ (record { left = B; clause = k }) g → A ≡ B → Clause.Binary C D n ≡ unmarkedClause k → (m : BinaryMark) × HasBinary g A C D m
-from-binary B Clause.Empty m e f = absurd (let z : _≡_ {A = ℕ} 0 1 = cc in omega arith)
-from-binary B (Clause.Atom a b) m e f = absurd (let z : _≡_ {A = ℕ} 0 1 = cc in omega arith)
-from-binary B (Clause.Unary D n) m e f = absurd (let z : _≡_ {A = ℕ} 0 1 = cc in omega arith)
+from-binary B Clause.Empty m e f = absurd (clash cc)
+from-binary B (Clause.Atom a b) m e f = absurd (clash cc)
+from-binary B (Clause.Unary D n) m e f = absurd (clash cc)
 from-binary {C = C} {D = D} B (Clause.Binary E F n) m e f = let q : C ≡ E = cc in let p : D ≡ F = cc in (n, rw (e, q, p) m)
 
 -- ---- from a tree under them

@@ -10,6 +10,7 @@ use native.Mathlib.Numerals.{add-one}
 use borrow.Author.Tests.{eq-eqb, ne-eqb, le-leb, lt-leb}
 use lib.Seq.{drop-cons, drop-drop}
 use lib.Dec.{leb, eqb}
+use Rattle.sets.proofs.Basics.{clash}
 use Rattle.sets.proofs.Basics.{both, never}
 use Rattle.fields.specs.Words.{isDigit, numeralOf}
 use Rattle.clauses.specs.Clauses as C
@@ -33,7 +34,7 @@ starts-length (x ∷ p) [] e = never e
 starts-length (x ∷ p) (y ∷ s) e = let z = starts-length p s (both (eqb x y) (starts p s) e .1) in omega arith
 
 fits-none : (s : List ℕ) → Fits s none
-fits-none s = record { has = λ x k e. absurd (let z : _≡_ {A = ℕ} 0 1 = cc in omega arith) }
+fits-none s = record { has = λ x k e. absurd (clash cc) }
 
 fits-some : (s : List ℕ) (x : Lex) (k : ℕ) → 1 ≤ k → k ≤ length s → Fits s (some (x, k))
 fits-some s x k p q =
@@ -222,12 +223,12 @@ next-place p s at i = ap (λ (k : ℕ). starts (drop (i + 1) p) (drop k s)) (ste
 
 -- what a number's field answers, taken back
 pub is-number : (o : Option ℕ) (v : ℕ) → asNumber o ≡ Number.Is v → o ≡ some v
-is-number none v e = absurd (let z : _≡_ {A = ℕ} 0 1 = cc in omega arith)
+is-number none v e = absurd (clash cc)
 is-number (some w) v e = let z : w ≡ v = cc in ap some z
 
 pub is-not : (o : Option ℕ) → asNumber o ≡ Number.Not → o ≡ none
 is-not none e = refl
-is-not (some w) e = absurd (let z : _≡_ {A = ℕ} 0 1 = cc in omega arith)
+is-not (some w) e = absurd (clash cc)
 
 pub numbers-low : (o : Option ℕ) (v : ℕ) → o ≡ some v → v ≤ 63 → Numbers o v
 numbers-low o v e h = record { is = λ l. e; isnt = λ l f k. absurd (omega arith) }
@@ -275,7 +276,7 @@ pub record First (s : List ℕ) (at : ℕ) (l : Lexeme) (e : ℕ) (x : Lex) (k :
   pub further : at < e
 
 onto-first : (y x : Lex) (o : Option (List Lex)) (k : List Lex) → ontoLexemes y o ≡ some (x ∷ k) → (y ≡ x) × (o ≡ some k)
-onto-first y x none k e = absurd (let z : _≡_ {A = ℕ} 0 1 = cc in omega arith)
+onto-first y x none k e = absurd (clash cc)
 onto-first y x (some l) k e = let z : _≡_ {A = List Lex} (y ∷ l) (x ∷ k) = cc in (let u : y ≡ x = cc in u, let u : l ≡ k = cc in ap some u)
 
 front-first : (s : List ℕ) (at : ℕ) (y : Lex) (e : ℕ) (x : Lex) (k : List Lex) → Front s at y e → lexemes (drop at s) ≡ some (x ∷ k)
@@ -296,16 +297,16 @@ told-first s at (Lexeme.Star m) e x k f h = front-first s at (suffix (repeats C.
 told-first s at (Lexeme.Marked m) e x k f h = front-first s at (suffix (marks m)) e x k f h
 told-first s at (Lexeme.Join m) e x k f h = front-first s at (join m) e x k f h
 told-first s at Lexeme.End e x k f h =
-    absurd (let z : _≡_ {A = Option (List Lex)} (some []) (some (x ∷ k)) = sym (f .front) ∙ h in let y : _≡_ {A = ℕ} 0 1 = cc in omega arith)
+    absurd (let z : _≡_ {A = Option (List Lex)} (some []) (some (x ∷ k)) = sym (f .front) ∙ h in clash cc)
 told-first s at Lexeme.Not e x k f h =
-    absurd (let z : _≡_ {A = Option (List Lex)} none (some (x ∷ k)) = sym (f .front) ∙ h in let y : _≡_ {A = ℕ} 0 1 = cc in omega arith)
+    absurd (let z : _≡_ {A = Option (List Lex)} none (some (x ∷ k)) = sym (f .front) ∙ h in clash cc)
 
 front-end : {P : Type 0} (s : List ℕ) (at : ℕ) (y : Lex) (e : ℕ) → Front s at y e → lexemes (drop at s) ≡ some [] → P
 front-end {P} s at y e f h = go (lexemes (drop e s)) (sym (f .front) ∙ h)
   where
     go : (q : Option (List Lex)) → ontoLexemes y q ≡ some [] → P
-    go none z = absurd (let u : _≡_ {A = ℕ} 0 1 = cc in omega arith)
-    go (some l) z = absurd (let u : _≡_ {A = ℕ} 0 1 = cc in omega arith)
+    go none z = absurd (clash cc)
+    go (some l) z = absurd (clash cc)
 
 -- where no lexeme is left, the end is told
 pub told-end : (s : List ℕ) (at : ℕ) (l : Lexeme) (e : ℕ) → LexemeTells s at l e → lexemes (drop at s) ≡ some [] → l ≡ Lexeme.End
@@ -320,4 +321,4 @@ told-end s at (Lexeme.Star m) e f h = front-end s at (suffix (repeats C.from-zer
 told-end s at (Lexeme.Marked m) e f h = front-end s at (suffix (marks m)) e f h
 told-end s at (Lexeme.Join m) e f h = front-end s at (join m) e f h
 told-end s at Lexeme.End e f h = refl
-told-end s at Lexeme.Not e f h = absurd (let z : _≡_ {A = Option (List Lex)} none (some []) = sym (f .front) ∙ h in let y : _≡_ {A = ℕ} 0 1 = cc in omega arith)
+told-end s at Lexeme.Not e f h = absurd (let z : _≡_ {A = Option (List Lex)} none (some []) = sym (f .front) ∙ h in clash cc)

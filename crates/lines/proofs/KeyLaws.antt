@@ -6,6 +6,7 @@ use native.Mathlib.Omega.{arith}
 use native.Mathlib.Decide.{decLe}
 use lib.Dec.{eqb, leb}
 use borrow.Author.Tests.{eq-eqb, le-leb, eqb-true, leb-true}
+use Rattle.sets.proofs.Basics.{clash}
 use Rattle.sets.proofs.Basics.{both}
 use Rattle.grammar.specs.declared.Rule.{Rule}
 use Rattle.grammar.specs.declared.Clause.{Clause}
@@ -78,7 +79,7 @@ Forward (Clause.Unary B m) = Unit {0}
 Forward (Clause.Binary B C m) = Unit {0}
 
 never : false ≡ true → ⊥
-never e = let z : _≡_ {A = ℕ} 0 1 = cc in omega arith
+never e = clash cc
 
 key-with : (l m : ℕ) (c d : Clause) → Forward c → Forward d → sameKey (keyWith l c) (keyWith m d) ≡ true → (l ≡ m) × Alike c d
 key-with l m Clause.Empty Clause.Empty h i e = (eqb-true l m (both (eqb l m) true e .0), tt)

@@ -5,6 +5,7 @@ use mathlib.Core.List.{List, _++_}
 use Prim.Native.Nat.{ℕ, _+_, _-_, _≤_, _<_}
 use native.Mathlib.Omega.{arith}
 use lib.ListN.{length, take, replicate, length-append}
+use Rattle.sets.proofs.Basics.{clash}
 use Rattle.printing.specs.Printing.{Wrote}
 use Rattle.lists.specs.declared.Listing.{Listing}
 use Rattle.lists.specs.declared.Listed.{Listed}
@@ -24,7 +25,7 @@ module _ {more : List ℕ} {n : ℕ} {old new : List ℕ} {l : Listing} where
               within = λ z. omega (arith, w .next, p .long);
               count = λ z. omega (arith, p .count f);
               front = λ z. w .front ∙ ap (λ (x : List ℕ). x ++ more) (p .front f);
-              large = λ z. absurd (let y : _≡_ {A = ℕ} 0 1 = cc in omega arith);
+              large = λ z. absurd (clash cc);
             };
       }
 
@@ -37,10 +38,10 @@ put-not {more} {n} {old} {l} b e c h =
       puts = λ {bytes} {m} {lent} p.
           record {
             long = p .long;
-            at = λ z. absurd (let y : _≡_ {A = ℕ} 0 1 = cc in omega arith);
-            within = λ z. absurd (let y : _≡_ {A = ℕ} 0 1 = cc in omega arith);
-            count = λ z. absurd (let y : _≡_ {A = ℕ} 0 1 = cc in omega arith);
-            front = λ z. absurd (let y : _≡_ {A = ℕ} 0 1 = cc in omega arith);
+            at = λ z. absurd (clash cc);
+            within = λ z. absurd (clash cc);
+            count = λ z. absurd (clash cc);
+            front = λ z. absurd (clash cc);
             large = λ z. omega (arith, length-append bytes more, over p b e h);
           };
     }

@@ -9,6 +9,7 @@ use native.Mathlib.Omega.{arith}
 use lib.ListN.{length, getD, getElem?, set, take, drop, length-append, length-drop}
 use lib.Seq.{take-add, take-append-le}
 use lib.Dec.{lit<}
+use Rattle.sets.proofs.Basics.{clash}
 use Rattle.grammar.specs.declared.Rule.{Rule}
 use Rattle.grammar.specs.declared.Clause.{Clause}
 use Rattle.grammar.specs.declared.Clause.the-variants as Clause
@@ -45,8 +46,8 @@ finished (accepted w) g e = go (anyOf isStart w) e
   where
     go : (b : Bool) → cond b (accepted w) (refused 7 0) ≡ accepted g → accepted w ≡ accepted g
     go true e = e
-    go false e = absurd (let z : _≡_ {A = ℕ} 0 1 = cc in omega arith)
-finished (refused f l) g e = absurd (let z : _≡_ {A = ℕ} 0 1 = cc in omega arith)
+    go false e = absurd (clash cc)
+finished (refused f l) g e = absurd (clash cc)
 
 pub sheet-of : (s : List ℕ) (g : Rules) → ruleSheet s ≡ accepted g → Sheet s g
 sheet-of s g e = go (pieces 10 s) refl e
@@ -54,10 +55,10 @@ sheet-of s g e = go (pieces 10 s) refl e
     by-head : (h : List ℕ) (ps : List (List ℕ)) → pieces 10 s ≡ h ∷ ps → (b : Bool) → not (isEmpty ps) && sameBytes h ruleNames ≡ b
         → cond b (rulesFrom ps) (refused 1 1) ≡ accepted g → Sheet s g
     by-head h ps i true k e = record { names = h; lines = ps; are = i; head = k; items = finished (itemsFrom ruleStep [] ps) g e }
-    by-head h ps i false k e = absurd (let z : _≡_ {A = ℕ} 0 1 = cc in omega arith)
+    by-head h ps i false k e = absurd (clash cc)
 
     go : (qs : List (List ℕ)) → pieces 10 s ≡ qs → withNames (refused 1 1) ruleNames qs rulesFrom ≡ accepted g → Sheet s g
-    go [] i e = absurd (let z : _≡_ {A = ℕ} 0 1 = cc in omega arith)
+    go [] i e = absurd (clash cc)
     go (h ∷ ps) i e = by-head h ps i (not (isEmpty ps) && sameBytes h ruleNames) refl e
 
 -- 2. a rule with another lay: its key and its left are kept
@@ -74,7 +75,7 @@ by-good : (r q s : Rule) → RuleLine.Good q ≡ RuleLine.Good s → SameBut r q
 by-good r q s e x = rw (← rule-inj q s e) x
 
 pub unfit-not : (s : Rule) → RuleLine.Unfit ≡ RuleLine.Good s → ⊥
-unfit-not s e = let z : _≡_ {A = ℕ} 0 1 = cc in omega arith
+unfit-not s e = clash cc
 
 module _ (l : ℕ) (s : Rule) where
   plain-but : (c : Clause) (y : Lay) → plainRule l c y ≡ RuleLine.Good s → SameBut (record { left = l; clause = c }) s

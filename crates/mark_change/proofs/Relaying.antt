@@ -8,6 +8,7 @@ use native.Mathlib.Omega.{arith}
 use lib.ListN.{length, take}
 use lib.Dec.{eqb, leb, lit<}
 use borrow.Author.Tests.{eqb-true}
+use Rattle.sets.proofs.Basics.{clash}
 use Rattle.sets.proofs.Says.{true-not-false}
 use Rattle.grammar.specs.declared.Rule.{Rule}
 use Rattle.grammar.specs.declared.Clause.{Clause}
@@ -63,7 +64,7 @@ module _ (b : ℕ) (f : List ℕ) where
       (λ e. either _ _ _ y e (word-free _ w₄)
       (λ e. either _ _ _ y e (word-free _ w₅)
       (λ e. either _ _ none y e (word-free _ w₆)
-      (λ e. absurd (let z : _≡_ {A = ℕ} 0 1 = cc in omega arith)))))))
+      (λ e. absurd (clash cc)))))))
 
 pub lay-no-line : (f : List ℕ) (y : Lay) → layOf f ≡ some y → FreeOf 10 f
 lay-no-line f = lay-free 10 f refl refl refl refl refl refl
@@ -116,7 +117,7 @@ pub record Five (fs : List (List ℕ)) (r : Rule) : Type 0 where
   pub rule : ruleOf left kind first second lay ≡ Good r
 
 form-not-good : (r : Rule) → Form ≡ Good r → ⊥
-form-not-good r e = let z : _≡_ {A = ℕ} 0 1 = cc in omega arith
+form-not-good r e = clash cc
 
 chain : {fs r₀ r₁ r₂ r₃ r₄ : List (List ℕ)} {f₀ f₁ f₂ f₃ f₄ : List ℕ} → fs ≡ f₀ ∷ r₀ → r₀ ≡ f₁ ∷ r₁ → r₁ ≡ f₂ ∷ r₂ → r₂ ≡ f₃ ∷ r₃ → r₃ ≡ f₄ ∷ r₄ → r₄ ≡ []
     → fs ≡ f₀ ∷ f₁ ∷ f₂ ∷ f₃ ∷ f₄ ∷ []
@@ -162,7 +163,7 @@ module _ (l : ℕ) (z : Lay) (r : Rule) where
   says q e = ap (λ (x : Rule). relaid (x .left) (x .clause) z) (good-inj q r e)
 
   never : Unfit ≡ Good r → ⊥
-  never e = let n : _≡_ {A = ℕ} 0 1 = cc in omega arith
+  never e = clash cc
 
   empty-other : (y : Lay) → plainRule l Clause.Empty y ≡ Good r → plainRule l Clause.Empty z ≡ relaid (r .left) (r .clause) z
   empty-other Lay.None e = says _ e
@@ -186,7 +187,7 @@ module _ (l : ℕ) (z : Lay) (r : Rule) where
 
       go : (t : Bool) → leb a b ≡ t → cond t (Good (record { left = l; clause = Clause.Atom a b })) Reversed ≡ Good r → atomRule l a b z ≡ relaid (r .left) (r .clause) z
       go true t e = risen z t ∙ says _ e
-      go false t e = absurd (let n : _≡_ {A = ℕ} 0 1 = cc in omega arith)
+      go false t e = absurd (clash cc)
   atom-other a b Lay.Offside e = absurd (never e)
   atom-other a b Lay.Offalign e = absurd (never e)
   atom-other a b Lay.Single e = absurd (never e)
@@ -222,7 +223,7 @@ module _ (l : ℕ) (z : Lay) (r : Rule) where
   passed false x x′ b n e f = absurd (n e)
 
   range-not : Range ≡ Good r → ⊥
-  range-not e = let n : _≡_ {A = ℕ} 0 1 = cc in omega arith
+  range-not e = clash cc
 
   rule-other : (k : Kind) (a b : Operand) (y : Lay) → ruleOf l k a b y ≡ Good r → ruleOf l k a b z ≡ relaid (r .left) (r .clause) z
   rule-other k a b y e =

@@ -8,6 +8,7 @@ use native.Mathlib.Omega.{arith}
 use lib.ListN.{length, getD, set, length-append}
 use lib.Dec.{leb}
 use borrow.Author.Tests.{lt-leb}
+use Rattle.sets.proofs.Basics.{clash}
 use Rattle.grammar.specs.declared.Rule.{Rule}
 use Rattle.grammar.specs.Trees.{Rules}
 use Rattle.fields.specs.Pieces.{isEmpty}
@@ -85,7 +86,7 @@ rest-same u v (p ∷ ps) w k e =
           whole = r .whole ∙ append-assoc u (t ∷ []) (r .tail);
           reads = rw (← step-same u v k p (not (isEmpty ps)), h) (r .reads ∙ ap accepted (append-assoc v (t ∷ []) (r .tail)));
         }
-    go again (stop f) h e = absurd (let z : _≡_ {A = ℕ} 0 1 = cc in omega arith)
+    go again (stop f) h e = absurd (clash cc)
     go again end h e = record {
       tail = [];
       whole = sym (accepted-inj u w e) ∙ sym (append-nil u);
@@ -96,9 +97,9 @@ rest-same u v (p ∷ ps) w k e =
 
 -- what a whole line says that gives an item
 step-said : (said : Step Rule) (u : Turn) (t : Rule) → stepAt 6 2 said u ≡ next t → said ≡ next t
-step-said said Turn.End t e = absurd (let z : _≡_ {A = ℕ} 0 1 = cc in omega arith)
-step-said said Turn.Many t e = absurd (let z : _≡_ {A = ℕ} 0 1 = cc in omega arith)
-step-said said Turn.Open t e = absurd (let z : _≡_ {A = ℕ} 0 1 = cc in omega arith)
+step-said said Turn.End t e = absurd (clash cc)
+step-said said Turn.Many t e = absurd (clash cc)
+step-said said Turn.Open t e = absurd (clash cc)
 step-said said Turn.Whole t e = e
 
 -- the line is ended, one of 128 at most, and says a rule that is fresh
@@ -118,14 +119,14 @@ gives seen p b t e =
   where
     fresh-of : b ≡ true → length seen < 128 → (r : Rule) → ruleLine p ≡ RuleLine.Good r → (f : Bool) → anyOf (hasKey (keyOf r)) seen ≡ f
         → cond f (stop 5) (next r) ≡ next t → GivesRule seen p b t
-    fresh-of ends few r h true k e = absurd (let z : _≡_ {A = ℕ} 0 1 = cc in omega arith)
+    fresh-of ends few r h true k e = absurd (clash cc)
     fresh-of ends few r h false k e = let j = next-inj r t e in record { ends = ends; few = few; says = h ∙ ap RuleLine.Good j; fresh = rw j at k }
 
     go : b ≡ true → length seen < 128 → (x : RuleLine) → ruleLine p ≡ x → ruleSaid seen x ≡ next t → GivesRule seen p b t
-    go ends few RuleLine.Form h e = absurd (let z : _≡_ {A = ℕ} 0 1 = cc in omega arith)
-    go ends few RuleLine.Range h e = absurd (let z : _≡_ {A = ℕ} 0 1 = cc in omega arith)
-    go ends few RuleLine.Unfit h e = absurd (let z : _≡_ {A = ℕ} 0 1 = cc in omega arith)
-    go ends few RuleLine.Reversed h e = absurd (let z : _≡_ {A = ℕ} 0 1 = cc in omega arith)
+    go ends few RuleLine.Form h e = absurd (clash cc)
+    go ends few RuleLine.Range h e = absurd (clash cc)
+    go ends few RuleLine.Unfit h e = absurd (clash cc)
+    go ends few RuleLine.Reversed h e = absurd (clash cc)
     go ends few (RuleLine.Good r) h e = fresh-of ends few r h (anyOf (hasKey (keyOf r)) seen) refl e
 
 -- 3. one line changed
@@ -203,7 +204,7 @@ items-changed zero seen (p ∷ ps) w e h = go (ruleStep seen p (not (isEmpty ps)
           says = g .says;
           reads = λ line x z k. here seen ps t (g .few) (g .fresh) (r .tail) w e (r .whole) line x z k (not (isEmpty ps)) (g .ends);
         }
-    go (stop f) j e = absurd (let z : _≡_ {A = ℕ} 0 1 = cc in omega arith)
+    go (stop f) j e = absurd (clash cc)
     go end j e = absurd (let k = accepted-inj seen w e in omega (arith, ap length k))
 items-changed (suc n) seen (p ∷ ps) w e h = go (λ t. items-changed n (seen ++ t ∷ []) ps w) (ruleStep seen p (not (isEmpty ps))) refl e
   where
@@ -221,5 +222,5 @@ items-changed (suc n) seen (p ∷ ps) w e h = go (λ t. items-changed n (seen ++
           says = c .says;
           reads = λ line x z k. rw (empty-set ps n line, j) (c .reads line x z k);
         }
-    go again (stop f) j e = absurd (let z : _≡_ {A = ℕ} 0 1 = cc in omega arith)
+    go again (stop f) j e = absurd (clash cc)
     go again end j e = absurd (let k = accepted-inj seen w e in omega (arith, ap length k))

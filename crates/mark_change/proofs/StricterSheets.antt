@@ -7,6 +7,7 @@ use Prim.Native.Nat.{ℕ, _≤_}
 use native.Mathlib.Omega.{arith}
 use lib.ListN.{length, getD}
 use lib.Dec.{leb}
+use Rattle.sets.proofs.Basics.{clash}
 use Rattle.grammar.specs.declared.Rule.{Rule}
 use Rattle.grammar.specs.declared.Clause.{Clause}
 use Rattle.grammar.specs.declared.Clause.the-variants as Clause
@@ -80,7 +81,7 @@ strict-rule l Kind.A a b r q y e f = go (leb a b) e
   where
     go : (t : Bool) → cond t (RuleLine.Good (record { left = l; clause = Clause.Atom a b })) RuleLine.Reversed ≡ RuleLine.Good r → StricterClause (r .clause) (q .clause)
     go true e = let j = rule-inj _ r e in rw (← j) (strict-atom l q a b y (rw (← j) at f))
-    go false e = absurd (let z : _≡_ {A = ℕ} 0 1 = cc in omega arith)
+    go false e = absurd (clash cc)
 strict-rule l Kind.U a b r q y e f = let j = rule-inj _ r e in rw (← j) (strict-unary l q a y (rw (← j) at f))
 strict-rule l Kind.B a b r q y e f = let j = rule-inj _ r e in rw (← j) (strict-binary l q a b y (rw (← j) at f))
 
@@ -110,10 +111,10 @@ module _ (s : List ℕ) (g : Rules) (p : ℕ) (c : ChangedAt s g p) (was : layOf
   ruled = rw (← lay-none) (laid-of (five .left) (five .kind) (five .first) (five .second) (five .lay) (c .rule) (five .rule))
 
   by-line : (y : Lay) (x : RuleLine) → relaid (c .rule .left) (c .rule .clause) y ≡ x → (h : Rules) → outcome (c .front) (c .back) x ≡ accepted h → Stricter g h
-  by-line y RuleLine.Form i h e = absurd (let z : _≡_ {A = ℕ} 0 1 = cc in omega arith)
-  by-line y RuleLine.Range i h e = absurd (let z : _≡_ {A = ℕ} 0 1 = cc in omega arith)
-  by-line y RuleLine.Unfit i h e = absurd (let z : _≡_ {A = ℕ} 0 1 = cc in omega arith)
-  by-line y RuleLine.Reversed i h e = absurd (let z : _≡_ {A = ℕ} 0 1 = cc in omega arith)
+  by-line y RuleLine.Form i h e = absurd (clash cc)
+  by-line y RuleLine.Range i h e = absurd (clash cc)
+  by-line y RuleLine.Unfit i h e = absurd (clash cc)
+  by-line y RuleLine.Reversed i h e = absurd (clash cc)
   by-line y (RuleLine.Good q) i h e =
       let b = relaid-but (c .rule .left) q (c .rule .clause) y i in
       let j = accepted-inj (c .front ++ q ∷ c .back) h e in
@@ -121,7 +122,7 @@ module _ (s : List ℕ) (g : Rules) (p : ℕ) (c : ChangedAt s g p) (was : layOf
 
   by-lay : (lay : List ℕ) (o : Option Lay) → layOf lay ≡ o → (h : Rules) → readChanged s p lay o ≡ accepted h → Stricter g h
   by-lay lay (some y) w h e = by-line y (relaid (c .rule .left) (c .rule .clause) y) refl h (sym (c .reads lay y w) ∙ e)
-  by-lay lay none w h e = absurd (let z : _≡_ {A = ℕ} 0 1 = cc in omega arith)
+  by-lay lay none w h e = absurd (clash cc)
 
 -- THE LEMMA: an accepted sheet, and the same sheet with other bytes in the place of a rule's `none`, accepted too
 module _ (s : List ℕ) (g : Rules) (e : ruleSheet s ≡ accepted g) (p : ℕ) (low : 1 ≤ p) (high : p ≤ length g) (was : layOf (layField s p) ≡ some Lay.None)

@@ -7,6 +7,7 @@ use native.Mathlib.Omega.{arith}
 use native.Mathlib.Decide.{ℕ-discrete}
 use lib.ListN.{length, getD, getElem?, take, set, length-set, length-take}
 use lib.Seq.{getD-take, getD-set-same, getD-set-other}
+use Rattle.sets.proofs.Basics.{clash}
 use Rattle.codes.specs.Codes.{decode, decoded}
 use Rattle.codes.proofs.Laws.{coded-length, coded-at}
 use Rattle.grammar.specs.declared.Rule.{Rule}
@@ -24,7 +25,7 @@ then-rules x y = record { to = λ r m. y .to r (x .to r m); of = λ r m. x .of r
 -- ---- the same rules at other places
 
 pub from-there : (g : Rules) (i : ℕ) (r : Rule) → getElem? g i ≡ some r → (i < length g) × (getD g i no-rule ≡ r)
-from-there [] i r e = absurd (let z : _≡_ {A = ℕ} 0 1 = cc in omega arith)
+from-there [] i r e = absurd (clash cc)
 from-there (x ∷ g) zero r e = (suc-le-suc zero-le, let z : x ≡ r = cc in z)
 from-there (x ∷ g) (suc i) r e = let q = from-there g i r e in (suc-le-suc (q .0), q .1)
 

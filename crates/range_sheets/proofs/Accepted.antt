@@ -7,6 +7,7 @@ use native.Mathlib.Omega.{arith}
 use lib.ListN.{length}
 use lib.Dec.{leb}
 use borrow.Author.Tests.{leb-true, le-leb, lt-leb}
+use Rattle.sets.proofs.Basics.{clash}
 use Rattle.grammar.specs.Layout.{Every}
 use Rattle.grammar.proofs.Lists.{every-append}
 use Rattle.fields.specs.Pieces.{pieces}
@@ -93,15 +94,15 @@ said-ended : (line : List ℕ) (t : RangeToken) → rangeSays [] line ≡ next t
 said-ended line t e = go (rangeLine line) (fields-fine (pieces 32 line)) e
   where
     go : (x : RangeLine) → Fine x → rangeSaid x ≡ next t → Ended t
-    go RangeLine.Form f e = absurd (let z : _≡_ {A = ℕ} 0 1 = cc in omega arith)
-    go RangeLine.Range f e = absurd (let z : _≡_ {A = ℕ} 0 1 = cc in omega arith)
-    go RangeLine.Ends f e = absurd (let z : _≡_ {A = ℕ} 0 1 = cc in omega arith)
+    go RangeLine.Form f e = absurd (clash cc)
+    go RangeLine.Range f e = absurd (clash cc)
+    go RangeLine.Ends f e = absurd (clash cc)
     go (RangeLine.Good r) f e = let j : r ≡ t = cc in subst Ended j f
 
 step-said : (said : Step RangeToken) (x : Turn) (t : RangeToken) → stepAt 14 12 said x ≡ next t → said ≡ next t
-step-said said Turn.End t e = absurd (let z : _≡_ {A = ℕ} 0 1 = cc in omega arith)
-step-said said Turn.Many t e = absurd (let z : _≡_ {A = ℕ} 0 1 = cc in omega arith)
-step-said said Turn.Open t e = absurd (let z : _≡_ {A = ℕ} 0 1 = cc in omega arith)
+step-said said Turn.End t e = absurd (clash cc)
+step-said said Turn.Many t e = absurd (clash cc)
+step-said said Turn.Open t e = absurd (clash cc)
 step-said said Turn.Whole t e = e
 
 pub ranges-ended : (ps : List (List ℕ)) (w : Ranges) → itemsFrom rangeStep [] ps ≡ accepted w → Every Ended w

@@ -6,6 +6,7 @@ use Prim.Native.Nat.{ℕ, _+_, _≤_}
 use native.Mathlib.Omega.{arith}
 use lib.Dec.{leb}
 use lib.ListN.{length}
+use Rattle.sets.proofs.Basics.{clash}
 use Rattle.fields.specs.Pieces.{pieces}
 use Rattle.sheets.specs.Items.{Reading, accepted, refused, itemsFrom, withNames}
 use Rattle.sheets.proofs.Accepted.{items-line}
@@ -18,7 +19,7 @@ counted-line : (x : Reading (List RangeToken)) (n : ℕ) (f : ℕ) (l : ℕ) →
 counted-line (accepted w) n f l h e = go (leb (choiceCount w) choiceLimit) e
   where
     go : (b : Bool) → cond b (accepted w) (refused 49 0) ≡ refused f l → l ≤ n
-    go true e = absurd (let z : _≡_ {A = ℕ} 0 1 = cc in omega arith)
+    go true e = absurd (clash cc)
     go false e = let j : _≡_ {A = ℕ} 0 l = cc in omega arith
 counted-line (refused g m) n f l h e = let j : m ≡ l = cc in omega (arith, h g m refl)
 

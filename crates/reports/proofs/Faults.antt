@@ -7,6 +7,7 @@ use native.Mathlib.Decide.{ℕ-discrete}
 use native.Mathlib.Omega.{arith}
 use lib.Dec.{eqb}
 use borrow.Author.Tests.{eqb-true}
+use Rattle.sets.proofs.Basics.{clash}
 use Rattle.sets.proofs.Basics.{both}
 use Rattle.sheets.specs.declared.Fault.{Fault}
 use Rattle.sheets.specs.declared.Fault.the-variants as Fault
@@ -26,7 +27,7 @@ among n [] = false
 among n (f ∷ fs) = cond (eqb (numberOf f) n) true (among n fs)
 
 among-one : (n : ℕ) (fs : List Fault) → among n fs ≡ true → OfFault n
-among-one n [] e = absurd (let z : _≡_ {A = ℕ} 0 1 = cc in omega arith)
+among-one n [] e = absurd (clash cc)
 among-one n (f ∷ fs) e = go (eqb (numberOf f) n) refl e (λ h. among-one n fs h)
   where
     go : (b : Bool) → eqb (numberOf f) n ≡ b → cond b true (among n fs) ≡ true → (among n fs ≡ true → OfFault n) → OfFault n

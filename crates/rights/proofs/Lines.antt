@@ -8,6 +8,7 @@ use native.Mathlib.Omega.{arith}
 use lib.ListN.{length, length-append}
 use lib.Dec.{leb, ltb}
 use borrow.Author.Tests.{leb-true, ltb-true}
+use Rattle.sets.proofs.Basics.{clash}
 use Rattle.sets.proofs.Says.{true-not-false}
 use Rattle.fields.specs.declared.Cursor.{Cursor}
 use Rattle.fields.specs.Pieces.{pieces, isEmpty}
@@ -83,12 +84,12 @@ gives-right line true r e = (refl, go (rightLine line) (line-ranged line) e)
   where
     go : (x : RightLine) → RangedLine x → next r ≡ rightSaid x → RightRanged r
     go (RightLine.Good q) h e = rw (next-inj r q e) h
-    go RightLine.Bad h e = absurd (let z : _≡_ {A = ℕ} 0 1 = cc in omega arith)
+    go RightLine.Bad h e = absurd (clash cc)
 gives-right line false r e = absurd (go (isEmpty line) e)
   where
     go : (b : Bool) → next r ≡ cond b end (stop 50) → ⊥
-    go true e = let z : _≡_ {A = ℕ} 0 1 = cc in omega arith
-    go false e = let z : _≡_ {A = ℕ} 0 1 = cc in omega arith
+    go true e = clash cc
+    go false e = clash cc
 
 -- 3. the sets after one right more
 

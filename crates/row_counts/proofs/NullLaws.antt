@@ -8,6 +8,7 @@ use native.Mathlib.Omega.{arith}
 use native.Mathlib.Decide.{ℕ-discrete, decLt}
 use lib.ListN.{length, getD, set, replicate, length-set, length-replicate}
 use lib.Seq.{getD-set-same, getD-set-other}
+use Rattle.sets.proofs.Basics.{clash}
 use Rattle.grammar.proofs.Acyclic.{no-parts}
 use Rattle.sets.proofs.Basics.{lt-or-eq}
 use Rattle.grammar.specs.Layout.{Word}
@@ -115,7 +116,7 @@ zeros-set (x ∷ l) (suc i) n h e p = omega (arith, zeros-set l i n (omega arith
 module _ {g : Rules} where
   pub passed-none : {l : List ℕ} (D : ℕ → Type 0) → Sound g l → ((A : ℕ) (t : Tree) → D A → FirstTree g A [] t → KidsKnown l t → 0 < getD l A 0)
       → Passed g D l l false
-  passed-none D s f = record { sound = s; found = λ e. absurd (let z : _≡_ {A = ℕ} 0 1 = cc in omega arith); same = λ e. refl; tried = λ e. f }
+  passed-none D s f = record { sound = s; found = λ e. absurd (clash cc); same = λ e. refl; tried = λ e. f }
 
   pub passed-found : {l : List ℕ} (A n : ℕ) (t : Tree) → Sound g l → A < 64 → getD l A 0 ≡ 0 → 0 < n → FirstTree g A [] t → n ≡ capped (rowCount t)
       → Passed g (λ B. B ≡ A) l (set l A n) true
@@ -123,8 +124,8 @@ module _ {g : Rules} where
       record {
         sound = record { long = length-set l A n ∙ s .long; each = each };
         found = λ x. zeros-set l A n (omega (arith, s .long)) e p;
-        same = λ x. absurd (let z : _≡_ {A = ℕ} 0 1 = cc in omega arith);
-        tried = λ x. absurd (let z : _≡_ {A = ℕ} 0 1 = cc in omega arith);
+        same = λ x. absurd (clash cc);
+        tried = λ x. absurd (clash cc);
       }
     where
       each : (B : ℕ) → 0 < getD (set l A n) B 0 → (u : Tree) × FirstTree g B [] u × (getD (set l A n) B 0 ≡ capped (rowCount u))

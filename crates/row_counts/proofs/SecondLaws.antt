@@ -5,6 +5,7 @@ use mathlib.Core.List.{List, [], _∷_, _++_}
 use Prim.Native.Nat.{ℕ, suc, _+_, _-_, _≤_, _<_}
 use native.Mathlib.Omega.{arith}
 use lib.ListN.{length, length-append}
+use Rattle.sets.proofs.Basics.{clash}
 use Rattle.sets.specs.Sets.{In}
 use Rattle.grammar.specs.declared.Grammar.{Grammar}
 use Rattle.grammar.specs.Layout.{Word}
@@ -86,7 +87,7 @@ unfolding capped
 two-sum x y s r m n o a b c d e = omega arith
 
 pub not-both : {b : Bool} → b ≡ true → b ≡ false → ⊥
-not-both e h = let z : _≡_ {A = ℕ} 0 1 = cc in omega arith
+not-both e h = clash cc
 
 -- ---- between two turns
 
@@ -134,7 +135,7 @@ module _ {g : Grammar} {w : Word} {goal a i l total : ℕ} (f : Formed g) (x : S
 
     aim-first : (m : Bool) → m ≡ false → Aim (rules g) m (kids (x .second) i ++ []) → AllFirst (rules g) (kids (x .second) i ++ [])
     aim-first false e h = h
-    aim-first true e h = absurd (let z : _≡_ {A = ℕ} 0 1 = cc in omega arith)
+    aim-first true e h = absurd (clash cc)
 
     pub here-parted : st .seeking ≡ false → Parted (rules g) w st i l (x .second)
     here-parted e = record { shaped = stepped .0; spelled = word-is; beneath = beneath-of (x .second) (aim-first (st .seeking) e (stepped .1)) }
@@ -147,7 +148,7 @@ module _ {g : Grammar} {w : Word} {goal a i l total : ℕ} (f : Formed g) (x : S
     aim-fork : (m : Bool) → m ≡ true → Aim (rules g) m (kids (x .second) i ++ [])
         → (ts : List Pending) × AllFirst (rules g) ts × Fork (rules g) ts (kids (x .second) i ++ [])
     aim-fork true e h = h
-    aim-fork false e h = absurd (let z : _≡_ {A = ℕ} 0 1 = cc in omega arith)
+    aim-fork false e h = absurd (clash cc)
 
     module _ (seek : st .seeking ≡ true) (ws : List ℕ) (sheet : SpanSheet (rules g) w ws) where
       two-of : {t u : Tree} (s n : ℕ) → s + n ≤ length w → AllPreferred (rules g) t → Second (rules g) t u → word t ≡ part w s n

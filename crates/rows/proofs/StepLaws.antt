@@ -6,6 +6,7 @@ use mathlib.Core.Option.{some}
 use Prim.Native.Nat.{ℕ, zero, suc, _+_, _*_, _-_, _≤_, _<_}
 use native.Mathlib.Omega.{arith}
 use lib.ListN.{length, getD, getElem?, take, drop}
+use Rattle.sets.proofs.Basics.{clash}
 use Rattle.grammar.specs.declared.Rule.{Rule}
 use Rattle.grammar.specs.declared.Clause.{Clause}
 use Rattle.grammar.specs.Rows.{startOf}
@@ -38,7 +39,7 @@ kids-le (suc (suc (suc (suc k)))) h = omega arith
 
 -- an element that is there is what `getD` gives, whatever stands for the missing
 pub getD-of : (l : List Rule) (p : ℕ) (x d : Rule) → getElem? l p ≡ some x → getD l p d ≡ x
-getD-of [] p x d e = absurd (let z : _≡_ {A = ℕ} 0 1 = cc in omega arith)
+getD-of [] p x d e = absurd (clash cc)
 getD-of (y ∷ l) zero x d e = cc
 getD-of (y ∷ l) (suc p) x d e = getD-of l p x d e
 

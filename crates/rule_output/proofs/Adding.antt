@@ -8,6 +8,7 @@ use native.Mathlib.Omega.{arith}
 use native.Mathlib.Numerals.{add-one}
 use lib.ListN.{length, take, set, length-append}
 use lib.Seq.{take-suc-set}
+use Rattle.sets.proofs.Basics.{clash}
 use Rattle.sets.proofs.Basics.{true-or-false}
 use Rattle.grammar.specs.declared.Rule.{Rule}
 use Rattle.grammar.specs.Trees.{Rules}
@@ -15,7 +16,7 @@ use Rattle.rule_output.specs.declared.Emit.{Emit}
 use Rattle.rule_output.specs.Emitting.{listed, Cause, Adds}
 
 never : {P : Type 0} → true ≡ false → P
-never e = absurd (let z : _≡_ {A = ℕ} 0 1 = cc in omega arith)
+never e = absurd (clash cc)
 
 -- over: only the cause is promised
 pub adds-over : {o p : Emit} {new : Rules} {k : ℕ} → p .over ≡ true → Cause o k (length new) → Adds o p new k

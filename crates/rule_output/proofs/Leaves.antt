@@ -3,6 +3,7 @@ use mathlib.Core.Path.{_≡_, refl, sym, _∙_, ap, subst}
 use mathlib.Core.List.{[]}
 use Prim.Native.Nat.{ℕ}
 use native.Mathlib.Omega.{arith}
+use Rattle.sets.proofs.Basics.{clash}
 use Rattle.grammar.specs.declared.BinaryMark.{BinaryMark}
 use Rattle.grammar.specs.Trees.{Rules}
 use Rattle.clauses.specs.Expansion.{A, B}
@@ -17,7 +18,7 @@ pub leaf-other : (l : Lexeme) (end : ℕ) (out : Emit) (b : ℕ) → (sortOf l �
 leaf-other l end out b z = record { at = refl; room = λ u. u; nonterminal = λ a e. absurd (z (ap sortOf e)); terminal = λ a e. absurd (z (ap sortOf e)) }
 
 apart : {P : Type 0} {l : Lexeme} {a b : ℕ} → l ≡ Lexeme.Nonterminal a → l ≡ Lexeme.Terminal b → P
-apart {a = a} {b = b} p q = absurd (let z : Lexeme.Nonterminal a ≡ Lexeme.Terminal b = sym p ∙ q in let y : _≡_ {A = ℕ} 0 1 = cc in omega arith)
+apart {a = a} {b = b} p q = absurd (let z : Lexeme.Nonterminal a ≡ Lexeme.Terminal b = sym p ∙ q in clash cc)
 
 pub leaf-nonterminal : (l : Lexeme) (end : ℕ) (out : Emit) (a : ℕ) → l ≡ Lexeme.Nonterminal a → LeafRead l end out (record { at = end; name = a; out = out })
 leaf-nonterminal l end out a e =

@@ -10,6 +10,7 @@ use lib.ListN.{length, take, getD, getElem?, length-append}
 use lib.Seq.{take-suc}
 use lib.Dec.{ltb, eqb, leb}
 use borrow.Author.Tests.{ltb-true, ltb-false, eqb-true, eqb-false}
+use Rattle.sets.proofs.Basics.{clash}
 use Rattle.sets.specs.Says.{Says}
 use Rattle.sets.proofs.Says.{holds, fails, says-iff, says-leb}
 use Rattle.grammar.specs.declared.Rule.{Rule}
@@ -55,25 +56,25 @@ module _ {A : Type 0} (step : List A → List ℕ → Bool → Step A) where
       go : ((t : A) → Q (seen ++ t ∷ []) → itemsFrom step (seen ++ t ∷ []) ps ≡ accepted w → Q w) → (x : Step A) → step seen p (not (isEmpty ps)) ≡ x
           → onStep seen x (λ t. itemsFrom step (seen ++ t ∷ []) ps) ≡ accepted w → Q w
       go again (next t) h e = again t (keep seen p (not (isEmpty ps)) t h q) e
-      go again (stop f) h e = absurd (let z : _≡_ {A = ℕ} 0 1 = cc in omega arith)
+      go again (stop f) h e = absurd (clash cc)
       go again end h e = let j : seen ≡ w = cc in rw j at q
 
   -- a refusal's line is one of the lines behind the items seen
   pub items-line : (seen : List A) (ps : List (List ℕ)) (f : ℕ) (l : ℕ) → itemsFrom step seen ps ≡ refused f l → l ≤ length seen + 1 + length ps
-  items-line seen [] f l e = absurd (let z : _≡_ {A = ℕ} 0 1 = cc in omega arith)
+  items-line seen [] f l e = absurd (clash cc)
   items-line seen (p ∷ ps) f l e = go (λ t. items-line (seen ++ t ∷ []) ps f l) (step seen p (not (isEmpty ps))) e
     where
       go : ((t : A) → itemsFrom step (seen ++ t ∷ []) ps ≡ refused f l → l ≤ length (seen ++ t ∷ []) + 1 + length ps)
           → (x : Step A) → onStep seen x (λ t. itemsFrom step (seen ++ t ∷ []) ps) ≡ refused f l → l ≤ length seen + 1 + length (p ∷ ps)
       go again (next t) e = omega (arith, again t e, length-append seen (t ∷ []))
       go again (stop g) e = let j : length seen + 2 ≡ l = cc in omega arith
-      go again end e = absurd (let z : _≡_ {A = ℕ} 0 1 = cc in omega arith)
+      go again end e = absurd (clash cc)
 
 -- an item is what a whole line says
 step-said : {A : Type 0} (many form : ℕ) (said : Step A) (u : Turn) (t : A) → stepAt many form said u ≡ next t → said ≡ next t
-step-said many form said Turn.End t e = absurd (let z : _≡_ {A = ℕ} 0 1 = cc in omega arith)
-step-said many form said Turn.Many t e = absurd (let z : _≡_ {A = ℕ} 0 1 = cc in omega arith)
-step-said many form said Turn.Open t e = absurd (let z : _≡_ {A = ℕ} 0 1 = cc in omega arith)
+step-said many form said Turn.End t e = absurd (clash cc)
+step-said many form said Turn.Many t e = absurd (clash cc)
+step-said many form said Turn.Open t e = absurd (clash cc)
 step-said many form said Turn.Whole t e = e
 
 -- at most `most` items
@@ -97,13 +98,13 @@ names-accepted bad names k Q o h (p ∷ ps) w e = go (not (isEmpty ps) && sameBy
 
 -- a refusal accepts nothing
 refused-not : {A : Type 0} {f : ℕ} {l : ℕ} {w : List A} → refused f l ≡ accepted w → ⊥
-refused-not e = let z : _≡_ {A = ℕ} 0 1 = cc in omega arith
+refused-not e = clash cc
 
 -- 1. rules
 
 getElem?-snoc : {A : Type 0} (l : List A) (x : A) (p : ℕ) {y : A} → getElem? (l ++ x ∷ []) p ≡ some y → (getElem? l p ≡ some y) ⊎ ((p ≡ length l) × (x ≡ y))
 getElem?-snoc [] x zero e = inr (refl, cc)
-getElem?-snoc [] x (suc p) {y} e = absurd (let z : _≡_ {A = ℕ} 0 1 = cc in omega arith)
+getElem?-snoc [] x (suc p) {y} e = absurd (clash cc)
 getElem?-snoc (a ∷ l) x zero e = inl e
 getElem?-snoc (a ∷ l) x (suc p) e = ⊎-elim inl (λ h. inr (ap suc (h .0), h .1)) (getElem?-snoc l x p e)
 
@@ -131,7 +132,7 @@ fresh-kept : (seen : Rules) (r t : Rule) → SmallRule r → Kept seen → fresh
 fresh-kept seen r t sm k e = go (anyOf (hasKey (keyOf r)) seen) refl e
   where
     go : (b : Bool) → anyOf (hasKey (keyOf r)) seen ≡ b → cond b (stop 5) (next r) ≡ next t → Kept (seen ++ t ∷ [])
-    go true h e = absurd (let z : _≡_ {A = ℕ} 0 1 = cc in omega arith)
+    go true h e = absurd (clash cc)
     go false h e =
         let j : r ≡ t = cc in
         rw (← j) (record { small = every-append SmallRule seen (r ∷ []) (k .small) (sm, tt); distinct = distinct-snoc seen r (k .distinct) h })
@@ -140,10 +141,10 @@ said-kept : (seen : Rules) (line : List ℕ) (t : Rule) → Kept seen → ruleSa
 said-kept seen line t k e = go (ruleLine line) refl e
   where
     go : (x : RuleLine) → ruleLine line ≡ x → ruleSaid seen x ≡ next t → Kept (seen ++ t ∷ [])
-    go RuleLine.Form h e = absurd (let z : _≡_ {A = ℕ} 0 1 = cc in omega arith)
-    go RuleLine.Range h e = absurd (let z : _≡_ {A = ℕ} 0 1 = cc in omega arith)
-    go RuleLine.Unfit h e = absurd (let z : _≡_ {A = ℕ} 0 1 = cc in omega arith)
-    go RuleLine.Reversed h e = absurd (let z : _≡_ {A = ℕ} 0 1 = cc in omega arith)
+    go RuleLine.Form h e = absurd (clash cc)
+    go RuleLine.Range h e = absurd (clash cc)
+    go RuleLine.Unfit h e = absurd (clash cc)
+    go RuleLine.Reversed h e = absurd (clash cc)
     go (RuleLine.Good r) h e = fresh-kept seen r t (line-small line r h) k e
 
 -- a rule that a line gives is in range
@@ -151,21 +152,21 @@ pub rule-small : (seen : Rules) (line : List ℕ) (u : Turn) (t : Rule) → next
 rule-small seen line u t e = go (ruleLine line) refl (step-said 6 2 (ruleSays seen line) u t (sym e))
   where
     fresh-small : (r : Rule) → SmallRule r → (b : Bool) → cond b (stop 5) (next r) ≡ next t → SmallRule t
-    fresh-small r sm true e = absurd (let z : _≡_ {A = ℕ} 0 1 = cc in omega arith)
+    fresh-small r sm true e = absurd (clash cc)
     fresh-small r sm false e = let j : r ≡ t = cc in rw (← j) sm
 
     go : (x : RuleLine) → ruleLine line ≡ x → ruleSaid seen x ≡ next t → SmallRule t
-    go RuleLine.Form h e = absurd (let z : _≡_ {A = ℕ} 0 1 = cc in omega arith)
-    go RuleLine.Range h e = absurd (let z : _≡_ {A = ℕ} 0 1 = cc in omega arith)
-    go RuleLine.Unfit h e = absurd (let z : _≡_ {A = ℕ} 0 1 = cc in omega arith)
-    go RuleLine.Reversed h e = absurd (let z : _≡_ {A = ℕ} 0 1 = cc in omega arith)
+    go RuleLine.Form h e = absurd (clash cc)
+    go RuleLine.Range h e = absurd (clash cc)
+    go RuleLine.Unfit h e = absurd (clash cc)
+    go RuleLine.Reversed h e = absurd (clash cc)
     go (RuleLine.Good r) h e = fresh-small r (line-small line r h) (anyOf (hasKey (keyOf r)) seen) e
 
 pub rules-kept : (ps : List (List ℕ)) (w : Rules) → itemsFrom ruleStep [] ps ≡ accepted w → Kept w
 rules-kept ps w =
     items-hold ruleStep Kept
     (λ seen p b t e k. said-kept seen p t k (step-said 6 2 (ruleSays seen p) (turnOf 128 (length seen) p b) t e))
-    [] ps w (record { small = tt; distinct = record { one = λ p q r s e. absurd (let z : _≡_ {A = ℕ} 0 1 = cc in omega arith) } })
+    [] ps w (record { small = tt; distinct = record { one = λ p q r s e. absurd (clash cc) } })
 
 -- 2. tokens
 
@@ -213,15 +214,15 @@ order-placed seen u t l r e = go (follows seen u) refl (sym (order-computed seen
     go true h e =
         let j : u ≡ t = cc in
         rw (← j) (record { wide = every-append (λ x. 1 ≤ width x) seen (u ∷ []) (r .wide) (l, tt); rising = rising-snoc seen u (r .rising) h })
-    go false h e = absurd (let z : _≡_ {A = ℕ} 0 1 = cc in omega arith)
+    go false h e = absurd (clash cc)
 
 said-placed : (wide : Bool) (seen : Word) (line : List ℕ) (t : Token) → Placed seen → tokenSays wide seen line ≡ next t → Placed (seen ++ t ∷ [])
 said-placed wide seen line t r e = go (tokenLine wide line) refl e
   where
     go : (x : TokenLine) → tokenLine wide line ≡ x → tokenSaid seen x ≡ next t → Placed (seen ++ t ∷ [])
-    go TokenLine.Form h e = absurd (let z : _≡_ {A = ℕ} 0 1 = cc in omega arith)
-    go TokenLine.Range h e = absurd (let z : _≡_ {A = ℕ} 0 1 = cc in omega arith)
-    go TokenLine.Width h e = absurd (let z : _≡_ {A = ℕ} 0 1 = cc in omega arith)
+    go TokenLine.Form h e = absurd (clash cc)
+    go TokenLine.Range h e = absurd (clash cc)
+    go TokenLine.Width h e = absurd (clash cc)
     go (TokenLine.Good u) h e = order-placed seen u t (line-wide wide line u h) r e
 
 pub tokens-placed : (wide : Bool) (ps : List (List ℕ)) (w : Word) → itemsFrom (tokenStep wide) [] ps ≡ accepted w → Placed w
@@ -269,8 +270,8 @@ finish-kept (accepted v) w e = go (anyOf isStart v) refl e
   where
     go : (b : Bool) → anyOf isStart v ≡ b → cond b (accepted v) (refused 7 0) ≡ accepted w → (accepted v ≡ accepted w) × (anyOf isStart w ≡ true)
     go true h e = let j : v ≡ w = cc in (e, rw j at h)
-    go false h e = absurd (let z : _≡_ {A = ℕ} 0 1 = cc in omega arith)
-finish-kept (refused f l) w e = absurd (let z : _≡_ {A = ℕ} 0 1 = cc in omega arith)
+    go false h e = absurd (clash cc)
+finish-kept (refused f l) w e = absurd (clash cc)
 
 pub rules-good : (s : List ℕ) (w : Rules) → ruleSheet s ≡ accepted w → GoodRules w
 rules-good s w = names-accepted (refused 1 1) ruleNames rulesFrom GoodRules (λ v e. absurd (refused-not e)) lines-good (pieces 10 s) w

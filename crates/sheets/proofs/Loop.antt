@@ -9,6 +9,7 @@ use lib.ListN.{length, take, drop, set, length-set}
 use lib.Seq.{length-take-le, take-suc-set}
 use lib.Dec.{ltb, leb}
 use borrow.Author.Tests.{leb-false, ltb-true}
+use Rattle.sets.proofs.Basics.{clash}
 use Rattle.fields.specs.declared.Cursor.{Cursor}
 use Rattle.fields.specs.Pieces.{isEmpty}
 use Rattle.fields.proofs.Lines.{line-step, line-high, line-low, more-left}
@@ -45,9 +46,9 @@ module _ {A : Type 0} (most : ℕ) (many form : ℕ) where
   next-only n said line false t e = absurd (go (isEmpty line) (leb most n) e)
     where
       go : (a b : Bool) → next t ≡ stepAt many form said (cond a Turn.End (cond b Turn.Many Turn.Open)) → ⊥
-      go true b e = let z : _≡_ {A = ℕ} 0 1 = cc in omega arith
-      go false true e = let z : _≡_ {A = ℕ} 0 1 = cc in omega arith
-      go false false e = let z : _≡_ {A = ℕ} 0 1 = cc in omega arith
+      go true b e = clash cc
+      go false true e = clash cc
+      go false false e = clash cc
 
 -- the loop's invariant: the first n of the array are read, and the rest of the sheet says after them what the sheet says
 pub record Filled {A : Type 0} (most : ℕ) (many form : ℕ) (says : List A → List ℕ → Step A) (s : List ℕ) (start : ℕ) (arr : List A) (n at : ℕ) : Type 0 where

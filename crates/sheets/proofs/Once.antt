@@ -2,6 +2,7 @@
 use mathlib.Core.Path.{_≡_, sym, ap, _∙_}
 use Prim.Native.Nat.{ℕ}
 use native.Mathlib.Omega.{arith}
+use Rattle.sets.proofs.Basics.{clash}
 use Rattle.sheets.specs.declared.Fault.{Fault}
 use Rattle.sheets.specs.Items.{Reading, accepted, refused}
 use Rattle.sheets.specs.Refusals.{numberOf, RefusedAs}
@@ -9,7 +10,7 @@ use Rattle.sheets.proofs.Numbers.{same-fault}
 
 module _ {A : Type 0} {o : Reading A} where
   pub never-both : {n l : ℕ} {x : A} → o ≡ refused n l → o ≡ accepted x → ⊥
-  never-both e d = let z : _≡_ {A = ℕ} 0 1 = cc in omega arith
+  never-both e d = clash cc
 
   pub apart : {f : Fault} {l : ℕ} {x : A} → RefusedAs o f l → o ≡ accepted x → ⊥
   apart r d = never-both (r .is) d

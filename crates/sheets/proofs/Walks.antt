@@ -10,6 +10,7 @@ use lib.Seq.{length-take-le}
 use lib.Dec.{leb}
 use borrow.Author.Tests.{leb-true}
 use denote.Ref.{RefT}
+use Rattle.sets.proofs.Basics.{clash}
 use Rattle.grammar.specs.Trees.{Rules}
 use Rattle.fields.specs.declared.Cursor.{Cursor}
 use Rattle.fields.specs.Pieces.{before, pieces, isEmpty, sameBytes}
@@ -117,7 +118,7 @@ pub finish-line : (x : Reading Rules) (n : ℕ) (f : ℕ) (l : ℕ) → ((g : �
 finish-line (accepted w) n f l h e = go (anyOf isStart w) e
   where
     go : (b : Bool) → cond b (accepted w) (refused 7 0) ≡ refused f l → l ≤ n
-    go true e = absurd (let z : _≡_ {A = ℕ} 0 1 = cc in omega arith)
+    go true e = absurd (clash cc)
     go false e = let j : _≡_ {A = ℕ} 0 l = cc in omega arith
 finish-line (refused g m) n f l h e = let j : m ≡ l = cc in omega (arith, h g m refl)
 

@@ -5,6 +5,7 @@ use mathlib.Core.Option.{Option, none, some}
 use Prim.Native.Nat.{ℕ}
 use native.Mathlib.Omega.{arith}
 use lib.ListN.{take, drop, take-append-drop}
+use Rattle.sets.proofs.Basics.{clash}
 use Rattle.grammar.specs.Sentences.{spelled}
 use Rattle.printing.specs.Printing.{Wrote}
 use Rattle.sheets.specs.Items.{Reading}
@@ -32,7 +33,7 @@ sweep-text-settled (swept l x p) (swept m y q) =
 -- 2. the whole output
 
 pub never-none : {A : Type 0} {o : Option A} {a : A} → o ≡ none → o ≡ some a → ⊥
-never-none e d = let z : _≡_ {A = ℕ} 0 1 = cc in omega arith
+never-none e d = clash cc
 
 pub same-some : {A : Type 0} {o : Option A} {a b : A} → o ≡ some a → o ≡ some b → a ≡ b
 same-some e d = cc

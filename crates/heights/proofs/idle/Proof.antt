@@ -4,6 +4,7 @@ use mathlib.Core.Path.{_≡_, refl, sym, ap, _∙_, subst}
 use Prim.Native.Nat.{ℕ, _+_, _-_, _*_, _≤_, _<_}
 use native.Mathlib.Omega.{arith}
 use mathlib.Core.Bool.{true, false}
+use Rattle.sets.proofs.Basics.{clash}
 use Rattle.grammar.specs.Content.{SmallClause}
 use Rattle.heights.specs.Falls.{Idle}
 use Rattle.heights.proofs.FallLaws.{idle-by}
@@ -35,7 +36,7 @@ shared-slice-read-if1 : tie.Need-shared-slice-read-if1
 shared-slice-read-if1 c = (let s = rw (c .before .before .before .c .given .1) at (c .before .before .before .before .before .before .pre .1) in omega (arith, s .0, c .before .wide .ensures, c .before .before .before .before .before .before .pre .0))
 
 returns : tie.Need-returns
-returns c = λ e. absurd (let z : _≡_ {A = ℕ} 0 1 = cc in omega arith)
+returns c = λ e. absurd (clash cc)
 
 wide-requires-2 : tie.Need-wide-requires-2
 wide-requires-2 c κs = search needs
@@ -50,16 +51,16 @@ shared-slice-read-if2 : tie.Need-shared-slice-read-if2
 shared-slice-read-if2 c = (let s = rw (c .before .before .before .before .before .before .c .given .1) at (c .before .before .before .before .before .before .before .before .before .pre .1) in omega (arith, s .1, c .before .wide2 .ensures, c .before .before .before .before .before .before .before .before .before .pre .0))
 
 returns-2 : tie.Need-returns-2
-returns-2 c = λ e. absurd (let z : _≡_ {A = ℕ} 0 1 = cc in omega arith)
+returns-2 c = λ e. absurd (clash cc)
 
 returns-3 : tie.Need-returns-3
-returns-3 c = λ e. absurd (let z : _≡_ {A = ℕ} 0 1 = cc in omega arith)
+returns-3 c = λ e. absurd (clash cc)
 
 returns-4 : tie.Need-returns-4
-returns-4 c = λ e. absurd (let z : _≡_ {A = ℕ} 0 1 = cc in omega arith)
+returns-4 c = λ e. absurd (clash cc)
 
 returns-5 : tie.Need-returns-5
-returns-5 c = λ e. absurd (let z : _≡_ {A = ℕ} 0 1 = cc in omega arith)
+returns-5 c = λ e. absurd (clash cc)
 
 returns-6 : tie.Need-returns-6
 returns-6 c = λ e.

@@ -4,6 +4,7 @@ use mathlib.Core.Path.{_≡_, refl, sym, ap, _∙_, subst}
 use Prim.Native.Nat.{ℕ, _+_, _-_, _*_, _≤_, _<_}
 use native.Mathlib.Omega.{arith}
 use mathlib.Core.Bool.{true, false}
+use Rattle.sets.proofs.Basics.{clash}
 use Rattle.heights.proofs.put_lower.Statement.{statement}
 use Rattle.heights.proofs.put_lower.Tie as tie
 
@@ -23,10 +24,10 @@ same-length : tie.Need-same-length
 same-length c = search needs
 
 returns : tie.Need-returns
-returns c = record { yes = λ e. (c .if1 .taken, omega (arith, c .before .slice-known .given (c .before .before .args .at)), refl); not = λ e. absurd (let z : _≡_ {A = ℕ} 0 1 = cc in omega arith) }
+returns c = record { yes = λ e. (c .if1 .taken, omega (arith, c .before .slice-known .given (c .before .before .args .at)), refl); not = λ e. absurd (clash cc) }
 
 returns-2 : tie.Need-returns-2
-returns-2 c = record { yes = λ e. absurd (let z : _≡_ {A = ℕ} 0 1 = cc in omega arith); not = λ e. (c .if1 .left, refl) }
+returns-2 c = record { yes = λ e. absurd (clash cc); not = λ e. (c .if1 .left, refl) }
 
 pub put-lower-spec : {M : Type 1} → statement M
 put-lower-spec =

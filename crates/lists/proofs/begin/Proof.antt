@@ -2,6 +2,7 @@
 use mathlib.Core.Path.{_≡_, refl}
 use Prim.Native.Nat.{ℕ}
 use native.Mathlib.Omega.{arith}
+use Rattle.sets.proofs.Basics.{clash}
 use Rattle.lists.proofs.begin.Statement.{statement}
 use Rattle.lists.proofs.begin.Tie as tie
 
@@ -16,7 +17,7 @@ returns c =
             within = λ z. omega arith;
             count = λ z. refl;
             front = λ z. refl;
-            large = λ z. absurd (let y : _≡_ {A = ℕ} 0 1 = cc in omega arith);
+            large = λ z. absurd (clash cc);
           };
     }
 

@@ -5,6 +5,7 @@ use Prim.Native.Nat.{ℕ}
 use native.Mathlib.Omega.{arith}
 use borrow.Author.Needs.{needs}
 use borrow.Author.Tests.{not-true, not-false}
+use Rattle.sets.proofs.Basics.{clash}
 use Rattle.lists.proofs.Putting.{ended-fits, ended-not}
 use Rattle.lists.proofs.finish.Statement.{statement}
 use Rattle.lists.proofs.finish.Tie as tie
@@ -20,7 +21,7 @@ returns c =
     let i = c .before .before .before .before in
     let f = not-true (i .before .before .before .args .l .fits) (i .if1 .taken) in
     let u = c .before .before .unfitting .ensures in
-    rw (u .0) (ended-not false f (λ z. absurd (let y : _≡_ {A = ℕ} 0 1 = cc in omega arith)) (u .1))
+    rw (u .0) (ended-not false f (λ z. absurd (clash cc)) (u .1))
 
 unfitting-requires-2 : tie.Need-unfitting-requires-2
 unfitting-requires-2 c κs = search needs

@@ -6,6 +6,7 @@ use native.Mathlib.Omega.{arith}
 use lib.ListN.{length}
 use borrow.Author.Needs.{needs}
 use borrow.Author.Tests.{not-true, not-false}
+use Rattle.sets.proofs.Basics.{clash}
 use Rattle.lists.proofs.Putting.{put-more, put-not}
 use Rattle.lists.proofs.put.Statement.{statement}
 use Rattle.lists.proofs.put.Tie as tie
@@ -14,7 +15,7 @@ returns : tie.Need-returns
 returns c =
     let s = c .before .before .before .before in
     let f = not-true (s .args .l .fits) (c .if1 .taken) in
-    put-not false f (s .pre .0) (λ z. absurd (let y : _≡_ {A = ℕ} 0 1 = cc in omega arith))
+    put-not false f (s .pre .0) (λ z. absurd (clash cc))
 
 returns-2 : tie.Need-returns-2
 returns-2 c =

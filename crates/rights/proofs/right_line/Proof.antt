@@ -7,6 +7,7 @@ use Prim.Native.Nat.{ℕ, _≤_}
 use native.Mathlib.Omega.{arith}
 use borrow.Author.Needs.{needs}
 use lib.ListN.{length}
+use Rattle.sets.proofs.Basics.{clash}
 use Rattle.fields.specs.declared.Cursor.{Cursor}
 use Rattle.fields.specs.Fields.{onValue}
 use Rattle.lines.proofs.Stages.{number-good, number-bad}
@@ -23,17 +24,17 @@ use Rattle.fields.specs.Cursors.{fieldsLeft}
 -- what the last field was read as
 as-change : (o : Option Bool) → May.Change ≡ asMay o → o ≡ some true
 as-change (some true) e = refl
-as-change (some false) e = absurd (let z : _≡_ {A = ℕ} 0 1 = cc in omega arith)
-as-change none e = absurd (let z : _≡_ {A = ℕ} 0 1 = cc in omega arith)
+as-change (some false) e = absurd (clash cc)
+as-change none e = absurd (clash cc)
 
 as-see : (o : Option Bool) → May.See ≡ asMay o → o ≡ some false
-as-see (some true) e = absurd (let z : _≡_ {A = ℕ} 0 1 = cc in omega arith)
+as-see (some true) e = absurd (clash cc)
 as-see (some false) e = refl
-as-see none e = absurd (let z : _≡_ {A = ℕ} 0 1 = cc in omega arith)
+as-see none e = absurd (clash cc)
 
 as-not : (o : Option Bool) → May.Not ≡ asMay o → o ≡ none
-as-not (some true) e = absurd (let z : _≡_ {A = ℕ} 0 1 = cc in omega arith)
-as-not (some false) e = absurd (let z : _≡_ {A = ℕ} 0 1 = cc in omega arith)
+as-not (some true) e = absurd (clash cc)
+as-not (some false) e = absurd (clash cc)
 as-not none e = refl
 
 by-may : (u l h : ℕ) (fs : List (List ℕ)) (o : Option Bool) → lastOf mayOf fs ≡ o → afterHigh u l h fs ≡ onValue Bad o (rightOf u l h)

@@ -3,11 +3,12 @@ use mathlib.Core.Path.{_≡_}
 use mathlib.Core.Logic.{inl, inr}
 use Prim.Native.Nat.{ℕ, _-_}
 use native.Mathlib.Omega.{arith}
+use Rattle.sets.proofs.Basics.{clash}
 use Rattle.row_counts.proofs.either.Statement.{statement}
 use Rattle.row_counts.proofs.either.Tie as tie
 
 returns : tie.Need-returns
-returns c = record { is = λ e. inl (c .if1 .taken); isnt = λ e. absurd (let z : _≡_ {A = ℕ} 0 1 = cc in omega arith) }
+returns c = record { is = λ e. inl (c .if1 .taken); isnt = λ e. absurd (clash cc) }
 
 returns-2 : tie.Need-returns-2
 returns-2 c = record { is = λ e. inr e; isnt = λ e. (c .if1 .left, e) }

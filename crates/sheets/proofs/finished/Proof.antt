@@ -3,6 +3,7 @@ use borrow.Author.Needs.{needs}
 use mathlib.Core.Path.{_≡_, sym, _∙_}
 use Prim.Native.Nat.{ℕ}
 use native.Mathlib.Omega.{arith}
+use Rattle.sets.proofs.Basics.{clash}
 use Rattle.grammar.specs.Content.{rules}
 use Rattle.sheets.proofs.Accepted.{finish-good, finish-none}
 use Rattle.sheets.proofs.finished.Statement.{statement}
@@ -18,7 +19,7 @@ returns c =
     record {
       is = sym (finish-good (rules (a .args .g)) (sym (h .has-start .ensures) ∙ c .if1 .taken));
       formed = λ e. a .pre .0;
-      emptied = λ f l e. absurd (let z : _≡_ {A = ℕ} 0 1 = cc in omega arith);
+      emptied = λ f l e. absurd (clash cc);
       exact = a .pre .1;
     }
 

@@ -3,6 +3,7 @@ use borrow.Author.Needs.{needs}
 use mathlib.Core.Path.{_≡_, refl}
 use Prim.Native.Nat.{ℕ}
 use native.Mathlib.Omega.{arith}
+use Rattle.sets.proofs.Basics.{clash}
 use Rattle.sheets.proofs.refuse_rules.Statement.{statement}
 use Rattle.sheets.proofs.refuse_rules.Tie as tie
 
@@ -10,7 +11,7 @@ no-lengths-requires : tie.Need-no-lengths-requires
 no-lengths-requires c κs = search needs
 
 returns : tie.Need-returns
-returns c = record { is = refl; formed = λ e. absurd (let z : _≡_ {A = ℕ} 0 1 = cc in omega arith); emptied = λ f l e. refl; exact = c .no-lengths .ensures }
+returns c = record { is = refl; formed = λ e. absurd (clash cc); emptied = λ f l e. refl; exact = c .no-lengths .ensures }
 
 pub refuse-rules-spec : {M : Type 1} → statement M
 refuse-rules-spec = tie.close (tie.spec no-lengths-requires returns)

@@ -6,6 +6,7 @@ use borrow.Author.Needs.{needs}
 use lib.ListN.{length, take}
 use lib.Dec.{ltb, lit≤}
 use mathlib.Core.List.{List}
+use Rattle.sets.proofs.Basics.{clash}
 use Rattle.grammar.specs.declared.Token.{Token}
 use Rattle.lines.specs.declared.Turn.{Turn}
 use Rattle.lines.specs.Turns.{turnOf}
@@ -119,7 +120,7 @@ returns-2 c =
     record {
       is = sym e;
       positioned = λ a. record { few = T .few; whole = count T; rising = tokens-placed (b .wide) (piecesFrom 10 (b .s .now) (b .start)) _ e .rising };
-      emptied = λ f l a. absurd (let z : _≡_ {A = ℕ} 0 1 = cc in omega arith);
+      emptied = λ f l a. absurd (clash cc);
     }
 
 pub tokens-from-spec : {M : Type 1} → statement M
