@@ -1,11 +1,10 @@
 -- What chains reach: what a rule adds is reached, and a set to which no rule adds has all of it. A sheet in which none reaches itself is not cyclic.
-use mathlib.Core.Path.{_≡_, refl, sym, ap, _∙_, subst}
+use mathlib.Core.Path.{_≡_, refl}
 use mathlib.Core.Logic.{_⊎_, inl, inr, ⊎-elim}
-use mathlib.Core.List.{List, [], _∷_, List·Memᴰ}
+use mathlib.Core.List.{List·Memᴰ}
 use Prim.Native.Nat.{ℕ, _+_, _≤_, _<_}
 use native.Mathlib.Omega.{arith}
 use native.Mathlib.Decide.{ℕ-discrete}
-use lib.ListN.{length}
 use Rattle.sets.specs.Sets.{In}
 use Rattle.sets.proofs.Sets.{in-zero}
 use Rattle.grammar.specs.declared.Rule.{Rule}

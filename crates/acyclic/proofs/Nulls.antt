@@ -1,9 +1,7 @@
 -- The nullable nonterminals: what a rule adds is nullable, and a set to which no rule adds has all of them.
-use mathlib.Core.Path.{_≡_, refl, sym, ap, _∙_, subst}
-use mathlib.Core.List.{List, [], _∷_, _++_, List·Memᴰ}
-use Prim.Native.Nat.{ℕ, _+_, _≤_, _<_}
-use native.Mathlib.Omega.{arith}
-use lib.ListN.{length, length-append}
+use mathlib.Core.Path.{_≡_, refl, subst}
+use mathlib.Core.List.{[], List·Memᴰ}
+use Prim.Native.Nat.{ℕ}
 use Rattle.sets.proofs.Basics.{clash}
 use Rattle.grammar.proofs.Acyclic.{no-parts}
 use Rattle.sets.specs.Sets.{In}
@@ -11,10 +9,8 @@ use Rattle.sets.proofs.Sets.{in-zero}
 use Rattle.grammar.specs.declared.Rule.{Rule}
 use Rattle.grammar.specs.declared.Clause.{Clause}
 use Rattle.grammar.specs.declared.Clause.the-variants as Clause
-use Rattle.grammar.specs.Layout.{Word}
 use Rattle.grammar.specs.Trees.{Tree, empty, unary, binary, root, word, Rules, Valid, valid-empty, valid-leaf, valid-unary, valid-binary}
 use Rattle.grammar.specs.Cycles.{Nullable}
-use Rattle.grammar.proofs.ByKind.{no-word}
 use Rattle.acyclic.specs.Exact.{Exactly}
 use Rattle.acyclic.specs.Passes.{Ready, AddsLeft}
 

@@ -1,14 +1,13 @@
 -- The numbers of the arrangements that share their first b cells are a run: from `least` on, `room` of them.
-use mathlib.Core.Path.{_≡_, refl, sym, _∙_, ap, ap₂, subst}
+use mathlib.Core.Path.{_≡_, refl, sym, _∙_, ap, subst}
 use mathlib.Core.List.{List, [], _∷_}
-use Prim.Native.Nat.{ℕ, zero, suc, _+_, _-_, _*_, _%_, _^_, _≤_, _<_}
+use Prim.Native.Nat.{ℕ, zero, suc, _+_, _-_, _*_, _^_, _≤_, _<_}
 use native.Mathlib.Omega.{arith}
-use native.Mathlib.Nat.{mul-zero, mul-comm, mul-assoc, mul-one, one-mul, zero-mul, suc-mul, add-mul, mul-pos, mul-le-mul-left, mul-le-mul-right}
-use native.Mathlib.Numerals.{add-one}
+use native.Mathlib.Nat.{mul-comm, mul-assoc, mul-one, one-mul, zero-mul, suc-mul, add-mul, mul-pos, mul-le-mul-left, mul-le-mul-right}
 use lib.ListN.{length, getD, take, drop, length-take, length-drop}
 use lib.Count.{ones}
 use Rattle.grammar.specs.declared.Cell.{Cell}
-use Rattle.grammar.specs.Candidates.{Ranged, Cells, Candidate, CellBefore, CellsBefore}
+use Rattle.grammar.specs.Candidates.{Cells, Candidate, CellsBefore}
 use Rattle.candidates.specs.Terminals.{Among}
 use Rattle.candidates.specs.Succession.{Shares}
 use Rattle.candidates.specs.Windows.{largestStep}

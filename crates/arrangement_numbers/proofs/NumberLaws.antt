@@ -1,15 +1,14 @@
 -- The numbers of arrangements rise in the sweep's order, are below M, and every number below M is one.
-use mathlib.Core.Path.{_≡_, refl, sym, _∙_, ap, subst}
-use mathlib.Core.List.{List, [], _∷_, _++_}
-use mathlib.Core.Logic.{_⊎_, inl, inr, ⊎-elim}
+use mathlib.Core.Path.{_≡_, refl, _∙_, ap}
+use mathlib.Core.List.{List, [], _∷_}
+use mathlib.Core.Logic.{inl, inr}
 use Prim.Native.Nat.{ℕ, zero, suc, _+_, _-_, _*_, _^_, _/_, _%_, _≤_, _<_}
 use native.Mathlib.Omega.{arith}
-use native.Mathlib.Nat.{div-add-mod', div-lt-iff-lt-mul, mod-lt, mul-zero, mul-comm, mul-assoc, mul-mul-mul-comm, mul-one, pow-zero, pow-suc}
-use native.Mathlib.Decide.{decLt, decLe}
+use native.Mathlib.Nat.{div-add-mod', div-lt-iff-lt-mul, mod-lt, mul-zero, mul-comm, mul-mul-mul-comm, mul-one, pow-zero, pow-suc}
 use lib.ListN.{length}
-use lib.Arith.{digits-lt, digits-div, digits-mod}
+use lib.Arith.{digits-lt}
 use Rattle.grammar.specs.declared.Cell.{Cell}
-use Rattle.grammar.specs.Candidates.{Ranged, Cells, Arrangement, CellBefore, CellsBefore}
+use Rattle.grammar.specs.Candidates.{Ranged, Cells, CellBefore, CellsBefore}
 use Rattle.grammar.specs.Sweeps.{arrangements}
 use Rattle.arrangement_numbers.specs.Numbers.{digit, radix, capacity, numberFrom}
 

@@ -4,7 +4,7 @@ use mathlib.Core.Path.{_≡_, refl, sym, _∙_, ap, subst}
 use mathlib.Core.List.{List}
 use mathlib.Core.Option.{Option, none, some}
 use mathlib.Core.Logic.{_⊎_, inl, inr, ⊎-elim}
-use Prim.Native.Nat.{ℕ, zero, suc, _+_, _-_, _*_, _/_, _%_, _≤_, _<_, min}
+use Prim.Native.Nat.{ℕ, zero, suc, _+_, _*_, _/_, _%_, _≤_, _<_}
 use native.Mathlib.Omega.{arith}
 use native.Mathlib.Nat.{div-add-mod', mod-lt, mod-le, div-le-self, suc-mul, zero-mul, mul-comm, mul-le-mul}
 use native.Mathlib.Decide.{decLt, le-ind}
@@ -15,8 +15,8 @@ use Rattle.grammar.specs.Trees.{Rules, TwoTrees}
 use Rattle.grammar.specs.Candidates.{Terminal, Candidate, Earlier, sentence}
 use Rattle.grammar.specs.Sweeps.{Clear, FirstTwo, terminalCount, terminalsBelow}
 use Rattle.grammar.proofs.SweepLaws.{clear-of, sentence-length, sentence-wide}
-use Rattle.arrangement_numbers.specs.Numbers.{number, numberFrom, capacity}
-use Rattle.arrangement_numbers.specs.Shares.{firstOfShare, total, NoneIn, LowestIn, Reported, Reports}
+use Rattle.arrangement_numbers.specs.Numbers.{number, capacity}
+use Rattle.arrangement_numbers.specs.Shares.{firstOfShare, total, LowestIn, Reports}
 use Rattle.arrangement_numbers.proofs.NumberLaws.{number-lt, number-mono, capacity-all}
 use Rattle.arrangement_numbers.proofs.TerminalPlaces.{place-rising, place-below}
 

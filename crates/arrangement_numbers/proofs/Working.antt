@@ -1,11 +1,10 @@
 -- What the functions work out, step by step: a place, a cell's number, the number of the first cells, and how many share them.
-use mathlib.Core.Path.{_≡_, refl, sym, _∙_, ap, ap₂, subst}
-use mathlib.Core.List.{List, [], _∷_}
+use mathlib.Core.Path.{_≡_, refl, sym, _∙_, ap}
 use Prim.Native.Nat.{ℕ, zero, suc, _+_, _-_, _*_, _%_, _^_, _≤_, _<_}
 use native.Mathlib.Omega.{arith}
-use native.Mathlib.Nat.{mod-lt, mod-eq-of-lt, one-mul, zero-mul, mul-zero, pow-suc, mul-le-mul, mul-one}
+use native.Mathlib.Nat.{mod-lt, mod-eq-of-lt, one-mul, zero-mul, mul-zero, pow-suc, mul-le-mul}
 use native.Mathlib.Numerals.{add-one}
-use lib.ListN.{length, getD, take}
+use lib.ListN.{getD, take}
 use lib.Pow.{pow-pos, pow-lt}
 use lib.Count.{ones, ones-le}
 use Rattle.grammar.specs.declared.Cell.{Cell}
@@ -16,8 +15,8 @@ use Rattle.candidates.specs.Terminals.{Among}
 use Rattle.candidates.specs.Arrays.{cellAt, cells}
 use Rattle.candidates.specs.Windows.{largestStep}
 use Rattle.candidates.proofs.Windows.{cells-size, fits-here}
-use Rattle.arrangement_numbers.specs.Numbers.{digit, radix, capacity, numberFrom}
-use Rattle.arrangement_numbers.specs.Blocks.{placeIn, numberIn, room, least, Few}
+use Rattle.arrangement_numbers.specs.Numbers.{digit, radix, capacity}
+use Rattle.arrangement_numbers.specs.Blocks.{placeIn, numberIn, room, Few}
 use Rattle.grammar.specs.Sweeps.{arrangements}
 use Rattle.arrangement_numbers.proofs.NumberLaws.{capacity-all}
 use Rattle.arrangement_numbers.proofs.BlockLaws.{front-step, step-largest, front-small, room-small}

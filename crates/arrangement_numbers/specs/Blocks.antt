@@ -1,7 +1,6 @@
 -- Numbers over a set of terminals, and the run of numbers that all arrangements with the same first cells have. Only the search needs it.
-use mathlib.Core.Path.{_≡_}
 use mathlib.Core.List.{List}
-use Prim.Native.Nat.{ℕ, zero, suc, _+_, _-_, _*_, _%_, _^_, _≤_, _<_}
+use Prim.Native.Nat.{ℕ, _-_, _*_, _%_, _^_, _≤_}
 use lib.Count.{ones}
 use lib.ListN.{take}
 use Rattle.grammar.specs.declared.Cell.{Cell}

@@ -1,8 +1,8 @@
 // The test at every length for C and Rust: numbers and slices alone.
+use c_words::put_one;
 use call_always::Told;
 use call_always::always;
 use clause_always::clauses_always;
-use c_words::put_one;
 use sheets::fault_number;
 ghost use mathlib.Core.Path.{_≡_};
 ghost use Prim.Native.Nat.{_<_};

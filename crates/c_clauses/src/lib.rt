@@ -1,13 +1,13 @@
 // The calls on clause sheets for C and Rust: numbers and slices alone.
+use c_calls::pack;
+use c_words::put_counts;
+use c_words::put_found;
+use c_words::put_one;
 use call_clauses::expand;
 use call_clauses::refused_line;
 use call_clauses::sweep;
 use call_clauses::trees;
 use call_clauses::verdict;
-use c_calls::pack;
-use c_words::put_counts;
-use c_words::put_found;
-use c_words::put_one;
 ghost use Rattle.sheets.specs.TokenSheets.{tokenSheet};
 ghost use Rattle.sheets.specs.RefusedLines.{heldBy, Hands};
 ghost use Rattle.clause_sheets.specs.ClauseSheets.{clauseSheet};

@@ -1,9 +1,9 @@
 // The call on columns read off a photograph for C and Rust: numbers and slices alone.
+use c_calls::pack;
+use c_words::put_word;
 use call_columns::columns;
 use call_columns::refused_line;
 use column_search::Flags;
-use c_calls::pack;
-use c_words::put_word;
 ghost use mathlib.Core.Path.{_≡_};
 ghost use Rattle.c_words.specs.Words.{AtFront};
 ghost use Rattle.sheets.specs.RuleSheets.{ruleSheet};

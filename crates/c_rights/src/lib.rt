@@ -1,9 +1,9 @@
 // The calls on a shared tour for C and Rust: numbers and slices alone.
-use call_rights::change;
-use call_rights::show;
 use c_calls::pack;
 use c_words::put_counts;
 use c_words::put_one;
+use call_rights::change;
+use call_rights::show;
 ghost use Rattle.c_rights.specs.Tours.{ShowWord, ChangeWord};
 
 // The trees as a user may see them: the verdict's code times 2^32 plus the line's number. The words get the span sheet,

@@ -1,12 +1,11 @@
 // The calls for one share of a sweep and for the merging of reports for C and Rust: numbers and
 // slices alone.
-use call_shares::leads;
-use call_shares::share;
 use c_calls::pack;
 use c_words::put_sentence;
 use c_words::put_word;
+use call_shares::leads;
+use call_shares::share;
 use grammar::Sentence;
-ghost use mathlib.Core.Path.{_≡_};
 ghost use Rattle.c_words.specs.Words.{AtFront, sentenceWords};
 ghost use Rattle.c_shares.specs.Shares.{shareWords, ShareWord};
 ghost use Rattle.c_shares.specs.Merge.{MergeWord};

@@ -1,9 +1,9 @@
 // The calls on one sentence's trees for C and Rust: numbers and slices alone.
-use call_places::places;
-use call_rows::rows;
 use c_calls::pack;
 use c_words::put_counts;
 use c_words::put_one;
+use call_places::places;
+use call_rows::rows;
 use row_counts::RowCount;
 ghost use mathlib.Core.Path.{_≡_};
 ghost use Rattle.c_trees.specs.Places.{PlacesWord};

@@ -1,10 +1,9 @@
 -- The reply on a list that has entries, and the words that end 0.
 use mathlib.Core.Path.{_≡_, refl, sym, ap, _∙_}
 use mathlib.Core.List.{List, _++_}
-use Prim.Native.Nat.{ℕ, zero, suc, _≤_, _<_}
+use Prim.Native.Nat.{ℕ, zero, suc, _≤_}
 use native.Mathlib.Omega.{arith}
-use lib.ListN.{length, take, drop, replicate, length-replicate, getD-replicate, take-append-drop}
-use lib.Seq.{length-take-le, getD-take, ext-getD}
+use lib.ListN.{length, drop, replicate, take-append-drop}
 use Rattle.grammar.specs.Trees.{Rules}
 use Rattle.sheets.specs.Items.{Reading}
 use Rattle.spans.specs.Changes.{Past, Cleared}

@@ -1,10 +1,10 @@
 // Runs the calls on each case of standard input and writes their outputs one after the other. A case is a letter and what it asks for.
 // `c`: an input of the program `calls`. The other letters ask for a call itself, with sheets that no such input can hold: `k` clauses,
 // `s` show, `m` change; `l` is for the refused line of a clause sheet and a token sheet, which the program does not write.
+use call_clauses::refused_line;
 use calling::calls_text;
 use cases::five;
 use cases::next_case;
-use call_clauses::refused_line;
 use clause_text::clauses_text;
 use libc::STDOUT_FILENO;
 use rights_text::change_text;

@@ -1,8 +1,7 @@
 -- A verdict on a clause sheet is a verdict on the readings under its own clauses, and so is a sweep.
-use mathlib.Core.Path.{_≡_, ap, subst}
+use mathlib.Core.Path.{ap, subst}
 use mathlib.Core.List.{List, [], _∷_}
 use Prim.Native.Nat.{ℕ, _+_}
-use native.Mathlib.Omega.{arith}
 use lib.ListN.{length}
 use Rattle.grammar.specs.declared.Cell.{Cell}
 use Rattle.grammar.specs.Layout.{Word, Every}
@@ -10,7 +9,6 @@ use Rattle.grammar.specs.Trees.{Tree, Rules, word, Valid, valid-empty, valid-le
 use Rattle.grammar.specs.Candidates.{Terminal, Cells, Candidate, placed, sentence}
 use Rattle.grammar.proofs.Lists.{every-append}
 use Rattle.grammar.specs.Sweeps.{Clear, FirstTwo}
-use Rattle.sheets.specs.TokenSheets.{tokenSheet}
 use Rattle.clauses.specs.Clauses.{Clauses}
 use Rattle.clauses.specs.Matching.{OneToOne}
 use Rattle.clauses.proofs.Verdicts.{no-reading, one-reading, two-readings, two-trees}

@@ -41,7 +41,6 @@ use Rattle.lines.specs.declared.Turn.{Turn}
 use Rattle.lines.specs.declared.Turn.the-variants as Turn
 use Rattle.lines.proofs.KeyLaws.{Forward, key-alike}
 use Rattle.rule_text.specs.RuleText.{unaryLay, binaryLay, dash, clauseText, ruleText, rulesText}
-use Rattle.sheets.specs.declared.Fault.the-variants as Fault
 use Rattle.sheets.specs.Items.{Step, next, stop, accepted, refused, stepAt, onStep, itemsFrom, withNames}
 use Rattle.sheets.specs.RuleSheets.{hasKey, anyOf, ruleSaid, ruleStep, finish, rulesFrom, ruleNames, ruleSheet}
 use Rattle.sheets.proofs.Accepted.{GoodRules, finish-good}

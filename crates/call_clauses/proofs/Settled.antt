@@ -3,10 +3,7 @@
 use mathlib.Core.Path.{_≡_, sym, _∙_, subst}
 use mathlib.Core.List.{List}
 use Prim.Native.Nat.{ℕ}
-use native.Mathlib.Omega.{arith}
 use lib.ListN.{length}
-use Rattle.grammar.specs.Trees.{Rules}
-use Rattle.sheets.specs.declared.Fault.{Fault}
 use Rattle.sheets.proofs.Once.{apart, same-items, same-refusal}
 use denote.Ref.{RefT}
 use Rattle.sheets.specs.TokenSheets.{tokenSheet}

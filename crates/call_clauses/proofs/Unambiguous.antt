@@ -8,7 +8,7 @@ use Rattle.grammar.specs.declared.UnaryMark.{UnaryMark}
 use Rattle.grammar.specs.declared.UnaryMark.the-variants as UnaryMark
 use Rattle.grammar.specs.declared.BinaryMark.{BinaryMark}
 use Rattle.grammar.proofs.Lists.{cons-parts}
-use Rattle.clauses.specs.Clauses.{item, made, alternatives, AtLeast, Expr, nonterminal, a-part, terminal, group, mark, pair, optional, repeated, only, or}
+use Rattle.clauses.specs.Clauses.{item, made, alternatives, Expr, nonterminal, a-part, terminal, group, mark, pair, optional, repeated, only, or}
 use Rattle.clauses.specs.Text.{Suffix, maybe, repeats, marks, Lex, n, t, opening, closing, bar, suffix, join, Phrase, an-atom, an-item, a-row, one, many, WrittenAs, nonterminal-text, terminal-text, group-text, bare-text, optional-text, repeated-text, marked-text, last-text, then-text, single-text, several-text, only-text, or-text}
 
 cancel : (k : List Lex) {s u : List Lex} → k ++ s ≡ k ++ u → s ≡ u

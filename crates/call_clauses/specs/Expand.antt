@@ -1,6 +1,6 @@
 -- The promise of the call `expand`: the expanded rule sheet as a list of its bytes. 02, request 2.
 use mathlib.Core.Path.{_≡_}
-use mathlib.Core.List.{List, [], _∷_, _++_}
+use mathlib.Core.List.{List, _∷_, _++_}
 use Prim.Native.Nat.{ℕ}
 use lib.ListN.{length}
 use Rattle.grammar.specs.Trees.{Rules}

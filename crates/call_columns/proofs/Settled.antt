@@ -2,7 +2,7 @@
 use mathlib.Core.Path.{_≡_, refl, sym, ap, _∙_}
 use mathlib.Core.Bool.{Bool, true, false}
 use mathlib.Core.List.{List}
-use Prim.Native.Nat.{ℕ, _*_, _≤_, _<_}
+use Prim.Native.Nat.{ℕ}
 use native.Mathlib.Omega.{arith}
 use lib.ListN.{length}
 use denote.Ref.{RefT}
@@ -12,7 +12,6 @@ use Rattle.sheets.proofs.Settled.{SamePart, held-settled}
 use Rattle.range_sheets.specs.RangeSheets.{rangeSheet}
 use Rattle.sets.specs.Says.{Says}
 use Rattle.grammar.specs.Trees.{Rules}
-use Rattle.grammar.specs.SpanSheet.{pairs}
 use Rattle.column_search.specs.declared.Flags.{Flags}
 use Rattle.chart.specs.declared.Verdict.the-variants as Verdict
 use Rattle.column_search.specs.Answers.{FlagsSay}

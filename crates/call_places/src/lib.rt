@@ -1,6 +1,7 @@
 // The public call for places: all nonterminals and words at which the readings of a sentence part (02, request 11).
 use answering::Answer;
 use chart::Verdict;
+use contained_spans::reached;
 use filling::judge;
 use grammar::Grammar;
 use grammar::Sentence;
@@ -8,7 +9,6 @@ use lists::Listed;
 use lists::begin;
 use lists::finish;
 use place_list::list_places;
-use contained_spans::reached;
 use sheets::Fault;
 use sheets::Outcome;
 use sheets::read_rules;

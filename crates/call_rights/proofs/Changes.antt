@@ -6,8 +6,7 @@ use mathlib.Core.List.{List, [], _∷_, _++_}
 use mathlib.Core.Option.{Option, none, some}
 use Prim.Native.Nat.{ℕ, zero, suc, _+_, _-_, _≤_, _<_}
 use native.Mathlib.Omega.{arith}
-use native.Mathlib.Decide.{decLe}
-use lib.ListN.{length, getD, getElem?, take, replicate}
+use lib.ListN.{length, getD, getElem?}
 use Rattle.sets.proofs.Basics.{clash}
 use Rattle.sets.proofs.Says.{true-not-false}
 use Rattle.sets.specs.Says.{Says}
@@ -30,7 +29,7 @@ use Rattle.fields.specs.Answers.{asLay}
 use Rattle.lines.specs.declared.RuleLine.{RuleLine}
 use Rattle.lines.specs.declared.RuleLine.the-variants as RuleLine
 use Rattle.sheets.specs.declared.Fault.the-variants as Fault
-use Rattle.sheets.specs.Items.{Reading, accepted, refused}
+use Rattle.sheets.specs.Items.{accepted, refused}
 use Rattle.sheets.specs.RuleSheets.{ruleSheet}
 use Rattle.tree_view.specs.Shown.{View}
 use Rattle.tree_view.proofs.Members.{member-says}
@@ -43,7 +42,7 @@ use Rattle.answering.specs.declared.Answer.the-variants as Answer
 use Rattle.answering.proofs.ListSettled.{list-on}
 use Rattle.mark_change.proofs.Rereading.{outcome}
 use Rattle.mark_change.proofs.ChangedLaws.{ChangedAt, changed-at}
-use Rattle.call_rights.specs.Change.{changeRefusal, MayRule, ChangeDone, unfit, given, ChangeOn, barred, allowed}
+use Rattle.call_rights.specs.Change.{changeRefusal, MayRule, ChangeDone, unfit, given, ChangeOn, barred}
 use Rattle.call_rights.specs.Inner.{Named}
 use Rattle.tree_view.specs.Members.{member}
 use Rattle.mark_change.specs.Relaid.{relaid, fitsLay}

@@ -13,7 +13,6 @@ use sheets::read_rules;
 use sheets::read_tokens;
 use spans::size;
 ghost use mathlib.Core.Path.{_≡_};
-ghost use Prim.Native.Nat.{_≤_};
 ghost use Rattle.grammar.specs.Content.{rules as rulesOf, Formed, Positioned};
 ghost use Rattle.call_rows.specs.Rows.{rowsRefusal, RowsOn, RowsOf};
 ghost use Rattle.grammar.specs.Sentences.{spelled};

@@ -8,18 +8,17 @@ use native.Mathlib.Omega.{arith}
 use native.Mathlib.Decide.{decLt}
 use lib.ListN.{length, replicate}
 use Rattle.grammar.specs.declared.Cell.{Cell}
-use Rattle.grammar.specs.declared.Sentence.{Sentence}
 use Rattle.grammar.specs.Trees.{Rules, TwoTrees}
 use Rattle.grammar.specs.Candidates.{Terminal, Candidate, Earlier, sentence}
-use Rattle.grammar.specs.Sweeps.{Clear, FirstTwo}
+use Rattle.grammar.specs.Sweeps.{Clear}
 use Rattle.grammar.proofs.SweepLaws.{sentence-length}
 use Rattle.arrangement_numbers.specs.Numbers.{number}
-use Rattle.arrangement_numbers.specs.Shares.{firstOfShare, total, Reports, LowestIn, NoneIn}
+use Rattle.arrangement_numbers.specs.Shares.{firstOfShare, total, Reports}
 use Rattle.arrangement_numbers.proofs.ShareLaws.{number-before, share-of, shares-clear}
 use Rattle.answering.specs.declared.Answer.{Answer}
 use Rattle.answering.specs.declared.Answer.the-variants as Answer
 use Rattle.call_shares.specs.declared.ShareReply.{ShareReply}
-use Rattle.call_shares.specs.Share.{shareReplyOf, shareRefusal, ShareOn, bound, many, racks, beyond, short, clear, two}
+use Rattle.call_shares.specs.Share.{ShareOn, bound, many, racks, beyond, short, clear, two}
 use Rattle.call_shares.specs.Merge.{Refuses, Leads, Ahead, Merged, first-refuses, second-refuses, second, first}
 use Rattle.grammar.specs.Sentences.{no-token}
 use Rattle.call_shares.specs.MergedAll.{MergedAll, Answered, Sweeps, some-refused, all-clear, first-found}

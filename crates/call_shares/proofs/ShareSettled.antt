@@ -1,15 +1,13 @@
 -- The promise of a share settles its whole answer and the lent words.
-use mathlib.Core.Path.{_≡_, refl, sym, ap, _∙_, subst}
-use mathlib.Core.Logic.{_⊎_, inl, inr, ⊎-elim}
-use mathlib.Core.List.{List, []}
-use mathlib.Core.Option.{none, some}
-use Prim.Native.Nat.{ℕ, suc, _*_, _/_, _%_, _≤_, _<_}
+use mathlib.Core.Path.{_≡_, refl, sym, ap, _∙_}
+use mathlib.Core.Logic.{_⊎_, inr, ⊎-elim}
+use mathlib.Core.List.{List}
+use mathlib.Core.Option.{none}
+use Prim.Native.Nat.{ℕ, _/_, _%_, _≤_, _<_}
 use native.Mathlib.Omega.{arith}
-use native.Mathlib.Decide.{decLt}
 use lib.ListN.{length}
 use Rattle.grammar.specs.declared.Cell.{Cell}
 use Rattle.grammar.specs.Trees.{Rules}
-use Rattle.grammar.specs.SpanSheet.{pairs}
 use Rattle.grammar.specs.Candidates.{Terminal, sentence}
 use Rattle.grammar.specs.Content.{SmallRule}
 use Rattle.grammar.proofs.Lists.{mem-every}
@@ -24,10 +22,9 @@ use Rattle.sheets.proofs.Once.{apart, same-items, same-refusal}
 use Rattle.sheets.specs.RuleSheets.{ruleSheet}
 use Rattle.sheets.proofs.Accepted.{rules-good}
 use Rattle.answering.specs.declared.Answer.the-variants as Answer
-use Rattle.answering.specs.Sweep.{sweepLimit}
 use Rattle.sheets.proofs.Numbers.{same-fault}
 use Rattle.call_shares.specs.declared.ShareReply.{ShareReply}
-use Rattle.call_shares.specs.Share.{shareReplyOf, shareRefusal, Length, ShareTaken, ShareOn, bound, many, racks, beyond, short, clear, two, ShareOf, refusing, reading}
+use Rattle.call_shares.specs.Share.{shareReplyOf, shareRefusal, ShareTaken, ShareOn, bound, many, racks, beyond, short, clear, two, ShareOf, refusing, reading}
 
 refusal-same : {f f′ : Fault} {a b ws : List ℕ} {r s : ShareReply} (n : ℕ) → numberOf f ≡ n → numberOf f′ ≡ n → r ≡ shareRefusal f 0 → s ≡ shareRefusal f′ 0 → a ≡ ws → b ≡ ws → (r ≡ s) × (a ≡ b)
 refusal-same {f} {f′} n m o x y h k = (x ∙ ap (λ (z : Fault). shareRefusal z 0) (same-fault f f′ n m o) ∙ sym y, h ∙ sym k)

@@ -1,22 +1,20 @@
 -- The answer of a share, by what is found.
-use mathlib.Core.Path.{_≡_, refl, sym, ap, _∙_, subst}
-use mathlib.Core.List.{List, [], _∷_, _++_}
-use mathlib.Core.Option.{none, some}
-use Prim.Native.Nat.{ℕ, suc, _+_, _-_, _*_, _/_, _%_, _^_, _≤_, _<_}
+use mathlib.Core.Path.{_≡_, sym, ap, _∙_}
+use mathlib.Core.List.{List, _++_}
+use Prim.Native.Nat.{ℕ, suc, _+_, _-_, _/_, _%_, _^_, _<_}
 use native.Mathlib.Omega.{arith}
 use native.Mathlib.Numerals.{add-one}
 use lib.Count.{ones}
 use lib.ListN.{length, replicate}
-use Rattle.grammar.specs.declared.Cell.{Cell}
 use Rattle.grammar.specs.declared.Sentence.{Sentence}
 use Rattle.grammar.specs.Trees.{Rules}
 use Rattle.grammar.specs.Candidates.{sentence}
-use Rattle.grammar.specs.Sweeps.{arrangements, terminalCount}
+use Rattle.grammar.specs.Sweeps.{arrangements}
 use Rattle.grammar.proofs.SweepLaws.{sentence-length}
 use Rattle.candidates.specs.Terminals.{Terminals}
 use Rattle.candidates.proofs.Counting.{counted}
 use Rattle.arrangement_numbers.specs.Numbers.{number}
-use Rattle.arrangement_numbers.specs.Shares.{firstOfShare, total, Reports, Reported}
+use Rattle.arrangement_numbers.specs.Shares.{firstOfShare, total}
 use Rattle.share_search.specs.Sharing.{Shared}
 use Rattle.share_search.specs.Sharing as Of
 use Rattle.answering.specs.declared.Answer.{Answer}

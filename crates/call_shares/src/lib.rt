@@ -1,20 +1,19 @@
 // The public call for one share of a sweep that is divided among racks, and the merging of their reports (02, request 8).
 use answering::Answer;
 use answering::nothing;
+use arrangement_numbers::all_numbers;
+use arrangement_numbers::begins_at;
 use candidates::terminal_count;
 use candidates::terminals;
 use candidates::within_limit;
 use grammar::Grammar;
 use grammar::Sentence;
-use arrangement_numbers::all_numbers;
-use arrangement_numbers::begins_at;
 use share_search::share_rules;
 use sheets::Fault;
 use sheets::Outcome;
 use sheets::read_rules;
 use spans::size;
 ghost use mathlib.Core.Path.{_≡_};
-ghost use Prim.Native.Nat.{_≤_};
 ghost use Rattle.grammar.specs.Content.{rules as rulesOf, Formed};
 ghost use Rattle.sets.specs.Says.{Says};
 ghost use Rattle.call_shares.specs.Merge.{Refuses, Leads, Merged};

@@ -1,5 +1,5 @@
 -- The set of the terminals in a sheet's A rules, rule by rule; what its members are, and its least.
-use mathlib.Core.Path.{_≡_, refl, sym, ap, subst}
+use mathlib.Core.Path.{_≡_, sym, subst}
 use mathlib.Core.Bool.{true}
 use mathlib.Core.Logic.{_⊎_, inl, inr, ⊎-elim, _↔_}
 use mathlib.Core.List.{List, [], _∷_, _++_, List·Memᴰ·not-nil}
@@ -20,7 +20,7 @@ use Rattle.grammar.specs.declared.Clause.{Clause}
 use Rattle.grammar.specs.declared.Clause.the-variants as Clause
 use Rattle.grammar.specs.declared.Grammar.{Grammar}
 use Rattle.grammar.specs.Layout.{Every}
-use Rattle.grammar.specs.Trees.{Rules, Covers}
+use Rattle.grammar.specs.Trees.{Rules}
 use Rattle.grammar.specs.Content.{rules, SmallClause, SmallRule, Formed}
 use Rattle.grammar.specs.Candidates.{Terminal, Cells, Candidate}
 use Rattle.grammar.specs.Sweeps.{isAtom}

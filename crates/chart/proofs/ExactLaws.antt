@@ -9,7 +9,7 @@ use lib.Seq.{take-take}
 use Rattle.sets.specs.Sets.{In}
 use Rattle.grammar.specs.Layout.{Word}
 use Rattle.grammar.specs.Trees.{Rules, Derives, TwoTrees}
-use Rattle.grammar.specs.SpanSheet.{part, pairAt, firstWord, secondWord}
+use Rattle.grammar.specs.SpanSheet.{part, firstWord, secondWord}
 use Rattle.spans.proofs.Places.{pairAt-empty}
 use Rattle.chart.specs.Leaves.{EmptyPair}
 use Rattle.chart.specs.Sheets.{Exact}

@@ -1,36 +1,29 @@
 -- Filling, span by span: a pass keeps what is grounded, a pass that adds nothing settles the span, and settled spans stay so
 -- while other pairs are written.
-use mathlib.Core.Path.{_≡_, refl, sym, ap, _∙_, subst, subst₂}
-use mathlib.Core.Logic.{_⊎_, inl, inr, ⊎-elim}
-use mathlib.Core.Bool.{Bool, true, false}
-use mathlib.Core.List.{List, []}
+use mathlib.Core.Path.{_≡_, refl, sym, ap, _∙_, subst}
+use mathlib.Core.Logic.{inl, inr, ⊎-elim}
+use mathlib.Core.List.{List}
 use Prim.Native.Nat.{ℕ, zero, suc, _+_, _-_, _*_, _≤_, _<_}
 use native.Mathlib.Omega.{arith}
 use native.Mathlib.Nat.{not-suc-le-zero}
-use native.Mathlib.Decide.{ℕ-discrete, decLt}
 use lib.ListN.{length, getD}
 use Rattle.sets.specs.Sets.{In}
-use Rattle.sets.proofs.Sets.{in-zero}
-use Rattle.grammar.specs.declared.Grammar.{Grammar}
 use Rattle.grammar.specs.declared.Clause.{Clause}
 use Rattle.grammar.specs.declared.Clause.the-variants as Clause
-use Rattle.grammar.specs.Layout.{Word}
 use Rattle.grammar.specs.Trees.{Rules, Derives, TwoTrees}
-use Rattle.grammar.specs.Content.{rules, Formed}
 use Rattle.grammar.specs.SpanSheet.{part, pairs, pairAt, firstWord, secondWord}
 use Rattle.marks.specs.declared.SpanMarks.{SpanMarks}
 use Rattle.marks.specs.Half.{Half}
 use Rattle.marks.specs.Marked.{Marked}
-use Rattle.spans.specs.Changes.{Past, Kept, WrotePair}
+use Rattle.spans.specs.Changes.{Kept, WrotePair}
 use Rattle.spans.proofs.Places.{pairAt-same, pairAt-empty}
 use Rattle.tables.specs.Tables.{Table, One, Two, Leave, byTokens, byMarks, Fits, Stand, Again, Below, rule}
 use Rattle.tables.specs.Tables.Again.{apart, below}
 use Rattle.joins.specs.declared.Tally.{Tally}
 use Rattle.joins.specs.Passes.{Inner, by-splits, Saturated, Joins}
-use Rattle.tables.specs.Settled.{Told, Settled, Ground}
-use Rattle.chart.specs.Filling.{Closed, Given, Filled, Grown}
+use Rattle.tables.specs.Settled.{Settled, Ground}
+use Rattle.chart.specs.Filling.{Closed, Given}
 use Rattle.chart.specs.Openness.{anything, Open}
-use Rattle.chart.specs.Sheets.{Exact}
 use Rattle.joins.proofs.PassLaws.{inner-from, passes-from}
 use Rattle.joins.proofs.Coverage.{each-found, again-found}
 use Rattle.tables.proofs.Views.{tokens-marks, stand-view, again-view}

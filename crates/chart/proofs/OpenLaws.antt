@@ -6,7 +6,7 @@ use native.Mathlib.Omega.{arith}
 use native.Mathlib.Decide.{ℕ-discrete}
 use Rattle.grammar.specs.Trees.{Rules}
 use Rattle.marks.specs.Half.{Half}
-use Rattle.tables.specs.Tables.{Table, One, Two, byTokens, Stand, Again}
+use Rattle.tables.specs.Tables.{Table, One, Two, byTokens}
 use Rattle.tables.specs.Settled.{Told, Settled}
 use Rattle.chart.specs.Openness.{anything, Open}
 use Rattle.tables.proofs.Views.{Yields, stand-view, again-view}

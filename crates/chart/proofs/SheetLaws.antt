@@ -1,14 +1,13 @@
 -- The whole span sheet: kept spans are settled, the rows are filled one after the other, and once all spans are settled the
 -- sheet is exact as far as the word is known and misses nothing of the rest.
-use mathlib.Core.Path.{_≡_, refl, sym, ap, _∙_, subst, subst₂}
+use mathlib.Core.Path.{_≡_, refl, sym, _∙_, subst, subst₂}
 use mathlib.Core.Logic.{_⊎_, inl, inr, ⊎-elim, _↔_}
 use mathlib.Core.Bool.{Bool, true, false, not}
-use mathlib.Core.List.{List, [], _∷_}
-use Prim.Native.Nat.{ℕ, zero, suc, _+_, _-_, _*_, _^_, _≤_, _<_, min}
+use mathlib.Core.List.{List}
+use Prim.Native.Nat.{ℕ, _+_, _*_, _≤_, _<_}
 use native.Mathlib.Omega.{arith}
-use native.Mathlib.Nat.{not-suc-le-zero}
 use native.Mathlib.Decide.{decLt, ℕ-discrete}
-use lib.ListN.{length, getD, take, drop}
+use lib.ListN.{length}
 use lib.Seq.{take-all}
 use Rattle.sets.specs.Says.{Says}
 use Rattle.sets.specs.Sets.{In}
@@ -20,14 +19,13 @@ use Rattle.grammar.proofs.Marks.{token?}
 use Rattle.grammar.proofs.VerdictLaws.{none-not-one, none-not-two, one-not-two}
 use Rattle.marks.specs.Half.{Half, Completes, tokenAt}
 use Rattle.marks.proofs.HalfLaws.{completes-self}
-use Rattle.spans.specs.Changes.{Past, Kept}
-use Rattle.spans.proofs.Places.{pairAt-same, pairAt-empty, pairAt-shorter, pairs-closed}
-use Rattle.spans.proofs.ChangeLaws.{past-same, past-then, past-more, kept-past}
+use Rattle.spans.specs.Changes.{Past}
+use Rattle.spans.proofs.Places.{pairAt-same}
 use Rattle.order.specs.Order.{Rearranged}
 use Rattle.order.proofs.Same.{derives-same, two-same, one-same, none-under}
 use Rattle.chart.specs.declared.Verdict.{Verdict}
 use Rattle.chart.specs.declared.Verdict.the-variants as Verdict
-use Rattle.tables.specs.Tables.{Table, One, Two, byTokens, Stand, Again, Room}
+use Rattle.tables.specs.Tables.{One, Two, byTokens, Stand, Again}
 use Rattle.chart.specs.Leaves.{Allows, LeafAt, May}
 use Rattle.tables.specs.Settled.{Told, Settled, Ground}
 use Rattle.chart.specs.Filling.{Closed, Given, Passed, Filled, Grown}

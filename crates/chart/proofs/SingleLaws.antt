@@ -1,16 +1,15 @@
 -- The pairs of the empty word and of single tokens: the tries over them, as over the sheet of a word that has no more.
-use mathlib.Core.Path.{_≡_, refl, sym, ap, _∙_, subst, subst₂}
+use mathlib.Core.Path.{_≡_, refl, sym, subst, subst₂}
 use mathlib.Core.List.{List, [], _∷_}
 use mathlib.Core.Logic.{_↔_, ⊎-elim}
 use Prim.Native.Nat.{ℕ, zero, suc, _+_, _*_, _≤_, _<_}
 use native.Mathlib.Omega.{arith}
 use native.Mathlib.Decide.{decLt, ℕ-discrete}
 use lib.ListN.{length, getD}
-use Rattle.grammar.specs.declared.Token.{Token}
 use Rattle.grammar.specs.Layout.{Word}
 use Rattle.sets.specs.Sets.{In}
 use Rattle.grammar.specs.Trees.{Rules, Derives, TwoTrees}
-use Rattle.grammar.specs.SpanSheet.{pairs, spans, pairAt, firstWord, secondWord}
+use Rattle.grammar.specs.SpanSheet.{pairs, spans, pairAt}
 use Rattle.marks.specs.Half.{Half, tokenAt}
 use Rattle.marks.specs.Marked.{alone}
 use Rattle.marks.proofs.Joining.{carried-first, carried-all, no-tokens}

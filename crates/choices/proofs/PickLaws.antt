@@ -1,21 +1,18 @@
 -- The choices at a span: what stands by the span sheet is grammar's choice, and the search for the next one.
-use mathlib.Core.Path.{_≡_, refl, sym, ap, _∙_, subst, subst₂}
+use mathlib.Core.Path.{_≡_, refl, sym, ap, _∙_, subst}
 use mathlib.Core.Logic.{_⊎_, inl, inr, ⊎-elim}
-use mathlib.Core.List.{List, [], _∷_}
-use mathlib.Core.Option.{some}
+use mathlib.Core.List.{List}
 use Prim.Native.Nat.{ℕ, _+_, _-_, _≤_, _<_}
 use native.Mathlib.Omega.{arith}
-use native.Mathlib.Decide.{decLt, ℕ-discrete}
-use lib.ListN.{length, getElem?, take, drop, length-take, length-drop}
+use native.Mathlib.Decide.{decLt}
+use lib.ListN.{length, take, drop, length-take, length-drop}
 use lib.Seq.{take-take, drop-drop, take-add, drop-at}
-use Rattle.grammar.specs.declared.Token.{Token}
 use Rattle.grammar.specs.declared.Rule.{Rule}
 use Rattle.grammar.specs.declared.Grammar.{Grammar}
 use Rattle.grammar.specs.declared.Clause.{Clause}
 use Rattle.grammar.specs.declared.Clause.the-variants as Clause
 use Rattle.grammar.specs.Layout.{Word}
-use Rattle.grammar.specs.Layout as Mark
-use Rattle.grammar.specs.Trees.{Rules, Derives}
+use Rattle.grammar.specs.Trees.{Rules}
 use Rattle.grammar.specs.Choices.{Choice, FirstChoice, OnlyChoice, OtherChoice, ChoiceBefore, Same}
 use Rattle.grammar.specs.Content.{rules, SmallClause, SmallRule, Formed}
 use Rattle.grammar.specs.SpanSheet.{part, SpanSheet}

@@ -1,5 +1,5 @@
 -- Clear of a clause sheet says that no sequence of tokens has two readings under its own clauses.
-use mathlib.Core.Path.{_≡_, refl, ap, sym, _∙_}
+use mathlib.Core.Path.{_≡_}
 use mathlib.Core.List.{List}
 use Prim.Native.Nat.{ℕ}
 use Rattle.grammar.specs.Trees.{Rules}

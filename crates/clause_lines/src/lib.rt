@@ -2,9 +2,8 @@
 use lexemes::Lexeme;
 use lexemes::lexeme_at;
 ghost use mathlib.Core.Path.{_≡_};
-ghost use Prim.Native.Nat.{_+_, _≤_, _<_};
+ghost use Prim.Native.Nat.{_+_, _<_};
 ghost use mathlib.Core.Bool.{true};
-ghost use lib.ListN.{length};
 ghost use Rattle.clause_lines.specs.ClauseLines.{expression};
 ghost use Rattle.clause_lines.specs.Walks.{isDue, takesRepeat, takesMark, may, stepped, closing, isEnd, checkedOf};
 ghost use Rattle.lexemes.specs.declared.Lexeme.the-variants as Lexeme;

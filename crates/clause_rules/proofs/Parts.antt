@@ -1,10 +1,10 @@
 -- What each reader has written, by how its part is written.
 use mathlib.Core.Path.{_≡_, refl, sym, _∙_, ap, subst}
-use mathlib.Core.Logic.{_⊎_, inl, inr, ⊎-elim}
+use mathlib.Core.Logic.{inl, ⊎-elim}
 use mathlib.Core.Bool.{Bool, true, false}
 use mathlib.Core.List.{List, [], _∷_, _++_, append-assoc}
 use mathlib.Core.Option.{some}
-use Prim.Native.Nat.{ℕ, zero, _+_, _≤_}
+use Prim.Native.Nat.{ℕ, _+_, _≤_}
 use native.Mathlib.Omega.{arith}
 use lib.ListN.{length, length-append}
 use Rattle.sets.proofs.Basics.{clash}
@@ -15,7 +15,7 @@ use Rattle.grammar.specs.declared.UnaryMark.the-variants as UnaryMark
 use Rattle.grammar.specs.Trees.{Rules}
 use Rattle.clauses.specs.Clauses as C
 use Rattle.clauses.specs.Clauses.{item, made, alternatives, Expr, nonterminal, terminal, pair, or}
-use Rattle.clauses.specs.Expansion.{A, U, B, size, name}
+use Rattle.clauses.specs.Expansion.{U, B, size, name}
 use Rattle.clauses.specs.Emission.{emit}
 use Rattle.clauses.specs.Text.{Suffix, maybe, repeats, marks, Lex, n, t, opening, closing, bar, suffix, join, an-atom, an-item, a-row, one, many, WrittenAs, nonterminal-text, terminal-text, group-text, last-text, then-text, single-text, several-text, only-text, or-text}
 use Rattle.clauses.specs.Flat.{closes}

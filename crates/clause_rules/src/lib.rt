@@ -1,5 +1,11 @@
 // The rules of an expression: alternatives, sequence and item readers that call each other while the remaining bytes fall.
 // They are for expressions that are known to be so written; of others they say nothing but that they end.
+use grammar::BinaryMark;
+use grammar::Clause;
+use grammar::Rule;
+use grammar::UnaryMark;
+use lexemes::Lexeme;
+use lexemes::lexeme_at;
 use rule_output::Emit;
 use rule_output::Step;
 use rule_output::fresh;
@@ -7,12 +13,6 @@ use rule_output::leaf;
 use rule_output::opened;
 use rule_output::push;
 use rule_output::tail;
-use grammar::BinaryMark;
-use grammar::Clause;
-use grammar::Rule;
-use grammar::UnaryMark;
-use lexemes::Lexeme;
-use lexemes::lexeme_at;
 ghost use mathlib.Core.Path.{_≡_};
 ghost use Prim.Native.Nat.{_≤_};
 ghost use lib.ListN.{length};

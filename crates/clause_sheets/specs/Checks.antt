@@ -13,7 +13,7 @@ use Rattle.rule_output.specs.declared.Emit.{Emit}
 use Rattle.rule_output.specs.Emitting.{Adds}
 use Rattle.clause_lines.specs.ClauseLines.{ClauseLine, Said, good, unwritten, deep, clauseLine}
 use Rattle.sheets.specs.declared.Outcome.{Outcome}
-use Rattle.sheets.specs.declared.Outcome.the-variants.{Accepted, Refused}
+use Rattle.sheets.specs.declared.Outcome.the-variants.{Accepted}
 use Rattle.sheets.specs.Promises.{readingOf}
 use Rattle.sheets.specs.Items.{Reading, accepted, refused, itemsFrom}
 use Rattle.clause_sheets.specs.declared.LineChecked.{LineChecked}

@@ -15,7 +15,7 @@ use Rattle.clauses.specs.Readings.{left, right, clause}
 use Rattle.clauses.specs.Expansion.{E, A, U, B, size, name, alternativeRules, repeatBegins, exprRules, expandFrom, sizeAll, of, rising, pastAll, expansion}
 use Rattle.clauses.proofs.Bounds.{Under, UnderAll, start, Clash, AllApart}
 use Rattle.grammar.proofs.ChoiceLaws.{member-at}
-use mathlib.Core.Option.{Option, none, some}
+use mathlib.Core.Option.{Option, some}
 use lib.ListN.{getElem?}
 use Rattle.clauses.proofs.Numbers.{owned, choices-left, begins-left}
 use Rattle.clauses.proofs.Lines.{sheet-owned, lines, choices-among, start-from, made-grows, among-range}

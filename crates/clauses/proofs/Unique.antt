@@ -1,7 +1,7 @@
 -- Two readings with the same tree are the same.
 use mathlib.Core.Path.{_≡_, refl, sym, _∙_, ap, subst}
 use mathlib.Core.Logic.{_⊎_, inl, inr, ⊎-elim}
-use Prim.Native.Nat.{ℕ, zero, _+_, _≤_, _<_}
+use Prim.Native.Nat.{ℕ, _+_, _≤_, _<_}
 use native.Mathlib.Omega.{arith}
 use Rattle.grammar.specs.declared.BinaryMark.{BinaryMark}
 use Rattle.grammar.specs.declared.Token.{Token}

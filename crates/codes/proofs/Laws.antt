@@ -10,10 +10,9 @@ use Rattle.grammar.specs.declared.Clause.{Clause}
 use Rattle.grammar.specs.declared.Clause.the-variants as Clause
 use Rattle.grammar.specs.declared.UnaryMark.{UnaryMark}
 use Rattle.grammar.specs.declared.BinaryMark.{BinaryMark}
-use Rattle.grammar.specs.Layout.{Every}
 use Rattle.grammar.specs.Trees.{Rules}
 use Rattle.grammar.specs.Content.{SmallClause, SmallRule}
-use Rattle.grammar.proofs.Lists.{cons-path, cons-parts, every-at}
+use Rattle.grammar.proofs.Lists.{cons-path, cons-parts}
 use Rattle.codes.specs.Codes.{unaryMark, binaryMark, clauseOf, kind, mark, first, second, clause, decode, decoded}
 
 -- ---- the digits of a code

@@ -30,7 +30,6 @@ use Rattle.column_ranges.specs.declared.RangeSentence.{RangeSentence}
 use Rattle.column_ranges.specs.declared.RangeToken.{RangeToken}
 use Rattle.column_ranges.specs.Ranges.{Ranges, Chosen, SomeChoiceGives, columns}
 use Rattle.column_ranges.specs.RangeSentences.{range, rangesOf, Ended, Spread}
-use Rattle.column_ranges.proofs.Counting.{range-read, ended-at}
 use Rattle.narrowing.specs.Narrowing.{lowest, Singles, MayRise, fixedAt, Narrows}
 use Rattle.range_marks.specs.RangeMarks.{exchangedAll}
 use Rattle.range_charts.specs.RangeCharts.{SpanSolved, Small, Solves, Leaved}

@@ -1,13 +1,13 @@
 // Which nonterminals some whole valid tree contains over which word, read off the span sheet: one word a span, the longest spans first.
+use choices::clause_fits;
+use choices::last_left;
+use choices::list_rules;
 use grammar::Clause;
 use grammar::Grammar;
 use grammar::Sentence;
 use marks::Draft;
 use marks::SpanMarks;
 use marks::span_marks;
-use choices::clause_fits;
-use choices::last_left;
-use choices::list_rules;
 use sets::Member;
 use sets::with;
 use spans::clear;

@@ -1,6 +1,6 @@
 -- A terminal that a smaller one replaces can be renamed to that one: what had two trees still has, and it does not come later.
 use mathlib.Core.Path.{_≡_, refl, sym, ap, _∙_, subst}
-use mathlib.Core.Logic.{_⊎_, inl, inr, ⊎-elim, _↔_}
+use mathlib.Core.Logic.{inl, inr, ⊎-elim}
 use mathlib.Core.List.{List, [], _∷_, map}
 use Prim.Native.Nat.{ℕ, suc, _+_, _≤_, _<_}
 use native.Mathlib.Omega.{arith}
@@ -11,7 +11,7 @@ use Rattle.sets.proofs.Sets.{in-dec}
 use Rattle.grammar.specs.declared.Token.{Token}
 use Rattle.grammar.specs.declared.Cell.{Cell}
 use Rattle.grammar.specs.Layout.{Word, Every}
-use Rattle.grammar.specs.Trees.{Rules, TwoTrees, HasAtom}
+use Rattle.grammar.specs.Trees.{Rules, TwoTrees}
 use Rattle.grammar.specs.Candidates.{Candidate, CellsBefore, CellBefore, placed, sentence}
 use Rattle.grammar.proofs.Transfer.{Alike, two-keeps}
 use Rattle.candidates.specs.Terminals.{Among}

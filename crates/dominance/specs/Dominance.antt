@@ -1,5 +1,4 @@
 -- Which terminals of a set the sweep must try: those that no smaller one replaces.
-use mathlib.Core.Path.{_≡_}
 use mathlib.Core.Bool.{cond}
 use mathlib.Core.Logic.{_↔_}
 use Prim.Native.Nat.{ℕ, _≤_, _<_}

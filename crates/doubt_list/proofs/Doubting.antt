@@ -1,21 +1,19 @@
 -- What the bits and the sets say of doubts, and how large a doubt's numbers are.
 use mathlib.Core.Path.{_≡_, refl, sym, ap, _∙_, subst}
-use mathlib.Core.Logic.{_⊎_, inl, inr}
 use mathlib.Core.List.{List, []}
 use mathlib.Core.Option.{some}
 use mathlib.Core.Bool.{Bool}
 use Prim.Native.Nat.{ℕ, _≤_, _<_}
 use native.Mathlib.Omega.{arith}
-use lib.ListN.{length, getElem?}
+use lib.ListN.{getElem?}
 use Rattle.sets.proofs.Basics.{clash}
-use Rattle.sets.specs.Sets.{In}
 use Rattle.sets.specs.Says.{Says}
 use Rattle.sets.proofs.Says.{says-iff}
 use Rattle.grammar.specs.declared.Rule.{Rule}
 use Rattle.grammar.specs.declared.Clause.{Clause}
 use Rattle.grammar.specs.declared.Clause.the-variants as Clause
 use Rattle.grammar.specs.declared.Grammar.{Grammar}
-use Rattle.grammar.specs.Content.{rules, SmallRule, Formed}
+use Rattle.grammar.specs.Content.{rules, Formed}
 use Rattle.grammar.specs.Trees.{Rules}
 use Rattle.grammar.specs.Cycles.{Nullable}
 use Rattle.grammar.specs.Choices.{Choice}
@@ -26,10 +24,10 @@ use Rattle.acyclic.proofs.Growth.{small-at}
 use Rattle.pairs.specs.Shapes.{Shape, Form, HasForm, tips, units, twos, firsts, seconds, ruleOfShape}
 use Rattle.pairs.specs.Shapes.{Head}
 use Rattle.pairs.specs.Settings.{Setting, FitIn}
-use Rattle.pairs.specs.Facts.{Fact, stand, Might, two-nodes}
+use Rattle.pairs.specs.Facts.{stand, Might, two-nodes}
 use Rattle.pairs.specs.Doubts.{Seen, TwoNodes, Why, two-rules, two-cuts, two-empty, Doubt, Doubted}
 use Rattle.pairs.specs.Doubts.{DoubtBy}
-use Rattle.doubt_list.specs.Marks.{Bit, Together, Marked, RuleOf, EmptyTwice}
+use Rattle.doubt_list.specs.Marks.{Bit, Marked, RuleOf, EmptyTwice}
 use Rattle.doubt_list.specs.Steps.{doubt}
 
 -- ---- rules of nodes

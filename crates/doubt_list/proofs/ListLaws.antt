@@ -1,9 +1,9 @@
 -- The list while it is written, from one number to the next.
-use mathlib.Core.Path.{_≡_, refl, sym, ap, _∙_, subst, subst₂}
-use mathlib.Core.Logic.{_⊎_, inl, inr, ⊎-elim}
+use mathlib.Core.Path.{_≡_, refl, sym, _∙_, subst, subst₂}
+use mathlib.Core.Logic.{inl, inr}
 use mathlib.Core.List.{List, [], _∷_, _++_, List·Memᴰ, List·Memᴰ·head, List·Memᴰ·tail}
 use mathlib.Core.Bool.{Bool, true, false}
-use Prim.Native.Nat.{ℕ, suc, _+_, _≤_, _<_}
+use Prim.Native.Nat.{ℕ, suc, _≤_, _<_}
 use native.Mathlib.Omega.{arith}
 use native.Mathlib.Decide.{decLt}
 use lib.ListN.{length, length-append}
@@ -11,7 +11,6 @@ use Rattle.sets.specs.Says.{Says}
 use Rattle.grammar.specs.declared.Grammar.{Grammar}
 use Rattle.grammar.specs.Layout.{Every}
 use Rattle.grammar.specs.Content.{rules, Formed}
-use Rattle.grammar.specs.Trees.{Rules}
 use Rattle.grammar.proofs.Lists.{every-append}
 use Rattle.lists.specs.declared.Listing.{Listing}
 use Rattle.lists.specs.Putting.{Puts, PutMore, Begun}
@@ -20,7 +19,7 @@ use Rattle.pairs.specs.Doubts.{Why, two-rules, two-cuts, two-empty, Doubt, Doub
 use Rattle.pairs.specs.Doubts.{DoubtBefore, DoubtsInOrder, AllDoubts}
 use Rattle.doubt_list.specs.Entries.{doubtBytes}
 use Rattle.doubt_list.specs.Steps.{at, doubtNumber, ListedTo, Lists, PutIf}
-use Rattle.doubt_list.proofs.Doubting.{Small, OfRules, doubt-rules}
+use Rattle.doubt_list.proofs.Doubting.{OfRules, doubt-rules}
 
 -- ---- lists with one entry more
 

@@ -7,7 +7,6 @@ use lists::begin;
 use lists::finish;
 use lists::put;
 use sets::has;
-ghost use mathlib.Core.Path.{_≡_};
 ghost use mathlib.Core.List.{[]};
 ghost use Prim.Native.Nat.{_+_, _≤_, _<_};
 ghost use lib.ListN.{length};

@@ -1,19 +1,19 @@
 -- A cursor's field methods against the fields of its line.
 use mathlib.Core.Path.{_≡_, refl, sym, ap, _∙_}
 use mathlib.Core.List.{List, [], _∷_}
-use mathlib.Core.Bool.{Bool, true, false, cond}
+use mathlib.Core.Bool.{Bool, true, false}
 use mathlib.Core.Option.{Option, none, some}
 use Prim.Native.Nat.{ℕ, _+_, _-_, _≤_, _<_}
 use native.Mathlib.Omega.{arith}
 use lib.ListN.{length, take, drop, length-drop}
 use lib.Seq.{length-take-le}
 use lib.Dec.{leb}
-use borrow.Author.Tests.{lt-leb, leb-true, leb-false}
+use borrow.Author.Tests.{lt-leb, leb-true}
 use Rattle.fields.specs.declared.Cursor.{Cursor}
 use Rattle.fields.specs.Pieces.{before}
 use Rattle.fields.specs.Fields.{onValue, withField, atEnd}
 use Rattle.fields.proofs.Pieces.{from-step, cut-high, cut-step}
-use Rattle.fields.specs.Cursors.{piecesFrom, fieldsLeft, withCursor, readField}
+use Rattle.fields.specs.Cursors.{fieldsLeft, withCursor, readField}
 
 -- a cursor c of the sheet s whose line ends in the sheet
 module _ (s : List ℕ) (c : Cursor) (inside : c .end ≤ length s) where

@@ -1,17 +1,17 @@
 -- A line as a cursor has it, against the pieces of the sheet.
-use mathlib.Core.Path.{_≡_, refl, sym, ap, _∙_}
+use mathlib.Core.Path.{_≡_, refl, sym}
 use mathlib.Core.List.{List, [], _∷_}
 use mathlib.Core.Bool.{Bool, true, false, not}
-use Prim.Native.Nat.{ℕ, zero, suc, _+_, _-_, _≤_, _<_}
+use Prim.Native.Nat.{ℕ, zero, suc, _+_, _-_, _≤_}
 use native.Mathlib.Nat.{suc-sub-suc, sub-zero}
 use native.Mathlib.Numerals.{add-one}
 use native.Mathlib.Omega.{arith}
 use lib.ListN.{length, take, drop}
-use lib.Seq.{length-take-le, drop-nil, take-nil}
+use lib.Seq.{length-take-le, take-nil}
 use lib.Dec.{leb, ltb}
-use borrow.Author.Tests.{le-leb, leb-true, leb-false}
+use borrow.Author.Tests.{le-leb, leb-true}
 use Rattle.fields.specs.declared.Cursor.{Cursor}
-use Rattle.fields.specs.Pieces.{before, pieces, isEmpty}
+use Rattle.fields.specs.Pieces.{pieces, isEmpty}
 use Rattle.fields.proofs.Pieces.{from-step, cut-high, cut-step}
 use Rattle.fields.specs.Cursors.{piecesFrom, lineAt, bytesLeft, fieldsLeft}
 

@@ -1,5 +1,5 @@
 -- A choice by a test whose outcome is known.
-use mathlib.Core.Path.{_≡_, refl, sym, ap, _∙_}
+use mathlib.Core.Path.{_≡_, refl}
 use mathlib.Core.Bool.{Bool, true, false, cond, _&&_}
 
 module _ {A : Type 0} {b : Bool} where

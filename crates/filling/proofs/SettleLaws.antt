@@ -1,7 +1,7 @@
 -- A span whose pair is what follows, by links, from what stands by two shorter parts is settled.
 use mathlib.Core.Path.{_≡_, refl, sym, ap, _∙_, subst, subst₂}
 use mathlib.Core.List.{List}
-use mathlib.Core.Logic.{_⊎_, inl, inr, ⊎-elim, _↔_}
+use mathlib.Core.Logic.{_⊎_, inl, inr, ⊎-elim}
 use Prim.Native.Nat.{ℕ, zero, suc, _+_, _-_, _*_, _≤_, _<_}
 use native.Mathlib.Omega.{arith}
 use native.Mathlib.Decide.{ℕ-discrete, decLt}
@@ -10,15 +10,12 @@ use Rattle.joins.proofs.PassLaws.{edge-mark}
 use Rattle.sets.specs.Sets.{In}
 use Rattle.grammar.specs.declared.Clause.{Clause}
 use Rattle.grammar.specs.declared.Clause.the-variants as Clause
-use Rattle.grammar.specs.declared.BinaryMark.{BinaryMark}
-use Rattle.grammar.specs.declared.BinaryMark.the-variants as BinaryMark
 use Rattle.grammar.specs.Trees.{Rules, Derives, TwoTrees}
 use Rattle.grammar.specs.Distinct.{Distinct}
-use Rattle.grammar.specs.Choices.{Same}
 use Rattle.grammar.specs.SpanSheet.{part, pairAt, firstWord, secondWord}
 use Rattle.marks.specs.declared.SpanMarks.{SpanMarks}
 use Rattle.marks.specs.Half.{Half}
-use Rattle.marks.specs.Marked.{Marked, UnaryBy, BinaryBy}
+use Rattle.marks.specs.Marked.{Marked, UnaryBy}
 use Rattle.spans.specs.Changes.{WrotePair}
 use Rattle.spans.proofs.Places.{pairAt-same, pairAt-empty}
 use Rattle.tables.specs.Tables.{Table, One, Two, byTokens, byMarks, Fits, Stand, Below, Again, rule}

@@ -1,8 +1,8 @@
 -- Tables of 64 sets: the nonterminals by the terminal that they begin with, and the terminals by
 -- nonterminal.
 use mathlib.Core.List.{List}
-use Prim.Native.Nat.{ℕ, _≤_, _<_}
-use lib.ListN.{length, getD}
+use Prim.Native.Nat.{ℕ, _<_}
+use lib.ListN.{getD}
 use Rattle.sets.specs.Sets.{In}
 use Rattle.grammar.specs.Trees.{Rules}
 use Rattle.acyclic.specs.Exact.{Exactly}

@@ -3,7 +3,6 @@ use grammar::Grammar;
 use sets::has;
 use sets::with;
 use survey::beginning;
-ghost use mathlib.Core.Path.{_≡_};
 ghost use Prim.Native.Nat.{_≤_, _<_};
 ghost use lib.ListN.{length};
 ghost use Rattle.grammar.specs.Cycles.{Nullable};

@@ -1,16 +1,16 @@
 -- Nullable nonterminals, edges, chains and cyclic sheets are decided; a sheet that is not cyclic has a rank that falls along each edge.
-use mathlib.Core.Path.{_≡_, refl, sym, ap, _∙_, subst}
-use mathlib.Core.Logic.{_⊎_, inl, inr, ⊎-elim}
-use mathlib.Core.List.{List, [], _∷_, _++_, map, List·Memᴰ, List·Memᴰ·head, List·Memᴰ·tail, List·Memᴰ·cases-cons}
-use Prim.Native.Nat.{ℕ, zero, suc, _+_, _≤_, _<_}
+use mathlib.Core.Path.{_≡_, refl, subst}
+use mathlib.Core.Logic.{_⊎_, inl, inr}
+use mathlib.Core.List.{List, [], _∷_, _++_, map, List·Memᴰ, List·Memᴰ·head, List·Memᴰ·tail}
+use Prim.Native.Nat.{ℕ, _+_, _≤_, _<_}
 use native.Mathlib.Omega.{arith}
-use lib.ListN.{length, length-append}
+use lib.ListN.{length}
 use Rattle.sets.proofs.Basics.{clash}
 use Rattle.grammar.specs.declared.Rule.{Rule}
 use Rattle.grammar.specs.declared.Clause.{Clause}
 use Rattle.grammar.specs.declared.Clause.the-variants as Clause
 use Rattle.grammar.specs.Layout.{Word, Every}
-use Rattle.grammar.specs.Trees.{Tree, empty, leaf, unary, binary, root, word, Rules, Valid, valid-empty, valid-leaf, valid-unary, valid-binary, Derives}
+use Rattle.grammar.specs.Trees.{Tree, empty, unary, binary, root, word, Rules, Valid, valid-empty, valid-leaf, valid-unary, valid-binary}
 use Rattle.grammar.specs.Cycles.{Nullable, Edge, by-unary, by-left, by-right, Chain, one, more, Cyclic}
 use Rattle.grammar.proofs.Lists.{eq?, both?, or?, map?, some?, Some, mem?, mem-every, collect, mem-collect, mem-map}
 use Rattle.grammar.proofs.Saturation.{Saturated, saturate}

@@ -1,25 +1,19 @@
 -- What the definitions of Choices.antt yield.
 use mathlib.Core.Path.{_≡_, refl, sym, ap, _∙_, subst}
-use mathlib.Core.List.{List, [], _∷_, _++_, List·Memᴰ, List·Memᴰ·head, List·Memᴰ·tail}
-use mathlib.Core.Logic.{_⊎_, inl, inr, ⊎-elim}
-use mathlib.Core.Option.{Option, none, some}
-use Prim.Native.Nat.{ℕ, zero, suc, _+_, _≤_, _<_}
+use mathlib.Core.List.{[], _∷_, _++_, List·Memᴰ, List·Memᴰ·head, List·Memᴰ·tail}
+use mathlib.Core.Logic.{_⊎_, inl, inr}
+use mathlib.Core.Option.{some}
+use Prim.Native.Nat.{ℕ, zero, suc, _<_}
 use native.Mathlib.Omega.{arith}
 use native.Mathlib.Decide.{decLt}
 use lib.Seq.{take-at, drop-at}
 use lib.ListN.{length, getElem?, take, drop}
 use Rattle.sets.proofs.Basics.{clash}
-use Rattle.grammar.specs.declared.Token.{Token}
-use Rattle.grammar.specs.declared.UnaryMark.{UnaryMark}
-use Rattle.grammar.specs.declared.BinaryMark.{BinaryMark}
 use Rattle.grammar.specs.declared.Rule.{Rule}
-use Rattle.grammar.specs.declared.Clause.{Clause}
-use Rattle.grammar.specs.declared.Clause.the-variants as Clause
 use Rattle.grammar.specs.Layout.{Word}
-use Rattle.grammar.specs.Layout as Mark
 use Rattle.grammar.specs.Trees.{Tree, empty, leaf, unary, binary, root, word, Rules, Valid, valid-empty, valid-leaf, valid-unary, valid-binary, Witness, OneTree, TwoTrees}
-use Rattle.grammar.specs.Choices.{Top, Takes, Choice, ChoiceBefore, Same, FirstChoice, OnlyChoice, OtherChoice, height, GivesHeight, LowChoice, Ask, Node, Each, Beneath, Preferred, straight, looping, AllPreferred, FirstTree, Swerves, Second, here, below, left, right, SecondTree}
-use Rattle.grammar.specs.Distinct.{Alike, Distinct}
+use Rattle.grammar.specs.Choices.{Takes, Choice, ChoiceBefore, Same, FirstChoice, OnlyChoice, OtherChoice, LowChoice, Ask, Node, Each, Beneath, Preferred, straight, looping, FirstTree, Swerves, Second, here, below, left, right, SecondTree}
+use Rattle.grammar.specs.Distinct.{Distinct}
 
 -- 1. a choice is taken at one place only
 

@@ -1,18 +1,16 @@
 -- Whether a nonterminal derives a word is decided, for any sheet: a word after its shorter words, its nonterminals by saturation.
-use mathlib.Core.Path.{_≡_, refl, sym, ap, _∙_, subst}
-use mathlib.Core.List.{List, [], _∷_, _++_, map, List·Memᴰ, List·Memᴰ·head, List·Memᴰ·tail}
+use mathlib.Core.Path.{_≡_, refl, sym, ap, subst}
+use mathlib.Core.List.{List, [], _∷_, _++_, map, List·Memᴰ}
 use mathlib.Core.Logic.{_⊎_, inl, inr, ⊎-elim}
 use mathlib.Core.Option.{Option, none, some}
-use Prim.Native.Nat.{ℕ, zero, suc, _≤_, _<_}
+use Prim.Native.Nat.{ℕ, zero, suc, _<_}
 use native.Mathlib.Omega.{arith}
 use native.Mathlib.Decide.{decLt, ℕ-discrete}
 use lib.ListN.{length, getElem?, take, drop, length-append}
-use lib.Seq.{take-at, drop-at}
 use Rattle.sets.proofs.Basics.{clash}
 use Rattle.grammar.specs.declared.Rule.{Rule}
-use Rattle.grammar.specs.declared.Clause.{Clause}
 use Rattle.grammar.specs.Layout.{Word, Every}
-use Rattle.grammar.specs.Trees.{Tree, empty, leaf, unary, binary, root, word, Rules, Valid, valid-empty, valid-leaf, valid-unary, valid-binary, Derives}
+use Rattle.grammar.specs.Trees.{Tree, root, word, Rules, Valid, valid-empty, valid-leaf, valid-unary, valid-binary, Derives}
 use Rattle.grammar.specs.Choices.{Choice}
 use Rattle.grammar.proofs.Lists.{eq?, both?, map?, some?, Some, mem?, mem-every, mem-map}
 use Rattle.grammar.proofs.Marks.{word?}

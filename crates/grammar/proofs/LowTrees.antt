@@ -1,9 +1,8 @@
 -- Trees of bounded height are decided, so each word that is derived has a lowest tree, and one that takes low choices at each node.
-use mathlib.Core.Path.{_≡_, refl, sym, ap, _∙_, subst}
-use mathlib.Core.List.{List, [], _∷_, _++_}
-use mathlib.Core.Logic.{_⊎_, inl, inr, ⊎-elim}
+use mathlib.Core.Path.{_≡_, refl, sym, _∙_}
+use mathlib.Core.Logic.{_⊎_, inl, inr}
 use mathlib.Core.Option.{Option, none, some}
-use Prim.Native.Nat.{ℕ, zero, suc, _+_, _-_, _≤_, _<_, max}
+use Prim.Native.Nat.{ℕ, zero, suc, _≤_, _<_}
 use native.Mathlib.Omega.{arith}
 use native.Mathlib.Decide.{decLt, ℕ-discrete, map-dec}
 use lib.ListN.{length, getElem?, take, drop, take-append-drop, length-take}
@@ -13,7 +12,7 @@ use Rattle.grammar.specs.declared.Clause.{Clause}
 use Rattle.grammar.specs.declared.Clause.the-variants as Clause
 use Rattle.grammar.specs.Layout.{Word}
 use Rattle.grammar.specs.Trees.{Tree, empty, leaf, unary, binary, root, word, Rules, Valid, valid-empty, valid-leaf, valid-unary, valid-binary, Witness, Derives}
-use Rattle.grammar.specs.Choices.{Top, Takes, Choice, height, GivesHeight, LowChoice, Ask, Node, Each, Beneath}
+use Rattle.grammar.specs.Choices.{Top, Takes, Choice, height, LowChoice, Ask, Node, Each, Beneath}
 use Rattle.grammar.proofs.ChoiceLaws.{member-at, takes-of, each-of}
 use Rattle.grammar.proofs.ByKind.{top-left, inside}
 use Rattle.grammar.proofs.Least.{Least, seek, Least₂, seek₂}

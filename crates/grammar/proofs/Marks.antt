@@ -1,8 +1,7 @@
 -- The layout marks, and the equality of tokens and words, decided by computing.
-use mathlib.Core.Path.{_≡_, refl, ap, subst}
-use mathlib.Core.Logic.{_⊎_, inl, inr}
-use mathlib.Core.List.{List, [], _∷_, _++_, append-nil, append-assoc, List·Memᴰ, List·Memᴰ·head, Memᴰ·append-right}
-use Prim.Native.Nat.{ℕ, suc, _+_}
+use mathlib.Core.Path.{_≡_, ap}
+use mathlib.Core.List.{[], _∷_}
+use Prim.Native.Nat.{suc}
 use Rattle.grammar.specs.declared.Token.{Token}
 use Rattle.grammar.specs.declared.UnaryMark.{UnaryMark}
 use Rattle.grammar.specs.declared.UnaryMark.the-variants as UnaryMark
@@ -10,7 +9,7 @@ use Rattle.grammar.specs.declared.BinaryMark.{BinaryMark}
 use Rattle.grammar.specs.declared.BinaryMark.the-variants as BinaryMark
 use Rattle.grammar.specs.Layout.{Word, line, col, width, last}
 use Rattle.grammar.specs.Layout as Mark
-use Rattle.grammar.proofs.Lists.{eq?, le?, both?, or?, imp?, map?, list?, every?}
+use Rattle.grammar.proofs.Lists.{eq?, le?, both?, imp?, map?, list?, every?}
 
 abbrev pub keeps? : (m : UnaryMark) (a t : Token) → Dec (Mark.Keeps m a t)
 keeps? UnaryMark.None a t = yes tt

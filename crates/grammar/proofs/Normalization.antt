@@ -1,17 +1,17 @@
 -- Every rising word with two trees has a candidate of its length with two trees.
 use mathlib.Core.Path.{_≡_, refl, sym, _∙_, ap, subst}
-use mathlib.Core.List.{List, [], _∷_, _++_, map}
+use mathlib.Core.List.{List, [], _∷_, map}
 use mathlib.Core.Logic.{_⊎_, inl, inr, ⊎-elim, _↔_}
-use Prim.Native.Nat.{ℕ, zero, suc, _+_, _-_, _*_, _≤_, _<_, min}
+use Prim.Native.Nat.{ℕ, suc, _+_, _-_, _*_, _≤_, _<_, min}
 use native.Mathlib.Omega.{arith}
 use native.Mathlib.Decide.{decLe}
 use lib.ListN.{length}
 use Rattle.grammar.specs.declared.Token.{Token}
 use Rattle.grammar.specs.declared.Cell.{Cell}
 use Rattle.grammar.specs.Layout.{Word, line, col, width, Every}
-use Rattle.grammar.specs.Trees.{Tree, empty, leaf, unary, binary, word, Rules, Valid, valid-empty, valid-leaf, valid-unary, valid-binary, Witness, TwoTrees}
+use Rattle.grammar.specs.Trees.{Tree, empty, leaf, unary, binary, word, Rules, Valid, valid-empty, valid-leaf, valid-unary, valid-binary, TwoTrees}
 use Rattle.grammar.proofs.Transfer.{KeepsOrders, Alike, same-atoms, two-keeps, every-join, keeps-line-le}
-use Rattle.grammar.specs.Candidates.{After, RisingFrom, Rising, Wide, token, placed, sentence, Terminal, Ranged, Cells, Arrangement, Candidate}
+use Rattle.grammar.specs.Candidates.{After, RisingFrom, Rising, Wide, placed, sentence, Terminal, Cells, Candidate}
 
 abbrev In : Token → Word → Type 0
 In t [] = ⊥

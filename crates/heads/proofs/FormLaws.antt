@@ -1,9 +1,8 @@
 -- The forms of a shape: those that its rule's clause gives, and no others.
-use mathlib.Core.Path.{_≡_, refl, sym, ap, _∙_, subst}
+use mathlib.Core.Path.{_≡_, refl, sym, subst}
 use mathlib.Core.Option.{some}
 use Prim.Native.Nat.{ℕ, zero, suc, _<_}
 use lib.ListN.{getElem?}
-use Rattle.sets.specs.Sets.{In}
 use Rattle.grammar.specs.declared.UnaryMark.{UnaryMark}
 use Rattle.grammar.specs.declared.UnaryMark.the-variants as UnaryMark
 use Rattle.grammar.specs.declared.Rule.{Rule}
@@ -18,7 +17,6 @@ use Rattle.pairs.specs.Shapes.{firsts, seconds}
 use Rattle.survey.specs.Closing.{Weakest}
 use Rattle.heads.specs.declared.Looks.{Looks}
 use Rattle.heads.specs.declared.Looks.the-variants as Looks
-use Rattle.heads.specs.declared.Shaped.{Shaped}
 use Rattle.heads.specs.Forms.{shapeBy, AllForm, FirstForm, SecondForm, FormBy, SaysForm}
 use Rattle.heads.specs.Forms.{MarkOf, LooksLike, ShapedAs}
 

@@ -5,7 +5,6 @@ use Prim.Native.Nat.{ℕ, zero, suc, _<_}
 use Rattle.sets.specs.Sets.{In}
 use Rattle.grammar.specs.declared.UnaryMark.{UnaryMark}
 use Rattle.grammar.specs.declared.UnaryMark.the-variants as UnaryMark
-use Rattle.grammar.specs.declared.BinaryMark.{BinaryMark}
 use Rattle.grammar.specs.declared.Clause.{Clause}
 use Rattle.grammar.specs.declared.Clause.the-variants as Clause
 use Rattle.grammar.specs.Trees.{Rules}

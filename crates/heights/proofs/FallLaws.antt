@@ -15,11 +15,10 @@ use Rattle.grammar.specs.declared.Clause.{Clause}
 use Rattle.grammar.specs.declared.Clause.the-variants as Clause
 use Rattle.grammar.specs.declared.BinaryMark.{BinaryMark}
 use Rattle.grammar.specs.Trees.{Rules}
-use Rattle.grammar.specs.SpanSheet.{pairAt, pairs}
-use Rattle.spans.proofs.Places.{pairAt-below, pairAt-empty, pairAt-shorter, pairs-spans, spans-closed, spans-bound, pairs-few}
+use Rattle.grammar.specs.SpanSheet.{pairAt}
+use Rattle.spans.proofs.Places.{pairAt-below, pairAt-empty, pairAt-shorter, pairs-few}
 use Rattle.marks.specs.declared.SpanMarks.{SpanMarks}
 use Rattle.tables.specs.Tables.{Leave, byMarks, rule}
-use Rattle.heights.specs.Least.{numberAt}
 use Rattle.heights.specs.Tall.{none, table, Tall, Measured, Lowest, Over, Room}
 use Rattle.heights.specs.Falls.{Lowered, Idle, Falls, stays, put, rowSum, sum, Passed, Between, Inner, Ends, AllEnds, Either, Stopped, Shut}
 use Rattle.heights.proofs.TallLaws.{tall-down, tall-le, tall-inner}

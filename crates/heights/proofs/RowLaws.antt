@@ -1,12 +1,11 @@
 -- The numbers of one span while they are lowered: each has a tree, and none is large.
-use mathlib.Core.Path.{_≡_, refl, sym, ap, ap₂, _∙_, subst}
-use mathlib.Core.Logic.{_⊎_, inl, inr, ⊎-elim}
-use mathlib.Core.List.{List, [], _∷_}
-use Prim.Native.Nat.{ℕ, zero, suc, _+_, _-_, _*_, _≤_, _<_}
+use mathlib.Core.Path.{_≡_, sym, ap, ap₂, _∙_, subst}
+use mathlib.Core.Logic.{⊎-elim}
+use mathlib.Core.List.{List}
+use Prim.Native.Nat.{ℕ, _+_, _-_, _*_, _≤_, _<_}
 use native.Mathlib.Omega.{arith}
-use native.Mathlib.Decide.{ℕ-discrete, decLt}
+use native.Mathlib.Decide.{ℕ-discrete}
 use lib.ListN.{length, getD, set, length-set}
-use Rattle.grammar.specs.declared.Clause.{Clause}
 use Rattle.grammar.specs.declared.Grammar.{Grammar}
 use Rattle.grammar.specs.Content.{rules, Formed}
 use Rattle.grammar.specs.Layout.{Word}
@@ -18,7 +17,7 @@ use Rattle.marks.specs.declared.SpanMarks.{SpanMarks}
 use Rattle.marks.specs.Half.{Half}
 use Rattle.marks.specs.Marked.{Marked}
 use Rattle.marks.proofs.HalfLaws.{may-be, may-keep, may-pair, is-one, does-keep, does-pair, completes-self}
-use Rattle.tables.specs.Tables.{Leave, byTokens, byMarks, rule}
+use Rattle.tables.specs.Tables.{Leave, byMarks, rule}
 use Rattle.tables.proofs.RulePlaces.{small-at}
 use Rattle.tables.proofs.Views.{Yields, marks-tokens, tokens-marks}
 use Rattle.heights.specs.Tall.{none, table, Tall, byWord, Room}

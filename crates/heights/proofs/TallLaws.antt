@@ -1,13 +1,11 @@
 -- A table of heights that meets three things holds the least heights. No induction on lengths and no word on cycles: one induction on the tree.
 use mathlib.Core.Path.{_≡_, refl, sym, ap, ap₂, _∙_, subst, subst₂}
-use mathlib.Core.Logic.{_⊎_, inl, inr, ⊎-elim}
-use mathlib.Core.List.{List, [], _∷_, _++_}
+use mathlib.Core.Logic.{_⊎_, inl, inr}
 use mathlib.Core.Option.{some}
-use Prim.Native.Nat.{ℕ, zero, suc, _+_, _-_, _*_, _≤_, _<_, max}
+use Prim.Native.Nat.{ℕ, suc, _+_, _-_, _≤_, _<_, max}
 use native.Mathlib.Omega.{arith}
 use native.Mathlib.Decide.{decLt}
 use lib.ListN.{length, getElem?}
-use Rattle.grammar.specs.declared.Token.{Token}
 use Rattle.grammar.specs.declared.Rule.{Rule}
 use Rattle.grammar.specs.declared.Clause.{Clause}
 use Rattle.grammar.specs.declared.Clause.the-variants as Clause
@@ -17,7 +15,7 @@ use Rattle.grammar.specs.Trees.{Rules, Tree, empty, leaf, unary, binary, root, 
 use Rattle.grammar.specs.Choices.{Top, Takes, height}
 use Rattle.grammar.specs.SpanSheet.{part}
 use Rattle.grammar.proofs.ChoiceLaws.{member-at, takes-of}
-use Rattle.grammar.proofs.ByKind.{top-left, no-word, getElem?-lt}
+use Rattle.grammar.proofs.ByKind.{top-left, getElem?-lt}
 use Rattle.marks.proofs.Words.{part-cut, part-length, cut}
 use Rattle.order.proofs.Places.{there}
 use Rattle.tables.specs.Tables.{Leave, rule}

@@ -19,7 +19,7 @@ use Rattle.codes.proofs.Laws.{is-unary, is-binary, part-kind, low-kind, coded-a
 use Rattle.joins.specs.declared.Tally.{Tally}
 use Rattle.joins.specs.declared.Sides.{Sides}
 use Rattle.tables.specs.Tables.{no-rule}
-use Rattle.joins.specs.Passes.{Took, fell, SplitFits, SplitBelow, Unpaired, SplitRow, row-none, row-more, Beside, WholeSide}
+use Rattle.joins.specs.Passes.{Took, fell, SplitFits, SplitBelow, Unpaired, SplitRow, row-more, Beside, WholeSide}
 use Rattle.joins.proofs.PassLaws.{took-if}
 
 -- ---- over two parts

@@ -6,20 +6,18 @@ use Prim.Native.Nat.{ℕ, _+_, _-_, _≤_, _<_}
 use native.Mathlib.Omega.{arith}
 use lib.ListN.{length}
 use Rattle.sets.specs.Sets.{In}
-use Rattle.sets.proofs.Sets.{in-zero}
 use Rattle.grammar.specs.declared.Clause.{Clause}
 use Rattle.grammar.specs.declared.Clause.the-variants as Clause
 use Rattle.grammar.specs.Trees.{Rules}
 use Rattle.grammar.specs.SpanSheet.{firstWord, secondWord}
 use Rattle.marks.specs.declared.SpanMarks.{SpanMarks}
-use Rattle.marks.specs.Marked.{UnaryBy}
 use Rattle.joins.specs.declared.Tally.{Tally}
 use Rattle.cuts.specs.Cuts as Cuts
 use Rattle.cuts.specs.Counts.More.{apart as two-choices, below as one-doubled}
 use Rattle.tables.specs.Tables.{One, Two, byMarks, Fits, Stand, Below, Again, rule}
 use Rattle.tables.specs.Tables.Again.{apart, below}
 use Rattle.joins.specs.Passes.{none, sidesAt, SplitFits, SplitBelow, SplitRow, row-none, row-more, Splits, splits-none, splits-more}
-use Rattle.joins.specs.Passes.{LeafFits, Leaves, leaves-none, leaves-more, Inner, by-leaves, by-splits, by-cuts, Beside, alone, both, WholeSide, Pass, pass-none, pass-more, resumed, Passes, passes-none, passes-more, Saturated}
+use Rattle.joins.specs.Passes.{LeafFits, Leaves, leaves-none, leaves-more, Inner, by-leaves, by-splits, by-cuts, alone, both, WholeSide, Pass, pass-none, pass-more, resumed, Saturated}
 use Rattle.joins.proofs.TallyLaws.{Done, Standing, All, all-none, all-same, all-sets, all-took, Still, still-same, still-took}
 use Rattle.joins.proofs.PassLaws.{Inside, AtEnd, inside-or-edge, InnerDone, LeafDone, SplitDone, WideDone, HalfDone, below-or-at, after-or-at, splits-pos, passes-one, passes-two}
 

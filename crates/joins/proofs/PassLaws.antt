@@ -1,10 +1,9 @@
 -- From the tries over a span to its pair: what they find has trees, and when a pass adds nothing they have found all.
-use mathlib.Core.Path.{_≡_, refl, sym, ap, _∙_, subst}
+use mathlib.Core.Path.{_≡_, refl, sym, ap, subst}
 use mathlib.Core.Logic.{_⊎_, inl, inr, ⊎-elim}
 use mathlib.Core.List.{List}
 use Prim.Native.Nat.{ℕ, zero, suc, _+_, _-_, _≤_, _<_}
 use native.Mathlib.Omega.{arith}
-use native.Mathlib.Nat.{not-suc-le-zero}
 use native.Mathlib.Decide.{ℕ-discrete, decLt}
 use lib.ListN.{length}
 use Rattle.sets.specs.Sets.{In}
@@ -14,7 +13,7 @@ use Rattle.grammar.specs.declared.Clause.the-variants as Clause
 use Rattle.grammar.specs.declared.BinaryMark.{BinaryMark}
 use Rattle.grammar.specs.declared.BinaryMark.the-variants as BinaryMark
 use Rattle.grammar.specs.Trees.{Rules, Derives, TwoTrees}
-use Rattle.grammar.specs.SpanSheet.{part, firstWord, secondWord}
+use Rattle.grammar.specs.SpanSheet.{part}
 use Rattle.marks.specs.declared.SpanMarks.{SpanMarks}
 use Rattle.marks.specs.Half.{Half}
 use Rattle.marks.specs.Marked.{Marked, UnaryBy, BinaryBy}
@@ -25,7 +24,7 @@ use Rattle.cuts.specs.Counts.More.{apart as two-choices, below as one-doubled}
 use Rattle.joins.specs.declared.Sides.{Sides}
 use Rattle.tables.specs.Tables.{Table, One, Two, Leave, byTokens, byMarks, Fits, Stand, Below, Again, rule}
 use Rattle.tables.specs.Tables.Again.{apart, below}
-use Rattle.joins.specs.Passes.{Took, fell, stood, none, sidesAt, SplitFits, SplitBelow, SplitRow, row-none, row-more, Splits, splits-none, splits-more}
+use Rattle.joins.specs.Passes.{Took, fell, stood, sidesAt, SplitFits, SplitBelow, SplitRow, row-none, row-more, Splits, splits-none, splits-more}
 use Rattle.joins.specs.Passes.{LeafFits, Leaves, leaves-none, leaves-more, Inner, by-leaves, by-splits, by-cuts, Beside, alone, both, WholeSide, Pass, pass-none, pass-more, resumed, Passes, passes-none, passes-more, Saturated}
 use Rattle.tables.specs.Settled.{Ground}
 use Rattle.joins.proofs.TallyLaws.{Done, Standing, took-one, took-two, took-in-one, took-in-two, From, from-none, from-same, Brings, from-took, from-sets}

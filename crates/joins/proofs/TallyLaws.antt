@@ -9,7 +9,7 @@ use Rattle.sets.specs.Sets.{In}
 use Rattle.sets.proofs.Sets.{insert-same, insert-keeps, insert-only, insert-ge, in-zero}
 use Rattle.joins.specs.declared.Tally.{Tally}
 use Rattle.grammar.specs.Choices.{Same}
-use Rattle.joins.specs.Passes.{Found, Took, fell, stood, none}
+use Rattle.joins.specs.Passes.{Took, fell, stood, none}
 use Rattle.sets.specs.Insertion.{insert}
 
 -- the choices (rule, left length) that are done

@@ -1,7 +1,7 @@
 -- An index that grows rule by rule, pass by pass, until it is true; and that the rules settle it.
 use mathlib.Core.Path.{_≡_, refl, sym, _∙_, ap, subst}
 use mathlib.Core.Logic.{_⊎_, inl, inr, ⊎-elim, _↔_}
-use mathlib.Core.List.{List, [], _∷_, _++_, List·Memᴰ, List·Memᴰ·head, List·Memᴰ·not-nil, List·Memᴰ·append-cases, List·Memᴰ·eq-of-singleton, Memᴰ·append-left}
+use mathlib.Core.List.{List, [], _∷_, _++_, List·Memᴰ, List·Memᴰ·not-nil, List·Memᴰ·append-cases, List·Memᴰ·eq-of-singleton, Memᴰ·append-left}
 use mathlib.Core.Option.{some}
 use Prim.Native.Nat.{ℕ, zero, suc, _+_, _-_, _*_, _/_, _%_, _^_, _≤_, _<_}
 use native.Mathlib.Omega.{arith}
@@ -11,7 +11,7 @@ use native.Mathlib.Decide.{decLt, ℕ-discrete}
 use native.Mathlib.Nat.{div-eq-of-lt}
 use lib.Pow.{pow-lt}
 use lib.Bits.{bitOr}
-use lib.ListN.{length, getD, getElem?, take, drop, set, replicate, length-set, getD-replicate, List·getD-eq-default}
+use lib.ListN.{length, getD, getElem?, drop, set, replicate, length-set, getD-replicate, List·getD-eq-default}
 use lib.Seq.{getD-set-same, getD-set-other, ext-getD, drop-cons, drop-length}
 use lib.Dec.{eqb}
 use Rattle.sets.specs.Says.{Says}
@@ -31,7 +31,6 @@ use Rattle.grammar.proofs.Lists.{mem-every}
 use Rattle.grammar.proofs.ChoiceLaws.{member-at, place-of}
 use Rattle.grammar.proofs.ByKind.{getElem?-lt}
 use Rattle.lengths.specs.declared.Index.{Index}
-use Rattle.lengths.specs.Lengths.{CanHave}
 use Rattle.lengths.specs.Indexes.{at, Shaped, Exact}
 use Rattle.lengths.specs.Passes.{SumTo, Has, firstOf, secondOf, Makes, GivesByIndex, Applied, Possible, by-empty, by-atom, by-unary, by-binary, Sound, Passed, Idle, Held, weigh}
 use Rattle.lengths.proofs.SmallSets.{or-left, or-right, or-only, or-ge, or-small, high-none, small-same}

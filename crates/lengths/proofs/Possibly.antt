@@ -1,9 +1,8 @@
 -- `Possible` says what `CanHave` says, and a word with a valid tree has a possible length.
-use mathlib.Core.Path.{_≡_, refl, sym, _∙_, ap, ap₂, subst}
-use mathlib.Core.Logic.{_⊎_, inl, inr, ⊎-elim, _↔_}
-use mathlib.Core.List.{List, [], _∷_, _++_, List·Memᴰ, List·Memᴰ·head, List·Memᴰ·tail, List·Memᴰ·cases-cons, List·Memᴰ·not-nil}
-use Prim.Native.Nat.{ℕ, zero, suc, _+_, _≤_, _<_}
-use native.Mathlib.Omega.{arith}
+use mathlib.Core.Path.{_≡_, refl, sym, _∙_, ap, ap₂}
+use mathlib.Core.Logic.{⊎-elim}
+use mathlib.Core.List.{[], _∷_, List·Memᴰ, List·Memᴰ·head, List·Memᴰ·tail, List·Memᴰ·cases-cons, List·Memᴰ·not-nil}
+use Prim.Native.Nat.{ℕ, _+_}
 use lib.ListN.{length, length-append}
 use Rattle.sets.proofs.Basics.{clash}
 use Rattle.grammar.proofs.Unmarked.{none-unary, none-binary}
@@ -17,7 +16,7 @@ use Rattle.grammar.specs.declared.BinaryMark.{BinaryMark}
 use Rattle.grammar.specs.declared.BinaryMark.the-variants as BinaryMark
 use Rattle.grammar.specs.Layout.{Word, Every}
 use Rattle.grammar.specs.Layout as Mark
-use Rattle.grammar.specs.Trees.{Tree, empty, leaf, unary, binary, root, word, Rules, HasEmpty, HasAtom, HasUnary, HasBinary, Valid, valid-empty, valid-leaf, valid-unary, valid-binary, Derives, TwoTrees}
+use Rattle.grammar.specs.Trees.{Tree, empty, leaf, unary, binary, root, word, Rules, HasEmpty, HasUnary, HasBinary, Valid, valid-empty, valid-leaf, valid-unary, valid-binary, Derives}
 use Rattle.lengths.specs.Lengths.{unmarkedClause, unmarkedRule, unmarked, CanHave}
 use Rattle.lengths.specs.Passes.{Possible, by-empty, by-atom, by-unary, by-binary}
 

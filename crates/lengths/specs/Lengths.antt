@@ -1,6 +1,6 @@
 -- Which lengths a nonterminal can have when all marks are ignored: 02, ask 7.
 use mathlib.Core.Path.{_≡_}
-use mathlib.Core.List.{List, [], _∷_}
+use mathlib.Core.List.{[], _∷_}
 use Prim.Native.Nat.{ℕ}
 use lib.ListN.{length}
 use Rattle.grammar.specs.declared.Rule.{Rule}

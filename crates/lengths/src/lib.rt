@@ -6,10 +6,9 @@ use sets::has;
 ghost use mathlib.Core.Path.{_≡_};
 ghost use mathlib.Core.List.{[]};
 ghost use Prim.Native.Nat.{_+_, _<_};
-ghost use Rattle.sets.specs.Sets.{In};
 ghost use Rattle.sets.specs.Says.{Says};
 ghost use Rattle.grammar.specs.Content.{rules, Formed, SmallRule};
-ghost use Rattle.lengths.specs.Indexes.{at, Shaped, Exact};
+ghost use Rattle.lengths.specs.Indexes.{Shaped, Exact};
 ghost use Rattle.lengths.specs.Books.{Booked, Appended};
 ghost use Rattle.lengths.specs.Passes.{SumTo, Has, firstOf, secondOf, Makes, Sound, Passed, Idle, Held, weigh};
 

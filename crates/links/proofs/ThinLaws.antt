@@ -1,13 +1,11 @@
 -- Rules left out change nothing: a pass over the others is a pass over all.
 use mathlib.Core.Path.{_≡_, refl, sym, ap, _∙_, subst}
-use mathlib.Core.List.{List}
-use Prim.Native.Nat.{ℕ, zero, suc, _+_, _-_, _≤_, _<_}
+use Prim.Native.Nat.{ℕ, _+_, _≤_, _<_}
 use native.Mathlib.Omega.{arith}
 use native.Mathlib.Decide.{decLt}
-use lib.ListN.{length, getD, set, take}
+use lib.ListN.{length, set, take}
 use lib.Seq.{getD-set-same, getD-set-other, getD-take}
 use Rattle.grammar.proofs.Lists.{every-at}
-use Rattle.sets.specs.Sets.{In}
 use Rattle.grammar.specs.declared.Rule.{Rule}
 use Rattle.grammar.specs.declared.Clause.{Clause}
 use Rattle.grammar.specs.declared.Clause.the-variants as Clause
@@ -17,7 +15,7 @@ use Rattle.grammar.specs.Content.{rules, SmallRule, Formed}
 use Rattle.marks.specs.declared.SpanMarks.{SpanMarks}
 use Rattle.tables.specs.Tables.{no-rule, rule}
 use Rattle.joins.specs.declared.Tally.{Tally}
-use Rattle.joins.specs.Passes.{Took, fell, Beside, both, WholeSide, Pass, pass-none, pass-more, Passes, passes-none, passes-more, Saturated}
+use Rattle.joins.specs.Passes.{fell, both, WholeSide, Pass, pass-none, pass-more, Passes, passes-none, passes-more, Saturated}
 use Rattle.joins.proofs.PassLaws.{pass-within}
 use Rattle.links.specs.LinkRules.{Ruled, Idle, Thinned, thin-none, thin-keep, thin-drop}
 

@@ -1,6 +1,5 @@
 -- The rules that may have a whole span on one side, picked out once (inner).
 use mathlib.Core.Path.{_≡_}
-use mathlib.Core.List.{List}
 use Prim.Native.Nat.{ℕ, _+_, _≤_, _<_}
 use lib.ListN.{length}
 use Rattle.sets.specs.Sets.{In}

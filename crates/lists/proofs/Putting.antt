@@ -1,5 +1,5 @@
 -- Laws of putting a list piece by piece.
-use mathlib.Core.Path.{_≡_, refl, sym, ap, _∙_}
+use mathlib.Core.Path.{_≡_, refl, ap, _∙_}
 use mathlib.Core.Bool.{Bool, true, false}
 use mathlib.Core.List.{List, _++_}
 use Prim.Native.Nat.{ℕ, _+_, _-_, _≤_, _<_}
@@ -8,7 +8,6 @@ use lib.ListN.{length, take, replicate, length-append}
 use Rattle.sets.proofs.Basics.{clash}
 use Rattle.printing.specs.Printing.{Wrote}
 use Rattle.lists.specs.declared.Listing.{Listing}
-use Rattle.lists.specs.declared.Listed.{Listed}
 use Rattle.lists.specs.Lists.{fits, large}
 use Rattle.lists.specs.Putting.{Puts, PutMore, listed, unfit, Ended}
 

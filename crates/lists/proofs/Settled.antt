@@ -1,10 +1,10 @@
 -- A list settles the lent bytes and the answer: two results are the same. A call's answer on a list, by the list's own.
 use mathlib.Core.Path.{_≡_, sym, ap, _∙_}
-use mathlib.Core.List.{List, [], _∷_, _++_}
+use mathlib.Core.List.{List, _++_}
 use Prim.Native.Nat.{ℕ, _-_}
 use native.Mathlib.Omega.{arith}
 use lib.ListN.{length, replicate}
-use Rattle.lists.specs.Lists.{bytesOf, GivesList, fits, large}
+use Rattle.lists.specs.Lists.{GivesList, fits, large}
 
 pub gives-settled : {R : Type 0} {given : ℕ → R} {refused : R} {bytes : List ℕ} {n : ℕ} {lent a b : List ℕ} {r s : R}
     → GivesList given refused bytes n lent a r → GivesList given refused bytes n lent b s → (r ≡ s) × (a ≡ b)

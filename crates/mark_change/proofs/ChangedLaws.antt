@@ -1,12 +1,11 @@
 -- What the changed sheet says: the same rules with the new mark in that one, or 4 in its line, and nothing else.
 use mathlib.Core.Path.{_≡_, refl, sym, ap, _∙_}
 use mathlib.Core.List.{List, [], _∷_, _++_, append-assoc}
-use mathlib.Core.Bool.{Bool, true, false, not, cond, _&&_, _||_}
-use mathlib.Core.Option.{some, none}
-use Prim.Native.Nat.{ℕ, zero, suc, _+_, _-_, _≤_, _<_}
-use native.Mathlib.Nat.{zero-add}
+use mathlib.Core.Bool.{Bool, true, false, not, cond, _&&_}
+use mathlib.Core.Option.{some}
+use Prim.Native.Nat.{ℕ, zero, suc, _+_, _≤_, _<_}
 use native.Mathlib.Omega.{arith}
-use lib.ListN.{length, getD, getElem?, set, take, drop, length-append, length-drop}
+use lib.ListN.{length, getD, set, take, drop}
 use lib.Seq.{take-add, take-append-le}
 use lib.Dec.{lit<}
 use Rattle.sets.proofs.Basics.{clash}
@@ -20,15 +19,15 @@ use Rattle.fields.specs.Pieces.{pieces, isEmpty, sameBytes}
 use Rattle.fields.specs.Words.{layOf}
 use Rattle.lines.specs.declared.RuleLine.{RuleLine}
 use Rattle.lines.specs.declared.RuleLine.the-variants as RuleLine
-use Rattle.lines.specs.RuleLines.{ruleLine, plainRule, unaryRule, binaryRule}
-use Rattle.lines.specs.Keys.{keyOf, keyWith}
+use Rattle.lines.specs.RuleLines.{ruleLine, plainRule}
+use Rattle.lines.specs.Keys.{keyOf}
 use Rattle.sheets.specs.Items.{Reading, accepted, refused, itemsFrom, withNames}
 use Rattle.sheets.specs.RuleSheets.{anyOf, isStart, ruleStep, finish, rulesFrom, ruleNames, ruleSheet}
 use Rattle.sheets.specs.RefusedLines.{pieceStart}
 use Rattle.sheets.proofs.Accepted.{GoodRules, rules-good, finish-good}
 use Rattle.mark_change.specs.Changed.{lineOf, layStart, layEnd, changed}
 use Rattle.mark_change.proofs.Replacing.{pieces-replaced, piece-at, free-take, free-join}
-use Rattle.mark_change.proofs.Relaying.{Five, five-of, line-other, lay-no-line}
+use Rattle.mark_change.proofs.Relaying.{five-of, line-other, lay-no-line}
 use Rattle.mark_change.proofs.Rereading.{KeyKept, outcome, Changed, items-changed, empty-set}
 use Rattle.mark_change.specs.Relaid.{relaid}
 

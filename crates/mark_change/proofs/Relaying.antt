@@ -3,11 +3,9 @@ use mathlib.Core.Path.{_≡_, refl, sym, ap, _∙_}
 use mathlib.Core.List.{List, [], _∷_, _++_}
 use mathlib.Core.Bool.{Bool, true, false, not, cond, _&&_}
 use mathlib.Core.Option.{Option, none, some}
-use Prim.Native.Nat.{ℕ, zero, suc, _+_, _≤_, _<_}
-use native.Mathlib.Omega.{arith}
-use lib.ListN.{length, take}
+use Prim.Native.Nat.{ℕ}
+use lib.ListN.{take}
 use lib.Dec.{eqb, leb, lit<}
-use borrow.Author.Tests.{eqb-true}
 use Rattle.sets.proofs.Basics.{clash}
 use Rattle.sets.proofs.Says.{true-not-false}
 use Rattle.grammar.specs.declared.Rule.{Rule}

@@ -1,17 +1,13 @@
 -- Pieces of bytes in which one piece is replaced.
-use mathlib.Core.Path.{_≡_, refl, sym, ap, _∙_}
-use mathlib.Core.Logic.{_⊎_, inl, inr, ⊎-elim}
+use mathlib.Core.Path.{_≡_, refl, sym, _∙_}
 use mathlib.Core.List.{List, [], _∷_, _++_, append-assoc, append-nil}
-use mathlib.Core.Bool.{Bool, true, false, cond}
-use Prim.Native.Nat.{ℕ, zero, suc, _+_, _-_, _≤_, _<_}
-use native.Mathlib.Nat.{zero-add, suc-add}
-use native.Mathlib.Numerals.{add-one}
+use Prim.Native.Nat.{ℕ, zero, suc, _+_, _≤_, _<_}
+use native.Mathlib.Nat.{zero-add}
 use native.Mathlib.Omega.{arith}
 use lib.ListN.{length, take, drop, getD, set, length-append}
-use lib.Seq.{take-append-add, drop-append-add, drop-drop, take-add, take-take, set-split, drop-append-seam}
-use lib.Dec.{eqb}
-use borrow.Author.Tests.{eq-eqb, eqb-true}
-use Rattle.fields.specs.Pieces.{pieces, onto, before}
+use lib.Seq.{take-append-add, drop-append-add, set-split, drop-append-seam}
+use borrow.Author.Tests.{eq-eqb}
+use Rattle.fields.specs.Pieces.{pieces, before}
 use Rattle.fields.proofs.Cuts.{FreeOf, pieces-free, pieces-cut, Cut, whole, after, cut-of}
 use Rattle.sheets.specs.RefusedLines.{pieceStart}
 

@@ -1,12 +1,11 @@
 -- The rules of a sheet in which one line has changed, its key kept.
 use mathlib.Core.Path.{_≡_, refl, sym, ap, _∙_}
 use mathlib.Core.List.{List, [], _∷_, _++_, append-assoc, append-nil, append-cancel-left}
-use mathlib.Core.Bool.{Bool, true, false, not, cond, _&&_, _||_}
-use Prim.Native.Nat.{ℕ, zero, suc, _+_, _≤_, _<_}
+use mathlib.Core.Bool.{Bool, true, false, not, cond, _||_}
+use Prim.Native.Nat.{ℕ, zero, suc, _+_, _<_}
 use native.Mathlib.Nat.{add-zero}
 use native.Mathlib.Omega.{arith}
 use lib.ListN.{length, getD, set, length-append}
-use lib.Dec.{leb}
 use borrow.Author.Tests.{lt-leb}
 use Rattle.sets.proofs.Basics.{clash}
 use Rattle.grammar.specs.declared.Rule.{Rule}
@@ -19,9 +18,9 @@ use Rattle.lines.specs.declared.Turn.the-variants as Turn
 use Rattle.lines.specs.Turns.{turnOf}
 use Rattle.lines.specs.RuleLines.{ruleLine}
 use Rattle.lines.specs.declared.Key.{Key}
-use Rattle.lines.specs.Keys.{keyOf, sameKey}
-use Rattle.sheets.specs.Items.{Step, next, stop, end, Reading, accepted, refused, stepAt, lineStep, onStep, itemsFrom}
-use Rattle.sheets.specs.RuleSheets.{hasKey, anyOf, freshStep, ruleSaid, ruleSays, ruleStep}
+use Rattle.lines.specs.Keys.{keyOf}
+use Rattle.sheets.specs.Items.{Step, next, stop, end, Reading, accepted, refused, stepAt, onStep, itemsFrom}
+use Rattle.sheets.specs.RuleSheets.{hasKey, anyOf, ruleSaid, ruleSays, ruleStep}
 use Rattle.sheets.proofs.Loop.{next-only}
 
 -- 1. rules seen that have the same keys

@@ -4,7 +4,6 @@ use mathlib.Core.List.{List, [], _∷_, _++_}
 use mathlib.Core.Option.{Option, some, none}
 use mathlib.Core.Bool.{Bool, true, false, cond}
 use Prim.Native.Nat.{ℕ, _≤_}
-use native.Mathlib.Omega.{arith}
 use lib.ListN.{length, getD}
 use lib.Dec.{leb}
 use Rattle.sets.proofs.Basics.{clash}
@@ -23,15 +22,15 @@ use Rattle.fields.specs.Pieces.{pieces}
 use Rattle.fields.specs.Words.{layOf}
 use Rattle.lines.specs.declared.RuleLine.{RuleLine}
 use Rattle.lines.specs.declared.RuleLine.the-variants as RuleLine
-use Rattle.lines.specs.RuleLines.{layRule, upTo, ruleLine}
-use Rattle.sheets.specs.Items.{Reading, accepted, refused}
+use Rattle.lines.specs.RuleLines.{layRule, upTo}
+use Rattle.sheets.specs.Items.{accepted}
 use Rattle.sheets.specs.RuleSheets.{ruleSheet}
 use Rattle.tree_view.specs.Stricter.{StricterClause, same, unary, binary, Stricter, none-left, more}
 use Rattle.tree_view.proofs.StricterLaws.{stays-none, never-two}
-use Rattle.mark_change.specs.Changed.{lineOf, changed, changedSheet, readChanged}
+use Rattle.mark_change.specs.Changed.{lineOf, changedSheet, readChanged}
 use Rattle.mark_change.proofs.Relaying.{Five, five-of, laid-of}
 use Rattle.mark_change.proofs.Rereading.{outcome, accepted-inj}
-use Rattle.mark_change.proofs.ChangedLaws.{ChangedAt, changed-at, SameBut, relaid-but, rule-inj, unfit-not}
+use Rattle.mark_change.proofs.ChangedLaws.{ChangedAt, changed-at, relaid-but, rule-inj, unfit-not}
 use Rattle.mark_change.specs.Relaid.{layField, relaid}
 
 -- 1. one rule

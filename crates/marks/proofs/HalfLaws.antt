@@ -1,8 +1,7 @@
 -- Half-known words: what holds of a completion may hold, and among known tokens what may hold does.
 use mathlib.Core.Path.{_≡_, refl, sym, ap, _∙_, subst, subst₂, subst₃}
-use mathlib.Core.List.{List, [], _∷_}
-use Prim.Native.Nat.{ℕ, zero, suc, _+_, _-_, _≤_, _<_}
-use native.Mathlib.Nat.{add-zero}
+use mathlib.Core.List.{[], _∷_}
+use Prim.Native.Nat.{ℕ, _+_, _-_, _≤_, _<_}
 use native.Mathlib.Omega.{arith}
 use native.Mathlib.Decide.{ℕ-discrete}
 use lib.ListN.{length}
@@ -14,7 +13,7 @@ use Rattle.grammar.specs.Layout as Mark
 use Rattle.grammar.specs.Trees.{Covers}
 use Rattle.grammar.specs.SpanSheet.{part}
 use Rattle.marks.specs.Half.{Half, tokenAt, Completes, MayBe, MayKeep, MayPair}
-use Rattle.marks.proofs.Words.{part-at, part-length, unary-span, span-unary, no-left, no-right, binary-span, one-token}
+use Rattle.marks.proofs.Words.{part-length, unary-span, span-unary, no-left, no-right, binary-span, one-token}
 
 -- ---- what holds of a completion may hold
 

@@ -5,8 +5,8 @@ use grammar::UnaryMark;
 use sets::has;
 use sets::with;
 ghost use mathlib.Core.Path.{_≡_};
-ghost use mathlib.Core.Bool.{Bool, true, false};
-ghost use Prim.Native.Nat.{ℕ, _+_, _-_, _≤_, _<_};
+ghost use mathlib.Core.Bool.{true, false};
+ghost use Prim.Native.Nat.{_+_, _-_, _≤_, _<_};
 ghost use Rattle.sets.specs.Says.{Says};
 ghost use Rattle.sets.specs.Sets.{In};
 ghost use Rattle.grammar.specs.Layout.{Keeps, Pairs};
@@ -14,7 +14,6 @@ ghost use Rattle.grammar.specs.declared.UnaryMark.the-variants as Unary;
 ghost use Rattle.marks.specs.Drafts.{half, Within};
 ghost use Rattle.marks.specs.Later.{lesser, Grows, OffsideBy, OffalignBy};
 ghost use Rattle.marks.specs.Marked.{AtomBy, UnaryBy, BinaryBy, Included, Joined, opened, Advanced, alone, Marked};
-ghost use Rattle.sets.specs.Insertion.{insert};
 
 // The first `count` of the tokens, of which the first `known` count and the others are open: an open token meets any mark.
 pub struct Draft {

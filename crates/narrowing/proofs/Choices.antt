@@ -1,11 +1,10 @@
 -- Choices of columns and rising words, token by token; what a narrowed range keeps of them.
-use mathlib.Core.Path.{_≡_, refl, sym, ap, _∙_, subst, subst₂}
-use mathlib.Core.Logic.{_⊎_, inl, inr, ⊎-elim}
+use mathlib.Core.Path.{_≡_, refl, sym, ap, _∙_, subst₂}
+use mathlib.Core.Logic.{inl, inr}
 use mathlib.Core.List.{[], _∷_}
 use Prim.Native.Nat.{ℕ, zero, suc, _+_, _-_, _≤_, _<_}
 use native.Mathlib.Omega.{arith}
 use native.Mathlib.Numerals.{add-one}
-use native.Mathlib.Decide.{ℕ-discrete}
 use lib.ListN.{length, set, length-set}
 use lib.Seq.{getD-set-same, getD-set-other}
 use Rattle.grammar.specs.declared.Token.{Token}
@@ -17,7 +16,7 @@ use Rattle.chart.specs.declared.Verdict.{Verdict}
 use Rattle.column_ranges.specs.declared.RangeToken.{RangeToken}
 use Rattle.column_ranges.specs.Ranges.{Ranges, WithinEnds, Chosen, SomeChoiceGives}
 use Rattle.column_ranges.specs.RangeSentences.{range, no-range, Ended}
-use Rattle.narrowing.specs.Narrowing.{standing, lowToken, highToken, lowest, Single, Singles, MayRise, fixed, fixedAt}
+use Rattle.narrowing.specs.Narrowing.{standing, lowToken, highToken, lowest, Singles, MayRise, fixed, fixedAt}
 
 -- ---- token by token
 

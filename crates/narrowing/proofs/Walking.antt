@@ -1,7 +1,7 @@
 -- What the loops over the tokens keep.
 use mathlib.Core.Path.{_≡_, refl, sym, ap, _∙_, subst, subst₂}
 use mathlib.Core.Bool.{Bool}
-use mathlib.Core.Logic.{_⊎_, inl, inr, ⊎-elim}
+use mathlib.Core.Logic.{_⊎_, inl, inr}
 use mathlib.Core.List.{List, [], _∷_}
 use Prim.Native.Nat.{ℕ, zero, suc, _+_, _≤_, _<_}
 use native.Mathlib.Omega.{arith}
@@ -21,7 +21,7 @@ use Rattle.column_ranges.specs.declared.RangeSentence.{RangeSentence}
 use Rattle.column_ranges.specs.Ranges.{Ranges, columns}
 use Rattle.column_ranges.specs.RangeSentences.{range, rangesOf, no-range, Ended, Spread}
 use Rattle.column_ranges.proofs.Counting.{range-read, ended-at}
-use Rattle.narrowing.specs.Narrowing.{lowToken, highToken, lowest, Single, Singles, MayRise, Picks, fixed, fixedAt, Narrows}
+use Rattle.narrowing.specs.Narrowing.{lowToken, highToken, lowest, Single, MayRise, Picks, fixed, Narrows}
 use Rattle.narrowing.proofs.Choices.{lowest-long, lowest-at}
 
 -- ---- rising

@@ -1,6 +1,6 @@
 -- Ranges that are narrowed, a token at a time (inner: contracts of the functions that narrow them).
 use mathlib.Core.Path.{_≡_}
-use mathlib.Core.List.{List, [], _∷_}
+use mathlib.Core.List.{[], _∷_}
 use Prim.Native.Nat.{ℕ, _+_, _≤_, _<_}
 use lib.ListN.{length, set}
 use Rattle.grammar.specs.declared.Token.{Token}

@@ -1,7 +1,7 @@
 -- An exchange rearranges.
 use mathlib.Core.Path.{_≡_, refl, sym, ap, _∙_, subst}
 use mathlib.Core.List.{List, [], _∷_, List·Memᴰ}
-use mathlib.Core.Option.{Option, some}
+use mathlib.Core.Option.{some}
 use Prim.Native.Nat.{ℕ, zero, suc, _≤_, _<_, zero-le, suc-le-suc}
 use native.Mathlib.Omega.{arith}
 use native.Mathlib.Decide.{ℕ-discrete}
@@ -14,7 +14,7 @@ use Rattle.grammar.specs.declared.Rule.{Rule}
 use Rattle.grammar.specs.Trees.{Rules}
 use Rattle.order.specs.Order.{Rearranged, exchanged}
 use Rattle.order.proofs.Places.{no-rule, place, member, there}
-use Rattle.grammar.specs.Distinct.{Alike, Distinct}
+use Rattle.grammar.specs.Distinct.{Distinct}
 
 pub same-rules : (g : Rules) → Rearranged g g
 same-rules g = record { to = λ r m. m; of = λ r m. m; distinct = λ d. d }

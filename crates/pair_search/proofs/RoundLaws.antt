@@ -13,7 +13,7 @@ use Rattle.sets.proofs.Sets.{in-zero}
 use Rattle.sets.proofs.Says.{true-not-false}
 use Rattle.grammar.specs.Trees.{Rules}
 use Rattle.grammar.proofs.Lists.{mem-every}
-use Rattle.pairs.specs.Shapes.{Shape, all, first, second, ruleOfShape, Head}
+use Rattle.pairs.specs.Shapes.{all, Head}
 use Rattle.pairs.specs.Relations.{Offset}
 use Rattle.pairs.specs.Settings.{Corner, Point, Setting, setting, whole₁, whole₂, relationIn}
 use Rattle.pairs.specs.Facts.{Fact, stand, against, sorts, behind, couples, behindIn}

@@ -6,7 +6,6 @@ use pair_offsets::Masks;
 ghost use Prim.Native.Nat.{_+_, _≤_, _<_};
 ghost use mathlib.Core.Path.{_≡_};
 ghost use lib.ListN.{length};
-ghost use Rattle.sets.specs.Sets.{In};
 ghost use Rattle.pairs.specs.Settings.{AllowsOffset};
 ghost use Rattle.pair_steps.specs.Nodes.{Mask, Joint, Parted};
 ghost use Rattle.pair_steps.specs.Leaving.{Coded, Narrowed, Narrows, Within, InFront};

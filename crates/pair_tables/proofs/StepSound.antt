@@ -12,7 +12,7 @@ use Rattle.pair_steps.proofs.ShapeNumbers.{shape-one, shape-low}
 use Rattle.sets.specs.Sets.{In}
 use Rattle.sets.proofs.Bits.{in-and}
 use Rattle.grammar.specs.Trees.{Rules}
-use Rattle.pairs.specs.Shapes.{Shape, all, first, second, ruleOfShape, Head}
+use Rattle.pairs.specs.Shapes.{Shape, first, ruleOfShape, Head}
 use Rattle.pairs.specs.Relations.{Order, less, equal, more, order, Offset, Relation}
 use Rattle.pairs.specs.Settings.{Point, at, start₁, cut₁, start₂, cut₂, stop₁, stop₂, setting, nextBy}
 use Rattle.pairs.specs.Facts.{Fact, stand, against, sorts, behind, Might, of-node, of-sorts, of-next}

@@ -1,4 +1,7 @@
 // The list of all places at which the readings of a sentence part, in lent bytes.
+use choices::Pick;
+use choices::list_rules;
+use choices::next_listed;
 use grammar::Grammar;
 use grammar::Sentence;
 use lists::Listed;
@@ -9,9 +12,6 @@ use lists::put;
 use marks::Draft;
 use marks::SpanMarks;
 use marks::span_marks;
-use choices::Pick;
-use choices::list_rules;
-use choices::next_listed;
 use sets::has;
 use spans::pair_at;
 ghost use Prim.Native.Nat.{_+_, _-_, _≤_, _<_};

@@ -6,11 +6,10 @@ use native.Mathlib.Nat.{add-zero}
 use native.Mathlib.Numerals.{add-one}
 use native.Mathlib.Omega.{arith}
 use lib.ListN.{length, take, drop, getD}
-use lib.Seq.{take-add, length-take-le, take-suc, getD-drop, drop-cons}
+use lib.Seq.{take-add, length-take-le, take-suc, getD-drop}
 use Rattle.grammar.specs.declared.Token.{Token}
 use Rattle.grammar.specs.Layout.{Word}
-use Rattle.printing.specs.Printing.{Wrote, rowText, rowLines, tokenText, tokenLines}
-use Rattle.printing.proofs.Writing.{wrote-then}
+use Rattle.printing.specs.Printing.{rowText, rowLines, tokenText, tokenLines}
 
 -- whole rows before others
 rows-append : (t m : ℕ) (a b : List ℕ) → length a ≡ 4 * m → rowLines t (a ++ b) ≡ rowLines t a ++ rowLines t b

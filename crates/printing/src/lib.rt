@@ -1,9 +1,9 @@
 // Bytes, numbers and lines of output, put into a lent buffer one after the other.
 ghost use mathlib.Core.Path.{_≡_};
-ghost use mathlib.Core.List.{List, [], _∷_, _++_};
-ghost use Prim.Native.Nat.{ℕ, _+_, _*_, _≤_, _<_};
-ghost use lib.ListN.{length, take, getD};
-ghost use Rattle.printing.specs.Printing.{decimal, Wrote, field, lastField, letterOf, rowText, rowLines, tokenText, tokenLines};
+ghost use mathlib.Core.List.{[], _∷_, _++_};
+ghost use Prim.Native.Nat.{_+_, _*_, _≤_, _<_};
+ghost use lib.ListN.{length, take};
+ghost use Rattle.printing.specs.Printing.{decimal, Wrote, letterOf, rowText, rowLines, tokenText, tokenLines};
 ghost use Rattle.grammar.specs.Sentences.{spelled};
 use grammar::Sentence;
 use grammar::Token;

@@ -1,22 +1,21 @@
 -- The table of the pairs that the search gives, and the words that begin with them.
-use mathlib.Core.Path.{_≡_, refl, sym, ap, _∙_, subst, subst₂}
+use mathlib.Core.Path.{_≡_, refl, sym, _∙_, subst, subst₂}
 use mathlib.Core.List.{List}
 use mathlib.Core.Logic.{_⊎_, inl, inr, ⊎-elim}
-use Prim.Native.Nat.{ℕ, _+_, _*_, _/_, _%_, _^_, _≤_, _<_, max}
+use Prim.Native.Nat.{ℕ, _+_, _*_, _/_, _%_, _^_, _≤_, _<_}
 use native.Mathlib.Omega.{arith}
-use native.Mathlib.Decide.{decLt, ℕ-discrete}
+use native.Mathlib.Decide.{decLt}
 use native.Mathlib.Nat.{not-suc-le-zero}
 use lib.ListN.{length, getD}
-use lib.Bits.{bitOr, or-shr, or-step}
-use lib.Arith.{digits-mod}
-use Rattle.sets.proofs.Bits.{or-odd, or-digit}
+use lib.Bits.{bitOr}
+use Rattle.sets.proofs.Bits.{or-digit}
 use Rattle.sets.specs.Sets.{In}
 use Rattle.grammar.specs.declared.Cell.{Cell}
 use Rattle.grammar.specs.Layout.{Word}
 use Rattle.grammar.specs.Trees.{Rules}
-use Rattle.grammar.specs.Candidates.{Candidate, sentence}
-use Rattle.grammar.specs.SpanSheet.{pairs, pairAt, firstWord, secondWord}
-use Rattle.spans.specs.Changes.{Past, Kept, WrotePair}
+use Rattle.grammar.specs.Candidates.{Candidate}
+use Rattle.grammar.specs.SpanSheet.{pairs, pairAt}
+use Rattle.spans.specs.Changes.{Kept, WrotePair}
 use Rattle.spans.proofs.Places.{pairAt-same, pairAt-empty, pairAt-shorter}
 use Rattle.spans.proofs.ChangeLaws.{past-same, past-then, kept-past}
 use Rattle.candidates.specs.Terminals.{Among}
@@ -24,7 +23,6 @@ use Rattle.chart.specs.Leaves.{EmptyPair, Leaf, Allows, LeafAt, May}
 use Rattle.chart.specs.Sheets.{Exact}
 use Rattle.chart.proofs.ExactLaws.{empty-exact}
 use Rattle.chart.proofs.FillLaws.{first-kept, second-kept}
-use Rattle.chart.proofs.LeafLaws.{leaf-allows}
 use Rattle.pruning.specs.Refuting.{terminalAt}
 use Rattle.pruning.specs.Tables.{Tabled, Gathered, United, Small, Slot, TakesPair, LaidTo, Laid}
 use Rattle.pruning.proofs.CellLaws.{cells-terminal}

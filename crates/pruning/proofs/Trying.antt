@@ -1,10 +1,9 @@
 -- What a try of one position tells.
-use mathlib.Core.Path.{_≡_, refl, sym, ap, _∙_, subst, subst₂}
+use mathlib.Core.Path.{_≡_, sym, _∙_, subst, subst₂}
 use mathlib.Core.Bool.{Bool, true, false}
 use mathlib.Core.List.{List}
 use Prim.Native.Nat.{ℕ, _+_, _-_, _*_, _≤_, _<_}
 use native.Mathlib.Omega.{arith}
-use native.Mathlib.Decide.{ℕ-discrete}
 use lib.ListN.{length}
 use Rattle.sets.specs.Says.{Says}
 use Rattle.sets.specs.Sets.{In}
@@ -15,18 +14,16 @@ use Rattle.grammar.specs.Trees.{Rules, TwoTrees}
 use Rattle.grammar.specs.Candidates.{Candidate, sentence}
 use Rattle.candidates.specs.Terminals.{Among}
 use Rattle.grammar.proofs.SweepLaws.{sentence-length}
-use Rattle.grammar.specs.SpanSheet.{pairs, pairAt, firstWord, secondWord}
+use Rattle.grammar.specs.SpanSheet.{pairs, pairAt, secondWord}
 use Rattle.marks.specs.declared.Draft.{Draft}
 use Rattle.marks.specs.Drafts.{half, drafted}
-use Rattle.marks.specs.Half.{Half}
 use Rattle.spans.specs.Changes.{Past, WrotePair}
 use Rattle.spans.proofs.ChangeLaws.{past-same, past-then, kept-past}
 use Rattle.chart.specs.Sheets.{Exact, Ready, Settles, Charted}
 use Rattle.chart.proofs.SheetLaws.{reads-second}
-use Rattle.chart.proofs.FillLaws.{first-kept, second-kept}
 use Rattle.chart.proofs.OpenLaws.{open-none, open-less}
 use Rattle.pruning.specs.Refuting.{terminalAt, Twinned, Standing, Loose, Poised, PositionTried, Below, Ended, Spent, Struck, Done}
-use Rattle.chart.specs.Leaves.{Leaf, Allows, LeafAt, May}
+use Rattle.chart.specs.Leaves.{Leaf, Allows, LeafAt}
 use Rattle.pruning.specs.Tables.{Tabled, Laid}
 use Rattle.pruning.proofs.TableLaws.{among-cells, laid-empty, laid-leaf, laid-free}
 use Rattle.pruning.proofs.RefutingLaws.{refuted-hopeless, below-all}

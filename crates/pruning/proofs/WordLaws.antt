@@ -1,20 +1,18 @@
 -- The words while a block is refuted: what a write and a fill keep.
 use mathlib.Core.Path.{_≡_, refl, sym, ap, _∙_, subst, subst₂}
-use mathlib.Core.List.{List, [], _∷_}
-use mathlib.Core.Logic.{_⊎_, inl, inr, ⊎-elim}
-use Prim.Native.Nat.{ℕ, _+_, _-_, _*_, _≤_, _<_}
+use mathlib.Core.List.{List}
+use Prim.Native.Nat.{ℕ, _+_, _≤_, _<_}
 use native.Mathlib.Omega.{arith}
-use native.Mathlib.Decide.{decLt, ℕ-discrete}
-use lib.ListN.{length, getD, take}
+use native.Mathlib.Decide.{decLt}
+use lib.ListN.{length, take}
 use Rattle.grammar.specs.declared.Cell.{Cell}
 use Rattle.grammar.specs.Layout.{Word}
 use Rattle.grammar.specs.Trees.{Rules}
 use Rattle.grammar.specs.Candidates.{sentence}
 use Rattle.grammar.specs.SpanSheet.{pairAt, firstWord, secondWord}
 use Rattle.grammar.proofs.SweepLaws.{sentence-length}
-use Rattle.marks.specs.Half.{Half, tokenAt}
-use Rattle.spans.specs.Changes.{Kept, WrotePair}
-use Rattle.spans.proofs.Places.{pairAt-same}
+use Rattle.marks.specs.Half.{tokenAt}
+use Rattle.spans.specs.Changes.{Kept}
 use Rattle.chart.specs.Filling.{Given}
 use Rattle.chart.specs.Openness.{Open}
 use Rattle.chart.specs.Sheets.{Exact, Ready}
@@ -25,7 +23,7 @@ use Rattle.candidates.proofs.Spelling.{sentence-shares}
 use Rattle.chart.specs.Leaves.{Leaf, Allows, LeafAt, May}
 use Rattle.chart.proofs.ExactLaws.{exact-less, exact-front, exact-words}
 use Rattle.chart.proofs.LeafLaws.{exact-leaf}
-use Rattle.pruning.specs.Refuting.{no-cell, terminalAt, Poised, Loose, Standing, Turned, Moved}
+use Rattle.pruning.specs.Refuting.{terminalAt, Poised, Loose, Standing, Turned, Moved}
 use Rattle.pruning.proofs.TableLaws.{other-pair}
 use Rattle.pruning.proofs.RefutingLaws.{placed-terminal}
 

@@ -5,7 +5,7 @@ use mathlib.Core.Logic.{_⊎_, inl, inr, ⊎-elim}
 use Prim.Native.Nat.{ℕ, _+_, _-_, _*_, _≤_, _<_}
 use native.Mathlib.Omega.{arith}
 use native.Mathlib.Decide.{ℕ-discrete, decLt}
-use lib.ListN.{length, getD}
+use lib.ListN.{getD}
 use Rattle.sets.specs.Sets.{In}
 use Rattle.grammar.specs.declared.Clause.{Clause}
 use Rattle.grammar.specs.declared.Clause.the-variants as Clause
@@ -16,7 +16,7 @@ use Rattle.marks.specs.declared.SpanMarks.{SpanMarks}
 use Rattle.marks.specs.Marked.{UnaryBy}
 use Rattle.spans.specs.Changes.{Past, Kept}
 use Rattle.spans.proofs.Places.{pairAt-same, pairAt-empty}
-use Rattle.spans.proofs.ChangeLaws.{past-same, past-then, kept-past}
+use Rattle.spans.proofs.ChangeLaws.{kept-past}
 use Rattle.tables.specs.Tables.{One, Two, byMarks, Fits, Below, rule}
 use Rattle.cuts.specs.declared.Pair.{Pair}
 use Rattle.cuts.specs.Cuts.{Parted, Splits}

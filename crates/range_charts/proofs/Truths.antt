@@ -1,17 +1,16 @@
 -- A sheet whose spans are solved under marks says what has trees: of a word that leaves to a clause at least what the marks do it has
 -- nothing too much, of one that leaves at most that it misses nothing.
-use mathlib.Core.Path.{_≡_, refl, sym, ap, _∙_, subst}
+use mathlib.Core.Path.{_≡_, refl, sym, _∙_, subst}
 use mathlib.Core.List.{List}
-use mathlib.Core.Logic.{_⊎_, inl, inr, ⊎-elim}
-use Prim.Native.Nat.{ℕ, zero, suc, _+_, _-_, _*_, _≤_, _<_}
+use mathlib.Core.Logic.{inl, inr, ⊎-elim}
+use Prim.Native.Nat.{ℕ, zero, suc, _+_, _≤_, _<_}
 use native.Mathlib.Omega.{arith}
 use native.Mathlib.Decide.{decLt}
-use lib.ListN.{length, getD}
-use Rattle.sets.specs.Sets.{In}
+use lib.ListN.{length}
 use Rattle.grammar.specs.Layout.{Word}
 use Rattle.grammar.specs.Trees.{Rules, Derives, TwoTrees}
 use Rattle.grammar.specs.Distinct.{Distinct}
-use Rattle.grammar.specs.SpanSheet.{part, firstWord, secondWord}
+use Rattle.grammar.specs.SpanSheet.{part}
 use Rattle.marks.specs.declared.SpanMarks.{SpanMarks}
 use Rattle.marks.specs.Half.{tokenAt}
 use Rattle.marks.proofs.HalfLaws.{completes-self}
@@ -22,14 +21,14 @@ use Rattle.tables.proofs.Completeness.{complete, same}
 use Rattle.chart.specs.Leaves.{LeafAt}
 use Rattle.chart.specs.Sheets.{Exact, Ready}
 use Rattle.chart.proofs.OpenLaws.{open-none}
-use Rattle.chart.proofs.SheetLaws.{begun, whole-part}
+use Rattle.chart.proofs.SheetLaws.{begun}
 use Rattle.filling.proofs.SettleLaws.{follows-true, doubles-true, each, again}
 use Rattle.column_ranges.specs.Ranges.{Ranges, Chosen}
 use Rattle.column_ranges.specs.RangeSentences.{range}
 use Rattle.narrowing.specs.Narrowing.{Singles}
 use Rattle.narrowing.proofs.Choices.{chosen-long, chosen-at}
 use Rattle.range_marks.specs.RangeMarks.{whole, exchangedAll}
-use Rattle.range_marks.proofs.Bounds.{marks-over, marks-under, exchanged-single, exchanged-long}
+use Rattle.range_marks.proofs.Bounds.{marks-over, marks-under, exchanged-single}
 use Rattle.range_charts.specs.RangeCharts.{pairOf, Solved, SpanSolved, Leaved}
 
 -- ---- the pairs of single tokens and of the empty word

@@ -1,9 +1,8 @@
 -- What may hold and what must: a choice within the ends leaves to a clause no more than the marks of the ranges do, and no less than those
 -- of the ranges with their ends exchanged.
-use mathlib.Core.Path.{_≡_, refl, sym, ap, _∙_, subst, subst₂, subst₃}
+use mathlib.Core.Path.{_≡_, refl, sym, ap, _∙_, subst}
 use mathlib.Core.List.{List, [], _∷_}
 use Prim.Native.Nat.{ℕ, zero, suc, _+_, _-_, _≤_, _<_}
-use native.Mathlib.Nat.{add-zero}
 use native.Mathlib.Omega.{arith}
 use native.Mathlib.Decide.{ℕ-discrete}
 use lib.ListN.{length, getD, take, set, length-set}
@@ -17,7 +16,7 @@ use Rattle.grammar.specs.declared.BinaryMark.the-variants as BinaryMark
 use Rattle.grammar.specs.Layout.{Word, Keeps, Pairs, line, col}
 use Rattle.marks.specs.declared.SpanMarks.{SpanMarks}
 use Rattle.marks.specs.Half.{tokenAt, MayKeep, MayPair}
-use Rattle.marks.specs.Marked.{UnaryBy, BinaryBy}
+use Rattle.marks.specs.Marked.{BinaryBy}
 use Rattle.tables.specs.Tables.{byTokens, byMarks}
 use Rattle.tables.proofs.Views.{Yields}
 use Rattle.column_ranges.specs.declared.RangeToken.{RangeToken}
@@ -25,9 +24,9 @@ use Rattle.column_ranges.specs.Ranges.{Ranges, WithinEnds, Chosen}
 use Rattle.column_ranges.specs.declared.RangeSentence.{RangeSentence}
 use Rattle.column_ranges.specs.RangeSentences.{range, rangesOf, no-range}
 use Rattle.column_ranges.proofs.Counting.{range-read}
-use Rattle.narrowing.specs.Narrowing.{lowToken, highToken, Singles}
+use Rattle.narrowing.specs.Narrowing.{Singles}
 use Rattle.narrowing.proofs.Choices.{chosen-long, chosen-at}
-use Rattle.range_marks.specs.RangeMarks.{whole, Overlap, seenFrom, RangeMarked, exchanged, exchangedAll}
+use Rattle.range_marks.specs.RangeMarks.{whole, seenFrom, RangeMarked, exchanged, exchangedAll}
 use Rattle.range_marks.proofs.Stretching.{seen-long, seen-here, seen-there, seen-line}
 
 -- ---- columns further apart

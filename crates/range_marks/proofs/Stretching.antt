@@ -1,9 +1,9 @@
 -- The marks of spans of ranges, carried along a token at a time.
 use mathlib.Core.Path.{_≡_, refl, sym, ap, _∙_, subst, subst₂, subst₃}
 use mathlib.Core.Bool.{Bool, true, false}
-use mathlib.Core.Logic.{_⊎_, inl, inr, ⊎-elim, _↔_}
-use mathlib.Core.List.{List, [], _∷_}
-use Prim.Native.Nat.{ℕ, zero, suc, _+_, _-_, _≤_, _<_}
+use mathlib.Core.Logic.{⊎-elim, _↔_}
+use mathlib.Core.List.{[], _∷_}
+use Prim.Native.Nat.{ℕ, zero, suc, _+_, _-_, _<_}
 use native.Mathlib.Omega.{arith}
 use native.Mathlib.Decide.{ℕ-discrete, decLt}
 use lib.ListN.{length, set, length-set}
@@ -17,10 +17,10 @@ use Rattle.grammar.specs.declared.Token.{Token}
 use Rattle.grammar.specs.declared.UnaryMark.{UnaryMark}
 use Rattle.grammar.specs.declared.UnaryMark.the-variants as UnaryMark
 use Rattle.grammar.specs.declared.BinaryMark.the-variants as BinaryMark
-use Rattle.grammar.specs.Layout.{Word, Pairs, line, col}
+use Rattle.grammar.specs.Layout.{Pairs, line, col}
 use Rattle.grammar.specs.Sentences.{no-token}
 use Rattle.marks.specs.declared.SpanMarks.{SpanMarks}
-use Rattle.marks.specs.Half.{tokenAt, MayKeep}
+use Rattle.marks.specs.Half.{tokenAt}
 use Rattle.marks.specs.Marked.{UnaryBy, Included, Joined, Grown, Advanced, Carried}
 use Rattle.marks.proofs.Joining.{NextJoined, carried-first, carried-more, carried-all}
 use Rattle.column_ranges.specs.declared.RangeToken.{RangeToken}

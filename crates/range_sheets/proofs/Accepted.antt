@@ -1,8 +1,8 @@
 -- What the definitions accept: ends in order and in bounds; and the end of the sheet.
 use mathlib.Core.Path.{_≡_, refl, sym, ap, _∙_, subst}
-use mathlib.Core.List.{List, [], _∷_, _++_}
+use mathlib.Core.List.{List, [], _∷_}
 use mathlib.Core.Bool.{Bool, true, false, cond, _&&_}
-use Prim.Native.Nat.{ℕ, _+_, _≤_, _<_}
+use Prim.Native.Nat.{ℕ, _≤_, _<_}
 use native.Mathlib.Omega.{arith}
 use lib.ListN.{length}
 use lib.Dec.{leb}
@@ -18,7 +18,7 @@ use Rattle.lines.specs.declared.Turn.the-variants as Turn
 use Rattle.lines.specs.Turns.{turnOf}
 use Rattle.sheets.specs.declared.Fault.{Fault}
 use Rattle.sheets.specs.Refusals.{RefusedAs}
-use Rattle.sheets.specs.Items.{Step, next, stop, end, Reading, accepted, refused, stepAt, itemsFrom}
+use Rattle.sheets.specs.Items.{Step, next, Reading, accepted, refused, stepAt, itemsFrom}
 use Rattle.sheets.proofs.Accepted.{items-hold}
 use Rattle.column_ranges.specs.declared.RangeToken.{RangeToken}
 use Rattle.column_ranges.specs.Ranges.{Ranges, choiceCount, choiceLimit}

@@ -1,13 +1,13 @@
 -- The rules picked, one place after the other.
-use mathlib.Core.Path.{_≡_, refl, sym, ap, _∙_, subst}
+use mathlib.Core.Path.{_≡_, sym, ap, _∙_, subst}
 use mathlib.Core.Logic.{_⊎_, inl, inr, ⊎-elim}
-use mathlib.Core.List.{List, [], _∷_, _++_, List·Memᴰ, map, map-append}
+use mathlib.Core.List.{List, [], _∷_, _++_, List·Memᴰ, map-append}
 use mathlib.Core.Option.{some}
-use Prim.Native.Nat.{ℕ, zero, suc, _+_, _≤_, _<_}
+use Prim.Native.Nat.{ℕ, _+_, _<_}
 use native.Mathlib.Omega.{arith}
 use native.Mathlib.Numerals.{add-one}
 use native.Mathlib.Decide.{decLt}
-use lib.ListN.{length, getD, getElem?, take, set, length-append, List·getD-append}
+use lib.ListN.{length, getD, take, set, length-append, List·getD-append}
 use lib.Seq.{getD-append-seam, take-suc-set}
 use Rattle.sets.specs.Sets.{In}
 use Rattle.grammar.specs.declared.Rule.{Rule}
@@ -19,7 +19,7 @@ use Rattle.order.proofs.Places.{no-rule, place, member, there}
 use Rattle.order.proofs.Exchanges.{from-there}
 use Rattle.reachable_rules.specs.Reach.{Reached, Trimmed}
 use Rattle.reachable_rules.specs.Steps.{Picked}
-use Rattle.grammar.specs.Distinct.{Distinct, Alike}
+use Rattle.grammar.specs.Distinct.{Distinct}
 
 pub picked-none : (g : Rules) (s : ℕ) → Picked g s 0 []
 picked-none g s = record {

@@ -1,9 +1,6 @@
 -- Trees of 0 have rules that it reaches alone.
-use mathlib.Core.Path.{_≡_, refl, sym, subst}
-use mathlib.Core.List.{List·Memᴰ}
+use mathlib.Core.Path.{sym, subst}
 use mathlib.Core.Logic.{_↔_}
-use Prim.Native.Nat.{ℕ}
-use Rattle.grammar.specs.declared.Rule.{Rule}
 use Rattle.grammar.specs.Layout.{Word}
 use Rattle.grammar.specs.Trees.{Rules, Tree, root, Valid, valid-empty, valid-leaf, valid-unary, valid-binary, Witness, TwoTrees}
 use Rattle.order.proofs.Same.{two-over}

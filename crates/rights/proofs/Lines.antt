@@ -1,33 +1,32 @@
 -- What a line gives, and the loop over the lines.
 use mathlib.Core.Path.{_≡_, refl, sym, ap, _∙_}
 use mathlib.Core.List.{List, [], _∷_, _++_}
-use mathlib.Core.Bool.{Bool, true, false, not, cond, _&&_, _||_}
+use mathlib.Core.Bool.{Bool, true, false, cond, _&&_, _||_}
 use mathlib.Core.Option.{Option, none, some}
-use Prim.Native.Nat.{ℕ, suc, _+_, _-_, _≤_, _<_}
+use Prim.Native.Nat.{ℕ, _+_, _-_, _≤_, _<_}
 use native.Mathlib.Omega.{arith}
 use lib.ListN.{length, length-append}
 use lib.Dec.{leb, ltb}
 use borrow.Author.Tests.{leb-true, ltb-true}
 use Rattle.sets.proofs.Basics.{clash}
-use Rattle.sets.proofs.Says.{true-not-false}
 use Rattle.fields.specs.declared.Cursor.{Cursor}
 use Rattle.fields.specs.Pieces.{pieces, isEmpty}
 use Rattle.fields.specs.Words.{numeralOf}
-use Rattle.fields.specs.Fields.{onValue, withField}
+use Rattle.fields.specs.Fields.{onValue}
 use Rattle.fields.proofs.Fields.{with-holds}
 use Rattle.fields.proofs.Lines.{more-left}
 use Rattle.lines.specs.declared.Turn.{Turn}
 use Rattle.lines.specs.declared.Turn.the-variants as Turn
 use Rattle.lines.specs.Turns.{turnOf}
-use Rattle.sheets.specs.Items.{Step, next, stop, end, Reading, accepted, refused, stepAt, onStep, itemsFrom}
+use Rattle.sheets.specs.Items.{Step, next, stop, end, accepted, refused, stepAt, onStep, itemsFrom}
 use Rattle.sheets.specs.RuleSheets.{anyOf}
 use Rattle.sheets.proofs.Loop.{line-cut, line-less}
 use Rattle.tree_view.proofs.Members.{member-none}
 use Rattle.rights.specs.declared.Right.{Right}
 use Rattle.rights.specs.declared.RightLine.{RightLine}
 use Rattle.rights.specs.declared.RightLine.the-variants as RightLine
-use Rattle.rights.specs.RightLines.{mayOf, lastOf, rightOf, afterHigh, afterLow, afterUser, rightFields, rightLine}
-use Rattle.rights.specs.RightSheets.{rightSaid, rightLineStep, rightStep, itemsOf, covers, maySee, mayChange}
+use Rattle.rights.specs.RightLines.{mayOf, lastOf, rightOf, afterHigh, afterLow, afterUser, rightLine}
+use Rattle.rights.specs.RightSheets.{rightSaid, rightLineStep, rightStep, itemsOf, covers}
 use Rattle.fields.specs.Cursors.{piecesFrom, lineAt, bytesLeft}
 use Rattle.tree_view.specs.Members.{member}
 use Rattle.rights.specs.Answers.{RightsHeld}

@@ -1,14 +1,14 @@
 -- The last field of a rights line.
 use mathlib.Core.Path.{_≡_, refl, sym, ap, _∙_}
 use mathlib.Core.List.{List, [], _∷_, _++_}
-use mathlib.Core.Bool.{Bool, true, false, cond, _&&_}
-use mathlib.Core.Option.{Option, none, some}
-use Prim.Native.Nat.{ℕ, _+_, _-_, _≤_, _<_}
+use mathlib.Core.Bool.{Bool, true, false, _&&_}
+use mathlib.Core.Option.{none}
+use Prim.Native.Nat.{ℕ, _≤_, _<_}
 use lib.ListN.{length}
 use lib.Dec.{eqb}
 use borrow.Author.Tests.{eqb-false, ne-eqb}
 use Rattle.fields.specs.declared.Cursor.{Cursor}
-use Rattle.fields.specs.Pieces.{pieces, before, sameBytes}
+use Rattle.fields.specs.Pieces.{pieces, sameBytes}
 use Rattle.fields.proofs.Pieces.{pieces-first}
 use Rattle.fields.proofs.Lines.{fields-of}
 use Rattle.fields.proofs.Fields.{left-none}
@@ -17,7 +17,7 @@ use Rattle.fields.proofs.Cuts.{FreeOf, Cut, whole, after, cut-of, pieces-free, 
 use Rattle.rights.specs.declared.May.the-variants as May
 use Rattle.rights.specs.RightLines.{mayOf, lastOf}
 use Rattle.rights.specs.Answers.{asMay}
-use Rattle.fields.specs.Cursors.{piecesFrom, bytesLeft, fieldsLeft}
+use Rattle.fields.specs.Cursors.{bytesLeft, fieldsLeft}
 
 -- bytes with a blank are no word without one
 blank-not : (u v w : List ℕ) → FreeOf 32 w → sameBytes (u ++ 32 ∷ v) w ≡ false

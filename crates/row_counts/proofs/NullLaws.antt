@@ -1,7 +1,7 @@
 -- Counts over the empty word: a count that is found is right, and once nothing is found all are known.
 use mathlib.Core.Path.{_≡_, refl, sym, ap, ap₂, _∙_, subst}
 use mathlib.Core.Bool.{Bool, true, false}
-use mathlib.Core.List.{List, [], _∷_, _++_}
+use mathlib.Core.List.{List, [], _∷_}
 use mathlib.Core.Logic.{_⊎_, inl, inr, ⊎-elim}
 use Prim.Native.Nat.{ℕ, zero, suc, _+_, _≤_, _<_}
 use native.Mathlib.Omega.{arith}
@@ -11,7 +11,6 @@ use lib.Seq.{getD-set-same, getD-set-other}
 use Rattle.sets.proofs.Basics.{clash}
 use Rattle.grammar.proofs.Acyclic.{no-parts}
 use Rattle.sets.proofs.Basics.{lt-or-eq}
-use Rattle.grammar.specs.Layout.{Word}
 use Rattle.grammar.specs.Trees.{Tree, empty, leaf, unary, binary, root, word, Rules}
 use Rattle.grammar.specs.Choices.{AllPreferred, FirstTree}
 use Rattle.grammar.specs.Rows.{rowCount}

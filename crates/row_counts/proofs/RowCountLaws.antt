@@ -1,6 +1,6 @@
 -- What is said of a capped count, and that counts are settled.
 use mathlib.Core.Path.{_≡_, refl, sym, ap, _∙_}
-use Prim.Native.Nat.{ℕ, zero, suc, _≤_, _<_}
+use Prim.Native.Nat.{ℕ, _≤_, _<_}
 use native.Mathlib.Omega.{arith}
 use Rattle.grammar.specs.Trees.{Rules}
 use Rattle.grammar.specs.Layout.{Word}

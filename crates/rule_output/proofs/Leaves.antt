@@ -2,11 +2,10 @@
 use mathlib.Core.Path.{_≡_, refl, sym, _∙_, ap, subst}
 use mathlib.Core.List.{[]}
 use Prim.Native.Nat.{ℕ}
-use native.Mathlib.Omega.{arith}
 use Rattle.sets.proofs.Basics.{clash}
 use Rattle.grammar.specs.declared.BinaryMark.{BinaryMark}
 use Rattle.grammar.specs.Trees.{Rules}
-use Rattle.clauses.specs.Expansion.{A, B}
+use Rattle.clauses.specs.Expansion.{B}
 use Rattle.lexemes.specs.declared.Lexeme.{Lexeme}
 use Rattle.lexemes.specs.declared.Lexeme.the-variants as Lexeme
 use Rattle.rule_output.specs.declared.Emit.{Emit}

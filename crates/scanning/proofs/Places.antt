@@ -9,7 +9,6 @@ use lib.ListN.{length, drop, getD, drop-of-length-le}
 use lib.Seq.{drop-cons}
 use Rattle.printing.specs.Printing.{decimal}
 use Rattle.printing.proofs.Decimals.{decimal-one, decimal-more}
-use Rattle.scanning.specs.declared.Digits.{Digits}
 use Rattle.scanning.specs.Scanned.{DigitsAt}
 use Rattle.scanning.proofs.Numbers.{run, run-digit, run-low, run-high, run-grows, run-decimal, run-ended, zero-alone}
 

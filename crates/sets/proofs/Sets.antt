@@ -5,9 +5,8 @@ use Prim.Native.Nat.{ℕ, suc, _+_, _-_, _*_, _/_, _%_, _^_, _≤_, _<_, max}
 use native.Mathlib.Nat.{zero-div, div-eq-of-lt, mul-mod-left, div-self, one-mul, mod-eq-of-lt}
 use native.Mathlib.Omega.{arith}
 use native.Mathlib.Decide.{ℕ-discrete, decLt}
-use lib.Bits.{bitOr, or-shr, or-step, or-add-and, and-le-r, or-lt}
+use lib.Bits.{bitOr, or-shr, or-add-and, and-le-r, or-lt}
 use lib.Pow.{pow-pos, pow-lt, pow-add, shl-shr}
-use lib.Arith.{digits-mod}
 use Rattle.sets.proofs.Bits.{or-odd}
 use Rattle.sets.specs.Sets.{In}
 use Rattle.sets.specs.Insertion.{insert}

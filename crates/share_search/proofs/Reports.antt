@@ -1,21 +1,19 @@
 -- What is found, in the words of the definition, and the answer spelled from it.
-use mathlib.Core.Path.{_≡_, refl, sym, ap, _∙_, subst}
-use mathlib.Core.Logic.{_⊎_, ⊎-elim, _↔_}
-use mathlib.Core.List.{List, [], _∷_, _++_}
-use Prim.Native.Nat.{ℕ, _+_, _-_, _*_, _^_, _≤_, _<_}
+use mathlib.Core.Path.{_≡_, sym, ap, _∙_, subst}
+use mathlib.Core.Logic.{⊎-elim, _↔_}
+use mathlib.Core.List.{List, _++_}
+use Prim.Native.Nat.{ℕ, _-_, _^_, _≤_, _<_}
 use native.Mathlib.Omega.{arith}
 use lib.Count.{ones}
-use lib.ListN.{length, drop, replicate, take-append-drop}
+use lib.ListN.{drop, replicate, take-append-drop}
 use Rattle.grammar.specs.declared.Token.{Token}
 use Rattle.candidates.specs.declared.Candidate as Array
 use Rattle.candidates.specs.Arrays.{cells}
 use Rattle.grammar.specs.declared.Cell.{Cell}
 use Rattle.grammar.specs.declared.Sentence.{Sentence}
-use Rattle.grammar.specs.declared.Grammar.{Grammar}
 use Rattle.grammar.specs.Layout.{Word}
 use Rattle.grammar.specs.Trees.{Rules, TwoTrees}
 use Rattle.grammar.specs.Candidates.{Terminal, Candidate, sentence}
-use Rattle.grammar.specs.Content.{rules, Formed}
 use Rattle.grammar.specs.Sweeps.{arrangements, terminalCount}
 use Rattle.grammar.proofs.SweepLaws.{before-total}
 use Rattle.candidates.specs.Terminals as Set
@@ -25,7 +23,6 @@ use Rattle.candidates.proofs.Counting.{counted}
 use Rattle.candidates.proofs.Spelling.{low-steps}
 use Rattle.candidates.proofs.TerminalSets.{no-candidate, candidate-over}
 use Rattle.arrangement_numbers.specs.Numbers.{number}
-use Rattle.arrangement_numbers.specs.Shares.{NoneIn, LowestIn}
 use Rattle.arrangement_numbers.specs.Blocks.{placeIn, numberIn, Few}
 use Rattle.arrangement_numbers.proofs.NumberLaws.{capacity-all}
 use Rattle.arrangement_numbers.proofs.SetPlaces.{number-in, place-below}

@@ -1,25 +1,21 @@
 -- The turns of the search from a number on, and what it finds.
-use mathlib.Core.Path.{_≡_, refl, sym, _∙_, ap, subst}
-use mathlib.Core.Bool.{Bool, true, false}
-use mathlib.Core.Logic.{_⊎_, inl, inr, ⊎-elim, _↔_}
+use mathlib.Core.Path.{_≡_, refl, sym, _∙_, ap}
+use mathlib.Core.Logic.{⊎-elim}
 use mathlib.Core.List.{List}
-use Prim.Native.Nat.{ℕ, zero, suc, _+_, _-_, _*_, _^_, _≤_, _<_}
+use Prim.Native.Nat.{ℕ, zero, suc, _+_, _-_, _^_, _≤_, _<_}
 use native.Mathlib.Omega.{arith}
 use native.Mathlib.Nat.{mul-one}
-use lib.ListN.{length, take}
+use lib.ListN.{length}
 use lib.Seq.{take-all}
-use Rattle.sets.proofs.Says.{true-not-false}
 use Rattle.grammar.specs.declared.Cell.{Cell}
-use Rattle.grammar.specs.Trees.{Rules, TwoTrees}
-use Rattle.grammar.specs.Candidates.{Candidate, CellsBefore, sentence}
+use Rattle.grammar.specs.Trees.{Rules}
 use Rattle.grammar.proofs.SweepLaws.{before-total}
-use Rattle.candidates.specs.Terminals.{Among}
 use Rattle.candidates.specs.Succession.{Shares, First, Follows, Ends}
 use Rattle.arrangement_numbers.specs.Blocks.{numberIn, room, least}
 use Rattle.arrangement_numbers.proofs.BlockLaws.{number-rises, block-low, block-high}
-use Rattle.equivalents.specs.Twins.{Twin, Replaceable}
+use Rattle.equivalents.specs.Twins.{Replaceable}
 use Rattle.equivalents.proofs.Lowered.{shares-less}
-use Rattle.share_search.specs.Searching.{Meets, Lowest, NoneBefore, Barren, Searched, hit, miss}
+use Rattle.share_search.specs.Searching.{Meets, Lowest, NoneBefore, Barren}
 
 module _ {g : Rules} {s n lo : ℕ} (small : s < 2 ^ 64) where
   -- ---- the first of those that meet it is before all others

@@ -1,20 +1,20 @@
 // The search inside a share: the lowest number from one to below another whose arrangement rises and has two trees.
+use arrangement_numbers::block_of;
 use candidates::Candidate;
 use candidates::terminals;
 use dominance::needed;
+use equivalents::passable;
 use grammar::Grammar;
 use grammar::Sentence;
-use arrangement_numbers::block_of;
 use order::ordered;
-use reachable_rules::reachable;
 use pruning::fill_table;
 use pruning::has_two;
 use pruning::twinned;
+use reachable_rules::reachable;
 use sets::Member;
 use sets::first_from;
 use spans::clear;
 use spans::size;
-use equivalents::passable;
 ghost use mathlib.Core.Path.{_≡_};
 ghost use Prim.Native.Nat.{_+_, _*_, _≤_, _<_};
 ghost use lib.ListN.{length};

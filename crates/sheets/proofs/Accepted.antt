@@ -1,10 +1,10 @@
 -- What the definitions accept: rules that are small and distinct, tokens that rise. And a refused line is a line of its sheet.
 use mathlib.Core.Path.{_≡_, refl, sym, ap, _∙_}
 use mathlib.Core.Logic.{_⊎_, inl, inr, ⊎-elim}
-use mathlib.Core.List.{List, [], _∷_, _++_, List·Memᴰ}
+use mathlib.Core.List.{List, [], _∷_, _++_}
 use mathlib.Core.Bool.{Bool, true, false, not, cond, _&&_, _||_}
 use mathlib.Core.Option.{some}
-use Prim.Native.Nat.{ℕ, zero, suc, _+_, _-_, _≤_, _<_, zero-le}
+use Prim.Native.Nat.{ℕ, zero, suc, _+_, _-_, _≤_, zero-le}
 use native.Mathlib.Omega.{arith}
 use lib.ListN.{length, take, getD, getElem?, length-append}
 use lib.Seq.{take-suc}
@@ -22,7 +22,6 @@ use Rattle.grammar.specs.Candidates.{After, RisingFrom, Rising, Wide}
 use Rattle.grammar.proofs.Lists.{every-append}
 use Rattle.grammar.proofs.ChoiceLaws.{member-at}
 use Rattle.fields.specs.Pieces.{pieces, isEmpty, sameBytes}
-use Rattle.fields.proofs.Pieces.{pieces-first}
 use Rattle.lines.specs.declared.RuleLine.{RuleLine}
 use Rattle.lines.specs.declared.RuleLine.the-variants as RuleLine
 use Rattle.lines.specs.declared.TokenLine.{TokenLine}
@@ -32,7 +31,6 @@ use Rattle.lines.specs.declared.Turn.the-variants as Turn
 use Rattle.lines.specs.Turns.{turnOf}
 use Rattle.lines.specs.RuleLines.{ruleLine}
 use Rattle.lines.specs.TokenLines.{tokenLine}
-use Rattle.lines.specs.declared.Key.{Key}
 use Rattle.lines.specs.Keys.{keyOf, sameKey}
 use Rattle.lines.proofs.Small.{line-small}
 use Rattle.lines.proofs.Widths.{line-wide}

@@ -1,8 +1,8 @@
 -- A turn of the loop over rule lines, with the rules and their index in one book.
 use mathlib.Core.Path.{_≡_, refl, sym, ap, _∙_, subst}
-use mathlib.Core.List.{List, [], _∷_, _++_}
-use mathlib.Core.Bool.{Bool, true, false, cond}
-use Prim.Native.Nat.{ℕ, _+_, _-_, _≤_, _<_}
+use mathlib.Core.List.{List}
+use mathlib.Core.Bool.{Bool}
+use Prim.Native.Nat.{ℕ, _+_, _≤_, _<_}
 use native.Mathlib.Numerals.{add-one}
 use native.Mathlib.Omega.{arith}
 use lib.ListN.{length, take, set}
@@ -12,7 +12,6 @@ use Rattle.grammar.specs.declared.Rule.{Rule}
 use Rattle.grammar.specs.Trees.{Rules}
 use Rattle.grammar.specs.Content.{rules, SmallRule}
 use Rattle.fields.specs.declared.Cursor.{Cursor}
-use Rattle.lines.specs.declared.Turn.{Turn}
 use Rattle.lines.specs.Turns.{turnOf}
 use Rattle.lengths.specs.declared.Book.{Book}
 use Rattle.lengths.specs.Indexes.{Exact}
@@ -20,7 +19,7 @@ use Rattle.lengths.specs.Books.{Booked, Appended}
 use Rattle.sheets.specs.declared.Fault.{Fault}
 use Rattle.sheets.specs.declared.RuleStep.{RuleStep}
 use Rattle.sheets.specs.declared.RuleStep.the-variants as RuleStep
-use Rattle.sheets.specs.Items.{Step, next, stop, end, stepAt, lineStep, itemsFrom}
+use Rattle.sheets.specs.Items.{next, end, stepAt, itemsFrom}
 use Rattle.sheets.specs.RuleSheets.{ruleSays, ruleStep}
 use Rattle.sheets.specs.Promises.{Adds}
 use Rattle.sheets.proofs.Loop.{Filled, turned, took, next-only}

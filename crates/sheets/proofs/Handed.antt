@@ -1,11 +1,10 @@
 -- The refused line, from what the two readers answer.
-use mathlib.Core.Path.{_≡_, refl, sym, ap, _∙_, subst}
+use mathlib.Core.Path.{_≡_, refl, sym, ap, _∙_}
 use mathlib.Core.List.{List}
 use Prim.Native.Nat.{ℕ, zero, suc, _-_, _≤_}
 use native.Mathlib.Omega.{arith}
 use lib.ListN.{length}
 use denote.Ref.{RefT}
-use Rattle.grammar.specs.declared.Rule.{Rule}
 use Rattle.fields.specs.Pieces.{pieces}
 use Rattle.fields.specs.Parts.{Part}
 use Rattle.sheets.specs.declared.Fault.{Fault}
@@ -14,7 +13,7 @@ use Rattle.sheets.specs.declared.Outcome.{Outcome}
 use Rattle.sheets.specs.declared.Outcome.the-variants.{Accepted, Refused}
 use Rattle.sheets.specs.Items.{Reading, refused}
 use Rattle.sheets.specs.Promises.{readingOf}
-use Rattle.sheets.specs.RefusedLines.{HeldLine, ofTokens, heldBy, LinePart, Hands}
+use Rattle.sheets.specs.RefusedLines.{ofTokens, heldBy, LinePart, Hands}
 use Rattle.sheets.specs.LinesIn.{LineIn, heldOf, secondHeld}
 use Rattle.grammar.specs.Trees.{Rules}
 

@@ -1,11 +1,11 @@
 -- One turn of a loop over a sheet's lines that fills an array, for any kind of item.
 use mathlib.Core.Path.{_≡_, refl, sym, ap, _∙_, subst}
 use mathlib.Core.List.{List, [], _∷_, _++_}
-use mathlib.Core.Bool.{Bool, true, false, not, cond, _&&_}
-use Prim.Native.Nat.{ℕ, zero, suc, _+_, _-_, _≤_, _<_}
+use mathlib.Core.Bool.{Bool, true, false, cond}
+use Prim.Native.Nat.{ℕ, _+_, _-_, _≤_, _<_}
 use native.Mathlib.Numerals.{add-one}
 use native.Mathlib.Omega.{arith}
-use lib.ListN.{length, take, drop, set, length-set}
+use lib.ListN.{length, take, set, length-set}
 use lib.Seq.{length-take-le, take-suc-set}
 use lib.Dec.{ltb, leb}
 use borrow.Author.Tests.{leb-false, ltb-true}
@@ -15,7 +15,7 @@ use Rattle.fields.specs.Pieces.{isEmpty}
 use Rattle.fields.proofs.Lines.{line-step, line-high, line-low, more-left}
 use Rattle.lines.specs.declared.Turn.the-variants as Turn
 use Rattle.lines.specs.Turns.{turnOf}
-use Rattle.sheets.specs.Items.{Step, next, stop, end, Reading, accepted, refused, stepAt, lineStep, onStep, itemsFrom}
+use Rattle.sheets.specs.Items.{Step, next, stop, end, accepted, refused, stepAt, lineStep, onStep, itemsFrom}
 use Rattle.fields.specs.Cursors.{piecesFrom, lineAt, bytesLeft}
 
 -- the line that begins at a place

@@ -1,18 +1,18 @@
 -- A sheet's first line, as the cursor has it, against the definition.
 use mathlib.Core.Path.{_≡_, refl, sym, ap, _∙_}
-use mathlib.Core.List.{List, [], _∷_}
-use mathlib.Core.Bool.{Bool, true, false, cond, _&&_, not}
+use mathlib.Core.List.{List}
+use mathlib.Core.Bool.{true, false, cond, _&&_}
 use Prim.Native.Nat.{ℕ, _+_, _-_, _≤_, _<_, zero-le}
 use native.Mathlib.Nat.{sub-zero}
 use lib.ListN.{length, take, drop}
 use lib.Dec.{ltb}
 use borrow.Author.Tests.{lt-ltb, le-ltb}
 use Rattle.fields.specs.declared.Cursor.{Cursor}
-use Rattle.fields.specs.Pieces.{pieces, sameBytes, isEmpty}
+use Rattle.fields.specs.Pieces.{pieces, sameBytes}
 use Rattle.fields.proofs.Pieces.{from-zero}
 use Rattle.fields.proofs.Lines.{line-step, more-left}
 use Rattle.sheets.specs.Items.{Reading, withNames}
-use Rattle.fields.specs.Cursors.{piecesFrom, lineAt, bytesLeft}
+use Rattle.fields.specs.Cursors.{piecesFrom, lineAt}
 
 module _ {A : Type 0} (bad : Reading A) (names s : List ℕ) (k : List (List ℕ) → Reading A) where
   abbrev tried : Cursor → Reading A

@@ -1,7 +1,6 @@
 -- What a sheet gives is one thing.
-use mathlib.Core.Path.{_≡_, sym, ap, _∙_}
+use mathlib.Core.Path.{_≡_, sym, _∙_}
 use Prim.Native.Nat.{ℕ}
-use native.Mathlib.Omega.{arith}
 use Rattle.sets.proofs.Basics.{clash}
 use Rattle.sheets.specs.declared.Fault.{Fault}
 use Rattle.sheets.specs.Items.{Reading, accepted, refused}

@@ -1,7 +1,6 @@
 -- The definitions at sheets that are written out: they compute.
 use mathlib.Core.Path.{_≡_, refl}
-use mathlib.Core.List.{List, [], _∷_, _++_}
-use Prim.Native.Nat.{ℕ}
+use mathlib.Core.List.{[], _∷_, _++_}
 use Rattle.sheets.specs.Items.{accepted, refused}
 use Rattle.sheets.specs.RuleSheets.{ruleNames, ruleSheet}
 use Rattle.sheets.specs.TokenSheets.{tokenNames, wideNames, tokenSheet}

@@ -5,7 +5,7 @@ use mathlib.Core.Bool.{Bool, true, false, not, cond, _&&_}
 use Prim.Native.Nat.{ℕ, zero, suc, _+_, _-_, _≤_, _<_, zero-le}
 use native.Mathlib.Nat.{zero-add}
 use native.Mathlib.Omega.{arith}
-use lib.ListN.{length, take, drop, getD, length-drop}
+use lib.ListN.{length, drop, getD, length-drop}
 use lib.Seq.{length-take-le}
 use lib.Dec.{leb}
 use borrow.Author.Tests.{leb-true}
@@ -13,14 +13,14 @@ use denote.Ref.{RefT}
 use Rattle.sets.proofs.Basics.{clash}
 use Rattle.grammar.specs.Trees.{Rules}
 use Rattle.fields.specs.declared.Cursor.{Cursor}
-use Rattle.fields.specs.Pieces.{before, pieces, isEmpty, sameBytes}
+use Rattle.fields.specs.Pieces.{pieces, isEmpty, sameBytes}
 use Rattle.fields.specs.Parts.{Part}
 use Rattle.fields.proofs.Pieces.{from-zero, pieces-first}
 use Rattle.sheets.specs.Items.{Reading, accepted, refused, itemsFrom, withNames}
 use Rattle.sheets.specs.RuleSheets.{anyOf, isStart, ruleStep, finish, rulesFrom, ruleNames, ruleSheet}
 use Rattle.sheets.specs.TokenSheets.{tokenStep, tokenNames, wideNames, wideSheet, tokenSheet}
 use Rattle.sheets.specs.RefusedLines.{pieceStart, LinePart}
-use Rattle.sheets.proofs.Loop.{line-in, line-less, line-cut}
+use Rattle.sheets.proofs.Loop.{line-in, line-cut}
 use Rattle.sheets.proofs.Accepted.{items-line}
 use Rattle.fields.specs.Cursors.{piecesFrom, lineAt, bytesLeft}
 

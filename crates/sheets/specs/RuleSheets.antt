@@ -1,7 +1,7 @@
 -- What a rule sheet says: its rules, or the refusal with its line. 01, refusals 1 to 7, and 44.
 use Prim.Native.Nat.{ℕ}
 use mathlib.Core.List.{List, [], _∷_}
-use mathlib.Core.Bool.{Bool, true, false, cond, _||_}
+use mathlib.Core.Bool.{Bool, false, cond, _||_}
 use lib.Dec.{eqb}
 use Rattle.grammar.specs.declared.Rule.{Rule}
 use Rattle.grammar.specs.Trees.{Rules}
@@ -11,7 +11,7 @@ use Rattle.lines.specs.declared.RuleLine.the-variants as RuleLine
 use Rattle.lines.specs.RuleLines.{ruleLine}
 use Rattle.lines.specs.declared.Key.{Key}
 use Rattle.lines.specs.Keys.{keyOf, sameKey}
-use Rattle.sheets.specs.Items.{Reading, accepted, refused, Step, next, stop, end, lineStep, itemsFrom, withNames}
+use Rattle.sheets.specs.Items.{Reading, accepted, refused, Step, next, stop, lineStep, itemsFrom, withNames}
 
 -- a rule has the key
 abbrev pub hasKey : Key → Rule → Bool

@@ -1,7 +1,7 @@
 -- A span sheet settles every word: two lists of 64-bit words that are the span sheet of one grammar and one word agree on
 -- all words of it. Each pair is some span's, and a word below 2^64 is settled by its digits.
 use mathlib.Core.Path.{_≡_, refl, sym, ap, _∙_, subst}
-use mathlib.Core.Logic.{_⊎_, inl, inr, ⊎-elim, _↔_}
+use mathlib.Core.Logic.{_↔_}
 use mathlib.Core.List.{List, _++_}
 use Prim.Native.Nat.{ℕ, zero, suc, _+_, _-_, _*_, _/_, _%_, _^_, _≤_, _<_}
 use native.Mathlib.Nat.{not-suc-le-zero, pow-suc, pow-succ', div-div-eq-div-mul, div-one, pow-zero}
@@ -13,7 +13,7 @@ use Rattle.sets.specs.Sets.{In}
 use Rattle.sets.proofs.Sets.{in-dec}
 use Rattle.grammar.specs.Layout.{Word}
 use Rattle.grammar.specs.Trees.{Rules}
-use Rattle.grammar.specs.SpanSheet.{pairs, spans, pairAt, firstWord, secondWord, SpanSheet}
+use Rattle.grammar.specs.SpanSheet.{pairs, spans, pairAt, SpanSheet}
 use Rattle.spans.specs.Changes.{Past}
 use Rattle.spans.proofs.Places.{pairs-spans}
 use Rattle.spans.proofs.ChangeLaws.{past-drop}

@@ -1,6 +1,6 @@
 -- What is looked for is found: what a rule adds belongs to it, and a set to which no rule adds has
 -- all of it.
-use mathlib.Core.Path.{_≡_, refl, sym, subst}
+use mathlib.Core.Path.{refl, sym, subst}
 use mathlib.Core.Logic.{_⊎_, inl, inr, ⊎-elim}
 use mathlib.Core.List.{List·Memᴰ}
 use Prim.Native.Nat.{ℕ, _≤_}
@@ -26,7 +26,7 @@ use Rattle.pairs.specs.Survey.{to-first, to-only, to-second}
 use Rattle.survey.specs.declared.Aim.{Aim}
 use Rattle.survey.specs.declared.Aim.the-variants as Aim
 use Rattle.survey.specs.Sources.{Worded, Under, Filled, AddsFilled, Begins, AddsBegins}
-use Rattle.survey.specs.Sources.{Stands, AddsStands, Heads, Follows, AddsFront, AddsFollow}
+use Rattle.survey.specs.Sources.{Stands, AddsStands, Heads, Follows}
 use Rattle.survey.specs.Sources.{AddsHeads}
 use Rattle.survey.specs.Closing.{AtMost, Aimed, AddsBy, Loose, Prepared, Shut}
 

@@ -4,7 +4,6 @@ use mathlib.Core.Logic.{_⊎_, inl, inr, ⊎-elim}
 use mathlib.Core.Bool.{Bool, true, false, _&&_, _||_}
 use Prim.Native.Nat.{ℕ, _≤_}
 use lib.Dec.{leb}
-use Rattle.sets.specs.Sets.{In}
 use Rattle.sets.specs.Says.{Says}
 use Rattle.sets.proofs.Says.{holds, fails, says-leb}
 use Rattle.acyclic.specs.Passes.{Grown}

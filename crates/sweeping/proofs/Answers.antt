@@ -4,8 +4,7 @@ use mathlib.Core.Logic.{_↔_}
 use mathlib.Core.List.{List, [], _∷_, _++_}
 use Prim.Native.Nat.{ℕ, zero, suc, _+_, _-_, _*_, _≤_, _<_}
 use native.Mathlib.Omega.{arith}
-use lib.ListN.{length, take, drop, replicate, length-take, length-replicate, getD-replicate, take-append-drop}
-use lib.Seq.{getD-take, ext-getD}
+use lib.ListN.{length, drop, replicate, take-append-drop}
 use lib.Count.{ones}
 use Rattle.sets.specs.Sets.{In}
 use Rattle.grammar.specs.declared.Cell.{Cell}

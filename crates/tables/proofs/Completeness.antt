@@ -2,7 +2,7 @@
 -- One induction on the tree; nothing is said of cycles.
 use mathlib.Core.Path.{_≡_, refl, sym, ap, ap₂, _∙_, subst, subst₂}
 use mathlib.Core.Logic.{_⊎_, inl, inr, ⊎-elim}
-use mathlib.Core.List.{List, [], _∷_, _++_}
+use mathlib.Core.List.{[], _∷_, _++_}
 use Prim.Native.Nat.{ℕ, _+_, _-_, _≤_, _<_}
 use native.Mathlib.Omega.{arith}
 use native.Mathlib.Decide.{ℕ-discrete, decLt}
@@ -15,10 +15,10 @@ use Rattle.grammar.specs.declared.BinaryMark.{BinaryMark}
 use Rattle.grammar.specs.Layout.{Word}
 use Rattle.grammar.specs.Layout as Mark
 use Rattle.grammar.proofs.Marks.{token?}
-use Rattle.grammar.specs.Trees.{Rules, Tree, Tree-discrete, empty, leaf, unary, binary, root, word, Valid, valid-empty, valid-leaf, valid-unary, valid-binary, Witness, Derives, TwoTrees, Covers}
+use Rattle.grammar.specs.Trees.{Rules, Tree, Tree-discrete, empty, leaf, unary, binary, root, word, Valid, valid-empty, valid-leaf, valid-unary, valid-binary, Derives, TwoTrees, Covers}
 use Rattle.grammar.specs.SpanSheet.{part}
 use Rattle.marks.specs.Half.{Half, Completes}
-use Rattle.marks.proofs.Words.{part-length, Cut, cut}
+use Rattle.marks.proofs.Words.{part-length, cut}
 use Rattle.marks.proofs.HalfLaws.{may-be, may-keep, may-pair}
 use Rattle.tables.specs.Tables.{Table, byTokens, Fits, Stand, Below, Again, rule}
 use Rattle.tables.specs.Tables.Again.{apart, below}

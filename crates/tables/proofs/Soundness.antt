@@ -1,8 +1,8 @@
 -- Soundness: over sound parts, a rule that stands has a valid tree, and what the second table takes in has two.
 -- That two rules give two trees rests on their being distinct (refusal 5).
 use mathlib.Core.Path.{_≡_, refl, sym, ap, ap₂, _∙_, subst, subst₂}
-use mathlib.Core.Logic.{_⊎_, inl, inr, ⊎-elim}
-use mathlib.Core.List.{List, [], _∷_, _++_, List·Memᴰ}
+use mathlib.Core.Logic.{⊎-elim}
+use mathlib.Core.List.{_++_, List·Memᴰ}
 use Prim.Native.Nat.{ℕ, _+_, _-_, _≤_}
 use native.Mathlib.Omega.{arith}
 use lib.ListN.{length}
@@ -10,7 +10,7 @@ use Rattle.grammar.specs.declared.Clause.{Clause}
 use Rattle.grammar.specs.declared.Clause.the-variants as Clause
 use Rattle.grammar.specs.Layout.{Word}
 use Rattle.grammar.specs.Layout as Mark
-use Rattle.grammar.specs.Trees.{Rules, Tree, empty, leaf, unary, binary, root, word, Valid, valid-empty, valid-leaf, valid-unary, valid-binary, Witness, Derives, TwoTrees}
+use Rattle.grammar.specs.Trees.{Rules, Tree, empty, leaf, unary, binary, word, valid-empty, valid-leaf, valid-unary, valid-binary, Witness, Derives, TwoTrees}
 use Rattle.grammar.specs.Choices.{Same}
 use Rattle.grammar.specs.SpanSheet.{part}
 use Rattle.marks.specs.Half.{Half}

@@ -1,6 +1,5 @@
 -- A left word is no longer than the whole; and what stands by the marks that were worked out stands by the definitions.
 use mathlib.Core.Path.{_≡_}
-use mathlib.Core.Logic.{_↔_}
 use Prim.Native.Nat.{ℕ, _≤_}
 use native.Mathlib.Omega.{arith}
 use Rattle.grammar.specs.declared.Clause.{Clause}
@@ -11,7 +10,7 @@ use Rattle.grammar.specs.Trees.{Rules}
 use Rattle.marks.specs.declared.SpanMarks.{SpanMarks}
 use Rattle.marks.specs.Half.{Half}
 use Rattle.marks.specs.Marked.{Marked}
-use Rattle.tables.specs.Tables.{Table, Leave, byTokens, byMarks, Fits, lefts, Stand, Again, Below, rule}
+use Rattle.tables.specs.Tables.{Table, Leave, byTokens, byMarks, Fits, lefts, Stand, Again, rule}
 use Rattle.tables.specs.Tables.Again.{apart, below}
 
 -- a left word is no longer than the clause allows, and than the whole

@@ -9,7 +9,7 @@ use native.Mathlib.Omega.{arith}
 use borrow.Author.Tests.{eq-eqb, ne-eqb}
 use lib.Dec.{eqb}
 use lib.ListN.{length, take, drop, getD}
-use lib.Seq.{take-suc, drop-cons, take-all, drop-length}
+use lib.Seq.{take-suc, drop-cons, drop-length}
 use Rattle.text.specs.Input.{Parts, ontoBefore, partsFrom, parts}
 
 -- bytes put before what is found behind them

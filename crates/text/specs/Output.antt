@@ -1,10 +1,8 @@
 -- The programs' output: 01, "The programs".
 use mathlib.Core.List.{List, [], _∷_, _++_}
 use Prim.Native.Nat.{ℕ}
-use lib.ListN.{length, take}
 use Rattle.grammar.specs.Layout.{Word}
-use Rattle.printing.specs.Printing.{decimal, field, lastField, rowLines, tokenLines}
-use Rattle.sheets.specs.declared.Fault.{Fault}
+use Rattle.printing.specs.Printing.{decimal, lastField, rowLines, tokenLines}
 use Rattle.sheets.specs.Refusals.{numberOf}
 use Rattle.sheets.specs.TokenSheets.{tokenNames}
 use Rattle.answering.specs.declared.Answer.{Answer}

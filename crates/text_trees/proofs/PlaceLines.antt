@@ -10,7 +10,7 @@ use Rattle.lists.specs.Lists.{bytesOf, GivesList, fits, large}
 use Rattle.lists.proofs.Entries.{bytes-length}
 use Rattle.places.specs.Places.{Entry, entryBytes}
 use Rattle.call_places.specs.declared.PlacesReply.{PlacesReply}
-use Rattle.call_places.specs.Places.{PlacesOn, short, listing, PlacesOf, refusing, reading}
+use Rattle.call_places.specs.Places.{short, listing, PlacesOf, refusing, reading}
 use Rattle.text_trees.specs.Places.{placeText, placeLines}
 
 -- whole entries before others

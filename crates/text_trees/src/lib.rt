@@ -12,7 +12,7 @@ ghost use Prim.Native.Nat.{_+_, _*_, _≤_};
 ghost use lib.ListN.{length, take};
 ghost use Rattle.printing.specs.Printing.{decimal, Wrote};
 ghost use Rattle.text.specs.Printed.{Printed};
-ghost use Rattle.text_trees.specs.Places.{placeText, placeNames, placeLines, placesText, PlacesTextOf};
+ghost use Rattle.text_trees.specs.Places.{placeText, placeLines, placesText, PlacesTextOf};
 ghost use Rattle.text_trees.specs.Rows.{countText, countLines, rowsText, RowsTextOf};
 
 // A row count: a number, or the word `more`.

@@ -7,7 +7,7 @@ use Prim.Native.Nat.{ℕ, _+_, _≤_}
 use lib.ListN.{length, getElem?}
 use Rattle.grammar.specs.declared.Rule.{Rule}
 use Rattle.grammar.specs.Layout.{Word, Every}
-use Rattle.grammar.specs.Trees.{Tree, empty, leaf, unary, binary, root, word, Rules, TwoTrees}
+use Rattle.grammar.specs.Trees.{Tree, empty, leaf, unary, binary, root, word, Rules}
 use Rattle.grammar.specs.Choices.{Top, Takes, Choice, OnlyChoice, OtherChoice, Node, Each, Beneath, Preferred, AllPreferred, FirstTree, SecondTree, Swerves, Second, here, below, left, right}
 use Rattle.tree_view.specs.Shown.{View, shownRows}
 use Rattle.grammar.specs.SpanSheet.{part}

@@ -1,13 +1,13 @@
 -- Laws of the search for a choice and of what is picked.
 use mathlib.Core.Path.{_≡_, refl, sym, ap, _∙_}
 use mathlib.Core.Bool.{Bool, true, false}
-use mathlib.Core.List.{List, [], _∷_}
+use mathlib.Core.List.{List}
 use mathlib.Core.Logic.{_⊎_, inl, inr, ⊎-elim}
 use mathlib.Core.Option.{some}
-use Prim.Native.Nat.{ℕ, zero, suc, _+_, _≤_, _<_}
+use Prim.Native.Nat.{ℕ, _+_, _≤_, _<_}
 use native.Mathlib.Omega.{arith}
 use native.Mathlib.Decide.{ℕ-discrete}
-use lib.ListN.{length, getElem?, take, length-take, drop}
+use lib.ListN.{length, getElem?, length-take, drop}
 use Rattle.grammar.specs.declared.Rule.{Rule}
 use Rattle.grammar.specs.declared.Clause.{Clause}
 use Rattle.grammar.specs.declared.Clause.the-variants as Clause
@@ -15,7 +15,7 @@ use Rattle.grammar.specs.declared.Grammar.{Grammar}
 use Rattle.grammar.specs.declared.Sentence.{Sentence}
 use Rattle.grammar.specs.Layout.{Word}
 use Rattle.grammar.specs.Trees.{Rules}
-use Rattle.grammar.specs.Choices.{Choice, ChoiceBefore, Same, OnlyChoice, OtherChoice, FirstChoice, Preferred}
+use Rattle.grammar.specs.Choices.{Choice, ChoiceBefore, Same, OnlyChoice, OtherChoice, FirstChoice}
 use Rattle.grammar.specs.Content.{rules, Formed, SmallRule}
 use Rattle.grammar.specs.SpanSheet.{part, secondWord}
 use Rattle.grammar.proofs.Lists.{mem-every, getElem?-take}

@@ -1,13 +1,12 @@
 -- What is found is what the first tree takes; the heights that are lent on either kind of sheet.
 use mathlib.Core.Path.{_≡_}
 use mathlib.Core.List.{List}
-use Prim.Native.Nat.{ℕ, _<_}
+use Prim.Native.Nat.{ℕ}
 use native.Mathlib.Omega.{arith}
 use lib.ListN.{length}
-use Rattle.sets.proofs.Basics.{not-zero}
 use Rattle.grammar.specs.Layout.{Word}
 use Rattle.grammar.specs.Trees.{Rules}
-use Rattle.grammar.specs.Choices.{Preferred, straight, looping}
+use Rattle.grammar.specs.Choices.{straight, looping}
 use Rattle.grammar.specs.declared.Grammar.{Grammar}
 use Rattle.grammar.specs.declared.Sentence.{Sentence}
 use Rattle.grammar.specs.Content.{rules}
@@ -16,7 +15,7 @@ use Rattle.heights.specs.Least.{HeightSheet}
 use Rattle.choices.specs.declared.Pick.{Pick}
 use Rattle.choices.specs.declared.Pick.the-variants as Pick
 use Rattle.choices.specs.Choosing.{NextChoice}
-use Rattle.tree_choices.specs.Wanted.{Charted, LentHeights, Ready}
+use Rattle.tree_choices.specs.Wanted.{Charted, Ready}
 use Rattle.tree_choices.specs.Picks.{HasChoice}
 use Rattle.tree_choices.specs.Lows.{LowPick, PreferredPick}
 use Rattle.tree_choices.proofs.PickLaws.{first-of-next, none-of-none}

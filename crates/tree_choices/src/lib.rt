@@ -1,9 +1,9 @@
 // What the first and the second tree take at a node, and what is shown of it.
+use choices::Pick;
+use choices::next_choice;
 use grammar::Grammar;
 use grammar::Sentence;
 use heights::high;
-use choices::Pick;
-use choices::next_choice;
 use rows::Step;
 use rows::step_of;
 use sets::has;

@@ -1,9 +1,8 @@
 -- For the same sentence, another mark in the place of `none` never leads from none to another verdict or from one to two.
-use mathlib.Core.Path.{_≡_, refl, sym, ap, _∙_}
+use mathlib.Core.Path.{_≡_, refl, sym, _∙_}
 use mathlib.Core.Logic.{_⊎_, inl, inr, ⊎-elim}
-use mathlib.Core.List.{List, [], _∷_, List·Memᴰ, List·Memᴰ·head, List·Memᴰ·tail, List·Memᴰ·not-nil, List·Memᴰ·cases-cons}
-use Prim.Native.Nat.{ℕ, zero, suc}
-use native.Mathlib.Omega.{arith}
+use mathlib.Core.List.{_∷_, List·Memᴰ, List·Memᴰ·head, List·Memᴰ·tail, List·Memᴰ·not-nil, List·Memᴰ·cases-cons}
+use Prim.Native.Nat.{ℕ}
 use Rattle.grammar.proofs.Unmarked.{none-unary, none-binary}
 use Rattle.grammar.specs.declared.Rule.{Rule}
 use Rattle.grammar.specs.declared.UnaryMark.{UnaryMark}
@@ -13,8 +12,7 @@ use Rattle.grammar.specs.declared.BinaryMark.the-variants as BinaryMark
 use Rattle.grammar.specs.declared.Clause.{Clause}
 use Rattle.grammar.specs.declared.Clause.the-variants as Clause
 use Rattle.grammar.specs.Layout.{Word}
-use Rattle.grammar.specs.Layout as Mark
-use Rattle.grammar.specs.Trees.{Rules, Tree, root, word, HasEmpty, HasAtom, HasUnary, HasBinary, Valid, valid-empty, valid-leaf, valid-unary, valid-binary, Witness, NoTree, OneTree, TwoTrees}
+use Rattle.grammar.specs.Trees.{Rules, Tree, word, Valid, valid-empty, valid-leaf, valid-unary, valid-binary, Witness, NoTree, OneTree, TwoTrees}
 use Rattle.tree_view.specs.Stricter.{StricterClause, same, unary, binary, Stricter, none-left, more}
 
 -- 1. a rule of h stands in g, with the same mark or with none

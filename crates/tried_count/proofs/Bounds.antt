@@ -1,13 +1,13 @@
 -- Refusal 24 keeps the numbers small.
 use mathlib.Core.Path.{_≡_, refl, sym, _∙_, ap}
-use Prim.Native.Nat.{ℕ, zero, suc, _+_, _-_, _*_, _^_, _≤_, _<_}
+use Prim.Native.Nat.{ℕ, zero, suc, _+_, _*_, _^_, _≤_, _<_}
 use native.Mathlib.Omega.{arith}
-use native.Mathlib.Nat.{mul-le-mul, mul-le-mul-left, mul-le-mul-right, mul-pos, pow-suc, pow-zero, mul-zero, mul-one, one-mul, mul-comm, mul-assoc, zero-mul}
+use native.Mathlib.Nat.{mul-le-mul, mul-le-mul-left, mul-le-mul-right, mul-pos, pow-suc, pow-zero, mul-zero, mul-one, one-mul, mul-assoc}
 use native.Mathlib.Numerals.{add-one}
 use native.Mathlib.Decide.{decLt}
 use Rattle.grammar.specs.Sweeps.{arrangements}
 use Rattle.candidates.proofs.Limit.{partly, partly-one, partly-more, partly-above, limit-end}
-use Rattle.tried_count.specs.Ways.{sum, ways, lesser, onward, wholeOf}
+use Rattle.tried_count.specs.Ways.{onward}
 use Rattle.tried_count.specs.Rows.{Fair}
 use Rattle.tried_count.proofs.Sums.{onward-le}
 

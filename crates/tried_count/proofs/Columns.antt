@@ -1,19 +1,17 @@
 -- The loops over columns: a sum so far, a row so far, and how large they are.
-use mathlib.Core.Path.{_≡_, refl, sym, _∙_, ap, ap₂, subst}
+use mathlib.Core.Path.{_≡_, refl, _∙_, ap, ap₂}
 use mathlib.Core.Logic.{_⊎_, inl, inr, ⊎-elim}
-use mathlib.Core.List.{List}
 use Prim.Native.Nat.{ℕ, zero, suc, _+_, _-_, _*_, _≤_, _<_}
 use native.Mathlib.Omega.{arith}
 use native.Mathlib.Decide.{decLt, ℕ-discrete}
 use native.Mathlib.Numerals.{add-one}
-use native.Mathlib.Nat.{mul-le-mul, mul-le-mul-left, mul-le-mul-right, sub-zero}
+use native.Mathlib.Nat.{mul-le-mul, mul-le-mul-right, sub-zero}
 use lib.ListN.{length, getD, set, replicate, getD-replicate, List·getD-eq-default}
 use lib.Seq.{getD-set-same, getD-set-other}
-use Rattle.grammar.specs.declared.Cell.{Cell}
 use Rattle.tried_count.specs.declared.Row.{Row}
 use Rattle.tried_count.specs.Ways.{sum, ways, lesser, onward}
 use Rattle.tried_count.specs.Rows.{at, Low, Grown, RowOf, Fair}
-use Rattle.tried_count.proofs.Sums.{sum-same, ways-same, sum-le, ways-le}
+use Rattle.tried_count.proofs.Sums.{ways-same, sum-le, ways-le}
 use Rattle.tried_count.proofs.Bounds.{onward-small}
 
 -- ---- a sum so far: s is that of the columns after a, up to k

@@ -1,10 +1,9 @@
 -- The loop over a candidate's cells: what the cells so far count, and what is left.
-use mathlib.Core.Path.{_≡_, refl, sym, _∙_, ap, ap₂, subst}
+use mathlib.Core.Path.{_≡_, sym, _∙_, ap, ap₂}
 use mathlib.Core.List.{List, [], _∷_}
-use Prim.Native.Nat.{ℕ, zero, suc, _+_, _-_, _*_, _≤_, _<_}
+use Prim.Native.Nat.{ℕ, _+_, _-_, _*_, _≤_, _<_}
 use native.Mathlib.Omega.{arith}
-use native.Mathlib.Numerals.{add-one}
-use native.Mathlib.Nat.{mul-le-mul-right, sub-zero}
+use native.Mathlib.Nat.{sub-zero}
 use lib.ListN.{length}
 use Rattle.grammar.specs.declared.Cell.{Cell}
 use Rattle.grammar.specs.Candidates as Of
@@ -15,8 +14,8 @@ use Rattle.candidates.specs.Windows.{Fits, Fit}
 use Rattle.candidates.proofs.ListOrder.{candidate-fit}
 use Rattle.candidates.proofs.Windows.{cells-turn, cells-end, cells-size}
 use Rattle.tried_count.specs.declared.Row.{Row}
-use Rattle.tried_count.specs.Ways.{sum, ways, lesser, onward, wholeOf, rankFrom}
-use Rattle.tried_count.specs.Rows.{at, Low, RowOf, Fair, membersBelow, cellRank}
+use Rattle.tried_count.specs.Ways.{ways, onward, wholeOf, rankFrom}
+use Rattle.tried_count.specs.Rows.{at, Low, RowOf, membersBelow, cellRank}
 use Rattle.tried_count.proofs.Sums.{ways-same, lesser-same}
 use Rattle.tried_count.proofs.Members.{members-le}
 use Rattle.tried_count.proofs.Columns.{ways-small, lesser-small, share-small}

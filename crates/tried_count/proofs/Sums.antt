@@ -1,11 +1,8 @@
 -- Sums over columns: by their members, and how large they are.
-use mathlib.Core.Path.{_≡_, refl, sym, _∙_, ap, ap₂}
-use mathlib.Core.List.{List, [], _∷_}
+use mathlib.Core.Path.{_≡_, refl, ap, ap₂}
 use Prim.Native.Nat.{ℕ, zero, suc, _+_, _-_, _*_, _^_, _≤_, _<_}
 use native.Mathlib.Omega.{arith}
-use native.Mathlib.Nat.{mul-le-mul, mul-le-mul-left, mul-le-mul-right, pow-suc, pow-zero, suc-mul, zero-mul, mul-one, one-mul, mul-zero, add-zero}
-use lib.ListN.{length}
-use Rattle.grammar.specs.declared.Cell.{Cell}
+use native.Mathlib.Nat.{mul-le-mul-left, mul-le-mul-right, pow-suc, pow-zero, suc-mul}
 use Rattle.tried_count.specs.Ways.{sum, ways, lesser, onward}
 
 -- equal members, equal sums

@@ -2,15 +2,14 @@
 use mathlib.Core.Path.{_≡_, refl, sym, _∙_, ap, subst}
 use mathlib.Core.Logic.{_⊎_, inl, inr, ⊎-elim, _↔_}
 use mathlib.Core.List.{List, [], _∷_}
-use Prim.Native.Nat.{ℕ, zero, suc, _+_, _-_, _*_, _^_, _≤_, _<_}
+use Prim.Native.Nat.{ℕ, suc, _+_, _-_, _*_, _^_, _≤_, _<_}
 use native.Mathlib.Omega.{arith}
 use native.Mathlib.Decide.{decLt}
 use native.Mathlib.Nat.{mul-le-mul}
 use lib.ListN.{length}
 use lib.Count.{ones}
-use Rattle.sets.specs.Sets.{In}
 use Rattle.grammar.specs.declared.Cell.{Cell}
-use Rattle.grammar.specs.Candidates.{Candidate, CellsBefore, Earlier}
+use Rattle.grammar.specs.Candidates.{Candidate, CellsBefore}
 use Rattle.grammar.specs.Sweeps.{SweepAnswer, clear, found}
 use Rattle.candidates.specs.Terminals.{Among}
 use Rattle.candidates.proofs.TerminalSets.{candidate-over}

@@ -12,7 +12,7 @@ ghost use Rattle.grammar.specs.Candidates as Of;
 ghost use Rattle.candidates.specs.Terminals.{Among};
 ghost use Rattle.candidates.specs.Arrays.{cells};
 ghost use Rattle.tried_count.specs.Tried.{Sized, Tried};
-ghost use Rattle.tried_count.specs.Ways.{sum, ways, lesser, onward, wholeOf, rankFrom};
+ghost use Rattle.tried_count.specs.Ways.{sum, ways, lesser, wholeOf, rankFrom};
 ghost use Rattle.tried_count.specs.Rows.{at, Low, Grown, RowOf, Fair, Fairs, membersBelow, cellRank};
 ghost use Rattle.tried_count.specs.Searched.{Long, answerOf, Hit};
 

@@ -1,22 +1,18 @@
 -- All valid trees whose words stand in a given word, as a list that antt computes.
 -- `step` puts each rule once on top of the trees in hand. Where a step brings nothing new, the list has every valid tree (`complete`).
-use mathlib.Core.Path.{_≡_, refl, sym, _∙_, ap, subst}
-use mathlib.Core.Bool.{Bool, true, false}
-use mathlib.Core.List.{List, [], _∷_, _++_, List·Memᴰ, List·Memᴰ·head, List·Memᴰ·tail}
-use Prim.Native.Nat.{ℕ, zero, suc}
-use lib.Dec.{T}
-use Rattle.grammar.specs.declared.Token.{Token}
+use mathlib.Core.Path.{_≡_, refl, subst}
+use mathlib.Core.List.{List, [], _∷_, _++_, List·Memᴰ, List·Memᴰ·head}
+use Prim.Native.Nat.{ℕ}
 use Rattle.grammar.specs.declared.UnaryMark.{UnaryMark}
 use Rattle.grammar.specs.declared.BinaryMark.{BinaryMark}
 use Rattle.grammar.specs.declared.Rule.{Rule}
 use Rattle.grammar.specs.declared.Clause.{Clause}
 use Rattle.grammar.specs.declared.Clause.the-variants.{Empty, Atom, Unary, Binary}
 use Rattle.grammar.specs.Layout.{Word, Every}
-use Rattle.grammar.specs.Layout as Mark
-use Rattle.grammar.specs.Trees.{Tree, Tree-discrete, empty, leaf, unary, binary, root, word, Rules, HasEmpty, Covers, HasUnary, HasBinary, Valid, valid-empty, valid-leaf, valid-unary, valid-binary, Witness, NoTree, OneTree, TwoTrees}
-use Rattle.grammar.proofs.Lists.{eq?, le?, both?, map?, keep, collect, list?, every-keep, mem-keep, every-collect, mem-collect, mem-every, holds, holds-yes}
-use Rattle.grammar.proofs.Marks.{unary?, binary?, token?, word?}
-use Rattle.worked_examples.proofs.Infixes.{within?, within, Infix, infix-self, infix-left, infix-right, infix-mem}
+use Rattle.grammar.specs.Trees.{Tree, Tree-discrete, empty, leaf, unary, binary, root, word, Rules, Covers, HasUnary, HasBinary, Valid, valid-empty, valid-leaf, valid-unary, valid-binary}
+use Rattle.grammar.proofs.Lists.{eq?, le?, both?, map?, keep, collect, every-keep, mem-keep, every-collect, mem-collect, mem-every}
+use Rattle.grammar.proofs.Marks.{unary?, binary?, token?}
+use Rattle.worked_examples.proofs.Infixes.{within?, within, Infix, infix-left, infix-right, infix-mem}
 
 abbrev pub tree? : Discrete Tree
 tree? = Tree-discrete eq? token?

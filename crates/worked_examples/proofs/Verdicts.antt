@@ -1,11 +1,11 @@
 -- A chart that has come to rest settles whether a nonterminal has no valid tree of a word, one, or two; one that has not (a loop has no end) may show two.
-use mathlib.Core.Path.{_≡_, refl, sym, _∙_, subst, subst⁻¹}
+use mathlib.Core.Path.{_≡_, refl, sym, _∙_, subst⁻¹}
 use mathlib.Core.Bool.{Bool, true, false, not}
-use mathlib.Core.List.{List, [], _∷_, _++_, map, List·Memᴰ, List·Memᴰ·head, List·Memᴰ·tail, List·Memᴰ·not-nil, List·Memᴰ·eq-of-singleton}
+use mathlib.Core.List.{List, [], _∷_, map, List·Memᴰ·head, List·Memᴰ·not-nil, List·Memᴰ·eq-of-singleton}
 use Prim.Native.Nat.{ℕ, zero, suc}
 use lib.Dec.{T}
 use Rattle.grammar.specs.Layout.{Word, Every}
-use Rattle.grammar.specs.Trees.{Tree, root, word, Rules, Valid, Witness, NoTree, OneTree, TwoTrees}
+use Rattle.grammar.specs.Trees.{Tree, root, word, Rules, Valid, Witness, TwoTrees}
 use Rattle.worked_examples.specs.Claims.{TreeCount, no-tree, one-tree, two-trees, Is, Exactly, leftLength, LeftLengths}
 use Rattle.grammar.proofs.Lists.{eq?, keep, collect, list?, every-keep, mem-keep, every-collect, mem-collect, mem-every, holds, holds-yes}
 use Rattle.grammar.proofs.Marks.{word?}

@@ -1,7 +1,6 @@
 -- `swept` meets its contract: 23, 24 and 21 by their tests, else the search.
 use mathlib.Core.Path.{refl}
 use mathlib.Core.Logic.{inl, inr}
-use Prim.Native.Nat.{ℕ, _≤_, _<_}
 use native.Mathlib.Omega.{arith}
 use borrow.Author.Tests.{not-true, not-false}
 use Rattle.sets.proofs.Basics.{not-le}

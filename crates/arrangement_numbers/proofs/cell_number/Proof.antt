@@ -1,9 +1,7 @@
 -- A cell's number: its terminal's place, its step and its column are the digits.
-use Prim.Native.Nat.{_≤_, _*_, _+_, suc}
+use Prim.Native.Nat.{_≤_}
 use native.Mathlib.Omega.{arith}
 use borrow.Author.Needs.{needs}
-use Rattle.candidates.specs.Windows.{largestStep}
-use Rattle.arrangement_numbers.specs.Blocks.{placeIn}
 use Rattle.arrangement_numbers.proofs.Working.{digit-is, digit-small, product-small, largest-small, place-small}
 use Rattle.arrangement_numbers.proofs.cell_number.Statement.{statement}
 use Rattle.arrangement_numbers.proofs.cell_number.Tie as tie

@@ -1,5 +1,5 @@
 -- The number of the first cells, a cell at a time.
-use mathlib.Core.Path.{_≡_, refl, ap, sym, _∙_}
+use mathlib.Core.Path.{_≡_, refl}
 use Prim.Native.Nat.{_≤_, _<_, _^_, _-_}
 use native.Mathlib.Omega.{arith}
 use borrow.Author.Needs.{needs}

@@ -1,5 +1,4 @@
 -- The language's count of ones, of the members below x.
-use Prim.Native.Nat.{_^_}
 use native.Mathlib.Omega.{arith}
 use borrow.Author.Needs.{needs}
 use Rattle.arrangement_numbers.proofs.Working.{shl-pos, place-small, place-is}

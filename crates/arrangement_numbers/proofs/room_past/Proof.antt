@@ -2,7 +2,6 @@
 use mathlib.Core.Path.{_≡_, refl}
 use Prim.Native.Nat.{_≤_, _<_, _^_}
 use native.Mathlib.Omega.{arith}
-use borrow.Author.Needs.{needs}
 use Rattle.arrangement_numbers.specs.Blocks.{room}
 use Rattle.arrangement_numbers.proofs.Working.{room-end, room-turn, room-fits}
 use Rattle.arrangement_numbers.proofs.room_past.Statement.{statement}

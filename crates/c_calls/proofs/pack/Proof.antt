@@ -5,9 +5,6 @@ use Rattle.c_calls.specs.Face.{packed}
 use borrow.Author.Needs.{needs}
 use Rattle.c_calls.proofs.pack.Statement.{statement}
 use Rattle.c_calls.proofs.pack.Tie as tie
-use Rattle.c_calls.proofs.pack.Reads as reads
-use Rattle.c_calls.proofs.pack.Lts as lts
-use Rattle.c_calls.proofs.code.Reads as code-reads
 
 -- src/lib.rt:34:16
 code-requires : tie.Need-code-requires

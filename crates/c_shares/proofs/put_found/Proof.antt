@@ -7,8 +7,6 @@ use Rattle.c_words.proofs.Words.{sentence-length, wrote-front}
 use borrow.Author.Needs.{needs}
 use Rattle.c_shares.proofs.put_found.Statement.{statement}
 use Rattle.c_shares.proofs.put_found.Tie as tie
-use Rattle.c_shares.proofs.put_found.Reads as reads
-use Rattle.c_shares.proofs.put_found.Lts as lts
 
 -- src/lib.rt:80:9
 put-sentence-requires : tie.Need-put-sentence-requires

@@ -1,5 +1,4 @@
 -- `teplonga_rows` meets its contract: the counts as numbers, and the answer with its line.
-use Rattle.c_words.specs.Words.{AtFront, countWords}
 use borrow.Author.Needs.{needs}
 use Rattle.c_trees.proofs.teplonga_rows.Statement.{statement}
 use Rattle.c_trees.proofs.teplonga_rows.Tie as tie

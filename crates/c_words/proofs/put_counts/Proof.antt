@@ -6,9 +6,6 @@ use Rattle.c_words.proofs.Words.{wrote-front}
 use borrow.Author.Needs.{needs}
 use Rattle.c_words.proofs.put_counts.Statement.{statement}
 use Rattle.c_words.proofs.put_counts.Tie as tie
-use Rattle.c_words.proofs.put_counts.Reads as reads
-use Rattle.c_words.proofs.put_counts.Lts as lts
-use Rattle.c_words.proofs.put_word.Reads as put-word-reads
 
 put-word-requires : tie.Need-put-word-requires
 put-word-requires c κs = search needs

@@ -1,7 +1,6 @@
 -- `c_words::put_found` meets its contract, by the number of lent words.
 use mathlib.Core.Path.{_≡_, refl}
 use native.Mathlib.Omega.{arith}
-use Prim.Native.Nat.{_≤_}
 use lib.ListN.{length, length-map}
 use Rattle.printing.proofs.Writing.{wrote-then}
 use Rattle.c_words.specs.Words.{few, written}

@@ -3,10 +3,6 @@ use Rattle.printing.proofs.Writing.{wrote-then}
 use borrow.Author.Needs.{needs}
 use Rattle.c_words.proofs.put_sentence.Statement.{statement}
 use Rattle.c_words.proofs.put_sentence.Tie as tie
-use Rattle.c_words.proofs.put_sentence.Reads as reads
-use Rattle.c_words.proofs.put_sentence.Lts as lts
-use Rattle.c_words.proofs.put_tokens.Reads as put-tokens-reads
-use Rattle.c_words.proofs.put_word.Reads as put-word-reads
 
 -- src/lib.rt:80:9
 put-word-requires : tie.Need-put-word-requires

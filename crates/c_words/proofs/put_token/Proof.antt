@@ -3,9 +3,6 @@ use Rattle.printing.proofs.Writing.{wrote-then}
 use borrow.Author.Needs.{needs}
 use Rattle.c_words.proofs.put_token.Statement.{statement}
 use Rattle.c_words.proofs.put_token.Tie as tie
-use Rattle.c_words.proofs.put_token.Reads as reads
-use Rattle.c_words.proofs.put_token.Lts as lts
-use Rattle.c_words.proofs.put_word.Reads as put-word-reads
 
 -- src/lib.rt:55:33
 cast-put-word : tie.Need-cast-put-word

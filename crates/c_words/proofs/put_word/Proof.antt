@@ -3,8 +3,6 @@ use borrow.Author.Needs.{needs}
 use Rattle.printing.proofs.Writing.{wrote-one}
 use Rattle.c_words.proofs.put_word.Statement.{statement}
 use Rattle.c_words.proofs.put_word.Tie as tie
-use Rattle.c_words.proofs.put_word.Reads as reads
-use Rattle.c_words.proofs.put_word.Lts as lts
 
 -- src/lib.rt:46:5
 mul-found : tie.Need-mul-found

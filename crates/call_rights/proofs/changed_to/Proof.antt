@@ -1,6 +1,5 @@
 -- `changed_to` meets its contract: 51 by the rule's place and the user's set, else the new mark is looked at.
 use borrow.Author.Needs.{needs}
-use mathlib.Core.Path.{_≡_, refl, sym, ap, _∙_}
 use native.Mathlib.Omega.{arith}
 use Rattle.call_rights.specs.Change.{allowed}
 use Rattle.call_rights.proofs.Changes.{barred-zero, barred-past, read-small, read-named, read-may, read-barred}

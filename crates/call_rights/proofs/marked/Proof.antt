@@ -1,6 +1,6 @@
 -- `marked` meets its contract: 2 and 4 by the new mark's bytes and the rule's clause, else the changed sheet.
 use borrow.Author.Needs.{needs}
-use mathlib.Core.Path.{_≡_, refl, sym, ap, _∙_}
+use mathlib.Core.Path.{sym, _∙_}
 use Rattle.call_rights.proofs.Changes.{done-form, done-lay, done-listed}
 use Rattle.call_rights.proofs.marked.Statement.{statement}
 use Rattle.call_rights.proofs.marked.Tie as tie

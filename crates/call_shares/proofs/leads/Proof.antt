@@ -1,13 +1,10 @@
 -- By its tests, one after the other.
-use borrow.Author.Needs.{needs}
 use borrow.Author.Tests.{ltb-true, ltb-false}
-use mathlib.Core.Path.{_≡_, sym}
-use mathlib.Core.Logic.{_⊎_, inl, inr, ⊎-elim}
-use mathlib.Core.Bool.{Bool, true, false}
+use mathlib.Core.Path.{_≡_}
+use mathlib.Core.Logic.{_⊎_, inl, inr}
 use Prim.Native.Nat.{ℕ, _≤_, _<_}
 use native.Mathlib.Omega.{arith}
-use Rattle.sets.specs.Says.{Says}
-use Rattle.sets.proofs.Says.{holds, fails, says-iff}
+use Rattle.sets.proofs.Says.{holds, fails}
 use Rattle.call_shares.specs.Merge.{Leads}
 use Rattle.call_shares.proofs.leads.Statement.{statement}
 use Rattle.call_shares.proofs.leads.Tie as tie

@@ -1,11 +1,7 @@
 -- By the answer.
 use borrow.Author.Needs.{needs}
-use mathlib.Core.Path.{_≡_, sym, subst}
-use mathlib.Core.Bool.{true, false}
-use Rattle.sets.specs.Says.{Says}
+use mathlib.Core.Path.{subst}
 use Rattle.sets.proofs.Says.{holds, fails}
-use Rattle.answering.specs.declared.Answer.{Answer}
-use Rattle.answering.specs.declared.Answer.the-variants as Answer
 use Rattle.call_shares.specs.Merge.{Refuses}
 use Rattle.call_shares.proofs.refuses.Statement.{statement}
 use Rattle.call_shares.proofs.refuses.Tie as tie

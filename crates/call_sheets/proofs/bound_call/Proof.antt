@@ -1,5 +1,5 @@
 -- `call_sheets::bound_call` meets its contract: by whether a number was read.
-use mathlib.Core.Path.{_≡_, sym, _∙_}
+use mathlib.Core.Path.{sym, _∙_}
 use borrow.Author.Needs.{needs}
 use Rattle.fields.specs.Words.{numeralOf}
 use Rattle.call_sheets.specs.declared.Call.the-variants as Call

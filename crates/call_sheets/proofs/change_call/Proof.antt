@@ -1,11 +1,11 @@
 -- `call_sheets::change_call` meets its contract: after each number, what the sheet names is what the definition says of the fields left; the
 -- bytes behind them are one field, or no call is named.
-use mathlib.Core.Path.{_≡_, refl, sym, ap, _∙_}
+use mathlib.Core.Path.{_≡_, sym, ap, _∙_}
 use mathlib.Core.List.{List}
-use Prim.Native.Nat.{ℕ, _+_, _-_, _≤_}
+use Prim.Native.Nat.{ℕ, _-_, _≤_}
 use native.Mathlib.Omega.{arith}
 use borrow.Author.Needs.{needs}
-use lib.ListN.{length, take, drop, length-drop}
+use lib.ListN.{length, drop, length-drop}
 use lib.Seq.{length-take-le}
 use Rattle.fields.specs.declared.Cursor.{Cursor}
 use Rattle.fields.specs.Pieces.{pieces}

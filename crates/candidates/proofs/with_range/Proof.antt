@@ -3,7 +3,6 @@ use Prim.Native.Nat.{_+_, _-_, _≤_, _<_}
 use mathlib.Core.Path.{_≡_, refl}
 use mathlib.Core.Logic.{_⊎_, inl, inr}
 use native.Mathlib.Omega.{arith}
-use borrow.Author.Needs.{needs}
 use Rattle.candidates.proofs.TerminalSets.{Reached, reached-none, reached-more, reached-all}
 use Rattle.candidates.proofs.with_range.Statement.{statement}
 use Rattle.candidates.proofs.with_range.Tie as tie

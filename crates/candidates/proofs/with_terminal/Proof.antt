@@ -1,9 +1,7 @@
 -- `candidates::with_terminal` meets its contract, kind by kind.
-use mathlib.Core.Path.{sym, _∙_, subst}
-use Prim.Native.Nat.{ℕ}
+use mathlib.Core.Path.{sym}
 use borrow.Author.Needs.{needs}
 use Rattle.sets.proofs.Says.{true-not-false}
-use Rattle.candidates.specs.Terminals.{Widened}
 use Rattle.candidates.proofs.TerminalSets.{atom-small, widened-none, widened-range}
 use Rattle.candidates.proofs.with_terminal.Statement.{statement}
 use Rattle.candidates.proofs.with_terminal.Tie as tie

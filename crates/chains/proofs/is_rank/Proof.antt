@@ -1,5 +1,5 @@
 use borrow.Author.Needs.{needs}
-use mathlib.Core.Path.{_≡_, sym}
+use mathlib.Core.Path.{sym}
 use Rattle.sets.proofs.Says.{says-eqb, says-iff}
 use Rattle.chains.proofs.is_rank.Statement.{statement}
 use Rattle.chains.proofs.is_rank.Tie as tie

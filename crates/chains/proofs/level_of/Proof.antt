@@ -1,7 +1,5 @@
 use borrow.Author.Needs.{needs}
-use borrow.Author.Tests.{not-true, not-false}
-use mathlib.Core.Path.{_≡_, sym, _∙_}
-use mathlib.Core.Bool.{true, false}
+use mathlib.Core.Path.{sym, _∙_}
 use Rattle.sets.proofs.Says.{true-not-false}
 use Rattle.chains.proofs.ChainLaws.{level-three, level-two, level-one, level-none}
 use Rattle.chains.proofs.level_of.Statement.{statement}

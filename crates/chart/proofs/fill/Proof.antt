@@ -1,12 +1,11 @@
 -- The loop's invariant: the spans that begin at `start` or past it are settled. Once all are, the sheet is exact where it is known and covers the rest.
 use mathlib.Core.Path.{_≡_, subst}
-use Prim.Native.Nat.{ℕ, _+_, _-_, _*_, _≤_}
+use Prim.Native.Nat.{ℕ, _+_, _-_, _≤_}
 use native.Mathlib.Omega.{arith}
 use lib.ListN.{length-map}
 use Rattle.codes.specs.Codes.{decoded}
 use Rattle.marks.specs.Drafts.{half}
 use Rattle.marks.proofs.DraftLaws.{drafted-length}
-use Rattle.grammar.specs.SpanSheet.{pairs}
 use Rattle.spans.proofs.ChangeLaws.{past-same, past-then}
 use Rattle.chart.specs.Filling.{Whole, Filled, Grown}
 use Rattle.chart.proofs.FillLaws.{given-same, given-then}

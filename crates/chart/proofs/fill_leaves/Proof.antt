@@ -1,10 +1,9 @@
 -- The loop's invariant: the pairs of the tokens passed are written.
 use borrow.Author.Needs.{needs}
-use mathlib.Core.Path.{_≡_, sym, ap, subst}
-use Prim.Native.Nat.{ℕ, _-_, _*_, _≤_, _<_}
+use mathlib.Core.Path.{sym, ap, subst}
+use Prim.Native.Nat.{ℕ, _-_}
 use native.Mathlib.Omega.{arith}
 use Rattle.codes.specs.Codes.{decoded}
-use Rattle.grammar.specs.SpanSheet.{pairs}
 use Rattle.marks.specs.Drafts.{drafted}
 use Rattle.marks.proofs.DraftLaws.{drafted-at}
 use Rattle.spans.specs.Changes.{WrotePair}

@@ -1,7 +1,7 @@
 -- The loop's invariant: the marks are those of the tokens passed, and the spans that begin at `start` are settled up to them.
 use borrow.Author.Needs.{needs}
-use mathlib.Core.Path.{_≡_, sym, ap, subst}
-use Prim.Native.Nat.{ℕ, _+_, _-_, _*_, _≤_, _<_}
+use mathlib.Core.Path.{sym, ap, subst}
+use Prim.Native.Nat.{_+_, _-_, _*_, _≤_, _<_}
 use native.Mathlib.Omega.{arith}
 use Rattle.codes.specs.Codes.{decoded}
 use Rattle.grammar.specs.declared.Token.{Token}

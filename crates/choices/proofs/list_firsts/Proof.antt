@@ -1,10 +1,10 @@
 -- The loop's invariant: the nonterminals passed have the place of their first rule.
-use mathlib.Core.Path.{_≡_, refl, sym, ap, _∙_, subst}
-use Prim.Native.Nat.{ℕ, _+_, _-_, _≤_, _<_}
+use mathlib.Core.Path.{_≡_, sym, _∙_, subst}
+use Prim.Native.Nat.{ℕ, _-_, _≤_}
 use native.Mathlib.Omega.{arith}
-use lib.ListN.{length, getD, length-set}
+use lib.ListN.{length, length-set}
 use Rattle.grammar.specs.Content.{rules}
-use Rattle.choices.specs.RuleLists.{FirstOf, Firsts, Nexts, Listed}
+use Rattle.choices.specs.RuleLists.{Firsts}
 use Rattle.choices.proofs.ListLaws.{firsts-more}
 use Rattle.choices.proofs.list_firsts.Statement.{statement}
 use Rattle.choices.proofs.list_firsts.Tie as tie

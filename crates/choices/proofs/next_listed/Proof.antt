@@ -1,7 +1,7 @@
 -- The loop's invariant: no rule that stands is passed, and the rule at the place is one of `a`.
 use borrow.Author.Needs.{needs}
 use mathlib.Core.Path.{sym, subst, subst₂}
-use Prim.Native.Nat.{ℕ, _+_, _-_, _<_}
+use Prim.Native.Nat.{_+_, _-_, _<_}
 use native.Mathlib.Omega.{arith}
 use lib.ListN.{length}
 use Rattle.grammar.specs.declared.Rule.{Rule}

@@ -1,12 +1,10 @@
 -- The loop's invariant: no rule passed is one of `a`.
-use mathlib.Core.Path.{_≡_, refl, sym, ap, _∙_, subst}
-use Prim.Native.Nat.{ℕ, _+_, _-_, _≤_, _<_}
+use mathlib.Core.Path.{sym, ap, _∙_}
+use Prim.Native.Nat.{_-_, _≤_}
 use native.Mathlib.Omega.{arith}
-use lib.ListN.{length, getD, length-set}
 use Rattle.grammar.specs.declared.Rule.{Rule}
 use Rattle.grammar.specs.Content.{rules}
 use Rattle.tables.proofs.RulePlaces.{rule-read}
-use Rattle.choices.specs.RuleLists.{FirstOf, Firsts, Nexts, Listed}
 use Rattle.choices.proofs.ListLaws.{NoneTo, none-first, none-more, none-found, none-end}
 use Rattle.choices.proofs.rule_from.Statement.{statement}
 use Rattle.choices.proofs.rule_from.Tie as tie

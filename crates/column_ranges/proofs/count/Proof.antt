@@ -1,5 +1,4 @@
 -- The loop's invariant: the tokens from i on are counted, and their choices are within the limit.
-use borrow.Author.Needs.{needs}
 use Prim.Native.Nat.{_-_}
 use native.Mathlib.Omega.{arith}
 use Rattle.column_ranges.proofs.Counting.{ended-at, Counting, counting-none, counting-more, counts-over, counts-all, product-fits}

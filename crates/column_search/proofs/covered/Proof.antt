@@ -1,5 +1,5 @@
 use borrow.Author.Needs.{needs}
-use borrow.Author.Tests.{not-true, not-false}
+use borrow.Author.Tests.{not-false}
 use mathlib.Core.Path.{sym}
 use Rattle.sets.proofs.Says.{true-not-false}
 use Rattle.column_search.proofs.Searching.{implies-all}

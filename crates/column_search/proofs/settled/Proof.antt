@@ -1,6 +1,5 @@
 use borrow.Author.Needs.{needs}
 use borrow.Author.Tests.{not-true, not-false}
-use mathlib.Core.Path.{sym}
 use mathlib.Core.Logic.{inl, inr}
 use Rattle.sets.proofs.Says.{true-not-false}
 use Rattle.column_search.proofs.settled.Statement.{statement}

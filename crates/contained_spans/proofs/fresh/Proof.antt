@@ -1,7 +1,6 @@
 -- The least member of those that are not done.
 use borrow.Author.Needs.{needs}
-use mathlib.Core.Path.{_≡_, refl, sym, subst}
-use Prim.Native.Nat.{ℕ, _<_, _^_}
+use Prim.Native.Nat.{_<_, _^_}
 use native.Mathlib.Omega.{arith}
 use Rattle.cuts.proofs.PutLaws.{least-member}
 use lib.Bits.{bitAnd, bitXor, and-le-l}

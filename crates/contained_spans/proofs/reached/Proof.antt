@@ -1,15 +1,10 @@
 -- From the start down, span by span.
 use borrow.Author.Needs.{needs}
-use mathlib.Core.Path.{_≡_, refl, sym, _∙_, subst}
-use Prim.Native.Nat.{_+_}
+use mathlib.Core.Path.{_≡_, refl}
 use native.Mathlib.Omega.{arith}
-use lib.ListN.{length, take, length-map}
+use lib.ListN.{length, length-map}
 use lib.Seq.{length-take-le}
-use Rattle.grammar.specs.Trees.{Rules}
 use Rattle.grammar.specs.Content.{rules}
-use Rattle.grammar.specs.SpanSheet.{pairAt}
-use Rattle.marks.specs.declared.Draft.{Draft}
-use Rattle.contained_spans.specs.Spreading.{Known, Done}
 use Rattle.contained_spans.proofs.DoneLaws.{done-start, reached}
 use Rattle.contained_spans.proofs.reached.Statement.{statement}
 use Rattle.contained_spans.proofs.reached.Tie as tie

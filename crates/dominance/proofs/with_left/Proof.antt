@@ -1,6 +1,6 @@
 -- An arm for each kind.
 use borrow.Author.Needs.{needs}
-use mathlib.Core.Path.{refl, sym, ap, _∙_}
+use mathlib.Core.Path.{refl, sym, _∙_}
 use native.Mathlib.Omega.{arith}
 use Rattle.dominance.proofs.LeftSets.{with-same, with-other}
 use Rattle.dominance.proofs.with_left.Statement.{statement}

@@ -2,7 +2,6 @@
 -- looked at.
 use Prim.Native.Nat.{_+_, _-_, _≤_, _<_}
 use native.Mathlib.Omega.{arith}
-use mathlib.Core.Path.{_≡_}
 use Rattle.grammar.specs.Content.{rules}
 use Rattle.doubt_list.specs.Steps.{at, Lists}
 use Rattle.doubt_list.proofs.ListLaws.{lists-none, lists-then}

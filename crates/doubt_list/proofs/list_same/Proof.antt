@@ -1,5 +1,4 @@
 -- `doubt_list::list_same` meets its contract.
-use native.Mathlib.Omega.{arith}
 use Rattle.doubt_list.proofs.Going.{lists-same}
 use borrow.Author.Needs.{needs}
 use Rattle.doubt_list.proofs.list_same.Statement.{statement}

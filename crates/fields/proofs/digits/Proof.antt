@@ -1,7 +1,7 @@
 -- `fields::digits` meets its contract. The loop's invariant: the digits behind i continue v to what all of them write, and v has i digits.
 use lib.Dec.{lit<}
 use Rattle.fields.proofs.Numerals.{digits-end, digits-low, digits-high, digits-more, ten-more, ten-top}
-use Prim.Native.Nat.{ℕ, _+_, _-_, _*_, _^_, _≤_, _<_}
+use Prim.Native.Nat.{_-_, _^_, _≤_, _<_}
 use mathlib.Core.Path.{_≡_, refl, sym, ap, _∙_}
 use native.Mathlib.Omega.{arith}
 use borrow.Author.Needs.{needs}

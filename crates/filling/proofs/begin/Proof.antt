@@ -1,13 +1,8 @@
 use borrow.Author.Needs.{needs}
-use Prim.Native.Nat.{_<_}
 use native.Mathlib.Omega.{arith}
 use Rattle.filling.proofs.ClosingLaws.{beginning}
 use Rattle.filling.proofs.begin.Statement.{statement}
 use Rattle.filling.proofs.begin.Tie as tie
-use Rattle.filling.proofs.begin.Reads as reads
-use Rattle.filling.proofs.begin.Lts as lts
-use Rattle.spans.proofs.clear.Reads as clear-reads
-use Rattle.filling.proofs.load.Reads as load-reads
 
 -- src/lib.rt:109:5
 clear-requires : tie.Need-clear-requires

@@ -7,12 +7,6 @@ use Rattle.spans.proofs.Places.{pairAt-below}
 use Rattle.filling.proofs.ClosingLaws.{found-joins, closing}
 use Rattle.filling.proofs.close.Statement.{statement}
 use Rattle.filling.proofs.close.Tie as tie
-use Rattle.filling.proofs.close.Reads as reads
-use Rattle.filling.proofs.close.Lts as lts
-use Rattle.cuts.proofs.put.Reads as put-reads
-use Rattle.spans.proofs.pair_at.Reads as pair-at-reads
-use Rattle.spans.proofs.write.Reads as write-reads
-use Rattle.filling.proofs.find.Reads as find-reads
 
 -- src/lib.rt:78:9
 find-requires : tie.Need-find-requires

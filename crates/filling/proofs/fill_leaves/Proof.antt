@@ -1,14 +1,12 @@
 use borrow.Author.Needs.{needs}
-use mathlib.Core.Path.{_≡_, sym, ap, subst}
-use Prim.Native.Nat.{ℕ, _-_, _*_, _≤_, _<_}
+use mathlib.Core.Path.{subst}
+use Prim.Native.Nat.{ℕ, _-_}
 use native.Mathlib.Omega.{arith}
 use Rattle.grammar.specs.Content.{rules}
-use Rattle.grammar.specs.SpanSheet.{pairs}
 use Rattle.marks.specs.Drafts.{drafted}
 use Rattle.spans.specs.Changes.{WrotePair}
 use Rattle.spans.proofs.Places.{pairAt-below, pairs-closed}
 use Rattle.chart.proofs.SingleLaws.{PairsWritten, written-none, written-more, written-all}
-use Rattle.filling.specs.Closing.{Leading}
 use Rattle.filling.proofs.fill_leaves.Statement.{statement}
 use Rattle.filling.proofs.fill_leaves.Tie as tie
 

@@ -20,13 +20,6 @@ use Rattle.chart.proofs.SheetLaws.{filled-next, filled-pass, filled-end, filled
 use Rattle.filling.proofs.ClosingLaws.{cut-joined, empty-kept, ending}
 use Rattle.filling.proofs.fill_start.Statement.{statement}
 use Rattle.filling.proofs.fill_start.Tie as tie
-use Rattle.filling.proofs.fill_start.Reads as reads
-use Rattle.filling.proofs.fill_start.Lts as lts
-use Rattle.marks.proofs.first_marks.Reads as first-marks-reads
-use Rattle.marks.proofs.with_next.Reads as with-next-reads
-use Rattle.filling.proofs.begin.Reads as begin-reads
-use Rattle.filling.proofs.close.Reads as close-reads
-use Rattle.filling.proofs.load.Reads as load-reads
 
 abbrev Inv-loop : tie.InvT-loop
 Inv-loop words₀ rows₀ cols₀ table g b e from start d n known a k₀ len₀ words rows cols k len =

@@ -11,9 +11,6 @@ use Rattle.chart.proofs.FillLaws.{given-same, given-then}
 use Rattle.filling.specs.Closing.{Begins, Columns}
 use Rattle.filling.proofs.fill_starts.Statement.{statement}
 use Rattle.filling.proofs.fill_starts.Tie as tie
-use Rattle.filling.proofs.fill_starts.Reads as reads
-use Rattle.filling.proofs.fill_starts.Lts as lts
-use Rattle.filling.proofs.fill_start.Reads as fill-start-reads
 
 abbrev Inv-loop : tie.InvT-loop
 Inv-loop words₀ rows₀ cols₀ table d g b e from to start₀ words rows cols start = (start ≤ d .count) × Grown words₀ words (rules g) (half d) (d .count) from start × (length rows ≡ 128) × Columns words (d .count) start cols × Begins words e × (length cols ≡ length cols₀)

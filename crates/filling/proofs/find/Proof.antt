@@ -4,12 +4,6 @@ use Rattle.cuts.proofs.CountLaws.{counts-nested}
 use Rattle.filling.proofs.ClosingLaws.{found-of}
 use Rattle.filling.proofs.find.Statement.{statement}
 use Rattle.filling.proofs.find.Tie as tie
-use Rattle.filling.proofs.find.Reads as reads
-use Rattle.filling.proofs.find.Lts as lts
-use Rattle.chains.proofs.level_of.Reads as level-of-reads
-use Rattle.cuts.proofs.cut_masks.Reads as cut-masks-reads
-use Rattle.cuts.proofs.splits.Reads as splits-reads
-use Rattle.cuts.proofs.unite.Reads as unite-reads
 
 -- src/lib.rt:106:9
 cut-masks-requires : tie.Need-cut-masks-requires

@@ -1,9 +1,8 @@
 use borrow.Author.Needs.{needs}
-use mathlib.Core.Path.{_≡_, refl, sym, ap, _∙_}
-use Prim.Native.Nat.{ℕ, _+_, _-_, _≤_, _<_}
+use mathlib.Core.Path.{refl, sym, ap, _∙_}
+use Prim.Native.Nat.{_-_, _≤_}
 use native.Mathlib.Omega.{arith}
 use Rattle.grammar.specs.declared.Token.{Token}
-use Rattle.marks.specs.Drafts.{drafted}
 use Rattle.marks.proofs.DraftLaws.{drafted-at}
 use Rattle.filling.proofs.first_like.Statement.{statement}
 use Rattle.filling.proofs.first_like.Tie as tie

@@ -6,10 +6,6 @@ use Rattle.spans.specs.Changes.{WrotePair}
 use Rattle.spans.proofs.Places.{pairAt-below}
 use Rattle.filling.proofs.give.Statement.{statement}
 use Rattle.filling.proofs.give.Tie as tie
-use Rattle.filling.proofs.give.Reads as reads
-use Rattle.filling.proofs.give.Lts as lts
-use Rattle.spans.proofs.pair_at.Reads as pair-at-reads
-use Rattle.spans.proofs.write.Reads as write-reads
 
 -- src/lib.rt:366:9
 pair-at-requires : tie.Need-pair-at-requires

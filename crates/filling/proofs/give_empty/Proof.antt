@@ -3,9 +3,6 @@ use native.Mathlib.Omega.{arith}
 use Rattle.spans.proofs.Places.{pairs-closed}
 use Rattle.filling.proofs.give_empty.Statement.{statement}
 use Rattle.filling.proofs.give_empty.Tie as tie
-use Rattle.filling.proofs.give_empty.Reads as reads
-use Rattle.filling.proofs.give_empty.Lts as lts
-use Rattle.spans.proofs.write.Reads as write-reads
 
 -- src/lib.rt:355:5
 write-requires : tie.Need-write-requires

@@ -11,12 +11,6 @@ use Rattle.links.proofs.ThinLaws.{formed-ruled, saturated-all}
 use Rattle.chart.proofs.SingleLaws.{leaf-found}
 use Rattle.filling.proofs.leaf_pair.Statement.{statement}
 use Rattle.filling.proofs.leaf_pair.Tie as tie
-use Rattle.filling.proofs.leaf_pair.Reads as reads
-use Rattle.filling.proofs.leaf_pair.Lts as lts
-use Rattle.links.proofs.leaves.Reads as leaves-reads
-use Rattle.links.proofs.link_rules.Reads as link-rules-reads
-use Rattle.links.proofs.saturated.Reads as saturated-reads
-use Rattle.marks.proofs.first_marks.Reads as first-marks-reads
 
 -- src/lib.rt:63:9
 first-marks-requires : tie.Need-first-marks-requires

@@ -7,10 +7,6 @@ use Rattle.spans.proofs.Places.{pairAt-below}
 use Rattle.filling.proofs.ClosingLaws.{loaded}
 use Rattle.filling.proofs.load.Statement.{statement}
 use Rattle.filling.proofs.load.Tie as tie
-use Rattle.filling.proofs.load.Reads as reads
-use Rattle.filling.proofs.load.Lts as lts
-use Rattle.cuts.proofs.put.Reads as put-reads
-use Rattle.spans.proofs.pair_at.Reads as pair-at-reads
 
 -- src/lib.rt:94:18
 inside : (c : tie.After-pair-at) → 2 * c .pair-at .result + 1 < length (c .before .before .before .before .args .words .now)

@@ -1,14 +1,11 @@
 use borrow.Author.Needs.{needs}
-use mathlib.Core.Path.{_≡_, refl, sym, ap, _∙_, subst}
-use Prim.Native.Nat.{ℕ, _+_, _-_, _*_, _≤_, _<_}
+use mathlib.Core.Path.{_≡_, refl, sym, _∙_, subst}
+use Prim.Native.Nat.{ℕ, _+_, _-_, _≤_}
 use native.Mathlib.Omega.{arith}
-use lib.ListN.{length, getD}
+use lib.ListN.{length}
 use Rattle.filling.specs.Closing.{Columns}
 use Rattle.filling.proofs.load_from.Statement.{statement}
 use Rattle.filling.proofs.load_from.Tie as tie
-use Rattle.filling.proofs.load_from.Reads as reads
-use Rattle.filling.proofs.load_from.Lts as lts
-use Rattle.filling.proofs.load_start.Reads as load-start-reads
 
 abbrev Inv-loop : tie.InvT-loop
 Inv-loop words rows₀ cols₀ n to start₀ rows cols start = (to ≤ start) × (start ≤ n) × (length rows ≡ 128) × Columns words n start cols × (length cols ≡ length cols₀)

@@ -1,17 +1,11 @@
-use borrow.Author.Needs.{needs}
-use mathlib.Core.Path.{_≡_, refl, sym, ap, _∙_, subst}
-use Prim.Native.Nat.{ℕ, _+_, _-_, _*_, _≤_, _<_}
+use mathlib.Core.Path.{_≡_, refl, sym, _∙_}
+use Prim.Native.Nat.{_+_, _-_, _≤_}
 use native.Mathlib.Omega.{arith}
-use lib.ListN.{length, getD}
+use lib.ListN.{length}
 use Rattle.cuts.specs.Cuts.{Mirrors}
-use Rattle.filling.specs.Closing.{Columns}
 use Rattle.filling.proofs.ClosingLaws.{ending}
 use Rattle.filling.proofs.load_start.Statement.{statement}
 use Rattle.filling.proofs.load_start.Tie as tie
-use Rattle.filling.proofs.load_start.Reads as reads
-use Rattle.filling.proofs.load_start.Lts as lts
-use Rattle.filling.proofs.begin.Reads as begin-reads
-use Rattle.filling.proofs.load.Reads as load-reads
 
 abbrev Inv-loop : tie.InvT-loop
 Inv-loop words rows₀ cols₀ n start len₀ rows cols len = (2 ≤ len) × (start + len ≤ n + 1) × Mirrors words n start len rows cols × (length cols ≡ length cols₀)

@@ -7,10 +7,6 @@ use Rattle.marks.proofs.DraftLaws.{drafted-length}
 use Rattle.chart.proofs.SheetLaws.{settles}
 use Rattle.filling.proofs.no_two.Statement.{statement}
 use Rattle.filling.proofs.no_two.Tie as tie
-use Rattle.filling.proofs.no_two.Reads as reads
-use Rattle.filling.proofs.no_two.Lts as lts
-use Rattle.filling.proofs.refill.Reads as refill-reads
-use Rattle.spans.proofs.in_second.Reads as in-second-reads
 
 -- the array of tokens has 64 places
 whole : (c : tie.Start) → length (drafted (c .args .d)) ≡ c .args .d .count

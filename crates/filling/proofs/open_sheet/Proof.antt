@@ -4,10 +4,6 @@ use Prim.Native.Nat.{ℕ}
 use Rattle.spans.specs.Changes.{Past}
 use Rattle.filling.proofs.open_sheet.Statement.{statement}
 use Rattle.filling.proofs.open_sheet.Tie as tie
-use Rattle.filling.proofs.open_sheet.Reads as reads
-use Rattle.filling.proofs.open_sheet.Lts as lts
-use Rattle.spans.proofs.clear.Reads as clear-reads
-use Rattle.spans.proofs.size.Reads as size-reads
 
 -- src/lib.rt:340:18
 size-requires : tie.Need-size-requires

@@ -1,12 +1,7 @@
 -- Only a binary clause is idle, by two numbers of the empty word.
 use borrow.Author.Needs.{needs}
-use mathlib.Core.Path.{_≡_, refl, sym, ap, _∙_, subst}
-use Prim.Native.Nat.{ℕ, _+_, _-_, _*_, _≤_, _<_}
 use native.Mathlib.Omega.{arith}
-use mathlib.Core.Bool.{true, false}
 use Rattle.sets.proofs.Basics.{clash}
-use Rattle.grammar.specs.Content.{SmallClause}
-use Rattle.heights.specs.Falls.{Idle}
 use Rattle.heights.proofs.FallLaws.{idle-by}
 use Rattle.heights.proofs.idle.Statement.{statement}
 use Rattle.heights.proofs.idle.Tie as tie

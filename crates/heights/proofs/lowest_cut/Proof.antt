@@ -1,9 +1,9 @@
 -- The loop's invariant: the least of the left lengths passed.
 use borrow.Author.Needs.{needs}
-use mathlib.Core.Path.{_≡_, refl, sym, ap, _∙_, subst}
-use Prim.Native.Nat.{ℕ, _+_, _-_, _*_, _≤_, _<_}
+use mathlib.Core.Path.{_≡_, refl, sym, subst}
+use Prim.Native.Nat.{_-_, _≤_}
 use native.Mathlib.Omega.{arith}
-use mathlib.Core.Logic.{_⊎_, inl, inr, ⊎-elim}
+use mathlib.Core.Logic.{_⊎_, inl, inr}
 use Rattle.grammar.specs.declared.Clause.the-variants as Clause
 use Rattle.tables.specs.Tables.{byMarks}
 use Rattle.heights.specs.Tall.{table, Lowest}

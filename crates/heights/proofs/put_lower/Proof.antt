@@ -1,9 +1,7 @@
 -- The number falls, or it was no higher.
 use borrow.Author.Needs.{needs}
-use mathlib.Core.Path.{_≡_, refl, sym, ap, _∙_, subst}
-use Prim.Native.Nat.{ℕ, _+_, _-_, _*_, _≤_, _<_}
+use mathlib.Core.Path.{refl}
 use native.Mathlib.Omega.{arith}
-use mathlib.Core.Bool.{true, false}
 use Rattle.sets.proofs.Basics.{clash}
 use Rattle.heights.proofs.put_lower.Statement.{statement}
 use Rattle.heights.proofs.put_lower.Tie as tie

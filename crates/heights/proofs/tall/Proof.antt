@@ -1,11 +1,6 @@
 -- `tall` meets its contract, by the kind of the clause.
 use borrow.Author.Needs.{needs}
-use mathlib.Core.Path.{_≡_, refl, sym, ap, _∙_, subst}
-use mathlib.Core.Logic.{inl, inr}
-use mathlib.Core.Bool.{true, false}
-use Prim.Native.Nat.{ℕ, _+_, _-_, _*_, _≤_, _<_}
-use native.Mathlib.Omega.{arith}
-use lib.ListN.{length}
+use mathlib.Core.Path.{subst}
 use borrow.Author.Tests.{not-true, not-false}
 use Rattle.grammar.specs.Content.{SmallClause}
 use Rattle.heights.proofs.FallLaws.{measured-none, measured-empty, measured-atom}

@@ -1,6 +1,6 @@
 -- The loop's invariant: the codes passed are of no B rule.
 use borrow.Author.Needs.{needs}
-use Prim.Native.Nat.{ℕ, _+_, _-_, _≤_, _<_}
+use Prim.Native.Nat.{_-_, _≤_}
 use native.Mathlib.Omega.{arith}
 use lib.ListN.{length}
 use Rattle.joins.specs.Passes.{Unpaired}

@@ -1,6 +1,5 @@
 -- Where a part has no tree no rule stands; else the rules are tried.
 use borrow.Author.Needs.{needs}
-use mathlib.Core.Path.{refl}
 use mathlib.Core.Logic.{inl, inr}
 use lib.ListN.{length}
 use Rattle.codes.specs.Codes.{decoded}

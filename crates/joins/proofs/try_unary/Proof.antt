@@ -2,7 +2,6 @@
 use borrow.Author.Needs.{needs}
 use borrow.Author.Tests.{not-true, not-false}
 use mathlib.Core.Path.{refl}
-use mathlib.Core.Bool.{true, false}
 use Rattle.joins.specs.Passes.Took.{fell, stood}
 use Rattle.joins.proofs.try_unary.Statement.{statement}
 use Rattle.joins.proofs.try_unary.Tie as tie

@@ -1,5 +1,5 @@
 -- `lines::lay_rule` meets its contract: by the kind.
-use mathlib.Core.Path.{_≡_, refl, sym, ap, _∙_}
+use mathlib.Core.Path.{_∙_}
 use borrow.Author.Needs.{needs}
 use Rattle.lines.proofs.lay_rule.Statement.{statement}
 use Rattle.lines.proofs.lay_rule.Tie as tie

@@ -1,5 +1,5 @@
 -- `lines::same_key` meets its contract: the tests are the definition's, in its order.
-use mathlib.Core.Path.{sym, refl, _∙_}
+use mathlib.Core.Path.{sym, _∙_}
 use Rattle.fields.proofs.Pick.{and-true, and-false, hit, miss}
 use borrow.Author.Tests.{eq-eqb, ne-eqb}
 use borrow.Author.Needs.{needs}

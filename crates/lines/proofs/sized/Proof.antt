@@ -1,5 +1,4 @@
 -- `lines::sized` meets its contract: the tests are the definition's, in its order.
-use mathlib.Core.Path.{_≡_}
 use Prim.Native.Nat.{_+_}
 use borrow.Author.Tests.{le-leb, lt-leb}
 use native.Mathlib.Omega.{arith}

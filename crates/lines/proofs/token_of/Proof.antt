@@ -1,8 +1,7 @@
 -- `lines::token_of` meets its contract: the tests are the definition's, in its order.
-use borrow.Author.Tests.{eq-eqb, ne-eqb, le-leb, lt-leb}
+use borrow.Author.Tests.{le-leb, lt-leb}
 use native.Mathlib.Omega.{arith}
-use mathlib.Core.Path.{_≡_, refl, sym, ap, _∙_}
-use borrow.Author.Needs.{needs}
+use mathlib.Core.Path.{_∙_}
 use Rattle.lines.proofs.token_of.Statement.{statement}
 use Rattle.lines.proofs.token_of.Tie as tie
 

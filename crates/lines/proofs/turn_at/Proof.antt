@@ -1,5 +1,4 @@
 -- `lines::turn_at` meets its contract: the tests are the definition's, in its order.
-use borrow.Author.Needs.{needs}
 use Rattle.lines.proofs.Turning.{ended-many, ended-few, none-left, left-many, left-few}
 use Rattle.lines.proofs.turn_at.Statement.{statement}
 use Rattle.lines.proofs.turn_at.Tie as tie

@@ -2,9 +2,6 @@ use borrow.Author.Needs.{needs}
 use Rattle.sets.proofs.Says.{holds, fails}
 use Rattle.links.proofs.idle.Statement.{statement}
 use Rattle.links.proofs.idle.Tie as tie
-use Rattle.links.proofs.idle.Reads as reads
-use Rattle.links.proofs.idle.Lts as lts
-use Rattle.sets.proofs.has.Reads as has-reads
 
 -- src/lib.rt:23:26
 enum-told : tie.Need-enum-told

@@ -1,20 +1,17 @@
 use borrow.Author.Needs.{needs}
-use mathlib.Core.Path.{_≡_, refl, sym, ap, _∙_, subst}
-use Prim.Native.Nat.{ℕ, _+_, _-_, _≤_, _<_}
+use mathlib.Core.Path.{_≡_, sym, subst}
+use Prim.Native.Nat.{ℕ, _-_, _≤_, _<_}
 use native.Mathlib.Omega.{arith}
 use lib.ListN.{length, getD, length-set, length-take}
 use lib.Seq.{getD-take, length-take-le}
 use Rattle.grammar.proofs.Lists.{every-at}
 use Rattle.grammar.specs.declared.Rule.{Rule}
-use Rattle.grammar.specs.Content.{rules, SmallClause, SmallRule}
-use Rattle.tables.specs.Tables.{no-rule, rule}
+use Rattle.grammar.specs.Content.{rules, SmallRule}
+use Rattle.tables.specs.Tables.{no-rule}
 use Rattle.links.specs.LinkRules.{Idle, Thinned, thin-none, thin-drop}
 use Rattle.links.proofs.ThinLaws.{thin-more, thin-take, thin-from}
 use Rattle.links.proofs.link_rules.Statement.{statement}
 use Rattle.links.proofs.link_rules.Tie as tie
-use Rattle.links.proofs.link_rules.Reads as reads
-use Rattle.links.proofs.link_rules.Lts as lts
-use Rattle.links.proofs.idle.Reads as idle-reads
 
 abbrev Inv-loop : tie.InvT-loop
 Inv-loop one g rs₀ m₀ i₀ rs m i = (i ≤ g .count) × (m ≤ i) × (g .count ≤ length rs) × Thinned one (rules g) rs i m

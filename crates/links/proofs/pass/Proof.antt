@@ -1,8 +1,7 @@
 use borrow.Author.Needs.{needs}
-use mathlib.Core.Path.{_≡_, refl, sym, subst}
+use mathlib.Core.Path.{_≡_, sym, subst}
 use Prim.Native.Nat.{ℕ, _+_, _-_, _≤_, _<_}
 use native.Mathlib.Omega.{arith}
-use lib.ListN.{length}
 use lib.Seq.{getD-take}
 use Rattle.grammar.specs.declared.Rule.{Rule}
 use Rattle.grammar.specs.Content.{rules, SmallRule}
@@ -10,9 +9,6 @@ use Rattle.tables.specs.Tables.{no-rule}
 use Rattle.joins.specs.Passes.{WholeSide, Pass, pass-none, pass-more}
 use Rattle.links.proofs.pass.Statement.{statement}
 use Rattle.links.proofs.pass.Tie as tie
-use Rattle.links.proofs.pass.Reads as reads
-use Rattle.links.proofs.pass.Lts as lts
-use Rattle.links.proofs.try_link.Reads as try-link-reads
 
 abbrev Inv-loop : tie.InvT-loop
 Inv-loop k one two len w u₀ i₀ u i = (i ≤ w .count) × Pass one two k len (rules w) u₀ i u

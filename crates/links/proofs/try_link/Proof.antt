@@ -2,10 +2,6 @@ use borrow.Author.Needs.{needs}
 use mathlib.Core.Path.{refl}
 use Rattle.links.proofs.try_link.Statement.{statement}
 use Rattle.links.proofs.try_link.Tie as tie
-use Rattle.links.proofs.try_link.Reads as reads
-use Rattle.links.proofs.try_link.Lts as lts
-use Rattle.joins.proofs.try_beside.Reads as try-beside-reads
-use Rattle.joins.proofs.try_unary.Reads as try-unary-reads
 
 -- src/lib.rt:63:26
 enum-told : tie.Need-enum-told

@@ -1,6 +1,5 @@
 -- `begin` meets its contract.
-use mathlib.Core.Path.{_≡_, refl}
-use Prim.Native.Nat.{ℕ}
+use mathlib.Core.Path.{refl}
 use native.Mathlib.Omega.{arith}
 use Rattle.sets.proofs.Basics.{clash}
 use Rattle.lists.proofs.begin.Statement.{statement}

@@ -1,10 +1,9 @@
 -- `lay_at` meets its contract: the rule's line, then its fifth field.
-use mathlib.Core.Path.{_≡_, sym, ap, _∙_}
+use mathlib.Core.Path.{_≡_, ap, _∙_}
 use mathlib.Core.List.{List}
-use Prim.Native.Nat.{ℕ, _-_, _+_, _≤_}
+use Prim.Native.Nat.{ℕ}
 use native.Mathlib.Omega.{arith}
 use borrow.Author.Needs.{needs}
-use lib.ListN.{length, take, drop}
 use Rattle.fields.specs.Pieces.{pieces}
 use Rattle.sheets.specs.RefusedLines.{pieceStart}
 use Rattle.mark_change.specs.Changed.{lineOf}

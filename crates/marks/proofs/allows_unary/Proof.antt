@@ -1,7 +1,7 @@
 -- Offside and offalign are decided by the carried value, single by its flag.
 use borrow.Author.Needs.{needs}
 use mathlib.Core.Path.{_≡_, sym, _∙_}
-use mathlib.Core.Bool.{Bool, true, false}
+use mathlib.Core.Bool.{Bool, true}
 use Rattle.sets.specs.Says.{Says}
 use Rattle.sets.proofs.Says.{holds, true-not-false}
 use Rattle.marks.proofs.allows_unary.Statement.{statement}

@@ -1,10 +1,9 @@
 -- The loop's invariant: the marks are those of the tokens passed.
 use borrow.Author.Needs.{needs}
-use mathlib.Core.Path.{_≡_, sym, ap, subst, subst₃}
-use Prim.Native.Nat.{ℕ, _+_, _-_, _≤_, _<_}
+use mathlib.Core.Path.{sym, ap, subst}
+use Prim.Native.Nat.{ℕ, _-_, _≤_, _<_}
 use native.Mathlib.Omega.{arith}
 use Rattle.grammar.specs.declared.Token.{Token}
-use Rattle.grammar.specs.Layout.{Keeps, Pairs}
 use Rattle.marks.specs.Drafts.{half}
 use Rattle.marks.specs.Marked.{Carried, Marked}
 use Rattle.marks.proofs.DraftLaws.{drafted-at}

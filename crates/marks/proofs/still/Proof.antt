@@ -1,5 +1,5 @@
 -- Tokens on more than one line stay so; else the token is asked.
-use mathlib.Core.Path.{_≡_, sym, _∙_}
+use mathlib.Core.Path.{sym, _∙_}
 use Rattle.sets.proofs.Says.{fails, says-iff, says-eqb, true-not-false}
 use Rattle.marks.proofs.still.Statement.{statement}
 use Rattle.marks.proofs.still.Tie as tie

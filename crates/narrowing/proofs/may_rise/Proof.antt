@@ -1,7 +1,7 @@
 -- The loop's invariant: the first k tokens and the one after them may rise.
 use borrow.Author.Needs.{needs}
 use borrow.Author.Tests.{not-true, not-false}
-use Prim.Native.Nat.{_+_, _-_, _≤_}
+use Prim.Native.Nat.{_-_, _≤_}
 use native.Mathlib.Omega.{arith}
 use Rattle.sets.proofs.Says.{holds, fails}
 use Rattle.column_ranges.specs.RangeSentences.{rangesOf}

@@ -36,7 +36,6 @@ add-next-listed c =
 next-listed-requires-2 : tie.Need-next-listed-requires-2
 next-listed-requires-2 c κs =
     let z = c .before .before .before .before .before .before .before in
-    let a = z .args in
     let x = rw (c .before .first .given .1) at (c .before .before .before .next-listed .ensures) in
     (z .pre .0 .0, (z .pre .1, λ h. x .1 .left))
 

@@ -1,5 +1,4 @@
 -- `list_all` meets its contract. The loop's invariant: the places over spans longer than `len` are listed.
-use borrow.Author.Needs.{needs}
 use mathlib.Core.Path.{_≡_, refl, _∙_}
 use Prim.Native.Nat.{_≤_}
 use native.Mathlib.Omega.{arith}

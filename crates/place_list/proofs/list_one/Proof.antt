@@ -1,7 +1,7 @@
 -- `list_one` meets its contract: the place is passed or put.
 use borrow.Author.Needs.{needs}
 use borrow.Author.Tests.{not-true, not-false}
-use mathlib.Core.Path.{_≡_, subst}
+use mathlib.Core.Path.{subst}
 use Prim.Native.Nat.{ℕ, _*_, _≤_}
 use lib.ListN.{length}
 use Rattle.grammar.specs.SpanSheet.{pairs}

@@ -1,5 +1,4 @@
 -- `list_row` meets its contract. The loop's invariant: the places over the spans that begin before `start`, and over all longer ones, are listed.
-use borrow.Author.Needs.{needs}
 use Prim.Native.Nat.{_+_, _-_, _≤_}
 use native.Mathlib.Omega.{arith}
 use Rattle.grammar.specs.Content.{rules}

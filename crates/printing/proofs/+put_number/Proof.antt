@@ -1,7 +1,7 @@
 -- `printing::put_number` meets its contract, by the laws of `decimal`; the measure is the number itself.
 use mathlib.Core.Path.{_≡_, ap}
 use mathlib.Core.List.{[], _∷_, _++_}
-use Prim.Native.Nat.{ℕ, _+_, _/_, _%_, _≤_, _<_}
+use Prim.Native.Nat.{ℕ, _+_, _/_, _%_, _<_}
 use native.Mathlib.Omega.{arith}
 use borrow.Author.Needs.{needs}
 use lib.ListN.{length}

@@ -3,7 +3,7 @@ use mathlib.Core.Path.{_≡_}
 use Prim.Native.Nat.{_+_, _*_, _-_, _≤_}
 use native.Mathlib.Omega.{arith}
 use borrow.Author.Needs.{needs}
-use lib.ListN.{length, take}
+use lib.ListN.{take}
 use Rattle.printing.specs.Printing.{Wrote, rowLines}
 use Rattle.printing.proofs.Writing.{wrote-none, wrote-then}
 use Rattle.printing.proofs.Texts.{rows-more}

@@ -1,9 +1,6 @@
 -- The loop's invariant: the words stand, and the positions before the next one are refuted; the measure is how many tokens are left.
-use borrow.Author.Needs.{needs}
-use borrow.Author.Tests.{not-true, not-false}
-use mathlib.Core.Path.{_≡_, refl, sym, ap, _∙_, subst}
-use mathlib.Core.Bool.{true, false}
-use Prim.Native.Nat.{ℕ, _+_, _-_, _*_, _≤_, _<_}
+use mathlib.Core.Path.{_∙_}
+use Prim.Native.Nat.{ℕ, _-_, _*_, _<_}
 use native.Mathlib.Omega.{arith}
 use Rattle.sets.proofs.Says.{true-not-false}
 use Rattle.codes.specs.Codes.{decoded}

@@ -1,20 +1,17 @@
 -- The loop's invariant: the words are loose at the token before j, and the terminals before the next one are refuted there; the measure is j.
-use borrow.Author.Needs.{needs}
 use borrow.Author.Tests.{not-true, not-false}
-use mathlib.Core.Path.{_≡_, refl, sym, ap, _∙_, subst}
-use mathlib.Core.Bool.{true, false}
-use Prim.Native.Nat.{ℕ, _+_, _-_, _*_, _≤_, _<_}
+use mathlib.Core.Path.{_≡_, refl, _∙_, subst}
+use Prim.Native.Nat.{ℕ, _-_, _*_, _≤_, _<_}
 use native.Mathlib.Omega.{arith}
 use Rattle.sets.proofs.Says.{true-not-false}
 use Rattle.codes.specs.Codes.{decoded}
-use Rattle.grammar.specs.SpanSheet.{pairs, pairAt}
+use Rattle.grammar.specs.SpanSheet.{pairs}
 use Rattle.spans.specs.Changes.{Past}
-use Rattle.spans.proofs.ChangeLaws.{past-same, past-then, kept-past}
+use Rattle.spans.proofs.ChangeLaws.{past-same, past-then}
 use Rattle.candidates.specs.Arrays.{cells}
-use Rattle.candidates.proofs.Windows.{cells-size}
-use Rattle.pruning.specs.Refuting.{Loose, Poised, Below, Done}
-use Rattle.pruning.proofs.RefutingLaws.{below-none, below-skip, below-more, below-all}
-use Rattle.pruning.proofs.WordLaws.{poised-standing, poised-loose, poised-back, loose-turned}
+use Rattle.pruning.specs.Refuting.{Loose, Below}
+use Rattle.pruning.proofs.RefutingLaws.{below-none, below-skip, below-more}
+use Rattle.pruning.proofs.WordLaws.{poised-back, loose-turned}
 use Rattle.pruning.proofs.Trying.{poised-down, done-of, done-full, standing-of}
 use borrow.Fn.Kinds.{In}
 use borrow.Fn.PlainCycle.{Measures, is, falls, and}

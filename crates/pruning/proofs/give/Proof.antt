@@ -1,11 +1,7 @@
 -- The pair of one token is written.
 use borrow.Author.Needs.{needs}
-use mathlib.Core.Path.{_≡_, refl, sym, ap, _∙_, subst}
-use mathlib.Core.Bool.{true, false}
+use mathlib.Core.Path.{subst}
 use native.Mathlib.Omega.{arith}
-use Rattle.sets.proofs.Says.{true-not-false}
-use Rattle.candidates.specs.Arrays.{cells}
-use Rattle.candidates.proofs.Windows.{cells-size}
 use Prim.Native.Nat.{ℕ}
 use Rattle.spans.specs.Changes.{WrotePair}
 use Rattle.spans.proofs.Places.{pairAt-below}

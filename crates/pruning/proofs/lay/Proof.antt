@@ -1,9 +1,8 @@
 -- The loop's invariant: the tokens passed have their pairs. The empty word's is written last.
 use borrow.Author.Needs.{needs}
 use mathlib.Core.Path.{_∙_}
-use Prim.Native.Nat.{ℕ, _-_, _*_, _≤_}
+use Prim.Native.Nat.{_-_, _≤_}
 use native.Mathlib.Omega.{arith}
-use Rattle.grammar.specs.SpanSheet.{pairs}
 use Rattle.spans.proofs.Places.{pairs-closed}
 use Rattle.candidates.specs.Arrays.{cells}
 use Rattle.pruning.specs.Tables.{LaidTo}

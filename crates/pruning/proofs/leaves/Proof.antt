@@ -1,7 +1,7 @@
 -- The loop's invariant: the table has the pairs of the terminals passed, and their union is gathered.
 use borrow.Author.Needs.{needs}
 use borrow.Author.Tests.{not-true}
-use mathlib.Core.Path.{_≡_, _∙_, subst}
+use mathlib.Core.Path.{_≡_, subst}
 use Prim.Native.Nat.{ℕ, _-_, _≤_}
 use native.Mathlib.Omega.{arith}
 use Rattle.codes.specs.Codes.{decoded}

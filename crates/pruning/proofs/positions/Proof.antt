@@ -1,10 +1,7 @@
 -- Where all positions are refuted, one more fill poises the words again.
 use borrow.Author.Needs.{needs}
-use mathlib.Core.Path.{_≡_, refl, sym, ap, _∙_, subst}
-use mathlib.Core.Bool.{true, false}
 use native.Mathlib.Omega.{arith}
 use Rattle.sets.proofs.Says.{true-not-false}
-use Rattle.candidates.specs.Arrays.{cells}
 use Rattle.candidates.proofs.Windows.{cells-size}
 use Rattle.pruning.proofs.Trying.{ready-again, spent}
 use Rattle.pruning.proofs.positions.Statement.{statement}

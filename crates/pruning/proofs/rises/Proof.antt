@@ -1,7 +1,7 @@
 -- By the step and the column before.
 use borrow.Author.Needs.{needs}
 use borrow.Author.Tests.{ltb-false, eqb-true, not-false}
-use mathlib.Core.Path.{_≡_, refl, sym, ap, _∙_}
+use mathlib.Core.Path.{_≡_, sym, ap, _∙_}
 use native.Mathlib.Omega.{arith}
 use Rattle.grammar.specs.declared.Cell.{Cell}
 use Rattle.pruning.proofs.CellLaws.{cells-get, prior-before, first-step}

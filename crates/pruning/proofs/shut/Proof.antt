@@ -1,13 +1,9 @@
 -- A position that does not rise or is no better than an earlier one is refuted by itself, another one by the span sheet.
 use borrow.Author.Needs.{needs}
-use borrow.Author.Tests.{not-true, not-false}
-use mathlib.Core.Path.{_≡_, refl, sym, ap, _∙_, subst}
+use borrow.Author.Tests.{not-true}
 use native.Mathlib.Omega.{arith}
-use Rattle.codes.specs.Codes.{decoded}
-use Rattle.candidates.specs.Arrays.{cells}
 use Rattle.candidates.proofs.Windows.{cells-size}
 use Rattle.pruning.proofs.RefutingLaws.{refuted-falling, refuted-slack}
-use Rattle.pruning.proofs.WordLaws.{standing-ready}
 use Rattle.pruning.proofs.Trying.{tried-out, tried-settled, ready-draft}
 use Rattle.pruning.proofs.shut.Statement.{statement}
 use Rattle.pruning.proofs.shut.Tie as tie

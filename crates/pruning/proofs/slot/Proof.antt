@@ -1,6 +1,6 @@
 -- By the place of the token.
 use borrow.Author.Needs.{needs}
-use mathlib.Core.Path.{_≡_, sym, ap, _∙_}
+use mathlib.Core.Path.{sym, ap, _∙_}
 use native.Mathlib.Omega.{arith}
 use Rattle.grammar.specs.declared.Cell.{Cell}
 use Rattle.pruning.proofs.CellLaws.{cells-get}

@@ -1,10 +1,6 @@
 -- The pair is given, and the spans with the token are filled.
 use borrow.Author.Needs.{needs}
-use mathlib.Core.Path.{_≡_, refl, sym, ap, _∙_, subst}
-use mathlib.Core.Bool.{true, false}
 use native.Mathlib.Omega.{arith}
-use Rattle.sets.proofs.Says.{true-not-false}
-use Rattle.candidates.specs.Arrays.{cells}
 use Rattle.candidates.proofs.Windows.{cells-size}
 use Rattle.pruning.proofs.Trying.{wrote-loose, ready-loose, struck-settled}
 use Rattle.pruning.proofs.struck.Statement.{statement}

@@ -1,13 +1,8 @@
 -- One cell is changed, and its step is as it was.
 use borrow.Author.Needs.{needs}
-use mathlib.Core.Path.{_≡_, refl, sym, ap, _∙_, subst}
-use mathlib.Core.Bool.{true, false}
+use mathlib.Core.Path.{ap}
 use native.Mathlib.Omega.{arith}
-use Rattle.sets.proofs.Says.{true-not-false}
-use Rattle.candidates.specs.Arrays.{cells}
-use Rattle.candidates.proofs.Windows.{cells-size}
 use Rattle.grammar.specs.declared.Cell.{Cell}
-use Rattle.candidates.specs.Arrays.{cellAt}
 use Rattle.pruning.proofs.CellLaws.{turned-of, low-changed, step-at}
 use Rattle.pruning.proofs.turned.Statement.{statement}
 use Rattle.pruning.proofs.turned.Tie as tie

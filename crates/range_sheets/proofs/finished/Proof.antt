@@ -1,7 +1,7 @@
 -- 49 by the count of the choices.
-use mathlib.Core.Path.{_≡_, sym, ap, _∙_, subst}
+use mathlib.Core.Path.{sym, subst}
 use native.Mathlib.Omega.{arith}
-use Prim.Native.Nat.{ℕ, _≤_}
+use Prim.Native.Nat.{_≤_}
 use Rattle.sheets.specs.Items.{Reading}
 use Rattle.column_ranges.specs.declared.RangeToken.{RangeToken}
 use Rattle.column_ranges.specs.Ranges.{choiceCount, choiceLimit}

@@ -1,7 +1,7 @@
 -- The tests are the definition's, in its order.
-use borrow.Author.Tests.{eq-eqb, ne-eqb, le-leb, lt-leb}
+use borrow.Author.Tests.{le-leb, lt-leb}
 use native.Mathlib.Omega.{arith}
-use mathlib.Core.Path.{_≡_, refl, sym, ap, _∙_}
+use mathlib.Core.Path.{_∙_}
 use borrow.Author.Needs.{needs}
 use Rattle.range_sheets.proofs.range_of.Statement.{statement}
 use Rattle.range_sheets.proofs.range_of.Tie as tie

@@ -1,15 +1,15 @@
 -- The loop's invariant: what the rest of the sheet says after the items read is what the sheet says.
 use mathlib.Core.Path.{_≡_, refl, sym, ap, _∙_}
-use Prim.Native.Nat.{ℕ, _-_, _<_}
+use Prim.Native.Nat.{_-_, _<_}
 use native.Mathlib.Omega.{arith}
 use borrow.Author.Needs.{needs}
-use lib.ListN.{length, take}
+use lib.ListN.{length}
 use mathlib.Core.List.{[]}
 use lib.Dec.{ltb, lit≤}
 use Rattle.lines.specs.Turns.{turnOf}
 use Rattle.range_sheets.specs.declared.RangeStep.{RangeStep}
 use Rattle.sheets.specs.Items.{stepAt}
-use Rattle.range_sheets.specs.RangeSheets.{rangeSays, fewChoices}
+use Rattle.range_sheets.specs.RangeSheets.{rangeSays}
 use Rattle.range_sheets.specs.Promises.{asRangeStep}
 use Rattle.sheets.proofs.Loop.{Filled, line-in, count, took, moved, turned, stopped, ended}
 use Rattle.range_sheets.proofs.Accepted.{ranges-ended}

@@ -1,5 +1,4 @@
 -- The loop's invariant: members are reached. The set's number grows with each turn but the last, after which no rule adds to it.
-use borrow.Author.Needs.{needs}
 use mathlib.Core.Path.{sym, subst}
 use Prim.Native.Nat.{ℕ, _-_, _^_}
 use native.Mathlib.Omega.{arith}

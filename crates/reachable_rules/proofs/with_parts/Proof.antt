@@ -1,7 +1,7 @@
 -- By the kind.
 use borrow.Author.Needs.{needs}
 use native.Mathlib.Omega.{arith}
-use mathlib.Core.Path.{_≡_, sym, _∙_}
+use mathlib.Core.Path.{sym, _∙_}
 use Rattle.reachable_rules.proofs.ReachLaws.{parts-none, parts-one, parts-two}
 use Rattle.reachable_rules.proofs.with_parts.Statement.{statement}
 use Rattle.reachable_rules.proofs.with_parts.Tie as tie

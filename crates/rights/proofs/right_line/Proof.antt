@@ -11,7 +11,6 @@ use Rattle.sets.proofs.Basics.{clash}
 use Rattle.fields.specs.declared.Cursor.{Cursor}
 use Rattle.fields.specs.Fields.{onValue}
 use Rattle.lines.proofs.Stages.{number-good, number-bad}
-use Rattle.rights.specs.declared.RightLine.{RightLine}
 use Rattle.rights.specs.declared.RightLine.the-variants.{Bad}
 use Rattle.rights.specs.declared.May.{May}
 use Rattle.rights.specs.declared.May.the-variants as May

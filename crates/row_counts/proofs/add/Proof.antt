@@ -1,7 +1,6 @@
 -- `add` meets its contract.
 use borrow.Author.Needs.{needs}
 use mathlib.Core.Path.{sym}
-use Prim.Native.Nat.{_-_}
 use Rattle.row_counts.proofs.CappedLaws.{capped-small, capped-large}
 use Rattle.row_counts.proofs.add.Statement.{statement}
 use Rattle.row_counts.proofs.add.Tie as tie

@@ -1,6 +1,6 @@
 -- `beside` meets its contract.
 use mathlib.Core.Path.{refl, ap, _∙_}
-use Prim.Native.Nat.{ℕ, _+_, _-_}
+use Prim.Native.Nat.{ℕ, _+_}
 use native.Mathlib.Omega.{arith}
 use Rattle.grammar.specs.Rows.{rowCount}
 use Rattle.row_counts.specs.Capped.{capped}

@@ -1,7 +1,7 @@
 -- `count_first` meets its contract: the table over the empty word, the walk over the others.
 use borrow.Author.Needs.{needs}
 use mathlib.Core.Path.{_≡_, ap, _∙_, subst}
-use Prim.Native.Nat.{ℕ, _-_}
+use Prim.Native.Nat.{ℕ}
 use lib.ListN.{getD}
 use Rattle.grammar.specs.Choices.{FirstTree}
 use Rattle.grammar.specs.Content.{rules}

@@ -1,8 +1,5 @@
 -- `either` meets its contract.
-use mathlib.Core.Path.{_≡_}
 use mathlib.Core.Logic.{inl, inr}
-use Prim.Native.Nat.{ℕ, _-_}
-use native.Mathlib.Omega.{arith}
 use Rattle.sets.proofs.Basics.{clash}
 use Rattle.row_counts.proofs.either.Statement.{statement}
 use Rattle.row_counts.proofs.either.Tie as tie

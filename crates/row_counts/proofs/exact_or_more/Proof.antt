@@ -1,6 +1,5 @@
 -- `exact_or_more` meets its contract.
 use borrow.Author.Needs.{needs}
-use Prim.Native.Nat.{_-_}
 use native.Mathlib.Omega.{arith}
 use Rattle.row_counts.proofs.RowCountLaws.{exact-of, more-of}
 use Rattle.row_counts.proofs.exact_or_more.Statement.{statement}

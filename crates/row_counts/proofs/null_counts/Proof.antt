@@ -1,6 +1,6 @@
 -- The loop's invariant: the counts that were found are right. The measure is how many are not found yet.
 use mathlib.Core.Path.{sym, _∙_, subst}
-use Prim.Native.Nat.{ℕ, _-_, _<_}
+use Prim.Native.Nat.{ℕ, _<_}
 use borrow.Author.Tests.{not-true, not-false}
 use Rattle.grammar.specs.Content.{rules}
 use Rattle.row_counts.specs.Nulls.{Sound, zeros}

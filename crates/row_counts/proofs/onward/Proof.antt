@@ -1,7 +1,7 @@
 -- `onward` meets its contract, by the kind and the left child's bit.
 use borrow.Author.Needs.{needs}
 use mathlib.Core.Path.{refl, subst}
-use Prim.Native.Nat.{ℕ, _-_}
+use Prim.Native.Nat.{ℕ}
 use native.Mathlib.Omega.{arith}
 use Rattle.sets.specs.Sets.{In}
 use Rattle.grammar.specs.SpanSheet.{secondWord}

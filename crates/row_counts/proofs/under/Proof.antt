@@ -1,5 +1,5 @@
 -- `under` meets its contract, by the kind.
-use Prim.Native.Nat.{_+_, _-_}
+use Prim.Native.Nat.{_+_}
 use native.Mathlib.Omega.{arith}
 use Rattle.grammar.specs.Rows.{rowCount}
 use Rattle.row_counts.proofs.CappedLaws.{capped-le}

@@ -49,14 +49,10 @@ choose-requires c κs =
 own-requires : tie.Need-own-requires Inv-loop μ-loop
 own-requires c κs =
     let z = c .before .before .before .before .before .before in
-    let a = z .args in
-    let v = c .before .before .loop .inv in
     (z .pre .1 .0 .long, (z .pre .1 .0 .small, chosen-small (z .pre .0 .0 .formed) (c .choose .ensures)))
 
 add-requires : tie.Need-add-requires Inv-loop μ-loop
 add-requires c κs =
-    let z = c .before .before .before .before .before .before .before in
-    let a = z .args in
     let v = c .before .before .before .loop .inv in
     (v .walk .few, own-le (c .own .ensures))
 
@@ -108,9 +104,6 @@ loop-less c =
     let loop-test = c .before .before .before .before .before .before .before .loop-test in
     let own = c .before .before .before .before .before .own in
     let add = c .before .before .before .before .add in
-    let z = c .before .before .before .before .before .before .before .before .before .before .before .before in
-    let a = z .args in
-    let v = loop .inv in
     less-left (loop .total) (own .result) (add .result) (loop-test .taken) (own-some (own .ensures)) (add .ensures)
 
 loop-again : tie.Need-loop-again Inv-loop μ-loop
@@ -213,9 +206,6 @@ loop-less-2 c =
     let loop-test = c .before .before .before .before .before .before .before .before .before .before .before .loop-test in
     let own = c .before .before .before .before .before .before .before .before .before .own in
     let add = c .before .before .before .before .before .before .before .before .add in
-    let z = c .before .before .before .before .before .before .before .before .before .before .before .before .before .before .before .before in
-    let a = z .args in
-    let v = loop .inv in
     less-left (loop .total) (own .result) (add .result) (loop-test .taken) (own-some (own .ensures)) (add .ensures)
 
 loop-again-2 : tie.Need-loop-again-2 Inv-loop μ-loop
@@ -256,9 +246,6 @@ loop-less-3 c =
     let loop-test = c .before .before .before .before .before .before .before .before .before .before .loop-test in
     let own = c .before .before .before .before .before .before .before .before .own in
     let add = c .before .before .before .before .before .before .before .add in
-    let z = c .before .before .before .before .before .before .before .before .before .before .before .before .before .before .before in
-    let a = z .args in
-    let v = loop .inv in
     less-left (loop .total) (own .result) (add .result) (loop-test .taken) (own-some (own .ensures)) (add .ensures)
 
 loop-again-3 : tie.Need-loop-again-3 Inv-loop μ-loop

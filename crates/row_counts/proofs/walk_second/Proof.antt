@@ -93,7 +93,6 @@ returns c =
     let choose = choose-here in
     let if1 = if1-here in
     let z = c .before .before .before .before .before .before .before .before .before .before in
-    let a = z .args in
     let v = loop .inv in
     second-all (z .pre .0 .formed .distinct) (v .wanted) _
     (here-end (z .pre .0 .formed) (v .walk) (choose .result) (choose .ensures) (c .before .under .result) (c .add .result) (not-true _ (if1 .taken)) (c .before .under .ensures) (c .add .ensures))

@@ -1,8 +1,6 @@
 -- `kids` meets its contract, by cases on the kind.
 use borrow.Author.Needs.{needs}
-use mathlib.Core.Path.{sym, ap}
-use native.Mathlib.Omega.{arith}
-use Rattle.rows.specs.Steps.{kidsOf}
+use mathlib.Core.Path.{sym}
 use Rattle.rows.proofs.StepLaws.{kids-other}
 use Rattle.rows.proofs.kids.Statement.{statement}
 use Rattle.rows.proofs.kids.Tie as tie

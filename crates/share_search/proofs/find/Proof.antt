@@ -1,6 +1,6 @@
 -- Over the terminals of the sheet, by the rules that 0 reaches, in another order; with no terminal there is no candidate.
 use borrow.Author.Needs.{needs}
-use mathlib.Core.Path.{_≡_, sym}
+use mathlib.Core.Path.{_≡_}
 use Prim.Native.Nat.{_^_, _<_}
 use native.Mathlib.Omega.{arith}
 use lib.ListN.{length}

@@ -1,6 +1,4 @@
 -- By the numbers of the block, by the candidate itself where all cells are known, or by twins whose numbers are not below the start.
-use borrow.Author.Needs.{needs}
-use mathlib.Core.Path.{subst}
 use native.Mathlib.Omega.{arith}
 use Prim.Native.Nat.{_^_, _<_, _≤_}
 use Rattle.spans.proofs.ChangeLaws.{past-same}

@@ -1,8 +1,8 @@
 -- The loop's invariant: the first that meets it is not before the candidate. The measure is the candidates with the cells that are left.
 use borrow.Author.Needs.{needs}
 use borrow.Author.Tests.{not-true, not-false}
-use mathlib.Core.Path.{_∙_, refl, ap₂}
-use Prim.Native.Nat.{_+_, _-_, _*_, _^_, _≤_, _<_}
+use mathlib.Core.Path.{ap₂}
+use Prim.Native.Nat.{_+_, _-_, _*_, _^_, _<_}
 use native.Mathlib.Omega.{arith}
 use Rattle.codes.specs.Codes.{decoded}
 use Rattle.grammar.specs.SpanSheet.{pairs}
@@ -10,7 +10,7 @@ use Rattle.spans.specs.Changes.{Past}
 use Rattle.spans.proofs.ChangeLaws.{past-same, past-then}
 use Rattle.candidates.specs.Arrays.{cells}
 use Rattle.candidates.proofs.Measure.{left}
-use Rattle.share_search.specs.Searching.{hit, miss, ShareTurn}
+use Rattle.share_search.specs.Searching.{miss, ShareTurn}
 use Rattle.share_search.proofs.Turns.{over, at-end}
 use Rattle.share_search.proofs.Looking.{turn-first, turn-next, turn-more, next-falls, hit-of}
 use Rattle.share_search.proofs.search.Statement.{statement}

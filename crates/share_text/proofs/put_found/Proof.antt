@@ -1,6 +1,5 @@
 -- `put_found` meets its contract: in each arm the answer is known.
 use native.Mathlib.Omega.{arith}
-use Rattle.printing.proofs.Writing.{wrote-then, wrote-none}
 use Rattle.printing.proofs.Decimals.{decimal-length}
 use borrow.Author.Needs.{needs}
 use Rattle.share_text.proofs.put_found.Statement.{statement}

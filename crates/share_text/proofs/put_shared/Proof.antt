@@ -1,7 +1,6 @@
 -- `put_shared` meets its contract: in each arm the answer is known.
 use native.Mathlib.Omega.{arith}
-use Rattle.printing.proofs.Writing.{wrote-then, wrote-none}
-use Rattle.printing.proofs.Decimals.{decimal-length}
+use Rattle.printing.proofs.Writing.{wrote-none}
 use borrow.Author.Needs.{needs}
 use Rattle.share_text.proofs.put_shared.Statement.{statement}
 use Rattle.share_text.proofs.put_shared.Tie as tie

@@ -1,6 +1,6 @@
 -- `put_value` meets its contract: a number of at most twenty digits.
 use native.Mathlib.Omega.{arith}
-use Rattle.printing.proofs.Writing.{wrote-then, wrote-none}
+use Rattle.printing.proofs.Writing.{wrote-then}
 use Rattle.printing.proofs.Decimals.{decimal-length}
 use borrow.Author.Needs.{needs}
 use Rattle.share_text.proofs.put_value.Statement.{statement}

@@ -1,7 +1,6 @@
 -- `put_values` meets its contract, part by part.
 use native.Mathlib.Omega.{arith}
-use Rattle.printing.proofs.Writing.{wrote-then, wrote-none}
-use Rattle.printing.proofs.Decimals.{decimal-length}
+use Rattle.printing.proofs.Writing.{wrote-then}
 use Rattle.share_text.specs.Shares.{shareLines}
 use borrow.Author.Needs.{needs}
 use Rattle.share_text.proofs.put_values.Statement.{statement}

@@ -1,9 +1,9 @@
 -- `sheets::earlier` meets its contract: the loop's invariant: no rule passed has the key.
 use mathlib.Core.Path.{_≡_, refl, sym, ap, _∙_}
-use Prim.Native.Nat.{ℕ, _+_, _-_, _≤_, _<_}
+use Prim.Native.Nat.{_-_, _≤_}
 use native.Mathlib.Omega.{arith}
 use borrow.Author.Needs.{needs}
-use lib.ListN.{length, take, drop, getD}
+use lib.ListN.{length, take, drop}
 use Rattle.grammar.specs.declared.Clause.the-variants.{Empty}
 use Rattle.lines.specs.declared.Key.{Key}
 use Rattle.sheets.specs.RuleSheets.{anyOf, hasKey}

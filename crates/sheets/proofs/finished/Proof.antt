@@ -1,8 +1,6 @@
 -- `sheets::finished` meets its contract: 7 as the definition has it.
 use borrow.Author.Needs.{needs}
-use mathlib.Core.Path.{_≡_, sym, _∙_}
-use Prim.Native.Nat.{ℕ}
-use native.Mathlib.Omega.{arith}
+use mathlib.Core.Path.{sym, _∙_}
 use Rattle.sets.proofs.Basics.{clash}
 use Rattle.grammar.specs.Content.{rules}
 use Rattle.sheets.proofs.Accepted.{finish-good, finish-none}

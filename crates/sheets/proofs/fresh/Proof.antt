@@ -1,5 +1,5 @@
 -- `sheets::fresh` meets its contract: by whether an earlier rule has the key.
-use mathlib.Core.Path.{_≡_, refl, sym, ap, _∙_}
+use mathlib.Core.Path.{sym, ap, _∙_}
 use lib.ListN.{take}
 use Rattle.lines.specs.declared.Key.{Key}
 use Rattle.sheets.specs.RuleSheets.{anyOf, hasKey}

@@ -1,11 +1,11 @@
 -- `sheets::has_start` meets its contract: the loop's invariant: no rule passed has left 0.
 use Rattle.grammar.specs.declared.Clause.the-variants.{Empty}
-use mathlib.Core.Path.{_≡_, refl, sym, ap, _∙_}
-use Prim.Native.Nat.{ℕ, _+_, _-_, _≤_, _<_}
+use mathlib.Core.Path.{_≡_, refl, sym, _∙_}
+use Prim.Native.Nat.{_-_, _≤_}
 use native.Mathlib.Omega.{arith}
 use borrow.Author.Needs.{needs}
 use borrow.Author.Tests.{eq-eqb, ne-eqb}
-use lib.ListN.{length, take, drop, getD}
+use lib.ListN.{length, take, drop}
 use Rattle.sheets.specs.RuleSheets.{anyOf, isStart}
 use Rattle.sheets.proofs.AnyOf.{any-end, any-hit, any-more}
 use Rattle.sheets.proofs.has_start.Statement.{statement}

@@ -1,8 +1,6 @@
 -- `sheets::refuse_rules` meets its contract: the outcome is a refusal, and there are no rules.
 use borrow.Author.Needs.{needs}
-use mathlib.Core.Path.{_≡_, refl}
-use Prim.Native.Nat.{ℕ}
-use native.Mathlib.Omega.{arith}
+use mathlib.Core.Path.{refl}
 use Rattle.sets.proofs.Basics.{clash}
 use Rattle.sheets.proofs.refuse_rules.Statement.{statement}
 use Rattle.sheets.proofs.refuse_rules.Tie as tie

@@ -1,5 +1,5 @@
 -- `refused_read` meets its contract: by the outcomes, and a refused line is a line of its sheet.
-use mathlib.Core.Path.{_≡_, refl}
+use mathlib.Core.Path.{refl}
 use native.Mathlib.Omega.{arith}
 use Rattle.sheets.proofs.Handed.{hands-rules, hands-zero, hands-tokens, hands-tokens-zero, hands-none}
 use borrow.Author.Needs.{needs}

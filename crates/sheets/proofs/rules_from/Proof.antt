@@ -1,11 +1,11 @@
 -- `sheets::rules_from` meets its contract. The loop's invariant: what the rest of the sheet says after the rules read is what the sheet says,
 -- and the index is true of the rules read.
-use mathlib.Core.Path.{_≡_, refl, sym, ap, _∙_}
-use Prim.Native.Nat.{ℕ, _+_, _-_, _<_}
+use mathlib.Core.Path.{_≡_, sym, ap, _∙_}
+use Prim.Native.Nat.{ℕ, _+_, _-_}
 use native.Mathlib.Omega.{arith}
 use borrow.Author.Needs.{needs}
-use lib.ListN.{length, take}
-use lib.Dec.{ltb, lit≤}
+use lib.ListN.{length}
+use lib.Dec.{ltb}
 use Rattle.grammar.specs.Content.{rules}
 use mathlib.Core.List.{List}
 use Rattle.lines.specs.declared.Turn.{Turn}
@@ -13,7 +13,7 @@ use Rattle.lines.specs.Turns.{turnOf}
 use Rattle.lengths.specs.declared.Book.{Book}
 use Rattle.sheets.specs.declared.RuleStep.{RuleStep}
 use Rattle.sheets.specs.Items.{stepAt}
-use Rattle.sheets.specs.RuleSheets.{ruleSays, finish}
+use Rattle.sheets.specs.RuleSheets.{ruleSays}
 use Rattle.sheets.specs.Promises.{asRuleStep, Adds}
 use Rattle.sheets.proofs.Loop.{line-in, count, took, moved, stopped, ended}
 use Rattle.sheets.proofs.Accepted.{rules-kept}

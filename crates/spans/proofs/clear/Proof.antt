@@ -1,9 +1,8 @@
 -- The loop's invariant: the words passed are 0, the others as they were.
 use borrow.Author.Needs.{needs}
-use mathlib.Core.Path.{_≡_, refl, sym, ap, _∙_, subst}
-use Prim.Native.Nat.{ℕ, _+_, _-_, _*_, _≤_, _<_}
+use mathlib.Core.Path.{_≡_}
+use Prim.Native.Nat.{_-_, _≤_}
 use native.Mathlib.Omega.{arith}
-use lib.ListN.{length, getD}
 use Rattle.spans.specs.Changes.{Cleared}
 use Rattle.spans.proofs.ChangeLaws.{cleared-none, cleared-more}
 use Rattle.spans.proofs.clear.Statement.{statement}

@@ -2,7 +2,7 @@
 use borrow.Author.Needs.{needs}
 use Prim.Native.Nat.{ℕ, _*_, _+_, _<_}
 use lib.ListN.{length, getD}
-use mathlib.Core.Path.{_≡_, sym, ap, _∙_, subst}
+use mathlib.Core.Path.{subst}
 use native.Mathlib.Omega.{arith}
 use Rattle.sets.specs.Says.{Says}
 use Rattle.sets.specs.Sets.{In}

@@ -1,7 +1,7 @@
 -- The closed form of the spans before.
 use borrow.Author.Needs.{needs}
 use Prim.Native.Nat.{_-_, _*_, _+_, _≤_}
-use mathlib.Core.Path.{_≡_, sym, ap, _∙_}
+use mathlib.Core.Path.{sym, ap, _∙_}
 use native.Mathlib.Omega.{arith}
 use Rattle.grammar.specs.SpanSheet.{pairAt}
 use Rattle.spans.proofs.Places.{spans-closed, spans-bound, pairAt-of, pairAt-empty}

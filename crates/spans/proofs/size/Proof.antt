@@ -1,6 +1,6 @@
 -- The closed form of the number of pairs; it is small enough for every sum.
 use borrow.Author.Needs.{needs}
-use Prim.Native.Nat.{ℕ, _+_, _*_, _≤_}
+use Prim.Native.Nat.{_+_, _*_, _≤_}
 use native.Mathlib.Nat.{mul-le-mul-right}
 use native.Mathlib.Omega.{arith}
 use Rattle.spans.proofs.Places.{pairs-closed}

@@ -1,6 +1,6 @@
 -- The search is over the terminals that no smaller one replaces and the rules that 0 reaches, which settles it for all; with no terminal there is no candidate.
 use borrow.Author.Needs.{needs}
-use mathlib.Core.Path.{_≡_, sym}
+use mathlib.Core.Path.{_≡_}
 use native.Mathlib.Omega.{arith}
 use lib.ListN.{length}
 use Rattle.spans.proofs.ChangeLaws.{past-same}

@@ -1,5 +1,4 @@
 -- `text::put_refusal` meets its contract, part by part.
-use native.Mathlib.Omega.{arith}
 use Rattle.printing.proofs.Writing.{wrote-then}
 use borrow.Author.Needs.{needs}
 use Rattle.text.proofs.put_refusal.Statement.{statement}

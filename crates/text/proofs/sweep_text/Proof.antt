@@ -1,6 +1,6 @@
 -- `text::sweep_text` meets its contract, case by case.
 use mathlib.Core.Path.{refl}
-use Rattle.text.specs.Programs.{SweepTextOf, long, whole}
+use Rattle.text.specs.Programs.{long, whole}
 use Rattle.text.proofs.Sweeps.{swept-printed}
 use borrow.Author.Needs.{needs}
 use Rattle.text.proofs.sweep_text.Statement.{statement}

@@ -1,16 +1,11 @@
 -- `choose` meets its contract: what the first tree takes is found; while seeking, `swerve` decides.
 use borrow.Author.Needs.{needs}
-use mathlib.Core.Path.{_≡_, refl, sym, ap, ap₂, _∙_, subst}
-use mathlib.Core.Bool.{true, false}
-use mathlib.Core.List.{List}
-use Prim.Native.Nat.{ℕ, suc, _+_, _-_, _*_, _≤_, _<_, max}
+use mathlib.Core.Bool.{false}
 use native.Mathlib.Omega.{arith}
-use lib.ListN.{length}
-use Rattle.grammar.specs.Choices.{Choice, FirstChoice, Preferred, Same, LowChoice, OtherChoice, straight, looping}
+use Rattle.grammar.specs.Choices.{Preferred}
 use Rattle.grammar.specs.Content.{rules}
 use Rattle.grammar.specs.SpanSheet.{part}
 use Rattle.grammar.proofs.ChoiceLaws.{preferred-choice}
-use Rattle.choices.specs.Choosing.{NextAt, NextChoice}
 use Rattle.tree_choices.specs.Lows.{PreferredPick}
 use Rattle.tree_choices.proofs.PickLaws.{choice-near, chosen, charted}
 use Rattle.tree_choices.proofs.choose.Statement.{statement}
@@ -33,7 +28,7 @@ swerve-requires : tie.Need-swerve-requires
 swerve-requires c κs = let z = c .before .before .before .before .before .before .before .before .before in let a = z .args in let y : PreferredPick (rules (a .g)) (a .a) (part (spelled (a .s)) (c .before .before .before .before .before .before .wide .result) (c .before .before .before .before .before .wide2 .result)) (c .before .before .before .before .preferred .result) = c .before .before .before .before .preferred .ensures in let x : Preferred (rules (a .g)) (a .a) (part (spelled (a .s)) (c .before .before .before .before .before .before .wide .result) (c .before .before .before .before .before .wide2 .result)) (c .before .before .found .given .0 .0) (c .before .before .found .given .0 .1 .0) = rw (c .before .before .found .given .1) at y in ((charted (z .pre .0 .0), omega (arith, z .pre .0 .1, c .before .before .before .before .before .before .wide .ensures, c .before .before .before .before .before .wide2 .ensures)), x)
 
 returns : tie.Need-returns
-returns c = let z = c .before .before .before .before .before .before .before .before .before .before in let a = z .args in rw (c .before .if1 .taken, ← c .before .before .before .before .before .before .before .wide .ensures, ← c .before .before .before .before .before .before .wide2 .ensures) (c .swerve .ensures)
+returns c = rw (c .before .if1 .taken, ← c .before .before .before .before .before .before .before .wide .ensures, ← c .before .before .before .before .before .before .wide2 .ensures) (c .swerve .ensures)
 
 step-of-requires : tie.Need-step-of-requires
 step-of-requires c κs = let z = c .before .before .before .before .before .before .before .before .before in let a = z .args in let y : PreferredPick (rules (a .g)) (a .a) (part (spelled (a .s)) (c .before .before .before .before .before .before .wide .result) (c .before .before .before .before .before .wide2 .result)) (c .before .before .before .before .preferred .result) = c .before .before .before .before .preferred .ensures in let x : Preferred (rules (a .g)) (a .a) (part (spelled (a .s)) (c .before .before .before .before .before .before .wide .result) (c .before .before .before .before .before .wide2 .result)) (c .before .before .found .given .0 .0) (c .before .before .found .given .0 .1 .0) = rw (c .before .before .found .given .1) at y in let x′ : Preferred (rules (a .g)) (a .a) (part (spelled (a .s)) (a .i) (a .n)) (c .before .before .found .given .0 .0) (c .before .before .found .given .0 .1 .0) = (rw (c .before .before .before .before .before .before .wide .ensures, c .before .before .before .before .before .wide2 .ensures) at x) in choice-near (charted (z .pre .0 .0)) _ (a .i) (a .n) _ _ (z .pre .0 .1) (preferred-choice _ _ _ _ _ x′)

@@ -1,11 +1,8 @@
 -- `height_of` meets its contract, by the kind.
 use borrow.Author.Needs.{needs}
-use mathlib.Core.Path.{_≡_, refl, sym, ap, ap₂, _∙_, subst}
-use mathlib.Core.Bool.{true, false}
-use mathlib.Core.List.{List}
-use Prim.Native.Nat.{ℕ, suc, _+_, _-_, _*_, _≤_, _<_, max}
+use mathlib.Core.Path.{_≡_, _∙_, subst}
+use Prim.Native.Nat.{ℕ, _+_, _-_}
 use native.Mathlib.Omega.{arith}
-use lib.ListN.{length}
 use Rattle.heights.specs.Least.{numberAt}
 use Rattle.tree_choices.proofs.LowLaws.{by-low, by-one, by-two}
 use Rattle.tree_choices.proofs.height_of.Statement.{statement}
@@ -15,7 +12,7 @@ returns : tie.Need-returns
 returns c = let z = c .before .before in let a = z .args in by-low (a .hs .now) (a .n) (a .st .first) (a .st .second) (a .start) (a .len) (a .st .kind) (a .st .split) (c .if1 .taken)
 
 high-requires : tie.Need-high-requires
-high-requires c κs = let z = c .before .before .before in let a = z .args in (z .pre .few, z .pre .fits, z .pre .small .0, z .pre .long)
+high-requires c κs = let z = c .before .before .before in (z .pre .few, z .pre .fits, z .pre .small .0, z .pre .long)
 
 full-requires : tie.Need-full-requires
 full-requires c κs = search needs

@@ -1,6 +1,6 @@
 -- `look` meets its contract: by whether the nonterminal is in the set.
 use borrow.Author.Needs.{needs}
-use mathlib.Core.Path.{_≡_, sym, _∙_}
+use mathlib.Core.Path.{sym, _∙_}
 use Rattle.tree_choices.specs.Picks.{seen, closed}
 use Rattle.tree_view.proofs.Members.{member-says}
 use Rattle.tree_choices.proofs.PickLaws.{choice-small, charted}

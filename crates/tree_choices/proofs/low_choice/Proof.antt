@@ -1,17 +1,12 @@
 -- The loop's invariant: the choices passed are higher than the least height. One of the rest gives it.
 use borrow.Author.Needs.{needs}
-use mathlib.Core.Path.{_≡_, refl, sym, ap, ap₂, _∙_, subst}
-use mathlib.Core.Bool.{true, false}
-use mathlib.Core.List.{List}
-use Prim.Native.Nat.{ℕ, suc, _+_, _-_, _*_, _≤_, _<_, max}
+use mathlib.Core.Path.{_∙_}
+use Prim.Native.Nat.{_≤_}
 use native.Mathlib.Omega.{arith}
-use lib.ListN.{length}
 use Rattle.grammar.proofs.Lists.{getElem?-take}
-use Rattle.grammar.specs.Choices.{Choice, FirstChoice, Preferred, Same, LowChoice, OtherChoice, straight, looping}
 use Rattle.grammar.specs.Content.{rules}
 use Rattle.grammar.specs.SpanSheet.{part}
-use Rattle.grammar.proofs.ChoiceLaws.{preferred-choice}
-use Rattle.choices.specs.Choosing.{NextAt, NextChoice, NoneFrom}
+use Rattle.choices.specs.Choosing.{NextAt, NextChoice}
 use Rattle.tree_choices.proofs.PickLaws.{choice-near, charted}
 use Rattle.tree_choices.proofs.LowLaws.{Higher, higher-none, low-step, low-there, step-inside, rank, rank-less}
 use Rattle.tree_choices.proofs.low_choice.Statement.{statement}
@@ -27,7 +22,7 @@ abbrev μ-loop : tie.MeasureT-loop
 μ-loop words hs s g a start len n least p₀ k₀ p k = rank p k
 
 high-requires : tie.Need-high-requires Inv-loop μ-loop
-high-requires c κs = let z = c .before .before in let a = z .args in (z .pre .0 .0 .positioned .few, z .pre .0 .1, z .pre .0 .2, z .pre .1 .0 .long)
+high-requires c κs = let z = c .before .before in (z .pre .0 .0 .positioned .few, z .pre .0 .1, z .pre .0 .2, z .pre .1 .0 .long)
 
 full-requires : tie.Need-full-requires Inv-loop μ-loop
 full-requires c κs = search needs
@@ -36,7 +31,7 @@ loop-holds : tie.Need-loop-holds Inv-loop μ-loop
 loop-holds c = let z = c .before .before .before .before in let a = z .args in let r = z .pre .0 .0 in (omega arith, omega arith, higher-none (z .pre .1 .0) (a .a) (a .start) (a .len) (omega (arith, z .pre .0 .1, r .positioned .whole)))
 
 next-choice-requires : tie.Need-next-choice-requires Inv-loop μ-loop
-next-choice-requires c κs = let z = c .before .before .before .before .before in let a = z .args in let r = z .pre .0 .0 in ((r .positioned .few, z .pre .0 .1), (r .formed, r .sheet))
+next-choice-requires c κs = let z = c .before .before .before .before .before in let r = z .pre .0 .0 in ((r .positioned .few, z .pre .0 .1), (r .formed, r .sheet))
 
 enum-known-found : tie.Need-enum-known-found Inv-loop μ-loop
 enum-known-found c = search needs

@@ -1,8 +1,6 @@
 -- `pass` meets its contract: while seeking, the second bit says whether the trees part beneath the node.
 use borrow.Author.Needs.{needs}
 use mathlib.Core.Path.{refl}
-use Prim.Native.Nat.{_+_, _≤_}
-use native.Mathlib.Omega.{arith}
 use Rattle.tree_choices.proofs.PickLaws.{reach, passes-two, passes-one, passes-plain}
 use Rattle.tree_choices.proofs.pass.Statement.{statement}
 use Rattle.tree_choices.proofs.pass.Tie as tie

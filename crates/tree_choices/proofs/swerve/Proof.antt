@@ -1,12 +1,7 @@
 -- `swerve` meets its contract: the first choice, where that is another; else what `after` finds.
 use borrow.Author.Needs.{needs}
-use mathlib.Core.Path.{_≡_, refl, sym, ap, ap₂, _∙_, subst}
-use mathlib.Core.Bool.{true, false}
-use mathlib.Core.List.{List}
-use Prim.Native.Nat.{ℕ, suc, _+_, _-_, _*_, _≤_, _<_, max}
-use native.Mathlib.Omega.{arith}
-use lib.ListN.{length}
-use Rattle.grammar.specs.Choices.{Choice, FirstChoice, Preferred, Same, LowChoice, OtherChoice, straight, looping}
+use mathlib.Core.Bool.{false}
+use Rattle.grammar.specs.Choices.{FirstChoice}
 use Rattle.grammar.specs.Content.{rules}
 use Rattle.grammar.specs.SpanSheet.{part}
 use Rattle.grammar.proofs.ChoiceLaws.{preferred-choice}
@@ -18,7 +13,7 @@ use Rattle.tree_choices.proofs.swerve.Tie as tie
 use Rattle.grammar.specs.Sentences.{spelled}
 
 next-choice-requires : tie.Need-next-choice-requires
-next-choice-requires c κs = let z = c .before in let a = z .args in let r = z .pre .0 .0 in ((r .positioned .few, z .pre .0 .1), (r .formed, r .sheet))
+next-choice-requires c κs = let z = c .before in let r = z .pre .0 .0 in ((r .positioned .few, z .pre .0 .1), (r .formed, r .sheet))
 
 enum-known-found : tie.Need-enum-known-found
 enum-known-found c = search needs

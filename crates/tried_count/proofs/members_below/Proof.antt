@@ -1,8 +1,7 @@
 -- `tried_count::members_below` meets its contract. The loop's invariant: `n` counts the members below i.
-use Prim.Native.Nat.{ℕ, _+_, _-_, _≤_}
-use mathlib.Core.Path.{_≡_, refl, ap, _∙_}
+use Prim.Native.Nat.{_-_, _≤_}
+use mathlib.Core.Path.{_≡_}
 use native.Mathlib.Omega.{arith}
-use native.Mathlib.Numerals.{add-one}
 use borrow.Author.Needs.{needs}
 use Rattle.tried_count.specs.Rows.{membersBelow}
 use Rattle.tried_count.proofs.Members.{digit-low, members-le, members-none, members-more}

@@ -1,6 +1,6 @@
 -- `tried_count::rank` meets its contract. The loop's invariant: `total` has the part of the i cells done, and what is left makes it whole.
 use borrow.Author.Needs.{needs}
-use Prim.Native.Nat.{_-_, _≤_}
+use Prim.Native.Nat.{_-_}
 use native.Mathlib.Omega.{arith}
 use Rattle.candidates.specs.Terminals.{Among}
 use Rattle.candidates.specs.Windows.{Fits}

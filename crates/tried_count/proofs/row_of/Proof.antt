@@ -1,6 +1,6 @@
 -- `tried_count::row_of` meets its contract. The loop's invariant: the row has the ways to go on with i cells.
 use borrow.Author.Needs.{needs}
-use Prim.Native.Nat.{_+_, _-_, _≤_}
+use Prim.Native.Nat.{_-_, _≤_}
 use mathlib.Core.Path.{_≡_}
 use native.Mathlib.Omega.{arith}
 use Rattle.tried_count.specs.Rows.{RowOf}

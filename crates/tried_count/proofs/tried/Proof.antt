@@ -1,5 +1,5 @@
 -- `tried_count::tried` meets its contract.
-use Prim.Native.Nat.{_+_, _-_, _<_, _^_, _≤_}
+use Prim.Native.Nat.{_+_, _<_, _^_, _≤_}
 use native.Mathlib.Omega.{arith}
 use Rattle.tried_count.proofs.Trying.{fair-all, fairs-less, tried-none, tried-found, rank-counts, rank-small}
 use borrow.Author.Needs.{needs}
