@@ -34,34 +34,48 @@ grown-with {P} s a p h =
       only = λ Y i. ⊎-elim inl (λ e. inr (rw e p)) (insert-only s a Y i);
     }
 
-pub grown-both : {P Q R : ℕ → Type 0} {s t u : ℕ} → Grown P s t → Grown Q t u → ((Y : ℕ) → R Y → P Y ⊎ Q Y) → ((Y : ℕ) → P Y ⊎ Q Y → R Y) → Grown R s u
+pub grown-both : {P Q R : ℕ → Type 0} {s t u : ℕ} → Grown P s t → Grown Q t u
+    → ((Y : ℕ) → R Y → P Y ⊎ Q Y) → ((Y : ℕ) → P Y ⊎ Q Y → R Y) → Grown R s u
 grown-both x y to from =
     record {
       more = omega (arith, x .more, y .more);
       keeps = λ Y i. y .keeps Y (x .keeps Y i);
       adds = λ Y r. ⊎-elim (λ p. y .keeps Y (x .adds Y p)) (λ q. y .adds Y q) (to Y r);
-      only = λ Y i. ⊎-elim (λ j. ⊎-elim inl (λ p. inr (from Y (inl p))) (x .only Y j)) (λ q. inr (from Y (inr q))) (y .only Y i);
+      only = λ Y i. ⊎-elim (λ j. ⊎-elim inl (λ p. inr (from Y (inl p))) (x .only Y j))
+          (λ q. inr (from Y (inr q))) (y .only Y i);
     }
 
-pub grown-map : {P Q : ℕ → Type 0} {s t : ℕ} → Grown P s t → ((Y : ℕ) → P Y → Q Y) → ((Y : ℕ) → Q Y → P Y) → Grown Q s t
+pub grown-map : {P Q : ℕ → Type 0} {s t : ℕ} → Grown P s t → ((Y : ℕ) → P Y → Q Y)
+    → ((Y : ℕ) → Q Y → P Y) → Grown Q s t
 grown-map x f h =
-    record { more = x .more; keeps = x .keeps; adds = λ Y q. x .adds Y (h Y q); only = λ Y i. ⊎-elim inl (λ p. inr (f Y p)) (x .only Y i) }
+    record {
+      more = x .more;
+      keeps = x .keeps;
+      adds = λ Y q. x .adds Y (h Y q);
+      only =
+          λ Y i. ⊎-elim inl (λ p. inr (f Y p)) (x .only Y i);
+    }
 
 module _ {Adds : ℕ → Rule → ℕ → Type 0} {P : ℕ → Type 0} {g : Rules} where
   pub passed-none : (s : ℕ) → Passed Adds P g 0 s s
-  passed-none s = record { more = le-refl s; sound = λ h. h; still = λ e q l r st Y a. absurd (omega arith) }
+  passed-none s =
+      record { more = le-refl s; sound = λ h. h; still = λ e q l r st Y a. absurd (omega arith) }
 
   -- one rule more: what it adds to a set whose members have P has P
-  pub passed-more : ((s : ℕ) → ((Y : ℕ) → In s Y → P Y) → (r : Rule) → List·Memᴰ r g → (Y : ℕ) → Adds s r Y → P Y)
-      → {p s t u : ℕ} (r : Rule) → getElem? g p ≡ some r → Passed Adds P g p s t → Grown (Adds t r) t u → Passed Adds P g (p + 1) s u
+  pub passed-more : ((s : ℕ) → ((Y : ℕ) → In s Y → P Y) → (r : Rule) → List·Memᴰ r g → (Y : ℕ)
+      → Adds s r Y → P Y)
+      → {p s t u : ℕ} (r : Rule) → getElem? g p ≡ some r → Passed Adds P g p s t
+      → Grown (Adds t r) t u → Passed Adds P g (p + 1) s u
   passed-more sound {p} {s} {t} {u} r st x y =
       record {
         more = omega (arith, x .more, y .more);
-        sound = λ h Y i. ⊎-elim (x .sound h Y) (λ a. sound t (x .sound h) r (member-at g p st) Y a) (y .only Y i);
+        sound = λ h Y i. ⊎-elim (x .sound h Y) (λ a. sound t (x .sound h) r (member-at g p st) Y a)
+            (y .only Y i);
         still = still;
       }
     where
-      still : u ≡ s → (q : ℕ) → q < p + 1 → (r′ : Rule) → getElem? g q ≡ some r′ → (Y : ℕ) → Adds s r′ Y → In s Y
+      still : u ≡ s → (q : ℕ) → q < p + 1 → (r′ : Rule) → getElem? g q ≡ some r′ → (Y : ℕ)
+          → Adds s r′ Y → In s Y
       still e q l r′ st′ Y a = go (ℕ-discrete q p)
         where
           same : t ≡ s
@@ -75,13 +89,15 @@ module _ {Adds : ℕ → Rule → ℕ → Type 0} {P : ℕ → Type 0} {g : Rule
           go (no j) = x .still same q (omega arith) r′ st′ Y a
 
   -- a pass over all rules that added nothing: the set is closed
-  pub passed-all : {n s t : ℕ} → Passed Adds P g n s t → length g ≡ n → t ≡ s → (r : Rule) → List·Memᴰ r g → (Y : ℕ) → Adds s r Y → In s Y
+  pub passed-all : {n s t : ℕ} → Passed Adds P g n s t → length g ≡ n → t ≡ s → (r : Rule)
+      → List·Memᴰ r g → (Y : ℕ) → Adds s r Y → In s Y
   passed-all x l e r m =
       let w = place-of m in
       x .still e (w .0) (omega (arith, getElem?-lt g (w .0) (w .1))) r (w .1)
 
 -- the rule at a place that the code reads
-pub rule-at : (g : Grammar) (p : ℕ) (d : Rule) → length (g .rules) ≡ 128 → g .count ≤ 128 → p < g .count → getElem? (rules g) p ≡ some (getD (g .rules) p d)
+pub rule-at : (g : Grammar) (p : ℕ) (d : Rule) → length (g .rules) ≡ 128 → g .count ≤ 128
+    → p < g .count → getElem? (rules g) p ≡ some (getD (g .rules) p d)
 rule-at g p d e h l = go (g .rules) (g .count) p l (omega arith)
   where
     go : (l : Rules) (n p : ℕ) → p < n → p < length l → getElem? (take n l) p ≡ some (getD l p d)
@@ -90,5 +106,6 @@ rule-at g p d e h l = go (g .rules) (g .count) p l (omega arith)
     go (x ∷ l) (suc n) zero a b = refl
     go (x ∷ l) (suc n) (suc p) a b = go l n p (omega arith) (omega arith)
 
-pub small-at : {g : Grammar} → Formed g → (p : ℕ) {r : Rule} → getElem? (rules g) p ≡ some r → SmallRule r
+pub small-at : {g : Grammar} → Formed g → (p : ℕ) {r : Rule} → getElem? (rules g) p ≡ some r
+    → SmallRule r
 small-at {g} f p st = mem-every SmallRule (rules g) (f .small) (member-at (rules g) p st)

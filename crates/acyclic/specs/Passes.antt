@@ -17,11 +17,14 @@ pub record Grown (P : ℕ → Type 0) (s t : ℕ) : Type 0 where
   pub adds : (Y : ℕ) → P Y → In t Y
   pub only : (Y : ℕ) → In t Y → In s Y ⊎ P Y
 
--- the first p of the rules g, each adding `Adds`, led from s to t: the members have P if those of s have it, and where t is s no rule adds to s
-pub record Passed (Adds : ℕ → Rule → ℕ → Type 0) (P : ℕ → Type 0) (g : Rules) (p s t : ℕ) : Type 0 where
+-- the first p of the rules g, each adding `Adds`, led from s to t: the members have P if those of s
+-- have it, and where t is s no rule adds to s
+pub record Passed (Adds : ℕ → Rule → ℕ → Type 0) (P : ℕ → Type 0) (g : Rules) (p s t : ℕ) : Type
+    0 where
   pub more : s ≤ t
   pub sound : ((Y : ℕ) → In s Y → P Y) → (Y : ℕ) → In t Y → P Y
-  pub still : t ≡ s → (q : ℕ) → q < p → (r : Rule) → getElem? g q ≡ some r → (Y : ℕ) → Adds s r Y → In s Y
+  pub still : t ≡ s → (q : ℕ) → q < p → (r : Rule) → getElem? g q ≡ some r → (Y : ℕ) → Adds s r Y
+      → In s Y
 
 -- members of s make the clause's word empty
 abbrev pub Ready : ℕ → Clause → Type 0

@@ -1,4 +1,5 @@
-// Refusal 8: is a sheet of rules cyclic? First the nullable nonterminals, then what chains reach from each nonterminal.
+// Refusal 8: is a sheet of rules cyclic? First the nullable nonterminals, then what chains reach
+// from each nonterminal.
 use grammar::Clause;
 use grammar::Grammar;
 use grammar::Rule;

@@ -22,7 +22,8 @@ ghost use Rattle.always_text.specs.Always.{doubtsText, AlwaysText};
 // The first two lines for unknown.
 fn put_unknown(out: &mut [u8], line: usize) -> usize
     requires { ⌜ 50 ≤ length (now out) ⌝ }
-    ensures { λ r. ⌜ Wrote (now (out .entry)) (now (out .exit)) 0 (head (toldText Told.Unknown) line) r ⌝ }
+    ensures { λ r. ⌜ Wrote (now (out .entry)) (now (out .exit)) 0
+        (head (toldText Told.Unknown) line) r ⌝ }
     ensures { λ r. ⌜ r ≤ 50 ⌝ }
 {
     let a = put_bytes(out, 0, b"answer line\n");
@@ -63,7 +64,8 @@ fn put_why(out: &mut [u8], at: usize, why: u8) -> usize
 // The line of an entry.
 fn put_doubt(out: &mut [u8], at: usize, left: u8, first: u8, second: u8, why: u8) -> usize
     requires { ⌜ at + 18 ≤ length (now out) ⌝ }
-    ensures { λ r. ⌜ Wrote (now (out .entry)) (now (out .exit)) at (doubtText left first second why) r ⌝ }
+    ensures { λ r. ⌜ Wrote (now (out .entry)) (now (out .exit)) at (doubtText left first second why)
+        r ⌝ }
     ensures { λ r. ⌜ r ≤ at + 18 ⌝ }
 {
     let a = put_small(out, at, left, 32);
@@ -76,7 +78,8 @@ fn put_doubt(out: &mut [u8], at: usize, left: u8, first: u8, second: u8, why: u8
 fn put_doubts(out: &mut [u8], at: usize, list: &[u8], count: usize) -> usize
     requires { ⌜ 4 * count ≤ length (now list) ⌝ }
     requires { ⌜ at + 18 * count ≤ length (now out) ⌝ }
-    ensures { λ r. ⌜ Wrote (now (out .entry)) (now (out .exit)) at (doubtLines (take (4 * count) (now (list .entry)))) r ⌝ }
+    ensures { λ r. ⌜ Wrote (now (out .entry)) (now (out .exit)) at
+        (doubtLines (take (4 * count) (now (list .entry)))) r ⌝ }
 {
     let mut i = 0;
     let mut next = at;
@@ -92,7 +95,8 @@ fn put_doubts(out: &mut [u8], at: usize, list: &[u8], count: usize) -> usize
 fn put_listed(out: &mut [u8], at: usize, t: Told, list: &[u8], count: usize) -> usize
     requires { ⌜ 4 * count ≤ length (now list) ⌝ }
     requires { ⌜ at + 22 + 18 * count ≤ length (now out) ⌝ }
-    ensures { λ r. ⌜ Wrote (now (out .entry)) (now (out .exit)) at (doubtsText t (take (4 * count) (now (list .entry)))) r ⌝ }
+    ensures { λ r. ⌜ Wrote (now (out .entry)) (now (out .exit)) at
+        (doubtsText t (take (4 * count) (now (list .entry)))) r ⌝ }
 {
     match t {
         Told::Clear => at,
@@ -107,7 +111,8 @@ fn put_listed(out: &mut [u8], at: usize, t: Told, list: &[u8], count: usize) -> 
 // The whole output of the call `always`; its length.
 pub fn always_text(rules: &[u8], out: &mut [u8]) -> usize
     requires { ⌜ 262144 ≤ length (now out) ⌝ }
-    ensures { λ r. ⌜ Printed AlwaysText (ruleSheet (now (rules .entry))) (now (out .entry)) (now (out .exit)) r ⌝ }
+    ensures { λ r. ⌜ Printed AlwaysText (ruleSheet (now (rules .entry))) (now (out .entry))
+        (now (out .exit)) r ⌝ }
 {
     let mut words = [0u64; 73728];
     let mut list = [0u8; 57600];
@@ -120,7 +125,8 @@ pub fn always_text(rules: &[u8], out: &mut [u8]) -> usize
 // The whole output of the call `clauses-always`; its length.
 pub fn clauses_always_text(clauses: &[u8], out: &mut [u8]) -> usize
     requires { ⌜ 262144 ≤ length (now out) ⌝ }
-    ensures { λ r. ⌜ Printed AlwaysText (clauseSheet (now (clauses .entry))) (now (out .entry)) (now (out .exit)) r ⌝ }
+    ensures { λ r. ⌜ Printed AlwaysText (clauseSheet (now (clauses .entry))) (now (out .entry))
+        (now (out .exit)) r ⌝ }
 {
     let mut words = [0u64; 73728];
     let mut list = [0u8; 57600];

@@ -16,10 +16,12 @@ use Rattle.answering.specs.declared.Answer.{Answer}
 use Rattle.answering.specs.declared.Answer.the-variants as Answer
 use Rattle.answering.specs.Verdict.{SheetFilled, VerdictOn, short, judging}
 
-pub too-few : (g : Rules) (w : Word) (n : ℕ) (ws : List ℕ) → length w ≡ n → length ws < 2 * pairs n → VerdictOn g w ws ws (record { answer = Answer.Refused Fault.FewWords; line = 0 })
+pub too-few : (g : Rules) (w : Word) (n : ℕ) (ws : List ℕ) → length w ≡ n → length ws < 2 * pairs n
+    → VerdictOn g w ws ws (record { answer = Answer.Refused Fault.FewWords; line = 0 })
 too-few g w n ws e h = short (omega (arith, ap pairs e)) refl refl refl
 
-pub filled-by : {v : Verdict} {g : Rules} {w : Word} {n : ℕ} {ws ws′ : List ℕ} → length w ≡ n → Judged v g w n ws ws′ → SheetFilled g w ws ws′
+pub filled-by : {v : Verdict} {g : Rules} {w : Word} {n : ℕ} {ws ws′ : List ℕ} → length w ≡ n
+    → Judged v g w n ws ws′ → SheetFilled g w ws ws′
 filled-by {w = w} {n = n} e j =
     record {
       long = j .past .long;
@@ -32,7 +34,8 @@ answerOf Verdict.None = Answer.None
 answerOf Verdict.One = Answer.One
 answerOf Verdict.Two = Answer.Two
 
-pub judged-on : (v : Verdict) (g : Rules) (w : Word) (n : ℕ) {ws ws′ : List ℕ} → length w ≡ n → Judged v g w n ws ws′ → VerdictOn g w ws ws′ (record { answer = answerOf v; line = 0 })
+pub judged-on : (v : Verdict) (g : Rules) (w : Word) (n : ℕ) {ws ws′ : List ℕ} → length w ≡ n
+    → Judged v g w n ws ws′ → VerdictOn g w ws ws′ (record { answer = answerOf v; line = 0 })
 judged-on Verdict.None g w n e j = judging (j .verdict) refl (filled-by e j)
 judged-on Verdict.One g w n e j = judging (j .verdict) refl (filled-by e j)
 judged-on Verdict.Two g w n e j = judging (j .verdict) refl (filled-by e j)

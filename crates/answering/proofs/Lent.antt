@@ -1,4 +1,5 @@
--- Of what is lent to a call only its length counts: the reply, and what it counts in the lent memory, are the same whatever stood there before.
+-- Of what is lent to a call only its length counts: the reply, and what it counts in the lent
+-- memory, are the same whatever stood there before.
 use mathlib.Core.Path.{_≡_, refl, sym, ap, _∙_}
 use mathlib.Core.Logic.{inl, inr, ⊎-elim}
 use mathlib.Core.List.{List, _++_}
@@ -20,7 +21,9 @@ use Rattle.answering.specs.declared.TreesReply.{TreesReply}
 use Rattle.answering.specs.declared.SweepReply.{SweepReply}
 use Rattle.answering.specs.declared.ListReply.{ListReply}
 use Rattle.answering.specs.Answers.{Sheets}
-use Rattle.answering.specs.Trees.{treesReplyOf, Shown, treeless, single, both, large-one, large-two, TreesOn, short, showing, TreesBy, refusing, reading}
+use Rattle.answering.specs.Trees.{treesReplyOf, Shown, treeless, single, both, large-one}
+use Rattle.answering.specs.Trees.{large-two, TreesOn, short, showing, TreesBy, refusing}
+use Rattle.answering.specs.Trees.{reading}
 use Rattle.answering.specs.Sweep.{SweepTaken, SweepBy}
 use Rattle.answering.specs.Sweep as Sweep
 use Rattle.answering.specs.Lists.{listReply, ListOn}
@@ -32,43 +35,76 @@ use Rattle.answering.proofs.SweepSettled.{sweep-settled}
 
 -- the same reply, and the same rows, as many as it counts
 abbrev pub SameRows : (m m′ n n′ : List ℕ) (r s : TreesReply) → Type 0
-SameRows m m′ n n′ r s = (r ≡ s) × ((take (4 * r .first) m ≡ take (4 * s .first) m′) × (take (4 * r .second) n ≡ take (4 * s .second) n′))
+SameRows m m′ n n′ r s = (r ≡ s)
+    × ((take (4 * r .first) m ≡ take (4 * s .first) m′)
+    × (take (4 * r .second) n ≡ take (4 * s .second) n′))
 
 module _ (m m′ n n′ : List ℕ) {r s : TreesReply} where
   -- the same memories
   pub rows-same : (r ≡ s) × ((m ≡ m′) × (n ≡ n′)) → SameRows m m′ n n′ r s
-  rows-same e = (e .0, (λ i. take (4 * e .0 i .first) (e .1 .0 i), λ i. take (4 * e .0 i .second) (e .1 .1 i)))
-
-  -- a refusal counts no row
-  pub refusal-rows : {f f′ : Fault} {l l′ : ℕ} → (f ≡ f′) × (l ≡ l′) → r ≡ treesReplyOf (Answer.Refused f) l 0 0 → s ≡ treesReplyOf (Answer.Refused f′) l′ 0 0 → SameRows m m′ n n′ r s
-  refusal-rows e x y = (
-    x ∙ (λ i. treesReplyOf (Answer.Refused (e .0 i)) (e .1 i) 0 0) ∙ sym y,
+  rows-same e = (
+    e .0,
     (
-      ap (λ (z : TreesReply). take (4 * z .first) m) x ∙ sym (ap (λ (z : TreesReply). take (4 * z .first) m′) y),
-      ap (λ (z : TreesReply). take (4 * z .second) n) x ∙ sym (ap (λ (z : TreesReply). take (4 * z .second) n′) y),
+      λ i. take (4 * e .0 i .first) (e .1 .0 i),
+      λ i. take (4 * e .0 i .second)
+          (e .1 .1 i),
     ),
   )
 
-filled-moved : (dis : Display) (one other : List ℕ) → length one ≡ length other → (t : Option Tree) → filled dis one t ≡ filled dis other t
-filled-moved dis one other e t = ap (λ (k : ℕ). rowsOf dis t ++ replicate (k - 4 * countOf dis t) 0) e
+  -- a refusal counts no row
+  pub refusal-rows : {f f′ : Fault} {l l′ : ℕ} → (f ≡ f′) × (l ≡ l′)
+      → r ≡ treesReplyOf (Answer.Refused f) l 0 0 → s ≡ treesReplyOf (Answer.Refused f′) l′ 0 0
+      → SameRows m m′ n n′ r s
+  refusal-rows e x y = (
+    x ∙ (λ i. treesReplyOf (Answer.Refused (e .0 i)) (e .1 i) 0 0) ∙ sym y,
+    (
+      ap (λ (z : TreesReply). take (4 * z .first) m) x ∙ sym
+          (ap (λ (z : TreesReply). take (4 * z .first) m′) y),
+      ap (λ (z : TreesReply). take (4 * z .second) n) x ∙ sym
+          (ap (λ (z : TreesReply). take (4 * z .second) n′) y),
+    ),
+  )
 
-module _ {dis : Display} {g : Rules} {w : Word} {one one₂ two two₂ : List ℕ} (e : length one ≡ length one₂) (d : length two ≡ length two₂) where
-  shown-moved : {a c : List ℕ} {r : TreesReply} → Shown dis g w one a two c r → Shown dis g w one₂ a two₂ c r
-  shown-moved (treeless p x h i) = treeless p x (h ∙ filled-moved dis one one₂ e none) (i ∙ filled-moved dis two two₂ d none)
-  shown-moved (single {t = t} p a l x h i) = single p a (omega arith) x (h ∙ filled-moved dis one one₂ e (some t)) (i ∙ filled-moved dis two two₂ d none)
-  shown-moved (both {t = t} {u = u} p a b l m x h i) = both p a b (omega arith) (omega arith) x (h ∙ filled-moved dis one one₂ e (some t)) (i ∙ filled-moved dis two two₂ d (some u))
-  shown-moved (large-one p a l n x h i) = large-one p a (omega arith) n x (h ∙ filled-moved dis one one₂ e none) (i ∙ filled-moved dis two two₂ d none)
-  shown-moved (large-two p a b l n x h i) = large-two p a b (⊎-elim (λ z. inl (omega arith)) (λ z. inr (omega arith)) l) n x (h ∙ filled-moved dis one one₂ e none) (i ∙ filled-moved dis two two₂ d none)
+filled-moved : (dis : Display) (one other : List ℕ) → length one ≡ length other → (t : Option Tree)
+    → filled dis one t ≡ filled dis other t
+filled-moved dis one other e t =
+    ap (λ (k : ℕ). rowsOf dis t ++ replicate (k - 4 * countOf dis t) 0) e
 
-module _ {ws vs one one₂ two two₂ : List ℕ} (e : length ws ≡ length vs) (d : length one ≡ length one₂) (c : length two ≡ length two₂) {a b m m′ n n′ : List ℕ} {r s : TreesReply} where
-  pub trees-on-reply : (dis : Display) (g : Rules) (w : Word) → Distinct g → TreesOn dis g w ws a one m two n r → TreesOn dis g w vs b one₂ m′ two₂ n′ s → SameRows m m′ n n′ r s
-  trees-on-reply dis g w D (short {f = f} u v x h i j) (short {f = f′} p q y k l o) = refusal-rows m m′ n n′ (same-fault f f′ 21 v q, refl) x y
-  trees-on-reply dis g w D (short u v x h i j) (showing k y) = absurd (omega (arith, k .sheet .enough, k .long))
-  trees-on-reply dis g w D (showing k y) (short u v x h i j) = absurd (omega (arith, k .sheet .enough, k .long))
-  trees-on-reply dis g w D (showing h x) (showing k y) = rows-same m m′ n n′ (shown-settled dis g w one₂ two₂ D (shown-moved d c x) y)
+module _ {dis : Display} {g : Rules} {w : Word} {one one₂ two two₂ : List ℕ}
+    (e : length one ≡ length one₂) (d : length two ≡ length two₂) where
+  shown-moved : {a c : List ℕ} {r : TreesReply} → Shown dis g w one a two c r
+      → Shown dis g w one₂ a two₂ c r
+  shown-moved (treeless p x h i) =
+      treeless p x (h ∙ filled-moved dis one one₂ e none) (i ∙ filled-moved dis two two₂ d none)
+  shown-moved (single {t = t} p a l x h i) = single p a (omega arith) x
+      (h ∙ filled-moved dis one one₂ e (some t)) (i ∙ filled-moved dis two two₂ d none)
+  shown-moved (both {t = t} {u = u} p a b l m x h i) = both p a b (omega arith) (omega arith) x
+      (h ∙ filled-moved dis one one₂ e (some t)) (i ∙ filled-moved dis two two₂ d (some u))
+  shown-moved (large-one p a l n x h i) = large-one p a (omega arith) n x
+      (h ∙ filled-moved dis one one₂ e none) (i ∙ filled-moved dis two two₂ d none)
+  shown-moved (large-two p a b l n x h i) = large-two p a b
+      (⊎-elim (λ z. inl (omega arith)) (λ z. inr (omega arith)) l) n x
+      (h ∙ filled-moved dis one one₂ e none) (i ∙ filled-moved dis two two₂ d none)
 
-  pub trees-reply : {given : Sheets} → Apart given → TreesBy given ws a one m two n r → TreesBy given vs b one₂ m′ two₂ n′ s → SameRows m m′ n n′ r s
-  trees-reply D (refusing p x h i j) (refusing q y k l o) = refusal-rows m m′ n n′ (same-refusal p q) x y
+module _ {ws vs one one₂ two two₂ : List ℕ} (e : length ws ≡ length vs)
+    (d : length one ≡ length one₂) (c : length two ≡ length two₂) {a b m m′ n n′ : List ℕ}
+    {r s : TreesReply} where
+  pub trees-on-reply : (dis : Display) (g : Rules) (w : Word) → Distinct g
+      → TreesOn dis g w ws a one m two n r → TreesOn dis g w vs b one₂ m′ two₂ n′ s
+      → SameRows m m′ n n′ r s
+  trees-on-reply dis g w D (short {f = f} u v x h i j) (short {f = f′} p q y k l o) =
+      refusal-rows m m′ n n′ (same-fault f f′ 21 v q, refl) x y
+  trees-on-reply dis g w D (short u v x h i j) (showing k y) =
+      absurd (omega (arith, k .sheet .enough, k .long))
+  trees-on-reply dis g w D (showing k y) (short u v x h i j) =
+      absurd (omega (arith, k .sheet .enough, k .long))
+  trees-on-reply dis g w D (showing h x) (showing k y) =
+      rows-same m m′ n n′ (shown-settled dis g w one₂ two₂ D (shown-moved d c x) y)
+
+  pub trees-reply : {given : Sheets} → Apart given → TreesBy given ws a one m two n r
+      → TreesBy given vs b one₂ m′ two₂ n′ s → SameRows m m′ n n′ r s
+  trees-reply D (refusing p x h i j) (refusing q y k l o) =
+      refusal-rows m m′ n n′ (same-refusal p q) x y
   trees-reply D (refusing p x h i j) (reading q y) = absurd (apart p q)
   trees-reply D (reading q y) (refusing p x h i j) = absurd (apart p q)
   trees-reply D (reading {g = g} {w = w} p x) (reading q y) =
@@ -79,19 +115,27 @@ module _ {ws vs one one₂ two two₂ : List ℕ} (e : length ws ≡ length vs) 
 
 module _ {ws vs : List ℕ} (e : length ws ≡ length vs) where
   taken-moved : {g : Rules} {k : ℕ} → SweepTaken g k ws → SweepTaken g k vs
-  taken-moved t = record { low = t .low; high = t .high; few = t .few; enough = omega (arith, t .enough) }
+  taken-moved t =
+      record { low = t .low; high = t .high; few = t .few; enough = omega (arith, t .enough) }
 
-  pub sweep-reply : {given : Reading Rules} {k : ℕ} {a b : List ℕ} {r s : SweepReply} → SweepBy given k ws a r → SweepBy given k vs b s → r ≡ s
+  pub sweep-reply : {given : Reading Rules} {k : ℕ} {a b : List ℕ} {r s : SweepReply}
+      → SweepBy given k ws a r → SweepBy given k vs b s → r ≡ s
   sweep-reply (Sweep.refusing d x h) y = sweep-settled (Sweep.refusing d x refl) y .0
-  sweep-reply (Sweep.reading d (Sweep.bound l n x h)) y = sweep-settled (Sweep.reading d (Sweep.bound l n x refl)) y .0
-  sweep-reply (Sweep.reading d (Sweep.many l u m n x h)) y = sweep-settled (Sweep.reading d (Sweep.many l u m n x refl)) y .0
-  sweep-reply (Sweep.reading d (Sweep.short l u m o n x h)) y = sweep-settled (Sweep.reading d (Sweep.short l u m (omega arith) n x refl)) y .0
-  sweep-reply (Sweep.reading d (Sweep.clear t c q x h)) y = sweep-settled (Sweep.reading d (Sweep.clear (taken-moved t) c q x refl)) y .0
-  sweep-reply (Sweep.reading d (Sweep.two t c o q x h)) y = sweep-settled (Sweep.reading d (Sweep.two (taken-moved t) c o q x refl)) y .0
+  sweep-reply (Sweep.reading d (Sweep.bound l n x h)) y =
+      sweep-settled (Sweep.reading d (Sweep.bound l n x refl)) y .0
+  sweep-reply (Sweep.reading d (Sweep.many l u m n x h)) y =
+      sweep-settled (Sweep.reading d (Sweep.many l u m n x refl)) y .0
+  sweep-reply (Sweep.reading d (Sweep.short l u m o n x h)) y =
+      sweep-settled (Sweep.reading d (Sweep.short l u m (omega arith) n x refl)) y .0
+  sweep-reply (Sweep.reading d (Sweep.clear t c q x h)) y =
+      sweep-settled (Sweep.reading d (Sweep.clear (taken-moved t) c q x refl)) y .0
+  sweep-reply (Sweep.reading d (Sweep.two t c o q x h)) y =
+      sweep-settled (Sweep.reading d (Sweep.two (taken-moved t) c o q x refl)) y .0
 
 -- 3. a list
 
-pub list-moved : {a : Answer} {bytes : List ℕ} {n : ℕ} {lent other l : List ℕ} {r : ListReply} → length lent ≡ length other → ListOn a bytes n lent l r → ListOn a bytes n other l r
+pub list-moved : {a : Answer} {bytes : List ℕ} {n : ℕ} {lent other l : List ℕ} {r : ListReply}
+    → length lent ≡ length other → ListOn a bytes n lent l r → ListOn a bytes n other l r
 list-moved e x = record { fault = x .fault; number = x .number; gives = gives-moved e (x .gives) }
 
 -- the same reply, and the same bytes, as many as it counts
@@ -102,7 +146,9 @@ module _ (m n : List ℕ) {r s : ListReply} where
   pub bytes-same : (r ≡ s) × (m ≡ n) → SameBytes m n r s
   bytes-same e = (e .0, λ i. take (e .0 i .count) (e .1 i))
 
-  pub refusal-bytes : {f f′ : Fault} {l l′ : ℕ} → (f ≡ f′) × (l ≡ l′) → r ≡ listReply (Answer.Refused f) l 0 → s ≡ listReply (Answer.Refused f′) l′ 0 → SameBytes m n r s
+  pub refusal-bytes : {f f′ : Fault} {l l′ : ℕ} → (f ≡ f′) × (l ≡ l′)
+      → r ≡ listReply (Answer.Refused f) l 0 → s ≡ listReply (Answer.Refused f′) l′ 0
+      → SameBytes m n r s
   refusal-bytes e x y = (
     x ∙ (λ i. listReply (Answer.Refused (e .0 i)) (e .1 i) 0) ∙ sym y,
     ap (λ (z : ListReply). take (z .count) m) x ∙ sym (ap (λ (z : ListReply). take (z .count) n) y),

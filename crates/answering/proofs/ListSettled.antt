@@ -1,4 +1,5 @@
--- A list that a call gives: from the one that puts it, that it settles the answer and the lent bytes, and that its entries are no more than those bytes.
+-- A list that a call gives: from the one that puts it, that it settles the answer and the lent
+-- bytes, and that its entries are no more than those bytes.
 use mathlib.Core.Path.{_≡_, refl, ap}
 use mathlib.Core.List.{List}
 use Prim.Native.Nat.{ℕ, _≤_}
@@ -17,10 +18,12 @@ use Rattle.answering.specs.Lists.{ListOn}
 use Rattle.answering.specs.ListReplies.{onList}
 
 module _ {a : Answer} {bytes : List ℕ} {n : ℕ} {lent : List ℕ} where
-  pub list-on : {lent′ : List ℕ} {l : Listed} → GivesList listed unfit bytes n lent lent′ l → ListOn a bytes n lent lent′ (onList a l)
+  pub list-on : {lent′ : List ℕ} {l : Listed} → GivesList listed unfit bytes n lent lent′ l
+      → ListOn a bytes n lent lent′ (onList a l)
   list-on g = record { fault = Fault.FewRows; number = refl; gives = gives-map (onList a) g }
 
-  pub list-settled : {x y : List ℕ} {r s : ListReply} → ListOn a bytes n lent x r → ListOn a bytes n lent y s → (r ≡ s) × (x ≡ y)
+  pub list-settled : {x y : List ℕ} {r s : ListReply} → ListOn a bytes n lent x r
+      → ListOn a bytes n lent y s → (r ≡ s) × (x ≡ y)
   list-settled p q =
       let e = same-fault (p .fault) (q .fault) 22 (p .number) (q .number) in
       gives-settled (rw e at (p .gives)) (q .gives)
@@ -30,10 +33,13 @@ module _ {a : Answer} {bytes : List ℕ} {n : ℕ} {lent : List ℕ} where
 pub count-of : {r s : ListReply} {n : ℕ} → r ≡ s → s .count ≤ n → r .count ≤ n
 count-of e h = omega (arith, ap (λ (x : ListReply). x .count) e)
 
-gives-count : {given : ℕ → ListReply} {refused : ListReply} {bytes : List ℕ} {n : ℕ} {lent lent′ : List ℕ} {r : ListReply}
-    → ((m : ℕ) → given m .count ≡ m) → refused .count ≡ 0 → n ≤ length bytes → GivesList given refused bytes n lent lent′ r → r .count ≤ length lent
+gives-count : {given : ℕ → ListReply} {refused : ListReply} {bytes : List ℕ} {n : ℕ}
+    {lent lent′ : List ℕ} {r : ListReply}
+    → ((m : ℕ) → given m .count ≡ m) → refused .count ≡ 0 → n ≤ length bytes
+    → GivesList given refused bytes n lent lent′ r → r .count ≤ length lent
 gives-count {n = n} g z h (fits l e p) = count-of e (omega (arith, g n))
 gives-count g z h (large l e p) = count-of e (omega (arith, z))
 
-pub list-count : {a : Answer} {bytes lent lent′ : List ℕ} {r : ListReply} → ListOn a bytes (length bytes) lent lent′ r → r .count ≤ length lent
+pub list-count : {a : Answer} {bytes lent lent′ : List ℕ} {r : ListReply}
+    → ListOn a bytes (length bytes) lent lent′ r → r .count ≤ length lent
 list-count l = gives-count (λ m. refl) refl (le-refl _) (l .gives)

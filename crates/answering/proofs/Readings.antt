@@ -23,38 +23,57 @@ use Rattle.grammar.specs.Sentences.{spelled}
 use Rattle.grammar.specs.Trees.{Rules}
 use Rattle.grammar.specs.Layout.{Word}
 
-pub rules-are : {r : GrammarRead} {want : Reading Rules} → RulesRead r want → r .outcome ≡ Accepted → want ≡ accepted (rules (r .grammar))
+pub rules-are : {r : GrammarRead} {want : Reading Rules} → RulesRead r want → r .outcome ≡ Accepted
+    → want ≡ accepted (rules (r .grammar))
 rules-are {r} x e = sym (x .is) ∙ ap (λ (o : Outcome). readingOf o (rules (r .grammar))) e
 
-pub rules-not : {r : GrammarRead} {want : Reading Rules} {f : Fault} {l : ℕ} → RulesRead r want → r .outcome ≡ Refused f l → RefusedAs want f l
-rules-not {r} x e = record { is = sym (x .is) ∙ ap (λ (o : Outcome). readingOf o (rules (r .grammar))) e }
+pub rules-not : {r : GrammarRead} {want : Reading Rules} {f : Fault} {l : ℕ} → RulesRead r want
+    → r .outcome ≡ Refused f l → RefusedAs want f l
+rules-not {r} x e =
+    record { is = sym (x .is) ∙ ap (λ (o : Outcome). readingOf o (rules (r .grammar))) e }
 
-tokens-are : {r : SentenceRead} {want : Reading Word} → TokensRead r want → r .outcome ≡ Accepted → want ≡ accepted (spelled (r .sentence))
+tokens-are : {r : SentenceRead} {want : Reading Word} → TokensRead r want → r .outcome ≡ Accepted
+    → want ≡ accepted (spelled (r .sentence))
 tokens-are {r} x e = sym (x .is) ∙ ap (λ (o : Outcome). readingOf o (spelled (r .sentence))) e
 
-tokens-not : {r : SentenceRead} {want : Reading Word} {f : Fault} {l : ℕ} → TokensRead r want → r .outcome ≡ Refused f l → RefusedAs want f l
-tokens-not {r} x e = record { is = sym (x .is) ∙ ap (λ (o : Outcome). readingOf o (spelled (r .sentence))) e }
+tokens-not : {r : SentenceRead} {want : Reading Word} {f : Fault} {l : ℕ} → TokensRead r want
+    → r .outcome ≡ Refused f l → RefusedAs want f l
+tokens-not {r} x e =
+    record { is = sym (x .is) ∙ ap (λ (o : Outcome). readingOf o (spelled (r .sentence))) e }
 
 -- the rules are read, whatever sheet they stand in; t is the token sheet
-pub refused-rules : (t : List ℕ) {r : GrammarRead} {want : Reading Rules} {f : Fault} {l : ℕ} → RulesRead r want → r .outcome ≡ Refused f l → RefusedAs (withRules want t) f l
+pub refused-rules : (t : List ℕ) {r : GrammarRead} {want : Reading Rules} {f : Fault} {l : ℕ}
+    → RulesRead r want → r .outcome ≡ Refused f l → RefusedAs (withRules want t) f l
 refused-rules t x e = record { is = ap (λ (o : Reading Rules). withRules o t) (rules-not x e .is) }
 
-pub refused-tokens : (t : List ℕ) {r : GrammarRead} {want : Reading Rules} {q : SentenceRead} {f : Fault} {l : ℕ}
-    → RulesRead r want → r .outcome ≡ Accepted → TokensRead q (tokenSheet t) → q .outcome ≡ Refused f l → RefusedAs (withRules want t) f l
-refused-tokens t {r} x e y d = record { is = ap (λ (o : Reading Rules). withRules o t) (rules-are x e) ∙ ap (withTokens (rules (r .grammar))) (tokens-not y d .is) }
+pub refused-tokens : (t : List ℕ) {r : GrammarRead} {want : Reading Rules} {q : SentenceRead}
+    {f : Fault} {l : ℕ}
+    → RulesRead r want → r .outcome ≡ Accepted → TokensRead q (tokenSheet t)
+    → q .outcome ≡ Refused f l → RefusedAs (withRules want t) f l
+refused-tokens t {r} x e y d = record {
+  is = ap (λ (o : Reading Rules). withRules o t) (rules-are x e)
+      ∙ ap (withTokens (rules (r .grammar))) (tokens-not y d .is);
+}
 
 pub both-accepted : (t : List ℕ) {r : GrammarRead} {want : Reading Rules} {q : SentenceRead}
-    → RulesRead r want → r .outcome ≡ Accepted → TokensRead q (tokenSheet t) → q .outcome ≡ Accepted → withRules want t ≡ accepted (rules (r .grammar), spelled (q .sentence))
-both-accepted t {r} x e y d = ap (λ (o : Reading Rules). withRules o t) (rules-are x e) ∙ ap (withTokens (rules (r .grammar))) (tokens-are y d)
+    → RulesRead r want → r .outcome ≡ Accepted → TokensRead q (tokenSheet t) → q .outcome ≡ Accepted
+    → withRules want t ≡ accepted (rules (r .grammar), spelled (q .sentence))
+both-accepted t {r} x e y d = ap (λ (o : Reading Rules). withRules o t) (rules-are x e)
+    ∙ ap (withTokens (rules (r .grammar))) (tokens-are y d)
 
 -- a promise by what the reader answered is one by the sheet
 module _ {o o′ : Reading Rules} (e : o ≡ o′) where
-  pub verdict-by : (t : List ℕ) {words words′ : List ℕ} {r : Reply} → VerdictBy (withRules o t) words words′ r → VerdictBy (withRules o′ t) words words′ r
-  verdict-by t {words} {words′} {r} x = subst (λ (y : Reading Rules). VerdictBy (withRules y t) words words′ r) e x
+  pub verdict-by : (t : List ℕ) {words words′ : List ℕ} {r : Reply}
+      → VerdictBy (withRules o t) words words′ r → VerdictBy (withRules o′ t) words words′ r
+  verdict-by t {words} {words′} {r} x =
+      subst (λ (y : Reading Rules). VerdictBy (withRules y t) words words′ r) e x
 
   pub trees-by : (t : List ℕ) {words words′ one one′ two two′ : List ℕ} {r : TreesReply}
-      → TreesBy (withRules o t) words words′ one one′ two two′ r → TreesBy (withRules o′ t) words words′ one one′ two two′ r
-  trees-by t {words} {words′} {one} {one′} {two} {two′} {r} x = subst (λ (y : Reading Rules). TreesBy (withRules y t) words words′ one one′ two two′ r) e x
+      → TreesBy (withRules o t) words words′ one one′ two two′ r
+      → TreesBy (withRules o′ t) words words′ one one′ two two′ r
+  trees-by t {words} {words′} {one} {one′} {two} {two′} {r} x =
+      subst (λ (y : Reading Rules). TreesBy (withRules y t) words words′ one one′ two two′ r) e x
 
-  pub sweep-by : {k : ℕ} {words words′ : List ℕ} {r : SweepReply} → SweepBy o k words words′ r → SweepBy o′ k words words′ r
+  pub sweep-by : {k : ℕ} {words words′ : List ℕ} {r : SweepReply} → SweepBy o k words words′ r
+      → SweepBy o′ k words words′ r
   sweep-by x = rw e at x

@@ -21,7 +21,8 @@ use Rattle.sheets.proofs.Once.{apart, same-items, same-refusal}
 use Rattle.answering.specs.declared.Answer.{Answer}
 use Rattle.answering.specs.declared.Answer.the-variants as Answer
 use Rattle.answering.specs.declared.SweepReply.{SweepReply}
-use Rattle.answering.specs.Sweep.{sweepReplyOf, Tries, SweepTrying, bound, many, short, clear, two, SweepReading, SweepBy, refusing, reading, SweepOf}
+use Rattle.answering.specs.Sweep.{sweepReplyOf, Tries, SweepTrying, bound, many, short, clear}
+use Rattle.answering.specs.Sweep.{two, SweepReading, SweepBy, refusing, reading, SweepOf}
 use Rattle.answering.specs.WithoutIndex.{TriedAll, PlainSweepOf, untold}
 use Rattle.sheets.proofs.Numbers.{same-fault}
 use Rattle.sweeping.specs.Cleared.{TriedBy}
@@ -35,16 +36,25 @@ never-both {g} {k} {cs} c f =
     let z : Sweeps.clear ≡ found cs = answer-unique g k Sweeps.clear (found cs) c f in
     clash cc
 
--- two sweeps that may try different candidates, and what f keeps of their answers: of the counts no more than is the same in both
+-- two sweeps that may try different candidates, and what f keeps of their answers: of the counts no
+-- more than is the same in both
 module _ {X : Type 0} (f : SweepReply → X) (P Q : Tries) where
   abbrev Keeps : Rules → ℕ → Type 0
-  Keeps g k = (x : SweepAnswer) (a : Answer) (w : Word) (m n : ℕ) → HowMany (P g k x) m → HowMany (Q g k x) n → f (sweepReplyOf a 0 w m) ≡ f (sweepReplyOf a 0 w n)
+  Keeps g k = (x : SweepAnswer) (a : Answer) (w : Word) (m n : ℕ) → HowMany (P g k x) m
+      → HowMany (Q g k x) n → f (sweepReplyOf a 0 w m) ≡ f (sweepReplyOf a 0 w n)
 
-  refusal-same : {d d′ : Fault} {a b ws : List ℕ} {r s : SweepReply} (n l : ℕ) → numberOf d ≡ n → numberOf d′ ≡ n
-      → r ≡ sweepReplyOf (Answer.Refused d) l [] 0 → s ≡ sweepReplyOf (Answer.Refused d′) l [] 0 → a ≡ ws → b ≡ ws → (f r ≡ f s) × (a ≡ b)
-  refusal-same {d} {d′} n l m o x y h k = (ap f (x ∙ ap (λ (z : Fault). sweepReplyOf (Answer.Refused z) l [] 0) (same-fault d d′ n m o) ∙ sym y), h ∙ sym k)
+  refusal-same : {d d′ : Fault} {a b ws : List ℕ} {r s : SweepReply} (n l : ℕ) → numberOf d ≡ n
+      → numberOf d′ ≡ n
+      → r ≡ sweepReplyOf (Answer.Refused d) l [] 0 → s ≡ sweepReplyOf (Answer.Refused d′) l [] 0
+      → a ≡ ws → b ≡ ws → (f r ≡ f s) × (a ≡ b)
+  refusal-same {d} {d′} n l m o x y h k = (
+    ap f (x ∙ ap (λ (z : Fault). sweepReplyOf (Answer.Refused z) l [] 0) (same-fault d d′ n m o)
+        ∙ sym y),
+    h ∙ sym k,
+  )
 
-  sweep-on : (g : Rules) (k : ℕ) → Keeps g k → {ws a b : List ℕ} {r s : SweepReply} → SweepTrying P g k ws a r → SweepTrying Q g k ws b s → (f r ≡ f s) × (a ≡ b)
+  sweep-on : (g : Rules) (k : ℕ) → Keeps g k → {ws a b : List ℕ} {r s : SweepReply}
+      → SweepTrying P g k ws a r → SweepTrying Q g k ws b s → (f r ≡ f s) × (a ≡ b)
   sweep-on g k t (bound l n x h) (bound m o y i) = refusal-same 23 0 n o x y h i
   sweep-on g k t (bound l n x h) (many m u o p y i) = absurd (off l m u)
   sweep-on g k t (bound l n x h) (short m u o p q y i) = absurd (off l m u)
@@ -63,7 +73,8 @@ module _ {X : Type 0} (f : SweepReply → X) (P Q : Tries) where
   sweep-on g k t (clear e c q′ y i) (bound l n x h) = absurd (off l (e .low) (e .high))
   sweep-on g k t (clear e c q′ y i) (many l u m n x h) = absurd (omega (arith, m, e .few))
   sweep-on g k t (clear e c q′ y i) (short l u m o n x h) = absurd (omega (arith, o, e .enough))
-  sweep-on g k t (clear d c q′ x h) (clear e b p′ y i) = (ap f x ∙ t Sweeps.clear Answer.Clear [] _ _ q′ p′ ∙ ap f (sym y), h ∙ sym i)
+  sweep-on g k t (clear d c q′ x h) (clear e b p′ y i) =
+      (ap f x ∙ t Sweeps.clear Answer.Clear [] _ _ q′ p′ ∙ ap f (sym y), h ∙ sym i)
   sweep-on g k t (clear d c q′ x h) (two e b o p′ y i) = absurd (never-both c b)
   sweep-on g k t (two e c o q′ y i) (bound l n x h) = absurd (off l (e .low) (e .high))
   sweep-on g k t (two e c o q′ y i) (many l u m n x h) = absurd (omega (arith, m, e .few))
@@ -72,22 +83,28 @@ module _ {X : Type 0} (f : SweepReply → X) (P Q : Tries) where
   sweep-on g k t (two {cs = cs} {m = m} d c o q′ x h) (two {cs = cs′} {m = m′} e b p p′ y i) =
       let q : found cs ≡ found cs′ = answer-unique g k (found cs) (found cs′) c b in
       let w : cs ≡ cs′ = cc in
-      let u = t (found cs) Answer.Two (sentence cs) m m′ q′ (subst (λ (z : List Cell). HowMany (Q g k (found z)) m′) (sym w) p′) in
+      let u = t (found cs) Answer.Two (sentence cs) m m′ q′
+      (subst (λ (z : List Cell). HowMany (Q g k (found z)) m′) (sym w) p′) in
       (ap f x ∙ u ∙ ap f (rw w (sym y)), h ∙ sym i)
 
-  sweep-by : {given : Reading Rules} {k : ℕ} → ((g : Rules) → Keeps g k) → {ws a b : List ℕ} {r s : SweepReply}
+  sweep-by : {given : Reading Rules} {k : ℕ} → ((g : Rules) → Keeps g k)
+      → {ws a b : List ℕ} {r s : SweepReply}
       → SweepReading P given k ws a r → SweepReading Q given k ws b s → (f r ≡ f s) × (a ≡ b)
-  sweep-by t (refusing e x h) (refusing d y i) = let z = same-refusal e d in (ap f (x ∙ rw (z .0, z .1) (sym y)), h ∙ sym i)
+  sweep-by t (refusing e x h) (refusing d y i) = let z = same-refusal e d in
+      (ap f (x ∙ rw (z .0, z .1) (sym y)), h ∙ sym i)
   sweep-by t (refusing e x h) (reading d y) = absurd (apart e d)
   sweep-by t (reading d y) (refusing e x h) = absurd (apart e d)
   sweep-by {k = k} t (reading {g = g} e x) (reading d y) =
       let z = same-items e d in
       sweep-on g k (t g) x (rw (← z) at y)
 
-pub sweep-settled : {given : Reading Rules} {k : ℕ} {ws a b : List ℕ} {r s : SweepReply} → SweepBy given k ws a r → SweepBy given k ws b s → (r ≡ s) × (a ≡ b)
-sweep-settled = sweep-by (λ r. r) TriedBy TriedBy (λ g x a w m n h k. ap (sweepReplyOf a 0 w) (counts-unique h k))
+pub sweep-settled : {given : Reading Rules} {k : ℕ} {ws a b : List ℕ} {r s : SweepReply}
+    → SweepBy given k ws a r → SweepBy given k ws b s → (r ≡ s) × (a ≡ b)
+sweep-settled = sweep-by (λ r. r) TriedBy TriedBy
+    (λ g x a w m n h k. ap (sweepReplyOf a 0 w) (counts-unique h k))
 
--- 02, request 7: all but the count equals the sweep without the index, on every rule sheet and bound
-pub without-index : (rules : List ℕ) {k : ℕ} {ws a b : List ℕ} {r s : SweepReply} → SweepOf rules k ws a r → PlainSweepOf rules k ws b s
-    → (untold r ≡ untold s) × (a ≡ b)
+-- 02, request 7: all but the count equals the sweep without the index, on every rule sheet and
+-- bound
+pub without-index : (rules : List ℕ) {k : ℕ} {ws a b : List ℕ} {r s : SweepReply}
+    → SweepOf rules k ws a r → PlainSweepOf rules k ws b s → (untold r ≡ untold s) × (a ≡ b)
 without-index rules = sweep-by untold TriedBy TriedAll (λ g x a w m n h k. refl)

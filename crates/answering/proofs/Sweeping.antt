@@ -25,11 +25,15 @@ with a s m = record { answer = a; line = 0; sentence = s; tried = m }
 pub bounded : {g : Rules} {k : ℕ} {ws : List ℕ} → SweepTaken g k ws → Bounded g k
 bounded t = record { low = t .low; high = t .high; few = t .few }
 
-pub swept-clear : {g : Rules} {k m : ℕ} {ws ws′ : List ℕ} (r : Sentence) → SweepTaken g k ws → Swept g k r m → r .count ≡ 0 → ws′ ≡ cleared k ws → SweepOn g k ws ws′ (with Answer.Clear r m)
-swept-clear {m = m} r t (Swept.clear c e f q) z h = clear t c q (λ i. with Answer.Clear (record { tokens = f i; count = e i }) m) h
+pub swept-clear : {g : Rules} {k m : ℕ} {ws ws′ : List ℕ} (r : Sentence) → SweepTaken g k ws
+    → Swept g k r m → r .count ≡ 0 → ws′ ≡ cleared k ws → SweepOn g k ws ws′ (with Answer.Clear r m)
+swept-clear {m = m} r t (Swept.clear c e f q) z h =
+    clear t c q (λ i. with Answer.Clear (record { tokens = f i; count = e i }) m) h
 swept-clear r t (Swept.two f c e d q) z h = absurd (omega (arith, f .low))
 
-pub swept-two : {g : Rules} {k m : ℕ} {ws ws′ : List ℕ} (r : Sentence) → SweepTaken g k ws → Swept g k r m → (r .count ≡ 0 → ⊥) → ws′ ≡ cleared k ws → SweepOn g k ws ws′ (with Answer.Two r m)
+pub swept-two : {g : Rules} {k m : ℕ} {ws ws′ : List ℕ} (r : Sentence) → SweepTaken g k ws
+    → Swept g k r m → (r .count ≡ 0 → ⊥) → ws′ ≡ cleared k ws
+    → SweepOn g k ws ws′ (with Answer.Two r m)
 swept-two r t (Swept.clear c e f q) z h = absurd (z e)
 swept-two {m = m} r t (Swept.two {cs = cs} f c e d q) z h = two t f c q whole h
   where
@@ -37,4 +41,8 @@ swept-two {m = m} r t (Swept.two {cs = cs} f c e d q) z h = two t f c q whole h
     n = sym (sentence-length 1 cs)
 
     whole : with Answer.Two r m ≡ sweepReplyOf Answer.Two 0 (sentence cs) m
-    whole = λ i. with Answer.Two (record { tokens = (d ∙ ap (λ (x : ℕ). sentence cs ++ replicate (64 - x) no-token) n) i; count = (e ∙ n) i }) m
+    whole = λ i. with Answer.Two (record {
+      tokens = (d ∙ ap (λ (x : ℕ). sentence cs ++ replicate (64 - x) no-token) n) i;
+      count =
+          (e ∙ n) i;
+    }) m

@@ -11,7 +11,8 @@ use Rattle.sheets.specs.TokenSheets.{tokenSheet}
 use Rattle.answering.specs.declared.Answer.{Answer}
 use Rattle.answering.specs.declared.Answer.the-variants as Answer
 
--- both sheets give the rules and the word, or the first refusal, those of the rule sheet before those of the token sheet
+-- both sheets give the rules and the word, or the first refusal, those of the rule sheet before
+-- those of the token sheet
 abbrev pub Sheets : Type 0
 Sheets = Reading (Rules × Word)
 

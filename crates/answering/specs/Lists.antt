@@ -13,7 +13,8 @@ abbrev pub listReply : Answer → ℕ → ℕ → ListReply
 listReply a l n = record { answer = a; line = l; count = n }
 
 -- a list of n entries with these bytes is given with the answer a, or refused 22
-pub record ListOn (a : Answer) (bytes : List ℕ) (n : ℕ) (lent lent′ : List ℕ) (r : ListReply) : Type 0 where
+pub record ListOn (a : Answer) (bytes : List ℕ) (n : ℕ) (lent lent′ : List ℕ) (r : ListReply) : Type
+    0 where
   pub fault : Fault
   pub number : numberOf fault ≡ 22
   pub gives : GivesList (listReply a 0) (listReply (Answer.Refused fault) 0 0) bytes n lent lent′ r

@@ -27,15 +27,21 @@ pub record SheetFilled (g : Rules) (w : Word) (words words′ : List ℕ) : Type
 -- the answer on rules and a word that both sheets give
 pub data VerdictOn (g : Rules) (w : Word) (words words′ : List ℕ) (r : Reply) : Type 0 where
   -- fewer words than the span sheet needs: no word changes
-  short : {f : Fault} → length words < needed w → numberOf f ≡ 21 → r ≡ record { answer = Answer.Refused f; line = 0 } → words′ ≡ words → VerdictOn g w words words′ r
+  short : {f : Fault} → length words < needed w → numberOf f ≡ 21
+      → r ≡ record { answer = Answer.Refused f; line = 0 } → words′ ≡ words
+      → VerdictOn g w words words′ r
   -- none, one or two, and the span sheet filled
-  judging : AnswerHolds (r .answer) g w → r .line ≡ 0 → SheetFilled g w words words′ → VerdictOn g w words words′ r
+  judging : AnswerHolds (r .answer) g w → r .line ≡ 0 → SheetFilled g w words words′
+      → VerdictOn g w words words′ r
 
 -- what a call answers where both sheets give this, and what it leaves of the lent words
 pub data VerdictBy (given : Sheets) (words words′ : List ℕ) (r : Reply) : Type 0 where
   -- a refused sheet: its number and line; no word changes
-  refusing : {f : Fault} {l : ℕ} → RefusedAs given f l → r ≡ record { answer = Answer.Refused f; line = l } → words′ ≡ words → VerdictBy given words words′ r
-  reading : {g : Rules} {w : Word} → given ≡ accepted (g, w) → VerdictOn g w words words′ r → VerdictBy given words words′ r
+  refusing : {f : Fault} {l : ℕ} → RefusedAs given f l
+      → r ≡ record { answer = Answer.Refused f; line = l } → words′ ≡ words
+      → VerdictBy given words words′ r
+  reading : {g : Rules} {w : Word} → given ≡ accepted (g, w) → VerdictOn g w words words′ r
+      → VerdictBy given words words′ r
 
 -- the call on a rule sheet and a token sheet
 abbrev pub VerdictOf : (rules tokens words words′ : List ℕ) (r : Reply) → Type 0

@@ -1,4 +1,5 @@
--- The sweep without the index of lengths (for laws): 01's, which tries every length. 02, request 7: "All else in it must equal the sweep without the index".
+-- The sweep without the index of lengths (for laws): 01's, which tries every length. 02, request 7:
+-- "All else in it must equal the sweep without the index".
 use mathlib.Core.List.{List}
 use Prim.Native.Nat.{ℕ}
 use Rattle.grammar.specs.Candidates.{Terminal}

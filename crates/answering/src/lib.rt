@@ -63,7 +63,8 @@ pub struct TreesReply {
     pub second: usize,
 }
 
-// The answer of a sweep: besides, the found sentence, of no tokens where none was found, and how many candidates were tried.
+// The answer of a sweep: besides, the found sentence, of no tokens where none was found, and how
+// many candidates were tried.
 pub struct SweepReply {
     pub answer: Answer,
     pub line: usize,
@@ -100,7 +101,8 @@ pub fn list_reply(a: Answer, l: Listed) -> ListReply
 fn judged(words: &mut [u64], s: Sentence, g: Grammar) -> Reply
     requires { ⌜ Formed g ⌝ }
     requires { ⌜ Positioned s ⌝ }
-    ensures { λ r. ⌜ VerdictOn (rulesOf g) (spelled s) (now (words .entry)) (now (words .exit)) r ⌝ }
+    ensures { λ r. ⌜ VerdictOn (rulesOf g) (spelled s) (now (words .entry)) (now (words .exit))
+        r ⌝ }
 {
     let n = s.count;
     if words.len() < size(n) {
@@ -129,7 +131,8 @@ fn judged(words: &mut [u64], s: Sentence, g: Grammar) -> Reply
 // The verdict on the rules that were read and a token sheet.
 pub fn verdict_read(a: GrammarRead, tokens: &[u8], words: &mut [u64]) -> Reply
     requires { ⌜ RulesRead a (told a) ⌝ }
-    ensures { λ r. ⌜ VerdictBy (withRules (told a) (now (tokens .entry))) (now (words .entry)) (now (words .exit)) r ⌝ }
+    ensures { λ r. ⌜ VerdictBy (withRules (told a) (now (tokens .entry))) (now (words .entry))
+        (now (words .exit)) r ⌝ }
 {
     let o = a.outcome;
     match o {
@@ -175,7 +178,8 @@ pub fn counted_reply(a: Answer, c: Counts) -> TreesReply
     }
 }
 
-// The trees of rules and a sentence that were read, written as far as a user sees them who sees these nonterminals.
+// The trees of rules and a sentence that were read, written as far as a user sees them who sees
+// these nonterminals.
 pub fn shown(
     words: &mut [u64],
     s: Sentence,
@@ -186,7 +190,9 @@ pub fn shown(
 ) -> TreesReply
     requires { ⌜ Formed g ⌝ }
     requires { ⌜ Positioned s ⌝ }
-    ensures { λ r. ⌜ TreesOn (seenBy (member sees)) (rulesOf g) (spelled s) (now (words .entry)) (now (words .exit)) (now (first .entry)) (now (first .exit)) (now (second .entry)) (now (second .exit)) r ⌝ }
+    ensures { λ r. ⌜ TreesOn (seenBy (member sees)) (rulesOf g) (spelled s) (now (words .entry))
+        (now (words .exit)) (now (first .entry)) (now (first .exit)) (now (second .entry))
+        (now (second .exit)) r ⌝ }
 {
     let n = s.count;
     if words.len() < size(n) {
@@ -223,7 +229,9 @@ pub fn trees_read(
     second: &mut [u8],
 ) -> TreesReply
     requires { ⌜ RulesRead a (told a) ⌝ }
-    ensures { λ r. ⌜ TreesBy (withRules (told a) (now (tokens .entry))) (now (words .entry)) (now (words .exit)) (now (first .entry)) (now (first .exit)) (now (second .entry)) (now (second .exit)) r ⌝ }
+    ensures { λ r. ⌜ TreesBy (withRules (told a) (now (tokens .entry))) (now (words .entry))
+        (now (words .exit)) (now (first .entry)) (now (first .exit)) (now (second .entry))
+        (now (second .exit)) r ⌝ }
 {
     let o = a.outcome;
     match o {

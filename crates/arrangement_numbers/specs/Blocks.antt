@@ -1,4 +1,5 @@
--- Numbers over a set of terminals, and the run of numbers that all arrangements with the same first cells have. Only the search needs it.
+-- Numbers over a set of terminals, and the run of numbers that all arrangements with the same first
+-- cells have. Only the search needs it.
 use mathlib.Core.List.{List}
 use Prim.Native.Nat.{ℕ, _-_, _*_, _%_, _^_, _≤_}
 use lib.Count.{ones}

@@ -1,4 +1,5 @@
--- The arrangements of one length divided among p racks, and what a share reports: 02, "The sweep divided among racks".
+-- The arrangements of one length divided among p racks, and what a share reports: 02, "The sweep
+-- divided among racks".
 use mathlib.Core.List.{List}
 use mathlib.Core.Option.{Option, none, some}
 use Prim.Native.Nat.{ℕ, suc, _+_, _*_, _/_, _%_, _≤_, _<_, min}
@@ -8,7 +9,8 @@ use Rattle.grammar.specs.Candidates.{Terminal, Candidate, sentence}
 use Rattle.grammar.specs.Sweeps.{terminalCount, arrangements}
 use Rattle.arrangement_numbers.specs.Numbers.{number}
 
--- the number that share i of p begins with: each share has M ÷ p numbers, and the first, as many as the remainder, one more
+-- the number that share i of p begins with: each share has M ÷ p numbers, and the first, as many as
+-- the remainder, one more
 unfoldable pub firstOfShare : ℕ → ℕ → ℕ → ℕ
 firstOfShare M p i = i * (M / p) + min i (M % p)
 
@@ -18,7 +20,8 @@ total g n = arrangements (terminalCount g) n
 
 -- no arrangement with a number from lo to below hi that rises has two trees
 pub record NoneIn (g : Rules) (n lo hi : ℕ) : Type 0 where
-  pub none : (ds : List Cell) → Candidate (Terminal g) n ds → lo ≤ number g n ds → number g n ds < hi → TwoTrees g 0 (sentence ds) → ⊥
+  pub none : (ds : List Cell) → Candidate (Terminal g) n ds → lo ≤ number g n ds
+      → number g n ds < hi → TwoTrees g 0 (sentence ds) → ⊥
 
 -- cs is the one with the lowest number there that rises and has two trees
 pub record LowestIn (g : Rules) (n lo hi : ℕ) (cs : List Cell) : Type 0 where
@@ -35,4 +38,5 @@ Reported g n lo hi (some cs) = LowestIn g n lo hi cs
 
 -- what share i of p reports
 abbrev pub Reports : Rules → ℕ → ℕ → ℕ → Option (List Cell) → Type 0
-Reports g n p i r = Reported g n (firstOfShare (total g n) p i) (firstOfShare (total g n) p (suc i)) r
+Reports g n p i r =
+    Reported g n (firstOfShare (total g n) p i) (firstOfShare (total g n) p (suc i)) r

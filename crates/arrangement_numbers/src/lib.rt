@@ -1,4 +1,5 @@
-// The number of an arrangement, and the run of numbers that all arrangements with the same first cells have.
+// The number of an arrangement, and the run of numbers that all arrangements with the same first
+// cells have.
 use candidates::Candidate;
 use grammar::Cell;
 ghost use mathlib.Core.Path.{_≡_};
@@ -95,7 +96,8 @@ pub fn block_of(set: u64, c: Candidate, n: usize, b: usize) -> Block
     requires { ⌜ Few set n ⌝ }
     requires { ⌜ Of.Candidate (Among set) n (cells c 0 n) ⌝ }
     requires { ⌜ b ≤ n ⌝ }
-    ensures { λ r. ⌜ (r .low ≡ least set n b (cells c 0 n)) × (r .size ≡ room set n b) × (r .low + r .size ≤ 4294967296) ⌝ }
+    ensures { λ r. ⌜ (r .low ≡ least set n b (cells c 0 n)) × (r .size ≡ room set n b)
+        × (r .low + r .size ≤ 4294967296) ⌝ }
 {
     let size = room_past(set, n, b);
     let v = front_number(set, c, n, b);

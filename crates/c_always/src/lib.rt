@@ -42,7 +42,9 @@ pub extern "C" fn teplonga_always(
     list: &mut [u8],
     count: &mut [u64],
 ) -> u64
-    ensures { λ r. ⌜ AlwaysWord (ruleSheet (now (rules .entry))) (now (words .entry)) (now (words .exit)) (now (list .entry)) (now (list .exit)) (now (count .entry)) (now (count .exit)) r ⌝ }
+    ensures { λ r. ⌜ AlwaysWord (ruleSheet (now (rules .entry))) (now (words .entry))
+        (now (words .exit)) (now (list .entry)) (now (list .exit)) (now (count .entry))
+        (now (count .exit)) r ⌝ }
 {
     let p = always(rules, words, list);
     let t = p.told;
@@ -58,7 +60,9 @@ pub extern "C" fn teplonga_clause_always(
     list: &mut [u8],
     count: &mut [u64],
 ) -> u64
-    ensures { λ r. ⌜ AlwaysWord (clauseSheet (now (clauses .entry))) (now (words .entry)) (now (words .exit)) (now (list .entry)) (now (list .exit)) (now (count .entry)) (now (count .exit)) r ⌝ }
+    ensures { λ r. ⌜ AlwaysWord (clauseSheet (now (clauses .entry))) (now (words .entry))
+        (now (words .exit)) (now (list .entry)) (now (list .exit)) (now (count .entry))
+        (now (count .exit)) r ⌝ }
 {
     let p = clauses_always(clauses, words, list);
     let t = p.told;

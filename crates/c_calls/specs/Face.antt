@@ -1,4 +1,5 @@
--- What the C functions hand over: an answer and its line as one number, and what the words of a sentence and of row counts say.
+-- What the C functions hand over: an answer and its line as one number, and what the words of a
+-- sentence and of row counts say.
 use mathlib.Core.Path.{_≡_}
 use mathlib.Core.Bool.{cond}
 use mathlib.Core.List.{List}
@@ -27,7 +28,8 @@ codeOf Answer.Clear = 3
 codeOf Answer.Given = 4
 codeOf (Answer.Refused f) = 100 + numberOf f
 
--- the code times 2^32 plus the line's number; a line past the greatest number of 32 bits counts as that
+-- the code times 2^32 plus the line's number; a line past the greatest number of 32 bits counts as
+-- that
 unfoldable pub packed : Answer → ℕ → ℕ
 packed a l = codeOf a * 4294967296 + cond (ltb l 4294967295) l 4294967295
 
@@ -37,15 +39,19 @@ pub record VerdictWord (given : Sheets) (words words′ : List ℕ) (r : ℕ) : 
   pub promise : VerdictBy given words words′ reply
   pub word : r ≡ packed (reply .answer) (reply .line)
 
--- `teplonga_sweep` hands over what `sweep` answers, the answer's sentence and the number of candidates tried in words, where the sheet with the rules gives this
-pub record SweepWord (given : Reading Rules) (k : ℕ) (words words′ found found′ : List ℕ) (r : ℕ) : Type 0 where
+-- `teplonga_sweep` hands over what `sweep` answers, the answer's sentence and the number of
+-- candidates tried in words, where the sheet with the rules gives this
+pub record SweepWord (given : Reading Rules) (k : ℕ) (words words′ found found′ : List ℕ)
+    (r : ℕ) : Type 0 where
   pub reply : SweepReply
   pub promise : SweepBy given k words words′ reply
   pub sentence : AtFront 23 (foundWords (reply .sentence) (reply .tried)) found found′
   pub word : r ≡ packed (reply .answer) (reply .line)
 
--- `teplonga_trees` hands over what `trees` answers, and the trees' row counts in words, where both sheets give this
-pub record TreesWord (given : Sheets) (words words′ one one′ two two′ counts counts′ : List ℕ) (r : ℕ) : Type 0 where
+-- `teplonga_trees` hands over what `trees` answers, and the trees' row counts in words, where both
+-- sheets give this
+pub record TreesWord (given : Sheets) (words words′ one one′ two two′ counts counts′ : List ℕ)
+    (r : ℕ) : Type 0 where
   pub reply : TreesReply
   pub promise : TreesBy given words words′ one one′ two two′ reply
   pub rows : AtFront 2 (countWords (reply .first) (reply .second)) counts counts′

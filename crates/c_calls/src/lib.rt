@@ -43,14 +43,16 @@ pub fn pack(a: Answer, line: usize) -> u64
 // The verdict: its code times 2^32 plus the line's number. The words get the span sheet.
 #[no_mangle]
 pub extern "C" fn teplonga_verdict(rules: &[u8], tokens: &[u8], words: &mut [u64]) -> u64
-    ensures { λ r. ⌜ VerdictWord (sheets (now (rules .entry)) (now (tokens .entry))) (now (words .entry)) (now (words .exit)) r ⌝ }
+    ensures { λ r. ⌜ VerdictWord (sheets (now (rules .entry)) (now (tokens .entry)))
+        (now (words .entry)) (now (words .exit)) r ⌝ }
 {
     let p = verdict(rules, tokens, words);
     let a = p.answer;
     pack(a, p.line)
 }
 
-// The trees: the verdict's code times 2^32 plus the line's number. The words get the span sheet, both memories the trees' rows, `counts` the row counts.
+// The trees: the verdict's code times 2^32 plus the line's number. The words get the span sheet,
+// both memories the trees' rows, `counts` the row counts.
 #[no_mangle]
 pub extern "C" fn teplonga_trees(
     rules: &[u8],
@@ -60,7 +62,10 @@ pub extern "C" fn teplonga_trees(
     second: &mut [u8],
     counts: &mut [u64],
 ) -> u64
-    ensures { λ r. ⌜ TreesWord (sheets (now (rules .entry)) (now (tokens .entry))) (now (words .entry)) (now (words .exit)) (now (first .entry)) (now (first .exit)) (now (second .entry)) (now (second .exit)) (now (counts .entry)) (now (counts .exit)) r ⌝ }
+    ensures { λ r. ⌜ TreesWord (sheets (now (rules .entry)) (now (tokens .entry)))
+        (now (words .entry)) (now (words .exit)) (now (first .entry)) (now (first .exit))
+        (now (second .entry)) (now (second .exit)) (now (counts .entry)) (now (counts .exit))
+        r ⌝ }
 {
     let p = trees(rules, tokens, words, first, second);
     let a = p.answer;
@@ -68,7 +73,8 @@ pub extern "C" fn teplonga_trees(
     pack(a, p.line)
 }
 
-// The sweep: its code times 2^32 plus the line's number. `found` gets the answer's sentence and the number of candidates tried.
+// The sweep: its code times 2^32 plus the line's number. `found` gets the answer's sentence and the
+// number of candidates tried.
 #[no_mangle]
 pub extern "C" fn teplonga_sweep(
     rules: &[u8],
@@ -76,7 +82,8 @@ pub extern "C" fn teplonga_sweep(
     words: &mut [u64],
     found: &mut [u64],
 ) -> u64
-    ensures { λ r. ⌜ SweepWord (ruleSheet (now (rules .entry))) bound (now (words .entry)) (now (words .exit)) (now (found .entry)) (now (found .exit)) r ⌝ }
+    ensures { λ r. ⌜ SweepWord (ruleSheet (now (rules .entry))) bound (now (words .entry))
+        (now (words .exit)) (now (found .entry)) (now (found .exit)) r ⌝ }
 {
     let p = sweep(rules, bound, words);
     let a = p.answer;
@@ -85,10 +92,12 @@ pub extern "C" fn teplonga_sweep(
     pack(a, p.line)
 }
 
-// The refused line itself, as a part of the sheet that holds it. An exported function returns no reference, so `line` gets the part.
+// The refused line itself, as a part of the sheet that holds it. An exported function returns no
+// reference, so `line` gets the part.
 #[no_mangle]
 pub extern "C" fn teplonga_refused_line<'a>(rules: &'a [u8], tokens: &'a [u8], line: &mut &'a [u8])
-    ensures { λ r. ⌜ Hands (rules .entry) (tokens .entry) (now (line .exit)) (refusedLine (now (rules .entry)) (now (tokens .entry))) ⌝ }
+    ensures { λ r. ⌜ Hands (rules .entry) (tokens .entry) (now (line .exit))
+        (refusedLine (now (rules .entry)) (now (tokens .entry))) ⌝ }
 {
     *line = refused_line(rules, tokens);
 }

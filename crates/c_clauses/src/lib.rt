@@ -18,14 +18,16 @@ ghost use Rattle.c_clauses.specs.Expand.{ExpandWord};
 // The verdict: its code times 2^32 plus the line's number. The words get the span sheet.
 #[no_mangle]
 pub extern "C" fn teplonga_clause_verdict(clauses: &[u8], tokens: &[u8], words: &mut [u64]) -> u64
-    ensures { λ r. ⌜ VerdictWord (clauseSheets (now (clauses .entry)) (now (tokens .entry))) (now (words .entry)) (now (words .exit)) r ⌝ }
+    ensures { λ r. ⌜ VerdictWord (clauseSheets (now (clauses .entry)) (now (tokens .entry)))
+        (now (words .entry)) (now (words .exit)) r ⌝ }
 {
     let p = verdict(clauses, tokens, words);
     let a = p.answer;
     pack(a, p.line)
 }
 
-// The trees: the verdict's code times 2^32 plus the line's number. The words get the span sheet, both memories the trees' rows, `counts` the row counts.
+// The trees: the verdict's code times 2^32 plus the line's number. The words get the span sheet,
+// both memories the trees' rows, `counts` the row counts.
 #[no_mangle]
 pub extern "C" fn teplonga_clause_trees(
     clauses: &[u8],
@@ -35,7 +37,10 @@ pub extern "C" fn teplonga_clause_trees(
     second: &mut [u8],
     counts: &mut [u64],
 ) -> u64
-    ensures { λ r. ⌜ TreesWord (clauseSheets (now (clauses .entry)) (now (tokens .entry))) (now (words .entry)) (now (words .exit)) (now (first .entry)) (now (first .exit)) (now (second .entry)) (now (second .exit)) (now (counts .entry)) (now (counts .exit)) r ⌝ }
+    ensures { λ r. ⌜ TreesWord (clauseSheets (now (clauses .entry)) (now (tokens .entry)))
+        (now (words .entry)) (now (words .exit)) (now (first .entry)) (now (first .exit))
+        (now (second .entry)) (now (second .exit)) (now (counts .entry)) (now (counts .exit))
+        r ⌝ }
 {
     let p = trees(clauses, tokens, words, first, second);
     let a = p.answer;
@@ -43,7 +48,8 @@ pub extern "C" fn teplonga_clause_trees(
     pack(a, p.line)
 }
 
-// The sweep: its code times 2^32 plus the line's number. `found` gets the answer's sentence and the number of candidates tried.
+// The sweep: its code times 2^32 plus the line's number. `found` gets the answer's sentence and the
+// number of candidates tried.
 #[no_mangle]
 pub extern "C" fn teplonga_clause_sweep(
     clauses: &[u8],
@@ -51,7 +57,8 @@ pub extern "C" fn teplonga_clause_sweep(
     words: &mut [u64],
     found: &mut [u64],
 ) -> u64
-    ensures { λ r. ⌜ SweepWord (clauseSheet (now (clauses .entry))) bound (now (words .entry)) (now (words .exit)) (now (found .entry)) (now (found .exit)) r ⌝ }
+    ensures { λ r. ⌜ SweepWord (clauseSheet (now (clauses .entry))) bound (now (words .entry))
+        (now (words .exit)) (now (found .entry)) (now (found .exit)) r ⌝ }
 {
     let p = sweep(clauses, bound, words);
     let a = p.answer;
@@ -60,10 +67,12 @@ pub extern "C" fn teplonga_clause_sweep(
     pack(a, p.line)
 }
 
-// The expanded rule sheet: the code of `given` or of a refusal times 2^32 plus the line's number. `sheet` gets its bytes, `count` their number.
+// The expanded rule sheet: the code of `given` or of a refusal times 2^32 plus the line's number.
+// `sheet` gets its bytes, `count` their number.
 #[no_mangle]
 pub extern "C" fn teplonga_expand(clauses: &[u8], sheet: &mut [u8], count: &mut [u64]) -> u64
-    ensures { λ r. ⌜ ExpandWord (now (clauses .entry)) (now (sheet .entry)) (now (sheet .exit)) (now (count .entry)) (now (count .exit)) r ⌝ }
+    ensures { λ r. ⌜ ExpandWord (now (clauses .entry)) (now (sheet .entry)) (now (sheet .exit))
+        (now (count .entry)) (now (count .exit)) r ⌝ }
 {
     let p = expand(clauses, sheet);
     let a = p.answer;
@@ -71,14 +80,16 @@ pub extern "C" fn teplonga_expand(clauses: &[u8], sheet: &mut [u8], count: &mut 
     pack(a, p.line)
 }
 
-// The refused line itself, as a part of the sheet that holds it. An exported function returns no reference, so `line` gets the part.
+// The refused line itself, as a part of the sheet that holds it. An exported function returns no
+// reference, so `line` gets the part.
 #[no_mangle]
 pub extern "C" fn teplonga_clause_refused_line<'a>(
     clauses: &'a [u8],
     tokens: &'a [u8],
     line: &mut &'a [u8],
 )
-    ensures { λ r. ⌜ Hands (clauses .entry) (tokens .entry) (now (line .exit)) (heldBy (clauseSheet (now (clauses .entry))) (tokenSheet (now (tokens .entry)))) ⌝ }
+    ensures { λ r. ⌜ Hands (clauses .entry) (tokens .entry) (now (line .exit))
+        (heldBy (clauseSheet (now (clauses .entry))) (tokenSheet (now (tokens .entry)))) ⌝ }
 {
     *line = refused_line(clauses, tokens);
 }

@@ -32,8 +32,8 @@ fn put_flags(found: &mut [u64], f: Flags)
     }
 }
 
-// The verdicts of some choice of columns: the answer's code times 2^32 plus the line's number. `found` gets the three flags, 1 or 0
-// each; the words that the search needed end 0.
+// The verdicts of some choice of columns: the answer's code times 2^32 plus the line's number.
+// `found` gets the three flags, 1 or 0 each; the words that the search needed end 0.
 #[no_mangle]
 pub extern "C" fn teplonga_columns(
     rules: &[u8],
@@ -41,7 +41,8 @@ pub extern "C" fn teplonga_columns(
     words: &mut [u64],
     found: &mut [u64],
 ) -> u64
-    ensures { λ r. ⌜ ColumnsWord (now (rules .entry)) (now (ranges .entry)) (now (words .entry)) (now (words .exit)) (now (found .entry)) (now (found .exit)) r ⌝ }
+    ensures { λ r. ⌜ ColumnsWord (now (rules .entry)) (now (ranges .entry)) (now (words .entry))
+        (now (words .exit)) (now (found .entry)) (now (found .exit)) r ⌝ }
 {
     let p = columns(rules, ranges, words);
     let a = p.answer;
@@ -50,14 +51,16 @@ pub extern "C" fn teplonga_columns(
     pack(a, p.line)
 }
 
-// The refused line itself, as a part of the sheet that holds it. An exported function returns no reference, so `line` gets the part.
+// The refused line itself, as a part of the sheet that holds it. An exported function returns no
+// reference, so `line` gets the part.
 #[no_mangle]
 pub extern "C" fn teplonga_columns_refused_line<'a>(
     rules: &'a [u8],
     ranges: &'a [u8],
     line: &mut &'a [u8],
 )
-    ensures { λ r. ⌜ Hands (rules .entry) (ranges .entry) (now (line .exit)) (heldBy (ruleSheet (now (rules .entry))) (rangeSheet (now (ranges .entry)))) ⌝ }
+    ensures { λ r. ⌜ Hands (rules .entry) (ranges .entry) (now (line .exit))
+        (heldBy (ruleSheet (now (rules .entry))) (rangeSheet (now (ranges .entry)))) ⌝ }
 {
     *line = refused_line(rules, ranges);
 }

@@ -11,8 +11,10 @@ use Rattle.c_calls.proofs.Settled.{front-settled}
 use Rattle.call_rights.proofs.Settled.{show-settled, change-settled}
 use Rattle.c_rights.specs.Tours.{ShowWord, ChangeWord}
 
-pub show-word-settled : {rules tokens rights : List ℕ} {user : ℕ} {ws a b one two m m′ n n′ counts k k′ : List ℕ} {r s : ℕ} → Words a → Words b
-    → ShowWord rules tokens rights user ws a one m two n counts k r → ShowWord rules tokens rights user ws b one m′ two n′ counts k′ s
+pub show-word-settled : {rules tokens rights : List ℕ} {user : ℕ}
+    {ws a b one two m m′ n n′ counts k k′ : List ℕ} {r s : ℕ} → Words a → Words b
+    → ShowWord rules tokens rights user ws a one m two n counts k r
+    → ShowWord rules tokens rights user ws b one m′ two n′ counts k′ s
     → (r ≡ s) × ((a ≡ b) × ((m ≡ m′) × ((n ≡ n′) × (k ≡ k′))))
 show-word-settled p q x y =
     let z = show-settled p q (x .promise) (y .promise) in
@@ -21,9 +23,14 @@ show-word-settled p q x y =
       (z .0, (z .1 .1 .0, (z .1 .1 .1, front-settled e (x .rows) (y .rows)))),
     )
 
-pub change-word-settled : {rules rights : List ℕ} {user rule : ℕ} {lay bytes a b count k k′ : List ℕ} {r s : ℕ}
-    → ChangeWord rules rights user rule lay bytes a count k r → ChangeWord rules rights user rule lay bytes b count k′ s → (r ≡ s) × ((a ≡ b) × (k ≡ k′))
+pub change-word-settled : {rules rights : List ℕ} {user rule : ℕ}
+    {lay bytes a b count k k′ : List ℕ} {r s : ℕ}
+    → ChangeWord rules rights user rule lay bytes a count k r
+    → ChangeWord rules rights user rule lay bytes b count k′ s → (r ≡ s) × ((a ≡ b) × (k ≡ k′))
 change-word-settled x y =
     let z = change-settled (x .promise) (y .promise) in
-    let e = ap (λ (v : ListReply). v .count ∷ []) (z .0) in
-    (x .word ∙ ap (λ (v : ListReply). packed (v .answer) (v .line)) (z .0) ∙ sym (y .word), (z .1, front-settled e (x .entries) (y .entries)))
+    let e = ap (λ (v : ListReply). v .count ∷ []) (z .0) in (
+      x .word ∙ ap (λ (v : ListReply). packed (v .answer) (v .line)) (z .0)
+          ∙ sym (y .word),
+      (z .1, front-settled e (x .entries) (y .entries)),
+    )

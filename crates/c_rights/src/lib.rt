@@ -6,8 +6,8 @@ use call_rights::change;
 use call_rights::show;
 ghost use Rattle.c_rights.specs.Tours.{ShowWord, ChangeWord};
 
-// The trees as a user may see them: the verdict's code times 2^32 plus the line's number. The words get the span sheet,
-// both memories the rows shown of the trees, `counts` their numbers.
+// The trees as a user may see them: the verdict's code times 2^32 plus the line's number. The words
+// get the span sheet, both memories the rows shown of the trees, `counts` their numbers.
 #[no_mangle]
 pub extern "C" fn teplonga_show(
     rules: &[u8],
@@ -19,7 +19,10 @@ pub extern "C" fn teplonga_show(
     second: &mut [u8],
     counts: &mut [u64],
 ) -> u64
-    ensures { λ r. ⌜ ShowWord (now (rules .entry)) (now (tokens .entry)) (now (rights .entry)) user (now (words .entry)) (now (words .exit)) (now (first .entry)) (now (first .exit)) (now (second .entry)) (now (second .exit)) (now (counts .entry)) (now (counts .exit)) r ⌝ }
+    ensures { λ r. ⌜ ShowWord (now (rules .entry)) (now (tokens .entry)) (now (rights .entry)) user
+        (now (words .entry)) (now (words .exit)) (now (first .entry)) (now (first .exit))
+        (now (second .entry)) (now (second .exit)) (now (counts .entry)) (now (counts .exit))
+        r ⌝ }
 {
     let p = show(rules, tokens, rights, user, words, first, second);
     let a = p.answer;
@@ -27,7 +30,8 @@ pub extern "C" fn teplonga_show(
     pack(a, p.line)
 }
 
-// The changed sheet: the answer's code times 2^32 plus the line's number. `bytes` gets the sheet, `count` its number of bytes.
+// The changed sheet: the answer's code times 2^32 plus the line's number. `bytes` gets the sheet,
+// `count` its number of bytes.
 #[no_mangle]
 pub extern "C" fn teplonga_change(
     rules: &[u8],
@@ -38,7 +42,9 @@ pub extern "C" fn teplonga_change(
     bytes: &mut [u8],
     count: &mut [u64],
 ) -> u64
-    ensures { λ r. ⌜ ChangeWord (now (rules .entry)) (now (rights .entry)) user rule (now (lay .entry)) (now (bytes .entry)) (now (bytes .exit)) (now (count .entry)) (now (count .exit)) r ⌝ }
+    ensures { λ r. ⌜ ChangeWord (now (rules .entry)) (now (rights .entry)) user rule
+        (now (lay .entry)) (now (bytes .entry)) (now (bytes .exit)) (now (count .entry))
+        (now (count .exit)) r ⌝ }
 {
     let p = change(rules, rights, user, rule, lay, bytes);
     let a = p.answer;

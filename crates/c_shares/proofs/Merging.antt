@@ -11,7 +11,8 @@ use Rattle.call_shares.specs.declared.ShareReply.{ShareReply}
 use Rattle.call_shares.specs.Merge.{Refuses, Merged, first-refuses, second-refuses, second, first}
 use Rattle.c_shares.specs.Merge.{MergeWord, one-refuses, two-refuses, two-leads, one-stays}
 
-pub merge-word-settled : {a N n b M m r s : ℕ} → MergeWord a N n b M m r → MergeWord a N n b M m s → r ≡ s
+pub merge-word-settled : {a N n b M m r s : ℕ} → MergeWord a N n b M m r → MergeWord a N n b M m s
+    → r ≡ s
 merge-word-settled (one-refuses h e) (one-refuses k d) = e ∙ sym d
 merge-word-settled (one-refuses h e) (two-refuses k l d) = absurd (omega arith)
 merge-word-settled (one-refuses h e) (two-leads k l x d) = absurd (omega arith)
@@ -59,11 +60,17 @@ abbrev pub chosen : ℕ → ShareReply → ShareReply → ShareReply
 chosen zero x y = x
 chosen (suc r) x y = y
 
-pub merge-word-merged : {x y : ShareReply} {a N n b M m r : ℕ} → Handed x a N n → Handed y b M m → MergeWord a N n b M m r → Merged x y (chosen r x y)
-merge-word-merged {x} {y} p q (one-refuses h e) = first-refuses (refusing (x .answer) (omega (arith, code p))) (ap (λ (v : ℕ). chosen v x y) e)
+pub merge-word-merged : {x y : ShareReply} {a N n b M m r : ℕ} → Handed x a N n → Handed y b M m
+    → MergeWord a N n b M m r → Merged x y (chosen r x y)
+merge-word-merged {x} {y} p q (one-refuses h e) =
+    first-refuses (refusing (x .answer) (omega (arith, code p))) (ap (λ (v : ℕ). chosen v x y) e)
 merge-word-merged {x} {y} p q (two-refuses h k e) =
-    second-refuses (taken (x .answer) (omega (arith, code p))) (refusing (y .answer) (omega (arith, code q))) (ap (λ (v : ℕ). chosen v x y) e)
+    second-refuses (taken (x .answer) (omega (arith, code p)))
+    (refusing (y .answer) (omega (arith, code q))) (ap (λ (v : ℕ). chosen v x y) e)
 merge-word-merged {x} {y} p q (two-leads h k l e) =
-    second (taken (x .answer) (omega (arith, code p))) (taken (y .answer) (omega (arith, code q))) (rw (p .number, p .length, q .number, q .length) at l) (ap (λ (v : ℕ). chosen v x y) e)
+    second (taken (x .answer) (omega (arith, code p))) (taken (y .answer) (omega (arith, code q)))
+    (rw (p .number, p .length, q .number, q .length) at l) (ap (λ (v : ℕ). chosen v x y) e)
 merge-word-merged {x} {y} p q (one-stays h k f e) =
-    first (taken (x .answer) (omega (arith, code p))) (taken (y .answer) (omega (arith, code q))) (λ l. f (rw (p .number, p .length, q .number, q .length) l)) (ap (λ (v : ℕ). chosen v x y) e)
+    first (taken (x .answer) (omega (arith, code p))) (taken (y .answer) (omega (arith, code q)))
+    (λ l. f (rw (p .number, p .length, q .number, q .length) l))
+    (ap (λ (v : ℕ). chosen v x y) e)

@@ -9,5 +9,7 @@ use Rattle.call_shares.specs.Merge.{Leads}
 pub data MergeWord (a N n b M m r : ℕ) : Type 0 where
   one-refuses : 100 ≤ a / 4294967296 → r ≡ 0 → MergeWord a N n b M m r
   two-refuses : a / 4294967296 < 100 → 100 ≤ b / 4294967296 → r ≡ 1 → MergeWord a N n b M m r
-  two-leads : a / 4294967296 < 100 → b / 4294967296 < 100 → Leads m M n N → r ≡ 1 → MergeWord a N n b M m r
-  one-stays : a / 4294967296 < 100 → b / 4294967296 < 100 → (Leads m M n N → ⊥) → r ≡ 0 → MergeWord a N n b M m r
+  two-leads : a / 4294967296 < 100 → b / 4294967296 < 100 → Leads m M n N → r ≡ 1
+      → MergeWord a N n b M m r
+  one-stays : a / 4294967296 < 100 → b / 4294967296 < 100 → (Leads m M n N → ⊥) → r ≡ 0
+      → MergeWord a N n b M m r

@@ -11,10 +11,13 @@ use Rattle.call_shares.specs.Share.{ShareOf}
 abbrev pub shareWords : ℕ → ℕ → ℕ → List ℕ
 shareWords N q r = N ∷ q ∷ r ∷ []
 
--- `teplonga_share` hands over what `share` answers, the three numbers and the answer's sentence in words
-pub record ShareWord (rules : List ℕ) (n p i : ℕ) (words words′ numbers numbers′ found found′ : List ℕ) (r : ℕ) : Type 0 where
+-- `teplonga_share` hands over what `share` answers, the three numbers and the answer's sentence in
+-- words
+pub record ShareWord (rules : List ℕ) (n p i : ℕ)
+    (words words′ numbers numbers′ found found′ : List ℕ) (r : ℕ) : Type 0 where
   pub reply : ShareReply
   pub promise : ShareOf rules n p i words words′ reply
-  pub values : AtFront 3 (shareWords (reply .number) (reply .quotient) (reply .remainder)) numbers numbers′
+  pub values : AtFront 3 (shareWords (reply .number) (reply .quotient) (reply .remainder)) numbers
+      numbers′
   pub sentence : AtFront 22 (sentenceWords (reply .sentence)) found found′
   pub word : r ≡ packed (reply .answer) (reply .line)

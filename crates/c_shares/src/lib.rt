@@ -12,7 +12,8 @@ ghost use Rattle.c_shares.specs.Merge.{MergeWord};
 
 // The lowest number, M ÷ p and its remainder, where the lent words are enough for them.
 fn put_numbers(numbers: &mut [u64], number: u64, quotient: u64, remainder: u64)
-    ensures { λ r. ⌜ AtFront 3 (shareWords number quotient remainder) (now (numbers .entry)) (now (numbers .exit)) ⌝ }
+    ensures { λ r. ⌜ AtFront 3 (shareWords number quotient remainder) (now (numbers .entry))
+        (now (numbers .exit)) ⌝ }
 {
     if 3 <= numbers.len() {
         let a = put_word(numbers, 0, number);
@@ -42,7 +43,9 @@ pub extern "C" fn teplonga_share(
     numbers: &mut [u64],
     found: &mut [u64],
 ) -> u64
-    ensures { λ r. ⌜ ShareWord (now (rules .entry)) length racks index (now (words .entry)) (now (words .exit)) (now (numbers .entry)) (now (numbers .exit)) (now (found .entry)) (now (found .exit)) r ⌝ }
+    ensures { λ r. ⌜ ShareWord (now (rules .entry)) length racks index (now (words .entry))
+        (now (words .exit)) (now (numbers .entry)) (now (numbers .exit)) (now (found .entry))
+        (now (found .exit)) r ⌝ }
 {
     let p = share(rules, length, racks, index, words);
     let a = p.answer;

@@ -18,5 +18,6 @@ countWord RowCount.More = 4294967296
 pub record RowsWord (rules tokens words words′ counts counts′ : List ℕ) (r : ℕ) : Type 0 where
   pub reply : RowsReply
   pub promise : RowsOf rules tokens words words′ reply
-  pub rows : AtFront 2 (countWords (countWord (reply .first)) (countWord (reply .second))) counts counts′
+  pub rows : AtFront 2 (countWords (countWord (reply .first)) (countWord (reply .second))) counts
+      counts′
   pub word : r ≡ packed (reply .answer) (reply .line)

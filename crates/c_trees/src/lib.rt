@@ -19,7 +19,8 @@ fn count(c: RowCount) -> usize
     }
 }
 
-// The row counts: the verdict's code times 2^32 plus the line's number. The words get the span sheet, `counts` the row counts.
+// The row counts: the verdict's code times 2^32 plus the line's number. The words get the span
+// sheet, `counts` the row counts.
 #[no_mangle]
 pub extern "C" fn teplonga_rows(
     rules: &[u8],
@@ -27,7 +28,8 @@ pub extern "C" fn teplonga_rows(
     words: &mut [u64],
     counts: &mut [u64],
 ) -> u64
-    ensures { λ r. ⌜ RowsWord (now (rules .entry)) (now (tokens .entry)) (now (words .entry)) (now (words .exit)) (now (counts .entry)) (now (counts .exit)) r ⌝ }
+    ensures { λ r. ⌜ RowsWord (now (rules .entry)) (now (tokens .entry)) (now (words .entry))
+        (now (words .exit)) (now (counts .entry)) (now (counts .exit)) r ⌝ }
 {
     let p = rows(rules, tokens, words);
     let a = p.answer;
@@ -37,7 +39,8 @@ pub extern "C" fn teplonga_rows(
     pack(a, p.line)
 }
 
-// The places: the verdict's code times 2^32 plus the line's number. The words get the span sheet, `list` the places, `count` their number.
+// The places: the verdict's code times 2^32 plus the line's number. The words get the span sheet,
+// `list` the places, `count` their number.
 #[no_mangle]
 pub extern "C" fn teplonga_places(
     rules: &[u8],
@@ -46,7 +49,9 @@ pub extern "C" fn teplonga_places(
     list: &mut [u8],
     count: &mut [u64],
 ) -> u64
-    ensures { λ r. ⌜ PlacesWord (now (rules .entry)) (now (tokens .entry)) (now (words .entry)) (now (words .exit)) (now (list .entry)) (now (list .exit)) (now (count .entry)) (now (count .exit)) r ⌝ }
+    ensures { λ r. ⌜ PlacesWord (now (rules .entry)) (now (tokens .entry)) (now (words .entry))
+        (now (words .exit)) (now (list .entry)) (now (list .exit)) (now (count .entry))
+        (now (count .exit)) r ⌝ }
 {
     let p = places(rules, tokens, words, list);
     let a = p.answer;

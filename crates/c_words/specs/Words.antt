@@ -1,4 +1,5 @@
--- Numbers in lent words: a sentence and row counts as words, and words at the front of the lent ones.
+-- Numbers in lent words: a sentence and row counts as words, and words at the front of the lent
+-- ones.
 use mathlib.Core.Path.{_≡_}
 use mathlib.Core.List.{List, [], _∷_, _++_}
 use Prim.Native.Nat.{ℕ, _≤_, _<_}
@@ -6,7 +7,8 @@ use lib.ListN.{length, take, drop}
 use Rattle.grammar.specs.declared.Sentence.{Sentence}
 use Rattle.grammar.specs.Layout.{Word, line, col}
 
--- n words stand at the front of the lent ones, and those past them are unchanged; fewer than n lent ones are left as they were
+-- n words stand at the front of the lent ones, and those past them are unchanged; fewer than n lent
+-- ones are left as they were
 pub data AtFront (n : ℕ) (ws lent lent′ : List ℕ) : Type 0 where
   few : length lent < n → lent′ ≡ lent → AtFront n ws lent lent′
   written : n ≤ length lent → lent′ ≡ ws ++ drop n lent → AtFront n ws lent lent′

@@ -6,7 +6,8 @@ ghost use Prim.Native.Nat.{_+_, _≤_, _<_};
 ghost use lib.ListN.{length, take};
 ghost use Rattle.grammar.specs.Layout.{line as lineOf, col};
 ghost use Rattle.printing.specs.Printing.{Wrote};
-ghost use Rattle.c_words.specs.Words.{tokenWords, sentenceWords, foundWords, AtFront, countWords};
+ghost use Rattle.c_words.specs.Words.{tokenWords, sentenceWords, foundWords, AtFront};
+ghost use Rattle.c_words.specs.Words.{countWords};
 
 // One word at a place; the place after it.
 pub fn put_word(found: &mut [u64], at: usize, v: u64) -> usize
@@ -20,7 +21,8 @@ pub fn put_word(found: &mut [u64], at: usize, v: u64) -> usize
 // A token's terminal, line and column.
 fn put_token(found: &mut [u64], at: usize, t: Token) -> usize
     requires { ⌜ at + 3 ≤ length (now found) ⌝ }
-    ensures { λ r. ⌜ Wrote (now (found .entry)) (now (found .exit)) at (t .terminal ∷ lineOf t ∷ col t ∷ []) r ⌝ }
+    ensures { λ r. ⌜ Wrote (now (found .entry)) (now (found .exit)) at
+        (t .terminal ∷ lineOf t ∷ col t ∷ []) r ⌝ }
 {
     let a = put_word(found, at, t.terminal as u64);
     let b = put_word(found, a, t.line.0 as u64);
@@ -30,7 +32,8 @@ fn put_token(found: &mut [u64], at: usize, t: Token) -> usize
 // The places of a sentence's first seven tokens.
 fn put_tokens(found: &mut [u64], at: usize, s: Sentence) -> usize
     requires { ⌜ at + 21 ≤ length (now found) ⌝ }
-    ensures { λ r. ⌜ Wrote (now (found .entry)) (now (found .exit)) at (tokenWords (take 7 (s .tokens))) r ⌝ }
+    ensures { λ r. ⌜ Wrote (now (found .entry)) (now (found .exit)) at
+        (tokenWords (take 7 (s .tokens))) r ⌝ }
 {
     let mut i = 0;
     let mut next = at;
@@ -72,7 +75,8 @@ pub fn put_one(lent: &mut [u64], n: usize)
 
 // The row counts of both trees, where the lent words are enough for them.
 pub fn put_counts(counts: &mut [u64], first: usize, second: usize)
-    ensures { λ r. ⌜ AtFront 2 (countWords first second) (now (counts .entry)) (now (counts .exit)) ⌝ }
+    ensures { λ r. ⌜ AtFront 2 (countWords first second) (now (counts .entry))
+        (now (counts .exit)) ⌝ }
 {
     if 2 <= counts.len() {
         let next = put_word(counts, 0, first as u64);

@@ -90,7 +90,8 @@ fn tell(g: Grammar, words: &mut [u64], list: &mut [u8]) -> AlwaysReply
 // The answer on rules that were read.
 fn answered(g: Grammar, words: &mut [u64], list: &mut [u8]) -> AlwaysReply
     requires { ⌜ Formed g ⌝ }
-    ensures { λ r. ⌜ AlwaysOn (rulesOf g) (now (words .entry)) (now (words .exit)) (now (list .entry)) (now (list .exit)) r ⌝ }
+    ensures { λ r. ⌜ AlwaysOn (rulesOf g) (now (words .entry)) (now (words .exit))
+        (now (list .entry)) (now (list .exit)) r ⌝ }
 {
     if words.len() < 73728 {
         return refusal(Fault::FewWords, 0);
@@ -101,7 +102,8 @@ fn answered(g: Grammar, words: &mut [u64], list: &mut [u8]) -> AlwaysReply
 // The answer by what a reader of a sheet with rules answered.
 pub fn always_read(a: GrammarRead, words: &mut [u64], list: &mut [u8]) -> AlwaysReply
     requires { ⌜ RulesRead a (readingOf (a .outcome) (rulesOf (a .grammar))) ⌝ }
-    ensures { λ r. ⌜ AlwaysBy (readingOf (a .outcome) (rulesOf (a .grammar))) (now (words .entry)) (now (words .exit)) (now (list .entry)) (now (list .exit)) r ⌝ }
+    ensures { λ r. ⌜ AlwaysBy (readingOf (a .outcome) (rulesOf (a .grammar))) (now (words .entry))
+        (now (words .exit)) (now (list .entry)) (now (list .exit)) r ⌝ }
 {
     let o = a.outcome;
     match o {
@@ -116,7 +118,8 @@ pub fn always_read(a: GrammarRead, words: &mut [u64], list: &mut [u8]) -> Always
 // Has no sentence two trees, whatever its length? Clear, or unknown, with all doubts in the lent
 // bytes, four bytes an entry.
 pub fn always(rules: &[u8], words: &mut [u64], list: &mut [u8]) -> AlwaysReply
-    ensures { λ r. ⌜ AlwaysOf (now (rules .entry)) (now (words .entry)) (now (words .exit)) (now (list .entry)) (now (list .exit)) r ⌝ }
+    ensures { λ r. ⌜ AlwaysOf (now (rules .entry)) (now (words .entry)) (now (words .exit))
+        (now (list .entry)) (now (list .exit)) r ⌝ }
 {
     always_read(read_rules(rules), words, list)
 }

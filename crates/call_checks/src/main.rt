@@ -1,6 +1,8 @@
-// Runs the calls on each case of standard input and writes their outputs one after the other. A case is a letter and what it asks for.
-// `c`: an input of the program `calls`. The other letters ask for a call itself, with sheets that no such input can hold: `k` clauses,
-// `s` show, `m` change; `l` is for the refused line of a clause sheet and a token sheet, which the program does not write.
+// Runs the calls on each case of standard input and writes their outputs one after the other. A
+// case is a letter and what it asks for. `c`: an input of the program `calls`. The other letters
+// ask for a call itself, with sheets that no such input can hold: `k` clauses, `s` show, `m`
+// change; `l` is for the refused line of a clause sheet and a token sheet, which the program does
+// not write.
 use call_clauses::refused_line;
 use calling::calls_text;
 use cases::five;
@@ -12,7 +14,8 @@ use rights_text::show_text;
 ghost use Prim.Native.Nat.{_≤_};
 ghost use lib.ListN.{length};
 
-// The output of `show`: a rule sheet, a token sheet and a rights sheet, which end at a, at b and where the case does.
+// The output of `show`: a rule sheet, a token sheet and a rights sheet, which end at a, at b and
+// where the case does.
 fn show(case: &[u8], a: usize, b: usize, out: &mut [u8]) -> usize
     requires { ⌜ (26 ≤ a) × (a ≤ b) × (b ≤ length (now case)) ⌝ }
     requires { ⌜ 262144 ≤ length (now out) ⌝ }
@@ -49,8 +52,8 @@ fn write_line<'a>(clauses: &'a [u8], tokens: &'a [u8]) {
     io::write_all(STDOUT_FILENO, b"\n");
 }
 
-// The output of a call on parts of the case, and its length. In front of them stand the call's letter, the user, the rule and the
-// lengths of the first two parts, five digits each.
+// The output of a call on parts of the case, and its length. In front of them stand the call's
+// letter, the user, the rule and the lengths of the first two parts, five digits each.
 fn parts(case: &[u8], out: &mut [u8]) -> usize
     requires { ⌜ 262144 ≤ length (now out) ⌝ }
     ensures { λ r. ⌜ r ≤ length (now (out .exit)) ⌝ }

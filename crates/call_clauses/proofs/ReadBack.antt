@@ -1,7 +1,9 @@
--- Rules that are written as a rule sheet are read back: so a clause sheet's answers are those of the rule sheet that `expand` gives.
+-- Rules that are written as a rule sheet are read back: so a clause sheet's answers are those of
+-- the rule sheet that `expand` gives.
 use mathlib.Core.Path.{_≡_, refl, sym, ap, _∙_}
 use mathlib.Core.Bool.{Bool, true, false, not, cond, _&&_, _||_}
-use mathlib.Core.List.{List, [], _∷_, _++_, append-nil, append-assoc, List·Memᴰ, List·Memᴰ·head, List·Memᴰ·tail}
+use mathlib.Core.List.{List, [], _∷_, _++_, append-nil, append-assoc, List·Memᴰ, List·Memᴰ·head}
+use mathlib.Core.List.{List·Memᴰ·tail}
 use mathlib.Core.Option.{Option, none, some}
 use Prim.Native.Nat.{ℕ, zero, suc, _≤_, _<_}
 use native.Mathlib.Decide.{ℕ-discrete}
@@ -41,8 +43,10 @@ use Rattle.lines.specs.declared.Turn.{Turn}
 use Rattle.lines.specs.declared.Turn.the-variants as Turn
 use Rattle.lines.proofs.KeyLaws.{Forward, key-alike}
 use Rattle.rule_text.specs.RuleText.{unaryLay, binaryLay, dash, clauseText, ruleText, rulesText}
-use Rattle.sheets.specs.Items.{Step, next, stop, accepted, refused, stepAt, onStep, itemsFrom, withNames}
-use Rattle.sheets.specs.RuleSheets.{hasKey, anyOf, ruleSaid, ruleStep, finish, rulesFrom, ruleNames, ruleSheet}
+use Rattle.sheets.specs.Items.{Step, next, stop, accepted, refused, stepAt, onStep, itemsFrom}
+use Rattle.sheets.specs.Items.{withNames}
+use Rattle.sheets.specs.RuleSheets.{hasKey, anyOf, ruleSaid, ruleStep, finish, rulesFrom, ruleNames}
+use Rattle.sheets.specs.RuleSheets.{ruleSheet}
 use Rattle.sheets.proofs.Accepted.{GoodRules, finish-good}
 use Rattle.call_clauses.specs.Expand.{sheetText}
 
@@ -58,7 +62,8 @@ not-true false e = refl
 
 free-of : (b : ℕ) (u : List ℕ) → isFree b u ≡ true → FreeOf b u
 free-of b [] e = tt
-free-of b (x ∷ u) e = let k = both (not (eqb x b)) (isFree b u) e in (not-true (eqb x b) (k .0), free-of b u (k .1))
+free-of b (x ∷ u) e = let k = both (not (eqb x b)) (isFree b u) e in
+    (not-true (eqb x b) (k .0), free-of b u (k .1))
 
 free-then : (b : ℕ) (u v : List ℕ) → FreeOf b u → FreeOf b v → FreeOf b (u ++ v)
 free-then b [] v h k = k
@@ -75,7 +80,8 @@ number-is (some v) n e = ap some (eqb-true v n e)
 number-is none n e = absurd (clash cc)
 
 abbrev plain : ℕ → Bool
-plain n = isNumber (numeralOf (decimal n)) n && (not (sameBytes (decimal n) (45 ∷ [])) && (isFree 10 (decimal n) && isFree 32 (decimal n)))
+plain n = isNumber (numeralOf (decimal n)) n
+    && (not (sameBytes (decimal n) (45 ∷ [])) && (isFree 10 (decimal n) && isFree 32 (decimal n)))
 
 abbrev below : ℕ → (ℕ → Bool) → Bool
 below zero f = true
@@ -83,7 +89,8 @@ below (suc n) f = f n && below n f
 
 below-all : (n : ℕ) (f : ℕ → Bool) → below n f ≡ true → (a : ℕ) → a < n → f a ≡ true
 below-all zero f e a h = absurd (omega arith)
-below-all (suc n) f e a h = let k = both (f n) (below n f) e in go (λ l. below-all n f (k .1) a l) (k .0) (ℕ-discrete a n)
+below-all (suc n) f e a h = let k = both (f n) (below n f) e in
+    go (λ l. below-all n f (k .1) a l) (k .0) (ℕ-discrete a n)
   where
     go : (a < n → f a ≡ true) → f n ≡ true → Dec (a ≡ n) → f a ≡ true
     go again k (yes j) = ap f j ∙ k
@@ -102,13 +109,18 @@ record Plain (n : ℕ) : Type 0 where
 
 plain-below : (n : ℕ) → n < 64 → Plain n
 plain-below n h =
-    let k = both (isNumber (numeralOf (decimal n)) n) (not (sameBytes (decimal n) (45 ∷ [])) && (isFree 10 (decimal n) && isFree 32 (decimal n))) (below-all 64 plain table n h) in
-    let j = both (not (sameBytes (decimal n) (45 ∷ []))) (isFree 10 (decimal n) && isFree 32 (decimal n)) (k .1) in
+    let k = both (isNumber (numeralOf (decimal n)) n)
+    (not (sameBytes (decimal n) (45 ∷ [])) && (isFree 10 (decimal n) && isFree 32 (decimal n)))
+    (below-all 64 plain table n h) in
+    let j = both (not (sameBytes (decimal n) (45 ∷ [])))
+    (isFree 10 (decimal n) && isFree 32 (decimal n)) (k .1) in
     let f = both (isFree 10 (decimal n)) (isFree 32 (decimal n)) (j .1) in
     let e = number-is (numeralOf (decimal n)) n (k .0) in
     record {
       number = e;
-      operand = ap (λ (b : Bool). cond b (some (record { dash = true; value = 0 })) (numberOperand (numeralOf (decimal n)))) (not-true (sameBytes (decimal n) (45 ∷ [])) (j .0)) ∙ ap numberOperand e;
+      operand = ap (λ (b : Bool). cond b (some (record { dash = true; value = 0 }))
+          (numberOperand (numeralOf (decimal n))))
+          (not-true (sameBytes (decimal n) (45 ∷ [])) (j .0)) ∙ ap numberOperand e;
       line = free-of 10 (decimal n) (f .0);
       blank = free-of 32 (decimal n) (f .1);
     }
@@ -124,31 +136,39 @@ record Field (u : List ℕ) : Type 0 where
   blank : FreeOf 32 u
 
 field-of : (u : List ℕ) → isFree 10 u && isFree 32 u ≡ true → Field u
-field-of u e = let k = both (isFree 10 u) (isFree 32 u) e in record { line = free-of 10 u (k .0); blank = free-of 32 u (k .1) }
+field-of u e = let k = both (isFree 10 u) (isFree 32 u) e in
+    record { line = free-of 10 u (k .0); blank = free-of 32 u (k .1) }
 
 blank-line : eqb 32 10 ≡ false
 blank-line = refl
 
-row-line : (a k x y w : List ℕ) → Field a → Field k → Field x → Field y → Field w → FreeOf 10 (row a k x y w)
+row-line : (a k x y w : List ℕ) → Field a → Field k → Field x → Field y → Field w
+    → FreeOf 10 (row a k x y w)
 row-line a k x y w p q r s t =
     free-then 10 a (32 ∷ (k ++ 32 ∷ (x ++ 32 ∷ (y ++ 32 ∷ w)))) (p .line) (
       blank-line,
       free-then 10 k (32 ∷ (x ++ 32 ∷ (y ++ 32 ∷ w))) (q .line) (
         blank-line,
-        free-then 10 x (32 ∷ (y ++ 32 ∷ w)) (r .line) (blank-line, free-then 10 y (32 ∷ w) (s .line) (blank-line, t .line)),
+        free-then 10 x (32 ∷ (y ++ 32 ∷ w)) (r .line)
+            (blank-line, free-then 10 y (32 ∷ w) (s .line) (blank-line, t .line)),
       ),
     )
 
-row-fields : (a k x y w : List ℕ) → Field a → Field k → Field x → Field y → Field w → pieces 32 (row a k x y w) ≡ a ∷ k ∷ x ∷ y ∷ w ∷ []
+row-fields : (a k x y w : List ℕ) → Field a → Field k → Field x → Field y → Field w
+    → pieces 32 (row a k x y w) ≡ a ∷ k ∷ x ∷ y ∷ w ∷ []
 row-fields a k x y w p q r s t =
     pieces-cut 32 a (k ++ 32 ∷ (x ++ 32 ∷ (y ++ 32 ∷ w))) (p .blank)
     ∙ ap (λ (l : List (List ℕ)). a ∷ l)
     (pieces-cut 32 k (x ++ 32 ∷ (y ++ 32 ∷ w)) (q .blank)
     ∙ ap (λ (l : List (List ℕ)). k ∷ l)
     (pieces-cut 32 x (y ++ 32 ∷ w) (r .blank)
-    ∙ ap (λ (l : List (List ℕ)). x ∷ l) (pieces-cut 32 y w (s .blank) ∙ ap (λ (l : List (List ℕ)). y ∷ l) (pieces-free 32 w (t .blank)))))
+    ∙ ap (λ (l : List (List ℕ)). x ∷ l)
+    (pieces-cut 32 y w (s .blank) ∙ ap (λ (l : List (List ℕ)). y ∷ l)
+    (pieces-free 32 w (t .blank)))))
 
-row-text : (a x y w : List ℕ) (k : ℕ) → (a ++ (32 ∷ [])) ++ (k ∷ 32 ∷ ((x ++ (32 ∷ [])) ++ ((y ++ (32 ∷ [])) ++ (w ++ (10 ∷ []))))) ≡ row a (k ∷ []) x y w ++ (10 ∷ [])
+row-text : (a x y w : List ℕ) (k : ℕ)
+    → (a ++ (32 ∷ [])) ++ (k ∷ 32 ∷ ((x ++ (32 ∷ [])) ++ ((y ++ (32 ∷ [])) ++ (w ++ (10 ∷ [])))))
+    ≡ row a (k ∷ []) x y w ++ (10 ∷ [])
 row-text a x y w k = simp append-assoc
 
 -- 4. the line of a rule
@@ -195,7 +215,9 @@ number-field n h = let p = plain-below n h in record { line = p .line; blank = p
 -- what the fields say, where the kind is k
 module _ (k : Kind) where
   abbrev heard : Option ℕ → Option Operand → Option Operand → Option Lay → RuleLine
-  heard o p q z = onValue RuleLine.Form o (λ l. onValue RuleLine.Form p (λ a. onValue RuleLine.Form q (λ b. onValue RuleLine.Form z (λ y. ruleOf l k a b y))))
+  heard o p q z = onValue RuleLine.Form o
+      (λ l. onValue RuleLine.Form p (λ a. onValue RuleLine.Form q
+      (λ b. onValue RuleLine.Form z (λ y. ruleOf l k a b y))))
 
 -- the bytes of a rule's line, without its end
 record Line (r : Rule) : Type 0 where
@@ -216,10 +238,15 @@ empty-line l h =
     let w = unary-field UnaryMark.None in
     record {
       bytes = row (decimal l) (69 ∷ []) (45 ∷ []) (45 ∷ []) (unaryWord UnaryMark.None);
-      free = row-line (decimal l) (69 ∷ []) (45 ∷ []) (45 ∷ []) (unaryWord UnaryMark.None) a k dash-field dash-field w;
-      text = ap (λ (z : List ℕ). field l ++ (69 ∷ 32 ∷ (dash ++ (dash ++ z)))) (unary-lay UnaryMark.None) ∙ row-text (decimal l) (45 ∷ []) (45 ∷ []) (unaryWord UnaryMark.None) 69;
-      says = ap ruleFields (row-fields (decimal l) (69 ∷ []) (45 ∷ []) (45 ∷ []) (unaryWord UnaryMark.None) a k dash-field dash-field w)
-          ∙ ap (λ (o : Option ℕ). heard Kind.E o (operandOf (45 ∷ [])) (operandOf (45 ∷ [])) (layOf (unaryWord UnaryMark.None))) (p .number) ∙ rw (le-leb l 63 (omega arith));
+      free = row-line (decimal l) (69 ∷ []) (45 ∷ []) (45 ∷ []) (unaryWord UnaryMark.None) a k
+          dash-field dash-field w;
+      text = ap (λ (z : List ℕ). field l ++ (69 ∷ 32 ∷ (dash ++ (dash ++ z))))
+          (unary-lay UnaryMark.None) ∙ row-text (decimal l) (45 ∷ []) (45 ∷ [])
+          (unaryWord UnaryMark.None) 69;
+      says = ap ruleFields (row-fields (decimal l) (69 ∷ []) (45 ∷ []) (45 ∷ [])
+          (unaryWord UnaryMark.None) a k dash-field dash-field w)
+          ∙ ap (λ (o : Option ℕ). heard Kind.E o (operandOf (45 ∷ [])) (operandOf (45 ∷ []))
+          (layOf (unaryWord UnaryMark.None))) (p .number) ∙ rw (le-leb l 63 (omega arith));
     }
 
 -- the second field of an A rule
@@ -235,15 +262,25 @@ second-field a b true h = dash-field
 second-field a b false h = number-field b h
 
 atom-heard : (l a b : ℕ) (t : Bool) → eqb a b ≡ t → l < 64 → a < 64 → b < 64 → a ≤ b
-    → heard Kind.A (some l) (some (record { dash = false; value = a })) (operandOf (second a b t)) (some Lay.None) ≡ RuleLine.Good (record { left = l; clause = Clause.Atom a b })
+    → heard Kind.A (some l) (some (record { dash = false; value = a })) (operandOf (second a b t))
+    (some Lay.None) ≡ RuleLine.Good (record { left = l; clause = Clause.Atom a b })
 atom-heard l a b true e h i j k =
     let z : a ≡ b = eqb-true a b e in
-    rw (le-leb l 63 (omega arith), le-leb a 63 (omega arith), le-leb a a (omega arith)) (ap (λ (x : ℕ). RuleLine.Good (record { left = l; clause = Clause.Atom a x })) z)
+    rw (le-leb l 63 (omega arith), le-leb a 63 (omega arith), le-leb a a (omega arith))
+    (ap (λ (x : ℕ). RuleLine.Good (record { left = l; clause = Clause.Atom a x })) z)
 atom-heard l a b false e h i j k =
-    ap (λ (q : Option Operand). heard Kind.A (some l) (some (record { dash = false; value = a })) q (some Lay.None)) (plain-below b j .operand)
-    ∙ rw (le-leb l 63 (omega arith), le-leb a 63 (omega arith), le-leb b 63 (omega arith), le-leb a b k)
+    ap (λ (q : Option Operand). heard Kind.A (some l) (some (record { dash = false; value = a })) q
+    (some Lay.None)) (plain-below b j .operand)
+    ∙ rw (
+      le-leb l 63 (omega arith),
+      le-leb a 63 (omega arith),
+      le-leb b 63 (omega arith),
+      le-leb a
+          b k,
+    )
 
-atom-line : (l a b : ℕ) → l < 64 → a < 64 → b < 64 → a ≤ b → Line (record { left = l; clause = Clause.Atom a b })
+atom-line : (l a b : ℕ) → l < 64 → a < 64 → b < 64 → a ≤ b
+    → Line (record { left = l; clause = Clause.Atom a b })
 unfolding clauseText
 atom-line l a b h v j k =
     let w = unaryWord UnaryMark.None in
@@ -257,20 +294,24 @@ atom-line l a b h v j k =
       bytes = row (decimal l) (65 ∷ []) (decimal a) y w;
       free = row-line (decimal l) (65 ∷ []) (decimal a) y w f kind g s z;
       text =
-          (λ i. field l ++ (65 ∷ 32 ∷ (field a ++ (last-terminal a b (eqb a b) i ++ unary-lay UnaryMark.None i))))
+          (λ i. field l ++ (65 ∷ 32 ∷ (field a
+          ++ (last-terminal a b (eqb a b) i ++ unary-lay UnaryMark.None i))))
           ∙ row-text (decimal l) (decimal a) y w 65;
       says = ap ruleFields (row-fields (decimal l) (65 ∷ []) (decimal a) y w f kind g s z)
-          ∙ (λ i. heard Kind.A (plain-below l h .number i) (plain-below a v .operand i) (operandOf y) (layOf w)) ∙ atom-heard l a b (eqb a b) refl h v j k;
+          ∙ (λ i. heard Kind.A (plain-below l h .number i) (plain-below a v .operand i)
+          (operandOf y) (layOf w)) ∙ atom-heard l a b (eqb a b) refl h v j k;
     }
 
 unary-heard : (l a : ℕ) (m : UnaryMark) → l < 64 → a < 64
-    → heard Kind.U (some l) (some (record { dash = false; value = a })) (operandOf (45 ∷ [])) (layOf (unaryWord m)) ≡ RuleLine.Good (record { left = l; clause = Clause.Unary a m })
+    → heard Kind.U (some l) (some (record { dash = false; value = a })) (operandOf (45 ∷ []))
+    (layOf (unaryWord m)) ≡ RuleLine.Good (record { left = l; clause = Clause.Unary a m })
 unary-heard l a UnaryMark.None h i = rw (le-leb l 63 (omega arith), le-leb a 63 (omega arith))
 unary-heard l a UnaryMark.Offside h i = rw (le-leb l 63 (omega arith), le-leb a 63 (omega arith))
 unary-heard l a UnaryMark.Offalign h i = rw (le-leb l 63 (omega arith), le-leb a 63 (omega arith))
 unary-heard l a UnaryMark.Single h i = rw (le-leb l 63 (omega arith), le-leb a 63 (omega arith))
 
-unary-line : (l a : ℕ) (m : UnaryMark) → l < 64 → a < 64 → Line (record { left = l; clause = Clause.Unary a m })
+unary-line : (l a : ℕ) (m : UnaryMark) → l < 64 → a < 64
+    → Line (record { left = l; clause = Clause.Unary a m })
 unfolding clauseText
 unary-line l a m h j =
     let w = unaryWord m in
@@ -281,19 +322,27 @@ unary-line l a m h j =
     record {
       bytes = row (decimal l) (85 ∷ []) (decimal a) (45 ∷ []) w;
       free = row-line (decimal l) (85 ∷ []) (decimal a) (45 ∷ []) w f kind g dash-field z;
-      text = ap (λ (y : List ℕ). field l ++ (85 ∷ 32 ∷ (field a ++ (dash ++ y)))) (unary-lay m) ∙ row-text (decimal l) (decimal a) (45 ∷ []) w 85;
-      says = ap ruleFields (row-fields (decimal l) (85 ∷ []) (decimal a) (45 ∷ []) w f kind g dash-field z)
-          ∙ (λ i. heard Kind.U (plain-below l h .number i) (plain-below a j .operand i) (operandOf (45 ∷ [])) (layOf w)) ∙ unary-heard l a m h j;
+      text = ap (λ (y : List ℕ). field l ++ (85 ∷ 32 ∷ (field a ++ (dash ++ y)))) (unary-lay m)
+          ∙ row-text (decimal l) (decimal a) (45 ∷ []) w 85;
+      says = ap ruleFields (row-fields (decimal l) (85 ∷ []) (decimal a) (45 ∷ []) w f kind g
+          dash-field z)
+          ∙ (λ i. heard Kind.U (plain-below l h .number i) (plain-below a j .operand i)
+          (operandOf (45 ∷ [])) (layOf w)) ∙ unary-heard l a m h j;
     }
 
 binary-heard : (l a b : ℕ) (m : BinaryMark) → l < 64 → a < 64 → b < 64
-    → heard Kind.B (some l) (some (record { dash = false; value = a })) (some (record { dash = false; value = b })) (layOf (binaryWord m))
+    → heard Kind.B (some l) (some (record { dash = false; value = a }))
+    (some (record { dash = false; value = b })) (layOf (binaryWord m))
     ≡ RuleLine.Good (record { left = l; clause = Clause.Binary a b m })
-binary-heard l a b BinaryMark.None h i j = rw (le-leb l 63 (omega arith), le-leb a 63 (omega arith), le-leb b 63 (omega arith))
-binary-heard l a b BinaryMark.Align h i j = rw (le-leb l 63 (omega arith), le-leb a 63 (omega arith), le-leb b 63 (omega arith))
-binary-heard l a b BinaryMark.Indent h i j = rw (le-leb l 63 (omega arith), le-leb a 63 (omega arith), le-leb b 63 (omega arith))
+binary-heard l a b BinaryMark.None h i j =
+    rw (le-leb l 63 (omega arith), le-leb a 63 (omega arith), le-leb b 63 (omega arith))
+binary-heard l a b BinaryMark.Align h i j =
+    rw (le-leb l 63 (omega arith), le-leb a 63 (omega arith), le-leb b 63 (omega arith))
+binary-heard l a b BinaryMark.Indent h i j =
+    rw (le-leb l 63 (omega arith), le-leb a 63 (omega arith), le-leb b 63 (omega arith))
 
-binary-line : (l a b : ℕ) (m : BinaryMark) → l < 64 → a < 64 → b < 64 → Line (record { left = l; clause = Clause.Binary a b m })
+binary-line : (l a b : ℕ) (m : BinaryMark) → l < 64 → a < 64 → b < 64
+    → Line (record { left = l; clause = Clause.Binary a b m })
 unfolding clauseText
 binary-line l a b m h j k =
     let w = binaryWord m in
@@ -305,9 +354,11 @@ binary-line l a b m h j k =
     record {
       bytes = row (decimal l) (66 ∷ []) (decimal a) (decimal b) w;
       free = row-line (decimal l) (66 ∷ []) (decimal a) (decimal b) w f kind g s z;
-      text = ap (λ (y : List ℕ). field l ++ (66 ∷ 32 ∷ (field a ++ (field b ++ y)))) (binary-lay m) ∙ row-text (decimal l) (decimal a) (decimal b) w 66;
+      text = ap (λ (y : List ℕ). field l ++ (66 ∷ 32 ∷ (field a ++ (field b ++ y)))) (binary-lay m)
+          ∙ row-text (decimal l) (decimal a) (decimal b) w 66;
       says = ap ruleFields (row-fields (decimal l) (66 ∷ []) (decimal a) (decimal b) w f kind g s z)
-          ∙ (λ i. heard Kind.B (plain-below l h .number i) (plain-below a j .operand i) (plain-below b k .operand i) (layOf w)) ∙ binary-heard l a b m h j k;
+          ∙ (λ i. heard Kind.B (plain-below l h .number i) (plain-below a j .operand i)
+          (plain-below b k .operand i) (layOf w)) ∙ binary-heard l a b m h j k;
     }
 
 -- numbers in range, and no range that reverses
@@ -315,11 +366,14 @@ pub record Legible (r : Rule) : Type 0 where
   pub small : SmallRule r
   pub forward : Forward (r .clause)
 
-line-of : (l : ℕ) (c : Clause) → Legible (record { left = l; clause = c }) → Line (record { left = l; clause = c })
+line-of : (l : ℕ) (c : Clause) → Legible (record { left = l; clause = c })
+    → Line (record { left = l; clause = c })
 line-of l Clause.Empty x = empty-line l (x .small .left)
-line-of l (Clause.Atom a b) x = atom-line l a b (x .small .left) (x .small .clause .0) (x .small .clause .1) (x .forward)
+line-of l (Clause.Atom a b) x =
+    atom-line l a b (x .small .left) (x .small .clause .0) (x .small .clause .1) (x .forward)
 line-of l (Clause.Unary a m) x = unary-line l a m (x .small .left) (x .small .clause)
-line-of l (Clause.Binary a b m) x = binary-line l a b m (x .small .left) (x .small .clause .0) (x .small .clause .1)
+line-of l (Clause.Binary a b m) x =
+    binary-line l a b m (x .small .left) (x .small .clause .0) (x .small .clause .1)
 
 rule-line : (r : Rule) → Legible r → Line r
 rule-line r x = line-of (r .left) (r .clause) x
@@ -346,7 +400,8 @@ rules-pieces (r ∷ g) h =
     ∙ ap (λ (ps : List (List ℕ)). l .bytes ∷ ps) (rules-pieces g (h .1))
 
 -- no rule before has the key
-any-not : {A : Type 0} (p : A → Bool) (l : List A) → ((x : A) → List·Memᴰ x l → p x ≡ true → ⊥) → anyOf p l ≡ false
+any-not : {A : Type 0} (p : A → Bool) (l : List A) → ((x : A) → List·Memᴰ x l → p x ≡ true → ⊥)
+    → anyOf p l ≡ false
 any-not p [] f = refl
 any-not p (a ∷ l) f = go (p a) refl (any-not p l (λ x m. f x (List·Memᴰ·tail m)))
   where
@@ -354,15 +409,18 @@ any-not p (a ∷ l) f = go (p a) refl (any-not p l (λ x m. f x (List·Memᴰ·t
     go true e k = absurd (f a (List·Memᴰ·head refl) e)
     go false e k = ap (λ (b : Bool). b || anyOf p l) e ∙ k
 
-place-in : {s : Rule} (l m : Rules) → List·Memᴰ s l → (p : ℕ) × (p < length l) × (getElem? (l ++ m) p ≡ some s)
+place-in : {s : Rule} (l m : Rules) → List·Memᴰ s l
+    → (p : ℕ) × (p < length l) × (getElem? (l ++ m) p ≡ some s)
 place-in (a ∷ l) m (List·Memᴰ·head e) = (0, omega arith, ap some (sym e))
-place-in (a ∷ l) m (List·Memᴰ·tail h) = let z = place-in l m h in (suc (z .0), omega (arith, z .1), z .2)
+place-in (a ∷ l) m (List·Memᴰ·tail h) = let z = place-in l m h in
+    (suc (z .0), omega (arith, z .1), z .2)
 
 place-next : (l : Rules) (r : Rule) (m : Rules) → getElem? (l ++ r ∷ m) (length l) ≡ some r
 place-next [] r m = refl
 place-next (a ∷ l) r m = place-next l r m
 
-fresh : (seen : Rules) (r : Rule) (g : Rules) → Distinct (seen ++ r ∷ g) → Every Legible seen → Legible r → anyOf (hasKey (keyOf r)) seen ≡ false
+fresh : (seen : Rules) (r : Rule) (g : Rules) → Distinct (seen ++ r ∷ g) → Every Legible seen
+    → Legible r → anyOf (hasKey (keyOf r)) seen ≡ false
 fresh seen r g d h x = any-not (hasKey (keyOf r)) seen never
   where
     never : (s : Rule) → List·Memᴰ s seen → hasKey (keyOf r) s ≡ true → ⊥
@@ -372,29 +430,37 @@ fresh seen r g d h x = any-not (hasKey (keyOf r)) seen never
         let q = d .one (p .0) (length seen) s r (p .2) (place-next seen r g) (k .0) (k .1) in
         omega (arith, p .1)
 
-one-step : (seen : Rules) (r : Rule) (g : Rules) → length seen < 128 → Distinct (seen ++ r ∷ g) → Every Legible seen → (x : Legible r) → ruleStep seen (rule-line r x .bytes) true ≡ next r
+one-step : (seen : Rules) (r : Rule) (g : Rules) → length seen < 128 → Distinct (seen ++ r ∷ g)
+    → Every Legible seen → (x : Legible r) → ruleStep seen (rule-line r x .bytes) true ≡ next r
 one-step seen r g l d h x =
-    ap (λ (b : Bool). stepAt 6 2 (ruleSaid seen (ruleLine (rule-line r x .bytes))) (cond b Turn.Many Turn.Whole)) (lt-leb 128 (length seen) l)
-    ∙ ap (ruleSaid seen) (rule-line r x .says) ∙ ap (λ (b : Bool). cond b (stop 5) (next r)) (fresh seen r g d h x)
+    ap (λ (b : Bool). stepAt 6 2 (ruleSaid seen (ruleLine (rule-line r x .bytes)))
+    (cond b Turn.Many Turn.Whole)) (lt-leb 128 (length seen) l)
+    ∙ ap (ruleSaid seen) (rule-line r x .says) ∙ ap (λ (b : Bool). cond b (stop 5) (next r))
+    (fresh seen r g d h x)
 
-all-items : (seen g : Rules) → length (seen ++ g) ≤ 128 → Distinct (seen ++ g) → Every Legible seen → (h : Every Legible g) → itemsFrom ruleStep seen (rows g h) ≡ accepted (seen ++ g)
+all-items : (seen g : Rules) → length (seen ++ g) ≤ 128 → Distinct (seen ++ g) → Every Legible seen
+    → (h : Every Legible g) → itemsFrom ruleStep seen (rows g h) ≡ accepted (seen ++ g)
 unfolding rows
 all-items seen [] l d k h = ap accepted (sym (append-nil seen))
 all-items seen (r ∷ g) l d k h =
     let n : length seen < 128 = omega (arith, length-append seen (r ∷ g)) in
     let e : (seen ++ r ∷ []) ++ g ≡ seen ++ r ∷ g = append-assoc seen (r ∷ []) g in
-    ap (λ (b : Bool). onStep seen (ruleStep seen (rule-line r (h .0) .bytes) (not b)) (λ t. itemsFrom ruleStep (seen ++ t ∷ []) (rows g (h .1)))) (rows-some g (h .1))
-    ∙ ap (λ (s : Step Rule). onStep seen s (λ t. itemsFrom ruleStep (seen ++ t ∷ []) (rows g (h .1)))) (one-step seen r g n d k (h .0))
-    ∙ all-items (seen ++ r ∷ []) g (rw e l) (rw e d) (every-append Legible seen (r ∷ []) k (h .0, tt)) (h .1)
-    ∙ ap accepted e
+    ap (λ (b : Bool). onStep seen (ruleStep seen (rule-line r (h .0) .bytes) (not b))
+    (λ t. itemsFrom ruleStep (seen ++ t ∷ []) (rows g (h .1)))) (rows-some g (h .1))
+    ∙ ap (λ (s : Step Rule). onStep seen s
+    (λ t. itemsFrom ruleStep (seen ++ t ∷ []) (rows g (h .1)))) (one-step seen r g n d k (h .0))
+    ∙ all-items (seen ++ r ∷ []) g (rw e l) (rw e d)
+    (every-append Legible seen (r ∷ []) k (h .0, tt)) (h .1) ∙ ap accepted e
 
 -- 6. the sheet
 
 -- behind the names the lines are read
-names-read : (names rest : List ℕ) (ps : List (List ℕ)) → FreeOf 10 names → sameBytes names names ≡ true → pieces 10 rest ≡ ps → isEmpty ps ≡ false
+names-read : (names rest : List ℕ) (ps : List (List ℕ)) → FreeOf 10 names
+    → sameBytes names names ≡ true → pieces 10 rest ≡ ps → isEmpty ps ≡ false
     → withNames (refused 1 1) names (pieces 10 (names ++ (10 ∷ rest))) rulesFrom ≡ rulesFrom ps
 names-read names rest ps f s e n =
-    ap (λ (qs : List (List ℕ)). withNames (refused 1 1) names qs rulesFrom) (pieces-cut 10 names rest f ∙ ap (λ (qs : List (List ℕ)). names ∷ qs) e)
+    ap (λ (qs : List (List ℕ)). withNames (refused 1 1) names qs rulesFrom)
+    (pieces-cut 10 names rest f ∙ ap (λ (qs : List (List ℕ)). names ∷ qs) e)
     ∙ (λ i. cond (not (n i) && s i) (rulesFrom ps) (refused 1 1))
 
 names-free : FreeOf 10 ruleNames
@@ -405,5 +471,6 @@ names-same = refl
 
 pub reads-back : (g : Rules) → GoodRules g → Every Legible g → ruleSheet (sheetText g) ≡ accepted g
 reads-back g x h =
-    names-read ruleNames (rulesText g) (rows g h) names-free names-same (rules-pieces g h) (rows-some g h)
+    names-read ruleNames (rulesText g) (rows g h) names-free names-same (rules-pieces g h)
+    (rows-some g h)
     ∙ ap finish (all-items [] g (x .few) (x .distinct) tt h) ∙ finish-good g (x .start)

@@ -1,4 +1,5 @@
--- The sheet that `expand` gives is read back to the expansion's rules: a clause sheet's answers are those of that rule sheet.
+-- The sheet that `expand` gives is read back to the expansion's rules: a clause sheet's answers are
+-- those of that rule sheet.
 use mathlib.Core.Path.{_≡_, refl, sym, ap, _∙_}
 use mathlib.Core.List.{List, [], _∷_}
 use Prim.Native.Nat.{ℕ, _-_}
@@ -36,33 +37,42 @@ legible (r ∷ g) s f = (record { small = s .0; forward = f .0 }, legible g (s .
 
 module _ (s : List ℕ) (g : Rules) (e : clauseSheet s ≡ accepted g) where
   pub expansion-reads-back : ruleSheet (sheetText g) ≡ accepted g
-  expansion-reads-back = let x = sheet-good s g e in reads-back g x (legible g (x .small) (sheet-forward s g e))
+  expansion-reads-back = let x = sheet-good s g e in
+      reads-back g x (legible g (x .small) (sheet-forward s g e))
 
   -- both sheets give the same
   pub same-sheet : clauseSheet s ≡ ruleSheet (sheetText g)
   same-sheet = e ∙ sym expansion-reads-back
 
-  pub expanded-verdict : (tokens : List ℕ) {ws ws′ : List ℕ} {r : Reply} → ClauseVerdict s tokens ws ws′ r → VerdictOf (sheetText g) tokens ws ws′ r
+  pub expanded-verdict : (tokens : List ℕ) {ws ws′ : List ℕ} {r : Reply}
+      → ClauseVerdict s tokens ws ws′ r → VerdictOf (sheetText g) tokens ws ws′ r
   expanded-verdict tokens x = verdict-by same-sheet tokens x
 
   pub expanded-trees : (tokens : List ℕ) {ws ws′ one one′ two two′ : List ℕ} {r : TreesReply}
-      → ClauseTrees s tokens ws ws′ one one′ two two′ r → TreesOf (sheetText g) tokens ws ws′ one one′ two two′ r
+      → ClauseTrees s tokens ws ws′ one one′ two two′ r
+      → TreesOf (sheetText g) tokens ws ws′ one one′ two two′ r
   expanded-trees tokens x = trees-by same-sheet tokens x
 
-  pub expanded-sweep : {k : ℕ} {ws ws′ : List ℕ} {r : SweepReply} → ClauseSweep s k ws ws′ r → SweepOf (sheetText g) k ws ws′ r
+  pub expanded-sweep : {k : ℕ} {ws ws′ : List ℕ} {r : SweepReply} → ClauseSweep s k ws ws′ r
+      → SweepOf (sheetText g) k ws ws′ r
   expanded-sweep x = sweep-by same-sheet x
 
 -- the bytes that the call gives
-given-bytes : {bytes out out′ : List ℕ} {f : Answer} {r : ListReply} → (f ≡ Answer.Given → ⊥) → r .answer ≡ Answer.Given
-    → GivesList (listReply Answer.Given 0) (listReply f 0 0) bytes (length bytes) out out′ r → take (r .count) out′ ≡ bytes
-given-bytes {bytes} {out} n a (fits h x p) = (λ i. take (x i .count) (p i)) ∙ take-at bytes (replicate (length out - length bytes) 0) (length bytes) refl
+given-bytes : {bytes out out′ : List ℕ} {f : Answer} {r : ListReply} → (f ≡ Answer.Given → ⊥)
+    → r .answer ≡ Answer.Given
+    → GivesList (listReply Answer.Given 0) (listReply f 0 0) bytes (length bytes) out out′ r
+    → take (r .count) out′ ≡ bytes
+given-bytes {bytes} {out} n a (fits h x p) = (λ i. take (x i .count) (p i))
+    ∙ take-at bytes (replicate (length out - length bytes) 0) (length bytes) refl
 given-bytes n a (large h x p) = absurd (n (sym (ap (λ (z : ListReply). z .answer) x) ∙ a))
 
 refused-given : {f : Fault} → Answer.Refused f ≡ Answer.Given → ⊥
 refused-given e = clash cc
 
-pub expand-reads-back : {s out out′ : List ℕ} {r : ListReply} → ExpandOf s out out′ r → r .answer ≡ Answer.Given → ruleSheet (take (r .count) out′) ≡ clauseSheet s
-expand-reads-back (refusing e x h) a = absurd (refused-given (sym (ap (λ (z : ListReply). z .answer) x) ∙ a))
+pub expand-reads-back : {s out out′ : List ℕ} {r : ListReply} → ExpandOf s out out′ r
+    → r .answer ≡ Answer.Given → ruleSheet (take (r .count) out′) ≡ clauseSheet s
+expand-reads-back (refusing e x h) a =
+    absurd (refused-given (sym (ap (λ (z : ListReply). z .answer) x) ∙ a))
 expand-reads-back {s} {out} {out′} {r} (giving {g = g} e l) a =
     let b : take (r .count) out′ ≡ sheetText g = given-bytes refused-given a (l .gives) in
     ap ruleSheet b ∙ sym (same-sheet s g e)

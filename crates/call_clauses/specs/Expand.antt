@@ -21,6 +21,9 @@ sheetText g = ruleNames ++ (10 ∷ rulesText g)
 -- what the call answers, and what it leaves of the lent bytes; an entry of the list is a byte
 pub data ExpandOf (clauses out out′ : List ℕ) (r : ListReply) : Type 0 where
   -- a refused clause sheet: its number and line; no byte changes
-  refusing : {f : Fault} {l : ℕ} → RefusedAs (clauseSheet clauses) f l → r ≡ listReply (Answer.Refused f) l 0 → out′ ≡ out → ExpandOf clauses out out′ r
+  refusing : {f : Fault} {l : ℕ} → RefusedAs (clauseSheet clauses) f l
+      → r ≡ listReply (Answer.Refused f) l 0 → out′ ≡ out → ExpandOf clauses out out′ r
   -- the sheet of the expansion's rules
-  giving : {g : Rules} → clauseSheet clauses ≡ accepted g → ListOn Answer.Given (sheetText g) (length (sheetText g)) out out′ r → ExpandOf clauses out out′ r
+  giving : {g : Rules} → clauseSheet clauses ≡ accepted g
+      → ListOn Answer.Given (sheetText g) (length (sheetText g)) out out′ r
+      → ExpandOf clauses out out′ r

@@ -28,7 +28,8 @@ ghost use Rattle.call_clauses.specs.Expand.{sheetText, ExpandOf};
 
 // The verdict on a sentence: can it be read in no way, one or two? The span sheet is filled.
 pub fn verdict(clauses: &[u8], tokens: &[u8], words: &mut [u64]) -> Reply
-    ensures { λ r. ⌜ ClauseVerdict (now (clauses .entry)) (now (tokens .entry)) (now (words .entry)) (now (words .exit)) r ⌝ }
+    ensures { λ r. ⌜ ClauseVerdict (now (clauses .entry)) (now (tokens .entry)) (now (words .entry))
+        (now (words .exit)) r ⌝ }
 {
     verdict_read(read_clauses(clauses), tokens, words)
 }
@@ -41,14 +42,18 @@ pub fn trees(
     first: &mut [u8],
     second: &mut [u8],
 ) -> TreesReply
-    ensures { λ r. ⌜ ClauseTrees (now (clauses .entry)) (now (tokens .entry)) (now (words .entry)) (now (words .exit)) (now (first .entry)) (now (first .exit)) (now (second .entry)) (now (second .exit)) r ⌝ }
+    ensures { λ r. ⌜ ClauseTrees (now (clauses .entry)) (now (tokens .entry)) (now (words .entry))
+        (now (words .exit)) (now (first .entry)) (now (first .exit)) (now (second .entry))
+        (now (second .exit)) r ⌝ }
 {
     trees_read(read_clauses(clauses), tokens, words, first, second)
 }
 
-// Is there a sentence of 1 to `bound` tokens that can be read in two ways? The first candidate that has two trees, or clear.
+// Is there a sentence of 1 to `bound` tokens that can be read in two ways? The first candidate that
+// has two trees, or clear.
 pub fn sweep(clauses: &[u8], bound: usize, words: &mut [u64]) -> SweepReply
-    ensures { λ r. ⌜ ClauseSweep (now (clauses .entry)) bound (now (words .entry)) (now (words .exit)) r ⌝ }
+    ensures { λ r. ⌜ ClauseSweep (now (clauses .entry)) bound (now (words .entry))
+        (now (words .exit)) r ⌝ }
 {
     sweep_read(read_clauses(clauses), bound, words)
 }
@@ -56,7 +61,8 @@ pub fn sweep(clauses: &[u8], bound: usize, words: &mut [u64]) -> SweepReply
 // The rule sheet of rules that were read, given as a list of its bytes.
 fn expanded(g: Grammar, out: &mut [u8]) -> ListReply
     requires { ⌜ Formed g ⌝ }
-    ensures { λ r. ⌜ ListOn Answer.Given (sheetText (rulesOf g)) (length (sheetText (rulesOf g))) (now (out .entry)) (now (out .exit)) r ⌝ }
+    ensures { λ r. ⌜ ListOn Answer.Given (sheetText (rulesOf g)) (length (sheetText (rulesOf g)))
+        (now (out .entry)) (now (out .exit)) r ⌝ }
 {
     let mut sheet = [0u8; 4096];
     let n = put_bytes(&mut sheet, 0, b"left kind first second lay\n");
@@ -84,10 +90,11 @@ pub fn expand(clauses: &[u8], out: &mut [u8]) -> ListReply
     }
 }
 
-// The refused line of a call with a clause sheet and a token sheet, as a part of the sheet that holds it;
-// with no such line, the clause sheet's first zero bytes.
+// The refused line of a call with a clause sheet and a token sheet, as a part of the sheet that
+// holds it; with no such line, the clause sheet's first zero bytes.
 pub fn refused_line<'a>(clauses: &'a [u8], tokens: &'a [u8]) -> &'a [u8]
-    ensures { λ r. ⌜ Hands (clauses .entry) (tokens .entry) r (heldBy (clauseSheet (now (clauses .entry))) (tokenSheet (now (tokens .entry)))) ⌝ }
+    ensures { λ r. ⌜ Hands (clauses .entry) (tokens .entry) r
+        (heldBy (clauseSheet (now (clauses .entry))) (tokenSheet (now (tokens .entry)))) ⌝ }
 {
     let g = read_clauses(clauses);
     let t = read_tokens(tokens);

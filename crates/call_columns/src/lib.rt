@@ -1,4 +1,5 @@
-// The public call for columns read off a photograph: which verdicts some choice of columns within the ends gives (02, request 10).
+// The public call for columns read off a photograph: which verdicts some choice of columns within
+// the ends gives (02, request 10).
 use answering::Answer;
 use column_ranges::RangeSentence;
 use column_search::Flags;
@@ -18,8 +19,8 @@ ghost use Rattle.range_sheets.specs.RangeSheets.{rangeSheet};
 ghost use Rattle.call_columns.specs.Columns.{columnsRefusal, ColumnsOn, ColumnsOf};
 ghost use Rattle.column_ranges.specs.RangeSentences.{rangesOf, Spread};
 
-// Given, or refused with the refused line's number, or 0; and of each verdict: does some rising choice give it? On a refusal
-// all three are no.
+// Given, or refused with the refused line's number, or 0; and of each verdict: does some rising
+// choice give it? On a refusal all three are no.
 pub struct ColumnsReply {
     pub answer: Answer,
     pub line: usize,
@@ -45,7 +46,8 @@ fn refuse(f: Fault, line: usize) -> ColumnsReply
 fn answered(g: Grammar, r: RangeSentence, words: &mut [u64]) -> ColumnsReply
     requires { ⌜ Formed g ⌝ }
     requires { ⌜ Spread r ⌝ }
-    ensures { λ a. ⌜ ColumnsOn (rulesOf g) (rangesOf r) (now (words .entry)) (now (words .exit)) a ⌝ }
+    ensures { λ a. ⌜ ColumnsOn (rulesOf g) (rangesOf r) (now (words .entry)) (now (words .exit))
+        a ⌝ }
 {
     let n = r.count;
     if words.len() < size(n) {
@@ -59,9 +61,11 @@ fn answered(g: Grammar, r: RangeSentence, words: &mut [u64]) -> ColumnsReply
     }
 }
 
-// Which of none, one and two does some choice of columns within the ends give, with positions properly rising?
+// Which of none, one and two does some choice of columns within the ends give, with positions
+// properly rising?
 pub fn columns(rules: &[u8], ranges: &[u8], words: &mut [u64]) -> ColumnsReply
-    ensures { λ r. ⌜ ColumnsOf (now (rules .entry)) (now (ranges .entry)) (now (words .entry)) (now (words .exit)) r ⌝ }
+    ensures { λ r. ⌜ ColumnsOf (now (rules .entry)) (now (ranges .entry)) (now (words .entry))
+        (now (words .exit)) r ⌝ }
 {
     let a = read_rules(rules);
     let o = a.outcome;
@@ -82,10 +86,11 @@ pub fn columns(rules: &[u8], ranges: &[u8], words: &mut [u64]) -> ColumnsReply
     }
 }
 
-// The refused line of a call with a rule sheet and a range sheet, as a part of the sheet that holds it; with no such line, the
-// rule sheet's first zero bytes.
+// The refused line of a call with a rule sheet and a range sheet, as a part of the sheet that holds
+// it; with no such line, the rule sheet's first zero bytes.
 pub fn refused_line<'a>(rules: &'a [u8], ranges: &'a [u8]) -> &'a [u8]
-    ensures { λ r. ⌜ Hands (rules .entry) (ranges .entry) r (heldBy (ruleSheet (now (rules .entry))) (rangeSheet (now (ranges .entry)))) ⌝ }
+    ensures { λ r. ⌜ Hands (rules .entry) (ranges .entry) r
+        (heldBy (ruleSheet (now (rules .entry))) (rangeSheet (now (ranges .entry)))) ⌝ }
 {
     let g = read_rules(rules);
     let t = read_ranges(ranges);

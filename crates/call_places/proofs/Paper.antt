@@ -30,7 +30,8 @@ use Rattle.answering.proofs.Settled.{both-sheets, sheets-apart}
 use Rattle.grammar.specs.Distinct.{Distinct}
 
 -- the list is empty exactly if the verdict is not two
-pub count-two : (g : Rules) (w : Word) (a : Answer) (es : List Entry) → Distinct g → AnswerHolds a g w → AllPlaces g w es → (length es ≡ 0) ↔ (a ≡ Answer.Two → ⊥)
+pub count-two : (g : Rules) (w : Word) (a : Answer) (es : List Entry) → Distinct g
+    → AnswerHolds a g w → AllPlaces g w es → (length es ≡ 0) ↔ (a ≡ Answer.Two → ⊥)
 count-two g w a es d s l = (
   λ n e. places-empty d l .0 (none es n) (subst (λ (b : Answer). AnswerHolds b g w) e s),
   λ n. ap length (places-empty d l .1 (not-two a s n)),
@@ -47,27 +48,39 @@ count-two g w a es d s l = (
     not-two Answer.Clear s n t = s
     not-two (Answer.Refused f) s n t = s
 
--- a nonterminal over a word is listed exactly if the start reaches it and there are two dissimilar trees of it (the paper's 4.2 and 4.4)
-pub listed-iff : (rules tokens : List ℕ) (g : Rules) (w : Word) (es : List Entry) → sheets rules tokens ≡ accepted (g, w) → AllPlaces g w es
+-- a nonterminal over a word is listed exactly if the start reaches it and there are two dissimilar
+-- trees of it (the paper's 4.2 and 4.4)
+pub listed-iff : (rules tokens : List ℕ) (g : Rules) (w : Word) (es : List Entry)
+    → sheets rules tokens ≡ accepted (g, w) → AllPlaces g w es
     → (A start len : ℕ) → start + len ≤ length w → startOf start len ≡ start
-    → List·Memᴰ (record { nonterminal = A; start = start; len = len }) es ↔ (Reaches g 0 w A (part w start len) × Dissimilar g A (part w start len))
+    → List·Memᴰ (record { nonterminal = A; start = start; len = len }) es
+    ↔ (Reaches g 0 w A (part w start len) × Dissimilar g A (part w start len))
 listed-iff rules tokens g w es e l A start len h s =
     let t = tokens-good tokens w (both-sheets (ruleSheet rules) tokens g w e .1) in
-    let p = place-iff (sheets-apart rules tokens .distinct g w e) (t .wide) (t .rising) A start len h s in
-    (λ m. p .0 (mem-every _ es (l .each) m), λ x. l .all A start len (p .1 x))
+    let p = place-iff (sheets-apart rules tokens .distinct g w e) (t .wide) (t .rising) A start len
+    h s in (λ m. p .0 (mem-every _ es (l .each) m), λ x. l .all A start len (p .1 x))
 
--- and every nonterminal and word that the start reaches and that has two dissimilar trees is in the list, by a place where the word stands
-pub reached-listed : (g : Rules) (w : Word) (es : List Entry) → AllPlaces g w es → (A : ℕ) (v : Word) → Reaches g 0 w A v → Dissimilar g A v
-    → (start : ℕ) × List·Memᴰ (record { nonterminal = A; start = start; len = length v }) es × (part w start (length v) ≡ v)
-reached-listed g w es l A v r d = let p = reached-place r (dissimilar-several d) in (p .0, l .all A (p .0) (length v) (p .1), p .2)
+-- and every nonterminal and word that the start reaches and that has two dissimilar trees is in the
+-- list, by a place where the word stands
+pub reached-listed : (g : Rules) (w : Word) (es : List Entry) → AllPlaces g w es
+    → (A : ℕ) (v : Word) → Reaches g 0 w A v → Dissimilar g A v
+    → (start : ℕ) × List·Memᴰ (record { nonterminal = A; start = start; len = length v }) es
+    × (part w start (length v) ≡ v)
+reached-listed g w es l A v r d = let p = reached-place r (dissimilar-several d) in
+    (p .0, l .all A (p .0) (length v) (p .1), p .2)
 
 -- the reply's count is 0 exactly if the answer is not two, unless the call is refused
-pub count-zero : {rules tokens words words′ list list′ : List ℕ} {r : PlacesReply} → PlacesOf rules tokens words words′ list list′ r
-    → ((f : Fault) → r .answer ≡ Answer.Refused f → ⊥) → (r .count ≡ 0) ↔ (r .answer ≡ Answer.Two → ⊥)
+pub count-zero : {rules tokens words words′ list list′ : List ℕ} {r : PlacesReply}
+    → PlacesOf rules tokens words words′ list list′ r
+    → ((f : Fault) → r .answer ≡ Answer.Refused f → ⊥)
+    → (r .count ≡ 0) ↔ (r .answer ≡ Answer.Two → ⊥)
 count-zero (refusing {f = f} e x h i) n = absurd (n f (ap (λ (z : PlacesReply). z .answer) x))
-count-zero (reading e (short {f = f} l m x h i)) n = absurd (n f (ap (λ (z : PlacesReply). z .answer) x))
-count-zero {r = r} (reading e (listing {a = a} {f = f} s l m (large k x h) z)) n = absurd (n f (ap (λ (z : PlacesReply). z .answer) x))
-count-zero {rules} {tokens} {r = r} (reading {g = g} {w = w} e (listing {a = a} {es = es} s l m (fits k x h) z)) n =
+count-zero (reading e (short {f = f} l m x h i)) n =
+    absurd (n f (ap (λ (z : PlacesReply). z .answer) x))
+count-zero {r = r} (reading e (listing {a = a} {f = f} s l m (large k x h) z)) n =
+    absurd (n f (ap (λ (z : PlacesReply). z .answer) x))
+count-zero {rules} {tokens} {r = r}
+    (reading {g = g} {w = w} e (listing {a = a} {es = es} s l m (fits k x h) z)) n =
     let c = count-two g w a es (sheets-apart rules tokens .distinct g w e) s l in
     let p : r .count ≡ length es = ap (λ (z : PlacesReply). z .count) x in
     let q : r .answer ≡ a = ap (λ (z : PlacesReply). z .answer) x in

@@ -22,13 +22,16 @@ use Rattle.grammar.specs.Distinct.{Distinct}
 
 -- 64 tokens have 2,081 pairs
 module _ {g : Rules} {w : Word} where
-  pub too-few : {n : ℕ} {ws l : List ℕ} {r : PlacesReply} → length w ≡ n → length ws < 2 * pairs n → r ≡ placesRefusal Fault.FewWords 0 → PlacesOn g w ws ws l l r
+  pub too-few : {n : ℕ} {ws l : List ℕ} {r : PlacesReply} → length w ≡ n → length ws < 2 * pairs n
+      → r ≡ placesRefusal Fault.FewWords 0 → PlacesOn g w ws ws l l r
   too-few e h q = short (omega (arith, ap pairs e)) refl q refl refl
 
   -- where there are not two trees, there is no place
-  pub given-none : {l l′ : List ℕ} {c : Listed} → Distinct g → (TwoTrees g 0 w → ⊥) → NothingGiven l l′ c → PlacesGiven g w l l′ c
+  pub given-none : {l l′ : List ℕ} {c : Listed} → Distinct g → (TwoTrees g 0 w → ⊥)
+      → NothingGiven l l′ c → PlacesGiven g w l l′ c
   given-none d n x = record { entries = []; places = places-none d n; gives = x }
 
-  pub placed : {ws ws′ l l′ : List ℕ} {c : Listed} {r : PlacesReply} (a : Answer) → SheetFilled g w ws ws′ → AnswerHolds a g w → PlacesGiven g w l l′ c → r ≡ replied a c
+  pub placed : {ws ws′ l l′ : List ℕ} {c : Listed} {r : PlacesReply} (a : Answer)
+      → SheetFilled g w ws ws′ → AnswerHolds a g w → PlacesGiven g w l l′ c → r ≡ replied a c
       → PlacesOn g w ws ws′ l l′ r
   placed a f s x e = rw e (listing s (x .places) refl (gives-map (replied a) (x .gives)) f)

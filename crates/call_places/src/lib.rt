@@ -1,4 +1,5 @@
-// The public call for places: all nonterminals and words at which the readings of a sentence part (02, request 11).
+// The public call for places: all nonterminals and words at which the readings of a sentence part
+// (02, request 11).
 use answering::Answer;
 use chart::Verdict;
 use contained_spans::reached;
@@ -70,8 +71,10 @@ fn list_none(list: &mut [u8]) -> Listed
 fn list_two(words: &[u64], s: Sentence, g: Grammar, list: &mut [u8]) -> Listed
     requires { ⌜ Formed g ⌝ }
     requires { ⌜ Positioned s ⌝ }
-    requires { ⌜ SpanSheet (rulesOf g) (spelled s) (now words) × TwoTrees (rulesOf g) 0 (spelled s) ⌝ }
-    ensures { λ r. ⌜ PlacesGiven (rulesOf g) (spelled s) (now (list .entry)) (now (list .exit)) r ⌝ }
+    requires { ⌜ SpanSheet (rulesOf g) (spelled s) (now words)
+        × TwoTrees (rulesOf g) 0 (spelled s) ⌝ }
+    ensures { λ r. ⌜ PlacesGiven (rulesOf g) (spelled s) (now (list .entry)) (now (list .exit))
+        r ⌝ }
 {
     let mut reach = [0u64; 2081];
     reached(words, s, g, &mut reach);
@@ -82,7 +85,8 @@ fn list_two(words: &[u64], s: Sentence, g: Grammar, list: &mut [u8]) -> Listed
 fn listed(words: &mut [u64], s: Sentence, g: Grammar, list: &mut [u8]) -> PlacesReply
     requires { ⌜ Formed g ⌝ }
     requires { ⌜ Positioned s ⌝ }
-    ensures { λ r. ⌜ PlacesOn (rulesOf g) (spelled s) (now (words .entry)) (now (words .exit)) (now (list .entry)) (now (list .exit)) r ⌝ }
+    ensures { λ r. ⌜ PlacesOn (rulesOf g) (spelled s) (now (words .entry)) (now (words .exit))
+        (now (list .entry)) (now (list .exit)) r ⌝ }
 {
     let n = s.count;
     if words.len() < size(n) {
@@ -96,9 +100,11 @@ fn listed(words: &mut [u64], s: Sentence, g: Grammar, list: &mut [u8]) -> Places
     }
 }
 
-// The verdict on a sentence, and all places at which its readings part, three bytes an entry, in the lent bytes. The span sheet is filled.
+// The verdict on a sentence, and all places at which its readings part, three bytes an entry, in
+// the lent bytes. The span sheet is filled.
 pub fn places(rules: &[u8], tokens: &[u8], words: &mut [u64], list: &mut [u8]) -> PlacesReply
-    ensures { λ r. ⌜ PlacesOf (now (rules .entry)) (now (tokens .entry)) (now (words .entry)) (now (words .exit)) (now (list .entry)) (now (list .exit)) r ⌝ }
+    ensures { λ r. ⌜ PlacesOf (now (rules .entry)) (now (tokens .entry)) (now (words .entry))
+        (now (words .exit)) (now (list .entry)) (now (list .exit)) r ⌝ }
 {
     let a = read_rules(rules);
     let o = a.outcome;

@@ -1,4 +1,5 @@
-// The public calls on a shared tour (02, request 12): the trees as a user may see them, and a rule sheet with a mark that a user may change.
+// The public calls on a shared tour (02, request 12): the trees as a user may see them, and a rule
+// sheet with a mark that a user may change.
 use answering::Answer;
 use answering::ListReply;
 use answering::TreesReply;
@@ -40,7 +41,8 @@ fn refused_trees(f: Fault, line: usize) -> TreesReply
     }
 }
 
-// The verdict on a sentence, and its one or two trees as the user may see them: a node outside the user's ranges is one row of kind 4.
+// The verdict on a sentence, and its one or two trees as the user may see them: a node outside the
+// user's ranges is one row of kind 4.
 pub fn show(
     rules: &[u8],
     tokens: &[u8],
@@ -50,7 +52,9 @@ pub fn show(
     first: &mut [u8],
     second: &mut [u8],
 ) -> TreesReply
-    ensures { λ r. ⌜ ShowOf (now (rules .entry)) (now (tokens .entry)) (now (rights .entry)) user (now (words .entry)) (now (words .exit)) (now (first .entry)) (now (first .exit)) (now (second .entry)) (now (second .exit)) r ⌝ }
+    ensures { λ r. ⌜ ShowOf (now (rules .entry)) (now (tokens .entry)) (now (rights .entry)) user
+        (now (words .entry)) (now (words .exit)) (now (first .entry)) (now (first .exit))
+        (now (second .entry)) (now (second .exit)) r ⌝ }
 {
     let a = read_rules(rules);
     let o = a.outcome;
@@ -93,7 +97,8 @@ fn refuse(f: Fault, line: usize) -> ListReply
 fn marked(rules: &[u8], c: Clause, rule: usize, lay: &[u8], bytes: &mut [u8]) -> ListReply
     requires { ⌜ Named (now rules) rule c ⌝ }
     requires { ⌜ rule ≤ 128 ⌝ }
-    ensures { λ r. ⌜ ChangeDone (now (rules .entry)) rule (now (lay .entry)) (now (bytes .entry)) (now (bytes .exit)) r ⌝ }
+    ensures { λ r. ⌜ ChangeDone (now (rules .entry)) rule (now (lay .entry)) (now (bytes .entry))
+        (now (bytes .exit)) r ⌝ }
 {
     match lay_word(lay) {
         LayWord::Not => refuse(Fault::RuleForm, rule + 1),
@@ -117,7 +122,8 @@ fn changed_to(
 ) -> ListReply
     requires { ⌜ Formed g ⌝ }
     requires { ⌜ ruleSheet (now rules) ≡ accepted (rulesOf g) ⌝ }
-    ensures { λ r. ⌜ ChangeOn (member changes) (now (rules .entry)) (rulesOf g) rule (now (lay .entry)) (now (bytes .entry)) (now (bytes .exit)) r ⌝ }
+    ensures { λ r. ⌜ ChangeOn (member changes) (now (rules .entry)) (rulesOf g) rule
+        (now (lay .entry)) (now (bytes .entry)) (now (bytes .exit)) r ⌝ }
 {
     if rule == 0 {
         return refuse(Fault::NoRight, 0);
@@ -134,7 +140,8 @@ fn changed_to(
     refuse(Fault::NoRight, 0)
 }
 
-// A rule sheet with another mark in the rule at a place, counted from 1, as a list of its bytes, if the user may change that rule.
+// A rule sheet with another mark in the rule at a place, counted from 1, as a list of its bytes, if
+// the user may change that rule.
 pub fn change(
     rules: &[u8],
     rights: &[u8],
@@ -143,7 +150,8 @@ pub fn change(
     lay: &[u8],
     bytes: &mut [u8],
 ) -> ListReply
-    ensures { λ r. ⌜ ChangeOf (now (rules .entry)) (now (rights .entry)) user rule (now (lay .entry)) (now (bytes .entry)) (now (bytes .exit)) r ⌝ }
+    ensures { λ r. ⌜ ChangeOf (now (rules .entry)) (now (rights .entry)) user rule
+        (now (lay .entry)) (now (bytes .entry)) (now (bytes .exit)) r ⌝ }
 {
     let a = read_rules(rules);
     let o = a.outcome;

@@ -33,16 +33,20 @@ tells-none : Tells (RowCount.Exact 0) 0
 tells-none = (refl, omega arith)
 
 module _ {g : Rules} {w : Word} where
-  pub too-few : {n : ℕ} {ws : List ℕ} {r : RowsReply} → length w ≡ n → length ws < 2 * pairs n → r ≡ rowsRefusal Fault.FewWords 0 → RowsOn g w ws ws r
+  pub too-few : {n : ℕ} {ws : List ℕ} {r : RowsReply} → length w ≡ n → length ws < 2 * pairs n
+      → r ≡ rowsRefusal Fault.FewWords 0 → RowsOn g w ws ws r
   too-few e h q = short (omega (arith, ap pairs e)) refl q refl
 
   module _ {ws ws′ : List ℕ} (x : SheetFilled g w ws ws′) where
-    pub counted-none : NoTree g 0 w → RowsOn g w ws ws′ (reply Answer.None (RowCount.Exact 0) (RowCount.Exact 0))
+    pub counted-none : NoTree g 0 w
+        → RowsOn g w ws ws′ (reply Answer.None (RowCount.Exact 0) (RowCount.Exact 0))
     counted-none p = counting {m = 0} {n = 0} p refl (treeless p refl refl) tells-none tells-none x
 
-    pub counted-one : {t : Tree} {m : RowCount} → OneTree g 0 w → FirstTree g 0 w t → Tells m (rowCount t) → RowsOn g w ws ws′ (reply Answer.One m (RowCount.Exact 0))
+    pub counted-one : {t : Tree} {m : RowCount} → OneTree g 0 w → FirstTree g 0 w t
+        → Tells m (rowCount t) → RowsOn g w ws ws′ (reply Answer.One m (RowCount.Exact 0))
     counted-one p f h = counting {n = 0} p refl (single p f refl refl) h tells-none x
 
-    pub counted-two : {t u : Tree} {m n : RowCount} → TwoTrees g 0 w → FirstTree g 0 w t → SecondTree g 0 w u → Tells m (rowCount t) × Tells n (rowCount u)
+    pub counted-two : {t u : Tree} {m n : RowCount} → TwoTrees g 0 w → FirstTree g 0 w t
+        → SecondTree g 0 w u → Tells m (rowCount t) × Tells n (rowCount u)
         → RowsOn g w ws ws′ (reply Answer.Two m n)
     counted-two p f s h = counting p refl (both p f s refl refl) (h .0) (h .1) x

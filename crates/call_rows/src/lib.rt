@@ -1,4 +1,5 @@
-// The public call for row counts: how many rows each tree has, before memory is set aside for them (02, request 6).
+// The public call for row counts: how many rows each tree has, before memory is set aside for them
+// (02, request 6).
 use answering::Answer;
 use chart::Verdict;
 use filling::judge;
@@ -17,7 +18,8 @@ ghost use Rattle.grammar.specs.Content.{rules as rulesOf, Formed, Positioned};
 ghost use Rattle.call_rows.specs.Rows.{rowsRefusal, RowsOn, RowsOf};
 ghost use Rattle.grammar.specs.Sentences.{spelled};
 
-// The verdict, with the refused line's number, or 0, and the row count of each tree, 0 for one that the verdict lacks.
+// The verdict, with the refused line's number, or 0, and the row count of each tree, 0 for one that
+// the verdict lacks.
 pub struct RowsReply {
     pub answer: Answer,
     pub line: usize,
@@ -80,7 +82,8 @@ fn counted(words: &mut [u64], s: Sentence, g: Grammar) -> RowsReply
 
 // The verdict on a sentence, and how many rows each of its trees has. The span sheet is filled.
 pub fn rows(rules: &[u8], tokens: &[u8], words: &mut [u64]) -> RowsReply
-    ensures { λ r. ⌜ RowsOf (now (rules .entry)) (now (tokens .entry)) (now (words .entry)) (now (words .exit)) r ⌝ }
+    ensures { λ r. ⌜ RowsOf (now (rules .entry)) (now (tokens .entry)) (now (words .entry))
+        (now (words .exit)) r ⌝ }
 {
     let a = read_rules(rules);
     let o = a.outcome;

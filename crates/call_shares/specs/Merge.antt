@@ -1,4 +1,5 @@
--- Reports of shares merged two by two: 02, "otherwise the lowest number from the shortest reporting length is the sweep's sentence".
+-- Reports of shares merged two by two: 02, "otherwise the lowest number from the shortest reporting
+-- length is the sweep's sentence".
 use mathlib.Core.Path.{_≡_}
 use mathlib.Core.Logic.{_⊎_}
 use Prim.Native.Nat.{ℕ, _≤_, _<_}
@@ -15,8 +16,8 @@ Refuses Answer.Clear = ⊥
 Refuses Answer.Given = ⊥
 Refuses (Answer.Refused f) = Unit {0}
 
--- a sentence of n tokens with the number N is reported, and the other report is clear, longer, or as long with a higher number M;
--- a clear report has no tokens
+-- a sentence of n tokens with the number N is reported, and the other report is clear, longer, or
+-- as long with a higher number M; a clear report has no tokens
 pub record Leads (n N m M : ℕ) : Type 0 where
   pub reports : 1 ≤ n
   pub sooner : (m ≡ 0) ⊎ ((n < m) ⊎ ((n ≡ m) × (N < M)))
@@ -30,4 +31,5 @@ pub data Merged (a b r : ShareReply) : Type 0 where
   first-refuses : Refuses (a .answer) → r ≡ a → Merged a b r
   second-refuses : (Refuses (a .answer) → ⊥) → Refuses (b .answer) → r ≡ b → Merged a b r
   second : (Refuses (a .answer) → ⊥) → (Refuses (b .answer) → ⊥) → Ahead b a → r ≡ b → Merged a b r
-  first : (Refuses (a .answer) → ⊥) → (Refuses (b .answer) → ⊥) → (Ahead b a → ⊥) → r ≡ a → Merged a b r
+  first : (Refuses (a .answer) → ⊥) → (Refuses (b .answer) → ⊥) → (Ahead b a → ⊥) → r ≡ a
+      → Merged a b r

@@ -1,4 +1,5 @@
--- What all reports come to, merged one after the other: 02, "otherwise the lowest number from the shortest reporting length is the sweep's sentence".
+-- What all reports come to, merged one after the other: 02, "otherwise the lowest number from the
+-- shortest reporting length is the sweep's sentence".
 use mathlib.Core.Path.{_≡_}
 use mathlib.Core.List.{List, [], _∷_, _++_}
 use Rattle.call_shares.specs.declared.ShareReply.{ShareReply}
@@ -30,5 +31,10 @@ pub record Answered (g : Rules) (n p i : ℕ) (r : ShareReply) : Type 0 where
 pub data Sweeps (g : Rules) (k : ℕ) (r : ShareReply) : Type 0 where
   some-refused : Refuses (r .answer) → Sweeps g k r
   all-clear : Clear g k → r .answer ≡ Answer.Clear → r .sentence .count ≡ 0 → Sweeps g k r
-  first-found : {cs : List Cell} → FirstTwo g k cs → r .answer ≡ Answer.Two → r .number ≡ number g (length cs) cs
-      → r .sentence ≡ record { tokens = sentence cs ++ replicate (64 - length (sentence cs)) no-token; count = length (sentence cs) } → Sweeps g k r
+  first-found : {cs : List Cell} → FirstTwo g k cs → r .answer ≡ Answer.Two
+      → r .number ≡ number g (length cs) cs
+      → r .sentence ≡ record {
+        tokens = sentence cs ++ replicate (64 - length (sentence cs))
+            no-token;
+        count = length (sentence cs);
+      } → Sweeps g k r

@@ -1,4 +1,5 @@
--- The promise of the call `share`: 02, "The sweep divided among racks", and 01, "Where each refusal is checked".
+-- The promise of the call `share`: 02, "The sweep divided among racks", and 01, "Where each refusal
+-- is checked".
 use mathlib.Core.Path.{_≡_}
 use mathlib.Core.Logic.{_⊎_}
 use mathlib.Core.List.{List, [], _++_}
@@ -23,13 +24,29 @@ use Rattle.call_shares.specs.declared.ShareReply.{ShareReply}
 use Rattle.grammar.specs.Sentences.{no-token}
 use Rattle.sweeping.specs.Cleared.{cleared}
 
--- the answer with its number, quotient and remainder holds the word, and its token places past it are 0
+-- the answer with its number, quotient and remainder holds the word, and its token places past it
+-- are 0
 abbrev pub shareReplyOf : Answer → ℕ → ℕ → ℕ → Word → ShareReply
-shareReplyOf a N q r w = record { answer = a; line = 0; number = N; quotient = q; remainder = r; sentence = record { tokens = w ++ replicate (64 - length w) no-token; count = length w } }
+shareReplyOf a N q r w = record {
+  answer = a;
+  line = 0;
+  number = N;
+  quotient = q;
+  remainder = r;
+  sentence =
+      record { tokens = w ++ replicate (64 - length w) no-token; count = length w };
+}
 
 -- a refusal: no number, no quotient, no remainder and no token
 abbrev pub shareRefusal : Fault → ℕ → ShareReply
-shareRefusal f l = record { answer = Answer.Refused f; line = l; number = 0; quotient = 0; remainder = 0; sentence = noSentence }
+shareRefusal f l = record {
+  answer = Answer.Refused f;
+  line = l;
+  number = 0;
+  quotient = 0;
+  remainder = 0;
+  sentence = noSentence;
+}
 
 -- a length that is taken on: 23 and 24 are not given
 pub record Length (g : Rules) (n : ℕ) : Type 0 where
@@ -60,18 +77,22 @@ pub data ShareOn (g : Rules) (n p i : ℕ) (words words′ : List ℕ) (r : Shar
   beyond : {f : Fault} → Length g n → 1 ≤ p → p ≤ 64 → p ≤ i → numberOf f ≡ 46
       → r ≡ shareRefusal f 0 → words′ ≡ words → ShareOn g n p i words words′ r
   -- fewer words than the span sheet of n tokens needs
-  short : {f : Fault} → Length g n → 1 ≤ p → p ≤ 64 → i < p → length words < 2 * pairs n → numberOf f ≡ 21
-      → r ≡ shareRefusal f 0 → words′ ≡ words → ShareOn g n p i words words′ r
+  short : {f : Fault} → Length g n → 1 ≤ p → p ≤ 64 → i < p → length words < 2 * pairs n
+      → numberOf f ≡ 21 → r ≡ shareRefusal f 0 → words′ ≡ words → ShareOn g n p i words words′ r
   -- clear: no number of the share whose arrangement rises has two trees
   clear : ShareTaken g n p i words → Reports g n p i none
-      → r ≡ shareReplyOf Answer.Clear 0 (total g n / p) (total g n % p) [] → words′ ≡ cleared n words → ShareOn g n p i words words′ r
+      → r ≡ shareReplyOf Answer.Clear 0 (total g n / p) (total g n % p) []
+      → words′ ≡ cleared n words → ShareOn g n p i words words′ r
   -- two: the lowest number of the share whose arrangement rises and has two trees, and its sentence
   two : {cs : List Cell} → ShareTaken g n p i words → Reports g n p i (some cs)
-      → r ≡ shareReplyOf Answer.Two (number g n cs) (total g n / p) (total g n % p) (sentence cs) → words′ ≡ cleared n words → ShareOn g n p i words words′ r
+      → r ≡ shareReplyOf Answer.Two (number g n cs) (total g n / p) (total g n % p) (sentence cs)
+      → words′ ≡ cleared n words → ShareOn g n p i words words′ r
 
 -- what the call answers, and what it leaves of the lent words
-pub data ShareOf (rules : List ℕ) (n p i : ℕ) (words words′ : List ℕ) (r : ShareReply) : Type 0 where
+pub data ShareOf (rules : List ℕ) (n p i : ℕ) (words words′ : List ℕ) (r : ShareReply) : Type
+    0 where
   -- a refused rule sheet
   refusing : {f : Fault} {l : ℕ} → RefusedAs (ruleSheet rules) f l
       → r ≡ shareRefusal f l → words′ ≡ words → ShareOf rules n p i words words′ r
-  reading : {g : Rules} → ruleSheet rules ≡ accepted g → ShareOn g n p i words words′ r → ShareOf rules n p i words words′ r
+  reading : {g : Rules} → ruleSheet rules ≡ accepted g → ShareOn g n p i words words′ r
+      → ShareOf rules n p i words words′ r

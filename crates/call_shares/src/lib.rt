@@ -1,4 +1,5 @@
-// The public call for one share of a sweep that is divided among racks, and the merging of their reports (02, request 8).
+// The public call for one share of a sweep that is divided among racks, and the merging of their
+// reports (02, request 8).
 use answering::Answer;
 use answering::nothing;
 use arrangement_numbers::all_numbers;
@@ -19,8 +20,8 @@ ghost use Rattle.sets.specs.Says.{Says};
 ghost use Rattle.call_shares.specs.Merge.{Refuses, Leads, Merged};
 ghost use Rattle.call_shares.specs.Share.{shareRefusal, Length, ShareTaken, ShareOn, ShareOf};
 
-// The answer of a share: besides, the lowest number, M ÷ p and its remainder, and the sentence, of no tokens where none was
-// found.
+// The answer of a share: besides, the lowest number, M ÷ p and its remainder, and the sentence, of
+// no tokens where none was found.
 pub struct ShareReply {
     pub answer: Answer,
     pub line: usize,
@@ -118,7 +119,8 @@ fn judged(g: Grammar, n: usize, p: usize, i: usize, words: &mut [u64]) -> ShareR
     divided(g, n, p, i, words)
 }
 
-// The lowest number of share `share` of `racks` whose arrangement of `length` tokens rises and can be read in two ways, or clear.
+// The lowest number of share `share` of `racks` whose arrangement of `length` tokens rises and can
+// be read in two ways, or clear.
 pub fn share(
     rules: &[u8],
     length: usize,
@@ -126,7 +128,8 @@ pub fn share(
     share: usize,
     words: &mut [u64],
 ) -> ShareReply
-    ensures { λ r. ⌜ ShareOf (now (rules .entry)) length racks share (now (words .entry)) (now (words .exit)) r ⌝ }
+    ensures { λ r. ⌜ ShareOf (now (rules .entry)) length racks share (now (words .entry))
+        (now (words .exit)) r ⌝ }
 {
     let a = read_rules(rules);
     let o = a.outcome;
@@ -153,7 +156,8 @@ fn refuses(a: Answer) -> bool
     }
 }
 
-// Does a report of n tokens and a number come before one of m tokens and another number? One of no tokens is clear.
+// Does a report of n tokens and a number come before one of m tokens and another number? One of no
+// tokens is clear.
 pub fn leads(n: usize, number: u64, m: usize, other: u64) -> bool
     ensures { λ r. ⌜ Says r (Leads n number m other) ⌝ }
 {
@@ -169,8 +173,9 @@ pub fn leads(n: usize, number: u64, m: usize, other: u64) -> bool
     n < m
 }
 
-// Two reports of shares merged: a refusal, else the one with the lower number of the shorter length. Merged one by one, the
-// reports of all shares of the lengths 1 to k come to the sweep's answer.
+// Two reports of shares merged: a refusal, else the one with the lower number of the shorter
+// length. Merged one by one, the reports of all shares of the lengths 1 to k come to the sweep's
+// answer.
 pub fn merge(a: ShareReply, b: ShareReply) -> ShareReply
     ensures { λ r. ⌜ Merged a b r ⌝ }
 {

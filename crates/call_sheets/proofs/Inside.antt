@@ -12,7 +12,12 @@ use Rattle.fields.proofs.Fields.{with-holds, end-holds}
 use Rattle.call_sheets.specs.declared.Call.{Call}
 use Rattle.call_sheets.specs.declared.Call.the-variants as Call
 use Rattle.call_sheets.specs.Inside.{Inside}
-use Rattle.call_sheets.specs.CallSheets.{clausesSheet, expandSheet, rowsSheet, columnsSheet, placesSheet, mergeSheet, boundStart, shareStart, showStart, changeStart, beginsWith, values, withNumber, shareEnd, shareThird, shareSecond, shareCall, broken, changeEnd, changeSecond, changeCall, alwaysCall, numberedCall, callOf}
+use Rattle.call_sheets.specs.CallSheets.{clausesSheet, expandSheet, rowsSheet, columnsSheet}
+use Rattle.call_sheets.specs.CallSheets.{placesSheet, mergeSheet, boundStart, shareStart}
+use Rattle.call_sheets.specs.CallSheets.{showStart, changeStart, beginsWith, values}
+use Rattle.call_sheets.specs.CallSheets.{withNumber, shareEnd, shareThird, shareSecond}
+use Rattle.call_sheets.specs.CallSheets.{shareCall, broken, changeEnd, changeSecond}
+use Rattle.call_sheets.specs.CallSheets.{changeCall, alwaysCall, numberedCall, callOf}
 use Rattle.call_sheets.specs.CallSheets.{alwaysSheet, clausesAlwaysSheet}
 use Rattle.call_sheets.proofs.Laws.{begins-long}
 
@@ -29,15 +34,18 @@ module _ (m : ℕ) where
   share-inside =
       with-holds (Inside m) Call.Not tt numeralOf shareSecond
       (λ n. with-holds (Inside m) Call.Not tt numeralOf (shareThird n)
-      (λ p. with-holds (Inside m) Call.Not tt numeralOf (shareEnd n p) (λ i. end-holds (Inside m) Call.Not tt (Call.Share n p i) tt)))
+      (λ p. with-holds (Inside m) Call.Not tt numeralOf (shareEnd n p)
+      (λ i. end-holds (Inside m) Call.Not tt (Call.Share n p i) tt)))
 
   end-inside : 0 < m → (u r : ℕ) (fs : List (List ℕ)) → Inside m (changeEnd m u r fs)
   end-inside h u r [] = tt
-  end-inside h u r (f ∷ []) = either (broken f) Call.Not (Call.Change u r (m - 1 - length f)) tt (omega arith)
+  end-inside h u r (f ∷ []) =
+      either (broken f) Call.Not (Call.Change u r (m - 1 - length f)) tt (omega arith)
   end-inside h u r (f ∷ g ∷ fs) = tt
 
   change-inside : 0 < m → (fs : List (List ℕ)) → Inside m (changeCall m fs)
-  change-inside h = with-holds (Inside m) Call.Not tt numeralOf (changeSecond m) (λ u. with-holds (Inside m) Call.Not tt numeralOf (changeEnd m u) (end-inside h u))
+  change-inside h = with-holds (Inside m) Call.Not tt numeralOf (changeSecond m)
+      (λ u. with-holds (Inside m) Call.Not tt numeralOf (changeEnd m u) (end-inside h u))
 
 always-inside : (m : ℕ) (s : List ℕ) → Inside m (alwaysCall s)
 always-inside m s =
@@ -46,16 +54,25 @@ always-inside m s =
 
 numbered-inside : (s : List ℕ) → Inside (length s) (numberedCall s)
 numbered-inside s =
-    either m (beginsWith boundStart s) (withNumber (numeralOf (values boundStart s)) Call.ClausesSweep) _ (numbered m (numeralOf (values boundStart s)) Call.ClausesSweep (λ v. tt))
-    (either m (beginsWith showStart s) (withNumber (numeralOf (values showStart s)) Call.Show) _ (numbered m (numeralOf (values showStart s)) Call.Show (λ v. tt))
-    (either m (beginsWith shareStart s) (shareCall (pieces 32 (values shareStart s))) _ (share-inside m (pieces 32 (values shareStart s)))
+    either m (beginsWith boundStart s)
+    (withNumber (numeralOf (values boundStart s)) Call.ClausesSweep) _
+    (numbered m (numeralOf (values boundStart s)) Call.ClausesSweep (λ v. tt))
+    (either m (beginsWith showStart s)
+    (withNumber (numeralOf (values showStart s)) Call.Show) _
+    (numbered m (numeralOf (values showStart s)) Call.Show (λ v. tt))
+    (either m (beginsWith shareStart s)
+    (shareCall (pieces 32 (values shareStart s))) _
+    (share-inside m (pieces 32 (values shareStart s)))
     (go (beginsWith changeStart s) refl)))
   where
     m : ℕ
     m = length s
 
-    go : (b : Bool) → beginsWith changeStart s ≡ b → Inside (length s) (cond b (changeCall (length s) (pieces 32 (values changeStart s))) (alwaysCall s))
-    go true e = change-inside (length s) (omega (arith, begins-long changeStart s e)) (pieces 32 (values changeStart s))
+    go : (b : Bool) → beginsWith changeStart s ≡ b
+        → Inside (length s) (cond b (changeCall (length s) (pieces 32 (values changeStart s)))
+        (alwaysCall s))
+    go true e = change-inside (length s) (omega (arith, begins-long changeStart s e))
+        (pieces 32 (values changeStart s))
     go false e = always-inside (length s) s
 
 pub call-inside : (s : List ℕ) → Inside (length s) (callOf s)
@@ -65,4 +82,5 @@ call-inside s =
     (either m (sameBytes s expandSheet) Call.Expand _ tt
     (either m (sameBytes s rowsSheet) Call.Rows _ tt
     (either m (sameBytes s columnsSheet) Call.Columns _ tt
-    (either m (sameBytes s placesSheet) Call.Places _ tt (either m (sameBytes s mergeSheet) Call.Merge _ tt (numbered-inside s))))))
+    (either m (sameBytes s placesSheet) Call.Places _ tt
+    (either m (sameBytes s mergeSheet) Call.Merge _ tt (numbered-inside s))))))

@@ -28,8 +28,10 @@ module _ (f : List ℕ) (i : ℕ) (h : i < length f) where
   pub field-break : (getD f i 0 ≡ 32 → ⊥) → getD f i 0 ≡ 10 → oneField (drop i f) ≡ false
   field-break n e = rw (drop-cons f i 0 h, ne-eqb (getD f i 0) 32 n, eq-eqb (getD f i 0) 10 e)
 
-  pub field-more : (getD f i 0 ≡ 32 → ⊥) → (getD f i 0 ≡ 10 → ⊥) → oneField (drop i f) ≡ oneField (drop (i + 1) f)
-  field-more n m = rw (add-one i, drop-cons f i 0 h, ne-eqb (getD f i 0) 32 n, ne-eqb (getD f i 0) 10 m)
+  pub field-more : (getD f i 0 ≡ 32 → ⊥) → (getD f i 0 ≡ 10 → ⊥)
+      → oneField (drop i f) ≡ oneField (drop (i + 1) f)
+  field-more n m =
+      rw (add-one i, drop-cons f i 0 h, ne-eqb (getD f i 0) 32 n, ne-eqb (getD f i 0) 10 m)
 
 pub field-end : (f : List ℕ) (i : ℕ) → length f ≤ i → oneField (drop i f) ≡ true
 field-end f i h = rw (drop-of-length-le f {i = i} h)
@@ -53,7 +55,8 @@ onto-break x [] h = rw h
 onto-break x (f ∷ []) h = rw h
 onto-break x (f ∷ g ∷ fs) h = refl
 
-onto-bad : (x : ℕ) (f : List ℕ) (fs : List (List ℕ)) → eqb x 10 ≡ false → bad (f ∷ fs) ≡ true → bad (onto x (f ∷ fs)) ≡ true
+onto-bad : (x : ℕ) (f : List ℕ) (fs : List (List ℕ)) → eqb x 10 ≡ false → bad (f ∷ fs) ≡ true
+    → bad (onto x (f ∷ fs)) ≡ true
 onto-bad x f [] h e = rw h e
 onto-bad x f (g ∷ fs) h e = refl
 
@@ -75,7 +78,8 @@ pub left-bad : (t : List ℕ) → oneField t ≡ false → bad (pieces 32 t) ≡
 left-bad [] e = let z : _≡_ {A = ℕ} 0 1 = cc in absurd (omega arith)
 left-bad (x ∷ t) e = go (eqb x 32) refl (eqb x 10) refl (first-piece t) (left-bad t)
   where
-    go : (b : Bool) → eqb x 32 ≡ b → (d : Bool) → eqb x 10 ≡ d → First (pieces 32 t) → (oneField t ≡ false → bad (pieces 32 t) ≡ true) → bad (pieces 32 (x ∷ t)) ≡ true
+    go : (b : Bool) → eqb x 32 ≡ b → (d : Bool) → eqb x 10 ≡ d → First (pieces 32 t)
+        → (oneField t ≡ false → bad (pieces 32 t) ≡ true) → bad (pieces 32 (x ∷ t)) ≡ true
     go true h d k q r = rw (h, q .is)
     go false h true k q r = rw h (onto-break x (pieces 32 t) k)
     go false h false k q r =
@@ -86,21 +90,26 @@ pub left-one : (t : List ℕ) → oneField t ≡ true → (pieces 32 t ≡ t ∷
 left-one [] e = (refl, refl)
 left-one (x ∷ t) e = go (eqb x 32) refl (eqb x 10) refl (left-one t)
   where
-    go : (b : Bool) → eqb x 32 ≡ b → (d : Bool) → eqb x 10 ≡ d → (oneField t ≡ true → (pieces 32 t ≡ t ∷ []) × (broken t ≡ false))
+    go : (b : Bool) → eqb x 32 ≡ b → (d : Bool) → eqb x 10 ≡ d
+        → (oneField t ≡ true → (pieces 32 t ≡ t ∷ []) × (broken t ≡ false))
         → (pieces 32 (x ∷ t) ≡ (x ∷ t) ∷ []) × (broken (x ∷ t) ≡ false)
-    go true h d k r = let f : _≡_ {A = Bool} false true = rw h at e in let z : _≡_ {A = ℕ} 0 1 = cc in absurd (omega arith)
-    go false h true k r = let f : _≡_ {A = Bool} false true = rw (h, k) at e in let z : _≡_ {A = ℕ} 0 1 = cc in absurd (omega arith)
+    go true h d k r = let f : _≡_ {A = Bool} false true = rw h at e in let z : _≡_ {A = ℕ} 0 1 =
+        cc in absurd (omega arith)
+    go false h true k r = let f : _≡_ {A = Bool} false true = rw (h, k) at e in
+        let z : _≡_ {A = ℕ} 0 1 = cc in absurd (omega arith)
     go false h false k r =
         let q = r (rw (h, k) at e) in
         (rw (h, q .0), rw (k, q .1))
 
 -- exactly one field left, which has no byte 10
-pub end-one : (m u r : ℕ) (t : List ℕ) → oneField t ≡ true → changeEnd m u r (pieces 32 t) ≡ Call.Change u r (m - 1 - length t)
+pub end-one : (m u r : ℕ) (t : List ℕ) → oneField t ≡ true
+    → changeEnd m u r (pieces 32 t) ≡ Call.Change u r (m - 1 - length t)
 end-one m u r t e = let q = left-one t e in rw (q .0, q .1)
 
 -- 3. a number by itself
 
-pub with-is : (o : Option ℕ) (k : ℕ → Call) (v : ℕ) → Number.Is v ≡ asNumber o → withNumber o k ≡ k v
+pub with-is : (o : Option ℕ) (k : ℕ → Call) (v : ℕ) → Number.Is v ≡ asNumber o
+    → withNumber o k ≡ k v
 with-is (some x) k v e = let p : x ≡ v = cc in ap k p
 with-is none k v e = let z : _≡_ {A = ℕ} 0 1 = cc in absurd (omega arith)
 
@@ -115,4 +124,5 @@ begins-long start s e = go (leb (length start + 1) (length s)) refl
   where
     go : (b : Bool) → leb (length start + 1) (length s) ≡ b → length start + 1 ≤ length s
     go true h = leb-true (length start + 1) (length s) h
-    go false h = let f : _≡_ {A = Bool} false true = rw h at e in let z : _≡_ {A = ℕ} 0 1 = cc in absurd (omega arith)
+    go false h = let f : _≡_ {A = Bool} false true = rw h at e in let z : _≡_ {A = ℕ} 0 1 = cc in
+        absurd (omega arith)

@@ -58,7 +58,8 @@ boundStart =
 -- `call length racks share`, `share `
 abbrev pub shareStart : List ℕ
 shareStart =
-    99 ∷ 97 ∷ 108 ∷ 108 ∷ 32 ∷ 108 ∷ 101 ∷ 110 ∷ 103 ∷ 116 ∷ 104 ∷ 32 ∷ 114 ∷ 97 ∷ 99 ∷ 107 ∷ 115 ∷ 32 ∷ 115 ∷ 104 ∷ 97 ∷ 114 ∷ 101 ∷ 10
+    99 ∷ 97 ∷ 108 ∷ 108 ∷ 32 ∷ 108 ∷ 101 ∷ 110 ∷ 103 ∷ 116 ∷ 104 ∷ 32 ∷ 114 ∷ 97 ∷ 99 ∷ 107 ∷ 115
+    ∷ 32 ∷ 115 ∷ 104 ∷ 97 ∷ 114 ∷ 101 ∷ 10
     ∷ 115 ∷ 104 ∷ 97 ∷ 114 ∷ 101 ∷ 32 ∷ []
 
 -- `call user`, `show `
@@ -70,12 +71,14 @@ showStart =
 -- `call user rule lay`, `change `
 abbrev pub changeStart : List ℕ
 changeStart =
-    99 ∷ 97 ∷ 108 ∷ 108 ∷ 32 ∷ 117 ∷ 115 ∷ 101 ∷ 114 ∷ 32 ∷ 114 ∷ 117 ∷ 108 ∷ 101 ∷ 32 ∷ 108 ∷ 97 ∷ 121 ∷ 10
+    99 ∷ 97 ∷ 108 ∷ 108 ∷ 32 ∷ 117 ∷ 115 ∷ 101 ∷ 114 ∷ 32 ∷ 114 ∷ 117 ∷ 108 ∷ 101 ∷ 32 ∷ 108 ∷ 97
+    ∷ 121 ∷ 10
     ∷ 99 ∷ 104 ∷ 97 ∷ 110 ∷ 103 ∷ 101 ∷ 32 ∷ []
 
 -- the sheet begins so, and ends with a byte 10
 abbrev pub beginsWith : List ℕ → List ℕ → Bool
-beginsWith start s = leb (length start + 1) (length s) && (sameBytes (take (length start) s) start && eqb (getD s (length s - 1) 0) 10)
+beginsWith start s = leb (length start + 1) (length s)
+    && (sameBytes (take (length start) s) start && eqb (getD s (length s - 1) 0) 10)
 
 -- the values between that beginning and the last byte 10
 abbrev pub values : List ℕ → List ℕ → List ℕ

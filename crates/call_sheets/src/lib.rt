@@ -1,4 +1,5 @@
-// The call sheet in front of the input of the program `calls`: which call it names, with its numbers.
+// The call sheet in front of the input of the program `calls`: which call it names, with its
+// numbers.
 use fields::Cursor;
 use fields::Number;
 use fields::NumberField;
@@ -9,14 +10,16 @@ ghost use Prim.Native.Nat.{_+_, _-_, _≤_, _<_};
 ghost use lib.ListN.{length, take, drop};
 ghost use Rattle.fields.specs.Words.{numeralOf};
 ghost use Rattle.fields.specs.Answers.{asNumber};
-ghost use Rattle.call_sheets.specs.CallSheets.{callOf, numberedCall, alwaysCall, withNumber, shareCall, changeCall};
-ghost use Rattle.call_sheets.specs.declared.Call.the-variants.{ClausesSweep as Bounded, Show as Shown};
+ghost use Rattle.call_sheets.specs.CallSheets.{callOf, numberedCall, alwaysCall, withNumber};
+ghost use Rattle.call_sheets.specs.CallSheets.{shareCall, changeCall};
+ghost use Rattle.call_sheets.specs.declared.Call.the-variants.{ClausesSweep as Bounded};
+ghost use Rattle.call_sheets.specs.declared.Call.the-variants.{Show as Shown};
 ghost use Rattle.call_sheets.specs.OneField.{oneField};
 ghost use Rattle.call_sheets.specs.CallSheets as Sheets;
 ghost use Rattle.fields.specs.Cursors.{fieldsLeft};
 
-// A call with its numbers. That of a change ends with the place in the call sheet where the new mark begins; it ends before the last byte.
-// `Not` is a sheet that is not so written.
+// A call with its numbers. That of a change ends with the place in the call sheet where the new
+// mark begins; it ends before the last byte. `Not` is a sheet that is not so written.
 pub enum Call {
     Clauses,
     ClausesSweep(u32),
@@ -87,7 +90,8 @@ fn one_field(f: &[u8]) -> bool
     true
 }
 
-// User, rule and the new mark's field, from a cursor on whose line ends before the sheet's last byte.
+// User, rule and the new mark's field, from a cursor on whose line ends before the sheet's last
+// byte.
 fn change_call(s: &[u8], c: Cursor) -> Call
     requires { ⌜ c .end + 1 ≡ length (now s) ⌝ }
     ensures { λ r. ⌜ r ≡ changeCall (length (now (s .entry))) (fieldsLeft (now (s .entry)) c) ⌝ }
@@ -112,7 +116,8 @@ fn change_call(s: &[u8], c: Cursor) -> Call
 // The number between a place and the last byte.
 fn number_from(s: &[u8], at: usize) -> Number
     requires { ⌜ at + 1 ≤ length (now s) ⌝ }
-    ensures { λ r. ⌜ r ≡ asNumber (numeralOf (take (length (now (s .entry)) - 1 - at) (drop at (now (s .entry))))) ⌝ }
+    ensures { λ r. ⌜ r ≡ asNumber (numeralOf
+        (take (length (now (s .entry)) - 1 - at) (drop at (now (s .entry))))) ⌝ }
 {
     let end = s.len() - 1;
     numeral(&s[at..end])
@@ -121,7 +126,8 @@ fn number_from(s: &[u8], at: usize) -> Number
 // A sweep of a clause sheet.
 fn bound_call(s: &[u8]) -> Call
     requires { ⌜ 20 ≤ length (now s) ⌝ }
-    ensures { λ r. ⌜ r ≡ withNumber (numeralOf (Sheets.values Sheets.boundStart (now (s .entry)))) Bounded ⌝ }
+    ensures { λ r. ⌜ r ≡ withNumber (numeralOf (Sheets.values Sheets.boundStart (now (s .entry))))
+        Bounded ⌝ }
 {
     let n = number_from(s, 19);
     match n {
@@ -133,7 +139,8 @@ fn bound_call(s: &[u8]) -> Call
 // Trees as shown to a user.
 fn show_call(s: &[u8]) -> Call
     requires { ⌜ 16 ≤ length (now s) ⌝ }
-    ensures { λ r. ⌜ r ≡ withNumber (numeralOf (Sheets.values Sheets.showStart (now (s .entry)))) Shown ⌝ }
+    ensures { λ r. ⌜ r ≡ withNumber (numeralOf (Sheets.values Sheets.showStart (now (s .entry))))
+        Shown ⌝ }
 {
     let n = number_from(s, 15);
     match n {

@@ -1,4 +1,5 @@
--- The promise of `calls_text` settles the whole output: two outputs for the same input are the same.
+-- The promise of `calls_text` settles the whole output: two outputs for the same input are the
+-- same.
 use mathlib.Core.Path.{_≡_, sym, _∙_}
 use mathlib.Core.List.{List}
 use Prim.Native.Nat.{ℕ}
@@ -13,28 +14,36 @@ use Rattle.column_text.proofs.Settled.{columns-text-settled}
 use Rattle.reports.proofs.Settled.{merge-text-settled}
 use Rattle.share_text.proofs.Settled.{share-text-settled}
 use Rattle.text.specs.Printed.{Printed}
-use Rattle.text.proofs.Settled.{never-none, same-some, trees-text-settled, sweep-text-settled, printed-settled}
+use Rattle.text.proofs.Settled.{never-none, same-some, trees-text-settled, sweep-text-settled}
+use Rattle.text.proofs.Settled.{printed-settled}
 use Rattle.text_trees.proofs.Settled.{rows-text-settled, places-text-settled}
 use Rattle.rights_text.proofs.Settled.{show-text-settled, change-text-settled}
-use Rattle.calling.specs.Calls.{OnTwoSheets, two, OnThreeSheets, three, CallText, CallsOf, long, whole, called}
+use Rattle.calling.specs.Calls.{OnTwoSheets, two, OnThreeSheets, three, CallText, CallsOf}
+use Rattle.calling.specs.Calls.{long, whole, called}
 use Rattle.calling.specs.Calls as Calls
 
-two-settled : {Of : List ℕ → List ℕ → List ℕ → Type 0} → ((s t a b : List ℕ) → Of s t a → Of s t b → a ≡ b)
+two-settled : {Of : List ℕ → List ℕ → List ℕ → Type 0}
+    → ((s t a b : List ℕ) → Of s t a → Of s t b → a ≡ b)
     → {behind a b : List ℕ} → OnTwoSheets Of behind a → OnTwoSheets Of behind b → a ≡ b
 two-settled same (Calls.fewer e x) (Calls.fewer d y) = x ∙ sym y
 two-settled same (Calls.fewer e x) (two d y) = absurd (never-none e d)
 two-settled same (two d y) (Calls.fewer e x) = absurd (never-none e d)
-two-settled same {a = a} {b = b} (two {p = p} e x) (two d y) = same (p .before) (p .behind) a b x (rw (← same-some e d) at y)
+two-settled same {a = a} {b = b} (two {p = p} e x) (two d y) =
+    same (p .before) (p .behind) a b x (rw (← same-some e d) at y)
 
-three-settled : {Of : List ℕ → List ℕ → List ℕ → List ℕ → Type 0} → ((r s t a b : List ℕ) → Of r s t a → Of r s t b → a ≡ b)
+three-settled : {Of : List ℕ → List ℕ → List ℕ → List ℕ → Type 0}
+    → ((r s t a b : List ℕ) → Of r s t a → Of r s t b → a ≡ b)
     → {behind a b : List ℕ} → OnThreeSheets Of behind a → OnThreeSheets Of behind b → a ≡ b
 three-settled same (Calls.fewer e x) (Calls.fewer d y) = x ∙ sym y
 three-settled same (Calls.fewer e x) (three d y) = absurd (never-none e d)
 three-settled same (three d y) (Calls.fewer e x) = absurd (never-none e d)
-three-settled same (three {p = p} e x) (three d y) = two-settled (same (p .before)) x (rw (← same-some e d) at y)
+three-settled same (three {p = p} e x) (three d y) =
+    two-settled (same (p .before)) x (rw (← same-some e d) at y)
 
-call-settled : (sheet : List ℕ) (c : Call) (behind : List ℕ) {a b : List ℕ} → CallText sheet c behind a → CallText sheet c behind b → a ≡ b
-call-settled sheet Call.Clauses behind x y = two-settled (λ s t a b. trees-text-settled (clauses-apart s t)) x y
+call-settled : (sheet : List ℕ) (c : Call) (behind : List ℕ) {a b : List ℕ}
+    → CallText sheet c behind a → CallText sheet c behind b → a ≡ b
+call-settled sheet Call.Clauses behind x y =
+    two-settled (λ s t a b. trees-text-settled (clauses-apart s t)) x y
 call-settled sheet (Call.ClausesSweep k) behind x y = sweep-text-settled x y
 call-settled sheet Call.Expand behind x y = expand-text-settled x y
 call-settled sheet Call.Rows behind x y = two-settled (λ s t a b. rows-text-settled) x y
@@ -43,7 +52,8 @@ call-settled sheet Call.Merge behind x y = two-settled (λ s t a b. merge-text-s
 call-settled sheet Call.Columns behind x y = two-settled (λ s t a b. columns-text-settled) x y
 call-settled sheet Call.Places behind x y = two-settled (λ s t a b. places-text-settled) x y
 call-settled sheet (Call.Show u) behind x y = three-settled (λ r s t a b. show-text-settled) x y
-call-settled sheet (Call.Change u r at) behind x y = two-settled (λ s t a b. change-text-settled) x y
+call-settled sheet (Call.Change u r at) behind x y =
+    two-settled (λ s t a b. change-text-settled) x y
 call-settled sheet Call.Always behind x y = always-text-settled x y
 call-settled sheet Call.ClausesAlways behind x y = always-text-settled x y
 call-settled sheet Call.Not behind x y = x ∙ sym y
@@ -61,5 +71,6 @@ calls-settled input (called {p = p} l e x) (called {p = q} m d y) =
     let z : p ≡ q = same-some e d in
     call-settled (p .before) (callOf (p .before)) (p .behind) x (rw (← z) at y)
 
-pub calls-text-settled : {input out x y : List ℕ} {r s : ℕ} → Printed CallsOf input out x r → Printed CallsOf input out y s → (r ≡ s) × (x ≡ y)
+pub calls-text-settled : {input out x y : List ℕ} {r s : ℕ} → Printed CallsOf input out x r
+    → Printed CallsOf input out y s → (r ≡ s) × (x ≡ y)
 calls-text-settled {input} p q = printed-settled (λ a b. calls-settled input {a = a} {b = b}) p q

@@ -29,26 +29,33 @@ Unwritten text = text ≡ head (refusedText 32) 0
 -- a call on two sheets: an empty line ends the first, the second takes all the rest
 pub data OnTwoSheets (Of : List ℕ → List ℕ → List ℕ → Type 0) (behind text : List ℕ) : Type 0 where
   fewer : parts behind ≡ none → Unwritten text → OnTwoSheets Of behind text
-  two : {p : Parts} → parts behind ≡ some p → Of (p .before) (p .behind) text → OnTwoSheets Of behind text
+  two : {p : Parts} → parts behind ≡ some p → Of (p .before) (p .behind) text
+      → OnTwoSheets Of behind text
 
 -- a call on three sheets
-pub data OnThreeSheets (Of : List ℕ → List ℕ → List ℕ → List ℕ → Type 0) (behind text : List ℕ) : Type 0 where
+pub data OnThreeSheets (Of : List ℕ → List ℕ → List ℕ → List ℕ → Type 0)
+    (behind text : List ℕ) : Type 0 where
   fewer : parts behind ≡ none → Unwritten text → OnThreeSheets Of behind text
-  three : {p : Parts} → parts behind ≡ some p → OnTwoSheets (Of (p .before)) (p .behind) text → OnThreeSheets Of behind text
+  three : {p : Parts} → parts behind ≡ some p → OnTwoSheets (Of (p .before)) (p .behind) text
+      → OnThreeSheets Of behind text
 
 -- `clauses`: the answer on a clause sheet and a token sheet, and its trees
 abbrev pub ClausesText : List ℕ → List ℕ → List ℕ → Type 0
 ClausesText clauses tokens text = TreesText (clauseSheets clauses tokens) text
 
--- `show`: the answer on a rule sheet, a token sheet and a rights sheet, and its trees as the user may see them
+-- `show`: the answer on a rule sheet, a token sheet and a rights sheet, and its trees as the user
+-- may see them
 abbrev pub ShownText : ℕ → List ℕ → List ℕ → List ℕ → List ℕ → Type 0
 ShownText user rules tokens rights text = ShowText rules tokens rights user text
 
--- `change`: a rule sheet with another mark; it stands in the call sheet from `at` to the last byte 10
+-- `change`: a rule sheet with another mark; it stands in the call sheet from `at` to the last byte
+-- 10
 abbrev pub ChangedText : List ℕ → ℕ → ℕ → ℕ → List ℕ → List ℕ → List ℕ → Type 0
-ChangedText sheet user rule at rules rights text = ChangeText rules rights user rule (take (length sheet - 1 - at) (drop at sheet)) text
+ChangedText sheet user rule at rules rights text =
+    ChangeText rules rights user rule (take (length sheet - 1 - at) (drop at sheet)) text
 
--- the output of a call, from its call sheet, which has the new mark of a change, and what follows it
+-- the output of a call, from its call sheet, which has the new mark of a change, and what follows
+-- it
 abbrev pub CallText : List ℕ → Call → List ℕ → List ℕ → Type 0
 CallText sheet Call.Clauses behind text = OnTwoSheets ClausesText behind text
 CallText sheet (Call.ClausesSweep k) behind text = SweepText k (clauseSheet behind) text
@@ -64,8 +71,10 @@ CallText sheet Call.Always behind text = AlwaysText (ruleSheet behind) text
 CallText sheet Call.ClausesAlways behind text = AlwaysText (clauseSheet behind) text
 CallText sheet Call.Not behind text = Unwritten text
 
--- the output: refused-31 for a longer input, refused-32 for one without an empty line, else that of the call
+-- the output: refused-31 for a longer input, refused-32 for one without an empty line, else that of
+-- the call
 pub data CallsOf (input text : List ℕ) : Type 0 where
   long : longest < length input → text ≡ head (refusedText 31) 0 → CallsOf input text
   whole : length input ≤ longest → parts input ≡ none → Unwritten text → CallsOf input text
-  called : {p : Parts} → length input ≤ longest → parts input ≡ some p → CallText (p .before) (callOf (p .before)) (p .behind) text → CallsOf input text
+  called : {p : Parts} → length input ≤ longest → parts input ≡ some p
+      → CallText (p .before) (callOf (p .before)) (p .behind) text → CallsOf input text

@@ -25,12 +25,14 @@ ghost use Rattle.reports.specs.Reports.{MergeText};
 ghost use Rattle.text.specs.Printed.{Printed};
 ghost use Rattle.text_trees.specs.Rows.{RowsTextOf};
 ghost use Rattle.text_trees.specs.Places.{PlacesTextOf};
-ghost use Rattle.calling.specs.Calls.{OnTwoSheets, OnThreeSheets, ClausesText, ShownText, ChangedText, CallText, CallsOf};
+ghost use Rattle.calling.specs.Calls.{OnTwoSheets, OnThreeSheets, ClausesText, ShownText};
+ghost use Rattle.calling.specs.Calls.{ChangedText, CallText, CallsOf};
 
 // The call `clauses` on the two sheets that the first empty line parts.
 fn clauses_call(s: &[u8], out: &mut [u8]) -> usize
     requires { ⌜ 262144 ≤ length (now out) ⌝ }
-    ensures { λ r. ⌜ Printed (OnTwoSheets ClausesText) (now (s .entry)) (now (out .entry)) (now (out .exit)) r ⌝ }
+    ensures { λ r. ⌜ Printed (OnTwoSheets ClausesText) (now (s .entry)) (now (out .entry))
+        (now (out .exit)) r ⌝ }
 {
     let place = parting(s);
     match place {
@@ -45,7 +47,8 @@ fn clauses_call(s: &[u8], out: &mut [u8]) -> usize
 // The call `rows` on the two sheets that the first empty line parts.
 fn rows_call(s: &[u8], out: &mut [u8]) -> usize
     requires { ⌜ 262144 ≤ length (now out) ⌝ }
-    ensures { λ r. ⌜ Printed (OnTwoSheets RowsTextOf) (now (s .entry)) (now (out .entry)) (now (out .exit)) r ⌝ }
+    ensures { λ r. ⌜ Printed (OnTwoSheets RowsTextOf) (now (s .entry)) (now (out .entry))
+        (now (out .exit)) r ⌝ }
 {
     let place = parting(s);
     match place {
@@ -60,7 +63,8 @@ fn rows_call(s: &[u8], out: &mut [u8]) -> usize
 // The call `columns` on the two sheets that the first empty line parts.
 fn columns_call(s: &[u8], out: &mut [u8]) -> usize
     requires { ⌜ 262144 ≤ length (now out) ⌝ }
-    ensures { λ r. ⌜ Printed (OnTwoSheets ColumnsTextOf) (now (s .entry)) (now (out .entry)) (now (out .exit)) r ⌝ }
+    ensures { λ r. ⌜ Printed (OnTwoSheets ColumnsTextOf) (now (s .entry)) (now (out .entry))
+        (now (out .exit)) r ⌝ }
 {
     let place = parting(s);
     match place {
@@ -75,7 +79,8 @@ fn columns_call(s: &[u8], out: &mut [u8]) -> usize
 // The call `merge` on the two reports that the first empty line parts.
 fn merge_call(s: &[u8], out: &mut [u8]) -> usize
     requires { ⌜ 262144 ≤ length (now out) ⌝ }
-    ensures { λ r. ⌜ Printed (OnTwoSheets MergeText) (now (s .entry)) (now (out .entry)) (now (out .exit)) r ⌝ }
+    ensures { λ r. ⌜ Printed (OnTwoSheets MergeText) (now (s .entry)) (now (out .entry))
+        (now (out .exit)) r ⌝ }
 {
     let place = parting(s);
     match place {
@@ -90,7 +95,8 @@ fn merge_call(s: &[u8], out: &mut [u8]) -> usize
 // The call `places` on the two sheets that the first empty line parts.
 fn places_call(s: &[u8], out: &mut [u8]) -> usize
     requires { ⌜ 262144 ≤ length (now out) ⌝ }
-    ensures { λ r. ⌜ Printed (OnTwoSheets PlacesTextOf) (now (s .entry)) (now (out .entry)) (now (out .exit)) r ⌝ }
+    ensures { λ r. ⌜ Printed (OnTwoSheets PlacesTextOf) (now (s .entry)) (now (out .entry))
+        (now (out .exit)) r ⌝ }
 {
     let place = parting(s);
     match place {
@@ -105,7 +111,8 @@ fn places_call(s: &[u8], out: &mut [u8]) -> usize
 // The call `show` on a rule sheet and the two sheets behind it, which the first empty line parts.
 fn shown_call(rules: &[u8], s: &[u8], user: u32, out: &mut [u8]) -> usize
     requires { ⌜ 262144 ≤ length (now out) ⌝ }
-    ensures { λ r. ⌜ Printed (OnTwoSheets (ShownText user (now (rules .entry)))) (now (s .entry)) (now (out .entry)) (now (out .exit)) r ⌝ }
+    ensures { λ r. ⌜ Printed (OnTwoSheets (ShownText user (now (rules .entry)))) (now (s .entry))
+        (now (out .entry)) (now (out .exit)) r ⌝ }
 {
     let place = parting(s);
     match place {
@@ -120,7 +127,8 @@ fn shown_call(rules: &[u8], s: &[u8], user: u32, out: &mut [u8]) -> usize
 // The call `show` on the three sheets that the first two empty lines part.
 fn show_call(s: &[u8], user: u32, out: &mut [u8]) -> usize
     requires { ⌜ 262144 ≤ length (now out) ⌝ }
-    ensures { λ r. ⌜ Printed (OnThreeSheets (ShownText user)) (now (s .entry)) (now (out .entry)) (now (out .exit)) r ⌝ }
+    ensures { λ r. ⌜ Printed (OnThreeSheets (ShownText user)) (now (s .entry)) (now (out .entry))
+        (now (out .exit)) r ⌝ }
 {
     let place = parting(s);
     match place {
@@ -132,11 +140,13 @@ fn show_call(s: &[u8], user: u32, out: &mut [u8]) -> usize
     }
 }
 
-// The call `change` on the two sheets that the first empty line parts; the new mark stands in the call sheet from `at` on.
+// The call `change` on the two sheets that the first empty line parts; the new mark stands in the
+// call sheet from `at` on.
 fn change_call(sheet: &[u8], s: &[u8], user: u32, rule: u32, at: usize, out: &mut [u8]) -> usize
     requires { ⌜ 262144 ≤ length (now out) ⌝ }
     requires { ⌜ at < length (now sheet) ⌝ }
-    ensures { λ r. ⌜ Printed (OnTwoSheets (ChangedText (now (sheet .entry)) user rule at)) (now (s .entry)) (now (out .entry)) (now (out .exit)) r ⌝ }
+    ensures { λ r. ⌜ Printed (OnTwoSheets (ChangedText (now (sheet .entry)) user rule at))
+        (now (s .entry)) (now (out .entry)) (now (out .exit)) r ⌝ }
 {
     let place = parting(s);
     match place {
@@ -153,7 +163,8 @@ fn change_call(sheet: &[u8], s: &[u8], user: u32, rule: u32, at: usize, out: &mu
 fn answer(call: Call, sheet: &[u8], s: &[u8], out: &mut [u8]) -> usize
     requires { ⌜ 262144 ≤ length (now out) ⌝ }
     requires { ⌜ Inside (length (now sheet)) call ⌝ }
-    ensures { λ r. ⌜ Printed (CallText (now (sheet .entry)) call) (now (s .entry)) (now (out .entry)) (now (out .exit)) r ⌝ }
+    ensures { λ r. ⌜ Printed (CallText (now (sheet .entry)) call) (now (s .entry))
+        (now (out .entry)) (now (out .exit)) r ⌝ }
 {
     match call {
         Call::Clauses => clauses_call(s, out),
@@ -176,7 +187,9 @@ fn answer(call: Call, sheet: &[u8], s: &[u8], out: &mut [u8]) -> usize
 fn answer_at(input: &[u8], i: usize, out: &mut [u8]) -> usize
     requires { ⌜ i < length (now input) ⌝ }
     requires { ⌜ 262144 ≤ length (now out) ⌝ }
-    ensures { λ r. ⌜ Printed (CallText (take i (now (input .entry))) (callOf (take i (now (input .entry))))) (drop (i + 1) (now (input .entry))) (now (out .entry)) (now (out .exit)) r ⌝ }
+    ensures { λ r. ⌜ Printed (CallText (take i (now (input .entry)))
+        (callOf (take i (now (input .entry))))) (drop (i + 1) (now (input .entry)))
+        (now (out .entry)) (now (out .exit)) r ⌝ }
 {
     let j = i + 1;
     let call = call_of(&input[..i]);

@@ -2,7 +2,8 @@
 use mathlib.Core.Path.{_≡_, refl, sym, _∙_, ap, ap₂}
 use mathlib.Core.Bool.{Bool, true, false, cond, _||_, or-true}
 use mathlib.Core.Logic.{⊎-elim}
-use mathlib.Core.List.{[], _∷_, List·Memᴰ·head, List·Memᴰ·tail, List·Memᴰ·not-nil, List·Memᴰ·cases-cons}
+use mathlib.Core.List.{[], _∷_, List·Memᴰ·head, List·Memᴰ·tail, List·Memᴰ·not-nil}
+use mathlib.Core.List.{List·Memᴰ·cases-cons}
 use Prim.Native.Nat.{ℕ, zero, suc, _+_, _/_, _%_, _^_, _<_}
 use native.Mathlib.Omega.{arith}
 use native.Mathlib.Decide.{ℕ-discrete}
@@ -24,7 +25,8 @@ pub stands-terminal : (g : Rules) (a : ℕ) → stands g a ≡ true → Terminal
 stands-terminal [] a e = absurd (true-not-false (sym e))
 stands-terminal (r ∷ g) a e = go (isAtom a (r .clause)) refl e (stands-terminal g a)
   where
-    go : (b : Bool) → isAtom a (r .clause) ≡ b → (b || stands g a) ≡ true → (stands g a ≡ true → Terminal g a) → Terminal (r ∷ g) a
+    go : (b : Bool) → isAtom a (r .clause) ≡ b → (b || stands g a) ≡ true
+        → (stands g a ≡ true → Terminal g a) → Terminal (r ∷ g) a
     go true p q ih = (r .left, has-atom r a (List·Memᴰ·head refl) p)
     go false p q ih = let t = ih q in (t .0, atom-over (λ s m. List·Memᴰ·tail m) (t .1))
 
@@ -32,10 +34,14 @@ pub terminal-stands : (g : Rules) (a : ℕ) → Terminal g a → stands g a ≡ 
 terminal-stands [] a t = absurd (List·Memᴰ·not-nil (t .1 .rule))
 terminal-stands (r ∷ g) a t =
     let h = t .1 in
-    ⊎-elim here (λ m. rw (terminal-stands g a (t .0, record { low = h .low; high = h .high; rule = m; covers = h .covers })) (or-true (isAtom a (r .clause)))) (List·Memᴰ·cases-cons (h .rule))
+    ⊎-elim here (λ m. rw (terminal-stands g a
+    (t .0, record { low = h .low; high = h .high; rule = m; covers = h .covers }))
+    (or-true (isAtom a (r .clause)))) (List·Memᴰ·cases-cons (h .rule))
   where
-    here : record { left = t .0; clause = Clause.Atom (t .1 .low) (t .1 .high) } ≡ r → (isAtom a (r .clause) || stands g a) ≡ true
-    here e = rw (atom-is a (t .1 .low) (t .1 .high) (r .clause) (ap (λ (q : Rule). q .clause) (sym e)) (t .1 .covers))
+    here : record { left = t .0; clause = Clause.Atom (t .1 .low) (t .1 .high) } ≡ r
+        → (isAtom a (r .clause) || stands g a) ≡ true
+    here e = rw (atom-is a (t .1 .low) (t .1 .high) (r .clause)
+        (ap (λ (q : Rule). q .clause) (sym e)) (t .1 .covers))
 
 -- ---- digit by digit
 
@@ -44,7 +50,8 @@ module _ (g : Rules) (s : ℕ) (t : Terminals g s) where
   digit n = go (stands g n) refl
     where
       none : stands g n ≡ false → Dec (s / 2 ^ n % 2 ≡ 1) → s / 2 ^ n % 2 ≡ 0
-      none e (yes d) = absurd (true-not-false (sym (terminal-stands g n (t n .0 (record { digit = d }))) ∙ e))
+      none e (yes d) =
+          absurd (true-not-false (sym (terminal-stands g n (t n .0 (record { digit = d }))) ∙ e))
       none e (no d) = low (s / 2 ^ n % 2) (mod-lt (s / 2 ^ n) (omega arith)) d
         where
           low : (x : ℕ) → x < 2 → (x ≡ 1 → ⊥) → x ≡ 0
@@ -68,7 +75,8 @@ module _ (g : Rules) (s : ℕ) (t : Terminals g s) where
       ap (λ (z : ℕ). ones (s % 2 ^ z)) (let e : suc n ≡ 1 + n = omega arith in e)
       ∙ ap ones (mod-pow-add s 1 n)
       ∙ ones-cat n (s / 2 ^ n % 2) (s % 2 ^ n) (mod-lt s (pow-pos n))
-      ∙ ap₂ _+_ (ones-digit (s / 2 ^ n % 2) (mod-lt (s / 2 ^ n) (omega arith)) ∙ digit n) (ones-below n)
+      ∙ ap₂ _+_ (ones-digit (s / 2 ^ n % 2) (mod-lt (s / 2 ^ n) (omega arith)) ∙ digit n)
+      (ones-below n)
 
   ones-count : s < 2 ^ 64 → ones s ≡ terminalCount g
   ones-count h = ap ones (sym (mod-eq-of-lt h)) ∙ ones-below 64

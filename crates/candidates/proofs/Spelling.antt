@@ -39,23 +39,36 @@ pub record Spelling (c : Candidate) (n : ℕ) (tokens : List Token) (line i : �
   pub front : take i tokens ++ placed line (cells c i (n - i)) ≡ sentence (cells c 0 n)
   pub past : drop i tokens ≡ replicate (64 - i) no-token
 
-pub spelled-none : (c : Candidate) (n : ℕ) → LowSteps (cells c 0 n) → Spelling c n (replicate 64 no-token) 1 0
-spelled-none c n s = record { size = refl; at = omega arith; low = omega arith; steps = rw (sub-zero n) s; front = rw (sub-zero n); past = refl }
+pub spelled-none : (c : Candidate) (n : ℕ) → LowSteps (cells c 0 n)
+    → Spelling c n (replicate 64 no-token) 1 0
+spelled-none c n s = record {
+  size = refl;
+  at = omega arith;
+  low = omega arith;
+  steps = rw
+      (sub-zero n) s;
+  front = rw (sub-zero n);
+  past = refl;
+}
 
-module _ (c : Candidate) (n : ℕ) (tokens : List Token) (line i : ℕ) (h : i < n) (l : n ≤ 7) (s : Spelling c n tokens line i) where
+module _ (c : Candidate) (n : ℕ) (tokens : List Token) (line i : ℕ) (h : i < n) (l : n ≤ 7)
+    (s : Spelling c n tokens line i) where
   low-here : LowSteps (cellAt c i ∷ cells c (i + 1) (n - (i + 1)))
   low-here = rw (cells-turn n i c h) at (s .steps)
 
   pub step-low : (d : Cell) → d ≡ cellAt c i → d .step ≤ 2
   step-low d e = omega (arith, ap (λ (x : Cell). x .step) e, low-here .0)
 
-  pub spelled-turn : (d : Cell) → d ≡ cellAt c i → Spelling c n (set tokens i (token (line + d .step) d)) (line + d .step) (i + 1)
+  pub spelled-turn : (d : Cell) → d ≡ cellAt c i
+      → Spelling c n (set tokens i (token (line + d .step) d)) (line + d .step) (i + 1)
   spelled-turn d e = record {
     size = length-set tokens i t ∙ s .size;
     at = omega arith;
     low = omega (arith, s .low, step-low d e);
     steps = low-here .1;
-    front = rw (add-one i, take-suc-set tokens i t inside) (append-snoc (take i tokens) t (placed (line + d .step) (cells c (suc i) (n - suc i))) ∙ spelled);
+    front = rw (add-one i, take-suc-set tokens i t inside)
+        (append-snoc (take i tokens) t (placed (line + d .step) (cells c (suc i) (n - suc i)))
+        ∙ spelled);
     past = rw (add-one i) (drop-set-lt (suc i) tokens i t (omega arith) ∙ rest);
   }
     where
@@ -65,17 +78,22 @@ module _ (c : Candidate) (n : ℕ) (tokens : List Token) (line i : ℕ) (h : i <
       inside : i < length tokens
       inside = omega (arith, s .size)
 
-      spelled : take i tokens ++ (t ∷ placed (line + d .step) (cells c (suc i) (n - suc i))) ≡ sentence (cells c 0 n)
-      spelled = ap (λ (x : Cell). take i tokens ++ (token (line + x .step) x ∷ placed (line + x .step) (cells c (suc i) (n - suc i)))) e ∙ (rw (cells-turn n i c h, add-one i) at (s .front))
+      spelled : take i tokens ++ (t ∷ placed (line + d .step) (cells c (suc i) (n - suc i)))
+          ≡ sentence (cells c 0 n)
+      spelled = ap (λ (x : Cell). take i tokens
+          ++ (token (line + x .step) x ∷ placed (line + x .step) (cells c (suc i) (n - suc i)))) e
+          ∙ (rw (cells-turn n i c h, add-one i) at (s .front))
 
       rest : drop (suc i) tokens ≡ replicate (64 - suc i) no-token
       rest =
           let k : 64 - i ≡ suc (64 - suc i) = omega arith in
           let p : drop i tokens ≡ no-token ∷ replicate (64 - suc i) no-token = rw k at (s .past) in
-          let q : drop i tokens ≡ getD tokens i no-token ∷ drop (suc i) tokens = drop-cons tokens i no-token inside in
+          let q : drop i tokens ≡ getD tokens i no-token ∷ drop (suc i) tokens =
+          drop-cons tokens i no-token inside in
           cc
 
-pub spelled-whole : (c : Candidate) (n : ℕ) (tokens : List Token) (line i : ℕ) → n ≤ i → Spelling c n tokens line i → Spells (cells c 0 n) n (record { tokens = tokens; count = n })
+pub spelled-whole : (c : Candidate) (n : ℕ) (tokens : List Token) (line i : ℕ) → n ≤ i
+    → Spelling c n tokens line i → Spells (cells c 0 n) n (record { tokens = tokens; count = n })
 spelled-whole c n tokens line i h s =
     let e : i ≡ n = omega (arith, s .at) in
     let f : take i tokens ++ [] ≡ sentence (cells c 0 n) = rw (cells-end n i c h) at (s .front) in
@@ -99,8 +117,10 @@ module _ {cs : List Cell} {n : ℕ} {r : Sentence} (x : Spells cs n r) where
 placed-take : (b l : ℕ) (cs : List Cell) → take b (placed l cs) ≡ placed l (take b cs)
 placed-take zero l cs = refl
 placed-take (suc b) l [] = refl
-placed-take (suc b) l (c ∷ cs) = ap (λ (w : Word). token (l + c .step) c ∷ w) (placed-take b (l + c .step) cs)
+placed-take (suc b) l (c ∷ cs) =
+    ap (λ (w : Word). token (l + c .step) c ∷ w) (placed-take b (l + c .step) cs)
 
 -- what shares cells shares tokens
-pub sentence-shares : (b : ℕ) (ds cs : List Cell) → Shares b ds cs → take b (sentence ds) ≡ take b (sentence cs)
+pub sentence-shares : (b : ℕ) (ds cs : List Cell) → Shares b ds cs
+    → take b (sentence ds) ≡ take b (sentence cs)
 sentence-shares b ds cs e = placed-take b 1 ds ∙ ap (placed 1) e ∙ sym (placed-take b 1 cs)

@@ -1,4 +1,5 @@
--- A candidate's sentence as an array of tokens: 01, "the first on line 1, each next line 0, 1 or 2 further".
+-- A candidate's sentence as an array of tokens: 01, "the first on line 1, each next line 0, 1 or 2
+-- further".
 use mathlib.Core.Path.{_≡_}
 use mathlib.Core.List.{List}
 use Prim.Native.Nat.{ℕ, _-_, _≤_}

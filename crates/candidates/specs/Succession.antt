@@ -1,4 +1,5 @@
--- The first candidate and the next one: 01, "The next candidate is worked out from the one before it by that order".
+-- The first candidate and the next one: 01, "The next candidate is worked out from the one before
+-- it by that order".
 use mathlib.Core.Path.{_≡_}
 use mathlib.Core.Bool.{Bool, true, false}
 use mathlib.Core.Logic.{_⊎_}
@@ -18,12 +19,13 @@ pub record First (s n : ℕ) (cs : List Cell) : Type 0 where
   pub candidate : Candidate (Among s) n cs
   pub first : (ds : List Cell) → Candidate (Among s) n ds → CellsBefore ds cs → ⊥
 
--- rs is the least candidate after all that share cs's first b cells; where b is n, the next after cs
--- all cells before the last of the first `upto` are cs's
+-- rs is the least candidate after all that share cs's first b cells; where b is n, the next after
+-- cs all cells before the last of the first `upto` are cs's
 pub record Follows (s n b : ℕ) (cs : List Cell) (upto : ℕ) (rs : List Cell) : Type 0 where
   pub candidate : Candidate (Among s) n rs
   pub later : (ds : List Cell) → Candidate (Among s) n ds → Shares b ds cs → CellsBefore ds rs
-  pub least : (ds : List Cell) → Candidate (Among s) n ds → CellsBefore ds rs → Shares b ds cs ⊎ CellsBefore ds cs
+  pub least : (ds : List Cell) → Candidate (Among s) n ds → CellsBefore ds rs
+      → Shares b ds cs ⊎ CellsBefore ds cs
   pub low : 1 ≤ upto
   pub high : upto ≤ b
   pub kept : Shares (upto - 1) rs cs
@@ -33,6 +35,7 @@ pub record Ends (s n b : ℕ) (cs : List Cell) : Type 0 where
   pub last : (ds : List Cell) → Candidate (Among s) n ds → Shares b ds cs ⊎ CellsBefore ds cs
 
 -- the next one where there is more, else there is none
-pub record Succeeds (s n b : ℕ) (cs : List Cell) (more : Bool) (upto : ℕ) (rs : List Cell) : Type 0 where
+pub record Succeeds (s n b : ℕ) (cs : List Cell) (more : Bool) (upto : ℕ) (rs : List Cell) : Type
+    0 where
   pub next : more ≡ true → Follows s n b cs upto rs
   pub none : more ≡ false → Ends s n b cs

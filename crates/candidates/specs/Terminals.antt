@@ -1,4 +1,5 @@
--- The terminals that candidates carry, as a 64-bit set, and T: 01, "The sweep", first two sentences.
+-- The terminals that candidates carry, as a 64-bit set, and T: 01, "The sweep", first two
+-- sentences.
 use mathlib.Core.Path.{_≡_}
 use mathlib.Core.Bool.{true}
 use mathlib.Core.Logic.{_⊎_, _↔_}

@@ -1,5 +1,6 @@
--- What the inner functions on one cell and on the cells from one on promise; only the proofs in this crate need it.
--- A cell is judged by what stands before it: the first follows a token in column 0 with a largest step of 0, so one rule serves all cells.
+-- What the inner functions on one cell and on the cells from one on promise; only the proofs in
+-- this crate need it. A cell is judged by what stands before it: the first follows a token in
+-- column 0 with a largest step of 0, so one rule serves all cells.
 use mathlib.Core.Path.{_≡_}
 use mathlib.Core.Bool.{Bool, true, false}
 use mathlib.Core.Logic.{_⊎_, _≢_}
@@ -74,11 +75,13 @@ module _ (Q : ℕ → Type 0) (n m p : ℕ) where
     pub size : length rs ≡ length cs
     pub fit : Fit Q n m p rs
     pub later : (ds : List Cell) → length ds ≡ length cs → Shares b ds cs → CellsBefore ds rs
-    pub gapless : (ds : List Cell) → length ds ≡ length cs → Fit Q n m p ds → CellsBefore ds rs → Shares b ds cs ⊎ CellsBefore ds cs
+    pub gapless : (ds : List Cell) → length ds ≡ length cs → Fit Q n m p ds → CellsBefore ds rs
+        → Shares b ds cs ⊎ CellsBefore ds cs
 
   -- none come after those
   pub record Last (b : ℕ) (cs : List Cell) : Type 0 where
-    pub last : (ds : List Cell) → length ds ≡ length cs → Fit Q n m p ds → Shares b ds cs ⊎ CellsBefore ds cs
+    pub last : (ds : List Cell) → length ds ≡ length cs → Fit Q n m p ds
+        → Shares b ds cs ⊎ CellsBefore ds cs
 
 -- ---- the cells of an array from i on
 
@@ -119,6 +122,7 @@ pub record Raised (s n : ℕ) (c : Candidate) (i upto : ℕ) (r : Candidate) : T
   pub least : Least (Among s) n 2 (cellAt r i .column) (n - (i + 1)) (cells r (i + 1) (n - (i + 1)))
 
 -- so it is where there is more, else the cell at i is the last
-pub record Raises (s n : ℕ) (c : Candidate) (i : ℕ) (more : Bool) (upto : ℕ) (r : Candidate) : Type 0 where
+pub record Raises (s n : ℕ) (c : Candidate) (i : ℕ) (more : Bool) (upto : ℕ) (r : Candidate) : Type
+    0 where
   pub next : more ≡ true → Raised s n c i upto r
   pub last : more ≡ false → LastCell (Among s) n (largestStep i) (columnBefore c i) (cellAt c i)

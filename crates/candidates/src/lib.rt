@@ -1,4 +1,5 @@
-// The sweep's candidates, each worked out from the one before, the terminals they carry, and the limit of refusal 24.
+// The sweep's candidates, each worked out from the one before, the terminals they carry, and the
+// limit of refusal 24.
 use grammar::Cell;
 use grammar::Clause;
 use grammar::Column;
@@ -15,10 +16,12 @@ ghost use Rattle.sets.specs.Says.{Says};
 ghost use Rattle.grammar.specs.Content.{rules, Formed, SmallClause};
 ghost use Rattle.grammar.specs.Candidates as Of;
 ghost use Rattle.grammar.specs.Sweeps.{arrangements};
-ghost use Rattle.candidates.specs.Terminals.{Among, Lowest, Terminals, Ranging, Widened, CountsOnes};
+ghost use Rattle.candidates.specs.Terminals.{Among, Lowest, Terminals, Ranging, Widened};
+ghost use Rattle.candidates.specs.Terminals.{CountsOnes};
 ghost use Rattle.candidates.specs.Arrays.{cellAt, cells};
 ghost use Rattle.candidates.specs.Succession.{First, Succeeds};
-ghost use Rattle.candidates.specs.Windows.{Fits, LeastSpot, Room, Advances, largestStep, columnBefore, Changed, Lowered, Filled, Raises};
+ghost use Rattle.candidates.specs.Windows.{Fits, LeastSpot, Room, Advances, largestStep};
+ghost use Rattle.candidates.specs.Windows.{columnBefore, Changed, Lowered, Filled, Raises};
 ghost use Rattle.candidates.specs.Spelling.{LowSteps, Spells};
 
 // A line step and a column.
@@ -27,7 +30,8 @@ struct Spot {
     column: u16,
 }
 
-// The least line step, at most m, with the least column, at most n, that come after a token in column p.
+// The least line step, at most m, with the least column, at most n, that come after a token in
+// column p.
 fn least_spot(n: u16, m: u8, p: u16) -> Spot
     requires { ⌜ Room n m p ⌝ }
     ensures { λ r. ⌜ LeastSpot n m p (r .step) (r .column) ⌝ }
@@ -48,7 +52,8 @@ enum Advanced {
     Last,
 }
 
-// The cell after c, among those that come after a token in column p: a column further, else a step, else a terminal.
+// The cell after c, among those that come after a token in column p: a column further, else a step,
+// else a terminal.
 fn advance(set: u64, n: u16, m: u8, p: u16, c: Cell) -> Advanced
     requires { ⌜ Room n m p ⌝ }
     requires { ⌜ Fits (Among set) n m p c ⌝ }
@@ -90,7 +95,8 @@ pub struct Candidate {
     pub columns: [u16; 7],
 }
 
-// The next candidate, if there is one. Of its cells only those from place `upto` - 1 on may differ from the one before.
+// The next candidate, if there is one. Of its cells only those from place `upto` - 1 on may differ
+// from the one before.
 pub struct Stepped {
     pub more: bool,
     pub upto: usize,
@@ -212,12 +218,14 @@ impl Candidate {
         c.filled(set, low, n, 0)
     }
 
-    // The least candidate of length n after all that share the first b cells, if there is one: the last of these cells that has a next one takes it.
+    // The least candidate of length n after all that share the first b cells, if there is one: the
+    // last of these cells that has a next one takes it.
     pub fn successor(self, set: u64, low: u8, n: usize, b: usize) -> Stepped
         requires { ⌜ (1 ≤ n) × (n ≤ 7) × (b ≤ n) ⌝ }
         requires { ⌜ Lowest set low ⌝ }
         requires { ⌜ Of.Candidate (Among set) n (cells self 0 n) ⌝ }
-        ensures { λ r. ⌜ Succeeds set n b (cells self 0 n) (r .more) (r .upto) (cells (r .to) 0 n) ⌝ }
+        ensures { λ r. ⌜ Succeeds set n b (cells self 0 n) (r .more) (r .upto)
+            (cells (r .to) 0 n) ⌝ }
     {
         let mut i = b;
         while 0 < i {
@@ -234,7 +242,8 @@ impl Candidate {
         }
     }
 
-    // The candidate's sentence: the first token on line 1, each next its step further, all of width 1.
+    // The candidate's sentence: the first token on line 1, each next its step further, all of width
+    // 1.
     pub fn sentence(self, n: usize) -> Sentence
         requires { ⌜ (n ≤ 7) × LowSteps (cells self 0 n) ⌝ }
         ensures { λ r. ⌜ Spells (cells self 0 n) n r ⌝ }
@@ -320,7 +329,8 @@ pub fn terminal_count(set: u64) -> u64
 // The most arrangements that a sweep takes on.
 const LIMIT: u64 = 4_294_967_296;
 
-// Is t^k × 3^(k−1) × k^k within the limit? The product is worked out a token at a time and left as soon as it is above.
+// Is t^k × 3^(k−1) × k^k within the limit? The product is worked out a token at a time and left as
+// soon as it is above.
 pub fn within_limit(t: u64, k: u64) -> bool
     requires { ⌜ (t ≤ 64) × (1 ≤ k) × (k ≤ 7) ⌝ }
     ensures { λ r. ⌜ Says r (arrangements t k ≤ 4294967296) ⌝ }

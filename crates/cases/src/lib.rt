@@ -1,4 +1,5 @@
-// Cases of the test programs on standard input: a header of 6 bytes (five digits: the input's length; byte 10), then the input.
+// Cases of the test programs on standard input: a header of 6 bytes (five digits: the input's
+// length; byte 10), then the input.
 ghost use Prim.Native.Nat.{_+_, _≤_};
 ghost use lib.ListN.{length};
 
@@ -29,7 +30,8 @@ pub fn five(s: &[u8], at: usize) -> usize
     a * 10000 + b * 1000 + c * 100 + d * 10 + e
 }
 
-// The next case's input is put in front; its length, or 100,000 where there is no more case, or no room for it.
+// The next case's input is put in front; its length, or 100,000 where there is no more case, or no
+// room for it.
 pub fn next_case(space: &mut [u8]) -> usize
     ensures { λ r. ⌜ r ≤ 100000 ⌝ }
 {

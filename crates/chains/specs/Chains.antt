@@ -1,4 +1,5 @@
--- The table of chains: for each level of a span and each nonterminal what follows over such a span from that one alone (inner).
+-- The table of chains: for each level of a span and each nonterminal what follows over such a span
+-- from that one alone (inner).
 use mathlib.Core.Path.{_≡_}
 use mathlib.Core.List.{List}
 use mathlib.Core.Logic.{_↔_}
@@ -17,7 +18,8 @@ use Rattle.cuts.specs.Cuts.{wordsOf}
 use Rattle.cuts.specs.Closure.{ChainEntry}
 use Rattle.chains.specs.SpanLinks.{spanLinks}
 
--- the least level of a span at which a mark holds: 3 all of its tokens on one line, 2 offside, 1 offalign, 0 any
+-- the least level of a span at which a mark holds: 3 all of its tokens on one line, 2 offside, 1
+-- offalign, 0 any
 abbrev pub rank : UnaryMark → ℕ
 rank UnaryMark.None = 0
 rank UnaryMark.Offalign = 1
@@ -31,22 +33,26 @@ HoldsAt l m = rank m ≤ l
 -- l is the level of a span with the marks k, of which single has offside with it
 pub record Leveled (k : SpanMarks) (l : ℕ) : Type 0 where
   pub small : l < 4
-  pub holds : (UnaryBy k UnaryMark.Single → UnaryBy k UnaryMark.Offside) → (m : UnaryMark) → HoldsAt l m ↔ UnaryBy k m
+  pub holds : (UnaryBy k UnaryMark.Single → UnaryBy k UnaryMark.Offside) → (m : UnaryMark)
+      → HoldsAt l m ↔ UnaryBy k m
 
 -- the words are the entries of the level l
 pub record Level (g : Rules) (e : Pair) (l : ℕ) (ups : List ℕ) : Type 0 where
   pub size : length ups ≡ 128
-  pub entry : (B : ℕ) → B < 64 → ChainEntry (spanLinks g (HoldsAt l) (e .one) (e .two)) B (wordsOf ups 0 B)
+  pub entry : (B : ℕ) → B < 64 → ChainEntry (spanLinks g (HoldsAt l) (e .one) (e .two)) B
+      (wordsOf ups 0 B)
 
 -- the table has the entries of the levels below l; e is the pair of the empty word
 pub record Upto (g : Rules) (e : Pair) (table : List ℕ) (l : ℕ) : Type 0 where
   pub size : length table ≡ 512
-  pub entry : (i B : ℕ) → i < l → B < 64 → ChainEntry (spanLinks g (HoldsAt i) (e .one) (e .two)) B (wordsOf table (128 * i) B)
+  pub entry : (i B : ℕ) → i < l → B < 64
+      → ChainEntry (spanLinks g (HoldsAt i) (e .one) (e .two)) B (wordsOf table (128 * i) B)
 
 -- all of them
 pub record Chains (g : Rules) (e : Pair) (table : List ℕ) : Type 0 where
   pub size : length table ≡ 512
-  pub entry : (i B : ℕ) → i < 4 → B < 64 → ChainEntry (spanLinks g (HoldsAt i) (e .one) (e .two)) B (wordsOf table (128 * i) B)
+  pub entry : (i B : ℕ) → i < 4 → B < 64
+      → ChainEntry (spanLinks g (HoldsAt i) (e .one) (e .two)) B (wordsOf table (128 * i) B)
 
 -- a clause is unary, and l is the least level at which its mark holds
 abbrev pub Ranked : ℕ → Clause → Type 0

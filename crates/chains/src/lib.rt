@@ -1,5 +1,6 @@
-// The table of chains, made once for the rules: what follows over a span from each nonterminal alone, by rules that have the
-// whole span on one side (links). A span's level says which unary marks hold of it.
+// The table of chains, made once for the rules: what follows over a span from each nonterminal
+// alone, by rules that have the whole span on one side (links). A span's level says which unary
+// marks hold of it.
 use cuts::Pair;
 use cuts::lowest;
 use cuts::put_pair;
@@ -20,10 +21,13 @@ ghost use Rattle.sets.specs.Says.{Says};
 ghost use Rattle.sets.specs.Sets.{In};
 ghost use Rattle.grammar.specs.Content.{rules, SmallRule, Formed};
 ghost use Rattle.cuts.specs.Joining.{Joins};
-ghost use Rattle.chains.specs.Reaching.{Has, Selves, Met, LinkCounted, RuleCounted, Branches, Through, Closes, Gathers, Turned};
-ghost use Rattle.chains.specs.Chains.{rank, HoldsAt, Leveled, Upto, Level, Chains, Ranked, Unranked, Stored, Copied};
+ghost use Rattle.chains.specs.Reaching.{Has, Selves, Met, LinkCounted, RuleCounted, Branches};
+ghost use Rattle.chains.specs.Reaching.{Through, Closes, Gathers, Turned};
+ghost use Rattle.chains.specs.Chains.{rank, HoldsAt, Leveled, Upto, Level, Chains, Ranked};
+ghost use Rattle.chains.specs.Chains.{Unranked, Stored, Copied};
 
-// The level of a span: 3 where all of its tokens stand on one line, 2 where offside holds, 1 where offalign does, else 0.
+// The level of a span: 3 where all of its tokens stand on one line, 2 where offside holds, 1 where
+// offalign does, else 0.
 pub fn level_of(k: SpanMarks) -> usize
     ensures { λ l. ⌜ Leveled k l ⌝ }
 {
@@ -128,7 +132,8 @@ fn met(set: u64, seen: u64, again: bool) -> u64
 fn count(seen: &mut [u64], twice: &mut [u64], base: &[u64], a: u8, b: u8, when: bool, again: bool)
     requires { ⌜ (a < 64) × (b < 64) ⌝ }
     requires { ⌜ (length (now seen) ≡ 64) × (length (now twice) ≡ 64) × (length (now base) ≡ 64) ⌝ }
-    ensures { λ r. ⌜ LinkCounted (when ≡ true) (again ≡ true) (now (base .entry)) a b (now (seen .entry)) (now (seen .exit)) (now (twice .entry)) (now (twice .exit)) ⌝ }
+    ensures { λ r. ⌜ LinkCounted (when ≡ true) (again ≡ true) (now (base .entry)) a b
+        (now (seen .entry)) (now (seen .exit)) (now (twice .entry)) (now (twice .exit)) ⌝ }
 {
     if !when {
         return;
@@ -143,7 +148,9 @@ fn count(seen: &mut [u64], twice: &mut [u64], base: &[u64], a: u8, b: u8, when: 
 fn count_rule(seen: &mut [u64], twice: &mut [u64], base: &[u64], r: Rule, e: Pair, l: usize)
     requires { ⌜ SmallRule r ⌝ }
     requires { ⌜ (length (now seen) ≡ 64) × (length (now twice) ≡ 64) × (length (now base) ≡ 64) ⌝ }
-    ensures { λ u. ⌜ RuleCounted (HoldsAt l) (e .one) (e .two) (now (base .entry)) (r .left) (r .clause) (now (seen .entry)) (now (seen .exit)) (now (twice .entry)) (now (twice .exit)) ⌝ }
+    ensures { λ u. ⌜ RuleCounted (HoldsAt l) (e .one) (e .two) (now (base .entry)) (r .left)
+        (r .clause) (now (seen .entry)) (now (seen .exit)) (now (twice .entry))
+        (now (twice .exit)) ⌝ }
 {
     let c = r.clause;
     match c {
@@ -161,7 +168,8 @@ fn count_rule(seen: &mut [u64], twice: &mut [u64], base: &[u64], r: Rule, e: Pai
 fn counts(seen: &mut [u64], twice: &mut [u64], base: &[u64], g: Grammar, e: Pair, l: usize)
     requires { ⌜ Formed g ⌝ }
     requires { ⌜ (length (now seen) ≡ 64) × (length (now twice) ≡ 64) × (length (now base) ≡ 64) ⌝ }
-    ensures { λ r. ⌜ Branches (rules g) (HoldsAt l) e (now (base .entry)) (g .count) (now (seen .exit)) (now (twice .exit)) ⌝ }
+    ensures { λ r. ⌜ Branches (rules g) (HoldsAt l) e (now (base .entry)) (g .count)
+        (now (seen .exit)) (now (twice .exit)) ⌝ }
 {
     selves(seen);
     clear(twice, 64);
@@ -176,7 +184,8 @@ fn counts(seen: &mut [u64], twice: &mut [u64], base: &[u64], g: Grammar, e: Pair
 // Put a set into the word of `a`, if that has `k`.
 fn add_if(words: &mut [u64], a: u8, k: u8, set: u64)
     requires { ⌜ (a < 64) × (k < 64) × (length (now words) ≡ 64) ⌝ }
-    ensures { λ r. ⌜ Joins (λ q B. (q ≡ a) × Has (now (words .entry)) a k × In set B) (now (words .entry)) (now (words .exit)) ⌝ }
+    ensures { λ r. ⌜ Joins (λ q B. (q ≡ a) × Has (now (words .entry)) a k × In set B)
+        (now (words .entry)) (now (words .exit)) ⌝ }
 {
     if !has(words[a as usize], k) {
         return;

@@ -1,4 +1,5 @@
--- The pairs of the empty word and of single tokens: the tries over them, as over the sheet of a word that has no more.
+-- The pairs of the empty word and of single tokens: the tries over them, as over the sheet of a
+-- word that has no more.
 use mathlib.Core.Path.{_≡_, refl, sym, subst, subst₂}
 use mathlib.Core.List.{List, [], _∷_}
 use mathlib.Core.Logic.{_↔_, ⊎-elim}
@@ -32,7 +33,8 @@ use Rattle.grammar.specs.Distinct.{Distinct}
 -- ---- the empty word
 
 -- the words of its sheet
-module _ {g : Rules} {b t : Tally} (distinct : Distinct g) (l : Leaves (alone 0 0) 0 g (length g) b) (sat : Saturated 0 0 (alone 0 0) 0 g b t) where
+module _ {g : Rules} {b t : Tally} (distinct : Distinct g) (l : Leaves (alone 0 0) 0 g (length g) b)
+    (sat : Saturated 0 0 (alone 0 0) 0 g b t) where
   before : List ℕ
   before = 0 ∷ 0 ∷ []
 
@@ -46,27 +48,36 @@ module _ {g : Rules} {b t : Tally} (distinct : Distinct g) (l : Leaves (alone 0 
   unfolding before after
   wrote = record { kept = record { long = refl; rest = rest }; first = refl; second = refl }
     where
-      rest : (q : ℕ) → (q ≡ 0 → ⊥) → (q ≡ 1 → ⊥) → getD (t .one ∷ t .two ∷ []) q 0 ≡ getD (0 ∷ 0 ∷ []) q 0
+      rest : (q : ℕ) → (q ≡ 0 → ⊥) → (q ≡ 1 → ⊥)
+          → getD (t .one ∷ t .two ∷ []) q 0 ≡ getD (0 ∷ 0 ∷ []) q 0
       rest zero x y = absurd (x refl)
       rest (suc zero) x y = absurd (y refl)
       rest (suc (suc q)) x y = refl
 
   here : Closed before after g nothing 0 0 0
   unfolding before nothing
-  here = closed before after g nothing 0 0 0 (alone 0 0) b t distinct (omega arith) (omega arith) (no-tokens nothing 0 0 0 0 refl) (record { parts = λ c d x y z. absurd (omega arith) })
-      (by-leaves (omega arith) l) sat (subst (λ (p : ℕ). WrotePair before after p (t .one) (t .two)) (sym (pairAt-empty 0 0)) wrote)
+  here = closed before after g nothing 0 0 0 (alone 0 0) b t distinct (omega arith) (omega arith)
+      (no-tokens nothing 0 0 0 0 refl) (record { parts = λ c d x y z. absurd (omega arith) })
+      (by-leaves (omega arith) l) sat
+      (subst (λ (p : ℕ). WrotePair before after p (t .one) (t .two)) (sym (pairAt-empty 0 0))
+      wrote)
 
   pub empty-found : EmptyPair g (t .one) (t .two)
   unfolding after nothing
   empty-found =
       let x = charted after after g nothing 0 refl (omega arith) 0 (record {
-        filled = record { done = λ c d q p. subst₂ (Settled (One after 0) (Two after 0) g nothing) (let z : 0 ≡ c = omega arith in z) (let z : 0 ≡ d = omega arith in z) (here .settled) };
+        filled = record {
+          done = λ c d q p. subst₂ (Settled (One after 0) (Two after 0) g nothing)
+              (let z : 0 ≡ c = omega arith in z) (let z : 0 ≡ d = omega arith in z) (here .settled);
+        };
         given = given-same after 0;
         past = past-same (2 * pairs 0) after;
       }) .exact in
       record {
-        one = λ A. subst (λ (i : ℕ). In (getD after (2 * i) 0) A ↔ Derives g A []) (pairAt-empty 0 0) (x .one 0 0 A (omega arith));
-        two = λ A. subst (λ (i : ℕ). In (getD after (2 * i + 1) 0) A ↔ TwoTrees g A []) (pairAt-empty 0 0) (x .two 0 0 A (omega arith));
+        one = λ A. subst (λ (i : ℕ). In (getD after (2 * i) 0) A ↔ Derives g A [])
+            (pairAt-empty 0 0) (x .one 0 0 A (omega arith));
+        two = λ A. subst (λ (i : ℕ). In (getD after (2 * i + 1) 0) A ↔ TwoTrees g A [])
+            (pairAt-empty 0 0) (x .two 0 0 A (omega arith));
       }
 
 -- ---- a single token
@@ -76,7 +87,8 @@ second-pair : pairAt 1 0 1 ≡ 1
 unfolding pairAt spans
 second-pair = refl
 
-module _ {g : Rules} {x p q : ℕ} {b t : Tally} (distinct : Distinct g) (e : EmptyPair g p q) (l : Leaves (alone x 0) 1 g (length g) b) (sat : Saturated p q (alone x 0) 1 g b t) where
+module _ {g : Rules} {x p q : ℕ} {b t : Tally} (distinct : Distinct g) (e : EmptyPair g p q)
+    (l : Leaves (alone x 0) 1 g (length g) b) (sat : Saturated p q (alone x 0) 1 g b t) where
   unread : List ℕ
   unread = p ∷ q ∷ 0 ∷ 0 ∷ []
 
@@ -84,7 +96,13 @@ module _ {g : Rules} {x p q : ℕ} {b t : Tally} (distinct : Distinct g) (e : Em
   read = p ∷ q ∷ t .one ∷ t .two ∷ []
 
   one-token : Word
-  one-token = record { terminal = x; line = record { 0 = 0 }; column = record { 0 = 0 }; width = record { 0 = 0 } } ∷ []
+  one-token = record {
+    terminal = x;
+    line = record { 0 = 0 };
+    column = record { 0 = 0 };
+    width =
+        record { 0 = 0 };
+  } ∷ []
 
   single : Half
   single = record { word = one-token; known = 1 }
@@ -93,7 +111,8 @@ module _ {g : Rules} {x p q : ℕ} {b t : Tally} (distinct : Distinct g) (e : Em
   unfolding unread read
   wrote-leaf = record { kept = record { long = refl; rest = rest }; first = refl; second = refl }
     where
-      rest : (i : ℕ) → (i ≡ 2 → ⊥) → (i ≡ 3 → ⊥) → getD (p ∷ q ∷ t .one ∷ t .two ∷ []) i 0 ≡ getD (p ∷ q ∷ 0 ∷ 0 ∷ []) i 0
+      rest : (i : ℕ) → (i ≡ 2 → ⊥) → (i ≡ 3 → ⊥)
+          → getD (p ∷ q ∷ t .one ∷ t .two ∷ []) i 0 ≡ getD (p ∷ q ∷ 0 ∷ 0 ∷ []) i 0
       rest zero y z = refl
       rest (suc zero) y z = refl
       rest (suc (suc zero)) y z = absurd (y refl)
@@ -101,15 +120,24 @@ module _ {g : Rules} {x p q : ℕ} {b t : Tally} (distinct : Distinct g) (e : Em
       rest (suc (suc (suc (suc i)))) y z = refl
 
   -- the empty word is settled wherever it stands
-  nulls : (ws : List ℕ) → getD ws 0 0 ≡ p → getD ws 1 0 ≡ q → (a : ℕ) → Settled (One ws 1) (Two ws 1) g single a 0
+  nulls : (ws : List ℕ) → getD ws 0 0 ≡ p → getD ws 1 0 ≡ q → (a : ℕ)
+      → Settled (One ws 1) (Two ws 1) g single a 0
   unfolding single one-token
-  nulls ws y z a = settled-empty ws g single 1 a (exact-settled ws g single 1 0 distinct (omega arith) (omega arith) (empty-exact e y z one-token 1) 0 0 (omega arith))
+  nulls ws y z a = settled-empty ws g single 1 a
+      (exact-settled ws g single 1 0 distinct (omega arith) (omega arith)
+      (empty-exact e y z one-token 1) 0 0 (omega arith))
 
   leaf-here : Closed unread read g single 1 0 1
   unfolding unread single one-token
-  leaf-here = closed unread read g single 1 0 1 (alone x 0) b t distinct (omega arith) (omega arith) (carried-all single 0 1 (alone x 0) (carried-first single 0 x 0 refl refl))
-      (record { parts = λ c d y z v. subst (Settled (One unread 1) (Two unread 1) g single c) (let u : 0 ≡ d = omega arith in u) (nulls unread refl refl c) })
-      (by-leaves (omega arith) l) sat (subst (λ (i : ℕ). WrotePair unread read i (t .one) (t .two)) (sym second-pair) wrote-leaf)
+  leaf-here = closed unread read g single 1 0 1 (alone x 0) b t distinct (omega arith) (omega arith)
+      (carried-all single 0 1 (alone x 0) (carried-first single 0 x 0 refl refl))
+      (record {
+        parts = λ c d y z v. subst (Settled (One unread 1) (Two unread 1) g single c)
+            (let u : 0 ≡ d = omega arith in u) (nulls unread refl refl c);
+      })
+      (by-leaves (omega arith) l) sat
+      (subst (λ (i : ℕ). WrotePair unread read i (t .one) (t .two)) (sym second-pair)
+      wrote-leaf)
 
   pub leaf-found : Leaf g x (t .one) (t .two)
   unfolding read single one-token
@@ -119,11 +147,14 @@ module _ {g : Rules} {x p q : ℕ} {b t : Tally} (distinct : Distinct g) (e : Em
         given = given-same read 1;
         past = past-same (2 * pairs 1) read;
       }) .exact in
-      subst (λ (i : ℕ). Leaf g x (getD read (2 * i) 0) (getD read (2 * i + 1) 0)) second-pair (exact-leaf 0 (omega arith) (omega arith) y)
+      subst (λ (i : ℕ). Leaf g x (getD read (2 * i) 0) (getD read (2 * i + 1) 0)) second-pair
+      (exact-leaf 0 (omega arith) (omega arith) y)
     where
       go : (c d : ℕ) → c + d ≤ 1 → Dec (d ≡ 0) → Settled (One read 1) (Two read 1) g single c d
-      go c d f (yes z) = subst (Settled (One read 1) (Two read 1) g single c) (sym z) (nulls read refl refl c)
-      go c d f (no z) = subst₂ (Settled (One read 1) (Two read 1) g single) (let u : 0 ≡ c = omega arith in u) (let u : 1 ≡ d = omega arith in u) (leaf-here .settled)
+      go c d f (yes z) =
+          subst (Settled (One read 1) (Two read 1) g single c) (sym z) (nulls read refl refl c)
+      go c d f (no z) = subst₂ (Settled (One read 1) (Two read 1) g single)
+          (let u : 0 ≡ c = omega arith in u) (let u : 1 ≡ d = omega arith in u) (leaf-here .settled)
 
 -- ---- written, one after the other
 
@@ -133,23 +164,49 @@ pub record PairsWritten (ws ws′ : List ℕ) (g : Rules) (w : Word) (n i : ℕ)
   pub leaves : (j : ℕ) → j < i → LeafAt g n ws′ j (tokenAt w j .terminal)
   pub past : Past (2 * pairs n) ws ws′
 
-pub written-none : {ws ws′ : List ℕ} {g : Rules} {p q : ℕ} (w : Word) (n : ℕ) → EmptyPair g p q → WrotePair ws ws′ 0 p q → PairsWritten ws′ ws′ g w n 0
-written-none {ws′ = ws′} w n e r = record { empty = empty-exact e (r .first) (r .second) w n; leaves = λ j l. absurd (omega arith); past = past-same (2 * pairs n) ws′ }
+pub written-none : {ws ws′ : List ℕ} {g : Rules} {p q : ℕ} (w : Word) (n : ℕ) → EmptyPair g p q
+    → WrotePair ws ws′ 0 p q → PairsWritten ws′ ws′ g w n 0
+written-none {ws′ = ws′} w n e r = record {
+  empty = empty-exact e (r .first) (r .second) w n;
+  leaves = λ j l. absurd (omega arith);
+  past =
+      past-same (2 * pairs n) ws′;
+}
 
-pub written-more : {ws ws₁ ws₂ : List ℕ} {g : Rules} {w : Word} {n i p q : ℕ} → i < n → PairsWritten ws ws₁ g w n i → Leaf g (tokenAt w i .terminal) p q → WrotePair ws₁ ws₂ (pairAt n i 1) p q → PairsWritten ws ws₂ g w n (i + 1)
+pub written-more : {ws ws₁ ws₂ : List ℕ} {g : Rules} {w : Word} {n i p q : ℕ} → i < n
+    → PairsWritten ws ws₁ g w n i → Leaf g (tokenAt w i .terminal) p q
+    → WrotePair ws₁ ws₂ (pairAt n i 1) p q → PairsWritten ws ws₂ g w n (i + 1)
 written-more {ws} {ws₁} {ws₂} {g} {w} {n} {i} {p} {q} h r l v = record {
-  empty = exact-words ws₂ (λ s len fit. (first-kept ws₁ ws₂ n (pairAt n i 1) (v .kept) s len (other s len (omega arith) (omega arith)), second-kept ws₁ ws₂ n (pairAt n i 1) (v .kept) s len (other s len (omega arith) (omega arith)))) (r .empty);
+  empty = exact-words ws₂ (λ s len fit. (
+    first-kept ws₁ ws₂ n (pairAt n i 1) (v .kept) s len
+        (other s len (omega arith) (omega arith)),
+    second-kept ws₁ ws₂ n (pairAt n i 1) (v .kept)
+        s len (other s len (omega arith) (omega arith)),
+  )) (r .empty);
   leaves = λ j k. go j k (decLt j i);
   past = past-then (r .past) (kept-past n i 1 (omega arith) (v .kept));
 }
   where
     -- another pair than that of the token at i
     other : (a b : ℕ) → a + b ≤ n → b + a < 1 + i → pairAt n a b ≡ pairAt n i 1 → ⊥
-    other a b f k y = let z = pairAt-same n a b i 1 f (omega arith) y in ⊎-elim (λ u. omega (arith, z .0, u)) (λ u. omega (arith, z .0, u)) (z .1)
+    other a b f k y = let z = pairAt-same n a b i 1 f (omega arith) y in
+        ⊎-elim (λ u. omega (arith, z .0, u)) (λ u. omega (arith, z .0, u)) (z .1)
 
     go : (j : ℕ) → j < i + 1 → Dec (j < i) → LeafAt g n ws₂ j (tokenAt w j .terminal)
-    go j k (yes y) = subst₂ (Leaf g (tokenAt w j .terminal)) (sym (first-kept ws₁ ws₂ n (pairAt n i 1) (v .kept) j 1 (other j 1 (omega arith) (omega arith)))) (sym (second-kept ws₁ ws₂ n (pairAt n i 1) (v .kept) j 1 (other j 1 (omega arith) (omega arith)))) (r .leaves j y)
-    go j k (no y) = subst (λ (z : ℕ). LeafAt g n ws₂ z (tokenAt w z .terminal)) (let u : i ≡ j = omega arith in u) (subst₂ (Leaf g (tokenAt w i .terminal)) (sym (v .first)) (sym (v .second)) l)
+    go j k (yes y) = subst₂ (Leaf g (tokenAt w j .terminal))
+        (sym (first-kept ws₁ ws₂ n (pairAt n i 1) (v .kept) j 1
+        (other j 1 (omega arith) (omega arith))))
+        (sym (second-kept ws₁ ws₂ n (pairAt n i 1) (v .kept) j 1
+        (other j 1 (omega arith) (omega arith)))) (r .leaves j y)
+    go j k (no y) = subst (λ (z : ℕ). LeafAt g n ws₂ z (tokenAt w z .terminal))
+        (let u : i ≡ j = omega arith in u)
+        (subst₂ (Leaf g (tokenAt w i .terminal)) (sym (v .first)) (sym (v .second)) l)
 
-pub written-all : {ws ws₁ ws₂ : List ℕ} {g : Rules} {w : Word} {n i : ℕ} → n ≤ i → Kept ws ws₁ 0 → PairsWritten ws₁ ws₂ g w n i → Begun ws ws₂ g w n
-written-all {ws} {ws₁} {n = n} h k r = record { empty = r .empty; leaves = λ j l. r .leaves j (omega arith); past = past-then (kept-past n 0 0 (omega arith) (subst (Kept ws ws₁) (sym (pairAt-empty n 0)) k)) (r .past) }
+pub written-all : {ws ws₁ ws₂ : List ℕ} {g : Rules} {w : Word} {n i : ℕ} → n ≤ i → Kept ws ws₁ 0
+    → PairsWritten ws₁ ws₂ g w n i → Begun ws ws₂ g w n
+written-all {ws} {ws₁} {n = n} h k r = record {
+  empty = r .empty;
+  leaves = λ j l. r .leaves j (omega arith);
+  past = past-then
+      (kept-past n 0 0 (omega arith) (subst (Kept ws ws₁) (sym (pairAt-empty n 0)) k)) (r .past);
+}

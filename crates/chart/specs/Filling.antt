@@ -29,7 +29,8 @@ pub record Given (ws ws′ : List ℕ) (n : ℕ) : Type 0 where
   pub first : (i : ℕ) → i < n → firstWord ws′ n i 1 ≡ firstWord ws n i 1
   pub second : (i : ℕ) → i < n → secondWord ws′ n i 1 ≡ secondWord ws n i 1
 
--- the span is passed: it ends at or before `from`, has at most a token, begins past s, or begins at s and has fewer than len tokens
+-- the span is passed: it ends at or before `from`, has at most a token, begins past s, or begins at
+-- s and has fewer than len tokens
 abbrev pub Passed : ℕ → ℕ → ℕ → ℕ → ℕ → Type 0
 Passed from s len a b = (a + b ≤ from) ⊎ ((b < 2) ⊎ ((s < a) ⊎ ((a ≡ s) × (b < len))))
 
@@ -37,7 +38,8 @@ Passed from s len a b = (a + b ≤ from) ⊎ ((b < 2) ⊎ ((s < a) ⊎ ((a ≡ s
 pub record Filled (ws : List ℕ) (g : Rules) (h : Half) (n from s len : ℕ) : Type 0 where
   pub done : (a b : ℕ) → a + b ≤ n → Passed from s len a b → Settled (One ws n) (Two ws n) g h a b
 
--- so are all that begin at or past s; the pairs of single tokens and the words past the sheet are as they were
+-- so are all that begin at or past s; the pairs of single tokens and the words past the sheet are
+-- as they were
 pub record Grown (ws ws′ : List ℕ) (g : Rules) (h : Half) (n from s : ℕ) : Type 0 where
   pub filled : Filled ws′ g h n from s (n + 1)
   pub given : Given ws ws′ n

@@ -1,4 +1,5 @@
--- The pairs of the empty word and of a token by itself: no mark can fail on either, so they go by no position.
+-- The pairs of the empty word and of a token by itself: no mark can fail on either, so they go by
+-- no position.
 use mathlib.Core.Path.{_≡_}
 use mathlib.Core.List.{List, [], _∷_}
 use mathlib.Core.Logic.{_↔_}

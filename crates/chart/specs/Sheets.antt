@@ -18,19 +18,22 @@ use Rattle.chart.specs.declared.Verdict.{Verdict}
 use Rattle.chart.specs.declared.Verdict.the-variants as Verdict
 use Rattle.chart.specs.Verdicts.{Holds}
 
--- of the spans of w that end at or before token `to`, the words ws, as a span sheet of n tokens, say exactly what has a valid tree and what has two
+-- of the spans of w that end at or before token `to`, the words ws, as a span sheet of n tokens,
+-- say exactly what has a valid tree and what has two
 pub record Exact (g : Rules) (w : Word) (n : ℕ) (ws : List ℕ) (to : ℕ) : Type 0 where
   pub one : (s len A : ℕ) → s + len ≤ to → In (firstWord ws n s len) A ↔ Derives g A (part w s len)
-  pub two : (s len A : ℕ) → s + len ≤ to → In (secondWord ws n s len) A ↔ TwoTrees g A (part w s len)
+  pub two : (s len A : ℕ) → s + len ≤ to
+      → In (secondWord ws n s len) A ↔ TwoTrees g A (part w s len)
 
--- the pairs of the empty word and of w's single tokens are right; the words past the sheet are as they were
+-- the pairs of the empty word and of w's single tokens are right; the words past the sheet are as
+-- they were
 pub record Begun (ws ws′ : List ℕ) (g : Rules) (w : Word) (n : ℕ) : Type 0 where
   pub empty : Exact g w n ws′ 0
   pub leaves : (i : ℕ) → i < n → LeafAt g n ws′ i (tokenAt w i .terminal)
   pub past : Past (2 * pairs n) ws ws′
 
--- a sheet may be filled anew but for the spans that end at or before `from` and those that begin at or past `to`:
--- these are right for h, and so are the pairs of the known tokens
+-- a sheet may be filled anew but for the spans that end at or before `from` and those that begin at
+-- or past `to`: these are right for h, and so are the pairs of the known tokens
 pub record Ready (g : Rules) (h : Half) (n : ℕ) (ws : List ℕ) (from to : ℕ) : Type 0 where
   pub low : from ≤ h .known
   pub high : h .known ≤ to
@@ -46,8 +49,10 @@ pub record Meets (g : Rules) (h : Half) (n : ℕ) (ws : List ℕ) (w : Word) : T
 
 -- what has a tree, or two, in a word that meets h is in the words
 pub record CoversMet (g : Rules) (h : Half) (n : ℕ) (ws : List ℕ) : Type 0 where
-  pub one : (w : Word) → Meets g h n ws w → (s len A : ℕ) → s + len ≤ length w → Derives g A (part w s len) → In (firstWord ws n s len) A
-  pub two : (w : Word) → Meets g h n ws w → (s len A : ℕ) → s + len ≤ length w → TwoTrees g A (part w s len) → In (secondWord ws n s len) A
+  pub one : (w : Word) → Meets g h n ws w → (s len A : ℕ) → s + len ≤ length w
+      → Derives g A (part w s len) → In (firstWord ws n s len) A
+  pub two : (w : Word) → Meets g h n ws w → (s len A : ℕ) → s + len ≤ length w
+      → TwoTrees g A (part w s len) → In (secondWord ws n s len) A
 
 -- the span sheet of a half-known word: exact as far as it is known, and missing nothing of the rest
 pub record Charted (ws ws′ : List ℕ) (g : Rules) (h : Half) (n : ℕ) : Type 0 where

@@ -41,7 +41,8 @@ pub fn empty_pair(codes: &[u64]) -> Pair
     }
 }
 
-// The pair of a token with the terminal `x`, wherever it stands; the empty word's is `one` and `two`.
+// The pair of a token with the terminal `x`, wherever it stands; the empty word's is `one` and
+// `two`.
 pub fn leaf_pair(codes: &[u64], x: u8, one: u64, two: u64) -> Pair
     requires { ⌜ Distinct (decoded (now codes)) ⌝ }
     requires { ⌜ EmptyPair (decoded (now codes)) one two ⌝ }
@@ -56,14 +57,16 @@ pub fn leaf_pair(codes: &[u64], x: u8, one: u64, two: u64) -> Pair
     }
 }
 
-// Settle the spans of two tokens or more that begin at `start` and end past `from`. Their marks, and with them the least
-// column on later lines, are carried along, a token at a time.
+// Settle the spans of two tokens or more that begin at `start` and end past `from`. Their marks,
+// and with them the least column on later lines, are carried along, a token at a time.
 fn fill_start(words: &mut [u64], d: Draft, codes: &[u64], from: usize, start: usize)
     requires { ⌜ Whole d × (start < d .count) ⌝ }
     requires { ⌜ 2 * pairs (d .count) ≤ length (now words) ⌝ }
     requires { ⌜ Distinct (decoded (now codes)) ⌝ }
-    requires { ⌜ Filled (now words) (decoded (now codes)) (half d) (d .count) from (start + 1) (d .count + 1) ⌝ }
-    ensures { λ r. ⌜ Grown (now (words .entry)) (now (words .exit)) (decoded (now (codes .entry))) (half d) (d .count) from start ⌝ }
+    requires { ⌜ Filled (now words) (decoded (now codes)) (half d) (d .count) from (start + 1)
+        (d .count + 1) ⌝ }
+    ensures { λ r. ⌜ Grown (now (words .entry)) (now (words .exit)) (decoded (now (codes .entry)))
+        (half d) (d .count) from start ⌝ }
 {
     let n = d.count;
     let known = d.known;
@@ -83,14 +86,16 @@ fn fill_start(words: &mut [u64], d: Draft, codes: &[u64], from: usize, start: us
     }
 }
 
-// Fill the span sheet of the draft anew, but for the spans that end at or before the token `from` and those that begin
-// at or past the token `to`: no token of these has changed. The pairs of the empty word and of single tokens are given.
+// Fill the span sheet of the draft anew, but for the spans that end at or before the token `from`
+// and those that begin at or past the token `to`: no token of these has changed. The pairs of the
+// empty word and of single tokens are given.
 pub fn fill(words: &mut [u64], d: Draft, codes: &[u64], from: usize, to: usize)
     requires { ⌜ (d .count ≤ 64) × (d .known ≤ d .count) ⌝ }
     requires { ⌜ 2 * pairs (d .count) ≤ length (now words) ⌝ }
     requires { ⌜ Distinct (decoded (now codes)) ⌝ }
     requires { ⌜ Ready (decoded (now codes)) (half d) (d .count) (now words) from to ⌝ }
-    ensures { λ r. ⌜ Charted (now (words .entry)) (now (words .exit)) (decoded (now (codes .entry))) (half d) (d .count) ⌝ }
+    ensures { λ r. ⌜ Charted (now (words .entry)) (now (words .exit)) (decoded (now (codes .entry)))
+        (half d) (d .count) ⌝ }
 {
     let mut start = to;
     while 0 < start {
@@ -104,7 +109,8 @@ pub fn fill_leaves(words: &mut [u64], d: Draft, codes: &[u64])
     requires { ⌜ d .count ≤ 64 ⌝ }
     requires { ⌜ 2 * pairs (d .count) ≤ length (now words) ⌝ }
     requires { ⌜ Distinct (decoded (now codes)) ⌝ }
-    ensures { λ r. ⌜ Begun (now (words .entry)) (now (words .exit)) (decoded (now (codes .entry))) (drafted d) (d .count) ⌝ }
+    ensures { λ r. ⌜ Begun (now (words .entry)) (now (words .exit)) (decoded (now (codes .entry)))
+        (drafted d) (d .count) ⌝ }
 {
     let n = d.count;
     let e = empty_pair(codes);
@@ -124,7 +130,8 @@ fn fill_all(words: &mut [u64], d: Draft, codes: &[u64])
     requires { ⌜ (d .count ≤ 64) × (d .known ≡ d .count) ⌝ }
     requires { ⌜ 2 * pairs (d .count) ≤ length (now words) ⌝ }
     requires { ⌜ Distinct (decoded (now codes)) ⌝ }
-    ensures { λ r. ⌜ Exact (decoded (now (codes .entry))) (drafted d) (d .count) (now (words .exit)) (d .count) ⌝ }
+    ensures { λ r. ⌜ Exact (decoded (now (codes .entry))) (drafted d) (d .count) (now (words .exit))
+        (d .count) ⌝ }
     ensures { λ r. ⌜ Past (2 * pairs (d .count)) (now (words .entry)) (now (words .exit)) ⌝ }
 {
     fill_leaves(words, d, codes);
@@ -143,7 +150,8 @@ pub fn judge(words: &mut [u64], s: Sentence, g: Grammar) -> Verdict
     requires { ⌜ s .count ≤ 64 ⌝ }
     requires { ⌜ 2 * pairs (s .count) ≤ length (now words) ⌝ }
     requires { ⌜ Formed g ⌝ }
-    ensures { λ r. ⌜ Judged r (rules g) (spelled s) (s .count) (now (words .entry)) (now (words .exit)) ⌝ }
+    ensures { λ r. ⌜ Judged r (rules g) (spelled s) (s .count) (now (words .entry))
+        (now (words .exit)) ⌝ }
 {
     let n = s.count;
     let tokens = s.tokens;
@@ -164,14 +172,16 @@ pub fn judge(words: &mut [u64], s: Sentence, g: Grammar) -> Verdict
     Verdict::One
 }
 
-// Has no completion of the draft two trees, its open tokens being what their pairs allow? (Where all of it is known: has it not?) The pairs of spans that end at or
-// before the token `from`, and of those that begin at or past the token `to`, are kept.
+// Has no completion of the draft two trees, its open tokens being what their pairs allow? (Where
+// all of it is known: has it not?) The pairs of spans that end at or before the token `from`, and
+// of those that begin at or past the token `to`, are kept.
 pub fn hopeless(words: &mut [u64], d: Draft, codes: &[u64], from: usize, to: usize) -> bool
     requires { ⌜ (d .count ≤ 64) × (d .known ≤ d .count) ⌝ }
     requires { ⌜ 2 * pairs (d .count) ≤ length (now words) ⌝ }
     requires { ⌜ Distinct (decoded (now codes)) ⌝ }
     requires { ⌜ Ready (decoded (now codes)) (half d) (d .count) (now words) from to ⌝ }
-    ensures { λ r. ⌜ Settles r (decoded (now (codes .entry))) (half d) (d .count) (now (words .entry)) (now (words .exit)) ⌝ }
+    ensures { λ r. ⌜ Settles r (decoded (now (codes .entry))) (half d) (d .count)
+        (now (words .entry)) (now (words .exit)) ⌝ }
 {
     let n = d.count;
     fill(words, d, codes, from, to);

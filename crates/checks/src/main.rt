@@ -1,6 +1,6 @@
-// Answers each case of standard input and writes the outputs one after the other. A case is a letter and what it asks for: `c` an input
-// of the program `check`, `s` one of `sweep`, `t` a bound in five digits and a rule sheet, for the number of candidates that the sweep
-// tries.
+// Answers each case of standard input and writes the outputs one after the other. A case is a
+// letter and what it asks for: `c` an input of the program `check`, `s` one of `sweep`, `t` a bound
+// in five digits and a rule sheet, for the number of candidates that the sweep tries.
 use cases::five;
 use cases::next_case;
 use libc::STDOUT_FILENO;

@@ -25,36 +25,56 @@ pub record NoneTo (g : Rules) (A from i : ℕ) : Type 0 where
 pub none-first : (g : Rules) (A from : ℕ) → NoneTo g A from from
 none-first g A from = record { low = omega arith; none = λ j a b e. omega arith }
 
-pub none-more : {g : Rules} {A from i : ℕ} → NoneTo g A from i → (rule g i .left ≡ A → ⊥) → NoneTo g A from (i + 1)
-none-more {g} {A} {from} {i} x y = record { low = omega (arith, x .low); none = λ j a b e. go j a b e (ℕ-discrete j i) }
+pub none-more : {g : Rules} {A from i : ℕ} → NoneTo g A from i → (rule g i .left ≡ A → ⊥)
+    → NoneTo g A from (i + 1)
+none-more {g} {A} {from} {i} x y =
+    record { low = omega (arith, x .low); none = λ j a b e. go j a b e (ℕ-discrete j i) }
   where
     go : (j : ℕ) → from ≤ j → j < i + 1 → rule g j .left ≡ A → Dec (j ≡ i) → ⊥
     go j a b e (yes z) = y (ap (λ (q : ℕ). rule g q .left) (sym z) ∙ e)
     go j a b e (no z) = x .none j a (omega arith) e
 
-pub none-found : {g : Rules} {A from i : ℕ} → NoneTo g A from i → rule g i .left ≡ A → FirstOf g A from i
+pub none-found : {g : Rules} {A from i : ℕ} → NoneTo g A from i → rule g i .left ≡ A
+    → FirstOf g A from i
 none-found x e = record { low = x .low; skips = λ j a b c. x .none j a b; is = λ h. e }
 
-pub none-end : {g : Rules} {A from i : ℕ} (r : ℕ) → NoneTo g A from i → length g ≤ i → i ≤ r → FirstOf g A from r
-none-end r x h k = record { low = omega (arith, x .low); skips = λ j a b c. x .none j a (omega arith); is = λ l. absurd (omega arith) }
+pub none-end : {g : Rules} {A from i : ℕ} (r : ℕ) → NoneTo g A from i → length g ≤ i → i ≤ r
+    → FirstOf g A from r
+none-end r x h k = record {
+  low = omega (arith, x .low);
+  skips = λ j a b c. x .none j a
+      (omega arith);
+  is = λ l. absurd (omega arith);
+}
 
 module _ {g : Rules} {m : ℕ} {l : List ℕ} where
-  pub firsts-more : (r : ℕ) → m < length l → Firsts g m l → FirstOf g m 0 r → Firsts g (m + 1) (set l m r)
+  pub firsts-more : (r : ℕ) → m < length l → Firsts g m l → FirstOf g m 0 r
+      → Firsts g (m + 1) (set l m r)
   firsts-more r h x y = record { first = λ A k. go A k (ℕ-discrete A m) }
     where
       go : (A : ℕ) → A < m + 1 → Dec (A ≡ m) → FirstOf g A 0 (getD (set l m r) A 0)
       go A k (yes e) = rw e (subst (FirstOf g m 0) (sym (getD-set-same l m r 0 h)) y)
-      go A k (no e) = subst (FirstOf g A 0) (sym (getD-set-other l m A r 0 e)) (x .first A (omega arith))
+      go A k (no e) =
+          subst (FirstOf g A 0) (sym (getD-set-other l m A r 0 e)) (x .first A (omega arith))
 
-  pub nexts-more : (r : ℕ) → 64 + m < length l → Nexts g m l → FirstOf g (rule g m .left) (m + 1) r → Nexts g (m + 1) (set l (64 + m) r)
+  pub nexts-more : (r : ℕ) → 64 + m < length l → Nexts g m l → FirstOf g (rule g m .left) (m + 1) r
+      → Nexts g (m + 1) (set l (64 + m) r)
   nexts-more r h x y = record { next = λ i k. go i k (ℕ-discrete i m) }
     where
-      go : (i : ℕ) → i < m + 1 → Dec (i ≡ m) → FirstOf g (rule g i .left) (i + 1) (getD (set l (64 + m) r) (64 + i) 0)
-      go i k (yes e) = rw e (subst (FirstOf g (rule g m .left) (m + 1)) (sym (getD-set-same l (64 + m) r 0 h)) y)
-      go i k (no e) = subst (FirstOf g (rule g i .left) (i + 1)) (sym (getD-set-other l (64 + m) (64 + i) r 0 (λ z. e (omega arith)))) (x .next i (omega arith))
+      go : (i : ℕ) → i < m + 1 → Dec (i ≡ m)
+          → FirstOf g (rule g i .left) (i + 1) (getD (set l (64 + m) r) (64 + i) 0)
+      go i k (yes e) =
+          rw e (subst (FirstOf g (rule g m .left) (m + 1)) (sym (getD-set-same l (64 + m) r 0 h)) y)
+      go i k (no e) = subst (FirstOf g (rule g i .left) (i + 1))
+          (sym (getD-set-other l (64 + m) (64 + i) r 0 (λ z. e (omega arith))))
+          (x .next i (omega arith))
 
-pub firsts-kept : {g : Rules} {l : List ℕ} (m r : ℕ) → Firsts g 64 l → Firsts g 64 (set l (64 + m) r)
-firsts-kept {g} {l} m r x = record { first = λ A k. subst (FirstOf g A 0) (sym (getD-set-other l (64 + m) A r 0 (λ z. omega arith))) (x .first A k) }
+pub firsts-kept : {g : Rules} {l : List ℕ} (m r : ℕ) → Firsts g 64 l
+    → Firsts g 64 (set l (64 + m) r)
+firsts-kept {g} {l} m r x = record {
+  first = λ A k. subst (FirstOf g A 0)
+      (sym (getD-set-other l (64 + m) A r 0 (λ z. omega arith))) (x .first A k);
+}
 
 pub first-as : {g : Rules} {A B from r : ℕ} → A ≡ B → FirstOf g A from r → FirstOf g B from r
 first-as {g} {A} {B} {from} {r} e x = subst (λ (X : ℕ). FirstOf g X from r) e x
@@ -63,7 +83,8 @@ first-as {g} {A} {B} {from} {r} e x = subst (λ (X : ℕ). FirstOf g X from r) e
 
 module _ (ws : List ℕ) (g : Grammar) (n start len : ℕ) (m : SpanMarks) (A p k : ℕ) where
   -- rules of other nonterminals are passed over
-  pub pick-jump : (i j : ℕ) → FirstOf (rules g) A i j → Reached ws g n start len m A p k i 0 → Reached ws g n start len m A p k j 0
+  pub pick-jump : (i j : ℕ) → FirstOf (rules g) A i j → Reached ws g n start len m A p k i 0
+      → Reached ws g n start len m A p k j 0
   pick-jump i j f r = record {
     on = ⊎-elim (λ x. inl (omega (arith, f .low))) (λ e. go (e .0) (e .1) (decLt p j)) (r .on);
     rest = λ q l u c. on-to q l (r .rest q l u c) c (decLt q j);
@@ -74,7 +95,8 @@ module _ (ws : List ℕ) (g : Grammar) (n start len : ℕ) (m : SpanMarks) (A p 
       go e h (no x) = inr (omega (arith, f .low), h)
 
       on-to : (q l : ℕ) → Upon i 0 q l → Stood ws g n start len m A q l → Dec (q < j) → Upon j 0 q l
-      on-to q l u c (yes x) = absurd (f .skips q (⊎-elim (λ y. omega arith) (λ y. omega (arith, y .0)) u) x (c .within) (c .left))
+      on-to q l u c (yes x) = absurd (f .skips q
+          (⊎-elim (λ y. omega arith) (λ y. omega (arith, y .0)) u) x (c .within) (c .left))
       on-to q l u c (no x) = after (decLt j q)
         where
           after : Dec (j < q) → Upon j 0 q l
@@ -82,7 +104,8 @@ module _ (ws : List ℕ) (g : Grammar) (n start len : ℕ) (m : SpanMarks) (A p 
           after (no y) = inr (omega arith, omega arith)
 
   -- from the first rule of A on is from the beginning on
-  pub pick-first : (i : ℕ) (u : Pick) → FirstOf (rules g) A 0 i → FirstPick ws g n start len m A i 0 u → FirstPick ws g n start len m A 0 0 u
+  pub pick-first : (i : ℕ) (u : Pick) → FirstOf (rules g) A 0 i
+      → FirstPick ws g n start len m A i 0 u → FirstPick ws g n start len m A 0 0 u
   pick-first i (Pick.At j l) f x = (
     record { on = start-upon j l; rest = λ q h u c. x .0 .rest q h (first-upon q h c) c },
     x .1,

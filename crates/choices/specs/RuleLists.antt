@@ -1,4 +1,5 @@
--- The rules of each nonterminal as a list of places (inner: contracts of the functions that go along it).
+-- The rules of each nonterminal as a list of places (inner: contracts of the functions that go
+-- along it).
 use mathlib.Core.Path.{_≡_}
 use mathlib.Core.List.{List}
 use Prim.Native.Nat.{ℕ, _+_, _≤_, _<_}

@@ -38,7 +38,8 @@ fn fits_unary(
 ) -> bool
     requires { ⌜ Room (now words) n start len ⌝ }
     requires { ⌜ b < 64 ⌝ }
-    ensures { λ r. ⌜ Says r (Fits (One (now (words .entry)) n) (byMarks k len) start len (Kind.Unary b m) left) ⌝ }
+    ensures { λ r. ⌜ Says r (Fits (One (now (words .entry)) n) (byMarks k len) start len
+        (Kind.Unary b m) left) ⌝ }
 {
     if left != 0 {
         return false;
@@ -63,7 +64,8 @@ fn fits_binary(
 ) -> bool
     requires { ⌜ Room (now words) n start len ⌝ }
     requires { ⌜ (b < 64) × (e < 64) ⌝ }
-    ensures { λ r. ⌜ Says r (Fits (One (now (words .entry)) n) (byMarks k len) start len (Kind.Binary b e m) left) ⌝ }
+    ensures { λ r. ⌜ Says r (Fits (One (now (words .entry)) n) (byMarks k len) start len
+        (Kind.Binary b e m) left) ⌝ }
 {
     if len < left {
         return false;
@@ -139,7 +141,8 @@ fn rule_from(g: Grammar, a: u8, from: usize) -> usize
 fn list_firsts(g: Grammar, lists: &mut [u64])
     requires { ⌜ Formed g ⌝ }
     requires { ⌜ length (now lists) ≡ 192 ⌝ }
-    ensures { λ r. ⌜ Firsts (rules g) 64 (now (lists .exit)) × (length (now (lists .exit)) ≡ 192) ⌝ }
+    ensures { λ r. ⌜ Firsts (rules g) 64 (now (lists .exit))
+        × (length (now (lists .exit)) ≡ 192) ⌝ }
 {
     let mut a: u8 = 0;
     while a < 64 {
@@ -164,7 +167,8 @@ fn list_nexts(g: Grammar, lists: &mut [u64])
     }
 }
 
-// The rules of each nonterminal as a list: at `a` the place of its first rule, at 64 + i that of the next behind the rule at i.
+// The rules of each nonterminal as a list: at `a` the place of its first rule, at 64 + i that of
+// the next behind the rule at i.
 pub fn list_rules(g: Grammar, lists: &mut [u64])
     requires { ⌜ Formed g ⌝ }
     requires { ⌜ length (now lists) ≡ 192 ⌝ }
@@ -180,7 +184,8 @@ pub enum Split {
     Nowhere,
 }
 
-// A choice: the rule's place in the sheet, counted from 0, and the length of the left word; or none.
+// A choice: the rule's place in the sheet, counted from 0, and the length of the left word; or
+// none.
 pub enum Pick {
     At(usize, usize),
     Nothing,
@@ -216,7 +221,8 @@ fn next_split(
     Split::Nowhere
 }
 
-// The first rule that stands over the span for `a`, from the place `rule` with `left` tokens on its left on.
+// The first rule that stands over the span for `a`, from the place `rule` with `left` tokens on its
+// left on.
 fn next_rule(
     words: &[u64],
     n: usize,
@@ -286,7 +292,8 @@ pub fn next_listed(
     Pick::Nothing
 }
 
-// The first choice of `a` at the span of `len` tokens from `start` on that is not before the choice (`rule`, `left`).
+// The first choice of `a` at the span of `len` tokens from `start` on that is not before the choice
+// (`rule`, `left`).
 pub fn next_choice(
     words: &[u64],
     s: Sentence,

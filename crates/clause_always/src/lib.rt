@@ -7,7 +7,8 @@ ghost use Rattle.clause_always.specs.Clauses.{ClauseAlways};
 // Has no sentence two readings, whatever its length? Clear, or unknown, with all doubts about the
 // expansion's rules.
 pub fn clauses_always(clauses: &[u8], words: &mut [u64], list: &mut [u8]) -> AlwaysReply
-    ensures { λ r. ⌜ ClauseAlways (now (clauses .entry)) (now (words .entry)) (now (words .exit)) (now (list .entry)) (now (list .exit)) r ⌝ }
+    ensures { λ r. ⌜ ClauseAlways (now (clauses .entry)) (now (words .entry)) (now (words .exit))
+        (now (list .entry)) (now (list .exit)) r ⌝ }
 {
     always_read(read_clauses(clauses), words, list)
 }

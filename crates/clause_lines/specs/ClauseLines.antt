@@ -48,4 +48,5 @@ leftSays none e = unwritten
 
 -- a nonterminal number, a blank, and an expression; the line's bytes without its byte 10
 abbrev pub clauseLine : List ℕ → Said ClauseLine
-clauseLine line = leftSays (numeralOf (before 32 line)) (expression (drop (length (before 32 line) + 1) line))
+clauseLine line =
+    leftSays (numeralOf (before 32 line)) (expression (drop (length (before 32 line) + 1) line))

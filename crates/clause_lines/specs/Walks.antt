@@ -90,30 +90,51 @@ stateAfter Lexeme.Not = State.Due
 
 -- the walk behind a lexeme that ends at e
 abbrev pub stepped : Walk → Lexeme → ℕ → Walk
-stepped w (Lexeme.Nonterminal a) e = record { at = e; state = State.Plain; deep = w .deep; over = w .over; past = max (w .past) (a + 1) }
-stepped w (Lexeme.Terminal a) e = record { at = e; state = State.Plain; deep = w .deep; over = w .over; past = w .past }
-stepped w Lexeme.Open e = record { at = e; state = State.Due; deep = w .deep + 1; over = w .over || leb 16 (w .deep); past = w .past }
-stepped w Lexeme.Close e = record { at = e; state = State.Grouped; deep = w .deep - 1; over = w .over; past = w .past }
-stepped w Lexeme.Bar e = record { at = e; state = State.Due; deep = w .deep; over = w .over; past = w .past }
-stepped w (Lexeme.Join m) e = record { at = e; state = State.Due; deep = w .deep; over = w .over; past = w .past }
-stepped w Lexeme.Maybe e = record { at = e; state = State.Suffixed; deep = w .deep; over = w .over; past = w .past }
-stepped w (Lexeme.Plus m) e = record { at = e; state = State.Suffixed; deep = w .deep; over = w .over; past = w .past }
-stepped w (Lexeme.Star m) e = record { at = e; state = State.Suffixed; deep = w .deep; over = w .over; past = w .past }
-stepped w (Lexeme.Marked m) e = record { at = e; state = State.Suffixed; deep = w .deep; over = w .over; past = w .past }
-stepped w Lexeme.End e = record { at = e; state = State.Due; deep = w .deep; over = w .over; past = w .past }
-stepped w Lexeme.Not e = record { at = e; state = State.Due; deep = w .deep; over = w .over; past = w .past }
+stepped w (Lexeme.Nonterminal a) e = record
+    { at = e; state = State.Plain; deep = w .deep; over = w .over; past = max (w .past) (a + 1) }
+stepped w (Lexeme.Terminal a) e =
+    record { at = e; state = State.Plain; deep = w .deep; over = w .over; past = w .past }
+stepped w Lexeme.Open e = record {
+  at = e;
+  state = State.Due;
+  deep = w .deep + 1;
+  over = w .over || leb 16 (w .deep);
+  past =
+      w .past;
+}
+stepped w Lexeme.Close e =
+    record { at = e; state = State.Grouped; deep = w .deep - 1; over = w .over; past = w .past }
+stepped w Lexeme.Bar e =
+    record { at = e; state = State.Due; deep = w .deep; over = w .over; past = w .past }
+stepped w (Lexeme.Join m) e =
+    record { at = e; state = State.Due; deep = w .deep; over = w .over; past = w .past }
+stepped w Lexeme.Maybe e =
+    record { at = e; state = State.Suffixed; deep = w .deep; over = w .over; past = w .past }
+stepped w (Lexeme.Plus m) e =
+    record { at = e; state = State.Suffixed; deep = w .deep; over = w .over; past = w .past }
+stepped w (Lexeme.Star m) e =
+    record { at = e; state = State.Suffixed; deep = w .deep; over = w .over; past = w .past }
+stepped w (Lexeme.Marked m) e =
+    record { at = e; state = State.Suffixed; deep = w .deep; over = w .over; past = w .past }
+stepped w Lexeme.End e =
+    record { at = e; state = State.Due; deep = w .deep; over = w .over; past = w .past }
+stepped w Lexeme.Not e =
+    record { at = e; state = State.Due; deep = w .deep; over = w .over; past = w .past }
 
 -- the answer from lexemes on that are still to come
 abbrev pub answer : Option (List Lex) → F.State → ℕ → Bool → ℕ → Checked
 answer none s d b p = Checked.Unwritten
-answer (some l) s d b p = cond (F.run l s d) (cond (not b && F.shallow 16 l d) (Checked.Good (max p (F.pastLexes l))) Checked.Deep) Checked.Unwritten
+answer (some l) s d b p = cond (F.run l s d)
+    (cond (not b && F.shallow 16 l d) (Checked.Good (max p (F.pastLexes l))) Checked.Deep)
+    Checked.Unwritten
 
 abbrev pub answerAt : List ℕ → Walk → Checked
 answerAt s w = answer (lexemes (drop (w .at) s)) (stateOf (w .state)) (w .deep) (w .over) (w .past)
 
 -- at the end
 abbrev pub closing : Walk → Checked
-closing w = cond (not (isDue (w .state)) && eqb (w .deep) 0) (cond (w .over) Checked.Deep (Checked.Good (w .past))) Checked.Unwritten
+closing w = cond (not (isDue (w .state)) && eqb (w .deep) 0)
+    (cond (w .over) Checked.Deep (Checked.Good (w .past))) Checked.Unwritten
 
 -- what an expression says, and one past its largest nonterminal
 abbrev pub checkedOf : Said (Expr alternatives) → Checked

@@ -1,11 +1,13 @@
-// A clause line by itself: is it so written, is it nested too deep, and which nonterminals does it write?
+// A clause line by itself: is it so written, is it nested too deep, and which nonterminals does it
+// write?
 use lexemes::Lexeme;
 use lexemes::lexeme_at;
 ghost use mathlib.Core.Path.{_≡_};
 ghost use Prim.Native.Nat.{_+_, _<_};
 ghost use mathlib.Core.Bool.{true};
 ghost use Rattle.clause_lines.specs.ClauseLines.{expression};
-ghost use Rattle.clause_lines.specs.Walks.{isDue, takesRepeat, takesMark, may, stepped, closing, isEnd, checkedOf};
+ghost use Rattle.clause_lines.specs.Walks.{isDue, takesRepeat, takesMark, may, stepped};
+ghost use Rattle.clause_lines.specs.Walks.{closing, isEnd, checkedOf};
 ghost use Rattle.lexemes.specs.declared.Lexeme.the-variants as Lexeme;
 
 // What stands just before: an item is due; or n or t, a group, what stands after an item.
@@ -16,7 +18,8 @@ pub enum State {
     Suffixed,
 }
 
-// The walk over an expression's lexemes: the place, what stands before it, the open parentheses, whether there were more than sixteen, one past the largest nonterminal.
+// The walk over an expression's lexemes: the place, what stands before it, the open parentheses,
+// whether there were more than sixteen, one past the largest nonterminal.
 pub struct Walk {
     pub at: usize,
     pub state: State,
@@ -146,7 +149,14 @@ fn opened(w: Walk, end: usize) -> Walk
 
 // The walk behind a lexeme that changes but the state.
 fn moved(w: Walk, state: State, end: usize) -> Walk
-    ensures { λ r. ⌜ r ≡ record { at = end; state = state; deep = w .deep; over = w .over; past = w .past } ⌝ }
+    ensures { λ r. ⌜ r ≡ record {
+      at = end;
+      state = state;
+      deep = w .deep;
+      over = w .over;
+      past = w
+          .past;
+    } ⌝ }
 {
     Walk {
         at: end,

@@ -4,7 +4,8 @@ use mathlib.Core.List.{List, [], _∷_}
 use Prim.Native.Nat.{ℕ}
 use native.Mathlib.Omega.{arith}
 use Rattle.clauses.specs.Clauses as C
-use Rattle.clauses.specs.Text.{Suffix, maybe, repeats, marks, Lex, n, t, opening, closing, bar, suffix, join}
+use Rattle.clauses.specs.Text.{Suffix, maybe, repeats, marks, Lex, n, t, opening, closing, bar}
+use Rattle.clauses.specs.Text.{suffix, join}
 use Rattle.clauses.proofs.Legible.{NoSuffix, NoJoin, NoBar}
 use Rattle.lexemes.specs.Answers.{lexemeOf, Lexes}
 use Rattle.lexemes.specs.declared.Lexed.{Lexed}
@@ -53,7 +54,8 @@ module _ (s : List ℕ) (at : ℕ) (r : Lexed) (h : Lexes s at r) where
   no-join (opening ∷ k) e f z = let y = sort-of opening k e in omega arith
   no-join (closing ∷ k) e f z = let y = sort-of closing k e in omega arith
   no-join (bar ∷ k) e f z = let y = sort-of bar k e in omega arith
-  no-join (suffix q ∷ k) e f z = let y = sort-of (suffix q) k e in let w = suffix-sort q in omega arith
+  no-join (suffix q ∷ k) e f z = let y = sort-of (suffix q) k e in let w = suffix-sort q in
+      omega arith
   no-join (join m ∷ k) e f z = f .bars m k refl
 
   pub no-bar : (k : List Lex) → Left s at k → NoBar k → sortOf (r .lexeme) ≡ 3 → ⊥
@@ -63,7 +65,8 @@ module _ (s : List ℕ) (at : ℕ) (r : Lexed) (h : Lexes s at r) where
   no-bar (opening ∷ k) e f z = let y = sort-of opening k e in omega arith
   no-bar (closing ∷ k) e f z = let y = sort-of closing k e in omega arith
   no-bar (bar ∷ k) e f z = f .bars k refl
-  no-bar (suffix q ∷ k) e f z = let y = sort-of (suffix q) k e in let w = suffix-sort q in omega arith
+  no-bar (suffix q ∷ k) e f z = let y = sort-of (suffix q) k e in let w = suffix-sort q in
+      omega arith
   no-bar (join m ∷ k) e f z = let y = sort-of (join m) k e in omega arith
 
   pub suffix-told : (q : Suffix) (k : List Lex) → Left s at (suffix q ∷ k) → sortOf (r .lexeme) ≡ 5

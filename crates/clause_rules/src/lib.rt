@@ -1,5 +1,6 @@
-// The rules of an expression: alternatives, sequence and item readers that call each other while the remaining bytes fall.
-// They are for expressions that are known to be so written; of others they say nothing but that they end.
+// The rules of an expression: alternatives, sequence and item readers that call each other while
+// the remaining bytes fall. They are for expressions that are known to be so written; of others
+// they say nothing but that they end.
 use grammar::BinaryMark;
 use grammar::Clause;
 use grammar::Rule;
@@ -18,7 +19,8 @@ ghost use Prim.Native.Nat.{_≤_};
 ghost use lib.ListN.{length};
 ghost use Rattle.rule_output.specs.Signs.{sortOf, bindingOf};
 ghost use Rattle.clause_rules.specs.Ends.{GroupEnd, AtomEnd, ItemEnd};
-ghost use Rattle.clause_rules.specs.Reading.{AtomRead, ItemRead, RestRead, SequenceRead, AlternativesRead};
+ghost use Rattle.clause_rules.specs.Reading.{AtomRead, ItemRead, RestRead, SequenceRead};
+ghost use Rattle.clause_rules.specs.Reading.{AlternativesRead};
 
 // What a lexeme is where the readers go by it.
 fn sort(l: Lexeme) -> u8

@@ -24,7 +24,8 @@ use Rattle.clauses.proofs.Bounds.{Terms, TermsAll}
 use Rattle.clauses.proofs.Apart.{expansion-distinct}
 use Rattle.rule_output.specs.declared.Emit.{Emit}
 use Rattle.rule_output.specs.Emitting.{Adds, Cause}
-use Rattle.clause_lines.specs.ClauseLines.{ClauseLine, Said, good, unwritten, deep, expression, withLeft, leftSays, clauseLine}
+use Rattle.clause_lines.specs.ClauseLines.{ClauseLine, Said, good, unwritten, deep, expression}
+use Rattle.clause_lines.specs.ClauseLines.{withLeft, leftSays, clauseLine}
 use Rattle.sheets.specs.declared.Fault.{Fault}
 use Rattle.sheets.specs.Refusals.{numberOf}
 use Rattle.sheets.specs.Promises.{readingOf}
@@ -32,7 +33,8 @@ use Rattle.sheets.proofs.Once.{never-both}
 use Rattle.sheets.specs.Items.{Reading, accepted, refused, next, stop, end, itemsFrom}
 use Rattle.sheets.specs.RuleSheets.{finish}
 use Rattle.sheets.proofs.Accepted.{items-hold}
-use Rattle.clause_sheets.specs.ClauseSheets.{clauseSaid, clauseStep, clausesOf, expansionFits, expanded, clausesFrom}
+use Rattle.clause_sheets.specs.ClauseSheets.{clauseSaid, clauseStep, clausesOf, expansionFits}
+use Rattle.clause_sheets.specs.ClauseSheets.{expanded, clausesFrom}
 use Rattle.clause_sheets.specs.Emitted.{emitAll}
 use Rattle.clause_sheets.specs.Checks.{RulesTaken, LinesEmitted, PassedAs}
 use Rattle.sheets.specs.declared.Outcome.{Outcome}
@@ -54,26 +56,32 @@ less : (a b : ℕ) → a < suc b → (a ≡ b → ⊥) → a < b
 less a b p q = omega (arith, q)
 
 module _ (K : ℕ) (r : Rule) (g : Rules) (ih : Longer K r g) where
-  at : (b : Bool) → length (rising K (r ∷ g) ++ put b r (of K g)) ≡ length (rising K (r ∷ g)) + length (put b r (of K g))
+  at : (b : Bool) → length (rising K (r ∷ g) ++ put b r (of K g)) ≡ length (rising K (r ∷ g))
+      + length (put b r (of K g))
   at b = length-append (rising K (r ∷ g)) (put b r (of K g))
 
-  as-test : (b : Bool) → eqb (r .left) K ≡ b → length (rising (suc K) (r ∷ g)) ≡ length (rising K (r ∷ g) ++ put b r (of K g))
+  as-test : (b : Bool) → eqb (r .left) K ≡ b
+      → length (rising (suc K) (r ∷ g)) ≡ length (rising K (r ∷ g) ++ put b r (of K g))
   as-test b e = ap (λ (x : Bool). length (rising K (r ∷ g) ++ put x r (of K g))) e
 
   both : length (rising (suc K) g) ≡ length (rising K g) + length (of K g)
   both = length-append (rising K g) (of K g)
 
-  low-step : r .left < suc K → (b : Bool) → eqb (r .left) K ≡ b → length (rising (suc K) (r ∷ g)) ≡ suc (length (rising (suc K) g))
-  low-step h true e = let z = eqb→eq (r .left) K (rw e tt) in let y = ih .high (omega arith) in omega (arith, as-test true e, at true, both)
+  low-step : r .left < suc K → (b : Bool) → eqb (r .left) K ≡ b
+      → length (rising (suc K) (r ∷ g)) ≡ suc (length (rising (suc K) g))
+  low-step h true e = let z = eqb→eq (r .left) K (rw e tt) in let y = ih .high (omega arith) in
+      omega (arith, as-test true e, at true, both)
   low-step h false e =
-      let y = ih .low (less (r .left) K h (λ q. let u = sym (eq-eqb (r .left) K q) ∙ e in clash cc)) in
+      let y = ih .low (less (r .left) K h
+      (λ q. let u = sym (eq-eqb (r .left) K q) ∙ e in clash cc)) in
       omega (arith, as-test false e, at false, both)
 
   longer-step : Longer (suc K) r g
   longer-step =
       record {
         low = λ h. low-step h (eqb (r .left) K) refl;
-        high = λ h. let y = ih .high (omega arith) in omega (arith, as-test false (ne-eqb (r .left) K (λ q. omega arith)), at false, both);
+        high = λ h. let y = ih .high (omega arith) in
+            omega (arith, as-test false (ne-eqb (r .left) K (λ q. omega arith)), at false, both);
       }
 
 longer : (K : ℕ) (r : Rule) (g : Rules) → Longer K r g
@@ -84,33 +92,43 @@ none-rising : (K : ℕ) → length (rising K []) ≡ 0
 none-rising zero = refl
 none-rising (suc K) = omega (arith, length-append (rising K []) [], none-rising K)
 
-pub same-length : (K : ℕ) (g : Rules) → ((r : Rule) → List·Memᴰ r g → r .left < K) → length (rising K g) ≡ length g
+pub same-length : (K : ℕ) (g : Rules) → ((r : Rule) → List·Memᴰ r g → r .left < K)
+    → length (rising K g) ≡ length g
 same-length K [] f = none-rising K
-same-length K (r ∷ g) f = longer K r g .low (f r (List·Memᴰ·head refl)) ∙ ap suc (same-length K g (λ s m. f s (List·Memᴰ·tail m)))
+same-length K (r ∷ g) f = longer K r g .low (f r (List·Memᴰ·head refl))
+    ∙ ap suc (same-length K g (λ s m. f s (List·Memᴰ·tail m)))
 
 -- the terminals of an accepted sheet's lines
-terms-snoc : (l : List ClauseLine) (c : ClauseLine) → TermsAll (clausesOf l) → Terms (c .expr) → TermsAll (clausesOf (l ++ (c ∷ [])))
+terms-snoc : (l : List ClauseLine) (c : ClauseLine) → TermsAll (clausesOf l) → Terms (c .expr)
+    → TermsAll (clausesOf (l ++ (c ∷ [])))
 terms-snoc [] c h t = (t, tt)
 terms-snoc (d ∷ l) c h t = (h .0, terms-snoc l c (h .1) t)
 
-left-terms : (v : ℕ) (x : List ℕ) (c : ClauseLine) (o : Said _) → expression x ≡ o → withLeft v o ≡ good c → Terms (c .expr)
-left-terms v x c (good e) j q = let z : record { left = v; expr = e } ≡ c = cc in subst (λ (y : ClauseLine). Terms (y .expr)) z (expression-terms x e j)
+left-terms : (v : ℕ) (x : List ℕ) (c : ClauseLine) (o : Said _) → expression x ≡ o
+    → withLeft v o ≡ good c → Terms (c .expr)
+left-terms v x c (good e) j q = let z : record { left = v; expr = e } ≡ c = cc in
+    subst (λ (y : ClauseLine). Terms (y .expr)) z (expression-terms x e j)
 left-terms v x c unwritten j q = absurd (clash cc)
 left-terms v x c deep j q = absurd (clash cc)
 
 line-terms : (line : List ℕ) (c : ClauseLine) → clauseLine line ≡ good c → Terms (c .expr)
 line-terms line c h = go (numeralOf (before 32 line)) h
   where
-    go : (o : Option ℕ) → leftSays o (expression (drop (length (before 32 line) + 1) line)) ≡ good c → Terms (c .expr)
+    go : (o : Option ℕ) → leftSays o (expression (drop (length (before 32 line) + 1) line)) ≡ good c
+        → Terms (c .expr)
     go none q = absurd (clash cc)
     go (some v) q = which (leb v 63) q
       where
-        which : (b : Bool) → cond b (withLeft v (expression (drop (length (before 32 line) + 1) line))) unwritten ≡ good c → Terms (c .expr)
-        which true q = left-terms v (drop (length (before 32 line) + 1) line) c (expression (drop (length (before 32 line) + 1) line)) refl q
+        which : (b : Bool) → cond b (withLeft v
+            (expression (drop (length (before 32 line) + 1) line))) unwritten ≡ good c
+            → Terms (c .expr)
+        which true q = left-terms v (drop (length (before 32 line) + 1) line) c
+            (expression (drop (length (before 32 line) + 1) line)) refl q
         which false q = absurd (clash cc)
 
 -- a line that gives one more clause says it
-step-good : (seen : List ClauseLine) (p : List ℕ) (b : Bool) (c : ClauseLine) → clauseStep seen p b ≡ next c → clauseLine p ≡ good c
+step-good : (seen : List ClauseLine) (p : List ℕ) (b : Bool) (c : ClauseLine)
+    → clauseStep seen p b ≡ next c → clauseLine p ≡ good c
 step-good seen p true c e = go (clauseLine p) e
   where
     go : (o : Said ClauseLine) → clauseSaid o ≡ next c → o ≡ good c
@@ -123,16 +141,19 @@ step-good seen p false c e = go (isEmpty p) e
     go true q = absurd (clash cc)
     go false q = absurd (clash cc)
 
-pub all-terms : (ps : List (List ℕ)) (l : List ClauseLine) → itemsFrom clauseStep [] ps ≡ accepted l → TermsAll (clausesOf l)
+pub all-terms : (ps : List (List ℕ)) (l : List ClauseLine) → itemsFrom clauseStep [] ps ≡ accepted l
+    → TermsAll (clausesOf l)
 all-terms ps l =
-    items-hold clauseStep (λ w. TermsAll (clausesOf w)) (λ seen p b c e h. terms-snoc seen c h (line-terms p c (step-good seen p b c e))) [] ps l tt
+    items-hold clauseStep (λ w. TermsAll (clausesOf w))
+    (λ seen p b c e h. terms-snoc seen c h (line-terms p c (step-good seen p b c e))) [] ps l tt
 
 -- the sheet's end
 module _ (ps : List (List ℕ)) (p : ℕ) (W : AllSaid ps p) where
   abbrev sheet : Clauses
   sheet = clausesOf (W .lines)
 
-  ends : clausesFrom ps ≡ cond (expansionFits sheet) (finish (accepted (expansion sheet))) (refused 43 0)
+  ends : clausesFrom ps ≡ cond (expansionFits sheet) (finish (accepted (expansion sheet)))
+      (refused 43 0)
   ends = ap expanded (W .said)
 
   no-fit : expansionFits sheet ≡ false → clausesFrom ps ≡ refused 43 0
@@ -140,10 +161,14 @@ module _ (ps : List (List ℕ)) (p : ℕ) (W : AllSaid ps p) where
 
   -- a new nonterminal past 63
   pub past-many : 64 < pastAll sheet + sizeAll sheet → clausesFrom ps ≡ refused 43 0
-  past-many h = no-fit (ap (λ (b : Bool). b && leb (length (expansion sheet)) 128) (lt-leb (pastAll sheet + sizeAll sheet) 64 h))
+  past-many h = no-fit (ap (λ (b : Bool). b && leb (length (expansion sheet)) 128)
+      (lt-leb (pastAll sheet + sizeAll sheet) 64 h))
 
-  same-many : pastAll sheet + sizeAll sheet ≤ 64 → length (expansion sheet) ≡ length (emitAll sheet (pastAll sheet))
-  same-many h = ap length (sym (sorted-expansion sheet h)) ∙ same-length 64 (emitAll sheet (pastAll sheet)) (λ r m. let z = met-lefts sheet r m in omega arith)
+  same-many : pastAll sheet + sizeAll sheet ≤ 64
+      → length (expansion sheet) ≡ length (emitAll sheet (pastAll sheet))
+  same-many h = ap length (sym (sorted-expansion sheet h))
+      ∙ same-length 64 (emitAll sheet (pastAll sheet))
+      (λ r m. let z = met-lefts sheet r m in omega arith)
 
   -- over 128 rules
   pub rules-many : 128 < length (emitAll sheet (pastAll sheet)) → clausesFrom ps ≡ refused 43 0
@@ -153,23 +178,29 @@ module _ (ps : List (List ℕ)) (p : ℕ) (W : AllSaid ps p) where
       go false e = no-fit (ap (λ (b : Bool). b && leb (length (expansion sheet)) 128) e)
       go true e =
           let z = same-many (leb→le (pastAll sheet + sizeAll sheet) 64 (rw e tt)) in
-          no-fit (ap (λ (b : Bool). b && leb (length (expansion sheet)) 128) e ∙ lt-leb (length (expansion sheet)) 128 (omega arith))
+          no-fit (ap (λ (b : Bool). b && leb (length (expansion sheet)) 128) e
+          ∙ lt-leb (length (expansion sheet)) 128 (omega arith))
 
-  pub room-for : pastAll sheet + sizeAll sheet ≤ 64 → length (emitAll sheet (pastAll sheet)) ≤ 128 → clausesFrom ps ≡ finish (accepted (expansion sheet))
+  pub room-for : pastAll sheet + sizeAll sheet ≤ 64 → length (emitAll sheet (pastAll sheet)) ≤ 128
+      → clausesFrom ps ≡ finish (accepted (expansion sheet))
   room-for h k =
       let z = same-many h in
       ends ∙ ap (λ (b : Bool). cond b (finish (accepted (expansion sheet))) (refused 43 0))
-      (ap (λ (b : Bool). b && leb (length (expansion sheet)) 128) (le-leb (pastAll sheet + sizeAll sheet) 64 h) ∙ le-leb (length (expansion sheet)) 128 (omega arith))
+      (ap (λ (b : Bool). b && leb (length (expansion sheet)) 128)
+      (le-leb (pastAll sheet + sizeAll sheet) 64 h) ∙ le-leb (length (expansion sheet)) 128
+      (omega arith))
 
   -- the grammar that holds the expansion is formed
-  pub formed : (g : Grammar) → pastAll sheet + sizeAll sheet ≤ 64 → length (emitAll sheet (pastAll sheet)) ≤ 128 → g .count ≡ length (expansion sheet)
+  pub formed : (g : Grammar) → pastAll sheet + sizeAll sheet ≤ 64
+      → length (emitAll sheet (pastAll sheet)) ≤ 128 → g .count ≡ length (expansion sheet)
       → rulesOf g ≡ expansion sheet → Formed g
   formed g h k c e =
       let z = same-many h in
       record {
         few = omega arith;
         whole = ap length e ∙ sym c;
-        small = subst (λ (y : Rules). Every SmallRule y) (sym e) (expansion-small sheet (all-terms ps (W .lines) (W .said)) h);
+        small = subst (λ (y : Rules). Every SmallRule y) (sym e)
+            (expansion-small sheet (all-terms ps (W .lines) (W .said)) h);
         distinct = subst (λ (y : Rules). Distinct y) (sym e) (expansion-distinct sheet);
       }
 
@@ -189,7 +220,8 @@ module _ {ps : List (List ℕ)} {p : ℕ} {first out : Emit} (w : Walked ps p fi
 
   adds : Adds first out met (sizeAll lines)
   adds =
-      subst (λ (k : ℕ). Adds first out (emitAll lines k) (sizeAll lines)) (w .begun .1 ∙ w .said .most) (w .emitted .adds (w .said .lines) (w .said .said))
+      subst (λ (k : ℕ). Adds first out (emitAll lines k) (sizeAll lines))
+      (w .begun .1 ∙ w .said .most) (w .emitted .adds (w .said .lines) (w .said .said))
 
   pub out-over : out .over ≡ true → clausesFrom ps ≡ refused 43 0
   out-over e = go (adds .why e)
@@ -202,9 +234,11 @@ module _ {ps : List (List ℕ)} {p : ℕ} {first out : Emit} (w : Walked ps p fi
   pub out-few : out .over ≡ false → out .count ≤ 128
   out-few e = adds .few e (omega (arith, w .begun .0))
 
-  module _ (e : out .over ≡ false) {h g : Grammar} (q : h .count ≡ 0) (taken : RulesTaken (rising 64 (take (out .count) (out .rules))) h g) where
+  module _ (e : out .over ≡ false) {h g : Grammar} (q : h .count ≡ 0)
+      (taken : RulesTaken (rising 64 (take (out .count) (out .rules))) h g) where
     within : pastAll lines + sizeAll lines ≤ 64
-    within = let z = adds .low e (omega (arith, w .begun .1, w .low)) in omega (arith, adds .next e, w .begun .1, w .said .most)
+    within = let z = adds .low e (omega (arith, w .begun .1, w .low)) in
+        omega (arith, adds .next e, w .begun .1, w .said .most)
 
     short : length met ≤ 128
     short = omega (arith, adds .count e, w .begun .0, out-few e)
@@ -213,7 +247,8 @@ module _ {ps : List (List ℕ)} {p : ℕ} {first out : Emit} (w : Walked ps p fi
     as-met = adds .rules e ∙ ap (λ (k : ℕ). take k (first .rules) ++ met) (w .begun .0)
 
     all-taken : RulesTaken (expansion lines) h g
-    all-taken = subst (λ (y : Rules). RulesTaken y h g) (ap (rising 64) as-met ∙ sorted-expansion lines within) taken
+    all-taken = subst (λ (y : Rules). RulesTaken y h g)
+        (ap (rising 64) as-met ∙ sorted-expansion lines within) taken
 
     fit : h .count + length (expansion lines) ≤ 128
     fit = omega (arith, same-many ps p (w .said) within, short)
@@ -225,21 +260,27 @@ module _ {ps : List (List ℕ)} {p : ℕ} {first out : Emit} (w : Walked ps p fi
     out-formed = formed ps p (w .said) g within short (omega (arith, all-taken .count fit)) holds
 
     pub out-end : clausesFrom ps ≡ finish (accepted (rulesOf g))
-    out-end = room-for ps p (w .said) within short ∙ ap (λ (y : Rules). finish (accepted y)) (sym holds)
+    out-end =
+        room-for ps p (w .said) within short ∙ ap (λ (y : Rules). finish (accepted y)) (sym holds)
 
 -- what the first walk has found
-pub found-refused : (x : Reading (List ClauseLine)) (o : Outcome) (p : ℕ) (f : Fault) (l : ℕ) → PassedAs x o p → o ≡ Refused f l → expanded x ≡ refused (numberOf f) l
-found-refused (accepted m) o p f l h e = absurd (let z : Accepted ≡ Refused f l = sym (h .0) ∙ e in clash cc)
+pub found-refused : (x : Reading (List ClauseLine)) (o : Outcome) (p : ℕ) (f : Fault) (l : ℕ)
+    → PassedAs x o p → o ≡ Refused f l → expanded x ≡ refused (numberOf f) l
+found-refused (accepted m) o p f l h e =
+    absurd (let z : Accepted ≡ Refused f l = sym (h .0) ∙ e in clash cc)
 found-refused (refused n m) o p f l h e =
-    let z : _≡_ {A = Reading (Unit {0})} (refused n m) (refused (numberOf f) l) = sym h ∙ ap (λ (y : Outcome). readingOf {A = Unit {0}} y tt) e in
+    let z : _≡_ {A = Reading (Unit {0})} (refused n m) (refused (numberOf f) l) =
+    sym h ∙ ap (λ (y : Outcome). readingOf {A = Unit {0}} y tt) e in
     let a : n ≡ numberOf f = cc in
     let b : m ≡ l = cc in
     (λ i. refused (a i) (b i))
 
-pub found-all : (ps : List (List ℕ)) (o : Outcome) (p : ℕ) → PassedAs (itemsFrom clauseStep [] ps) o p → o ≡ Accepted → AllSaid ps p
+pub found-all : (ps : List (List ℕ)) (o : Outcome) (p : ℕ)
+    → PassedAs (itemsFrom clauseStep [] ps) o p → o ≡ Accepted → AllSaid ps p
 found-all ps o p h e = go (itemsFrom clauseStep [] ps) refl h
   where
-    go : (x : Reading (List ClauseLine)) → itemsFrom clauseStep [] ps ≡ x → PassedAs x o p → AllSaid ps p
+    go : (x : Reading (List ClauseLine)) → itemsFrom clauseStep [] ps ≡ x → PassedAs x o p
+        → AllSaid ps p
     go (accepted l) j k = record { lines = l; said = j; most = k .1 }
     go (refused f l) j k =
         absurd (never-both refl (sym k ∙ ap (λ (y : Outcome). readingOf {A = Unit {0}} y tt) e))

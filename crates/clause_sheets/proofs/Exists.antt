@@ -13,10 +13,12 @@ use Rattle.sheets.specs.Items.{Reading, accepted, refused, itemsFrom}
 use Rattle.sheets.specs.RuleSheets.{finish}
 use Rattle.sheets.proofs.Accepted.{items-line}
 use Rattle.sheets.proofs.Walks.{names-line, first-line, finish-line}
-use Rattle.clause_sheets.specs.ClauseSheets.{clauseStep, clausesOf, expansionFits, expanded, clausesFrom, clauseNames, clauseSheet}
+use Rattle.clause_sheets.specs.ClauseSheets.{clauseStep, clausesOf, expansionFits, expanded}
+use Rattle.clause_sheets.specs.ClauseSheets.{clausesFrom, clauseNames, clauseSheet}
 use Rattle.grammar.specs.Trees.{Rules}
 
-expanded-line : (x : Reading (List ClauseLine)) (n : ℕ) (f : ℕ) (l : ℕ) → ((g : ℕ) (m : ℕ) → x ≡ refused g m → m ≤ n) → expanded x ≡ refused f l → l ≤ n
+expanded-line : (x : Reading (List ClauseLine)) (n : ℕ) (f : ℕ) (l : ℕ)
+    → ((g : ℕ) (m : ℕ) → x ≡ refused g m → m ≤ n) → expanded x ≡ refused f l → l ≤ n
 expanded-line (refused g m) n f l h e = let j : m ≡ l = cc in omega (arith, h g m refl)
 expanded-line (accepted c) n f l h e = go (expansionFits (clausesOf c)) e
   where
@@ -28,8 +30,10 @@ expanded-line (accepted c) n f l h e = go (expansionFits (clausesOf c)) e
         finish-line whole n f l (λ g m k. absurd (clash cc)) e
     go false e = let j : _≡_ {A = ℕ} 0 l = cc in omega arith
 
-pub clause-exists : (s : List ℕ) (f : ℕ) (l : ℕ) → clauseSheet s ≡ refused f l → l ≤ length (pieces 10 s)
+pub clause-exists : (s : List ℕ) (f : ℕ) (l : ℕ) → clauseSheet s ≡ refused f l
+    → l ≤ length (pieces 10 s)
 clause-exists s f l =
     names-line (refused 1 1) clauseNames clausesFrom
-    (λ ps f l. expanded-line (itemsFrom clauseStep [] ps) (1 + length ps) f l (λ g m e. omega (arith, items-line clauseStep [] ps g m e)))
+    (λ ps f l. expanded-line (itemsFrom clauseStep [] ps) (1 + length ps) f l
+    (λ g m e. omega (arith, items-line clauseStep [] ps g m e)))
     (pieces 10 s) f l (first-line 1 s f l)

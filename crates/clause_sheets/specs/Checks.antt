@@ -45,23 +45,26 @@ pub record Passing (s : List ℕ) (start n p at : ℕ) : Type 0 where
   pub few : n ≤ at
   pub seen : List ClauseLine
   pub count : length seen ≡ n
-  pub same : itemsFrom clauseStep [] (piecesFrom 10 s start) ≡ itemsFrom clauseStep seen (piecesFrom 10 s at)
+  pub same : itemsFrom clauseStep [] (piecesFrom 10 s start)
+      ≡ itemsFrom clauseStep seen (piecesFrom 10 s at)
   pub most : p ≡ pastAll (clausesOf seen)
 
 -- the rules of one line, where it is so written
 pub record LineEmitted (line : List ℕ) (out r : Emit) : Type 0 where
-  pub adds : (c : ClauseLine) → clauseLine line ≡ good c → Adds out r (emit (c .expr) (c .left) (out .next)) (size (c .expr))
+  pub adds : (c : ClauseLine) → clauseLine line ≡ good c
+      → Adds out r (emit (c .expr) (c .left) (out .next)) (size (c .expr))
 
 -- the rules of all lines, where all are so written
 pub record LinesEmitted (lines : List (List ℕ)) (out r : Emit) : Type 0 where
-  pub adds : (l : List ClauseLine) → itemsFrom clauseStep [] lines ≡ accepted l → Adds out r (emitAll (clausesOf l) (out .next)) (sizeAll (clausesOf l))
+  pub adds : (l : List ClauseLine) → itemsFrom clauseStep [] lines ≡ accepted l
+      → Adds out r (emitAll (clausesOf l) (out .next)) (sizeAll (clausesOf l))
 
 -- the second walk has come to a place
 pub record Emitting (s : List ℕ) (start : ℕ) (out r : Emit) (at : ℕ) : Type 0 where
   pub low : at ≤ length s
   pub adds : (l : List ClauseLine) → itemsFrom clauseStep [] (piecesFrom 10 s start) ≡ accepted l
-      → (seen : List ClauseLine) × (itemsFrom clauseStep seen (piecesFrom 10 s at) ≡ accepted l) × Adds out r (emitAll (clausesOf seen) (out .next))
-      (sizeAll (clausesOf seen))
+      → (seen : List ClauseLine) × (itemsFrom clauseStep seen (piecesFrom 10 s at) ≡ accepted l)
+      × Adds out r (emitAll (clausesOf seen) (out .next)) (sizeAll (clausesOf seen))
 
 -- the rules are put behind those of g, where there is room for all
 pub record RulesTaken (new : Rules) (g r : Grammar) : Type 0 where

@@ -1,4 +1,5 @@
-// The reader of clause sheets, for any bytes: the grammar of their expansion, or the refusal with its line.
+// The reader of clause sheets, for any bytes: the grammar of their expansion, or the refusal with
+// its line.
 use clause_lines::Checked;
 use clause_lines::check;
 use clause_rules::alternatives;
@@ -24,7 +25,8 @@ ghost use Rattle.sheets.specs.Items.{itemsFrom};
 ghost use Rattle.sheets.specs.Promises.{RulesRead};
 ghost use Rattle.clause_lines.specs.ClauseLines.{clauseLine, expression};
 ghost use Rattle.clause_sheets.specs.ClauseSheets.{clauseStep, clausesFrom, clauseSheet};
-ghost use Rattle.clause_sheets.specs.Checks.{lineChecked, expressionChecked, PassedAs, LineEmitted, LinesEmitted, RulesTaken};
+ghost use Rattle.clause_sheets.specs.Checks.{lineChecked, expressionChecked, PassedAs};
+ghost use Rattle.clause_sheets.specs.Checks.{LineEmitted, LinesEmitted, RulesTaken};
 ghost use Rattle.clause_sheets.specs.Ends.{AllSaid};
 ghost use Rattle.fields.specs.Cursors.{piecesFrom, bytesLeft};
 
@@ -35,7 +37,8 @@ pub enum LineChecked {
     Deep,
 }
 
-// What the first walk finds: whether all lines are so written, and one past their largest nonterminal.
+// What the first walk finds: whether all lines are so written, and one past their largest
+// nonterminal.
 pub struct Passed {
     pub outcome: Outcome,
     pub past: usize,
@@ -105,7 +108,8 @@ fn line_emit(s: &[u8], c: Cursor, out: Emit) -> Emit
 // The first walk over the lines from a place on: 41 and 42, line by line.
 fn lines_check(s: &[u8], start: usize) -> Passed
     requires { ⌜ start ≤ length (now s) ⌝ }
-    ensures { λ r. ⌜ PassedAs (itemsFrom clauseStep [] (piecesFrom 10 (now (s .entry)) start)) (r .outcome) (r .past) ⌝ }
+    ensures { λ r. ⌜ PassedAs (itemsFrom clauseStep [] (piecesFrom 10 (now (s .entry)) start))
+        (r .outcome) (r .past) ⌝ }
 {
     let mut n: usize = 0;
     let mut past: usize = 0;

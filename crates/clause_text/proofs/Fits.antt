@@ -7,6 +7,7 @@ use Rattle.answering.specs.declared.ListReply.{ListReply}
 use Rattle.answering.proofs.ListSettled.{count-of, list-count}
 use Rattle.call_clauses.specs.Expand.{ExpandOf, refusing, giving}
 
-pub expand-count : {clauses out out′ : List ℕ} {r : ListReply} → ExpandOf clauses out out′ r → r .count ≤ length out
+pub expand-count : {clauses out out′ : List ℕ} {r : ListReply} → ExpandOf clauses out out′ r
+    → r .count ≤ length out
 expand-count (refusing e x h) = count-of x (omega arith)
 expand-count (giving e l) = list-count l

@@ -17,7 +17,8 @@ ghost use Rattle.clause_text.specs.Texts.{ExpandText};
 // The answer on a clause sheet and a token sheet, and its trees.
 pub fn clauses_text(clauses: &[u8], tokens: &[u8], out: &mut [u8]) -> usize
     requires { ⌜ 262144 ≤ length (now out) ⌝ }
-    ensures { λ r. ⌜ Printed TreesText (clauseSheets (now (clauses .entry)) (now (tokens .entry))) (now (out .entry)) (now (out .exit)) r ⌝ }
+    ensures { λ r. ⌜ Printed TreesText (clauseSheets (now (clauses .entry)) (now (tokens .entry)))
+        (now (out .entry)) (now (out .exit)) r ⌝ }
 {
     let mut words = [0u64; 4162];
     let mut one = [0u8; 16384];
@@ -31,7 +32,8 @@ pub fn clauses_text(clauses: &[u8], tokens: &[u8], out: &mut [u8]) -> usize
 // The answer on a clause sheet and a bound, and the found sentence.
 pub fn clauses_sweep_text(clauses: &[u8], k: u32, out: &mut [u8]) -> usize
     requires { ⌜ 262144 ≤ length (now out) ⌝ }
-    ensures { λ r. ⌜ Printed (SweepText k) (clauseSheet (now (clauses .entry))) (now (out .entry)) (now (out .exit)) r ⌝ }
+    ensures { λ r. ⌜ Printed (SweepText k) (clauseSheet (now (clauses .entry))) (now (out .entry))
+        (now (out .exit)) r ⌝ }
 {
     let mut words = [0u64; 58];
     let r = sweep(clauses, k as usize, &mut words);
@@ -44,7 +46,8 @@ pub fn clauses_sweep_text(clauses: &[u8], k: u32, out: &mut [u8]) -> usize
 // The rule sheet that a clause sheet expands to.
 pub fn expand_text(clauses: &[u8], out: &mut [u8]) -> usize
     requires { ⌜ 262144 ≤ length (now out) ⌝ }
-    ensures { λ r. ⌜ Printed ExpandText (now (clauses .entry)) (now (out .entry)) (now (out .exit)) r ⌝ }
+    ensures { λ r. ⌜ Printed ExpandText (now (clauses .entry)) (now (out .entry)) (now (out .exit))
+        r ⌝ }
 {
     let mut sheet = [0u8; 4096];
     let r = expand(clauses, &mut sheet);

@@ -1,4 +1,5 @@
--- What the laws about expansions speak of: written nonterminals below the new ones, where a line's new ones begin, rules alike.
+-- What the laws about expansions speak of: written nonterminals below the new ones, where a line's
+-- new ones begin, rules alike.
 use mathlib.Core.Path.{_≡_}
 use mathlib.Core.Logic.{_⊎_}
 use mathlib.Core.List.{[], _∷_, List·Memᴰ}
@@ -8,7 +9,9 @@ use Rattle.grammar.specs.declared.Clause.{Clause}
 use Rattle.grammar.specs.declared.Clause.the-variants.{Empty, Atom, Unary, Binary}
 use Rattle.grammar.specs.Trees.{Rules}
 use Rattle.clauses.specs.Clauses as C
-use Rattle.clauses.specs.Clauses.{Sort, alternatives, Expr, nonterminal, a-part, terminal, group, mark, pair, optional, repeated, only, or, Clauses, a-line}
+use Rattle.clauses.specs.Clauses.{Sort, alternatives, Expr, nonterminal, a-part, terminal}
+use Rattle.clauses.specs.Clauses.{group, mark, pair, optional, repeated, only, or, Clauses}
+use Rattle.clauses.specs.Clauses.{a-line}
 use Rattle.clauses.specs.Readings.{ClausePlace, here, later}
 use Rattle.clauses.specs.Expansion.{size}
 use Rattle.grammar.specs.Distinct.{Alike}
@@ -67,7 +70,8 @@ abbrev pub AllApart : Rules → Type 0
 AllApart [] = Unit {0}
 AllApart (r ∷ g) = ((s : Rule) → List·Memᴰ s g → Clash r s → ⊥) × AllApart g
 
--- every nonterminal of a clause is below K, every terminal below 64, and no range of terminals reverses
+-- every nonterminal of a clause is below K, every terminal below 64, and no range of terminals
+-- reverses
 abbrev pub Below : ℕ → Clause → Type 0
 Below K Empty = Unit {0}
 Below K (Atom a b) = (a < 64) × (b < 64) × (a ≤ b)

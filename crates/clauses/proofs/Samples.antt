@@ -4,7 +4,9 @@ use mathlib.Core.List.{[], _∷_}
 use Rattle.grammar.specs.declared.UnaryMark.{UnaryMark}
 use Rattle.grammar.specs.declared.UnaryMark.the-variants as UnaryMark
 use Rattle.grammar.specs.declared.BinaryMark.the-variants as BinaryMark
-use Rattle.clauses.specs.Clauses.{item, made, from-one, from-zero, Expr, nonterminal, a-part, terminal, group, mark, pair, optional, repeated, only, or, Clauses, no-line, a-line}
+use Rattle.clauses.specs.Clauses.{item, made, from-one, from-zero, Expr, nonterminal, a-part}
+use Rattle.clauses.specs.Clauses.{terminal, group, mark, pair, optional, repeated, only, or}
+use Rattle.clauses.specs.Clauses.{Clauses, no-line, a-line}
 use Rattle.clauses.specs.Expansion.{E, A, U, B, expansion}
 
 -- an alternative of a single item
@@ -15,7 +17,12 @@ single e = mark UnaryMark.None e
 -- 0 n1+:align
 block : Clauses
 block =
-    a-line 1 (or (single (a-part (terminal 0))) (only (single (a-part (mark UnaryMark.Offside (a-part (group (only (pair BinaryMark.None (a-part (terminal 1)) (nonterminal 0)))))))))) (a-line 0 (only (single (a-part (repeated from-one BinaryMark.Align (nonterminal 1))))) no-line)
+    a-line 1 (or (single (a-part (terminal 0)))
+    (only (single (a-part (mark UnaryMark.Offside
+    (a-part (group (only (pair BinaryMark.None (a-part (terminal 1))
+    (nonterminal 0)))))))))) (a-line 0
+    (only (single (a-part (repeated from-one BinaryMark.Align (nonterminal 1)))))
+    no-line)
 
 block-expanded : expansion block ≡
     U 0 9 UnaryMark.None
@@ -39,7 +46,11 @@ block-expanded = refl
 -- 0 (t0 :indent: n3? t1*) n0
 deep : Clauses
 deep =
-    a-line 0 (only (pair BinaryMark.None (a-part (group (only (pair BinaryMark.Indent (a-part (terminal 0)) (a-part (pair BinaryMark.None (a-part (optional (nonterminal 3))) (a-part (repeated from-zero BinaryMark.None (a-part (terminal 1)))))))))) (nonterminal 0))) no-line
+    a-line 0 (only (pair BinaryMark.None
+    (a-part (group (only (pair BinaryMark.Indent (a-part (terminal 0))
+    (a-part (pair BinaryMark.None (a-part (optional (nonterminal 3)))
+    (a-part (repeated from-zero BinaryMark.None (a-part (terminal 1))))))))))
+    (nonterminal 0))) no-line
 
 deep-expanded : expansion deep ≡
     U 0 4 UnaryMark.None

@@ -17,18 +17,43 @@ module _ {c : Clauses} {g : Rules} {L : ℕ} (o : OneToOne c g L) (w : Word) whe
   pub one-reading : OneTree g L w → OneReading c L w
   one-reading n =
       let b = o .complete w (n .tree) (n .witness) in
-      record { reading = b .0; reads = b .1; only-one = λ r k. o .faithful r (b .0) (n .only (o .tree r) (o .sound w r k) ∙ sym (b .2)) }
+      record {
+        reading = b .0;
+        reads = b .1;
+        only-one =
+            λ r k. o .faithful r (b .0) (n .only (o .tree r) (o .sound w r k) ∙ sym (b .2));
+      }
 
   pub one-tree : OneReading c L w → OneTree g L w
   one-tree n =
-      record { tree = o .tree (n .reading); witness = o .sound w (n .reading) (n .reads); only = λ t k. let b = o .complete w t k in sym (b .2) ∙ ap (o .tree) (n .only-one (b .0) (b .1)) }
+      record {
+        tree = o .tree (n .reading);
+        witness = o .sound w (n .reading) (n .reads);
+        only = λ t
+            k. let b = o .complete w t k in sym (b .2) ∙ ap (o .tree) (n .only-one (b .0) (b .1));
+      }
 
   pub two-readings : TwoTrees g L w → TwoReadings c L w
   two-readings n =
       let a = o .complete w (n .first) (n .witness₁) in
       let b = o .complete w (n .second) (n .witness₂) in
-      record { first-one = a .0; second-one = b .0; reads₁ = a .1; reads₂ = b .1; differ = λ e. n .differ (sym (a .2) ∙ ap (o .tree) e ∙ b .2) }
+      record {
+        first-one = a .0;
+        second-one = b .0;
+        reads₁ = a .1;
+        reads₂ = b .1;
+        differ =
+            λ e. n .differ (sym (a .2) ∙ ap (o .tree) e ∙ b .2);
+      }
 
   pub two-trees : TwoReadings c L w → TwoTrees g L w
   two-trees n =
-      record { first = o .tree (n .first-one); second = o .tree (n .second-one); witness₁ = o .sound w (n .first-one) (n .reads₁); witness₂ = o .sound w (n .second-one) (n .reads₂); differ = λ e. n .differ (o .faithful _ _ e) }
+      record {
+        first = o .tree (n .first-one);
+        second = o .tree (n .second-one);
+        witness₁ = o .sound
+            w (n .first-one) (n .reads₁);
+        witness₂ = o .sound w (n .second-one) (n .reads₂);
+        differ =
+            λ e. n .differ (o .faithful _ _ e);
+      }

@@ -1,4 +1,5 @@
--- A clause sheet expanded to a rule sheet: its new nonterminals, their numbers, their rules and the order of the rules. 02, request 2.
+-- A clause sheet expanded to a rule sheet: its new nonterminals, their numbers, their rules and the
+-- order of the rules. 02, request 2.
 use mathlib.Core.Bool.{true, false}
 use mathlib.Core.List.{[], _∷_, _++_}
 use Prim.Native.Nat.{ℕ, zero, suc, _+_, max}
@@ -10,7 +11,9 @@ use Rattle.grammar.specs.declared.BinaryMark.{BinaryMark}
 use Rattle.grammar.specs.declared.Clause.the-variants.{Empty, Atom, Unary, Binary}
 use Rattle.grammar.specs.Trees.{Rules}
 use Rattle.clauses.specs.Clauses as C
-use Rattle.clauses.specs.Clauses.{Sort, item, alternatives, AtLeast, from-one, Expr, nonterminal, a-part, terminal, group, mark, pair, optional, repeated, only, or, Clauses, a-line}
+use Rattle.clauses.specs.Clauses.{Sort, item, alternatives, AtLeast, from-one, Expr}
+use Rattle.clauses.specs.Clauses.{nonterminal, a-part, terminal, group, mark, pair, optional}
+use Rattle.clauses.specs.Clauses.{repeated, only, or, Clauses, a-line}
 
 -- rules by their letters
 abbrev pub E : ℕ → Rule
@@ -25,9 +28,11 @@ U A B m = record { left = A; clause = Unary B m }
 abbrev pub B : ℕ → ℕ → ℕ → BinaryMark → Rule
 B A C D m = record { left = A; clause = Binary C D m }
 
--- How many new nonterminals a part gets: each alternative, terminal, group, repeat, fresh C of a repeat, and rest of two or more items gets one,
--- a marked group two. They are numbered by where they begin, outer before inner, C right after its repeat: a part whose new nonterminals begin
--- with n is n itself (a repeat's C is n + 1), then come those of the parts in it, in the order of the text
+-- How many new nonterminals a part gets: each alternative, terminal, group, repeat, fresh C of a
+-- repeat, and rest of two or more items gets one, a marked group two. They are numbered by where
+-- they begin, outer before inner, C right after its repeat: a part whose new nonterminals begin
+-- with n is n itself (a repeat's C is n + 1), then come those of the parts in it, in the order of
+-- the text
 abbrev pub size : {s : Sort} → Expr s → ℕ
 size (nonterminal A) = 0
 size (a-part e) = size e
@@ -55,18 +60,21 @@ abbrev pub repeatBegins : AtLeast → ℕ → ℕ → Rule
 repeatBegins from-one n B = U n B UnaryMark.None
 repeatBegins C.from-zero n B = E n
 
--- The rules of a part's new nonterminals, which begin with n. Longer sequences split off their first item; the first nonterminal of a marked group
--- has a U rule of that mark to the second. Repeats expand as in source document 000, section 3:
--- A → B? gives A → B, A → ε; A → B+ gives A → B, A → C, C → A B; A → B* gives A → ε, A → C, C → A B
+-- The rules of a part's new nonterminals, which begin with n. Longer sequences split off their
+-- first item; the first nonterminal of a marked group has a U rule of that mark to the second.
+-- Repeats expand as in source document 000, section 3: A → B? gives A → B, A → ε; A → B+ gives A →
+-- B, A → C, C → A B; A → B* gives A → ε, A → C, C → A B
 abbrev pub exprRules : {s : Sort} → Expr s → ℕ → Rules
 exprRules (nonterminal A) n = []
 exprRules (a-part e) n = exprRules e n
 exprRules (terminal a) n = A n a ∷ []
 exprRules (group e) n = alternativeRules n e (n + 1) ++ exprRules e (n + 1)
 exprRules (mark m e) n = U n (name e (n + 1)) m ∷ exprRules e (n + 1)
-exprRules (pair m e f) n = B n (name e (n + 1)) (name f (n + 1 + size e)) m ∷ (exprRules e (n + 1) ++ exprRules f (n + 1 + size e))
+exprRules (pair m e f) n = B n (name e (n + 1)) (name f (n + 1 + size e)) m
+    ∷ (exprRules e (n + 1) ++ exprRules f (n + 1 + size e))
 exprRules (optional e) n = U n (name e (n + 1)) UnaryMark.None ∷ E n ∷ exprRules e (n + 1)
-exprRules (repeated q m e) n = repeatBegins q n (name e (n + 2)) ∷ U n (n + 1) UnaryMark.None ∷ B (n + 1) n (name e (n + 2)) m ∷ exprRules e (n + 2)
+exprRules (repeated q m e) n = repeatBegins q n (name e (n + 2)) ∷ U n (n + 1) UnaryMark.None
+    ∷ B (n + 1) n (name e (n + 2)) m ∷ exprRules e (n + 2)
 exprRules (only e) n = exprRules e n
 exprRules (or e f) n = exprRules e n ++ exprRules f (n + size e)
 
@@ -107,7 +115,8 @@ abbrev pub sizeAll : Clauses → ℕ
 sizeAll C.no-line = 0
 sizeAll (a-line L e c) = size e + sizeAll c
 
--- a clause sheet's rules: the new nonterminals are numbered upward from one past the largest one written, and the rules stand by rising left,
--- then in the order of the text or of the paper's expansion
+-- a clause sheet's rules: the new nonterminals are numbered upward from one past the largest one
+-- written, and the rules stand by rising left, then in the order of the text or of the paper's
+-- expansion
 abbrev pub expansion : Clauses → Rules
 expansion c = rising (pastAll c + sizeAll c) (expandFrom c (pastAll c))

@@ -1,9 +1,11 @@
--- For inner functions: a flat test of a line's lexemes, by what may follow what and a count of open parentheses.
+-- For inner functions: a flat test of a line's lexemes, by what may follow what and a count of open
+-- parentheses.
 use mathlib.Core.Bool.{Bool, true, false}
 use mathlib.Core.List.{List, [], _∷_}
 use Prim.Native.Nat.{ℕ, zero, suc, _+_, max}
 use lib.Dec.{ltb}
-use Rattle.clauses.specs.Text.{Suffix, maybe, repeats, marks, Lex, n, t, opening, closing, bar, suffix, join}
+use Rattle.clauses.specs.Text.{Suffix, maybe, repeats, marks, Lex, n, t, opening, closing}
+use Rattle.clauses.specs.Text.{bar, suffix, join}
 
 -- what stands just before: an item is due; or an n or t, a group, a suffix
 pub data State : Type 0 where

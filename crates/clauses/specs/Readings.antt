@@ -7,7 +7,9 @@ use Rattle.grammar.specs.declared.UnaryMark.{UnaryMark}
 use Rattle.grammar.specs.declared.BinaryMark.{BinaryMark}
 use Rattle.grammar.specs.Layout.{Word}
 use Rattle.grammar.specs.Layout as Mark
-use Rattle.clauses.specs.Clauses.{Sort, item, made, alternatives, AtLeast, from-one, from-zero, Expr, nonterminal, a-part, terminal, group, mark, pair, optional, repeated, only, or, Clauses, a-line}
+use Rattle.clauses.specs.Clauses.{Sort, item, made, alternatives, AtLeast, from-one}
+use Rattle.clauses.specs.Clauses.{from-zero, Expr, nonterminal, a-part, terminal, group, mark}
+use Rattle.clauses.specs.Clauses.{pair, optional, repeated, only, or, Clauses, a-line}
 
 -- a line of the sheet, with its left and its alternatives
 pub data ClausePlace : Clauses → Type 0 where
@@ -22,23 +24,31 @@ abbrev pub right : {c : Clauses} → ClausePlace c → Expr alternatives
 right (here {e = e}) = e
 right (later p) = right p
 
--- What someone who reads a part of a sentence by an expression decides: a line for a nonterminal, one of the alternatives, the items of a sequence,
--- whether an optional item is there, and which items a repeat has. A repeat is read item after item: what was read so far, and one more.
+-- What someone who reads a part of a sentence by an expression decides: a line for a nonterminal,
+-- one of the alternatives, the items of a sequence, whether an optional item is there, and which
+-- items a repeat has. A repeat is read item after item: what was read so far, and one more.
 pub data ClauseReading (c : Clauses) : (s : Sort) → Expr s → Type 0 where
-  clause : {A : ℕ} (p : ClausePlace c) → left p ≡ A → ClauseReading c alternatives (right p) → ClauseReading c item (nonterminal A)
+  clause : {A : ℕ} (p : ClausePlace c) → left p ≡ A → ClauseReading c alternatives (right p)
+      → ClauseReading c item (nonterminal A)
   itself : {e : Expr made} → ClauseReading c made e → ClauseReading c item (a-part e)
   a-token : {a : ℕ} (t : Token) → t .terminal ≡ a → ClauseReading c made (terminal a)
   within : {e : Expr alternatives} → ClauseReading c alternatives e → ClauseReading c made (group e)
-  marked : {m : UnaryMark} {e : Expr item} → ClauseReading c item e → ClauseReading c made (mark m e)
-  both : {m : BinaryMark} {e f : Expr item} → ClauseReading c item e → ClauseReading c item f → ClauseReading c made (pair m e f)
+  marked : {m : UnaryMark} {e : Expr item} → ClauseReading c item e
+      → ClauseReading c made (mark m e)
+  both : {m : BinaryMark} {e f : Expr item} → ClauseReading c item e → ClauseReading c item f
+      → ClauseReading c made (pair m e f)
   present : {e : Expr item} → ClauseReading c item e → ClauseReading c made (optional e)
   absent : {e : Expr item} → ClauseReading c made (optional e)
   nothing : {m : BinaryMark} {e : Expr item} → ClauseReading c made (repeated from-zero m e)
-  first : {m : BinaryMark} {e : Expr item} → ClauseReading c item e → ClauseReading c made (repeated from-one m e)
-  more : {q : AtLeast} {m : BinaryMark} {e : Expr item} → ClauseReading c made (repeated q m e) → ClauseReading c item e → ClauseReading c made (repeated q m e)
+  first : {m : BinaryMark} {e : Expr item} → ClauseReading c item e
+      → ClauseReading c made (repeated from-one m e)
+  more : {q : AtLeast} {m : BinaryMark} {e : Expr item} → ClauseReading c made (repeated q m e)
+      → ClauseReading c item e → ClauseReading c made (repeated q m e)
   sole : {e : Expr made} → ClauseReading c made e → ClauseReading c alternatives (only e)
-  this : {e : Expr made} {f : Expr alternatives} → ClauseReading c made e → ClauseReading c alternatives (or e f)
-  other : {e : Expr made} {f : Expr alternatives} → ClauseReading c alternatives f → ClauseReading c alternatives (or e f)
+  this : {e : Expr made} {f : Expr alternatives} → ClauseReading c made e
+      → ClauseReading c alternatives (or e f)
+  other : {e : Expr made} {f : Expr alternatives} → ClauseReading c alternatives f
+      → ClauseReading c alternatives (or e f)
 
 -- the tokens read
 abbrev pub spells : {c : Clauses} {s : Sort} {e : Expr s} → ClauseReading c s e → Word
@@ -75,7 +85,8 @@ MarksKept (this r) = MarksKept r
 MarksKept (other r) = MarksKept r
 
 -- r is a reading of w as the nonterminal A
-pub record Reads (c : Clauses) (A : ℕ) (w : Word) (r : ClauseReading c item (nonterminal A)) : Type 0 where
+pub record Reads (c : Clauses) (A : ℕ) (w : Word) (r : ClauseReading c item (nonterminal A)) : Type
+    0 where
   pub spelled : spells r ≡ w
   pub kept : MarksKept r
 

@@ -1,5 +1,6 @@
--- A rule as one number. Its digits from the lowest on: the left side (of 64), the mark (of 4), the first and the second
--- operand (of 64 each); above them the kind, so that a test of the kind is one comparison.
+-- A rule as one number. Its digits from the lowest on: the left side (of 64), the mark (of 4), the
+-- first and the second operand (of 64 each); above them the kind, so that a test of the kind is one
+-- comparison.
 use mathlib.Core.List.{List, map}
 use Prim.Native.Nat.{ℕ, zero, suc, _/_, _%_}
 use Rattle.grammar.specs.declared.Rule.{Rule}

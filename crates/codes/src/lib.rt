@@ -1,4 +1,5 @@
-// A rule as one number. Numbers are read in place from a slice, where a grammar would be copied with each call.
+// A rule as one number. Numbers are read in place from a slice, where a grammar would be copied
+// with each call.
 use grammar::BinaryMark;
 use grammar::Clause;
 use grammar::Grammar;
@@ -8,7 +9,8 @@ ghost use mathlib.Core.Path.{_≡_};
 ghost use Prim.Native.Nat.{_*_, _<_};
 ghost use lib.ListN.{take};
 ghost use Rattle.grammar.specs.Content.{rules, SmallClause, SmallRule, Formed};
-ghost use Rattle.codes.specs.Codes.{unaryMark, binaryMark, left, kind, mark, first, second, clause, decode, decoded};
+ghost use Rattle.codes.specs.Codes.{unaryMark, binaryMark, left, kind, mark, first, second};
+ghost use Rattle.codes.specs.Codes.{clause, decode, decoded};
 
 // The mark of a U rule by its digit.
 fn unary_mark(d: u64) -> UnaryMark

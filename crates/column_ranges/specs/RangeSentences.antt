@@ -1,4 +1,5 @@
--- What the code holds of tokens with ends for their columns, and counts of their choices (for inner functions).
+-- What the code holds of tokens with ends for their columns, and counts of their choices (for inner
+-- functions).
 use lib.ListN.{length, getD, take}
 use Rattle.column_ranges.specs.declared.RangeSentence.{RangeSentence}
 use Rattle.column_ranges.specs.Ranges.{Ranges, choiceCount, choiceLimit}
@@ -23,14 +24,21 @@ pub record Spread (s : RangeSentence) : Type 0 where
   pub whole : length (rangesOf s) ≡ s .count
   pub ended : Every Ended (rangesOf s)
 
--- m counts the choices, where they are within the limit; otherwise it is above the limit as they are
+-- m counts the choices, where they are within the limit; otherwise it is above the limit as they
+-- are
 pub record CountsChoices (rs : Ranges) (m : ℕ) : Type 0 where
   pub exact : m ≤ choiceLimit → m ≡ choiceCount rs
   pub over : choiceLimit < m → choiceLimit < choiceCount rs
 
 -- what stands past the end of ranges
 abbrev pub no-range : RangeToken
-no-range = record { terminal = 0; line = record { 0 = 0 }; low = record { 0 = 0 }; high = record { 0 = 0 } }
+no-range = record {
+  terminal = 0;
+  line = record { 0 = 0 };
+  low = record { 0 = 0 };
+  high = record
+      { 0 = 0 };
+}
 
 -- the range at i
 abbrev pub range : Ranges → ℕ → RangeToken

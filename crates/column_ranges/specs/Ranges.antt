@@ -1,4 +1,5 @@
--- Tokens whose columns are known between two ends, and what some choice of columns within them gives: 02, request 10.
+-- Tokens whose columns are known between two ends, and what some choice of columns within them
+-- gives: 02, request 10.
 use mathlib.Core.Path.{_≡_}
 use mathlib.Core.List.{List, [], _∷_}
 use Prim.Native.Nat.{ℕ, _+_, _-_, _*_, _≤_}

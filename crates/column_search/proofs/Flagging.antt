@@ -13,13 +13,20 @@ use Rattle.column_search.specs.Searching.{Grown, With}
 pub grown-none : {g : Rules} {rs : Ranges} (f : Flags) → Grown g rs f f
 grown-none f = record { kept = λ v e. e; given = λ v e. inl e }
 
-pub grown-more : {g : Rules} {rs : Ranges} {f r s : Flags} → Grown g rs f r → Grown g rs r s → Grown g rs f s
-grown-more x y = record { kept = λ v e. y .kept v (x .kept v e); given = λ v e. ⊎-elim (λ z. x .given v z) inr (y .given v e) }
+pub grown-more : {g : Rules} {rs : Ranges} {f r s : Flags} → Grown g rs f r → Grown g rs r s
+    → Grown g rs f s
+grown-more x y = record {
+  kept = λ v e. y .kept v (x .kept v e);
+  given = λ v e. ⊎-elim
+      (λ z. x .given v z) inr (y .given v e);
+}
 
 -- ---- one verdict more
 
-pub with-none : (f : Flags) (v : Verdict) → v ≡ Verdict.None → With f v (record { none = true; one = f .one; two = f .two })
-with-none f v e = subst (λ (u : Verdict). With f u r) (sym e) (record { set = refl; kept = kept; given = given })
+pub with-none : (f : Flags) (v : Verdict) → v ≡ Verdict.None
+    → With f v (record { none = true; one = f .one; two = f .two })
+with-none f v e =
+    subst (λ (u : Verdict). With f u r) (sym e) (record { set = refl; kept = kept; given = given })
   where
     r : Flags
     r = record { none = true; one = f .one; two = f .two }
@@ -34,8 +41,10 @@ with-none f v e = subst (λ (u : Verdict). With f u r) (sym e) (record { set = r
     given Verdict.One h = inl h
     given Verdict.Two h = inl h
 
-pub with-one : (f : Flags) (v : Verdict) → v ≡ Verdict.One → With f v (record { none = f .none; one = true; two = f .two })
-with-one f v e = subst (λ (u : Verdict). With f u r) (sym e) (record { set = refl; kept = kept; given = given })
+pub with-one : (f : Flags) (v : Verdict) → v ≡ Verdict.One
+    → With f v (record { none = f .none; one = true; two = f .two })
+with-one f v e =
+    subst (λ (u : Verdict). With f u r) (sym e) (record { set = refl; kept = kept; given = given })
   where
     r : Flags
     r = record { none = f .none; one = true; two = f .two }
@@ -50,8 +59,10 @@ with-one f v e = subst (λ (u : Verdict). With f u r) (sym e) (record { set = re
     given Verdict.One h = inr refl
     given Verdict.Two h = inl h
 
-pub with-two : (f : Flags) (v : Verdict) → v ≡ Verdict.Two → With f v (record { none = f .none; one = f .one; two = true })
-with-two f v e = subst (λ (u : Verdict). With f u r) (sym e) (record { set = refl; kept = kept; given = given })
+pub with-two : (f : Flags) (v : Verdict) → v ≡ Verdict.Two
+    → With f v (record { none = f .none; one = f .one; two = true })
+with-two f v e =
+    subst (λ (u : Verdict). With f u r) (sym e) (record { set = refl; kept = kept; given = given })
   where
     r : Flags
     r = record { none = f .none; one = f .one; two = true }
@@ -68,7 +79,8 @@ with-two f v e = subst (λ (u : Verdict). With f u r) (sym e) (record { set = re
 
 -- ---- all three
 
-pub all-set : (f : Flags) → f .none ≡ true → f .one ≡ true → f .two ≡ true → (v : Verdict) → flag f v ≡ true
+pub all-set : (f : Flags) → f .none ≡ true → f .one ≡ true → f .two ≡ true → (v : Verdict)
+    → flag f v ≡ true
 all-set f a b c Verdict.None = a
 all-set f a b c Verdict.One = b
 all-set f a b c Verdict.Two = c

@@ -31,13 +31,15 @@ pub record Grown (g : Rules) (rs : Ranges) (f r : Flags) : Type 0 where
 pub record Finds (g : Rules) (rs : Ranges) (r : Flags) : Type 0 where
   pub all : (v : Verdict) → SomeChoiceGives g rs v → flag r v ≡ true
 
--- the pairs of single tokens and of the empty word are as they were, and so are the words past the span sheet
+-- the pairs of single tokens and of the empty word are as they were, and so are the words past the
+-- span sheet
 pub record Leaving (n : ℕ) (ws ws′ : List ℕ) : Type 0 where
   pub small : Small ws ws′ n
   pub past : Past (2 * pairs n) ws ws′
 
 -- what the search answers for the ranges, having found f before
-pub record Searched (g : Rules) (rs : Ranges) (n : ℕ) (f : Flags) (ws ws′ : List ℕ) (r : Flags) : Type 0 where
+pub record Searched (g : Rules) (rs : Ranges) (n : ℕ) (f : Flags) (ws ws′ : List ℕ)
+    (r : Flags) : Type 0 where
   pub grown : Grown g rs f r
   pub finds : Finds g rs r
   pub leaving : Leaving n ws ws′
@@ -48,7 +50,8 @@ pub record Foreseen (g : Rules) (rs : Ranges) (n : ℕ) (ws ws′ : List ℕ) (o
   pub leaving : Leaving n ws ws′
 
 -- b says that f has it
-pub record Idles (g : Rules) (rs : Ranges) (n : ℕ) (f : Flags) (ws ws′ : List ℕ) (b : Bool) : Type 0 where
+pub record Idles (g : Rules) (rs : Ranges) (n : ℕ) (f : Flags) (ws ws′ : List ℕ) (b : Bool) : Type
+    0 where
   pub finds : b ≡ true → Finds g rs f
   pub leaving : Leaving n ws ws′
 
@@ -58,7 +61,8 @@ Reads ws n Verdict.None = In (firstWord ws n 0 n) 0 → ⊥
 Reads ws n Verdict.One = In (firstWord ws n 0 n) 0 × (In (secondWord ws n 0 n) 0 → ⊥)
 Reads ws n Verdict.Two = In (secondWord ws n 0 n) 0
 
--- b says of the ranges that nothing new can come: each verdict is found, or no choice rises; else some may
+-- b says of the ranges that nothing new can come: each verdict is found, or no choice rises; else
+-- some may
 pub record Leaves (rs : Ranges) (f : Flags) (b : Bool) : Type 0 where
   pub leave : b ≡ true → ((v : Verdict) → flag f v ≡ true) ⊎ (MayRise rs → ⊥)
   pub stay : b ≡ false → MayRise rs

@@ -1,4 +1,5 @@
-// Which verdicts some choice of columns gives. Ranges are narrowed token by token, until one choice is left.
+// Which verdicts some choice of columns gives. Ranges are narrowed token by token, until one choice
+// is left.
 use chains::chains;
 use chart::Verdict;
 use column_ranges::RangeSentence;
@@ -35,7 +36,8 @@ ghost use Rattle.column_ranges.specs.RangeSentences.{rangesOf, Spread};
 ghost use Rattle.narrowing.specs.Narrowing.{Singles, MayRise};
 ghost use Rattle.range_charts.specs.RangeCharts.{Leaved};
 ghost use Rattle.column_search.specs.Answers.{flag, FlagsSay};
-ghost use Rattle.column_search.specs.Searching.{With, Leaves, Reads, Foreseen, Idles, Searched};
+ghost use Rattle.column_search.specs.Searching.{With, Leaves, Reads, Foreseen, Idles};
+ghost use Rattle.column_search.specs.Searching.{Searched};
 
 // Of each verdict: does some rising choice give it?
 pub struct Flags {
@@ -106,16 +108,18 @@ fn try_choice(
     requires { ⌜ Formed g × Placed (rules g) b ⌝ }
     requires { ⌜ Spread r × Singles (rangesOf r) × MayRise (rangesOf r) ⌝ }
     requires { ⌜ 2 * pairs (r .count) ≤ length (now words) ⌝ }
-    requires { ⌜ Leaved (rules g) (rangesOf r) (r .count) (now words) × Begins (now words) e × Chains (rules g) e (now table) ⌝ }
-    ensures { λ a. ⌜ Searched (rules g) (rangesOf r) (r .count) f (now (words .entry)) (now (words .exit)) a ⌝ }
+    requires { ⌜ Leaved (rules g) (rangesOf r) (r .count) (now words) × Begins (now words) e
+        × Chains (rules g) e (now table) ⌝ }
+    ensures { λ a. ⌜ Searched (rules g) (rangesOf r) (r .count) f (now (words .entry))
+        (now (words .exit)) a ⌝ }
 {
     fill_ranges(words, table, r, g, b, e);
     let v = verdict(words, r.count);
     with_verdict(f, v)
 }
 
-// The verdicts that some choice may give: none where nothing must have a tree, one where something may and need not have two, two where
-// something may.
+// The verdicts that some choice may give: none where nothing must have a tree, one where something
+// may and need not have two, two where something may.
 fn outlook(
     g: Grammar,
     r: RangeSentence,
@@ -127,8 +131,10 @@ fn outlook(
     requires { ⌜ Formed g × Placed (rules g) b ⌝ }
     requires { ⌜ Spread r ⌝ }
     requires { ⌜ 2 * pairs (r .count) ≤ length (now words) ⌝ }
-    requires { ⌜ Leaved (rules g) (rangesOf r) (r .count) (now words) × Begins (now words) e × Chains (rules g) e (now table) ⌝ }
-    ensures { λ o. ⌜ Foreseen (rules g) (rangesOf r) (r .count) (now (words .entry)) (now (words .exit)) o ⌝ }
+    requires { ⌜ Leaved (rules g) (rangesOf r) (r .count) (now words) × Begins (now words) e
+        × Chains (rules g) e (now table) ⌝ }
+    ensures { λ o. ⌜ Foreseen (rules g) (rangesOf r) (r .count) (now (words .entry))
+        (now (words .exit)) o ⌝ }
 {
     let n = r.count;
     fill_ranges(words, table, r, g, b, e);
@@ -165,7 +171,8 @@ fn covered(o: Flags, f: Flags) -> bool
     implies(o.two, f.two)
 }
 
-// Can nothing new come of the ranges, by what may and what must hold? Asked where 64 choices or more are left.
+// Can nothing new come of the ranges, by what may and what must hold? Asked where 64 choices or
+// more are left.
 fn idle(
     g: Grammar,
     r: RangeSentence,
@@ -178,8 +185,10 @@ fn idle(
     requires { ⌜ Formed g × Placed (rules g) b ⌝ }
     requires { ⌜ Spread r ⌝ }
     requires { ⌜ 2 * pairs (r .count) ≤ length (now words) ⌝ }
-    requires { ⌜ Leaved (rules g) (rangesOf r) (r .count) (now words) × Begins (now words) e × Chains (rules g) e (now table) ⌝ }
-    ensures { λ b. ⌜ Idles (rules g) (rangesOf r) (r .count) f (now (words .entry)) (now (words .exit)) b ⌝ }
+    requires { ⌜ Leaved (rules g) (rangesOf r) (r .count) (now words) × Begins (now words) e
+        × Chains (rules g) e (now table) ⌝ }
+    ensures { λ b. ⌜ Idles (rules g) (rangesOf r) (r .count) f (now (words .entry))
+        (now (words .exit)) b ⌝ }
 {
     if count(r) < 64 {
         return false;
@@ -199,7 +208,8 @@ fn settled(r: RangeSentence, f: Flags) -> bool
     !may_rise(r)
 }
 
-// The verdicts of all choices, besides those found before. A token with several columns goes through them.
+// The verdicts of all choices, besides those found before. A token with several columns goes
+// through them.
 fn search(
     g: Grammar,
     r: RangeSentence,
@@ -212,8 +222,10 @@ fn search(
     requires { ⌜ Formed g × Placed (rules g) b ⌝ }
     requires { ⌜ Spread r ⌝ }
     requires { ⌜ 2 * pairs (r .count) ≤ length (now words) ⌝ }
-    requires { ⌜ Leaved (rules g) (rangesOf r) (r .count) (now words) × Begins (now words) e × Chains (rules g) e (now table) ⌝ }
-    ensures { λ a. ⌜ Searched (rules g) (rangesOf r) (r .count) f (now (words .entry)) (now (words .exit)) a ⌝ }
+    requires { ⌜ Leaved (rules g) (rangesOf r) (r .count) (now words) × Begins (now words) e
+        × Chains (rules g) e (now table) ⌝ }
+    ensures { λ a. ⌜ Searched (rules g) (rangesOf r) (r .count) f (now (words .entry))
+        (now (words .exit)) a ⌝ }
 {
     if settled(r, f) {
         return f;
@@ -244,7 +256,8 @@ fn search_choices(g: Grammar, r: RangeSentence, words: &mut [u64], f: Flags) -> 
     requires { ⌜ Spread r ⌝ }
     requires { ⌜ 2 * pairs (r .count) ≤ length (now words) ⌝ }
     requires { ⌜ Leaved (rules g) (rangesOf r) (r .count) (now words) ⌝ }
-    ensures { λ a. ⌜ Searched (rules g) (rangesOf r) (r .count) f (now (words .entry)) (now (words .exit)) a ⌝ }
+    ensures { λ a. ⌜ Searched (rules g) (rangesOf r) (r .count) f (now (words .entry))
+        (now (words .exit)) a ⌝ }
 {
     let e = Pair {
         one: words[0],

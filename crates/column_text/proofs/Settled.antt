@@ -7,6 +7,8 @@ use Rattle.call_columns.proofs.Settled.{columns-reply}
 use Rattle.text.specs.Output.{answerText, head}
 use Rattle.column_text.specs.Columns.{columnsText, ColumnsTextOf, answered}
 
-pub columns-text-settled : {rules ranges a b : List ℕ} → ColumnsTextOf rules ranges a → ColumnsTextOf rules ranges b → a ≡ b
+pub columns-text-settled : {rules ranges a b : List ℕ} → ColumnsTextOf rules ranges a
+    → ColumnsTextOf rules ranges b → a ≡ b
 columns-text-settled {rules} {ranges} (answered l x p) (answered m y q) =
-    p ∙ ap (λ (r : ColumnsReply). head (answerText (r .answer)) (r .line) ++ columnsText (r .answer) (r .found)) (columns-reply rules ranges (l ∙ sym m) x y) ∙ sym q
+    p ∙ ap (λ (r : ColumnsReply). head (answerText (r .answer)) (r .line)
+    ++ columnsText (r .answer) (r .found)) (columns-reply rules ranges (l ∙ sym m) x y) ∙ sym q

@@ -1,4 +1,5 @@
--- What the program `calls` writes for `columns`: the answer and its line, then `none one two` and yes or no for each.
+-- What the program `calls` writes for `columns`: the answer and its line, then `none one two` and
+-- yes or no for each.
 use mathlib.Core.Path.{_≡_}
 use mathlib.Core.Bool.{Bool, true, false}
 use mathlib.Core.List.{List, [], _∷_, _++_}
@@ -22,7 +23,8 @@ flagNames = 110 ∷ 111 ∷ 110 ∷ 101 ∷ 32 ∷ 111 ∷ 110 ∷ 101 ∷ 32 �
 
 -- that line and the three flags
 unfoldable pub flagLines : Flags → List ℕ
-flagLines f = flagNames ++ ((flagText (f .none) ++ (32 ∷ [])) ++ ((flagText (f .one) ++ (32 ∷ [])) ++ (flagText (f .two) ++ (10 ∷ []))))
+flagLines f = flagNames ++ ((flagText (f .none) ++ (32 ∷ []))
+    ++ ((flagText (f .one) ++ (32 ∷ [])) ++ (flagText (f .two) ++ (10 ∷ []))))
 
 -- nothing for a refusal
 abbrev pub columnsText : Answer → Flags → List ℕ
@@ -35,5 +37,7 @@ columnsText (Answer.Refused e) f = []
 
 -- the output for two sheets; it lends words enough for 64 tokens
 pub data ColumnsTextOf (rules ranges text : List ℕ) : Type 0 where
-  answered : {words words′ : List ℕ} {r : ColumnsReply} → length words ≡ 4162 → ColumnsOf rules ranges words words′ r
-      → text ≡ head (answerText (r .answer)) (r .line) ++ columnsText (r .answer) (r .found) → ColumnsTextOf rules ranges text
+  answered : {words words′ : List ℕ} {r : ColumnsReply} → length words ≡ 4162
+      → ColumnsOf rules ranges words words′ r
+      → text ≡ head (answerText (r .answer)) (r .line) ++ columnsText (r .answer) (r .found)
+      → ColumnsTextOf rules ranges text

@@ -1,4 +1,5 @@
-// The whole output of the call on columns read off a photograph, in a lent buffer; its sheets are parted already.
+// The whole output of the call on columns read off a photograph, in a lent buffer; its sheets are
+// parted already.
 use answering::Answer;
 use call_columns::columns;
 use column_search::Flags;
@@ -55,7 +56,8 @@ fn put_given(out: &mut [u8], at: usize, a: Answer, f: Flags) -> usize
 // The whole output of the call `columns`; its length.
 pub fn columns_text(rules: &[u8], ranges: &[u8], out: &mut [u8]) -> usize
     requires { ⌜ 262144 ≤ length (now out) ⌝ }
-    ensures { λ r. ⌜ Printed (ColumnsTextOf (now (rules .entry))) (now (ranges .entry)) (now (out .entry)) (now (out .exit)) r ⌝ }
+    ensures { λ r. ⌜ Printed (ColumnsTextOf (now (rules .entry))) (now (ranges .entry))
+        (now (out .entry)) (now (out .exit)) r ⌝ }
 {
     let mut words = [0u64; 4162];
     let r = columns(rules, ranges, &mut words);

@@ -26,7 +26,8 @@ abbrev pub Kid : ℕ → ℕ → ℕ → Clause → ℕ → ℕ → ℕ → Type
 Kid n s len Clause.Empty l q B = ⊥
 Kid n s len (Clause.Atom a b) l q B = ⊥
 Kid n s len (Clause.Unary C m) l q B = (q ≡ pairAt n s len) × (B ≡ C)
-Kid n s len (Clause.Binary C D m) l q B = ((q ≡ pairAt n s l) × (B ≡ C)) ⊎ ((q ≡ pairAt n (s + l) (len - l)) × (B ≡ D))
+Kid n s len (Clause.Binary C D m) l q B =
+    ((q ≡ pairAt n s l) × (B ≡ C)) ⊎ ((q ≡ pairAt n (s + l) (len - l)) × (B ≡ D))
 
 -- where the clause fits so
 abbrev pub LeftKids : List ℕ → ℕ → ℕ → ℕ → SpanMarks → Clause → ℕ → ℕ → ℕ → Type 0
@@ -42,7 +43,8 @@ RuleKids ws n s len k A r q B = (r .left ≡ A) × ClauseKids ws n s len k (r .c
 
 -- beneath some choice of A
 abbrev pub ChoiceKids : List ℕ → Rules → ℕ → ℕ → ℕ → SpanMarks → ℕ → ℕ → ℕ → Type 0
-ChoiceKids ws g n s len k A q B = (i : ℕ) × (l : ℕ) × Stand (One ws n) g (byMarks k len) s len A i l × Kid n s len (rule g i .clause) l q B
+ChoiceKids ws g n s len k A q B = (i : ℕ) × (l : ℕ) × Stand (One ws n) g (byMarks k len) s len A i l
+    × Kid n s len (rule g i .clause) l q B
 
 -- a member of set that is not in done
 abbrev pub Fresh : ℕ → ℕ → Member → Type 0

@@ -17,4 +17,5 @@ Bit rs n s len A = In (getD rs (pairAt n s len) 0) A
 -- bit A of a span's word is 1 exactly if some whole valid tree of w contains A over the span
 pub record Reached (g : Rules) (w : Word) (rs : List ℕ) : Type 0 where
   pub enough : pairs (length w) ≤ length rs
-  pub is : (s len A : ℕ) → s + len ≤ length w → Bit rs (length w) s len A ↔ Contains g w A (startOf s len) len
+  pub is : (s len A : ℕ) → s + len ≤ length w
+      → Bit rs (length w) s len A ↔ Contains g w A (startOf s len) len

@@ -36,7 +36,9 @@ Kids R s len (Clause.Binary B C m) l = R s l B × R (s + l) (len - l) C
 -- A has a tree over the span, and each tree of it there stands in a whole tree of w
 pub record Held (g : Rules) (w : Word) (s len A : ℕ) : Type 0 where
   pub derives : Derives g A (part w s len)
-  pub extends : (t : Tree) → Witness g A (part w s len) t → (T : Tree) × Witness g 0 w T × (from : ℕ) × StandsIn t 0 T from × (startOf from len ≡ startOf s len)
+  pub extends : (t : Tree) → Witness g A (part w s len) t
+      → (T : Tree) × Witness g 0 w T × (from : ℕ) × StandsIn t 0 T from
+      × (startOf from len ≡ startOf s len)
 
 -- all that the words rs have is so
 pub record Sound (g : Rules) (w : Word) (n : ℕ) (rs : List ℕ) : Type 0 where
@@ -44,15 +46,18 @@ pub record Sound (g : Rules) (w : Word) (n : ℕ) (rs : List ℕ) : Type 0 where
 
 -- what lies beneath each choice of what rs has of the span is in rs
 abbrev pub Spread : Rules → Word → ℕ → List ℕ → ℕ → ℕ → Type 0
-Spread g w n rs s len = (A i l : ℕ) → Bit rs n s len A → Choice g A (part w s len) i l → Kids (Bit rs n) s len (rule g i .clause) l
+Spread g w n rs s len = (A i l : ℕ) → Bit rs n s len A → Choice g A (part w s len) i l
+    → Kids (Bit rs n) s len (rule g i .clause) l
 
--- the span is being worked off, all of `done` is: nothing is lost, nothing past its pair is added, and all that is added is held
+-- the span is being worked off, all of `done` is: nothing is lost, nothing past its pair is added,
+-- and all that is added is held
 pub record Working (g : Rules) (w : Word) (n s len : ℕ) (rs rs′ : List ℕ) (done : ℕ) : Type 0 where
   pub long : length rs′ ≡ length rs
   pub keeps : (q B : ℕ) → In (getD rs q 0) B → In (getD rs′ q 0) B
   pub past : (q B : ℕ) → pairAt n s len < q → In (getD rs′ q 0) B → In (getD rs q 0) B
   pub sound : Sound g w n rs → Sound g w n rs′
-  pub tried : (A i l : ℕ) → In done A → Choice g A (part w s len) i l → Kids (Bit rs′ n) s len (rule g i .clause) l
+  pub tried : (A i l : ℕ) → In done A → Choice g A (part w s len) i l
+      → Kids (Bit rs′ n) s len (rule g i .clause) l
 
 -- it is worked off
 pub record Spreads (g : Rules) (w : Word) (n s len : ℕ) (rs rs′ : List ℕ) : Type 0 where
@@ -63,12 +68,16 @@ pub record Spreads (g : Rules) (w : Word) (n s len : ℕ) (rs rs′ : List ℕ) 
   pub spread : Spread g w n rs′ s len
 
 -- the same, of any sentence whose span sheet the words ws are and whose marks over the span are k
-pub record Works (ws : List ℕ) (g : Rules) (n s len : ℕ) (k : SpanMarks) (rs rs′ : List ℕ) (done : ℕ) : Type 0 where
+pub record Works (ws : List ℕ) (g : Rules) (n s len : ℕ) (k : SpanMarks) (rs rs′ : List ℕ)
+    (done : ℕ) : Type 0 where
   pub long : length rs′ ≡ length rs
-  pub working : (w : Word) → length w ≡ n → SpanSheet g w ws → Marked (record { word = w; known = n }) s len k → Working g w n s len rs rs′ done
+  pub working : (w : Word) → length w ≡ n → SpanSheet g w ws
+      → Marked (record { word = w; known = n }) s len k → Working g w n s len rs rs′ done
 
-pub record Worked (ws : List ℕ) (g : Rules) (n s len : ℕ) (k : SpanMarks) (rs rs′ : List ℕ) : Type 0 where
-  pub spreads : (w : Word) → length w ≡ n → SpanSheet g w ws → Marked (record { word = w; known = n }) s len k → Spreads g w n s len rs rs′
+pub record Worked (ws : List ℕ) (g : Rules) (n s len : ℕ) (k : SpanMarks) (rs rs′ : List ℕ) : Type
+    0 where
+  pub spreads : (w : Word) → length w ≡ n → SpanSheet g w ws
+      → Marked (record { word = w; known = n }) s len k → Spreads g w n s len rs rs′
 
 -- only the whole sentence has a member, the start
 pub record Begun (n : ℕ) (rs : List ℕ) : Type 0 where

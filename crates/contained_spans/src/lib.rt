@@ -1,4 +1,5 @@
-// Which nonterminals some whole valid tree contains over which word, read off the span sheet: one word a span, the longest spans first.
+// Which nonterminals some whole valid tree contains over which word, read off the span sheet: one
+// word a span, the longest spans first.
 use choices::clause_fits;
 use choices::last_left;
 use choices::list_rules;
@@ -24,7 +25,8 @@ ghost use Rattle.tables.specs.Tables.{Room};
 ghost use Rattle.choices.specs.RuleLists.{Listed};
 ghost use Rattle.contained_spans.specs.Reached.{Reached};
 ghost use Rattle.cuts.specs.Joining.{Joins};
-ghost use Rattle.contained_spans.specs.Joining.{Space, Kid, LeftKids, ClauseKids, ChoiceKids, Fresh};
+ghost use Rattle.contained_spans.specs.Joining.{Space, Kid, LeftKids, ClauseKids, ChoiceKids};
+ghost use Rattle.contained_spans.specs.Joining.{Fresh};
 ghost use Rattle.contained_spans.specs.Spreading.{Known, Spreads, Worked, Begun, Done};
 ghost use Rattle.grammar.specs.Sentences.{spelled};
 
@@ -72,7 +74,8 @@ fn try_left(
 )
     requires { ⌜ Room (now words) n start len × Space (now reach) n start len × (left ≤ len) ⌝ }
     requires { ⌜ SmallClause c ⌝ }
-    ensures { λ r. ⌜ Joins (LeftKids (now (words .entry)) n start len k c left) (now (reach .entry)) (now (reach .exit)) ⌝ }
+    ensures { λ r. ⌜ Joins (LeftKids (now (words .entry)) n start len k c left) (now (reach .entry))
+        (now (reach .exit)) ⌝ }
 {
     if !clause_fits(words, n, c, start, len, left, k) {
         return;
@@ -92,7 +95,8 @@ fn spread_clause(
 )
     requires { ⌜ Room (now words) n start len × Space (now reach) n start len ⌝ }
     requires { ⌜ SmallClause c ⌝ }
-    ensures { λ r. ⌜ Joins (ClauseKids (now (words .entry)) n start len k c) (now (reach .entry)) (now (reach .exit)) ⌝ }
+    ensures { λ r. ⌜ Joins (ClauseKids (now (words .entry)) n start len k c) (now (reach .entry))
+        (now (reach .exit)) ⌝ }
 {
     let last = last_left(c, len);
     let mut left = 0;
@@ -102,7 +106,8 @@ fn spread_clause(
     }
 }
 
-// Put in what lies beneath each choice of `a` at the span, rule by rule along the list of its rules.
+// Put in what lies beneath each choice of `a` at the span, rule by rule along the list of its
+// rules.
 fn spread_choices(
     words: &[u64],
     reach: &mut [u64],
@@ -116,7 +121,8 @@ fn spread_choices(
 )
     requires { ⌜ Room (now words) n start len × Space (now reach) n start len ⌝ }
     requires { ⌜ Formed g × Listed (rules g) (now lists) × (a < 64) ⌝ }
-    ensures { λ r. ⌜ Joins (ChoiceKids (now (words .entry)) (rules g) n start len k a) (now (reach .entry)) (now (reach .exit)) ⌝ }
+    ensures { λ r. ⌜ Joins (ChoiceKids (now (words .entry)) (rules g) n start len k a)
+        (now (reach .entry)) (now (reach .exit)) ⌝ }
 {
     let mut i = lists[a as usize] as usize;
     while i < g.count {
@@ -151,7 +157,8 @@ fn work_off(
 )
     requires { ⌜ Room (now words) n start len × Space (now reach) n start len ⌝ }
     requires { ⌜ Formed g × Listed (rules g) (now lists) ⌝ }
-    ensures { λ r. ⌜ Worked (now (words .entry)) (rules g) n start len k (now (reach .entry)) (now (reach .exit)) ⌝ }
+    ensures { λ r. ⌜ Worked (now (words .entry)) (rules g) n start len k (now (reach .entry))
+        (now (reach .exit)) ⌝ }
 {
     let p = pair_at(n, start, len);
     let mut done = 0;
@@ -181,7 +188,8 @@ fn spread_span(
 )
     requires { ⌜ Known (now words) (rules g) d × Formed g × Listed (rules g) (now lists) ⌝ }
     requires { ⌜ Space (now reach) (d .count) start len ⌝ }
-    ensures { λ r. ⌜ Spreads (rules g) (drafted d) (d .count) start len (now (reach .entry)) (now (reach .exit)) ⌝ }
+    ensures { λ r. ⌜ Spreads (rules g) (drafted d) (d .count) start len (now (reach .entry))
+        (now (reach .exit)) ⌝ }
 {
     let n = d.count;
     let k = span_marks(d, start, len);
@@ -192,8 +200,10 @@ fn spread_span(
 fn spread_row(words: &[u64], reach: &mut [u64], d: Draft, g: Grammar, lists: &[u64], len: usize)
     requires { ⌜ Known (now words) (rules g) d × Formed g × Listed (rules g) (now lists) ⌝ }
     requires { ⌜ (0 < len) × (len ≤ d .count) ⌝ }
-    requires { ⌜ Done (rules g) (drafted d) (d .count) (now reach) (pairAt (d .count) 0 (len + 1)) ⌝ }
-    ensures { λ r. ⌜ Done (rules g) (drafted d) (d .count) (now (reach .exit)) (pairAt (d .count) 0 len) ⌝ }
+    requires { ⌜ Done (rules g) (drafted d) (d .count) (now reach)
+        (pairAt (d .count) 0 (len + 1)) ⌝ }
+    ensures { λ r. ⌜ Done (rules g) (drafted d) (d .count) (now (reach .exit))
+        (pairAt (d .count) 0 len) ⌝ }
 {
     let n = d.count;
     let mut start = n - len + 1;
@@ -206,7 +216,8 @@ fn spread_row(words: &[u64], reach: &mut [u64], d: Draft, g: Grammar, lists: &[u
 // Work off all spans, the longest first and the empty word last.
 fn spread_all(words: &[u64], reach: &mut [u64], d: Draft, g: Grammar, lists: &[u64])
     requires { ⌜ Known (now words) (rules g) d × Formed g × Listed (rules g) (now lists) ⌝ }
-    requires { ⌜ Done (rules g) (drafted d) (d .count) (now reach) (pairAt (d .count) 0 (d .count + 1)) ⌝ }
+    requires { ⌜ Done (rules g) (drafted d) (d .count) (now reach)
+        (pairAt (d .count) 0 (d .count + 1)) ⌝ }
     ensures { λ r. ⌜ Done (rules g) (drafted d) (d .count) (now (reach .exit)) 0 ⌝ }
 {
     let mut len = d.count;
@@ -228,7 +239,8 @@ fn begin(reach: &mut [u64], n: usize)
     add(reach, p, 0);
 }
 
-// Which nonterminals some whole tree of the sentence contains over which span, by its span sheet: one word a pair, from the first on.
+// Which nonterminals some whole tree of the sentence contains over which span, by its span sheet:
+// one word a pair, from the first on.
 pub fn reached(words: &[u64], s: Sentence, g: Grammar, reach: &mut [u64])
     requires { ⌜ (s .count ≤ 64) × (pairs (s .count) ≤ length (now reach)) ⌝ }
     requires { ⌜ Formed g ⌝ }

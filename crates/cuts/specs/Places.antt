@@ -22,7 +22,8 @@ pub record WithPlace (set i : ℕ) (c : Clause) (r : ℕ) : Type 0 where
   pub has : IsBinary c → In r i
   pub only : (j : ℕ) → In r j → In set j ⊎ (j ≡ i)
 
--- the set has the places of the B rules among the m from base on, counted from there, and places of rules alone
+-- the set has the places of the B rules among the m from base on, counted from there, and places of
+-- rules alone
 pub record PlacedAt (g : Rules) (base m set : ℕ) : Type 0 where
   pub all : (i : ℕ) → i < m → IsBinary (rule g (base + i) .clause) → In set i
   pub within : (i : ℕ) → In set i → base + i < length g

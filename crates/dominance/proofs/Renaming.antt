@@ -1,4 +1,5 @@
--- A terminal that a smaller one replaces can be renamed to that one: what had two trees still has, and it does not come later.
+-- A terminal that a smaller one replaces can be renamed to that one: what had two trees still has,
+-- and it does not come later.
 use mathlib.Core.Path.{_≡_, refl, sym, ap, _∙_, subst}
 use mathlib.Core.Logic.{inl, inr, ⊎-elim}
 use mathlib.Core.List.{List, [], _∷_, map}
@@ -39,8 +40,14 @@ module _ (g : Rules) (s kept : ℕ) (sp : Spared g s kept) where
   chosen x = go (among? x)
     where
       go : Dec (Among s x) → Chosen x
-      go (yes m) = let q = sp .each x m in record { to = q .0; low = q .2; replaces = q .3; among = λ z. q .1 }
-      go (no n) = record { to = x; low = omega arith; replaces = record { lefts = λ A a. a }; among = λ z. absurd (n z) }
+      go (yes m) = let q = sp .each x m in
+          record { to = q .0; low = q .2; replaces = q .3; among = λ z. q .1 }
+      go (no n) = record {
+        to = x;
+        low = omega arith;
+        replaces = record { lefts = λ A a. a };
+        among = λ z. absurd (n z);
+      }
 
   abbrev rename : ℕ → ℕ
   rename x = chosen x .to
@@ -49,7 +56,13 @@ module _ (g : Rules) (s kept : ℕ) (sp : Spared g s kept) where
   cell c = record { terminal = rename (c .terminal); step = c .step; column = c .column }
 
   abbrev token : Token → Token
-  token t = record { terminal = rename (t .terminal); line = t .line; column = t .column; width = t .width }
+  token t = record {
+    terminal = rename (t .terminal);
+    line = t .line;
+    column = t .column;
+    width = t
+        .width;
+  }
 
   -- the renamed cells
   abbrev pub renamed : List Cell → List Cell
@@ -60,20 +73,39 @@ module _ (g : Rules) (s kept : ℕ) (sp : Spared g s kept) where
   renamed-long [] = refl
   renamed-long (c ∷ cs) = ap suc (renamed-long cs)
 
-  renamed-fit : (n m p : ℕ) (cs : List Cell) → Fit (Among s) n m p cs → Fit (Among kept) n m p (renamed cs)
+  renamed-fit : (n m p : ℕ) (cs : List Cell) → Fit (Among s) n m p cs
+      → Fit (Among kept) n m p (renamed cs)
   renamed-fit n m p [] f = tt
   renamed-fit n m p (c ∷ cs) f = (
-    record { ranged = record { terminal = chosen (c .terminal) .among (f .0 .ranged .terminal); step = f .0 .ranged .step; low = f .0 .ranged .low; high = f .0 .ranged .high }; after = f .0 .after },
+    record {
+      ranged = record {
+        terminal = chosen (c .terminal) .among (f .0 .ranged .terminal);
+        step = f .0 .ranged .step;
+        low = f .0 .ranged .low;
+        high = f .0 .ranged .high;
+      };
+      after =
+          f .0 .after;
+    },
     renamed-fit n 2 (c .column) cs (f .1),
   )
 
-  pub renamed-candidate : (n : ℕ) (cs : List Cell) → Candidate (Among s) n cs → Candidate (Among kept) n (renamed cs)
-  renamed-candidate n cs c = fit-candidate (Among kept) n (renamed cs) (renamed-long cs ∙ c .arranged .size) (renamed-fit n 0 0 cs (candidate-fit (Among s) n cs c))
+  pub renamed-candidate : (n : ℕ) (cs : List Cell) → Candidate (Among s) n cs
+      → Candidate (Among kept) n (renamed cs)
+  renamed-candidate n cs c = fit-candidate (Among kept) n (renamed cs)
+      (renamed-long cs ∙ c .arranged .size) (renamed-fit n 0 0 cs (candidate-fit (Among s) n cs c))
 
   -- its sentence, token by token
   renamed-placed : (l : ℕ) (cs : List Cell) → placed l (renamed cs) ≡ map token (placed l cs)
   renamed-placed l [] = refl
-  renamed-placed l (c ∷ cs) = ap (λ (w : Word). _∷_ (token (record { terminal = c .terminal; line = record { 0 = l + c .step }; column = record { 0 = c .column }; width = record { 0 = 1 } })) w) (renamed-placed (l + c .step) cs)
+  renamed-placed l (c ∷ cs) = ap (λ (w : Word). _∷_
+      (token (record {
+        terminal = c .terminal;
+        line = record { 0 = l + c .step };
+        column = record
+            { 0 = c .column };
+        width = record { 0 = 1 };
+      })) w) (renamed-placed (l + c .step) cs)
 
   alike : Alike g (λ t. Unit {0}) token
   alike = record {
@@ -85,8 +117,10 @@ module _ (g : Rules) (s kept : ℕ) (sp : Spared g s kept) where
   all-tokens [] = tt
   all-tokens (a ∷ w) = (tt, all-tokens w)
 
-  pub renamed-two : (cs : List Cell) → TwoTrees g 0 (sentence cs) → TwoTrees g 0 (sentence (renamed cs))
-  renamed-two cs t = subst (TwoTrees g 0) (sym (renamed-placed 1 cs)) (two-keeps g (λ t. Unit {0}) token alike 0 (sentence cs) (all-tokens (sentence cs)) t)
+  pub renamed-two : (cs : List Cell) → TwoTrees g 0 (sentence cs)
+      → TwoTrees g 0 (sentence (renamed cs))
+  renamed-two cs t = subst (TwoTrees g 0) (sym (renamed-placed 1 cs))
+      (two-keeps g (λ t. Unit {0}) token alike 0 (sentence cs) (all-tokens (sentence cs)) t)
 
   -- ---- it comes before whatever the cells come before
 
@@ -108,8 +142,15 @@ module _ (g : Rules) (s kept : ℕ) (sp : Spared g s kept) where
   renamed-before [] cs b = b
   renamed-before (d ∷ ds) [] b = b
   renamed-before (d ∷ ds) (c ∷ cs) (inl b) = inl (cell-before d c b)
-  renamed-before (d ∷ ds) (c ∷ cs) (inr b) = go (ℕ-discrete (rename (d .terminal)) (d .terminal)) (renamed-before ds cs (b .1))
+  renamed-before (d ∷ ds) (c ∷ cs) (inr b) =
+      go (ℕ-discrete (rename (d .terminal)) (d .terminal)) (renamed-before ds cs (b .1))
     where
-      go : Dec (rename (d .terminal) ≡ d .terminal) → CellsBefore (renamed ds) cs → CellsBefore (renamed (d ∷ ds)) (c ∷ cs)
+      go : Dec (rename (d .terminal) ≡ d .terminal) → CellsBefore (renamed ds) cs
+          → CellsBefore (renamed (d ∷ ds)) (c ∷ cs)
       go (yes e) h = inr (cell-same d e ∙ b .0, h)
-      go (no n) h = inl (inl (omega (arith, chosen (d .terminal) .low, ap (λ (x : Cell). x .terminal) (b .0))))
+      go (no n) h = inl (inl (omega (
+        arith,
+        chosen (d .terminal) .low,
+        ap
+            (λ (x : Cell). x .terminal) (b .0),
+      )))

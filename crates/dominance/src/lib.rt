@@ -1,5 +1,5 @@
-// Terminals that the sweep need not try: where a smaller terminal has every left of one, whatever has two trees with
-// the one has two with the other, and comes first.
+// Terminals that the sweep need not try: where a smaller terminal has every left of one, whatever
+// has two trees with the one has two with the other, and comes first.
 use grammar::Clause;
 use grammar::Grammar;
 use grammar::Rule;
@@ -10,7 +10,8 @@ ghost use mathlib.Core.Bool.{true, false};
 ghost use Prim.Native.Nat.{_+_, _<_};
 ghost use Rattle.sets.specs.Sets.{In};
 ghost use Rattle.grammar.specs.Content.{rules, SmallRule, Formed};
-ghost use Rattle.dominance.specs.Dominance.{addLeft, Lefts, Subset, Serves, Replaced, Spares, Spared};
+ghost use Rattle.dominance.specs.Dominance.{addLeft, Lefts, Subset, Serves, Replaced, Spares};
+ghost use Rattle.dominance.specs.Dominance.{Spared};
 
 // The set with the rule's left besides, if it is an A rule that covers `a`.
 fn with_left(set: u64, r: Rule, a: u8) -> u64

@@ -21,7 +21,8 @@ use Rattle.grammar.proofs.ByKind.{Can, choice-can, can-choice, getElem?-lt}
 use Rattle.acyclic.specs.Exact.{Exactly}
 use Rattle.acyclic.specs.Passes.{Ready}
 use Rattle.acyclic.proofs.Growth.{small-at}
-use Rattle.pairs.specs.Shapes.{Shape, Form, HasForm, tips, units, twos, firsts, seconds, ruleOfShape}
+use Rattle.pairs.specs.Shapes.{Shape, Form, HasForm, tips, units, twos, firsts, seconds}
+use Rattle.pairs.specs.Shapes.{ruleOfShape}
 use Rattle.pairs.specs.Shapes.{Head}
 use Rattle.pairs.specs.Settings.{Setting, FitIn}
 use Rattle.pairs.specs.Facts.{stand, Might, two-nodes}
@@ -46,12 +47,14 @@ module _ {g : Rules} {A p q : ℕ} (t : TwoNodes g A p q) where
   nodes-first : RuleOf g p A
   nodes-first =
       subst (λ (B : ℕ). RuleOf g p B) (t .sort₁)
-      (subst (λ (i : ℕ). RuleOf g i (t .x .sort)) (t .rule₁) (rule-of (fits (t .over .may) .looks₁)))
+      (subst (λ (i : ℕ). RuleOf g i (t .x .sort)) (t .rule₁)
+      (rule-of (fits (t .over .may) .looks₁)))
 
   nodes-second : RuleOf g q A
   nodes-second =
       subst (λ (B : ℕ). RuleOf g q B) (t .sort₂)
-      (subst (λ (i : ℕ). RuleOf g i (t .y .sort)) (t .rule₂) (rule-of (fits (t .over .may) .looks₂)))
+      (subst (λ (i : ℕ). RuleOf g i (t .y .sort)) (t .rule₂)
+      (rule-of (fits (t .over .may) .looks₂)))
 
 pub one-left : {g : Rules} {p A B : ℕ} → RuleOf g p A → RuleOf g p B → A ≡ B
 one-left x y =
@@ -104,7 +107,8 @@ doubt-rules {g} f d h =
 
 -- ---- what the bits say
 
-module _ {g : Rules} {t : List ℕ} (m : Marked g t) {A p q : ℕ} (r : RuleOf g p A) (h : p ≤ q) (k : q < 128) where
+module _ {g : Rules} {t : List ℕ} (m : Marked g t) {A p q : ℕ} (r : RuleOf g p A) (h : p ≤ q)
+    (k : q < 128) where
   bit-nodes : Bit t p q → Seen g A × TwoNodes g A p q
   bit-nodes b =
       let x = m .is p q h k .0 b in

@@ -87,7 +87,15 @@ module _ {g : Grammar} {s : Sets} {t : List ℕ} (z : Ground g s t) where
         let e : d .first ≡ p = omega
         (arith, few, o .small .place, o .few, why-small (d .why), i, j, a) in
         let q : d .second ≡ p = omega (arith, a, e, i, j, o .order) in
-        omega (arith, a, e, q, j, same-why (rules g) (d .nonterminal) (d .first) (d .second) (d .why) (e ∙ sym q) x)
+        omega (
+          arith,
+          a,
+          e,
+          q,
+          j,
+          same-why (rules g) (d .nonterminal) (d .first) (d .second)
+              (d .why) (e ∙ sym q) x,
+        )
 
     none-behind : (d : Doubt) → OfRules g d → Doubted (rules g) d → at A p p 2 ≤ doubtNumber d
         → doubtNumber d < at A p (p + 1) 0 → ⊥
@@ -97,7 +105,15 @@ module _ {g : Grammar} {s : Sets} {t : List ℕ} (z : Ground g s t) where
         let e : d .first ≡ p = omega
         (arith, few, o .small .place, o .few, why-small (d .why), i, j, a) in
         let q : d .second ≡ p = omega (arith, a, e, i, j, o .order) in
-        omega (arith, a, e, q, i, same-why (rules g) (d .nonterminal) (d .first) (d .second) (d .why) (e ∙ sym q) x)
+        omega (
+          arith,
+          a,
+          e,
+          q,
+          i,
+          same-why (rules g) (d .nonterminal) (d .first) (d .second)
+              (d .why) (e ∙ sym q) x,
+        )
 
     pub lists-same : {old new : List ℕ} {l k : Listing} {yes : Bool} → RuleOf (rules g) p A
         → l .count ≤ l .at → Says yes (Bit t p p) → PutIf yes (four A p p 1) old new l k
@@ -108,7 +124,8 @@ module _ {g : Grammar} {s : Sets} {t : List ℕ} (z : Ground g s t) where
         let y = lists-as {n′ = at A p p 2} refl (omega arith) x in
         lists-then (z .formed)
         (lists-skip (z .formed) (at A p 0 0) (at A p p 1) h (omega arith) none-before)
-        (lists-then (z .formed) y (lists-skip (z .formed) (at A p p 2) (at A p (p + 1) 0) (y .few) (omega arith) none-behind))
+        (lists-then (z .formed) y (lists-skip (z .formed) (at A p p 2) (at A p (p + 1) 0) (y .few)
+        (omega arith) none-behind))
 
     -- ---- two rules
 
@@ -142,4 +159,5 @@ module _ {g : Grammar} {s : Sets} {t : List ℕ} (z : Ground g s t) where
           → Lists (rules g) old new l k (at A p q 2) (at A p (q + 1) 0)
       lists-empty h b x =
           lists-as refl (omega arith)
-          (lists-if (z .formed) (doubt A p q two-empty) (record { first = few; second = few′ }) (says-empty m b) h x)
+          (lists-if (z .formed) (doubt A p q two-empty) (record { first = few; second = few′ })
+          (says-empty m b) h x)

@@ -100,7 +100,13 @@ number-before d e x y h = go (decLt (d .nonterminal) (e .nonterminal))
 
 number-same : (d e : Doubt) → Few d → Few e → doubtNumber d ≡ doubtNumber e → d ≡ e
 number-same d e x y h =
-    λ i. record { nonterminal = a i; first = b i; second = s i; why = why-same (d .why) (e .why) w i }
+    λ i. record {
+      nonterminal = a i;
+      first = b i;
+      second = s i;
+      why = why-same (d .why) (e .why) w
+          i;
+    }
   where
     small : whyCode (d .why) < 3
     small = why-small (d .why)
@@ -137,7 +143,8 @@ module _ {g : Grammar} (f : Formed g) where
 
   -- no doubt has a number from m on and below n
   pub lists-skip : {out : List ℕ} {l : Listing} (m n : ℕ) → l .count ≤ l .at → m ≤ n
-      → ((d : Doubt) → OfRules g d → Doubted (rules g) d → m ≤ doubtNumber d → doubtNumber d < n → ⊥) → Lists (rules g) out out l l m n
+      → ((d : Doubt) → OfRules g d → Doubted (rules g) d → m ≤ doubtNumber d → doubtNumber d < n
+      → ⊥) → Lists (rules g) out out l l m n
   lists-skip m n h k none =
       record {
         few = h;
@@ -156,7 +163,8 @@ module _ {g : Grammar} (f : Formed g) where
       }
     where
       all : {lent out : List ℕ} {l : Listing} (x : ListedTo (rules g) lent out l m) (d : Doubt)
-          → Doubted (rules g) d → doubtNumber d < n → Dec (doubtNumber d < m) → List·Memᴰ d (x .entries)
+          → Doubted (rules g) d → doubtNumber d < n → Dec (doubtNumber d < m)
+          → List·Memᴰ d (x .entries)
       all x d p i (yes j) = x .all d p j
       all x d p i (no j) = absurd (none d (doubt-rules f d p) p (omega (arith, j)) i)
 
@@ -175,12 +183,16 @@ module _ {g : Grammar} (f : Formed g) where
             all = λ e y i. all e y i (decLt (doubtNumber e) (doubtNumber d));
             ordered =
                 ordered-snoc (x .entries) d (x .ordered)
-                (every-as (λ e. Doubted (rules g) e × (doubtNumber e < doubtNumber d)) (λ e. DoubtBefore e d) (x .entries)
+                (every-as (λ e. Doubted (rules g) e × (doubtNumber e < doubtNumber d))
+                (λ e. DoubtBefore e d) (x .entries)
                 (λ e y. number-before e d (few-of e (y .0)) (few-of d p) (y .1))
-                (every-both (Doubted (rules g)) (λ e. doubtNumber e < doubtNumber d) (x .entries) (x .each) (x .before)));
+                (every-both (Doubted (rules g)) (λ e. doubtNumber e < doubtNumber d) (x .entries)
+                (x .each) (x .before)));
             before =
                 every-append (λ e. doubtNumber e < suc (doubtNumber d)) (x .entries) (d ∷ [])
-                (every-as (λ e. doubtNumber e < doubtNumber d) (λ e. doubtNumber e < suc (doubtNumber d)) (x .entries) (λ e i. omega (arith, i)) (x .before)) (omega arith, tt);
+                (every-as (λ e. doubtNumber e < doubtNumber d)
+                (λ e. doubtNumber e < suc (doubtNumber d)) (x .entries)
+                (λ e i. omega (arith, i)) (x .before)) (omega arith, tt);
             puts =
                 subst₂ (λ (b : List ℕ) (k : ℕ). Puts b k lent new r)
                 (sym (bytes-snoc doubtBytes (x .entries) d))
@@ -209,7 +221,8 @@ module _ {g : Grammar} (f : Formed g) where
       go false s q =
           let p = q .same refl in
           rw (p .0, p .1)
-          (lists-skip (doubtNumber d) (suc (doubtNumber d)) h (omega arith) (λ e o y i j. absurd (s .isnt refl
+          (lists-skip (doubtNumber d) (suc (doubtNumber d)) h (omega arith)
+          (λ e o y i j. absurd (s .isnt refl
           (subst (Doubted (rules g)) (number-same e d (few-of e y) x (omega (arith, i, j))) y))))
 
   -- ---- the first number and the last
@@ -225,8 +238,8 @@ module _ {g : Grammar} (f : Formed g) where
         puts = b .puts lent;
       }
 
-  pub listed-all : {lent out : List ℕ} {l : Listing} (x : ListedTo (rules g) lent out l (at 64 0 0 0))
-      → AllDoubts (rules g) (x .entries)
+  pub listed-all : {lent out : List ℕ} {l : Listing}
+      (x : ListedTo (rules g) lent out l (at 64 0 0 0)) → AllDoubts (rules g) (x .entries)
   listed-all x =
       record {
         each = x .each;

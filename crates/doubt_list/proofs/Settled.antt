@@ -1,4 +1,5 @@
--- The list of doubts is settled: there is one at most, and it is empty exactly if the sheet passes the test.
+-- The list of doubts is settled: there is one at most, and it is empty exactly if the sheet passes
+-- the test.
 use mathlib.Core.Path.{_≡_, transport}
 use mathlib.Core.List.{List}
 use Prim.Native.Nat.{ℕ}
@@ -17,5 +18,5 @@ pub given-settled : {g : Rules} {lent a b : List ℕ} {r s : Listed} → DoubtsG
 given-settled {g} {lent} {a} {b} {r} {s} x y =
     let e = doubts-same (x .doubts) (y .doubts) in
     gives-settled
-    (transport (λ i. GivesList listed unfit (bytesOf doubtBytes (e i)) (length (e i)) lent a r) (x .gives))
-    (y .gives)
+    (transport (λ i. GivesList listed unfit (bytesOf doubtBytes (e i)) (length (e i)) lent a r)
+    (x .gives)) (y .gives)

@@ -1,4 +1,5 @@
-// The list of a sheet's doubts in lent bytes, in the order of the nonterminals, the rules and the kinds.
+// The list of a sheet's doubts in lent bytes, in the order of the nonterminals, the rules and the
+// kinds.
 use acyclic::ready;
 use grammar::Grammar;
 use lists::Listed;
@@ -59,7 +60,8 @@ fn empty_by(g: Grammar, nulls: u64, a: u8, p: usize) -> bool
 
 // Does `a` occur, and have two rules the empty word?
 fn both_empty(g: Grammar, s: Sets, a: u8, p: usize, q: usize) -> bool
-    requires { ⌜ Formed g × Exactly (s .nulls) (Nullable (rules g)) × Exactly (s .occurring) (Occurs (rules g)) ⌝ }
+    requires { ⌜ Formed g × Exactly (s .nulls) (Nullable (rules g))
+        × Exactly (s .occurring) (Occurs (rules g)) ⌝ }
     requires { ⌜ (a < 64) × (p < g .count) × (q < g .count) ⌝ }
     ensures { λ r. ⌜ Says r (EmptyTwice (rules g) a p q) ⌝ }
 {
@@ -98,7 +100,8 @@ fn list_pair(
     requires { ⌜ Ground g s (now marks) ⌝ }
     requires { ⌜ (a < 64) × (p < q) × (q < g .count) × RuleOf (rules g) p a ⌝ }
     requires { ⌜ l .count ≤ l .at ⌝ }
-    ensures { λ r. ⌜ Lists (rules g) (now (list .entry)) (now (list .exit)) l r (at a p q 0) (at a p (q + 1) 0) ⌝ }
+    ensures { λ r. ⌜ Lists (rules g) (now (list .entry)) (now (list .exit)) l r (at a p q 0)
+        (at a p (q + 1) 0) ⌝ }
 {
     let two = marked(marks, p, q);
     let k = put_if(two, a, p, q, 0, list, l);
@@ -119,7 +122,8 @@ fn list_same(
     requires { ⌜ Ground g s (now marks) ⌝ }
     requires { ⌜ (p < g .count) × RuleOf (rules g) p a ⌝ }
     requires { ⌜ l .count ≤ l .at ⌝ }
-    ensures { λ r. ⌜ Lists (rules g) (now (list .entry)) (now (list .exit)) l r (at a p 0 0) (at a p (p + 1) 0) ⌝ }
+    ensures { λ r. ⌜ Lists (rules g) (now (list .entry)) (now (list .exit)) l r (at a p 0 0)
+        (at a p (p + 1) 0) ⌝ }
 {
     let two = marked(marks, p, p);
     put_if(two, a, p, p, 1, list, l)
@@ -138,7 +142,8 @@ fn list_behind(
     requires { ⌜ Ground g s (now marks) ⌝ }
     requires { ⌜ (a < 64) × (p < g .count) × RuleOf (rules g) p a ⌝ }
     requires { ⌜ l .count ≤ l .at ⌝ }
-    ensures { λ r. ⌜ Lists (rules g) (now (list .entry)) (now (list .exit)) l r (at a p (p + 1) 0) (at a (p + 1) 0 0) ⌝ }
+    ensures { λ r. ⌜ Lists (rules g) (now (list .entry)) (now (list .exit)) l r (at a p (p + 1) 0)
+        (at a (p + 1) 0 0) ⌝ }
 {
     let count = g.count;
     let mut k = l;
@@ -163,7 +168,8 @@ fn list_rule(
     requires { ⌜ Ground g s (now marks) ⌝ }
     requires { ⌜ (a < 64) × (p < g .count) × RuleOf (rules g) p a ⌝ }
     requires { ⌜ l .count ≤ l .at ⌝ }
-    ensures { λ r. ⌜ Lists (rules g) (now (list .entry)) (now (list .exit)) l r (at a p 0 0) (at a (p + 1) 0 0) ⌝ }
+    ensures { λ r. ⌜ Lists (rules g) (now (list .entry)) (now (list .exit)) l r (at a p 0 0)
+        (at a (p + 1) 0 0) ⌝ }
 {
     let k = list_same(g, s, marks, a, p, list, l);
     list_behind(g, s, marks, a, p, list, k)
@@ -174,7 +180,8 @@ fn list_left(g: Grammar, s: Sets, marks: &[u64], a: u8, list: &mut [u8], l: List
     requires { ⌜ Ground g s (now marks) ⌝ }
     requires { ⌜ a < 64 ⌝ }
     requires { ⌜ l .count ≤ l .at ⌝ }
-    ensures { λ r. ⌜ Lists (rules g) (now (list .entry)) (now (list .exit)) l r (at a 0 0 0) (at (a + 1) 0 0 0) ⌝ }
+    ensures { λ r. ⌜ Lists (rules g) (now (list .entry)) (now (list .exit)) l r (at a 0 0 0)
+        (at (a + 1) 0 0 0) ⌝ }
 {
     let count = g.count;
     let mut k = l;
@@ -194,7 +201,8 @@ fn list_left(g: Grammar, s: Sets, marks: &[u64], a: u8, list: &mut [u8], l: List
 fn list_all(g: Grammar, s: Sets, marks: &[u64], list: &mut [u8], l: Listing) -> Listing
     requires { ⌜ Ground g s (now marks) ⌝ }
     requires { ⌜ l .count ≤ l .at ⌝ }
-    ensures { λ r. ⌜ Lists (rules g) (now (list .entry)) (now (list .exit)) l r (at 0 0 0 0) (at 64 0 0 0) ⌝ }
+    ensures { λ r. ⌜ Lists (rules g) (now (list .entry)) (now (list .exit)) l r (at 0 0 0 0)
+        (at 64 0 0 0) ⌝ }
 {
     let mut k = l;
     let mut a: u8 = 0;

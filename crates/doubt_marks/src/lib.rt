@@ -107,7 +107,8 @@ fn self_at(
     requires { ⌜ (1536 ≤ length (now nodes)) × Room (now table) × (i < 384) ⌝ }
     requires { ⌜ (end ≤ length (now list)) × ListsEvens f (now list) 0 end ⌝ }
     requires { ⌜ 768 ≤ length (now out) ⌝ }
-    ensures { λ r. ⌜ Grows (SelfOver (now (nodes .entry)) (now (table .entry)) f i) (now (out .entry)) (now (out .exit)) ⌝ }
+    ensures { λ r. ⌜ Grows (SelfOver (now (nodes .entry)) (now (table .entry)) f i)
+        (now (out .entry)) (now (out .exit)) ⌝ }
 {
     if may(nodes, table, f, i, i, list, end) {
         set_bit(out, i, 0);
@@ -119,7 +120,8 @@ fn selves_over(nodes: &[u64], table: &[u64], f: Frame, list: &[u64], end: usize,
     requires { ⌜ (1536 ≤ length (now nodes)) × Room (now table) ⌝ }
     requires { ⌜ (end ≤ length (now list)) × ListsEvens f (now list) 0 end ⌝ }
     requires { ⌜ 768 ≤ length (now out) ⌝ }
-    ensures { λ r. ⌜ Grows (Upto 384 (SelfOver (now (nodes .entry)) (now (table .entry)) f)) (now (out .entry)) (now (out .exit)) ⌝ }
+    ensures { λ r. ⌜ Grows (Upto 384 (SelfOver (now (nodes .entry)) (now (table .entry)) f))
+        (now (out .entry)) (now (out .exit)) ⌝ }
 {
     let mut i: usize = 0;
     while i < 384 {
@@ -132,7 +134,8 @@ fn selves_over(nodes: &[u64], table: &[u64], f: Frame, list: &[u64], end: usize,
 fn selves_by(nodes: &[u64], table: &[u64], k: usize, out: &mut [u64])
     requires { ⌜ (1536 ≤ length (now nodes)) × Room (now table) × (k < 16) ⌝ }
     requires { ⌜ 768 ≤ length (now out) ⌝ }
-    ensures { λ r. ⌜ Grows (SelfBy (now (nodes .entry)) (now (table .entry)) k) (now (out .entry)) (now (out .exit)) ⌝ }
+    ensures { λ r. ⌜ Grows (SelfBy (now (nodes .entry)) (now (table .entry)) k) (now (out .entry))
+        (now (out .exit)) ⌝ }
 {
     let f = span_frame(k);
     if !pair_frames::ranked(f) {
@@ -147,7 +150,8 @@ fn selves_by(nodes: &[u64], table: &[u64], k: usize, out: &mut [u64])
 fn selves(nodes: &[u64], table: &[u64], out: &mut [u64])
     requires { ⌜ (1536 ≤ length (now nodes)) × Room (now table) ⌝ }
     requires { ⌜ 768 ≤ length (now out) ⌝ }
-    ensures { λ r. ⌜ Grows (Self (now (nodes .entry)) (now (table .entry))) (now (out .entry)) (now (out .exit)) ⌝ }
+    ensures { λ r. ⌜ Grows (Self (now (nodes .entry)) (now (table .entry))) (now (out .entry))
+        (now (out .exit)) ⌝ }
 {
     let mut k: usize = 0;
     while k < 16 {
@@ -226,7 +230,8 @@ fn mark_pair(
     requires { ⌜ (1536 ≤ length (now nodes)) × Room (now table) × (i < 384) × (j < 384) ⌝ }
     requires { ⌜ (end ≤ length (now list)) × ListsEvens f (now list) 0 end ⌝ }
     requires { ⌜ 256 ≤ length (now marks) ⌝ }
-    ensures { λ r. ⌜ Grows (PairOver (now (nodes .entry)) (now (table .entry)) f i j) (now (marks .entry)) (now (marks .exit)) ⌝ }
+    ensures { λ r. ⌜ Grows (PairOver (now (nodes .entry)) (now (table .entry)) f i j)
+        (now (marks .entry)) (now (marks .exit)) ⌝ }
 {
     let p = i % 128;
     let q = j % 128;
@@ -257,7 +262,8 @@ fn mark_row(
     requires { ⌜ (1536 ≤ length (now nodes)) × Room (now table) × (i < 384) ⌝ }
     requires { ⌜ (end ≤ length (now list)) × ListsEvens f (now list) 0 end ⌝ }
     requires { ⌜ 256 ≤ length (now marks) ⌝ }
-    ensures { λ r. ⌜ Grows (RowOver (now (nodes .entry)) (now (table .entry)) seen f i) (now (marks .entry)) (now (marks .exit)) ⌝ }
+    ensures { λ r. ⌜ Grows (RowOver (now (nodes .entry)) (now (table .entry)) seen f i)
+        (now (marks .entry)) (now (marks .exit)) ⌝ }
 {
     if !pair_nodes::present(nodes, i) {
         return;
@@ -286,7 +292,8 @@ fn mark_over(
     requires { ⌜ (1536 ≤ length (now nodes)) × Room (now table) ⌝ }
     requires { ⌜ (end ≤ length (now list)) × ListsEvens f (now list) 0 end ⌝ }
     requires { ⌜ 256 ≤ length (now marks) ⌝ }
-    ensures { λ r. ⌜ Grows (Upto 384 (RowOver (now (nodes .entry)) (now (table .entry)) seen f)) (now (marks .entry)) (now (marks .exit)) ⌝ }
+    ensures { λ r. ⌜ Grows (Upto 384 (RowOver (now (nodes .entry)) (now (table .entry)) seen f))
+        (now (marks .entry)) (now (marks .exit)) ⌝ }
 {
     let mut i: usize = 0;
     while i < 384 {
@@ -299,7 +306,8 @@ fn mark_over(
 fn mark_by(nodes: &[u64], table: &[u64], seen: u64, k: usize, marks: &mut [u64])
     requires { ⌜ (1536 ≤ length (now nodes)) × Room (now table) × (k < 16) ⌝ }
     requires { ⌜ 256 ≤ length (now marks) ⌝ }
-    ensures { λ r. ⌜ Grows (PairsBy (now (nodes .entry)) (now (table .entry)) seen k) (now (marks .entry)) (now (marks .exit)) ⌝ }
+    ensures { λ r. ⌜ Grows (PairsBy (now (nodes .entry)) (now (table .entry)) seen k)
+        (now (marks .entry)) (now (marks .exit)) ⌝ }
 {
     let f = span_frame(k);
     if !pair_frames::ranked(f) {
@@ -314,7 +322,8 @@ fn mark_by(nodes: &[u64], table: &[u64], seen: u64, k: usize, marks: &mut [u64])
 fn mark_frames(nodes: &[u64], table: &[u64], seen: u64, marks: &mut [u64])
     requires { ⌜ (1536 ≤ length (now nodes)) × Room (now table) ⌝ }
     requires { ⌜ 256 ≤ length (now marks) ⌝ }
-    ensures { λ r. ⌜ Grows (PairsFound (now (nodes .entry)) (now (table .entry)) seen) (now (marks .entry)) (now (marks .exit)) ⌝ }
+    ensures { λ r. ⌜ Grows (PairsFound (now (nodes .entry)) (now (table .entry)) seen)
+        (now (marks .entry)) (now (marks .exit)) ⌝ }
 {
     let mut k: usize = 0;
     while k < 16 {
@@ -327,7 +336,8 @@ fn mark_frames(nodes: &[u64], table: &[u64], seen: u64, marks: &mut [u64])
 fn mark_doubts(nodes: &[u64], table: &[u64], marks: &mut [u64])
     requires { ⌜ (1536 ≤ length (now nodes)) × Room (now table) ⌝ }
     requires { ⌜ 256 ≤ length (now marks) ⌝ }
-    ensures { λ r. ⌜ MarksFor (now (nodes .entry)) (now (table .entry)) (now (marks .entry)) (now (marks .exit)) ⌝ }
+    ensures { λ r. ⌜ MarksFor (now (nodes .entry)) (now (table .entry)) (now (marks .entry))
+        (now (marks .exit)) ⌝ }
 {
     let mut own = [0u64; 768];
     selves(nodes, table, &mut own);
@@ -338,9 +348,11 @@ fn mark_doubts(nodes: &[u64], table: &[u64], marks: &mut [u64])
 
 // The marks of a sheet; the search needs the first 73728 of the words.
 pub fn fill_marks(g: Grammar, nulls: u64, prods: u64, words: &mut [u64], marks: &mut [u64])
-    requires { ⌜ Formed g × Exactly nulls (Nullable (rules g)) × Exactly prods (Productive (rules g)) ⌝ }
+    requires { ⌜ Formed g × Exactly nulls (Nullable (rules g))
+        × Exactly prods (Productive (rules g)) ⌝ }
     requires { ⌜ (73728 ≤ length (now words)) × (256 ≤ length (now marks)) ⌝ }
-    ensures { λ r. ⌜ MarksFilled (rules g) (now (words .entry)) (now (words .exit)) (now (marks .entry)) (now (marks .exit)) ⌝ }
+    ensures { λ r. ⌜ MarksFilled (rules g) (now (words .entry)) (now (words .exit))
+        (now (marks .entry)) (now (marks .exit)) ⌝ }
 {
     let mut nodes = [0u64; 1536];
     pair_nodes::fill_nodes(g, nulls, prods, &mut nodes);

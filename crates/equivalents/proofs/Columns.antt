@@ -13,7 +13,8 @@ module _ (c : Candidate) (b i j : ℕ) where
   pub used-here : i < b → getD (c .columns) i 0 ≡ j → used j (cells c i (b - i)) ≡ true
   used-here h e = rw (cells-turn b i c h, eq-eqb (getD (c .columns) i 0) j e)
 
-  pub used-past : i < b → (getD (c .columns) i 0 ≡ j → ⊥) → used j (cells c i (b - i)) ≡ used j (cells c (i + 1) (b - (i + 1)))
+  pub used-past : i < b → (getD (c .columns) i 0 ≡ j → ⊥)
+      → used j (cells c i (b - i)) ≡ used j (cells c (i + 1) (b - (i + 1)))
   used-past h n = rw (cells-turn b i c h, ne-eqb (getD (c .columns) i 0) j n)
 
   pub used-end : b ≤ i → used j (cells c i (b - i)) ≡ false

@@ -1,4 +1,5 @@
--- A line step of 2 has a twin with a step of 1: every token from there on goes one line up, and each mark that held holds.
+-- A line step of 2 has a twin with a step of 1: every token from there on goes one line up, and
+-- each mark that held holds.
 use mathlib.Core.Path.{_≡_, refl, sym, _∙_, ap, ap₂, subst}
 use mathlib.Core.List.{List, [], _∷_, map}
 use mathlib.Core.Logic.{_⊎_, inl, inr}
@@ -30,7 +31,12 @@ up-above : (L x : ℕ) → L ≤ x → up L x ≡ x - 1
 up-above L x h = omega arith
 
 abbrev lift : ℕ → Token → Token
-lift L t = record { terminal = t .terminal; line = record { 0 = up L (line t) }; column = t .column; width = t .width }
+lift L t = record {
+  terminal = t .terminal;
+  line = record { 0 = up L (line t) };
+  column = t .column;
+  width = t .width;
+}
 
 -- no token is on the line before L
 abbrev Clears : ℕ → Token → Type 0
@@ -57,22 +63,26 @@ line-two l p [] h = absurd h
 line-two l zero (c ∷ cs) h = omega arith
 line-two l (suc p) (c ∷ cs) h = omega (arith, line-two (l + c .step) p cs h)
 
-lifted-rest : (L l : ℕ) (cs : List Cell) → L ≤ l → 1 ≤ L → map (lift L) (placed l cs) ≡ placed (l - 1) cs
+lifted-rest : (L l : ℕ) (cs : List Cell) → L ≤ l → 1 ≤ L
+    → map (lift L) (placed l cs) ≡ placed (l - 1) cs
 lifted-rest L l [] h k = refl
 lifted-rest L l (c ∷ cs) h k =
     let e : (l + c .step) - 1 ≡ (l - 1) + c .step = omega arith in
     ap₂ _∷_ (ap (λ (x : ℕ). token x c) (up-above L (l + c .step) (omega arith) ∙ e))
     (lifted-rest L (l + c .step) cs (omega arith) k ∙ ap (λ (x : ℕ). placed x cs) e)
 
-lifted : (l p : ℕ) (cs : List Cell) → TwoAt p cs → map (lift (lineOfToken l p cs)) (placed l cs) ≡ placed l (lower p cs)
+lifted : (l p : ℕ) (cs : List Cell) → TwoAt p cs
+    → map (lift (lineOfToken l p cs)) (placed l cs) ≡ placed l (lower p cs)
 lifted l p [] h = absurd h
 lifted l zero (c ∷ cs) h =
     let e : (l + c .step) - 1 ≡ l + (c .step - 1) = omega arith in
     ap₂ _∷_ (ap (λ (x : ℕ). token x c) (up-above (l + c .step) (l + c .step) (omega arith) ∙ e))
-    (lifted-rest (l + c .step) (l + c .step) cs (omega arith) (omega arith) ∙ ap (λ (x : ℕ). placed x cs) e)
+    (lifted-rest (l + c .step) (l + c .step) cs (omega arith) (omega arith)
+    ∙ ap (λ (x : ℕ). placed x cs) e)
 lifted l (suc p) (c ∷ cs) h =
-    ap₂ _∷_ (ap (λ (x : ℕ). token x c) (up-below (lineOfToken (l + c .step) p cs) (l + c .step) (omega (arith, line-two (l + c .step) p cs h))))
-    (lifted (l + c .step) p cs h)
+    ap₂ _∷_ (ap (λ (x : ℕ). token x c)
+    (up-below (lineOfToken (l + c .step) p cs) (l + c .step)
+    (omega (arith, line-two (l + c .step) p cs h)))) (lifted (l + c .step) p cs h)
 
 clears-rest : (L l : ℕ) (cs : List Cell) → L ≤ l → Every (Clears L) (placed l cs)
 clears-rest L l [] h = tt
@@ -80,7 +90,8 @@ clears-rest L l (c ∷ cs) h = (inr (omega arith), clears-rest L (l + c .step) c
 
 clears : (l p : ℕ) (cs : List Cell) → TwoAt p cs → Every (Clears (lineOfToken l p cs)) (placed l cs)
 clears l p [] h = absurd h
-clears l zero (c ∷ cs) h = (inr (omega arith), clears-rest (l + c .step) (l + c .step) cs (omega arith))
+clears l zero (c ∷ cs) h =
+    (inr (omega arith), clears-rest (l + c .step) (l + c .step) cs (omega arith))
 clears l (suc p) (c ∷ cs) h = (inl (line-two (l + c .step) p cs h), clears (l + c .step) p cs h)
 
 -- x goes to y
@@ -115,11 +126,22 @@ lift-alike g L k = record {
   };
 }
 
-lower-fit : (Q : ℕ → Type 0) (n m k p : ℕ) (cs : List Cell) → TwoAt p cs → Fit Q n m k cs → Fit Q n m k (lower p cs)
+lower-fit : (Q : ℕ → Type 0) (n m k p : ℕ) (cs : List Cell) → TwoAt p cs → Fit Q n m k cs
+    → Fit Q n m k (lower p cs)
 lower-fit Q n m k p [] h f = absurd h
 lower-fit Q n m k zero (c ∷ cs) h f =
-    let r = f .0 .ranged in
-    (record { ranged = record { terminal = r .terminal; step = omega (arith, r .step); low = r .low; high = r .high }; after = λ z. absurd (omega arith) }, f .1)
+    let r = f .0 .ranged in (
+      record {
+        ranged = record {
+          terminal = r .terminal;
+          step = omega (arith, r .step);
+          low = r .low;
+          high = r .high;
+        };
+        after = λ z. absurd (omega arith);
+      },
+      f .1,
+    )
 lower-fit Q n m k (suc p) (c ∷ cs) h f = (f .0, lower-fit Q n 2 (c .column) p cs h (f .1))
 
 lower-long : (p : ℕ) (cs : List Cell) → length (lower p cs) ≡ length cs
@@ -141,7 +163,8 @@ lower-kept (suc p) (c ∷ cs) = ap (λ (x : List Cell). c ∷ x) (lower-kept p c
 pub shares-less : (m b : ℕ) (ds cs : List Cell) → m ≤ b → Shares b ds cs → Shares m ds cs
 shares-less m b ds cs h e = sym (take-take m b ds h) ∙ ap (take m) e ∙ take-take m b cs h
 
-lower-twin : (g : Rules) (s n p : ℕ) (ds : List Cell) → Candidate (Among s) n ds → TwoAt p ds → TwoTrees g 0 (sentence ds) → Twin g s n p ds
+lower-twin : (g : Rules) (s n p : ℕ) (ds : List Cell) → Candidate (Among s) n ds → TwoAt p ds
+    → TwoTrees g 0 (sentence ds) → Twin g s n p ds
 lower-twin g s n p ds k t d =
     let L : ℕ = lineOfToken 1 p ds in
     record {
@@ -151,14 +174,27 @@ lower-twin g s n p ds k t d =
       kept = lower-kept p ds;
       before = lower-before p ds t;
       two = subst (TwoTrees g 0) (lifted 1 p ds t)
-          (two-keeps g (Clears L) (lift L) (lift-alike g L (omega (arith, line-two 1 p ds t))) 0 (sentence ds) (clears 1 p ds t) d);
+          (two-keeps g (Clears L) (lift L) (lift-alike g L (omega (arith, line-two 1 p ds t))) 0
+          (sentence ds) (clears 1 p ds t) d);
     }
 
-pub twin-less : {g : Rules} {s n p : ℕ} {ds : List Cell} (m : ℕ) → m ≤ p → Twin g s n p ds → Twin g s n m ds
+pub twin-less : {g : Rules} {s n p : ℕ} {ds : List Cell} (m : ℕ) → m ≤ p → Twin g s n p ds
+    → Twin g s n m ds
 twin-less {g} {s} {n} {p} {ds} m h t =
-    record { cells = t .cells; candidate = t .candidate; kept = shares-less m p (t .cells) ds h (t .kept); before = t .before; two = t .two }
+    record {
+      cells = t .cells;
+      candidate = t .candidate;
+      kept =
+          shares-less m p (t .cells) ds h (t .kept);
+      before = t .before;
+      two = t .two;
+    }
 
 -- a step of 2 at q, past the p cells that are kept
-pub step-replaceable : (g : Rules) (s n b p q : ℕ) (cs : List Cell) → p ≤ q → q < b → TwoAt q cs → Replaceable g s n b p cs
+pub step-replaceable : (g : Rules) (s n b p q : ℕ) (cs : List Cell) → p ≤ q → q < b → TwoAt q cs
+    → Replaceable g s n b p cs
 step-replaceable g s n b p q cs h l t =
-    record { twin = λ ds k e two. twin-less p h (lower-twin g s n q ds k (at-shared (λ c. c .step ≡ 2) q b ds cs l e t) two) }
+    record {
+      twin = λ ds k e two. twin-less p h
+          (lower-twin g s n q ds k (at-shared (λ c. c .step ≡ 2) q b ds cs l e t) two);
+    }

@@ -17,24 +17,33 @@ use Rattle.equivalents.proofs.Lowered.{step-replaceable}
 use Rattle.equivalents.proofs.Renamed.{terminal-replaceable}
 use Rattle.equivalents.proofs.Lacking.{gap-replaceable}
 
-module _ (n b h : ℕ) (c : Candidate) (d : Cell) (lt : h < b) (le : b ≤ n) (e : d ≡ cellAt c (b - 1)) where
+module _ (n b h : ℕ) (c : Candidate) (d : Cell) (lt : h < b) (le : b ≤ n)
+    (e : d ≡ cellAt c (b - 1)) where
   pub slack-step : d .step ≡ 2 → Slack n b h (cells c 0 n)
   slack-step t = record {
-    replaceable = λ g s. step-replaceable g s n b h (b - 1) (cells c 0 n) (omega arith) (omega arith) (at-cells (λ x. x .step ≡ 2) c (b - 1) n (omega arith) (ap (λ (x : Cell). x .step) (sym e) ∙ t));
+    replaceable = λ g s. step-replaceable g s n b h (b - 1) (cells c 0 n) (omega arith)
+        (omega arith) (at-cells (λ x. x .step ≡ 2) c (b - 1) n (omega arith)
+        (ap (λ (x : Cell). x .step) (sym e) ∙ t));
   }
 
   module _ (s kept : ℕ) (k : Of.Candidate (Among s) n (cells c 0 n)) where
     pub among-at : Among s (d .terminal)
-    among-at = subst (λ (x : Cell). Among s (x .terminal)) (sym e) (fits-here s n c k (b - 1) (omega arith) .ranged .terminal)
+    among-at = subst (λ (x : Cell). Among s (x .terminal)) (sym e)
+        (fits-here s n c k (b - 1) (omega arith) .ranged .terminal)
 
     pub pass-terminal : (In kept (d .terminal) → ⊥) → Passable s kept n b h (cells c 0 n)
     pass-terminal o = record {
-      replaceable = λ g r. terminal-replaceable g s kept n b h (b - 1) (d .terminal) (cells c 0 n) r (omega arith) (omega arith) among-at (λ m. o (m .1)) (at-cells (λ x. x .terminal ≡ d .terminal) c (b - 1) n (omega arith) (ap (λ (x : Cell). x .terminal) (sym e)));
+      replaceable = λ g r. terminal-replaceable g s kept n b h (b - 1) (d .terminal) (cells c 0 n) r
+          (omega arith) (omega arith) among-at (λ m. o (m .1))
+          (at-cells (λ x. x .terminal ≡ d .terminal) c (b - 1) n (omega arith)
+          (ap (λ (x : Cell). x .terminal) (sym e)));
     }
 
-pub slack-gap : (n b h : ℕ) (c : Candidate) (r : ℕ) → h < b → b ≤ n → r ≡ lacking n false (cells c 0 h) (cells c 0 b) → n - b < r → Slack n b h (cells c 0 n)
+pub slack-gap : (n b h : ℕ) (c : Candidate) (r : ℕ) → h < b → b ≤ n
+    → r ≡ lacking n false (cells c 0 h) (cells c 0 b) → n - b < r → Slack n b h (cells c 0 n)
 slack-gap n b h c r lt le e l = record {
-  replaceable = λ g s. gap-replaceable g s n b h (cells c 0 n) (omega arith) (rw (take-cells c 0 h n (omega arith), take-cells c 0 b n le) (omega (arith, e)));
+  replaceable = λ g s. gap-replaceable g s n b h (cells c 0 n) (omega arith)
+      (rw (take-cells c 0 h n (omega arith), take-cells c 0 b n le) (omega (arith, e)));
 }
 
 pub pass-slack : {s kept n b h : ℕ} {cs : List Cell} → Slack n b h cs → Passable s kept n b h cs

@@ -1,4 +1,5 @@
--- A column that no token is in can be filled from above: the tokens of the columns past it, up to some column, go one column back, and each mark that held holds.
+-- A column that no token is in can be filled from above: the tokens of the columns past it, up to
+-- some column, go one column back, and each mark that held holds.
 use mathlib.Core.Path.{_≡_, refl, _∙_, ap, ap₂, subst}
 use mathlib.Core.List.{List, [], _∷_, map}
 use mathlib.Core.Logic.{_⊎_, inl, inr, ⊎-elim}
@@ -29,7 +30,8 @@ back k d x = x - min 1 (min (x - k) (suc d - x))
 
 -- x goes to u
 abbrev Goes : ℕ → ℕ → ℕ → ℕ → Type 0
-Goes k d x u = ((u ≡ x) × (x < k)) ⊎ (((u ≡ x - 1) × (k < x) × (x ≤ d)) ⊎ ((u ≡ x) × (k < x) × (d < x)))
+Goes k d x u =
+    ((u ≡ x) × (x < k)) ⊎ (((u ≡ x - 1) × (k < x) × (x ≤ d)) ⊎ ((u ≡ x) × (k < x) × (d < x)))
 
 back-low : (k d x : ℕ) → x ≤ k → back k d x ≡ x
 back-low k d x h = omega arith
@@ -86,11 +88,18 @@ module _ (k d : ℕ) where
   goes-range x u n l (inr (inr a)) h i = (omega (arith, a .0), omega (arith, a .0))
 
   abbrev shift : Token → Token
-  shift t = record { terminal = t .terminal; line = t .line; column = record { 0 = back k d (col t) }; width = t .width }
+  shift t = record {
+    terminal = t .terminal;
+    line = t .line;
+    column = record
+        { 0 = back k d (col t) };
+    width = t .width;
+  }
 
   abbrev slide : List Cell → List Cell
   slide [] = []
-  slide (c ∷ cs) = record { terminal = c .terminal; step = c .step; column = back k d (c .column) } ∷ slide cs
+  slide (c ∷ cs) =
+      record { terminal = c .terminal; step = c .step; column = back k d (c .column) } ∷ slide cs
 
   -- no cell is in one of the columns that move
   abbrev pub Still : List Cell → Type 0
@@ -108,18 +117,25 @@ module _ (k d : ℕ) where
   shift-alike : (g : Rules) → Alike g (λ t. col t ≡ k → ⊥) shift
   shift-alike g = record {
     atoms = λ a p. same-atoms g a (shift a) refl;
-    keeps = λ a b p q. record { columns = (back-lt (col a) (col b) p q, lt-back (col a) (col b) p q); lines = (λ h. h, λ h. h) };
+    keeps = λ a b p q. record {
+      columns =
+          (back-lt (col a) (col b) p q, lt-back (col a) (col b) p q);
+      lines = (λ h. h, λ h. h);
+    };
   }
 
-  slide-fit : (Q : ℕ → Type 0) (n m p : ℕ) (cs : List Cell) → 1 ≤ k → (p ≡ k → ⊥) → Free k cs → Fit Q n m p cs → Fit Q n m (back k d p) (slide cs)
+  slide-fit : (Q : ℕ → Type 0) (n m p : ℕ) (cs : List Cell) → 1 ≤ k → (p ≡ k → ⊥) → Free k cs
+      → Fit Q n m p cs → Fit Q n m (back k d p) (slide cs)
   slide-fit Q n m p [] l h f q = tt
   slide-fit Q n m p (c ∷ cs) l h f q = (
     record {
       ranged = record {
         terminal = q .0 .ranged .terminal;
         step = q .0 .ranged .step;
-        low = goes-range (c .column) (back k d (c .column)) n l (goes k d (c .column) (f .0)) (q .0 .ranged .low) (q .0 .ranged .high) .0;
-        high = goes-range (c .column) (back k d (c .column)) n l (goes k d (c .column) (f .0)) (q .0 .ranged .low) (q .0 .ranged .high) .1;
+        low = goes-range (c .column) (back k d (c .column)) n l (goes k d (c .column) (f .0))
+            (q .0 .ranged .low) (q .0 .ranged .high) .0;
+        high = goes-range (c .column) (back k d (c .column)) n l (goes k d (c .column) (f .0))
+            (q .0 .ranged .low) (q .0 .ranged .high) .1;
       };
       after = λ z. back-lt p (c .column) h (f .0) (q .0 .after z);
     },
@@ -131,29 +147,42 @@ module _ (k d : ℕ) where
   slide-long (c ∷ cs) = ap suc (slide-long cs)
 
   -- cells that stand still are kept
-  slide-kept : (p : ℕ) (cs : List Cell) → Free k cs → Still (take p cs) → take p (slide cs) ≡ take p cs
+  slide-kept : (p : ℕ) (cs : List Cell) → Free k cs → Still (take p cs)
+      → take p (slide cs) ≡ take p cs
   slide-kept zero cs f s = refl
   slide-kept (suc p) [] f s = refl
   slide-kept (suc p) (c ∷ cs) f s =
-      ap₂ _∷_ (cell-path refl refl (⊎-elim (λ a. a .0) (λ o. ⊎-elim (λ a. absurd (s .0 (a .1) (a .2))) (λ a. a .0) o) (goes k d (c .column) (f .0)))) (slide-kept p cs (f .1) (s .1))
+      ap₂ _∷_ (cell-path refl refl (⊎-elim (λ a. a .0)
+      (λ o. ⊎-elim (λ a. absurd (s .0 (a .1) (a .2))) (λ a. a .0) o)
+      (goes k d (c .column) (f .0)))) (slide-kept p cs (f .1) (s .1))
 
-  slide-before : (p : ℕ) (cs : List Cell) → Free k cs → k < d → At (λ c. c .column ≡ d) p cs → CellsBefore (slide cs) cs
+  slide-before : (p : ℕ) (cs : List Cell) → Free k cs → k < d → At (λ c. c .column ≡ d) p cs
+      → CellsBefore (slide cs) cs
   slide-before p [] f h t = absurd t
-  slide-before p (c ∷ cs) f h t = go (goes k d (c .column) (f .0)) p t (λ q u. slide-before q cs (f .1) h u)
+  slide-before p (c ∷ cs) f h t =
+      go (goes k d (c .column) (f .0)) p t (λ q u. slide-before q cs (f .1) h u)
     where
-      go : Goes k d (c .column) (back k d (c .column)) → (p : ℕ) → At (λ c. c .column ≡ d) p (c ∷ cs) → ((q : ℕ) → At (λ c. c .column ≡ d) q cs → CellsBefore (slide cs) cs) → CellsBefore (slide (c ∷ cs)) (c ∷ cs)
+      go : Goes k d (c .column) (back k d (c .column)) → (p : ℕ)
+          → At (λ c. c .column ≡ d) p (c ∷ cs)
+          → ((q : ℕ) → At (λ c. c .column ≡ d) q cs → CellsBefore (slide cs) cs)
+          → CellsBefore (slide (c ∷ cs)) (c ∷ cs)
       go (inr (inl a)) p t ih = inl (inr (inr (refl, refl, omega (arith, a .0, a .1))))
       go (inl a) zero t ih = absurd (omega (arith, a .1))
       go (inr (inr a)) zero t ih = absurd (omega (arith, a .2))
       go (inl a) (suc p) t ih = inr (cell-path refl refl (a .0), ih p t)
       go (inr (inr a)) (suc p) t ih = inr (cell-path refl refl (a .0), ih p t)
 
-  pub slide-twin : (g : Rules) (s n p q : ℕ) (ds : List Cell) → 1 ≤ k → k < d → Candidate (Among s) n ds → Free k ds → Still (take p ds) → At (λ c. c .column ≡ d) q ds → TwoTrees g 0 (sentence ds) → Twin g s n p ds
+  pub slide-twin : (g : Rules) (s n p q : ℕ) (ds : List Cell) → 1 ≤ k → k < d
+      → Candidate (Among s) n ds → Free k ds → Still (take p ds) → At (λ c. c .column ≡ d) q ds
+      → TwoTrees g 0 (sentence ds) → Twin g s n p ds
   slide-twin g s n p q ds l h c f st t two = record {
     cells = slide ds;
     candidate = fit-candidate (Among s) n (slide ds) (slide-long ds ∙ c .arranged .size)
-        (subst (λ (x : ℕ). Fit (Among s) n 0 x (slide ds)) (back-low k d 0 (omega arith)) (slide-fit (Among s) n 0 0 ds l (λ z. omega arith) f (candidate-fit (Among s) n ds c)));
+        (subst (λ (x : ℕ). Fit (Among s) n 0 x (slide ds)) (back-low k d 0 (omega arith))
+        (slide-fit (Among s) n 0 0 ds l (λ z. omega arith) f (candidate-fit (Among s) n ds c)));
     kept = slide-kept p ds f st;
     before = slide-before q ds f h t;
-    two = subst (TwoTrees g 0) (slid 1 ds) (two-keeps g (λ t. col t ≡ k → ⊥) shift (shift-alike g) 0 (sentence ds) (free-every 1 ds f) two);
+    two = subst (TwoTrees g 0) (slid 1 ds)
+        (two-keeps g (λ t. col t ≡ k → ⊥) shift (shift-alike g) 0 (sentence ds) (free-every 1 ds f)
+        two);
   }

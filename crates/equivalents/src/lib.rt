@@ -1,5 +1,6 @@
-// Candidates that may be passed over: each has an earlier one that reads alike and keeps its first h cells. A sweep, which
-// begins with the first candidate, keeps none; a share keeps those that hold the earlier one inside it.
+// Candidates that may be passed over: each has an earlier one that reads alike and keeps its first
+// h cells. A sweep, which begins with the first candidate, keeps none; a share keeps those that
+// hold the earlier one inside it.
 use candidates::Candidate;
 use sets::has;
 ghost use mathlib.Core.Path.{_≡_};
@@ -25,7 +26,8 @@ fn uses(c: Candidate, b: usize, j: u16) -> bool
     false
 }
 
-// How many columns the first b cells leave out right below one of theirs that none of the first h cells is in.
+// How many columns the first b cells leave out right below one of theirs that none of the first h
+// cells is in.
 fn lacks(c: Candidate, n: usize, b: usize, h: usize) -> usize
     requires { ⌜ (h ≤ b) × (b ≤ 7) × (n ≤ 7) ⌝ }
     ensures { λ r. ⌜ r ≡ lacking n false (cells c 0 h) (cells c 0 b) ⌝ }
@@ -49,9 +51,9 @@ fn lacks(c: Candidate, n: usize, b: usize, h: usize) -> usize
     v
 }
 
-// Has each candidate that shares the first b cells an earlier one that reads alike and has its first h cells and all its
-// terminals? So it is where a step of two lines could be one, and where the columns leave out more than the cells to come
-// can fill.
+// Has each candidate that shares the first b cells an earlier one that reads alike and has its
+// first h cells and all its terminals? So it is where a step of two lines could be one, and where
+// the columns leave out more than the cells to come can fill.
 pub fn slack(c: Candidate, n: usize, b: usize, h: usize) -> bool
     requires { ⌜ (h < b) × (b ≤ n) × (n ≤ 7) ⌝ }
     ensures { λ r. ⌜ (r ≡ true → Slack n b h (cells c 0 n)) ⌝ }
@@ -63,8 +65,8 @@ pub fn slack(c: Candidate, n: usize, b: usize, h: usize) -> bool
     n - b < lacks(c, n, b, h)
 }
 
-// The same, or where a smaller terminal could stand: `kept` has those of the set that none replaces. Where no cell is past
-// the h cells, there is none.
+// The same, or where a smaller terminal could stand: `kept` has those of the set that none
+// replaces. Where no cell is past the h cells, there is none.
 pub fn passable(set: u64, kept: u64, c: Candidate, n: usize, b: usize, h: usize) -> bool
     requires { ⌜ (b ≤ n) × (n ≤ 7) ⌝ }
     requires { ⌜ Of.Candidate (Among set) n (cells c 0 n) ⌝ }

@@ -24,8 +24,11 @@ module _ (a b : List ℕ) (i : ℕ) where
   pub same-end : length a ≤ i → length b ≤ i → sameBytes (drop i a) (drop i b) ≡ true
   same-end h k = rw (drop-of-length-le a {i = i} h, drop-of-length-le b {i = i} k)
 
-  pub same-differ : i < length a → i < length b → (getD a i 0 ≡ getD b i 0 → ⊥) → sameBytes (drop i a) (drop i b) ≡ false
+  pub same-differ : i < length a → i < length b → (getD a i 0 ≡ getD b i 0 → ⊥)
+      → sameBytes (drop i a) (drop i b) ≡ false
   same-differ h k d = rw (drop-cons a i 0 h, drop-cons b i 0 k, ne-eqb (getD a i 0) (getD b i 0) d)
 
-  pub same-more : i < length a → i < length b → getD a i 0 ≡ getD b i 0 → sameBytes (drop i a) (drop i b) ≡ sameBytes (drop (i + 1) a) (drop (i + 1) b)
-  same-more h k d = rw (drop-cons a i 0 h, drop-cons b i 0 k, eq-eqb (getD a i 0) (getD b i 0) d, add-one)
+  pub same-more : i < length a → i < length b → getD a i 0 ≡ getD b i 0
+      → sameBytes (drop i a) (drop i b) ≡ sameBytes (drop (i + 1) a) (drop (i + 1) b)
+  same-more h k d =
+      rw (drop-cons a i 0 h, drop-cons b i 0 k, eq-eqb (getD a i 0) (getD b i 0) d, add-one)

@@ -54,6 +54,7 @@ same-path [] (y ∷ v) e = absurd (never e)
 same-path (x ∷ u) [] e = absurd (never e)
 same-path (x ∷ u) (y ∷ v) e = go (λ h. same-path u v h) (eqb x y) refl e
   where
-    go : (sameBytes u v ≡ true → u ≡ v) → (t : Bool) → eqb x y ≡ t → t && sameBytes u v ≡ true → x ∷ u ≡ y ∷ v
+    go : (sameBytes u v ≡ true → u ≡ v) → (t : Bool) → eqb x y ≡ t → t && sameBytes u v ≡ true
+        → x ∷ u ≡ y ∷ v
     go again true h e = let p = eqb-true x y h in let q = again e in cc
     go again false h e = absurd (never e)

@@ -22,15 +22,21 @@ drop-take (suc at) (suc e) [] = rw (take-nil {A = ℕ} (suc e - suc at)) refl
 drop-take (suc at) (suc e) (x ∷ s) = rw (suc-sub-suc e at) (drop-take at e s)
 
 -- the fields left at a cursor are those of the bytes left
-pub fields-of : (s : List ℕ) (c : Cursor) → c .at ≤ c .end → c .end ≤ length s → fieldsLeft s c ≡ pieces 32 (bytesLeft s c)
+pub fields-of : (s : List ℕ) (c : Cursor) → c .at ≤ c .end → c .end ≤ length s
+    → fieldsLeft s c ≡ pieces 32 (bytesLeft s c)
 fields-of s c low high =
-    rw (le-leb (c .at) (length (take (c .end) s)) (omega (arith, length-take-le (c .end) s high)), drop-take (c .at) (c .end) s) refl
+    rw (
+      le-leb (c .at) (length (take (c .end) s)) (omega (arith, length-take-le (c .end) s high)),
+      drop-take (c .at) (c .end) s,
+    ) refl
 
 -- a piece is left exactly where the place is not past the end
-pub more-left : (b : ℕ) (s : List ℕ) (e : ℕ) → not (isEmpty (piecesFrom b s (e + 1))) ≡ ltb e (length s)
+pub more-left : (b : ℕ) (s : List ℕ) (e : ℕ)
+    → not (isEmpty (piecesFrom b s (e + 1))) ≡ ltb e (length s)
 more-left b s e = go (leb (e + 1) (length s)) refl
   where
-    go : (t : Bool) → leb (e + 1) (length s) ≡ t → not (isEmpty (piecesFrom b s (e + 1))) ≡ ltb e (length s)
+    go : (t : Bool) → leb (e + 1) (length s) ≡ t
+        → not (isEmpty (piecesFrom b s (e + 1))) ≡ ltb e (length s)
     go true h = rw (from-step b s (e + 1) (leb-true (e + 1) (length s) h)) (sym (rw add-one at h))
     go false h = rw h (sym (rw add-one at h))
 
@@ -42,5 +48,6 @@ module _ (s : List ℕ) (at : ℕ) (low : at ≤ length s) where
   pub line-low : at ≤ lineAt s at .end
   line-low = omega arith
 
-  pub line-step : piecesFrom 10 s at ≡ bytesLeft s (lineAt s at) ∷ piecesFrom 10 s (lineAt s at .end + 1)
+  pub line-step : piecesFrom 10 s at ≡ bytesLeft s (lineAt s at)
+      ∷ piecesFrom 10 s (lineAt s at .end + 1)
   line-step = cut-step 10 s at (lineAt s at .end) low refl

@@ -22,6 +22,7 @@ pub and-false : {a : Bool} → a ≡ false → (b : Bool) → a && b ≡ false
 and-false e b = rw e
 
 -- Q holds of a choice if it holds of each side, where the test comes out so
-pub either : {A : Type 0} (Q : A → Type 0) (b : Bool) {x y : A} → (b ≡ true → Q x) → (b ≡ false → Q y) → Q (cond b x y)
+pub either : {A : Type 0} (Q : A → Type 0) (b : Bool) {x y : A} → (b ≡ true → Q x)
+    → (b ≡ false → Q y) → Q (cond b x y)
 either Q true f g = f refl
 either Q false f g = g refl

@@ -19,7 +19,8 @@ pub before-end : (b : ℕ) (s : List ℕ) (i : ℕ) → length s ≤ i → befor
 before-end b s i h = rw (drop-of-length-le s {i = i} h)
 
 -- b itself stands at i
-pub before-here : (b : ℕ) (s : List ℕ) (i : ℕ) → i < length s → getD s i 0 ≡ b → before b (drop i s) ≡ []
+pub before-here : (b : ℕ) (s : List ℕ) (i : ℕ) → i < length s → getD s i 0 ≡ b
+    → before b (drop i s) ≡ []
 before-here b s i h e = rw (drop-cons s i 0, eq-eqb (getD s i 0) b e)
 
 -- another byte stands at i
@@ -31,7 +32,8 @@ pub before-le : (b : ℕ) (l : List ℕ) → length (before b l) ≤ length l
 before-le b [] = le-refl 0
 before-le b (x ∷ l) = go (eqb x b) (before-le b l)
   where
-    go : (t : Bool) → length (before b l) ≤ length l → length (cond t [] (x ∷ before b l)) ≤ suc (length l)
+    go : (t : Bool) → length (before b l) ≤ length l
+        → length (cond t [] (x ∷ before b l)) ≤ suc (length l)
     go true ih = zero-le
     go false ih = suc-le-suc ih
 
@@ -39,7 +41,8 @@ pub before-take : (b : ℕ) (l : List ℕ) → take (length (before b l)) l ≡ 
 before-take b [] = refl
 before-take b (x ∷ l) = go (eqb x b) (before-take b l)
   where
-    go : (t : Bool) → take (length (before b l)) l ≡ before b l → take (length (cond t [] (x ∷ before b l))) (x ∷ l) ≡ cond t [] (x ∷ before b l)
+    go : (t : Bool) → take (length (before b l)) l ≡ before b l
+        → take (length (cond t [] (x ∷ before b l))) (x ∷ l) ≡ cond t [] (x ∷ before b l)
     go true ih = refl
     go false ih = ap (λ (r : List ℕ). x ∷ r) ih
 
@@ -49,23 +52,29 @@ from-shift b x s k = rw (leb·suc-suc k (length s))
 pub from-zero : (b : ℕ) (s : List ℕ) → piecesFrom b s 0 ≡ pieces b s
 from-zero b s = rw (le-leb 0 (length s) zero-le)
 
-pub pieces-first : (b : ℕ) (s : List ℕ) → pieces b s ≡ before b s ∷ piecesFrom b s (length (before b s) + 1)
+pub pieces-first : (b : ℕ) (s : List ℕ)
+    → pieces b s ≡ before b s ∷ piecesFrom b s (length (before b s) + 1)
 pieces-first b [] = refl
 pieces-first b (x ∷ s) = go (eqb x b) (pieces-first b s)
   where
-    go : (t : Bool) → pieces b s ≡ before b s ∷ piecesFrom b s (length (before b s) + 1) → cond t ([] ∷ pieces b s) (onto x (pieces b s)) ≡ cond t [] (x ∷ before b s) ∷ piecesFrom b (x ∷ s) (length (cond t [] (x ∷ before b s)) + 1)
+    go : (t : Bool) → pieces b s ≡ before b s ∷ piecesFrom b s (length (before b s) + 1)
+        → cond t ([] ∷ pieces b s) (onto x (pieces b s)) ≡ cond t [] (x ∷ before b s)
+        ∷ piecesFrom b (x ∷ s) (length (cond t [] (x ∷ before b s)) + 1)
     go true ih = rw (from-shift b x s 0, from-zero)
     go false ih = rw (ih, suc-add (length (before b s)) 1, from-shift b x s)
 
 -- the first of the pieces from a place on, and where the next one begins
 pub from-step : (b : ℕ) (s : List ℕ) (at : ℕ) → at ≤ length s
-    → piecesFrom b s at ≡ before b (drop at s) ∷ piecesFrom b s (at + length (before b (drop at s)) + 1)
+    → piecesFrom b s at ≡ before b (drop at s) ∷ piecesFrom b s
+    (at + length (before b (drop at s)) + 1)
 from-step b s zero h = rw (from-zero, zero-add) (pieces-first b s)
 from-step b [] (suc at) h = absurd (not-suc-le-zero h)
-from-step b (x ∷ s) (suc at) h = rw (suc-add, suc-add, from-shift b x s, from-shift b x s) (from-step b s at (le-of-suc-le-suc h))
+from-step b (x ∷ s) (suc at) h = rw (suc-add, suc-add, from-shift b x s, from-shift b x s)
+    (from-step b s at (le-of-suc-le-suc h))
 
 -- a piece that ends at e, as `piece_end` finds it
-module _ (b : ℕ) (s : List ℕ) (at e : ℕ) (low : at ≤ length s) (ends : e ≡ at + length (before b (drop at s))) where
+module _ (b : ℕ) (s : List ℕ) (at e : ℕ) (low : at ≤ length s)
+    (ends : e ≡ at + length (before b (drop at s))) where
   pub cut-high : e ≤ length s
   cut-high = omega (arith, before-le b (drop at s), length-drop at s)
 

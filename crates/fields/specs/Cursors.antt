@@ -29,7 +29,9 @@ abbrev pub withCursor : {X : Type 0} → Option X → Cursor → Option (X × Cu
 withCursor (some v) c = some (v, c)
 withCursor none c = none
 
--- the first of the fields left at a cursor, where `read` says what a field's bytes are, and the cursor moved past it and past the blank behind it
-abbrev pub readField : {X : Type 0} → (List ℕ → Option X) → Cursor → List (List ℕ) → Option (X × Cursor)
+-- the first of the fields left at a cursor, where `read` says what a field's bytes are, and the
+-- cursor moved past it and past the blank behind it
+abbrev pub readField : {X : Type 0} → (List ℕ → Option X) → Cursor → List (List ℕ)
+    → Option (X × Cursor)
 readField read c [] = none
 readField read c (f ∷ fs) = withCursor (read f) (record { at = c .at + length f + 1; end = c .end })

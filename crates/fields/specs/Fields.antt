@@ -9,7 +9,8 @@ module _ {R : Type 0} (bad : R) where
   onValue none k = bad
 
   -- the first of the fields is one that `read` takes: what k says of it and of the fields behind it
-  abbrev pub withField : {X : Type 0} → (List ℕ → Option X) → List (List ℕ) → (X → List (List ℕ) → R) → R
+  abbrev pub withField : {X : Type 0} → (List ℕ → Option X) → List (List ℕ)
+      → (X → List (List ℕ) → R) → R
   withField read [] k = bad
   withField read (f ∷ fs) k = onValue (read f) (λ v. k v fs)
 

@@ -5,7 +5,8 @@ use mathlib.Core.Bool.{Bool, true, false, cond, _&&_}
 use lib.Dec.{eqb}
 
 -- the pieces that bytes b part s into: one more than there are bytes b, empty ones too.
--- A sheet's pieces by byte 10 are its lines and the bytes after the last byte 10; a line's pieces by byte 32 are its fields
+-- A sheet's pieces by byte 10 are its lines and the bytes after the last byte 10; a line's pieces
+-- by byte 32 are its fields
 abbrev pub onto : ℕ → List (List ℕ) → List (List ℕ)
 onto x [] = (x ∷ []) ∷ []
 onto x (p ∷ ps) = (x ∷ p) ∷ ps

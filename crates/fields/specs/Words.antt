@@ -51,4 +51,5 @@ numberOperand none = none
 
 -- `-`, or a number
 abbrev pub operandOf : List ℕ → Option Operand
-operandOf f = cond (sameBytes f (45 ∷ [])) (some (record { dash = true; value = 0 })) (numberOperand (numeralOf f))
+operandOf f = cond (sameBytes f (45 ∷ [])) (some (record { dash = true; value = 0 }))
+    (numberOperand (numeralOf f))

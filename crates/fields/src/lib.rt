@@ -1,15 +1,18 @@
-// The bytes of a sheet: its lines, the fields of a line, and what a field may be: a number, a kind letter, a lay word, `-`.
+// The bytes of a sheet: its lines, the fields of a line, and what a field may be: a number, a kind
+// letter, a lay word, `-`.
 ghost use mathlib.Core.Path.{_≡_};
 ghost use Prim.Native.Nat.{_+_, _-_, _≤_};
 ghost use lib.ListN.{length, drop};
 ghost use Rattle.fields.specs.Pieces.{before, sameBytes};
 ghost use Rattle.fields.specs.Parts.{Part};
 ghost use Rattle.fields.specs.Words.{digitsOf, numeralOf, kindOf, layOf, operandOf};
-ghost use Rattle.fields.specs.Answers.{asNumber, asKind, asLay, asOperand, numberField, kindField, layField, operandField};
+ghost use Rattle.fields.specs.Answers.{asNumber, asKind, asLay, asOperand, numberField};
+ghost use Rattle.fields.specs.Answers.{kindField, layField, operandField};
 ghost use Rattle.fields.specs.Cursors.{lineAt, fieldsLeft, readField};
 
-// A place in a sheet and the line that it is in: `at` is where the next field begins, one past `end` where no field is left; `end` is
-// where the line ends, the place of its byte 10 or the sheet's end.
+// A place in a sheet and the line that it is in: `at` is where the next field begins, one past
+// `end` where no field is left; `end` is where the line ends, the place of its byte 10 or the
+// sheet's end.
 pub struct Cursor {
     pub at: usize,
     pub end: usize,
@@ -236,7 +239,8 @@ impl Cursor {
     // The number at the cursor.
     pub fn number(self, s: &[u8]) -> NumberField
         requires { ⌜ self .end ≤ length (now s) ⌝ }
-        ensures { λ r. ⌜ r ≡ numberField (readField numeralOf self (fieldsLeft (now (s .entry)) self)) ⌝ }
+        ensures { λ r. ⌜ r ≡ numberField
+            (readField numeralOf self (fieldsLeft (now (s .entry)) self)) ⌝ }
     {
         let at = self.at;
         let end = self.end;
@@ -254,7 +258,8 @@ impl Cursor {
     // The kind letter at the cursor.
     pub fn kind(self, s: &[u8]) -> KindField
         requires { ⌜ self .end ≤ length (now s) ⌝ }
-        ensures { λ r. ⌜ r ≡ kindField (readField kindOf self (fieldsLeft (now (s .entry)) self)) ⌝ }
+        ensures { λ r. ⌜ r ≡ kindField (readField kindOf self
+            (fieldsLeft (now (s .entry)) self)) ⌝ }
     {
         let at = self.at;
         let end = self.end;
@@ -272,7 +277,8 @@ impl Cursor {
     // The `-` or the number at the cursor.
     pub fn operand(self, s: &[u8]) -> OperandField
         requires { ⌜ self .end ≤ length (now s) ⌝ }
-        ensures { λ r. ⌜ r ≡ operandField (readField operandOf self (fieldsLeft (now (s .entry)) self)) ⌝ }
+        ensures { λ r. ⌜ r ≡ operandField
+            (readField operandOf self (fieldsLeft (now (s .entry)) self)) ⌝ }
     {
         let at = self.at;
         let end = self.end;

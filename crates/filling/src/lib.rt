@@ -1,4 +1,5 @@
-// The span sheet of a grammar and a sentence, each span settled all cuts at once; the verdict by it.
+// The span sheet of a grammar and a sentence, each span settled all cuts at once; the verdict by
+// it.
 use chains::chains;
 use chains::level_of;
 use chart::Verdict;
@@ -57,7 +58,8 @@ pub fn empty_pair(g: Grammar) -> Pair
     }
 }
 
-// The pair of a token with the terminal `x`, wherever it stands; the empty word's is `one` and `two`.
+// The pair of a token with the terminal `x`, wherever it stands; the empty word's is `one` and
+// `two`.
 pub fn leaf_pair(g: Grammar, x: u8, one: u64, two: u64) -> Pair
     requires { ⌜ Formed g ⌝ }
     requires { ⌜ EmptyPair (rules g) one two ⌝ }
@@ -76,7 +78,8 @@ pub fn leaf_pair(g: Grammar, x: u8, one: u64, two: u64) -> Pair
 // The first token that has the terminal of the token at i.
 fn first_like(d: Draft, i: usize) -> usize
     requires { ⌜ (i < d .count) × (d .count ≤ 64) ⌝ }
-    ensures { λ j. ⌜ (j ≤ i) × (tokenAt (drafted d) j .terminal ≡ tokenAt (drafted d) i .terminal) ⌝ }
+    ensures { λ j. ⌜ (j ≤ i) × (tokenAt (drafted d) j .terminal
+        ≡ tokenAt (drafted d) i .terminal) ⌝ }
 {
     let a = d.tokens[i];
     let mut j: usize = 0;
@@ -117,7 +120,8 @@ pub fn fill_leaves(words: &mut [u64], d: Draft, g: Grammar)
     requires { ⌜ d .count ≤ 64 ⌝ }
     requires { ⌜ 2 * pairs (d .count) ≤ length (now words) ⌝ }
     requires { ⌜ Formed g ⌝ }
-    ensures { λ r. ⌜ Begun (now (words .entry)) (now (words .exit)) (rules g) (drafted d) (d .count) ⌝ }
+    ensures { λ r. ⌜ Begun (now (words .entry)) (now (words .exit)) (rules g) (drafted d)
+        (d .count) ⌝ }
 {
     let n = d.count;
     let e = empty_pair(g);
@@ -131,8 +135,8 @@ pub fn fill_leaves(words: &mut [u64], d: Draft, g: Grammar)
     }
 }
 
-// What stands over a span of two tokens or more: by two shorter parts, by the words of cuts; then by the table of chains.
-// `b` are the places of the B rules.
+// What stands over a span of two tokens or more: by two shorter parts, by the words of cuts; then
+// by the table of chains. `b` are the places of the B rules.
 fn find(
     rows: &[u64],
     cols: &[u64],
@@ -147,7 +151,8 @@ fn find(
     requires { ⌜ (0 < len) × (start + len ≤ 64) ⌝ }
     requires { ⌜ (length (now rows) ≡ 128) × (128 * (start + len + 1) ≤ length (now cols)) ⌝ }
     requires { ⌜ length (now table) ≡ 512 ⌝ }
-    ensures { λ t. ⌜ Found (now (rows .entry)) (now (cols .entry)) (now (table .entry)) (rules g) k start len t ⌝ }
+    ensures { λ t. ⌜ Found (now (rows .entry)) (now (cols .entry)) (now (table .entry)) (rules g) k
+        start len t ⌝ }
 {
     let m = cut_masks(k, start);
     let p = splits(g, b, rows, cols, 128 * (start + len), m);
@@ -174,7 +179,8 @@ pub fn close(
     requires { ⌜ Begins (now words) e × Chains (rules g) e (now table) ⌝ }
     requires { ⌜ Mirrors (now words) n start len (now rows) (now cols) ⌝ }
     ensures { λ r. ⌜ CutJoins (now (words .entry)) (now (words .exit)) (rules g) n start len k ⌝ }
-    ensures { λ r. ⌜ Mirrors (now (words .exit)) n start (len + 1) (now (rows .exit)) (now (cols .exit)) ⌝ }
+    ensures { λ r. ⌜ Mirrors (now (words .exit)) n start (len + 1) (now (rows .exit))
+        (now (cols .exit)) ⌝ }
 {
     let t = find(rows, cols, table, g, b, k, start, len);
     let q = pair_at(n, start, len);
@@ -186,7 +192,8 @@ pub fn close(
 fn load(words: &[u64], rows: &mut [u64], cols: &mut [u64], n: usize, start: usize, len: usize)
     requires { ⌜ Room (now words) n start len × (0 < len) ⌝ }
     requires { ⌜ Mirrors (now words) n start len (now rows) (now cols) ⌝ }
-    ensures { λ r. ⌜ Mirrors (now (words .entry)) n start (len + 1) (now (rows .exit)) (now (cols .exit)) ⌝ }
+    ensures { λ r. ⌜ Mirrors (now (words .entry)) n start (len + 1) (now (rows .exit))
+        (now (cols .exit)) ⌝ }
 {
     let at = 2 * pair_at(n, start, len);
     let p = Pair {
@@ -201,14 +208,15 @@ pub fn begin(words: &[u64], rows: &mut [u64], cols: &mut [u64], n: usize, start:
     requires { ⌜ Room (now words) n start 1 ⌝ }
     requires { ⌜ length (now rows) ≡ 128 ⌝ }
     requires { ⌜ Columns (now words) n (start + 1) (now cols) ⌝ }
-    ensures { λ r. ⌜ Mirrors (now (words .entry)) n start 2 (now (rows .exit)) (now (cols .exit)) ⌝ }
+    ensures { λ r. ⌜ Mirrors (now (words .entry)) n start 2 (now (rows .exit))
+        (now (cols .exit)) ⌝ }
 {
     clear(rows, 128);
     load(words, rows, cols, n, start, 1);
 }
 
-// Settle the spans of two tokens or more that begin at `start` and end past `from`. Their marks, and with them the least
-// column on later lines, are carried along, a token at a time.
+// Settle the spans of two tokens or more that begin at `start` and end past `from`. Their marks,
+// and with them the least column on later lines, are carried along, a token at a time.
 pub fn fill_start(
     words: &mut [u64],
     rows: &mut [u64],
@@ -225,9 +233,12 @@ pub fn fill_start(
     requires { ⌜ 2 * pairs (d .count) ≤ length (now words) ⌝ }
     requires { ⌜ Formed g × Placed (rules g) b ⌝ }
     requires { ⌜ Begins (now words) e × Chains (rules g) e (now table) ⌝ }
-    requires { ⌜ (length (now rows) ≡ 128) × Columns (now words) (d .count) (start + 1) (now cols) ⌝ }
-    requires { ⌜ Filled (now words) (rules g) (half d) (d .count) from (start + 1) (d .count + 1) ⌝ }
-    ensures { λ r. ⌜ Grown (now (words .entry)) (now (words .exit)) (rules g) (half d) (d .count) from start ⌝ }
+    requires { ⌜ (length (now rows) ≡ 128) × Columns (now words) (d .count) (start + 1)
+        (now cols) ⌝ }
+    requires { ⌜ Filled (now words) (rules g) (half d) (d .count) from (start + 1)
+        (d .count + 1) ⌝ }
+    ensures { λ r. ⌜ Grown (now (words .entry)) (now (words .exit)) (rules g) (half d) (d .count)
+        from start ⌝ }
     ensures { λ r. ⌜ Columns (now (words .exit)) (d .count) start (now (cols .exit)) ⌝ }
     ensures { λ r. ⌜ Begins (now (words .exit)) e ⌝ }
 {
@@ -299,7 +310,8 @@ fn fill_starts(
     requires { ⌜ Begins (now words) e × Chains (rules g) e (now table) ⌝ }
     requires { ⌜ (length (now rows) ≡ 128) × Columns (now words) (d .count) to (now cols) ⌝ }
     requires { ⌜ Filled (now words) (rules g) (half d) (d .count) from to (d .count + 1) ⌝ }
-    ensures { λ r. ⌜ Grown (now (words .entry)) (now (words .exit)) (rules g) (half d) (d .count) from 0 ⌝ }
+    ensures { λ r. ⌜ Grown (now (words .entry)) (now (words .exit)) (rules g) (half d) (d .count)
+        from 0 ⌝ }
 {
     let mut start = to;
     while 0 < start {
@@ -308,15 +320,16 @@ fn fill_starts(
     }
 }
 
-// Fill the span sheet of the draft anew, but for the spans that end at or before the token `from` and those that begin
-// at or past the token `to`: no token of these has changed. The pairs of the empty word and of single tokens are given,
-// and where there is one token at most, that is all.
+// Fill the span sheet of the draft anew, but for the spans that end at or before the token `from`
+// and those that begin at or past the token `to`: no token of these has changed. The pairs of the
+// empty word and of single tokens are given, and where there is one token at most, that is all.
 pub fn fill(words: &mut [u64], d: Draft, g: Grammar, from: usize, to: usize)
     requires { ⌜ (d .count ≤ 64) × (d .known ≤ d .count) ⌝ }
     requires { ⌜ 2 * pairs (d .count) ≤ length (now words) ⌝ }
     requires { ⌜ Formed g ⌝ }
     requires { ⌜ Ready (rules g) (half d) (d .count) (now words) from to ⌝ }
-    ensures { λ r. ⌜ Charted (now (words .entry)) (now (words .exit)) (rules g) (half d) (d .count) ⌝ }
+    ensures { λ r. ⌜ Charted (now (words .entry)) (now (words .exit)) (rules g) (half d)
+        (d .count) ⌝ }
 {
     let n = d.count;
     if n < 2 {
@@ -352,7 +365,8 @@ pub fn judge(words: &mut [u64], s: Sentence, g: Grammar) -> Verdict
     requires { ⌜ s .count ≤ 64 ⌝ }
     requires { ⌜ 2 * pairs (s .count) ≤ length (now words) ⌝ }
     requires { ⌜ Formed g ⌝ }
-    ensures { λ r. ⌜ Judged r (rules g) (spelled s) (s .count) (now (words .entry)) (now (words .exit)) ⌝ }
+    ensures { λ r. ⌜ Judged r (rules g) (spelled s) (s .count) (now (words .entry))
+        (now (words .exit)) ⌝ }
 {
     let n = s.count;
     let tokens = s.tokens;
@@ -424,7 +438,8 @@ pub fn refill(words: &mut [u64], kept: &mut [u64], d: Draft, g: Grammar, from: u
     requires { ⌜ Formed g ⌝ }
     requires { ⌜ Ready (rules g) (half d) (d .count) (now words) from to ⌝ }
     requires { ⌜ Mirrored (rules g) (d .count) (now words) (now kept) ⌝ }
-    ensures { λ r. ⌜ Charted (now (words .entry)) (now (words .exit)) (rules g) (half d) (d .count) ⌝ }
+    ensures { λ r. ⌜ Charted (now (words .entry)) (now (words .exit)) (rules g) (half d)
+        (d .count) ⌝ }
     ensures { λ r. ⌜ Mirrored (rules g) (d .count) (now (words .exit)) (now (kept .exit)) ⌝ }
 {
     let n = d.count;
@@ -439,8 +454,8 @@ pub fn refill(words: &mut [u64], kept: &mut [u64], d: Draft, g: Grammar, from: u
     fill_starts(words, &mut rows, &mut cols, kept, d, g, b, e, from, to);
 }
 
-// Fill it so. Has no completion of the draft two trees, its open tokens being what their pairs allow? (Where all of it is
-// known: has it not?)
+// Fill it so. Has no completion of the draft two trees, its open tokens being what their pairs
+// allow? (Where all of it is known: has it not?)
 pub fn no_two(
     words: &mut [u64],
     kept: &mut [u64],
@@ -454,7 +469,8 @@ pub fn no_two(
     requires { ⌜ Formed g ⌝ }
     requires { ⌜ Ready (rules g) (half d) (d .count) (now words) from to ⌝ }
     requires { ⌜ Mirrored (rules g) (d .count) (now words) (now kept) ⌝ }
-    ensures { λ r. ⌜ Settles r (rules g) (half d) (d .count) (now (words .entry)) (now (words .exit)) ⌝ }
+    ensures { λ r. ⌜ Settles r (rules g) (half d) (d .count) (now (words .entry))
+        (now (words .exit)) ⌝ }
     ensures { λ r. ⌜ Mirrored (rules g) (d .count) (now (words .exit)) (now (kept .exit)) ⌝ }
 {
     let n = d.count;

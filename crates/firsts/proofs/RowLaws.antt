@@ -64,9 +64,11 @@ module _ {t : List ℕ} {A : ℕ} where
   row-with {k} {r} x h =
       record {
         below =
-            λ y i. ⊎-elim (λ j. omega (arith, x .below y j)) (λ e. omega (arith, e)) (insert-only r k y i);
+            λ y i. ⊎-elim (λ j. omega (arith, x .below y j)) (λ e. omega (arith, e))
+            (insert-only r k y i);
         is =
-            λ y i. ⊎-elim (x .is y) (λ e. subst (λ (z : ℕ). In (getD t z 0) A) (sym e) h) (insert-only r k y i);
+            λ y i. ⊎-elim (x .is y) (λ e. subst (λ (z : ℕ). In (getD t z 0) A) (sym e) h)
+            (insert-only r k y i);
         all = all;
       }
     where
@@ -87,8 +89,8 @@ terminal-small f (with-unary k m h) = terminal-small f h
 terminal-small f (with-first k m h w) = terminal-small f h
 terminal-small f (with-second k m n h) = terminal-small f h
 
-pub rows-exact : {g : Grammar} {t u : List ℕ} → Formed g → ByTerminal (rules g) 64 t → TakesRows t 64 u
-    → ByNonterminal (rules g) 64 u
+pub rows-exact : {g : Grammar} {t u : List ℕ} → Formed g → ByTerminal (rules g) 64 t
+    → TakesRows t 64 u → ByNonterminal (rules g) 64 u
 rows-exact {g} {t} {u} f c r = record { each = each }
   where
     each : (A : ℕ) → A < 64 → Exactly (getD u A 0) (CanBegin (rules g) A)

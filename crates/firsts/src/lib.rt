@@ -13,7 +13,8 @@ ghost use Rattle.firsts.specs.Rows.{ByTerminal, ByNonterminal, RowOf, Ta
 
 // The nonterminals that begin with each terminal.
 fn fill_columns(g: Grammar, nulls: u64, prods: u64, out: &mut [u64])
-    requires { ⌜ Formed g × Exactly nulls (Nullable (rules g)) × Exactly prods (Productive (rules g)) ⌝ }
+    requires { ⌜ Formed g × Exactly nulls (Nullable (rules g))
+        × Exactly prods (Productive (rules g)) ⌝ }
     requires { ⌜ 64 ≤ length (now out) ⌝ }
     ensures { λ r. ⌜ ByTerminal (rules g) 64 (now (out .exit)) ⌝ }
 {
@@ -57,7 +58,8 @@ fn fill_rows(columns: &[u64], out: &mut [u64])
 
 // The terminals that words of each nonterminal may begin with.
 pub fn fill_firsts(g: Grammar, nulls: u64, prods: u64, out: &mut [u64])
-    requires { ⌜ Formed g × Exactly nulls (Nullable (rules g)) × Exactly prods (Productive (rules g)) ⌝ }
+    requires { ⌜ Formed g × Exactly nulls (Nullable (rules g))
+        × Exactly prods (Productive (rules g)) ⌝ }
     requires { ⌜ 64 ≤ length (now out) ⌝ }
     ensures { λ r. ⌜ ByNonterminal (rules g) 64 (now (out .exit)) ⌝ }
 {

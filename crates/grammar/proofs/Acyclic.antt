@@ -1,4 +1,5 @@
--- Nullable nonterminals, edges, chains and cyclic sheets are decided; a sheet that is not cyclic has a rank that falls along each edge.
+-- Nullable nonterminals, edges, chains and cyclic sheets are decided; a sheet that is not cyclic
+-- has a rank that falls along each edge.
 use mathlib.Core.Path.{_≡_, refl, subst}
 use mathlib.Core.Logic.{_⊎_, inl, inr}
 use mathlib.Core.List.{List, [], _∷_, _++_, map, List·Memᴰ, List·Memᴰ·head, List·Memᴰ·tail}
@@ -10,9 +11,12 @@ use Rattle.grammar.specs.declared.Rule.{Rule}
 use Rattle.grammar.specs.declared.Clause.{Clause}
 use Rattle.grammar.specs.declared.Clause.the-variants as Clause
 use Rattle.grammar.specs.Layout.{Word, Every}
-use Rattle.grammar.specs.Trees.{Tree, empty, unary, binary, root, word, Rules, Valid, valid-empty, valid-leaf, valid-unary, valid-binary}
-use Rattle.grammar.specs.Cycles.{Nullable, Edge, by-unary, by-left, by-right, Chain, one, more, Cyclic}
-use Rattle.grammar.proofs.Lists.{eq?, both?, or?, map?, some?, Some, mem?, mem-every, collect, mem-collect, mem-map}
+use Rattle.grammar.specs.Trees.{Tree, empty, unary, binary, root, word, Rules, Valid}
+use Rattle.grammar.specs.Trees.{valid-empty, valid-leaf, valid-unary, valid-binary}
+use Rattle.grammar.specs.Cycles.{Nullable, Edge, by-unary, by-left, by-right, Chain, one}
+use Rattle.grammar.specs.Cycles.{more, Cyclic}
+use Rattle.grammar.proofs.Lists.{eq?, both?, or?, map?, some?, Some, mem?, mem-every}
+use Rattle.grammar.proofs.Lists.{collect, mem-collect, mem-map}
 use Rattle.grammar.proofs.Saturation.{Saturated, saturate}
 
 -- 1. nullable nonterminals
@@ -38,7 +42,8 @@ module _ (g : Rules) where
   abbrev lefts : List ℕ
   lefts = map (λ r. r .left) g
 
-  left-mem : {A : ℕ} {c : Clause} → List·Memᴰ (record { left = A; clause = c }) g → List·Memᴰ A lefts
+  left-mem : {A : ℕ} {c : Clause} → List·Memᴰ (record { left = A; clause = c }) g
+      → List·Memᴰ A lefts
   left-mem m = mem-map (λ r. r .left) g m
 
   -- a rule of A whose word the members make empty
@@ -48,8 +53,10 @@ module _ (g : Rules) where
   adds-null? : (S : List ℕ) (A : ℕ) → Dec (AddsNull S A)
   adds-null? S A = some? (λ r. both? (eq? (r .left) A) (ready? S (r .clause))) g
 
-  null-by : (S : List ℕ) → Every (Nullable g) S → (A : ℕ) (c : Clause) → List·Memᴰ (record { left = A; clause = c }) g → Ready S c → Nullable g A
-  null-by S e A Clause.Empty m r = record { tree = empty A; witness = record { rooted = refl; spelled = refl; valid = valid-empty m } }
+  null-by : (S : List ℕ) → Every (Nullable g) S → (A : ℕ) (c : Clause)
+      → List·Memᴰ (record { left = A; clause = c }) g → Ready S c → Nullable g A
+  null-by S e A Clause.Empty m r = record
+      { tree = empty A; witness = record { rooted = refl; spelled = refl; valid = valid-empty m } }
   null-by S e A (Clause.Atom a b) m r = absurd r
   null-by S e A (Clause.Unary B k) m r =
       let n = mem-every (Nullable g) S e r in
@@ -58,7 +65,8 @@ module _ (g : Rules) where
         witness = record {
           rooted = refl;
           spelled = n .witness .spelled;
-          valid = valid-unary {A = A} {t = n .tree} k (rw (n .witness .rooted) m) (rw (n .witness .spelled) tt) (n .witness .valid);
+          valid = valid-unary {A = A} {t = n .tree} k (rw (n .witness .rooted) m)
+              (rw (n .witness .spelled) tt) (n .witness .valid);
         };
       }
   null-by S e A (Clause.Binary B C k) m r =
@@ -70,19 +78,23 @@ module _ (g : Rules) where
           rooted = refl;
           spelled = rw (n .witness .spelled) (o .witness .spelled);
           valid =
-              valid-binary {A = A} {s = n .tree} {t = o .tree} k (rw (n .witness .rooted, o .witness .rooted) m)
+              valid-binary {A = A} {s = n .tree} {t = o .tree} k
+              (rw (n .witness .rooted, o .witness .rooted) m)
               (rw (n .witness .spelled) tt) (n .witness .valid) (o .witness .valid);
         };
       }
 
   null-sound : (S : List ℕ) → Every (Nullable g) S → (A : ℕ) → AddsNull S A → Nullable g A
-  null-sound S e A a = subst (Nullable g) (a .2 .0) (null-by S e (a .0 .left) (a .0 .clause) (a .1) (a .2 .1))
+  null-sound S e A a =
+      subst (Nullable g) (a .2 .0) (null-by S e (a .0 .left) (a .0 .clause) (a .1) (a .2 .1))
 
   nulls : Saturated AddsNull adds-null? (Nullable g) null-sound lefts
   nulls = saturate AddsNull adds-null? (Nullable g) null-sound lefts
 
-  null-member : {A : ℕ} {c : Clause} → List·Memᴰ (record { left = A; clause = c }) g → Ready (nulls .members) c → List·Memᴰ A (nulls .members)
-  null-member {A} {c} m r = nulls .shut A (left-mem m) (record { left = A; clause = c }, m, (refl, r))
+  null-member : {A : ℕ} {c : Clause} → List·Memᴰ (record { left = A; clause = c }) g
+      → Ready (nulls .members) c → List·Memᴰ A (nulls .members)
+  null-member {A} {c} m r =
+      nulls .shut A (left-mem m) (record { left = A; clause = c }, m, (refl, r))
 
   null-complete : {t : Tree} → Valid g t → word t ≡ [] → List·Memᴰ (root t) (nulls .members)
   null-complete (valid-empty m) e = null-member m tt
@@ -110,18 +122,21 @@ module _ (g : Rules) where
   leads? Clause.Empty Y = no (λ x. x)
   leads? (Clause.Atom a b) Y = no (λ x. x)
   leads? (Clause.Unary B m) Y = eq? B Y
-  leads? (Clause.Binary B C m) Y = or? (both? (eq? B Y) (nullable? C)) (both? (eq? C Y) (nullable? B))
+  leads? (Clause.Binary B C m) Y =
+      or? (both? (eq? B Y) (nullable? C)) (both? (eq? C Y) (nullable? B))
 
   abbrev EdgeBy : ℕ → ℕ → Type 0
   EdgeBy A Y = Some (λ (r : Rule). (r .left ≡ A) × Leads (r .clause) Y) g
 
-  edge-by : (A : ℕ) (c : Clause) (Y : ℕ) → List·Memᴰ (record { left = A; clause = c }) g → Leads c Y → Edge g A Y
+  edge-by : (A : ℕ) (c : Clause) (Y : ℕ) → List·Memᴰ (record { left = A; clause = c }) g → Leads c Y
+      → Edge g A Y
   edge-by A (Clause.Unary B k) Y m h = rw h at (by-unary k m)
   edge-by A (Clause.Binary B C k) Y m (inl h) = rw (h .0) at (by-left C k m (h .1))
   edge-by A (Clause.Binary B C k) Y m (inr h) = rw (h .0) at (by-right B k m (h .1))
 
   edge-of : (A Y : ℕ) → EdgeBy A Y → Edge g A Y
-  edge-of A Y s = subst (λ (x : ℕ). Edge g x Y) (s .2 .0) (edge-by (s .0 .left) (s .0 .clause) Y (s .1) (s .2 .1))
+  edge-of A Y s = subst (λ (x : ℕ). Edge g x Y) (s .2 .0)
+      (edge-by (s .0 .left) (s .0 .clause) Y (s .1) (s .2 .1))
 
   of-edge : {A Y : ℕ} → Edge g A Y → EdgeBy A Y
   of-edge (by-unary k m) = (_, m, (refl, refl))
@@ -129,7 +144,8 @@ module _ (g : Rules) where
   of-edge (by-right B k m n) = (_, m, (refl, inr (refl, n)))
 
   edge? : (A Y : ℕ) → Dec (Edge g A Y)
-  edge? A Y = map? (some? (λ r. both? (eq? (r .left) A) (leads? (r .clause) Y)) g) (edge-of A Y) of-edge
+  edge? A Y =
+      map? (some? (λ r. both? (eq? (r .left) A) (leads? (r .clause) Y)) g) (edge-of A Y) of-edge
 
   -- 3. chains
 
@@ -144,9 +160,12 @@ module _ (g : Rules) where
   targets = collect (λ (r : Rule). targetsOf (r .clause)) g
 
   target-mem : {A Y : ℕ} → Edge g A Y → List·Memᴰ Y targets
-  target-mem (by-unary k m) = mem-collect (λ (r : Rule). targetsOf (r .clause)) g m (List·Memᴰ·head refl)
-  target-mem (by-left C k m n) = mem-collect (λ (r : Rule). targetsOf (r .clause)) g m (List·Memᴰ·head refl)
-  target-mem (by-right B k m n) = mem-collect (λ (r : Rule). targetsOf (r .clause)) g m (List·Memᴰ·tail (List·Memᴰ·head refl))
+  target-mem (by-unary k m) =
+      mem-collect (λ (r : Rule). targetsOf (r .clause)) g m (List·Memᴰ·head refl)
+  target-mem (by-left C k m n) =
+      mem-collect (λ (r : Rule). targetsOf (r .clause)) g m (List·Memᴰ·head refl)
+  target-mem (by-right B k m n) =
+      mem-collect (λ (r : Rule). targetsOf (r .clause)) g m (List·Memᴰ·tail (List·Memᴰ·head refl))
 
   snoc : {A B C : ℕ} → Chain g A B → Edge g B C → Chain g A C
   snoc (one e) f = more e (one f)
@@ -167,17 +186,20 @@ module _ (g : Rules) where
     reached : Saturated AddsChain adds-chain? (Chain g A) chain-sound targets
     reached = saturate AddsChain adds-chain? (Chain g A) chain-sound targets
 
-    chain-member : {X Y : ℕ} → (X ≡ A) ⊎ List·Memᴰ X (reached .members) → Edge g X Y → List·Memᴰ Y (reached .members)
+    chain-member : {X Y : ℕ} → (X ≡ A) ⊎ List·Memᴰ X (reached .members) → Edge g X Y
+        → List·Memᴰ Y (reached .members)
     chain-member {X} {Y} (inl e) f = reached .shut Y (target-mem f) (inl (rw e at f))
     chain-member {X} {Y} (inr m) f = reached .shut Y (target-mem f) (inr (X, m, f))
 
-    chain-complete : {X B : ℕ} → Chain g X B → (X ≡ A) ⊎ List·Memᴰ X (reached .members) → List·Memᴰ B (reached .members)
+    chain-complete : {X B : ℕ} → Chain g X B → (X ≡ A) ⊎ List·Memᴰ X (reached .members)
+        → List·Memᴰ B (reached .members)
     chain-complete (one f) h = chain-member h f
     chain-complete (more f c) h = chain-complete c (inr (chain-member h f))
 
     pub chain? : (B : ℕ) → Dec (Chain g A B)
     chain? B =
-        map? (mem? B (reached .members)) (λ m. mem-every (Chain g A) (reached .members) (reached .all) m)
+        map? (mem? B (reached .members))
+        (λ m. mem-every (Chain g A) (reached .members) (reached .all) m)
         (λ c. chain-complete c (inl refl))
 
   chain-left : {A B : ℕ} → Chain g A B → Some (λ (r : Rule). r .left ≡ A) g
@@ -188,7 +210,8 @@ module _ (g : Rules) where
 
   pub cyclic? : Dec (Cyclic g)
   cyclic? =
-      map? (some? (λ (r : Rule). chain? (r .left) (r .left)) g) (λ s. record { start = s .0 .left; returns = s .2 })
+      map? (some? (λ (r : Rule). chain? (r .left) (r .left)) g)
+      (λ s. record { start = s .0 .left; returns = s .2 })
       (λ c. let s = chain-left (c .returns) in (s .0, s .1, rw (s .2) (c .returns)))
 
 -- 5. ranks
@@ -232,7 +255,8 @@ unfolding count
 count-le d [] = omega arith
 count-le d (b ∷ l) = omega (arith, count-le d l, one-if-one (d b))
 
-module _ {P Q : ℕ → Type 0} (d : (b : ℕ) → Dec (P b)) (e : (b : ℕ) → Dec (Q b)) (f : (b : ℕ) → P b → Q b) where
+module _ {P Q : ℕ → Type 0} (d : (b : ℕ) → Dec (P b)) (e : (b : ℕ) → Dec (Q b))
+    (f : (b : ℕ) → P b → Q b) where
   count-sub : (l : List ℕ) → count d l ≤ count e l
   unfolding count
   count-sub [] = omega arith
@@ -242,9 +266,11 @@ module _ {P Q : ℕ → Type 0} (d : (b : ℕ) → Dec (P b)) (e : (b : ℕ) →
   unfolding count
   count-lt {b} (x ∷ l) (List·Memᴰ·head q) n y =
       omega (arith, count-sub l, one-if-lt (d x) (e x) (rw q at n) (rw q at y))
-  count-lt (x ∷ l) (List·Memᴰ·tail m) n y = omega (arith, count-lt l m n y, one-if-le (d x) (e x) (f x))
+  count-lt (x ∷ l) (List·Memᴰ·tail m) n y =
+      omega (arith, count-lt l m n y, one-if-le (d x) (e x) (f x))
 
--- of a sheet that is not cyclic: the rank is how many of the nonterminals at the right chains lead to
+-- of a sheet that is not cyclic: the rank is how many of the nonterminals at the right chains lead
+-- to
 pub ranked : (g : Rules) → (Cyclic g → ⊥) → Ranked g
 ranked g acyclic =
     record {
@@ -252,6 +278,6 @@ ranked g acyclic =
       bound = length (targets g);
       small = λ A. count-le (chain? g A) (targets g);
       falls =
-          λ {A} {B} e. count-lt (chain? g B) (chain? g A) (λ i c. more e c) (targets g) (target-mem g e)
-          (λ c. acyclic (record { start = B; returns = c })) (one e);
+          λ {A} {B} e. count-lt (chain? g B) (chain? g A) (λ i c. more e c) (targets g)
+          (target-mem g e) (λ c. acyclic (record { start = B; returns = c })) (one e);
     }

@@ -1,4 +1,5 @@
--- What a clause asks of a word, over any notion D of "B has a tree of v": of all trees, of trees of some height, of those found so far.
+-- What a clause asks of a word, over any notion D of "B has a tree of v": of all trees, of trees of
+-- some height, of those found so far.
 use mathlib.Core.Path.{_≡_, refl, sym}
 use mathlib.Core.List.{[], _∷_}
 use mathlib.Core.Logic.{_⊎_, inl, inr}
@@ -14,7 +15,8 @@ use Rattle.grammar.specs.declared.Clause.{Clause}
 use Rattle.grammar.specs.declared.Clause.the-variants as Clause
 use Rattle.grammar.specs.Layout.{Word}
 use Rattle.grammar.specs.Layout as Mark
-use Rattle.grammar.specs.Trees.{Tree, empty, leaf, unary, binary, root, word, Rules, Covers, Derives}
+use Rattle.grammar.specs.Trees.{Tree, empty, leaf, unary, binary, root, word, Rules, Covers}
+use Rattle.grammar.specs.Trees.{Derives}
 use Rattle.grammar.specs.Choices.{Top}
 use Rattle.grammar.proofs.Lists.{both?}
 use Rattle.grammar.proofs.Marks.{unary?, binary?}
@@ -25,7 +27,8 @@ abbrev pub CanBy : (ℕ → Word → Type 0) → Word → Clause → ℕ → Typ
 CanBy D w Clause.Empty k = (w ≡ []) × (k ≡ 0)
 CanBy D w (Clause.Atom a b) k = (t : Token) × (w ≡ t ∷ []) × Covers a b (t .terminal) × (k ≡ 0)
 CanBy D w (Clause.Unary B m) k = D B w × Mark.Unary m w × (k ≡ 0)
-CanBy D w (Clause.Binary B C m) k = (k ≤ length w) × D B (take k w) × D C (drop k w) × Mark.Binary m (take k w) (drop k w)
+CanBy D w (Clause.Binary B C m) k =
+    (k ≤ length w) × D B (take k w) × D C (drop k w) × Mark.Binary m (take k w) (drop k w)
 
 -- over all trees it is what a choice asks
 pub can-by : (g : Rules) (w : Word) (c : Clause) (k : ℕ) → Can g w c k → CanBy (Derives g) w c k
@@ -40,11 +43,13 @@ by-can g w (Clause.Atom a b) k e = e
 by-can g w (Clause.Unary B m) k e = e
 by-can g w (Clause.Binary B C m) k e = e
 
-pub can-map : (D E : ℕ → Word → Type 0) → ((B : ℕ) (v : Word) → D B v → E B v) → (w : Word) (c : Clause) (k : ℕ) → CanBy D w c k → CanBy E w c k
+pub can-map : (D E : ℕ → Word → Type 0) → ((B : ℕ) (v : Word) → D B v → E B v)
+    → (w : Word) (c : Clause) (k : ℕ) → CanBy D w c k → CanBy E w c k
 can-map D E f w Clause.Empty k e = e
 can-map D E f w (Clause.Atom a b) k e = e
 can-map D E f w (Clause.Unary B m) k e = (f B w (e .0), e .1, e .2)
-can-map D E f w (Clause.Binary B C m) k e = (e .0, f B (take k w) (e .1), f C (drop k w) (e .2), e .3)
+can-map D E f w (Clause.Binary B C m) k e =
+    (e .0, f B (take k w) (e .1), f C (drop k w) (e .2), e .3)
 
 can-le : (D : ℕ → Word → Type 0) (w : Word) (c : Clause) (k : ℕ) → CanBy D w c k → k ≤ length w
 can-le D w Clause.Empty k e = omega (arith, e .1)
@@ -60,7 +65,8 @@ KidsBy D (unary A t) = D (root t) (word t)
 KidsBy D (binary A s t) = D (root s) (word s) × D (root t) (word t)
 
 -- a tree shows what its top asks
-pub kids-can : (D : ℕ → Word → Type 0) (t : Tree) → KidsBy D t → (r : Rule) (k : ℕ) → Top r k t → CanBy D (word t) (r .clause) k
+pub kids-can : (D : ℕ → Word → Type 0) (t : Tree) → KidsBy D t → (r : Rule) (k : ℕ) → Top r k t
+    → CanBy D (word t) (r .clause) k
 kids-can D (empty A) d r k e = rw (e .0) (refl, e .1)
 kids-can D (leaf A t) d r k e = rw (e .2) (t, refl, e .3, e .4)
 kids-can D (unary A t) d r k e = rw (e .1) (d, e .3, e .2)
@@ -74,14 +80,16 @@ nil? : (w : Word) → Dec (w ≡ [])
 nil? [] = yes refl
 nil? (t ∷ w) = no (λ e. clash cc)
 
-atom? : (a b k : ℕ) (w : Word) → Dec ((t : Token) × (w ≡ t ∷ []) × Covers a b (t .terminal) × (k ≡ 0))
+atom? : (a b k : ℕ) (w : Word) → Dec
+    ((t : Token) × (w ≡ t ∷ []) × Covers a b (t .terminal) × (k ≡ 0))
 atom? a b k [] = no (λ h. let e = h .1 in clash cc)
 atom? a b k (t ∷ []) = go (decLe a (t .terminal)) (decLe (t .terminal) b) (ℕ-discrete k 0)
   where
     of : (t′ : Token) → t ∷ [] ≡ t′ ∷ [] → Covers a b (t′ .terminal) → Covers a b (t .terminal)
     of t′ e h = let x : t ≡ t′ = cc in rw x h
 
-    go : Dec (a ≤ t .terminal) → Dec (t .terminal ≤ b) → Dec (k ≡ 0) → Dec ((t′ : Token) × (t ∷ [] ≡ t′ ∷ []) × Covers a b (t′ .terminal) × (k ≡ 0))
+    go : Dec (a ≤ t .terminal) → Dec (t .terminal ≤ b) → Dec (k ≡ 0)
+        → Dec ((t′ : Token) × (t ∷ [] ≡ t′ ∷ []) × Covers a b (t′ .terminal) × (k ≡ 0))
     go (yes d) (yes e) (yes f) = yes (t, refl, record { low = d; high = e }, f)
     go (yes d) (yes e) (no f) = no (λ h. f (h .3))
     go (yes d) (no e) f = no (λ h. e (of (h .0) (h .1) (h .2) .high))
@@ -102,16 +110,21 @@ both₄? (yes a) (no f) c d = no (λ h. f (h .1))
 both₄? (no f) b c d = no (λ h. f (h .0))
 
 pub can? : (D : ℕ → Word → Type 0) (w : Word) (c : Clause) (k : ℕ)
-    → ((B : ℕ) → Dec (D B w)) → ((B : ℕ) → Dec (D B (take k w))) → ((B : ℕ) → Dec (D B (drop k w))) → Dec (CanBy D w c k)
+    → ((B : ℕ) → Dec (D B w)) → ((B : ℕ) → Dec (D B (take k w))) → ((B : ℕ) → Dec (D B (drop k w)))
+    → Dec (CanBy D w c k)
 can? D w Clause.Empty k d e f = both? (nil? w) (ℕ-discrete k 0)
 can? D w (Clause.Atom a b) k d e f = atom? a b k w
 can? D w (Clause.Unary B m) k d e f = both₃? (d B) (unary? m w) (ℕ-discrete k 0)
-can? D w (Clause.Binary B C m) k d e f = both₄? (decLe k (length w)) (e B) (f C) (binary? m (take k w) (drop k w))
+can? D w (Clause.Binary B C m) k d e f =
+    both₄? (decLe k (length w)) (e B) (f C) (binary? m (take k w) (drop k w))
 
 -- with some left length
-pub some-can? : (D : ℕ → Word → Type 0) (w : Word) (c : Clause) → ((B : ℕ) (v : Word) → Dec (D B v)) → Dec ((k : ℕ) × CanBy D w c k)
-some-can? D w c d = go (seek (CanBy D w c) (λ k. can? D w c k (λ B. d B w) (λ B. d B (take k w)) (λ B. d B (drop k w))) (suc (length w)))
+pub some-can? : (D : ℕ → Word → Type 0) (w : Word) (c : Clause) → ((B : ℕ) (v : Word) → Dec (D B v))
+    → Dec ((k : ℕ) × CanBy D w c k)
+some-can? D w c d = go (seek (CanBy D w c)
+    (λ k. can? D w c k (λ B. d B w) (λ B. d B (take k w)) (λ B. d B (drop k w))) (suc (length w)))
   where
-    go : Least (CanBy D w c) ⊎ ((j : ℕ) → j < suc (length w) → CanBy D w c j → ⊥) → Dec ((k : ℕ) × CanBy D w c k)
+    go : Least (CanBy D w c) ⊎ ((j : ℕ) → j < suc (length w) → CanBy D w c j → ⊥)
+        → Dec ((k : ℕ) × CanBy D w c k)
     go (inl l) = yes (l .at, l .holds)
     go (inr f) = no (λ x. f (x .0) (omega (arith, can-le D w c (x .0) (x .1))) (x .1))

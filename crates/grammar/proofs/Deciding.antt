@@ -1,4 +1,5 @@
--- Whether a nonterminal derives a word is decided, for any sheet: a word after its shorter words, its nonterminals by saturation.
+-- Whether a nonterminal derives a word is decided, for any sheet: a word after its shorter words,
+-- its nonterminals by saturation.
 use mathlib.Core.Path.{_≡_, refl, sym, ap, subst}
 use mathlib.Core.List.{List, [], _∷_, _++_, map, List·Memᴰ}
 use mathlib.Core.Logic.{_⊎_, inl, inr, ⊎-elim}
@@ -10,20 +11,23 @@ use lib.ListN.{length, getElem?, take, drop, length-append}
 use Rattle.sets.proofs.Basics.{clash}
 use Rattle.grammar.specs.declared.Rule.{Rule}
 use Rattle.grammar.specs.Layout.{Word, Every}
-use Rattle.grammar.specs.Trees.{Tree, root, word, Rules, Valid, valid-empty, valid-leaf, valid-unary, valid-binary, Derives}
+use Rattle.grammar.specs.Trees.{Tree, root, word, Rules, Valid, valid-empty, valid-leaf}
+use Rattle.grammar.specs.Trees.{valid-unary, valid-binary, Derives}
 use Rattle.grammar.specs.Choices.{Choice}
 use Rattle.grammar.proofs.Lists.{eq?, both?, map?, some?, Some, mem?, mem-every, mem-map}
 use Rattle.grammar.proofs.Marks.{word?}
 use Rattle.grammar.proofs.ChoiceLaws.{place-of, member-at, takes-of}
 use Rattle.grammar.proofs.ByKind.{derives-of, top-left, choice-can, can-choice}
-use Rattle.grammar.proofs.CanBy.{CanBy, can-by, by-can, can-map, KidsBy, kids-can, can?, some-can?}
+use Rattle.grammar.proofs.CanBy.{CanBy, can-by, by-can, can-map, KidsBy, kids-can, can?}
+use Rattle.grammar.proofs.CanBy.{some-can?}
 use Rattle.grammar.proofs.Saturation.{Saturated, saturate}
 
 -- a part of a word is shorter, or all of it
 left-part : (u v : Word) → (length u < length (u ++ v)) ⊎ (u ≡ u ++ v)
 left-part [] [] = inr refl
 left-part [] (b ∷ v) = inl (omega arith)
-left-part (a ∷ u) v = ⊎-elim (λ h. inl (omega arith)) (λ e. inr (ap (λ (x : Word). a ∷ x) e)) (left-part u v)
+left-part (a ∷ u) v =
+    ⊎-elim (λ h. inl (omega arith)) (λ e. inr (ap (λ (x : Word). a ∷ x) e)) (left-part u v)
 
 right-part : (u v : Word) → (length v < length (u ++ v)) ⊎ (v ≡ u ++ v)
 right-part [] v = inr refl
@@ -47,7 +51,8 @@ module _ (g : Rules) where
         less h (yes d) = yes (inl (h, d))
         less h (no d) = no (⊎-elim (λ x. d (x .1)) (λ x. omega (arith, ap length (x .0))))
 
-        go : Dec (length v < length w) → (length v < length w → Dec (Derives g B v)) → Dec (Near S B v)
+        go : Dec (length v < length w) → (length v < length w → Dec (Derives g B v))
+            → Dec (Near S B v)
         go (yes h) f = less h (f h)
         go (no n) f = at n (word? v w) (mem? B S)
 
@@ -66,7 +71,8 @@ module _ (g : Rules) where
         let k = a .2 .1 .0 in
         let c = can-map (Near S) (Derives g) known w (a .0 .clause) k (a .2 .1 .1) in
         let p = place-of (a .1) in
-        let x = can-choice g (p .0) (a .0 .left) (a .0 .clause) w k (p .1) (by-can g w (a .0 .clause) k c) in
+        let x = can-choice g (p .0) (a .0 .left) (a .0 .clause) w k (p .1)
+        (by-can g w (a .0 .clause) k c) in
         subst Has (a .2 .0) (record { tree = x .tree; witness = x .witness })
       where
         known : (B : ℕ) (v : Word) → Near S B v → Derives g B v
@@ -76,15 +82,18 @@ module _ (g : Rules) where
     found : Saturated Adds adds? Has sound (map (λ r. r .left) g)
     found = saturate Adds adds? Has sound (map (λ r. r .left) g)
 
-    kept : {t : Tree} → Valid g t → word t ≡ w → KidsBy (Near (found .members)) t → List·Memᴰ (root t) (found .members)
+    kept : {t : Tree} → Valid g t → word t ≡ w → KidsBy (Near (found .members)) t
+        → List·Memᴰ (root t) (found .members)
     kept {t} v e k =
         let x = takes-of v in
         let c = kids-can (Near (found .members)) t k (x .2 .rule) (x .1) (x .2 .top) in
         let l = top-left t (x .2 .rule) (x .1) (x .2 .top) in
         let m = member-at g (x .0) (x .2 .stands) in
-        found .shut (root t) (subst (λ (A : ℕ). List·Memᴰ A (map (λ r. r .left) g)) l (mem-map (λ r. r .left) g m)) (x .2 .rule, m, (l, (x .1, rw e at c)))
+        found .shut (root t) (subst (λ (A : ℕ). List·Memᴰ A (map (λ r. r .left) g)) l
+        (mem-map (λ r. r .left) g m)) (x .2 .rule, m, (l, (x .1, rw e at c)))
 
-    near-of : {t : Tree} → Valid g t → (length (word t) < length w) ⊎ (word t ≡ w) → (word t ≡ w → List·Memᴰ (root t) (found .members))
+    near-of : {t : Tree} → Valid g t → (length (word t) < length w) ⊎ (word t ≡ w)
+        → (word t ≡ w → List·Memᴰ (root t) (found .members))
         → Near (found .members) (root t) (word t)
     near-of v (inl h) f = inl (h, derives-of v)
     near-of v (inr e) f = inr (e, f e)
@@ -115,14 +124,17 @@ module _ (g : Rules) where
   pub choice? : (A : ℕ) (w : Word) (p k : ℕ) → Dec (Choice g A w p k)
   choice? A w p k = go (getElem? g p) refl
     where
-      back : (r : Rule) → getElem? g p ≡ some r → Choice g A w p k → CanBy (Derives g) w (r .clause) k
-      back r e c = let x = choice-can c in let y = x .1 in let q : x .0 .clause ≡ r .clause = cc in can-by g w (r .clause) k (rw q at (x .3))
+      back : (r : Rule) → getElem? g p ≡ some r → Choice g A w p k
+          → CanBy (Derives g) w (r .clause) k
+      back r e c = let x = choice-can c in let y = x .1 in let q : x .0 .clause ≡ r .clause = cc in
+          can-by g w (r .clause) k (rw q at (x .3))
 
       named : (r : Rule) → getElem? g p ≡ some r → Dec (r .left ≡ A) → Dec (Choice g A w p k)
       named r e (no f) = no (λ c. let x = choice-can c in let y = x .1 in let z = x .2 in f (cc))
       named r e (yes f) =
           let st : getElem? g p ≡ some (record { left = A; clause = r .clause }) = rw f at e in
-          map? (can? (Derives g) w (r .clause) k (λ B. derives? B w) (λ B. derives? B (take k w)) (λ B. derives? B (drop k w)))
+          map? (can? (Derives g) w (r .clause) k (λ B. derives? B w) (λ B. derives? B (take k w))
+          (λ B. derives? B (drop k w)))
           (λ x. can-choice g p A (r .clause) w k st (by-can g w (r .clause) k x)) (back r e)
 
       go : (o : Option Rule) → getElem? g p ≡ o → Dec (Choice g A w p k)

@@ -2,7 +2,9 @@
 use mathlib.Core.Path.{_≡_, refl, sym, subst, subst⁻¹, ap}
 use mathlib.Core.Logic.{_⊎_, inl, inr, ⊎-elim}
 use mathlib.Core.Bool.{Bool, true, false}
-use mathlib.Core.List.{List, [], _∷_, _++_, List·Memᴰ, List·Memᴰ·head, List·Memᴰ·tail, List·Memᴰ·cases-cons, List·Memᴰ·not-nil, Memᴰ·append-left, Memᴰ·append-right, map}
+use mathlib.Core.List.{List, [], _∷_, _++_, List·Memᴰ, List·Memᴰ·head, List·Memᴰ·tail}
+use mathlib.Core.List.{List·Memᴰ·cases-cons, List·Memᴰ·not-nil, Memᴰ·append-left, Memᴰ·append-right}
+use mathlib.Core.List.{map}
 use Prim.Native.Nat.{ℕ, _≤_, _<_, zero, suc}
 use lib.Dec.{T, eqb, leb, eqb→eq, eqb-refl, leb→le, le→leb}
 use lib.ListN.{take, getElem?, length, getD}
@@ -12,7 +14,8 @@ use Rattle.sets.proofs.Basics.{clash}
 use Rattle.sets.proofs.Basics.{clash}
 use Rattle.grammar.specs.Layout.{Every}
 
--- a test with its two lemmas is a decision; what the lemmas say stays shut, so only the test is computed
+-- a test with its two lemmas is a decision; what the lemmas say stays shut, so only the test is
+-- computed
 abbrev pub test : {P : Type 0} (b : Bool) → (T b → P) → (P → T b) → Dec P
 test true f g = yes (f tt)
 test false f g = no g
@@ -75,9 +78,11 @@ module _ {A : Type 0} where
   all p [] = true
   all p (a ∷ l) = let r = all p l in and (p a) r
 
-  pub all-every : {P : A → Type 0} (p : A → Bool) → ((a : A) → T (p a) → P a) → (l : List A) → T (all p l) → Every P l
+  pub all-every : {P : A → Type 0} (p : A → Bool) → ((a : A) → T (p a) → P a) → (l : List A)
+      → T (all p l) → Every P l
   all-every p h [] t = tt
-  all-every p h (a ∷ l) t = (h a (and-left (p a) (all p l) t), all-every p h l (and-right (p a) (all p l) t))
+  all-every p h (a ∷ l) t =
+      (h a (and-left (p a) (all p l) t), all-every p h l (and-right (p a) (all p l) t))
 
   pub cons-path : {a b : A} {l m : List A} → (a ≡ b) × (l ≡ m) → a ∷ l ≡ b ∷ m
   cons-path p = λ i. p .0 i ∷ p .1 i
@@ -106,16 +111,19 @@ module _ {A : Type 0} where
   mem-every P (b ∷ l) e (List·Memᴰ·head p) = subst⁻¹ P p (e .0)
   mem-every P (b ∷ l) e (List·Memᴰ·tail m) = mem-every P l (e .1) m
 
-  -- l where P holds, and nothing where it does not. Bind l by a let: then it is read only where P holds
+  -- l where P holds, and nothing where it does not. Bind l by a let: then it is read only where P
+  -- holds
   abbrev pub keep : {P : Type 0} → Dec P → List A → List A
   keep (yes p) l = l
   keep (no n) l = []
 
-  pub every-keep : (Q : A → Type 0) {P : Type 0} (d : Dec P) (l : List A) → (P → Every Q l) → Every Q (keep d l)
+  pub every-keep : (Q : A → Type 0) {P : Type 0} (d : Dec P) (l : List A) → (P → Every Q l)
+      → Every Q (keep d l)
   every-keep Q (yes p) l h = h p
   every-keep Q (no n) l h = tt
 
-  pub mem-keep : {a : A} {P : Type 0} (d : Dec P) {l : List A} → P → List·Memᴰ a l → List·Memᴰ a (keep d l)
+  pub mem-keep : {a : A} {P : Type 0} (d : Dec P) {l : List A} → P → List·Memᴰ a l
+      → List·Memᴰ a (keep d l)
   mem-keep (yes p) q m = m
   mem-keep (no n) q m = absurd (n q)
 
@@ -124,12 +132,16 @@ module _ {A B : Type 0} where
   collect f [] = []
   collect f (a ∷ l) = f a ++ collect f l
 
-  pub every-collect : (P : B → Type 0) (f : A → List B) (l : List A) → ((a : A) → List·Memᴰ a l → Every P (f a)) → Every P (collect f l)
+  pub every-collect : (P : B → Type 0) (f : A → List B) (l : List A)
+      → ((a : A) → List·Memᴰ a l → Every P (f a)) → Every P (collect f l)
   every-collect P f [] h = tt
-  every-collect P f (a ∷ l) h = every-append P (f a) (collect f l) (h a (List·Memᴰ·head refl)) (every-collect P f l (λ b m. h b (List·Memᴰ·tail m)))
+  every-collect P f (a ∷ l) h = every-append P (f a) (collect f l) (h a (List·Memᴰ·head refl))
+      (every-collect P f l (λ b m. h b (List·Memᴰ·tail m)))
 
-  pub mem-collect : {a : A} {b : B} (f : A → List B) (l : List A) → List·Memᴰ a l → List·Memᴰ b (f a) → List·Memᴰ b (collect f l)
-  mem-collect {b} f (x ∷ l) (List·Memᴰ·head p) m = Memᴰ·append-left (collect f l) (subst (λ (y : A). List·Memᴰ b (f y)) p m)
+  pub mem-collect : {a : A} {b : B} (f : A → List B) (l : List A) → List·Memᴰ a l
+      → List·Memᴰ b (f a) → List·Memᴰ b (collect f l)
+  mem-collect {b} f (x ∷ l) (List·Memᴰ·head p) m =
+      Memᴰ·append-left (collect f l) (subst (λ (y : A). List·Memᴰ b (f y)) p m)
   mem-collect f (x ∷ l) (List·Memᴰ·tail n) m = Memᴰ·append-right (f x) (mem-collect f l n m)
 
 module _ {A : Type 0} where
@@ -142,14 +154,16 @@ module _ {A : Type 0} where
   some-cons (inr s) = (s .0, List·Memᴰ·tail (s .1), s .2)
 
   pub some-cases : {P : A → Type 0} {a : A} {l : List A} → Some P (a ∷ l) → P a ⊎ Some P l
-  some-cases {P} s = ⊎-elim (λ e. inl (subst P e (s .2))) (λ m. inr (s .0, m, s .2)) (List·Memᴰ·cases-cons (s .1))
+  some-cases {P} s =
+      ⊎-elim (λ e. inl (subst P e (s .2))) (λ m. inr (s .0, m, s .2)) (List·Memᴰ·cases-cons (s .1))
 
   abbrev pub some? : {P : A → Type 0} → ((a : A) → Dec (P a)) → (l : List A) → Dec (Some P l)
   some? d [] = no (λ s. List·Memᴰ·not-nil (s .1))
   some? d (a ∷ l) = let r = some? d l in map? (or? (d a) r) some-cons some-cases
 
 pub mem? : (b : ℕ) (l : List ℕ) → Dec (List·Memᴰ b l)
-mem? b l = map? (some? (λ a. eq? b a) l) (λ s. subst⁻¹ (λ (x : ℕ). List·Memᴰ x l) (s .2) (s .1)) (λ m. (b, m, refl))
+mem? b l = map? (some? (λ a. eq? b a) l) (λ s. subst⁻¹ (λ (x : ℕ). List·Memᴰ x l) (s .2) (s .1))
+    (λ m. (b, m, refl))
 
 pub mem-map : {A B : Type 0} {a : A} (f : A → B) (l : List A) → List·Memᴰ a l
     → List·Memᴰ (f a) (map f l)

@@ -32,11 +32,22 @@ binary? m (a ∷ u) [] = yes tt
 binary? m (a ∷ u) (b ∷ v) = pairs? m a (last a u) b
 
 -- tokens and words
-pub token-path : (s t : Token) → (s .terminal ≡ t .terminal) × ((line s ≡ line t) × ((col s ≡ col t) × (width s ≡ width t))) → s ≡ t
-token-path s t p = λ i. record { terminal = p .0 i; line = record { 0 = p .1 .0 i }; column = record { 0 = p .1 .1 .0 i }; width = record { 0 = p .1 .1 .1 i } }
+pub token-path : (s t : Token) → (s .terminal ≡ t .terminal)
+    × ((line s ≡ line t) × ((col s ≡ col t) × (width s ≡ width t))) → s ≡ t
+token-path s t p = λ i. record {
+  terminal = p .0 i;
+  line = record { 0 = p .1 .0 i };
+  column = record
+      { 0 = p .1 .1 .0 i };
+  width = record { 0 = p .1 .1 .1 i };
+}
 
-pub token-parts : (s t : Token) → s ≡ t → (s .terminal ≡ t .terminal) × ((line s ≡ line t) × ((col s ≡ col t) × (width s ≡ width t)))
-token-parts s t p = (ap (λ (x : Token). x .terminal) p, (ap (λ (x : Token). line x) p, (ap (λ (x : Token). col x) p, ap (λ (x : Token). width x) p)))
+pub token-parts : (s t : Token) → s ≡ t
+    → (s .terminal ≡ t .terminal) × ((line s ≡ line t) × ((col s ≡ col t) × (width s ≡ width t)))
+token-parts s t p = (
+  ap (λ (x : Token). x .terminal) p,
+  (ap (λ (x : Token). line x) p, (ap (λ (x : Token). col x) p, ap (λ (x : Token). width x) p)),
+)
 
 abbrev pub token? : (s t : Token) → Dec (s ≡ t)
 token? s t =

@@ -9,7 +9,8 @@ use Rattle.grammar.specs.Candidates.{After}
 use Rattle.grammar.proofs.Lists.{eq?, le?, both?, or?}
 
 abbrev pub after? : (a b : Token) → Dec (After a b)
-after? a b = or? (le? (suc (line a)) (line b)) (both? (eq? (line a) (line b)) (le? (col a + width a) (col b)))
+after? a b = or? (le? (suc (line a)) (line b))
+    (both? (eq? (line a) (line b)) (le? (col a + width a) (col b)))
 
 pub after-then : (a b c : Token) → After a b → After b c → After a c
 after-then a b c (inl x) (inl y) = inl (omega arith)

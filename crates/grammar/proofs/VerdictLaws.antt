@@ -12,4 +12,5 @@ module _ {g : Rules} {A : ℕ} {w : Word} where
   none-not-two n t = n .none (t .first) (t .witness₁)
 
   pub one-not-two : OneTree g A w → TwoTrees g A w → ⊥
-  one-not-two o t = t .differ (o .only (t .first) (t .witness₁) ∙ sym (o .only (t .second) (t .witness₂)))
+  one-not-two o t =
+      t .differ (o .only (t .first) (t .witness₁) ∙ sym (o .only (t .second) (t .witness₂)))

@@ -29,9 +29,16 @@ Wide w = Every (λ t. 1 ≤ width t) w
 
 -- a cell's token on line l; its width is 1
 abbrev pub token : ℕ → Cell → Token
-token l c = record { terminal = c .terminal; line = record { 0 = l }; column = record { 0 = c .column }; width = record { 0 = 1 } }
+token l c = record {
+  terminal = c .terminal;
+  line = record { 0 = l };
+  column = record
+      { 0 = c .column };
+  width = record { 0 = 1 };
+}
 
--- the tokens of cells, the token before them being on line l: each line is the one before and the line step
+-- the tokens of cells, the token before them being on line l: each line is the one before and the
+-- line step
 abbrev pub placed : ℕ → List Cell → Word
 placed l [] = []
 placed l (c ∷ cs) = token (l + c .step) c ∷ placed (l + c .step) cs
@@ -44,7 +51,8 @@ sentence cs = placed 1 cs
 abbrev pub Terminal : Rules → ℕ → Type 0
 Terminal g a = (A : ℕ) × HasAtom g A a
 
--- a cell of an arrangement of length n: a terminal with Q, a line step of at most m, a column from 1 to n
+-- a cell of an arrangement of length n: a terminal with Q, a line step of at most m, a column from
+-- 1 to n
 pub record Ranged (Q : ℕ → Type 0) (n m : ℕ) (c : Cell) : Type 0 where
   pub terminal : Q (c .terminal)
   pub step : c .step ≤ m

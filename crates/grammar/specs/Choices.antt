@@ -1,4 +1,5 @@
--- Choices, the first tree and the second tree: 01, "Trees, choices, span sheet"; on a looping sheet 02, "Rules that loop".
+-- Choices, the first tree and the second tree: 01, "Trees, choices, span sheet"; on a looping sheet
+-- 02, "Rules that loop".
 use mathlib.Core.Path.{_≡_}
 use mathlib.Core.Logic.{_⊎_}
 use mathlib.Core.Option.{some}
@@ -11,14 +12,18 @@ use Rattle.grammar.specs.declared.Clause.{Clause}
 use Rattle.grammar.specs.declared.Clause.the-variants as Clause
 use Rattle.grammar.specs.Layout.{Word}
 use Rattle.grammar.specs.Layout as Mark
-use Rattle.grammar.specs.Trees.{Tree, empty, leaf, unary, binary, root, word, Rules, Covers, Witness}
+use Rattle.grammar.specs.Trees.{Tree, empty, leaf, unary, binary, root, word, Rules, Covers}
+use Rattle.grammar.specs.Trees.{Witness}
 use Rattle.grammar.specs.Cycles.{Cyclic}
 
--- rule r stands at the top of t and its mark holds; k is the length of the left word, 0 but for a binary node
+-- rule r stands at the top of t and its mark holds; k is the length of the left word, 0 but for a
+-- binary node
 abbrev pub Top : Rule → ℕ → Tree → Type 0
 Top r k (empty A) = (r ≡ record { left = A; clause = Clause.Empty }) × (k ≡ 0)
-Top r k (leaf A t) = (a : ℕ) × (b : ℕ) × (r ≡ record { left = A; clause = Clause.Atom a b }) × Covers a b (t .terminal) × (k ≡ 0)
-Top r k (unary A t) = (m : UnaryMark) × (r ≡ record { left = A; clause = Clause.Unary (root t) m }) × (k ≡ 0) × Mark.Unary m (word t)
+Top r k (leaf A t) = (a : ℕ) × (b : ℕ) × (r ≡ record { left = A; clause = Clause.Atom a b })
+    × Covers a b (t .terminal) × (k ≡ 0)
+Top r k (unary A t) = (m : UnaryMark) × (r ≡ record { left = A; clause = Clause.Unary (root t) m })
+    × (k ≡ 0) × Mark.Unary m (word t)
 Top r k (binary A s t) =
     (m : BinaryMark)
     × (r ≡ record { left = A; clause = Clause.Binary (root s) (root t) m })
@@ -106,7 +111,8 @@ Beneath g P (leaf A t) = Unit {0}
 Beneath g P (unary A t) = Each g P t
 Beneath g P (binary A s t) = Each g P s × Each g P t
 
--- the choice that the first tree takes at a node: the first; on a looping sheet the earliest of those giving the least height
+-- the choice that the first tree takes at a node: the first; on a looping sheet the earliest of
+-- those giving the least height
 pub data Preferred (g : Rules) (A : ℕ) (w : Word) (p k : ℕ) : Type 0 where
   straight : (Cyclic g → ⊥) → FirstChoice g A w p k → Preferred g A w p k
   looping : Cyclic g → LowChoice g A w p k → Preferred g A w p k
@@ -135,9 +141,12 @@ pub record Swerves (g : Rules) (t u : Tree) : Type 0 where
 -- the walk goes node before children, left before right
 pub data Second (g : Rules) : Tree → Tree → Type 0 where
   here : {t u : Tree} → Swerves g t u → Second g t u
-  below : {A : ℕ} {s s′ : Tree} → Node g (OnlyChoice g) (unary A s) → Second g s s′ → Second g (unary A s) (unary A s′)
-  left : {A : ℕ} {s s′ t : Tree} → Node g (OnlyChoice g) (binary A s t) → Second g s s′ → Second g (binary A s t) (binary A s′ t)
-  right : {A : ℕ} {s t t′ : Tree} → Node g (OnlyChoice g) (binary A s t) → Each g (OnlyChoice g) s → Second g t t′ → Second g (binary A s t) (binary A s t′)
+  below : {A : ℕ} {s s′ : Tree} → Node g (OnlyChoice g) (unary A s) → Second g s s′
+      → Second g (unary A s) (unary A s′)
+  left : {A : ℕ} {s s′ t : Tree} → Node g (OnlyChoice g) (binary A s t) → Second g s s′
+      → Second g (binary A s t) (binary A s′ t)
+  right : {A : ℕ} {s t t′ : Tree} → Node g (OnlyChoice g) (binary A s t) → Each g (OnlyChoice g) s
+      → Second g t t′ → Second g (binary A s t) (binary A s t′)
 
 -- u is the second tree of A over w
 pub record SecondTree (g : Rules) (A : ℕ) (w : Word) (u : Tree) : Type 0 where

@@ -9,7 +9,8 @@ use Rattle.grammar.specs.Trees.{Rules, HasUnary, HasBinary, Derives}
 abbrev pub Nullable : Rules → ℕ → Type 0
 Nullable g A = Derives g A []
 
--- an edge runs from A to B if A has a U rule to B, or a B rule with B on one side and a nullable nonterminal on the other
+-- an edge runs from A to B if A has a U rule to B, or a B rule with B on one side and a nullable
+-- nonterminal on the other
 pub data Edge (g : Rules) : ℕ → ℕ → Type 0 where
   by-unary : {A B : ℕ} (m : UnaryMark) → HasUnary g A B m → Edge g A B
   by-left : {A B : ℕ} (C : ℕ) (m : BinaryMark) → HasBinary g A B C m → Nullable g C → Edge g A B

@@ -1,4 +1,5 @@
--- Rules of which no two are alike: what refusal 5 sees to (for inner functions; the refusal itself is said by `lines/specs/Keys.antt`).
+-- Rules of which no two are alike: what refusal 5 sees to (for inner functions; the refusal itself
+-- is said by `lines/specs/Keys.antt`).
 use mathlib.Core.Path.{_≡_}
 use Prim.Native.Nat.{ℕ}
 use Rattle.grammar.specs.declared.Clause.{Clause}
@@ -29,4 +30,5 @@ Alike (Clause.Binary A D m) (Clause.Binary B C n) = (A ≡ B) × (D ≡ C)
 
 -- no two rules of one left are alike: what refusal 5 keeps off
 pub record Distinct (g : Rules) : Type 0 where
-  pub one : (p q : ℕ) (r s : Rule) → getElem? g p ≡ some r → getElem? g q ≡ some s → r .left ≡ s .left → Alike (r .clause) (s .clause) → p ≡ q
+  pub one : (p q : ℕ) (r s : Rule) → getElem? g p ≡ some r → getElem? g q ≡ some s
+      → r .left ≡ s .left → Alike (r .clause) (s .clause) → p ≡ q

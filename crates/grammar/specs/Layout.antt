@@ -36,7 +36,8 @@ last a [] = a
 last a (b ∷ w) = last b w
 
 -- what a unary mark asks of a word's first token a and a token t behind it:
--- none, nothing; offside, on a later line a greater column; offalign, the same with greater or equal; single, the same line
+-- none, nothing; offside, on a later line a greater column; offalign, the same with greater or
+-- equal; single, the same line
 abbrev pub Keeps : UnaryMark → Token → Token → Type 0
 Keeps UnaryMark.None a t = Unit {0}
 Keeps UnaryMark.Offside a t = line a < line t → col a < col t
@@ -48,8 +49,9 @@ abbrev pub Unary : UnaryMark → Word → Type 0
 Unary m [] = Unit {0}
 Unary m (a ∷ w) = Every (Keeps m a) w
 
--- what a binary mark asks of the first word's first token a and last token z, and the second word's first token b:
--- none, nothing; align, equal columns; indent, a greater column, on any line after the first word's last (the paper: on the next one)
+-- what a binary mark asks of the first word's first token a and last token z, and the second word's
+-- first token b: none, nothing; align, equal columns; indent, a greater column, on any line after
+-- the first word's last (the paper: on the next one)
 abbrev pub Pairs : BinaryMark → Token → Token → Token → Type 0
 Pairs BinaryMark.None a z b = Unit {0}
 Pairs BinaryMark.Align a z b = col a ≡ col b

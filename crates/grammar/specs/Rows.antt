@@ -16,7 +16,8 @@ rows i (empty A) = A ∷ 0 ∷ 0 ∷ 0 ∷ []
 rows i (leaf A t) = A ∷ 1 ∷ i ∷ 1 ∷ []
 rows i (unary A t) = A ∷ 2 ∷ startOf i (length (word t)) ∷ length (word t) ∷ rows i t
 rows i (binary A s t) =
-    A ∷ 3 ∷ startOf i (length (word s ++ word t)) ∷ length (word s ++ word t) ∷ (rows i s ++ rows (i + length (word s)) t)
+    A ∷ 3 ∷ startOf i (length (word s ++ word t)) ∷ length (word s ++ word t)
+    ∷ (rows i s ++ rows (i + length (word s)) t)
 
 -- how many rows t has
 abbrev pub rowCount : Tree → ℕ

@@ -10,4 +10,10 @@ spelled s = take (s .count) (s .tokens)
 
 -- a token place past a sentence: all 0
 abbrev pub no-token : Token
-no-token = record { terminal = 0; line = record { 0 = 0 }; column = record { 0 = 0 }; width = record { 0 = 0 } }
+no-token = record {
+  terminal = 0;
+  line = record { 0 = 0 };
+  column = record { 0 = 0 };
+  width = record
+      { 0 = 0 };
+}

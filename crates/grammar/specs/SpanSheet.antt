@@ -20,7 +20,8 @@ unfoldable pub spans : ℕ → ℕ → ℕ
 spans n zero = 0
 spans n (suc l) = spans n l + (n - l)
 
--- which pair is that of the span of len tokens from s on: pair 0 is the empty word; then length 1 from start 0 upward, then length 2, and so on
+-- which pair is that of the span of len tokens from s on: pair 0 is the empty word; then length 1
+-- from start 0 upward, then length 2, and so on
 unfoldable pub pairAt : ℕ → ℕ → ℕ → ℕ
 pairAt n s zero = 0
 pairAt n s (suc l) = 1 + spans n l + s
@@ -33,8 +34,11 @@ abbrev pub secondWord : List ℕ → ℕ → ℕ → ℕ → ℕ
 secondWord ws n s len = getD ws (2 * pairAt n s len + 1) 0
 
 -- the words ws begin with the span sheet of w:
--- bit A of a pair's first word is 1 exactly if A has a valid tree there, of the second exactly if it has at least two
+-- bit A of a pair's first word is 1 exactly if A has a valid tree there, of the second exactly if
+-- it has at least two
 pub record SpanSheet (g : Rules) (w : Word) (ws : List ℕ) : Type 0 where
   pub enough : 2 * pairs (length w) ≤ length ws
-  pub one : (s len A : ℕ) → s + len ≤ length w → A < 64 → In (firstWord ws (length w) s len) A ↔ Derives g A (part w s len)
-  pub two : (s len A : ℕ) → s + len ≤ length w → A < 64 → In (secondWord ws (length w) s len) A ↔ TwoTrees g A (part w s len)
+  pub one : (s len A : ℕ) → s + len ≤ length w → A < 64
+      → In (firstWord ws (length w) s len) A ↔ Derives g A (part w s len)
+  pub two : (s len A : ℕ) → s + len ≤ length w → A < 64
+      → In (secondWord ws (length w) s len) A ↔ TwoTrees g A (part w s len)

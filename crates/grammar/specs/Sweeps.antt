@@ -1,4 +1,5 @@
--- What a sweep up to the bound k says: 01, "The sweep" (demand 3), and the number that refusal 24 judges.
+-- What a sweep up to the bound k says: 01, "The sweep" (demand 3), and the number that refusal 24
+-- judges.
 use mathlib.Core.Bool.{Bool, false, cond, _||_, _&&_}
 use mathlib.Core.List.{List, [], _∷_}
 use Prim.Native.Nat.{ℕ, zero, suc, _+_, _-_, _*_, _^_, _≤_}
@@ -11,7 +12,8 @@ use Rattle.grammar.specs.Layout.{Word}
 use Rattle.grammar.specs.Trees.{Rules, TwoTrees}
 use Rattle.grammar.specs.Candidates.{Rising, Wide, sentence, Terminal, Candidate, Earlier}
 
--- clear: no sequence of 1 to k tokens has two trees, whatever its terminals, lines, columns and widths
+-- clear: no sequence of 1 to k tokens has two trees, whatever its terminals, lines, columns and
+-- widths
 pub record Clear (g : Rules) (k : ℕ) : Type 0 where
   pub none : (w : Word) → Wide w → Rising w → 1 ≤ length w → length w ≤ k → TwoTrees g 0 w → ⊥
 
@@ -21,7 +23,8 @@ pub record FirstTwo (g : Rules) (k : ℕ) (cs : List Cell) : Type 0 where
   pub high : length cs ≤ k
   pub candidate : Candidate (Terminal g) (length cs) cs
   pub two : TwoTrees g 0 (sentence cs)
-  pub earlier : (ds : List Cell) → 1 ≤ length ds → Candidate (Terminal g) (length ds) ds → Earlier ds cs → TwoTrees g 0 (sentence ds) → ⊥
+  pub earlier : (ds : List Cell) → 1 ≤ length ds → Candidate (Terminal g) (length ds) ds
+      → Earlier ds cs → TwoTrees g 0 (sentence ds) → ⊥
 
 -- the answer of a sweep
 pub data SweepAnswer : Type 0 where

@@ -1,4 +1,5 @@
--- Trees, their words and their validity: source document 000, section 3, "Parse trees" and "Derivation ambiguity".
+-- Trees, their words and their validity: source document 000, section 3, "Parse trees" and
+-- "Derivation ambiguity".
 use mathlib.Core.Path.{_≡_}
 use mathlib.Core.List.{List, [], _∷_, _++_, List·Memᴰ}
 use Prim.Native.Nat.{ℕ, _≤_}
@@ -41,7 +42,8 @@ pub record Covers (a b x : ℕ) : Type 0 where
   pub low : a ≤ x
   pub high : x ≤ b
 
--- the sheet has the rule A → ε, an A rule of A that covers the terminal x, the rule A → B with a mark, A → B C with a mark
+-- the sheet has the rule A → ε, an A rule of A that covers the terminal x, the rule A → B with a
+-- mark, A → B C with a mark
 abbrev pub HasEmpty : Rules → ℕ → Type 0
 HasEmpty g A = List·Memᴰ (record { left = A; clause = Clause.Empty }) g
 
@@ -61,8 +63,10 @@ HasBinary g A B C m = List·Memᴰ (record { left = A; clause = Clause.Binary B 
 pub data Valid (g : Rules) : Tree → Type 0 where
   valid-empty : {A : ℕ} → HasEmpty g A → Valid g (empty A)
   valid-leaf : {A : ℕ} {t : Token} → HasAtom g A (t .terminal) → Valid g (leaf A t)
-  valid-unary : {A : ℕ} {t : Tree} (m : UnaryMark) → HasUnary g A (root t) m → Mark.Unary m (word t) → Valid g t → Valid g (unary A t)
-  valid-binary : {A : ℕ} {s t : Tree} (m : BinaryMark) → HasBinary g A (root s) (root t) m → Mark.Binary m (word s) (word t) → Valid g s → Valid g t → Valid g (binary A s t)
+  valid-unary : {A : ℕ} {t : Tree} (m : UnaryMark) → HasUnary g A (root t) m → Mark.Unary m (word t)
+      → Valid g t → Valid g (unary A t)
+  valid-binary : {A : ℕ} {s t : Tree} (m : BinaryMark) → HasBinary g A (root s) (root t) m
+      → Mark.Binary m (word s) (word t) → Valid g s → Valid g t → Valid g (binary A s t)
 
 -- t is a valid tree of A over w (the paper: t witnesses that A derives w)
 pub record Witness (g : Rules) (A : ℕ) (w : Word) (t : Tree) : Type 0 where

@@ -1,4 +1,5 @@
-// A grammar in layout-sensitive binary normal form and a sentence with positions, as both sheets give them.
+// A grammar in layout-sensitive binary normal form and a sentence with positions, as both sheets
+// give them.
 ghost use mathlib.Core.Path.{_≡_};
 ghost use Prim.Native.Nat.{_+_};
 
@@ -7,7 +8,8 @@ pub struct Line(pub u16);
 
 pub struct Column(pub u16);
 
-// How many columns a token takes up, from its column on. It is compared with nothing, and `past` alone adds it to a column.
+// How many columns a token takes up, from its column on. It is compared with nothing, and `past`
+// alone adds it to a column.
 pub struct Width(pub u16);
 
 // The first column past a token of this width.
@@ -40,7 +42,8 @@ pub enum BinaryMark {
     Indent,
 }
 
-// What stands at the right of a rule, by 01's kinds: E, A, U, B. An A rule stands for the terminals from its first to its second number.
+// What stands at the right of a rule, by 01's kinds: E, A, U, B. An A rule stands for the terminals
+// from its first to its second number.
 pub enum Clause {
     Empty,
     Atom(u8, u8),
@@ -65,7 +68,8 @@ pub struct Sentence {
     pub count: usize,
 }
 
-// A token's place in a candidate of the sweep: its terminal, its line step (lines past the token before) and its column.
+// A token's place in a candidate of the sweep: its terminal, its line step (lines past the token
+// before) and its column.
 pub struct Cell {
     pub terminal: u8,
     pub step: u8,

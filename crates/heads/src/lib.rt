@@ -13,9 +13,11 @@ ghost use Rattle.grammar.specs.Content.{rules, SmallClause, Formed};
 ghost use Rattle.acyclic.specs.Exact.{Exactly};
 ghost use Rattle.pairs.specs.Survey.{Productive};
 ghost use Rattle.survey.specs.Closing.{LevelsOf};
-ghost use Rattle.heads.specs.Forms.{AllForm, FirstForm, SecondForm, FormBy, SaysForm, ShapedAs, shapeBy};
+ghost use Rattle.heads.specs.Forms.{AllForm, FirstForm, SecondForm, FormBy, SaysForm};
+ghost use Rattle.heads.specs.Forms.{ShapedAs, shapeBy};
 
-// A leaf's first and last terminal; one child that has tokens, with two marks of the word; two, with the mark between them and that of the word.
+// A leaf's first and last terminal; one child that has tokens, with two marks of the word; two,
+// with the mark between them and that of the word.
 pub enum Looks {
     Nothing,
     Tip(u8, u8),
@@ -111,7 +113,8 @@ fn form_by(kind: u8, nulls: u64, prods: u64, l: UnaryMark, c: Clause) -> Looks
 // The shape of this kind of the rule at p.
 pub fn head_of(g: Grammar, nulls: u64, prods: u64, levels: Levels, kind: u8, p: usize) -> Shaped
     requires { ⌜ Formed g × (p < g .count) ⌝ }
-    requires { ⌜ Exactly nulls (Nullable (rules g)) × Exactly prods (Productive (rules g)) × LevelsOf (rules g) levels ⌝ }
+    requires { ⌜ Exactly nulls (Nullable (rules g)) × Exactly prods (Productive (rules g))
+        × LevelsOf (rules g) levels ⌝ }
     ensures { λ r. ⌜ ShapedAs (rules g) (shapeBy kind p) r ⌝ }
 {
     let rule = g.rules[p];

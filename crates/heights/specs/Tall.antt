@@ -1,4 +1,5 @@
--- How high a clause stands over a span by a table of heights. For the contracts of inner functions only.
+-- How high a clause stands over a span by a table of heights. For the contracts of inner functions
+-- only.
 use mathlib.Core.Path.{_≡_}
 use mathlib.Core.List.{List, [], _∷_}
 use Prim.Native.Nat.{ℕ, suc, _+_, _-_, _≤_, _<_, max}
@@ -29,7 +30,8 @@ abbrev pub Tall : Heights → Leave → ℕ → ℕ → Clause → ℕ → ℕ �
 Tall hs v s len Clause.Empty l h = (len ≡ 0) × (l ≡ 0) × (h ≡ 1)
 Tall hs v s len (Clause.Atom a b) l h = (len ≡ 1) × (l ≡ 0) × v .atom a b × (h ≡ 1)
 Tall hs v s len (Clause.Unary B m) l h = v .unary m × (l ≡ 0) × (h ≡ suc (hs s len B))
-Tall hs v s len (Clause.Binary B C m) l h = (l ≤ len) × v .binary m l × (h ≡ suc (max (hs s l B) (hs (s + l) (len - l) C)))
+Tall hs v s len (Clause.Binary B C m) l h =
+    (l ≤ len) × v .binary m l × (h ≡ suc (max (hs s l B) (hs (s + l) (len - l) C)))
 
 -- what the words leave to a clause
 abbrev pub byWord : Word → ℕ → ℕ → Leave

@@ -1,5 +1,6 @@
-// The least heights of all trees of a sentence, one number for a nonterminal and a span: what the first tree of a looping
-// sheet goes by. Spans are settled from the shortest on; a span's numbers are lowered until no rule stands lower.
+// The least heights of all trees of a sentence, one number for a nonterminal and a span: what the
+// first tree of a looping sheet goes by. Spans are settled from the shortest on; a span's numbers
+// are lowered until no rule stands lower.
 use grammar::BinaryMark;
 use grammar::Clause;
 use grammar::Grammar;
@@ -25,7 +26,8 @@ ghost use Rattle.tables.specs.Tables.{byMarks};
 ghost use Rattle.marks.specs.Drafts.{drafted};
 ghost use Rattle.heights.specs.Least.{numberAt, HeightSheet};
 ghost use Rattle.heights.specs.Tall.{table, byWord, Measured, Lowest, Over, Room};
-ghost use Rattle.heights.specs.Falls.{Lowered, Idle, Passed, Between, Inner, Ends, AllEnds, Either, Stopped, Shut};
+ghost use Rattle.heights.specs.Falls.{Lowered, Idle, Passed, Between, Inner, Ends, AllEnds};
+ghost use Rattle.heights.specs.Falls.{Either, Stopped, Shut};
 ghost use Rattle.heights.specs.Filled.{Filled, Whole, Settling};
 ghost use Rattle.grammar.specs.Sentences.{spelled};
 
@@ -82,7 +84,8 @@ fn unary_tall(
 ) -> u16
     requires { ⌜ Room (now hs) n start len ⌝ }
     requires { ⌜ b < 64 ⌝ }
-    ensures { λ r. ⌜ Measured (table (now (hs .entry)) n) (byMarks k len) start len (Kind.Unary b m) left r ⌝ }
+    ensures { λ r. ⌜ Measured (table (now (hs .entry)) n) (byMarks k len) start len (Kind.Unary b m)
+        left r ⌝ }
 {
     if left != 0 {
         return 65535;
@@ -108,7 +111,8 @@ fn binary_tall(
 ) -> u16
     requires { ⌜ Room (now hs) n start len ⌝ }
     requires { ⌜ (b < 64) × (e < 64) ⌝ }
-    ensures { λ r. ⌜ Measured (table (now (hs .entry)) n) (byMarks k len) start len (Kind.Binary b e m) left r ⌝ }
+    ensures { λ r. ⌜ Measured (table (now (hs .entry)) n) (byMarks k len) start len
+        (Kind.Binary b e m) left r ⌝ }
 {
     if len < left {
         return 65535;
@@ -186,7 +190,8 @@ fn lower(
     k: SpanMarks,
 ) -> bool
     requires { ⌜ Room (now hs) n start len × SmallRule r ⌝ }
-    ensures { λ fell. ⌜ Passed (r ∷ []) (byMarks k len) n start len (Between 0 left (left + 1)) (now (hs .entry)) (now (hs .exit)) fell ⌝ }
+    ensures { λ fell. ⌜ Passed (r ∷ []) (byMarks k len) n start len (Between 0 left (left + 1))
+        (now (hs .entry)) (now (hs .exit)) fell ⌝ }
 {
     let c = r.clause;
     let h = tall(hs, n, c, start, len, left, k);
@@ -217,7 +222,8 @@ fn lowest_cut(
 ) -> u16
     requires { ⌜ Room (now hs) n start len ⌝ }
     requires { ⌜ (b < 64) × (e < 64) ⌝ }
-    ensures { λ r. ⌜ Lowest (table (now (hs .entry)) n) (byMarks k len) start len (Kind.Binary b e m) 1 len r ⌝ }
+    ensures { λ r. ⌜ Lowest (table (now (hs .entry)) n) (byMarks k len) start len
+        (Kind.Binary b e m) 1 len r ⌝ }
 {
     let mut best: u16 = 65535;
     let mut left: usize = 1;
@@ -232,7 +238,8 @@ fn lowest_cut(
 // Try the rule with a token or more on either side; only a binary rule can stand so.
 fn lower_split(hs: &mut [u16], n: usize, r: Rule, start: usize, len: usize, k: SpanMarks) -> bool
     requires { ⌜ Room (now hs) n start len × SmallRule r ⌝ }
-    ensures { λ fell. ⌜ Passed (r ∷ []) (byMarks k len) n start len (Between 0 1 len) (now (hs .entry)) (now (hs .exit)) fell ⌝ }
+    ensures { λ fell. ⌜ Passed (r ∷ []) (byMarks k len) n start len (Between 0 1 len)
+        (now (hs .entry)) (now (hs .exit)) fell ⌝ }
 {
     let c = r.clause;
     match c {
@@ -250,7 +257,8 @@ fn lower_split(hs: &mut [u16], n: usize, r: Rule, start: usize, len: usize, k: S
 // Each rule with a token or more on either side: shorter parts do not change, so once is enough.
 fn lower_inner(hs: &mut [u16], n: usize, g: Grammar, start: usize, len: usize, k: SpanMarks) -> bool
     requires { ⌜ Room (now hs) n start len × Formed g ⌝ }
-    ensures { λ r. ⌜ Passed (rules g) (byMarks k len) n start len (Inner len (g .count)) (now (hs .entry)) (now (hs .exit)) r ⌝ }
+    ensures { λ r. ⌜ Passed (rules g) (byMarks k len) n start len (Inner len (g .count))
+        (now (hs .entry)) (now (hs .exit)) r ⌝ }
 {
     let mut fell = false;
     let mut i = 0;
@@ -263,8 +271,8 @@ fn lower_inner(hs: &mut [u16], n: usize, g: Grammar, start: usize, len: usize, k
     fell
 }
 
-// Is the clause binary, and has neither side a height over the empty word? Then it stands nowhere with the empty word on
-// one side.
+// Is the clause binary, and has neither side a height over the empty word? Then it stands nowhere
+// with the empty word on one side.
 fn idle(hs: &[u16], n: usize, c: Clause) -> bool
     requires { ⌜ (length (now hs) ≡ 133184) × SmallClause c ⌝ }
     ensures { λ r. ⌜ (r ≡ true → Idle (now (hs .entry)) n c) ⌝ }
@@ -287,7 +295,8 @@ fn idle(hs: &[u16], n: usize, c: Clause) -> bool
 // Try the rule with the empty word on one side.
 fn lower_ends(hs: &mut [u16], n: usize, r: Rule, start: usize, len: usize, k: SpanMarks) -> bool
     requires { ⌜ Room (now hs) n start len × SmallRule r ⌝ }
-    ensures { λ fell. ⌜ Passed (r ∷ []) (byMarks k len) n start len (Ends len 0) (now (hs .entry)) (now (hs .exit)) fell ⌝ }
+    ensures { λ fell. ⌜ Passed (r ∷ []) (byMarks k len) n start len (Ends len 0) (now (hs .entry))
+        (now (hs .exit)) fell ⌝ }
 {
     let c = r.clause;
     if idle(hs, n, c) {
@@ -301,7 +310,8 @@ fn lower_ends(hs: &mut [u16], n: usize, r: Rule, start: usize, len: usize, k: Sp
 // Each rule with the empty word on one side.
 fn lower_all(hs: &mut [u16], n: usize, g: Grammar, start: usize, len: usize, k: SpanMarks) -> bool
     requires { ⌜ Room (now hs) n start len × Formed g ⌝ }
-    ensures { λ r. ⌜ Passed (rules g) (byMarks k len) n start len (AllEnds len (g .count)) (now (hs .entry)) (now (hs .exit)) r ⌝ }
+    ensures { λ r. ⌜ Passed (rules g) (byMarks k len) n start len (AllEnds len (g .count))
+        (now (hs .entry)) (now (hs .exit)) r ⌝ }
 {
     let mut fell = false;
     let mut i = 0;
@@ -317,7 +327,8 @@ fn lower_all(hs: &mut [u16], n: usize, g: Grammar, start: usize, len: usize, k: 
 // That, until nothing falls.
 fn lower_on(hs: &mut [u16], n: usize, g: Grammar, start: usize, len: usize, k: SpanMarks)
     requires { ⌜ Room (now hs) n start len × Formed g ⌝ }
-    ensures { λ r. ⌜ Stopped (rules g) (byMarks k len) n start len (AllEnds len (g .count)) (now (hs .entry)) (now (hs .exit)) ⌝ }
+    ensures { λ r. ⌜ Stopped (rules g) (byMarks k len) n start len (AllEnds len (g .count))
+        (now (hs .entry)) (now (hs .exit)) ⌝ }
 {
     loop {
         let more = lower_all(hs, n, g, start, len, k);
@@ -330,7 +341,8 @@ fn lower_on(hs: &mut [u16], n: usize, g: Grammar, start: usize, len: usize, k: S
 // Settle the numbers of the span.
 fn settle(hs: &mut [u16], d: Draft, g: Grammar, start: usize, len: usize)
     requires { ⌜ Settling d (now hs) start len × Formed g ⌝ }
-    ensures { λ r. ⌜ Shut (rules g) (byWord (drafted d) start len) (length (drafted d)) start len (now (hs .entry)) (now (hs .exit)) ⌝ }
+    ensures { λ r. ⌜ Shut (rules g) (byWord (drafted d) start len) (length (drafted d)) start len
+        (now (hs .entry)) (now (hs .exit)) ⌝ }
 {
     let n = d.count;
     let k = span_marks(d, start, len);

@@ -1,4 +1,5 @@
-// The pair of a span, found by the pairs of its parts: what stands by tokens and by shorter parts, then passes over the rules.
+// The pair of a span, found by the pairs of its parts: what stands by tokens and by shorter parts,
+// then passes over the rules.
 use codes::binary_mark_of;
 use codes::first_of;
 use codes::kind_of;
@@ -28,18 +29,22 @@ ghost use Rattle.codes.specs.Codes.{binaryMark, mark, decode, decoded};
 ghost use Rattle.grammar.specs.Content.{SmallRule};
 ghost use Rattle.marks.specs.Marked.{UnaryBy, BinaryBy};
 ghost use Rattle.tables.specs.Tables.{Room};
-ghost use Rattle.joins.specs.Passes.{Doubles, Found, Took, pairOf, sidesAt, Unpaired, Stretches, SplitFits, SplitBelow, SplitRow, none, Splits, LeafFits, Leaves, Beside, WholeSide, Pass, Saturated};
+ghost use Rattle.joins.specs.Passes.{Doubles, Found, Took, pairOf, sidesAt, Unpaired};
+ghost use Rattle.joins.specs.Passes.{Stretches, SplitFits, SplitBelow, SplitRow, none};
+ghost use Rattle.joins.specs.Passes.{Splits, LeafFits, Leaves, Beside, WholeSide, Pass};
+ghost use Rattle.joins.specs.Passes.{Saturated};
 ghost use Rattle.joins.specs.Passes.{Joins};
 
-// What a pass over the rules of a span has found: the nonterminals for which a rule stands, and the span's two sets with
-// what the pass adds.
+// What a pass over the rules of a span has found: the nonterminals for which a rule stands, and the
+// span's two sets with what the pass adds.
 pub struct Tally {
     pub seen: u64,
     pub one: u64,
     pub two: u64,
 }
 
-// The nonterminals that have two trees, with a rule for `a` besides: where `again` says so, or where it meets another.
+// The nonterminals that have two trees, with a rule for `a` besides: where `again` says so, or
+// where it meets another.
 fn doubled(t: Tally, a: u8, again: bool) -> u64
     requires { ⌜ a < 64 ⌝ }
     ensures { λ r. ⌜ Doubles t a again r ⌝ }
@@ -90,7 +95,8 @@ fn join(t: Tally, a: u8, b: u8, e: u8, p: Sides) -> Tally
 // Try it.
 fn try_join(t: Tally, a: u8, b: u8, e: u8, p: Sides) -> Tally
     requires { ⌜ (a < 64) × (b < 64) × (e < 64) ⌝ }
-    ensures { λ u. ⌜ Took (In (p .left .one) b × In (p .right .one) e) (In (p .left .two) b ⊎ In (p .right .two) e) a t u ⌝ }
+    ensures { λ u. ⌜ Took (In (p .left .one) b × In (p .right .one) e)
+        (In (p .left .two) b ⊎ In (p .right .two) e) a t u ⌝ }
 {
     if !has(p.left.one, b) {
         return t;
@@ -115,7 +121,8 @@ fn allows_split(k: SpanMarks, code: u64, left: usize, len: usize) -> bool
 // Try the rule of a code with `left` tokens on its left, its parts being the sides.
 fn try_split(t: Tally, code: u64, p: Sides, k: SpanMarks, left: usize, len: usize) -> Tally
     requires { ⌜ (left ≤ len) × (len ≤ 64) ⌝ }
-    ensures { λ u. ⌜ Took (SplitFits p k len left (decode code .clause)) (SplitBelow p (decode code .clause)) (decode code .left) t u ⌝ }
+    ensures { λ u. ⌜ Took (SplitFits p k len left (decode code .clause))
+        (SplitBelow p (decode code .clause)) (decode code .left) t u ⌝ }
 {
     if kind_of(code) < 3 {
         return t;
@@ -156,7 +163,8 @@ fn first_binary(codes: &[u64]) -> usize
 
 // The place past the last one, or 0.
 fn past_binary(codes: &[u64]) -> usize
-    ensures { λ r. ⌜ (r ≤ length (now (codes .entry))) × Unpaired (now (codes .entry)) r (length (now (codes .entry))) ⌝ }
+    ensures { λ r. ⌜ (r ≤ length (now (codes .entry))) × Unpaired (now (codes .entry)) r
+        (length (now (codes .entry))) ⌝ }
 {
     let mut i = codes.len();
     while 0 < i {
@@ -190,7 +198,8 @@ fn try_splits(
 ) -> Tally
     requires { ⌜ (left ≤ len) × (len ≤ 64) ⌝ }
     requires { ⌜ Stretches (now codes) s ⌝ }
-    ensures { λ u. ⌜ SplitRow p k len left (decoded (now (codes .entry))) t (length (decoded (now (codes .entry)))) u ⌝ }
+    ensures { λ u. ⌜ SplitRow p k len left (decoded (now (codes .entry))) t
+        (length (decoded (now (codes .entry)))) u ⌝ }
 {
     let to = s.to;
     let mut u = t;
@@ -214,7 +223,8 @@ fn try_parts(
 ) -> Tally
     requires { ⌜ (left ≤ len) × (len ≤ 64) ⌝ }
     requires { ⌜ Stretches (now codes) s ⌝ }
-    ensures { λ u. ⌜ SplitRow p k len left (decoded (now (codes .entry))) t (length (decoded (now (codes .entry)))) u ⌝ }
+    ensures { λ u. ⌜ SplitRow p k len left (decoded (now (codes .entry))) t
+        (length (decoded (now (codes .entry)))) u ⌝ }
 {
     if p.left.one == 0 {
         return t;
@@ -263,7 +273,8 @@ pub fn blank() -> Tally
 fn splits(words: &[u64], n: usize, codes: &[u64], start: usize, len: usize, k: SpanMarks) -> Tally
     requires { ⌜ Room (now words) n start len ⌝ }
     requires { ⌜ 0 < len ⌝ }
-    ensures { λ t. ⌜ Splits (now (words .entry)) n start len k (decoded (now (codes .entry))) len t ⌝ }
+    ensures { λ t. ⌜ Splits (now (words .entry)) n start len k (decoded (now (codes .entry))) len
+        t ⌝ }
 {
     let s = binaries(codes);
     let mut t = blank();
@@ -300,7 +311,8 @@ pub fn try_leaf(t: Tally, r: Rule, k: SpanMarks, len: usize) -> Tally
 
 // What stands over no token or one by itself.
 pub fn leaves(codes: &[u64], k: SpanMarks, len: usize) -> Tally
-    ensures { λ t. ⌜ Leaves k len (decoded (now (codes .entry))) (length (decoded (now (codes .entry)))) t ⌝ }
+    ensures { λ t. ⌜ Leaves k len (decoded (now (codes .entry)))
+        (length (decoded (now (codes .entry)))) t ⌝ }
 {
     let mut t = blank();
     let mut i = 0;
@@ -356,7 +368,8 @@ fn try_right_empty(t: Tally, a: u8, b: u8, e: u8, one: u64, two: u64) -> Tally
     try_join(t, a, b, e, p)
 }
 
-// Try a binary clause over the span and the empty word, whose pair is `one` and `two`; the span is of `len` tokens.
+// Try a binary clause over the span and the empty word, whose pair is `one` and `two`; the span is
+// of `len` tokens.
 pub fn try_beside(t: Tally, a: u8, b: u8, e: u8, one: u64, two: u64, len: usize) -> Tally
     requires { ⌜ (a < 64) × (b < 64) × (e < 64) ⌝ }
     ensures { λ u. ⌜ Beside one two len a b e t u ⌝ }
@@ -437,7 +450,8 @@ pub fn unchanged(f: u64, g: u64, a: u64, b: u64) -> bool
 pub fn close(words: &mut [u64], n: usize, codes: &[u64], k: SpanMarks, start: usize, len: usize)
     requires { ⌜ Room (now words) n start len ⌝ }
     requires { ⌜ 2 ≤ len ⌝ }
-    ensures { λ r. ⌜ Joins (now (words .entry)) (now (words .exit)) (decoded (now (codes .entry))) n start len k ⌝ }
+    ensures { λ r. ⌜ Joins (now (words .entry)) (now (words .exit)) (decoded (now (codes .entry))) n
+        start len k ⌝ }
 {
     let b = splits(words, n, codes, start, len, k);
     let t = saturate(b, codes, k, words[0], words[1], len);

@@ -17,19 +17,27 @@ use Rattle.lengths.specs.Passes.{Sound, Idle, Held}
 use Rattle.lengths.specs.Books.{Booked, Appended}
 use Rattle.lengths.proofs.Growing.{sound-more, exact-more}
 
-module _ (b : Book) (r : Rule) (k : Booked b) (room : b .grammar .count < 128) (small : SmallRule r) where
+module _ (b : Book) (r : Rule) (k : Booked b) (room : b .grammar .count < 128)
+    (small : SmallRule r) where
   -- the grammar with r at its end
   abbrev pub longer : Grammar
-  longer = record { rules = set (b .grammar .rules) (b .grammar .count) r; count = b .grammar .count + 1 }
+  longer = record {
+    rules = set (b .grammar .rules) (b .grammar .count) r;
+    count = b .grammar .count
+        + 1;
+  }
 
   pub rules-longer : rules longer ≡ rules (b .grammar) ++ (r ∷ [])
-  rules-longer = rw (add-one (b .grammar .count)) (take-suc-set (b .grammar .rules) (b .grammar .count) r (omega (arith, k .long)))
+  rules-longer = rw (add-one (b .grammar .count))
+      (take-suc-set (b .grammar .rules) (b .grammar .count) r (omega (arith, k .long)))
 
   pub held-longer : Held longer
   held-longer = record {
     few = omega arith;
-    whole = length-take-le (b .grammar .count + 1) (set (b .grammar .rules) (b .grammar .count) r) (simp length-set (omega (arith, k .long)));
-    small = rw rules-longer (every-append SmallRule (rules (b .grammar)) (r ∷ []) (k .held .small) (small, tt));
+    whole = length-take-le (b .grammar .count + 1) (set (b .grammar .rules) (b .grammar .count) r)
+        (simp length-set (omega (arith, k .long)));
+    small = rw rules-longer (every-append SmallRule (rules (b .grammar)) (r ∷ []) (k .held .small)
+        (small, tt));
   }
 
   pub sound-longer : Sound (rules longer) (b .index)
@@ -38,7 +46,8 @@ module _ (b : Book) (r : Rule) (k : Booked b) (room : b .grammar .count < 128) (
   pub exact-longer : Idle (b .index) r → Exact (rules longer) (b .index)
   exact-longer i = rw rules-longer (exact-more r (k .held .small) (k .exact) i)
 
-  pub appended : {x : Index} → Exact (rules longer) x → Appended b r (record { grammar = longer; index = x })
+  pub appended : {x : Index} → Exact (rules longer) x
+      → Appended b r (record { grammar = longer; index = x })
   appended e = record {
     booked = record { long = simp length-set (k .long); held = held-longer; exact = e };
     count = refl;

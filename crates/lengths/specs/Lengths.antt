@@ -26,7 +26,8 @@ abbrev pub unmarked : Rules → Rules
 unmarked [] = []
 unmarked (r ∷ g) = unmarkedRule r ∷ unmarked g
 
--- A can have length n when all marks are ignored: under the rules so read it has a valid tree of some word of n tokens
+-- A can have length n when all marks are ignored: under the rules so read it has a valid tree of
+-- some word of n tokens
 pub record CanHave (g : Rules) (A n : ℕ) : Type 0 where
   pub word : Word
   pub size : length word ≡ n

@@ -64,14 +64,16 @@ pub record Applied (x : Index) (r : Rule) (y : Index) : Type 0 where
   pub shaped : Shaped y
   pub more : (A : ℕ) → at x A ≤ at y A
   pub adds : (n : ℕ) → GivesByIndex x (r .clause) n → In (at y (r .left)) n
-  pub only : (A n : ℕ) → In (at y A) n → In (at x A) n ⊎ ((r .left ≡ A) × GivesByIndex x (r .clause) n)
+  pub only : (A n : ℕ) → In (at y A) n
+      → In (at x A) n ⊎ ((r .left ≡ A) × GivesByIndex x (r .clause) n)
 
 -- A can have length n, by the rules: `CanHave` without its tree
 pub data Possible (g : Rules) : ℕ → ℕ → Type 0 where
   by-empty : {A : ℕ} → HasEmpty g A → Possible g A 0
   by-atom : {A : ℕ} (a : ℕ) → HasAtom g A a → Possible g A 1
   by-unary : {A n : ℕ} (B : ℕ) (m : UnaryMark) → HasUnary g A B m → Possible g B n → Possible g A n
-  by-binary : {A n : ℕ} (B C i j : ℕ) (m : BinaryMark) → HasBinary g A B C m → Possible g B i → Possible g C j → n ≡ i + j → Possible g A n
+  by-binary : {A n : ℕ} (B C i j : ℕ) (m : BinaryMark) → HasBinary g A B C m → Possible g B i
+      → Possible g C j → n ≡ i + j → Possible g A n
 
 -- all that x has is possible
 pub record Sound (g : Rules) (x : Index) : Type 0 where
@@ -82,7 +84,8 @@ pub record Sound (g : Rules) (x : Index) : Type 0 where
 pub record Passed (g : Rules) (p : ℕ) (x y : Index) : Type 0 where
   pub sound : Sound g y
   pub more : (A : ℕ) → at x A ≤ at y A
-  pub still : y ≡ x → (q : ℕ) → q < p → (r : Rule) → getElem? g q ≡ some r → (n : ℕ) → GivesByIndex x (r .clause) n → In (at x (r .left)) n
+  pub still : y ≡ x → (q : ℕ) → q < p → (r : Rule) → getElem? g q ≡ some r → (n : ℕ)
+      → GivesByIndex x (r .clause) n → In (at x (r .left)) n
 
 -- the rule gives x nothing that x lacks
 pub record Idle (x : Index) (r : Rule) : Type 0 where

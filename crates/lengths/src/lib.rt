@@ -1,4 +1,5 @@
-// Which lengths 0 to 7 each nonterminal can have when all marks are ignored, kept true rule by rule.
+// Which lengths 0 to 7 each nonterminal can have when all marks are ignored, kept true rule by
+// rule.
 use grammar::Clause;
 use grammar::Grammar;
 use grammar::Rule;
@@ -10,7 +11,8 @@ ghost use Rattle.sets.specs.Says.{Says};
 ghost use Rattle.grammar.specs.Content.{rules, Formed, SmallRule};
 ghost use Rattle.lengths.specs.Indexes.{Shaped, Exact};
 ghost use Rattle.lengths.specs.Books.{Booked, Appended};
-ghost use Rattle.lengths.specs.Passes.{SumTo, Has, firstOf, secondOf, Makes, Sound, Passed, Idle, Held, weigh};
+ghost use Rattle.lengths.specs.Passes.{SumTo, Has, firstOf, secondOf, Makes, Sound, Passed};
+ghost use Rattle.lengths.specs.Passes.{Idle, Held, weigh};
 
 // For each nonterminal the set of its lengths.
 pub struct Index {
@@ -183,7 +185,8 @@ pub fn no_book() -> Book
     }
 }
 
-// The book with one rule more, its index true again: the same one, if the rule gives it nothing new.
+// The book with one rule more, its index true again: the same one, if the rule gives it nothing
+// new.
 pub fn append(b: Book, r: Rule) -> Book
     requires { ⌜ Booked b × (b .grammar .count < 128) × SmallRule r ⌝ }
     ensures { λ x. ⌜ Appended b r x ⌝ }

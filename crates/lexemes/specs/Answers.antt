@@ -6,12 +6,14 @@ use mathlib.Core.Bool.{cond}
 use mathlib.Core.Option.{Option, none, some}
 use lib.ListN.{length, drop, getD}
 use Rattle.clauses.specs.Clauses as C
-use Rattle.clauses.specs.Text.{maybe, repeats, marks, Lex, n, t, opening, closing, bar, suffix, join}
+use Rattle.clauses.specs.Text.{maybe, repeats, marks, Lex, n, t, opening, closing, bar, suffix}
+use Rattle.clauses.specs.Text.{join}
 use Rattle.lexemes.specs.declared.Lexeme.{Lexeme}
 use Rattle.lexemes.specs.declared.Lexeme.the-variants as Lexeme
 use Rattle.lexemes.specs.declared.Lexed.{Lexed}
 use Rattle.lexemes.specs.declared.Counted.{Counted}
-use Rattle.lexemes.specs.Lexemes.{LexFound, starts, ranged, numbered, Sign, sign, signs, lexemes, ontoLexemes}
+use Rattle.lexemes.specs.Lexemes.{LexFound, starts, ranged, numbered, Sign, sign, signs}
+use Rattle.lexemes.specs.Lexemes.{lexemes, ontoLexemes}
 
 -- a lexeme as an enum of the code
 abbrev pub lexemeOf : Lex → Lexeme
@@ -46,8 +48,11 @@ pub record Numbers (o : Option ℕ) (r : ℕ) : Type 0 where
 
 -- the number behind the letter at a place
 pub record NumberAt (s : List ℕ) (at : ℕ) (r : Counted) : Type 0 where
-  pub is : r .value < 64 → (f : ℕ → Lex) → asLexed at (numbered f (drop 1 (drop at s))) ≡ record { lexeme = lexemeOf (f (r .value)); end = r .end }
-  pub isnt : 64 ≤ r .value → (f : ℕ → Lex) → asLexed at (numbered f (drop 1 (drop at s))) ≡ record { lexeme = Lexeme.Not; end = at }
+  pub is : r .value < 64 → (f : ℕ → Lex)
+      → asLexed at (numbered f (drop 1 (drop at s))) ≡ record
+      { lexeme = lexemeOf (f (r .value)); end = r .end }
+  pub isnt : 64 ≤ r .value → (f : ℕ → Lex)
+      → asLexed at (numbered f (drop 1 (drop at s))) ≡ record { lexeme = Lexeme.Not; end = at }
 
 -- the lexeme x stands at a place and ends at e
 pub record Front (s : List ℕ) (at : ℕ) (x : Lex) (e : ℕ) : Type 0 where

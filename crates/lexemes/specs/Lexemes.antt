@@ -1,4 +1,5 @@
--- The bytes of an expression as lexemes. 02, request 2: items, what may stand after them, and what stands between them.
+-- The bytes of an expression as lexemes. 02, request 2: items, what may stand after them, and what
+-- stands between them.
 use Prim.Native.Nat.{ℕ, zero, suc, _+_, _-_}
 use mathlib.Core.List.{List, [], _∷_}
 use mathlib.Core.Bool.{Bool, true, false, cond, _&&_}
@@ -9,7 +10,8 @@ use Rattle.grammar.specs.declared.UnaryMark.the-variants as UnaryMark
 use Rattle.grammar.specs.declared.BinaryMark.the-variants as BinaryMark
 use Rattle.fields.specs.Words.{isDigit, numeralOf}
 use Rattle.clauses.specs.Clauses as C
-use Rattle.clauses.specs.Text.{maybe, repeats, marks, Lex, n, t, opening, closing, bar, suffix, join}
+use Rattle.clauses.specs.Text.{maybe, repeats, marks, Lex, n, t, opening, closing, bar, suffix}
+use Rattle.clauses.specs.Text.{join}
 
 -- a lexeme with the number of its bytes, if there is one
 abbrev pub LexFound : Type 0
@@ -37,7 +39,8 @@ numbered f s = ranged f (1 + length (frontDigits s)) (numeralOf (frontDigits s))
 
 -- n4 t2
 abbrev pub items : List ℕ → LexFound
-items s = cond (starts (110 ∷ []) s) (numbered n (drop 1 s)) (cond (starts (116 ∷ []) s) (numbered t (drop 1 s)) none)
+items s = cond (starts (110 ∷ []) s) (numbered n (drop 1 s))
+    (cond (starts (116 ∷ []) s) (numbered t (drop 1 s)) none)
 
 -- a sign: its bytes, and the lexeme that it is
 pub record Sign : Type 0 where
@@ -60,13 +63,16 @@ signs =
     ∷ sign (32 ∷ []) (join BinaryMark.None)
     -- ? +:align + *:align *
     ∷ sign (63 ∷ []) (suffix maybe)
-    ∷ sign (43 ∷ 58 ∷ 97 ∷ 108 ∷ 105 ∷ 103 ∷ 110 ∷ []) (suffix (repeats C.from-one BinaryMark.Align))
+    ∷ sign (43 ∷ 58 ∷ 97 ∷ 108 ∷ 105 ∷ 103 ∷ 110 ∷ [])
+    (suffix (repeats C.from-one BinaryMark.Align))
     ∷ sign (43 ∷ []) (suffix (repeats C.from-one BinaryMark.None))
-    ∷ sign (42 ∷ 58 ∷ 97 ∷ 108 ∷ 105 ∷ 103 ∷ 110 ∷ []) (suffix (repeats C.from-zero BinaryMark.Align))
+    ∷ sign (42 ∷ 58 ∷ 97 ∷ 108 ∷ 105 ∷ 103 ∷ 110 ∷ [])
+    (suffix (repeats C.from-zero BinaryMark.Align))
     ∷ sign (42 ∷ []) (suffix (repeats C.from-zero BinaryMark.None))
     -- :offside :offalign :single
     ∷ sign (58 ∷ 111 ∷ 102 ∷ 102 ∷ 115 ∷ 105 ∷ 100 ∷ 101 ∷ []) (suffix (marks UnaryMark.Offside))
-    ∷ sign (58 ∷ 111 ∷ 102 ∷ 102 ∷ 97 ∷ 108 ∷ 105 ∷ 103 ∷ 110 ∷ []) (suffix (marks UnaryMark.Offalign))
+    ∷ sign (58 ∷ 111 ∷ 102 ∷ 102 ∷ 97 ∷ 108 ∷ 105 ∷ 103 ∷ 110 ∷ [])
+    (suffix (marks UnaryMark.Offalign))
     ∷ sign (58 ∷ 115 ∷ 105 ∷ 110 ∷ 103 ∷ 108 ∷ 101 ∷ []) (suffix (marks UnaryMark.Single))
     ∷ []
 

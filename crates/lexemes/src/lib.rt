@@ -7,9 +7,11 @@ ghost use Prim.Native.Nat.{_+_, _≤_, _<_};
 ghost use lib.ListN.{length, drop};
 ghost use Rattle.lexemes.specs.Lexemes.{starts, frontDigits, items, lexeme as found};
 ghost use Rattle.fields.specs.Words.{numeralOf};
-ghost use Rattle.lexemes.specs.Answers.{lexemeOf, asLexed, signAt, standing, Numbers, NumberAt, Lexes};
+ghost use Rattle.lexemes.specs.Answers.{lexemeOf, asLexed, signAt, standing, Numbers};
+ghost use Rattle.lexemes.specs.Answers.{NumberAt, Lexes};
 
-// n4, t2, (, ), a bar between blanks, ?, + and +:align, * and *:align, :offside and the like, a blank or a binding between blanks; no bytes left; no lexeme.
+// n4, t2, (, ), a bar between blanks, ?, + and +:align, * and *:align, :offside and the like, a
+// blank or a binding between blanks; no bytes left; no lexeme.
 pub enum Lexeme {
     Nonterminal(u8),
     Terminal(u8),

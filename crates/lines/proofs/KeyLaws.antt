@@ -15,7 +15,8 @@ use Rattle.grammar.specs.Trees.{Covers}
 use Rattle.lines.specs.Keys.{keyWith, keyOf, sameKey}
 use Rattle.grammar.specs.Distinct.{Alike}
 
-alike-key : (l m : ℕ) (c d : Clause) → l ≡ m → Alike c d → sameKey (keyWith l c) (keyWith m d) ≡ true
+alike-key : (l m : ℕ) (c d : Clause) → l ≡ m → Alike c d
+    → sameKey (keyWith l c) (keyWith m d) ≡ true
 alike-key l m Clause.Empty Clause.Empty e a = rw (eq-eqb l m e) refl
 alike-key l m Clause.Empty (Clause.Atom x y) e a = absurd a
 alike-key l m Clause.Empty (Clause.Unary B n) e a = absurd a
@@ -34,7 +35,8 @@ alike-key l m (Clause.Unary A k) (Clause.Binary B C n) e a = absurd a
 alike-key l m (Clause.Binary A D k) Clause.Empty e a = absurd a
 alike-key l m (Clause.Binary A D k) (Clause.Atom x y) e a = absurd a
 alike-key l m (Clause.Binary A D k) (Clause.Unary B n) e a = absurd a
-alike-key l m (Clause.Binary A D k) (Clause.Binary B C n) e a = rw (eq-eqb l m e, eq-eqb A B (a .0), eq-eqb D C (a .1)) refl
+alike-key l m (Clause.Binary A D k) (Clause.Binary B C n) e a =
+    rw (eq-eqb l m e, eq-eqb A B (a .0), eq-eqb D C (a .1)) refl
 
 alike-sym : (c d : Clause) → Alike c d → Alike d c
 alike-sym Clause.Empty Clause.Empty a = a
@@ -55,14 +57,18 @@ alike-sym (Clause.Binary A D k) (Clause.Unary B n) a = absurd a
 alike-sym (Clause.Binary A D k) (Clause.Binary B C n) a = (sym (a .0), sym (a .1))
 
 -- refusal 5 sees rules that are alike, whichever stands first
-pub key-same : (r s : Rule) → r .left ≡ s .left → Alike (r .clause) (s .clause) → sameKey (keyOf r) (keyOf s) ≡ true
+pub key-same : (r s : Rule) → r .left ≡ s .left → Alike (r .clause) (s .clause)
+    → sameKey (keyOf r) (keyOf s) ≡ true
 key-same r s e a = alike-key (r .left) (s .left) (r .clause) (s .clause) e a
 
-pub key-back : (r s : Rule) → r .left ≡ s .left → Alike (r .clause) (s .clause) → sameKey (keyOf s) (keyOf r) ≡ true
-key-back r s e a = alike-key (s .left) (r .left) (s .clause) (r .clause) (sym e) (alike-sym (r .clause) (s .clause) a)
+pub key-back : (r s : Rule) → r .left ≡ s .left → Alike (r .clause) (s .clause)
+    → sameKey (keyOf s) (keyOf r) ≡ true
+key-back r s e a = alike-key (s .left) (r .left) (s .clause) (r .clause) (sym e)
+    (alike-sym (r .clause) (s .clause) a)
 
 -- ranges that do not reverse meet only where they share a terminal
-pub meets-shared : (a b c d : ℕ) → a ≤ b → c ≤ d → a ≤ d → c ≤ b → (x : ℕ) × Covers a b x × Covers c d x
+pub meets-shared : (a b c d : ℕ) → a ≤ b → c ≤ d → a ≤ d → c ≤ b
+    → (x : ℕ) × Covers a b x × Covers c d x
 meets-shared a b c d h i p q = go (decLe a c)
   where
     go : Dec (a ≤ c) → (x : ℕ) × Covers a b x × Covers c d x
@@ -81,7 +87,8 @@ Forward (Clause.Binary B C m) = Unit {0}
 never : false ≡ true → ⊥
 never e = clash cc
 
-key-with : (l m : ℕ) (c d : Clause) → Forward c → Forward d → sameKey (keyWith l c) (keyWith m d) ≡ true → (l ≡ m) × Alike c d
+key-with : (l m : ℕ) (c d : Clause) → Forward c → Forward d
+    → sameKey (keyWith l c) (keyWith m d) ≡ true → (l ≡ m) × Alike c d
 key-with l m Clause.Empty Clause.Empty h i e = (eqb-true l m (both (eqb l m) true e .0), tt)
 key-with l m Clause.Empty (Clause.Atom x y) h i e = absurd (never (both (eqb l m) false e .1))
 key-with l m Clause.Empty (Clause.Unary B n) h i e = absurd (never (both (eqb l m) false e .1))
@@ -92,20 +99,25 @@ key-with l m (Clause.Atom x y) (Clause.Atom v w) h i e =
     let j = both (leb x w) (leb v y) (k .1) in
     (eqb-true l m (k .0), meets-shared x y v w h i (leb-true x w (j .0)) (leb-true v y (j .1)))
 key-with l m (Clause.Atom x y) (Clause.Unary B n) h i e = absurd (never (both (eqb l m) false e .1))
-key-with l m (Clause.Atom x y) (Clause.Binary B C n) h i e = absurd (never (both (eqb l m) false e .1))
+key-with l m (Clause.Atom x y) (Clause.Binary B C n) h i e =
+    absurd (never (both (eqb l m) false e .1))
 key-with l m (Clause.Unary A k) Clause.Empty h i e = absurd (never (both (eqb l m) false e .1))
 key-with l m (Clause.Unary A k) (Clause.Atom x y) h i e = absurd (never (both (eqb l m) false e .1))
 key-with l m (Clause.Unary A k) (Clause.Unary B n) h i e =
     let q = both (eqb l m) (eqb A B && eqb 0 0) e in
     (eqb-true l m (q .0), eqb-true A B (both (eqb A B) (eqb 0 0) (q .1) .0))
-key-with l m (Clause.Unary A k) (Clause.Binary B C n) h i e = absurd (never (both (eqb l m) false e .1))
+key-with l m (Clause.Unary A k) (Clause.Binary B C n) h i e =
+    absurd (never (both (eqb l m) false e .1))
 key-with l m (Clause.Binary A D k) Clause.Empty h i e = absurd (never (both (eqb l m) false e .1))
-key-with l m (Clause.Binary A D k) (Clause.Atom x y) h i e = absurd (never (both (eqb l m) false e .1))
-key-with l m (Clause.Binary A D k) (Clause.Unary B n) h i e = absurd (never (both (eqb l m) false e .1))
+key-with l m (Clause.Binary A D k) (Clause.Atom x y) h i e =
+    absurd (never (both (eqb l m) false e .1))
+key-with l m (Clause.Binary A D k) (Clause.Unary B n) h i e =
+    absurd (never (both (eqb l m) false e .1))
 key-with l m (Clause.Binary A D k) (Clause.Binary B C n) h i e =
     let q = both (eqb l m) (eqb A B && eqb D C) e in
     let j = both (eqb A B) (eqb D C) (q .1) in
     (eqb-true l m (q .0), (eqb-true A B (j .0), eqb-true D C (j .1)))
 
-pub key-alike : (r s : Rule) → Forward (r .clause) → Forward (s .clause) → sameKey (keyOf r) (keyOf s) ≡ true → (r .left ≡ s .left) × Alike (r .clause) (s .clause)
+pub key-alike : (r s : Rule) → Forward (r .clause) → Forward (s .clause)
+    → sameKey (keyOf r) (keyOf s) ≡ true → (r .left ≡ s .left) × Alike (r .clause) (s .clause)
 key-alike r s = key-with (r .left) (s .left) (r .clause) (s .clause)

@@ -21,7 +21,9 @@ use Rattle.fields.proofs.Pick.{either}
 use Rattle.fields.proofs.Fields.{with-holds, end-holds}
 use Rattle.lines.specs.declared.RuleLine.{RuleLine}
 use Rattle.lines.specs.declared.RuleLine.the-variants.{Good, Form, Range, Unfit, Reversed}
-use Rattle.lines.specs.RuleLines.{shape, plainRule, atomRule, upTo, unaryRule, binaryRule, layRule, ruleOf, afterLay, afterSecond, afterFirst, afterKind, afterLeft, ruleFields, ruleLine}
+use Rattle.lines.specs.RuleLines.{shape, plainRule, atomRule, upTo, unaryRule, binaryRule}
+use Rattle.lines.specs.RuleLines.{layRule, ruleOf, afterLay, afterSecond, afterFirst}
+use Rattle.lines.specs.RuleLines.{afterKind, afterLeft, ruleFields, ruleLine}
 
 -- a rule that is given is small
 abbrev Fine : RuleLine → Type 0
@@ -40,7 +42,8 @@ plain-fine l c h k Lay.Align = tt
 plain-fine l c h k Lay.Indent = tt
 
 atom-fine : (l a b : ℕ) → l < 64 → a < 64 → b < 64 → (y : Lay) → Fine (atomRule l a b y)
-atom-fine l a b h i j Lay.None = either Fine (leb a b) (λ e. record { left = h; clause = (i, j) }) (λ e. tt)
+atom-fine l a b h i j Lay.None =
+    either Fine (leb a b) (λ e. record { left = h; clause = (i, j) }) (λ e. tt)
 atom-fine l a b h i j Lay.Offside = tt
 atom-fine l a b h i j Lay.Offalign = tt
 atom-fine l a b h i j Lay.Single = tt
@@ -63,7 +66,8 @@ binary-fine l a b h j k Lay.Single = tt
 binary-fine l a b h j k Lay.Align = record { left = h; clause = (j, k) }
 binary-fine l a b h j k Lay.Indent = record { left = h; clause = (j, k) }
 
-lay-fine : (l : ℕ) (k : Kind) (a b : ℕ) → l < 64 → a < 64 → b < 64 → (y : Lay) → Fine (layRule l k a b y)
+lay-fine : (l : ℕ) (k : Kind) (a b : ℕ) → l < 64 → a < 64 → b < 64 → (y : Lay)
+    → Fine (layRule l k a b y)
 lay-fine l Kind.E a b h i j y = plain-fine l Clause.Empty h tt y
 lay-fine l Kind.A a b h i j y = atom-fine l a b h i j y
 lay-fine l Kind.U a b h i j y = unary-fine l a h i y
@@ -77,8 +81,9 @@ of-fine l k a b y =
     either Fine (shape k (a .dash) (b .dash))
     (λ e. either Fine (leb l 63)
     (λ h. either Fine (leb (a .value) 63)
-    (λ i. either Fine (leb (upTo a b) 63) (λ j. lay-fine l k (a .value) (upTo a b) (below l h) (below (a .value) i) (below (upTo a b) j) y) (λ j. tt)) (λ i. tt)) (λ h. tt))
-    (λ e. tt)
+    (λ i. either Fine (leb (upTo a b) 63)
+    (λ j. lay-fine l k (a .value) (upTo a b) (below l h) (below (a .value) i)
+    (below (upTo a b) j) y) (λ j. tt)) (λ i. tt)) (λ h. tt)) (λ e. tt)
 
 fields-fine : (fs : List (List ℕ)) → Fine (ruleFields fs)
 fields-fine =
@@ -86,7 +91,8 @@ fields-fine =
     (λ l. with-holds Fine Form tt kindOf (afterKind l)
     (λ k. with-holds Fine Form tt operandOf (afterFirst l k)
     (λ a. with-holds Fine Form tt operandOf (afterSecond l k a)
-    (λ b. with-holds Fine Form tt layOf (afterLay l k a b) (λ y. end-holds Fine Form tt (ruleOf l k a b y) (of-fine l k a b y))))))
+    (λ b. with-holds Fine Form tt layOf (afterLay l k a b)
+    (λ y. end-holds Fine Form tt (ruleOf l k a b y) (of-fine l k a b y))))))
 
 pub line-small : (line : List ℕ) (r : Rule) → ruleLine line ≡ Good r → SmallRule r
 line-small line r e = rw e at (fields-fine (pieces 32 line))

@@ -1,4 +1,5 @@
--- What a field method answered, at a reader of fields that goes on with k: one law for each kind of answer.
+-- What a field method answered, at a reader of fields that goes on with k: one law for each kind of
+-- answer.
 use mathlib.Core.Path.{_≡_, refl}
 use mathlib.Core.List.{List}
 use mathlib.Core.Option.{Option, none, some}
@@ -18,7 +19,8 @@ use Rattle.fields.specs.Answers.{numberField, kindField, layField, operandField
 use Rattle.fields.proofs.Fields.{with-good, with-bad}
 use Rattle.fields.specs.Cursors.{fieldsLeft, readField}
 
-number-is : (o : Option (ℕ × Cursor)) (v : ℕ) (d : Cursor) → NumberField.Is v d ≡ numberField o → some (v, d) ≡ o
+number-is : (o : Option (ℕ × Cursor)) (v : ℕ) (d : Cursor) → NumberField.Is v d ≡ numberField o
+    → some (v, d) ≡ o
 number-is (some x) v d e =
     let p : v ≡ x .0 = cc in
     let q : d ≡ x .1 = cc in
@@ -30,14 +32,19 @@ number-not (some x) e = let z : _≡_ {A = ℕ} 0 1 = cc in absurd (omega arith)
 number-not none e = refl
 
 module _ {R : Type 0} (bad : R) (k : ℕ → List (List ℕ) → R) (s : List ℕ) (c : Cursor) where
-  pub number-good : (v : ℕ) (d : Cursor) → NumberField.Is v d ≡ numberField (readField numeralOf c (fieldsLeft s c))
+  pub number-good : (v : ℕ) (d : Cursor)
+      → NumberField.Is v d ≡ numberField (readField numeralOf c (fieldsLeft s c))
       → (withField bad numeralOf (fieldsLeft s c) k ≡ k v (fieldsLeft s d)) × (d .end ≡ c .end)
-  number-good v d e = with-good bad numeralOf k s c d v (number-is (readField numeralOf c (fieldsLeft s c)) v d e)
+  number-good v d e =
+      with-good bad numeralOf k s c d v (number-is (readField numeralOf c (fieldsLeft s c)) v d e)
 
-  pub number-bad : NumberField.Bad ≡ numberField (readField numeralOf c (fieldsLeft s c)) → withField bad numeralOf (fieldsLeft s c) k ≡ bad
-  number-bad e = with-bad bad numeralOf k c (fieldsLeft s c) (number-not (readField numeralOf c (fieldsLeft s c)) e)
+  pub number-bad : NumberField.Bad ≡ numberField (readField numeralOf c (fieldsLeft s c))
+      → withField bad numeralOf (fieldsLeft s c) k ≡ bad
+  number-bad e = with-bad bad numeralOf k c (fieldsLeft s c)
+      (number-not (readField numeralOf c (fieldsLeft s c)) e)
 
-kind-is : (o : Option (Kind × Cursor)) (v : Kind) (d : Cursor) → KindField.Is v d ≡ kindField o → some (v, d) ≡ o
+kind-is : (o : Option (Kind × Cursor)) (v : Kind) (d : Cursor) → KindField.Is v d ≡ kindField o
+    → some (v, d) ≡ o
 kind-is (some x) v d e =
     let p : v ≡ x .0 = cc in
     let q : d ≡ x .1 = cc in
@@ -49,14 +56,19 @@ kind-not (some x) e = let z : _≡_ {A = ℕ} 0 1 = cc in absurd (omega arith)
 kind-not none e = refl
 
 module _ {R : Type 0} (bad : R) (k : Kind → List (List ℕ) → R) (s : List ℕ) (c : Cursor) where
-  pub kind-good : (v : Kind) (d : Cursor) → KindField.Is v d ≡ kindField (readField kindOf c (fieldsLeft s c))
+  pub kind-good : (v : Kind) (d : Cursor)
+      → KindField.Is v d ≡ kindField (readField kindOf c (fieldsLeft s c))
       → (withField bad kindOf (fieldsLeft s c) k ≡ k v (fieldsLeft s d)) × (d .end ≡ c .end)
-  kind-good v d e = with-good bad kindOf k s c d v (kind-is (readField kindOf c (fieldsLeft s c)) v d e)
+  kind-good v d e =
+      with-good bad kindOf k s c d v (kind-is (readField kindOf c (fieldsLeft s c)) v d e)
 
-  pub kind-bad : KindField.Bad ≡ kindField (readField kindOf c (fieldsLeft s c)) → withField bad kindOf (fieldsLeft s c) k ≡ bad
-  kind-bad e = with-bad bad kindOf k c (fieldsLeft s c) (kind-not (readField kindOf c (fieldsLeft s c)) e)
+  pub kind-bad : KindField.Bad ≡ kindField (readField kindOf c (fieldsLeft s c))
+      → withField bad kindOf (fieldsLeft s c) k ≡ bad
+  kind-bad e =
+      with-bad bad kindOf k c (fieldsLeft s c) (kind-not (readField kindOf c (fieldsLeft s c)) e)
 
-lay-is : (o : Option (Lay × Cursor)) (v : Lay) (d : Cursor) → LayField.Is v d ≡ layField o → some (v, d) ≡ o
+lay-is : (o : Option (Lay × Cursor)) (v : Lay) (d : Cursor) → LayField.Is v d ≡ layField o
+    → some (v, d) ≡ o
 lay-is (some x) v d e =
     let p : v ≡ x .0 = cc in
     let q : d ≡ x .1 = cc in
@@ -68,14 +80,18 @@ lay-not (some x) e = let z : _≡_ {A = ℕ} 0 1 = cc in absurd (omega arith)
 lay-not none e = refl
 
 module _ {R : Type 0} (bad : R) (k : Lay → List (List ℕ) → R) (s : List ℕ) (c : Cursor) where
-  pub lay-good : (v : Lay) (d : Cursor) → LayField.Is v d ≡ layField (readField layOf c (fieldsLeft s c))
+  pub lay-good : (v : Lay) (d : Cursor)
+      → LayField.Is v d ≡ layField (readField layOf c (fieldsLeft s c))
       → (withField bad layOf (fieldsLeft s c) k ≡ k v (fieldsLeft s d)) × (d .end ≡ c .end)
   lay-good v d e = with-good bad layOf k s c d v (lay-is (readField layOf c (fieldsLeft s c)) v d e)
 
-  pub lay-bad : LayField.Bad ≡ layField (readField layOf c (fieldsLeft s c)) → withField bad layOf (fieldsLeft s c) k ≡ bad
-  lay-bad e = with-bad bad layOf k c (fieldsLeft s c) (lay-not (readField layOf c (fieldsLeft s c)) e)
+  pub lay-bad : LayField.Bad ≡ layField (readField layOf c (fieldsLeft s c))
+      → withField bad layOf (fieldsLeft s c) k ≡ bad
+  lay-bad e =
+      with-bad bad layOf k c (fieldsLeft s c) (lay-not (readField layOf c (fieldsLeft s c)) e)
 
-operand-is : (o : Option (Operand × Cursor)) (v : Operand) (d : Cursor) → OperandField.Is v d ≡ operandField o → some (v, d) ≡ o
+operand-is : (o : Option (Operand × Cursor)) (v : Operand) (d : Cursor)
+    → OperandField.Is v d ≡ operandField o → some (v, d) ≡ o
 operand-is (some x) v d e =
     let p : v ≡ x .0 = cc in
     let q : d ≡ x .1 = cc in
@@ -87,9 +103,13 @@ operand-not (some x) e = let z : _≡_ {A = ℕ} 0 1 = cc in absurd (omega arith
 operand-not none e = refl
 
 module _ {R : Type 0} (bad : R) (k : Operand → List (List ℕ) → R) (s : List ℕ) (c : Cursor) where
-  pub operand-good : (v : Operand) (d : Cursor) → OperandField.Is v d ≡ operandField (readField operandOf c (fieldsLeft s c))
+  pub operand-good : (v : Operand) (d : Cursor)
+      → OperandField.Is v d ≡ operandField (readField operandOf c (fieldsLeft s c))
       → (withField bad operandOf (fieldsLeft s c) k ≡ k v (fieldsLeft s d)) × (d .end ≡ c .end)
-  operand-good v d e = with-good bad operandOf k s c d v (operand-is (readField operandOf c (fieldsLeft s c)) v d e)
+  operand-good v d e =
+      with-good bad operandOf k s c d v (operand-is (readField operandOf c (fieldsLeft s c)) v d e)
 
-  pub operand-bad : OperandField.Bad ≡ operandField (readField operandOf c (fieldsLeft s c)) → withField bad operandOf (fieldsLeft s c) k ≡ bad
-  operand-bad e = with-bad bad operandOf k c (fieldsLeft s c) (operand-not (readField operandOf c (fieldsLeft s c)) e)
+  pub operand-bad : OperandField.Bad ≡ operandField (readField operandOf c (fieldsLeft s c))
+      → withField bad operandOf (fieldsLeft s c) k ≡ bad
+  operand-bad e = with-bad bad operandOf k c (fieldsLeft s c)
+      (operand-not (readField operandOf c (fieldsLeft s c)) e)

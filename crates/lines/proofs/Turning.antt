@@ -36,25 +36,35 @@ module _ (most n : ℕ) (line : List ℕ) where
 
 -- the line of a cursor
 module _ (s : List ℕ) (c : Cursor) (most n : ℕ) where
-  pub ended-many : c .end < length s → most ≤ n → Turn.Many ≡ turnOf most n (bytesLeft s c) (ltb (c .end) (length s))
+  pub ended-many : c .end < length s → most ≤ n
+      → Turn.Many ≡ turnOf most n (bytesLeft s c) (ltb (c .end) (length s))
   ended-many e h = sym (rw (lt-ltb (c .end) (length s) e) (whole-many most n (bytesLeft s c) h))
 
-  pub ended-few : c .end < length s → n < most → Turn.Whole ≡ turnOf most n (bytesLeft s c) (ltb (c .end) (length s))
+  pub ended-few : c .end < length s → n < most
+      → Turn.Whole ≡ turnOf most n (bytesLeft s c) (ltb (c .end) (length s))
   ended-few e h = sym (rw (lt-ltb (c .end) (length s) e) (whole-few most n (bytesLeft s c) h))
 
   module _ (last : length s ≤ c .end) where
-    pub none-left : c .at ≡ c .end → Turn.End ≡ turnOf most n (bytesLeft s c) (ltb (c .end) (length s))
+    pub none-left : c .at ≡ c .end → Turn.End ≡ turnOf most n (bytesLeft s c)
+        (ltb (c .end) (length s))
     none-left e =
         let z : c .end - c .at ≡ 0 = omega arith in
         let b : bytesLeft s c ≡ [] = rw z refl in
         sym (rw (le-ltb (c .end) (length s) last) (open-end most n (bytesLeft s c) b))
 
-    module _ (low : c .at ≤ c .end) (high : c .end ≤ length s) (some-left : c .at ≡ c .end → ⊥) where
+    module _ (low : c .at ≤ c .end) (high : c .end ≤ length s)
+        (some-left : c .at ≡ c .end → ⊥) where
       long : 0 < length (bytesLeft s c)
-      long = omega (arith, length-take-le (c .end - c .at) (drop (c .at) s) (omega (arith, length-drop (c .at) s)))
+      long = omega (
+        arith,
+        length-take-le (c .end - c .at) (drop (c .at) s)
+            (omega (arith, length-drop (c .at) s)),
+      )
 
       pub left-many : most ≤ n → Turn.Many ≡ turnOf most n (bytesLeft s c) (ltb (c .end) (length s))
-      left-many h = sym (rw (le-ltb (c .end) (length s) last) (open-many most n (bytesLeft s c) long h))
+      left-many h =
+          sym (rw (le-ltb (c .end) (length s) last) (open-many most n (bytesLeft s c) long h))
 
       pub left-few : n < most → Turn.Open ≡ turnOf most n (bytesLeft s c) (ltb (c .end) (length s))
-      left-few h = sym (rw (le-ltb (c .end) (length s) last) (open-few most n (bytesLeft s c) long h))
+      left-few h =
+          sym (rw (le-ltb (c .end) (length s) last) (open-few most n (bytesLeft s c) long h))

@@ -1,4 +1,5 @@
--- What refusal 5 compares: left, kind, first and second of a rule, under any lay; of A rules the terminals from first to second.
+-- What refusal 5 compares: left, kind, first and second of a rule, under any lay; of A rules the
+-- terminals from first to second.
 use Prim.Native.Nat.{ℕ}
 use mathlib.Core.Bool.{Bool, cond, _&&_}
 use lib.Dec.{eqb, leb}
@@ -26,6 +27,8 @@ meets a b = leb (a .first) (b .second) && leb (b .first) (a .second)
 abbrev pub sameOperands : Key → Key → Bool
 sameOperands a b = eqb (a .first) (b .first) && eqb (a .second) (b .second)
 
--- 5: the same left and kind, and of kind A (1) a shared terminal, of the others the same first and second
+-- 5: the same left and kind, and of kind A (1) a shared terminal, of the others the same first and
+-- second
 abbrev pub sameKey : Key → Key → Bool
-sameKey a b = eqb (a .left) (b .left) && (eqb (a .kind) (b .kind) && cond (eqb (a .kind) 1) (meets a b) (sameOperands a b))
+sameKey a b = eqb (a .left) (b .left)
+    && (eqb (a .kind) (b .kind) && cond (eqb (a .kind) 1) (meets a b) (sameOperands a b))

@@ -36,7 +36,8 @@ plainRule l c Lay.Indent = Unfit
 
 -- A: none; then 44: second below first
 abbrev pub atomRule : ℕ → ℕ → ℕ → Lay → RuleLine
-atomRule l a b Lay.None = cond (leb a b) (Good (record { left = l; clause = Clause.Atom a b })) Reversed
+atomRule l a b Lay.None =
+    cond (leb a b) (Good (record { left = l; clause = Clause.Atom a b })) Reversed
 atomRule l a b Lay.Offside = Unfit
 atomRule l a b Lay.Offalign = Unfit
 atomRule l a b Lay.Single = Unfit
@@ -59,7 +60,8 @@ binaryRule l a b Lay.Offside = Unfit
 binaryRule l a b Lay.Offalign = Unfit
 binaryRule l a b Lay.Single = Unfit
 binaryRule l a b Lay.Align = Good (record { left = l; clause = Clause.Binary a b BinaryMark.Align })
-binaryRule l a b Lay.Indent = Good (record { left = l; clause = Clause.Binary a b BinaryMark.Indent })
+binaryRule l a b Lay.Indent =
+    Good (record { left = l; clause = Clause.Binary a b BinaryMark.Indent })
 
 abbrev pub layRule : ℕ → Kind → ℕ → ℕ → Lay → RuleLine
 layRule l Kind.E a b y = plainRule l Clause.Empty y
@@ -75,7 +77,8 @@ upTo a b = cond (b .dash) (a .value) (b .value)
 abbrev pub ruleOf : ℕ → Kind → Operand → Operand → Lay → RuleLine
 ruleOf l k a b y =
     cond (shape k (a .dash) (b .dash))
-    (cond (leb l 63) (cond (leb (a .value) 63) (cond (leb (upTo a b) 63) (layRule l k (a .value) (upTo a b) y) Range) Range) Range)
+    (cond (leb l 63) (cond (leb (a .value) 63)
+    (cond (leb (upTo a b) 63) (layRule l k (a .value) (upTo a b) y) Range) Range) Range)
     Form
 
 -- 2: not five fields, a word unknown, a number not of one to five digits

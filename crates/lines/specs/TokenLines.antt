@@ -1,4 +1,5 @@
--- What a token line says: 01, "The two sheets" and the conditions 12 and 13; request 9, widths and condition 47.
+-- What a token line says: 01, "The two sheets" and the conditions 12 and 13; request 9, widths and
+-- condition 47.
 use Prim.Native.Nat.{ℕ, _+_}
 use mathlib.Core.List.{List}
 use mathlib.Core.Bool.{Bool, true, false, cond, _&&_}
@@ -13,7 +14,12 @@ use Rattle.lines.specs.declared.TokenLine.the-variants as TokenLine
 abbrev pub sizedOf : ℕ → ℕ → ℕ → ℕ → TokenLine
 sizedOf t l k w =
     cond ((leb 1 w && leb w 255) && leb (k + w) 65536)
-    (TokenLine.Good (record { terminal = t; line = record { 0 = l }; column = record { 0 = k }; width = record { 0 = w } }))
+    (TokenLine.Good (record {
+      terminal = t;
+      line = record { 0 = l };
+      column = record { 0 = k };
+      width = record { 0 = w };
+    }))
     TokenLine.Width
 
 -- 13: terminal above 63, line or column 0 or above 65,535; then 47

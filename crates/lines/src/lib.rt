@@ -1,4 +1,5 @@
-// What a line of a rule sheet and a line of a token sheet say by themselves: the rule or the token, or what is wrong with it.
+// What a line of a rule sheet and a line of a token sheet say by themselves: the rule or the token,
+// or what is wrong with it.
 use fields::Cursor;
 use fields::Kind;
 use fields::KindField;
@@ -23,8 +24,10 @@ ghost use lib.ListN.{length};
 ghost use lib.Dec.{ltb};
 ghost use Rattle.lines.specs.Turns.{turnOf};
 ghost use Rattle.lines.specs.Keys.{unaryKey, keyOf, meets, sameOperands, sameKey};
-ghost use Rattle.lines.specs.RuleLines.{shape, plainRule, atomRule, upTo, unaryRule, binaryRule, layRule, ruleOf, ruleFields};
-ghost use Rattle.lines.specs.TokenLines.{sizedOf, tokenOf, afterWidth, afterColumn, tokenFields};
+ghost use Rattle.lines.specs.RuleLines.{shape, plainRule, atomRule, upTo, unaryRule};
+ghost use Rattle.lines.specs.RuleLines.{binaryRule, layRule, ruleOf, ruleFields};
+ghost use Rattle.lines.specs.TokenLines.{sizedOf, tokenOf, afterWidth, afterColumn};
+ghost use Rattle.lines.specs.TokenLines.{tokenFields};
 ghost use Rattle.fields.specs.Cursors.{bytesLeft, fieldsLeft};
 
 // A rule, or the first of the conditions 2, 3, 4, 44 that holds of the line.
@@ -44,7 +47,8 @@ pub enum TokenLine {
     Width,
 }
 
-// What a line is before its fields are looked at: the sheet's end, one too many, not ended, or a whole line.
+// What a line is before its fields are looked at: the sheet's end, one too many, not ended, or a
+// whole line.
 pub enum Turn {
     End,
     Many,
@@ -63,7 +67,8 @@ pub struct Key {
 // What the cursor's line is, after n items of at most `most`.
 pub fn turn_at(s: &[u8], c: Cursor, n: usize, most: usize) -> Turn
     requires { ⌜ (c .at ≤ c .end) × (c .end ≤ length (now s)) ⌝ }
-    ensures { λ r. ⌜ r ≡ turnOf most n (bytesLeft (now (s .entry)) c) (ltb (c .end) (length (now (s .entry)))) ⌝ }
+    ensures { λ r. ⌜ r ≡ turnOf most n (bytesLeft (now (s .entry)) c)
+        (ltb (c .end) (length (now (s .entry)))) ⌝ }
 {
     let at = c.at;
     let end = c.end;
@@ -150,7 +155,8 @@ fn wide_end(s: &[u8], c: Cursor, t: u32, l: u32, k: u32) -> TokenLine
     token_end(s, d, t, l, k, w)
 }
 
-// The fields from a cursor on as those of a token line: four if `wide` says so, else three and width 1.
+// The fields from a cursor on as those of a token line: four if `wide` says so, else three and
+// width 1.
 pub fn token_line(s: &[u8], c: Cursor, wide: bool) -> TokenLine
     requires { ⌜ c .end ≤ length (now s) ⌝ }
     ensures { λ r. ⌜ r ≡ tokenFields wide (fieldsLeft (now (s .entry)) c) ⌝ }
@@ -286,7 +292,8 @@ fn up_to(a: Operand, b: Operand) -> u32
     if b.dash { a.value } else { b.value }
 }
 
-// The fields of a rule line: their shape, then their range, then the lay and the order of an A rule's numbers.
+// The fields of a rule line: their shape, then their range, then the lay and the order of an A
+// rule's numbers.
 fn rule_of(l: u32, k: Kind, a: Operand, b: Operand, y: Lay) -> RuleLine
     ensures { λ r. ⌜ r ≡ ruleOf l k a b y ⌝ }
 {

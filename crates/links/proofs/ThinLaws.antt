@@ -15,7 +15,8 @@ use Rattle.grammar.specs.Content.{rules, SmallRule, Formed}
 use Rattle.marks.specs.declared.SpanMarks.{SpanMarks}
 use Rattle.tables.specs.Tables.{no-rule, rule}
 use Rattle.joins.specs.declared.Tally.{Tally}
-use Rattle.joins.specs.Passes.{fell, both, WholeSide, Pass, pass-none, pass-more, Passes, passes-none, passes-more, Saturated}
+use Rattle.joins.specs.Passes.{fell, both, WholeSide, Pass, pass-none, pass-more, Passes}
+use Rattle.joins.specs.Passes.{passes-none, passes-more, Saturated}
 use Rattle.joins.proofs.PassLaws.{pass-within}
 use Rattle.links.specs.LinkRules.{Ruled, Idle, Thinned, thin-none, thin-keep, thin-drop}
 
@@ -30,18 +31,24 @@ formed-ruled {g} f = record {
 -- ---- picking them out
 
 -- a rule stored past them
-pub thin-set : {one : ℕ} {g w : Rules} {i m : ℕ} (q : ℕ) (r : Rule) → m ≤ q → Thinned one g w i m → Thinned one g (set w q r) i m
+pub thin-set : {one : ℕ} {g w : Rules} {i m : ℕ} (q : ℕ) (r : Rule) → m ≤ q → Thinned one g w i m
+    → Thinned one g (set w q r) i m
 thin-set q r h thin-none = thin-none
-thin-set {w = w} q r h (thin-keep {i = i} {m = m} t e) = thin-keep (thin-set q r (omega arith) t) (getD-set-other w q m r no-rule (omega arith) ∙ e)
+thin-set {w = w} q r h (thin-keep {i = i} {m = m} t e) =
+    thin-keep (thin-set q r (omega arith) t) (getD-set-other w q m r no-rule (omega arith) ∙ e)
 thin-set q r h (thin-drop t e) = thin-drop (thin-set q r h t) e
 
-pub thin-more : {one : ℕ} {g w : Rules} {i m : ℕ} (r : Rule) → r ≡ rule g i → m < length w → Thinned one g w i m → Thinned one g (set w m r) (i + 1) (m + 1)
-thin-more {w = w} {m = m} r e h t = thin-keep (thin-set m r (omega arith) t) (getD-set-same w m r no-rule h ∙ e)
+pub thin-more : {one : ℕ} {g w : Rules} {i m : ℕ} (r : Rule) → r ≡ rule g i → m < length w
+    → Thinned one g w i m → Thinned one g (set w m r) (i + 1) (m + 1)
+thin-more {w = w} {m = m} r e h t =
+    thin-keep (thin-set m r (omega arith) t) (getD-set-same w m r no-rule h ∙ e)
 
 -- what stands past them is cut off
-pub thin-take : {one : ℕ} {g w : Rules} {i m : ℕ} (n : ℕ) → m ≤ n → Thinned one g w i m → Thinned one g (take n w) i m
+pub thin-take : {one : ℕ} {g w : Rules} {i m : ℕ} (n : ℕ) → m ≤ n → Thinned one g w i m
+    → Thinned one g (take n w) i m
 thin-take n h thin-none = thin-none
-thin-take {w = w} n h (thin-keep {m = m} t e) = thin-keep (thin-take n (omega arith) t) (getD-take n w m no-rule (omega arith) ∙ e)
+thin-take {w = w} n h (thin-keep {m = m} t e) =
+    thin-keep (thin-take n (omega arith) t) (getD-take n w m no-rule (omega arith) ∙ e)
 thin-take n h (thin-drop t e) = thin-drop (thin-take n h t) e
 
 pub thin-le : {one : ℕ} {g w : Rules} {i m : ℕ} → Thinned one g w i m → m ≤ i
@@ -50,14 +57,18 @@ thin-le (thin-keep t e) = let x = thin-le t in omega arith
 thin-le (thin-drop t e) = let x = thin-le t in omega arith
 
 -- each of them is a rule of g
-pub thin-from : {one : ℕ} {g w : Rules} {i m : ℕ} (P : Rule → Type 0) → ((j : ℕ) → j < i → P (rule g j)) → Thinned one g w i m → (j : ℕ) → j < m → P (rule w j)
+pub thin-from : {one : ℕ} {g w : Rules} {i m : ℕ} (P : Rule → Type 0)
+    → ((j : ℕ) → j < i → P (rule g j)) → Thinned one g w i m → (j : ℕ) → j < m → P (rule w j)
 thin-from P f thin-none j h = absurd (omega arith)
-thin-from {g = g} {w = w} P f (thin-keep {i = i} {m = m} t e) j h = let f′ : (x : ℕ) → x < i → P (rule g x) = λ x y. f x (omega arith) in go (λ x. thin-from P f′ t j x) (decLt j m)
+thin-from {g = g} {w = w} P f (thin-keep {i = i} {m = m} t e) j h = let f′ : (x : ℕ) → x < i
+    → P (rule g x) = λ x y. f x (omega arith) in go (λ x. thin-from P f′ t j x) (decLt j m)
   where
     go : (j < m → P (rule w j)) → Dec (j < m) → P (rule w j)
     go r (yes l) = r l
-    go r (no l) = subst (λ (x : ℕ). P (rule w x)) (let z : m ≡ j = omega arith in z) (subst P (sym e) (f i (omega arith)))
-thin-from {g = g} P f (thin-drop {i = i} t e) j h = let f′ : (x : ℕ) → x < i → P (rule g x) = λ x y. f x (omega arith) in thin-from P f′ t j h
+    go r (no l) = subst (λ (x : ℕ). P (rule w x)) (let z : m ≡ j = omega arith in z)
+        (subst P (sym e) (f i (omega arith)))
+thin-from {g = g} P f (thin-drop {i = i} t e) j h = let f′ : (x : ℕ) → x < i → P (rule g x) =
+    λ x y. f x (omega arith) in thin-from P f′ t j h
 
 -- ---- passes
 
@@ -66,7 +77,8 @@ module _ (one two : ℕ) (k : SpanMarks) (len : ℕ) (pos : 0 < len) where
   idle-wide a Clause.Empty t d = refl
   idle-wide a (Clause.Atom b e) t d = refl
   idle-wide a (Clause.Unary B m) t d = absurd d
-  idle-wide a (Clause.Binary B C m) t d = both pos t (fell (λ q. d .0 (q .0)) refl) (fell (λ q. d .1 (q .1)) refl)
+  idle-wide a (Clause.Binary B C m) t d =
+      both pos t (fell (λ q. d .0 (q .0)) refl) (fell (λ q. d .1 (q .1)) refl)
 
   module _ (g w : Rules) (t : Tally) where
     -- a pass over the rules of w from m on is one over the rules of g from i on
@@ -76,7 +88,8 @@ module _ (one two : ℕ) (k : SpanMarks) (len : ℕ) (pos : 0 < len) where
     lift-end : Lifts (length g) (length w)
     lift-end u p = go (length w) u refl p
       where
-        go : (m : ℕ) (u : Tally) → m ≡ length w → Pass one two k len w t m u → Pass one two k len g t (length g) u
+        go : (m : ℕ) (u : Tally) → m ≡ length w → Pass one two k len w t m u
+            → Pass one two k len g t (length g) u
         go m u e pass-none = pass-none
         go m u e (pass-more q x) = absurd (let y = pass-within q in omega arith)
 
@@ -87,22 +100,34 @@ module _ (one two : ℕ) (k : SpanMarks) (len : ℕ) (pos : 0 < len) where
         go x u z pass-none = absurd (omega arith)
         go x u z (pass-more {u = v} q y) =
             pass-more (f v (subst (λ (d : ℕ). Pass one two k len w t (d + 1) v) z q))
-            (subst (λ (r : Rule). WholeSide one two k len (r .left) (r .clause) v u) (ap (λ (d : ℕ). rule w d) z ∙ e) y)
+            (subst (λ (r : Rule). WholeSide one two k len (r .left) (r .clause) v u)
+            (ap (λ (d : ℕ). rule w d) z ∙ e) y)
 
     lift-drop : (i m : ℕ) → Idle one (rule g i .clause) → Lifts (i + 1) m → Lifts i m
     lift-drop i m d f u p = pass-more (f u p) (idle-wide (rule g i .left) (rule g i .clause) u d)
 
     lifts : {i m : ℕ} → Thinned one g w i m → m ≤ length w → Lifts i m → Lifts 0 0
     lifts thin-none h f = f
-    lifts (thin-keep {i = i} {m = m} c e) h f = lifts c (omega arith) (lift-keep i m e (omega arith) f)
+    lifts (thin-keep {i = i} {m = m} c e) h f =
+        lifts c (omega arith) (lift-keep i m e (omega arith) f)
     lifts (thin-drop {i = i} {m = m} c e) h f = lifts c h (lift-drop i m e f)
 
-    pub pass-all : Thinned one g w (length g) (length w) → (u : Tally) → Pass one two k len w t 0 u → Pass one two k len g t 0 u
+    pub pass-all : Thinned one g w (length g) (length w) → (u : Tally) → Pass one two k len w t 0 u
+        → Pass one two k len g t 0 u
     pass-all c = lifts c (omega arith) lift-end
 
-  pub saturated-all : {g w : Rules} {b t : Tally} → Thinned one g w (length g) (length w) → Saturated one two k len w b t → Saturated one two k len g b t
-  saturated-all {g} {w} {b} {t} c s = record { passes = go (s .passes); last = s .last; passed = pass-all g w (record { seen = b .seen; one = t .one; two = t .two }) c (s .last) (s .passed); same-one = s .same-one; same-two = s .same-two }
+  pub saturated-all : {g w : Rules} {b t : Tally} → Thinned one g w (length g) (length w)
+      → Saturated one two k len w b t → Saturated one two k len g b t
+  saturated-all {g} {w} {b} {t} c s = record {
+    passes = go (s .passes);
+    last = s .last;
+    passed = pass-all g w
+        (record { seen = b .seen; one = t .one; two = t .two }) c (s .last) (s .passed);
+    same-one = s .same-one;
+    same-two = s .same-two;
+  }
     where
       go : {t : Tally} → Passes one two k len w b t → Passes one two k len g b t
       go passes-none = passes-none
-      go (passes-more {t = t} {u = u} q p) = passes-more (go q) (pass-all g w (record { seen = b .seen; one = t .one; two = t .two }) c u p)
+      go (passes-more {t = t} {u = u} q p) = passes-more (go q)
+          (pass-all g w (record { seen = b .seen; one = t .one; two = t .two }) c u p)

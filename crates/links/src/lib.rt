@@ -1,4 +1,5 @@
-// What stands over no token or one by itself, and passes over the rules that have the whole of a span on one side.
+// What stands over no token or one by itself, and passes over the rules that have the whole of a
+// span on one side.
 use grammar::Clause;
 use grammar::Grammar;
 use grammar::Rule;

@@ -1,4 +1,5 @@
--- For the functions that put a list: what was put so far, and what stands in the lent bytes at the end.
+-- For the functions that put a list: what was put so far, and what stands in the lent bytes at the
+-- end.
 use mathlib.Core.Path.{_≡_}
 use mathlib.Core.Bool.{true, false}
 use mathlib.Core.List.{List, [], _++_}
@@ -25,7 +26,8 @@ pub record Begun (l : Listing) : Type 0 where
 -- the bytes of n entries more were put
 pub record PutMore (more : List ℕ) (n : ℕ) (old new : List ℕ) (l r : Listing) : Type 0 where
   pub few : r .count ≤ r .at
-  pub puts : {bytes : List ℕ} {m : ℕ} {lent : List ℕ} → Puts bytes m lent old l → Puts (bytes ++ more) (m + n) lent new r
+  pub puts : {bytes : List ℕ} {m : ℕ} {lent : List ℕ} → Puts bytes m lent old l
+      → Puts (bytes ++ more) (m + n) lent new r
 
 -- a list's answer while it is not a call's
 abbrev pub listed : ℕ → Listed
@@ -36,4 +38,5 @@ unfit = record { fits = false; count = 0 }
 
 -- all was put
 pub record Ended (old new : List ℕ) (l : Listing) (r : Listed) : Type 0 where
-  pub gives : {bytes : List ℕ} {n : ℕ} {lent : List ℕ} → Puts bytes n lent old l → GivesList listed unfit bytes n lent new r
+  pub gives : {bytes : List ℕ} {n : ℕ} {lent : List ℕ} → Puts bytes n lent old l
+      → GivesList listed unfit bytes n lent new r

@@ -1,4 +1,5 @@
-// A list that a call gives in lent bytes, put piece by piece: its bytes at the front, 0 after them, its number of entries; or it does not fit.
+// A list that a call gives in lent bytes, put piece by piece: its bytes at the front, 0 after them,
+// its number of entries; or it does not fit.
 use printing::put_bytes;
 use rows::clear;
 ghost use mathlib.Core.Path.{_≡_};
@@ -7,7 +8,8 @@ ghost use lib.ListN.{length, replicate};
 ghost use Rattle.lists.specs.Lists.{GivesList};
 ghost use Rattle.lists.specs.Putting.{Begun, PutMore, Ended, listed, unfit};
 
-// A list while it is put: the place behind what was put, the number of entries so far, and whether all of it had room.
+// A list while it is put: the place behind what was put, the number of entries so far, and whether
+// all of it had room.
 pub struct Listing {
     pub at: usize,
     pub count: usize,
@@ -98,7 +100,8 @@ pub fn finish(out: &mut [u8], l: Listing) -> Listed
 
 // A whole list at once, an entry a byte.
 pub fn give(out: &mut [u8], bytes: &[u8]) -> Listed
-    ensures { λ r. ⌜ GivesList listed unfit (now (bytes .entry)) (length (now (bytes .entry))) (now (out .entry)) (now (out .exit)) r ⌝ }
+    ensures { λ r. ⌜ GivesList listed unfit (now (bytes .entry)) (length (now (bytes .entry)))
+        (now (out .entry)) (now (out .exit)) r ⌝ }
 {
     let l = put(out, begin(), bytes, bytes.len());
     finish(out, l)

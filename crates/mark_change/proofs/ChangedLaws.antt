@@ -1,4 +1,5 @@
--- What the changed sheet says: the same rules with the new mark in that one, or 4 in its line, and nothing else.
+-- What the changed sheet says: the same rules with the new mark in that one, or 4 in its line, and
+-- nothing else.
 use mathlib.Core.Path.{_≡_, refl, sym, ap, _∙_}
 use mathlib.Core.List.{List, [], _∷_, _++_, append-assoc}
 use mathlib.Core.Bool.{Bool, true, false, not, cond, _&&_}
@@ -22,7 +23,8 @@ use Rattle.lines.specs.declared.RuleLine.the-variants as RuleLine
 use Rattle.lines.specs.RuleLines.{ruleLine, plainRule}
 use Rattle.lines.specs.Keys.{keyOf}
 use Rattle.sheets.specs.Items.{Reading, accepted, refused, itemsFrom, withNames}
-use Rattle.sheets.specs.RuleSheets.{anyOf, isStart, ruleStep, finish, rulesFrom, ruleNames, ruleSheet}
+use Rattle.sheets.specs.RuleSheets.{anyOf, isStart, ruleStep, finish, rulesFrom, ruleNames}
+use Rattle.sheets.specs.RuleSheets.{ruleSheet}
 use Rattle.sheets.specs.RefusedLines.{pieceStart}
 use Rattle.sheets.proofs.Accepted.{GoodRules, rules-good, finish-good}
 use Rattle.mark_change.specs.Changed.{lineOf, layStart, layEnd, changed}
@@ -51,12 +53,21 @@ finished (refused f l) g e = absurd (clash cc)
 pub sheet-of : (s : List ℕ) (g : Rules) → ruleSheet s ≡ accepted g → Sheet s g
 sheet-of s g e = go (pieces 10 s) refl e
   where
-    by-head : (h : List ℕ) (ps : List (List ℕ)) → pieces 10 s ≡ h ∷ ps → (b : Bool) → not (isEmpty ps) && sameBytes h ruleNames ≡ b
+    by-head : (h : List ℕ) (ps : List (List ℕ)) → pieces 10 s ≡ h ∷ ps → (b : Bool)
+        → not (isEmpty ps) && sameBytes h ruleNames ≡ b
         → cond b (rulesFrom ps) (refused 1 1) ≡ accepted g → Sheet s g
-    by-head h ps i true k e = record { names = h; lines = ps; are = i; head = k; items = finished (itemsFrom ruleStep [] ps) g e }
+    by-head h ps i true k e = record {
+      names = h;
+      lines = ps;
+      are = i;
+      head = k;
+      items =
+          finished (itemsFrom ruleStep [] ps) g e;
+    }
     by-head h ps i false k e = absurd (clash cc)
 
-    go : (qs : List (List ℕ)) → pieces 10 s ≡ qs → withNames (refused 1 1) ruleNames qs rulesFrom ≡ accepted g → Sheet s g
+    go : (qs : List (List ℕ)) → pieces 10 s ≡ qs
+        → withNames (refused 1 1) ruleNames qs rulesFrom ≡ accepted g → Sheet s g
     go [] i e = absurd (clash cc)
     go (h ∷ ps) i e = by-head h ps i (not (isEmpty ps) && sameBytes h ruleNames) refl e
 
@@ -77,7 +88,8 @@ pub unfit-not : (s : Rule) → RuleLine.Unfit ≡ RuleLine.Good s → ⊥
 unfit-not s e = clash cc
 
 module _ (l : ℕ) (s : Rule) where
-  plain-but : (c : Clause) (y : Lay) → plainRule l c y ≡ RuleLine.Good s → SameBut (record { left = l; clause = c }) s
+  plain-but : (c : Clause) (y : Lay) → plainRule l c y ≡ RuleLine.Good s
+      → SameBut (record { left = l; clause = c }) s
   plain-but c Lay.None e = by-good _ _ s e (record { left = refl; key = refl })
   plain-but c Lay.Offside e = absurd (unfit-not s e)
   plain-but c Lay.Offalign e = absurd (unfit-not s e)
@@ -85,12 +97,14 @@ module _ (l : ℕ) (s : Rule) where
   plain-but c Lay.Align e = absurd (unfit-not s e)
   plain-but c Lay.Indent e = absurd (unfit-not s e)
 
-  pub relaid-but : (c : Clause) (y : Lay) → relaid l c y ≡ RuleLine.Good s → SameBut (record { left = l; clause = c }) s
+  pub relaid-but : (c : Clause) (y : Lay) → relaid l c y ≡ RuleLine.Good s
+      → SameBut (record { left = l; clause = c }) s
   relaid-but Clause.Empty y e = plain-but Clause.Empty y e
   relaid-but (Clause.Atom a b) y e = plain-but (Clause.Atom a b) y e
   relaid-but (Clause.Unary a m) Lay.None e = by-good _ _ s e (record { left = refl; key = refl })
   relaid-but (Clause.Unary a m) Lay.Offside e = by-good _ _ s e (record { left = refl; key = refl })
-  relaid-but (Clause.Unary a m) Lay.Offalign e = by-good _ _ s e (record { left = refl; key = refl })
+  relaid-but (Clause.Unary a m) Lay.Offalign e =
+      by-good _ _ s e (record { left = refl; key = refl })
   relaid-but (Clause.Unary a m) Lay.Single e = by-good _ _ s e (record { left = refl; key = refl })
   relaid-but (Clause.Unary a m) Lay.Align e = absurd (unfit-not s e)
   relaid-but (Clause.Unary a m) Lay.Indent e = absurd (unfit-not s e)
@@ -98,10 +112,13 @@ module _ (l : ℕ) (s : Rule) where
   relaid-but (Clause.Binary a b m) Lay.Offside e = absurd (unfit-not s e)
   relaid-but (Clause.Binary a b m) Lay.Offalign e = absurd (unfit-not s e)
   relaid-but (Clause.Binary a b m) Lay.Single e = absurd (unfit-not s e)
-  relaid-but (Clause.Binary a b m) Lay.Align e = by-good _ _ s e (record { left = refl; key = refl })
-  relaid-but (Clause.Binary a b m) Lay.Indent e = by-good _ _ s e (record { left = refl; key = refl })
+  relaid-but (Clause.Binary a b m) Lay.Align e =
+      by-good _ _ s e (record { left = refl; key = refl })
+  relaid-but (Clause.Binary a b m) Lay.Indent e =
+      by-good _ _ s e (record { left = refl; key = refl })
 
-line-kept : (r : Rule) (x : RuleLine) → ((s : Rule) → x ≡ RuleLine.Good s → SameBut r s) → KeyKept x r
+line-kept : (r : Rule) (x : RuleLine) → ((s : Rule) → x ≡ RuleLine.Good s → SameBut r s)
+    → KeyKept x r
 line-kept r RuleLine.Form f = tt
 line-kept r RuleLine.Range f = tt
 line-kept r RuleLine.Unfit f = tt
@@ -110,7 +127,8 @@ line-kept r (RuleLine.Good s) f = f s refl .key
 
 -- 3. the changed bytes as lines
 
-module _ (s : List ℕ) (p : ℕ) (lay : List ℕ) (here : p < length (pieces 10 s)) (five : 4 < length (pieces 32 (lineOf s p))) where
+module _ (s : List ℕ) (p : ℕ) (lay : List ℕ) (here : p < length (pieces 10 s))
+    (five : 4 < length (pieces 32 (lineOf s p))) where
   abbrev line : List ℕ
   line = lineOf s p
 
@@ -118,31 +136,40 @@ module _ (s : List ℕ) (p : ℕ) (lay : List ℕ) (here : p < length (pieces 10
   newLine = take (pieceStart (pieces 32 line) 4) line ++ lay
 
   -- the fields before the lay are bytes of the sheet
-  front-of : take (layStart s p) s ≡ take (pieceStart (pieces 10 s) p) s ++ take (pieceStart (pieces 32 line) 4) line
+  front-of : take (layStart s p) s ≡ take (pieceStart (pieces 10 s) p) s
+      ++ take (pieceStart (pieces 32 line) 4) line
   front-of =
       let a = piece-at 10 p s here in
       let f = piece-at 32 4 line five in
       take-add (pieceStart (pieces 10 s) p) (pieceStart (pieces 32 line) 4) s
       ∙ ap (λ (x : List ℕ). take (pieceStart (pieces 10 s) p) s ++ x)
-      (ap (take (pieceStart (pieces 32 line) 4)) (a .at) ∙ take-append-le (pieceStart (pieces 32 line) 4) line (a .rest) (f .within))
+      (ap (take (pieceStart (pieces 32 line) 4)) (a .at)
+      ∙ take-append-le (pieceStart (pieces 32 line) 4) line (a .rest) (f .within))
 
-  pub changed-lines : (y : Lay) → layOf lay ≡ some y → pieces 10 (changed s p lay) ≡ set (pieces 10 s) p newLine
+  pub changed-lines : (y : Lay) → layOf lay ≡ some y
+      → pieces 10 (changed s p lay) ≡ set (pieces 10 s) p newLine
   changed-lines y w =
       let a = piece-at 10 p s here in
       let X = take (pieceStart (pieces 10 s) p) s in
       let Y = take (pieceStart (pieces 32 line) 4) line in
       let Z = drop (layEnd s p) s in
-      let j : changed s p lay ≡ X ++ ((Y ++ lay) ++ Z) = ap (λ (x : List ℕ). x ++ (lay ++ Z)) front-of ∙ append-assoc X Y (lay ++ Z) ∙ ap (λ (x : List ℕ). X ++ x) (sym (append-assoc Y lay Z)) in
+      let j : changed s p lay ≡ X ++ ((Y ++ lay) ++ Z) = ap (λ (x : List ℕ). x ++ (lay ++ Z))
+      front-of ∙ append-assoc X Y (lay ++ Z) ∙ ap (λ (x : List ℕ). X ++ x)
+      (sym (append-assoc Y lay Z)) in
       ap (pieces 10) j
-      ∙ pieces-replaced 10 p s (Y ++ lay) (free-join 10 Y lay (free-take 10 (pieceStart (pieces 32 line) 4) line (a .free)) (lay-no-line lay y w)) here
+      ∙ pieces-replaced 10 p s (Y ++ lay)
+      (free-join 10 Y lay (free-take 10 (pieceStart (pieces 32 line) 4) line (a .free))
+      (lay-no-line lay y w)) here
 
 -- 4. the end of the changed sheet: 7 does not come
 
-any-one : (p : Rule → Bool) (front back : Rules) (r s : Rule) → p r ≡ p s → anyOf p (front ++ r ∷ back) ≡ anyOf p (front ++ s ∷ back)
+any-one : (p : Rule → Bool) (front back : Rules) (r s : Rule) → p r ≡ p s
+    → anyOf p (front ++ r ∷ back) ≡ anyOf p (front ++ s ∷ back)
 any-one p [] back r s e = rw e
 any-one p (q ∷ front) back r s e = rw (any-one p front back r s e)
 
-finish-one : (front back : Rules) (r : Rule) → GoodRules (front ++ r ∷ back) → (x : RuleLine) → ((s : Rule) → x ≡ RuleLine.Good s → SameBut r s)
+finish-one : (front back : Rules) (r : Rule) → GoodRules (front ++ r ∷ back) → (x : RuleLine)
+    → ((s : Rule) → x ≡ RuleLine.Good s → SameBut r s)
     → finish (outcome front back x) ≡ outcome front back x
 finish-one front back r g RuleLine.Form f = refl
 finish-one front back r g RuleLine.Range f = refl
@@ -151,7 +178,9 @@ finish-one front back r g RuleLine.Reversed f = refl
 finish-one front back r g (RuleLine.Good s) f =
     let b = f s refl in
     finish-good (front ++ s ∷ back)
-    (any-one isStart front back s r (ap (λ (l : ℕ). isStart (record { left = l; clause = r .clause })) (sym (b .left))) ∙ g .start)
+    (any-one isStart front back s r
+    (ap (λ (l : ℕ). isStart (record { left = l; clause = r .clause })) (sym (b .left)))
+    ∙ g .start)
 
 -- 5. THE CHANGED SHEET
 
@@ -165,9 +194,11 @@ pub record ChangedAt (s : List ℕ) (g : Rules) (p : ℕ) : Type 0 where
   pub here : p < length (pieces 10 s)
   pub says : ruleLine (lineOf s p) ≡ RuleLine.Good rule
   pub five : 4 < length (pieces 32 (lineOf s p))
-  pub reads : (lay : List ℕ) (y : Lay) → layOf lay ≡ some y → ruleSheet (changed s p lay) ≡ outcome front back (relaid (rule .left) (rule .clause) y)
+  pub reads : (lay : List ℕ) (y : Lay) → layOf lay ≡ some y
+      → ruleSheet (changed s p lay) ≡ outcome front back (relaid (rule .left) (rule .clause) y)
 
-module _ (s : List ℕ) (g : Rules) (accepts : ruleSheet s ≡ accepted g) (i : ℕ) (low : i < length g) where
+module _ (s : List ℕ) (g : Rules) (accepts : ruleSheet s ≡ accepted g) (i : ℕ)
+    (low : i < length g) where
   sheet : Sheet s g
   sheet = sheet-of s g accepts
 
@@ -201,12 +232,15 @@ module _ (s : List ℕ) (g : Rules) (accepts : ruleSheet s ≡ accepted g) (i : 
 
     from-lines : rulesFrom (set (sheet .lines) i new) ≡ outcome (at .front) (at .back) x
     from-lines =
-        ap finish (at .reads new x (line-other (lineOf s (suc i)) lay (at .rule) y said word) (line-kept (at .rule) x same))
+        ap finish (at .reads new x (line-other (lineOf s (suc i)) lay (at .rule) y said word)
+        (line-kept (at .rule) x same))
         ∙ finish-one (at .front) (at .back) (at .rule) good x same
 
     sheet-reads : ruleSheet (changed s (suc i) lay) ≡ outcome (at .front) (at .back) x
     sheet-reads =
-        ap (λ (qs : List (List ℕ)). withNames (refused 1 1) ruleNames qs rulesFrom) (changed-lines s (suc i) lay is-here has-five y word ∙ ap (λ (qs : List (List ℕ)). set qs (suc i) new) (sheet .are))
+        ap (λ (qs : List (List ℕ)). withNames (refused 1 1) ruleNames qs rulesFrom)
+        (changed-lines s (suc i) lay is-here has-five y word
+        ∙ ap (λ (qs : List (List ℕ)). set qs (suc i) new) (sheet .are))
         ∙ rw (empty-set (sheet .lines) i new, sheet .head) from-lines
 
   changed-suc : ChangedAt s g (suc i)
@@ -222,6 +256,7 @@ module _ (s : List ℕ) (g : Rules) (accepts : ruleSheet s ≡ accepted g) (i : 
     reads = sheet-reads;
   }
 
-pub changed-at : (s : List ℕ) (g : Rules) → ruleSheet s ≡ accepted g → (p : ℕ) → 1 ≤ p → p ≤ length g → ChangedAt s g p
+pub changed-at : (s : List ℕ) (g : Rules) → ruleSheet s ≡ accepted g → (p : ℕ) → 1 ≤ p
+    → p ≤ length g → ChangedAt s g p
 changed-at s g e zero h k = absurd (omega arith)
 changed-at s g e (suc i) h k = changed-suc s g e i (omega arith)

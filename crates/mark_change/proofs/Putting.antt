@@ -1,4 +1,5 @@
--- Where the lay stands, and the changed sheet put together from the bytes before it, the new lay and the bytes behind it.
+-- Where the lay stands, and the changed sheet put together from the bytes before it, the new lay
+-- and the bytes behind it.
 use mathlib.Core.Path.{_≡_, ap, _∙_}
 use mathlib.Core.List.{List, _++_, append-assoc}
 use Prim.Native.Nat.{ℕ, _+_, _-_, _≤_, _<_}
@@ -35,11 +36,18 @@ module _ (s : List ℕ) (p : ℕ) (here : p < length (pieces 10 s)) where
       line-starts = omega (arith, line-ends)
 
       pub line-within : c .end ≤ length s
-      line-within = omega (arith, ap (λ (x : Cursor). x .end) line, before-le 10 (drop at s), length-drop at s, start-in)
+      line-within = omega (
+        arith,
+        ap (λ (x : Cursor). x .end) line,
+        before-le 10 (drop at s),
+        length-drop at s,
+        start-in,
+      )
 
       pub line-bytes : take (c .end - at) (drop at s) ≡ lineOf s p
       line-bytes =
-          let k : c .end - at ≡ length (before 10 (drop at s)) = omega (arith, ap (λ (x : Cursor). x .end) line) in
+          let k : c .end - at ≡ length (before 10 (drop at s)) =
+          omega (arith, ap (λ (x : Cursor). x .end) line) in
           rw k (before-take 10 (drop at s) ∙ line-before)
 
   -- 2. the lay's place
@@ -51,9 +59,17 @@ module _ (s : List ℕ) (p : ℕ) (here : p < length (pieces 10 s)) where
     pub lay-within : layEnd s p ≤ length s
     lay-within =
         let a = piece-at 10 p s here in
-        omega (arith, ap length (a .at), length-append (lineOf s p) (a .rest), length-drop (pieceStart (pieces 10 s) p) s, a .within)
+        omega (
+          arith,
+          ap length (a .at),
+          length-append (lineOf s p) (a .rest),
+          length-drop
+              (pieceStart (pieces 10 s) p) s,
+          a .within,
+        )
 
-    pub changed-long : (lay : List ℕ) → length (changed s p lay) ≡ length lay + (layStart s p + (length s - layEnd s p))
+    pub changed-long : (lay : List ℕ)
+        → length (changed s p lay) ≡ length lay + (layStart s p + (length s - layEnd s p))
     changed-long lay =
         omega (
           arith,
@@ -71,15 +87,20 @@ tail-all s end = take-all (length s - end) (drop end s) (omega (arith, length-dr
 
 -- three parts put one after the other are one list, an entry a byte
 gives-three : {lent lent′ : List ℕ} {r : Listed} (a b c : List ℕ)
-    → GivesList listed unfit ((a ++ b) ++ c) (length a + length b + length c) lent lent′ r → GivesList listed unfit (a ++ (b ++ c)) (length (a ++ (b ++ c))) lent lent′ r
+    → GivesList listed unfit ((a ++ b) ++ c) (length a + length b + length c) lent lent′ r
+    → GivesList listed unfit (a ++ (b ++ c)) (length (a ++ (b ++ c))) lent lent′ r
 gives-three a b c g =
-    let n : length (a ++ (b ++ c)) ≡ length a + length b + length c = omega (arith, length-append a (b ++ c), length-append b c) in
+    let n : length (a ++ (b ++ c)) ≡ length a + length b + length c =
+    omega (arith, length-append a (b ++ c), length-append b c) in
     rw (n, ← append-assoc a b c) g
 
 -- the changed sheet: the bytes before the lay, the new lay, those behind it
-pub gives-changed : (s : List ℕ) (p : ℕ) (lay : List ℕ) {start end : ℕ} {lent lent′ : List ℕ} {r : Listed} → start ≡ layStart s p → end ≡ layEnd s p
-    → GivesList listed unfit ((take start s ++ lay) ++ take (length s - end) (drop end s)) (0 + length (take start s) + length lay + length (take (length s - end) (drop end s))) lent lent′ r
-    → GivesList listed unfit (changed s p lay) (length (changed s p lay)) lent lent′ r
+pub gives-changed : (s : List ℕ) (p : ℕ) (lay : List ℕ) {start end : ℕ} {lent lent′ : List ℕ}
+    {r : Listed} → start ≡ layStart s p → end ≡ layEnd s p
+    → GivesList listed unfit ((take start s ++ lay) ++ take (length s - end) (drop end s))
+    (0 + length (take start s) + length lay + length (take (length s - end) (drop end s))) lent
+    lent′ r → GivesList listed unfit (changed s p lay) (length (changed s p lay)) lent lent′
+    r
 gives-changed s p lay {start} {end} e f g =
     let h = rw (zero-add (length (take start s)), tail-all s end) at g in
     gives-three (take (layStart s p) s) lay (drop (layEnd s p) s) (rw (e, f) at h)

@@ -19,7 +19,8 @@ use Rattle.lines.specs.Turns.{turnOf}
 use Rattle.lines.specs.RuleLines.{ruleLine}
 use Rattle.lines.specs.declared.Key.{Key}
 use Rattle.lines.specs.Keys.{keyOf}
-use Rattle.sheets.specs.Items.{Step, next, stop, end, Reading, accepted, refused, stepAt, onStep, itemsFrom}
+use Rattle.sheets.specs.Items.{Step, next, stop, end, Reading, accepted, refused, stepAt, onStep}
+use Rattle.sheets.specs.Items.{itemsFrom}
 use Rattle.sheets.specs.RuleSheets.{hasKey, anyOf, ruleSaid, ruleSays, ruleStep}
 use Rattle.sheets.proofs.Loop.{next-only}
 
@@ -45,7 +46,8 @@ any-snoc p (q ∷ u) r = rw (any-snoc p u r) (go (p q) (anyOf p u) (p r))
     go true b c = refl
     go false b c = refl
 
-keys-snoc : (u v : Rules) (r s : Rule) → SameKeys u v → keyOf r ≡ keyOf s → SameKeys (u ++ r ∷ []) (v ++ s ∷ [])
+keys-snoc : (u v : Rules) (r s : Rule) → SameKeys u v → keyOf r ≡ keyOf s
+    → SameKeys (u ++ r ∷ []) (v ++ s ∷ [])
 keys-snoc u v r s x e = record {
   count = omega (arith, length-append u (r ∷ []), length-append v (s ∷ []), x .count);
   keys = λ k. any-snoc (hasKey k) u r ∙ rw (x .keys k, e) (sym (any-snoc (hasKey k) v s));
@@ -71,19 +73,30 @@ pub record Rest (u v : Rules) (ps : List (List ℕ)) (w : Rules) : Type 0 where
 pub accepted-inj : (u w : Rules) → accepted u ≡ accepted w → u ≡ w
 accepted-inj u w e = cc
 
-pub rest-same : (u v : Rules) (ps : List (List ℕ)) (w : Rules) → SameKeys u v → itemsFrom ruleStep u ps ≡ accepted w → Rest u v ps w
-rest-same u v [] w k e = record { tail = []; whole = sym (accepted-inj u w e) ∙ sym (append-nil u); reads = ap accepted (sym (append-nil v)) }
+pub rest-same : (u v : Rules) (ps : List (List ℕ)) (w : Rules) → SameKeys u v
+    → itemsFrom ruleStep u ps ≡ accepted w → Rest u v ps w
+rest-same u v [] w k e = record {
+  tail = [];
+  whole = sym (accepted-inj u w e) ∙ sym (append-nil u);
+  reads =
+      ap accepted (sym (append-nil v));
+}
 rest-same u v (p ∷ ps) w k e =
-    go (λ t. rest-same (u ++ t ∷ []) (v ++ t ∷ []) ps w (keys-snoc u v t t k refl)) (ruleStep u p (not (isEmpty ps))) refl e
+    go (λ t. rest-same (u ++ t ∷ []) (v ++ t ∷ []) ps w (keys-snoc u v t t k refl))
+    (ruleStep u p (not (isEmpty ps))) refl e
   where
-    go : ((t : Rule) → itemsFrom ruleStep (u ++ t ∷ []) ps ≡ accepted w → Rest (u ++ t ∷ []) (v ++ t ∷ []) ps w) → (x : Step Rule) → ruleStep u p (not (isEmpty ps)) ≡ x
-        → onStep u x (λ t. itemsFrom ruleStep (u ++ t ∷ []) ps) ≡ accepted w → Rest u v (p ∷ ps) w
+    go : ((t : Rule) → itemsFrom ruleStep (u ++ t ∷ []) ps ≡ accepted w
+        → Rest (u ++ t ∷ []) (v ++ t ∷ []) ps w) → (x : Step Rule)
+        → ruleStep u p (not (isEmpty ps)) ≡ x
+        → onStep u x (λ t. itemsFrom ruleStep (u ++ t ∷ []) ps) ≡ accepted w
+        → Rest u v (p ∷ ps) w
     go again (next t) h e =
         let r = again t e in
         record {
           tail = t ∷ r .tail;
           whole = r .whole ∙ append-assoc u (t ∷ []) (r .tail);
-          reads = rw (← step-same u v k p (not (isEmpty ps)), h) (r .reads ∙ ap accepted (append-assoc v (t ∷ []) (r .tail)));
+          reads = rw (← step-same u v k p (not (isEmpty ps)), h)
+              (r .reads ∙ ap accepted (append-assoc v (t ∷ []) (r .tail)));
         }
     go again (stop f) h e = absurd (clash cc)
     go again end h e = record {
@@ -111,17 +124,22 @@ pub record GivesRule (seen : Rules) (p : List ℕ) (ended : Bool) (t : Rule) : T
 next-inj : (r t : Rule) → next r ≡ next t → r ≡ t
 next-inj r t e = cc
 
-gives : (seen : Rules) (p : List ℕ) (b : Bool) (t : Rule) → ruleStep seen p b ≡ next t → GivesRule seen p b t
+gives : (seen : Rules) (p : List ℕ) (b : Bool) (t : Rule) → ruleStep seen p b ≡ next t
+    → GivesRule seen p b t
 gives seen p b t e =
     let n = next-only 128 6 2 (length seen) (ruleSays seen p) p b t (sym e) in
-    go (n .1) (n .0) (ruleLine p) refl (step-said (ruleSays seen p) (turnOf 128 (length seen) p b) t e)
+    go (n .1) (n .0) (ruleLine p) refl
+    (step-said (ruleSays seen p) (turnOf 128 (length seen) p b) t e)
   where
-    fresh-of : b ≡ true → length seen < 128 → (r : Rule) → ruleLine p ≡ RuleLine.Good r → (f : Bool) → anyOf (hasKey (keyOf r)) seen ≡ f
+    fresh-of : b ≡ true → length seen < 128 → (r : Rule) → ruleLine p ≡ RuleLine.Good r → (f : Bool)
+        → anyOf (hasKey (keyOf r)) seen ≡ f
         → cond f (stop 5) (next r) ≡ next t → GivesRule seen p b t
     fresh-of ends few r h true k e = absurd (clash cc)
-    fresh-of ends few r h false k e = let j = next-inj r t e in record { ends = ends; few = few; says = h ∙ ap RuleLine.Good j; fresh = rw j at k }
+    fresh-of ends few r h false k e = let j = next-inj r t e in
+        record { ends = ends; few = few; says = h ∙ ap RuleLine.Good j; fresh = rw j at k }
 
-    go : b ≡ true → length seen < 128 → (x : RuleLine) → ruleLine p ≡ x → ruleSaid seen x ≡ next t → GivesRule seen p b t
+    go : b ≡ true → length seen < 128 → (x : RuleLine) → ruleLine p ≡ x → ruleSaid seen x ≡ next t
+        → GivesRule seen p b t
     go ends few RuleLine.Form h e = absurd (clash cc)
     go ends few RuleLine.Range h e = absurd (clash cc)
     go ends few RuleLine.Unfit h e = absurd (clash cc)
@@ -155,27 +173,37 @@ pub record Changed (seen : Rules) (ps : List (List ℕ)) (n : ℕ) (w : Rules) :
   pub place : length front ≡ length seen + n
   pub there : n < length ps
   pub says : ruleLine (getD ps n []) ≡ RuleLine.Good rule
-  pub reads : (line : List ℕ) (x : RuleLine) → ruleLine line ≡ x → KeyKept x rule → itemsFrom ruleStep seen (set ps n line) ≡ outcome front back x
+  pub reads : (line : List ℕ) (x : RuleLine) → ruleLine line ≡ x → KeyKept x rule
+      → itemsFrom ruleStep seen (set ps n line) ≡ outcome front back x
 
-module _ (seen : Rules) (ps : List (List ℕ)) (t : Rule) (few : length seen < 128) (fresh : anyOf (hasKey (keyOf t)) seen ≡ false) (tail : Rules)
-    (w : Rules) (more : itemsFrom ruleStep (seen ++ t ∷ []) ps ≡ accepted w) (whole : w ≡ (seen ++ t ∷ []) ++ tail) where
+module _ (seen : Rules) (ps : List (List ℕ)) (t : Rule) (few : length seen < 128)
+    (fresh : anyOf (hasKey (keyOf t)) seen ≡ false) (tail : Rules)
+    (w : Rules) (more : itemsFrom ruleStep (seen ++ t ∷ []) ps ≡ accepted w)
+    (whole : w ≡ (seen ++ t ∷ []) ++ tail) where
   -- the step of the changed line
   step-new : (line : List ℕ) → ruleStep seen line true ≡ ruleSaid seen (ruleLine line)
   step-new line = rw (lt-leb 128 (length seen) few)
 
-  said-new : (x : RuleLine) → KeyKept x t → onStep seen (ruleSaid seen x) (λ r. itemsFrom ruleStep (seen ++ r ∷ []) ps) ≡ outcome seen tail x
+  said-new : (x : RuleLine) → KeyKept x t
+      → onStep seen (ruleSaid seen x) (λ r. itemsFrom ruleStep (seen ++ r ∷ []) ps)
+      ≡ outcome seen tail x
   said-new RuleLine.Form k = refl
   said-new RuleLine.Range k = refl
   said-new RuleLine.Unfit k = refl
   said-new RuleLine.Reversed k = refl
   said-new (RuleLine.Good s) k =
-      let r = rest-same (seen ++ t ∷ []) (seen ++ s ∷ []) ps w (keys-snoc seen seen t s (keys-self seen) (sym k)) more in
-      let j : r .tail ≡ tail = append-cancel-left (seen ++ t ∷ []) (r .tail) tail (sym (r .whole) ∙ whole) in
-      let f : anyOf (hasKey (keyOf s)) seen ≡ false = ap (λ (y : Key). anyOf (hasKey y) seen) k ∙ fresh in
+      let r = rest-same (seen ++ t ∷ []) (seen ++ s ∷ []) ps w
+      (keys-snoc seen seen t s (keys-self seen) (sym k)) more in
+      let j : r .tail ≡ tail =
+      append-cancel-left (seen ++ t ∷ []) (r .tail) tail (sym (r .whole) ∙ whole) in
+      let f : anyOf (hasKey (keyOf s)) seen ≡ false =
+      ap (λ (y : Key). anyOf (hasKey y) seen) k ∙ fresh in
       rw f (r .reads ∙ rw j (ap accepted (append-assoc seen (s ∷ []) tail)))
 
-  here : (line : List ℕ) (x : RuleLine) → ruleLine line ≡ x → KeyKept x t → (ended : Bool) → ended ≡ true
-      → onStep seen (ruleStep seen line ended) (λ r. itemsFrom ruleStep (seen ++ r ∷ []) ps) ≡ outcome seen tail x
+  here : (line : List ℕ) (x : RuleLine) → ruleLine line ≡ x → KeyKept x t → (ended : Bool)
+      → ended ≡ true
+      → onStep seen (ruleStep seen line ended) (λ r. itemsFrom ruleStep (seen ++ r ∷ []) ps)
+      ≡ outcome seen tail x
   here line x e k ended z = rw (z, step-new line, e) (said-new x k)
 
 -- another line in the place of one leaves as many
@@ -185,11 +213,14 @@ empty-set (p ∷ ps) zero line = refl
 empty-set (p ∷ ps) (suc n) line = refl
 
 -- THE LINES: line n gives a rule, and what all give with another line in its place
-pub items-changed : (n : ℕ) (seen : Rules) (ps : List (List ℕ)) (w : Rules) → itemsFrom ruleStep seen ps ≡ accepted w → length seen + n < length w → Changed seen ps n w
+pub items-changed : (n : ℕ) (seen : Rules) (ps : List (List ℕ)) (w : Rules)
+    → itemsFrom ruleStep seen ps ≡ accepted w → length seen + n < length w → Changed seen ps n w
 items-changed n seen [] w e h = absurd (let j = accepted-inj seen w e in omega (arith, ap length j))
 items-changed zero seen (p ∷ ps) w e h = go (ruleStep seen p (not (isEmpty ps))) refl e
   where
-    go : (x : Step Rule) → ruleStep seen p (not (isEmpty ps)) ≡ x → onStep seen x (λ t. itemsFrom ruleStep (seen ++ t ∷ []) ps) ≡ accepted w → Changed seen (p ∷ ps) zero w
+    go : (x : Step Rule) → ruleStep seen p (not (isEmpty ps)) ≡ x
+        → onStep seen x (λ t. itemsFrom ruleStep (seen ++ t ∷ []) ps) ≡ accepted w
+        → Changed seen (p ∷ ps) zero w
     go (next t) j e =
         let g = gives seen p (not (isEmpty ps)) t j in
         let r = rest-same (seen ++ t ∷ []) (seen ++ t ∷ []) ps w (keys-self (seen ++ t ∷ [])) e in
@@ -201,14 +232,19 @@ items-changed zero seen (p ∷ ps) w e h = go (ruleStep seen p (not (isEmpty ps)
           place = sym (add-zero (length seen));
           there = omega arith;
           says = g .says;
-          reads = λ line x z k. here seen ps t (g .few) (g .fresh) (r .tail) w e (r .whole) line x z k (not (isEmpty ps)) (g .ends);
+          reads = λ line x z k. here seen ps t (g .few) (g .fresh) (r .tail) w e (r .whole) line x z
+              k (not (isEmpty ps)) (g .ends);
         }
     go (stop f) j e = absurd (clash cc)
     go end j e = absurd (let k = accepted-inj seen w e in omega (arith, ap length k))
-items-changed (suc n) seen (p ∷ ps) w e h = go (λ t. items-changed n (seen ++ t ∷ []) ps w) (ruleStep seen p (not (isEmpty ps))) refl e
+items-changed (suc n) seen (p ∷ ps) w e h =
+    go (λ t. items-changed n (seen ++ t ∷ []) ps w) (ruleStep seen p (not (isEmpty ps))) refl e
   where
-    go : ((t : Rule) → itemsFrom ruleStep (seen ++ t ∷ []) ps ≡ accepted w → length (seen ++ t ∷ []) + n < length w → Changed (seen ++ t ∷ []) ps n w)
-        → (x : Step Rule) → ruleStep seen p (not (isEmpty ps)) ≡ x → onStep seen x (λ t. itemsFrom ruleStep (seen ++ t ∷ []) ps) ≡ accepted w → Changed seen (p ∷ ps) (suc n) w
+    go : ((t : Rule) → itemsFrom ruleStep (seen ++ t ∷ []) ps ≡ accepted w
+        → length (seen ++ t ∷ []) + n < length w → Changed (seen ++ t ∷ []) ps n w)
+        → (x : Step Rule) → ruleStep seen p (not (isEmpty ps)) ≡ x
+        → onStep seen x (λ t. itemsFrom ruleStep (seen ++ t ∷ []) ps) ≡ accepted w
+        → Changed seen (p ∷ ps) (suc n) w
     go again (next t) j e =
         let c = again t e (omega (arith, length-append seen (t ∷ []))) in
         record {

@@ -20,13 +20,15 @@ pub record Walking (s : List ℕ) (b n at left : ℕ) : Type 0 where
   pub same : pieceStart (pieces b s) n ≡ at + pieceStart (pieces b (drop at s)) left
 
 pub walking-start : (s : List ℕ) (b n : ℕ) → n < length (pieces b s) → Walking s b n 0 n
-walking-start s b n h = record { low = omega arith; there = h; same = sym (zero-add (pieceStart (pieces b s) n)) }
+walking-start s b n h =
+    record { low = omega arith; there = h; same = sym (zero-add (pieceStart (pieces b s) n)) }
 
 onto-long : (x : ℕ) (ps : List (List ℕ)) → 0 < length ps → length (onto x ps) ≡ length ps
 onto-long x [] h = absurd (omega arith)
 onto-long x (p ∷ ps) h = refl
 
-onto-start : (x : ℕ) (ps : List (List ℕ)) (k : ℕ) → 0 < length ps → pieceStart (onto x ps) (suc k) ≡ 1 + pieceStart ps (suc k)
+onto-start : (x : ℕ) (ps : List (List ℕ)) (k : ℕ) → 0 < length ps
+    → pieceStart (onto x ps) (suc k) ≡ 1 + pieceStart ps (suc k)
 onto-start x [] k h = absurd (omega arith)
 onto-start x (p ∷ ps) k h = omega arith
 
@@ -50,17 +52,21 @@ module _ {s : List ℕ} {b n at left : ℕ} (w : Walking s b n at left) (more : 
 
   pub walking-hit : getD s at 0 ≡ b → Walking s b n (at + 1) (left - 1)
   walking-hit e =
-      let j : pieces b (drop at s) ≡ [] ∷ pieces b (drop (at + 1) s) = rw (cut, eq-eqb (getD s at 0) b e) in
+      let j : pieces b (drop at s) ≡ [] ∷ pieces b (drop (at + 1) s) =
+      rw (cut, eq-eqb (getD s at 0) b e) in
       let t = w .there in
       let k = some-suc left more in
-      let m : pieceStart (pieces b (drop at s)) left ≡ 1 + pieceStart (pieces b (drop (at + 1) s)) (left - 1) = rw (j, k) (next (pieces b (drop (at + 1) s)) (left - 1)) in
+      let m : pieceStart (pieces b (drop at s)) left ≡ 1
+      + pieceStart (pieces b (drop (at + 1) s)) (left - 1) =
+      rw (j, k) (next (pieces b (drop (at + 1) s)) (left - 1)) in
       record {
         low = omega (arith, walking-in);
         there = omega (arith, rw j at t);
         same = omega (arith, w .same, m);
       }
     where
-      next : (ps : List (List ℕ)) (k : ℕ) → pieceStart ([] ∷ ps) (suc k) ≡ 1 + pieceStart ps (suc k - 1)
+      next : (ps : List (List ℕ)) (k : ℕ)
+          → pieceStart ([] ∷ ps) (suc k) ≡ 1 + pieceStart ps (suc k - 1)
       next ps k = let z : suc k - 1 ≡ k = omega arith in rw z (omega arith)
 
   pub walking-miss : (getD s at 0 ≡ b → ⊥) → Walking s b n (at + 1) left
@@ -70,14 +76,16 @@ module _ {s : List ℕ} {b n at left : ℕ} (w : Walking s b n at left) (more : 
       let t = w .there in
       let k = some-suc left more in
       let l = pieces-long b (drop (at + 1) s) in
-      let m : pieceStart (pieces b (drop at s)) left ≡ 1 + pieceStart ps left = rw (j, k) (onto-start (getD s at 0) ps (left - 1) l) in
+      let m : pieceStart (pieces b (drop at s)) left ≡ 1 + pieceStart ps left =
+      rw (j, k) (onto-start (getD s at 0) ps (left - 1) l) in
       record {
         low = omega (arith, walking-in);
         there = omega (arith, rw j at t, onto-long (getD s at 0) ps l);
         same = omega (arith, w .same, m);
       }
 
-pub walking-end : {s : List ℕ} {b n at left : ℕ} → Walking s b n at left → left ≤ 0 → at ≡ pieceStart (pieces b s) n
+pub walking-end : {s : List ℕ} {b n at left : ℕ} → Walking s b n at left → left ≤ 0
+    → at ≡ pieceStart (pieces b s) n
 walking-end {s} {b} {n} {at} {left} w h =
     let e : left ≡ 0 = omega arith in
     let z : pieceStart (pieces b (drop at s)) left ≡ 0 = rw e in

@@ -16,7 +16,8 @@ use Rattle.grammar.specs.Trees.{Rules}
 abbrev pub lineOf : List ℕ → ℕ → List ℕ
 lineOf s p = getD (pieces 10 s) p []
 
--- where the lay of that rule begins: four fields stand before it in its line; it ends where the line does
+-- where the lay of that rule begins: four fields stand before it in its line; it ends where the
+-- line does
 abbrev pub layStart : List ℕ → ℕ → ℕ
 layStart s p = pieceStart (pieces 10 s) p + pieceStart (pieces 32 (lineOf s p)) 4
 
@@ -27,7 +28,8 @@ layEnd s p = pieceStart (pieces 10 s) p + length (lineOf s p)
 abbrev pub changed : List ℕ → ℕ → List ℕ → List ℕ
 changed s p lay = take (layStart s p) s ++ (lay ++ drop (layEnd s p) s)
 
--- what the changed sheet says: bytes that are no word of lay are refused 2 in that rule's line; else all checks are made afresh
+-- what the changed sheet says: bytes that are no word of lay are refused 2 in that rule's line;
+-- else all checks are made afresh
 abbrev pub readChanged : List ℕ → ℕ → List ℕ → Option Lay → Reading Rules
 readChanged s p lay (some y) = ruleSheet (changed s p lay)
 readChanged s p lay none = refused 2 (p + 1)

@@ -1,4 +1,5 @@
-// A rule sheet with another mark in one of its rules, given as a list of its bytes; what that sheet says, and the law of stricter marks.
+// A rule sheet with another mark in one of its rules, given as a list of its bytes; what that sheet
+// says, and the law of stricter marks.
 use fields::Cursor;
 use fields::Lay;
 use grammar::Clause;
@@ -43,7 +44,8 @@ fn piece_start(s: &[u8], b: u8, n: usize) -> usize
 // Where the lay of the rule at place p, counted from 1, begins and ends.
 fn lay_at(s: &[u8], p: usize) -> Field
     requires { ⌜ (p < length (pieces 10 (now s))) × (4 < length (pieces 32 (lineOf (now s) p))) ⌝ }
-    ensures { λ r. ⌜ (r .start ≡ layStart (now (s .entry)) p) × (r .end ≡ layEnd (now (s .entry)) p) ⌝ }
+    ensures { λ r. ⌜ (r .start ≡ layStart (now (s .entry)) p)
+        × (r .end ≡ layEnd (now (s .entry)) p) ⌝ }
 {
     let at = piece_start(s, 10, p);
     let c = Cursor::line(s, at);
@@ -93,7 +95,9 @@ fn is_binary(c: Clause) -> bool
 // The changed sheet as a list of its bytes: those before the lay, the new lay, and those behind it.
 pub fn put_changed(s: &[u8], p: usize, lay: &[u8], out: &mut [u8]) -> Listed
     requires { ⌜ (p < length (pieces 10 (now s))) × (4 < length (pieces 32 (lineOf (now s) p))) ⌝ }
-    ensures { λ r. ⌜ GivesList listed unfit (changed (now (s .entry)) p (now (lay .entry))) (length (changed (now (s .entry)) p (now (lay .entry)))) (now (out .entry)) (now (out .exit)) r ⌝ }
+    ensures { λ r. ⌜ GivesList listed unfit (changed (now (s .entry)) p (now (lay .entry)))
+        (length (changed (now (s .entry)) p (now (lay .entry)))) (now (out .entry))
+        (now (out .exit)) r ⌝ }
 {
     let f = lay_at(s, p);
     let start = f.start;

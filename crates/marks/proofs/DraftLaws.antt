@@ -9,9 +9,11 @@ use Rattle.marks.specs.Half.{tokenAt}
 use Rattle.marks.specs.Drafts.{drafted}
 use Rattle.grammar.specs.Sentences.{no-token}
 
-pub drafted-at : (d : Draft) (i : ℕ) → i < d .count → tokenAt (drafted d) i ≡ getD (d .tokens) i no-token
+pub drafted-at : (d : Draft) (i : ℕ) → i < d .count
+    → tokenAt (drafted d) i ≡ getD (d .tokens) i no-token
 drafted-at d i h = getD-take (d .count) (d .tokens) i no-token h
 
 -- a draft is as long as its count says
-pub drafted-length : (d : Draft) → length (d .tokens) ≡ 64 → d .count ≤ 64 → length (drafted d) ≡ d .count
+pub drafted-length : (d : Draft) → length (d .tokens) ≡ 64 → d .count ≤ 64
+    → length (drafted d) ≡ d .count
 drafted-length d e h = length-take-le (d .count) (d .tokens) (omega arith)

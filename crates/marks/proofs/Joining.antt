@@ -22,9 +22,12 @@ use Rattle.marks.specs.Drafts.{half}
 use Rattle.marks.specs.Half.{Half, tokenAt, MayKeep, MayPair}
 use Rattle.marks.specs.Later.{OffsideBy, OffalignBy}
 use Rattle.marks.proofs.DraftLaws.{drafted-at}
-use Rattle.marks.specs.Marked.{Included, Grown, Joined, opened, Advanced, alone, Pairing, Carried, Marked}
-use Rattle.marks.proofs.Columns.{least-first, least-more, least-open, offside-by, offalign-by}
-use Rattle.marks.proofs.Pairings.{pairing-none, pairing-more, flagged, unary-marked, binary-marked}
+use Rattle.marks.specs.Marked.{Included, Grown, Joined, opened, Advanced, alone, Pairing}
+use Rattle.marks.specs.Marked.{Carried, Marked}
+use Rattle.marks.proofs.Columns.{least-first, least-more, least-open, offside-by}
+use Rattle.marks.proofs.Columns.{offalign-by}
+use Rattle.marks.proofs.Pairings.{pairing-none, pairing-more, flagged, unary-marked}
+use Rattle.marks.proofs.Pairings.{binary-marked}
 use Rattle.sets.specs.Insertion.{insert}
 use Rattle.grammar.specs.Sentences.{no-token}
 
@@ -32,9 +35,13 @@ use Rattle.grammar.specs.Sentences.{no-token}
 
 -- all of it stands on one line
 keep-one : (h : Half) (s : ℕ) → MayKeep UnaryMark.Single h s 1
-keep-one h s = record { keeps = λ i l k. ap (λ (x : ℕ). tokenAt (h .word) x .line .0) (let e : s + i ≡ s = omega arith in e) }
+keep-one h s = record {
+  keeps = λ i l k. ap (λ (x : ℕ). tokenAt (h .word) x .line .0)
+      (let e : s + i ≡ s = omega arith in e);
+}
 
-pub carried-first : (h : Half) (s t c : ℕ) → t ≡ tokenAt (h .word) s .terminal → c ≡ col (tokenAt (h .word) s) → Carried h s 1 (alone t c)
+pub carried-first : (h : Half) (s t c : ℕ) → t ≡ tokenAt (h .word) s .terminal
+    → c ≡ col (tokenAt (h .word) s) → Carried h s 1 (alone t c)
 carried-first h s t c b d = record {
   first = d;
   least = least-first h s;
@@ -48,34 +55,54 @@ carried-first h s t c b d = record {
 
 -- what the token at s + l adds to the first l
 abbrev pub NextJoined : Half → ℕ → ℕ → SpanMarks → SpanMarks → Type 0
-NextJoined h s l k r = Advanced k l (s + l) (h .known) (tokenAt (h .word) s) (tokenAt (h .word) (s + l - 1)) (tokenAt (h .word) (s + l)) r
+NextJoined h s l k r = Advanced k l (s + l) (h .known) (tokenAt (h .word) s)
+    (tokenAt (h .word) (s + l - 1)) (tokenAt (h .word) (s + l)) r
 
 -- three tokens of a draft are asked
 pub next-joined : (d : Draft) (s l : ℕ) (k r : SpanMarks) → s + l < d .count
-    → Advanced k l (s + l) (d .known) (getD (d .tokens) s no-token) (getD (d .tokens) (s + l - 1) no-token) (getD (d .tokens) (s + l) no-token) r → NextJoined (half d) s l k r
+    → Advanced k l (s + l) (d .known) (getD (d .tokens) s no-token)
+    (getD (d .tokens) (s + l - 1) no-token) (getD (d .tokens) (s + l) no-token) r
+    → NextJoined (half d) s l k r
 next-joined d s l k r h =
     subst₃ (λ (x y t : Token). Advanced k l (s + l) (d .known) x y t r)
-    (sym (drafted-at d s (omega arith))) (sym (drafted-at d (s + l - 1) (omega arith))) (sym (drafted-at d (s + l) (omega arith)))
+    (sym (drafted-at d s (omega arith))) (sym (drafted-at d (s + l - 1) (omega arith)))
+    (sym (drafted-at d (s + l) (omega arith)))
 
 -- a known token is asked for its line
 line-more : (h : Half) (s l : ℕ) (b c : Bool) → s + l < h .known
-    → Says b (MayKeep UnaryMark.Single h s l) → Says c ((b ≡ true) × Keeps UnaryMark.Single (tokenAt (h .word) s) (tokenAt (h .word) (s + l))) → Says c (MayKeep UnaryMark.Single h s (l + 1))
+    → Says b (MayKeep UnaryMark.Single h s l)
+    → Says c ((b ≡ true) × Keeps UnaryMark.Single (tokenAt (h .word) s)
+    (tokenAt (h .word) (s + l))) → Says c (MayKeep UnaryMark.Single h s (l + 1))
 line-more h s l b c known p q =
     says-iff (λ t. record { keeps = below-more _ _ (p .is (t .0) .keeps) (λ k. t .1) })
-    (λ t. (flagged p .1 (record { keeps = λ i x. t .keeps i (omega arith) }), t .keeps l (omega arith) known)) q
+    (λ t. (
+      flagged p .1 (record { keeps = λ i x. t .keeps i (omega arith) }),
+      t .keeps l
+          (omega arith) known,
+    )) q
 
 -- an open one is not
-line-open : (h : Half) (s l : ℕ) (b : Bool) → h .known ≤ s + l → Says b (MayKeep UnaryMark.Single h s l) → Says b (MayKeep UnaryMark.Single h s (l + 1))
+line-open : (h : Half) (s l : ℕ) (b : Bool) → h .known ≤ s + l
+    → Says b (MayKeep UnaryMark.Single h s l) → Says b (MayKeep UnaryMark.Single h s (l + 1))
 line-open h s l b known p =
-    says-iff (λ t. record { keeps = below-more _ _ (t .keeps) (λ k. absurd (omega (arith, k, known))) }) (λ t. record { keeps = λ i x. t .keeps i (omega arith) }) p
+    says-iff (λ t. record {
+      keeps = below-more _ _ (t .keeps)
+          (λ k. absurd (omega (arith, k, known)));
+    })
+    (λ t. record { keeps = λ i x. t .keeps i (omega arith) }) p
 
 pair-more : (m : BinaryMark) (h : Half) (s l set r : ℕ) → 0 < l → s + l < h .known
-    → Grown set l (Pairs m (tokenAt (h .word) s) (tokenAt (h .word) (s + l - 1)) (tokenAt (h .word) (s + l))) r → Pairing m h s l set → Pairing m h s (l + 1) r
+    → Grown set l (Pairs m (tokenAt (h .word) s) (tokenAt (h .word) (s + l - 1))
+    (tokenAt (h .word) (s + l))) r → Pairing m h s l set → Pairing m h s (l + 1) r
 pair-more m h s l set r pos known g p =
-    pairing-more m h s l set r (g .flag) pos (says-iff (λ f. record { pairs = λ x y k. f }) (λ t. t .pairs (omega arith) (omega arith) known) (g .says)) (g .included) p
+    pairing-more m h s l set r (g .flag) pos
+    (says-iff (λ f. record { pairs = λ x y k. f })
+    (λ t. t .pairs (omega arith) (omega arith) known) (g .says)) (g .included) p
 
-pair-open : (m : BinaryMark) (h : Half) (s l set : ℕ) → 0 < l → h .known ≤ s + l → Pairing m h s l set → Pairing m h s (l + 1) (insert set l)
-pair-open m h s l set pos known p = pairing-more m h s l set (insert set l) true pos (holds free) all p
+pair-open : (m : BinaryMark) (h : Half) (s l set : ℕ) → 0 < l → h .known ≤ s + l
+    → Pairing m h s l set → Pairing m h s (l + 1) (insert set l)
+pair-open m h s l set pos known p =
+    pairing-more m h s l set (insert set l) true pos (holds free) all p
   where
     free : MayPair m h s l 1
     free = record { pairs = λ x y k. absurd (omega (arith, k, known)) }
@@ -84,7 +111,8 @@ pair-open m h s l set pos known p = pairing-more m h s l set (insert set l) true
     all = record { is = λ y. refl; isnt = λ n. absurd (true-not-false n) }
 
 known-more : (h : Half) (s l : ℕ) (k r : SpanMarks) → 0 < l → s + l < h .known → Carried h s l k
-    → Joined k l (tokenAt (h .word) s) (tokenAt (h .word) (s + l - 1)) (tokenAt (h .word) (s + l)) r → Carried h s (l + 1) r
+    → Joined k l (tokenAt (h .word) s) (tokenAt (h .word) (s + l - 1)) (tokenAt (h .word) (s + l)) r
+    → Carried h s (l + 1) r
 known-more h s l k r pos known p j = record {
   first = j .first ∙ p .first;
   least = least-more h s l (k .least) (r .least) known (p .least) (j .least);
@@ -94,7 +122,8 @@ known-more h s l k r pos known p j = record {
   terminal = j .terminal ∙ p .terminal;
 }
 
-open-more : (h : Half) (s l : ℕ) (k : SpanMarks) → 0 < l → h .known ≤ s + l → Carried h s l k → Carried h s (l + 1) (opened k l)
+open-more : (h : Half) (s l : ℕ) (k : SpanMarks) → 0 < l → h .known ≤ s + l → Carried h s l k
+    → Carried h s (l + 1) (opened k l)
 open-more h s l k pos known p = record {
   first = p .first;
   least = least-open h s l (k .least) known (p .least);
@@ -104,23 +133,30 @@ open-more h s l k pos known p = record {
   terminal = p .terminal;
 }
 
-pub carried-more : (h : Half) (s l : ℕ) (k r : SpanMarks) → 0 < l → Carried h s l k → NextJoined h s l k r → Carried h s (l + 1) r
+pub carried-more : (h : Half) (s l : ℕ) (k r : SpanMarks) → 0 < l → Carried h s l k
+    → NextJoined h s l k r → Carried h s (l + 1) r
 carried-more h s l k r pos p j = go (decLt (s + l) (h .known))
   where
     go : Dec (s + l < h .known) → Carried h s (l + 1) r
     go (yes z) = known-more h s l k r pos z p (j .counts z)
-    go (no z) = let known : h .known ≤ s + l = omega (arith, z) in subst (Carried h s (l + 1)) (sym (j .open-one known)) (open-more h s l k pos known p)
+    go (no z) = let known : h .known ≤ s + l = omega (arith, z) in
+        subst (Carried h s (l + 1)) (sym (j .open-one known)) (open-more h s l k pos known p)
 
 -- ---- the whole span
 
 pub carried-all : (h : Half) (s len : ℕ) (k : SpanMarks) → Carried h s len k → Marked h s len k
 carried-all h s len k p = record {
   least = λ pos. p .least;
-  atom = λ e a b. (λ x. record { terminal = subst (Covers a b) (p .terminal) x }, λ x. subst (Covers a b) (sym (p .terminal)) (x .terminal));
+  atom = λ e a b. (
+    λ x. record { terminal = subst (Covers a b) (p .terminal) x },
+    λ x. subst
+        (Covers a b) (sym (p .terminal)) (x .terminal),
+  );
   unary = unary-marked h s len k
-      (subst (λ (c : ℕ). OffsideBy c (k .least) ↔ MayKeep UnaryMark.Offside h s len) (sym (p .first)) (offside-by h s len (k .least) (p .least)))
-      (subst (λ (c : ℕ). OffalignBy c (k .least) ↔ MayKeep UnaryMark.Offalign h s len) (sym (p .first)) (offalign-by h s len (k .least) (p .least)))
-      (p .single);
+      (subst (λ (c : ℕ). OffsideBy c (k .least) ↔ MayKeep UnaryMark.Offside h s len)
+      (sym (p .first)) (offside-by h s len (k .least) (p .least)))
+      (subst (λ (c : ℕ). OffalignBy c (k .least) ↔ MayKeep UnaryMark.Offalign h s len)
+      (sym (p .first)) (offalign-by h s len (k .least) (p .least))) (p .single);
   binary = binary-marked h s len k (p .align) (p .indent);
 }
 
@@ -128,8 +164,10 @@ pub no-tokens : (h : Half) (s len : ℕ) (t c : ℕ) → len ≡ 0 → Marked h 
 no-tokens h s len t c e = record {
   least = λ pos. absurd (omega arith);
   atom = λ f. absurd (omega arith);
-  unary = unary-marked h s len _ (λ x. keep-none _, λ x. tt) (λ x. keep-none _, λ x. tt) (holds (keep-none _));
-  binary = binary-marked h s len _ (pairing-none _ h s len (omega arith)) (pairing-none _ h s len (omega arith));
+  unary = unary-marked h s len _ (λ x. keep-none _, λ x. tt) (λ x. keep-none _, λ x. tt)
+      (holds (keep-none _));
+  binary = binary-marked h s len _ (pairing-none _ h s len (omega arith))
+      (pairing-none _ h s len (omega arith));
 }
   where
     keep-none : (m : UnaryMark) → MayKeep m h s len

@@ -1,4 +1,5 @@
--- Half-known words: the tokens before `known` count, the others are open. A mark is asked of the known tokens alone.
+-- Half-known words: the tokens before `known` count, the others are open. A mark is asked of the
+-- known tokens alone.
 use mathlib.Core.Path.{_≡_}
 use Prim.Native.Nat.{ℕ, _+_, _-_, _<_}
 use lib.ListN.{length, getD}
@@ -28,8 +29,10 @@ pub record MayBe (h : Half) (s a b : ℕ) : Type 0 where
 
 -- the unary mark may hold of the span of len tokens from s on
 pub record MayKeep (m : UnaryMark) (h : Half) (s len : ℕ) : Type 0 where
-  pub keeps : (i : ℕ) → i < len → s + i < h .known → Keeps m (tokenAt (h .word) s) (tokenAt (h .word) (s + i))
+  pub keeps : (i : ℕ) → i < len → s + i < h .known
+      → Keeps m (tokenAt (h .word) s) (tokenAt (h .word) (s + i))
 
 -- the binary mark may hold of the span of l tokens from s on and that of r tokens after it
 pub record MayPair (m : BinaryMark) (h : Half) (s l r : ℕ) : Type 0 where
-  pub pairs : 0 < l → 0 < r → s + l < h .known → Pairs m (tokenAt (h .word) s) (tokenAt (h .word) (s + l - 1)) (tokenAt (h .word) (s + l))
+  pub pairs : 0 < l → 0 < r → s + l < h .known
+      → Pairs m (tokenAt (h .word) s) (tokenAt (h .word) (s + l - 1)) (tokenAt (h .word) (s + l))

@@ -1,4 +1,5 @@
--- The least column on lines later than the first token's, carried along while a span grows by a token (02, request 3).
+-- The least column on lines later than the first token's, carried along while a span grows by a
+-- token (02, request 3).
 use mathlib.Core.Path.{_≡_}
 use Prim.Native.Nat.{ℕ, _+_, _≤_, _<_, min}
 use Rattle.grammar.specs.declared.Token.{Token}
@@ -7,7 +8,8 @@ use Rattle.marks.specs.declared.Least.{Least}
 use Rattle.marks.specs.declared.Least.the-variants as Least
 use Rattle.marks.specs.Half.{Half, tokenAt}
 
--- of the span of len tokens from s on, the token at s + i is known and stands on a line later than the first token's
+-- of the span of len tokens from s on, the token at s + i is known and stands on a line later than
+-- the first token's
 pub record Later (h : Half) (s len i : ℕ) : Type 0 where
   pub inside : i < len
   pub known : s + i < h .known
@@ -17,7 +19,8 @@ pub record Later (h : Half) (s len i : ℕ) : Type 0 where
 abbrev pub LeastLater : Half → ℕ → ℕ → Least → Type 0
 LeastLater h s len Least.None = (i : ℕ) → Later h s len i → ⊥
 LeastLater h s len (Least.At c) =
-    ((i : ℕ) × Later h s len i × (col (tokenAt (h .word) (s + i)) ≡ c)) × ((i : ℕ) → Later h s len i → c ≤ col (tokenAt (h .word) (s + i)))
+    ((i : ℕ) × Later h s len i × (col (tokenAt (h .word) (s + i)) ≡ c))
+    × ((i : ℕ) → Later h s len i → c ≤ col (tokenAt (h .word) (s + i)))
 
 -- the least of v and the column c
 abbrev pub lesser : Least → ℕ → Least

@@ -1,4 +1,5 @@
--- What the marks of a span say, and when they are right (inner: contracts of the functions that fill the span sheet).
+-- What the marks of a span say, and when they are right (inner: contracts of the functions that
+-- fill the span sheet).
 use mathlib.Core.Path.{_≡_}
 use mathlib.Core.Bool.{Bool, true, false}
 use mathlib.Core.Logic.{_↔_}
@@ -58,7 +59,15 @@ pub record Joined (k : SpanMarks) (l : ℕ) (a z t : Token) (r : SpanMarks) : Ty
 
 -- the marks k of l tokens with an open token after them
 abbrev pub opened : SpanMarks → ℕ → SpanMarks
-opened k l = record { first = k .first; least = k .least; single = k .single; align = insert (k .align) l; indent = insert (k .indent) l; terminal = k .terminal }
+opened k l = record {
+  first = k .first;
+  least = k .least;
+  single = k .single;
+  align = insert
+      (k .align) l;
+  indent = insert (k .indent) l;
+  terminal = k .terminal;
+}
 
 -- the token after them is at `at`, and is open unless it is known
 pub record Advanced (k : SpanMarks) (l at known : ℕ) (a z t : Token) (r : SpanMarks) : Type 0 where
@@ -67,14 +76,16 @@ pub record Advanced (k : SpanMarks) (l at known : ℕ) (a z t : Token) (r : Span
 
 -- the marks of one token with the terminal t and the column c, or of none
 abbrev pub alone : ℕ → ℕ → SpanMarks
-alone t c = record { first = c; least = Least.None; single = true; align = 0; indent = 0; terminal = t }
+alone t c =
+    record { first = c; least = Least.None; single = true; align = 0; indent = 0; terminal = t }
 
 -- set has the left lengths from 1 to below `to` at which the mark may hold of the tokens from s on
 pub record Pairing (m : BinaryMark) (h : Half) (s to set : ℕ) : Type 0 where
   pub each : (l : ℕ) → 0 < l → l < to → In set l ↔ MayPair m h s l 1
   pub only : (l : ℕ) → In set l → (0 < l) × (l < to)
 
--- k is the marks of len tokens from s on, as they are carried from a span to the one that has a token more
+-- k is the marks of len tokens from s on, as they are carried from a span to the one that has a
+-- token more
 pub record Carried (h : Half) (s len : ℕ) (k : SpanMarks) : Type 0 where
   pub first : k .first ≡ col (tokenAt (h .word) s)
   pub least : LeastLater h s len (k .least)
@@ -83,8 +94,8 @@ pub record Carried (h : Half) (s len : ℕ) (k : SpanMarks) : Type 0 where
   pub indent : Pairing BinaryMark.Indent h s len (k .indent)
   pub terminal : k .terminal ≡ tokenAt (h .word) s .terminal
 
--- the marks k of the span of len tokens from s on are those of the definitions; where the span has a token, its carried
--- value is the least column on lines later than the first token's
+-- the marks k of the span of len tokens from s on are those of the definitions; where the span has
+-- a token, its carried value is the least column on lines later than the first token's
 pub record Marked (h : Half) (s len : ℕ) (k : SpanMarks) : Type 0 where
   pub least : 0 < len → LeastLater h s len (k .least)
   pub atom : len ≡ 1 → (a b : ℕ) → AtomBy k a b ↔ MayBe h s a b

@@ -1,4 +1,5 @@
-// Layout marks over the spans of a sentence that is known up to some token: what a span's tokens leave to a rule.
+// Layout marks over the spans of a sentence that is known up to some token: what a span's tokens
+// leave to a rule.
 use grammar::BinaryMark;
 use grammar::Token;
 use grammar::UnaryMark;
@@ -13,9 +14,11 @@ ghost use Rattle.grammar.specs.Layout.{Keeps, Pairs};
 ghost use Rattle.grammar.specs.declared.UnaryMark.the-variants as Unary;
 ghost use Rattle.marks.specs.Drafts.{half, Within};
 ghost use Rattle.marks.specs.Later.{lesser, Grows, OffsideBy, OffalignBy};
-ghost use Rattle.marks.specs.Marked.{AtomBy, UnaryBy, BinaryBy, Included, Joined, opened, Advanced, alone, Marked};
+ghost use Rattle.marks.specs.Marked.{AtomBy, UnaryBy, BinaryBy, Included, Joined, opened};
+ghost use Rattle.marks.specs.Marked.{Advanced, alone, Marked};
 
-// The first `count` of the tokens, of which the first `known` count and the others are open: an open token meets any mark.
+// The first `count` of the tokens, of which the first `known` count and the others are open: an
+// open token meets any mark.
 pub struct Draft {
     pub tokens: [Token; 64],
     pub count: usize,
@@ -28,10 +31,11 @@ pub enum Least {
     At(u16),
 }
 
-// What the tokens of a span leave to a rule, as it is carried along while the span grows by a token: the first token's
-// column and the least column on later lines, by which offside and offalign are decided; do all tokens stand on one line;
-// at which left lengths, from 1 to below the span's length, do align and indent hold (at the others they hold always);
-// and which terminal has the first token (asked of a span of one token alone).
+// What the tokens of a span leave to a rule, as it is carried along while the span grows by a
+// token: the first token's column and the least column on later lines, by which offside and
+// offalign are decided; do all tokens stand on one line; at which left lengths, from 1 to below the
+// span's length, do align and indent hold (at the others they hold always); and which terminal has
+// the first token (asked of a span of one token alone).
 pub struct SpanMarks {
     pub first: u16,
     pub least: Least,
@@ -64,7 +68,8 @@ pub fn grow(v: Least, a: Token, t: Token) -> Least
     }
 }
 
-// Does offside hold of a span whose first token has the column `c`, `v` being its least column on later lines?
+// Does offside hold of a span whose first token has the column `c`, `v` being its least column on
+// later lines?
 pub fn offside(c: u16, v: Least) -> bool
     ensures { λ r. ⌜ Says r (OffsideBy c v) ⌝ }
 {
@@ -255,7 +260,8 @@ fn listed(set: u64, l: usize, len: usize) -> bool
     has(set, l as u8)
 }
 
-// Do they leave the span of `len` tokens to a binary rule with the mark `m` and `l` tokens on its left?
+// Do they leave the span of `len` tokens to a binary rule with the mark `m` and `l` tokens on its
+// left?
 pub fn allows_binary(k: SpanMarks, m: BinaryMark, l: usize, len: usize) -> bool
     requires { ⌜ (l ≤ len) × (len ≤ 64) ⌝ }
     ensures { λ r. ⌜ Says r (BinaryBy k len m l) ⌝ }

@@ -13,7 +13,13 @@ use Rattle.column_ranges.specs.RangeSentences.{range, rangesOf, Spread}
 
 -- the token of r in the column x
 abbrev pub standing : RangeToken → ℕ → Token
-standing r x = record { terminal = r .terminal; line = r .line; column = record { 0 = x }; width = record { 0 = 1 } }
+standing r x = record {
+  terminal = r .terminal;
+  line = r .line;
+  column = record { 0 = x };
+  width =
+      record { 0 = 1 };
+}
 
 abbrev pub lowToken : RangeToken → Token
 lowToken r = standing r (r .low .0)
@@ -34,9 +40,11 @@ Single r = r .low .0 ≡ r .high .0
 pub record Singles (rs : Ranges) : Type 0 where
   pub each : (k : ℕ) → k < length rs → Single (range rs k)
 
--- each token in its highest column comes after the one before in its lowest: where one does not, no choice rises
+-- each token in its highest column comes after the one before in its lowest: where one does not, no
+-- choice rises
 pub record MayRise (rs : Ranges) : Type 0 where
-  pub each : (k : ℕ) → k + 1 < length rs → After (lowToken (range rs k)) (highToken (range rs (k + 1)))
+  pub each : (k : ℕ) → k + 1 < length rs
+      → After (lowToken (range rs k)) (highToken (range rs (k + 1)))
 
 -- p is a token with several columns; where there is none, it is past the last
 pub record Picks (rs : Ranges) (p : ℕ) : Type 0 where
@@ -45,7 +53,13 @@ pub record Picks (rs : Ranges) (p : ℕ) : Type 0 where
 
 -- r in the column x alone
 abbrev pub fixed : RangeToken → ℕ → RangeToken
-fixed r x = record { terminal = r .terminal; line = r .line; low = record { 0 = x }; high = record { 0 = x } }
+fixed r x = record {
+  terminal = r .terminal;
+  line = r .line;
+  low = record { 0 = x };
+  high = record
+      { 0 = x };
+}
 
 -- the ranges with the token at t in the column x
 abbrev pub fixedAt : Ranges → ℕ → ℕ → Ranges

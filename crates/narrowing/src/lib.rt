@@ -16,7 +16,8 @@ ghost use Rattle.sets.specs.Says.{Says};
 ghost use Rattle.grammar.specs.Sentences.{spelled};
 ghost use Rattle.column_ranges.specs.Ranges.{columns as columnsOf};
 ghost use Rattle.column_ranges.specs.RangeSentences.{range, rangesOf, Spread};
-ghost use Rattle.narrowing.specs.Narrowing.{standing, lowToken, highToken, lowest, MayRise, Picks, Narrows};
+ghost use Rattle.narrowing.specs.Narrowing.{standing, lowToken, highToken, lowest, MayRise};
+ghost use Rattle.narrowing.specs.Narrowing.{Picks, Narrows};
 
 // The token in the column.
 fn put(t: RangeToken, column: Column) -> Token
@@ -47,7 +48,8 @@ pub fn high_token(t: RangeToken) -> Token
     put(t, high)
 }
 
-// Can each token come after the one before, the one in its lowest column and the other in its highest?
+// Can each token come after the one before, the one in its lowest column and the other in its
+// highest?
 pub fn may_rise(r: RangeSentence) -> bool
     requires { ⌜ Spread r ⌝ }
     ensures { λ b. ⌜ Says b (MayRise (rangesOf r)) ⌝ }
@@ -86,8 +88,9 @@ fn wider(n: usize, best: usize, k: usize) -> usize
     best
 }
 
-// The token to narrow next, of those with several columns: the one in most spans, so that the one in the fewest is narrowed last and
-// moves from choice to choice. Where each has one column, the number of tokens.
+// The token to narrow next, of those with several columns: the one in most spans, so that the one
+// in the fewest is narrowed last and moves from choice to choice. Where each has one column, the
+// number of tokens.
 pub fn next_token(r: RangeSentence) -> usize
     requires { ⌜ Spread r ⌝ }
     ensures { λ p. ⌜ Picks (rangesOf r) p ⌝ }

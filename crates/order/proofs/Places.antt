@@ -13,7 +13,8 @@ use Rattle.grammar.specs.Trees.{Rules}
 abbrev pub no-rule : Rule
 no-rule = record { left = 0; clause = Clause.Empty }
 
-pub place : {r : Rule} (g : Rules) → List·Memᴰ r g → (i : ℕ) × (i < length g) × (getD g i no-rule ≡ r)
+pub place : {r : Rule} (g : Rules) → List·Memᴰ r g
+    → (i : ℕ) × (i < length g) × (getD g i no-rule ≡ r)
 place (x ∷ g) (List·Memᴰ·head e) = (0, suc-le-suc zero-le, sym e)
 place (x ∷ g) (List·Memᴰ·tail m) = let p = place g m in (suc (p .0), suc-le-suc (p .1), p .2)
 

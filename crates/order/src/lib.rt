@@ -1,5 +1,5 @@
-// Rules in an order that is quick to work through: each before those that it rests on over the same word, as far as can be.
-// Trees go by which rules there are, so any order would be right.
+// Rules in an order that is quick to work through: each before those that it rests on over the same
+// word, as far as can be. Trees go by which rules there are, so any order would be right.
 use acyclic::nullables;
 use codes::encode;
 use codes::first_of;
@@ -22,7 +22,8 @@ fn beside(nulls: u64, a: u8, x: u8, y: u8) -> bool
     if a == x { has(nulls, y) } else { false }
 }
 
-// May the rule have `a` over its whole word? A U rule to it has, and a B rule with it beside a nullable one.
+// May the rule have `a` over its whole word? A U rule to it has, and a B rule with it beside a
+// nullable one.
 fn rests(code: u64, a: u8, nulls: u64) -> bool {
     let k = kind_of(code);
     if k < 2 {
@@ -70,7 +71,8 @@ fn exchange(mut codes: [u64; 128], i: usize, j: usize) -> [u64; 128]
 // The most exchanges: enough for 128 rules under chains of 64 links.
 const MOST: usize = 8192;
 
-// The first m rules in order: a rule gives way to one that rests on it until there is none after it.
+// The first m rules in order: a rule gives way to one that rests on it until there is none after
+// it.
 fn arranged(codes: [u64; 128], m: usize, nulls: u64) -> [u64; 128]
     requires { ⌜ m ≤ 128 ⌝ }
     ensures { λ r. ⌜ Rearranged (decoded (take m codes)) (decoded (take m r)) ⌝ }

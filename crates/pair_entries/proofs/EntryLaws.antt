@@ -21,10 +21,12 @@ use Rattle.pair_offsets.proofs.ListLaws.{lists-alike}
 use Rattle.pair_steps.specs.Ranks.{Ranked}
 use Rattle.pair_steps.specs.Suiting.{Suits}
 use Rattle.pair_frames.specs.Numbering.{frameAt}
-use Rattle.pair_entries.specs.Entries.{KindsOf, codeAt, kindsAt, fromAt, endAt, EntryAt, Useful, EntriesOf}
+use Rattle.pair_entries.specs.Entries.{KindsOf, codeAt, kindsAt, fromAt, endAt, EntryAt}
+use Rattle.pair_entries.specs.Entries.{Useful, EntriesOf}
 use Rattle.pair_entries.specs.Entries.{SameTable}
 use Rattle.pair_entries.specs.declared.Stage.{Stage}
-use Rattle.pair_entries.specs.Entering.{KindAdded, KindsTo, KindsIf, NoneUseful, EntryPut, Entered, StartsAdded, Prepared}
+use Rattle.pair_entries.specs.Entering.{KindAdded, KindsTo, KindsIf, NoneUseful, EntryPut}
+use Rattle.pair_entries.specs.Entering.{Entered, StartsAdded, Prepared}
 
 -- 1. numbers of children
 
@@ -44,7 +46,11 @@ kinds-none f = record { has = λ n h. absurd (omega arith); only = λ n i. absur
 
 pub kinds-more : {f : Frame} {k s r : ℕ} → KindsTo f k s → KindAdded f k s r → KindsTo f (k + 1) r
 kinds-more {f} {k} {s} {r} t a =
-    record { has = λ n h q. by n q (decLt n k) h; only = λ n i. ⊎-elim (t .only n) (of n) (a .only n i) }
+    record {
+      has = λ n h q. by n q (decLt n k) h;
+      only =
+          λ n i. ⊎-elim (t .only n) (of n) (a .only n i);
+    }
   where
     by : (n : ℕ) → Suits f (n / 4) (n % 4) → Dec (n < k) → n < k + 1 → In r n
     by n q (yes h) l = a .keeps n (t .has n h q)
@@ -79,7 +85,8 @@ kinds-if {c} {s} k =
     record {
       none = λ e u.
           in-zero (4 * u .kx + u .ky)
-          (subst (λ (n : ℕ). In n (4 * u .kx + u .ky)) e (k .has (u .kx) (u .ky) (u .low₁) (u .low₂) (u .suits)));
+          (subst (λ (n : ℕ). In n (4 * u .kx + u .ky)) e
+          (k .has (u .kx) (u .ky) (u .low₁) (u .low₂) (u .suits)));
       some = λ e. k;
     }
 
@@ -89,8 +96,8 @@ kinds-unranked n = record { none = λ e u. n (u .ranked); some = λ e. absurd (e
 pub none-yet : (a : ℕ) → NoneUseful a (a + 0) false
 none-yet a = record { none = λ e c h k. absurd (omega arith) }
 
-pub none-more : {a : ℕ} (s : ℕ) {set : ℕ} → NoneUseful a (a + s) false → KindsIf (a + s) set → set ≡ 0
-    → NoneUseful a (a + (s + 1)) false
+pub none-more : {a : ℕ} (s : ℕ) {set : ℕ} → NoneUseful a (a + s) false → KindsIf (a + s) set
+    → set ≡ 0 → NoneUseful a (a + (s + 1)) false
 none-more {a} s n k z = record { none = λ e c h l u. by c h l u (decLt c (a + s)) }
   where
     by : (c : ℕ) → a ≤ c → c < a + (s + 1) → Useful c → Dec (c < a + s) → ⊥
@@ -132,8 +139,10 @@ module _ (t : List ℕ) (n c s from end : ℕ) (h : 73728 ≤ length t) (k : n <
   entry-put =
       record {
         size = length-set put₃ (65539 + 4 * n) end ∙ size₃;
-        before = λ i l. other i (λ e. omega arith) (λ e. omega arith) (λ e. omega arith) (λ e. omega arith);
-        behind = λ i l. other i (λ e. omega arith) (λ e. omega arith) (λ e. omega arith) (λ e. omega arith);
+        before = λ i l. other i (λ e. omega arith) (λ e. omega arith) (λ e. omega arith)
+            (λ e. omega arith);
+        behind = λ i l. other i (λ e. omega arith) (λ e. omega arith) (λ e. omega arith)
+            (λ e. omega arith);
         code =
             getD-set-other put₃ (65539 + 4 * n) (65536 + 4 * n) end 0 (λ e. omega arith)
             ∙ (getD-set-other put₂ (65538 + 4 * n) (65536 + 4 * n) from 0 (λ e. omega arith)
@@ -152,7 +161,8 @@ module _ (t : List ℕ) (n c s from end : ℕ) (h : 73728 ≤ length t) (k : n <
 -- 3. entries where only other words are changed
 
 pub lists-same : {f : Frame} {t u : List ℕ} {from end : ℕ}
-    → ((i : ℕ) → from ≤ i → i < end → getD u i 0 ≡ getD t i 0) → ListsEvens f t from end → ListsEvens f u from end
+    → ((i : ℕ) → from ≤ i → i < end → getD u i 0 ≡ getD t i 0) → ListsEvens f t from end
+    → ListsEvens f u from end
 lists-same {f} {t} {u} {from} {end} e l =
     record {
       low = l .low;
@@ -160,14 +170,17 @@ lists-same {f} {t} {u} {from} {end} e l =
       only = λ i h k. subst (EvenSix f) (sym (e i h k)) (l .only i h k);
     }
 
-pub entry-same : {t u : List ℕ} {top high k : ℕ} → ((i : ℕ) → i < 65540 + 4 * k → 65536 ≤ i → getD u i 0 ≡ getD t i 0)
-    → ((i : ℕ) → 66560 ≤ i → i < top → getD u i 0 ≡ getD t i 0) → top ≤ high → EntryAt t top k → EntryAt u high k
+pub entry-same : {t u : List ℕ} {top high k : ℕ}
+    → ((i : ℕ) → i < 65540 + 4 * k → 65536 ≤ i → getD u i 0 ≡ getD t i 0)
+    → ((i : ℕ) → 66560 ≤ i → i < top → getD u i 0 ≡ getD t i 0) → top ≤ high → EntryAt t top k
+    → EntryAt u high k
 entry-same {t} {u} {top} {high} {k} e l m h =
     let e₁ : codeAt u k ≡ codeAt t k = e (65536 + 4 * k) (omega arith) (omega arith) in
     let e₂ : kindsAt u k ≡ kindsAt t k = e (65537 + 4 * k) (omega arith) (omega arith) in
     let e₃ : fromAt u k ≡ fromAt t k = e (65538 + 4 * k) (omega arith) (omega arith) in
     let e₄ : endAt u k ≡ endAt t k = e (65539 + 4 * k) (omega arith) (omega arith) in
-    let ls = lists-same (λ i p q. l i (omega (arith, h .low)) (omega (arith, h .high))) (h .lists) in
+    let ls = lists-same (λ i p q. l i (omega (arith, h .low)) (omega (arith, h .high)))
+    (h .lists) in
     record {
       kinds = rw (e₁, e₂) (h .kinds);
       lists = rw (e₁, e₃, e₄) ls;
@@ -197,7 +210,8 @@ entered-zero t n a end =
       before = λ i h. refl;
       behind = λ i h. refl;
       high = omega arith;
-      entries = λ c top h k e. record { each = e .each; all = λ d p q u. e .all d p (omega arith) u };
+      entries =
+          λ c top h k e. record { each = e .each; all = λ d p q u. e .all d p (omega arith) u };
     }
 
 pub entered-none : (t : List ℕ) (n c end : ℕ) → (Useful c → ⊥) → Entered t t n n c (c + 1) end
@@ -207,7 +221,8 @@ entered-none t n c end h =
       before = λ i h. refl;
       behind = λ i h. refl;
       high = omega arith;
-      entries = λ a top l k e. record { each = e .each; all = λ d p q u. e .all d p (less d q u) u };
+      entries =
+          λ a top l k e. record { each = e .each; all = λ d p q u. e .all d p (less d q u) u };
     }
   where
     less : (d : ℕ) → d < c + 1 → Useful d → d < c
@@ -226,7 +241,11 @@ entered-one {t} {u} {n} {c} {s} {from} {end} h p k l m =
       before = λ i q. p .before i (omega arith);
       behind = λ i q. p .behind i (omega arith);
       high = omega arith;
-      entries = λ a top q o e. record { each = λ j r. one top o a e j r (decLt j n); all = λ d r v w. has top a e d r v w (decLt d c) };
+      entries = λ a top q o e. record {
+        each = λ j r. one top o a e j r (decLt j n);
+        all =
+            λ d r v w. has top a e d r v w (decLt d c);
+      };
     }
   where
     new : (top : ℕ) → end ≤ top → EntryAt u top n
@@ -236,12 +255,21 @@ entered-one {t} {u} {n} {c} {s} {from} {end} h p k l m =
         let e₃ = p .begins in
         let e₄ = p .ends in
         let ls = lists-same {u = u} (λ i v w. p .behind i (omega arith)) l in
-        record { kinds = rw (e₁, e₂) k; lists = rw (e₁, e₃, e₄) ls; low = omega arith; high = omega arith }
+        record {
+          kinds = rw (e₁, e₂) k;
+          lists = rw (e₁, e₃, e₄) ls;
+          low = omega arith;
+          high =
+              omega arith;
+        }
 
-    one : (top : ℕ) → end ≤ top → (a : ℕ) → EntriesOf t n top a c → (j : ℕ) → j < n + 1 → Dec (j < n) → EntryAt u top j
+    one : (top : ℕ) → end ≤ top → (a : ℕ) → EntriesOf t n top a c → (j : ℕ) → j < n + 1
+        → Dec (j < n) → EntryAt u top j
     one top o a e j r (yes q) =
-        entry-same (λ i v w. p .before i (omega arith)) (λ i v w. p .behind i (omega arith)) (omega arith) (e .each j q)
-    one top o a e j r (no q) = let z : j ≡ n = omega arith in subst (EntryAt u top) (sym z) (new top o)
+        entry-same (λ i v w. p .before i (omega arith)) (λ i v w. p .behind i (omega arith))
+        (omega arith) (e .each j q)
+    one top o a e j r (no q) = let z : j ≡ n = omega arith in
+        subst (EntryAt u top) (sym z) (new top o)
 
     has : (top a : ℕ) → EntriesOf t n top a c → (d : ℕ) → a ≤ d → d < c + 1 → Useful d → Dec (d < c)
         → (j : ℕ) × (j < n + 1) × (codeAt u j ≡ d)
@@ -251,8 +279,8 @@ entered-one {t} {u} {n} {c} {s} {from} {end} h p k l m =
         (z .0, omega arith, p .before (65536 + 4 * z .0) (omega arith) ∙ z .2)
     has top a e d r v w (no q) = let z : d ≡ c = omega arith in (n, omega arith, p .code ∙ sym z)
 
-pub entered-then : {t u v : List ℕ} {n m r a b c end : ℕ} → a ≤ b → Entered t u n m a b end → Entered u v m r b c end
-    → Entered t v n r a c end
+pub entered-then : {t u v : List ℕ} {n m r a b c end : ℕ} → a ≤ b → Entered t u n m a b end
+    → Entered u v m r b c end → Entered t v n r a c end
 entered-then o p q =
     record {
       size = q .size ∙ p .size;
@@ -273,13 +301,14 @@ entered-more {t} {v = v} {n} {r = r} {a} s {end} p q =
 -- the starts of frames with numbers from 36 p on and below 36 p + 36
 starts-same : (p c : ℕ) → 36 * p ≤ c → c < 36 * p + 36 → (d : Corner)
     → rankOf (frameAt (36 * p)) (at d) ≡ rankOf (frameAt c) (at d)
-starts-same p c h k start₁ = let e : 36 * p / 7776 ≡ c / 7776 = omega arith in ap (λ (n : ℕ). n % 6) e
+starts-same p c h k start₁ = let e : 36 * p / 7776 ≡ c / 7776 = omega arith in
+    ap (λ (n : ℕ). n % 6) e
 starts-same p c h k cut₁ = let e : 36 * p / 1296 ≡ c / 1296 = omega arith in ap (λ (n : ℕ). n % 6) e
 starts-same p c h k start₂ = let e : 36 * p / 216 ≡ c / 216 = omega arith in ap (λ (n : ℕ). n % 6) e
 starts-same p c h k cut₂ = let e : 36 * p / 36 ≡ c / 36 = omega arith in ap (λ (n : ℕ). n % 6) e
 
-pub list-of : {t : List ℕ} (p c : ℕ) {from end : ℕ} → 36 * p ≤ c → c < 36 * p + 36 → ListsEvens (frameAt (36 * p)) t from end
-    → ListsEvens (frameAt c) t from end
+pub list-of : {t : List ℕ} (p c : ℕ) {from end : ℕ} → 36 * p ≤ c → c < 36 * p + 36
+    → ListsEvens (frameAt (36 * p)) t from end → ListsEvens (frameAt c) t from end
 list-of p c h k l = lists-alike (starts-same p c h k) l
 
 -- the next four starts
@@ -322,7 +351,8 @@ module _ {t : List ℕ} {s : Stage} where
         entries = λ c q e.
             subst (EntriesOf v r end c) last
             (p .entries c end q (omega arith)
-            (entries-same {u = u} (omega arith) (λ i a b. l .kept i (omega arith)) (λ i a b. l .kept i b) (l .low) e));
+            (entries-same {u = u} (omega arith) (λ i a b. l .kept i (omega arith))
+            (λ i a b. l .kept i b) (l .low) e));
       }
     where
       last : 36 * s .starts + 36 ≡ 36 * (s .starts + 1)
@@ -349,7 +379,8 @@ preparing t p h =
       few = omega arith;
       low = omega arith;
       high = omega arith;
-      entries = record { each = λ k l. absurd (omega arith); all = λ c k l u. absurd (omega arith) };
+      entries =
+          record { each = λ k l. absurd (omega arith); all = λ c k l u. absurd (omega arith) };
     }
 
 same-then : {t u v : List ℕ} → SameTable t u → SameTable u v → SameTable t v
@@ -360,7 +391,8 @@ same-then a b =
       past = λ i h. b .past i h ∙ a .past i h;
     }
 
-pub prepared : {t u v : List ℕ} {p : ℕ} {s r : Stage} → Preparing t u p s → StartsAdded u v s r → Prepared t v p r
+pub prepared : {t u v : List ℕ} {p : ℕ} {s r : Stage} → Preparing t u p s → StartsAdded u v s r
+    → Prepared t v p r
 prepared {p = p} {s} a b =
     let n = b .next in
     record {
@@ -373,8 +405,8 @@ prepared {p = p} {s} a b =
       entries = b .entries (36 * p) (omega (arith, a .least)) (a .entries);
     }
 
-pub prepares : {t u : List ℕ} {p : ℕ} {r : Stage} → Prepared t u p r → (r .starts ≡ 1296 → ⊥) → r .entries ≤ 220
-    → r .free ≤ 69632 → Preparing t u p r
+pub prepares : {t u : List ℕ} {p : ℕ} {r : Stage} → Prepared t u p r → (r .starts ≡ 1296 → ⊥)
+    → r .entries ≤ 220 → r .free ≤ 69632 → Preparing t u p r
 prepares a n h k =
     record {
       same = a .same;

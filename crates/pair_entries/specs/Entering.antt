@@ -10,7 +10,8 @@ use Rattle.pair_offsets.specs.declared.Frame.{Frame}
 use Rattle.pair_steps.specs.Suiting.{Suits}
 use Rattle.pair_frames.specs.Numbering.{frameAt}
 use Rattle.pair_entries.specs.declared.Stage.{Stage}
-use Rattle.pair_entries.specs.Entries.{KindsOf, codeAt, kindsAt, fromAt, endAt, Useful, EntriesOf, SameTable}
+use Rattle.pair_entries.specs.Entries.{KindsOf, codeAt, kindsAt, fromAt, endAt, Useful}
+use Rattle.pair_entries.specs.Entries.{EntriesOf, SameTable}
 
 -- k is added to the set if nodes with k / 4 and k % 4 children can stand over the frame
 pub record KindAdded (f : Frame) (k old new : ℕ) : Type 0 where
@@ -58,7 +59,8 @@ pub record StartsAdded (old new : List ℕ) (s r : Stage) : Type 0 where
   pub few : r .entries ≤ s .entries + 36
   pub low : s .free ≤ r .free
   pub high : r .free ≤ s .free + 4096
-  pub entries : (c : ℕ) → c ≤ 36 * s .starts → EntriesOf old (s .entries) (s .free) c (36 * s .starts)
+  pub entries : (c : ℕ) → c ≤ 36 * s .starts
+      → EntriesOf old (s .entries) (s .free) c (36 * s .starts)
       → EntriesOf new (r .entries) (r .free) c (36 * r .starts)
 
 -- and so on, from some four starts on

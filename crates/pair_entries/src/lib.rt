@@ -96,7 +96,8 @@ fn enter(words: &mut [u64], n: usize, c: usize, from: usize, end: usize) -> usiz
 fn enter_all(words: &mut [u64], n: usize, p: usize, from: usize, end: usize) -> usize
     requires { ⌜ (searchWords ≤ length (now words)) × (n + 36 ≤ 256) × (p < 1296) ⌝ }
     requires { ⌜ ListsEvens (frameAt (36 * p)) (now words) from end × (66560 ≤ from) ⌝ }
-    ensures { λ r. ⌜ Entered (now (words .entry)) (now (words .exit)) n r (36 * p) (36 * p + 36) end ⌝ }
+    ensures { λ r. ⌜ Entered (now (words .entry)) (now (words .exit)) n r (36 * p) (36 * p + 36)
+        end ⌝ }
 {
     let mut m = n;
     let mut s: usize = 0;

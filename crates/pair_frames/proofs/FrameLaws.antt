@@ -24,8 +24,10 @@ none-of {f} {i} {j} a b c d e g = record { none = by }
     by stop₂ h k = g (record { low = h; high = k })
 
 pub ranked-of : (f : Frame) → lower (numbersOf (rankOf f)) (f .start) ≡ f .start
-    → lower (numbersOf (rankOf f)) (f .begin) ≡ f .begin → lower (numbersOf (rankOf f)) (f .cut) ≡ f .cut
-    → lower (numbersOf (rankOf f)) (f .split) ≡ f .split → lower (numbersOf (rankOf f)) (f .stop) ≡ f .stop
+    → lower (numbersOf (rankOf f)) (f .begin) ≡ f .begin
+    → lower (numbersOf (rankOf f)) (f .cut) ≡ f .cut
+    → lower (numbersOf (rankOf f)) (f .split) ≡ f .split
+    → lower (numbersOf (rankOf f)) (f .stop) ≡ f .stop
     → lower (numbersOf (rankOf f)) (f .end) ≡ f .end → Ranked (rankOf f)
 ranked-of f a b c d e g = ranked-by (rankOf f) by
   where
@@ -39,7 +41,8 @@ ranked-of f a b c d e g = ranked-by (rankOf f) by
 
 -- the number of a frame
 pub frameCode : Frame → ℕ
-frameCode f = 7776 * f .start + 1296 * f .cut + 216 * f .begin + 36 * f .split + 6 * f .stop + f .end
+frameCode f =
+    7776 * f .start + 1296 * f .cut + 216 * f .begin + 36 * f .split + 6 * f .stop + f .end
 
 pub code-low : (f : Frame) → Ranked (rankOf f) → frameCode f < 46656
 unfolding frameCode
@@ -61,7 +64,8 @@ code-frame f r =
     let d = r .small (at cut₂) in
     let e = r .small stop₁ in
     let g = r .small stop₂ in
-    let n = 7776 * f .start + 1296 * f .cut + 216 * f .begin + 36 * f .split + 6 * f .stop + f .end in
+    let n = 7776 * f .start + 1296 * f .cut + 216 * f .begin + 36 * f .split + 6 * f .stop
+    + f .end in
     let p₁ : n / 7776 % 6 ≡ f .start = omega arith in
     let p₂ : n / 1296 % 6 ≡ f .cut = omega arith in
     let p₃ : n / 216 % 6 ≡ f .begin = omega arith in

@@ -155,7 +155,8 @@ fn clear_node(i: usize, out: &mut [u64])
 fn put_looks(begins: &[u64], sort: u8, looks: Looks, i: usize, out: &mut [u64])
     requires { ⌜ (64 ≤ length (now begins)) × (sort < 64) × SmallLooks looks ⌝ }
     requires { ⌜ (1536 ≤ length (now out)) × (i < 384) ⌝ }
-    ensures { λ r. ⌜ Slotted (now (begins .entry)) sort looks (now (out .entry)) (now (out .exit)) i ⌝ }
+    ensures { λ r. ⌜ Slotted (now (begins .entry)) sort looks (now (out .entry)) (now (out .exit))
+        i ⌝ }
 {
     match looks {
         Looks::Nothing => clear_node(i, out),
@@ -184,7 +185,8 @@ fn put_shape(
     i: usize,
     out: &mut [u64],
 )
-    requires { ⌜ Formed g × Exactly nulls (Nullable (rules g)) × Exactly prods (Productive (rules g)) × LevelsOf (rules g) levels ⌝ }
+    requires { ⌜ Formed g × Exactly nulls (Nullable (rules g))
+        × Exactly prods (Productive (rules g)) × LevelsOf (rules g) levels ⌝ }
     requires { ⌜ (64 ≤ length (now begins)) × ByNonterminal (rules g) 64 (now begins) ⌝ }
     requires { ⌜ (1536 ≤ length (now out)) × (i < 384) ⌝ }
     ensures { λ r. ⌜ SlotPut (rules g) (now (out .entry)) (now (out .exit)) i ⌝ }
@@ -202,7 +204,8 @@ fn put_shape(
 
 // The nodes of all shapes.
 pub fn fill_nodes(g: Grammar, nulls: u64, prods: u64, out: &mut [u64])
-    requires { ⌜ Formed g × Exactly nulls (Nullable (rules g)) × Exactly prods (Productive (rules g)) ⌝ }
+    requires { ⌜ Formed g × Exactly nulls (Nullable (rules g))
+        × Exactly prods (Productive (rules g)) ⌝ }
     requires { ⌜ 1536 ≤ length (now out) ⌝ }
     ensures { λ r. ⌜ NodesMade (rules g) (now (out .exit)) ⌝ }
 {

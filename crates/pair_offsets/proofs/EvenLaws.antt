@@ -16,14 +16,19 @@ use Rattle.pair_offsets.proofs.SayLaws.{code-of, of-code, offset-low}
 
 -- 1. three of the starts
 
-pub trio-of : {f : Frame} {l : Corner → Corner → Offset} → EvenOffsets (rankOf f) l → (c d e : Corner)
+pub trio-of : {f : Frame} {l : Corner → Corner → Offset} → EvenOffsets (rankOf f) l
+    → (c d e : Corner)
     → Trio (rankOf f (at c)) (rankOf f (at d)) (rankOf f (at e)) (l c d) (l d e) (l c e)
 trio-of {f} {l} v c d e =
     record {
       sames =
           record {
             same₁ = λ h. (v .same c d (eq c d h), sym (v .alike c d e (eq c d h)));
-            same₂ = λ h. (v .same d e (eq d e h), v .turn c d ∙ v .alike d e c (eq d e h) ∙ v .turn e c);
+            same₂ = λ h. (
+              v .same d e (eq d e h),
+              v .turn c d ∙ v .alike d e c (eq d e h)
+                  ∙ v .turn e c,
+            );
             same₃ = λ h. (v .same c e (eq c e h), v .alike c e d (eq c e h) ∙ v .turn e d);
           };
       tris =
@@ -112,13 +117,18 @@ twice h =
 -- 3. from the four threes to all
 
 module _ (f : Frame) (t : ℕ)
-    (t₁ : Trio (f .start) (f .cut) (f .begin) (sixOf t start₁ cut₁) (sixOf t cut₁ start₂) (sixOf t start₁ start₂))
-    (t₂ : Trio (f .start) (f .cut) (f .split) (sixOf t start₁ cut₁) (sixOf t cut₁ cut₂) (sixOf t start₁ cut₂))
-    (t₃ : Trio (f .start) (f .begin) (f .split) (sixOf t start₁ start₂) (sixOf t start₂ cut₂) (sixOf t start₁ cut₂))
-    (t₄ : Trio (f .cut) (f .begin) (f .split) (sixOf t cut₁ start₂) (sixOf t start₂ cut₂) (sixOf t cut₁ cut₂)) where
+    (t₁ : Trio (f .start) (f .cut) (f .begin) (sixOf t start₁ cut₁) (sixOf t cut₁ start₂)
+    (sixOf t start₁ start₂))
+    (t₂ : Trio (f .start) (f .cut) (f .split) (sixOf t start₁ cut₁) (sixOf t cut₁ cut₂)
+    (sixOf t start₁ cut₂))
+    (t₃ : Trio (f .start) (f .begin) (f .split) (sixOf t start₁ start₂) (sixOf t start₂ cut₂)
+    (sixOf t start₁ cut₂))
+    (t₄ : Trio (f .cut) (f .begin) (f .split) (sixOf t cut₁ start₂) (sixOf t start₂ cut₂)
+    (sixOf t cut₁ cut₂)) where
   abbrev At : Corner → Corner → Corner → Type 0
   At c d e =
-      Trio (rankOf f (at c)) (rankOf f (at d)) (rankOf f (at e)) (sixOf t c d) (sixOf t d e) (sixOf t c e)
+      Trio (rankOf f (at c)) (rankOf f (at d)) (rankOf f (at e)) (sixOf t c d) (sixOf t d e)
+      (sixOf t c e)
 
   -- two starts that are one, by any three with them
   one : (c d : Corner) → rankOf f (at c) ≡ rankOf f (at d) → sixOf t c d ≡ beside
@@ -230,7 +240,8 @@ module _ (f : Frame) (t : ℕ)
             record {
               same = λ c d h. one c d (is-of (rankOf f (at c)) (rankOf f (at d)) equal h);
               alike = λ c d e h.
-                  sym (all-threes c d e .sames .same₁ (is-of (rankOf f (at c)) (rankOf f (at d)) equal h) .1);
+                  sym (all-threes c d e .sames .same₁
+                  (is-of (rankOf f (at c)) (rankOf f (at d)) equal h) .1);
               turn = turned;
               three = λ c d e h k.
                   all-threes c d e .tris .pqr (is-of (rankOf f (at c)) (rankOf f (at d)) less h)
@@ -255,8 +266,10 @@ module _ (f : Frame) (l : Corner → Corner → Offset) (v : EvenOffsets (rankOf
       × (offsetCode (l start₁ cut₁) ≡ sixCode l / 256 % 4)
       × (offsetCode (l start₂ cut₂) ≡ sixCode l / 1024 % 4)
   six =
-      digits (offsetCode (l start₁ start₂)) (offsetCode (l start₁ cut₂)) (offsetCode (l cut₁ start₂))
-      (offsetCode (l cut₁ cut₂)) (offsetCode (l start₁ cut₁)) (offsetCode (l start₂ cut₂)) (sixCode l)
+      digits (offsetCode (l start₁ start₂)) (offsetCode (l start₁ cut₂))
+      (offsetCode (l cut₁ start₂))
+      (offsetCode (l cut₁ cut₂)) (offsetCode (l start₁ cut₁)) (offsetCode (l start₂ cut₂))
+      (sixCode l)
       (offset-low (l start₁ start₂)) (offset-low (l start₁ cut₂)) (offset-low (l cut₁ start₂))
       (offset-low (l cut₁ cut₂)) (offset-low (l start₁ cut₁)) (offset-low (l start₂ cut₂)) refl
 
@@ -289,8 +302,15 @@ module _ (f : Frame) (l : Corner → Corner → Offset) (v : EvenOffsets (rankOf
 
   pub six-low : sixCode l < 4096
   six-low =
-      omega
-      (arith, offset-low (l start₁ start₂), offset-low (l start₁ cut₂), offset-low (l cut₁ start₂), offset-low (l cut₁ cut₂), offset-low (l start₁ cut₁), offset-low (l start₂ cut₂))
+      omega (
+        arith,
+        offset-low (l start₁ start₂),
+        offset-low (l start₁ cut₂),
+        offset-low (l cut₁ start₂),
+        offset-low (l cut₁ cut₂),
+        offset-low (l start₁ cut₁),
+        offset-low (l start₂ cut₂),
+      )
 
   pub six-even : EvenSix f (sixCode l)
   six-even = record { even = subst (EvenOffsets (rankOf f)) six-path v }
@@ -328,31 +348,35 @@ module _ (f : Frame) (t : ℕ) where
   Test₄ b = TrioSays (f .cut) (f .begin) (f .split) (t / 16 % 4) (t / 1024 % 4) (t / 64 % 4) b
 
   says₁ : {b : Bool} → Test₁ b
-      → Says b (Trio (f .start) (f .cut) (f .begin) (sixOf t start₁ cut₁) (sixOf t cut₁ start₂) (sixOf t start₁ start₂))
+      → Says b (Trio (f .start) (f .cut) (f .begin) (sixOf t start₁ cut₁) (sixOf t cut₁ start₂)
+      (sixOf t start₁ start₂))
   says₁ s =
-      s .says (sixOf t start₁ cut₁) (sixOf t cut₁ start₂) (sixOf t start₁ start₂) (six-code t .4) (six-code t .2)
-      (six-code t .0)
+      s .says (sixOf t start₁ cut₁) (sixOf t cut₁ start₂) (sixOf t start₁ start₂) (six-code t .4)
+      (six-code t .2) (six-code t .0)
 
   says₂ : {b : Bool} → Test₂ b
-      → Says b (Trio (f .start) (f .cut) (f .split) (sixOf t start₁ cut₁) (sixOf t cut₁ cut₂) (sixOf t start₁ cut₂))
+      → Says b (Trio (f .start) (f .cut) (f .split) (sixOf t start₁ cut₁) (sixOf t cut₁ cut₂)
+      (sixOf t start₁ cut₂))
   says₂ s =
-      s .says (sixOf t start₁ cut₁) (sixOf t cut₁ cut₂) (sixOf t start₁ cut₂) (six-code t .4) (six-code t .3)
-      (six-code t .1)
+      s .says (sixOf t start₁ cut₁) (sixOf t cut₁ cut₂) (sixOf t start₁ cut₂) (six-code t .4)
+      (six-code t .3) (six-code t .1)
 
   says₃ : {b : Bool} → Test₃ b
-      → Says b (Trio (f .start) (f .begin) (f .split) (sixOf t start₁ start₂) (sixOf t start₂ cut₂) (sixOf t start₁ cut₂))
+      → Says b (Trio (f .start) (f .begin) (f .split) (sixOf t start₁ start₂) (sixOf t start₂ cut₂)
+      (sixOf t start₁ cut₂))
   says₃ s =
-      s .says (sixOf t start₁ start₂) (sixOf t start₂ cut₂) (sixOf t start₁ cut₂) (six-code t .0) (six-code t .5)
-      (six-code t .1)
+      s .says (sixOf t start₁ start₂) (sixOf t start₂ cut₂) (sixOf t start₁ cut₂) (six-code t .0)
+      (six-code t .5) (six-code t .1)
 
   says₄ : {b : Bool} → Test₄ b
-      → Says b (Trio (f .cut) (f .begin) (f .split) (sixOf t cut₁ start₂) (sixOf t start₂ cut₂) (sixOf t cut₁ cut₂))
+      → Says b (Trio (f .cut) (f .begin) (f .split) (sixOf t cut₁ start₂) (sixOf t start₂ cut₂)
+      (sixOf t cut₁ cut₂))
   says₄ s =
-      s .says (sixOf t cut₁ start₂) (sixOf t start₂ cut₂) (sixOf t cut₁ cut₂) (six-code t .2) (six-code t .5)
-      (six-code t .3)
+      s .says (sixOf t cut₁ start₂) (sixOf t start₂ cut₂) (sixOf t cut₁ cut₂) (six-code t .2)
+      (six-code t .5) (six-code t .3)
 
-  pub says-even : {b₁ b₂ b₃ b₄ : Bool} → Test₁ b₁ → b₁ ≡ true → Test₂ b₂ → b₂ ≡ true → Test₃ b₃ → b₃ ≡ true
-      → Test₄ b₄ → Says b₄ (EvenSix f t)
+  pub says-even : {b₁ b₂ b₃ b₄ : Bool} → Test₁ b₁ → b₁ ≡ true → Test₂ b₂ → b₂ ≡ true → Test₃ b₃
+      → b₃ ≡ true → Test₄ b₄ → Says b₄ (EvenSix f t)
   says-even s₁ e₁ s₂ e₂ s₃ e₃ s₄ =
       says-iff (even-six f t (says₁ s₁ .is e₁) (says₂ s₂ .is e₂) (says₃ s₃ .is e₃))
       (λ v. trio-of (v .even) cut₁ start₂ cut₂) (says₄ s₄)

@@ -15,7 +15,8 @@ use Rattle.pair_offsets.specs.declared.Masks.{Masks}
 use Rattle.pair_offsets.specs.Evens.{EvenSix}
 use Rattle.pairs.specs.Settings.{Corner, at}
 use Rattle.pair_offsets.specs.Frames.{rankOf}
-use Rattle.pair_offsets.specs.Lists.{Held, OffsetAdded, LeftWith, OffsetsLeft, Pushed, Listing}
+use Rattle.pair_offsets.specs.Lists.{Held, OffsetAdded, LeftWith, OffsetsLeft, Pushed}
+use Rattle.pair_offsets.specs.Lists.{Listing}
 use Rattle.pair_offsets.specs.Lists.{ListsEvens}
 
 -- 1. reading
@@ -38,9 +39,14 @@ not-added m t r n =
 
 pub left-none : (list : List ℕ) (from : ℕ) (m : Masks) → OffsetsLeft list from from m 0
 left-none list from m =
-    record { all = λ k l. absurd (omega (arith, l .low, l .high)); only = λ k i. absurd (in-zero k i) }
+    record {
+      all = λ k l. absurd (omega (arith, l .low, l .high));
+      only =
+          λ k i. absurd (in-zero k i);
+    }
 
-pub left-more : {list : List ℕ} {from i r s : ℕ} {m : Masks} → from ≤ i → OffsetsLeft list from i m r
+pub left-more : {list : List ℕ} {from i r s : ℕ} {m : Masks} → from ≤ i
+    → OffsetsLeft list from i m r
     → OffsetAdded m (getD list i 0) r s → OffsetsLeft list from (i + 1) m s
 left-more {list} {from} {i} {r} {s} {m} b so a =
     record { all = λ k l. here k l (decLt (l .place) i); only = λ k h. from-of k h (in-dec r k) }
@@ -48,7 +54,14 @@ left-more {list} {from} {i} {r} {s} {m} b so a =
     here : (k : ℕ) (l : LeftWith list from (i + 1) m k) → Dec (l .place < i) → In s k
     here k l (yes q) =
         a .keeps k
-        (so .all k (record { place = l .place; low = l .low; high = q; held = l .held; starts = l .starts }))
+        (so .all k (record {
+          place = l .place;
+          low = l .low;
+          high = q;
+          held = l .held;
+          starts = l
+              .starts;
+        }))
     here k l (no q) =
         let z : l .place ≡ i = omega (arith, l .high) in
         let e : getD list i 0 % 4 ≡ k = subst (λ (n : ℕ). getD list n 0 % 4 ≡ k) z (l .starts) in
@@ -57,7 +70,14 @@ left-more {list} {from} {i} {r} {s} {m} b so a =
     from-of : (k : ℕ) → In s k → Dec (In r k) → LeftWith list from (i + 1) m k
     from-of k h (yes q) =
         let l = so .only k q in
-        record { place = l .place; low = l .low; high = omega (arith, l .high); held = l .held; starts = l .starts }
+        record {
+          place = l .place;
+          low = l .low;
+          high = omega (arith, l .high);
+          held =
+              l .held;
+          starts = l .starts;
+        }
     from-of k h (no q) =
         let z = a .only k h q in
         record { place = i; low = b; high = omega arith; held = z .0; starts = z .1 }
@@ -131,7 +151,8 @@ listing-more {f} {old} {mid} {new} {from} {t} {n} {r} a b =
 
 -- 3. a list of all sixes, for each frame with the same starts
 
-even-same : {f g : Frame} {s : ℕ} → ((c : Corner) → rankOf f (at c) ≡ rankOf g (at c)) → EvenSix f s → EvenSix g s
+even-same : {f g : Frame} {s : ℕ} → ((c : Corner) → rankOf f (at c) ≡ rankOf g (at c)) → EvenSix f s
+    → EvenSix g s
 even-same {f} {g} {s} e v =
     record {
       even =
@@ -143,7 +164,8 @@ even-same {f} {g} {s} e v =
           };
     }
 
-pub lists-alike : {f g : Frame} {list : List ℕ} {from end : ℕ} → ((c : Corner) → rankOf f (at c) ≡ rankOf g (at c))
+pub lists-alike : {f g : Frame} {list : List ℕ} {from end : ℕ}
+    → ((c : Corner) → rankOf f (at c) ≡ rankOf g (at c))
     → ListsEvens f list from end → ListsEvens g list from end
 lists-alike e l =
     record {

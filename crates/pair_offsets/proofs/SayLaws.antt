@@ -43,7 +43,8 @@ abbrev threes : ℕ
 threes = 9865280294883330273
 
 tri-at : (x y z : Offset)
-    → Says (eqb (threes / 2 ^ (16 * offsetCode x + 4 * offsetCode y + offsetCode z) % 2) 1) (Tri x y z)
+    → Says (eqb (threes / 2 ^ (16 * offsetCode x + 4 * offsetCode y + offsetCode z) % 2) 1)
+    (Tri x y z)
 tri-at beside beside beside = holds refl
 tri-at beside beside (below less) = fails (λ e. omega (arith, ap offsetCode e))
 tri-at beside beside (below equal) = fails (λ e. omega (arith, ap offsetCode e))
@@ -134,28 +135,106 @@ same-two p q a b c h = record { says = λ x y w i j k. holds (λ e. absurd (h e)
 
 module _ {p q r : ℕ} {x y z : Offset} {t : Bool} where
   pub tris-pqr : p < q → q < r → Says t (Tri x y z) → Says t (Tris p q r x y z)
-  tris-pqr h k = says-iff (λ e. record { pqr = λ i j. e; prq = λ i j. absurd (omega arith); rpq = λ i j. absurd (omega arith); qpr = λ i j. absurd (omega arith); qrp = λ i j. absurd (omega arith); rqp = λ i j. absurd (omega arith) }) (λ e. e .pqr h k)
+  tris-pqr h k = says-iff (λ e. record {
+    pqr = λ i j. e;
+    prq = λ i j. absurd (omega arith);
+    rpq = λ i j. absurd (omega arith);
+    qpr =
+        λ i j. absurd (omega arith);
+    qrp = λ i j. absurd (omega arith);
+    rqp =
+        λ i j. absurd (omega arith);
+  }) (λ e. e .pqr h k)
 
   pub tris-prq : p < r → r < q → Says t (Tri z y x) → Says t (Tris p q r x y z)
-  tris-prq h k = says-iff (λ e. record { pqr = λ i j. absurd (omega arith); prq = λ i j. e; rpq = λ i j. absurd (omega arith); qpr = λ i j. absurd (omega arith); qrp = λ i j. absurd (omega arith); rqp = λ i j. absurd (omega arith) }) (λ e. e .prq h k)
+  tris-prq h k = says-iff (λ e. record {
+    pqr = λ i j. absurd (omega arith);
+    prq = λ i j. e;
+    rpq = λ i j. absurd (omega arith);
+    qpr =
+        λ i j. absurd (omega arith);
+    qrp = λ i j. absurd (omega arith);
+    rqp =
+        λ i j. absurd (omega arith);
+  }) (λ e. e .prq h k)
 
   pub tris-rpq : r < p → p < q → Says t (Tri z x y) → Says t (Tris p q r x y z)
-  tris-rpq h k = says-iff (λ e. record { pqr = λ i j. absurd (omega arith); prq = λ i j. absurd (omega arith); rpq = λ i j. e; qpr = λ i j. absurd (omega arith); qrp = λ i j. absurd (omega arith); rqp = λ i j. absurd (omega arith) }) (λ e. e .rpq h k)
+  tris-rpq h k = says-iff (λ e. record {
+    pqr = λ i j. absurd (omega arith);
+    prq = λ i j. absurd (omega arith);
+    rpq = λ i j. e;
+    qpr =
+        λ i j. absurd (omega arith);
+    qrp = λ i j. absurd (omega arith);
+    rqp =
+        λ i j. absurd (omega arith);
+  }) (λ e. e .rpq h k)
 
   pub tris-qpr : q < p → p < r → Says t (Tri x z y) → Says t (Tris p q r x y z)
-  tris-qpr h k = says-iff (λ e. record { pqr = λ i j. absurd (omega arith); prq = λ i j. absurd (omega arith); rpq = λ i j. absurd (omega arith); qpr = λ i j. e; qrp = λ i j. absurd (omega arith); rqp = λ i j. absurd (omega arith) }) (λ e. e .qpr h k)
+  tris-qpr h k = says-iff (λ e. record {
+    pqr = λ i j. absurd (omega arith);
+    prq = λ i j. absurd (omega arith);
+    rpq = λ i j. absurd
+        (omega arith);
+    qpr = λ i j. e;
+    qrp = λ i j. absurd (omega arith);
+    rqp =
+        λ i j. absurd (omega arith);
+  }) (λ e. e .qpr h k)
 
   pub tris-qrp : q < r → r < p → Says t (Tri y z x) → Says t (Tris p q r x y z)
-  tris-qrp h k = says-iff (λ e. record { pqr = λ i j. absurd (omega arith); prq = λ i j. absurd (omega arith); rpq = λ i j. absurd (omega arith); qpr = λ i j. absurd (omega arith); qrp = λ i j. e; rqp = λ i j. absurd (omega arith) }) (λ e. e .qrp h k)
+  tris-qrp h k = says-iff (λ e. record {
+    pqr = λ i j. absurd (omega arith);
+    prq = λ i j. absurd (omega arith);
+    rpq = λ i j. absurd
+        (omega arith);
+    qpr = λ i j. absurd (omega arith);
+    qrp = λ i j. e;
+    rqp =
+        λ i j. absurd (omega arith);
+  }) (λ e. e .qrp h k)
 
   pub tris-rqp : r < q → q < p → Says t (Tri y x z) → Says t (Tris p q r x y z)
-  tris-rqp h k = says-iff (λ e. record { pqr = λ i j. absurd (omega arith); prq = λ i j. absurd (omega arith); rpq = λ i j. absurd (omega arith); qpr = λ i j. absurd (omega arith); qrp = λ i j. absurd (omega arith); rqp = λ i j. e }) (λ e. e .rqp h k)
+  tris-rqp h k = says-iff (λ e. record {
+    pqr = λ i j. absurd (omega arith);
+    prq = λ i j. absurd (omega arith);
+    rpq = λ i j. absurd
+        (omega arith);
+    qpr = λ i j. absurd (omega arith);
+    qrp = λ i j. absurd (omega arith);
+    rqp =
+        λ i j. e;
+  }) (λ e. e .rqp h k)
 
 pub tris-none₁ : {p q r : ℕ} {x y z : Offset} → p ≡ q → Says true (Tris p q r x y z)
-tris-none₁ h = holds (record { pqr = λ i j. absurd (omega arith); prq = λ i j. absurd (omega arith); rpq = λ i j. absurd (omega arith); qpr = λ i j. absurd (omega arith); qrp = λ i j. absurd (omega arith); rqp = λ i j. absurd (omega arith) })
+tris-none₁ h = holds (record {
+  pqr = λ i j. absurd (omega arith);
+  prq = λ i j. absurd (omega arith);
+  rpq = λ i j. absurd (omega arith);
+  qpr = λ i j. absurd (omega arith);
+  qrp =
+      λ i j. absurd (omega arith);
+  rqp = λ i j. absurd (omega arith);
+})
 
 pub tris-none₂ : {p q r : ℕ} {x y z : Offset} → q ≡ r → Says true (Tris p q r x y z)
-tris-none₂ h = holds (record { pqr = λ i j. absurd (omega arith); prq = λ i j. absurd (omega arith); rpq = λ i j. absurd (omega arith); qpr = λ i j. absurd (omega arith); qrp = λ i j. absurd (omega arith); rqp = λ i j. absurd (omega arith) })
+tris-none₂ h = holds (record {
+  pqr = λ i j. absurd (omega arith);
+  prq = λ i j. absurd (omega arith);
+  rpq = λ i j. absurd (omega arith);
+  qpr = λ i j. absurd (omega arith);
+  qrp =
+      λ i j. absurd (omega arith);
+  rqp = λ i j. absurd (omega arith);
+})
 
 pub tris-none₃ : {p q r : ℕ} {x y z : Offset} → p ≡ r → Says true (Tris p q r x y z)
-tris-none₃ h = holds (record { pqr = λ i j. absurd (omega arith); prq = λ i j. absurd (omega arith); rpq = λ i j. absurd (omega arith); qpr = λ i j. absurd (omega arith); qrp = λ i j. absurd (omega arith); rqp = λ i j. absurd (omega arith) })
+tris-none₃ h = holds (record {
+  pqr = λ i j. absurd (omega arith);
+  prq = λ i j. absurd (omega arith);
+  rpq = λ i j. absurd (omega arith);
+  qpr = λ i j. absurd (omega arith);
+  qrp =
+      λ i j. absurd (omega arith);
+  rqp = λ i j. absurd (omega arith);
+})

@@ -45,8 +45,8 @@ pub record Pushed (f : Frame) (old new : List ℕ) (n t r : ℕ) : Type 0 where
   pub put : EvenSix f t → (n < r) × (getD new n 0 ≡ t)
   pub only : n < r → EvenSix f t × (getD new n 0 ≡ t)
 
--- from place `from` up to `end` stand the sixes below t that can stand over the frame; of the others,
--- at most t places are changed
+-- from place `from` up to `end` stand the sixes below t that can stand over the frame; of the
+-- others, at most t places are changed
 pub record Listing (f : Frame) (old new : List ℕ) (from t end : ℕ) : Type 0 where
   pub size : length new ≡ length old
   pub low : from ≤ end

@@ -4,7 +4,8 @@ ghost use Prim.Native.Nat.{_+_, _≤_, _<_};
 ghost use lib.ListN.{length};
 ghost use Rattle.sets.specs.Sets.{In};
 ghost use Rattle.sets.specs.Says.{Says};
-ghost use Rattle.pair_offsets.specs.Evens.{TriSays, SameSays, SamesSay, TrisSay, TrioSays, EvenSix};
+ghost use Rattle.pair_offsets.specs.Evens.{TriSays, SameSays, SamesSay, TrisSay, TrioSays};
+ghost use Rattle.pair_offsets.specs.Evens.{EvenSix};
 ghost use Rattle.pair_offsets.specs.Lists.{Held, OffsetAdded, OffsetsLeft, Pushed, Listing};
 
 // Where two nodes start, are cut and stop: the first node from `start` to `stop`, the second from
@@ -90,8 +91,8 @@ fn tris(p: u8, q: u8, r: u8, a: u64, b: u64, c: u64) -> bool
     true
 }
 
-// Can the offsets `a` of the tokens at `p` and `q`, `b` of those at `q` and `r`, and `c` of those at
-// `p` and `r` stand together?
+// Can the offsets `a` of the tokens at `p` and `q`, `b` of those at `q` and `r`, and `c` of those
+// at `p` and `r` stand together?
 fn fine(p: u8, q: u8, r: u8, a: u64, b: u64, c: u64) -> bool
     requires { ⌜ (a ≤ 3) × (b ≤ 3) × (c ≤ 3) ⌝ }
     ensures { λ t. ⌜ TrioSays p q r a b c t ⌝ }

@@ -19,18 +19,21 @@ use Rattle.pair_steps.specs.declared.Words.{Words}
 use Rattle.pair_steps.specs.Nodes.{NodeOf, shapeNumber}
 use Rattle.pair_steps.specs.Leaving.{firstStop, secondStop}
 use Rattle.pair_steps.specs.Suiting.{Suits}
-use Rattle.pair_steps.specs.Tables.{LowTable, SoundTable, WordsOf, NextsOf, shapeWord, sortWord, nextWord}
+use Rattle.pair_steps.specs.Tables.{LowTable, SoundTable, WordsOf, NextsOf, shapeWord, sortWord}
+use Rattle.pair_steps.specs.Tables.{nextWord}
 use Rattle.pair_steps.specs.Closing.{ToldBy}
 use Rattle.pair_steps.proofs.CompleteLaws.{found}
 use Rattle.pair_tables.specs.Reading.{Small}
-use Rattle.pair_tables.specs.Stepping.{wordSum, Put, nextPlace, Stepped, has-all, no-offsets, no-terminals, puts}
+use Rattle.pair_tables.specs.Stepping.{wordSum, Put, nextPlace, Stepped, has-all, no-offsets}
+use Rattle.pair_tables.specs.Stepping.{no-terminals, puts}
 use Rattle.pair_tables.proofs.StepKept.{code-low, step-kept}
 use Rattle.pair_tables.proofs.StepSound.{step-sound}
 use Rattle.pair_nodes.specs.Slots.{nodeAt, Present, NodesOf}
 use Rattle.pair_frames.specs.Numbering.{frameAt}
 use Rattle.pair_entries.specs.Entries.{codeAt}
 use Rattle.pair_entries.proofs.EntryLaws.{entry-same}
-use Rattle.pair_search.specs.Running.{Apt, PairOf, Settled, Ran, Ready, Met, Cell, LastCells, LastRows}
+use Rattle.pair_search.specs.Running.{Apt, PairOf, Settled, Ran, Ready, Met, Cell, LastCells}
+use Rattle.pair_search.specs.Running.{LastRows}
 
 -- 1. what two nodes read of a table
 
@@ -49,7 +52,17 @@ wordsIn t x y i j =
 
 words-in : (t : List ℕ) (x y : Node) (i j : ℕ) → WordsOf t x y i j (wordsIn t x y i j)
 words-in t x y i j =
-    record { yc = refl; yd = refl; xc = refl; xd = refl; cc = refl; cd = refl; dc = refl; dd = refl }
+    record {
+      yc = refl;
+      yd = refl;
+      xc = refl;
+      xd = refl;
+      cc = refl;
+      cd = refl;
+      dc = refl;
+      dd =
+          refl;
+    }
 
 abbrev nextsBy : List ℕ → Frame → Node → Node → ℕ → ℕ → ℕ → ℕ → Words
 nextsBy m f x y t v u s =
@@ -66,20 +79,34 @@ nextsBy m f x y t v u s =
 
 abbrev nextsIn : List ℕ → Frame → Node → Node → Words
 nextsIn m f x y =
-    nextsBy m f x y (firstStop (x .kids) (f .cut) (f .stop)) (firstStop (y .kids) (f .split) (f .end))
+    nextsBy m f x y (firstStop (x .kids) (f .cut) (f .stop))
+    (firstStop (y .kids) (f .split) (f .end))
     (secondStop (x .kids) (f .stop)) (secondStop (y .kids) (f .end))
 
 nexts-in : (m : List ℕ) (f : Frame) (x y : Node) → NextsOf m f x y (nextsIn m f x y)
 nexts-in m f x y =
-    record { yc = refl; yd = refl; xc = refl; xd = refl; cc = refl; cd = refl; dc = refl; dd = refl }
+    record {
+      yc = refl;
+      yd = refl;
+      xc = refl;
+      xd = refl;
+      cc = refl;
+      cd = refl;
+      dc = refl;
+      dd =
+          refl;
+    }
 
 -- nodes that may stand by the table suit the frame
-pub suits-told : {g : Rules} {t : List ℕ} {f : Frame} {hx hy : Head} {x y : Node} → LowTable t → NodeOf g hx x
-    → NodeOf g hy y → (l : Corner → Corner → Offset) (n : Point → ℕ) → ToldBy g t (setting (rankOf f) l n) hx hy
-    → Suits f (x .kids) (y .kids)
+pub suits-told : {g : Rules} {t : List ℕ} {f : Frame} {hx hy : Head} {x y : Node} → LowTable t
+    → NodeOf g hx x
+    → NodeOf g hy y → (l : Corner → Corner → Offset) (n : Point → ℕ)
+    → ToldBy g t (setting (rankOf f) l n) hx hy → Suits f (x .kids) (y .kids)
 suits-told {g} {t} {f} {hx} {hy} {x} {y} low nx ny l n told =
-    found g t low f hx hy x y nx ny (wordsIn t x y (shapeNumber (hx .shape)) (shapeNumber (hy .shape)))
-    (words-in t x y (shapeNumber (hx .shape)) (shapeNumber (hy .shape))) (nextsIn t f x y) (nexts-in t f x y) l n
+    found g t low f hx hy x y nx ny
+    (wordsIn t x y (shapeNumber (hx .shape)) (shapeNumber (hy .shape)))
+    (words-in t x y (shapeNumber (hx .shape)) (shapeNumber (hy .shape))) (nextsIn t f x y)
+    (nexts-in t f x y) l n
     (record { fit = told .fit; lies = told .lies; goes = told .goes }) .suits
 
 -- 2. one step
@@ -97,9 +124,10 @@ stays p =
     }
 
 -- words past the table are not changed
-put-past : (x y : Node) (i : ℕ) (f : Frame) {t u : List ℕ} {s q : ℕ} {b : Bool} → Small x → Small y → i < 384
-    → Put t u (64 * i + y .sort) (24576 + (64 * x .sort + y .sort)) (nextPlace f (x .sort) (y .sort)) s s q b
-    → (k : ℕ) → 65536 ≤ k → getD u k 0 ≡ getD t k 0
+put-past : (x y : Node) (i : ℕ) (f : Frame) {t u : List ℕ} {s q : ℕ} {b : Bool} → Small x → Small y
+    → i < 384
+    → Put t u (64 * i + y .sort) (24576 + (64 * x .sort + y .sort))
+    (nextPlace f (x .sort) (y .sort)) s s q b → (k : ℕ) → 65536 ≤ k → getD u k 0 ≡ getD t k 0
 put-past x y i f sx sy li p k h =
     let a = sx .sort in
     let d = sy .sort in
@@ -109,22 +137,28 @@ put-past x y i f sx sy li p k h =
 
 module _ {x y : Node} {i j : ℕ} {f : Frame} {t : List ℕ} (low : LowTable t) where
   pub unsuited : (Suits f (x .kids) (y .kids) → ⊥) → Settled x y i j f t
-  unsuited h = record { settled = λ g p l n told. absurd (h (suits-told low (p .node₁) (p .node₂) l n told)) }
+  unsuited h = record {
+    settled = λ g p l n told. absurd
+        (h (suits-told low (p .node₁) (p .node₂) l n told));
+  }
 
-  module _ (sx : Small x) (sy : Small y) (li : i < 384) (suits : Suits f (x .kids) (y .kids)) {from end : ℕ}
-      (lists : ListsEvens f t from end) where
-    settles : {u : List ℕ} {b : Bool} → Stepped f x y i j t from end t u b → b ≡ true → Settled x y i j f t
+  module _ (sx : Small x) (sy : Small y) (li : i < 384) (suits : Suits f (x .kids) (y .kids))
+      {from end : ℕ} (lists : ListsEvens f t from end) where
+    settles : {u : List ℕ} {b : Bool} → Stepped f x y i j t from end t u b → b ≡ true
+        → Settled x y i j f t
     settles st e =
         record {
           settled = λ g p l n told.
-              step-kept g t low f (p .head₁) (p .head₂) x y (p .node₁) (p .node₂) (p .number₁) (p .number₂) t from end
+              step-kept g t low f (p .head₁) (p .head₂) x y (p .node₁) (p .node₂) (p .number₁)
+              (p .number₂) t from end
               lists l n told st e (nextsIn t f x y) (nexts-in t f x y);
         }
 
-    stays-sound : {u : List ℕ} {b : Bool} → Stepped f x y i j t from end t u b → (g : Rules) → PairOf x y i j g
-        → SoundTable g t → SoundTable g u
+    stays-sound : {u : List ℕ} {b : Bool} → Stepped f x y i j t from end t u b → (g : Rules)
+        → PairOf x y i j g → SoundTable g t → SoundTable g u
     stays-sound st g p so =
-        step-sound g t so f (p .head₁) (p .head₂) x y (p .node₁) (p .node₂) (p .number₁) (p .number₂) suits t from end
+        step-sound g t so f (p .head₁) (p .head₂) x y (p .node₁) (p .node₂) (p .number₁)
+        (p .number₂) suits t from end
         lists st
 
     -- a step over a frame that suits
@@ -145,8 +179,8 @@ module _ {x y : Node} {i j : ℕ} {f : Frame} {t : List ℕ} (low : LowTable t) 
         }
 
 -- a frame that does not suit
-pub unsuited-ran : {x y : Node} {i j : ℕ} {f : Frame} {t : List ℕ} → LowTable t → (Suits f (x .kids) (y .kids) → ⊥)
-    → Ran (PairOf x y i j) (Settled x y i j f) t t true
+pub unsuited-ran : {x y : Node} {i j : ℕ} {f : Frame} {t : List ℕ} → LowTable t
+    → (Suits f (x .kids) (y .kids) → ⊥) → Ran (PairOf x y i j) (Settled x y i j f) t t true
 unsuited-ran low h = stays (unsuited low h)
 
 -- 3. one after the other
@@ -159,8 +193,8 @@ pub and-true₂ : (r s : Bool) → (r && s) ≡ true → s ≡ true
 and-true₂ true s e = e
 and-true₂ false s e = absurd (true-not-false (sym e))
 
-pub ran-then : {G : Rules → Type 0} {P Q R : List ℕ → Type 0} {t u v : List ℕ} {r s : Bool} → (P t → Q t → R t)
-    → Ran G P t u r → Ran G Q u v s → Ran G R t v (r && s)
+pub ran-then : {G : Rules → Type 0} {P Q R : List ℕ → Type 0} {t u v : List ℕ} {r s : Bool}
+    → (P t → Q t → R t) → Ran G P t u r → Ran G Q u v s → Ran G R t v (r && s)
 ran-then {Q = Q} {t = t} {u} {v} {r} {s} h a b =
     record {
       size = b .size ∙ a .size;
@@ -170,16 +204,17 @@ ran-then {Q = Q} {t = t} {u} {v} {r} {s} h a b =
       more = grows r s (a .more) (b .more);
       still = λ e. b .still (and-true₂ r s e) ∙ a .still (and-true₁ r s e);
       then = λ e.
-          h (a .then (and-true₁ r s e)) (subst Q (a .still (and-true₁ r s e)) (b .then (and-true₂ r s e)));
+          h (a .then (and-true₁ r s e)) (subst Q (a .still (and-true₁ r s e))
+          (b .then (and-true₂ r s e)));
     }
   where
-    grows : (r s : Bool) → (r ≡ false → wordSum t < wordSum u) → (s ≡ false → wordSum u < wordSum v) → (r && s) ≡ false
-        → wordSum t < wordSum v
+    grows : (r s : Bool) → (r ≡ false → wordSum t < wordSum u) → (s ≡ false → wordSum u < wordSum v)
+        → (r && s) ≡ false → wordSum t < wordSum v
     grows true s p q e = omega (arith, a .least, q e)
     grows false s p q e = omega (arith, b .least, p refl)
 
-pub ran-of : {G H : Rules → Type 0} {P Q : List ℕ → Type 0} {t u : List ℕ} {r : Bool} → ((g : Rules) → H g → G g)
-    → (P t → Q t) → Ran G P t u r → Ran H Q t u r
+pub ran-of : {G H : Rules → Type 0} {P Q : List ℕ → Type 0} {t u : List ℕ} {r : Bool}
+    → ((g : Rules) → H g → G g) → (P t → Q t) → Ran G P t u r → Ran H Q t u r
 ran-of f h a =
     record {
       size = a .size;
@@ -191,66 +226,82 @@ ran-of f h a =
       then = λ e. h (a .then e);
     }
 
-pub ready-same : {t u : List ℕ} {n : ℕ} → length u ≡ length t → ((i : ℕ) → 65536 ≤ i → getD u i 0 ≡ getD t i 0) → Ready t n
-    → Ready u n
+pub ready-same : {t u : List ℕ} {n : ℕ} → length u ≡ length t
+    → ((i : ℕ) → 65536 ≤ i → getD u i 0 ≡ getD t i 0) → Ready t n → Ready u n
 ready-same s e r =
     record {
       room = omega (arith, r .room);
       few = r .few;
-      each = λ k h. entry-same (λ i p q. e i q) (λ i p q. e i (omega arith)) (omega arith) (r .each k h);
+      each = λ k h. entry-same (λ i p q. e i q) (λ i p q. e i (omega arith)) (omega arith)
+          (r .each k h);
     }
 
 -- 4. the loops
 
-pub met-none : {G : Rules → Type 0} (x y : Node) (i j : ℕ) (t : List ℕ) → Ran G (Met x y i j 0) t t true
+pub met-none : {G : Rules → Type 0} (x y : Node) (i j : ℕ) (t : List ℕ)
+    → Ran G (Met x y i j 0) t t true
 met-none x y i j t = stays (record { met = λ k h. absurd (omega arith) })
 
 pub met-more : {G : Rules → Type 0} {x y : Node} {i j : ℕ} (k : ℕ) {t u v : List ℕ} {r s : Bool}
     → Ran G (Met x y i j k) t u r → Ran G (λ t. Settled x y i j (frameAt (codeAt t k)) t) u v s
     → Ran G (Met x y i j (k + 1)) t v (r && s)
-met-more {x = x} {y} {i} {j} k {t} a b = ran-then (λ p q. record { met = λ m h. by p q m h (decLt m k) }) a b
+met-more {x = x} {y} {i} {j} k {t} a b =
+    ran-then (λ p q. record { met = λ m h. by p q m h (decLt m k) }) a b
   where
-    by : Met x y i j k t → Settled x y i j (frameAt (codeAt t k)) t → (m : ℕ) → m < k + 1 → Dec (m < k)
-        → Settled x y i j (frameAt (codeAt t m)) t
+    by : Met x y i j k t → Settled x y i j (frameAt (codeAt t k)) t → (m : ℕ) → m < k + 1
+        → Dec (m < k) → Settled x y i j (frameAt (codeAt t m)) t
     by p q m h (yes l) = p .met m l
     by p q m h (no l) =
         let e : k ≡ m = omega arith in
         subst (λ (n : ℕ). Settled x y i j (frameAt (codeAt t n)) t) e q
 
-pub row-none : {G : Rules → Type 0} (ns : List ℕ) (i n : ℕ) (t : List ℕ) → Ran G (LastCells ns i n 0) t t true
+pub row-none : {G : Rules → Type 0} (ns : List ℕ) (i n : ℕ) (t : List ℕ)
+    → Ran G (LastCells ns i n 0) t t true
 row-none ns i n t = stays (record { row = λ j h k. absurd (omega arith) })
 
-pub row-more : {G : Rules → Type 0} {ns : List ℕ} {i n : ℕ} (m : ℕ) {t u v : List ℕ} {r s : Bool} → m < 384
-    → Ran G (LastCells ns i n m) t u r → Ran G (Cell ns i (383 - m) n) u v s → Ran G (LastCells ns i n (m + 1)) t v (r && s)
-row-more {ns = ns} {i} {n} m {t} l a b = ran-then (λ p q. record { row = λ j h k. by p q j h k (decLt (j + m) 384) }) a b
+pub row-more : {G : Rules → Type 0} {ns : List ℕ} {i n : ℕ} (m : ℕ) {t u v : List ℕ} {r s : Bool}
+    → m < 384
+    → Ran G (LastCells ns i n m) t u r → Ran G (Cell ns i (383 - m) n) u v s
+    → Ran G (LastCells ns i n (m + 1)) t v (r && s)
+row-more {ns = ns} {i} {n} m {t} l a b =
+    ran-then (λ p q. record { row = λ j h k. by p q j h k (decLt (j + m) 384) }) a b
   where
-    by : LastCells ns i n m t → Cell ns i (383 - m) n t → (j : ℕ) → j < 384 → 384 ≤ j + (m + 1) → Dec (j + m < 384)
-        → Cell ns i j n t
+    by : LastCells ns i n m t → Cell ns i (383 - m) n t → (j : ℕ) → j < 384 → 384 ≤ j + (m + 1)
+        → Dec (j + m < 384) → Cell ns i j n t
     by p q j h k (no d) = p .row j h (omega arith)
-    by p q j h k (yes d) = let e : 383 - m ≡ j = omega arith in subst (λ (j : ℕ). Cell ns i j n t) e q
+    by p q j h k (yes d) = let e : 383 - m ≡ j = omega arith in
+        subst (λ (j : ℕ). Cell ns i j n t) e q
 
-pub rows-none : {G : Rules → Type 0} (ns : List ℕ) (n : ℕ) (t : List ℕ) → Ran G (LastRows ns n 0) t t true
+pub rows-none : {G : Rules → Type 0} (ns : List ℕ) (n : ℕ) (t : List ℕ)
+    → Ran G (LastRows ns n 0) t t true
 rows-none ns n t = stays (record { rows = λ i h k. absurd (omega arith) })
 
-pub rows-more : {G : Rules → Type 0} {ns : List ℕ} {n : ℕ} (m : ℕ) {t u v : List ℕ} {r s : Bool} → m < 384
-    → Ran G (LastRows ns n m) t u r → Ran G (LastCells ns (383 - m) n 384) u v s → Ran G (LastRows ns n (m + 1)) t v (r && s)
-rows-more {ns = ns} {n} m {t} l a b = ran-then (λ p q. record { rows = λ i h k. by p q i h k (decLt (i + m) 384) }) a b
+pub rows-more : {G : Rules → Type 0} {ns : List ℕ} {n : ℕ} (m : ℕ) {t u v : List ℕ} {r s : Bool}
+    → m < 384
+    → Ran G (LastRows ns n m) t u r → Ran G (LastCells ns (383 - m) n 384) u v s
+    → Ran G (LastRows ns n (m + 1)) t v (r && s)
+rows-more {ns = ns} {n} m {t} l a b =
+    ran-then (λ p q. record { rows = λ i h k. by p q i h k (decLt (i + m) 384) }) a b
   where
-    by : LastRows ns n m t → LastCells ns (383 - m) n 384 t → (i : ℕ) → i < 384 → 384 ≤ i + (m + 1) → Dec (i + m < 384)
-        → LastCells ns i n 384 t
+    by : LastRows ns n m t → LastCells ns (383 - m) n 384 t → (i : ℕ) → i < 384 → 384 ≤ i + (m + 1)
+        → Dec (i + m < 384) → LastCells ns i n 384 t
     by p q i h k (no d) = p .rows i h (omega arith)
-    by p q i h k (yes d) = let e : 383 - m ≡ i = omega arith in subst (λ (i : ℕ). LastCells ns i n 384 t) e q
+    by p q i h k (yes d) = let e : 383 - m ≡ i = omega arith in
+        subst (λ (i : ℕ). LastCells ns i n 384 t) e q
 
 -- 5. nodes in their places
 
-pub no-second : {G : Rules → Type 0} {ns : List ℕ} {i j n : ℕ} {t : List ℕ} → (Present ns j → ⊥) → Ran G (Cell ns i j n) t t true
+pub no-second : {G : Rules → Type 0} {ns : List ℕ} {i j n : ℕ} {t : List ℕ} → (Present ns j → ⊥)
+    → Ran G (Cell ns i j n) t t true
 no-second h = stays (record { cell = λ p q. absurd (h q) })
 
-pub no-first : {G : Rules → Type 0} {ns : List ℕ} {i n m : ℕ} {t : List ℕ} → (Present ns i → ⊥) → Ran G (LastCells ns i n m) t t true
+pub no-first : {G : Rules → Type 0} {ns : List ℕ} {i n m : ℕ} {t : List ℕ} → (Present ns i → ⊥)
+    → Ran G (LastCells ns i n m) t t true
 no-first h = stays (record { row = λ j k l. record { cell = λ p q. absurd (h p) } })
 
 -- two nodes that stand there
-pub pair-there : {ns : List ℕ} {i j : ℕ} {x y : Node} → i < 384 → j < 384 → Present ns i → Present ns j → x ≡ nodeAt ns i
+pub pair-there : {ns : List ℕ} {i j : ℕ} {x y : Node} → i < 384 → j < 384 → Present ns i
+    → Present ns j → x ≡ nodeAt ns i
     → y ≡ nodeAt ns j → (g : Rules) → NodesOf g ns → PairOf x y i j g
 pair-there {ns} {i} {j} {x} {y} hi hj pi pj ex ey g o =
     let a = o .only i hi pi in
@@ -264,7 +315,8 @@ pair-there {ns} {i} {j} {x} {y} hi hj pi pj ex ey g o =
       number₂ = sym (b .number);
     }
 
-pub cell-ran : {ns : List ℕ} {i j n : ℕ} {t u : List ℕ} {r : Bool} {x y : Node} → i < 384 → j < 384 → Present ns i
+pub cell-ran : {ns : List ℕ} {i j n : ℕ} {t u : List ℕ} {r : Bool} {x y : Node} → i < 384 → j < 384
+    → Present ns i
     → Present ns j → x ≡ nodeAt ns i → y ≡ nodeAt ns j → Ran (PairOf x y i j) (Met x y i j n) t u r
     → Ran (λ g. NodesOf g ns) (Cell ns i j n) t u r
 cell-ran {ns} {i} {j} {n} {t} {x = x} hi hj pi pj ex ey a =
@@ -272,7 +324,8 @@ cell-ran {ns} {i} {j} {n} {t} {x = x} hi hj pi pj ex ey a =
     (λ m.
     record {
       cell = λ p q.
-          subst (λ (v : Node). Met v (nodeAt ns j) i j n t) ex (subst (λ (v : Node). Met x v i j n t) ey m);
+          subst (λ (v : Node). Met v (nodeAt ns j) i j n t) ex
+          (subst (λ (v : Node). Met x v i j n t) ey m);
     }) a
 
 pub apt : (ns : List ℕ) (i : ℕ) {x : Node} → x ≡ nodeAt ns i → Small x → Apt x

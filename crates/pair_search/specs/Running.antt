@@ -41,8 +41,8 @@ pub record Settled (x y : Node) (i j : ℕ) (f : Frame) (t : List ℕ) : Type 0 
       → ToldBy g t (setting (rankOf f) l n) (p .head₁) (p .head₂)
       → Kept t (setting (rankOf f) l n) (p .head₁) (p .head₂)
 
--- steps lead from one table to another, which is sound for a sheet with G if the one was; r says that
--- they added nothing, and then P holds
+-- steps lead from one table to another, which is sound for a sheet with G if the one was; r says
+-- that they added nothing, and then P holds
 pub record Ran (G : Rules → Type 0) (P : List ℕ → Type 0) (old new : List ℕ) (r : Bool)
     : Type 0 where
   pub size : length new ≡ length old
@@ -59,8 +59,8 @@ pub record Ready (t : List ℕ) (n : ℕ) : Type 0 where
   pub few : n ≤ 256
   pub each : (k : ℕ) → k < n → EntryAt t searchWords k
 
--- two nodes over the frames of the first n entries; the nodes i and j, if there are both; a node with
--- the last m of 384; the last m with all
+-- two nodes over the frames of the first n entries; the nodes i and j, if there are both; a node
+-- with the last m of 384; the last m with all
 pub record Met (x y : Node) (i j n : ℕ) (t : List ℕ) : Type 0 where
   pub met : (k : ℕ) → k < n → Settled x y i j (frameAt (codeAt t k)) t
 

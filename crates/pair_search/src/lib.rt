@@ -68,7 +68,8 @@ fn meet(words: &mut [u64], n: usize, x: Node, y: Node, i: usize, j: usize) -> bo
 fn cell(nodes: &[u64], words: &mut [u64], n: usize, x: Node, i: usize, j: usize) -> bool
     requires { ⌜ Ready (now words) n × (1536 ≤ length (now nodes)) × (i < 384) × (j < 384) ⌝ }
     requires { ⌜ Present (now nodes) i × (x ≡ nodeAt (now nodes) i) × Small x ⌝ }
-    ensures { λ r. ⌜ CellRan (now (nodes .entry)) i j n (now (words .entry)) (now (words .exit)) r ⌝ }
+    ensures { λ r. ⌜ CellRan (now (nodes .entry)) i j n (now (words .entry)) (now (words .exit))
+        r ⌝ }
 {
     if pair_nodes::present(nodes, j) {
         let y = pair_nodes::node_at(nodes, j);
@@ -135,8 +136,8 @@ fn kid_bits(x: Node) -> u64
     sets::with(one, x.second)
 }
 
-// The nonterminals with which the words of a shape, or behind these of a nonterminal, changed in this
-// pass, and in the one before if that was late in it.
+// The nonterminals with which the words of a shape, or behind these of a nonterminal, changed in
+// this pass, and in the one before if that was late in it.
 fn changed(marks: &[u64; 1024], at: usize, late: bool) -> u64
     requires { ⌜ at < 448 ⌝ }
 {
@@ -166,8 +167,8 @@ fn touched(marks: &[u64; 1024], x: Node, y: Node, i: usize, j: usize) -> bool
     ((a | c) & ky) | (b & kx) != 0
 }
 
-// Can two nodes with these words be related at all? Each meets a child of the other, if there is one,
-// and if both have children, two of these meet.
+// Can two nodes with these words be related at all? Each meets a child of the other, if there is
+// one, and if both have children, two of these meet.
 fn can_meet(w: Words, kx: u8, ky: u8) -> bool {
     if kx != 0 {
         if w.yc | w.yd == 0 {
@@ -224,8 +225,8 @@ fn meet_if(words: &mut [u64], n: usize, x: Node, y: Node, i: usize, j: usize) ->
     true
 }
 
-// Steps of the node `x` with the number `i` and the node `j`, if there is one, they read a word that
-// has changed, and can meet. Had the table all?
+// Steps of the node `x` with the number `i` and the node `j`, if there is one, they read a word
+// that has changed, and can meet. Had the table all?
 fn quick_cell(
     nodes: &[u64],
     words: &mut [u64],

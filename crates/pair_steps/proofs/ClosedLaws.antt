@@ -9,13 +9,17 @@ use Rattle.grammar.specs.Layout.{Every}
 use Rattle.grammar.specs.Trees.{Rules}
 use Rattle.pairs.specs.Survey.{Inherits}
 use Rattle.pairs.specs.Strength.{rank}
-use Rattle.pairs.specs.Shapes.{Form, tip, one, two, Shape, HasForm, tips, units, twos, firsts, seconds, Head}
+use Rattle.pairs.specs.Shapes.{Form, tip, one, two, Shape, HasForm, tips, units, twos, firsts}
+use Rattle.pairs.specs.Shapes.{seconds, Head}
 use Rattle.pairs.specs.Shapes.{children}
 use Rattle.pairs.specs.Relations.{equal, Offset, beside, below, Relation}
-use Rattle.pairs.specs.Settings.{Corner, start₁, cut₁, start₂, cut₂, Point, at, stop₁, stop₂, corners, Setting, setting}
-use Rattle.pairs.specs.Settings.{AllowsOffset, MeetIn, InsideIn, KeepsIn, SitsIn, FitIn, whole₁, whole₂}
+use Rattle.pairs.specs.Settings.{Corner, start₁, cut₁, start₂, cut₂, Point, at, stop₁, stop₂}
+use Rattle.pairs.specs.Settings.{corners, Setting, setting}
+use Rattle.pairs.specs.Settings.{AllowsOffset, MeetIn, InsideIn, KeepsIn, SitsIn, FitIn, whole₁}
+use Rattle.pairs.specs.Settings.{whole₂}
 use Rattle.pairs.specs.Settings.{sides₁, sides₂, relationIn, nextIn}
-use Rattle.pairs.specs.Facts.{Fact, stand, against, sorts, behind, Couple, withEach, crossed, couples, Might}
+use Rattle.pairs.specs.Facts.{Fact, stand, against, sorts, behind, Couple, withEach, crossed}
+use Rattle.pairs.specs.Facts.{couples, Might}
 use Rattle.pairs.specs.Facts.{behindIn, two-nodes, of-node, of-sorts, of-next}
 use Rattle.pairs.proofs.Every.{every-map, every-all}
 use Rattle.pairs.proofs.PairLaws.{every-with, every-crossed}
@@ -39,7 +43,8 @@ weaker UnaryMark.Offside UnaryMark.Offside h (below o) a = a
 weaker UnaryMark.Offside UnaryMark.Offalign h (below o) a = absurd (omega arith)
 weaker UnaryMark.Offside UnaryMark.Single h (below o) a = absurd a
 weaker UnaryMark.Offalign UnaryMark.None h (below o) a = absurd (omega arith)
-weaker UnaryMark.Offalign UnaryMark.Offside h (below o) a = λ e. omega (arith, ap orderCode (sym e ∙ a))
+weaker UnaryMark.Offalign UnaryMark.Offside h (below o) a =
+    λ e. omega (arith, ap orderCode (sym e ∙ a))
 weaker UnaryMark.Offalign UnaryMark.Offalign h (below o) a = a
 weaker UnaryMark.Offalign UnaryMark.Single h (below o) a = absurd a
 weaker UnaryMark.Single UnaryMark.None h (below o) a = absurd (omega arith)
@@ -57,8 +62,8 @@ under (two C D m k) l = two C D m l
 abbrev headUnder : Head → UnaryMark → Head
 headUnder x l = record { sort = x .sort; shape = x .shape; form = under (x .form) l }
 
-under-looks : {g : Rules} {A : ℕ} {s : Shape} {h : Form} {l : UnaryMark} → Inherits g A l → HasForm g A s h
-    → HasForm g A s (under h l)
+under-looks : {g : Rules} {A : ℕ} {s : Shape} {h : Form} {l : UnaryMark} → Inherits g A l
+    → HasForm g A s h → HasForm g A s (under h l)
 under-looks i (tips j e) = tips j e
 under-looks i (units j e p) = units i e p
 under-looks i (twos j e p q) = twos i e p q
@@ -66,7 +71,8 @@ under-looks i (firsts j e p q) = firsts i e p q
 under-looks i (seconds j e p q) = seconds i e p q
 
 -- the mark that a form was made under
-made-under : {g : Rules} {A : ℕ} {s : Shape} {h : Form} → HasForm g A s h → (l : UnaryMark) × Inherits g A l
+made-under : {g : Rules} {A : ℕ} {s : Shape} {h : Form} → HasForm g A s h
+    → (l : UnaryMark) × Inherits g A l
 made-under (tips {l = l} j e) = (l, j)
 made-under (units {l = l} j e p) = (l, j)
 made-under (twos {l = l} j e p q) = (l, j)
@@ -79,15 +85,16 @@ children-under (one C k m) l = refl
 children-under (two C D m k) l = refl
 
 level-inherits : {g : Rules} {A : ℕ} {s : Shape} {h : Form} (l : UnaryMark)
-    → ((k : UnaryMark) → Inherits g A k → rank l ≤ rank k) → HasForm g A s h → rank (levelOf (under h l)) ≤ rank l
+    → ((k : UnaryMark) → Inherits g A k → rank l ≤ rank k) → HasForm g A s h
+    → rank (levelOf (under h l)) ≤ rank l
 level-inherits l f (tips j e) = omega arith
 level-inherits l f (units j e p) = omega arith
 level-inherits l f (twos j e p q) = omega arith
 level-inherits l f (firsts j e p q) = omega arith
 level-inherits l f (seconds j e p q) = omega arith
 
-keeps-under : (σ : Setting) (i : Corner) (j : Point) (k l : UnaryMark) → rank k ≤ rank l → KeepsIn l σ i j
-    → KeepsIn k σ i j
+keeps-under : (σ : Setting) (i : Corner) (j : Point) (k l : UnaryMark) → rank k ≤ rank l
+    → KeepsIn l σ i j → KeepsIn k σ i j
 keeps-under σ i j k l h e =
     every-map
     {P = λ c. InsideIn σ (at i) j (at c) → AllowsOffset l (σ .offset i c)}
@@ -95,13 +102,15 @@ keeps-under σ i j k l h e =
     (λ c f z. weaker k l h (σ .offset i c) (f z)) corners e
 
 sits-under : (g : Rules) (σ : Setting) (h : Form) (i m : Corner) (j : Point) (l : UnaryMark)
-    → rank (levelOf (under h l)) ≤ rank (levelOf h) → SitsIn g σ h i m j → SitsIn g σ (under h l) i m j
+    → rank (levelOf (under h l)) ≤ rank (levelOf h) → SitsIn g σ h i m j
+    → SitsIn g σ (under h l) i m j
 sits-under g σ (tip a b) i m j l r s = s
 sits-under g σ (one C k o) i m j l r s = (keeps-under σ i j l k r (s .0), s .1, s .2, s .3)
 sits-under g σ (two C D k o) i m j l r s =
     (s .0, s .1, s .2, keeps-under σ i j l o r (s .3), s .4, s .5)
 
-couples-under : (x y : Head) (k l : UnaryMark) → couples (headUnder x k) (headUnder y l) ≡ couples x y
+couples-under : (x y : Head) (k l : UnaryMark)
+    → couples (headUnder x k) (headUnder y l) ≡ couples x y
 couples-under x y k l = by (x .form) (y .form)
   where
     by : (h j : Form)
@@ -167,8 +176,8 @@ pub record Lowered (g : Rules) (x y : Head) : Type 0 where
   pub kids : children (y .form) ≡ children (x .form)
   pub weakest : Weakest g y
 
--- two nodes under the weakest marks and over points numbered by rank: the table has what they ask of
--- their children
+-- two nodes under the weakest marks and over points numbered by rank: the table has what they ask
+-- of their children
 pub record ToldRanked (g : Rules) (m : List ℕ) (σ : Setting) (x y : Head) : Type 0 where
   pub frame : Frame
   pub offset : Corner → Corner → Offset
@@ -186,11 +195,13 @@ module _ (g : Rules) (m : List ℕ) (level : (A : ℕ) (l : UnaryMark) → Inher
   best : (x : Head) → HasForm g (x .sort) (x .shape) (x .form) → Least g (x .sort)
   best x h = let i = made-under h in level (x .sort) (i .0) (i .1)
 
-  weakest : (x : Head) (h : HasForm g (x .sort) (x .shape) (x .form)) → Weakest g (headUnder x (best x h .mark))
+  weakest : (x : Head) (h : HasForm g (x .sort) (x .shape) (x .form))
+      → Weakest g (headUnder x (best x h .mark))
   weakest x h =
       record {
         least = λ k i.
-            let p = level-inherits (best x h .mark) (best x h .least) h in omega (arith, p, best x h .least k i);
+            let p = level-inherits (best x h .mark) (best x h .least) h in
+            omega (arith, p, best x h .least k i);
       }
 
   lower-level : (x : Head) (h : HasForm g (x .sort) (x .shape) (x .form))
@@ -198,7 +209,8 @@ module _ (g : Rules) (m : List ℕ) (level : (A : ℕ) (l : UnaryMark) → Inher
   lower-level x h = lower-by h (best x h)
 
   told-under : (σ : Setting) (x y : Head) → (t : ToldBy g m σ x y)
-      → ToldBy g m σ (headUnder x (best x (t .fit .looks₁) .mark)) (headUnder y (best y (t .fit .looks₂) .mark))
+      → ToldBy g m σ (headUnder x (best x (t .fit .looks₁) .mark))
+      (headUnder y (best y (t .fit .looks₂) .mark))
   told-under σ x y t =
       let h = t .fit .looks₁ in
       let j = t .fit .looks₂ in
@@ -212,9 +224,11 @@ module _ (g : Rules) (m : List ℕ) (level : (A : ℕ) (l : UnaryMark) → Inher
               some₁ = t .fit .some₁;
               some₂ = t .fit .some₂;
               sits₁ =
-                  sits-under g σ (x .form) start₁ cut₁ stop₁ (best x h .mark) (lower-level x h) (t .fit .sits₁);
+                  sits-under g σ (x .form) start₁ cut₁ stop₁ (best x h .mark) (lower-level x h)
+                  (t .fit .sits₁);
               sits₂ =
-                  sits-under g σ (y .form) start₂ cut₂ stop₂ (best y j .mark) (lower-level y j) (t .fit .sits₂);
+                  sits-under g σ (y .form) start₂ cut₂ stop₂ (best y j .mark) (lower-level y j)
+                  (t .fit .sits₂);
               meet = record { before = t .fit .meet .before; behind = t .fit .meet .behind };
             };
         lies = λ c k. t .lies c (subst (List·Memᴰ c) e k);
@@ -257,20 +271,23 @@ module _ (g : Rules) (m : List ℕ) (level : (A : ℕ) (l : UnaryMark) → Inher
   kept : (σ : Setting) (x y : Head) → ToldRanked g m σ x y → Kept m σ x y
   kept σ x y r =
       let k =
-      closed .closed (r .frame) (r .by-rank) (r .offset) (r .next) (r .left) (r .right) (r .lowered₁ .weakest)
-      (r .lowered₂ .weakest) (r .told) in
+      closed .closed (r .frame) (r .by-rank) (r .offset) (r .next) (r .left) (r .right)
+      (r .lowered₁ .weakest) (r .lowered₂ .weakest) (r .told) in
       let s : Relation =
       relationIn (setting (rankOf (r .frame)) (r .offset) (r .next)) (whole₁ x) (whole₂ y) in
       subst (λ (σ : Setting). Kept m σ x y) (sym (r .same))
       (record {
         node =
-            subst (InTable m) (λ i. against (r .lowered₁ .shape i) (r .lowered₂ .sort i) s) (k .node);
-        sort = subst (InTable m) (λ i. sorts (r .lowered₁ .sort i) (r .lowered₂ .sort i) s) (k .sort);
+            subst (InTable m) (λ i. against (r .lowered₁ .shape i) (r .lowered₂ .sort i) s)
+            (k .node);
+        sort = subst (InTable m) (λ i. sorts (r .lowered₁ .sort i) (r .lowered₂ .sort i) s)
+            (k .sort);
         next = λ d.
             subst (InTable m)
             (λ i.
             behind (r .lowered₁ .sort i) (r .lowered₂ .sort i) (s .starts) (s .stops)
-            (nextIn (setting (rankOf (r .frame)) (r .offset) (r .next)) (whole₁ x) (whole₂ y))) (k .next d);
+            (nextIn (setting (rankOf (r .frame)) (r .offset) (r .next)) (whole₁ x) (whole₂ y)))
+            (k .next d);
       })
 
   abbrev Has : Fact → Type 0
@@ -280,19 +297,22 @@ module _ (g : Rules) (m : List ℕ) (level : (A : ℕ) (l : UnaryMark) → Inher
   Has (behind A B o p z) = (p ≡ equal → ⊥) → InTable m (behind A B o p z)
 
   -- the facts of couples are none of terminals
-  plain : (x y : Head) (c : Couple) → List·Memᴰ c (couples x y) → (r : Relation) → Has (c .fact r) → InTable m (c .fact r)
+  plain : (x y : Head) (c : Couple) → List·Memᴰ c (couples x y) → (r : Relation) → Has (c .fact r)
+      → InTable m (c .fact r)
   plain x y c k =
       mem-every (λ c. (r : Relation) → Has (c .fact r) → InTable m (c .fact r)) (couples x y) all k
     where
       all : Every (λ c. (r : Relation) → Has (c .fact r) → InTable m (c .fact r)) (couples x y)
       all =
-          every-with (λ c. (r : Relation) → Has (c .fact r) → InTable m (c .fact r)) (whole₁ x) (against (x .shape))
-          (sides₂ y) (withEach (whole₂ y) (against (y .shape)) (sides₁ x) (crossed (sides₁ x) (sides₂ y)))
-          (every-all (λ s r h. h) (sides₂ y))
+          every-with (λ c. (r : Relation) → Has (c .fact r) → InTable m (c .fact r)) (whole₁ x)
+          (against (x .shape))
+          (sides₂ y) (withEach (whole₂ y) (against (y .shape)) (sides₁ x)
+          (crossed (sides₁ x) (sides₂ y))) (every-all (λ s r h. h) (sides₂ y))
           (every-with (λ c. (r : Relation) → Has (c .fact r) → InTable m (c .fact r)) (whole₂ y)
-          (against (y .shape)) (sides₁ x) (crossed (sides₁ x) (sides₂ y)) (every-all (λ s r h. h) (sides₁ x))
-          (every-crossed (λ c. (r : Relation) → Has (c .fact r) → InTable m (c .fact r)) (sides₁ x) (sides₂ y)
-          (every-all (λ s. every-all (λ u r h. h) (sides₂ y)) (sides₁ x))))
+          (against (y .shape)) (sides₁ x) (crossed (sides₁ x) (sides₂ y))
+          (every-all (λ s r h. h) (sides₁ x))
+          (every-crossed (λ c. (r : Relation) → Has (c .fact r) → InTable m (c .fact r)) (sides₁ x)
+          (sides₂ y) (every-all (λ s. every-all (λ u r h. h) (sides₂ y)) (sides₁ x))))
 
   told-by : (f : Point → ℕ) (l : Corner → Corner → Offset) (n : Point → ℕ) (x y : Head)
       → FitIn g (setting f l n) x y
@@ -306,7 +326,8 @@ module _ (g : Rules) (m : List ℕ) (level : (A : ℕ) (l : UnaryMark) → Inher
       by-weakest f l n x y
       (record {
         fit = fit;
-        lies = λ c h k. plain x y c h (relationIn (setting f l n) (c .left) (c .right)) (lies c h k);
+        lies = λ c h k. plain x y c h (relationIn (setting f l n) (c .left) (c .right))
+            (lies c h k);
         goes = goes;
       })
 

@@ -9,8 +9,10 @@ use Rattle.grammar.specs.Layout.{Every}
 use Rattle.grammar.specs.Trees.{Rules}
 use Rattle.pairs.specs.Shapes.{Form, tip, one, two, Head}
 use Rattle.pairs.specs.Relations.{less, equal, more, order, Offset}
-use Rattle.pairs.specs.Settings.{Corner, start₁, cut₁, start₂, cut₂, Point, at, stop₁, stop₂, points}
-use Rattle.pairs.specs.Settings.{Setting, setting, Even, MeetIn, InsideIn, FitIn, whole₁, whole₂, relationIn, nextIn}
+use Rattle.pairs.specs.Settings.{Corner, start₁, cut₁, start₂, cut₂, Point, at, stop₁, stop₂}
+use Rattle.pairs.specs.Settings.{points}
+use Rattle.pairs.specs.Settings.{Setting, setting, Even, MeetIn, InsideIn, FitIn, whole₁, whole₂}
+use Rattle.pairs.specs.Settings.{relationIn, nextIn}
 use Rattle.pairs.specs.Facts.{Couple, couples, behindIn}
 use Rattle.pairs.proofs.OffsetLaws.{is-order, is-of}
 use Rattle.pair_offsets.specs.declared.Frame.{Frame}
@@ -27,7 +29,8 @@ use Rattle.pair_steps.specs.Tables.{InTable, LowTable, WordsOf, NextsOf}
 use Rattle.pair_steps.specs.Suiting.{Placed, Suits}
 use Rattle.pair_steps.proofs.TokenLaws.{in-low}
 use Rattle.pair_steps.proofs.SideLaws.{PlacedIn, Parts, parts-of}
-use Rattle.pair_steps.proofs.CoupleLaws.{Related, Followed, relations-of, Terminals, terminals-of}
+use Rattle.pair_steps.proofs.CoupleLaws.{Related, Followed, relations-of, Terminals}
+use Rattle.pair_steps.proofs.CoupleLaws.{terminals-of}
 use Rattle.pair_steps.proofs.OffsetSteps.{leaves-of}
 use Rattle.pair_steps.proofs.TokenSteps.{AskedTokens, tokens-of}
 use Rattle.pair_steps.proofs.StepLaws.{in-placed}
@@ -59,9 +62,11 @@ member (at start₁) = List·Memᴰ·head refl
 member (at cut₁) = List·Memᴰ·tail (List·Memᴰ·head refl)
 member (at start₂) = List·Memᴰ·tail (List·Memᴰ·tail (List·Memᴰ·head refl))
 member (at cut₂) = List·Memᴰ·tail (List·Memᴰ·tail (List·Memᴰ·tail (List·Memᴰ·head refl)))
-member stop₁ = List·Memᴰ·tail (List·Memᴰ·tail (List·Memᴰ·tail (List·Memᴰ·tail (List·Memᴰ·head refl))))
+member stop₁ =
+    List·Memᴰ·tail (List·Memᴰ·tail (List·Memᴰ·tail (List·Memᴰ·tail (List·Memᴰ·head refl))))
 member stop₂ =
-    List·Memᴰ·tail (List·Memᴰ·tail (List·Memᴰ·tail (List·Memᴰ·tail (List·Memᴰ·tail (List·Memᴰ·head refl)))))
+    List·Memᴰ·tail (List·Memᴰ·tail (List·Memᴰ·tail
+    (List·Memᴰ·tail (List·Memᴰ·tail (List·Memᴰ·head refl)))))
 
 -- 2. terminals below 64
 
@@ -88,21 +93,27 @@ clamp-same z h = by (decLt z 64)
     by (yes k) = refl
     by (no k) = absurd (k h)
 
-every-member : {A : Type 0} (P : A → Type 0) (l : List A) → ((a : A) → List·Memᴰ a l → P a) → Every P l
+every-member : {A : Type 0} (P : A → Type 0) (l : List A) → ((a : A) → List·Memᴰ a l → P a)
+    → Every P l
 every-member P [] h = tt
-every-member P (a ∷ l) h = (h a (List·Memᴰ·head refl), every-member P l (λ b m. h b (List·Memᴰ·tail m)))
+every-member P (a ∷ l) h =
+    (h a (List·Memᴰ·head refl), every-member P l (λ b m. h b (List·Memᴰ·tail m)))
 
 -- 3. what may be by the table
 
-module _ (g : Rules) (m : List ℕ) (low : LowTable m) (f : Frame) (x y : Head) (vx vy : Node) (nx : NodeOf g x vx)
-    (ny : NodeOf g y vy) (w : Words) (ws : WordsOf m vx vy (shapeNumber (x .shape)) (shapeNumber (y .shape)) w)
+module _ (g : Rules) (m : List ℕ) (low : LowTable m) (f : Frame) (x y : Head) (vx vy : Node)
+    (nx : NodeOf g x vx)
+    (ny : NodeOf g y vy) (w : Words)
+    (ws : WordsOf m vx vy (shapeNumber (x .shape)) (shapeNumber (y .shape)) w)
     (n : Words) (ns : NextsOf m f vx vy n) where
   -- two nodes fit, and the table has what they ask of their children
   pub record Told (l : Corner → Corner → Offset) (z : Point → ℕ) : Type 0 where
     pub fit : FitIn g (setting (rankOf f) l z) x y
-    pub lies : (c : Couple) → List·Memᴰ c (couples x y) → MeetIn (setting (rankOf f) l z) (c .left) (c .right)
+    pub lies : (c : Couple) → List·Memᴰ c (couples x y)
+        → MeetIn (setting (rankOf f) l z) (c .left) (c .right)
         → InTable m (c .fact (relationIn (setting (rankOf f) l z) (c .left) (c .right)))
-    pub goes : (c : Couple) → List·Memᴰ c (couples x y) → MeetIn (setting (rankOf f) l z) (c .left) (c .right)
+    pub goes : (c : Couple) → List·Memᴰ c (couples x y)
+        → MeetIn (setting (rankOf f) l z) (c .left) (c .right)
         → (relationIn (setting (rankOf f) l z) (c .left) (c .right) .stops ≡ equal → ⊥)
         → InTable m (behindIn (setting (rankOf f) l z) (c .left) (c .right))
 
@@ -124,15 +135,17 @@ module _ (g : Rules) (m : List ℕ) (low : LowTable m) (f : Frame) (x y : Head) 
     σ : Setting
     σ = setting (rankOf f) (sixOf t) (λ p. val (rankOf f p))
 
-    parts₁ : Parts g (setting (rankOf f) (sixOf t) (λ p. val (rankOf f p))) (x .form) start₁ cut₁ stop₁
+    parts₁ : Parts g (setting (rankOf f) (sixOf t) (λ p. val (rankOf f p))) (x .form) start₁ cut₁
+        stop₁
     parts₁ =
-        parts-of g (setting (rankOf f) (sixOf t) (λ p. val (rankOf f p))) start₁ cut₁ stop₁ (x .form)
-        (told .fit .sits₁)
+        parts-of g (setting (rankOf f) (sixOf t) (λ p. val (rankOf f p))) start₁ cut₁ stop₁
+        (x .form) (told .fit .sits₁)
 
-    parts₂ : Parts g (setting (rankOf f) (sixOf t) (λ p. val (rankOf f p))) (y .form) start₂ cut₂ stop₂
+    parts₂ : Parts g (setting (rankOf f) (sixOf t) (λ p. val (rankOf f p))) (y .form) start₂ cut₂
+        stop₂
     parts₂ =
-        parts-of g (setting (rankOf f) (sixOf t) (λ p. val (rankOf f p))) start₂ cut₂ stop₂ (y .form)
-        (told .fit .sits₂)
+        parts-of g (setting (rankOf f) (sixOf t) (λ p. val (rankOf f p))) start₂ cut₂ stop₂
+        (y .form) (told .fit .sits₂)
 
     inner : (i j p : Point) → rankOf f i < rankOf f p → rankOf f p < rankOf f j
         → InsideIn (setting (rankOf f) (sixOf t) (λ p. val (rankOf f p))) i j p
@@ -151,10 +164,12 @@ module _ (g : Rules) (m : List ℕ) (low : LowTable m) (f : Frame) (x y : Head) 
           behind = is-of (f .begin) (f .stop) less (told .fit .meet .behind);
           placed₁ =
               subst (λ (k : ℕ). Placed f k (f .start) (f .cut) (f .stop)) (sym (nx .kids))
-              (in-placed g f (sixOf t) (λ p. val (rankOf f p)) (x .form) start₁ cut₁ stop₁ (parts₁ .placed));
+              (in-placed g f (sixOf t) (λ p. val (rankOf f p)) (x .form) start₁ cut₁ stop₁
+              (parts₁ .placed));
           placed₂ =
               subst (λ (k : ℕ). Placed f k (f .begin) (f .split) (f .end)) (sym (ny .kids))
-              (in-placed g f (sixOf t) (λ p. val (rankOf f p)) (y .form) start₂ cut₂ stop₂ (parts₂ .placed));
+              (in-placed g f (sixOf t) (λ p. val (rankOf f p)) (y .form) start₂ cut₂ stop₂
+              (parts₂ .placed));
         }
 
     leaves : Leaves f vx vy w t
@@ -190,7 +205,8 @@ module _ (g : Rules) (m : List ℕ) (low : LowTable m) (f : Frame) (x y : Head) 
     kept : {W : ℕ} (r : ℕ) → W < 2 ^ 64 → In W (val r) → In W (clamp (val r))
     kept {W} r b i = subst (In W) (clamp-same (val r) (in-low W (val r) b i)) i
 
-    follow : {a b c d W : ℕ} → W < 2 ^ 64 → (a < d → c < b → (b < d → In W (val b)) × (d < b → In W (val d)))
+    follow : {a b c d W : ℕ} → W < 2 ^ 64
+        → (a < d → c < b → (b < d → In W (val b)) × (d < b → In W (val d)))
         → a < d → c < b → (b < d → In W (clamp (val b))) × (d < b → In W (clamp (val d)))
     follow {a} {b} {c} {d} h k i j = (λ o. kept b h (k i j .0 o), λ o. kept d h (k i j .1 o))
 
@@ -224,13 +240,16 @@ module _ (g : Rules) (m : List ℕ) (low : LowTable m) (f : Frame) (x y : Head) 
         → Follows (f .start) (f .stop) (f .begin) (firstStop (kidCount h) (f .split) (f .end)) W
         → Follows (f .start) (f .stop) (f .split) (secondStop (kidCount h) (f .end)) W′
         → (2 ≤ kidCount h → In (vy .next) (val (f .split))) → f .stop < f .end → val (f .stop) < 64
-    inside₁ (tip a b) W W′ i i′ p u v k lt = absurd (p .0 stop₁ (inner (at start₂) stop₂ stop₁ (suits .behind) lt))
+    inside₁ (tip a b) W W′ i i′ p u v k lt =
+        absurd (p .0 stop₁ (inner (at start₂) stop₂ stop₁ (suits .behind) lt))
     inside₁ (one C a b) W W′ i i′ p u v k lt =
         in-low W (val (f .stop)) i (u (suits .before) (suits .behind) .0 lt)
-    inside₁ (two C D a b) W W′ i i′ p u v k lt = by (decLt (f .stop) (f .split)) (decLt (f .split) (f .stop))
+    inside₁ (two C D a b) W W′ i i′ p u v k lt =
+        by (decLt (f .stop) (f .split)) (decLt (f .split) (f .stop))
       where
         by : Dec (f .stop < f .split) → Dec (f .split < f .stop) → val (f .stop) < 64
-        by (yes h) z = in-low W (val (f .stop)) i (u (omega (arith, suits .some₁)) (suits .behind) .0 h)
+        by (yes h) z =
+            in-low W (val (f .stop)) i (u (omega (arith, suits .some₁)) (suits .behind) .0 h)
         by (no h) (yes z) = in-low W′ (val (f .stop)) i′ (v (suits .before) z .0 lt)
         by (no h) (no z) =
             let e : f .split ≡ f .stop = omega arith in
@@ -242,13 +261,16 @@ module _ (g : Rules) (m : List ℕ) (low : LowTable m) (f : Frame) (x y : Head) 
         → Follows (f .begin) (f .end) (f .start) (firstStop (kidCount h) (f .cut) (f .stop)) W
         → Follows (f .begin) (f .end) (f .cut) (secondStop (kidCount h) (f .stop)) W′
         → (2 ≤ kidCount h → In (vx .next) (val (f .cut))) → f .end < f .stop → val (f .end) < 64
-    inside₂ (tip a b) W W′ i i′ p u v k lt = absurd (p .0 stop₂ (inner (at start₁) stop₁ stop₂ (suits .before) lt))
+    inside₂ (tip a b) W W′ i i′ p u v k lt =
+        absurd (p .0 stop₂ (inner (at start₁) stop₁ stop₂ (suits .before) lt))
     inside₂ (one C a b) W W′ i i′ p u v k lt =
         in-low W (val (f .end)) i (u (suits .behind) (suits .before) .0 lt)
-    inside₂ (two C D a b) W W′ i i′ p u v k lt = by (decLt (f .end) (f .cut)) (decLt (f .cut) (f .end))
+    inside₂ (two C D a b) W W′ i i′ p u v k lt =
+        by (decLt (f .end) (f .cut)) (decLt (f .cut) (f .end))
       where
         by : Dec (f .end < f .cut) → Dec (f .cut < f .end) → val (f .end) < 64
-        by (yes h) z = in-low W (val (f .end)) i (u (omega (arith, suits .some₂)) (suits .before) .0 h)
+        by (yes h) z =
+            in-low W (val (f .end)) i (u (omega (arith, suits .some₂)) (suits .before) .0 h)
         by (no h) (yes z) = in-low W′ (val (f .end)) i′ (v (suits .behind) z .0 lt)
         by (no h) (no z) =
             let e : f .cut ≡ f .end = omega arith in
@@ -279,7 +301,8 @@ module _ (g : Rules) (m : List ℕ) (low : LowTable m) (f : Frame) (x y : Head) 
             (λ k. asked .next₁ (rw (nx .kids) k)) z in
             rw (is-order more (f .stop) (f .end) z, e) (sym (clamp-same (val (f .end)) q))
         by (no h) (no z) =
-            absurd (d (is-order equal (f .stop) (f .end) (let e : f .stop ≡ f .end = omega arith in e)))
+            absurd (d (is-order equal (f .stop) (f .end)
+            (let e : f .stop ≡ f .end = omega arith in e)))
 
     found-six : t < 4096 → EvenSix f t → Found (sixOf t) (λ p. val (rankOf f p))
     found-six b e =
@@ -315,4 +338,5 @@ module _ (g : Rules) (m : List ℕ) (low : LowTable m) (f : Frame) (x y : Head) 
 
       is : (r : Point) → z r ≡ look f z points (rankOf f r)
       is r =
-          looked f z (λ a b e. k .token a b (is-order equal (rankOf f a) (rankOf f b) e)) points r (member r)
+          looked f z (λ a b e. k .token a b (is-order equal (rankOf f a) (rankOf f b) e)) points r
+          (member r)

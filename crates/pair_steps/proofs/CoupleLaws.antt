@@ -8,8 +8,10 @@ use Rattle.sets.specs.Sets.{In}
 use Rattle.grammar.specs.Layout.{Every}
 use Rattle.pairs.specs.Shapes.{Head}
 use Rattle.pairs.specs.Relations.{less, equal, more, order, Offset}
-use Rattle.pairs.specs.Settings.{Corner, start₁, cut₁, start₂, cut₂, Point, at, stop₁, stop₂, Setting, setting}
-use Rattle.pairs.specs.Settings.{Side, whole₁, whole₂, sides₁, sides₂, MeetIn, relationIn, nextBy, nextIn}
+use Rattle.pairs.specs.Settings.{Corner, start₁, cut₁, start₂, cut₂, Point, at, stop₁, stop₂}
+use Rattle.pairs.specs.Settings.{Setting, setting}
+use Rattle.pairs.specs.Settings.{Side, whole₁, whole₂, sides₁, sides₂, MeetIn, relationIn, nextBy}
+use Rattle.pairs.specs.Settings.{nextIn}
 use Rattle.pairs.specs.Facts.{against, sorts, behind, Couple, withEach, crossed, couples, behindIn}
 use Rattle.pairs.proofs.Every.{every-map}
 use Rattle.pairs.proofs.OffsetLaws.{is-order, is-of}
@@ -48,7 +50,8 @@ module _ (f : Point → ℕ) (x y : Head) (P : Couple → Type 0)
       × Q₃ C c e (secondOf (y .form)) cut₂ (secondStop (kidCount (y .form)) (f stop₂))
 
   pub each-child : ((C : ℕ) (c : Corner) → Q₁ C c 0) → ((C : ℕ) (c : Corner) → Q₂ C c 0)
-      → ((C D : ℕ) (c d : Corner) (e : ℕ) → Q₃ C c 0 D d e) → ((C D : ℕ) (c d : Corner) (e : ℕ) → Q₃ C c e D d 0)
+      → ((C D : ℕ) (c d : Corner) (e : ℕ) → Q₃ C c 0 D d e)
+      → ((C D : ℕ) (c d : Corner) (e : ℕ) → Q₃ C c e D d 0)
       → ((k : Side) → P (record { left = whole₁ x; right = k; fact = against (x .shape) (k .sort) })
       → Q₁ (k .sort) (k .from) (f (k .till)))
       → ((k : Side) → P (record { left = whole₂ y; right = k; fact = against (y .shape) (k .sort) })
@@ -61,15 +64,16 @@ module _ (f : Point → ℕ) (x y : Head) (P : Couple → Type 0)
       with-every P (whole₁ x) (against (x .shape)) (sides₂ y)
       (withEach (whole₂ y) (against (y .shape)) (sides₁ x) (crossed (sides₁ x) (sides₂ y))) e in
       let b =
-      with-every P (whole₂ y) (against (y .shape)) (sides₁ x) (crossed (sides₁ x) (sides₂ y)) (a .1) in
+      with-every P (whole₂ y) (against (y .shape)) (sides₁ x) (crossed (sides₁ x) (sides₂ y))
+      (a .1) in
       let p = each-both f Q₁ z₁ (y .form) start₂ cut₂ stop₂ (every-map h₁ (sides₂ y) (a .0)) in
       let q = each-both f Q₂ z₂ (x .form) start₁ cut₁ stop₁ (every-map h₂ (sides₁ x) (b .0)) in
       let r =
       each-both f Q₄ (λ C c. (z₃ C _ c _ _, z₃ C _ c _ _)) (x .form) start₁ cut₁ stop₁
       (every-map
       (λ k i.
-      each-both f (Q₃ (k .sort) (k .from) (f (k .till))) (λ C c. z₄ _ C _ c _) (y .form) start₂ cut₂ stop₂
-      (every-map (λ j u. h₃ k j u) (sides₂ y) i))
+      each-both f (Q₃ (k .sort) (k .from) (f (k .till))) (λ C c. z₄ _ C _ c _) (y .form) start₂ cut₂
+      stop₂ (every-map (λ j u. h₃ k j u) (sides₂ y) i))
       (sides₁ x) (crossed-every P (sides₁ x) (sides₂ y) (b .1))) in
       record {
         xc = p .0;
@@ -110,8 +114,8 @@ module _ (m : List ℕ) (f : Frame) (l : Corner → Corner → Offset) (n : Poin
   abbrev σ : Setting
   σ = setting (rankOf f) l n
 
-  met : (k j : Side) → rankOf f (at (k .from)) < rankOf f (j .till) → rankOf f (at (j .from)) < rankOf f (k .till)
-      → MeetIn σ k j
+  met : (k j : Side) → rankOf f (at (k .from)) < rankOf f (j .till)
+      → rankOf f (at (j .from)) < rankOf f (k .till) → MeetIn σ k j
   met k j p q =
       record {
         before = is-order less (rankOf f (at (k .from))) (rankOf f (j .till)) p;
@@ -126,7 +130,8 @@ module _ (m : List ℕ) (f : Frame) (l : Corner → Corner → Offset) (n : Poin
 
   -- the couple's relation is in the table
   pub record Related (c : Couple) : Type 0 where
-    pub related : MeetIn σ (c .left) (c .right) → InTable m (c .fact (relationIn σ (c .left) (c .right)))
+    pub related : MeetIn σ (c .left) (c .right)
+        → InTable m (c .fact (relationIn σ (c .left) (c .right)))
 
   abbrev R₁ : ℕ → Corner → ℕ → Type 0
   R₁ C c e =
@@ -139,14 +144,16 @@ module _ (m : List ℕ) (f : Frame) (l : Corner → Corner → Offset) (n : Poin
       (offsetCode (l start₂ c))
 
   abbrev R₃ : ℕ → Corner → ℕ → ℕ → Corner → ℕ → Type 0
-  R₃ C c e D d o = Narrows (rankOf f (at c)) e (rankOf f (at d)) o (sortWord m C D) (offsetCode (l c d))
+  R₃ C c e D d o =
+      Narrows (rankOf f (at c)) e (rankOf f (at d)) o (sortWord m C D) (offsetCode (l c d))
 
   abbrev pub Relations : Type 0
   Relations = EachChild (rankOf f) x y Related R₁ R₂ R₃
 
   pub relations-of : Every Related (couples x y) → Relations
   relations-of e =
-      each-child (rankOf f) x y Related R₁ R₂ R₃ (λ C c p q. absurd (omega arith)) (λ C c p q. absurd (omega arith))
+      each-child (rankOf f) x y Related R₁ R₂ R₃ (λ C c p q. absurd (omega arith))
+      (λ C c p q. absurd (omega arith))
       (λ C D c d e p q. absurd (omega arith)) (λ C D c d e p q. absurd (omega arith))
       (λ k r p q. r .related (met (whole₁ x) k p q)) (λ k r p q. r .related (met (whole₂ y) k p q))
       (λ k j r p q. r .related (met k j p q)) e
@@ -179,7 +186,8 @@ module _ (m : List ℕ) (f : Frame) (l : Corner → Corner → Offset) (val : �
 
   -- the terminal where the one ends and the other goes on is in the table
   pub record Followed (c : Couple) : Type 0 where
-    pub followed : MeetIn τ (c .left) (c .right) → (relationIn τ (c .left) (c .right) .stops ≡ equal → ⊥)
+    pub followed : MeetIn τ (c .left) (c .right)
+        → (relationIn τ (c .left) (c .right) .stops ≡ equal → ⊥)
         → InTable m (behindIn τ (c .left) (c .right))
 
   -- pieces from a to b and from c to d, and the word of their nonterminals
@@ -204,8 +212,10 @@ module _ (m : List ℕ) (f : Frame) (l : Corner → Corner → Offset) (val : �
   abbrev pub Terminals : Type 0
   Terminals = EachChild (rankOf f) x y Followed T₁ T₂ T₃
 
-  follows-of : (k j : Side) (W : ℕ) → (MeetIn τ k j → (relationIn τ k j .stops ≡ equal → ⊥) → In W (nextIn τ k j))
-      → Follows (rankOf f (at (k .from))) (rankOf f (k .till)) (rankOf f (at (j .from))) (rankOf f (j .till)) W
+  follows-of : (k j : Side) (W : ℕ)
+      → (MeetIn τ k j → (relationIn τ k j .stops ≡ equal → ⊥) → In W (nextIn τ k j))
+      → Follows (rankOf f (at (k .from))) (rankOf f (k .till)) (rankOf f (at (j .from)))
+      (rankOf f (j .till)) W
   follows-of k j W r p q =
       let b = rankOf f (k .till) in
       let d = rankOf f (j .till) in
@@ -215,10 +225,12 @@ module _ (m : List ℕ) (f : Frame) (l : Corner → Corner → Offset) (val : �
       )
 
   of-follows : (k j : Side) (W : ℕ)
-      → Follows (rankOf f (at (k .from))) (rankOf f (k .till)) (rankOf f (at (j .from))) (rankOf f (j .till)) W
+      → Follows (rankOf f (at (k .from))) (rankOf f (k .till)) (rankOf f (at (j .from)))
+      (rankOf f (j .till)) W
       → MeetIn τ k j → (relationIn τ k j .stops ≡ equal → ⊥) → In W (nextIn τ k j)
   of-follows k j W r s u =
-      by (decLt (rankOf f (k .till)) (rankOf f (j .till))) (decLt (rankOf f (j .till)) (rankOf f (k .till)))
+      by (decLt (rankOf f (k .till)) (rankOf f (j .till)))
+      (decLt (rankOf f (j .till)) (rankOf f (k .till)))
     where
       b : ℕ
       b = rankOf f (k .till)
@@ -228,19 +240,22 @@ module _ (m : List ℕ) (f : Frame) (l : Corner → Corner → Offset) (val : �
 
       t : (b < d → In W (val b)) × (d < b → In W (val d))
       t =
-          r (meet₁ m f l (λ p. val (rankOf f p)) x y k j s) (meet₂ m f l (λ p. val (rankOf f p)) x y k j s)
+          r (meet₁ m f l (λ p. val (rankOf f p)) x y k j s)
+          (meet₂ m f l (λ p. val (rankOf f p)) x y k j s)
 
-      by : Dec (rankOf f (k .till) < rankOf f (j .till)) → Dec (rankOf f (j .till) < rankOf f (k .till))
-          → In W (nextIn τ k j)
+      by : Dec (rankOf f (k .till) < rankOf f (j .till))
+          → Dec (rankOf f (j .till) < rankOf f (k .till)) → In W (nextIn τ k j)
       by (yes h) z = subst (In W) (sym (next-less b d (val b) (val d) h)) (t .0 h)
       by (no h) (yes z) = subst (In W) (sym (next-more b d (val b) (val d) z)) (t .1 z)
       by (no h) (no z) = absurd (u (is-order equal b d (let e : b ≡ d = omega arith in e)))
 
   pub terminals-of : Every Followed (couples x y) → Terminals
   terminals-of e =
-      each-child (rankOf f) x y Followed T₁ T₂ T₃ (λ C c p q. absurd (omega arith)) (λ C c p q. absurd (omega arith))
+      each-child (rankOf f) x y Followed T₁ T₂ T₃ (λ C c p q. absurd (omega arith))
+      (λ C c p q. absurd (omega arith))
       (λ C D c d e p q. absurd (omega arith)) (λ C D c d e p q. absurd (omega arith))
-      (λ k r. follows-of (whole₁ x) k _ (r .followed)) (λ k r. follows-of (whole₂ y) k _ (r .followed))
+      (λ k r. follows-of (whole₁ x) k _ (r .followed))
+      (λ k r. follows-of (whole₂ y) k _ (r .followed))
       (λ k j r. follows-of k j _ (r .followed)) e
 
   pub of-terminals : Terminals → Every Followed (couples x y)

@@ -11,13 +11,16 @@ use Rattle.pair_offsets.specs.declared.Masks.{Masks}
 use Rattle.pair_offsets.specs.Lists.{Held, OffsetsLeft}
 use Rattle.pair_steps.specs.declared.Node.{Node}
 use Rattle.pair_steps.specs.declared.Words.{Words}
-use Rattle.pair_steps.specs.Leaving.{Narrowed, StartsLeave, StartCutLeave, CutStartLeave, CutsLeave}
-use Rattle.pair_steps.specs.Leaving.{OwnLeave, firstStop, secondStop, LeavesBy, Leaves, StartsMost, OffsetsFound}
+use Rattle.pair_steps.specs.Leaving.{Narrowed, StartsLeave, StartCutLeave, CutStartLeave}
+use Rattle.pair_steps.specs.Leaving.{CutsLeave}
+use Rattle.pair_steps.specs.Leaving.{OwnLeave, firstStop, secondStop, LeavesBy, Leaves}
+use Rattle.pair_steps.specs.Leaving.{StartsMost, OffsetsFound}
 use Rattle.pair_steps.proofs.NarrowLaws.{fifteen}
 
 module _ (f : Frame) (x y : Node) (w : Words) (list : List ℕ) (from end : ℕ) where
   -- nothing is left to two starts
-  none-left : (n : ℕ → ℕ) → ((z : ℕ) → Leaves f x y w z → In 0 (n z)) → OffsetsFound f x y w list from end 0
+  none-left : (n : ℕ → ℕ) → ((z : ℕ) → Leaves f x y w z → In 0 (n z))
+      → OffsetsFound f x y w list from end 0
   none-left n h =
       record {
         all = λ k e.
@@ -35,7 +38,8 @@ module _ (f : Frame) (x y : Node) (w : Words) (list : List ℕ) (from end : ℕ)
     by-leaves n e = rw (et, ev, eu, es) at e
 
     pub found-all : (m : Masks) {r : ℕ} → Narrowed 15 (StartsLeave f x y t v w) (m .ac)
-        → Narrowed 15 (StartCutLeave f x y t s w) (m .an) → Narrowed 15 (CutStartLeave f x y u v w) (m .mc)
+        → Narrowed 15 (StartCutLeave f x y t s w) (m .an)
+        → Narrowed 15 (CutStartLeave f x y u v w) (m .mc)
         → Narrowed 15 (CutsLeave f x y u s w) (m .mn)
         → Narrowed 15 (OwnLeave (f .start) (f .cut) (f .stop) x) (m .am)
         → Narrowed 15 (OwnLeave (f .begin) (f .split) (f .end) y) (m .cn)
@@ -85,25 +89,31 @@ module _ (f : Frame) (x y : Node) (w : Words) (list : List ℕ) (from end : ℕ)
             }
 
   pub none-ac : {t v ac : ℕ} → t ≡ firstStop (x .kids) (f .cut) (f .stop)
-      → v ≡ firstStop (y .kids) (f .split) (f .end) → Narrowed 15 (StartsLeave f x y t v w) ac → ac ≡ 0
-      → OffsetsFound f x y w list from end 0
+      → v ≡ firstStop (y .kids) (f .split) (f .end) → Narrowed 15 (StartsLeave f x y t v w) ac
+      → ac ≡ 0 → OffsetsFound f x y w list from end 0
   none-ac et ev n z =
       none-left (λ n. n % 4)
       (λ k e. rw z at (n .keeps (k % 4) (fifteen (k % 4) (omega arith)) (rw (et, ev) (e .ac))))
 
-  pub none-an : {t s an : ℕ} → t ≡ firstStop (x .kids) (f .cut) (f .stop) → s ≡ secondStop (y .kids) (f .end)
+  pub none-an : {t s an : ℕ} → t ≡ firstStop (x .kids) (f .cut) (f .stop)
+      → s ≡ secondStop (y .kids) (f .end)
       → Narrowed 15 (StartCutLeave f x y t s w) an → an ≡ 0 → OffsetsFound f x y w list from end 0
   none-an et es n z =
       none-left (λ n. n / 4 % 4)
-      (λ k e. rw z at (n .keeps (k / 4 % 4) (fifteen (k / 4 % 4) (omega arith)) (rw (et, es) (e .an))))
+      (λ k e. rw z at (n .keeps (k / 4 % 4) (fifteen (k / 4 % 4) (omega arith))
+      (rw (et, es) (e .an))))
 
-  pub none-mc : {u v mc : ℕ} → u ≡ secondStop (x .kids) (f .stop) → v ≡ firstStop (y .kids) (f .split) (f .end)
+  pub none-mc : {u v mc : ℕ} → u ≡ secondStop (x .kids) (f .stop)
+      → v ≡ firstStop (y .kids) (f .split) (f .end)
       → Narrowed 15 (CutStartLeave f x y u v w) mc → mc ≡ 0 → OffsetsFound f x y w list from end 0
   none-mc eu ev n z =
       none-left (λ n. n / 16 % 4)
-      (λ k e. rw z at (n .keeps (k / 16 % 4) (fifteen (k / 16 % 4) (omega arith)) (rw (eu, ev) (e .mc))))
+      (λ k e. rw z at (n .keeps (k / 16 % 4) (fifteen (k / 16 % 4) (omega arith))
+      (rw (eu, ev) (e .mc))))
 
 -- at most
-pub starts-most : {f : Frame} {x y : Node} {w : Words} {t v r : ℕ} → t ≡ firstStop (x .kids) (f .cut) (f .stop)
-    → v ≡ firstStop (y .kids) (f .split) (f .end) → Narrowed 15 (StartsLeave f x y t v w) r → StartsMost f x y w r
+pub starts-most : {f : Frame} {x y : Node} {w : Words} {t v r : ℕ}
+    → t ≡ firstStop (x .kids) (f .cut) (f .stop)
+    → v ≡ firstStop (y .kids) (f .split) (f .end) → Narrowed 15 (StartsLeave f x y t v w) r
+    → StartsMost f x y w r
 starts-most et ev n = record { has = λ k h p. n .keeps k (fifteen k h) (rw (et, ev) p) }

@@ -62,7 +62,11 @@ narrow-then x y =
 pub narrow-as : {m r : ℕ} {P Q : ℕ → Type 0} → ((k : ℕ) → P k → Q k) → ((k : ℕ) → Q k → P k)
     → Narrowed m P r → Narrowed m Q r
 narrow-as f h n =
-    record { keeps = λ k i q. n .keeps k i (h k q); only = λ k i. let p = n .only k i in (p .0, f k (p .1)) }
+    record {
+      keeps = λ k i q. n .keeps k i (h k q);
+      only = λ k i. let p = n .only k i in
+          (p .0, f k (p .1));
+    }
 
 pub narrow-pair : (m a b c d word o p : ℕ) → a < d → c < b → Coded a c o → Coded b d p
     → Narrowed m (Narrows a b c d word) (bitAnd m (word / 2 ^ (12 * o + 4 * p)))

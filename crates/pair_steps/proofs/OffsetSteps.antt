@@ -15,27 +15,31 @@ use Rattle.pair_offsets.specs.Evens.{sixOf}
 use Rattle.pair_offsets.proofs.EvenLaws.{six-code}
 use Rattle.pair_steps.specs.declared.Node.{Node}
 use Rattle.pair_steps.specs.declared.Words.{Words}
-use Rattle.pair_steps.specs.Nodes.{kidCount, KeepAsked, JoinAsked, PartAsked, Mask, NodeOf, shapeNumber}
+use Rattle.pair_steps.specs.Nodes.{kidCount, KeepAsked, JoinAsked, PartAsked, Mask, NodeOf}
+use Rattle.pair_steps.specs.Nodes.{shapeNumber}
 use Rattle.pair_steps.specs.Leaving.{Narrows, firstStop, secondStop, Leaves}
 use Rattle.pair_steps.specs.Tables.{shapeWord, sortWord, WordsOf}
 use Rattle.pair_steps.proofs.CoupleLaws.{Relations}
 
-narrows-by : {a b b′ c d d′ W W′ k k′ : ℕ} → b ≡ b′ → d ≡ d′ → W ≡ W′ → k′ ≡ k → Narrows a b′ c d′ W′ k′
-    → Narrows a b c d W k
+narrows-by : {a b b′ c d d′ W W′ k k′ : ℕ} → b ≡ b′ → d ≡ d′ → W ≡ W′ → k′ ≡ k
+    → Narrows a b′ c d′ W′ k′ → Narrows a b c d W k
 narrows-by p q r s h = rw (p, q, r, ← s) h
 
 by-narrows : {a b b′ c d d′ W W′ k k′ : ℕ} → b ≡ b′ → d ≡ d′ → W ≡ W′ → k′ ≡ k → Narrows a b c d W k
     → Narrows a b′ c d′ W′ k′
 by-narrows p q r s h = rw (← p, ← q, ← r, s) h
 
-mask-in : {r k : ℕ} {P : Offset → Type 0} → Mask r P → (o : Offset) → offsetCode o ≡ k → P o → In r k
+mask-in : {r k : ℕ} {P : Offset → Type 0} → Mask r P → (o : Offset) → offsetCode o ≡ k → P o
+    → In r k
 mask-in {r} m o e p = subst (In r) e (m .has o p)
 
-in-mask : {r k : ℕ} {P : Offset → Type 0} → Mask r P → (o : Offset) → offsetCode o ≡ k → In r k → P o
+in-mask : {r k : ℕ} {P : Offset → Type 0} → Mask r P → (o : Offset) → offsetCode o ≡ k → In r k
+    → P o
 in-mask {r} m o e i = m .only o (subst (In r) (sym e) i)
 
 module _ (g : Rules) (m : List ℕ) (f : Frame) (x y : Head) (vx vy : Node) (nx : NodeOf g x vx)
-    (ny : NodeOf g y vy) (w : Words) (ws : WordsOf m vx vy (shapeNumber (x .shape)) (shapeNumber (y .shape)) w)
+    (ny : NodeOf g y vy) (w : Words)
+    (ws : WordsOf m vx vy (shapeNumber (x .shape)) (shapeNumber (y .shape)) w)
     (n : Point → ℕ) (t : ℕ) where
   -- what the two nodes ask of the six of t
   pub record Asked : Type 0 where
@@ -116,12 +120,16 @@ module _ (g : Rules) (m : List ℕ) (f : Frame) (x y : Head) (vx vy : Node) (nx 
             record {
               yc = by-narrows refl t₁ (ws .yc ∙ ap (shapeWord m J) (nx .first)) (d .0) (e .ac .0);
               xc = by-narrows refl t₂ (ws .xc ∙ ap (shapeWord m I) (ny .first)) (d .0) (e .ac .1);
-              cc = by-narrows t₁ t₂ (ws .cc ∙ ap₂ (sortWord m) (nx .first) (ny .first)) (d .0) (e .ac .2);
+              cc = by-narrows t₁ t₂ (ws .cc ∙ ap₂ (sortWord m) (nx .first) (ny .first)) (d .0)
+                  (e .ac .2);
               xd = by-narrows refl u₂ (ws .xd ∙ ap (shapeWord m I) (ny .second)) (d .1) (e .an .0);
-              cd = by-narrows t₁ u₂ (ws .cd ∙ ap₂ (sortWord m) (nx .first) (ny .second)) (d .1) (e .an .1);
+              cd = by-narrows t₁ u₂ (ws .cd ∙ ap₂ (sortWord m) (nx .first) (ny .second)) (d .1)
+                  (e .an .1);
               yd = by-narrows refl u₁ (ws .yd ∙ ap (shapeWord m J) (nx .second)) (d .2) (e .mc .0);
-              dc = by-narrows u₁ t₂ (ws .dc ∙ ap₂ (sortWord m) (nx .second) (ny .first)) (d .2) (e .mc .1);
-              dd = by-narrows u₁ u₂ (ws .dd ∙ ap₂ (sortWord m) (nx .second) (ny .second)) (d .3) (e .mn .0);
+              dc = by-narrows u₁ t₂ (ws .dc ∙ ap₂ (sortWord m) (nx .second) (ny .first)) (d .2)
+                  (e .mc .1);
+              dd = by-narrows u₁ u₂ (ws .dd ∙ ap₂ (sortWord m) (nx .second) (ny .second)) (d .3)
+                  (e .mn .0);
             };
         keep₁ = keep₁;
         keep₂ = keep₂;

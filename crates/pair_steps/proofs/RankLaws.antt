@@ -9,7 +9,8 @@ use lib.Dec.{ltb}
 use lib.ListN.{length}
 use borrow.Author.Tests.{lt-ltb, le-ltb}
 use Rattle.pairs.specs.Relations.{less, equal, more, order, Offset}
-use Rattle.pairs.specs.Settings.{Corner, start₁, cut₁, start₂, cut₂, Point, at, stop₁, stop₂, setting}
+use Rattle.pairs.specs.Settings.{Corner, start₁, cut₁, start₂, cut₂, Point, at, stop₁, stop₂}
+use Rattle.pairs.specs.Settings.{setting}
 use Rattle.pair_steps.specs.Ranks.{bump, lower, numbersOf, Ranked}
 use Rattle.pairs.proofs.OffsetLaws.{is-order}
 
@@ -44,15 +45,18 @@ lower-le [] x y h = omega arith
 lower-le (a ∷ l) x y h = bump-le a x y (lower l x) (lower l y) h (lower-le l x y h)
 
 lower-lt : (l : List ℕ) (x y : ℕ) → x < y → List·Memᴰ x l → lower l x < lower l y
-lower-lt (a ∷ l) x y h (List·Memᴰ·head e) = rw (le-ltb a x (omega arith), lt-ltb a y (omega arith)) (omega (arith, lower-le l x y (omega arith)))
-lower-lt (a ∷ l) x y h (List·Memᴰ·tail m) = bump-lt a x y (lower l x) (lower l y) (omega arith) (lower-lt l x y h m)
+lower-lt (a ∷ l) x y h (List·Memᴰ·head e) = rw (le-ltb a x (omega arith), lt-ltb a y (omega arith))
+    (omega (arith, lower-le l x y (omega arith)))
+lower-lt (a ∷ l) x y h (List·Memᴰ·tail m) =
+    bump-lt a x y (lower l x) (lower l y) (omega arith) (lower-lt l x y h m)
 
 lower-most : (l : List ℕ) (x : ℕ) → lower l x ≤ length l
 lower-most [] x = omega arith
 lower-most (a ∷ l) x = bump-most (ltb a x) (lower l x) (length l) (lower-most l x)
 
 lower-few : (l : List ℕ) (x : ℕ) → List·Memᴰ x l → lower l x < length l
-lower-few (a ∷ l) x (List·Memᴰ·head e) = rw (le-ltb a x (omega arith)) (omega (arith, lower-most l x))
+lower-few (a ∷ l) x (List·Memᴰ·head e) =
+    rw (le-ltb a x (omega arith)) (omega (arith, lower-most l x))
 lower-few (a ∷ l) x (List·Memᴰ·tail m) = bump-few (ltb a x) (lower l x) (length l) (lower-few l x m)
 
 member : (f : Point → ℕ) (p : Point) → List·Memᴰ (f p) (numbersOf f)
@@ -60,8 +64,10 @@ member f (at start₁) = List·Memᴰ·head refl
 member f (at cut₁) = List·Memᴰ·tail (List·Memᴰ·head refl)
 member f (at start₂) = List·Memᴰ·tail (List·Memᴰ·tail (List·Memᴰ·head refl))
 member f (at cut₂) = List·Memᴰ·tail (List·Memᴰ·tail (List·Memᴰ·tail (List·Memᴰ·head refl)))
-member f stop₁ = List·Memᴰ·tail (List·Memᴰ·tail (List·Memᴰ·tail (List·Memᴰ·tail (List·Memᴰ·head refl))))
-member f stop₂ = List·Memᴰ·tail (List·Memᴰ·tail (List·Memᴰ·tail (List·Memᴰ·tail (List·Memᴰ·tail (List·Memᴰ·head refl)))))
+member f stop₁ =
+    List·Memᴰ·tail (List·Memᴰ·tail (List·Memᴰ·tail (List·Memᴰ·tail (List·Memᴰ·head refl))))
+member f stop₂ = List·Memᴰ·tail
+    (List·Memᴰ·tail (List·Memᴰ·tail (List·Memᴰ·tail (List·Memᴰ·tail (List·Memᴰ·head refl)))))
 
 -- points that have their ranks for numbers
 pub ranked-by : (f : Point → ℕ) → ((p : Point) → lower (numbersOf f) (f p) ≡ f p) → Ranked f
@@ -92,20 +98,33 @@ module _ (f : Point → ℕ) where
   keeps-order p q = by (decLt (f p) (f q)) (decLt (f q) (f p))
     where
       by : Dec (f p < f q) → Dec (f q < f p) → order (f p) (f q) ≡ order (ranks p) (ranks q)
-      by (yes h) d = is-order less (f p) (f q) h ∙ sym (is-order less (ranks p) (ranks q) (up p q h))
-      by (no h) (yes k) = is-order more (f p) (f q) k ∙ sym (is-order more (ranks p) (ranks q) (up q p k))
-      by (no h) (no k) = let e : f p ≡ f q = omega arith in is-order equal (f p) (f q) e ∙ sym (is-order equal (ranks p) (ranks q) (same p q e))
+      by (yes h) d =
+          is-order less (f p) (f q) h ∙ sym (is-order less (ranks p) (ranks q) (up p q h))
+      by (no h) (yes k) =
+          is-order more (f p) (f q) k ∙ sym (is-order more (ranks p) (ranks q) (up q p k))
+      by (no h) (no k) = let e : f p ≡ f q = omega arith in
+          is-order equal (f p) (f q) e ∙ sym (is-order equal (ranks p) (ranks q) (same p q e))
 
   test : (p q : Point) → ltb (ranks p) (ranks q) ≡ ltb (f p) (f q)
   test p q = by (decLt (f p) (f q)) (decLt (f q) (f p))
     where
       by : Dec (f p < f q) → Dec (f q < f p) → ltb (ranks p) (ranks q) ≡ ltb (f p) (f q)
       by (yes h) d = lt-ltb (ranks p) (ranks q) (up p q h) ∙ sym (lt-ltb (f p) (f q) h)
-      by (no h) (yes k) = le-ltb (ranks p) (ranks q) (omega (arith, up q p k)) ∙ sym (le-ltb (f p) (f q) (omega arith))
-      by (no h) (no k) = le-ltb (ranks p) (ranks q) (omega (arith, same q p (omega arith))) ∙ sym (le-ltb (f p) (f q) (omega arith))
+      by (no h) (yes k) = le-ltb (ranks p) (ranks q) (omega (arith, up q p k))
+          ∙ sym (le-ltb (f p) (f q) (omega arith))
+      by (no h) (no k) = le-ltb (ranks p) (ranks q) (omega (arith, same q p (omega arith)))
+          ∙ sym (le-ltb (f p) (f q) (omega arith))
 
   again : (q : Point) → lower (numbersOf ranks) (ranks q) ≡ lower (numbersOf f) (f q)
-  again q = rw (test (at start₁) q, test (at cut₁) q, test (at start₂) q, test (at cut₂) q, test stop₁ q, test stop₂ q) refl
+  again q = rw (
+    test (at start₁) q,
+    test (at cut₁) q,
+    test (at start₂) q,
+    test (at cut₂) q,
+    test
+        stop₁ q,
+    test stop₂ q,
+  ) refl
 
   pub ranked : Ranked ranks
   unfolding ranks

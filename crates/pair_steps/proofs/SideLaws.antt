@@ -10,13 +10,16 @@ use Rattle.grammar.specs.Layout.{Every}
 use Rattle.grammar.specs.Trees.{Rules}
 use Rattle.pairs.specs.Shapes.{Form, tip, one, two, Head}
 use Rattle.pairs.specs.Relations.{less, equal, beside}
-use Rattle.pairs.specs.Settings.{Corner, start₁, cut₁, start₂, cut₂, Point, at, stop₁, stop₂, corners, points}
-use Rattle.pairs.specs.Settings.{Setting, Side, sidesOf, whole₁, whole₂, sides₁, sides₂, InsideIn, AllowsOffset, JoinsIn, SitsIn}
+use Rattle.pairs.specs.Settings.{Corner, start₁, cut₁, start₂, cut₂, Point, at, stop₁, stop₂}
+use Rattle.pairs.specs.Settings.{corners, points}
+use Rattle.pairs.specs.Settings.{Setting, Side, sidesOf, whole₁, whole₂, sides₁, sides₂, InsideIn}
+use Rattle.pairs.specs.Settings.{AllowsOffset, JoinsIn, SitsIn}
 use Rattle.pairs.specs.Facts.{Couple, Fact, withEach, crossed, couples, against, sorts}
 use Rattle.pairs.proofs.Every.{every-map}
 use Rattle.pairs.proofs.PairLaws.{every-with, every-crossed}
 use Rattle.pairs.specs.Relations.{Relation}
-use Rattle.pair_steps.specs.Nodes.{kidCount, firstOf, secondOf, Joint, Parted, KeepAsked, JoinAsked, PartAsked}
+use Rattle.pair_steps.specs.Nodes.{kidCount, firstOf, secondOf, Joint, Parted, KeepAsked}
+use Rattle.pair_steps.specs.Nodes.{JoinAsked, PartAsked}
 use Rattle.pair_steps.specs.Nodes.{BeginAsked, NextAsked, NodeOf}
 use Rattle.pair_steps.specs.declared.Node.{Node}
 use Rattle.pair_steps.specs.Tables.{Proper}
@@ -147,14 +150,15 @@ with-every P x a (k ∷ l) rest e =
     let r = with-every P x a l rest (e .1) in ((e .0, r .0), r .1)
 
 pub crossed-every : (P : Couple → Type 0) (ks ls : List Side) → Every P (crossed ks ls)
-    → Every (λ k. Every (λ j. P (record { left = k; right = j; fact = sorts (k .sort) (j .sort) })) ls) ks
+    → Every (λ k. Every (λ j. P (record { left = k; right = j; fact = sorts (k .sort) (j .sort) }))
+    ls) ks
 crossed-every P [] ls e = tt
 crossed-every P (k ∷ ks) ls e =
     let r = with-every P k (sorts (k .sort)) ls (crossed ks ls) e in
     (r .0, crossed-every P ks ls (r .1))
 
--- what is asked of each child, by its nonterminal, its start and the number of its stop: nothing, if
--- that is 0
+-- what is asked of each child, by its nonterminal, its start and the number of its stop: nothing,
+-- if that is 0
 module _ (f : Point → ℕ) (Q : ℕ → Corner → ℕ → Type 0) where
   abbrev Each : Form → Corner → Corner → Point → Type 0
   Each h i m j = Every (λ s. Q (s .sort) (s .from) (f (s .till))) (sidesOf h i m j)
@@ -164,8 +168,8 @@ module _ (f : Point → ℕ) (Q : ℕ → Corner → ℕ → Type 0) where
       Q (firstOf h) i (firstStop (kidCount h) (f (at m)) (f j))
       × Q (secondOf h) m (secondStop (kidCount h) (f j))
 
-  pub each-both : ((C : ℕ) (c : Corner) → Q C c 0) → (h : Form) (i m : Corner) (j : Point) → Each h i m j
-      → Both h i m j
+  pub each-both : ((C : ℕ) (c : Corner) → Q C c 0) → (h : Form) (i m : Corner) (j : Point)
+      → Each h i m j → Both h i m j
   each-both z (tip a b) i m j e = (z 0 i, z 0 m)
   each-both z (one C l k) i m j e = (e .0, z 0 m)
   each-both z (two C D k l) i m j e = (e .0, e .1 .0)
@@ -194,11 +198,20 @@ pub proper-couples : {g : Rules} {x y : Head} {vx vy : Node} → NodeOf g x vx �
 proper-couples {g} {x} {y} {vx} {vy} nx ny =
     every-with ProperCouple (whole₁ x) (against (x .shape)) (sides₂ y)
     (withEach (whole₂ y) (against (y .shape)) (sides₁ x) (crossed (sides₁ x) (sides₂ y)))
-    (every-map (λ s h. record { fact = λ r. (nx .place, h); left = omega (arith, nx .sort, nx .small .0); right = h })
-    (sides₂ y) small₂)
-    (every-with ProperCouple (whole₂ y) (against (y .shape)) (sides₁ x) (crossed (sides₁ x) (sides₂ y))
-    (every-map (λ s h. record { fact = λ r. (ny .place, h); left = omega (arith, ny .sort, ny .small .0); right = h })
-    (sides₁ x) small₁)
+    (every-map (λ s h. record {
+      fact = λ r. (nx .place, h);
+      left = omega
+          (arith, nx .sort, nx .small .0);
+      right = h;
+    }) (sides₂ y) small₂)
+    (every-with ProperCouple (whole₂ y) (against (y .shape)) (sides₁ x)
+    (crossed (sides₁ x) (sides₂ y))
+    (every-map (λ s h. record {
+      fact = λ r. (ny .place, h);
+      left = omega
+          (arith, ny .sort, ny .small .0);
+      right = h;
+    }) (sides₁ x) small₁)
     (every-crossed ProperCouple (sides₁ x) (sides₂ y)
     (every-map
     (λ s h. every-map (λ u k. record { fact = λ r. (h, k); left = h; right = k }) (sides₂ y) small₂)

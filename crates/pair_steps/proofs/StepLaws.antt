@@ -22,7 +22,8 @@ use Rattle.pair_steps.specs.Leaving.{Leaves}
 use Rattle.pair_steps.specs.Tokens.{TokensLeave}
 use Rattle.pair_steps.specs.Tables.{SoundTable, WordsOf, NextsOf}
 use Rattle.pair_steps.specs.Suiting.{Placed, Suits}
-use Rattle.pair_steps.proofs.SideLaws.{PlacedIn, Parts, of-parts, ProperCouple, proper-couples}
+use Rattle.pair_steps.proofs.SideLaws.{PlacedIn, Parts, of-parts, ProperCouple}
+use Rattle.pair_steps.proofs.SideLaws.{proper-couples}
 use Rattle.pair_steps.proofs.CoupleLaws.{Related, Followed, of-relations, of-terminals}
 use Rattle.pair_steps.proofs.OffsetSteps.{Asked, of-leaves}
 use Rattle.pair_steps.proofs.TokenSteps.{AskedTokens, of-tokens}
@@ -33,22 +34,28 @@ module _ (g : Rules) (f : Frame) (l : Corner → Corner → Offset) (n : Point �
   abbrev σ : Setting
   σ = setting (rankOf f) l n
 
-  pub inside : (i j p : Point) → InsideIn σ i j p → (rankOf f i < rankOf f p) × (rankOf f p < rankOf f j)
+  pub inside : (i j p : Point) → InsideIn σ i j p
+      → (rankOf f i < rankOf f p) × (rankOf f p < rankOf f j)
   inside i j p h = (
     is-of (rankOf f i) (rankOf f p) less (h .low),
     is-of (rankOf f p) (rankOf f j) less (h .high),
   )
 
   placed-in : (h : Form) (i m : Corner) (j : Point)
-      → Placed f (kidCount h) (rankOf f (at i)) (rankOf f (at m)) (rankOf f j) → PlacedIn g σ h i m j
+      → Placed f (kidCount h) (rankOf f (at i)) (rankOf f (at m)) (rankOf f j)
+      → PlacedIn g σ h i m j
   placed-in (tip a b) i m j p = (
     λ q h. let k = inside (at i) j q h in p .leaf refl q (k .0) (k .1),
     is-order equal (rankOf f (at i)) (rankOf f (at m)) (p .one (omega arith)),
   )
-  placed-in (one C k o) i m j p = is-order equal (rankOf f (at i)) (rankOf f (at m)) (p .one (omega arith))
+  placed-in (one C k o) i m j p =
+      is-order equal (rankOf f (at i)) (rankOf f (at m)) (p .one (omega arith))
   placed-in (two C D k o) i m j p =
-      let q = p .two (omega arith) in
-      (is-order less (rankOf f (at i)) (rankOf f (at m)) (q .0), is-order less (rankOf f (at m)) (rankOf f j) (q .1))
+      let q = p .two (omega arith) in (
+        is-order less (rankOf f (at i)) (rankOf f (at m)) (q .0),
+        is-order less (rankOf f (at m))
+            (rankOf f j) (q .1),
+      )
 
   pub in-placed : (h : Form) (i m : Corner) (j : Point) → PlacedIn g σ h i m j
       → Placed f (kidCount h) (rankOf f (at i)) (rankOf f (at m)) (rankOf f j)
@@ -85,23 +92,28 @@ next-asked g (one C l k) z f = tt
 next-asked g (two C D k l) z f = f (omega arith)
 
 module _ (g : Rules) (m : List ℕ) (f : Frame) (x y : Head) (vx vy : Node) (nx : NodeOf g x vx)
-    (ny : NodeOf g y vy) (w : Words) (ws : WordsOf m vx vy (shapeNumber (x .shape)) (shapeNumber (y .shape)) w)
+    (ny : NodeOf g y vy) (w : Words)
+    (ws : WordsOf m vx vy (shapeNumber (x .shape)) (shapeNumber (y .shape)) w)
     (n : Words) (ns : NextsOf m f vx vy n) where
   -- 2. what is found may be
 
-  pub may-stand : SoundTable g m → Suits f (vx .kids) (vy .kids) → (t : ℕ) → EvenSix f t → Leaves f vx vy w t
+  pub may-stand : SoundTable g m → Suits f (vx .kids) (vy .kids) → (t : ℕ) → EvenSix f t
+      → Leaves f vx vy w t
       → (val : ℕ → ℕ) → ((p : Point) → TokensLeave f vx vy n (rankOf f p) (val (rankOf f p)))
       → Might g (stand (setting (rankOf f) (sixOf t) (λ p. val (rankOf f p))) x y)
   may-stand so su t ev le val good =
       two-nodes (rankOf f) (sixOf t) (λ p. val (rankOf f p)) x y fit
       (λ c h k.
-      so .sound (c .fact (relationIn (setting (rankOf f) (sixOf t) (λ p. val (rankOf f p))) (c .left) (c .right)))
+      so .sound (c .fact (relationIn (setting (rankOf f) (sixOf t) (λ p. val (rankOf f p)))
+      (c .left) (c .right)))
       (mem-every ProperCouple (couples x y) (proper-couples nx ny) h .fact _)
-      (mem-every (Related m f (sixOf t) (λ p. val (rankOf f p)) x y) (couples x y) related h .related k))
-      (λ c h k d.
+      (mem-every (Related m f (sixOf t) (λ p. val (rankOf f p)) x y) (couples x y) related h
+      .related k)) (λ c h k d.
       let q = mem-every ProperCouple (couples x y) (proper-couples nx ny) h in
-      so .sound (behindIn (setting (rankOf f) (sixOf t) (λ p. val (rankOf f p))) (c .left) (c .right))
-      (q .left, q .right) (mem-every (Followed m f (sixOf t) val x y) (couples x y) followed h .followed k d))
+      so .sound (behindIn (setting (rankOf f) (sixOf t) (λ p. val (rankOf f p))) (c .left)
+      (c .right))
+      (q .left, q .right) (mem-every (Followed m f (sixOf t) val x y) (couples x y) followed h
+      .followed k d))
     where
       asked : Asked g m f x y vx vy nx ny w ws (λ p. val (rankOf f p)) t
       asked = of-leaves g m f x y vx vy nx ny w ws (λ p. val (rankOf f p)) t le
@@ -115,12 +127,14 @@ module _ (g : Rules) (m : List ℕ) (f : Frame) (x y : Head) (vx vy : Node) (nx 
       followed : Every (Followed m f (sixOf t) val x y) (couples x y)
       followed = of-terminals m f (sixOf t) val x y (tokens .terminals)
 
-      parts₁ : Parts g (setting (rankOf f) (sixOf t) (λ p. val (rankOf f p))) (x .form) start₁ cut₁ stop₁
+      parts₁ : Parts g (setting (rankOf f) (sixOf t) (λ p. val (rankOf f p))) (x .form) start₁ cut₁
+          stop₁
       parts₁ =
           record {
             placed =
                 placed-in g f (sixOf t) (λ p. val (rankOf f p)) (x .form) start₁ cut₁ stop₁
-                (subst (λ (k : ℕ). Placed f k (f .start) (f .cut) (f .stop)) (nx .kids) (su .placed₁));
+                (subst (λ (k : ℕ). Placed f k (f .start) (f .cut) (f .stop)) (nx .kids)
+                (su .placed₁));
             keep = λ c h.
                 let k = inside g f (sixOf t) (λ p. val (rankOf f p)) (at start₁) stop₁ (at c) h in
                 asked .keep₁ c (k .0) (k .1);
@@ -130,15 +144,18 @@ module _ (g : Rules) (m : List ℕ) (f : Frame) (x y : Head) (vx vy : Node) (nx 
             next =
                 next-asked g (x .form) (val (f .cut))
                 (λ k.
-                let j : 2 ≤ vx .kids = rw (nx .kids) k in nx .next j .only (val (f .cut)) (tokens .next₁ j));
+                let j : 2 ≤ vx .kids = rw (nx .kids) k in
+                nx .next j .only (val (f .cut)) (tokens .next₁ j));
           }
 
-      parts₂ : Parts g (setting (rankOf f) (sixOf t) (λ p. val (rankOf f p))) (y .form) start₂ cut₂ stop₂
+      parts₂ : Parts g (setting (rankOf f) (sixOf t) (λ p. val (rankOf f p))) (y .form) start₂ cut₂
+          stop₂
       parts₂ =
           record {
             placed =
                 placed-in g f (sixOf t) (λ p. val (rankOf f p)) (y .form) start₂ cut₂ stop₂
-                (subst (λ (k : ℕ). Placed f k (f .begin) (f .split) (f .end)) (ny .kids) (su .placed₂));
+                (subst (λ (k : ℕ). Placed f k (f .begin) (f .split) (f .end)) (ny .kids)
+                (su .placed₂));
             keep = λ c h.
                 let k = inside g f (sixOf t) (λ p. val (rankOf f p)) (at start₂) stop₂ (at c) h in
                 asked .keep₂ c (k .0) (k .1);
@@ -148,7 +165,8 @@ module _ (g : Rules) (m : List ℕ) (f : Frame) (x y : Head) (vx vy : Node) (nx 
             next =
                 next-asked g (y .form) (val (f .split))
                 (λ k.
-                let j : 2 ≤ vy .kids = rw (ny .kids) k in ny .next j .only (val (f .split)) (tokens .next₂ j));
+                let j : 2 ≤ vy .kids = rw (ny .kids) k in
+                ny .next j .only (val (f .split)) (tokens .next₂ j));
           }
 
       fit : FitIn g (setting (rankOf f) (sixOf t) (λ p. val (rankOf f p))) x y
@@ -167,9 +185,11 @@ module _ (g : Rules) (m : List ℕ) (f : Frame) (x y : Head) (vx vy : Node) (nx 
             some₁ = is-order less (f .start) (f .stop) (su .some₁);
             some₂ = is-order less (f .begin) (f .end) (su .some₂);
             sits₁ =
-                of-parts g (setting (rankOf f) (sixOf t) (λ p. val (rankOf f p))) start₁ cut₁ stop₁ (x .form) parts₁;
+                of-parts g (setting (rankOf f) (sixOf t) (λ p. val (rankOf f p))) start₁ cut₁ stop₁
+                (x .form) parts₁;
             sits₂ =
-                of-parts g (setting (rankOf f) (sixOf t) (λ p. val (rankOf f p))) start₂ cut₂ stop₂ (y .form) parts₂;
+                of-parts g (setting (rankOf f) (sixOf t) (λ p. val (rankOf f p))) start₂ cut₂ stop₂
+                (y .form) parts₂;
             meet =
                 record {
                   before = is-order less (f .start) (f .end) (su .before);

@@ -14,7 +14,8 @@ use Rattle.pair_offsets.specs.declared.Frame.{Frame}
 use Rattle.pair_steps.specs.declared.Node.{Node}
 use Rattle.pair_steps.specs.declared.Words.{Words}
 use Rattle.pair_steps.specs.Leaving.{Narrowed, firstStop, secondStop}
-use Rattle.pair_steps.specs.Tokens.{allTerminals, BeginsLeave, NodesLeave, KidsLeave, TokensBy, TokensLeave}
+use Rattle.pair_steps.specs.Tokens.{allTerminals, BeginsLeave, NodesLeave, KidsLeave}
+use Rattle.pair_steps.specs.Tokens.{TokensBy, TokensLeave}
 use Rattle.pair_steps.specs.Tokens.{TokensMost, SomeAt, PointsHave, TokensFound}
 use Rattle.pair_steps.proofs.NarrowLaws.{shift-in}
 
@@ -46,7 +47,8 @@ some-from : (fuel w : ℕ) → w ≤ fuel → (w ≡ 0 → ⊥) → (z : ℕ) ×
 some-from zero w h n = absurd (n (omega arith))
 some-from (suc fuel) w h n = by (some-from fuel (w / 2)) (ℕ-discrete (w % 2) 1)
   where
-    by : (w / 2 ≤ fuel → (w / 2 ≡ 0 → ⊥) → (z : ℕ) × In (w / 2) z) → Dec (w % 2 ≡ 1) → (z : ℕ) × In w z
+    by : (w / 2 ≤ fuel → (w / 2 ≡ 0 → ⊥) → (z : ℕ) × In (w / 2) z) → Dec (w % 2 ≡ 1)
+        → (z : ℕ) × In w z
     by f (yes e) = (0, record { digit = ap (λ (n : ℕ). n % 2) (div-one w) ∙ e })
     by f (no e) =
         let r = f (omega arith) (λ z. n (omega arith)) in
@@ -79,20 +81,24 @@ module _ (f : Frame) (x y : Node) (n : Words) where
             let k = o .only z i in
             let j = q .only z (k .0) in
             let h = p .only z (j .0) in
-            let d : TokensBy f x y n t v u s r z = record { begins = h .1; nodes = j .1; kids = k .1 } in
+            let d : TokensBy f x y n t v u s r z =
+            record { begins = h .1; nodes = j .1; kids = k .1 } in
             (h .0, rw (et, ev, eu, es) at d);
       }
 
   -- a set that is not 0 has one, and one that is 0 has none
-  has-some : {r a : ℕ} → Narrowed allTerminals (TokensLeave f x y n r) a → (a ≡ 0 → ⊥) → SomeAt f x y n r
+  has-some : {r a : ℕ} → Narrowed allTerminals (TokensLeave f x y n r) a → (a ≡ 0 → ⊥)
+      → SomeAt f x y n r
   has-some {r} {a} p h =
       let z = some-in a h in
       let q = p .only (z .0) (z .1) in
       record { terminal = z .0; low = all-low (z .0) (q .0); leaves = q .1 }
 
-  has-none : {r a : ℕ} → Narrowed allTerminals (TokensLeave f x y n r) a → a ≡ 0 → SomeAt f x y n r → ⊥
+  has-none : {r a : ℕ} → Narrowed allTerminals (TokensLeave f x y n r) a → a ≡ 0 → SomeAt f x y n r
+      → ⊥
   has-none p e s =
-      in-zero (s .terminal) (rw e at (p .keeps (s .terminal) (in-all (s .terminal) (s .low)) (s .leaves)))
+      in-zero (s .terminal) (rw e at (p .keeps (s .terminal) (in-all (s .terminal) (s .low))
+      (s .leaves)))
 
   found-none : (PointsHave f x y n → ⊥) → TokensFound f x y n 0
   found-none h = record { all = λ s z l e. absurd (h s); only = λ z i. absurd (in-zero z i) }
@@ -130,4 +136,7 @@ module _ (f : Frame) (x y : Node) (n : Words) where
 pub tokens-most : {f : Frame} {x y : Node} {n : Words} {r q : ℕ} → r ≡ min (f .stop) (f .end)
     → Narrowed allTerminals (TokensLeave f x y n r) q → TokensMost f x y n q
 tokens-most {f} {x} {y} {n} e l =
-    record { has = λ z h p. l .keeps z (in-all z h) (subst (λ (m : ℕ). TokensLeave f x y n m z) (sym e) p) }
+    record {
+      has =
+          λ z h p. l .keeps z (in-all z h) (subst (λ (m : ℕ). TokensLeave f x y n m z) (sym e) p);
+    }

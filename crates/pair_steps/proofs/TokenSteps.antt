@@ -19,8 +19,10 @@ use Rattle.pair_steps.specs.Tokens.{AtStop, TokensLeave}
 use Rattle.pair_steps.specs.Tables.{nextWord, NextsOf}
 use Rattle.pair_steps.proofs.CoupleLaws.{Terminals}
 
-module _ (g : Rules) (m : List ℕ) (f : Frame) (l : Corner → Corner → Offset) (x y : Head) (vx vy : Node)
-    (nx : NodeOf g x vx) (ny : NodeOf g y vy) (n : Words) (ns : NextsOf m f vx vy n) (val : ℕ → ℕ) where
+module _ (g : Rules) (m : List ℕ) (f : Frame) (l : Corner → Corner → Offset) (x y : Head)
+    (vx vy : Node)
+    (nx : NodeOf g x vx) (ny : NodeOf g y vy) (n : Words) (ns : NextsOf m f vx vy n)
+    (val : ℕ → ℕ) where
   abbrev Follows : ℕ → ℕ → ℕ → ℕ → ℕ → Type 0
   Follows a b c d W = a < d → c < b → (b < d → In W (val b)) × (d < b → In W (val d))
 
@@ -64,42 +66,53 @@ module _ (g : Rules) (m : List ℕ) (f : Frame) (l : Corner → Corner → Offse
   yc : n .yc
       ≡ nextWord m (y .sort) (firstOf (x .form)) (order (f .begin) (f .start))
       (order (f .end) (firstStop (kidCount (x .form)) (f .cut) (f .stop)))
-  yc = ns .yc ∙ (λ i. nextWord m (ny .sort i) (nx .first i) (order (f .begin) (f .start)) (order (f .end) (t₁ i)))
+  yc = ns .yc ∙ (λ i. nextWord m (ny .sort i) (nx .first i) (order (f .begin) (f .start))
+      (order (f .end) (t₁ i)))
 
   yd : n .yd
       ≡ nextWord m (y .sort) (secondOf (x .form)) (order (f .begin) (f .cut))
       (order (f .end) (secondStop (kidCount (x .form)) (f .stop)))
-  yd = ns .yd ∙ (λ i. nextWord m (ny .sort i) (nx .second i) (order (f .begin) (f .cut)) (order (f .end) (u₁ i)))
+  yd = ns .yd ∙ (λ i. nextWord m (ny .sort i) (nx .second i) (order (f .begin) (f .cut))
+      (order (f .end) (u₁ i)))
 
   xc : n .xc
       ≡ nextWord m (x .sort) (firstOf (y .form)) (order (f .start) (f .begin))
       (order (f .stop) (firstStop (kidCount (y .form)) (f .split) (f .end)))
-  xc = ns .xc ∙ (λ i. nextWord m (nx .sort i) (ny .first i) (order (f .start) (f .begin)) (order (f .stop) (t₂ i)))
+  xc = ns .xc ∙ (λ i. nextWord m (nx .sort i) (ny .first i) (order (f .start) (f .begin))
+      (order (f .stop) (t₂ i)))
 
   xd : n .xd
       ≡ nextWord m (x .sort) (secondOf (y .form)) (order (f .start) (f .split))
       (order (f .stop) (secondStop (kidCount (y .form)) (f .end)))
-  xd = ns .xd ∙ (λ i. nextWord m (nx .sort i) (ny .second i) (order (f .start) (f .split)) (order (f .stop) (u₂ i)))
+  xd = ns .xd ∙ (λ i. nextWord m (nx .sort i) (ny .second i) (order (f .start) (f .split))
+      (order (f .stop) (u₂ i)))
 
   kcc : n .cc
       ≡ nextWord m (firstOf (x .form)) (firstOf (y .form)) (order (f .start) (f .begin))
-      (order (firstStop (kidCount (x .form)) (f .cut) (f .stop)) (firstStop (kidCount (y .form)) (f .split) (f .end)))
-  kcc = ns .cc ∙ (λ i. nextWord m (nx .first i) (ny .first i) (order (f .start) (f .begin)) (order (t₁ i) (t₂ i)))
+      (order (firstStop (kidCount (x .form)) (f .cut) (f .stop))
+      (firstStop (kidCount (y .form)) (f .split) (f .end)))
+  kcc = ns .cc ∙ (λ i. nextWord m (nx .first i) (ny .first i) (order (f .start) (f .begin))
+      (order (t₁ i) (t₂ i)))
 
   kcd : n .cd
       ≡ nextWord m (firstOf (x .form)) (secondOf (y .form)) (order (f .start) (f .split))
-      (order (firstStop (kidCount (x .form)) (f .cut) (f .stop)) (secondStop (kidCount (y .form)) (f .end)))
-  kcd = ns .cd ∙ (λ i. nextWord m (nx .first i) (ny .second i) (order (f .start) (f .split)) (order (t₁ i) (u₂ i)))
+      (order (firstStop (kidCount (x .form)) (f .cut) (f .stop))
+      (secondStop (kidCount (y .form)) (f .end)))
+  kcd = ns .cd ∙ (λ i. nextWord m (nx .first i) (ny .second i) (order (f .start) (f .split))
+      (order (t₁ i) (u₂ i)))
 
   kdc : n .dc
       ≡ nextWord m (secondOf (x .form)) (firstOf (y .form)) (order (f .cut) (f .begin))
-      (order (secondStop (kidCount (x .form)) (f .stop)) (firstStop (kidCount (y .form)) (f .split) (f .end)))
-  kdc = ns .dc ∙ (λ i. nextWord m (nx .second i) (ny .first i) (order (f .cut) (f .begin)) (order (u₁ i) (t₂ i)))
+      (order (secondStop (kidCount (x .form)) (f .stop))
+      (firstStop (kidCount (y .form)) (f .split) (f .end)))
+  kdc = ns .dc ∙ (λ i. nextWord m (nx .second i) (ny .first i) (order (f .cut) (f .begin))
+      (order (u₁ i) (t₂ i)))
 
   kdd : n .dd
       ≡ nextWord m (secondOf (x .form)) (secondOf (y .form)) (order (f .cut) (f .split))
       (order (secondStop (kidCount (x .form)) (f .stop)) (secondStop (kidCount (y .form)) (f .end)))
-  kdd = ns .dd ∙ (λ i. nextWord m (nx .second i) (ny .second i) (order (f .cut) (f .split)) (order (u₁ i) (u₂ i)))
+  kdd = ns .dd ∙ (λ i. nextWord m (nx .second i) (ny .second i) (order (f .cut) (f .split))
+      (order (u₁ i) (u₂ i)))
 
   pub tokens-of : AskedTokens → (r : ℕ) → TokensLeave f vx vy n r (val r)
   tokens-of a r =
@@ -141,10 +154,14 @@ module _ (g : Rules) (m : List ℕ) (f : Frame) (l : Corner → Corner → Offse
               yd = by-at refl u₁ yd (λ z. h stop₂ .nodes .1) (λ z. second₁ (vx .kids) z .nodes .1);
               xc = by-at refl t₂ xc (λ z. h stop₁ .nodes .2) (λ z. first₂ (vy .kids) z .nodes .2);
               xd = by-at refl u₂ xd (λ z. h stop₁ .nodes .3) (λ z. second₂ (vy .kids) z .nodes .3);
-              cc = by-at t₁ t₂ kcc (λ z. first₁ (vx .kids) z .kids .0) (λ z. first₂ (vy .kids) z .kids .0);
-              cd = by-at t₁ u₂ kcd (λ z. first₁ (vx .kids) z .kids .1) (λ z. second₂ (vy .kids) z .kids .1);
-              dc = by-at u₁ t₂ kdc (λ z. second₁ (vx .kids) z .kids .2) (λ z. first₂ (vy .kids) z .kids .2);
-              dd = by-at u₁ u₂ kdd (λ z. second₁ (vx .kids) z .kids .3) (λ z. second₂ (vy .kids) z .kids .3);
+              cc = by-at t₁ t₂ kcc (λ z. first₁ (vx .kids) z .kids .0)
+                  (λ z. first₂ (vy .kids) z .kids .0);
+              cd = by-at t₁ u₂ kcd (λ z. first₁ (vx .kids) z .kids .1)
+                  (λ z. second₂ (vy .kids) z .kids .1);
+              dc = by-at u₁ t₂ kdc (λ z. second₁ (vx .kids) z .kids .2)
+                  (λ z. first₂ (vy .kids) z .kids .2);
+              dd = by-at u₁ u₂ kdd (λ z. second₁ (vx .kids) z .kids .3)
+                  (λ z. second₂ (vy .kids) z .kids .3);
             };
       }
     where
@@ -153,7 +170,8 @@ module _ (g : Rules) (m : List ℕ) (f : Frame) (l : Corner → Corner → Offse
       first₁ (suc zero) z = h stop₁
       first₁ (suc (suc k)) z = h (at cut₁)
 
-      first₂ : (k : ℕ) → 0 < firstStop k (f .split) (f .end) → Good (firstStop k (f .split) (f .end))
+      first₂ : (k : ℕ) → 0 < firstStop k (f .split) (f .end)
+          → Good (firstStop k (f .split) (f .end))
       first₂ zero z = absurd (omega arith)
       first₂ (suc zero) z = h stop₂
       first₂ (suc (suc k)) z = h (at cut₂)

@@ -5,7 +5,8 @@ use Prim.Native.Nat.{ℕ}
 use Rattle.grammar.specs.Trees.{Rules}
 use Rattle.pairs.specs.Shapes.{Head}
 use Rattle.pairs.specs.Relations.{equal, Offset}
-use Rattle.pairs.specs.Settings.{Corner, Point, Setting, setting, MeetIn, FitIn, whole₁, whole₂, relationIn}
+use Rattle.pairs.specs.Settings.{Corner, Point, Setting, setting, MeetIn, FitIn, whole₁, whole₂}
+use Rattle.pairs.specs.Settings.{relationIn}
 use Rattle.pairs.specs.Facts.{against, sorts, Couple, couples, behindIn}
 use Rattle.pair_offsets.specs.declared.Frame.{Frame}
 use Rattle.pair_offsets.specs.Frames.{rankOf}
@@ -19,16 +20,19 @@ pub record ToldBy (g : Rules) (m : List ℕ) (σ : Setting) (x y : Head) : Type 
   pub lies : (c : Couple) → List·Memᴰ c (couples x y) → MeetIn σ (c .left) (c .right)
       → InTable m (c .fact (relationIn σ (c .left) (c .right)))
   pub goes : (c : Couple) → List·Memᴰ c (couples x y) → MeetIn σ (c .left) (c .right)
-      → (relationIn σ (c .left) (c .right) .stops ≡ equal → ⊥) → InTable m (behindIn σ (c .left) (c .right))
+      → (relationIn σ (c .left) (c .right) .stops ≡ equal → ⊥)
+      → InTable m (behindIn σ (c .left) (c .right))
 
 -- the table has what there is of them
 pub record Kept (m : List ℕ) (σ : Setting) (x y : Head) : Type 0 where
   pub node : InTable m (against (x .shape) (y .sort) (relationIn σ (whole₁ x) (whole₂ y)))
   pub sort : InTable m (sorts (x .sort) (y .sort) (relationIn σ (whole₁ x) (whole₂ y)))
-  pub next : (relationIn σ (whole₁ x) (whole₂ y) .stops ≡ equal → ⊥) → InTable m (behindIn σ (whole₁ x) (whole₂ y))
+  pub next : (relationIn σ (whole₁ x) (whole₂ y) .stops ≡ equal → ⊥)
+      → InTable m (behindIn σ (whole₁ x) (whole₂ y))
 
 -- it has what may be of two nodes with the weakest marks over points numbered by rank
 pub record ClosedTable (g : Rules) (m : List ℕ) : Type 0 where
-  pub closed : (f : Frame) → Ranked (rankOf f) → (l : Corner → Corner → Offset) (n : Point → ℕ) (x y : Head)
+  pub closed : (f : Frame) → Ranked (rankOf f)
+      → (l : Corner → Corner → Offset) (n : Point → ℕ) (x y : Head)
       → Weakest g x → Weakest g y → ToldBy g m (setting (rankOf f) l n) x y
       → Kept m (setting (rankOf f) l n) x y

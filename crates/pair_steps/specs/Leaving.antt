@@ -89,17 +89,19 @@ pub record LeavesBy (f : Frame) (x y : Node) (w : Words) (t v u s n : ℕ) : Typ
 
 abbrev pub Leaves : Frame → Node → Node → Words → ℕ → Type 0
 Leaves f x y w n =
-    LeavesBy f x y w (firstStop (x .kids) (f .cut) (f .stop)) (firstStop (y .kids) (f .split) (f .end))
+    LeavesBy f x y w (firstStop (x .kids) (f .cut) (f .stop))
+    (firstStop (y .kids) (f .split) (f .end))
     (secondStop (x .kids) (f .stop)) (secondStop (y .kids) (f .end)) n
 
 -- r has what is left to the two starts
 pub record StartsMost (f : Frame) (x y : Node) (w : Words) (r : ℕ) : Type 0 where
   pub has : (k : ℕ) → k < 4
-      → StartsLeave f x y (firstStop (x .kids) (f .cut) (f .stop)) (firstStop (y .kids) (f .split) (f .end)) w k
-      → In r k
+      → StartsLeave f x y (firstStop (x .kids) (f .cut) (f .stop))
+      (firstStop (y .kids) (f .split) (f .end)) w k → In r k
 
 -- a listed six that is as they ask, with k for the offset of the two starts
-pub record FoundWith (f : Frame) (x y : Node) (w : Words) (list : List ℕ) (from end k : ℕ) : Type 0 where
+pub record FoundWith (f : Frame) (x y : Node) (w : Words) (list : List ℕ) (from end k : ℕ) : Type
+    0 where
   pub place : ℕ
   pub low : from ≤ place
   pub high : place < end
@@ -107,6 +109,7 @@ pub record FoundWith (f : Frame) (x y : Node) (w : Words) (list : List ℕ) (fro
   pub starts : getD list place 0 % 4 ≡ k
 
 -- r has the offsets of the two starts in these
-pub record OffsetsFound (f : Frame) (x y : Node) (w : Words) (list : List ℕ) (from end r : ℕ) : Type 0 where
+pub record OffsetsFound (f : Frame) (x y : Node) (w : Words) (list : List ℕ) (from end r : ℕ) : Type
+    0 where
   pub all : (k : ℕ) → FoundWith f x y w list from end k → In r k
   pub only : (k : ℕ) → In r k → FoundWith f x y w list from end k

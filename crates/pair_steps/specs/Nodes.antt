@@ -9,7 +9,8 @@ use Rattle.grammar.specs.declared.BinaryMark.the-variants as BinaryMark
 use Rattle.grammar.specs.Trees.{Rules, Covers}
 use Rattle.pairs.specs.Survey.{CanBegin, Inherits}
 use Rattle.pairs.specs.Strength.{rank}
-use Rattle.pairs.specs.Shapes.{Form, tip, one, two, Shape, all, first, second, ruleOfShape, HasForm, Head}
+use Rattle.pairs.specs.Shapes.{Form, tip, one, two, Shape, all, first, second, ruleOfShape, HasForm}
+use Rattle.pairs.specs.Shapes.{Head}
 use Rattle.pairs.specs.Relations.{Offset, beside, below, equal, more}
 use Rattle.pairs.specs.Settings.{AllowsOffset}
 use Rattle.pair_offsets.specs.Codes.{offsetCode}

@@ -5,8 +5,8 @@ use Rattle.pairs.specs.Settings.{Point}
 use Rattle.pair_offsets.specs.declared.Frame.{Frame}
 use Rattle.pair_offsets.specs.Frames.{rankOf}
 
--- a node with so many children that have tokens can stand from i to j, cut at m: two are cut inside,
--- and a leaf has no point inside
+-- a node with so many children that have tokens can stand from i to j, cut at m: two are cut
+-- inside, and a leaf has no point inside
 pub record Placed (f : Frame) (kids i m j : ℕ) : Type 0 where
   pub two : 2 ≤ kids → (i < m) × (m < j)
   pub one : kids < 2 → i ≡ m

@@ -1,5 +1,5 @@
--- Facts as bits of a table's words, and what a step reads of it. For the contracts of inner functions
--- only.
+-- Facts as bits of a table's words, and what a step reads of it. For the contracts of inner
+-- functions only.
 use mathlib.Core.Path.{_≡_}
 use mathlib.Core.List.{List}
 use Prim.Native.Nat.{ℕ, _+_, _*_, _^_, _<_}
@@ -66,7 +66,8 @@ pub record NextsBy (m : List ℕ) (f : Frame) (x y : Node) (t v u s : ℕ) (n : 
   pub yc : n .yc ≡ nextWord m (y .sort) (x .first) (order (f .begin) (f .start)) (order (f .end) t)
   pub yd : n .yd ≡ nextWord m (y .sort) (x .second) (order (f .begin) (f .cut)) (order (f .end) u)
   pub xc : n .xc ≡ nextWord m (x .sort) (y .first) (order (f .start) (f .begin)) (order (f .stop) v)
-  pub xd : n .xd ≡ nextWord m (x .sort) (y .second) (order (f .start) (f .split)) (order (f .stop) s)
+  pub xd : n .xd ≡ nextWord m (x .sort) (y .second) (order (f .start) (f .split))
+      (order (f .stop) s)
   pub cc : n .cc ≡ nextWord m (x .first) (y .first) (order (f .start) (f .begin)) (order t v)
   pub cd : n .cd ≡ nextWord m (x .first) (y .second) (order (f .start) (f .split)) (order t s)
   pub dc : n .dc ≡ nextWord m (x .second) (y .first) (order (f .cut) (f .begin)) (order u v)
@@ -74,5 +75,6 @@ pub record NextsBy (m : List ℕ) (f : Frame) (x y : Node) (t v u s : ℕ) (n : 
 
 abbrev pub NextsOf : List ℕ → Frame → Node → Node → Words → Type 0
 NextsOf m f x y n =
-    NextsBy m f x y (firstStop (x .kids) (f .cut) (f .stop)) (firstStop (y .kids) (f .split) (f .end))
+    NextsBy m f x y (firstStop (x .kids) (f .cut) (f .stop))
+    (firstStop (y .kids) (f .split) (f .end))
     (secondStop (x .kids) (f .stop)) (secondStop (y .kids) (f .end)) n

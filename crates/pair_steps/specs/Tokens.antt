@@ -12,9 +12,9 @@ use Rattle.pair_steps.specs.Leaving.{firstStop, secondStop}
 abbrev pub allTerminals : ℕ
 allTerminals = 18446744073709551615
 
--- what is asked of the terminal at r: the set's, if r is p; if r is p and there are two children; or
--- if pieces from a to b and from c to d share a token and r is where the one ends and the other goes
--- on
+-- what is asked of the terminal at r: the set's, if r is p; if r is p and there are two children;
+-- or if pieces from a to b and from c to d share a token and r is where the one ends and the other
+-- goes on
 abbrev pub AtPlace : ℕ → ℕ → ℕ → ℕ → Type 0
 AtPlace p r set z = p ≡ r → In set z
 
@@ -54,7 +54,8 @@ pub record TokensBy (f : Frame) (x y : Node) (n : Words) (t v u s r z : ℕ) : T
 
 abbrev pub TokensLeave : Frame → Node → Node → Words → ℕ → ℕ → Type 0
 TokensLeave f x y n r z =
-    TokensBy f x y n (firstStop (x .kids) (f .cut) (f .stop)) (firstStop (y .kids) (f .split) (f .end))
+    TokensBy f x y n (firstStop (x .kids) (f .cut) (f .stop))
+    (firstStop (y .kids) (f .split) (f .end))
     (secondStop (x .kids) (f .stop)) (secondStop (y .kids) (f .end)) r z
 
 -- q has those left at the stop that comes first

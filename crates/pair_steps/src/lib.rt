@@ -13,11 +13,13 @@ ghost use Rattle.pair_steps.specs.Leaving.{StartsLeave, StartCutLeave, C
 ghost use Rattle.pair_steps.specs.Leaving.{CutsLeave, OwnLeave, firstStop, secondStop};
 ghost use Rattle.pair_steps.specs.Leaving.{StartsMost, OffsetsFound};
 ghost use Rattle.pair_steps.specs.Tokens.{allTerminals, AtPlace, AtCut, AtStop, BeginsLeave};
-ghost use Rattle.pair_steps.specs.Tokens.{NodesLeave, KidsLeave, TokensLeave, TokensMost, TokensFound};
+ghost use Rattle.pair_steps.specs.Tokens.{NodesLeave, KidsLeave, TokensLeave, TokensMost};
+ghost use Rattle.pair_steps.specs.Tokens.{TokensFound};
 
 // A node that has tokens: how many children with tokens it has, its nonterminal and theirs; the
-// offsets that it allows its start and a start inside, its start and its cut, and a start before its
-// cut and the cut; the terminals that may stand at its start, and at its cut if it has two children.
+// offsets that it allows its start and a start inside, its start and its cut, and a start before
+// its cut and the cut; the terminals that may stand at its start, and at its cut if it has two
+// children.
 pub struct Node {
     pub kids: u8,
     pub sort: u8,
@@ -90,8 +92,8 @@ pub fn order_code(m: u8, n: u8) -> u64
     1
 }
 
-// The offsets of `m` that are left to the starts of two pieces, from `a` to `b` and from `c` to `d`,
-// whose relations are among those of the word.
+// The offsets of `m` that are left to the starts of two pieces, from `a` to `b` and from `c` to
+// `d`, whose relations are among those of the word.
 fn pair(m: u64, a: u8, b: u8, c: u8, d: u8, word: u64) -> u64
     ensures { λ r. ⌜ Narrowed m (Narrows a b c d word) r ⌝ }
 {
@@ -106,8 +108,8 @@ fn pair(m: u64, a: u8, b: u8, c: u8, d: u8, word: u64) -> u64
     m
 }
 
-// The offsets of `m` that are left to the tokens at `i` and at `c`, where `c` stands inside from `i`
-// to `j`: those of the mask.
+// The offsets of `m` that are left to the tokens at `i` and at `c`, where `c` stands inside from
+// `i` to `j`: those of the mask.
 fn inside(m: u64, i: u8, j: u8, c: u8, mask: u64) -> u64
     ensures { λ r. ⌜ Narrowed m (Within i j c mask) r ⌝ }
 {

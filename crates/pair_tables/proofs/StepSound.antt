@@ -4,7 +4,8 @@ use mathlib.Core.Logic.{_⊎_, inl, inr}
 use mathlib.Core.List.{List}
 use Prim.Native.Nat.{ℕ, suc, _+_, _-_, _*_, _/_, _%_, _^_, _≤_, _<_, min}
 use native.Mathlib.Omega.{arith}
-use native.Mathlib.Nat.{div-div-eq-div-mul, mod-eq-of-lt, mul-le-mul-right, mul-mod-left, div-eq-of-lt}
+use native.Mathlib.Nat.{div-div-eq-div-mul, mod-eq-of-lt, mul-le-mul-right, mul-mod-left}
+use native.Mathlib.Nat.{div-eq-of-lt}
 use native.Mathlib.Decide.{decLt, ℕ-discrete}
 use lib.Bits.{bitAnd, and-le-r}
 use lib.Pow.{pow-add, pow-mono, shl-shr}
@@ -14,8 +15,10 @@ use Rattle.sets.proofs.Bits.{in-and}
 use Rattle.grammar.specs.Trees.{Rules}
 use Rattle.pairs.specs.Shapes.{Shape, first, ruleOfShape, Head}
 use Rattle.pairs.specs.Relations.{Order, less, equal, more, order, Offset, Relation}
-use Rattle.pairs.specs.Settings.{Point, at, start₁, cut₁, start₂, cut₂, stop₁, stop₂, setting, nextBy}
-use Rattle.pairs.specs.Facts.{Fact, stand, against, sorts, behind, Might, of-node, of-sorts, of-next}
+use Rattle.pairs.specs.Settings.{Point, at, start₁, cut₁, start₂, cut₂, stop₁, stop₂, setting}
+use Rattle.pairs.specs.Settings.{nextBy}
+use Rattle.pairs.specs.Facts.{Fact, stand, against, sorts, behind, Might, of-node, of-sorts}
+use Rattle.pairs.specs.Facts.{of-next}
 use Rattle.pairs.proofs.OffsetLaws.{is-order}
 use mathlib.Core.Bool.{Bool}
 use Rattle.pair_offsets.specs.declared.Frame.{Frame}
@@ -35,7 +38,8 @@ use Rattle.pair_steps.specs.Tables.{Proper, InTable, nextWord, SoundTable, Word
 use Rattle.pair_steps.specs.Suiting.{Suits}
 use Rattle.pair_steps.proofs.StepLaws.{may-stand}
 use Rattle.pair_steps.proofs.TokenLaws.{some-in}
-use Rattle.pair_tables.specs.Stepping.{Put, relationBits, nextPlace, Stepped, has-all, no-offsets, no-terminals, puts}
+use Rattle.pair_tables.specs.Stepping.{Put, relationBits, nextPlace, Stepped, has-all}
+use Rattle.pair_tables.specs.Stepping.{no-offsets, no-terminals, puts}
 use Rattle.pair_tables.proofs.StepKept.{code-low}
 
 -- 1. bits moved up, read back
@@ -77,7 +81,8 @@ moved r b z l i = by (decLt z b)
         let e : b ≡ (b - suc z) + 1 + z = omega arith in
         let f : bitAnd r 15 * 2 ^ b ≡ bitAnd r 15 * 2 ^ (b - suc z) * 2 * 2 ^ z =
         ap (λ (n : ℕ). bitAnd r 15 * 2 ^ n) e
-        ∙ (ap (λ (n : ℕ). bitAnd r 15 * n) (pow-add 2 ((b - suc z) + 1) z ∙ ap (λ (n : ℕ). n * 2 ^ z) (pow-add 2 (b - suc z) 1))
+        ∙ (ap (λ (n : ℕ). bitAnd r 15 * n)
+        (pow-add 2 ((b - suc z) + 1) z ∙ ap (λ (n : ℕ). n * 2 ^ z) (pow-add 2 (b - suc z) 1))
         ∙ omega arith) in
         let k : bitAnd r 15 * 2 ^ b / 2 ^ z % 2 ≡ 0 =
         ap (λ (n : ℕ). n / 2 ^ z % 2) f
@@ -92,17 +97,19 @@ moved r b z l i = by (decLt z b)
               sym
               (ap (λ (n : ℕ). bitAnd r 15 * 2 ^ b / 2 ^ n % 2) e
               ∙ (ap (λ (n : ℕ). bitAnd r 15 * 2 ^ b / n % 2) (pow-add 2 b (z - b))
-              ∙ (ap (λ (n : ℕ). n % 2) (sym (div-div-eq-div-mul (bitAnd r 15 * 2 ^ b) (2 ^ b) (2 ^ (z - b))))
-              ∙ ap (λ (n : ℕ). n / 2 ^ (z - b) % 2) (shl-shr (bitAnd r 15) b))))
+              ∙ (ap (λ (n : ℕ). n % 2) (sym (div-div-eq-div-mul (bitAnd r 15 * 2 ^ b) (2 ^ b)
+              (2 ^ (z - b)))) ∙ ap (λ (n : ℕ). n / 2 ^ (z - b) % 2) (shl-shr (bitAnd r 15) b))))
               ∙ digit;
         } in
         let q = in-and r 15 (z - b) .0 d in
         record { offset = z - b; low = four (z - b) (q .1); has = q .0; is = e }
 
 pub bits-moved : (f : Frame) (r z : ℕ) → In (relationBits f r) z
-    → Moved r (12 * orderCode (order (f .start) (f .begin)) + 4 * orderCode (order (f .stop) (f .end))) z
+    → Moved r (12 * orderCode (order (f .start) (f .begin))
+    + 4 * orderCode (order (f .stop) (f .end))) z
 bits-moved f r z i =
-    moved r (12 * orderCode (order (f .start) (f .begin)) + 4 * orderCode (order (f .stop) (f .end))) z
+    moved r (12 * orderCode (order (f .start) (f .begin))
+    + 4 * orderCode (order (f .stop) (f .end))) z
     (omega (arith, code-low (order (f .start) (f .begin)), code-low (order (f .stop) (f .end)))) i
 
 -- 2. a terminal at each number, z at the stop that comes first
@@ -127,15 +134,18 @@ module _ (f : Frame) (x y : Node) (n : Words) (h : PointsHave f x y n) (z : ℕ)
       record {
         terminal = some-at p .terminal;
         first = λ q. absurd (m q);
-        good = λ q j. subst (λ (s : ℕ). TokensLeave f x y n s (some-at p .terminal)) (sym k) (some-at p .leaves);
+        good = λ q j. subst (λ (s : ℕ). TokensLeave f x y n s (some-at p .terminal)) (sym k)
+            (some-at p .leaves);
       }
 
   choose : (r : ℕ) → Chosen r
   choose r =
       by (ℕ-discrete r (min (f .stop) (f .end))) (ℕ-discrete r (f .start)) (ℕ-discrete r (f .cut))
-      (ℕ-discrete r (f .begin)) (ℕ-discrete r (f .split)) (ℕ-discrete r (f .stop)) (ℕ-discrete r (f .end))
+      (ℕ-discrete r (f .begin)) (ℕ-discrete r (f .split)) (ℕ-discrete r (f .stop))
+      (ℕ-discrete r (f .end))
     where
-      by : Dec (r ≡ min (f .stop) (f .end)) → Dec (r ≡ f .start) → Dec (r ≡ f .cut) → Dec (r ≡ f .begin)
+      by : Dec (r ≡ min (f .stop) (f .end)) → Dec (r ≡ f .start) → Dec (r ≡ f .cut)
+          → Dec (r ≡ f .begin)
           → Dec (r ≡ f .split) → Dec (r ≡ f .stop) → Dec (r ≡ f .end) → Chosen r
       by (yes k) a b c d g i =
           record {
@@ -204,10 +214,14 @@ relation-one r o p c e =
 
 -- 4. the step
 
-module _ (g : Rules) (t : List ℕ) (so : SoundTable g t) (f : Frame) (hx hy : Head) (x y : Node) (nx : NodeOf g hx x)
-    (ny : NodeOf g hy y) {i j : ℕ} (ix : i ≡ shapeNumber (hx .shape)) (iy : j ≡ shapeNumber (hy .shape))
-    (su : Suits f (x .kids) (y .kids)) (list : List ℕ) (from end : ℕ) (listed : ListsEvens f list from end)
-    (w n : Words) (ws : WordsOf t x y (shapeNumber (hx .shape)) (shapeNumber (hy .shape)) w) (ns : NextsOf t f x y n)
+module _ (g : Rules) (t : List ℕ) (so : SoundTable g t) (f : Frame) (hx hy : Head) (x y : Node)
+    (nx : NodeOf g hx x)
+    (ny : NodeOf g hy y) {i j : ℕ} (ix : i ≡ shapeNumber (hx .shape))
+    (iy : j ≡ shapeNumber (hy .shape))
+    (su : Suits f (x .kids) (y .kids)) (list : List ℕ) (from end : ℕ)
+    (listed : ListsEvens f list from end)
+    (w n : Words) (ws : WordsOf t x y (shapeNumber (hx .shape)) (shapeNumber (hy .shape)) w)
+    (ns : NextsOf t f x y n)
     (r q : ℕ) (o : OffsetsFound f x y w list from end r) (v : TokensFound f x y n q) where
   record Stands (k z : ℕ) : Type 0 where
     six : ℕ
@@ -251,16 +265,23 @@ module _ (g : Rules) (t : List ℕ) (so : SoundTable g t) (f : Frame) (hx hy : H
   module _ (r-some : r ≡ 0 → ⊥) (q-some : q ≡ 0 → ⊥) where
     -- a bit that the step put into a word of relations
     relation-of : (rl : Relation) → In (relationBits f r) (bitOf rl)
-        → (m : ℕ) × (val : ℕ → ℕ) × (rl ≡ record { starts = order (f .start) (f .begin); stops = order (f .stop) (f .end); offset = sixOf m start₁ start₂ })
-        × Might g (stand (setting (rankOf f) (sixOf m) (λ p. val (rankOf f p))) hx hy)
+        → (m : ℕ) × (val : ℕ → ℕ) × (rl ≡ record {
+          starts = order (f .start) (f .begin);
+          stops = order (f .stop) (f .end);
+          offset = sixOf
+              m start₁ start₂;
+        }) × Might g (stand
+        (setting (rankOf f) (sixOf m) (λ p. val (rankOf f p))) hx hy)
     relation-of rl h =
         let mv = bits-moved f r (bitOf rl) h in
         let z = some-in q q-some in
         let s = stands (mv .offset) (z .0) (mv .has) (z .1) in (
           s .six,
           s .val,
-          relation-one rl (order (f .start) (f .begin)) (order (f .stop) (f .end)) (sixOf (s .six) start₁ start₂)
-              (mv .is ∙ ap (λ (k : ℕ). 12 * orderCode (order (f .start) (f .begin)) + 4 * orderCode (order (f .stop) (f .end)) + k) (sym (s .code))),
+          relation-one rl (order (f .start) (f .begin)) (order (f .stop) (f .end))
+              (sixOf (s .six) start₁ start₂)
+              (mv .is ∙ ap (λ (k : ℕ). 12 * orderCode (order (f .start) (f .begin))
+              + 4 * orderCode (order (f .stop) (f .end)) + k) (sym (s .code))),
           s .may,
         )
 
@@ -271,14 +292,16 @@ module _ (g : Rules) (t : List ℕ) (so : SoundTable g t) (f : Frame) (hx hy : H
     i-low = rw ix (shape-low (hx .shape) (nx .place))
 
     put-sound : {u : List ℕ} {b : Bool}
-        → Put t u (64 * i + y .sort) (24576 + (64 * x .sort + y .sort)) (nextPlace f (x .sort) (y .sort))
+        → Put t u (64 * i + y .sort) (24576 + (64 * x .sort + y .sort))
+        (nextPlace f (x .sort) (y .sort))
         (relationBits f r) (relationBits f r) q b → SoundTable g u
     put-sound {u} p = record { sound = all-sound }
       where
         node : (s : Shape) (B : ℕ) (rl : Relation) → (ruleOfShape s < 128) × (B < 64)
             → In (getD t (64 * shapeNumber s + B) 0) (bitOf rl)
             ⊎ ((64 * shapeNumber s + B ≡ 64 * i + y .sort) × In (relationBits f r) (bitOf rl))
-            ⊎ ((64 * shapeNumber s + B ≡ 24576 + (64 * x .sort + y .sort)) × In (relationBits f r) (bitOf rl))
+            ⊎ ((64 * shapeNumber s + B ≡ 24576 + (64 * x .sort + y .sort))
+            × In (relationBits f r) (bitOf rl))
             ⊎ ((64 * shapeNumber s + B ≡ nextPlace f (x .sort) (y .sort)) × In q (bitOf rl))
             → Might g (against s B rl)
         node s B rl pr (inl h) = so .sound (against s B rl) pr h
@@ -292,14 +315,18 @@ module _ (g : Rules) (t : List ℕ) (so : SoundTable g t) (f : Frame) (hx hy : H
             let u₁ = shape-one s (hx .shape) (pr .0) (nx .place) (a ∙ ix) in
             let u₂ = b ∙ ny .sort in
             subst (Might g) (λ z. against (sym u₁ z) (sym u₂ z) (sym (m .2) z)) (of-node (m .3))
-        node s B rl pr (inr (inr (inl h))) = absurd (omega (arith, h .0, shape-low s (pr .0), pr .1))
-        node s B rl pr (inr (inr (inr h))) = absurd (omega (arith, h .0, shape-low s (pr .0), pr .1))
+        node s B rl pr (inr (inr (inl h))) =
+            absurd (omega (arith, h .0, shape-low s (pr .0), pr .1))
+        node s B rl pr (inr (inr (inr h))) =
+            absurd (omega (arith, h .0, shape-low s (pr .0), pr .1))
 
         both : (A B : ℕ) (rl : Relation) → (A < 64) × (B < 64)
             → In (getD t (24576 + (64 * A + B)) 0) (bitOf rl)
             ⊎ ((24576 + (64 * A + B) ≡ 64 * i + y .sort) × In (relationBits f r) (bitOf rl))
-            ⊎ ((24576 + (64 * A + B) ≡ 24576 + (64 * x .sort + y .sort)) × In (relationBits f r) (bitOf rl))
-            ⊎ ((24576 + (64 * A + B) ≡ nextPlace f (x .sort) (y .sort)) × In q (bitOf rl)) → Might g (sorts A B rl)
+            ⊎ ((24576 + (64 * A + B) ≡ 24576 + (64 * x .sort + y .sort))
+            × In (relationBits f r) (bitOf rl))
+            ⊎ ((24576 + (64 * A + B) ≡ nextPlace f (x .sort) (y .sort)) × In q (bitOf rl))
+            → Might g (sorts A B rl)
         both A B rl pr (inl h) = so .sound (sorts A B rl) pr h
         both A B rl pr (inr (inl h)) = absurd (omega (arith, h .0, i-low, sort-low .1))
         both A B rl pr (inr (inr (inl h))) =
@@ -316,13 +343,16 @@ module _ (g : Rules) (t : List ℕ) (so : SoundTable g t) (f : Frame) (hx hy : H
 
         next : (A B : ℕ) (a b : Order) (z : ℕ) → (A < 64) × (B < 64)
             → In (nextWord t A B a b) z
-            ⊎ ((28672 + (9 * (64 * A + B) + (3 * orderCode a + orderCode b)) ≡ 64 * i + y .sort) × In (relationBits f r) z)
-            ⊎ ((28672 + (9 * (64 * A + B) + (3 * orderCode a + orderCode b)) ≡ 24576 + (64 * x .sort + y .sort)) × In (relationBits f r) z)
-            ⊎ ((28672 + (9 * (64 * A + B) + (3 * orderCode a + orderCode b)) ≡ nextPlace f (x .sort) (y .sort)) × In q z)
-            → Might g (behind A B a b z)
+            ⊎ ((28672 + (9 * (64 * A + B) + (3 * orderCode a + orderCode b)) ≡ 64 * i + y .sort)
+            × In (relationBits f r) z)
+            ⊎ ((28672 + (9 * (64 * A + B) + (3 * orderCode a + orderCode b)) ≡ 24576
+            + (64 * x .sort + y .sort)) × In (relationBits f r) z)
+            ⊎ ((28672 + (9 * (64 * A + B) + (3 * orderCode a + orderCode b))
+            ≡ nextPlace f (x .sort) (y .sort)) × In q z) → Might g (behind A B a b z)
         next A B a b z pr (inl h) = so .sound (behind A B a b z) pr h
         next A B a b z pr (inr (inl h)) = absurd (omega (arith, h .0, i-low, sort-low .1))
-        next A B a b z pr (inr (inr (inl h))) = absurd (omega (arith, h .0, sort-low .0, sort-low .1))
+        next A B a b z pr (inr (inr (inl h))) =
+            absurd (omega (arith, h .0, sort-low .0, sort-low .1))
         next A B a b z pr (inr (inr (inr h))) =
             let e = h .0 in
             let c₁ = code-low a in
@@ -343,22 +373,28 @@ module _ (g : Rules) (t : List ℕ) (so : SoundTable g t) (f : Frame) (hx hy : H
             let o = some-in r r-some in
             let s = stands (o .0) z (o .1) (h .1) in
             let u₅ = next-is (s .val) z (s .first) in
-            subst (Might g) (λ y. behind (sym u₁ y) (sym u₂ y) (sym u₃ y) (sym u₄ y) (u₅ y)) (of-next (s .may))
+            subst (Might g) (λ y. behind (sym u₁ y) (sym u₂ y) (sym u₃ y) (sym u₄ y) (u₅ y))
+            (of-next (s .may))
 
         all-sound : (a : Fact) → Proper a → InTable u a → Might g a
         all-sound (stand σ x y) pr h = absurd pr
-        all-sound (against s B rl) pr h = node s B rl pr (p .only (64 * shapeNumber s + B) (bitOf rl) h)
+        all-sound (against s B rl) pr h =
+            node s B rl pr (p .only (64 * shapeNumber s + B) (bitOf rl) h)
         all-sound (sorts A B rl) pr h = both A B rl pr (p .only (24576 + (64 * A + B)) (bitOf rl) h)
         all-sound (behind A B a b z) pr h =
-            next A B a b z pr (p .only (28672 + (9 * (64 * A + B) + (3 * orderCode a + orderCode b))) z h)
+            next A B a b z pr (p .only (28672
+            + (9 * (64 * A + B) + (3 * orderCode a + orderCode b))) z h)
 
 -- A STEP KEEPS A TABLE SOUND
-pub step-sound : (g : Rules) (t : List ℕ) → SoundTable g t → (f : Frame) (hx hy : Head) (x y : Node) → NodeOf g hx x
+pub step-sound : (g : Rules) (t : List ℕ) → SoundTable g t → (f : Frame) (hx hy : Head) (x y : Node)
+    → NodeOf g hx x
     → NodeOf g hy y → {i j : ℕ} → i ≡ shapeNumber (hx .shape) → j ≡ shapeNumber (hy .shape)
     → Suits f (x .kids) (y .kids) → (list : List ℕ) (from end : ℕ) → ListsEvens f list from end
     → {u : List ℕ} {b : Bool} → Stepped f x y i j list from end t u b → SoundTable g u
 step-sound g t so f hx hy x y nx ny ix iy su list from end l (has-all ws m h) = so
 step-sound g t so f hx hy x y nx ny ix iy su list from end l (no-offsets ws o) = so
 step-sound g t so f hx hy x y nx ny ix iy su list from end l (no-terminals ws o ns v) = so
-step-sound g t so f hx hy x y nx ny ix iy su list from end l (puts {w = w} {n} {r} {q} ws o rs ns v qs p) =
-    put-sound g t so f hx hy x y nx ny ix iy su list from end l w n (rw (ix, iy) at ws) ns r q o v rs qs p
+step-sound g t so f hx hy x y nx ny ix iy su list from end l
+    (puts {w = w} {n} {r} {q} ws o rs ns v qs p) =
+    put-sound g t so f hx hy x y nx ny ix iy su list from end l w n (rw (ix, iy) at ws) ns r q o v
+    rs qs p

@@ -21,8 +21,8 @@ abbrev pub wordSum : List ℕ → ℕ
 wordSum [] = 0
 wordSum (n ∷ l) = n + wordSum l
 
--- the word at a place has the members of a set besides, and the others are as they were; r says that
--- it had them all
+-- the word at a place has the members of a set besides, and the others are as they were; r says
+-- that it had them all
 pub record Joined (old new : List ℕ) (at set : ℕ) (r : Bool) : Type 0 where
   pub size : length new ≡ length old
   pub other : (i : ℕ) → (i ≡ at → ⊥) → getD new i 0 ≡ getD old i 0
@@ -48,7 +48,8 @@ pub record Put (old new : List ℕ) (a b c s p q : ℕ) (r : Bool) : Type 0 wher
 -- the offsets, as bits of the word of relations with these orders
 abbrev pub relationBits : Frame → ℕ → ℕ
 relationBits f r =
-    (bitAnd r 15 * 2 ^ (12 * orderCode (order (f .start) (f .begin)) + 4 * orderCode (order (f .stop) (f .end))))
+    (bitAnd r 15 * 2 ^ (12 * orderCode (order (f .start) (f .begin))
+    + 4 * orderCode (order (f .stop) (f .end))))
     % 2 ^ 64
 
 abbrev pub nextPlace : Frame → ℕ → ℕ → ℕ
@@ -71,7 +72,8 @@ pub record HasSays (f : Frame) (x y : Node) (i m : ℕ) (t : List ℕ) (r : Bool
 
 -- a step of two nodes over a frame: the table has all that it could add, or no offsets are left, or
 -- no terminals, or both are put into the table
-pub data Stepped (f : Frame) (x y : Node) (i j : ℕ) (list : List ℕ) (from end : ℕ) : List ℕ → List ℕ → Bool → Type 0 where
+pub data Stepped (f : Frame) (x y : Node) (i j : ℕ) (list : List ℕ) (from end : ℕ) : List ℕ → List ℕ
+    → Bool → Type 0 where
   has-all : {t : List ℕ} {w : Words} {m : ℕ} → WordsOf t x y i j w → StartsMost f x y w m
       → HasAll f x y i m t → Stepped f x y i j list from end t t true
   no-offsets : {t : List ℕ} {w : Words} → WordsOf t x y i j w → OffsetsFound f x y w list from end 0
@@ -80,6 +82,8 @@ pub data Stepped (f : Frame) (x y : Node) (i j : ℕ) (list : List ℕ) (from en
       → OffsetsFound f x y w list from end r → NextsOf t f x y n → TokensFound f x y n 0
       → Stepped f x y i j list from end t t true
   puts : {t u : List ℕ} {w n : Words} {r q : ℕ} {b : Bool} → WordsOf t x y i j w
-      → OffsetsFound f x y w list from end r → (r ≡ 0 → ⊥) → NextsOf t f x y n → TokensFound f x y n q
-      → (q ≡ 0 → ⊥) → Put t u (64 * i + y .sort) (24576 + (64 * x .sort + y .sort)) (nextPlace f (x .sort) (y .sort))
+      → OffsetsFound f x y w list from end r → (r ≡ 0 → ⊥) → NextsOf t f x y n
+      → TokensFound f x y n q
+      → (q ≡ 0 → ⊥) → Put t u (64 * i + y .sort) (24576 + (64 * x .sort + y .sort))
+      (nextPlace f (x .sort) (y .sort))
       (relationBits f r) (relationBits f r) q b → Stepped f x y i j list from end t u b

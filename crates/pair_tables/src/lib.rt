@@ -137,8 +137,8 @@ fn next_place(f: Frame, a: u8, b: u8) -> usize
     28672 + (9 * (64 * (a as usize) + b as usize) + (3 * o + p))
 }
 
-// Has the table the offsets `m` of the two starts, and all terminals that may stand at the stop that
-// comes first?
+// Has the table the offsets `m` of the two starts, and all terminals that may stand at the stop
+// that comes first?
 fn had_all(t: &[u64], f: Frame, x: Node, y: Node, i: usize, m: u64) -> bool
     requires { ⌜ Room (now t) × Small x × Small y × (i < 384) ⌝ }
     ensures { λ r. ⌜ HasSays f x y i m (now (t .entry)) r ⌝ }
@@ -169,7 +169,8 @@ pub fn step(
 ) -> bool
     requires { ⌜ Room (now t) × Small x × Small y × (i < 384) × (j < 384) ⌝ }
     requires { ⌜ (from ≤ end) × (end ≤ length (now t)) ⌝ }
-    ensures { λ r. ⌜ Stepped f x y i j (now (t .entry)) from end (now (t .entry)) (now (t .exit)) r ⌝ }
+    ensures { λ r. ⌜ Stepped f x y i j (now (t .entry)) from end (now (t .entry)) (now (t .exit))
+        r ⌝ }
 {
     let w = words_of(t, x, y, i, j);
     let m = pair_steps::starts_most(f, x, y, w);

@@ -7,7 +7,8 @@ use native.Mathlib.Decide.{decLt}
 use lib.ListN.{length, length-append}
 use Rattle.grammar.specs.declared.UnaryMark.the-variants as UnaryMark
 use Rattle.grammar.specs.Layout.{Word}
-use Rattle.grammar.specs.Trees.{Tree, unary, binary, root, word, Rules, Valid, valid-unary, valid-binary}
+use Rattle.grammar.specs.Trees.{Tree, unary, binary, root, word, Rules, Valid, valid-unary}
+use Rattle.grammar.specs.Trees.{valid-binary}
 use Rattle.grammar.specs.Trees.{Witness, TwoTrees}
 use Rattle.grammar.specs.Choices.{Choice, Same}
 use Rattle.grammar.specs.Rows.{rowCount}
@@ -23,8 +24,10 @@ use Rattle.pairs.specs.Always.{AlwaysClear, PassesTest}
 use Rattle.pairs.specs.Survey.{at-top, none-at-top, Occurs}
 use Rattle.pairs.specs.Shapes.{Form, children, ruleOfShape}
 use Rattle.pairs.specs.Relations.{equal}
-use Rattle.pairs.specs.Doubts.{OneSpan, Seen, seen-top, seen-child, TwoNodes, two-rules, two-cuts, two-empty}
-use Rattle.pairs.proofs.LevelLaws.{no-mark, Stock, bare, full, stock, Kept, kept-below, kept-first, kept-second}
+use Rattle.pairs.specs.Doubts.{OneSpan, Seen, seen-top, seen-child, TwoNodes, two-rules}
+use Rattle.pairs.specs.Doubts.{two-cuts, two-empty}
+use Rattle.pairs.proofs.LevelLaws.{no-mark, Stock, bare, full, stock, Kept, kept-below}
+use Rattle.pairs.proofs.LevelLaws.{kept-first, kept-second}
 use Rattle.pairs.proofs.OffsetLaws.{is-order, is-of}
 use Rattle.pairs.proofs.Nodes.{Piece, Meet, headOf, settingOf}
 use Rattle.pairs.proofs.NodeLaws.{piece, Sprout, Heirs, sprout}
@@ -42,10 +45,13 @@ module _ (g : Rules) (w : Word) (rise : Rising w) (wide : Wide w) where
       record {
         may =
             pair g w rise wide (rowCount t) (rowCount u) (x .spot) (y .spot)
-            (record { fits = x .fits; below = x .below }) (record { fits = y .fits; below = y .below }) m;
+            (record { fits = x .fits; below = x .below })
+            (record { fits = y .fits; below = y .below }) m;
         starts =
-            is-order equal (x .spot .whole .start) (y .spot .whole .start) (ap (λ (z : Piece). z .start) i);
-        stops = is-order equal (x .spot .whole .stop) (y .spot .whole .stop) (ap (λ (z : Piece). z .stop) i);
+            is-order equal (x .spot .whole .start) (y .spot .whole .start)
+            (ap (λ (z : Piece). z .start) i);
+        stops = is-order equal (x .spot .whole .stop) (y .spot .whole .stop)
+            (ap (λ (z : Piece). z .stop) i);
       }
 
   -- 2. each node with tokens of a tree of 0 is seen
@@ -57,15 +63,16 @@ module _ (g : Rules) (w : Word) (rise : Rising w) (wide : Wide w) where
     pub seen : 1 ≤ length (word t) → Seen g (root t)
 
   heir : {T : Tree} {C : ℕ} (a : ℕ) → Valid g T → Lies w T a → Kept g (root T) (word T)
-      → 1 ≤ length (word T) → Seen g (root T) → ((f : Form) → Heirs T f → List·Memᴰ C (children f)) → Seen g C
+      → 1 ≤ length (word T) → Seen g (root T) → ((f : Form) → Heirs T f → List·Memᴰ C (children f))
+      → Seen g C
   heir {T} a v l k n s m =
       let c = takes-of v in
       let x = sprout g w T a (c .0) (c .1) v (c .2) l n k in
       seen-child (subst (λ (z : Piece). Seen g (z .sort)) (sym (x .is)) s) (one-span x x refl)
       (m (x .spot .form) (x .heirs))
 
-  descend : {t : Tree} (T : Tree) (a : ℕ) → Within t T → Valid g T → Lies w T a → Kept g (root T) (word T)
-      → (1 ≤ length (word T) → Seen g (root T)) → Spread t
+  descend : {t : Tree} (T : Tree) (a : ℕ) → Within t T → Valid g T → Lies w T a
+      → Kept g (root T) (word T) → (1 ≤ length (word T) → Seen g (root T)) → Spread t
   descend T a Paper.here v l k s = record { start = a; lies = l; kept = k; seen = s }
   descend (unary A t) a (Paper.below x) (valid-unary m h y v) l k s =
       descend t a x v (record { fits = l .fits; spelled = l .spelled }) (kept-below g m h v y k)
@@ -85,7 +92,12 @@ module _ (g : Rules) (w : Word) (rise : Rising w) (wide : Wide w) where
   top-kept {T} x =
       record {
         occurs = rw (x .rooted) at-top;
-        marked = λ n. record { mark = UnaryMark.None; inherits = rw (x .rooted) none-at-top; keeps = no-mark (word T) };
+        marked = λ n. record {
+          mark = UnaryMark.None;
+          inherits = rw (x .rooted) none-at-top;
+          keeps =
+              no-mark (word T);
+        };
       }
 
   spread : {A : ℕ} {v : Word} {t : Tree} → Paper.Reaches g 0 w A v → Witness g A v t → Spread t
@@ -98,8 +110,8 @@ module _ (g : Rules) (w : Word) (rise : Rising w) (wide : Wide w) where
 
   module _ (pass : PassesTest g) where
     -- two trees of one nonterminal over one word, in trees of 0, take the same choice
-    no-two : {t u : Tree} {p k q l : ℕ} (a : ℕ) → Sprout g w t a p k → Sprout g w u a q l → piece t a ≡ piece u a
-        → Seen g (root t) → (Same p k q l → ⊥) → ⊥
+    no-two : {t u : Tree} {p k q l : ℕ} (a : ℕ) → Sprout g w t a p k → Sprout g w u a q l
+        → piece t a ≡ piece u a → Seen g (root t) → (Same p k q l → ⊥) → ⊥
     no-two {t} {u} {p} {k} {q} {l} a x y e s d = by (decLt p q) (decLt q p)
       where
         i : x .spot .whole ≡ y .spot .whole
@@ -117,9 +129,14 @@ module _ (g : Rules) (w : Word) (rise : Rising w) (wide : Wide w) where
               rule₂ = y .place;
               over = one-span x y i;
               differ = λ h c.
-                  let b : x .spot .cut ≡ y .spot .cut = is-of (x .spot .cut) (y .spot .cut) equal c in
+                  let b : x .spot .cut ≡ y .spot .cut =
+                  is-of (x .spot .cut) (y .spot .cut) equal c in
                   let j = ap (λ (z : Piece). z .stop) e in
-                  d (sym (x .place) ∙ ap ruleOfShape h ∙ y .place, sym (x .split) ∙ cc (h, b, j) ∙ y .split);
+                  d (
+                    sym (x .place) ∙ ap ruleOfShape h ∙ y .place,
+                    sym (x .split) ∙ cc (h, b, j)
+                        ∙ y .split,
+                  );
             }
 
         back : TwoNodes g (root t) q p
@@ -134,18 +151,22 @@ module _ (g : Rules) (w : Word) (rise : Rising w) (wide : Wide w) where
               rule₂ = x .place;
               over = one-span y x (sym i);
               differ = λ h c.
-                  let b : y .spot .cut ≡ x .spot .cut = is-of (y .spot .cut) (x .spot .cut) equal c in
+                  let b : y .spot .cut ≡ x .spot .cut =
+                  is-of (y .spot .cut) (x .spot .cut) equal c in
                   nodes .differ (sym h) (is-order equal (x .spot .cut) (y .spot .cut) (sym b));
             }
 
         by : Dec (p < q) → Dec (q < p) → ⊥
         by (yes h) z =
-            pass .passes (record { nonterminal = root t; first = p; second = q; why = two-rules }) (s, h, nodes)
+            pass .passes (record { nonterminal = root t; first = p; second = q; why = two-rules })
+            (s, h, nodes)
         by (no h) (yes z) =
-            pass .passes (record { nonterminal = root t; first = q; second = p; why = two-rules }) (s, z, back)
+            pass .passes (record { nonterminal = root t; first = q; second = p; why = two-rules })
+            (s, z, back)
         by (no h) (no z) =
             let o : p ≡ q = omega arith in
-            pass .passes (record { nonterminal = root t; first = p; second = q; why = two-cuts }) (s, o, nodes)
+            pass .passes (record { nonterminal = root t; first = p; second = q; why = two-cuts })
+            (s, o, nodes)
 
     -- two rules for the empty word
     no-empty : {A p q : ℕ} → Occurs g A → Choice g A [] p 0 → Choice g A [] q 0 → (p ≡ q → ⊥) → ⊥
@@ -153,9 +174,11 @@ module _ (g : Rules) (w : Word) (rise : Rising w) (wide : Wide w) where
       where
         by : Dec (p < q) → Dec (q < p) → ⊥
         by (yes h) z =
-            pass .passes (record { nonterminal = A; first = p; second = q; why = two-empty }) (o, h, x, y)
+            pass .passes (record { nonterminal = A; first = p; second = q; why = two-empty })
+            (o, h, x, y)
         by (no h) (yes z) =
-            pass .passes (record { nonterminal = A; first = q; second = p; why = two-empty }) (o, z, y, x)
+            pass .passes (record { nonterminal = A; first = q; second = p; why = two-empty })
+            (o, z, y, x)
         by (no h) (no z) = d (omega arith)
 
     pub unambiguous : TwoTrees g 0 w → ⊥
@@ -193,20 +216,27 @@ module _ (g : Rules) (w : Word) (rise : Rising w) (wide : Wide w) where
             by (full n p) =
                 let m : 1 ≤ length (word (y .tree)) = rw words at n in
                 no-two (o .start)
-                (sprout g w (x .tree) (o .start) (f .several .place₁) (f .several .split₁) (x .witness .valid)
-                (x .takes) (o .lies) n (o .kept))
-                (sprout g w (y .tree) (o .start) (f .several .place₂) (f .several .split₂) (y .witness .valid)
-                (y .takes)
-                (record { fits = rw words at (o .lies .fits); spelled = rw words at (o .lies .spelled) }) m kept)
+                (sprout g w (x .tree) (o .start) (f .several .place₁) (f .several .split₁)
+                (x .witness .valid) (x .takes) (o .lies) n (o .kept))
+                (sprout g w (y .tree) (o .start) (f .several .place₂) (f .several .split₂)
+                (y .witness .valid) (y .takes)
+                (record {
+                  fits = rw words at (o .lies .fits);
+                  spelled =
+                      rw words at (o .lies .spelled);
+                }) m kept)
                 (piece-of roots words) (o .seen n) (f .several .differ)
             by (bare n) =
                 let z : f .part ≡ [] = sym (x .witness .spelled) ∙ n in
                 let h : Occurs g (f .nonterminal) = rw (x .witness .rooted) at (o .kept .occurs) in
-                let i = inside (f .nonterminal) (f .part) (f .several .place₁) (f .several .split₁) x .1 in
-                let j = inside (f .nonterminal) (f .part) (f .several .place₂) (f .several .split₂) y .1 in
+                let i = inside (f .nonterminal) (f .part) (f .several .place₁) (f .several .split₁)
+                x .1 in
+                let j = inside (f .nonterminal) (f .part) (f .several .place₂) (f .several .split₂)
+                y .1 in
                 let a : f .several .split₁ ≡ 0 = omega (arith, i, ap length z) in
                 let b : f .several .split₂ ≡ 0 = omega (arith, j, ap length z) in
-                no-empty h (rw (z, a) at x) (rw (z, b) at y) (λ e. f .several .differ (e, a ∙ sym b))
+                no-empty h (rw (z, a) at x) (rw (z, b) at y)
+                (λ e. f .several .differ (e, a ∙ sym b))
 
 pub passes-clear : {g : Rules} → PassesTest g → AlwaysClear g
 passes-clear {g} p = record { clear = λ w rise wide. unambiguous g w rise wide p }

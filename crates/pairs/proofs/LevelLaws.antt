@@ -16,9 +16,12 @@ use Rattle.grammar.specs.Trees.{Tree, binary, unary, root, word, Rules, HasUnar
 use Rattle.grammar.specs.Trees.{Valid, valid-empty, valid-leaf, valid-unary, valid-binary}
 use Rattle.grammar.specs.Cycles.{Nullable}
 use Rattle.marks.specs.Half.{tokenAt}
-use Rattle.pairs.specs.Survey.{Productive, by-atom, by-unary, by-both, by-first, by-second, HasWord}
-use Rattle.pairs.specs.Survey.{Occurs, in-unary, in-first, in-second, CanBegin, with-atom, with-unary}
-use Rattle.pairs.specs.Survey.{with-first, with-second, stronger, onwardMark, Inherits, from-unary}
+use Rattle.pairs.specs.Survey.{Productive, by-atom, by-unary, by-both, by-first, by-second}
+use Rattle.pairs.specs.Survey.{HasWord}
+use Rattle.pairs.specs.Survey.{Occurs, in-unary, in-first, in-second, CanBegin, with-atom}
+use Rattle.pairs.specs.Survey.{with-unary}
+use Rattle.pairs.specs.Survey.{with-first, with-second, stronger, onwardMark, Inherits}
+use Rattle.pairs.specs.Survey.{from-unary}
 use Rattle.pairs.specs.Survey.{to-first, to-only, to-second}
 use Rattle.pairs.proofs.Every.{every-map, every-all, every-front, every-rest}
 
@@ -40,7 +43,8 @@ stronger-one UnaryMark.Offside UnaryMark.Offside = inl refl
 stronger-one UnaryMark.Offside UnaryMark.Single = inr refl
 stronger-one UnaryMark.Single m = inl refl
 
-stronger-keeps : (l m : UnaryMark) (v : Word) → Mark.Unary l v → Mark.Unary m v → Mark.Unary (stronger l m) v
+stronger-keeps : (l m : UnaryMark) (v : Word) → Mark.Unary l v → Mark.Unary m v
+    → Mark.Unary (stronger l m) v
 stronger-keeps l m v x y =
     ⊎-elim (λ e. subst (λ (k : UnaryMark). Mark.Unary k v) (sym e) x)
     (λ e. subst (λ (k : UnaryMark). Mark.Unary k v) (sym e) y) (stronger-one l m)
@@ -49,7 +53,8 @@ front-unary : (m : UnaryMark) (u v : Word) → Mark.Unary m (u ++ v) → Mark.Un
 front-unary m [] v x = tt
 front-unary m (a ∷ u) v x = every-front (Keeps m a) u v x
 
-one-line : (a : Token) (v : Word) → Every (Keeps UnaryMark.Single a) v → Mark.Unary UnaryMark.Single v
+one-line : (a : Token) (v : Word) → Every (Keeps UnaryMark.Single a) v
+    → Mark.Unary UnaryMark.Single v
 one-line a [] x = tt
 one-line a (b ∷ v) x =
     every-map (λ t (y : line t ≡ line a). let z : line b ≡ line a = x .0 in omega arith) v (x .1)
@@ -78,10 +83,11 @@ module _ (g : Rules) where
   some-of v (bare e) = inl (null-of v e)
   some-of v (full h p) = inr p
 
-  stock-binary : {A : ℕ} {r t : Tree} (m : BinaryMark) → HasBinary g A (root r) (root t) m → Valid g r
-      → Valid g t → Stock r → Stock t → Stock (binary A r t)
+  stock-binary : {A : ℕ} {r t : Tree} (m : BinaryMark) → HasBinary g A (root r) (root t) m
+      → Valid g r → Valid g t → Stock r → Stock t → Stock (binary A r t)
   stock-binary {r = r} {t} m h x y (bare e) (bare f) = bare (rw (e, f) refl)
-  stock-binary {r = r} {t} m h x y (bare e) (full f p) = full (rw e f) (by-second m h (null-of x e) p)
+  stock-binary {r = r} {t} m h x y (bare e) (full f p) =
+      full (rw e f) (by-second m h (null-of x e) p)
   stock-binary {r = r} {t} m h x y (full e p) (bare f) =
       full (simp length-append (omega arith)) (by-first m h p (null-of y f))
   stock-binary {r = r} {t} m h x y (full e p) (full f q) =
@@ -110,8 +116,8 @@ module _ (g : Rules) where
   first-of [] v h = absurd (omega arith)
   first-of (a ∷ u) v h = refl
 
-  begins-binary : {A : ℕ} {r t : Tree} (m : BinaryMark) → HasBinary g A (root r) (root t) m → Valid g r
-      → Valid g t → Stock r → 1 ≤ length (word r ++ word t)
+  begins-binary : {A : ℕ} {r t : Tree} (m : BinaryMark) → HasBinary g A (root r) (root t) m
+      → Valid g r → Valid g t → Stock r → 1 ≤ length (word r ++ word t)
       → (1 ≤ length (word r) → CanBegin g (root r) (tokenAt (word r) 0 .terminal))
       → (1 ≤ length (word t) → CanBegin g (root t) (tokenAt (word t) 0 .terminal))
       → CanBegin g A (tokenAt (word r ++ word t) 0 .terminal)
@@ -122,7 +128,8 @@ module _ (g : Rules) where
       subst (λ (z : Token). CanBegin g A (z .terminal)) (sym (first-of (word r) (word t) e))
       (with-first m h (f e) (some-of y (stock y)))
 
-  pub begins : {t : Tree} → Valid g t → 1 ≤ length (word t) → CanBegin g (root t) (tokenAt (word t) 0 .terminal)
+  pub begins : {t : Tree} → Valid g t → 1 ≤ length (word t)
+      → CanBegin g (root t) (tokenAt (word t) 0 .terminal)
   begins (valid-empty h) n = absurd (omega arith)
   begins (valid-leaf h) n = with-atom h
   begins (valid-unary m h x v) n = with-unary m h (begins v n)
@@ -141,8 +148,8 @@ module _ (g : Rules) where
     pub occurs : Occurs g A
     pub marked : 1 ≤ length v → Marked A v
 
-  pub kept-below : {A : ℕ} {t : Tree} (m : UnaryMark) → HasUnary g A (root t) m → Valid g t → Mark.Unary m (word t)
-      → Kept A (word t) → Kept (root t) (word t)
+  pub kept-below : {A : ℕ} {t : Tree} (m : UnaryMark) → HasUnary g A (root t) m → Valid g t
+      → Mark.Unary m (word t) → Kept A (word t) → Kept (root t) (word t)
   kept-below {A} {t} m h v x k =
       record {
         occurs = in-unary m h (k .occurs) (some-of v (stock v));
@@ -155,8 +162,8 @@ module _ (g : Rules) where
             };
       }
 
-  module _ {A : ℕ} {r t : Tree} (m : BinaryMark) (h : HasBinary g A (root r) (root t) m) (v : Valid g r)
-      (v′ : Valid g t) (k : Kept A (word r ++ word t)) where
+  module _ {A : ℕ} {r t : Tree} (m : BinaryMark) (h : HasBinary g A (root r) (root t) m)
+      (v : Valid g r) (v′ : Valid g t) (k : Kept A (word r ++ word t)) where
     long : length (word r ++ word t) ≡ length (word r) + length (word t)
     long = length-append (word r) (word t)
 

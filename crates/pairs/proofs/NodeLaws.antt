@@ -21,9 +21,11 @@ use Rattle.marks.specs.Half.{tokenAt}
 use Rattle.marks.proofs.Words.{part-at}
 use Rattle.places.proofs.PlaceLaws.{Lies, lies-left, lies-right}
 use Rattle.pairs.specs.Survey.{CanBegin}
-use Rattle.pairs.specs.Shapes.{Form, tip, one, two, children, Shape, all, first, second, ruleOfShape}
+use Rattle.pairs.specs.Shapes.{Form, tip, one, two, children, Shape, all, first, second}
+use Rattle.pairs.specs.Shapes.{ruleOfShape}
 use Rattle.pairs.specs.Shapes.{tips, units, twos, firsts, seconds}
-use Rattle.pairs.proofs.LevelLaws.{no-mark, Stock, bare, full, stock, null-of, productive, begins}
+use Rattle.pairs.proofs.LevelLaws.{no-mark, Stock, bare, full, stock, null-of, productive}
+use Rattle.pairs.proofs.LevelLaws.{begins}
 use Rattle.pairs.proofs.LevelLaws.{Kept, kept-below, kept-first, kept-second}
 use Rattle.pairs.proofs.Nodes.{terminalAt, Piece, Spot, kids, Fits}
 
@@ -32,13 +34,15 @@ use Rattle.pairs.proofs.Nodes.{terminalAt, Piece, Spot, kids, Fits}
 pub slice-part : (a n : ℕ) (w : Word) → slice a (a + n) w ≡ part w a n
 slice-part zero n w = let e : 0 + n ≡ n = omega arith in ap (λ (k : ℕ). take k w) e
 slice-part (suc a) n [] = let e : suc a + n ≡ suc (a + n) = omega arith in rw e (sym (take-nil n))
-slice-part (suc a) n (t ∷ w) = let e : suc a + n ≡ suc (a + n) = omega arith in rw e (slice-part a n w)
+slice-part (suc a) n (t ∷ w) = let e : suc a + n ≡ suc (a + n) = omega arith in
+    rw e (slice-part a n w)
 
 lies-word : (w : Word) (t : Tree) (a : ℕ) → Lies w t a → word t ≡ slice a (a + length (word t)) w
 lies-word w t a l = l .spelled ∙ sym (slice-part a (length (word t)) w)
 
 -- its first token
-lies-first : (w : Word) (t : Tree) (a : ℕ) → Lies w t a → 1 ≤ length (word t) → tokenAt (word t) 0 ≡ tokenAt w a
+lies-first : (w : Word) (t : Tree) (a : ℕ) → Lies w t a → 1 ≤ length (word t)
+    → tokenAt (word t) 0 ≡ tokenAt w a
 lies-first w t a l h =
     ap (λ (v : Word). tokenAt v 0) (l .spelled)
     ∙ (part-at w a (length (word t)) 0 h ∙ ap (tokenAt w) (let e : a + 0 ≡ a = omega arith in e))
@@ -47,7 +51,8 @@ abbrev pub piece : Tree → ℕ → Piece
 piece t a = record { sort = root t; start = a; stop = a + length (word t) }
 
 piece-path : {A a b c d : ℕ} → a ≡ b → c ≡ d
-    → _≡_ {A = Piece} (record { sort = A; start = a; stop = c }) (record { sort = A; start = b; stop = d })
+    → _≡_ {A = Piece} (record { sort = A; start = a; stop = c })
+    (record { sort = A; start = b; stop = d })
 piece-path {A} p q = λ i. record { sort = A; start = p i; stop = q i }
 
 -- the length of the left word, read from a node
@@ -183,7 +188,8 @@ module _ (g : Rules) (w : Word) where
       n : length (word r ++ word t) ≡ length (word r) + length (word t)
       n = length-append (word r) (word t)
 
-      stands : getElem? g p ≡ some (record { left = A; clause = Clause.Binary (root r) (root t) (c .top .0) })
+      stands : getElem? g p ≡ some (record
+          { left = A; clause = Clause.Binary (root r) (root t) (c .top .0) })
       stands = c .stands ∙ ap some (c .top .1)
 
       grown₁ : (z : ℕ) → a + length (word r) ≡ z → 1 ≤ length (word r)
@@ -200,7 +206,8 @@ module _ (g : Rules) (w : Word) where
             small = omega arith;
           }
 
-      grown₂ : (y z : ℕ) → a + length (word r) ≡ y → a + length (word r ++ word t) ≡ z → 1 ≤ length (word t)
+      grown₂ : (y z : ℕ) → a + length (word r) ≡ y → a + length (word r ++ word t) ≡ z
+          → 1 ≤ length (word t)
           → Grown (rowCount (binary A r t)) (record { sort = root t; start = y; stop = z })
       grown₂ y z o q f =
           record {
@@ -309,7 +316,8 @@ module _ (g : Rules) (w : Word) where
         where
           f₂ : word t ≡ slice (a + length (word r)) (a + length (word r ++ word t)) w
           f₂ =
-              let z : a + length (word r) + length (word t) ≡ a + length (word r ++ word t) = omega (arith, n) in
+              let z : a + length (word r) + length (word t) ≡ a + length (word r ++ word t) =
+              omega (arith, n) in
               rw z at (lies-word w t (a + length (word r)) high)
 
   -- 3. nodes whose children's trees have fewer than n nodes each
@@ -328,7 +336,8 @@ module _ (g : Rules) (w : Word) where
   pub topped : {n : ℕ} {k : Piece} → Grown n k → Topped n k
   topped {n} {k} t =
       let c = takes-of (t .valid) in
-      let y = sprout (t .tree) (t .start) (c .0) (c .1) (t .valid) (c .2) (t .lies) (t .full) (t .kept) in
+      let y = sprout (t .tree) (t .start) (c .0) (c .1) (t .valid) (c .2) (t .lies) (t .full)
+      (t .kept) in
       record {
         spot = y .spot;
         is = y .is ∙ sym (t .is);

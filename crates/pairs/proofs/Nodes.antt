@@ -13,7 +13,8 @@ use Rattle.grammar.specs.Trees.{Rules, Covers}
 use Rattle.marks.specs.Half.{tokenAt}
 use Rattle.pairs.specs.Survey.{CanBegin}
 use Rattle.pairs.specs.Shapes.{Form, tip, one, two, Shape, HasForm, Head}
-use Rattle.pairs.specs.Relations.{Order, less, equal, more, order, Offset, beside, below, Relation}
+use Rattle.pairs.specs.Relations.{Order, less, equal, more, order, Offset, beside, below}
+use Rattle.pairs.specs.Relations.{Relation}
 use Rattle.pairs.specs.Settings.{Corner, start₁, cut₁, start₂, cut₂, Point, at, stop₁, stop₂}
 use Rattle.pairs.specs.Settings.{Setting, setting, Side, nextBy}
 
@@ -83,7 +84,8 @@ abbrev pub Sits : Rules → Word → Form → ℕ → ℕ → ℕ → Type 0
 Sits g w (tip a b) i m j =
     (t : Token) × (slice i j w ≡ t ∷ []) × (m ≡ i) × Covers a b (terminalAt w i)
 Sits g w (one C l k) i m j =
-    Mark.Unary l (slice i j w) × Mark.Unary k (slice i j w) × (m ≡ i) × CanBegin g C (terminalAt w i)
+    Mark.Unary l (slice i j w) × Mark.Unary k (slice i j w) × (m ≡ i)
+    × CanBegin g C (terminalAt w i)
 Sits g w (two C D k l) i m j =
     (i < m)
     × (m < j)

@@ -14,7 +14,8 @@ use Rattle.grammar.specs.Candidates.{After, Rising, Wide}
 use Rattle.marks.specs.Half.{tokenAt}
 use Rattle.marks.proofs.Words.{every-at}
 use Rattle.places.proofs.PlaceLaws.{later-after}
-use Rattle.pairs.specs.Relations.{Order, less, equal, more, order, Offset, beside, below, Chained, Tri}
+use Rattle.pairs.specs.Relations.{Order, less, equal, more, order, Offset, beside, below}
+use Rattle.pairs.specs.Relations.{Chained, Tri}
 use Rattle.pairs.specs.Settings.{AllowsOffset}
 use Rattle.pairs.proofs.Nodes.{offset, offsetAt}
 
@@ -65,39 +66,51 @@ LiesBy s t (below o) = (line s < line t) × Is o (col t) (col s)
 pub lies-offset : (s t : Token) (l : Offset) → LiesBy s t l → offset s t ≡ l
 unfolding offset
 lies-offset s t beside h = rw (eq-eqb (line s) (line t) (h .0)) refl
-lies-offset s t (below o) h = rw (ne-eqb (line s) (line t) (λ e. omega (arith, h .0)), is-order o (col t) (col s) (h .1)) refl
+lies-offset s t (below o) h =
+    rw (ne-eqb (line s) (line t) (λ e. omega (arith, h .0)), is-order o (col t) (col s) (h .1)) refl
 
 pub offset-lies : (s t : Token) → 1 ≤ width s → After s t → LiesBy s t (offset s t)
-offset-lies s t v (inl h) = let k : LiesBy s t (below (order (col t) (col s))) = (h, order-is (col t) (col s)) in rw (lies-offset s t (below (order (col t) (col s))) k) k
-offset-lies s t v (inr h) = let k : LiesBy s t beside = (h .0, omega (arith, h .1)) in rw (lies-offset s t beside k) k
+offset-lies s t v (inl h) = let k : LiesBy s t (below (order (col t) (col s))) =
+    (h, order-is (col t) (col s)) in rw (lies-offset s t (below (order (col t) (col s))) k) k
+offset-lies s t v (inr h) = let k : LiesBy s t beside = (h .0, omega (arith, h .1)) in
+    rw (lies-offset s t beside k) k
 
 lies-unique : (s t : Token) (l k : Offset) → LiesBy s t l → LiesBy s t k → l ≡ k
 lies-unique s t l k x y = sym (lies-offset s t l x) ∙ lies-offset s t k y
 
 pub tri : (s t u : Token) (l k z : Offset) → LiesBy s t l → LiesBy t u k → LiesBy s u z → Tri l k z
-tri s t u beside beside z x y h = lies-unique s u z beside h (omega (arith, x .0, x .1, y .0, y .1), omega (arith, x .0, x .1, y .0, y .1))
+tri s t u beside beside z x y h = lies-unique s u z beside h
+    (omega (arith, x .0, x .1, y .0, y .1), omega (arith, x .0, x .1, y .0, y .1))
 tri s t u beside (below p) beside x y h = omega (arith, x .0, y .0, h .0)
-tri s t u beside (below p) (below q) x y h = chained (col s) (col t) (col u) more p q (x .1) (y .1) (h .1)
+tri s t u beside (below p) (below q) x y h =
+    chained (col s) (col t) (col u) more p q (x .1) (y .1) (h .1)
 tri s t u (below o) beside beside x y h = omega (arith, x .0, y .0, h .0)
-tri s t u (below o) beside (below q) x y h = chained (col s) (col t) (col u) o more q (x .1) (y .1) (h .1)
+tri s t u (below o) beside (below q) x y h =
+    chained (col s) (col t) (col u) o more q (x .1) (y .1) (h .1)
 tri s t u (below o) (below p) beside x y h = omega (arith, x .0, y .0, h .0)
-tri s t u (below o) (below p) (below q) x y h = chained (col s) (col t) (col u) o p q (x .1) (y .1) (h .1)
+tri s t u (below o) (below p) (below q) x y h =
+    chained (col s) (col t) (col u) o p q (x .1) (y .1) (h .1)
 
-pub keeps-allows : (m : UnaryMark) (s t : Token) (l : Offset) → LiesBy s t l → Keeps m s t → AllowsOffset m l
+pub keeps-allows : (m : UnaryMark) (s t : Token) (l : Offset) → LiesBy s t l → Keeps m s t
+    → AllowsOffset m l
 keeps-allows m s t beside h k = tt
 keeps-allows UnaryMark.None s t (below o) h k = tt
-keeps-allows UnaryMark.Offside s t (below o) h k = is-unique (col t) (col s) o more (h .1) (k (h .0))
-keeps-allows UnaryMark.Offalign s t (below o) h k = λ e. let z : col t < col s = subst (λ (p : Order). Is p (col t) (col s)) e (h .1) in omega (arith, k (h .0))
+keeps-allows UnaryMark.Offside s t (below o) h k =
+    is-unique (col t) (col s) o more (h .1) (k (h .0))
+keeps-allows UnaryMark.Offalign s t (below o) h k = λ e. let z : col t < col s =
+    subst (λ (p : Order). Is p (col t) (col s)) e (h .1) in omega (arith, k (h .0))
 keeps-allows UnaryMark.Single s t (below o) h k = omega (arith, h .0)
 
 -- 3. the tokens of a rising sentence
 
 module _ (w : Word) (rise : Rising w) (wide : Wide w) where
-  pub lies-at : (i j : ℕ) → i < j → j < length w → LiesBy (tokenAt w i) (tokenAt w j) (offsetAt w i j)
+  pub lies-at : (i j : ℕ) → i < j → j < length w
+      → LiesBy (tokenAt w i) (tokenAt w j) (offsetAt w i j)
   unfolding offsetAt
   lies-at i j h k =
       rw (is-order less i j h)
-      (offset-lies (tokenAt w i) (tokenAt w j) (every-at (λ t. 1 ≤ width t) w wide i (omega arith)) (later-after w rise i j h k))
+      (offset-lies (tokenAt w i) (tokenAt w j) (every-at (λ t. 1 ≤ width t) w wide i (omega arith))
+      (later-after w rise i j h k))
 
   pub lines-rise : (i j : ℕ) → i ≤ j → j < length w → line (tokenAt w i) ≤ line (tokenAt w j)
   lines-rise i j h k = by (decLt i j)
@@ -114,7 +127,8 @@ pub align-offset : (s t : Token) (l : Offset) → LiesBy s t l → col s ≡ col
 align-offset s t beside h e = absurd (omega (arith, h .1))
 align-offset s t (below o) h e = ap below (is-unique (col t) (col s) o equal (h .1) (sym e))
 
-pub indent-offset : (s t : Token) (l : Offset) → LiesBy s t l → line s < line t → col s < col t → l ≡ below more
+pub indent-offset : (s t : Token) (l : Offset) → LiesBy s t l → line s < line t → col s < col t
+    → l ≡ below more
 indent-offset s t beside h k e = absurd (omega (arith, h .0))
 indent-offset s t (below o) h k e = ap below (is-unique (col t) (col s) o more (h .1) e)
 
@@ -129,4 +143,5 @@ offset-turn w i j = by (decLt i j) (decLt j i)
     by : Dec (i < j) → Dec (j < i) → offsetAt w i j ≡ offsetAt w j i
     by (yes h) d = rw (is-order less i j h, is-order more j i h) refl
     by (no h) (yes k) = rw (is-order more i j k, is-order less j i k) refl
-    by (no h) (no k) = let e : i ≡ j = omega arith in offset-same w i j e ∙ sym (offset-same w j i (sym e))
+    by (no h) (no k) = let e : i ≡ j = omega arith in
+        offset-same w i j e ∙ sym (offset-same w j i (sym e))

@@ -10,7 +10,8 @@ use Rattle.grammar.proofs.Lists.{mem-every}
 use Rattle.pairs.specs.Relations.{order, Relation}
 use Rattle.pairs.specs.Settings.{start₁, cut₁, stop₁, start₂, cut₂, stop₂, Setting, Side}
 use Rattle.pairs.specs.Settings.{whole₁, whole₂, sides₁, sides₂, MeetIn, relationIn}
-use Rattle.pairs.specs.Facts.{Fact, stand, against, sorts, behind, Couple, withEach, crossed, couples}
+use Rattle.pairs.specs.Facts.{Fact, stand, against, sorts, behind, Couple, withEach, crossed}
+use Rattle.pairs.specs.Facts.{couples}
 use Rattle.pairs.specs.Facts.{behindIn, Might, two-nodes, of-node, of-sorts, of-next}
 use Rattle.pairs.proofs.Every.{every-map}
 use Rattle.pairs.proofs.Nodes.{Piece, Meet, relation, nextAt, Spot, headOf}
@@ -20,45 +21,51 @@ use Rattle.pairs.proofs.SettingLaws.{fit-in, each-side, meets}
 
 -- 1. what holds of each couple
 
-pub every-with : (P : Couple → Type 0) (x : Side) (a : ℕ → Relation → Fact) (l : List Side) (rest : List Couple)
+pub every-with : (P : Couple → Type 0) (x : Side) (a : ℕ → Relation → Fact) (l : List Side)
+    (rest : List Couple)
     → Every (λ k. P (record { left = x; right = k; fact = a (k .sort) })) l → Every P rest
     → Every P (withEach x a l rest)
 every-with P x a [] rest e f = f
 every-with P x a (k ∷ l) rest e f = (e .0, every-with P x a l rest (e .1) f)
 
 pub every-crossed : (P : Couple → Type 0) (ks ls : List Side)
-    → Every (λ k. Every (λ j. P (record { left = k; right = j; fact = sorts (k .sort) (j .sort) })) ls) ks
-    → Every P (crossed ks ls)
+    → Every (λ k. Every (λ j. P (record { left = k; right = j; fact = sorts (k .sort) (j .sort) }))
+    ls) ks → Every P (crossed ks ls)
 every-crossed P [] ls e = tt
 every-crossed P (k ∷ ks) ls e =
     every-with P k (sorts (k .sort)) ls (crossed ks ls) (e .0) (every-crossed P ks ls (e .1))
 
 abbrev behindAt : Word → Piece → Piece → Fact
 behindAt w p q =
-    behind (p .sort) (q .sort) (order (p .start) (q .start)) (order (p .stop) (q .stop)) (nextAt w p q)
+    behind (p .sort) (q .sort) (order (p .start) (q .start)) (order (p .stop) (q .stop))
+    (nextAt w p q)
 
 module _ (g : Rules) (w : Word) (rise : Rising w) (wide : Wide w) where
   record Told (σ : Setting) (c : Couple) : Type 0 where
     told : MeetIn σ (c .left) (c .right)
-        → Might g (c .fact (relationIn σ (c .left) (c .right))) × Might g (behindIn σ (c .left) (c .right))
+        → Might g (c .fact (relationIn σ (c .left) (c .right)))
+        × Might g (behindIn σ (c .left) (c .right))
 
   -- 2. the lemma for smaller nodes
 
   abbrev Smaller : ℕ → Type 0
   Smaller n =
-      (i j : ℕ) (x y : Spot) → i + j < n → Rooted g w i x → Rooted g w j y → Meet (x .whole) (y .whole)
-      → Might g (stand (settingOf w x y) (headOf x) (headOf y))
+      (i j : ℕ) (x y : Spot) → i + j < n → Rooted g w i x → Rooted g w j y
+      → Meet (x .whole) (y .whole) → Might g (stand (settingOf w x y) (headOf x) (headOf y))
 
   -- a node and a child of the other
-  down : (i j : ℕ) (x : Spot) (k : Piece) → Smaller (i + j) → Rooted g w i x → Grown g w j k → Meet (x .whole) k
-      → Might g (against (x .shape) (k .sort) (relation w (x .whole) k)) × Might g (behindAt w (x .whole) k)
+  down : (i j : ℕ) (x : Spot) (k : Piece) → Smaller (i + j) → Rooted g w i x → Grown g w j k
+      → Meet (x .whole) k
+      → Might g (against (x .shape) (k .sort) (relation w (x .whole) k))
+      × Might g (behindAt w (x .whole) k)
   down i j x k ih r t =
       let z = topped g w t in
       subst
       (λ (q : Piece). Meet (x .whole) q
-      → Might g (against (x .shape) (q .sort) (relation w (x .whole) q)) × Might g (behindAt w (x .whole) q))
-      (z .is)
-      (λ m. let s = ih i (z .size) x (z .spot) (omega (arith, z .less)) r (z .rooted) m in (of-node s, of-next s))
+      → Might g (against (x .shape) (q .sort) (relation w (x .whole) q))
+      × Might g (behindAt w (x .whole) q)) (z .is)
+      (λ m. let s = ih i (z .size) x (z .spot) (omega (arith, z .less)) r (z .rooted) m in
+      (of-node s, of-next s))
 
   -- two children
   across : (i j : ℕ) (k l : Piece) → Smaller (i + j) → Grown g w i k → Grown g w j l → Meet k l
@@ -67,18 +74,17 @@ module _ (g : Rules) (w : Word) (rise : Rising w) (wide : Wide w) where
       let x = topped g w t in
       let y = topped g w u in
       subst
-      (λ (p : Piece). Meet p l → Might g (sorts (p .sort) (l .sort) (relation w p l)) × Might g (behindAt w p l))
-      (x .is)
-      (subst
-      (λ (q : Piece). Meet (x .spot .whole) q
+      (λ (p : Piece). Meet p l → Might g (sorts (p .sort) (l .sort) (relation w p l))
+      × Might g (behindAt w p l)) (x .is) (subst (λ (q : Piece). Meet (x .spot .whole) q
       → Might g (sorts (x .spot .whole .sort) (q .sort) (relation w (x .spot .whole) q))
       × Might g (behindAt w (x .spot .whole) q)) (y .is)
       (λ m.
       let s =
-      ih (x .size) (y .size) (x .spot) (y .spot) (omega (arith, x .less, y .less)) (x .rooted) (y .rooted) m in
-      (of-sorts s, of-next s)))
+      ih (x .size) (y .size) (x .spot) (y .spot) (omega (arith, x .less, y .less)) (x .rooted)
+      (y .rooted) m in (of-sorts s, of-next s)))
 
-  module _ (i j : ℕ) (x y : Spot) (ih : Smaller (i + j)) (r : Rooted g w i x) (q : Rooted g w j y) where
+  module _ (i j : ℕ) (x y : Spot) (ih : Smaller (i + j)) (r : Rooted g w i x)
+      (q : Rooted g w j y) where
     grown₁ : Every (λ k. Grown g w i (pieceOf x y k)) (sides₁ (headOf x))
     grown₁ = each-side x y (Grown g w i) (x .form) start₁ cut₁ stop₁ (r .below)
 
@@ -87,17 +93,19 @@ module _ (g : Rules) (w : Word) (rise : Rising w) (wide : Wide w) where
 
     every-told : Every (Told (settingOf w x y)) (couples (headOf x) (headOf y))
     every-told =
-        every-with (Told (settingOf w x y)) (whole₁ (headOf x)) (against (x .shape)) (sides₂ (headOf y))
+        every-with (Told (settingOf w x y)) (whole₁ (headOf x)) (against (x .shape))
+        (sides₂ (headOf y))
         (withEach (whole₂ (headOf y)) (against (y .shape)) (sides₁ (headOf x))
         (crossed (sides₁ (headOf x)) (sides₂ (headOf y))))
         (every-map
         (λ k t.
-        record { told = λ m. down i j x (pieceOf x y k) ih r t (meets w x y (whole₁ (headOf x)) k m) })
+        record {
+          told =
+              λ m. down i j x (pieceOf x y k) ih r t (meets w x y (whole₁ (headOf x)) k m);
+        })
         (sides₂ (headOf y)) grown₂)
-        (every-with (Told (settingOf w x y)) (whole₂ (headOf y)) (against (y .shape)) (sides₁ (headOf x))
-        (crossed (sides₁ (headOf x)) (sides₂ (headOf y)))
-        (every-map
-        (λ k t.
+        (every-with (Told (settingOf w x y)) (whole₂ (headOf y)) (against (y .shape))
+        (sides₁ (headOf x)) (crossed (sides₁ (headOf x)) (sides₂ (headOf y))) (every-map (λ k t.
         record {
           told = λ m.
               down j i y (pieceOf x y k) (λ i′ j′ x′ y′ l. ih i′ j′ x′ y′ (omega arith)) q t
@@ -107,16 +115,19 @@ module _ (g : Rules) (w : Word) (rise : Rising w) (wide : Wide w) where
         (every-map
         (λ k t.
         every-map
-        (λ l u. record { told = λ m. across i j (pieceOf x y k) (pieceOf x y l) ih t u (meets w x y k l m) })
-        (sides₂ (headOf y)) grown₂)
-        (sides₁ (headOf x)) grown₁)))
+        (λ l u. record {
+          told = λ m. across i j (pieceOf x y k) (pieceOf x y l) ih t u
+              (meets w x y k l m);
+        }) (sides₂ (headOf y)) grown₂) (sides₁ (headOf x)) grown₁)))
 
     step : Meet (x .whole) (y .whole) → Might g (stand (settingOf w x y) (headOf x) (headOf y))
     step m =
         two-nodes (point x y) (offsets w x y) (terminals w x y) (headOf x) (headOf y)
         (fit-in g w rise wide x y (r .fits) (q .fits) m)
-        (λ c h k. mem-every (Told (settingOf w x y)) (couples (headOf x) (headOf y)) every-told h .told k .0)
-        (λ c h k d. mem-every (Told (settingOf w x y)) (couples (headOf x) (headOf y)) every-told h .told k .1)
+        (λ c h k. mem-every (Told (settingOf w x y)) (couples (headOf x) (headOf y)) every-told h
+        .told k .0)
+        (λ c h k d. mem-every (Told (settingOf w x y)) (couples (headOf x) (headOf y)) every-told h
+        .told k .1)
 
   smaller : (n : ℕ) → Smaller n
   smaller zero i j x y h = absurd (omega arith)

@@ -18,13 +18,17 @@ use Rattle.marks.specs.Half.{tokenAt}
 use Rattle.marks.proofs.Words.{unary-span, binary-span}
 use Rattle.pairs.specs.Shapes.{Form, tip, one, two}
 use Rattle.pairs.specs.Relations.{Order, less, equal, order, beside}
-use Rattle.pairs.specs.Settings.{Corner, start₁, cut₁, start₂, cut₂, Point, at, stop₁, stop₂, corners, points}
-use Rattle.pairs.specs.Settings.{Even, Side, sidesOf, MeetIn, InsideIn, AllowsOffset, KeepsIn, JoinsIn, SitsIn, FitIn}
+use Rattle.pairs.specs.Settings.{Corner, start₁, cut₁, start₂, cut₂, Point, at, stop₁, stop₂}
+use Rattle.pairs.specs.Settings.{corners, points}
+use Rattle.pairs.specs.Settings.{Even, Side, sidesOf, MeetIn, InsideIn, AllowsOffset, KeepsIn}
+use Rattle.pairs.specs.Settings.{JoinsIn, SitsIn, FitIn}
 use Rattle.pairs.proofs.Every.{every-all}
-use Rattle.pairs.proofs.Nodes.{offsetAt, terminalAt, Piece, Meet, Spot, headOf, kidsOf, Sits, Fits}
+use Rattle.pairs.proofs.Nodes.{offsetAt, terminalAt, Piece, Meet, Spot, headOf, kidsOf, Sits}
+use Rattle.pairs.proofs.Nodes.{Fits}
 use Rattle.pairs.proofs.Nodes.{corner, point, settingOf, pieceOf}
 use Rattle.pairs.proofs.NodeLaws.{slice-part}
-use Rattle.pairs.proofs.OffsetLaws.{Is, is-order, is-of, LiesBy, lies-at, offset-same, offset-turn, lines-rise}
+use Rattle.pairs.proofs.OffsetLaws.{Is, is-order, is-of, LiesBy, lies-at, offset-same}
+use Rattle.pairs.proofs.OffsetLaws.{offset-turn, lines-rise}
 use Rattle.pairs.proofs.OffsetLaws.{align-offset, indent-offset, tri, keeps-allows}
 
 -- 1. marks over a part of the sentence, at its points
@@ -40,7 +44,8 @@ module _ (w : Word) (rise : Rising w) (wide : Wide w) where
   keeps-at m i j x f u h k =
       let z : i + (x - i) ≡ x = omega arith in
       subst (λ (z : ℕ). Keeps m (tokenAt w i) (tokenAt w z)) z
-      (unary-span m w i (j - i) (omega arith) (rw (slice-as i j (omega arith)) at u) (x - i) (omega arith))
+      (unary-span m w i (j - i) (omega arith) (rw (slice-as i j (omega arith)) at u) (x - i)
+      (omega arith))
 
   pairs-at : (k : BinaryMark) (i m j : ℕ) → i < m → m < j → j ≤ length w
       → Mark.Binary k (slice i m w) (slice m j w)
@@ -50,7 +55,8 @@ module _ (w : Word) (rise : Rising w) (wide : Wide w) where
       let p = slice-as i m (omega arith) in
       let q : slice m j w ≡ part w (i + (m - i)) (j - m) =
       subst (λ (z : ℕ). slice m j w ≡ part w z (j - m)) (sym e) (slice-as m j (omega arith)) in
-      let r = binary-span k w i (m - i) (j - m) (omega arith) (omega arith) (omega arith) .1 (rw (p, q) at u) in
+      let r = binary-span k w i (m - i) (j - m) (omega arith) (omega arith) (omega arith) .1
+      (rw (p, q) at u) in
       subst (λ (z : ℕ). Pairs k (tokenAt w i) (tokenAt w (z - 1)) (tokenAt w z)) e r
 
 -- 2. the setting of two nodes
@@ -73,10 +79,12 @@ module _ (g : Rules) (w : Word) (rise : Rising w) (wide : Wide w) (x y : Spot) (
   corner-inside cut₂ = omega (arith, cut-inside y fy .1, fy .inside)
 
   lies : (c d : Corner) → corner x y c < corner x y d
-      → LiesBy (tokenAt w (corner x y c)) (tokenAt w (corner x y d)) (offsetAt w (corner x y c) (corner x y d))
+      → LiesBy (tokenAt w (corner x y c)) (tokenAt w (corner x y d))
+      (offsetAt w (corner x y c) (corner x y d))
   lies c d h = lies-at w rise wide (corner x y c) (corner x y d) h (corner-inside d)
 
-  is : (p q : Point) (o : Order) → order (point x y p) (point x y q) ≡ o → Is o (point x y p) (point x y q)
+  is : (p q : Point) (o : Order) → order (point x y p) (point x y q) ≡ o
+      → Is o (point x y p) (point x y q)
   is p q o e = is-of (point x y p) (point x y q) o e
 
   even : Even (settingOf w x y)
@@ -99,7 +107,8 @@ module _ (g : Rules) (w : Word) (rise : Rising w) (wide : Wide w) (x y : Spot) (
       → Mark.Unary m (slice (corner x y i) (point x y j) w) → KeepsIn m (settingOf w x y) i j
   keeps-in m i j f u =
       every-all
-      {P = λ c. InsideIn (settingOf w x y) (at i) j (at c) → AllowsOffset m (offsetAt w (corner x y i) (corner x y c))}
+      {P = λ c. InsideIn (settingOf w x y) (at i) j (at c)
+      → AllowsOffset m (offsetAt w (corner x y i) (corner x y c))}
       one corners
     where
       one : (c : Corner) → InsideIn (settingOf w x y) (at i) j (at c)
@@ -122,7 +131,8 @@ module _ (g : Rules) (w : Word) (rise : Rising w) (wide : Wide w) (x y : Spot) (
     indent-offset (tokenAt w (corner x y i)) (tokenAt w (corner x y m))
         (offsetAt w (corner x y i) (corner x y m)) (lies i m h) (up i h) (p .0),
     every-all
-        {P = λ c. order (corner x y c) (corner x y m) ≡ less → offsetAt w (corner x y c) (corner x y m) ≡ beside → ⊥}
+        {P = λ c. order (corner x y c) (corner x y m) ≡ less
+        → offsetAt w (corner x y c) (corner x y m) ≡ beside → ⊥}
         apart corners,
   )
     where
@@ -130,7 +140,8 @@ module _ (g : Rules) (w : Word) (rise : Rising w) (wide : Wide w) (x y : Spot) (
           → line (tokenAt w (corner x y c)) < line (tokenAt w (corner x y m))
       up c l =
           let r =
-          lines-rise w rise wide (corner x y c) (corner x y m - 1) (omega arith) (omega (arith, corner-inside m)) in
+          lines-rise w rise wide (corner x y c) (corner x y m - 1) (omega arith)
+          (omega (arith, corner-inside m)) in
           omega (arith, p .1, r)
 
       apart : (c : Corner) → order (corner x y c) (corner x y m) ≡ less
@@ -148,10 +159,12 @@ module _ (g : Rules) (w : Word) (rise : Rising w) (wide : Wide w) (x y : Spot) (
       let b : point x y p < point x y j = is p j less (h .high) in
       omega (arith, ap length e, length-slice (corner x y i) (point x y j) w k)
 
-  sits-in : (f : Form) (i m : Corner) (j : Point) → corner x y i < point x y j → point x y j ≤ length w
+  sits-in : (f : Form) (i m : Corner) (j : Point) → corner x y i < point x y j
+      → point x y j ≤ length w
       → Sits g w f (corner x y i) (corner x y m) (point x y j) → SitsIn g (settingOf w x y) f i m j
   sits-in (tip a b) i m j h k s = (
-    every-all {P = λ p. InsideIn (settingOf w x y) (at i) j p → ⊥} (λ p. nothing-inside i j p (s .0) k (s .1)) points,
+    every-all {P = λ p. InsideIn (settingOf w x y) (at i) j p → ⊥}
+        (λ p. nothing-inside i j p (s .0) k (s .1)) points,
     is-order equal (corner x y i) (corner x y m) (sym (s .2)),
     s .3,
   )

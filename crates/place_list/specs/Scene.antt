@@ -8,7 +8,8 @@ use Rattle.grammar.specs.SpanSheet.{SpanSheet}
 use Rattle.contained_spans.specs.Reached.{Reached}
 use Rattle.grammar.specs.Sentences.{spelled}
 
--- rules and a sentence as the readers give them, the span sheet, and the words that say what whole trees contain
+-- rules and a sentence as the readers give them, the span sheet, and the words that say what whole
+-- trees contain
 pub record Scene (g : Grammar) (s : Sentence) (ws rs : List ℕ) : Type 0 where
   pub formed : Formed g
   pub positioned : Positioned s

@@ -13,6 +13,10 @@ use Rattle.marks.specs.declared.SpanMarks.{SpanMarks}
 use Rattle.marks.specs.Marked.{Marked}
 use Rattle.places.specs.Places.{Several}
 
--- r says whether A has two or more choices, for any word whose span sheet the words are and whose marks over the span are k
-pub record SeveralBy (r : Bool) (g : Grammar) (ws : List ℕ) (n A s len : ℕ) (k : SpanMarks) : Type 0 where
-  pub says : (w : Word) → length w ≡ n → s + len ≤ n → SpanSheet (rules g) w ws → Marked (record { word = w; known = n }) s len k → Says r (Several (rules g) A (part w s len))
+-- r says whether A has two or more choices, for any word whose span sheet the words are and whose
+-- marks over the span are k
+pub record SeveralBy (r : Bool) (g : Grammar) (ws : List ℕ) (n A s len : ℕ) (k : SpanMarks) : Type
+    0 where
+  pub says : (w : Word) → length w ≡ n → s + len ≤ n → SpanSheet (rules g) w ws
+      → Marked (record { word = w; known = n }) s len k
+      → Says r (Several (rules g) A (part w s len))

@@ -71,11 +71,14 @@ fn list_one(
     list: &mut [u8],
     l: Listing,
 ) -> Listing
-    requires { ⌜ Formed g × Positioned s × (start + len ≤ s .count) × RuleLists.Listed (rules g) (now lists) ⌝ }
-    requires { ⌜ SpanSheet (rules g) (spelled s) (now words) × Contains (rules g) (spelled s) a start len ⌝ }
+    requires { ⌜ Formed g × Positioned s × (start + len ≤ s .count)
+        × RuleLists.Listed (rules g) (now lists) ⌝ }
+    requires { ⌜ SpanSheet (rules g) (spelled s) (now words)
+        × Contains (rules g) (spelled s) a start len ⌝ }
     requires { ⌜ (a < 64) × Marked (record { word = spelled s; known = s .count }) start len k ⌝ }
     requires { ⌜ l .count ≤ l .at ⌝ }
-    ensures { λ r. ⌜ Lists (rules g) (spelled s) (now (list .entry)) (now (list .exit)) l r (entry a start len) (entry (a + 1) start len) ⌝ }
+    ensures { λ r. ⌜ Lists (rules g) (spelled s) (now (list .entry)) (now (list .exit)) l r
+        (entry a start len) (entry (a + 1) start len) ⌝ }
 {
     let n = s.count;
     if !has_several(words, n, g, lists, a, start, len, k) {
@@ -100,7 +103,8 @@ fn list_span(
     requires { ⌜ Scene g s (now words) (now reach) × RuleLists.Listed (rules g) (now lists) ⌝ }
     requires { ⌜ (start + len ≤ s .count) × (startOf start len ≡ start) ⌝ }
     requires { ⌜ l .count ≤ l .at ⌝ }
-    ensures { λ r. ⌜ Lists (rules g) (spelled s) (now (list .entry)) (now (list .exit)) l r (entry 0 start len) (entry 64 start len) ⌝ }
+    ensures { λ r. ⌜ Lists (rules g) (spelled s) (now (list .entry)) (now (list .exit)) l r
+        (entry 0 start len) (entry 64 start len) ⌝ }
 {
     let n = s.count;
     let tokens = s.tokens;
@@ -139,7 +143,8 @@ fn list_row(
     requires { ⌜ Scene g s (now words) (now reach) × RuleLists.Listed (rules g) (now lists) ⌝ }
     requires { ⌜ (0 < len) × (len ≤ s .count) ⌝ }
     requires { ⌜ l .count ≤ l .at ⌝ }
-    ensures { λ r. ⌜ Lists (rules g) (spelled s) (now (list .entry)) (now (list .exit)) l r (entry 0 0 len) (entry 0 0 (len - 1)) ⌝ }
+    ensures { λ r. ⌜ Lists (rules g) (spelled s) (now (list .entry)) (now (list .exit)) l r
+        (entry 0 0 len) (entry 0 0 (len - 1)) ⌝ }
 {
     let n = s.count;
     let mut k = l;
@@ -163,7 +168,8 @@ fn list_all(
 ) -> Listing
     requires { ⌜ Scene g s (now words) (now reach) × RuleLists.Listed (rules g) (now lists) ⌝ }
     requires { ⌜ l .count ≤ l .at ⌝ }
-    ensures { λ r. ⌜ Lists (rules g) (spelled s) (now (list .entry)) (now (list .exit)) l r (entry 0 0 (s .count)) (entry 64 0 0) ⌝ }
+    ensures { λ r. ⌜ Lists (rules g) (spelled s) (now (list .entry)) (now (list .exit)) l r
+        (entry 0 0 (s .count)) (entry 64 0 0) ⌝ }
 {
     let mut k = l;
     let mut len = s.count;

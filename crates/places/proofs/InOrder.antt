@@ -18,10 +18,12 @@ first-or (List·Memᴰ·tail m) = inr m
 pub no-member : {A : Type 0} {e : A} → List·Memᴰ e [] → ⊥
 no-member = elim [ ]
 
-module _ {A : Type 0} (Before : A → A → Type 0) (not-both : (e f : A) → Before e f → Before f e → ⊥) where
+module _ {A : Type 0} (Before : A → A → Type 0)
+    (not-both : (e f : A) → Before e f → Before f e → ⊥) where
   -- where es begins with e and fs with f, which are one, the rest of es is of the rest of fs
   rest : {e f : A} {es fs : List A} → Every (Before e) es → e ≡ f
-      → ((x : A) → List·Memᴰ x (e ∷ es) → List·Memᴰ x (f ∷ fs)) → (x : A) → List·Memᴰ x es → List·Memᴰ x fs
+      → ((x : A) → List·Memᴰ x (e ∷ es) → List·Memᴰ x (f ∷ fs)) → (x : A) → List·Memᴰ x es
+      → List·Memᴰ x fs
   rest {e} {f} {es} {fs} o q to x m =
       ⊎-elim
       (λ y.
@@ -30,7 +32,8 @@ module _ {A : Type 0} (Before : A → A → Type 0) (not-both : (e f : A) → Be
       (λ y. y) (first-or (to x (List·Memᴰ·tail m)))
 
   pub same-entries : (es fs : List A) → InOrder Before es → InOrder Before fs
-      → ((x : A) → List·Memᴰ x es → List·Memᴰ x fs) → ((x : A) → List·Memᴰ x fs → List·Memᴰ x es) → es ≡ fs
+      → ((x : A) → List·Memᴰ x es → List·Memᴰ x fs) → ((x : A) → List·Memᴰ x fs → List·Memᴰ x es)
+      → es ≡ fs
   same-entries [] [] o p to of = refl
   same-entries [] (f ∷ fs) o p to of = absurd (no-member (of f (List·Memᴰ·head refl)))
   same-entries (e ∷ es) [] o p to of = absurd (no-member (to e (List·Memᴰ·head refl)))
@@ -43,6 +46,6 @@ module _ {A : Type 0} (Before : A → A → Type 0) (not-both : (e f : A) → Be
           ⊎-elim (λ x. x)
           (λ x.
           ⊎-elim (λ y. sym y)
-          (λ y. absurd (not-both f e (mem-every (Before f) fs (p .0) x) (mem-every (Before e) es (o .0) y)))
-          (first-or (of f (List·Memᴰ·head refl))))
+          (λ y. absurd (not-both f e (mem-every (Before f) fs (p .0) x)
+          (mem-every (Before e) es (o .0) y))) (first-or (of f (List·Memᴰ·head refl))))
           (first-or (to e (List·Memᴰ·head refl)))

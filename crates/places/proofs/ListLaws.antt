@@ -1,4 +1,5 @@
--- The list of places: there is one at most, and it is empty exactly if the sentence has not two trees.
+-- The list of places: there is one at most, and it is empty exactly if the sentence has not two
+-- trees.
 use mathlib.Core.Path.{_≡_, refl, subst}
 use mathlib.Core.Logic.{inl, inr, _↔_}
 use mathlib.Core.List.{List, [], _∷_, List·Memᴰ}
@@ -27,22 +28,27 @@ in-order [] o = tt
 in-order (e ∷ es) o = (o .0, in-order es (o .1))
 
 -- THE LIST IS SETTLED
-pub places-same : {g : Rules} {ts : Word} {es fs : List Entry} → AllPlaces g ts es → AllPlaces g ts fs → es ≡ fs
+pub places-same : {g : Rules} {ts : Word} {es fs : List Entry} → AllPlaces g ts es
+    → AllPlaces g ts fs → es ≡ fs
 places-same {es = es} {fs} a b =
     same-entries Sooner sooner-not es fs (in-order es (a .ordered)) (in-order fs (b .ordered))
     (λ e m. b .all (e .nonterminal) (e .start) (e .len) (mem-every _ es (a .each) m))
     (λ e m. a .all (e .nonterminal) (e .start) (e .len) (mem-every _ fs (b .each) m))
 
 -- THE LIST IS EMPTY EXACTLY IF THE VERDICT IS NOT TWO
-pub places-empty : {g : Rules} {ts : Word} {es : List Entry} → Distinct g → AllPlaces g ts es → (es ≡ []) ↔ (TwoTrees g 0 ts → ⊥)
+pub places-empty : {g : Rules} {ts : Word} {es : List Entry} → Distinct g → AllPlaces g ts es
+    → (es ≡ []) ↔ (TwoTrees g 0 ts → ⊥)
 places-empty {g} {ts} {es} d a = (
   λ e t. let p =
       two-place t in no-member
-      (subst (λ (l : List Entry). List·Memᴰ (record { nonterminal = p .0; start = p .1; len = p .2 }) l) e (a .all (p .0) (p .1) (p .2) (p .3))),
+      (subst (λ (l : List Entry). List·Memᴰ
+      (record { nonterminal = p .0; start = p .1; len = p .2 }) l) e
+      (a .all (p .0) (p .1) (p .2) (p .3))),
   λ n. none es (a .each) n,
 )
   where
-    none : (l : List Entry) → Every (λ e. Place g ts (e .nonterminal) (e .start) (e .len)) l → (TwoTrees g 0 ts → ⊥) → l ≡ []
+    none : (l : List Entry) → Every (λ e. Place g ts (e .nonterminal) (e .start) (e .len)) l
+        → (TwoTrees g 0 ts → ⊥) → l ≡ []
     none [] x n = refl
     none (e ∷ l) x n = absurd (n (place-two d (x .0)))
 

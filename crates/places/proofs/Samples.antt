@@ -14,7 +14,8 @@ longest-first = inl (omega arith)
 
 -- and a shorter one never does
 never-shorter : Sooner (at 0 0 1) (at 9 5 2) → ⊥
-never-shorter s = ⊎-elim (λ h. omega arith) (λ x. ⊎-elim (λ h. omega (arith, h .0)) (λ h. omega (arith, h .0)) x) s
+never-shorter s = ⊎-elim (λ h. omega arith)
+    (λ x. ⊎-elim (λ h. omega (arith, h .0)) (λ h. omega (arith, h .0)) x) s
 
 then-start : Sooner (at 9 0 1) (at 0 1 1)
 then-start = inr (inl (refl, omega arith))

@@ -25,9 +25,11 @@ pub data StandsIn (t : Tree) : ℕ → Tree → ℕ → Type 0 where
   top : {i : ℕ} → StandsIn t i t i
   below : {i j A : ℕ} {s : Tree} → StandsIn t i s j → StandsIn t i (unary A s) j
   left : {i j A : ℕ} {u v : Tree} → StandsIn t i u j → StandsIn t i (binary A u v) j
-  right : {i j A : ℕ} {u v : Tree} → StandsIn t (i + length (word u)) v j → StandsIn t i (binary A u v) j
+  right : {i j A : ℕ} {u v : Tree} → StandsIn t (i + length (word u)) v j
+      → StandsIn t i (binary A u v) j
 
--- some whole valid tree of the sentence contains A over the word of len tokens from start on; an empty word has start 0
+-- some whole valid tree of the sentence contains A over the word of len tokens from start on; an
+-- empty word has start 0
 pub record Contains (g : Rules) (ts : Word) (A start len : ℕ) : Type 0 where
   pub whole : Tree
   pub witness : Witness g 0 ts whole
@@ -64,7 +66,8 @@ Ordered (e ∷ es) = Every (Sooner e) es × Ordered es
 -- es lists every place of the sentence, and no more, in that order
 pub record AllPlaces (g : Rules) (ts : Word) (es : List Entry) : Type 0 where
   pub each : Every (λ e. Place g ts (e .nonterminal) (e .start) (e .len)) es
-  pub all : (A start len : ℕ) → Place g ts A start len → List·Memᴰ (record { nonterminal = A; start = start; len = len }) es
+  pub all : (A start len : ℕ) → Place g ts A start len
+      → List·Memᴰ (record { nonterminal = A; start = start; len = len }) es
   pub ordered : Ordered es
 
 -- an entry is three bytes: nonterminal, start, length

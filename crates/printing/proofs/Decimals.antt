@@ -13,9 +13,11 @@ use Rattle.printing.specs.Printing.{digits, decimal}
 digits-enough : (s t n : ℕ) → n < s → n < t → digits s n ≡ digits t n
 digits-enough zero t n h k = absurd (omega arith)
 digits-enough (suc s) zero n h k = absurd (omega arith)
-digits-enough (suc s) (suc t) n h k = go (decLt n 10) (λ l. digits-enough s t (n / 10) (omega arith) (omega arith))
+digits-enough (suc s) (suc t) n h k =
+    go (decLt n 10) (λ l. digits-enough s t (n / 10) (omega arith) (omega arith))
   where
-    go : Dec (n < 10) → (10 ≤ n → digits s (n / 10) ≡ digits t (n / 10)) → digits (suc s) n ≡ digits (suc t) n
+    go : Dec (n < 10) → (10 ≤ n → digits s (n / 10) ≡ digits t (n / 10))
+        → digits (suc s) n ≡ digits (suc t) n
     go (yes l) f = simp (lt-ltb n 10 l)
     go (no l) f = let m : 10 ≤ n = omega arith in simp (le-ltb n 10 m, f m)
 
@@ -25,7 +27,8 @@ decimal-one n h = simp (lt-ltb n 10 h)
 
 pub decimal-more : (n : ℕ) → 10 ≤ n → decimal n ≡ decimal (n / 10) ++ ((48 + n % 10) ∷ [])
 unfolding decimal
-decimal-more n h = simp (le-ltb n 10 h, digits-enough n (suc (n / 10)) (n / 10) (omega arith) (omega arith))
+decimal-more n h =
+    simp (le-ltb n 10 h, digits-enough n (suc (n / 10)) (n / 10) (omega arith) (omega arith))
 
 -- its length is one more than that of its tenth
 pub decimal-longer : (n : ℕ) → 10 ≤ n → length (decimal n) ≡ length (decimal (n / 10)) + 1
@@ -36,9 +39,11 @@ pub decimal-length : (k n : ℕ) → 1 ≤ k → n < 10 ^ k → length (decimal 
 decimal-length zero n h l = absurd (omega arith)
 decimal-length (suc k) n h l = go (decLt n 10) (decLt 0 k) (λ p q. decimal-length k (n / 10) p q)
   where
-    go : Dec (n < 10) → Dec (0 < k) → (1 ≤ k → n / 10 < 10 ^ k → length (decimal (n / 10)) ≤ k) → length (decimal n) ≤ suc k
+    go : Dec (n < 10) → Dec (0 < k) → (1 ≤ k → n / 10 < 10 ^ k → length (decimal (n / 10)) ≤ k)
+        → length (decimal n) ≤ suc k
     go (yes s) d f = rw (decimal-one n s) (omega arith)
-    go (no s) (no d) f = let e : k ≡ 0 = omega arith in let m : n < 10 ^ suc 0 = rw e at l in absurd (omega arith)
+    go (no s) (no d) f = let e : k ≡ 0 = omega arith in let m : n < 10 ^ suc 0 = rw e at l in
+        absurd (omega arith)
     go (no s) (yes d) f =
         let m : n < 10 ^ k * 10 = rw (pow-suc 10 k) at l in
         rw (decimal-more n (omega arith), length-append) (omega (arith, f d (omega arith)))

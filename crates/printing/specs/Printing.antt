@@ -11,7 +11,8 @@ use Rattle.grammar.specs.Layout.{Word, line, col}
 -- the digits of n in base ten, by steps of which n + 1 are enough
 abbrev pub digits : ℕ → ℕ → List ℕ
 digits zero n = []
-digits (suc steps) n = cond (ltb n 10) ((48 + n) ∷ []) (digits steps (n / 10) ++ ((48 + n % 10) ∷ []))
+digits (suc steps) n =
+    cond (ltb n 10) ((48 + n) ∷ []) (digits steps (n / 10) ++ ((48 + n % 10) ∷ []))
 
 -- a number in base ten without a leading zero; zero is `0`
 unfoldable pub decimal : ℕ → List ℕ

@@ -3,7 +3,8 @@ ghost use mathlib.Core.Path.{_≡_};
 ghost use mathlib.Core.List.{[], _∷_, _++_};
 ghost use Prim.Native.Nat.{_+_, _*_, _≤_, _<_};
 ghost use lib.ListN.{length, take};
-ghost use Rattle.printing.specs.Printing.{decimal, Wrote, letterOf, rowText, rowLines, tokenText, tokenLines};
+ghost use Rattle.printing.specs.Printing.{decimal, Wrote, letterOf, rowText, rowLines};
+ghost use Rattle.printing.specs.Printing.{tokenText, tokenLines};
 ghost use Rattle.grammar.specs.Sentences.{spelled};
 use grammar::Sentence;
 use grammar::Token;
@@ -75,7 +76,8 @@ fn letter(kind: u8) -> u8
 // A tree line.
 fn put_row(out: &mut [u8], at: usize, tree: u8, left: u8, kind: u8, start: u8, len: u8) -> usize
     requires { ⌜ at + 26 ≤ length (now out) ⌝ }
-    ensures { λ r. ⌜ Wrote (now (out .entry)) (now (out .exit)) at (rowText tree left kind start len) r ⌝ }
+    ensures { λ r. ⌜ Wrote (now (out .entry)) (now (out .exit)) at
+        (rowText tree left kind start len) r ⌝ }
     ensures { λ r. ⌜ r ≤ at + 26 ⌝ }
 {
     let a = put_ended(out, at, tree as u32, 32);
@@ -90,7 +92,8 @@ fn put_row(out: &mut [u8], at: usize, tree: u8, left: u8, kind: u8, start: u8, l
 pub fn put_rows(out: &mut [u8], at: usize, tree: u8, rows: &[u8], count: usize) -> usize
     requires { ⌜ 4 * count ≤ length (now rows) ⌝ }
     requires { ⌜ at + 26 * count ≤ length (now out) ⌝ }
-    ensures { λ r. ⌜ Wrote (now (out .entry)) (now (out .exit)) at (rowLines tree (take (4 * count) (now (rows .entry)))) r ⌝ }
+    ensures { λ r. ⌜ Wrote (now (out .entry)) (now (out .exit)) at
+        (rowLines tree (take (4 * count) (now (rows .entry)))) r ⌝ }
     ensures { λ r. ⌜ r ≤ at + 26 * count ⌝ }
 {
     let mut i = 0;

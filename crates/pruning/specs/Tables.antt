@@ -1,5 +1,5 @@
--- The table of the pairs that the search gives to single tokens, and the words that begin with them (inner: only the proofs of
--- the search need it).
+-- The table of the pairs that the search gives to single tokens, and the words that begin with them
+-- (inner: only the proofs of the search need it).
 use mathlib.Core.Path.{_≡_}
 use mathlib.Core.List.{List}
 use Prim.Native.Nat.{ℕ, _+_, _*_, _≤_, _<_}
@@ -13,8 +13,8 @@ use Rattle.candidates.specs.Terminals.{Among}
 use Rattle.chart.specs.Leaves.{EmptyPair, Leaf, Allows}
 use Rattle.pruning.specs.Refuting.{terminalAt}
 
--- at 2 x the pair of the terminal x, for each of the set s; at 128 the pair of a token that may have any of them; at 130 that of
--- the empty word
+-- at 2 x the pair of the terminal x, for each of the set s; at 128 the pair of a token that may
+-- have any of them; at 130 that of the empty word
 pub record Tabled (g : Rules) (s : ℕ) (table : List ℕ) : Type 0 where
   pub long : length table ≡ 132
   pub leaf : (x : ℕ) → Among s x → Leaf g x (getD table (2 * x) 0) (getD table (2 * x + 1) 0)
@@ -36,7 +36,8 @@ pub record United (a b r : ℕ) : Type 0 where
 pub record Small (cs : List Cell) (b : ℕ) : Type 0 where
   pub small : (i : ℕ) → i < b → terminalAt cs i < 64
 
--- which pair of the table the token at i is given at first: that of its terminal, if it is one of the first b, else that of any
+-- which pair of the table the token at i is given at first: that of its terminal, if it is one of
+-- the first b, else that of any
 pub record Slot (cs : List Cell) (b i r : ℕ) : Type 0 where
   pub known : i < b → r ≡ terminalAt cs i
   pub free : b ≤ i → r ≡ 64

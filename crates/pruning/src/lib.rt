@@ -1,5 +1,6 @@
-// Refuting a block of candidates: terminals first, from the last token backward, then positions. A candidate may be passed
-// over if an earlier one that has its first h cells has two trees where it has.
+// Refuting a block of candidates: terminals first, from the last token backward, then positions. A
+// candidate may be passed over if an earlier one that has its first h cells has two trees where it
+// has.
 use candidates::Candidate;
 use chart::empty_pair;
 use chart::fill;
@@ -31,7 +32,8 @@ ghost use Rattle.candidates.specs.Spelling.{LowSteps};
 ghost use Rattle.chart.specs.Leaves.{EmptyPair};
 ghost use Rattle.equivalents.specs.Twins.{Renames, Replaceable};
 ghost use Rattle.pruning.specs.Tables.{Small, Slot, Laid, United, Gathered, Tabled};
-ghost use Rattle.pruning.specs.Refuting.{Standing, Moved, Rises, terminalAt, Turned, Loose, Poised, PositionTried, Ended, Spent, Struck, Done};
+ghost use Rattle.pruning.specs.Refuting.{Standing, Moved, Rises, terminalAt, Turned, Loose};
+ghost use Rattle.pruning.specs.Refuting.{Poised, PositionTried, Ended, Spent, Struck, Done};
 ghost use Rattle.grammar.specs.Distinct.{Distinct};
 
 // The candidate's sentence of n tokens, of which the first `known` count.
@@ -86,7 +88,8 @@ fn shut(codes: &[u64], c: Candidate, n: usize, i: usize, h: usize, words: &mut [
     requires { ⌜ Distinct (decoded (now codes)) ⌝ }
     requires { ⌜ 2 * pairs n ≤ length (now words) ⌝ }
     requires { ⌜ Standing (decoded (now codes)) n i (cells c 0 n) (now words) ⌝ }
-    ensures { λ r. ⌜ PositionTried r (decoded (now (codes .entry))) n h i (cells c 0 n) (now (words .entry)) (now (words .exit)) ⌝ }
+    ensures { λ r. ⌜ PositionTried r (decoded (now (codes .entry))) n h i (cells c 0 n)
+        (now (words .entry)) (now (words .exit)) ⌝ }
 {
     if !rises(c, n, i) {
         return true;
@@ -98,13 +101,15 @@ fn shut(codes: &[u64], c: Candidate, n: usize, i: usize, h: usize, words: &mut [
     hopeless(words, d, codes, i, n)
 }
 
-// Has a candidate that shares the first i cells of c, and has its terminals, perhaps two trees and no twin?
+// Has a candidate that shares the first i cells of c, and has its terminals, perhaps two trees and
+// no twin?
 fn places(codes: &[u64], c: Candidate, n: usize, i: usize, h: usize, words: &mut [u64]) -> bool
     requires { ⌜ (n ≤ 7) × (i ≤ n) × LowSteps (cells c 0 n) × (h ≤ i) ⌝ }
     requires { ⌜ Distinct (decoded (now codes)) ⌝ }
     requires { ⌜ 2 * pairs n ≤ length (now words) ⌝ }
     requires { ⌜ Standing (decoded (now codes)) n i (cells c 0 n) (now words) ⌝ }
-    ensures { λ r. ⌜ Ended r (decoded (now (codes .entry))) n h i (cells c 0 n) (now (words .entry)) (now (words .exit)) ⌝ }
+    ensures { λ r. ⌜ Ended r (decoded (now (codes .entry))) n h i (cells c 0 n) (now (words .entry))
+        (now (words .exit)) ⌝ }
 {
     if i == n {
         return true;
@@ -124,14 +129,15 @@ fn places(codes: &[u64], c: Candidate, n: usize, i: usize, h: usize, words: &mut
     false
 }
 
-// The positions of c, all its terminals being fixed: the same, and where all are refuted the spans of tokens from b on are
-// filled for open positions again.
+// The positions of c, all its terminals being fixed: the same, and where all are refuted the spans
+// of tokens from b on are filled for open positions again.
 fn positions(codes: &[u64], c: Candidate, n: usize, b: usize, h: usize, words: &mut [u64]) -> bool
     requires { ⌜ (n ≤ 7) × (b ≤ n) × LowSteps (cells c 0 n) × (h ≤ b) ⌝ }
     requires { ⌜ Distinct (decoded (now codes)) ⌝ }
     requires { ⌜ 2 * pairs n ≤ length (now words) ⌝ }
     requires { ⌜ Standing (decoded (now codes)) n b (cells c 0 n) (now words) ⌝ }
-    ensures { λ r. ⌜ Spent r (decoded (now (codes .entry))) n h b (cells c 0 n) (now (words .entry)) (now (words .exit)) ⌝ }
+    ensures { λ r. ⌜ Spent r (decoded (now (codes .entry))) n h b (cells c 0 n) (now (words .entry))
+        (now (words .exit)) ⌝ }
 {
     if places(codes, c, n, b, h, words) {
         return true;
@@ -168,7 +174,8 @@ fn give(words: &mut [u64], n: usize, j: usize, one: u64, two: u64)
     write(words, p, one, two);
 }
 
-// Try the terminal x of c at j, whose pair the table has: is it refuted? The words are filled with it.
+// Try the terminal x of c at j, whose pair the table has: is it refuted? The words are filled with
+// it.
 fn struck(
     codes: &[u64],
     set: u64,
@@ -183,9 +190,11 @@ fn struck(
     requires { ⌜ (n ≤ 7) × (b ≤ j) × (j < n) × LowSteps (cells c 0 n) ⌝ }
     requires { ⌜ Distinct (decoded (now codes)) ⌝ }
     requires { ⌜ 2 * pairs n ≤ length (now words) ⌝ }
-    requires { ⌜ Tabled (decoded (now codes)) set (now table) × Among set x × (terminalAt (cells c 0 n) j ≡ x) ⌝ }
+    requires { ⌜ Tabled (decoded (now codes)) set (now table) × Among set x
+        × (terminalAt (cells c 0 n) j ≡ x) ⌝ }
     requires { ⌜ Loose (decoded (now codes)) set n b j (cells c 0 n) (now words) ⌝ }
-    ensures { λ r. ⌜ Struck r (decoded (now (codes .entry))) set n b j (cells c 0 n) (now (words .entry)) (now (words .exit)) ⌝ }
+    ensures { λ r. ⌜ Struck r (decoded (now (codes .entry))) set n b j (cells c 0 n)
+        (now (words .entry)) (now (words .exit)) ⌝ }
 {
     let at = 2 * (x as usize);
     give(words, n, j, table[at], table[at + 1]);
@@ -193,7 +202,8 @@ fn struck(
     hopeless(words, d, codes, b, j + 1)
 }
 
-// Has a candidate that shares the first b cells of c, and has its terminals from j on, perhaps two trees and no twin?
+// Has a candidate that shares the first b cells of c, and has its terminals from j on, perhaps two
+// trees and no twin?
 fn terms(
     codes: &[u64],
     set: u64,
@@ -206,12 +216,14 @@ fn terms(
     j: usize,
     words: &mut [u64],
 ) -> bool
-    requires { ⌜ (n ≤ 7) × (b ≤ j) × (j ≤ n) × LowSteps (cells c 0 n) × (h ≤ b) × Renames (decoded (now codes)) set kept ⌝ }
+    requires { ⌜ (n ≤ 7) × (b ≤ j) × (j ≤ n) × LowSteps (cells c 0 n) × (h ≤ b)
+        × Renames (decoded (now codes)) set kept ⌝ }
     requires { ⌜ Distinct (decoded (now codes)) ⌝ }
     requires { ⌜ 2 * pairs n ≤ length (now words) ⌝ }
     requires { ⌜ Tabled (decoded (now codes)) set (now table) ⌝ }
     requires { ⌜ Poised (decoded (now codes)) set n b j (cells c 0 n) (now words) ⌝ }
-    ensures { λ r. ⌜ Done r (decoded (now (codes .entry))) set n h b j (cells c 0 n) (now (words .entry)) (now (words .exit)) ⌝ }
+    ensures { λ r. ⌜ Done r (decoded (now (codes .entry))) set n h b j (cells c 0 n)
+        (now (words .entry)) (now (words .exit)) ⌝ }
 {
     if j == b {
         return positions(codes, c, n, b, h, words);
@@ -237,8 +249,8 @@ fn terms(
     false
 }
 
-// The place in the table of the pair that the token at i is given at first: that of its terminal, if it is one of the first
-// b, else that of a token that may have any.
+// The place in the table of the pair that the token at i is given at first: that of its terminal,
+// if it is one of the first b, else that of a token that may have any.
 fn slot(c: Candidate, b: usize, n: usize, i: usize) -> usize
     requires { ⌜ (n ≤ 7) × (i < n) ⌝ }
     ensures { λ r. ⌜ Slot (cells c 0 n) b i r ⌝ }
@@ -255,7 +267,8 @@ fn lay(words: &mut [u64], table: &[u64], c: Candidate, n: usize, b: usize)
     requires { ⌜ (n ≤ 7) × Small (cells c 0 n) b ⌝ }
     requires { ⌜ 2 * pairs n ≤ length (now words) ⌝ }
     requires { ⌜ length (now table) ≡ 132 ⌝ }
-    ensures { λ r. ⌜ Laid (now (table .entry)) (cells c 0 n) n b (now (words .entry)) (now (words .exit)) ⌝ }
+    ensures { λ r. ⌜ Laid (now (table .entry)) (cells c 0 n) n b (now (words .entry))
+        (now (words .exit)) ⌝ }
 {
     let mut i: usize = 0;
     while i < n {
@@ -280,7 +293,8 @@ fn begin(
     requires { ⌜ Distinct (decoded (now codes)) ⌝ }
     requires { ⌜ 2 * pairs n ≤ length (now words) ⌝ }
     requires { ⌜ Tabled (decoded (now codes)) set (now table) ⌝ }
-    ensures { λ r. ⌜ Poised (decoded (now (codes .entry))) set n b n (cells c 0 n) (now (words .exit)) ⌝ }
+    ensures { λ r. ⌜ Poised (decoded (now (codes .entry))) set n b n (cells c 0 n)
+        (now (words .exit)) ⌝ }
     ensures { λ r. ⌜ Past (2 * pairs n) (now (words .entry)) (now (words .exit)) ⌝ }
 {
     lay(words, table, c, n, b);
@@ -288,8 +302,9 @@ fn begin(
     fill(words, d, codes, 0, n);
 }
 
-// Has each candidate that shares the first b cells of c and has two trees a twin that has its first h cells? (Where the
-// answer is no, one may have none.) Of the terminals past the first b cells those that are kept are tried.
+// Has each candidate that shares the first b cells of c and has two trees a twin that has its first
+// h cells? (Where the answer is no, one may have none.) Of the terminals past the first b cells
+// those that are kept are tried.
 pub fn twinned(
     codes: &[u64],
     set: u64,
@@ -301,17 +316,20 @@ pub fn twinned(
     h: usize,
     words: &mut [u64],
 ) -> bool
-    requires { ⌜ (n ≤ 7) × (b ≤ n) × Of.Candidate (Among set) n (cells c 0 n) × (h ≤ b) × Renames (decoded (now codes)) set kept ⌝ }
+    requires { ⌜ (n ≤ 7) × (b ≤ n) × Of.Candidate (Among set) n (cells c 0 n) × (h ≤ b)
+        × Renames (decoded (now codes)) set kept ⌝ }
     requires { ⌜ Distinct (decoded (now codes)) ⌝ }
     requires { ⌜ 2 * pairs n ≤ length (now words) ⌝ }
     requires { ⌜ Tabled (decoded (now codes)) set (now table) ⌝ }
-    ensures { λ r. ⌜ (r ≡ true → Replaceable (decoded (now (codes .entry))) set n b h (cells c 0 n)) × Past (2 * pairs n) (now (words .entry)) (now (words .exit)) ⌝ }
+    ensures { λ r. ⌜ (r ≡ true → Replaceable (decoded (now (codes .entry))) set n b h (cells c 0 n))
+        × Past (2 * pairs n) (now (words .entry)) (now (words .exit)) ⌝ }
 {
     begin(codes, set, table, c, n, b, words);
     !terms(codes, set, kept, table, c, n, b, h, n, words)
 }
 
-// Is no candidate that shares the first b cells of c the first with two trees? (Where the answer is no, one may be.)
+// Is no candidate that shares the first b cells of c the first with two trees? (Where the answer is
+// no, one may be.)
 pub fn refutes(
     codes: &[u64],
     set: u64,
@@ -325,7 +343,8 @@ pub fn refutes(
     requires { ⌜ Distinct (decoded (now codes)) ⌝ }
     requires { ⌜ 2 * pairs n ≤ length (now words) ⌝ }
     requires { ⌜ Tabled (decoded (now codes)) set (now table) ⌝ }
-    ensures { λ r. ⌜ (r ≡ true → Replaceable (decoded (now (codes .entry))) set n b 0 (cells c 0 n)) × Past (2 * pairs n) (now (words .entry)) (now (words .exit)) ⌝ }
+    ensures { λ r. ⌜ (r ≡ true → Replaceable (decoded (now (codes .entry))) set n b 0 (cells c 0 n))
+        × Past (2 * pairs n) (now (words .entry)) (now (words .exit)) ⌝ }
 {
     twinned(codes, set, set, table, c, n, b, 0, words)
 }
@@ -343,7 +362,8 @@ pub fn has_two(
     requires { ⌜ Distinct (decoded (now codes)) ⌝ }
     requires { ⌜ 2 * pairs n ≤ length (now words) ⌝ }
     requires { ⌜ Tabled (decoded (now codes)) set (now table) ⌝ }
-    ensures { λ r. ⌜ Says r (TwoTrees (decoded (now (codes .entry))) 0 (sentence (cells c 0 n))) × Past (2 * pairs n) (now (words .entry)) (now (words .exit)) ⌝ }
+    ensures { λ r. ⌜ Says r (TwoTrees (decoded (now (codes .entry))) 0 (sentence (cells c 0 n)))
+        × Past (2 * pairs n) (now (words .entry)) (now (words .exit)) ⌝ }
 {
     begin(codes, set, table, c, n, n, words);
     in_second(words, n, 0, n, 0)
@@ -356,13 +376,14 @@ fn united(a: u64, b: u64) -> u64
     a | b
 }
 
-// Fill the table with the pair of each terminal of the set, that of x at 2 x, and answer their union: the pair of a token
-// that may have any of them. The empty word's pair is `one` and `two`.
+// Fill the table with the pair of each terminal of the set, that of x at 2 x, and answer their
+// union: the pair of a token that may have any of them. The empty word's pair is `one` and `two`.
 fn leaves(codes: &[u64], set: u64, one: u64, two: u64, table: &mut [u64]) -> Pair
     requires { ⌜ Distinct (decoded (now codes)) ⌝ }
     requires { ⌜ EmptyPair (decoded (now codes)) one two ⌝ }
     requires { ⌜ length (now table) ≡ 132 ⌝ }
-    ensures { λ r. ⌜ Gathered (decoded (now (codes .entry))) set 64 (now (table .entry)) (now (table .exit)) (r .one) (r .two) ⌝ }
+    ensures { λ r. ⌜ Gathered (decoded (now (codes .entry))) set 64 (now (table .entry))
+        (now (table .exit)) (r .one) (r .two) ⌝ }
 {
     let mut any: u64 = 0;
     let mut twice: u64 = 0;
@@ -384,8 +405,9 @@ fn leaves(codes: &[u64], set: u64, one: u64, two: u64, table: &mut [u64]) -> Pai
     }
 }
 
-// Fill the table of the pairs that the search gives: at 2 x that of the terminal x, where the set has it; at 128 that of a
-// token that may have any terminal of the set; at 130 that of the empty word.
+// Fill the table of the pairs that the search gives: at 2 x that of the terminal x, where the set
+// has it; at 128 that of a token that may have any terminal of the set; at 130 that of the empty
+// word.
 pub fn fill_table(codes: &[u64], set: u64, table: &mut [u64])
     requires { ⌜ Distinct (decoded (now codes)) ⌝ }
     requires { ⌜ length (now table) ≡ 132 ⌝ }

@@ -1,5 +1,5 @@
--- The span sheet of ranges: each span's pair is what follows, by the span's marks, from the pairs of its parts (inner: contracts of the
--- functions that fill it).
+-- The span sheet of ranges: each span's pair is what follows, by the span's marks, from the pairs
+-- of its parts (inner: contracts of the functions that fill it).
 use mathlib.Core.Path.{_≡_}
 use mathlib.Core.List.{List}
 use mathlib.Core.Logic.{_⊎_}
@@ -31,11 +31,13 @@ pub record CountFits (r : RangeSentence) : Type 0 where
 abbrev pub pairOf : List ℕ → ℕ → ℕ → ℕ → Pair
 pairOf ws n s len = record { one = firstWord ws n s len; two = secondWord ws n s len }
 
--- the pair of the span of len tokens from s on is what stands by two shorter parts under the marks k, and what follows from it by links
+-- the pair of the span of len tokens from s on is what stands by two shorter parts under the marks
+-- k, and what follows from it by links
 pub record Solved (ws : List ℕ) (g : Rules) (n s len : ℕ) (k : SpanMarks) : Type 0 where
   pub inner : Pair
   pub splits : Splits ws n s len k g inner
-  pub closure : Closure (spanLinks g (UnaryBy k) (getD ws 0 0) (getD ws 1 0)) inner (pairOf ws n s len)
+  pub closure : Closure (spanLinks g (UnaryBy k) (getD ws 0 0) (getD ws 1 0)) inner
+      (pairOf ws n s len)
 
 -- under the marks of the ranges
 pub record SpanSolved (ws : List ℕ) (g : Rules) (rs : Ranges) (n s len : ℕ) : Type 0 where
@@ -43,9 +45,11 @@ pub record SpanSolved (ws : List ℕ) (g : Rules) (rs : Ranges) (n s len : ℕ) 
   pub marked : RangeMarked rs s len marks
   pub solved : Solved ws g n s len marks
 
--- so are all spans of two tokens or more that begin past s, and those that begin at s and have fewer than len tokens
+-- so are all spans of two tokens or more that begin past s, and those that begin at s and have
+-- fewer than len tokens
 pub record SolvedFrom (ws : List ℕ) (g : Rules) (rs : Ranges) (n s len : ℕ) : Type 0 where
-  pub each : (a b : ℕ) → 2 ≤ b → a + b ≤ n → (s < a) ⊎ ((a ≡ s) × (b < len)) → SpanSolved ws g rs n a b
+  pub each : (a b : ℕ) → 2 ≤ b → a + b ≤ n → (s < a) ⊎ ((a ≡ s) × (b < len))
+      → SpanSolved ws g rs n a b
 
 -- the pairs of the empty word and of single tokens are as they were
 pub record Small (ws ws′ : List ℕ) (n : ℕ) : Type 0 where

@@ -1,5 +1,5 @@
-// The span sheet of ranges: what may have trees in some columns within the ends; with the ends exchanged what must have them in all;
-// where each token has one column, what has them.
+// The span sheet of ranges: what may have trees in some columns within the ends; with the ends
+// exchanged what must have them in all; where each token has one column, what has them.
 use column_ranges::RangeSentence;
 use cuts::BinaryRules;
 use cuts::Pair;
@@ -19,7 +19,8 @@ ghost use Rattle.filling.specs.Closing.{Begins, Columns};
 ghost use Rattle.column_ranges.specs.RangeSentences.{rangesOf};
 ghost use Rattle.range_charts.specs.RangeCharts.{CountFits, SolvedFrom, Solves, Advances};
 
-// Settle the spans of two tokens or more that begin at `start`. Their marks are carried along, a token at a time.
+// Settle the spans of two tokens or more that begin at `start`. Their marks are carried along, a
+// token at a time.
 fn fill_start(
     words: &mut [u64],
     rows: &mut [u64],
@@ -35,9 +36,12 @@ fn fill_start(
     requires { ⌜ 2 * pairs (r .count) ≤ length (now words) ⌝ }
     requires { ⌜ Formed g × Placed (rules g) b ⌝ }
     requires { ⌜ Begins (now words) e × Chains (rules g) e (now table) ⌝ }
-    requires { ⌜ (length (now rows) ≡ 128) × Columns (now words) (r .count) (start + 1) (now cols) ⌝ }
-    requires { ⌜ SolvedFrom (now words) (rules g) (rangesOf r) (r .count) (start + 1) (r .count + 1) ⌝ }
-    ensures { λ u. ⌜ Advances (now (words .entry)) (now (words .exit)) (rules g) (rangesOf r) (r .count) start ⌝ }
+    requires { ⌜ (length (now rows) ≡ 128) × Columns (now words) (r .count) (start + 1)
+        (now cols) ⌝ }
+    requires { ⌜ SolvedFrom (now words) (rules g) (rangesOf r) (r .count) (start + 1)
+        (r .count + 1) ⌝ }
+    ensures { λ u. ⌜ Advances (now (words .entry)) (now (words .exit)) (rules g) (rangesOf r)
+        (r .count) start ⌝ }
     ensures { λ u. ⌜ Columns (now (words .exit)) (r .count) start (now (cols .exit)) ⌝ }
 {
     let n = r.count;
@@ -70,8 +74,10 @@ fn fill_starts(
     requires { ⌜ 2 * pairs (r .count) ≤ length (now words) ⌝ }
     requires { ⌜ Formed g × Placed (rules g) b ⌝ }
     requires { ⌜ Begins (now words) e × Chains (rules g) e (now table) ⌝ }
-    requires { ⌜ (length (now rows) ≡ 128) × Columns (now words) (r .count) (r .count) (now cols) ⌝ }
-    ensures { λ u. ⌜ Advances (now (words .entry)) (now (words .exit)) (rules g) (rangesOf r) (r .count) 0 ⌝ }
+    requires { ⌜ (length (now rows) ≡ 128) × Columns (now words) (r .count) (r .count)
+        (now cols) ⌝ }
+    ensures { λ u. ⌜ Advances (now (words .entry)) (now (words .exit)) (rules g) (rangesOf r)
+        (r .count) 0 ⌝ }
 {
     let mut start = r.count;
     while 0 < start {
@@ -80,8 +86,9 @@ fn fill_starts(
     }
 }
 
-// Fill the span sheet of the ranges. The pairs of the empty word and of single tokens are given, and so are the places of
-// the B rules, the pair of the empty word and the table of chains: they do not go by columns.
+// Fill the span sheet of the ranges. The pairs of the empty word and of single tokens are given,
+// and so are the places of the B rules, the pair of the empty word and the table of chains: they do
+// not go by columns.
 pub fn fill_ranges(
     words: &mut [u64],
     table: &[u64],
@@ -94,7 +101,8 @@ pub fn fill_ranges(
     requires { ⌜ 2 * pairs (r .count) ≤ length (now words) ⌝ }
     requires { ⌜ Formed g × Placed (rules g) b ⌝ }
     requires { ⌜ Begins (now words) e × Chains (rules g) e (now table) ⌝ }
-    ensures { λ u. ⌜ Solves (now (words .entry)) (now (words .exit)) (rules g) (rangesOf r) (r .count) ⌝ }
+    ensures { λ u. ⌜ Solves (now (words .entry)) (now (words .exit)) (rules g) (rangesOf r)
+        (r .count) ⌝ }
 {
     let mut rows = [0u64; 128];
     let mut cols = [0u64; 8320];

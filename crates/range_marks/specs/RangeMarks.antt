@@ -1,4 +1,5 @@
--- What a span of ranges leaves to a rule (inner: contracts of the functions that fill a span sheet for ranges).
+-- What a span of ranges leaves to a rule (inner: contracts of the functions that fill a span sheet
+-- for ranges).
 use mathlib.Core.Path.{_≡_}
 use mathlib.Core.List.{[], _∷_}
 use mathlib.Core.Bool.{Bool}
@@ -32,8 +33,8 @@ abbrev pub highest : Ranges → Word
 highest [] = []
 highest (r ∷ rs) = highToken r ∷ highest rs
 
--- the token at s in its lowest column, all others in their highest: the columns in which a mark that asks the first token's column to be
--- less holds if it holds in any
+-- the token at s in its lowest column, all others in their highest: the columns in which a mark
+-- that asks the first token's column to be less holds if it holds in any
 abbrev pub seenFrom : Ranges → ℕ → Word
 seenFrom rs s = set (highest rs) s (lowToken (range rs s))
 
@@ -43,7 +44,15 @@ firstOf t = alone (t .terminal) (t .low .0)
 
 -- r is k with the align set x
 abbrev pub aligned : SpanMarks → ℕ → SpanMarks
-aligned k x = record { first = k .first; least = k .least; single = k .single; align = x; indent = k .indent; terminal = k .terminal }
+aligned k x = record {
+  first = k .first;
+  least = k .least;
+  single = k .single;
+  align = x;
+  indent = k
+      .indent;
+  terminal = k .terminal;
+}
 
 -- r is the marks k of l tokens from a to z with the token t after them
 pub record Stretched (k : SpanMarks) (a z t : RangeToken) (l : ℕ) (r : SpanMarks) : Type 0 where
@@ -58,7 +67,8 @@ pub record Stretched (k : SpanMarks) (a z t : RangeToken) (l : ℕ) (r : SpanMar
 pub record RangeMarked (rs : Ranges) (s len : ℕ) (k : SpanMarks) : Type 0 where
   pub unary : (m : UnaryMark) → UnaryBy k m ↔ MayKeep m (whole (seenFrom rs s)) s len
   pub align : (l : ℕ) → 0 < l → l < len → In (k .align) l ↔ Overlap (range rs s) (range rs (s + l))
-  pub indent : (l : ℕ) → 0 < l → l < len → In (k .indent) l ↔ MayPair BinaryMark.Indent (whole (seenFrom rs s)) s l 1
+  pub indent : (l : ℕ) → 0 < l → l < len
+      → In (k .indent) l ↔ MayPair BinaryMark.Indent (whole (seenFrom rs s)) s l 1
 
 -- r with its ends exchanged: what may hold of them must hold of all columns within the ends of r
 abbrev pub exchanged : RangeToken → RangeToken

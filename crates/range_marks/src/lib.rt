@@ -1,5 +1,6 @@
-// What a span of ranges leaves to a rule: what may hold of some columns within the ends. With the ends exchanged it is what must hold
-// of all of them, and where each token has one column, what holds.
+// What a span of ranges leaves to a rule: what may hold of some columns within the ends. With the
+// ends exchanged it is what must hold of all of them, and where each token has one column, what
+// holds.
 use column_ranges::RangeSentence;
 use column_ranges::RangeToken;
 use marks::SpanMarks;
@@ -14,7 +15,8 @@ ghost use lib.ListN.{length};
 ghost use Rattle.sets.specs.Says.{Says};
 ghost use Rattle.marks.specs.Marked.{Included};
 ghost use Rattle.column_ranges.specs.RangeSentences.{rangesOf};
-ghost use Rattle.range_marks.specs.RangeMarks.{Overlap, firstOf, Stretched, exchanged, exchangedAll};
+ghost use Rattle.range_marks.specs.RangeMarks.{Overlap, firstOf, Stretched, exchanged};
+ghost use Rattle.range_marks.specs.RangeMarks.{exchangedAll};
 
 // The marks of one token.
 pub fn first_of(t: RangeToken) -> SpanMarks
@@ -42,8 +44,8 @@ fn listed(set: u64, l: usize, yes: bool) -> u64
     if yes { with(set, l as u8) } else { set }
 }
 
-// The marks of `left` tokens from `a` to `z`, with the token `t` after them: the first token in its lowest column, the others in
-// their highest; align may hold where two tokens share a column.
+// The marks of `left` tokens from `a` to `z`, with the token `t` after them: the first token in its
+// lowest column, the others in their highest; align may hold where two tokens share a column.
 pub fn stretched(
     k: SpanMarks,
     a: RangeToken,

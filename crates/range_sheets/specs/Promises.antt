@@ -14,7 +14,8 @@ use Rattle.range_sheets.specs.declared.RangeRead.{RangeRead}
 use Rattle.column_ranges.specs.RangeSentences.{rangesOf, Spread}
 use mathlib.Core.List.{List}
 
--- the answer is the wanted reading; accepted tokens have their ends in order, and few enough choices
+-- the answer is the wanted reading; accepted tokens have their ends in order, and few enough
+-- choices
 pub record RangesRead (r : RangeRead) (want : Reading (List RangeToken)) : Type 0 where
   pub is : readingOf (r .outcome) (rangesOf (r .sentence)) ≡ want
   pub spread : r .outcome ≡ Accepted → Spread (r .sentence)

@@ -12,11 +12,14 @@ use Rattle.range_sheets.specs.declared.RangeLine.the-variants as RangeLi
 -- 48: high below low
 abbrev pub endsOf : ℕ → ℕ → ℕ → ℕ → RangeLine
 endsOf t l a b =
-    cond (leb a b) (RangeLine.Good (record { terminal = t; line = record { 0 = l }; low = record { 0 = a }; high = record { 0 = b } })) RangeLine.Ends
+    cond (leb a b) (RangeLine.Good (record
+    { terminal = t; line = record { 0 = l }; low = record { 0 = a }; high = record { 0 = b } }))
+    RangeLine.Ends
 
 -- 13: terminal above 63; line, low or high 0 or above 65,535
 abbrev pub rangeOf : ℕ → ℕ → ℕ → ℕ → RangeLine
-rangeOf t l a b = cond (leb t 63 && (leb 1 l && leb l 65535) && (leb 1 a && leb a 65535) && (leb 1 b && leb b 65535)) (endsOf t l a b) RangeLine.Range
+rangeOf t l a b = cond (leb t 63 && (leb 1 l && leb l 65535) && (leb 1 a && leb a 65535)
+    && (leb 1 b && leb b 65535)) (endsOf t l a b) RangeLine.Range
 
 -- 12: not four numbers of one to five digits
 abbrev pub afterRangeHigh : ℕ → ℕ → ℕ → ℕ → List (List ℕ) → RangeLine

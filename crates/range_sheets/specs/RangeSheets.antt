@@ -1,10 +1,12 @@
--- What a range sheet says: its tokens with their ends, or the refusal with its line. 02, request 10: refusals 11, 14, 12, 13, 48, then 49.
+-- What a range sheet says: its tokens with their ends, or the refusal with its line. 02, request
+-- 10: refusals 11, 14, 12, 13, 48, then 49.
 use Prim.Native.Nat.{ℕ}
 use mathlib.Core.List.{List, [], _∷_}
 use mathlib.Core.Bool.{Bool, cond}
 use lib.Dec.{leb}
 use Rattle.fields.specs.Pieces.{pieces}
-use Rattle.sheets.specs.Items.{Reading, accepted, refused, Step, next, stop, lineStep, itemsFrom, withNames}
+use Rattle.sheets.specs.Items.{Reading, accepted, refused, Step, next, stop, lineStep, itemsFrom}
+use Rattle.sheets.specs.Items.{withNames}
 use Rattle.column_ranges.specs.declared.RangeToken.{RangeToken}
 use Rattle.column_ranges.specs.Ranges.{Ranges, choiceCount, choiceLimit}
 use Rattle.range_sheets.specs.declared.RangeLine.{RangeLine}
@@ -33,8 +35,10 @@ fewChoices (refused f l) = refused f l
 -- term line low high
 abbrev pub rangeNames : List ℕ
 rangeNames =
-    116 ∷ 101 ∷ 114 ∷ 109 ∷ 32 ∷ 108 ∷ 105 ∷ 110 ∷ 101 ∷ 32 ∷ 108 ∷ 111 ∷ 119 ∷ 32 ∷ 104 ∷ 105 ∷ 103 ∷ 104 ∷ []
+    116 ∷ 101 ∷ 114 ∷ 109 ∷ 32 ∷ 108 ∷ 105 ∷ 110 ∷ 101 ∷ 32 ∷ 108 ∷ 111 ∷ 119 ∷ 32 ∷ 104 ∷ 105 ∷ 103
+    ∷ 104 ∷ []
 
 -- 11 (these names only), then line by line, then 49
 abbrev pub rangeSheet : List ℕ → Reading (List RangeToken)
-rangeSheet s = fewChoices (withNames (refused 11 1) rangeNames (pieces 10 s) (itemsFrom rangeStep []))
+rangeSheet s =
+    fewChoices (withNames (refused 11 1) rangeNames (pieces 10 s) (itemsFrom rangeStep []))

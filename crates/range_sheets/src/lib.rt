@@ -19,7 +19,8 @@ ghost use Rattle.sheets.specs.declared.Fault.the-variants as Fault;
 ghost use Rattle.sheets.specs.Refusals.{numberOf};
 ghost use Rattle.sheets.specs.Items.{accepted, refused, stepAt, itemsFrom};
 ghost use Rattle.range_sheets.specs.RangeLines.{endsOf, rangeOf, rangeFields};
-ghost use Rattle.range_sheets.specs.RangeSheets.{rangeSays, rangeStep, fewChoices, rangeSheet};
+ghost use Rattle.range_sheets.specs.RangeSheets.{rangeSays, rangeStep, fewChoices};
+ghost use Rattle.range_sheets.specs.RangeSheets.{rangeSheet};
 ghost use Rattle.range_sheets.specs.Promises.{asRangeStep, RangesRead};
 ghost use Rattle.fields.specs.Cursors.{piecesFrom, bytesLeft, fieldsLeft};
 ghost use Rattle.column_ranges.specs.RangeSentences.{rangesOf, Spread};
@@ -127,7 +128,8 @@ fn range_said(s: &[u8], c: Cursor) -> RangeStep
 // What the cursor's line gives after n tokens.
 fn range_step(s: &[u8], c: Cursor, n: usize) -> RangeStep
     requires { ⌜ (c .at ≤ c .end) × (c .end ≤ length (now s)) ⌝ }
-    ensures { λ r. ⌜ asRangeStep r ≡ stepAt 14 12 (rangeSays [] (bytesLeft (now (s .entry)) c)) (turnOf 64 n (bytesLeft (now (s .entry)) c) (ltb (c .end) (length (now (s .entry))))) ⌝ }
+    ensures { λ r. ⌜ asRangeStep r ≡ stepAt 14 12 (rangeSays [] (bytesLeft (now (s .entry)) c))
+        (turnOf 64 n (bytesLeft (now (s .entry)) c) (ltb (c .end) (length (now (s .entry))))) ⌝ }
 {
     match lines::turn_at(s, c, n, 64) {
         Turn::End => RangeStep::End,
@@ -159,7 +161,8 @@ fn refuse_ranges(tokens: [RangeToken; 64], f: Fault, line: usize) -> RangeRead
 // The end of a range sheet: refusal 49.
 fn finished(tokens: [RangeToken; 64], n: usize) -> RangeRead
     requires { ⌜ Spread (record { tokens = tokens; count = n }) ⌝ }
-    ensures { λ r. ⌜ RangesRead r (fewChoices (accepted (rangesOf (record { tokens = tokens; count = n })))) ⌝ }
+    ensures { λ r. ⌜ RangesRead r (fewChoices
+        (accepted (rangesOf (record { tokens = tokens; count = n })))) ⌝ }
 {
     let s = RangeSentence { tokens, count: n };
     if 65536 < count(s) {
@@ -174,7 +177,8 @@ fn finished(tokens: [RangeToken; 64], n: usize) -> RangeRead
 // The lines from a place on.
 fn ranges_from(s: &[u8], start: usize) -> RangeRead
     requires { ⌜ start ≤ length (now s) ⌝ }
-    ensures { λ r. ⌜ RangesRead r (fewChoices (itemsFrom rangeStep [] (piecesFrom 10 (now (s .entry)) start))) ⌝ }
+    ensures { λ r. ⌜ RangesRead r (fewChoices
+        (itemsFrom rangeStep [] (piecesFrom 10 (now (s .entry)) start))) ⌝ }
 {
     let mut tokens = no_ranges();
     let mut n: usize = 0;

@@ -25,7 +25,8 @@ pub picked-none : (g : Rules) (s : ℕ) → Picked g s 0 []
 picked-none g s = record {
   of = λ p h. absurd (omega arith);
   keeps = λ q h. absurd (omega arith);
-  distinct = λ d. record { one = λ p q r t e. absurd (let z = from-there [] p r e .0 in omega arith) };
+  distinct =
+      λ d. record { one = λ p q r t e. absurd (let z = from-there [] p r e .0 in omega arith) };
 }
 
 module _ {g : Rules} {s i : ℕ} {out : Rules} (f : Picked g s i out) where
@@ -37,12 +38,15 @@ module _ {g : Rules} {s i : ℕ} {out : Rules} (f : Picked g s i out) where
     distinct = f .distinct;
   }
     where
-      go : (q : ℕ) → q < i + 1 → In s (getD g q no-rule .left) → Dec (q < i) → (p : ℕ) × (p < length out) × (getD out p no-rule ≡ getD g q no-rule)
+      go : (q : ℕ) → q < i + 1 → In s (getD g q no-rule .left) → Dec (q < i)
+          → (p : ℕ) × (p < length out) × (getD out p no-rule ≡ getD g q no-rule)
       go q h m (yes l) = f .keeps q l m
-      go q h m (no l) = absurd (non (subst (λ (x : ℕ). In s (getD g x no-rule .left)) (let z : q ≡ i = omega arith in z) m))
+      go q h m (no l) = absurd (non (subst (λ (x : ℕ). In s (getD g x no-rule .left))
+          (let z : q ≡ i = omega arith in z) m))
 
   -- one whose left is
-  pub picked-more : i < length g → In s (getD g i no-rule .left) → Picked g s (i + 1) (out ++ (getD g i no-rule ∷ []))
+  pub picked-more : i < length g → In s (getD g i no-rule .left)
+      → Picked g s (i + 1) (out ++ (getD g i no-rule ∷ []))
   picked-more h m = record { of = of; keeps = keeps; distinct = distinct }
     where
       r : Rule
@@ -68,18 +72,27 @@ module _ {g : Rules} {s i : ℕ} {out : Rules} (f : Picked g s i out) where
           go (yes x) = inl x
           go (no x) = inr (omega (arith, long))
 
-      of : (p : ℕ) → p < length more → (q : ℕ) × (q < i + 1) × (getD more p no-rule ≡ getD g q no-rule) × In s (getD g q no-rule .left)
+      of : (p : ℕ) → p < length more → (q : ℕ) × (q < i + 1)
+          × (getD more p no-rule ≡ getD g q no-rule) × In s (getD g q no-rule .left)
       of p l = ⊎-elim (λ x. let y = f .of p x in (y .0, omega (arith, y .1), old p x ∙ y .2, y .3))
           (λ x. (i, omega arith, ap (λ (z : ℕ). getD more z no-rule) x ∙ new, m)) (last p l)
 
-      keeps : (q : ℕ) → q < i + 1 → In s (getD g q no-rule .left) → (p : ℕ) × (p < length more) × (getD more p no-rule ≡ getD g q no-rule)
+      keeps : (q : ℕ) → q < i + 1 → In s (getD g q no-rule .left)
+          → (p : ℕ) × (p < length more) × (getD more p no-rule ≡ getD g q no-rule)
       keeps q l k = go (decLt q i)
         where
           go : Dec (q < i) → (p : ℕ) × (p < length more) × (getD more p no-rule ≡ getD g q no-rule)
-          go (yes x) = let y = f .keeps q x k in (y .0, omega (arith, y .1, long), old (y .0) (y .1) ∙ y .2)
-          go (no x) = (length out, omega (arith, long), new ∙ ap (λ (z : ℕ). getD g z no-rule) (let z : i ≡ q = omega arith in z))
+          go (yes x) = let y = f .keeps q x k in
+              (y .0, omega (arith, y .1, long), old (y .0) (y .1) ∙ y .2)
+          go (no x) = (
+            length out,
+            omega (arith, long),
+            new
+                ∙ ap (λ (z : ℕ). getD g z no-rule) (let z : i ≡ q = omega arith in z),
+          )
 
-      -- of two that are alike both are old, or both the last: an old one stands at another place of g
+      -- of two that are alike both are old, or both the last: an old one stands at another place of
+      -- g
       distinct : Distinct g → Distinct more
       distinct d = record {
         one = λ p q a b e k l v.
@@ -87,27 +100,38 @@ module _ {g : Rules} {s i : ℕ} {out : Rules} (f : Picked g s i out) where
             let y = from-there more q b k in
             ⊎-elim
             (λ pl. ⊎-elim
-            (λ ql. f .distinct d .one p q a b (there out p pl ∙ ap some (sym (old p pl) ∙ x .1)) (there out q ql ∙ ap some (sym (old q ql) ∙ y .1)) l v)
+            (λ ql. f .distinct d .one p q a b (there out p pl ∙ ap some (sym (old p pl) ∙ x .1))
+            (there out q ql ∙ ap some (sym (old q ql) ∙ y .1)) l v)
             (λ qe. absurd (let o = f .of p pl in
-            let z = d .one (o .0) i a b (there g (o .0) (omega (arith, o .1)) ∙ ap some (sym (o .2) ∙ sym (old p pl) ∙ x .1)) (there g i h ∙ ap some (sym new ∙ ap (λ (u : ℕ). getD more u no-rule) (sym qe) ∙ y .1)) l v in
+            let z = d .one (o .0) i a b (there g (o .0) (omega (arith, o .1))
+            ∙ ap some (sym (o .2) ∙ sym (old p pl) ∙ x .1))
+            (there g i h ∙ ap some (sym new ∙ ap (λ (u : ℕ). getD more u no-rule) (sym qe)
+            ∙ y .1)) l v in
             omega (arith, o .1))) (last q (y .0)))
             (λ pe. ⊎-elim
             (λ ql. absurd (let o = f .of q ql in
-            let z = d .one i (o .0) a b (there g i h ∙ ap some (sym new ∙ ap (λ (u : ℕ). getD more u no-rule) (sym pe) ∙ x .1)) (there g (o .0) (omega (arith, o .1)) ∙ ap some (sym (o .2) ∙ sym (old q ql) ∙ y .1)) l v in
+            let z = d .one i (o .0) a b (there g i h ∙ ap some
+            (sym new ∙ ap (λ (u : ℕ). getD more u no-rule) (sym pe) ∙ x .1))
+            (there g (o .0) (omega (arith, o .1))
+            ∙ ap some (sym (o .2) ∙ sym (old q ql) ∙ y .1)) l v in
             omega (arith, o .1)))
             (λ qe. pe ∙ sym qe) (last q (y .0))) (last p (x .0));
       }
 
 -- a code is stored behind those that are kept
-pub stored-more : (out : List ℕ) (count c : ℕ) → count < length out → decoded (take (count + 1) (set out count c)) ≡ decoded (take count out) ++ (decode c ∷ [])
-stored-more out count c h = rw (add-one count) (ap decoded (take-suc-set out count c h) ∙ map-append decode (take count out) (c ∷ []))
+pub stored-more : (out : List ℕ) (count c : ℕ) → count < length out
+    → decoded (take (count + 1) (set out count c)) ≡ decoded (take count out) ++ (decode c ∷ [])
+stored-more out count c h = rw (add-one count)
+    (ap decoded (take-suc-set out count c h) ∙ map-append decode (take count out) (c ∷ []))
 
 -- all rules are passed
-pub picked-all : {g : Rules} {s : ℕ} {out : Rules} → Exactly s (Reached g) → Picked g s (length g) out → Trimmed g out
+pub picked-all : {g : Rules} {s : ℕ} {out : Rules} → Exactly s (Reached g)
+    → Picked g s (length g) out → Trimmed g out
 picked-all {g} {s} {out} x f = record {
   keeps = λ r m h.
       let p = place g m in
-      let y = f .keeps (p .0) (p .1) (subst (λ (z : Rule). In s (z .left)) (sym (p .2)) (x .all (r .left) h)) in
+      let y = f .keeps (p .0) (p .1) (subst (λ (z : Rule). In s (z .left)) (sym (p .2))
+      (x .all (r .left) h)) in
       subst (λ (z : Rule). List·Memᴰ z out) (y .2 ∙ p .2) (member out (y .0) (y .1));
   of = λ r m.
       let p = place out m in
@@ -123,11 +147,18 @@ picked-all {g} {s} {out} x f = record {
 -- ---- by codes
 
 module _ {s i : ℕ} (cs : List ℕ) (a : ℕ) (h : i < length cs) (e : a ≡ left (getD cs i 0)) where
-  pub code-skip : {out : Rules} → (In s a → ⊥) → Picked (decoded cs) s i out → Picked (decoded cs) s (i + 1) out
-  code-skip non f = picked-skip f (λ m. non (subst (In s) (sym (e ∙ ap (λ (r : Rule). r .left) (coded-at cs no-rule i h))) m))
+  pub code-skip : {out : Rules} → (In s a → ⊥) → Picked (decoded cs) s i out
+      → Picked (decoded cs) s (i + 1) out
+  code-skip non f = picked-skip f
+      (λ m. non (subst (In s) (sym (e ∙ ap (λ (r : Rule). r .left) (coded-at cs no-rule i h))) m))
 
-  pub code-more : (out : List ℕ) (count : ℕ) → count < length out → In s a → Picked (decoded cs) s i (decoded (take count out)) → Picked (decoded cs) s (i + 1) (decoded (take (count + 1) (set out count (getD cs i 0))))
+  pub code-more : (out : List ℕ) (count : ℕ) → count < length out → In s a
+      → Picked (decoded cs) s i (decoded (take count out))
+      → Picked (decoded cs) s (i + 1) (decoded (take (count + 1) (set out count (getD cs i 0))))
   code-more out count k m f =
       let at = coded-at cs no-rule i h in
-      subst (Picked (decoded cs) s (i + 1)) (ap (λ (r : Rule). decoded (take count out) ++ (r ∷ [])) (sym at) ∙ sym (stored-more out count (getD cs i 0) k))
-      (picked-more f (subst (λ (x : ℕ). i < x) (sym (coded-length cs)) h) (subst (In s) (e ∙ ap (λ (r : Rule). r .left) at) m))
+      subst (Picked (decoded cs) s (i + 1))
+      (ap (λ (r : Rule). decoded (take count out) ++ (r ∷ [])) (sym at)
+      ∙ sym (stored-more out count (getD cs i 0) k))
+      (picked-more f (subst (λ (x : ℕ). i < x) (sym (coded-length cs)) h)
+      (subst (In s) (e ∙ ap (λ (r : Rule). r .left) at) m))

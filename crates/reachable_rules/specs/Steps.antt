@@ -1,4 +1,5 @@
--- Predicates of inner functions only: what a rule adds to the nonterminals that 0 reaches, and the rules picked so far.
+-- Predicates of inner functions only: what a rule adds to the nonterminals that 0 reaches, and the
+-- rules picked so far.
 use mathlib.Core.Path.{_≡_}
 use mathlib.Core.Logic.{_⊎_}
 use Prim.Native.Nat.{ℕ, _<_}
@@ -24,6 +25,8 @@ AddsParts s r Y = ((r .left ≡ 0) ⊎ In s (r .left)) × HasPart (r .clause) Y
 
 -- out has those of the first i rules of g whose left is in s, each from a place of g
 pub record Picked (g : Rules) (s i : ℕ) (out : Rules) : Type 0 where
-  pub of : (p : ℕ) → p < length out → (q : ℕ) × (q < i) × (getD out p no-rule ≡ getD g q no-rule) × In s (getD g q no-rule .left)
-  pub keeps : (q : ℕ) → q < i → In s (getD g q no-rule .left) → (p : ℕ) × (p < length out) × (getD out p no-rule ≡ getD g q no-rule)
+  pub of : (p : ℕ) → p < length out
+      → (q : ℕ) × (q < i) × (getD out p no-rule ≡ getD g q no-rule) × In s (getD g q no-rule .left)
+  pub keeps : (q : ℕ) → q < i → In s (getD g q no-rule .left)
+      → (p : ℕ) × (p < length out) × (getD out p no-rule ≡ getD g q no-rule)
   pub distinct : Distinct g → Distinct out

@@ -45,7 +45,8 @@ fn spread(set: u64, code: u64) -> u64
 
 // One pass over the rules.
 fn reach_pass(codes: &[u64], set: u64) -> u64
-    ensures { λ r. ⌜ Passed AddsParts (Reached (decoded (now (codes .entry)))) (decoded (now (codes .entry))) (length (now (codes .entry))) set r ⌝ }
+    ensures { λ r. ⌜ Passed AddsParts (Reached (decoded (now (codes .entry))))
+        (decoded (now (codes .entry))) (length (now (codes .entry))) set r ⌝ }
 {
     let mut next = set;
     let mut i: usize = 0;
@@ -79,7 +80,8 @@ pub struct Kept {
 // Those whose left is in the set, in their order.
 fn pick(codes: &[u64], set: u64) -> Kept
     requires { ⌜ length (now codes) ≤ 128 ⌝ }
-    ensures { λ r. ⌜ Picked (decoded (now (codes .entry))) set (length (now (codes .entry))) (decoded (take (r .count) (r .codes))) ⌝ }
+    ensures { λ r. ⌜ Picked (decoded (now (codes .entry))) set (length (now (codes .entry)))
+        (decoded (take (r .count) (r .codes))) ⌝ }
     ensures { λ r. ⌜ r .count ≤ 128 ⌝ }
 {
     let mut out: [u64; 128] = [0; 128];
@@ -101,7 +103,8 @@ fn pick(codes: &[u64], set: u64) -> Kept
 // The rules whose left 0 reaches, in their order.
 pub fn reachable(codes: &[u64]) -> Kept
     requires { ⌜ length (now codes) ≤ 128 ⌝ }
-    ensures { λ r. ⌜ Trimmed (decoded (now (codes .entry))) (decoded (take (r .count) (r .codes))) ⌝ }
+    ensures { λ r. ⌜ Trimmed (decoded (now (codes .entry)))
+        (decoded (take (r .count) (r .codes))) ⌝ }
     ensures { λ r. ⌜ (r .count ≤ 128) × (length (take (r .count) (r .codes)) ≡ r .count) ⌝ }
 {
     let set = reached(codes);

@@ -1,5 +1,6 @@
-// Reads pairs of sheets from standard input and writes what the readers make of each pair. A pair is a header of 12 bytes (five
-// digits: the rule sheet's length; a blank; five digits: the token sheet's length; byte 10), the rule sheet and the token sheet.
+// Reads pairs of sheets from standard input and writes what the readers make of each pair. A pair
+// is a header of 12 bytes (five digits: the rule sheet's length; a blank; five digits: the token
+// sheet's length; byte 10), the rule sheet and the token sheet.
 use cases::five;
 use grammar::BinaryMark;
 use grammar::Clause;

@@ -23,18 +23,21 @@ abbrev pub clearStart : List ℕ
 clearStart =
     97 ∷ 110 ∷ 115 ∷ 119 ∷ 101 ∷ 114 ∷ 32 ∷ 108 ∷ 105 ∷ 110 ∷ 101 ∷ 10
     ∷ 99 ∷ 108 ∷ 101 ∷ 97 ∷ 114 ∷ 32 ∷ 48 ∷ 10
-    ∷ 113 ∷ 117 ∷ 111 ∷ 116 ∷ 105 ∷ 101 ∷ 110 ∷ 116 ∷ 32 ∷ 114 ∷ 101 ∷ 109 ∷ 97 ∷ 105 ∷ 110 ∷ 100 ∷ 101 ∷ 114 ∷ 32 ∷ 110 ∷ 117 ∷ 109 ∷ 98 ∷ 101 ∷ 114 ∷ 10 ∷ []
+    ∷ 113 ∷ 117 ∷ 111 ∷ 116 ∷ 105 ∷ 101 ∷ 110 ∷ 116 ∷ 32 ∷ 114 ∷ 101 ∷ 109 ∷ 97 ∷ 105 ∷ 110 ∷ 100
+    ∷ 101 ∷ 114 ∷ 32 ∷ 110 ∷ 117 ∷ 109 ∷ 98 ∷ 101 ∷ 114 ∷ 10 ∷ []
 
 -- `answer line`, `two 0`, `quotient remainder number`
 abbrev pub twoStart : List ℕ
 twoStart =
     97 ∷ 110 ∷ 115 ∷ 119 ∷ 101 ∷ 114 ∷ 32 ∷ 108 ∷ 105 ∷ 110 ∷ 101 ∷ 10
     ∷ 116 ∷ 119 ∷ 111 ∷ 32 ∷ 48 ∷ 10
-    ∷ 113 ∷ 117 ∷ 111 ∷ 116 ∷ 105 ∷ 101 ∷ 110 ∷ 116 ∷ 32 ∷ 114 ∷ 101 ∷ 109 ∷ 97 ∷ 105 ∷ 110 ∷ 100 ∷ 101 ∷ 114 ∷ 32 ∷ 110 ∷ 117 ∷ 109 ∷ 98 ∷ 101 ∷ 114 ∷ 10 ∷ []
+    ∷ 113 ∷ 117 ∷ 111 ∷ 116 ∷ 105 ∷ 101 ∷ 110 ∷ 116 ∷ 32 ∷ 114 ∷ 101 ∷ 109 ∷ 97 ∷ 105 ∷ 110 ∷ 100
+    ∷ 101 ∷ 114 ∷ 32 ∷ 110 ∷ 117 ∷ 109 ∷ 98 ∷ 101 ∷ 114 ∷ 10 ∷ []
 
 -- `answer line`, `refused-`
 abbrev pub refusedStart : List ℕ
-refusedStart = 97 ∷ 110 ∷ 115 ∷ 119 ∷ 101 ∷ 114 ∷ 32 ∷ 108 ∷ 105 ∷ 110 ∷ 101 ∷ 10 ∷ 114 ∷ 101 ∷ 102 ∷ 117 ∷ 115 ∷ 101 ∷ 100 ∷ 45 ∷ []
+refusedStart = 97 ∷ 110 ∷ 115 ∷ 119 ∷ 101 ∷ 114 ∷ 32 ∷ 108 ∷ 105 ∷ 110 ∷ 101 ∷ 10 ∷ 114 ∷ 101 ∷ 102
+    ∷ 117 ∷ 115 ∷ 101 ∷ 100 ∷ 45 ∷ []
 
 abbrev refusedWord : List ℕ
 refusedWord = 114 ∷ 101 ∷ 102 ∷ 117 ∷ 115 ∷ 101 ∷ 100 ∷ 45 ∷ []
@@ -42,14 +45,22 @@ refusedWord = 114 ∷ 101 ∷ 102 ∷ 117 ∷ 115 ∷ 101 ∷ 100 ∷ 45 ∷ []
 nought : decimal 0 ≡ 48 ∷ []
 nought = decimal-one 0 (omega arith)
 
-pub clear-begins : (q m : ℕ) → reportText (shareReplyOf Answer.Clear 0 q m []) ≡ clearStart ++ pairText q m (45 ∷ 10 ∷ [])
+pub clear-begins : (q m : ℕ) → reportText (shareReplyOf Answer.Clear 0 q m []) ≡ clearStart
+    ++ pairText q m (45 ∷ 10 ∷ [])
 unfolding shareLines
 clear-begins q m = simp (nought, append-assoc, append-nil)
 
-pub two-begins : (N q m : ℕ) (w : Word) → reportText (shareReplyOf Answer.Two N q m w) ≡ twoStart ++ pairText q m (decimal N ++ (10 ∷ (tokenNames ++ (10 ∷ tokenLines w))))
+pub two-begins : (N q m : ℕ) (w : Word)
+    → reportText (shareReplyOf Answer.Two N q m w) ≡ twoStart
+    ++ pairText q m (decimal N ++ (10 ∷ (tokenNames ++ (10 ∷ tokenLines w))))
 unfolding shareLines
-two-begins N q m w = rw (take-append-seam w (replicate (64 - length w) no-token)) (simp (nought, append-assoc))
+two-begins N q m w =
+    rw (take-append-seam w (replicate (64 - length w) no-token)) (simp (nought, append-assoc))
 
-pub refusal-begins : (f : Fault) (l : ℕ) → reportText (shareRefusal f l) ≡ refusedStart ++ (decimal (numberOf f) ++ (32 ∷ (decimal l ++ (10 ∷ []))))
+pub refusal-begins : (f : Fault) (l : ℕ)
+    → reportText (shareRefusal f l) ≡ refusedStart
+    ++ (decimal (numberOf f) ++ (32 ∷ (decimal l ++ (10 ∷ []))))
 refusal-begins f l =
-    let h = head (refusedText (numberOf f)) l in append-nil (h ++ []) ∙ append-nil h ∙ ap (λ (x : List ℕ). answerNames ++ x) (append-assoc refusedWord (decimal (numberOf f)) (32 ∷ (decimal l ++ (10 ∷ []))))
+    let h = head (refusedText (numberOf f)) l in
+    append-nil (h ++ []) ∙ append-nil h ∙ ap (λ (x : List ℕ). answerNames ++ x)
+    (append-assoc refusedWord (decimal (numberOf f)) (32 ∷ (decimal l ++ (10 ∷ []))))

@@ -16,9 +16,12 @@ use Rattle.reports.specs.Rests.{OfFault}
 
 abbrev all : List Fault
 all =
-    Fault.RuleNames ∷ Fault.RuleMany ∷ Fault.RuleForm ∷ Fault.RuleRange ∷ Fault.RuleLay ∷ Fault.RuleReversed ∷ Fault.RuleTwice ∷ Fault.NoStart
-    ∷ Fault.ClauseForm ∷ Fault.ClauseDeep ∷ Fault.ClauseMany ∷ Fault.TokenNames ∷ Fault.TokenMany ∷ Fault.TokenForm ∷ Fault.TokenRange
-    ∷ Fault.TokenWidth ∷ Fault.TokenOrder ∷ Fault.RangeEnds ∷ Fault.ManyChoices ∷ Fault.Rights ∷ Fault.NoRight ∷ Fault.BadBound
+    Fault.RuleNames ∷ Fault.RuleMany ∷ Fault.RuleForm ∷ Fault.RuleRange ∷ Fault.RuleLay
+    ∷ Fault.RuleReversed ∷ Fault.RuleTwice ∷ Fault.NoStart
+    ∷ Fault.ClauseForm ∷ Fault.ClauseDeep ∷ Fault.ClauseMany ∷ Fault.TokenNames ∷ Fault.TokenMany
+    ∷ Fault.TokenForm ∷ Fault.TokenRange
+    ∷ Fault.TokenWidth ∷ Fault.TokenOrder ∷ Fault.RangeEnds ∷ Fault.ManyChoices ∷ Fault.Rights
+    ∷ Fault.NoRight ∷ Fault.BadBound
     ∷ Fault.ManyCandidates ∷ Fault.BadRacks ∷ Fault.BadShare ∷ Fault.FewWords ∷ Fault.FewRows ∷ []
 
 -- is n the number of one of these?
@@ -30,7 +33,8 @@ among-one : (n : ℕ) (fs : List Fault) → among n fs ≡ true → OfFault n
 among-one n [] e = absurd (clash cc)
 among-one n (f ∷ fs) e = go (eqb (numberOf f) n) refl e (λ h. among-one n fs h)
   where
-    go : (b : Bool) → eqb (numberOf f) n ≡ b → cond b true (among n fs) ≡ true → (among n fs ≡ true → OfFault n) → OfFault n
+    go : (b : Bool) → eqb (numberOf f) n ≡ b → cond b true (among n fs) ≡ true
+        → (among n fs ≡ true → OfFault n) → OfFault n
     go true h e again = record { fault = f; is = eqb-true (numberOf f) n h }
     go false h e again = again e
 
@@ -41,9 +45,11 @@ run low (suc m) = among (low + m) all && run low m
 
 run-one : (low m : ℕ) → run low m ≡ true → (n : ℕ) → low ≤ n → n < low + m → OfFault n
 run-one low zero e n h k = absurd (omega arith)
-run-one low (suc m) e n h k = let p = both (among (low + m) all) (run low m) e in go (ℕ-discrete n (low + m)) p (λ l. run-one low m (p .1) n h l)
+run-one low (suc m) e n h k = let p = both (among (low + m) all) (run low m) e in
+    go (ℕ-discrete n (low + m)) p (λ l. run-one low m (p .1) n h l)
   where
-    go : Dec (n ≡ low + m) → (among (low + m) all ≡ true) × (run low m ≡ true) → (n < low + m → OfFault n) → OfFault n
+    go : Dec (n ≡ low + m) → (among (low + m) all ≡ true) × (run low m ≡ true)
+        → (n < low + m → OfFault n) → OfFault n
     go (yes q) p again = rw q (among-one (low + m) all (p .0))
     go (no q) p again = again (omega arith)
 
@@ -60,7 +66,8 @@ pub fault-four : (n : ℕ) → 41 ≤ n → n ≤ 51 → OfFault n
 fault-four n h k = run-one 41 11 refl n h (omega arith)
 
 -- no number outside these runs is one
-module _ (P : ℕ → Type 0) (a : (n : ℕ) → 1 ≤ n → n ≤ 7 → P n) (b : (n : ℕ) → 11 ≤ n → n ≤ 15 → P n) (c : (n : ℕ) → 21 ≤ n → n ≤ 24 → P n) (d : (n : ℕ) → 41 ≤ n → n ≤ 51 → P n) where
+module _ (P : ℕ → Type 0) (a : (n : ℕ) → 1 ≤ n → n ≤ 7 → P n) (b : (n : ℕ) → 11 ≤ n → n ≤ 15 → P n)
+    (c : (n : ℕ) → 21 ≤ n → n ≤ 24 → P n) (d : (n : ℕ) → 41 ≤ n → n ≤ 51 → P n) where
   each : (f : Fault) → P (numberOf f)
   each Fault.RuleNames = a 1 (omega arith) (omega arith)
   each Fault.RuleMany = a 6 (omega arith) (omega arith)
@@ -101,7 +108,9 @@ pub record Outside (n : ℕ) : Type 0 where
   pub four : 41 ≤ n → n ≤ 51 → ⊥
 
 pub outside : (n : ℕ) → Outside n → OfFault n → ⊥
-outside n x o = of-each (λ (m : ℕ). Outside m → ⊥) (λ m h k y. y .one h k) (λ m h k y. y .two h k) (λ m h k y. y .three h k) (λ m h k y. y .four h k) n o x
+outside n x o = of-each (λ (m : ℕ). Outside m → ⊥) (λ m h k y. y .one h k) (λ m h k y. y .two h k)
+    (λ m h k y. y .three h k) (λ m h k y. y .four h k) n o x
 
 pub fault-most : (n : ℕ) → OfFault n → n ≤ 51
-fault-most n o = of-each (λ (m : ℕ). m ≤ 51) (λ m h k. omega arith) (λ m h k. omega arith) (λ m h k. omega arith) (λ m h k. omega arith) n o
+fault-most n o = of-each (λ (m : ℕ). m ≤ 51) (λ m h k. omega arith) (λ m h k. omega arith)
+    (λ m h k. omega arith) (λ m h k. omega arith) n o

@@ -15,12 +15,15 @@ use Rattle.arrangement_numbers.specs.Shares.{firstOfShare, total}
 use Rattle.arrangement_numbers.proofs.ShareLaws.{begins-mono, begins-last, remainder-small}
 use Rattle.answering.specs.Sweep.{sweepLimit}
 use Rattle.call_shares.specs.declared.ShareReply.{ShareReply}
-use Rattle.call_shares.specs.Share.{ShareTaken, ShareOn, bound, many, racks, beyond, short, clear, two, ShareOf, refusing, reading}
+use Rattle.call_shares.specs.Share.{ShareTaken, ShareOn, bound, many, racks, beyond, short, clear}
+use Rattle.call_shares.specs.Share.{two, ShareOf, refusing, reading}
 use Rattle.call_shares.proofs.ShareSettled.{small-terminals}
 use Rattle.reports.specs.Reports.{ReportToken, Report, a-refusal, a-clear, a-two}
 
 -- the tokens of cells behind a token on line l
-cells-good : {Q : ℕ → Type 0} → ((x : ℕ) → Q x → x < 64) → {n : ℕ} → n ≤ 7 → (l m : ℕ) → m ≤ 2 → (cs : List Cell) → l + 2 * length cs ≤ 65535 → Cells Q n m cs → Every ReportToken (placed l cs)
+cells-good : {Q : ℕ → Type 0} → ((x : ℕ) → Q x → x < 64) → {n : ℕ} → n ≤ 7 → (l m : ℕ) → m ≤ 2
+    → (cs : List Cell) → l + 2 * length cs ≤ 65535 → Cells Q n m cs
+    → Every ReportToken (placed l cs)
 cells-good small h l m k [] b x = tt
 cells-good small h l m k (c ∷ cs) b x = (
   record {
@@ -41,9 +44,17 @@ module _ {g : Rules} {n p i : ℕ} {words : List ℕ} (t : ShareTaken g n p i wo
   rest-small = omega (arith, remainder-small (total g n) p (t .least), t .size .few)
 
   number-small : (N : ℕ) → N < firstOfShare (total g n) p (suc i) → N ≤ sweepLimit
-  number-small N h = omega (arith, begins-mono (total g n) p (suc i) p (t .below), begins-last (total g n) p (t .least), t .size .few)
+  number-small N h = omega (
+    arith,
+    begins-mono (total g n) p (suc i) p (t .below),
+    begins-last
+        (total g n) p (t .least),
+    t .size .few,
+  )
 
-on-reports : {g : Rules} → ((x : ℕ) → Terminal g x → x < 64) → {n p i : ℕ} {words words′ : List ℕ} {r : ShareReply} → ShareOn g n p i words words′ r → Report r
+on-reports : {g : Rules} → ((x : ℕ) → Terminal g x → x < 64)
+    → {n p i : ℕ} {words words′ : List ℕ} {r : ShareReply} → ShareOn g n p i words words′ r
+    → Report r
 on-reports small (bound l m e h) = a-refusal {l = 0} (omega arith) e
 on-reports small (many k u o q e h) = a-refusal {l = 0} (omega arith) e
 on-reports small (racks k o q e h) = a-refusal {l = 0} (omega arith) e
@@ -53,9 +64,13 @@ on-reports small (clear t c e h) = a-clear (quotient-small t) (rest-small t) e
 on-reports small (two {cs = cs} t c e h) =
     let a = c .candidate .arranged in
     let s = sentence-length 1 cs in
-    a-two (sentence cs) (number-small t _ (c .high)) (quotient-small t) (rest-small t) (omega (arith, s, a .size, t .size .low)) (omega (arith, s, a .size, t .size .high))
-    (cells-good small (t .size .high) 1 0 (omega arith) cs (omega (arith, a .size, t .size .high)) (a .cells)) e
+    a-two (sentence cs) (number-small t _ (c .high)) (quotient-small t) (rest-small t)
+    (omega (arith, s, a .size, t .size .low)) (omega (arith, s, a .size, t .size .high))
+    (cells-good small (t .size .high) 1 0 (omega arith) cs (omega (arith, a .size, t .size .high))
+    (a .cells)) e
 
-pub share-reports : {rules : List ℕ} {n p i : ℕ} {words words′ : List ℕ} {r : ShareReply} → ShareOf rules n p i words words′ r → r .line ≤ sweepLimit → Report r
-share-reports (refusing {l = k} x e h) l = a-refusal {l = k} (omega (arith, ap (λ (z : ShareReply). z .line) e)) e
+pub share-reports : {rules : List ℕ} {n p i : ℕ} {words words′ : List ℕ} {r : ShareReply}
+    → ShareOf rules n p i words words′ r → r .line ≤ sweepLimit → Report r
+share-reports (refusing {l = k} x e h) l =
+    a-refusal {l = k} (omega (arith, ap (λ (z : ShareReply). z .line) e)) e
 share-reports {rules} (reading {g = g} x s) l = on-reports (small-terminals rules g x) s

@@ -18,12 +18,14 @@ use Rattle.call_shares.specs.Share.{shareReplyOf, shareRefusal}
 use Rattle.call_shares.proofs.Merging.{merged-settled}
 use Rattle.share_text.specs.Shares.{reportText}
 use Rattle.scanning.proofs.Numbers.{decimal-same}
-use Rattle.reports.specs.Reports.{ReportToken, Report, a-refusal, a-clear, a-two, ReportOf, MergeText, one-unwritten, two-unwritten, merging}
+use Rattle.reports.specs.Reports.{ReportToken, Report, a-refusal, a-clear, a-two, ReportOf}
+use Rattle.reports.specs.Reports.{MergeText, one-unwritten, two-unwritten, merging}
 use Rattle.reports.specs.Rests.{pairText}
 use Rattle.reports.proofs.Beginnings.{clear-begins, two-begins, refusal-begins}
 use Rattle.reports.proofs.TokenTexts.{token-same, token-some}
 
-words-same : (w v : Word) → Every ReportToken w → Every ReportToken v → tokenLines w ≡ tokenLines v → w ≡ v
+words-same : (w v : Word) → Every ReportToken w → Every ReportToken v → tokenLines w ≡ tokenLines v
+    → w ≡ v
 words-same [] [] p q e = refl
 words-same [] (t ∷ v) p q e = absurd (omega (arith, token-some t (tokenLines v), ap length e))
 words-same (t ∷ w) [] p q e = absurd (omega (arith, token-some t (tokenLines w), ap length e))
@@ -33,9 +35,11 @@ words-same (t ∷ w) (u ∷ v) p q e =
     let k = words-same w v (p .1) (q .1) (s .1) in
     cc
 
-pair-same : (q m r n : ℕ) (x y : List ℕ) → pairText q m x ≡ pairText r n y → (q ≡ r) × (m ≡ n) × (x ≡ y)
+pair-same : (q m r n : ℕ) (x y : List ℕ) → pairText q m x ≡ pairText r n y
+    → (q ≡ r) × (m ≡ n) × (x ≡ y)
 pair-same q m r n x y e =
-    let a = decimal-same q r 32 32 (decimal m ++ (32 ∷ x)) (decimal n ++ (32 ∷ y)) (omega arith) (omega arith) e in
+    let a = decimal-same q r 32 32 (decimal m ++ (32 ∷ x)) (decimal n ++ (32 ∷ y)) (omega arith)
+    (omega arith) e in
     let b = decimal-same m n 32 32 x y (omega arith) (omega arith) (a .1) in
     (a .0, b .0, b .1)
 
@@ -54,30 +58,45 @@ two-at N q m w = ap (λ (t : List ℕ). getD t 12 0) (two-begins N q m w)
 
 texts-same : {a b : ShareReply} → Report a → Report b → reportText a ≡ reportText b → a ≡ b
 texts-same (a-refusal {f = f} {l = l} h e) (a-refusal {f = g} {l = k} j d) x =
-    let p = ap (drop 20) (sym (refusal-begins f l) ∙ ap reportText (sym e) ∙ x ∙ ap reportText d ∙ refusal-begins g k) in
-    let q = decimal-same (numberOf f) (numberOf g) 32 32 (decimal l ++ (10 ∷ [])) (decimal k ++ (10 ∷ [])) (omega arith) (omega arith) p in
+    let p = ap (drop 20) (sym (refusal-begins f l) ∙ ap reportText (sym e) ∙ x ∙ ap reportText d
+    ∙ refusal-begins g k) in
+    let q = decimal-same (numberOf f) (numberOf g) 32 32 (decimal l ++ (10 ∷ []))
+    (decimal k ++ (10 ∷ [])) (omega arith) (omega arith) p in
     let r = decimal-same l k 10 10 [] [] (omega arith) (omega arith) (q .1) in
-    e ∙ ap (λ (z : Fault). shareRefusal z l) (same-fault f g (numberOf g) (q .0) refl) ∙ ap (shareRefusal g) (r .0) ∙ sym d
+    e ∙ ap (λ (z : Fault). shareRefusal z l) (same-fault f g (numberOf g) (q .0) refl)
+    ∙ ap (shareRefusal g) (r .0) ∙ sym d
 texts-same (a-refusal {f = f} {l = l} h e) (a-clear {q = q} {m = m} j k d) x =
-    absurd (differ (ap reportText (sym e) ∙ x ∙ ap reportText d) (refused-at f l) (clear-at q m) (λ z. omega arith))
+    absurd (differ (ap reportText (sym e) ∙ x ∙ ap reportText d) (refused-at f l) (clear-at q m)
+    (λ z. omega arith))
 texts-same (a-refusal {f = f} {l = l} h e) (a-two {N = N} {q = q} {m = m} w a b c g k j d) x =
-    absurd (differ (ap reportText (sym e) ∙ x ∙ ap reportText d) (refused-at f l) (two-at N q m w) (λ z. omega arith))
+    absurd (differ (ap reportText (sym e) ∙ x ∙ ap reportText d) (refused-at f l) (two-at N q m w)
+    (λ z. omega arith))
 texts-same (a-clear {q = q} {m = m} j k d) (a-refusal {f = f} {l = l} h e) x =
-    absurd (differ (ap reportText (sym d) ∙ x ∙ ap reportText e) (clear-at q m) (refused-at f l) (λ z. omega arith))
+    absurd (differ (ap reportText (sym d) ∙ x ∙ ap reportText e) (clear-at q m) (refused-at f l)
+    (λ z. omega arith))
 texts-same (a-clear {q = q} {m = m} h k e) (a-clear {q = r} {m = n} i j d) x =
-    let p = ap (drop 46) (sym (clear-begins q m) ∙ ap reportText (sym e) ∙ x ∙ ap reportText d ∙ clear-begins r n) in
+    let p = ap (drop 46) (sym (clear-begins q m) ∙ ap reportText (sym e) ∙ x ∙ ap reportText d
+    ∙ clear-begins r n) in
     let s = pair-same q m r n (45 ∷ 10 ∷ []) (45 ∷ 10 ∷ []) p in
-    e ∙ ap (λ (z : ℕ). shareReplyOf Answer.Clear 0 z m []) (s .0) ∙ ap (λ (z : ℕ). shareReplyOf Answer.Clear 0 r z []) (s .1) ∙ sym d
+    e ∙ ap (λ (z : ℕ). shareReplyOf Answer.Clear 0 z m []) (s .0)
+    ∙ ap (λ (z : ℕ). shareReplyOf Answer.Clear 0 r z []) (s .1) ∙ sym d
 texts-same (a-clear {q = r} {m = n} i o e) (a-two {N = N} {q = q} {m = m} w a b c g k j d) x =
-    absurd (differ (ap reportText (sym e) ∙ x ∙ ap reportText d) (clear-at r n) (two-at N q m w) (λ z. omega arith))
+    absurd (differ (ap reportText (sym e) ∙ x ∙ ap reportText d) (clear-at r n) (two-at N q m w)
+    (λ z. omega arith))
 texts-same (a-two {N = N} {q = q} {m = m} w a b c g k j d) (a-refusal {f = f} {l = l} h e) x =
-    absurd (differ (ap reportText (sym d) ∙ x ∙ ap reportText e) (two-at N q m w) (refused-at f l) (λ z. omega arith))
+    absurd (differ (ap reportText (sym d) ∙ x ∙ ap reportText e) (two-at N q m w) (refused-at f l)
+    (λ z. omega arith))
 texts-same (a-two {N = N} {q = q} {m = m} w a b c g k j d) (a-clear {q = r} {m = n} i o e) x =
-    absurd (differ (ap reportText (sym d) ∙ x ∙ ap reportText e) (two-at N q m w) (clear-at r n) (λ z. omega arith))
-texts-same (a-two {N = N} {q = q} {m = m} w a b c g k j d) (a-two {N = M} {q = r} {m = n} v a′ b′ c′ g′ k′ j′ e) x =
-    let p = ap (drop 44) (sym (two-begins N q m w) ∙ ap reportText (sym d) ∙ x ∙ ap reportText e ∙ two-begins M r n v) in
-    let s = pair-same q m r n (decimal N ++ (10 ∷ (tokenNames ++ (10 ∷ tokenLines w)))) (decimal M ++ (10 ∷ (tokenNames ++ (10 ∷ tokenLines v)))) p in
-    let t = decimal-same N M 10 10 (tokenNames ++ (10 ∷ tokenLines w)) (tokenNames ++ (10 ∷ tokenLines v)) (omega arith) (omega arith) (s .2) in
+    absurd (differ (ap reportText (sym d) ∙ x ∙ ap reportText e) (two-at N q m w) (clear-at r n)
+    (λ z. omega arith))
+texts-same (a-two {N = N} {q = q} {m = m} w a b c g k j d)
+    (a-two {N = M} {q = r} {m = n} v a′ b′ c′ g′ k′ j′ e) x =
+    let p = ap (drop 44) (sym (two-begins N q m w) ∙ ap reportText (sym d) ∙ x ∙ ap reportText e
+    ∙ two-begins M r n v) in
+    let s = pair-same q m r n (decimal N ++ (10 ∷ (tokenNames ++ (10 ∷ tokenLines w))))
+    (decimal M ++ (10 ∷ (tokenNames ++ (10 ∷ tokenLines v)))) p in
+    let t = decimal-same N M 10 10 (tokenNames ++ (10 ∷ tokenLines w))
+    (tokenNames ++ (10 ∷ tokenLines v)) (omega arith) (omega arith) (s .2) in
     let u = words-same w v j j′ (ap (drop 14) (t .1)) in
     d
     ∙ ap (λ (z : ℕ). shareReplyOf Answer.Two z q m w) (t .0)
@@ -98,6 +117,7 @@ merge-text-settled (two-unwritten f x) (two-unwritten g y) = x ∙ sym y
 merge-text-settled (two-unwritten f x) (merging {b = b} p q m y) = absurd (f b q)
 merge-text-settled (merging {a = a} p q m y) (one-unwritten f x) = absurd (f a p)
 merge-text-settled (merging {b = b} p q m y) (two-unwritten f x) = absurd (f b q)
-merge-text-settled (merging {a = a} {b = b} {r = r} p q m x) (merging {a = c} {b = d} {r = s} i j n y) =
+merge-text-settled (merging {a = a} {b = b} {r = r} p q m x)
+    (merging {a = c} {b = d} {r = s} i j n y) =
     let k = rw (sym (report-one p i), sym (report-one q j)) at n in
     x ∙ ap reportText (merged-settled m k) ∙ sym y

@@ -15,8 +15,10 @@ use Rattle.scanning.specs.Scanned.{Starts}
 use Rattle.reports.specs.declared.Told.{Told}
 use Rattle.reports.specs.declared.Told.the-variants as Told
 use Rattle.reports.specs.Reports.{Report, a-refusal, a-clear, a-two, ReportOf}
-use Rattle.reports.specs.Rests.{pairText, ClearRest, TwoRest, RefusedRest, TwoTold, Found, Refused, TellsOf}
-use Rattle.reports.proofs.Beginnings.{clearStart, twoStart, refusedStart, clear-begins, two-begins, refusal-begins}
+use Rattle.reports.specs.Rests.{pairText, ClearRest, TwoRest, RefusedRest, TwoTold, Found}
+use Rattle.reports.specs.Rests.{Refused, TellsOf}
+use Rattle.reports.proofs.Beginnings.{clearStart, twoStart, refusedStart, clear-begins}
+use Rattle.reports.proofs.Beginnings.{two-begins, refusal-begins}
 
 module _ (s : List ℕ) where
   -- how a report begins, and what follows
@@ -31,15 +33,36 @@ module _ (s : List ℕ) where
       go : Report r → Begins
       go (a-refusal {f = f} {l = l} h e) =
           let p = x .written ∙ ap reportText e ∙ refusal-begins f l in
-          with-refusal (record { rest = decimal (numberOf f) ++ (32 ∷ (decimal l ++ (10 ∷ []))); is = p }) (record { fault = f; line = l; low = h; is = ap (drop 20) p })
+          with-refusal (record {
+            rest = decimal (numberOf f)
+                ++ (32 ∷ (decimal l ++ (10 ∷ [])));
+            is = p;
+          })
+          (record { fault = f; line = l; low = h; is = ap (drop 20) p })
       go (a-clear {q = q} {m = m} h k e) =
           let p = x .written ∙ ap reportText e ∙ clear-begins q m in
-          with-clear (record { rest = pairText q m (45 ∷ 10 ∷ []); is = p }) (record { quotient = q; remainder = m; low = h; small = k; is = ap (drop 46) p })
+          with-clear (record { rest = pairText q m (45 ∷ 10 ∷ []); is = p })
+          (record { quotient = q; remainder = m; low = h; small = k; is = ap (drop 46) p })
       go (a-two {N = N} {q = q} {m = m} w h k j a b g e) =
           let p = x .written ∙ ap reportText e ∙ two-begins N q m w in
           with-two
-          (record { rest = pairText q m (decimal N ++ (10 ∷ (tokenNames ++ (10 ∷ tokenLines w)))); is = p })
-          (record { quotient = q; remainder = m; low = k; small = j; least = h; word = w; tokens = record { some = a; few = b; good = g }; count = refl; is = ap (drop 44) p })
+          (record {
+            rest =
+                pairText q m (decimal N ++ (10 ∷ (tokenNames ++ (10 ∷ tokenLines w))));
+            is = p;
+          })
+          (record {
+            quotient = q;
+            remainder = m;
+            low = k;
+            small = j;
+            least = h;
+            word = w;
+            tokens =
+                record { some = a; few = b; good = g };
+            count = refl;
+            is = ap (drop 44) p;
+          })
 
   -- no text begins in two of these ways
   apart : {a b : ℕ} → getD s 12 0 ≡ a → getD s 12 0 ≡ b → (a ≡ b → ⊥) → ⊥
@@ -67,7 +90,8 @@ module _ (s : List ℕ) where
             record {
               report = a-clear (y .low) (y .small) refl;
               written =
-                  x .is ∙ ap (λ (l : List ℕ). clearStart ++ l) (sym (ap (drop 46) (x .is)) ∙ y .is) ∙ sym (clear-begins (y .quotient) (y .remainder));
+                  x .is ∙ ap (λ (l : List ℕ). clearStart ++ l) (sym (ap (drop 46) (x .is)) ∙ y .is)
+                  ∙ sym (clear-begins (y .quotient) (y .remainder));
             };
         taken = λ z. z;
         count = refl;
@@ -100,9 +124,11 @@ module _ (s : List ℕ) where
         reply = shareReplyOf Answer.Two N (y .quotient) (y .remainder) (y .word);
         of =
             record {
-              report = a-two (y .word) (y .least) (y .low) (y .small) (y .tokens .some) (y .tokens .few) (y .tokens .good) refl;
+              report = a-two (y .word) (y .least) (y .low) (y .small) (y .tokens .some)
+                  (y .tokens .few) (y .tokens .good) refl;
               written =
-                  x .is ∙ ap (λ (l : List ℕ). twoStart ++ l) (sym (ap (drop 44) (x .is)) ∙ y .is) ∙ sym (two-begins N (y .quotient) (y .remainder) (y .word));
+                  x .is ∙ ap (λ (l : List ℕ). twoStart ++ l) (sym (ap (drop 44) (x .is)) ∙ y .is)
+                  ∙ sym (two-begins N (y .quotient) (y .remainder) (y .word));
             };
         taken = λ z. z;
         count = y .count;
@@ -122,7 +148,9 @@ module _ (s : List ℕ) where
             record {
               report = a-refusal (y .low) refl;
               written =
-                  x .is ∙ ap (λ (l : List ℕ). refusedStart ++ l) (sym (ap (drop 20) (x .is)) ∙ y .is) ∙ sym (refusal-begins (y .fault) (y .line));
+                  x .is ∙ ap (λ (l : List ℕ). refusedStart ++ l)
+                  (sym (ap (drop 20) (x .is)) ∙ y .is)
+                  ∙ sym (refusal-begins (y .fault) (y .line));
             };
         refuses = tt;
       }
@@ -137,7 +165,8 @@ module _ (s : List ℕ) where
 
   -- 4. none of these
 
-  pub none-tells : (Starts s clearStart → ⊥) → (Starts s twoStart → ⊥) → (Starts s refusedStart → ⊥) → TellsOf s Told.Not
+  pub none-tells : (Starts s clearStart → ⊥) → (Starts s twoStart → ⊥) → (Starts s refusedStart → ⊥)
+      → TellsOf s Told.Not
   none-tells a b c r y = go (begins y)
     where
       go : Begins → ⊥

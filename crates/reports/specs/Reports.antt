@@ -26,9 +26,10 @@ pub record ReportToken (t : Token) : Type 0 where
 -- tokens. Its numbers are at most that of refusal 24
 pub data Report (r : ShareReply) : Type 0 where
   a-refusal : {f : Fault} {l : ℕ} → l ≤ sweepLimit → r ≡ shareRefusal f l → Report r
-  a-clear : {q m : ℕ} → q ≤ sweepLimit → m ≤ sweepLimit → r ≡ shareReplyOf Answer.Clear 0 q m [] → Report r
-  a-two : {N q m : ℕ} (w : Word) → N ≤ sweepLimit → q ≤ sweepLimit → m ≤ sweepLimit → 1 ≤ length w → length w ≤ 7 → Every ReportToken w
-      → r ≡ shareReplyOf Answer.Two N q m w → Report r
+  a-clear : {q m : ℕ} → q ≤ sweepLimit → m ≤ sweepLimit → r ≡ shareReplyOf Answer.Clear 0 q m []
+      → Report r
+  a-two : {N q m : ℕ} (w : Word) → N ≤ sweepLimit → q ≤ sweepLimit → m ≤ sweepLimit → 1 ≤ length w
+      → length w ≤ 7 → Every ReportToken w → r ≡ shareReplyOf Answer.Two N q m w → Report r
 
 -- the text of a report
 pub record ReportOf (text : List ℕ) (r : ShareReply) : Type 0 where
@@ -37,6 +38,9 @@ pub record ReportOf (text : List ℕ) (r : ShareReply) : Type 0 where
 
 -- the output for two reports: refused-32 where one is not so written, else that of the merged one
 pub data MergeText (one two text : List ℕ) : Type 0 where
-  one-unwritten : ((r : ShareReply) → ReportOf one r → ⊥) → text ≡ head (refusedText 32) 0 → MergeText one two text
-  two-unwritten : ((r : ShareReply) → ReportOf two r → ⊥) → text ≡ head (refusedText 32) 0 → MergeText one two text
-  merging : {a b r : ShareReply} → ReportOf one a → ReportOf two b → Merged a b r → text ≡ reportText r → MergeText one two text
+  one-unwritten : ((r : ShareReply) → ReportOf one r → ⊥) → text ≡ head (refusedText 32) 0
+      → MergeText one two text
+  two-unwritten : ((r : ShareReply) → ReportOf two r → ⊥) → text ≡ head (refusedText 32) 0
+      → MergeText one two text
+  merging : {a b r : ShareReply} → ReportOf one a → ReportOf two b → Merged a b r
+      → text ≡ reportText r → MergeText one two text

@@ -59,7 +59,8 @@ pub record PairTo (s : List ℕ) (at next : ℕ) : Type 0 where
   pub is : drop at s ≡ pairText quotient remainder (drop next s)
 
 pub record NoPair (s : List ℕ) (at : ℕ) : Type 0 where
-  pub none : (q m : ℕ) (rest : List ℕ) → q ≤ sweepLimit → m ≤ sweepLimit → drop at s ≡ pairText q m rest → ⊥
+  pub none : (q m : ℕ) (rest : List ℕ) → q ≤ sweepLimit → m ≤ sweepLimit
+      → drop at s ≡ pairText q m rest → ⊥
 
 abbrev pub PairAt : List ℕ → ℕ → Place → Type 0
 PairAt s at (At next) = PairTo s at next
@@ -83,7 +84,8 @@ pub record TwoRest (text : List ℕ) (n N : ℕ) : Type 0 where
   pub word : Word
   pub tokens : Tokens word
   pub count : length word ≡ n
-  pub is : text ≡ pairText quotient remainder (decimal N ++ (10 ∷ (tokenNames ++ (10 ∷ tokenLines word))))
+  pub is : text ≡ pairText quotient remainder
+      (decimal N ++ (10 ∷ (tokenNames ++ (10 ∷ tokenLines word))))
 
 -- what follows `refused-`
 pub record RefusedRest (text : List ℕ) : Type 0 where
@@ -131,4 +133,5 @@ TakenOf Told.Refused Told.Refused r = r ≡ Taken.One
 TakenOf Told.Refused (Told.Found m M) r = r ≡ Taken.One
 TakenOf (Told.Found n N) Told.Not r = r ≡ Taken.Neither
 TakenOf (Told.Found n N) Told.Refused r = r ≡ Taken.Two
-TakenOf (Told.Found n N) (Told.Found m M) r = ((r ≡ Taken.Two) × Leads m M n N) ⊎ ((r ≡ Taken.One) × (Leads m M n N → ⊥))
+TakenOf (Told.Found n N) (Told.Found m M) r =
+    ((r ≡ Taken.Two) × Leads m M n N) ⊎ ((r ≡ Taken.One) × (Leads m M n N → ⊥))

@@ -13,7 +13,8 @@ ghost use lib.ListN.{length, drop};
 ghost use Rattle.sets.specs.Says.{Says};
 ghost use Rattle.text.specs.Printed.{Printed};
 ghost use Rattle.reports.specs.Reports.{MergeText};
-ghost use Rattle.reports.specs.Rests.{TokenAt, Lines, PairAt, ClearRest, TwoTold, OfFault, RefusedRest, TellsOf, TakenOf};
+ghost use Rattle.reports.specs.Rests.{TokenAt, Lines, PairAt, ClearRest, TwoTold, OfFault};
+ghost use Rattle.reports.specs.Rests.{RefusedRest, TellsOf, TakenOf};
 ghost use Rattle.reports.specs.declared.Told.the-variants as Told;
 
 // What a text tells: it is no report, a refusal, or a report of some tokens with its number, both 0
@@ -212,7 +213,8 @@ fn which(a: Told, b: Told) -> Taken
 // The whole output of the call `merge` on two reports; its length.
 pub fn merge_text(one: &[u8], two: &[u8], out: &mut [u8]) -> usize
     requires { ⌜ 262144 ≤ length (now out) ⌝ }
-    ensures { λ r. ⌜ Printed (MergeText (now (one .entry))) (now (two .entry)) (now (out .entry)) (now (out .exit)) r ⌝ }
+    ensures { λ r. ⌜ Printed (MergeText (now (one .entry))) (now (two .entry)) (now (out .entry))
+        (now (out .exit)) r ⌝ }
 {
     let a = report(one);
     let b = report(two);

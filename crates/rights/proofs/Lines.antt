@@ -25,7 +25,8 @@ use Rattle.tree_view.proofs.Members.{member-none}
 use Rattle.rights.specs.declared.Right.{Right}
 use Rattle.rights.specs.declared.RightLine.{RightLine}
 use Rattle.rights.specs.declared.RightLine.the-variants as RightLine
-use Rattle.rights.specs.RightLines.{mayOf, lastOf, rightOf, afterHigh, afterLow, afterUser, rightLine}
+use Rattle.rights.specs.RightLines.{mayOf, lastOf, rightOf, afterHigh, afterLow, afterUser}
+use Rattle.rights.specs.RightLines.{rightLine}
 use Rattle.rights.specs.RightSheets.{rightSaid, rightLineStep, rightStep, itemsOf, covers}
 use Rattle.fields.specs.Cursors.{piecesFrom, lineAt, bytesLeft}
 use Rattle.tree_view.specs.Members.{member}
@@ -33,11 +34,13 @@ use Rattle.rights.specs.Answers.{RightsHeld}
 
 -- 1. a line by what it is
 
-pub step-turn : (line : List ℕ) (ended : Bool) → stepAt 50 50 (rightSaid (rightLine line)) (turnOf 1 0 line ended) ≡ rightLineStep line ended
+pub step-turn : (line : List ℕ) (ended : Bool)
+    → stepAt 50 50 (rightSaid (rightLine line)) (turnOf 1 0 line ended) ≡ rightLineStep line ended
 step-turn line true = refl
 step-turn line false = go (isEmpty line)
   where
-    go : (b : Bool) → stepAt 50 50 (rightSaid (rightLine line)) (cond b Turn.End Turn.Open) ≡ cond b end (stop 50)
+    go : (b : Bool) → stepAt 50 50 (rightSaid (rightLine line)) (cond b Turn.End Turn.Open)
+        ≡ cond b end (stop 50)
     go true = refl
     go false = refl
 
@@ -54,8 +57,11 @@ RangedLine RightLine.Bad = Unit {0}
 of-ranged : (u l h : ℕ) (m : Bool) → RangedLine (rightOf u l h m)
 of-ranged u l h m = go (leb u 15) (leb h 63) refl (leb l h) refl
   where
-    go : (a b : Bool) → leb h 63 ≡ b → (c : Bool) → leb l h ≡ c → RangedLine (cond (a && (b && c)) (RightLine.Good (record { user = u; low = l; high = h; change = m })) RightLine.Bad)
-    go true true e true f = let p = leb-true h 63 e in let q = leb-true l h f in record { rises = q; small = omega arith }
+    go : (a b : Bool) → leb h 63 ≡ b → (c : Bool) → leb l h ≡ c
+        → RangedLine (cond (a && (b && c))
+        (RightLine.Good (record { user = u; low = l; high = h; change = m })) RightLine.Bad)
+    go true true e true f = let p = leb-true h 63 e in let q = leb-true l h f in
+        record { rises = q; small = omega arith }
     go true true e false f = tt
     go true false e c f = tt
     go false b e c f = tt
@@ -71,14 +77,15 @@ line-ranged : (line : List ℕ) → RangedLine (rightLine line)
 line-ranged line =
     with-holds RangedLine RightLine.Bad tt numeralOf afterUser
     (λ u. with-holds RangedLine RightLine.Bad tt numeralOf (afterLow u)
-    (λ l. with-holds RangedLine RightLine.Bad tt numeralOf (afterHigh u l) (λ h. high-ranged u l h)))
-    (pieces 32 line)
+    (λ l. with-holds RangedLine RightLine.Bad tt numeralOf (afterHigh u l)
+    (λ h. high-ranged u l h))) (pieces 32 line)
 
 next-inj : (q r : Right) → next q ≡ next r → q ≡ r
 next-inj q r e = cc
 
 -- a line that gives a right is ended, and the right has a range
-pub gives-right : (line : List ℕ) (ended : Bool) (r : Right) → next r ≡ rightLineStep line ended → (ended ≡ true) × RightRanged r
+pub gives-right : (line : List ℕ) (ended : Bool) (r : Right) → next r ≡ rightLineStep line ended
+    → (ended ≡ true) × RightRanged r
 gives-right line true r e = (refl, go (rightLine line) (line-ranged line) e)
   where
     go : (x : RightLine) → RangedLine x → next r ≡ rightSaid x → RightRanged r
@@ -92,7 +99,8 @@ gives-right line false r e = absurd (go (isEmpty line) e)
 
 -- 3. the sets after one right more
 
-any-snoc : (p : Right → Bool) (l : List Right) (r : Right) → anyOf p (l ++ r ∷ []) ≡ anyOf p l || p r
+any-snoc : (p : Right → Bool) (l : List Right) (r : Right)
+    → anyOf p (l ++ r ∷ []) ≡ anyOf p l || p r
 any-snoc p [] r = go (p r)
   where
     go : (b : Bool) → b || false ≡ b
@@ -108,13 +116,18 @@ pub holds-none : (u : ℕ) → RightsHeld [] u 0 0
 holds-none u = record { see = member-none; change = member-none }
 
 pub holds-more : {rs : List Right} {u a b a′ b′ : ℕ} (r : Right) → RightsHeld rs u a b
-    → ((A : ℕ) → member a′ A ≡ member a A || covers r u A) → ((A : ℕ) → member b′ A ≡ member b A || (r .change && covers r u A)) → RightsHeld (rs ++ r ∷ []) u a′ b′
+    → ((A : ℕ) → member a′ A ≡ member a A || covers r u A)
+    → ((A : ℕ) → member b′ A ≡ member b A || (r .change && covers r u A))
+    → RightsHeld (rs ++ r ∷ []) u a′ b′
 holds-more {rs} {u} r x f g = record {
-  see = λ A. f A ∙ ap (λ (t : Bool). t || covers r u A) (x .see A) ∙ sym (any-snoc (λ q. covers q u A) rs r);
-  change = λ A. g A ∙ ap (λ (t : Bool). t || (r .change && covers r u A)) (x .change A) ∙ sym (any-snoc (λ q. q .change && covers q u A) rs r);
+  see = λ A. f A ∙ ap (λ (t : Bool). t || covers r u A) (x .see A)
+      ∙ sym (any-snoc (λ q. covers q u A) rs r);
+  change = λ A. g A ∙ ap (λ (t : Bool). t || (r .change && covers r u A)) (x .change A)
+      ∙ sym (any-snoc (λ q. q .change && covers q u A) rs r);
 }
 
--- 4. the loop: n rights are read, the sets are what they give, and the rest of the sheet says after them what the sheet says
+-- 4. the loop: n rights are read, the sets are what they give, and the rest of the sheet says after
+-- them what the sheet says
 
 pub record Reading-on (s : List ℕ) (start u sees changes n at : ℕ) : Type 0 where
   pub low : at ≤ length s
@@ -125,23 +138,35 @@ pub record Reading-on (s : List ℕ) (start u sees changes n at : ℕ) : Type 0 
   pub holds : RightsHeld rights u sees changes
 
 pub on-start : (s : List ℕ) (start u : ℕ) → start ≤ length s → Reading-on s start u 0 0 0 start
-on-start s start u h = record { low = h; count = omega arith; rights = []; many = refl; same = refl; holds = holds-none u }
+on-start s start u h = record {
+  low = h;
+  count = omega arith;
+  rights = [];
+  many = refl;
+  same = refl;
+  holds = holds-none u;
+}
 
-module _ {s : List ℕ} {start u sees changes n at : ℕ} (T : Reading-on s start u sees changes n at) {c : Cursor} (is : c ≡ lineAt s at) where
+module _ {s : List ℕ} {start u sees changes n at : ℕ} (T : Reading-on s start u sees changes n at)
+    {c : Cursor} (is : c ≡ lineAt s at) where
   abbrev made : Step Right
   made = rightLineStep (bytesLeft s c) (ltb (c .end) (length s))
 
-  turn : itemsOf (piecesFrom 10 s start) ≡ onStep (T .rights) made (λ t. itemsFrom rightStep (T .rights ++ t ∷ []) (piecesFrom 10 s (c .end + 1)))
+  turn : itemsOf (piecesFrom 10 s start) ≡ onStep (T .rights) made
+      (λ t. itemsFrom rightStep (T .rights ++ t ∷ []) (piecesFrom 10 s (c .end + 1)))
   turn = T .same ∙ rw (line-cut s at (T .low) c is, more-left 10 s (c .end)) refl
 
   pub on-took : {r : Right} → next r ≡ made → (c .end < length s) × RightRanged r
-  on-took {r} h = let g = gives-right (bytesLeft s c) (ltb (c .end) (length s)) r h in (ltb-true (c .end) (length s) (g .0), g .1)
+  on-took {r} h = let g = gives-right (bytesLeft s c) (ltb (c .end) (length s)) r h in
+      (ltb-true (c .end) (length s) (g .0), g .1)
 
   pub on-less : {r : Right} → next r ≡ made → length s - (c .end + 1) < length s - at
   on-less h = omega (arith, on-took h .0, line-less s at (T .low) c is)
 
-  pub on-more : {r : Right} → next r ≡ made → {sees′ changes′ : ℕ} → ((A : ℕ) → member sees′ A ≡ member sees A || covers r u A)
-      → ((A : ℕ) → member changes′ A ≡ member changes A || (r .change && covers r u A)) → Reading-on s start u sees′ changes′ (n + 1) (c .end + 1)
+  pub on-more : {r : Right} → next r ≡ made → {sees′ changes′ : ℕ}
+      → ((A : ℕ) → member sees′ A ≡ member sees A || covers r u A)
+      → ((A : ℕ) → member changes′ A ≡ member changes A || (r .change && covers r u A))
+      → Reading-on s start u sees′ changes′ (n + 1) (c .end + 1)
   on-more {r} h f g = record {
     low = omega (arith, on-took h .0);
     count = omega (arith, T .count, line-less s at (T .low) c is);

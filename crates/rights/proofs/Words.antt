@@ -34,7 +34,11 @@ more-none : (u v : List ℕ) → lastOf mayOf (u ∷ pieces 32 v) ≡ none
 more-none u v = rw (pieces-first 32 v)
 
 blank-none : (u v : List ℕ) → mayOf (u ++ 32 ∷ v) ≡ none
-blank-none u v = rw (blank-not u v (115 ∷ 101 ∷ 101 ∷ []) (refl, (refl, (refl, tt))), blank-not u v (99 ∷ 104 ∷ 97 ∷ 110 ∷ 103 ∷ 101 ∷ []) (refl, (refl, (refl, (refl, (refl, (refl, tt)))))))
+blank-none u v = rw (
+  blank-not u v (115 ∷ 101 ∷ 101 ∷ []) (refl, (refl, (refl, tt))),
+  blank-not u v
+      (99 ∷ 104 ∷ 97 ∷ 110 ∷ 103 ∷ 101 ∷ []) (refl, (refl, (refl, (refl, (refl, (refl, tt)))))),
+)
 
 -- what is left is one field exactly where it has no blank
 last-pieces : (b : List ℕ) → lastOf mayOf (pieces 32 b) ≡ mayOf b
@@ -52,13 +56,16 @@ module _ (s : List ℕ) (c : Cursor) (inside : c .end ≤ length s) where
     may-left : lastOf mayOf (fieldsLeft s c) ≡ mayOf (bytesLeft s c)
     may-left = ap (lastOf mayOf) (fields-of s c low inside) ∙ last-pieces (bytesLeft s c)
 
-    pub may-see : true ≡ sameBytes (bytesLeft s c) (115 ∷ 101 ∷ 101 ∷ []) → May.See ≡ asMay (lastOf mayOf (fieldsLeft s c))
+    pub may-see : true ≡ sameBytes (bytesLeft s c) (115 ∷ 101 ∷ 101 ∷ [])
+        → May.See ≡ asMay (lastOf mayOf (fieldsLeft s c))
     may-see e = sym (ap asMay (may-left ∙ hit (sym e) _ _))
 
-    pub may-change : false ≡ sameBytes (bytesLeft s c) (115 ∷ 101 ∷ 101 ∷ []) → true ≡ sameBytes (bytesLeft s c) (99 ∷ 104 ∷ 97 ∷ 110 ∷ 103 ∷ 101 ∷ [])
+    pub may-change : false ≡ sameBytes (bytesLeft s c) (115 ∷ 101 ∷ 101 ∷ [])
+        → true ≡ sameBytes (bytesLeft s c) (99 ∷ 104 ∷ 97 ∷ 110 ∷ 103 ∷ 101 ∷ [])
         → May.Change ≡ asMay (lastOf mayOf (fieldsLeft s c))
     may-change e f = sym (ap asMay (may-left ∙ skip (sym e) _ _ _ (hit (sym f) _ _)))
 
-    pub may-not : false ≡ sameBytes (bytesLeft s c) (115 ∷ 101 ∷ 101 ∷ []) → false ≡ sameBytes (bytesLeft s c) (99 ∷ 104 ∷ 97 ∷ 110 ∷ 103 ∷ 101 ∷ [])
+    pub may-not : false ≡ sameBytes (bytesLeft s c) (115 ∷ 101 ∷ 101 ∷ [])
+        → false ≡ sameBytes (bytesLeft s c) (99 ∷ 104 ∷ 97 ∷ 110 ∷ 103 ∷ 101 ∷ [])
         → May.Not ≡ asMay (lastOf mayOf (fieldsLeft s c))
     may-not e f = sym (ap asMay (may-left ∙ skip (sym e) _ _ _ (miss (sym f) _ _)))

@@ -25,7 +25,8 @@ lastOf read (f ∷ g ∷ fs) = none
 
 -- its user 0 to 15, its range 0 to 63 and not reversed
 abbrev pub rightOf : ℕ → ℕ → ℕ → Bool → RightLine
-rightOf u l h m = cond (leb u 15 && (leb h 63 && leb l h)) (Good (record { user = u; low = l; high = h; change = m })) Bad
+rightOf u l h m = cond (leb u 15 && (leb h 63 && leb l h))
+    (Good (record { user = u; low = l; high = h; change = m })) Bad
 
 -- four fields: three numbers as in rule sheets, then what the user may do
 abbrev pub afterHigh : ℕ → ℕ → ℕ → List (List ℕ) → RightLine

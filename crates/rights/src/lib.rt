@@ -1,4 +1,5 @@
-// The rights sheet: what a user may see and what a user may change, as sets of nonterminals; or refusal 50 with its line.
+// The rights sheet: what a user may see and what a user may change, as sets of nonterminals; or
+// refusal 50 with its line.
 use fields::Cursor;
 use fields::NumberField;
 use fields::same;
@@ -19,7 +20,8 @@ ghost use Rattle.rights.specs.Answers.{asMay, asStep, RightsGiven};
 ghost use Rattle.fields.specs.Cursors.{bytesLeft, fieldsLeft, piecesFrom};
 ghost use Rattle.tree_view.specs.Members.{member};
 
-// A line of a rights sheet: its user, its range of nonterminals, and whether it says `change`, which includes seeing.
+// A line of a rights sheet: its user, its range of nonterminals, and whether it says `change`,
+// which includes seeing.
 pub struct Right {
     pub user: u8,
     pub low: u8,
@@ -47,7 +49,8 @@ pub enum RightStep {
     End,
 }
 
-// What the sheet gives a user: the sets of nonterminals that the user may see and may change; both are empty where it is refused.
+// What the sheet gives a user: the sets of nonterminals that the user may see and may change; both
+// are empty where it is refused.
 pub struct RightsRead {
     pub outcome: Outcome,
     pub sees: u64,
@@ -119,7 +122,8 @@ fn right_line(s: &[u8], c: Cursor) -> RightLine
 // What the cursor's line gives.
 fn right_step(s: &[u8], c: Cursor) -> RightStep
     requires { ⌜ (c .at ≤ c .end) × (c .end ≤ length (now s)) ⌝ }
-    ensures { λ r. ⌜ asStep r ≡ rightLineStep (bytesLeft (now (s .entry)) c) (ltb (c .end) (length (now (s .entry)))) ⌝ }
+    ensures { λ r. ⌜ asStep r ≡ rightLineStep (bytesLeft (now (s .entry)) c)
+        (ltb (c .end) (length (now (s .entry)))) ⌝ }
 {
     match turn_at(s, c, 0, 1) {
         Turn::End => RightStep::End,

@@ -12,7 +12,8 @@ ghost use Rattle.rights_text.specs.Texts.{ShowText, ChangeText};
 // The answer on a rule sheet and a token sheet, and its trees as the user may see them; its length.
 pub fn show_text(rules: &[u8], tokens: &[u8], rights: &[u8], user: u32, out: &mut [u8]) -> usize
     requires { ⌜ 262144 ≤ length (now out) ⌝ }
-    ensures { λ r. ⌜ Printed (ShowText (now (rules .entry)) (now (tokens .entry)) (now (rights .entry))) user (now (out .entry)) (now (out .exit)) r ⌝ }
+    ensures { λ r. ⌜ Printed (ShowText (now (rules .entry)) (now (tokens .entry))
+        (now (rights .entry))) user (now (out .entry)) (now (out .exit)) r ⌝ }
 {
     let mut words = [0u64; 4162];
     let mut one = [0u8; 16384];
@@ -34,7 +35,8 @@ pub fn change_text(
     out: &mut [u8],
 ) -> usize
     requires { ⌜ 262144 ≤ length (now out) ⌝ }
-    ensures { λ r. ⌜ Printed (ChangeText (now (rules .entry)) (now (rights .entry)) user rule) (now (lay .entry)) (now (out .entry)) (now (out .exit)) r ⌝ }
+    ensures { λ r. ⌜ Printed (ChangeText (now (rules .entry)) (now (rights .entry)) user rule)
+        (now (lay .entry)) (now (out .entry)) (now (out .exit)) r ⌝ }
 {
     let mut sheet = [0u8; 16400];
     let u = user as usize;

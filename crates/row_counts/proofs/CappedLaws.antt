@@ -38,7 +38,8 @@ unfolding capped
 capped-same n goal h q = omega arith
 
 -- a walk counts: total rows so far, own of a node with 1 + x, y to come, z due with it
-pub sum-on : (total own total′ x y z goal : ℕ) → capped (total + z) ≡ capped goal → own ≡ capped (1 + x) → total′ ≡ capped (total + own) → z ≡ (1 + x) + y
+pub sum-on : (total own total′ x y z goal : ℕ) → capped (total + z) ≡ capped goal
+    → own ≡ capped (1 + x) → total′ ≡ capped (total + own) → z ≡ (1 + x) + y
     → capped (total′ + y) ≡ capped goal
 unfolding capped
 sum-on total own total′ x y z goal e f h k = omega arith

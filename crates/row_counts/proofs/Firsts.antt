@@ -21,20 +21,25 @@ use Rattle.tree_choices.proofs.Pending.{nodeShape, aim-step}
 use Rattle.row_counts.specs.Walks.{FirstThere}
 use Rattle.grammar.specs.Distinct.{Distinct}
 
-pub first-shape : {g : Rules} → Distinct g → (t : Tree) → AllPreferred g t → (A : ℕ) (w : Word) → root t ≡ A → word t ≡ w → (st : Step) → PickedStep g A w false st
+pub first-shape : {g : Rules} → Distinct g → (t : Tree) → AllPreferred g t → (A : ℕ) (w : Word)
+    → root t ≡ A → word t ≡ w → (st : Step) → PickedStep g A w false st
     → st ≡ nodeShape (st .seeking) t
 first-shape d t f A w a b st c =
     c .step
-    ∙ aim-step d false (record { tree = t; start = 0 }) [] (f, tt) (c .place) (c .split) (st .seeking) (rw (a, b) (c .picks)) (c .rule) (c .stands) .0
+    ∙ aim-step d false (record { tree = t; start = 0 }) [] (f, tt) (c .place) (c .split)
+    (st .seeking) (rw (a, b) (c .picks)) (c .rule) (c .stands) .0
 
-pub first-choice : {g : Rules} (t : Tree) → AllPreferred g t → (A : ℕ) (w : Word) → root t ≡ A → word t ≡ w → HasChoice g A w
-first-choice {g} t f A w a b = let n = top-of g (Preferred g) t f in (n .place, n .split, rw (← a, ← b) (preferred-choice g _ _ _ _ (n .holds)))
+pub first-choice : {g : Rules} (t : Tree) → AllPreferred g t → (A : ℕ) (w : Word) → root t ≡ A
+    → word t ≡ w → HasChoice g A w
+first-choice {g} t f A w a b = let n = top-of g (Preferred g) t f in
+    (n .place, n .split, rw (← a, ← b) (preferred-choice g _ _ _ _ (n .holds)))
 
 -- the root of a first tree is a nonterminal
 pub root-small : {g : Grammar} → Formed g → (t : Tree) → AllPreferred (rules g) t → root t < 64
 root-small {g} f t h =
     let n = top-of (rules g) (Preferred (rules g)) t h in
-    let r = mem-every SmallRule (rules g) (f .small) (member-at (rules g) (n .place) (n .takes .stands)) in
+    let r = mem-every SmallRule (rules g) (f .small)
+    (member-at (rules g) (n .place) (n .takes .stands)) in
     omega (arith, r .left, top-left t (n .takes .rule) (n .split) (n .takes .top))
 
 -- the whole sentence as a span

@@ -23,17 +23,22 @@ more-of n c h e = omega arith
 
 -- ---- what is counted is settled, and so is what is said of it
 
-pub counted-unique : {g : Rules} → Distinct g → {w : Word} {m n m′ n′ : ℕ} → Counted g w m n → Counted g w m′ n′ → (m ≡ m′) × (n ≡ n′)
+pub counted-unique : {g : Rules} → Distinct g → {w : Word} {m n m′ n′ : ℕ} → Counted g w m n
+    → Counted g w m′ n′ → (m ≡ m′) × (n ≡ n′)
 counted-unique d (treeless p x y) (treeless q a b) = (omega arith, omega arith)
 counted-unique d (treeless p x y) (single q f a b) = absurd (none-not-one p q)
 counted-unique d (treeless p x y) (both q f s a b) = absurd (none-not-two p q)
 counted-unique d (single p f x y) (treeless q a b) = absurd (none-not-one q p)
-counted-unique d (single p f x y) (single q f′ a b) = (x ∙ ap rowCount (first-unique f f′) ∙ sym a, omega arith)
+counted-unique d (single p f x y) (single q f′ a b) =
+    (x ∙ ap rowCount (first-unique f f′) ∙ sym a, omega arith)
 counted-unique d (single p f x y) (both q f′ s a b) = absurd (one-not-two p q)
 counted-unique d (both p f s x y) (treeless q a b) = absurd (none-not-two q p)
 counted-unique d (both p f s x y) (single q f′ a b) = absurd (one-not-two q p)
-counted-unique d (both p f s x y) (both q f′ s′ a b) =
-    (x ∙ ap rowCount (first-unique f f′) ∙ sym a, y ∙ ap rowCount (second-tree-unique d s s′) ∙ sym b)
+counted-unique d (both p f s x y) (both q f′ s′ a b) = (
+  x ∙ ap rowCount (first-unique f f′) ∙ sym a,
+  y ∙ ap rowCount (second-tree-unique d s s′)
+      ∙ sym b,
+)
 
 pub tells-one : (a b : RowCount) (n : ℕ) → Tells a n → Tells b n → a ≡ b
 tells-one (RowCount.Exact c) (RowCount.Exact e) n p q = ap RowCount.Exact (p .0 ∙ sym (q .0))

@@ -48,7 +48,8 @@ module _ (z : List ℕ) (B C : ℕ) where
   one-some zero r h e = absurd (h refl)
   one-some (suc x) r h e = e ∙ ap capped (let q : 1 + suc x ≡ suc (suc x) = omega arith in q)
 
-  pub null-one : (k r : ℕ) → k ≡ 2 → (getD z B 0 ≡ 0 → ⊥) → r ≡ capped (1 + getD z B 0) → r ≡ nullSize z k B C
+  pub null-one : (k r : ℕ) → k ≡ 2 → (getD z B 0 ≡ 0 → ⊥) → r ≡ capped (1 + getD z B 0)
+      → r ≡ nullSize z k B C
   null-one k r q h e = one-some (getD z B 0) r h e ∙ ap (λ (j : ℕ). nullSize z j B C) (sym q)
 
   pub null-second : (k : ℕ) → (k < 2 → ⊥) → (k ≡ 2 → ⊥) → getD z C 0 ≡ 0 → 0 ≡ nullSize z k B C
@@ -57,14 +58,17 @@ module _ (z : List ℕ) (B C : ℕ) where
   null-second (suc (suc zero)) h q e = absurd (q refl)
   null-second (suc (suc (suc k))) h q e = two-none′ (getD z B 0) (getD z C 0) e
 
-  two-some : (x y s r : ℕ) → (x ≡ 0 → ⊥) → (y ≡ 0 → ⊥) → s ≡ capped (x + y) → r ≡ capped (1 + s) → r ≡ twoMore x y
+  two-some : (x y s r : ℕ) → (x ≡ 0 → ⊥) → (y ≡ 0 → ⊥) → s ≡ capped (x + y) → r ≡ capped (1 + s)
+      → r ≡ twoMore x y
   two-some zero y s r h k e f = absurd (h refl)
   two-some (suc x) zero s r h k e f = absurd (k refl)
   two-some (suc x) (suc y) s r h k e f =
-      f ∙ ap (λ (j : ℕ). capped (1 + j)) e ∙ ap capped (let q : 1 + capped (suc x + suc y) ≡ suc (capped (suc x + suc y)) = omega arith in q) ∙ capped-suc
-      (suc x + suc y)
+      f ∙ ap (λ (j : ℕ). capped (1 + j)) e ∙ ap capped
+      (let q : 1 + capped (suc x + suc y) ≡ suc (capped (suc x + suc y)) = omega arith in q)
+      ∙ capped-suc (suc x + suc y)
 
-  pub null-both : (k s r : ℕ) → (k < 2 → ⊥) → (k ≡ 2 → ⊥) → (getD z B 0 ≡ 0 → ⊥) → (getD z C 0 ≡ 0 → ⊥) → s ≡ capped (getD z B 0 + getD z C 0)
+  pub null-both : (k s r : ℕ) → (k < 2 → ⊥) → (k ≡ 2 → ⊥) → (getD z B 0 ≡ 0 → ⊥)
+      → (getD z C 0 ≡ 0 → ⊥) → s ≡ capped (getD z B 0 + getD z C 0)
       → r ≡ capped (1 + s) → r ≡ nullSize z k B C
   null-both zero s r h q a b e f = absurd (h (omega arith))
   null-both (suc zero) s r h q a b e f = absurd (h (omega arith))
@@ -72,15 +76,20 @@ module _ (z : List ℕ) (B C : ℕ) where
   null-both (suc (suc (suc k))) s r h q a b e f = two-some (getD z B 0) (getD z C 0) s r a b e f
 
 -- the children that a step names are nonterminals
-step-small : (c : Clause) (k : ℕ) (m : Bool) → SmallClause c → (stepOfClause c k m .first < 64) × (stepOfClause c k m .second < 64)
+step-small : (c : Clause) (k : ℕ) (m : Bool) → SmallClause c
+    → (stepOfClause c k m .first < 64) × (stepOfClause c k m .second < 64)
 step-small Clause.Empty k m s = (omega arith, omega arith)
 step-small (Clause.Atom a b) k m s = (omega arith, omega arith)
 step-small (Clause.Unary B u) k m s = (s, omega arith)
 step-small (Clause.Binary B C u) k m s = (s .0, s .1)
 
-pub chosen-small : {g : Grammar} {A : ℕ} {w : Word} {s : Bool} {st : Step} → Formed g → PickedStep (rules g) A w s st → (st .first < 64) × (st .second < 64)
+pub chosen-small : {g : Grammar} {A : ℕ} {w : Word} {s : Bool} {st : Step} → Formed g
+    → PickedStep (rules g) A w s st → (st .first < 64) × (st .second < 64)
 chosen-small {g} {st = st} f c =
     let r = mem-every SmallRule (rules g) (f .small) (member-at (rules g) (c .place) (c .stands)) in
     let x = step-small (c .rule .clause) (c .split) (st .seeking) (r .clause) in
-    let e = c .step in
-    (omega (arith, x .0, ap (λ (y : Step). y .first) e), omega (arith, x .1, ap (λ (y : Step). y .second) e))
+    let e = c .step in (
+      omega (arith, x .0, ap (λ (y : Step). y .first) e),
+      omega
+          (arith, x .1, ap (λ (y : Step). y .second) e),
+    )

@@ -1,4 +1,5 @@
--- The row counts of first trees over the empty word, one a nonterminal. For the contracts of inner functions only.
+-- The row counts of first trees over the empty word, one a nonterminal. For the contracts of inner
+-- functions only.
 use mathlib.Core.Path.{_≡_}
 use mathlib.Core.Bool.{Bool, true, false}
 use mathlib.Core.List.{List, [], _∷_}
@@ -24,7 +25,8 @@ pub record Nulls (g : Rules) (z : List ℕ) : Type 0 where
 -- those that are not 0 are
 pub record Sound (g : Rules) (z : List ℕ) : Type 0 where
   pub long : length z ≡ 64
-  pub each : (A : ℕ) → 0 < getD z A 0 → (t : Tree) × FirstTree g A [] t × (getD z A 0 ≡ capped (rowCount t))
+  pub each : (A : ℕ) → 0 < getD z A 0
+      → (t : Tree) × FirstTree g A [] t × (getD z A 0 ≡ capped (rowCount t))
 
 -- one more than the counts of the children; 0 where one is 0
 abbrev pub oneMore : ℕ → ℕ
@@ -64,7 +66,8 @@ pub record Passed (g : Rules) (D : ℕ → Type 0) (l m : List ℕ) (r : Bool) :
   pub sound : Sound g m
   pub found : r ≡ true → zeros m < zeros l
   pub same : r ≡ false → m ≡ l
-  pub tried : r ≡ false → (A : ℕ) (t : Tree) → D A → FirstTree g A [] t → KidsKnown l t → 0 < getD l A 0
+  pub tried : r ≡ false → (A : ℕ) (t : Tree) → D A → FirstTree g A [] t → KidsKnown l t
+      → 0 < getD l A 0
 
 -- either is true
 pub record Either (a b r : Bool) : Type 0 where

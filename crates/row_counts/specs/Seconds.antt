@@ -1,4 +1,5 @@
--- The way down the second tree to the node where it parts from the first. For the contracts of inner functions only.
+-- The way down the second tree to the node where it parts from the first. For the contracts of
+-- inner functions only.
 use mathlib.Core.Path.{_≡_}
 use mathlib.Core.Bool.{true, false}
 use mathlib.Core.List.{List}
@@ -37,8 +38,11 @@ pub record Onto (ws : List ℕ) (n kind B k i l : ℕ) : Type 0 where
 -- the child in which the second tree goes on: the left one where that has two trees
 pub record Onward (two : Type 0) (kind B C k i l : ℕ) (r : Way) : Type 0 where
   pub low : kind < 3 → (r .alone ≡ true) × (r .name ≡ B) × (r .start ≡ i) × (r .long ≡ l)
-  pub left : 3 ≤ kind → two → (r .alone ≡ false) × (r .name ≡ B) × (r .start ≡ i) × (r .long ≡ k) × (r .other ≡ C) × (r .from ≡ i + k) × (r .rest ≡ l - k)
-  pub right : 3 ≤ kind → (two → ⊥) → (r .alone ≡ false) × (r .name ≡ C) × (r .start ≡ i + k) × (r .long ≡ l - k) × (r .other ≡ B) × (r .from ≡ i) × (r .rest ≡ k)
+  pub left : 3 ≤ kind → two → (r .alone ≡ false) × (r .name ≡ B) × (r .start ≡ i) × (r .long ≡ k)
+      × (r .other ≡ C) × (r .from ≡ i + k) × (r .rest ≡ l - k)
+  pub right : 3 ≤ kind → (two → ⊥)
+      → (r .alone ≡ false) × (r .name ≡ C) × (r .start ≡ i + k) × (r .long ≡ l - k) × (r .other ≡ B)
+      × (r .from ≡ i) × (r .rest ≡ k)
 
 -- the first tree beside the way, where there is one
 pub record BesideThere (g : Rules) (w : Word) (d : Way) : Type 0 where
@@ -49,4 +53,5 @@ pub record BesideThere (g : Rules) (w : Word) (d : Way) : Type 0 where
 -- r is the node's own row and the rows of that tree
 pub record Beside (g : Rules) (w : Word) (d : Way) (r : ℕ) : Type 0 where
   pub alone : d .alone ≡ true → r ≡ 1
-  pub other : d .alone ≡ false → (t : Tree) → FirstTree g (d .other) (part w (d .from) (d .rest)) t → r ≡ capped (1 + rowCount t)
+  pub other : d .alone ≡ false → (t : Tree) → FirstTree g (d .other) (part w (d .from) (d .rest)) t
+      → r ≡ capped (1 + rowCount t)

@@ -1,4 +1,5 @@
--- The walk along the nodes of a first tree that have tokens. For the contracts of inner functions only.
+-- The walk along the nodes of a first tree that have tokens. For the contracts of inner functions
+-- only.
 use mathlib.Core.Path.{_≡_}
 use mathlib.Core.List.{List}
 use Prim.Native.Nat.{ℕ, _+_, _≤_, _<_}
@@ -13,7 +14,8 @@ pub record FirstThere (g : Rules) (A : ℕ) (w : Word) : Type 0 where
   pub tree : Tree
   pub first : FirstTree g A w tree
 
--- r is the row of a node of a kind over l tokens, with children B and C and k tokens on its left, and the rows of a child over the empty word
+-- r is the row of a node of a kind over l tokens, with children B and C and k tokens on its left,
+-- and the rows of a child over the empty word
 pub record Own (z : List ℕ) (kind B C k l r : ℕ) : Type 0 where
   pub low : kind < 3 → r ≡ 1
   pub left : 3 ≤ kind → k ≡ 0 → r ≡ capped (1 + getD z B 0)

@@ -1,5 +1,6 @@
-// How many rows the first and the second tree have, without writing them: a walk along the nodes that have tokens. A tree
-// over the empty word can be astronomically large, so its rows are counted once a nonterminal, in a table.
+// How many rows the first and the second tree have, without writing them: a walk along the nodes
+// that have tokens. A tree over the empty word can be astronomically large, so its rows are counted
+// once a nonterminal, in a table.
 use acyclic::cyclic;
 use grammar::Grammar;
 use grammar::Sentence;
@@ -24,7 +25,8 @@ ghost use Rattle.row_counts.specs.Capped.{capped};
 ghost use Rattle.row_counts.specs.RowCounts.{Tells};
 ghost use Rattle.row_counts.specs.Nulls.{HasFirsts, Nulls, Sound, nullSize, Passed, Either};
 ghost use Rattle.row_counts.specs.Walks.{Own, Down, FirstThere};
-ghost use Rattle.row_counts.specs.Seconds.{Parted, PartedThere, Onto, Onward, BesideThere, Beside};
+ghost use Rattle.row_counts.specs.Seconds.{Parted, PartedThere, Onto, Onward, BesideThere};
+ghost use Rattle.row_counts.specs.Seconds.{Beside};
 ghost use Rattle.grammar.specs.Sentences.{spelled};
 
 // The least count that is not told.
@@ -54,7 +56,8 @@ fn either(a: bool, b: bool) -> bool
     b
 }
 
-// The rows of a tree over the empty word, by its step and the counts of its children; 0 where one of those is not known.
+// The rows of a tree over the empty word, by its step and the counts of its children; 0 where one
+// of those is not known.
 fn null_size(z: &[u64], st: Step) -> u64
     requires { ⌜ length (now z) ≡ 64 ⌝ }
     requires { ⌜ ((A : ℕ) → getD (now z) A 0 ≤ 4294967296) ⌝ }
@@ -121,7 +124,8 @@ fn null_pass(z: &mut [u64], words: &[u64], hs: &[u16], s: Sentence, g: Grammar) 
     more
 }
 
-// The rows of the first trees over the empty word, a number a nonterminal, into 64 numbers that are all 0.
+// The rows of the first trees over the empty word, a number a nonterminal, into 64 numbers that are
+// all 0.
 fn null_counts(z: &mut [u64], words: &[u64], hs: &[u16], s: Sentence, g: Grammar)
     requires { ⌜ Ready g s (now words) (now hs) ⌝ }
     requires { ⌜ HasFirsts (rules g) ⌝ }
@@ -188,13 +192,15 @@ fn down(st: Step, l: u8) -> Below
     }
 }
 
-// The rows of the first tree of `b` over the span of `n` tokens from `j` on. A right child that waits stands, by its start,
-// in `names` and `longs`: what follows the leaf at `i` begins at `i` + 1.
+// The rows of the first tree of `b` over the span of `n` tokens from `j` on. A right child that
+// waits stands, by its start, in `names` and `longs`: what follows the leaf at `i` begins at `i` +
+// 1.
 fn walk(words: &[u64], hs: &[u16], s: Sentence, g: Grammar, z: &[u64], b: u8, j: u8, n: u8) -> u64
     requires { ⌜ Ready g s (now words) (now hs) × (0 < n) × (j + n ≤ s .count) ⌝ }
     requires { ⌜ Nulls (rules g) (now z) ⌝ }
     requires { ⌜ FirstThere (rules g) b (part (spelled s) j n) ⌝ }
-    ensures { λ r. ⌜ ((t : Tree) → FirstTree (rules g) b (part (spelled s) j n) t → r ≡ capped (rowCount t)) ⌝ }
+    ensures { λ r. ⌜ ((t : Tree) → FirstTree (rules g) b (part (spelled s) j n) t
+        → r ≡ capped (rowCount t)) ⌝ }
 {
     let end = j + n;
     let mut names = [0u8; 65];
@@ -228,7 +234,8 @@ fn walk(words: &[u64], hs: &[u16], s: Sentence, g: Grammar, z: &[u64], b: u8, j:
     total
 }
 
-// The rows of the first tree of `a` over the span of `l` tokens from `i` on; those over the empty word stand in the table.
+// The rows of the first tree of `a` over the span of `l` tokens from `i` on; those over the empty
+// word stand in the table.
 fn count_first(
     words: &[u64],
     hs: &[u16],
@@ -242,7 +249,8 @@ fn count_first(
     requires { ⌜ Ready g s (now words) (now hs) × (a < 64) × (i + l ≤ s .count) ⌝ }
     requires { ⌜ Nulls (rules g) (now z) ⌝ }
     requires { ⌜ FirstThere (rules g) a (part (spelled s) i l) ⌝ }
-    ensures { λ r. ⌜ ((t : Tree) → FirstTree (rules g) a (part (spelled s) i l) t → r ≡ capped (rowCount t)) ⌝ }
+    ensures { λ r. ⌜ ((t : Tree) → FirstTree (rules g) a (part (spelled s) i l) t
+        → r ≡ capped (rowCount t)) ⌝ }
 {
     if l == 0 {
         let at = wide(a);
@@ -265,7 +273,8 @@ fn under(
     requires { ⌜ Ready g s (now words) (now hs) × (i + l ≤ s .count) ⌝ }
     requires { ⌜ Nulls (rules g) (now z) ⌝ }
     requires { ⌜ PartedThere (rules g) (spelled s) st i l ⌝ }
-    ensures { λ r. ⌜ ((u : Tree) → Parted (rules g) (spelled s) st i l u → r ≡ capped (rowCount u)) ⌝ }
+    ensures { λ r. ⌜ ((u : Tree) → Parted (rules g) (spelled s) st i l u
+        → r ≡ capped (rowCount u)) ⌝ }
 {
     let kind = st.kind;
     let first = st.first;
@@ -283,7 +292,8 @@ fn under(
     add(1, add(x, y))
 }
 
-// Where the second tree goes on below a node that has one choice only, and the child beside it, where there is one.
+// Where the second tree goes on below a node that has one choice only, and the child beside it,
+// where there is one.
 pub struct Way {
     pub name: u8,
     pub start: u8,
@@ -297,7 +307,8 @@ pub struct Way {
 // It goes on in the first child that has two trees.
 fn onward(words: &[u64], n: usize, st: Step, i: u8, l: u8) -> Way
     requires { ⌜ Onto (now words) n (st .kind) (st .first) (st .split) i l ⌝ }
-    ensures { λ r. ⌜ Onward (In (secondWord (now (words .entry)) n i (st .split)) (st .first)) (st .kind) (st .first) (st .second) (st .split) i l r ⌝ }
+    ensures { λ r. ⌜ Onward (In (secondWord (now (words .entry)) n i (st .split)) (st .first))
+        (st .kind) (st .first) (st .second) (st .split) i l r ⌝ }
 {
     let first = st.first;
     let second = st.second;
@@ -357,7 +368,8 @@ fn walk_second(words: &[u64], hs: &[u16], s: Sentence, g: Grammar, z: &[u64]) ->
     requires { ⌜ Ready g s (now words) (now hs) ⌝ }
     requires { ⌜ Nulls (rules g) (now z) ⌝ }
     requires { ⌜ Wanted (rules g) 0 (spelled s) true ⌝ }
-    ensures { λ r. ⌜ ((u : Tree) → SecondTree (rules g) 0 (spelled s) u → r ≡ capped (rowCount u)) ⌝ }
+    ensures { λ r. ⌜ ((u : Tree) → SecondTree (rules g) 0 (spelled s) u
+        → r ≡ capped (rowCount u)) ⌝ }
 {
     let n = s.count;
     let mut a: u8 = 0;
@@ -420,7 +432,8 @@ fn both_by(words: &[u64], hs: &[u16], s: Sentence, g: Grammar) -> RowCounts
     requires { ⌜ Ready g s (now words) (now hs) ⌝ }
     requires { ⌜ HasFirsts (rules g) ⌝ }
     requires { ⌜ Wanted (rules g) 0 (spelled s) true ⌝ }
-    ensures { λ r. ⌜ ((t u : Tree) → FirstTree (rules g) 0 (spelled s) t → SecondTree (rules g) 0 (spelled s) u
+    ensures { λ r. ⌜ ((t u : Tree) → FirstTree (rules g) 0 (spelled s) t
+        → SecondTree (rules g) 0 (spelled s) u
         → Tells (r .first) (rowCount t) × Tells (r .second) (rowCount u)) ⌝ }
 {
     let n = s.count;
@@ -433,7 +446,8 @@ fn both_by(words: &[u64], hs: &[u16], s: Sentence, g: Grammar) -> RowCounts
     RowCounts { first, second }
 }
 
-// The same on a looping sheet. Its least heights stand in a local array, which this function alone makes: 266 KB of stack.
+// The same on a looping sheet. Its least heights stand in a local array, which this function alone
+// makes: 266 KB of stack.
 fn first_low(words: &[u64], s: Sentence, g: Grammar) -> RowCount
     requires { ⌜ Charted g s (now words) ⌝ }
     requires { ⌜ HasFirsts (rules g) ⌝ }
@@ -452,7 +466,8 @@ fn both_low(words: &[u64], s: Sentence, g: Grammar) -> RowCounts
     requires { ⌜ HasFirsts (rules g) ⌝ }
     requires { ⌜ Wanted (rules g) 0 (spelled s) true ⌝ }
     requires { ⌜ Cyclic (rules g) ⌝ }
-    ensures { λ r. ⌜ ((t u : Tree) → FirstTree (rules g) 0 (spelled s) t → SecondTree (rules g) 0 (spelled s) u
+    ensures { λ r. ⌜ ((t u : Tree) → FirstTree (rules g) 0 (spelled s) t
+        → SecondTree (rules g) 0 (spelled s) u
         → Tells (r .first) (rowCount t) × Tells (r .second) (rowCount u)) ⌝ }
 {
     let mut hs = [65535u16; 133184];
@@ -479,7 +494,8 @@ pub fn both_rows(words: &[u64], s: Sentence, g: Grammar) -> RowCounts
     requires { ⌜ Charted g s (now words) ⌝ }
     requires { ⌜ HasFirsts (rules g) ⌝ }
     requires { ⌜ Wanted (rules g) 0 (spelled s) true ⌝ }
-    ensures { λ r. ⌜ ((t u : Tree) → FirstTree (rules g) 0 (spelled s) t → SecondTree (rules g) 0 (spelled s) u
+    ensures { λ r. ⌜ ((t u : Tree) → FirstTree (rules g) 0 (spelled s) t
+        → SecondTree (rules g) 0 (spelled s) u
         → Tells (r .first) (rowCount t) × Tells (r .second) (rowCount u)) ⌝ }
 {
     if cyclic(g) {

@@ -3,8 +3,10 @@ use mathlib.Core.Path.{_≡_, refl, sym, ap, _∙_}
 use mathlib.Core.List.{List, [], _∷_, _++_, append-assoc, append-nil}
 use Prim.Native.Nat.{ℕ, suc, _+_, _-_, _≤_, _<_}
 use native.Mathlib.Omega.{arith}
-use lib.ListN.{length, take, drop, set, replicate, length-append, length-take, length-drop, length-set, replicate-append-replicate}
-use lib.Seq.{take-at, drop-at, take-append-le, drop-append-add, sets-eq, drop-drop, take-take, take-suc-set, take-all}
+use lib.ListN.{length, take, drop, set, replicate, length-append, length-take, length-drop}
+use lib.ListN.{length-set, replicate-append-replicate}
+use lib.Seq.{take-at, drop-at, take-append-le, drop-append-add, sets-eq, drop-drop, take-take}
+use lib.Seq.{take-suc-set, take-all}
 use Rattle.rows.specs.Bytes.{splice}
 
 module _ (l : List ℕ) (at : ℕ) (v : List ℕ) (fits : at + length v ≤ length l) where
@@ -28,7 +30,8 @@ module _ (l : List ℕ) (at : ℕ) (v : List ℕ) (fits : at + length v ≤ leng
 
   pub drop-splice : drop at (splice l at v) ≡ v ++ drop (at + length v) l
   unfolding splice
-  drop-splice = rw append-assoc (drop-at (take at l) (v ++ drop (at + length v) l) at (simp length-take (omega arith)))
+  drop-splice = rw append-assoc (drop-at (take at l) (v ++ drop (at + length v) l) at
+      (simp length-take (omega arith)))
 
   pub drop-splice-high : (m : ℕ) → at + length v ≤ m → drop m (splice l at v) ≡ drop m l
   unfolding splice
@@ -41,7 +44,8 @@ module _ (l : List ℕ) (at : ℕ) (v : List ℕ) (fits : at + length v ≤ leng
       ∙ ap (λ (k : ℕ). drop k l) (sym f)
 
 pub put-splice : (l : List ℕ) (at a b c d : ℕ) → at + 4 ≤ length l
-    → set (set (set (set l at a) (at + 1) b) (at + 2) c) (at + 3) d ≡ splice l at (a ∷ b ∷ c ∷ d ∷ [])
+    → set (set (set (set l at a) (at + 1) b) (at + 2) c) (at + 3) d
+    ≡ splice l at (a ∷ b ∷ c ∷ d ∷ [])
 unfolding splice
 put-splice l at a b c d h =
     let e₁ : at + 1 ≡ suc at = omega arith in
@@ -61,7 +65,8 @@ cleared-none l at h =
     let e : at - at ≡ 0 = omega arith in
     record { from = omega arith; to = h; long = refl; made = rw e (sym (append-nil (take at l))) }
 
-pub cleared-more : {l : List ℕ} {at : ℕ} {m : List ℕ} {i : ℕ} → Cleared l at m i → i < length m → Cleared l at (set m i 0) (i + 1)
+pub cleared-more : {l : List ℕ} {at : ℕ} {m : List ℕ} {i : ℕ} → Cleared l at m i → i < length m
+    → Cleared l at (set m i 0) (i + 1)
 cleared-more {l} {at} {m} {i} c k =
     let f : i + 1 - at ≡ (i - at) + 1 = omega arith in
     let g : i + 1 ≡ suc i = omega arith in
@@ -69,10 +74,12 @@ cleared-more {l} {at} {m} {i} c k =
       from = omega arith;
       to = omega arith;
       long = simp length-set (c .long);
-      made = rw (f, ← replicate-append-replicate, g, take-suc-set m i 0 k, c .made) (append-assoc (take at l) (replicate (i - at) 0) (0 ∷ []));
+      made = rw (f, ← replicate-append-replicate, g, take-suc-set m i 0 k, c .made)
+          (append-assoc (take at l) (replicate (i - at) 0) (0 ∷ []));
     }
 
-pub cleared-all : {l : List ℕ} {at : ℕ} {m : List ℕ} {i : ℕ} → Cleared l at m i → length m ≤ i → m ≡ take at l ++ replicate (length l - at) 0
+pub cleared-all : {l : List ℕ} {at : ℕ} {m : List ℕ} {i : ℕ} → Cleared l at m i → length m ≤ i
+    → m ≡ take at l ++ replicate (length l - at) 0
 cleared-all {l} {at} {m} {i} c f =
     let j : i ≡ length l = omega arith in
     sym (take-all i m f) ∙ c .made ∙ ap (λ (x : ℕ). take at l ++ replicate (x - at) 0) j

@@ -43,7 +43,9 @@ getD-of [] p x d e = absurd (clash cc)
 getD-of (y ∷ l) zero x d e = cc
 getD-of (y ∷ l) (suc p) x d e = getD-of l p x d e
 
-pub step-at : (l : List Rule) (p : ℕ) (x d : Rule) (c : Clause) (k : ℕ) (m : Bool) → getElem? l p ≡ some x → getD l p d .clause ≡ c → stepOfClause c k m ≡ stepOfClause (x .clause) k m
+pub step-at : (l : List Rule) (p : ℕ) (x d : Rule) (c : Clause) (k : ℕ) (m : Bool)
+    → getElem? l p ≡ some x → getD l p d .clause ≡ c
+    → stepOfClause c k m ≡ stepOfClause (x .clause) k m
 step-at l p x d c k m e f = rw (← getD-of l p x d e, f) refl
 
 module _ {l : List ℕ} {top i n kind k : ℕ} (b : Branches l top i n kind k) where
@@ -56,19 +58,29 @@ module _ {l : List ℕ} {top i n kind k : ℕ} (b : Branches l top i n kind k) w
   pub room-two : kind ≡ 3 → 2 ≤ top
   room-two e = rw e at (b .room)
 
-  pub branched-none : (B C : ℕ) → kind < 2 → Branched l l top top (kidsOf kind) (entriesOf kind B C k i n)
+  pub branched-none : (B C : ℕ) → kind < 2
+      → Branched l l top top (kidsOf kind) (entriesOf kind B C k i n)
   branched-none B C h =
-      record { long = refl; moved = rw (kids-none kind h) (omega arith); low = λ j _. refl; high = rw (entries-none kind h) refl }
+      record {
+        long = refl;
+        moved = rw (kids-none kind h) (omega arith);
+        low = λ j _. refl;
+        high =
+            rw (entries-none kind h) refl;
+      }
     where
       entries-none : (q : ℕ) → q < 2 → entriesOf q B C k i n ≡ []
       entries-none zero z = refl
       entries-none (suc zero) z = refl
       entries-none (suc (suc q)) z = absurd (omega arith)
 
-  pub branched-closed : (B C : ℕ) → kind ≡ 4 → Branched l l top top (kidsOf kind) (entriesOf kind B C k i n)
-  branched-closed B C h = rw h (record { long = refl; moved = omega arith; low = λ j _. refl; high = refl })
+  pub branched-closed : (B C : ℕ) → kind ≡ 4
+      → Branched l l top top (kidsOf kind) (entriesOf kind B C k i n)
+  branched-closed B C h =
+      rw h (record { long = refl; moved = omega arith; low = λ j _. refl; high = refl })
 
-  pub branched-one : (B C : ℕ) → kind ≡ 2 → (m : List ℕ) → m ≡ splice l (4 * (top - 1)) (B ∷ i ∷ n ∷ 0 ∷ [])
+  pub branched-one : (B C : ℕ) → kind ≡ 2 → (m : List ℕ)
+      → m ≡ splice l (4 * (top - 1)) (B ∷ i ∷ n ∷ 0 ∷ [])
       → Branched l m top (top - 1) (kidsOf kind) (entriesOf kind B C k i n)
   branched-one B C h m e =
       let r = room-one h in
@@ -79,12 +91,16 @@ module _ {l : List ℕ} {top i n kind k : ℕ} (b : Branches l top i n kind k) w
       (record {
         long = ap length e ∙ length-splice l (4 * (top - 1)) v fits;
         moved = omega arith;
-        low = λ q y. ap (take (4 * q)) e ∙ take-splice-low l (4 * (top - 1)) v fits (4 * q) (omega arith);
-        high = ap (drop (4 * (top - 1))) e ∙ drop-splice l (4 * (top - 1)) v fits ∙ ap (λ (x : ℕ). v ++ drop x l) j;
+        low = λ q y. ap (take (4 * q)) e ∙ take-splice-low l (4 * (top - 1)) v fits (4 * q)
+            (omega arith);
+        high = ap (drop (4 * (top - 1))) e ∙ drop-splice l (4 * (top - 1)) v fits
+            ∙ ap (λ (x : ℕ). v ++ drop x l) j;
       })
 
-  pub branched-two : (B C : ℕ) → kind ≡ 3 → (m₁ m₂ : List ℕ) → m₁ ≡ splice l (4 * (top - 1)) (C ∷ (i + k) ∷ (n - k) ∷ 0 ∷ [])
-      → m₂ ≡ splice m₁ (4 * (top - 2)) (B ∷ i ∷ k ∷ 0 ∷ []) → Branched l m₂ top (top - 2) (kidsOf kind) (entriesOf kind B C k i n)
+  pub branched-two : (B C : ℕ) → kind ≡ 3 → (m₁ m₂ : List ℕ)
+      → m₁ ≡ splice l (4 * (top - 1)) (C ∷ (i + k) ∷ (n - k) ∷ 0 ∷ [])
+      → m₂ ≡ splice m₁ (4 * (top - 2)) (B ∷ i ∷ k ∷ 0 ∷ [])
+      → Branched l m₂ top (top - 2) (kidsOf kind) (entriesOf kind B C k i n)
   branched-two B C h m₁ m₂ e₁ e₂ =
       let r = room-two h in
       let v = C ∷ (i + k) ∷ (n - k) ∷ 0 ∷ [] in
@@ -102,6 +118,8 @@ module _ {l : List ℕ} {top i n kind k : ℕ} (b : Branches l top i n kind k) w
             ap (take (4 * q)) e₂ ∙ take-splice-low m₁ (4 * (top - 2)) u f₂ (4 * q) (omega arith)
             ∙ ap (take (4 * q)) e₁ ∙ take-splice-low l (4 * (top - 1)) v f₁ (4 * q) (omega arith);
         high =
-            ap (drop (4 * (top - 2))) e₂ ∙ drop-splice m₁ (4 * (top - 2)) u f₂ ∙ ap (λ (x : ℕ). u ++ drop x m₁) j₂
-            ∙ ap (λ (x : List ℕ). u ++ x) (ap (drop (4 * (top - 1))) e₁ ∙ drop-splice l (4 * (top - 1)) v f₁ ∙ ap (λ (x : ℕ). v ++ drop x l) j₁);
+            ap (drop (4 * (top - 2))) e₂ ∙ drop-splice m₁ (4 * (top - 2)) u f₂
+            ∙ ap (λ (x : ℕ). u ++ drop x m₁) j₂
+            ∙ ap (λ (x : List ℕ). u ++ x) (ap (drop (4 * (top - 1))) e₁
+            ∙ drop-splice l (4 * (top - 1)) v f₁ ∙ ap (λ (x : ℕ). v ++ drop x l) j₁);
       })

@@ -1,4 +1,5 @@
--- What the writer has to know of a node, and the pending entries of its children. For the contracts of inner functions only.
+-- What the writer has to know of a node, and the pending entries of its children. For the contracts
+-- of inner functions only.
 use mathlib.Core.Path.{_≡_}
 use mathlib.Core.Bool.{Bool}
 use mathlib.Core.List.{List, [], _∷_, _++_}
@@ -10,10 +11,14 @@ use Rattle.rows.specs.declared.Step.{Step}
 
 -- the step of a rule with this clause and a left word of k tokens
 abbrev pub stepOfClause : Clause → ℕ → Bool → Step
-stepOfClause Clause.Empty k seeking = record { kind = 0; first = 0; second = 0; split = 0; seeking = seeking }
-stepOfClause (Clause.Atom a b) k seeking = record { kind = 1; first = 0; second = 0; split = 0; seeking = seeking }
-stepOfClause (Clause.Unary B m) k seeking = record { kind = 2; first = B; second = 0; split = 0; seeking = seeking }
-stepOfClause (Clause.Binary B C m) k seeking = record { kind = 3; first = B; second = C; split = k; seeking = seeking }
+stepOfClause Clause.Empty k seeking =
+    record { kind = 0; first = 0; second = 0; split = 0; seeking = seeking }
+stepOfClause (Clause.Atom a b) k seeking =
+    record { kind = 1; first = 0; second = 0; split = 0; seeking = seeking }
+stepOfClause (Clause.Unary B m) k seeking =
+    record { kind = 2; first = B; second = 0; split = 0; seeking = seeking }
+stepOfClause (Clause.Binary B C m) k seeking =
+    record { kind = 3; first = B; second = C; split = k; seeking = seeking }
 
 -- the step of a closed node
 abbrev pub closedStep : Bool → Step
@@ -28,7 +33,8 @@ kidsOf (suc (suc (suc zero))) = 2
 kidsOf (suc (suc (suc (suc k)))) = 0
 
 -- the children's pending entries, four bytes each: nonterminal, start, length and a 0;
--- the node has this kind, children B and C, a left word of k tokens, and a word of n tokens from i on
+-- the node has this kind, children B and C, a left word of k tokens, and a word of n tokens from i
+-- on
 abbrev pub entriesOf : ℕ → ℕ → ℕ → ℕ → ℕ → ℕ → List ℕ
 entriesOf zero B C k i n = []
 entriesOf (suc zero) B C k i n = []

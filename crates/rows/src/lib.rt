@@ -11,8 +11,9 @@ ghost use Rattle.grammar.specs.Rows.{startOf};
 ghost use Rattle.rows.specs.Bytes.{splice};
 ghost use Rattle.rows.specs.Steps.{kidsOf, stepOfClause, entriesOf, Branches, Branched};
 
-// What the writer has to know of a node: its kind (0 E, 1 A, 2 U, 3 B, 4 closed), its children's nonterminals, the length of the left word,
-// and whether the node at which the second tree parts from the first is still to come.
+// What the writer has to know of a node: its kind (0 E, 1 A, 2 U, 3 B, 4 closed), its children's
+// nonterminals, the length of the left word, and whether the node at which the second tree parts
+// from the first is still to come.
 pub struct Step {
     pub kind: u8,
     pub first: u8,
@@ -35,7 +36,8 @@ pub fn put(out: &mut [u8], at: usize, a: u8, b: u8, c: u8, d: u8)
 // Zeros from a place to the end.
 pub fn clear(out: &mut [u8], from: usize)
     requires { ⌜ from ≤ length (now out) ⌝ }
-    ensures { λ r. ⌜ now (out .exit) ≡ take from (now (out .entry)) ++ replicate (length (now (out .entry)) - from) 0 ⌝ }
+    ensures { λ r. ⌜ now (out .exit) ≡ take from (now (out .entry))
+        ++ replicate (length (now (out .entry)) - from) 0 ⌝ }
 {
     let mut i = from;
     while i < out.len() {
@@ -68,7 +70,8 @@ pub fn start_of(i: u8, n: u8) -> u8
 // The step of the rule at a place, with a left word of k tokens.
 pub fn step_of(g: Grammar, p: usize, k: usize, seeking: bool) -> Step
     requires { ⌜ (p < 128) × (k ≤ 64) ⌝ }
-    ensures { λ r. ⌜ ((x : Rule) → getElem? (g .rules) p ≡ some x → r ≡ stepOfClause (x .clause) k seeking) ⌝ }
+    ensures { λ r. ⌜ ((x : Rule) → getElem? (g .rules) p ≡ some x
+        → r ≡ stepOfClause (x .clause) k seeking) ⌝ }
 {
     let split = k as u8;
     let rule = g.rules[p];
@@ -108,7 +111,8 @@ pub fn step_of(g: Grammar, p: usize, k: usize, seeking: bool) -> Step
 // The children's pending entries right below place top, the left child's first; the new top.
 pub fn branch(out: &mut [u8], top: usize, i: u8, n: u8, st: Step) -> usize
     requires { ⌜ Branches (now out) top i n (st .kind) (st .split) ⌝ }
-    ensures { λ r. ⌜ Branched (now (out .entry)) (now (out .exit)) top r (kidsOf (st .kind)) (entriesOf (st .kind) (st .first) (st .second) (st .split) i n) ⌝ }
+    ensures { λ r. ⌜ Branched (now (out .entry)) (now (out .exit)) top r (kidsOf (st .kind))
+        (entriesOf (st .kind) (st .first) (st .second) (st .split) i n) ⌝ }
 {
     let kind = st.kind;
     let split = st.split;

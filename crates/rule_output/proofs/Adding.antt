@@ -19,7 +19,8 @@ never : {P : Type 0} → true ≡ false → P
 never e = absurd (clash cc)
 
 -- over: only the cause is promised
-pub adds-over : {o p : Emit} {new : Rules} {k : ℕ} → p .over ≡ true → Cause o k (length new) → Adds o p new k
+pub adds-over : {o p : Emit} {new : Rules} {k : ℕ} → p .over ≡ true → Cause o k (length new)
+    → Adds o p new k
 adds-over e w =
     record {
       why = λ f. w;
@@ -31,7 +32,8 @@ adds-over e w =
       few = λ f. never (sym e ∙ f);
     }
 
-pub pushed : (rules : Rules) (count : ℕ) (r : Rule) → count < length rules → take (count + 1) (set rules count r) ≡ take count rules ++ (r ∷ [])
+pub pushed : (rules : Rules) (count : ℕ) (r : Rule) → count < length rules
+    → take (count + 1) (set rules count r) ≡ take count rules ++ (r ∷ [])
 pushed rules count r h = rw add-one (take-suc-set rules count r h)
 
 pub cause-more : (o : Emit) (k l i j : ℕ) → k ≤ i → l ≤ j → Cause o k l → Cause o i j
@@ -39,42 +41,54 @@ cause-more o k l i j p q (inl x) = inl x
 cause-more o k l i j p q (inr (inl x)) = inr (inl (omega arith))
 cause-more o k l i j p q (inr (inr x)) = inr (inr (omega arith))
 
-pub adds-then : {o p q : Emit} {new : Rules} {k j : ℕ} (f : ℕ → Rules) → Adds o p new k → Adds p q (f (p .next)) j → Adds o q (new ++ f (o .next + k)) (k + j)
+pub adds-then : {o p q : Emit} {new : Rules} {k j : ℕ} (f : ℕ → Rules) → Adds o p new k
+    → Adds p q (f (p .next)) j → Adds o q (new ++ f (o .next + k)) (k + j)
 adds-then {o} {p} {q} {new} {k} {j} f a b =
     record {
-      why = λ z. ⊎-elim (λ y. earlier (a .why y)) (λ y. ⊎-elim (λ x. earlier (a .why x)) (λ x. later x y) (true-or-false (p .over))) (b .why z);
+      why = λ z. ⊎-elim (λ y. earlier (a .why y))
+          (λ y. ⊎-elim (λ x. earlier (a .why x)) (λ x. later x y) (true-or-false (p .over)))
+          (b .why z);
       count =
-          λ z. let y = b .room z in b .count z ∙ ap (λ (i : ℕ). i + length (f (p .next))) (a .count y)
+          λ z. let y = b .room z in
+          b .count z ∙ ap (λ (i : ℕ). i + length (f (p .next))) (a .count y)
           ∙ ap (λ (i : ℕ). o .count + length new + length (f i)) (a .next y) ∙ both-lengths;
       room = λ z. a .room (b .room z);
       rules = λ z.
           let y = b .room z in
-          b .rules z ∙ ap (λ (l : Rules). l ++ f (p .next)) (a .rules y) ∙ append-assoc (listed o) new (f (p .next))
+          b .rules z ∙ ap (λ (l : Rules). l ++ f (p .next)) (a .rules y)
+          ∙ append-assoc (listed o) new (f (p .next))
           ∙ ap (λ (i : ℕ). listed o ++ (new ++ f i)) (a .next y);
       next = λ z. let y = b .room z in let u = a .next y in let v = b .next z in omega arith;
       low = λ z h. b .low z (a .low (b .room z) h);
       few = λ z h. b .few z (a .few (b .room z) h);
     }
   where
-    both-lengths : o .count + length new + length (f (o .next + k)) ≡ o .count + length (new ++ f (o .next + k))
+    both-lengths : o .count + length new + length (f (o .next + k)) ≡ o .count
+        + length (new ++ f (o .next + k))
     both-lengths = omega (arith, length-append new (f (o .next + k)))
 
     earlier : Cause o k (length new) → Cause o (k + j) (length (new ++ f (o .next + k)))
-    earlier = cause-more o k (length new) (k + j) (length (new ++ f (o .next + k))) (omega arith) (omega (arith, length-append new (f (o .next + k))))
+    earlier = cause-more o k (length new) (k + j) (length (new ++ f (o .next + k))) (omega arith)
+        (omega (arith, length-append new (f (o .next + k))))
 
-    later : p .over ≡ false → (64 < p .next + j) ⊎ (128 < p .count + length (f (p .next))) → Cause o (k + j) (length (new ++ f (o .next + k)))
+    later : p .over ≡ false → (64 < p .next + j) ⊎ (128 < p .count + length (f (p .next)))
+        → Cause o (k + j) (length (new ++ f (o .next + k)))
     later x (inl y) = let z = a .next x in inr (inl (omega arith))
-    later x (inr y) = let z = a .count x in let v = ap (λ (i : ℕ). length (f i)) (a .next x) in inr (inr (omega (arith, length-append new (f (o .next + k)))))
+    later x (inr y) = let z = a .count x in let v = ap (λ (i : ℕ). length (f i)) (a .next x) in
+        inr (inr (omega (arith, length-append new (f (o .next + k)))))
 
 -- rules that do not go by the next nonterminal
-pub adds-also : {o p q : Emit} {new more : Rules} {k j : ℕ} → Adds o p new k → Adds p q more j → Adds o q (new ++ more) (k + j)
+pub adds-also : {o p q : Emit} {new more : Rules} {k j : ℕ} → Adds o p new k → Adds p q more j
+    → Adds o q (new ++ more) (k + j)
 adds-also {more = more} a b = adds-then (λ i. more) a b
 
-pub adds-same : {o p : Emit} {new new′ : Rules} {k k′ : ℕ} → new ≡ new′ → k ≡ k′ → Adds o p new k → Adds o p new′ k′
+pub adds-same : {o p : Emit} {new new′ : Rules} {k k′ : ℕ} → new ≡ new′ → k ≡ k′ → Adds o p new k
+    → Adds o p new′ k′
 adds-same e f a = rw (e, f) at a
 
 -- rules that are the same where there was room
-pub adds-when : {o p : Emit} {new new′ : Rules} {k : ℕ} → length new ≡ length new′ → (p .over ≡ false → new ≡ new′) → Adds o p new k → Adds o p new′ k
+pub adds-when : {o p : Emit} {new new′ : Rules} {k : ℕ} → length new ≡ length new′
+    → (p .over ≡ false → new ≡ new′) → Adds o p new k → Adds o p new′ k
 adds-when {o} {p} {new} {new′} {k} l e a =
     record {
       why = λ z. cause-more o k (length new) k (length new′) (omega arith) (omega arith) (a .why z);

@@ -22,7 +22,8 @@ listed o = take (o .count) (o .rules)
 abbrev pub Cause : Emit → ℕ → ℕ → Type 0
 Cause o k l = (o .over ≡ true) ⊎ ((64 < o .next + k) ⊎ (128 < o .count + l))
 
--- unless it is over, p has the new rules after o's and counts k new nonterminals more; it is over only for a cause
+-- unless it is over, p has the new rules after o's and counts k new nonterminals more; it is over
+-- only for a cause
 pub record Adds (o p : Emit) (new : Rules) (k : ℕ) : Type 0 where
   pub why : p .over ≡ true → Cause o k (length new)
   pub count : p .over ≡ false → p .count ≡ o .count + length new
@@ -44,8 +45,10 @@ atomRules n a = A n a ∷ []
 -- the rules of what stands after an item B, where n is its first nonterminal
 abbrev pub tailRules : Lexeme → ℕ → ℕ → Rules
 tailRules Lexeme.Maybe n b = U n b UnaryMark.None ∷ E n ∷ []
-tailRules (Lexeme.Plus m) n b = repeatBegins C.from-one n b ∷ U n (n + 1) UnaryMark.None ∷ B (n + 1) n b m ∷ []
-tailRules (Lexeme.Star m) n b = repeatBegins C.from-zero n b ∷ U n (n + 1) UnaryMark.None ∷ B (n + 1) n b m ∷ []
+tailRules (Lexeme.Plus m) n b =
+    repeatBegins C.from-one n b ∷ U n (n + 1) UnaryMark.None ∷ B (n + 1) n b m ∷ []
+tailRules (Lexeme.Star m) n b =
+    repeatBegins C.from-zero n b ∷ U n (n + 1) UnaryMark.None ∷ B (n + 1) n b m ∷ []
 tailRules (Lexeme.Marked m) n b = U n b m ∷ []
 tailRules (Lexeme.Join m) n b = []
 tailRules (Lexeme.Nonterminal a) n b = []
@@ -61,4 +64,5 @@ pub record LeafRead (l : Lexeme) (end : ℕ) (out : Emit) (r : Step) : Type 0 wh
   pub at : r .at ≡ end
   pub room : r .out .over ≡ false → out .over ≡ false
   pub nonterminal : (a : ℕ) → l ≡ Lexeme.Nonterminal a → (r .name ≡ a) × (r .out ≡ out)
-  pub terminal : (a : ℕ) → l ≡ Lexeme.Terminal a → (r .name ≡ out .next) × Adds out (r .out) (A (out .next) a ∷ []) 1
+  pub terminal : (a : ℕ) → l ≡ Lexeme.Terminal a
+      → (r .name ≡ out .next) × Adds out (r .out) (A (out .next) a ∷ []) 1

@@ -5,7 +5,8 @@ use Rattle.lexemes.specs.declared.Lexeme.{Lexeme}
 use Rattle.lexemes.specs.declared.Lexeme.the-variants as Lexeme
 use Prim.Native.Nat.{ℕ}
 
--- a number that tells lexemes apart where the readers do: 1 (, 2 ), 3 a bar, 4 what binds two items, 5 what stands after an item, 6 none or no more; 0 else
+-- a number that tells lexemes apart where the readers do: 1 (, 2 ), 3 a bar, 4 what binds two
+-- items, 5 what stands after an item, 6 none or no more; 0 else
 abbrev pub sortOf : Lexeme → ℕ
 sortOf (Lexeme.Nonterminal a) = 0
 sortOf (Lexeme.Terminal a) = 0

@@ -11,9 +11,11 @@ ghost use Rattle.grammar.specs.declared.UnaryMark.the-variants as UnaryMark;
 ghost use Rattle.lexemes.specs.declared.Lexeme.the-variants as Lexeme;
 ghost use Rattle.clauses.specs.Expansion.{U, B};
 ghost use Rattle.rule_output.specs.Signs.{headsOf};
-ghost use Rattle.rule_output.specs.Emitting.{Pushed, CountsOn, Adds, atomRules, tailRules, LeafRead};
+ghost use Rattle.rule_output.specs.Emitting.{Pushed, CountsOn, Adds, atomRules, tailRules};
+ghost use Rattle.rule_output.specs.Emitting.{LeafRead};
 
-// The rules met so far, the next new nonterminal, and whether there was no room for a rule or a nonterminal.
+// The rules met so far, the next new nonterminal, and whether there was no room for a rule or a
+// nonterminal.
 pub struct Emit {
     pub rules: [Rule; 128],
     pub count: usize,
@@ -127,7 +129,8 @@ fn optional(out: Emit, n: u8, b: u8) -> Emit
     )
 }
 
-// The rules of `+` and `*` after item b but the first: the repeat n goes over to its C, and C is the repeat and one item more.
+// The rules of `+` and `*` after item b but the first: the repeat n goes over to its C, and C is
+// the repeat and one item more.
 fn again(out: Emit, n: u8, b: u8, m: BinaryMark) -> Emit
     requires { ⌜ n < 255 ⌝ }
     ensures { λ r. ⌜ Adds out r (U n (n + 1) UnaryMark.None ∷ B (n + 1) n b m ∷ []) 0 ⌝ }

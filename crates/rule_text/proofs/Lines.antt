@@ -11,7 +11,9 @@ use Rattle.rule_text.specs.RuleText.{ruleText, rulesText}
 
 rules-snoc : (g : Rules) (r : Rule) → rulesText (g ++ (r ∷ [])) ≡ rulesText g ++ ruleText r
 rules-snoc [] r = append-nil (ruleText r)
-rules-snoc (x ∷ g) r = ap (λ (l : List ℕ). ruleText x ++ l) (rules-snoc g r) ∙ sym (append-assoc (ruleText x) (rulesText g) (ruleText r))
+rules-snoc (x ∷ g) r = ap (λ (l : List ℕ). ruleText x ++ l) (rules-snoc g r)
+    ∙ sym (append-assoc (ruleText x) (rulesText g) (ruleText r))
 
-pub rules-more : (g : Rules) (i : ℕ) (d : Rule) → i < length g → rulesText (take (i + 1) g) ≡ rulesText (take i g) ++ ruleText (getD g i d)
+pub rules-more : (g : Rules) (i : ℕ) (d : Rule) → i < length g
+    → rulesText (take (i + 1) g) ≡ rulesText (take i g) ++ ruleText (getD g i d)
 rules-more g i d h = rw (add-one i, take-suc g i d h) (rules-snoc (take i g) (getD g i d))

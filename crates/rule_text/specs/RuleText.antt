@@ -1,4 +1,5 @@
--- A rule sheet's bytes for given rules: 01, "The two sheets", with numbers written plainly; request 5, terminals in `second`.
+-- A rule sheet's bytes for given rules: 01, "The two sheets", with numbers written plainly; request
+-- 5, terminals in `second`.
 use mathlib.Core.Bool.{cond}
 use mathlib.Core.List.{List, [], _∷_, _++_}
 use Prim.Native.Nat.{ℕ}

@@ -12,7 +12,8 @@ ghost use lib.ListN.{length};
 ghost use Rattle.grammar.specs.declared.UnaryMark.the-variants as UnaryMark;
 ghost use Rattle.grammar.specs.Content.{rules as rulesOf};
 ghost use Rattle.printing.specs.Printing.{Wrote, field};
-ghost use Rattle.rule_text.specs.RuleText.{dash, unaryLay, binaryLay, lastTerminal, clauseText, ruleText, rulesText};
+ghost use Rattle.rule_text.specs.RuleText.{dash, unaryLay, binaryLay, lastTerminal};
+ghost use Rattle.rule_text.specs.RuleText.{clauseText, ruleText, rulesText};
 
 // The lay of a U rule and the line's end.
 fn put_unary(out: &mut [u8], at: usize, m: UnaryMark) -> usize
@@ -56,7 +57,8 @@ fn put_last(out: &mut [u8], at: usize, a: u8, b: u8) -> usize
 // An A rule's kind, terminals and lay.
 fn put_atom(out: &mut [u8], at: usize, a: u8, b: u8) -> usize
     requires { ⌜ at + 23 ≤ length (now out) ⌝ }
-    ensures { λ r. ⌜ Wrote (now (out .entry)) (now (out .exit)) at (65 ∷ 32 ∷ (field a ++ (lastTerminal a b ++ unaryLay UnaryMark.None))) r ⌝ }
+    ensures { λ r. ⌜ Wrote (now (out .entry)) (now (out .exit)) at
+        (65 ∷ 32 ∷ (field a ++ (lastTerminal a b ++ unaryLay UnaryMark.None))) r ⌝ }
     ensures { λ r. ⌜ r ≤ at + 23 ⌝ }
 {
     let p = put_bytes(out, at, b"A ");
@@ -68,7 +70,8 @@ fn put_atom(out: &mut [u8], at: usize, a: u8, b: u8) -> usize
 // A U rule's kind, nonterminal and lay.
 fn put_over(out: &mut [u8], at: usize, a: u8, m: UnaryMark) -> usize
     requires { ⌜ at + 23 ≤ length (now out) ⌝ }
-    ensures { λ r. ⌜ Wrote (now (out .entry)) (now (out .exit)) at (85 ∷ 32 ∷ (field a ++ (dash ++ unaryLay m))) r ⌝ }
+    ensures { λ r. ⌜ Wrote (now (out .entry)) (now (out .exit)) at
+        (85 ∷ 32 ∷ (field a ++ (dash ++ unaryLay m))) r ⌝ }
     ensures { λ r. ⌜ r ≤ at + 23 ⌝ }
 {
     let p = put_bytes(out, at, b"U ");
@@ -80,7 +83,8 @@ fn put_over(out: &mut [u8], at: usize, a: u8, m: UnaryMark) -> usize
 // A B rule's kind, nonterminals and lay.
 fn put_pair(out: &mut [u8], at: usize, a: u8, b: u8, m: BinaryMark) -> usize
     requires { ⌜ at + 23 ≤ length (now out) ⌝ }
-    ensures { λ r. ⌜ Wrote (now (out .entry)) (now (out .exit)) at (66 ∷ 32 ∷ (field a ++ (field b ++ binaryLay m))) r ⌝ }
+    ensures { λ r. ⌜ Wrote (now (out .entry)) (now (out .exit)) at
+        (66 ∷ 32 ∷ (field a ++ (field b ++ binaryLay m))) r ⌝ }
     ensures { λ r. ⌜ r ≤ at + 23 ⌝ }
 {
     let p = put_bytes(out, at, b"B ");

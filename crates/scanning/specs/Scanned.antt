@@ -21,7 +21,8 @@ pub record DigitsAt (s : List ℕ) (at most : ℕ) (r : Digits) : Type 0 where
   pub read : (r .next ≡ at) ⊎ (drop at s ≡ decimal (r .value) ++ drop (r .next) s)
   pub inside : r .next ≤ length s
   pub small : r .value ≤ most
-  pub only : (w e : ℕ) (t : List ℕ) → w ≤ most → e < 48 → drop at s ≡ decimal w ++ (e ∷ t) → (r .value ≡ w) × (drop (r .next) s ≡ e ∷ t)
+  pub only : (w e : ℕ) (t : List ℕ) → w ≤ most → e < 48 → drop at s ≡ decimal w ++ (e ∷ t)
+      → (r .value ≡ w) × (drop (r .next) s ≡ e ∷ t)
 
 -- a number, at most `most`, with the byte `end` behind it
 pub record Numbered (s : List ℕ) (at most end v next : ℕ) : Type 0 where

@@ -19,7 +19,8 @@ in-dec s a = go (ℕ-discrete (s / 2 ^ a % 2) 1)
     go (no n) = no (λ h. n (h .digit))
 
 pub in-zero : (a : ℕ) → In 0 a → ⊥
-in-zero a h = let z : _≡_ {A = ℕ} 0 1 = sym (ap (λ (x : ℕ). x % 2) (zero-div (2 ^ a))) ∙ h .digit in omega arith
+in-zero a h = let z : _≡_ {A = ℕ} 0 1 = sym (ap (λ (x : ℕ). x % 2) (zero-div (2 ^ a))) ∙ h .digit in
+    omega arith
 
 below-two : (n : ℕ) → n % 2 < 2
 below-two n = omega arith
@@ -34,8 +35,10 @@ one-above a b h = ap (λ (x : ℕ). x % 2) (div-eq-of-lt (pow-lt h))
 one-below : (a b : ℕ) → b < a → 2 ^ a / 2 ^ b % 2 ≡ 0
 one-below a b h =
     let e : a ≡ (a - suc b) + 1 + b = omega arith in
-    ap (λ (x : ℕ). 2 ^ x / 2 ^ b % 2) e ∙ ap (λ (x : ℕ). x / 2 ^ b % 2) (pow-add 2 ((a - suc b) + 1) b)
-    ∙ ap (λ (x : ℕ). x % 2) (shl-shr (2 ^ ((a - suc b) + 1)) b) ∙ ap (λ (x : ℕ). x % 2) (pow-add 2 (a - suc b) 1) ∙ mul-mod-left (2 ^ (a - suc b)) 2
+    ap (λ (x : ℕ). 2 ^ x / 2 ^ b % 2) e ∙ ap (λ (x : ℕ). x / 2 ^ b % 2)
+    (pow-add 2 ((a - suc b) + 1) b)
+    ∙ ap (λ (x : ℕ). x % 2) (shl-shr (2 ^ ((a - suc b) + 1)) b)
+    ∙ ap (λ (x : ℕ). x % 2) (pow-add 2 (a - suc b) 1) ∙ mul-mod-left (2 ^ (a - suc b)) 2
 
 digit : (s a b : ℕ) → insert s a / 2 ^ b % 2 ≡ max (s / 2 ^ b % 2) (2 ^ a / 2 ^ b % 2)
 unfolding insert
@@ -45,14 +48,16 @@ pub insert-same : (s a : ℕ) → In (insert s a) a
 insert-same s a = record { digit = omega (arith, digit s a a, one-same a, below-two (s / 2 ^ a)) }
 
 pub insert-keeps : (s a : ℕ) {b : ℕ} → In s b → In (insert s a) b
-insert-keeps s a {b} h = record { digit = omega (arith, digit s a b, below-two (2 ^ a / 2 ^ b), h .digit) }
+insert-keeps s a {b} h =
+    record { digit = omega (arith, digit s a b, below-two (2 ^ a / 2 ^ b), h .digit) }
 
 pub insert-only : (s a b : ℕ) → In (insert s a) b → In s b ⊎ (b ≡ a)
 insert-only s a b h = go (decLt a b) (decLt b a)
   where
     go : Dec (a < b) → Dec (b < a) → In s b ⊎ (b ≡ a)
     go (yes l) q = inl (record { digit = omega (arith, digit s a b, one-above a b l, h .digit) })
-    go (no l) (yes m) = inl (record { digit = omega (arith, digit s a b, one-below a b m, h .digit) })
+    go (no l) (yes m) =
+        inl (record { digit = omega (arith, digit s a b, one-below a b m, h .digit) })
     go (no l) (no m) = inr (omega arith)
 
 pub insert-ge : (s a : ℕ) → s ≤ insert s a
@@ -67,4 +72,5 @@ insert-lt k s a h l = or-lt k s (2 ^ a) h (pow-lt l)
 -- what `set | (1 << a)` computes
 pub insert-shl : (s a : ℕ) → a < 64 → bitOr s ((1 * 2 ^ a) % 2 ^ 64) ≡ insert s a
 unfolding insert
-insert-shl s a l = ap (bitOr s) (ap (λ (x : ℕ). x % 2 ^ 64) (one-mul (2 ^ a)) ∙ mod-eq-of-lt (pow-lt l))
+insert-shl s a l =
+    ap (bitOr s) (ap (λ (x : ℕ). x % 2 ^ 64) (one-mul (2 ^ a)) ∙ mod-eq-of-lt (pow-lt l))

@@ -1,4 +1,5 @@
--- What the search from the number lo on has settled so far, and what it finds. Only the proofs of a share need it; the promise speaks of the lowest number.
+-- What the search from the number lo on has settled so far, and what it finds. Only the proofs of a
+-- share need it; the promise speaks of the lowest number.
 use mathlib.Core.Path.{_≡_}
 use mathlib.Core.Bool.{Bool, true, false}
 use mathlib.Core.List.{List}
@@ -30,7 +31,8 @@ pub record NoneBefore (g : Rules) (s n lo : ℕ) (cs : List Cell) : Type 0 where
 pub record Barren (g : Rules) (s n lo b : ℕ) (cs : List Cell) : Type 0 where
   pub none : (ds : List Cell) → Lowest g s n lo ds → Shares b ds cs → ⊥
 
--- what a look tells: out, it is none of those that share cs's first b cells; not out, and all cells looked at: cs has two trees, and its number is from lo on
+-- what a look tells: out, it is none of those that share cs's first b cells; not out, and all cells
+-- looked at: cs has two trees, and its number is from lo on
 pub record Looked (out : Bool) (g : Rules) (s n lo b : ℕ) (cs : List Cell) : Type 0 where
   pub barren : out ≡ true → Barren g s n lo b cs
   pub meets : out ≡ false → b ≡ n → Meets g s n lo cs
@@ -40,7 +42,10 @@ pub record ShareTurn (g : Rules) (s n lo b : ℕ) (cs : List Cell) : Type 0 wher
   pub before : NoneBefore g s n lo cs
   pub known : b ≤ n
 
--- what the search from lo to below hi finds: the first, with its number, or nothing, and then it answers length 0 and number 0
+-- what the search from lo to below hi finds: the first, with its number, or nothing, and then it
+-- answers length 0 and number 0
 pub data Searched (g : Rules) (s n lo hi l N : ℕ) (cs : List Cell) : Type 0 where
-  hit : l ≡ n → N ≡ numberIn s n cs → numberIn s n cs < hi → Lowest g s n lo cs → Searched g s n lo hi l N cs
-  miss : l ≡ 0 → N ≡ 0 → ((ds : List Cell) → Meets g s n lo ds → numberIn s n ds < hi → ⊥) → Searched g s n lo hi l N cs
+  hit : l ≡ n → N ≡ numberIn s n cs → numberIn s n cs < hi → Lowest g s n lo cs
+      → Searched g s n lo hi l N cs
+  miss : l ≡ 0 → N ≡ 0 → ((ds : List Cell) → Meets g s n lo ds → numberIn s n ds < hi → ⊥)
+      → Searched g s n lo hi l N cs

@@ -1,4 +1,5 @@
-// The search inside a share: the lowest number from one to below another whose arrangement rises and has two trees.
+// The search inside a share: the lowest number from one to below another whose arrangement rises
+// and has two trees.
 use arrangement_numbers::block_of;
 use candidates::Candidate;
 use candidates::terminals;
@@ -35,8 +36,8 @@ ghost use Rattle.share_search.specs.Sharing.{Shared, Found};
 ghost use Rattle.grammar.specs.Distinct.{Distinct};
 ghost use Rattle.sweeping.specs.Cleared.{cleared};
 
-// The fewest of the first b cells such that no arrangement that has them has a number below `start`; b + 1 if even one that
-// has all b may have.
+// The fewest of the first b cells such that no arrangement that has them has a number below
+// `start`; b + 1 if even one that has all b may have.
 fn held(set: u64, c: Candidate, n: usize, b: usize, start: u64) -> usize
     requires { ⌜ Few set n ⌝ }
     requires { ⌜ Of.Candidate (Among set) n (cells c 0 n) ⌝ }
@@ -54,8 +55,8 @@ fn held(set: u64, c: Candidate, n: usize, b: usize, start: u64) -> usize
     b + 1
 }
 
-// Has each candidate that shares the first b cells and has two trees a twin that has its first h cells? (Where the answer is
-// no, one may have none.)
+// Has each candidate that shares the first b cells and has two trees a twin that has its first h
+// cells? (Where the answer is no, one may have none.)
 fn outdone(
     codes: &[u64],
     set: u64,
@@ -67,11 +68,13 @@ fn outdone(
     h: usize,
     words: &mut [u64],
 ) -> bool
-    requires { ⌜ (n ≤ 7) × (b ≤ n) × Of.Candidate (Among set) n (cells c 0 n) × (h ≤ b) × Renames (decoded (now codes)) set kept ⌝ }
+    requires { ⌜ (n ≤ 7) × (b ≤ n) × Of.Candidate (Among set) n (cells c 0 n) × (h ≤ b)
+        × Renames (decoded (now codes)) set kept ⌝ }
     requires { ⌜ Distinct (decoded (now codes)) ⌝ }
     requires { ⌜ 2 * pairs n ≤ length (now words) ⌝ }
     requires { ⌜ Tabled (decoded (now codes)) set (now table) ⌝ }
-    ensures { λ r. ⌜ (r ≡ true → Replaceable (decoded (now (codes .entry))) set n b h (cells c 0 n)) × Past (2 * pairs n) (now (words .entry)) (now (words .exit)) ⌝ }
+    ensures { λ r. ⌜ (r ≡ true → Replaceable (decoded (now (codes .entry))) set n b h (cells c 0 n))
+        × Past (2 * pairs n) (now (words .entry)) (now (words .exit)) ⌝ }
 {
     if passable(set, kept, c, n, b, h) {
         return true;
@@ -79,10 +82,10 @@ fn outdone(
     twinned(codes, set, kept, table, c, n, b, h, words)
 }
 
-// Is the lowest number from `start` on that has two trees none of those of the candidates that share the first b cells?
-// These end before `past`. So it is where all are below `start`, and where each candidate has a twin whose number is not.
-// A block that goes past the end of the share is not refuted but gone into. Where b is n and the answer is no, this one has
-// two trees.
+// Is the lowest number from `start` on that has two trees none of those of the candidates that
+// share the first b cells? These end before `past`. So it is where all are below `start`, and where
+// each candidate has a twin whose number is not. A block that goes past the end of the share is not
+// refuted but gone into. Where b is n and the answer is no, this one has two trees.
 fn look(
     codes: &[u64],
     set: u64,
@@ -96,11 +99,14 @@ fn look(
     past: u64,
     words: &mut [u64],
 ) -> bool
-    requires { ⌜ Few set n × (b ≤ n) × Of.Candidate (Among set) n (cells c 0 n) × (past ≡ least set n b (cells c 0 n) + room set n b) × Renames (decoded (now codes)) set kept ⌝ }
+    requires { ⌜ Few set n × (b ≤ n) × Of.Candidate (Among set) n (cells c 0 n)
+        × (past ≡ least set n b (cells c 0 n) + room set n b)
+        × Renames (decoded (now codes)) set kept ⌝ }
     requires { ⌜ Distinct (decoded (now codes)) ⌝ }
     requires { ⌜ 2 * pairs n ≤ length (now words) ⌝ }
     requires { ⌜ Tabled (decoded (now codes)) set (now table) ⌝ }
-    ensures { λ r. ⌜ Looked r (decoded (now (codes .entry))) set n start b (cells c 0 n) × Past (2 * pairs n) (now (words .entry)) (now (words .exit)) ⌝ }
+    ensures { λ r. ⌜ Looked r (decoded (now (codes .entry))) set n start b (cells c 0 n)
+        × Past (2 * pairs n) (now (words .entry)) (now (words .exit)) ⌝ }
 {
     if past <= start {
         return true;
@@ -141,9 +147,10 @@ fn nothing() -> Hit
     }
 }
 
-// The candidate of n tokens with the lowest number from `start` to below `end` that has two trees, over a set whose least
-// terminal is low. A candidate's first b cells are looked at: where they rule it out, the search goes on past all that
-// share them, else with a cell more; it ends where the numbers of those that share them are past the end.
+// The candidate of n tokens with the lowest number from `start` to below `end` that has two trees,
+// over a set whose least terminal is low. A candidate's first b cells are looked at: where they
+// rule it out, the search goes on past all that share them, else with a cell more; it ends where
+// the numbers of those that share them are past the end.
 fn search(
     codes: &[u64],
     set: u64,
@@ -159,7 +166,8 @@ fn search(
     requires { ⌜ Distinct (decoded (now codes)) ⌝ }
     requires { ⌜ 2 * pairs n ≤ length (now words) ⌝ }
     requires { ⌜ Tabled (decoded (now codes)) set (now table) ⌝ }
-    ensures { λ r. ⌜ Searched (decoded (now (codes .entry))) set n start end (r .length) (r .number) (cells (r .candidate) 0 n) ⌝ }
+    ensures { λ r. ⌜ Searched (decoded (now (codes .entry))) set n start end (r .length) (r .number)
+        (cells (r .candidate) 0 n) ⌝ }
     ensures { λ r. ⌜ Past (2 * pairs n) (now (words .entry)) (now (words .exit)) ⌝ }
 {
     let mut c = Candidate::first(set, low, n);
@@ -205,7 +213,8 @@ fn search_over(
     requires { ⌜ Few set n × Lowest set low × Renames (decoded (now codes)) set kept ⌝ }
     requires { ⌜ Distinct (decoded (now codes)) ⌝ }
     requires { ⌜ 2 * pairs n ≤ length (now words) ⌝ }
-    ensures { λ r. ⌜ Searched (decoded (now (codes .entry))) set n start end (r .length) (r .number) (cells (r .candidate) 0 n) ⌝ }
+    ensures { λ r. ⌜ Searched (decoded (now (codes .entry))) set n start end (r .length) (r .number)
+        (cells (r .candidate) 0 n) ⌝ }
     ensures { λ r. ⌜ Past (2 * pairs n) (now (words .entry)) (now (words .exit)) ⌝ }
 {
     let mut table: [u64; 132] = [0; 132];
@@ -213,13 +222,15 @@ fn search_over(
     search(codes, set, kept, &table[..], low, n, start, end, words)
 }
 
-// The lowest number from `start` to below `end` over the terminals of the sheet, by the rules that 0 reaches.
+// The lowest number from `start` to below `end` over the terminals of the sheet, by the rules that
+// 0 reaches.
 fn find(g: Grammar, n: usize, start: u64, end: u64, words: &mut [u64]) -> Hit
     requires { ⌜ (1 ≤ n) × (n ≤ 7) ⌝ }
     requires { ⌜ Formed g ⌝ }
     requires { ⌜ arrangements (terminalCount (rules g)) n ≤ 4294967296 ⌝ }
     requires { ⌜ 2 * pairs n ≤ length (now words) ⌝ }
-    ensures { λ r. ⌜ Found (rules g) n start end (r .length) (r .number) (cells (r .candidate) 0 n) ⌝ }
+    ensures { λ r. ⌜ Found (rules g) n start end (r .length) (r .number)
+        (cells (r .candidate) 0 n) ⌝ }
     ensures { λ r. ⌜ Past (2 * pairs n) (now (words .entry)) (now (words .exit)) ⌝ }
 {
     let set = terminals(g);
@@ -242,7 +253,8 @@ pub struct Report {
     pub sentence: Sentence,
 }
 
-// The lowest number from `start` to below `end` whose arrangement rises and has two trees, over a well-formed grammar.
+// The lowest number from `start` to below `end` whose arrangement rises and has two trees, over a
+// well-formed grammar.
 pub fn share_rules(g: Grammar, n: usize, start: u64, end: u64, words: &mut [u64]) -> Report
     requires { ⌜ (1 ≤ n) × (n ≤ 7) ⌝ }
     requires { ⌜ Formed g ⌝ }

@@ -49,7 +49,8 @@ fn put_values(
     number: u64,
 ) -> usize
     requires { ⌜ at + 89 ≤ length (now out) ⌝ }
-    ensures { λ r. ⌜ Wrote (now (out .entry)) (now (out .exit)) at (shareLines a quotient remainder number) r ⌝ }
+    ensures { λ r. ⌜ Wrote (now (out .entry)) (now (out .exit)) at
+        (shareLines a quotient remainder number) r ⌝ }
     ensures { λ r. ⌜ r ≤ at + 89 ⌝ }
 {
     let b = put_bytes(out, at, b"quotient remainder number\n");
@@ -69,7 +70,8 @@ fn put_shared(
     number: u64,
 ) -> usize
     requires { ⌜ at + 89 ≤ length (now out) ⌝ }
-    ensures { λ r. ⌜ Wrote (now (out .entry)) (now (out .exit)) at (shareText a quotient remainder number) r ⌝ }
+    ensures { λ r. ⌜ Wrote (now (out .entry)) (now (out .exit)) at
+        (shareText a quotient remainder number) r ⌝ }
     ensures { λ r. ⌜ r ≤ at + 89 ⌝ }
 {
     match a {
@@ -85,7 +87,8 @@ fn put_shared(
 // The whole output of the call `share`; its length.
 pub fn share_text(rules: &[u8], size: u32, racks: u32, i: u32, out: &mut [u8]) -> usize
     requires { ⌜ 262144 ≤ length (now out) ⌝ }
-    ensures { λ r. ⌜ Printed (ShareTextOf size racks i) (now (rules .entry)) (now (out .entry)) (now (out .exit)) r ⌝ }
+    ensures { λ r. ⌜ Printed (ShareTextOf size racks i) (now (rules .entry)) (now (out .entry))
+        (now (out .exit)) r ⌝ }
 {
     let mut words = [0u64; 58];
     let r = share(rules, size as usize, racks as usize, i as usize, &mut words);

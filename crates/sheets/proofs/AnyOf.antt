@@ -14,7 +14,8 @@ module _ {A : Type 0} (p : A → Bool) (l : List A) (n i : ℕ) where
   pub any-end : n ≤ i → anyOf p (drop i (take n l)) ≡ false
   any-end h = rw (drop-of-length-le (take n l) {i = i} (omega (arith, length-take n l)))
 
-module _ {A : Type 0} (p : A → Bool) (l : List A) (n i : ℕ) (d : A) (h : i < n) (k : n ≤ length l) where
+module _ {A : Type 0} (p : A → Bool) (l : List A) (n i : ℕ) (d : A) (h : i < n)
+    (k : n ≤ length l) where
   open-at : anyOf p (drop i (take n l)) ≡ p (getD l i d) || anyOf p (drop (suc i) (take n l))
   open-at =
       let m : i < length (take n l) = omega (arith, length-take-le n l k) in
@@ -23,11 +24,13 @@ module _ {A : Type 0} (p : A → Bool) (l : List A) (n i : ℕ) (d : A) (h : i <
   pub any-hit : p (getD l i d) ≡ true → anyOf p (drop i (take n l)) ≡ true
   any-hit e = open-at ∙ rw e
 
-  pub any-more : p (getD l i d) ≡ false → anyOf p (drop i (take n l)) ≡ anyOf p (drop (i + 1) (take n l))
+  pub any-more : p (getD l i d) ≡ false
+      → anyOf p (drop i (take n l)) ≡ anyOf p (drop (i + 1) (take n l))
   any-more e = open-at ∙ rw (e, add-one)
 
 -- no member has what none has
-pub any-none : {A : Type 0} (p : A → Bool) {x : A} (l : List A) → anyOf p l ≡ false → List·Memᴰ x l → p x ≡ true → ⊥
+pub any-none : {A : Type 0} (p : A → Bool) {x : A} (l : List A) → anyOf p l ≡ false → List·Memᴰ x l
+    → p x ≡ true → ⊥
 any-none p {x} (a ∷ l) e (List·Memᴰ·head j) t = go (p a) refl
   where
     go : (b : Bool) → p a ≡ b → ⊥

@@ -17,7 +17,8 @@ module _ {A : Type 0} {o : Reading A} where
   pub same-items : {x y : A} → o ≡ accepted x → o ≡ accepted y → x ≡ y
   same-items e d = cc
 
-  pub same-refusal : {f f′ : Fault} {l l′ : ℕ} → RefusedAs o f l → RefusedAs o f′ l′ → (f ≡ f′) × (l ≡ l′)
+  pub same-refusal : {f f′ : Fault} {l l′ : ℕ} → RefusedAs o f l → RefusedAs o f′ l′
+      → (f ≡ f′) × (l ≡ l′)
   same-refusal {f} {f′} {l} {l′} r s =
       let e = sym (r .is) ∙ s .is in
       let n : numberOf f ≡ numberOf f′ = cc in

@@ -17,14 +17,16 @@ use Rattle.fields.specs.Pieces.{pieces, isEmpty, sameBytes}
 use Rattle.fields.specs.Parts.{Part}
 use Rattle.fields.proofs.Pieces.{from-zero, pieces-first}
 use Rattle.sheets.specs.Items.{Reading, accepted, refused, itemsFrom, withNames}
-use Rattle.sheets.specs.RuleSheets.{anyOf, isStart, ruleStep, finish, rulesFrom, ruleNames, ruleSheet}
+use Rattle.sheets.specs.RuleSheets.{anyOf, isStart, ruleStep, finish, rulesFrom, ruleNames}
+use Rattle.sheets.specs.RuleSheets.{ruleSheet}
 use Rattle.sheets.specs.TokenSheets.{tokenStep, tokenNames, wideNames, wideSheet, tokenSheet}
 use Rattle.sheets.specs.RefusedLines.{pieceStart, LinePart}
 use Rattle.sheets.proofs.Loop.{line-in, line-cut}
 use Rattle.sheets.proofs.Accepted.{items-line}
 use Rattle.fields.specs.Cursors.{piecesFrom, lineAt, bytesLeft}
 
--- the walk's invariant: the line with `left` lines before it from `at` on is the line with n lines before it
+-- the walk's invariant: the line with `left` lines before it from `at` on is the line with n lines
+-- before it
 pub record Walk (s : List ℕ) (n at left : ℕ) : Type 0 where
   pub low : at ≤ length s
   pub there : left < length (piecesFrom 10 s at)
@@ -32,13 +34,21 @@ pub record Walk (s : List ℕ) (n at left : ℕ) : Type 0 where
   pub start : pieceStart (pieces 10 s) n ≡ at + pieceStart (piecesFrom 10 s at) left
 
 pub walk-start : (s : List ℕ) (n : ℕ) → n < length (pieces 10 s) → Walk s n 0 n
-walk-start s n h = record { low = zero-le; there = rw (from-zero 10 s) h; same = rw (from-zero 10 s) refl; start = rw (from-zero 10 s, zero-add (pieceStart (pieces 10 s) n)) refl }
+walk-start s n h = record {
+  low = zero-le;
+  there = rw (from-zero 10 s) h;
+  same = rw (from-zero 10 s)
+      refl;
+  start = rw (from-zero 10 s, zero-add (pieceStart (pieces 10 s) n)) refl;
+}
 
-getD-next : (p : List ℕ) (ps : List (List ℕ)) (n : ℕ) → 0 < n → getD (p ∷ ps) n [] ≡ getD ps (n - 1) []
+getD-next : (p : List ℕ) (ps : List (List ℕ)) (n : ℕ) → 0 < n
+    → getD (p ∷ ps) n [] ≡ getD ps (n - 1) []
 getD-next p ps zero h = absurd (omega arith)
 getD-next p ps (suc n) h = let e : suc n - 1 ≡ n = omega arith in rw e refl
 
-startOf-next : (p : List ℕ) (ps : List (List ℕ)) (n : ℕ) → 0 < n → pieceStart (p ∷ ps) n ≡ length p + 1 + pieceStart ps (n - 1)
+startOf-next : (p : List ℕ) (ps : List (List ℕ)) (n : ℕ) → 0 < n
+    → pieceStart (p ∷ ps) n ≡ length p + 1 + pieceStart ps (n - 1)
 startOf-next p ps zero h = absurd (omega arith)
 startOf-next p ps (suc n) h = let e : suc n - 1 ≡ n = omega arith in rw e refl
 
@@ -46,11 +56,13 @@ startOf-next p ps (suc n) h = let e : suc n - 1 ≡ n = omega arith in rw e refl
 some-left : (s : List ℕ) (at : ℕ) → 0 < length (piecesFrom 10 s at) → at ≤ length s
 some-left s at h = go (leb at (length s)) refl h
   where
-    go : (b : Bool) → leb at (length s) ≡ b → 0 < length (cond b (pieces 10 (drop at s)) []) → at ≤ length s
+    go : (b : Bool) → leb at (length s) ≡ b → 0 < length (cond b (pieces 10 (drop at s)) [])
+        → at ≤ length s
     go true e h = leb-true at (length s) e
     go false e h = absurd (omega arith)
 
-module _ {s : List ℕ} {n at left : ℕ} (w : Walk s n at left) {c : Cursor} (is : c ≡ lineAt s at) where
+module _ {s : List ℕ} {n at left : ℕ} (w : Walk s n at left) {c : Cursor}
+    (is : c ≡ lineAt s at) where
   cut : piecesFrom 10 s at ≡ bytesLeft s c ∷ piecesFrom 10 s (c .end + 1)
   cut = line-cut s at (w .low) c is
 
@@ -60,7 +72,12 @@ module _ {s : List ℕ} {n at left : ℕ} (w : Walk s n at left) {c : Cursor} (i
   long : at + length (bytesLeft s c) ≡ c .end
   long =
       let i = line-in s at (w .low) c is in
-      omega (arith, starts, length-take-le (c .end - c .at) (drop (c .at) s) (omega (arith, length-drop (c .at) s)))
+      omega (
+        arith,
+        starts,
+        length-take-le (c .end - c .at) (drop (c .at) s)
+            (omega (arith, length-drop (c .at) s)),
+      )
 
   module _ (more : 0 < left) where
     behind : left - 1 < length (piecesFrom 10 s (c .end + 1))
@@ -94,15 +111,21 @@ module _ {s : List ℕ} {n at left : ℕ} (w : Walk s n at left) {c : Cursor} (i
     fits = omega (arith, long, starts, ap length here)
 
 -- the walk's end: the bytes of the cursor's line are the line's
-pub walk-end : {sheet r : RefT (List ℕ)} {n at left : ℕ} (w : Walk (sheet .now) n at left) {c : Cursor} (is : c ≡ lineAt (sheet .now) at) → left ≤ 0
+pub walk-end : {sheet r : RefT (List ℕ)} {n at left : ℕ} (w : Walk (sheet .now) n at left)
+    {c : Cursor} (is : c ≡ lineAt (sheet .now) at) → left ≤ 0
     → Part sheet (c .at) (c .end - c .at) r → LinePart sheet n r
-walk-end w is h p = record { part = rw (← fits w is h, ← (starts w is ∙ at-start w is h)) p; line = p .holds ∙ here w is h }
+walk-end w is h p = record {
+  part = rw (← fits w is h, ← (starts w is ∙ at-start w is h)) p;
+  line =
+      p .holds ∙ here w is h;
+}
 
 -- a refusal's line is a line of the sheet, or 0
 
 pub names-line : {A : Type 0} (bad : Reading A) (names : List ℕ) (k : List (List ℕ) → Reading A)
     → ((ps : List (List ℕ)) (f : ℕ) (l : ℕ) → k ps ≡ refused f l → l ≤ 1 + length ps)
-    → (ps : List (List ℕ)) (f : ℕ) (l : ℕ) → (bad ≡ refused f l → l ≤ length ps) → withNames bad names ps k ≡ refused f l → l ≤ length ps
+    → (ps : List (List ℕ)) (f : ℕ) (l : ℕ) → (bad ≡ refused f l → l ≤ length ps)
+    → withNames bad names ps k ≡ refused f l → l ≤ length ps
 names-line bad names k h [] f l o e = o e
 names-line bad names k h (q ∷ qs) f l o e = go (not (isEmpty qs) && sameBytes q names) e
   where
@@ -111,10 +134,12 @@ names-line bad names k h (q ∷ qs) f l o e = go (not (isEmpty qs) && sameBytes 
     go false e = o e
 
 -- a sheet has a line 1
-pub first-line : {A : Type 0} (g : ℕ) (s : List ℕ) (f : ℕ) (l : ℕ) → _≡_ {A = Reading A} (refused g 1) (refused f l) → l ≤ length (pieces 10 s)
+pub first-line : {A : Type 0} (g : ℕ) (s : List ℕ) (f : ℕ) (l : ℕ)
+    → _≡_ {A = Reading A} (refused g 1) (refused f l) → l ≤ length (pieces 10 s)
 first-line g s f l e = let j : 1 ≡ l = cc in omega (arith, ap length (pieces-first 10 s))
 
-pub finish-line : (x : Reading Rules) (n : ℕ) (f : ℕ) (l : ℕ) → ((g : ℕ) (m : ℕ) → x ≡ refused g m → m ≤ n) → finish x ≡ refused f l → l ≤ n
+pub finish-line : (x : Reading Rules) (n : ℕ) (f : ℕ) (l : ℕ)
+    → ((g : ℕ) (m : ℕ) → x ≡ refused g m → m ≤ n) → finish x ≡ refused f l → l ≤ n
 finish-line (accepted w) n f l h e = go (anyOf isStart w) e
   where
     go : (b : Bool) → cond b (accepted w) (refused 7 0) ≡ refused f l → l ≤ n
@@ -122,16 +147,22 @@ finish-line (accepted w) n f l h e = go (anyOf isStart w) e
     go false e = let j : _≡_ {A = ℕ} 0 l = cc in omega arith
 finish-line (refused g m) n f l h e = let j : m ≡ l = cc in omega (arith, h g m refl)
 
-pub rule-exists : (s : List ℕ) (f : ℕ) (l : ℕ) → ruleSheet s ≡ refused f l → l ≤ length (pieces 10 s)
+pub rule-exists : (s : List ℕ) (f : ℕ) (l : ℕ) → ruleSheet s ≡ refused f l
+    → l ≤ length (pieces 10 s)
 rule-exists s f l =
     names-line (refused 1 1) ruleNames rulesFrom
-    (λ ps f l. finish-line (itemsFrom ruleStep [] ps) (1 + length ps) f l (λ g m e. omega (arith, items-line ruleStep [] ps g m e)))
+    (λ ps f l. finish-line (itemsFrom ruleStep [] ps) (1 + length ps) f l
+    (λ g m e. omega (arith, items-line ruleStep [] ps g m e)))
     (pieces 10 s) f l (first-line 1 s f l)
 
-pub token-exists : (s : List ℕ) (f : ℕ) (l : ℕ) → tokenSheet s ≡ refused f l → l ≤ length (pieces 10 s)
+pub token-exists : (s : List ℕ) (f : ℕ) (l : ℕ) → tokenSheet s ≡ refused f l
+    → l ≤ length (pieces 10 s)
 token-exists s f l =
-    names-line (wideSheet s) tokenNames (itemsFrom (tokenStep false) []) (lines false) (pieces 10 s) f l
-    (names-line (refused 11 1) wideNames (itemsFrom (tokenStep true) []) (lines true) (pieces 10 s) f l (first-line 11 s f l))
+    names-line (wideSheet s) tokenNames (itemsFrom (tokenStep false) []) (lines false) (pieces 10 s)
+    f l
+    (names-line (refused 11 1) wideNames (itemsFrom (tokenStep true) []) (lines true) (pieces 10 s)
+    f l (first-line 11 s f l))
   where
-    lines : (wide : Bool) (ps : List (List ℕ)) (f : ℕ) (l : ℕ) → itemsFrom (tokenStep wide) [] ps ≡ refused f l → l ≤ 1 + length ps
+    lines : (wide : Bool) (ps : List (List ℕ)) (f : ℕ) (l : ℕ)
+        → itemsFrom (tokenStep wide) [] ps ≡ refused f l → l ≤ 1 + length ps
     lines wide ps f l e = omega (arith, items-line (tokenStep wide) [] ps f l e)

@@ -1,5 +1,5 @@
--- The order of tokens as the code tests it (for inner functions): `after-says` in `proofs/Accepted.antt` says that it is `After`,
--- `order-computed` that refusal 15 is given by it.
+-- The order of tokens as the code tests it (for inner functions): `after-says` in
+-- `proofs/Accepted.antt` says that it is `After`, `order-computed` that refusal 15 is given by it.
 use mathlib.Core.List.{[], _∷_}
 use mathlib.Core.Bool.{Bool, true, _&&_, _||_}
 use lib.Dec.{eqb, ltb, leb}

@@ -27,7 +27,8 @@ abbrev pub readingOf : {A : Type 0} → Outcome → A → Reading A
 readingOf Accepted w = accepted w
 readingOf (Refused f l) w = refused (numberOf f) l
 
--- the answer is the wanted reading; an accepted grammar is formed, a refused one has no rules; the index is true of the rules
+-- the answer is the wanted reading; an accepted grammar is formed, a refused one has no rules; the
+-- index is true of the rules
 pub record RulesRead (r : GrammarRead) (want : Reading Rules) : Type 0 where
   pub is : readingOf (r .outcome) (rules (r .grammar)) ≡ want
   pub formed : r .outcome ≡ Accepted → Formed (r .grammar)
@@ -46,7 +47,8 @@ asRuleStep (RuleStep.Next r) = next r
 asRuleStep (RuleStep.Stop f) = stop (numberOf f)
 asRuleStep RuleStep.End = end
 
--- what a line makes of the book: 02, ask 7, "the index stays true at each rule appended; a refused rule line changes neither rules nor index"
+-- what a line makes of the book: 02, ask 7, "the index stays true at each rule appended; a refused
+-- rule line changes neither rules nor index"
 abbrev pub Adds : Book → RuleStep → Book → Type 0
 Adds b (RuleStep.Next r) x = Appended b r x
 Adds b (RuleStep.Stop f) x = x ≡ b

@@ -1,4 +1,5 @@
--- The refused line of a call with both sheets: 01, "Where each refusal is checked", the last paragraph.
+-- The refused line of a call with both sheets: 01, "Where each refusal is checked", the last
+-- paragraph.
 use mathlib.Core.Path.{_≡_}
 use Prim.Native.Nat.{ℕ, zero, suc, _+_}
 use mathlib.Core.List.{List, [], _∷_}
@@ -11,7 +12,8 @@ use Rattle.sheets.specs.RuleSheets.{ruleSheet}
 use Rattle.sheets.specs.TokenSheets.{tokenSheet}
 use Rattle.grammar.specs.Trees.{Rules}
 
--- the sheet that holds the refused line, and how many lines stand before it there; or there is no such line
+-- the sheet that holds the refused line, and how many lines stand before it there; or there is no
+-- such line
 pub data HeldLine : Type 0 where
   in-rules : ℕ → HeldLine
   in-tokens : ℕ → HeldLine
@@ -44,7 +46,8 @@ pieceStart (p ∷ ps) (suc n) = length p + 1 + pieceStart ps n
 
 -- r is the part of the sheet that is its line with n lines before it, without its byte 10
 pub record LinePart (sheet : RefT (List ℕ)) (n : ℕ) (r : RefT (List ℕ)) : Type 0 where
-  pub part : Part sheet (pieceStart (pieces 10 (sheet .now)) n) (length (getD (pieces 10 (sheet .now)) n [])) r
+  pub part : Part sheet (pieceStart (pieces 10 (sheet .now)) n)
+      (length (getD (pieces 10 (sheet .now)) n [])) r
   pub line : r .now ≡ getD (pieces 10 (sheet .now)) n []
 
 -- what is handed back; with no such line, the first zero bytes of the rule sheet

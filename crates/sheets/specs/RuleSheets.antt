@@ -11,7 +11,8 @@ use Rattle.lines.specs.declared.RuleLine.the-variants as RuleLine
 use Rattle.lines.specs.RuleLines.{ruleLine}
 use Rattle.lines.specs.declared.Key.{Key}
 use Rattle.lines.specs.Keys.{keyOf, sameKey}
-use Rattle.sheets.specs.Items.{Reading, accepted, refused, Step, next, stop, lineStep, itemsFrom, withNames}
+use Rattle.sheets.specs.Items.{Reading, accepted, refused, Step, next, stop, lineStep}
+use Rattle.sheets.specs.Items.{itemsFrom, withNames}
 
 -- a rule has the key
 abbrev pub hasKey : Key → Rule → Bool
@@ -26,7 +27,8 @@ abbrev pub anyOf : {A : Type 0} → (A → Bool) → List A → Bool
 anyOf p [] = false
 anyOf p (x ∷ xs) = p x || anyOf p xs
 
--- 5: an earlier line has the same left, kind, first and second, under any lay; of kind A, the same left and a terminal of this one
+-- 5: an earlier line has the same left, kind, first and second, under any lay; of kind A, the same
+-- left and a terminal of this one
 abbrev pub freshStep : Rules → Rule → Step Rule
 freshStep seen r = cond (anyOf (hasKey (keyOf r)) seen) (stop 5) (next r)
 
@@ -57,7 +59,8 @@ rulesFrom ps = finish (itemsFrom ruleStep [] ps)
 -- left kind first second lay
 abbrev pub ruleNames : List ℕ
 ruleNames =
-    108 ∷ 101 ∷ 102 ∷ 116 ∷ 32 ∷ 107 ∷ 105 ∷ 110 ∷ 100 ∷ 32 ∷ 102 ∷ 105 ∷ 114 ∷ 115 ∷ 116 ∷ 32 ∷ 115 ∷ 101 ∷ 99 ∷ 111 ∷ 110 ∷ 100 ∷ 32
+    108 ∷ 101 ∷ 102 ∷ 116 ∷ 32 ∷ 107 ∷ 105 ∷ 110 ∷ 100 ∷ 32 ∷ 102 ∷ 105 ∷ 114 ∷ 115 ∷ 116 ∷ 32 ∷ 115
+    ∷ 101 ∷ 99 ∷ 111 ∷ 110 ∷ 100 ∷ 32
     ∷ 108 ∷ 97 ∷ 121 ∷ []
 
 -- 1, then line by line, then 7

@@ -1,4 +1,5 @@
--- What a token sheet says: its tokens, or the refusal with its line. 01, refusals 11 to 15; request 9, widths and refusal 47.
+-- What a token sheet says: its tokens, or the refusal with its line. 01, refusals 11 to 15; request
+-- 9, widths and refusal 47.
 use Prim.Native.Nat.{ℕ}
 use mathlib.Core.List.{List, [], _∷_}
 use mathlib.Core.Bool.{Bool, true, false}
@@ -9,7 +10,8 @@ use Rattle.fields.specs.Pieces.{pieces}
 use Rattle.lines.specs.declared.TokenLine.{TokenLine}
 use Rattle.lines.specs.declared.TokenLine.the-variants as TokenLine
 use Rattle.lines.specs.TokenLines.{tokenLine}
-use Rattle.sheets.specs.Items.{Reading, refused, Step, next, stop, lineStep, itemsFrom, withNames}
+use Rattle.sheets.specs.Items.{Reading, refused, Step, next, stop, lineStep, itemsFrom}
+use Rattle.sheets.specs.Items.{withNames}
 
 -- 15: not after the token before
 abbrev pub inOrder : {P : Type 0} → Dec P → Token → Step Token
@@ -31,7 +33,8 @@ tokenSaid seen (TokenLine.Good t) = orderStep seen t
 abbrev pub tokenSays : Bool → Word → List ℕ → Step Token
 tokenSays wide seen line = tokenSaid seen (tokenLine wide line)
 
--- a token line after the tokens seen: 14 (a 65th token), then 12, 13, 47, 15; `wide`: the names have `width`
+-- a token line after the tokens seen: 14 (a 65th token), then 12, 13, 47, 15; `wide`: the names
+-- have `width`
 abbrev pub tokenStep : Bool → Word → List ℕ → Bool → Step Token
 tokenStep wide = lineStep 64 14 12 (tokenSays wide)
 
@@ -41,7 +44,8 @@ tokenNames = 116 ∷ 101 ∷ 114 ∷ 109 ∷ 32 ∷ 108 ∷ 105 ∷ 110 ∷ 101 
 
 -- term line col width
 abbrev pub wideNames : List ℕ
-wideNames = 116 ∷ 101 ∷ 114 ∷ 109 ∷ 32 ∷ 108 ∷ 105 ∷ 110 ∷ 101 ∷ 32 ∷ 99 ∷ 111 ∷ 108 ∷ 32 ∷ 119 ∷ 105 ∷ 100 ∷ 116 ∷ 104 ∷ []
+wideNames = 116 ∷ 101 ∷ 114 ∷ 109 ∷ 32 ∷ 108 ∷ 105 ∷ 110 ∷ 101 ∷ 32 ∷ 99 ∷ 111 ∷ 108 ∷ 32 ∷ 119
+    ∷ 105 ∷ 100 ∷ 116 ∷ 104 ∷ []
 
 -- 11, then line by line, with widths
 abbrev pub wideSheet : List ℕ → Reading Word

@@ -1,4 +1,5 @@
-// The readers of the two sheets, for any bytes: a grammar and a sentence, or the refusal with its line; and the line that a refusal names.
+// The readers of the two sheets, for any bytes: a grammar and a sentence, or the refusal with its
+// line; and the line that a refusal names.
 use fields::Cursor;
 use grammar::Column;
 use grammar::Grammar;
@@ -30,7 +31,8 @@ ghost use Rattle.lines.specs.Turns.{turnOf};
 ghost use Rattle.fields.specs.Pieces.{pieces};
 ghost use Rattle.sheets.specs.Refusals.{numberOf};
 ghost use Rattle.sheets.specs.Items.{accepted, refused, stepAt, itemsFrom};
-ghost use Rattle.sheets.specs.RuleSheets.{hasKey, anyOf, isStart, freshStep, ruleSays, finish, rulesFrom, ruleSheet};
+ghost use Rattle.sheets.specs.RuleSheets.{hasKey, anyOf, isStart, freshStep, ruleSays};
+ghost use Rattle.sheets.specs.RuleSheets.{finish, rulesFrom, ruleSheet};
 ghost use Rattle.sheets.specs.Following.{after};
 ghost use Rattle.sheets.specs.TokenSheets.{orderStep, tokenSays, tokenStep, tokenSheet};
 ghost use Rattle.sheets.specs.RefusedLines.{LinePart, Hands};
@@ -38,7 +40,8 @@ ghost use Rattle.sheets.specs.LinesIn.{LineIn, heldOf};
 ghost use Rattle.sheets.specs.Promises.{asRuleStep, asTokenStep, Adds, RulesRead, TokensRead};
 ghost use Rattle.fields.specs.Cursors.{piecesFrom, bytesLeft};
 
-// The refusals, in the order of 01's table with 02's in their places; `numberOf` in specs/ has their numbers. Many are given by later crates.
+// The refusals, in the order of 01's table with 02's in their places; `numberOf` in specs/ has
+// their numbers. Many are given by later crates.
 pub enum Fault {
     RuleNames,
     RuleMany,
@@ -196,7 +199,10 @@ fn rule_said(s: &[u8], c: Cursor, rules: [Rule; 128], n: usize) -> RuleStep
 // What the cursor's line gives after the first n rules.
 fn rule_step(s: &[u8], c: Cursor, rules: [Rule; 128], n: usize) -> RuleStep
     requires { ⌜ (c .at ≤ c .end) × (c .end ≤ length (now s)) × (n ≤ 128) ⌝ }
-    ensures { λ r. ⌜ asRuleStep r ≡ stepAt 6 2 (ruleSays (take n rules) (bytesLeft (now (s .entry)) c)) (turnOf 128 n (bytesLeft (now (s .entry)) c) (ltb (c .end) (length (now (s .entry))))) ⌝ }
+    ensures { λ r. ⌜ asRuleStep r ≡ stepAt 6 2
+        (ruleSays (take n rules) (bytesLeft (now (s .entry)) c))
+        (turnOf 128 n (bytesLeft (now (s .entry)) c)
+        (ltb (c .end) (length (now (s .entry))))) ⌝ }
 {
     match lines::turn_at(s, c, n, 128) {
         Turn::End => RuleStep::End,
@@ -241,10 +247,14 @@ pub struct Added {
     pub book: Book,
 }
 
-// The cursor's line after the rules of a book: its rule is appended, and a line that gives none leaves the book as it was.
+// The cursor's line after the rules of a book: its rule is appended, and a line that gives none
+// leaves the book as it was.
 fn add_line(s: &[u8], c: Cursor, book: Book) -> Added
     requires { ⌜ (c .at ≤ c .end) × (c .end ≤ length (now s)) × Booked book ⌝ }
-    ensures { λ r. ⌜ asRuleStep (r .step) ≡ stepAt 6 2 (ruleSays (rulesOf (book .grammar)) (bytesLeft (now (s .entry)) c)) (turnOf 128 (book .grammar .count) (bytesLeft (now (s .entry)) c) (ltb (c .end) (length (now (s .entry))))) ⌝ }
+    ensures { λ r. ⌜ asRuleStep (r .step) ≡ stepAt 6 2
+        (ruleSays (rulesOf (book .grammar)) (bytesLeft (now (s .entry)) c))
+        (turnOf 128 (book .grammar .count) (bytesLeft (now (s .entry)) c)
+        (ltb (c .end) (length (now (s .entry))))) ⌝ }
     ensures { λ r. ⌜ Adds book (r .step) (r .book) ⌝ }
 {
     let g = book.grammar;
@@ -343,7 +353,8 @@ fn ordered(tokens: [Token; 64], n: usize, t: Token) -> TokenStep
 // What a whole line says after the first n tokens.
 fn token_said(s: &[u8], c: Cursor, tokens: [Token; 64], n: usize, wide: bool) -> TokenStep
     requires { ⌜ (c .at ≤ c .end) × (c .end ≤ length (now s)) × (n ≤ 64) ⌝ }
-    ensures { λ r. ⌜ asTokenStep r ≡ tokenSays wide (take n tokens) (bytesLeft (now (s .entry)) c) ⌝ }
+    ensures { λ r. ⌜ asTokenStep r ≡ tokenSays wide (take n tokens)
+        (bytesLeft (now (s .entry)) c) ⌝ }
 {
     match lines::token_line(s, c, wide) {
         TokenLine::Form => TokenStep::Stop(Fault::TokenForm),
@@ -356,7 +367,10 @@ fn token_said(s: &[u8], c: Cursor, tokens: [Token; 64], n: usize, wide: bool) ->
 // What the cursor's line gives after the first n tokens.
 fn token_step(s: &[u8], c: Cursor, tokens: [Token; 64], n: usize, wide: bool) -> TokenStep
     requires { ⌜ (c .at ≤ c .end) × (c .end ≤ length (now s)) × (n ≤ 64) ⌝ }
-    ensures { λ r. ⌜ asTokenStep r ≡ stepAt 14 12 (tokenSays wide (take n tokens) (bytesLeft (now (s .entry)) c)) (turnOf 64 n (bytesLeft (now (s .entry)) c) (ltb (c .end) (length (now (s .entry))))) ⌝ }
+    ensures { λ r. ⌜ asTokenStep r ≡ stepAt 14 12
+        (tokenSays wide (take n tokens) (bytesLeft (now (s .entry)) c))
+        (turnOf 64 n (bytesLeft (now (s .entry)) c)
+        (ltb (c .end) (length (now (s .entry))))) ⌝ }
 {
     match lines::turn_at(s, c, n, 64) {
         Turn::End => TokenStep::End,
@@ -388,7 +402,8 @@ fn refuse_tokens(tokens: [Token; 64], f: Fault, line: usize) -> SentenceRead
 // The token lines from a place on, with widths if `wide` says so.
 fn tokens_from(s: &[u8], start: usize, wide: bool) -> SentenceRead
     requires { ⌜ start ≤ length (now s) ⌝ }
-    ensures { λ r. ⌜ TokensRead r (itemsFrom (tokenStep wide) [] (piecesFrom 10 (now (s .entry)) start)) ⌝ }
+    ensures { λ r. ⌜ TokensRead r (itemsFrom (tokenStep wide) []
+        (piecesFrom 10 (now (s .entry)) start)) ⌝ }
 {
     let mut tokens = no_tokens();
     let mut n: usize = 0;
@@ -447,8 +462,8 @@ fn line_after<'a>(s: &'a [u8], n: usize) -> &'a [u8]
     Cursor::line(s, at).bytes(s)
 }
 
-// The refused line of a call with two sheets that were read so: as a part of the sheet that holds it; with no such line, the
-// first zero bytes of the sheet with the rules.
+// The refused line of a call with two sheets that were read so: as a part of the sheet that holds
+// it; with no such line, the first zero bytes of the sheet with the rules.
 pub fn refused_read<'a>(o: Outcome, p: Outcome, rules: &'a [u8], tokens: &'a [u8]) -> &'a [u8]
     requires { ⌜ LineIn (now rules) o ⌝ }
     requires { ⌜ LineIn (now tokens) p ⌝ }

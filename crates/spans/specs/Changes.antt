@@ -4,7 +4,8 @@ use mathlib.Core.List.{List}
 use Prim.Native.Nat.{ℕ, _+_, _*_, _≤_, _<_}
 use lib.ListN.{length, getD}
 
--- the words from k on are as they were, and no word is added or lost: 01, "Words past the span sheet never change"
+-- the words from k on are as they were, and no word is added or lost: 01, "Words past the span
+-- sheet never change"
 pub record Past (k : ℕ) (ws ws′ : List ℕ) : Type 0 where
   pub long : length ws′ ≡ length ws
   pub rest : (q : ℕ) → k ≤ q → getD ws′ q 0 ≡ getD ws q 0

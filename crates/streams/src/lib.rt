@@ -1,4 +1,5 @@
-// Standard input read to its end and standard output written whole: a call that fails is never taken for the end.
+// Standard input read to its end and standard output written whole: a call that fails is never
+// taken for the end.
 ghost use lib.ListN.{length};
 ghost use Rattle.streams.specs.Within.{Within};
 use libc::EINTR;
@@ -11,7 +12,8 @@ pub enum Moved {
     Failed,
 }
 
-// One read, made again while a signal interrupts it before it moves a byte; no run uses the turns up.
+// One read, made again while a signal interrupts it before it moves a byte; no run uses the turns
+// up.
 fn read_once(fd: i32, buf: &mut [u8]) -> Moved
     ensures { λ r. ⌜ Within (length (now (buf .entry))) r ⌝ }
 {
@@ -29,7 +31,8 @@ fn read_once(fd: i32, buf: &mut [u8]) -> Moved
     Moved::Failed
 }
 
-// Reads to the end of the input or of the buffer; how many bytes stand at the front of the buffer then.
+// Reads to the end of the input or of the buffer; how many bytes stand at the front of the buffer
+// then.
 fn read_full(fd: i32, buf: &mut [u8]) -> Moved
     ensures { λ r. ⌜ Within (length (now (buf .exit))) r ⌝ }
 {

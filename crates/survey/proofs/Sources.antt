@@ -132,7 +132,8 @@ module _ {g : Rules} {ns : ℕ} (x : Exactly ns (Nullable g)) where
       begins-sound h r m Y a =
           subst (λ A. CanBegin g A z) (a .0) (begins-by h (r .left) (r .clause) m (a .1))
 
-      module _ (shut : (r : Rule) → List·Memᴰ r g → (Y : ℕ) → AddsBegins ns ps z s r Y → In s Y) where
+      module _ (shut : (r : Rule) → List·Memᴰ r g → (Y : ℕ) → AddsBegins ns ps z s r Y
+          → In s Y) where
         pub begins-all : {A : ℕ} → CanBegin g A z → In s A
         begins-all (with-atom a) = shut _ (a .rule) _ (refl, a .covers)
         begins-all (with-unary k m p) = shut _ m _ (refl, begins-all p)
@@ -176,11 +177,26 @@ module _ {g : Rules} {ns : ℕ} (x : Exactly ns (Nullable g)) where
       front-by : (A : ℕ) (c : Clause) (Y : ℕ) → Has g A c → AtMost g k A → Heads ns ps k c Y
           → AtMost g k Y
       front-by A (Clause.Unary B n) Y m t ((p, l), e) =
-          subst (AtMost g k) e (record { mark = stronger (t .mark) n; inherits = from-unary n m (t .inherits) (y .is B p); low = strong-low (t .mark) n (t .low) l })
+          subst (AtMost g k) e (record {
+            mark = stronger (t .mark) n;
+            inherits = from-unary n m
+                (t .inherits) (y .is B p);
+            low = strong-low (t .mark) n (t .low) l;
+          })
       front-by A (Clause.Binary B C n) Y m t (inl ((p, w), e)) =
-          subst (AtMost g k) e (record { mark = t .mark; inherits = to-first n m (t .inherits) (y .is B p) (has-word w); low = t .low })
+          subst (AtMost g k) e (record {
+            mark = t .mark;
+            inherits = to-first n m (t .inherits)
+                (y .is B p) (has-word w);
+            low = t .low;
+          })
       front-by A (Clause.Binary B C n) Y m t (inr ((p, q), e)) =
-          subst (AtMost g k) e (record { mark = t .mark; inherits = to-only n m (t .inherits) (x .is B p) (y .is C q); low = t .low })
+          subst (AtMost g k) e (record {
+            mark = t .mark;
+            inherits = to-only n m (t .inherits)
+                (x .is B p) (y .is C q);
+            low = t .low;
+          })
 
       -- the mark of A that is left for a part that is not the front
       record Onward (A : ℕ) : Type 0 where
@@ -190,21 +206,33 @@ module _ {g : Rules} {ns : ℕ} (x : Exactly ns (Nullable g)) where
 
       onward : ((Y : ℕ) → In s Y → AtMost g k Y) → {A : ℕ} → Under s A ⊎ In loose A → Onward A
       onward h (inl u) =
-          let t = most-under h u in record { mark = t .mark; inherits = t .inherits; low = onward-low (t .mark) (t .low) }
+          let t = most-under h u in
+          record { mark = t .mark; inherits = t .inherits; low = onward-low (t .mark) (t .low) }
       onward h {A} (inr i) =
-          let t = o .sound A i in record { mark = t .mark; inherits = t .inherits; low = onward-loose (t .mark) (t .low) }
+          let t = o .sound A i in record {
+            mark = t .mark;
+            inherits = t .inherits;
+            low =
+                onward-loose (t .mark) (t .low);
+          }
 
       follow-by : (A : ℕ) (c : Clause) (Y : ℕ) → Has g A c → Onward A → Follows ps c Y
           → AtMost g k Y
       follow-by A (Clause.Binary B C n) Y m t ((p, q), e) =
-          subst (AtMost g k) e (record { mark = onwardMark (t .mark); inherits = to-second n m (t .inherits) (y .is B p) (y .is C q); low = t .low })
+          subst (AtMost g k) e (record {
+            mark = onwardMark (t .mark);
+            inherits = to-second n m
+                (t .inherits) (y .is B p) (y .is C q);
+            low = t .low;
+          })
 
       pub heads-sound : ((Y : ℕ) → In s Y → AtMost g k Y) → (r : Rule) → List·Memᴰ r g → (Y : ℕ)
           → AddsHeads ns ps k loose s r Y → AtMost g k Y
       heads-sound h r m Y (inl a) = front-by (r .left) (r .clause) Y m (most-under h (a .0)) (a .1)
       heads-sound h r m Y (inr a) = follow-by (r .left) (r .clause) Y m (onward h (a .0)) (a .1)
 
-      module _ (shut : (r : Rule) → List·Memᴰ r g → (Y : ℕ) → AddsHeads ns ps k loose s r Y → In s Y) where
+      module _ (shut : (r : Rule) → List·Memᴰ r g → (Y : ℕ) → AddsHeads ns ps k loose s r Y
+          → In s Y) where
         heads-all : {A : ℕ} {l : UnaryMark} → Inherits g A l → rank l ≤ k → Under s A
         heads-all none-at-top h = inl refl
         heads-all (from-unary {C = C} {l = l} n m i p) h =
@@ -215,7 +243,10 @@ module _ {g : Rules} {ns : ℕ} (x : Exactly ns (Nullable g)) where
         heads-all (to-only {C = C} {D = D} n m i p q) h =
             inr (shut _ m _ (inl (heads-all i h, inr ((x .all C p, y .all D q), refl))))
         heads-all (to-second {A = A} {C = C} {D = D} {l = l} n m i p q) h =
-            inr (shut _ m _ (inr (⊎-elim (λ e. inl (heads-all i e)) (λ e. inr e) (o .wide A l i h), ((y .all C p, y .all D q), refl))))
+            inr (shut _ m _ (inr (
+              ⊎-elim (λ e. inl (heads-all i e)) (λ e. inr e) (o .wide A l i h),
+              ((y .all C p, y .all D q), refl),
+            )))
 
         pub most-all : (A : ℕ) → AtMost g k A → Under s A
         most-all A t = heads-all (t .inherits) (t .low)

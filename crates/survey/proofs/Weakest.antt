@@ -46,7 +46,8 @@ same {g} {A} m t h =
 module _ {g : Rules} {l : Levels} (x : LevelsOf g l) where
   pub level-weakest : (A : ℕ) (m : UnaryMark) → LevelIs l A (Level.Keeps m) → Weakest g A m
   level-weakest A UnaryMark.None i =
-      let t = x .none .is A i in record { inherits = same UnaryMark.None t (omega arith); least = λ k j. omega arith }
+      let t = x .none .is A i in
+      record { inherits = same UnaryMark.None t (omega arith); least = λ k j. omega arith }
   level-weakest A UnaryMark.Offalign (n, i) =
       let t = x .offalign .is A i in
       let a = above 0 (x .none) n in

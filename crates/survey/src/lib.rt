@@ -1,4 +1,5 @@
-// What is known of nonterminals before any pair of nodes is looked at: those with words that have tokens, those that stand below 0, the levels, the first terminals.
+// What is known of nonterminals before any pair of nodes is looked at: those with words that have
+// tokens, those that stand below 0, the levels, the first terminals.
 use grammar::Clause;
 use grammar::Grammar;
 use grammar::Rule;
@@ -14,13 +15,17 @@ ghost use Rattle.acyclic.specs.Exact.{Exactly};
 ghost use Rattle.acyclic.specs.Passes.{Grown, Passed};
 ghost use Rattle.pairs.specs.Survey.{Productive, Occurs, CanBegin};
 ghost use Rattle.pairs.specs.Strength.{rank};
-ghost use Rattle.survey.specs.Sources.{Worded, Under, OnePart, Filled, AddsFilled, Begins, AddsBegins};
+ghost use Rattle.survey.specs.Sources.{Worded, Under, OnePart, Filled, AddsFilled, Begins};
+ghost use Rattle.survey.specs.Sources.{AddsBegins};
 ghost use Rattle.survey.specs.Sources.{BothStand, Stands, AddsStands};
-ghost use Rattle.survey.specs.Sources.{ChildHeads, PairHeads, Heads, AddsFront, PairFollows, Follows, AddsFollow, AddsHeads};
-ghost use Rattle.survey.specs.Closing.{AtMost, Aimed, AddsBy, Loose, Prepared, Shut, LevelsOf, LevelIs};
+ghost use Rattle.survey.specs.Sources.{ChildHeads, PairHeads, Heads, AddsFront, PairFollows};
+ghost use Rattle.survey.specs.Sources.{Follows, AddsFollow, AddsHeads};
+ghost use Rattle.survey.specs.Closing.{AtMost, Aimed, AddsBy, Loose, Prepared, Shut};
+ghost use Rattle.survey.specs.Closing.{LevelsOf, LevelIs};
 
-// The sets of nonterminals that are looked for: with words that have tokens, with words that begin with a terminal, that stand below 0, that inherit a
-// mark of rank at most the first number (the other is a set of those that inherit a mark other than single).
+// The sets of nonterminals that are looked for: with words that have tokens, with words that begin
+// with a terminal, that stand below 0, that inherit a mark of rank at most the first number (the
+// other is a set of those that inherit a mark other than single).
 pub enum Aim {
     Filled,
     Begins(u8),
@@ -68,7 +73,8 @@ fn under(set: u64, a: u8) -> bool
     member
 }
 
-// Is the first child a member and has the second a word, or is the first empty and the second a member?
+// Is the first child a member and has the second a word, or is the first empty and the second a
+// member?
 fn one_part(nulls: u64, prods: u64, set: u64, b: u8, d: u8) -> bool
     requires { ⌜ (b < 64) × (d < 64) ⌝ }
     ensures { λ r. ⌜ Says r (OnePart nulls prods set b d) ⌝ }
@@ -169,7 +175,8 @@ fn rank_of(m: UnaryMark) -> u8
     }
 }
 
-// The set with a child besides that is all of the word, where it has tokens and the mark is no stronger than k.
+// The set with a child besides that is all of the word, where it has tokens and the mark is no
+// stronger than k.
 fn with_child(prods: u64, k: u8, set: u64, b: u8, m: UnaryMark) -> u64
     requires { ⌜ b < 64 ⌝ }
     ensures { λ r. ⌜ Grown (ChildHeads prods k b m) set r ⌝ }
@@ -274,7 +281,8 @@ fn grow_front(nulls: u64, prods: u64, k: u8, set: u64, r: Rule) -> u64
     set
 }
 
-// The set `next` with what follows in the rule's word, where its left is 0, a member of `set` or one of `loose`.
+// The set `next` with what follows in the rule's word, where its left is 0, a member of `set` or
+// one of `loose`.
 fn grow_follow(prods: u64, loose: u64, set: u64, next: u64, r: Rule) -> u64
     requires { ⌜ SmallRule r ⌝ }
     ensures { λ t. ⌜ Grown (AddsFollow prods loose set r) next t ⌝ }
@@ -311,7 +319,8 @@ fn grow(aim: Aim, nulls: u64, prods: u64, set: u64, r: Rule) -> u64
 // One pass over the rules.
 fn pass(g: Grammar, aim: Aim, nulls: u64, prods: u64, set: u64) -> u64
     requires { ⌜ Formed g × Exactly nulls (Nullable (rules g)) × Prepared (rules g) aim prods ⌝ }
-    ensures { λ r. ⌜ Passed (AddsBy aim nulls prods) (Aimed (rules g) aim) (rules g) (g .count) set r ⌝ }
+    ensures { λ r. ⌜ Passed (AddsBy aim nulls prods) (Aimed (rules g) aim) (rules g) (g .count) set
+        r ⌝ }
 {
     let count = g.count;
     let mut next = set;
@@ -350,7 +359,8 @@ pub fn productives(g: Grammar, nulls: u64) -> u64
 
 // The nonterminals whose words may begin with x.
 pub fn beginning(g: Grammar, nulls: u64, prods: u64, x: u8) -> u64
-    requires { ⌜ Formed g × Exactly nulls (Nullable (rules g)) × Exactly prods (Productive (rules g)) ⌝ }
+    requires { ⌜ Formed g × Exactly nulls (Nullable (rules g))
+        × Exactly prods (Productive (rules g)) ⌝ }
     ensures { λ r. ⌜ Exactly r (λ A. CanBegin (rules g) A x) ⌝ }
 {
     let aim = Aim::Begins(x);
@@ -359,7 +369,8 @@ pub fn beginning(g: Grammar, nulls: u64, prods: u64, x: u8) -> u64
 
 // The nonterminals that stand in trees of 0.
 pub fn occurring(g: Grammar, nulls: u64, prods: u64) -> u64
-    requires { ⌜ Formed g × Exactly nulls (Nullable (rules g)) × Exactly prods (Productive (rules g)) ⌝ }
+    requires { ⌜ Formed g × Exactly nulls (Nullable (rules g))
+        × Exactly prods (Productive (rules g)) ⌝ }
     ensures { λ r. ⌜ Exactly r (Occurs (rules g)) ⌝ }
 {
     let aim = Aim::Stands;
@@ -369,7 +380,8 @@ pub fn occurring(g: Grammar, nulls: u64, prods: u64) -> u64
 
 // The nonterminals that inherit a mark of rank at most k.
 fn at_most(g: Grammar, nulls: u64, prods: u64, k: u8, loose: u64) -> u64
-    requires { ⌜ Formed g × Exactly nulls (Nullable (rules g)) × Exactly prods (Productive (rules g)) × Loose (rules g) k loose ⌝ }
+    requires { ⌜ Formed g × Exactly nulls (Nullable (rules g))
+        × Exactly prods (Productive (rules g)) × Loose (rules g) k loose ⌝ }
     ensures { λ r. ⌜ Exactly r (AtMost (rules g) k) ⌝ }
 {
     let aim = Aim::Heads(k, loose);
@@ -386,7 +398,8 @@ pub struct Levels {
 }
 
 pub fn inherited(g: Grammar, nulls: u64, prods: u64) -> Levels
-    requires { ⌜ Formed g × Exactly nulls (Nullable (rules g)) × Exactly prods (Productive (rules g)) ⌝ }
+    requires { ⌜ Formed g × Exactly nulls (Nullable (rules g))
+        × Exactly prods (Productive (rules g)) ⌝ }
     ensures { λ r. ⌜ LevelsOf (rules g) r ⌝ }
 {
     let single = at_most(g, nulls, prods, 3, 0);

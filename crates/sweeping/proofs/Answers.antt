@@ -41,14 +41,18 @@ use Rattle.tried_count.specs.Searched.{answerOf, Hit}
 use Rattle.sweeping.specs.Cleared.{TriedBy, cleared}
 
 -- the lengths up to k are all done
-pub none-left : {g : Rules} {s n : ℕ} (k : ℕ) → k < n → n ≤ k + 1 → NoneShorter g s n → NoneShorter g s (k + 1)
+pub none-left : {g : Rules} {s n : ℕ} (k : ℕ) → k < n → n ≤ k + 1 → NoneShorter g s n
+    → NoneShorter g s (k + 1)
 none-left {g} {s} {n} k a b h = let e : n ≡ k + 1 = omega arith in rw e at h
 
 -- ---- the terminals that a smaller one replaces need not be tried
 
 module _ {g : Rules} {s kept : ℕ} (sp : Spared g s kept) where
   shorter-all : {n : ℕ} → NoneShorter g kept n → NoneShorter g s n
-  shorter-all h = record { none = λ m ds l u c t. h .none m (renamed g s kept sp ds) l u (renamed-candidate g s kept sp m ds c) (renamed-two g s kept sp ds t) }
+  shorter-all h = record {
+    none = λ m ds l u c t. h .none m (renamed g s kept sp ds) l u
+        (renamed-candidate g s kept sp m ds c) (renamed-two g s kept sp ds t);
+  }
 
   hits-all : {k n : ℕ} {cs : List Cell} → Hits g kept k n cs → Hits g s k n cs
   hits-all {k} {n} {cs} h = record {
@@ -56,7 +60,9 @@ module _ {g : Rules} {s kept : ℕ} (sp : Spared g s kept) where
     high = h .high;
     before = record {
       candidate = candidate-over (Among kept) (Among s) (sp .part) (h .before .candidate);
-      none = λ ds c b t. h .before .none (renamed g s kept sp ds) (renamed-candidate g s kept sp n ds c) (renamed-before g s kept sp ds cs b) (renamed-two g s kept sp ds t);
+      none = λ ds c b t. h .before .none (renamed g s kept sp ds)
+          (renamed-candidate g s kept sp n ds c) (renamed-before g s kept sp ds cs b)
+          (renamed-two g s kept sp ds t);
     };
     two = h .two;
     shorter = shorter-all (h .shorter);
@@ -79,18 +85,25 @@ module _ {g g′ : Rules} {s : ℕ} (same : (w : Word) → TwoTrees g 0 w ↔ Tw
   searched-over {cs = cs} (hit h) = hit (record {
     low = h .low;
     high = h .high;
-    before = record { candidate = h .before .candidate; none = λ ds c b t. h .before .none ds c b (same (sentence ds) .0 t) };
+    before = record {
+      candidate = h .before .candidate;
+      none = λ ds c b t. h .before .none ds c b
+          (same (sentence ds) .0 t);
+    };
     two = same (sentence cs) .1 (h .two);
     shorter = shorter-over (h .shorter);
   })
   searched-over (miss e h) = miss e (shorter-over h)
 
-pub admits-over : {g g′ : Rules} {l : ℕ} → ((w : Word) → TwoTrees g 0 w ↔ TwoTrees g′ 0 w) → Admits g l → Admits g′ l
+pub admits-over : {g g′ : Rules} {l : ℕ} → ((w : Word) → TwoTrees g 0 w ↔ TwoTrees g′ 0 w)
+    → Admits g l → Admits g′ l
 admits-over same v = record { all = λ w low high t. v .all w low high (same w .1 t) }
 
 -- the rules in another order, of which those are kept that 0 reaches
-pub same-two : {g g₁ g₂ : Rules} → Rearranged g g₁ → Trimmed g₁ g₂ → (w : Word) → TwoTrees g 0 w ↔ TwoTrees g₂ 0 w
-same-two o t w = let x = two-same o in let y = two-trimmed t in (λ d. y .0 (x .0 d), λ d. x .1 (y .1 d))
+pub same-two : {g g₁ g₂ : Rules} → Rearranged g g₁ → Trimmed g₁ g₂ → (w : Word)
+    → TwoTrees g 0 w ↔ TwoTrees g₂ 0 w
+same-two o t w = let x = two-same o in let y = two-trimmed t in
+    (λ d. y .0 (x .0 d), λ d. x .1 (y .1 d))
 
 -- ---- the lengths
 
@@ -100,19 +113,32 @@ lengths-of e = record { is = λ n h. e .is 0 n (omega arith) h }
 
 -- a sentence with two trees has a length that nonterminal 0 can have
 pub admits-of : {g : Rules} {s : ℕ} → LengthsOf g s → Admits g s
-admits-of h = record { all = λ w low high t. h .is (length w) (omega arith) .1 (derives-can (record { tree = t .first; witness = t .witness₁ })) }
+admits-of h = record {
+  all = λ w low high t. h .is (length w) (omega arith) .1
+      (derives-can (record { tree = t .first; witness = t .witness₁ }));
+}
 
 -- what was found, as the count of the tried takes it
-pub hit-of : {g : Rules} {s l : ℕ} (k n : ℕ) (cs : List Cell) → ((x : ℕ) → Among s x ↔ Terminal g x) → LengthsOf g l → k ≤ 7 → length cs ≡ n → Found g k n cs → Hit (In l) (Among s) k n cs
-hit-of k n cs same h few e (nothing z c) = record { high = omega arith; allowed = λ l. absurd (omega arith); candidate = λ l. absurd (omega arith) }
+pub hit-of : {g : Rules} {s l : ℕ} (k n : ℕ) (cs : List Cell) → ((x : ℕ) → Among s x ↔ Terminal g x)
+    → LengthsOf g l → k ≤ 7 → length cs ≡ n → Found g k n cs → Hit (In l) (Among s) k n cs
+hit-of k n cs same h few e (nothing z c) = record {
+  high = omega arith;
+  allowed = λ l. absurd (omega arith);
+  candidate =
+      λ l. absurd (omega arith);
+}
 hit-of {g} {s} {l} k n cs same h few e (first f) = record {
   high = omega (arith, f .high);
-  allowed = λ low. subst (In l) (sentence-length 1 cs ∙ e) (admits-of h .all (sentence cs) (omega (arith, sentence-length 1 cs, f .low)) (omega (arith, sentence-length 1 cs, f .high)) (f .two));
-  candidate = λ low. subst (λ (i : ℕ). Candidate (Among s) i cs) e (candidate-over (Terminal g) (Among s) (λ x. same x .1) (f .candidate));
+  allowed = λ low. subst (In l) (sentence-length 1 cs ∙ e)
+      (admits-of h .all (sentence cs) (omega (arith, sentence-length 1 cs, f .low))
+      (omega (arith, sentence-length 1 cs, f .high)) (f .two));
+  candidate = λ low. subst (λ (i : ℕ). Candidate (Among s) i cs) e
+      (candidate-over (Terminal g) (Among s) (λ x. same x .1) (f .candidate));
 }
 
 -- the bound as the count takes it
-pub fair-of : {g : Rules} {k : ℕ} (s : ℕ) → Bounded g k → ones s ≡ terminalCount g → ones s ≤ 64 → Fair (ones s) k
+pub fair-of : {g : Rules} {k : ℕ} (s : ℕ) → Bounded g k → ones s ≡ terminalCount g → ones s ≤ 64
+    → Fair (ones s) k
 fair-of s b e few = record { low = b .low; high = b .high; few = few; limit = rw e (b .few) }
 
 -- ---- what is found
@@ -125,10 +151,12 @@ module _ {g : Rules} {s : ℕ} (same : (x : ℕ) → Among s x ↔ Terminal g x)
 
   -- no terminal, no candidate
   pub found-none : {k n : ℕ} {cs : List Cell} → n ≡ 0 → ((x : ℕ) → Among s x → ⊥) → Found g k n cs
-  found-none e h = nothing e (clear-found same (record { none = λ m ds l u c t. no-candidate (Among s) h m ds l c }))
+  found-none e h = nothing e (clear-found same
+      (record { none = λ m ds l u c t. no-candidate (Among s) h m ds l c }))
 
 -- what is found can be spelled
-pub found-low : {g : Rules} {k n : ℕ} {cs : List Cell} → length cs ≡ n → k ≤ 7 → Found g k n cs → (n ≤ 7) × LowSteps cs
+pub found-low : {g : Rules} {k n : ℕ} {cs : List Cell} → length cs ≡ n → k ≤ 7 → Found g k n cs
+    → (n ≤ 7) × LowSteps cs
 found-low e h (first f) = (omega (arith, f .high), low-steps (f .candidate))
 found-low {g} {k} {n} {cs} e h (nothing z c) = (omega arith, no-steps cs (e ∙ z))
   where
@@ -137,23 +165,28 @@ found-low {g} {k} {n} {cs} e h (nothing z c) = (omega arith, no-steps cs (e ∙ 
     no-steps (d ∷ ds) q = absurd (omega arith)
 
 -- and is the answer
-pub swept-of : {g : Rules} {k n m : ℕ} {cs : List Cell} {r : Sentence} → length cs ≡ n → Found g k n cs → Spells cs n r → HowMany (TriedBy g k (answerOf n cs)) m → Swept g k r m
+pub swept-of : {g : Rules} {k n m : ℕ} {cs : List Cell} {r : Sentence} → length cs ≡ n
+    → Found g k n cs → Spells cs n r → HowMany (TriedBy g k (answerOf n cs)) m → Swept g k r m
 swept-of {g} {k} {n} {m} {cs} {r} e (nothing z c) x q =
-    clear c (x .count ∙ z) (subst (λ (m : ℕ). drop m (r .tokens) ≡ replicate (64 - m) no-token) z (x .past))
-    (subst (λ (i : ℕ). HowMany (TriedBy g k (answerOf i cs)) m) z q)
+    clear c (x .count ∙ z) (subst (λ (m : ℕ). drop m (r .tokens) ≡ replicate (64 - m) no-token) z
+    (x .past)) (subst (λ (i : ℕ). HowMany (TriedBy g k (answerOf i cs)) m) z q)
 swept-of {g} {k} {n} {m} {cs} {r} e (first f) x q =
     two f (shorter-clear f) (x .count ∙ sym e)
-    (sym (take-append-drop n (r .tokens)) ∙ ap (λ (l : List Token). l ++ drop n (r .tokens)) (x .front) ∙ ap (λ (l : List Token). sentence cs ++ l) (x .past)
+    (sym (take-append-drop n (r .tokens)) ∙ ap (λ (l : List Token). l ++ drop n (r .tokens))
+    (x .front) ∙ ap (λ (l : List Token). sentence cs ++ l) (x .past)
     ∙ ap (λ (m : ℕ). sentence cs ++ replicate (64 - m) no-token) (sym e))
     (tried-two n (omega (arith, f .low, e)) q)
   where
-    tried-two : (i : ℕ) → 1 ≤ i → HowMany (TriedBy g k (answerOf i cs)) m → HowMany (TriedBy g k (found cs)) m
+    tried-two : (i : ℕ) → 1 ≤ i → HowMany (TriedBy g k (answerOf i cs)) m
+        → HowMany (TriedBy g k (found cs)) m
     tried-two zero l c = absurd (omega arith)
     tried-two (suc i) l c = c
 
-pub all-cleared : (k : ℕ) {m : ℕ} {ws ws′ ws″ : List ℕ} → m ≡ 2 * pairs k → 2 * pairs k ≤ length ws → Past (2 * pairs k) ws ws′ → Cleared ws′ ws″ m → ws″ ≡ cleared k ws
+pub all-cleared : (k : ℕ) {m : ℕ} {ws ws′ ws″ : List ℕ} → m ≡ 2 * pairs k → 2 * pairs k ≤ length ws
+    → Past (2 * pairs k) ws ws′ → Cleared ws′ ws″ m → ws″ ≡ cleared k ws
 all-cleared k {m} {ws} {ws′} {ws″} e h p d =
     let c : Cleared ws′ ws″ (2 * pairs k) = rw e at d in
     sym (take-append-drop (2 * pairs k) ws″)
-    ∙ ap (λ (l : List ℕ). l ++ drop (2 * pairs k) ws″) (zeroed (2 * pairs k) ws′ ws″ (omega (arith, p .long, c .past .long)) c)
+    ∙ ap (λ (l : List ℕ). l ++ drop (2 * pairs k) ws″)
+    (zeroed (2 * pairs k) ws′ ws″ (omega (arith, p .long, c .past .long)) c)
     ∙ ap (λ (l : List ℕ). replicate (2 * pairs k) 0 ++ l) (past-drop (past-then p (c .past)))

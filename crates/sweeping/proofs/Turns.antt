@@ -26,14 +26,21 @@ module _ {g : Rules} {s : ℕ} where
   begin f = record { candidate = f .candidate; none = λ ds c b t. f .first ds c b }
 
   -- past a block
-  pub onward : {n b upto : ℕ} {cs rs : List Cell} → NoneBefore g s n cs → Barren g s n b cs → Follows s n b cs upto rs → NoneBefore g s n rs
-  onward h q f = record { candidate = f .candidate; none = λ ds c e t. ⊎-elim (λ x. q .none ds c x t) (λ x. h .none ds c x t) (f .least ds c e) }
+  pub onward : {n b upto : ℕ} {cs rs : List Cell} → NoneBefore g s n cs → Barren g s n b cs
+      → Follows s n b cs upto rs → NoneBefore g s n rs
+  onward h q f = record {
+    candidate = f .candidate;
+    none = λ ds c e t. ⊎-elim
+        (λ x. q .none ds c x t) (λ x. h .none ds c x t) (f .least ds c e);
+  }
 
   -- past a length
-  pub longer : {n b : ℕ} {cs : List Cell} → NoneShorter g s n → NoneBefore g s n cs → Barren g s n b cs → Ends s n b cs → NoneShorter g s (n + 1)
+  pub longer : {n b : ℕ} {cs : List Cell} → NoneShorter g s n → NoneBefore g s n cs
+      → Barren g s n b cs → Ends s n b cs → NoneShorter g s (n + 1)
   longer {n} {b} {cs} h k q e = record { none = go }
     where
-      go : (m : ℕ) (ds : List Cell) → 1 ≤ m → m < n + 1 → Candidate (Among s) m ds → TwoTrees g 0 (sentence ds) → ⊥
+      go : (m : ℕ) (ds : List Cell) → 1 ≤ m → m < n + 1 → Candidate (Among s) m ds
+          → TwoTrees g 0 (sentence ds) → ⊥
       go m ds l u c t = at (decLt m n)
         where
           at : Dec (m < n) → ⊥
@@ -44,13 +51,17 @@ module _ {g : Rules} {s : ℕ} where
               ⊎-elim (λ y. q .none ds d y t) (λ y. k .none ds d y t) (e .last ds d)
 
   -- past a length that no sentence with two trees has
-  pub passed-over : {n l : ℕ} → NoneShorter g s n → Admits g l → n ≤ 7 → (In l n → ⊥) → NoneShorter g s (n + 1)
-  passed-over {n} {l} h v few out = record { none = λ m ds low u c t. at m ds low u c t (decLt m n) }
+  pub passed-over : {n l : ℕ} → NoneShorter g s n → Admits g l → n ≤ 7 → (In l n → ⊥)
+      → NoneShorter g s (n + 1)
+  passed-over {n} {l} h v few out =
+      record { none = λ m ds low u c t. at m ds low u c t (decLt m n) }
     where
-      at : (m : ℕ) (ds : List Cell) → 1 ≤ m → m < n + 1 → Candidate (Among s) m ds → TwoTrees g 0 (sentence ds) → Dec (m < n) → ⊥
+      at : (m : ℕ) (ds : List Cell) → 1 ≤ m → m < n + 1 → Candidate (Among s) m ds
+          → TwoTrees g 0 (sentence ds) → Dec (m < n) → ⊥
       at m ds low u c t (yes x) = h .none m ds low x c t
       at m ds low u c t (no x) =
-          let e : length (sentence ds) ≡ n = sentence-length 1 ds ∙ c .arranged .size ∙ (omega arith) in
+          let e : length (sentence ds) ≡ n =
+          sentence-length 1 ds ∙ c .arranged .size ∙ (omega arith) in
           out (subst (In l) e (v .all (sentence ds) (omega (arith, e)) (omega (arith, e)) t))
 
   module _ (same : (x : ℕ) → Among s x ↔ Terminal g x) where
@@ -68,10 +79,12 @@ module _ {g : Rules} {s : ℕ} where
         record {
           low = omega (arith, h .low);
           high = omega (arith, h .high);
-          candidate = rw e (candidate-over (Among s) (Terminal g) (λ x. same x .0) (h .before .candidate));
+          candidate =
+              rw e (candidate-over (Among s) (Terminal g) (λ x. same x .0) (h .before .candidate));
           two = h .two;
           earlier = λ ds l c b t. ⊎-elim
               (λ x. h .shorter .none (length ds) ds l (omega arith) (to c) t)
-              (λ x. let i : length ds ≡ n = x .0 ∙ e in h .before .none ds (rw i at (to c)) (x .1) t)
+              (λ x. let i : length ds ≡ n = x .0 ∙ e in
+              h .before .none ds (rw i at (to c)) (x .1) t)
               b;
         }

@@ -1,4 +1,5 @@
--- What the search over candidates has settled so far, and what it finds. Only the proofs of the sweep need it; the promise speaks of 01's first candidate.
+-- What the search over candidates has settled so far, and what it finds. Only the proofs of the
+-- sweep need it; the promise speaks of 01's first candidate.
 use mathlib.Core.Path.{_≡_}
 use mathlib.Core.Bool.{Bool, true, false}
 use mathlib.Core.List.{List}
@@ -14,7 +15,8 @@ use Rattle.candidates.specs.Succession.{Shares}
 
 -- no candidate of 1 to n - 1 tokens has two trees
 pub record NoneShorter (g : Rules) (s n : ℕ) : Type 0 where
-  pub none : (m : ℕ) (ds : List Cell) → 1 ≤ m → m < n → Candidate (Among s) m ds → TwoTrees g 0 (sentence ds) → ⊥
+  pub none : (m : ℕ) (ds : List Cell) → 1 ≤ m → m < n → Candidate (Among s) m ds
+      → TwoTrees g 0 (sentence ds) → ⊥
 
 -- every sentence of 1 to 7 tokens that has two trees has a length in s
 pub record Admits (g : Rules) (s : ℕ) : Type 0 where
@@ -23,14 +25,16 @@ pub record Admits (g : Rules) (s : ℕ) : Type 0 where
 -- cs is a candidate of length n, and none before it has two trees
 pub record NoneBefore (g : Rules) (s n : ℕ) (cs : List Cell) : Type 0 where
   pub candidate : Candidate (Among s) n cs
-  pub none : (ds : List Cell) → Candidate (Among s) n ds → CellsBefore ds cs → TwoTrees g 0 (sentence ds) → ⊥
+  pub none : (ds : List Cell) → Candidate (Among s) n ds → CellsBefore ds cs
+      → TwoTrees g 0 (sentence ds) → ⊥
 
 -- no candidate of length n that shares cs's first b cells has two trees
 pub record Barren (g : Rules) (s n b : ℕ) (cs : List Cell) : Type 0 where
-  pub none : (ds : List Cell) → Candidate (Among s) n ds → Shares b ds cs → TwoTrees g 0 (sentence ds) → ⊥
+  pub none : (ds : List Cell) → Candidate (Among s) n ds → Shares b ds cs
+      → TwoTrees g 0 (sentence ds) → ⊥
 
--- what a look at the candidates that share cs's first b cells tells: out, none of them has two trees if none before cs has;
--- not out, and all cells looked at: cs has
+-- what a look at the candidates that share cs's first b cells tells: out, none of them has two
+-- trees if none before cs has; not out, and all cells looked at: cs has
 pub record Looked (out : Bool) (g : Rules) (s n b : ℕ) (cs : List Cell) : Type 0 where
   pub barren : out ≡ true → NoneBefore g s n cs → Barren g s n b cs
   pub two : out ≡ false → b ≡ n → TwoTrees g 0 (sentence cs)

@@ -1,4 +1,5 @@
-// The search for the first candidate that has two trees, and the sweep over all short sentences by it.
+// The search for the first candidate that has two trees, and the sweep over all short sentences by
+// it.
 use candidates::Candidate;
 use candidates::terminals;
 use dominance::needed;
@@ -38,8 +39,8 @@ ghost use Rattle.grammar.specs.Distinct.{Distinct};
 ghost use Rattle.tried_count.specs.Searched.{answerOf};
 ghost use Rattle.sweeping.specs.Cleared.{cleared};
 
-// Is none of the candidates that share the first b cells the first with two trees? Where b is n and the answer is no, this
-// one has two.
+// Is none of the candidates that share the first b cells the first with two trees? Where b is n and
+// the answer is no, this one has two.
 fn look(
     codes: &[u64],
     set: u64,
@@ -53,7 +54,8 @@ fn look(
     requires { ⌜ Distinct (decoded (now codes)) ⌝ }
     requires { ⌜ 2 * pairs n ≤ length (now words) ⌝ }
     requires { ⌜ Tabled (decoded (now codes)) set (now table) ⌝ }
-    ensures { λ r. ⌜ Looked r (decoded (now (codes .entry))) set n b (cells c 0 n) × Past (2 * pairs n) (now (words .entry)) (now (words .exit)) ⌝ }
+    ensures { λ r. ⌜ Looked r (decoded (now (codes .entry))) set n b (cells c 0 n)
+        × Past (2 * pairs n) (now (words .entry)) (now (words .exit)) ⌝ }
 {
     if 0 < b && slack(c, n, b, 0) {
         return true;
@@ -85,9 +87,10 @@ fn nothing() -> Hit
     }
 }
 
-// The first candidate of 1 to k tokens that has two trees, over a set whose least terminal is low. A candidate's first b
-// cells are looked at: where they rule it out, the search goes on past all that share them, else with a cell more. Lengths
-// that are not in the set `lengths` are passed over.
+// The first candidate of 1 to k tokens that has two trees, over a set whose least terminal is low.
+// A candidate's first b cells are looked at: where they rule it out, the search goes on past all
+// that share them, else with a cell more. Lengths that are not in the set `lengths` are passed
+// over.
 fn search(
     codes: &[u64],
     set: u64,
@@ -103,7 +106,8 @@ fn search(
     requires { ⌜ Admits (decoded (now codes)) lengths ⌝ }
     requires { ⌜ 2 * pairs k ≤ length (now words) ⌝ }
     requires { ⌜ Tabled (decoded (now codes)) set (now table) ⌝ }
-    ensures { λ r. ⌜ Searched (decoded (now (codes .entry))) set k (r .length) (cells (r .candidate) 0 (r .length)) ⌝ }
+    ensures { λ r. ⌜ Searched (decoded (now (codes .entry))) set k (r .length)
+        (cells (r .candidate) 0 (r .length)) ⌝ }
     ensures { λ r. ⌜ Past (2 * pairs k) (now (words .entry)) (now (words .exit)) ⌝ }
 {
     let mut n: usize = 1;
@@ -148,7 +152,8 @@ fn find_among(codes: &[u64], set: u64, low: u8, lengths: u64, k: usize, words: &
     requires { ⌜ Distinct (decoded (now codes)) ⌝ }
     requires { ⌜ Admits (decoded (now codes)) lengths ⌝ }
     requires { ⌜ 2 * pairs k ≤ length (now words) ⌝ }
-    ensures { λ r. ⌜ Searched (decoded (now (codes .entry))) set k (r .length) (cells (r .candidate) 0 (r .length)) ⌝ }
+    ensures { λ r. ⌜ Searched (decoded (now (codes .entry))) set k (r .length)
+        (cells (r .candidate) 0 (r .length)) ⌝ }
     ensures { λ r. ⌜ Past (2 * pairs k) (now (words .entry)) (now (words .exit)) ⌝ }
 {
     let mut table: [u64; 132] = [0; 132];
@@ -156,9 +161,9 @@ fn find_among(codes: &[u64], set: u64, low: u8, lengths: u64, k: usize, words: &
     search(codes, set, &table[..], low, lengths, k, words)
 }
 
-// The first candidate of 1 to k tokens that has two trees, over the terminals of the sheet. It has none that a smaller one
-// replaces, so that these need not be tried, nor need lengths outside the set; and trees of 0 have no rule that 0 does not
-// reach.
+// The first candidate of 1 to k tokens that has two trees, over the terminals of the sheet. It has
+// none that a smaller one replaces, so that these need not be tried, nor need lengths outside the
+// set; and trees of 0 have no rule that 0 does not reach.
 fn find(g: Grammar, lengths: u64, k: usize, words: &mut [u64]) -> Hit
     requires { ⌜ (1 ≤ k) × (k ≤ 7) ⌝ }
     requires { ⌜ Formed g ⌝ }
@@ -181,26 +186,29 @@ fn find(g: Grammar, lengths: u64, k: usize, words: &mut [u64]) -> Hit
     find_among(&few[..n], set, low, lengths, k, words)
 }
 
-// How many candidates a search up to k tried that found c, of n tokens, or nothing where n is 0: those over all terminals
-// of the sheet, of the lengths in the set.
+// How many candidates a search up to k tried that found c, of n tokens, or nothing where n is 0:
+// those over all terminals of the sheet, of the lengths in the set.
 fn counted(g: Grammar, lengths: u64, k: usize, n: usize, c: Candidate) -> u64
     requires { ⌜ Formed g ⌝ }
     requires { ⌜ Bounded (rules g) k ⌝ }
     requires { ⌜ LengthsOf (rules g) lengths ⌝ }
     requires { ⌜ Found (rules g) k n (cells c 0 n) ⌝ }
-    ensures { λ r. ⌜ HowMany (Tried (CanHave (rules g) 0) (Of.Terminal (rules g)) k (answerOf n (cells c 0 n))) r ⌝ }
+    ensures { λ r. ⌜ HowMany (Tried (CanHave (rules g) 0) (Of.Terminal (rules g)) k
+        (answerOf n (cells c 0 n))) r ⌝ }
 {
     let all = terminals(g);
     tried(lengths, all, k, n, c)
 }
 
-// What a sweep gives: the found sentence, of no tokens where there is none, and how many candidates it tried.
+// What a sweep gives: the found sentence, of no tokens where there is none, and how many candidates
+// it tried.
 pub struct Sweep {
     pub sentence: Sentence,
     pub tried: u64,
 }
 
-// The sweep up to k over a well-formed grammar with its index: the first candidate that has two trees, or no token.
+// The sweep up to k over a well-formed grammar with its index: the first candidate that has two
+// trees, or no token.
 pub fn sweep_rules(g: Grammar, x: Index, k: usize, words: &mut [u64]) -> Sweep
     requires { ⌜ Bounded (rules g) k ⌝ }
     requires { ⌜ Formed g ⌝ }

@@ -12,11 +12,13 @@ use Rattle.tables.specs.Tables.{no-rule, rule}
 use Rattle.grammar.specs.Distinct.{Alike, Distinct}
 
 -- the rule at a place is small
-pub small-at : {g : Grammar} → Formed g → (i : ℕ) → i < length (rules g) → SmallRule (rule (rules g) i)
+pub small-at : {g : Grammar} → Formed g → (i : ℕ) → i < length (rules g)
+    → SmallRule (rule (rules g) i)
 small-at {g} f i h = every-at SmallRule no-rule (rules g) (f .small) i h
 
 -- two rules that are alike are one
-pub distinct-at : {g : Rules} → Distinct g → (i j : ℕ) → i < length g → j < length g → rule g i .left ≡ rule g j .left → Alike (rule g i .clause) (rule g j .clause) → i ≡ j
+pub distinct-at : {g : Rules} → Distinct g → (i j : ℕ) → i < length g → j < length g
+    → rule g i .left ≡ rule g j .left → Alike (rule g i .clause) (rule g j .clause) → i ≡ j
 distinct-at {g} d i j h k = d .one i j (rule g i) (rule g j) (there g i h) (there g j k)
 
 -- the rule that the code reads

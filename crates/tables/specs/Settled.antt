@@ -11,7 +11,8 @@ use Rattle.tables.specs.Tables.{Table, One, Two, byTokens, Stand, Again}
 abbrev pub Told : Half → ℕ → ℕ → Type 0
 Told h s len = len ≡ 1 → s < h .known
 
--- what the tables have of the span has trees, where it is known, and they have all that stands over it
+-- what the tables have of the span has trees, where it is known, and they have all that stands over
+-- it
 pub record Settled (one two : Table) (g : Rules) (h : Half) (s len : ℕ) : Type 0 where
   pub some : (A : ℕ) → s + len ≤ h .known → one s len A → Derives g A (part (h .word) s len)
   pub more : (A : ℕ) → s + len ≤ h .known → two s len A → TwoTrees g A (part (h .word) s len)

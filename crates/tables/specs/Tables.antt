@@ -1,4 +1,5 @@
--- Tables of (span, nonterminal), and the rules that stand over a span by such a table (inner: what a pass over a span computes).
+-- Tables of (span, nonterminal), and the rules that stand over a span by such a table (inner: what
+-- a pass over a span computes).
 use mathlib.Core.Path.{_≡_}
 use mathlib.Core.List.{List}
 use mathlib.Core.Logic.{_⊎_}
@@ -36,13 +37,15 @@ One ws n s len A = In (firstWord ws n s len) A
 abbrev pub Two : List ℕ → ℕ → Table
 Two ws n s len A = In (secondWord ws n s len) A
 
--- the span of len tokens from s on lies among n tokens, and the words are enough for their span sheet
+-- the span of len tokens from s on lies among n tokens, and the words are enough for their span
+-- sheet
 pub record Room (ws : List ℕ) (n s len : ℕ) : Type 0 where
   pub few : n ≤ 64
   pub fits : s + len ≤ n
   pub enough : 2 * pairs n ≤ length ws
 
--- what the tokens of a span leave to a clause: to the terminals from a to b, to a unary mark, to a binary mark with l tokens on its left
+-- what the tokens of a span leave to a clause: to the terminals from a to b, to a unary mark, to a
+-- binary mark with l tokens on its left
 pub record Leave : Type 1 where
   pub atom : ℕ → ℕ → Type 0
   pub unary : UnaryMark → Type 0
@@ -50,18 +53,30 @@ pub record Leave : Type 1 where
 
 -- by the definitions, of the span of len tokens from s on
 abbrev pub byTokens : Half → ℕ → ℕ → Leave
-byTokens h s len = record { atom = λ a b. MayBe h s a b; unary = λ m. MayKeep m h s len; binary = λ m l. MayPair m h s l (len - l) }
+byTokens h s len = record {
+  atom = λ a b. MayBe h s a b;
+  unary = λ m. MayKeep m h s len;
+  binary =
+      λ m l. MayPair m h s l (len - l);
+}
 
 -- by the marks that were worked out
 abbrev pub byMarks : SpanMarks → ℕ → Leave
-byMarks k len = record { atom = λ a b. AtomBy k a b; unary = λ m. UnaryBy k m; binary = λ m l. BinaryBy k len m l }
+byMarks k len = record {
+  atom = λ a b. AtomBy k a b;
+  unary = λ m. UnaryBy k m;
+  binary = λ m l.
+      BinaryBy k len m l;
+}
 
--- a clause fits the span of len tokens from s on, its left word l tokens long (0 where there is none)
+-- a clause fits the span of len tokens from s on, its left word l tokens long (0 where there is
+-- none)
 abbrev pub Fits : Table → Leave → ℕ → ℕ → Clause → ℕ → Type 0
 Fits one v s len Clause.Empty l = (len ≡ 0) × (l ≡ 0)
 Fits one v s len (Clause.Atom a b) l = (len ≡ 1) × (l ≡ 0) × v .atom a b
 Fits one v s len (Clause.Unary B m) l = one s len B × v .unary m × (l ≡ 0)
-Fits one v s len (Clause.Binary B C m) l = (l ≤ len) × one s l B × one (s + l) (len - l) C × v .binary m l
+Fits one v s len (Clause.Binary B C m) l =
+    (l ≤ len) × one s l B × one (s + l) (len - l) C × v .binary m l
 
 -- the longest left word that a clause can have over len tokens
 abbrev pub lefts : Clause → ℕ → ℕ
@@ -85,5 +100,7 @@ Below two s len (Clause.Binary B C m) l = two s l B ⊎ two (s + l) (len - l) C
 
 -- two rules stand over the span, or one with a word below that has two trees
 pub data Again (one two : Table) (g : Rules) (v : Leave) (s len A : ℕ) : Type 0 where
-  apart : (i l j k : ℕ) → Stand one g v s len A i l → Stand one g v s len A j k → (Same i l j k → ⊥) → Again one two g v s len A
-  below : (i l : ℕ) → Stand one g v s len A i l → Below two s len (rule g i .clause) l → Again one two g v s len A
+  apart : (i l j k : ℕ) → Stand one g v s len A i l → Stand one g v s len A j k → (Same i l j k → ⊥)
+      → Again one two g v s len A
+  below : (i l : ℕ) → Stand one g v s len A i l → Below two s len (rule g i .clause) l
+      → Again one two g v s len A

@@ -1,2 +1,2 @@
-// Tables of spans and nonterminals, and what stands over a span by them. Nothing here runs: specs/ has the definitions, proofs/ the laws
-// about them.
+// Tables of spans and nonterminals, and what stands over a span by them. Nothing here runs: specs/
+// has the definitions, proofs/ the laws about them.

@@ -19,10 +19,12 @@ module _ (s : List ℕ) (h : 7 ≤ length s) where
   pub bound-names : sameBytes (take 6 s) boundLine ≡ false → Number.Not ≡ asNumber (boundOf s)
   bound-names e = simp (le-leb 7 (length s) h, e)
 
-  pub bound-open : sameBytes (take 6 s) boundLine ≡ true → (getD s (length s - 1) 0 ≡ 10 → ⊥) → Number.Not ≡ asNumber (boundOf s)
+  pub bound-open : sameBytes (take 6 s) boundLine ≡ true → (getD s (length s - 1) 0 ≡ 10 → ⊥)
+      → Number.Not ≡ asNumber (boundOf s)
   bound-open e n = simp (le-leb 7 (length s) h, e, ne-eqb (getD s (length s - 1) 0) 10 n)
 
-  pub bound-there : sameBytes (take 6 s) boundLine ≡ true → getD s (length s - 1) 0 ≡ 10 → asNumber (numeralOf (take (length s - 1 - 6) (drop 6 s))) ≡ asNumber (boundOf s)
+  pub bound-there : sameBytes (take 6 s) boundLine ≡ true → getD s (length s - 1) 0 ≡ 10
+      → asNumber (numeralOf (take (length s - 1 - 6) (drop 6 s))) ≡ asNumber (boundOf s)
   bound-there e n =
       let d : length s - 1 - 6 ≡ length s - 7 = omega arith in
       rw (d, le-leb 7 (length s) h, e, eq-eqb (getD s (length s - 1) 0) 10 n)

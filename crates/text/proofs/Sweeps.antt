@@ -26,6 +26,9 @@ pub number-was : (o : Option ℕ) {n : Number} → n ≡ asNumber o → o ≡ nu
 number-was o e = sym (number-back o) ∙ ap numberOf (sym e)
 
 -- what was put behind the bound is what the program writes
-pub swept-printed : {input out out′ : List ℕ} {r : ℕ} {p : Parts} → length input ≤ longest → parts input ≡ some p → SweptAt (p .before) (p .behind) out out′ r → Printed SweepTextOf input out out′ r
+pub swept-printed : {input out out′ : List ℕ} {r : ℕ} {p : Parts} → length input ≤ longest
+    → parts input ≡ some p → SweptAt (p .before) (p .behind) out out′ r
+    → Printed SweepTextOf input out out′ r
 swept-printed s e (unbound b w) = record { text = _; is = Program.unbound s e b refl; wrote = w }
-swept-printed s e (bound b t) = record { text = t .text; is = Program.bounded s e b (t .is); wrote = t .wrote }
+swept-printed s e (bound b t) =
+    record { text = t .text; is = Program.bounded s e b (t .is); wrote = t .wrote }

@@ -22,5 +22,6 @@ wrote-within {old} {new} {text} {r} w = go (leb r (length new)) refl
         let f : length new ≡ length text = ap length (sym g ∙ w .front) in
         omega (arith, f, h, w .next)
 
-pub printed-within : {A : Type 0} {Of : A → List ℕ → Type 0} {input : A} {out out′ : List ℕ} {r : ℕ} → Printed Of input out out′ r → r ≤ length out′
+pub printed-within : {A : Type 0} {Of : A → List ℕ → Type 0} {input : A} {out out′ : List ℕ} {r : ℕ}
+    → Printed Of input out out′ r → r ≤ length out′
 printed-within p = wrote-within (p .wrote)

@@ -8,7 +8,8 @@ use lib.ListN.{length, getD, take, drop}
 use Rattle.fields.specs.Pieces.{sameBytes}
 use Rattle.fields.specs.Words.{numeralOf}
 
--- what stands before and behind the first empty line: a byte 10 at the very start or right after a byte 10
+-- what stands before and behind the first empty line: a byte 10 at the very start or right after a
+-- byte 10
 pub record Parts : Type 0 where
   pub before : List ℕ
   pub behind : List ℕ
@@ -20,7 +21,8 @@ ontoBefore x none = none
 -- `begins` says that a line begins here
 abbrev pub partsFrom : Bool → List ℕ → Option Parts
 partsFrom begins [] = none
-partsFrom begins (x ∷ s) = cond (begins && eqb x 10) (some (record { before = []; behind = s })) (ontoBefore x (partsFrom (eqb x 10) s))
+partsFrom begins (x ∷ s) = cond (begins && eqb x 10) (some (record { before = []; behind = s }))
+    (ontoBefore x (partsFrom (eqb x 10) s))
 
 -- the first empty line parts the input
 abbrev pub parts : List ℕ → Option Parts

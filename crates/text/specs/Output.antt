@@ -32,7 +32,8 @@ head word l = answerNames ++ (word ++ (32 ∷ lastField l))
 -- the line `tree left kind start length`
 abbrev pub treeNames : List ℕ
 treeNames =
-    116 ∷ 114 ∷ 101 ∷ 101 ∷ 32 ∷ 108 ∷ 101 ∷ 102 ∷ 116 ∷ 32 ∷ 107 ∷ 105 ∷ 110 ∷ 100 ∷ 32 ∷ 115 ∷ 116 ∷ 97 ∷ 114 ∷ 116 ∷ 32
+    116 ∷ 114 ∷ 101 ∷ 101 ∷ 32 ∷ 108 ∷ 101 ∷ 102 ∷ 116 ∷ 32 ∷ 107 ∷ 105 ∷ 110 ∷ 100 ∷ 32 ∷ 115 ∷ 116
+    ∷ 97 ∷ 114 ∷ 116 ∷ 32
     ∷ 108 ∷ 101 ∷ 110 ∷ 103 ∷ 116 ∷ 104 ∷ 10 ∷ []
 
 -- tree lines and their names, left out for `none` and refusals; one and two are the trees' rows

@@ -10,5 +10,6 @@ use Rattle.text.specs.Input.{parts}
 
 -- the place of its byte 10, or that there is none
 abbrev pub Parted : List ℕ → Place → Type 0
-Parted s (At i) = (i < length s) × (parts s ≡ some (record { before = take i s; behind = drop (i + 1) s }))
+Parted s (At i) =
+    (i < length s) × (parts s ≡ some (record { before = take i s; behind = drop (i + 1) s }))
 Parted s Nowhere = parts s ≡ none

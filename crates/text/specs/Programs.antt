@@ -28,27 +28,36 @@ pub record Lent (words one two : List ℕ) : Type 0 where
 
 -- the answer on two sheets that give this, and its trees
 pub data TreesText (given : Sheets) (text : List ℕ) : Type 0 where
-  answered : {words words′ one one′ two two′ : List ℕ} {r : TreesReply} → Lent words one two → TreesBy given words words′ one one′ two two′ r
-      → text ≡ head (answerText (r .answer)) (r .line) ++ treesText (r .answer) (take (4 * r .first) one′) (take (4 * r .second) two′)
-      → TreesText given text
+  answered : {words words′ one one′ two two′ : List ℕ} {r : TreesReply} → Lent words one two
+      → TreesBy given words words′ one one′ two two′ r
+      → text ≡ head (answerText (r .answer)) (r .line) ++ treesText (r .answer)
+      (take (4 * r .first) one′) (take (4 * r .second) two′) → TreesText given text
 
--- the answer on a bound and a sheet that gives this, and the found sentence; words enough for 7 tokens are lent
+-- the answer on a bound and a sheet that gives this, and the found sentence; words enough for 7
+-- tokens are lent
 pub data SweepText (k : ℕ) (given : Reading Rules) (text : List ℕ) : Type 0 where
-  swept : {words words′ : List ℕ} {r : SweepReply} → length words ≡ 58 → SweepBy given k words words′ r
-      → text ≡ head (answerText (r .answer)) (r .line) ++ sentenceText (r .answer) (spelled (r .sentence))
-      → SweepText k given text
+  swept : {words words′ : List ℕ} {r : SweepReply} → length words ≡ 58
+      → SweepBy given k words words′ r
+      → text ≡ head (answerText (r .answer)) (r .line) ++ sentenceText (r .answer)
+      (spelled (r .sentence)) → SweepText k given text
 
--- the output of `check`: refused-31 for a longer input, refused-32 for one without an empty line, else the answer on the two sheets and its trees
+-- the output of `check`: refused-31 for a longer input, refused-32 for one without an empty line,
+-- else the answer on the two sheets and its trees
 pub data CheckOf (input text : List ℕ) : Type 0 where
   long : longest < length input → text ≡ head (refusedText 31) 0 → CheckOf input text
-  whole : length input ≤ longest → parts input ≡ none → text ≡ head (refusedText 32) 0 → CheckOf input text
-  checked : {p : Parts} → length input ≤ longest → parts input ≡ some p → TreesText (sheets (p .before) (p .behind)) text → CheckOf input text
+  whole : length input ≤ longest → parts input ≡ none → text ≡ head (refusedText 32) 0
+      → CheckOf input text
+  checked : {p : Parts} → length input ≤ longest → parts input ≡ some p
+      → TreesText (sheets (p .before) (p .behind)) text → CheckOf input text
 
--- the output of `sweep`: refused-31 for a longer input, refused-32 for one without an empty line or with a bound not so written,
--- else the answer on the rule sheet and the found sentence
+-- the output of `sweep`: refused-31 for a longer input, refused-32 for one without an empty line or
+-- with a bound not so written, else the answer on the rule sheet and the found sentence
 pub data SweepTextOf (input text : List ℕ) : Type 0 where
   long : longest < length input → text ≡ head (refusedText 31) 0 → SweepTextOf input text
-  whole : length input ≤ longest → parts input ≡ none → text ≡ head (refusedText 32) 0 → SweepTextOf input text
-  unbound : {p : Parts} → length input ≤ longest → parts input ≡ some p → boundOf (p .before) ≡ none → text ≡ head (refusedText 32) 0 → SweepTextOf input text
-  bounded : {p : Parts} {k : ℕ} → length input ≤ longest → parts input ≡ some p → boundOf (p .before) ≡ some k
+  whole : length input ≤ longest → parts input ≡ none → text ≡ head (refusedText 32) 0
+      → SweepTextOf input text
+  unbound : {p : Parts} → length input ≤ longest → parts input ≡ some p → boundOf (p .before) ≡ none
+      → text ≡ head (refusedText 32) 0 → SweepTextOf input text
+  bounded : {p : Parts} {k : ℕ} → length input ≤ longest → parts input ≡ some p
+      → boundOf (p .before) ≡ some k
       → SweepText k (ruleSheet (p .behind)) text → SweepTextOf input text

@@ -12,5 +12,7 @@ use Rattle.text.specs.Printed.{Printed}
 
 -- the bound is not so written, or the answer was put
 pub data SweptAt (before behind out out′ : List ℕ) (r : ℕ) : Type 0 where
-  unbound : boundOf before ≡ none → Wrote out out′ 0 (head (refusedText 32) 0) r → SweptAt before behind out out′ r
-  bound : {k : ℕ} → boundOf before ≡ some k → Printed (SweepText k) (ruleSheet behind) out out′ r → SweptAt before behind out out′ r
+  unbound : boundOf before ≡ none → Wrote out out′ 0 (head (refusedText 32) 0) r
+      → SweptAt before behind out out′ r
+  bound : {k : ℕ} → boundOf before ≡ some k → Printed (SweepText k) (ruleSheet behind) out out′ r
+      → SweptAt before behind out out′ r

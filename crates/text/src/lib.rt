@@ -19,7 +19,8 @@ ghost use lib.ListN.{length, take, drop};
 ghost use Rattle.printing.specs.Printing.{Wrote, lastField, rowLines};
 ghost use Rattle.sheets.specs.RuleSheets.{ruleSheet};
 ghost use Rattle.answering.specs.Answers.{sheets};
-ghost use Rattle.text.specs.Output.{refusedText, answerText, head, treeNames, treesText, sentenceText};
+ghost use Rattle.text.specs.Output.{refusedText, answerText, head, treeNames, treesText};
+ghost use Rattle.text.specs.Output.{sentenceText};
 ghost use Rattle.fields.specs.Answers.{asNumber};
 ghost use Rattle.text.specs.Input.{boundOf};
 ghost use Rattle.text.specs.Parting.{Parted};
@@ -109,7 +110,8 @@ pub fn put_head(out: &mut [u8], a: Answer, line: usize) -> usize
 pub fn put_refusal(out: &mut [u8], number: u64) -> usize
     requires { ⌜ number < 100 ⌝ }
     requires { ⌜ 50 ≤ length (now out) ⌝ }
-    ensures { λ r. ⌜ Wrote (now (out .entry)) (now (out .exit)) 0 (head (refusedText number) 0) r ⌝ }
+    ensures { λ r. ⌜ Wrote (now (out .entry)) (now (out .exit)) 0 (head (refusedText number) 0)
+        r ⌝ }
 {
     let n = put_bytes(out, 0, b"answer line\n");
     let m = put_refused(out, n, number);
@@ -120,14 +122,16 @@ pub fn put_refusal(out: &mut [u8], number: u64) -> usize
 fn put_first(out: &mut [u8], at: usize, one: &[u8], m: usize) -> usize
     requires { ⌜ 4 * m ≤ length (now one) ⌝ }
     requires { ⌜ at + 28 + 26 * m ≤ length (now out) ⌝ }
-    ensures { λ r. ⌜ Wrote (now (out .entry)) (now (out .exit)) at (treeNames ++ rowLines 1 (take (4 * m) (now (one .entry)))) r ⌝ }
+    ensures { λ r. ⌜ Wrote (now (out .entry)) (now (out .exit)) at
+        (treeNames ++ rowLines 1 (take (4 * m) (now (one .entry)))) r ⌝ }
     ensures { λ r. ⌜ r ≤ at + 28 + 26 * m ⌝ }
 {
     let next = put_bytes(out, at, b"tree left kind start length\n");
     put_rows(out, next, 1, one, m)
 }
 
-// The tree lines and their names, where the answer has trees: the first m rows of one memory and the first n of the other.
+// The tree lines and their names, where the answer has trees: the first m rows of one memory and
+// the first n of the other.
 pub fn put_trees(
     out: &mut [u8],
     at: usize,
@@ -139,7 +143,8 @@ pub fn put_trees(
 ) -> usize
     requires { ⌜ (4 * m ≤ length (now one)) × (4 * n ≤ length (now two)) ⌝ }
     requires { ⌜ at + 28 + 26 * m + 26 * n ≤ length (now out) ⌝ }
-    ensures { λ r. ⌜ Wrote (now (out .entry)) (now (out .exit)) at (treesText a (take (4 * m) (now (one .entry))) (take (4 * n) (now (two .entry)))) r ⌝ }
+    ensures { λ r. ⌜ Wrote (now (out .entry)) (now (out .exit)) at
+        (treesText a (take (4 * m) (now (one .entry))) (take (4 * n) (now (two .entry)))) r ⌝ }
 {
     match a {
         Answer::None => at,
@@ -158,7 +163,8 @@ pub fn put_trees(
 pub fn put_sentence(out: &mut [u8], at: usize, a: Answer, s: Sentence) -> usize
     requires { ⌜ s .count ≤ 64 ⌝ }
     requires { ⌜ at + 14 + 18 * s .count ≤ length (now out) ⌝ }
-    ensures { λ r. ⌜ Wrote (now (out .entry)) (now (out .exit)) at (sentenceText a (spelled s)) r ⌝ }
+    ensures { λ r. ⌜ Wrote (now (out .entry)) (now (out .exit)) at (sentenceText a (spelled s))
+        r ⌝ }
 {
     match a {
         Answer::None => at,
@@ -176,7 +182,8 @@ pub fn put_sentence(out: &mut [u8], at: usize, a: Answer, s: Sentence) -> usize
 // The answer on two sheets and its trees.
 fn check_sheets(rules: &[u8], tokens: &[u8], out: &mut [u8]) -> usize
     requires { ⌜ 262144 ≤ length (now out) ⌝ }
-    ensures { λ r. ⌜ Printed TreesText (sheets (now (rules .entry)) (now (tokens .entry))) (now (out .entry)) (now (out .exit)) r ⌝ }
+    ensures { λ r. ⌜ Printed TreesText (sheets (now (rules .entry)) (now (tokens .entry)))
+        (now (out .entry)) (now (out .exit)) r ⌝ }
 {
     let mut words = [0u64; 4162];
     let mut one = [0u8; 16384];
@@ -191,7 +198,9 @@ fn check_sheets(rules: &[u8], tokens: &[u8], out: &mut [u8]) -> usize
 fn check_at(input: &[u8], i: usize, out: &mut [u8]) -> usize
     requires { ⌜ i < length (now input) ⌝ }
     requires { ⌜ 262144 ≤ length (now out) ⌝ }
-    ensures { λ r. ⌜ Printed TreesText (sheets (take i (now (input .entry))) (drop (i + 1) (now (input .entry)))) (now (out .entry)) (now (out .exit)) r ⌝ }
+    ensures { λ r. ⌜ Printed TreesText
+        (sheets (take i (now (input .entry))) (drop (i + 1) (now (input .entry))))
+        (now (out .entry)) (now (out .exit)) r ⌝ }
 {
     let j = i + 1;
     check_sheets(&input[..i], &input[j..], out)
@@ -232,7 +241,8 @@ fn bound_of(s: &[u8]) -> Number
 // The answer on a rule sheet and a bound.
 fn sweep_sheet(rules: &[u8], k: u32, out: &mut [u8]) -> usize
     requires { ⌜ 262144 ≤ length (now out) ⌝ }
-    ensures { λ r. ⌜ Printed (SweepText k) (ruleSheet (now (rules .entry))) (now (out .entry)) (now (out .exit)) r ⌝ }
+    ensures { λ r. ⌜ Printed (SweepText k) (ruleSheet (now (rules .entry))) (now (out .entry))
+        (now (out .exit)) r ⌝ }
 {
     let mut words = [0u64; 58];
     let r = sweep(rules, k as usize, &mut words);
@@ -246,7 +256,8 @@ fn sweep_sheet(rules: &[u8], k: u32, out: &mut [u8]) -> usize
 fn sweep_at(input: &[u8], i: usize, out: &mut [u8]) -> usize
     requires { ⌜ i < length (now input) ⌝ }
     requires { ⌜ 262144 ≤ length (now out) ⌝ }
-    ensures { λ r. ⌜ SweptAt (take i (now (input .entry))) (drop (i + 1) (now (input .entry))) (now (out .entry)) (now (out .exit)) r ⌝ }
+    ensures { λ r. ⌜ SweptAt (take i (now (input .entry))) (drop (i + 1) (now (input .entry)))
+        (now (out .entry)) (now (out .exit)) r ⌝ }
 {
     let j = i + 1;
     let bound = bound_of(&input[..i]);
@@ -258,7 +269,8 @@ fn sweep_at(input: &[u8], i: usize, out: &mut [u8]) -> usize
 
 // The whole output of the program `sweep`; its length.
 pub fn sweep_text(input: &[u8], out: &mut [u8; 262144]) -> usize
-    ensures { λ r. ⌜ Printed SweepTextOf (now (input .entry)) (now (out .entry)) (now (out .exit)) r ⌝ }
+    ensures { λ r. ⌜ Printed SweepTextOf (now (input .entry)) (now (out .entry)) (now (out .exit))
+        r ⌝ }
 {
     if 16384 < input.len() {
         return put_refusal(out, 31);

@@ -1,4 +1,5 @@
--- What the program `calls` writes for `places`: the answer and its line, then, for two, `left start length` and a line a place.
+-- What the program `calls` writes for `places`: the answer and its line, then, for two, `left start
+-- length` and a line a place.
 use mathlib.Core.Path.{_≡_}
 use mathlib.Core.List.{List, [], _∷_, _++_}
 use Prim.Native.Nat.{ℕ, _*_}
@@ -24,7 +25,8 @@ placeLines (A ∷ s ∷ n ∷ rest) = placeText A s n ++ placeLines rest
 -- the line `left start length`
 abbrev pub placeNames : List ℕ
 placeNames =
-    108 ∷ 101 ∷ 102 ∷ 116 ∷ 32 ∷ 115 ∷ 116 ∷ 97 ∷ 114 ∷ 116 ∷ 32 ∷ 108 ∷ 101 ∷ 110 ∷ 103 ∷ 116 ∷ 104 ∷ 10 ∷ []
+    108 ∷ 101 ∷ 102 ∷ 116 ∷ 32 ∷ 115 ∷ 116 ∷ 97 ∷ 114 ∷ 116 ∷ 32 ∷ 108 ∷ 101 ∷ 110 ∷ 103 ∷ 116 ∷ 104
+    ∷ 10 ∷ []
 
 -- only for two
 abbrev pub placesText : Answer → List ℕ → List ℕ
@@ -37,6 +39,7 @@ placesText (Answer.Refused f) list = []
 
 -- the output for two sheets; it lends words enough for 64 tokens, and 16,384 places
 pub data PlacesTextOf (rules tokens text : List ℕ) : Type 0 where
-  answered : {words words′ list list′ : List ℕ} {r : PlacesReply} → length words ≡ 4162 → length list ≡ 3 * 16384
-      → PlacesOf rules tokens words words′ list list′ r
-      → text ≡ head (answerText (r .answer)) (r .line) ++ placesText (r .answer) (take (3 * r .count) list′) → PlacesTextOf rules tokens text
+  answered : {words words′ list list′ : List ℕ} {r : PlacesReply} → length words ≡ 4162
+      → length list ≡ 3 * 16384 → PlacesOf rules tokens words words′ list list′ r
+      → text ≡ head (answerText (r .answer)) (r .line) ++ placesText (r .answer)
+      (take (3 * r .count) list′) → PlacesTextOf rules tokens text

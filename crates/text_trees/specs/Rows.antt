@@ -1,4 +1,5 @@
--- What the program `calls` writes for `rows`: the answer and its line, then `first second` and the two counts.
+-- What the program `calls` writes for `rows`: the answer and its line, then `first second` and the
+-- two counts.
 use mathlib.Core.Path.{_≡_}
 use mathlib.Core.List.{List, [], _∷_, _++_}
 use Prim.Native.Nat.{ℕ}
@@ -36,5 +37,7 @@ rowsText (Answer.Refused f) m n = []
 
 -- the output for two sheets; it lends words enough for 64 tokens
 pub data RowsTextOf (rules tokens text : List ℕ) : Type 0 where
-  answered : {words words′ : List ℕ} {r : RowsReply} → length words ≡ 4162 → RowsOf rules tokens words words′ r
-      → text ≡ head (answerText (r .answer)) (r .line) ++ rowsText (r .answer) (r .first) (r .second) → RowsTextOf rules tokens text
+  answered : {words words′ : List ℕ} {r : RowsReply} → length words ≡ 4162
+      → RowsOf rules tokens words words′ r
+      → text ≡ head (answerText (r .answer)) (r .line) ++ rowsText (r .answer) (r .first)
+      (r .second) → RowsTextOf rules tokens text

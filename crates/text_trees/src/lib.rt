@@ -1,4 +1,5 @@
-// The whole output of the calls on one sentence's trees, in a lent buffer; their sheets are parted already.
+// The whole output of the calls on one sentence's trees, in a lent buffer; their sheets are parted
+// already.
 use answering::Answer;
 use call_places::places;
 use call_rows::rows;
@@ -57,7 +58,8 @@ fn put_counted(out: &mut [u8], at: usize, a: Answer, first: RowCount, second: Ro
 // The whole output of the call `rows`; its length.
 pub fn rows_text(rules: &[u8], tokens: &[u8], out: &mut [u8]) -> usize
     requires { ⌜ 262144 ≤ length (now out) ⌝ }
-    ensures { λ r. ⌜ Printed (RowsTextOf (now (rules .entry))) (now (tokens .entry)) (now (out .entry)) (now (out .exit)) r ⌝ }
+    ensures { λ r. ⌜ Printed (RowsTextOf (now (rules .entry))) (now (tokens .entry))
+        (now (out .entry)) (now (out .exit)) r ⌝ }
 {
     let mut words = [0u64; 4162];
     let r = rows(rules, tokens, &mut words);
@@ -93,7 +95,8 @@ fn put_place(out: &mut [u8], at: usize, left: u8, start: u8, len: u8) -> usize
 fn put_places(out: &mut [u8], at: usize, list: &[u8], count: usize) -> usize
     requires { ⌜ 3 * count ≤ length (now list) ⌝ }
     requires { ⌜ at + 12 * count ≤ length (now out) ⌝ }
-    ensures { λ r. ⌜ Wrote (now (out .entry)) (now (out .exit)) at (placeLines (take (3 * count) (now (list .entry)))) r ⌝ }
+    ensures { λ r. ⌜ Wrote (now (out .entry)) (now (out .exit)) at
+        (placeLines (take (3 * count) (now (list .entry)))) r ⌝ }
 {
     let mut i = 0;
     let mut next = at;
@@ -109,7 +112,8 @@ fn put_places(out: &mut [u8], at: usize, list: &[u8], count: usize) -> usize
 fn put_listed(out: &mut [u8], at: usize, a: Answer, list: &[u8], count: usize) -> usize
     requires { ⌜ 3 * count ≤ length (now list) ⌝ }
     requires { ⌜ at + 18 + 12 * count ≤ length (now out) ⌝ }
-    ensures { λ r. ⌜ Wrote (now (out .entry)) (now (out .exit)) at (placesText a (take (3 * count) (now (list .entry)))) r ⌝ }
+    ensures { λ r. ⌜ Wrote (now (out .entry)) (now (out .exit)) at
+        (placesText a (take (3 * count) (now (list .entry)))) r ⌝ }
 {
     match a {
         Answer::None => at,
@@ -127,7 +131,8 @@ fn put_listed(out: &mut [u8], at: usize, a: Answer, list: &[u8], count: usize) -
 // The whole output of the call `places`; its length.
 pub fn places_text(rules: &[u8], tokens: &[u8], out: &mut [u8]) -> usize
     requires { ⌜ 262144 ≤ length (now out) ⌝ }
-    ensures { λ r. ⌜ Printed (PlacesTextOf (now (rules .entry))) (now (tokens .entry)) (now (out .entry)) (now (out .exit)) r ⌝ }
+    ensures { λ r. ⌜ Printed (PlacesTextOf (now (rules .entry))) (now (tokens .entry))
+        (now (out .entry)) (now (out .exit)) r ⌝ }
 {
     let mut words = [0u64; 4162];
     let mut list = [0u8; 49152];

@@ -21,16 +21,19 @@ use Rattle.tree_choices.specs.Lows.{LowPick, PreferredPick}
 use Rattle.tree_choices.proofs.PickLaws.{first-of-next, none-of-none}
 use Rattle.grammar.specs.Sentences.{spelled}
 
-pub first-pick : {g : Rules} {A : ℕ} {w : Word} → HasChoice g A w → (Cyclic g → ⊥) → (r : Pick) → NextChoice g A w 0 0 r → PreferredPick g A w r
+pub first-pick : {g : Rules} {A : ℕ} {w : Word} → HasChoice g A w → (Cyclic g → ⊥) → (r : Pick)
+    → NextChoice g A w 0 0 r → PreferredPick g A w r
 first-pick h c (Pick.At p k) x = straight c (first-of-next x)
 first-pick h c Pick.Nothing x = none-of-none h x
 
-pub low-pick : {g : Rules} (A : ℕ) (w : Word) → Cyclic g → (r : Pick) → LowPick g A w r → PreferredPick g A w r
+pub low-pick : {g : Rules} (A : ℕ) (w : Word) → Cyclic g → (r : Pick) → LowPick g A w r
+    → PreferredPick g A w r
 low-pick A w c (Pick.At p k) x = looping c x
 low-pick A w c Pick.Nothing x = x
 
 -- a sheet with no loop needs no heights
-pub ready-flat : {g : Grammar} {s : Sentence} {ws hs : List ℕ} → Charted g s ws → (Cyclic (rules g) → ⊥) → length hs ≡ 0 → Ready g s ws hs
+pub ready-flat : {g : Grammar} {s : Sentence} {ws hs : List ℕ} → Charted g s ws
+    → (Cyclic (rules g) → ⊥) → length hs ≡ 0 → Ready g s ws hs
 ready-flat r n e =
     record {
       formed = r .formed;
@@ -39,7 +42,8 @@ ready-flat r n e =
       lent = record { flat = λ _. n; looping = λ h. absurd (omega arith) };
     }
 
-pub ready-low : {g : Grammar} {s : Sentence} {ws hs : List ℕ} → Charted g s ws → Cyclic (rules g) → HeightSheet (rules g) (spelled s) hs → Ready g s ws hs
+pub ready-low : {g : Grammar} {s : Sentence} {ws hs : List ℕ} → Charted g s ws → Cyclic (rules g)
+    → HeightSheet (rules g) (spelled s) hs → Ready g s ws hs
 ready-low r c h =
     record {
       formed = r .formed;

@@ -1,4 +1,5 @@
--- The height that a choice gives, by the least heights of its children. For the contracts of inner functions only.
+-- The height that a choice gives, by the least heights of its children. For the contracts of inner
+-- functions only.
 use mathlib.Core.Path.{_≡_}
 use mathlib.Core.List.{List}
 use Prim.Native.Nat.{ℕ, zero, suc, _+_, _-_, _≤_, _<_, max}
@@ -11,12 +12,14 @@ use Rattle.choices.specs.declared.Pick.{Pick}
 use Rattle.choices.specs.declared.Pick.the-variants as Pick
 use Rattle.heights.specs.Least.{numberAt}
 
--- one more than the higher child, of a node of a kind over len tokens from s on with children B and C and k tokens on its left
+-- one more than the higher child, of a node of a kind over len tokens from s on with children B and
+-- C and k tokens on its left
 abbrev pub heightBy : List ℕ → ℕ → ℕ → ℕ → ℕ → ℕ → ℕ → ℕ → ℕ
 heightBy hs n zero B C k s len = 1
 heightBy hs n (suc zero) B C k s len = 1
 heightBy hs n (suc (suc zero)) B C k s len = suc (numberAt hs n s len B)
-heightBy hs n (suc (suc (suc j))) B C k s len = suc (max (numberAt hs n s k B) (numberAt hs n (s + k) (len - k) C))
+heightBy hs n (suc (suc (suc j))) B C k s len =
+    suc (max (numberAt hs n s k B) (numberAt hs n (s + k) (len - k) C))
 
 -- the node's children are in reach
 pub record Inside (hs : List ℕ) (n : ℕ) (st : Step) (s len : ℕ) : Type 0 where

@@ -34,10 +34,12 @@ fn full(x: u16) -> usize
     x as usize
 }
 
-// How high a tree stands whose top is the choice with this step and whose children are as low as can be.
+// How high a tree stands whose top is the choice with this step and whose children are as low as
+// can be.
 fn height_of(hs: &[u16], n: usize, st: Step, start: usize, len: usize) -> usize
     requires { ⌜ Inside (now hs) n st start len ⌝ }
-    ensures { λ r. ⌜ r ≡ heightBy (now (hs .entry)) n (st .kind) (st .first) (st .second) (st .split) start len ⌝ }
+    ensures { λ r. ⌜ r ≡ heightBy (now (hs .entry)) n (st .kind) (st .first) (st .second)
+        (st .split) start len ⌝ }
 {
     let kind = st.kind;
     let first = st.first;
@@ -112,8 +114,8 @@ fn preferred(
     low_choice(words, hs, s, g, a, start, len)
 }
 
-// While seeking, at a node whose first choice of all is (p, k), which the first tree takes: the second, where there is one,
-// and the seeking ends.
+// While seeking, at a node whose first choice of all is (p, k), which the first tree takes: the
+// second, where there is one, and the seeking ends.
 fn after(
     words: &[u64],
     s: Sentence,
@@ -136,7 +138,8 @@ fn after(
     }
 }
 
-// While seeking, at a node where the first tree takes (p, k): the earliest choice that is another, where there is one.
+// While seeking, at a node where the first tree takes (p, k): the earliest choice that is another,
+// where there is one.
 fn swerve(
     words: &[u64],
     s: Sentence,
@@ -166,7 +169,8 @@ fn swerve(
     }
 }
 
-// What is taken at a node: what the first tree takes; while seeking, another choice where there is one.
+// What is taken at a node: what the first tree takes; while seeking, another choice where there is
+// one.
 pub fn choose(
     words: &[u64],
     hs: &[u16],
@@ -195,11 +199,13 @@ pub fn choose(
     }
 }
 
-// The step of a closed node: nothing beneath it is written. Seeking ends there where the nonterminal has two trees over the span.
+// The step of a closed node: nothing beneath it is written. Seeking ends there where the
+// nonterminal has two trees over the span.
 fn pass(words: &[u64], s: Sentence, g: Grammar, a: u8, i: u8, n: u8, seeking: bool) -> Step
     requires { ⌜ Charted g s (now words) × (i + n ≤ s .count) ⌝ }
     requires { ⌜ a < 64 ⌝ }
-    ensures { λ r. ⌜ (r ≡ closedStep (r .seeking)) × Passes (rules g) a (part (spelled s) i n) seeking (r .seeking) ⌝ }
+    ensures { λ r. ⌜ (r ≡ closedStep (r .seeking)) × Passes (rules g) a (part (spelled s) i n)
+        seeking (r .seeking) ⌝ }
 {
     let mut more = seeking;
     if seeking {
@@ -216,7 +222,8 @@ fn pass(words: &[u64], s: Sentence, g: Grammar, a: u8, i: u8, n: u8, seeking: bo
     }
 }
 
-// What is shown of a node: what is taken there or, where the nonterminal is not in the set, a closed node.
+// What is shown of a node: what is taken there or, where the nonterminal is not in the set, a
+// closed node.
 pub fn look(
     words: &[u64],
     hs: &[u16],

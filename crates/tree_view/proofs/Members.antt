@@ -36,5 +36,7 @@ member-insert s a A = go (in-dec s A) (ℕ-discrete A a)
   where
     go : Dec (In s A) → Dec (A ≡ a) → member (insert s a) A ≡ member s A || eqb A a
     go (yes h) d = member-in (insert s a) A (insert-keeps s a h) ∙ rw (member-in s A h)
-    go (no n) (yes e) = member-in (insert s a) A (rw e (insert-same s a)) ∙ rw (member-out s A n, eq-eqb A a e)
-    go (no n) (no e) = member-out (insert s a) A (λ h. ⊎-elim n e (insert-only s a A h)) ∙ rw (member-out s A n, ne-eqb A a e)
+    go (no n) (yes e) =
+        member-in (insert s a) A (rw e (insert-same s a)) ∙ rw (member-out s A n, eq-eqb A a e)
+    go (no n) (no e) = member-out (insert s a) A (λ h. ⊎-elim n e (insert-only s a A h))
+        ∙ rw (member-out s A n, ne-eqb A a e)

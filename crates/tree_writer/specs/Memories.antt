@@ -9,11 +9,16 @@ use Rattle.grammar.specs.Trees.{Tree}
 use Rattle.tree_writer.specs.declared.Counts.{Counts}
 use Rattle.tree_writer.specs.Written.{Display, rowRoom, countOf, filled}
 
--- the memories l₁ and l₂ have become m₁ and m₂, and r is answered, where t and u are the trees of the answer
-pub record Written (dis : Display) (t u : Option Tree) (l₁ l₂ m₁ m₂ : List ℕ) (r : Counts) : Type 0 where
+-- the memories l₁ and l₂ have become m₁ and m₂, and r is answered, where t and u are the trees of
+-- the answer
+pub record Written (dis : Display) (t u : Option Tree) (l₁ l₂ m₁ m₂ : List ℕ) (r : Counts) : Type
+    0 where
   -- the rows of both, and how many they are
   pub fits : countOf dis t ≤ rowRoom l₁ → countOf dis u ≤ rowRoom l₂
-      → (m₁ ≡ filled dis l₁ t) × (m₂ ≡ filled dis l₂ u) × (r ≡ record { fits = true; first = countOf dis t; second = countOf dis u })
-  -- refusal 22: a tree of the answer has more rows than its memory has whole four-byte places; both tree memories are 0
+      → (m₁ ≡ filled dis l₁ t) × (m₂ ≡ filled dis l₂ u)
+      × (r ≡ record { fits = true; first = countOf dis t; second = countOf dis u })
+  -- refusal 22: a tree of the answer has more rows than its memory has whole four-byte places; both
+  -- tree memories are 0
   pub short : (rowRoom l₁ < countOf dis t) ⊎ (rowRoom l₂ < countOf dis u)
-      → (m₁ ≡ filled dis l₁ none) × (m₂ ≡ filled dis l₂ none) × (r ≡ record { fits = false; first = 0; second = 0 })
+      → (m₁ ≡ filled dis l₁ none) × (m₂ ≡ filled dis l₂ none)
+      × (r ≡ record { fits = false; first = 0; second = 0 })

@@ -1,5 +1,6 @@
--- What a tree memory holds after a call for trees: 01, "Trees, choices, span sheet", last paragraph, and refusal 22; and where a user
--- sees a part of them, by the rows shown: 02, "Closed sections on a shared tour".
+-- What a tree memory holds after a call for trees: 01, "Trees, choices, span sheet", last
+-- paragraph, and refusal 22; and where a user sees a part of them, by the rows shown: 02, "Closed
+-- sections on a shared tour".
 use mathlib.Core.List.{List, [], _++_}
 use mathlib.Core.Option.{Option, none, some}
 use Prim.Native.Nat.{ℕ, _*_, _-_, _/_}
@@ -21,7 +22,8 @@ inFull = record { bytes = rows 0; number = rowCount }
 abbrev pub seenBy : View → Display
 seenBy sees = record { bytes = shownRows sees 0; number = shownCount sees }
 
--- the rows of a tree of the answer; with the verdict none there is neither tree, with one there is no second
+-- the rows of a tree of the answer; with the verdict none there is neither tree, with one there is
+-- no second
 abbrev pub rowsOf : Display → Option Tree → List ℕ
 rowsOf dis none = []
 rowsOf dis (some t) = dis .bytes t

@@ -24,17 +24,18 @@ ghost use Rattle.tree_view.specs.Members.{member};
 ghost use Rattle.tree_writer.specs.Written.{Display, seenBy};
 ghost use Rattle.tree_writer.specs.Memories.{Written};
 
-// How many rows each tree has, 0 for one that is not written; `fits` is false where a tree of the answer has more rows than its
-// memory has places (refusal 22).
+// How many rows each tree has, 0 for one that is not written; `fits` is false where a tree of the
+// answer has more rows than its memory has places (refusal 22).
 pub struct Counts {
     pub fits: bool,
     pub first: usize,
     pub second: usize,
 }
 
-// The rows of the first tree or, seeking, of the second, with zeros after them; their number. Zeros and 0 where they do not fit.
-// A node outside the set `sees` is one row of kind 4. `hs` is the least heights where the sheet loops, and empty where it does not.
-// Rows grow from the front, pending nodes stand at the end, one place each: together they are at most the rows that are due.
+// The rows of the first tree or, seeking, of the second, with zeros after them; their number. Zeros
+// and 0 where they do not fit. A node outside the set `sees` is one row of kind 4. `hs` is the
+// least heights where the sheet loops, and empty where it does not. Rows grow from the front,
+// pending nodes stand at the end, one place each: together they are at most the rows that are due.
 pub fn write(
     words: &[u64],
     hs: &[u16],
@@ -46,7 +47,8 @@ pub fn write(
 ) -> usize
     requires { ⌜ Ready g s (now words) (now hs) ⌝ }
     requires { ⌜ Wanted (rules g) 0 (spelled s) seeking ⌝ }
-    ensures { λ r. ⌜ ((u : Tree) → Goal (rules g) 0 (spelled s) seeking u → Laid (member sees) u (now (out .entry)) (now (out .exit)) r) ⌝ }
+    ensures { λ r. ⌜ ((u : Tree) → Goal (rules g) 0 (spelled s) seeking u
+        → Laid (member sees) u (now (out .entry)) (now (out .exit)) r) ⌝ }
 {
     let places = out.len() / 4;
     if places == 0 {
@@ -79,7 +81,9 @@ pub fn write(
 
 // The verdict is none: neither tree.
 pub fn write_none(first: &mut [u8], second: &mut [u8]) -> Counts
-    ensures { λ r. ⌜ ((dis : Display) → Written dis none none (now (first .entry)) (now (second .entry)) (now (first .exit)) (now (second .exit)) r) ⌝ }
+    ensures { λ r. ⌜ ((dis : Display)
+        → Written dis none none (now (first .entry)) (now (second .entry)) (now (first .exit))
+        (now (second .exit)) r) ⌝ }
 {
     clear(first, 0);
     clear(second, 0);
@@ -103,7 +107,8 @@ fn first_by(
     requires { ⌜ Ready g s (now words) (now hs) ⌝ }
     requires { ⌜ Wanted (rules g) 0 (spelled s) false ⌝ }
     ensures { λ r. ⌜ ((t : Tree) → FirstTree (rules g) 0 (spelled s) t
-        → Written (seenBy (member sees)) (some t) none (now (first .entry)) (now (second .entry)) (now (first .exit)) (now (second .exit)) r) ⌝ }
+        → Written (seenBy (member sees)) (some t) none (now (first .entry)) (now (second .entry))
+        (now (first .exit)) (now (second .exit)) r) ⌝ }
 {
     clear(second, 0);
     let n = write(words, hs, s, g, sees, first, false);
@@ -129,8 +134,10 @@ fn both_by(
 ) -> Counts
     requires { ⌜ Ready g s (now words) (now hs) ⌝ }
     requires { ⌜ Wanted (rules g) 0 (spelled s) true ⌝ }
-    ensures { λ r. ⌜ ((t u : Tree) → FirstTree (rules g) 0 (spelled s) t → SecondTree (rules g) 0 (spelled s) u
-        → Written (seenBy (member sees)) (some t) (some u) (now (first .entry)) (now (second .entry)) (now (first .exit)) (now (second .exit)) r) ⌝ }
+    ensures { λ r. ⌜ ((t u : Tree) → FirstTree (rules g) 0 (spelled s) t
+        → SecondTree (rules g) 0 (spelled s) u
+        → Written (seenBy (member sees)) (some t) (some u) (now (first .entry))
+        (now (second .entry)) (now (first .exit)) (now (second .exit)) r) ⌝ }
 {
     let n = write(words, hs, s, g, sees, first, false);
     if n == 0 {
@@ -149,7 +156,8 @@ fn both_by(
     }
 }
 
-// The same on a looping sheet. Its least heights stand in a local array, which this function alone makes: 266 KB of stack.
+// The same on a looping sheet. Its least heights stand in a local array, which this function alone
+// makes: 266 KB of stack.
 fn first_low(
     words: &[u64],
     s: Sentence,
@@ -162,7 +170,8 @@ fn first_low(
     requires { ⌜ Wanted (rules g) 0 (spelled s) false ⌝ }
     requires { ⌜ Cyclic (rules g) ⌝ }
     ensures { λ r. ⌜ ((t : Tree) → FirstTree (rules g) 0 (spelled s) t
-        → Written (seenBy (member sees)) (some t) none (now (first .entry)) (now (second .entry)) (now (first .exit)) (now (second .exit)) r) ⌝ }
+        → Written (seenBy (member sees)) (some t) none (now (first .entry)) (now (second .entry))
+        (now (first .exit)) (now (second .exit)) r) ⌝ }
 {
     let mut hs = [65535u16; 133184];
     heights(&mut hs, s, g);
@@ -181,8 +190,10 @@ fn both_low(
     requires { ⌜ Charted g s (now words) ⌝ }
     requires { ⌜ Wanted (rules g) 0 (spelled s) true ⌝ }
     requires { ⌜ Cyclic (rules g) ⌝ }
-    ensures { λ r. ⌜ ((t u : Tree) → FirstTree (rules g) 0 (spelled s) t → SecondTree (rules g) 0 (spelled s) u
-        → Written (seenBy (member sees)) (some t) (some u) (now (first .entry)) (now (second .entry)) (now (first .exit)) (now (second .exit)) r) ⌝ }
+    ensures { λ r. ⌜ ((t u : Tree) → FirstTree (rules g) 0 (spelled s) t
+        → SecondTree (rules g) 0 (spelled s) u
+        → Written (seenBy (member sees)) (some t) (some u) (now (first .entry))
+        (now (second .entry)) (now (first .exit)) (now (second .exit)) r) ⌝ }
 {
     let mut hs = [65535u16; 133184];
     heights(&mut hs, s, g);
@@ -201,7 +212,8 @@ pub fn write_first(
     requires { ⌜ Charted g s (now words) ⌝ }
     requires { ⌜ Wanted (rules g) 0 (spelled s) false ⌝ }
     ensures { λ r. ⌜ ((t : Tree) → FirstTree (rules g) 0 (spelled s) t
-        → Written (seenBy (member sees)) (some t) none (now (first .entry)) (now (second .entry)) (now (first .exit)) (now (second .exit)) r) ⌝ }
+        → Written (seenBy (member sees)) (some t) none (now (first .entry)) (now (second .entry))
+        (now (first .exit)) (now (second .exit)) r) ⌝ }
 {
     if cyclic(g) {
         return first_low(words, s, g, sees, first, second);
@@ -221,8 +233,10 @@ pub fn write_both(
 ) -> Counts
     requires { ⌜ Charted g s (now words) ⌝ }
     requires { ⌜ Wanted (rules g) 0 (spelled s) true ⌝ }
-    ensures { λ r. ⌜ ((t u : Tree) → FirstTree (rules g) 0 (spelled s) t → SecondTree (rules g) 0 (spelled s) u
-        → Written (seenBy (member sees)) (some t) (some u) (now (first .entry)) (now (second .entry)) (now (first .exit)) (now (second .exit)) r) ⌝ }
+    ensures { λ r. ⌜ ((t u : Tree) → FirstTree (rules g) 0 (spelled s) t
+        → SecondTree (rules g) 0 (spelled s) u
+        → Written (seenBy (member sees)) (some t) (some u) (now (first .entry))
+        (now (second .entry)) (now (first .exit)) (now (second .exit)) r) ⌝ }
 {
     if cyclic(g) {
         return both_low(words, s, g, sees, first, second);

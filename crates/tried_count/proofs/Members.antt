@@ -27,25 +27,30 @@ here : (s a : ℕ) → HowMany (λ (x : ℕ). (x ≡ a) × In s x) (s / 2 ^ a % 
 here s a = go (s / 2 ^ a % 2) refl (digit-low s a)
   where
     go : (d : ℕ) → s / 2 ^ a % 2 ≡ d → d < 2 → HowMany (λ (x : ℕ). (x ≡ a) × In s x) d
-    go zero e l = counts-none (λ x h. let z : In s a = rw (h .0) at (h .1) in omega (arith, e, z .digit))
+    go zero e l =
+        counts-none (λ x h. let z : In s a = rw (h .0) at (h .1) in omega (arith, e, z .digit))
     go (suc zero) e l = counts-one a (refl, record { digit = e }) (λ x h. h .0)
     go (suc (suc d)) e l = absurd (omega arith)
 
 pub members-count : (s a : ℕ) → HowMany (λ (x : ℕ). (x < a) × In s x) (membersBelow s a)
 unfolding membersBelow
 members-count s zero = counts-none (λ x h. omega (arith, h .0))
-members-count s (suc a) = counts-iff to from (counts-plus (members-count s a) (here s a) (λ x h k. omega (arith, h .0, k .0)))
+members-count s (suc a) = counts-iff to from
+    (counts-plus (members-count s a) (here s a) (λ x h k. omega (arith, h .0, k .0)))
   where
     to : (x : ℕ) → ((x < a) × In s x) ⊎ ((x ≡ a) × In s x) → (x < suc a) × In s x
     to x (inl h) = (omega (arith, h .0), h .1)
     to x (inr h) = (omega (arith, h .0), h .1)
 
     from : (x : ℕ) → (x < suc a) × In s x → ((x < a) × In s x) ⊎ ((x ≡ a) × In s x)
-    from x h = elim (decLt x a) [ yes l ↦ inl (l, h .1) | no l ↦ inr (omega (arith, l, h .0), h .1) ]
+    from x h =
+        elim (decLt x a) [ yes l ↦ inl (l, h .1) | no l ↦ inr (omega (arith, l, h .0), h .1) ]
 
 -- below one of them, they are all among
-pub among-below : (s a : ℕ) → Among s a → HowMany (λ (x : ℕ). (x < a) × Among s x) (membersBelow s a)
-among-below s a m = counts-iff (λ x h. (h .0, (omega (arith, h .0, m .0), h .1))) (λ x h. (h .0, h .1 .1)) (members-count s a)
+pub among-below : (s a : ℕ) → Among s a
+    → HowMany (λ (x : ℕ). (x < a) × Among s x) (membersBelow s a)
+among-below s a m = counts-iff (λ x h. (h .0, (omega (arith, h .0, m .0), h .1)))
+    (λ x h. (h .0, h .1 .1)) (members-count s a)
 
 ones-digit : (b : ℕ) → b < 2 → ones b ≡ b
 unfolding ones onesIn

@@ -1,4 +1,5 @@
-// The number of candidates that a sweep tries. It is worked out and not counted along, since the search passes over whole blocks of candidates.
+// The number of candidates that a sweep tries. It is worked out and not counted along, since the
+// search passes over whole blocks of candidates.
 use candidates::Candidate;
 use candidates::terminal_count;
 use grammar::Cell;
@@ -13,7 +14,8 @@ ghost use Rattle.candidates.specs.Terminals.{Among};
 ghost use Rattle.candidates.specs.Arrays.{cells};
 ghost use Rattle.tried_count.specs.Tried.{Sized, Tried};
 ghost use Rattle.tried_count.specs.Ways.{sum, ways, lesser, wholeOf, rankFrom};
-ghost use Rattle.tried_count.specs.Rows.{at, Low, Grown, RowOf, Fair, Fairs, membersBelow, cellRank};
+ghost use Rattle.tried_count.specs.Rows.{at, Low, Grown, RowOf, Fair, Fairs, membersBelow};
+ghost use Rattle.tried_count.specs.Rows.{cellRank};
 ghost use Rattle.tried_count.specs.Searched.{Long, answerOf, Hit};
 
 // The ways to go on after a cell, by its column.
@@ -166,7 +168,8 @@ fn up_to(lengths: u64, set: u64, k: usize) -> u64
     total
 }
 
-// The number of candidates tried by a search up to k that found c, of n tokens, or nothing where n is 0.
+// The number of candidates tried by a search up to k that found c, of n tokens, or nothing where n
+// is 0.
 pub fn tried(lengths: u64, set: u64, k: usize, n: usize, c: Candidate) -> u64
     requires { ⌜ Fair (ones set) k ⌝ }
     requires { ⌜ Hit (In lengths) (Among set) k n (cells c 0 n) ⌝ }

@@ -1,7 +1,8 @@
 -- Words that stand in a word.
 use mathlib.Core.Path.{_≡_, refl, subst}
 use mathlib.Core.Logic.{_⊎_, inl, inr}
-use mathlib.Core.List.{[], _∷_, _++_, append-nil, append-assoc, List·Memᴰ, List·Memᴰ·head, Memᴰ·append-right}
+use mathlib.Core.List.{[], _∷_, _++_, append-nil, append-assoc, List·Memᴰ, List·Memᴰ·head}
+use mathlib.Core.List.{Memᴰ·append-right}
 use Rattle.grammar.specs.declared.Token.{Token}
 use Rattle.grammar.specs.Layout.{Word}
 use Rattle.grammar.proofs.Lists.{both?, or?}
@@ -51,10 +52,21 @@ pub infix-self : (w : Word) → Infix w w
 infix-self w = record { before = []; after = []; spells = append-nil w }
 
 pub infix-left : (u v : Word) {w : Word} → Infix (u ++ v) w → Infix u w
-infix-left u v i = record { before = i .before; after = v ++ i .after; spells = rw (← append-assoc u v) (i .spells) }
+infix-left u v i = record {
+  before = i .before;
+  after = v
+      ++ i .after;
+  spells = rw (← append-assoc u v) (i .spells);
+}
 
 pub infix-right : (u v : Word) {w : Word} → Infix (u ++ v) w → Infix v w
-infix-right u v i = record { before = i .before ++ u; after = i .after; spells = rw append-assoc (rw (← append-assoc u v) (i .spells)) }
+infix-right u v i = record {
+  before = i .before ++ u;
+  after = i .after;
+  spells = rw append-assoc
+      (rw (← append-assoc u v) (i .spells));
+}
 
 pub infix-mem : {t : Token} {w : Word} → Infix (t ∷ []) w → List·Memᴰ t w
-infix-mem {t} i = subst (λ (x : Word). List·Memᴰ t x) (i .spells) (Memᴰ·append-right (i .before) (List·Memᴰ·head refl))
+infix-mem {t} i = subst (λ (x : Word). List·Memᴰ t x) (i .spells)
+    (Memᴰ·append-right (i .before) (List·Memᴰ·head refl))

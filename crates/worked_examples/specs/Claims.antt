@@ -5,7 +5,8 @@ use Prim.Native.Nat.{ℕ}
 use lib.ListN.{length}
 use Rattle.grammar.specs.declared.Cell.{Cell}
 use Rattle.grammar.specs.Layout.{Word, Every}
-use Rattle.grammar.specs.Trees.{Tree, empty, leaf, unary, binary, word, Rules, Witness, NoTree, OneTree, TwoTrees}
+use Rattle.grammar.specs.Trees.{Tree, empty, leaf, unary, binary, word, Rules, Witness, NoTree}
+use Rattle.grammar.specs.Trees.{OneTree, TwoTrees}
 use Rattle.grammar.specs.Candidates.{sentence}
 use Rattle.grammar.specs.Sweeps.{Clear, FirstTwo}
 use Rattle.sheets.specs.Items.{Reading, accepted}
@@ -50,7 +51,8 @@ pub data SweepClaim : Type 0 where
   clear : SweepClaim
   two-at : List ℕ → SweepClaim
 
--- of a rule sheet: the verdict on a token sheet and a nonterminal, and the left lengths there; the answer of a sweep up to k; that any sweep is clear
+-- of a rule sheet: the verdict on a token sheet and a nonterminal, and the left lengths there; the
+-- answer of a sweep up to k; that any sweep is clear
 pub data Claim : Type 0 where
   verdict : List ℕ → List ℕ → ℕ → TreeCount → Claim
   lefts : List ℕ → List ℕ → ℕ → List ℕ → Claim
@@ -68,7 +70,9 @@ SweepHolds g k clear = Clear g k
 SweepHolds g k (two-at tokens) = Gives (tokenSheet tokens) (FoundAt g k)
 
 abbrev pub ClaimHolds : Claim → Type 0
-ClaimHolds (verdict rules tokens A v) = Gives (ruleSheet rules) (λ (g : Rules). Gives (tokenSheet tokens) (λ (w : Word). Is v g A w))
-ClaimHolds (lefts rules tokens A l) = Gives (ruleSheet rules) (λ (g : Rules). Gives (tokenSheet tokens) (λ (w : Word). LeftLengths g A w l))
+ClaimHolds (verdict rules tokens A v) =
+    Gives (ruleSheet rules) (λ (g : Rules). Gives (tokenSheet tokens) (λ (w : Word). Is v g A w))
+ClaimHolds (lefts rules tokens A l) = Gives (ruleSheet rules)
+    (λ (g : Rules). Gives (tokenSheet tokens) (λ (w : Word). LeftLengths g A w l))
 ClaimHolds (sweep rules k a) = Gives (ruleSheet rules) (λ (g : Rules). SweepHolds g k a)
 ClaimHolds (every-sweep-clear rules) = Gives (ruleSheet rules) (λ (g : Rules). (k : ℕ) → Clear g k)

@@ -1,9 +1,11 @@
--- P1 to P9 of 01, "Patches to try", with the sheets as it prints them, and rules that loop (02, request 13), as one table.
+-- P1 to P9 of 01, "Patches to try", with the sheets as it prints them, and rules that loop (02,
+-- request 13), as one table.
 use mathlib.Core.List.{List, [], _∷_, _++_}
 use Prim.Native.Nat.{ℕ}
 use Prim.Native.String.{String}
 use Rattle.worked_examples.specs.Bytes.{bytes}
-use Rattle.worked_examples.specs.Claims.{Claim, verdict, lefts, sweep, every-sweep-clear, clear, two-at, no-tree, one-tree, two-trees}
+use Rattle.worked_examples.specs.Claims.{Claim, verdict, lefts, sweep, every-sweep-clear}
+use Rattle.worked_examples.specs.Claims.{clear, two-at, no-tree, one-tree, two-trees}
 
 -- the lines behind a sheet's names
 abbrev pub rules : String → List ℕ
@@ -37,7 +39,8 @@ abbrev pub p8 : List ℕ
 p8 = rules "0 B 1 1 indent\n1 A 0 - none\n"
 
 abbrev pub p9 : List ℕ
-p9 = rules "0 U 1 - single\n1 U 2 - none\n1 U 3 - none\n2 B 4 4 indent\n3 B 4 4 none\n4 A 0 - none\n"
+p9 = rules
+    "0 U 1 - single\n1 U 2 - none\n1 U 3 - none\n2 B 4 4 indent\n3 B 4 4 none\n4 A 0 - none\n"
 
 -- rules that loop: 02's, and a loop that no tree uses
 abbrev pub looping : List ℕ

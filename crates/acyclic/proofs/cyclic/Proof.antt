@@ -1,4 +1,5 @@
--- `acyclic::cyclic` meets its contract. The loop's invariant: no chain from a nonterminal below a returns.
+-- `acyclic::cyclic` meets its contract. The loop's invariant: no chain from a nonterminal below a
+-- returns.
 use Prim.Native.Nat.{_-_, _≤_}
 use native.Mathlib.Omega.{arith}
 use Rattle.sets.proofs.Says.{holds, fails}
@@ -26,7 +27,8 @@ has-requires : tie.Need-has-requires Inv-loop μ-loop
 has-requires c κs = omega arith
 
 returns : tie.Need-returns Inv-loop μ-loop
-returns c = holds (cyclic-at (c .before .before .reach .ensures) (c .before .has .ensures .is (c .if1 .taken)))
+returns c = holds (cyclic-at (c .before .before .reach .ensures)
+    (c .before .has .ensures .is (c .if1 .taken)))
 
 add-a : tie.Need-add-a Inv-loop μ-loop
 add-a c = omega arith
@@ -35,10 +37,15 @@ loop-less : tie.Need-loop-less Inv-loop μ-loop
 loop-less c = omega arith
 
 loop-again : tie.Need-loop-again Inv-loop μ-loop
-loop-again c = (omega arith, apart-more (c .before .before .before .before .loop .inv .1) (c .before .before .reach .ensures) (c .before .has .ensures .isnt (c .if1 .left)))
+loop-again c = (
+  omega arith,
+  apart-more (c .before .before .before .before .loop .inv .1)
+      (c .before .before .reach .ensures) (c .before .has .ensures .isnt (c .if1 .left)),
+)
 
 returns-2 : tie.Need-returns-2 Inv-loop μ-loop
-returns-2 c = fails (apart-all (c .before .before .before .pre) (c .before .before .nullables .ensures) _ (c .loop-test .left) (c .before .loop .inv .1))
+returns-2 c = fails (apart-all (c .before .before .before .pre)
+    (c .before .before .nullables .ensures) _ (c .loop-test .left) (c .before .loop .inv .1))
 
 pub cyclic-spec : {M : Type 1} → statement M
 cyclic-spec =

@@ -15,7 +15,8 @@ use Rattle.acyclic.proofs.null_pass.Statement.{statement}
 use Rattle.acyclic.proofs.null_pass.Tie as tie
 
 abbrev Inv-loop : tie.InvT-loop
-Inv-loop set g count next₀ p₀ next p = (p ≤ count) × Passed AddsLeft (Nullable (rules g)) (rules g) p set next
+Inv-loop set g count next₀ p₀ next p =
+    (p ≤ count) × Passed AddsLeft (Nullable (rules g)) (rules g) p set next
 
 abbrev μ-loop : tie.MeasureT-loop
 μ-loop set g count next₀ p₀ next p = count - p
@@ -28,8 +29,11 @@ array : (c : tie.Start Inv-loop μ-loop) → length (c .args .t1 .rules) ≡ 128
 array c = sym (length-map (c .args .t1 .rules) _) ∙ c .good .0 .1 .1 .0 .1 .0 .1
 
 -- the rule at the loop's place
-rule : (c : tie.In-loop Inv-loop μ-loop) → getElem? (rules (c .before .before .args .t1)) (c .before .loop .p) ≡ some (getD (c .before .before .args .t1 .rules) (c .before .loop .p) blank)
-rule c = rule-at (c .before .before .args .t1) (c .before .loop .p) blank (array (c .before .before)) (c .before .before .pre .few) (c .loop-test .taken)
+rule : (c : tie.In-loop Inv-loop μ-loop)
+    → getElem? (rules (c .before .before .args .t1)) (c .before .loop .p)
+    ≡ some (getD (c .before .before .args .t1 .rules) (c .before .loop .p) blank)
+rule c = rule-at (c .before .before .args .t1) (c .before .loop .p) blank
+    (array (c .before .before)) (c .before .before .pre .few) (c .loop-test .taken)
 
 loop-holds : tie.Need-loop-holds Inv-loop μ-loop
 loop-holds c = (omega arith, passed-none _)
@@ -50,10 +54,15 @@ loop-less : tie.Need-loop-less Inv-loop μ-loop
 loop-less c = omega arith
 
 loop-again : tie.Need-loop-again Inv-loop μ-loop
-loop-again c = (omega arith, passed-more null-sound _ (rule (c .before .before)) (c .before .before .before .loop .inv .1) (c .with-left .ensures))
+loop-again c = (
+  omega arith,
+  passed-more null-sound _ (rule (c .before .before))
+      (c .before .before .before .loop .inv .1) (c .with-left .ensures),
+)
 
 returns : tie.Need-returns Inv-loop μ-loop
-returns c = let e : c .before .loop .p ≡ c .before .before .args .t1 .count = omega arith in rw e at (c .before .loop .inv .1)
+returns c = let e : c .before .loop .p ≡ c .before .before .args .t1 .count = omega arith in
+    rw e at (c .before .loop .inv .1)
 
 pub null-pass-spec : {M : Type 1} → statement M
 null-pass-spec =

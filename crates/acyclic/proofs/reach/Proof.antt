@@ -1,4 +1,5 @@
--- `acyclic::reach` meets its contract. The loop's invariant: members have the property. The set's number grows with each turn but the last, after which no rule adds to it.
+-- `acyclic::reach` meets its contract. The loop's invariant: members have the property. The set's
+-- number grows with each turn but the last, after which no rule adds to it.
 use Prim.Native.Nat.{ℕ, _-_, _^_}
 use native.Mathlib.Omega.{arith}
 use Rattle.sets.specs.Sets.{In}
@@ -24,7 +25,8 @@ reach-pass-requires c κs = c .before .pre
 returns : tie.Need-returns Inv-loop μ-loop
 returns c =
     chains-exact (c .before .before .before .pre .1) _ _
-    (passed-all (c .before .reach-pass .ensures) (c .before .before .before .pre .0 .whole) (c .if1 .taken)) (c .before .before .loop .inv)
+    (passed-all (c .before .reach-pass .ensures) (c .before .before .before .pre .0 .whole)
+    (c .if1 .taken)) (c .before .before .loop .inv)
 
 loop-less : tie.Need-loop-less Inv-loop μ-loop
 loop-less c = omega (arith, c .before .reach-pass .ensures .more, c .before .reach-pass .ok)

@@ -23,12 +23,14 @@ has-requires-2 : tie.Need-has-requires-2
 has-requires-2 c κs = (rw (c .before .c2 .given .1) at (c .before .before .before .pre)) .0
 
 has-requires-3 : tie.Need-has-requires-3
-has-requires-3 c κs = (rw (c .before .before .before .c2 .given .1) at (c .before .before .before .before .before .pre)) .1
+has-requires-3 c κs = (rw (c .before .before .before .c2 .given .1) at
+    (c .before .before .before .before .before .pre)) .1
 
 returns : tie.Need-returns
 returns c =
     rw (c .before .before .before .before .c2 .given .1)
-    (says-iff (λ i. (c .before .before .has2 .ensures .is (c .before .if1 .taken), i)) (λ h. h .1) (c .has3 .ensures))
+    (says-iff (λ i. (c .before .before .has2 .ensures .is (c .before .if1 .taken), i)) (λ h. h .1)
+    (c .has3 .ensures))
 
 returns-2 : tie.Need-returns-2
 returns-2 c = rw (c .enum-told .given .1) (holds tt)
@@ -40,7 +42,8 @@ returns-4 : tie.Need-returns-4
 returns-4 c = rw (c .before .before .c .given .1) (c .has .ensures)
 
 returns-5 : tie.Need-returns-5
-returns-5 c = rw (c .before .before .before .c2 .given .1) (fails (λ h. c .before .has2 .ensures .isnt (c .if1 .left) (h .0)))
+returns-5 c = rw (c .before .before .before .c2 .given .1)
+    (fails (λ h. c .before .has2 .ensures .isnt (c .if1 .left) (h .0)))
 
 pub ready-spec : {M : Type 1} → statement M
 ready-spec =

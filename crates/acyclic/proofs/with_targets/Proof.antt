@@ -21,10 +21,12 @@ enum-known-c-2 : tie.Need-enum-known-c-2
 enum-known-c-2 c = search needs
 
 beside-requires : tie.Need-beside-requires
-beside-requires c κs = (let s = rw (c .before .c2 .given .1) at (c .before .before .before .pre) in (s .1, s .0))
+beside-requires c κs =
+    (let s = rw (c .before .c2 .given .1) at (c .before .before .before .pre) in (s .1, s .0))
 
 beside-requires-2 : tie.Need-beside-requires-2
-beside-requires-2 c κs = rw (c .before .before .c2 .given .1) at (c .before .before .before .before .pre)
+beside-requires-2 c κs =
+    rw (c .before .before .c2 .given .1) at (c .before .before .before .before .pre)
 
 returns : tie.Need-returns
 returns c = rw (c .enum-told .given .1) (grown-none (λ Y p. absurd p))
@@ -36,7 +38,8 @@ returns-3 : tie.Need-returns-3
 returns-3 c = rw (c .before .before .c .given .1, c .with .ensures) (grown-with _ _ refl (λ Y p. p))
 
 returns-4 : tie.Need-returns-4
-returns-4 c = rw (c .before .before .before .c2 .given .1) (grown-both (c .before .beside .ensures) (c .beside2 .ensures) (λ Y p. p) (λ Y p. p))
+returns-4 c = rw (c .before .before .before .c2 .given .1)
+    (grown-both (c .before .beside .ensures) (c .beside2 .ensures) (λ Y p. p) (λ Y p. p))
 
 pub with-targets-spec : {M : Type 1} → statement M
 with-targets-spec =

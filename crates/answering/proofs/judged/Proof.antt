@@ -32,7 +32,8 @@ returns-2 : tie.Need-returns-2
 returns-2 c =
     let z = c .before .before .before .before in
     let s = z .before .before .before .before .before in
-    judged-on Verdict.None _ _ _ (s .pre .1 .whole) (rw (c .enum-told .given .1) at (z .judge .ensures))
+    judged-on Verdict.None _ _ _ (s .pre .1 .whole)
+    (rw (c .enum-told .given .1) at (z .judge .ensures))
 
 same-length-2 : tie.Need-same-length-2
 same-length-2 c = search needs
@@ -41,7 +42,8 @@ returns-3 : tie.Need-returns-3
 returns-3 c =
     let z = c .before .before .before .before in
     let s = z .before .before .before .before .before in
-    judged-on Verdict.One _ _ _ (s .pre .1 .whole) (rw (c .enum-told2 .given .1) at (z .judge .ensures))
+    judged-on Verdict.One _ _ _ (s .pre .1 .whole)
+    (rw (c .enum-told2 .given .1) at (z .judge .ensures))
 
 same-length-3 : tie.Need-same-length-3
 same-length-3 c = search needs
@@ -50,7 +52,8 @@ returns-4 : tie.Need-returns-4
 returns-4 c =
     let z = c .before .before .before .before in
     let s = z .before .before .before .before .before in
-    judged-on Verdict.Two _ _ _ (s .pre .1 .whole) (rw (c .enum-told3 .given .1) at (z .judge .ensures))
+    judged-on Verdict.Two _ _ _ (s .pre .1 .whole)
+    (rw (c .enum-told3 .given .1) at (z .judge .ensures))
 
 pub judged-spec : {M : Type 1} → statement M
 judged-spec =

@@ -1,7 +1,8 @@
 -- `shown` meets its contract: 21 by the words' number, else the trees of the chart's verdict.
 use Rattle.answering.specs.Trees.{showing}
 use Rattle.answering.proofs.Judging.{filled-by}
-use Rattle.answering.proofs.Showing.{too-few, first-there, second-there, wants-first, wants-second, shown-none, shown-one, shown-two}
+use Rattle.answering.proofs.Showing.{too-few, first-there, second-there, wants-first}
+use Rattle.answering.proofs.Showing.{wants-second, shown-none, shown-one, shown-two}
 use borrow.Author.Needs.{needs}
 use Rattle.answering.proofs.shown.Statement.{statement}
 use Rattle.answering.proofs.shown.Tie as tie
@@ -33,8 +34,11 @@ write-first-requires : tie.Need-write-first-requires
 write-first-requires c κs =
     let j = c .before .before .before .before .before .before .before in
     let s = j .before .before .before .before .before .before .before in
-    let v = rw (c .before .before .before .enum-told2 .given .1) at (j .judge .ensures) in
-    (record { formed = s .pre .0; positioned = s .pre .1; sheet = v .sheet }, wants-first _ _ (v .verdict))
+    let v = rw (c .before .before .before .enum-told2 .given .1) at (j .judge .ensures) in (
+      record { formed = s .pre .0; positioned = s .pre .1; sheet = v .sheet },
+      wants-first _ _
+          (v .verdict),
+    )
 
 counted-reply-requires-2 : tie.Need-counted-reply-requires-2
 counted-reply-requires-2 c κs = search needs
@@ -46,8 +50,11 @@ write-both-requires : tie.Need-write-both-requires
 write-both-requires c κs =
     let j = c .before .before .before .before .before .before .before in
     let s = j .before .before .before .before .before .before .before in
-    let v = rw (c .before .before .before .enum-told3 .given .1) at (j .judge .ensures) in
-    (record { formed = s .pre .0; positioned = s .pre .1; sheet = v .sheet }, wants-second _ _ (s .pre .0 .distinct) (v .verdict))
+    let v = rw (c .before .before .before .enum-told3 .given .1) at (j .judge .ensures) in (
+      record { formed = s .pre .0; positioned = s .pre .1; sheet = v .sheet },
+      wants-second _ _
+          (s .pre .0 .distinct) (v .verdict),
+    )
 
 counted-reply-requires-3 : tie.Need-counted-reply-requires-3
 counted-reply-requires-3 c κs = search needs
@@ -63,10 +70,15 @@ same-length-3 c = search needs
 
 returns-2 : tie.Need-returns-2
 returns-2 c =
-    let j = c .before .before .before .before .before .before .before .before .before .before .before .before in
+    let j = c .before .before .before .before .before .before .before .before .before .before
+    .before .before in
     let s = j .before .before .before .before .before .before .before in
-    let v = rw (c .before .before .before .before .before .before .before .before .enum-told .given .1) at (j .judge .ensures) in
-    showing (filled-by (s .pre .1 .whole) v) (rw (c .counted-reply .ensures) (shown-none _ _ _ (v .verdict) (c .before .before .before .before .before .write-none .ensures _)))
+    let v = rw (c .before .before .before .before .before .before .before .before .enum-told .given
+    .1) at (j .judge .ensures) in
+    showing (filled-by (s .pre .1 .whole) v)
+    (rw (c .counted-reply .ensures)
+    (shown-none _ _ _ (v .verdict) (c .before .before .before .before .before .write-none
+    .ensures _)))
 
 same-length-4 : tie.Need-same-length-4
 same-length-4 c = search needs
@@ -79,11 +91,16 @@ same-length-6 c = search needs
 
 returns-3 : tie.Need-returns-3
 returns-3 c =
-    let j = c .before .before .before .before .before .before .before .before .before .before .before .before .before in
+    let j = c .before .before .before .before .before .before .before .before .before .before
+    .before .before .before in
     let s = j .before .before .before .before .before .before .before in
-    let v = rw (c .before .before .before .before .before .before .before .before .before .enum-told2 .given .1) at (j .judge .ensures) in
+    let v = rw (c .before .before .before .before .before .before .before .before .before
+    .enum-told2 .given .1) at (j .judge .ensures) in
     let f = first-there _ _ (v .verdict) in
-    showing (filled-by (s .pre .1 .whole) v) (rw (c .counted-reply2 .ensures) (shown-one _ _ _ (v .verdict) (f .1) (c .before .before .before .before .before .write-first .ensures (f .0) (f .1))))
+    showing (filled-by (s .pre .1 .whole) v)
+    (rw (c .counted-reply2 .ensures)
+    (shown-one _ _ _ (v .verdict) (f .1)
+    (c .before .before .before .before .before .write-first .ensures (f .0) (f .1))))
 
 same-length-7 : tie.Need-same-length-7
 same-length-7 c = search needs
@@ -96,12 +113,17 @@ same-length-9 c = search needs
 
 returns-4 : tie.Need-returns-4
 returns-4 c =
-    let j = c .before .before .before .before .before .before .before .before .before .before .before .before .before in
+    let j = c .before .before .before .before .before .before .before .before .before .before
+    .before .before .before in
     let s = j .before .before .before .before .before .before .before in
-    let v = rw (c .before .before .before .before .before .before .before .before .before .enum-told3 .given .1) at (j .judge .ensures) in
+    let v = rw (c .before .before .before .before .before .before .before .before .before
+    .enum-told3 .given .1) at (j .judge .ensures) in
     let u = second-there _ _ (s .pre .0 .distinct) (v .verdict) in
     showing (filled-by (s .pre .1 .whole) v)
-    (rw (c .counted-reply3 .ensures) (shown-two _ _ _ (v .verdict) (u .1 .first) (u .1) (c .before .before .before .before .before .write-both .ensures (u .1 .tree) (u .0) (u .1 .first) (u .1))))
+    (rw (c .counted-reply3 .ensures)
+    (shown-two _ _ _ (v .verdict) (u .1 .first) (u .1)
+    (c .before .before .before .before .before .write-both .ensures (u .1 .tree) (u .0)
+    (u .1 .first) (u .1))))
 
 pub shown-spec : {M : Type 1} → statement M
 shown-spec =

@@ -16,7 +16,8 @@ enum-told : tie.Need-enum-told
 enum-told c = search needs
 
 swept-requires : tie.Need-swept-requires
-swept-requires c κs = let e = c .before .before .before in let r = e .before .before .before .pre in (r .formed (e .enum-told .given .1), r .exact)
+swept-requires c κs = let e = c .before .before .before in let r = e .before .before .before .pre in
+    (r .formed (e .enum-told .given .1), r .exact)
 
 returns : tie.Need-returns
 returns c =
@@ -29,7 +30,8 @@ same-length c = search needs
 returns-2 : tie.Need-returns-2
 returns-2 c =
     let e = c .before .before .before .before .before .before in
-    reading (rules-are (e .before .before .before .pre) (e .enum-told .given .1)) (c .before .before .swept .ensures)
+    reading (rules-are (e .before .before .before .pre) (e .enum-told .given .1))
+    (c .before .before .swept .ensures)
 
 pub sweep-read-spec : {M : Type 1} → statement M
 sweep-read-spec =

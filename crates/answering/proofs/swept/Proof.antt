@@ -52,7 +52,9 @@ returns-4 c =
     let m = w .before in
     let e = m .terminal-count .ensures .terminals _ (m .before .terminals .ensures) in
     let l = w .within-limit .ensures .is (not-false _ (c .before .before .before .if3 .left)) in
-    short (omega arith) (omega arith) (rw e at l) (rw (c .before .before .size .ensures) at (c .before .if4 .taken)) refl (c .refused-sweep4 .ensures) refl
+    short (omega arith) (omega arith) (rw e at l)
+    (rw (c .before .before .size .ensures) at (c .before .if4 .taken)) refl
+    (c .refused-sweep4 .ensures) refl
 
 taken-requires : tie.Need-taken-requires
 taken-requires c κs =
@@ -60,8 +62,18 @@ taken-requires c κs =
     let m = w .before in
     let e = m .terminal-count .ensures .terminals _ (m .before .terminals .ensures) in
     let l = w .within-limit .ensures .is (not-false _ (c .before .before .before .if3 .left)) in
-    let a = c .before .before .before .before .before .before .before .before .before .before in
-    (a .pre .0, (a .pre .1, record { low = omega arith; high = omega arith; few = rw e at l; enough = omega (arith, c .before .before .size .ensures, c .before .if4 .left) }))
+    let a = c .before .before .before .before .before .before .before .before .before .before in (
+      a .pre .0,
+      (
+        a .pre .1,
+        record {
+          low = omega arith;
+          high = omega arith;
+          few = rw e at l;
+          enough = omega (arith, c .before .before .size .ensures, c .before .if4 .left);
+        },
+      ),
+    )
 
 same-length : tie.Need-same-length
 same-length c = search needs

@@ -15,7 +15,8 @@ same-length c = search needs
 returns : tie.Need-returns
 returns c =
     let z = c .before .before .before .before in
-    swept-clear _ (z .before .before .before .pre .1 .1) (z .sweep-rules .ensures .0) (c .if1 .taken) (z .sweep-rules .ensures .1)
+    swept-clear _ (z .before .before .before .pre .1 .1) (z .sweep-rules .ensures .0)
+    (c .if1 .taken) (z .sweep-rules .ensures .1)
 
 same-length-2 : tie.Need-same-length-2
 same-length-2 c = search needs
@@ -23,7 +24,8 @@ same-length-2 c = search needs
 returns-2 : tie.Need-returns-2
 returns-2 c =
     let z = c .before .before .before .before in
-    swept-two _ (z .before .before .before .pre .1 .1) (z .sweep-rules .ensures .0) (c .if1 .left) (z .sweep-rules .ensures .1)
+    swept-two _ (z .before .before .before .pre .1 .1) (z .sweep-rules .ensures .0) (c .if1 .left)
+    (z .sweep-rules .ensures .1)
 
 pub taken-spec : {M : Type 1} → statement M
 taken-spec = tie.close (tie.spec sweep-rules-requires same-length returns same-length-2 returns-2)

@@ -28,19 +28,21 @@ shown-requires c κs =
     let q = c .before .before .before .before .before .before .before in
     let s = q .before .before .before .before .before .before .before in
     let e = q .before .enum-told .given .1 in
-    let p = q .read-tokens .ensures .positioned (c .before .before .before .before .before .enum-told2 .given .1) in
-    (s .pre .formed e, p)
+    let p = q .read-tokens .ensures .positioned
+    (c .before .before .before .before .before .enum-told2 .given .1) in (s .pre .formed e, p)
 
 returns : tie.Need-returns
 returns c =
     let s = c .before .before .before .before .before .before .before in
-    refusing (refused-rules (s .args .tokens .now) (s .pre) (c .before .o .given .1)) refl refl refl refl
+    refusing (refused-rules (s .args .tokens .now) (s .pre) (c .before .o .given .1)) refl refl refl
+    refl
 
 returns-2 : tie.Need-returns-2
 returns-2 c =
     let q = c .before .before .before in
     let s = q .before .before .before .before .before .before .before in
-    let e = refused-tokens (s .args .tokens .now) (s .pre) (q .before .enum-told .given .1) (q .read-tokens .ensures) (c .before .p .given .1) in
+    let e = refused-tokens (s .args .tokens .now) (s .pre) (q .before .enum-told .given .1)
+    (q .read-tokens .ensures) (c .before .p .given .1) in
     refusing e refl refl refl refl
 
 same-length : tie.Need-same-length
@@ -58,8 +60,10 @@ returns-3 c =
     let m = j .before .before .before .before .before .before in
     let q = m .before .before in
     let s = q .before .before .before .before .before .before .before in
-    let both = both-accepted (s .args .tokens .now) (s .pre) (q .before .enum-told .given .1) (q .read-tokens .ensures) (m .enum-told2 .given .1) in
-    reading both (open-trees _ all-members _ (s .pre .formed (q .before .enum-told .given .1) .small) (j .shown .ensures))
+    let both = both-accepted (s .args .tokens .now) (s .pre) (q .before .enum-told .given .1)
+    (q .read-tokens .ensures) (m .enum-told2 .given .1) in
+    reading both (open-trees _ all-members _
+    (s .pre .formed (q .before .enum-told .given .1) .small) (j .shown .ensures))
 
 pub trees-read-spec : {M : Type 1} → statement M
 trees-read-spec =

@@ -24,8 +24,11 @@ enum-told-2 c = search needs
 judged-requires : tie.Need-judged-requires
 judged-requires c κs =
     let q = c .before .before .before .before .before in
-    let s = q .before .before .before .before .before in
-    (s .pre .formed (q .before .enum-told .given .1), q .read-tokens .ensures .positioned (c .before .before .before .enum-told2 .given .1))
+    let s = q .before .before .before .before .before in (
+      s .pre .formed (q .before .enum-told .given .1),
+      q .read-tokens .ensures .positioned
+          (c .before .before .before .enum-told2 .given .1),
+    )
 
 returns : tie.Need-returns
 returns c =
@@ -36,7 +39,8 @@ returns-2 : tie.Need-returns-2
 returns-2 c =
     let q = c .before .before .before in
     let s = q .before .before .before .before .before in
-    refusing (refused-tokens (s .args .tokens .now) (s .pre) (q .before .enum-told .given .1) (q .read-tokens .ensures) (c .before .p .given .1)) refl refl
+    refusing (refused-tokens (s .args .tokens .now) (s .pre) (q .before .enum-told .given .1)
+    (q .read-tokens .ensures) (c .before .p .given .1)) refl refl
 
 same-length : tie.Need-same-length
 same-length c = search needs
@@ -47,7 +51,8 @@ returns-3 c =
     let m = j .before .before .before .before in
     let q = m .before .before in
     let s = q .before .before .before .before .before in
-    let both = both-accepted (s .args .tokens .now) (s .pre) (q .before .enum-told .given .1) (q .read-tokens .ensures) (m .enum-told2 .given .1) in
+    let both = both-accepted (s .args .tokens .now) (s .pre) (q .before .enum-told .given .1)
+    (q .read-tokens .ensures) (m .enum-told2 .given .1) in
     reading both (j .judged .ensures)
 
 pub verdict-read-spec : {M : Type 1} → statement M

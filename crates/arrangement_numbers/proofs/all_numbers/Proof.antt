@@ -9,8 +9,11 @@ returns c = all-none _ _ (c .before .pre .0 .0) (c .if1 .taken)
 
 room-past-requires : tie.Need-room-past-requires
 room-past-requires c κs =
-    let a = c .before in
-    (few-all (a .args .set) (a .args .n) (a .pre .0 .0) (a .pre .0 .1) (omega (arith, c .if1 .left)) (a .pre .1), omega arith)
+    let a = c .before in (
+      few-all (a .args .set) (a .args .n) (a .pre .0 .0) (a .pre .0 .1)
+          (omega (arith, c .if1 .left)) (a .pre .1),
+      omega arith,
+    )
 
 returns-2 : tie.Need-returns-2
 returns-2 c = all-some _ _ _ (c .before .before .pre .0 .0) (c .room-past .ensures)

@@ -20,13 +20,28 @@ front-number-requires c κs = search needs
 mul-t7 : tie.Need-mul-t7
 mul-t7 c =
     let a = c .before .before in
-    rw (c .front-number .ensures, c .before .room-past .ensures) (omega (arith, block-small (a .args .set) (a .args .n) (below a) (a .pre .0) (a .args .b) (cells (a .args .c) 0 (a .args .n)) (a .pre .1 .1) (a .pre .1 .0)))
+    rw (c .front-number .ensures, c .before .room-past .ensures)
+    (omega (
+      arith,
+      block-small (a .args .set) (a .args .n) (below a) (a .pre .0) (a .args .b)
+          (cells (a .args .c) 0 (a .args .n)) (a .pre .1 .1) (a .pre .1 .0),
+    ))
 
 returns : tie.Need-returns
 returns c =
     let a = c .before .before in
-    let e = ap₂ _*_ (c .front-number .ensures) (c .before .room-past .ensures) in
-    (e, c .before .room-past .ensures, omega (arith, e, c .before .room-past .ensures, block-small (a .args .set) (a .args .n) (below a) (a .pre .0) (a .args .b) (cells (a .args .c) 0 (a .args .n)) (a .pre .1 .1) (a .pre .1 .0)))
+    let e = ap₂ _*_ (c .front-number .ensures) (c .before .room-past .ensures) in (
+      e,
+      c .before .room-past .ensures,
+      omega (
+        arith,
+        e,
+        c .before .room-past .ensures,
+        block-small (a .args .set) (a .args .n) (below a)
+            (a .pre .0) (a .args .b) (cells (a .args .c) 0 (a .args .n)) (a .pre .1 .1)
+            (a .pre .1 .0),
+      ),
+    )
 
 pub block-of-spec : {M : Type 1} → statement M
 block-of-spec = tie.close (tie.spec room-past-requires front-number-requires mul-t7 returns)

@@ -19,15 +19,24 @@ steps-at-requires c κs = search needs
 mul-result : tie.Need-mul-result
 mul-result c =
     let a = c .before in
-    rw (c .steps-at .ensures) (omega (arith, product-small _ _ _ (ones-le 64 (a .args .set) (below a)) (largest-small (a .args .i)) (a .pre)))
+    rw (c .steps-at .ensures) (omega (
+      arith,
+      product-small _ _ _ (ones-le 64 (a .args .set) (below a))
+          (largest-small (a .args .i)) (a .pre),
+    ))
 
 mul-result-2 : tie.Need-mul-result-2
 mul-result-2 c =
     let a = c .before in
-    rw (c .steps-at .ensures) (omega (arith, product-small _ _ _ (ones-le 64 (a .args .set) (below a)) (largest-small (a .args .i)) (a .pre)))
+    rw (c .steps-at .ensures) (omega (
+      arith,
+      product-small _ _ _ (ones-le 64 (a .args .set) (below a))
+          (largest-small (a .args .i)) (a .pre),
+    ))
 
 returns : tie.Need-returns
-returns c = radix-is (c .before .args .set) (c .before .args .n) (c .before .args .i) _ (c .steps-at .ensures)
+returns c = radix-is (c .before .args .set) (c .before .args .n) (c .before .args .i) _
+    (c .steps-at .ensures)
 
 pub choices-at-spec : {M : Type 1} → statement M
 choices-at-spec = tie.close (tie.spec cast-t steps-at-requires mul-result mul-result-2 returns)

@@ -23,13 +23,18 @@ loop-holds : tie.Need-loop-holds Inv-loop μ-loop
 loop-holds c = (omega arith, refl)
 
 cell-requires : tie.Need-cell-requires Inv-loop μ-loop
-cell-requires c κs = let a = c .before .before in omega (arith, a .pre .0 .high, a .pre .1 .1, c .loop-test .taken)
+cell-requires c κs = let a = c .before .before in
+    omega (arith, a .pre .0 .high, a .pre .1 .1, c .loop-test .taken)
 
 cell-number-requires : tie.Need-cell-number-requires Inv-loop μ-loop
 cell-number-requires c κs =
     let l = c .before .before in
-    let a = l .before in
-    (a .pre .0 .high, ranged-at (a .args .set) (a .args .n) (below a) (a .pre .0) (a .args .c) (a .pre .1 .0) (l .loop .i) (omega (arith, a .pre .1 .1, c .before .loop-test .taken)) _ (c .cell .ensures))
+    let a = l .before in (
+      a .pre .0 .high,
+      ranged-at (a .args .set) (a .args .n) (below a) (a .pre .0) (a .args .c)
+          (a .pre .1 .0) (l .loop .i) (omega (arith, a .pre .1 .1, c .before .loop-test .taken)) _
+          (c .cell .ensures),
+    )
 
 choices-at-requires : tie.Need-choices-at-requires Inv-loop μ-loop
 choices-at-requires c κs = c .before .before .before .before .pre .0 .high
@@ -38,13 +43,27 @@ mul-v : tie.Need-mul-v Inv-loop μ-loop
 mul-v c =
     let l = c .before .before .before .before in
     let a = l .before in
-    omega (arith, front-fits (a .args .set) (a .args .n) (below a) (a .pre .0) (a .args .c) (a .pre .1 .0) (l .loop .i) _ _ _ _ (omega (arith, a .pre .1 .1, c .before .before .before .loop-test .taken)) (l .loop .inv .1) (c .choices-at .ensures) (c .before .before .cell .ensures) (c .before .cell-number .ensures))
+    omega (
+      arith,
+      front-fits (a .args .set) (a .args .n) (below a) (a .pre .0) (a .args .c)
+          (a .pre .1 .0) (l .loop .i) _ _ _ _
+          (omega (arith, a .pre .1 .1, c .before .before .before .loop-test .taken))
+          (l .loop .inv .1) (c .choices-at .ensures) (c .before .before .cell .ensures)
+          (c .before .cell-number .ensures),
+    )
 
 add-v : tie.Need-add-v Inv-loop μ-loop
 add-v c =
     let l = c .before .before .before .before in
     let a = l .before in
-    omega (arith, front-fits (a .args .set) (a .args .n) (below a) (a .pre .0) (a .args .c) (a .pre .1 .0) (l .loop .i) _ _ _ _ (omega (arith, a .pre .1 .1, c .before .before .before .loop-test .taken)) (l .loop .inv .1) (c .choices-at .ensures) (c .before .before .cell .ensures) (c .before .cell-number .ensures))
+    omega (
+      arith,
+      front-fits (a .args .set) (a .args .n) (below a) (a .pre .0) (a .args .c)
+          (a .pre .1 .0) (l .loop .i) _ _ _ _
+          (omega (arith, a .pre .1 .1, c .before .before .before .loop-test .taken))
+          (l .loop .inv .1) (c .choices-at .ensures) (c .before .before .cell .ensures)
+          (c .before .cell-number .ensures),
+    )
 
 add-i : tie.Need-add-i Inv-loop μ-loop
 add-i c = search needs
@@ -57,7 +76,14 @@ loop-again c =
     let l = c .before .before .before .before in
     let a = l .before in (
       omega (arith, c .before .before .before .loop-test .taken),
-      front-turn (a .args .set) (a .args .n) (below a) (a .pre .0) (a .args .c) (a .pre .1 .0) (l .loop .i) _ _ _ _ (omega (arith, a .pre .1 .1, c .before .before .before .loop-test .taken)) (l .loop .inv .1) (c .choices-at .ensures) (c .before .before .cell .ensures) (c .before .cell-number .ensures),
+      front-turn (a .args .set) (a .args .n) (below a) (a .pre .0) (a .args .c) (a .pre .1 .0)
+          (l .loop .i) _ _ _ _ (omega (
+            arith,
+            a .pre .1 .1,
+            c .before .before .before .loop-test
+                .taken,
+          )) (l .loop .inv .1) (c .choices-at .ensures) (c .before .before .cell .ensures)
+          (c .before .cell-number .ensures),
     )
 
 returns : tie.Need-returns Inv-loop μ-loop

@@ -12,7 +12,13 @@ rem-result : tie.Need-rem-result
 rem-result c = shl-pos (c .args .x) (c .pre)
 
 cast-result : tie.Need-cast-result
-cast-result c = omega (arith, place-is (c .args .set) (c .args .x) (c .pre), place-small (c .args .set) (c .args .x), c .pre)
+cast-result c = omega (
+  arith,
+  place-is (c .args .set) (c .args .x) (c .pre),
+  place-small
+      (c .args .set) (c .args .x),
+  c .pre,
+)
 
 returns : tie.Need-returns
 returns c = place-is (c .args .set) (c .args .x) (c .pre)

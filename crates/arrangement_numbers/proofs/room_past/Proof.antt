@@ -17,7 +17,12 @@ below : (c : tie.Start Inv-loop μ-loop) → c .args .set < 2 ^ 64
 below c = omega (arith, c .good)
 
 loop-holds : tie.Need-loop-holds Inv-loop μ-loop
-loop-holds c = (c .pre .1, omega arith, room-end (c .args .set) (c .args .n) (below c) (c .pre .0) (c .args .n) refl)
+loop-holds c = (
+  c .pre .1,
+  omega arith,
+  room-end (c .args .set) (c .args .n) (below c) (c .pre .0)
+      (c .args .n) refl,
+)
 
 sub-i : tie.Need-sub-i Inv-loop μ-loop
 sub-i c = omega (arith, c .loop-test .taken)
@@ -29,7 +34,12 @@ mul-v : tie.Need-mul-v Inv-loop μ-loop
 mul-v c =
     let l = c .before .before in
     let a = l .before in
-    omega (arith, room-fits (a .args .set) (a .args .n) (below a) (a .pre .0) (l .loop .i) _ _ (omega (arith, c .before .loop-test .taken)) (l .loop .inv .1) (l .loop .inv .2) (c .choices-at .ensures))
+    omega (
+      arith,
+      room-fits (a .args .set) (a .args .n) (below a) (a .pre .0) (l .loop .i) _ _
+          (omega (arith, c .before .loop-test .taken)) (l .loop .inv .1) (l .loop .inv .2)
+          (c .choices-at .ensures),
+    )
 
 loop-less : tie.Need-loop-less Inv-loop μ-loop
 loop-less c = omega (arith, c .before .loop-test .taken)
@@ -37,8 +47,14 @@ loop-less c = omega (arith, c .before .loop-test .taken)
 loop-again : tie.Need-loop-again Inv-loop μ-loop
 loop-again c =
     let l = c .before .before in
-    let a = l .before in
-    (omega (arith, c .before .loop-test .taken), omega (arith, l .loop .inv .1), room-turn (a .args .set) (a .args .n) (below a) (a .pre .0) (l .loop .i) _ _ (omega (arith, c .before .loop-test .taken)) (l .loop .inv .1) (l .loop .inv .2) (c .choices-at .ensures))
+    let a = l .before in (
+      omega (arith, c .before .loop-test .taken),
+      omega (arith, l .loop .inv .1),
+      room-turn
+          (a .args .set) (a .args .n) (below a) (a .pre .0) (l .loop .i) _ _
+          (omega (arith, c .before .loop-test .taken)) (l .loop .inv .1) (l .loop .inv .2)
+          (c .choices-at .ensures),
+    )
 
 returns : tie.Need-returns Inv-loop μ-loop
 returns c =
@@ -50,4 +66,5 @@ returns c =
 pub room-past-spec : {M : Type 1} → statement M
 room-past-spec =
     tie.close
-    (tie.spec Inv-loop μ-loop loop-holds sub-i choices-at-requires mul-v loop-less loop-again returns)
+    (tie.spec Inv-loop μ-loop loop-holds sub-i choices-at-requires mul-v loop-less loop-again
+    returns)

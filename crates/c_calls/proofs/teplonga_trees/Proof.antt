@@ -1,4 +1,5 @@
--- `c_calls::teplonga_trees` meets its contract: the reply of `trees`, its counts put, its answer and line packed.
+-- `c_calls::teplonga_trees` meets its contract: the reply of `trees`, its counts put, its answer
+-- and line packed.
 use borrow.Author.Needs.{needs}
 use Rattle.c_calls.proofs.teplonga_trees.Statement.{statement}
 use Rattle.c_calls.proofs.teplonga_trees.Tie as tie
@@ -28,7 +29,13 @@ returns : tie.Need-returns
 returns c =
     let p = c .before .before .before in
     let t = p .before .before .before .before .before .before .before .before in
-    record { reply = t .trees .result; promise = t .trees .ensures; rows = p .put-counts .ensures; word = c .pack .ensures }
+    record {
+      reply = t .trees .result;
+      promise = t .trees .ensures;
+      rows =
+          p .put-counts .ensures;
+      word = c .pack .ensures;
+    }
 
 pub teplonga-trees-spec : {M : Type 1} → statement M
 teplonga-trees-spec =

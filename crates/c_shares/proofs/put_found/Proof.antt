@@ -21,8 +21,10 @@ returns : tie.Need-returns
 returns c =
     let z = c .before .before in
     let s = z .before .before .before .before in
-    let n : length (s .args .s .tokens) ≡ 64 = simp length-map at (s .good .1 .0 .1 .1 .0 .1 .0 .1) in
-    written (search needs) (wrote-front (sentence-length (s .args .s) (omega arith)) (z .put-sentence .ensures))
+    let n : length (s .args .s .tokens) ≡ 64 =
+    simp length-map at (s .good .1 .0 .1 .1 .0 .1 .0 .1) in
+    written (search needs) (wrote-front (sentence-length (s .args .s) (omega arith))
+    (z .put-sentence .ensures))
 
 -- src/lib.rt:76:1
 returns-2 : tie.Need-returns-2

@@ -24,10 +24,13 @@ returns c =
     let z₃ = c .before .before in
     let z₂ = z₃ .before .before .before .before in
     let z₁ = z₂ .before .before .before .before in
-    written (search needs) (wrote-front refl (wrote-then (z₁ .put-word .ensures) (wrote-then (z₂ .put-word2 .ensures) (z₃ .put-word3 .ensures))))
+    written (search needs) (wrote-front refl
+    (wrote-then (z₁ .put-word .ensures)
+    (wrote-then (z₂ .put-word2 .ensures) (z₃ .put-word3 .ensures))))
 
 returns-2 : tie.Need-returns-2
 returns-2 c = few (search needs) refl
 
 pub put-numbers-spec : {M : Type 1} → statement M
-put-numbers-spec = tie.close (tie.spec put-word-requires put-word-requires-2 put-word-requires-3 same-length returns returns-2)
+put-numbers-spec = tie.close (tie.spec put-word-requires put-word-requires-2 put-word-requires-3
+    same-length returns returns-2)

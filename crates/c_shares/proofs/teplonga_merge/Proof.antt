@@ -15,10 +15,12 @@ leads-requires : tie.Need-leads-requires
 leads-requires c κs = search needs
 
 returns-3 : tie.Need-returns-3
-returns-3 c = two-leads (c .before .before .before .if1 .left) (c .before .before .if2 .left) (c .before .leads .ensures .is (c .if3 .taken)) refl
+returns-3 c = two-leads (c .before .before .before .if1 .left) (c .before .before .if2 .left)
+    (c .before .leads .ensures .is (c .if3 .taken)) refl
 
 returns-4 : tie.Need-returns-4
-returns-4 c = one-stays (c .before .before .before .if1 .left) (c .before .before .if2 .left) (c .before .leads .ensures .isnt (c .if3 .left)) refl
+returns-4 c = one-stays (c .before .before .before .if1 .left) (c .before .before .if2 .left)
+    (c .before .leads .ensures .isnt (c .if3 .left)) refl
 
 pub teplonga-merge-spec : {M : Type 1} → statement M
 teplonga-merge-spec = tie.close (tie.spec returns returns-2 leads-requires returns-3 returns-4)

@@ -30,7 +30,13 @@ returns c =
     let t = p .before .before .before .before .before .before in
     let e = p .before .before .count .ensures in
     let f = p .before .count2 .ensures in
-    record { reply = t .rows .result; promise = t .rows .ensures; rows = rw (e, f) at (p .put-counts .ensures); word = c .pack .ensures }
+    record {
+      reply = t .rows .result;
+      promise = t .rows .ensures;
+      rows =
+          rw (e, f) at (p .put-counts .ensures);
+      word = c .pack .ensures;
+    }
 
 pub teplonga-rows-spec : {M : Type 1} → statement M
 teplonga-rows-spec =

@@ -20,7 +20,8 @@ returns : tie.Need-returns
 returns c =
     let z₂ = c .before .before in
     let z₁ = z₂ .before .before .before .before in
-    written (search needs) (wrote-front refl (wrote-then (z₁ .put-word .ensures) (z₂ .put-word2 .ensures)))
+    written (search needs) (wrote-front refl
+    (wrote-then (z₁ .put-word .ensures) (z₂ .put-word2 .ensures)))
 
 returns-2 : tie.Need-returns-2
 returns-2 c = few (search needs) refl

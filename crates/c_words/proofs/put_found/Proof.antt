@@ -19,8 +19,16 @@ put-sentence-requires c κs = search needs
 put-word-requires : tie.Need-put-word-requires
 put-word-requires c κs =
     let z = c .before .before .before in
-    let n = sentence-length (z .before .before .before .before .args .s) (omega (arith, array (z .before .before .before .before))) in
-    omega (arith, z .put-sentence .ensures .next, z .put-sentence .ensures .long, n, z .before .before .if1 .taken)
+    let n = sentence-length (z .before .before .before .before .args .s)
+    (omega (arith, array (z .before .before .before .before))) in
+    omega (
+      arith,
+      z .put-sentence .ensures .next,
+      z .put-sentence .ensures .long,
+      n,
+      z .before
+          .before .if1 .taken,
+    )
 
 same-length : tie.Need-same-length
 same-length c = search needs
@@ -31,7 +39,8 @@ returns c =
     let z = w .before .before .before .before in
     let s = z .before .before .before .before in
     let n = found-length (s .args .s) (s .args .tried) (omega (arith, array s)) in
-    written (search needs) (wrote-front n (wrote-then (z .put-sentence .ensures) (w .put-word .ensures)))
+    written (search needs) (wrote-front n
+    (wrote-then (z .put-sentence .ensures) (w .put-word .ensures)))
 
 returns-2 : tie.Need-returns-2
 returns-2 c = few (search needs) refl

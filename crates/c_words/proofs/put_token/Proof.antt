@@ -38,7 +38,8 @@ returns c =
     let z₃ = c .before .before in
     let z₂ = z₃ .before .before .before .before .before in
     let z₁ = z₂ .before .before .before .before .before in
-    wrote-then (z₁ .put-word .ensures) (wrote-then (z₂ .put-word2 .ensures) (z₃ .put-word3 .ensures))
+    wrote-then (z₁ .put-word .ensures)
+    (wrote-then (z₂ .put-word2 .ensures) (z₃ .put-word3 .ensures))
 
 pub put-token-spec : {M : Type 1} → statement M
 put-token-spec =

@@ -1,4 +1,5 @@
--- `c_words::put_tokens` meets its contract. The loop's invariant: the words of the first `i` tokens are put.
+-- `c_words::put_tokens` meets its contract. The loop's invariant: the words of the first `i` tokens
+-- are put.
 use mathlib.Core.Path.{_≡_}
 use Prim.Native.Nat.{_+_, _*_, _-_, _≤_}
 use native.Mathlib.Omega.{arith}
@@ -31,7 +32,15 @@ element-copy-out-t c = search needs
 put-token-requires : tie.Need-put-token-requires Inv-loop μ-loop
 put-token-requires c κs =
     let l = c .before .before .before in
-    omega (arith, l .loop .inv .1, l .loop .inv .0, l .loop .inv .2 .long, l .before .before .pre, c .before .before .loop-test)
+    omega (
+      arith,
+      l .loop .inv .1,
+      l .loop .inv .0,
+      l .loop .inv .2 .long,
+      l .before .before .pre,
+      c
+          .before .before .loop-test,
+    )
 
 add-i : tie.Need-add-i Inv-loop μ-loop
 add-i c = search needs
@@ -43,11 +52,13 @@ loop-again : tie.Need-loop-again Inv-loop μ-loop
 loop-again c =
     let l = c .before .before .before .before .before .before in
     let s = l .before .before in
-    let n : length (s .args .t3 .tokens) ≡ 64 = simp length-map at (s .good .1 .1 .0 .1 .1 .0 .1 .0 .1) in
+    let n : length (s .args .t3 .tokens) ≡ 64 =
+    simp length-map at (s .good .1 .1 .0 .1 .1 .0 .1 .0 .1) in
     let w = c .before .before .put-token .ensures in (
       search needs,
       omega (arith, w .next, l .loop .inv .1),
-      rw (words-more (s .args .t3 .tokens) (l .loop .i) no-token (omega arith)) (wrote-then (l .loop .inv .2) w),
+      rw (words-more (s .args .t3 .tokens) (l .loop .i) no-token (omega arith))
+          (wrote-then (l .loop .inv .2) w),
     )
 
 same-length : tie.Need-same-length Inv-loop μ-loop

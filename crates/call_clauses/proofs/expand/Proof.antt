@@ -16,10 +16,12 @@ enum-told : tie.Need-enum-told
 enum-told c = search needs
 
 expanded-requires : tie.Need-expanded-requires
-expanded-requires c κs = c .before .before .before .before .read-clauses .ensures .formed (c .before .before .enum-told .given .1)
+expanded-requires c κs = c .before .before .before .before .read-clauses .ensures .formed
+    (c .before .before .enum-told .given .1)
 
 returns : tie.Need-returns
-returns c = refusing (rules-not (c .before .before .before .read-clauses .ensures) (c .before .o .given .1)) refl refl
+returns c = refusing (rules-not (c .before .before .before .read-clauses .ensures)
+    (c .before .o .given .1)) refl refl
 
 same-length : tie.Need-same-length
 same-length c = search needs
@@ -27,7 +29,8 @@ same-length c = search needs
 returns-2 : tie.Need-returns-2
 returns-2 c =
     let e = c .before .before .before .before .before in
-    giving (rules-are (e .before .before .read-clauses .ensures) (e .enum-told .given .1)) (c .before .before .expanded .ensures)
+    giving (rules-are (e .before .before .read-clauses .ensures) (e .enum-told .given .1))
+    (c .before .before .expanded .ensures)
 
 pub expand-spec : {M : Type 1} → statement M
 expand-spec =

@@ -14,7 +14,8 @@ same-length : tie.Need-same-length
 same-length c = search needs
 
 returns : tie.Need-returns
-returns c = sweep-by (c .before .before .before .before .read-clauses .ensures .is) (c .before .before .sweep-read .ensures)
+returns c = sweep-by (c .before .before .before .before .read-clauses .ensures .is)
+    (c .before .before .sweep-read .ensures)
 
 pub sweep-spec : {M : Type 1} → statement M
 sweep-spec =

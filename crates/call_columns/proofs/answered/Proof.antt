@@ -21,7 +21,13 @@ refuse-requires c κs = search needs
 returns : tie.Need-returns
 returns c =
     let z = c .before .before .before .before in
-    short (omega (arith, c .before .if1 .taken, c .before .before .size .ensures, ap pairs (z .pre .1 .whole))) refl (c .refuse .ensures) refl
+    short (omega (
+      arith,
+      c .before .if1 .taken,
+      c .before .before .size .ensures,
+      ap pairs
+          (z .pre .1 .whole),
+    )) refl (c .refuse .ensures) refl
 
 choose-requires : tie.Need-choose-requires
 choose-requires c κs =
@@ -36,9 +42,22 @@ returns-2 c =
     let z = c .before .before .before .before .before .before .before in
     let f = c .before .before .choose .ensures in
     let e = z .pre .1 .whole in
-    let h : 2 * pairs (z .args .r .count) ≤ length (z .args .words .now) = omega (arith, c .before .before .before .before .if1 .left, c .before .before .before .before .before .size .ensures) in
-    given (omega (arith, c .before .before .before .before .if1 .left, c .before .before .before .before .before .size .ensures, ap pairs e)) (f .0) refl
-    (all-cleared (z .args .r .count) refl h (past-same (2 * pairs (z .args .r .count)) (z .args .words .now)) (f .1) ∙ ap (λ (n : ℕ). cleared n (z .args .words .now)) (sym e))
+    let h : 2 * pairs (z .args .r .count) ≤ length (z .args .words .now) = omega (
+      arith,
+      c .before .before .before .before .if1 .left,
+      c .before .before .before .before
+          .before .size .ensures,
+    ) in
+    given (omega (
+      arith,
+      c .before .before .before .before .if1 .left,
+      c .before .before .before
+          .before .before .size .ensures,
+      ap pairs e,
+    )) (f .0) refl
+    (all-cleared (z .args .r .count) refl h
+    (past-same (2 * pairs (z .args .r .count)) (z .args .words .now)) (f .1)
+    ∙ ap (λ (n : ℕ). cleared n (z .args .words .now)) (sym e))
 
 pub answered-spec : {M : Type 1} → statement M
 answered-spec =

@@ -32,19 +32,36 @@ enum-told-2 : tie.Need-enum-told-2
 enum-told-2 c = search needs
 
 answered-requires : tie.Need-answered-requires
-answered-requires c κs = let q = c .before .before .before .before .before .read-ranges .ensures in let e = c .before .before .before .enum-told2 .given .1 in (c .before .before .before .before .before .before .before .before .read-rules .ensures .formed (c .before .before .before .before .before .before .enum-told .given .1), q .spread e)
+answered-requires c κs = let q = c .before .before .before .before .before .read-ranges .ensures in
+    let e = c .before .before .before .enum-told2 .given .1 in (
+      c .before .before .before .before .before .before .before .before .read-rules .ensures
+          .formed (c .before .before .before .before .before .before .enum-told .given .1),
+      q
+          .spread e,
+    )
 
 returns : tie.Need-returns
-returns c = bad-rules (rules-not (c .before .before .before .before .read-rules .ensures) (c .before .before .o .given .1)) (c .refuse .ensures) refl
+returns c = bad-rules (rules-not (c .before .before .before .before .read-rules .ensures)
+    (c .before .before .o .given .1)) (c .refuse .ensures) refl
 
 returns-2 : tie.Need-returns-2
-returns-2 c = bad-ranges (rules-are (c .before .before .before .before .before .before .before .read-rules .ensures) (c .before .before .before .before .before .enum-told .given .1)) (ranges-not (c .before .before .before .before .read-ranges .ensures) (c .before .before .p .given .1)) (c .refuse2 .ensures) refl
+returns-2 c = bad-ranges (rules-are
+    (c .before .before .before .before .before .before .before .read-rules .ensures)
+    (c .before .before .before .before .before .enum-told .given .1))
+    (ranges-not (c .before .before .before .before .read-ranges .ensures)
+    (c .before .before .p .given .1)) (c .refuse2 .ensures) refl
 
 same-length : tie.Need-same-length
 same-length c = search needs
 
 returns-3 : tie.Need-returns-3
-returns-3 c = reading (rules-are (c .before .before .before .before .before .before .before .before .before .before .before .read-rules .ensures) (c .before .before .before .before .before .before .before .before .before .enum-told .given .1)) (ranges-are (c .before .before .before .before .before .before .before .before .read-ranges .ensures) (c .before .before .before .before .before .before .enum-told2 .given .1)) (c .before .before .answered .ensures)
+returns-3 c = reading (rules-are
+    (c .before .before .before .before .before .before .before .before .before .before .before
+    .read-rules .ensures) (c .before .before .before .before .before .before .before .before
+    .before .enum-told .given .1)) (ranges-are
+    (c .before .before .before .before .before .before .before .before .read-ranges
+    .ensures) (c .before .before .before .before .before .before .enum-told2 .given
+    .1)) (c .before .before .answered .ensures)
 
 pub columns-spec : {M : Type 1} → statement M
 columns-spec =

@@ -21,8 +21,10 @@ refused-read-requires c κs =
     let z = c .before .before .before .before .args in
     let a = c .before .read-rules in
     let b = c .read-ranges in (
-      line-in (z .rules .now) (a .result .outcome) (rules (a .result .grammar)) (a .ensures .is) (rule-exists (z .rules .now)),
-      line-in (z .ranges .now) (b .result .outcome) (rangesOf (b .result .sentence)) (b .ensures .is) (range-exists (z .ranges .now)),
+      line-in (z .rules .now) (a .result .outcome) (rules (a .result .grammar)) (a .ensures .is)
+          (rule-exists (z .rules .now)),
+      line-in (z .ranges .now) (b .result .outcome) (rangesOf (b .result .sentence))
+          (b .ensures .is) (range-exists (z .ranges .now)),
     )
 
 returns : tie.Need-returns
@@ -31,7 +33,10 @@ returns c =
     let a = c .before .before .read-rules in
     let b = c .before .read-ranges in
     subst (Hands (z .rules) (z .ranges) (c .refused-read .result))
-    (held-same (a .result .outcome) (b .result .outcome) (rules (a .result .grammar)) (rangesOf (b .result .sentence)) (a .ensures .is) (b .ensures .is)) (c .refused-read .ensures)
+    (held-same (a .result .outcome) (b .result .outcome) (rules (a .result .grammar))
+    (rangesOf (b .result .sentence)) (a .ensures .is) (b .ensures .is))
+    (c .refused-read .ensures)
 
 pub refused-line-spec : {M : Type 1} → statement M
-refused-line-spec = tie.close (tie.spec read-rules-requires read-ranges-requires refused-read-requires returns)
+refused-line-spec =
+    tie.close (tie.spec read-rules-requires read-ranges-requires refused-read-requires returns)

@@ -11,8 +11,13 @@ reached-requires : tie.Need-reached-requires
 reached-requires c κs =
     let s = c .before .before .before in
     let t = s .pre .1 .1 .1 in
-    let most = pairs-few (s .args .s .count) (s .pre .1 .0 .few) in
-    ((s .pre .1 .0 .few, most), (s .pre .0, (s .pre .1 .1 .0, record { tree = t .first; witness = t .witness₁ })))
+    let most = pairs-few (s .args .s .count) (s .pre .1 .0 .few) in (
+      (s .pre .1 .0 .few, most),
+      (
+        s .pre .0,
+        (s .pre .1 .1 .0, record { tree = t .first; witness = t .witness₁ }),
+      ),
+    )
 
 slice-aggregate-list-places : tie.Need-slice-aggregate-list-places
 slice-aggregate-list-places c = search needs

@@ -16,7 +16,8 @@ unlisted-requires c κs = search needs
 returns : tie.Need-returns
 returns c =
     let s = c .before .before .before .before .before in
-    too-few (s .pre .1 .whole) (rw (c .before .before .size .ensures) at (c .before .if1 .taken)) (c .unlisted .ensures)
+    too-few (s .pre .1 .whole) (rw (c .before .before .size .ensures) at (c .before .if1 .taken))
+    (c .unlisted .ensures)
 
 judge-requires : tie.Need-judge-requires
 judge-requires c κs = search needs
@@ -94,7 +95,8 @@ returns-4 c =
     let j = n .before .before .before .before .before .before .before in
     let s = j .before .before .before .before .before .before in
     let v = rw (n .before .before .before .enum-told3 .given .1) at (j .judge .ensures) in
-    placed Answer.Two (filled-by (s .pre .1 .whole) v) (v .verdict) (n .list-two .ensures) (c .reply3 .ensures)
+    placed Answer.Two (filled-by (s .pre .1 .whole) v) (v .verdict) (n .list-two .ensures)
+    (c .reply3 .ensures)
 
 pub listed-spec : {M : Type 1} → statement M
 listed-spec =

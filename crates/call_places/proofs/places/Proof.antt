@@ -34,14 +34,18 @@ listed-requires : tie.Need-listed-requires
 listed-requires c κs =
     let enum-told2 = c .before .before .before .before .enum-told2 in
     let q = c .before .before .before .before .before .before in
-    let r = q .before .before .before in
-    (r .read-rules .ensures .formed (q .before .enum-told .given .1), q .read-tokens .ensures .positioned (enum-told2 .given .1))
+    let r = q .before .before .before in (
+      r .read-rules .ensures .formed (q .before .enum-told .given .1),
+      q .read-tokens .ensures
+          .positioned (enum-told2 .given .1),
+    )
 
 returns : tie.Need-returns
 returns c =
     let r = c .before .before .before .before in
     let s = r .before .before .before .before .before in
-    refusing (refused-rules (s .args .tokens .now) (r .read-rules .ensures) (c .before .before .o .given .1)) (c .unlisted .ensures) refl refl
+    refusing (refused-rules (s .args .tokens .now) (r .read-rules .ensures)
+    (c .before .before .o .given .1)) (c .unlisted .ensures) refl refl
 
 returns-2 : tie.Need-returns-2
 returns-2 c =
@@ -49,7 +53,8 @@ returns-2 c =
     let q = c .before .before .before .before in
     let r = q .before .before .before in
     let s = r .before .before .before .before .before in
-    let e = refused-tokens (s .args .tokens .now) (r .read-rules .ensures) (q .before .enum-told .given .1) (q .read-tokens .ensures) (p .given .1) in
+    let e = refused-tokens (s .args .tokens .now) (r .read-rules .ensures)
+    (q .before .enum-told .given .1) (q .read-tokens .ensures) (p .given .1) in
     refusing e (c .unlisted2 .ensures) refl refl
 
 same-length : tie.Need-same-length
@@ -65,7 +70,8 @@ returns-3 c =
     let q = m .before .before in
     let r = q .before .before .before in
     let s = r .before .before .before .before .before in
-    let e = both-accepted (s .args .tokens .now) (r .read-rules .ensures) (q .before .enum-told .given .1) (q .read-tokens .ensures) (m .enum-told2 .given .1) in
+    let e = both-accepted (s .args .tokens .now) (r .read-rules .ensures)
+    (q .before .enum-told .given .1) (q .read-tokens .ensures) (m .enum-told2 .given .1) in
     reading e (j .listed .ensures)
 
 pub places-spec : {M : Type 1} → statement M

@@ -39,23 +39,33 @@ changed-to-requires c κs =
     (r .formed e, rules-are r e)
 
 returns : tie.Need-returns
-returns c = refusing (rules-not (c .before .before .before .before .read-rules .ensures) (c .before .before .o .given .1)) (c .refuse .ensures) refl
+returns c = refusing (rules-not (c .before .before .before .before .read-rules .ensures)
+    (c .before .before .o .given .1)) (c .refuse .ensures) refl
 
 returns-2 : tie.Need-returns-2
 returns-2 c =
     let r = c .before .before .before .before .before .before .before .read-rules .ensures in
-    let z = c .before .before .before .before .before .before .before .before .before .before .before .before .args in
-    barring (rules-are r (c .before .before .before .before .before .enum-told .given .1)) (rights-not (rightsSheet (z .rights .now)) (z .user) _ (c .before .before .before .before .read-rights .ensures) (c .before .before .q .given .1)) (c .refuse2 .ensures) refl
+    let z = c .before .before .before .before .before .before .before .before .before .before
+    .before .before .args in
+    barring (rules-are r (c .before .before .before .before .before .enum-told .given .1))
+    (rights-not (rightsSheet (z .rights .now)) (z .user) _
+    (c .before .before .before .before .read-rights .ensures)
+    (c .before .before .q .given .1)) (c .refuse2 .ensures) refl
 
 same-length : tie.Need-same-length
 same-length c = search needs
 
 returns-3 : tie.Need-returns-3
 returns-3 c =
-    let r = c .before .before .before .before .before .before .before .before .before .before .read-rules .ensures in
-    let z = c .before .before .before .before .before .before .before .before .before .before .before .before .before .before .before .args in
-    let w = rights-are (rightsSheet (z .rights .now)) (z .user) _ (c .before .before .before .before .before .before .before .read-rights .ensures) (c .before .before .before .before .before .enum-told2 .given .1) in
-    reading (rules-are r (c .before .before .before .before .before .before .before .before .enum-told .given .1)) (w .1) (by-changes (w .2) (c .before .before .changed-to .ensures))
+    let r = c .before .before .before .before .before .before .before .before .before .before
+    .read-rules .ensures in
+    let z = c .before .before .before .before .before .before .before .before .before .before
+    .before .before .before .before .before .args in
+    let w = rights-are (rightsSheet (z .rights .now)) (z .user) _
+    (c .before .before .before .before .before .before .before .read-rights .ensures)
+    (c .before .before .before .before .before .enum-told2 .given .1) in
+    reading (rules-are r (c .before .before .before .before .before .before .before .before
+    .enum-told .given .1)) (w .1) (by-changes (w .2) (c .before .before .changed-to .ensures))
 
 pub change-spec : {M : Type 1} → statement M
 change-spec =

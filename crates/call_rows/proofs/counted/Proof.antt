@@ -1,7 +1,8 @@
 -- `counted` meets its contract: 21 by the words' number, else the rows of the verdict's trees.
 use Rattle.answering.proofs.Judging.{filled-by}
 use Rattle.answering.proofs.Showing.{first-there, second-there, wants-first, wants-second}
-use Rattle.call_rows.proofs.Counting.{has-firsts, too-few, counted-none, counted-one, counted-two}
+use Rattle.call_rows.proofs.Counting.{has-firsts, too-few, counted-none, counted-one}
+use Rattle.call_rows.proofs.Counting.{counted-two}
 use borrow.Author.Needs.{needs}
 use Rattle.call_rows.proofs.counted.Statement.{statement}
 use Rattle.call_rows.proofs.counted.Tie as tie
@@ -15,7 +16,8 @@ uncounted-requires c κs = search needs
 returns : tie.Need-returns
 returns c =
     let s = c .before .before .before .before in
-    too-few (s .pre .1 .whole) (rw (c .before .before .size .ensures) at (c .before .if1 .taken)) (c .uncounted .ensures)
+    too-few (s .pre .1 .whole) (rw (c .before .before .size .ensures) at (c .before .if1 .taken))
+    (c .uncounted .ensures)
 
 judge-requires : tie.Need-judge-requires
 judge-requires c κs = search needs
@@ -30,8 +32,10 @@ first-rows-requires : tie.Need-first-rows-requires
 first-rows-requires c κs =
     let j = c .before .before .before .before .before in
     let s = j .before .before .before .before .before in
-    let v = rw (c .before .enum-told2 .given .1) at (j .judge .ensures) in
-    (record { formed = s .pre .0; positioned = s .pre .1; sheet = v .sheet }, (has-firsts, wants-first _ _ (v .verdict)))
+    let v = rw (c .before .enum-told2 .given .1) at (j .judge .ensures) in (
+      record { formed = s .pre .0; positioned = s .pre .1; sheet = v .sheet },
+      (has-firsts, wants-first _ _ (v .verdict)),
+    )
 
 enum-told-3 : tie.Need-enum-told-3
 enum-told-3 c = search needs
@@ -40,8 +44,10 @@ both-rows-requires : tie.Need-both-rows-requires
 both-rows-requires c κs =
     let j = c .before .before .before .before .before in
     let s = j .before .before .before .before .before in
-    let v = rw (c .before .enum-told3 .given .1) at (j .judge .ensures) in
-    (record { formed = s .pre .0; positioned = s .pre .1; sheet = v .sheet }, (has-firsts, wants-second _ _ (s .pre .0 .distinct) (v .verdict)))
+    let v = rw (c .before .enum-told3 .given .1) at (j .judge .ensures) in (
+      record { formed = s .pre .0; positioned = s .pre .1; sheet = v .sheet },
+      (has-firsts, wants-second _ _ (s .pre .0 .distinct) (v .verdict)),
+    )
 
 same-length : tie.Need-same-length
 same-length c = search needs
@@ -62,7 +68,8 @@ returns-3 c =
     let s = j .before .before .before .before .before in
     let v = rw (c .before .before .enum-told2 .given .1) at (j .judge .ensures) in
     let f = first-there _ _ (v .verdict) in
-    counted-one (filled-by (s .pre .1 .whole) v) (v .verdict) (f .1) (c .first-rows .ensures (f .0) (f .1))
+    counted-one (filled-by (s .pre .1 .whole) v) (v .verdict) (f .1)
+    (c .first-rows .ensures (f .0) (f .1))
 
 same-length-3 : tie.Need-same-length-3
 same-length-3 c = search needs
@@ -73,7 +80,8 @@ returns-4 c =
     let s = j .before .before .before .before .before in
     let v = rw (c .before .before .enum-told3 .given .1) at (j .judge .ensures) in
     let u = second-there _ _ (s .pre .0 .distinct) (v .verdict) in
-    counted-two (filled-by (s .pre .1 .whole) v) (v .verdict) (u .1 .first) (u .1) (c .both-rows .ensures (u .1 .tree) (u .0) (u .1 .first) (u .1))
+    counted-two (filled-by (s .pre .1 .whole) v) (v .verdict) (u .1 .first) (u .1)
+    (c .both-rows .ensures (u .1 .tree) (u .0) (u .1 .first) (u .1))
 
 pub counted-spec : {M : Type 1} → statement M
 counted-spec =

@@ -11,19 +11,22 @@ refused-share-requires : tie.Need-refused-share-requires
 refused-share-requires c κs = search needs
 
 returns : tie.Need-returns
-returns c = racks (c .before .before .before .pre .1) (inl (omega arith)) refl (c .refused-share .ensures) refl
+returns c = racks (c .before .before .before .pre .1) (inl (omega arith)) refl
+    (c .refused-share .ensures) refl
 
 refused-share-requires-2 : tie.Need-refused-share-requires-2
 refused-share-requires-2 c κs = search needs
 
 returns-2 : tie.Need-returns-2
-returns-2 c = racks (c .before .before .before .before .pre .1) (inr (omega arith)) refl (c .refused-share2 .ensures) refl
+returns-2 c = racks (c .before .before .before .before .pre .1) (inr (omega arith)) refl
+    (c .refused-share2 .ensures) refl
 
 refused-share-requires-3 : tie.Need-refused-share-requires-3
 refused-share-requires-3 c κs = search needs
 
 returns-3 : tie.Need-returns-3
-returns-3 c = beyond (c .before .before .before .before .before .pre .1) (omega arith) (omega arith) (omega arith) refl (c .refused-share3 .ensures) refl
+returns-3 c = beyond (c .before .before .before .before .before .pre .1) (omega arith) (omega arith)
+    (omega arith) refl (c .refused-share3 .ensures) refl
 
 size-requires : tie.Need-size-requires
 size-requires c κs = search needs
@@ -33,12 +36,23 @@ refused-share-requires-4 c κs = search needs
 
 returns-4 : tie.Need-returns-4
 returns-4 c =
-    short (c .before .before .before .before .before .before .before .pre .1) (omega arith) (omega arith) (omega arith) (rw (c .before .before .size .ensures) at (c .before .if4 .taken)) refl (c .refused-share4 .ensures) refl
+    short (c .before .before .before .before .before .before .before .pre .1) (omega arith)
+    (omega arith) (omega arith) (rw (c .before .before .size .ensures) at
+    (c .before .if4 .taken)) refl (c .refused-share4 .ensures) refl
 
 taken-requires : tie.Need-taken-requires
 taken-requires c κs =
-    let a = c .before .before .before .before .before .before .before in
-    (a .pre .0, record { size = a .pre .1; least = omega arith; most = omega arith; below = omega arith; enough = omega (arith, c .before .before .size .ensures, c .before .if4 .left) })
+    let a = c .before .before .before .before .before .before .before in (
+      a .pre .0,
+      record {
+        size = a .pre .1;
+        least = omega arith;
+        most = omega arith;
+        below = omega
+            arith;
+        enough = omega (arith, c .before .before .size .ensures, c .before .if4 .left);
+      },
+    )
 
 same-length : tie.Need-same-length
 same-length c = search needs

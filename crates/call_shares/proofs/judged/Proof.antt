@@ -45,8 +45,11 @@ divided-requires c κs =
     let w = c .before .before in
     let m = w .before in
     let e = m .terminal-count .ensures .terminals _ (m .before .terminals .ensures) in
-    let l = w .within-limit .ensures .is (not-false _ (c .before .if3 .left)) in
-    (c .before .before .before .before .before .before .before .before .pre, record { low = omega arith; high = omega arith; few = rw e at l })
+    let l = w .within-limit .ensures .is (not-false _ (c .before .if3 .left)) in (
+      c .before .before .before .before .before .before .before .before .pre,
+      record
+          { low = omega arith; high = omega arith; few = rw e at l },
+    )
 
 same-length : tie.Need-same-length
 same-length c = search needs

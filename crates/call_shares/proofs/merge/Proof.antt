@@ -15,16 +15,24 @@ refuses-requires-2 : tie.Need-refuses-requires-2
 refuses-requires-2 c κs = search needs
 
 returns-2 : tie.Need-returns-2
-returns-2 c = second-refuses (c .before .before .before .refuses .ensures .isnt (c .before .before .if1 .left)) (c .before .refuses2 .ensures .is (c .if2 .taken)) refl
+returns-2 c = second-refuses (c .before .before .before .refuses .ensures .isnt
+    (c .before .before .if1 .left)) (c .before .refuses2 .ensures .is (c .if2 .taken)) refl
 
 leads-requires : tie.Need-leads-requires
 leads-requires c κs = search needs
 
 returns-3 : tie.Need-returns-3
-returns-3 c = second (c .before .before .before .before .before .refuses .ensures .isnt (c .before .before .before .before .if1 .left)) (c .before .before .before .refuses2 .ensures .isnt (c .before .before .if2 .left)) (c .before .leads .ensures .is (c .if3 .taken)) refl
+returns-3 c = second (c .before .before .before .before .before .refuses .ensures .isnt
+    (c .before .before .before .before .if1 .left))
+    (c .before .before .before .refuses2 .ensures .isnt (c .before .before .if2 .left))
+    (c .before .leads .ensures .is (c .if3 .taken)) refl
 
 returns-4 : tie.Need-returns-4
-returns-4 c = first (c .before .before .before .before .before .refuses .ensures .isnt (c .before .before .before .before .if1 .left)) (c .before .before .before .refuses2 .ensures .isnt (c .before .before .if2 .left)) (c .before .leads .ensures .isnt (c .if3 .left)) refl
+returns-4 c = first (c .before .before .before .before .before .refuses .ensures .isnt
+    (c .before .before .before .before .if1 .left))
+    (c .before .before .before .refuses2 .ensures .isnt (c .before .before .if2 .left))
+    (c .before .leads .ensures .isnt (c .if3 .left)) refl
 
 pub merge-spec : {M : Type 1} → statement M
-merge-spec = tie.close (tie.spec refuses-requires returns refuses-requires-2 returns-2 leads-requires returns-3 returns-4)
+merge-spec = tie.close (tie.spec refuses-requires returns refuses-requires-2 returns-2
+    leads-requires returns-3 returns-4)

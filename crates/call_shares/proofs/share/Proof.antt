@@ -19,16 +19,21 @@ enum-told : tie.Need-enum-told
 enum-told c = search needs
 
 judged-requires : tie.Need-judged-requires
-judged-requires c κs = c .before .before .before .before .read-rules .ensures .formed (c .before .before .enum-told .given .1)
+judged-requires c κs = c .before .before .before .before .read-rules .ensures .formed
+    (c .before .before .enum-told .given .1)
 
 returns : tie.Need-returns
-returns c = refusing (rules-not (c .before .before .before .before .read-rules .ensures) (c .before .before .o .given .1)) (c .refused-share .ensures) refl
+returns c = refusing (rules-not (c .before .before .before .before .read-rules .ensures)
+    (c .before .before .o .given .1)) (c .refused-share .ensures) refl
 
 same-length : tie.Need-same-length
 same-length c = search needs
 
 returns-2 : tie.Need-returns-2
-returns-2 c = reading (rules-are (c .before .before .before .before .before .before .before .read-rules .ensures) (c .before .before .before .before .before .enum-told .given .1)) (c .before .before .judged .ensures)
+returns-2 c = reading (rules-are
+    (c .before .before .before .before .before .before .before .read-rules .ensures)
+    (c .before .before .before .before .before .enum-told .given .1))
+    (c .before .before .judged .ensures)
 
 pub share-spec : {M : Type 1} → statement M
 share-spec =

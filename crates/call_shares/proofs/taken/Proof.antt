@@ -18,12 +18,22 @@ terminals-requires c κs = search needs
 
 all-numbers-requires : tie.Need-all-numbers-requires
 all-numbers-requires c κs =
-    let t = c .before .before .pre .1 in
-    ((t .size .low, t .size .high), omega (arith, t .size .few, total-of _ _ (c .before .before .args .n) (small c) (c .terminals .ensures)))
+    let t = c .before .before .pre .1 in (
+      (t .size .low, t .size .high),
+      omega (
+        arith,
+        t .size .few,
+        total-of _ _ (c .before .before .args .n) (small c)
+            (c .terminals .ensures),
+      ),
+    )
 
 -- the result is M
-whole : (c : tie.After-all-numbers) → c .all-numbers .result ≡ total (rules (c .before .before .before .args .g)) (c .before .before .before .args .n)
-whole c = c .all-numbers .ensures ∙ total-of _ _ (c .before .before .before .args .n) (small (c .before)) (c .before .terminals .ensures)
+whole : (c : tie.After-all-numbers)
+    → c .all-numbers .result ≡ total (rules (c .before .before .before .args .g))
+    (c .before .before .before .args .n)
+whole c = c .all-numbers .ensures ∙ total-of _ _ (c .before .before .before .args .n)
+    (small (c .before)) (c .before .terminals .ensures)
 
 begins-at-requires : tie.Need-begins-at-requires
 begins-at-requires c κs =
@@ -58,7 +68,10 @@ returns c =
     let s = c .before .before .before .before .before in
     let e = s .before .before in
     let m = e .before .before in
-    shared-clear (c .before .before .before .before .before .before .before .before .before .before .before .before .pre .1) (s .share-rules .ensures .1) (whole m) (e .before .begins-at .ensures) (e .begins-at2 .ensures) (s .share-rules .ensures .0) (c .if1 .taken)
+    shared-clear (c .before .before .before .before .before .before .before .before .before .before
+    .before .before .pre .1) (s .share-rules .ensures .1) (whole m)
+    (e .before .begins-at .ensures) (e .begins-at2 .ensures) (s .share-rules .ensures .0)
+    (c .if1 .taken)
 
 same-length-2 : tie.Need-same-length-2
 same-length-2 c = search needs
@@ -68,7 +81,10 @@ returns-2 c =
     let s = c .before .before .before .before .before in
     let e = s .before .before in
     let m = e .before .before in
-    shared-two (c .before .before .before .before .before .before .before .before .before .before .before .before .pre .1) (s .share-rules .ensures .1) (whole m) (e .before .begins-at .ensures) (e .begins-at2 .ensures) (s .share-rules .ensures .0) (c .if1 .left)
+    shared-two (c .before .before .before .before .before .before .before .before .before .before
+    .before .before .pre .1) (s .share-rules .ensures .1) (whole m)
+    (e .before .begins-at .ensures) (e .begins-at2 .ensures) (s .share-rules .ensures .0)
+    (c .if1 .left)
 
 pub taken-spec : {M : Type 1} → statement M
 taken-spec =

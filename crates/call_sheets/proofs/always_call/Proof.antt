@@ -9,10 +9,13 @@ use Rattle.call_sheets.proofs.always_call.Statement.{statement}
 use Rattle.call_sheets.proofs.always_call.Tie as tie
 
 -- the sheets that it is not
-no1 : (c : tie.Else1) → sameBytes (c .before .before .before .before .args .s .now) alwaysSheet ≡ false
+no1 : (c : tie.Else1) → sameBytes (c .before .before .before .before .args .s .now) alwaysSheet
+    ≡ false
 no1 c = sym (c .before .same .ensures) ∙ c .if1 .left
 
-no2 : (c : tie.Else2) → sameBytes (c .before .before .before .before .before .before .before .args .s .now) clausesAlwaysSheet ≡ false
+no2 : (c : tie.Else2) → sameBytes
+    (c .before .before .before .before .before .before .before .args .s .now) clausesAlwaysSheet
+    ≡ false
 no2 c = sym (c .before .same2 .ensures) ∙ c .if2 .left
 
 slice-aggregate-same : tie.Need-slice-aggregate-same

@@ -30,11 +30,19 @@ shared-slice-read-result c = search needs
 returns-2 : tie.Need-returns-2
 returns-2 c = let d = c .before in
     let a = d .before .before .before .before .before .before .args in
-    simp (le-leb (length (a .start .now) + 1) (length (a .s .now)) (omega arith), sym (d .before .same .ensures) ∙ d .if2 .taken)
+    simp (
+      le-leb (length (a .start .now) + 1) (length (a .s .now)) (omega arith),
+      sym
+          (d .before .same .ensures) ∙ d .if2 .taken,
+    )
 
 returns-3 : tie.Need-returns-3
 returns-3 c = let a = c .before .before .before .before .before .before .args in
-    simp (le-leb (length (a .start .now) + 1) (length (a .s .now)) (omega arith), sym (c .before .same .ensures) ∙ c .if2 .left)
+    simp (
+      le-leb (length (a .start .now) + 1) (length (a .s .now)) (omega arith),
+      sym
+          (c .before .same .ensures) ∙ c .if2 .left,
+    )
 
 pub begins-spec : {M : Type 1} → statement M
 begins-spec =

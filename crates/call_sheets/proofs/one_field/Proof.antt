@@ -1,4 +1,5 @@
--- `call_sheets::one_field` meets its contract. The loop's invariant: the bytes are one field if those from i on are.
+-- `call_sheets::one_field` meets its contract. The loop's invariant: the bytes are one field if
+-- those from i on are.
 use mathlib.Core.Path.{_≡_, refl, sym, _∙_}
 use Prim.Native.Nat.{_-_, _≤_}
 use native.Mathlib.Omega.{arith}
@@ -23,11 +24,13 @@ shared-slice-read-b c = search needs
 
 returns : tie.Need-returns Inv-loop μ-loop
 returns c = let l = c .before .before .before in
-    sym (l .loop .inv .1 ∙ field-blank (l .before .args .f .now) (l .loop .i) (omega arith) (c .if1 .taken))
+    sym (l .loop .inv .1 ∙ field-blank (l .before .args .f .now) (l .loop .i) (omega arith)
+    (c .if1 .taken))
 
 returns-2 : tie.Need-returns-2 Inv-loop μ-loop
 returns-2 c = let l = c .before .before .before .before in
-    sym (l .loop .inv .1 ∙ field-break (l .before .args .f .now) (l .loop .i) (omega arith) (c .before .if1 .left) (c .if2 .taken))
+    sym (l .loop .inv .1 ∙ field-break (l .before .args .f .now) (l .loop .i) (omega arith)
+    (c .before .if1 .left) (c .if2 .taken))
 
 add-i : tie.Need-add-i Inv-loop μ-loop
 add-i c = search needs
@@ -36,8 +39,11 @@ loop-less : tie.Need-loop-less Inv-loop μ-loop
 loop-less c = search needs
 
 loop-again : tie.Need-loop-again Inv-loop μ-loop
-loop-again c = let l = c .before .before .before .before in
-    (search needs, l .loop .inv .1 ∙ field-more (l .before .args .f .now) (l .loop .i) (omega arith) (c .before .if1 .left) (c .if2 .left))
+loop-again c = let l = c .before .before .before .before in (
+  search needs,
+  l .loop .inv .1 ∙ field-more (l .before .args .f .now) (l .loop .i) (omega arith)
+      (c .before .if1 .left) (c .if2 .left),
+)
 
 returns-3 : tie.Need-returns-3 Inv-loop μ-loop
 returns-3 c = let l = c .before in

@@ -92,7 +92,12 @@ returns : tie.Need-returns
 returns c =
     let z = c .before .before in
     let a = z .clauses-call .ensures in
-    record { text = a .text; is = rw (z .before .before .enum-told .given .1) (a .is); wrote = a .wrote }
+    record {
+      text = a .text;
+      is = rw (z .before .before .enum-told .given .1) (a .is);
+      wrote =
+          a .wrote;
+    }
 
 same-length-2 : tie.Need-same-length-2
 same-length-2 c = search needs
@@ -101,7 +106,12 @@ returns-2 : tie.Need-returns-2
 returns-2 c =
     let z = c .before .before in
     let a = z .clauses-sweep-text .ensures in
-    record { text = a .text; is = rw (z .before .before .before .call .given .1) (a .is); wrote = a .wrote }
+    record {
+      text = a .text;
+      is = rw (z .before .before .before .call .given .1) (a .is);
+      wrote =
+          a .wrote;
+    }
 
 same-length-3 : tie.Need-same-length-3
 same-length-3 c = search needs
@@ -110,7 +120,12 @@ returns-3 : tie.Need-returns-3
 returns-3 c =
     let z = c .before .before in
     let a = z .expand-text .ensures in
-    record { text = a .text; is = rw (z .before .before .enum-told2 .given .1) (a .is); wrote = a .wrote }
+    record {
+      text = a .text;
+      is = rw (z .before .before .enum-told2 .given .1) (a .is);
+      wrote =
+          a .wrote;
+    }
 
 same-length-4 : tie.Need-same-length-4
 same-length-4 c = search needs
@@ -119,7 +134,12 @@ returns-4 : tie.Need-returns-4
 returns-4 c =
     let z = c .before .before in
     let a = z .rows-call .ensures in
-    record { text = a .text; is = rw (z .before .before .enum-told3 .given .1) (a .is); wrote = a .wrote }
+    record {
+      text = a .text;
+      is = rw (z .before .before .enum-told3 .given .1) (a .is);
+      wrote =
+          a .wrote;
+    }
 
 same-length-5 : tie.Need-same-length-5
 same-length-5 c = search needs
@@ -128,7 +148,12 @@ returns-5 : tie.Need-returns-5
 returns-5 c =
     let z = c .before .before in
     let a = z .share-text .ensures in
-    record { text = a .text; is = rw (z .before .before .before .call2 .given .1) (a .is); wrote = a .wrote }
+    record {
+      text = a .text;
+      is = rw (z .before .before .before .call2 .given .1) (a .is);
+      wrote =
+          a .wrote;
+    }
 
 same-length-6 : tie.Need-same-length-6
 same-length-6 c = search needs
@@ -137,7 +162,12 @@ returns-6 : tie.Need-returns-6
 returns-6 c =
     let z = c .before .before in
     let a = z .columns-call .ensures in
-    record { text = a .text; is = rw (z .before .before .enum-told4 .given .1) (a .is); wrote = a .wrote }
+    record {
+      text = a .text;
+      is = rw (z .before .before .enum-told4 .given .1) (a .is);
+      wrote =
+          a .wrote;
+    }
 
 same-length-7 : tie.Need-same-length-7
 same-length-7 c = search needs
@@ -146,7 +176,12 @@ returns-7 : tie.Need-returns-7
 returns-7 c =
     let z = c .before .before in
     let a = z .places-call .ensures in
-    record { text = a .text; is = rw (z .before .before .enum-told5 .given .1) (a .is); wrote = a .wrote }
+    record {
+      text = a .text;
+      is = rw (z .before .before .enum-told5 .given .1) (a .is);
+      wrote =
+          a .wrote;
+    }
 
 same-length-8 : tie.Need-same-length-8
 same-length-8 c = search needs
@@ -155,7 +190,12 @@ returns-8 : tie.Need-returns-8
 returns-8 c =
     let z = c .before .before in
     let a = z .show-call .ensures in
-    record { text = a .text; is = rw (z .before .before .before .call3 .given .1) (a .is); wrote = a .wrote }
+    record {
+      text = a .text;
+      is = rw (z .before .before .before .call3 .given .1) (a .is);
+      wrote =
+          a .wrote;
+    }
 
 same-length-9 : tie.Need-same-length-9
 same-length-9 c = search needs
@@ -164,7 +204,12 @@ returns-9 : tie.Need-returns-9
 returns-9 c =
     let z = c .before .before in
     let a = z .change-call .ensures in
-    record { text = a .text; is = rw (z .before .before .before .call4 .given .1) (a .is); wrote = a .wrote }
+    record {
+      text = a .text;
+      is = rw (z .before .before .before .call4 .given .1) (a .is);
+      wrote =
+          a .wrote;
+    }
 
 same-length-10 : tie.Need-same-length-10
 same-length-10 c = search needs
@@ -173,7 +218,12 @@ returns-10 : tie.Need-returns-10
 returns-10 c =
     let z = c .before .before in
     let a = z .always-text .ensures in
-    record { text = a .text; is = rw (z .before .before .enum-told6 .given .1) (a .is); wrote = a .wrote }
+    record {
+      text = a .text;
+      is = rw (z .before .before .enum-told6 .given .1) (a .is);
+      wrote =
+          a .wrote;
+    }
 
 same-length-11 : tie.Need-same-length-11
 same-length-11 c = search needs
@@ -182,7 +232,12 @@ returns-11 : tie.Need-returns-11
 returns-11 c =
     let z = c .before .before in
     let a = z .clauses-always-text .ensures in
-    record { text = a .text; is = rw (z .before .before .enum-told7 .given .1) (a .is); wrote = a .wrote }
+    record {
+      text = a .text;
+      is = rw (z .before .before .enum-told7 .given .1) (a .is);
+      wrote =
+          a .wrote;
+    }
 
 same-length-12 : tie.Need-same-length-12
 same-length-12 c = search needs
@@ -191,7 +246,12 @@ returns-12 : tie.Need-returns-12
 returns-12 c =
     let z = c .before .before in
     let a = z .merge-call .ensures in
-    record { text = a .text; is = rw (z .before .before .enum-told8 .given .1) (a .is); wrote = a .wrote }
+    record {
+      text = a .text;
+      is = rw (z .before .before .enum-told8 .given .1) (a .is);
+      wrote =
+          a .wrote;
+    }
 
 same-length-13 : tie.Need-same-length-13
 same-length-13 c = search needs
@@ -199,7 +259,12 @@ same-length-13 c = search needs
 returns-13 : tie.Need-returns-13
 returns-13 c =
     let z = c .before .before in
-    record { text = head (refusedText 32) 0; is = rw (z .before .before .enum-told9 .given .1) refl; wrote = z .put-refusal .ensures }
+    record {
+      text = head (refusedText 32) 0;
+      is =
+          rw (z .before .before .enum-told9 .given .1) refl;
+      wrote = z .put-refusal .ensures;
+    }
 
 pub answer-spec : {M : Type 1} → statement M
 answer-spec =

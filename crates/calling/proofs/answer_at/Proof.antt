@@ -1,4 +1,5 @@
--- `answer_at` meets its contract: the call sheet is before the empty line, the call's sheets behind it.
+-- `answer_at` meets its contract: the call sheet is before the empty line, the call's sheets behind
+-- it.
 use mathlib.Core.Path.{_≡_, sym}
 use Prim.Native.Nat.{_+_, _-_}
 use native.Mathlib.Omega.{arith}
@@ -46,7 +47,8 @@ returns c =
     let s = q .before .before .before .before .args in
     let n = s .i + 1 in
     let e : take (length (s .input .now) - n) (drop n (s .input .now)) ≡ drop n (s .input .now) =
-    take-all (length (s .input .now) - n) (drop n (s .input .now)) (omega (arith, length-drop n (s .input .now))) in
+    take-all (length (s .input .now) - n) (drop n (s .input .now))
+    (omega (arith, length-drop n (s .input .now))) in
     rw (q .call-of .ensures) at (rw e at (z .answer .ensures))
 
 pub answer-at-spec : {M : Type 1} → statement M

@@ -33,14 +33,24 @@ returns-2 : tie.Need-returns-2
 returns-2 c =
     let m = c .before .before in
     let s = m .before .before .parting .ensures in
-    record { text = _; is = whole (search needs) (rw (m .enum-told .given .1) at s) refl; wrote = c .put-refusal2 .ensures }
+    record {
+      text = _;
+      is = whole (search needs) (rw (m .enum-told .given .1) at s) refl;
+      wrote =
+          c .put-refusal2 .ensures;
+    }
 
 returns-3 : tie.Need-returns-3
 returns-3 c =
     let a = c .answer-at .ensures in
     let p = c .before .before .before in
     let s = p .before .before .parting .ensures in
-    record { text = a .text; is = called (search needs) ((rw (p .place .given .1) at s) .1) (a .is); wrote = a .wrote }
+    record {
+      text = a .text;
+      is =
+          called (search needs) ((rw (p .place .given .1) at s) .1) (a .is);
+      wrote = a .wrote;
+    }
 
 pub calls-text-spec : {M : Type 1} → statement M
 calls-text-spec =

@@ -10,7 +10,9 @@ use Rattle.calling.proofs.columns_call.Statement.{statement}
 use Rattle.calling.proofs.columns_call.Tie as tie
 
 -- the empty line stands in the input
-inside : (c : tie.After-known-told) → c .before .place .given .0 .0 < length (c .before .before .before .before .before .before .args .s .now)
+inside : (c : tie.After-known-told)
+    → c .before .place .given .0 .0 < length
+    (c .before .before .before .before .before .before .args .s .now)
 inside c =
     let p = c .before in
     let s = p .before .before .parting .ensures in (rw (p .place .given .1) at s) .0
@@ -56,7 +58,12 @@ returns : tie.Need-returns
 returns c =
     let m = c .before .before .before .before in
     let s = m .before .before .parting .ensures in
-    record { text = _; is = fewer (rw (m .enum-told .given .1) at s) refl; wrote = c .before .before .put-refusal .ensures }
+    record {
+      text = _;
+      is = fewer (rw (m .enum-told .given .1) at s) refl;
+      wrote =
+          c .before .before .put-refusal .ensures;
+    }
 
 same-length-2 : tie.Need-same-length-2
 same-length-2 c = search needs
@@ -69,9 +76,11 @@ returns-2 c =
     let a = q .before .before .before .args in
     let n = p .place .given .0 .0 + 1 in
     let e : take (length (a .s .now) - n) (drop n (a .s .now)) ≡ drop n (a .s .now) =
-    take-all (length (a .s .now) - n) (drop n (a .s .now)) (omega (arith, length-drop n (a .s .now))) in
+    take-all (length (a .s .now) - n) (drop n (a .s .now))
+    (omega (arith, length-drop n (a .s .now))) in
     let w = rw e at (z .columns-text .ensures) in
-    let s = q .parting .ensures in record { text = w .text; is = two ((rw (p .place .given .1) at s) .1) (w .is); wrote = w .wrote }
+    let s = q .parting .ensures in record
+    { text = w .text; is = two ((rw (p .place .given .1) at s) .1) (w .is); wrote = w .wrote }
 
 pub columns-call-spec : {M : Type 1} → statement M
 columns-call-spec =

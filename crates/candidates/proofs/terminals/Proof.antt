@@ -1,4 +1,5 @@
--- `candidates::terminals` meets its contract. The loop's invariant: the set has the terminals of the first i rules.
+-- `candidates::terminals` meets its contract. The loop's invariant: the set has the terminals of
+-- the first i rules.
 use Prim.Native.Nat.{_-_, _≤_, _<_}
 use mathlib.Core.Path.{_≡_}
 use native.Mathlib.Omega.{arith}
@@ -16,7 +17,8 @@ abbrev μ-loop : tie.MeasureT-loop
 μ-loop g set₀ n i₀ set i = n - i
 
 -- the array has 128 rules
-inside : (c : tie.In-loop Inv-loop μ-loop) → c .before .loop .i < length (c .before .before .args .t1 .rules)
+inside : (c : tie.In-loop Inv-loop μ-loop)
+    → c .before .loop .i < length (c .before .before .args .t1 .rules)
 inside c =
     let a = c .before .before in
     let e : length (a .args .t1 .rules) ≡ 128 = simp length-map at (a .good .0 .1 .1 .0 .1 .0 .1) in
@@ -32,7 +34,8 @@ element-copy-out-r : tie.Need-element-copy-out-r Inv-loop μ-loop
 element-copy-out-r c = search needs
 
 with-terminal-requires : tie.Need-with-terminal-requires Inv-loop μ-loop
-with-terminal-requires c κs = small-at _ _ _ (c .before .loop-test .taken) (inside (c .before)) (c .before .before .before .pre)
+with-terminal-requires c κs = small-at _ _ _ (c .before .loop-test .taken) (inside (c .before))
+    (c .before .before .before .pre)
 
 add-i : tie.Need-add-i Inv-loop μ-loop
 add-i c = search needs
@@ -41,12 +44,16 @@ loop-less : tie.Need-loop-less Inv-loop μ-loop
 loop-less c = search needs
 
 loop-again : tie.Need-loop-again Inv-loop μ-loop
-loop-again c =
-    (search needs, terminals-step _ _ _ _ _ (inside (c .before .before)) (c .before .before .before .loop .inv .1) (c .with-terminal .ensures))
+loop-again c = (
+  search needs,
+  terminals-step _ _ _ _ _ (inside (c .before .before))
+      (c .before .before .before .loop .inv .1) (c .with-terminal .ensures),
+)
 
 returns : tie.Need-returns Inv-loop μ-loop
 returns c =
-    let e : c .before .loop .i ≡ c .before .before .args .t1 .count = omega (arith, c .loop-test .left, c .before .loop .inv .0) in
+    let e : c .before .loop .i ≡ c .before .before .args .t1 .count =
+    omega (arith, c .loop-test .left, c .before .loop .inv .0) in
     rw e at (c .before .loop .inv .1)
 
 pub terminals-spec : {M : Type 1} → statement M

@@ -27,8 +27,12 @@ loop-less c = omega (arith, c .before .loop-test .taken)
 
 loop-again : tie.Need-loop-again Inv-loop μ-loop
 loop-again c =
-    let l = c .before .before .loop in
-    (omega (arith, l .inv .0), inr (omega (arith, c .before .loop-test .taken)), reached-more _ _ _ _ _ (l .inv .0) (l .inv .2) (c .with .ensures))
+    let l = c .before .before .loop in (
+      omega (arith, l .inv .0),
+      inr (omega (arith, c .before .loop-test .taken)),
+      reached-more _ _ _
+          _ _ (l .inv .0) (l .inv .2) (c .with .ensures),
+    )
 
 returns : tie.Need-returns Inv-loop μ-loop
 returns c =

@@ -13,7 +13,8 @@ enum-known-k : tie.Need-enum-known-k
 enum-known-k c = search needs
 
 with-range-requires : tie.Need-with-range-requires
-with-range-requires c κs = atom-small _ _ _ (c .before .k .given .1) (c .before .before .before .pre)
+with-range-requires c κs =
+    atom-small _ _ _ (c .before .k .given .1) (c .before .before .before .pre)
 
 enum-told-2 : tie.Need-enum-told-2
 enum-told-2 c = search needs

@@ -14,7 +14,8 @@ has-requires : tie.Need-has-requires
 has-requires c κs = search needs
 
 returns : tie.Need-returns
-returns c = joins-as (λ q B x. absurd x) (λ q B x. c .before .has .ensures .isnt (not-true _ (c .if1 .taken)) (x .1)) (joins-none _)
+returns c = joins-as (λ q B x. absurd x)
+    (λ q B x. c .before .has .ensures .isnt (not-true _ (c .if1 .taken)) (x .1)) (joins-none _)
 
 add-set-requires : tie.Need-add-set-requires
 add-set-requires c κs = search needs
@@ -23,7 +24,10 @@ same-length : tie.Need-same-length
 same-length c = search needs
 
 returns-2 : tie.Need-returns-2
-returns-2 c = let h = c .before .before .before .before .before .has .ensures .is (not-false _ (c .before .before .before .before .if1 .left)) in joins-as (λ q B x. (x .0, h, x .1)) (λ q B x. (x .0, x .2)) (c .before .before .add-set .ensures)
+returns-2 c = let h = c .before .before .before .before .before .has .ensures .is
+    (not-false _ (c .before .before .before .before .if1 .left)) in
+    joins-as (λ q B x. (x .0, h, x .1)) (λ q B x. (x .0, x .2))
+    (c .before .before .add-set .ensures)
 
 pub add-if-spec : {M : Type 1} → statement M
 add-if-spec =

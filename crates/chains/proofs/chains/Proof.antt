@@ -15,10 +15,14 @@ abbrev μ-loop : tie.MeasureT-loop
 μ-loop table₀ g e l₀ table l = 4 - l
 
 loop-holds : tie.Need-loop-holds Inv-loop μ-loop
-loop-holds c = let z = c .before in upto-none (rules (z .args .g)) (z .args .e) (z .args .table .now) (z .pre .0)
+loop-holds c = let z = c .before in
+    upto-none (rules (z .args .g)) (z .args .e) (z .args .table .now) (z .pre .0)
 
 next-level-requires : tie.Need-next-level-requires Inv-loop μ-loop
-next-level-requires c κs = (c .before .loop-test .taken, (c .before .before .before .before .pre .1, c .before .before .loop .inv))
+next-level-requires c κs = (
+  c .before .loop-test .taken,
+  (c .before .before .before .before .pre .1, c .before .before .loop .inv),
+)
 
 add-l : tie.Need-add-l Inv-loop μ-loop
 add-l c = search needs

@@ -26,13 +26,17 @@ loop-less : tie.Need-loop-less Inv-loop μ-loop
 loop-less c = omega (arith, c .before .before .before .before .loop-test .taken)
 
 loop-again : tie.Need-loop-again Inv-loop μ-loop
-loop-again c = let l = c .before .before .before .before .before .loop in let h : l .k < 64 = c .before .before .before .before .loop-test .taken in (omega arith, closes-more h (l .inv .1) (c .before .before .through .ensures))
+loop-again c = let l = c .before .before .before .before .before .loop in
+    let h : l .k < 64 = c .before .before .before .before .loop-test .taken in
+    (omega arith, closes-more h (l .inv .1) (c .before .before .through .ensures))
 
 same-length : tie.Need-same-length Inv-loop μ-loop
 same-length c = c .before .loop .inv .1 .size ∙ sym (c .before .before .before .pre)
 
 returns : tie.Need-returns Inv-loop μ-loop
-returns c = let l = c .before .loop in subst (λ (x : ℕ). Closes (c .before .before .before .args .words .now) x (l .words)) (let z : l .k ≡ 64 = omega (arith, l .inv .0, c .loop-test .left) in z) (l .inv .1)
+returns c = let l = c .before .loop in
+    subst (λ (x : ℕ). Closes (c .before .before .before .args .words .now) x (l .words))
+    (let z : l .k ≡ 64 = omega (arith, l .inv .0, c .loop-test .left) in z) (l .inv .1)
 
 pub close-spec : {M : Type 1} → statement M
 close-spec =

@@ -26,7 +26,8 @@ mul-table : tie.Need-mul-table Inv-loop μ-loop
 mul-table c = search needs
 
 slice-read-table : tie.Need-slice-read-table Inv-loop μ-loop
-slice-read-table c = let z = c .before .before .before in let l = c .before .before .loop in omega (arith, z .pre .0, z .pre .1, l .inv .1 .size, c .before .loop-test .taken)
+slice-read-table c = let z = c .before .before .before in let l = c .before .before .loop in
+    omega (arith, z .pre .0, z .pre .1, l .inv .1 .size, c .before .loop-test .taken)
 
 add-table : tie.Need-add-table Inv-loop μ-loop
 add-table c = search needs
@@ -35,7 +36,8 @@ mul-table-2 : tie.Need-mul-table-2 Inv-loop μ-loop
 mul-table-2 c = search needs
 
 slice-write-table : tie.Need-slice-write-table Inv-loop μ-loop
-slice-write-table c = let z = c .before .before .before in let l = c .before .before .loop in omega (arith, z .pre .0, z .pre .1, l .inv .1 .size, c .before .loop-test .taken)
+slice-write-table c = let z = c .before .before .before in let l = c .before .before .loop in
+    omega (arith, z .pre .0, z .pre .1, l .inv .1 .size, c .before .loop-test .taken)
 
 add-i : tie.Need-add-i Inv-loop μ-loop
 add-i c = search needs
@@ -47,8 +49,11 @@ loop-again : tie.Need-loop-again Inv-loop μ-loop
 loop-again c =
     let z = c .before .before .before in
     let l = c .before .before .loop in
-    let h : l .i < 128 = c .before .loop-test .taken in
-    (omega arith, copied-more (128 * z .args .l + l .i) _ refl refl h (omega (arith, z .pre .0, z .pre .1, l .inv .1 .size)) (l .inv .1))
+    let h : l .i < 128 = c .before .loop-test .taken in (
+      omega arith,
+      copied-more (128 * z .args .l + l .i) _ refl refl h
+          (omega (arith, z .pre .0, z .pre .1, l .inv .1 .size)) (l .inv .1),
+    )
 
 same-length : tie.Need-same-length Inv-loop μ-loop
 same-length c = c .before .loop .inv .1 .size
@@ -56,7 +61,8 @@ same-length c = c .before .loop .inv .1 .size
 returns : tie.Need-returns Inv-loop μ-loop
 returns c = let l = c .before .loop in
     let a = c .before .before .args in
-    subst (Copied (a .table .now) (l .table) (a .l)) (let z : l .i ≡ 128 = omega (arith, l .inv .0, c .loop-test .left) in z) (l .inv .1)
+    subst (Copied (a .table .now) (l .table) (a .l))
+    (let z : l .i ≡ 128 = omega (arith, l .inv .0, c .loop-test .left) in z) (l .inv .1)
 
 pub copy-level-spec : {M : Type 1} → statement M
 copy-level-spec =

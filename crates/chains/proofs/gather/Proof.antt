@@ -11,7 +11,8 @@ use Rattle.chains.proofs.gather.Statement.{statement}
 use Rattle.chains.proofs.gather.Tie as tie
 
 abbrev Inv-loop : tie.InvT-loop
-Inv-loop words set r₀ rest₀ r rest = ((A : ℕ) → In rest A → In set A) × Gathers words (Done set rest) r
+Inv-loop words set r₀ rest₀ r rest =
+    ((A : ℕ) → In rest A → In set A) × Gathers words (Done set rest) r
 
 abbrev μ-loop : tie.MeasureT-loop
 μ-loop words set r₀ rest₀ r rest = rest
@@ -29,16 +30,19 @@ mul-r : tie.Need-mul-r Inv-loop μ-loop
 mul-r c = search needs
 
 shared-slice-read-r : tie.Need-shared-slice-read-r Inv-loop μ-loop
-shared-slice-read-r c = omega (arith, c .before .lowest .ensures .small, c .before .before .before .before .before .pre)
+shared-slice-read-r c =
+    omega (arith, c .before .lowest .ensures .small, c .before .before .before .before .before .pre)
 
 sub-rest : tie.Need-sub-rest Inv-loop μ-loop
 sub-rest c = omega (arith, c .before .before .loop-test .taken)
 
 loop-less : tie.Need-loop-less Inv-loop μ-loop
-loop-less c = let l = c .before .before .before .loop in let h : 0 < l .rest = omega (arith, c .before .before .loop-test .taken) in rest-less (l .rest) h
+loop-less c = let l = c .before .before .before .loop in let h : 0 < l .rest =
+    omega (arith, c .before .before .loop-test .taken) in rest-less (l .rest) h
 
 loop-again : tie.Need-loop-again Inv-loop μ-loop
-loop-again c = let l = c .before .before .before .loop in let m = c .before .lowest .ensures in (λ A i. l .inv .0 A (m .others A .0 i .0), gathers-next _ refl (l .inv .0) m (l .inv .1))
+loop-again c = let l = c .before .before .before .loop in let m = c .before .lowest .ensures in
+    (λ A i. l .inv .0 A (m .others A .0 i .0), gathers-next _ refl (l .inv .0) m (l .inv .1))
 
 returns : tie.Need-returns Inv-loop μ-loop
 returns c = gathers-end (c .loop-test .left) (c .before .loop .inv .1)

@@ -53,9 +53,19 @@ same-length c = search needs
 
 returns : tie.Need-returns
 returns c =
-    let z = c .before .before .before .before .before .before .before .before .before .before .before .before .before .before .before .before .before .before .before .before .before .before .before .before .before in
+    let z = c .before .before .before .before .before .before .before .before .before .before
+    .before .before .before .before .before .before .before .before .before .before .before
+    .before .before .before .before in
     let a = z .args in
-    level-done (a .g) (z .pre .1) (a .e) (a .l) (c .before .before .before .before .before .before .before .before .before .before .before .before .before .before .before .before .before .before .before .before .before .before .selves .ensures) (c .before .before .before .before .before .before .before .before .before .before .before .before .before .before .before .before .before .counts .ensures) (c .before .before .before .before .before .before .before .before .before .before .before .before .before .close .ensures) (c .before .before .before .before .before .before .before .before .counts2 .ensures) (c .before .before .turn .ensures)
+    level-done (a .g) (z .pre .1) (a .e) (a .l)
+    (c .before .before .before .before .before .before .before .before .before .before .before
+    .before .before .before .before .before .before .before .before .before .before .before
+    .selves .ensures) (c .before .before .before .before .before .before .before .before
+    .before .before .before .before .before .before .before .before .before .counts
+    .ensures) (c .before .before .before .before .before .before .before .before
+    .before .before .before .before .before .close .ensures)
+    (c .before .before .before .before .before .before .before .before
+    .counts2 .ensures) (c .before .before .turn .ensures)
 
 pub level-spec : {M : Type 1} → statement M
 level-spec =

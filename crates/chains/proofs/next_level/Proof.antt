@@ -36,9 +36,14 @@ returns-2 c =
     let a = z .args in
     let g = rules (a .g) in
     let v = c .before .before .copy-level in
-    let d : a .l - 1 + 1 ≡ a .l = omega (arith, c .before .before .before .before .before .before .if1 .left) in
+    let d : a .l - 1 + 1 ≡ a .l =
+    omega (arith, c .before .before .before .before .before .before .if1 .left) in
     subst (λ (x : ℕ). Upto g (a .e) (v .last .0) (x + 1)) d
-    (upto-copied g (a .e) (a .l - 1) (subst (λ (x : ℕ). Unranked x g (length g)) (sym d) (subst (Unranked (a .l) g) (sym (z .pre .1 .0 .whole)) (c .before .before .before .before .before .unranked .ensures (c .before .before .before .before .if2 .taken))))
+    (upto-copied g (a .e) (a .l - 1)
+    (subst (λ (x : ℕ). Unranked x g (length g)) (sym d)
+    (subst (Unranked (a .l) g) (sym (z .pre .1 .0 .whole))
+    (c .before .before .before .before .before .unranked .ensures
+    (c .before .before .before .before .if2 .taken))))
     (subst (Upto g (a .e) (a .table .now)) (sym d) (z .pre .1 .1)) (v .ensures))
 
 put-level-requires-2 : tie.Need-put-level-requires-2

@@ -23,7 +23,9 @@ returns : tie.Need-returns
 returns c =
     let z = c .before .before .before .before .before .before .before .before .before in
     let a = z .args in
-    upto-stored (rules (a .g)) (a .e) (a .l) (c .before .before .before .before .before .before .level .ensures) (z .pre .1 .1) (c .before .before .store .ensures)
+    upto-stored (rules (a .g)) (a .e) (a .l)
+    (c .before .before .before .before .before .before .level .ensures) (z .pre .1 .1)
+    (c .before .before .store .ensures)
 
 pub put-level-spec : {M : Type 1} → statement M
 put-level-spec =

@@ -26,7 +26,8 @@ mul-words : tie.Need-mul-words Inv-loop μ-loop
 mul-words c = search needs
 
 slice-write-words : tie.Need-slice-write-words Inv-loop μ-loop
-slice-write-words c = omega (arith, c .before .loop-test .taken, c .before .before .loop .inv .1 .size)
+slice-write-words c =
+    omega (arith, c .before .loop-test .taken, c .before .before .loop .inv .1 .size)
 
 add-a : tie.Need-add-a Inv-loop μ-loop
 add-a c = search needs
@@ -35,13 +36,16 @@ loop-less : tie.Need-loop-less Inv-loop μ-loop
 loop-less c = omega (arith, c .before .loop-test .taken)
 
 loop-again : tie.Need-loop-again Inv-loop μ-loop
-loop-again c = let l = c .before .before .loop in let h : l .a < 64 = c .before .loop-test .taken in (omega arith, selves-more _ (c .with .ensures) h (l .inv .1))
+loop-again c = let l = c .before .before .loop in let h : l .a < 64 = c .before .loop-test .taken in
+    (omega arith, selves-more _ (c .with .ensures) h (l .inv .1))
 
 same-length : tie.Need-same-length Inv-loop μ-loop
 same-length c = c .before .loop .inv .1 .size ∙ sym (c .before .before .before .pre)
 
 returns : tie.Need-returns Inv-loop μ-loop
-returns c = let l = c .before .loop in subst (λ (x : ℕ). Selves x (l .words)) (let z : l .a ≡ 64 = omega (arith, l .inv .0, c .loop-test .left) in z) (l .inv .1)
+returns c = let l = c .before .loop in
+    subst (λ (x : ℕ). Selves x (l .words))
+    (let z : l .a ≡ 64 = omega (arith, l .inv .0, c .loop-test .left) in z) (l .inv .1)
 
 pub selves-spec : {M : Type 1} → statement M
 selves-spec =

@@ -20,7 +20,8 @@ mul-table : tie.Need-mul-table Inv-loop μ-loop
 mul-table c = search needs
 
 shared-slice-read-table : tie.Need-shared-slice-read-table Inv-loop μ-loop
-shared-slice-read-table c = omega (arith, c .before .before .before .pre .2, c .before .loop-test .taken)
+shared-slice-read-table c =
+    omega (arith, c .before .before .before .pre .2, c .before .loop-test .taken)
 
 mul-table-2 : tie.Need-mul-table-2 Inv-loop μ-loop
 mul-table-2 c = search needs
@@ -32,7 +33,15 @@ mul-table-3 : tie.Need-mul-table-3 Inv-loop μ-loop
 mul-table-3 c = search needs
 
 slice-write-table : tie.Need-slice-write-table Inv-loop μ-loop
-slice-write-table c = let z = c .before .before .before in omega (arith, z .pre .0, z .pre .1, c .before .before .loop .inv .1 .size, c .before .loop-test .taken)
+slice-write-table c = let z = c .before .before .before in
+    omega (
+      arith,
+      z .pre .0,
+      z .pre .1,
+      c .before .before .loop .inv .1 .size,
+      c .before .loop-test
+          .taken,
+    )
 
 add-i : tie.Need-add-i Inv-loop μ-loop
 add-i c = search needs
@@ -44,8 +53,11 @@ loop-again : tie.Need-loop-again Inv-loop μ-loop
 loop-again c =
     let l = c .before .before .loop in
     let z = c .before .before .before in
-    let h : l .i < 128 = c .before .loop-test .taken in
-    (omega arith, stored-more _ refl (omega (arith, z .pre .0, z .pre .1, l .inv .1 .size)) (l .inv .1))
+    let h : l .i < 128 = c .before .loop-test .taken in (
+      omega arith,
+      stored-more _ refl (omega (arith, z .pre .0, z .pre .1, l .inv .1 .size))
+          (l .inv .1),
+    )
 
 same-length : tie.Need-same-length Inv-loop μ-loop
 same-length c = c .before .loop .inv .1 .size
@@ -54,7 +66,8 @@ returns : tie.Need-returns Inv-loop μ-loop
 returns c =
     let l = c .before .loop in
     let a = c .before .before .args in
-    subst (Stored (a .ups .now) (a .table .now) (l .table) (a .l)) (let z : l .i ≡ 128 = omega (arith, l .inv .0, c .loop-test .left) in z) (l .inv .1)
+    subst (Stored (a .ups .now) (a .table .now) (l .table) (a .l))
+    (let z : l .i ≡ 128 = omega (arith, l .inv .0, c .loop-test .left) in z) (l .inv .1)
 
 pub store-spec : {M : Type 1} → statement M
 store-spec =

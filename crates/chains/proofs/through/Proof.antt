@@ -29,7 +29,12 @@ loop-holds : tie.Need-loop-holds Inv-loop μ-loop
 loop-holds c = (omega arith, through-none _ _)
 
 add-if-requires : tie.Need-add-if-requires Inv-loop μ-loop
-add-if-requires c κs = let z = c .before .before .before .before .before .before .before in (c .before .loop-test .taken, z .pre .0, c .before .before .loop .inv .1 .joins .long ∙ z .pre .1)
+add-if-requires c κs = let z = c .before .before .before .before .before .before .before in (
+  c .before .loop-test .taken,
+  z .pre .0,
+  c .before .before .loop .inv .1 .joins .long
+      ∙ z .pre .1,
+)
 
 add-a : tie.Need-add-a Inv-loop μ-loop
 add-a c = search needs
@@ -38,13 +43,18 @@ loop-less : tie.Need-loop-less Inv-loop μ-loop
 loop-less c = omega (arith, c .before .before .before .before .loop-test .taken)
 
 loop-again : tie.Need-loop-again Inv-loop μ-loop
-loop-again c = let l = c .before .before .before .before .before .loop in let h : l .a < 64 = c .before .before .before .before .loop-test .taken in (omega arith, through-more refl (l .inv .1) (c .before .before .add-if .ensures))
+loop-again c = let l = c .before .before .before .before .before .loop in
+    let h : l .a < 64 = c .before .before .before .before .loop-test .taken in
+    (omega arith, through-more refl (l .inv .1) (c .before .before .add-if .ensures))
 
 same-length : tie.Need-same-length Inv-loop μ-loop
 same-length c = c .before .loop .inv .1 .joins .long
 
 returns-2 : tie.Need-returns-2 Inv-loop μ-loop
-returns-2 c = let l = c .before .loop in let a = c .before .before .before .before .before .before .args in subst (λ (x : ℕ). Through (a .k) (a .words .now) x (l .words)) (let z : l .a ≡ 64 = omega (arith, l .inv .0, c .loop-test .left) in z) (l .inv .1)
+returns-2 c = let l = c .before .loop in
+    let a = c .before .before .before .before .before .before .args in
+    subst (λ (x : ℕ). Through (a .k) (a .words .now) x (l .words))
+    (let z : l .a ≡ 64 = omega (arith, l .inv .0, c .loop-test .left) in z) (l .inv .1)
 
 pub through-spec : {M : Type 1} → statement M
 through-spec =

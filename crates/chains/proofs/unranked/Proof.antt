@@ -13,7 +13,8 @@ use Rattle.chains.specs.Chains.{Ranked, Unranked}
 use Rattle.chains.proofs.unranked.Statement.{statement}
 use Rattle.chains.proofs.unranked.Tie as tie
 
-more : (l : ℕ) (g : Rules) (i : ℕ) → (Ranked l (rule g i .clause) → ⊥) → Unranked l g i → Unranked l g (i + 1)
+more : (l : ℕ) (g : Rules) (i : ℕ) → (Ranked l (rule g i .clause) → ⊥) → Unranked l g i
+    → Unranked l g (i + 1)
 more l g i w u = record { none = λ j h x. go j h x (ℕ-discrete j i) }
   where
     go : (j : ℕ) → j < i + 1 → Ranked l (rule g j .clause) → Dec (j ≡ i) → ⊥
@@ -54,14 +55,19 @@ loop-again c =
     let l = r .before .before .before .loop in
     let w = z .args .t1 in
     let h : l .i < w .count = r .before .before .loop-test .taken in
-    let e = sym (getD-take (w .count) (w .rules) (l .i) no-rule h) in
-    (omega arith, more (z .args .l) (rules w) (l .i) (λ x. r .ranked .ensures .isnt (c .if1 .left) (subst (λ (y : Rule). Ranked (z .args .l) (y .clause)) (sym e) x)) (l .inv .1))
+    let e = sym (getD-take (w .count) (w .rules) (l .i) no-rule h) in (
+      omega arith,
+      more (z .args .l) (rules w) (l .i)
+          (λ x. r .ranked .ensures .isnt (c .if1 .left)
+          (subst (λ (y : Rule). Ranked (z .args .l) (y .clause)) (sym e) x)) (l .inv .1),
+    )
 
 returns-2 : tie.Need-returns-2 Inv-loop μ-loop
 returns-2 c = let l = c .before .loop in
     let a = c .before .before .args in
     let w = a .t1 in
-    λ q. subst (Unranked (a .l) (rules w)) (let z : l .i ≡ w .count = omega (arith, l .inv .0, c .loop-test .left) in z) (l .inv .1)
+    λ q. subst (Unranked (a .l) (rules w))
+    (let z : l .i ≡ w .count = omega (arith, l .inv .0, c .loop-test .left) in z) (l .inv .1)
 
 pub unranked-spec : {M : Type 1} → statement M
 unranked-spec =

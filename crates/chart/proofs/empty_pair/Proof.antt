@@ -24,8 +24,10 @@ returns c =
     let m = l .before .first-marks .ensures in
     let z = l .before .before .before in
     let g = decoded (z .args .codes .now) in
-    empty-found (z .pre) (subst (λ (k : SpanMarks). Leaves k 0 g (length g) (l .leaves .result)) m (l .leaves .ensures))
-    (subst (λ (k : SpanMarks). Saturated 0 0 k 0 g (l .leaves .result) (c .saturate .result)) m (c .saturate .ensures))
+    empty-found (z .pre) (subst (λ (k : SpanMarks). Leaves k 0 g (length g) (l .leaves .result)) m
+    (l .leaves .ensures))
+    (subst (λ (k : SpanMarks). Saturated 0 0 k 0 g (l .leaves .result) (c .saturate .result)) m
+    (c .saturate .ensures))
 
 pub empty-pair-spec : {M : Type 1} → statement M
 empty-pair-spec =

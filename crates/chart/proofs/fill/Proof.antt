@@ -1,4 +1,5 @@
--- The loop's invariant: the spans that begin at `start` or past it are settled. Once all are, the sheet is exact where it is known and covers the rest.
+-- The loop's invariant: the spans that begin at `start` or past it are settled. Once all are, the
+-- sheet is exact where it is known and covers the rest.
 use mathlib.Core.Path.{_≡_, subst}
 use Prim.Native.Nat.{ℕ, _+_, _-_, _≤_}
 use native.Mathlib.Omega.{arith}
@@ -14,7 +15,8 @@ use Rattle.chart.proofs.fill.Statement.{statement}
 use Rattle.chart.proofs.fill.Tie as tie
 
 abbrev Inv-loop : tie.InvT-loop
-Inv-loop words₀ d codes from to start₀ words start = (start ≤ d .count) × Grown words₀ words (decoded codes) (half d) (d .count) from start
+Inv-loop words₀ d codes from to start₀ words start =
+    (start ≤ d .count) × Grown words₀ words (decoded codes) (half d) (d .count) from start
 
 abbrev μ-loop : tie.MeasureT-loop
 μ-loop words₀ d codes from to start₀ words start = start
@@ -22,15 +24,28 @@ abbrev μ-loop : tie.MeasureT-loop
 -- the array of tokens has 64 places
 whole : (c : tie.Start Inv-loop μ-loop) → Whole (c .args .d)
 whole c =
-    record { few = c .pre .0 .0; long = drafted-length (c .args .d) (simp length-map at (c .good .1 .0 .1 .1 .0 .1 .0 .1)) (c .pre .0 .0); inner = c .pre .0 .1 }
+    record {
+      few = c .pre .0 .0;
+      long = drafted-length (c .args .d)
+          (simp length-map at (c .good .1 .0 .1 .1 .0 .1 .0 .1)) (c .pre .0 .0);
+      inner =
+          c .pre .0 .1;
+    }
 
 loop-holds : tie.Need-loop-holds Inv-loop μ-loop
 loop-holds c =
     let z = c .before .before in
     let a = z .args in
     let w = whole z in
-    let r = z .pre .1 .1 .1 in
-    (r .within, record { filled = begun (a .words .now) (decoded (a .codes .now)) (half (a .d)) (a .d .count) (a .from) (a .to) (z .pre .1 .1 .0) (omega (arith, w .long, w .inner)) r; given = given-same _ _; past = past-same _ _ })
+    let r = z .pre .1 .1 .1 in (
+      r .within,
+      record {
+        filled = begun (a .words .now) (decoded (a .codes .now)) (half (a .d))
+            (a .d .count) (a .from) (a .to) (z .pre .1 .1 .0) (omega (arith, w .long, w .inner)) r;
+        given = given-same _ _;
+        past = past-same _ _;
+      },
+    )
 
 sub-start : tie.Need-sub-start Inv-loop μ-loop
 sub-start c = omega (arith, c .loop-test .taken)
@@ -47,7 +62,8 @@ fill-start-requires c κs =
         omega (arith, l .inv .1 .past .long, z .pre .1 .0),
         (
           z .pre .1 .1 .0,
-          subst (λ (s : ℕ). Filled (l .words) (decoded (a .codes .now)) (half (a .d)) (a .d .count) (a .from) s (a .d .count + 1)) e (l .inv .1 .filled),
+          subst (λ (s : ℕ). Filled (l .words) (decoded (a .codes .now)) (half (a .d)) (a .d .count)
+              (a .from) s (a .d .count + 1)) e (l .inv .1 .filled),
         ),
       ),
     )
@@ -58,8 +74,14 @@ loop-less c = omega (arith, c .before .before .before .before .loop-test .taken)
 loop-again : tie.Need-loop-again Inv-loop μ-loop
 loop-again c =
     let l = c .before .before .before .before .before .loop .inv in
-    let f = c .before .before .fill-start .ensures in
-    (omega (arith, l .0), record { filled = f .filled; given = given-then (l .1 .given) (f .given); past = past-then (l .1 .past) (f .past) })
+    let f = c .before .before .fill-start .ensures in (
+      omega (arith, l .0),
+      record {
+        filled = f .filled;
+        given = given-then (l .1 .given) (f .given);
+        past = past-then (l .1 .past) (f .past);
+      },
+    )
 
 same-length : tie.Need-same-length Inv-loop μ-loop
 same-length c = c .before .loop .inv .1 .past .long
@@ -71,8 +93,10 @@ returns c =
     let l = c .before .loop in
     let w = whole z in
     let e : l .start ≡ 0 = omega (arith, c .loop-test .left) in
-    charted (a .words .now) (l .words) (decoded (a .codes .now)) (half (a .d)) (a .d .count) (w .long) (w .inner) (a .from)
-    (subst (Grown (a .words .now) (l .words) (decoded (a .codes .now)) (half (a .d)) (a .d .count) (a .from)) e (l .inv .1))
+    charted (a .words .now) (l .words) (decoded (a .codes .now)) (half (a .d)) (a .d .count)
+    (w .long) (w .inner) (a .from)
+    (subst (Grown (a .words .now) (l .words) (decoded (a .codes .now)) (half (a .d)) (a .d .count)
+    (a .from)) e (l .inv .1))
 
 pub fill-spec : {M : Type 1} → statement M
 fill-spec =

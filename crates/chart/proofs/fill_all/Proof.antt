@@ -16,8 +16,10 @@ fill-leaves-requires c κs = search needs
 fill-requires : tie.Need-fill-requires
 fill-requires c κs =
     let z = c .before .before .before .before .before .before .before in
-    let b = c .before .before .before .fill-leaves .ensures in
-    ((z .pre .0 .0, omega (arith, z .pre .0 .1)), (omega (arith, z .pre .1 .0, b .past .long), (z .pre .1 .1, begun-ready (z .pre .0 .1) b)))
+    let b = c .before .before .before .fill-leaves .ensures in (
+      (z .pre .0 .0, omega (arith, z .pre .0 .1)),
+      (omega (arith, z .pre .1 .0, b .past .long), (z .pre .1 .1, begun-ready (z .pre .0 .1) b)),
+    )
 
 same-length : tie.Need-same-length
 same-length c = search needs
@@ -27,8 +29,12 @@ returns c =
     let b = c .before .before .before .before .before .before in
     let z = b .before .before .before .before in
     let f = c .before .before .fill in
-    let d = z .args .d in
-    (subst (Exact (decoded (z .args .codes .now)) (drafted d) (d .count) (f .last .0)) (z .pre .0 .1) (f .ensures .exact), past-then (b .fill-leaves .ensures .past) (f .ensures .past))
+    let d = z .args .d in (
+      subst (Exact (decoded (z .args .codes .now)) (drafted d) (d .count) (f .last .0))
+          (z .pre .0 .1) (f .ensures .exact),
+      past-then (b .fill-leaves .ensures .past)
+          (f .ensures .past),
+    )
 
 pub fill-all-spec : {M : Type 1} → statement M
 fill-all-spec = tie.close (tie.spec fill-leaves-requires fill-requires same-length returns)

@@ -1,4 +1,5 @@
--- The loop's invariant: the marks are those of the tokens passed, and the spans that begin at `start` are settled up to them.
+-- The loop's invariant: the marks are those of the tokens passed, and the spans that begin at
+-- `start` are settled up to them.
 use borrow.Author.Needs.{needs}
 use mathlib.Core.Path.{sym, ap, subst}
 use Prim.Native.Nat.{_+_, _-_, _*_, _≤_, _<_}
@@ -14,13 +15,16 @@ use Rattle.spans.specs.Changes.{Past}
 use Rattle.spans.proofs.ChangeLaws.{past-same, past-then, kept-past}
 use Rattle.chart.specs.Filling.{Given, Filled}
 use Rattle.chart.proofs.FillLaws.{joined, given-same, given-then, given-kept}
-use Rattle.chart.proofs.SheetLaws.{filled-next, filled-pass, filled-end, filled-ground, filled-on}
+use Rattle.chart.proofs.SheetLaws.{filled-next, filled-pass, filled-end, filled-ground}
+use Rattle.chart.proofs.SheetLaws.{filled-on}
 use Rattle.chart.proofs.fill_start.Statement.{statement}
 use Rattle.chart.proofs.fill_start.Tie as tie
 
 abbrev Inv-loop : tie.InvT-loop
 Inv-loop words₀ codes from start d n known a k₀ len₀ words k len =
-    (0 < len) × (start + len ≤ d .count) × Carried (half d) start len k × Past (2 * pairs (d .count)) words₀ words × Given words₀ words (d .count) × Filled words (decoded codes) (half d) (d .count) from start (len + 1)
+    (0 < len) × (start + len ≤ d .count) × Carried (half d) start len k
+    × Past (2 * pairs (d .count)) words₀ words × Given words₀ words (d .count)
+    × Filled words (decoded codes) (half d) (d .count) from start (len + 1)
 
 abbrev μ-loop : tie.MeasureT-loop
 μ-loop words₀ codes from start d n known a k₀ len₀ words k len = d .count - len
@@ -40,7 +44,11 @@ loop-holds c =
     let a = z .args in (
       omega arith,
       omega (arith, z .pre .0 .1),
-      subst (Carried (half (a .t2)) (a .start) 1) (sym (c .first-marks .ensures)) (carried-first _ _ _ _ (ap (λ (t : Token). t .terminal) (sym (drafted-at (a .t2) (a .start) (omega (arith, z .pre .0 .1))))) (ap (λ (t : Token). t .column .0) (sym (drafted-at (a .t2) (a .start) (omega (arith, z .pre .0 .1)))))),
+      subst (Carried (half (a .t2)) (a .start) 1) (sym (c .first-marks .ensures))
+          (carried-first _ _ _ _ (ap (λ (t : Token). t .terminal)
+          (sym (drafted-at (a .t2) (a .start) (omega (arith, z .pre .0 .1)))))
+          (ap (λ (t : Token). t .column .0)
+          (sym (drafted-at (a .t2) (a .start) (omega (arith, z .pre .0 .1)))))),
       past-same _ _,
       given-same _ _,
       filled-next _ _ _ _ _ _ (z .pre .1 .1 .1),
@@ -76,11 +84,14 @@ add-len c = search needs
 -- the marks with the next token
 marks : (c : tie.After-with-next Inv-loop μ-loop) →
     let a = c .before .before .before .before .before .before .before .before .before .args in
-    Carried (half (a .t2)) (a .start) (c .before .before .before .before .loop .len + 1) (c .with-next .result)
+    Carried (half (a .t2)) (a .start) (c .before .before .before .before .loop .len + 1)
+    (c .with-next .result)
 marks c =
     let a = c .before .before .before .before .before .before .before .before .before .args in
     let l = c .before .before .before .before .loop in
-    carried-more _ _ _ _ _ (l .inv .0) (l .inv .2) (next-joined (a .t2) _ _ _ _ (c .before .before .before .loop-test .taken) (c .with-next .ensures))
+    carried-more _ _ _ _ _ (l .inv .0) (l .inv .2)
+    (next-joined (a .t2) _ _ _ _ (c .before .before .before .loop-test .taken)
+    (c .with-next .ensures))
 
 add-if1 : tie.Need-add-if1 Inv-loop μ-loop
 add-if1 c = search needs
@@ -91,15 +102,28 @@ loop-less c = search needs
 loop-again : tie.Need-loop-again Inv-loop μ-loop
 loop-again c =
     let m = c .before in
-    let l = m .before .before .before .before .loop .inv in
-    (omega arith, omega (arith, m .before .before .before .loop-test .taken), marks m, l .3, l .4, filled-pass _ _ _ _ _ _ _ (omega (arith, c .if1 .taken)) (l .5))
+    let l = m .before .before .before .before .loop .inv in (
+      omega arith,
+      omega (arith, m .before .before .before .loop-test .taken),
+      marks m,
+      l .3,
+      l .4,
+      filled-pass _ _ _ _ _ _ _ (omega (arith, c .if1 .taken)) (l .5),
+    )
 
 close-requires : tie.Need-close-requires Inv-loop μ-loop
 close-requires c κs =
     let i = c .before .before .before .before .before in
     let z = i .before .before .before .before .before .before in
-    let l = i .before .loop .inv in
-    (record { few = z .pre .0 .0 .few; fits = omega (arith, i .loop-test .taken); enough = omega (arith, l .3 .long, z .pre .1 .0) }, omega (arith, l .0))
+    let l = i .before .loop .inv in (
+      record {
+        few = z .pre .0 .0 .few;
+        fits = omega (arith, i .loop-test .taken);
+        enough =
+            omega (arith, l .3 .long, z .pre .1 .0);
+      },
+      omega (arith, l .0),
+    )
 
 loop-less-2 : tie.Need-loop-less-2 Inv-loop μ-loop
 loop-less-2 c = search needs
@@ -120,12 +144,17 @@ loop-again-2 c =
     let fit : a .start + len ≤ n = omega (arith, i .loop-test .taken) in
     let long : 2 ≤ len = omega (arith, l .0) in
     let far : a .from < a .start + len = omega (arith, k .before .before .if1 .left) in
-    let j = joined (b .words) (k .close .last .0) g h n (a .start) len (m .with-next .result) (z .pre .1 .1 .0) (omega (arith, z .pre .0 .0 .long, z .pre .0 .0 .inner)) fit long (carried-all _ _ _ _ (marks m)) (filled-ground (b .words) g h n (a .from) (a .start) len fit (l .5)) (k .close .ensures) in (
+    let j = joined (b .words) (k .close .last .0) g h n (a .start) len (m .with-next .result)
+    (z .pre .1 .1 .0) (omega (arith, z .pre .0 .0 .long, z .pre .0 .0 .inner)) fit long
+    (carried-all _ _ _ _ (marks m))
+    (filled-ground (b .words) g h n (a .from) (a .start) len fit (l .5))
+    (k .close .ensures) in (
       omega arith,
       fit,
       marks m,
       past-then (l .3) (kept-past n (a .start) len fit (j .kept)),
-      given-then (l .4) (given-kept (b .words) (k .close .last .0) n (a .start) len fit long (j .kept)),
+      given-then (l .4) (given-kept (b .words) (k .close .last .0) n (a .start) len fit long
+          (j .kept)),
       filled-on (b .words) (k .close .last .0) g h n (a .from) (a .start) len long fit far (l .5) j,
     )
 
@@ -135,7 +164,12 @@ same-length c = c .before .loop .inv .3 .long
 returns : tie.Need-returns Inv-loop μ-loop
 returns c =
     let l = c .before .loop .inv in
-    record { filled = filled-end _ _ _ _ _ _ _ (omega (arith, c .loop-test .left)) (l .5); given = l .4; past = l .3 }
+    record {
+      filled = filled-end _ _ _ _ _ _ _ (omega (arith, c .loop-test .left)) (l .5);
+      given =
+          l .4;
+      past = l .3;
+    }
 
 pub fill-start-spec : {M : Type 1} → statement M
 fill-start-spec =

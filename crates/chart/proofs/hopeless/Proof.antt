@@ -10,7 +10,8 @@ use Rattle.chart.proofs.hopeless.Tie as tie
 
 -- the array of tokens has 64 places
 whole : (c : tie.Start) → length (drafted (c .args .d)) ≡ c .args .d .count
-whole c = drafted-length (c .args .d) (simp length-map at (c .good .1 .0 .1 .1 .0 .1 .0 .1)) (c .pre .0 .0)
+whole c = drafted-length (c .args .d) (simp length-map at (c .good .1 .0 .1 .1 .0 .1 .0 .1))
+    (c .pre .0 .0)
 
 fill-requires : tie.Need-fill-requires
 fill-requires c κs = search needs
@@ -22,7 +23,8 @@ same-length : tie.Need-same-length
 same-length c = search needs
 
 returns : tie.Need-returns
-returns c = settles (whole (c .before .before .before .before .before .before .before .before)) (c .before .before .before .before .fill .ensures) (c .in-second .ensures)
+returns c = settles (whole (c .before .before .before .before .before .before .before .before))
+    (c .before .before .before .before .fill .ensures) (c .in-second .ensures)
 
 pub hopeless-spec : {M : Type 1} → statement M
 hopeless-spec = tie.close (tie.spec fill-requires in-second-requires same-length returns)

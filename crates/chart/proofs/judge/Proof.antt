@@ -13,7 +13,8 @@ use Rattle.grammar.specs.Sentences.{spelled}
 -- the array of tokens has 64 places
 whole : (c : tie.Start) → length (spelled (c .args .s)) ≡ c .args .s .count
 whole c =
-    let long : length (c .args .s .tokens) ≡ 64 = simp length-map at (c .good .1 .0 .1 .1 .0 .1 .0 .1) in
+    let long : length (c .args .s .tokens) ≡ 64 =
+    simp length-map at (c .good .1 .0 .1 .1 .0 .1 .0 .1) in
     length-take-le (c .args .s .count) (c .args .s .tokens) (omega (arith, c .pre .0))
 
 ordered-requires : tie.Need-ordered-requires
@@ -27,8 +28,14 @@ slice-aggregate-fill-all c = sym (c .before .before .ordered .ensures .1)
 
 fill-all-requires : tie.Need-fill-all-requires
 fill-all-requires c κs =
-    let z = c .before .before .before .before .before in
-    ((z .pre .0, refl), (z .pre .1 .0, c .before .before .ordered .ensures .0 .distinct (z .pre .1 .1 .distinct)))
+    let z = c .before .before .before .before .before in (
+      (z .pre .0, refl),
+      (
+        z .pre .1 .0,
+        c .before .before .ordered .ensures .0 .distinct
+            (z .pre .1 .1 .distinct),
+      ),
+    )
 
 in-first-requires : tie.Need-in-first-requires
 in-first-requires c κs = search needs
@@ -38,10 +45,14 @@ same-length c = search needs
 
 returns : tie.Need-returns
 returns c =
-    let z = c .before .before .before .before .before .before .before .before .before .before .before in
+    let z = c .before .before .before .before .before .before .before .before .before .before
+    .before in
     let e = whole z in
     let f = c .before .before .before .before .before in
-    judged-over (f .before .before .before .ordered .ensures .0) (judged e (z .pre .1 .0) (f .fill-all .ensures .0) (f .fill-all .ensures .1) (reads-none e (f .fill-all .ensures .0) (c .before .in-first .ensures .isnt (not-true _ (c .if1 .taken)))))
+    judged-over (f .before .before .before .ordered .ensures .0)
+    (judged e (z .pre .1 .0) (f .fill-all .ensures .0) (f .fill-all .ensures .1)
+    (reads-none e (f .fill-all .ensures .0)
+    (c .before .in-first .ensures .isnt (not-true _ (c .if1 .taken)))))
 
 in-second-requires : tie.Need-in-second-requires
 in-second-requires c κs = search needs
@@ -51,21 +62,30 @@ same-length-2 c = search needs
 
 returns-2 : tie.Need-returns-2
 returns-2 c =
-    let z = c .before .before .before .before .before .before .before .before .before .before .before .before .before .before in
+    let z = c .before .before .before .before .before .before .before .before .before .before
+    .before .before .before .before in
     let e = whole z in
     let f = c .before .before .before .before .before .before .before .before in
-    judged-over (f .before .before .before .ordered .ensures .0) (judged e (z .pre .1 .0) (f .fill-all .ensures .0) (f .fill-all .ensures .1) (reads-two e (f .fill-all .ensures .0) (c .before .in-second .ensures .is (c .if2 .taken))))
+    judged-over (f .before .before .before .ordered .ensures .0)
+    (judged e (z .pre .1 .0) (f .fill-all .ensures .0) (f .fill-all .ensures .1)
+    (reads-two e (f .fill-all .ensures .0)
+    (c .before .in-second .ensures .is (c .if2 .taken))))
 
 same-length-3 : tie.Need-same-length-3
 same-length-3 c = search needs
 
 returns-3 : tie.Need-returns-3
 returns-3 c =
-    let z = c .before .before .before .before .before .before .before .before .before .before .before .before .before .before in
+    let z = c .before .before .before .before .before .before .before .before .before .before
+    .before .before .before .before in
     let e = whole z in
     let f = c .before .before .before .before .before .before .before .before in
     judged-over (f .before .before .before .ordered .ensures .0)
-    (judged e (z .pre .1 .0) (f .fill-all .ensures .0) (f .fill-all .ensures .1) (reads-one e (f .fill-all .ensures .0) (c .before .before .before .before .in-first .ensures .is (not-false _ (c .before .before .before .if1 .left))) (c .before .in-second .ensures .isnt (c .if2 .left))))
+    (judged e (z .pre .1 .0) (f .fill-all .ensures .0) (f .fill-all .ensures .1)
+    (reads-one e (f .fill-all .ensures .0)
+    (c .before .before .before .before .in-first .ensures .is
+    (not-false _ (c .before .before .before .if1 .left)))
+    (c .before .in-second .ensures .isnt (c .if2 .left))))
 
 pub judge-spec : {M : Type 1} → statement M
 judge-spec =

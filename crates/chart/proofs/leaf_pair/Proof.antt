@@ -25,8 +25,10 @@ returns c =
     let z = l .before .before .before in
     let a = z .args in
     let g = decoded (a .codes .now) in
-    leaf-found (z .pre .0) (z .pre .1) (subst (λ (k : SpanMarks). Leaves k 1 g (length g) (l .leaves .result)) m (l .leaves .ensures))
-    (subst (λ (k : SpanMarks). Saturated (a .one) (a .two) k 1 g (l .leaves .result) (c .saturate .result)) m (c .saturate .ensures))
+    leaf-found (z .pre .0) (z .pre .1)
+    (subst (λ (k : SpanMarks). Leaves k 1 g (length g) (l .leaves .result)) m
+    (l .leaves .ensures)) (subst (λ (k : SpanMarks). Saturated (a .one) (a .two) k 1 g
+    (l .leaves .result) (c .saturate .result)) m (c .saturate .ensures))
 
 pub leaf-pair-spec : {M : Type 1} → statement M
 leaf-pair-spec =

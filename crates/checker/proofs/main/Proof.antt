@@ -23,12 +23,14 @@ returns : tie.Need-returns
 returns c = search needs
 
 array-share-prefix-space : tie.Need-array-share-prefix-space
-array-share-prefix-space c = within (c .before .read .given .1) (c .before .before .before .before .read-input .ensures)
+array-share-prefix-space c =
+    within (c .before .read .given .1) (c .before .before .before .before .read-input .ensures)
 
 slice-aggregate-check-text : tie.Need-slice-aggregate-check-text
 slice-aggregate-check-text c =
     let taken = c .before .before in
-    sym (length-take-le _ _ (within (taken .read .given .1) (taken .before .before .before .read-input .ensures)))
+    sym (length-take-le _ _ (within (taken .read .given .1)
+    (taken .before .before .before .read-input .ensures)))
 
 check-text-requires : tie.Need-check-text-requires
 check-text-requires c κs = search needs
@@ -37,7 +39,8 @@ array-share-prefix-out : tie.Need-array-share-prefix-out
 array-share-prefix-out c = printed-within (c .check-text .ensures)
 
 slice-aggregate-write-output : tie.Need-slice-aggregate-write-output
-slice-aggregate-write-output c = sym (length-take-le _ _ (printed-within (c .before .check-text .ensures)))
+slice-aggregate-write-output c =
+    sym (length-take-le _ _ (printed-within (c .before .check-text .ensures)))
 
 write-output-requires : tie.Need-write-output-requires
 write-output-requires c κs = search needs

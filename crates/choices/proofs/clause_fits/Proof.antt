@@ -25,22 +25,33 @@ enum-known-c-2 : tie.Need-enum-known-c-2
 enum-known-c-2 c = search needs
 
 fits-unary-requires : tie.Need-fits-unary-requires
-fits-unary-requires c κs = (c .before .before .before .before .pre .0, subst SmallClause (c .before .c2 .given .1) (c .before .before .before .before .pre .1))
+fits-unary-requires c κs = (
+  c .before .before .before .before .pre .0,
+  subst SmallClause
+      (c .before .c2 .given .1) (c .before .before .before .before .pre .1),
+)
 
 enum-known-c-3 : tie.Need-enum-known-c-3
 enum-known-c-3 c = search needs
 
 fits-binary-requires : tie.Need-fits-binary-requires
-fits-binary-requires c κs = (c .before .before .before .before .pre .0, subst SmallClause (c .before .c3 .given .1) (c .before .before .before .before .pre .1))
+fits-binary-requires c κs = (
+  c .before .before .before .before .pre .0,
+  subst SmallClause
+      (c .before .c3 .given .1) (c .before .before .before .before .pre .1),
+)
 
 returns-3 : tie.Need-returns-3
-returns-3 c = rw (c .before .enum-told .given .1) (says-iff (λ e. (c .if1 .taken, e)) (λ q. q .1) (says-eqb _ _))
+returns-3 c = rw (c .before .enum-told .given .1)
+    (says-iff (λ e. (c .if1 .taken, e)) (λ q. q .1) (says-eqb _ _))
 
 returns-4 : tie.Need-returns-4
 returns-4 c = rw (c .before .enum-told .given .1) (fails (λ q. c .if1 .left (q .0)))
 
 returns-5 : tie.Need-returns-5
-returns-5 c = rw (c .before .before .before .before .c .given .1) (says-iff (λ h. (c .before .before .if2 .left, c .before .if3 .left, h)) (λ q. q .2) (c .allows-atom .ensures))
+returns-5 c = rw (c .before .before .before .before .c .given .1)
+    (says-iff (λ h. (c .before .before .if2 .left, c .before .if3 .left, h)) (λ q. q .2)
+    (c .allows-atom .ensures))
 
 returns-6 : tie.Need-returns-6
 returns-6 c = rw (c .before .before .c2 .given .1) (c .fits-unary .ensures)

@@ -30,7 +30,14 @@ allows-binary-requires c κs = search needs
 returns-4 : tie.Need-returns-4
 returns-4 c =
     let z = c .before .before in
-    says-iff (λ h. (z .before .before .before .if1 .left, z .before .before .in-first .ensures .is (not-false _ (z .before .if2 .left)), z .in-first2 .ensures .is (not-false _ (c .before .if3 .left)), h)) (λ q. q .3) (c .allows-binary .ensures)
+    says-iff (λ h. (
+      z .before .before .before .if1 .left,
+      z .before .before .in-first .ensures .is
+          (not-false _ (z .before .if2 .left)),
+      z .in-first2 .ensures .is
+          (not-false _ (c .before .if3 .left)),
+      h,
+    )) (λ q. q .3) (c .allows-binary .ensures)
 
 pub fits-binary-spec : {M : Type 1} → statement M
 fits-binary-spec =

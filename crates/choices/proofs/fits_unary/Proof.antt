@@ -18,7 +18,13 @@ allows-unary-requires : tie.Need-allows-unary-requires
 allows-unary-requires c κs = search needs
 
 returns-3 : tie.Need-returns-3
-returns-3 c = says-iff (λ h. (c .before .before .in-first .ensures .is (not-false _ (c .before .if2 .left)), h, c .before .before .before .if1 .left)) (λ q. q .1) (c .allows-unary .ensures)
+returns-3 c = says-iff (λ h. (
+  c .before .before .in-first .ensures .is
+      (not-false _ (c .before .if2 .left)),
+  h,
+  c .before .before .before .if1 .left,
+)) (λ q. q .1)
+    (c .allows-unary .ensures)
 
 pub fits-unary-spec : {M : Type 1} → statement M
 fits-unary-spec =

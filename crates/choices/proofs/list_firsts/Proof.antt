@@ -38,14 +38,25 @@ loop-less c = omega (arith, c .before .loop-test .taken)
 
 loop-again : tie.Need-loop-again Inv-loop μ-loop
 loop-again c =
-    let l = c .before .before .loop in
-    (omega (arith, c .before .loop-test .taken), length-set (l .lists) (l .a) (c .rule-from .result) ∙ l .inv .1, firsts-more (c .rule-from .result) (omega (arith, c .before .loop-test .taken, l .inv .1)) (l .inv .2) (c .rule-from .ensures))
+    let l = c .before .before .loop in (
+      omega (arith, c .before .loop-test .taken),
+      length-set (l .lists) (l .a) (c .rule-from .result)
+          ∙ l .inv .1,
+      firsts-more (c .rule-from .result)
+          (omega (arith, c .before .loop-test .taken, l .inv .1)) (l .inv .2)
+          (c .rule-from .ensures),
+    )
 
 same-length : tie.Need-same-length Inv-loop μ-loop
 same-length c = c .before .loop .inv .1 ∙ sym (c .before .before .before .pre .1)
 
 returns : tie.Need-returns Inv-loop μ-loop
-returns c = let l = c .before .loop in let e : l .a ≡ 64 = omega (arith, l .inv .0, c .loop-test .left) in (subst (λ (m : ℕ). Firsts (rules (c .before .before .before .args .g)) m (l .lists)) e (l .inv .2), l .inv .1)
+returns c = let l = c .before .loop in
+    let e : l .a ≡ 64 = omega (arith, l .inv .0, c .loop-test .left) in (
+      subst (λ (m : ℕ). Firsts (rules (c .before .before .before .args .g)) m (l .lists)) e
+          (l .inv .2),
+      l .inv .1,
+    )
 
 pub list-firsts-spec : {M : Type 1} → statement M
 list-firsts-spec =

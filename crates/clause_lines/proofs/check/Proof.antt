@@ -6,7 +6,8 @@ use Prim.Native.Nat.{_-_}
 use lib.ListN.{length}
 use borrow.Author.Needs.{needs}
 use Rattle.clause_lines.specs.Loops.{Walks}
-use Rattle.clause_lines.proofs.Walking.{walks-begin, walks-on, walk-further, walks-off, walks-last}
+use Rattle.clause_lines.proofs.Walking.{walks-begin, walks-on, walk-further, walks-off}
+use Rattle.clause_lines.proofs.Walking.{walks-last}
 use Rattle.clause_lines.proofs.check.Statement.{statement}
 use Rattle.clause_lines.proofs.check.Tie as tie
 
@@ -30,34 +31,50 @@ finish-requires c κs = search needs
 
 returns : tie.Need-returns Inv-loop μ-loop
 returns c =
-    c .finish .ensures ∙ walks-last _ _ _ (c .before .before .before .before .loop .inv) (c .before .before .before .lexeme-at .ensures)
+    c .finish .ensures ∙ walks-last _ _ _ (c .before .before .before .before .loop .inv)
+    (c .before .before .before .lexeme-at .ensures)
     (sym (c .before .before .is-end .ensures) ∙ c .before .if1 .taken)
 
 fits-requires : tie.Need-fits-requires Inv-loop μ-loop
 fits-requires c κs = search needs
 
 step-requires : tie.Need-step-requires Inv-loop μ-loop
-step-requires c κs =
-    (omega (arith, c .before .before .before .before .before .loop .inv .few, c .before .before .before .before .before .loop .inv .within), sym (c .before .fits2 .ensures) ∙ c .if2 .taken)
+step-requires c κs = (
+  omega (
+    arith,
+    c .before .before .before .before .before .loop .inv .few,
+    c .before .before
+        .before .before .before .loop .inv .within,
+  ),
+  sym (c .before .fits2 .ensures)
+      ∙ c .if2 .taken,
+)
 
 loop-less : tie.Need-loop-less Inv-loop μ-loop
 loop-less c =
     let u = walks-on _ _ _ (c .before .before .before .before .before .before .loop .inv)
-    (c .before .before .before .before .before .lexeme-at .ensures) (sym (c .before .before .fits2 .ensures) ∙ c .before .if2 .taken) in
+    (c .before .before .before .before .before .lexeme-at .ensures)
+    (sym (c .before .before .fits2 .ensures) ∙ c .before .if2 .taken) in
     let z = walk-further _ (c .before .before .before .before .before .before .loop .w) _
-    (c .before .before .before .before .before .lexeme-at .ensures) (sym (c .before .before .fits2 .ensures) ∙ c .before .if2 .taken) in
+    (c .before .before .before .before .before .lexeme-at .ensures)
+    (sym (c .before .before .fits2 .ensures) ∙ c .before .if2 .taken) in
     let y = ap (λ (v : Walk). v .at) (c .step .ensures) in
     omega (arith, u .within)
 
 loop-again : tie.Need-loop-again Inv-loop μ-loop
 loop-again c =
-    subst (λ (v : Walk). Walks (c .before .before .before .before .before .before .before .before .args .s .now) v) (sym (c .step .ensures))
-    (walks-on _ _ _ (c .before .before .before .before .before .before .loop .inv) (c .before .before .before .before .before .lexeme-at .ensures) (sym (c .before .before .fits2 .ensures) ∙ c .before .if2 .taken))
+    subst (λ (v : Walk). Walks (c .before .before .before .before .before .before .before .before
+    .args .s .now) v) (sym (c .step .ensures))
+    (walks-on _ _ _ (c .before .before .before .before .before .before .loop .inv)
+    (c .before .before .before .before .before .lexeme-at .ensures)
+    (sym (c .before .before .fits2 .ensures) ∙ c .before .if2 .taken))
 
 returns-2 : tie.Need-returns-2 Inv-loop μ-loop
 returns-2 c =
-    walks-off _ _ _ (c .before .before .before .before .before .loop .inv) (c .before .before .before .before .lexeme-at .ensures)
-    (sym (c .before .before .before .is-end .ensures) ∙ c .before .before .if1 .left) (sym (c .before .fits2 .ensures) ∙ c .if2 .left)
+    walks-off _ _ _ (c .before .before .before .before .before .loop .inv)
+    (c .before .before .before .before .lexeme-at .ensures)
+    (sym (c .before .before .before .is-end .ensures) ∙ c .before .before .if1 .left)
+    (sym (c .before .fits2 .ensures) ∙ c .if2 .left)
 
 pub check-spec : {M : Type 1} → statement M
 check-spec =

@@ -81,7 +81,8 @@ returns-3 : tie.Need-returns-3
 returns-3 c = search needs
 
 returns-4 : tie.Need-returns-4
-returns-4 c = c .may-close .ensures ∙ may-by (c .before .before .before .args .s) (c .before .before .before .args .deep) _ _ (c .before .enum-told4 .given .1)
+returns-4 c = c .may-close .ensures ∙ may-by (c .before .before .before .args .s)
+    (c .before .before .before .args .deep) _ _ (c .before .enum-told4 .given .1)
 
 returns-5 : tie.Need-returns-5
 returns-5 c = search needs

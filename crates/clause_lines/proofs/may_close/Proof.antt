@@ -13,7 +13,8 @@ is-due-requires : tie.Need-is-due-requires
 is-due-requires c κs = search needs
 
 returns-2 : tie.Need-returns-2
-returns-2 c = ap not (c .is-due .ensures) ∙ close-some (c .before .before .args .s) (c .before .before .args .deep) (c .before .if1 .left)
+returns-2 c = ap not (c .is-due .ensures) ∙ close-some (c .before .before .args .s)
+    (c .before .before .args .deep) (c .before .if1 .left)
 
 pub may-close-spec : {M : Type 1} → statement M
 may-close-spec = tie.close (tie.spec returns is-due-requires returns-2)

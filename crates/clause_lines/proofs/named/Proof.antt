@@ -8,10 +8,12 @@ add-p : tie.Need-add-p
 add-p c = search needs
 
 returns : tie.Need-returns
-returns c = named-larger (c .before .before .args .w) (c .before .before .args .a) (c .before .before .args .end) (c .if1 .taken)
+returns c = named-larger (c .before .before .args .w) (c .before .before .args .a)
+    (c .before .before .args .end) (c .if1 .taken)
 
 returns-2 : tie.Need-returns-2
-returns-2 c = named-smaller (c .before .before .args .w) (c .before .before .args .a) (c .before .before .args .end) (c .if1 .left)
+returns-2 c = named-smaller (c .before .before .args .w) (c .before .before .args .a)
+    (c .before .before .args .end) (c .if1 .left)
 
 pub named-spec : {M : Type 1} → statement M
 named-spec = tie.close (tie.spec add-p returns returns-2)

@@ -1,10 +1,14 @@
--- The readers that call each other meet their contracts: each call is at a later place, or at the same place to a reader lower down.
+-- The readers that call each other meet their contracts: each call is at a later place, or at the
+-- same place to a reader lower down.
 use mathlib.Core.Path.{sym, _∙_}
 use Prim.Native.Nat.{ℕ, _+_, _*_, _-_, _<_}
 use native.Mathlib.Omega.{arith}
 use borrow.Author.Needs.{needs}
 use lib.ListN.{length}
-use Rattle.clause_rules.proofs.Parts.{group-read, leaf-read, bare-read, tailed-read, crowded-read, single-read, several-read, rest-several, rest-single, rest-over, alternatives-over, last-read, more-read}
+use Rattle.clause_rules.proofs.Parts.{group-read, leaf-read, bare-read, tailed-read}
+use Rattle.clause_rules.proofs.Parts.{crowded-read, single-read, several-read, rest-several}
+use Rattle.clause_rules.proofs.Parts.{rest-single, rest-over, alternatives-over, last-read}
+use Rattle.clause_rules.proofs.Parts.{more-read}
 use Rattle.clause_rules.proofs.Scans.{lexes-further, one-six, three-six, four-six}
 use Rattle.rule_output.proofs.Leaves.{pushed-by}
 use borrow.Fn.Kinds.{In}
@@ -101,7 +105,8 @@ alternatives-returns : (t : ℕ) → alternatives-lts.Need-returns (
   alternatives-below t,
   alternatives.Post,
 ) (alternatives-at t) alternatives.Post
-alternatives-returns t c = alternatives-over _ _ _ _ _ (omega (arith, c .before .before .pre)) (c .if1 .taken)
+alternatives-returns t c =
+    alternatives-over _ _ _ _ _ (omega (arith, c .before .before .pre)) (c .if1 .taken)
 
 alternatives-sequence-requires : (t : ℕ) → alternatives-lts.Need-sequence-requires (
   sequence-below t,
@@ -173,8 +178,17 @@ alternatives-alternatives-requires : (t : ℕ) → alternatives-lts.Need-alterna
 ) (alternatives-at t) alternatives.Post
 alternatives-alternatives-requires t c κs =
     let X = c .before .before .lexeme-at .ensures in
-    let z = lexes-further _ _ _ X (λ y. three-six (sym (c .if2 .taken) ∙ c .before .sort .ensures ∙ y)) in
-    (omega (arith, X .within, c .before .before .before .before .before .sequence .ensures .from, c .before .before .before .before .before .before .before .before .pre), X .within)
+    let z = lexes-further _ _ _ X (λ y. three-six
+    (sym (c .if2 .taken) ∙ c .before .sort .ensures ∙ y)) in (
+      omega (
+        arith,
+        X .within,
+        c .before .before .before .before .before .sequence .ensures .from,
+        c
+            .before .before .before .before .before .before .before .before .pre,
+      ),
+      X .within,
+    )
 
 alternatives-returns-2 : (t : ℕ) → alternatives-lts.Need-returns-2 (
   sequence-below t,
@@ -189,8 +203,10 @@ alternatives-returns-2 : (t : ℕ) → alternatives-lts.Need-returns-2 (
   alternatives.Post,
 ) (alternatives-at t) alternatives.Post
 alternatives-returns-2 t c =
-    more-read _ _ _ _ _ (c .before .before .before .before .before .before .sequence .ensures) _ (c .before .before .before .before .push .ensures) _
-    (c .before .before .before .lexeme-at .ensures) _ (sym (c .before .before .sort .ensures) ∙ c .before .if2 .taken) (c .alternatives .ensures)
+    more-read _ _ _ _ _ (c .before .before .before .before .before .before .sequence .ensures) _
+    (c .before .before .before .before .push .ensures) _
+    (c .before .before .before .lexeme-at .ensures) _
+    (sym (c .before .before .sort .ensures) ∙ c .before .if2 .taken) (c .alternatives .ensures)
 
 alternatives-returns-3 : (t : ℕ) → alternatives-lts.Need-returns-3 (
   sequence-below t,
@@ -205,7 +221,8 @@ alternatives-returns-3 : (t : ℕ) → alternatives-lts.Need-returns-3 (
   alternatives.Post,
 ) (alternatives-at t) alternatives.Post
 alternatives-returns-3 t c =
-    last-read _ _ _ _ _ (c .before .before .before .before .before .sequence .ensures) _ (c .before .before .before .push .ensures) _
+    last-read _ _ _ _ _ (c .before .before .before .before .before .sequence .ensures) _
+    (c .before .before .before .push .ensures) _
     (c .before .before .lexeme-at .ensures) (λ y. c .if2 .left (c .before .sort .ensures ∙ y))
 
 atom-lexeme-at-requires : (t : ℕ) → atom-lts.Need-lexeme-at-requires (
@@ -264,7 +281,8 @@ atom-alternatives-requires : (t : ℕ) → atom-lts.Need-alternatives-requires (
 ) (atom-at t) atom.Post
 atom-alternatives-requires t c κs =
     let X = c .before .before .before .lexeme-at .ensures in
-    let z = lexes-further _ _ _ X (λ y. one-six (sym (c .before .if1 .taken) ∙ c .before .before .sort .ensures ∙ y)) in
+    let z = lexes-further _ _ _ X (λ y. one-six
+    (sym (c .before .if1 .taken) ∙ c .before .before .sort .ensures ∙ y)) in
     (omega (arith, X .within, c .before .before .before .before .before .pre), X .within)
 
 atom-lexeme-at-requires-2 : (t : ℕ) → atom-lts.Need-lexeme-at-requires-2 (
@@ -295,8 +313,10 @@ atom-returns : (t : ℕ) → atom-lts.Need-returns (
 ) (atom-at t) atom.Post
 atom-returns t c =
     group-read _ _ _ _ (c .before .before .before .before .before .before .lexeme-at .ensures) _ _ _
-    (sym (c .before .before .before .before .before .sort .ensures) ∙ c .before .before .before .before .if1 .taken)
-    (c .before .before .before .fresh .ensures) (c .before .before .alternatives .ensures) (c .lexeme-at2 .ensures)
+    (sym (c .before .before .before .before .before .sort .ensures)
+    ∙ c .before .before .before .before .if1 .taken)
+    (c .before .before .before .fresh .ensures) (c .before .before .alternatives .ensures)
+    (c .lexeme-at2 .ensures)
 
 atom-leaf-requires : (t : ℕ) → atom-lts.Need-leaf-requires (
   lexeme-at-reads.Asked,
@@ -325,7 +345,8 @@ atom-returns-2 : (t : ℕ) → atom-lts.Need-returns-2 (
   leaf-reads.Learnt,
 ) (atom-at t) atom.Post
 atom-returns-2 t c =
-    leaf-read _ _ _ _ (c .before .before .before .lexeme-at .ensures) _ (λ y. c .before .if1 .left (c .before .before .sort .ensures ∙ y)) (c .leaf .ensures)
+    leaf-read _ _ _ _ (c .before .before .before .lexeme-at .ensures) _
+    (λ y. c .before .if1 .left (c .before .before .sort .ensures ∙ y)) (c .leaf .ensures)
 
 item-atom-end-requires : (t : ℕ) → item-lts.Need-atom-end-requires (
   atom-end-reads.Asked,
@@ -406,9 +427,11 @@ item-returns : (t : ℕ) → item-lts.Need-returns (
   tail-reads.Learnt,
 ) (item-at t) item.Post
 item-returns t c =
-    crowded-read _ _ _ (c .before .before .before .before .before .atom-end .ensures) _ (c .before .before .before .before .lexeme-at .ensures) _ _ _
+    crowded-read _ _ _ (c .before .before .before .before .before .atom-end .ensures) _
+    (c .before .before .before .before .lexeme-at .ensures) _ _ _
     (sym (c .before .before .before .sort .ensures) ∙ c .before .before .if1 .taken)
-    (omega (arith, c .before .before .before .before .before .before .before .pre)) (c .before .opened .ensures) (c .if2 .taken)
+    (omega (arith, c .before .before .before .before .before .before .before .pre))
+    (c .before .opened .ensures) (c .if2 .taken)
 
 item-atom-requires : (t : ℕ) → item-lts.Need-atom-requires (
   atom-end-reads.Asked,
@@ -440,7 +463,8 @@ item-tail-requires : (t : ℕ) → item-lts.Need-tail-requires (
   tail-reads.Asked,
   tail-reads.Learnt,
 ) (item-at t) item.Post
-item-tail-requires t c κs = let z = c .before .before .before .opened .ensures .next (c .before .before .if2 .left) in search needs
+item-tail-requires t c κs = let z =
+    c .before .before .before .opened .ensures .next (c .before .before .if2 .left) in search needs
 
 item-returns-2 : (t : ℕ) → item-lts.Need-returns-2 (
   atom-end-reads.Asked,
@@ -457,10 +481,13 @@ item-returns-2 : (t : ℕ) → item-lts.Need-returns-2 (
   tail-reads.Learnt,
 ) (item-at t) item.Post
 item-returns-2 t c =
-    tailed-read _ _ _ (c .before .before .before .before .before .before .before .before .atom-end .ensures) _
+    tailed-read _ _ _ (c .before .before .before .before .before .before .before .before .atom-end
+    .ensures) _
     (c .before .before .before .before .before .before .before .lexeme-at .ensures) _ _ _ _
-    (sym (c .before .before .before .before .before .before .sort .ensures) ∙ c .before .before .before .before .before .if1 .taken)
-    (c .before .before .before .before .opened .ensures) (c .before .before .atom .ensures) (c .tail .ensures)
+    (sym (c .before .before .before .before .before .before .sort .ensures)
+    ∙ c .before .before .before .before .before .if1 .taken)
+    (c .before .before .before .before .opened .ensures) (c .before .before .atom .ensures)
+    (c .tail .ensures)
 
 item-atom-requires-2 : (t : ℕ) → item-lts.Need-atom-requires-2 (
   atom-end-reads.Asked,
@@ -493,7 +520,8 @@ item-returns-3 : (t : ℕ) → item-lts.Need-returns-3 (
   tail-reads.Learnt,
 ) (item-at t) item.Post
 item-returns-3 t c =
-    bare-read _ _ _ (c .before .before .before .before .atom-end .ensures) _ (c .before .before .before .lexeme-at .ensures) _ _
+    bare-read _ _ _ (c .before .before .before .before .atom-end .ensures) _
+    (c .before .before .before .lexeme-at .ensures) _ _
     (λ y. c .before .if1 .left (c .before .before .sort .ensures ∙ y)) (c .atom2 .ensures)
 
 rest-returns : (t : ℕ) → rest-lts.Need-returns (
@@ -579,7 +607,8 @@ rest-returns-2 : (t : ℕ) → rest-lts.Need-returns-2 (
   item.Post,
 ) (rest-at t) rest.Post
 rest-returns-2 t c =
-    rest-several _ _ _ (c .before .before .before .before .item-end .ensures) _ (c .before .before .before .lexeme-at .ensures) _ _
+    rest-several _ _ _ (c .before .before .before .before .item-end .ensures) _
+    (c .before .before .before .lexeme-at .ensures) _ _
     (sym (c .before .before .sort .ensures) ∙ c .before .if2 .taken) (c .sequence .ensures)
 
 rest-item-requires : (t : ℕ) → rest-lts.Need-item-requires (
@@ -609,7 +638,8 @@ rest-returns-3 : (t : ℕ) → rest-lts.Need-returns-3 (
   item.Post,
 ) (rest-at t) rest.Post
 rest-returns-3 t c =
-    rest-single _ _ _ (c .before .before .before .before .item-end .ensures) _ (c .before .before .before .lexeme-at .ensures) _ _
+    rest-single _ _ _ (c .before .before .before .before .item-end .ensures) _
+    (c .before .before .before .lexeme-at .ensures) _ _
     (λ y. c .before .if2 .left (c .before .before .sort .ensures ∙ y)) (c .item .ensures)
 
 sequence-fresh-requires : (t : ℕ) → sequence-lts.Need-fresh-requires (
@@ -702,8 +732,17 @@ sequence-rest-requires : (t : ℕ) → sequence-lts.Need-rest-requires (
 ) (sequence-at t) sequence.Post
 sequence-rest-requires t c κs =
     let X = c .before .before .lexeme-at .ensures in
-    let z = lexes-further _ _ _ X (λ y. four-six (sym (c .if1 .taken) ∙ c .before .sort .ensures ∙ y)) in
-    (omega (arith, X .within, c .before .before .before .before .item .ensures .from, c .before .before .before .before .before .before .before .pre), X .within)
+    let z = lexes-further _ _ _ X (λ y. four-six
+    (sym (c .if1 .taken) ∙ c .before .sort .ensures ∙ y)) in (
+      omega (
+        arith,
+        X .within,
+        c .before .before .before .before .item .ensures .from,
+        c .before
+            .before .before .before .before .before .before .pre,
+      ),
+      X .within,
+    )
 
 sequence-binding-requires : (t : ℕ) → sequence-lts.Need-binding-requires (
   fresh-reads.Asked,
@@ -758,11 +797,14 @@ sequence-returns : (t : ℕ) → sequence-lts.Need-returns (
   push-reads.Learnt,
 ) (sequence-at t) sequence.Post
 sequence-returns t c =
-    several-read _ _ _ _ (c .before .before .before .before .before .before .before .before .before .fresh .ensures) _
+    several-read _ _ _ _ (c .before .before .before .before .before .before .before .before .before
+    .fresh .ensures) _
     (c .before .before .before .before .before .before .before .before .item .ensures) _
     (c .before .before .before .before .before .before .lexeme-at .ensures) _ _
-    (sym (c .before .before .before .before .before .sort .ensures) ∙ c .before .before .before .before .if1 .taken)
-    (c .before .before .before .rest .ensures) (pushed-by _ _ _ _ _ _ _ (c .before .binding .ensures) (c .push .ensures))
+    (sym (c .before .before .before .before .before .sort .ensures)
+    ∙ c .before .before .before .before .if1 .taken)
+    (c .before .before .before .rest .ensures)
+    (pushed-by _ _ _ _ _ _ _ (c .before .binding .ensures) (c .push .ensures))
 
 sequence-push-requires-2 : (t : ℕ) → sequence-lts.Need-push-requires-2 (
   fresh-reads.Asked,
@@ -800,7 +842,8 @@ sequence-returns-2 : (t : ℕ) → sequence-lts.Need-returns-2 (
 ) (sequence-at t) sequence.Post
 sequence-returns-2 t c =
     single-read _ _ _ _ (c .before .before .before .before .before .before .fresh .ensures) _
-    (c .before .before .before .before .before .item .ensures) _ (c .before .before .before .lexeme-at .ensures) _
+    (c .before .before .before .before .before .item .ensures) _
+    (c .before .before .before .lexeme-at .ensures) _
     (λ y. c .before .if1 .left (c .before .before .sort .ensures ∙ y)) (c .push2 .ensures)
 
 pub +alternatives+atom+item+rest+sequence-spec : {M : Type 1} → statement M

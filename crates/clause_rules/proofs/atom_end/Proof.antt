@@ -16,11 +16,12 @@ group-end-requires c κs = search needs
 
 returns : tie.Need-returns
 returns c =
-    atom-ends-open _ _ _ (c .before .before .before .lexeme-at .ensures) _ (sym (c .before .before .sort .ensures) ∙ c .before .if1 .taken)
-    (c .group-end .ensures)
+    atom-ends-open _ _ _ (c .before .before .before .lexeme-at .ensures) _
+    (sym (c .before .before .sort .ensures) ∙ c .before .if1 .taken) (c .group-end .ensures)
 
 returns-2 : tie.Need-returns-2
-returns-2 c = atom-ends-leaf _ _ _ (c .before .before .lexeme-at .ensures) (λ y. c .if1 .left (c .before .sort .ensures ∙ y))
+returns-2 c = atom-ends-leaf _ _ _ (c .before .before .lexeme-at .ensures)
+    (λ y. c .if1 .left (c .before .sort .ensures ∙ y))
 
 pub atom-end-spec : {M : Type 1} → statement M
 atom-end-spec =

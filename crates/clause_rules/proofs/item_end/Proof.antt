@@ -16,13 +16,13 @@ sort-requires c κs = search needs
 
 returns : tie.Need-returns
 returns c =
-    item-ends-suffix _ _ _ (c .before .before .before .atom-end .ensures) _ (c .before .before .lexeme-at .ensures)
-    (sym (c .before .sort .ensures) ∙ c .if1 .taken)
+    item-ends-suffix _ _ _ (c .before .before .before .atom-end .ensures) _
+    (c .before .before .lexeme-at .ensures) (sym (c .before .sort .ensures) ∙ c .if1 .taken)
 
 returns-2 : tie.Need-returns-2
 returns-2 c =
-    item-ends-bare _ _ _ (c .before .before .before .atom-end .ensures) _ (c .before .before .lexeme-at .ensures)
-    (λ y. c .if1 .left (c .before .sort .ensures ∙ y))
+    item-ends-bare _ _ _ (c .before .before .before .atom-end .ensures) _
+    (c .before .before .lexeme-at .ensures) (λ y. c .if1 .left (c .before .sort .ensures ∙ y))
 
 pub item-end-spec : {M : Type 1} → statement M
 item-end-spec =

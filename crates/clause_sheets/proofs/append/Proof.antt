@@ -18,7 +18,8 @@ add-t6 c = search needs
 returns : tie.Need-returns
 returns c =
     let g = c .before .before .args .g in
-    taken-one (g .rules) (g .count) (c .before .before .args .x) (let l = simp length-map at (c .before .before .good .0 .1 .1 .0 .1 .0 .1) in omega arith)
+    taken-one (g .rules) (g .count) (c .before .before .args .x)
+    (let l = simp length-map at (c .before .before .good .0 .1 .1 .0 .1 .0 .1) in omega arith)
 
 returns-2 : tie.Need-returns-2
 returns-2 c = taken-full _ _ (omega (arith, c .if1 .left))

@@ -27,13 +27,22 @@ enum-told : tie.Need-enum-told
 enum-told c = search needs
 
 expand-from-requires : tie.Need-expand-from-requires
-expand-from-requires c κs =
-    (c .before .before .before .before .pre, found-all (piecesFrom 10 (c .before .before .before .before .args .s .now) (c .before .before .before .before .args .start)) _ _ (c .before .before .lines-check .ensures) (c .enum-told .given .1))
+expand-from-requires c κs = (
+  c .before .before .before .before .pre,
+  found-all
+      (piecesFrom 10 (c .before .before .before .before .args .s .now)
+      (c .before .before .before .before .args .start)) _ _
+      (c .before .before .lines-check .ensures) (c .enum-told .given .1),
+)
 
 returns : tie.Need-returns
 returns c =
     subst (λ (x : Reading Rules). RulesRead (c .refuse-rules .result) x)
-    (sym (found-refused (itemsFrom clauseStep [] (piecesFrom 10 (c .before .before .before .before .before .before .before .args .s .now) (c .before .before .before .before .before .before .before .args .start))) _ _ _ _ (c .before .before .before .before .before .lines-check .ensures) (c .before .before .before .o .given .1))) (c .refuse-rules .ensures)
+    (sym (found-refused (itemsFrom clauseStep []
+    (piecesFrom 10 (c .before .before .before .before .before .before .before .args .s .now)
+    (c .before .before .before .before .before .before .before .args .start))) _ _ _ _
+    (c .before .before .before .before .before .lines-check .ensures)
+    (c .before .before .before .o .given .1))) (c .refuse-rules .ensures)
 
 returns-2 : tie.Need-returns-2
 returns-2 c = search needs

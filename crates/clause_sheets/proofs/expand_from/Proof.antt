@@ -5,7 +5,8 @@ use borrow.Author.Needs.{needs}
 use Rattle.sheets.specs.declared.GrammarRead.{GrammarRead}
 use Rattle.sheets.specs.Items.{Reading}
 use Rattle.sheets.specs.Promises.{RulesRead}
-use Rattle.clause_sheets.proofs.Closing.{Walked, past-far, out-over, out-few, out-formed, out-end}
+use Rattle.clause_sheets.proofs.Closing.{Walked, past-far, out-over, out-few, out-formed}
+use Rattle.clause_sheets.proofs.Closing.{out-end}
 use Rattle.clause_sheets.proofs.expand_from.Statement.{statement}
 use Rattle.clause_sheets.proofs.expand_from.Tie as tie
 use Rattle.fields.specs.Cursors.{piecesFrom}
@@ -16,7 +17,8 @@ reads-as : {r : GrammarRead} {x y : Reading Rules} → y ≡ x → RulesRead r x
 reads-as {r} e k = subst (RulesRead r) (sym e) k
 
 walked : (c : tie.After-lines-emit) → let s = c .before .before .before .before in
-    Walked (piecesFrom 10 (s .args .s .now) (s .args .start)) (s .args .past) (c .before .nothing .result) (c .lines-emit .result)
+    Walked (piecesFrom 10 (s .args .s .now) (s .args .start)) (s .args .past)
+    (c .before .nothing .result) (c .lines-emit .result)
 walked c =
     let s = c .before .before .before .before in
     record {
@@ -53,7 +55,8 @@ refuse-rules-requires-2 : tie.Need-refuse-rules-requires-2
 refuse-rules-requires-2 c κs = search needs
 
 returns-2 : tie.Need-returns-2
-returns-2 c = reads-as (out-over (walked (c .before .before .before)) (c .before .before .if2 .taken)) (c .refuse-rules2 .ensures)
+returns-2 c = reads-as (out-over (walked (c .before .before .before))
+    (c .before .before .if2 .taken)) (c .refuse-rules2 .ensures)
 
 no-rules-requires-3 : tie.Need-no-rules-requires-3
 no-rules-requires-3 c κs = search needs
@@ -68,13 +71,17 @@ index-of-requires c κs =
 
 finished-requires : tie.Need-finished-requires
 finished-requires c κs =
-    let o = c .before .before .before .before in
-    (out-formed (walked (o .before)) (o .if2 .left) refl (c .before .sorted .ensures), c .index-of .ensures)
+    let o = c .before .before .before .before in (
+      out-formed (walked (o .before)) (o .if2 .left) refl (c .before .sorted .ensures),
+      c .index-of
+          .ensures,
+    )
 
 returns-3 : tie.Need-returns-3
 returns-3 c =
     let o = c .before .before .before .before .before in
-    reads-as (out-end (walked (o .before)) (o .if2 .left) refl (c .before .before .sorted .ensures)) (c .finished .ensures)
+    reads-as (out-end (walked (o .before)) (o .if2 .left) refl (c .before .before .sorted .ensures))
+    (c .finished .ensures)
 
 pub expand-from-spec : {M : Type 1} → statement M
 expand-from-spec =

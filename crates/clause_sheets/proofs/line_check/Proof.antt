@@ -1,7 +1,8 @@
 -- `line_check` meets its contract.
 use mathlib.Core.Path.{sym, _∙_}
 use native.Mathlib.Omega.{arith}
-use Rattle.clause_sheets.proofs.LineParts.{split, unsplit, too-high, no-blank, checked-behind, checked-not}
+use Rattle.clause_sheets.proofs.LineParts.{split, unsplit, too-high, no-blank}
+use Rattle.clause_sheets.proofs.LineParts.{checked-behind, checked-not}
 use borrow.Author.Needs.{needs}
 use Rattle.clause_sheets.proofs.line_check.Statement.{statement}
 use Rattle.clause_sheets.proofs.line_check.Tie as tie
@@ -18,23 +19,51 @@ enum-told c = search needs
 
 returns : tie.Need-returns
 returns c =
-    checked-not (bytesLeft (c .before .before .before .before .args .s .now) (c .before .before .before .before .args .c))
-    (unsplit (c .before .before .before .before .args .s .now) (c .before .before .before .before .args .c) (c .before .before .before .before .pre) (sym (c .enum-told .given .1) ∙ c .before .before .number .ensures))
+    checked-not (bytesLeft (c .before .before .before .before .args .s .now)
+    (c .before .before .before .before .args .c))
+    (unsplit (c .before .before .before .before .args .s .now)
+    (c .before .before .before .before .args .c) (c .before .before .before .before .pre)
+    (sym (c .enum-told .given .1) ∙ c .before .before .number .ensures))
 
 returns-2 : tie.Need-returns-2
 returns-2 c =
-    checked-not (bytesLeft (c .before .before .before .before .before .before .args .s .now) (c .before .before .before .before .before .before .args .c)) (too-high (c .before .before .before .before .before .before .args .s .now) (c .before .before .before .before .before .before .args .c) (c .before .before .before .before .before .before .pre) _ _ (split (c .before .before .before .before .before .before .args .s .now) (c .before .before .before .before .before .before .args .c) (c .before .before .before .before .before .before .pre) _ _ (sym (c .before .before .v .given .1) ∙ c .before .before .before .before .number .ensures)) (c .if1 .taken))
+    checked-not (bytesLeft (c .before .before .before .before .before .before .args .s .now)
+    (c .before .before .before .before .before .before .args .c))
+    (too-high (c .before .before .before .before .before .before .args .s .now)
+    (c .before .before .before .before .before .before .args .c)
+    (c .before .before .before .before .before .before .pre) _ _
+    (split (c .before .before .before .before .before .before .args .s .now)
+    (c .before .before .before .before .before .before .args .c)
+    (c .before .before .before .before .before .before .pre) _ _
+    (sym (c .before .before .v .given .1)
+    ∙ c .before .before .before .before .number .ensures))
+    (c .if1 .taken))
 
 returns-3 : tie.Need-returns-3
 returns-3 c =
-    checked-not (bytesLeft (c .before .before .before .before .before .before .before .args .s .now) (c .before .before .before .before .before .before .before .args .c)) (no-blank (c .before .before .before .before .before .before .before .args .s .now) (c .before .before .before .before .before .before .before .args .c) (c .before .before .before .before .before .before .before .pre) _ _ (split (c .before .before .before .before .before .before .before .args .s .now) (c .before .before .before .before .before .before .before .args .c) (c .before .before .before .before .before .before .before .pre) _ _ (sym (c .before .before .before .v .given .1) ∙ c .before .before .before .before .before .number .ensures)) (omega (arith, c .before .if1 .left)) (c .if2 .taken))
+    checked-not (bytesLeft (c .before .before .before .before .before .before .before .args .s .now)
+    (c .before .before .before .before .before .before .before .args .c))
+    (no-blank (c .before .before .before .before .before .before .before .args .s .now)
+    (c .before .before .before .before .before .before .before .args .c)
+    (c .before .before .before .before .before .before .before .pre) _ _
+    (split (c .before .before .before .before .before .before .before .args .s
+    .now) (c .before .before .before .before .before .before .before .args
+    .c) (c .before .before .before .before .before .before .before .pre)
+    _ _ (sym (c .before .before .before .v .given .1)
+    ∙ c .before .before .before .before .before .number
+    .ensures)) (omega (arith, c .before .if1 .left))
+    (c .if2 .taken))
 
 part-expression-check-start : tie.Need-part-expression-check-start
 part-expression-check-start c = search needs
 
 part-expression-check-end : tie.Need-part-expression-check-end
 part-expression-check-end c =
-    let S = (split (c .before .before .before .before .before .before .before .args .s .now) (c .before .before .before .before .before .before .before .args .c) (c .before .before .before .before .before .before .before .pre) _ _ (sym (c .before .before .before .v .given .1) ∙ c .before .before .before .before .before .number .ensures)) in
+    let S = (split (c .before .before .before .before .before .before .before .args .s .now)
+    (c .before .before .before .before .before .before .before .args .c)
+    (c .before .before .before .before .before .before .before .pre) _ _
+    (sym (c .before .before .before .v .given .1)
+    ∙ c .before .before .before .before .before .number .ensures)) in
     omega (arith, S .end, c .before .before .before .before .before .before .before .pre)
 
 cast-expression-check : tie.Need-cast-expression-check
@@ -48,10 +77,18 @@ expression-check-requires c κs = search needs
 
 returns-4 : tie.Need-returns-4
 returns-4 c =
-    checked-behind (c .before .before .before .before .before .before .before .before .before .args .s .now)
+    checked-behind (c .before .before .before .before .before .before .before .before .before .args
+    .s .now)
     (c .before .before .before .before .before .before .before .before .before .args .c)
     (c .before .before .before .before .before .before .before .before .before .pre) _ _
-    (split (c .before .before .before .before .before .before .before .before .before .args .s .now) (c .before .before .before .before .before .before .before .before .before .args .c) (c .before .before .before .before .before .before .before .before .before .pre) _ _ (sym (c .before .before .before .before .before .v .given .1) ∙ c .before .before .before .before .before .before .before .number .ensures)) (omega (arith, c .before .before .before .if1 .left)) (omega (arith, c .before .before .if2 .left)) _ (c .expression-check .ensures)
+    (split (c .before .before .before .before .before .before .before .before .before .args .s .now)
+    (c .before .before .before .before .before .before .before .before .before .args .c)
+    (c .before .before .before .before .before .before .before .before .before .pre) _ _
+    (sym (c .before .before .before .before .before .v .given .1)
+    ∙ c .before .before .before .before .before .before .before .number .ensures))
+    (omega (arith, c .before .before .before .if1 .left))
+    (omega (arith, c .before .before .if2 .left)) _
+    (c .expression-check .ensures)
 
 pub line-check-spec : {M : Type 1} → statement M
 line-check-spec =

@@ -21,16 +21,24 @@ line-requires : tie.Need-line-requires Inv-loop μ-loop
 line-requires c κs = c .loop .inv .low
 
 line-emit-requires : tie.Need-line-emit-requires Inv-loop μ-loop
-line-emit-requires c κs = line-in _ _ (c .before .before .loop .inv .low) _ (c .before .line .ensures)
+line-emit-requires c κs =
+    line-in _ _ (c .before .before .loop .inv .low) _ (c .before .line .ensures)
 
 add-at : tie.Need-add-at Inv-loop μ-loop
 add-at c = omega (arith, c .before .if1 .taken)
 
 loop-less : tie.Need-loop-less Inv-loop μ-loop
-loop-less c = let I = c .before .before .before .loop .inv in omega (arith, line-less _ _ (I .low) _ (c .before .before .line .ensures), c .before .if1 .taken)
+loop-less c = let I = c .before .before .before .loop .inv in
+    omega (
+      arith,
+      line-less _ _ (I .low) _ (c .before .before .line .ensures),
+      c .before .if1
+          .taken,
+    )
 
 loop-again : tie.Need-loop-again Inv-loop μ-loop
-loop-again c = emit-on (c .before .before .before .loop .inv) (c .before .before .line .ensures) _ (c .before .if1 .taken) (c .line-emit .ensures)
+loop-again c = emit-on (c .before .before .before .loop .inv) (c .before .before .line .ensures) _
+    (c .before .if1 .taken) (c .line-emit .ensures)
 
 returns : tie.Need-returns Inv-loop μ-loop
 returns c = emit-end (c .before .before .loop .inv) (c .before .line .ensures) (c .if1 .left)

@@ -33,7 +33,10 @@ returns : tie.Need-returns
 returns c =
     let p = c .before .before .before .before .before .before in
     subst (λ (x : Reading Rules). RulesRead (c .clauses-from .result) x)
-    (names-good (refused 1 1) clauseNames (p .before .before .args .s .now) clausesFrom (p .line .result) (p .line .ensures) (c .before .before .before .before .before .if1 .taken) (sym (c .before .if2 .taken) ∙ c .before .before .same .ensures)) (c .clauses-from .ensures)
+    (names-good (refused 1 1) clauseNames (p .before .before .args .s .now) clausesFrom
+    (p .line .result) (p .line .ensures) (c .before .before .before .before .before .if1 .taken)
+    (sym (c .before .if2 .taken) ∙ c .before .before .same .ensures))
+    (c .clauses-from .ensures)
 
 no-rules-requires : tie.Need-no-rules-requires
 no-rules-requires c κs = search needs
@@ -45,7 +48,11 @@ returns-2 : tie.Need-returns-2
 returns-2 c =
     let p = c .before .before .before .before .before .before .before in
     subst (λ (x : Reading Rules). RulesRead (c .refuse-rules .result) x)
-    (names-other (refused 1 1) clauseNames (p .before .before .args .s .now) clausesFrom (p .line .result) (p .line .ensures) (c .before .before .before .before .before .before .if1 .taken) (sym (c .before .before .if2 .left) ∙ c .before .before .before .same .ensures)) (c .refuse-rules .ensures)
+    (names-other (refused 1 1) clauseNames (p .before .before .args .s .now) clausesFrom
+    (p .line .result) (p .line .ensures)
+    (c .before .before .before .before .before .before .if1 .taken)
+    (sym (c .before .before .if2 .left) ∙ c .before .before .before .same .ensures))
+    (c .refuse-rules .ensures)
 
 no-rules-requires-2 : tie.Need-no-rules-requires-2
 no-rules-requires-2 c κs = search needs
@@ -57,7 +64,9 @@ returns-3 : tie.Need-returns-3
 returns-3 c =
     let p = c .before .before .before in
     subst (λ (x : Reading Rules). RulesRead (c .refuse-rules2 .result) x)
-    (names-open (refused 1 1) clauseNames (p .before .before .args .s .now) clausesFrom (p .line .result) (p .line .ensures) (c .before .before .if1 .left)) (c .refuse-rules2 .ensures)
+    (names-open (refused 1 1) clauseNames (p .before .before .args .s .now) clausesFrom
+    (p .line .result) (p .line .ensures) (c .before .before .if1 .left))
+    (c .refuse-rules2 .ensures)
 
 pub read-clauses-spec : {M : Type 1} → statement M
 read-clauses-spec =

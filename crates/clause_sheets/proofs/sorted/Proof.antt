@@ -1,7 +1,8 @@
 -- `sorted` meets its contract.
 use Rattle.clauses.specs.Expansion.{rising}
 use Rattle.clause_sheets.specs.Checks.{RulesTaken}
-use Rattle.clause_sheets.proofs.Takes.{taken-none, taken-more, taken-by, rising-step, rising-all}
+use Rattle.clause_sheets.proofs.Takes.{taken-none, taken-more, taken-by, rising-step}
+use Rattle.clause_sheets.proofs.Takes.{rising-all}
 use borrow.Author.Needs.{needs}
 use lib.ListN.{take}
 use native.Mathlib.Omega.{arith}
@@ -30,11 +31,15 @@ loop-less c = omega (arith, c .before .loop-test .taken)
 
 loop-again : tie.Need-loop-again Inv-loop μ-loop
 loop-again c =
-    let l = c .before .before .loop in
-    (omega (arith, c .before .loop-test .taken), taken-by _ _ _ _ (sym (rising-step (l .left) _)) (taken-more _ _ _ _ _ (l .inv .1) (c .taken .ensures)))
+    let l = c .before .before .loop in (
+      omega (arith, c .before .loop-test .taken),
+      taken-by _ _ _ _ (sym (rising-step (l .left) _))
+          (taken-more _ _ _ _ _ (l .inv .1) (c .taken .ensures)),
+    )
 
 returns : tie.Need-returns Inv-loop μ-loop
-returns c = let l = c .before .loop in rising-all (l .left) _ _ _ (l .inv .0) (omega (arith, c .loop-test .left)) (l .inv .1)
+returns c = let l = c .before .loop in
+    rising-all (l .left) _ _ _ (l .inv .0) (omega (arith, c .loop-test .left)) (l .inv .1)
 
 pub sorted-spec : {M : Type 1} → statement M
 sorted-spec =

@@ -2,7 +2,8 @@
 use Rattle.grammar.specs.declared.Clause.the-variants.{Empty}
 use Rattle.clauses.specs.Expansion.{of}
 use Rattle.clause_sheets.specs.Checks.{RulesTaken}
-use Rattle.clause_sheets.proofs.Takes.{taken-none, taken-more, taken-by, taken-all, of-hit, of-miss}
+use Rattle.clause_sheets.proofs.Takes.{taken-none, taken-more, taken-by, taken-all, of-hit}
+use Rattle.clause_sheets.proofs.Takes.{of-miss}
 use borrow.Author.Needs.{needs}
 use lib.ListN.{length, take}
 use native.Mathlib.Omega.{arith}
@@ -39,8 +40,18 @@ loop-again : tie.Need-loop-again Inv-loop μ-loop
 loop-again c =
     let a = c .before .before .before .before .before .before .args in
     let k : length (a .t1) ≡ 128 = search needs in
-    let l = c .before .before .before .before .before .loop in
-    (omega (arith, c .before .before .before .before .loop-test .taken), taken-by _ _ _ _ (sym (of-hit (a .left) (a .t1) (l .i) (record { left = 0; clause = Empty }) (omega (arith, c .before .before .before .before .loop-test .taken, c .before .before .before .before .before .before .pre)) (c .before .if1 .taken))) (taken-more _ _ _ _ _ (l .inv .1) (c .append .ensures)))
+    let l = c .before .before .before .before .before .loop in (
+      omega (arith, c .before .before .before .before .loop-test .taken),
+      taken-by _ _ _ _
+          (sym (of-hit (a .left) (a .t1) (l .i) (record { left = 0; clause = Empty })
+          (omega (
+            arith,
+            c .before .before .before .before .loop-test .taken,
+            c .before .before
+                .before .before .before .before .pre,
+          )) (c .before .if1 .taken)))
+          (taken-more _ _ _ _ _ (l .inv .1) (c .append .ensures)),
+    )
 
 add-i-2 : tie.Need-add-i-2 Inv-loop μ-loop
 add-i-2 c = search needs
@@ -52,14 +63,24 @@ loop-again-2 : tie.Need-loop-again-2 Inv-loop μ-loop
 loop-again-2 c =
     let a = c .before .before .before .before .before .args in
     let k : length (a .t1) ≡ 128 = search needs in
-    let l = c .before .before .before .before .loop in
-    (omega (arith, c .before .before .before .loop-test .taken), taken-by _ _ _ _ (sym (of-miss (a .left) (a .t1) (l .i) (record { left = 0; clause = Empty }) (omega (arith, c .before .before .before .loop-test .taken, c .before .before .before .before .before .pre)) (c .if1 .left))) (l .inv .1))
+    let l = c .before .before .before .before .loop in (
+      omega (arith, c .before .before .before .loop-test .taken),
+      taken-by _ _ _ _
+          (sym (of-miss (a .left) (a .t1) (l .i) (record { left = 0; clause = Empty })
+          (omega (
+            arith,
+            c .before .before .before .loop-test .taken,
+            c .before .before .before
+                .before .before .pre,
+          )) (c .if1 .left))) (l .inv .1),
+    )
 
 returns : tie.Need-returns Inv-loop μ-loop
 returns c =
     let a = c .before .before .args in
     let l = c .before .loop in
-    taken-all (a .left) (l .i) (a .n) _ _ _ (l .inv .0) (omega (arith, c .loop-test .left)) (l .inv .1)
+    taken-all (a .left) (l .i) (a .n) _ _ _ (l .inv .0) (omega (arith, c .loop-test .left))
+    (l .inv .1)
 
 pub taken-spec : {M : Type 1} → statement M
 taken-spec =

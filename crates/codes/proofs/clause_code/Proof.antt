@@ -101,8 +101,11 @@ returns-4 c =
     let h = subst SmallClause e (c .before .before .before .before .before .before .pre) in
     let w = c .before .wide4 .ensures in
     let x = c .wide5 .ensures in
-    let d = c .before .before .binary-digit .ensures in
-    (omega (arith, h .0, h .1, w, x, d .0), gives-binary _ _ _ _ _ (omega (arith, w, x)) d (h .0) (h .1) ∙ sym e)
+    let d = c .before .before .binary-digit .ensures in (
+      omega (arith, h .0, h .1, w, x, d .0),
+      gives-binary _ _ _ _ _ (omega (arith, w, x)) d (h .0)
+          (h .1) ∙ sym e,
+    )
 
 pub clause-code-spec : {M : Type 1} → statement M
 clause-code-spec =

@@ -34,15 +34,25 @@ returns : tie.Need-returns
 returns c = is-empty _ (sym (c .before .kind-of .ensures) ∙ c .match .keys1)
 
 returns-2 : tie.Need-returns-2
-returns-2 c = is-atom _ _ _ (sym (c .before .before .before .kind-of .ensures) ∙ c .before .before .match .keys2) (c .before .first-of .ensures) (c .second-of .ensures)
+returns-2 c = is-atom _ _ _ (sym (c .before .before .before .kind-of .ensures)
+    ∙ c .before .before .match .keys2) (c .before .first-of .ensures) (c .second-of .ensures)
 
 returns-3 : tie.Need-returns-3
-returns-3 c = is-unary _ _ _ (sym (c .before .before .before .kind-of .ensures) ∙ c .before .before .match .keys3) (c .before .first-of2 .ensures) (c .unary-mark-of .ensures)
+returns-3 c = is-unary _ _ _ (sym (c .before .before .before .kind-of .ensures)
+    ∙ c .before .before .match .keys3) (c .before .first-of2 .ensures) (c .unary-mark-of .ensures)
 
 returns-4 : tie.Need-returns-4
 returns-4 c =
     let r = c .before .before .before .match .rest in
-    is-binary _ _ _ _ (omega (arith, c .before .before .before .before .kind-of .ensures, r .0 .0 .1, r .0 .1, r .1)) (c .before .before .first-of3 .ensures) (c .before .second-of2 .ensures) (c .binary-mark-of .ensures)
+    is-binary _ _ _ _ (omega (
+      arith,
+      c .before .before .before .before .kind-of .ensures,
+      r .0 .0
+          .1,
+      r .0 .1,
+      r .1,
+    )) (c .before .before .first-of3 .ensures) (c .before .second-of2 .ensures)
+    (c .binary-mark-of .ensures)
 
 pub clause-of-spec : {M : Type 1} → statement M
 clause-of-spec =

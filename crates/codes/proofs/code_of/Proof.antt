@@ -21,7 +21,8 @@ returns : tie.Need-returns
 returns c =
     let z = c .before .before in
     let w = c .before .wide .ensures in
-    gives-rule (c .clause-code .result) (c .before .wide .result) (z .args .r) w (omega (arith, w, z .pre .left)) (c .clause-code .ensures .1)
+    gives-rule (c .clause-code .result) (c .before .wide .result) (z .args .r) w
+    (omega (arith, w, z .pre .left)) (c .clause-code .ensures .1)
 
 pub code-of-spec : {M : Type 1} → statement M
 code-of-spec =

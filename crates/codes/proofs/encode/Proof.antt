@@ -13,7 +13,8 @@ use Rattle.codes.proofs.encode.Statement.{statement}
 use Rattle.codes.proofs.encode.Tie as tie
 
 abbrev Inv-loop : tie.InvT-loop
-Inv-loop g codes₀ i₀ codes i = (i ≤ g .count) × (length codes ≡ 128) × (decoded (take i codes) ≡ take i (rules g))
+Inv-loop g codes₀ i₀ codes i =
+    (i ≤ g .count) × (length codes ≡ 128) × (decoded (take i codes) ≡ take i (rules g))
 
 abbrev μ-loop : tie.MeasureT-loop
 μ-loop g codes₀ i₀ codes i = g .count - i
@@ -32,7 +33,9 @@ code-of-requires c κs =
     let z = c .before .before .before in
     let i = c .before .before .loop .i in
     let h : i < z .args .t1 .count = c .before .loop-test .taken in
-    subst SmallRule (getD-take (z .args .t1 .count) (z .args .t1 .rules) i _ h) (every-at SmallRule _ (rules (z .args .t1)) (z .pre .small) i (omega (arith, z .pre .whole)))
+    subst SmallRule (getD-take (z .args .t1 .count) (z .args .t1 .rules) i _ h)
+    (every-at SmallRule _ (rules (z .args .t1)) (z .pre .small) i
+    (omega (arith, z .pre .whole)))
 
 mul-codes : tie.Need-mul-codes Inv-loop μ-loop
 mul-codes c = omega (arith, c .before .before .before .before .pre .few)
@@ -56,7 +59,8 @@ loop-again c =
     let q : l .i < length (l .codes) = omega (arith, z .pre .few, l .inv .1) in (
       omega arith,
       length-set (l .codes) (l .i) (c .code-of .result) ∙ l .inv .1,
-      rw (add-one (l .i)) (stored (l .codes) (rules g) _ (l .i) (c .code-of .result) q w (c .code-of .ensures ∙ sym (getD-take (g .count) (g .rules) (l .i) _ h)) (l .inv .2)),
+      rw (add-one (l .i)) (stored (l .codes) (rules g) _ (l .i) (c .code-of .result) q w
+          (c .code-of .ensures ∙ sym (getD-take (g .count) (g .rules) (l .i) _ h)) (l .inv .2)),
     )
 
 returns : tie.Need-returns Inv-loop μ-loop
@@ -65,7 +69,8 @@ returns c =
     let g = z .args .t1 in
     let l = c .before .loop in
     let e : l .i ≡ g .count = omega arith in
-    let p : decoded (take (g .count) (l .codes)) ≡ take (g .count) (rules g) = subst (λ (n : ℕ). decoded (take n (l .codes)) ≡ take n (rules g)) e (l .inv .2) in
+    let p : decoded (take (g .count) (l .codes)) ≡ take (g .count) (rules g) =
+    subst (λ (n : ℕ). decoded (take n (l .codes)) ≡ take n (rules g)) e (l .inv .2) in
     p ∙ take-all (g .count) (rules g) (omega (arith, z .pre .whole))
 
 pub encode-spec : {M : Type 1} → statement M

@@ -1,7 +1,8 @@
 -- The loop's invariant: the tokens from i on are counted, and their choices are within the limit.
 use Prim.Native.Nat.{_-_}
 use native.Mathlib.Omega.{arith}
-use Rattle.column_ranges.proofs.Counting.{ended-at, Counting, counting-none, counting-more, counts-over, counts-all, product-fits}
+use Rattle.column_ranges.proofs.Counting.{ended-at, Counting, counting-none, counting-more}
+use Rattle.column_ranges.proofs.Counting.{counts-over, counts-all, product-fits}
 use Rattle.column_ranges.proofs.count.Statement.{statement}
 use Rattle.column_ranges.proofs.count.Tie as tie
 
@@ -24,17 +25,24 @@ element-copy-out-t : tie.Need-element-copy-out-t Inv-loop μ-loop
 element-copy-out-t c = omega (arith, c .before .loop .inv .inside, c .before .before .pre .few)
 
 columns-requires : tie.Need-columns-requires Inv-loop μ-loop
-columns-requires c κs = ended-at (c .before .before .before .pre) _ (omega (arith, c .before .before .loop .inv .inside, c .before .loop-test .taken))
+columns-requires c κs = ended-at (c .before .before .before .pre) _
+    (omega (arith, c .before .before .loop .inv .inside, c .before .loop-test .taken))
 
 mul-m : tie.Need-mul-m Inv-loop μ-loop
 mul-m c =
     let l = c .before .before .before in
-    omega (arith, product-fits (l .before .pre) (c .before .before .loop-test .taken) (l .loop .inv) (c .columns .ensures))
+    omega (
+      arith,
+      product-fits (l .before .pre) (c .before .before .loop-test .taken) (l .loop .inv)
+          (c .columns .ensures),
+    )
 
 returns : tie.Need-returns Inv-loop μ-loop
 returns c =
     let l = c .before .before .before .before in
-    counts-over (l .before .pre) _ (l .loop .i - 1) (c .if1 .taken) (counting-more (l .before .pre) (c .before .before .before .loop-test .taken) (l .loop .inv) (c .before .columns .ensures))
+    counts-over (l .before .pre) _ (l .loop .i - 1) (c .if1 .taken)
+    (counting-more (l .before .pre) (c .before .before .before .loop-test .taken) (l .loop .inv)
+    (c .before .columns .ensures))
 
 loop-less : tie.Need-loop-less Inv-loop μ-loop
 loop-less c = omega arith
@@ -45,7 +53,8 @@ loop-again c =
     record {
       inside = omega (arith, l .loop .inv .inside);
       few = c .if1 .left;
-      exact = counting-more (l .before .pre) (c .before .before .before .loop-test .taken) (l .loop .inv) (c .before .columns .ensures);
+      exact = counting-more (l .before .pre) (c .before .before .before .loop-test .taken)
+          (l .loop .inv) (c .before .columns .ensures);
     }
 
 returns-2 : tie.Need-returns-2 Inv-loop μ-loop

@@ -26,7 +26,9 @@ returns-3 c =
     let b = c .before in
     let a = b .before .before in
     let z = a .before .before in
-    λ e. implies-all (z .args .o) (z .args .f) (a .before .implies .ensures (not-false _ (a .if1 .left))) (b .before .implies2 .ensures (not-false _ (b .if2 .left))) (c .implies3 .ensures e)
+    λ e. implies-all (z .args .o) (z .args .f)
+    (a .before .implies .ensures (not-false _ (a .if1 .left)))
+    (b .before .implies2 .ensures (not-false _ (b .if2 .left))) (c .implies3 .ensures e)
 
 pub covered-spec : {M : Type 1} → statement M
 covered-spec =

@@ -23,7 +23,10 @@ same-length c = search needs
 returns-2 : tie.Need-returns-2
 returns-2 c =
     let o = c .before .before .before .outlook .ensures in
-    record { finds = λ e. record { all = λ v y. c .covered .ensures e v (o .finds .all v y) }; leaving = o .leaving }
+    record {
+      finds = λ e. record { all = λ v y. c .covered .ensures e v (o .finds .all v y) };
+      leaving = o .leaving;
+    }
 
 pub idle-spec : {M : Type 1} → statement M
 idle-spec =

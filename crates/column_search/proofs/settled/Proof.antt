@@ -9,13 +9,21 @@ full-requires : tie.Need-full-requires
 full-requires c κs = search needs
 
 returns : tie.Need-returns
-returns c = record { leave = λ e. inl (c .before .full .ensures (c .if1 .taken)); stay = λ e. absurd (true-not-false e) }
+returns c = record {
+  leave = λ e. inl (c .before .full .ensures (c .if1 .taken));
+  stay = λ e. absurd
+      (true-not-false e);
+}
 
 may-rise-requires : tie.Need-may-rise-requires
 may-rise-requires c κs = search needs
 
 returns-2 : tie.Need-returns-2
-returns-2 c = record { leave = λ e. inr (c .may-rise .ensures .isnt (not-true _ e)); stay = λ e. c .may-rise .ensures .is (not-false _ e) }
+returns-2 c = record {
+  leave = λ e. inr (c .may-rise .ensures .isnt (not-true _ e));
+  stay = λ e. c
+      .may-rise .ensures .is (not-false _ e);
+}
 
 pub settled-spec : {M : Type 1} → statement M
 settled-spec = tie.close (tie.spec full-requires returns may-rise-requires returns-2)

@@ -20,7 +20,9 @@ returns : tie.Need-returns
 returns c =
     let z = c .before .before .before .before .before .before .before .before .before in
     let p = z .pre .1 in
-    choice-all (z .pre .0 .0 .distinct) (p .0 .0) (p .0 .1) (p .0 .2) (p .1 .1 .0) (c .before .before .before .before .before .fill-ranges .ensures) (c .before .verdict .ensures) (c .with-verdict .ensures)
+    choice-all (z .pre .0 .0 .distinct) (p .0 .0) (p .0 .1) (p .0 .2) (p .1 .1 .0)
+    (c .before .before .before .before .before .fill-ranges .ensures)
+    (c .before .verdict .ensures) (c .with-verdict .ensures)
 
 pub try-choice-spec : {M : Type 1} → statement M
 try-choice-spec =

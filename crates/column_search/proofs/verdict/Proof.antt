@@ -17,8 +17,11 @@ returns-2 c = c .before .in-second .ensures .is (c .if2 .taken)
 
 returns-3 : tie.Need-returns-3
 returns-3 c =
-    let e = c .before .before in
-    (e .before .in-first .ensures .is (not-false _ (e .if1 .left)), c .before .in-second .ensures .isnt (c .if2 .left))
+    let e = c .before .before in (
+      e .before .in-first .ensures .is (not-false _ (e .if1 .left)),
+      c .before .in-second .ensures
+          .isnt (c .if2 .left),
+    )
 
 pub verdict-spec : {M : Type 1} → statement M
 verdict-spec =

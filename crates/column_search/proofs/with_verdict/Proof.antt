@@ -14,13 +14,16 @@ enum-told-3 : tie.Need-enum-told-3
 enum-told-3 c = search needs
 
 returns : tie.Need-returns
-returns c = with-none (c .before .before .args .f) (c .before .before .args .v) (c .enum-told .given .1)
+returns c =
+    with-none (c .before .before .args .f) (c .before .before .args .v) (c .enum-told .given .1)
 
 returns-2 : tie.Need-returns-2
-returns-2 c = with-one (c .before .before .args .f) (c .before .before .args .v) (c .enum-told2 .given .1)
+returns-2 c =
+    with-one (c .before .before .args .f) (c .before .before .args .v) (c .enum-told2 .given .1)
 
 returns-3 : tie.Need-returns-3
-returns-3 c = with-two (c .before .before .args .f) (c .before .before .args .v) (c .enum-told3 .given .1)
+returns-3 c =
+    with-two (c .before .before .args .f) (c .before .before .args .v) (c .enum-told3 .given .1)
 
 pub with-verdict-spec : {M : Type 1} → statement M
 with-verdict-spec =

@@ -21,7 +21,8 @@ returns : tie.Need-returns
 returns c =
     let b = c .before .before in
     let n = b .before .before .before .before in (
-      rw (n .before .before .before .if1 .taken) (wrote-then (n .put-bytes .ensures) (b .put-byte .ensures)),
+      rw (n .before .before .before .if1 .taken)
+          (wrote-then (n .put-bytes .ensures) (b .put-byte .ensures)),
       omega (arith, n .put-bytes .ensures .next, b .put-byte .ensures .next),
     )
 
@@ -41,7 +42,8 @@ returns-2 : tie.Need-returns-2
 returns-2 c =
     let b = c .before .before in
     let n = b .before .before .before .before in (
-      rw (n .before .before .before .if1 .left) (wrote-then (n .put-bytes2 .ensures) (b .put-byte2 .ensures)),
+      rw (n .before .before .before .if1 .left)
+          (wrote-then (n .put-bytes2 .ensures) (b .put-byte2 .ensures)),
       omega (arith, n .put-bytes2 .ensures .next, b .put-byte2 .ensures .next),
     )
 

@@ -30,7 +30,9 @@ returns c =
     let z₂ = z₃ .before .before .before .before in
     let z₁ = z₂ .before .before .before .before in
     let n = z₁ .before .before .before .before in
-    wrote-then (n .put-bytes .ensures) (wrote-then (z₁ .put-flag .ensures .0) (wrote-then (z₂ .put-flag2 .ensures .0) (z₃ .put-flag3 .ensures .0)))
+    wrote-then (n .put-bytes .ensures)
+    (wrote-then (z₁ .put-flag .ensures .0)
+    (wrote-then (z₂ .put-flag2 .ensures .0) (z₃ .put-flag3 .ensures .0)))
 
 pub put-flags-spec : {M : Type 1} → statement M
 put-flags-spec =

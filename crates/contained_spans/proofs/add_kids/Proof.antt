@@ -27,7 +27,13 @@ add-requires c κs =
     let c-here = c .before .before .before .c in
     let z = c .before .before .before .before .before .before in
     let a = z .args in (
-      omega (arith, c .before .pair-at .ensures, pairAt-below (a .n) (a .start) (a .len) (z .pre .0 .0 .fits), z .pre .0 .0 .enough),
+      omega (
+        arith,
+        c .before .pair-at .ensures,
+        pairAt-below (a .n) (a .start) (a .len)
+            (z .pre .0 .0 .fits),
+        z .pre .0 .0 .enough,
+      ),
       subst SmallClause (c-here .given .1) (z .pre .1),
     )
 
@@ -52,7 +58,13 @@ add-requires-2 c κs =
     let pair-at2 = c .before .before .pair-at2 in
     let z = c .before .before .before .before .before .before .before in
     let a = z .args in (
-      omega (arith, pair-at2 .ensures, pairAt-below (a .n) (a .start) (a .left) (omega (arith, z .pre .0)), z .pre .0 .0 .enough),
+      omega (
+        arith,
+        pair-at2 .ensures,
+        pairAt-below (a .n) (a .start) (a .left)
+            (omega (arith, z .pre .0)),
+        z .pre .0 .0 .enough,
+      ),
       subst SmallClause (c2 .given .1) (z .pre .1) .0,
     )
 
@@ -61,8 +73,15 @@ add-requires-3 c κs =
     let d = c .before .before .before in
     let z = d .before .before .before .before .before .before .before .before in
     let a = z .args in (
-      omega
-          (arith, d .add2 .ensures .long, d .before .before .pair-at3 .ensures, pairAt-below (a .n) (a .start + a .left) (a .len - a .left) (omega (arith, z .pre .0)), z .pre .0 .0 .enough),
+      omega (
+        arith,
+        d .add2 .ensures .long,
+        d .before .before .pair-at3 .ensures,
+        pairAt-below (a .n)
+            (a .start + a .left) (a .len - a .left) (omega (arith, z .pre .0)),
+        z .pre .0 .0
+            .enough,
+      ),
       subst SmallClause (d .before .before .before .before .before .c2 .given .1) (z .pre .1) .1,
     )
 
@@ -79,7 +98,8 @@ returns-3 : tie.Need-returns-3
 returns-3 c =
     let d = c .before .before in
     let e = d .before .before .pair-at .ensures in
-    rw (d .before .before .before .before .c .given .1) (joins-as (λ q B x. (x .0 ∙ e, x .1)) (λ q B x. (x .0 ∙ sym e, x .1)) (d .add .ensures))
+    rw (d .before .before .before .before .c .given .1)
+    (joins-as (λ q B x. (x .0 ∙ e, x .1)) (λ q B x. (x .0 ∙ sym e, x .1)) (d .add .ensures))
 
 same-length-2 : tie.Need-same-length-2
 same-length-2 c = search needs
@@ -92,9 +112,11 @@ returns-4 c =
     let e = g .before .pair-at2 .ensures in
     let e₂ = g .pair-at3 .ensures in
     rw (g .before .before .before .c2 .given .1)
-    (joins-as (⊎-map e e₂) (⊎-map (sym e) (sym e₂)) (joins-then (f .add2 .ensures) (d .add3 .ensures)))
+    (joins-as (⊎-map e e₂) (⊎-map (sym e) (sym e₂))
+    (joins-then (f .add2 .ensures) (d .add3 .ensures)))
   where
-    ⊎-map : {p p′ r r′ b e : ℕ} → p ≡ p′ → r ≡ r′ → (q B : ℕ) → ((q ≡ p) × (B ≡ b)) ⊎ ((q ≡ r) × (B ≡ e)) → ((q ≡ p′) × (B ≡ b)) ⊎ ((q ≡ r′) × (B ≡ e))
+    ⊎-map : {p p′ r r′ b e : ℕ} → p ≡ p′ → r ≡ r′ → (q B : ℕ)
+        → ((q ≡ p) × (B ≡ b)) ⊎ ((q ≡ r) × (B ≡ e)) → ((q ≡ p′) × (B ≡ b)) ⊎ ((q ≡ r′) × (B ≡ e))
     ⊎-map x y q B (inl z) = inl (z .0 ∙ x, z .1)
     ⊎-map x y q B (inr z) = inr (z .0 ∙ y, z .1)
 

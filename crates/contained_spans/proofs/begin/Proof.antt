@@ -24,8 +24,17 @@ add-requires : tie.Need-add-requires
 add-requires c κs =
     let k = c .before .before .before .before in
     let z = k .before .before .before .before in
-    let n = z .args .n in
-    (omega (arith, c .before .pair-at .ensures, pairAt-below n 0 n (omega arith), z .pre .1, k .clear .ensures .past .long), omega arith)
+    let n = z .args .n in (
+      omega (
+        arith,
+        c .before .pair-at .ensures,
+        pairAt-below n 0 n (omega arith),
+        z .pre .1,
+        k
+            .clear .ensures .past .long,
+      ),
+      omega arith,
+    )
 
 same-length : tie.Need-same-length
 same-length c = search needs
@@ -40,8 +49,10 @@ returns c =
     let n = z .args .n in
     let e = p .pair-at .ensures in
     begun n (z .args .reach .now) (k .clear .last .0) _ (z .pre .1)
-    (subst (Cleared (z .args .reach .now) (k .clear .last .0)) (let h : s .size .result / 2 ≡ pairs n = omega (arith, s .size .ensures) in h) (k .clear .ensures))
-    (joins-as (λ q B x. (x .0 ∙ e, x .1)) (λ q B x. (x .0 ∙ sym e, x .1)) (a .add .ensures))
+    (subst (Cleared (z .args .reach .now) (k .clear .last .0))
+    (let h : s .size .result / 2 ≡ pairs n = omega (arith, s .size .ensures) in h)
+    (k .clear .ensures)) (joins-as (λ q B x. (x .0 ∙ e, x .1))
+    (λ q B x. (x .0 ∙ sym e, x .1)) (a .add .ensures))
 
 pub begin-spec : {M : Type 1} → statement M
 begin-spec =

@@ -12,10 +12,22 @@ returns : tie.Need-returns
 returns c = λ a h. none-less _ _ (c .if1 .taken) a
 
 cast-t7 : tie.Need-cast-t7
-cast-t7 c = let a = c .before .args in let pos : 0 < bitAnd (a .set) (bitXor (a .set) (a .done)) = omega (arith, c .if1 .left) in omega (arith, least-member (bitAnd (a .set) (bitXor (a .set) (a .done))) pos (let fits : a .set < 2 ^ 64 = search needs in omega (arith, and-le-l (a .set) (bitXor (a .set) (a .done)), fits)) .small)
+cast-t7 c = let a = c .before .args in
+    let pos : 0 < bitAnd (a .set) (bitXor (a .set) (a .done)) = omega (arith, c .if1 .left) in
+    omega (
+      arith,
+      least-member (bitAnd (a .set) (bitXor (a .set) (a .done))) pos
+          (let fits : a .set < 2 ^ 64 = search needs in
+          omega (arith, and-le-l (a .set) (bitXor (a .set) (a .done)), fits)) .small,
+    )
 
 returns-2 : tie.Need-returns-2
-returns-2 c = let a = c .before .args in let pos : 0 < bitAnd (a .set) (bitXor (a .set) (a .done)) = omega (arith, c .if1 .left) in let x = least-member (bitAnd (a .set) (bitXor (a .set) (a .done))) pos (let fits : a .set < 2 ^ 64 = search needs in omega (arith, and-le-l (a .set) (bitXor (a .set) (a .done)), fits)) in let y = in-less (a .set) (a .done) _ .0 (x .member) in (x .small, y .0, y .1)
+returns-2 c = let a = c .before .args in
+    let pos : 0 < bitAnd (a .set) (bitXor (a .set) (a .done)) = omega (arith, c .if1 .left) in
+    let x = least-member (bitAnd (a .set) (bitXor (a .set) (a .done))) pos
+    (let fits : a .set < 2 ^ 64 = search needs in
+    omega (arith, and-le-l (a .set) (bitXor (a .set) (a .done)), fits)) in let y =
+    in-less (a .set) (a .done) _ .0 (x .member) in (x .small, y .0, y .1)
 
 pub fresh-spec : {M : Type 1} → statement M
 fresh-spec = tie.close (tie.spec returns cast-t7 returns-2)

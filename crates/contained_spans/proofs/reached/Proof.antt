@@ -13,7 +13,8 @@ use Rattle.grammar.specs.Sentences.{spelled}
 -- the array of tokens has 64 places
 whole : (c : tie.Start) → length (spelled (c .args .s)) ≡ c .args .s .count
 whole c =
-    let long : length (c .args .s .tokens) ≡ 64 = simp length-map at (c .good .1 .0 .1 .1 .0 .1 .0 .1) in
+    let long : length (c .args .s .tokens) ≡ 64 =
+    simp length-map at (c .good .1 .0 .1 .1 .0 .1 .0 .1) in
     length-take-le (c .args .s .count) (c .args .s .tokens) (omega (arith, c .pre .0 .0))
 
 slice-aggregate-list-rules : tie.Need-slice-aggregate-list-rules
@@ -35,8 +36,13 @@ spread-all-requires c κs =
     let z = r .before .before .before .before .before in
     let s = z .args .s in
     let l = whole z in (
-      (record { few = z .pre .0 .0; long = l; known = refl; sheet = z .pre .1 .1 .0 }, z .pre .1 .0, r .list-rules .ensures),
-      done-start (rules (z .args .g)) (spelled s) (s .count) (b .begin .last .0) l (z .pre .1 .1 .1) (b .begin .ensures),
+      (
+        record { few = z .pre .0 .0; long = l; known = refl; sheet = z .pre .1 .1 .0 },
+        z .pre .1 .0,
+        r .list-rules .ensures,
+      ),
+      done-start (rules (z .args .g)) (spelled s) (s .count) (b .begin .last .0) l (z .pre .1 .1 .1)
+          (b .begin .ensures),
     )
 
 same-length : tie.Need-same-length
@@ -45,9 +51,11 @@ same-length c = search needs
 returns : tie.Need-returns
 returns c =
     let a = c .before .before in
-    let z = a .before .before .before .before .before .before .before .before .before .before .before .before .before in
+    let z = a .before .before .before .before .before .before .before .before .before .before
+    .before .before .before in
     let s = z .args .s in
-    reached (rules (z .args .g)) (spelled s) (s .count) (a .spread-all .last .1 .0) (whole z) (a .spread-all .ensures)
+    reached (rules (z .args .g)) (spelled s) (s .count) (a .spread-all .last .1 .0) (whole z)
+    (a .spread-all .ensures)
 
 pub reached-spec : {M : Type 1} → statement M
 reached-spec =

@@ -13,7 +13,8 @@ use Rattle.contained_spans.proofs.spread_all.Tie as tie
 
 abbrev Inv-loop : tie.InvT-loop
 Inv-loop words reach₀ d g lists len₀ reach len =
-    (length reach ≡ length reach₀) × (len ≤ d .count) × Done (rules g) (drafted d) (d .count) reach (pairAt (d .count) 0 (len + 1))
+    (length reach ≡ length reach₀) × (len ≤ d .count) × Done (rules g) (drafted d) (d .count) reach
+    (pairAt (d .count) 0 (len + 1))
 
 abbrev μ-loop : tie.MeasureT-loop
 μ-loop words reach₀ d g lists len₀ reach len = len
@@ -42,8 +43,10 @@ loop-again c =
     let a = z .args in (
       o .spread-row .kept .1 .0 ∙ l .inv .0,
       omega (arith, l .inv .1),
-      subst (λ (x : ℕ). Done (rules (a .g)) (drafted (a .d)) (a .d .count) (o .spread-row .last .1 .0) (pairAt (a .d .count) 0 x))
-          (let e : l .len ≡ l .len - 1 + 1 = omega (arith, i .loop-test .taken) in e) (o .spread-row .ensures),
+      subst (λ (x : ℕ). Done (rules (a .g)) (drafted (a .d)) (a .d .count)
+          (o .spread-row .last .1 .0) (pairAt (a .d .count) 0 x))
+          (let e : l .len ≡ l .len - 1 + 1 = omega (arith, i .loop-test .taken) in e)
+          (o .spread-row .ensures),
     )
 
 spread-span-requires : tie.Need-spread-span-requires Inv-loop μ-loop
@@ -53,14 +56,16 @@ spread-span-requires c κs =
     (z .pre .0, record { few = z .pre .0 .0 .few; fits = omega arith; enough = l .inv .2 .long })
 
 same-length : tie.Need-same-length Inv-loop μ-loop
-same-length c = c .before .before .spread-span .kept .1 .0 ∙ c .before .before .before .before .before .loop .inv .0
+same-length c = c .before .before .spread-span .kept .1 .0
+    ∙ c .before .before .before .before .before .loop .inv .0
 
 returns : tie.Need-returns Inv-loop μ-loop
 returns c =
     let o = c .before .before in
     let t = o .before .before in
     let l = t .before .loop in
-    last-next _ _ _ (l .len) _ _ (let e : l .len ≡ 0 = omega (arith, t .loop-test .left) in e) (l .inv .2) (o .spread-span .ensures)
+    last-next _ _ _ (l .len) _ _ (let e : l .len ≡ 0 = omega (arith, t .loop-test .left) in e)
+    (l .inv .2) (o .spread-span .ensures)
 
 pub spread-all-spec : {M : Type 1} → statement M
 spread-all-spec =

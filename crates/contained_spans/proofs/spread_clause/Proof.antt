@@ -11,7 +11,8 @@ use Rattle.contained_spans.proofs.spread_clause.Statement.{statement}
 use Rattle.contained_spans.proofs.spread_clause.Tie as tie
 
 abbrev Inv-loop : tie.InvT-loop
-Inv-loop words reach₀ n c start len k last left₀ reach left = Joins (Under (LeftKids words n start len k c) left) reach₀ reach
+Inv-loop words reach₀ n c start len k last left₀ reach left =
+    Joins (Under (LeftKids words n start len k c) left) reach₀ reach
 
 abbrev μ-loop : tie.MeasureT-loop
 μ-loop words reach₀ n c start len k last left₀ reach left = last + 1 - left
@@ -20,7 +21,8 @@ last-left-requires : tie.Need-last-left-requires Inv-loop μ-loop
 last-left-requires c κs = search needs
 
 loop-holds : tie.Need-loop-holds Inv-loop μ-loop
-loop-holds c = let a = c .before .before .before .args in joins-zero (LeftKids (a .words .now) (a .n) (a .start) (a .len) (a .k) (a .c)) _
+loop-holds c = let a = c .before .before .before .args in
+    joins-zero (LeftKids (a .words .now) (a .n) (a .start) (a .len) (a .k) (a .c)) _
 
 try-left-requires : tie.Need-try-left-requires Inv-loop μ-loop
 try-left-requires c κs =
@@ -30,7 +32,12 @@ try-left-requires c κs =
       (
         z .pre .0 .0,
         record { few = s .few; fits = s .fits; enough = omega (arith, s .enough, l .inv .long) },
-        omega (arith, c .before .loop-test .taken, c .before .before .before .last-left .ensures, lefts-le (z .args .c) (z .args .len)),
+        omega (
+          arith,
+          c .before .loop-test .taken,
+          c .before .before .before .last-left .ensures,
+          lefts-le (z .args .c) (z .args .len),
+        ),
       ),
       z .pre .1,
     )
@@ -39,7 +46,14 @@ add-left : tie.Need-add-left Inv-loop μ-loop
 add-left c =
     let i = c .before .before .before .before in
     let z = i .before .before .before .before .before in
-    omega (arith, i .loop-test .taken, i .before .before .last-left .ensures, lefts-le (z .args .c) (z .args .len), z .pre .0 .0)
+    omega (
+      arith,
+      i .loop-test .taken,
+      i .before .before .last-left .ensures,
+      lefts-le (z .args .c)
+          (z .args .len),
+      z .pre .0 .0,
+    )
 
 loop-less : tie.Need-loop-less Inv-loop μ-loop
 loop-less c = omega (arith, c .before .before .before .before .loop-test .taken)
@@ -49,7 +63,8 @@ loop-again c =
     let i = c .before .before .before .before in
     let l = i .before .loop in
     let a = i .before .before .before .before .before .args in
-    joins-next (LeftKids (a .words .now) (a .n) (a .start) (a .len) (a .k) (a .c)) (l .left) (l .inv) (c .before .before .try-left .ensures)
+    joins-next (LeftKids (a .words .now) (a .n) (a .start) (a .len) (a .k) (a .c)) (l .left)
+    (l .inv) (c .before .before .try-left .ensures)
 
 same-length : tie.Need-same-length Inv-loop μ-loop
 same-length c = c .before .loop .inv .long
@@ -61,7 +76,14 @@ returns c =
     let l = c .before .loop in
     let a = args in
     joins-all (LeftKids (a .words .now) (a .n) (a .start) (a .len) (a .k) (a .c)) (l .left) (l .inv)
-    (λ j q B x. omega (arith, c .loop-test .left, last-left .ensures, fits-le (One (a .words .now) (a .n)) (byMarks (a .k) (a .len)) (a .start) (a .len) (a .c) j (x .0)))
+    (λ j q B x. omega (
+      arith,
+      c .loop-test .left,
+      last-left .ensures,
+      fits-le
+          (One (a .words .now) (a .n)) (byMarks (a .k) (a .len)) (a .start) (a .len) (a .c) j
+          (x .0),
+    ))
 
 pub spread-clause-spec : {M : Type 1} → statement M
 spread-clause-spec =

@@ -9,7 +9,9 @@ clause-fits-requires : tie.Need-clause-fits-requires
 clause-fits-requires c κs = search needs
 
 returns : tie.Need-returns
-returns c = joins-as (λ q B x. absurd x) (λ q B x. c .before .clause-fits .ensures .isnt (not-true _ (c .if1 .taken)) (x .0)) (joins-none _)
+returns c = joins-as (λ q B x. absurd x)
+    (λ q B x. c .before .clause-fits .ensures .isnt (not-true _ (c .if1 .taken)) (x .0))
+    (joins-none _)
 
 add-kids-requires : tie.Need-add-kids-requires
 add-kids-requires c κs = search needs
@@ -21,7 +23,8 @@ returns-2 : tie.Need-returns-2
 returns-2 c =
     let d = c .before .before in
     let e = d .before .before in
-    joins-as (λ q B x. (e .before .clause-fits .ensures .is (not-false _ (e .if1 .left)), x)) (λ q B x. x .1) (d .add-kids .ensures)
+    joins-as (λ q B x. (e .before .clause-fits .ensures .is (not-false _ (e .if1 .left)), x))
+    (λ q B x. x .1) (d .add-kids .ensures)
 
 pub try-left-spec : {M : Type 1} → statement M
 try-left-spec =

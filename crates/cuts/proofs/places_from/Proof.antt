@@ -51,14 +51,21 @@ loop-again c =
     let z = c .before .before .before .before .before in
     let l = c .before .before .before .before .loop in
     let g = z .args .t1 in
-    let h : z .args .base + l .i < g .count = omega (arith, c .before .before .if1 .left) in
-    (omega (arith, c .before .before .before .loop-test .taken), placed-more (omega (arith, z .pre .0 .whole)) (subst (λ (r : Rule). WithPlace (l .set) (l .i) (r .clause) (c .with-place .result)) (sym (getD-take (g .count) (g .rules) (z .args .base + l .i) no-rule h)) (c .with-place .ensures)) (l .inv .1))
+    let h : z .args .base + l .i < g .count = omega (arith, c .before .before .if1 .left) in (
+      omega (arith, c .before .before .before .loop-test .taken),
+      placed-more
+          (omega (arith, z .pre .0 .whole))
+          (subst (λ (r : Rule). WithPlace (l .set) (l .i) (r .clause) (c .with-place .result))
+          (sym (getD-take (g .count) (g .rules) (z .args .base + l .i) no-rule h))
+          (c .with-place .ensures)) (l .inv .1),
+    )
 
 returns-2 : tie.Need-returns-2 Inv-loop μ-loop
 returns-2 c =
     let l = c .before .loop in
     let a = c .before .before .args in
-    subst (λ (x : ℕ). PlacedAt (rules (a .t1)) (a .base) x (l .set)) (let z : l .i ≡ 64 = omega (arith, l .inv .0, c .loop-test .left) in z) (l .inv .1)
+    subst (λ (x : ℕ). PlacedAt (rules (a .t1)) (a .base) x (l .set))
+    (let z : l .i ≡ 64 = omega (arith, l .inv .0, c .loop-test .left) in z) (l .inv .1)
 
 pub places-from-spec : {M : Type 1} → statement M
 places-from-spec =

@@ -24,7 +24,9 @@ abbrev μ-loop : tie.MeasureT-loop
 μ-loop base set rows cols p w g u₀ rest₀ u rest = rest
 
 loop-holds : tie.Need-loop-holds Inv-loop μ-loop
-loop-holds c = let z = c .before .before in let a = z .args in trying-none (a .rows .now) (a .cols .now) (a .p) (a .w) (rules (a .t2)) (a .base) (a .set) (a .t) (z .pre .1 .1)
+loop-holds c = let z = c .before .before in let a = z .args in
+    trying-none (a .rows .now) (a .cols .now) (a .p) (a .w) (rules (a .t2)) (a .base) (a .set)
+    (a .t) (z .pre .1 .1)
 
 lowest-requires : tie.Need-lowest-requires Inv-loop μ-loop
 lowest-requires c κs = omega (arith, c .loop-test .taken)
@@ -33,13 +35,25 @@ place-requires : tie.Need-place-requires Inv-loop μ-loop
 place-requires c κs = search needs
 
 add-r : tie.Need-add-r Inv-loop μ-loop
-add-r c = omega (arith, c .place .ensures, c .before .lowest .ensures .small, c .before .before .before .before .before .before .pre .0 .1)
+add-r c = omega (
+  arith,
+  c .place .ensures,
+  c .before .lowest .ensures .small,
+  c .before .before
+      .before .before .before .before .pre .0 .1,
+)
 
 mul-r : tie.Need-mul-r Inv-loop μ-loop
 mul-r c = search needs
 
 element-copy-out-r : tie.Need-element-copy-out-r Inv-loop μ-loop
-element-copy-out-r c = omega (arith, c .place .ensures, c .before .lowest .ensures .small, c .before .before .before .before .before .before .pre .0 .1)
+element-copy-out-r c = omega (
+  arith,
+  c .place .ensures,
+  c .before .lowest .ensures .small,
+  c .before
+      .before .before .before .before .before .pre .0 .1,
+)
 
 sub-rest : tie.Need-sub-rest Inv-loop μ-loop
 sub-rest c = omega (arith, c .before .before .before .loop-test .taken)
@@ -51,15 +65,19 @@ has-requires c κs =
     let g = a .t2 in
     let l = c .before .before .before .before .loop in
     let i = c .before .place .result in
-    let m = subst (Least (l .rest)) (sym (c .before .place .ensures)) (c .before .before .lowest .ensures) in
+    let m = subst (Least (l .rest)) (sym (c .before .place .ensures))
+    (c .before .before .lowest .ensures) in
     let y = z .pre .0 .2 .within i (l .inv .among i (m .member)) in
     let h : a .base + i < g .count = omega (arith, z .pre .0 .0 .whole) in
-    (subst SmallRule (getD-take (g .count) (g .rules) (a .base + i) _ h) (every-at SmallRule _ (rules g) (z .pre .0 .0 .small) (a .base + i) (omega (arith, z .pre .0 .0 .whole)))) .left
+    (subst SmallRule (getD-take (g .count) (g .rules) (a .base + i) _ h)
+    (every-at SmallRule _ (rules g) (z .pre .0 .0 .small) (a .base + i)
+    (omega (arith, z .pre .0 .0 .whole)))) .left
 
 loop-less : tie.Need-loop-less Inv-loop μ-loop
 loop-less c =
     let l = c .before .before .before .before .before .before .loop in
-    let h : 0 < l .rest = omega (arith, c .before .before .before .before .before .loop-test .taken) in
+    let h : 0 < l .rest =
+    omega (arith, c .before .before .before .before .before .loop-test .taken) in
     rest-less (l .rest) h
 
 loop-again : tie.Need-loop-again Inv-loop μ-loop
@@ -69,10 +87,15 @@ loop-again c =
     let g = a .t2 in
     let l = c .before .before .before .before .before .before .loop in
     let i = c .before .before .before .place .result in
-    let m = subst (Least (l .rest)) (sym (c .before .before .before .place .ensures)) (c .before .before .before .before .lowest .ensures) in
+    let m = subst (Least (l .rest)) (sym (c .before .before .before .place .ensures))
+    (c .before .before .before .before .lowest .ensures) in
     let y = z .pre .0 .2 .within i (l .inv .among i (m .member)) in
     let h : a .base + i < g .count = omega (arith, z .pre .0 .0 .whole) in
-    trying-next (a .rows .now) (a .cols .now) (a .p) (a .w) (rules g) (z .pre .0 .2) (l .inv) m (cut-skip (a .rows .now) (a .cols .now) (a .p) (a .w) (rules g) (a .base + i) (l .u) (subst (λ (r : Rule). In (l .u .two) (r .left)) (sym (getD-take (g .count) (g .rules) (a .base + i) no-rule h)) (c .before .has .ensures .is (c .if1 .taken))))
+    trying-next (a .rows .now) (a .cols .now) (a .p) (a .w) (rules g) (z .pre .0 .2) (l .inv) m
+    (cut-skip (a .rows .now) (a .cols .now) (a .p) (a .w) (rules g) (a .base + i) (l .u)
+    (subst (λ (r : Rule). In (l .u .two) (r .left))
+    (sym (getD-take (g .count) (g .rules) (a .base + i) no-rule h))
+    (c .before .has .ensures .is (c .if1 .taken))))
 
 try-rule-requires : tie.Need-try-rule-requires Inv-loop μ-loop
 try-rule-requires c κs =
@@ -81,15 +104,21 @@ try-rule-requires c κs =
     let g = a .t2 in
     let l = c .before .before .before .before .before .before .loop in
     let i = c .before .before .before .place .result in
-    let m = subst (Least (l .rest)) (sym (c .before .before .before .place .ensures)) (c .before .before .before .before .lowest .ensures) in
+    let m = subst (Least (l .rest)) (sym (c .before .before .before .place .ensures))
+    (c .before .before .before .before .lowest .ensures) in
     let y = z .pre .0 .2 .within i (l .inv .among i (m .member)) in
-    let h : a .base + i < g .count = omega (arith, z .pre .0 .0 .whole) in
-    (subst SmallRule (getD-take (g .count) (g .rules) (a .base + i) _ h) (every-at SmallRule _ (rules g) (z .pre .0 .0 .small) (a .base + i) (omega (arith, z .pre .0 .0 .whole))), z .pre .1 .0)
+    let h : a .base + i < g .count = omega (arith, z .pre .0 .0 .whole) in (
+      subst SmallRule (getD-take (g .count) (g .rules) (a .base + i) _ h)
+          (every-at SmallRule _ (rules g) (z .pre .0 .0 .small) (a .base + i)
+          (omega (arith, z .pre .0 .0 .whole))),
+      z .pre .1 .0,
+    )
 
 loop-less-2 : tie.Need-loop-less-2 Inv-loop μ-loop
 loop-less-2 c =
     let l = c .before .before .before .before .before .before .before .loop in
-    let h : 0 < l .rest = omega (arith, c .before .before .before .before .before .before .loop-test .taken) in
+    let h : 0 < l .rest =
+    omega (arith, c .before .before .before .before .before .before .loop-test .taken) in
     rest-less (l .rest) h
 
 loop-again-2 : tie.Need-loop-again-2 Inv-loop μ-loop
@@ -99,18 +128,24 @@ loop-again-2 c =
     let g = a .t2 in
     let l = c .before .before .before .before .before .before .before .loop in
     let i = c .before .before .before .before .place .result in
-    let m = subst (Least (l .rest)) (sym (c .before .before .before .before .place .ensures)) (c .before .before .before .before .before .lowest .ensures) in
+    let m = subst (Least (l .rest)) (sym (c .before .before .before .before .place .ensures))
+    (c .before .before .before .before .before .lowest .ensures) in
     let y = z .pre .0 .2 .within i (l .inv .among i (m .member)) in
     let h : a .base + i < g .count = omega (arith, z .pre .0 .0 .whole) in
     trying-next (a .rows .now) (a .cols .now) (a .p) (a .w) (rules g) (z .pre .0 .2) (l .inv) m
-    (cut-more (a .rows .now) (a .cols .now) (a .p) (a .w) (rules g) (a .base + i) (l .u) (c .try-rule .result)
-    (subst (λ (r : Rule). TriedOne (CutFits (a .rows .now) (a .cols .now) (a .p) (a .w) (r .clause)) (CutBelow (a .rows .now) (a .cols .now) (a .p) (r .clause)) (r .left) (l .u) (c .try-rule .result)) (sym (getD-take (g .count) (g .rules) (a .base + i) no-rule h)) (c .try-rule .ensures)))
+    (cut-more (a .rows .now) (a .cols .now) (a .p) (a .w) (rules g) (a .base + i) (l .u)
+    (c .try-rule .result)
+    (subst (λ (r : Rule). TriedOne (CutFits (a .rows .now) (a .cols .now) (a .p) (a .w) (r .clause))
+    (CutBelow (a .rows .now) (a .cols .now) (a .p) (r .clause)) (r .left) (l .u)
+    (c .try-rule .result)) (sym (getD-take (g .count) (g .rules) (a .base + i) no-rule h))
+    (c .try-rule .ensures)))
 
 returns : tie.Need-returns Inv-loop μ-loop
 returns c =
     let z = c .before .before .before .before in
     let a = z .args in
-    trying-end (a .rows .now) (a .cols .now) (a .p) (a .w) (rules (a .t2)) (z .pre .0 .2) (c .before .loop .inv) (c .loop-test .left)
+    trying-end (a .rows .now) (a .cols .now) (a .p) (a .w) (rules (a .t2)) (z .pre .0 .2)
+    (c .before .loop .inv) (c .loop-test .left)
 
 pub try-places-spec : {M : Type 1} → statement M
 try-places-spec =

@@ -20,16 +20,25 @@ with-requires : tie.Need-with-requires
 with-requires c κs = search needs
 
 returns : tie.Need-returns
-returns c = rw (c .enum-told .given .1) (record { keeps = λ j x. x; has = λ b. absurd b; only = λ j x. inl x })
+returns c = rw (c .enum-told .given .1)
+    (record { keeps = λ j x. x; has = λ b. absurd b; only = λ j x. inl x })
 
 returns-2 : tie.Need-returns-2
-returns-2 c = rw (c .enum-told2 .given .1) (record { keeps = λ j x. x; has = λ b. absurd b; only = λ j x. inl x })
+returns-2 c = rw (c .enum-told2 .given .1)
+    (record { keeps = λ j x. x; has = λ b. absurd b; only = λ j x. inl x })
 
 returns-3 : tie.Need-returns-3
-returns-3 c = rw (c .enum-told3 .given .1) (record { keeps = λ j x. x; has = λ b. absurd b; only = λ j x. inl x })
+returns-3 c = rw (c .enum-told3 .given .1)
+    (record { keeps = λ j x. x; has = λ b. absurd b; only = λ j x. inl x })
 
 returns-4 : tie.Need-returns-4
-returns-4 c = rw (c .with .ensures) (record { keeps = λ j x. insert-keeps _ _ x; has = λ b. insert-same _ _; only = λ j x. insert-only _ _ j x })
+returns-4 c = rw (c .with .ensures)
+    (record {
+      keeps = λ j x. insert-keeps _ _ x;
+      has = λ b. insert-same _ _;
+      only =
+          λ j x. insert-only _ _ j x;
+    })
 
 pub with-place-spec : {M : Type 1} → statement M
 with-place-spec =

@@ -17,7 +17,8 @@ abbrev μ-loop : tie.MeasureT-loop
 μ-loop a g set₀ i₀ set i = g .count - i
 
 -- the array has 128 rules
-inside : (c : tie.In-loop Inv-loop μ-loop) → c .before .loop .i < length (c .before .before .args .t1 .rules)
+inside : (c : tie.In-loop Inv-loop μ-loop)
+    → c .before .loop .i < length (c .before .before .args .t1 .rules)
 inside c =
     let a = c .before .before in
     let e : length (a .args .t1 .rules) ≡ 128 = simp length-map at (a .good .0 .1 .1 .0 .1 .0 .1) in
@@ -33,7 +34,8 @@ element-copy-out-r : tie.Need-element-copy-out-r Inv-loop μ-loop
 element-copy-out-r c = search needs
 
 with-left-requires : tie.Need-with-left-requires Inv-loop μ-loop
-with-left-requires c κs = small-rule-at _ _ _ (c .before .loop-test .taken) (inside (c .before)) (c .before .before .before .pre)
+with-left-requires c κs = small-rule-at _ _ _ (c .before .loop-test .taken) (inside (c .before))
+    (c .before .before .before .pre)
 
 add-i : tie.Need-add-i Inv-loop μ-loop
 add-i c = search needs
@@ -42,11 +44,16 @@ loop-less : tie.Need-loop-less Inv-loop μ-loop
 loop-less c = search needs
 
 loop-again : tie.Need-loop-again Inv-loop μ-loop
-loop-again c = (search needs, lefts-step _ _ _ _ _ _ (inside (c .before .before)) (c .before .before .before .loop .inv .1) (c .with-left .ensures))
+loop-again c = (
+  search needs,
+  lefts-step _ _ _ _ _ _ (inside (c .before .before))
+      (c .before .before .before .loop .inv .1) (c .with-left .ensures),
+)
 
 returns : tie.Need-returns Inv-loop μ-loop
 returns c =
-    let e : c .before .loop .i ≡ c .before .before .args .t1 .count = omega (arith, c .loop-test .left, c .before .loop .inv .0) in
+    let e : c .before .loop .i ≡ c .before .before .args .t1 .count =
+    omega (arith, c .loop-test .left, c .before .loop .inv .0) in
     rw e at (c .before .loop .inv .1)
 
 pub lefts-spec : {M : Type 1} → statement M

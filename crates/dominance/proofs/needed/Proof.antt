@@ -19,7 +19,8 @@ loop-holds : tie.Need-loop-holds Inv-loop μ-loop
 loop-holds c = (omega arith, spares-none (rules (c .args .g)) (c .args .set))
 
 with-needed-requires : tie.Need-with-needed-requires Inv-loop μ-loop
-with-needed-requires c κs = let z = c .before .before in (z .pre, (omega arith, c .before .loop .inv .1))
+with-needed-requires c κs = let z = c .before .before in
+    (z .pre, (omega arith, c .before .loop .inv .1))
 
 add-x : tie.Need-add-x Inv-loop μ-loop
 add-x c = search needs
@@ -34,7 +35,8 @@ returns : tie.Need-returns Inv-loop μ-loop
 returns c =
     let z = c .before .before in
     let e : c .before .loop .x ≡ 64 = omega (arith, c .loop-test .left, c .before .loop .inv .0) in
-    spared-of (rules (z .args .g)) (z .args .set) (c .before .loop .kept) (rw e at (c .before .loop .inv .1))
+    spared-of (rules (z .args .g)) (z .args .set) (c .before .loop .kept)
+    (rw e at (c .before .loop .inv .1))
 
 pub needed-spec : {M : Type 1} → statement M
 needed-spec =

@@ -27,7 +27,9 @@ returns : tie.Need-returns Inv-loop μ-loop
 returns c =
     let z = c .before .before .before .before .before in
     let l = c .before .before .before .before .lefts in
-    λ e. replaced-of (z .args .g) (z .pre .0) (z .args .kept) (l .result) (z .args .x) (c .before .before .before .loop .y) (c .before .before .loop-test .taken) (l .ensures) (c .before .serves .ensures (c .if1 .taken))
+    λ e. replaced-of (z .args .g) (z .pre .0) (z .args .kept) (l .result) (z .args .x)
+    (c .before .before .before .loop .y) (c .before .before .loop-test .taken) (l .ensures)
+    (c .before .serves .ensures (c .if1 .taken))
 
 add-y : tie.Need-add-y Inv-loop μ-loop
 add-y c = omega (arith, c .before .before .before .before .before .pre .1)

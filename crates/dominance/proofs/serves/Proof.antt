@@ -24,7 +24,9 @@ returns-2 : tie.Need-returns-2
 returns-2 c =
     let z = c .before .before in
     let a = z .before .before .args in
-    λ e. serves-of (rules (a .g)) (a .kept) (a .s) (c .before .lefts .result) (a .y) (z .before .has .ensures .is (not-false _ (z .if1 .left))) (c .before .lefts .ensures) (c .within .ensures e)
+    λ e. serves-of (rules (a .g)) (a .kept) (a .s) (c .before .lefts .result) (a .y)
+    (z .before .has .ensures .is (not-false _ (z .if1 .left))) (c .before .lefts .ensures)
+    (c .within .ensures e)
 
 pub serves-spec : {M : Type 1} → statement M
 serves-spec = tie.close (tie.spec has-requires returns lefts-requires within-requires returns-2)

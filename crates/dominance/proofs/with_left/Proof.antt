@@ -13,10 +13,12 @@ enum-known-c : tie.Need-enum-known-c
 enum-known-c c = search needs
 
 returns : tie.Need-returns
-returns c = sym (with-other _ _ _ _ _ (c .before .before .c .given .1) (λ v. omega (arith, v .low, c .if1 .taken)))
+returns c = sym (with-other _ _ _ _ _ (c .before .before .c .given .1)
+    (λ v. omega (arith, v .low, c .if1 .taken)))
 
 returns-2 : tie.Need-returns-2
-returns-2 c = sym (with-other _ _ _ _ _ (c .before .before .before .c .given .1) (λ v. omega (arith, v .high, c .if2 .taken)))
+returns-2 c = sym (with-other _ _ _ _ _ (c .before .before .before .c .given .1)
+    (λ v. omega (arith, v .high, c .if2 .taken)))
 
 with-requires : tie.Need-with-requires
 with-requires c κs = search needs
@@ -31,7 +33,9 @@ returns-3 : tie.Need-returns-3
 returns-3 c = rw (c .enum-told .given .1) refl
 
 returns-4 : tie.Need-returns-4
-returns-4 c = let k = c .before in c .with .ensures ∙ sym (with-same _ _ _ _ _ (k .before .before .before .c .given .1) (k .before .if1 .left) (k .if2 .left))
+returns-4 c = let k = c .before in
+    c .with .ensures ∙ sym (with-same _ _ _ _ _ (k .before .before .before .c .given .1)
+    (k .before .if1 .left) (k .if2 .left))
 
 returns-5 : tie.Need-returns-5
 returns-5 c = rw (c .enum-told2 .given .1) refl

@@ -31,10 +31,15 @@ loop-less : tie.Need-loop-less Inv-loop μ-loop
 loop-less c = omega arith
 
 loop-again : tie.Need-loop-again Inv-loop μ-loop
-loop-again c = (omega arith, part-more _ _ _ (c .before .before .before .loop .inv .1) (c .before .lacks .ensures (c .if1 .left)))
+loop-again c = (
+  omega arith,
+  part-more _ _ _ (c .before .before .before .loop .inv .1)
+      (c .before .lacks .ensures (c .if1 .left)),
+)
 
 returns-2 : tie.Need-returns-2 Inv-loop μ-loop
-returns-2 c = λ e. record { each = λ A h m. c .before .loop .inv .1 A (omega (arith, c .loop-test .left)) m }
+returns-2 c =
+    λ e. record { each = λ A h m. c .before .loop .inv .1 A (omega (arith, c .loop-test .left)) m }
 
 pub within-spec : {M : Type 1} → statement M
 within-spec =

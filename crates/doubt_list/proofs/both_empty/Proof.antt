@@ -10,7 +10,8 @@ has-requires c κs = search needs
 
 returns : tie.Need-returns
 returns c =
-    fails (λ x. c .before .has .ensures .isnt (not-true _ (c .if1 .taken)) (c .before .before .pre .0 .2 .all _ (x .occurs)))
+    fails (λ x. c .before .has .ensures .isnt (not-true _ (c .if1 .taken))
+    (c .before .before .pre .0 .2 .all _ (x .occurs)))
 
 empty-by-requires : tie.Need-empty-by-requires
 empty-by-requires c κs = search needs

@@ -33,8 +33,13 @@ loop-less : tie.Need-loop-less Inv-loop μ-loop
 loop-less c = omega (arith, c .before .before .before .before .loop-test .taken)
 
 loop-again : tie.Need-loop-again Inv-loop μ-loop
-loop-again c =
-    (omega (arith, c .before .before .before .before .loop-test .taken), lists-then (c .before .before .before .before .before .before .before .before .pre .0 .formed) (c .before .before .before .before .before .loop .inv .1) (c .before .before .list-left .ensures))
+loop-again c = (
+  omega (arith, c .before .before .before .before .loop-test .taken),
+  lists-then
+      (c .before .before .before .before .before .before .before .before .pre .0 .formed)
+      (c .before .before .before .before .before .loop .inv .1)
+      (c .before .before .list-left .ensures),
+)
 
 same-length : tie.Need-same-length Inv-loop μ-loop
 same-length c = c .before .loop .inv .1 .long

@@ -21,7 +21,8 @@ add-q c = let z = c .before .before in omega (arith, z .pre .1 .0 .1, z .pre .0 
 
 loop-holds : tie.Need-loop-holds Inv-loop μ-loop
 loop-holds c =
-    let z = c .before .before in (omega arith, omega (arith, z .pre .1 .0 .1), lists-none (z .pre .0 .formed) (z .pre .1 .1))
+    let z = c .before .before in
+    (omega arith, omega (arith, z .pre .1 .0 .1), lists-none (z .pre .0 .formed) (z .pre .1 .1))
 
 list-pair-requires : tie.Need-list-pair-requires Inv-loop μ-loop
 list-pair-requires c κs =
@@ -31,7 +32,8 @@ list-pair-requires c κs =
 
 add-q-2 : tie.Need-add-q-2 Inv-loop μ-loop
 add-q-2 c =
-    let z = c .before .before .before .before .before .before .before .before in omega (arith, c .before .before .before .before .loop-test .taken, z .pre .0 .formed .few)
+    let z = c .before .before .before .before .before .before .before .before in
+    omega (arith, c .before .before .before .before .loop-test .taken, z .pre .0 .formed .few)
 
 loop-less : tie.Need-loop-less Inv-loop μ-loop
 loop-less c = omega (arith, c .before .before .before .before .loop-test .taken)
@@ -54,7 +56,8 @@ returns c =
     let i = c .before .loop .inv in
     let q = c .before .loop .q in
     lists-then (z .pre .0 .formed) (i .2)
-    (skip-places (z .pre .0) (z .args .a) (z .args .p) q (omega (arith, z .pre .1 .0 .1, z .pre .0 .formed .few)) (i .2 .few) (c .loop-test .left)
+    (skip-places (z .pre .0) (z .args .a) (z .args .p) q
+    (omega (arith, z .pre .1 .0 .1, z .pre .0 .formed .few)) (i .2 .few) (c .loop-test .left)
     (omega (arith, i .1, z .pre .0 .formed .few)))
 
 pub list-behind-spec : {M : Type 1} → statement M

@@ -24,7 +24,12 @@ returns c =
     let b = l .before in
     let z = b .before .before .before .before in
     let x = l .list-all .ensures .goes (listed-first (z .pre .formed) (b .begin .ensures)) in
-    record { entries = x .entries; doubts = listed-all (z .pre .formed) x; gives = f .finish .ensures .gives (x .puts) }
+    record {
+      entries = x .entries;
+      doubts = listed-all (z .pre .formed) x;
+      gives =
+          f .finish .ensures .gives (x .puts);
+    }
 
 pub list-doubts-spec : {M : Type 1} → statement M
 list-doubts-spec =

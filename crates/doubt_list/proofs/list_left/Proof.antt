@@ -26,7 +26,12 @@ of-left-requires c κs = (c .before .before .before .before .pre .0 .formed, c .
 
 add-p : tie.Need-add-p Inv-loop μ-loop
 add-p c =
-    omega (arith, c .before .before .loop-test .taken, c .before .before .before .before .before .before .pre .0 .formed .few)
+    omega (
+      arith,
+      c .before .before .loop-test .taken,
+      c .before .before .before .before .before
+          .before .pre .0 .formed .few,
+    )
 
 loop-less : tie.Need-loop-less Inv-loop μ-loop
 loop-less c = omega (arith, c .before .before .loop-test .taken)
@@ -36,26 +41,46 @@ loop-again c =
     let z = c .before .before .before .before .before .before in
     let t = c .before .before .loop-test .taken in
     let i = c .before .before .before .loop .inv in
-    let n = c .before .of-left .ensures .isnt (not-true _ (c .if1 .taken)) in
-    (omega (arith, t), lists-then (z .pre .0 .formed) (i .1) (skip-rule (z .pre .0) (z .args .a) (c .before .before .before .loop .p) (omega (arith, t, z .pre .0 .formed .few)) (i .1 .few) n))
+    let n = c .before .of-left .ensures .isnt (not-true _ (c .if1 .taken)) in (
+      omega (arith, t),
+      lists-then (z .pre .0 .formed) (i .1)
+          (skip-rule (z .pre .0) (z .args .a) (c .before .before .before .loop .p)
+          (omega (arith, t, z .pre .0 .formed .few)) (i .1 .few) n),
+    )
 
 list-rule-requires : tie.Need-list-rule-requires Inv-loop μ-loop
 list-rule-requires c κs =
     let z = c .before .before .before .before .before .before .before in
-    let r = c .before .before .of-left .ensures .is (not-false _ (c .before .if1 .left)) in
-    (z .pre .0, ((z .pre .1 .0, c .before .before .before .loop-test .taken, r), c .before .before .before .before .loop .inv .1 .few))
+    let r = c .before .before .of-left .ensures .is (not-false _ (c .before .if1 .left)) in (
+      z .pre .0,
+      (
+        (z .pre .1 .0, c .before .before .before .loop-test .taken, r),
+        c .before .before
+            .before .before .loop .inv .1 .few,
+      ),
+    )
 
 add-p-2 : tie.Need-add-p-2 Inv-loop μ-loop
 add-p-2 c =
-    omega (arith, c .before .before .before .before .before .before .loop-test .taken, c .before .before .before .before .before .before .before .before .before .before .pre .0 .formed .few)
+    omega (
+      arith,
+      c .before .before .before .before .before .before .loop-test .taken,
+      c .before
+          .before .before .before .before .before .before .before .before .before .pre .0 .formed
+          .few,
+    )
 
 loop-less-2 : tie.Need-loop-less-2 Inv-loop μ-loop
 loop-less-2 c = omega (arith, c .before .before .before .before .before .before .loop-test .taken)
 
 loop-again-2 : tie.Need-loop-again-2 Inv-loop μ-loop
 loop-again-2 c =
-    let z = c .before .before .before .before .before .before .before .before .before .before in
-    (omega (arith, c .before .before .before .before .before .before .loop-test .taken), lists-then (z .pre .0 .formed) (c .before .before .before .before .before .before .before .loop .inv .1) (c .before .before .list-rule .ensures))
+    let z = c .before .before .before .before .before .before .before .before .before .before in (
+      omega (arith, c .before .before .before .before .before .before .loop-test .taken),
+      lists-then
+          (z .pre .0 .formed) (c .before .before .before .before .before .before .before .loop .inv
+          .1) (c .before .before .list-rule .ensures),
+    )
 
 same-length : tie.Need-same-length Inv-loop μ-loop
 same-length c = c .before .loop .inv .1 .long
@@ -65,7 +90,8 @@ returns c =
     let z = c .before .before .before .before in
     let i = c .before .loop .inv in
     lists-then (z .pre .0 .formed) (i .1)
-    (skip-rest (z .pre .0) (z .args .a) (c .before .loop .p) (i .1 .few) (c .loop-test .left) (omega (arith, i .0, z .pre .0 .formed .few)))
+    (skip-rest (z .pre .0) (z .args .a) (c .before .loop .p) (i .1 .few) (c .loop-test .left)
+    (omega (arith, i .0, z .pre .0 .formed .few)))
 
 pub list-left-spec : {M : Type 1} → statement M
 list-left-spec =

@@ -53,7 +53,8 @@ returns : tie.Need-returns
 returns c =
     let e = c .before .before .before .before in
     lists-then (start e .pre .0 .formed) (rules-listed e)
-    (lists-empty (start e .pre .0) (start e .args .a) (start e .args .p) (place e) (start e .args .q) (start e .pre .1 .0 .1) (start e .pre .1 .0 .2)
+    (lists-empty (start e .pre .0) (start e .args .a) (start e .args .p) (place e)
+    (start e .args .q) (start e .pre .1 .0 .1) (start e .pre .1 .0 .2)
     (rules-listed e .few) (e .both-empty .ensures) (c .before .before .put-if2 .ensures))
 
 pub list-pair-spec : {M : Type 1} → statement M

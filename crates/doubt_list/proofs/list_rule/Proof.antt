@@ -16,7 +16,9 @@ same-length c = search needs
 returns : tie.Need-returns
 returns c =
     let i = c .before .before in
-    lists-then (c .before .before .before .before .before .before .before .before .before .before .pre .0 .formed) (i .before .before .before .before .list-same .ensures) (i .list-behind .ensures)
+    lists-then (c .before .before .before .before .before .before .before .before .before .before
+    .pre .0 .formed) (i .before .before .before .before .list-same .ensures)
+    (i .list-behind .ensures)
 
 pub list-rule-spec : {M : Type 1} → statement M
 list-rule-spec = tie.close (tie.spec list-same-requires list-behind-requires same-length returns)

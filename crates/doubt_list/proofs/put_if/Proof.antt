@@ -40,7 +40,8 @@ returns-2 c =
     record {
       put = λ e. (p .put .ensures, p .put .kept .0);
       same =
-          λ e. absurd (true-not-false (sym (not-false _ (p .before .before .before .if1 .left)) ∙ e));
+          λ e. absurd (true-not-false (sym (not-false _ (p .before .before .before .if1 .left))
+          ∙ e));
     }
 
 pub put-if-spec : {M : Type 1} → statement M

@@ -25,13 +25,16 @@ has-requires : tie.Need-has-requires
 has-requires c κs =
     let e = c .before in
     let a = e .before in
-    among-at (a .args .n) (a .args .b) (a .args .h) (a .args .c) _ (past e) (a .pre .0 .0) (c .cell .ensures) (a .args .set) (a .args .kept) (a .pre .1) .0
+    among-at (a .args .n) (a .args .b) (a .args .h) (a .args .c) _ (past e) (a .pre .0 .0)
+    (c .cell .ensures) (a .args .set) (a .args .kept) (a .pre .1) .0
 
 returns-2 : tie.Need-returns-2
 returns-2 c =
     let e = c .before .before .before in
     let a = e .before in
-    λ q. pass-terminal (a .args .n) (a .args .b) (a .args .h) (a .args .c) _ (past e) (a .pre .0 .0) (c .before .before .cell .ensures) (a .args .set) (a .args .kept) (a .pre .1) (c .before .has .ensures .isnt (not-true _ (c .if2 .taken)))
+    λ q. pass-terminal (a .args .n) (a .args .b) (a .args .h) (a .args .c) _ (past e) (a .pre .0 .0)
+    (c .before .before .cell .ensures) (a .args .set) (a .args .kept) (a .pre .1)
+    (c .before .has .ensures .isnt (not-true _ (c .if2 .taken)))
 
 slack-requires : tie.Need-slack-requires
 slack-requires c κs =

@@ -15,7 +15,8 @@ cell-requires c κs = search needs
 returns : tie.Need-returns
 returns c =
     let a = c .before .before .before in
-    λ e. slack-step (a .args .n) (a .args .b) (a .args .h) (a .args .c) _ (a .pre .0) (a .pre .1) (c .before .before .cell .ensures) (c .if1 .taken)
+    λ e. slack-step (a .args .n) (a .args .b) (a .args .h) (a .args .c) _ (a .pre .0) (a .pre .1)
+    (c .before .before .cell .ensures) (c .if1 .taken)
 
 sub-result : tie.Need-sub-result
 sub-result c = search needs
@@ -26,7 +27,8 @@ lacks-requires c κs = search needs
 returns-2 : tie.Need-returns-2
 returns-2 c =
     let a = c .before .before .before .before in
-    λ e. slack-gap (a .args .n) (a .args .b) (a .args .h) (a .args .c) _ (a .pre .0) (a .pre .1) (c .lacks .ensures) (omega (arith, ltb-true))
+    λ e. slack-gap (a .args .n) (a .args .b) (a .args .h) (a .args .c) _ (a .pre .0) (a .pre .1)
+    (c .lacks .ensures) (omega (arith, ltb-true))
 
 pub slack-spec : {M : Type 1} → statement M
 slack-spec = tie.close (tie.spec sub-cell cell-requires returns sub-result lacks-requires returns-2)

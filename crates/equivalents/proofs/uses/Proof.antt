@@ -1,4 +1,5 @@
--- `equivalents::uses` meets its contract. The loop's invariant: the column is used by the first b cells exactly if it is by those from i on.
+-- `equivalents::uses` meets its contract. The loop's invariant: the column is used by the first b
+-- cells exactly if it is by those from i on.
 use borrow.Author.Needs.{needs}
 use native.Mathlib.Omega.{arith}
 use mathlib.Core.Path.{_≡_, sym, _∙_}
@@ -28,7 +29,8 @@ element-copy-out-if1 c = search needs
 returns : tie.Need-returns Inv-loop μ-loop
 returns c =
     let l = c .before .before .before in
-    sym (l .loop .inv .1 ∙ used-here (l .before .args .t1) (l .before .args .b) (l .loop .i) (l .before .args .j) (c .before .before .loop-test .taken) (c .if1 .taken))
+    sym (l .loop .inv .1 ∙ used-here (l .before .args .t1) (l .before .args .b) (l .loop .i)
+    (l .before .args .j) (c .before .before .loop-test .taken) (c .if1 .taken))
 
 add-i : tie.Need-add-i Inv-loop μ-loop
 add-i c = search needs
@@ -38,13 +40,18 @@ loop-less c = search needs
 
 loop-again : tie.Need-loop-again Inv-loop μ-loop
 loop-again c =
-    let l = c .before .before .before in
-    (omega (arith, c .before .before .loop-test .taken), l .loop .inv .1 ∙ used-past (l .before .args .t1) (l .before .args .b) (l .loop .i) (l .before .args .j) (c .before .before .loop-test .taken) (c .if1 .left))
+    let l = c .before .before .before in (
+      omega (arith, c .before .before .loop-test .taken),
+      l .loop .inv .1
+          ∙ used-past (l .before .args .t1) (l .before .args .b) (l .loop .i) (l .before .args .j)
+          (c .before .before .loop-test .taken) (c .if1 .left),
+    )
 
 returns-2 : tie.Need-returns-2 Inv-loop μ-loop
 returns-2 c =
     let l = c .before in
-    sym (l .loop .inv .1 ∙ used-end (l .before .args .t1) (l .before .args .b) (l .loop .i) (l .before .args .j) (c .loop-test .left))
+    sym (l .loop .inv .1 ∙ used-end (l .before .args .t1) (l .before .args .b) (l .loop .i)
+    (l .before .args .j) (c .loop-test .left))
 
 pub uses-spec : {M : Type 1} → statement M
 uses-spec =

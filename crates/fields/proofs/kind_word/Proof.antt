@@ -22,8 +22,9 @@ same-requires-2 : tie.Need-same-requires-2
 same-requires-2 c κs = search needs
 
 returns-2 : tie.Need-returns-2
-returns-2 c = sym (ap asKind (skip (sym (c .before .before .before .before .same .ensures) ∙ c .before .before .before .if1 .left) _ _ _
-    (hit (sym (c .before .same2 .ensures) ∙ c .if2 .taken) _ _)))
+returns-2 c = sym (ap asKind (skip
+    (sym (c .before .before .before .before .same .ensures) ∙ c .before .before .before .if1 .left)
+    _ _ _ (hit (sym (c .before .same2 .ensures) ∙ c .if2 .taken) _ _)))
 
 slice-aggregate-same-3 : tie.Need-slice-aggregate-same-3
 slice-aggregate-same-3 c = search needs
@@ -32,8 +33,11 @@ same-requires-3 : tie.Need-same-requires-3
 same-requires-3 c κs = search needs
 
 returns-3 : tie.Need-returns-3
-returns-3 c = sym (ap asKind (skip (sym (c .before .before .before .before .before .before .before .same .ensures) ∙ c .before .before .before .before .before .before .if1 .left) _ _ _
-    (skip (sym (c .before .before .before .before .same2 .ensures) ∙ c .before .before .before .if2 .left) _ _ _
+returns-3 c = sym (ap asKind (skip
+    (sym (c .before .before .before .before .before .before .before .same .ensures)
+    ∙ c .before .before .before .before .before .before .if1 .left) _ _ _
+    (skip (sym (c .before .before .before .before .same2 .ensures)
+    ∙ c .before .before .before .if2 .left) _ _ _
     (hit (sym (c .before .same3 .ensures) ∙ c .if3 .taken) _ _))))
 
 slice-aggregate-same-4 : tie.Need-slice-aggregate-same-4
@@ -43,15 +47,23 @@ same-requires-4 : tie.Need-same-requires-4
 same-requires-4 c κs = search needs
 
 returns-4 : tie.Need-returns-4
-returns-4 c = sym (ap asKind (skip (sym (c .before .before .before .before .before .before .before .before .before .before .same .ensures) ∙ c .before .before .before .before .before .before .before .before .before .if1 .left) _ _ _
-    (skip (sym (c .before .before .before .before .before .before .before .same2 .ensures) ∙ c .before .before .before .before .before .before .if2 .left) _ _ _
-    (skip (sym (c .before .before .before .before .same3 .ensures) ∙ c .before .before .before .if3 .left) _ _ _
+returns-4 c = sym (ap asKind (skip
+    (sym (c .before .before .before .before .before .before .before .before .before .before .same
+    .ensures) ∙ c .before .before .before .before .before .before .before .before .before .if1
+    .left) _ _ _ (skip (sym (c .before .before .before .before .before .before .before
+    .same2 .ensures) ∙ c .before .before .before .before .before .before .if2 .left) _ _
+    _ (skip (sym (c .before .before .before .before .same3 .ensures)
+    ∙ c .before .before .before .if3 .left) _ _ _
     (hit (sym (c .before .same4 .ensures) ∙ c .if4 .taken) _ _)))))
 
 returns-5 : tie.Need-returns-5
-returns-5 c = sym (ap asKind (skip (sym (c .before .before .before .before .before .before .before .before .before .before .same .ensures) ∙ c .before .before .before .before .before .before .before .before .before .if1 .left) _ _ _
-    (skip (sym (c .before .before .before .before .before .before .before .same2 .ensures) ∙ c .before .before .before .before .before .before .if2 .left) _ _ _
-    (skip (sym (c .before .before .before .before .same3 .ensures) ∙ c .before .before .before .if3 .left) _ _ _
+returns-5 c = sym (ap asKind (skip
+    (sym (c .before .before .before .before .before .before .before .before .before .before .same
+    .ensures) ∙ c .before .before .before .before .before .before .before .before .before .if1
+    .left) _ _ _ (skip (sym (c .before .before .before .before .before .before .before
+    .same2 .ensures) ∙ c .before .before .before .before .before .before .if2 .left) _ _
+    _ (skip (sym (c .before .before .before .before .same3 .ensures)
+    ∙ c .before .before .before .if3 .left) _ _ _
     (skip (sym (c .before .same4 .ensures) ∙ c .if4 .left) _ _ _ refl)))))
 
 pub kind-word-spec : {M : Type 1} → statement M

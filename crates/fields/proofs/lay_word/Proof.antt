@@ -22,8 +22,9 @@ same-requires-2 : tie.Need-same-requires-2
 same-requires-2 c κs = search needs
 
 returns-2 : tie.Need-returns-2
-returns-2 c = sym (ap asLay (skip (sym (c .before .before .before .before .same .ensures) ∙ c .before .before .before .if1 .left) _ _ _
-    (hit (sym (c .before .same2 .ensures) ∙ c .if2 .taken) _ _)))
+returns-2 c = sym (ap asLay (skip
+    (sym (c .before .before .before .before .same .ensures) ∙ c .before .before .before .if1 .left)
+    _ _ _ (hit (sym (c .before .same2 .ensures) ∙ c .if2 .taken) _ _)))
 
 slice-aggregate-same-3 : tie.Need-slice-aggregate-same-3
 slice-aggregate-same-3 c = search needs
@@ -32,8 +33,11 @@ same-requires-3 : tie.Need-same-requires-3
 same-requires-3 c κs = search needs
 
 returns-3 : tie.Need-returns-3
-returns-3 c = sym (ap asLay (skip (sym (c .before .before .before .before .before .before .before .same .ensures) ∙ c .before .before .before .before .before .before .if1 .left) _ _ _
-    (skip (sym (c .before .before .before .before .same2 .ensures) ∙ c .before .before .before .if2 .left) _ _ _
+returns-3 c = sym (ap asLay (skip
+    (sym (c .before .before .before .before .before .before .before .same .ensures)
+    ∙ c .before .before .before .before .before .before .if1 .left) _ _ _
+    (skip (sym (c .before .before .before .before .same2 .ensures)
+    ∙ c .before .before .before .if2 .left) _ _ _
     (hit (sym (c .before .same3 .ensures) ∙ c .if3 .taken) _ _))))
 
 slice-aggregate-same-4 : tie.Need-slice-aggregate-same-4
@@ -43,9 +47,13 @@ same-requires-4 : tie.Need-same-requires-4
 same-requires-4 c κs = search needs
 
 returns-4 : tie.Need-returns-4
-returns-4 c = sym (ap asLay (skip (sym (c .before .before .before .before .before .before .before .before .before .before .same .ensures) ∙ c .before .before .before .before .before .before .before .before .before .if1 .left) _ _ _
-    (skip (sym (c .before .before .before .before .before .before .before .same2 .ensures) ∙ c .before .before .before .before .before .before .if2 .left) _ _ _
-    (skip (sym (c .before .before .before .before .same3 .ensures) ∙ c .before .before .before .if3 .left) _ _ _
+returns-4 c = sym (ap asLay (skip
+    (sym (c .before .before .before .before .before .before .before .before .before .before .same
+    .ensures) ∙ c .before .before .before .before .before .before .before .before .before .if1
+    .left) _ _ _ (skip (sym (c .before .before .before .before .before .before .before
+    .same2 .ensures) ∙ c .before .before .before .before .before .before .if2 .left) _ _
+    _ (skip (sym (c .before .before .before .before .same3 .ensures)
+    ∙ c .before .before .before .if3 .left) _ _ _
     (hit (sym (c .before .same4 .ensures) ∙ c .if4 .taken) _ _)))))
 
 slice-aggregate-same-5 : tie.Need-slice-aggregate-same-5
@@ -55,11 +63,19 @@ same-requires-5 : tie.Need-same-requires-5
 same-requires-5 c κs = search needs
 
 returns-5 : tie.Need-returns-5
-returns-5 c = sym (ap asLay (skip (sym (c .before .before .before .before .before .before .before .before .before .before .before .before .before .same .ensures) ∙ c .before .before .before .before .before .before .before .before .before .before .before .before .if1 .left) _ _ _
-    (skip (sym (c .before .before .before .before .before .before .before .before .before .before .same2 .ensures) ∙ c .before .before .before .before .before .before .before .before .before .if2 .left) _ _ _
-    (skip (sym (c .before .before .before .before .before .before .before .same3 .ensures) ∙ c .before .before .before .before .before .before .if3 .left) _ _ _
-    (skip (sym (c .before .before .before .before .same4 .ensures) ∙ c .before .before .before .if4 .left) _ _ _
-    (hit (sym (c .before .same5 .ensures) ∙ c .if5 .taken) _ _))))))
+returns-5 c = sym (ap asLay (skip
+    (sym (c .before .before .before .before .before .before .before .before .before .before .before
+    .before .before .same .ensures) ∙ c .before .before .before .before .before .before .before
+    .before .before .before .before .before .if1 .left) _ _ _
+    (skip (sym (c .before .before .before .before .before .before .before .before
+    .before .before .same2 .ensures) ∙ c .before .before .before .before .before
+    .before .before .before .before .if2 .left) _ _ _
+    (skip (sym (c .before .before .before .before .before .before .before
+    .same3 .ensures) ∙ c .before .before .before .before .before .before
+    .if3 .left) _ _ _ (skip (sym (c .before .before .before .before
+    .same4 .ensures) ∙ c .before .before .before .if4 .left) _ _
+    _ (hit (sym (c .before .same5 .ensures) ∙ c .if5 .taken)
+    _ _))))))
 
 slice-aggregate-same-6 : tie.Need-slice-aggregate-same-6
 slice-aggregate-same-6 c = search needs
@@ -68,20 +84,56 @@ same-requires-6 : tie.Need-same-requires-6
 same-requires-6 c κs = search needs
 
 returns-6 : tie.Need-returns-6
-returns-6 c = sym (ap asLay (skip (sym (c .before .before .before .before .before .before .before .before .before .before .before .before .before .before .before .before .same .ensures) ∙ c .before .before .before .before .before .before .before .before .before .before .before .before .before .before .before .if1 .left) _ _ _
-    (skip (sym (c .before .before .before .before .before .before .before .before .before .before .before .before .before .same2 .ensures) ∙ c .before .before .before .before .before .before .before .before .before .before .before .before .if2 .left) _ _ _
-    (skip (sym (c .before .before .before .before .before .before .before .before .before .before .same3 .ensures) ∙ c .before .before .before .before .before .before .before .before .before .if3 .left) _ _ _
-    (skip (sym (c .before .before .before .before .before .before .before .same4 .ensures) ∙ c .before .before .before .before .before .before .if4 .left) _ _ _
-    (skip (sym (c .before .before .before .before .same5 .ensures) ∙ c .before .before .before .if5 .left) _ _ _
-    (hit (sym (c .before .same6 .ensures) ∙ c .if6 .taken) _ _)))))))
+returns-6 c = sym (ap asLay (skip
+    (sym (c .before .before .before .before .before .before .before .before .before .before .before
+    .before .before .before .before .before .same .ensures)
+    ∙ c .before .before .before .before .before .before .before .before .before .before
+    .before .before .before .before .before .if1 .left) _ _ _
+    (skip (sym (c .before .before .before .before .before .before .before .before
+    .before .before .before .before .before .same2 .ensures)
+    ∙ c .before .before .before .before .before .before .before .before
+    .before .before .before .before .if2 .left) _ _ _
+    (skip (sym (c .before .before .before .before .before .before
+    .before .before .before .before .same3 .ensures)
+    ∙ c .before .before .before .before .before .before
+    .before .before .before .if3 .left) _ _ _
+    (skip (sym (c .before .before .before .before
+    .before .before .before .same4 .ensures)
+    ∙ c .before .before .before .before
+    .before .before .if4 .left) _ _ _
+    (skip (sym (c .before .before
+    .before .before .same5
+    .ensures) ∙ c .before
+    .before .before .if5
+    .left) _ _ _
+    (hit (sym (c
+    .before .same6 .ensures) ∙ c .if6 .taken) _ _)))))))
 
 returns-7 : tie.Need-returns-7
-returns-7 c = sym (ap asLay (skip (sym (c .before .before .before .before .before .before .before .before .before .before .before .before .before .before .before .before .same .ensures) ∙ c .before .before .before .before .before .before .before .before .before .before .before .before .before .before .before .if1 .left) _ _ _
-    (skip (sym (c .before .before .before .before .before .before .before .before .before .before .before .before .before .same2 .ensures) ∙ c .before .before .before .before .before .before .before .before .before .before .before .before .if2 .left) _ _ _
-    (skip (sym (c .before .before .before .before .before .before .before .before .before .before .same3 .ensures) ∙ c .before .before .before .before .before .before .before .before .before .if3 .left) _ _ _
-    (skip (sym (c .before .before .before .before .before .before .before .same4 .ensures) ∙ c .before .before .before .before .before .before .if4 .left) _ _ _
-    (skip (sym (c .before .before .before .before .same5 .ensures) ∙ c .before .before .before .if5 .left) _ _ _
-    (skip (sym (c .before .same6 .ensures) ∙ c .if6 .left) _ _ _ refl)))))))
+returns-7 c = sym (ap asLay (skip
+    (sym (c .before .before .before .before .before .before .before .before .before .before .before
+    .before .before .before .before .before .same .ensures)
+    ∙ c .before .before .before .before .before .before .before .before .before .before
+    .before .before .before .before .before .if1 .left) _ _ _
+    (skip (sym (c .before .before .before .before .before .before .before .before
+    .before .before .before .before .before .same2 .ensures)
+    ∙ c .before .before .before .before .before .before .before .before
+    .before .before .before .before .if2 .left) _ _ _
+    (skip (sym (c .before .before .before .before .before .before
+    .before .before .before .before .same3 .ensures)
+    ∙ c .before .before .before .before .before .before
+    .before .before .before .if3 .left) _ _ _
+    (skip (sym (c .before .before .before .before
+    .before .before .before .same4 .ensures)
+    ∙ c .before .before .before .before
+    .before .before .if4 .left) _ _ _
+    (skip (sym (c .before .before
+    .before .before .same5
+    .ensures) ∙ c .before
+    .before .before .if5
+    .left) _ _ _
+    (skip (sym
+    (c .before .same6 .ensures) ∙ c .if6 .left) _ _ _ refl)))))))
 
 pub lay-word-spec : {M : Type 1} → statement M
 lay-word-spec =

@@ -10,7 +10,11 @@ returns : tie.Need-returns
 returns c = rw (c .if1 .taken)
 
 returns-2 : tie.Need-returns-2
-returns-2 c = simp (lt-leb _ _ (c .if2 .taken), le-leb 1 (length (c .before .before .before .args .f .now)) (omega arith))
+returns-2 c = simp (
+  lt-leb _ _ (c .if2 .taken),
+  le-leb 1
+      (length (c .before .before .before .args .f .now)) (omega arith),
+)
 
 digits-requires : tie.Need-digits-requires
 digits-requires c κs = search needs

@@ -42,10 +42,13 @@ enum-told : tie.Need-enum-told
 enum-told c = search needs
 
 -- the bytes are not `-`
-other : (c : tie.After-numeral) → asOperand (operandOf (c .before .before .before .before .before .args .f .now)) ≡ asWord (c .numeral .result)
+other : (c : tie.After-numeral)
+    → asOperand (operandOf (c .before .before .before .before .before .args .f .now))
+    ≡ asWord (c .numeral .result)
 other c =
     ap asOperand (miss (sym (c .before .before .same .ensures) ∙ c .before .if1 .left) _ _)
-    ∙ number-operand (numeralOf (c .before .before .before .before .before .args .f .now)) ∙ ap asWord (sym (c .numeral .ensures))
+    ∙ number-operand (numeralOf (c .before .before .before .before .before .args .f .now))
+    ∙ ap asWord (sym (c .numeral .ensures))
 
 returns-2 : tie.Need-returns-2
 returns-2 c = sym (other (c .before .before .before) ∙ ap asWord (c .before .v .given .1))

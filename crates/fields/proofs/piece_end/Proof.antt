@@ -1,4 +1,5 @@
--- `fields::piece_end` meets its contract. The loop's invariant: the first byte b from i on is the first from `at` on.
+-- `fields::piece_end` meets its contract. The loop's invariant: the first byte b from i on is the
+-- first from `at` on.
 use Prim.Native.Nat.{_+_, _-_, _≤_}
 use mathlib.Core.Path.{_≡_, refl, ap}
 use native.Mathlib.Omega.{arith}
@@ -10,7 +11,8 @@ use Rattle.fields.proofs.piece_end.Statement.{statement}
 use Rattle.fields.proofs.piece_end.Tie as tie
 
 abbrev Inv-loop : tie.InvT-loop
-Inv-loop s at b i₀ i = (i ≤ length s) × (at + length (before b (drop at s)) ≡ i + length (before b (drop i s)))
+Inv-loop s at b i₀ i =
+    (i ≤ length s) × (at + length (before b (drop at s)) ≡ i + length (before b (drop i s)))
 
 abbrev μ-loop : tie.MeasureT-loop
 μ-loop s at b i₀ i = length s - i
@@ -23,7 +25,11 @@ shared-slice-read-if1 c = search needs
 
 returns : tie.Need-returns Inv-loop μ-loop
 returns c = let a = c .before .before .before .before .args in
-    omega (arith, ap length (before-here (a .b) (a .s .now) (c .before .before .before .loop .i) (c .before .before .loop-test .taken) (c .if1 .taken)))
+    omega (
+      arith,
+      ap length (before-here (a .b) (a .s .now) (c .before .before .before .loop .i)
+          (c .before .before .loop-test .taken) (c .if1 .taken)),
+    )
 
 add-i : tie.Need-add-i Inv-loop μ-loop
 add-i c = search needs
@@ -32,12 +38,23 @@ loop-less : tie.Need-loop-less Inv-loop μ-loop
 loop-less c = search needs
 
 loop-again : tie.Need-loop-again Inv-loop μ-loop
-loop-again c = let a = c .before .before .before .before .args in
-    (search needs, omega (arith, ap length (before-more (a .b) (a .s .now) (c .before .before .before .loop .i) (c .before .before .loop-test .taken) (c .if1 .left))))
+loop-again c = let a = c .before .before .before .before .args in (
+  search needs,
+  omega (
+    arith,
+    ap length
+        (before-more (a .b) (a .s .now) (c .before .before .before .loop .i)
+        (c .before .before .loop-test .taken) (c .if1 .left)),
+  ),
+)
 
 returns-2 : tie.Need-returns-2 Inv-loop μ-loop
 returns-2 c = let a = c .before .before .args in
-    omega (arith, ap length (before-end (a .b) (a .s .now) (c .before .loop .i) (c .loop-test .left)))
+    omega (
+      arith,
+      ap length (before-end (a .b) (a .s .now) (c .before .loop .i)
+          (c .loop-test .left)),
+    )
 
 pub piece-end-spec : {M : Type 1} → statement M
 piece-end-spec =

@@ -1,4 +1,5 @@
--- `fields::same` meets its contract. The loop's invariant: the bytes from i on are the same if all are.
+-- `fields::same` meets its contract. The loop's invariant: the bytes from i on are the same if all
+-- are.
 use mathlib.Core.Path.{_≡_, refl, sym, _∙_}
 use Prim.Native.Nat.{_-_, _≤_}
 use native.Mathlib.Omega.{arith}
@@ -30,7 +31,8 @@ shared-slice-read-if2-2 c = search needs
 returns-2 : tie.Need-returns-2 Inv-loop μ-loop
 returns-2 c = let l = c .before .before .before .before in
     let a = l .before .before .args in
-    sym (l .loop .inv .1 ∙ same-differ (a .a .now) (a .b .now) (l .loop .i) (omega arith) (omega arith) (c .if2 .taken))
+    sym (l .loop .inv .1 ∙ same-differ (a .a .now) (a .b .now) (l .loop .i) (omega arith)
+    (omega arith) (c .if2 .taken))
 
 add-i : tie.Need-add-i Inv-loop μ-loop
 add-i c = search needs
@@ -40,13 +42,17 @@ loop-less c = search needs
 
 loop-again : tie.Need-loop-again Inv-loop μ-loop
 loop-again c = let l = c .before .before .before .before in
-    let a = l .before .before .args in
-    (search needs, l .loop .inv .1 ∙ same-more (a .a .now) (a .b .now) (l .loop .i) (omega arith) (omega arith) (c .if2 .left))
+    let a = l .before .before .args in (
+      search needs,
+      l .loop .inv .1 ∙ same-more (a .a .now) (a .b .now) (l .loop .i) (omega arith)
+          (omega arith) (c .if2 .left),
+    )
 
 returns-3 : tie.Need-returns-3 Inv-loop μ-loop
 returns-3 c = let l = c .before in
     let a = l .before .before .args in
-    sym (l .loop .inv .1 ∙ same-end (a .a .now) (a .b .now) (l .loop .i) (omega arith) (omega arith))
+    sym (l .loop .inv .1 ∙ same-end (a .a .now) (a .b .now) (l .loop .i) (omega arith)
+    (omega arith))
 
 pub same-spec : {M : Type 1} → statement M
 same-spec =

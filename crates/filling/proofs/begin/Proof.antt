@@ -10,7 +10,12 @@ clear-requires c κs = search needs
 
 -- src/lib.rt:110:5
 load-requires : tie.Need-load-requires
-load-requires c κs = let z = c .before .before .before .before .before .before .before .before .before in ((z .pre .0, omega arith), beginning (z .pre .1 .0) (c .before .before .before .before .clear .ensures) (z .pre .1 .1))
+load-requires c κs = let z = c .before .before .before .before .before .before .before .before
+    .before in (
+      (z .pre .0, omega arith),
+      beginning (z .pre .1 .0)
+          (c .before .before .before .before .clear .ensures) (z .pre .1 .1),
+    )
 
 -- src/lib.rt:103:1
 same-length : tie.Need-same-length

@@ -25,8 +25,10 @@ returns c =
     let m = l .before .first-marks .ensures in
     let z = l .before .before in
     let g = rules (z .args .g) in
-    empty-found (z .pre .distinct) (subst (λ (k : SpanMarks). Leaves k 0 g (length g) (l .leaves .result)) m (l .leaves .ensures))
-    (subst (λ (k : SpanMarks). Saturated 0 0 k 0 g (l .leaves .result) (c .saturated .result)) m (c .saturated .ensures))
+    empty-found (z .pre .distinct) (subst
+    (λ (k : SpanMarks). Leaves k 0 g (length g) (l .leaves .result)) m (l .leaves .ensures))
+    (subst (λ (k : SpanMarks). Saturated 0 0 k 0 g (l .leaves .result) (c .saturated .result)) m
+    (c .saturated .ensures))
 
 pub empty-pair-spec : {M : Type 1} → statement M
 empty-pair-spec =

@@ -16,7 +16,13 @@ use Rattle.filling.proofs.fill.Tie as tie
 -- the array of tokens has 64 places
 whole : (c : tie.Start) → Whole (c .args .d)
 whole c =
-    record { few = c .pre .0 .0; long = drafted-length (c .args .d) (simp length-map at (c .good .1 .0 .1 .1 .0 .1 .0 .1)) (c .pre .0 .0); inner = c .pre .0 .1 }
+    record {
+      few = c .pre .0 .0;
+      long = drafted-length (c .args .d)
+          (simp length-map at (c .good .1 .0 .1 .1 .0 .1 .0 .1)) (c .pre .0 .0);
+      inner =
+          c .pre .0 .1;
+    }
 
 returns : tie.Need-returns
 returns c =
@@ -24,13 +30,18 @@ returns c =
     let a = z .args in
     let w = whole z in
     let b : a .d .count < 2 = c .if1 .taken in
-    charted (a .words .now) (a .words .now) (rules (a .g)) (half (a .d)) (a .d .count) (w .long) (w .inner) (a .from) (few-grown b (begun (a .words .now) (rules (a .g)) (half (a .d)) (a .d .count) (a .from) (a .to) (z .pre .1 .1 .0 .distinct) (omega (arith, w .long, w .inner)) (z .pre .1 .1 .1)))
+    charted (a .words .now) (a .words .now) (rules (a .g)) (half (a .d)) (a .d .count) (w .long)
+    (w .inner) (a .from) (few-grown b
+    (begun (a .words .now) (rules (a .g)) (half (a .d)) (a .d .count) (a .from) (a .to)
+    (z .pre .1 .1 .0 .distinct) (omega (arith, w .long, w .inner)) (z .pre .1 .1 .1)))
 
 slice-read-t14 : tie.Need-slice-read-t14
-slice-read-t14 c = let z = c .before .before .before in omega (arith, z .pre .1 .0, pairAt-below (z .args .d .count) 0 0 (omega arith))
+slice-read-t14 c = let z = c .before .before .before in
+    omega (arith, z .pre .1 .0, pairAt-below (z .args .d .count) 0 0 (omega arith))
 
 slice-read-t16 : tie.Need-slice-read-t16
-slice-read-t16 c = let z = c .before .before .before .before in omega (arith, z .pre .1 .0, pairAt-below (z .args .d .count) 0 0 (omega arith))
+slice-read-t16 c = let z = c .before .before .before .before in
+    omega (arith, z .pre .1 .0, pairAt-below (z .args .d .count) 0 0 (omega arith))
 
 slice-aggregate-chains : tie.Need-slice-aggregate-chains
 slice-aggregate-chains c = search needs
@@ -49,8 +60,20 @@ slice-aggregate-load-from-2 c = search needs
 
 load-from-requires : tie.Need-load-from-requires
 load-from-requires c κs =
-    let z = c .before .before .before .before .before .before .before .before .before .before .before in
-    (record { few = z .pre .0 .0; fits = omega (arith, z .pre .1 .1 .1 .within); enough = z .pre .1 .0 }, (refl, no-columns (z .args .words .now) (z .args .d .count) 8320 (omega (arith, z .pre .0 .0))))
+    let z = c .before .before .before .before .before .before .before .before .before .before
+    .before in (
+      record {
+        few = z .pre .0 .0;
+        fits = omega (arith, z .pre .1 .1 .1 .within);
+        enough = z .pre .1
+            .0;
+      },
+      (
+        refl,
+        no-columns (z .args .words .now) (z .args .d .count) 8320
+            (omega (arith, z .pre .0 .0)),
+      ),
+    )
 
 slice-aggregate-fill-starts : tie.Need-slice-aggregate-fill-starts
 slice-aggregate-fill-starts c = search needs
@@ -64,20 +87,50 @@ slice-aggregate-fill-starts-3 c = search needs
 fill-starts-requires : tie.Need-fill-starts-requires
 fill-starts-requires c κs =
     let f = c .before .before .before .before .before .before in
-    let z = c .before .before .before .before .before .before .before .before .before .before .before .before .before .before .before .before .before .before in
+    let z = c .before .before .before .before .before .before .before .before .before .before
+    .before .before .before .before .before .before .before .before in
     let a = z .args in
-    let w = whole z in
-    ((w, z .pre .1 .1 .1 .within), (z .pre .1 .0, ((z .pre .1 .1 .0, c .before .before .before .before .before .before .before .before .before .before .binary-rules .ensures), ((record { one = refl; two = refl }, c .before .before .before .before .before .before .before .before .before .before .before .before .chains .ensures), ((search needs, f .load-from .ensures), begun (a .words .now) (rules (a .g)) (half (a .d)) (a .d .count) (a .from) (a .to) (z .pre .1 .1 .0 .distinct) (omega (arith, w .long, w .inner)) (z .pre .1 .1 .1))))))
+    let w = whole z in (
+      (w, z .pre .1 .1 .1 .within),
+      (
+        z .pre .1 .0,
+        (
+          (
+            z .pre .1 .1 .0,
+            c .before .before .before .before .before .before .before .before .before
+                .before .binary-rules .ensures,
+          ),
+          (
+            (
+              record { one = refl; two = refl },
+              c .before .before .before .before .before
+                  .before .before .before .before .before .before .before .chains .ensures,
+            ),
+            (
+              (search needs, f .load-from .ensures),
+              begun (a .words .now) (rules (a .g))
+                  (half (a .d)) (a .d .count) (a .from) (a .to)
+                  (z .pre .1 .1 .0 .distinct) (omega (arith, w .long, w .inner))
+                  (z .pre .1 .1 .1),
+            ),
+          ),
+        ),
+      ),
+    )
 
 same-length : tie.Need-same-length
 same-length c = search needs
 
 returns-2 : tie.Need-returns-2
 returns-2 c =
-    let z = c .before .before .before .before .before .before .before .before .before .before .before .before .before .before .before .before .before .before .before .before .before .before .before in
+    let z = c .before .before .before .before .before .before .before .before .before .before
+    .before .before .before .before .before .before .before .before .before .before .before
+    .before .before in
     let a = z .args in
     let w = whole z in
-    charted (a .words .now) (c .before .before .before .before .fill-starts .last .0) (rules (a .g)) (half (a .d)) (a .d .count) (w .long) (w .inner) (a .from) (c .before .before .before .before .fill-starts .ensures)
+    charted (a .words .now) (c .before .before .before .before .fill-starts .last .0) (rules (a .g))
+    (half (a .d)) (a .d .count) (w .long) (w .inner) (a .from)
+    (c .before .before .before .before .fill-starts .ensures)
 
 pub fill-spec : {M : Type 1} → statement M
 fill-spec =

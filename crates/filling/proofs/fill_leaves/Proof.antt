@@ -20,18 +20,32 @@ empty-pair-requires : tie.Need-empty-pair-requires Inv-loop μ-loop
 empty-pair-requires c κs = c .before .pre .1 .1
 
 write-requires : tie.Need-write-requires Inv-loop μ-loop
-write-requires c κs = let z = c .before .before .before in omega (arith, z .pre .1 .0, pairs-closed (z .args .d .count))
+write-requires c κs = let z = c .before .before .before in
+    omega (arith, z .pre .1 .0, pairs-closed (z .args .d .count))
 
 loop-holds : tie.Need-loop-holds Inv-loop μ-loop
-loop-holds c = written-none _ _ (c .before .before .before .before .empty-pair .ensures) (c .before .before .write .ensures)
+loop-holds c = written-none _ _ (c .before .before .before .before .empty-pair .ensures)
+    (c .before .before .write .ensures)
 
 leaf-at-requires : tie.Need-leaf-at-requires Inv-loop μ-loop
 leaf-at-requires c κs =
     let i = c .before in
     let w = i .before .before .before .before in
     let z = w .before .before .before .before in
-    let l = i .before .loop in
-    ((i .loop-test .taken, z .pre .0), (omega (arith, l .inv .past .long, w .write .ensures .kept .long, z .pre .1 .0), (z .pre .1 .1, (w .before .before .empty-pair .ensures, record { leaves = l .inv .leaves }))))
+    let l = i .before .loop in (
+      (i .loop-test .taken, z .pre .0),
+      (
+        omega (arith, l .inv .past .long, w .write .ensures .kept .long, z .pre .1 .0),
+        (
+          z .pre .1 .1,
+          (
+            w .before .before .empty-pair .ensures,
+            record
+                { leaves = l .inv .leaves },
+          ),
+        ),
+      ),
+    )
 
 pair-at-requires : tie.Need-pair-at-requires Inv-loop μ-loop
 pair-at-requires c κs = search needs
@@ -42,13 +56,23 @@ write-requires-2 c κs =
     let w = i .before .before .before .before in
     let z = w .before .before .before .before in
     let n = z .args .d .count in
-    omega (arith, c .before .pair-at .ensures, pairAt-below n (i .before .loop .i) 1 (omega (arith, i .loop-test .taken)), i .before .loop .inv .past .long, w .write .ensures .kept .long, z .pre .1 .0)
+    omega (
+      arith,
+      c .before .pair-at .ensures,
+      pairAt-below n (i .before .loop .i) 1
+          (omega (arith, i .loop-test .taken)),
+      i .before .loop .inv .past .long,
+      w .write .ensures
+          .kept .long,
+      z .pre .1 .0,
+    )
 
 add-i : tie.Need-add-i Inv-loop μ-loop
 add-i c = search needs
 
 loop-less : tie.Need-loop-less Inv-loop μ-loop
-loop-less c = omega (arith, c .before .before .before .before .before .before .before .loop-test .taken)
+loop-less c =
+    omega (arith, c .before .before .before .before .before .before .before .loop-test .taken)
 
 loop-again : tie.Need-loop-again Inv-loop μ-loop
 loop-again c =
@@ -57,13 +81,16 @@ loop-again c =
     let l = p .before in
     let i = l .before .before in
     written-more (i .loop-test .taken) (i .before .loop .inv) (l .leaf-at .ensures)
-    (subst (λ (x : ℕ). WrotePair (i .before .loop .words) (w .write2 .last .0) x (l .leaf-at .result .one) (l .leaf-at .result .two)) (p .pair-at .ensures) (w .write2 .ensures))
+    (subst (λ (x : ℕ). WrotePair (i .before .loop .words) (w .write2 .last .0) x
+    (l .leaf-at .result .one) (l .leaf-at .result .two)) (p .pair-at .ensures)
+    (w .write2 .ensures))
 
 same-length : tie.Need-same-length Inv-loop μ-loop
 same-length c = search needs
 
 returns : tie.Need-returns Inv-loop μ-loop
-returns c = written-all (omega (arith, c .loop-test .left)) (c .before .before .before .before .write .ensures .kept) (c .before .loop .inv)
+returns c = written-all (omega (arith, c .loop-test .left))
+    (c .before .before .before .before .write .ensures .kept) (c .before .loop .inv)
 
 pub fill-leaves-spec : {M : Type 1} → statement M
 fill-leaves-spec =

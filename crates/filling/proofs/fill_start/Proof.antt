@@ -23,11 +23,14 @@ use Rattle.filling.proofs.fill_start.Tie as tie
 
 abbrev Inv-loop : tie.InvT-loop
 Inv-loop words₀ rows₀ cols₀ table g b e from start d n known a k₀ len₀ words rows cols k len =
-    (0 < len) × (start + len ≤ d .count) × Carried (half d) start len k × Past (2 * pairs (d .count)) words₀ words × Given words₀ words (d .count) × Filled words (rules g) (half d) (d .count) from start (len + 1)
-    × Begins words e × Mirrors words (d .count) start (len + 1) rows cols × (length cols ≡ length cols₀)
+    (0 < len) × (start + len ≤ d .count) × Carried (half d) start len k
+    × Past (2 * pairs (d .count)) words₀ words × Given words₀ words (d .count)
+    × Filled words (rules g) (half d) (d .count) from start (len + 1) × Begins words e
+    × Mirrors words (d .count) start (len + 1) rows cols × (length cols ≡ length cols₀)
 
 abbrev μ-loop : tie.MeasureT-loop
-μ-loop words₀ rows₀ cols₀ table g b e from start d n known a k₀ len₀ words rows cols k len = d .count - len
+μ-loop words₀ rows₀ cols₀ table g b e from start d n known a k₀ len₀ words rows cols k len =
+    d .count - len
 
 -- src/lib.rt:137:13
 mul-a : tie.Need-mul-a Inv-loop μ-loop
@@ -45,18 +48,27 @@ first-marks-requires c κs = search needs
 begin-requires : tie.Need-begin-requires Inv-loop μ-loop
 begin-requires c κs =
     let z = c .before .before .before .before .before .before .before .before .before in
-    let q = z .pre .1 .1 .1 .1 .0 in
-    (record { few = z .pre .0 .0 .few; fits = omega (arith, z .pre .0 .1); enough = z .pre .1 .0 }, (q .0, q .1))
+    let q = z .pre .1 .1 .1 .1 .0 in (
+      record { few = z .pre .0 .0 .few; fits = omega (arith, z .pre .0 .1); enough = z .pre .1 .0 },
+      (q .0, q .1),
+    )
 
 -- src/lib.rt:141:5
 loop-holds : tie.Need-loop-holds Inv-loop μ-loop
 loop-holds c =
-    let z = c .before .before .before .before .before .before .before .before .before .before .before .before .before .before in
+    let z = c .before .before .before .before .before .before .before .before .before .before
+    .before .before .before .before in
     let a = z .args in
     let d = a .t5 in (
       omega arith,
       omega (arith, z .pre .0 .1),
-      subst (Carried (half d) (a .start) 1) (sym (c .before .before .before .before .before .before .before .before .first-marks .ensures)) (carried-first _ _ _ _ (ap (λ (t : Token). t .terminal) (sym (drafted-at d (a .start) (omega (arith, z .pre .0 .1))))) (ap (λ (t : Token). t .column .0) (sym (drafted-at d (a .start) (omega (arith, z .pre .0 .1)))))),
+      subst (Carried (half d) (a .start) 1)
+          (sym (c .before .before .before .before .before .before .before .before .first-marks
+          .ensures)) (carried-first _ _ _ _
+          (ap (λ (t : Token). t .terminal)
+          (sym (drafted-at d (a .start) (omega (arith, z .pre .0 .1)))))
+          (ap (λ (t : Token). t .column .0)
+          (sym (drafted-at d (a .start) (omega (arith, z .pre .0 .1)))))),
       past-same _ _,
       given-same _ _,
       filled-next _ _ _ _ _ _ (z .pre .1 .1 .1 .1 .1),
@@ -99,28 +111,58 @@ with-next-requires c κs = search needs
 
 -- src/lib.rt:146:9
 add-len : tie.Need-add-len Inv-loop μ-loop
-add-len c = omega (arith, c .before .before .before .loop-test .taken, c .before .before .before .before .before .before .before .before .before .before .before .before .before .before .before .before .before .before .before .pre .0 .0 .few)
+add-len c = omega (
+  arith,
+  c .before .before .before .loop-test .taken,
+  c .before .before .before
+      .before .before .before .before .before .before .before .before .before .before .before
+      .before
+      .before .before .before .before .pre .0 .0 .few,
+)
 
 -- src/lib.rt:147:12
 -- the marks with the next token
 marks : (c : tie.After-with-next Inv-loop μ-loop) →
-    let a = c .before .before .before .before .before .before .before .before .before .before .before .before .before .before .before .before .before .before .before .args in
-    Carried (half (a .t5)) (a .start) (c .before .before .before .before .loop .len + 1) (c .with-next .result)
+    let a = c .before .before .before .before .before .before .before .before .before .before
+    .before .before .before .before .before .before .before .before .before .args in
+    Carried (half (a .t5)) (a .start) (c .before .before .before .before .loop .len + 1)
+    (c .with-next .result)
 marks c =
-    let a = c .before .before .before .before .before .before .before .before .before .before .before .before .before .before .before .before .before .before .before .args in
+    let a = c .before .before .before .before .before .before .before .before .before .before
+    .before .before .before .before .before .before .before .before .before .args in
     let l = c .before .before .before .before .loop in
-    carried-more _ _ _ _ _ (l .inv .0) (l .inv .2) (next-joined (a .t5) _ _ _ _ (c .before .before .before .loop-test .taken) (c .with-next .ensures))
+    carried-more _ _ _ _ _ (l .inv .0) (l .inv .2)
+    (next-joined (a .t5) _ _ _ _ (c .before .before .before .loop-test .taken)
+    (c .with-next .ensures))
 
 add-if1 : tie.Need-add-if1 Inv-loop μ-loop
-add-if1 c = omega (arith, c .before .before .before .loop-test .taken, c .before .before .before .before .before .before .before .before .before .before .before .before .before .before .before .before .before .before .before .pre .0 .0 .few)
+add-if1 c = omega (
+  arith,
+  c .before .before .before .loop-test .taken,
+  c .before .before .before
+      .before .before .before .before .before .before .before .before .before .before .before
+      .before
+      .before .before .before .before .pre .0 .0 .few,
+)
 
 -- src/lib.rt:148:13
 load-requires : tie.Need-load-requires Inv-loop μ-loop
 load-requires c κs =
     let i = c .before .before .before .before .before .before .before in
-    let z = i .before .before .before .before .before .before .before .before .before .before .before .before .before .before .before .before in
-    let l = i .before .loop .inv in
-    ((record { few = z .pre .0 .0 .few; fits = omega (arith, i .loop-test .taken); enough = omega (arith, l .3 .long, z .pre .1 .0) }, omega (arith, l .0)), l .7)
+    let z = i .before .before .before .before .before .before .before .before .before .before
+    .before .before .before .before .before .before in
+    let l = i .before .loop .inv in (
+      (
+        record {
+          few = z .pre .0 .0 .few;
+          fits = omega (arith, i .loop-test .taken);
+          enough =
+              omega (arith, l .3 .long, z .pre .1 .0);
+        },
+        omega (arith, l .0),
+      ),
+      l .7,
+    )
 
 -- src/lib.rt:141:5
 loop-less : tie.Need-loop-less Inv-loop μ-loop
@@ -132,16 +174,37 @@ loop-again c =
     let p = c .before .before .before .before in
     let t = p .before .before .before .before in
     let m = t .before in
-    let l = m .before .before .before .before .loop .inv in
-    (omega arith, omega (arith, m .before .before .before .loop-test .taken), marks m, l .3, l .4, filled-pass _ _ _ _ _ _ _ (omega (arith, t .if1 .taken)) (l .5), l .6, p .load .ensures, p .load .kept .1 .1 .0 ∙ l .8)
+    let l = m .before .before .before .before .loop .inv in (
+      omega arith,
+      omega (arith, m .before .before .before .loop-test .taken),
+      marks m,
+      l .3,
+      l .4,
+      filled-pass _ _ _ _ _ _ _ (omega (arith, t .if1 .taken)) (l .5),
+      l .6,
+      p .load .ensures,
+      p
+          .load .kept .1 .1 .0 ∙ l .8,
+    )
 
 -- src/lib.rt:151:9
 close-requires : tie.Need-close-requires Inv-loop μ-loop
 close-requires c κs =
     let i = c .before .before .before .before .before .before .before in
-    let z = i .before .before .before .before .before .before .before .before .before .before .before .before .before .before .before .before in
-    let l = i .before .loop .inv in
-    ((record { few = z .pre .0 .0 .few; fits = omega (arith, i .loop-test .taken); enough = omega (arith, l .3 .long, z .pre .1 .0) }, omega (arith, l .0)), (z .pre .1 .1 .0, ((l .6, z .pre .1 .1 .1 .0 .1), l .7)))
+    let z = i .before .before .before .before .before .before .before .before .before .before
+    .before .before .before .before .before .before in
+    let l = i .before .loop .inv in (
+      (
+        record {
+          few = z .pre .0 .0 .few;
+          fits = omega (arith, i .loop-test .taken);
+          enough = omega
+              (arith, l .3 .long, z .pre .1 .0);
+        },
+        omega (arith, l .0),
+      ),
+      (z .pre .1 .1 .0, ((l .6, z .pre .1 .1 .1 .0 .1), l .7)),
+    )
 
 -- src/lib.rt:141:5
 loop-less-2 : tie.Need-loop-less-2 Inv-loop μ-loop
@@ -153,7 +216,8 @@ loop-again-2 c =
     let k = c .before .before .before .before .before .before in
     let m = k .before .before .before .before .before in
     let i = m .before .before .before in
-    let z = i .before .before .before .before .before .before .before .before .before .before .before .before .before .before .before .before in
+    let z = i .before .before .before .before .before .before .before .before .before .before
+    .before .before .before .before .before .before in
     let a = z .args in
     let b = i .before .loop in
     let l = b .inv in
@@ -163,9 +227,14 @@ loop-again-2 c =
     let len = b .len + 1 in
     let fit : a .start + len ≤ n = omega (arith, i .loop-test .taken) in
     let long : 2 ≤ len = omega (arith, l .0) in
-    let far : a .from < a .start + len = omega (arith, k .before .before .before .before .if1 .left) in
+    let far : a .from < a .start + len =
+    omega (arith, k .before .before .before .before .if1 .left) in
     let ws = k .close .last .0 in
-    let j = cut-joined (b .words) ws g h n (a .start) len (m .with-next .result) (z .pre .1 .1 .0 .0 .distinct) (omega (arith, z .pre .0 .0 .long, z .pre .0 .0 .inner)) fit long (carried-all _ _ _ _ (marks m)) (filled-ground (b .words) g h n (a .from) (a .start) len fit (l .5)) (k .close .ensures .0) in (
+    let j = cut-joined (b .words) ws g h n (a .start) len (m .with-next .result)
+    (z .pre .1 .1 .0 .0 .distinct) (omega (arith, z .pre .0 .0 .long, z .pre .0 .0 .inner)) fit
+    long (carried-all _ _ _ _ (marks m))
+    (filled-ground (b .words) g h n (a .from) (a .start) len fit (l .5))
+    (k .close .ensures .0) in (
       omega arith,
       fit,
       marks m,
@@ -183,17 +252,27 @@ same-length c = c .before .loop .inv .3 .long
 
 -- src/lib.rt:115:1
 same-length-2 : tie.Need-same-length-2 Inv-loop μ-loop
-same-length-2 c = let z = c .before .before .before .before .before .before .before .before .before .before .before .before .before .before .before .before in c .before .loop .inv .7 .wide ∙ sym (z .pre .1 .1 .1 .1 .0 .0)
+same-length-2 c = let z = c .before .before .before .before .before .before .before .before .before
+    .before .before .before .before .before .before .before in
+    c .before .loop .inv .7 .wide ∙ sym (z .pre .1 .1 .1 .1 .0 .0)
 
 -- src/lib.rt:115:1
 same-length-3 : tie.Need-same-length-3 Inv-loop μ-loop
-same-length-3 c = c .before .loop .inv .8 ∙ c .before .before .before .before .before .before .begin .kept .1 .1 .0
+same-length-3 c = c .before .loop .inv .8 ∙ c .before .before .before .before .before .before .begin
+    .kept .1 .1 .0
 
 -- src/lib.rt:115:1
 returns : tie.Need-returns Inv-loop μ-loop
 returns c =
-    let l = c .before .loop .inv in
-    (record { filled = filled-end _ _ _ _ _ _ _ (omega (arith, c .loop-test .left)) (l .5); given = l .4; past = l .3 }, (ending (omega (arith, c .loop-test .left)) (l .7), l .6))
+    let l = c .before .loop .inv in (
+      record {
+        filled = filled-end _ _ _ _ _ _ _ (omega (arith, c .loop-test .left)) (l .5);
+        given =
+            l .4;
+        past = l .3;
+      },
+      (ending (omega (arith, c .loop-test .left)) (l .7), l .6),
+    )
 
 pub fill-start-spec : {M : Type 1} → statement M
 fill-start-spec =

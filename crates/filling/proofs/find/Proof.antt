@@ -32,14 +32,18 @@ mul-unite c = search needs
 -- src/lib.rt:109:5
 unite-requires : tie.Need-unite-requires
 unite-requires c κs =
-    let z = c .before .before .before .before .before .before in
-    (omega (arith, c .level-of .ensures .small, z .pre .1 .1 .1), record { within = counts-nested (c .before .splits .ensures) })
+    let z = c .before .before .before .before .before .before in (
+      omega (arith, c .level-of .ensures .small, z .pre .1 .1 .1),
+      record
+          { within = counts-nested (c .before .splits .ensures) },
+    )
 
 -- src/lib.rt:91:1
 returns : tie.Need-returns
 returns c =
     let s = c .before .before in
-    found-of (s .before .before .before .before .before .pre .0 .0) (s .before .cut-masks .ensures) (s .splits .ensures) (c .before .level-of .ensures) (c .unite .ensures)
+    found-of (s .before .before .before .before .before .pre .0 .0) (s .before .cut-masks .ensures)
+    (s .splits .ensures) (c .before .level-of .ensures) (c .unite .ensures)
 
 pub find-spec : {M : Type 1} → statement M
 find-spec =

@@ -26,15 +26,25 @@ mul-t : tie.Need-mul-t Inv-loop μ-loop
 mul-t c = search needs
 
 element-copy-out-t : tie.Need-element-copy-out-t Inv-loop μ-loop
-element-copy-out-t c = omega (arith, c .before .before .before .pre .0, c .before .before .before .pre .1, c .loop-test .taken)
+element-copy-out-t c = omega (
+  arith,
+  c .before .before .before .pre .0,
+  c .before .before .before
+      .pre .1,
+  c .loop-test .taken,
+)
 
 returns : tie.Need-returns Inv-loop μ-loop
 returns c =
     let z = c .before .before .before .before .before .before .before in
     let d = z .args .t1 in
     let h = c .before .before .before .before .loop-test .taken in
-    let j = c .before .before .before .before .before .loop .j in
-    (omega (arith, h), ap (λ (t : Token). t .terminal) (drafted-at d j (omega (arith, h, z .pre .0))) ∙ c .if1 .taken ∙ sym (ap (λ (t : Token). t .terminal) (drafted-at d (z .args .i) (z .pre .0))))
+    let j = c .before .before .before .before .before .loop .j in (
+      omega (arith, h),
+      ap (λ (t : Token). t .terminal)
+          (drafted-at d j (omega (arith, h, z .pre .0))) ∙ c .if1 .taken
+          ∙ sym (ap (λ (t : Token). t .terminal) (drafted-at d (z .args .i) (z .pre .0))),
+    )
 
 add-j : tie.Need-add-j Inv-loop μ-loop
 add-j c = search needs

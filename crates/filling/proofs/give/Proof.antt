@@ -15,7 +15,13 @@ pair-at-requires c κs = search needs
 write-requires : tie.Need-write-requires
 write-requires c κs =
     let z = c .before .before .before .before in
-    omega (arith, c .before .pair-at .ensures, pairAt-below (z .args .n) (z .args .i) 1 (omega (arith, z .pre .0 .1)), z .pre .1 .0)
+    omega (
+      arith,
+      c .before .pair-at .ensures,
+      pairAt-below (z .args .n) (z .args .i) 1
+          (omega (arith, z .pre .0 .1)),
+      z .pre .1 .0,
+    )
 
 -- src/lib.rt:359:1
 same-length : tie.Need-same-length
@@ -27,8 +33,11 @@ returns c =
     let w = c .before .before in
     let p = w .before .before in
     let z = w .before .before .before .before .before in
-    let a = z .args in
-    (subst (λ (x : ℕ). WrotePair (a .words .now) (w .write .last .0) x (a .one) (a .two)) (p .pair-at .ensures) (w .write .ensures), record { prepared = z .pre .1 .1 .prepared })
+    let a = z .args in (
+      subst (λ (x : ℕ). WrotePair (a .words .now) (w .write .last .0) x (a .one) (a .two))
+          (p .pair-at .ensures) (w .write .ensures),
+      record { prepared = z .pre .1 .1 .prepared },
+    )
 
 pub give-spec : {M : Type 1} → statement M
 give-spec = tie.close (tie.spec pair-at-requires write-requires same-length returns)

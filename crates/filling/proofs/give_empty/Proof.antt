@@ -6,7 +6,8 @@ use Rattle.filling.proofs.give_empty.Tie as tie
 
 -- src/lib.rt:355:5
 write-requires : tie.Need-write-requires
-write-requires c κs = let z = c .before .before .before in omega (arith, z .pre .1 .0, pairs-closed (z .args .n))
+write-requires c κs = let z = c .before .before .before in
+    omega (arith, z .pre .1 .0, pairs-closed (z .args .n))
 
 -- src/lib.rt:348:1
 same-length : tie.Need-same-length
@@ -14,7 +15,12 @@ same-length c = search needs
 
 -- src/lib.rt:348:1
 returns : tie.Need-returns
-returns c = let w = c .before .before in (w .write .ensures, record { prepared = w .before .before .before .before .pre .1 .1 .prepared })
+returns c = let w = c .before .before in (
+  w .write .ensures,
+  record {
+    prepared = w .before .before .before .before .pre .1 .1 .prepared;
+  },
+)
 
 pub give-empty-spec : {M : Type 1} → statement M
 give-empty-spec = tie.close (tie.spec write-requires same-length returns)

@@ -17,13 +17,22 @@ first-like-requires : tie.Need-first-like-requires
 first-like-requires c κs = c .before .pre .0
 
 pair-at-requires : tie.Need-pair-at-requires
-pair-at-requires c κs = let z = c .before .before .before in (z .pre .0 .1, omega (arith, c .if1 .taken, z .pre .0 .0))
+pair-at-requires c κs = let z = c .before .before .before in
+    (z .pre .0 .1, omega (arith, c .if1 .taken, z .pre .0 .0))
 
 -- the pair of the token found lies in the sheet
-inside : (c : tie.After-pair-at) → let z = c .before .before .before .before in 2 * c .pair-at .result + 1 < length (z .args .words .now)
+inside : (c : tie.After-pair-at) → let z = c .before .before .before .before in
+    2 * c .pair-at .result + 1 < length (z .args .words .now)
 inside c =
     let z = c .before .before .before .before in
-    omega (arith, c .pair-at .ensures, z .pre .1 .0, pairAt-below (z .args .t2 .count) (c .before .before .first-like .result) 1 (omega (arith, c .before .if1 .taken, z .pre .0 .0)))
+    omega (
+      arith,
+      c .pair-at .ensures,
+      z .pre .1 .0,
+      pairAt-below (z .args .t2 .count)
+          (c .before .before .first-like .result) 1
+          (omega (arith, c .before .if1 .taken, z .pre .0 .0)),
+    )
 
 mul-at : tie.Need-mul-at
 mul-at c = omega (arith, inside c, c .before .before .before .before .good .0 .1)
@@ -53,23 +62,29 @@ returns c =
     let ws = a .words .now in
     let j = f .first-like .result in
     let w = drafted (a .t2) in
-    subst (λ (x : ℕ). Leaf g x (getD ws (2 * p .pair-at .result) 0) (getD ws (2 * p .pair-at .result + 1) 0)) (f .first-like .ensures .1)
-    (subst (λ (q : ℕ). Leaf g (tokenAt w j .terminal) (getD ws (2 * q) 0) (getD ws (2 * q + 1) 0)) (sym (p .pair-at .ensures)) (z .pre .1 .1 .1 .1 .leaves j (p .before .if1 .taken)))
+    subst (λ (x : ℕ). Leaf g x (getD ws (2 * p .pair-at .result) 0)
+    (getD ws (2 * p .pair-at .result + 1) 0)) (f .first-like .ensures .1)
+    (subst (λ (q : ℕ). Leaf g (tokenAt w j .terminal) (getD ws (2 * q) 0) (getD ws (2 * q + 1) 0))
+    (sym (p .pair-at .ensures)) (z .pre .1 .1 .1 .1 .leaves j (p .before .if1 .taken)))
 
 mul-t : tie.Need-mul-t
 mul-t c = search needs
 
 element-copy-out-t : tie.Need-element-copy-out-t
-element-copy-out-t c = let z = c .before .before .before in omega (arith, z .pre .0 .0, z .pre .0 .1)
+element-copy-out-t c = let z = c .before .before .before in
+    omega (arith, z .pre .0 .0, z .pre .0 .1)
 
 leaf-pair-requires : tie.Need-leaf-pair-requires
-leaf-pair-requires c κs = let z = c .before .before .before .before in (z .pre .1 .1 .0, z .pre .1 .1 .1 .0)
+leaf-pair-requires c κs = let z = c .before .before .before .before in
+    (z .pre .1 .1 .0, z .pre .1 .1 .1 .0)
 
 returns-2 : tie.Need-returns-2
 returns-2 c =
     let z = c .before .before .before .before .before in
     let a = z .args in
-    subst (λ (x : ℕ). Leaf (rules (a .g)) x (c .leaf-pair .result .one) (c .leaf-pair .result .two)) (ap (λ (t : Token). t .terminal) (sym (drafted-at (a .t2) (a .i) (z .pre .0 .0)))) (c .leaf-pair .ensures)
+    subst (λ (x : ℕ). Leaf (rules (a .g)) x (c .leaf-pair .result .one) (c .leaf-pair .result .two))
+    (ap (λ (t : Token). t .terminal) (sym (drafted-at (a .t2) (a .i) (z .pre .0 .0))))
+    (c .leaf-pair .ensures)
 
 pub leaf-at-spec : {M : Type 1} → statement M
 leaf-at-spec =

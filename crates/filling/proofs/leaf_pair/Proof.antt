@@ -38,10 +38,14 @@ returns c =
     let a = z .args in
     let g = rules (a .g) in
     let w = rules (c .before .link-rules .result) in
-    let t = subst₂ (λ (x y : ℕ). Thinned (a .one) g w x y) (sym (z .pre .0 .whole)) (sym (v .ruled .whole)) (v .thinned) in
-    let s = saturated-all (a .one) (a .two) (l .before .first-marks .result) 1 (omega arith) t (c .saturated .ensures) in
-    leaf-found (z .pre .0 .distinct) (z .pre .1) (subst (λ (k : SpanMarks). Leaves k 1 g (length g) (l .leaves .result)) m (l .leaves .ensures))
-    (subst (λ (k : SpanMarks). Saturated (a .one) (a .two) k 1 g (l .leaves .result) (c .saturated .result)) m s)
+    let t = subst₂ (λ (x y : ℕ). Thinned (a .one) g w x y) (sym (z .pre .0 .whole))
+    (sym (v .ruled .whole)) (v .thinned) in
+    let s = saturated-all (a .one) (a .two) (l .before .first-marks .result) 1 (omega arith) t
+    (c .saturated .ensures) in
+    leaf-found (z .pre .0 .distinct) (z .pre .1)
+    (subst (λ (k : SpanMarks). Leaves k 1 g (length g) (l .leaves .result)) m
+    (l .leaves .ensures)) (subst (λ (k : SpanMarks). Saturated (a .one) (a .two) k 1 g
+    (l .leaves .result) (c .saturated .result)) m s)
 
 pub leaf-pair-spec : {M : Type 1} → statement M
 leaf-pair-spec =

@@ -9,8 +9,16 @@ use Rattle.filling.proofs.load.Statement.{statement}
 use Rattle.filling.proofs.load.Tie as tie
 
 -- src/lib.rt:94:18
-inside : (c : tie.After-pair-at) → 2 * c .pair-at .result + 1 < length (c .before .before .before .before .args .words .now)
-inside c = let z = c .before .before .before .before in omega (arith, z .pre .0 .0 .enough, c .pair-at .ensures, pairAt-below (z .args .n) (z .args .start) (z .args .len) (z .pre .0 .0 .fits))
+inside : (c : tie.After-pair-at)
+    → 2 * c .pair-at .result + 1 < length (c .before .before .before .before .args .words .now)
+inside c = let z = c .before .before .before .before in
+    omega (
+      arith,
+      z .pre .0 .0 .enough,
+      c .pair-at .ensures,
+      pairAt-below (z .args .n)
+          (z .args .start) (z .args .len) (z .pre .0 .0 .fits),
+    )
 
 pair-at-requires : tie.Need-pair-at-requires
 pair-at-requires c κs = search needs
@@ -63,8 +71,17 @@ returns c =
     let z = q .before .before .before .before in
     let a = z .args in
     let e = q .pair-at .ensures in
-    loaded (a .words .now) (a .n) (a .start) (a .len) (a .rows .now) (a .cols .now) (p .put .last .0) (p .put .last .1 .0) (record { one = getD (a .words .now) (2 * q .pair-at .result) 0; two = getD (a .words .now) (2 * q .pair-at .result + 1) 0 })
-    (z .pre .0 .0 .few) (z .pre .0 .0 .fits) (z .pre .0 .1) (ap (λ (x : ℕ). getD (a .words .now) (2 * x) 0) (sym e)) (ap (λ (x : ℕ). getD (a .words .now) (2 * x + 1) 0) (sym e)) (p .put .ensures .0) (p .put .ensures .1) (z .pre .1)
+    loaded (a .words .now) (a .n) (a .start) (a .len) (a .rows .now) (a .cols .now)
+    (p .put .last .0) (p .put .last .1 .0)
+    (record {
+      one = getD (a .words .now) (2 * q .pair-at .result) 0;
+      two = getD
+          (a .words .now) (2 * q .pair-at .result + 1) 0;
+    }) (z .pre .0 .0 .few)
+    (z .pre .0 .0 .fits) (z .pre .0 .1)
+    (ap (λ (x : ℕ). getD (a .words .now) (2 * x) 0) (sym e))
+    (ap (λ (x : ℕ). getD (a .words .now) (2 * x + 1) 0) (sym e))
+    (p .put .ensures .0) (p .put .ensures .1) (z .pre .1)
 
 pub load-spec : {M : Type 1} → statement M
 load-spec =

@@ -8,14 +8,16 @@ use Rattle.filling.proofs.load_from.Statement.{statement}
 use Rattle.filling.proofs.load_from.Tie as tie
 
 abbrev Inv-loop : tie.InvT-loop
-Inv-loop words rows₀ cols₀ n to start₀ rows cols start = (to ≤ start) × (start ≤ n) × (length rows ≡ 128) × Columns words n start cols × (length cols ≡ length cols₀)
+Inv-loop words rows₀ cols₀ n to start₀ rows cols start = (to ≤ start) × (start ≤ n)
+    × (length rows ≡ 128) × Columns words n start cols × (length cols ≡ length cols₀)
 
 abbrev μ-loop : tie.MeasureT-loop
 μ-loop words rows₀ cols₀ n to start₀ rows cols start = start
 
 -- src/lib.rt:180:5
 loop-holds : tie.Need-loop-holds Inv-loop μ-loop
-loop-holds c = let z = c .before .before .before in (omega (arith, z .pre .0 .fits), omega arith, z .pre .1 .0, z .pre .1 .1, refl)
+loop-holds c = let z = c .before .before .before in
+    (omega (arith, z .pre .0 .fits), omega arith, z .pre .1 .0, z .pre .1 .1, refl)
 
 -- src/lib.rt:181:9
 sub-start : tie.Need-sub-start Inv-loop μ-loop
@@ -27,16 +29,40 @@ load-start-requires c κs =
     let i = c .before .before in
     let l = i .before .loop in
     let z = i .before .before .before .before .before in
-    let e : l .start ≡ l .start - 1 + 1 = omega (arith, i .loop-test .taken) in
-    (record { few = z .pre .0 .few; fits = omega (arith, l .inv .1, i .loop-test .taken); enough = z .pre .0 .enough }, (l .inv .2, subst (λ (x : ℕ). Columns (z .args .words .now) (z .args .n) x (l .cols)) e (l .inv .3)))
+    let e : l .start ≡ l .start - 1 + 1 = omega (arith, i .loop-test .taken) in (
+      record {
+        few = z .pre .0 .few;
+        fits = omega (arith, l .inv .1, i .loop-test .taken);
+        enough = z
+            .pre .0 .enough;
+      },
+      (
+        l .inv .2,
+        subst
+            (λ (x : ℕ). Columns (z .args .words .now) (z .args .n) x (l .cols)) e (l .inv .3),
+      ),
+    )
 
 -- src/lib.rt:180:5
 loop-less : tie.Need-loop-less Inv-loop μ-loop
-loop-less c = omega (arith, c .before .before .before .before .before .before .before .loop-test .taken)
+loop-less c =
+    omega (arith, c .before .before .before .before .before .before .before .loop-test .taken)
 
 -- src/lib.rt:180:5
 loop-again : tie.Need-loop-again Inv-loop μ-loop
-loop-again c = let l = c .before .before .before .before .before .before .before .before .loop .inv in (omega (arith, c .before .before .before .before .before .before .before .loop-test .taken), omega (arith, l .1), search needs, c .before .before .before .before .load-start .ensures, c .before .before .before .before .load-start .kept .1 .1 .0 ∙ l .4)
+loop-again c = let l = c .before .before .before .before .before .before .before .before .loop
+    .inv in (
+      omega (
+        arith,
+        c .before .before .before .before .before .before .before .loop-test
+            .taken,
+      ),
+      omega (arith, l .1),
+      search needs,
+      c .before .before .before .before .load-start
+          .ensures,
+      c .before .before .before .before .load-start .kept .1 .1 .0 ∙ l .4,
+    )
 
 -- src/lib.rt:173:1
 same-length : tie.Need-same-length Inv-loop μ-loop

@@ -10,7 +10,8 @@ use Rattle.filling.proofs.no_two.Tie as tie
 
 -- the array of tokens has 64 places
 whole : (c : tie.Start) → length (drafted (c .args .d)) ≡ c .args .d .count
-whole c = drafted-length (c .args .d) (simp length-map at (c .good .1 .1 .0 .1 .1 .0 .1 .0 .1)) (omega (arith, c .pre .0 .0))
+whole c = drafted-length (c .args .d) (simp length-map at (c .good .1 .1 .0 .1 .1 .0 .1 .0 .1))
+    (omega (arith, c .pre .0 .0))
 
 -- src/lib.rt:407:5
 refill-requires : tie.Need-refill-requires
@@ -31,8 +32,11 @@ same-length-2 c = search needs
 -- src/lib.rt:390:1
 returns : tie.Need-returns
 returns c =
-    let f = c .before .before .before .before .before .before in
-    (settles (whole (f .before .before .before .before .before)) (f .refill .ensures .0) (c .in-second .ensures), f .refill .ensures .1)
+    let f = c .before .before .before .before .before .before in (
+      settles (whole (f .before .before .before .before .before)) (f .refill .ensures .0)
+          (c .in-second .ensures),
+      f .refill .ensures .1,
+    )
 
 pub no-two-spec : {M : Type 1} → statement M
 no-two-spec =

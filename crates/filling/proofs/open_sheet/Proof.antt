@@ -21,8 +21,12 @@ same-length c = search needs
 returns : tie.Need-returns
 returns c =
     let w = c .before .before in
-    let z = w .before .before .before .before .before in
-    (record { prepared = z .pre .1 .1 }, subst (λ (x : ℕ). Past x (z .args .words .now) (w .clear .last .0)) (w .before .size .ensures) (w .clear .ensures .past))
+    let z = w .before .before .before .before .before in (
+      record { prepared = z .pre .1 .1 },
+      subst
+          (λ (x : ℕ). Past x (z .args .words .now) (w .clear .last .0)) (w .before .size .ensures)
+          (w .clear .ensures .past),
+    )
 
 pub open-sheet-spec : {M : Type 1} → statement M
 open-sheet-spec = tie.close (tie.spec size-requires clear-requires same-length returns)

@@ -12,7 +12,13 @@ same-length : tie.Need-same-length
 same-length c = search needs
 
 returns : tie.Need-returns
-returns c = let h = c .before .before in record { empty = h .before .before .empty-pair .result; right = h .before .before .empty-pair .ensures; chains = h .chains .ensures }
+returns c = let h = c .before .before in
+    record {
+      empty = h .before .before .empty-pair .result;
+      right =
+          h .before .before .empty-pair .ensures;
+      chains = h .chains .ensures;
+    }
 
 pub prepare-spec : {M : Type 1} → statement M
 prepare-spec =

@@ -29,7 +29,13 @@ mul-out c = omega (arith, c .before .loop-test .taken)
 
 slice-write-out : tie.Need-slice-write-out Inv-loop μ-loop
 slice-write-out c =
-    omega (arith, c .before .loop-test .taken, c .before .before .loop .inv .1, c .before .before .before .before .before .pre .1)
+    omega (
+      arith,
+      c .before .loop-test .taken,
+      c .before .before .loop .inv .1,
+      c .before .before
+          .before .before .before .pre .1,
+    )
 
 add-a : tie.Need-add-a Inv-loop μ-loop
 add-a c = omega arith
@@ -39,15 +45,26 @@ loop-less c = omega arith
 
 loop-again : tie.Need-loop-again Inv-loop μ-loop
 loop-again c =
-    let i = c .before .before .loop .inv in
-    (omega arith, length-set (c .before .before .loop .out) _ _ ∙ i .1, rows-more (omega (arith, i .1, c .before .loop-test .taken, c .before .before .before .before .before .pre .1)) (i .2) (c .row .ensures))
+    let i = c .before .before .loop .inv in (
+      omega arith,
+      length-set (c .before .before .loop .out) _ _
+          ∙ i .1,
+      rows-more (omega (
+        arith,
+        i .1,
+        c .before .loop-test .taken,
+        c .before .before
+            .before .before .before .pre .1,
+      )) (i .2) (c .row .ensures),
+    )
 
 same-length : tie.Need-same-length Inv-loop μ-loop
 same-length c = c .before .loop .inv .1
 
 returns : tie.Need-returns Inv-loop μ-loop
 returns c =
-    let e : c .before .loop .a ≡ 64 = omega (arith, c .before .loop .inv .0) in rw e at (c .before .loop .inv .2)
+    let e : c .before .loop .a ≡ 64 = omega (arith, c .before .loop .inv .0) in
+    rw e at (c .before .loop .inv .2)
 
 pub fill-rows-spec : {M : Type 1} → statement M
 fill-rows-spec =

@@ -37,8 +37,11 @@ loop-less : tie.Need-loop-less Inv-loop μ-loop
 loop-less c = omega arith
 
 loop-again : tie.Need-loop-again Inv-loop μ-loop
-loop-again c =
-    (omega arith, row-skip (c .before .before .before .before .loop .inv .1) (c .before .has .ensures .isnt (not-true _ (c .if1 .taken))))
+loop-again c = (
+  omega arith,
+  row-skip (c .before .before .before .before .loop .inv .1)
+      (c .before .has .ensures .isnt (not-true _ (c .if1 .taken))),
+)
 
 with-requires : tie.Need-with-requires Inv-loop μ-loop
 with-requires c κs = omega arith
@@ -50,12 +53,17 @@ loop-less-2 : tie.Need-loop-less-2 Inv-loop μ-loop
 loop-less-2 c = omega arith
 
 loop-again-2 : tie.Need-loop-again-2 Inv-loop μ-loop
-loop-again-2 c =
-    (omega arith, rw (c .with .ensures) (row-with (c .before .before .before .before .before .loop .inv .1) (c .before .before .has .ensures .is (not-false _ (c .before .if1 .left)))))
+loop-again-2 c = (
+  omega arith,
+  rw (c .with .ensures)
+      (row-with (c .before .before .before .before .before .loop .inv .1)
+      (c .before .before .has .ensures .is (not-false _ (c .before .if1 .left)))),
+)
 
 returns : tie.Need-returns Inv-loop μ-loop
 returns c =
-    let e : c .before .loop .x ≡ 64 = omega (arith, c .before .loop .inv .0) in rw e at (c .before .loop .inv .1)
+    let e : c .before .loop .x ≡ 64 = omega (arith, c .before .loop .inv .0) in
+    rw e at (c .before .loop .inv .1)
 
 pub row-spec : {M : Type 1} → statement M
 row-spec =

@@ -28,11 +28,19 @@ has-requires-2 c κs = (rw (c .before .c3 .given .1) at (c .before .before .befo
 
 has-requires-3 : tie.Need-has-requires-3
 has-requires-3 c κs =
-    (rw (c .before .before .before .c3 .given .1) at (c .before .before .before .before .before .pre)) .1
+    (rw (c .before .before .before .c3 .given .1) at
+    (c .before .before .before .before .before .pre)) .1
 
 returns-2 : tie.Need-returns-2
 returns-2 c =
-    rw (c .before .before .before .before .before .c3 .given .1) ((c .before .before .before .has2 .ensures .is (c .before .before .if2 .taken), c .before .has3 .ensures .is (c .if3 .taken)), refl)
+    rw (c .before .before .before .before .before .c3 .given .1) (
+      (
+        c .before .before .before .has2 .ensures .is (c .before .before .if2 .taken),
+        c .before
+            .has3 .ensures .is (c .if3 .taken),
+      ),
+      refl,
+    )
 
 returns-3 : tie.Need-returns-3
 returns-3 c = rw (c .enum-told .given .1) (λ f h. h)

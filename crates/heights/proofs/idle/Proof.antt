@@ -28,7 +28,15 @@ mul-if1 : tie.Need-mul-if1
 mul-if1 c = search needs
 
 shared-slice-read-if1 : tie.Need-shared-slice-read-if1
-shared-slice-read-if1 c = (let s = rw (c .before .before .before .c .given .1) at (c .before .before .before .before .before .before .pre .1) in omega (arith, s .0, c .before .wide .ensures, c .before .before .before .before .before .before .pre .0))
+shared-slice-read-if1 c = (let s = rw (c .before .before .before .c .given .1) at
+    (c .before .before .before .before .before .before .pre .1) in
+    omega (
+      arith,
+      s .0,
+      c .before .wide .ensures,
+      c .before .before .before .before .before
+          .before .pre .0,
+    ))
 
 returns : tie.Need-returns
 returns c = λ e. absurd (clash cc)
@@ -43,7 +51,16 @@ mul-if2 : tie.Need-mul-if2
 mul-if2 c = search needs
 
 shared-slice-read-if2 : tie.Need-shared-slice-read-if2
-shared-slice-read-if2 c = (let s = rw (c .before .before .before .before .before .before .c .given .1) at (c .before .before .before .before .before .before .before .before .before .pre .1) in omega (arith, s .1, c .before .wide2 .ensures, c .before .before .before .before .before .before .before .before .before .pre .0))
+shared-slice-read-if2 c = (let s = rw
+    (c .before .before .before .before .before .before .c .given .1) at
+    (c .before .before .before .before .before .before .before .before .before .pre .1) in
+    omega (
+      arith,
+      s .1,
+      c .before .wide2 .ensures,
+      c .before .before .before .before .before
+          .before .before .before .before .pre .0,
+    ))
 
 returns-2 : tie.Need-returns-2
 returns-2 c = λ e. absurd (clash cc)
@@ -61,9 +78,12 @@ returns-6 : tie.Need-returns-6
 returns-6 c = λ e.
     let z = c .before .before .before .before .before .before .before .before .before .before in
     let l = z .args .hs .now in
-    let s = rw (c .before .before .before .before .before .before .before .c .given .1) at (z .pre .1) in
+    let s = rw (c .before .before .before .before .before .before .before .c .given .1) at
+    (z .pre .1) in
     rw (c .before .before .before .before .before .before .before .c .given .1)
-    (idle-by l _ _ _ _ _ _ (z .pre .0) (λ i. omega (arith, c .before .shared-slice-known3 .given i)) (c .before .before .before .before .before .wide .ensures) (c .before .before .wide2 .ensures) (s .0) (s .1)
+    (idle-by l _ _ _ _ _ _ (z .pre .0) (λ i. omega (arith, c .before .shared-slice-known3 .given i))
+    (c .before .before .before .before .before .wide .ensures)
+    (c .before .before .wide2 .ensures) (s .0) (s .1)
     (omega (arith, c .before .before .before .if1 .left)) (omega (arith, c .if2 .left)))
 
 pub idle-spec : {M : Type 1} → statement M

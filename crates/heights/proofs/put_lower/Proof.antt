@@ -22,7 +22,14 @@ same-length : tie.Need-same-length
 same-length c = search needs
 
 returns : tie.Need-returns
-returns c = record { yes = λ e. (c .if1 .taken, omega (arith, c .before .slice-known .given (c .before .before .args .at)), refl); not = λ e. absurd (clash cc) }
+returns c = record {
+  yes = λ e. (
+    c .if1 .taken,
+    omega (arith, c .before .slice-known .given (c .before .before .args .at)),
+    refl,
+  );
+  not = λ e. absurd (clash cc);
+}
 
 returns-2 : tie.Need-returns-2
 returns-2 c = record { yes = λ e. absurd (clash cc); not = λ e. (c .if1 .left, refl) }

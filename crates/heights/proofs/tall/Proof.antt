@@ -14,7 +14,8 @@ returns : tie.Need-returns
 returns c = rw (c .before .enum-told .given .1) (measured-none _ (λ h q. c .if1 .taken (q .0)))
 
 returns-2 : tie.Need-returns-2
-returns-2 c = rw (c .before .before .enum-told .given .1) (measured-none _ (λ h q. c .if2 .taken (q .1)))
+returns-2 c =
+    rw (c .before .before .enum-told .given .1) (measured-none _ (λ h q. c .if2 .taken (q .1)))
 
 enum-known-c : tie.Need-enum-known-c
 enum-known-c c = search needs
@@ -23,31 +24,45 @@ returns-3 : tie.Need-returns-3
 returns-3 c = rw (c .before .before .c .given .1) (measured-none _ (λ h q. c .if3 .taken (q .0)))
 
 returns-4 : tie.Need-returns-4
-returns-4 c = rw (c .before .before .before .c .given .1) (measured-none _ (λ h q. c .if4 .taken (q .1)))
+returns-4 c =
+    rw (c .before .before .before .c .given .1) (measured-none _ (λ h q. c .if4 .taken (q .1)))
 
 allows-atom-requires : tie.Need-allows-atom-requires
 allows-atom-requires c κs = search needs
 
 returns-5 : tie.Need-returns-5
-returns-5 c = rw (c .before .before .before .before .before .c .given .1) (measured-none _ (λ h q. c .before .allows-atom .ensures .isnt (not-true _ (c .if5 .taken)) (q .2)))
+returns-5 c = rw (c .before .before .before .before .before .c .given .1)
+    (measured-none _ (λ h q. c .before .allows-atom .ensures .isnt (not-true _ (c .if5 .taken))
+    (q .2)))
 
 enum-known-c-2 : tie.Need-enum-known-c-2
 enum-known-c-2 c = search needs
 
 unary-tall-requires : tie.Need-unary-tall-requires
-unary-tall-requires c κs = (c .before .before .before .before .pre .0, subst SmallClause (c .before .c2 .given .1) (c .before .before .before .before .pre .1))
+unary-tall-requires c κs = (
+  c .before .before .before .before .pre .0,
+  subst SmallClause
+      (c .before .c2 .given .1) (c .before .before .before .before .pre .1),
+)
 
 enum-known-c-3 : tie.Need-enum-known-c-3
 enum-known-c-3 c = search needs
 
 binary-tall-requires : tie.Need-binary-tall-requires
-binary-tall-requires c κs = (c .before .before .before .before .pre .0, subst SmallClause (c .before .c3 .given .1) (c .before .before .before .before .pre .1))
+binary-tall-requires c κs = (
+  c .before .before .before .before .pre .0,
+  subst SmallClause
+      (c .before .c3 .given .1) (c .before .before .before .before .pre .1),
+)
 
 returns-6 : tie.Need-returns-6
-returns-6 c = rw (c .before .before .enum-told .given .1) (measured-empty (c .before .if1 .left) (c .if2 .left))
+returns-6 c = rw (c .before .before .enum-told .given .1)
+    (measured-empty (c .before .if1 .left) (c .if2 .left))
 
 returns-7 : tie.Need-returns-7
-returns-7 c = rw (c .before .before .before .before .before .c .given .1) (measured-atom _ _ (c .before .before .before .if3 .left) (c .before .before .if4 .left) (c .before .allows-atom .ensures .is (not-false _ (c .if5 .left))))
+returns-7 c = rw (c .before .before .before .before .before .c .given .1)
+    (measured-atom _ _ (c .before .before .before .if3 .left) (c .before .before .if4 .left)
+    (c .before .allows-atom .ensures .is (not-false _ (c .if5 .left))))
 
 returns-8 : tie.Need-returns-8
 returns-8 c = rw (c .before .before .c2 .given .1) (c .unary-tall .ensures)

@@ -16,7 +16,8 @@ mark-of-requires c κs = search needs
 returns : tie.Need-returns
 returns c =
     let a = c .before .before .args in
-    holds (subst (λ (d : ℕ). BinaryBy (a .k) (a .len) (binaryMark d) (a .left)) (sym (sym (c .before .mark-of .ensures) ∙ c .if1 .taken)) tt)
+    holds (subst (λ (d : ℕ). BinaryBy (a .k) (a .len) (binaryMark d) (a .left))
+    (sym (sym (c .before .mark-of .ensures) ∙ c .if1 .taken)) tt)
 
 binary-mark-of-requires : tie.Need-binary-mark-of-requires
 binary-mark-of-requires c κs = search needs
@@ -27,7 +28,9 @@ allows-binary-requires c κs = search needs
 returns-2 : tie.Need-returns-2
 returns-2 c =
     let a = c .before .before .before .before .args in
-    subst (λ (m : BinaryMark). Says (c .allows-binary .result) (BinaryBy (a .k) (a .len) m (a .left))) (c .before .binary-mark-of .ensures) (c .allows-binary .ensures)
+    subst (λ (m : BinaryMark). Says (c .allows-binary .result)
+    (BinaryBy (a .k) (a .len) m (a .left))) (c .before .binary-mark-of .ensures)
+    (c .allows-binary .ensures)
 
 pub allows-split-spec : {M : Type 1} → statement M
 allows-split-spec =

@@ -14,12 +14,22 @@ splits-requires c κs = search needs
 slice-read-saturate : tie.Need-slice-read-saturate
 slice-read-saturate c =
     let z = c .before .before .before .before .before in
-    omega (arith, z .pre .0 .enough, pairAt-below (z .args .n) (z .args .start) (z .args .len) (z .pre .0 .fits))
+    omega (
+      arith,
+      z .pre .0 .enough,
+      pairAt-below (z .args .n) (z .args .start) (z .args .len)
+          (z .pre .0 .fits),
+    )
 
 slice-read-saturate-2 : tie.Need-slice-read-saturate-2
 slice-read-saturate-2 c =
     let z = c .before .before .before .before .before .before in
-    omega (arith, z .pre .0 .enough, pairAt-below (z .args .n) (z .args .start) (z .args .len) (z .pre .0 .fits))
+    omega (
+      arith,
+      z .pre .0 .enough,
+      pairAt-below (z .args .n) (z .args .start) (z .args .len)
+          (z .pre .0 .fits),
+    )
 
 saturate-requires : tie.Need-saturate-requires
 saturate-requires c κs = search needs
@@ -30,7 +40,13 @@ pair-at-requires c κs = search needs
 write-requires : tie.Need-write-requires
 write-requires c κs =
     let z = c .before .before .before .before .before .before .before .before .before in
-    omega (arith, c .before .pair-at .ensures, pairAt-below (z .args .n) (z .args .start) (z .args .len) (z .pre .0 .fits), z .pre .0 .enough)
+    omega (
+      arith,
+      c .before .pair-at .ensures,
+      pairAt-below (z .args .n) (z .args .start)
+          (z .args .len) (z .pre .0 .fits),
+      z .pre .0 .enough,
+    )
 
 same-length : tie.Need-same-length
 same-length c = search needs
@@ -47,7 +63,9 @@ returns c =
       last = t .saturate .result;
       splits = s .splits .ensures;
       saturated = t .saturate .ensures;
-      wrote = subst (λ (x : ℕ). WrotePair (a .words .now) (w .write .last .0) x (t .saturate .result .one) (t .saturate .result .two)) (p .pair-at .ensures) (w .write .ensures);
+      wrote = subst (λ (x : ℕ). WrotePair (a .words .now) (w .write .last .0) x
+          (t .saturate .result .one) (t .saturate .result .two)) (p .pair-at .ensures)
+          (w .write .ensures);
     }
 
 pub close-spec : {M : Type 1} → statement M

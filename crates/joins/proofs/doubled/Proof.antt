@@ -18,7 +18,8 @@ with-requires-2 : tie.Need-with-requires-2
 with-requires-2 c κs = search needs
 
 returns-2 : tie.Need-returns-2
-returns-2 c = inl (c .with2 .ensures, inl (c .before .before .has .ensures .is (c .before .if2 .taken)))
+returns-2 c =
+    inl (c .with2 .ensures, inl (c .before .before .has .ensures .is (c .before .if2 .taken)))
 
 returns-3 : tie.Need-returns-3
 returns-3 c = inr (refl, c .before .has .ensures .isnt (c .if2 .left), c .before .before .if1 .left)

@@ -37,8 +37,12 @@ loop-less c = omega (arith, c .before .before .before .loop-test .taken)
 
 loop-again : tie.Need-loop-again Inv-loop μ-loop
 loop-again c =
-    let l = c .before .before .before .before in
-    (omega (arith, c .before .before .before .loop-test .taken), unpaired-more (l .before .before .args .codes .now) (l .loop .i) (l .loop .inv .1) (omega (arith, c .if1 .left, c .before .kind-of .ensures)))
+    let l = c .before .before .before .before in (
+      omega (arith, c .before .before .before .loop-test .taken),
+      unpaired-more
+          (l .before .before .args .codes .now) (l .loop .i) (l .loop .inv .1)
+          (omega (arith, c .if1 .left, c .before .kind-of .ensures)),
+    )
 
 returns-2 : tie.Need-returns-2 Inv-loop μ-loop
 returns-2 c = c .before .loop .inv

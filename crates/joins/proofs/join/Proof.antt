@@ -14,7 +14,8 @@ found-requires : tie.Need-found-requires
 found-requires c κs = search needs
 
 returns : tie.Need-returns
-returns c = stood true tt (holds (inl (c .before .before .has .ensures .is (c .before .if1 .taken)))) (c .found .ensures)
+returns c = stood true tt (holds
+    (inl (c .before .before .has .ensures .is (c .before .if1 .taken)))) (c .found .ensures)
 
 has-requires-2 : tie.Need-has-requires-2
 has-requires-2 c κs = search needs
@@ -25,7 +26,9 @@ found-requires-2 c κs = search needs
 returns-2 : tie.Need-returns-2
 returns-2 c =
     let v = c .before .before in
-    stood (c .before .has2 .result) tt (says-iff inr (⊎-elim (λ z. absurd (v .before .has .ensures .isnt (v .if1 .left) z)) (λ z. z)) (c .before .has2 .ensures)) (c .found2 .ensures)
+    stood (c .before .has2 .result) tt
+    (says-iff inr (⊎-elim (λ z. absurd (v .before .has .ensures .isnt (v .if1 .left) z))
+    (λ z. z)) (c .before .has2 .ensures)) (c .found2 .ensures)
 
 pub join-spec : {M : Type 1} → statement M
 join-spec =

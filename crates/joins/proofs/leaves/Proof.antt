@@ -24,8 +24,11 @@ blank-requires c κs = search needs
 
 loop-holds : tie.Need-loop-holds Inv-loop μ-loop
 loop-holds c =
-    let a = c .before .before .args in
-    (omega arith, subst (Leaves (a .k) (a .len) (decoded (a .codes .now)) 0) (sym (c .blank .ensures)) leaves-none)
+    let a = c .before .before .args in (
+      omega arith,
+      subst (Leaves (a .k) (a .len) (decoded (a .codes .now)) 0)
+          (sym (c .blank .ensures)) leaves-none,
+    )
 
 mul-rule-of : tie.Need-mul-rule-of Inv-loop μ-loop
 mul-rule-of c = search needs
@@ -50,13 +53,18 @@ loop-again c =
     let a = c .before .before .before .before .before .before .before .args in
     let l = c .before .before .before .before .loop in
     let h : l .i < length (a .codes .now) = c .before .before .before .loop-test .taken in
-    let e = c .before .rule-of .ensures ∙ coded-at (a .codes .now) no-rule (l .i) h in
-    (omega arith, leaves-more (l .inv .1) (subst (λ (r : Rule). Took (LeafFits (a .k) (a .len) (r .clause)) ⊥ (r .left) (l .t) (c .try-leaf .result)) e (c .try-leaf .ensures)))
+    let e = c .before .rule-of .ensures ∙ coded-at (a .codes .now) no-rule (l .i) h in (
+      omega arith,
+      leaves-more (l .inv .1)
+          (subst (λ (r : Rule). Took (LeafFits (a .k) (a .len) (r .clause)) ⊥ (r .left) (l .t)
+          (c .try-leaf .result)) e (c .try-leaf .ensures)),
+    )
 
 returns : tie.Need-returns Inv-loop μ-loop
 returns c =
     let a = c .before .before .before .before .args in
-    let e : c .before .loop .i ≡ length (decoded (a .codes .now)) = omega (arith, coded-length (a .codes .now), c .loop-test .left) in
+    let e : c .before .loop .i ≡ length (decoded (a .codes .now)) =
+    omega (arith, coded-length (a .codes .now), c .loop-test .left) in
     rw (← e) (c .before .loop .inv .1)
 
 pub leaves-spec : {M : Type 1} → statement M

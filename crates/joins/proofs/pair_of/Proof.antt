@@ -13,8 +13,15 @@ use Rattle.joins.proofs.pair_of.Tie as tie
 pair-at-requires : tie.Need-pair-at-requires
 pair-at-requires c κs = search needs
 
-inside : (c : tie.After-pair-at) → 2 * c .pair-at .result + 1 < length (c .before .before .args .words .now)
-inside c = omega (arith, c .pair-at .ensures, pairAt-below (c .before .before .args .n) (c .before .before .args .start) (c .before .before .args .len) (c .before .before .pre .fits))
+inside : (c : tie.After-pair-at)
+    → 2 * c .pair-at .result + 1 < length (c .before .before .args .words .now)
+inside c = omega (
+  arith,
+  c .pair-at .ensures,
+  pairAt-below (c .before .before .args .n)
+      (c .before .before .args .start) (c .before .before .args .len)
+      (c .before .before .pre .fits),
+)
 
 mul-at : tie.Need-mul-at
 mul-at c = omega (arith, inside c, c .before .before .good .0 .1)
@@ -35,7 +42,8 @@ shared-slice-read-t12 : tie.Need-shared-slice-read-t12
 shared-slice-read-t12 c = omega (arith, inside (c .before .before))
 
 returns : tie.Need-returns
-returns c = ap (λ (x : ℕ). pair (c .before .before .before .before .args .words .now) x) (c .before .before .pair-at .ensures)
+returns c = ap (λ (x : ℕ). pair (c .before .before .before .before .args .words .now) x)
+    (c .before .before .pair-at .ensures)
   where
     pair : List ℕ → ℕ → Pair
     pair ws x = record { one = getD ws (2 * x) 0; two = getD ws (2 * x + 1) 0 }

@@ -13,15 +13,19 @@ use Rattle.joins.proofs.pass.Statement.{statement}
 use Rattle.joins.proofs.pass.Tie as tie
 
 abbrev Inv-loop : tie.InvT-loop
-Inv-loop codes k one two len u₀ i₀ u i = (i ≤ length codes) × Pass one two k len (decoded codes) u₀ i u
+Inv-loop codes k one two len u₀ i₀ u i =
+    (i ≤ length codes) × Pass one two k len (decoded codes) u₀ i u
 
 abbrev μ-loop : tie.MeasureT-loop
 μ-loop codes k one two len u₀ i₀ u i = i
 
 loop-holds : tie.Need-loop-holds Inv-loop μ-loop
 loop-holds c =
-    let a = c .before .args in
-    (omega arith, subst (λ (x : ℕ). Pass (a .one) (a .two) (a .k) (a .len) (decoded (a .codes .now)) (a .t) x (a .t)) (coded-length (a .codes .now)) pass-none)
+    let a = c .before .args in (
+      omega arith,
+      subst (λ (x : ℕ). Pass (a .one) (a .two) (a .k) (a .len) (decoded (a .codes .now))
+          (a .t) x (a .t)) (coded-length (a .codes .now)) pass-none,
+    )
 
 sub-i : tie.Need-sub-i Inv-loop μ-loop
 sub-i c = omega arith
@@ -30,7 +34,8 @@ mul-try-wide : tie.Need-mul-try-wide Inv-loop μ-loop
 mul-try-wide c = search needs
 
 shared-slice-read-try-wide : tie.Need-shared-slice-read-try-wide Inv-loop μ-loop
-shared-slice-read-try-wide c = omega (arith, c .before .loop-test .taken, c .before .before .loop .inv .0)
+shared-slice-read-try-wide c =
+    omega (arith, c .before .loop-test .taken, c .before .before .loop .inv .0)
 
 try-wide-requires : tie.Need-try-wide-requires Inv-loop μ-loop
 try-wide-requires c κs = search needs
@@ -46,8 +51,14 @@ loop-again c =
     let t = c .before .before .loop-test .taken in
     let h : i < length (a .codes .now) = omega (arith, l .inv .0, t) in
     let n : l .i ≡ i + 1 = omega (arith, t) in
-    let e = coded-at (a .codes .now) no-rule i h in
-    (omega (arith, l .inv .0), pass-more {u = l .u} (subst (λ (x : ℕ). Pass (a .one) (a .two) (a .k) (a .len) (decoded (a .codes .now)) (a .t) x (l .u)) n (l .inv .1)) (subst (λ (r : Rule). WholeSide (a .one) (a .two) (a .k) (a .len) (r .left) (r .clause) (l .u) (c .try-wide .result)) e (c .try-wide .ensures)))
+    let e = coded-at (a .codes .now) no-rule i h in (
+      omega (arith, l .inv .0),
+      pass-more {u = l .u}
+          (subst (λ (x : ℕ). Pass (a .one) (a .two) (a .k) (a .len) (decoded (a .codes .now)) (a .t)
+          x
+          (l .u)) n (l .inv .1)) (subst (λ (r : Rule). WholeSide (a .one) (a .two) (a .k) (a .len)
+          (r .left) (r .clause) (l .u) (c .try-wide .result)) e (c .try-wide .ensures)),
+    )
 
 returns : tie.Need-returns Inv-loop μ-loop
 returns c =

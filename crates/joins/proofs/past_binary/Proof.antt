@@ -40,8 +40,13 @@ loop-again : tie.Need-loop-again Inv-loop μ-loop
 loop-again c =
     let l = c .before .before .before .before in
     let cs = l .before .before .args .codes .now in
-    let e : l .loop .i ≡ l .loop .i - 1 + 1 = omega (arith, c .before .before .before .loop-test .taken) in
-    (omega (arith, l .loop .inv .0), unpaired-less cs (l .loop .i - 1) (length cs) (subst (λ (x : ℕ). Unpaired cs x (length cs)) e (l .loop .inv .1)) (omega (arith, c .if1 .left, c .before .kind-of .ensures)))
+    let e : l .loop .i ≡ l .loop .i - 1 + 1 =
+    omega (arith, c .before .before .before .loop-test .taken) in (
+      omega (arith, l .loop .inv .0),
+      unpaired-less cs (l .loop .i - 1) (length cs)
+          (subst (λ (x : ℕ). Unpaired cs x (length cs)) e (l .loop .inv .1))
+          (omega (arith, c .if1 .left, c .before .kind-of .ensures)),
+    )
 
 returns-2 : tie.Need-returns-2 Inv-loop μ-loop
 returns-2 c = c .before .loop .inv

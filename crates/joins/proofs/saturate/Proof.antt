@@ -8,7 +8,8 @@ use Rattle.joins.proofs.saturate.Tie as tie
 returns : tie.Need-returns
 returns c =
     let a = c .before .before .before .args in
-    saturated-idle (a .one) (a .two) (a .k) (a .len) (decoded (a .codes .now)) (a .b) (c .if1 .taken)
+    saturated-idle (a .one) (a .two) (a .k) (a .len) (decoded (a .codes .now)) (a .b)
+    (c .if1 .taken)
 
 passes-requires : tie.Need-passes-requires
 passes-requires c κs = search needs

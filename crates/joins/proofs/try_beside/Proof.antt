@@ -18,7 +18,9 @@ try-right-empty-requires : tie.Need-try-right-empty-requires
 try-right-empty-requires c κs = search needs
 
 returns-2 : tie.Need-returns-2
-returns-2 c = let z = c .before .before .if1 .left in both (omega arith) (c .before .try-left-empty2 .result) (c .before .try-left-empty2 .ensures) (c .try-right-empty .ensures)
+returns-2 c = let z = c .before .before .if1 .left in
+    both (omega arith) (c .before .try-left-empty2 .result) (c .before .try-left-empty2 .ensures)
+    (c .try-right-empty .ensures)
 
 pub try-beside-spec : {M : Type 1} → statement M
 try-beside-spec =

@@ -26,7 +26,11 @@ returns-3 : tie.Need-returns-3
 returns-3 c =
     let x = c .before in
     let y = x .before .before in
-    took-if (λ i. (y .before .has .ensures .is (not-false _ (y .if1 .left)), x .before .has2 .ensures .is (not-false _ (x .if2 .left)))) (λ i. tt) (c .join .ensures)
+    took-if (λ i. (
+      y .before .has .ensures .is (not-false _ (y .if1 .left)),
+      x .before .has2
+          .ensures .is (not-false _ (x .if2 .left)),
+    )) (λ i. tt) (c .join .ensures)
 
 pub try-join-spec : {M : Type 1} → statement M
 try-join-spec =

@@ -24,7 +24,8 @@ allows-atom-requires : tie.Need-allows-atom-requires
 allows-atom-requires c κs = search needs
 
 returns-2 : tie.Need-returns-2
-returns-2 c = rw (c .before .before .before .before .c .given .1) (fell (λ q. c .before .allows-atom .ensures .isnt (not-true _ (c .if3 .taken)) (q .1)) refl)
+returns-2 c = rw (c .before .before .before .before .c .given .1)
+    (fell (λ q. c .before .allows-atom .ensures .isnt (not-true _ (c .if3 .taken)) (q .1)) refl)
 
 found-requires-2 : tie.Need-found-requires-2
 found-requires-2 c κs = search needs
@@ -36,7 +37,8 @@ enum-told-3 : tie.Need-enum-told-3
 enum-told-3 c = search needs
 
 returns-3 : tie.Need-returns-3
-returns-3 c = rw (c .before .before .enum-told .given .1) (stood false (c .before .if1 .taken) (fails (λ z. z)) (c .found .ensures))
+returns-3 c = rw (c .before .before .enum-told .given .1)
+    (stood false (c .before .if1 .taken) (fails (λ z. z)) (c .found .ensures))
 
 returns-4 : tie.Need-returns-4
 returns-4 c = rw (c .before .enum-told .given .1) (fell (λ q. c .if1 .left q) refl)
@@ -44,7 +46,12 @@ returns-4 c = rw (c .before .enum-told .given .1) (fell (λ q. c .if1 .left q) r
 returns-5 : tie.Need-returns-5
 returns-5 c =
     let x = c .before in
-    rw (x .before .before .before .before .c .given .1) (stood false (x .before .before .if2 .left, x .before .allows-atom .ensures .is (not-false _ (x .if3 .left))) (fails (λ z. z)) (c .found2 .ensures))
+    rw (x .before .before .before .before .c .given .1)
+    (stood false (
+      x .before .before .if2 .left,
+      x .before .allows-atom .ensures .is
+          (not-false _ (x .if3 .left)),
+    ) (fails (λ z. z)) (c .found2 .ensures))
 
 returns-6 : tie.Need-returns-6
 returns-6 c = rw (c .enum-told2 .given .1) (fell (λ q. q) refl)

@@ -10,12 +10,14 @@ use Rattle.joins.proofs.try_parts.Tie as tie
 returns : tie.Need-returns
 returns c =
     let a = c .before .before .before .args in
-    row-idle (a .p) (a .k) (a .len) (a .left) (decoded (a .codes .now)) (a .t) (inl (c .if1 .taken)) (length (decoded (a .codes .now)))
+    row-idle (a .p) (a .k) (a .len) (a .left) (decoded (a .codes .now)) (a .t) (inl (c .if1 .taken))
+    (length (decoded (a .codes .now)))
 
 returns-2 : tie.Need-returns-2
 returns-2 c =
     let a = c .before .before .before .before .before .args in
-    row-idle (a .p) (a .k) (a .len) (a .left) (decoded (a .codes .now)) (a .t) (inr (c .if2 .taken)) (length (decoded (a .codes .now)))
+    row-idle (a .p) (a .k) (a .len) (a .left) (decoded (a .codes .now)) (a .t) (inr (c .if2 .taken))
+    (length (decoded (a .codes .now)))
 
 try-splits-requires : tie.Need-try-splits-requires
 try-splits-requires c κs = search needs

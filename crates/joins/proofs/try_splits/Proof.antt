@@ -1,4 +1,5 @@
--- The loop's invariant: the rules passed are tried. Before the stretch and behind it none can stand.
+-- The loop's invariant: the rules passed are tried. Before the stretch and behind it none can
+-- stand.
 use borrow.Author.Needs.{needs}
 use mathlib.Core.Path.{sym, subst}
 use Prim.Native.Nat.{ℕ, _-_, _≤_, _<_}
@@ -14,7 +15,8 @@ use Rattle.joins.proofs.try_splits.Statement.{statement}
 use Rattle.joins.proofs.try_splits.Tie as tie
 
 abbrev Inv-loop : tie.InvT-loop
-Inv-loop codes p k left len to u₀ i₀ u i = (to ≤ length codes) × (i ≤ length codes) × SplitRow p k len left (decoded codes) u₀ i u
+Inv-loop codes p k left len to u₀ i₀ u i =
+    (to ≤ length codes) × (i ≤ length codes) × SplitRow p k len left (decoded codes) u₀ i u
 
 abbrev μ-loop : tie.MeasureT-loop
 μ-loop codes p k left len to u₀ i₀ u i = to - i
@@ -23,8 +25,12 @@ loop-holds : tie.Need-loop-holds Inv-loop μ-loop
 loop-holds c =
     let z = c .before in
     let a = z .args in
-    let w = z .pre .1 in
-    (w .within .1, w .within .0, row-upto (a .p) (a .k) (a .len) (a .left) (a .codes .now) _ 0 (a .s .from) (omega arith) (w .within .0) (w .before) row-none)
+    let w = z .pre .1 in (
+      w .within .1,
+      w .within .0,
+      row-upto (a .p) (a .k) (a .len) (a .left) (a .codes .now) _ 0
+          (a .s .from) (omega arith) (w .within .0) (w .before) row-none,
+    )
 
 mul-try-split : tie.Need-mul-try-split Inv-loop μ-loop
 mul-try-split c = search needs
@@ -45,9 +51,16 @@ loop-again : tie.Need-loop-again Inv-loop μ-loop
 loop-again c =
     let a = c .before .before .before .before .before .args in
     let l = c .before .before .before .loop in
-    let h : l .i < length (a .codes .now) = omega (arith, c .before .before .loop-test .taken, l .inv .0) in
-    let e = coded-at (a .codes .now) no-rule (l .i) h in
-    (l .inv .0, omega (arith, h), row-more (l .inv .2) (subst (λ (r : Rule). Took (SplitFits (a .p) (a .k) (a .len) (a .left) (r .clause)) (SplitBelow (a .p) (r .clause)) (r .left) (l .u) (c .try-split .result)) e (c .try-split .ensures)))
+    let h : l .i < length (a .codes .now) =
+    omega (arith, c .before .before .loop-test .taken, l .inv .0) in
+    let e = coded-at (a .codes .now) no-rule (l .i) h in (
+      l .inv .0,
+      omega (arith, h),
+      row-more (l .inv .2)
+          (subst (λ (r : Rule). Took (SplitFits (a .p) (a .k) (a .len) (a .left) (r .clause))
+          (SplitBelow (a .p) (r .clause)) (r .left) (l .u) (c .try-split .result)) e
+          (c .try-split .ensures)),
+    )
 
 returns : tie.Need-returns Inv-loop μ-loop
 returns c =
@@ -55,8 +68,13 @@ returns c =
     let a = z .args in
     let l = c .before .loop in
     let cs = a .codes .now in
-    subst (λ (x : ℕ). SplitRow (a .p) (a .k) (a .len) (a .left) (decoded cs) (a .t) x (l .u)) (sym (coded-length cs))
-    (row-upto (a .p) (a .k) (a .len) (a .left) cs (a .t) (l .i) (length cs) (l .inv .1) (omega arith) (record { low = λ j x y. z .pre .1 .behind .low j (omega (arith, x, c .loop-test .left)) y }) (l .inv .2))
+    subst (λ (x : ℕ). SplitRow (a .p) (a .k) (a .len) (a .left) (decoded cs) (a .t) x (l .u))
+    (sym (coded-length cs))
+    (row-upto (a .p) (a .k) (a .len) (a .left) cs (a .t) (l .i) (length cs) (l .inv .1)
+    (omega arith) (record {
+      low = λ j x y. z .pre .1 .behind .low j
+          (omega (arith, x, c .loop-test .left)) y;
+    }) (l .inv .2))
 
 pub try-splits-spec : {M : Type 1} → statement M
 try-splits-spec =

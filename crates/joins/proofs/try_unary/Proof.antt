@@ -16,7 +16,8 @@ allows-unary-requires : tie.Need-allows-unary-requires
 allows-unary-requires c κs = search needs
 
 returns-2 : tie.Need-returns-2
-returns-2 c = fell (λ q. c .before .allows-unary .ensures .isnt (not-true _ (c .if2 .taken)) (q .1)) refl
+returns-2 c =
+    fell (λ q. c .before .allows-unary .ensures .isnt (not-true _ (c .if2 .taken)) (q .1)) refl
 
 has-requires-2 : tie.Need-has-requires-2
 has-requires-2 c κs = search needs
@@ -28,7 +29,11 @@ returns-3 : tie.Need-returns-3
 returns-3 c =
     let x = c .before .before in
     let y = x .before .before in
-    stood (c .before .has2 .result) (y .before .has .ensures .is (not-false _ (y .if1 .left)), x .before .allows-unary .ensures .is (not-false _ (x .if2 .left))) (c .before .has2 .ensures) (c .found .ensures)
+    stood (c .before .has2 .result) (
+      y .before .has .ensures .is (not-false _ (y .if1 .left)),
+      x .before .allows-unary .ensures
+          .is (not-false _ (x .if2 .left)),
+    ) (c .before .has2 .ensures) (c .found .ensures)
 
 pub try-unary-spec : {M : Type 1} → statement M
 try-unary-spec =

@@ -20,12 +20,16 @@ returns : tie.Need-returns
 returns c =
     let a = c .before .before .before .before in
     let i = c .before .idle .ensures .is (c .if1 .taken) in
-    appended (a .args .b) (a .args .r) (a .pre .0) (a .pre .1) (a .pre .2) (exact-longer (a .args .b) (a .args .r) (a .pre .0) (a .pre .1) (a .pre .2) i)
+    appended (a .args .b) (a .args .r) (a .pre .0) (a .pre .1) (a .pre .2)
+    (exact-longer (a .args .b) (a .args .r) (a .pre .0) (a .pre .1) (a .pre .2) i)
 
 completed-requires : tie.Need-completed-requires
 completed-requires c κs =
-    let a = c .before .before .before .before in
-    (held-longer (a .args .b) (a .args .r) (a .pre .0) (a .pre .1) (a .pre .2), sound-longer (a .args .b) (a .args .r) (a .pre .0) (a .pre .1) (a .pre .2))
+    let a = c .before .before .before .before in (
+      held-longer (a .args .b) (a .args .r) (a .pre .0) (a .pre .1) (a .pre .2),
+      sound-longer
+          (a .args .b) (a .args .r) (a .pre .0) (a .pre .1) (a .pre .2),
+    )
 
 returns-2 : tie.Need-returns-2
 returns-2 c =

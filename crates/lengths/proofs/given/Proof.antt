@@ -1,6 +1,7 @@
 -- `lengths::given` meets its contract.
 use borrow.Author.Needs.{needs}
-use Rattle.lengths.proofs.Growing.{makes-empty, makes-atom, makes-none, makes-unary, makes-binary}
+use Rattle.lengths.proofs.Growing.{makes-empty, makes-atom, makes-none, makes-unary}
+use Rattle.lengths.proofs.Growing.{makes-binary}
 use Rattle.lengths.proofs.given.Statement.{statement}
 use Rattle.lengths.proofs.given.Tie as tie
 

@@ -7,10 +7,12 @@ use Rattle.lengths.proofs.idle.Statement.{statement}
 use Rattle.lengths.proofs.idle.Tie as tie
 
 first : (c : tie.After-first-of) → c .first-of .result < 64
-first c = let a = c .before in rw (c .first-of .ensures) (first-small (a .args .r .clause) (a .pre .1 .clause))
+first c = let a = c .before in
+    rw (c .first-of .ensures) (first-small (a .args .r .clause) (a .pre .1 .clause))
 
 second : (c : tie.After-second-of) → c .second-of .result < 64
-second c = let a = c .before .before in rw (c .second-of .ensures) (second-small (a .args .r .clause) (a .pre .1 .clause))
+second c = let a = c .before .before in
+    rw (c .second-of .ensures) (second-small (a .args .r .clause) (a .pre .1 .clause))
 
 first-of-requires : tie.Need-first-of-requires
 first-of-requires c κs = search needs
@@ -46,13 +48,16 @@ mul-a : tie.Need-mul-a
 mul-a c = search needs
 
 element-copy-out-a : tie.Need-element-copy-out-a
-element-copy-out-a c = omega (arith, c .before .before .before .before .before .before .pre .1 .left)
+element-copy-out-a c =
+    omega (arith, c .before .before .before .before .before .before .pre .1 .left)
 
 returns : tie.Need-returns
 returns c =
     let a = c .before .before .before .before .before .before .before in
     let g = c .before .before .given in
-    let w = makes-gives (a .args .t1) (a .args .r .clause) _ _ (g .result) (c .before .before .before .before .before .before .first-of .ensures) (c .before .before .before .before .before .second-of .ensures) (g .ensures) in
+    let w = makes-gives (a .args .t1) (a .args .r .clause) _ _ (g .result)
+    (c .before .before .before .before .before .before .first-of .ensures)
+    (c .before .before .before .before .before .second-of .ensures) (g .ensures) in
     idle-says (a .args .t1) (a .args .r) (g .result) (a .pre .0) w
 
 pub idle-spec : {M : Type 1} → statement M

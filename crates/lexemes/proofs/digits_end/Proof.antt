@@ -1,4 +1,5 @@
--- `lexemes::digits_end` meets its contract. The loop's invariant: the digits from i on end where those from `at` on do.
+-- `lexemes::digits_end` meets its contract. The loop's invariant: the digits from i on end where
+-- those from `at` on do.
 use Prim.Native.Nat.{_+_, _-_, _≤_}
 use mathlib.Core.Path.{_≡_, refl, ap}
 use native.Mathlib.Omega.{arith}
@@ -10,7 +11,8 @@ use Rattle.lexemes.proofs.digits_end.Statement.{statement}
 use Rattle.lexemes.proofs.digits_end.Tie as tie
 
 abbrev Inv-loop : tie.InvT-loop
-Inv-loop s at i₀ i = (i ≤ length s) × (at + length (frontDigits (drop at s)) ≡ i + length (frontDigits (drop i s)))
+Inv-loop s at i₀ i =
+    (i ≤ length s) × (at + length (frontDigits (drop at s)) ≡ i + length (frontDigits (drop i s)))
 
 abbrev μ-loop : tie.MeasureT-loop
 μ-loop s at i₀ i = length s - i
@@ -30,7 +32,11 @@ shared-slice-read-if2 c = search needs
 
 returns-2 : tie.Need-returns-2 Inv-loop μ-loop
 returns-2 c = let l = c .before .before .before .before .before in let a = l .before .args in
-    omega (arith, ap length (digits-high (a .s .now) (l .loop .i) (omega arith) (omega arith) (c .if2 .taken)))
+    omega (
+      arith,
+      ap length (digits-high (a .s .now) (l .loop .i) (omega arith) (omega arith)
+          (c .if2 .taken)),
+    )
 
 add-i : tie.Need-add-i Inv-loop μ-loop
 add-i c = search needs
@@ -39,8 +45,15 @@ loop-less : tie.Need-loop-less Inv-loop μ-loop
 loop-less c = search needs
 
 loop-again : tie.Need-loop-again Inv-loop μ-loop
-loop-again c = let l = c .before .before .before .before .before in let a = l .before .args in
-    (omega arith, omega (arith, ap length (digits-more (a .s .now) (l .loop .i) (omega arith) (omega arith) (omega (arith, c .if2 .left)))))
+loop-again c = let l = c .before .before .before .before .before in let a = l .before .args in (
+  omega arith,
+  omega (
+    arith,
+    ap length
+        (digits-more (a .s .now) (l .loop .i) (omega arith) (omega arith)
+        (omega (arith, c .if2 .left))),
+  ),
+)
 
 returns-3 : tie.Need-returns-3 Inv-loop μ-loop
 returns-3 c = let l = c .before in let a = l .before .args in

@@ -23,12 +23,16 @@ number-at-requires c κs =
 returns : tie.Need-returns
 returns c =
     let i = c .before .before .before in
-    sym (ap (asLexed (c .before .before .before .before .before .before .before .args .at)) (hit (sym (i .before .starts-with .ensures) ∙ i .if1 .taken) _ _) ∙ c .before .before .number-at .ensures .is (c .if2 .taken) n)
+    sym (ap (asLexed (c .before .before .before .before .before .before .before .args .at))
+    (hit (sym (i .before .starts-with .ensures) ∙ i .if1 .taken) _ _)
+    ∙ c .before .before .number-at .ensures .is (c .if2 .taken) n)
 
 returns-2 : tie.Need-returns-2
 returns-2 c =
     let i = c .before .before .before in
-    sym (ap (asLexed (c .before .before .before .before .before .before .before .args .at)) (hit (sym (i .before .starts-with .ensures) ∙ i .if1 .taken) _ _) ∙ c .before .before .number-at .ensures .isnt (omega (arith, c .if2 .left)) n)
+    sym (ap (asLexed (c .before .before .before .before .before .before .before .args .at))
+    (hit (sym (i .before .starts-with .ensures) ∙ i .if1 .taken) _ _)
+    ∙ c .before .before .number-at .ensures .isnt (omega (arith, c .if2 .left)) n)
 
 slice-aggregate-starts-with-2 : tie.Need-slice-aggregate-starts-with-2
 slice-aggregate-starts-with-2 c = search needs
@@ -45,18 +49,26 @@ returns-3 : tie.Need-returns-3
 returns-3 c =
     let i = c .before .before .before in
     let j = i .before .before .before in
-    sym (ap (asLexed (c .before .before .before .before .before .before .before .before .before .before .args .at)) (skip (sym (j .before .starts-with .ensures) ∙ j .if1 .left) _ _ _ (hit (sym (i .before .starts-with2 .ensures) ∙ i .if3 .taken) _ _)) ∙ c .before .before .number-at2 .ensures .is (c .if4 .taken) t)
+    sym (ap (asLexed (c .before .before .before .before .before .before .before .before .before
+    .before .args .at)) (skip (sym (j .before .starts-with .ensures) ∙ j .if1 .left) _ _ _
+    (hit (sym (i .before .starts-with2 .ensures) ∙ i .if3 .taken) _ _))
+    ∙ c .before .before .number-at2 .ensures .is (c .if4 .taken) t)
 
 returns-4 : tie.Need-returns-4
 returns-4 c =
     let i = c .before .before .before in
     let j = i .before .before .before in
-    sym (ap (asLexed (c .before .before .before .before .before .before .before .before .before .before .args .at)) (skip (sym (j .before .starts-with .ensures) ∙ j .if1 .left) _ _ _ (hit (sym (i .before .starts-with2 .ensures) ∙ i .if3 .taken) _ _)) ∙ c .before .before .number-at2 .ensures .isnt (omega (arith, c .if4 .left)) t)
+    sym (ap (asLexed (c .before .before .before .before .before .before .before .before .before
+    .before .args .at)) (skip (sym (j .before .starts-with .ensures) ∙ j .if1 .left) _ _ _
+    (hit (sym (i .before .starts-with2 .ensures) ∙ i .if3 .taken) _ _))
+    ∙ c .before .before .number-at2 .ensures .isnt (omega (arith, c .if4 .left)) t)
 
 returns-5 : tie.Need-returns-5
 returns-5 c =
     let j = c .before .before .before in
-    sym (ap (asLexed (c .before .before .before .before .before .before .before .args .at)) (skip (sym (j .before .starts-with .ensures) ∙ j .if1 .left) _ _ _ (miss (sym (c .before .starts-with2 .ensures) ∙ c .if3 .left) _ _)))
+    sym (ap (asLexed (c .before .before .before .before .before .before .before .args .at))
+    (skip (sym (j .before .starts-with .ensures) ∙ j .if1 .left) _ _ _
+    (miss (sym (c .before .starts-with2 .ensures) ∙ c .if3 .left) _ _)))
 
 pub item-at-spec : {M : Type 1} → statement M
 item-at-spec =

@@ -18,7 +18,8 @@ cast-result c = search needs
 returns : tie.Need-returns
 returns c =
     let v = c .before .before .v .given in
-    numbers-low _ _ (is-number _ _ (sym (c .before .before .before .before .numeral .ensures) ∙ v .1)) (omega arith)
+    numbers-low _ _ (is-number _ _ (sym (c .before .before .before .before .numeral .ensures)
+    ∙ v .1)) (omega arith)
 
 enum-told : tie.Need-enum-told
 enum-told c = search needs
@@ -26,10 +27,13 @@ enum-told c = search needs
 returns-2 : tie.Need-returns-2
 returns-2 c =
     let v = c .before .before .v .given in
-    numbers-high _ _ (is-number _ _ (sym (c .before .before .before .before .numeral .ensures) ∙ v .1)) (omega (arith, c .if1 .left))
+    numbers-high _ _ (is-number _ _
+    (sym (c .before .before .before .before .numeral .ensures) ∙ v .1))
+    (omega (arith, c .if1 .left))
 
 returns-3 : tie.Need-returns-3
-returns-3 c = numbers-none _ (is-not _ (sym (c .before .before .numeral .ensures) ∙ c .enum-told .given .1))
+returns-3 c =
+    numbers-none _ (is-not _ (sym (c .before .before .numeral .ensures) ∙ c .enum-told .given .1))
 
 pub number-spec : {M : Type 1} → statement M
 number-spec =

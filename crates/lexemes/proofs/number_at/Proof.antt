@@ -22,7 +22,13 @@ part-number-start c = search needs
 part-number-end : tie.Need-part-number-end
 part-number-end c =
     let a = c .before .before .args in
-    omega (arith, c .digits-end .ensures, digits-length (drop (a .at + 1) (a .s .now)), length-drop (a .at + 1) (a .s .now))
+    omega (
+      arith,
+      c .digits-end .ensures,
+      digits-length (drop (a .at + 1) (a .s .now)),
+      length-drop
+          (a .at + 1) (a .s .now),
+    )
 
 number-requires : tie.Need-number-requires
 number-requires c κs = search needs
@@ -30,7 +36,8 @@ number-requires c κs = search needs
 returns : tie.Need-returns
 returns c =
     let a = c .before .before .before .before .args in
-    number-at (a .s .now) (a .at) (c .before .before .digits-end .result) (c .number .result) (c .before .before .digits-end .ensures) (c .number .ensures)
+    number-at (a .s .now) (a .at) (c .before .before .digits-end .result) (c .number .result)
+    (c .before .before .digits-end .ensures) (c .number .ensures)
 
 pub number-at-spec : {M : Type 1} → statement M
 number-at-spec =

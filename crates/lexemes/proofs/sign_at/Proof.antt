@@ -1,4 +1,5 @@
--- `sign_at` meets its contract. The loop's invariant: none of the first i signs stands at the place.
+-- `sign_at` meets its contract. The loop's invariant: none of the first i signs stands at the
+-- place.
 use mathlib.Core.List.{[]}
 use mathlib.Core.Path.{_≡_, refl, sym, ap, _∙_}
 use Prim.Native.Nat.{_-_, _≤_}
@@ -9,7 +10,8 @@ use lib.ListN.{drop, length-drop, drop-of-length-le}
 use Rattle.clauses.specs.Text.{opening}
 use Rattle.lexemes.specs.Lexemes.{sign, signs, firstSign, items}
 use Rattle.lexemes.specs.Answers.{asLexed, signAt}
-use Rattle.lexemes.proofs.Laws.{signs-bytes, signs-many, standing-within, search-stands, search-on}
+use Rattle.lexemes.proofs.Laws.{signs-bytes, signs-many, standing-within, search-stands}
+use Rattle.lexemes.proofs.Laws.{search-on}
 use Rattle.lexemes.proofs.sign_at.Statement.{statement}
 use Rattle.lexemes.proofs.sign_at.Tie as tie
 
@@ -40,8 +42,8 @@ returns c =
     let l = c .before .before .before .before in
     let a = l .before .before .args in
     let k = c .before .before .sign-stands .ensures in
-    let f = search-stands signs (drop (a .at) (a .s .now)) (l .loop .i) (sign [] opening) (omega (arith, signs-many))
-    (omega (arith, k, c .before .if1 .taken)) in
+    let f = search-stands signs (drop (a .at) (a .s .now)) (l .loop .i) (sign [] opening)
+    (omega (arith, signs-many)) (omega (arith, k, c .before .if1 .taken)) in
     let g = l .loop .inv .1 ∙ f in
     rw (c .sign .ensures, k) (sym (ap (asLexed (a .at)) g))
 
@@ -56,8 +58,8 @@ loop-again c =
     let l = c .before .before .before in
     let a = l .before .before .args in
     let k = c .before .sign-stands .ensures in
-    let f = search-on signs (drop (a .at) (a .s .now)) (l .loop .i) (sign [] opening) signs-bytes (omega (arith, signs-many))
-    (omega (arith, k, c .if1 .left)) in
+    let f = search-on signs (drop (a .at) (a .s .now)) (l .loop .i) (sign [] opening) signs-bytes
+    (omega (arith, signs-many)) (omega (arith, k, c .if1 .left)) in
     (omega arith, rw (add-one (l .loop .i)) (l .loop .inv .1 ∙ f))
 
 item-at-requires : tie.Need-item-at-requires Inv-loop μ-loop
@@ -67,8 +69,10 @@ returns-2 : tie.Need-returns-2 Inv-loop μ-loop
 returns-2 c =
     let l = c .before .before in
     let a = l .before .before .args in
-    let e : drop (l .loop .i) signs ≡ [] = drop-of-length-le signs {i = l .loop .i} (omega (arith, signs-many)) in
-    let g : firstSign signs (drop (a .at) (a .s .now)) ≡ items (drop (a .at) (a .s .now)) = l .loop .inv .1 ∙ rw e refl in
+    let e : drop (l .loop .i) signs ≡ [] =
+    drop-of-length-le signs {i = l .loop .i} (omega (arith, signs-many)) in
+    let g : firstSign signs (drop (a .at) (a .s .now)) ≡ items (drop (a .at) (a .s .now)) =
+    l .loop .inv .1 ∙ rw e refl in
     c .item-at .ensures ∙ ap (asLexed (a .at)) (sym g)
 
 pub sign-at-spec : {M : Type 1} → statement M

@@ -34,7 +34,8 @@ returns-3 c = let u = c .before .before in
     sym (into (sym (s .before .shaped .ensures) ∙ s .if1 .taken) _ _ _
     (into (le-leb _ _ (t .if2 .left)) _ _ _
     (into (le-leb _ _ (u .if3 .left)) _ _ _
-    (miss (ap (λ (x : ℕ). leb x 63) (sym (c .before .up-to .ensures)) ∙ lt-leb _ _ (c .if4 .taken)) _ _))))
+    (miss (ap (λ (x : ℕ). leb x 63) (sym (c .before .up-to .ensures)) ∙ lt-leb _ _ (c .if4 .taken))
+    _ _))))
 
 cast-lay-rule : tie.Need-cast-lay-rule
 cast-lay-rule c = search needs
@@ -58,7 +59,8 @@ returns-4 c = let v = c .before .before in
     c .lay-rule .ensures ∙ sym (into (sym (s .before .shaped .ensures) ∙ s .if1 .taken) _ _ _
     (into (le-leb _ _ (t .if2 .left)) _ _ _
     (into (le-leb _ _ (u .if3 .left)) _ _ _
-    (into (ap (λ (x : ℕ). leb x 63) e ∙ le-leb _ _ (v .if4 .left)) _ _ _ (ap (λ (x : ℕ). layRule (a .l) (a .k) (a .a .value) x (a .y)) e)))))
+    (into (ap (λ (x : ℕ). leb x 63) e ∙ le-leb _ _ (v .if4 .left)) _ _ _
+    (ap (λ (x : ℕ). layRule (a .l) (a .k) (a .a .value) x (a .y)) e)))))
 
 returns-5 : tie.Need-returns-5
 returns-5 c = sym (miss (sym (c .before .shaped .ensures) ∙ c .if1 .left) _ _)

@@ -11,20 +11,28 @@ meet-requires c κs = search needs
 
 returns : tie.Need-returns
 returns c = let k = c .before in
-    c .meet .ensures ∙ sym (and-true (eq-eqb _ _ (k .before .before .before .before .before .if1 .taken)) _ _ (and-true (eq-eqb _ _ (k .before .before .if2 .taken)) _ _ (hit (eq-eqb _ _ (k .if3 .taken)) _ _)))
+    c .meet .ensures ∙ sym (and-true
+    (eq-eqb _ _ (k .before .before .before .before .before .if1 .taken)) _ _
+    (and-true (eq-eqb _ _ (k .before .before .if2 .taken)) _ _
+    (hit (eq-eqb _ _ (k .if3 .taken)) _ _)))
 
 same-operands-requires : tie.Need-same-operands-requires
 same-operands-requires c κs = search needs
 
 returns-2 : tie.Need-returns-2
 returns-2 c = let k = c .before in
-    c .same-operands .ensures ∙ sym (and-true (eq-eqb _ _ (k .before .before .before .before .before .if1 .taken)) _ _ (and-true (eq-eqb _ _ (k .before .before .if2 .taken)) _ _ (miss (ne-eqb _ _ (k .if3 .left)) _ _)))
+    c .same-operands .ensures ∙ sym
+    (and-true (eq-eqb _ _ (k .before .before .before .before .before .if1 .taken)) _ _
+    (and-true (eq-eqb _ _ (k .before .before .if2 .taken)) _ _
+    (miss (ne-eqb _ _ (k .if3 .left)) _ _)))
 
 returns-3 : tie.Need-returns-3
-returns-3 c = sym (and-true (eq-eqb _ _ (c .before .before .before .if1 .taken)) _ _ (and-false (ne-eqb _ _ (c .if2 .left)) _))
+returns-3 c = sym (and-true (eq-eqb _ _ (c .before .before .before .if1 .taken)) _ _
+    (and-false (ne-eqb _ _ (c .if2 .left)) _))
 
 returns-4 : tie.Need-returns-4
 returns-4 c = sym (and-false (ne-eqb _ _ (c .if1 .left)) _)
 
 pub same-key-spec : {M : Type 1} → statement M
-same-key-spec = tie.close (tie.spec meet-requires returns same-operands-requires returns-2 returns-3 returns-4)
+same-key-spec =
+    tie.close (tie.spec meet-requires returns same-operands-requires returns-2 returns-3 returns-4)

@@ -25,7 +25,12 @@ past-requires c κs = search needs
 returns-3 : tie.Need-returns-3
 returns-3 c = let a = c .before .before .before .before .args in
     let e = c .before .past .ensures in
-    simp (lt-leb (a .k + a .w) 65536 (omega (arith, e, c .if3 .taken)), le-leb _ _ (c .before .before .if2 .left), le-leb 1 (a .w) (omega arith))
+    simp (
+      lt-leb (a .k + a .w) 65536 (omega (arith, e, c .if3 .taken)),
+      le-leb _ _
+          (c .before .before .if2 .left),
+      le-leb 1 (a .w) (omega arith),
+    )
 
 cast-t10 : tie.Need-cast-t10
 cast-t10 c = search needs
@@ -36,7 +41,12 @@ cast-t8-3 c = search needs
 returns-4 : tie.Need-returns-4
 returns-4 c = let a = c .before .before .before .before .args in
     let e = c .before .past .ensures in
-    simp (le-leb (a .k + a .w) 65536 (omega (arith, e, c .if3 .left)), le-leb _ _ (c .before .before .if2 .left), le-leb 1 (a .w) (omega arith))
+    simp (
+      le-leb (a .k + a .w) 65536 (omega (arith, e, c .if3 .left)),
+      le-leb _ _
+          (c .before .before .if2 .left),
+      le-leb 1 (a .w) (omega arith),
+    )
 
 pub sized-spec : {M : Type 1} → statement M
 sized-spec =

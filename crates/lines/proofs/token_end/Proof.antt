@@ -1,4 +1,5 @@
--- `lines::token_end` meets its contract: no field is left exactly if the cursor is past the line's end.
+-- `lines::token_end` meets its contract: no field is left exactly if the cursor is past the line's
+-- end.
 use mathlib.Core.Path.{sym, _∙_}
 use borrow.Author.Needs.{needs}
 use Rattle.fields.proofs.Fields.{end-good, end-bad}
@@ -17,7 +18,8 @@ token-of-requires c κs = search needs
 returns-2 : tie.Need-returns-2
 returns-2 c =
     let s = c .before .before .before .before in
-    c .token-of .ensures ∙ sym (end-good Form _ (s .args .s .now) (s .args .c) (s .pre) (c .before .if1 .left))
+    c .token-of .ensures ∙ sym (end-good Form _ (s .args .s .now) (s .args .c) (s .pre)
+    (c .before .if1 .left))
 
 pub token-end-spec : {M : Type 1} → statement M
 token-end-spec = tie.close (tie.spec returns token-of-requires returns-2)

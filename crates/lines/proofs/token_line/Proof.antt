@@ -1,4 +1,5 @@
--- `lines::token_line` meets its contract: after each field, what the line says is what the definition says of the fields left.
+-- `lines::token_line` meets its contract: after each field, what the line says is what the
+-- definition says of the fields left.
 use mathlib.Core.Path.{_≡_, sym, ap, _∙_}
 use mathlib.Core.Bool.{Bool}
 use Prim.Native.Nat.{ℕ, _≤_}
@@ -33,20 +34,41 @@ abbrev read₃ : tie.After-known-told3 → ℕ × (Cursor × Unit {0})
 read₃ c = c .before .k .given .0
 
 -- what is left to say after each field
-stage1 : (c : tie.After-known-told) → (tokenFields (start₁ c .args .wide) (fieldsLeft (start₁ c .args .s .now) (start₁ c .args .c)) ≡ afterTerminal (start₁ c .args .wide) (read₁ c .0) (fieldsLeft (start₁ c .args .s .now) (read₁ c .1 .0))) × (read₁ c .1 .0 .end ≡ start₁ c .args .c .end)
+stage1 : (c : tie.After-known-told)
+    → (tokenFields (start₁ c .args .wide) (fieldsLeft (start₁ c .args .s .now) (start₁ c .args .c))
+    ≡ afterTerminal (start₁ c .args .wide) (read₁ c .0)
+    (fieldsLeft (start₁ c .args .s .now) (read₁ c .1 .0)))
+    × (read₁ c .1 .0 .end ≡ start₁ c .args .c .end)
 stage1 c =
-    number-good Form (afterTerminal (start₁ c .args .wide)) (start₁ c .args .s .now) (start₁ c .args .c) _ _ (sym (c .before .t .given .1) ∙ c .before .before .before .number .ensures)
+    number-good Form (afterTerminal (start₁ c .args .wide)) (start₁ c .args .s .now)
+    (start₁ c .args .c) _ _ (sym (c .before .t .given .1)
+    ∙ c .before .before .before .number .ensures)
 
-stage2 : (c : tie.After-known-told2) → (tokenFields (start₂ c .args .wide) (fieldsLeft (start₂ c .args .s .now) (start₂ c .args .c)) ≡ afterLine (start₂ c .args .wide) (read₁ (c .before .before .before .before) .0) (read₂ c .0) (fieldsLeft (start₂ c .args .s .now) (read₂ c .1 .0))) × (read₂ c .1 .0 .end ≡ start₂ c .args .c .end)
+stage2 : (c : tie.After-known-told2)
+    → (tokenFields (start₂ c .args .wide) (fieldsLeft (start₂ c .args .s .now) (start₂ c .args .c))
+    ≡ afterLine (start₂ c .args .wide) (read₁ (c .before .before .before .before) .0)
+    (read₂ c .0) (fieldsLeft (start₂ c .args .s .now) (read₂ c .1 .0)))
+    × (read₂ c .1 .0 .end ≡ start₂ c .args .c .end)
 stage2 c =
     let s = c .before .before .before .before in
-    let l = number-good Form (afterLine (start₁ s .args .wide) (read₁ s .0)) (start₁ s .args .s .now) (read₁ s .1 .0) _ _ (sym (c .before .l .given .1) ∙ c .before .before .before .number2 .ensures) in
+    let l = number-good Form (afterLine (start₁ s .args .wide) (read₁ s .0))
+    (start₁ s .args .s .now) (read₁ s .1 .0) _ _
+    (sym (c .before .l .given .1) ∙ c .before .before .before .number2 .ensures) in
     (stage1 s .0 ∙ l .0, l .1 ∙ stage1 s .1)
 
-stage3 : (c : tie.After-known-told3) → (tokenFields (start₃ c .args .wide) (fieldsLeft (start₃ c .args .s .now) (start₃ c .args .c)) ≡ afterColumn (start₃ c .args .wide) (read₁ (c .before .before .before .before .before .before .before .before) .0) (read₂ (c .before .before .before .before) .0) (read₃ c .0) (fieldsLeft (start₃ c .args .s .now) (read₃ c .1 .0))) × (read₃ c .1 .0 .end ≡ start₃ c .args .c .end)
+stage3 : (c : tie.After-known-told3)
+    → (tokenFields (start₃ c .args .wide) (fieldsLeft (start₃ c .args .s .now) (start₃ c .args .c))
+    ≡ afterColumn (start₃ c .args .wide)
+    (read₁ (c .before .before .before .before .before .before .before .before) .0)
+    (read₂ (c .before .before .before .before) .0) (read₃ c .0)
+    (fieldsLeft (start₃ c .args .s .now) (read₃ c .1 .0)))
+    × (read₃ c .1 .0 .end ≡ start₃ c .args .c .end)
 stage3 c =
     let s = c .before .before .before .before in
-    let l = number-good Form (afterColumn (start₂ s .args .wide) (read₁ (s .before .before .before .before) .0) (read₂ s .0)) (start₂ s .args .s .now) (read₂ s .1 .0) _ _ (sym (c .before .k .given .1) ∙ c .before .before .before .number3 .ensures) in
+    let l = number-good Form (afterColumn (start₂ s .args .wide)
+    (read₁ (s .before .before .before .before) .0) (read₂ s .0)) (start₂ s .args .s .now)
+    (read₂ s .1 .0) _ _ (sym (c .before .k .given .1)
+    ∙ c .before .before .before .number3 .ensures) in
     (stage2 s .0 ∙ l .0, l .1 ∙ stage2 s .1)
 
 -- the cursor behind each field is still in the sheet
@@ -71,7 +93,9 @@ enum-told c = search needs
 returns : tie.Need-returns
 returns c =
     let n = c .before .before in
-    sym (number-bad Form (afterTerminal (n .before .before .args .wide)) (n .before .before .args .s .now) (n .before .before .args .c) (sym (c .enum-told .given .1) ∙ n .number .ensures))
+    sym (number-bad Form (afterTerminal (n .before .before .args .wide))
+    (n .before .before .args .s .now) (n .before .before .args .c)
+    (sym (c .enum-told .given .1) ∙ n .number .ensures))
 
 number-requires-2 : tie.Need-number-requires-2
 number-requires-2 c κs = inside₁ c
@@ -86,7 +110,9 @@ returns-2 : tie.Need-returns-2
 returns-2 c =
     let n = c .before .before in
     let s = n .before in
-    sym (stage1 s .0 ∙ number-bad Form (afterLine (start₁ s .args .wide) (read₁ s .0)) (start₁ s .args .s .now) (read₁ s .1 .0) (sym (c .enum-told2 .given .1) ∙ n .number2 .ensures))
+    sym (stage1 s .0 ∙ number-bad Form (afterLine (start₁ s .args .wide) (read₁ s .0))
+    (start₁ s .args .s .now) (read₁ s .1 .0)
+    (sym (c .enum-told2 .given .1) ∙ n .number2 .ensures))
 
 number-requires-3 : tie.Need-number-requires-3
 number-requires-3 c κs = inside₂ c
@@ -101,13 +127,23 @@ returns-3 : tie.Need-returns-3
 returns-3 c =
     let n = c .before .before in
     let s = n .before in
-    sym (stage2 s .0 ∙ number-bad Form (afterColumn (start₂ s .args .wide) (read₁ (s .before .before .before .before) .0) (read₂ s .0)) (start₂ s .args .s .now) (read₂ s .1 .0) (sym (c .enum-told3 .given .1) ∙ n .number3 .ensures))
+    sym (stage2 s .0 ∙ number-bad Form
+    (afterColumn (start₂ s .args .wide) (read₁ (s .before .before .before .before) .0)
+    (read₂ s .0)) (start₂ s .args .s .now) (read₂ s .1 .0)
+    (sym (c .enum-told3 .given .1) ∙ n .number3 .ensures))
 
 -- what is left to say, by whether the names have `width`
 ends : (c : tie.After-known-told3) (b : Bool) → start₃ c .args .wide ≡ b
-    → afterColumn b (read₁ (c .before .before .before .before .before .before .before .before) .0) (read₂ (c .before .before .before .before) .0) (read₃ c .0) (fieldsLeft (start₃ c .args .s .now) (read₃ c .1 .0))
-    ≡ tokenFields (start₃ c .args .wide) (fieldsLeft (start₃ c .args .s .now) (start₃ c .args .c))
-ends c b e = sym (stage3 c .0 ∙ ap (λ (x : Bool). afterColumn x (read₁ (c .before .before .before .before .before .before .before .before) .0) (read₂ (c .before .before .before .before) .0) (read₃ c .0) (fieldsLeft (start₃ c .args .s .now) (read₃ c .1 .0))) e)
+    → afterColumn b (read₁ (c .before .before .before .before .before .before .before .before) .0)
+    (read₂ (c .before .before .before .before) .0) (read₃ c .0)
+    (fieldsLeft (start₃ c .args .s .now) (read₃ c .1 .0))
+    ≡ tokenFields (start₃ c .args .wide)
+    (fieldsLeft (start₃ c .args .s .now) (start₃ c .args .c))
+ends c b e = sym (stage3 c .0 ∙ ap
+    (λ (x : Bool). afterColumn x (read₁
+    (c .before .before .before .before .before .before .before .before) .0)
+    (read₂ (c .before .before .before .before) .0) (read₃ c .0)
+    (fieldsLeft (start₃ c .args .s .now) (read₃ c .1 .0))) e)
 
 wide-end-requires : tie.Need-wide-end-requires
 wide-end-requires c κs = inside₃ (c .before)

@@ -25,11 +25,13 @@ has-requires c κs = (rw (c .before .c .given .1) at (c .before .before .before 
 
 -- src/lib.rt:28:17
 returns : tie.Need-returns
-returns c = rw (c .before .before .before .c .given .1) (fails (λ q. q .0 (c .before .has .ensures .is (c .if1 .taken))))
+returns c = rw (c .before .before .before .c .given .1)
+    (fails (λ q. q .0 (c .before .has .ensures .is (c .if1 .taken))))
 
 -- src/lib.rt:30:16
 has-requires-2 : tie.Need-has-requires-2
-has-requires-2 c κs = let x = c .before .before .before in (rw (x .c .given .1) at (x .before .before .pre)) .1
+has-requires-2 c κs = let x = c .before .before .before in
+    (rw (x .c .given .1) at (x .before .before .pre)) .1
 
 -- src/lib.rt:18:1
 returns-2 : tie.Need-returns-2
@@ -45,11 +47,19 @@ returns-4 c = rw (c .enum-told3 .given .1) (fails (λ q. q))
 
 -- src/lib.rt:18:1
 returns-5 : tie.Need-returns-5
-returns-5 c = let x = c .before .before in rw (x .before .before .before .c .given .1) (fails (λ q. q .1 (c .before .has2 .ensures .is (c .if2 .taken))))
+returns-5 c = let x = c .before .before in
+    rw (x .before .before .before .c .given .1)
+    (fails (λ q. q .1 (c .before .has2 .ensures .is (c .if2 .taken))))
 
 -- src/lib.rt:18:1
 returns-6 : tie.Need-returns-6
-returns-6 c = let x = c .before .before in rw (x .before .before .before .c .given .1) (holds (x .before .has .ensures .isnt (x .if1 .left), c .before .has2 .ensures .isnt (c .if2 .left)))
+returns-6 c = let x = c .before .before in
+    rw (x .before .before .before .c .given .1)
+    (holds (
+      x .before .has .ensures .isnt (x .if1 .left),
+      c .before .has2 .ensures .isnt
+          (c .if2 .left),
+    ))
 
 pub idle-spec : {M : Type 1} → statement M
 idle-spec =

@@ -23,8 +23,11 @@ blank-requires c κs = search needs
 
 loop-holds : tie.Need-loop-holds Inv-loop μ-loop
 loop-holds c =
-    let a = c .before .args in
-    (omega arith, subst (Leaves (a .k) (a .len) (rules (a .t1)) 0) (sym (c .blank .ensures)) leaves-none)
+    let a = c .before .args in (
+      omega arith,
+      subst (Leaves (a .k) (a .len) (rules (a .t1)) 0) (sym (c .blank .ensures))
+          leaves-none,
+    )
 
 mul-r : tie.Need-mul-r Inv-loop μ-loop
 mul-r c = search needs
@@ -52,13 +55,18 @@ loop-again c =
     let l = c .before .before .before .loop in
     let g = a .t1 in
     let h : l .i < g .count = c .before .before .loop-test .taken in
-    let e = sym (getD-take (g .count) (g .rules) (l .i) no-rule h) in
-    (omega arith, leaves-more (l .inv .1) (subst (λ (r : Rule). Took (LeafFits (a .k) (a .len) (r .clause)) ⊥ (r .left) (l .t) (c .try-leaf .result)) e (c .try-leaf .ensures)))
+    let e = sym (getD-take (g .count) (g .rules) (l .i) no-rule h) in (
+      omega arith,
+      leaves-more (l .inv .1)
+          (subst (λ (r : Rule). Took (LeafFits (a .k) (a .len) (r .clause)) ⊥ (r .left) (l .t)
+          (c .try-leaf .result)) e (c .try-leaf .ensures)),
+    )
 
 returns : tie.Need-returns Inv-loop μ-loop
 returns c =
     let z = c .before .before .before in
-    let e : c .before .loop .i ≡ length (rules (z .args .t1)) = omega (arith, z .pre .whole, c .loop-test .left) in
+    let e : c .before .loop .i ≡ length (rules (z .args .t1)) =
+    omega (arith, z .pre .whole, c .loop-test .left) in
     rw (← e) (c .before .loop .inv .1)
 
 pub leaves-spec : {M : Type 1} → statement M

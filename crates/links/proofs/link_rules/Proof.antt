@@ -14,14 +14,21 @@ use Rattle.links.proofs.link_rules.Statement.{statement}
 use Rattle.links.proofs.link_rules.Tie as tie
 
 abbrev Inv-loop : tie.InvT-loop
-Inv-loop one g rs₀ m₀ i₀ rs m i = (i ≤ g .count) × (m ≤ i) × (g .count ≤ length rs) × Thinned one (rules g) rs i m
+Inv-loop one g rs₀ m₀ i₀ rs m i =
+    (i ≤ g .count) × (m ≤ i) × (g .count ≤ length rs) × Thinned one (rules g) rs i m
 
 abbrev μ-loop : tie.MeasureT-loop
 μ-loop one g rs₀ m₀ i₀ rs m i = g .count - i
 
 -- src/lib.rt:43:5
 loop-holds : tie.Need-loop-holds Inv-loop μ-loop
-loop-holds c = let z = c .before in (omega arith, omega arith, omega (arith, z .pre .whole, length-take (z .args .t1 .count) (z .args .t1 .rules)), thin-none)
+loop-holds c = let z = c .before in (
+  omega arith,
+  omega arith,
+  omega
+      (arith, z .pre .whole, length-take (z .args .t1 .count) (z .args .t1 .rules)),
+  thin-none,
+)
 
 -- src/lib.rt:44:17
 mul-r : tie.Need-mul-r Inv-loop μ-loop
@@ -42,7 +49,9 @@ idle-requires c κs =
     let z = c .before .before .before .before in
     let g = z .args .t1 in
     let h : l .i < g .count = c .before .loop-test .taken in
-    (subst SmallRule (getD-take (g .count) (g .rules) (l .i) no-rule h) (every-at SmallRule no-rule (rules g) (z .pre .small) (l .i) (omega (arith, z .pre .whole)))) .clause
+    (subst SmallRule (getD-take (g .count) (g .rules) (l .i) no-rule h)
+    (every-at SmallRule no-rule (rules g) (z .pre .small) (l .i)
+    (omega (arith, z .pre .whole)))) .clause
 
 -- src/lib.rt:43:5
 loop-less : tie.Need-loop-less Inv-loop μ-loop
@@ -54,8 +63,14 @@ loop-again c =
     let l = c .before .before .before .before .loop in
     let g = c .before .before .before .before .before .before .args .t1 in
     let h : l .i < g .count = c .before .before .before .loop-test .taken in
-    let d = c .before .idle .ensures .is (c .if1 .taken) in
-    (omega arith, omega (arith, l .inv .1), l .inv .2, thin-drop (l .inv .3) (subst (λ (r : Rule). Idle (c .before .before .before .before .before .before .args .one) (r .clause)) (sym (getD-take (g .count) (g .rules) (l .i) no-rule h)) d))
+    let d = c .before .idle .ensures .is (c .if1 .taken) in (
+      omega arith,
+      omega (arith, l .inv .1),
+      l .inv .2,
+      thin-drop (l .inv .3)
+          (subst (λ (r : Rule). Idle (c .before .before .before .before .before .before .args .one)
+          (r .clause)) (sym (getD-take (g .count) (g .rules) (l .i) no-rule h)) d),
+    )
 
 -- src/lib.rt:50:9
 mul-rules : tie.Need-mul-rules Inv-loop μ-loop
@@ -80,8 +95,14 @@ loop-again-2 c =
     let g = c .before .before .before .before .before .before .args .t1 in
     let h : l .i < g .count = c .before .before .before .loop-test .taken in
     let r = getD (g .rules) (l .i) no-rule in
-    let room : l .m < length (l .rules) = omega (arith, l .inv .1, l .inv .2) in
-    (omega arith, omega (arith, l .inv .1), omega (arith, l .inv .2, length-set (l .rules) (l .m) r), thin-more r (sym (getD-take (g .count) (g .rules) (l .i) no-rule h)) room (l .inv .3))
+    let room : l .m < length (l .rules) = omega (arith, l .inv .1, l .inv .2) in (
+      omega arith,
+      omega (arith, l .inv .1),
+      omega
+          (arith, l .inv .2, length-set (l .rules) (l .m) r),
+      thin-more r
+          (sym (getD-take (g .count) (g .rules) (l .i) no-rule h)) room (l .inv .3),
+    )
 
 -- src/lib.rt:36:1
 returns : tie.Need-returns Inv-loop μ-loop
@@ -96,7 +117,8 @@ returns c =
       ruled = record {
         few = omega (arith, z .pre .few, l .inv .1);
         whole = length-take-le (l .m) (l .rules) (omega (arith, l .inv .1, l .inv .2));
-        small = thin-from SmallRule (λ j h. every-at SmallRule no-rule (rules g) (z .pre .small) j (omega (arith, z .pre .whole))) u;
+        small = thin-from SmallRule (λ j h. every-at SmallRule no-rule (rules g) (z .pre .small) j
+            (omega (arith, z .pre .whole))) u;
       };
       thinned = u;
     }

@@ -19,8 +19,11 @@ abbrev μ-loop : tie.MeasureT-loop
 -- src/lib.rt:77:5
 loop-holds : tie.Need-loop-holds Inv-loop μ-loop
 loop-holds c =
-    let a = c .args in
-    (omega arith, subst (λ (x : ℕ). Pass (a .one) (a .two) (a .k) (a .len) (rules (a .t2)) (a .t) x (a .t)) (c .pre .whole) pass-none)
+    let a = c .args in (
+      omega arith,
+      subst (λ (x : ℕ). Pass (a .one) (a .two) (a .k) (a .len) (rules (a .t2)) (a .t) x
+          (a .t)) (c .pre .whole) pass-none,
+    )
 
 -- src/lib.rt:78:9
 sub-i : tie.Need-sub-i Inv-loop μ-loop
@@ -32,7 +35,8 @@ mul-r c = search needs
 
 -- src/lib.rt:79:17
 element-copy-out-r : tie.Need-element-copy-out-r Inv-loop μ-loop
-element-copy-out-r c = omega (arith, c .before .before .pre .few, c .before .loop .inv .0, c .loop-test .taken)
+element-copy-out-r c =
+    omega (arith, c .before .before .pre .few, c .before .loop .inv .0, c .loop-test .taken)
 
 -- src/lib.rt:80:9
 try-link-requires : tie.Need-try-link-requires Inv-loop μ-loop
@@ -41,7 +45,8 @@ try-link-requires c κs =
     let w = z .args .t2 in
     let l = c .before .before .loop in
     let h : l .i - 1 < w .count = omega (arith, l .inv .0, c .before .loop-test .taken) in
-    subst SmallRule (getD-take (w .count) (w .rules) (l .i - 1) no-rule h) (z .pre .small (l .i - 1) h)
+    subst SmallRule (getD-take (w .count) (w .rules) (l .i - 1) no-rule h)
+    (z .pre .small (l .i - 1) h)
 
 -- src/lib.rt:77:5
 loop-less : tie.Need-loop-less Inv-loop μ-loop
@@ -56,8 +61,13 @@ loop-again c =
     let t = c .before .before .loop-test .taken in
     let h : l .i - 1 < w .count = omega (arith, l .inv .0, t) in
     let n : l .i ≡ l .i - 1 + 1 = omega (arith, t) in
-    let e = sym (getD-take (w .count) (w .rules) (l .i - 1) no-rule h) in
-    (omega (arith, l .inv .0), pass-more {u = l .u} (subst (λ (x : ℕ). Pass (a .one) (a .two) (a .k) (a .len) (rules w) (a .t) x (l .u)) n (l .inv .1)) (subst (λ (r : Rule). WholeSide (a .one) (a .two) (a .k) (a .len) (r .left) (r .clause) (l .u) (c .try-link .result)) e (c .try-link .ensures)))
+    let e = sym (getD-take (w .count) (w .rules) (l .i - 1) no-rule h) in (
+      omega (arith, l .inv .0),
+      pass-more {u = l .u}
+          (subst (λ (x : ℕ). Pass (a .one) (a .two) (a .k) (a .len) (rules w) (a .t) x (l .u)) n
+          (l .inv .1)) (subst (λ (r : Rule). WholeSide (a .one) (a .two) (a .k) (a .len) (r .left)
+          (r .clause) (l .u) (c .try-link .result)) e (c .try-link .ensures)),
+    )
 
 -- src/lib.rt:71:1
 returns : tie.Need-returns Inv-loop μ-loop

@@ -17,7 +17,8 @@ enum-known-c c = search needs
 
 -- src/lib.rt:65:32
 try-unary-requires : tie.Need-try-unary-requires
-try-unary-requires c κs = let z = c .before .before .before in (z .pre .left, rw (c .before .c .given .1) at (z .pre .clause))
+try-unary-requires c κs = let z = c .before .before .before in
+    (z .pre .left, rw (c .before .c .given .1) at (z .pre .clause))
 
 -- src/lib.rt:66:24
 enum-known-c-2 : tie.Need-enum-known-c-2
@@ -25,7 +26,8 @@ enum-known-c-2 c = search needs
 
 -- src/lib.rt:66:36
 try-beside-requires : tie.Need-try-beside-requires
-try-beside-requires c κs = let z = c .before .before .before in let q = (rw (c .before .c2 .given .1) at (z .pre .clause)) in (z .pre .left, q .0, q .1)
+try-beside-requires c κs = let z = c .before .before .before in let q =
+    (rw (c .before .c2 .given .1) at (z .pre .clause)) in (z .pre .left, q .0, q .1)
 
 -- src/lib.rt:57:1
 returns : tie.Need-returns

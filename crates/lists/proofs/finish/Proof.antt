@@ -42,7 +42,8 @@ same-length-3 c = search needs
 returns-3 : tie.Need-returns-3
 returns-3 c =
     let i = c .before .before .before .before .before in
-    ended-fits (not-false (i .before .before .before .args .l .fits) (i .if1 .left)) (c .before .before .clear .ensures)
+    ended-fits (not-false (i .before .before .before .args .l .fits) (i .if1 .left))
+    (c .before .before .clear .ensures)
 
 pub finish-spec : {M : Type 1} → statement M
 finish-spec =

@@ -19,7 +19,8 @@ returns c =
 returns-2 : tie.Need-returns-2
 returns-2 c =
     let s = c .before .before .before .before .before in
-    put-not true (not-false (s .args .l .fits) (c .before .if1 .left)) (s .pre .0) (λ z. omega (arith, c .if2 .taken))
+    put-not true (not-false (s .args .l .fits) (c .before .if1 .left)) (s .pre .0)
+    (λ z. omega (arith, c .if2 .taken))
 
 sub-if3 : tie.Need-sub-if3
 sub-if3 c = search needs
@@ -27,7 +28,8 @@ sub-if3 c = search needs
 returns-3 : tie.Need-returns-3
 returns-3 c =
     let s = c .before .before .before .before .before .before in
-    put-not true (not-false (s .args .l .fits) (c .before .before .if1 .left)) (s .pre .0) (λ z. omega (arith, c .if3 .taken))
+    put-not true (not-false (s .args .l .fits) (c .before .before .if1 .left)) (s .pre .0)
+    (λ z. omega (arith, c .if3 .taken))
 
 put-bytes-requires : tie.Need-put-bytes-requires
 put-bytes-requires c κs = search needs
@@ -43,8 +45,11 @@ returns-4 c =
     let i = c .before .before .before .before .before .before in
     let s = i .before .before .before .before in
     let j = c .before .before .before .before in
-    let room : s .args .l .at + length (s .args .bytes .now) ≤ length (s .args .out .now) = omega (arith, j .if3 .left, j .before .if2 .left) in
-    put-more (not-false (s .args .l .fits) (i .if1 .left)) (s .pre .0) (s .pre .1) room (c .before .before .put-bytes .ensures)
+    let room : s .args .l .at + length (s .args .bytes .now) ≤ length (s .args .out .now) =
+    omega (arith, j .if3 .left, j .before .if2 .left) in
+    put-more (not-false (s .args .l .fits) (i .if1 .left)) (s .pre .0) (s .pre .1) room
+    (c .before .before .put-bytes .ensures)
 
 pub put-spec : {M : Type 1} → statement M
-put-spec = tie.close (tie.spec returns returns-2 sub-if3 returns-3 put-bytes-requires add-t9 same-length returns-4)
+put-spec = tie.close (tie.spec returns returns-2 sub-if3 returns-3 put-bytes-requires add-t9
+    same-length returns-4)

@@ -3,7 +3,8 @@ use Prim.Native.Nat.{_-_}
 use native.Mathlib.Omega.{arith}
 use borrow.Author.Needs.{needs}
 use lib.ListN.{length}
-use Rattle.mark_change.proofs.Starts.{Walking, walking-start, walking-in, walking-hit, walking-miss, walking-end}
+use Rattle.mark_change.proofs.Starts.{Walking, walking-start, walking-in, walking-hit}
+use Rattle.mark_change.proofs.Starts.{walking-miss, walking-end}
 use Rattle.mark_change.proofs.piece_start.Statement.{statement}
 use Rattle.mark_change.proofs.piece_start.Tie as tie
 
@@ -23,22 +24,28 @@ sub-left : tie.Need-sub-left Inv-loop μ-loop
 sub-left c = search needs
 
 add-at : tie.Need-add-at Inv-loop μ-loop
-add-at c = let l = c .before .before .before in omega (arith, walking-in (l .loop .inv) (c .before .before .loop-test .taken))
+add-at c = let l = c .before .before .before in
+    omega (arith, walking-in (l .loop .inv) (c .before .before .loop-test .taken))
 
 loop-less : tie.Need-loop-less Inv-loop μ-loop
-loop-less c = let l = c .before .before .before in omega (arith, walking-in (l .loop .inv) (c .before .before .loop-test .taken))
+loop-less c = let l = c .before .before .before in
+    omega (arith, walking-in (l .loop .inv) (c .before .before .loop-test .taken))
 
 loop-again : tie.Need-loop-again Inv-loop μ-loop
-loop-again c = let l = c .before .before .before in walking-hit (l .loop .inv) (c .before .before .loop-test .taken) (c .if1 .taken)
+loop-again c = let l = c .before .before .before in
+    walking-hit (l .loop .inv) (c .before .before .loop-test .taken) (c .if1 .taken)
 
 add-at-2 : tie.Need-add-at-2 Inv-loop μ-loop
-add-at-2 c = let l = c .before .before .before in omega (arith, walking-in (l .loop .inv) (c .before .before .loop-test .taken))
+add-at-2 c = let l = c .before .before .before in
+    omega (arith, walking-in (l .loop .inv) (c .before .before .loop-test .taken))
 
 loop-less-2 : tie.Need-loop-less-2 Inv-loop μ-loop
-loop-less-2 c = let l = c .before .before .before in omega (arith, walking-in (l .loop .inv) (c .before .before .loop-test .taken))
+loop-less-2 c = let l = c .before .before .before in
+    omega (arith, walking-in (l .loop .inv) (c .before .before .loop-test .taken))
 
 loop-again-2 : tie.Need-loop-again-2 Inv-loop μ-loop
-loop-again-2 c = let l = c .before .before .before in walking-miss (l .loop .inv) (c .before .before .loop-test .taken) (c .if1 .left)
+loop-again-2 c = let l = c .before .before .before in
+    walking-miss (l .loop .inv) (c .before .before .loop-test .taken) (c .if1 .left)
 
 returns : tie.Need-returns Inv-loop μ-loop
 returns c = walking-end (c .before .loop .inv) (c .loop-test .left)

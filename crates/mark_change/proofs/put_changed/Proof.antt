@@ -13,7 +13,8 @@ use Rattle.mark_change.proofs.put_changed.Tie as tie
 abbrev start : tie.After-lay-at → tie.Start
 start c = c .before .before .before .before
 
-rises : (z : tie.Start) → layStart (z .args .s .now) (z .args .p) ≤ layEnd (z .args .s .now) (z .args .p)
+rises : (z : tie.Start) → layStart (z .args .s .now) (z .args .p)
+    ≤ layEnd (z .args .s .now) (z .args .p)
 rises z = lay-rises (z .args .s .now) (z .args .p) (z .pre .0) (z .pre .1)
 
 within : (z : tie.Start) → layEnd (z .args .s .now) (z .args .p) ≤ length (z .args .s .now)
@@ -25,7 +26,13 @@ lay-at-requires c κs = search needs
 slice-aggregate-head : tie.Need-slice-aggregate-head
 slice-aggregate-head c =
     let l = c .before in
-    sym (length-take-le _ _ (omega (arith, l .lay-at .ensures .0, rises (start l), within (start l))))
+    sym (length-take-le _ _ (omega (
+      arith,
+      l .lay-at .ensures .0,
+      rises (start l),
+      within
+          (start l),
+    )))
 
 sub-tail : tie.Need-sub-tail
 sub-tail c = let l = c .before in omega (arith, l .lay-at .ensures .1, within (start l))
@@ -63,8 +70,10 @@ returns c =
     let b = p₁ .before in
     let l = b .before .before .before .before in
     let z = start l in
-    gives-changed (z .args .s .now) (z .args .p) (z .args .lay .now) (l .lay-at .ensures .0) (l .lay-at .ensures .1)
-    (f .finish .ensures .gives (p₃ .put3 .ensures .puts (p₂ .put2 .ensures .puts (p₁ .put .ensures .puts (b .begin .ensures .puts _)))))
+    gives-changed (z .args .s .now) (z .args .p) (z .args .lay .now) (l .lay-at .ensures .0)
+    (l .lay-at .ensures .1)
+    (f .finish .ensures .gives (p₃ .put3 .ensures .puts
+    (p₂ .put2 .ensures .puts (p₁ .put .ensures .puts (b .begin .ensures .puts _)))))
 
 pub put-changed-spec : {M : Type 1} → statement M
 put-changed-spec =

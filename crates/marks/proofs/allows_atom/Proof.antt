@@ -8,7 +8,8 @@ returns : tie.Need-returns
 returns c = fails (λ v. omega (arith, v .low, c .if1 .taken))
 
 returns-2 : tie.Need-returns-2
-returns-2 c = says-iff (λ h. record { low = c .before .if1 .left; high = h }) (λ v. v .high) (says-leb _ _)
+returns-2 c =
+    says-iff (λ h. record { low = c .before .if1 .left; high = h }) (λ v. v .high) (says-leb _ _)
 
 pub allows-atom-spec : {M : Type 1} → statement M
 allows-atom-spec = tie.close (tie.spec returns returns-2)

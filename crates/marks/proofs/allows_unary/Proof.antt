@@ -43,4 +43,5 @@ returns-4 c = rw (c .enum-told4 .given .1) (flag _)
 pub allows-unary-spec : {M : Type 1} → statement M
 allows-unary-spec =
     tie.close
-    (tie.spec enum-told enum-told-2 offside-requires enum-told-3 offalign-requires enum-told-4 returns returns-2 returns-3 returns-4)
+    (tie.spec enum-told enum-told-2 offside-requires enum-told-3 offalign-requires enum-told-4
+    returns returns-2 returns-3 returns-4)

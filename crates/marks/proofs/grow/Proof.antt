@@ -9,7 +9,11 @@ with-column-requires : tie.Need-with-column-requires
 with-column-requires c κs = search needs
 
 returns : tie.Need-returns
-returns c = record { later = λ k. c .with-column .ensures; other = λ k. absurd (omega (arith, k, c .before .if1 .taken)) }
+returns c = record {
+  later = λ k. c .with-column .ensures;
+  other = λ k. absurd
+      (omega (arith, k, c .before .if1 .taken));
+}
 
 returns-2 : tie.Need-returns-2
 returns-2 c = record { later = λ k. absurd (omega (arith, k, c .if1 .left)); other = λ k. refl }

@@ -21,10 +21,12 @@ returns-2 : tie.Need-returns-2
 returns-2 c = rw (c .enum-told2 .given .1) (says-eqb _ _)
 
 returns-3 : tie.Need-returns-3
-returns-3 c = rw (c .before .before .enum-told3 .given .1) (holds (omega (arith, c .before .if1 .taken), omega (arith, c .if2 .taken)))
+returns-3 c = rw (c .before .before .enum-told3 .given .1)
+    (holds (omega (arith, c .before .if1 .taken), omega (arith, c .if2 .taken)))
 
 returns-4 : tie.Need-returns-4
-returns-4 c = rw (c .before .before .enum-told3 .given .1) (fails (λ p. omega (arith, p .1, c .if2 .left)))
+returns-4 c =
+    rw (c .before .before .enum-told3 .given .1) (fails (λ p. omega (arith, p .1, c .if2 .left)))
 
 returns-5 : tie.Need-returns-5
 returns-5 c = rw (c .before .enum-told3 .given .1) (fails (λ p. omega (arith, p .0, c .if1 .left)))

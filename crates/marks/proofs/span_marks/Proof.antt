@@ -7,12 +7,14 @@ use Rattle.grammar.specs.declared.Token.{Token}
 use Rattle.marks.specs.Drafts.{half}
 use Rattle.marks.specs.Marked.{Carried, Marked}
 use Rattle.marks.proofs.DraftLaws.{drafted-at}
-use Rattle.marks.proofs.Joining.{carried-first, carried-more, carried-all, next-joined, no-tokens}
+use Rattle.marks.proofs.Joining.{carried-first, carried-more, carried-all, next-joined}
+use Rattle.marks.proofs.Joining.{no-tokens}
 use Rattle.marks.proofs.span_marks.Statement.{statement}
 use Rattle.marks.proofs.span_marks.Tie as tie
 
 abbrev Inv-loop : tie.InvT-loop
-Inv-loop start len d known a k₀ left₀ k left = (0 < left) × (left ≤ len) × Carried (half d) start left k
+Inv-loop start len d known a k₀ left₀ k left =
+    (0 < left) × (left ≤ len) × Carried (half d) start left k
 
 abbrev μ-loop : tie.MeasureT-loop
 μ-loop start len d known a k₀ left₀ k left = len - left
@@ -23,7 +25,8 @@ first-marks-requires c κs = search needs
 returns : tie.Need-returns Inv-loop μ-loop
 returns c =
     let z = c .before .before .args in
-    subst (Marked (half (z .t1)) (z .start) (z .len)) (sym (c .first-marks .ensures)) (no-tokens _ _ _ _ _ (c .before .if1 .taken))
+    subst (Marked (half (z .t1)) (z .start) (z .len)) (sym (c .first-marks .ensures))
+    (no-tokens _ _ _ _ _ (c .before .if1 .taken))
 
 mul-a : tie.Need-mul-a Inv-loop μ-loop
 mul-a c = omega arith
@@ -40,7 +43,10 @@ loop-holds c =
       omega arith,
       omega (arith, c .before .before .if1 .left),
       subst (Carried (half (z .t1)) (z .start) 1) (sym (c .first-marks2 .ensures))
-          (carried-first _ _ _ _ (ap (λ (t : Token). t .terminal) (sym (drafted-at (z .t1) (z .start) (omega arith)))) (ap (λ (t : Token). t .column .0) (sym (drafted-at (z .t1) (z .start) (omega arith))))),
+          (carried-first _ _ _ _ (ap (λ (t : Token). t .terminal)
+          (sym (drafted-at (z .t1) (z .start) (omega arith))))
+          (ap (λ (t : Token). t .column .0)
+          (sym (drafted-at (z .t1) (z .start) (omega arith))))),
     )
 
 add-at : tie.Need-add-at Inv-loop μ-loop
@@ -72,14 +78,21 @@ loop-less c = omega arith
 
 loop-again : tie.Need-loop-again Inv-loop μ-loop
 loop-again c =
-    let i = c .before .before .before .before .loop .inv in
-    (omega arith, omega arith, carried-more _ _ _ _ _ (i .0) (i .2) (next-joined (c .before .before .before .before .before .before .before .before .args .t1) _ _ _ _ (omega arith) (c .with-next .ensures)))
+    let i = c .before .before .before .before .loop .inv in (
+      omega arith,
+      omega arith,
+      carried-more _ _ _ _ _ (i .0) (i .2)
+          (next-joined (c .before .before .before .before .before .before .before .before .args .t1)
+          _
+          _ _ _ (omega arith) (c .with-next .ensures)),
+    )
 
 returns-2 : tie.Need-returns-2 Inv-loop μ-loop
 returns-2 c =
     let z = c .before .before .before .before .before .args in
     let l = c .before .loop in
-    carried-all _ _ _ _ (subst (λ (x : ℕ). Carried (half (z .t1)) (z .start) x (l .k)) (omega (arith, c .loop-test .left)) (l .inv .2))
+    carried-all _ _ _ _ (subst (λ (x : ℕ). Carried (half (z .t1)) (z .start) x (l .k))
+    (omega (arith, c .loop-test .left)) (l .inv .2))
 
 pub span-marks-spec : {M : Type 1} → statement M
 span-marks-spec =

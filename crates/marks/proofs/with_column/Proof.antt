@@ -24,10 +24,12 @@ returns : tie.Need-returns
 returns c = rw (c .enum-told .given .1) refl
 
 returns-2 : tie.Need-returns-2
-returns-2 c = rw (c .before .before .v .given .1) (ap Least.At (first-less _ _ (omega (arith, c .if1 .taken))))
+returns-2 c = rw (c .before .before .v .given .1)
+    (ap Least.At (first-less _ _ (omega (arith, c .if1 .taken))))
 
 returns-3 : tie.Need-returns-3
-returns-3 c = rw (c .before .before .v .given .1) (ap Least.At (not-less _ _ (omega (arith, c .if1 .left))))
+returns-3 c =
+    rw (c .before .before .v .given .1) (ap Least.At (not-less _ _ (omega (arith, c .if1 .left))))
 
 pub with-column-spec : {M : Type 1} → statement M
 with-column-spec = tie.close (tie.spec enum-told enum-known-v returns returns-2 returns-3)

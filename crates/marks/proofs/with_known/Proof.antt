@@ -30,8 +30,17 @@ returns c =
       first = refl;
       least = s .before .grow .ensures;
       single = s .still .ensures;
-      align = record { flag = _; says = i .before .pairs .ensures; included = i .included .ensures };
-      indent = record { flag = _; says = c .before .pairs2 .ensures; included = c .included2 .ensures };
+      align = record {
+        flag = _;
+        says = i .before .pairs .ensures;
+        included = i .included .ensures;
+      };
+      indent = record {
+        flag = _;
+        says = c .before .pairs2 .ensures;
+        included = c .included2
+            .ensures;
+      };
       terminal = refl;
     }
 

@@ -11,10 +11,18 @@ with-open-requires : tie.Need-with-open-requires
 with-open-requires c κs = search needs
 
 returns : tie.Need-returns
-returns c = record { counts = λ k. c .with-known .ensures; open-one = λ k. absurd (omega (arith, k, c .before .if1 .taken)) }
+returns c = record {
+  counts = λ k. c .with-known .ensures;
+  open-one = λ k. absurd
+      (omega (arith, k, c .before .if1 .taken));
+}
 
 returns-2 : tie.Need-returns-2
-returns-2 c = record { counts = λ k. absurd (omega (arith, k, c .before .if1 .left)); open-one = λ k. c .with-open .ensures }
+returns-2 c = record {
+  counts = λ k. absurd (omega (arith, k, c .before .if1 .left));
+  open-one =
+      λ k. c .with-open .ensures;
+}
 
 pub with-next-spec : {M : Type 1} → statement M
 with-next-spec = tie.close (tie.spec with-known-requires with-open-requires returns returns-2)

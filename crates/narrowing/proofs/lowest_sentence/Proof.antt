@@ -23,7 +23,8 @@ mul-low-token : tie.Need-mul-low-token Inv-loop μ-loop
 mul-low-token c = search needs
 
 element-copy-out-low-token : tie.Need-element-copy-out-low-token Inv-loop μ-loop
-element-copy-out-low-token c = omega (arith, c .before .before .before .pre .few, c .loop-test .taken)
+element-copy-out-low-token c =
+    omega (arith, c .before .before .before .pre .few, c .loop-test .taken)
 
 low-token-requires : tie.Need-low-token-requires Inv-loop μ-loop
 low-token-requires c κs = search needs
@@ -43,10 +44,15 @@ loop-less c = omega (arith, c .before .before .loop-test .taken)
 loop-again : tie.Need-loop-again Inv-loop μ-loop
 loop-again c =
     let i = c .before .before in
-    laid-more (omega (arith, i .loop-test .taken, i .before .before .before .pre .few)) (i .before .loop .inv) (c .low-token .ensures)
+    laid-more (omega (arith, i .loop-test .taken, i .before .before .before .pre .few))
+    (i .before .loop .inv) (c .low-token .ensures)
 
 returns : tie.Need-returns Inv-loop μ-loop
-returns c = (refl, laid-all (c .before .before .before .pre) (omega (arith, c .loop-test .left)) (c .before .loop .inv))
+returns c = (
+  refl,
+  laid-all (c .before .before .before .pre) (omega (arith, c .loop-test .left))
+      (c .before .loop .inv),
+)
 
 pub lowest-sentence-spec : {M : Type 1} → statement M
 lowest-sentence-spec =

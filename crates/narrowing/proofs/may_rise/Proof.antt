@@ -37,7 +37,8 @@ mul-high-token : tie.Need-mul-high-token Inv-loop μ-loop
 mul-high-token c = search needs
 
 element-copy-out-high-token : tie.Need-element-copy-out-high-token Inv-loop μ-loop
-element-copy-out-high-token c = omega (arith, c .before .before .loop-test .taken, c .before .before .before .before .pre .few)
+element-copy-out-high-token c =
+    omega (arith, c .before .before .loop-test .taken, c .before .before .before .before .pre .few)
 
 high-token-requires : tie.Need-high-token-requires Inv-loop μ-loop
 high-token-requires c κs = search needs
@@ -53,8 +54,10 @@ returns c =
     let i = l .before .before in
     let z = i .before .before in
     let k = i .before .loop .k in
-    let s = after-read (z .args .t1) k (omega (arith, i .loop-test .taken)) (a .comes-after .ensures) (l .low-token .ensures) (h .high-token .ensures) in
-    fails (λ m. s .isnt (not-true _ (c .if1 .taken)) (m .each k (omega (arith, i .loop-test .taken, z .pre .whole))))
+    let s = after-read (z .args .t1) k (omega (arith, i .loop-test .taken))
+    (a .comes-after .ensures) (l .low-token .ensures) (h .high-token .ensures) in
+    fails (λ m. s .isnt (not-true _ (c .if1 .taken))
+    (m .each k (omega (arith, i .loop-test .taken, z .pre .whole))))
 
 add-k : tie.Need-add-k Inv-loop μ-loop
 add-k c = search needs
@@ -70,11 +73,16 @@ loop-again c =
     let i = l .before .before in
     let z = i .before .before in
     let k = i .before .loop .k in
-    let s = after-read (z .args .t1) k (omega (arith, i .loop-test .taken)) (a .comes-after .ensures) (l .low-token .ensures) (h .high-token .ensures) in
-    (omega (arith, i .loop-test .taken, z .pre .few), rose-more k (i .before .loop .inv .1) (s .is (not-false _ (c .if1 .left))))
+    let s = after-read (z .args .t1) k (omega (arith, i .loop-test .taken))
+    (a .comes-after .ensures) (l .low-token .ensures) (h .high-token .ensures) in (
+      omega (arith, i .loop-test .taken, z .pre .few),
+      rose-more k (i .before .loop .inv .1)
+          (s .is (not-false _ (c .if1 .left))),
+    )
 
 returns-2 : tie.Need-returns-2 Inv-loop μ-loop
-returns-2 c = holds (rose-all (c .before .loop .k) (omega (arith, c .loop-test .left, c .before .before .pre .whole)) (c .before .loop .inv .1))
+returns-2 c = holds (rose-all (c .before .loop .k)
+    (omega (arith, c .loop-test .left, c .before .before .pre .whole)) (c .before .loop .inv .1))
 
 pub may-rise-spec : {M : Type 1} → statement M
 may-rise-spec =

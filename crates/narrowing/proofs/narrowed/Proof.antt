@@ -18,13 +18,31 @@ cast-x : tie.Need-cast-x
 cast-x c =
     let z = c .before .before in
     let e = ended-at (z .pre .0 .0) (z .args .t) (z .pre .0 .1) in
-    omega (arith, z .pre .1, ap columns (range-read (z .args .t1) (z .args .t) (z .pre .0 .1)), e .least, e .most, e .ordered)
+    omega (
+      arith,
+      z .pre .1,
+      ap columns (range-read (z .args .t1) (z .args .t) (z .pre .0 .1)),
+      e
+          .least,
+      e .most,
+      e .ordered,
+    )
 
 add-x : tie.Need-add-x
 add-x c =
     let z = c .before .before .before in
     let e = ended-at (z .pre .0 .0) (z .args .t) (z .pre .0 .1) in
-    record { fits = omega (arith, z .pre .1, ap columns (range-read (z .args .t1) (z .args .t) (z .pre .0 .1)), e .least, e .most, e .ordered) }
+    record {
+      fits = omega (
+        arith,
+        z .pre .1,
+        ap columns
+            (range-read (z .args .t1) (z .args .t) (z .pre .0 .1)),
+        e .least,
+        e .most,
+        e .ordered,
+      );
+    }
 
 mul-tokens : tie.Need-mul-tokens
 mul-tokens c = search needs

@@ -4,7 +4,8 @@ use Prim.Native.Nat.{_-_}
 use native.Mathlib.Omega.{arith}
 use Rattle.column_ranges.specs.RangeSentences.{rangesOf}
 use Rattle.column_ranges.proofs.Counting.{ended-at}
-use Rattle.narrowing.proofs.Walking.{Seeking, seeking-none, seeking-skip, seeking-pick, seeking-all}
+use Rattle.narrowing.proofs.Walking.{Seeking, seeking-none, seeking-skip, seeking-pick}
+use Rattle.narrowing.proofs.Walking.{seeking-all}
 use Rattle.narrowing.proofs.next_token.Statement.{statement}
 use Rattle.narrowing.proofs.next_token.Tie as tie
 
@@ -24,7 +25,8 @@ element-copy-out-t : tie.Need-element-copy-out-t Inv-loop μ-loop
 element-copy-out-t c = omega (arith, c .before .before .pre .few, c .loop-test .taken)
 
 columns-requires : tie.Need-columns-requires Inv-loop μ-loop
-columns-requires c κs = ended-at (c .before .before .before .pre) (c .before .before .loop .k) (c .before .loop-test .taken)
+columns-requires c κs = ended-at (c .before .before .before .pre) (c .before .before .loop .k)
+    (c .before .loop-test .taken)
 
 add-k : tie.Need-add-k Inv-loop μ-loop
 add-k c = search needs
@@ -35,10 +37,12 @@ loop-less c = omega (arith, c .before .before .before .loop-test .taken)
 loop-again : tie.Need-loop-again Inv-loop μ-loop
 loop-again c =
     let l = c .before .before .before in
-    seeking-skip (l .before .before .pre) (l .loop-test .taken) (c .before .columns .ensures) (l .before .loop .inv) (omega (arith, c .if1 .taken))
+    seeking-skip (l .before .before .pre) (l .loop-test .taken) (c .before .columns .ensures)
+    (l .before .loop .inv) (omega (arith, c .if1 .taken))
 
 wider-requires : tie.Need-wider-requires Inv-loop μ-loop
-wider-requires c κs = let l = c .before .before .before in (omega (arith, l .before .before .pre .few), l .loop-test .taken)
+wider-requires c κs = let l = c .before .before .before in
+    (omega (arith, l .before .before .pre .few), l .loop-test .taken)
 
 add-k-2 : tie.Need-add-k-2 Inv-loop μ-loop
 add-k-2 c = search needs
@@ -50,10 +54,12 @@ loop-again-2 : tie.Need-loop-again-2 Inv-loop μ-loop
 loop-again-2 c =
     let i = c .before in
     let l = i .before .before .before in
-    seeking-pick (l .before .before .pre) (l .loop-test .taken) (i .before .columns .ensures) (l .before .loop .inv) (λ z. omega (arith, i .if1 .left)) (c .wider .ensures)
+    seeking-pick (l .before .before .pre) (l .loop-test .taken) (i .before .columns .ensures)
+    (l .before .loop .inv) (λ z. omega (arith, i .if1 .left)) (c .wider .ensures)
 
 returns : tie.Need-returns Inv-loop μ-loop
-returns c = seeking-all (c .before .before .pre) (omega (arith, c .loop-test .left)) (c .before .loop .inv)
+returns c =
+    seeking-all (c .before .before .pre) (omega (arith, c .loop-test .left)) (c .before .loop .inv)
 
 pub next-token-spec : {M : Type 1} → statement M
 next-token-spec =

@@ -14,7 +14,10 @@ sub-result c = search needs
 mul-result : tie.Need-mul-result
 mul-result c =
     let z = c in
-    record { fits = let m = mul-le-mul {n₁ = z .args .k + 1} {m₁ = z .args .n - z .args .k} {n₂ = 64} {m₂ = 64} (omega (arith, z .pre)) (omega (arith, z .pre)) in omega (arith, m) }
+    record {
+      fits = let m = mul-le-mul {n₁ = z .args .k + 1} {m₁ = z .args .n - z .args .k}
+          {n₂ = 64} {m₂ = 64} (omega (arith, z .pre)) (omega (arith, z .pre)) in omega (arith, m);
+    }
 
 returns : tie.Need-returns
 returns c = search needs

@@ -1,4 +1,5 @@
--- The loop's invariant: the first m rules were rearranged so far. The measure is the places and the exchanges that are left.
+-- The loop's invariant: the first m rules were rearranged so far. The measure is the places and the
+-- exchanges that are left.
 use borrow.Author.Needs.{needs}
 use mathlib.Core.Path.{_≡_, sym, _∙_, ap, subst}
 use mathlib.Core.List.{List}
@@ -12,7 +13,8 @@ use Rattle.order.proofs.arranged.Statement.{statement}
 use Rattle.order.proofs.arranged.Tie as tie
 
 abbrev Inv-loop : tie.InvT-loop
-Inv-loop m nulls c₀ i₀ left₀ c i left = (i ≤ m) × (length c ≡ 128) × Rearranged (decoded (take m c₀)) (decoded (take m c))
+Inv-loop m nulls c₀ i₀ left₀ c i left =
+    (i ≤ m) × (length c ≡ 128) × Rearranged (decoded (take m c₀)) (decoded (take m c))
 
 abbrev μ-loop : tie.MeasureT-loop
 μ-loop m nulls c₀ i₀ left₀ c i left = (m - i) + left
@@ -30,7 +32,8 @@ loop-less : tie.Need-loop-less Inv-loop μ-loop
 loop-less c = omega (arith, c .before .before .loop-test .taken)
 
 loop-again : tie.Need-loop-again Inv-loop μ-loop
-loop-again c = let l = c .before .before .before .loop in (omega (arith, c .before .before .loop-test .taken), l .inv .1, l .inv .2)
+loop-again c = let l = c .before .before .before .loop in
+    (omega (arith, c .before .before .loop-test .taken), l .inv .1, l .inv .2)
 
 returns : tie.Need-returns Inv-loop μ-loop
 returns c = c .before .before .before .before .loop .inv .2
@@ -39,10 +42,15 @@ sub-left : tie.Need-sub-left Inv-loop μ-loop
 sub-left c = omega (arith, c .if2 .left)
 
 exchange-requires : tie.Need-exchange-requires Inv-loop μ-loop
-exchange-requires c κs = let z = c .before .before .before .before .before .pre in (omega (arith, c .before .before .before .loop-test .taken), omega (arith, c .before .before .upper .ensures, c .before .if1 .left))
+exchange-requires c κs = let z = c .before .before .before .before .before .pre in (
+  omega (arith, c .before .before .before .loop-test .taken),
+  omega
+      (arith, c .before .before .upper .ensures, c .before .if1 .left),
+)
 
 loop-less-2 : tie.Need-loop-less-2 Inv-loop μ-loop
-loop-less-2 c = omega (arith, c .before .if2 .left, c .before .before .before .before .loop-test .taken)
+loop-less-2 c =
+    omega (arith, c .before .if2 .left, c .before .before .before .before .loop-test .taken)
 
 loop-again-2 : tie.Need-loop-again-2 Inv-loop μ-loop
 loop-again-2 c =
@@ -53,8 +61,11 @@ loop-again-2 c =
     let hi = u .before .loop-test .taken in (
       l .inv .0,
       ap length e ∙ exchanged-long (l .c) (l .i) (u .upper .result) ∙ l .inv .1,
-      then-rules (l .inv .2) (subst (λ (x : List ℕ). Rearranged (decoded (take (z .args .m) (l .c))) (decoded (take (z .args .m) x))) (sym e)
-          (exchanges (l .c) (z .args .m) (l .i) (u .upper .result) (omega (arith, l .inv .1, z .pre)) hi (omega (arith, u .upper .ensures, c .before .before .if1 .left)))),
+      then-rules (l .inv .2) (subst (λ (x : List ℕ). Rearranged (decoded (take (z .args .m) (l .c)))
+          (decoded (take (z .args .m) x))) (sym e)
+          (exchanges (l .c) (z .args .m) (l .i) (u .upper .result)
+          (omega (arith, l .inv .1, z .pre)) hi
+          (omega (arith, u .upper .ensures, c .before .before .if1 .left)))),
     )
 
 returns-2 : tie.Need-returns-2 Inv-loop μ-loop

@@ -24,8 +24,12 @@ returns c =
     let e = c .before .before in
     let z = e .before in
     let m = z .args .g .count in
-    let long : length (c .arranged .result) ≡ 128 = search needs in
-    (subst (λ (g : Rules). Rearranged g (decoded (take m (c .arranged .result)))) (e .encode .ensures) (c .arranged .ensures), length-take-le m (c .arranged .result) (omega (arith, z .pre .few)))
+    let long : length (c .arranged .result) ≡ 128 = search needs in (
+      subst (λ (g : Rules). Rearranged g (decoded (take m (c .arranged .result))))
+          (e .encode .ensures) (c .arranged .ensures),
+      length-take-le m (c .arranged .result)
+          (omega (arith, z .pre .few)),
+    )
 
 pub ordered-spec : {M : Type 1} → statement M
 ordered-spec = tie.close (tie.spec encode-requires nullables-requires arranged-requires returns)

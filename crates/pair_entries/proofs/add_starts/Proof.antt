@@ -20,7 +20,8 @@ list-evens-requires c κs = search needs
 enter-all-requires : tie.Need-enter-all-requires
 enter-all-requires c κs =
     let r = c .before .before .before .before .before .before .before .before .before .pre in
-    let l = rw (c .before .before .before .before .before .frame-at .ensures) at (c .before .before .before .list-evens .ensures) in (
+    let l = rw (c .before .before .before .before .before .frame-at .ensures) at
+    (c .before .before .before .list-evens .ensures) in (
       (omega (arith, l .size, r .0 .0), omega (arith, r .0 .2), r .0 .1),
       (listed l, r .1 .0),
     )
@@ -33,8 +34,10 @@ same-length c = search needs
 
 returns : tie.Need-returns
 returns c =
-    let r = c .before .before .before .before .before .before .before .before .before .before .before .before .pre in
-    let l = rw (c .before .before .before .before .before .before .before .before .frame-at .ensures) at (c .before .before .before .before .before .before .list-evens .ensures) in
+    let r = c .before .before .before .before .before .before .before .before .before .before
+    .before .before .pre in
+    let l = rw (c .before .before .before .before .before .before .before .before .frame-at
+    .ensures) at (c .before .before .before .before .before .before .list-evens .ensures) in
     starts-one (r .0 .2) (r .1 .0) (r .1 .1) l (c .before .before .enter-all .ensures)
 
 add-t14 : tie.Need-add-t14

@@ -19,7 +19,12 @@ same-length : tie.Need-same-length
 same-length c = search needs
 
 returns-2 : tie.Need-returns-2
-returns-2 c = entered-one (c .before .before .before .before .before .before .before .pre .0 .1) (c .before .before .put-entry .ensures) (c .before .before .before .before .before .useful-kinds .ensures .some (c .before .before .before .before .if1 .left)) (c .before .before .before .before .before .before .before .pre .1 .0) (c .before .before .before .before .before .before .before .pre .1 .1)
+returns-2 c = entered-one (c .before .before .before .before .before .before .before .pre .0 .1)
+    (c .before .before .put-entry .ensures)
+    (c .before .before .before .before .before .useful-kinds .ensures .some
+    (c .before .before .before .before .if1 .left))
+    (c .before .before .before .before .before .before .before .pre .1 .0)
+    (c .before .before .before .before .before .before .before .pre .1 .1)
 
 pub enter-spec : {M : Type 1} → statement M
 enter-spec =

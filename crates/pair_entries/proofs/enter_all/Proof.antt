@@ -8,7 +8,8 @@ use Rattle.pair_entries.proofs.enter_all.Statement.{statement}
 use Rattle.pair_entries.proofs.enter_all.Tie as tie
 
 abbrev Inv-loop : tie.InvT-loop
-Inv-loop words₀ n p from end m₀ s₀ words m s = Entered words₀ words n m (36 * p) (36 * p + s) end × (s ≤ 36)
+Inv-loop words₀ n p from end m₀ s₀ words m s =
+    Entered words₀ words n m (36 * p) (36 * p + s) end × (s ≤ 36)
 
 abbrev μ-loop : tie.MeasureT-loop
 μ-loop words₀ n p from end m₀ s₀ words m s = 36 - s
@@ -41,7 +42,11 @@ loop-less : tie.Need-loop-less Inv-loop μ-loop
 loop-less c = search needs
 
 loop-again : tie.Need-loop-again Inv-loop μ-loop
-loop-again c = (entered-more _ (c .before .before .before .before .before .loop .inv .0) (c .before .before .enter .ensures), search needs)
+loop-again c = (
+  entered-more _ (c .before .before .before .before .before .loop .inv .0)
+      (c .before .before .enter .ensures),
+  search needs,
+)
 
 same-length : tie.Need-same-length Inv-loop μ-loop
 same-length c = c .before .loop .inv .0 .size

@@ -21,28 +21,45 @@ add-starts-requires c κs =
     )
 
 same-length : tie.Need-same-length Inv-loop μ-loop
-same-length c = prepared (c .before .before .before .before .before .before .loop .inv) (c .before .before .before .before .add-starts .ensures) .same .size
+same-length c = prepared (c .before .before .before .before .before .before .loop .inv)
+    (c .before .before .before .before .add-starts .ensures) .same .size
 
 returns : tie.Need-returns Inv-loop μ-loop
-returns c = prepared (c .before .before .before .before .before .before .loop .inv) (c .before .before .before .before .add-starts .ensures)
+returns c = prepared (c .before .before .before .before .before .before .loop .inv)
+    (c .before .before .before .before .add-starts .ensures)
 
 same-length-2 : tie.Need-same-length-2 Inv-loop μ-loop
-same-length-2 c = prepared (c .before .before .before .before .before .before .before .before .loop .inv) (c .before .before .before .before .before .before .add-starts .ensures) .same .size
+same-length-2 c = prepared (c .before .before .before .before .before .before .before .before .loop
+    .inv) (c .before .before .before .before .before .before .add-starts .ensures) .same .size
 
 returns-2 : tie.Need-returns-2 Inv-loop μ-loop
-returns-2 c = prepared (c .before .before .before .before .before .before .before .before .loop .inv) (c .before .before .before .before .before .before .add-starts .ensures)
+returns-2 c = prepared (c .before .before .before .before .before .before .before .before .loop
+    .inv) (c .before .before .before .before .before .before .add-starts .ensures)
 
 same-length-3 : tie.Need-same-length-3 Inv-loop μ-loop
-same-length-3 c = prepared (c .before .before .before .before .before .before .before .before .before .before .loop .inv) (c .before .before .before .before .before .before .before .before .add-starts .ensures) .same .size
+same-length-3 c = prepared (c .before .before .before .before .before .before .before .before
+    .before .before .loop .inv) (c .before .before .before .before .before .before .before .before
+    .add-starts .ensures) .same .size
 
 returns-3 : tie.Need-returns-3 Inv-loop μ-loop
-returns-3 c = prepared (c .before .before .before .before .before .before .before .before .before .before .loop .inv) (c .before .before .before .before .before .before .before .before .add-starts .ensures)
+returns-3 c = prepared (c .before .before .before .before .before .before .before .before .before
+    .before .loop .inv) (c .before .before .before .before .before .before .before .before
+    .add-starts .ensures)
 
 loop-less : tie.Need-loop-less Inv-loop μ-loop
-loop-less c = omega (arith, c .before .before .before .before .before .before .before .before .before .before .loop .inv .most, c .before .before .before .before .before .before .before .before .add-starts .ensures .next)
+loop-less c = omega (
+  arith,
+  c .before .before .before .before .before .before .before .before
+      .before .before .loop .inv .most,
+  c .before .before .before .before .before .before .before
+      .before .add-starts .ensures .next,
+)
 
 loop-again : tie.Need-loop-again Inv-loop μ-loop
-loop-again c = prepares (prepared (c .before .before .before .before .before .before .before .before .before .before .loop .inv) (c .before .before .before .before .before .before .before .before .add-starts .ensures)) (c .before .before .before .before .if1 .left) (omega arith) (omega arith)
+loop-again c = prepares (prepared
+    (c .before .before .before .before .before .before .before .before .before .before .loop .inv)
+    (c .before .before .before .before .before .before .before .before .add-starts .ensures))
+    (c .before .before .before .before .if1 .left) (omega arith) (omega arith)
 
 pub prepare-spec : {M : Type 1} → statement M
 prepare-spec =

@@ -37,7 +37,11 @@ loop-less : tie.Need-loop-less Inv-loop μ-loop
 loop-less c = search needs
 
 loop-again : tie.Need-loop-again Inv-loop μ-loop
-loop-again c = (none-more _ (c .before .before .before .loop .inv .0) (c .before .useful-kinds .ensures) (c .if1 .left), search needs)
+loop-again c = (
+  none-more _ (c .before .before .before .loop .inv .0)
+      (c .before .useful-kinds .ensures) (c .if1 .left),
+  search needs,
+)
 
 returns-2 : tie.Need-returns-2 Inv-loop μ-loop
 returns-2 c =

@@ -16,7 +16,8 @@ returns : tie.Need-returns
 returns c = kinds-if (rw (c .before .before .before .frame-at .ensures) at (c .kinds-of .ensures))
 
 returns-2 : tie.Need-returns-2
-returns-2 c = kinds-unranked (rw (c .before .before .frame-at .ensures) at (c .before .ranked .ensures .isnt (c .if1 .left)))
+returns-2 c = kinds-unranked (rw (c .before .before .frame-at .ensures) at
+    (c .before .ranked .ensures .isnt (c .if1 .left)))
 
 pub useful-kinds-spec : {M : Type 1} → statement M
 useful-kinds-spec =

@@ -10,7 +10,8 @@ with-requires : tie.Need-with-requires
 with-requires c κs = search needs
 
 returns : tie.Need-returns
-returns c = rw (c .with .ensures) (kind-added _ _ _ (c .before .before .suits .ensures .is (c .before .if1 .taken)))
+returns c = rw (c .with .ensures)
+    (kind-added _ _ _ (c .before .before .suits .ensures .is (c .before .if1 .taken)))
 
 returns-2 : tie.Need-returns-2
 returns-2 c = kind-left _ _ _ (c .before .suits .ensures .isnt (c .if1 .left))

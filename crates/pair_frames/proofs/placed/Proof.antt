@@ -16,7 +16,8 @@ returns c =
       one = λ k. absurd (omega (arith, c .before .if1 .taken));
       leaf = λ k. absurd (omega (arith, c .before .if1 .taken));
     })
-    (λ h. let k = h .two (c .before .if1 .taken) in record { low = k .0; high = k .1 }) (c .amid .ensures)
+    (λ h. let k = h .two (c .before .if1 .taken) in record { low = k .0; high = k .1 })
+    (c .amid .ensures)
 
 none-amid-requires : tie.Need-none-amid-requires
 none-amid-requires c κs = search needs

@@ -28,7 +28,8 @@ returns c =
       c .before .before .before .before .one-more4 .ensures .0,
       c .before .before .before .before .before .before .one-more3 .ensures .0,
       c .before .before .before .before .before .before .before .before .one-more2 .ensures .0,
-      c .before .before .before .before .before .before .before .before .before .before .one-more .ensures .0,
+      c .before .before .before .before .before .before .before .before .before .before .one-more
+          .ensures .0,
     )
 
 pub points-before-spec : {M : Type 1} → statement M

@@ -10,31 +10,36 @@ points-before-requires : tie.Need-points-before-requires
 points-before-requires c κs = search needs
 
 returns : tie.Need-returns
-returns c = fails (λ h. c .if1 .taken (c .before .before .points-before .ensures ∙ h .rank (at start₁)))
+returns c =
+    fails (λ h. c .if1 .taken (c .before .before .points-before .ensures ∙ h .rank (at start₁)))
 
 points-before-requires-2 : tie.Need-points-before-requires-2
 points-before-requires-2 c κs = search needs
 
 returns-2 : tie.Need-returns-2
-returns-2 c = fails (λ h. c .if2 .taken (c .before .before .points-before2 .ensures ∙ h .rank (at start₂)))
+returns-2 c =
+    fails (λ h. c .if2 .taken (c .before .before .points-before2 .ensures ∙ h .rank (at start₂)))
 
 points-before-requires-3 : tie.Need-points-before-requires-3
 points-before-requires-3 c κs = search needs
 
 returns-3 : tie.Need-returns-3
-returns-3 c = fails (λ h. c .if3 .taken (c .before .before .points-before3 .ensures ∙ h .rank (at cut₁)))
+returns-3 c =
+    fails (λ h. c .if3 .taken (c .before .before .points-before3 .ensures ∙ h .rank (at cut₁)))
 
 points-before-requires-4 : tie.Need-points-before-requires-4
 points-before-requires-4 c κs = search needs
 
 returns-4 : tie.Need-returns-4
-returns-4 c = fails (λ h. c .if4 .taken (c .before .before .points-before4 .ensures ∙ h .rank (at cut₂)))
+returns-4 c =
+    fails (λ h. c .if4 .taken (c .before .before .points-before4 .ensures ∙ h .rank (at cut₂)))
 
 points-before-requires-5 : tie.Need-points-before-requires-5
 points-before-requires-5 c κs = search needs
 
 returns-5 : tie.Need-returns-5
-returns-5 c = fails (λ h. c .if5 .taken (c .before .before .points-before5 .ensures ∙ h .rank stop₁))
+returns-5 c =
+    fails (λ h. c .if5 .taken (c .before .before .points-before5 .ensures ∙ h .rank stop₁))
 
 points-before-requires-6 : tie.Need-points-before-requires-6
 points-before-requires-6 c κs = search needs
@@ -44,12 +49,27 @@ returns-6 c =
     says-iff
     (λ e.
     ranked-of _
-    (sym (c .before .before .before .before .before .before .before .before .before .before .before .before .before .before .before .before .points-before .ensures) ∙ c .before .before .before .before .before .before .before .before .before .before .before .before .before .before .if1 .left)
-    (sym (c .before .before .before .before .before .before .before .before .before .before .before .before .before .points-before2 .ensures) ∙ c .before .before .before .before .before .before .before .before .before .before .before .if2 .left)
-    (sym (c .before .before .before .before .before .before .before .before .before .before .points-before3 .ensures) ∙ c .before .before .before .before .before .before .before .before .if3 .left)
-    (sym (c .before .before .before .before .before .before .before .points-before4 .ensures) ∙ c .before .before .before .before .before .if4 .left)
-    (sym (c .before .before .before .before .points-before5 .ensures) ∙ c .before .before .if5 .left)
-    (sym (c .before .points-before6 .ensures) ∙ e))
+    (sym (c .before .before .before .before .before .before .before .before .before .before .before
+    .before .before .before .before .before .points-before .ensures)
+    ∙ c .before .before .before .before .before .before .before .before .before .before
+    .before .before .before .before .if1 .left)
+    (sym (c .before .before .before .before .before .before .before .before .before
+    .before .before .before .before .points-before2 .ensures)
+    ∙ c .before .before .before .before .before .before .before .before
+    .before .before .before .if2 .left)
+    (sym (c .before .before .before .before .before .before .before
+    .before .before .before .points-before3 .ensures)
+    ∙ c .before .before .before .before .before .before
+    .before .before .if3 .left) (sym
+    (c .before .before .before .before .before
+    .before .before .points-before4 .ensures)
+    ∙ c .before .before .before .before
+    .before .if4 .left) (sym (c .before
+    .before .before .before
+    .points-before5 .ensures)
+    ∙ c .before .before .if5
+    .left) (sym (c
+    .before .points-before6 .ensures) ∙ e))
     (λ h. c .before .points-before6 .ensures ∙ h .rank stop₂) (says-eqb _ _)
 
 pub ranked-spec : {M : Type 1} → statement M

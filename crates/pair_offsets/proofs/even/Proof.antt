@@ -18,8 +18,11 @@ fine-requires-4 c κs = search needs
 
 returns : tie.Need-returns
 returns c =
-    says-even _ _ (c .before .before .before .before .before .before .fine .ensures) (c .before .before .before .before .before .if1 .taken) (c .before .before .before .before .fine2 .ensures) (c .before .before .before .if2 .taken)
-    (c .before .before .fine3 .ensures) (c .before .if3 .taken) (c .fine4 .ensures)
+    says-even _ _ (c .before .before .before .before .before .before .fine .ensures)
+    (c .before .before .before .before .before .if1 .taken)
+    (c .before .before .before .before .fine2 .ensures)
+    (c .before .before .before .if2 .taken) (c .before .before .fine3 .ensures)
+    (c .before .if3 .taken) (c .fine4 .ensures)
 
 returns-2 : tie.Need-returns-2
 returns-2 c = fails (not-even₃ _ _ (c .before .fine3 .ensures) (c .if3 .left))

@@ -26,10 +26,15 @@ returns c =
     says-iff
     (λ e.
     record {
-      ac = c .before .before .before .before .before .before .before .before .before .before .member .ensures .is (c .before .before .before .before .before .before .before .before .before .if1 .taken);
-      an = c .before .before .before .before .before .before .before .before .member2 .ensures .is (c .before .before .before .before .before .before .before .if2 .taken);
-      mc = c .before .before .before .before .before .before .member3 .ensures .is (c .before .before .before .before .before .if3 .taken);
-      mn = c .before .before .before .before .member4 .ensures .is (c .before .before .before .if4 .taken);
+      ac = c .before .before .before .before .before .before .before .before .before .before .member
+          .ensures .is (c .before .before .before .before .before .before .before .before .before
+          .if1 .taken);
+      an = c .before .before .before .before .before .before .before .before .member2 .ensures .is
+          (c .before .before .before .before .before .before .before .if2 .taken);
+      mc = c .before .before .before .before .before .before .member3 .ensures .is
+          (c .before .before .before .before .before .if3 .taken);
+      mn = c .before .before .before .before .member4 .ensures .is
+          (c .before .before .before .if4 .taken);
       am = c .before .before .member5 .ensures .is (c .before .if5 .taken);
       cn = e;
     }) (λ h. h .cn) (c .member6 .ensures)

@@ -19,7 +19,14 @@ loop-holds c = (omega arith, listing-none _ _ _)
 push-even-requires : tie.Need-push-even-requires Inv-loop μ-loop
 push-even-requires c κs =
     let l = c .before .before .loop .inv in
-    omega (arith, l .1 .high, l .1 .size, c .before .loop-test .taken, c .before .before .before .before .pre)
+    omega (
+      arith,
+      l .1 .high,
+      l .1 .size,
+      c .before .loop-test .taken,
+      c .before .before .before
+          .before .pre,
+    )
 
 add-t : tie.Need-add-t Inv-loop μ-loop
 add-t c = search needs
@@ -28,7 +35,11 @@ loop-less : tie.Need-loop-less Inv-loop μ-loop
 loop-less c = search needs
 
 loop-again : tie.Need-loop-again Inv-loop μ-loop
-loop-again c = (search needs, listing-more (c .before .before .before .before .before .loop .inv .1) (c .before .before .push-even .ensures))
+loop-again c = (
+  search needs,
+  listing-more (c .before .before .before .before .before .loop .inv .1)
+      (c .before .before .push-even .ensures),
+)
 
 same-length : tie.Need-same-length Inv-loop μ-loop
 same-length c = c .before .loop .inv .1 .size
@@ -39,4 +50,5 @@ returns c =
     rw e at (c .before .loop .inv .1)
 
 pub list-evens-spec : {M : Type 1} → statement M
-list-evens-spec = tie.close (tie.spec Inv-loop μ-loop loop-holds push-even-requires add-t loop-less loop-again same-length returns)
+list-evens-spec = tie.close (tie.spec Inv-loop μ-loop loop-holds push-even-requires add-t loop-less
+    loop-again same-length returns)

@@ -44,4 +44,5 @@ returns c =
 pub offsets-left-spec : {M : Type 1} → statement M
 offsets-left-spec =
     tie.close
-    (tie.spec Inv-loop μ-loop loop-holds mul-t shared-slice-read-t with-offset-requires add-i loop-less loop-again returns)
+    (tie.spec Inv-loop μ-loop loop-holds mul-t shared-slice-read-t with-offset-requires add-i
+    loop-less loop-again returns)

@@ -19,7 +19,8 @@ same-length : tie.Need-same-length
 same-length c = search needs
 
 returns : tie.Need-returns
-returns c = pushed _ _ _ _ (c .before .before .before .pre) (c .before .even .ensures .is (c .if1 .taken))
+returns c =
+    pushed _ _ _ _ (c .before .before .before .pre) (c .before .even .ensures .is (c .if1 .taken))
 
 returns-2 : tie.Need-returns-2
 returns-2 c = passed _ _ _ _ (c .before .even .ensures .isnt (c .if1 .left))

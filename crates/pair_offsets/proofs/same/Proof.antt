@@ -7,7 +7,8 @@ returns : tie.Need-returns
 returns c = same-one _ _ _ _ _ (omega (arith, c .before .if1 .taken)) (omega (arith, c .if2 .taken))
 
 returns-2 : tie.Need-returns-2
-returns-2 c = same-off _ _ _ _ _ (omega (arith, c .before .if1 .taken)) (λ e. omega (arith, e, c .if2 .left))
+returns-2 c =
+    same-off _ _ _ _ _ (omega (arith, c .before .if1 .taken)) (λ e. omega (arith, e, c .if2 .left))
 
 returns-3 : tie.Need-returns-3
 returns-3 c = same-two _ _ _ _ _ (λ e. omega (arith, e, c .if1 .left))

@@ -13,7 +13,8 @@ with-requires : tie.Need-with-requires
 with-requires c κs = search needs
 
 returns : tie.Need-returns
-returns c = rw (c .with .ensures) (added _ _ _ (c .before .before .held .ensures .is (c .before .if1 .taken)))
+returns c = rw (c .with .ensures)
+    (added _ _ _ (c .before .before .held .ensures .is (c .before .if1 .taken)))
 
 returns-2 : tie.Need-returns-2
 returns-2 c = not-added _ _ _ (c .before .held .ensures .isnt (c .if1 .left))

@@ -15,7 +15,8 @@ meet-requires c κs =
     let ns = c .before .before .before .before .before .before .args .nodes .now in (
       r .0 .0,
       apt ns (c .before .before .before .before .before .before .args .i) (r .1 .1) (r .1 .2),
-      apt ns (c .before .before .before .before .before .before .args .j) (c .before .node-at .ensures .0) (c .before .node-at .ensures .1),
+      apt ns (c .before .before .before .before .before .before .args .j)
+          (c .before .node-at .ensures .0) (c .before .node-at .ensures .1),
       r .0 .2,
       r .0 .3,
     )
@@ -26,7 +27,10 @@ same-length c = search needs
 returns : tie.Need-returns
 returns c =
     let r = c .before .before .before .before .before .before .before .before .before .pre in
-    cell-ran (r .0 .2) (r .0 .3) (r .1 .0) (c .before .before .before .before .before .before .present .ensures .is (c .before .before .before .before .before .if1 .taken)) (r .1 .1) (c .before .before .before .before .node-at .ensures .0)
+    cell-ran (r .0 .2) (r .0 .3) (r .1 .0)
+    (c .before .before .before .before .before .before .present .ensures .is
+    (c .before .before .before .before .before .if1 .taken)) (r .1 .1)
+    (c .before .before .before .before .node-at .ensures .0)
     (c .before .before .meet .ensures)
 
 returns-2 : tie.Need-returns-2

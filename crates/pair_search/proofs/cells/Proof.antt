@@ -9,7 +9,8 @@ use Rattle.pair_search.proofs.cells.Statement.{statement}
 use Rattle.pair_search.proofs.cells.Tie as tie
 
 abbrev Inv-loop : tie.InvT-loop
-Inv-loop nodes words₀ n x i still₀ m₀ words still m = Ran (λ g. NodesOf g nodes) (LastCells nodes i n m) words₀ words still × (m ≤ 384)
+Inv-loop nodes words₀ n x i still₀ m₀ words still m =
+    Ran (λ g. NodesOf g nodes) (LastCells nodes i n m) words₀ words still × (m ≤ 384)
 
 abbrev μ-loop : tie.MeasureT-loop
 μ-loop nodes words₀ n x i still₀ m₀ words still m = 384 - m
@@ -36,7 +37,13 @@ loop-less : tie.Need-loop-less Inv-loop μ-loop
 loop-less c = search needs
 
 loop-again : tie.Need-loop-again Inv-loop μ-loop
-loop-again c = (rw (c .both .ensures) (row-more _ (c .before .before .before .before .before .loop-test .taken) (c .before .before .before .before .before .before .loop .inv .0) (c .before .before .before .cell .ensures)), search needs)
+loop-again c = (
+  rw (c .both .ensures)
+      (row-more _ (c .before .before .before .before .before .loop-test .taken)
+      (c .before .before .before .before .before .before .loop .inv .0)
+      (c .before .before .before .cell .ensures)),
+  search needs,
+)
 
 same-length : tie.Need-same-length Inv-loop μ-loop
 same-length c = c .before .loop .inv .0 .size

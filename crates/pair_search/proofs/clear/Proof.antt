@@ -29,7 +29,11 @@ loop-less : tie.Need-loop-less Inv-loop μ-loop
 loop-less c = search needs
 
 loop-again : tie.Need-loop-again Inv-loop μ-loop
-loop-again c = (cleared-more _ (omega (arith, c .before .loop .inv .0 .size, c .before .before .pre)) (c .before .loop .inv .0), search needs)
+loop-again c = (
+  cleared-more _ (omega
+      (arith, c .before .loop .inv .0 .size, c .before .before .pre)) (c .before .loop .inv .0),
+  search needs,
+)
 
 same-length : tie.Need-same-length Inv-loop μ-loop
 same-length c = c .before .loop .inv .0 .size

@@ -8,13 +8,23 @@ clear-requires : tie.Need-clear-requires
 clear-requires c κs = c .before .before .before .pre .0
 
 search-requires : tie.Need-search-requires
-search-requires c κs = (omega (arith, c .before .before .before .clear .ensures .size, c .before .before .before .before .before .before .before .pre .0), c .before .before .before .before .before .before .before .pre .1)
+search-requires c κs = (
+  omega (
+    arith,
+    c .before .before .before .clear .ensures .size,
+    c .before
+        .before .before .before .before .before .before .pre .0,
+  ),
+  c .before .before .before .before
+      .before .before .before .pre .1,
+)
 
 same-length : tie.Need-same-length
 same-length c = search needs
 
 returns : tie.Need-returns
-returns c = filled (c .before .before .before .before .before .before .clear .ensures) (c .before .before .search .ensures)
+returns c = filled (c .before .before .before .before .before .before .clear .ensures)
+    (c .before .before .search .ensures)
 
 pub fill-table-spec : {M : Type 1} → statement M
 fill-table-spec = tie.close (tie.spec clear-requires search-requires same-length returns)

@@ -8,7 +8,8 @@ use Rattle.pair_search.proofs.meet.Statement.{statement}
 use Rattle.pair_search.proofs.meet.Tie as tie
 
 abbrev Inv-loop : tie.InvT-loop
-Inv-loop words₀ n x y i j still₀ k₀ words still k = Ran (PairOf x y i j) (Met x y i j k) words₀ words still × (k ≤ n)
+Inv-loop words₀ n x y i j still₀ k₀ words still k =
+    Ran (PairOf x y i j) (Met x y i j k) words₀ words still × (k ≤ n)
 
 abbrev μ-loop : tie.MeasureT-loop
 μ-loop words₀ n x y i j still₀ k₀ words still k = n - k
@@ -32,7 +33,12 @@ loop-less : tie.Need-loop-less Inv-loop μ-loop
 loop-less c = search needs
 
 loop-again : tie.Need-loop-again Inv-loop μ-loop
-loop-again c = (rw (c .both .ensures) (met-more _ (c .before .before .before .before .before .before .loop .inv .0) (c .before .before .before .step-entry .ensures)), search needs)
+loop-again c = (
+  rw (c .both .ensures)
+      (met-more _ (c .before .before .before .before .before .before .loop .inv .0)
+      (c .before .before .before .step-entry .ensures)),
+  search needs,
+)
 
 same-length : tie.Need-same-length Inv-loop μ-loop
 same-length c = c .before .loop .inv .0 .size

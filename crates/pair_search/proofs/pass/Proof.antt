@@ -9,7 +9,8 @@ use Rattle.pair_search.proofs.pass.Statement.{statement}
 use Rattle.pair_search.proofs.pass.Tie as tie
 
 abbrev Inv-loop : tie.InvT-loop
-Inv-loop nodes words₀ n still₀ k₀ words still k = Ran (λ g. NodesOf g nodes) (LastRows nodes n k) words₀ words still × (k ≤ 384)
+Inv-loop nodes words₀ n still₀ k₀ words still k =
+    Ran (λ g. NodesOf g nodes) (LastRows nodes n k) words₀ words still × (k ≤ 384)
 
 abbrev μ-loop : tie.MeasureT-loop
 μ-loop nodes words₀ n still₀ k₀ words still k = 384 - k
@@ -36,7 +37,12 @@ loop-less : tie.Need-loop-less Inv-loop μ-loop
 loop-less c = search needs
 
 loop-again : tie.Need-loop-again Inv-loop μ-loop
-loop-again c = (rw (c .both .ensures) (rows-more _ (omega arith) (c .before .before .before .before .before .before .loop .inv .0) (c .before .before .before .row .ensures)), search needs)
+loop-again c = (
+  rw (c .both .ensures)
+      (rows-more _ (omega arith) (c .before .before .before .before .before .before .loop .inv .0)
+      (c .before .before .before .row .ensures)),
+  search needs,
+)
 
 same-length : tie.Need-same-length Inv-loop μ-loop
 same-length c = c .before .loop .inv .0 .size

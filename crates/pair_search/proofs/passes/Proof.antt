@@ -18,14 +18,19 @@ loop-holds c = rest-none _ _
 
 pass-requires : tie.Need-pass-requires Inv-loop μ-loop
 pass-requires c κs =
-    let v = c .before .loop .inv in
-    (ready-same (v .size) (v .past) (c .before .before .before .before .pre .0), c .before .before .before .before .pre .1)
+    let v = c .before .loop .inv in (
+      ready-same (v .size) (v .past) (c .before .before .before .before .pre .0),
+      c .before .before
+          .before .before .pre .1,
+    )
 
 same-length : tie.Need-same-length Inv-loop μ-loop
-same-length c = c .before .before .before .pass .ensures .size ∙ c .before .before .before .before .before .loop .inv .size
+same-length c = c .before .before .before .pass .ensures .size
+    ∙ c .before .before .before .before .before .loop .inv .size
 
 returns : tie.Need-returns Inv-loop μ-loop
-returns c = rested (c .before .before .before .before .before .loop .inv) (c .before .before .before .pass .ensures) (c .if1 .taken)
+returns c = rested (c .before .before .before .before .before .loop .inv)
+    (c .before .before .before .pass .ensures) (c .if1 .taken)
 
 loop-less : tie.Need-loop-less Inv-loop μ-loop
 loop-less c =
@@ -33,7 +38,8 @@ loop-less c =
     (record { low = λ i. omega (arith, c .before .slice-known2 .given i) })
 
 loop-again : tie.Need-loop-again Inv-loop μ-loop
-loop-again c = rest-more (c .before .before .before .before .before .loop .inv) (c .before .before .before .pass .ensures) (c .if1 .left)
+loop-again c = rest-more (c .before .before .before .before .before .loop .inv)
+    (c .before .before .before .pass .ensures) (c .if1 .left)
 
 pub passes-spec : {M : Type 1} → statement M
 passes-spec =

@@ -4,7 +4,8 @@ use native.Mathlib.Omega.{arith}
 use borrow.Author.Needs.{needs}
 use Rattle.pair_search.specs.Running.{tableSum}
 use Rattle.pair_search.proofs.RunLaws.{ready-same}
-use Rattle.pair_search.proofs.RoundLaws.{Resting, rest-none, rest-more, quick-rested, rest-less}
+use Rattle.pair_search.proofs.RoundLaws.{Resting, rest-none, rest-more, quick-rested}
+use Rattle.pair_search.proofs.RoundLaws.{rest-less}
 use Rattle.pair_search.proofs.quick.Statement.{statement}
 use Rattle.pair_search.proofs.quick.Tie as tie
 
@@ -19,25 +20,33 @@ loop-holds c = rest-none _ _
 
 quick-pass-requires : tie.Need-quick-pass-requires Inv-loop μ-loop
 quick-pass-requires c κs =
-    let v = c .before .before .loop .inv in
-    (ready-same (v .size) (v .past) (c .before .before .before .before .before .pre .0), c .before .before .before .before .before .pre .1)
+    let v = c .before .before .loop .inv in (
+      ready-same (v .size) (v .past) (c .before .before .before .before .before .pre .0),
+      c .before
+          .before .before .before .before .pre .1,
+    )
 
 same-length : tie.Need-same-length Inv-loop μ-loop
-same-length c = c .before .before .before .quick-pass .ensures .size ∙ c .before .before .before .before .before .before .loop .inv .size
+same-length c = c .before .before .before .quick-pass .ensures .size
+    ∙ c .before .before .before .before .before .before .loop .inv .size
 
 returns : tie.Need-returns Inv-loop μ-loop
-returns c = quick-rested (c .before .before .before .before .before .before .loop .inv) (c .before .before .before .quick-pass .ensures) (c .if1 .taken)
+returns c = quick-rested (c .before .before .before .before .before .before .loop .inv)
+    (c .before .before .before .quick-pass .ensures) (c .if1 .taken)
 
 age-requires : tie.Need-age-requires Inv-loop μ-loop
 age-requires c κs = search needs
 
 loop-less : tie.Need-loop-less Inv-loop μ-loop
 loop-less c =
-    rest-less (c .before .before .before .before .before .quick-pass .ensures) (c .before .before .if1 .left)
+    rest-less (c .before .before .before .before .before .quick-pass .ensures)
+    (c .before .before .if1 .left)
     (record { low = λ i. omega (arith, c .before .before .before .slice-known2 .given i) })
 
 loop-again : tie.Need-loop-again Inv-loop μ-loop
-loop-again c = rest-more (c .before .before .before .before .before .before .before .before .loop .inv) (c .before .before .before .before .before .quick-pass .ensures) (c .before .before .if1 .left)
+loop-again c = rest-more (c .before .before .before .before .before .before .before .before .loop
+    .inv) (c .before .before .before .before .before .quick-pass .ensures)
+    (c .before .before .if1 .left)
 
 pub quick-spec : {M : Type 1} → statement M
 quick-spec =

@@ -15,10 +15,14 @@ touched-requires c κs = search needs
 meet-if-requires : tie.Need-meet-if-requires
 meet-if-requires c κs =
     let r = c .before .before .before .before .before .before .before .before .before .pre in
-    let ns = c .before .before .before .before .before .before .before .before .before .args .nodes .now in (
+    let ns = c .before .before .before .before .before .before .before .before .before .args .nodes
+    .now in (
       r .0 .0,
-      apt ns (c .before .before .before .before .before .before .before .before .before .args .i) (r .1 .1) (r .1 .2),
-      apt ns (c .before .before .before .before .before .before .before .before .before .args .j) (c .before .before .before .before .node-at .ensures .0) (c .before .before .before .before .node-at .ensures .1),
+      apt ns (c .before .before .before .before .before .before .before .before .before .args .i)
+          (r .1 .1) (r .1 .2),
+      apt ns (c .before .before .before .before .before .before .before .before .before .args .j)
+          (c .before .before .before .before .node-at .ensures .0)
+          (c .before .before .before .before .node-at .ensures .1),
       r .0 .2,
       r .0 .3,
     )
@@ -31,10 +35,16 @@ same-length c = search needs
 
 returns : tie.Need-returns
 returns c =
-    let r = c .before .before .before .before .before .before .before .before .before .before .before .before .before .before .pre in
+    let r = c .before .before .before .before .before .before .before .before .before .before
+    .before .before .before .before .pre in
     ran-of
-    (pair-there (r .0 .2) (r .0 .3) (r .1 .0) (c .before .before .before .before .before .before .before .before .before .before .before .present .ensures .is (c .before .before .before .before .before .before .before .before .before .before .if1 .taken)) (r .1 .1)
-    (c .before .before .before .before .before .before .before .before .before .node-at .ensures .0)) (λ p. tt) (c .before .before .before .before .meet-if .ensures)
+    (pair-there (r .0 .2) (r .0 .3) (r .1 .0)
+    (c .before .before .before .before .before .before .before .before .before .before .before
+    .present .ensures .is (c .before .before .before .before .before .before .before .before
+    .before .before .if1 .taken)) (r .1 .1)
+    (c .before .before .before .before .before .before .before .before .before
+    .node-at .ensures .0)) (λ p. tt)
+    (c .before .before .before .before .meet-if .ensures)
 
 returns-2 : tie.Need-returns-2
 returns-2 c = stays tt

@@ -11,8 +11,16 @@ node-at-requires c κs = search needs
 
 quick-cells-requires : tie.Need-quick-cells-requires
 quick-cells-requires c κs =
-    let r = c .before .before .before .before .before .before .before .pre in
-    (r, (c .before .before .before .before .present .ensures .is (c .before .before .before .if1 .taken), c .before .before .node-at .ensures .0, c .before .before .node-at .ensures .1))
+    let r = c .before .before .before .before .before .before .before .pre in (
+      r,
+      (
+        c .before .before .before .before .present .ensures .is
+            (c .before .before .before .if1 .taken),
+        c .before .before .node-at .ensures .0,
+        c .before
+            .before .node-at .ensures .1,
+      ),
+    )
 
 same-length : tie.Need-same-length
 same-length c = search needs

@@ -17,22 +17,48 @@ loop-holds : tie.Need-loop-holds Inv-loop μ-loop
 loop-holds c = (round-none _ _, omega arith)
 
 prepare-requires : tie.Need-prepare-requires Inv-loop μ-loop
-prepare-requires c κs = (omega (arith, c .before .before .loop .inv .0 .size, c .before .before .before .before .before .pre .0), omega arith)
+prepare-requires c κs = (
+  omega (
+    arith,
+    c .before .before .loop .inv .0 .size,
+    c .before .before
+        .before .before .before .pre .0,
+  ),
+  omega arith,
+)
 
 settle-requires : tie.Need-settle-requires Inv-loop μ-loop
 settle-requires c κs =
-    let q = c .before .before .before .prepare .ensures in
-    (ready (omega (arith, q .same .size, c .before .before .before .before .before .before .loop .inv .0 .size, c .before .before .before .before .before .before .before .before .before .pre .0)) q, c .before .before .before .before .before .before .before .before .before .pre .1)
+    let q = c .before .before .before .prepare .ensures in (
+      ready (omega (
+        arith,
+        q .same .size,
+        c .before .before .before .before .before .before .loop
+            .inv .0 .size,
+        c .before .before .before .before .before .before .before .before .before
+            .pre .0,
+      )) q,
+      c .before .before .before .before .before .before .before .before .before
+          .pre .1,
+    )
 
 both-settled-requires : tie.Need-both-settled-requires Inv-loop μ-loop
 both-settled-requires c κs = search needs
 
 loop-less : tie.Need-loop-less Inv-loop μ-loop
-loop-less c = omega (arith, c .before .before .before .before .before .before .before .prepare .ensures .more, c .before .before .before .before .before .before .before .before .before .loop-test .taken)
+loop-less c = omega (
+  arith,
+  c .before .before .before .before .before .before .before .prepare
+      .ensures .more,
+  c .before .before .before .before .before .before .before .before .before
+      .loop-test .taken,
+)
 
 loop-again : tie.Need-loop-again Inv-loop μ-loop
 loop-again c = (
-  round-next _ (c .before .before .before .before .before .before .before .before .before .before .loop .inv .0) (c .before .before .before .before .before .before .before .prepare .ensures) (c .before .before .before .settle .ensures) (c .both-settled .ensures),
+  round-next _ (c .before .before .before .before .before .before .before .before .before .before
+      .loop .inv .0) (c .before .before .before .before .before .before .before .prepare .ensures)
+      (c .before .before .before .settle .ensures) (c .both-settled .ensures),
   c .before .before .before .before .before .before .before .prepare .ensures .most,
 )
 

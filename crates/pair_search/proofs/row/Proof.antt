@@ -11,8 +11,15 @@ node-at-requires c κs = search needs
 
 cells-requires : tie.Need-cells-requires
 cells-requires c κs =
-    let r = c .before .before .before .before .before .before .pre in
-    (r, (c .before .before .before .present .ensures .is (c .before .before .if1 .taken), c .before .node-at .ensures .0, c .before .node-at .ensures .1))
+    let r = c .before .before .before .before .before .before .pre in (
+      r,
+      (
+        c .before .before .before .present .ensures .is (c .before .before .if1 .taken),
+        c .before
+            .node-at .ensures .0,
+        c .before .node-at .ensures .1,
+      ),
+    )
 
 same-length : tie.Need-same-length
 same-length c = search needs

@@ -9,8 +9,12 @@ quick-requires c κs = search needs
 
 passes-requires : tie.Need-passes-requires
 passes-requires c κs =
-    let q = c .before .before .before .quick .ensures in
-    (ready-same (q .size) (q .past) (c .before .before .before .before .before .before .before .pre .0), c .before .before .before .before .before .before .before .pre .1)
+    let q = c .before .before .before .quick .ensures in (
+      ready-same (q .size) (q .past)
+          (c .before .before .before .before .before .before .before .pre .0),
+      c .before .before
+          .before .before .before .before .before .pre .1,
+    )
 
 both-requires : tie.Need-both-requires
 both-requires c κs = search needs
@@ -19,7 +23,9 @@ same-length : tie.Need-same-length
 same-length c = search needs
 
 returns : tie.Need-returns
-returns c = rw (c .both .ensures) (quick-then (c .before .before .before .before .before .before .before .quick .ensures) (c .before .before .before .passes .ensures))
+returns c = rw (c .both .ensures)
+    (quick-then (c .before .before .before .before .before .before .before .quick .ensures)
+    (c .before .before .before .passes .ensures))
 
 pub settle-spec : {M : Type 1} → statement M
 settle-spec = tie.close (tie.spec quick-requires passes-requires both-requires same-length returns)

@@ -12,8 +12,8 @@ returns c =
     let l = c .before .if3 .taken in
     narrow-as (λ k p i j. (λ h. p, λ h. absurd (omega (arith, h, l))))
     (λ k p.
-    p (omega (arith, c .before .before .before .if1 .taken)) (omega (arith, c .before .before .if2 .taken)) .0
-    (omega (arith, l))) (c .at-place .ensures)
+    p (omega (arith, c .before .before .before .if1 .taken))
+    (omega (arith, c .before .before .if2 .taken)) .0 (omega (arith, l))) (c .at-place .ensures)
 
 at-place-requires-2 : tie.Need-at-place-requires-2
 at-place-requires-2 c κs = search needs
@@ -23,13 +23,17 @@ returns-2 c =
     let l = c .before .if4 .taken in
     let z = c .before .before .before in
     narrow-as (λ k p i j. (λ h. absurd (omega (arith, h, l)), λ h. p))
-    (λ k p. p (omega (arith, z .before .if1 .taken)) (omega (arith, z .if2 .taken)) .1 (omega (arith, l)))
-    (c .at-place2 .ensures)
+    (λ k p. p (omega (arith, z .before .if1 .taken)) (omega (arith, z .if2 .taken)) .1
+    (omega (arith, l))) (c .at-place2 .ensures)
 
 returns-3 : tie.Need-returns-3
 returns-3 c =
     narrow-none _ _
-    (λ k i j. (λ h. absurd (omega (arith, h, c .before .if3 .left)), λ h. absurd (omega (arith, h, c .if4 .left))))
+    (λ k i j. (
+      λ h. absurd (omega (arith, h, c .before .if3 .left)),
+      λ h. absurd
+          (omega (arith, h, c .if4 .left)),
+    ))
 
 returns-4 : tie.Need-returns-4
 returns-4 c = narrow-none _ _ (λ k i j. absurd (omega (arith, j, c .if2 .left)))

@@ -5,8 +5,8 @@ use Rattle.pair_steps.proofs.inside.Tie as tie
 
 returns : tie.Need-returns
 returns c =
-    narrow-and _ _ _ (λ k p. p (omega (arith, c .before .if1 .taken)) (omega (arith, c .if2 .taken)))
-    (λ k i p q. i)
+    narrow-and _ _ _ (λ k p. p (omega (arith, c .before .if1 .taken))
+    (omega (arith, c .if2 .taken))) (λ k i p q. i)
 
 returns-2 : tie.Need-returns-2
 returns-2 c = narrow-none _ _ (λ k p q. absurd (omega (arith, q, c .if2 .left)))

@@ -1,4 +1,5 @@
-use Rattle.pair_steps.proofs.NarrowLaws.{all-mask, keep-none, keep-offside, keep-offalign, keep-single}
+use Rattle.pair_steps.proofs.NarrowLaws.{all-mask, keep-none, keep-offside, keep-offalign}
+use Rattle.pair_steps.proofs.NarrowLaws.{keep-single}
 use borrow.Author.Needs.{needs}
 use Rattle.pair_steps.proofs.keep_mask.Statement.{statement}
 use Rattle.pair_steps.proofs.keep_mask.Tie as tie

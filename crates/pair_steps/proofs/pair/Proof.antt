@@ -25,8 +25,8 @@ shr-result c = search needs
 returns : tie.Need-returns
 returns c =
     let k = c .before .before in
-    narrow-pair _ _ _ _ _ _ _ _ (omega (arith, k .before .if1 .taken)) (omega (arith, k .if2 .taken))
-    (c .before .order-code .ensures) (c .order-code2 .ensures)
+    narrow-pair _ _ _ _ _ _ _ _ (omega (arith, k .before .if1 .taken))
+    (omega (arith, k .if2 .taken)) (c .before .order-code .ensures) (c .order-code2 .ensures)
 
 returns-2 : tie.Need-returns-2
 returns-2 c = narrow-none _ _ (λ k p q. absurd (omega (arith, q, c .if2 .left)))

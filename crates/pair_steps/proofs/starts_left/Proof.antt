@@ -26,7 +26,8 @@ returns c =
     let e4 = c .inside2 .ensures in
     record {
       keeps = λ k h p.
-          e4 .keeps k (e3 .keeps k (e2 .keeps k (e1 .keeps k (e0 .keeps k h (p .0)) (p .1)) (p .2)) (p .3)) (p .4);
+          e4 .keeps k (e3 .keeps k (e2 .keeps k (e1 .keeps k (e0 .keeps k h (p .0)) (p .1)) (p .2))
+          (p .3)) (p .4);
       only = λ k h.
           let q4 = e4 .only k h in
           let q3 = e3 .only k (q4 .0) in

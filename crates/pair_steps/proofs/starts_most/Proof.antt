@@ -13,7 +13,8 @@ starts-left-requires : tie.Need-starts-left-requires
 starts-left-requires c κs = search needs
 
 returns : tie.Need-returns
-returns c = starts-most (c .before .before .first-stop .ensures) (c .before .first-stop2 .ensures) (c .starts-left .ensures)
+returns c = starts-most (c .before .before .first-stop .ensures) (c .before .first-stop2 .ensures)
+    (c .starts-left .ensures)
 
 pub starts-most-spec : {M : Type 1} → statement M
 starts-most-spec =

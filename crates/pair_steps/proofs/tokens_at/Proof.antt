@@ -26,8 +26,10 @@ kids-leave-requires c κs = search needs
 
 returns : tie.Need-returns
 returns c =
-    tokens-narrow _ _ _ _ (c .before .before .before .before .before .before .first-stop .ensures) (c .before .before .before .before .before .first-stop2 .ensures)
-    (c .before .before .before .before .second-stop .ensures) (c .before .before .before .second-stop2 .ensures) (c .before .before .begins-left .ensures)
+    tokens-narrow _ _ _ _ (c .before .before .before .before .before .before .first-stop .ensures)
+    (c .before .before .before .before .before .first-stop2 .ensures)
+    (c .before .before .before .before .second-stop .ensures)
+    (c .before .before .before .second-stop2 .ensures) (c .before .before .begins-left .ensures)
     (c .before .nodes-leave .ensures) (c .kids-leave .ensures)
 
 pub tokens-at-spec : {M : Type 1} → statement M

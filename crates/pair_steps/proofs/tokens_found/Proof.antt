@@ -42,27 +42,80 @@ returns-6 c = none-at _ _ _ _ _ (λ s. s .end) (c .before .tokens-at6 .ensures) 
 
 returns-7 : tie.Need-returns-7
 returns-7 c =
-    found-some _ _ _ _
-    (c .before .before .before .before .before .before .before .before .before .before .before .before .before .tokens-at .ensures, c .before .before .before .before .before .before .before .before .before .before .before .before .if1 .left)
-    (c .before .before .before .before .before .before .before .before .before .before .before .tokens-at2 .ensures, c .before .before .before .before .before .before .before .before .before .before .if2 .left)
-    (c .before .before .before .before .before .before .before .before .before .tokens-at3 .ensures, c .before .before .before .before .before .before .before .before .if3 .left)
-    (c .before .before .before .before .before .before .before .tokens-at4 .ensures, c .before .before .before .before .before .before .if4 .left)
-    (c .before .before .before .before .before .tokens-at5 .ensures, c .before .before .before .before .if5 .left)
-    (c .before .before .before .tokens-at6 .ensures, c .before .before .if6 .left)
-    (min-low _ _ (omega (arith, c .if7 .taken)))
-    (c .before .before .before .before .before .tokens-at5 .ensures)
+    found-some _ _ _ _ (
+      c .before .before .before .before .before .before .before .before .before .before .before
+          .before .before .tokens-at .ensures,
+      c .before .before .before .before .before .before
+          .before .before .before .before .before .before .if1 .left,
+    ) (
+      c .before .before .before .before .before .before .before .before .before .before
+          .before .tokens-at2 .ensures,
+      c .before .before .before .before .before .before
+          .before .before .before .before .if2 .left,
+    ) (
+      c .before .before .before .before .before .before .before .before
+          .before .tokens-at3 .ensures,
+      c .before .before .before .before
+          .before .before .before .before .if3 .left,
+    ) (
+      c .before .before .before .before .before .before .before
+          .tokens-at4 .ensures,
+      c .before .before .before .before
+          .before .before .if4 .left,
+    ) (
+      c .before .before
+          .before .before .before .tokens-at5 .ensures,
+      c
+          .before .before .before .before .if5 .left,
+    ) (
+      c .before .before .before .tokens-at6
+          .ensures,
+      c .before .before .if6
+          .left,
+    ) (min-low _ _ (omega
+    (arith, c .if7 .taken))) (c
+    .before .before .before
+    .before .before
+    .tokens-at5
+    .ensures)
 
 returns-8 : tie.Need-returns-8
 returns-8 c =
-    found-some _ _ _ _
-    (c .before .before .before .before .before .before .before .before .before .before .before .before .before .tokens-at .ensures, c .before .before .before .before .before .before .before .before .before .before .before .before .if1 .left)
-    (c .before .before .before .before .before .before .before .before .before .before .before .tokens-at2 .ensures, c .before .before .before .before .before .before .before .before .before .before .if2 .left)
-    (c .before .before .before .before .before .before .before .before .before .tokens-at3 .ensures, c .before .before .before .before .before .before .before .before .if3 .left)
-    (c .before .before .before .before .before .before .before .tokens-at4 .ensures, c .before .before .before .before .before .before .if4 .left)
-    (c .before .before .before .before .before .tokens-at5 .ensures, c .before .before .before .before .if5 .left)
-    (c .before .before .before .tokens-at6 .ensures, c .before .before .if6 .left)
-    (min-high _ _ (omega (arith, c .if7 .left)))
-    (c .before .before .before .tokens-at6 .ensures)
+    found-some _ _ _ _ (
+      c .before .before .before .before .before .before .before .before .before .before .before
+          .before .before .tokens-at .ensures,
+      c .before .before .before .before .before .before
+          .before .before .before .before .before .before .if1 .left,
+    ) (
+      c .before .before .before .before .before .before .before .before .before .before
+          .before .tokens-at2 .ensures,
+      c .before .before .before .before .before .before
+          .before .before .before .before .if2 .left,
+    ) (
+      c .before .before .before .before .before .before .before .before
+          .before .tokens-at3 .ensures,
+      c .before .before .before .before
+          .before .before .before .before .if3 .left,
+    ) (
+      c .before .before .before .before .before .before .before
+          .tokens-at4 .ensures,
+      c .before .before .before .before
+          .before .before .if4 .left,
+    ) (
+      c .before .before
+          .before .before .before .tokens-at5 .ensures,
+      c
+          .before .before .before .before .if5 .left,
+    ) (
+      c .before .before .before .tokens-at6
+          .ensures,
+      c .before .before .if6
+          .left,
+    ) (min-high _ _ (omega
+    (arith, c .if7 .left))) (c
+    .before .before .before
+    .tokens-at6
+    .ensures)
 
 pub tokens-found-spec : {M : Type 1} → statement M
 tokens-found-spec =

@@ -14,7 +14,8 @@ tokens-at-requires-2 : tie.Need-tokens-at-requires-2
 tokens-at-requires-2 c κs = search needs
 
 returns-2 : tie.Need-returns-2
-returns-2 c = tokens-most (min-high _ _ (λ h. omega (arith, c .before .if1 .left))) (c .tokens-at2 .ensures)
+returns-2 c =
+    tokens-most (min-high _ _ (λ h. omega (arith, c .before .if1 .left))) (c .tokens-at2 .ensures)
 
 pub tokens-most-spec : {M : Type 1} → statement M
 tokens-most-spec = tie.close (tie.spec tokens-at-requires returns tokens-at-requires-2 returns-2)

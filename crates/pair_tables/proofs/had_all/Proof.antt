@@ -34,7 +34,10 @@ shared-slice-read-result c = search needs
 
 returns-2 : tie.Need-returns-2
 returns-2 c =
-    let b = has-both (c .before .before .before .before .before .before .shape-word .ensures) (c .before .before .before .before .before .sort-word .ensures) (c .before .before .before .before .before .before .before .relation-bits .ensures) (c .before .before .before .before .if1 .left) in
+    let b = has-both (c .before .before .before .before .before .before .shape-word .ensures)
+    (c .before .before .before .before .before .sort-word .ensures)
+    (c .before .before .before .before .before .before .before .relation-bits .ensures)
+    (c .before .before .before .before .if1 .left) in
     record {
       is = λ e.
           record {
@@ -43,7 +46,9 @@ returns-2 c =
             node = λ z h. b z h .0;
             sort = λ z h. b z h .1;
             next = λ z l h.
-                has-next (c .before .before .before .before .before .before .before .before .before .args .t .now) (c .before .before .tokens-most .result) (c .before .next-place .ensures .0) e z
+                has-next (c .before .before .before .before .before .before .before .before .before
+                .args .t .now) (c .before .before .tokens-most .result)
+                (c .before .next-place .ensures .0) e z
                 (c .before .before .tokens-most .ensures .has z l h);
           };
     }

@@ -37,7 +37,8 @@ shared-slice-read-result : tie.Need-shared-slice-read-result
 shared-slice-read-result c = search needs
 
 returns : tie.Need-returns
-returns c = rw (c .before .before .order-code .ensures .code, c .before .order-code2 .ensures .code) refl
+returns c =
+    rw (c .before .before .order-code .ensures .code, c .before .order-code2 .ensures .code) refl
 
 pub next-word-spec : {M : Type 1} → statement M
 next-word-spec =

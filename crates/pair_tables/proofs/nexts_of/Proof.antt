@@ -34,16 +34,22 @@ next-word-requires-6 : tie.Need-next-word-requires-6
 next-word-requires-6 c κs = search needs
 
 next-word-requires-7 : tie.Need-next-word-requires-7
-next-word-requires-7 c κs = let p = c .before .before .before .before .before .before .before .before .before .before .before .pre in (p .0, p .1 .second, p .2 .first)
+next-word-requires-7 c κs = let p = c .before .before .before .before .before .before .before
+    .before .before .before .before .pre in (p .0, p .1 .second, p .2 .first)
 
 next-word-requires-8 : tie.Need-next-word-requires-8
-next-word-requires-8 c κs = let p = c .before .before .before .before .before .before .before .before .before .before .before .before .pre in (p .0, p .1 .second, p .2 .second)
+next-word-requires-8 c κs = let p = c .before .before .before .before .before .before .before
+    .before .before .before .before .before .pre in (p .0, p .1 .second, p .2 .second)
 
 returns : tie.Need-returns
 returns c =
-    nexts-by _ _ _ _ _ (c .before .before .before .before .before .before .before .before .before .before .before .first-stop .ensures) (c .before .before .before .before .before .before .before .before .before .before .first-stop2 .ensures)
-    (c .before .before .before .before .before .before .before .before .before .second-stop .ensures) (c .before .before .before .before .before .before .before .before .second-stop2 .ensures)
-    (record {
+    nexts-by _ _ _ _ _ (c .before .before .before .before .before .before .before .before .before
+    .before .before .first-stop .ensures)
+    (c .before .before .before .before .before .before .before .before .before .before
+    .first-stop2 .ensures) (c .before .before .before .before .before .before .before
+    .before .before .second-stop .ensures)
+    (c .before .before .before .before .before .before .before .before
+    .second-stop2 .ensures) (record {
       yc = c .before .before .before .before .before .before .before .next-word .ensures;
       yd = c .before .before .before .before .before .before .next-word2 .ensures;
       xc = c .before .before .before .before .before .next-word3 .ensures;

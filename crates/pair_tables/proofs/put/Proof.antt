@@ -19,19 +19,31 @@ same-length : tie.Need-same-length
 same-length c = search needs
 
 returns : tie.Need-returns
-returns c = put-all (c .before .before .before .before .before .before .before .before .before .before .before .before .join .ensures) (c .before .before .before .before .before .before .before .before .join2 .ensures) (c .before .before .before .before .join3 .ensures) _ (λ e. (c .before .if1 .taken, c .if2 .taken, e)) (λ e. inr (inr e))
+returns c = put-all (c .before .before .before .before .before .before .before .before .before
+    .before .before .before .join .ensures)
+    (c .before .before .before .before .before .before .before .before .join2 .ensures)
+    (c .before .before .before .before .join3 .ensures) _
+    (λ e. (c .before .if1 .taken, c .if2 .taken, e)) (λ e. inr (inr e))
 
 same-length-2 : tie.Need-same-length-2
 same-length-2 c = search needs
 
 returns-2 : tie.Need-returns-2
-returns-2 c = put-all (c .before .before .before .before .before .before .before .before .before .before .before .before .join .ensures) (c .before .before .before .before .before .before .before .before .join2 .ensures) (c .before .before .before .before .join3 .ensures) _ (λ e. absurd (true-not-false (sym e))) (λ e. inr (inl (c .if2 .left)))
+returns-2 c = put-all (c .before .before .before .before .before .before .before .before .before
+    .before .before .before .join .ensures)
+    (c .before .before .before .before .before .before .before .before .join2 .ensures)
+    (c .before .before .before .before .join3 .ensures) _
+    (λ e. absurd (true-not-false (sym e))) (λ e. inr (inl (c .if2 .left)))
 
 same-length-3 : tie.Need-same-length-3
 same-length-3 c = search needs
 
 returns-3 : tie.Need-returns-3
-returns-3 c = put-all (c .before .before .before .before .before .before .before .before .before .before .before .join .ensures) (c .before .before .before .before .before .before .before .join2 .ensures) (c .before .before .before .join3 .ensures) _ (λ e. absurd (true-not-false (sym e))) (λ e. inl (c .if1 .left))
+returns-3 c = put-all (c .before .before .before .before .before .before .before .before .before
+    .before .before .join .ensures)
+    (c .before .before .before .before .before .before .before .join2 .ensures)
+    (c .before .before .before .join3 .ensures) _ (λ e. absurd (true-not-false (sym e)))
+    (λ e. inl (c .if1 .left))
 
 pub put-spec : {M : Type 1} → statement M
 put-spec =

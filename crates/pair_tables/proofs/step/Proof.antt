@@ -17,7 +17,9 @@ same-length : tie.Need-same-length
 same-length c = search needs
 
 returns : tie.Need-returns
-returns c = has-all (c .before .before .before .before .before .words-of .ensures) (c .before .before .before .before .starts-most .ensures) (c .before .had-all .ensures .is (c .if2 .taken))
+returns c = has-all (c .before .before .before .before .before .words-of .ensures)
+    (c .before .before .before .before .starts-most .ensures)
+    (c .before .had-all .ensures .is (c .if2 .taken))
 
 offsets-found-requires : tie.Need-offsets-found-requires
 offsets-found-requires c κs = search needs
@@ -26,7 +28,8 @@ same-length-2 : tie.Need-same-length-2
 same-length-2 c = search needs
 
 returns-2 : tie.Need-returns-2
-returns-2 c = no-offsets (c .before .before .before .before .before .words-of .ensures) (rw (c .if3 .taken) at (c .before .offsets-found .ensures))
+returns-2 c = no-offsets (c .before .before .before .before .before .words-of .ensures)
+    (rw (c .if3 .taken) at (c .before .offsets-found .ensures))
 
 nexts-of-requires : tie.Need-nexts-of-requires
 nexts-of-requires c κs = search needs
@@ -39,14 +42,17 @@ same-length-3 c = search needs
 
 returns-3 : tie.Need-returns-3
 returns-3 c =
-    no-terminals (c .before .before .before .before .before .before .before .before .before .words-of .ensures) (c .before .before .before .before .before .offsets-found .ensures) (c .before .before .nexts-of .ensures)
+    no-terminals (c .before .before .before .before .before .before .before .before .before
+    .words-of .ensures) (c .before .before .before .before .before .offsets-found .ensures)
+    (c .before .before .nexts-of .ensures)
     (rw (c .if4 .taken) at (c .before .tokens-found .ensures))
 
 relation-bits-requires : tie.Need-relation-bits-requires
 relation-bits-requires c κs = search needs
 
 next-place-requires : tie.Need-next-place-requires
-next-place-requires c κs = let p = c .before .before .before .before .before .before .before .before .before .before .before .before .before .pre .0 in (p .1 .sort, p .2 .sort)
+next-place-requires c κs = let p = c .before .before .before .before .before .before .before .before
+    .before .before .before .before .before .pre .0 in (p .1 .sort, p .2 .sort)
 
 cast-a : tie.Need-cast-a
 cast-a c = search needs
@@ -55,10 +61,14 @@ cast-b : tie.Need-cast-b
 cast-b c = search needs
 
 mul-put : tie.Need-mul-put
-mul-put c = let p = c .before .before .before .before .before .before .before .before .before .before .before .before .before .before .before .before .before .pre .0 in omega (arith, p .1 .sort, p .2 .sort, p .3)
+mul-put c = let p = c .before .before .before .before .before .before .before .before .before
+    .before .before .before .before .before .before .before .before .pre .0 in
+    omega (arith, p .1 .sort, p .2 .sort, p .3)
 
 add-put : tie.Need-add-put
-add-put c = let p = c .before .before .before .before .before .before .before .before .before .before .before .before .before .before .before .before .before .pre .0 in omega (arith, p .1 .sort, p .2 .sort, p .3)
+add-put c = let p = c .before .before .before .before .before .before .before .before .before
+    .before .before .before .before .before .before .before .before .pre .0 in
+    omega (arith, p .1 .sort, p .2 .sort, p .3)
 
 mul-put-2 : tie.Need-mul-put-2
 mul-put-2 c = search needs
@@ -71,7 +81,8 @@ add-put-3 c = search needs
 
 put-requires : tie.Need-put-requires
 put-requires c κs =
-    let p = c .before .before .before .before .before .before .before .before .before .before .before .before .before .before .before .before .before .pre .0 in
+    let p = c .before .before .before .before .before .before .before .before .before .before
+    .before .before .before .before .before .before .before .pre .0 in
     let q = c .before .before .before .next-place .ensures in (
       omega (arith, p .0 .room, p .1 .sort, p .2 .sort, p .3),
       omega (arith, p .0 .room, p .1 .sort, p .2 .sort, p .3),
@@ -85,8 +96,19 @@ returns-4 : tie.Need-returns-4
 returns-4 c =
     let q = c .before .before .before .before .before .before .next-place .ensures .0 in
     let e = c .before .before .before .before .before .before .before .relation-bits .ensures in
-    puts (c .before .before .before .before .before .before .before .before .before .before .before .before .before .before .before .before .before .words-of .ensures) (c .before .before .before .before .before .before .before .before .before .before .before .before .before .offsets-found .ensures) (c .before .before .before .before .before .before .before .before .before .before .before .before .if3 .left) (c .before .before .before .before .before .before .before .before .before .before .nexts-of .ensures)
-    (c .before .before .before .before .before .before .before .before .before .tokens-found .ensures) (c .before .before .before .before .before .before .before .before .if4 .left) (rw (q, e) at (c .before .before .put .ensures))
+    puts (c .before .before .before .before .before .before .before .before .before .before .before
+    .before .before .before .before .before .before .words-of .ensures)
+    (c .before .before .before .before .before .before .before .before .before .before
+    .before .before .before .offsets-found .ensures)
+    (c .before .before .before .before .before .before .before .before .before
+    .before .before .before .if3 .left)
+    (c .before .before .before .before .before .before .before .before
+    .before .before .nexts-of .ensures)
+    (c .before .before .before .before .before .before .before
+    .before .before .tokens-found .ensures)
+    (c .before .before .before .before .before .before
+    .before .before .if4 .left) (rw (q, e) at
+    (c .before .before .put .ensures))
 
 pub step-spec : {M : Type 1} → statement M
 step-spec =

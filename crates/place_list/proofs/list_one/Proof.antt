@@ -13,15 +13,28 @@ use Rattle.place_list.proofs.list_one.Tie as tie
 has-several-requires : tie.Need-has-several-requires
 has-several-requires c κs =
     let z = c .before .before .before in
-    let a = z .args in
-    ((record { few = z .pre .0 .1 .few; fits = z .pre .0 .2; enough = subst (λ (n : ℕ). 2 * pairs n ≤ length (a .words .now)) (z .pre .0 .1 .whole) (z .pre .1 .0 .0 .enough) }, z .pre .1 .1 .0 .0), (z .pre .0 .0, z .pre .0 .3))
+    let a = z .args in (
+      (
+        record {
+          few = z .pre .0 .1 .few;
+          fits = z .pre .0 .2;
+          enough = subst
+              (λ (n : ℕ). 2 * pairs n ≤ length (a .words .now)) (z .pre .0 .1 .whole)
+              (z .pre .1 .0 .0 .enough);
+        },
+        z .pre .1 .1 .0 .0,
+      ),
+      (z .pre .0 .0, z .pre .0 .3),
+    )
 
 returns : tie.Need-returns
 returns c =
     let z = c .before .before .before .before .before in
     let a = z .args in
-    let q = c .before .has-several .ensures .says (spelled (a .s)) (z .pre .0 .1 .whole) (z .pre .0 .2) (z .pre .1 .0 .0) (z .pre .1 .1 .0 .1) in
-    lists-skip (a .a) (a .start) (a .len) (z .pre .1 .1 .1) (λ p. q .isnt (not-true _ (c .if1 .taken)) (p .several))
+    let q = c .before .has-several .ensures .says (spelled (a .s)) (z .pre .0 .1 .whole)
+    (z .pre .0 .2) (z .pre .1 .0 .0) (z .pre .1 .1 .0 .1) in
+    lists-skip (a .a) (a .start) (a .len) (z .pre .1 .1 .1)
+    (λ p. q .isnt (not-true _ (c .if1 .taken)) (p .several))
 
 cast-t15 : tie.Need-cast-t15
 cast-t15 c = search needs
@@ -42,8 +55,17 @@ returns-2 : tie.Need-returns-2
 returns-2 c =
     let z = c .before .before .before .before .before .before .before .before .before .before in
     let a = z .args in
-    let q = c .before .before .before .before .before .before .has-several .ensures .says (spelled (a .s)) (z .pre .0 .1 .whole) (z .pre .0 .2) (z .pre .1 .0 .0) (z .pre .1 .1 .0 .1) in
-    lists-put (a .a) (a .start) (a .len) (record { contained = z .pre .1 .0 .1; several = q .is (not-false _ (c .before .before .before .before .before .if1 .left)) }) (c .before .before .put .kept .0) (c .before .before .put .ensures)
+    let q = c .before .before .before .before .before .before .has-several .ensures .says
+    (spelled (a .s)) (z .pre .0 .1 .whole) (z .pre .0 .2) (z .pre .1 .0 .0)
+    (z .pre .1 .1 .0 .1) in
+    lists-put (a .a) (a .start) (a .len)
+    (record {
+      contained = z .pre .1 .0 .1;
+      several = q .is
+          (not-false _ (c .before .before .before .before .before .if1 .left));
+    })
+    (c .before .before .put .kept .0) (c .before .before .put .ensures)
 
 pub list-one-spec : {M : Type 1} → statement M
-list-one-spec = tie.close (tie.spec has-several-requires returns cast-t15 cast-t16 slice-aggregate-put put-requires same-length returns-2)
+list-one-spec = tie.close (tie.spec has-several-requires returns cast-t15 cast-t16
+    slice-aggregate-put put-requires same-length returns-2)

@@ -18,7 +18,14 @@ begin-requires : tie.Need-begin-requires
 begin-requires c κs = search needs
 
 list-all-requires : tie.Need-list-all-requires
-list-all-requires c κs = ((c .before .before .before .before .before .before .before .before .before .pre, c .before .before .before .before .list-rules .ensures), search needs)
+list-all-requires c κs = (
+  (
+    c .before .before .before .before .before .before .before .before .before
+        .pre,
+    c .before .before .before .before .list-rules .ensures,
+  ),
+  search needs,
+)
 
 finish-requires : tie.Need-finish-requires
 finish-requires c κs = search needs
@@ -28,10 +35,19 @@ same-length c = search needs
 
 returns : tie.Need-returns
 returns c =
-    let s = c .before .before .before .before .before .before .before .before .before .before .before .before .before .before .before .before in
-    let first = listed-first (s .args .g) (spelled (s .args .s)) (s .pre .formed) (s .args .s .count) (s .pre .positioned .whole) (c .before .before .before .before .before .before .before .begin .ensures) in
+    let s = c .before .before .before .before .before .before .before .before .before .before
+    .before .before .before .before .before .before in
+    let first = listed-first (s .args .g) (spelled (s .args .s)) (s .pre .formed)
+    (s .args .s .count) (s .pre .positioned .whole)
+    (c .before .before .before .before .before .before .before .begin .ensures) in
     let x = c .before .before .before .before .before .before .list-all .ensures .goes first in
-    record { entries = x .entries; places = listed-all (s .args .g) (spelled (s .args .s)) (s .pre .formed) x; gives = c .before .before .finish .ensures .gives (x .puts) }
+    record {
+      entries = x .entries;
+      places = listed-all (s .args .g) (spelled (s .args .s))
+          (s .pre .formed) x;
+      gives = c .before .before .finish .ensures .gives (x .puts);
+    }
 
 pub list-places-spec : {M : Type 1} → statement M
-list-places-spec = tie.close (tie.spec slice-aggregate-list-rules list-rules-requires slice-aggregate-list-all begin-requires list-all-requires finish-requires same-length returns)
+list-places-spec = tie.close (tie.spec slice-aggregate-list-rules list-rules-requires
+    slice-aggregate-list-all begin-requires list-all-requires finish-requires same-length returns)

@@ -18,45 +18,68 @@ use Rattle.place_list.proofs.list_span.Tie as tie
 use Rattle.grammar.specs.Sentences.{spelled}
 
 abbrev Inv-loop : tie.InvT-loop
-Inv-loop words reach s g lists start len list₀ n m p set k₀ a₀ list k a = (a ≤ 64) × Lists (rules g) (spelled s) list₀ list k₀ k (entry 0 start len) (entry a start len)
+Inv-loop words reach s g lists start len list₀ n m p set k₀ a₀ list k a =
+    (a ≤ 64) × Lists (rules g) (spelled s) list₀ list k₀ k (entry 0 start len) (entry a start len)
 
 abbrev μ-loop : tie.MeasureT-loop
 μ-loop words reach s g lists start len list₀ n m p set k₀ a₀ list k a = 64 - a
 
 -- the span's word is there, and says what is contained
-room : (c : tie.Start Inv-loop μ-loop) → pairAt (c .args .s .count) (c .args .start) (c .args .len) < length (c .args .reach .now)
+room : (c : tie.Start Inv-loop μ-loop)
+    → pairAt (c .args .s .count) (c .args .start) (c .args .len) < length (c .args .reach .now)
 room c =
     let n = c .args .s .count in
-    let e = subst (λ (x : ℕ). pairs x ≤ length (c .args .reach .now)) (c .pre .0 .0 .positioned .whole) (c .pre .0 .0 .reached .enough) in
+    let e = subst (λ (x : ℕ). pairs x ≤ length (c .args .reach .now))
+    (c .pre .0 .0 .positioned .whole) (c .pre .0 .0 .reached .enough) in
     omega (arith, pairAt-below n (c .args .start) (c .args .len) (c .pre .1 .0 .0), e)
 
-module _ (c : tie.Start Inv-loop μ-loop) (p : ℕ) (e : p ≡ pairAt (c .args .s .count) (c .args .start) (c .args .len)) (a : ℕ) where
-  is-contained : In (getD (c .args .reach .now) p 0) a → Contains (rules (c .args .g)) (spelled (c .args .s)) a (c .args .start) (c .args .len)
+module _ (c : tie.Start Inv-loop μ-loop) (p : ℕ)
+    (e : p ≡ pairAt (c .args .s .count) (c .args .start) (c .args .len)) (a : ℕ) where
+  is-contained : In (getD (c .args .reach .now) p 0) a
+      → Contains (rules (c .args .g)) (spelled (c .args .s)) a (c .args .start) (c .args .len)
   is-contained b =
-      bit-contained (rules (c .args .g)) (spelled (c .args .s)) (c .args .reach .now) (c .args .s .count) (c .pre .0 .0 .positioned .whole) (c .pre .0 .0 .reached) a
-      (c .args .start) (c .args .len) (c .pre .1 .0 .0) (c .pre .1 .0 .1) (subst (λ (q : ℕ). In (getD (c .args .reach .now) q 0) a) e b)
+      bit-contained (rules (c .args .g)) (spelled (c .args .s)) (c .args .reach .now)
+      (c .args .s .count) (c .pre .0 .0 .positioned .whole) (c .pre .0 .0 .reached) a
+      (c .args .start) (c .args .len) (c .pre .1 .0 .0) (c .pre .1 .0 .1)
+      (subst (λ (q : ℕ). In (getD (c .args .reach .now) q 0) a) e b)
 
-  not-contained : (In (getD (c .args .reach .now) p 0) a → ⊥) → Contains (rules (c .args .g)) (spelled (c .args .s)) a (c .args .start) (c .args .len) → ⊥
+  not-contained : (In (getD (c .args .reach .now) p 0) a → ⊥)
+      → Contains (rules (c .args .g)) (spelled (c .args .s)) a (c .args .start) (c .args .len) → ⊥
   not-contained n x =
       n
       (subst (λ (q : ℕ). In (getD (c .args .reach .now) q 0) a) (sym e)
-      (contained-bit (rules (c .args .g)) (spelled (c .args .s)) (c .args .reach .now) (c .args .s .count) (c .pre .0 .0 .positioned .whole) (c .pre .0 .0 .reached) a
+      (contained-bit (rules (c .args .g)) (spelled (c .args .s)) (c .args .reach .now)
+      (c .args .s .count) (c .pre .0 .0 .positioned .whole) (c .pre .0 .0 .reached) a
       (c .args .start) (c .args .len) (c .pre .1 .0 .0) (c .pre .1 .0 .1) x))
 
 span-marks-requires : tie.Need-span-marks-requires Inv-loop μ-loop
-span-marks-requires c κs = let z = c .before .before .before .before .before in record { few = z .pre .0 .0 .positioned .few; fits = z .pre .1 .0 .0 }
+span-marks-requires c κs = let z = c .before .before .before .before .before in
+    record { few = z .pre .0 .0 .positioned .few; fits = z .pre .1 .0 .0 }
 
 pair-at-requires : tie.Need-pair-at-requires Inv-loop μ-loop
-pair-at-requires c κs = let z = c .before .before .before .before .before .before in (z .pre .0 .0 .positioned .few, z .pre .1 .0 .0)
+pair-at-requires c κs = let z = c .before .before .before .before .before .before in
+    (z .pre .0 .0 .positioned .few, z .pre .1 .0 .0)
 
 mul-set : tie.Need-mul-set Inv-loop μ-loop
-mul-set c = omega (arith, room (c .before .before .before .before .before .before .before), c .pair-at .ensures, c .before .before .before)
+mul-set c = omega (
+  arith,
+  room (c .before .before .before .before .before .before .before),
+  c
+      .pair-at .ensures,
+  c .before .before .before,
+)
 
 shared-slice-read-set : tie.Need-shared-slice-read-set Inv-loop μ-loop
-shared-slice-read-set c = omega (arith, room (c .before .before .before .before .before .before .before .before), c .before .pair-at .ensures)
+shared-slice-read-set c = omega (
+  arith,
+  room (c .before .before .before .before .before .before .before .before),
+  c .before
+      .pair-at .ensures,
+)
 
 loop-holds : tie.Need-loop-holds Inv-loop μ-loop
-loop-holds c = let s = c .before .before .before .before .before .before .before .before in (omega arith, lists-none (entry 0 (s .args .start) (s .args .len)) (s .pre .1 .1))
+loop-holds c = let s = c .before .before .before .before .before .before .before .before in
+    (omega arith, lists-none (entry 0 (s .args .start) (s .args .len)) (s .pre .1 .1))
 
 has-requires : tie.Need-has-requires Inv-loop μ-loop
 has-requires c κs = search needs
@@ -69,19 +92,43 @@ loop-less c = search needs
 
 loop-again : tie.Need-loop-again Inv-loop μ-loop
 loop-again c =
-    let s = c .before .before .before .before .before .before .before .before .before .before .before .before in
+    let s = c .before .before .before .before .before .before .before .before .before .before
+    .before .before in
     let l = c .before .before .before .loop in
     let n = c .before .has .ensures .isnt (not-true _ (c .if1 .taken)) in
-    let none = not-contained s (c .before .before .before .before .before .pair-at .result) (c .before .before .before .before .before .pair-at .ensures) (l .a) n in
-    (omega arith, lists-then (l .inv .1) (lists-skip (l .a) (s .args .start) (s .args .len) (l .inv .1 .few) (λ x. none (x .contained))))
+    let none = not-contained s (c .before .before .before .before .before .pair-at .result)
+    (c .before .before .before .before .before .pair-at .ensures) (l .a) n in (
+      omega arith,
+      lists-then (l .inv .1)
+          (lists-skip (l .a) (s .args .start) (s .args .len) (l .inv .1 .few)
+          (λ x. none (x .contained))),
+    )
 
 list-one-requires : tie.Need-list-one-requires Inv-loop μ-loop
 list-one-requires c κs =
-    let s = c .before .before .before .before .before .before .before .before .before .before .before .before .before in
+    let s = c .before .before .before .before .before .before .before .before .before .before
+    .before .before .before in
     let l = c .before .before .before .before .loop in
     let b = c .before .before .has .ensures .is (not-false _ (c .before .if1 .left)) in
-    let z = s .pre .0 .0 in
-    ((z .formed, z .positioned, s .pre .1 .0 .0, s .pre .0 .1), ((z .sheet, is-contained s (c .before .before .before .before .before .before .pair-at .result) (c .before .before .before .before .before .before .pair-at .ensures) (l .a) b), ((c .before .before .before .loop-test .taken, c .before .before .before .before .before .before .before .span-marks .ensures), l .inv .1 .few)))
+    let z = s .pre .0 .0 in (
+      (z .formed, z .positioned, s .pre .1 .0 .0, s .pre .0 .1),
+      (
+        (
+          z .sheet,
+          is-contained s (c .before .before .before .before .before .before .pair-at
+              .result) (c .before .before .before .before .before .before .pair-at .ensures) (l .a)
+              b,
+        ),
+        (
+          (
+            c .before .before .before .loop-test .taken,
+            c .before .before .before .before
+                .before .before .before .span-marks .ensures,
+          ),
+          l .inv .1 .few,
+        ),
+      ),
+    )
 
 add-a-2 : tie.Need-add-a-2 Inv-loop μ-loop
 add-a-2 c = search needs
@@ -90,7 +137,15 @@ loop-less-2 : tie.Need-loop-less-2 Inv-loop μ-loop
 loop-less-2 c = search needs
 
 loop-again-2 : tie.Need-loop-again-2 Inv-loop μ-loop
-loop-again-2 c = (omega (arith, c .before .before .before .before .before .before .loop-test .taken), lists-then (c .before .before .before .before .before .before .before .loop .inv .1) (c .before .before .list-one .ensures))
+loop-again-2 c = (
+  omega (
+    arith,
+    c .before .before .before .before .before .before .loop-test
+        .taken,
+  ),
+  lists-then (c .before .before .before .before .before .before .before .loop .inv .1)
+      (c .before .before .list-one .ensures),
+)
 
 same-length : tie.Need-same-length Inv-loop μ-loop
 same-length c = c .before .loop .inv .1 .long
@@ -102,4 +157,6 @@ returns c =
     rw e at (l .inv .1)
 
 pub list-span-spec : {M : Type 1} → statement M
-list-span-spec = tie.close (tie.spec Inv-loop μ-loop span-marks-requires pair-at-requires mul-set shared-slice-read-set loop-holds has-requires add-a loop-less loop-again list-one-requires add-a-2 loop-less-2 loop-again-2 same-length returns)
+list-span-spec = tie.close (tie.spec Inv-loop μ-loop span-marks-requires pair-at-requires mul-set
+    shared-slice-read-set loop-holds has-requires add-a loop-less loop-again list-one-requires
+    add-a-2 loop-less-2 loop-again-2 same-length returns)

@@ -1,4 +1,5 @@
--- `printing::put_number` meets its contract, by the laws of `decimal`; the measure is the number itself.
+-- `printing::put_number` meets its contract, by the laws of `decimal`; the measure is the number
+-- itself.
 use mathlib.Core.Path.{_≡_, ap}
 use mathlib.Core.List.{[], _∷_, _++_}
 use Prim.Native.Nat.{ℕ, _+_, _/_, _%_, _<_}
@@ -70,7 +71,8 @@ put-number-returns : (t : ℕ) → put-number-lts.Need-returns (
 ) (put-number-at t) put-number.Post
 put-number-returns t c =
     let s = c .before .before .before .before .before .before in
-    let e : decimal (s .args .v) ≡ (48 + s .args .v) ∷ [] = decimal-one (s .args .v) (search needs) in
+    let e : decimal (s .args .v) ≡ (48 + s .args .v) ∷ [] =
+    decimal-one (s .args .v) (search needs) in
     rw e (c .before .before .put-byte .ensures)
 
 put-number-put-number-requires : (t : ℕ) → put-number-lts.Need-put-number-requires (
@@ -126,8 +128,10 @@ put-number-returns-2 : (t : ℕ) → put-number-lts.Need-returns-2 (
 ) (put-number-at t) put-number.Post
 put-number-returns-2 t c =
     let s = c .before .before .before .before .before .before .before .before .before .before in
-    let e : decimal (s .args .v) ≡ decimal (s .args .v / 10) ++ ((48 + s .args .v % 10) ∷ []) = decimal-more (s .args .v) (search needs) in
-    rw e (wrote-then (c .before .before .before .before .before .before .put-number .ensures) (c .before .before .put-byte2 .ensures))
+    let e : decimal (s .args .v) ≡ decimal (s .args .v / 10) ++ ((48 + s .args .v % 10) ∷ []) =
+    decimal-more (s .args .v) (search needs) in
+    rw e (wrote-then (c .before .before .before .before .before .before .put-number .ensures)
+    (c .before .before .put-byte2 .ensures))
 
 pub +put-number-spec : {M : Type 1} → statement M
 +put-number-spec = close μ-put-number λ t. put-number-lts.spec (

@@ -34,7 +34,11 @@ loop-less : tie.Need-loop-less Inv-loop μ-loop
 loop-less c = search needs
 
 loop-again : tie.Need-loop-again Inv-loop μ-loop
-loop-again c = (search needs, wrote-turn _ _ _ _ _ (search needs) (search needs) (c .before .before .loop .inv .1))
+loop-again c = (
+  search needs,
+  wrote-turn _ _ _ _ _ (search needs) (search needs)
+      (c .before .before .loop .inv .1),
+)
 
 add-result : tie.Need-add-result Inv-loop μ-loop
 add-result c = search needs

@@ -14,7 +14,15 @@ put-number-requires c κs =
 put-byte-requires : tie.Need-put-byte-requires
 put-byte-requires c κs =
     let s = c .before .before .before .before .before .before in
-    omega (arith, c .before .before .before .put-number .ensures .next, c .before .before .before .put-number .ensures .long, decimal-length 5 (s .args .v) (omega arith) (omega (arith, s .pre)), s .pre)
+    omega (
+      arith,
+      c .before .before .before .put-number .ensures .next,
+      c .before .before .before
+          .put-number .ensures .long,
+      decimal-length 5 (s .args .v) (omega arith)
+          (omega (arith, s .pre)),
+      s .pre,
+    )
 
 same-length : tie.Need-same-length
 same-length c = search needs
@@ -23,8 +31,15 @@ returns : tie.Need-returns
 returns c =
     let n = c .before .before .before .before .before .before in
     let s = n .before .before .before in
-    let w = wrote-then (n .put-number .ensures) (c .before .before .put-byte .ensures) in
-    (w, omega (arith, n .put-number .ensures .next, c .before .before .put-byte .ensures .next, decimal-length 5 (s .args .v) (omega arith) (omega (arith, s .pre))))
+    let w = wrote-then (n .put-number .ensures) (c .before .before .put-byte .ensures) in (
+      w,
+      omega (
+        arith,
+        n .put-number .ensures .next,
+        c .before .before .put-byte .ensures .next,
+        decimal-length 5 (s .args .v) (omega arith) (omega (arith, s .pre)),
+      ),
+    )
 
 pub put-ended-spec : {M : Type 1} → statement M
 put-ended-spec = tie.close (tie.spec put-number-requires put-byte-requires same-length returns)

@@ -39,10 +39,22 @@ returns c =
     let z₃ = z₄ .before .before .before .before in
     let z₂ = z₃ .before .before .before .before .before in
     let z₁ = z₂ .before .before .before .before in
-    let kind = rw (z₃ .before .letter .ensures) at (wrote-then (z₃ .put-byte .ensures) (z₄ .put-byte2 .ensures)) in
-    let tail = wrote-then kind (wrote-then (z₅ .put-ended3 .ensures .0) (z₆ .put-ended4 .ensures .0)) in (
+    let kind = rw (z₃ .before .letter .ensures) at
+    (wrote-then (z₃ .put-byte .ensures) (z₄ .put-byte2 .ensures)) in
+    let tail =
+    wrote-then kind (wrote-then (z₅ .put-ended3 .ensures .0) (z₆ .put-ended4 .ensures .0)) in (
       wrote-then (z₁ .put-ended .ensures .0) (wrote-then (z₂ .put-ended2 .ensures .0) tail),
-      omega (arith, z₁ .put-ended .ensures .1, z₂ .put-ended2 .ensures .1, z₃ .put-byte .ensures .next, z₄ .put-byte2 .ensures .next, z₅ .put-ended3 .ensures .1, z₆ .put-ended4 .ensures .1),
+      omega (
+        arith,
+        z₁ .put-ended .ensures .1,
+        z₂ .put-ended2 .ensures .1,
+        z₃ .put-byte .ensures
+            .next,
+        z₄ .put-byte2 .ensures .next,
+        z₅ .put-ended3 .ensures .1,
+        z₆ .put-ended4 .ensures
+            .1,
+      ),
     )
 
 pub put-row-spec : {M : Type 1} → statement M

@@ -1,4 +1,5 @@
--- `printing::put_rows` meets its contract. The loop's invariant: the lines of the first `i` rows are put.
+-- `printing::put_rows` meets its contract. The loop's invariant: the lines of the first `i` rows
+-- are put.
 use mathlib.Core.Path.{_≡_}
 use Prim.Native.Nat.{_+_, _*_, _-_, _≤_}
 use native.Mathlib.Omega.{arith}
@@ -60,7 +61,8 @@ loop-again c =
     let w = c .before .before .put-row .ensures in (
       search needs,
       omega (arith, w .1, l .loop .inv .1),
-      rw (rows-more (s .args .tree) (l .loop .i) (s .args .rows .now) (search needs)) (wrote-then (l .loop .inv .2) (w .0)),
+      rw (rows-more (s .args .tree) (l .loop .i) (s .args .rows .now) (search needs))
+          (wrote-then (l .loop .inv .2) (w .0)),
     )
 
 same-length : tie.Need-same-length Inv-loop μ-loop

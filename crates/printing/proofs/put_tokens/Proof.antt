@@ -1,4 +1,5 @@
--- `printing::put_tokens` meets its contract. The loop's invariant: the lines of the first `i` tokens are put.
+-- `printing::put_tokens` meets its contract. The loop's invariant: the lines of the first `i`
+-- tokens are put.
 use mathlib.Core.Path.{_≡_}
 use Prim.Native.Nat.{_+_, _*_, _-_, _≤_}
 use native.Mathlib.Omega.{arith}
@@ -40,11 +41,13 @@ loop-again : tie.Need-loop-again Inv-loop μ-loop
 loop-again c =
     let l = c .before .before .before .before .before .before in
     let s = l .before .before in
-    let n : length (s .args .t3 .tokens) ≡ 64 = simp length-map at (s .good .1 .1 .0 .1 .1 .0 .1 .0 .1) in
+    let n : length (s .args .t3 .tokens) ≡ 64 =
+    simp length-map at (s .good .1 .1 .0 .1 .1 .0 .1 .0 .1) in
     let w = c .before .before .put-token .ensures in (
       search needs,
       omega (arith, w .1, l .loop .inv .1),
-      rw (tokens-more (s .args .t3 .tokens) (l .loop .i) no-token (omega (arith, s .pre))) (wrote-then (l .loop .inv .2) (w .0)),
+      rw (tokens-more (s .args .t3 .tokens) (l .loop .i) no-token (omega (arith, s .pre)))
+          (wrote-then (l .loop .inv .2) (w .0)),
     )
 
 same-length : tie.Need-same-length Inv-loop μ-loop

@@ -1,4 +1,5 @@
--- The loop's invariant: the words are loose at the token before j, and the terminals before the next one are refuted there; the measure is j.
+-- The loop's invariant: the words are loose at the token before j, and the terminals before the
+-- next one are refuted there; the measure is j.
 use borrow.Author.Tests.{not-true, not-false}
 use mathlib.Core.Path.{_≡_, refl, _∙_, subst}
 use Prim.Native.Nat.{ℕ, _-_, _*_, _≤_, _<_}
@@ -53,58 +54,94 @@ calls t = (
 )
 
 abbrev terms-Inv-loop : terms-lts.InvT-loop
-terms-Inv-loop codes set kept table c n b h j words₀ i x₀ words x = Past (2 * pairs n) words₀ words × Loose (decoded codes) set n b i (cells c 0 n) words × Below (decoded codes) set n h b i x (cells c 0 n) × (x ≤ 64)
+terms-Inv-loop codes set kept table c n b h j words₀ i x₀ words x = Past (2 * pairs n) words₀ words
+    × Loose (decoded codes) set n b i (cells c 0 n) words
+    × Below (decoded codes) set n h b i x (cells c 0 n) × (x ≤ 64)
 
 abbrev terms-μ-loop : terms-lts.MeasureT-loop
 terms-μ-loop codes set kept table c n b h j words₀ i x₀ words x = 64 - x
 
-terms-positions-requires : (t : ℕ) → terms-lts.Need-positions-requires (calls t) (terms-at t) terms.Post terms-Inv-loop terms-μ-loop
+terms-positions-requires : (t : ℕ)
+    → terms-lts.Need-positions-requires (calls t) (terms-at t) terms.Post terms-Inv-loop
+    terms-μ-loop
 terms-positions-requires t c κs =
-    let z = c .before .before .before .before .before in
-    ((z .pre .1 .0 .0, omega (arith, z .pre .1 .0), z .pre .1 .0 .3, z .pre .1 .0 .4), (z .pre .1 .1 .0, (z .pre .1 .1 .1 .0, standing-of (c .before .if1 .taken) (z .pre .1 .1 .1 .1 .1))))
+    let z = c .before .before .before .before .before in (
+      (z .pre .1 .0 .0, omega (arith, z .pre .1 .0), z .pre .1 .0 .3, z .pre .1 .0 .4),
+      (
+        z .pre .1 .1 .0,
+        (
+          z .pre .1 .1 .1 .0,
+          standing-of (c .before .if1 .taken)
+              (z .pre .1 .1 .1 .1 .1),
+        ),
+      ),
+    )
 
-terms-same-length : (t : ℕ) → terms-lts.Need-same-length (calls t) (terms-at t) terms.Post terms-Inv-loop terms-μ-loop
+terms-same-length : (t : ℕ) → terms-lts.Need-same-length (calls t) (terms-at t) terms.Post
+    terms-Inv-loop terms-μ-loop
 terms-same-length t c = c .before .before .positions .ensures .past .long
 
-terms-returns : (t : ℕ) → terms-lts.Need-returns (calls t) (terms-at t) terms.Post terms-Inv-loop terms-μ-loop
-terms-returns t c = done-of (c .before .before .before .before .if1 .taken) (c .before .before .positions .ensures)
+terms-returns : (t : ℕ) → terms-lts.Need-returns (calls t) (terms-at t) terms.Post terms-Inv-loop
+    terms-μ-loop
+terms-returns t c =
+    done-of (c .before .before .before .before .if1 .taken) (c .before .before .positions .ensures)
 
-terms-sub-i : (t : ℕ) → terms-lts.Need-sub-i (calls t) (terms-at t) terms.Post terms-Inv-loop terms-μ-loop
+terms-sub-i : (t : ℕ) → terms-lts.Need-sub-i (calls t) (terms-at t) terms.Post terms-Inv-loop
+    terms-μ-loop
 terms-sub-i t c = omega (arith, c .if1 .left, c .before .before .before .before .pre .1 .0 .1)
 
-terms-loop-holds : (t : ℕ) → terms-lts.Need-loop-holds (calls t) (terms-at t) terms.Post terms-Inv-loop terms-μ-loop
+terms-loop-holds : (t : ℕ) → terms-lts.Need-loop-holds (calls t) (terms-at t) terms.Post
+    terms-Inv-loop terms-μ-loop
 terms-loop-holds t c =
-    let z = c .before .before .before .before in
-    (past-same _ _, poised-down refl (z .pre .1 .0 .1) (z .pre .1 .0 .2) (c .if1 .left) (z .pre .1 .1 .1 .1 .1), below-none, omega arith)
+    let z = c .before .before .before .before in (
+      past-same _ _,
+      poised-down refl (z .pre .1 .0 .1) (z .pre .1 .0 .2) (c .if1 .left)
+          (z .pre .1 .1 .1 .1 .1),
+      below-none,
+      omega arith,
+    )
 
-terms-has-requires : (t : ℕ) → terms-lts.Need-has-requires (calls t) (terms-at t) terms.Post terms-Inv-loop terms-μ-loop
+terms-has-requires : (t : ℕ) → terms-lts.Need-has-requires (calls t) (terms-at t) terms.Post
+    terms-Inv-loop terms-μ-loop
 terms-has-requires t c κs = c .loop-test .taken
 
-terms-add-x : (t : ℕ) → terms-lts.Need-add-x (calls t) (terms-at t) terms.Post terms-Inv-loop terms-μ-loop
+terms-add-x : (t : ℕ) → terms-lts.Need-add-x (calls t) (terms-at t) terms.Post terms-Inv-loop
+    terms-μ-loop
 terms-add-x t c = record { fits = omega (arith, c .before .before .loop-test .taken) }
 
-terms-loop-less : (t : ℕ) → terms-lts.Need-loop-less (calls t) (terms-at t) terms.Post terms-Inv-loop terms-μ-loop
+terms-loop-less : (t : ℕ) → terms-lts.Need-loop-less (calls t) (terms-at t) terms.Post
+    terms-Inv-loop terms-μ-loop
 terms-loop-less t c = omega (arith, c .before .before .loop-test .taken)
 
-terms-loop-again : (t : ℕ) → terms-lts.Need-loop-again (calls t) (terms-at t) terms.Post terms-Inv-loop terms-μ-loop
+terms-loop-again : (t : ℕ) → terms-lts.Need-loop-again (calls t) (terms-at t) terms.Post
+    terms-Inv-loop terms-μ-loop
 terms-loop-again t c =
     let z = c .before .before .before .before .before .before .before .before in
     let a = z .args in
     let far = c .before .before .before .before .if1 .left in
     let low : a .b ≤ a .j - 1 = omega (arith, far, z .pre .1 .0 .1) in
     let h : a .j - 1 < a .n = omega (arith, far, z .pre .1 .0) in
-    let l = c .before .before .before .loop in
-    (l .inv .0, l .inv .1, below-skip (z .pre .1 .0 .5) (omega (arith, low, z .pre .1 .0 .4)) h (c .before .has .ensures .isnt (not-true _ (c .if2 .taken))) (l .inv .2), omega (arith, c .before .before .loop-test .taken))
+    let l = c .before .before .before .loop in (
+      l .inv .0,
+      l .inv .1,
+      below-skip (z .pre .1 .0 .5) (omega (arith, low, z .pre .1 .0 .4)) h
+          (c .before .has .ensures .isnt (not-true _ (c .if2 .taken))) (l .inv .2),
+      omega
+          (arith, c .before .before .loop-test .taken),
+    )
 
-terms-turned-requires : (t : ℕ) → terms-lts.Need-turned-requires (calls t) (terms-at t) terms.Post terms-Inv-loop terms-μ-loop
+terms-turned-requires : (t : ℕ)
+    → terms-lts.Need-turned-requires (calls t) (terms-at t) terms.Post terms-Inv-loop terms-μ-loop
 terms-turned-requires t c κs =
     let z = c .before .before .before .before .before .before .before .before in
     let a = z .args in
     let far = c .before .before .before .before .if1 .left in
     let low : a .b ≤ a .j - 1 = omega (arith, far, z .pre .1 .0 .1) in
-    let h : a .j - 1 < a .n = omega (arith, far, z .pre .1 .0) in ((z .pre .1 .0 .0, h), z .pre .1 .0 .3)
+    let h : a .j - 1 < a .n = omega (arith, far, z .pre .1 .0) in
+    ((z .pre .1 .0 .0, h), z .pre .1 .0 .3)
 
-terms-struck-requires : (t : ℕ) → terms-lts.Need-struck-requires (calls t) (terms-at t) terms.Post terms-Inv-loop terms-μ-loop
+terms-struck-requires : (t : ℕ)
+    → terms-lts.Need-struck-requires (calls t) (terms-at t) terms.Post terms-Inv-loop terms-μ-loop
 terms-struck-requires t c κs =
     let z = c .before .before .before .before .before .before .before .before .before .before in
     let a = z .args in
@@ -113,71 +150,180 @@ terms-struck-requires t c κs =
     let h : a .j - 1 < a .n = omega (arith, far, z .pre .1 .0) in
     let l = c .before .before .before .before .before .loop in
     let m = c .before .turned .ensures in
-    let x = c .before .before .before .before .loop-test .taken in
-    ((z .pre .1 .0 .0, low, h, m .1), (z .pre .1 .1 .0, (omega (arith, l .inv .0 .long, z .pre .1 .1 .1 .0), ((z .pre .1 .1 .1 .1 .0, z .pre .1 .0 .5 .part _ (x, c .before .before .before .has .ensures .is (not-false _ (c .before .before .if2 .left))), m .0 .terminal), loose-turned low (m .0) (l .inv .1)))))
+    let x = c .before .before .before .before .loop-test .taken in (
+      (z .pre .1 .0 .0, low, h, m .1),
+      (
+        z .pre .1 .1 .0,
+        (
+          omega (arith, l .inv .0 .long, z .pre .1 .1 .1 .0),
+          (
+            (
+              z .pre .1 .1 .1 .1 .0,
+              z .pre .1 .0 .5 .part _ (
+                x,
+                c .before .before .before .has .ensures .is
+                    (not-false _ (c .before .before .if2 .left)),
+              ),
+              m .0 .terminal,
+            ),
+            loose-turned low
+                (m .0) (l .inv .1),
+          ),
+        ),
+      ),
+    )
 
-terms-add-x-2 : (t : ℕ) → terms-lts.Need-add-x-2 (calls t) (terms-at t) terms.Post terms-Inv-loop terms-μ-loop
-terms-add-x-2 t c = record { fits = omega (arith, c .before .before .before .before .before .before .before .before .loop-test .taken) }
+terms-add-x-2 : (t : ℕ) → terms-lts.Need-add-x-2 (calls t) (terms-at t) terms.Post terms-Inv-loop
+    terms-μ-loop
+terms-add-x-2 t c = record {
+  fits = omega
+      (arith, c .before .before .before .before .before .before .before .before .loop-test .taken);
+}
 
-terms-loop-less-2 : (t : ℕ) → terms-lts.Need-loop-less-2 (calls t) (terms-at t) terms.Post terms-Inv-loop terms-μ-loop
-terms-loop-less-2 t c = omega (arith, c .before .before .before .before .before .before .before .before .loop-test .taken)
+terms-loop-less-2 : (t : ℕ) → terms-lts.Need-loop-less-2 (calls t) (terms-at t) terms.Post
+    terms-Inv-loop terms-μ-loop
+terms-loop-less-2 t c = omega (
+  arith,
+  c .before .before .before .before .before .before .before
+      .before .loop-test .taken,
+)
 
-terms-loop-again-2 : (t : ℕ) → terms-lts.Need-loop-again-2 (calls t) (terms-at t) terms.Post terms-Inv-loop terms-μ-loop
+terms-loop-again-2 : (t : ℕ) → terms-lts.Need-loop-again-2 (calls t) (terms-at t) terms.Post
+    terms-Inv-loop terms-μ-loop
 terms-loop-again-2 t c =
-    let z = c .before .before .before .before .before .before .before .before .before .before .before .before .before .before in
+    let z = c .before .before .before .before .before .before .before .before .before .before
+    .before .before .before .before in
     let a = z .args in
-    let far = c .before .before .before .before .before .before .before .before .before .before .if1 .left in
+    let far = c .before .before .before .before .before .before .before .before .before .before .if1
+    .left in
     let low : a .b ≤ a .j - 1 = omega (arith, far, z .pre .1 .0 .1) in
     let h : a .j - 1 < a .n = omega (arith, far, z .pre .1 .0) in
     let l = c .before .before .before .before .before .before .before .before .before .loop in
     let m = c .before .before .before .before .before .turned .ensures .0 in
-    let r = c .before .before .before .struck .ensures in
-    (past-then (l .inv .0) (r .past), poised-back low h m (r .stays), below-more low m (r .out (c .if3 .taken) (a .h)) (l .inv .2), omega (arith, c .before .before .before .before .before .before .before .before .loop-test .taken))
+    let r = c .before .before .before .struck .ensures in (
+      past-then (l .inv .0) (r .past),
+      poised-back low h m (r .stays),
+      below-more low m
+          (r .out (c .if3 .taken) (a .h)) (l .inv .2),
+      omega (
+        arith,
+        c .before .before .before .before .before .before .before .before .loop-test
+            .taken,
+      ),
+    )
 
-terms-terms-requires : (t : ℕ) → terms-lts.Need-terms-requires (calls t) (terms-at t) terms.Post terms-Inv-loop terms-μ-loop
+terms-terms-requires : (t : ℕ) → terms-lts.Need-terms-requires (calls t) (terms-at t) terms.Post
+    terms-Inv-loop terms-μ-loop
 terms-terms-requires t c κs =
-    let z = c .before .before .before .before .before .before .before .before .before .before .before .before .before .before .before in
+    let z = c .before .before .before .before .before .before .before .before .before .before
+    .before .before .before .before .before in
     let a = z .args in
-    let far = c .before .before .before .before .before .before .before .before .before .before .before .if1 .left in
+    let far = c .before .before .before .before .before .before .before .before .before .before
+    .before .if1 .left in
     let low : a .b ≤ a .j - 1 = omega (arith, far, z .pre .1 .0 .1) in
     let h : a .j - 1 < a .n = omega (arith, far, z .pre .1 .0) in
-    let l = c .before .before .before .before .before .before .before .before .before .before .loop in
+    let l = c .before .before .before .before .before .before .before .before .before .before
+    .loop in
     let m = c .before .before .before .before .before .before .turned .ensures in
-    let r = c .before .before .before .before .struck .ensures in
-    (omega (arith, z .pre .0, far, z .pre .1 .0 .1), ((z .pre .1 .0 .0, low, omega (arith, h), m .1, z .pre .1 .0 .4, z .pre .1 .0 .5), (z .pre .1 .1 .0, (omega (arith, r .past .long, l .inv .0 .long, z .pre .1 .1 .1 .0), (z .pre .1 .1 .1 .1 .0, r .stays)))))
+    let r = c .before .before .before .before .struck .ensures in (
+      omega (arith, z .pre .0, far, z .pre .1 .0 .1),
+      (
+        (z .pre .1 .0 .0, low, omega (arith, h), m .1, z .pre .1 .0 .4, z .pre .1 .0 .5),
+        (
+          z .pre .1 .1 .0,
+          (
+            omega (arith, r .past .long, l .inv .0 .long, z .pre .1 .1 .1 .0),
+            (z .pre .1 .1 .1 .1 .0, r .stays),
+          ),
+        ),
+      ),
+    )
 
-terms-same-length-2 : (t : ℕ) → terms-lts.Need-same-length-2 (calls t) (terms-at t) terms.Post terms-Inv-loop terms-μ-loop
-terms-same-length-2 t c = c .before .before .before .terms .ensures .past .long ∙ c .before .before .before .before .before .before .before .before .struck .ensures .past .long ∙ c .before .before .before .before .before .before .before .before .before .before .before .before .before .before .loop .inv .0 .long
+terms-same-length-2 : (t : ℕ) → terms-lts.Need-same-length-2 (calls t) (terms-at t) terms.Post
+    terms-Inv-loop terms-μ-loop
+terms-same-length-2 t c = c .before .before .before .terms .ensures .past .long
+    ∙ c .before .before .before .before .before .before .before .before .struck .ensures .past .long
+    ∙ c .before .before .before .before .before .before .before .before .before .before .before
+    .before .before .before .loop .inv .0 .long
 
-terms-returns-2 : (t : ℕ) → terms-lts.Need-returns-2 (calls t) (terms-at t) terms.Post terms-Inv-loop terms-μ-loop
-terms-returns-2 t c = record { out = λ e. absurd (true-not-false e); stays = λ e. absurd (true-not-false e); past = past-then (c .before .before .before .before .before .before .before .before .before .before .before .before .before .before .loop .inv .0) (past-then (c .before .before .before .before .before .before .before .before .struck .ensures .past) (c .before .before .before .terms .ensures .past)) }
+terms-returns-2 : (t : ℕ) → terms-lts.Need-returns-2 (calls t) (terms-at t) terms.Post
+    terms-Inv-loop terms-μ-loop
+terms-returns-2 t c = record {
+  out = λ e. absurd (true-not-false e);
+  stays = λ e. absurd
+      (true-not-false e);
+  past = past-then
+      (c .before .before .before .before .before .before .before .before .before .before .before
+      .before .before .before .loop .inv .0)
+      (past-then (c .before .before .before .before .before .before .before .before
+      .struck .ensures .past) (c .before .before .before .terms .ensures .past));
+}
 
-terms-add-x-3 : (t : ℕ) → terms-lts.Need-add-x-3 (calls t) (terms-at t) terms.Post terms-Inv-loop terms-μ-loop
-terms-add-x-3 t c = record { fits = omega (arith, c .before .before .before .before .before .before .before .before .before .before .before .before .before .loop-test .taken) }
+terms-add-x-3 : (t : ℕ) → terms-lts.Need-add-x-3 (calls t) (terms-at t) terms.Post terms-Inv-loop
+    terms-μ-loop
+terms-add-x-3 t c = record {
+  fits = omega (
+    arith,
+    c .before .before .before .before .before .before .before .before .before .before
+        .before .before .before .loop-test .taken,
+  );
+}
 
-terms-loop-less-3 : (t : ℕ) → terms-lts.Need-loop-less-3 (calls t) (terms-at t) terms.Post terms-Inv-loop terms-μ-loop
-terms-loop-less-3 t c = omega (arith, c .before .before .before .before .before .before .before .before .before .before .before .before .before .loop-test .taken)
+terms-loop-less-3 : (t : ℕ) → terms-lts.Need-loop-less-3 (calls t) (terms-at t) terms.Post
+    terms-Inv-loop terms-μ-loop
+terms-loop-less-3 t c = omega (
+  arith,
+  c .before .before .before .before .before .before .before
+      .before .before .before .before .before .before .loop-test .taken,
+)
 
-terms-loop-again-3 : (t : ℕ) → terms-lts.Need-loop-again-3 (calls t) (terms-at t) terms.Post terms-Inv-loop terms-μ-loop
+terms-loop-again-3 : (t : ℕ) → terms-lts.Need-loop-again-3 (calls t) (terms-at t) terms.Post
+    terms-Inv-loop terms-μ-loop
 terms-loop-again-3 t c =
-    let z = c .before .before .before .before .before .before .before .before .before .before .before .before .before .before .before .before .before .before .before in
+    let z = c .before .before .before .before .before .before .before .before .before .before
+    .before .before .before .before .before .before .before .before .before in
     let a = z .args in
-    let far = c .before .before .before .before .before .before .before .before .before .before .before .before .before .before .before .if1 .left in
+    let far = c .before .before .before .before .before .before .before .before .before .before
+    .before .before .before .before .before .if1 .left in
     let low : a .b ≤ a .j - 1 = omega (arith, far, z .pre .1 .0 .1) in
     let h : a .j - 1 < a .n = omega (arith, far, z .pre .1 .0) in
-    let l = c .before .before .before .before .before .before .before .before .before .before .before .before .before .before .loop in
-    let m = c .before .before .before .before .before .before .before .before .before .before .turned .ensures .0 in
+    let l = c .before .before .before .before .before .before .before .before .before .before
+    .before .before .before .before .loop in
+    let m = c .before .before .before .before .before .before .before .before .before .before
+    .turned .ensures .0 in
     let r = c .before .before .before .before .before .before .before .before .struck .ensures in
-    let q = c .before .before .before .terms .ensures in
-    (past-then (l .inv .0) (past-then (r .past) (q .past)), poised-back low h m (q .stays (c .if4 .left)), below-more low m (q .out (c .if4 .left)) (l .inv .2), omega (arith, c .before .before .before .before .before .before .before .before .before .before .before .before .before .loop-test .taken))
+    let q = c .before .before .before .terms .ensures in (
+      past-then (l .inv .0) (past-then (r .past) (q .past)),
+      poised-back low h m
+          (q .stays (c .if4 .left)),
+      below-more low m (q .out (c .if4 .left)) (l .inv .2),
+      omega (
+        arith,
+        c .before .before .before .before .before .before .before .before .before
+            .before .before .before .before .loop-test .taken,
+      ),
+    )
 
-terms-shared-slice-read-give : (t : ℕ) → terms-lts.Need-shared-slice-read-give (calls t) (terms-at t) terms.Post terms-Inv-loop terms-μ-loop
-terms-shared-slice-read-give t c = omega (arith, c .before .before .before .before .before .before .before .before .pre .1 .1 .1 .1 .0 .long)
+terms-shared-slice-read-give : (t : ℕ)
+    → terms-lts.Need-shared-slice-read-give (calls t) (terms-at t) terms.Post terms-Inv-loop
+    terms-μ-loop
+terms-shared-slice-read-give t c = omega (
+  arith,
+  c .before .before .before .before .before .before .before .before .pre .1 .1 .1 .1 .0
+      .long,
+)
 
-terms-shared-slice-read-give-2 : (t : ℕ) → terms-lts.Need-shared-slice-read-give-2 (calls t) (terms-at t) terms.Post terms-Inv-loop terms-μ-loop
-terms-shared-slice-read-give-2 t c = omega (arith, c .before .before .before .before .before .before .before .before .before .pre .1 .1 .1 .1 .0 .long)
+terms-shared-slice-read-give-2 : (t : ℕ)
+    → terms-lts.Need-shared-slice-read-give-2 (calls t) (terms-at t) terms.Post terms-Inv-loop
+    terms-μ-loop
+terms-shared-slice-read-give-2 t c = omega (
+  arith,
+  c .before .before .before .before .before .before .before .before .before .pre .1 .1 .1
+      .1 .0 .long,
+)
 
-terms-give-requires : (t : ℕ) → terms-lts.Need-give-requires (calls t) (terms-at t) terms.Post terms-Inv-loop terms-μ-loop
+terms-give-requires : (t : ℕ) → terms-lts.Need-give-requires (calls t) (terms-at t) terms.Post
+    terms-Inv-loop terms-μ-loop
 terms-give-requires t c κs =
     let l = c .before .before .before in
     let z = l .before .before .before .before .before .before in
@@ -185,18 +331,23 @@ terms-give-requires t c κs =
     let h : a .j - 1 < a .n = omega (arith, l .before .before .if1 .left, z .pre .1 .0) in
     ((z .pre .1 .0 .0, h), omega (arith, l .before .loop .inv .0 .long, z .pre .1 .1 .1 .0))
 
-terms-same-length-3 : (t : ℕ) → terms-lts.Need-same-length-3 (calls t) (terms-at t) terms.Post terms-Inv-loop terms-μ-loop
-terms-same-length-3 t c = c .before .before .give .ensures .kept .long ∙ c .before .before .before .before .before .before .before .loop .inv .0 .long
+terms-same-length-3 : (t : ℕ) → terms-lts.Need-same-length-3 (calls t) (terms-at t) terms.Post
+    terms-Inv-loop terms-μ-loop
+terms-same-length-3 t c = c .before .before .give .ensures .kept .long
+    ∙ c .before .before .before .before .before .before .before .loop .inv .0 .long
 
-terms-returns-3 : (t : ℕ) → terms-lts.Need-returns-3 (calls t) (terms-at t) terms.Post terms-Inv-loop terms-μ-loop
+terms-returns-3 : (t : ℕ) → terms-lts.Need-returns-3 (calls t) (terms-at t) terms.Post
+    terms-Inv-loop terms-μ-loop
 terms-returns-3 t c =
     let v = c .before .before .before .before .before .before in
     let l = v .before .loop in
     let z = v .before .before .before .before .before .before in
     let a = z .args in
     let e : l .x ≡ 64 = omega (arith, l .inv .3, v .loop-test .left) in
-    let below = subst (λ (x : ℕ). Below (decoded (a .codes .now)) (a .set) (a .n) (a .h) (a .b) (a .j - 1) x (cells (a .c) 0 (a .n))) e (l .inv .2) in
-    done-full refl (z .pre .1 .0 .1) (z .pre .1 .0 .2) (v .before .before .if1 .left) (l .inv .0) (l .inv .1) below (c .before .before .give .ensures) (z .pre .1 .1 .1 .1 .0 .any)
+    let below = subst (λ (x : ℕ). Below (decoded (a .codes .now)) (a .set) (a .n) (a .h) (a .b)
+    (a .j - 1) x (cells (a .c) 0 (a .n))) e (l .inv .2) in
+    done-full refl (z .pre .1 .0 .1) (z .pre .1 .0 .2) (v .before .before .if1 .left) (l .inv .0)
+    (l .inv .1) below (c .before .before .give .ensures) (z .pre .1 .1 .1 .1 .0 .any)
 
 pub +terms-spec : {M : Type 1} → statement M
 +terms-spec = close μ-terms λ t. terms-lts.spec (calls t)

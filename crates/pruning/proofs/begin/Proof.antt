@@ -10,11 +10,14 @@ use Rattle.pruning.proofs.begin.Tie as tie
 
 lay-requires : tie.Need-lay-requires
 lay-requires c κs =
-    let z = c .before .before .before .before in
-    ((z .pre .0 .0, small-cells (z .pre .0 .1) (z .pre .0 .2)), (z .pre .1 .1 .0, z .pre .1 .1 .1 .long))
+    let z = c .before .before .before .before in (
+      (z .pre .0 .0, small-cells (z .pre .0 .1) (z .pre .0 .2)),
+      (z .pre .1 .1 .0, z .pre .1 .1 .1 .long),
+    )
 
 draft-requires : tie.Need-draft-requires
-draft-requires c κs = let z = c .before .before .before .before .before .before .before in (z .pre .0 .0, low-steps (z .pre .0 .2))
+draft-requires c κs = let z = c .before .before .before .before .before .before .before in
+    (z .pre .0 .0, low-steps (z .pre .0 .2))
 
 fill-requires : tie.Need-fill-requires
 fill-requires c κs =
@@ -27,7 +30,8 @@ fill-requires c κs =
         rw (e .1) (omega (arith, z .pre .1 .1 .0, l .tokens .past .long)),
         (
           z .pre .1 .0,
-          laid-ready (d .result) (z .pre .0 .1) (z .pre .0 .2) (e .0) (e .1) (e .2) (z .pre .1 .1 .1) l,
+          laid-ready (d .result) (z .pre .0 .1) (z .pre .0 .2) (e .0) (e .1) (e .2)
+              (z .pre .1 .1 .1) l,
         ),
       ),
     )
@@ -37,12 +41,16 @@ same-length c = search needs
 
 returns : tie.Need-returns
 returns c =
-    let z = c .before .before .before .before .before .before .before .before .before .before .before .before in
+    let z = c .before .before .before .before .before .before .before .before .before .before
+    .before .before in
     let d = c .before .before .before .before .draft in
     let e = d .ensures in
     let l = c .before .before .before .before .before .before .before .lay .ensures in
-    let f = c .before .before .fill .ensures in
-    (poised-start (d .result) (z .pre .0 .1) (e .0) (e .1) (e .2) (z .pre .1 .1 .1) l f, past-then (l .tokens .past) (charted-past (d .result) (e .1) f))
+    let f = c .before .before .fill .ensures in (
+      poised-start (d .result) (z .pre .0 .1) (e .0) (e .1) (e .2) (z .pre .1 .1 .1) l f,
+      past-then
+          (l .tokens .past) (charted-past (d .result) (e .1) f),
+    )
 
 pub begin-spec : {M : Type 1} → statement M
 begin-spec = tie.close (tie.spec lay-requires draft-requires fill-requires same-length returns)

@@ -24,7 +24,8 @@ returns c =
     let w = c .before .before .before .before .before .before in
     let l = w .before .before .before .before in
     let e = l .before .before in
-    tabled-of (e .before .before .before .pre .1) (l .leaves .ensures) (e .empty-pair .ensures) (w .write .ensures) (c .before .before .write2 .ensures)
+    tabled-of (e .before .before .before .pre .1) (l .leaves .ensures) (e .empty-pair .ensures)
+    (w .write .ensures) (c .before .before .write2 .ensures)
 
 pub fill-table-spec : {M : Type 1} → statement M
 fill-table-spec =

@@ -18,8 +18,11 @@ same-length c = search needs
 returns : tie.Need-returns
 returns c =
     let p = c .before .before .before .before in
-    let a = p .before .before .before .before .before .args in
-    (two-read (cells (a .c) 0 (a .n)) (cells-size (a .c) 0 (a .n)) (p .begin .ensures .0) (c .in-second .ensures), p .begin .ensures .1)
+    let a = p .before .before .before .before .before .args in (
+      two-read (cells (a .c) 0 (a .n)) (cells-size (a .c) 0 (a .n)) (p .begin .ensures .0)
+          (c .in-second .ensures),
+      p .begin .ensures .1,
+    )
 
 pub has-two-spec : {M : Type 1} → statement M
 has-two-spec = tie.close (tie.spec begin-requires in-second-requires same-length returns)

@@ -33,7 +33,8 @@ mul-give : tie.Need-mul-give Inv-loop μ-loop
 mul-give c = omega (arith, low (c .before))
 
 shared-slice-read-give : tie.Need-shared-slice-read-give Inv-loop μ-loop
-shared-slice-read-give c = let s = c .before .before in omega (arith, low s, s .before .before .before .before .before .pre .1 .1)
+shared-slice-read-give c = let s = c .before .before in
+    omega (arith, low s, s .before .before .before .before .before .pre .1 .1)
 
 add-give : tie.Need-add-give Inv-loop μ-loop
 add-give c = omega (arith, low (c .before .before))
@@ -42,13 +43,17 @@ mul-give-2 : tie.Need-mul-give-2 Inv-loop μ-loop
 mul-give-2 c = omega (arith, low (c .before .before))
 
 shared-slice-read-give-2 : tie.Need-shared-slice-read-give-2 Inv-loop μ-loop
-shared-slice-read-give-2 c = let s = c .before .before .before in omega (arith, low s, s .before .before .before .before .before .pre .1 .1)
+shared-slice-read-give-2 c = let s = c .before .before .before in
+    omega (arith, low s, s .before .before .before .before .before .pre .1 .1)
 
 give-requires : tie.Need-give-requires Inv-loop μ-loop
 give-requires c κs =
     let i = c .before .before .before .before in
-    let z = i .before .before .before .before in
-    ((z .pre .0 .0, i .loop-test .taken), omega (arith, i .before .loop .inv .past .long, z .pre .1 .0))
+    let z = i .before .before .before .before in (
+      (z .pre .0 .0, i .loop-test .taken),
+      omega
+          (arith, i .before .loop .inv .past .long, z .pre .1 .0),
+    )
 
 add-i : tie.Need-add-i Inv-loop μ-loop
 add-i c = search needs
@@ -59,7 +64,8 @@ loop-less c = search needs
 loop-again : tie.Need-loop-again Inv-loop μ-loop
 loop-again c =
     let s = c .before .before .before .before .before .before in
-    laid-more (s .before .loop-test .taken) (s .slot .ensures) (s .before .before .loop .inv) (c .before .before .give .ensures)
+    laid-more (s .before .loop-test .taken) (s .slot .ensures) (s .before .before .loop .inv)
+    (c .before .before .give .ensures)
 
 shared-slice-read-write : tie.Need-shared-slice-read-write Inv-loop μ-loop
 shared-slice-read-write c = search needs
@@ -74,12 +80,14 @@ write-requires c κs =
     omega (arith, l .loop .inv .past .long, z .pre .1 .0, pairs-closed (z .args .n))
 
 same-length : tie.Need-same-length Inv-loop μ-loop
-same-length c = let l = c .before .before .before .before .before .before .before in c .before .before .write .ensures .kept .long ∙ l .loop .inv .past .long
+same-length c = let l = c .before .before .before .before .before .before .before in
+    c .before .before .write .ensures .kept .long ∙ l .loop .inv .past .long
 
 returns : tie.Need-returns Inv-loop μ-loop
 returns c =
     let l = c .before .before .before .before .before .before in
-    laid-all (omega (arith, l .loop-test .left)) (l .before .loop .inv) (c .before .before .write .ensures)
+    laid-all (omega (arith, l .loop-test .left)) (l .before .loop .inv)
+    (c .before .before .write .ensures)
 
 pub lay-spec : {M : Type 1} → statement M
 lay-spec =

@@ -1,4 +1,5 @@
--- The loop's invariant: the table has the pairs of the terminals passed, and their union is gathered.
+-- The loop's invariant: the table has the pairs of the terminals passed, and their union is
+-- gathered.
 use borrow.Author.Needs.{needs}
 use borrow.Author.Tests.{not-true}
 use mathlib.Core.Path.{_≡_, subst}
@@ -11,7 +12,8 @@ use Rattle.pruning.proofs.leaves.Statement.{statement}
 use Rattle.pruning.proofs.leaves.Tie as tie
 
 abbrev Inv-loop : tie.InvT-loop
-Inv-loop codes set one two table₀ any₀ twice₀ x₀ table any twice x = (x ≤ 64) × Gathered (decoded codes) set x table₀ table any twice
+Inv-loop codes set one two table₀ any₀ twice₀ x₀ table any twice x =
+    (x ≤ 64) × Gathered (decoded codes) set x table₀ table any twice
 
 abbrev μ-loop : tie.MeasureT-loop
 μ-loop codes set one two table₀ any₀ twice₀ x₀ table any twice x = 64 - x
@@ -29,10 +31,16 @@ loop-less : tie.Need-loop-less Inv-loop μ-loop
 loop-less c = search needs
 
 loop-again : tie.Need-loop-again Inv-loop μ-loop
-loop-again c = (omega (arith, c .before .before .loop-test .taken), gathered-skip (c .before .before .before .loop .inv .1) (c .before .has .ensures .isnt (not-true _ (c .if1 .taken))))
+loop-again c = (
+  omega (arith, c .before .before .loop-test .taken),
+  gathered-skip
+      (c .before .before .before .loop .inv .1)
+      (c .before .has .ensures .isnt (not-true _ (c .if1 .taken))),
+)
 
 leaf-pair-requires : tie.Need-leaf-pair-requires Inv-loop μ-loop
-leaf-pair-requires c κs = let z = c .before .before .before .before .before .before in (z .pre .0, z .pre .1 .0)
+leaf-pair-requires c κs = let z = c .before .before .before .before .before .before in
+    (z .pre .0, z .pre .1 .0)
 
 cast-write : tie.Need-cast-write Inv-loop μ-loop
 cast-write c = search needs
@@ -40,7 +48,13 @@ cast-write c = search needs
 write-requires : tie.Need-write-requires Inv-loop μ-loop
 write-requires c κs =
     let i = c .before .before .before .before in
-    omega (arith, i .loop-test .taken, i .before .loop .inv .1 .past .long, i .before .before .before .before .pre .1 .1)
+    omega (
+      arith,
+      i .loop-test .taken,
+      i .before .loop .inv .1 .past .long,
+      i .before .before
+          .before .before .pre .1 .1,
+    )
 
 united-requires : tie.Need-united-requires Inv-loop μ-loop
 united-requires c κs = tt
@@ -60,7 +74,8 @@ loop-again-2 c =
     let l = w .before .before in
     let i = l .before .before .before in (
       omega (arith, i .loop-test .taken),
-      gathered-more (i .before .loop .inv .1) (i .loop-test .taken) (l .leaf-pair .ensures) (w .write .ensures) (c .before .united .ensures) (c .united2 .ensures),
+      gathered-more (i .before .loop .inv .1) (i .loop-test .taken) (l .leaf-pair .ensures)
+          (w .write .ensures) (c .before .united .ensures) (c .united2 .ensures),
     )
 
 same-length : tie.Need-same-length Inv-loop μ-loop
@@ -71,7 +86,8 @@ returns c =
     let a = c .before .before .before .before .args in
     let l = c .before .loop in
     let e : l .x ≡ 64 = omega (arith, l .inv .0, c .loop-test .left) in
-    subst (λ (x : ℕ). Gathered (decoded (a .codes .now)) (a .set) x (a .table .now) (l .table) (l .any) (l .twice)) e (l .inv .1)
+    subst (λ (x : ℕ). Gathered (decoded (a .codes .now)) (a .set) x (a .table .now) (l .table)
+    (l .any) (l .twice)) e (l .inv .1)
 
 pub leaves-spec : {M : Type 1} → statement M
 leaves-spec =

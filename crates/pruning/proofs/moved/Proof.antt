@@ -20,16 +20,36 @@ div-step : tie.Need-div-step
 div-step c = search needs
 
 cast-step : tie.Need-cast-step
-cast-step c = let z = c .before in record { fits = omega (arith, steps (z .args .n) (z .args .k) (omega (arith, z .pre .0)) (z .pre .0 .2)) }
+cast-step c = let z = c .before in
+    record {
+      fits =
+          omega (arith, steps (z .args .n) (z .args .k) (omega (arith, z .pre .0)) (z .pre .0 .2));
+    }
 
 rem-column : tie.Need-rem-column
 rem-column c = search needs
 
 add-column : tie.Need-add-column
-add-column c = let z = c .before in record { fits = omega (arith, mod-lt (z .args .k) (let p : 0 < z .args .n = omega (arith, z .pre .0) in p), z .pre .0) }
+add-column c = let z = c .before in
+    record {
+      fits = omega (
+        arith,
+        mod-lt (z .args .k)
+            (let p : 0 < z .args .n = omega (arith, z .pre .0) in p),
+        z .pre .0,
+      );
+    }
 
 cast-column : tie.Need-cast-column
-cast-column c = let z = c .before in record { fits = omega (arith, mod-lt (z .args .k) (let p : 0 < z .args .n = omega (arith, z .pre .0) in p), z .pre .0) }
+cast-column c = let z = c .before in
+    record {
+      fits = omega (
+        arith,
+        mod-lt (z .args .k)
+            (let p : 0 < z .args .n = omega (arith, z .pre .0) in p),
+        z .pre .0,
+      );
+    }
 
 with-requires : tie.Need-with-requires
 with-requires c κs = search needs
@@ -39,8 +59,13 @@ returns c =
     let z = c .before .before in
     let a = z .args in
     let ch = c .with .ensures in
-    let l = steps (a .n) (a .k) (omega (arith, z .pre .0)) (z .pre .0 .2) in
-    (moved-of (a .c) (c .with .result) (a .n) (a .i) _ (z .pre .0 .1) ch (a .k) (ap (λ (x : Cell). x .terminal) (c .before .cell .ensures)) refl refl, low-changed (a .c) (c .with .result) (a .n) (a .i) _ ch (omega (arith, l)) (z .pre .1))
+    let l = steps (a .n) (a .k) (omega (arith, z .pre .0)) (z .pre .0 .2) in (
+      moved-of (a .c) (c .with .result) (a .n) (a .i) _ (z .pre .0 .1) ch (a .k)
+          (ap (λ (x : Cell). x .terminal) (c .before .cell .ensures)) refl refl,
+      low-changed (a .c)
+          (c .with .result) (a .n) (a .i) _ ch (omega (arith, l)) (z .pre .1),
+    )
 
 pub moved-spec : {M : Type 1} → statement M
-moved-spec = tie.close (tie.spec cell-requires div-step cast-step rem-column add-column cast-column with-requires returns)
+moved-spec = tie.close (tie.spec cell-requires div-step cast-step rem-column add-column cast-column
+    with-requires returns)

@@ -14,7 +14,11 @@ same-length : tie.Need-same-length
 same-length c = search needs
 
 returns : tie.Need-returns
-returns c = record { out = λ e. absurd (true-not-false e); stays = λ e. absurd (true-not-false e); past = c .before .before .before .places .ensures .past }
+returns c = record {
+  out = λ e. absurd (true-not-false e);
+  stays = λ e. absurd (true-not-false e);
+  past = c .before .before .before .places .ensures .past;
+}
 
 draft-requires : tie.Need-draft-requires
 draft-requires c κs = search needs
@@ -25,8 +29,17 @@ hopeless-requires c κs =
     let a = z .args in
     let d = c .before .draft in
     let e = d .ensures in
-    let q = c .before .before .before .before .before .places .ensures in
-    ((omega (arith, e .1, z .pre .0 .0), omega (arith, e .1, e .2, z .pre .0 .1)), (rw (e .1) (omega (arith, q .past .long, z .pre .1 .1 .0)), (z .pre .1 .0, ready-again (d .result) (z .pre .0 .1) (cells-size (a .c) 0 (a .n)) (e .0) (e .1) (e .2) (q .stays (c .before .before .if1 .left)))))
+    let q = c .before .before .before .before .before .places .ensures in (
+      (omega (arith, e .1, z .pre .0 .0), omega (arith, e .1, e .2, z .pre .0 .1)),
+      (
+        rw (e .1) (omega (arith, q .past .long, z .pre .1 .1 .0)),
+        (
+          z .pre .1 .0,
+          ready-again (d .result) (z .pre .0 .1) (cells-size (a .c) 0 (a .n))
+              (e .0) (e .1) (e .2) (q .stays (c .before .before .if1 .left)),
+        ),
+      ),
+    )
 
 same-length-2 : tie.Need-same-length-2
 same-length-2 c = search needs
@@ -35,7 +48,9 @@ returns-2 : tie.Need-returns-2
 returns-2 c =
     let d = c .before .before .before .before .draft in
     let e = d .ensures in
-    spent (d .result) (c .before .before .before .before .before .if1 .left) (e .0) (e .1) (e .2) (c .before .before .before .before .before .before .before .before .places .ensures) (c .before .before .hopeless .ensures)
+    spent (d .result) (c .before .before .before .before .before .if1 .left) (e .0) (e .1) (e .2)
+    (c .before .before .before .before .before .before .before .before .places .ensures)
+    (c .before .before .hopeless .ensures)
 
 pub positions-spec : {M : Type 1} → statement M
 positions-spec =

@@ -1,4 +1,5 @@
--- A position that does not rise or is no better than an earlier one is refuted by itself, another one by the span sheet.
+-- A position that does not rise or is no better than an earlier one is refuted by itself, another
+-- one by the span sheet.
 use borrow.Author.Needs.{needs}
 use borrow.Author.Tests.{not-true}
 use native.Mathlib.Omega.{arith}
@@ -15,7 +16,8 @@ returns : tie.Need-returns
 returns c =
     let z = c .before .before .before .before in
     let a = z .args in
-    tried-out (λ s. refuted-falling (cells-size (a .c) 0 (a .n)) (z .pre .0 .1) (c .before .rises .ensures (not-true _ (c .if1 .taken)))) (z .pre .1 .1 .1)
+    tried-out (λ s. refuted-falling (cells-size (a .c) 0 (a .n)) (z .pre .0 .1)
+    (c .before .rises .ensures (not-true _ (c .if1 .taken)))) (z .pre .1 .1 .1)
 
 add-slack : tie.Need-add-slack
 add-slack c = search needs
@@ -27,7 +29,8 @@ returns-2 : tie.Need-returns-2
 returns-2 c =
     let z = c .before .before .before .before .before .before in
     let a = z .args in
-    tried-out (λ s. refuted-slack (cells-size (a .c) 0 (a .n)) (z .pre .0 .1) (c .before .slack .ensures (c .if2 .taken))) (z .pre .1 .1 .1)
+    tried-out (λ s. refuted-slack (cells-size (a .c) 0 (a .n)) (z .pre .0 .1)
+    (c .before .slack .ensures (c .if2 .taken))) (z .pre .1 .1 .1)
 
 add-draft : tie.Need-add-draft
 add-draft c = search needs
@@ -40,19 +43,31 @@ hopeless-requires c κs =
     let z = c .before .before .before .before .before .before .before .before in
     let a = z .args in
     let d = c .before .draft in
-    let e = d .ensures in
-    ((omega (arith, e .1, z .pre .0 .0), omega (arith, e .1, e .2, z .pre .0 .1)), (rw (e .1) (z .pre .1 .1 .0), (z .pre .1 .0, ready-draft (d .result) (z .pre .0 .1) (cells-size (a .c) 0 (a .n)) (e .0) (e .1) (e .2) (z .pre .1 .1 .1))))
+    let e = d .ensures in (
+      (omega (arith, e .1, z .pre .0 .0), omega (arith, e .1, e .2, z .pre .0 .1)),
+      (
+        rw (e .1) (z .pre .1 .1 .0),
+        (
+          z .pre .1 .0,
+          ready-draft (d .result) (z .pre .0 .1)
+              (cells-size (a .c) 0 (a .n)) (e .0) (e .1) (e .2) (z .pre .1 .1 .1),
+        ),
+      ),
+    )
 
 same-length : tie.Need-same-length
 same-length c = search needs
 
 returns-3 : tie.Need-returns-3
 returns-3 c =
-    let z = c .before .before .before .before .before .before .before .before .before .before .before in
+    let z = c .before .before .before .before .before .before .before .before .before .before
+    .before in
     let a = z .args in
     let d = c .before .before .before .before .draft in
     let e = d .ensures in
-    tried-settled (d .result) (z .pre .0 .1) (cells-size (a .c) 0 (a .n)) (e .0) (e .1) (e .2) (z .pre .1 .1 .1) (c .before .before .hopeless .ensures)
+    tried-settled (d .result) (z .pre .0 .1) (cells-size (a .c) 0 (a .n)) (e .0) (e .1) (e .2)
+    (z .pre .1 .1 .1) (c .before .before .hopeless .ensures)
 
 pub shut-spec : {M : Type 1} → statement M
-shut-spec = tie.close (tie.spec rises-requires returns add-slack slack-requires returns-2 add-draft draft-requires hopeless-requires same-length returns-3)
+shut-spec = tie.close (tie.spec rises-requires returns add-slack slack-requires returns-2 add-draft
+    draft-requires hopeless-requires same-length returns-3)

@@ -17,7 +17,12 @@ returns : tie.Need-returns
 returns c =
     let z = c .before .before .before in
     let a = z .args in
-    record { known = λ h. ap (λ (d : Cell). d .terminal) (c .before .cell .ensures ∙ sym (cells-get (a .c) (a .n) (a .i) (z .pre .1))); free = λ h. absurd (omega (arith, c .before .before .if1 .taken)) }
+    record {
+      known = λ h. ap (λ (d : Cell). d .terminal)
+          (c .before .cell .ensures ∙ sym (cells-get (a .c) (a .n) (a .i) (z .pre .1)));
+      free =
+          λ h. absurd (omega (arith, c .before .before .if1 .taken));
+    }
 
 returns-2 : tie.Need-returns-2
 returns-2 c = search needs

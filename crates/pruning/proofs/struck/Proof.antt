@@ -35,25 +35,39 @@ add-hopeless c = search needs
 
 hopeless-requires : tie.Need-hopeless-requires
 hopeless-requires c κs =
-    let z = c .before .before .before .before .before .before .before .before .before .before .before in
+    let z = c .before .before .before .before .before .before .before .before .before .before
+    .before in
     let a = z .args in
     let d = c .before .draft in
     let e = d .ensures in
-    let w = c .before .before .before .before .give .ensures in
-    ((omega (arith, e .1, z .pre .0 .0), omega (arith, e .1, e .2, z .pre .0)), (rw (e .1) (omega (arith, w .kept .long, z .pre .1 .1 .0)), (z .pre .1 .0, ready-loose (z .pre .0 .1) (z .pre .0 .2) (d .result) (cells-size (a .c) 0 (a .n)) (e .0) (e .1) (e .2) (wrote-loose (z .pre .0 .1) (z .pre .0 .2) w (z .pre .1 .1 .1 .1)))))
+    let w = c .before .before .before .before .give .ensures in (
+      (omega (arith, e .1, z .pre .0 .0), omega (arith, e .1, e .2, z .pre .0)),
+      (
+        rw (e .1) (omega (arith, w .kept .long, z .pre .1 .1 .0)),
+        (
+          z .pre .1 .0,
+          ready-loose (z .pre .0 .1) (z .pre .0 .2) (d .result)
+              (cells-size (a .c) 0 (a .n)) (e .0) (e .1) (e .2)
+              (wrote-loose (z .pre .0 .1) (z .pre .0 .2) w (z .pre .1 .1 .1 .1)),
+        ),
+      ),
+    )
 
 same-length : tie.Need-same-length
 same-length c = search needs
 
 returns : tie.Need-returns
 returns c =
-    let z = c .before .before .before .before .before .before .before .before .before .before .before .before .before .before in
+    let z = c .before .before .before .before .before .before .before .before .before .before
+    .before .before .before .before in
     let a = z .args in
     let d = c .before .before .before .before .draft in
     let e = d .ensures in
     let w = c .before .before .before .before .before .before .before .give .ensures in
     let t = z .pre .1 .1 .1 .0 in
-    struck-settled (z .pre .0 .1) (z .pre .0 .2) (d .result) (cells-size (a .c) 0 (a .n)) (e .0) (e .1) (e .2) (t .2) w (t .0 .leaf (a .x) (t .1)) (z .pre .1 .1 .1 .1) (c .before .before .hopeless .ensures)
+    struck-settled (z .pre .0 .1) (z .pre .0 .2) (d .result) (cells-size (a .c) 0 (a .n)) (e .0)
+    (e .1) (e .2) (t .2) w (t .0 .leaf (a .x) (t .1)) (z .pre .1 .1 .1 .1)
+    (c .before .before .hopeless .ensures)
 
 pub struck-spec : {M : Type 1} → statement M
 struck-spec =

@@ -17,8 +17,16 @@ returns : tie.Need-returns
 returns c =
     let z = c .before .before in
     let a = z .args in
-    let d = c .before .cell .ensures in
-    (turned-of (a .c) (c .with .result) (a .n) (a .j) _ (z .pre .0 .1) (c .with .ensures), low-changed (a .c) (c .with .result) (a .n) (a .j) _ (c .with .ensures) (omega (arith, step-at (a .c) (a .n) (a .j) (z .pre .0 .1) (z .pre .1), ap (λ (x : Cell). x .step) d)) (z .pre .1))
+    let d = c .before .cell .ensures in (
+      turned-of (a .c) (c .with .result) (a .n) (a .j) _ (z .pre .0 .1) (c .with .ensures),
+      low-changed (a .c) (c .with .result) (a .n) (a .j) _ (c .with .ensures)
+          (omega (
+            arith,
+            step-at (a .c) (a .n) (a .j) (z .pre .0 .1) (z .pre .1),
+            ap
+                (λ (x : Cell). x .step) d,
+          )) (z .pre .1),
+    )
 
 pub turned-spec : {M : Type 1} → statement M
 turned-spec = tie.close (tie.spec cell-requires with-requires returns)

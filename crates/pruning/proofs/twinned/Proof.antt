@@ -14,16 +14,29 @@ begin-requires c κs = search needs
 terms-requires : tie.Need-terms-requires
 terms-requires c κs =
     let z = c .before .before .before .before .before .before .before .before in
-    let p = c .before .before .before .begin .ensures in
-    ((z .pre .0 .0, z .pre .0 .1, omega arith, low-steps (z .pre .0 .2), z .pre .0 .3, z .pre .0 .4), (z .pre .1 .0, (omega (arith, z .pre .1 .1 .0, p .1 .long), (z .pre .1 .1 .1, p .0))))
+    let p = c .before .before .before .begin .ensures in (
+      (
+        z .pre .0 .0,
+        z .pre .0 .1,
+        omega arith,
+        low-steps (z .pre .0 .2),
+        z .pre .0 .3,
+        z .pre .0
+            .4,
+      ),
+      (z .pre .1 .0, (omega (arith, z .pre .1 .1 .0, p .1 .long), (z .pre .1 .1 .1, p .0))),
+    )
 
 same-length : tie.Need-same-length
 same-length c = search needs
 
 returns : tie.Need-returns
 returns c =
-    let q = c .before .before .terms .ensures in
-    (λ e. twinned-all (q .out (not-true _ e)), past-then (c .before .before .before .before .before .before .begin .ensures .1) (q .past))
+    let q = c .before .before .terms .ensures in (
+      λ e. twinned-all (q .out (not-true _ e)),
+      past-then
+          (c .before .before .before .before .before .before .begin .ensures .1) (q .past),
+    )
 
 pub twinned-spec : {M : Type 1} → statement M
 twinned-spec = tie.close (tie.spec begin-requires terms-requires same-length returns)

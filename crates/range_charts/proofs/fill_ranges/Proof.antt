@@ -15,8 +15,23 @@ slice-aggregate-fill-starts-2 c = search needs
 fill-starts-requires : tie.Need-fill-starts-requires
 fill-starts-requires c κs =
     let z = c .before .before .before .before .before in
-    let a = z .args in
-    (z .pre .0, (z .pre .1 .0, (z .pre .1 .1 .0, (z .pre .1 .1 .1, (refl, no-columns (a .words .now) (a .r .count) 8320 (omega (arith, z .pre .0 .few)))))))
+    let a = z .args in (
+      z .pre .0,
+      (
+        z .pre .1 .0,
+        (
+          z .pre .1 .1 .0,
+          (
+            z .pre .1 .1 .1,
+            (
+              refl,
+              no-columns (a .words .now) (a .r .count) 8320
+                  (omega (arith, z .pre .0 .few)),
+            ),
+          ),
+        ),
+      ),
+    )
 
 same-length : tie.Need-same-length
 same-length c = search needs

@@ -16,14 +16,17 @@ use Rattle.column_ranges.proofs.Counting.{range-read}
 use Rattle.range_marks.specs.RangeMarks.{firstOf, Stretched}
 use Rattle.range_marks.proofs.Stretching.{RangeCarried, stretch-first, stretch-more, stretch-marked}
 use Rattle.range_charts.specs.RangeCharts.{SolvedFrom, Small}
-use Rattle.range_charts.proofs.Solving.{from-more, small-more, past-wrote, small-same, small-then, small-empty, from-next, from-end}
+use Rattle.range_charts.proofs.Solving.{from-more, small-more, past-wrote, small-same}
+use Rattle.range_charts.proofs.Solving.{small-then, small-empty, from-next, from-end}
 use Rattle.range_charts.proofs.fill_start.Statement.{statement}
 use Rattle.range_charts.proofs.fill_start.Tie as tie
 
 abbrev Inv-loop : tie.InvT-loop
 Inv-loop words₀ rows₀ cols₀ table g b e start r n a k₀ len₀ words rows cols k len =
-    (0 < len) × (start + len ≤ r .count) × RangeCarried (rangesOf r) start len k × Past (2 * pairs (r .count)) words₀ words × Small words₀ words (r .count)
-    × SolvedFrom words (rules g) (rangesOf r) (r .count) start (len + 1) × Mirrors words (r .count) start (len + 1) rows cols × (length cols ≡ length cols₀)
+    (0 < len) × (start + len ≤ r .count) × RangeCarried (rangesOf r) start len k
+    × Past (2 * pairs (r .count)) words₀ words × Small words₀ words (r .count)
+    × SolvedFrom words (rules g) (rangesOf r) (r .count) start (len + 1)
+    × Mirrors words (r .count) start (len + 1) rows cols × (length cols ≡ length cols₀)
 
 abbrev μ-loop : tie.MeasureT-loop
 μ-loop words₀ rows₀ cols₀ table g b e start r n a k₀ len₀ words rows cols k len = r .count - len
@@ -32,7 +35,12 @@ mul-a : tie.Need-mul-a Inv-loop μ-loop
 mul-a c = search needs
 
 element-copy-out-a : tie.Need-element-copy-out-a Inv-loop μ-loop
-element-copy-out-a c = omega (arith, c .before .before .before .before .pre .0 .0 .few, c .before .before .before .before .pre .0 .1)
+element-copy-out-a c = omega (
+  arith,
+  c .before .before .before .before .pre .0 .0 .few,
+  c .before
+      .before .before .before .pre .0 .1,
+)
 
 first-of-requires : tie.Need-first-of-requires Inv-loop μ-loop
 first-of-requires c κs = search needs
@@ -40,17 +48,24 @@ first-of-requires c κs = search needs
 begin-requires : tie.Need-begin-requires Inv-loop μ-loop
 begin-requires c κs =
     let z = c .before .before .before .before .before .before .before .before .before in
-    let q = z .pre .1 .1 .1 .1 .0 in
-    (record { few = z .pre .0 .0 .few; fits = omega (arith, z .pre .0 .1); enough = z .pre .1 .0 }, (q .0, q .1))
+    let q = z .pre .1 .1 .1 .1 .0 in (
+      record { few = z .pre .0 .0 .few; fits = omega (arith, z .pre .0 .1); enough = z .pre .1 .0 },
+      (q .0, q .1),
+    )
 
 loop-holds : tie.Need-loop-holds Inv-loop μ-loop
 loop-holds c =
-    let z = c .before .before .before .before .before .before .before .before .before .before .before .before .before .before in
+    let z = c .before .before .before .before .before .before .before .before .before .before
+    .before .before .before .before in
     let a = z .args in
     let h : a .start < a .t5 .count = z .pre .0 .1 in (
       omega arith,
       omega arith,
-      subst (RangeCarried (rangesOf (a .t5)) (a .start) 1) (ap firstOf (range-read (a .t5) (a .start) h) ∙ sym (c .before .before .before .before .before .before .before .before .first-of .ensures)) (stretch-first (rangesOf (a .t5)) (a .start) (omega (arith, z .pre .0 .0 .whole))),
+      subst (RangeCarried (rangesOf (a .t5)) (a .start) 1)
+          (ap firstOf (range-read (a .t5) (a .start) h) ∙ sym
+          (c .before .before .before .before .before .before .before .before .first-of
+          .ensures)) (stretch-first (rangesOf (a .t5)) (a .start)
+          (omega (arith, z .pre .0 .0 .whole))),
       past-same _ _,
       small-same _ _,
       from-next (z .pre .1 .1 .1 .1 .1),
@@ -59,10 +74,24 @@ loop-holds c =
     )
 
 add-loop : tie.Need-add-loop Inv-loop μ-loop
-add-loop c = record { fits = omega (arith, c .loop .inv .1, c .before .before .before .before .before .before .before .before .before .before .before .before .before .before .before .pre .0 .0 .few) }
+add-loop c = record {
+  fits = omega (
+    arith,
+    c .loop .inv .1,
+    c .before .before .before .before .before .before .before .before
+        .before .before .before .before .before .before .before .pre .0 .0 .few,
+  );
+}
 
 add-at : tie.Need-add-at Inv-loop μ-loop
-add-at c = record { fits = omega (arith, c .loop-test .taken, c .before .before .before .before .before .before .before .before .before .before .before .before .before .before .before .before .pre .0 .0 .few) }
+add-at c = record {
+  fits = omega (
+    arith,
+    c .loop-test .taken,
+    c .before .before .before .before .before .before .before .before
+        .before .before .before .before .before .before .before .before .pre .0 .0 .few,
+  );
+}
 
 sub-z : tie.Need-sub-z Inv-loop μ-loop
 sub-z c = omega (arith, c .before .loop .inv .0)
@@ -71,59 +100,132 @@ mul-z : tie.Need-mul-z Inv-loop μ-loop
 mul-z c = search needs
 
 element-copy-out-z : tie.Need-element-copy-out-z Inv-loop μ-loop
-element-copy-out-z c = omega (arith, c .loop-test .taken, c .before .before .before .before .before .before .before .before .before .before .before .before .before .before .before .before .pre .0 .0 .few)
+element-copy-out-z c = omega (
+  arith,
+  c .loop-test .taken,
+  c .before .before .before .before .before
+      .before .before .before .before .before .before .before .before .before .before .before .pre
+      .0
+      .0 .few,
+)
 
 mul-t : tie.Need-mul-t Inv-loop μ-loop
 mul-t c = search needs
 
 element-copy-out-t : tie.Need-element-copy-out-t Inv-loop μ-loop
-element-copy-out-t c = omega (arith, c .before .loop-test .taken, c .before .before .before .before .before .before .before .before .before .before .before .before .before .before .before .before .before .pre .0 .0 .few)
+element-copy-out-t c = omega (
+  arith,
+  c .before .loop-test .taken,
+  c .before .before .before .before
+      .before .before .before .before .before .before .before .before .before .before .before
+      .before
+      .before .pre .0 .0 .few,
+)
 
 stretched-requires : tie.Need-stretched-requires Inv-loop μ-loop
-stretched-requires c κs = omega (arith, c .before .before .loop-test .taken, c .before .before .before .before .before .before .before .before .before .before .before .before .before .before .before .before .before .before .pre .0 .0 .few)
+stretched-requires c κs = omega (
+  arith,
+  c .before .before .loop-test .taken,
+  c .before .before .before .before .before .before
+      .before .before .before .before .before .before .before .before .before .before .before
+      .before .pre .0 .0 .few,
+)
 
 add-len : tie.Need-add-len Inv-loop μ-loop
-add-len c = record { fits = omega (arith, c .before .before .before .loop-test .taken, c .before .before .before .before .before .before .before .before .before .before .before .before .before .before .before .before .before .before .before .pre .0 .0 .few) }
+add-len c = record {
+  fits = omega (
+    arith,
+    c .before .before .before .loop-test .taken,
+    c .before .before .before .before .before
+        .before .before .before .before .before .before .before .before .before .before .before
+        .before .before .before .pre .0 .0 .few,
+  );
+}
 
 -- the marks with the next token
-marks : (c : tie.After-stretched Inv-loop μ-loop) → let a = c .before .before .before .before .before .before .before .before .before .before .before .before .before .before .before .before .before .before .before .args in RangeCarried (rangesOf (a .t5)) (a .start) (c .before .before .before .before .loop .len + 1) (c .stretched .result)
+marks : (c : tie.After-stretched Inv-loop μ-loop)
+    → let a = c .before .before .before .before .before .before .before .before .before .before
+    .before .before .before .before .before .before .before .before .before .args in
+    RangeCarried (rangesOf (a .t5)) (a .start)
+    (c .before .before .before .before .loop .len + 1) (c .stretched .result)
 marks c =
-    let z = c .before .before .before .before .before .before .before .before .before .before .before .before .before .before .before .before .before .before .before in
+    let z = c .before .before .before .before .before .before .before .before .before .before
+    .before .before .before .before .before .before .before .before .before in
     let a = z .args in
     let r = a .t5 in
     let s = a .start in
     let l = c .before .before .before .before .loop .len in
     let h : s + l < r .count = c .before .before .before .loop-test .taken in
     let i = c .before .before .before .before .loop .inv in
-    stretch-more (rangesOf r) s l (c .before .before .before .before .loop .k) (c .stretched .result) (i .0) (omega (arith, h, z .pre .0 .0 .whole)) (i .2)
-    (subst₃ (λ (x y v : RangeToken). Stretched (c .before .before .before .before .loop .k) x y v l (c .stretched .result)) (sym (range-read r s (omega (arith, h)))) (sym (range-read r (s + l - 1) (omega (arith, h, i .0)))) (sym (range-read r (s + l) h)) (c .stretched .ensures))
+    stretch-more (rangesOf r) s l (c .before .before .before .before .loop .k)
+    (c .stretched .result) (i .0) (omega (arith, h, z .pre .0 .0 .whole)) (i .2)
+    (subst₃ (λ (x y v : RangeToken). Stretched (c .before .before .before .before .loop .k) x y v l
+    (c .stretched .result)) (sym (range-read r s (omega (arith, h))))
+    (sym (range-read r (s + l - 1) (omega (arith, h, i .0)))) (sym (range-read r (s + l) h))
+    (c .stretched .ensures))
 
 close-requires : tie.Need-close-requires Inv-loop μ-loop
 close-requires c κs =
-    let z = c .before .before .before .before .before .before .before .before .before .before .before .before .before .before .before .before .before .before .before .before .before .before in
+    let z = c .before .before .before .before .before .before .before .before .before .before
+    .before .before .before .before .before .before .before .before .before .before .before
+    .before in
     let i = c .before .before .before .before .before .before .before .loop .inv in
     let p = z .pre in (
-      (record { few = p .0 .0 .few; fits = omega (arith, c .before .before .before .before .before .before .loop-test .taken); enough = omega (arith, i .3 .long, p .1 .0) }, omega arith),
-      (p .1 .1 .0, ((small-empty (z .args .t5 .count) (i .4) (p .1 .1 .1 .0 .0), p .1 .1 .1 .0 .1), i .6)),
+      (
+        record {
+          few = p .0 .0 .few;
+          fits = omega
+              (arith, c .before .before .before .before .before .before .loop-test .taken);
+          enough =
+              omega (arith, i .3 .long, p .1 .0);
+        },
+        omega arith,
+      ),
+      (
+        p .1 .1 .0,
+        (
+          (
+            small-empty (z .args .t5 .count) (i .4) (p .1 .1 .1 .0 .0),
+            p .1 .1
+                .1 .0 .1,
+          ),
+          i .6,
+        ),
+      ),
     )
 
 loop-less : tie.Need-loop-less Inv-loop μ-loop
-loop-less c = omega (arith, c .before .before .before .before .before .before .before .before .before .before .before .before .before .loop-test .taken)
+loop-less c = omega (
+  arith,
+  c .before .before .before .before .before .before .before .before
+      .before .before .before .before .before .loop-test .taken,
+)
 
 loop-again : tie.Need-loop-again Inv-loop μ-loop
 loop-again c =
-    let z = c .before .before .before .before .before .before .before .before .before .before .before .before .before .before .before .before .before .before .before .before .before .before .before .before .before .before .before .before .before in
+    let z = c .before .before .before .before .before .before .before .before .before .before
+    .before .before .before .before .before .before .before .before .before .before .before
+    .before .before .before .before .before .before .before .before in
     let r = z .args .t5 in
     let s = z .args .start in
     let g = rules (z .args .g) in
-    let i = c .before .before .before .before .before .before .before .before .before .before .before .before .before .before .loop .inv in
-    let l = c .before .before .before .before .before .before .before .before .before .before .before .before .before .before .loop .len in
-    let k = c .before .before .before .before .before .before .before .before .before .before .stretched .result in
-    let m = marks (c .before .before .before .before .before .before .before .before .before .before) in
+    let i = c .before .before .before .before .before .before .before .before .before .before
+    .before .before .before .before .loop .inv in
+    let l = c .before .before .before .before .before .before .before .before .before .before
+    .before .before .before .before .loop .len in
+    let k = c .before .before .before .before .before .before .before .before .before .before
+    .stretched .result in
+    let m = marks (c .before .before .before .before .before .before .before .before .before
+    .before) in
     let j = c .before .before .before .before .before .before .close .ensures .0 in
-    let ws = c .before .before .before .before .before .before .before .before .before .before .before .before .before .before .loop .words in
+    let ws = c .before .before .before .before .before .before .before .before .before .before
+    .before .before .before .before .loop .words in
     let ws′ = c .before .before .before .before .before .before .close .last .0 in
-    let h : s + (l + 1) ≤ r .count = omega (arith, c .before .before .before .before .before .before .before .before .before .before .before .before .before .loop-test .taken) in
+    let h : s + (l + 1) ≤ r .count = omega (
+      arith,
+      c .before .before .before .before .before .before .before .before .before .before
+          .before .before .before .loop-test .taken,
+    ) in
     let long : 2 ≤ l + 1 = omega (arith, i .0) in
     let q = stretch-marked (rangesOf r) s (l + 1) k m in (
       omega arith,
@@ -140,15 +242,25 @@ same-length : tie.Need-same-length Inv-loop μ-loop
 same-length c = c .before .loop .inv .3 .long
 
 same-length-2 : tie.Need-same-length-2 Inv-loop μ-loop
-same-length-2 c = c .before .loop .inv .6 .wide ∙ sym (c .before .before .before .before .before .before .before .before .before .before .before .before .before .before .before .before .pre .1 .1 .1 .1 .0 .0)
+same-length-2 c = c .before .loop .inv .6 .wide ∙ sym
+    (c .before .before .before .before .before .before .before .before .before .before .before
+    .before .before .before .before .before .pre .1 .1 .1 .1 .0 .0)
 
 same-length-3 : tie.Need-same-length-3 Inv-loop μ-loop
-same-length-3 c = c .before .loop .inv .7 ∙ c .before .before .before .before .before .before .begin .kept .1 .1 .0
+same-length-3 c = c .before .loop .inv .7 ∙ c .before .before .before .before .before .before .begin
+    .kept .1 .1 .0
 
 returns : tie.Need-returns Inv-loop μ-loop
 returns c =
-    let i = c .before .loop .inv in
-    (record { solved = from-end (omega (arith, c .loop-test .left)) (i .5); small = i .4; past = i .3 }, ending (omega (arith, c .loop-test .left)) (i .6))
+    let i = c .before .loop .inv in (
+      record {
+        solved = from-end (omega (arith, c .loop-test .left)) (i .5);
+        small = i .4;
+        past =
+            i .3;
+      },
+      ending (omega (arith, c .loop-test .left)) (i .6),
+    )
 
 pub fill-start-spec : {M : Type 1} → statement M
 fill-start-spec =

@@ -14,7 +14,9 @@ use Rattle.range_charts.proofs.fill_starts.Statement.{statement}
 use Rattle.range_charts.proofs.fill_starts.Tie as tie
 
 abbrev Inv-loop : tie.InvT-loop
-Inv-loop words₀ rows₀ cols₀ table r g b e start₀ words rows cols start = (start ≤ r .count) × Advances words₀ words (rules g) (rangesOf r) (r .count) start × (length rows ≡ 128) × Columns words (r .count) start cols × (length cols ≡ length cols₀)
+Inv-loop words₀ rows₀ cols₀ table r g b e start₀ words rows cols start = (start ≤ r .count)
+    × Advances words₀ words (rules g) (rangesOf r) (r .count) start × (length rows ≡ 128)
+    × Columns words (r .count) start cols × (length cols ≡ length cols₀)
 
 abbrev μ-loop : tie.MeasureT-loop
 μ-loop words₀ rows₀ cols₀ table r g b e start₀ words rows cols start = start
@@ -22,8 +24,17 @@ abbrev μ-loop : tie.MeasureT-loop
 loop-holds : tie.Need-loop-holds Inv-loop μ-loop
 loop-holds c =
     let z = c .before .before .before .before in
-    let q = z .pre .1 .1 .1 .1 in
-    (omega arith, record { solved = from-none _ _ _ _; small = small-same _ _; past = past-same _ _ }, q .0, q .1, refl)
+    let q = z .pre .1 .1 .1 .1 in (
+      omega arith,
+      record {
+        solved = from-none _ _ _ _;
+        small = small-same _ _;
+        past = past-same _ _;
+      },
+      q .0,
+      q .1,
+      refl,
+    )
 
 sub-start : tie.Need-sub-start Inv-loop μ-loop
 sub-start c = omega (arith, c .loop-test .taken)
@@ -41,10 +52,19 @@ fill-start-requires c κs =
         (
           z .pre .1 .1 .0,
           (
-            (small-empty (a .r .count) (l .inv .1 .small) (z .pre .1 .1 .1 .0 .0), z .pre .1 .1 .1 .0 .1),
             (
-              (l .inv .2, subst (λ (x : ℕ). Columns (l .words) (a .r .count) x (l .cols)) e (l .inv .3)),
-              subst (λ (s : ℕ). SolvedFrom (l .words) (rules (a .g)) (rangesOf (a .r)) (a .r .count) s (a .r .count + 1)) e (l .inv .1 .solved),
+              small-empty (a .r .count) (l .inv .1 .small) (z .pre .1 .1 .1 .0 .0),
+              z .pre .1 .1 .1
+                  .0 .1,
+            ),
+            (
+              (
+                l .inv .2,
+                subst (λ (x : ℕ). Columns (l .words) (a .r .count) x (l .cols)) e
+                    (l .inv .3),
+              ),
+              subst (λ (s : ℕ). SolvedFrom (l .words) (rules (a .g)) (rangesOf (a .r)) (a .r .count)
+                  s (a .r .count + 1)) e (l .inv .1 .solved),
             ),
           ),
         ),
@@ -52,19 +72,36 @@ fill-start-requires c κs =
     )
 
 loop-less : tie.Need-loop-less Inv-loop μ-loop
-loop-less c = omega (arith, c .before .before .before .before .before .before .before .before .before .before .loop-test .taken)
+loop-less c = omega (
+  arith,
+  c .before .before .before .before .before .before .before .before
+      .before .before .loop-test .taken,
+)
 
 loop-again : tie.Need-loop-again Inv-loop μ-loop
 loop-again c =
-    let l = c .before .before .before .before .before .before .before .before .before .before .before .loop .inv in
-    let f = c .before .before .before .before .before .before .fill-start .ensures in
-    (omega (arith, l .0), record { solved = f .0 .solved; small = small-then (l .1 .small) (f .0 .small); past = past-then (l .1 .past) (f .0 .past) }, search needs, f .1, c .before .before .before .before .before .before .fill-start .kept .1 .1 .0 ∙ l .4)
+    let l = c .before .before .before .before .before .before .before .before .before .before
+    .before .loop .inv in
+    let f = c .before .before .before .before .before .before .fill-start .ensures in (
+      omega (arith, l .0),
+      record {
+        solved = f .0 .solved;
+        small = small-then (l .1 .small)
+            (f .0 .small);
+        past = past-then (l .1 .past) (f .0 .past);
+      },
+      search needs,
+      f .1,
+      c .before
+          .before .before .before .before .before .fill-start .kept .1 .1 .0 ∙ l .4,
+    )
 
 same-length : tie.Need-same-length Inv-loop μ-loop
 same-length c = c .before .loop .inv .1 .past .long
 
 same-length-2 : tie.Need-same-length-2 Inv-loop μ-loop
-same-length-2 c = c .before .loop .inv .2 ∙ sym (c .before .before .before .before .before .before .pre .1 .1 .1 .1 .0)
+same-length-2 c = c .before .loop .inv .2 ∙ sym
+    (c .before .before .before .before .before .before .pre .1 .1 .1 .1 .0)
 
 same-length-3 : tie.Need-same-length-3 Inv-loop μ-loop
 same-length-3 c = c .before .loop .inv .4
@@ -74,7 +111,8 @@ returns c =
     let a = c .before .before .before .before .before .before .args in
     let l = c .before .loop in
     let e : l .start ≡ 0 = omega (arith, c .loop-test .left) in
-    subst (Advances (a .words .now) (l .words) (rules (a .g)) (rangesOf (a .r)) (a .r .count)) e (l .inv .1)
+    subst (Advances (a .words .now) (l .words) (rules (a .g)) (rangesOf (a .r)) (a .r .count)) e
+    (l .inv .1)
 
 pub fill-starts-spec : {M : Type 1} → statement M
 fill-starts-spec =

@@ -4,7 +4,8 @@ use mathlib.Core.Path.{_≡_, refl}
 use Prim.Native.Nat.{_-_}
 use native.Mathlib.Omega.{arith}
 use lib.ListN.{length, length-map}
-use Rattle.range_marks.proofs.Bounds.{Exchanging, exchanging-none, exchanging-more, exchanging-all}
+use Rattle.range_marks.proofs.Bounds.{Exchanging, exchanging-none, exchanging-more}
+use Rattle.range_marks.proofs.Bounds.{exchanging-all}
 use Rattle.range_marks.proofs.exchanged_ends.Statement.{statement}
 use Rattle.range_marks.proofs.exchanged_ends.Tie as tie
 
@@ -41,14 +42,20 @@ loop-less c = omega (arith, c .before .before .loop-test .taken)
 loop-again : tie.Need-loop-again Inv-loop μ-loop
 loop-again c =
     let i = c .before .before in
-    let v = i .before .loop .inv in
-    (exchanging-more (omega (arith, v .1, i .loop-test .taken, i .before .before .before .pre .0)) (v .0) (c .exchange .ensures), v .1)
+    let v = i .before .loop .inv in (
+      exchanging-more (omega (arith, v .1, i .loop-test .taken, i .before .before .before .pre .0))
+          (v .0) (c .exchange .ensures),
+      v .1,
+    )
 
 returns : tie.Need-returns Inv-loop μ-loop
 returns c =
     let v = c .before .loop .inv in
-    let p = c .before .before .before .pre in
-    (refl, exchanging-all (omega (arith, v .1, p .0)) (p .1) (omega (arith, c .loop-test .left)) (v .0))
+    let p = c .before .before .before .pre in (
+      refl,
+      exchanging-all (omega (arith, v .1, p .0)) (p .1) (omega (arith, c .loop-test .left))
+          (v .0),
+    )
 
 pub exchanged-ends-spec : {M : Type 1} → statement M
 exchanged-ends-spec =

@@ -4,7 +4,11 @@ use Rattle.range_marks.proofs.overlap.Statement.{statement}
 use Rattle.range_marks.proofs.overlap.Tie as tie
 
 returns : tie.Need-returns
-returns c = holds (record { low = omega (arith, c .before .before .before .if1 .taken); high = omega (arith, c .if2 .taken) })
+returns c = holds (record {
+  low = omega (arith, c .before .before .before .if1 .taken);
+  high = omega
+      (arith, c .if2 .taken);
+})
 
 returns-2 : tie.Need-returns-2
 returns-2 c = fails (λ z. omega (arith, z .high, c .if2 .left))

@@ -22,7 +22,11 @@ listed-requires : tie.Need-listed-requires
 listed-requires c κs = search needs
 
 returns : tie.Need-returns
-returns c = stretching (c .before .before .with-next .ensures) (c .before .before .before .before .before .low-token .ensures) (c .before .before .before .before .high-token .ensures) (c .before .before .before .high-token2 .ensures) (c .before .overlap .ensures) (c .listed .ensures)
+returns c = stretching (c .before .before .with-next .ensures)
+    (c .before .before .before .before .before .low-token .ensures)
+    (c .before .before .before .before .high-token .ensures)
+    (c .before .before .before .high-token2 .ensures) (c .before .overlap .ensures)
+    (c .listed .ensures)
 
 pub stretched-spec : {M : Type 1} → statement M
 stretched-spec =

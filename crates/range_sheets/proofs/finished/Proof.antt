@@ -20,13 +20,20 @@ refuse-ranges-requires : tie.Need-refuse-ranges-requires
 refuse-ranges-requires c κs = search needs
 
 returns : tie.Need-returns
-returns c = subst (λ (x : Reading (List RangeToken)). RangesRead (c .refuse-ranges .result) x) (sym (counted-many (rangesOf (record { tokens = c .before .before .before .args .tokens; count = c .before .before .before .args .n })) (c .before .before .count .ensures .over (omega (arith, c .before .if1 .taken))))) (c .refuse-ranges .ensures)
+returns c = subst (λ (x : Reading (List RangeToken)). RangesRead (c .refuse-ranges .result) x)
+    (sym (counted-many (rangesOf (record {
+      tokens = c .before .before .before .args .tokens;
+      count = c .before .before .before .args
+          .n;
+    })) (c .before .before .count .ensures .over
+    (omega (arith, c .before .if1 .taken))))) (c .refuse-ranges .ensures)
 
 returns-2 : tie.Need-returns-2
 returns-2 c =
     let z = c .before .before in
     let e = c .before .count .ensures .exact (omega (arith, c .if1 .left)) in
-    let h : choiceCount (rangesOf (record { tokens = z .args .tokens; count = z .args .n })) ≤ choiceLimit = omega (arith, e, c .if1 .left) in
+    let h : choiceCount (rangesOf (record { tokens = z .args .tokens; count = z .args .n }))
+    ≤ choiceLimit = omega (arith, e, c .if1 .left) in
     record {
       is = sym (counted-few (rangesOf (record { tokens = z .args .tokens; count = z .args .n })) h);
       spread = λ q. z .pre;

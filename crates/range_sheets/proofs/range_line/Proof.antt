@@ -7,7 +7,8 @@ use lib.ListN.{length}
 use Rattle.fields.specs.declared.Cursor.{Cursor}
 use Rattle.fields.proofs.Fields.{end-good, end-bad}
 use Rattle.range_sheets.specs.declared.RangeLine.the-variants.{Form}
-use Rattle.range_sheets.specs.RangeLines.{rangeFields, afterRangeTerminal, afterRangeLine, afterRangeLow, afterRangeHigh}
+use Rattle.range_sheets.specs.RangeLines.{rangeFields, afterRangeTerminal, afterRangeLine}
+use Rattle.range_sheets.specs.RangeLines.{afterRangeLow, afterRangeHigh}
 use Rattle.lines.proofs.Stages.{number-good, number-bad}
 use Rattle.range_sheets.proofs.range_line.Statement.{statement}
 use Rattle.range_sheets.proofs.range_line.Tie as tie
@@ -39,26 +40,53 @@ abbrev read₄ : tie.After-known-told4 → ℕ × (Cursor × Unit {0})
 read₄ c = c .before .h .given .0
 
 -- what is left to say after each field
-stage1 : (c : tie.After-known-told) → (rangeFields (fieldsLeft (start₁ c .args .s .now) (start₁ c .args .c)) ≡ afterRangeTerminal (read₁ c .0) (fieldsLeft (start₁ c .args .s .now) (read₁ c .1 .0))) × (read₁ c .1 .0 .end ≡ start₁ c .args .c .end)
+stage1 : (c : tie.After-known-told)
+    → (rangeFields (fieldsLeft (start₁ c .args .s .now) (start₁ c .args .c))
+    ≡ afterRangeTerminal (read₁ c .0) (fieldsLeft (start₁ c .args .s .now) (read₁ c .1 .0)))
+    × (read₁ c .1 .0 .end ≡ start₁ c .args .c .end)
 stage1 c =
-    number-good Form afterRangeTerminal (start₁ c .args .s .now) (start₁ c .args .c) _ _ (sym (c .before .t .given .1) ∙ c .before .before .before .number .ensures)
+    number-good Form afterRangeTerminal (start₁ c .args .s .now) (start₁ c .args .c) _ _
+    (sym (c .before .t .given .1) ∙ c .before .before .before .number .ensures)
 
-stage2 : (c : tie.After-known-told2) → (rangeFields (fieldsLeft (start₂ c .args .s .now) (start₂ c .args .c)) ≡ afterRangeLine (read₁ (c .before .before .before .before) .0) (read₂ c .0) (fieldsLeft (start₂ c .args .s .now) (read₂ c .1 .0))) × (read₂ c .1 .0 .end ≡ start₂ c .args .c .end)
+stage2 : (c : tie.After-known-told2)
+    → (rangeFields (fieldsLeft (start₂ c .args .s .now) (start₂ c .args .c))
+    ≡ afterRangeLine (read₁ (c .before .before .before .before) .0) (read₂ c .0)
+    (fieldsLeft (start₂ c .args .s .now) (read₂ c .1 .0)))
+    × (read₂ c .1 .0 .end ≡ start₂ c .args .c .end)
 stage2 c =
     let s = c .before .before .before .before in
-    let l = number-good Form (afterRangeLine (read₁ s .0)) (start₁ s .args .s .now) (read₁ s .1 .0) _ _ (sym (c .before .l .given .1) ∙ c .before .before .before .number2 .ensures) in
+    let l = number-good Form (afterRangeLine (read₁ s .0)) (start₁ s .args .s .now) (read₁ s .1 .0)
+    _ _ (sym (c .before .l .given .1) ∙ c .before .before .before .number2 .ensures) in
     (stage1 s .0 ∙ l .0, l .1 ∙ stage1 s .1)
 
-stage3 : (c : tie.After-known-told3) → (rangeFields (fieldsLeft (start₃ c .args .s .now) (start₃ c .args .c)) ≡ afterRangeLow (read₁ (c .before .before .before .before .before .before .before .before) .0) (read₂ (c .before .before .before .before) .0) (read₃ c .0) (fieldsLeft (start₃ c .args .s .now) (read₃ c .1 .0))) × (read₃ c .1 .0 .end ≡ start₃ c .args .c .end)
+stage3 : (c : tie.After-known-told3)
+    → (rangeFields (fieldsLeft (start₃ c .args .s .now) (start₃ c .args .c))
+    ≡ afterRangeLow (read₁ (c .before .before .before .before .before .before .before .before)
+    .0) (read₂ (c .before .before .before .before) .0) (read₃ c .0)
+    (fieldsLeft (start₃ c .args .s .now) (read₃ c .1 .0)))
+    × (read₃ c .1 .0 .end ≡ start₃ c .args .c .end)
 stage3 c =
     let s = c .before .before .before .before in
-    let l = number-good Form (afterRangeLow (read₁ (s .before .before .before .before) .0) (read₂ s .0)) (start₂ s .args .s .now) (read₂ s .1 .0) _ _ (sym (c .before .k .given .1) ∙ c .before .before .before .number3 .ensures) in
+    let l = number-good Form (afterRangeLow (read₁ (s .before .before .before .before) .0)
+    (read₂ s .0)) (start₂ s .args .s .now) (read₂ s .1 .0) _ _
+    (sym (c .before .k .given .1) ∙ c .before .before .before .number3 .ensures) in
     (stage2 s .0 ∙ l .0, l .1 ∙ stage2 s .1)
 
-stage4 : (c : tie.After-known-told4) → (rangeFields (fieldsLeft (start₄ c .args .s .now) (start₄ c .args .c)) ≡ afterRangeHigh (read₁ (c .before .before .before .before .before .before .before .before .before .before .before .before) .0) (read₂ (c .before .before .before .before .before .before .before .before) .0) (read₃ (c .before .before .before .before) .0) (read₄ c .0) (fieldsLeft (start₄ c .args .s .now) (read₄ c .1 .0))) × (read₄ c .1 .0 .end ≡ start₄ c .args .c .end)
+stage4 : (c : tie.After-known-told4)
+    → (rangeFields (fieldsLeft (start₄ c .args .s .now) (start₄ c .args .c))
+    ≡ afterRangeHigh (read₁ (c .before .before .before .before .before .before .before .before
+    .before .before .before .before) .0)
+    (read₂ (c .before .before .before .before .before .before .before .before) .0)
+    (read₃ (c .before .before .before .before) .0) (read₄ c .0)
+    (fieldsLeft (start₄ c .args .s .now) (read₄ c .1 .0)))
+    × (read₄ c .1 .0 .end ≡ start₄ c .args .c .end)
 stage4 c =
     let s = c .before .before .before .before in
-    let l = number-good Form (afterRangeHigh (read₁ (s .before .before .before .before .before .before .before .before) .0) (read₂ (s .before .before .before .before) .0) (read₃ s .0)) (start₃ s .args .s .now) (read₃ s .1 .0) _ _ (sym (c .before .h .given .1) ∙ c .before .before .before .number4 .ensures) in
+    let l = number-good Form (afterRangeHigh
+    (read₁ (s .before .before .before .before .before .before .before .before) .0)
+    (read₂ (s .before .before .before .before) .0) (read₃ s .0)) (start₃ s .args .s .now)
+    (read₃ s .1 .0) _ _ (sym (c .before .h .given .1)
+    ∙ c .before .before .before .number4 .ensures) in
     (stage3 s .0 ∙ l .0, l .1 ∙ stage3 s .1)
 
 -- the cursor behind each field is still in the sheet
@@ -86,7 +114,8 @@ enum-told c = search needs
 returns : tie.Need-returns
 returns c =
     let n = c .before .before in
-    sym (number-bad Form afterRangeTerminal (n .before .before .args .s .now) (n .before .before .args .c) (sym (c .enum-told .given .1) ∙ n .number .ensures))
+    sym (number-bad Form afterRangeTerminal (n .before .before .args .s .now)
+    (n .before .before .args .c) (sym (c .enum-told .given .1) ∙ n .number .ensures))
 
 number-requires-2 : tie.Need-number-requires-2
 number-requires-2 c κs = inside₁ c
@@ -101,7 +130,8 @@ returns-2 : tie.Need-returns-2
 returns-2 c =
     let n = c .before .before in
     let s = n .before in
-    sym (stage1 s .0 ∙ number-bad Form (afterRangeLine (read₁ s .0)) (start₁ s .args .s .now) (read₁ s .1 .0) (sym (c .enum-told2 .given .1) ∙ n .number2 .ensures))
+    sym (stage1 s .0 ∙ number-bad Form (afterRangeLine (read₁ s .0)) (start₁ s .args .s .now)
+    (read₁ s .1 .0) (sym (c .enum-told2 .given .1) ∙ n .number2 .ensures))
 
 number-requires-3 : tie.Need-number-requires-3
 number-requires-3 c κs = inside₂ c
@@ -116,7 +146,10 @@ returns-3 : tie.Need-returns-3
 returns-3 c =
     let n = c .before .before in
     let s = n .before in
-    sym (stage2 s .0 ∙ number-bad Form (afterRangeLow (read₁ (s .before .before .before .before) .0) (read₂ s .0)) (start₂ s .args .s .now) (read₂ s .1 .0) (sym (c .enum-told3 .given .1) ∙ n .number3 .ensures))
+    sym (stage2 s .0 ∙ number-bad Form
+    (afterRangeLow (read₁ (s .before .before .before .before) .0) (read₂ s .0))
+    (start₂ s .args .s .now) (read₂ s .1 .0)
+    (sym (c .enum-told3 .given .1) ∙ n .number3 .ensures))
 
 number-requires-4 : tie.Need-number-requires-4
 number-requires-4 c κs = inside₃ c
@@ -131,12 +164,17 @@ returns-4 : tie.Need-returns-4
 returns-4 c =
     let n = c .before .before in
     let s = n .before in
-    sym (stage3 s .0 ∙ number-bad Form (afterRangeHigh (read₁ (s .before .before .before .before .before .before .before .before) .0) (read₂ (s .before .before .before .before) .0) (read₃ s .0)) (start₃ s .args .s .now) (read₃ s .1 .0) (sym (c .enum-told4 .given .1) ∙ n .number4 .ensures))
+    sym (stage3 s .0 ∙ number-bad Form
+    (afterRangeHigh (read₁ (s .before .before .before .before .before .before .before .before)
+    .0) (read₂ (s .before .before .before .before) .0) (read₃ s .0))
+    (start₃ s .args .s .now) (read₃ s .1 .0)
+    (sym (c .enum-told4 .given .1) ∙ n .number4 .ensures))
 
 returns-5 : tie.Need-returns-5
 returns-5 c =
     let s = c .before .before in
-    sym (stage4 s .0 ∙ end-bad Form _ (start₄ s .args .s .now) (read₄ s .1 .0) (inside₄ s) (c .if1 .taken))
+    sym (stage4 s .0 ∙ end-bad Form _ (start₄ s .args .s .now) (read₄ s .1 .0) (inside₄ s)
+    (c .if1 .taken))
 
 range-of-requires : tie.Need-range-of-requires
 range-of-requires c κs = search needs
@@ -144,7 +182,8 @@ range-of-requires c κs = search needs
 returns-6 : tie.Need-returns-6
 returns-6 c =
     let s = c .before .before .before in
-    c .range-of .ensures ∙ sym (stage4 s .0 ∙ end-good Form _ (start₄ s .args .s .now) (read₄ s .1 .0) (inside₄ s) (c .before .if1 .left))
+    c .range-of .ensures ∙ sym (stage4 s .0 ∙ end-good Form _ (start₄ s .args .s .now)
+    (read₄ s .1 .0) (inside₄ s) (c .before .if1 .left))
 
 pub range-line-spec : {M : Type 1} → statement M
 range-line-spec =

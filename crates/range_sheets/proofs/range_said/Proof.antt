@@ -12,10 +12,13 @@ use Rattle.range_sheets.proofs.range_said.Tie as tie
 use Rattle.fields.specs.Cursors.{bytesLeft}
 
 -- what the line was read as
-said : (c : tie.After-range-line) (x : RangeLine) → c .range-line .result ≡ x → rangeSaid x ≡ rangeSays [] (bytesLeft (c .before .before .args .s .now) (c .before .before .args .c))
+said : (c : tie.After-range-line) (x : RangeLine) → c .range-line .result ≡ x
+    → rangeSaid x ≡ rangeSays [] (bytesLeft (c .before .before .args .s .now)
+    (c .before .before .args .c))
 said c x is =
     let b = c .before .before in
-    ap rangeSaid (sym is ∙ c .range-line .ensures ∙ ap rangeFields (fields-of (b .args .s .now) (b .args .c) (b .pre .0) (b .pre .1)))
+    ap rangeSaid (sym is ∙ c .range-line .ensures ∙ ap rangeFields
+    (fields-of (b .args .s .now) (b .args .c) (b .pre .0) (b .pre .1)))
 
 range-line-requires : tie.Need-range-line-requires
 range-line-requires c κs = search needs

@@ -1,4 +1,5 @@
--- The loop's invariant: what the rest of the sheet says after the items read is what the sheet says.
+-- The loop's invariant: what the rest of the sheet says after the items read is what the sheet
+-- says.
 use mathlib.Core.Path.{_≡_, refl, sym, ap, _∙_}
 use Prim.Native.Nat.{_-_, _<_}
 use native.Mathlib.Omega.{arith}
@@ -25,26 +26,38 @@ abbrev μ-loop : tie.MeasureT-loop
 
 -- what the line gave
 gave : (c : tie.After-range-step Inv-loop μ-loop) (x : RangeStep) → c .range-step .result ≡ x
-    → asRangeStep x ≡ stepAt 14 12 (rangeSays [] (bytesLeft (c .before .before .before .before .before .args .s .now) (c .before .line .result))) (turnOf 64 (c .before .before .loop .n) (bytesLeft (c .before .before .before .before .before .args .s .now) (c .before .line .result)) (ltb (c .before .line .result .end) (length (c .before .before .before .before .before .args .s .now))))
+    → asRangeStep x ≡ stepAt 14 12 (rangeSays []
+    (bytesLeft (c .before .before .before .before .before .args .s .now)
+    (c .before .line .result))) (turnOf 64 (c .before .before .loop .n)
+    (bytesLeft (c .before .before .before .before .before .args .s .now)
+    (c .before .line .result)) (ltb (c .before .line .result .end)
+    (length (c .before .before .before .before .before .args .s .now))))
 gave c x is = ap asRangeStep (sym is) ∙ c .range-step .ensures
 
 -- it gave an item
-taken : (c : tie.After-known-told Inv-loop μ-loop) → (c .before .before .before .before .before .loop .n < 64) × (c .before .before .before .before .line .result .end < length (c .before .before .before .before .before .before .before .before .args .s .now))
+taken : (c : tie.After-known-told Inv-loop μ-loop)
+    → (c .before .before .before .before .before .loop .n < 64)
+    × (c .before .before .before .before .line .result .end
+    < length (c .before .before .before .before .before .before .before .before .args .s
+    .now))
 taken c =
     let m = c .before .before .before in
-    took (m .before .before .loop .inv) (m .before .line .ensures) (gave m _ (c .before .t .given .1))
+    took (m .before .before .loop .inv) (m .before .line .ensures)
+    (gave m _ (c .before .t .given .1))
 
 no-ranges-requires : tie.Need-no-ranges-requires Inv-loop μ-loop
 no-ranges-requires c κs = search needs
 
 loop-holds : tie.Need-loop-holds Inv-loop μ-loop
-loop-holds c = record { low = c .before .before .pre; few = lit≤ tt; long = search needs; same = refl }
+loop-holds c =
+    record { low = c .before .before .pre; few = lit≤ tt; long = search needs; same = refl }
 
 line-requires : tie.Need-line-requires Inv-loop μ-loop
 line-requires c κs = c .loop .inv .low
 
 range-step-requires : tie.Need-range-step-requires Inv-loop μ-loop
-range-step-requires c κs = (let i = line-in _ _ (c .before .loop .inv .low) _ (c .line .ensures) in i)
+range-step-requires c κs =
+    (let i = line-in _ _ (c .before .loop .inv .low) _ (c .line .ensures) in i)
 
 enum-known-t : tie.Need-enum-known-t Inv-loop μ-loop
 enum-known-t c = search needs
@@ -64,12 +77,14 @@ add-at c = omega (arith, taken (c .before) .1)
 loop-less : tie.Need-loop-less Inv-loop μ-loop
 loop-less c =
     let m = c .before .before .before .before in
-    moved (m .before .before .loop .inv) (m .before .line .ensures) (gave m _ (c .before .before .t .given .1))
+    moved (m .before .before .loop .inv) (m .before .line .ensures)
+    (gave m _ (c .before .before .t .given .1))
 
 loop-again : tie.Need-loop-again Inv-loop μ-loop
 loop-again c =
     let m = c .before .before .before .before in
-    turned (m .before .before .loop .inv) (m .before .line .ensures) (gave m _ (c .before .before .t .given .1))
+    turned (m .before .before .loop .inv) (m .before .line .ensures)
+    (gave m _ (c .before .before .t .given .1))
 
 enum-known-f : tie.Need-enum-known-f Inv-loop μ-loop
 enum-known-f c = search needs
@@ -83,7 +98,8 @@ refuse-ranges-requires c κs = search needs
 returns : tie.Need-returns Inv-loop μ-loop
 returns c =
     let m = c .before .before .before .before in
-    rw (stopped (m .before .before .loop .inv) (m .before .line .ensures) (gave m _ (c .before .before .f .given .1))) (c .refuse-ranges .ensures)
+    rw (stopped (m .before .before .loop .inv) (m .before .line .ensures)
+    (gave m _ (c .before .before .f .given .1))) (c .refuse-ranges .ensures)
 
 enum-told : tie.Need-enum-told Inv-loop μ-loop
 enum-told c = search needs
@@ -93,13 +109,20 @@ finished-requires c κs =
     let m = c .before .before in
     let T = m .before .before .loop .inv in
     let b = m .before .before .before .before .before in
-    record { few = T .few; whole = count T; ended = ranges-ended (piecesFrom 10 (b .args .s .now) (b .args .start)) _ (ended T (m .before .line .ensures) (gave m _ (c .enum-told .given .1))) }
+    record {
+      few = T .few;
+      whole = count T;
+      ended = ranges-ended
+          (piecesFrom 10 (b .args .s .now) (b .args .start)) _
+          (ended T (m .before .line .ensures) (gave m _ (c .enum-told .given .1)));
+    }
 
 returns-2 : tie.Need-returns-2 Inv-loop μ-loop
 returns-2 c =
     let m = c .before .before .before in
     let T = m .before .before .loop .inv in
-    rw (ended T (m .before .line .ensures) (gave m _ (c .before .enum-told .given .1))) (c .finished .ensures)
+    rw (ended T (m .before .line .ensures) (gave m _ (c .before .enum-told .given .1)))
+    (c .finished .ensures)
 
 pub ranges-from-spec : {M : Type 1} → statement M
 ranges-from-spec =

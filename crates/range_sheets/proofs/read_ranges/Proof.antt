@@ -34,7 +34,12 @@ ranges-from-requires c κs = search needs
 returns : tie.Need-returns
 returns c =
     let p = c .before .before .before .before .before .before in
-    subst (λ (x : Reading (List RangeToken)). RangesRead (c .ranges-from .result) (fewChoices x)) (names-good (refused 11 1) rangeNames (p .before .before .args .s .now) (itemsFrom rangeStep []) (p .line .result) (p .line .ensures) (c .before .before .before .before .before .if1 .taken) (sym (c .before .if2 .taken) ∙ c .before .before .same .ensures)) (c .ranges-from .ensures)
+    subst (λ (x : Reading (List RangeToken)). RangesRead (c .ranges-from .result) (fewChoices x))
+    (names-good (refused 11 1) rangeNames (p .before .before .args .s .now)
+    (itemsFrom rangeStep []) (p .line .result) (p .line .ensures)
+    (c .before .before .before .before .before .if1 .taken)
+    (sym (c .before .if2 .taken) ∙ c .before .before .same .ensures))
+    (c .ranges-from .ensures)
 
 no-ranges-requires : tie.Need-no-ranges-requires
 no-ranges-requires c κs = search needs
@@ -45,7 +50,12 @@ refuse-ranges-requires c κs = search needs
 returns-2 : tie.Need-returns-2
 returns-2 c =
     let p = c .before .before .before .before .before .before .before in
-    subst (λ (x : Reading (List RangeToken)). RangesRead (c .refuse-ranges .result) (fewChoices x)) (names-other (refused 11 1) rangeNames (p .before .before .args .s .now) (itemsFrom rangeStep []) (p .line .result) (p .line .ensures) (c .before .before .before .before .before .before .if1 .taken) (sym (c .before .before .if2 .left) ∙ c .before .before .before .same .ensures)) (c .refuse-ranges .ensures)
+    subst (λ (x : Reading (List RangeToken)). RangesRead (c .refuse-ranges .result) (fewChoices x))
+    (names-other (refused 11 1) rangeNames (p .before .before .args .s .now)
+    (itemsFrom rangeStep []) (p .line .result) (p .line .ensures)
+    (c .before .before .before .before .before .before .if1 .taken)
+    (sym (c .before .before .if2 .left) ∙ c .before .before .before .same .ensures))
+    (c .refuse-ranges .ensures)
 
 no-ranges-requires-2 : tie.Need-no-ranges-requires-2
 no-ranges-requires-2 c κs = search needs
@@ -56,7 +66,10 @@ refuse-ranges-requires-2 c κs = search needs
 returns-3 : tie.Need-returns-3
 returns-3 c =
     let p = c .before .before .before in
-    subst (λ (x : Reading (List RangeToken)). RangesRead (c .refuse-ranges2 .result) (fewChoices x)) (names-open (refused 11 1) rangeNames (p .before .before .args .s .now) (itemsFrom rangeStep []) (p .line .result) (p .line .ensures) (c .before .before .if1 .left)) (c .refuse-ranges2 .ensures)
+    subst (λ (x : Reading (List RangeToken)). RangesRead (c .refuse-ranges2 .result) (fewChoices x))
+    (names-open (refused 11 1) rangeNames (p .before .before .args .s .now)
+    (itemsFrom rangeStep []) (p .line .result) (p .line .ensures)
+    (c .before .before .if1 .left)) (c .refuse-ranges2 .ensures)
 
 pub read-ranges-spec : {M : Type 1} → statement M
 read-ranges-spec =

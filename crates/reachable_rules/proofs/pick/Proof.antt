@@ -12,7 +12,8 @@ use Rattle.reachable_rules.proofs.pick.Statement.{statement}
 use Rattle.reachable_rules.proofs.pick.Tie as tie
 
 abbrev Inv-loop : tie.InvT-loop
-Inv-loop codes set out₀ count₀ i₀ out count i = (i ≤ length codes) × (count ≤ i) × Picked (decoded codes) set i (decoded (take count out)) × (length out ≡ 128)
+Inv-loop codes set out₀ count₀ i₀ out count i = (i ≤ length codes) × (count ≤ i)
+    × Picked (decoded codes) set i (decoded (take count out)) × (length out ≡ 128)
 
 abbrev μ-loop : tie.MeasureT-loop
 μ-loop codes set out₀ count₀ i₀ out count i = length codes - i
@@ -42,8 +43,14 @@ loop-again : tie.Need-loop-again Inv-loop μ-loop
 loop-again c =
     let i = c .before .before .before .before in
     let l = i .before .loop in
-    let cs = i .before .before .before .args .codes .now in
-    (omega (arith, i .loop-test .taken), omega (arith, l .inv .1), code-skip cs _ (i .loop-test .taken) (c .before .before .left-of .ensures) (c .before .has .ensures .isnt (not-true _ (c .if1 .taken))) (l .inv .2), l .inv .3)
+    let cs = i .before .before .before .args .codes .now in (
+      omega (arith, i .loop-test .taken),
+      omega (arith, l .inv .1),
+      code-skip cs _
+          (i .loop-test .taken) (c .before .before .left-of .ensures)
+          (c .before .has .ensures .isnt (not-true _ (c .if1 .taken))) (l .inv .2),
+      l .inv .3,
+    )
 
 mul-out : tie.Need-mul-out Inv-loop μ-loop
 mul-out c = search needs
@@ -64,16 +71,32 @@ loop-again-2 : tie.Need-loop-again-2 Inv-loop μ-loop
 loop-again-2 c =
     let i = c .before .before .before .before in
     let l = i .before .loop in
-    let cs = i .before .before .before .args .codes .now in
-    (omega (arith, i .loop-test .taken), omega (arith, l .inv .1), code-more cs _ (i .loop-test .taken) (c .before .before .left-of .ensures) (l .out) (l .count) (omega (arith, l .inv .1, l .inv .3, i .loop-test .taken, i .before .before .before .pre)) (c .before .has .ensures .is (not-false _ (c .if1 .left))) (l .inv .2), length-set (l .out) (l .count) _ ∙ l .inv .3)
+    let cs = i .before .before .before .args .codes .now in (
+      omega (arith, i .loop-test .taken),
+      omega (arith, l .inv .1),
+      code-more cs _
+          (i .loop-test .taken) (c .before .before .left-of .ensures) (l .out) (l .count)
+          (omega (
+            arith,
+            l .inv .1,
+            l .inv .3,
+            i .loop-test .taken,
+            i .before .before .before
+                .pre,
+          )) (c .before .has .ensures .is (not-false _ (c .if1 .left))) (l .inv .2),
+      length-set (l .out) (l .count) _ ∙ l .inv .3,
+    )
 
 returns : tie.Need-returns Inv-loop μ-loop
 returns c =
     let l = c .before .loop in
     let z = c .before .before .before in
     let cs = z .args .codes .now in
-    let e : l .i ≡ length cs = omega (arith, l .inv .0, c .loop-test .left) in
-    (subst (λ (i : ℕ). Picked (decoded cs) (z .args .set) i (decoded (take (l .count) (l .out)))) e (l .inv .2), omega (arith, l .inv .1, e, z .pre))
+    let e : l .i ≡ length cs = omega (arith, l .inv .0, c .loop-test .left) in (
+      subst (λ (i : ℕ). Picked (decoded cs) (z .args .set) i (decoded (take (l .count) (l .out)))) e
+          (l .inv .2),
+      omega (arith, l .inv .1, e, z .pre),
+    )
 
 pub pick-spec : {M : Type 1} → statement M
 pick-spec =

@@ -14,7 +14,8 @@ use Rattle.reachable_rules.proofs.reach_pass.Statement.{statement}
 use Rattle.reachable_rules.proofs.reach_pass.Tie as tie
 
 abbrev Inv-loop : tie.InvT-loop
-Inv-loop codes set next₀ i₀ next i = (i ≤ length codes) × Passed AddsParts (Reached (decoded codes)) (decoded codes) i set next
+Inv-loop codes set next₀ i₀ next i =
+    (i ≤ length codes) × Passed AddsParts (Reached (decoded codes)) (decoded codes) i set next
 
 abbrev μ-loop : tie.MeasureT-loop
 μ-loop codes set next₀ i₀ next i = length codes - i
@@ -40,15 +41,20 @@ loop-less c = search needs
 loop-again : tie.Need-loop-again Inv-loop μ-loop
 loop-again c =
     let l = c .before .before .before in
-    let h = c .before .before .loop-test .taken in
-    (omega arith, passed-more reach-sound _ (code-at (l .before .before .args .codes .now) (l .loop .i) h) (l .loop .inv .1) (c .spread .ensures))
+    let h = c .before .before .loop-test .taken in (
+      omega arith,
+      passed-more reach-sound _
+          (code-at (l .before .before .args .codes .now) (l .loop .i) h) (l .loop .inv .1)
+          (c .spread .ensures),
+    )
 
 returns : tie.Need-returns Inv-loop μ-loop
 returns c =
     let l = c .before .loop in
     let cs = c .before .before .before .args .codes .now in
     let e : l .i ≡ length cs = omega (arith, l .inv .0, c .loop-test .left) in
-    subst (λ (i : ℕ). Passed AddsParts (Reached (decoded cs)) (decoded cs) i (c .before .before .before .args .set) (l .next)) e (l .inv .1)
+    subst (λ (i : ℕ). Passed AddsParts (Reached (decoded cs)) (decoded cs) i
+    (c .before .before .before .args .set) (l .next)) e (l .inv .1)
 
 pub reach-pass-spec : {M : Type 1} → statement M
 reach-pass-spec =

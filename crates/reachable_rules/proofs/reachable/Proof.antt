@@ -25,8 +25,14 @@ returns c =
     let cs = z .args .codes .now in
     let out = p .result .codes in
     let long : length out ≡ 128 = search needs in (
-      picked-all (c .before .reached .ensures) (subst (λ (i : ℕ). Picked (decoded cs) (c .before .reached .result) i (decoded (take (p .result .count) out))) (sym (coded-length cs)) (p .ensures .0)),
-      (p .ensures .1, length-take-le (p .result .count) out (omega (arith, p .ensures .1))),
+      picked-all (c .before .reached .ensures)
+          (subst (λ (i : ℕ). Picked (decoded cs) (c .before .reached .result) i
+          (decoded (take (p .result .count) out))) (sym (coded-length cs)) (p .ensures .0)),
+      (
+        p .ensures .1,
+        length-take-le (p .result .count) out
+            (omega (arith, p .ensures .1)),
+      ),
     )
 
 pub reachable-spec : {M : Type 1} → statement M

@@ -1,4 +1,5 @@
--- The loop's invariant: members are reached. The set's number grows with each turn but the last, after which no rule adds to it.
+-- The loop's invariant: members are reached. The set's number grows with each turn but the last,
+-- after which no rule adds to it.
 use mathlib.Core.Path.{sym, subst}
 use Prim.Native.Nat.{ℕ, _-_, _^_}
 use native.Mathlib.Omega.{arith}
@@ -33,7 +34,9 @@ returns c =
     let p = c .before .before in
     let l = p .before in
     let cs = l .before .before .args .codes .now in
-    subst (λ (s : ℕ). Exactly s (Reached (decoded cs))) (sym (c .with .ensures)) (reach-exact (passed-all (p .reach-pass .ensures) (coded-length cs) (c .before .if1 .taken)) (l .loop .inv))
+    subst (λ (s : ℕ). Exactly s (Reached (decoded cs))) (sym (c .with .ensures))
+    (reach-exact (passed-all (p .reach-pass .ensures) (coded-length cs) (c .before .if1 .taken))
+    (l .loop .inv))
 
 loop-less : tie.Need-loop-less Inv-loop μ-loop
 loop-less c = omega (arith, c .before .reach-pass .ensures .more, c .before .reach-pass .ok)

@@ -12,7 +12,8 @@ with-parts-requires : tie.Need-with-parts-requires
 with-parts-requires c κs = search needs
 
 returns : tie.Need-returns
-returns c = spread-in _ _ _ _ (c .before .before .left-of .ensures) (inl (c .before .if1 .taken)) (c .with-parts .ensures)
+returns c = spread-in _ _ _ _ (c .before .before .left-of .ensures) (inl (c .before .if1 .taken))
+    (c .with-parts .ensures)
 
 has-requires : tie.Need-has-requires
 has-requires c κs = search needs
@@ -21,10 +22,12 @@ with-parts-requires-2 : tie.Need-with-parts-requires-2
 with-parts-requires-2 c κs = search needs
 
 returns-2 : tie.Need-returns-2
-returns-2 c = spread-in _ _ _ _ (c .before .before .before .before .left-of .ensures) (inr (c .before .before .has .ensures .is (c .before .if2 .taken))) (c .with-parts2 .ensures)
+returns-2 c = spread-in _ _ _ _ (c .before .before .before .before .left-of .ensures)
+    (inr (c .before .before .has .ensures .is (c .before .if2 .taken))) (c .with-parts2 .ensures)
 
 returns-3 : tie.Need-returns-3
-returns-3 c = spread-out _ _ _ (c .before .before .before .left-of .ensures) (c .before .before .if1 .left) (c .before .has .ensures .isnt (c .if2 .left))
+returns-3 c = spread-out _ _ _ (c .before .before .before .left-of .ensures)
+    (c .before .before .if1 .left) (c .before .has .ensures .isnt (c .if2 .left))
 
 pub spread-spec : {M : Type 1} → statement M
 spread-spec =

@@ -21,7 +21,8 @@ with-requires c κs = search needs
 returns-2 : tie.Need-returns-2
 returns-2 c =
     let k = c .before .before .before .before in
-    parts-one _ _ _ _ (sym (k .kind-of .ensures) ∙ c .if2 .taken) (c .before .before .first-of .ensures) (c .before .with .ensures)
+    parts-one _ _ _ _ (sym (k .kind-of .ensures) ∙ c .if2 .taken)
+    (c .before .before .first-of .ensures) (c .before .with .ensures)
 
 second-of-requires : tie.Need-second-of-requires
 second-of-requires c κs = search needs
@@ -32,7 +33,15 @@ with-requires-2 c κs = search needs
 returns-3 : tie.Need-returns-3
 returns-3 c =
     let k = c .before .before .before .before .before .before in
-    parts-two _ _ _ _ _ _ (omega (arith, k .kind-of .ensures, c .before .before .before .before .before .if1 .left, c .before .before .if2 .left)) (c .before .before .before .before .first-of .ensures) (c .before .second-of .ensures) (c .before .before .before .with .ensures) (c .with2 .ensures)
+    parts-two _ _ _ _ _ _ (omega (
+      arith,
+      k .kind-of .ensures,
+      c .before .before .before .before
+          .before .if1 .left,
+      c .before .before .if2 .left,
+    ))
+    (c .before .before .before .before .first-of .ensures) (c .before .second-of .ensures)
+    (c .before .before .before .with .ensures) (c .with2 .ensures)
 
 pub with-parts-spec : {M : Type 1} → statement M
 with-parts-spec =

@@ -24,10 +24,12 @@ returns-2 : tie.Need-returns-2
 returns-2 c = rw (c .enum-told2 .given .1) refl
 
 returns-3 : tie.Need-returns-3
-returns-3 c = rw (c .before .before .before .b .given .1) (inl (refl, c .before .leads .ensures .is (c .if1 .taken)))
+returns-3 c = rw (c .before .before .before .b .given .1)
+    (inl (refl, c .before .leads .ensures .is (c .if1 .taken)))
 
 returns-4 : tie.Need-returns-4
-returns-4 c = rw (c .before .before .before .b .given .1) (inr (refl, c .before .leads .ensures .isnt (c .if1 .left)))
+returns-4 c = rw (c .before .before .before .b .given .1)
+    (inr (refl, c .before .leads .ensures .isnt (c .if1 .left)))
 
 pub after-found-spec : {M : Type 1} → statement M
 after-found-spec =

@@ -9,7 +9,8 @@ use Rattle.reports.proofs.clear_rest.Tie as tie
 abbrev start : tie.After-known-told → tie.Start
 start c = c .before .before .before .before .before
 
-pair : (c : tie.After-known-told) → PairTo (start c .args .s .now) (start c .args .at) (c .before .a .given .0 .0)
+pair : (c : tie.After-known-told)
+    → PairTo (start c .args .s .now) (start c .args .at) (c .before .a .given .0 .0)
 pair c = let e = c .before .before .before .pair-end .ensures in rw (c .before .a .given .1) at e
 
 pair-end-requires : tie.Need-pair-end-requires
@@ -24,7 +25,8 @@ enum-told c = search needs
 returns : tie.Need-returns
 returns c =
     let a = c .before .before .before .before .args in
-    let e = c .before .before .pair-end .ensures in fails (clear-none (a .s .now) (a .at) (rw (c .enum-told .given .1) at e))
+    let e = c .before .before .pair-end .ensures in
+    fails (clear-none (a .s .now) (a .at) (rw (c .enum-told .given .1) at e))
 
 slice-aggregate-ends-with : tie.Need-slice-aggregate-ends-with
 slice-aggregate-ends-with c = search needs

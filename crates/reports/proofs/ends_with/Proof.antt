@@ -18,7 +18,8 @@ same-requires c κs = search needs
 
 returns : tie.Need-returns
 returns c =
-    let a = c .before .before .before .before .args in same-whole (a .s .now) (a .at) (a .bytes .now) (c .same .result) (c .same .ensures)
+    let a = c .before .before .before .before .args in
+    same-whole (a .s .now) (a .at) (a .bytes .now) (c .same .result) (c .same .ensures)
 
 pub ends-with-spec : {M : Type 1} → statement M
 ends-with-spec = tie.close (tie.spec sub-same part-same-start part-same-end same-requires returns)

@@ -24,7 +24,13 @@ put-bytes-requires c κs =
     let q = p .before in
     let a = q .before .before .before .before .args in
     let e = w .which .ensures in
-    omega (arith, one-short (a .one .now) (a .two .now) (q .report .result) (p .report2 .result) (q .report .ensures) (rw (c .before .enum-told .given .1) at e), q .before .before .before .before .pre)
+    omega (
+      arith,
+      one-short (a .one .now) (a .two .now) (q .report .result) (p .report2 .result)
+          (q .report .ensures) (rw (c .before .enum-told .given .1) at e),
+      q .before .before .before
+          .before .pre,
+    )
 
 enum-told-2 : tie.Need-enum-told-2
 enum-told-2 c = search needs
@@ -36,7 +42,13 @@ put-bytes-requires-2 c κs =
     let q = p .before in
     let a = q .before .before .before .before .args in
     let e = w .which .ensures in
-    omega (arith, two-short (a .one .now) (a .two .now) (q .report .result) (p .report2 .result) (p .report2 .ensures) (rw (c .before .enum-told2 .given .1) at e), q .before .before .before .before .pre)
+    omega (
+      arith,
+      two-short (a .one .now) (a .two .now) (q .report .result) (p .report2 .result)
+          (p .report2 .ensures) (rw (c .before .enum-told2 .given .1) at e),
+      q .before .before .before
+          .before .pre,
+    )
 
 enum-told-3 : tie.Need-enum-told-3
 enum-told-3 c = search needs
@@ -54,7 +66,14 @@ returns c =
     let q = p .before in
     let a = q .before .before .before .before .args in
     let e = w .which .ensures in
-    record { text = _; is = take-one (a .one .now) (a .two .now) (q .report .result) (p .report2 .result) (q .report .ensures) (p .report2 .ensures) (rw (c .before .before .before .before .enum-told .given .1) at e); wrote = c .before .before .put-bytes .ensures }
+    record {
+      text = _;
+      is = take-one (a .one .now) (a .two .now) (q .report .result)
+          (p .report2 .result) (q .report .ensures) (p .report2 .ensures)
+          (rw (c .before .before .before .before .enum-told .given .1) at e);
+      wrote =
+          c .before .before .put-bytes .ensures;
+    }
 
 same-length-2 : tie.Need-same-length-2
 same-length-2 c = search needs
@@ -66,7 +85,14 @@ returns-2 c =
     let q = p .before in
     let a = q .before .before .before .before .args in
     let e = w .which .ensures in
-    record { text = _; is = take-two (a .one .now) (a .two .now) (q .report .result) (p .report2 .result) (q .report .ensures) (p .report2 .ensures) (rw (c .before .before .before .before .enum-told2 .given .1) at e); wrote = c .before .before .put-bytes2 .ensures }
+    record {
+      text = _;
+      is = take-two (a .one .now) (a .two .now) (q .report .result)
+          (p .report2 .result) (q .report .ensures) (p .report2 .ensures)
+          (rw (c .before .before .before .before .enum-told2 .given .1) at e);
+      wrote =
+          c .before .before .put-bytes2 .ensures;
+    }
 
 same-length-3 : tie.Need-same-length-3
 same-length-3 c = search needs
@@ -78,7 +104,14 @@ returns-3 c =
     let q = p .before in
     let a = q .before .before .before .before .args in
     let e = w .which .ensures in
-    record { text = _; is = take-neither (a .one .now) (a .two .now) (q .report .result) (p .report2 .result) (q .report .ensures) (p .report2 .ensures) (rw (c .before .before .before .before .enum-told3 .given .1) at e); wrote = c .before .before .put-refusal .ensures }
+    record {
+      text = _;
+      is = take-neither (a .one .now) (a .two .now) (q .report .result)
+          (p .report2 .result) (q .report .ensures) (p .report2 .ensures)
+          (rw (c .before .before .before .before .enum-told3 .given .1) at e);
+      wrote =
+          c .before .before .put-refusal .ensures;
+    }
 
 pub merge-text-spec : {M : Type 1} → statement M
 merge-text-spec =

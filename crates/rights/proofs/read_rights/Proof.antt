@@ -34,14 +34,22 @@ rights-from-requires c κs =
     let p = c .before .before .before .before in
     let s = p .before .before .before .args .s .now in
     let e = p .before .line .result .end in
-    let l : length (take e s) ≡ 17 = ap length (same-path (take e s) rightNames (sym (c .before .same .ensures) ∙ c .if2 .taken)) in
-    (omega (arith, l, length-take-le e s (omega (arith, p .if1 .taken))), omega (arith, p .if1 .taken))
+    let l : length (take e s) ≡ 17 = ap length
+    (same-path (take e s) rightNames (sym (c .before .same .ensures) ∙ c .if2 .taken)) in (
+      omega (arith, l, length-take-le e s (omega (arith, p .if1 .taken))),
+      omega
+          (arith, p .if1 .taken),
+    )
 
 returns : tie.Need-returns
 returns c =
     let p = c .before .before .before .before .before .before in
     let z = p .before .before .args in
-    subst (λ (x : Reading (List Right)). RightsGiven x (z .user) (c .rights-from .result)) (names-good (refused 50 1) rightNames (z .s .now) itemsOf (p .line .result) (p .line .ensures) (c .before .before .before .before .before .if1 .taken) (sym (c .before .if2 .taken) ∙ c .before .before .same .ensures)) (c .rights-from .ensures)
+    subst (λ (x : Reading (List Right)). RightsGiven x (z .user) (c .rights-from .result))
+    (names-good (refused 50 1) rightNames (z .s .now) itemsOf (p .line .result)
+    (p .line .ensures) (c .before .before .before .before .before .if1 .taken)
+    (sym (c .before .if2 .taken) ∙ c .before .before .same .ensures))
+    (c .rights-from .ensures)
 
 refuse-rights-requires : tie.Need-refuse-rights-requires
 refuse-rights-requires c κs = search needs
@@ -50,7 +58,11 @@ returns-2 : tie.Need-returns-2
 returns-2 c =
     let p = c .before .before .before .before .before .before in
     let z = p .before .before .args in
-    subst (λ (x : Reading (List Right)). RightsGiven x (z .user) (c .refuse-rights .result)) (names-other (refused 50 1) rightNames (z .s .now) itemsOf (p .line .result) (p .line .ensures) (c .before .before .before .before .before .if1 .taken) (sym (c .before .if2 .left) ∙ c .before .before .same .ensures)) (c .refuse-rights .ensures)
+    subst (λ (x : Reading (List Right)). RightsGiven x (z .user) (c .refuse-rights .result))
+    (names-other (refused 50 1) rightNames (z .s .now) itemsOf (p .line .result)
+    (p .line .ensures) (c .before .before .before .before .before .if1 .taken)
+    (sym (c .before .if2 .left) ∙ c .before .before .same .ensures))
+    (c .refuse-rights .ensures)
 
 refuse-rights-requires-2 : tie.Need-refuse-rights-requires-2
 refuse-rights-requires-2 c κs = search needs
@@ -59,7 +71,9 @@ returns-3 : tie.Need-returns-3
 returns-3 c =
     let p = c .before .before in
     let z = p .before .before .args in
-    subst (λ (x : Reading (List Right)). RightsGiven x (z .user) (c .refuse-rights2 .result)) (names-open (refused 50 1) rightNames (z .s .now) itemsOf (p .line .result) (p .line .ensures) (c .before .if1 .left)) (c .refuse-rights2 .ensures)
+    subst (λ (x : Reading (List Right)). RightsGiven x (z .user) (c .refuse-rights2 .result))
+    (names-open (refused 50 1) rightNames (z .s .now) itemsOf (p .line .result)
+    (p .line .ensures) (c .before .if1 .left)) (c .refuse-rights2 .ensures)
 
 pub read-rights-spec : {M : Type 1} → statement M
 read-rights-spec =

@@ -1,4 +1,5 @@
--- `both_by` meets its contract: the table over the empty word, then the walk of the first tree and the way down the second.
+-- `both_by` meets its contract: the table over the empty word, then the walk of the first tree and
+-- the way down the second.
 use borrow.Author.Needs.{needs}
 use native.Mathlib.Omega.{arith}
 use Rattle.grammar.specs.Rows.{rowCount}
@@ -26,8 +27,14 @@ cast-count-first c = search needs
 count-first-requires : tie.Need-count-first-requires
 count-first-requires c κs =
     let s = c .before .before .before .before .before .before in
-    let p = s .pre .0 .positioned in
-    ((s .pre .0, omega arith, omega arith), (c .before .before .null-counts .ensures, spanned-there (s .args .s .count) (p .whole) (s .pre .1 .1 .goal .first)))
+    let p = s .pre .0 .positioned in (
+      (s .pre .0, omega arith, omega arith),
+      (
+        c .before .before .null-counts .ensures,
+        spanned-there (s .args .s .count) (p .whole)
+            (s .pre .1 .1 .goal .first),
+      ),
+    )
 
 slice-aggregate-walk-second : tie.Need-slice-aggregate-walk-second
 slice-aggregate-walk-second c = search needs
@@ -40,20 +47,33 @@ exact-or-more-requires c κs =
     let count-first = c .before .before .count-first in
     let s = c .before .before .before .before .before .before .before .before .before in
     let t = s .pre .1 .1 .goal in
-    omega (arith, count-first .ensures (t .tree) (spanned (s .args .s .count) (s .pre .0 .positioned .whole) (t .first)), capped-le (rowCount (t .tree)))
+    omega (
+      arith,
+      count-first .ensures (t .tree)
+          (spanned (s .args .s .count) (s .pre .0 .positioned .whole) (t .first)),
+      capped-le
+          (rowCount (t .tree)),
+    )
 
 exact-or-more-requires-2 : tie.Need-exact-or-more-requires-2
 exact-or-more-requires-2 c κs =
     let s = c .before .before .before .before .before .before .before .before .before .before in
     let u = s .pre .1 .1 in
-    omega (arith, c .before .walk-second .ensures (u .tree) (u .goal), capped-le (rowCount (u .tree)))
+    omega (
+      arith,
+      c .before .walk-second .ensures (u .tree) (u .goal),
+      capped-le
+          (rowCount (u .tree)),
+    )
 
 returns : tie.Need-returns
 returns c =
-    let s = c .before .before .before .before .before .before .before .before .before .before .before in
+    let s = c .before .before .before .before .before .before .before .before .before .before
+    .before in
     let first = c .before .before .before .before .count-first in
     λ t u f e. (
-      c .before .exact-or-more .ensures (rowCount t) (first .ensures t (spanned (s .args .s .count) (s .pre .0 .positioned .whole) f)),
+      c .before .exact-or-more .ensures (rowCount t)
+          (first .ensures t (spanned (s .args .s .count) (s .pre .0 .positioned .whole) f)),
       c .exact-or-more2 .ensures (rowCount u) (c .before .before .walk-second .ensures u e),
     )
 

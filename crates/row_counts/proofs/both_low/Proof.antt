@@ -15,12 +15,15 @@ slice-aggregate-both-by c = search needs
 
 both-by-requires : tie.Need-both-by-requires
 both-by-requires c κs =
-    let z = c .before .before .before .before .before in
-    (ready-low (z .pre .0) (z .pre .1 .1 .1) (c .before .before .heights .ensures), (z .pre .1 .0, z .pre .1 .1 .0))
+    let z = c .before .before .before .before .before in (
+      ready-low (z .pre .0) (z .pre .1 .1 .1) (c .before .before .heights .ensures),
+      (z .pre .1 .0, z .pre .1 .1 .0),
+    )
 
 returns : tie.Need-returns
 returns c = search needs
 
 pub both-low-spec : {M : Type 1} → statement M
 both-low-spec =
-    tie.close (tie.spec slice-aggregate-heights heights-requires slice-aggregate-both-by both-by-requires returns)
+    tie.close (tie.spec slice-aggregate-heights heights-requires slice-aggregate-both-by
+    both-by-requires returns)

@@ -24,8 +24,10 @@ slice-aggregate-both-by c = search needs
 
 both-by-requires : tie.Need-both-by-requires
 both-by-requires c κs =
-    let z = c .before .before .before .before in
-    (ready-flat (z .pre .0) (c .before .before .cyclic .ensures .isnt (c .before .if1 .left)) refl, z .pre .1)
+    let z = c .before .before .before .before in (
+      ready-flat (z .pre .0) (c .before .before .cyclic .ensures .isnt (c .before .if1 .left)) refl,
+      z .pre .1,
+    )
 
 returns-2 : tie.Need-returns-2
 returns-2 c = search needs

@@ -26,7 +26,8 @@ returns c =
     let z = c .before .before .before .before .before .before in
     let a = z .args in
     λ t f. let e : a .l ≡ 0 = if1 .taken in
-    ap (λ (y : ℕ). getD (a .z .now) y 0) (c .before .wide .ensures) ∙ z .pre .1 .0 .count (a .a) t (z .pre .0 .1)
+    ap (λ (y : ℕ). getD (a .z .now) y 0) (c .before .wide .ensures)
+    ∙ z .pre .1 .0 .count (a .a) t (z .pre .0 .1)
     (subst (λ (n : ℕ). FirstTree (rules (a .g)) (a .a) (part (spelled (a .s)) (a .i) n) t) e f)
 
 walk-requires : tie.Need-walk-requires

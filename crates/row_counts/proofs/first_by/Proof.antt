@@ -26,19 +26,33 @@ cast-count-first c = search needs
 count-first-requires : tie.Need-count-first-requires
 count-first-requires c κs =
     let s = c .before .before .before .before .before .before in
-    let p = s .pre .0 .positioned in
-    ((s .pre .0, omega arith, omega arith), (c .before .before .null-counts .ensures, spanned-there (s .args .s .count) (p .whole) (s .pre .1 .1 .goal)))
+    let p = s .pre .0 .positioned in (
+      (s .pre .0, omega arith, omega arith),
+      (
+        c .before .before .null-counts .ensures,
+        spanned-there (s .args .s .count) (p .whole)
+            (s .pre .1 .1 .goal),
+      ),
+    )
 
 exact-or-more-requires : tie.Need-exact-or-more-requires
 exact-or-more-requires c κs =
     let s = c .before .before .before .before .before .before .before in
     let t = s .pre .1 .1 in
-    omega (arith, c .count-first .ensures (t .tree) (spanned (s .args .s .count) (s .pre .0 .positioned .whole) (t .goal)), capped-le (rowCount (t .tree)))
+    omega (
+      arith,
+      c .count-first .ensures (t .tree)
+          (spanned (s .args .s .count) (s .pre .0 .positioned .whole) (t .goal)),
+      capped-le
+          (rowCount (t .tree)),
+    )
 
 returns : tie.Need-returns
 returns c =
     let s = c .before .before .before .before .before .before .before .before in
-    λ t f. c .exact-or-more .ensures (rowCount t) (c .before .count-first .ensures t (spanned (s .args .s .count) (s .pre .0 .positioned .whole) f))
+    λ t f. c .exact-or-more .ensures (rowCount t)
+    (c .before .count-first .ensures t
+    (spanned (s .args .s .count) (s .pre .0 .positioned .whole) f))
 
 pub first-by-spec : {M : Type 1} → statement M
 first-by-spec =

@@ -15,12 +15,15 @@ slice-aggregate-first-by c = search needs
 
 first-by-requires : tie.Need-first-by-requires
 first-by-requires c κs =
-    let z = c .before .before .before .before .before in
-    (ready-low (z .pre .0) (z .pre .1 .1 .1) (c .before .before .heights .ensures), (z .pre .1 .0, z .pre .1 .1 .0))
+    let z = c .before .before .before .before .before in (
+      ready-low (z .pre .0) (z .pre .1 .1 .1) (c .before .before .heights .ensures),
+      (z .pre .1 .0, z .pre .1 .1 .0),
+    )
 
 returns : tie.Need-returns
 returns c = search needs
 
 pub first-low-spec : {M : Type 1} → statement M
 first-low-spec =
-    tie.close (tie.spec slice-aggregate-heights heights-requires slice-aggregate-first-by first-by-requires returns)
+    tie.close (tie.spec slice-aggregate-heights heights-requires slice-aggregate-first-by
+    first-by-requires returns)

@@ -10,7 +10,11 @@ use Rattle.row_counts.proofs.onward.Tie as tie
 
 returns : tie.Need-returns
 returns c =
-    record { low = λ h. (refl, refl, refl, refl); left = λ h. absurd (omega (arith, c .if1 .taken)); right = λ h. absurd (omega (arith, c .if1 .taken)) }
+    record {
+      low = λ h. (refl, refl, refl, refl);
+      left = λ h. absurd (omega (arith, c .if1 .taken));
+      right = λ h. absurd (omega (arith, c .if1 .taken));
+    }
 
 wide-requires : tie.Need-wide-requires
 wide-requires c κs = search needs
@@ -23,10 +27,18 @@ in-second-requires c κs =
     let z = c .before .before .before .before .before in
     let a = z .args in
     let p = z .pre in
-    record { few = p .few; fits = omega (arith, c .before .wide .ensures, c .wide2 .ensures, p .fits, p .split); enough = p .enough; small = p .small }
+    record {
+      few = p .few;
+      fits = omega
+          (arith, c .before .wide .ensures, c .wide2 .ensures, p .fits, p .split);
+      enough =
+          p .enough;
+      small = p .small;
+    }
 
 add-t13 : tie.Need-add-t13
-add-t13 c = let z = c .before .before .before .before .before .before .before in let a = z .args in omega (arith, z .pre .few, z .pre .fits, z .pre .split)
+add-t13 c = let z = c .before .before .before .before .before .before .before in let a = z .args in
+    omega (arith, z .pre .few, z .pre .fits, z .pre .split)
 
 sub-t14 : tie.Need-sub-t14
 sub-t14 c = c .before .before .before .before .before .before .before .pre .split
@@ -45,11 +57,16 @@ returns-2 c =
       low = λ h. absurd (omega (arith, if1 .left));
       left = λ h k. (refl, refl, refl, refl, refl, refl, refl);
       right =
-          λ h k. absurd (k (let h = c .before .in-second .ensures .is (c .if2 .taken) in (subst (λ (y : ℕ). In (secondWord (a .words .now) (a .n) (a .i) y) (a .st .first)) (wide2 .ensures) (subst (λ (y : ℕ). In (secondWord (a .words .now) (a .n) y (wide2 .result)) (a .st .first)) (wide .ensures) h))));
+          λ h k. absurd (k (let h = c .before .in-second .ensures .is (c .if2 .taken) in
+          (subst (λ (y : ℕ). In (secondWord (a .words .now) (a .n) (a .i) y) (a .st .first))
+          (wide2 .ensures) (subst (λ (y : ℕ). In
+          (secondWord (a .words .now) (a .n) y (wide2 .result)) (a .st .first))
+          (wide .ensures) h))));
     }
 
 add-t15 : tie.Need-add-t15
-add-t15 c = let z = c .before .before .before .before .before .before .before in let a = z .args in omega (arith, z .pre .few, z .pre .fits, z .pre .split)
+add-t15 c = let z = c .before .before .before .before .before .before .before in let a = z .args in
+    omega (arith, z .pre .few, z .pre .fits, z .pre .split)
 
 sub-t16 : tie.Need-sub-t16
 sub-t16 c = c .before .before .before .before .before .before .before .pre .split
@@ -66,7 +83,8 @@ returns-3 c =
     let a = z .args in
     record {
       low = λ h. absurd (omega (arith, if1 .left));
-      left = λ h k. absurd (c .before .in-second .ensures .isnt (c .if2 .left) (rw (wide .ensures, wide2 .ensures) k));
+      left = λ h k. absurd (c .before .in-second .ensures .isnt (c .if2 .left)
+          (rw (wide .ensures, wide2 .ensures) k));
       right = λ h k. (refl, refl, refl, refl, refl, refl, refl);
     }
 

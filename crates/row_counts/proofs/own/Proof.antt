@@ -21,7 +21,11 @@ shared-slice-read-add : tie.Need-shared-slice-read-add
 shared-slice-read-add c = search needs
 
 add-requires : tie.Need-add-requires
-add-requires c κs = (omega arith, c .before .before .before .before .before .before .before .pre .1 .0 (c .before .wide .result))
+add-requires c κs = (
+  omega arith,
+  c .before .before .before .before .before .before .before .pre .1
+      .0 (c .before .wide .result),
+)
 
 returns-2 : tie.Need-returns-2
 returns-2 c =
@@ -36,7 +40,8 @@ returns-2 c =
     let a = args in
     record {
       low = λ h. absurd (omega (arith, if1 .left));
-      left = λ h k. c .add .ensures ∙ ap (λ (y : ℕ). capped (1 + getD (a .z .now) y 0)) (wide .ensures);
+      left = λ h k. c .add .ensures ∙ ap (λ (y : ℕ). capped (1 + getD (a .z .now) y 0))
+          (wide .ensures);
       right = λ h k. absurd (omega (arith, if2 .taken));
       inner = λ h k. absurd (omega (arith, if2 .taken));
     }
@@ -51,11 +56,16 @@ shared-slice-read-add-2 : tie.Need-shared-slice-read-add-2
 shared-slice-read-add-2 c = search needs
 
 add-requires-2 : tie.Need-add-requires-2
-add-requires-2 c κs = (omega arith, c .before .before .before .before .before .before .before .before .before .pre .1 .0 (c .before .wide2 .result))
+add-requires-2 c κs = (
+  omega arith,
+  c .before .before .before .before .before .before .before
+      .before .before .pre .1 .0 (c .before .wide2 .result),
+)
 
 returns-3 : tie.Need-returns-3
 returns-3 c =
-    let args-here = c .before .before .before .before .before .before .before .before .before .before .args in
+    let args-here =
+    c .before .before .before .before .before .before .before .before .before .before .args in
     let if1-here = c .before .before .before .before .before .before .before .if1 in
     let if2-here = c .before .before .before .before .before .if2 in
     let if3-here = c .before .before .before .if3 in
@@ -69,7 +79,8 @@ returns-3 c =
     record {
       low = λ h. absurd (omega (arith, if1 .left));
       left = λ h k. absurd (if2 .left k);
-      right = λ h k e. c .add2 .ensures ∙ ap (λ (y : ℕ). capped (1 + getD (a .z .now) y 0)) (wide2 .ensures);
+      right = λ h k e. c .add2 .ensures ∙ ap (λ (y : ℕ). capped (1 + getD (a .z .now) y 0))
+          (wide2 .ensures);
       inner = λ h k e. absurd (e (if3 .taken));
     }
 

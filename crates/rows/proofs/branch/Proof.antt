@@ -1,9 +1,11 @@
--- `branch` meets its contract: no entry, one or two are pushed (`branched-none`, `branched-one`, `branched-two`).
+-- `branch` meets its contract: no entry, one or two are pushed (`branched-none`, `branched-one`,
+-- `branched-two`).
 use borrow.Author.Needs.{needs}
 use mathlib.Core.Path.{_≡_}
 use Prim.Native.Nat.{_≤_}
 use native.Mathlib.Omega.{arith}
-use Rattle.rows.proofs.StepLaws.{room-one, room-two, is-three, branched-none, branched-closed, branched-one, branched-two}
+use Rattle.rows.proofs.StepLaws.{room-one, room-two, is-three, branched-none}
+use Rattle.rows.proofs.StepLaws.{branched-closed, branched-one, branched-two}
 use Rattle.rows.proofs.branch.Statement.{statement}
 use Rattle.rows.proofs.branch.Tie as tie
 
@@ -12,7 +14,8 @@ one : (c : tie.Then3) → 1 ≤ c .before .before .before .before .args .top
 one c = room-one (c .before .before .before .before .pre) (c .if3 .taken)
 
 three : (c : tie.Else3) → c .before .before .before .before .args .st .kind ≡ 3
-three c = is-three (c .before .before .before .before .pre) (c .before .before .if1 .left) (c .before .if2 .left) (c .if3 .left)
+three c = is-three (c .before .before .before .before .pre) (c .before .before .if1 .left)
+    (c .before .if2 .left) (c .if3 .left)
 
 two : (c : tie.Else3) → 2 ≤ c .before .before .before .before .args .top
 two c = room-two (c .before .before .before .before .pre) (three c)
@@ -36,7 +39,9 @@ same-length : tie.Need-same-length
 same-length c = search needs
 
 returns-3 : tie.Need-returns-3
-returns-3 c = let t = c .before .before .before .before in branched-one (t .before .before .before .before .pre) _ _ (t .if3 .taken) _ (c .before .before .put .ensures)
+returns-3 c = let t = c .before .before .before .before in
+    branched-one (t .before .before .before .before .pre) _ _ (t .if3 .taken) _
+    (c .before .before .put .ensures)
 
 add-next : tie.Need-add-next
 add-next c = search needs
@@ -60,13 +65,21 @@ mul-put-3 : tie.Need-mul-put-3
 mul-put-3 c = search needs
 
 put-requires-3 : tie.Need-put-requires-3
-put-requires-3 c κs = omega (arith, two (c .before .before .before .before .before), c .before .before .before .put2 .kept .0)
+put-requires-3 c κs = omega (
+  arith,
+  two (c .before .before .before .before .before),
+  c .before
+      .before .before .put2 .kept .0,
+)
 
 same-length-2 : tie.Need-same-length-2
 same-length-2 c = search needs
 
 returns-4 : tie.Need-returns-4
-returns-4 c = let t = c .before .before .before .before .before .before .before .before in branched-two (t .before .before .before .before .pre) _ _ (three t) _ _ (c .before .before .before .before .before .before .put2 .ensures) (c .before .before .put3 .ensures)
+returns-4 c = let t = c .before .before .before .before .before .before .before .before in
+    branched-two (t .before .before .before .before .pre) _ _ (three t) _ _
+    (c .before .before .before .before .before .before .put2 .ensures)
+    (c .before .before .put3 .ensures)
 
 pub branch-spec : {M : Type 1} → statement M
 branch-spec =

@@ -34,4 +34,5 @@ returns : tie.Need-returns Inv-loop μ-loop
 returns c = cleared-all (c .before .loop .inv) (omega arith)
 
 pub clear-spec : {M : Type 1} → statement M
-clear-spec = tie.close (tie.spec Inv-loop μ-loop loop-holds slice-write-out add-i loop-less loop-again same-length returns)
+clear-spec = tie.close (tie.spec Inv-loop μ-loop loop-holds slice-write-out add-i loop-less
+    loop-again same-length returns)

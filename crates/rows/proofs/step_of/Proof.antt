@@ -1,4 +1,5 @@
--- `step_of` meets its contract: the rule that stands at the place is the one read there (`step-at`), and each kind has its arm.
+-- `step_of` meets its contract: the rule that stands at the place is the one read there
+-- (`step-at`), and each kind has its arm.
 use borrow.Author.Needs.{needs}
 use Rattle.grammar.specs.declared.Clause.the-variants.{Empty, Atom, Unary, Binary}
 use Rattle.rows.proofs.StepLaws.{step-at}
@@ -27,16 +28,20 @@ enum-known-c-2 : tie.Need-enum-known-c-2
 enum-known-c-2 c = search needs
 
 returns : tie.Need-returns
-returns c = λ x e. step-at (c .before .before .before .args .t1 .rules) _ x _ Empty _ _ e (c .enum-told .given .1)
+returns c = λ x e. step-at (c .before .before .before .args .t1 .rules) _ x _ Empty _ _ e
+    (c .enum-told .given .1)
 
 returns-2 : tie.Need-returns-2
-returns-2 c = λ x e. step-at (c .before .before .before .args .t1 .rules) _ x _ (Atom _ _) _ _ e (c .enum-told2 .given .1)
+returns-2 c = λ x e. step-at (c .before .before .before .args .t1 .rules) _ x _ (Atom _ _) _ _ e
+    (c .enum-told2 .given .1)
 
 returns-3 : tie.Need-returns-3
-returns-3 c = λ x e. step-at (c .before .before .before .before .args .t1 .rules) _ x _ (Unary _ _) _ _ e (c .before .c .given .1)
+returns-3 c = λ x e. step-at (c .before .before .before .before .args .t1 .rules) _ x _ (Unary _ _)
+    _ _ e (c .before .c .given .1)
 
 returns-4 : tie.Need-returns-4
-returns-4 c = λ x e. step-at (c .before .before .before .before .args .t1 .rules) _ x _ (Binary _ _ _) _ _ e (c .before .c2 .given .1)
+returns-4 c = λ x e. step-at (c .before .before .before .before .args .t1 .rules) _ x _
+    (Binary _ _ _) _ _ e (c .before .c2 .given .1)
 
 pub step-of-spec : {M : Type 1} → statement M
 step-of-spec =

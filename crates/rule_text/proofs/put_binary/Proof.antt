@@ -38,8 +38,11 @@ same-length c = search needs
 returns : tie.Need-returns
 unfolding binaryLay
 returns c =
-    let z = c .before .before in
-    (rw (z .before .before .before .enum-told .given .1) (z .put-bytes .ensures), omega (arith, z .put-bytes .ensures .next))
+    let z = c .before .before in (
+      rw (z .before .before .before .enum-told .given .1) (z .put-bytes .ensures),
+      omega
+          (arith, z .put-bytes .ensures .next),
+    )
 
 same-length-2 : tie.Need-same-length-2
 same-length-2 c = search needs
@@ -47,8 +50,11 @@ same-length-2 c = search needs
 returns-2 : tie.Need-returns-2
 unfolding binaryLay
 returns-2 c =
-    let z = c .before .before in
-    (rw (z .before .before .before .enum-told2 .given .1) (z .put-bytes2 .ensures), omega (arith, z .put-bytes2 .ensures .next))
+    let z = c .before .before in (
+      rw (z .before .before .before .enum-told2 .given .1) (z .put-bytes2 .ensures),
+      omega
+          (arith, z .put-bytes2 .ensures .next),
+    )
 
 same-length-3 : tie.Need-same-length-3
 same-length-3 c = search needs
@@ -56,8 +62,11 @@ same-length-3 c = search needs
 returns-3 : tie.Need-returns-3
 unfolding binaryLay
 returns-3 c =
-    let z = c .before .before in
-    (rw (z .before .before .before .enum-told3 .given .1) (z .put-bytes3 .ensures), omega (arith, z .put-bytes3 .ensures .next))
+    let z = c .before .before in (
+      rw (z .before .before .before .enum-told3 .given .1) (z .put-bytes3 .ensures),
+      omega
+          (arith, z .put-bytes3 .ensures .next),
+    )
 
 pub put-binary-spec : {M : Type 1} → statement M
 put-binary-spec =

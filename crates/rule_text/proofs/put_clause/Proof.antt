@@ -38,8 +38,11 @@ same-length c = search needs
 returns : tie.Need-returns
 unfolding clauseText unaryLay
 returns c =
-    let z = c .before .before in
-    (rw (z .before .before .before .enum-told .given .1) (z .put-bytes .ensures), omega (arith, z .put-bytes .ensures .next))
+    let z = c .before .before in (
+      rw (z .before .before .before .enum-told .given .1) (z .put-bytes .ensures),
+      omega
+          (arith, z .put-bytes .ensures .next),
+    )
 
 same-length-2 : tie.Need-same-length-2
 same-length-2 c = search needs
@@ -56,8 +59,11 @@ same-length-3 c = search needs
 returns-3 : tie.Need-returns-3
 unfolding clauseText
 returns-3 c =
-    let z = c .before .before in
-    (rw (z .before .before .before .k2 .given .1) (z .put-over .ensures .0), z .put-over .ensures .1)
+    let z = c .before .before in (
+      rw (z .before .before .before .k2 .given .1) (z .put-over .ensures .0),
+      z .put-over .ensures
+          .1,
+    )
 
 same-length-4 : tie.Need-same-length-4
 same-length-4 c = search needs
@@ -65,8 +71,11 @@ same-length-4 c = search needs
 returns-4 : tie.Need-returns-4
 unfolding clauseText
 returns-4 c =
-    let z = c .before .before in
-    (rw (z .before .before .before .k3 .given .1) (z .put-pair .ensures .0), z .put-pair .ensures .1)
+    let z = c .before .before in (
+      rw (z .before .before .before .k3 .given .1) (z .put-pair .ensures .0),
+      z .put-pair .ensures
+          .1,
+    )
 
 pub put-clause-spec : {M : Type 1} → statement M
 put-clause-spec =

@@ -18,8 +18,11 @@ returns : tie.Need-returns
 returns c =
     let z = c .before .before in
     let i = z .before .before .before in
-    let a = i .before .before .args in
-    (rw (eq-eqb (a .a) (a .b) (i .if1 .taken)) (z .put-bytes .ensures), omega (arith, z .put-bytes .ensures .next))
+    let a = i .before .before .args in (
+      rw (eq-eqb (a .a) (a .b) (i .if1 .taken)) (z .put-bytes .ensures),
+      omega
+          (arith, z .put-bytes .ensures .next),
+    )
 
 put-ended-requires : tie.Need-put-ended-requires
 put-ended-requires c κs = search needs

@@ -31,8 +31,19 @@ returns c =
     let z4 = c .before .before in
     let z3 = z4 .before .before .before .before in
     let z2 = z3 .before .before .before .before .before in
-    let z1 = z2 .before .before .before .before in
-    (wrote-then (z1 .put-bytes .ensures) (wrote-then (z2 .put-ended .ensures .0) (wrote-then (z3 .put-bytes2 .ensures) (z4 .put-unary .ensures .0))), omega (arith, z1 .put-bytes .ensures .next, z2 .put-ended .ensures .1, z3 .put-bytes2 .ensures .next, z4 .put-unary .ensures .1))
+    let z1 = z2 .before .before .before .before in (
+      wrote-then (z1 .put-bytes .ensures)
+          (wrote-then (z2 .put-ended .ensures .0)
+          (wrote-then (z3 .put-bytes2 .ensures) (z4 .put-unary .ensures .0))),
+      omega (
+        arith,
+        z1 .put-bytes .ensures .next,
+        z2 .put-ended .ensures .1,
+        z3 .put-bytes2
+            .ensures .next,
+        z4 .put-unary .ensures .1,
+      ),
+    )
 
 pub put-over-spec : {M : Type 1} → statement M
 put-over-spec =

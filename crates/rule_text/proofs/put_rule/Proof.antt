@@ -20,8 +20,11 @@ same-length c = search needs
 returns : tie.Need-returns
 returns c =
     let z = c .before .before in
-    let y = z .before .before .before .before in
-    (wrote-then (y .put-ended .ensures .0) (z .put-clause .ensures .0), omega (arith, y .put-ended .ensures .1, z .put-clause .ensures .1))
+    let y = z .before .before .before .before in (
+      wrote-then (y .put-ended .ensures .0) (z .put-clause .ensures .0),
+      omega
+          (arith, y .put-ended .ensures .1, z .put-clause .ensures .1),
+    )
 
 pub put-rule-spec : {M : Type 1} → statement M
 put-rule-spec =

@@ -45,11 +45,13 @@ loop-again : tie.Need-loop-again Inv-loop μ-loop
 loop-again c =
     let l = c .before .before .before .before .before .before in
     let s = l .before .before in
-    let n : length (s .args .t3 .rules) ≡ 128 = simp length-map at (s .good .1 .1 .0 .1 .1 .0 .1 .0 .1) in
+    let n : length (s .args .t3 .rules) ≡ 128 =
+    simp length-map at (s .good .1 .1 .0 .1 .1 .0 .1 .0 .1) in
     let w = c .before .before .put-rule .ensures in (
       search needs,
       omega (arith, w .1, l .loop .inv .1),
-      rw (rules-more (s .args .t3 .rules) (l .loop .i) no-rule (omega (arith, s .pre))) (wrote-then (l .loop .inv .2) (w .0)),
+      rw (rules-more (s .args .t3 .rules) (l .loop .i) no-rule (omega (arith, s .pre)))
+          (wrote-then (l .loop .inv .2) (w .0)),
     )
 
 same-length : tie.Need-same-length Inv-loop μ-loop

@@ -5,7 +5,8 @@ use Prim.Native.Nat.{_-_}
 use native.Mathlib.Omega.{arith}
 use borrow.Author.Needs.{needs}
 use lib.ListN.{length}
-use Rattle.scanning.proofs.Places.{Reached, reached-none, reached-more, stop-end, stop-low, stop-high, stop-most, stop-zero}
+use Rattle.scanning.proofs.Places.{Reached, reached-none, reached-more, stop-end, stop-low}
+use Rattle.scanning.proofs.Places.{stop-high, stop-most, stop-zero}
 use Rattle.scanning.proofs.digits_at.Statement.{statement}
 use Rattle.scanning.proofs.digits_at.Tie as tie
 
@@ -33,7 +34,8 @@ returns-2 c =
     let l = c .before .before .before .before in
     let a = l .before .args in
     let x = l .loop .inv in
-    stop-high (a .s .now) (a .at) (a .most) x (c .before .before .before .loop-test .taken) (c .before .if1 .left) (c .if2 .taken)
+    stop-high (a .s .now) (a .at) (a .most) x (c .before .before .before .loop-test .taken)
+    (c .before .if1 .left) (c .if2 .taken)
 
 mul-w : tie.Need-mul-w Inv-loop μ-loop
 mul-w c =
@@ -57,7 +59,8 @@ returns-3 c =
     let l = c .before .before .before .before .before in
     let a = l .before .args in
     let x = l .loop .inv in
-    stop-most (a .s .now) (a .at) (a .most) x (c .before .before .before .before .loop-test .taken) (c .before .before .if1 .left) (c .before .if2 .left) (c .if3 .taken)
+    stop-most (a .s .now) (a .at) (a .most) x (c .before .before .before .before .loop-test .taken)
+    (c .before .before .if1 .left) (c .before .if2 .left) (c .if3 .taken)
 
 add-i : tie.Need-add-i Inv-loop μ-loop
 add-i c = search needs
@@ -67,7 +70,10 @@ returns-4 c =
     let l = c .before .before .before .before .before .before in
     let a = l .before .args in
     let x = l .loop .inv in
-    stop-zero (a .s .now) (a .at) (a .most) x (c .before .before .before .before .before .loop-test .taken) (c .before .before .before .if1 .left) (omega (arith, c .before .if3 .left, c .if4 .taken))
+    stop-zero (a .s .now) (a .at) (a .most) x
+    (c .before .before .before .before .before .loop-test .taken)
+    (c .before .before .before .if1 .left)
+    (omega (arith, c .before .if3 .left, c .if4 .taken))
 
 loop-less : tie.Need-loop-less Inv-loop μ-loop
 loop-less c = search needs
@@ -77,7 +83,10 @@ loop-again c =
     let l = c .before .before .before .before .before .before in
     let a = l .before .args in
     let x = l .loop .inv in
-    reached-more (a .s .now) (a .at) (a .most) _ refl x (c .before .before .before .before .before .loop-test .taken) (c .before .before .before .if1 .left) (c .before .before .if2 .left) (c .before .if3 .left) (omega (arith, c .if4 .left))
+    reached-more (a .s .now) (a .at) (a .most) _ refl x
+    (c .before .before .before .before .before .loop-test .taken)
+    (c .before .before .before .if1 .left) (c .before .before .if2 .left)
+    (c .before .if3 .left) (omega (arith, c .if4 .left))
 
 returns-5 : tie.Need-returns-5 Inv-loop μ-loop
 returns-5 c =

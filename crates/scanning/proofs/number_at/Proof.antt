@@ -12,14 +12,16 @@ returns c =
     let d = c .before in
     let a = d .before .before .args in
     let p = d .before .before .pre in
-    no-digit (a .s .now) (a .at) (a .most) (a .end) (d .digits-at .result) (p .1 .1) (d .digits-at .ensures) (c .if1 .taken)
+    no-digit (a .s .now) (a .at) (a .most) (a .end) (d .digits-at .result) (p .1 .1)
+    (d .digits-at .ensures) (c .if1 .taken)
 
 returns-2 : tie.Need-returns-2
 returns-2 c =
     let d = c .before .before in
     let a = d .before .before .args in
     let p = d .before .before .pre in
-    no-end (a .s .now) (a .at) (a .most) (a .end) (d .digits-at .result) (p .1 .1) (d .digits-at .ensures) (c .if2 .taken)
+    no-end (a .s .now) (a .at) (a .most) (a .end) (d .digits-at .result) (p .1 .1)
+    (d .digits-at .ensures) (c .if2 .taken)
 
 shared-slice-read-if3 : tie.Need-shared-slice-read-if3
 shared-slice-read-if3 c = search needs
@@ -32,14 +34,17 @@ returns-3 c =
     let d = c .before .before .before .before in
     let a = d .before .before .args in
     let p = d .before .before .pre in
-    ended (a .s .now) (a .at) (a .most) (a .end) (d .digits-at .result) (p .1 .1) (d .digits-at .ensures) (c .before .before .before .if1 .left) (c .before .before .if2 .left) (c .if3 .taken)
+    ended (a .s .now) (a .at) (a .most) (a .end) (d .digits-at .result) (p .1 .1)
+    (d .digits-at .ensures) (c .before .before .before .if1 .left)
+    (c .before .before .if2 .left) (c .if3 .taken)
 
 returns-4 : tie.Need-returns-4
 returns-4 c =
     let d = c .before .before .before .before in
     let a = d .before .before .args in
     let p = d .before .before .pre in
-    other-end (a .s .now) (a .at) (a .most) (a .end) (d .digits-at .result) (p .1 .1) (d .digits-at .ensures) (c .before .before .if2 .left) (c .if3 .left)
+    other-end (a .s .now) (a .at) (a .most) (a .end) (d .digits-at .result) (p .1 .1)
+    (d .digits-at .ensures) (c .before .before .if2 .left) (c .if3 .left)
 
 pub number-at-spec : {M : Type 1} → statement M
 number-at-spec =

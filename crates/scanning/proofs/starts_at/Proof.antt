@@ -12,7 +12,8 @@ sub-left c = search needs
 
 returns : tie.Need-returns
 returns c =
-    let a = c .before .before .before .args in starts-few (a .s .now) (a .bytes .now) (a .at) (c .if1 .taken)
+    let a = c .before .before .before .args in
+    starts-few (a .s .now) (a .bytes .now) (a .at) (c .if1 .taken)
 
 add-end : tie.Need-add-end
 add-end c = search needs
@@ -32,7 +33,8 @@ same-requires c κs = search needs
 returns-2 : tie.Need-returns-2
 returns-2 c =
     let a = c .before .before .before .before .before .args in
-    starts-same (drop (a .at) (a .s .now)) (a .bytes .now) (a .at + length (a .bytes .now) - a .at) (c .same .result) (omega arith) (c .same .ensures)
+    starts-same (drop (a .at) (a .s .now)) (a .bytes .now) (a .at + length (a .bytes .now) - a .at)
+    (c .same .result) (omega arith) (c .same .ensures)
 
 pub starts-at-spec : {M : Type 1} → statement M
 starts-at-spec =

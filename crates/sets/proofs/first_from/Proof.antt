@@ -1,4 +1,5 @@
--- `sets::first_from` meets its contract. The loop's invariant: no member stands between `from` and `t`.
+-- `sets::first_from` meets its contract. The loop's invariant: no member stands between `from` and
+-- `t`.
 use mathlib.Core.Path.{_≡_}
 use Prim.Native.Nat.{ℕ, _+_, _-_, _≤_, _<_}
 use native.Mathlib.Omega.{arith}
@@ -9,7 +10,8 @@ use Rattle.sets.proofs.first_from.Statement.{statement}
 use Rattle.sets.proofs.first_from.Tie as tie
 
 -- t itself is no member
-skip : {s from t : ℕ} → ((x : ℕ) → In s x → from ≤ x → t ≤ x) → (In s t → ⊥) → (x : ℕ) → In s x → from ≤ x → t + 1 ≤ x
+skip : {s from t : ℕ} → ((x : ℕ) → In s x → from ≤ x → t ≤ x) → (In s t → ⊥) → (x : ℕ) → In s x
+    → from ≤ x → t + 1 ≤ x
 skip {s} {from} {t} h n x b f = go (decLe (t + 1) x)
   where
     go : Dec (t + 1 ≤ x) → t + 1 ≤ x
@@ -29,7 +31,13 @@ has-requires : tie.Need-has-requires Inv-loop μ-loop
 has-requires c κs = search needs
 
 returns : tie.Need-returns Inv-loop μ-loop
-returns c = (search needs, search needs, c .before .has .ensures .is (c .if1 .taken), c .before .before .before .loop .inv .2)
+returns c = (
+  search needs,
+  search needs,
+  c .before .has .ensures .is (c .if1 .taken),
+  c .before
+      .before .before .loop .inv .2,
+)
 
 add-t : tie.Need-add-t Inv-loop μ-loop
 add-t c = search needs
@@ -38,7 +46,12 @@ loop-less : tie.Need-loop-less Inv-loop μ-loop
 loop-less c = search needs
 
 loop-again : tie.Need-loop-again Inv-loop μ-loop
-loop-again c = (search needs, search needs, skip (c .before .before .before .loop .inv .2) (c .before .has .ensures .isnt (c .if1 .left)))
+loop-again c = (
+  search needs,
+  search needs,
+  skip (c .before .before .before .loop .inv .2)
+      (c .before .has .ensures .isnt (c .if1 .left)),
+)
 
 returns-2 : tie.Need-returns-2 Inv-loop μ-loop
 returns-2 c x l b = go (decLe (c .before .before .args .from) x)

@@ -1,4 +1,5 @@
--- Over the terminals of the sheet, by the rules that 0 reaches, in another order; with no terminal there is no candidate.
+-- Over the terminals of the sheet, by the rules that 0 reaches, in another order; with no terminal
+-- there is no candidate.
 use borrow.Author.Needs.{needs}
 use mathlib.Core.Path.{_≡_}
 use Prim.Native.Nat.{_^_, _<_}
@@ -36,7 +37,9 @@ returns c =
     let z = c .before .before .before .before .before .before in
     let s = c .before .before .before .before .terminals in
     let f = c .before .before .before .first-from in (
-      found-none (among-terminal (z .args .g) (s .result) (z .pre .1 .0) (s .ensures)) (z .pre .0 .0) (c .nothing .ensures) (none-of _ (f .result) (c .before .enum-told .given .1) (f .ensures)),
+      found-none (among-terminal (z .args .g) (s .result) (z .pre .1 .0) (s .ensures))
+          (z .pre .0 .0) (c .nothing .ensures)
+          (none-of _ (f .result) (c .before .enum-told .given .1) (f .ensures)),
       past-same _ _,
     )
 
@@ -56,21 +59,40 @@ reachable-requires : tie.Need-reachable-requires
 reachable-requires c κs = search needs
 
 array-share-prefix-few : tie.Need-array-share-prefix-few
-array-share-prefix-few c = let r = c .before .reachable in let long : length (r .result .codes) ≡ 128 = search needs in omega (arith, r .ensures .1 .0)
+array-share-prefix-few c = let r = c .before .reachable in
+    let long : length (r .result .codes) ≡ 128 = search needs in omega (arith, r .ensures .1 .0)
 
 slice-aggregate-search-over : tie.Need-slice-aggregate-search-over
 slice-aggregate-search-over c = search needs
 
 search-over-requires : tie.Need-search-over-requires
 search-over-requires c κs =
-    let z = c .before .before .before .before .before .before .before .before .before .before .before .before .before in
-    let s = c .before .before .before .before .before .before .before .before .before .before .before .terminals in
-    let f = c .before .before .before .before .before .before .before .before .before .before .first-from in
+    let z = c .before .before .before .before .before .before .before .before .before .before
+    .before .before .before in
+    let s = c .before .before .before .before .before .before .before .before .before .before
+    .before .terminals in
+    let f = c .before .before .before .before .before .before .before .before .before .before
+    .first-from in
     let o = c .before .before .before .before .before .ordered .ensures .0 in
     let r = c .before .before .before .reachable .ensures .0 in
-    let w = lowest-of _ (f .result) _ (c .before .before .before .before .before .before .before .before .least .given .1) (f .ensures) in (
-      (few-of _ _ (z .args .n) _ (small (c .before .before .before .before .before .before .before .before .before .before .before)) (z .pre .0 .0) (z .pre .0 .1) (s .ensures) w (z .pre .1 .1 .0), w, renames-over (same-two o r) (renames-of (c .before .before .before .before .before .before .needed .ensures))),
-      (r .distinct (o .distinct (z .pre .1 .0 .distinct)), z .pre .1 .1 .1),
+    let w = lowest-of _ (f .result) _
+    (c .before .before .before .before .before .before .before .before .least .given .1)
+    (f .ensures) in (
+      (
+        few-of _ _ (z .args .n) _
+            (small (c .before .before .before .before .before .before .before .before .before
+            .before .before)) (z .pre .0 .0) (z .pre .0 .1) (s .ensures) w
+            (z .pre .1 .1 .0),
+        w,
+        renames-over (same-two o r)
+            (renames-of (c .before .before .before .before .before .before .needed
+            .ensures)),
+      ),
+      (
+        r .distinct (o .distinct (z .pre .1 .0 .distinct)),
+        z
+            .pre .1 .1 .1,
+      ),
     )
 
 same-length : tie.Need-same-length
@@ -78,10 +100,20 @@ same-length c = search needs
 
 returns-2 : tie.Need-returns-2
 returns-2 c =
-    let z = c .before .before .before .before .before .before .before .before .before .before .before .before .before .before .before .before in
-    let s = c .before .before .before .before .before .before .before .before .before .before .before .before .before .before .terminals in
-    let q = c .before .before .search-over in
-    (found-of (s .result) (z .args .n) (small (c .before .before .before .before .before .before .before .before .before .before .before .before .before .before)) (s .ensures) (among-terminal (z .args .g) (s .result) (z .pre .1 .0) (s .ensures)) (same-two (c .before .before .before .before .before .before .before .before .ordered .ensures .0) (c .before .before .before .before .before .before .reachable .ensures .0)) (q .ensures .0), q .ensures .1)
+    let z = c .before .before .before .before .before .before .before .before .before .before
+    .before .before .before .before .before .before in
+    let s = c .before .before .before .before .before .before .before .before .before .before
+    .before .before .before .before .terminals in
+    let q = c .before .before .search-over in (
+      found-of (s .result) (z .args .n)
+          (small (c .before .before .before .before .before .before .before .before .before .before
+          .before .before .before .before)) (s .ensures)
+          (among-terminal (z .args .g) (s .result) (z .pre .1 .0) (s .ensures))
+          (same-two (c .before .before .before .before .before .before .before .before
+          .ordered .ensures .0) (c .before .before .before .before .before .before
+          .reachable .ensures .0)) (q .ensures .0),
+      q .ensures .1,
+    )
 
 pub find-spec : {M : Type 1} → statement M
 find-spec =

@@ -15,7 +15,8 @@ loop-holds : tie.Need-loop-holds Inv-loop μ-loop
 loop-holds c = omega arith
 
 block-of-requires : tie.Need-block-of-requires Inv-loop μ-loop
-block-of-requires c κs = let a = c .before .before in (a .pre .0, (a .pre .1 .0, omega (arith, a .pre .1 .1, c .loop-test .taken)))
+block-of-requires c κs = let a = c .before .before in
+    (a .pre .0, (a .pre .1 .0, omega (arith, a .pre .1 .1, c .loop-test .taken)))
 
 returns : tie.Need-returns Inv-loop μ-loop
 returns c = λ h. omega (arith, c .if1 .taken, c .before .before .block-of .ensures .0)
@@ -38,4 +39,5 @@ returns-2 c = λ h. absurd (omega arith)
 pub held-spec : {M : Type 1} → statement M
 held-spec =
     tie.close
-    (tie.spec Inv-loop μ-loop loop-holds block-of-requires returns add-h loop-less loop-again add-result returns-2)
+    (tie.spec Inv-loop μ-loop loop-holds block-of-requires returns add-h loop-less loop-again
+    add-result returns-2)

@@ -5,7 +5,8 @@ use Rattle.share_search.proofs.outdone.Statement.{statement}
 use Rattle.share_search.proofs.outdone.Tie as tie
 
 passable-requires : tie.Need-passable-requires
-passable-requires c κs = let z = c .before .before .before in ((z .pre .0 .1, z .pre .0 .0), z .pre .0 .2)
+passable-requires c κs = let z = c .before .before .before in
+    ((z .pre .0 .1, z .pre .0 .0), z .pre .0 .2)
 
 returns : tie.Need-returns
 returns c =

@@ -1,4 +1,5 @@
--- The loop's invariant: the first that meets it is not before the candidate. The measure is the candidates with the cells that are left.
+-- The loop's invariant: the first that meets it is not before the candidate. The measure is the
+-- candidates with the cells that are left.
 use borrow.Author.Needs.{needs}
 use borrow.Author.Tests.{not-true, not-false}
 use mathlib.Core.Path.{ap₂}
@@ -17,22 +18,29 @@ use Rattle.share_search.proofs.search.Statement.{statement}
 use Rattle.share_search.proofs.search.Tie as tie
 
 abbrev Inv-loop : tie.InvT-loop
-Inv-loop codes set kept table low n start end words₀ c₀ b₀ words c b = ShareTurn (decoded codes) set n start b (cells c 0 n) × Past (2 * pairs n) words₀ words
+Inv-loop codes set kept table low n start end words₀ c₀ b₀ words c b =
+    ShareTurn (decoded codes) set n start b (cells c 0 n) × Past (2 * pairs n) words₀ words
 
 abbrev μ-loop : tie.MeasureT-loop
-μ-loop codes set kept table low n start end words₀ c₀ b₀ words c b = left (cells c 0 n) * 8 + (n - b)
+μ-loop codes set kept table low n start end words₀ c₀ b₀ words c b =
+    left (cells c 0 n) * 8 + (n - b)
 
 below : (c : tie.Start Inv-loop μ-loop) → c .args .set < 2 ^ 64
 below c = omega (arith, c .good)
 
 first-requires : tie.Need-first-requires Inv-loop μ-loop
-first-requires c κs = let a = c .before .before .before in ((a .pre .0 .0 .low, a .pre .0 .0 .high), a .pre .0 .1)
+first-requires c κs = let a = c .before .before .before in
+    ((a .pre .0 .0 .low, a .pre .0 .0 .high), a .pre .0 .1)
 
 loop-holds : tie.Need-loop-holds Inv-loop μ-loop
-loop-holds c = (turn-first (below (c .before .before .before .before)) (c .first .ensures), past-same _ _)
+loop-holds c =
+    (turn-first (below (c .before .before .before .before)) (c .first .ensures), past-same _ _)
 
 block-of-requires : tie.Need-block-of-requires Inv-loop μ-loop
-block-of-requires c κs = let l = c .loop in (c .before .before .before .before .before .pre .0 .0, (l .inv .0 .before .candidate, l .inv .0 .known))
+block-of-requires c κs = let l = c .loop in (
+  c .before .before .before .before .before .pre .0 .0,
+  (l .inv .0 .before .candidate, l .inv .0 .known),
+)
 
 nothing-requires : tie.Need-nothing-requires Inv-loop μ-loop
 nothing-requires c κs = search needs
@@ -45,8 +53,11 @@ returns c =
     let l = c .before .before .before .before .loop in
     let a = c .before .before .before .before .before .before .before .before .before in
     let k = c .before .before .before .block-of in
-    let n = c .nothing .ensures in
-    (miss (n .0) (n .1) (at-end (below a) (a .args .end) (l .inv .0 .known) (l .inv .0 .before) (omega (arith, c .before .if1 .taken, k .ensures .0))), l .inv .1)
+    let n = c .nothing .ensures in (
+      miss (n .0) (n .1) (at-end (below a) (a .args .end) (l .inv .0 .known) (l .inv .0 .before)
+          (omega (arith, c .before .if1 .taken, k .ensures .0))),
+      l .inv .1,
+    )
 
 add-past : tie.Need-add-past Inv-loop μ-loop
 add-past c = omega (arith, c .before .before .before .block-of .ensures .2)
@@ -55,63 +66,118 @@ look-requires : tie.Need-look-requires Inv-loop μ-loop
 look-requires c κs =
     let l = c .before .before .before .before .before .loop in
     let a = c .before .before .before .before .before .before .before .before .before .before in
-    let k = c .before .before .before .before .block-of .ensures in
-    ((a .pre .0 .0, l .inv .0 .known, l .inv .0 .before .candidate, ap₂ _+_ (k .0) (k .1), a .pre .0 .2), (a .pre .1 .0, (omega (arith, a .pre .1 .1 .0, l .inv .1 .long), a .pre .1 .1 .1)))
+    let k = c .before .before .before .before .block-of .ensures in (
+      (
+        a .pre .0 .0,
+        l .inv .0 .known,
+        l .inv .0 .before .candidate,
+        ap₂ _+_ (k .0) (k .1),
+        a .pre .0
+            .2,
+      ),
+      (a .pre .1 .0, (omega (arith, a .pre .1 .1 .0, l .inv .1 .long), a .pre .1 .1 .1)),
+    )
 
 successor-requires : tie.Need-successor-requires Inv-loop μ-loop
 successor-requires c κs =
     let l = c .before .before .before .before .before .before .before .before .before .loop in
-    let a = c .before .before .before .before .before .before .before .before .before .before .before .before .before .before in
-    ((a .pre .0 .0 .low, a .pre .0 .0 .high, l .inv .0 .known), (a .pre .0 .1, l .inv .0 .before .candidate))
+    let a = c .before .before .before .before .before .before .before .before .before .before
+    .before .before .before .before in (
+      (a .pre .0 .0 .low, a .pre .0 .0 .high, l .inv .0 .known),
+      (a .pre .0 .1, l .inv .0 .before .candidate),
+    )
 
 nothing-requires-2 : tie.Need-nothing-requires-2 Inv-loop μ-loop
 nothing-requires-2 c κs = search needs
 
 same-length-2 : tie.Need-same-length-2 Inv-loop μ-loop
-same-length-2 c = past-then (c .before .before .before .before .before .before .before .before .before .before .before .before .before .loop .inv .1) (c .before .before .before .before .before .before .before .look .ensures .1) .long
+same-length-2 c = past-then (c .before .before .before .before .before .before .before .before
+    .before .before .before .before .before .loop .inv .1)
+    (c .before .before .before .before .before .before .before .look .ensures .1) .long
 
 returns-2 : tie.Need-returns-2 Inv-loop μ-loop
 returns-2 c =
     let v = c .before .before .before .before .before .before .before .look .ensures in
-    let l = c .before .before .before .before .before .before .before .before .before .before .before .before .before .loop in
-    let a = c .before .before .before .before .before .before .before .before .before .before .before .before .before .before .before .before .before .before in
-    let n = c .nothing2 .ensures in
-    (miss (n .0) (n .1) (over (below a) (a .args .end) (l .inv .0 .before) (v .0 .barren (c .before .before .before .before .if2 .taken)) (c .before .before .before .successor .ensures .none (not-true _ (c .before .if3 .taken)))), past-then (l .inv .1) (v .1))
+    let l = c .before .before .before .before .before .before .before .before .before .before
+    .before .before .before .loop in
+    let a = c .before .before .before .before .before .before .before .before .before .before
+    .before .before .before .before .before .before .before .before in
+    let n = c .nothing2 .ensures in (
+      miss (n .0) (n .1) (over (below a) (a .args .end) (l .inv .0 .before)
+          (v .0 .barren (c .before .before .before .before .if2 .taken))
+          (c .before .before .before .successor .ensures .none
+          (not-true _ (c .before .if3 .taken)))),
+      past-then (l .inv .1) (v .1),
+    )
 
 loop-less : tie.Need-loop-less Inv-loop μ-loop
 loop-less c =
-    let l = c .before .before .before .before .before .before .before .before .before .before .before .before .before .loop in
-    let a = c .before .before .before .before .before .before .before .before .before .before .before .before .before .before .before .before .before .before in
-    let f = c .before .before .before .successor .ensures .next (not-false _ (c .before .if3 .left)) in
+    let l = c .before .before .before .before .before .before .before .before .before .before
+    .before .before .before .loop in
+    let a = c .before .before .before .before .before .before .before .before .before .before
+    .before .before .before .before .before .before .before .before in
+    let f = c .before .before .before .successor .ensures .next
+    (not-false _ (c .before .if3 .left)) in
     omega (arith, a .pre .0 .0 .high, next-falls (a .pre .0 .0 .high) (l .inv .0) f)
 
 loop-again : tie.Need-loop-again Inv-loop μ-loop
 loop-again c =
     let v = c .before .before .before .before .before .before .before .look .ensures in
-    let l = c .before .before .before .before .before .before .before .before .before .before .before .before .before .loop in
-    let f = c .before .before .before .successor .ensures .next (not-false _ (c .before .if3 .left)) in
-    (turn-next (below (c .before .before .before .before .before .before .before .before .before .before .before .before .before .before .before .before .before .before)) (l .inv .0) (v .0) (c .before .before .before .before .if2 .taken) f, past-then (l .inv .1) (v .1))
+    let l = c .before .before .before .before .before .before .before .before .before .before
+    .before .before .before .loop in
+    let f = c .before .before .before .successor .ensures .next
+    (not-false _ (c .before .if3 .left)) in (
+      turn-next (below (c .before .before .before .before .before .before .before .before .before
+          .before .before .before .before .before .before .before .before .before)) (l .inv .0)
+          (v .0) (c .before .before .before .before .if2 .taken) f,
+      past-then (l .inv .1) (v .1),
+    )
 
 same-length-3 : tie.Need-same-length-3 Inv-loop μ-loop
-same-length-3 c = past-then (c .before .before .before .before .before .before .before .before .before .before .loop .inv .1) (c .before .before .before .before .look .ensures .1) .long
+same-length-3 c = past-then (c .before .before .before .before .before .before .before .before
+    .before .before .loop .inv .1) (c .before .before .before .before .look .ensures .1) .long
 
 returns-3 : tie.Need-returns-3 Inv-loop μ-loop
 returns-3 c =
     let v = c .before .before .before .before .look .ensures in
-    let l = c .before .before .before .before .before .before .before .before .before .before .loop in
-    let k = c .before .before .before .before .before .before .before .before .before .block-of in
-    (hit-of (below (c .before .before .before .before .before .before .before .before .before .before .before .before .before .before .before)) (l .inv .0) (v .0) (c .before .if2 .left) (c .if4 .taken) (omega (arith, k .ensures .0)) (omega (arith, c .before .before .before .before .before .before .before .if1 .left)), past-then (l .inv .1) (v .1))
+    let l = c .before .before .before .before .before .before .before .before .before .before
+    .loop in
+    let k = c .before .before .before .before .before .before .before .before .before .block-of in (
+      hit-of (below (c .before .before .before .before .before .before .before .before .before
+          .before .before .before .before .before .before)) (l .inv .0) (v .0)
+          (c .before .if2 .left) (c .if4 .taken) (omega (arith, k .ensures .0)) (omega (
+            arith,
+            c .before .before .before .before .before .before .before .if1
+                .left,
+          )),
+      past-then (l .inv .1) (v .1),
+    )
 
 add-b : tie.Need-add-b Inv-loop μ-loop
-add-b c = omega (arith, c .before .before .before .before .before .before .before .before .before .before .loop .inv .0 .known, c .before .before .before .before .before .before .before .before .before .before .before .before .before .before .before .pre .0 .0 .high)
+add-b c = omega (
+  arith,
+  c .before .before .before .before .before .before .before .before .before
+      .before .loop .inv .0 .known,
+  c .before .before .before .before .before .before .before .before
+      .before .before .before .before .before .before .before .pre .0 .0 .high,
+)
 
 loop-less-2 : tie.Need-loop-less-2 Inv-loop μ-loop
-loop-less-2 c = omega (arith, c .before .before .before .before .before .before .before .before .before .before .loop .inv .0 .known, c .if4 .left)
+loop-less-2 c = omega (
+  arith,
+  c .before .before .before .before .before .before .before .before
+      .before .before .loop .inv .0 .known,
+  c .if4 .left,
+)
 
 loop-again-2 : tie.Need-loop-again-2 Inv-loop μ-loop
 loop-again-2 c =
-    let l = c .before .before .before .before .before .before .before .before .before .before .loop in
-    (turn-more (l .inv .0) (c .if4 .left), past-then (l .inv .1) (c .before .before .before .before .look .ensures .1))
+    let l = c .before .before .before .before .before .before .before .before .before .before
+    .loop in (
+      turn-more (l .inv .0) (c .if4 .left),
+      past-then (l .inv .1)
+          (c .before .before .before .before .look .ensures .1),
+    )
 
 pub search-spec : {M : Type 1} → statement M
 search-spec =

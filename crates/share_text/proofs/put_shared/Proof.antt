@@ -39,13 +39,21 @@ same-length : tie.Need-same-length
 same-length c = search needs
 
 returns-3 : tie.Need-returns-3
-returns-3 c = let w = c .before .before .put-values .ensures in (rw (c .before .before .before .before .enum-told3 .given .1) (rw (c .before .before .before .before .enum-told3 .given .1) at (w .0)), w .1)
+returns-3 c = let w = c .before .before .put-values .ensures in (
+  rw (c .before .before .before .before .enum-told3 .given .1)
+      (rw (c .before .before .before .before .enum-told3 .given .1) at (w .0)),
+  w .1,
+)
 
 same-length-2 : tie.Need-same-length-2
 same-length-2 c = search needs
 
 returns-4 : tie.Need-returns-4
-returns-4 c = let w = c .before .before .put-values2 .ensures in (rw (c .before .before .before .before .enum-told4 .given .1) (rw (c .before .before .before .before .enum-told4 .given .1) at (w .0)), w .1)
+returns-4 c = let w = c .before .before .put-values2 .ensures in (
+  rw (c .before .before .before .before .enum-told4 .given .1)
+      (rw (c .before .before .before .before .enum-told4 .given .1) at (w .0)),
+  w .1,
+)
 
 returns-5 : tie.Need-returns-5
 returns-5 c = (rw (c .enum-told5 .given .1) (wrote-none _ _), omega arith)

@@ -20,18 +20,48 @@ put-head-requires : tie.Need-put-head-requires
 put-head-requires c κs = search needs
 
 put-shared-requires : tie.Need-put-shared-requires
-put-shared-requires c κs = omega (arith, c .before .before .before .put-head .ensures .1, c .before .before .before .put-head .ensures .0 .long, c .before .before .before .before .before .before .before .before .before .before .before .pre)
+put-shared-requires c κs = omega (
+  arith,
+  c .before .before .before .put-head .ensures .1,
+  c .before .before .before .put-head
+      .ensures .0 .long,
+  c .before .before .before .before .before .before .before .before .before
+      .before .before .pre,
+)
 
 put-sentence-requires : tie.Need-put-sentence-requires
 put-sentence-requires c κs =
-    let f = share-few (c .before .before .before .before .before .before .before .before .before .before .before .share .ensures) in
-    (omega arith, omega (arith, c .before .before .before .before .before .before .before .put-head .ensures .1, c .before .before .before .before .before .before .before .put-head .ensures .0 .long, c .before .before .before .put-shared .ensures .1, c .before .before .before .put-shared .ensures .0 .long, c .before .before .before .before .before .before .before .before .before .before .before .before .before .before .before .pre))
+    let f = share-few (c .before .before .before .before .before .before .before .before .before
+    .before .before .share .ensures) in (
+      omega arith,
+      omega (
+        arith,
+        c .before .before .before .before .before .before .before .put-head
+            .ensures .1,
+        c .before .before .before .before .before .before .before .put-head .ensures .0
+            .long,
+        c .before .before .before .put-shared .ensures .1,
+        c .before .before .before
+            .put-shared .ensures .0 .long,
+        c .before .before .before .before .before .before
+            .before .before .before .before .before .before .before .before .before .pre,
+      ),
+    )
 
 same-length : tie.Need-same-length
 same-length c = search needs
 
 returns : tie.Need-returns
-returns c = record { text = _; is = answered (length-replicate {A = ℕ} 58 0) (c .before .before .before .before .before .before .before .before .before .before .before .before .before .before .share .ensures) refl; wrote = wrote-then (wrote-then (c .before .before .before .before .before .before .before .before .before .before .put-head .ensures .0) (c .before .before .before .before .before .before .put-shared .ensures .0)) (c .before .before .put-sentence .ensures) }
+returns c = record {
+  text = _;
+  is = answered (length-replicate {A = ℕ} 58 0)
+      (c .before .before .before .before .before .before .before .before .before .before .before
+      .before .before .before .share .ensures) refl;
+  wrote = wrote-then
+      (wrote-then (c .before .before .before .before .before .before .before .before .before
+      .before .put-head .ensures .0) (c .before .before .before .before .before .before
+      .put-shared .ensures .0)) (c .before .before .put-sentence .ensures);
+}
 
 pub share-text-spec : {M : Type 1} → statement M
 share-text-spec =

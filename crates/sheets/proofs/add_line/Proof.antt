@@ -16,11 +16,20 @@ use Rattle.fields.specs.Cursors.{bytesLeft}
 
 -- what the line gave
 gave : (c : tie.After-rule-step) (x : RuleStep) → c .rule-step .result ≡ x
-    → asRuleStep x ≡ stepAt 6 2 (ruleSays (rules (c .before .before .before .before .args .book .grammar)) (bytesLeft (c .before .before .before .before .args .s .now) (c .before .before .before .before .args .c))) (turnOf 128 (c .before .before .before .before .args .book .grammar .count) (bytesLeft (c .before .before .before .before .args .s .now) (c .before .before .before .before .args .c)) (ltb (c .before .before .before .before .args .c .end) (length (c .before .before .before .before .args .s .now))))
+    → asRuleStep x ≡ stepAt 6 2 (ruleSays
+    (rules (c .before .before .before .before .args .book .grammar))
+    (bytesLeft (c .before .before .before .before .args .s .now)
+    (c .before .before .before .before .args .c)))
+    (turnOf 128 (c .before .before .before .before .args .book .grammar .count)
+    (bytesLeft (c .before .before .before .before .args .s .now)
+    (c .before .before .before .before .args .c))
+    (ltb (c .before .before .before .before .args .c .end)
+    (length (c .before .before .before .before .args .s .now))))
 gave c x is = ap asRuleStep (sym is) ∙ c .rule-step .ensures
 
 rule-step-requires : tie.Need-rule-step-requires
-rule-step-requires c κs = let a = c .before .before .before in (a .pre .0, a .pre .1, a .pre .2 .held .few)
+rule-step-requires c κs = let a = c .before .before .before in
+    (a .pre .0, a .pre .1, a .pre .2 .held .few)
 
 enum-known-step : tie.Need-enum-known-step
 enum-known-step c = search needs
@@ -30,8 +39,9 @@ append-requires c κs =
     let m = c .before .before .before in
     let a = m .before .before .before .before in
     let e = gave m _ (c .before .step .given .1) in
-    let f = rule-fits (rules (a .args .book .grammar)) (a .args .book .grammar .count) (bytesLeft (a .args .s .now) (a .args .c)) (ltb (a .args .c .end) (length (a .args .s .now))) e in
-    (a .pre .2, f .0, f .1)
+    let f = rule-fits (rules (a .args .book .grammar)) (a .args .book .grammar .count)
+    (bytesLeft (a .args .s .now) (a .args .c))
+    (ltb (a .args .c .end) (length (a .args .s .now))) e in (a .pre .2, f .0, f .1)
 
 enum-told : tie.Need-enum-told
 enum-told c = search needs

@@ -16,7 +16,12 @@ cast-result c = search needs
 returns-2 : tie.Need-returns-2
 returns-2 c =
     let t = c .before .before .before .before in
-    simp (c .before .past .ensures, le-ltb _ _ (t .before .before .before .if1 .left), eq-eqb _ _ (t .if2 .taken))
+    simp (
+      c .before .past .ensures,
+      le-ltb _ _ (t .before .before .before .if1 .left),
+      eq-eqb _ _
+          (t .if2 .taken),
+    )
 
 returns-3 : tie.Need-returns-3
 returns-3 c = simp (le-ltb _ _ (c .before .before .before .if1 .left), ne-eqb _ _ (c .if2 .left))

@@ -13,7 +13,8 @@ use Rattle.sheets.proofs.earlier.Statement.{statement}
 use Rattle.sheets.proofs.earlier.Tie as tie
 
 abbrev Inv-loop : tie.InvT-loop
-Inv-loop n key rules i₀ i = (i ≤ n) × (anyOf (hasKey key) (take n rules) ≡ anyOf (hasKey key) (drop i (take n rules)))
+Inv-loop n key rules i₀ i =
+    (i ≤ n) × (anyOf (hasKey key) (take n rules) ≡ anyOf (hasKey key) (drop i (take n rules)))
 
 abbrev μ-loop : tie.MeasureT-loop
 μ-loop n key rules i₀ i = n - i
@@ -37,8 +38,11 @@ returns : tie.Need-returns Inv-loop μ-loop
 returns c = let l = c .before .before .before .before .before in
     let a = l .before .args in
     let k : length (a .t1) ≡ 128 = search needs in
-    sym (l .loop .inv .1 ∙ any-hit (hasKey (a .key)) (a .t1) (a .n) (l .loop .i) (record { left = 0; clause = Empty }) (c .before .before .before .before .loop-test .taken) (omega (arith, l .before .pre))
-    (ap (λ (x : Key). sameKey x (a .key)) (sym (c .before .before .key-of .ensures)) ∙ sym (c .before .same-key .ensures) ∙ c .if1 .taken))
+    sym (l .loop .inv .1 ∙ any-hit (hasKey (a .key)) (a .t1) (a .n) (l .loop .i)
+    (record { left = 0; clause = Empty }) (c .before .before .before .before .loop-test .taken)
+    (omega (arith, l .before .pre))
+    (ap (λ (x : Key). sameKey x (a .key)) (sym (c .before .before .key-of .ensures))
+    ∙ sym (c .before .same-key .ensures) ∙ c .if1 .taken))
 
 add-i : tie.Need-add-i Inv-loop μ-loop
 add-i c = search needs
@@ -51,14 +55,18 @@ loop-again c = let l = c .before .before .before .before .before in
     let a = l .before .args in
     let k : length (a .t1) ≡ 128 = search needs in (
       search needs,
-      l .loop .inv .1 ∙ any-more (hasKey (a .key)) (a .t1) (a .n) (l .loop .i) (record { left = 0; clause = Empty }) (c .before .before .before .before .loop-test .taken) (omega (arith, l .before .pre))
-          (ap (λ (x : Key). sameKey x (a .key)) (sym (c .before .before .key-of .ensures)) ∙ sym (c .before .same-key .ensures) ∙ c .if1 .left),
+      l .loop .inv .1 ∙ any-more (hasKey (a .key)) (a .t1) (a .n) (l .loop .i)
+          (record { left = 0; clause = Empty })
+          (c .before .before .before .before .loop-test .taken) (omega (arith, l .before .pre))
+          (ap (λ (x : Key). sameKey x (a .key)) (sym (c .before .before .key-of .ensures))
+          ∙ sym (c .before .same-key .ensures) ∙ c .if1 .left),
     )
 
 returns-2 : tie.Need-returns-2 Inv-loop μ-loop
 returns-2 c = let l = c .before in
     let a = l .before .args in
-    sym (l .loop .inv .1 ∙ any-end (hasKey (a .key)) (a .t1) (a .n) (l .loop .i) (c .loop-test .left))
+    sym (l .loop .inv .1 ∙ any-end (hasKey (a .key)) (a .t1) (a .n) (l .loop .i)
+    (c .loop-test .left))
 
 pub earlier-spec : {M : Type 1} → statement M
 earlier-spec =

@@ -28,7 +28,8 @@ returns-2 : tie.Need-returns-2
 returns-2 c =
     let h = c .before .before in
     let a = h .before .before in
-    rw (finish-none (rules (a .args .g)) (sym (h .has-start .ensures) ∙ c .before .if1 .left)) (c .refuse-rules .ensures)
+    rw (finish-none (rules (a .args .g)) (sym (h .has-start .ensures) ∙ c .before .if1 .left))
+    (c .refuse-rules .ensures)
 
 pub finished-spec : {M : Type 1} → statement M
 finished-spec =

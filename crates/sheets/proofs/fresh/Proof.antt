@@ -17,12 +17,14 @@ earlier-requires c κs = search needs
 returns : tie.Need-returns
 returns c = let e = c .before in
     let a = e .before .before .args in
-    sym (hit (ap (λ (k : Key). anyOf (hasKey k) (take (a .n) (a .rules))) (sym (e .before .key-of .ensures)) ∙ sym (e .earlier .ensures) ∙ c .if1 .taken) _ _)
+    sym (hit (ap (λ (k : Key). anyOf (hasKey k) (take (a .n) (a .rules)))
+    (sym (e .before .key-of .ensures)) ∙ sym (e .earlier .ensures) ∙ c .if1 .taken) _ _)
 
 returns-2 : tie.Need-returns-2
 returns-2 c = let e = c .before in
     let a = e .before .before .args in
-    sym (miss (ap (λ (k : Key). anyOf (hasKey k) (take (a .n) (a .rules))) (sym (e .before .key-of .ensures)) ∙ sym (e .earlier .ensures) ∙ c .if1 .left) _ _)
+    sym (miss (ap (λ (k : Key). anyOf (hasKey k) (take (a .n) (a .rules)))
+    (sym (e .before .key-of .ensures)) ∙ sym (e .earlier .ensures) ∙ c .if1 .left) _ _)
 
 pub fresh-spec : {M : Type 1} → statement M
 fresh-spec = tie.close (tie.spec key-of-requires earlier-requires returns returns-2)

@@ -12,7 +12,8 @@ use Rattle.sheets.proofs.has_start.Statement.{statement}
 use Rattle.sheets.proofs.has_start.Tie as tie
 
 abbrev Inv-loop : tie.InvT-loop
-Inv-loop n rules i₀ i = (i ≤ n) × (anyOf isStart (take n rules) ≡ anyOf isStart (drop i (take n rules)))
+Inv-loop n rules i₀ i =
+    (i ≤ n) × (anyOf isStart (take n rules) ≡ anyOf isStart (drop i (take n rules)))
 
 abbrev μ-loop : tie.MeasureT-loop
 μ-loop n rules i₀ i = n - i
@@ -30,7 +31,9 @@ returns : tie.Need-returns Inv-loop μ-loop
 returns c = let l = c .before .before .before .before in
     let a = l .before .args in
     let k : length (a .t1) ≡ 128 = search needs in
-    sym (l .loop .inv .1 ∙ any-hit isStart (a .t1) (a .n) (l .loop .i) (record { left = 0; clause = Empty }) (c .before .before .before .loop-test .taken) (omega (arith, l .before .pre)) (eq-eqb _ _ (c .if1 .taken)))
+    sym (l .loop .inv .1 ∙ any-hit isStart (a .t1) (a .n) (l .loop .i)
+    (record { left = 0; clause = Empty }) (c .before .before .before .loop-test .taken)
+    (omega (arith, l .before .pre)) (eq-eqb _ _ (c .if1 .taken)))
 
 add-i : tie.Need-add-i Inv-loop μ-loop
 add-i c = search needs
@@ -41,8 +44,12 @@ loop-less c = search needs
 loop-again : tie.Need-loop-again Inv-loop μ-loop
 loop-again c = let l = c .before .before .before .before in
     let a = l .before .args in
-    let k : length (a .t1) ≡ 128 = search needs in
-    (search needs, l .loop .inv .1 ∙ any-more isStart (a .t1) (a .n) (l .loop .i) (record { left = 0; clause = Empty }) (c .before .before .before .loop-test .taken) (omega (arith, l .before .pre)) (ne-eqb _ _ (c .if1 .left)))
+    let k : length (a .t1) ≡ 128 = search needs in (
+      search needs,
+      l .loop .inv .1 ∙ any-more isStart (a .t1) (a .n) (l .loop .i)
+          (record { left = 0; clause = Empty }) (c .before .before .before .loop-test .taken)
+          (omega (arith, l .before .pre)) (ne-eqb _ _ (c .if1 .left)),
+    )
 
 returns-2 : tie.Need-returns-2 Inv-loop μ-loop
 returns-2 c = let l = c .before in

@@ -1,4 +1,5 @@
--- `sheets::line_after` meets its contract. The loop's invariant: the line with `left` lines before it from `at` on is the one wanted.
+-- `sheets::line_after` meets its contract. The loop's invariant: the line with `left` lines before
+-- it from `at` on is the one wanted.
 use native.Mathlib.Omega.{arith}
 use borrow.Author.Needs.{needs}
 use Rattle.sheets.proofs.Loop.{line-in}
@@ -19,7 +20,11 @@ line-requires : tie.Need-line-requires Inv-loop μ-loop
 line-requires c κs = c .before .loop .inv .low
 
 add-at : tie.Need-add-at Inv-loop μ-loop
-add-at c = omega (arith, walk-high (c .before .before .before .loop .inv) (c .before .line .ensures) (c .before .before .loop-test .taken))
+add-at c = omega (
+  arith,
+  walk-high (c .before .before .before .loop .inv) (c .before .line .ensures)
+      (c .before .before .loop-test .taken),
+)
 
 sub-left : tie.Need-sub-left Inv-loop μ-loop
 sub-left c = search needs
@@ -28,7 +33,8 @@ loop-less : tie.Need-loop-less Inv-loop μ-loop
 loop-less c = search needs
 
 loop-again : tie.Need-loop-again Inv-loop μ-loop
-loop-again c = walk-more (c .before .before .before .loop .inv) (c .before .line .ensures) (c .before .before .loop-test .taken)
+loop-again c = walk-more (c .before .before .before .loop .inv) (c .before .line .ensures)
+    (c .before .before .loop-test .taken)
 
 line-requires-2 : tie.Need-line-requires-2 Inv-loop μ-loop
 line-requires-2 c κs = c .before .loop .inv .low
@@ -37,7 +43,8 @@ bytes-requires : tie.Need-bytes-requires Inv-loop μ-loop
 bytes-requires c κs = line-in _ _ (c .before .before .loop .inv .low) _ (c .line2 .ensures)
 
 returns : tie.Need-returns Inv-loop μ-loop
-returns c = walk-end (c .before .before .before .loop .inv) (c .before .line2 .ensures) (c .before .before .loop-test .left) (c .bytes .ensures)
+returns c = walk-end (c .before .before .before .loop .inv) (c .before .line2 .ensures)
+    (c .before .before .loop-test .left) (c .bytes .ensures)
 
 pub line-after-spec : {M : Type 1} → statement M
 line-after-spec =

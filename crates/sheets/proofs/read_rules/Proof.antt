@@ -32,7 +32,12 @@ rules-from-requires c κs = search needs
 returns : tie.Need-returns
 returns c =
     let p = c .before .before .before .before .before .before in
-    subst (λ (x : Reading Rules). RulesRead (c .rules-from .result) x) (names-good (refused 1 1) ruleNames (p .before .before .args .s .now) rulesFrom (p .line .result) (p .line .ensures) (c .before .before .before .before .before .if1 .taken) (sym (c .before .if2 .taken) ∙ c .before .before .same .ensures)) (c .rules-from .ensures)
+    subst (λ (x : Reading Rules). RulesRead (c .rules-from .result) x)
+    (names-good (refused 1 1) ruleNames (p .before .before .args .s .now) rulesFrom
+    (p .line .result) (p .line .ensures)
+    (c .before .before .before .before .before .if1 .taken)
+    (sym (c .before .if2 .taken) ∙ c .before .before .same .ensures))
+    (c .rules-from .ensures)
 
 no-rules-requires : tie.Need-no-rules-requires
 no-rules-requires c κs = search needs
@@ -43,7 +48,12 @@ refuse-rules-requires c κs = search needs
 returns-2 : tie.Need-returns-2
 returns-2 c =
     let p = c .before .before .before .before .before .before .before in
-    subst (λ (x : Reading Rules). RulesRead (c .refuse-rules .result) x) (names-other (refused 1 1) ruleNames (p .before .before .args .s .now) rulesFrom (p .line .result) (p .line .ensures) (c .before .before .before .before .before .before .if1 .taken) (sym (c .before .before .if2 .left) ∙ c .before .before .before .same .ensures)) (c .refuse-rules .ensures)
+    subst (λ (x : Reading Rules). RulesRead (c .refuse-rules .result) x)
+    (names-other (refused 1 1) ruleNames (p .before .before .args .s .now) rulesFrom
+    (p .line .result) (p .line .ensures)
+    (c .before .before .before .before .before .before .if1 .taken)
+    (sym (c .before .before .if2 .left) ∙ c .before .before .before .same .ensures))
+    (c .refuse-rules .ensures)
 
 no-rules-requires-2 : tie.Need-no-rules-requires-2
 no-rules-requires-2 c κs = search needs
@@ -54,7 +64,10 @@ refuse-rules-requires-2 c κs = search needs
 returns-3 : tie.Need-returns-3
 returns-3 c =
     let p = c .before .before .before in
-    subst (λ (x : Reading Rules). RulesRead (c .refuse-rules2 .result) x) (names-open (refused 1 1) ruleNames (p .before .before .args .s .now) rulesFrom (p .line .result) (p .line .ensures) (c .before .before .if1 .left)) (c .refuse-rules2 .ensures)
+    subst (λ (x : Reading Rules). RulesRead (c .refuse-rules2 .result) x)
+    (names-open (refused 1 1) ruleNames (p .before .before .args .s .now) rulesFrom
+    (p .line .result) (p .line .ensures) (c .before .before .if1 .left))
+    (c .refuse-rules2 .ensures)
 
 pub read-rules-spec : {M : Type 1} → statement M
 read-rules-spec =

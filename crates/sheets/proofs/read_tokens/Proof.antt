@@ -1,4 +1,5 @@
--- `sheets::read_tokens` meets its contract: the first line is tried as the definition tries it, for the old names, then for those with `width`.
+-- `sheets::read_tokens` meets its contract: the first line is tried as the definition tries it, for
+-- the old names, then for those with `width`.
 use mathlib.Core.Path.{_≡_, sym, _∙_, subst}
 use mathlib.Core.Bool.{true, false}
 use mathlib.Core.List.{[]}
@@ -14,12 +15,15 @@ use Rattle.sheets.proofs.read_tokens.Tie as tie
 use Rattle.grammar.specs.Layout.{Word}
 
 -- not the old names: what the sheet says is what it says with widths
-not-old : (c : tie.Else2) → wideSheet (c .before .before .before .before .before .before .before .args .s .now) ≡ tokenSheet (c .before .before .before .before .before .before .before .args .s .now)
+not-old : (c : tie.Else2) → wideSheet
+    (c .before .before .before .before .before .before .before .args .s .now)
+    ≡ tokenSheet (c .before .before .before .before .before .before .before .args .s .now)
 not-old c =
     let t = c .before .before .before .before in
     let p = t .before in
     let s = p .before .before .args .s .now in
-    names-other (wideSheet s) tokenNames s (itemsFrom (tokenStep false) []) (p .line .result) (p .line .ensures) (t .if1 .taken) (sym (c .if2 .left) ∙ c .before .same .ensures)
+    names-other (wideSheet s) tokenNames s (itemsFrom (tokenStep false) []) (p .line .result)
+    (p .line .ensures) (t .if1 .taken) (sym (c .if2 .left) ∙ c .before .same .ensures)
 
 line-requires : tie.Need-line-requires
 line-requires c κs = search needs
@@ -44,10 +48,15 @@ returns c =
     let t = c .before .before .before .before .before in
     let p = t .before in
     let s = p .before .before .args .s .now in
-    subst (λ (x : Reading Word). TokensRead (c .tokens-from .result) x) (names-good (wideSheet s) tokenNames s (itemsFrom (tokenStep false) []) (p .line .result) (p .line .ensures) (t .if1 .taken) (sym (c .before .if2 .taken) ∙ c .before .before .same .ensures)) (c .tokens-from .ensures)
+    subst (λ (x : Reading Word). TokensRead (c .tokens-from .result) x)
+    (names-good (wideSheet s) tokenNames s (itemsFrom (tokenStep false) []) (p .line .result)
+    (p .line .ensures) (t .if1 .taken)
+    (sym (c .before .if2 .taken) ∙ c .before .before .same .ensures))
+    (c .tokens-from .ensures)
 
 slice-aggregate-same-3 : tie.Need-slice-aggregate-same-3
-slice-aggregate-same-3 c = sym (length-take-le _ _ (omega (arith, c .before .before .before .before .before .if1 .taken)))
+slice-aggregate-same-3 c =
+    sym (length-take-le _ _ (omega (arith, c .before .before .before .before .before .if1 .taken)))
 
 slice-aggregate-same-4 : tie.Need-slice-aggregate-same-4
 slice-aggregate-same-4 c = search needs
@@ -68,7 +77,9 @@ returns-2 c =
     let p = t .before in
     let s = p .before .before .args .s .now in
     subst (λ (x : Reading Word). TokensRead (c .tokens-from2 .result) x)
-    (names-good (refused 11 1) wideNames s (itemsFrom (tokenStep true) []) (p .line .result) (p .line .ensures) (t .if1 .taken) (sym (c .before .if3 .taken) ∙ c .before .before .same2 .ensures) ∙ not-old o)
+    (names-good (refused 11 1) wideNames s (itemsFrom (tokenStep true) []) (p .line .result)
+    (p .line .ensures) (t .if1 .taken)
+    (sym (c .before .if3 .taken) ∙ c .before .before .same2 .ensures) ∙ not-old o)
     (c .tokens-from2 .ensures)
 
 no-tokens-requires : tie.Need-no-tokens-requires
@@ -84,8 +95,10 @@ returns-3 c =
     let p = t .before in
     let s = p .before .before .args .s .now in
     subst (λ (x : Reading Word). TokensRead (c .refuse-tokens .result) x)
-    (names-other (refused 11 1) wideNames s (itemsFrom (tokenStep true) []) (p .line .result) (p .line .ensures) (t .if1 .taken) (sym (c .before .before .if3 .left) ∙ c .before .before .before .same2 .ensures) ∙ not-old o)
-    (c .refuse-tokens .ensures)
+    (names-other (refused 11 1) wideNames s (itemsFrom (tokenStep true) []) (p .line .result)
+    (p .line .ensures) (t .if1 .taken)
+    (sym (c .before .before .if3 .left) ∙ c .before .before .before .same2 .ensures)
+    ∙ not-old o) (c .refuse-tokens .ensures)
 
 no-tokens-requires-2 : tie.Need-no-tokens-requires-2
 no-tokens-requires-2 c κs = search needs
@@ -98,9 +111,10 @@ returns-4 c =
     let p = c .before .before .before in
     let s = p .before .before .args .s .now in
     subst (λ (x : Reading Word). TokensRead (c .refuse-tokens2 .result) x)
-    (names-open (refused 11 1) wideNames s (itemsFrom (tokenStep true) []) (p .line .result) (p .line .ensures) (c .before .before .if1 .left)
-    ∙ names-open (wideSheet s) tokenNames s (itemsFrom (tokenStep false) []) (p .line .result) (p .line .ensures) (c .before .before .if1 .left))
-    (c .refuse-tokens2 .ensures)
+    (names-open (refused 11 1) wideNames s (itemsFrom (tokenStep true) []) (p .line .result)
+    (p .line .ensures) (c .before .before .if1 .left)
+    ∙ names-open (wideSheet s) tokenNames s (itemsFrom (tokenStep false) []) (p .line .result)
+    (p .line .ensures) (c .before .before .if1 .left)) (c .refuse-tokens2 .ensures)
 
 pub read-tokens-spec : {M : Type 1} → statement M
 read-tokens-spec =

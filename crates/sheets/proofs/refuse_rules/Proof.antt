@@ -9,7 +9,13 @@ no-lengths-requires : tie.Need-no-lengths-requires
 no-lengths-requires c κs = search needs
 
 returns : tie.Need-returns
-returns c = record { is = refl; formed = λ e. absurd (clash cc); emptied = λ f l e. refl; exact = c .no-lengths .ensures }
+returns c = record {
+  is = refl;
+  formed = λ e. absurd (clash cc);
+  emptied = λ f l e. refl;
+  exact = c
+      .no-lengths .ensures;
+}
 
 pub refuse-rules-spec : {M : Type 1} → statement M
 refuse-rules-spec = tie.close (tie.spec no-lengths-requires returns)

@@ -1,7 +1,8 @@
 -- `refused_read` meets its contract: by the outcomes, and a refused line is a line of its sheet.
 use mathlib.Core.Path.{refl}
 use native.Mathlib.Omega.{arith}
-use Rattle.sheets.proofs.Handed.{hands-rules, hands-zero, hands-tokens, hands-tokens-zero, hands-none}
+use Rattle.sheets.proofs.Handed.{hands-rules, hands-zero, hands-tokens, hands-tokens-zero}
+use Rattle.sheets.proofs.Handed.{hands-none}
 use borrow.Author.Needs.{needs}
 use Rattle.sheets.proofs.refused_read.Statement.{statement}
 use Rattle.sheets.proofs.refused_read.Tie as tie
@@ -16,7 +17,8 @@ returns : tie.Need-returns
 returns c =
     let o = c .before .before .before in
     let a = o .before .before .before .before .args in
-    hands-zero (a .rules) (a .tokens) _ _ (o .o .given .1) (c .before .if1 .taken) (record { block = refl; offset = omega arith; holds = refl })
+    hands-zero (a .rules) (a .tokens) _ _ (o .o .given .1) (c .before .if1 .taken)
+    (record { block = refl; offset = omega arith; holds = refl })
 
 sub-line-after : tie.Need-sub-line-after
 sub-line-after c = search needs
@@ -31,7 +33,8 @@ returns-2 : tie.Need-returns-2
 returns-2 c =
     let o = c .before .before .before in
     let a = o .before .before .before .before .args in
-    hands-rules (a .rules) (a .tokens) _ _ _ (o .o .given .1) (c .before .if1 .left) (c .line-after .ensures)
+    hands-rules (a .rules) (a .tokens) _ _ _ (o .o .given .1) (c .before .if1 .left)
+    (c .line-after .ensures)
 
 enum-told : tie.Need-enum-told
 enum-told c = search needs
@@ -47,7 +50,8 @@ returns-3 c =
     let p = c .before .before .before in
     let t = p .before .before in
     let a = t .before .before .before .before .args in
-    hands-tokens-zero (a .rules) (a .tokens) _ (t .enum-told .given .1) (p .p .given .1) (c .before .if2 .taken) (record { block = refl; offset = omega arith; holds = refl })
+    hands-tokens-zero (a .rules) (a .tokens) _ (t .enum-told .given .1) (p .p .given .1)
+    (c .before .if2 .taken) (record { block = refl; offset = omega arith; holds = refl })
 
 sub-line-after-2 : tie.Need-sub-line-after-2
 sub-line-after-2 c = search needs
@@ -63,7 +67,8 @@ returns-4 c =
     let p = c .before .before .before in
     let t = p .before .before in
     let a = t .before .before .before .before .args in
-    hands-tokens (a .rules) (a .tokens) _ _ (t .enum-told .given .1) (p .p .given .1) (c .before .if2 .left) (c .line-after2 .ensures)
+    hands-tokens (a .rules) (a .tokens) _ _ (t .enum-told .given .1) (p .p .given .1)
+    (c .before .if2 .left) (c .line-after2 .ensures)
 
 enum-told-2 : tie.Need-enum-told-2
 enum-told-2 c = search needs
@@ -75,7 +80,8 @@ returns-5 : tie.Need-returns-5
 returns-5 c =
     let t = c .before .before .before in
     let a = t .before .before .before .before .args in
-    hands-none (a .rules) (a .tokens) _ (t .enum-told .given .1) (c .before .enum-told2 .given .1) (record { block = refl; offset = omega arith; holds = refl })
+    hands-none (a .rules) (a .tokens) _ (t .enum-told .given .1) (c .before .enum-told2 .given .1)
+    (record { block = refl; offset = omega arith; holds = refl })
 
 pub refused-read-spec : {M : Type 1} → statement M
 refused-read-spec =

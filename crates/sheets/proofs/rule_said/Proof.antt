@@ -12,10 +12,14 @@ use Rattle.fields.specs.Cursors.{bytesLeft}
 
 -- what the line was read as
 said : (c : tie.After-rule-line) (x : RuleLine) → c .rule-line .result ≡ x
-    → ruleSaid (take (c .before .before .args .n) (c .before .before .args .rules)) x ≡ ruleSays (take (c .before .before .args .n) (c .before .before .args .rules)) (bytesLeft (c .before .before .args .s .now) (c .before .before .args .c))
+    → ruleSaid (take (c .before .before .args .n) (c .before .before .args .rules)) x
+    ≡ ruleSays (take (c .before .before .args .n) (c .before .before .args .rules))
+    (bytesLeft (c .before .before .args .s .now) (c .before .before .args .c))
 said c x is =
     let b = c .before .before in
-    ap (ruleSaid (take (b .args .n) (b .args .rules))) (sym is ∙ c .rule-line .ensures ∙ ap ruleFields (fields-of (b .args .s .now) (b .args .c) (b .pre .0) (b .pre .1)))
+    ap (ruleSaid (take (b .args .n) (b .args .rules)))
+    (sym is ∙ c .rule-line .ensures ∙ ap ruleFields
+    (fields-of (b .args .s .now) (b .args .c) (b .pre .0) (b .pre .1)))
 
 rule-line-requires : tie.Need-rule-line-requires
 rule-line-requires c κs = c .before .pre .1
@@ -51,7 +55,8 @@ returns-4 : tie.Need-returns-4
 returns-4 c = said (c .before .before) _ (c .enum-told4 .given .1)
 
 returns-5 : tie.Need-returns-5
-returns-5 c = c .fresh .ensures ∙ said (c .before .before .before .before) _ (c .before .before .r .given .1)
+returns-5 c =
+    c .fresh .ensures ∙ said (c .before .before .before .before) _ (c .before .before .r .given .1)
 
 pub rule-said-spec : {M : Type 1} → statement M
 rule-said-spec =

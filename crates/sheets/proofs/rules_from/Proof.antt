@@ -1,5 +1,5 @@
--- `sheets::rules_from` meets its contract. The loop's invariant: what the rest of the sheet says after the rules read is what the sheet says,
--- and the index is true of the rules read.
+-- `sheets::rules_from` meets its contract. The loop's invariant: what the rest of the sheet says
+-- after the rules read is what the sheet says, and the index is true of the rules read.
 use mathlib.Core.Path.{_≡_, sym, ap, _∙_}
 use Prim.Native.Nat.{ℕ, _+_, _-_}
 use native.Mathlib.Omega.{arith}
@@ -36,11 +36,13 @@ abbrev bytes : tie.After-add-line Inv-loop μ-loop → List ℕ
 bytes c = bytesLeft (sheet c) (c .before .line .result)
 
 abbrev turn : tie.After-add-line Inv-loop μ-loop → Turn
-turn c = turnOf 128 (c .before .before .loop .book .grammar .count) (bytes c) (ltb (c .before .line .result .end) (length (sheet c)))
+turn c = turnOf 128 (c .before .before .loop .book .grammar .count) (bytes c)
+    (ltb (c .before .line .result .end) (length (sheet c)))
 
 -- what the line gave
 gave : (c : tie.After-add-line Inv-loop μ-loop) (x : RuleStep) → c .add-line .result .step ≡ x
-    → asRuleStep x ≡ stepAt 6 2 (ruleSays (rules (c .before .before .loop .book .grammar)) (bytes c)) (turn c)
+    → asRuleStep x ≡ stepAt 6 2 (ruleSays (rules (c .before .before .loop .book .grammar))
+    (bytes c)) (turn c)
 gave c x is = ap asRuleStep (sym is) ∙ c .add-line .ensures .0
 
 -- and what it made of the book
@@ -70,19 +72,25 @@ add-at : tie.Need-add-at Inv-loop μ-loop
 add-at c =
     let e = c .before in
     let m = e .before .before .before in
-    omega (arith, took (m .before .before .loop .inv .filled) (m .before .line .ensures) (gave m _ (e .enum-told .given .1)) .1)
+    omega (
+      arith,
+      took (m .before .before .loop .inv .filled) (m .before .line .ensures)
+          (gave m _ (e .enum-told .given .1)) .1,
+    )
 
 loop-less : tie.Need-loop-less Inv-loop μ-loop
 loop-less c =
     let e = c .before in
     let m = e .before .before .before in
-    moved (m .before .before .loop .inv .filled) (m .before .line .ensures) (gave m _ (e .enum-told .given .1))
+    moved (m .before .before .loop .inv .filled) (m .before .line .ensures)
+    (gave m _ (e .enum-told .given .1))
 
 loop-again : tie.Need-loop-again Inv-loop μ-loop
 loop-again c =
     let e = c .before in
     let m = e .before .before .before in
-    reads-turn (m .before .before .loop .inv) (m .before .line .ensures) (gave m _ (e .enum-told .given .1)) (made m _ (e .enum-told .given .1))
+    reads-turn (m .before .before .loop .inv) (m .before .line .ensures)
+    (gave m _ (e .enum-told .given .1)) (made m _ (e .enum-told .given .1))
 
 enum-known-step : tie.Need-enum-known-step Inv-loop μ-loop
 enum-known-step c = search needs
@@ -91,7 +99,12 @@ add-refuse-rules : tie.Need-add-refuse-rules Inv-loop μ-loop
 add-refuse-rules c =
     let k = c .before .before .before in
     let m = k .before .before .before in
-    omega (arith, ap (λ (b : Book). b .grammar .count) (made m _ (k .step .given .1)), m .before .before .loop .inv .filled .few)
+    omega (
+      arith,
+      ap (λ (b : Book). b .grammar .count) (made m _ (k .step .given .1)),
+      m .before
+          .before .loop .inv .filled .few,
+    )
 
 refuse-rules-requires : tie.Need-refuse-rules-requires Inv-loop μ-loop
 refuse-rules-requires c κs = search needs
@@ -101,7 +114,11 @@ returns c =
     let k = c .before .before .before .before in
     let m = k .before .before .before in
     let e = ap (λ (b : Book). b .grammar .count + 2) (made m _ (k .step .given .1)) in
-    rw (stopped (m .before .before .loop .inv .filled) (m .before .line .ensures) (gave m _ (k .step .given .1)), ← e) (c .refuse-rules .ensures)
+    rw (
+      stopped (m .before .before .loop .inv .filled) (m .before .line .ensures)
+          (gave m _ (k .step .given .1)),
+      ← e,
+    ) (c .refuse-rules .ensures)
 
 enum-told-2 : tie.Need-enum-told-2 Inv-loop μ-loop
 enum-told-2 c = search needs
@@ -114,15 +131,27 @@ finished-requires c κs =
     let a = m .before .before .before .before .before .args in
     let e = ended (T .filled) (m .before .line .ensures) (gave m _ (t .enum-told2 .given .1)) in
     let k = rules-kept (piecesFrom 10 (a .s .now) (a .start)) _ e in
-    rw (made m _ (t .enum-told2 .given .1))
-    (record { few = T .filled .few; whole = count (T .filled); small = k .small; distinct = k .distinct }, T .booked .exact)
+    rw (made m _ (t .enum-told2 .given .1)) (
+      record {
+        few = T .filled .few;
+        whole = count (T .filled);
+        small = k .small;
+        distinct =
+            k .distinct;
+      },
+      T .booked .exact,
+    )
 
 returns-2 : tie.Need-returns-2 Inv-loop μ-loop
 returns-2 c =
     let t = c .before .before .before in
     let m = t .before .before .before in
     let e = ap (λ (b : Book). rules (b .grammar)) (made m _ (t .enum-told2 .given .1)) in
-    rw (ended (m .before .before .loop .inv .filled) (m .before .line .ensures) (gave m _ (t .enum-told2 .given .1)), ← e) (c .finished .ensures)
+    rw (
+      ended (m .before .before .loop .inv .filled) (m .before .line .ensures)
+          (gave m _ (t .enum-told2 .given .1)),
+      ← e,
+    ) (c .finished .ensures)
 
 pub rules-from-spec : {M : Type 1} → statement M
 rules-from-spec =

@@ -12,10 +12,15 @@ use Rattle.fields.specs.Cursors.{bytesLeft}
 
 -- what the line was read as
 said : (c : tie.After-token-line) (x : TokenLine) → c .token-line .result ≡ x
-    → tokenSaid (take (c .before .before .args .n) (c .before .before .args .tokens)) x ≡ tokenSays (c .before .before .args .wide) (take (c .before .before .args .n) (c .before .before .args .tokens)) (bytesLeft (c .before .before .args .s .now) (c .before .before .args .c))
+    → tokenSaid (take (c .before .before .args .n) (c .before .before .args .tokens)) x
+    ≡ tokenSays (c .before .before .args .wide)
+    (take (c .before .before .args .n) (c .before .before .args .tokens))
+    (bytesLeft (c .before .before .args .s .now) (c .before .before .args .c))
 said c x is =
     let b = c .before .before in
-    ap (tokenSaid (take (b .args .n) (b .args .tokens))) (sym is ∙ c .token-line .ensures ∙ ap (tokenFields (b .args .wide)) (fields-of (b .args .s .now) (b .args .c) (b .pre .0) (b .pre .1)))
+    ap (tokenSaid (take (b .args .n) (b .args .tokens)))
+    (sym is ∙ c .token-line .ensures ∙ ap (tokenFields (b .args .wide))
+    (fields-of (b .args .s .now) (b .args .c) (b .pre .0) (b .pre .1)))
 
 token-line-requires : tie.Need-token-line-requires
 token-line-requires c κs = search needs
@@ -45,7 +50,8 @@ returns-3 : tie.Need-returns-3
 returns-3 c = said (c .before .before) _ (c .enum-told3 .given .1)
 
 returns-4 : tie.Need-returns-4
-returns-4 c = c .ordered .ensures ∙ said (c .before .before .before .before) _ (c .before .before .t .given .1)
+returns-4 c = c .ordered .ensures ∙ said (c .before .before .before .before) _
+    (c .before .before .t .given .1)
 
 pub token-said-spec : {M : Type 1} → statement M
 token-said-spec =

@@ -13,11 +13,21 @@ use Rattle.fields.specs.Cursors.{bytesLeft}
 
 -- what the line is
 said : (c : tie.After-turn-at) (x : Turn) → c .turn-at .result ≡ x
-    → stepAt 14 12 (tokenSays (c .before .before .args .wide) (take (c .before .before .args .n) (c .before .before .args .tokens)) (bytesLeft (c .before .before .args .s .now) (c .before .before .args .c))) x
-    ≡ stepAt 14 12 (tokenSays (c .before .before .args .wide) (take (c .before .before .args .n) (c .before .before .args .tokens)) (bytesLeft (c .before .before .args .s .now) (c .before .before .args .c))) (turnOf 64 (c .before .before .args .n) (bytesLeft (c .before .before .args .s .now) (c .before .before .args .c)) (ltb (c .before .before .args .c .end) (length (c .before .before .args .s .now))))
+    → stepAt 14 12 (tokenSays (c .before .before .args .wide)
+    (take (c .before .before .args .n) (c .before .before .args .tokens))
+    (bytesLeft (c .before .before .args .s .now) (c .before .before .args .c))) x
+    ≡ stepAt 14 12 (tokenSays (c .before .before .args .wide)
+    (take (c .before .before .args .n) (c .before .before .args .tokens))
+    (bytesLeft (c .before .before .args .s .now) (c .before .before .args .c)))
+    (turnOf 64 (c .before .before .args .n)
+    (bytesLeft (c .before .before .args .s .now)
+    (c .before .before .args .c)) (ltb
+    (c .before .before .args .c .end)
+    (length (c .before .before .args .s .now))))
 said c x is =
     let a = c .before .before .args in
-    ap (stepAt 14 12 (tokenSays (a .wide) (take (a .n) (a .tokens)) (bytesLeft (a .s .now) (a .c)))) (sym is ∙ c .turn-at .ensures)
+    ap (stepAt 14 12 (tokenSays (a .wide) (take (a .n) (a .tokens)) (bytesLeft (a .s .now) (a .c))))
+    (sym is ∙ c .turn-at .ensures)
 
 turn-at-requires : tie.Need-turn-at-requires
 turn-at-requires c κs = search needs
@@ -47,7 +57,8 @@ returns-3 : tie.Need-returns-3
 returns-3 c = said (c .before .before) _ (c .enum-told3 .given .1)
 
 returns-4 : tie.Need-returns-4
-returns-4 c = c .token-said .ensures ∙ said (c .before .before .before) _ (c .before .enum-told4 .given .1)
+returns-4 c =
+    c .token-said .ensures ∙ said (c .before .before .before) _ (c .before .enum-told4 .given .1)
 
 pub token-step-spec : {M : Type 1} → statement M
 token-step-spec =

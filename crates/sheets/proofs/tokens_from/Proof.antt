@@ -1,4 +1,5 @@
--- `sheets::tokens_from` meets its contract. The loop's invariant: what the rest of the sheet says after the items read is what the sheet says.
+-- `sheets::tokens_from` meets its contract. The loop's invariant: what the rest of the sheet says
+-- after the items read is what the sheet says.
 use mathlib.Core.Path.{_≡_, refl, sym, ap, _∙_}
 use Prim.Native.Nat.{ℕ, _-_, _<_}
 use native.Mathlib.Omega.{arith}
@@ -21,7 +22,8 @@ use Rattle.sheets.proofs.tokens_from.Tie as tie
 use Rattle.fields.specs.Cursors.{piecesFrom, bytesLeft}
 
 abbrev Inv-loop : tie.InvT-loop
-Inv-loop s start wide tokens₀ n₀ at₀ tokens n at = Filled 64 14 12 (tokenSays wide) s start tokens n at
+Inv-loop s start wide tokens₀ n₀ at₀ tokens n at =
+    Filled 64 14 12 (tokenSays wide) s start tokens n at
 
 abbrev μ-loop : tie.MeasureT-loop
 μ-loop s start wide tokens₀ n₀ at₀ tokens n at = length s - at
@@ -34,11 +36,13 @@ abbrev bytes : tie.After-token-step Inv-loop μ-loop → List ℕ
 bytes c = bytesLeft (sheet c) (c .before .line .result)
 
 abbrev turn : tie.After-token-step Inv-loop μ-loop → Turn
-turn c = turnOf 64 (c .before .before .loop .n) (bytes c) (ltb (c .before .line .result .end) (length (sheet c)))
+turn c = turnOf 64 (c .before .before .loop .n) (bytes c)
+    (ltb (c .before .line .result .end) (length (sheet c)))
 
 abbrev says : tie.After-token-step Inv-loop μ-loop → Step Token
 says c =
-    tokenSays (c .before .before .before .before .before .args .wide) (take (c .before .before .loop .n) (c .before .before .loop .tokens)) (bytes c)
+    tokenSays (c .before .before .before .before .before .args .wide)
+    (take (c .before .before .loop .n) (c .before .before .loop .tokens)) (bytes c)
 
 -- what the line gave
 gave : (c : tie.After-token-step Inv-loop μ-loop) (x : TokenStep) → c .token-step .result ≡ x
@@ -50,16 +54,19 @@ abbrev line-of : tie.After-known-told Inv-loop μ-loop → tie.After-token-step 
 line-of c = c .before .before .before
 
 taken : (c : tie.After-known-told Inv-loop μ-loop)
-    → (line-of c .before .before .loop .n < 64) × (line-of c .before .line .result .end < length (sheet (line-of c)))
+    → (line-of c .before .before .loop .n < 64)
+    × (line-of c .before .line .result .end < length (sheet (line-of c)))
 taken c =
     let m = line-of c in
-    took (m .before .before .loop .inv) (m .before .line .ensures) (gave m _ (c .before .t .given .1))
+    took (m .before .before .loop .inv) (m .before .line .ensures)
+    (gave m _ (c .before .t .given .1))
 
 no-tokens-requires : tie.Need-no-tokens-requires Inv-loop μ-loop
 no-tokens-requires c κs = search needs
 
 loop-holds : tie.Need-loop-holds Inv-loop μ-loop
-loop-holds c = record { low = c .before .before .pre; few = lit≤ tt; long = search needs; same = refl }
+loop-holds c =
+    record { low = c .before .before .pre; few = lit≤ tt; long = search needs; same = refl }
 
 line-requires : tie.Need-line-requires Inv-loop μ-loop
 line-requires c κs = c .loop .inv .low
@@ -87,12 +94,14 @@ add-at c = omega (arith, taken (c .before) .1)
 loop-less : tie.Need-loop-less Inv-loop μ-loop
 loop-less c =
     let m = c .before .before .before .before in
-    moved (m .before .before .loop .inv) (m .before .line .ensures) (gave m _ (c .before .before .t .given .1))
+    moved (m .before .before .loop .inv) (m .before .line .ensures)
+    (gave m _ (c .before .before .t .given .1))
 
 loop-again : tie.Need-loop-again Inv-loop μ-loop
 loop-again c =
     let m = c .before .before .before .before in
-    turned (m .before .before .loop .inv) (m .before .line .ensures) (gave m _ (c .before .before .t .given .1))
+    turned (m .before .before .loop .inv) (m .before .line .ensures)
+    (gave m _ (c .before .before .t .given .1))
 
 enum-known-f : tie.Need-enum-known-f Inv-loop μ-loop
 enum-known-f c = search needs
@@ -106,7 +115,8 @@ refuse-tokens-requires c κs = search needs
 returns : tie.Need-returns Inv-loop μ-loop
 returns c =
     let m = c .before .before .before .before in
-    rw (stopped (m .before .before .loop .inv) (m .before .line .ensures) (gave m _ (c .before .before .f .given .1))) (c .refuse-tokens .ensures)
+    rw (stopped (m .before .before .loop .inv) (m .before .line .ensures)
+    (gave m _ (c .before .before .f .given .1))) (c .refuse-tokens .ensures)
 
 enum-told : tie.Need-enum-told Inv-loop μ-loop
 enum-told c = search needs
@@ -119,7 +129,12 @@ returns-2 c =
     let e = ended T (m .before .line .ensures) (gave m _ (c .enum-told .given .1)) in
     record {
       is = sym e;
-      positioned = λ a. record { few = T .few; whole = count T; rising = tokens-placed (b .wide) (piecesFrom 10 (b .s .now) (b .start)) _ e .rising };
+      positioned = λ a. record {
+        few = T .few;
+        whole = count T;
+        rising = tokens-placed (b .wide)
+            (piecesFrom 10 (b .s .now) (b .start)) _ e .rising;
+      };
       emptied = λ f l a. absurd (clash cc);
     }
 

@@ -13,8 +13,15 @@ use Rattle.spans.proofs.in_first.Tie as tie
 pair-at-requires : tie.Need-pair-at-requires
 pair-at-requires c κs = search needs
 
-inside : (c : tie.After-pair-at) → 2 * c .pair-at .result + 1 < length (c .before .before .args .words .now)
-inside c = omega (arith, c .pair-at .ensures, pairAt-below (c .before .before .args .n) (c .before .before .args .start) (c .before .before .args .len) (c .before .before .pre .fits))
+inside : (c : tie.After-pair-at)
+    → 2 * c .pair-at .result + 1 < length (c .before .before .args .words .now)
+inside c = omega (
+  arith,
+  c .pair-at .ensures,
+  pairAt-below (c .before .before .args .n)
+      (c .before .before .args .start) (c .before .before .args .len)
+      (c .before .before .pre .fits),
+)
 
 mul-at : tie.Need-mul-at
 mul-at c = omega (arith, inside c, c .before .before .good .0 .1)
@@ -30,7 +37,10 @@ has-requires c κs = search needs
 
 returns : tie.Need-returns
 returns c =
-    subst (λ (x : ℕ). Says (c .has .result) (In (getD (c .before .before .before .before .args .words .now) (2 * x) 0) (c .before .before .before .before .args .a))) (c .before .before .pair-at .ensures) (c .has .ensures)
+    subst (λ (x : ℕ). Says (c .has .result)
+    (In (getD (c .before .before .before .before .args .words .now) (2 * x) 0)
+    (c .before .before .before .before .args .a))) (c .before .before .pair-at .ensures)
+    (c .has .ensures)
 
 pub in-first-spec : {M : Type 1} → statement M
 in-first-spec =

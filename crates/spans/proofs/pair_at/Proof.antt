@@ -9,7 +9,8 @@ use Rattle.spans.proofs.pair_at.Statement.{statement}
 use Rattle.spans.proofs.pair_at.Tie as tie
 
 returns : tie.Need-returns
-returns c = sym (ap (pairAt (c .before .args .n) (c .before .args .start)) (c .if1 .taken) ∙ pairAt-empty _ _)
+returns c = sym (ap (pairAt (c .before .args .n) (c .before .args .start)) (c .if1 .taken)
+    ∙ pairAt-empty _ _)
 
 sub-k : tie.Need-sub-k
 sub-k c = search needs
@@ -23,7 +24,9 @@ add-result c = search needs
 sub-result : tie.Need-sub-result
 sub-result c = search needs
 
-bound : (c : tie.Else1) → (c .before .args .len - 1) * (2 * c .before .args .n + 1 - (c .before .args .len - 1)) ≤ 64 * (2 * c .before .args .n + 1 - (c .before .args .len - 1))
+bound : (c : tie.Else1) → (c .before .args .len - 1)
+    * (2 * c .before .args .n + 1 - (c .before .args .len - 1))
+    ≤ 64 * (2 * c .before .args .n + 1 - (c .before .args .len - 1))
 bound c = spans-bound (c .before .args .n) (c .before .args .len - 1) (omega arith) (omega arith)
 
 mul-result-2 : tie.Need-mul-result-2
@@ -36,7 +39,13 @@ add-result-3 : tie.Need-add-result-3
 add-result-3 c = omega (arith, bound c)
 
 returns-2 : tie.Need-returns-2
-returns-2 c = omega (arith, spans-closed (c .before .args .n) (c .before .args .len - 1) (omega arith), pairAt-of (c .before .args .n) (c .before .args .start) (c .before .args .len) (omega arith))
+returns-2 c = omega (
+  arith,
+  spans-closed (c .before .args .n) (c .before .args .len - 1)
+      (omega arith),
+  pairAt-of (c .before .args .n) (c .before .args .start) (c .before .args .len)
+      (omega arith),
+)
 
 pub pair-at-spec : {M : Type 1} → statement M
 pair-at-spec =

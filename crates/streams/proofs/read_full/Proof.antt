@@ -52,7 +52,13 @@ add-done c =
     let taken = c .before .before in
     let back = taken .before .before .before in
     let call = back .before in
-    omega (arith, within (taken .moved .given .1) (call .read-once .ensures), call .before .read-once-arg .given, back .buf .given)
+    omega (
+      arith,
+      within (taken .moved .given .1) (call .read-once .ensures),
+      call .before
+          .read-once-arg .given,
+      back .buf .given,
+    )
 
 loop-less : tie.Need-loop-less Inv-loop μ-loop
 loop-less c = search needs
@@ -62,7 +68,13 @@ loop-again c =
     let taken = c .before .before in
     let back = taken .before .before .before in
     let call = back .before in
-    omega (arith, within (taken .moved .given .1) (call .read-once .ensures), call .before .read-once-arg .given, back .buf .given)
+    omega (
+      arith,
+      within (taken .moved .given .1) (call .read-once .ensures),
+      call .before
+          .read-once-arg .given,
+      back .buf .given,
+    )
 
 same-length-3 : tie.Need-same-length-3 Inv-loop μ-loop
 same-length-3 c = search needs

@@ -1,4 +1,5 @@
--- `streams::read_once` is safe and ends: each turn counts down, and a read keeps the buffer's length.
+-- `streams::read_once` is safe and ends: each turn counts down, and a read keeps the buffer's
+-- length.
 use mathlib.Core.Path.{_≡_}
 use lib.ListN.{length}
 use borrow.Author.Needs.{needs}

@@ -44,7 +44,12 @@ add-done : tie.Need-add-done Inv-loop μ-loop
 add-done c =
     let taken = c .before .before in
     let call = taken .before .before in
-    omega (arith, within (taken .moved .given .1) (call .write-once .ensures), call .before .write-once-arg .given)
+    omega (
+      arith,
+      within (taken .moved .given .1) (call .write-once .ensures),
+      call .before
+          .write-once-arg .given,
+    )
 
 loop-less : tie.Need-loop-less Inv-loop μ-loop
 loop-less c = search needs
@@ -53,7 +58,12 @@ loop-again : tie.Need-loop-again Inv-loop μ-loop
 loop-again c =
     let taken = c .before .before in
     let call = taken .before .before in
-    omega (arith, within (taken .moved .given .1) (call .write-once .ensures), call .before .write-once-arg .given)
+    omega (
+      arith,
+      within (taken .moved .given .1) (call .write-once .ensures),
+      call .before
+          .write-once-arg .given,
+    )
 
 returns-3 : tie.Need-returns-3 Inv-loop μ-loop
 returns-3 c = search needs

@@ -12,7 +12,8 @@ with-requires c κs = search needs
 
 returns : tie.Need-returns
 returns c =
-    let z = c .before .before in rw (c .with .ensures) (most-exact (z .pre .1) (z .pre .2) (z .pre .3) (c .before .close .ensures))
+    let z = c .before .before in rw (c .with .ensures)
+    (most-exact (z .pre .1) (z .pre .2) (z .pre .3) (c .before .close .ensures))
 
 pub at-most-spec : {M : Type 1} → statement M
 at-most-spec = tie.close (tie.spec close-requires with-requires returns)

@@ -26,7 +26,8 @@ returns : tie.Need-returns Inv-loop μ-loop
 returns c =
     record {
       sound = c .before .before .loop .inv;
-      shut = passed-all (c .before .pass .ensures) (c .before .before .before .pre .0 .whole) (c .if1 .taken);
+      shut = passed-all (c .before .pass .ensures) (c .before .before .before .pre .0 .whole)
+          (c .if1 .taken);
     }
 
 loop-less : tie.Need-loop-less Inv-loop μ-loop

@@ -12,11 +12,13 @@ at-most-requires-2 c κs = let z = c .before in (z .pre .0, z .pre .1, z .pre .2
 
 at-most-requires-3 : tie.Need-at-most-requires-3
 at-most-requires-3 c κs =
-    let z = c .before .before in (z .pre .0, z .pre .1, z .pre .2, loose-less 1 (omega arith) (c .at-most2 .ensures))
+    let z = c .before .before in
+    (z .pre .0, z .pre .1, z .pre .2, loose-less 1 (omega arith) (c .at-most2 .ensures))
 
 at-most-requires-4 : tie.Need-at-most-requires-4
 at-most-requires-4 c κs =
-    let z = c .before .before .before in (z .pre .0, z .pre .1, z .pre .2, loose-less 0 (omega arith) (c .before .at-most2 .ensures))
+    let z = c .before .before .before in
+    (z .pre .0, z .pre .1, z .pre .2, loose-less 0 (omega arith) (c .before .at-most2 .ensures))
 
 returns : tie.Need-returns
 returns c =

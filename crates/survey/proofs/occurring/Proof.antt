@@ -12,7 +12,8 @@ with-requires c κs = search needs
 
 returns : tie.Need-returns
 returns c =
-    let z = c .before .before in rw (c .with .ensures) (stands-exact (z .pre .1) (z .pre .2) (c .before .close .ensures))
+    let z = c .before .before in
+    rw (c .with .ensures) (stands-exact (z .pre .1) (z .pre .2) (c .before .close .ensures))
 
 pub occurring-spec : {M : Type 1} → statement M
 occurring-spec = tie.close (tie.spec close-requires with-requires returns)

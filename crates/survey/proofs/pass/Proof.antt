@@ -30,7 +30,8 @@ array c = sym (length-map (c .args .t1 .rules) _) ∙ c .good .0 .1 .1 .0 .1 .0 
 
 -- the rule at the loop's place
 rule : (c : tie.In-loop Inv-loop μ-loop)
-    → getElem? (rules (c .before .before .args .t1)) (c .before .loop .p) ≡ some (getD (c .before .before .args .t1 .rules) (c .before .loop .p) blank)
+    → getElem? (rules (c .before .before .args .t1)) (c .before .loop .p)
+    ≡ some (getD (c .before .before .args .t1 .rules) (c .before .loop .p) blank)
 rule c =
     rule-at (c .before .before .args .t1) (c .before .loop .p) blank (array (c .before .before))
     (c .before .before .pre .0 .few) (c .loop-test .taken)
@@ -55,12 +56,16 @@ loop-less c = omega arith
 
 loop-again : tie.Need-loop-again Inv-loop μ-loop
 loop-again c =
-    let z = c .before .before .before .before in
-    (omega arith, passed-more (aim-sound (z .pre .1) (z .args .aim) (z .args .prods) (z .pre .2)) _ (rule (c .before .before)) (c .before .before .before .loop .inv .1) (c .grow .ensures))
+    let z = c .before .before .before .before in (
+      omega arith,
+      passed-more (aim-sound (z .pre .1) (z .args .aim) (z .args .prods) (z .pre .2)) _
+          (rule (c .before .before)) (c .before .before .before .loop .inv .1) (c .grow .ensures),
+    )
 
 returns : tie.Need-returns Inv-loop μ-loop
 returns c =
-    let e : c .before .loop .p ≡ c .before .before .args .t1 .count = omega arith in rw e at (c .before .loop .inv .1)
+    let e : c .before .loop .p ≡ c .before .before .args .t1 .count = omega arith in
+    rw e at (c .before .loop .inv .1)
 
 pub pass-spec : {M : Type 1} → statement M
 pass-spec =

@@ -14,8 +14,23 @@ slice-aggregate-search c = search needs
 
 search-requires : tie.Need-search-requires
 search-requires c κs =
-    let z = c .before .before .before .before .before .before .before in
-    (z .pre .0, (z .pre .1 .0, (z .pre .1 .1 .0, (z .pre .1 .1 .1 .0, (z .pre .1 .1 .1 .1, c .before .before .before .fill-table .ensures)))))
+    let z = c .before .before .before .before .before .before .before in (
+      z .pre .0,
+      (
+        z .pre .1 .0,
+        (
+          z .pre .1 .1 .0,
+          (
+            z .pre .1 .1 .1 .0,
+            (
+              z .pre .1 .1 .1 .1,
+              c .before .before .before .fill-table
+                  .ensures,
+            ),
+          ),
+        ),
+      ),
+    )
 
 same-length : tie.Need-same-length
 same-length c = search needs

@@ -1,4 +1,5 @@
--- A look meets its contract: by the candidate alone where it is no better than an earlier one, else by refuting the block, and where no cell is open by the sentence's own sheet.
+-- A look meets its contract: by the candidate alone where it is no better than an earlier one, else
+-- by refuting the block, and where no cell is open by the sentence's own sheet.
 use borrow.Author.Needs.{needs}
 use native.Mathlib.Omega.{arith}
 use Rattle.spans.proofs.ChangeLaws.{past-same}
@@ -7,7 +8,8 @@ use Rattle.sweeping.proofs.look.Statement.{statement}
 use Rattle.sweeping.proofs.look.Tie as tie
 
 slack-requires : tie.Need-slack-requires
-slack-requires c κs = let z = c .before .before .before .before in (omega (arith, c .if1 .taken), z .pre .0 .1, z .pre .0 .0)
+slack-requires c κs = let z = c .before .before .before .before in
+    (omega (arith, c .if1 .taken), z .pre .0 .1, z .pre .0 .0)
 
 returns : tie.Need-returns
 returns c =

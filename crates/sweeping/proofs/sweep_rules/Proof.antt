@@ -1,4 +1,5 @@
--- The sweep meets its contract: what was found is spelled, the candidates tried are counted, and the words that the search changed are cleared.
+-- The sweep meets its contract: what was found is spelled, the candidates tried are counted, and
+-- the words that the search changed are cleared.
 use borrow.Author.Needs.{needs}
 use Rattle.candidates.proofs.Windows.{cells-size}
 use Rattle.sweeping.proofs.Answers.{found-low, swept-of, all-cleared, lengths-of, admits-of}
@@ -10,8 +11,10 @@ element-copy-out-lengths c = search needs
 
 find-requires : tie.Need-find-requires
 find-requires c κs =
-    let a = c .before .before .before in
-    ((a .pre .0 .low, a .pre .0 .high), (a .pre .1 .0, (admits-of (lengths-of (a .pre .1 .1 .0)), a .pre .1 .1 .1)))
+    let a = c .before .before .before in (
+      (a .pre .0 .low, a .pre .0 .high),
+      (a .pre .1 .0, (admits-of (lengths-of (a .pre .1 .1 .0)), a .pre .1 .1 .1)),
+    )
 
 size-requires : tie.Need-size-requires
 size-requires c κs = search needs
@@ -28,7 +31,8 @@ counted-requires c κs =
 sentence-requires : tie.Need-sentence-requires
 sentence-requires c κs =
     let f = c .before .before .before .before .before .before .before .before .before in
-    found-low (cells-size (f .find .result .candidate) 0 (f .find .result .length)) (f .before .before .before .before .pre .0 .high) (f .find .ensures .0)
+    found-low (cells-size (f .find .result .candidate) 0 (f .find .result .length))
+    (f .before .before .before .before .pre .0 .high) (f .find .ensures .0)
 
 same-length : tie.Need-same-length
 same-length c = search needs
@@ -38,8 +42,10 @@ returns c =
     let f = c .before .before .before .before .before .before .before .before .before .before in
     let a = f .before .before .before .before in
     let e = c .before .before .before .before .before .before .before .size .ensures in (
-      swept-of (cells-size (f .find .result .candidate) 0 (f .find .result .length)) (f .find .ensures .0) (c .sentence .ensures) (c .before .counted .ensures),
-      all-cleared (a .args .k) e (a .pre .1 .1 .1) (f .find .ensures .1) (c .before .before .before .before .before .clear .ensures),
+      swept-of (cells-size (f .find .result .candidate) 0 (f .find .result .length))
+          (f .find .ensures .0) (c .sentence .ensures) (c .before .counted .ensures),
+      all-cleared (a .args .k) e (a .pre .1 .1 .1) (f .find .ensures .1)
+          (c .before .before .before .before .before .clear .ensures),
     )
 
 pub sweep-rules-spec : {M : Type 1} → statement M

@@ -20,8 +20,10 @@ refused-read-requires c κs =
     let z = c .before .before .before .before .args in
     let a = c .before .read-rules in
     let b = c .read-tokens in (
-      line-in (z .rules .now) (a .result .outcome) (rules (a .result .grammar)) (a .ensures .is) (rule-exists (z .rules .now)),
-      line-in (z .tokens .now) (b .result .outcome) (spelled (b .result .sentence)) (b .ensures .is) (token-exists (z .tokens .now)),
+      line-in (z .rules .now) (a .result .outcome) (rules (a .result .grammar)) (a .ensures .is)
+          (rule-exists (z .rules .now)),
+      line-in (z .tokens .now) (b .result .outcome) (spelled (b .result .sentence)) (b .ensures .is)
+          (token-exists (z .tokens .now)),
     )
 
 returns : tie.Need-returns
@@ -30,7 +32,10 @@ returns c =
     let a = c .before .before .read-rules in
     let b = c .before .read-tokens in
     subst (Hands (z .rules) (z .tokens) (c .refused-read .result))
-    (held-same (a .result .outcome) (b .result .outcome) (rules (a .result .grammar)) (spelled (b .result .sentence)) (a .ensures .is) (b .ensures .is)) (c .refused-read .ensures)
+    (held-same (a .result .outcome) (b .result .outcome) (rules (a .result .grammar))
+    (spelled (b .result .sentence)) (a .ensures .is) (b .ensures .is))
+    (c .refused-read .ensures)
 
 pub refused-line-spec : {M : Type 1} → statement M
-refused-line-spec = tie.close (tie.spec read-rules-requires read-tokens-requires refused-read-requires returns)
+refused-line-spec =
+    tie.close (tie.spec read-rules-requires read-tokens-requires refused-read-requires returns)

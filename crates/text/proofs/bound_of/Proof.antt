@@ -11,7 +11,8 @@ returns : tie.Need-returns
 returns c = bound-short (c .before .before .args .s .now) (c .if1 .taken)
 
 slice-aggregate-same : tie.Need-slice-aggregate-same
-slice-aggregate-same c = sym (length-take-le 6 (c .before .before .before .args .s .now) (search needs))
+slice-aggregate-same c =
+    sym (length-take-le 6 (c .before .before .before .args .s .now) (search needs))
 
 slice-aggregate-same-2 : tie.Need-slice-aggregate-same-2
 slice-aggregate-same-2 c = search needs
@@ -22,7 +23,8 @@ same-requires c κs = search needs
 returns-2 : tie.Need-returns-2
 returns-2 c =
     let z = c .before in
-    bound-names (c .before .before .before .before .before .before .args .s .now) (search needs) (sym (z .same .ensures) ∙ not-true _ (c .if2 .taken))
+    bound-names (c .before .before .before .before .before .before .args .s .now) (search needs)
+    (sym (z .same .ensures) ∙ not-true _ (c .if2 .taken))
 
 sub-end : tie.Need-sub-end
 sub-end c = search needs
@@ -33,7 +35,9 @@ shared-slice-read-if3 c = search needs
 returns-3 : tie.Need-returns-3
 returns-3 c =
     let z = c .before .before .before in
-    bound-open (c .before .before .before .before .before .before .before .before .args .s .now) (search needs) (sym (z .same .ensures) ∙ not-false _ (c .before .before .if2 .left)) (c .if3 .taken)
+    bound-open (c .before .before .before .before .before .before .before .before .args .s .now)
+    (search needs) (sym (z .same .ensures) ∙ not-false _ (c .before .before .if2 .left))
+    (c .if3 .taken)
 
 sub-numeral : tie.Need-sub-numeral
 sub-numeral c = search needs
@@ -50,7 +54,11 @@ numeral-requires c κs = search needs
 returns-4 : tie.Need-returns-4
 returns-4 c =
     let z = c .before .before .before .before .before in
-    c .numeral .ensures ∙ bound-there (c .before .before .before .before .before .before .before .before .before .before .args .s .now) (search needs) (sym (z .same .ensures) ∙ not-false _ (c .before .before .before .before .if2 .left)) (c .before .before .if3 .left)
+    c .numeral .ensures ∙ bound-there
+    (c .before .before .before .before .before .before .before .before .before .before .args .s
+    .now) (search needs) (sym (z .same .ensures)
+    ∙ not-false _ (c .before .before .before .before .if2 .left))
+    (c .before .before .if3 .left)
 
 pub bound-of-spec : {M : Type 1} → statement M
 bound-of-spec =

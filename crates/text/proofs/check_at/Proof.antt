@@ -34,7 +34,8 @@ returns c =
     let s = c .before .before .before .before .before .before .before .before .args in
     let n = s .i + 1 in
     let e : take (length (s .input .now) - n) (drop n (s .input .now)) ≡ drop n (s .input .now) =
-    take-all (length (s .input .now) - n) (drop n (s .input .now)) (omega (arith, length-drop n (s .input .now))) in
+    take-all (length (s .input .now) - n) (drop n (s .input .now))
+    (omega (arith, length-drop n (s .input .now))) in
     rw e at (c .before .before .check-sheets .ensures)
 
 pub check-at-spec : {M : Type 1} → statement M

@@ -38,8 +38,21 @@ put-trees-requires c κs =
     let s = z .before .before .before .before .before .before .before in
     let f = trees-fit (z .trees .ensures) in
     let one = length-replicate {A = ℕ} 16384 0 in (
-      (omega (arith, f .first, one, z .trees .kept .1 .1 .1 .0), omega (arith, f .second, one, z .trees .kept .1 .1 .1 .1 .0)),
-      omega (arith, f .first, f .second, one, h .put-head .ensures .1, h .put-head .ensures .0 .long, s .pre),
+      (
+        omega (arith, f .first, one, z .trees .kept .1 .1 .1 .0),
+        omega
+            (arith, f .second, one, z .trees .kept .1 .1 .1 .1 .0),
+      ),
+      omega (
+        arith,
+        f .first,
+        f .second,
+        one,
+        h .put-head .ensures .1,
+        h .put-head .ensures .0
+            .long,
+        s .pre,
+      ),
     )
 
 same-length : tie.Need-same-length
@@ -51,8 +64,14 @@ returns c =
     let h = p .before .before .before .before .before .before in
     let z = h .before .before .before .before .before in
     let one = length-replicate {A = ℕ} 16384 0 in
-    let lent : Lent _ _ _ = record { enough = length-replicate {A = ℕ} 4162 0; first = one; second = one } in
-    record { text = _; is = answered lent (z .trees .ensures) refl; wrote = wrote-then (h .put-head .ensures .0) (p .put-trees .ensures) }
+    let lent : Lent _ _ _ =
+    record { enough = length-replicate {A = ℕ} 4162 0; first = one; second = one } in
+    record {
+      text = _;
+      is = answered lent (z .trees .ensures) refl;
+      wrote =
+          wrote-then (h .put-head .ensures .0) (p .put-trees .ensures);
+    }
 
 pub check-sheets-spec : {M : Type 1} → statement M
 check-sheets-spec =

@@ -1,8 +1,10 @@
--- `text::parting` meets its contract. The loop's invariant: what stands from `i` on settles the answer.
+-- `text::parting` meets its contract. The loop's invariant: what stands from `i` on settles the
+-- answer.
 use Prim.Native.Nat.{_-_}
 use borrow.Author.Needs.{needs}
 use lib.ListN.{length}
-use Rattle.text.proofs.PartingLaws.{Seeking, seeking-start, seeking-other, seeking-line, seeking-found, seeking-end}
+use Rattle.text.proofs.PartingLaws.{Seeking, seeking-start, seeking-other, seeking-line}
+use Rattle.text.proofs.PartingLaws.{seeking-found, seeking-end}
 use Rattle.text.proofs.parting.Statement.{statement}
 use Rattle.text.proofs.parting.Tie as tie
 
@@ -20,8 +22,11 @@ shared-slice-read-b c = search needs
 
 returns : tie.Need-returns Inv-loop μ-loop
 returns c =
-    let l = c .before .before .before .before .loop in
-    (search needs, seeking-found _ _ (search needs) (c .before .if1 .taken) (rw (c .if2 .taken) at (l .inv)))
+    let l = c .before .before .before .before .loop in (
+      search needs,
+      seeking-found _ _ (search needs) (c .before .if1 .taken)
+          (rw (c .if2 .taken) at (l .inv)),
+    )
 
 add-i : tie.Need-add-i Inv-loop μ-loop
 add-i c = search needs
@@ -30,7 +35,8 @@ loop-less : tie.Need-loop-less Inv-loop μ-loop
 loop-less c = search needs
 
 loop-again : tie.Need-loop-again Inv-loop μ-loop
-loop-again c = seeking-line _ _ (search needs) (c .before .if1 .taken) (rw (c .if2 .left) at (c .before .before .before .before .loop .inv))
+loop-again c = seeking-line _ _ (search needs) (c .before .if1 .taken)
+    (rw (c .if2 .left) at (c .before .before .before .before .loop .inv))
 
 add-i-2 : tie.Need-add-i-2 Inv-loop μ-loop
 add-i-2 c = search needs
@@ -39,7 +45,8 @@ loop-less-2 : tie.Need-loop-less-2 Inv-loop μ-loop
 loop-less-2 c = search needs
 
 loop-again-2 : tie.Need-loop-again-2 Inv-loop μ-loop
-loop-again-2 c = seeking-other _ _ _ (search needs) (c .if1 .left) (c .before .before .before .loop .inv)
+loop-again-2 c =
+    seeking-other _ _ _ (search needs) (c .if1 .left) (c .before .before .before .loop .inv)
 
 returns-2 : tie.Need-returns-2 Inv-loop μ-loop
 returns-2 c = seeking-end _ _ _ (search needs) (c .before .loop .inv)

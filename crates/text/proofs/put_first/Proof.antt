@@ -20,8 +20,11 @@ same-length c = search needs
 returns : tie.Need-returns
 returns c =
     let r = c .before .before in
-    let n = r .before .before .before .before in
-    (wrote-then (n .put-bytes .ensures) (r .put-rows .ensures .0), omega (arith, n .put-bytes .ensures .next, r .put-rows .ensures .1))
+    let n = r .before .before .before .before in (
+      wrote-then (n .put-bytes .ensures) (r .put-rows .ensures .0),
+      omega
+          (arith, n .put-bytes .ensures .next, r .put-rows .ensures .1),
+    )
 
 pub put-first-spec : {M : Type 1} → statement M
 put-first-spec =

@@ -13,14 +13,31 @@ put-number-requires : tie.Need-put-number-requires
 put-number-requires c κs =
     let b = c .before .before .before in
     let s = b .before .before .before in
-    omega (arith, b .put-byte .ensures .next, b .put-byte .ensures .long, decimal-length 20 (s .args .line) (omega arith) (search needs), s .pre)
+    omega (
+      arith,
+      b .put-byte .ensures .next,
+      b .put-byte .ensures .long,
+      decimal-length 20
+          (s .args .line) (omega arith) (search needs),
+      s .pre,
+    )
 
 put-byte-requires-2 : tie.Need-put-byte-requires-2
 put-byte-requires-2 c κs =
     let n = c .before .before .before in
     let b = n .before .before .before .before in
     let s = b .before .before .before in
-    omega (arith, b .put-byte .ensures .next, b .put-byte .ensures .long, n .put-number .ensures .next, n .put-number .ensures .long, decimal-length 20 (s .args .line) (omega arith) (search needs), s .pre)
+    omega (
+      arith,
+      b .put-byte .ensures .next,
+      b .put-byte .ensures .long,
+      n .put-number .ensures
+          .next,
+      n .put-number .ensures .long,
+      decimal-length 20 (s .args .line) (omega arith)
+          (search needs),
+      s .pre,
+    )
 
 same-length : tie.Need-same-length
 same-length c = search needs
@@ -31,8 +48,16 @@ returns c =
     let n = e .before .before .before .before in
     let b = n .before .before .before .before in
     let s = b .before .before .before in (
-      wrote-then (b .put-byte .ensures) (wrote-then (n .put-number .ensures) (e .put-byte2 .ensures)),
-      omega (arith, b .put-byte .ensures .next, n .put-number .ensures .next, e .put-byte2 .ensures .next, decimal-length 20 (s .args .line) (omega arith) (search needs)),
+      wrote-then (b .put-byte .ensures)
+          (wrote-then (n .put-number .ensures) (e .put-byte2 .ensures)),
+      omega (
+        arith,
+        b .put-byte .ensures .next,
+        n .put-number .ensures .next,
+        e .put-byte2 .ensures
+            .next,
+        decimal-length 20 (s .args .line) (omega arith) (search needs),
+      ),
     )
 
 pub put-line-spec : {M : Type 1} → statement M

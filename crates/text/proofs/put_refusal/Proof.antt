@@ -24,7 +24,8 @@ returns c =
     let l = c .before .before in
     let a = l .before .before .before .before in
     let n = a .before .before .before .before in
-    wrote-then (n .put-bytes .ensures) (wrote-then (a .put-refused .ensures .0) (l .put-line .ensures .0))
+    wrote-then (n .put-bytes .ensures)
+    (wrote-then (a .put-refused .ensures .0) (l .put-line .ensures .0))
 
 pub put-refusal-spec : {M : Type 1} → statement M
 put-refusal-spec =

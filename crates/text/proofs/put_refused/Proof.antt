@@ -16,7 +16,14 @@ put-number-requires : tie.Need-put-number-requires
 put-number-requires c κs =
     let b = c .before .before .before in
     let s = b .before .before .before .before in
-    omega (arith, b .put-bytes .ensures .next, b .put-bytes .ensures .long, decimal-length 2 (s .args .n) (omega arith) (search needs), s .pre)
+    omega (
+      arith,
+      b .put-bytes .ensures .next,
+      b .put-bytes .ensures .long,
+      decimal-length 2
+          (s .args .n) (omega arith) (search needs),
+      s .pre,
+    )
 
 same-length : tie.Need-same-length
 same-length c = search needs
@@ -25,8 +32,16 @@ returns : tie.Need-returns
 returns c =
     let n = c .before .before in
     let b = n .before .before .before .before in
-    let v = b .before .before .before .before .args .n in
-    (wrote-then (b .put-bytes .ensures) (n .put-number .ensures), omega (arith, b .put-bytes .ensures .next, n .put-number .ensures .next, decimal-length 2 v (omega arith) (search needs)))
+    let v = b .before .before .before .before .args .n in (
+      wrote-then (b .put-bytes .ensures) (n .put-number .ensures),
+      omega (
+        arith,
+        b .put-bytes .ensures .next,
+        n .put-number .ensures .next,
+        decimal-length 2 v
+            (omega arith) (search needs),
+      ),
+    )
 
 pub put-refused-spec : {M : Type 1} → statement M
 put-refused-spec =

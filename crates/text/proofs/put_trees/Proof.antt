@@ -51,7 +51,8 @@ returns-3 : tie.Need-returns-3
 returns-3 c =
     let r = c .before .before in
     let f = r .before .before .before .before in
-    rw (f .before .before .enum-told3 .given .1, ← append-assoc treeNames) (wrote-then (f .put-first2 .ensures .0) (r .put-rows .ensures .0))
+    rw (f .before .before .enum-told3 .given .1, ← append-assoc treeNames)
+    (wrote-then (f .put-first2 .ensures .0) (r .put-rows .ensures .0))
 
 returns-4 : tie.Need-returns-4
 returns-4 c = rw (c .enum-told4 .given .1) (wrote-none _ _)

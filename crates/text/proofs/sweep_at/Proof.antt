@@ -1,4 +1,5 @@
--- `text::sweep_at` meets its contract: the bound is before the empty line, the rule sheet behind it.
+-- `text::sweep_at` meets its contract: the bound is before the empty line, the rule sheet behind
+-- it.
 use mathlib.Core.Path.{_≡_, sym}
 use Prim.Native.Nat.{_+_, _-_}
 use native.Mathlib.Omega.{arith}
@@ -61,7 +62,8 @@ returns-2 c =
     let s = p .before .before .before .before .before .before .args in
     let n = s .i + 1 in
     let e : take (length (s .input .now) - n) (drop n (s .input .now)) ≡ drop n (s .input .now) =
-    take-all (length (s .input .now) - n) (drop n (s .input .now)) (omega (arith, length-drop n (s .input .now))) in
+    take-all (length (s .input .now) - n) (drop n (s .input .now))
+    (omega (arith, length-drop n (s .input .now))) in
     bound (number-was _ (rw (p .bound .given .1) at b)) (rw e at (z .sweep-sheet .ensures))
 
 pub sweep-at-spec : {M : Type 1} → statement M

@@ -36,7 +36,12 @@ returns c =
     let h = p .before .before .before .before in
     let z = h .before .before .before .before in
     let few = length-replicate {A = ℕ} 58 0 in
-    record { text = _; is = swept few (z .sweep .ensures) refl; wrote = wrote-then (h .put-head .ensures .0) (p .put-sentence .ensures) }
+    record {
+      text = _;
+      is = swept few (z .sweep .ensures) refl;
+      wrote =
+          wrote-then (h .put-head .ensures .0) (p .put-sentence .ensures);
+    }
 
 pub sweep-sheet-spec : {M : Type 1} → statement M
 sweep-sheet-spec =

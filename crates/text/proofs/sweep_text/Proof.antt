@@ -34,7 +34,12 @@ returns-2 : tie.Need-returns-2
 returns-2 c =
     let m = c .before .before in
     let s = m .before .before .parting .ensures in
-    record { text = _; is = whole (search needs) (rw (m .enum-told .given .1) at s) refl; wrote = c .put-refusal2 .ensures }
+    record {
+      text = _;
+      is = whole (search needs) (rw (m .enum-told .given .1) at s) refl;
+      wrote =
+          c .put-refusal2 .ensures;
+    }
 
 returns-3 : tie.Need-returns-3
 returns-3 c =

@@ -31,8 +31,11 @@ put-listed-requires c κs =
     let z = h .before .before .before .before in
     let s = z .before .before .before .before .before .before in
     let f = places-fit (z .places .ensures) in
-    let l = length-replicate {A = ℕ} 49152 0 in
-    (omega (arith, f, l, z .places .kept .1 .1 .1 .0), omega (arith, f, l, h .put-head .ensures .1, h .put-head .ensures .0 .long, s .pre))
+    let l = length-replicate {A = ℕ} 49152 0 in (
+      omega (arith, f, l, z .places .kept .1 .1 .1 .0),
+      omega
+          (arith, f, l, h .put-head .ensures .1, h .put-head .ensures .0 .long, s .pre),
+    )
 
 same-length : tie.Need-same-length
 same-length c = search needs
@@ -44,7 +47,8 @@ returns c =
     let z = h .before .before .before .before in
     record {
       text = _;
-      is = answered (length-replicate {A = ℕ} 4162 0) (length-replicate {A = ℕ} 49152 0) (z .places .ensures) refl;
+      is = answered (length-replicate {A = ℕ} 4162 0) (length-replicate {A = ℕ} 49152 0)
+          (z .places .ensures) refl;
       wrote = wrote-then (h .put-head .ensures .0) (p .put-listed .ensures);
     }
 

@@ -14,7 +14,12 @@ cast-put-number c = search needs
 put-number-requires : tie.Need-put-number-requires
 put-number-requires c κs =
     let s = c .before .before .before .before .before in
-    omega (arith, decimal-length 10 (c .before .before .c .given .0 .0) (omega arith) (search needs), s .pre)
+    omega (
+      arith,
+      decimal-length 10 (c .before .before .c .given .0 .0) (omega arith)
+          (search needs),
+      s .pre,
+    )
 
 enum-told : tie.Need-enum-told
 enum-told c = search needs
@@ -31,16 +36,26 @@ same-length c = search needs
 returns : tie.Need-returns
 returns c =
     let n = c .before .before in
-    let v = n .before .before .before .c .given in
-    (rw (v .1) (n .put-number .ensures), omega (arith, n .put-number .ensures .next, decimal-length 10 (v .0 .0) (omega arith) (search needs)))
+    let v = n .before .before .before .c .given in (
+      rw (v .1) (n .put-number .ensures),
+      omega (
+        arith,
+        n .put-number .ensures .next,
+        decimal-length 10 (v .0 .0) (omega arith)
+            (search needs),
+      ),
+    )
 
 same-length-2 : tie.Need-same-length-2
 same-length-2 c = search needs
 
 returns-2 : tie.Need-returns-2
 returns-2 c =
-    let b = c .before .before in
-    (rw (b .before .before .before .enum-told .given .1) (b .put-bytes .ensures), omega (arith, b .put-bytes .ensures .next))
+    let b = c .before .before in (
+      rw (b .before .before .before .enum-told .given .1) (b .put-bytes .ensures),
+      omega
+          (arith, b .put-bytes .ensures .next),
+    )
 
 pub put-count-spec : {M : Type 1} → statement M
 put-count-spec =

@@ -34,7 +34,8 @@ returns c =
     let b = d .before .before .before .before in
     let a = b .before .before .before .before in
     let n = a .before .before .before .before in
-    let tail = wrote-then (b .put-byte .ensures) (wrote-then (d .put-count2 .ensures .0) (e .put-byte2 .ensures)) in
+    let tail = wrote-then (b .put-byte .ensures)
+    (wrote-then (d .put-count2 .ensures .0) (e .put-byte2 .ensures)) in
     wrote-then (n .put-bytes .ensures) (wrote-then (a .put-count .ensures .0) tail)
 
 pub put-counts-spec : {M : Type 1} → statement M

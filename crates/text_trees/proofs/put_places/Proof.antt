@@ -12,7 +12,8 @@ use Rattle.text_trees.proofs.put_places.Statement.{statement}
 use Rattle.text_trees.proofs.put_places.Tie as tie
 
 abbrev Inv-loop : tie.InvT-loop
-Inv-loop out₀ at list count i₀ next₀ out i next = (i ≤ count) × (next ≤ at + 12 * i) × Wrote out₀ out at (placeLines (take (3 * i) list)) next
+Inv-loop out₀ at list count i₀ next₀ out i next =
+    (i ≤ count) × (next ≤ at + 12 * i) × Wrote out₀ out at (placeLines (take (3 * i) list)) next
 
 abbrev μ-loop : tie.MeasureT-loop
 μ-loop out₀ at list count i₀ next₀ out i next = count - i
@@ -52,8 +53,13 @@ loop-again c =
     let p = c .before .before in
     let l = p .before .before .before .before .before .before in
     let s = l .before .before .before in
-    let w = p .put-place .ensures in
-    (search needs, omega (arith, w .1, l .loop .inv .1), rw (lines-more (l .loop .i) (s .args .list .now) (search needs)) (wrote-then (l .loop .inv .2) (w .0)))
+    let w = p .put-place .ensures in (
+      search needs,
+      omega (arith, w .1, l .loop .inv .1),
+      rw
+          (lines-more (l .loop .i) (s .args .list .now) (search needs))
+          (wrote-then (l .loop .inv .2) (w .0)),
+    )
 
 same-length : tie.Need-same-length Inv-loop μ-loop
 same-length c = search needs

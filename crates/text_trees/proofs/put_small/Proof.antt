@@ -15,7 +15,14 @@ put-byte-requires : tie.Need-put-byte-requires
 put-byte-requires c κs =
     let n = c .before .before .before in
     let s = n .before .before .before in
-    omega (arith, n .put-number .ensures .next, n .put-number .ensures .long, decimal-length 3 (s .args .v) (omega arith) (search needs), s .pre)
+    omega (
+      arith,
+      n .put-number .ensures .next,
+      n .put-number .ensures .long,
+      decimal-length 3
+          (s .args .v) (omega arith) (search needs),
+      s .pre,
+    )
 
 same-length : tie.Need-same-length
 same-length c = search needs
@@ -26,7 +33,13 @@ returns c =
     let n = b .before .before .before .before in
     let s = n .before .before .before in (
       wrote-then (n .put-number .ensures) (b .put-byte .ensures),
-      omega (arith, n .put-number .ensures .next, b .put-byte .ensures .next, decimal-length 3 (s .args .v) (omega arith) (search needs)),
+      omega (
+        arith,
+        n .put-number .ensures .next,
+        b .put-byte .ensures .next,
+        decimal-length 3
+            (s .args .v) (omega arith) (search needs),
+      ),
     )
 
 pub put-small-spec : {M : Type 1} → statement M

@@ -19,19 +19,79 @@ wide-requires-2 : tie.Need-wide-requires-2
 wide-requires-2 c κs = search needs
 
 preferred-requires : tie.Need-preferred-requires
-preferred-requires c κs = let z = c .before .before .before .before in let a = z .args in ((z .pre .0 .0, omega (arith, z .pre .0 .1, c .before .wide .ensures, c .wide2 .ensures)), rw (c .before .wide .ensures, c .wide2 .ensures) (z .pre .1))
+preferred-requires c κs = let z = c .before .before .before .before in let a = z .args in (
+  (z .pre .0 .0, omega (arith, z .pre .0 .1, c .before .wide .ensures, c .wide2 .ensures)),
+  rw
+      (c .before .wide .ensures, c .wide2 .ensures) (z .pre .1),
+)
 
 enum-known-found : tie.Need-enum-known-found
 enum-known-found c = search needs
 
 swerve-requires : tie.Need-swerve-requires
-swerve-requires c κs = let z = c .before .before .before .before .before .before .before .before .before in let a = z .args in let y : PreferredPick (rules (a .g)) (a .a) (part (spelled (a .s)) (c .before .before .before .before .before .before .wide .result) (c .before .before .before .before .before .wide2 .result)) (c .before .before .before .before .preferred .result) = c .before .before .before .before .preferred .ensures in let x : Preferred (rules (a .g)) (a .a) (part (spelled (a .s)) (c .before .before .before .before .before .before .wide .result) (c .before .before .before .before .before .wide2 .result)) (c .before .before .found .given .0 .0) (c .before .before .found .given .0 .1 .0) = rw (c .before .before .found .given .1) at y in ((charted (z .pre .0 .0), omega (arith, z .pre .0 .1, c .before .before .before .before .before .before .wide .ensures, c .before .before .before .before .before .wide2 .ensures)), x)
+swerve-requires c κs = let z = c .before .before .before .before .before .before .before .before
+    .before in let a = z .args in let y : PreferredPick (rules (a .g)) (a .a)
+    (part (spelled (a .s)) (c .before .before .before .before .before .before .wide .result)
+    (c .before .before .before .before .before .wide2 .result))
+    (c .before .before .before .before .preferred .result) = c .before .before .before
+    .before .preferred .ensures in let x : Preferred (rules (a .g)) (a .a)
+    (part (spelled (a .s)) (c .before .before .before .before .before .before
+    .wide .result) (c .before .before .before .before .before .wide2
+    .result)) (c .before .before .found .given .0 .0)
+    (c .before .before .found .given .0 .1 .0) = rw
+    (c .before .before .found .given .1) at y in (
+      (
+        charted (z .pre .0 .0),
+        omega (
+          arith,
+          z .pre .0 .1,
+          c .before .before .before
+              .before .before .before .wide .ensures,
+          c
+              .before .before .before .before .before
+              .wide2 .ensures,
+        ),
+      ),
+      x,
+    )
 
 returns : tie.Need-returns
-returns c = rw (c .before .if1 .taken, ← c .before .before .before .before .before .before .before .wide .ensures, ← c .before .before .before .before .before .before .wide2 .ensures) (c .swerve .ensures)
+returns c = rw (
+  c .before .if1 .taken,
+  ← c .before .before .before .before .before .before .before
+      .wide .ensures,
+  ← c .before .before .before .before .before .before .wide2 .ensures,
+)
+    (c .swerve .ensures)
 
 step-of-requires : tie.Need-step-of-requires
-step-of-requires c κs = let z = c .before .before .before .before .before .before .before .before .before in let a = z .args in let y : PreferredPick (rules (a .g)) (a .a) (part (spelled (a .s)) (c .before .before .before .before .before .before .wide .result) (c .before .before .before .before .before .wide2 .result)) (c .before .before .before .before .preferred .result) = c .before .before .before .before .preferred .ensures in let x : Preferred (rules (a .g)) (a .a) (part (spelled (a .s)) (c .before .before .before .before .before .before .wide .result) (c .before .before .before .before .before .wide2 .result)) (c .before .before .found .given .0 .0) (c .before .before .found .given .0 .1 .0) = rw (c .before .before .found .given .1) at y in let x′ : Preferred (rules (a .g)) (a .a) (part (spelled (a .s)) (a .i) (a .n)) (c .before .before .found .given .0 .0) (c .before .before .found .given .0 .1 .0) = (rw (c .before .before .before .before .before .before .wide .ensures, c .before .before .before .before .before .wide2 .ensures) at x) in choice-near (charted (z .pre .0 .0)) _ (a .i) (a .n) _ _ (z .pre .0 .1) (preferred-choice _ _ _ _ _ x′)
+step-of-requires c κs = let z = c .before .before .before .before .before .before .before .before
+    .before in let a = z .args in let y : PreferredPick (rules (a .g)) (a .a)
+    (part (spelled (a .s)) (c .before .before .before .before .before .before .wide .result)
+    (c .before .before .before .before .before .wide2 .result))
+    (c .before .before .before .before .preferred .result) = c .before .before .before
+    .before .preferred .ensures in let x : Preferred (rules (a .g)) (a .a)
+    (part (spelled (a .s)) (c .before .before .before .before .before .before
+    .wide .result) (c .before .before .before .before .before .wide2
+    .result)) (c .before .before .found .given .0 .0)
+    (c .before .before .found .given .0 .1 .0) = rw
+    (c .before .before .found .given .1) at y in
+    let x′ : Preferred (rules (a .g)) (a .a)
+    (part (spelled (a .s)) (a .i) (a .n))
+    (c .before .before .found .given .0 .0)
+    (c .before .before .found .given .0 .1 .0) =
+    (rw (
+      c .before .before .before .before
+          .before .before .wide .ensures,
+      c
+          .before .before .before .before
+          .before .wide2 .ensures,
+    ) at
+    x) in choice-near
+    (charted (z .pre .0
+    .0)) _ (a .i) (a
+    .n) _ _ (z
+    .pre .0 .1) (preferred-choice _ _ _ _ _ x′)
 
 enum-told : tie.Need-enum-told
 enum-told c = search needs
@@ -40,10 +100,42 @@ step-of-requires-2 : tie.Need-step-of-requires-2
 step-of-requires-2 c κs = search needs
 
 returns-2 : tie.Need-returns-2
-returns-2 c = let z = c .before .before .before .before .before .before .before .before .before .before in let a = z .args in let y : PreferredPick (rules (a .g)) (a .a) (part (spelled (a .s)) (c .before .before .before .before .before .before .before .wide .result) (c .before .before .before .before .before .before .wide2 .result)) (c .before .before .before .before .before .preferred .result) = c .before .before .before .before .before .preferred .ensures in let x : Preferred (rules (a .g)) (a .a) (part (spelled (a .s)) (c .before .before .before .before .before .before .before .wide .result) (c .before .before .before .before .before .before .wide2 .result)) (c .before .before .before .found .given .0 .0) (c .before .before .before .found .given .0 .1 .0) = rw (c .before .before .before .found .given .1) at y in let x′ : Preferred (rules (a .g)) (a .a) (part (spelled (a .s)) (a .i) (a .n)) (c .before .before .before .found .given .0 .0) (c .before .before .before .found .given .0 .1 .0) = (rw (c .before .before .before .before .before .before .before .wide .ensures, c .before .before .before .before .before .before .wide2 .ensures) at x) in chosen (a .g) false (preferred-choice _ _ _ _ _ x′) (rw (c .before .if1 .left) x′) (c .step-of .ensures)
+returns-2 c = let z = c .before .before .before .before .before .before .before .before .before
+    .before in let a = z .args in let y : PreferredPick (rules (a .g)) (a .a)
+    (part (spelled (a .s)) (c .before .before .before .before .before .before .before .wide
+    .result) (c .before .before .before .before .before .before .wide2 .result))
+    (c .before .before .before .before .before .preferred .result) = c .before .before
+    .before .before .before .preferred .ensures in
+    let x : Preferred (rules (a .g)) (a .a)
+    (part (spelled (a .s)) (c .before .before .before .before .before
+    .before .before .wide .result) (c .before .before .before .before
+    .before .before .wide2 .result))
+    (c .before .before .before .found .given .0 .0)
+    (c .before .before .before .found .given .0 .1 .0) = rw
+    (c .before .before .before .found .given .1) at y in
+    let x′ : Preferred (rules (a .g)) (a .a)
+    (part (spelled (a .s)) (a .i) (a .n))
+    (c .before .before .before .found .given
+    .0 .0) (c .before .before .before
+    .found .given .0 .1 .0) = (rw (
+      c
+          .before .before .before
+          .before .before .before
+          .before .wide
+          .ensures,
+      c
+          .before .before .before .before .before .before .wide2 .ensures,
+    ) at x) in chosen (a .g) false (preferred-choice _ _ _ _ _ x′) (rw (c .before .if1 .left) x′)
+    (c .step-of .ensures)
 
 returns-3 : tie.Need-returns-3
-returns-3 c = let z = c .before .before .before .before .before .before .before .before in let a = z .args in let y : PreferredPick (rules (a .g)) (a .a) (part (spelled (a .s)) (c .before .before .before .before .before .wide .result) (c .before .before .before .before .wide2 .result)) (c .before .before .before .preferred .result) = c .before .before .before .preferred .ensures in let x : ⊥ = rw (c .before .enum-told .given .1) at y in absurd x
+returns-3 c = let z = c .before .before .before .before .before .before .before .before in
+    let a = z .args in let y : PreferredPick (rules (a .g)) (a .a)
+    (part (spelled (a .s)) (c .before .before .before .before .before .wide .result)
+    (c .before .before .before .before .wide2 .result))
+    (c .before .before .before .preferred .result) = c .before .before .before
+    .preferred .ensures in let x : ⊥ = rw (c .before .enum-told .given .1) at y in
+    absurd x
 
 pub choose-spec : {M : Type 1} → statement M
 choose-spec =

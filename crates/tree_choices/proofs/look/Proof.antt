@@ -14,13 +14,16 @@ choose-requires : tie.Need-choose-requires
 choose-requires c κs = search needs
 
 returns : tie.Need-returns
-returns c = seen (sym (member-says _ _ (c .before .before .has .ensures)) ∙ c .before .if1 .taken) (c .choose .ensures)
+returns c = seen (sym (member-says _ _ (c .before .before .has .ensures)) ∙ c .before .if1 .taken)
+    (c .choose .ensures)
 
 pass-requires : tie.Need-pass-requires
-pass-requires c κs = let z = c .before .before .before .before in ((charted (z .pre .0 .0), z .pre .0 .1), choice-small (z .pre .0 .0 .formed) (z .pre .1))
+pass-requires c κs = let z = c .before .before .before .before in
+    ((charted (z .pre .0 .0), z .pre .0 .1), choice-small (z .pre .0 .0 .formed) (z .pre .1))
 
 returns-2 : tie.Need-returns-2
-returns-2 c = closed (sym (member-says _ _ (c .before .before .has .ensures)) ∙ c .before .if1 .left) (c .pass .ensures .0) (c .pass .ensures .1)
+returns-2 c = closed (sym (member-says _ _ (c .before .before .has .ensures))
+    ∙ c .before .if1 .left) (c .pass .ensures .0) (c .pass .ensures .1)
 
 pub look-spec : {M : Type 1} → statement M
 look-spec = tie.close (tie.spec has-requires choose-requires returns pass-requires returns-2)

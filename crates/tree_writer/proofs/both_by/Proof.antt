@@ -5,7 +5,11 @@ use Rattle.tree_writer.proofs.both_by.Statement.{statement}
 use Rattle.tree_writer.proofs.both_by.Tie as tie
 
 write-requires : tie.Need-write-requires
-write-requires c κs = (c .before .before .before .before .before .pre .0, wanted-first (c .before .before .before .before .before .pre .1))
+write-requires c κs = (
+  c .before .before .before .before .before .pre .0,
+  wanted-first
+      (c .before .before .before .before .before .pre .1),
+)
 
 clear-requires : tie.Need-clear-requires
 clear-requires c κs = search needs
@@ -20,7 +24,10 @@ same-length-2 : tie.Need-same-length-2
 same-length-2 c = search needs
 
 returns : tie.Need-returns
-returns c = λ t u a b. rw (c .short .ensures) (both-first _ t u (c .before .before .before .before .before .before .before .before .write .ensures t a) (c .before .before .before .before .before .if1 .taken) (c .before .before .before .clear .ensures))
+returns c = λ t u a b. rw (c .short .ensures)
+    (both-first _ t u (c .before .before .before .before .before .before .before .before .write
+    .ensures t a) (c .before .before .before .before .before .if1 .taken)
+    (c .before .before .before .clear .ensures))
 
 write-requires-2 : tie.Need-write-requires-2
 write-requires-2 c κs = search needs
@@ -38,7 +45,14 @@ same-length-4 : tie.Need-same-length-4
 same-length-4 c = search needs
 
 returns-2 : tie.Need-returns-2
-returns-2 c = λ t u a b. rw (c .short2 .ensures) (both-second _ t u (c .before .before .before .before .before .before .before .before .before .before .before .before .before .write .ensures t a) (c .before .before .before .before .before .before .before .before .write2 .ensures u b) (c .before .before .before .before .before .if2 .taken) (c .before .before .before .before .before .before .before .before .before .before .before .before .before .write .kept .1 .1 .1 .1 .1 .0) (c .before .before .before .clear2 .ensures))
+returns-2 c = λ t u a b. rw (c .short2 .ensures)
+    (both-second _ t u (c .before .before .before .before .before .before .before .before .before
+    .before .before .before .before .write .ensures t a)
+    (c .before .before .before .before .before .before .before .before .write2 .ensures u b)
+    (c .before .before .before .before .before .if2 .taken)
+    (c .before .before .before .before .before .before .before .before .before
+    .before .before .before .before .write .kept .1 .1 .1 .1 .1 .0)
+    (c .before .before .before .clear2 .ensures))
 
 same-length-5 : tie.Need-same-length-5
 same-length-5 c = search needs
@@ -47,7 +61,10 @@ same-length-6 : tie.Need-same-length-6
 same-length-6 c = search needs
 
 returns-3 : tie.Need-returns-3
-returns-3 c = λ t u a b. both-done _ t u (c .before .before .before .before .before .before .before .before .write .ensures t a) (c .before .before .before .write2 .ensures u b) (c .before .before .before .before .before .if1 .left) (c .if2 .left)
+returns-3 c = λ t u a b. both-done _ t u
+    (c .before .before .before .before .before .before .before .before .write .ensures t a)
+    (c .before .before .before .write2 .ensures u b)
+    (c .before .before .before .before .before .if1 .left) (c .if2 .left)
 
 pub both-by-spec : {M : Type 1} → statement M
 both-by-spec =

@@ -15,8 +15,11 @@ slice-aggregate-both-by c = search needs
 
 both-by-requires : tie.Need-both-by-requires
 both-by-requires c κs =
-    let z = c .before .before .before .before .before .before .before .before .before in
-    (ready-low (z .pre .0) (z .pre .1 .1) (c .before .before .before .before .heights .ensures), z .pre .1 .0)
+    let z = c .before .before .before .before .before .before .before .before .before in (
+      ready-low (z .pre .0) (z .pre .1 .1) (c .before .before .before .before .heights .ensures),
+      z
+          .pre .1 .0,
+    )
 
 same-length : tie.Need-same-length
 same-length c = search needs

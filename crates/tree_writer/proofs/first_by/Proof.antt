@@ -20,7 +20,10 @@ same-length-2 : tie.Need-same-length-2
 same-length-2 c = search needs
 
 returns : tie.Need-returns
-returns c = λ t a. rw (c .short .ensures) (first-short _ t (c .before .before .before .before .write .ensures t a) (c .before .before .before .before .before .before .before .before .clear .ensures) (c .before .if1 .taken))
+returns c = λ t a. rw (c .short .ensures)
+    (first-short _ t (c .before .before .before .before .write .ensures t a)
+    (c .before .before .before .before .before .before .before .before .clear .ensures)
+    (c .before .if1 .taken))
 
 same-length-3 : tie.Need-same-length-3
 same-length-3 c = search needs
@@ -29,7 +32,8 @@ same-length-4 : tie.Need-same-length-4
 same-length-4 c = search needs
 
 returns-2 : tie.Need-returns-2
-returns-2 c = λ t a. first-done _ t (c .before .before .before .write .ensures t a) (c .before .before .before .before .before .before .before .clear .ensures) (c .if1 .left)
+returns-2 c = λ t a. first-done _ t (c .before .before .before .write .ensures t a)
+    (c .before .before .before .before .before .before .before .clear .ensures) (c .if1 .left)
 
 pub first-by-spec : {M : Type 1} → statement M
 first-by-spec =

@@ -17,7 +17,9 @@ same-length-2 : tie.Need-same-length-2
 same-length-2 c = search needs
 
 returns : tie.Need-returns
-returns c = λ dis. none-written dis (c .before .before .before .before .before .before .clear .ensures) (c .before .before .clear2 .ensures)
+returns c = λ dis. none-written dis
+    (c .before .before .before .before .before .before .clear .ensures)
+    (c .before .before .clear2 .ensures)
 
 pub write-none-spec : {M : Type 1} → statement M
 write-none-spec =

@@ -1,9 +1,11 @@
--- `tried_count::grown` meets its contract. The loop's invariant: the columns below p are done, the others 0.
+-- `tried_count::grown` meets its contract. The loop's invariant: the columns below p are done, the
+-- others 0.
 use borrow.Author.Needs.{needs}
 use Prim.Native.Nat.{ℕ, _+_, _-_, _*_, _≤_}
 use mathlib.Core.Path.{ap}
 use native.Mathlib.Omega.{arith}
-use Rattle.tried_count.proofs.Columns.{Growing, growing-none, growing-more, growing-end, product-small}
+use Rattle.tried_count.proofs.Columns.{Growing, growing-none, growing-more, growing-end}
+use Rattle.tried_count.proofs.Columns.{product-small}
 use Rattle.tried_count.proofs.grown.Statement.{statement}
 use Rattle.tried_count.proofs.grown.Tie as tie
 
@@ -22,7 +24,13 @@ ways-at-requires c κs = search needs
 mul-next : tie.Need-mul-next Inv-loop μ-loop
 mul-next c =
     let a = c .before .before .before in
-    omega (arith, ap (λ (x : ℕ). a .args .t * x) (c .ways-at .ensures), product-small (a .args .t) (a .args .row) (a .args .n) 2 (c .before .before .loop .p) (a .pre .2) (a .pre .0) (omega arith) (a .pre .1))
+    omega (
+      arith,
+      ap (λ (x : ℕ). a .args .t * x) (c .ways-at .ensures),
+      product-small (a .args .t)
+          (a .args .row) (a .args .n) 2 (c .before .before .loop .p) (a .pre .2) (a .pre .0)
+          (omega arith) (a .pre .1),
+    )
 
 mul-next-2 : tie.Need-mul-next-2 Inv-loop μ-loop
 mul-next-2 c = search needs
@@ -38,8 +46,11 @@ loop-less c = search needs
 
 loop-again : tie.Need-loop-again Inv-loop μ-loop
 loop-again c =
-    let l = c .before .before in
-    (omega arith, growing-more _ _ _ _ _ _ (omega arith) (ap (λ (x : ℕ). l .before .args .t * x) (c .ways-at .ensures)) (l .loop .inv .1))
+    let l = c .before .before in (
+      omega arith,
+      growing-more _ _ _ _ _ _ (omega arith)
+          (ap (λ (x : ℕ). l .before .args .t * x) (c .ways-at .ensures)) (l .loop .inv .1),
+    )
 
 returns : tie.Need-returns Inv-loop μ-loop
 returns c = growing-end _ _ _ _ _ (omega arith) (c .before .loop .inv .1)

@@ -33,13 +33,16 @@ add-result c =
     omega (
       arith,
       c .before .ways-at .ensures,
-      ways-small (a .args .row) (a .args .n) (a .args .s - 1) (a .args .p) (a .pre .4) (a .pre .0) (omega (arith, a .pre .1)),
+      ways-small (a .args .row) (a .args .n) (a .args .s - 1) (a .args .p) (a .pre .4) (a .pre .0)
+          (omega (arith, a .pre .1)),
       c .sum-between2 .ensures,
-      sum-small (a .args .row) 0 (a .args .k - 1 - 0) (a .pre .4) (omega (arith, a .pre .0, a .pre .2)),
+      sum-small (a .args .row) 0 (a .args .k - 1 - 0) (a .pre .4)
+          (omega (arith, a .pre .0, a .pre .2)),
     )
 
 returns-2 : tie.Need-returns-2
-returns-2 c = lesser-later _ _ _ _ _ _ _ (c .before .before .if1 .left) (c .before .ways-at .ensures) (c .sum-between2 .ensures)
+returns-2 c = lesser-later _ _ _ _ _ _ _ (c .before .before .if1 .left)
+    (c .before .ways-at .ensures) (c .sum-between2 .ensures)
 
 pub lesser-at-spec : {M : Type 1} → statement M
 lesser-at-spec =

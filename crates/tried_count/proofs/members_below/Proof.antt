@@ -1,4 +1,5 @@
--- `tried_count::members_below` meets its contract. The loop's invariant: `n` counts the members below i.
+-- `tried_count::members_below` meets its contract. The loop's invariant: `n` counts the members
+-- below i.
 use Prim.Native.Nat.{_-_, _≤_}
 use mathlib.Core.Path.{_≡_}
 use native.Mathlib.Omega.{arith}
@@ -24,7 +25,15 @@ shr-n : tie.Need-shr-n Inv-loop μ-loop
 shr-n c = search needs
 
 add-n : tie.Need-add-n Inv-loop μ-loop
-add-n c = let l = c .before in omega (arith, l .loop .inv .1, members-le (l .before .args .set) (l .loop .i), l .before .pre, l .loop .inv .0, digit-low (l .before .args .set) (l .loop .i))
+add-n c = let l = c .before in omega (
+  arith,
+  l .loop .inv .1,
+  members-le (l .before .args .set) (l .loop .i),
+  l .before .pre,
+  l .loop
+      .inv .0,
+  digit-low (l .before .args .set) (l .loop .i),
+)
 
 add-i : tie.Need-add-i Inv-loop μ-loop
 add-i c = search needs
@@ -36,7 +45,8 @@ loop-again : tie.Need-loop-again Inv-loop μ-loop
 loop-again c = (omega arith, members-more _ _ _ (c .before .loop .inv .1))
 
 returns : tie.Need-returns Inv-loop μ-loop
-returns c = let e : c .before .loop .i ≡ c .before .before .args .a = omega (arith, c .loop-test .left, c .before .loop .inv .0) in rw e at (c .before .loop .inv .1)
+returns c = let e : c .before .loop .i ≡ c .before .before .args .a =
+    omega (arith, c .loop-test .left, c .before .loop .inv .0) in rw e at (c .before .loop .inv .1)
 
 pub members-below-spec : {M : Type 1} → statement M
 members-below-spec =

@@ -25,8 +25,15 @@ returns : tie.Need-returns
 returns c =
     let a = c .before .before .before .before in
     let e = c .before .terminal-count .ensures .ones in (
-      rw (c .whole .ensures) (long-all _ _ _ (c .before .before .before .has .ensures .is (c .before .before .if1 .taken)) (whole-counts _ (below a) _ _ e (a .pre))),
-      omega (arith, c .whole .ensures, whole-small (c .before .terminal-count .result) (a .args .n) (rw e (a .pre))),
+      rw (c .whole .ensures) (long-all _ _ _
+          (c .before .before .before .has .ensures .is (c .before .before .if1 .taken))
+          (whole-counts _ (below a) _ _ e (a .pre))),
+      omega (
+        arith,
+        c .whole .ensures,
+        whole-small (c .before .terminal-count .result) (a .args .n)
+            (rw e (a .pre)),
+      ),
     )
 
 returns-2 : tie.Need-returns-2

@@ -1,9 +1,11 @@
--- `tried_count::sum_between` meets its contract. The loop's invariant: `s` is the sum of the columns after a, up to k.
+-- `tried_count::sum_between` meets its contract. The loop's invariant: `s` is the sum of the
+-- columns after a, up to k.
 use Prim.Native.Nat.{_+_, _-_}
 use native.Mathlib.Omega.{arith}
 use borrow.Author.Needs.{needs}
 use Rattle.tried_count.specs.Rows.{at}
-use Rattle.tried_count.proofs.Columns.{Summing, summing-none, summing-more, summing-end, summing-small}
+use Rattle.tried_count.proofs.Columns.{Summing, summing-none, summing-more, summing-end}
+use Rattle.tried_count.proofs.Columns.{summing-small}
 use Rattle.tried_count.proofs.sum_between.Statement.{statement}
 use Rattle.tried_count.proofs.sum_between.Tie as tie
 
@@ -28,7 +30,12 @@ element-copy-out-s c = search needs
 add-s : tie.Need-add-s Inv-loop μ-loop
 add-s c =
     let l = c .before .before in
-    omega (arith, l .before .pre .1 .each (l .loop .k + 1), summing-small _ _ _ _ _ (l .before .pre .1) (c .before .loop-test .taken) (l .before .pre .0) (l .loop .inv))
+    omega (
+      arith,
+      l .before .pre .1 .each (l .loop .k + 1),
+      summing-small _ _ _ _ _
+          (l .before .pre .1) (c .before .loop-test .taken) (l .before .pre .0) (l .loop .inv),
+    )
 
 loop-less : tie.Need-loop-less Inv-loop μ-loop
 loop-less c = search needs

@@ -1,7 +1,8 @@
 -- `tried_count::tried` meets its contract.
 use Prim.Native.Nat.{_+_, _<_, _^_, _≤_}
 use native.Mathlib.Omega.{arith}
-use Rattle.tried_count.proofs.Trying.{fair-all, fairs-less, tried-none, tried-found, rank-counts, rank-small}
+use Rattle.tried_count.proofs.Trying.{fair-all, fairs-less, tried-none, tried-found}
+use Rattle.tried_count.proofs.Trying.{rank-counts, rank-small}
 use borrow.Author.Needs.{needs}
 use Rattle.tried_count.proofs.tried.Statement.{statement}
 use Rattle.tried_count.proofs.tried.Tie as tie
@@ -27,14 +28,20 @@ sub-up-to c = search needs
 
 up-to-requires-2 : tie.Need-up-to-requires-2
 up-to-requires-2 c κs =
-    let a = c .before .before in
-    (omega (arith, a .pre .1 .high, a .pre .0 .high), fairs-less _ (omega (arith, a .pre .1 .high)) (fair-all (a .pre .0)))
+    let a = c .before .before in (
+      omega (arith, a .pre .1 .high, a .pre .0 .high),
+      fairs-less _ (omega (arith, a .pre .1 .high))
+          (fair-all (a .pre .0)),
+    )
 
 rank-requires : tie.Need-rank-requires
 rank-requires c κs =
     let t = c .before in
-    let a = t .before .before in
-    (rw (t .terminal-count .ensures .ones) (fair-all (a .pre .0) .each _ (some t) (a .pre .1 .high)), a .pre .1 .candidate (some t))
+    let a = t .before .before in (
+      rw (t .terminal-count .ensures .ones)
+          (fair-all (a .pre .0) .each _ (some t) (a .pre .1 .high)),
+      a .pre .1 .candidate (some t),
+    )
 
 -- both numbers are small
 small : (c : tie.After-rank) → c .before .up-to2 .result + c .rank .result ≤ 46179488366592
@@ -47,7 +54,10 @@ small c =
       a .pre .1 .high,
       a .pre .0 .high,
       c .rank .ensures,
-      rank-small (a .args .set) (below a) (t .terminal-count .result) (a .args .n) _ (t .terminal-count .ensures .ones) (fair-all (a .pre .0) .each _ (some t) (a .pre .1 .high)) (a .pre .1 .candidate (some t)),
+      rank-small (a .args .set) (below a) (t .terminal-count .result) (a .args .n) _
+          (t .terminal-count .ensures .ones)
+          (fair-all (a .pre .0) .each _ (some t) (a .pre .1 .high))
+          (a .pre .1 .candidate (some t)),
     )
 
 add-result : tie.Need-add-result
@@ -60,7 +70,9 @@ returns-2 : tie.Need-returns-2
 returns-2 c =
     let t = c .before .before in
     let a = t .before .before in
-    tried-found _ _ _ _ _ (some t) (a .pre .1) (c .before .up-to2 .ensures .0) (rw (c .rank .ensures) (rank-counts _ (below a) _ _ _ (t .terminal-count .ensures .ones) (a .pre .1 .candidate (some t))))
+    tried-found _ _ _ _ _ (some t) (a .pre .1) (c .before .up-to2 .ensures .0)
+    (rw (c .rank .ensures) (rank-counts _ (below a) _ _ _ (t .terminal-count .ensures .ones)
+    (a .pre .1 .candidate (some t))))
 
 pub tried-spec : {M : Type 1} → statement M
 tried-spec =

@@ -1,4 +1,5 @@
--- `tried_count::up_to` meets its contract. The loop's invariant: `total` counts those of up to n tokens.
+-- `tried_count::up_to` meets its contract. The loop's invariant: `total` counts those of up to n
+-- tokens.
 use borrow.Author.Needs.{needs}
 use Prim.Native.Nat.{_-_, _*_, _≤_}
 use mathlib.Core.Path.{_≡_}
@@ -12,7 +13,8 @@ use Rattle.tried_count.proofs.up_to.Statement.{statement}
 use Rattle.tried_count.proofs.up_to.Tie as tie
 
 abbrev Inv-loop : tie.InvT-loop
-Inv-loop lengths set k total₀ n₀ total n = (n ≤ k) × (total ≤ n * 5772436045824) × HowMany (Sized (In lengths) (Among set) n) total
+Inv-loop lengths set k total₀ n₀ total n =
+    (n ≤ k) × (total ≤ n * 5772436045824) × HowMany (Sized (In lengths) (Among set) n) total
 
 abbrev μ-loop : tie.MeasureT-loop
 μ-loop lengths set k total₀ n₀ total n = k - n
@@ -24,10 +26,19 @@ add-n : tie.Need-add-n Inv-loop μ-loop
 add-n c = search needs
 
 of-length-requires : tie.Need-of-length-requires Inv-loop μ-loop
-of-length-requires c κs = c .before .before .pre .1 .each _ (omega arith) (omega (arith, c .loop-test .taken))
+of-length-requires c κs =
+    c .before .before .pre .1 .each _ (omega arith) (omega (arith, c .loop-test .taken))
 
 add-total : tie.Need-add-total Inv-loop μ-loop
-add-total c = let l = c .before .before in omega (arith, l .loop .inv .1, c .of-length .ensures .1, c .before .loop-test .taken, l .before .pre .0)
+add-total c = let l = c .before .before in
+    omega (
+      arith,
+      l .loop .inv .1,
+      c .of-length .ensures .1,
+      c .before .loop-test .taken,
+      l .before
+          .pre .0,
+    )
 
 loop-less : tie.Need-loop-less Inv-loop μ-loop
 loop-less c = search needs

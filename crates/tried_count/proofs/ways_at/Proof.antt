@@ -13,8 +13,16 @@ sum-between-requires-2 : tie.Need-sum-between-requires-2
 sum-between-requires-2 c κs = search needs
 
 -- the two sums are small
-twice : (c : tie.After-sum-between2) → c .before .before .args .m * c .sum-between2 .result ≤ 60129542144
-twice c = let a = c .before .before in double-small (a .args .m) (c .sum-between2 .result) (a .pre .1) (omega (arith, c .sum-between2 .ensures, sum-small (a .args .row) 0 (a .args .n - 0) (a .pre .2) (omega (arith, a .pre .0))))
+twice : (c : tie.After-sum-between2)
+    → c .before .before .args .m * c .sum-between2 .result ≤ 60129542144
+twice c = let a = c .before .before in
+    double-small (a .args .m) (c .sum-between2 .result) (a .pre .1)
+    (omega (
+      arith,
+      c .sum-between2 .ensures,
+      sum-small (a .args .row) 0 (a .args .n - 0)
+          (a .pre .2) (omega (arith, a .pre .0)),
+    ))
 
 mul-result : tie.Need-mul-result
 mul-result c = omega (arith, twice c)
@@ -22,7 +30,13 @@ mul-result c = omega (arith, twice c)
 add-result : tie.Need-add-result
 add-result c =
     let a = c .before .before in
-    omega (arith, twice c, c .before .sum-between .ensures, sum-small (a .args .row) (a .args .p) (a .args .n - a .args .p) (a .pre .2) (omega (arith, a .pre .0)))
+    omega (
+      arith,
+      twice c,
+      c .before .sum-between .ensures,
+      sum-small (a .args .row) (a .args .p)
+          (a .args .n - a .args .p) (a .pre .2) (omega (arith, a .pre .0)),
+    )
 
 returns : tie.Need-returns
 returns c = ways-is _ _ _ _ _ _ (c .before .sum-between .ensures) (c .sum-between2 .ensures)

@@ -20,7 +20,13 @@ ways-at-requires c κs = (c .before .pre .high, omega arith, c .row-of .ensures 
 mul-result : tie.Need-mul-result
 mul-result c =
     let a = c .before .before in
-    omega (arith, ap (λ (x : ℕ). a .args .t * x) (c .ways-at .ensures), product-small (a .args .t) (c .before .row-of .result) (a .args .n) 0 0 (c .before .row-of .ensures .low) (a .pre .high) (omega arith) (a .pre .few))
+    omega (
+      arith,
+      ap (λ (x : ℕ). a .args .t * x) (c .ways-at .ensures),
+      product-small (a .args .t)
+          (c .before .row-of .result) (a .args .n) 0 0 (c .before .row-of .ensures .low)
+          (a .pre .high) (omega arith) (a .pre .few),
+    )
 
 returns : tie.Need-returns
 returns c = whole-is _ _ _ _ (c .before .row-of .ensures) (c .ways-at .ensures)

@@ -29,4 +29,5 @@ returns-2 : tie.Need-returns-2
 returns-2 c = later _ _ (c .before .if1 .left)
 
 pub column-before-spec : {M : Type 1} → statement M
-column-before-spec = tie.close (tie.spec sub-result mul-result element-copy-out-result returns returns-2)
+column-before-spec =
+    tie.close (tie.spec sub-result mul-result element-copy-out-result returns returns-2)

@@ -1,4 +1,5 @@
--- `candidates::Candidate::filled` meets its contract. The loop's invariant: what is filled from here on is filled from the start on.
+-- `candidates::Candidate::filled` meets its contract. The loop's invariant: what is filled from
+-- here on is filled from the start on.
 use Prim.Native.Nat.{_-_, _≤_}
 use native.Mathlib.Omega.{arith}
 use borrow.Author.Needs.{needs}
@@ -9,7 +10,8 @@ use Rattle.candidates.proofs.Candidate.filled.Statement.{statement}
 use Rattle.candidates.proofs.Candidate.filled.Tie as tie
 
 abbrev Inv-loop : tie.InvT-loop
-Inv-loop set low n from c₀ i₀ c i = (i ≤ n) × ((r : Candidate) → Filled set n c i r → Filled set n c₀ i₀ r)
+Inv-loop set low n from c₀ i₀ c i =
+    (i ≤ n) × ((r : Candidate) → Filled set n c i r → Filled set n c₀ i₀ r)
 
 abbrev μ-loop : tie.MeasureT-loop
 μ-loop set low n from c₀ i₀ c i = n - i
@@ -28,8 +30,11 @@ loop-less c = search needs
 
 loop-again : tie.Need-loop-again Inv-loop μ-loop
 loop-again c =
-    let l = c .before .before in
-    (omega (arith, c .before .loop-test .taken), λ r f. l .loop .inv .1 r (filled-turn _ _ _ _ _ r (c .before .loop-test .taken) (c .lowered .ensures) f))
+    let l = c .before .before in (
+      omega (arith, c .before .loop-test .taken),
+      λ r f. l .loop .inv .1 r
+          (filled-turn _ _ _ _ _ r (c .before .loop-test .taken) (c .lowered .ensures) f),
+    )
 
 returns : tie.Need-returns Inv-loop μ-loop
 returns c = c .before .loop .inv .1 _ (filled-end _ _ _ _ (c .loop-test .left))

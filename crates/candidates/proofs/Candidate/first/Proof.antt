@@ -1,4 +1,5 @@
--- `candidates::Candidate::first` meets its contract: the least cells from 0 on are the first candidate.
+-- `candidates::Candidate::first` meets its contract: the least cells from 0 on are the first
+-- candidate.
 use borrow.Author.Needs.{needs}
 use Rattle.candidates.proofs.Windows.{filled-first}
 use Rattle.candidates.proofs.Candidate.first.Statement.{statement}

@@ -1,4 +1,5 @@
--- `candidates::Candidate::raised` meets its contract: the next cell at i and the least cells behind it, or the cell at i is the last.
+-- `candidates::Candidate::raised` meets its contract: the next cell at i and the least cells behind
+-- it, or the cell at i is the last.
 use native.Mathlib.Omega.{arith}
 use borrow.Author.Needs.{needs}
 use Rattle.candidates.proofs.Windows.{room-at, fits-at, last-at, raised-at}
@@ -23,7 +24,8 @@ advance-requires c κs =
     let em = c .before .before .largest-step .ensures in
     let ep = c .before .column-before .ensures in (
       room-at (a .args .n) (a .args .self) (a .args .i) _ _ em ep (a .pre .0 .0) (a .pre .0 .1),
-      fits-at (a .args .n) (a .args .self) (a .args .i) _ _ em ep _ (c .cell .ensures) _ (a .pre .1 .1),
+      fits-at (a .args .n) (a .args .self) (a .args .i) _ _ em ep _ (c .cell .ensures) _
+          (a .pre .1 .1),
     )
 
 enum-known-a : tie.Need-enum-known-a
@@ -36,7 +38,9 @@ returns : tie.Need-returns
 returns c =
     let e = c .before .before in
     let a = e .before .before .before .before in
-    last-at (a .args .n) (a .args .self) (a .args .i) _ _ (e .before .before .before .largest-step .ensures) (e .before .before .column-before .ensures) _ (e .before .cell .ensures) _ _
+    last-at (a .args .n) (a .args .self) (a .args .i) _ _
+    (e .before .before .before .largest-step .ensures)
+    (e .before .before .column-before .ensures) _ (e .before .cell .ensures) _ _
     (c .enum-told .given .1) (e .advance .ensures) _ _
 
 with-requires : tie.Need-with-requires
@@ -57,8 +61,11 @@ returns-2 : tie.Need-returns-2
 returns-2 c =
     let e = c .before .before .before .before .before in
     let a = e .before .before .before .before in
-    raised-at (a .args .n) (a .args .self) (a .args .i) _ _ (e .before .before .before .largest-step .ensures) (e .before .before .column-before .ensures) _ (e .before .cell .ensures) _ _ _ _ _
-    (c .before .before .before .a .given .1) (e .advance .ensures) (c .before .with .ensures) (c .filled .ensures)
+    raised-at (a .args .n) (a .args .self) (a .args .i) _ _
+    (e .before .before .before .largest-step .ensures)
+    (e .before .before .column-before .ensures) _ (e .before .cell .ensures) _ _ _ _ _
+    (c .before .before .before .a .given .1) (e .advance .ensures)
+    (c .before .with .ensures) (c .filled .ensures)
 
 pub raised-spec : {M : Type 1} → statement M
 raised-spec =

@@ -1,8 +1,10 @@
--- `candidates::Candidate::sentence` meets its contract. The loop's invariant: the first i tokens are written, the others are 0, and the rest of the sentence is what the cells from i on say.
+-- `candidates::Candidate::sentence` meets its contract. The loop's invariant: the first i tokens
+-- are written, the others are 0, and the rest of the sentence is what the cells from i on say.
 use Prim.Native.Nat.{_-_}
 use native.Mathlib.Omega.{arith}
 use borrow.Author.Needs.{needs}
-use Rattle.candidates.proofs.Spelling.{Spelling, spelled-none, spelled-turn, spelled-whole, step-low}
+use Rattle.candidates.proofs.Spelling.{Spelling, spelled-none, spelled-turn, spelled-whole}
+use Rattle.candidates.proofs.Spelling.{step-low}
 use Rattle.candidates.proofs.Candidate.sentence.Statement.{statement}
 use Rattle.candidates.proofs.Candidate.sentence.Tie as tie
 
@@ -24,7 +26,8 @@ cast-s c = search needs
 add-line : tie.Need-add-line Inv-loop μ-loop
 add-line c =
     let l = c .before .before .before in
-    let k = step-low (l .before .args .self) _ _ _ _ (c .before .before .loop-test .taken) (l .before .pre .0) (l .loop .inv) _ (c .before .cell .ensures) in
+    let k = step-low (l .before .args .self) _ _ _ _ (c .before .before .loop-test .taken)
+    (l .before .pre .0) (l .loop .inv) _ (c .before .cell .ensures) in
     omega (arith, k, l .loop .inv .low, c .before .before .loop-test .taken, l .before .pre .0)
 
 mul-tokens : tie.Need-mul-tokens Inv-loop μ-loop
@@ -42,7 +45,8 @@ loop-less c = search needs
 loop-again : tie.Need-loop-again Inv-loop μ-loop
 loop-again c =
     let l = c .before .before .before in
-    spelled-turn (l .before .args .self) _ _ _ _ (c .before .before .loop-test .taken) (l .before .pre .0) (l .loop .inv) _ (c .before .cell .ensures)
+    spelled-turn (l .before .args .self) _ _ _ _ (c .before .before .loop-test .taken)
+    (l .before .pre .0) (l .loop .inv) _ (c .before .cell .ensures)
 
 returns : tie.Need-returns Inv-loop μ-loop
 returns c = spelled-whole _ _ _ _ _ (c .loop-test .left) (c .before .loop .inv)

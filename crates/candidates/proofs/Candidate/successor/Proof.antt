@@ -1,9 +1,11 @@
--- `candidates::Candidate::successor` meets its contract. The loop's invariant: of the cells from i on, none come after all that share them up to b.
+-- `candidates::Candidate::successor` meets its contract. The loop's invariant: of the cells from i
+-- on, none come after all that share them up to b.
 use Prim.Native.Nat.{ℕ, _-_, _≤_, _<_}
 use mathlib.Core.Path.{_≡_, subst}
 use native.Mathlib.Omega.{arith}
 use borrow.Author.Needs.{needs}
-use Rattle.candidates.proofs.Windows.{LastFrom, fits-here, last-start, last-succeeds, raises-follows, raises-last}
+use Rattle.candidates.proofs.Windows.{LastFrom, fits-here, last-start, last-succeeds}
+use Rattle.candidates.proofs.Windows.{raises-follows, raises-last}
 use Rattle.candidates.proofs.Candidate.successor.Statement.{statement}
 use Rattle.candidates.proofs.Candidate.successor.Tie as tie
 
@@ -22,15 +24,23 @@ sub-i c = search needs
 raised-requires : tie.Need-raised-requires Inv-loop μ-loop
 raised-requires c κs =
     let a = c .before .before in
-    let h : c .before .loop .i - 1 < a .args .n = omega (arith, c .loop-test .taken, c .before .loop .inv .0, a .pre .0 .2) in
-    ((a .pre .0 .0, a .pre .0 .1, h), (a .pre .1 .0, fits-here (a .args .set) (a .args .n) (a .args .self) (a .pre .1 .1) (c .before .loop .i - 1) h))
+    let h : c .before .loop .i - 1 < a .args .n =
+    omega (arith, c .loop-test .taken, c .before .loop .inv .0, a .pre .0 .2) in (
+      (a .pre .0 .0, a .pre .0 .1, h),
+      (
+        a .pre .1 .0,
+        fits-here (a .args .set) (a .args .n) (a .args .self) (a .pre .1 .1)
+            (c .before .loop .i - 1) h,
+      ),
+    )
 
 returns : tie.Need-returns Inv-loop μ-loop
 returns c =
     let l = c .before .before .before in
     let a = l .before in
-    raises-follows (a .args .set) (a .args .n) (a .args .b) (a .args .self) (a .pre .1 .1) (l .loop .i) _ (omega (arith, c .before .before .loop-test .taken)) (l .loop .inv .0) (a .pre .0 .2) (l .loop .inv .1)
-    (c .if1 .taken) (c .before .raised .ensures)
+    raises-follows (a .args .set) (a .args .n) (a .args .b) (a .args .self) (a .pre .1 .1)
+    (l .loop .i) _ (omega (arith, c .before .before .loop-test .taken)) (l .loop .inv .0)
+    (a .pre .0 .2) (l .loop .inv .1) (c .if1 .taken) (c .before .raised .ensures)
 
 loop-less : tie.Need-loop-less Inv-loop μ-loop
 loop-less c = search needs
@@ -40,8 +50,9 @@ loop-again c =
     let l = c .before .before .before in
     let a = l .before in (
       omega (arith, l .loop .inv .0),
-      raises-last (a .args .set) (a .args .n) (a .args .b) (a .args .self) (a .pre .1 .1) (l .loop .i) _ (omega (arith, c .before .before .loop-test .taken)) (l .loop .inv .0) (a .pre .0 .2) (l .loop .inv .1)
-          (c .if1 .left) (c .before .raised .ensures),
+      raises-last (a .args .set) (a .args .n) (a .args .b) (a .args .self) (a .pre .1 .1)
+          (l .loop .i) _ (omega (arith, c .before .before .loop-test .taken)) (l .loop .inv .0)
+          (a .pre .0 .2) (l .loop .inv .1) (c .if1 .left) (c .before .raised .ensures),
     )
 
 returns-2 : tie.Need-returns-2 Inv-loop μ-loop
@@ -49,9 +60,12 @@ returns-2 c =
     let l = c .before in
     let a = l .before in
     let e : l .loop .i ≡ 0 = omega (arith, c .loop-test .left) in
-    last-succeeds (a .args .set) (a .args .n) (a .args .b) (a .args .self) (a .pre .1 .1) _ _ (subst (λ (x : ℕ). LastFrom (a .args .set) (a .args .n) (a .args .self) (a .args .b) x) e (l .loop .inv .1))
+    last-succeeds (a .args .set) (a .args .n) (a .args .b) (a .args .self) (a .pre .1 .1) _ _
+    (subst (λ (x : ℕ). LastFrom (a .args .set) (a .args .n) (a .args .self) (a .args .b) x) e
+    (l .loop .inv .1))
 
 pub successor-spec : {M : Type 1} → statement M
 successor-spec =
     tie.close
-    (tie.spec Inv-loop μ-loop loop-holds sub-i raised-requires returns loop-less loop-again returns-2)
+    (tie.spec Inv-loop μ-loop loop-holds sub-i raised-requires returns loop-less loop-again
+    returns-2)

@@ -13,9 +13,16 @@ use Rattle.candidates.proofs.Candidate.with.Statement.{statement}
 use Rattle.candidates.proofs.Candidate.with.Tie as tie
 
 other-cell : (c : Candidate) (i : ℕ) (d : Cell) (j : ℕ) → j ≢ i
-    → cellAt (record { terminals = set (c .terminals) i (d .terminal); steps = set (c .steps) i (d .step); columns = set (c .columns) i (d .column) }) j ≡ cellAt c j
+    → cellAt (record {
+      terminals = set (c .terminals) i (d .terminal);
+      steps = set (c .steps) i
+          (d .step);
+      columns = set (c .columns) i (d .column);
+    }) j ≡ cellAt c j
 other-cell c i d j n =
-    cell-path (getD-set-other (c .terminals) i j (d .terminal) 0 n) (getD-set-other (c .steps) i j (d .step) 0 n) (getD-set-other (c .columns) i j (d .column) 0 n)
+    cell-path (getD-set-other (c .terminals) i j (d .terminal) 0 n)
+    (getD-set-other (c .steps) i j (d .step) 0 n)
+    (getD-set-other (c .columns) i j (d .column) 0 n)
 
 element-write-self : tie.Need-element-write-self
 element-write-self c = search needs
