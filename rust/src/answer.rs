@@ -48,6 +48,7 @@ impl Answer {
             Answer::Two => 2,
             Answer::Clear => 3,
             Answer::Given => 4,
+            Answer::Unknown => 5,
             Answer::Refused(refusal) => 100 + u64::from(refusal.number()),
         }
     }
