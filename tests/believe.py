@@ -63,14 +63,14 @@ class Believe(unittest.TestCase):
         self.assertIn("drop in crates/grammar/specs/Rows.antt has the name of something of the kit's", errors)
 
     def test_a_lost_law_is_told(self):
-        file = "call_tours/proofs/Leaks.antt"
+        file = "call_rights/proofs/Leaks.antt"
         status, errors = self.believe(LIST, (file, lambda text: text.replace("nothing-leaks", "little-leaks")))
         self.assertEqual((status, errors), (1, f"believe: no law nothing-leaks stands in crates/{file}\n"))
 
     def test_a_law_about_something_else_is_told(self):
         status, errors = self.believe(LIST.replace("`call_rights/Alike`, ", ""))
         self.assertEqual(status, 1)
-        self.assertIn("nothing-leaks in crates/call_rights/proofs/Leaks.antt: the statement rests besides on answering/Settled call_tours/Alike", errors)
+        self.assertIn("nothing-leaks in crates/call_rights/proofs/Leaks.antt: the statement rests besides on answering/Settled call_rights/Alike", errors)
 
     def test_a_public_function_left_out_is_told(self):
         status, errors = self.believe(LIST.replace("`calling::calls_text`", ""))
