@@ -31,7 +31,7 @@ use Rattle.choices.specs.declared.Pick.the-variants as Pick
 use Rattle.tables.specs.Tables.{One, byTokens, byMarks, Fits, Stand, rule}
 use Rattle.choices.specs.Choosing.{NextAt, NoneFrom, NextChoice}
 use Rattle.choices.specs.Searches.{Serves, FirstSplit, Upon, Stood, Reached, FirstPick}
-use Rattle.order.proofs.Places.{there}
+use Rattle.tables.proofs.Places.{there}
 use Rattle.tables.proofs.RulePlaces.{small-at}
 use Rattle.tables.proofs.Views.{stand-view, marks-tokens, tokens-marks}
 

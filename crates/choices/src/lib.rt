@@ -22,7 +22,7 @@ ghost use Rattle.grammar.specs.SpanSheet.{part, SpanSheet};
 ghost use Rattle.tables.specs.Tables.{One, byMarks, Fits, lefts, Room};
 ghost use Rattle.choices.specs.Choosing.{NextChoice};
 ghost use Rattle.choices.specs.Searches.{FirstSplit, FirstPick};
-ghost use Rattle.choices.specs.RuleLists.{FirstOf, Firsts, Listed, IsOf};
+ghost use Rattle.choices.specs.RuleLists.{FirstOf, Firsts, Listed};
 ghost use Rattle.grammar.specs.Sentences.{spelled};
 
 // Does a unary clause fit the span?
@@ -250,42 +250,6 @@ fn next_rule(
             Split::Nowhere => {
                 from = 0;
                 i += 1;
-            }
-        }
-    }
-    Pick::Nothing
-}
-
-// The same along the list of its rules; the rule at `rule`, where there is one, is one of `a`.
-pub fn next_listed(
-    words: &[u64],
-    n: usize,
-    g: Grammar,
-    lists: &[u64],
-    a: u8,
-    start: usize,
-    len: usize,
-    k: SpanMarks,
-    rule: usize,
-    left: usize,
-) -> Pick
-    requires { ⌜ Room (now words) n start len ⌝ }
-    requires { ⌜ Formed g × Listed (rules g) (now lists) ⌝ }
-    requires { ⌜ IsOf (rules g) a rule ⌝ }
-    ensures { λ u. ⌜ FirstPick (now (words .entry)) g n start len k a rule left u ⌝ }
-{
-    let mut i = rule;
-    let mut low = left;
-    while i < g.count {
-        let r = g.rules[i];
-        let p = next_split(words, n, a, r, start, len, k, low);
-        match p {
-            Split::At(l) => {
-                return Pick::At(i, l);
-            }
-            Split::Nowhere => {
-                low = 0;
-                i = lists[64 + i] as usize;
             }
         }
     }

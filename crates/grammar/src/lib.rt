@@ -1,12 +1,31 @@
 // A grammar in layout-sensitive binary normal form and a sentence with positions, as both sheets
 // give them.
 ghost use mathlib.Core.Path.{_≡_};
-ghost use Prim.Native.Nat.{_+_};
+ghost use Prim.Native.Nat.{_+_, _≤_, _<_};
+ghost use Rattle.sets.specs.Says.{Says};
 
 // A line and a column are separate units: one is never compared with the other.
 pub struct Line(pub u16);
 
 pub struct Column(pub u16);
+
+// Does line `a` come before line `b`? Lines are compared by this function alone.
+pub fn line_before(a: Line, b: Line) -> bool
+    ensures { λ r. ⌜ Says r (a .0 < b .0) ⌝ }
+{
+    let m = a.0;
+    let n = b.0;
+    if m < n { true } else { false }
+}
+
+// Does column `a` come before column `b`? Columns are compared by this function alone.
+pub fn column_before(a: Column, b: Column) -> bool
+    ensures { λ r. ⌜ Says r (a .0 < b .0) ⌝ }
+{
+    let c = a.0;
+    let d = b.0;
+    if c < d { true } else { false }
+}
 
 // How many columns a token takes up, from its column on. It is compared with nothing, and `past`
 // alone adds it to a column.
@@ -17,6 +36,13 @@ pub fn past(c: Column, w: Width) -> u32
     ensures { λ r. ⌜ r ≡ c .0 + w .0 ⌝ }
 {
     c.0 as u32 + w.0 as u32
+}
+
+// Does a token of this width in column `a` leave column `b` free?
+pub fn leaves_free(a: Column, w: Width, b: Column) -> bool
+    ensures { λ r. ⌜ Says r (a .0 + w .0 ≤ b .0) ⌝ }
+{
+    past(a, w) <= b.0 as u32
 }
 
 // A terminal with its position and its width.

@@ -20,7 +20,7 @@ use Rattle.grammar.specs.SpanSheet.{part}
 use Rattle.grammar.proofs.ChoiceLaws.{member-at, takes-of}
 use Rattle.grammar.proofs.ByKind.{top-left, getElem?-lt}
 use Rattle.marks.proofs.Words.{part-cut, part-length, cut}
-use Rattle.order.proofs.Places.{there}
+use Rattle.tables.proofs.Places.{there}
 use Rattle.tables.specs.Tables.{Leave, rule}
 use Rattle.tables.proofs.Views.{Yields}
 use Rattle.heights.specs.Least.{LeastHeight}

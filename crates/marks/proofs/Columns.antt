@@ -44,7 +44,7 @@ module _ (h : Half) (s l : ℕ) where
 
   -- one that counts is compared with it
   least-new : (v : Least) → Later h s (l + 1) l → LeastLater h s l v
-      → LeastLater h s (l + 1) (lesser v (col (tokenAt (h .word) (s + l))))
+      → LeastLater h s (l + 1) (lesser v (tokenAt (h .word) (s + l) .column))
   least-new Least.None p f = ((l, p, refl), λ i q. go i q (ℕ-discrete i l))
     where
       go : (i : ℕ) → Later h s (l + 1) i → Dec (i ≡ l)
@@ -53,22 +53,22 @@ module _ (h : Half) (s l : ℕ) where
           ≤ col (tokenAt (h .word) (s + x))) (sym e) (omega arith)
       go i q (no n) = absurd (f i (less i n q))
   least-new (Least.At c) p f =
-      (some (decLe c (col (tokenAt (h .word) (s + l)))), λ i q. go i q (ℕ-discrete i l))
+      (some (decLe (c .0) (col (tokenAt (h .word) (s + l)))), λ i q. go i q (ℕ-discrete i l))
     where
-      some : Dec (c ≤ col (tokenAt (h .word) (s + l)))
+      some : Dec (c .0 ≤ col (tokenAt (h .word) (s + l)))
           → (i : ℕ) × Later h s (l + 1) i
-          × (col (tokenAt (h .word) (s + i)) ≡ min c (col (tokenAt (h .word) (s + l))))
+          × (col (tokenAt (h .word) (s + i)) ≡ min (c .0) (col (tokenAt (h .word) (s + l))))
       some (yes z) = (
         f .0 .0,
         wide (f .0 .0) (f .0 .1),
-        let e : c
-            ≡ min c (col (tokenAt (h .word) (s + l))) = omega (arith, z) in f .0 .2 ∙ e,
+        let e : c .0
+            ≡ min (c .0) (col (tokenAt (h .word) (s + l))) = omega (arith, z) in f .0 .2 ∙ e,
       )
       some (no z) = (l, p, omega (arith, z))
 
       go : (i : ℕ) → Later h s (l + 1) i → Dec (i ≡ l)
-          → min c (col (tokenAt (h .word) (s + l))) ≤ col (tokenAt (h .word) (s + i))
-      go i q (yes e) = subst (λ (x : ℕ). min c (col (tokenAt (h .word) (s + l)))
+          → min (c .0) (col (tokenAt (h .word) (s + l))) ≤ col (tokenAt (h .word) (s + i))
+      go i q (yes e) = subst (λ (x : ℕ). min (c .0) (col (tokenAt (h .word) (s + l)))
           ≤ col (tokenAt (h .word) (s + x))) (sym e) (omega arith)
       go i q (no n) = omega (arith, f .1 i (less i n q))
 
@@ -95,12 +95,12 @@ least-settled h s len Least.None Least.None f g = refl
 least-settled h s len Least.None (Least.At d) f g = absurd (f (g .0 .0) (g .0 .1))
 least-settled h s len (Least.At c) Least.None f g = absurd (g (f .0 .0) (f .0 .1))
 least-settled h s len (Least.At c) (Least.At d) f g =
-    ap Least.At (let e : c ≡ d = omega
+    ap (λ (x : ℕ). Least.At (record { 0 = x })) (let e : c .0 ≡ d .0 = omega
     (arith, f .0 .2, g .0 .2, f .1 (g .0 .0) (g .0 .1), g .1 (f .0 .0) (f .0 .1)) in e)
 
 -- both marks by it
 pub offside-by : (h : Half) (s len : ℕ) (v : Least) → LeastLater h s len v
-    → OffsideBy (col (tokenAt (h .word) s)) v ↔ MayKeep UnaryMark.Offside h s len
+    → OffsideBy (tokenAt (h .word) s .column) v ↔ MayKeep UnaryMark.Offside h s len
 offside-by h s len Least.None f = (
   λ t. record { keeps = λ i l k b. absurd (f i (record { inside = l; known = k; below = b })) },
   λ q. tt,
@@ -119,7 +119,7 @@ offside-by h s len (Least.At c) f = (
 )
 
 pub offalign-by : (h : Half) (s len : ℕ) (v : Least) → LeastLater h s len v
-    → OffalignBy (col (tokenAt (h .word) s)) v ↔ MayKeep UnaryMark.Offalign h s len
+    → OffalignBy (tokenAt (h .word) s .column) v ↔ MayKeep UnaryMark.Offalign h s len
 offalign-by h s len Least.None f = (
   λ t. record { keeps = λ i l k b. absurd (f i (record { inside = l; known = k; below = b })) },
   λ q. tt,

@@ -1,6 +1,6 @@
 -- The marks of a span, token after token.
 use borrow.Author.Count.{below-more}
-use mathlib.Core.Path.{_≡_, refl, sym, ap, _∙_, subst, subst₃}
+use mathlib.Core.Path.{_≡_, refl, sym, ap, _∙_, subst, subst₂, subst₃}
 use lib.ListN.{getD}
 use mathlib.Core.Bool.{Bool, true}
 use mathlib.Core.Logic.{_↔_}
@@ -10,11 +10,12 @@ use native.Mathlib.Decide.{decLt}
 use Rattle.sets.specs.Says.{Says}
 use Rattle.sets.proofs.Says.{holds, says-iff, true-not-false}
 use Rattle.grammar.specs.declared.Token.{Token}
+use Rattle.grammar.specs.declared.Column.{Column}
 use Rattle.grammar.specs.declared.UnaryMark.{UnaryMark}
 use Rattle.grammar.specs.declared.UnaryMark.the-variants as UnaryMark
 use Rattle.grammar.specs.declared.BinaryMark.{BinaryMark}
 use Rattle.grammar.specs.declared.BinaryMark.the-variants as BinaryMark
-use Rattle.grammar.specs.Layout.{Keeps, Pairs, col}
+use Rattle.grammar.specs.Layout.{Keeps, Pairs}
 use Rattle.grammar.specs.Trees.{Covers}
 use Rattle.marks.specs.declared.SpanMarks.{SpanMarks}
 use Rattle.marks.specs.declared.Draft.{Draft}
@@ -23,7 +24,7 @@ use Rattle.marks.specs.Half.{Half, tokenAt, MayKeep, MayPair}
 use Rattle.marks.specs.Later.{OffsideBy, OffalignBy}
 use Rattle.marks.proofs.DraftLaws.{drafted-at}
 use Rattle.marks.specs.Marked.{Included, Grown, Joined, opened, Advanced, alone, Pairing}
-use Rattle.marks.specs.Marked.{Carried, Marked}
+use Rattle.marks.specs.Marked.{Carried, Growing, Marked}
 use Rattle.marks.proofs.Columns.{least-first, least-more, least-open, offside-by}
 use Rattle.marks.proofs.Columns.{offalign-by}
 use Rattle.marks.proofs.Pairings.{pairing-none, pairing-more, flagged, unary-marked}
@@ -40,8 +41,8 @@ keep-one h s = record {
       (let e : s + i ≡ s = omega arith in e);
 }
 
-pub carried-first : (h : Half) (s t c : ℕ) → t ≡ tokenAt (h .word) s .terminal
-    → c ≡ col (tokenAt (h .word) s) → Carried h s 1 (alone t c)
+pub carried-first : (h : Half) (s t : ℕ) (c : Column) → t ≡ tokenAt (h .word) s .terminal
+    → c ≡ tokenAt (h .word) s .column → Carried h s 1 (alone t c)
 carried-first h s t c b d = record {
   first = d;
   least = least-first h s;
@@ -57,16 +58,6 @@ carried-first h s t c b d = record {
 abbrev pub NextJoined : Half → ℕ → ℕ → SpanMarks → SpanMarks → Type 0
 NextJoined h s l k r = Advanced k l (s + l) (h .known) (tokenAt (h .word) s)
     (tokenAt (h .word) (s + l - 1)) (tokenAt (h .word) (s + l)) r
-
--- three tokens of a draft are asked
-pub next-joined : (d : Draft) (s l : ℕ) (k r : SpanMarks) → s + l < d .count
-    → Advanced k l (s + l) (d .known) (getD (d .tokens) s no-token)
-    (getD (d .tokens) (s + l - 1) no-token) (getD (d .tokens) (s + l) no-token) r
-    → NextJoined (half d) s l k r
-next-joined d s l k r h =
-    subst₃ (λ (x y t : Token). Advanced k l (s + l) (d .known) x y t r)
-    (sym (drafted-at d s (omega arith))) (sym (drafted-at d (s + l - 1) (omega arith)))
-    (sym (drafted-at d (s + l) (omega arith)))
 
 -- a known token is asked for its line
 line-more : (h : Half) (s l : ℕ) (b c : Bool) → s + l < h .known
@@ -142,6 +133,25 @@ carried-more h s l k r pos p j = go (decLt (s + l) (h .known))
     go (no z) = let known : h .known ≤ s + l = omega (arith, z) in
         subst (Carried h s (l + 1)) (sym (j .open-one known)) (open-more h s l k pos known p)
 
+-- three tokens of the word are asked
+pub grown : {k r : SpanMarks} {l at known : ℕ} {a z t : Token} → Advanced k l at known a z t r
+    → Growing k l at known a z t r
+grown {k} {r} {l} {at} {known} {a} {z} {t} j = record {
+  advanced = j;
+  carried = λ h s pos e f x y v p. carried-more h s l k r pos p
+      (subst₃ (λ (b c d : Token). Advanced k l (s + l) (h .known) b c d r) (sym x) (sym y) (sym v)
+      (subst₂ (λ (b c : ℕ). Advanced k l b c a z t r) (sym e) (sym f) j));
+}
+
+-- three tokens of a draft are
+pub next-carried : (d : Draft) (s l : ℕ) (k r : SpanMarks) → 0 < l → s + l < d .count
+    → Growing k l (s + l) (d .known) (getD (d .tokens) s no-token)
+    (getD (d .tokens) (s + l - 1) no-token) (getD (d .tokens) (s + l) no-token) r
+    → Carried (half d) s l k → Carried (half d) s (l + 1) r
+next-carried d s l k r pos h j =
+    j .carried (half d) s pos refl refl (drafted-at d s (omega arith))
+    (drafted-at d (s + l - 1) (omega arith)) (drafted-at d (s + l) (omega arith))
+
 -- ---- the whole span
 
 pub carried-all : (h : Half) (s len : ℕ) (k : SpanMarks) → Carried h s len k → Marked h s len k
@@ -153,14 +163,14 @@ carried-all h s len k p = record {
         (Covers a b) (sym (p .terminal)) (x .terminal),
   );
   unary = unary-marked h s len k
-      (subst (λ (c : ℕ). OffsideBy c (k .least) ↔ MayKeep UnaryMark.Offside h s len)
+      (subst (λ (c : Column). OffsideBy c (k .least) ↔ MayKeep UnaryMark.Offside h s len)
       (sym (p .first)) (offside-by h s len (k .least) (p .least)))
-      (subst (λ (c : ℕ). OffalignBy c (k .least) ↔ MayKeep UnaryMark.Offalign h s len)
+      (subst (λ (c : Column). OffalignBy c (k .least) ↔ MayKeep UnaryMark.Offalign h s len)
       (sym (p .first)) (offalign-by h s len (k .least) (p .least))) (p .single);
   binary = binary-marked h s len k (p .align) (p .indent);
 }
 
-pub no-tokens : (h : Half) (s len : ℕ) (t c : ℕ) → len ≡ 0 → Marked h s len (alone t c)
+pub no-tokens : (h : Half) (s len t : ℕ) (c : Column) → len ≡ 0 → Marked h s len (alone t c)
 no-tokens h s len t c e = record {
   least = λ pos. absurd (omega arith);
   atom = λ f. absurd (omega arith);

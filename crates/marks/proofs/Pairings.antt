@@ -1,11 +1,12 @@
 -- The set of left lengths, built up from 1, and the marks of a span put together.
-use mathlib.Core.Path.{_≡_, refl, sym, subst}
+use mathlib.Core.Path.{_≡_, refl, sym, _∙_, subst}
 use mathlib.Core.Bool.{Bool, true, false}
 use mathlib.Core.Logic.{⊎-elim, _↔_}
 use Prim.Native.Nat.{ℕ, _+_, _-_, _≤_, _<_}
 use native.Mathlib.Omega.{arith}
 use native.Mathlib.Decide.{decLt, ℕ-discrete}
 use Rattle.sets.specs.Says.{Says}
+use Rattle.sets.proofs.Says.{true-not-false}
 use Rattle.sets.specs.Sets.{In}
 use Rattle.sets.proofs.Sets.{in-zero, insert-same, insert-keeps, insert-only}
 use Rattle.grammar.specs.declared.UnaryMark.{UnaryMark}
@@ -83,6 +84,10 @@ paired m h s len set l fit p = (
       pairs = λ a b. p .each l (omega arith) (omega arith) .0
           (f (omega arith) (omega arith)) .pairs a (omega arith);
     }
+
+-- a flag says that it is set
+pub says-itself : (b : Bool) → Says b (b ≡ true)
+says-itself b = record { is = λ e. e; isnt = λ e f. true-not-false (sym f ∙ e) }
 
 pub flagged : {b : Bool} {P : Type 0} → Says b P → (b ≡ true) ↔ P
 flagged {b = true} s = (s .is, λ p. refl)

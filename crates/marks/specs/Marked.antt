@@ -3,7 +3,7 @@
 use mathlib.Core.Path.{_≡_}
 use mathlib.Core.Bool.{Bool, true, false}
 use mathlib.Core.Logic.{_↔_}
-use Prim.Native.Nat.{ℕ, _-_, _≤_, _<_}
+use Prim.Native.Nat.{ℕ, _+_, _-_, _≤_, _<_}
 use Rattle.sets.specs.Says.{Says}
 use Rattle.sets.specs.Sets.{In}
 use Rattle.grammar.specs.declared.UnaryMark.{UnaryMark}
@@ -11,7 +11,8 @@ use Rattle.grammar.specs.declared.UnaryMark.the-variants as UnaryMark
 use Rattle.grammar.specs.declared.BinaryMark.{BinaryMark}
 use Rattle.grammar.specs.declared.BinaryMark.the-variants as BinaryMark
 use Rattle.grammar.specs.declared.Token.{Token}
-use Rattle.grammar.specs.Layout.{Keeps, Pairs, col}
+use Rattle.grammar.specs.declared.Column.{Column}
+use Rattle.grammar.specs.Layout.{Keeps, Pairs}
 use Rattle.grammar.specs.Trees.{Covers}
 use Rattle.marks.specs.declared.Least.{Least}
 use Rattle.marks.specs.declared.Least.the-variants as Least
@@ -75,7 +76,7 @@ pub record Advanced (k : SpanMarks) (l at known : ℕ) (a z t : Token) (r : Span
   pub open-one : known ≤ at → r ≡ opened k l
 
 -- the marks of one token with the terminal t and the column c, or of none
-abbrev pub alone : ℕ → ℕ → SpanMarks
+abbrev pub alone : ℕ → Column → SpanMarks
 alone t c =
     record { first = c; least = Least.None; single = true; align = 0; indent = 0; terminal = t }
 
@@ -87,12 +88,26 @@ pub record Pairing (m : BinaryMark) (h : Half) (s to set : ℕ) : Type 0 where
 -- k is the marks of len tokens from s on, as they are carried from a span to the one that has a
 -- token more
 pub record Carried (h : Half) (s len : ℕ) (k : SpanMarks) : Type 0 where
-  pub first : k .first ≡ col (tokenAt (h .word) s)
+  pub first : k .first ≡ tokenAt (h .word) s .column
   pub least : LeastLater h s len (k .least)
   pub single : Says (k .single) (MayKeep UnaryMark.Single h s len)
   pub align : Pairing BinaryMark.Align h s len (k .align)
   pub indent : Pairing BinaryMark.Indent h s len (k .indent)
   pub terminal : k .terminal ≡ tokenAt (h .word) s .terminal
+
+-- r is the marks of the first token, wherever it stands: it has the terminal x and the column c
+pub record Starting (x : ℕ) (c : Column) (r : SpanMarks) : Type 0 where
+  pub same : r ≡ alone x c
+  pub carried : (h : Half) (s : ℕ) → x ≡ tokenAt (h .word) s .terminal
+      → c ≡ tokenAt (h .word) s .column → Carried h s 1 r
+
+-- r is the marks k of l tokens from a to z with the token t, at `at`, after them: if k is what is
+-- carried of the l tokens, r is what is carried of one more
+pub record Growing (k : SpanMarks) (l at known : ℕ) (a z t : Token) (r : SpanMarks) : Type 0 where
+  pub advanced : Advanced k l at known a z t r
+  pub carried : (h : Half) (s : ℕ) → 0 < l → s + l ≡ at → h .known ≡ known
+      → tokenAt (h .word) s ≡ a → tokenAt (h .word) (s + l - 1) ≡ z
+      → tokenAt (h .word) (s + l) ≡ t → Carried h s l k → Carried h s (l + 1) r
 
 -- the marks k of the span of len tokens from s on are those of the definitions; where the span has
 -- a token, its carried value is the least column on lines later than the first token's

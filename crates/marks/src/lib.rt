@@ -1,8 +1,11 @@
 // Layout marks over the spans of a sentence that is known up to some token: what a span's tokens
 // leave to a rule.
 use grammar::BinaryMark;
+use grammar::Column;
 use grammar::Token;
 use grammar::UnaryMark;
+use grammar::column_before;
+use grammar::line_before;
 use sets::has;
 use sets::with;
 ghost use mathlib.Core.Path.{_≡_};
@@ -15,7 +18,7 @@ ghost use Rattle.grammar.specs.declared.UnaryMark.the-variants as Unary;
 ghost use Rattle.marks.specs.Drafts.{half, Within};
 ghost use Rattle.marks.specs.Later.{lesser, Grows, OffsideBy, OffalignBy};
 ghost use Rattle.marks.specs.Marked.{AtomBy, UnaryBy, BinaryBy, Included, Joined, opened};
-ghost use Rattle.marks.specs.Marked.{Advanced, alone, Marked};
+ghost use Rattle.marks.specs.Marked.{Growing, Starting, Marked};
 
 // The first `count` of the tokens, of which the first `known` count and the others are open: an
 // open token meets any mark.
@@ -28,7 +31,7 @@ pub struct Draft {
 // The least column met on lines later than the first token's, or none.
 pub enum Least {
     None,
-    At(u16),
+    At(Column),
 }
 
 // What the tokens of a span leave to a rule, as it is carried along while the span grows by a
@@ -37,7 +40,7 @@ pub enum Least {
 // span's length, do align and indent hold (at the others they hold always); and which terminal has
 // the first token (asked of a span of one token alone).
 pub struct SpanMarks {
-    pub first: u16,
+    pub first: Column,
     pub least: Least,
     pub single: bool,
     pub align: u64,
@@ -46,12 +49,18 @@ pub struct SpanMarks {
 }
 
 // The least column, with the column `c` besides.
-fn with_column(v: Least, c: u16) -> Least
+fn with_column(v: Least, c: Column) -> Least
     ensures { λ r. ⌜ r ≡ lesser v c ⌝ }
 {
     match v {
         Least::None => Least::At(c),
-        Least::At(l) => { if c < l { Least::At(c) } else { Least::At(l) } }
+        Least::At(d) => {
+            if column_before(c, d) {
+                Least::At(c)
+            } else {
+                Least::At(d)
+            }
+        }
     }
 }
 
@@ -59,10 +68,11 @@ fn with_column(v: Least, c: u16) -> Least
 pub fn grow(v: Least, a: Token, t: Token) -> Least
     ensures { λ r. ⌜ Grows v a t r ⌝ }
 {
-    let la = a.line.0;
-    let lt = t.line.0;
-    if la < lt {
-        with_column(v, t.column.0)
+    let line = a.line;
+    let next = t.line;
+    let c = t.column;
+    if line_before(line, next) {
+        with_column(v, c)
     } else {
         v
     }
@@ -70,39 +80,49 @@ pub fn grow(v: Least, a: Token, t: Token) -> Least
 
 // Does offside hold of a span whose first token has the column `c`, `v` being its least column on
 // later lines?
-pub fn offside(c: u16, v: Least) -> bool
+pub fn offside(c: Column, v: Least) -> bool
     ensures { λ r. ⌜ Says r (OffsideBy c v) ⌝ }
 {
     match v {
         Least::None => true,
-        Least::At(l) => { if c < l { true } else { false } }
+        Least::At(l) => { if column_before(c, l) { true } else { false } }
     }
 }
 
 // Does offalign?
-pub fn offalign(c: u16, v: Least) -> bool
+pub fn offalign(c: Column, v: Least) -> bool
     ensures { λ r. ⌜ Says r (OffalignBy c v) ⌝ }
 {
     match v {
         Least::None => true,
-        Least::At(l) => { if c <= l { true } else { false } }
+        Least::At(l) => { if column_before(l, c) { false } else { true } }
     }
+}
+
+// Are the columns the same?
+fn same_column(a: Column, b: Column) -> bool
+    ensures { λ r. ⌜ Says r (a .0 ≡ b .0) ⌝ }
+{
+    if column_before(a, b) {
+        return false;
+    }
+    if column_before(b, a) { false } else { true }
 }
 
 // Does the mark hold of a word from `a` to `z` and a word from `b` on?
 pub fn pairs(m: BinaryMark, a: Token, z: Token, b: Token) -> bool
     ensures { λ r. ⌜ Says r (Pairs m a z b) ⌝ }
 {
-    let ca = a.column.0;
-    let cb = b.column.0;
-    let lz = z.line.0;
-    let lb = b.line.0;
+    let ca = a.column;
+    let cb = b.column;
+    let lz = z.line;
+    let lb = b.line;
     match m {
         BinaryMark::None => true,
-        BinaryMark::Align => ca == cb,
+        BinaryMark::Align => same_column(ca, cb),
         BinaryMark::Indent => {
-            if ca < cb {
-                if lz < lb { true } else { false }
+            if column_before(ca, cb) {
+                if line_before(lz, lb) { true } else { false }
             } else {
                 false
             }
@@ -114,9 +134,12 @@ pub fn pairs(m: BinaryMark, a: Token, z: Token, b: Token) -> bool
 fn still(yes: bool, a: Token, t: Token) -> bool
     ensures { λ r. ⌜ Says r ((yes ≡ true) × Keeps Unary.Single a t) ⌝ }
 {
-    let la = a.line.0;
-    let lt = t.line.0;
-    if yes { la == lt } else { false }
+    let la = a.line;
+    let lt = t.line;
+    if line_before(la, lt) {
+        return false;
+    }
+    if line_before(lt, la) { false } else { yes }
 }
 
 // The set, with `l` besides if `yes` says so.
@@ -134,13 +157,14 @@ fn with_known(k: SpanMarks, a: Token, z: Token, t: Token, left: usize) -> SpanMa
 {
     let v = k.least;
     let least = grow(v, a, t);
+    let first = k.first;
     let single = still(k.single, a, t);
     let aligns = pairs(BinaryMark::Align, a, z, t);
     let align = included(k.align, left, aligns);
     let indents = pairs(BinaryMark::Indent, a, z, t);
     let indent = included(k.indent, left, indents);
     SpanMarks {
-        first: k.first,
+        first,
         least,
         single,
         align,
@@ -154,11 +178,12 @@ fn with_open(k: SpanMarks, left: usize) -> SpanMarks
     requires { ⌜ left < 64 ⌝ }
     ensures { λ r. ⌜ r ≡ opened k left ⌝ }
 {
+    let first = k.first;
     let least = k.least;
     let align = with(k.align, left as u8);
     let indent = with(k.indent, left as u8);
     SpanMarks {
-        first: k.first,
+        first,
         least,
         single: k.single,
         align,
@@ -178,7 +203,7 @@ pub fn with_next(
     known: usize,
 ) -> SpanMarks
     requires { ⌜ left < 64 ⌝ }
-    ensures { λ r. ⌜ Advanced k left at known a z t r ⌝ }
+    ensures { λ r. ⌜ Growing k left at known a z t r ⌝ }
 {
     if at < known {
         with_known(k, a, z, t, left)
@@ -188,8 +213,8 @@ pub fn with_next(
 }
 
 // The marks of one token, which has the terminal and stands in the column, or of no token.
-pub fn first_marks(terminal: u8, column: u16) -> SpanMarks
-    ensures { λ r. ⌜ r ≡ alone terminal column ⌝ }
+pub fn first_marks(terminal: u8, column: Column) -> SpanMarks
+    ensures { λ r. ⌜ Starting terminal column r ⌝ }
 {
     SpanMarks {
         first: column,
@@ -207,11 +232,12 @@ pub fn span_marks(d: Draft, start: usize, len: usize) -> SpanMarks
     ensures { λ r. ⌜ Marked (half d) start len r ⌝ }
 {
     if len == 0 {
-        return first_marks(0, 0);
+        return first_marks(0, Column(0));
     }
     let known = d.known;
     let a = d.tokens[start];
-    let mut k = first_marks(a.terminal, a.column.0);
+    let c = a.column;
+    let mut k = first_marks(a.terminal, c);
     let mut left = 1;
     while left < len {
         let at = start + left;
@@ -237,11 +263,12 @@ pub fn allows_atom(k: SpanMarks, a: u8, b: u8) -> bool
 pub fn allows_unary(k: SpanMarks, m: UnaryMark) -> bool
     ensures { λ r. ⌜ Says r (UnaryBy k m) ⌝ }
 {
+    let c = k.first;
     let v = k.least;
     match m {
         UnaryMark::None => true,
-        UnaryMark::Offside => offside(k.first, v),
-        UnaryMark::Offalign => offalign(k.first, v),
+        UnaryMark::Offside => offside(c, v),
+        UnaryMark::Offalign => offalign(c, v),
         UnaryMark::Single => k.single,
     }
 }

@@ -1,14 +1,9 @@
 -- Offside and offalign are decided by the carried value, single by its flag.
 use borrow.Author.Needs.{needs}
-use mathlib.Core.Path.{_≡_, sym, _∙_}
-use mathlib.Core.Bool.{Bool, true}
-use Rattle.sets.specs.Says.{Says}
-use Rattle.sets.proofs.Says.{holds, true-not-false}
+use Rattle.sets.proofs.Says.{holds}
+use Rattle.marks.proofs.Pairings.{says-itself}
 use Rattle.marks.proofs.allows_unary.Statement.{statement}
 use Rattle.marks.proofs.allows_unary.Tie as tie
-
-flag : (b : Bool) → Says b (b ≡ true)
-flag b = record { is = λ e. e; isnt = λ e f. true-not-false (sym f ∙ e) }
 
 enum-told : tie.Need-enum-told
 enum-told c = search needs
@@ -38,7 +33,7 @@ returns-3 : tie.Need-returns-3
 returns-3 c = rw (c .before .enum-told3 .given .1) (c .offalign .ensures)
 
 returns-4 : tie.Need-returns-4
-returns-4 c = rw (c .enum-told4 .given .1) (flag _)
+returns-4 c = rw (c .enum-told4 .given .1) (says-itself _)
 
 pub allows-unary-spec : {M : Type 1} → statement M
 allows-unary-spec =

@@ -5,6 +5,9 @@ use native.Mathlib.Omega.{arith}
 use Rattle.marks.proofs.grow.Statement.{statement}
 use Rattle.marks.proofs.grow.Tie as tie
 
+line-before-requires : tie.Need-line-before-requires
+line-before-requires c κs = search needs
+
 with-column-requires : tie.Need-with-column-requires
 with-column-requires c κs = search needs
 
@@ -12,11 +15,14 @@ returns : tie.Need-returns
 returns c = record {
   later = λ k. c .with-column .ensures;
   other = λ k. absurd
-      (omega (arith, k, c .before .if1 .taken));
+      (omega (arith, k, c .before .before .line-before .ensures .is (c .before .if1 .taken)));
 }
 
 returns-2 : tie.Need-returns-2
-returns-2 c = record { later = λ k. absurd (omega (arith, k, c .if1 .left)); other = λ k. refl }
+returns-2 c = record {
+  later = λ k. absurd (c .before .line-before .ensures .isnt (c .if1 .left) k);
+  other = λ k. refl;
+}
 
 pub grow-spec : {M : Type 1} → statement M
-grow-spec = tie.close (tie.spec with-column-requires returns returns-2)
+grow-spec = tie.close (tie.spec line-before-requires with-column-requires returns returns-2)

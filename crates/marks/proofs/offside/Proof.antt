@@ -11,14 +11,20 @@ enum-told c = search needs
 enum-known-v : tie.Need-enum-known-v
 enum-known-v c = search needs
 
+column-before-requires : tie.Need-column-before-requires
+column-before-requires c κs = search needs
+
 returns : tie.Need-returns
 returns c = rw (c .enum-told .given .1) (holds tt)
 
 returns-2 : tie.Need-returns-2
-returns-2 c = rw (c .before .before .v .given .1) (holds (omega (arith, c .if1 .taken)))
+returns-2 c = rw (c .before .before .before .v .given .1)
+    (holds (omega (arith, c .before .column-before .ensures .is (c .if1 .taken))))
 
 returns-3 : tie.Need-returns-3
-returns-3 c = rw (c .before .before .v .given .1) (fails (λ q. omega (arith, q, c .if1 .left)))
+returns-3 c = rw (c .before .before .before .v .given .1)
+    (fails (c .before .column-before .ensures .isnt (c .if1 .left)))
 
 pub offside-spec : {M : Type 1} → statement M
-offside-spec = tie.close (tie.spec enum-told enum-known-v returns returns-2 returns-3)
+offside-spec =
+    tie.close (tie.spec enum-told enum-known-v column-before-requires returns returns-2 returns-3)

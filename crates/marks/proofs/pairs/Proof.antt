@@ -1,7 +1,7 @@
 -- Each mark's arm is the definition's comparison.
 use borrow.Author.Needs.{needs}
 use native.Mathlib.Omega.{arith}
-use Rattle.sets.proofs.Says.{holds, fails, says-eqb}
+use Rattle.sets.proofs.Says.{holds, fails}
 use Rattle.marks.proofs.pairs.Statement.{statement}
 use Rattle.marks.proofs.pairs.Tie as tie
 
@@ -11,25 +11,40 @@ enum-told c = search needs
 enum-told-2 : tie.Need-enum-told-2
 enum-told-2 c = search needs
 
+same-column-requires : tie.Need-same-column-requires
+same-column-requires c κs = search needs
+
 enum-told-3 : tie.Need-enum-told-3
 enum-told-3 c = search needs
+
+column-before-requires : tie.Need-column-before-requires
+column-before-requires c κs = search needs
+
+line-before-requires : tie.Need-line-before-requires
+line-before-requires c κs = search needs
 
 returns : tie.Need-returns
 returns c = rw (c .enum-told .given .1) (holds tt)
 
 returns-2 : tie.Need-returns-2
-returns-2 c = rw (c .enum-told2 .given .1) (says-eqb _ _)
+returns-2 c = rw (c .before .enum-told2 .given .1) (c .same-column .ensures)
 
 returns-3 : tie.Need-returns-3
-returns-3 c = rw (c .before .before .enum-told3 .given .1)
-    (holds (omega (arith, c .before .if1 .taken), omega (arith, c .if2 .taken)))
+returns-3 c =
+    let x = c .before .before in
+    rw (x .before .before .enum-told3 .given .1)
+    (holds (
+      omega (arith, x .before .column-before .ensures .is (x .if1 .taken)),
+      omega (arith, c .before .line-before .ensures .is (c .if2 .taken)),
+    ))
 
 returns-4 : tie.Need-returns-4
-returns-4 c =
-    rw (c .before .before .enum-told3 .given .1) (fails (λ p. omega (arith, p .1, c .if2 .left)))
+returns-4 c = rw (c .before .before .before .before .enum-told3 .given .1)
+    (fails (λ p. c .before .line-before .ensures .isnt (c .if2 .left) (p .1)))
 
 returns-5 : tie.Need-returns-5
-returns-5 c = rw (c .before .enum-told3 .given .1) (fails (λ p. omega (arith, p .0, c .if1 .left)))
+returns-5 c = rw (c .before .before .enum-told3 .given .1)
+    (fails (λ p. c .before .column-before .ensures .isnt (c .if1 .left) (p .0)))
 
 pub pairs-spec : {M : Type 1} → statement M
 pairs-spec =
@@ -37,7 +52,10 @@ pairs-spec =
     (tie.spec
     enum-told
     enum-told-2
+    same-column-requires
     enum-told-3
+    column-before-requires
+    line-before-requires
     returns
     returns-2
     returns-3

@@ -7,8 +7,7 @@ use Rattle.grammar.specs.declared.Token.{Token}
 use Rattle.marks.specs.Drafts.{half}
 use Rattle.marks.specs.Marked.{Carried, Marked}
 use Rattle.marks.proofs.DraftLaws.{drafted-at}
-use Rattle.marks.proofs.Joining.{carried-first, carried-more, carried-all, next-joined}
-use Rattle.marks.proofs.Joining.{no-tokens}
+use Rattle.marks.proofs.Joining.{carried-all, next-carried, no-tokens}
 use Rattle.marks.proofs.span_marks.Statement.{statement}
 use Rattle.marks.proofs.span_marks.Tie as tie
 
@@ -25,7 +24,7 @@ first-marks-requires c κs = search needs
 returns : tie.Need-returns Inv-loop μ-loop
 returns c =
     let z = c .before .before .args in
-    subst (Marked (half (z .t1)) (z .start) (z .len)) (sym (c .first-marks .ensures))
+    subst (Marked (half (z .t1)) (z .start) (z .len)) (sym (c .first-marks .ensures .same))
     (no-tokens _ _ _ _ _ (c .before .if1 .taken))
 
 mul-a : tie.Need-mul-a Inv-loop μ-loop
@@ -39,14 +38,14 @@ first-marks-requires-2 c κs = search needs
 
 loop-holds : tie.Need-loop-holds Inv-loop μ-loop
 loop-holds c =
-    let z = c .before .before .before .args in (
+    let z = c .before .before .before .before .args in (
       omega arith,
-      omega (arith, c .before .before .if1 .left),
-      subst (Carried (half (z .t1)) (z .start) 1) (sym (c .first-marks2 .ensures))
-          (carried-first _ _ _ _ (ap (λ (t : Token). t .terminal)
+      omega (arith, c .before .before .before .if1 .left),
+      c .first-marks2 .ensures .carried (half (z .t1)) (z .start)
+          (ap (λ (t : Token). t .terminal)
           (sym (drafted-at (z .t1) (z .start) (omega arith))))
-          (ap (λ (t : Token). t .column .0)
-          (sym (drafted-at (z .t1) (z .start) (omega arith))))),
+          (ap (λ (t : Token). t .column)
+          (sym (drafted-at (z .t1) (z .start) (omega arith)))),
     )
 
 add-at : tie.Need-add-at Inv-loop μ-loop
@@ -81,15 +80,13 @@ loop-again c =
     let i = c .before .before .before .before .loop .inv in (
       omega arith,
       omega arith,
-      carried-more _ _ _ _ _ (i .0) (i .2)
-          (next-joined (c .before .before .before .before .before .before .before .before .args .t1)
-          _
-          _ _ _ (omega arith) (c .with-next .ensures)),
+      next-carried (c .before .before .before .before .before .before .before .before .before .args
+          .t1) _ _ _ _ (i .0) (omega arith) (c .with-next .ensures) (i .2),
     )
 
 returns-2 : tie.Need-returns-2 Inv-loop μ-loop
 returns-2 c =
-    let z = c .before .before .before .before .before .args in
+    let z = c .before .before .before .before .before .before .args in
     let l = c .before .loop in
     carried-all _ _ _ _ (subst (λ (x : ℕ). Carried (half (z .t1)) (z .start) x (l .k))
     (omega (arith, c .loop-test .left)) (l .inv .2))

@@ -1,14 +1,35 @@
 -- Tokens on more than one line stay so; else the token is asked.
-use mathlib.Core.Path.{sym, _∙_}
-use Rattle.sets.proofs.Says.{fails, says-iff, says-eqb, true-not-false}
+use borrow.Author.Needs.{needs}
+use native.Mathlib.Omega.{arith}
+use Rattle.sets.proofs.Says.{fails, says-iff}
+use Rattle.marks.proofs.Pairings.{says-itself}
 use Rattle.marks.proofs.still.Statement.{statement}
 use Rattle.marks.proofs.still.Tie as tie
 
+line-before-requires : tie.Need-line-before-requires
+line-before-requires c κs = search needs
+
 returns : tie.Need-returns
-returns c = says-iff (λ q. (c .if1 .taken, sym q)) (λ p. sym (p .1)) (says-eqb _ _)
+returns c = fails (λ p. omega (arith, p .1, c .before .line-before .ensures .is (c .if1 .taken)))
+
+line-before-requires-2 : tie.Need-line-before-requires-2
+line-before-requires-2 c κs = search needs
 
 returns-2 : tie.Need-returns-2
-returns-2 c = fails (λ p. true-not-false (sym (p .0) ∙ c .if1 .left))
+returns-2 c = fails (λ p. omega (arith, p .1, c .before .line-before2 .ensures .is (c .if2 .taken)))
+
+returns-3 : tie.Need-returns-3
+returns-3 c = says-iff
+    (λ e. (
+      e,
+      omega (
+        arith,
+        c .before .before .before .line-before .ensures .isnt (c .before .before .if1 .left),
+        c .before .line-before2 .ensures .isnt (c .if2 .left),
+      ),
+    ))
+    (λ p. p .0) (says-itself _)
 
 pub still-spec : {M : Type 1} → statement M
-still-spec = tie.close (tie.spec returns returns-2)
+still-spec =
+    tie.close (tie.spec line-before-requires returns line-before-requires-2 returns-2 returns-3)

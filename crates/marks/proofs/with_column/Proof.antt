@@ -1,7 +1,7 @@
 -- The smaller column stays.
 use borrow.Author.Needs.{needs}
 use mathlib.Core.Path.{_≡_, refl, ap}
-use Prim.Native.Nat.{ℕ, _<_, _≤_, min}
+use Prim.Native.Nat.{ℕ, _<_, min}
 use native.Mathlib.Omega.{arith}
 use Rattle.marks.specs.declared.Least.the-variants as Least
 use Rattle.marks.proofs.with_column.Statement.{statement}
@@ -13,23 +13,30 @@ enum-told c = search needs
 enum-known-v : tie.Need-enum-known-v
 enum-known-v c = search needs
 
+column-before-requires : tie.Need-column-before-requires
+column-before-requires c κs = search needs
+
 -- of two columns the smaller
 first-less : (l c : ℕ) → c < l → c ≡ min l c
 first-less l c h = omega (arith, h)
 
-not-less : (l c : ℕ) → l ≤ c → l ≡ min l c
+not-less : (l c : ℕ) → (c < l → ⊥) → l ≡ min l c
 not-less l c h = omega (arith, h)
 
 returns : tie.Need-returns
 returns c = rw (c .enum-told .given .1) refl
 
 returns-2 : tie.Need-returns-2
-returns-2 c = rw (c .before .before .v .given .1)
-    (ap Least.At (first-less _ _ (omega (arith, c .if1 .taken))))
+returns-2 c = rw (c .before .before .before .v .given .1)
+    (ap (λ (x : ℕ). Least.At (record { 0 = x }))
+    (first-less _ _ (c .before .column-before .ensures .is (c .if1 .taken))))
 
 returns-3 : tie.Need-returns-3
 returns-3 c =
-    rw (c .before .before .v .given .1) (ap Least.At (not-less _ _ (omega (arith, c .if1 .left))))
+    rw (c .before .before .before .v .given .1)
+    (ap (λ (x : ℕ). Least.At (record { 0 = x }))
+    (not-less _ _ (c .before .column-before .ensures .isnt (c .if1 .left))))
 
 pub with-column-spec : {M : Type 1} → statement M
-with-column-spec = tie.close (tie.spec enum-told enum-known-v returns returns-2 returns-3)
+with-column-spec =
+    tie.close (tie.spec enum-told enum-known-v column-before-requires returns returns-2 returns-3)

@@ -28,7 +28,7 @@ returns c =
     let s = i .before .before in
     record {
       first = refl;
-      least = s .before .grow .ensures;
+      least = s .before .before .grow .ensures;
       single = s .still .ensures;
       align = record {
         flag = _;
