@@ -17,6 +17,7 @@ use Rattle.grammar.specs.Trees.{Rules}
 use Rattle.marks.specs.declared.SpanMarks.{SpanMarks}
 use Rattle.marks.specs.declared.Least.{Least}
 use Rattle.marks.specs.declared.Least.the-variants as Least
+use Rattle.grammar.specs.declared.Column.{Column}
 use Rattle.marks.specs.Later.{OffsideBy, OffalignBy}
 use Rattle.marks.specs.Marked.{UnaryBy}
 use Rattle.tables.specs.Tables.{rule}
@@ -31,7 +32,7 @@ use Rattle.chains.proofs.TableLaws.{entry-as}
 
 -- ---- levels
 
-offside-align : (c : ℕ) (v : Least) → OffsideBy c v → OffalignBy c v
+offside-align : (c : Column) (v : Least) → OffsideBy c v → OffalignBy c v
 offside-align c Least.None h = tt
 offside-align c (Least.At l) h = omega arith
 

@@ -23,8 +23,6 @@ use Rattle.marks.specs.Half.{Half, Completes, tokenAt}
 use Rattle.marks.proofs.HalfLaws.{completes-self}
 use Rattle.spans.specs.Changes.{Past}
 use Rattle.spans.proofs.Places.{pairAt-same}
-use Rattle.order.specs.Order.{Rearranged}
-use Rattle.order.proofs.Same.{derives-same, two-same, one-same, none-under}
 use Rattle.chart.specs.declared.Verdict.{Verdict}
 use Rattle.chart.specs.declared.Verdict.the-variants as Verdict
 use Rattle.tables.specs.Tables.{One, Two, byTokens, Stand, Again}
@@ -359,26 +357,6 @@ begun-ready {ws′ = ws′} {g} {n = n} e b =
           λ i l. b .leaves i (omega arith);
       beyond = open-none g n ws′ n (omega arith);
     }
-
--- rules in another order have the same verdict and sheet
-pub judged-over : {r : Verdict} {g g′ : Rules} {w : Word} {n : ℕ} {ws ws′ : List ℕ}
-    → Rearranged g g′ → Judged r g′ w n ws ws′ → Judged r g w n ws ws′
-judged-over {r} {g} {g′} {w} {ws′ = ws′} o x = record {
-  verdict = holds r (x .verdict);
-  sheet = record {
-    enough = x .sheet .enough;
-    one = λ s len A fit small. let y = x .sheet .one s len A fit small in
-        (λ m. derives-same o .1 (y .0 m), λ d. y .1 (derives-same o .0 d));
-    two = λ s len A fit small. let y = x .sheet .two s len A fit small in
-        (λ m. two-same o .1 (y .0 m), λ d. y .1 (two-same o .0 d));
-  };
-  past = x .past;
-}
-  where
-    holds : (v : Verdict) → Holds v g′ 0 w → Holds v g 0 w
-    holds Verdict.None h = none-under (o .to) h
-    holds Verdict.One h = one-same o h
-    holds Verdict.Two h = two-same o .1 h
 
 -- a word meets h by words that have the same pairs of open tokens
 meets-given : {g : Rules} {h : Half} {n : ℕ} {ws ws′ : List ℕ} {w : Word} → length (h .word) ≡ n

@@ -8,6 +8,7 @@ use native.Mathlib.Omega.{arith}
 use native.Mathlib.Decide.{decLt, ℕ-discrete}
 use lib.ListN.{length, getD}
 use Rattle.grammar.specs.Layout.{Word}
+use Rattle.grammar.specs.declared.Column.{Column}
 use Rattle.sets.specs.Sets.{In}
 use Rattle.grammar.specs.Trees.{Rules, Derives, TwoTrees}
 use Rattle.grammar.specs.SpanSheet.{pairs, spans, pairAt}
@@ -33,8 +34,9 @@ use Rattle.grammar.specs.Distinct.{Distinct}
 -- ---- the empty word
 
 -- the words of its sheet
-module _ {g : Rules} {b t : Tally} (distinct : Distinct g) (l : Leaves (alone 0 0) 0 g (length g) b)
-    (sat : Saturated 0 0 (alone 0 0) 0 g b t) where
+module _ {g : Rules} {b t : Tally} {col : Column} (distinct : Distinct g)
+    (l : Leaves (alone 0 col) 0 g (length g) b)
+    (sat : Saturated 0 0 (alone 0 col) 0 g b t) where
   before : List ℕ
   before = 0 ∷ 0 ∷ []
 
@@ -56,8 +58,8 @@ module _ {g : Rules} {b t : Tally} (distinct : Distinct g) (l : Leaves (alone 0 
 
   here : Closed before after g nothing 0 0 0
   unfolding before nothing
-  here = closed before after g nothing 0 0 0 (alone 0 0) b t distinct (omega arith) (omega arith)
-      (no-tokens nothing 0 0 0 0 refl) (record { parts = λ c d x y z. absurd (omega arith) })
+  here = closed before after g nothing 0 0 0 (alone 0 col) b t distinct (omega arith) (omega arith)
+      (no-tokens nothing 0 0 0 col refl) (record { parts = λ c d x y z. absurd (omega arith) })
       (by-leaves (omega arith) l) sat
       (subst (λ (p : ℕ). WrotePair before after p (t .one) (t .two)) (sym (pairAt-empty 0 0))
       wrote)
@@ -87,8 +89,9 @@ second-pair : pairAt 1 0 1 ≡ 1
 unfolding pairAt spans
 second-pair = refl
 
-module _ {g : Rules} {x p q : ℕ} {b t : Tally} (distinct : Distinct g) (e : EmptyPair g p q)
-    (l : Leaves (alone x 0) 1 g (length g) b) (sat : Saturated p q (alone x 0) 1 g b t) where
+module _ {g : Rules} {x p q : ℕ} {b t : Tally} {col : Column} (distinct : Distinct g)
+    (e : EmptyPair g p q) (l : Leaves (alone x col) 1 g (length g) b)
+    (sat : Saturated p q (alone x col) 1 g b t) where
   unread : List ℕ
   unread = p ∷ q ∷ 0 ∷ 0 ∷ []
 
@@ -99,9 +102,8 @@ module _ {g : Rules} {x p q : ℕ} {b t : Tally} (distinct : Distinct g) (e : Em
   one-token = record {
     terminal = x;
     line = record { 0 = 0 };
-    column = record { 0 = 0 };
-    width =
-        record { 0 = 0 };
+    column = col;
+    width = record { 0 = 0 };
   } ∷ []
 
   single : Half
@@ -129,8 +131,9 @@ module _ {g : Rules} {x p q : ℕ} {b t : Tally} (distinct : Distinct g) (e : Em
 
   leaf-here : Closed unread read g single 1 0 1
   unfolding unread single one-token
-  leaf-here = closed unread read g single 1 0 1 (alone x 0) b t distinct (omega arith) (omega arith)
-      (carried-all single 0 1 (alone x 0) (carried-first single 0 x 0 refl refl))
+  leaf-here =
+      closed unread read g single 1 0 1 (alone x col) b t distinct (omega arith) (omega arith)
+      (carried-all single 0 1 (alone x col) (carried-first single 0 x col refl refl))
       (record {
         parts = λ c d y z v. subst (Settled (One unread 1) (Two unread 1) g single c)
             (let u : 0 ≡ d = omega arith in u) (nulls unread refl refl c);

@@ -1,13 +1,12 @@
 -- A span that is settled all cuts at once is closed, as the chart's are.
 use mathlib.Core.Path.{_≡_, refl, sym, _∙_, subst}
-use mathlib.Core.List.{List, []}
-use mathlib.Core.Logic.{inl, inr, _↔_}
+use mathlib.Core.List.{List}
+use mathlib.Core.Logic.{inl, inr}
 use Prim.Native.Nat.{ℕ, zero, suc, _+_, _*_, _≤_, _<_}
 use native.Mathlib.Omega.{arith}
 use lib.ListN.{length, getD, replicate, length-replicate}
 use Rattle.grammar.proofs.Lists.{every-at}
-use Rattle.grammar.specs.Layout.{Word}
-use Rattle.grammar.specs.Trees.{Rules, Derives, TwoTrees}
+use Rattle.grammar.specs.Trees.{Rules}
 use Rattle.grammar.specs.Distinct.{Distinct}
 use Rattle.grammar.specs.declared.Grammar.{Grammar}
 use Rattle.grammar.specs.Content.{rules, SmallRule, Formed}
@@ -19,11 +18,11 @@ use Rattle.marks.specs.Marked.{Marked, UnaryBy}
 use Rattle.grammar.specs.declared.UnaryMark.the-variants as UnaryMark
 use Rattle.sets.specs.Sets.{In}
 use Rattle.spans.specs.Changes.{Kept, WrotePair, Cleared}
-use Rattle.spans.proofs.Places.{pairAt-of, pairAt-empty}
+use Rattle.spans.proofs.Places.{pairAt-of}
 use Rattle.tables.specs.Settled.{Ground}
 use Rattle.cuts.specs.declared.Pair.{Pair}
 use Rattle.cuts.specs.declared.Masks.{Masks}
-use Rattle.cuts.specs.Cuts.{wordsOf, Masked, CutCounts, Parted, Mirrors}
+use Rattle.cuts.specs.Cuts.{wordsOf, Masked, CutCounts, Parted, Row, Column, Mirrors}
 use Rattle.cuts.specs.Puts.{PutPair, PutRow}
 use Rattle.cuts.proofs.TryLaws.{mirrored}
 use Rattle.cuts.proofs.MirrorLaws.{mirrors-put, mirrors-next, mirrors-end, columns-none}
@@ -34,22 +33,21 @@ use Rattle.tables.specs.Tables.{no-rule}
 use Rattle.chains.specs.SpanLinks.{spanLinks}
 use Rattle.chains.specs.Chains.{HoldsAt, Leveled, Chains}
 use Rattle.chains.proofs.TableLaws.{table-span}
-use Rattle.chains.proofs.ChainLaws.{chains-for}
 use Rattle.chart.specs.Filling.{Closed, Filled, Grown}
-use Rattle.chart.specs.Sheets.{Exact}
-use Rattle.filling.specs.Kept.{Prepared}
 use Rattle.filling.specs.Closing.{Begins, Found, CutJoins, Columns}
 use Rattle.filling.proofs.SettleLaws.{closure-settled}
 
--- what rows and columns say of the span sheet that they mirror
-pub found-joins : {ws ws′ : List ℕ} {g : Rules} {n s len : ℕ} {k : SpanMarks}
+-- what rows and columns say of the span sheet that they mirror, as far as the span's parts go
+pub found-by : {ws ws′ : List ℕ} {g : Rules} {n s len : ℕ} {k : SpanMarks}
     {rows cols table : List ℕ} {e t : Pair} → n ≤ 64 → s + len ≤ n → Every SmallRule g
-    → Mirrors ws n s len rows cols → Begins ws e → Chains g e table
+    → (end from : ℕ) → s + len ≤ end → from ≤ s + 1 → Row ws n s end rows
+    → Column ws n from (s + len) cols → Begins ws e → Chains g e table
     → Found rows cols table g k s len t
     → WrotePair ws ws′ (pairAt n s len) (t .one) (t .two) → CutJoins ws ws′ g n s len k
-found-joins {ws} {ws′} {g} {n} {s} {len} {k} {rows} {cols} {table} {e} {t} few fit small m b h f w =
-    let sp = mirrored ws n s len k rows cols (f .masks) few fit m (f .masked) g small (f .inner)
-    (f .counts) in
+found-by {ws} {ws′} {g} {n} {s} {len} {k} {rows} {cols} {table} {e} {t} few fit small end from far
+    near row col b h f w =
+    let sp = mirrored ws n s len k rows cols (f .masks) few fit end from far near row col
+    (f .masked) g small (f .inner) (f .counts) in
     record {
       inner = f .inner;
       last = t;
@@ -68,6 +66,16 @@ found-joins {ws} {ws′} {g} {n} {s} {len} {k} {rows} {cols} {table} {e} {t} few
     lefts : (B : ℕ) → Counts.Some (Parted ws n s len k g) B → B < 64
     lefts B q = let x = every-at SmallRule no-rule g small (q .rule) (q .stands .stand .within)
         .left in omega (arith, q .stands .stand .left)
+
+-- so do those of the spans that are settled
+pub found-joins : {ws ws′ : List ℕ} {g : Rules} {n s len : ℕ} {k : SpanMarks}
+    {rows cols table : List ℕ} {e t : Pair} → n ≤ 64 → s + len ≤ n → Every SmallRule g
+    → Mirrors ws n s len rows cols → Begins ws e → Chains g e table
+    → Found rows cols table g k s len t
+    → WrotePair ws ws′ (pairAt n s len) (t .one) (t .two) → CutJoins ws ws′ g n s len k
+found-joins {s = s} {len = len} few fit small m b h f w =
+    found-by few fit small (s + len) (s + 1) (omega arith) (omega arith) (m .row)
+    (m .ahead (s + len) (omega arith) fit) b h f w
 
 -- single has offside with it
 single-offside : {h : Half} {s len : ℕ} {k : SpanMarks} → Marked h s len k
@@ -172,22 +180,6 @@ no-columns ws n m h = record {
     zeros zero q = refl
     zeros (suc k) zero = refl
     zeros (suc k) (suc q) = zeros k q
-
--- the kept table goes with every sheet whose first two words are the pair of the empty word
-pub kept-chains : {g : Rules} {kept ws : List ℕ} {w : Word} {n to : ℕ} → Prepared g kept
-    → Exact g w n ws to → Chains g (record { one = getD ws 0 0; two = getD ws 1 0 }) kept
-kept-chains {g} {kept} {ws} {w} {n} {to} p x = chains-for
-    (λ A. (λ i. one A .1 (p .right .one A .0 i), λ i. p .right .one A .1 (one A .0 i)))
-    (λ A. (λ i. two A .1 (p .right .two A .0 i), λ i. p .right .two A .1 (two A .0 i)))
-    (p .chains)
-  where
-    one : (A : ℕ) → In (getD ws 0 0) A ↔ Derives g A []
-    one A = subst (λ (q : ℕ). In (getD ws (2 * q) 0) A ↔ Derives g A []) (pairAt-empty n 0)
-        (x .one 0 0 A (omega arith))
-
-    two : (A : ℕ) → In (getD ws 1 0) A ↔ TwoTrees g A []
-    two A = subst (λ (q : ℕ). In (getD ws (2 * q + 1) 0) A ↔ TwoTrees g A []) (pairAt-empty n 0)
-        (x .two 0 0 A (omega arith))
 
 -- where there is one token at most, nothing is left to settle
 pub few-grown : {ws : List ℕ} {g : Rules} {h : Half} {n from to : ℕ} → n < 2

@@ -10,6 +10,7 @@ use cuts::cut_masks;
 use cuts::put;
 use cuts::splits;
 use cuts::unite;
+use grammar::Column;
 use grammar::Grammar;
 use grammar::Sentence;
 use links::leaves;
@@ -23,33 +24,31 @@ use spans::clear;
 use spans::in_first;
 use spans::in_second;
 use spans::pair_at;
-use spans::size;
 use spans::write;
 ghost use mathlib.Core.Path.{_≡_};
 ghost use Prim.Native.Nat.{_+_, _*_, _≤_, _<_};
 ghost use lib.ListN.{length};
 ghost use Rattle.grammar.specs.Content.{rules, Formed};
-ghost use Rattle.grammar.specs.SpanSheet.{pairs, pairAt};
+ghost use Rattle.grammar.specs.SpanSheet.{pairs};
 ghost use Rattle.grammar.specs.Sentences.{spelled};
 ghost use Rattle.marks.specs.Half.{tokenAt};
 ghost use Rattle.marks.specs.Drafts.{half, drafted};
-ghost use Rattle.spans.specs.Changes.{Past, WrotePair};
+ghost use Rattle.spans.specs.Changes.{Past};
 ghost use Rattle.tables.specs.Tables.{Room};
 ghost use Rattle.cuts.specs.Cuts.{Mirrors};
 ghost use Rattle.cuts.specs.Places.{Placed};
 ghost use Rattle.chains.specs.Chains.{Chains};
 ghost use Rattle.chart.specs.Filling.{Whole, Filled, Grown};
 ghost use Rattle.chart.specs.Leaves.{EmptyPair, Leaf};
-ghost use Rattle.chart.specs.Sheets.{Exact, Begun, Ready, Charted, Judged, Settles};
+ghost use Rattle.chart.specs.Sheets.{Exact, Begun, Ready, Charted, Judged};
 ghost use Rattle.filling.specs.Closing.{Leading, Begins, Found, CutJoins, Columns};
-ghost use Rattle.filling.specs.Kept.{Prepared, Mirrored};
 
 // The pair of the empty word.
 pub fn empty_pair(g: Grammar) -> Pair
     requires { ⌜ Formed g ⌝ }
     ensures { λ r. ⌜ EmptyPair (rules g) (r .one) (r .two) ⌝ }
 {
-    let k = first_marks(0, 0);
+    let k = first_marks(0, Column(0));
     let b = leaves(g, k, 0);
     let t = saturated(b, g, k, 0, 0, 0);
     Pair {
@@ -58,14 +57,13 @@ pub fn empty_pair(g: Grammar) -> Pair
     }
 }
 
-// The pair of a token with the terminal `x`, wherever it stands; the empty word's is `one` and
-// `two`.
-pub fn leaf_pair(g: Grammar, x: u8, one: u64, two: u64) -> Pair
+// The pair of a token with the terminal `x` in the column `c`; the empty word's is `one` and `two`.
+fn token_pair(g: Grammar, x: u8, c: Column, one: u64, two: u64) -> Pair
     requires { ⌜ Formed g ⌝ }
     requires { ⌜ EmptyPair (rules g) one two ⌝ }
     ensures { λ r. ⌜ Leaf (rules g) x (r .one) (r .two) ⌝ }
 {
-    let k = first_marks(x, 0);
+    let k = first_marks(x, c);
     let b = leaves(g, k, 1);
     let w = link_rules(g, one);
     let t = saturated(b, w, k, one, two, 1);
@@ -73,6 +71,15 @@ pub fn leaf_pair(g: Grammar, x: u8, one: u64, two: u64) -> Pair
         one: t.one,
         two: t.two,
     }
+}
+
+// The same wherever the token stands: no mark fails on one token.
+pub fn leaf_pair(g: Grammar, x: u8, one: u64, two: u64) -> Pair
+    requires { ⌜ Formed g ⌝ }
+    requires { ⌜ EmptyPair (rules g) one two ⌝ }
+    ensures { λ r. ⌜ Leaf (rules g) x (r .one) (r .two) ⌝ }
+{
+    token_pair(g, x, Column(0), one, two)
 }
 
 // The first token that has the terminal of the token at i.
@@ -112,7 +119,8 @@ fn leaf_at(words: &[u64], d: Draft, g: Grammar, e: Pair, i: usize) -> Pair
         };
     }
     let t = d.tokens[i];
-    leaf_pair(g, t.terminal, e.one, e.two)
+    let c = t.column;
+    token_pair(g, t.terminal, c, e.one, e.two)
 }
 
 // Write the pairs of the empty word and of each token of the draft.
@@ -245,7 +253,8 @@ pub fn fill_start(
     let n = d.count;
     let known = d.known;
     let a = d.tokens[start];
-    let mut k = first_marks(a.terminal, a.column.0);
+    let c = a.column;
+    let mut k = first_marks(a.terminal, c);
     begin(words, rows, cols, n, start);
     let mut len: usize = 1;
     while start + len < n {
@@ -383,97 +392,4 @@ pub fn judge(words: &mut [u64], s: Sentence, g: Grammar) -> Verdict
         return Verdict::Two;
     }
     Verdict::One
-}
-
-// ---- a search over words of at most 7 tokens
-
-// Make the kept words for the rules.
-pub fn prepare(kept: &mut [u64], g: Grammar)
-    requires { ⌜ Formed g ⌝ }
-    requires { ⌜ length (now kept) ≡ 512 ⌝ }
-    ensures { λ r. ⌜ Prepared (rules g) (now (kept .exit)) ⌝ }
-{
-    let e = empty_pair(g);
-    chains(kept, g, e);
-}
-
-// Begin the span sheets of n tokens.
-pub fn open_sheet(words: &mut [u64], kept: &mut [u64], g: Grammar, n: usize)
-    requires { ⌜ n ≤ 7 ⌝ }
-    requires { ⌜ 2 * pairs n ≤ length (now words) ⌝ }
-    requires { ⌜ Prepared (rules g) (now kept) ⌝ }
-    ensures { λ r. ⌜ Mirrored (rules g) n (now (words .exit)) (now (kept .exit)) ⌝ }
-    ensures { λ r. ⌜ Past (2 * pairs n) (now (words .entry)) (now (words .exit)) ⌝ }
-{
-    clear(words, size(n));
-}
-
-// Give the empty word its pair.
-pub fn give_empty(words: &mut [u64], kept: &mut [u64], g: Grammar, n: usize, one: u64, two: u64)
-    requires { ⌜ n ≤ 7 ⌝ }
-    requires { ⌜ 2 * pairs n ≤ length (now words) ⌝ }
-    requires { ⌜ Mirrored (rules g) n (now words) (now kept) ⌝ }
-    ensures { λ r. ⌜ WrotePair (now (words .entry)) (now (words .exit)) 0 one two ⌝ }
-    ensures { λ r. ⌜ Mirrored (rules g) n (now (words .exit)) (now (kept .exit)) ⌝ }
-{
-    write(words, 0, one, two);
-}
-
-// Give the token at i a pair.
-pub fn give(words: &mut [u64], kept: &mut [u64], g: Grammar, n: usize, i: usize, one: u64, two: u64)
-    requires { ⌜ (n ≤ 7) × (i < n) ⌝ }
-    requires { ⌜ 2 * pairs n ≤ length (now words) ⌝ }
-    requires { ⌜ Mirrored (rules g) n (now words) (now kept) ⌝ }
-    ensures { λ r. ⌜ WrotePair (now (words .entry)) (now (words .exit)) (pairAt n i 1) one two ⌝ }
-    ensures { λ r. ⌜ Mirrored (rules g) n (now (words .exit)) (now (kept .exit)) ⌝ }
-{
-    let p = pair_at(n, i, 1);
-    write(words, p, one, two);
-}
-
-// Fill the span sheet of the draft anew, as `fill` does.
-pub fn refill(words: &mut [u64], kept: &mut [u64], d: Draft, g: Grammar, from: usize, to: usize)
-    requires { ⌜ (d .count ≤ 7) × (d .known ≤ d .count) ⌝ }
-    requires { ⌜ 2 * pairs (d .count) ≤ length (now words) ⌝ }
-    requires { ⌜ Formed g ⌝ }
-    requires { ⌜ Ready (rules g) (half d) (d .count) (now words) from to ⌝ }
-    requires { ⌜ Mirrored (rules g) (d .count) (now words) (now kept) ⌝ }
-    ensures { λ r. ⌜ Charted (now (words .entry)) (now (words .exit)) (rules g) (half d)
-        (d .count) ⌝ }
-    ensures { λ r. ⌜ Mirrored (rules g) (d .count) (now (words .exit)) (now (kept .exit)) ⌝ }
-{
-    let n = d.count;
-    let e = Pair {
-        one: words[0],
-        two: words[1],
-    };
-    let b = binary_rules(g);
-    let mut rows = [0u64; 128];
-    let mut cols = [0u64; 1024];
-    load_from(words, &mut rows, &mut cols, n, to);
-    fill_starts(words, &mut rows, &mut cols, kept, d, g, b, e, from, to);
-}
-
-// Fill it so. Has no completion of the draft two trees, its open tokens being what their pairs
-// allow? (Where all of it is known: has it not?)
-pub fn no_two(
-    words: &mut [u64],
-    kept: &mut [u64],
-    d: Draft,
-    g: Grammar,
-    from: usize,
-    to: usize,
-) -> bool
-    requires { ⌜ (d .count ≤ 7) × (d .known ≤ d .count) ⌝ }
-    requires { ⌜ 2 * pairs (d .count) ≤ length (now words) ⌝ }
-    requires { ⌜ Formed g ⌝ }
-    requires { ⌜ Ready (rules g) (half d) (d .count) (now words) from to ⌝ }
-    requires { ⌜ Mirrored (rules g) (d .count) (now words) (now kept) ⌝ }
-    ensures { λ r. ⌜ Settles r (rules g) (half d) (d .count) (now (words .entry))
-        (now (words .exit)) ⌝ }
-    ensures { λ r. ⌜ Mirrored (rules g) (d .count) (now (words .exit)) (now (kept .exit)) ⌝ }
-{
-    let n = d.count;
-    refill(words, kept, d, g, from, to);
-    !in_second(words, n, 0, n, 0)
 }

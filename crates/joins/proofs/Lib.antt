@@ -1,4 +1,3 @@
 pub mod TallyLaws
 pub mod PassLaws
-pub mod CodeLaws
 pub mod Coverage

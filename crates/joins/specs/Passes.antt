@@ -13,7 +13,6 @@ use Rattle.grammar.specs.declared.Clause.{Clause}
 use Rattle.grammar.specs.declared.Clause.the-variants as Clause
 use Rattle.grammar.specs.Trees.{Rules}
 use Rattle.grammar.specs.SpanSheet.{pairAt, firstWord, secondWord}
-use Rattle.codes.specs.Codes.{kind}
 use Rattle.marks.specs.declared.SpanMarks.{SpanMarks}
 use Rattle.marks.specs.Marked.{AtomBy, UnaryBy, BinaryBy}
 use Rattle.spans.specs.Changes.{WrotePair}
@@ -21,7 +20,6 @@ use Rattle.cuts.specs.Cuts as Cuts
 use Rattle.joins.specs.declared.Tally.{Tally}
 use Rattle.joins.specs.declared.Pair.{Pair}
 use Rattle.joins.specs.declared.Sides.{Sides}
-use Rattle.joins.specs.declared.Stretch.{Stretch}
 use Rattle.tables.specs.Tables.{rule}
 use Rattle.sets.specs.Insertion.{insert}
 
@@ -73,16 +71,6 @@ SplitBelow p Clause.Empty = ⊥
 SplitBelow p (Clause.Atom a b) = ⊥
 SplitBelow p (Clause.Unary B m) = ⊥
 SplitBelow p (Clause.Binary B C m) = In (p .left .two) B ⊎ In (p .right .two) C
-
--- none of the codes from a to below b is of a B rule
-pub record Unpaired (cs : List ℕ) (a b : ℕ) : Type 0 where
-  pub low : (i : ℕ) → a ≤ i → i < b → kind (getD cs i 0) < 3
-
--- all codes of B rules stand in the stretch
-pub record Stretches (cs : List ℕ) (s : Stretch) : Type 0 where
-  pub within : (s .from ≤ length cs) × (s .to ≤ length cs)
-  pub before : Unpaired cs 0 (s .from)
-  pub behind : Unpaired cs (s .to) (length cs)
 
 -- the rules before i are tried over the two parts
 pub data SplitRow (p : Sides) (k : SpanMarks) (len l : ℕ) (g : Rules) (t : Tally) : ℕ → Tally

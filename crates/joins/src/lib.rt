@@ -1,39 +1,23 @@
 // The pair of a span, found by the pairs of its parts: what stands by tokens and by shorter parts,
 // then passes over the rules.
-use codes::binary_mark_of;
-use codes::first_of;
-use codes::kind_of;
-use codes::left_of;
-use codes::mark_of;
-use codes::rule_of;
-use codes::second_of;
-use codes::unary_mark_of;
 use grammar::Clause;
 use grammar::Rule;
 use grammar::UnaryMark;
 use marks::SpanMarks;
 use marks::allows_atom;
-use marks::allows_binary;
 use marks::allows_unary;
 use sets::has;
 use sets::with;
-use spans::pair_at;
-use spans::write;
 ghost use mathlib.Core.Logic.{_⊎_};
 ghost use mathlib.Core.Path.{_≡_};
-ghost use Prim.Native.Nat.{_+_, _-_, _*_, _≤_, _<_};
-ghost use lib.ListN.{length};
+ghost use Prim.Native.Nat.{_<_};
 ghost use Rattle.sets.specs.Says.{Says};
 ghost use Rattle.sets.specs.Sets.{In};
-ghost use Rattle.codes.specs.Codes.{binaryMark, mark, decode, decoded};
 ghost use Rattle.grammar.specs.Content.{SmallRule};
-ghost use Rattle.marks.specs.Marked.{UnaryBy, BinaryBy};
-ghost use Rattle.tables.specs.Tables.{Room};
-ghost use Rattle.joins.specs.Passes.{Doubles, Found, Took, pairOf, sidesAt, Unpaired};
-ghost use Rattle.joins.specs.Passes.{Stretches, SplitFits, SplitBelow, SplitRow, none};
-ghost use Rattle.joins.specs.Passes.{Splits, LeafFits, Leaves, Beside, WholeSide, Pass};
-ghost use Rattle.joins.specs.Passes.{Saturated};
-ghost use Rattle.joins.specs.Passes.{Joins};
+ghost use Rattle.marks.specs.Marked.{UnaryBy};
+ghost use Rattle.joins.specs.Passes.{Doubles, Found, Took};
+ghost use Rattle.joins.specs.Passes.{none};
+ghost use Rattle.joins.specs.Passes.{LeafFits, Beside};
 
 // What a pass over the rules of a span has found: the nonterminals for which a rule stands, and the
 // span's two sets with what the pass adds.
@@ -107,157 +91,6 @@ fn try_join(t: Tally, a: u8, b: u8, e: u8, p: Sides) -> Tally
     join(t, a, b, e, p)
 }
 
-// Does the mark of a B rule's code hold of the two parts? Most rules have none.
-fn allows_split(k: SpanMarks, code: u64, left: usize, len: usize) -> bool
-    requires { ⌜ (left ≤ len) × (len ≤ 64) ⌝ }
-    ensures { λ r. ⌜ Says r (BinaryBy k len (binaryMark (mark code)) left) ⌝ }
-{
-    if mark_of(code) == 0 {
-        return true;
-    }
-    allows_binary(k, binary_mark_of(code), left, len)
-}
-
-// Try the rule of a code with `left` tokens on its left, its parts being the sides.
-fn try_split(t: Tally, code: u64, p: Sides, k: SpanMarks, left: usize, len: usize) -> Tally
-    requires { ⌜ (left ≤ len) × (len ≤ 64) ⌝ }
-    ensures { λ u. ⌜ Took (SplitFits p k len left (decode code .clause))
-        (SplitBelow p (decode code .clause)) (decode code .left) t u ⌝ }
-{
-    if kind_of(code) < 3 {
-        return t;
-    }
-    let b = first_of(code);
-    if !has(p.left.one, b) {
-        return t;
-    }
-    let e = second_of(code);
-    if !has(p.right.one, e) {
-        return t;
-    }
-    if !allows_split(k, code, left, len) {
-        return t;
-    }
-    join(t, left_of(code), b, e, p)
-}
-
-// Where the codes of B rules stand: all of them from `from` to below `to`.
-pub struct Stretch {
-    pub from: usize,
-    pub to: usize,
-}
-
-// The place of the first B rule, or the number of rules.
-fn first_binary(codes: &[u64]) -> usize
-    ensures { λ r. ⌜ (r ≤ length (now (codes .entry))) × Unpaired (now (codes .entry)) 0 r ⌝ }
-{
-    let mut i = 0;
-    while i < codes.len() {
-        if 3 <= kind_of(codes[i]) {
-            return i;
-        }
-        i += 1;
-    }
-    i
-}
-
-// The place past the last one, or 0.
-fn past_binary(codes: &[u64]) -> usize
-    ensures { λ r. ⌜ (r ≤ length (now (codes .entry))) × Unpaired (now (codes .entry)) r
-        (length (now (codes .entry))) ⌝ }
-{
-    let mut i = codes.len();
-    while 0 < i {
-        let j = i - 1;
-        if 3 <= kind_of(codes[j]) {
-            return i;
-        }
-        i = j;
-    }
-    i
-}
-
-// Where they stand.
-pub fn binaries(codes: &[u64]) -> Stretch
-    ensures { λ r. ⌜ Stretches (now (codes .entry)) r ⌝ }
-{
-    let from = first_binary(codes);
-    let to = past_binary(codes);
-    Stretch { from, to }
-}
-
-// Try each rule with `left` tokens on its left: only B rules stand so.
-fn try_splits(
-    t: Tally,
-    codes: &[u64],
-    s: Stretch,
-    p: Sides,
-    k: SpanMarks,
-    left: usize,
-    len: usize,
-) -> Tally
-    requires { ⌜ (left ≤ len) × (len ≤ 64) ⌝ }
-    requires { ⌜ Stretches (now codes) s ⌝ }
-    ensures { λ u. ⌜ SplitRow p k len left (decoded (now (codes .entry))) t
-        (length (decoded (now (codes .entry)))) u ⌝ }
-{
-    let to = s.to;
-    let mut u = t;
-    let mut i = s.from;
-    while i < to {
-        u = try_split(u, codes[i], p, k, left, len);
-        i += 1;
-    }
-    u
-}
-
-// The same, but where a part has no tree at all: no rule stands there.
-fn try_parts(
-    t: Tally,
-    codes: &[u64],
-    s: Stretch,
-    p: Sides,
-    k: SpanMarks,
-    left: usize,
-    len: usize,
-) -> Tally
-    requires { ⌜ (left ≤ len) × (len ≤ 64) ⌝ }
-    requires { ⌜ Stretches (now codes) s ⌝ }
-    ensures { λ u. ⌜ SplitRow p k len left (decoded (now (codes .entry))) t
-        (length (decoded (now (codes .entry)))) u ⌝ }
-{
-    if p.left.one == 0 {
-        return t;
-    }
-    if p.right.one == 0 {
-        return t;
-    }
-    try_splits(t, codes, s, p, k, left, len)
-}
-
-// The span's pair.
-fn pair_of(words: &[u64], n: usize, start: usize, len: usize) -> Pair
-    requires { ⌜ Room (now words) n start len ⌝ }
-    ensures { λ r. ⌜ r ≡ pairOf (now (words .entry)) n start len ⌝ }
-{
-    let at = 2 * pair_at(n, start, len);
-    Pair {
-        one: words[at],
-        two: words[at + 1],
-    }
-}
-
-// The pairs of the two parts of the span, cut after `left` tokens.
-fn cut(words: &[u64], n: usize, start: usize, len: usize, left: usize) -> Sides
-    requires { ⌜ Room (now words) n start len ⌝ }
-    requires { ⌜ left ≤ len ⌝ }
-    ensures { λ r. ⌜ r ≡ sidesAt (now (words .entry)) n start len left ⌝ }
-{
-    let l = pair_of(words, n, start, left);
-    let r = pair_of(words, n, start + left, len - left);
-    Sides { left: l, right: r }
-}
-
 // The tally before any rule.
 pub fn blank() -> Tally
     ensures { λ r. ⌜ r ≡ none ⌝ }
@@ -267,24 +100,6 @@ pub fn blank() -> Tally
         one: 0,
         two: 0,
     }
-}
-
-// What stands over the span with a token or more on either side.
-fn splits(words: &[u64], n: usize, codes: &[u64], start: usize, len: usize, k: SpanMarks) -> Tally
-    requires { ⌜ Room (now words) n start len ⌝ }
-    requires { ⌜ 0 < len ⌝ }
-    ensures { λ t. ⌜ Splits (now (words .entry)) n start len k (decoded (now (codes .entry))) len
-        t ⌝ }
-{
-    let s = binaries(codes);
-    let mut t = blank();
-    let mut left = 1;
-    while left < len {
-        let p = cut(words, n, start, len, left);
-        t = try_parts(t, codes, s, p, k, left, len);
-        left += 1;
-    }
-    t
 }
 
 // Try a rule for no token or one.
@@ -307,21 +122,6 @@ pub fn try_leaf(t: Tally, r: Rule, k: SpanMarks, len: usize) -> Tally
         Clause::Unary(_, _) => t,
         Clause::Binary(_, _, _) => t,
     }
-}
-
-// What stands over no token or one by itself.
-pub fn leaves(codes: &[u64], k: SpanMarks, len: usize) -> Tally
-    ensures { λ t. ⌜ Leaves k len (decoded (now (codes .entry)))
-        (length (decoded (now (codes .entry)))) t ⌝ }
-{
-    let mut t = blank();
-    let mut i = 0;
-    while i < codes.len() {
-        let r = rule_of(codes[i]);
-        t = try_leaf(t, r, k, len);
-        i += 1;
-    }
-    t
 }
 
 // Try a unary clause `b` for `a` over the span that the tally is of.
@@ -381,80 +181,9 @@ pub fn try_beside(t: Tally, a: u8, b: u8, e: u8, one: u64, two: u64, len: usize)
     try_right_empty(u, a, b, e, one, two)
 }
 
-// Try the rule of a code, where it has the whole span on one side.
-fn try_wide(t: Tally, code: u64, k: SpanMarks, one: u64, two: u64, len: usize) -> Tally
-    ensures { λ u. ⌜ WholeSide one two k len (decode code .left) (decode code .clause) t u ⌝ }
-{
-    let kind = kind_of(code);
-    if kind < 2 {
-        return t;
-    }
-    let a = left_of(code);
-    let b = first_of(code);
-    if kind == 2 {
-        return try_unary(t, a, b, unary_mark_of(code), k);
-    }
-    try_beside(t, a, b, second_of(code), one, two, len)
-}
-
-// A pass over the rules, the last one first: it reads what it adds.
-fn pass(t: Tally, codes: &[u64], k: SpanMarks, one: u64, two: u64, len: usize) -> Tally
-    ensures { λ u. ⌜ Pass one two k len (decoded (now (codes .entry))) t 0 u ⌝ }
-{
-    let mut u = t;
-    let mut i = codes.len();
-    while 0 < i {
-        i -= 1;
-        u = try_wide(u, codes[i], k, one, two, len);
-    }
-    u
-}
-
-// Passes from the inner tally `b` on, until one adds nothing.
-fn passes(b: Tally, codes: &[u64], k: SpanMarks, one: u64, two: u64, len: usize) -> Tally
-    ensures { λ t. ⌜ Saturated one two k len (decoded (now (codes .entry))) b t ⌝ }
-{
-    let mut t = b;
-    loop {
-        let s = Tally {
-            seen: b.seen,
-            one: t.one,
-            two: t.two,
-        };
-        let u = pass(s, codes, k, one, two, len);
-        if unchanged(t.one, t.two, u.one, u.two) {
-            return t;
-        }
-        t = u;
-    }
-}
-
-// The same, but where nothing stands at first: then nothing ever does.
-pub fn saturate(b: Tally, codes: &[u64], k: SpanMarks, one: u64, two: u64, len: usize) -> Tally
-    ensures { λ t. ⌜ Saturated one two k len (decoded (now (codes .entry))) b t ⌝ }
-{
-    if b.one == 0 {
-        return b;
-    }
-    passes(b, codes, k, one, two, len)
-}
-
 // Are the words as they were?
 pub fn unchanged(f: u64, g: u64, a: u64, b: u64) -> bool
     ensures { λ r. ⌜ Says r ((a ≡ f) × (b ≡ g)) ⌝ }
 {
     if a == f { b == g } else { false }
-}
-
-// Settle the span of two tokens or more, whose marks are `k`.
-pub fn close(words: &mut [u64], n: usize, codes: &[u64], k: SpanMarks, start: usize, len: usize)
-    requires { ⌜ Room (now words) n start len ⌝ }
-    requires { ⌜ 2 ≤ len ⌝ }
-    ensures { λ r. ⌜ Joins (now (words .entry)) (now (words .exit)) (decoded (now (codes .entry))) n
-        start len k ⌝ }
-{
-    let b = splits(words, n, codes, start, len, k);
-    let t = saturate(b, codes, k, words[0], words[1], len);
-    let p = pair_at(n, start, len);
-    write(words, p, t.one, t.two);
 }

@@ -2,27 +2,28 @@
 // candidate may be passed over if an earlier one that has its first h cells has two trees where it
 // has.
 use candidates::Candidate;
-use chart::empty_pair;
-use chart::fill;
-use chart::hopeless;
-use chart::leaf_pair;
+use cuts::Pair;
 use equivalents::slack;
+use filling::empty_pair;
+use filling::leaf_pair;
 use grammar::Cell;
-use joins::Pair;
+use grammar::Grammar;
 use marks::Draft;
+use refilling::give;
+use refilling::give_empty;
+use refilling::no_two;
+use refilling::refill;
 use sets::has;
 use spans::in_second;
-use spans::pair_at;
 use spans::write;
 ghost use mathlib.Core.Path.{_≡_};
 ghost use mathlib.Core.Bool.{true, false};
 ghost use Prim.Native.Nat.{_+_, _*_, _≤_, _<_};
 ghost use lib.ListN.{length};
 ghost use Rattle.sets.specs.Says.{Says};
-ghost use Rattle.codes.specs.Codes.{decoded};
 ghost use Rattle.grammar.specs.Trees.{TwoTrees};
-ghost use Rattle.grammar.specs.SpanSheet.{pairs, pairAt};
-ghost use Rattle.spans.specs.Changes.{Past, WrotePair};
+ghost use Rattle.grammar.specs.SpanSheet.{pairs};
+ghost use Rattle.spans.specs.Changes.{Past};
 ghost use Rattle.grammar.specs.Candidates.{sentence};
 ghost use Rattle.grammar.specs.Candidates as Of;
 ghost use Rattle.candidates.specs.Terminals.{Among};
@@ -34,7 +35,8 @@ ghost use Rattle.equivalents.specs.Twins.{Renames, Replaceable};
 ghost use Rattle.pruning.specs.Tables.{Small, Slot, Laid, United, Gathered, Tabled};
 ghost use Rattle.pruning.specs.Refuting.{Standing, Moved, Rises, terminalAt, Turned, Loose};
 ghost use Rattle.pruning.specs.Refuting.{Poised, PositionTried, Ended, Spent, Struck, Done};
-ghost use Rattle.grammar.specs.Distinct.{Distinct};
+ghost use Rattle.grammar.specs.Content.{rules, Formed};
+ghost use Rattle.refilling.specs.Kept.{Mirrored};
 
 // The candidate's sentence of n tokens, of which the first `known` count.
 fn draft(c: Candidate, n: usize, known: usize) -> Draft
@@ -83,13 +85,23 @@ fn rises(c: Candidate, n: usize, i: usize) -> bool
 }
 
 // Try the position at i of the candidate c: is it refuted? If not, the words are filled with it.
-fn shut(codes: &[u64], c: Candidate, n: usize, i: usize, h: usize, words: &mut [u64]) -> bool
+fn shut(
+    g: Grammar,
+    c: Candidate,
+    n: usize,
+    i: usize,
+    h: usize,
+    words: &mut [u64],
+    cuts: &mut [u64],
+) -> bool
     requires { ⌜ (n ≤ 7) × (i < n) × LowSteps (cells c 0 n) × (h ≤ i) ⌝ }
-    requires { ⌜ Distinct (decoded (now codes)) ⌝ }
+    requires { ⌜ Formed g ⌝ }
     requires { ⌜ 2 * pairs n ≤ length (now words) ⌝ }
-    requires { ⌜ Standing (decoded (now codes)) n i (cells c 0 n) (now words) ⌝ }
-    ensures { λ r. ⌜ PositionTried r (decoded (now (codes .entry))) n h i (cells c 0 n)
-        (now (words .entry)) (now (words .exit)) ⌝ }
+    requires { ⌜ Standing (rules g) n i (cells c 0 n) (now words) ⌝ }
+    requires { ⌜ Mirrored (rules g) n (now words) (now cuts) ⌝ }
+    ensures { λ r. ⌜ PositionTried r (rules g) n h i (cells c 0 n) (now (words .entry))
+        (now (words .exit)) ⌝ }
+    ensures { λ r. ⌜ Mirrored (rules g) n (now (words .exit)) (now (cuts .exit)) ⌝ }
 {
     if !rises(c, n, i) {
         return true;
@@ -98,18 +110,28 @@ fn shut(codes: &[u64], c: Candidate, n: usize, i: usize, h: usize, words: &mut [
         return true;
     }
     let d = draft(c, n, i + 1);
-    hopeless(words, d, codes, i, n)
+    no_two(words, cuts, d, g, i, n)
 }
 
 // Has a candidate that shares the first i cells of c, and has its terminals, perhaps two trees and
 // no twin?
-fn places(codes: &[u64], c: Candidate, n: usize, i: usize, h: usize, words: &mut [u64]) -> bool
+fn places(
+    g: Grammar,
+    c: Candidate,
+    n: usize,
+    i: usize,
+    h: usize,
+    words: &mut [u64],
+    cuts: &mut [u64],
+) -> bool
     requires { ⌜ (n ≤ 7) × (i ≤ n) × LowSteps (cells c 0 n) × (h ≤ i) ⌝ }
-    requires { ⌜ Distinct (decoded (now codes)) ⌝ }
+    requires { ⌜ Formed g ⌝ }
     requires { ⌜ 2 * pairs n ≤ length (now words) ⌝ }
-    requires { ⌜ Standing (decoded (now codes)) n i (cells c 0 n) (now words) ⌝ }
-    ensures { λ r. ⌜ Ended r (decoded (now (codes .entry))) n h i (cells c 0 n) (now (words .entry))
+    requires { ⌜ Standing (rules g) n i (cells c 0 n) (now words) ⌝ }
+    requires { ⌜ Mirrored (rules g) n (now words) (now cuts) ⌝ }
+    ensures { λ r. ⌜ Ended r (rules g) n h i (cells c 0 n) (now (words .entry))
         (now (words .exit)) ⌝ }
+    ensures { λ r. ⌜ Mirrored (rules g) n (now (words .exit)) (now (cuts .exit)) ⌝ }
 {
     if i == n {
         return true;
@@ -117,11 +139,11 @@ fn places(codes: &[u64], c: Candidate, n: usize, i: usize, h: usize, words: &mut
     let mut k: usize = 0;
     while k < 3 * n {
         let m = moved(c, n, i, k);
-        if shut(codes, m, n, i, h, words) {
+        if shut(g, m, n, i, h, words, cuts) {
             k += 1;
             continue;
         }
-        if places(codes, m, n, i + 1, h, words) {
+        if places(g, m, n, i + 1, h, words, cuts) {
             return true;
         }
         k += 1;
@@ -131,19 +153,29 @@ fn places(codes: &[u64], c: Candidate, n: usize, i: usize, h: usize, words: &mut
 
 // The positions of c, all its terminals being fixed: the same, and where all are refuted the spans
 // of tokens from b on are filled for open positions again.
-fn positions(codes: &[u64], c: Candidate, n: usize, b: usize, h: usize, words: &mut [u64]) -> bool
+fn positions(
+    g: Grammar,
+    c: Candidate,
+    n: usize,
+    b: usize,
+    h: usize,
+    words: &mut [u64],
+    cuts: &mut [u64],
+) -> bool
     requires { ⌜ (n ≤ 7) × (b ≤ n) × LowSteps (cells c 0 n) × (h ≤ b) ⌝ }
-    requires { ⌜ Distinct (decoded (now codes)) ⌝ }
+    requires { ⌜ Formed g ⌝ }
     requires { ⌜ 2 * pairs n ≤ length (now words) ⌝ }
-    requires { ⌜ Standing (decoded (now codes)) n b (cells c 0 n) (now words) ⌝ }
-    ensures { λ r. ⌜ Spent r (decoded (now (codes .entry))) n h b (cells c 0 n) (now (words .entry))
+    requires { ⌜ Standing (rules g) n b (cells c 0 n) (now words) ⌝ }
+    requires { ⌜ Mirrored (rules g) n (now words) (now cuts) ⌝ }
+    ensures { λ r. ⌜ Spent r (rules g) n h b (cells c 0 n) (now (words .entry))
         (now (words .exit)) ⌝ }
+    ensures { λ r. ⌜ Mirrored (rules g) n (now (words .exit)) (now (cuts .exit)) ⌝ }
 {
-    if places(codes, c, n, b, h, words) {
+    if places(g, c, n, b, h, words, cuts) {
         return true;
     }
     let d = draft(c, n, b);
-    hopeless(words, d, codes, b, n);
+    no_two(words, cuts, d, g, b, n);
     false
 }
 
@@ -164,20 +196,10 @@ fn turned(c: Candidate, n: usize, j: usize, x: u8) -> Candidate
     )
 }
 
-// Give the token at j a pair.
-fn give(words: &mut [u64], n: usize, j: usize, one: u64, two: u64)
-    requires { ⌜ (n ≤ 7) × (j < n) ⌝ }
-    requires { ⌜ 2 * pairs n ≤ length (now words) ⌝ }
-    ensures { λ r. ⌜ WrotePair (now (words .entry)) (now (words .exit)) (pairAt n j 1) one two ⌝ }
-{
-    let p = pair_at(n, j, 1);
-    write(words, p, one, two);
-}
-
 // Try the terminal x of c at j, whose pair the table has: is it refuted? The words are filled with
 // it.
 fn struck(
-    codes: &[u64],
+    g: Grammar,
     set: u64,
     table: &[u64],
     c: Candidate,
@@ -186,26 +208,29 @@ fn struck(
     j: usize,
     x: u8,
     words: &mut [u64],
+    cuts: &mut [u64],
 ) -> bool
     requires { ⌜ (n ≤ 7) × (b ≤ j) × (j < n) × LowSteps (cells c 0 n) ⌝ }
-    requires { ⌜ Distinct (decoded (now codes)) ⌝ }
+    requires { ⌜ Formed g ⌝ }
     requires { ⌜ 2 * pairs n ≤ length (now words) ⌝ }
-    requires { ⌜ Tabled (decoded (now codes)) set (now table) × Among set x
+    requires { ⌜ Tabled (rules g) set (now table) × Among set x
         × (terminalAt (cells c 0 n) j ≡ x) ⌝ }
-    requires { ⌜ Loose (decoded (now codes)) set n b j (cells c 0 n) (now words) ⌝ }
-    ensures { λ r. ⌜ Struck r (decoded (now (codes .entry))) set n b j (cells c 0 n)
-        (now (words .entry)) (now (words .exit)) ⌝ }
+    requires { ⌜ Loose (rules g) set n b j (cells c 0 n) (now words) ⌝ }
+    requires { ⌜ Mirrored (rules g) n (now words) (now cuts) ⌝ }
+    ensures { λ r. ⌜ Struck r (rules g) set n b j (cells c 0 n) (now (words .entry))
+        (now (words .exit)) ⌝ }
+    ensures { λ r. ⌜ Mirrored (rules g) n (now (words .exit)) (now (cuts .exit)) ⌝ }
 {
     let at = 2 * (x as usize);
-    give(words, n, j, table[at], table[at + 1]);
+    give(words, cuts, g, n, j, table[at], table[at + 1]);
     let d = draft(c, n, b);
-    hopeless(words, d, codes, b, j + 1)
+    no_two(words, cuts, d, g, b, j + 1)
 }
 
 // Has a candidate that shares the first b cells of c, and has its terminals from j on, perhaps two
 // trees and no twin?
 fn terms(
-    codes: &[u64],
+    g: Grammar,
     set: u64,
     kept: u64,
     table: &[u64],
@@ -215,18 +240,21 @@ fn terms(
     h: usize,
     j: usize,
     words: &mut [u64],
+    cuts: &mut [u64],
 ) -> bool
     requires { ⌜ (n ≤ 7) × (b ≤ j) × (j ≤ n) × LowSteps (cells c 0 n) × (h ≤ b)
-        × Renames (decoded (now codes)) set kept ⌝ }
-    requires { ⌜ Distinct (decoded (now codes)) ⌝ }
+        × Renames (rules g) set kept ⌝ }
+    requires { ⌜ Formed g ⌝ }
     requires { ⌜ 2 * pairs n ≤ length (now words) ⌝ }
-    requires { ⌜ Tabled (decoded (now codes)) set (now table) ⌝ }
-    requires { ⌜ Poised (decoded (now codes)) set n b j (cells c 0 n) (now words) ⌝ }
-    ensures { λ r. ⌜ Done r (decoded (now (codes .entry))) set n h b j (cells c 0 n)
-        (now (words .entry)) (now (words .exit)) ⌝ }
+    requires { ⌜ Tabled (rules g) set (now table) ⌝ }
+    requires { ⌜ Poised (rules g) set n b j (cells c 0 n) (now words) ⌝ }
+    requires { ⌜ Mirrored (rules g) n (now words) (now cuts) ⌝ }
+    ensures { λ r. ⌜ Done r (rules g) set n h b j (cells c 0 n) (now (words .entry))
+        (now (words .exit)) ⌝ }
+    ensures { λ r. ⌜ Mirrored (rules g) n (now (words .exit)) (now (cuts .exit)) ⌝ }
 {
     if j == b {
-        return positions(codes, c, n, b, h, words);
+        return positions(g, c, n, b, h, words, cuts);
     }
     let i = j - 1;
     let mut x: u8 = 0;
@@ -236,16 +264,16 @@ fn terms(
             continue;
         }
         let m = turned(c, n, i, x);
-        if struck(codes, set, table, m, n, b, i, x, words) {
+        if struck(g, set, table, m, n, b, i, x, words, cuts) {
             x += 1;
             continue;
         }
-        if terms(codes, set, kept, table, m, n, b, h, i, words) {
+        if terms(g, set, kept, table, m, n, b, h, i, words, cuts) {
             return true;
         }
         x += 1;
     }
-    give(words, n, i, table[128], table[129]);
+    give(words, cuts, g, n, i, table[128], table[129]);
     false
 }
 
@@ -263,50 +291,62 @@ fn slot(c: Candidate, b: usize, n: usize, i: usize) -> usize
 }
 
 // Give all tokens and the empty word their first pairs.
-fn lay(words: &mut [u64], table: &[u64], c: Candidate, n: usize, b: usize)
+fn lay(
+    g: Grammar,
+    table: &[u64],
+    c: Candidate,
+    n: usize,
+    b: usize,
+    words: &mut [u64],
+    cuts: &mut [u64],
+)
     requires { ⌜ (n ≤ 7) × Small (cells c 0 n) b ⌝ }
     requires { ⌜ 2 * pairs n ≤ length (now words) ⌝ }
     requires { ⌜ length (now table) ≡ 132 ⌝ }
+    requires { ⌜ Mirrored (rules g) n (now words) (now cuts) ⌝ }
     ensures { λ r. ⌜ Laid (now (table .entry)) (cells c 0 n) n b (now (words .entry))
         (now (words .exit)) ⌝ }
+    ensures { λ r. ⌜ Mirrored (rules g) n (now (words .exit)) (now (cuts .exit)) ⌝ }
 {
     let mut i: usize = 0;
     while i < n {
         let at = 2 * slot(c, b, n, i);
-        give(words, n, i, table[at], table[at + 1]);
+        give(words, cuts, g, n, i, table[at], table[at + 1]);
         i += 1;
     }
-    write(words, 0, table[130], table[131]);
+    give_empty(words, cuts, g, n, table[130], table[131]);
 }
 
 // Fill the words for the candidate's first b cells, all others being open.
 fn begin(
-    codes: &[u64],
+    g: Grammar,
     set: u64,
     table: &[u64],
     c: Candidate,
     n: usize,
     b: usize,
     words: &mut [u64],
+    cuts: &mut [u64],
 )
     requires { ⌜ (n ≤ 7) × (b ≤ n) × Of.Candidate (Among set) n (cells c 0 n) ⌝ }
-    requires { ⌜ Distinct (decoded (now codes)) ⌝ }
+    requires { ⌜ Formed g ⌝ }
     requires { ⌜ 2 * pairs n ≤ length (now words) ⌝ }
-    requires { ⌜ Tabled (decoded (now codes)) set (now table) ⌝ }
-    ensures { λ r. ⌜ Poised (decoded (now (codes .entry))) set n b n (cells c 0 n)
-        (now (words .exit)) ⌝ }
+    requires { ⌜ Tabled (rules g) set (now table) ⌝ }
+    requires { ⌜ Mirrored (rules g) n (now words) (now cuts) ⌝ }
+    ensures { λ r. ⌜ Poised (rules g) set n b n (cells c 0 n) (now (words .exit)) ⌝ }
     ensures { λ r. ⌜ Past (2 * pairs n) (now (words .entry)) (now (words .exit)) ⌝ }
+    ensures { λ r. ⌜ Mirrored (rules g) n (now (words .exit)) (now (cuts .exit)) ⌝ }
 {
-    lay(words, table, c, n, b);
+    lay(g, table, c, n, b, words, cuts);
     let d = draft(c, n, b);
-    fill(words, d, codes, 0, n);
+    refill(words, cuts, d, g, 0, n);
 }
 
 // Has each candidate that shares the first b cells of c and has two trees a twin that has its first
 // h cells? (Where the answer is no, one may have none.) Of the terminals past the first b cells
 // those that are kept are tried.
 pub fn twinned(
-    codes: &[u64],
+    g: Grammar,
     set: u64,
     kept: u64,
     table: &[u64],
@@ -315,57 +355,66 @@ pub fn twinned(
     b: usize,
     h: usize,
     words: &mut [u64],
+    cuts: &mut [u64],
 ) -> bool
     requires { ⌜ (n ≤ 7) × (b ≤ n) × Of.Candidate (Among set) n (cells c 0 n) × (h ≤ b)
-        × Renames (decoded (now codes)) set kept ⌝ }
-    requires { ⌜ Distinct (decoded (now codes)) ⌝ }
+        × Renames (rules g) set kept ⌝ }
+    requires { ⌜ Formed g ⌝ }
     requires { ⌜ 2 * pairs n ≤ length (now words) ⌝ }
-    requires { ⌜ Tabled (decoded (now codes)) set (now table) ⌝ }
-    ensures { λ r. ⌜ (r ≡ true → Replaceable (decoded (now (codes .entry))) set n b h (cells c 0 n))
+    requires { ⌜ Tabled (rules g) set (now table) ⌝ }
+    requires { ⌜ Mirrored (rules g) n (now words) (now cuts) ⌝ }
+    ensures { λ r. ⌜ (r ≡ true → Replaceable (rules g) set n b h (cells c 0 n))
         × Past (2 * pairs n) (now (words .entry)) (now (words .exit)) ⌝ }
+    ensures { λ r. ⌜ Mirrored (rules g) n (now (words .exit)) (now (cuts .exit)) ⌝ }
 {
-    begin(codes, set, table, c, n, b, words);
-    !terms(codes, set, kept, table, c, n, b, h, n, words)
+    begin(g, set, table, c, n, b, words, cuts);
+    !terms(g, set, kept, table, c, n, b, h, n, words, cuts)
 }
 
 // Is no candidate that shares the first b cells of c the first with two trees? (Where the answer is
 // no, one may be.)
 pub fn refutes(
-    codes: &[u64],
+    g: Grammar,
     set: u64,
     table: &[u64],
     c: Candidate,
     n: usize,
     b: usize,
     words: &mut [u64],
+    cuts: &mut [u64],
 ) -> bool
     requires { ⌜ (n ≤ 7) × (b ≤ n) × Of.Candidate (Among set) n (cells c 0 n) ⌝ }
-    requires { ⌜ Distinct (decoded (now codes)) ⌝ }
+    requires { ⌜ Formed g ⌝ }
     requires { ⌜ 2 * pairs n ≤ length (now words) ⌝ }
-    requires { ⌜ Tabled (decoded (now codes)) set (now table) ⌝ }
-    ensures { λ r. ⌜ (r ≡ true → Replaceable (decoded (now (codes .entry))) set n b 0 (cells c 0 n))
+    requires { ⌜ Tabled (rules g) set (now table) ⌝ }
+    requires { ⌜ Mirrored (rules g) n (now words) (now cuts) ⌝ }
+    ensures { λ r. ⌜ (r ≡ true → Replaceable (rules g) set n b 0 (cells c 0 n))
         × Past (2 * pairs n) (now (words .entry)) (now (words .exit)) ⌝ }
+    ensures { λ r. ⌜ Mirrored (rules g) n (now (words .exit)) (now (cuts .exit)) ⌝ }
 {
-    twinned(codes, set, set, table, c, n, b, 0, words)
+    twinned(g, set, set, table, c, n, b, 0, words, cuts)
 }
 
 // Has the candidate two trees?
 pub fn has_two(
-    codes: &[u64],
+    g: Grammar,
     set: u64,
     table: &[u64],
     c: Candidate,
     n: usize,
     words: &mut [u64],
+    cuts: &mut [u64],
 ) -> bool
     requires { ⌜ (n ≤ 7) × Of.Candidate (Among set) n (cells c 0 n) ⌝ }
-    requires { ⌜ Distinct (decoded (now codes)) ⌝ }
+    requires { ⌜ Formed g ⌝ }
     requires { ⌜ 2 * pairs n ≤ length (now words) ⌝ }
-    requires { ⌜ Tabled (decoded (now codes)) set (now table) ⌝ }
-    ensures { λ r. ⌜ Says r (TwoTrees (decoded (now (codes .entry))) 0 (sentence (cells c 0 n)))
+    requires { ⌜ Tabled (rules g) set (now table) ⌝ }
+    requires { ⌜ Mirrored (rules g) n (now words) (now cuts) ⌝ }
+    ensures { λ r. ⌜ Says r (TwoTrees (rules g) 0 (sentence (cells c 0 n)))
         × Past (2 * pairs n) (now (words .entry)) (now (words .exit)) ⌝ }
+    ensures { λ r. ⌜ Mirrored (rules g) n (now (words .exit)) (now (cuts .exit)) ⌝ }
 {
-    begin(codes, set, table, c, n, n, words);
+    begin(g, set, table, c, n, n, words, cuts);
     in_second(words, n, 0, n, 0)
 }
 
@@ -378,12 +427,12 @@ fn united(a: u64, b: u64) -> u64
 
 // Fill the table with the pair of each terminal of the set, that of x at 2 x, and answer their
 // union: the pair of a token that may have any of them. The empty word's pair is `one` and `two`.
-fn leaves(codes: &[u64], set: u64, one: u64, two: u64, table: &mut [u64]) -> Pair
-    requires { ⌜ Distinct (decoded (now codes)) ⌝ }
-    requires { ⌜ EmptyPair (decoded (now codes)) one two ⌝ }
+fn leaves(g: Grammar, set: u64, one: u64, two: u64, table: &mut [u64]) -> Pair
+    requires { ⌜ Formed g ⌝ }
+    requires { ⌜ EmptyPair (rules g) one two ⌝ }
     requires { ⌜ length (now table) ≡ 132 ⌝ }
-    ensures { λ r. ⌜ Gathered (decoded (now (codes .entry))) set 64 (now (table .entry))
-        (now (table .exit)) (r .one) (r .two) ⌝ }
+    ensures { λ r. ⌜ Gathered (rules g) set 64 (now (table .entry)) (now (table .exit)) (r .one)
+        (r .two) ⌝ }
 {
     let mut any: u64 = 0;
     let mut twice: u64 = 0;
@@ -393,7 +442,7 @@ fn leaves(codes: &[u64], set: u64, one: u64, two: u64, table: &mut [u64]) -> Pai
             x += 1;
             continue;
         }
-        let l = leaf_pair(codes, x, one, two);
+        let l = leaf_pair(g, x, one, two);
         write(table, x as usize, l.one, l.two);
         any = united(any, l.one);
         twice = united(twice, l.two);
@@ -408,13 +457,13 @@ fn leaves(codes: &[u64], set: u64, one: u64, two: u64, table: &mut [u64]) -> Pai
 // Fill the table of the pairs that the search gives: at 2 x that of the terminal x, where the set
 // has it; at 128 that of a token that may have any terminal of the set; at 130 that of the empty
 // word.
-pub fn fill_table(codes: &[u64], set: u64, table: &mut [u64])
-    requires { ⌜ Distinct (decoded (now codes)) ⌝ }
+pub fn fill_table(g: Grammar, set: u64, table: &mut [u64])
+    requires { ⌜ Formed g ⌝ }
     requires { ⌜ length (now table) ≡ 132 ⌝ }
-    ensures { λ r. ⌜ Tabled (decoded (now (codes .entry))) set (now (table .exit)) ⌝ }
+    ensures { λ r. ⌜ Tabled (rules g) set (now (table .exit)) ⌝ }
 {
-    let e = empty_pair(codes);
-    let w = leaves(codes, set, e.one, e.two, table);
+    let e = empty_pair(g);
+    let w = leaves(g, set, e.one, e.two, table);
     write(table, 64, w.one, w.two);
     write(table, 65, e.one, e.two);
 }

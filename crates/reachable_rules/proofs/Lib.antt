@@ -1,3 +1,4 @@
+pub mod Same
 pub mod ReachLaws
 pub mod PickLaws
 pub mod TreeLaws

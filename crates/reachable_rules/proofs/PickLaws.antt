@@ -1,22 +1,20 @@
 -- The rules picked, one place after the other.
-use mathlib.Core.Path.{_≡_, sym, ap, _∙_, subst}
+use mathlib.Core.Path.{_≡_, refl, sym, ap, _∙_, subst}
 use mathlib.Core.Logic.{_⊎_, inl, inr, ⊎-elim}
-use mathlib.Core.List.{List, [], _∷_, _++_, List·Memᴰ, map-append}
+use mathlib.Core.List.{[], _∷_, _++_, List·Memᴰ, List·Memᴰ·head, List·Memᴰ·tail}
 use mathlib.Core.Option.{some}
-use Prim.Native.Nat.{ℕ, _+_, _<_}
+use Prim.Native.Nat.{ℕ, _+_, _≤_, _<_}
 use native.Mathlib.Omega.{arith}
-use native.Mathlib.Numerals.{add-one}
 use native.Mathlib.Decide.{decLt}
-use lib.ListN.{length, getD, take, set, length-append, List·getD-append}
-use lib.Seq.{getD-append-seam, take-suc-set}
+use lib.ListN.{length, getD, length-append, List·getD-append}
+use lib.Seq.{getD-append-seam}
 use Rattle.sets.specs.Sets.{In}
 use Rattle.grammar.specs.declared.Rule.{Rule}
+use Rattle.grammar.specs.Layout.{Every}
 use Rattle.grammar.specs.Trees.{Rules}
 use Rattle.acyclic.specs.Exact.{Exactly}
-use Rattle.codes.specs.Codes.{left, decode, decoded}
-use Rattle.codes.proofs.Laws.{coded-length, coded-at}
-use Rattle.order.proofs.Places.{no-rule, place, member, there}
-use Rattle.order.proofs.Exchanges.{from-there}
+use Rattle.tables.specs.Tables.{no-rule}
+use Rattle.tables.proofs.Places.{place, member, there, from-there}
 use Rattle.reachable_rules.specs.Reach.{Reached, Trimmed}
 use Rattle.reachable_rules.specs.Steps.{Picked}
 use Rattle.grammar.specs.Distinct.{Distinct}
@@ -118,11 +116,13 @@ module _ {g : Rules} {s i : ℕ} {out : Rules} (f : Picked g s i out) where
             (λ qe. pe ∙ sym qe) (last q (y .0))) (last p (x .0));
       }
 
--- a code is stored behind those that are kept
-pub stored-more : (out : List ℕ) (count c : ℕ) → count < length out
-    → decoded (take (count + 1) (set out count c)) ≡ decoded (take count out) ++ (decode c ∷ [])
-stored-more out count c h = rw (add-one count)
-    (ap decoded (take-suc-set out count c h) ∙ map-append decode (take count out) (c ∷ []))
+-- each rule picked is one of g
+pub picked-of : {g : Rules} {s i : ℕ} {out : Rules} → i ≤ length g → Picked g s i out → (r : Rule)
+    → List·Memᴰ r out → List·Memᴰ r g
+picked-of {g} {out = out} h f r m =
+    let p = place out m in
+    let y = f .of (p .0) (p .1) in
+    subst (λ (z : Rule). List·Memᴰ z g) (sym (y .2) ∙ p .2) (member g (y .0) (omega (arith, y .1)))
 
 -- all rules are passed
 pub picked-all : {g : Rules} {s : ℕ} {out : Rules} → Exactly s (Reached g)
@@ -133,10 +133,7 @@ picked-all {g} {s} {out} x f = record {
       let y = f .keeps (p .0) (p .1) (subst (λ (z : Rule). In s (z .left)) (sym (p .2))
       (x .all (r .left) h)) in
       subst (λ (z : Rule). List·Memᴰ z out) (y .2 ∙ p .2) (member out (y .0) (y .1));
-  of = λ r m.
-      let p = place out m in
-      let y = f .of (p .0) (p .1) in
-      subst (λ (z : Rule). List·Memᴰ z g) (sym (y .2) ∙ p .2) (member g (y .0) (y .1));
+  of = picked-of (omega arith) f;
   only = λ r m.
       let p = place out m in
       let y = f .of (p .0) (p .1) in
@@ -144,21 +141,7 @@ picked-all {g} {s} {out} x f = record {
   distinct = f .distinct;
 }
 
--- ---- by codes
-
-module _ {s i : ℕ} (cs : List ℕ) (a : ℕ) (h : i < length cs) (e : a ≡ left (getD cs i 0)) where
-  pub code-skip : {out : Rules} → (In s a → ⊥) → Picked (decoded cs) s i out
-      → Picked (decoded cs) s (i + 1) out
-  code-skip non f = picked-skip f
-      (λ m. non (subst (In s) (sym (e ∙ ap (λ (r : Rule). r .left) (coded-at cs no-rule i h))) m))
-
-  pub code-more : (out : List ℕ) (count : ℕ) → count < length out → In s a
-      → Picked (decoded cs) s i (decoded (take count out))
-      → Picked (decoded cs) s (i + 1) (decoded (take (count + 1) (set out count (getD cs i 0))))
-  code-more out count k m f =
-      let at = coded-at cs no-rule i h in
-      subst (Picked (decoded cs) s (i + 1))
-      (ap (λ (r : Rule). decoded (take count out) ++ (r ∷ [])) (sym at)
-      ∙ sym (stored-more out count (getD cs i 0) k))
-      (picked-more f (subst (λ (x : ℕ). i < x) (sym (coded-length cs)) h)
-      (subst (In s) (e ∙ ap (λ (r : Rule). r .left) at) m))
+-- what all members have
+pub every-member : {P : Rule → Type 0} (g : Rules) → ((r : Rule) → List·Memᴰ r g → P r) → Every P g
+every-member [] f = tt
+every-member (x ∷ g) f = (f x (List·Memᴰ·head refl), every-member g (λ r m. f r (List·Memᴰ·tail m)))

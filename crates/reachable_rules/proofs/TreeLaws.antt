@@ -4,7 +4,7 @@ use mathlib.Core.Logic.{_↔_}
 use Rattle.grammar.specs.Layout.{Word}
 use Rattle.grammar.specs.Trees.{Rules, Tree, root, Valid, valid-empty, valid-leaf, valid-unary}
 use Rattle.grammar.specs.Trees.{valid-binary, Witness, TwoTrees}
-use Rattle.order.proofs.Same.{two-over}
+use Rattle.reachable_rules.proofs.Same.{two-over}
 use Rattle.reachable_rules.specs.Reach.{Reached, start, by-unary, by-left, by-right, Trimmed}
 
 module _ {g g′ : Rules} (x : Trimmed g g′) where

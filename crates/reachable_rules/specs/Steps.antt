@@ -9,7 +9,7 @@ use Rattle.grammar.specs.declared.Rule.{Rule}
 use Rattle.grammar.specs.declared.Clause.{Clause}
 use Rattle.grammar.specs.declared.Clause.the-variants as Clause
 use Rattle.grammar.specs.Trees.{Rules}
-use Rattle.order.proofs.Places.{no-rule}
+use Rattle.tables.specs.Tables.{no-rule}
 use Rattle.grammar.specs.Distinct.{Distinct}
 
 -- the clause has Y

@@ -7,11 +7,12 @@ use dominance::needed;
 use equivalents::passable;
 use grammar::Grammar;
 use grammar::Sentence;
-use order::ordered;
 use pruning::fill_table;
 use pruning::has_two;
 use pruning::twinned;
 use reachable_rules::reachable;
+use refilling::open_sheet;
+use refilling::prepare;
 use sets::Member;
 use sets::first_from;
 use spans::clear;
@@ -19,7 +20,6 @@ use spans::size;
 ghost use mathlib.Core.Path.{_≡_};
 ghost use Prim.Native.Nat.{_+_, _*_, _≤_, _<_};
 ghost use lib.ListN.{length};
-ghost use Rattle.codes.specs.Codes.{decoded};
 ghost use Rattle.grammar.specs.Candidates as Of;
 ghost use Rattle.grammar.specs.Content.{rules, Formed};
 ghost use Rattle.grammar.specs.SpanSheet.{pairs};
@@ -33,7 +33,7 @@ ghost use Rattle.arrangement_numbers.specs.Blocks.{Few, least, room};
 ghost use mathlib.Core.Bool.{true};
 ghost use Rattle.share_search.specs.Searching.{Looked, Searched};
 ghost use Rattle.share_search.specs.Sharing.{Shared, Found};
-ghost use Rattle.grammar.specs.Distinct.{Distinct};
+ghost use Rattle.refilling.specs.Kept.{Prepared, Mirrored};
 ghost use Rattle.sweeping.specs.Cleared.{cleared};
 
 // The fewest of the first b cells such that no arrangement that has them has a number below
@@ -58,7 +58,7 @@ fn held(set: u64, c: Candidate, n: usize, b: usize, start: u64) -> usize
 // Has each candidate that shares the first b cells and has two trees a twin that has its first h
 // cells? (Where the answer is no, one may have none.)
 fn outdone(
-    codes: &[u64],
+    g: Grammar,
     set: u64,
     kept: u64,
     table: &[u64],
@@ -67,19 +67,22 @@ fn outdone(
     b: usize,
     h: usize,
     words: &mut [u64],
+    cuts: &mut [u64],
 ) -> bool
     requires { ⌜ (n ≤ 7) × (b ≤ n) × Of.Candidate (Among set) n (cells c 0 n) × (h ≤ b)
-        × Renames (decoded (now codes)) set kept ⌝ }
-    requires { ⌜ Distinct (decoded (now codes)) ⌝ }
+        × Renames (rules g) set kept ⌝ }
+    requires { ⌜ Formed g ⌝ }
     requires { ⌜ 2 * pairs n ≤ length (now words) ⌝ }
-    requires { ⌜ Tabled (decoded (now codes)) set (now table) ⌝ }
-    ensures { λ r. ⌜ (r ≡ true → Replaceable (decoded (now (codes .entry))) set n b h (cells c 0 n))
+    requires { ⌜ Tabled (rules g) set (now table) ⌝ }
+    requires { ⌜ Mirrored (rules g) n (now words) (now cuts) ⌝ }
+    ensures { λ r. ⌜ (r ≡ true → Replaceable (rules g) set n b h (cells c 0 n))
         × Past (2 * pairs n) (now (words .entry)) (now (words .exit)) ⌝ }
+    ensures { λ r. ⌜ Mirrored (rules g) n (now (words .exit)) (now (cuts .exit)) ⌝ }
 {
     if passable(set, kept, c, n, b, h) {
         return true;
     }
-    twinned(codes, set, kept, table, c, n, b, h, words)
+    twinned(g, set, kept, table, c, n, b, h, words, cuts)
 }
 
 // Is the lowest number from `start` on that has two trees none of those of the candidates that
@@ -87,7 +90,7 @@ fn outdone(
 // each candidate has a twin whose number is not. A block that goes past the end of the share is not
 // refuted but gone into. Where b is n and the answer is no, this one has two trees.
 fn look(
-    codes: &[u64],
+    g: Grammar,
     set: u64,
     kept: u64,
     table: &[u64],
@@ -98,21 +101,23 @@ fn look(
     end: u64,
     past: u64,
     words: &mut [u64],
+    cuts: &mut [u64],
 ) -> bool
     requires { ⌜ Few set n × (b ≤ n) × Of.Candidate (Among set) n (cells c 0 n)
-        × (past ≡ least set n b (cells c 0 n) + room set n b)
-        × Renames (decoded (now codes)) set kept ⌝ }
-    requires { ⌜ Distinct (decoded (now codes)) ⌝ }
+        × (past ≡ least set n b (cells c 0 n) + room set n b) × Renames (rules g) set kept ⌝ }
+    requires { ⌜ Formed g ⌝ }
     requires { ⌜ 2 * pairs n ≤ length (now words) ⌝ }
-    requires { ⌜ Tabled (decoded (now codes)) set (now table) ⌝ }
-    ensures { λ r. ⌜ Looked r (decoded (now (codes .entry))) set n start b (cells c 0 n)
+    requires { ⌜ Tabled (rules g) set (now table) ⌝ }
+    requires { ⌜ Mirrored (rules g) n (now words) (now cuts) ⌝ }
+    ensures { λ r. ⌜ Looked r (rules g) set n start b (cells c 0 n)
         × Past (2 * pairs n) (now (words .entry)) (now (words .exit)) ⌝ }
+    ensures { λ r. ⌜ Mirrored (rules g) n (now (words .exit)) (now (cuts .exit)) ⌝ }
 {
     if past <= start {
         return true;
     }
     if b == n {
-        return !has_two(codes, set, table, c, n, words);
+        return !has_two(g, set, table, c, n, words, cuts);
     }
     if end < past {
         return false;
@@ -121,7 +126,7 @@ fn look(
     if b < h {
         return false;
     }
-    outdone(codes, set, kept, table, c, n, b, h, words)
+    outdone(g, set, kept, table, c, n, b, h, words, cuts)
 }
 
 // What the search finds: a candidate, its length, which is 0 where it finds none, and its number.
@@ -152,7 +157,7 @@ fn nothing() -> Hit
 // rule it out, the search goes on past all that share them, else with a cell more; it ends where
 // the numbers of those that share them are past the end.
 fn search(
-    codes: &[u64],
+    g: Grammar,
     set: u64,
     kept: u64,
     table: &[u64],
@@ -161,15 +166,18 @@ fn search(
     start: u64,
     end: u64,
     words: &mut [u64],
+    cuts: &mut [u64],
 ) -> Hit
-    requires { ⌜ Few set n × Lowest set low × Renames (decoded (now codes)) set kept ⌝ }
-    requires { ⌜ Distinct (decoded (now codes)) ⌝ }
+    requires { ⌜ Few set n × Lowest set low × Renames (rules g) set kept ⌝ }
+    requires { ⌜ Formed g ⌝ }
     requires { ⌜ 2 * pairs n ≤ length (now words) ⌝ }
-    requires { ⌜ Tabled (decoded (now codes)) set (now table) ⌝ }
-    ensures { λ r. ⌜ Searched (decoded (now (codes .entry))) set n start end (r .length) (r .number)
+    requires { ⌜ Tabled (rules g) set (now table) ⌝ }
+    requires { ⌜ Prepared (rules g) (now cuts) ⌝ }
+    ensures { λ r. ⌜ Searched (rules g) set n start end (r .length) (r .number)
         (cells (r .candidate) 0 n) ⌝ }
     ensures { λ r. ⌜ Past (2 * pairs n) (now (words .entry)) (now (words .exit)) ⌝ }
 {
+    open_sheet(words, cuts, g, n);
     let mut c = Candidate::first(set, low, n);
     let mut b: usize = 0;
     loop {
@@ -178,7 +186,7 @@ fn search(
             return nothing();
         }
         let past = k.low + k.size;
-        if look(codes, set, kept, table, c, n, b, start, end, past, words) {
+        if look(g, set, kept, table, c, n, b, start, end, past, words, cuts) {
             let s = c.successor(set, low, n, b);
             if !s.more {
                 return nothing();
@@ -201,7 +209,7 @@ fn search(
 
 // The same, the pairs of the set's terminals being worked out first.
 fn search_over(
-    codes: &[u64],
+    g: Grammar,
     set: u64,
     kept: u64,
     low: u8,
@@ -210,16 +218,29 @@ fn search_over(
     end: u64,
     words: &mut [u64],
 ) -> Hit
-    requires { ⌜ Few set n × Lowest set low × Renames (decoded (now codes)) set kept ⌝ }
-    requires { ⌜ Distinct (decoded (now codes)) ⌝ }
+    requires { ⌜ Few set n × Lowest set low × Renames (rules g) set kept ⌝ }
+    requires { ⌜ Formed g ⌝ }
     requires { ⌜ 2 * pairs n ≤ length (now words) ⌝ }
-    ensures { λ r. ⌜ Searched (decoded (now (codes .entry))) set n start end (r .length) (r .number)
+    ensures { λ r. ⌜ Searched (rules g) set n start end (r .length) (r .number)
         (cells (r .candidate) 0 n) ⌝ }
     ensures { λ r. ⌜ Past (2 * pairs n) (now (words .entry)) (now (words .exit)) ⌝ }
 {
     let mut table: [u64; 132] = [0; 132];
-    fill_table(codes, set, &mut table[..]);
-    search(codes, set, kept, &table[..], low, n, start, end, words)
+    fill_table(g, set, &mut table[..]);
+    let mut cuts = [0u64; 3074];
+    prepare(&mut cuts, g);
+    search(
+        g,
+        set,
+        kept,
+        &table[..],
+        low,
+        n,
+        start,
+        end,
+        words,
+        &mut cuts,
+    )
 }
 
 // The lowest number from `start` to below `end` over the terminals of the sheet, by the rules that
@@ -239,12 +260,8 @@ fn find(g: Grammar, n: usize, start: u64, end: u64, words: &mut [u64]) -> Hit
         return nothing();
     };
     let kept = needed(g, set);
-    let codes = ordered(g);
-    let m = g.count;
-    let r = reachable(&codes[..m]);
-    let few = r.codes;
-    let f = r.count;
-    search_over(&few[..f], set, kept, low, n, start, end, words)
+    let few = reachable(g);
+    search_over(few, set, kept, low, n, start, end, words)
 }
 
 // What a share reports: the lowest number and its sentence, or no number and no token.

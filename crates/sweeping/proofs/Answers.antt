@@ -27,10 +27,6 @@ use Rattle.candidates.specs.Terminals.{Among}
 use Rattle.candidates.specs.Spelling.{LowSteps, Spells}
 use Rattle.candidates.proofs.Spelling.{low-steps}
 use Rattle.candidates.proofs.TerminalSets.{no-candidate, candidate-over}
-use Rattle.order.specs.Order.{Rearranged}
-use Rattle.order.proofs.Same.{two-same}
-use Rattle.reachable_rules.specs.Reach.{Trimmed}
-use Rattle.reachable_rules.proofs.TreeLaws.{two-trimmed}
 use Rattle.dominance.specs.Dominance.{Spared}
 use Rattle.dominance.proofs.Renaming.{renamed, renamed-candidate, renamed-two, renamed-before}
 use Rattle.sweeping.specs.Searching.{NoneShorter, Admits, Hits, Searched, hit, miss}
@@ -98,12 +94,6 @@ module _ {g g′ : Rules} {s : ℕ} (same : (w : Word) → TwoTrees g 0 w ↔ Tw
 pub admits-over : {g g′ : Rules} {l : ℕ} → ((w : Word) → TwoTrees g 0 w ↔ TwoTrees g′ 0 w)
     → Admits g l → Admits g′ l
 admits-over same v = record { all = λ w low high t. v .all w low high (same w .1 t) }
-
--- the rules in another order, of which those are kept that 0 reaches
-pub same-two : {g g₁ g₂ : Rules} → Rearranged g g₁ → Trimmed g₁ g₂ → (w : Word)
-    → TwoTrees g 0 w ↔ TwoTrees g₂ 0 w
-same-two o t w = let x = two-same o in let y = two-trimmed t in
-    (λ d. y .0 (x .0 d), λ d. x .1 (y .1 d))
 
 -- ---- the lengths
 

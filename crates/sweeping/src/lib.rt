@@ -7,11 +7,12 @@ use equivalents::slack;
 use grammar::Grammar;
 use grammar::Sentence;
 use lengths::Index;
-use order::ordered;
 use pruning::fill_table;
 use pruning::has_two;
 use pruning::refutes;
 use reachable_rules::reachable;
+use refilling::open_sheet;
+use refilling::prepare;
 use sets::Member;
 use sets::first_from;
 use sets::has;
@@ -21,7 +22,6 @@ use tried_count::tried;
 ghost use mathlib.Core.Path.{_≡_};
 ghost use Prim.Native.Nat.{_*_, _≤_};
 ghost use lib.ListN.{length};
-ghost use Rattle.codes.specs.Codes.{decoded};
 ghost use Rattle.grammar.specs.Candidates as Of;
 ghost use Rattle.grammar.specs.Content.{rules, Formed};
 ghost use Rattle.grammar.specs.SpanSheet.{pairs};
@@ -35,35 +35,38 @@ ghost use Rattle.lengths.specs.Indexes.{Exact};
 ghost use Rattle.tried_count.specs.Tried.{Tried};
 ghost use Rattle.sweeping.specs.Searching.{Looked, Admits, Searched};
 ghost use Rattle.sweeping.specs.Swept.{LengthsOf, Bounded, Swept, Found};
-ghost use Rattle.grammar.specs.Distinct.{Distinct};
+ghost use Rattle.refilling.specs.Kept.{Prepared, Mirrored};
 ghost use Rattle.tried_count.specs.Searched.{answerOf};
 ghost use Rattle.sweeping.specs.Cleared.{cleared};
 
 // Is none of the candidates that share the first b cells the first with two trees? Where b is n and
 // the answer is no, this one has two.
 fn look(
-    codes: &[u64],
+    g: Grammar,
     set: u64,
     table: &[u64],
     c: Candidate,
     n: usize,
     b: usize,
     words: &mut [u64],
+    cuts: &mut [u64],
 ) -> bool
     requires { ⌜ (n ≤ 7) × (b ≤ n) × Of.Candidate (Among set) n (cells c 0 n) ⌝ }
-    requires { ⌜ Distinct (decoded (now codes)) ⌝ }
+    requires { ⌜ Formed g ⌝ }
     requires { ⌜ 2 * pairs n ≤ length (now words) ⌝ }
-    requires { ⌜ Tabled (decoded (now codes)) set (now table) ⌝ }
-    ensures { λ r. ⌜ Looked r (decoded (now (codes .entry))) set n b (cells c 0 n)
+    requires { ⌜ Tabled (rules g) set (now table) ⌝ }
+    requires { ⌜ Mirrored (rules g) n (now words) (now cuts) ⌝ }
+    ensures { λ r. ⌜ Looked r (rules g) set n b (cells c 0 n)
         × Past (2 * pairs n) (now (words .entry)) (now (words .exit)) ⌝ }
+    ensures { λ r. ⌜ Mirrored (rules g) n (now (words .exit)) (now (cuts .exit)) ⌝ }
 {
     if 0 < b && slack(c, n, b, 0) {
         return true;
     }
     if b == n {
-        return !has_two(codes, set, table, c, n, words);
+        return !has_two(g, set, table, c, n, words, cuts);
     }
-    refutes(codes, set, table, c, n, b, words)
+    refutes(g, set, table, c, n, b, words, cuts)
 }
 
 // What the search finds: a candidate and its length, which is 0 where it finds none.
@@ -92,22 +95,23 @@ fn nothing() -> Hit
 // that share them, else with a cell more. Lengths that are not in the set `lengths` are passed
 // over.
 fn search(
-    codes: &[u64],
+    g: Grammar,
     set: u64,
     table: &[u64],
     low: u8,
     lengths: u64,
     k: usize,
     words: &mut [u64],
+    cuts: &mut [u64],
 ) -> Hit
     requires { ⌜ (1 ≤ k) × (k ≤ 7) ⌝ }
     requires { ⌜ Lowest set low ⌝ }
-    requires { ⌜ Distinct (decoded (now codes)) ⌝ }
-    requires { ⌜ Admits (decoded (now codes)) lengths ⌝ }
+    requires { ⌜ Formed g ⌝ }
+    requires { ⌜ Admits (rules g) lengths ⌝ }
     requires { ⌜ 2 * pairs k ≤ length (now words) ⌝ }
-    requires { ⌜ Tabled (decoded (now codes)) set (now table) ⌝ }
-    ensures { λ r. ⌜ Searched (decoded (now (codes .entry))) set k (r .length)
-        (cells (r .candidate) 0 (r .length)) ⌝ }
+    requires { ⌜ Tabled (rules g) set (now table) ⌝ }
+    requires { ⌜ Prepared (rules g) (now cuts) ⌝ }
+    ensures { λ r. ⌜ Searched (rules g) set k (r .length) (cells (r .candidate) 0 (r .length)) ⌝ }
     ensures { λ r. ⌜ Past (2 * pairs k) (now (words .entry)) (now (words .exit)) ⌝ }
 {
     let mut n: usize = 1;
@@ -119,10 +123,11 @@ fn search(
             n += 1;
             continue;
         }
+        open_sheet(words, cuts, g, n);
         let mut c = Candidate::first(set, low, n);
         let mut b: usize = 0;
         loop {
-            if look(codes, set, table, c, n, b, words) {
+            if look(g, set, table, c, n, b, words, cuts) {
                 let s = c.successor(set, low, n, b);
                 if !s.more {
                     break;
@@ -146,19 +151,20 @@ fn search(
 }
 
 // The same, the pairs of the set's terminals being worked out first.
-fn find_among(codes: &[u64], set: u64, low: u8, lengths: u64, k: usize, words: &mut [u64]) -> Hit
+fn find_among(g: Grammar, set: u64, low: u8, lengths: u64, k: usize, words: &mut [u64]) -> Hit
     requires { ⌜ (1 ≤ k) × (k ≤ 7) ⌝ }
     requires { ⌜ Lowest set low ⌝ }
-    requires { ⌜ Distinct (decoded (now codes)) ⌝ }
-    requires { ⌜ Admits (decoded (now codes)) lengths ⌝ }
+    requires { ⌜ Formed g ⌝ }
+    requires { ⌜ Admits (rules g) lengths ⌝ }
     requires { ⌜ 2 * pairs k ≤ length (now words) ⌝ }
-    ensures { λ r. ⌜ Searched (decoded (now (codes .entry))) set k (r .length)
-        (cells (r .candidate) 0 (r .length)) ⌝ }
+    ensures { λ r. ⌜ Searched (rules g) set k (r .length) (cells (r .candidate) 0 (r .length)) ⌝ }
     ensures { λ r. ⌜ Past (2 * pairs k) (now (words .entry)) (now (words .exit)) ⌝ }
 {
     let mut table: [u64; 132] = [0; 132];
-    fill_table(codes, set, &mut table[..]);
-    search(codes, set, &table[..], low, lengths, k, words)
+    fill_table(g, set, &mut table[..]);
+    let mut cuts = [0u64; 3074];
+    prepare(&mut cuts, g);
+    search(g, set, &table[..], low, lengths, k, words, &mut cuts)
 }
 
 // The first candidate of 1 to k tokens that has two trees, over the terminals of the sheet. It has
@@ -178,12 +184,8 @@ fn find(g: Grammar, lengths: u64, k: usize, words: &mut [u64]) -> Hit
     let Member::At(low) = f else {
         return nothing();
     };
-    let codes = ordered(g);
-    let m = g.count;
-    let r = reachable(&codes[..m]);
-    let few = r.codes;
-    let n = r.count;
-    find_among(&few[..n], set, low, lengths, k, words)
+    let few = reachable(g);
+    find_among(few, set, low, lengths, k, words)
 }
 
 // How many candidates a search up to k tried that found c, of n tokens, or nothing where n is 0:

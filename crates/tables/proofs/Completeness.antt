@@ -26,7 +26,7 @@ use Rattle.tables.specs.Tables.{Table, byTokens, Fits, Stand, Below, Aga
 use Rattle.tables.specs.Tables.Again.{apart, below}
 use Rattle.grammar.specs.Choices.{Same}
 use Rattle.tables.specs.Settled.{Told}
-use Rattle.order.proofs.Places.{place}
+use Rattle.tables.proofs.Places.{place}
 
 -- ---- the top of a tree
 

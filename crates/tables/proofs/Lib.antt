@@ -1,3 +1,4 @@
+pub mod Places
 pub mod RulePlaces
 pub mod Views
 pub mod Completeness

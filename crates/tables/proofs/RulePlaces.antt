@@ -7,7 +7,7 @@ use Rattle.grammar.proofs.Lists.{every-at}
 use Rattle.grammar.specs.declared.Grammar.{Grammar}
 use Rattle.grammar.specs.Trees.{Rules}
 use Rattle.grammar.specs.Content.{rules, SmallRule, Formed}
-use Rattle.order.proofs.Places.{there}
+use Rattle.tables.proofs.Places.{there}
 use Rattle.tables.specs.Tables.{no-rule, rule}
 use Rattle.grammar.specs.Distinct.{Alike, Distinct}
 

@@ -19,7 +19,7 @@ use Rattle.marks.proofs.Words.{part-cut, part-length}
 use Rattle.marks.proofs.HalfLaws.{is-one, does-keep, does-pair}
 use Rattle.tables.specs.Tables.{Table, byTokens, Fits, Stand, Below, Again, rule}
 use Rattle.tables.specs.Tables.Again.{apart, below}
-use Rattle.order.proofs.Places.{member}
+use Rattle.tables.proofs.Places.{member}
 use Rattle.tables.proofs.RulePlaces.{distinct-at}
 use Rattle.tables.proofs.Completeness.{Headed}
 use Rattle.grammar.specs.Distinct.{Alike, Distinct}

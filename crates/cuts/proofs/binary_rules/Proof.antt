@@ -8,8 +8,23 @@ places-from-requires c κs = (c .pre, omega arith)
 places-from-requires-2 : tie.Need-places-from-requires-2
 places-from-requires-2 c κs = (c .before .pre, omega arith)
 
+lefts-at-requires : tie.Need-lefts-at-requires
+lefts-at-requires c κs = (c .before .before .pre, omega arith, c .before .places-from .ensures)
+
+lefts-at-requires-2 : tie.Need-lefts-at-requires-2
+lefts-at-requires-2 c κs =
+    (c .before .before .before .pre, omega arith, c .before .places-from2 .ensures)
+
 returns : tie.Need-returns
-returns c = record { low = c .before .places-from .ensures; high = c .places-from2 .ensures }
+returns c =
+    let l = c .before in
+    let h = l .before in
+    record {
+      low = h .before .places-from .ensures;
+      high = h .places-from2 .ensures;
+      lows = l .lefts-at .ensures;
+      highs = c .lefts-at2 .ensures;
+    }
 
 pub binary-rules-spec : {M : Type 1} → statement M
 binary-rules-spec =
@@ -17,4 +32,6 @@ binary-rules-spec =
     (tie.spec
     places-from-requires
     places-from-requires-2
+    lefts-at-requires
+    lefts-at-requires-2
     returns)

@@ -13,20 +13,22 @@ use Rattle.cuts.specs.Cuts.{CutFits, CutBelow}
 use Rattle.cuts.specs.Puts.{Least}
 use Rattle.cuts.proofs.PutLaws.{rest-less}
 use Rattle.cuts.proofs.TryLaws.{cut-more, cut-skip}
-use Rattle.cuts.proofs.PlaceLaws.{Trying, trying-none, trying-next, trying-end}
+use Rattle.cuts.proofs.PlaceLaws.{Trying, trying-none, trying-next, trying-full}
+use Rattle.cuts.proofs.PlaceLaws.{trying-end}
 use Rattle.cuts.proofs.try_places.Statement.{statement}
 use Rattle.cuts.proofs.try_places.Tie as tie
 
 abbrev Inv-loop : tie.InvT-loop
-Inv-loop base set rows cols p w g u₀ rest₀ u rest = Trying rows cols p w (rules g) base set rest u
+Inv-loop base set lefts rows cols p w g u₀ rest₀ u rest =
+    Trying rows cols p w (rules g) base set rest u
 
 abbrev μ-loop : tie.MeasureT-loop
-μ-loop base set rows cols p w g u₀ rest₀ u rest = rest
+μ-loop base set lefts rows cols p w g u₀ rest₀ u rest = rest
 
 loop-holds : tie.Need-loop-holds Inv-loop μ-loop
 loop-holds c = let z = c .before .before in let a = z .args in
     trying-none (a .rows .now) (a .cols .now) (a .p) (a .w) (rules (a .t2)) (a .base) (a .set)
-    (a .t) (z .pre .1 .1)
+    (a .t) (z .pre .1 .1 .1)
 
 lowest-requires : tie.Need-lowest-requires Inv-loop μ-loop
 lowest-requires c κs = omega (arith, c .loop-test .taken)
@@ -73,29 +75,43 @@ has-requires c κs =
     (every-at SmallRule _ (rules g) (z .pre .0 .0 .small) (a .base + i)
     (omega (arith, z .pre .0 .0 .whole)))) .left
 
+covers-requires : tie.Need-covers-requires Inv-loop μ-loop
+covers-requires c κs = search needs
+
+returns : tie.Need-returns Inv-loop μ-loop
+returns c =
+    let k = c .before .before in
+    let z = k .before .before .before .before .before .before .before .before .before in
+    let a = z .args in
+    let l = k .before .before .before .before .before .before .loop in
+    trying-full (a .rows .now) (a .cols .now) (a .p) (a .w) (rules (a .t2)) (z .pre .0 .2) (l .inv)
+    (z .pre .1 .0) (c .before .covers .ensures (c .if2 .taken))
+
 loop-less : tie.Need-loop-less Inv-loop μ-loop
 loop-less c =
-    let l = c .before .before .before .before .before .before .loop in
+    let k = c .before .before in
+    let l = k .before .before .before .before .before .before .loop in
     let h : 0 < l .rest =
-    omega (arith, c .before .before .before .before .before .loop-test .taken) in
+    omega (arith, k .before .before .before .before .before .loop-test .taken) in
     rest-less (l .rest) h
 
 loop-again : tie.Need-loop-again Inv-loop μ-loop
 loop-again c =
-    let z = c .before .before .before .before .before .before .before .before .before in
+    let k = c .before .before in
+    let z = k .before .before .before .before .before .before .before .before .before in
     let a = z .args in
     let g = a .t2 in
-    let l = c .before .before .before .before .before .before .loop in
-    let i = c .before .before .before .place .result in
-    let m = subst (Least (l .rest)) (sym (c .before .before .before .place .ensures))
-    (c .before .before .before .before .lowest .ensures) in
+    let l = k .before .before .before .before .before .before .loop in
+    let i = k .before .before .before .place .result in
+    let m = subst (Least (l .rest)) (sym (k .before .before .before .place .ensures))
+    (k .before .before .before .before .lowest .ensures) in
     let y = z .pre .0 .2 .within i (l .inv .among i (m .member)) in
     let h : a .base + i < g .count = omega (arith, z .pre .0 .0 .whole) in
     trying-next (a .rows .now) (a .cols .now) (a .p) (a .w) (rules g) (z .pre .0 .2) (l .inv) m
     (cut-skip (a .rows .now) (a .cols .now) (a .p) (a .w) (rules g) (a .base + i) (l .u)
     (subst (λ (r : Rule). In (l .u .two) (r .left))
     (sym (getD-take (g .count) (g .rules) (a .base + i) no-rule h))
-    (c .before .has .ensures .is (c .if1 .taken))))
+    (k .before .has .ensures .is (k .if1 .taken))))
 
 try-rule-requires : tie.Need-try-rule-requires Inv-loop μ-loop
 try-rule-requires c κs =
@@ -111,7 +127,7 @@ try-rule-requires c κs =
       subst SmallRule (getD-take (g .count) (g .rules) (a .base + i) _ h)
           (every-at SmallRule _ (rules g) (z .pre .0 .0 .small) (a .base + i)
           (omega (arith, z .pre .0 .0 .whole))),
-      z .pre .1 .0,
+      z .pre .1 .1 .0,
     )
 
 loop-less-2 : tie.Need-loop-less-2 Inv-loop μ-loop
@@ -140,8 +156,8 @@ loop-again-2 c =
     (c .try-rule .result)) (sym (getD-take (g .count) (g .rules) (a .base + i) no-rule h))
     (c .try-rule .ensures)))
 
-returns : tie.Need-returns Inv-loop μ-loop
-returns c =
+returns-2 : tie.Need-returns-2 Inv-loop μ-loop
+returns-2 c =
     let z = c .before .before .before .before in
     let a = z .args in
     trying-end (a .rows .now) (a .cols .now) (a .p) (a .w) (rules (a .t2)) (z .pre .0 .2)
@@ -161,9 +177,11 @@ try-places-spec =
     element-copy-out-r
     sub-rest
     has-requires
+    covers-requires
+    returns
     loop-less
     loop-again
     try-rule-requires
     loop-less-2
     loop-again-2
-    returns)
+    returns-2)

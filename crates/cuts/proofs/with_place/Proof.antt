@@ -1,5 +1,5 @@
 use borrow.Author.Needs.{needs}
-use mathlib.Core.Logic.{inl}
+use mathlib.Core.Logic.{inl, inr, ⊎-elim}
 use Rattle.sets.proofs.Sets.{insert-same, insert-keeps, insert-only}
 use Rattle.cuts.proofs.with_place.Statement.{statement}
 use Rattle.cuts.proofs.with_place.Tie as tie
@@ -32,12 +32,12 @@ returns-3 c = rw (c .enum-told3 .given .1)
     (record { keeps = λ j x. x; has = λ b. absurd b; only = λ j x. inl x })
 
 returns-4 : tie.Need-returns-4
-returns-4 c = rw (c .with .ensures)
+returns-4 c = rw (c .with .ensures, c .before .enum-told4 .given .1)
     (record {
       keeps = λ j x. insert-keeps _ _ x;
       has = λ b. insert-same _ _;
       only =
-          λ j x. insert-only _ _ j x;
+          λ j x. ⊎-elim inl (λ z. inr (z, tt)) (insert-only _ _ j x);
     })
 
 pub with-place-spec : {M : Type 1} → statement M

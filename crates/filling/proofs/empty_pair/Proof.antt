@@ -22,7 +22,7 @@ saturated-requires c κs = let z = c .before .before in formed-ruled (z .pre)
 returns : tie.Need-returns
 returns c =
     let l = c .before in
-    let m = l .before .first-marks .ensures in
+    let m = l .before .first-marks .ensures .same in
     let z = l .before .before in
     let g = rules (z .args .g) in
     empty-found (z .pre .distinct) (subst

@@ -1,5 +1,5 @@
 use borrow.Author.Needs.{needs}
-use mathlib.Core.Path.{_≡_, refl, sym, ap, _∙_, subst}
+use mathlib.Core.Path.{_≡_, refl, sym, ap, _∙_}
 use Prim.Native.Nat.{_+_, _-_, _*_, _≤_, _<_}
 use native.Mathlib.Omega.{arith}
 use lib.ListN.{length}
@@ -9,7 +9,7 @@ use Rattle.grammar.specs.SpanSheet.{pairs}
 use Rattle.marks.specs.Drafts.{half}
 use Rattle.marks.specs.Marked.{Carried}
 use Rattle.marks.proofs.DraftLaws.{drafted-at}
-use Rattle.marks.proofs.Joining.{carried-first, carried-more, carried-all, next-joined}
+use Rattle.marks.proofs.Joining.{carried-all, next-carried}
 use Rattle.spans.specs.Changes.{Past}
 use Rattle.spans.proofs.ChangeLaws.{past-same, past-then, kept-past}
 use Rattle.cuts.specs.Cuts.{Mirrors}
@@ -47,7 +47,7 @@ first-marks-requires c κs = search needs
 -- src/lib.rt:139:5
 begin-requires : tie.Need-begin-requires Inv-loop μ-loop
 begin-requires c κs =
-    let z = c .before .before .before .before .before .before .before .before .before in
+    let z = c .before .before .before .before .before .before .before .before .before .before in
     let q = z .pre .1 .1 .1 .1 .0 in (
       record { few = z .pre .0 .0 .few; fits = omega (arith, z .pre .0 .1); enough = z .pre .1 .0 },
       (q .0, q .1),
@@ -57,18 +57,18 @@ begin-requires c κs =
 loop-holds : tie.Need-loop-holds Inv-loop μ-loop
 loop-holds c =
     let z = c .before .before .before .before .before .before .before .before .before .before
+    .before
     .before .before .before .before in
     let a = z .args in
     let d = a .t5 in (
       omega arith,
       omega (arith, z .pre .0 .1),
-      subst (Carried (half d) (a .start) 1)
-          (sym (c .before .before .before .before .before .before .before .before .first-marks
-          .ensures)) (carried-first _ _ _ _
+      c .before .before .before .before .before .before .before .before .first-marks .ensures
+          .carried (half d) (a .start)
           (ap (λ (t : Token). t .terminal)
           (sym (drafted-at d (a .start) (omega (arith, z .pre .0 .1)))))
-          (ap (λ (t : Token). t .column .0)
-          (sym (drafted-at d (a .start) (omega (arith, z .pre .0 .1)))))),
+          (ap (λ (t : Token). t .column)
+          (sym (drafted-at d (a .start) (omega (arith, z .pre .0 .1))))),
       past-same _ _,
       given-same _ _,
       filled-next _ _ _ _ _ _ (z .pre .1 .1 .1 .1 .1),
@@ -114,7 +114,7 @@ add-len : tie.Need-add-len Inv-loop μ-loop
 add-len c = omega (
   arith,
   c .before .before .before .loop-test .taken,
-  c .before .before .before
+  c .before .before .before .before
       .before .before .before .before .before .before .before .before .before .before .before
       .before
       .before .before .before .before .pre .0 .0 .few,
@@ -124,22 +124,23 @@ add-len c = omega (
 -- the marks with the next token
 marks : (c : tie.After-with-next Inv-loop μ-loop) →
     let a = c .before .before .before .before .before .before .before .before .before .before
+    .before
     .before .before .before .before .before .before .before .before .before .args in
     Carried (half (a .t5)) (a .start) (c .before .before .before .before .loop .len + 1)
     (c .with-next .result)
 marks c =
     let a = c .before .before .before .before .before .before .before .before .before .before
+    .before
     .before .before .before .before .before .before .before .before .before .args in
     let l = c .before .before .before .before .loop in
-    carried-more _ _ _ _ _ (l .inv .0) (l .inv .2)
-    (next-joined (a .t5) _ _ _ _ (c .before .before .before .loop-test .taken)
-    (c .with-next .ensures))
+    next-carried (a .t5) _ _ _ _ (l .inv .0) (c .before .before .before .loop-test .taken)
+    (c .with-next .ensures) (l .inv .2)
 
 add-if1 : tie.Need-add-if1 Inv-loop μ-loop
 add-if1 c = omega (
   arith,
   c .before .before .before .loop-test .taken,
-  c .before .before .before
+  c .before .before .before .before
       .before .before .before .before .before .before .before .before .before .before .before
       .before
       .before .before .before .before .pre .0 .0 .few,
@@ -150,6 +151,7 @@ load-requires : tie.Need-load-requires Inv-loop μ-loop
 load-requires c κs =
     let i = c .before .before .before .before .before .before .before in
     let z = i .before .before .before .before .before .before .before .before .before .before
+    .before
     .before .before .before .before .before .before in
     let l = i .before .loop .inv in (
       (
@@ -192,6 +194,7 @@ close-requires : tie.Need-close-requires Inv-loop μ-loop
 close-requires c κs =
     let i = c .before .before .before .before .before .before .before in
     let z = i .before .before .before .before .before .before .before .before .before .before
+    .before
     .before .before .before .before .before .before in
     let l = i .before .loop .inv in (
       (
@@ -217,6 +220,7 @@ loop-again-2 c =
     let m = k .before .before .before .before .before in
     let i = m .before .before .before in
     let z = i .before .before .before .before .before .before .before .before .before .before
+    .before
     .before .before .before .before .before .before in
     let a = z .args in
     let b = i .before .loop in
@@ -252,7 +256,8 @@ same-length c = c .before .loop .inv .3 .long
 
 -- src/lib.rt:115:1
 same-length-2 : tie.Need-same-length-2 Inv-loop μ-loop
-same-length-2 c = let z = c .before .before .before .before .before .before .before .before .before
+same-length-2 c = let z =
+    c .before .before .before .before .before .before .before .before .before .before
     .before .before .before .before .before .before .before in
     c .before .loop .inv .7 .wide ∙ sym (z .pre .1 .1 .1 .1 .0 .0)
 

@@ -37,20 +37,20 @@ inside c =
 mul-at : tie.Need-mul-at
 mul-at c = omega (arith, inside c, c .before .before .before .before .good .0 .1)
 
-mul-t13 : tie.Need-mul-t13
-mul-t13 c = omega (arith, inside c, c .before .before .before .before .good .0 .1)
+mul-t14 : tie.Need-mul-t14
+mul-t14 c = omega (arith, inside c, c .before .before .before .before .good .0 .1)
 
-shared-slice-read-t15 : tie.Need-shared-slice-read-t15
-shared-slice-read-t15 c = omega (arith, inside (c .before))
+shared-slice-read-t16 : tie.Need-shared-slice-read-t16
+shared-slice-read-t16 c = omega (arith, inside (c .before))
 
-add-t16 : tie.Need-add-t16
-add-t16 c = omega (arith, inside (c .before), c .before .before .before .before .before .good .0 .1)
+add-t17 : tie.Need-add-t17
+add-t17 c = omega (arith, inside (c .before), c .before .before .before .before .before .good .0 .1)
 
-mul-t17 : tie.Need-mul-t17
-mul-t17 c = omega (arith, inside (c .before), c .before .before .before .before .before .good .0 .1)
+mul-t18 : tie.Need-mul-t18
+mul-t18 c = omega (arith, inside (c .before), c .before .before .before .before .before .good .0 .1)
 
-shared-slice-read-t19 : tie.Need-shared-slice-read-t19
-shared-slice-read-t19 c = omega (arith, inside (c .before .before))
+shared-slice-read-t20 : tie.Need-shared-slice-read-t20
+shared-slice-read-t20 c = omega (arith, inside (c .before .before))
 
 returns : tie.Need-returns
 returns c =
@@ -74,17 +74,18 @@ element-copy-out-t : tie.Need-element-copy-out-t
 element-copy-out-t c = let z = c .before .before .before in
     omega (arith, z .pre .0 .0, z .pre .0 .1)
 
-leaf-pair-requires : tie.Need-leaf-pair-requires
-leaf-pair-requires c κs = let z = c .before .before .before .before in
+token-pair-requires : tie.Need-token-pair-requires
+token-pair-requires c κs = let z = c .before .before .before .before .before in
     (z .pre .1 .1 .0, z .pre .1 .1 .1 .0)
 
 returns-2 : tie.Need-returns-2
 returns-2 c =
-    let z = c .before .before .before .before .before in
+    let z = c .before .before .before .before .before .before in
     let a = z .args in
-    subst (λ (x : ℕ). Leaf (rules (a .g)) x (c .leaf-pair .result .one) (c .leaf-pair .result .two))
+    subst (λ (x : ℕ). Leaf (rules (a .g)) x (c .token-pair .result .one)
+    (c .token-pair .result .two))
     (ap (λ (t : Token). t .terminal) (sym (drafted-at (a .t2) (a .i) (z .pre .0 .0))))
-    (c .leaf-pair .ensures)
+    (c .token-pair .ensures)
 
 pub leaf-at-spec : {M : Type 1} → statement M
 leaf-at-spec =
@@ -93,13 +94,13 @@ leaf-at-spec =
     first-like-requires
     pair-at-requires
     mul-at
-    mul-t13
-    shared-slice-read-t15
-    add-t16
-    mul-t17
-    shared-slice-read-t19
+    mul-t14
+    shared-slice-read-t16
+    add-t17
+    mul-t18
+    shared-slice-read-t20
     returns
     mul-t
     element-copy-out-t
-    leaf-pair-requires
+    token-pair-requires
     returns-2)

@@ -1,10 +1,9 @@
 -- The loop's invariant: the words stand, and the positions before the next one are refuted; the
 -- measure is how many tokens are left.
-use mathlib.Core.Path.{_∙_}
+use mathlib.Core.Path.{sym, _∙_}
 use Prim.Native.Nat.{ℕ, _-_, _*_, _<_}
 use native.Mathlib.Omega.{arith}
 use Rattle.sets.proofs.Says.{true-not-false}
-use Rattle.codes.specs.Codes.{decoded}
 use Rattle.grammar.specs.SpanSheet.{pairs}
 use Rattle.spans.specs.Changes.{Past}
 use Rattle.spans.proofs.ChangeLaws.{past-same, past-then}
@@ -13,6 +12,8 @@ use Rattle.candidates.proofs.Windows.{cells-size}
 use Rattle.pruning.specs.Refuting.{Standing, Within}
 use Rattle.pruning.proofs.RefutingLaws.{within-none, within-more, within-all}
 use Rattle.pruning.proofs.WordLaws.{standing-back, standing-moved, standing-unmoved}
+use Rattle.grammar.specs.Content.{rules}
+use Rattle.refilling.specs.Kept.{Mirrored}
 use borrow.Fn.Kinds.{In}
 use borrow.Fn.PlainCycle.{Measures, is, falls, and}
 use Rattle.pruning.proofs.places.Reads as places
@@ -44,41 +45,41 @@ calls t = (
 )
 
 abbrev places-Inv-loop : places-lts.InvT-loop
-places-Inv-loop codes c n i h words₀ k₀ words k = Past (2 * pairs n) words₀ words
-    × Standing (decoded codes) n i (cells c 0 n) words
-    × ((s : ℕ) → Within (decoded codes) s n h i k (cells c 0 n))
+places-Inv-loop g c n i h words₀ cuts₀ k₀ words cuts k = Past (2 * pairs n) words₀ words
+    × Standing (rules g) n i (cells c 0 n) words
+    × ((s : ℕ) → Within (rules g) s n h i k (cells c 0 n)) × Mirrored (rules g) n words cuts
 
 abbrev places-μ-loop : places-lts.MeasureT-loop
-places-μ-loop codes c n i h words₀ k₀ words k = 3 * n - k
+places-μ-loop g c n i h words₀ cuts₀ k₀ words cuts k = 3 * n - k
 
--- src/lib.rt:93:9
 places-returns : (t : ℕ) → places-lts.Need-returns (calls t) (places-at t) places.Post
     places-Inv-loop places-μ-loop
-places-returns t c = record {
-  out = λ e. absurd (true-not-false e);
-  stays = λ e. absurd
-      (true-not-false e);
-  past = past-same _ _;
-}
+places-returns t c = (
+  record {
+    out = λ e. absurd (true-not-false e);
+    stays = λ e. absurd
+        (true-not-false e);
+    past = past-same _ _;
+  },
+  c .before .before .before .pre .1 .1 .1 .1 .1,
+)
 
--- src/lib.rt:96:5
 places-loop-holds : (t : ℕ) → places-lts.Need-loop-holds (calls t) (places-at t) places.Post
     places-Inv-loop places-μ-loop
 places-loop-holds t c =
     let z = c .before .before .before in (
       past-same _ _,
-      z .pre .1 .1 .1 .1,
-      λ s. within-none (cells-size (z .args .c) 0 (z .args .n))
-          (omega (arith, c .if1 .left, z .pre .1 .0 .1)),
+      z .pre .1 .1 .1 .1 .0,
+      (λ s. within-none (cells-size (z .args .c) 0 (z .args .n))
+          (omega (arith, c .if1 .left, z .pre .1 .0 .1))),
+      z .pre .1 .1 .1 .1 .1,
     )
 
--- src/lib.rt:96:15
 places-mul-loop : (t : ℕ) → places-lts.Need-mul-loop (calls t) (places-at t) places.Post
     places-Inv-loop places-μ-loop
 places-mul-loop t c =
     record { fits = omega (arith, c .before .before .before .before .pre .1 .0 .0) }
 
--- src/lib.rt:97:13
 places-moved-requires : (t : ℕ)
     → places-lts.Need-moved-requires (calls t) (places-at t) places.Post places-Inv-loop
     places-μ-loop
@@ -87,26 +88,24 @@ places-moved-requires t c κs =
       (
         z .pre .1 .0 .0,
         (omega (arith, c .before .before .if1 .left, z .pre .1 .0 .1)),
-        c .loop-test
-            .taken,
+        omega (arith, c .loop-test .taken),
       ),
       z .pre .1 .0 .2,
     )
 
--- src/lib.rt:98:12
 places-shut-requires : (t : ℕ) → places-lts.Need-shut-requires (calls t) (places-at t) places.Post
     places-Inv-loop places-μ-loop
 places-shut-requires t c κs =
-    let z = c .before .before .before .before .before .before .before in
-    let l = c .before .before .before .loop in
-    let m = c .before .moved .ensures in (
+    let z = c .before .before .before .before .before .before .before .before in
+    let l = c .before .before .before .before .loop in
+    let m = c .before .before .moved .ensures in (
       (
         z .pre .1 .0 .0,
         (omega (
           arith,
-          c .before .before .before .before .if1 .left,
-          z .pre .1 .0
-              .1,
+          c .before .before .before .before .before .if1 .left,
+          z .pre
+              .1 .0 .1,
         )),
         m .1,
         z .pre .1 .0 .3,
@@ -115,77 +114,79 @@ places-shut-requires t c κs =
         z .pre .1 .1 .0,
         (
           omega (arith, l .inv .0 .long, z .pre .1 .1 .1 .0),
-          standing-moved (m .0)
-              (l .inv .1),
+          (standing-moved (m .0) (l .inv .1), l .inv .3),
         ),
       ),
     )
 
--- src/lib.rt:99:13
 places-add-k : (t : ℕ) → places-lts.Need-add-k (calls t) (places-at t) places.Post places-Inv-loop
     places-μ-loop
 places-add-k t c = record {
   fits = omega (
     arith,
-    c .before .before .before .before .before .before .loop-test .taken,
-    c .before .before
-        .before .before .before .before .before .before .before .before .before .pre .1 .0 .0,
+    c .before .before .before .before .before .before .before .before .before .loop-test
+        .taken,
+    c .before .before .before .before .before .before .before .before .before .before
+        .before .before .before .before .pre .1 .0 .0,
   );
 }
 
--- src/lib.rt:96:5
 places-loop-less : (t : ℕ) → places-lts.Need-loop-less (calls t) (places-at t) places.Post
     places-Inv-loop places-μ-loop
-places-loop-less t c =
-    omega (arith, c .before .before .before .before .before .before .loop-test .taken)
+places-loop-less t c = omega (
+  arith,
+  c .before .before .before .before .before .before .before
+      .before .before .loop-test .taken,
+)
 
--- src/lib.rt:96:5
 places-loop-again : (t : ℕ) → places-lts.Need-loop-again (calls t) (places-at t) places.Post
     places-Inv-loop places-μ-loop
 places-loop-again t c =
     let z = c .before .before .before .before .before .before .before .before .before .before
-    .before in
-    let l = c .before .before .before .before .before .before .before .loop in
-    let m = c .before .before .before .before .before .moved .ensures .0 in
-    let r = c .before .before .before .shut .ensures in (
+    .before .before .before .before in
+    let l = c .before .before .before .before .before .before .before .before .before .before
+    .loop in
+    let m = c .before .before .before .before .before .before .before .before .moved .ensures .0 in
+    let r = c .before .before .before .before .before .shut .ensures .0 in (
       past-then (l .inv .0) (r .past),
       standing-unmoved m (r .stays (c .if2 .taken)),
-      λ s.
-          within-more (cells-size (z .args .c) 0 (z .args .n))
+      (λ s. within-more (cells-size (z .args .c) 0 (z .args .n))
           (omega (
             arith,
-            c .before .before .before .before .before .before .before .before .if1
-                .left,
+            c .before .before .before .before .before .before .before .before .before
+                .before .before .if1 .left,
             z .pre .1 .0 .1,
-          )) m (r .out (c .if2 .taken) s) (l .inv .2 s),
+          )) m (r .out (c .if2 .taken) s)
+          (l .inv .2 s)),
+      c .before .before .before .before .before .shut .ensures .1,
     )
 
--- src/lib.rt:102:32
 places-add-places : (t : ℕ) → places-lts.Need-add-places (calls t) (places-at t) places.Post
     places-Inv-loop places-μ-loop
 places-add-places t c = record {
   fits = omega (
     arith,
     c .before .before .before .before .before .before .before .before .before .before
-        .before .pre .1 .0,
+        .before .before .before .before .pre .1 .0,
   );
 }
 
--- src/lib.rt:102:12
 places-places-requires : (t : ℕ)
     → places-lts.Need-places-requires (calls t) (places-at t) places.Post places-Inv-loop
     places-μ-loop
 places-places-requires t c κs =
     let z = c .before .before .before .before .before .before .before .before .before .before
-    .before .before in
-    let l = c .before .before .before .before .before .before .before .before .loop in
-    let m = c .before .before .before .before .before .before .moved .ensures in
-    let r = c .before .before .before .before .shut .ensures in
+    .before .before .before .before .before .before in
+    let l = c .before .before .before .before .before .before .before .before .before .before
+    .before .before .loop in
+    let m = c .before .before .before .before .before .before .before .before .before .before .moved
+    .ensures in
+    let r = c .before .before .before .before .before .before .before .shut .ensures .0 in
     let h : z .args .i < z .args .n =
     (omega (
       arith,
       c .before .before .before .before .before .before .before .before .before
-          .if1 .left,
+          .before .before .before .before .if1 .left,
       z .pre .1 .0 .1,
     )) in (
       omega (arith, z .pre .0, h),
@@ -201,103 +202,126 @@ places-places-requires t c κs =
           z .pre .1 .1 .0,
           (
             omega (arith, r .past .long, l .inv .0 .long, z .pre .1 .1 .1 .0),
-            r .on
-                (c .before .if2 .left),
+            (
+              r .on (c .before .before .if2 .left),
+              c .before .before .before .before
+                  .before .before .before .shut .ensures .1,
+            ),
           ),
         ),
       ),
     )
 
--- src/lib.rt:103:13
 places-same-length : (t : ℕ) → places-lts.Need-same-length (calls t) (places-at t) places.Post
     places-Inv-loop places-μ-loop
-places-same-length t c = c .before .before .before .places .ensures .past .long
-    ∙ c .before .before .before .before .before .before .before .before .shut .ensures .past .long
+places-same-length t c = c .before .before .before .before .before .places .ensures .0 .past .long
     ∙ c .before .before .before .before .before .before .before .before .before .before .before
-    .before .loop .inv .0 .long
+    .before .before .shut .ensures .0 .past .long ∙ c .before .before .before .before .before
+    .before .before .before .before .before .before .before .before .before .before .before
+    .before .before .loop .inv .0 .long
 
--- src/lib.rt:103:13
+places-same-length-2 : (t : ℕ) → places-lts.Need-same-length-2 (calls t) (places-at t) places.Post
+    places-Inv-loop places-μ-loop
+places-same-length-2 t c = c .before .before .before .before .before .places .ensures .1 .prepared
+    .rules .size ∙ sym (c .before .before .before .before .before .before .before .before .before
+    .before .before .before .before .before .before .before .before .before .before .before
+    .before .before .pre .1 .1 .1 .1 .1 .prepared .rules .size)
+
 places-returns-2 : (t : ℕ) → places-lts.Need-returns-2 (calls t) (places-at t) places.Post
     places-Inv-loop places-μ-loop
-places-returns-2 t c = record {
-  out = λ e. absurd (true-not-false e);
-  stays = λ e. absurd
-      (true-not-false e);
-  past = past-then
-      (c .before .before .before .before .before .before .before .before .before .before .before
-      .before .loop .inv .0) (past-then
-      (c .before .before .before .before .before .before .before .before .shut .ensures
-      .past) (c .before .before .before .places .ensures .past));
-}
+places-returns-2 t c = (
+  record {
+    out = λ e. absurd (true-not-false e);
+    stays = λ e. absurd
+        (true-not-false e);
+    past = past-then
+        (c .before .before .before .before .before .before .before .before .before .before .before
+        .before .before .before .before .before .before .before .loop .inv .0)
+        (past-then (c .before .before .before .before .before .before .before .before
+        .before .before .before .before .before .shut .ensures .0 .past)
+        (c .before .before .before .before .before .places .ensures .0 .past));
+  },
+  c
+      .before .before .before .before .before .places .ensures .1,
+)
 
--- src/lib.rt:105:9
 places-add-k-2 : (t : ℕ) → places-lts.Need-add-k-2 (calls t) (places-at t) places.Post
     places-Inv-loop places-μ-loop
 places-add-k-2 t c = record {
   fits = omega (
     arith,
     c .before .before .before .before .before .before .before .before .before .before
-        .before .loop-test .taken,
-    c .before .before .before .before .before .before .before .before
-        .before .before .before .before .before .before .before .before .pre .1 .0 .0,
+        .before .before .before .before .before .before .before .loop-test .taken,
+    c .before .before
+        .before .before .before .before .before .before .before .before .before .before .before
+        .before .before .before .before .before .before .before .before .before .pre .1 .0
+        .0,
   );
 }
 
--- src/lib.rt:96:5
 places-loop-less-2 : (t : ℕ) → places-lts.Need-loop-less-2 (calls t) (places-at t) places.Post
     places-Inv-loop places-μ-loop
 places-loop-less-2 t c = omega (
   arith,
   c .before .before .before .before .before .before .before
-      .before .before .before .before .loop-test .taken,
+      .before .before .before .before .before .before .before .before .before .before .loop-test
+      .taken,
 )
 
--- src/lib.rt:96:5
 places-loop-again-2 : (t : ℕ) → places-lts.Need-loop-again-2 (calls t) (places-at t) places.Post
     places-Inv-loop places-μ-loop
 places-loop-again-2 t c =
     let z = c .before .before .before .before .before .before .before .before .before .before
-    .before .before .before .before .before .before in
+    .before .before .before .before .before .before .before .before .before .before .before
+    .before in
     let l = c .before .before .before .before .before .before .before .before .before .before
-    .before .before .loop in
+    .before .before .before .before .before .before .before .before .loop in
     let m = c .before .before .before .before .before .before .before .before .before .before
-    .moved in
-    let r = c .before .before .before .before .before .before .before .before .shut .ensures in
-    let q = c .before .before .before .places .ensures in
+    .before .before .before .before .before .before .moved in
+    let r = c .before .before .before .before .before .before .before .before .before .before
+    .before .before .before .shut .ensures .0 in
+    let q = c .before .before .before .before .before .places .ensures .0 in
     let h : z .args .i < z .args .n =
     (omega (
       arith,
       c .before .before .before .before .before .before .before .before .before
-          .before .before .before .before .if1 .left,
+          .before .before .before .before .before .before .before .before .before .before .if1
+          .left,
       z .pre .1 .0 .1,
     )) in
     let n = z .args .n in (
       past-then (l .inv .0) (past-then (r .past) (q .past)),
       standing-unmoved (m .ensures .0)
           (standing-back h (cells-size (m .result) 0 n) (q .stays (c .if3 .left))),
-      λ s. within-more (cells-size (z .args .c) 0 n) h (m .ensures .0) (q .out (c .if3 .left) s)
-          (l .inv .2 s),
+      (λ s. within-more (cells-size (z .args .c) 0 n) h (m .ensures .0) (q .out (c .if3 .left) s)
+          (l .inv .2 s)),
+      c .before .before .before .before .before .places .ensures .1,
     )
 
--- src/lib.rt:85:1
-places-same-length-2 : (t : ℕ) → places-lts.Need-same-length-2 (calls t) (places-at t) places.Post
+places-same-length-3 : (t : ℕ) → places-lts.Need-same-length-3 (calls t) (places-at t) places.Post
     places-Inv-loop places-μ-loop
-places-same-length-2 t c = c .before .loop .inv .0 .long
+places-same-length-3 t c = c .before .loop .inv .0 .long
 
--- src/lib.rt:85:1
+places-same-length-4 : (t : ℕ) → places-lts.Need-same-length-4 (calls t) (places-at t) places.Post
+    places-Inv-loop places-μ-loop
+places-same-length-4 t c = c .before .loop .inv .3 .prepared .rules .size
+    ∙ sym (c .before .before .before .before .before .pre .1 .1 .1 .1 .1 .prepared .rules .size)
+
 places-returns-3 : (t : ℕ) → places-lts.Need-returns-3 (calls t) (places-at t) places.Post
     places-Inv-loop places-μ-loop
 places-returns-3 t c =
     let z = c .before .before .before .before .before in
-    let l = c .before .loop in
-    record {
-      out = λ e s. within-all (cells-size (z .args .c) 0 (z .args .n))
-          (omega (arith, c .before .before .if1 .left, z .pre .1 .0 .1))
-          (omega (arith, c .loop-test .left)) (l .inv .2 s);
-      stays = λ e. l .inv .1;
-      past =
-          l .inv .0;
-    }
+    let l = c .before .loop in (
+      record {
+        out = λ e s. within-all (cells-size (z .args .c) 0 (z .args .n))
+            (omega (arith, c .before .before .if1 .left, z .pre .1 .0 .1))
+            (omega (arith, c .loop-test .left)) (l .inv .2 s);
+        stays = λ e. l .inv .1;
+        past =
+            l .inv .0;
+      },
+      l .inv .3,
+    )
 
 pub +places-spec : {M : Type 1} → statement M
 +places-spec = close μ-places λ t. places-lts.spec (calls t)
@@ -316,9 +340,11 @@ pub +places-spec : {M : Type 1} → statement M
     (places-add-places t)
     (places-places-requires t)
     (places-same-length t)
+    (places-same-length-2 t)
     (places-returns-2 t)
     (places-add-k-2 t)
     (places-loop-less-2 t)
     (places-loop-again-2 t)
-    (places-same-length-2 t)
+    (places-same-length-3 t)
+    (places-same-length-4 t)
     (places-returns-3 t)

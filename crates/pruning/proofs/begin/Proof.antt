@@ -9,29 +9,33 @@ use Rattle.pruning.proofs.begin.Statement.{statement}
 use Rattle.pruning.proofs.begin.Tie as tie
 
 lay-requires : tie.Need-lay-requires
-lay-requires c κs =
-    let z = c .before .before .before .before in (
-      (z .pre .0 .0, small-cells (z .pre .0 .1) (z .pre .0 .2)),
-      (z .pre .1 .1 .0, z .pre .1 .1 .1 .long),
-    )
+lay-requires c κs = let z = c .before .before .before .before .before in (
+  (z .pre .0 .0, small-cells (z .pre .0 .1) (z .pre .0 .2)),
+  (z .pre .1 .1 .0, (z .pre .1 .1 .1 .0 .long, z .pre .1 .1 .1 .1)),
+)
 
 draft-requires : tie.Need-draft-requires
-draft-requires c κs = let z = c .before .before .before .before .before .before .before in
-    (z .pre .0 .0, low-steps (z .pre .0 .2))
+draft-requires c κs = let z = c .before .before .before .before .before .before .before .before
+    .before .before in (z .pre .0 .0, low-steps (z .pre .0 .2))
 
-fill-requires : tie.Need-fill-requires
-fill-requires c κs =
-    let z = c .before .before .before .before .before .before .before .before .before in
-    let d = c .before .draft in
+refill-requires : tie.Need-refill-requires
+refill-requires c κs =
+    let z = c .before .before .before .before .before .before .before .before .before .before
+    .before .before .before in
+    let d = c .before .before .draft in
     let e = d .ensures in
-    let l = c .before .before .before .before .lay .ensures in (
+    let l = c .before .before .before .before .before .before .before .lay .ensures .0 in (
       (omega (arith, e .1, z .pre .0 .0), omega (arith, e .1, e .2, z .pre .0 .1)),
       (
         rw (e .1) (omega (arith, z .pre .1 .1 .0, l .tokens .past .long)),
         (
           z .pre .1 .0,
-          laid-ready (d .result) (z .pre .0 .1) (z .pre .0 .2) (e .0) (e .1) (e .2)
-              (z .pre .1 .1 .1) l,
+          (
+            laid-ready (d .result) (z .pre .0 .1) (z .pre .0 .2) (e .0) (e .1)
+                (e .2) (z .pre .1 .1 .1 .0) l,
+            rw (e .1)
+                (c .before .before .before .before .before .before .before .lay .ensures .1),
+          ),
         ),
       ),
     )
@@ -39,18 +43,26 @@ fill-requires c κs =
 same-length : tie.Need-same-length
 same-length c = search needs
 
+same-length-2 : tie.Need-same-length-2
+same-length-2 c = search needs
+
 returns : tie.Need-returns
 returns c =
     let z = c .before .before .before .before .before .before .before .before .before .before
-    .before .before in
-    let d = c .before .before .before .before .draft in
+    .before .before .before .before .before .before .before .before in
+    let d = c .before .before .before .before .before .before .before .draft in
     let e = d .ensures in
-    let l = c .before .before .before .before .before .before .before .lay .ensures in
-    let f = c .before .before .fill .ensures in (
-      poised-start (d .result) (z .pre .0 .1) (e .0) (e .1) (e .2) (z .pre .1 .1 .1) l f,
-      past-then
-          (l .tokens .past) (charted-past (d .result) (e .1) f),
+    let l = c .before .before .before .before .before .before .before .before .before .before
+    .before .before .lay .ensures .0 in
+    let f = c .before .before .before .before .refill .ensures .0 in (
+      poised-start (d .result) (z .pre .0 .1) (e .0) (e .1) (e .2) (z .pre .1 .1 .1 .0) l f,
+      (
+        past-then (l .tokens .past) (charted-past (d .result) (e .1) f),
+        rw (e .1) at
+            (c .before .before .before .before .refill .ensures .1),
+      ),
     )
 
 pub begin-spec : {M : Type 1} → statement M
-begin-spec = tie.close (tie.spec lay-requires draft-requires fill-requires same-length returns)
+begin-spec = tie.close (tie.spec lay-requires draft-requires refill-requires same-length
+    same-length-2 returns)

@@ -20,20 +20,14 @@ same-length : tie.Need-same-length
 same-length c = search needs
 
 returns : tie.Need-returns
-returns c =
-    let w = c .before .before .before .before .before .before in
-    let l = w .before .before .before .before in
-    let e = l .before .before in
-    tabled-of (e .before .before .before .pre .1) (l .leaves .ensures) (e .empty-pair .ensures)
-    (w .write .ensures) (c .before .before .write2 .ensures)
+returns c = tabled-of (c .before .before .before .before .before .before .before .before .before
+    .before .before .before .before .before .pre .1)
+    (c .before .before .before .before .before .before .before .before .before .before .leaves
+    .ensures) (c .before .before .before .before .before .before .before .before .before
+    .before .before .before .empty-pair .ensures)
+    (c .before .before .before .before .before .before .write .ensures)
+    (c .before .before .write2 .ensures)
 
 pub fill-table-spec : {M : Type 1} → statement M
-fill-table-spec =
-    tie.close
-    (tie.spec
-    empty-pair-requires
-    leaves-requires
-    write-requires
-    write-requires-2
-    same-length
-    returns)
+fill-table-spec = tie.close (tie.spec empty-pair-requires leaves-requires write-requires
+    write-requires-2 same-length returns)

@@ -5,18 +5,18 @@ use borrow.Author.Tests.{not-true}
 use mathlib.Core.Path.{_≡_, subst}
 use Prim.Native.Nat.{ℕ, _-_, _≤_}
 use native.Mathlib.Omega.{arith}
-use Rattle.codes.specs.Codes.{decoded}
 use Rattle.pruning.specs.Tables.{Gathered}
 use Rattle.pruning.proofs.TableLaws.{gathered-none, gathered-skip, gathered-more}
+use Rattle.grammar.specs.Content.{rules}
 use Rattle.pruning.proofs.leaves.Statement.{statement}
 use Rattle.pruning.proofs.leaves.Tie as tie
 
 abbrev Inv-loop : tie.InvT-loop
-Inv-loop codes set one two table₀ any₀ twice₀ x₀ table any twice x =
-    (x ≤ 64) × Gathered (decoded codes) set x table₀ table any twice
+Inv-loop g set one two table₀ any₀ twice₀ x₀ table any twice x =
+    (x ≤ 64) × Gathered (rules g) set x table₀ table any twice
 
 abbrev μ-loop : tie.MeasureT-loop
-μ-loop codes set one two table₀ any₀ twice₀ x₀ table any twice x = 64 - x
+μ-loop g set one two table₀ any₀ twice₀ x₀ table any twice x = 64 - x
 
 loop-holds : tie.Need-loop-holds Inv-loop μ-loop
 loop-holds c = (omega arith, gathered-none _ _ _)
@@ -39,22 +39,21 @@ loop-again c = (
 )
 
 leaf-pair-requires : tie.Need-leaf-pair-requires Inv-loop μ-loop
-leaf-pair-requires c κs = let z = c .before .before .before .before .before .before in
+leaf-pair-requires c κs = let z = c .before .before .before .before .before in
     (z .pre .0, z .pre .1 .0)
 
 cast-write : tie.Need-cast-write Inv-loop μ-loop
 cast-write c = search needs
 
 write-requires : tie.Need-write-requires Inv-loop μ-loop
-write-requires c κs =
-    let i = c .before .before .before .before in
-    omega (
-      arith,
-      i .loop-test .taken,
-      i .before .loop .inv .1 .past .long,
-      i .before .before
-          .before .before .pre .1 .1,
-    )
+write-requires c κs = omega (
+  arith,
+  c .before .before .before .before .loop-test .taken,
+  c .before
+      .before .before .before .before .loop .inv .1 .past .long,
+  c .before .before .before .before
+      .before .before .before .pre .1 .1,
+)
 
 united-requires : tie.Need-united-requires Inv-loop μ-loop
 united-requires c κs = tt
@@ -69,44 +68,32 @@ loop-less-2 : tie.Need-loop-less-2 Inv-loop μ-loop
 loop-less-2 c = search needs
 
 loop-again-2 : tie.Need-loop-again-2 Inv-loop μ-loop
-loop-again-2 c =
-    let w = c .before .before .before .before in
-    let l = w .before .before in
-    let i = l .before .before .before in (
-      omega (arith, i .loop-test .taken),
-      gathered-more (i .before .loop .inv .1) (i .loop-test .taken) (l .leaf-pair .ensures)
-          (w .write .ensures) (c .before .united .ensures) (c .united2 .ensures),
-    )
+loop-again-2 c = (
+  omega (
+    arith,
+    c .before .before .before .before .before .before .before .before
+        .before .loop-test .taken,
+  ),
+  gathered-more
+      (c .before .before .before .before .before .before .before .before .before .before .loop
+      .inv .1) (c .before .before .before .before .before .before .before .before .before
+      .loop-test .taken) (c .before .before .before .before .before .before .leaf-pair
+      .ensures) (c .before .before .before .before .write .ensures)
+      (c .before .united .ensures) (c .united2 .ensures),
+)
 
 same-length : tie.Need-same-length Inv-loop μ-loop
 same-length c = c .before .loop .inv .1 .past .long
 
 returns : tie.Need-returns Inv-loop μ-loop
 returns c =
-    let a = c .before .before .before .before .args in
+    let a = c .before .before .before .args in
     let l = c .before .loop in
     let e : l .x ≡ 64 = omega (arith, l .inv .0, c .loop-test .left) in
-    subst (λ (x : ℕ). Gathered (decoded (a .codes .now)) (a .set) x (a .table .now) (l .table)
-    (l .any) (l .twice)) e (l .inv .1)
+    subst (λ (x : ℕ). Gathered (rules (a .g)) (a .set) x (a .table .now) (l .table) (l .any)
+    (l .twice)) e (l .inv .1)
 
 pub leaves-spec : {M : Type 1} → statement M
-leaves-spec =
-    tie.close
-    (tie.spec
-    Inv-loop
-    μ-loop
-    loop-holds
-    has-requires
-    add-x
-    loop-less
-    loop-again
-    leaf-pair-requires
-    cast-write
-    write-requires
-    united-requires
-    united-requires-2
-    add-x-2
-    loop-less-2
-    loop-again-2
-    same-length
-    returns)
+leaves-spec = tie.close (tie.spec Inv-loop μ-loop loop-holds has-requires add-x loop-less loop-again
+    leaf-pair-requires cast-write write-requires united-requires united-requires-2 add-x-2
+    loop-less-2 loop-again-2 same-length returns)

@@ -8,58 +8,71 @@ use Rattle.pruning.proofs.positions.Statement.{statement}
 use Rattle.pruning.proofs.positions.Tie as tie
 
 places-requires : tie.Need-places-requires
-places-requires c κs = search needs
+places-requires c κs = c .before .before .before .before .pre
 
 same-length : tie.Need-same-length
 same-length c = search needs
 
+same-length-2 : tie.Need-same-length-2
+same-length-2 c = search needs
+
 returns : tie.Need-returns
-returns c = record {
-  out = λ e. absurd (true-not-false e);
-  stays = λ e. absurd (true-not-false e);
-  past = c .before .before .before .places .ensures .past;
-}
+returns c = (
+  record {
+    out = λ e. absurd (true-not-false e);
+    stays = λ e. absurd (true-not-false e);
+    past = c .before .before .before .before .before .places .ensures .0 .past;
+  },
+  c .before .before
+      .before .before .before .places .ensures .1,
+)
 
 draft-requires : tie.Need-draft-requires
 draft-requires c κs = search needs
 
-hopeless-requires : tie.Need-hopeless-requires
-hopeless-requires c κs =
-    let z = c .before .before .before .before .before .before .before .before .before in
+no-two-requires : tie.Need-no-two-requires
+no-two-requires c κs =
+    let z = c .before .before .before .before .before .before .before .before .before .before
+    .before .before .before in
     let a = z .args in
-    let d = c .before .draft in
+    let d = c .before .before .draft in
     let e = d .ensures in
-    let q = c .before .before .before .before .before .places .ensures in (
+    let q = c .before .before .before .before .before .before .before .before .places .ensures
+    .0 in (
       (omega (arith, e .1, z .pre .0 .0), omega (arith, e .1, e .2, z .pre .0 .1)),
       (
         rw (e .1) (omega (arith, q .past .long, z .pre .1 .1 .0)),
         (
           z .pre .1 .0,
-          ready-again (d .result) (z .pre .0 .1) (cells-size (a .c) 0 (a .n))
-              (e .0) (e .1) (e .2) (q .stays (c .before .before .if1 .left)),
+          (
+            ready-again (d .result) (z .pre .0 .1) (cells-size (a .c) 0 (a .n))
+                (e .0) (e .1) (e .2) (q .stays (c .before .before .before .if1 .left)),
+            rw (e .1)
+                (c .before .before .before .before .before .before .before .before .places
+                .ensures .1),
+          ),
         ),
       ),
     )
 
-same-length-2 : tie.Need-same-length-2
-same-length-2 c = search needs
+same-length-3 : tie.Need-same-length-3
+same-length-3 c = search needs
+
+same-length-4 : tie.Need-same-length-4
+same-length-4 c = search needs
 
 returns-2 : tie.Need-returns-2
 returns-2 c =
-    let d = c .before .before .before .before .draft in
-    let e = d .ensures in
-    spent (d .result) (c .before .before .before .before .before .if1 .left) (e .0) (e .1) (e .2)
-    (c .before .before .before .before .before .before .before .before .places .ensures)
-    (c .before .before .hopeless .ensures)
+    let d = c .before .before .before .before .before .before .before .draft in
+    let e = d .ensures in (
+      spent (d .result) (c .before .before .before .before .before .before .before .before .if1
+          .left) (e .0) (e .1) (e .2) (c .before .before .before .before .before .before .before
+          .before .before .before .before .before .before .places .ensures .0)
+          (c .before .before .before .before .no-two .ensures .0),
+      rw (e .1) at
+          (c .before .before .before .before .no-two .ensures .1),
+    )
 
 pub positions-spec : {M : Type 1} → statement M
-positions-spec =
-    tie.close
-    (tie.spec
-    places-requires
-    same-length
-    returns
-    draft-requires
-    hopeless-requires
-    same-length-2
-    returns-2)
+positions-spec = tie.close (tie.spec places-requires same-length same-length-2 returns
+    draft-requires no-two-requires same-length-3 same-length-4 returns-2)

@@ -15,9 +15,12 @@ rises-requires c κs = search needs
 returns : tie.Need-returns
 returns c =
     let z = c .before .before .before .before in
-    let a = z .args in
-    tried-out (λ s. refuted-falling (cells-size (a .c) 0 (a .n)) (z .pre .0 .1)
-    (c .before .rises .ensures (not-true _ (c .if1 .taken)))) (z .pre .1 .1 .1)
+    let a = z .args in (
+      tried-out (λ s. refuted-falling (cells-size (a .c) 0 (a .n)) (z .pre .0 .1)
+          (c .before .rises .ensures (not-true _ (c .if1 .taken)))) (z .pre .1 .1 .1 .0),
+      z .pre .1 .1
+          .1 .1,
+    )
 
 add-slack : tie.Need-add-slack
 add-slack c = search needs
@@ -28,9 +31,11 @@ slack-requires c κs = search needs
 returns-2 : tie.Need-returns-2
 returns-2 c =
     let z = c .before .before .before .before .before .before in
-    let a = z .args in
-    tried-out (λ s. refuted-slack (cells-size (a .c) 0 (a .n)) (z .pre .0 .1)
-    (c .before .slack .ensures (c .if2 .taken))) (z .pre .1 .1 .1)
+    let a = z .args in (
+      tried-out (λ s. refuted-slack (cells-size (a .c) 0 (a .n)) (z .pre .0 .1)
+          (c .before .slack .ensures (c .if2 .taken))) (z .pre .1 .1 .1 .0),
+      z .pre .1 .1 .1 .1,
+    )
 
 add-draft : tie.Need-add-draft
 add-draft c = search needs
@@ -38,19 +43,22 @@ add-draft c = search needs
 draft-requires : tie.Need-draft-requires
 draft-requires c κs = search needs
 
-hopeless-requires : tie.Need-hopeless-requires
-hopeless-requires c κs =
-    let z = c .before .before .before .before .before .before .before .before in
+no-two-requires : tie.Need-no-two-requires
+no-two-requires c κs =
+    let z = c .before .before .before .before .before .before .before .before .before in
     let a = z .args in
-    let d = c .before .draft in
+    let d = c .before .before .draft in
     let e = d .ensures in (
       (omega (arith, e .1, z .pre .0 .0), omega (arith, e .1, e .2, z .pre .0 .1)),
       (
         rw (e .1) (z .pre .1 .1 .0),
         (
           z .pre .1 .0,
-          ready-draft (d .result) (z .pre .0 .1)
-              (cells-size (a .c) 0 (a .n)) (e .0) (e .1) (e .2) (z .pre .1 .1 .1),
+          (
+            ready-draft (d .result) (z .pre .0 .1) (cells-size (a .c) 0 (a .n)) (e .0) (e .1)
+                (e .2) (z .pre .1 .1 .1 .0),
+            rw (e .1) (z .pre .1 .1 .1 .1),
+          ),
         ),
       ),
     )
@@ -58,16 +66,22 @@ hopeless-requires c κs =
 same-length : tie.Need-same-length
 same-length c = search needs
 
+same-length-2 : tie.Need-same-length-2
+same-length-2 c = search needs
+
 returns-3 : tie.Need-returns-3
 returns-3 c =
     let z = c .before .before .before .before .before .before .before .before .before .before
-    .before in
+    .before .before .before .before in
     let a = z .args in
-    let d = c .before .before .before .before .draft in
-    let e = d .ensures in
-    tried-settled (d .result) (z .pre .0 .1) (cells-size (a .c) 0 (a .n)) (e .0) (e .1) (e .2)
-    (z .pre .1 .1 .1) (c .before .before .hopeless .ensures)
+    let d = c .before .before .before .before .before .before .before .draft in
+    let e = d .ensures in (
+      tried-settled (d .result) (z .pre .0 .1) (cells-size (a .c) 0 (a .n)) (e .0) (e .1) (e .2)
+          (z .pre .1 .1 .1 .0) (c .before .before .before .before .no-two .ensures .0),
+      rw (e .1) at
+          (c .before .before .before .before .no-two .ensures .1),
+    )
 
 pub shut-spec : {M : Type 1} → statement M
 shut-spec = tie.close (tie.spec rises-requires returns add-slack slack-requires returns-2 add-draft
-    draft-requires hopeless-requires same-length returns-3)
+    draft-requires no-two-requires same-length same-length-2 returns-3)

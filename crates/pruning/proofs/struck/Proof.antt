@@ -25,30 +25,36 @@ shared-slice-read-give-2 : tie.Need-shared-slice-read-give-2
 shared-slice-read-give-2 c = search needs
 
 give-requires : tie.Need-give-requires
-give-requires c κs = search needs
+give-requires c κs = let z = c .before .before .before .before .before .before .before in
+    ((z .pre .0 .0, z .pre .0 .2), (z .pre .1 .1 .0, z .pre .1 .1 .1 .1 .1))
 
 draft-requires : tie.Need-draft-requires
 draft-requires c κs = search needs
 
-add-hopeless : tie.Need-add-hopeless
-add-hopeless c = search needs
+add-no-two : tie.Need-add-no-two
+add-no-two c = search needs
 
-hopeless-requires : tie.Need-hopeless-requires
-hopeless-requires c κs =
+no-two-requires : tie.Need-no-two-requires
+no-two-requires c κs =
     let z = c .before .before .before .before .before .before .before .before .before .before
-    .before in
+    .before .before .before .before .before in
     let a = z .args in
-    let d = c .before .draft in
+    let d = c .before .before .draft in
     let e = d .ensures in
-    let w = c .before .before .before .before .give .ensures in (
+    let w = c .before .before .before .before .before .before .before .give .ensures .0 in (
       (omega (arith, e .1, z .pre .0 .0), omega (arith, e .1, e .2, z .pre .0)),
       (
         rw (e .1) (omega (arith, w .kept .long, z .pre .1 .1 .0)),
         (
           z .pre .1 .0,
-          ready-loose (z .pre .0 .1) (z .pre .0 .2) (d .result)
-              (cells-size (a .c) 0 (a .n)) (e .0) (e .1) (e .2)
-              (wrote-loose (z .pre .0 .1) (z .pre .0 .2) w (z .pre .1 .1 .1 .1)),
+          (
+            ready-loose (z .pre .0 .1) (z .pre .0 .2) (d .result)
+                (cells-size (a .c) 0 (a .n)) (e .0) (e .1) (e .2)
+                (wrote-loose (z .pre .0 .1) (z .pre .0 .2) w (z .pre .1 .1 .1 .1 .0)),
+            rw (e .1)
+                (c .before .before .before .before .before .before .before .give .ensures
+                .1),
+          ),
         ),
       ),
     )
@@ -56,32 +62,27 @@ hopeless-requires c κs =
 same-length : tie.Need-same-length
 same-length c = search needs
 
+same-length-2 : tie.Need-same-length-2
+same-length-2 c = search needs
+
 returns : tie.Need-returns
 returns c =
     let z = c .before .before .before .before .before .before .before .before .before .before
-    .before .before .before .before in
+    .before .before .before .before .before .before .before .before .before .before in
     let a = z .args in
-    let d = c .before .before .before .before .draft in
+    let d = c .before .before .before .before .before .before .before .draft in
     let e = d .ensures in
-    let w = c .before .before .before .before .before .before .before .give .ensures in
-    let t = z .pre .1 .1 .1 .0 in
-    struck-settled (z .pre .0 .1) (z .pre .0 .2) (d .result) (cells-size (a .c) 0 (a .n)) (e .0)
-    (e .1) (e .2) (t .2) w (t .0 .leaf (a .x) (t .1)) (z .pre .1 .1 .1 .1)
-    (c .before .before .hopeless .ensures)
+    let w = c .before .before .before .before .before .before .before .before .before .before
+    .before .before .give .ensures .0 in
+    let t = z .pre .1 .1 .1 .0 in (
+      struck-settled (z .pre .0 .1) (z .pre .0 .2) (d .result) (cells-size (a .c) 0 (a .n)) (e .0)
+          (e .1) (e .2) (t .2) w (t .0 .leaf (a .x) (t .1)) (z .pre .1 .1 .1 .1 .0)
+          (c .before .before .before .before .no-two .ensures .0),
+      rw (e .1) at
+          (c .before .before .before .before .no-two .ensures .1),
+    )
 
 pub struck-spec : {M : Type 1} → statement M
-struck-spec =
-    tie.close
-    (tie.spec
-    mul-at
-    mul-give
-    shared-slice-read-give
-    add-give
-    mul-give-2
-    shared-slice-read-give-2
-    give-requires
-    draft-requires
-    add-hopeless
-    hopeless-requires
-    same-length
-    returns)
+struck-spec = tie.close (tie.spec mul-at mul-give shared-slice-read-give add-give mul-give-2
+    shared-slice-read-give-2 give-requires draft-requires add-no-two no-two-requires same-length
+    same-length-2 returns)

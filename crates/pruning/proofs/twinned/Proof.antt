@@ -9,12 +9,14 @@ use Rattle.pruning.proofs.twinned.Statement.{statement}
 use Rattle.pruning.proofs.twinned.Tie as tie
 
 begin-requires : tie.Need-begin-requires
-begin-requires c κs = search needs
+begin-requires c κs = let z = c .before .before .before .before .before in
+    ((z .pre .0 .0, z .pre .0 .1, z .pre .0 .2), z .pre .1)
 
 terms-requires : tie.Need-terms-requires
 terms-requires c κs =
-    let z = c .before .before .before .before .before .before .before .before in
-    let p = c .before .before .before .begin .ensures in (
+    let z = c .before .before .before .before .before .before .before .before .before .before
+    .before .before in
+    let p = c .before .before .before .before .before .before .begin .ensures in (
       (
         z .pre .0 .0,
         z .pre .0 .1,
@@ -24,19 +26,33 @@ terms-requires c κs =
         z .pre .0
             .4,
       ),
-      (z .pre .1 .0, (omega (arith, z .pre .1 .1 .0, p .1 .long), (z .pre .1 .1 .1, p .0))),
+      (
+        z .pre .1 .0,
+        (
+          omega (arith, z .pre .1 .1 .0, p .1 .0 .long),
+          (z .pre .1 .1 .1 .0, (p .0, p .1 .1)),
+        ),
+      ),
     )
 
 same-length : tie.Need-same-length
 same-length c = search needs
 
+same-length-2 : tie.Need-same-length-2
+same-length-2 c = search needs
+
 returns : tie.Need-returns
 returns c =
-    let q = c .before .before .terms .ensures in (
-      λ e. twinned-all (q .out (not-true _ e)),
-      past-then
-          (c .before .before .before .before .before .before .begin .ensures .1) (q .past),
+    let q = c .before .before .before .before .terms .ensures in (
+      (
+        λ e. twinned-all (q .0 .out (not-true _ e)),
+        past-then
+            (c .before .before .before .before .before .before .before .before .before .before
+            .before
+            .begin .ensures .1 .0) (q .0 .past),
+      ),
+      q .1,
     )
 
 pub twinned-spec : {M : Type 1} → statement M
-twinned-spec = tie.close (tie.spec begin-requires terms-requires same-length returns)
+twinned-spec = tie.close (tie.spec begin-requires terms-requires same-length same-length-2 returns)

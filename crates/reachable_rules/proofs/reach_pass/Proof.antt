@@ -1,60 +1,69 @@
--- The loop's invariant: the first i rules were passed.
-use borrow.Author.Needs.{needs}
-use mathlib.Core.Path.{_≡_, subst}
-use Prim.Native.Nat.{ℕ, _-_, _≤_}
+-- The loop's invariant: the first p rules were passed.
+use mathlib.Core.Path.{_≡_, sym, _∙_}
+use mathlib.Core.Option.{some}
+use Prim.Native.Nat.{_-_, _≤_}
 use native.Mathlib.Omega.{arith}
-use lib.ListN.{length}
+use lib.ListN.{length, length-map, getD, getElem?}
+use Rattle.grammar.specs.declared.Rule.{Rule}
+use Rattle.grammar.specs.declared.Clause.the-variants.{Empty}
+use Rattle.grammar.specs.Content.{rules}
 use Rattle.acyclic.specs.Passes.{Passed}
-use Rattle.acyclic.proofs.Growth.{passed-none, passed-more}
-use Rattle.codes.specs.Codes.{decoded}
+use Rattle.acyclic.proofs.Growth.{passed-none, passed-more, rule-at, small-at}
 use Rattle.reachable_rules.specs.Reach.{Reached}
 use Rattle.reachable_rules.specs.Steps.{AddsParts}
-use Rattle.reachable_rules.proofs.ReachLaws.{reach-sound, code-at}
+use Rattle.reachable_rules.proofs.ReachLaws.{reach-sound}
 use Rattle.reachable_rules.proofs.reach_pass.Statement.{statement}
 use Rattle.reachable_rules.proofs.reach_pass.Tie as tie
 
 abbrev Inv-loop : tie.InvT-loop
-Inv-loop codes set next₀ i₀ next i =
-    (i ≤ length codes) × Passed AddsParts (Reached (decoded codes)) (decoded codes) i set next
+Inv-loop set g count next₀ p₀ next p =
+    (p ≤ count) × Passed AddsParts (Reached (rules g)) (rules g) p set next
 
 abbrev μ-loop : tie.MeasureT-loop
-μ-loop codes set next₀ i₀ next i = length codes - i
+μ-loop set g count next₀ p₀ next p = count - p
+
+-- what is read where there is no rule: never met
+abbrev blank : Rule
+blank = record { left = 0; clause = Empty }
+
+array : (c : tie.Start Inv-loop μ-loop) → length (c .args .t1 .rules) ≡ 128
+array c = sym (length-map (c .args .t1 .rules) _) ∙ c .good .0 .1 .1 .0 .1 .0 .1
+
+-- the rule at the loop's place
+rule : (c : tie.In-loop Inv-loop μ-loop)
+    → getElem? (rules (c .before .before .args .t1)) (c .before .loop .p)
+    ≡ some (getD (c .before .before .args .t1 .rules) (c .before .loop .p) blank)
+rule c = rule-at (c .before .before .args .t1) (c .before .loop .p) blank
+    (array (c .before .before)) (c .before .before .pre .few) (c .loop-test .taken)
 
 loop-holds : tie.Need-loop-holds Inv-loop μ-loop
 loop-holds c = (omega arith, passed-none _)
 
-mul-spread : tie.Need-mul-spread Inv-loop μ-loop
-mul-spread c = search needs
+mul-rule : tie.Need-mul-rule Inv-loop μ-loop
+mul-rule c = omega (arith, c .before .before .pre .few)
 
-shared-slice-read-spread : tie.Need-shared-slice-read-spread Inv-loop μ-loop
-shared-slice-read-spread c = search needs
+element-copy-out-rule : tie.Need-element-copy-out-rule Inv-loop μ-loop
+element-copy-out-rule c = omega (arith, c .before .before .pre .few)
 
 spread-requires : tie.Need-spread-requires Inv-loop μ-loop
-spread-requires c κs = search needs
+spread-requires c κs = small-at (c .before .before .before .pre) _ (rule (c .before))
 
-add-i : tie.Need-add-i Inv-loop μ-loop
-add-i c = search needs
+add-p : tie.Need-add-p Inv-loop μ-loop
+add-p c = omega arith
 
 loop-less : tie.Need-loop-less Inv-loop μ-loop
-loop-less c = search needs
+loop-less c = omega arith
 
 loop-again : tie.Need-loop-again Inv-loop μ-loop
-loop-again c =
-    let l = c .before .before .before in
-    let h = c .before .before .loop-test .taken in (
-      omega arith,
-      passed-more reach-sound _
-          (code-at (l .before .before .args .codes .now) (l .loop .i) h) (l .loop .inv .1)
-          (c .spread .ensures),
-    )
+loop-again c = (
+  omega arith,
+  passed-more reach-sound _ (rule (c .before .before))
+      (c .before .before .before .loop .inv .1) (c .spread .ensures),
+)
 
 returns : tie.Need-returns Inv-loop μ-loop
-returns c =
-    let l = c .before .loop in
-    let cs = c .before .before .before .args .codes .now in
-    let e : l .i ≡ length cs = omega (arith, l .inv .0, c .loop-test .left) in
-    subst (λ (i : ℕ). Passed AddsParts (Reached (decoded cs)) (decoded cs) i
-    (c .before .before .before .args .set) (l .next)) e (l .inv .1)
+returns c = let e : c .before .loop .p ≡ c .before .before .args .t1 .count = omega arith in
+    rw e at (c .before .loop .inv .1)
 
 pub reach-pass-spec : {M : Type 1} → statement M
 reach-pass-spec =
@@ -63,10 +72,10 @@ reach-pass-spec =
     Inv-loop
     μ-loop
     loop-holds
-    mul-spread
-    shared-slice-read-spread
+    mul-rule
+    element-copy-out-rule
     spread-requires
-    add-i
+    add-p
     loop-less
     loop-again
     returns)

@@ -7,24 +7,23 @@ use Rattle.sets.specs.Sets.{In}
 use Rattle.sets.proofs.Sets.{in-zero}
 use Rattle.acyclic.specs.Exact.{Exactly}
 use Rattle.acyclic.proofs.Growth.{passed-all}
-use Rattle.codes.specs.Codes.{decoded}
-use Rattle.codes.proofs.Laws.{coded-length}
+use Rattle.grammar.specs.Content.{rules}
 use Rattle.reachable_rules.specs.Reach.{Reached}
 use Rattle.reachable_rules.proofs.ReachLaws.{reach-exact}
 use Rattle.reachable_rules.proofs.reached.Statement.{statement}
 use Rattle.reachable_rules.proofs.reached.Tie as tie
 
 abbrev Inv-loop : tie.InvT-loop
-Inv-loop codes set₀ set = (Y : ℕ) → In set Y → Reached (decoded codes) Y
+Inv-loop g set₀ set = (Y : ℕ) → In set Y → Reached (rules g) Y
 
 abbrev μ-loop : tie.MeasureT-loop
-μ-loop codes set₀ set = 2 ^ 64 - set
+μ-loop g set₀ set = 2 ^ 64 - set
 
 loop-holds : tie.Need-loop-holds Inv-loop μ-loop
 loop-holds c = λ Y m. absurd (in-zero Y m)
 
 reach-pass-requires : tie.Need-reach-pass-requires Inv-loop μ-loop
-reach-pass-requires c κs = tt
+reach-pass-requires c κs = c .before .pre
 
 with-requires : tie.Need-with-requires Inv-loop μ-loop
 with-requires c κs = omega arith
@@ -33,9 +32,9 @@ returns : tie.Need-returns Inv-loop μ-loop
 returns c =
     let p = c .before .before in
     let l = p .before in
-    let cs = l .before .before .args .codes .now in
-    subst (λ (s : ℕ). Exactly s (Reached (decoded cs))) (sym (c .with .ensures))
-    (reach-exact (passed-all (p .reach-pass .ensures) (coded-length cs) (c .before .if1 .taken))
+    let z = l .before in
+    subst (λ (s : ℕ). Exactly s (Reached (rules (z .args .g)))) (sym (c .with .ensures))
+    (reach-exact (passed-all (p .reach-pass .ensures) (z .pre .whole) (c .before .if1 .taken))
     (l .loop .inv))
 
 loop-less : tie.Need-loop-less Inv-loop μ-loop

@@ -1,57 +1,57 @@
--- By the kind.
+-- Each kind of clause adds what it has.
 use borrow.Author.Needs.{needs}
-use native.Mathlib.Omega.{arith}
-use mathlib.Core.Path.{sym, _∙_}
-use Rattle.reachable_rules.proofs.ReachLaws.{parts-none, parts-one, parts-two}
+use Rattle.acyclic.proofs.Growth.{grown-none}
+use Rattle.reachable_rules.proofs.ReachLaws.{parts-one, parts-two}
 use Rattle.reachable_rules.proofs.with_parts.Statement.{statement}
 use Rattle.reachable_rules.proofs.with_parts.Tie as tie
 
-kind-of-requires : tie.Need-kind-of-requires
-kind-of-requires c κs = search needs
+enum-told : tie.Need-enum-told
+enum-told c = search needs
 
-returns : tie.Need-returns
-returns c = parts-none _ _ (omega (arith, c .if1 .taken, c .before .kind-of .ensures))
+enum-told-2 : tie.Need-enum-told-2
+enum-told-2 c = search needs
 
-first-of-requires : tie.Need-first-of-requires
-first-of-requires c κs = search needs
+enum-known-c : tie.Need-enum-known-c
+enum-known-c c = search needs
 
 with-requires : tie.Need-with-requires
-with-requires c κs = search needs
+with-requires c κs = rw (c .before .c .given .1) at (c .before .before .before .pre)
 
-returns-2 : tie.Need-returns-2
-returns-2 c =
-    let k = c .before .before .before .before in
-    parts-one _ _ _ _ (sym (k .kind-of .ensures) ∙ c .if2 .taken)
-    (c .before .before .first-of .ensures) (c .before .with .ensures)
-
-second-of-requires : tie.Need-second-of-requires
-second-of-requires c κs = search needs
+enum-known-c-2 : tie.Need-enum-known-c-2
+enum-known-c-2 c = search needs
 
 with-requires-2 : tie.Need-with-requires-2
-with-requires-2 c κs = search needs
+with-requires-2 c κs = (rw (c .before .c2 .given .1) at (c .before .before .before .pre)) .0
+
+with-requires-3 : tie.Need-with-requires-3
+with-requires-3 c κs =
+    (rw (c .before .before .c2 .given .1) at (c .before .before .before .before .pre)) .1
+
+returns : tie.Need-returns
+returns c = rw (c .enum-told .given .1) (grown-none (λ Y p. absurd p))
+
+returns-2 : tie.Need-returns-2
+returns-2 c = rw (c .enum-told2 .given .1) (grown-none (λ Y p. absurd p))
 
 returns-3 : tie.Need-returns-3
-returns-3 c =
-    let k = c .before .before .before .before .before .before in
-    parts-two _ _ _ _ _ _ (omega (
-      arith,
-      k .kind-of .ensures,
-      c .before .before .before .before
-          .before .if1 .left,
-      c .before .before .if2 .left,
-    ))
-    (c .before .before .before .before .first-of .ensures) (c .before .second-of .ensures)
-    (c .before .before .before .with .ensures) (c .with2 .ensures)
+returns-3 c = rw (c .before .before .c .given .1) (parts-one _ (c .with .ensures))
+
+returns-4 : tie.Need-returns-4
+returns-4 c = rw (c .before .before .before .c2 .given .1)
+    (parts-two _ _ (c .before .with2 .ensures) (c .with3 .ensures))
 
 pub with-parts-spec : {M : Type 1} → statement M
 with-parts-spec =
     tie.close
     (tie.spec
-    kind-of-requires
-    returns
-    first-of-requires
+    enum-told
+    enum-told-2
+    enum-known-c
     with-requires
-    returns-2
-    second-of-requires
+    enum-known-c-2
     with-requires-2
-    returns-3)
+    with-requires-3
+    returns
+    returns-2
+    returns-3
+    returns-4)

@@ -1,19 +1,15 @@
 -- Over the terminals of the sheet, by the rules that 0 reaches, in another order; with no terminal
 -- there is no candidate.
 use borrow.Author.Needs.{needs}
-use mathlib.Core.Path.{_≡_}
 use Prim.Native.Nat.{_^_, _<_}
-use native.Mathlib.Omega.{arith}
-use lib.ListN.{length}
 use Rattle.spans.proofs.ChangeLaws.{past-same}
 use Rattle.candidates.proofs.TerminalSets.{among-terminal, lowest-of, none-of}
 use Rattle.equivalents.proofs.Renamed.{renames-of, renames-over}
-use Rattle.sweeping.proofs.Answers.{same-two}
 use Rattle.share_search.proofs.Reports.{few-of, found-of, found-none}
+use Rattle.reachable_rules.proofs.TreeLaws.{two-trimmed}
 use Rattle.share_search.proofs.find.Statement.{statement}
 use Rattle.share_search.proofs.find.Tie as tie
 
--- the set is a word
 small : (c : tie.After-terminals) → c .terminals .result < 2 ^ 64
 small c = search needs
 
@@ -46,53 +42,26 @@ returns c =
 needed-requires : tie.Need-needed-requires
 needed-requires c κs = c .before .before .before .before .before .before .pre .1 .0
 
-ordered-requires : tie.Need-ordered-requires
-ordered-requires c κs = search needs
-
-array-share-prefix-codes : tie.Need-array-share-prefix-codes
-array-share-prefix-codes c = search needs
-
-slice-aggregate-reachable : tie.Need-slice-aggregate-reachable
-slice-aggregate-reachable c = search needs
-
 reachable-requires : tie.Need-reachable-requires
 reachable-requires c κs = search needs
 
-array-share-prefix-few : tie.Need-array-share-prefix-few
-array-share-prefix-few c = let r = c .before .reachable in
-    let long : length (r .result .codes) ≡ 128 = search needs in omega (arith, r .ensures .1 .0)
-
-slice-aggregate-search-over : tie.Need-slice-aggregate-search-over
-slice-aggregate-search-over c = search needs
-
 search-over-requires : tie.Need-search-over-requires
 search-over-requires c κs =
-    let z = c .before .before .before .before .before .before .before .before .before .before
-    .before .before .before in
-    let s = c .before .before .before .before .before .before .before .before .before .before
-    .before .terminals in
-    let f = c .before .before .before .before .before .before .before .before .before .before
-    .first-from in
-    let o = c .before .before .before .before .before .ordered .ensures .0 in
-    let r = c .before .before .before .reachable .ensures .0 in
-    let w = lowest-of _ (f .result) _
-    (c .before .before .before .before .before .before .before .before .least .given .1)
+    let z = c .before .before .before .before .before .before .before .before .before in
+    let s = c .before .before .before .before .before .before .before .terminals in
+    let f = c .before .before .before .before .before .before .first-from in
+    let r = c .before .reachable .ensures in
+    let w = lowest-of _ (f .result) _ (c .before .before .before .before .least .given .1)
     (f .ensures) in (
       (
-        few-of _ _ (z .args .n) _
-            (small (c .before .before .before .before .before .before .before .before .before
-            .before .before)) (z .pre .0 .0) (z .pre .0 .1) (s .ensures) w
-            (z .pre .1 .1 .0),
+        few-of _ _ (z .args .n) _ (small
+            (c .before .before .before .before .before .before .before))
+            (z .pre .0 .0) (z .pre .0 .1) (s .ensures) w (z .pre .1 .1 .0),
         w,
-        renames-over (same-two o r)
-            (renames-of (c .before .before .before .before .before .before .needed
-            .ensures)),
+        renames-over
+            (λ w. two-trimmed (r .0)) (renames-of (c .before .before .needed .ensures)),
       ),
-      (
-        r .distinct (o .distinct (z .pre .1 .0 .distinct)),
-        z
-            .pre .1 .1 .1,
-      ),
+      (r .1, z .pre .1 .1 .1),
     )
 
 same-length : tie.Need-same-length
@@ -101,37 +70,20 @@ same-length c = search needs
 returns-2 : tie.Need-returns-2
 returns-2 c =
     let z = c .before .before .before .before .before .before .before .before .before .before
-    .before .before .before .before .before .before in
+    .before .before in
     let s = c .before .before .before .before .before .before .before .before .before .before
-    .before .before .before .before .terminals in
+    .terminals in
     let q = c .before .before .search-over in (
       found-of (s .result) (z .args .n)
-          (small (c .before .before .before .before .before .before .before .before .before .before
-          .before .before .before .before)) (s .ensures)
-          (among-terminal (z .args .g) (s .result) (z .pre .1 .0) (s .ensures))
-          (same-two (c .before .before .before .before .before .before .before .before
-          .ordered .ensures .0) (c .before .before .before .before .before .before
-          .reachable .ensures .0)) (q .ensures .0),
+          (small (c .before .before .before .before .before .before .before .before .before
+          .before))
+          (s .ensures) (among-terminal (z .args .g) (s .result) (z .pre .1 .0) (s .ensures))
+          (λ w. two-trimmed (c .before .before .before .before .reachable .ensures .0))
+          (q .ensures .0),
       q .ensures .1,
     )
 
 pub find-spec : {M : Type 1} → statement M
-find-spec =
-    tie.close
-    (tie.spec
-    terminals-requires
-    first-from-requires
-    enum-known-least
-    enum-told
-    nothing-requires
-    returns
-    needed-requires
-    ordered-requires
-    array-share-prefix-codes
-    slice-aggregate-reachable
-    reachable-requires
-    array-share-prefix-few
-    slice-aggregate-search-over
-    search-over-requires
-    same-length
+find-spec = tie.close (tie.spec terminals-requires first-from-requires enum-known-least enum-told
+    nothing-requires returns needed-requires reachable-requires search-over-requires same-length
     returns-2)

@@ -9,18 +9,27 @@ passable-requires c κs = let z = c .before .before .before in
     ((z .pre .0 .1, z .pre .0 .0), z .pre .0 .2)
 
 returns : tie.Need-returns
-returns c =
-    let z = c .before .before .before .before .before in
-    (λ e. c .before .passable .ensures (c .if1 .taken) .replaceable _ (z .pre .0 .4), past-same _ _)
+returns c = let z = c .before .before .before .before .before in (
+  (
+    λ e. c .before .passable .ensures (c .if1 .taken) .replaceable _ (z .pre .0 .4),
+    past-same _
+        _,
+  ),
+  z .pre .1 .1 .1 .1,
+)
 
 twinned-requires : tie.Need-twinned-requires
-twinned-requires c κs = search needs
+twinned-requires c κs = c .before .before .before .before .before .before .before .pre
 
 same-length : tie.Need-same-length
 same-length c = search needs
 
+same-length-2 : tie.Need-same-length-2
+same-length-2 c = search needs
+
 returns-2 : tie.Need-returns-2
-returns-2 c = c .before .before .twinned .ensures
+returns-2 c = c .before .before .before .before .twinned .ensures
 
 pub outdone-spec : {M : Type 1} → statement M
-outdone-spec = tie.close (tie.spec passable-requires returns twinned-requires same-length returns-2)
+outdone-spec = tie.close (tie.spec passable-requires returns twinned-requires same-length
+    same-length-2 returns-2)

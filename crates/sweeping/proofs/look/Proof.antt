@@ -12,44 +12,54 @@ slack-requires c κs = let z = c .before .before .before .before in
     (omega (arith, c .if1 .taken), z .pre .0 .1, z .pre .0 .0)
 
 returns : tie.Need-returns
-returns c =
-    let z = c .before .before .before .before .before .before in
-    (looked-slack (z .pre .0 .0) (c .before .slack .ensures (c .if2 .taken)), past-same _ _)
+returns c = let z = c .before .before .before .before .before .before in (
+  (looked-slack (z .pre .0 .0) (c .before .slack .ensures (c .if2 .taken)), past-same _ _),
+  z
+      .pre .1 .1 .1 .1,
+)
 
 has-two-requires : tie.Need-has-two-requires
-has-two-requires c κs =
-    let z = c .before .before .before .before .before .before in
+has-two-requires c κs = let z = c .before .before .before .before .before .before .before in
     ((z .pre .0 .0, z .pre .0 .2), z .pre .1)
 
 same-length : tie.Need-same-length
 same-length c = search needs
 
-returns-2 : tie.Need-returns-2
-returns-2 c =
-    let h = c .before .before .has-two .ensures in
-    (looked-whole (c .before .before .before .before .if3 .taken) (h .0), h .1)
-
-refutes-requires : tie.Need-refutes-requires
-refutes-requires c κs = c .before .before .before .before .before .before .pre
-
 same-length-2 : tie.Need-same-length-2
 same-length-2 c = search needs
 
+returns-2 : tie.Need-returns-2
+returns-2 c = let h = c .before .before .before .before .has-two .ensures in (
+  (
+    looked-whole (c .before .before .before .before .before .before .before .if3 .taken)
+        (h .0 .0),
+    h .0 .1,
+  ),
+  h .1,
+)
+
+refutes-requires : tie.Need-refutes-requires
+refutes-requires c κs = c .before .before .before .before .before .before .before .pre
+
+same-length-3 : tie.Need-same-length-3
+same-length-3 c = search needs
+
+same-length-4 : tie.Need-same-length-4
+same-length-4 c = search needs
+
 returns-3 : tie.Need-returns-3
-returns-3 c =
-    let h = c .before .before .refutes .ensures in
-    let z = c .before .before .before .before .before .before .before .before .before in
-    (looked-refuted (z .pre .0 .0) (c .before .before .before .before .if3 .left) (h .0), h .1)
+returns-3 c = let h = c .before .before .before .before .refutes .ensures in
+    let z = c .before .before .before .before .before .before .before .before .before .before
+    .before .before in (
+      (
+        looked-refuted (z .pre .0 .0)
+            (c .before .before .before .before .before .before .before .if3 .left) (h .0 .0),
+        h .0
+            .1,
+      ),
+      h .1,
+    )
 
 pub look-spec : {M : Type 1} → statement M
-look-spec =
-    tie.close
-    (tie.spec
-    slack-requires
-    returns
-    has-two-requires
-    same-length
-    returns-2
-    refutes-requires
-    same-length-2
-    returns-3)
+look-spec = tie.close (tie.spec slack-requires returns has-two-requires same-length same-length-2
+    returns-2 refutes-requires same-length-3 same-length-4 returns-3)

@@ -1,0 +1,64 @@
+use borrow.Author.Needs.{needs}
+use Rattle.refilling.proofs.find.Statement.{statement}
+use Rattle.refilling.proofs.find.Tie as tie
+use borrow.Author.Needs.{needs}
+use native.Mathlib.Omega.{arith}
+use Rattle.cuts.proofs.CountLaws.{counts-nested}
+use Rattle.filling.proofs.ClosingLaws.{found-of}
+
+cut-masks-requires : tie.Need-cut-masks-requires
+cut-masks-requires c κs = search needs
+
+add-kept-splits : tie.Need-add-kept-splits
+add-kept-splits c = search needs
+
+kept-splits-requires : tie.Need-kept-splits-requires
+kept-splits-requires c κs = search needs
+
+level-of-requires : tie.Need-level-of-requires
+level-of-requires c κs = search needs
+
+sub-unite : tie.Need-sub-unite
+sub-unite c = search needs
+
+part-unite-start : tie.Need-part-unite-start
+part-unite-start c = search needs
+
+part-unite-end : tie.Need-part-unite-end
+part-unite-end c = search needs
+
+mul-unite : tie.Need-mul-unite
+mul-unite c = search needs
+
+unite-requires : tie.Need-unite-requires
+unite-requires c κs = (
+  omega (
+    arith,
+    c .before .level-of .ensures .small,
+    c .before .before .before
+        .before .before .pre .0 .1 .chains .size,
+  ),
+  record
+      { within = counts-nested (c .before .before .kept-splits .ensures) },
+)
+
+returns : tie.Need-returns
+returns c = found-of (c .before .before .before .before .before .before .pre .0 .0)
+    (c .before .before .before .before .cut-masks .ensures)
+    (c .before .before .before .kept-splits .ensures) (c .before .before .level-of .ensures)
+    (c .unite .ensures)
+
+pub find-spec : {M : Type 1} → statement M
+find-spec =
+    tie.close
+    (tie.spec
+    cut-masks-requires
+    add-kept-splits
+    kept-splits-requires
+    level-of-requires
+    sub-unite
+    part-unite-start
+    part-unite-end
+    mul-unite
+    unite-requires
+    returns)

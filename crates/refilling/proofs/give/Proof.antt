@@ -1,0 +1,30 @@
+use borrow.Author.Needs.{needs}
+use native.Mathlib.Omega.{arith}
+use Rattle.refilling.proofs.give.Statement.{statement}
+use Rattle.refilling.proofs.give.Tie as tie
+
+put-requires : tie.Need-put-requires
+put-requires c κs = let z = c .before .before .before .before in (
+  (
+    z .pre .0 .0,
+    record {
+      few = omega (arith, z .pre .0 .0);
+      fits = omega (arith, z .pre .0 .1);
+      enough = z .pre .1 .0;
+    },
+    omega arith,
+  ),
+  z .pre .1 .1,
+)
+
+same-length : tie.Need-same-length
+same-length c = search needs
+
+same-length-2 : tie.Need-same-length-2
+same-length-2 c = search needs
+
+returns : tie.Need-returns
+returns c = let p = c .before .before .before .before .put .ensures in (p .0, p .1 .0)
+
+pub give-spec : {M : Type 1} → statement M
+give-spec = tie.close (tie.spec put-requires same-length same-length-2 returns)

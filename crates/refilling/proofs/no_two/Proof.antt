@@ -1,0 +1,38 @@
+use borrow.Author.Needs.{needs}
+use mathlib.Core.Path.{_≡_}
+use native.Mathlib.Omega.{arith}
+use lib.ListN.{length, length-map}
+use Rattle.marks.specs.Drafts.{drafted}
+use Rattle.marks.proofs.DraftLaws.{drafted-length}
+use Rattle.chart.proofs.SheetLaws.{settles}
+use Rattle.refilling.proofs.no_two.Statement.{statement}
+use Rattle.refilling.proofs.no_two.Tie as tie
+
+-- the array of tokens has 64 places
+whole : (c : tie.Start) → length (drafted (c .args .d)) ≡ c .args .d .count
+whole c = drafted-length (c .args .d) (simp length-map at (c .good .1 .1 .0 .1 .1 .0 .1 .0 .1))
+    (omega (arith, c .pre .0 .0))
+
+refill-requires : tie.Need-refill-requires
+refill-requires c κs = search needs
+
+in-second-requires : tie.Need-in-second-requires
+in-second-requires c κs = search needs
+
+same-length : tie.Need-same-length
+same-length c = search needs
+
+same-length-2 : tie.Need-same-length-2
+same-length-2 c = search needs
+
+returns : tie.Need-returns
+returns c =
+    let f = c .before .before .before .before .before .before in (
+      settles (whole (f .before .before .before .before .before)) (f .refill .ensures .0)
+          (c .in-second .ensures),
+      f .refill .ensures .1,
+    )
+
+pub no-two-spec : {M : Type 1} → statement M
+no-two-spec =
+    tie.close (tie.spec refill-requires in-second-requires same-length same-length-2 returns)

@@ -1,0 +1,68 @@
+use borrow.Author.Needs.{needs}
+use Rattle.refilling.proofs.open_sheet.Statement.{statement}
+use Rattle.refilling.proofs.open_sheet.Tie as tie
+use borrow.Author.Needs.{needs}
+use mathlib.Core.Path.{subst}
+use Prim.Native.Nat.{ℕ}
+use Rattle.spans.specs.Changes.{Cleared}
+use Rattle.refilling.proofs.KeptLaws.{prepared-past, open-past, mirror-open}
+
+size-requires : tie.Need-size-requires
+size-requires c κs = search needs
+
+clear-requires : tie.Need-clear-requires
+clear-requires c κs = search needs
+
+add-wipe : tie.Need-add-wipe
+add-wipe c = search needs
+
+mul-wipe : tie.Need-mul-wipe
+mul-wipe c = search needs
+
+wipe-requires : tie.Need-wipe-requires
+wipe-requires c κs = search needs
+
+mul-wipe-2 : tie.Need-mul-wipe-2
+mul-wipe-2 c = search needs
+
+wipe-requires-2 : tie.Need-wipe-requires-2
+wipe-requires-2 c κs = search needs
+
+same-length : tie.Need-same-length
+same-length c = search needs
+
+same-length-2 : tie.Need-same-length-2
+same-length-2 c = search needs
+
+returns : tie.Need-returns
+returns c = let z = c .before .before .before .before .before .before .before .before .before
+    .before .before .before .before .before .before in
+    let x = subst (λ (m : ℕ). Cleared (z .args .words .now)
+    (c .before .before .before .before .before .before .before .before .before .before .clear
+    .last .0) m) (c .before .before .before .before .before .before .before .before .before
+    .before .before .size .ensures)
+    (c .before .before .before .before .before .before .before .before .before .before .clear
+    .ensures) in
+    let f = c .before .before .before .before .before .before .wipe .ensures in
+    let g = c .before .before .wipe2 .ensures in (
+      record {
+        prepared = prepared-past (open-past (z .pre .0) f g) (z .pre .1 .1);
+        mirror = mirror-open (z .pre .0) x f g;
+      },
+      x .past,
+    )
+
+pub open-sheet-spec : {M : Type 1} → statement M
+open-sheet-spec =
+    tie.close
+    (tie.spec
+    size-requires
+    clear-requires
+    add-wipe
+    mul-wipe
+    wipe-requires
+    mul-wipe-2
+    wipe-requires-2
+    same-length
+    same-length-2
+    returns)

@@ -1,0 +1,67 @@
+use mathlib.Core.Path.{sym, subst}
+use Rattle.grammar.specs.Content.{rules}
+use Rattle.refilling.specs.Turning.{SetRules}
+use Rattle.refilling.proofs.KeptLaws.{made}
+use borrow.Author.Needs.{needs}
+use Rattle.refilling.proofs.prepare.Statement.{statement}
+use Rattle.refilling.proofs.prepare.Tie as tie
+use borrow.Author.Needs.{needs}
+
+empty-pair-requires : tie.Need-empty-pair-requires
+empty-pair-requires c κs = search needs
+
+sub-chains : tie.Need-sub-chains
+sub-chains c = search needs
+
+part-chains-start : tie.Need-part-chains-start
+part-chains-start c = search needs
+
+part-chains-end : tie.Need-part-chains-end
+part-chains-end c = search needs
+
+chains-requires : tie.Need-chains-requires
+chains-requires c κs = search needs
+
+binary-rules-requires : tie.Need-binary-rules-requires
+binary-rules-requires c κs = search needs
+
+write-requires : tie.Need-write-requires
+write-requires c κs = search needs
+
+set-rules-requires : tie.Need-set-rules-requires
+set-rules-requires c κs = search needs
+
+same-length : tie.Need-same-length
+same-length c = search needs
+
+returns : tie.Need-returns
+returns c =
+    let z = c .before .before .before .before .before .before .before .before .before .before
+    .before .before .before .before .before in
+    let g = rules (z .args .g) in
+    made (z .args .kept .now) (c .before .before .before .before .before .before .before .before
+    .before .before .before .chains .last .0) (z .pre .1)
+    (c .before .before .before .before .before .before .before .before .before .before .before
+    .before .before .empty-pair .ensures)
+    (c .before .before .before .before .before .before .before .before .before .before .before
+    .chains .ensures)
+    (c .before .before .before .before .before .before .before .before .binary-rules .ensures)
+    (c .before .before .before .before .before .before .write .ensures)
+    (subst (SetRules g (c .before .before .before .before .before .before .write .last .0)
+    (c .before .before .set-rules .last .0)) (sym (z .pre .0 .whole))
+    (c .before .before .set-rules .ensures))
+
+pub prepare-spec : {M : Type 1} → statement M
+prepare-spec =
+    tie.close
+    (tie.spec
+    empty-pair-requires
+    sub-chains
+    part-chains-start
+    part-chains-end
+    chains-requires
+    binary-rules-requires
+    write-requires
+    set-rules-requires
+    same-length
+    returns)
