@@ -16,8 +16,8 @@ use Rattle.places.specs.Places.{Entry, AllPlaces}
 use Rattle.places.proofs.PaperLaws.{dissimilar-several}
 use Rattle.places.proofs.PlaceLaws.{place-iff, reached-place}
 use Rattle.places.proofs.ListLaws.{places-empty}
-use Rattle.answering.specs.declared.Answer.{Answer}
-use Rattle.answering.specs.declared.Answer.the-variants as Answer
+use Rattle.sheets.specs.declared.Answer.{Answer}
+use Rattle.sheets.specs.declared.Answer.the-variants as Answer
 use Rattle.sheets.specs.Items.{accepted}
 use Rattle.sheets.specs.RuleSheets.{ruleSheet}
 use Rattle.sheets.proofs.Accepted.{tokens-good}

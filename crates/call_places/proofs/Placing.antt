@@ -12,7 +12,7 @@ use Rattle.lists.proofs.Settled.{gives-map}
 use Rattle.places.proofs.ListLaws.{places-none}
 use Rattle.place_list.specs.Given.{PlacesGiven}
 use Rattle.sheets.specs.declared.Fault.the-variants as Fault
-use Rattle.answering.specs.declared.Answer.{Answer}
+use Rattle.sheets.specs.declared.Answer.{Answer}
 use Rattle.answering.specs.Answers.{AnswerHolds}
 use Rattle.answering.specs.Verdict.{SheetFilled}
 use Rattle.call_places.specs.declared.PlacesReply.{PlacesReply}

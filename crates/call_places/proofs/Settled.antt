@@ -13,7 +13,7 @@ use Rattle.places.specs.Places.{Entry, entryBytes}
 use Rattle.places.proofs.ListLaws.{places-same}
 use Rattle.sheets.specs.declared.Fault.{Fault}
 use Rattle.sheets.proofs.Numbers.{same-fault}
-use Rattle.answering.specs.declared.Answer.{Answer}
+use Rattle.sheets.specs.declared.Answer.{Answer}
 use Rattle.sheets.proofs.Once.{apart, same-refusal}
 use Rattle.answering.proofs.Settled.{Words, says-one, filled-same, same-sheets}
 use Rattle.call_places.specs.declared.PlacesReply.{PlacesReply}

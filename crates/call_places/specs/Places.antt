@@ -11,8 +11,8 @@ use Rattle.places.specs.Places.{Entry, AllPlaces, entryBytes}
 use Rattle.sheets.specs.Items.{accepted}
 use Rattle.sheets.specs.declared.Fault.{Fault}
 use Rattle.sheets.specs.Refusals.{numberOf, RefusedAs}
-use Rattle.answering.specs.declared.Answer.{Answer}
-use Rattle.answering.specs.declared.Answer.the-variants as Answer
+use Rattle.sheets.specs.declared.Answer.{Answer}
+use Rattle.sheets.specs.declared.Answer.the-variants as Answer
 use Rattle.answering.specs.Answers.{sheets, AnswerHolds}
 use Rattle.answering.specs.Verdict.{needed, SheetFilled}
 use Rattle.call_places.specs.declared.PlacesReply.{PlacesReply}

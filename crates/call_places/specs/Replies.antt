@@ -6,7 +6,7 @@ use Rattle.lists.specs.declared.Listed.{Listed}
 use Rattle.lists.specs.Lists.{GivesList}
 use Rattle.lists.specs.Putting.{listed, unfit}
 use Rattle.sheets.specs.declared.Fault.the-variants as Fault
-use Rattle.answering.specs.declared.Answer.{Answer}
+use Rattle.sheets.specs.declared.Answer.{Answer}
 use Rattle.call_places.specs.declared.PlacesReply.{PlacesReply}
 use Rattle.call_places.specs.Places.{placesReplyOf, placesRefusal}
 

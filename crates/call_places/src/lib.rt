@@ -1,8 +1,7 @@
 // The public call for places: all nonterminals and words at which the readings of a sentence part
 // (02, request 11).
-use answering::Answer;
 use chart::Verdict;
-use contained_spans::reached;
+use contained_spans::find_places;
 use filling::judge;
 use grammar::Grammar;
 use grammar::Sentence;
@@ -10,6 +9,7 @@ use lists::Listed;
 use lists::begin;
 use lists::finish;
 use place_list::list_places;
+use sheets::Answer;
 use sheets::Fault;
 use sheets::Outcome;
 use sheets::read_rules;
@@ -76,9 +76,9 @@ fn list_two(words: &[u64], s: Sentence, g: Grammar, list: &mut [u8]) -> Listed
     ensures { λ r. ⌜ PlacesGiven (rulesOf g) (spelled s) (now (list .entry)) (now (list .exit))
         r ⌝ }
 {
-    let mut reach = [0u64; 2081];
-    reached(words, s, g, &mut reach);
-    list_places(words, &reach, s, g, list)
+    let mut parts = [0u64; 2081];
+    find_places(words, s, g, &mut parts);
+    list_places(&parts, s, g, list)
 }
 
 // The places of rules and a sentence that were read.

@@ -1,13 +1,13 @@
--- The spans are worked off from the longest down; when all are, the words say what whole trees
--- contain. Nothing is said of cycles.
+-- The spans are worked off start by start, the longest first; when all are, the words say where
+-- places are. Nothing is said of cycles.
 use mathlib.Core.Path.{_≡_, refl, sym, ap, _∙_, subst, subst₂}
 use mathlib.Core.Logic.{_⊎_, inl, inr, ⊎-elim}
 use mathlib.Core.List.{List, [], _++_}
 use Prim.Native.Nat.{ℕ, zero, suc, _+_, _-_, _≤_, _<_}
 use native.Mathlib.Omega.{arith}
-use native.Mathlib.Numerals.{add-one}
-use native.Mathlib.Decide.{decLt}
-use lib.ListN.{length, length-append}
+use native.Mathlib.Decide.{ℕ-discrete, decLt}
+use lib.ListN.{length, getD, length-append, length-set}
+use lib.Seq.{getD-set-same, getD-set-other}
 use Rattle.sets.specs.Sets.{In}
 use Rattle.sets.proofs.Sets.{in-zero}
 use Rattle.grammar.specs.declared.Rule.{Rule}
@@ -18,45 +18,26 @@ use Rattle.grammar.specs.Trees.{Tree, unary, binary, root, word, Rules, Valid, 
 use Rattle.grammar.specs.Trees.{valid-binary, Witness, Derives}
 use Rattle.grammar.specs.Choices.{Top, Choice}
 use Rattle.grammar.specs.Rows.{startOf}
-use Rattle.grammar.specs.SpanSheet.{part, pairs, spans, pairAt}
+use Rattle.grammar.specs.SpanSheet.{part, pairs, pairAt}
 use Rattle.grammar.proofs.ChoiceLaws.{takes-of}
 use Rattle.grammar.proofs.ByKind.{getElem?-lt, inside}
 use Rattle.marks.proofs.Words.{part-length}
-use Rattle.order.proofs.Places.{there}
-use Rattle.spans.proofs.Places.{pairAt-same, pairAt-below, pairAt-empty, pairs-spans}
+use Rattle.tables.proofs.Places.{there}
+use Rattle.spans.proofs.Places.{pairAt-same, pairAt-below}
 use Rattle.spans.specs.Changes.{Cleared}
 use Rattle.tables.specs.Tables.{rule}
 use Rattle.places.specs.Places as Pl
-use Rattle.places.specs.Places.{StandsIn, Contains}
+use Rattle.places.specs.Places.{Several, StandsIn, Contains}
 use Rattle.places.proofs.PlaceLaws.{Lies, part-whole, lies-left, lies-right, lies-whole}
-use Rattle.contained_spans.specs.Reached.{Bit, Reached}
+use Rattle.cuts.proofs.Bits.{in-word}
+use Rattle.contained_spans.specs.PlaceWords.{PlaceWords}
+use Rattle.contained_spans.specs.Reached.{Bit}
 use Rattle.cuts.specs.Joining.{Joins}
-use Rattle.contained_spans.specs.Spreading.{Kids, Held, Spread, Spreads, Begun, Done}
-use Rattle.contained_spans.proofs.HeldLaws.{kids-kept}
+use Rattle.contained_spans.specs.Spreading.{Kids, Held, Spread, SpanBefore, SpanDone, Begun}
+use Rattle.contained_spans.specs.Spreading.{Settled, Done, AllDone}
+use Rattle.contained_spans.proofs.HeldLaws.{kids-kept, apart-from}
 
--- ---- where rows of spans begin and end
-
-pub row-end : (n len : ℕ) → 0 < len → len ≤ n → pairAt n (n - len + 1) len ≡ pairAt n 0 (len + 1)
-unfolding pairAt spans
-row-end n zero h k = absurd (omega arith)
-row-end n (suc l) h k = (let e : pairAt n (n - suc l + 1) (suc l)
-    ≡ pairAt n 0 (suc (suc l)) = omega arith in e) ∙ ap (pairAt n 0) (sym (add-one (suc l)))
-
-pub all-rows : (n : ℕ) → pairAt n 0 (n + 1) ≡ pairs n
-unfolding pairAt spans
-all-rows n = ap (pairAt n 0) (add-one n)
-    ∙ (let e : pairAt n 0 (suc n) ≡ pairs n = omega (arith, pairs-spans n) in e)
-
-pub last-row : (n : ℕ) → pairAt n 0 1 ≡ 1
-unfolding pairAt spans
-last-row n = refl
-
-pub next-start : (n s len : ℕ) → 0 < len → pairAt n (s + 1) len ≡ suc (pairAt n s len)
-unfolding pairAt
-next-start n s zero h = absurd (omega arith)
-next-start n s (suc l) h = omega arith
-
--- ---- one span more
+-- ---- the empty word has one pair
 
 spread-empty : (g : Rules) (w : Word) (n : ℕ) (rs : List ℕ) (s a : ℕ) → Spread g w n rs s 0
     → Spread g w n rs a 0
@@ -70,52 +51,122 @@ spread-empty g w n rs s a f A i l b c = go (rule g i .clause) l (inside A [] i l
     go (Clause.Binary B C m) zero h x = x
     go (Clause.Binary B C m) (suc l) h x = absurd (omega arith)
 
-pub done-step : (g : Rules) (w : Word) (n s len : ℕ) (rs rs′ : List ℕ) → s + len ≤ n
-    → Done g w n rs (suc (pairAt n s len)) → Spreads g w n s len rs rs′
-    → Done g w n rs′ (pairAt n s len)
-done-step g w n s len rs rs′ fit d x = record {
-  long = omega (arith, d .long, x .long);
-  begun = x .keeps (pairAt n 0 n) 0 (d .begun);
-  sound = x .sound (d .sound);
-  spread = λ a b h l. go a b h l (decLt (pairAt n s len) (pairAt n a b));
+settled-empty : (g : Rules) (w : Word) (n : ℕ) (rs ps : List ℕ) (s a : ℕ)
+    → Settled g w n rs ps s 0 → Settled g w n rs ps a 0
+unfolding pairAt
+settled-empty g w n rs ps s a x =
+    record { spread = spread-empty g w n rs s a (x .spread); parts = x .parts }
+
+-- ---- a span more
+
+pub span-wide : {g : Rules} {w : Word} {n s len : ℕ} {rs rs′ sn′ ps ps′ : List ℕ}
+    → SpanDone g w n s len rs rs′ sn′ ps ps′ → length ps′ ≡ length ps
+span-wide {n = n} {s} {len} {ps = ps} x = ap length (x .wrote) ∙ length-set ps (pairAt n s len)
+    (x .word)
+
+module _ (g : Rules) (w : Word) (n s len : ℕ) (rs rs′ sn′ ps ps′ : List ℕ) (fit : s + len ≤ n)
+    (wide : pairs n ≤ length ps) (x : SpanDone g w n s len rs rs′ sn′ ps ps′) where
+  -- a span that comes before stays settled
+  settled-kept : (a b : ℕ) → a + b ≤ n → SpanBefore a b s len → Settled g w n rs ps a b
+      → Settled g w n rs′ ps′ a b
+  settled-kept a b h o y = record {
+    spread = λ A i m z c. kids-kept rs rs′ n a b (rule g i .clause) m (x .spreads .keeps)
+        (y .spread A i m (x .spreads .apart a b A h o z) c);
+    parts = λ A. (
+      λ i. let q = y .parts A .0 (in-word same i) in
+          (x .spreads .keeps (pairAt n a b) A (q .0), q .1),
+      λ q. in-word (sym same) (y .parts A .1 (x .spreads .apart a b A h o (q .0), q .1)),
+    );
+  }
+    where
+      same : getD ps′ (pairAt n a b) 0 ≡ getD ps (pairAt n a b) 0
+      same = ap (λ (l : List ℕ). getD l (pairAt n a b) 0) (x .wrote)
+          ∙ getD-set-other ps (pairAt n s len) (pairAt n a b) (x .word) 0
+          (apart-from n s len s len a b fit h o (omega arith) (omega arith))
+
+  settled-here : Settled g w n rs′ ps′ s len
+  settled-here = record {
+    spread = x .spreads .spread;
+    parts = λ A. let q = x .spreads .parts A in
+        (λ i. q .0 (in-word same i), λ i. in-word (sym same) (q .1 i));
+  }
+    where
+      same : getD ps′ (pairAt n s len) 0 ≡ x .word
+      same = ap (λ (l : List ℕ). getD l (pairAt n s len) 0) (x .wrote)
+          ∙ getD-set-same ps (pairAt n s len) (x .word) 0
+          (omega (arith, pairAt-below n s len fit, wide))
+
+  wide-kept : pairs n ≤ length ps′
+  wide-kept = omega (arith, wide, span-wide x)
+
+  pub done-step : 0 < len → Done g w n s len rs ps → Done g w n s (len - 1) rs′ ps′
+  done-step pos d = record {
+    long = omega (arith, d .long, x .spreads .long);
+    wide = wide-kept;
+    begun = x .spreads .keeps (pairAt n 0 n) 0 (d .begun);
+    sound = x .spreads .sound (d .sound);
+    settled = λ a b h p o. go a b h p o (ℕ-discrete a s) (ℕ-discrete b len);
+  }
+    where
+      old : (a b : ℕ) → a + b ≤ n → 0 < b → (a < s) ⊎ ((a ≡ s) × (len < b))
+          → Settled g w n rs′ ps′ a b
+      old a b h p o = settled-kept a b h (p, inr o) (d .settled a b h p o)
+
+      go : (a b : ℕ) → a + b ≤ n → 0 < b → (a < s) ⊎ ((a ≡ s) × (len - 1 < b)) → Dec (a ≡ s)
+          → Dec (b ≡ len) → Settled g w n rs′ ps′ a b
+      go a b h p (inl o) e f = old a b h p (inl o)
+      go a b h p (inr o) (yes e) (yes f) =
+          subst₂ (λ (y z : ℕ). Settled g w n rs′ ps′ y z) (sym e) (sym f) settled-here
+      go a b h p (inr o) (yes e) (no f) = old a b h p (inr (e, omega (arith, o .1, f, pos)))
+      go a b h p (inr o) (no e) f = absurd (e (o .0))
+
+  -- the empty word comes last
+  pub done-last : s ≡ 0 → len ≡ 0 → Done g w n n n rs ps → AllDone g w n rs′ ps′
+  done-last e z d = record {
+    long = omega (arith, d .long, x .spreads .long);
+    wide = wide-kept;
+    begun = x .spreads .keeps (pairAt n 0 n) 0 (d .begun);
+    sound = x .spreads .sound (d .sound);
+    settled = λ a b h. go a b h (ℕ-discrete b 0);
+  }
+    where
+      here : Settled g w n rs′ ps′ 0 0
+      here = subst₂ (λ (y v : ℕ). Settled g w n rs′ ps′ y v) e z settled-here
+
+      go : (a b : ℕ) → a + b ≤ n → Dec (b ≡ 0) → Settled g w n rs′ ps′ a b
+      go a b h (yes f) =
+          subst (λ (y : ℕ). Settled g w n rs′ ps′ a y) (sym f)
+          (settled-empty g w n rs′ ps′ 0 a here)
+      go a b h (no f) = settled-kept a b h (omega arith, inl z)
+          (d .settled a b h (omega arith) (inl (omega arith)))
+
+-- ---- a start more
+
+pub start-first : {g : Rules} {w : Word} {n s : ℕ} {rs ps : List ℕ} → Done g w n s n rs ps
+    → Done g w n s (n - s) rs ps
+start-first {s = s} d = record {
+  long = d .long;
+  wide = d .wide;
+  begun = d .begun;
+  sound = d .sound;
+  settled = λ a b h p o. d .settled a b h p (⊎-elim inl
+      (λ z. absurd (omega (arith, h, z .0, z .1))) o);
+}
+
+pub start-last : {g : Rules} {w : Word} {n s len : ℕ} {rs ps : List ℕ} → len ≡ 0
+    → Done g w n s len rs ps → Done g w n (s + 1) n rs ps
+start-last {s = s} {len} e d = record {
+  long = d .long;
+  wide = d .wide;
+  begun = d .begun;
+  sound = d .sound;
+  settled = λ a b h p o. d .settled a b h p (⊎-elim (λ z. split a b p z (decLt a s))
+      (λ z. absurd (omega (arith, h, z .0, z .1))) o);
 }
   where
-    same : (a b : ℕ) → (b ≡ len) × ((b ≡ 0) ⊎ (a ≡ s)) → Spread g w n rs′ a b
-    same a b (e, inl z) =
-        subst (λ (y : ℕ). Spread g w n rs′ a y) (sym z)
-        (spread-empty g w n rs′ s a (subst (λ (y : ℕ). Spread g w n rs′ s y) (sym e ∙ z)
-        (x .spread)))
-    same a b (e, inr z) = subst₂ (λ (y v : ℕ). Spread g w n rs′ y v) (sym z) (sym e) (x .spread)
-
-    go : (a b : ℕ) → a + b ≤ n → pairAt n s len ≤ pairAt n a b → Dec (pairAt n s len < pairAt n a b)
-        → Spread g w n rs′ a b
-    go a b h l (yes q) = λ A i m y c. kids-kept rs rs′ n a b (rule g i .clause) m (x .keeps)
-        (d .spread a b h q A i m (x .past (pairAt n a b) A q y) c)
-    go a b h l (no q) = same a b (pairAt-same n a b s len h fit (omega arith))
-
--- ---- a row of spans
-
-pub row-start : (g : Rules) (w : Word) (n len : ℕ) (rs : List ℕ) → 0 < len → len ≤ n
-    → Done g w n rs (pairAt n 0 (len + 1)) → Done g w n rs (pairAt n (n - len + 1) len)
-row-start g w n len rs h k d = subst (Done g w n rs) (sym (row-end n len h k)) d
-
-pub row-next : (g : Rules) (w : Word) (n start len : ℕ) (rs rs′ : List ℕ) → 0 < len → 0 < start
-    → start - 1 + len ≤ n → Done g w n rs (pairAt n start len)
-    → Spreads g w n (start - 1) len rs rs′
-    → Done g w n rs′ (pairAt n (start - 1) len)
-row-next g w n start len rs rs′ h k fit d x =
-    let e : pairAt n start len ≡ suc (pairAt n (start - 1) len) = ap (λ (s : ℕ). pairAt n s len)
-    (let z : start ≡ start - 1 + 1 = omega arith in z) ∙ next-start n (start - 1) len h in
-    done-step g w n (start - 1) len rs rs′ fit (subst (Done g w n rs) e d) x
-
--- the empty word comes last
-pub last-next : (g : Rules) (w : Word) (n len : ℕ) (rs rs′ : List ℕ) → len ≡ 0
-    → Done g w n rs (pairAt n 0 (len + 1)) → Spreads g w n 0 0 rs rs′ → Done g w n rs′ 0
-last-next g w n len rs rs′ z d x =
-    subst (Done g w n rs′) (pairAt-empty n 0)
-    (done-step g w n 0 0 rs rs′ (omega arith)
-    (subst (Done g w n rs) (ap (λ (l : ℕ). pairAt n 0 (l + 1)) z ∙ last-row n
-    ∙ ap suc (sym (pairAt-empty n 0))) d) x)
+    split : (a b : ℕ) → 0 < b → a < s + 1 → Dec (a < s) → (a < s) ⊎ ((a ≡ s) × (len < b))
+    split a b p z (yes y) = inl y
+    split a b p z (no y) = inr (omega arith, omega arith)
 
 -- ---- at first only the whole sentence is there, with the start
 
@@ -128,16 +179,17 @@ begun n rs rs₁ rs₂ h c j = record {
       (λ y. y) (j .only q B x);
 }
 
-pub done-start : (g : Rules) (w : Word) (n : ℕ) (rs : List ℕ) → length w ≡ n → Derives g 0 w
-    → Begun n rs → Done g w n rs (pairAt n 0 (n + 1))
-done-start g w n rs e d b = record {
+pub done-start : (g : Rules) (w : Word) (n : ℕ) (rs ps : List ℕ) → length w ≡ n → Derives g 0 w
+    → pairs n ≤ length ps → Begun n rs → Done g w n 0 n rs ps
+done-start g w n rs ps e d wide b = record {
   long = b .long;
+  wide = wide;
   begun = b .start;
   sound = record {
     held = λ s len A k x. held s len A k
         (b .only (pairAt n s len) A (pairAt-below n s len k) x);
   };
-  spread = λ a b k l. absurd (omega (arith, all-rows n, pairAt-below n a b k));
+  settled = λ a b k p o. absurd (⊎-elim (λ z. omega arith) (λ z. omega (arith, k, z .0, z .1)) o);
 }
   where
     all : Held g w 0 (length w) 0
@@ -156,7 +208,7 @@ done-start g w n rs e d b = record {
 
 -- ---- when all spans are worked off
 
-module _ (g : Rules) (w : Word) (rs : List ℕ) (d : Done g w (length w) rs 0) where
+module _ (g : Rules) (w : Word) (rs ps : List ℕ) (d : AllDone g w (length w) rs ps) where
   -- the choice at the top of a node, and what lies beneath it
   kids-of : (t : Tree) → Valid g t → (i : ℕ) → Lies w t i
       → Bit rs (length w) i (length (word t)) (root t)
@@ -178,7 +230,7 @@ module _ (g : Rules) (w : Word) (rs : List ℕ) (d : Done g w (length w) rs 0) w
         y .rule,
         y .top,
         subst (λ (r : Rule). Kids (Bit rs (length w)) i (length (word t)) (r .clause) (x .1)) e
-            (d .spread i (length (word t)) (a .fits) (omega arith) (root t) (x .0) (x .1) b c),
+            (d .settled i (length (word t)) (a .fits) .spread (root t) (x .0) (x .1) b c),
       )
 
   below-unary : (A : ℕ) (s : Tree) → Valid g (unary A s) → (i : ℕ) → Lies w (unary A s) i
@@ -252,11 +304,30 @@ module _ (g : Rules) (w : Word) (rs : List ℕ) (d : Done g w (length w) rs 0) w
         starts = z .4;
       }
 
-  reached-whole : Reached g w rs
-  reached-whole =
-      record { enough = d .long; is = λ s len A h. (bit-contains s len A h, contains-bit s len A) }
+  several-start : (s len A : ℕ) → Several g A (part w s len)
+      → Several g A (part w (startOf s len) len)
+  several-start s zero A x = x
+  several-start s (suc l) A x = x
 
--- THE THEOREM: the words say what whole trees contain
-pub reached : (g : Rules) (w : Word) (n : ℕ) (rs : List ℕ) → length w ≡ n → Done g w n rs 0
-    → Reached g w rs
-reached g w n rs e d = reached-whole g w rs (subst (λ (x : ℕ). Done g w x rs 0) (sym e) d)
+  start-several : (s len A : ℕ) → Several g A (part w (startOf s len) len)
+      → Several g A (part w s len)
+  start-several s zero A x = x
+  start-several s (suc l) A x = x
+
+  pub places-whole : PlaceWords g w ps
+  places-whole = record {
+    enough = d .wide;
+    is = λ s len A h. let q = d .settled s len h .parts A in (
+      λ i. let b = q .0 i in record {
+        contained = bit-contains s len A h (b .0);
+        several = several-start s len A (b .1);
+      },
+      λ x. q .1 (contains-bit s len A (x .contained), start-several s len A (x .several)),
+    );
+  }
+
+-- THE THEOREM: the words say where places are
+pub places : (g : Rules) (w : Word) (n : ℕ) (rs ps : List ℕ) → length w ≡ n → AllDone g w n rs ps
+    → PlaceWords g w ps
+places g w n rs ps e d =
+    places-whole g w rs ps (subst (λ (x : ℕ). AllDone g w x rs ps) (sym e) d)

@@ -5,7 +5,6 @@ use mathlib.Core.List.{List}
 use mathlib.Core.Option.{some}
 use Prim.Native.Nat.{ℕ, zero, suc, _+_, _-_, _≤_, _<_}
 use native.Mathlib.Omega.{arith}
-use native.Mathlib.Decide.{decLt}
 use lib.ListN.{length, getD, getElem?}
 use Rattle.sets.specs.Sets.{In}
 use Rattle.grammar.specs.declared.Rule.{Rule}
@@ -19,8 +18,8 @@ use Rattle.grammar.specs.SpanSheet.{part, pairAt}
 use Rattle.grammar.proofs.ChoiceLaws.{member-at}
 use Rattle.grammar.proofs.ByKind.{Can, choice-can, getElem?-lt}
 use Rattle.marks.proofs.Words.{part-length, part-cut}
-use Rattle.order.proofs.Places.{there}
-use Rattle.spans.proofs.Places.{pairAt-same, pairAt-shorter}
+use Rattle.tables.proofs.Places.{there}
+use Rattle.spans.proofs.Places.{pairAt-same}
 use Rattle.tables.specs.Tables.{rule}
 use Rattle.choices.proofs.PickLaws.{part-take, part-drop}
 use Rattle.places.specs.Places as Pl
@@ -29,7 +28,7 @@ use Rattle.places.proofs.PaperLaws.{over-unary, over-binary}
 use Rattle.contained_spans.specs.Reached.{Bit}
 use Rattle.cuts.specs.Joining.{Joins}
 use Rattle.contained_spans.specs.Joining.{Kid}
-use Rattle.contained_spans.specs.Spreading.{Kids, Held, Sound}
+use Rattle.contained_spans.specs.Spreading.{Kids, Held, Sound, SpanBefore}
 
 -- ---- what lies beneath a choice of what is held is held
 
@@ -199,26 +198,24 @@ kids-kept rs rs′ n s len (Clause.Unary B m) l f x = f (pairAt n s len) B x
 kids-kept rs rs′ n s len (Clause.Binary B C m) l f x =
     (f (pairAt n s l) B (x .0), f (pairAt n (s + l) (len - l)) C (x .1))
 
--- a part of a span stands before it, or is the span
-part-low : (n s len a b : ℕ) → s + len ≤ n → b ≤ len → a + b ≤ s + len → s ≤ a
-    → pairAt n a b ≤ pairAt n s len
-part-low n s len a b h k i j = go (decLt b len)
+-- a part of a span is none of the spans that come before it
+pub apart-from : (n s len t d a b : ℕ) → s + len ≤ n → a + b ≤ n → SpanBefore a b s len
+    → s ≤ t → t + d ≤ s + len → pairAt n a b ≡ pairAt n t d → ⊥
+apart-from n s len t d a b h f o i j e = go (pairAt-same n a b t d f (omega arith) e) (o .1)
   where
-    go : Dec (b < len) → pairAt n a b ≤ pairAt n s len
-    go (yes l) = omega (arith, pairAt-shorter n a b s len (omega arith) l)
-    go (no l) = omega (
-      arith,
-      ap (pairAt n a) (let e : b ≡ len = omega arith in e),
-      ap
-          (λ (x : ℕ). pairAt n x len) (let e : a ≡ s = omega arith in e),
-    )
+    go : (b ≡ d) × ((b ≡ 0) ⊎ (a ≡ t)) → (len ≡ 0) ⊎ (a < s) ⊎ ((a ≡ s) × (len < b)) → ⊥
+    go (x, inl y) z = omega (arith, o .0)
+    go (x, inr y) (inl z) = omega (arith, o .0)
+    go (x, inr y) (inr (inl z)) = omega arith
+    go (x, inr y) (inr (inr z)) = omega (arith, z .0, z .1)
 
-pub kid-low : (n s len : ℕ) (c : Clause) (l q B : ℕ) → s + len ≤ n → l ≤ len → Kid n s len c l q B
-    → q ≤ pairAt n s len
-kid-low n s len Clause.Empty l q B h k z = absurd z
-kid-low n s len (Clause.Atom a b) l q B h k z = absurd z
-kid-low n s len (Clause.Unary C m) l q B h k z = omega (arith, z .0)
-kid-low n s len (Clause.Binary C D m) l q B h k (inl z) =
-    omega (arith, z .0, part-low n s len s l h k (omega arith) (omega arith))
-kid-low n s len (Clause.Binary C D m) l q B h k (inr z) = omega
-    (arith, z .0, part-low n s len (s + l) (len - l) h (omega arith) (omega arith) (omega arith))
+pub kid-apart : (n s len : ℕ) (c : Clause) (l q B a b : ℕ) → s + len ≤ n → l ≤ len → a + b ≤ n
+    → SpanBefore a b s len → Kid n s len c l q B → pairAt n a b ≡ q → ⊥
+kid-apart n s len Clause.Empty l q B a b h k f o z e = z
+kid-apart n s len (Clause.Atom t u) l q B a b h k f o z e = z
+kid-apart n s len (Clause.Unary C m) l q B a b h k f o z e =
+    apart-from n s len s len a b h f o (omega arith) (omega arith) (e ∙ z .0)
+kid-apart n s len (Clause.Binary C D m) l q B a b h k f o (inl z) e =
+    apart-from n s len s l a b h f o (omega arith) (omega arith) (e ∙ z .0)
+kid-apart n s len (Clause.Binary C D m) l q B a b h k f o (inr z) e =
+    apart-from n s len (s + l) (len - l) a b h f o (omega arith) (omega arith) (e ∙ z .0)

@@ -50,3 +50,11 @@ ChoiceKids ws g n s len k A q B = (i : ℕ) × (l : ℕ) × Stand (One ws n) g (
 abbrev pub Fresh : ℕ → ℕ → Member → Type 0
 Fresh set done (At a) = (a < 64) × In set a × (In done a → ⊥)
 Fresh set done Nothing = (a : ℕ) → a < 64 → In set a → In done a
+
+-- beneath the clause at each cut of a set
+abbrev pub CutKids : ℕ → ℕ → ℕ → Clause → ℕ → ℕ → ℕ → Type 0
+CutKids n s len c set q B = (k : ℕ) × In set k × Kid n s len c (k - s) q B
+
+-- each cut of the set lies within the span
+abbrev pub Inner : ℕ → ℕ → ℕ → Type 0
+Inner set s len = (c : ℕ) → In set c → (s < c) × (c < s + len)

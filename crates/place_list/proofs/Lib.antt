@@ -1,2 +1,2 @@
-pub mod ChoiceLaws
+pub mod BitLaws
 pub mod ListLaws

@@ -14,7 +14,7 @@ use Rattle.grammar.specs.Trees.{Rules}
 use Rattle.grammar.specs.Rows.{startOf}
 use Rattle.grammar.proofs.Lists.{every-append}
 use Rattle.grammar.proofs.ByKind.{choice-can, getElem?-lt}
-use Rattle.order.proofs.Places.{there}
+use Rattle.tables.proofs.Places.{there}
 use Rattle.tables.specs.Tables.{rule}
 use Rattle.tables.proofs.RulePlaces.{small-at}
 use Rattle.lists.specs.declared.Listing.{Listing}

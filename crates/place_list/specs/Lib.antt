@@ -1,4 +1,3 @@
 pub mod Scene
 pub mod Steps
 pub mod Given
-pub mod SeveralBy

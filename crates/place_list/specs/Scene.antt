@@ -4,14 +4,11 @@ use Prim.Native.Nat.{ℕ}
 use Rattle.grammar.specs.declared.Grammar.{Grammar}
 use Rattle.grammar.specs.declared.Sentence.{Sentence}
 use Rattle.grammar.specs.Content.{rules, Formed, Positioned}
-use Rattle.grammar.specs.SpanSheet.{SpanSheet}
-use Rattle.contained_spans.specs.Reached.{Reached}
 use Rattle.grammar.specs.Sentences.{spelled}
+use Rattle.contained_spans.specs.PlaceWords.{PlaceWords}
 
--- rules and a sentence as the readers give them, the span sheet, and the words that say what whole
--- trees contain
-pub record Scene (g : Grammar) (s : Sentence) (ws rs : List ℕ) : Type 0 where
+-- rules and a sentence as the readers give them, and the words that say where places are
+pub record Scene (g : Grammar) (s : Sentence) (ps : List ℕ) : Type 0 where
   pub formed : Formed g
   pub positioned : Positioned s
-  pub sheet : SpanSheet (rules g) (spelled s) ws
-  pub reached : Reached (rules g) (spelled s) rs
+  pub places : PlaceWords (rules g) (spelled s) ps

@@ -4,11 +4,11 @@ use Rattle.spans.proofs.Places.{pairs-few}
 use Rattle.call_places.proofs.list_two.Statement.{statement}
 use Rattle.call_places.proofs.list_two.Tie as tie
 
-slice-aggregate-reached : tie.Need-slice-aggregate-reached
-slice-aggregate-reached c = search needs
+slice-aggregate-find-places : tie.Need-slice-aggregate-find-places
+slice-aggregate-find-places c = search needs
 
-reached-requires : tie.Need-reached-requires
-reached-requires c κs =
+find-places-requires : tie.Need-find-places-requires
+find-places-requires c κs =
     let s = c .before .before .before in
     let t = s .pre .1 .1 .1 in
     let most = pairs-few (s .args .s .count) (s .pre .1 .0 .few) in (
@@ -35,8 +35,8 @@ pub list-two-spec : {M : Type 1} → statement M
 list-two-spec =
     tie.close
     (tie.spec
-    slice-aggregate-reached
-    reached-requires
+    slice-aggregate-find-places
+    find-places-requires
     slice-aggregate-list-places
     list-places-requires
     same-length

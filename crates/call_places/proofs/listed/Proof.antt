@@ -1,6 +1,6 @@
 -- `listed` meets its contract: 21 by the words' number, else the list by the chart's verdict.
 use Rattle.grammar.proofs.VerdictLaws.{none-not-two, one-not-two}
-use Rattle.answering.specs.declared.Answer.the-variants as Answer
+use Rattle.sheets.specs.declared.Answer.the-variants as Answer
 use Rattle.answering.proofs.Judging.{filled-by}
 use Rattle.call_places.proofs.Placing.{too-few, given-none, placed}
 use borrow.Author.Needs.{needs}

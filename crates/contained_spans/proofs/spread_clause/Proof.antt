@@ -1,101 +1,104 @@
--- The loop's invariant: what lies beneath with the left lengths passed is put in.
+-- An arm for each kind: only a B clause has a left word.
 use borrow.Author.Needs.{needs}
-use Prim.Native.Nat.{_+_, _-_}
-use native.Mathlib.Omega.{arith}
-use Rattle.tables.specs.Tables.{One, byMarks}
-use Rattle.tables.proofs.Views.{fits-le, lefts-le}
-use Rattle.cuts.specs.Joining.{Joins}
-use Rattle.contained_spans.specs.Joining.{LeftKids}
-use Rattle.contained_spans.proofs.JoinLaws.{Under, joins-zero, joins-next, joins-all}
+use mathlib.Core.Path.{ap, subst}
+use Rattle.grammar.specs.declared.Clause.{Clause}
+use Rattle.grammar.specs.Content.{SmallClause}
+use Rattle.tables.specs.Tables.{lefts}
+use Rattle.contained_spans.proofs.SpreadLaws.{spread-once}
 use Rattle.contained_spans.proofs.spread_clause.Statement.{statement}
 use Rattle.contained_spans.proofs.spread_clause.Tie as tie
 
-abbrev Inv-loop : tie.InvT-loop
-Inv-loop words reach₀ n c start len k last left₀ reach left =
-    Joins (Under (LeftKids words n start len k c) left) reach₀ reach
+enum-told : tie.Need-enum-told
+enum-told c = search needs
 
-abbrev μ-loop : tie.MeasureT-loop
-μ-loop words reach₀ n c start len k last left₀ reach left = last + 1 - left
+try-left-requires : tie.Need-try-left-requires
+try-left-requires c κs = search needs
 
-last-left-requires : tie.Need-last-left-requires Inv-loop μ-loop
-last-left-requires c κs = search needs
+enum-told-2 : tie.Need-enum-told-2
+enum-told-2 c = search needs
 
-loop-holds : tie.Need-loop-holds Inv-loop μ-loop
-loop-holds c = let a = c .before .before .before .args in
-    joins-zero (LeftKids (a .words .now) (a .n) (a .start) (a .len) (a .k) (a .c)) _
+try-left-requires-2 : tie.Need-try-left-requires-2
+try-left-requires-2 c κs = search needs
 
-try-left-requires : tie.Need-try-left-requires Inv-loop μ-loop
-try-left-requires c κs =
-    let l = c .before .before .loop in
-    let z = c .before .before .before .before .before .before in
-    let s = z .pre .0 .1 in (
-      (
-        z .pre .0 .0,
-        record { few = s .few; fits = s .fits; enough = omega (arith, s .enough, l .inv .long) },
-        omega (
-          arith,
-          c .before .loop-test .taken,
-          c .before .before .before .last-left .ensures,
-          lefts-le (z .args .c) (z .args .len),
-        ),
-      ),
-      z .pre .1,
-    )
+enum-told-3 : tie.Need-enum-told-3
+enum-told-3 c = search needs
 
-add-left : tie.Need-add-left Inv-loop μ-loop
-add-left c =
-    let i = c .before .before .before .before in
-    let z = i .before .before .before .before .before in
-    omega (
-      arith,
-      i .loop-test .taken,
-      i .before .before .last-left .ensures,
-      lefts-le (z .args .c)
-          (z .args .len),
-      z .pre .0 .0,
-    )
+try-left-requires-3 : tie.Need-try-left-requires-3
+try-left-requires-3 c κs = search needs
 
-loop-less : tie.Need-loop-less Inv-loop μ-loop
-loop-less c = omega (arith, c .before .before .before .before .loop-test .taken)
+enum-known-c : tie.Need-enum-known-c
+enum-known-c c = search needs
 
-loop-again : tie.Need-loop-again Inv-loop μ-loop
-loop-again c =
-    let i = c .before .before .before .before in
-    let l = i .before .loop in
-    let a = i .before .before .before .before .before .args in
-    joins-next (LeftKids (a .words .now) (a .n) (a .start) (a .len) (a .k) (a .c)) (l .left)
-    (l .inv) (c .before .before .try-left .ensures)
+spread-binary-requires : tie.Need-spread-binary-requires
+spread-binary-requires c κs =
+    let z = c .before .before .before .before .before .before .before .before .before in
+    let h = subst SmallClause (c .before .before .before .c .given .1) (z .pre .1 .0) in
+    (z .pre .0, ((h .0, h .1), z .pre .1 .1))
 
-same-length : tie.Need-same-length Inv-loop μ-loop
-same-length c = c .before .loop .inv .long
+same-length : tie.Need-same-length
+same-length c = search needs
 
-returns : tie.Need-returns Inv-loop μ-loop
+returns : tie.Need-returns
 returns c =
-    let args = c .before .before .before .before .before .args in
-    let last-left = c .before .before .last-left in
-    let l = c .before .loop in
-    let a = args in
-    joins-all (LeftKids (a .words .now) (a .n) (a .start) (a .len) (a .k) (a .c)) (l .left) (l .inv)
-    (λ j q B x. omega (
-      arith,
-      c .loop-test .left,
-      last-left .ensures,
-      fits-le
-          (One (a .words .now) (a .n)) (byMarks (a .k) (a .len)) (a .start) (a .len) (a .c) j
-          (x .0),
-    ))
+    let z = c .before .before .before .before .before .before .before .before .before .before in
+    let r = z .pre .1 .1 in
+    spread-once (z .args .c)
+    (ap (λ (x : Clause). lefts x (z .args .len))
+    (c .before .before .before .before .enum-told .given .1)) (r .long) (r .seen)
+    (c .before .before .try-left .ensures)
+
+same-length-2 : tie.Need-same-length-2
+same-length-2 c = search needs
+
+returns-2 : tie.Need-returns-2
+returns-2 c =
+    let z = c .before .before .before .before .before .before .before .before .before .before in
+    let r = z .pre .1 .1 in
+    spread-once (z .args .c)
+    (ap (λ (x : Clause). lefts x (z .args .len))
+    (c .before .before .before .before .enum-told2 .given .1)) (r .long) (r .seen)
+    (c .before .before .try-left2 .ensures)
+
+same-length-3 : tie.Need-same-length-3
+same-length-3 c = search needs
+
+returns-3 : tie.Need-returns-3
+returns-3 c =
+    let z = c .before .before .before .before .before .before .before .before .before .before in
+    let r = z .pre .1 .1 in
+    spread-once (z .args .c)
+    (ap (λ (x : Clause). lefts x (z .args .len))
+    (c .before .before .before .before .enum-told3 .given .1)) (r .long) (r .seen)
+    (c .before .before .try-left3 .ensures)
+
+same-length-4 : tie.Need-same-length-4
+same-length-4 c = search needs
+
+same-length-5 : tie.Need-same-length-5
+same-length-5 c = search needs
+
+returns-4 : tie.Need-returns-4
+returns-4 c = rw (c .before .before .before .before .before .before .before .before .c .given .1)
+    (c .before .before .before .before .spread-binary .ensures)
 
 pub spread-clause-spec : {M : Type 1} → statement M
 spread-clause-spec =
     tie.close
     (tie.spec
-    Inv-loop
-    μ-loop
-    last-left-requires
-    loop-holds
+    enum-told
     try-left-requires
-    add-left
-    loop-less
-    loop-again
+    enum-told-2
+    try-left-requires-2
+    enum-told-3
+    try-left-requires-3
+    enum-known-c
+    spread-binary-requires
     same-length
-    returns)
+    returns
+    same-length-2
+    returns-2
+    same-length-3
+    returns-3
+    same-length-4
+    same-length-5
+    returns-4)

@@ -11,19 +11,19 @@ use Rattle.place_list.proofs.list_all.Tie as tie
 use Rattle.grammar.specs.Sentences.{spelled}
 
 abbrev Inv-loop : tie.InvT-loop
-Inv-loop words reach s g lists list₀ k₀ len₀ list k len = (len ≤ s .count)
+Inv-loop parts s g list₀ k₀ len₀ list k len = (len ≤ s .count)
     × Lists (rules g) (spelled s) list₀ list k₀ k (entry 0 0 (s .count)) (entry 0 0 len)
 
 abbrev μ-loop : tie.MeasureT-loop
-μ-loop words reach s g lists list₀ k₀ len₀ list k len = len
+μ-loop parts s g list₀ k₀ len₀ list k len = len
 
 loop-holds : tie.Need-loop-holds Inv-loop μ-loop
-loop-holds c = let s = c .before .before .before .before in
+loop-holds c = let s = c .before .before in
     (omega arith, lists-none (entry 0 0 (s .args .s .count)) (s .pre .1))
 
 list-row-requires : tie.Need-list-row-requires Inv-loop μ-loop
 list-row-requires c κs = let l = c .before .before .loop in
-    let s = c .before .before .before .before .before .before .before in
+    let s = c .before .before .before .before .before in
     (s .pre .0, ((c .before .loop-test .taken, l .inv .0), l .inv .1 .few))
 
 sub-len : tie.Need-sub-len Inv-loop μ-loop
@@ -38,7 +38,7 @@ loop-again c = let l = c .before .before .before .before .before .loop in
 
 list-span-requires : tie.Need-list-span-requires Inv-loop μ-loop
 list-span-requires c κs = let l = c .before .before .loop in
-    let s = c .before .before .before .before .before .before .before in
+    let s = c .before .before .before .before .before in
     (s .pre .0, ((omega arith, refl), l .inv .1 .few))
 
 same-length : tie.Need-same-length Inv-loop μ-loop

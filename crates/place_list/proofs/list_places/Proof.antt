@@ -1,31 +1,15 @@
 -- `list_places` meets its contract: from the first position to the last, then the list's end.
-use Rattle.place_list.proofs.ListLaws.{listed-first, listed-all}
 use borrow.Author.Needs.{needs}
+use Rattle.place_list.proofs.ListLaws.{listed-first, listed-all}
 use Rattle.place_list.proofs.list_places.Statement.{statement}
 use Rattle.place_list.proofs.list_places.Tie as tie
 use Rattle.grammar.specs.Sentences.{spelled}
-
-slice-aggregate-list-rules : tie.Need-slice-aggregate-list-rules
-slice-aggregate-list-rules c = search needs
-
-list-rules-requires : tie.Need-list-rules-requires
-list-rules-requires c κs = (c .before .before .before .before .pre .formed, search needs)
-
-slice-aggregate-list-all : tie.Need-slice-aggregate-list-all
-slice-aggregate-list-all c = search needs
 
 begin-requires : tie.Need-begin-requires
 begin-requires c κs = search needs
 
 list-all-requires : tie.Need-list-all-requires
-list-all-requires c κs = (
-  (
-    c .before .before .before .before .before .before .before .before .before
-        .pre,
-    c .before .before .before .before .list-rules .ensures,
-  ),
-  search needs,
-)
+list-all-requires c κs = (c .before .before .before .before .pre, search needs)
 
 finish-requires : tie.Need-finish-requires
 finish-requires c κs = search needs
@@ -36,18 +20,17 @@ same-length c = search needs
 returns : tie.Need-returns
 returns c =
     let s = c .before .before .before .before .before .before .before .before .before .before
-    .before .before .before .before .before .before in
+    .before in
     let first = listed-first (s .args .g) (spelled (s .args .s)) (s .pre .formed)
     (s .args .s .count) (s .pre .positioned .whole)
     (c .before .before .before .before .before .before .before .begin .ensures) in
     let x = c .before .before .before .before .before .before .list-all .ensures .goes first in
     record {
       entries = x .entries;
-      places = listed-all (s .args .g) (spelled (s .args .s))
-          (s .pre .formed) x;
+      places = listed-all (s .args .g) (spelled (s .args .s)) (s .pre .formed) x;
       gives = c .before .before .finish .ensures .gives (x .puts);
     }
 
 pub list-places-spec : {M : Type 1} → statement M
-list-places-spec = tie.close (tie.spec slice-aggregate-list-rules list-rules-requires
-    slice-aggregate-list-all begin-requires list-all-requires finish-requires same-length returns)
+list-places-spec =
+    tie.close (tie.spec begin-requires list-all-requires finish-requires same-length returns)

@@ -11,27 +11,27 @@ use Rattle.place_list.proofs.list_row.Tie as tie
 use Rattle.grammar.specs.Sentences.{spelled}
 
 abbrev Inv-loop : tie.InvT-loop
-Inv-loop words reach s g lists len list₀ n k₀ start₀ list k start = (start + len ≤ s .count + 1)
+Inv-loop parts s g len list₀ n k₀ start₀ list k start = (start + len ≤ s .count + 1)
     × Lists (rules g) (spelled s) list₀ list k₀ k (entry 0 0 len) (entry 0 start len)
 
 abbrev μ-loop : tie.MeasureT-loop
-μ-loop words reach s g lists len list₀ n k₀ start₀ list k start = s .count + 1 - start
+μ-loop parts s g len list₀ n k₀ start₀ list k start = s .count + 1 - start
 
 loop-holds : tie.Need-loop-holds Inv-loop μ-loop
-loop-holds c = let s = c .before .before .before .before in
+loop-holds c = let s = c .before .before in
     (omega (arith, s .pre .1 .0), lists-none (entry 0 0 (s .args .len)) (s .pre .1 .1))
 
 add-loop : tie.Need-add-loop Inv-loop μ-loop
 add-loop c = omega (
   arith,
   c .loop .inv .0,
-  c .before .before .before .before .before .pre .0 .0
+  c .before .before .before .pre .0
       .positioned .few,
 )
 
 list-span-requires : tie.Need-list-span-requires Inv-loop μ-loop
 list-span-requires c κs = let l = c .before .before .loop in
-    let s = c .before .before .before .before .before .before .before in (
+    let s = c .before .before .before .before .before in (
       s .pre .0,
       (
         (
@@ -47,8 +47,7 @@ add-start : tie.Need-add-start Inv-loop μ-loop
 add-start c = omega (
   arith,
   c .before .before .before .before .before .loop .inv .0,
-  c .before
-      .before .before .before .before .before .before .before .before .before .pre .0 .0 .positioned
+  c .before .before .before .before .before .before .before .before .pre .0 .positioned
       .few,
 )
 
@@ -58,12 +57,12 @@ loop-less c = omega (arith, c .before .before .before .before .loop-test .taken)
 loop-again : tie.Need-loop-again Inv-loop μ-loop
 loop-again c =
     let l = c .before .before .before .before .before .loop in
-    let s = c .before .before .before .before .before .before .before .before .before .before in
+    let s = c .before .before .before .before .before .before .before .before in
     let x = c .before .before .list-span .ensures in (
       omega (arith, c .before .before .before .before .loop-test .taken),
       lists-then
           (lists-then (l .inv .1) x) (lists-right (s .args .g) (spelled (s .args .s))
-          (s .pre .0 .0 .formed) (x .few) (l .start) (s .args .len)),
+          (s .pre .0 .formed) (x .few) (l .start) (s .args .len)),
     )
 
 same-length : tie.Need-same-length Inv-loop μ-loop
@@ -72,10 +71,10 @@ same-length c = c .before .loop .inv .1 .long
 returns : tie.Need-returns Inv-loop μ-loop
 returns c =
     let l = c .before .loop in
-    let s = c .before .before .before .before .before .before in
-    lists-then (l .inv .1) (lists-down (s .args .g) (spelled (s .args .s)) (s .pre .0 .0 .formed)
+    let s = c .before .before .before .before in
+    lists-then (l .inv .1) (lists-down (s .args .g) (spelled (s .args .s)) (s .pre .0 .formed)
     (l .inv .1 .few) (l .start) (s .args .len) (s .pre .1 .0 .0)
-    (omega (arith, c .loop-test .left, s .pre .0 .0 .positioned .whole)))
+    (omega (arith, c .loop-test .left, s .pre .0 .positioned .whole)))
 
 pub list-row-spec : {M : Type 1} → statement M
 list-row-spec = tie.close (tie.spec Inv-loop μ-loop loop-holds add-loop list-span-requires add-start

@@ -1,0 +1,112 @@
+-- At the cuts that were seen all is there already.
+use borrow.Author.Needs.{needs}
+use mathlib.Core.Path.{ap, subst₂}
+use Prim.Native.Nat.{ℕ, _+_, _*_}
+use Rattle.contained_spans.specs.Joining.{Inner}
+use Rattle.contained_spans.specs.Seeing.{Unseen}
+use Rattle.contained_spans.proofs.SeeLaws.{hits-inner, joins-set, seen-after}
+use Rattle.contained_spans.proofs.spread_cuts.Statement.{statement}
+use Rattle.contained_spans.proofs.spread_cuts.Tie as tie
+
+hits-requires : tie.Need-hits-requires
+hits-requires c κs = search needs
+
+wide-requires : tie.Need-wide-requires
+wide-requires c κs = search needs
+
+add-unseen : tie.Need-add-unseen
+add-unseen c = search needs
+
+mul-unseen : tie.Need-mul-unseen
+mul-unseen c = search needs
+
+wide-requires-2 : tie.Need-wide-requires-2
+wide-requires-2 c κs = search needs
+
+add-unseen-2 : tie.Need-add-unseen-2
+add-unseen-2 c = search needs
+
+unseen-requires : tie.Need-unseen-requires
+unseen-requires c κs = search needs
+
+-- the cuts lie within the span
+inside : (c : tie.After-hits) → Inner (c .hits .result)
+    (c .before .before .before .before .args .start) (c .before .before .before .before .args .len)
+inside c =
+    let z = c .before .before .before .before in
+    hits-inner (z .pre .0 .3) (z .pre .0 .0) (z .pre .0 .1) (z .pre .0 .2) (z .pre .1 .0 .fits)
+    (c .hits .ensures)
+
+-- those that were not in both words
+rest : (c : tie.After-unseen) → Unseen
+    (c .before .before .before .before .before .before .before .before .args .seen .now)
+    (c .unseen .last .0) (c .before .before .before .before .before .before .before .before .args
+    .b)
+    (64 * (c .before .before .before .before .before .before .before .before .args .start
+    + c .before .before .before .before .before .before .before .before .args .len)
+    + c .before .before .before .before .before .before .before .before .args .e)
+    (c .before .before .before .before .hits .result)
+    (c .unseen .result)
+rest c =
+    let a = c .before .before .before .before .before .before .before .before .args in
+    subst₂ (λ (p q : ℕ). Unseen (a .seen .now) (c .unseen .last .0) p q
+    (c .before .before .before .before .hits .result)
+    (c .unseen .result)) (c .before .before .wide .ensures)
+    (ap (λ (x : ℕ). 64 * (a .start + a .len) + x) (c .before .wide2 .ensures)) (c .unseen .ensures)
+
+add-cuts-requires : tie.Need-add-cuts-requires
+add-cuts-requires c κs =
+    let z = c .before .before .before .before .before .before .before .before .before .before
+    .before in (
+      (
+        z .pre .1 .0,
+        λ x i. inside (c .before .before .before .before .before .before .before) x
+            (rest (c .before .before .before) .rest x .0 i .0),
+      ),
+      (z .pre .0 .0, z .pre .0 .1),
+    )
+
+ways-requires : tie.Need-ways-requires
+ways-requires c κs = search needs
+
+same-length : tie.Need-same-length
+same-length c = search needs
+
+same-length-2 : tie.Need-same-length-2
+same-length-2 c = search needs
+
+returns : tie.Need-returns
+returns c =
+    let z = c .before .before .before .before .before .before .before .before .before .before
+    .before .before .before .before .before in
+    let p = z .pre .0 in
+    let i = inside (c .before .before .before .before .before .before .before .before .before
+    .before .before) in
+    let u = rest (c .before .before .before .before .before .before .before) in
+    let j = c .before .before .before .add-cuts .ensures in
+    record {
+      set = c .before .before .before .before .before .before .before .before .before .before
+          .before .hits .result;
+      hits = c .before .before .before .before .before .before .before .before .before .before
+          .before .hits .ensures;
+      joins = joins-set (z .args .m) (p .0) (p .1) (p .2) i u (z .pre .1 .1) j;
+      seen = seen-after (z .args .m) (p .0) (p .1) (p .2) i u (z .pre .1 .1) j;
+      tells = c .ways .ensures;
+    }
+
+pub spread-cuts-spec : {M : Type 1} → statement M
+spread-cuts-spec =
+    tie.close
+    (tie.spec
+    hits-requires
+    wide-requires
+    add-unseen
+    mul-unseen
+    wide-requires-2
+    add-unseen-2
+    unseen-requires
+    add-cuts-requires
+    ways-requires
+    same-length
+    same-length-2
+    returns)
