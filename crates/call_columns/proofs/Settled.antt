@@ -18,7 +18,7 @@ use Rattle.column_search.specs.Answers.{FlagsSay}
 use Rattle.sheets.proofs.Numbers.{same-fault}
 use Rattle.column_ranges.specs.Ranges.{Ranges}
 use Rattle.sheets.specs.declared.Fault.{Fault}
-use Rattle.answering.specs.declared.Answer.the-variants as Answer
+use Rattle.sheets.specs.declared.Answer.the-variants as Answer
 use Rattle.call_columns.specs.declared.ColumnsReply.{ColumnsReply}
 use Rattle.sheets.proofs.Once.{apart, same-items, same-refusal}
 use Rattle.call_columns.specs.Columns.{columnsRefusal, ColumnsOn, short, given, ColumnsOf}

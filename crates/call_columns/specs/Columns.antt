@@ -14,7 +14,7 @@ use Rattle.sheets.specs.RuleSheets.{ruleSheet}
 use Rattle.column_ranges.specs.Ranges.{Ranges}
 use Rattle.column_search.specs.declared.Flags.{Flags}
 use Rattle.column_search.specs.Answers.{FlagsSay}
-use Rattle.answering.specs.declared.Answer.the-variants as Answer
+use Rattle.sheets.specs.declared.Answer.the-variants as Answer
 use Rattle.call_columns.specs.declared.ColumnsReply.{ColumnsReply}
 use Rattle.range_sheets.specs.RangeSheets.{rangeSheet}
 use Rattle.sweeping.specs.Cleared.{cleared}

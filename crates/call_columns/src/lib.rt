@@ -1,11 +1,11 @@
 // The public call for columns read off a photograph: which verdicts some choice of columns within
 // the ends gives (02, request 10).
-use answering::Answer;
 use column_ranges::RangeSentence;
 use column_search::Flags;
 use column_search::choose;
 use grammar::Grammar;
 use range_sheets::read_ranges;
+use sheets::Answer;
 use sheets::Fault;
 use sheets::Outcome;
 use sheets::read_rules;

@@ -3,7 +3,8 @@ use mathlib.Core.Path.{_≡_}
 use mathlib.Core.Bool.{Bool, true, false}
 use mathlib.Core.List.{List}
 use mathlib.Core.Logic.{_⊎_}
-use Prim.Native.Nat.{ℕ, _*_}
+use Prim.Native.Nat.{ℕ, _*_, _<_}
+use lib.ListN.{length}
 use Rattle.grammar.specs.Trees.{Rules}
 use Rattle.sets.specs.Sets.{In}
 use Rattle.grammar.specs.SpanSheet.{pairs, firstWord, secondWord}
@@ -11,6 +12,7 @@ use Rattle.chart.specs.declared.Verdict.{Verdict}
 use Rattle.chart.specs.declared.Verdict.the-variants as Verdict
 use Rattle.spans.specs.Changes.{Past}
 use Rattle.column_ranges.specs.Ranges.{Ranges, SomeChoiceGives}
+use Rattle.column_ranges.specs.RangeSentences.{range}
 use Rattle.range_charts.specs.RangeCharts.{Small}
 use Rattle.narrowing.specs.Narrowing.{MayRise}
 use Rattle.column_search.specs.declared.Flags.{Flags}
@@ -66,3 +68,7 @@ Reads ws n Verdict.Two = In (secondWord ws n 0 n) 0
 pub record Leaves (rs : Ranges) (f : Flags) (b : Bool) : Type 0 where
   pub leave : b ≡ true → ((v : Verdict) → flag f v ≡ true) ⊎ (MayRise rs → ⊥)
   pub stay : b ≡ false → MayRise rs
+
+-- p is a token with several columns, if it is one at all
+pub record Opens (rs : Ranges) (p : ℕ) : Type 0 where
+  pub several : p < length rs → range rs p .low .0 < range rs p .high .0

@@ -11,11 +11,14 @@ use cuts::binary_rules;
 use filling::fill_leaves;
 use grammar::Grammar;
 use marks::Draft;
+use narrowing::last_token;
 use narrowing::lowest_sentence;
 use narrowing::may_rise;
 use narrowing::narrowed;
 use narrowing::next_token;
+use range_charts::fill_between;
 use range_charts::fill_ranges;
+use range_charts::keep_starts;
 use range_marks::exchanged_ends;
 use spans::clear;
 use spans::in_first;
@@ -33,11 +36,12 @@ ghost use Rattle.cuts.specs.Places.{Placed};
 ghost use Rattle.chains.specs.Chains.{Chains};
 ghost use Rattle.filling.specs.Closing.{Begins};
 ghost use Rattle.column_ranges.specs.RangeSentences.{rangesOf, Spread};
-ghost use Rattle.narrowing.specs.Narrowing.{Singles, MayRise};
+ghost use Rattle.narrowing.specs.Narrowing.{Singles, SinglesFrom, MayRise};
 ghost use Rattle.range_charts.specs.RangeCharts.{Leaved};
+ghost use Rattle.range_charts.specs.Keeping.{Behind, Blank};
 ghost use Rattle.column_search.specs.Answers.{flag, FlagsSay};
 ghost use Rattle.column_search.specs.Searching.{With, Leaves, Reads, Foreseen, Idles};
-ghost use Rattle.column_search.specs.Searching.{Searched};
+ghost use Rattle.column_search.specs.Searching.{Searched, Opens};
 
 // Of each verdict: does some rising choice give it?
 pub struct Flags {
@@ -95,26 +99,35 @@ fn verdict(words: &[u64], n: usize) -> Verdict
     Verdict::One
 }
 
-// The verdict of the one choice that is left, besides those found before.
+// The verdict of the one choice that is left, besides those found before. The spans that begin at
+// or past `to` are settled and in the columns, and so they are left.
 fn try_choice(
     g: Grammar,
     r: RangeSentence,
     b: BinaryRules,
     e: Pair,
     words: &mut [u64],
+    cols: &mut [u64],
     table: &[u64],
     f: Flags,
+    to: usize,
 ) -> Flags
     requires { ⌜ Formed g × Placed (rules g) b ⌝ }
     requires { ⌜ Spread r × Singles (rangesOf r) × MayRise (rangesOf r) ⌝ }
     requires { ⌜ 2 * pairs (r .count) ≤ length (now words) ⌝ }
     requires { ⌜ Leaved (rules g) (rangesOf r) (r .count) (now words) × Begins (now words) e
         × Chains (rules g) e (now table) ⌝ }
+    requires { ⌜ (to ≤ r .count) × Behind (now words) (now cols) (rules g) (rangesOf r) (r .count)
+        to ⌝ }
     ensures { λ a. ⌜ Searched (rules g) (rangesOf r) (r .count) f (now (words .entry))
         (now (words .exit)) a ⌝ }
+    ensures { λ a. ⌜ Behind (now (words .exit)) (now (cols .exit)) (rules g) (rangesOf r)
+        (r .count) to ⌝ }
 {
-    fill_ranges(words, table, r, g, b, e);
-    let v = verdict(words, r.count);
+    let n = r.count;
+    fill_between(words, cols, table, r, g, b, e, 0, to);
+    keep_starts(cols, n, to);
+    let v = verdict(words, n);
     with_verdict(f, v)
 }
 
@@ -171,8 +184,7 @@ fn covered(o: Flags, f: Flags) -> bool
     implies(o.two, f.two)
 }
 
-// Can nothing new come of the ranges, by what may and what must hold? Asked where 64 choices or
-// more are left.
+// Can nothing new come of the ranges, by what may and what must hold?
 fn idle(
     g: Grammar,
     r: RangeSentence,
@@ -190,9 +202,6 @@ fn idle(
     ensures { λ b. ⌜ Idles (rules g) (rangesOf r) (r .count) f (now (words .entry))
         (now (words .exit)) b ⌝ }
 {
-    if count(r) < 64 {
-        return false;
-    }
     let o = outlook(g, r, b, e, words, table);
     covered(o, f)
 }
@@ -208,14 +217,73 @@ fn settled(r: RangeSentence, f: Flags) -> bool
     !may_rise(r)
 }
 
+// The verdicts of few choices, besides those found before. The last token with several columns goes
+// through them, so that the spans behind it are settled once for all of these; it stands before
+// `to`, and the spans that begin there or later are settled and in the columns.
+fn search_few(
+    g: Grammar,
+    r: RangeSentence,
+    b: BinaryRules,
+    e: Pair,
+    words: &mut [u64],
+    cols: &mut [u64],
+    table: &[u64],
+    f: Flags,
+    to: usize,
+) -> Flags
+    requires { ⌜ Formed g × Placed (rules g) b ⌝ }
+    requires { ⌜ Spread r ⌝ }
+    requires { ⌜ 2 * pairs (r .count) ≤ length (now words) ⌝ }
+    requires { ⌜ Leaved (rules g) (rangesOf r) (r .count) (now words) × Begins (now words) e
+        × Chains (rules g) e (now table) ⌝ }
+    requires { ⌜ (to ≤ r .count) × SinglesFrom (rangesOf r) to
+        × Behind (now words) (now cols) (rules g) (rangesOf r) (r .count) to ⌝ }
+    ensures { λ a. ⌜ Searched (rules g) (rangesOf r) (r .count) f (now (words .entry))
+        (now (words .exit)) a ⌝ }
+    ensures { λ a. ⌜ Behind (now (words .exit)) (now (cols .exit)) (rules g) (rangesOf r)
+        (r .count) to ⌝ }
+{
+    if settled(r, f) {
+        return f;
+    }
+    let t = last_token(r, to);
+    if r.count <= t {
+        return try_choice(g, r, b, e, words, cols, table, f, to);
+    }
+    fill_between(words, cols, table, r, g, b, e, t + 1, to);
+    let a = r.tokens[t];
+    let m = columns(a);
+    let mut found = f;
+    let mut i: usize = 0;
+    while i < m {
+        let s = narrowed(r, t, i);
+        found = search_few(g, s, b, e, words, cols, table, found, t + 1);
+        i += 1;
+    }
+    keep_starts(cols, r.count, to);
+    found
+}
+
+// The token to narrow next, where 64 choices or more are left; else the number of tokens.
+fn next_of_many(r: RangeSentence) -> usize
+    requires { ⌜ Spread r ⌝ }
+    ensures { λ p. ⌜ Opens (rangesOf r) p ⌝ }
+{
+    if count(r) < 64 {
+        return r.count;
+    }
+    next_token(r)
+}
+
 // The verdicts of all choices, besides those found before. A token with several columns goes
-// through them.
+// through them, until few choices are left.
 fn search(
     g: Grammar,
     r: RangeSentence,
     b: BinaryRules,
     e: Pair,
     words: &mut [u64],
+    cols: &mut [u64],
     table: &[u64],
     f: Flags,
 ) -> Flags
@@ -224,15 +292,17 @@ fn search(
     requires { ⌜ 2 * pairs (r .count) ≤ length (now words) ⌝ }
     requires { ⌜ Leaved (rules g) (rangesOf r) (r .count) (now words) × Begins (now words) e
         × Chains (rules g) e (now table) ⌝ }
+    requires { ⌜ Blank (r .count) (now cols) ⌝ }
     ensures { λ a. ⌜ Searched (rules g) (rangesOf r) (r .count) f (now (words .entry))
         (now (words .exit)) a ⌝ }
+    ensures { λ a. ⌜ Blank (r .count) (now (cols .exit)) ⌝ }
 {
     if settled(r, f) {
         return f;
     }
-    let t = next_token(r);
+    let t = next_of_many(r);
     if r.count <= t {
-        return try_choice(g, r, b, e, words, table, f);
+        return search_few(g, r, b, e, words, cols, table, f, r.count);
     }
     if idle(g, r, b, e, words, table, f) {
         return f;
@@ -243,14 +313,15 @@ fn search(
     let mut c: usize = 0;
     while c < m {
         let s = narrowed(r, t, c);
-        found = search(g, s, b, e, words, table, found);
+        found = search(g, s, b, e, words, cols, table, found);
         c += 1;
     }
     found
 }
 
 // The same, with what does not go by columns found once: the places of the B rules, the pair of the
-// empty word, and the table of chains.
+// empty word, and the table of chains; and with columns of cuts that are kept from choice to
+// choice.
 fn search_choices(g: Grammar, r: RangeSentence, words: &mut [u64], f: Flags) -> Flags
     requires { ⌜ Formed g ⌝ }
     requires { ⌜ Spread r ⌝ }
@@ -266,7 +337,8 @@ fn search_choices(g: Grammar, r: RangeSentence, words: &mut [u64], f: Flags) -> 
     let b = binary_rules(g);
     let mut table = [0u64; 512];
     chains(&mut table, g, e);
-    search(g, r, b, e, words, &table, f)
+    let mut cols = [0u64; 8320];
+    search(g, r, b, e, words, &mut cols, &table, f)
 }
 
 // Which verdicts some rising choice of columns gives; the words that the search needed end 0.

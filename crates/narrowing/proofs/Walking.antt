@@ -3,7 +3,7 @@ use mathlib.Core.Path.{_≡_, refl, sym, ap, _∙_, subst, subst₂}
 use mathlib.Core.Bool.{Bool}
 use mathlib.Core.Logic.{_⊎_, inl, inr}
 use mathlib.Core.List.{List, [], _∷_}
-use Prim.Native.Nat.{ℕ, zero, suc, _+_, _≤_, _<_}
+use Prim.Native.Nat.{ℕ, zero, suc, _+_, _-_, _≤_, _<_}
 use native.Mathlib.Omega.{arith}
 use native.Mathlib.Decide.{ℕ-discrete}
 use lib.ListN.{length, getD, take, set, length-set}
@@ -22,7 +22,7 @@ use Rattle.column_ranges.specs.Ranges.{Ranges, columns}
 use Rattle.column_ranges.specs.RangeSentences.{range, rangesOf, no-range, Ended, Spread}
 use Rattle.column_ranges.proofs.Counting.{range-read, ended-at}
 use Rattle.narrowing.specs.Narrowing.{lowToken, highToken, lowest, Single, MayRise, Picks}
-use Rattle.narrowing.specs.Narrowing.{fixed, Narrows}
+use Rattle.narrowing.specs.Narrowing.{SinglesFrom, PicksLast, fixed, Narrows}
 use Rattle.narrowing.proofs.Choices.{lowest-long, lowest-at}
 
 -- ---- rising
@@ -119,6 +119,50 @@ seeking-all {r} p h s = record {
   none = λ x. record {
     each = λ j l. s .none (omega (arith, p .whole)) j (omega (arith, p .whole));
   };
+}
+
+-- the last such token is looked for from behind
+
+pub record Backward (rs : Ranges) (to k : ℕ) : Type 0 where
+  pub fits : k ≤ to
+  pub single : SinglesFrom rs k
+
+module _ {r : RangeSentence} (p : Spread r) {to j k m : ℕ} (fit : to ≤ r .count) (h : 0 < j)
+    (d : k ≡ j - 1) (e : m ≡ columns (getD (r .tokens) k no-range))
+    (b : Backward (rangesOf r) to j) where
+  here : range (rangesOf r) k ≡ getD (r .tokens) k no-range
+  here = range-read r k (omega (arith, b .fits))
+
+  pub backward-more : (1 < m → ⊥) → Backward (rangesOf r) to k
+  backward-more l = record {
+    fits = omega (arith, b .fits);
+    single = record { each = λ i x y. go i x y (ℕ-discrete i k) };
+  }
+    where
+      single : Single (range (rangesOf r) k)
+      single = subst Single (sym here)
+          (omega (arith, e, ended-at p k (omega (arith, b .fits)) .ordered))
+
+      go : (i : ℕ) → k ≤ i → i < length (rangesOf r) → Dec (i ≡ k) → Single (range (rangesOf r) i)
+      go i x y (yes q) = subst (λ (i : ℕ). Single (range (rangesOf r) i)) (sym q) single
+      go i x y (no q) = b .single .each i (omega arith) y
+
+  pub backward-found : 1 < m → PicksLast (rangesOf r) to k
+  backward-found l = record {
+    before = λ x. omega (arith, b .fits);
+    several = λ x. subst (λ (t : RangeToken). t .low .0 < t .high .0) (sym here)
+        (omega (arith, e));
+    behind = λ x. record { each = λ i y z. b .single .each i (omega arith) z };
+    none = λ x. absurd (omega (arith, p .whole, b .fits));
+  }
+
+pub backward-all : {r : RangeSentence} {to k : ℕ} → Spread r → k ≡ 0
+    → Backward (rangesOf r) to k → PicksLast (rangesOf r) to (r .count)
+backward-all p e b = record {
+  before = λ x. absurd (omega (arith, p .whole));
+  several = λ x. absurd (omega (arith, p .whole));
+  behind = λ x. absurd (omega (arith, p .whole));
+  none = λ x. record { each = λ i y. b .single .each i (omega arith) y };
 }
 
 -- ---- a token put into a column

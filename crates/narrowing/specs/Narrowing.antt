@@ -40,6 +40,10 @@ Single r = r .low .0 ≡ r .high .0
 pub record Singles (rs : Ranges) : Type 0 where
   pub each : (k : ℕ) → k < length rs → Single (range rs k)
 
+-- so has each from the token at s on
+pub record SinglesFrom (rs : Ranges) (s : ℕ) : Type 0 where
+  pub each : (k : ℕ) → s ≤ k → k < length rs → Single (range rs k)
+
 -- each token in its highest column comes after the one before in its lowest: where one does not, no
 -- choice rises
 pub record MayRise (rs : Ranges) : Type 0 where
@@ -49,6 +53,14 @@ pub record MayRise (rs : Ranges) : Type 0 where
 -- p is a token with several columns; where there is none, it is past the last
 pub record Picks (rs : Ranges) (p : ℕ) : Type 0 where
   pub several : p < length rs → range rs p .low .0 < range rs p .high .0
+  pub none : length rs ≤ p → Singles rs
+
+-- p is the last token with several columns, which stands before `to`; where there is none, it is
+-- past the last
+pub record PicksLast (rs : Ranges) (to p : ℕ) : Type 0 where
+  pub before : p < length rs → p < to
+  pub several : p < length rs → range rs p .low .0 < range rs p .high .0
+  pub behind : p < length rs → SinglesFrom rs (p + 1)
   pub none : length rs ≤ p → Singles rs
 
 -- r in the column x alone

@@ -10,14 +10,14 @@ use grammar::Width;
 use sheets::comes_after;
 ghost use mathlib.Core.Path.{_≡_};
 ghost use mathlib.Core.Logic.{_⊎_};
-ghost use Prim.Native.Nat.{_<_};
+ghost use Prim.Native.Nat.{_≤_, _<_};
 ghost use lib.ListN.{length};
 ghost use Rattle.sets.specs.Says.{Says};
 ghost use Rattle.grammar.specs.Sentences.{spelled};
 ghost use Rattle.column_ranges.specs.Ranges.{columns as columnsOf};
 ghost use Rattle.column_ranges.specs.RangeSentences.{range, rangesOf, Spread};
 ghost use Rattle.narrowing.specs.Narrowing.{standing, lowToken, highToken, lowest, MayRise};
-ghost use Rattle.narrowing.specs.Narrowing.{Picks, Narrows};
+ghost use Rattle.narrowing.specs.Narrowing.{Picks, SinglesFrom, PicksLast, Narrows};
 
 // The token in the column.
 fn put(t: RangeToken, column: Column) -> Token
@@ -108,6 +108,24 @@ pub fn next_token(r: RangeSentence) -> usize
         k += 1;
     }
     best
+}
+
+// The last token with several columns, which stands before `to`. Where each has one column, the
+// number of tokens.
+pub fn last_token(r: RangeSentence, to: usize) -> usize
+    requires { ⌜ Spread r × (to ≤ r .count) ⌝ }
+    requires { ⌜ SinglesFrom (rangesOf r) to ⌝ }
+    ensures { λ p. ⌜ PicksLast (rangesOf r) to p ⌝ }
+{
+    let mut k = to;
+    while 0 < k {
+        k -= 1;
+        let t = r.tokens[k];
+        if 1 < columns(t) {
+            return k;
+        }
+    }
+    r.count
 }
 
 // The ranges with the token at t in the column that stands c past its lower end.

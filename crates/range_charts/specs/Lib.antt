@@ -1,1 +1,2 @@
 pub mod RangeCharts
+pub mod Keeping

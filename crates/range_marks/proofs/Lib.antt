@@ -1,2 +1,3 @@
 pub mod Stretching
 pub mod Bounds
+pub mod Unmoved

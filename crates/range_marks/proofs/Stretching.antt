@@ -21,7 +21,7 @@ use Rattle.grammar.specs.Layout.{Pairs, line, col}
 use Rattle.grammar.specs.Sentences.{no-token}
 use Rattle.marks.specs.declared.SpanMarks.{SpanMarks}
 use Rattle.marks.specs.Half.{tokenAt}
-use Rattle.marks.specs.Marked.{UnaryBy, Included, Joined, Grown, Advanced, Carried}
+use Rattle.marks.specs.Marked.{UnaryBy, Included, Joined, Grown, Growing, Carried}
 use Rattle.marks.proofs.Joining.{NextJoined, carried-first, carried-more, carried-all}
 use Rattle.column_ranges.specs.declared.RangeToken.{RangeToken}
 use Rattle.column_ranges.specs.Ranges.{Ranges}
@@ -128,8 +128,9 @@ pub stretch-first : (rs : Ranges) (s : ℕ) → s < length rs
     → RangeCarried rs s 1 (firstOf (range rs s))
 stretch-first rs s h = record {
   shadow = 0;
-  carried = carried-first (whole (seenFrom rs s)) s (range rs s .terminal) (range rs s .low .0)
-      (ap (λ (t : Token). t .terminal) (sym (seen-here rs s h))) (ap col (sym (seen-here rs s h)));
+  carried = carried-first (whole (seenFrom rs s)) s (range rs s .terminal) (range rs s .low)
+      (ap (λ (t : Token). t .terminal) (sym (seen-here rs s h)))
+      (ap (λ (t : Token). t .column) (sym (seen-here rs s h)));
   align = listed-none (λ l. Overlap (range rs s) (range rs (s + l)));
 }
 
@@ -233,12 +234,12 @@ stretch-marked rs s len k c = record {
 
 -- what the function makes
 pub stretching : {k m : SpanMarks} {a z t : RangeToken} {x y v : Token} {l al : ℕ} {flag : Bool}
-    → Advanced k l 0 1 x y v m → x ≡ lowToken a → y ≡ highToken z → v ≡ highToken t
+    → Growing k l 0 1 x y v m → x ≡ lowToken a → y ≡ highToken z → v ≡ highToken t
     → Says flag (Overlap a t) → Included (k .align) l flag al
     → Stretched k a z t l (aligned m al)
 stretching {k} {m} {a} {z} {t} {x} {y} {v} {l} {al} {flag} j e f g says i = record {
   next = m;
-  joined = subst₃ (λ (p q r : Token). Joined k l p q r m) e f g (j .counts (omega arith));
+  joined = subst₃ (λ (p q r : Token). Joined k l p q r m) e f g (j .advanced .counts (omega arith));
   same = refl;
   flag = flag;
   says = says;

@@ -40,7 +40,7 @@ seenFrom rs s = set (highest rs) s (lowToken (range rs s))
 
 -- the marks of one token
 abbrev pub firstOf : RangeToken → SpanMarks
-firstOf t = alone (t .terminal) (t .low .0)
+firstOf t = alone (t .terminal) (t .low)
 
 -- r is k with the align set x
 abbrev pub aligned : SpanMarks → ℕ → SpanMarks

@@ -3,6 +3,7 @@
 // holds.
 use column_ranges::RangeSentence;
 use column_ranges::RangeToken;
+use grammar::column_before;
 use marks::SpanMarks;
 use marks::first_marks;
 use marks::with_next;
@@ -22,18 +23,22 @@ ghost use Rattle.range_marks.specs.RangeMarks.{exchangedAll};
 pub fn first_of(t: RangeToken) -> SpanMarks
     ensures { λ r. ⌜ r ≡ firstOf t ⌝ }
 {
-    first_marks(t.terminal, t.low.0)
+    let c = t.low;
+    first_marks(t.terminal, c)
 }
 
 // Is a column within the ends of both?
 fn overlap(a: RangeToken, b: RangeToken) -> bool
     ensures { λ r. ⌜ Says r (Overlap a b) ⌝ }
 {
-    if a.low.0 <= b.high.0 {
-        if b.low.0 <= a.high.0 { true } else { false }
-    } else {
-        false
+    let la = a.low;
+    let lb = b.low;
+    let ha = a.high;
+    let hb = b.high;
+    if column_before(hb, la) {
+        return false;
     }
+    if column_before(ha, lb) { false } else { true }
 }
 
 // The set, with `l` besides if `yes` says so.
@@ -62,9 +67,10 @@ pub fn stretched(
     let m = with_next(k, x, y, v, left, 0, 1);
     let yes = overlap(a, t);
     let align = listed(k.align, left, yes);
+    let first = m.first;
     let least = m.least;
     SpanMarks {
-        first: m.first,
+        first,
         least,
         single: m.single,
         align,

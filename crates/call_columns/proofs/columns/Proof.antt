@@ -1,6 +1,6 @@
 -- The readers' refusals, else the answer on what was read.
 use Rattle.call_columns.specs.Columns.{bad-rules, bad-ranges, reading}
-use Rattle.answering.proofs.Readings.{rules-are, rules-not}
+use Rattle.sheets.proofs.Readings.{rules-are, rules-not}
 use Rattle.range_sheets.proofs.Accepted.{ranges-are, ranges-not}
 use mathlib.Core.Path.{refl}
 use borrow.Author.Needs.{needs}

@@ -1,15 +1,18 @@
 -- The loop's invariant: the columns before the next one are tried; the measure is by how much the
 -- ends stand apart.
 use borrow.Author.Needs.{needs}
-use mathlib.Core.Path.{ap, _∙_}
+use mathlib.Core.Path.{_≡_, refl, sym, ap, _∙_, subst}
 use native.Mathlib.Omega.{arith}
+use lib.ListN.{length}
 use Rattle.grammar.specs.Content.{rules}
 use Rattle.grammar.specs.SpanSheet.{pairs}
 use Rattle.column_ranges.specs.Ranges.{columns}
 use Rattle.column_ranges.specs.RangeSentences.{range, rangesOf}
 use Rattle.column_ranges.proofs.Counting.{range-read, ended-at}
 use Rattle.narrowing.proofs.Choices.{slack, slack-less}
-use Rattle.range_charts.proofs.Solving.{small-empty}
+use Rattle.range_charts.specs.Keeping.{Blank}
+use Rattle.range_charts.proofs.Keeping.{columns-blank}
+use Rattle.range_charts.proofs.Solving.{small-empty, from-none}
 use Rattle.column_search.proofs.Searching.{Turn, leaved-small, leaved-narrowed}
 use Rattle.column_search.proofs.Searching.{searched-none, searched-after, searched-idle}
 use Rattle.column_search.proofs.Searching.{turn-none, turn-more, turn-all}
@@ -21,31 +24,31 @@ use Rattle.column_search.proofs.search.Kinds as search-kinds
 use Rattle.column_search.proofs.+search.Lts-search as search-lts
 use Rattle.column_ranges.proofs.columns.Reads as columns-reads
 use Rattle.column_search.proofs.idle.Reads as idle-reads
+use Rattle.column_search.proofs.next_of_many.Reads as next-of-many-reads
+use Rattle.column_search.proofs.search_few.Reads as search-few-reads
 use Rattle.column_search.proofs.settled.Reads as settled-reads
-use Rattle.column_search.proofs.try_choice.Reads as try-choice-reads
 use Rattle.narrowing.proofs.narrowed.Reads as narrowed-reads
-use Rattle.narrowing.proofs.next_token.Reads as next-token-reads
 use Rattle.column_search.proofs.+search.{statement}
 use Rattle.column_search.proofs.+search.Tie.{close}
 
-abbrev μ-search : Measures 2 search-kinds.ps ℕ
+abbrev μ-search : Measures 3 search-kinds.ps ℕ
 μ-search κs a = slack (rangesOf (a .1 .0))
 
-abbrev search-at : ℕ → In 2 search-kinds.ps
-search-at t = and 2 search-kinds.ps (is 2 search-kinds.ps μ-search t) search′.Pre
+abbrev search-at : ℕ → In 3 search-kinds.ps
+search-at t = and 3 search-kinds.ps (is 3 search-kinds.ps μ-search t) search′.Pre
 
-abbrev search-below : ℕ → In 2 search-kinds.ps
-search-below t = and 2 search-kinds.ps (falls 2 search-kinds.ps _<_ μ-search t) search′.Pre
+abbrev search-below : ℕ → In 3 search-kinds.ps
+search-below t = and 3 search-kinds.ps (falls 3 search-kinds.ps _<_ μ-search t) search′.Pre
 
 -- what the callees ask and promise
 abbrev calls : ℕ → search-lts.Claims
 calls t = (
   settled-reads.Asked,
   settled-reads.Learnt,
-  next-token-reads.Asked,
-  next-token-reads.Learnt,
-  try-choice-reads.Asked,
-  try-choice-reads.Learnt,
+  next-of-many-reads.Asked,
+  next-of-many-reads.Learnt,
+  search-few-reads.Asked,
+  search-few-reads.Learnt,
   idle-reads.Asked,
   idle-reads.Learnt,
   columns-reads.Asked,
@@ -57,65 +60,85 @@ calls t = (
 )
 
 abbrev search-Inv-loop : search-lts.InvT-loop
-search-Inv-loop g b e words₀ table r t m found₀ c₀ words found c =
+search-Inv-loop g b e words₀ cols₀ table r t m found₀ c₀ words cols found c =
     Turn (rules g) (rangesOf r) (r .count) t c found₀ words₀ words found
+    × Blank (r .count) cols × (length cols ≡ length cols₀)
 
 abbrev search-μ-loop : search-lts.MeasureT-loop
-search-μ-loop g b e words₀ table r t m found₀ c₀ words found c = m - c
+search-μ-loop g b e words₀ cols₀ table r t m found₀ c₀ words cols found c = m - c
 
 search-settled-requires : (t : ℕ)
     → search-lts.Need-settled-requires (calls t) (search-at t) search′.Post search-Inv-loop
     search-μ-loop
-search-settled-requires t c κs = c .before .before .pre .1 .1 .0
+search-settled-requires t c κs = c .before .before .before .pre .1 .1 .0
 
 search-returns : (t : ℕ) → search-lts.Need-returns (calls t) (search-at t) search′.Post
     search-Inv-loop search-μ-loop
-search-returns t c = searched-none (c .before .settled .ensures .leave (c .if1 .taken))
+search-returns t c = (
+  searched-none (c .before .settled .ensures .leave (c .if1 .taken)),
+  c .before .before .before
+      .before .before .pre .1 .1 .1 .1 .1,
+)
 
-search-next-token-requires : (t : ℕ)
-    → search-lts.Need-next-token-requires (calls t) (search-at t) search′.Post search-Inv-loop
+search-next-of-many-requires : (t : ℕ)
+    → search-lts.Need-next-of-many-requires (calls t) (search-at t) search′.Post search-Inv-loop
     search-μ-loop
-search-next-token-requires t c κs = c .before .before .before .before .pre .1 .1 .0
+search-next-of-many-requires t c κs = c .before .before .before .before .before .pre .1 .1 .0
 
-search-try-choice-requires : (t : ℕ)
-    → search-lts.Need-try-choice-requires (calls t) (search-at t) search′.Post search-Inv-loop
+search-search-few-requires : (t : ℕ)
+    → search-lts.Need-search-few-requires (calls t) (search-at t) search′.Post search-Inv-loop
     search-μ-loop
-search-try-choice-requires t c κs =
-    let n = c .before .before in
-    let e = n .before in
-    let p = c .before .before .before .before .before .before .before .pre .1 in (
+search-search-few-requires t c κs =
+    let p = c .before .before .before .before .before .before .before .before .before .pre .1 in
+    let q = p .1 .1 .1 in (
       p .0,
       (
+        p .1 .0,
         (
-          p .1 .0,
-          n .next-token .ensures .none
-              (omega (arith, c .before .if2 .taken, p .1 .0 .whole)),
-          e .before .settled .ensures .stay
-              (e .if1 .left),
+          p .1 .1 .0,
+          (
+            q .0,
+            (
+              omega arith,
+              record { each = λ k h l. absurd (omega (arith, p .1 .0 .whole)) },
+              record { columns = q .1 .columns _; solved = from-none _ _ _ _ },
+            ),
+          ),
         ),
-        p .1 .1,
       ),
     )
 
 search-same-length : (t : ℕ) → search-lts.Need-same-length (calls t) (search-at t) search′.Post
     search-Inv-loop search-μ-loop
-search-same-length t c = c .before .before .try-choice .ensures .leaving .past .long
-
-search-returns-2 : (t : ℕ) → search-lts.Need-returns-2 (calls t) (search-at t) search′.Post
-    search-Inv-loop search-μ-loop
-search-returns-2 t c = c .before .before .try-choice .ensures
-
-search-idle-requires : (t : ℕ) → search-lts.Need-idle-requires (calls t) (search-at t) search′.Post
-    search-Inv-loop search-μ-loop
-search-idle-requires t c κs = c .before .before .before .before .before .before .before .pre .1
+search-same-length t c =
+    c .before .before .before .before .search-few .ensures .0 .leaving .past .long
 
 search-same-length-2 : (t : ℕ) → search-lts.Need-same-length-2 (calls t) (search-at t) search′.Post
     search-Inv-loop search-μ-loop
-search-same-length-2 t c = c .before .before .before .idle .ensures .leaving .past .long
+search-same-length-2 t c = search needs
+
+search-returns-2 : (t : ℕ) → search-lts.Need-returns-2 (calls t) (search-at t) search′.Post
+    search-Inv-loop search-μ-loop
+search-returns-2 t c =
+    let a = c .before .before .before .before .search-few .ensures in
+    (a .0, columns-blank (a .1 .columns))
+
+search-idle-requires : (t : ℕ) → search-lts.Need-idle-requires (calls t) (search-at t) search′.Post
+    search-Inv-loop search-μ-loop
+search-idle-requires t c κs =
+    let p = c .before .before .before .before .before .before .before .before .pre .1 in
+    (p .0, (p .1 .0, (p .1 .1 .0, p .1 .1 .1 .0)))
+
+search-same-length-3 : (t : ℕ) → search-lts.Need-same-length-3 (calls t) (search-at t) search′.Post
+    search-Inv-loop search-μ-loop
+search-same-length-3 t c = c .before .before .before .idle .ensures .leaving .past .long
 
 search-returns-3 : (t : ℕ) → search-lts.Need-returns-3 (calls t) (search-at t) search′.Post
     search-Inv-loop search-μ-loop
-search-returns-3 t c = searched-idle (c .before .before .before .idle .ensures) (c .if3 .taken)
+search-returns-3 t c =
+    let e = c .before .before .before in
+    let z = e .before .before .before .before .before .before .before .before .before in
+    (searched-idle (e .idle .ensures) (c .if3 .taken), z .pre .1 .1 .1 .1 .1)
 
 search-mul-a : (t : ℕ) → search-lts.Need-mul-a (calls t) (search-at t) search′.Post search-Inv-loop
     search-μ-loop
@@ -128,7 +151,7 @@ search-element-copy-out-a t c = omega (
   arith,
   c .before .before .before .before .before .if2 .left,
   c .before .before .before .before
-      .before .before .before .before .before .before .before .pre .1 .1 .0 .few,
+      .before .before .before .before .before .before .before .before .pre .1 .1 .0 .few,
 )
 
 search-columns-requires : (t : ℕ)
@@ -136,39 +159,43 @@ search-columns-requires : (t : ℕ)
     search-μ-loop
 search-columns-requires t c κs = ended-at
     (c .before .before .before .before .before .before .before .before .before .before .before
-    .before .pre .1 .1 .0) (c .before .before .before .before .before .before .before
-    .next-token .result) (omega (
+    .before .before .pre .1 .1 .0) (c .before .before .before .before .before .before .before
+    .next-of-many .result) (omega (
       arith,
-      c .before .before .before .before .before .before
-          .if2 .left,
+      c .before .before .before .before .before .before .if2
+          .left,
     ))
 
 search-loop-holds : (t : ℕ) → search-lts.Need-loop-holds (calls t) (search-at t) search′.Post
     search-Inv-loop search-μ-loop
-search-loop-holds t c = turn-none
-    (c .before .before .before .before .before .before .before .before .before .before .before
-    .before .before .pre .1 .1 .0) (omega
-    (arith, c .before .before .before .before .before .before .before .if2 .left))
+search-loop-holds t c = (
+  turn-none (c .before .before .before .before .before .before .before .before .before .before
+      .before .before .before .before .pre .1 .1 .0)
+      (omega (arith, c .before .before .before .before .before .before .before .if2 .left)),
+  c .before .before .before .before .before .before .before .before .before .before .before .before
+      .before .before .pre .1 .1 .1 .1 .1,
+  refl,
+)
 
 search-narrowed-requires : (t : ℕ)
     → search-lts.Need-narrowed-requires (calls t) (search-at t) search′.Post search-Inv-loop
     search-μ-loop
 search-narrowed-requires t c κs =
-    let k = c .before .before in
-    let e = c .before .before .before .before .before .before .before .before .before in
     let z = c .before .before .before .before .before .before .before .before .before .before
-    .before .before .before .before .before in
-    let h : c .before .before .before .before .before .before .before .before .before .before
-    .next-token .result < z .args .t2 .count = omega (arith, e .if2 .left) in (
+    .before .before .before .before .before .before in
+    let t = c .before .before .before .before .before .before .before .before .before .before
+    .next-of-many .result in
+    let h : t < z .args .t2 .count = omega (
+      arith,
+      c .before .before .before .before .before .before .before .before .before .if2
+          .left,
+    ) in (
       (z .pre .1 .1 .0, h),
       omega (
         arith,
         c .loop-test .taken,
-        k .columns .ensures,
-        ap columns
-            (range-read (z .args .t2) (c .before .before .before .before .before .before .before
-            .before
-            .before .before .next-token .result) h),
+        c .before .before .columns .ensures,
+        ap columns (range-read (z .args .t2) t h),
       ),
     )
 
@@ -176,23 +203,26 @@ search-search-requires : (t : ℕ)
     → search-lts.Need-search-requires (calls t) (search-at t) search′.Post search-Inv-loop
     search-μ-loop
 search-search-requires t c κs =
-    let q = c .before .narrowed .ensures in
-    let l = c .before .before .before in
-    let e = c .before .before .before .before .before .before .before .before .before .before
-    .before in
+    let q = c .before .before .narrowed .ensures in
+    let v = c .before .before .before .before .loop .inv in
+    let i = c .before .before .before .before .before .before .before .before .before .before .idle
+    .ensures .leaving in
     let z = c .before .before .before .before .before .before .before .before .before .before
-    .before .before .before .before .before .before .before in
+    .before .before .before .before .before .before .before .before .before in
     let t = c .before .before .before .before .before .before .before .before .before .before
-    .before .before .next-token .result in
+    .before .before .before .next-of-many .result in
     let p = z .pre .1 in
-    let h : t < z .args .t2 .count = omega (arith, e .if2 .left) in
-    let w = c .before .before .before .before .before .before .before .before .before .before
-    .before .before .next-token .ensures .several (omega (arith, h, p .1 .0 .whole)) in
+    let n = z .args .t2 .count in
+    let h : t < n = omega (
+      arith,
+      c .before .before .before .before .before .before .before .before
+          .before .before .before .before .if2 .left,
+    ) in
+    let l : t < length (rangesOf (z .args .t2)) = omega (arith, h, p .1 .0 .whole) in
     let y = slack-less (rangesOf (z .args .t2)) t
-    (range (rangesOf (z .args .t2)) t .low .0 + l .loop .c) (omega (arith, h, p .1 .0 .whole))
-    w in
-    let i = c .before .before .before .before .before .before .before .before .before .idle .ensures
-    .leaving in (
+    (range (rangesOf (z .args .t2)) t .low .0 + c .before .before .before .before .loop .c) l
+    (c .before .before .before .before .before .before .before .before .before .before .before
+    .before .before .next-of-many .ensures .several l) in (
       omega (arith, y, ap slack (q .is), z .pre .0),
       (
         p .0,
@@ -202,18 +232,19 @@ search-search-requires t c κs =
             omega (
               arith,
               ap pairs (q .count),
-              l .loop .inv .leaving .past .long,
+              v .0 .leaving .past .long,
               i .past .long,
-              p
-                  .1 .1 .0,
+              p .1 .1 .0,
             ),
             (
-              leaved-narrowed (p .1 .0) h q (leaved-small (l .loop .inv .leaving .small)
-                  (leaved-small (i .small) (p .1 .1 .1 .0))),
-              small-empty (z .args .t2 .count)
-                  (l .loop .inv .leaving .small) (small-empty (z .args .t2 .count) (i .small)
-                  (p .1 .1 .1 .1)),
-              p .1 .1 .1 .2,
+              (
+                leaved-narrowed (p .1 .0) h q (leaved-small (v .0 .leaving .small)
+                    (leaved-small (i .small) (p .1 .1 .1 .0 .0))),
+                small-empty n (v .0 .leaving .small) (small-empty n (i .small) (p .1 .1 .1 .0 .1)),
+                p .1 .1 .1 .0 .2,
+              ),
+              subst (λ (m : ℕ). Blank m (c .before .before .before .before .loop .cols))
+                  (sym (q .count)) (v .1),
             ),
           ),
         ),
@@ -225,67 +256,80 @@ search-add-c : (t : ℕ) → search-lts.Need-add-c (calls t) (search-at t) searc
 search-add-c t c = record {
   fits = omega (
     arith,
-    c .before .before .before .before .before .loop-test .taken,
-    c .before .before .before
-        .before .before .before .before .columns .ensures,
+    c .before .before .before .before .before .before .before .before .loop-test .taken,
+    c
+        .before .before .before .before .before .before .before .before .before .before .columns
+        .ensures,
   );
 }
 
 search-loop-less : (t : ℕ) → search-lts.Need-loop-less (calls t) (search-at t) search′.Post
     search-Inv-loop search-μ-loop
-search-loop-less t c = omega (arith, c .before .before .before .before .before .loop-test .taken)
+search-loop-less t c = omega (
+  arith,
+  c .before .before .before .before .before .before .before
+      .before .loop-test .taken,
+)
 
 search-loop-again : (t : ℕ) → search-lts.Need-loop-again (calls t) (search-at t) search′.Post
     search-Inv-loop search-μ-loop
 search-loop-again t c =
-    let i = c .before .before .before .before .before in
-    let k = c .before .before .before .before .before .before .before in
-    let e = c .before .before .before .before .before .before .before .before .before .before
-    .before .before .before .before in
     let z = c .before .before .before .before .before .before .before .before .before .before
-    .before .before .before .before .before .before .before .before .before .before in
-    let h : c .before .before .before .before .before .before .before .before .before .before
-    .before .before .before .before .before .next-token .result < z .args .t2 .count =
-    omega (arith, e .if2 .left) in
-    turn-more (z .pre .1 .1 .0) h (omega (
+    .before .before .before .before .before .before .before .before .before .before .before
+    .before .before .before in
+    let t = c .before .before .before .before .before .before .before .before .before .before
+    .before .before .before .before .before .before .before .before .next-of-many .result in
+    let h : t < z .args .t2 .count = omega (
       arith,
-      i .loop-test .taken,
-      k .columns .ensures,
-      ap columns
-          (range-read (z .args .t2) (c .before .before .before .before .before .before .before
-          .before .before .before .before .before .before .before .before .next-token .result)
-          h),
-    )) (c .before .before .before .before .before .before .loop .inv)
-    (c .before .before .before .before .narrowed .ensures)
-    (c .before .before .search .ensures)
+      c .before .before .before .before .before .before .before .before .before .before
+          .before .before .before .before .before .before .before .if2 .left,
+    ) in
+    let q = c .before .before .before .before .before .before .before .narrowed .ensures in
+    let a = c .before .before .before .before .search .ensures in (
+      turn-more (z .pre .1 .1 .0) h (omega (
+        arith,
+        c .before .before .before .before .before .before .before .before .loop-test .taken,
+        c .before .before .before .before .before .before .before .before .before .before .columns
+            .ensures,
+        ap columns (range-read (z .args .t2) t h),
+      )) (c .before .before .before .before .before .before .before .before .before .loop .inv .0) q
+          (a .0),
+      subst (λ (m : ℕ). Blank m (c .before .before .before .before .search .last .1 .1 .1 .1 .1 .0))
+          (q .count) (a .1),
+      c .before .before .before .before .search .kept .1 .1 .1 .1 .1 .0
+          ∙ c .before .before .before .before .before .before .before .before .before .loop .inv .2,
+    )
 
-search-same-length-3 : (t : ℕ) → search-lts.Need-same-length-3 (calls t) (search-at t) search′.Post
+search-same-length-4 : (t : ℕ) → search-lts.Need-same-length-4 (calls t) (search-at t) search′.Post
     search-Inv-loop search-μ-loop
-search-same-length-3 t c = c .before .loop .inv .leaving .past .long
+search-same-length-4 t c = c .before .loop .inv .0 .leaving .past .long
     ∙ c .before .before .before .before .before .before .before .idle .ensures .leaving .past .long
+
+search-same-length-5 : (t : ℕ) → search-lts.Need-same-length-5 (calls t) (search-at t) search′.Post
+    search-Inv-loop search-μ-loop
+search-same-length-5 t c = c .before .loop .inv .2
 
 search-returns-4 : (t : ℕ) → search-lts.Need-returns-4 (calls t) (search-at t) search′.Post
     search-Inv-loop search-μ-loop
 search-returns-4 t c =
-    let k = c .before .before in
     let z = c .before .before .before .before .before .before .before .before .before .before
-    .before .before .before .before .before in
-    let h : c .before .before .before .before .before .before .before .before .before .before
-    .next-token .result < z .args .t2 .count = omega (
+    .before .before .before .before .before .before in
+    let t = c .before .before .before .before .before .before .before .before .before .before
+    .next-of-many .result in
+    let h : t < z .args .t2 .count = omega (
       arith,
       c .before .before .before .before .before .before .before .before .before .if2
           .left,
-    ) in
-    searched-after (c .before .before .before .before .before .before .before .idle .ensures
-    .leaving)
-    (turn-all (z .pre .1 .1 .0) h (omega (
-      arith,
-      c .loop-test .left,
-      k .columns .ensures,
-      ap columns
-          (range-read (z .args .t2) (c .before .before .before .before .before .before .before
-          .before .before .before .next-token .result) h),
-    )) (c .before .loop .inv))
+    ) in (
+      searched-after (c .before .before .before .before .before .before .before .idle .ensures
+          .leaving) (turn-all (z .pre .1 .1 .0) h (omega (
+            arith,
+            c .loop-test .left,
+            c .before .before .columns .ensures,
+            ap columns (range-read (z .args .t2) t h),
+          )) (c .before .loop .inv .0)),
+      c .before .loop .inv .1,
+    )
 
 pub +search-spec : {M : Type 1} → statement M
 +search-spec = close μ-search λ t. search-lts.spec (calls t)
@@ -295,12 +339,13 @@ pub +search-spec : {M : Type 1} → statement M
     search-μ-loop
     (search-settled-requires t)
     (search-returns t)
-    (search-next-token-requires t)
-    (search-try-choice-requires t)
+    (search-next-of-many-requires t)
+    (search-search-few-requires t)
     (search-same-length t)
+    (search-same-length-2 t)
     (search-returns-2 t)
     (search-idle-requires t)
-    (search-same-length-2 t)
+    (search-same-length-3 t)
     (search-returns-3 t)
     (search-mul-a t)
     (search-element-copy-out-a t)
@@ -311,5 +356,6 @@ pub +search-spec : {M : Type 1} → statement M
     (search-add-c t)
     (search-loop-less t)
     (search-loop-again t)
-    (search-same-length-3 t)
+    (search-same-length-4 t)
+    (search-same-length-5 t)
     (search-returns-4 t)

@@ -1,20 +1,33 @@
+-- Neither ends before the other begins.
+use borrow.Author.Needs.{needs}
 use native.Mathlib.Omega.{arith}
 use Rattle.sets.proofs.Says.{holds, fails}
 use Rattle.range_marks.proofs.overlap.Statement.{statement}
 use Rattle.range_marks.proofs.overlap.Tie as tie
 
+column-before-requires : tie.Need-column-before-requires
+column-before-requires c κs = search needs
+
 returns : tie.Need-returns
-returns c = holds (record {
-  low = omega (arith, c .before .before .before .if1 .taken);
-  high = omega
-      (arith, c .if2 .taken);
-})
+returns c =
+    fails (λ z. omega (arith, z .low, c .before .column-before .ensures .is (c .if1 .taken)))
+
+column-before-requires-2 : tie.Need-column-before-requires-2
+column-before-requires-2 c κs = search needs
 
 returns-2 : tie.Need-returns-2
-returns-2 c = fails (λ z. omega (arith, z .high, c .if2 .left))
+returns-2 c =
+    fails (λ z. omega (arith, z .high, c .before .column-before2 .ensures .is (c .if2 .taken)))
 
 returns-3 : tie.Need-returns-3
-returns-3 c = fails (λ z. omega (arith, z .low, c .if1 .left))
+returns-3 c =
+    let o = c .before .before in
+    holds (record {
+      low = omega (arith, o .before .column-before .ensures .isnt (o .if1 .left));
+      high = omega (arith, c .before .column-before2 .ensures .isnt (c .if2 .left));
+    })
 
 pub overlap-spec : {M : Type 1} → statement M
-overlap-spec = tie.close (tie.spec returns returns-2 returns-3)
+overlap-spec =
+    tie.close
+    (tie.spec column-before-requires returns column-before-requires-2 returns-2 returns-3)

@@ -22,11 +22,12 @@ listed-requires : tie.Need-listed-requires
 listed-requires c κs = search needs
 
 returns : tie.Need-returns
-returns c = stretching (c .before .before .with-next .ensures)
-    (c .before .before .before .before .before .low-token .ensures)
-    (c .before .before .before .before .high-token .ensures)
-    (c .before .before .before .high-token2 .ensures) (c .before .overlap .ensures)
-    (c .listed .ensures)
+returns c =
+    let l = c .before in
+    let n = l .before .before in
+    stretching (n .with-next .ensures) (n .before .before .before .low-token .ensures)
+    (n .before .before .high-token .ensures) (n .before .high-token2 .ensures)
+    (l .before .overlap .ensures) (l .listed .ensures)
 
 pub stretched-spec : {M : Type 1} → statement M
 stretched-spec =
