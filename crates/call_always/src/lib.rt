@@ -1,5 +1,7 @@
-// The public call for the test at every length: clear, or unknown with the list of all doubts.
+// The public calls for the test at every length, on rule sheets and on clause sheets: clear, or
+// unknown with the list of all doubts.
 use acyclic::nullables;
+use clause_sheets::read_clauses;
 use doubt_list::Sets;
 use doubt_list::list_doubts;
 use doubt_marks::fill_marks;
@@ -19,6 +21,7 @@ ghost use Rattle.grammar.specs.Content.{rules as rulesOf, Formed};
 ghost use Rattle.sheets.specs.Promises.{readingOf, RulesRead};
 ghost use Rattle.call_always.specs.Always.{alwaysRefusal, emptied};
 ghost use Rattle.call_always.specs.Always.{AlwaysOn, AlwaysBy, AlwaysOf};
+ghost use Rattle.call_always.specs.Clauses.{ClauseAlways};
 ghost use Rattle.call_always.specs.Replying.{replied, DoubtsTold};
 
 // No sentence has two trees, whatever its length; it is not known; or the call is refused.
@@ -100,7 +103,7 @@ fn answered(g: Grammar, words: &mut [u64], list: &mut [u8]) -> AlwaysReply
 }
 
 // The answer by what a reader of a sheet with rules answered.
-pub fn always_read(a: GrammarRead, words: &mut [u64], list: &mut [u8]) -> AlwaysReply
+fn always_read(a: GrammarRead, words: &mut [u64], list: &mut [u8]) -> AlwaysReply
     requires { ⌜ RulesRead a (readingOf (a .outcome) (rulesOf (a .grammar))) ⌝ }
     ensures { λ r. ⌜ AlwaysBy (readingOf (a .outcome) (rulesOf (a .grammar))) (now (words .entry))
         (now (words .exit)) (now (list .entry)) (now (list .exit)) r ⌝ }
@@ -122,4 +125,13 @@ pub fn always(rules: &[u8], words: &mut [u64], list: &mut [u8]) -> AlwaysReply
         (now (list .entry)) (now (list .exit)) r ⌝ }
 {
     always_read(read_rules(rules), words, list)
+}
+
+// Has no sentence two readings, whatever its length? Clear, or unknown, with all doubts about the
+// expansion's rules.
+pub fn clauses_always(clauses: &[u8], words: &mut [u64], list: &mut [u8]) -> AlwaysReply
+    ensures { λ r. ⌜ ClauseAlways (now (clauses .entry)) (now (words .entry)) (now (words .exit))
+        (now (list .entry)) (now (list .exit)) r ⌝ }
+{
+    always_read(read_clauses(clauses), words, list)
 }

@@ -141,8 +141,8 @@ fn selves_by(nodes: &[u64], table: &[u64], k: usize, out: &mut [u64])
     if !pair_frames::ranked(f) {
         return;
     }
-    let mut list = [0u64; 4096];
-    let end = pair_offsets::list_evens(f, &mut list, 0);
+    let mut list = [0u64; 1024];
+    let end = pair_offsets::list_from_one(f, &mut list, 0);
     selves_over(nodes, table, f, &list, end, out);
 }
 
@@ -313,8 +313,8 @@ fn mark_by(nodes: &[u64], table: &[u64], seen: u64, k: usize, marks: &mut [u64])
     if !pair_frames::ranked(f) {
         return;
     }
-    let mut list = [0u64; 4096];
-    let end = pair_offsets::list_evens(f, &mut list, 0);
+    let mut list = [0u64; 1024];
+    let end = pair_offsets::list_from_one(f, &mut list, 0);
     mark_over(nodes, table, seen, f, &list, end, marks);
 }
 

@@ -1,8 +1,8 @@
 -- Lists of sixes of offsets, as the loops make and read them.
-use mathlib.Core.Path.{_≡_, refl, sym, _∙_, subst}
+use mathlib.Core.Path.{_≡_, refl, sym, ap, _∙_, subst}
 use mathlib.Core.Logic.{_⊎_, inl, inr}
 use mathlib.Core.List.{List}
-use Prim.Native.Nat.{ℕ, _+_, _%_, _≤_, _<_}
+use Prim.Native.Nat.{ℕ, _+_, _*_, _%_, _≤_, _<_}
 use native.Mathlib.Omega.{arith}
 use native.Mathlib.Decide.{decLt}
 use lib.ListN.{length, getD, set, length-set}
@@ -13,11 +13,15 @@ use Rattle.sets.proofs.Sets.{in-dec, in-zero, insert-same, insert-keeps, insert
 use Rattle.pair_offsets.specs.declared.Frame.{Frame}
 use Rattle.pair_offsets.specs.declared.Masks.{Masks}
 use Rattle.pair_offsets.specs.Evens.{EvenSix}
-use Rattle.pairs.specs.Settings.{Corner, at}
+use Rattle.pairs.specs.Relations.{equal}
+use Rattle.pairs.proofs.OffsetLaws.{is-order}
+use Rattle.pairs.specs.Settings.{Corner, start₁, start₂, at}
+use Rattle.pair_offsets.specs.Codes.{offsetCode}
 use Rattle.pair_offsets.specs.Frames.{rankOf}
 use Rattle.pair_offsets.specs.Lists.{Held, OffsetAdded, LeftWith, OffsetsLeft, Pushed}
 use Rattle.pair_offsets.specs.Lists.{Listing}
 use Rattle.pair_offsets.specs.Lists.{ListsEvens}
+use Rattle.pair_offsets.proofs.SayLaws.{of-code}
 
 -- 1. reading
 
@@ -177,3 +181,26 @@ lists-alike e l =
 pub listed : {f : Frame} {old new : List ℕ} {from end : ℕ} → Listing f old new from 4096 end
     → ListsEvens f new from end
 listed l = record { low = l .low; all = l .all; only = l .only }
+
+-- 3. two starts that are one
+
+-- their offset is 0
+one-zero : {f : Frame} {t : ℕ} → f .start ≡ f .begin → EvenSix f t → t % 4 ≡ 0
+one-zero {f} {t} e v =
+    let o = is-order equal (f .start) (f .begin) e in
+    sym (of-code (t % 4) (omega arith)) ∙ ap offsetCode (v .even .same start₁ start₂ o)
+
+skips : {f : Frame} {old new : List ℕ} {from t n : ℕ} → f .start ≡ f .begin
+    → (t % 4 ≡ 0 → ⊥) → Listing f old new from t n → Listing f old new from (t + 1) n
+skips {f} {new = new} {t = t} {n} e h a = listing-more a (passed f new n t (λ v. h (one-zero e v)))
+
+pub listing-four : {f : Frame} {old mid new : List ℕ} {from n r : ℕ} (t : ℕ) → f .start ≡ f .begin
+    → Listing f old mid from (4 * t) n
+    → Pushed f mid new n (4 * t) r → Listing f old new from (4 * (t + 1)) r
+listing-four {f} {old} {new = new} {from} {r = r} t e a b =
+    let one = listing-more a b in
+    let two = skips e (λ h. omega arith) one in
+    let three = skips e (λ h. omega arith) two in
+    let four = skips e (λ h. omega arith) three in
+    let d : 4 * t + 1 + 1 + 1 + 1 ≡ 4 * (t + 1) = omega arith in
+    subst (λ (k : ℕ). Listing f old new from k r) d four

@@ -1,5 +1,6 @@
 // The offsets of the starts of two nodes: which of them can stand together over a frame, and which
 // of these are left by masks.
+ghost use mathlib.Core.Path.{_≡_};
 ghost use Prim.Native.Nat.{_+_, _≤_, _<_};
 ghost use lib.ListN.{length};
 ghost use Rattle.sets.specs.Sets.{In};
@@ -145,6 +146,22 @@ pub fn list_evens(f: Frame, out: &mut [u64], from: usize) -> usize
     let mut t: u64 = 0;
     while t < 4096 {
         n = push_even(f, out, n, t);
+        t += 1;
+    }
+    n
+}
+
+// The same over a frame whose two starts are one: they are beside each other in each six, so that
+// there are no more than 1024.
+pub fn list_from_one(f: Frame, out: &mut [u64], from: usize) -> usize
+    requires { ⌜ (from + 1024 ≤ length (now out)) × (f .start ≡ f .begin) ⌝ }
+    ensures { λ r. ⌜ Listing f (now (out .entry)) (now (out .exit)) from 4096 r
+        × (r ≤ from + 1024) ⌝ }
+{
+    let mut n = from;
+    let mut t: u64 = 0;
+    while t < 1024 {
+        n = push_even(f, out, n, 4 * t);
         t += 1;
     }
     n

@@ -330,3 +330,14 @@ cell-ran {ns} {i} {j} {n} {t} {x = x} hi hj pi pj ex ey a =
 
 pub apt : (ns : List ℕ) (i : ℕ) {x : Node} → x ≡ nodeAt ns i → Small x → Apt x
 apt ns i e s = record { small = s; kids = omega (arith, ap (λ (v : Node). v .kids) e) }
+
+pub exchanged : {x y : Node} {i j : ℕ} {g : Rules} → PairOf x y i j g → PairOf y x j i g
+exchanged p =
+    record {
+      head₁ = p .head₂;
+      head₂ = p .head₁;
+      node₁ = p .node₂;
+      node₂ = p .node₁;
+      number₁ = p .number₂;
+      number₂ = p .number₁;
+    }

@@ -136,23 +136,23 @@ fn kid_bits(x: Node) -> u64
     sets::with(one, x.second)
 }
 
-// The nonterminals with which the words of a shape, or behind these of a nonterminal, changed in
-// this pass, and in the one before if that was late in it.
-fn changed(marks: &[u64; 1024], at: usize, late: bool) -> u64
-    requires { ⌜ at < 448 ⌝ }
+// The nonterminals with which the words of a shape of the nonterminal `a`, or behind these of `a`
+// itself, changed in this pass, or in the one before at the node `i` or after it.
+fn changed(marks: &[u64; 1024], at: usize, a: u8, i: usize) -> u64
+    requires { ⌜ (at < 448) × (a < 64) ⌝ }
 {
-    if late {
+    let last = marks[960 + a as usize];
+    if last <= i as u64 {
         return marks[at] | marks[512 + at];
     }
     marks[at]
 }
 
-// The same of a nonterminal: late is a change at the node `i` or after it.
+// The same of a nonterminal.
 fn changed_sort(marks: &[u64; 1024], a: u8, i: usize) -> u64
     requires { ⌜ a < 64 ⌝ }
 {
-    let last = marks[960 + a as usize];
-    changed(marks, 384 + a as usize, last <= i as u64)
+    changed(marks, 384 + a as usize, a, i)
 }
 
 // Has a word changed that steps of the nodes `i` and `j` read, since they were made?
@@ -161,43 +161,18 @@ fn touched(marks: &[u64; 1024], x: Node, y: Node, i: usize, j: usize) -> bool
 {
     let kx = kid_bits(x);
     let ky = kid_bits(y);
-    let a = changed(marks, i, true) | changed_sort(marks, x.sort, i);
-    let b = changed(marks, j, j <= i) | changed_sort(marks, y.sort, i);
+    let a = changed(marks, i, x.sort, i) | changed_sort(marks, x.sort, i);
+    let b = changed(marks, j, y.sort, i) | changed_sort(marks, y.sort, i);
     let c = changed_sort(marks, x.first, i) | changed_sort(marks, x.second, i);
     ((a | c) & ky) | (b & kx) != 0
 }
 
-// Can two nodes with these words be related at all? Each meets a child of the other, if there is
-// one, and if both have children, two of these meet.
-fn can_meet(w: Words, kx: u8, ky: u8) -> bool {
-    if kx != 0 {
-        if w.yc | w.yd == 0 {
-            return false;
-        }
-    }
-    if ky != 0 {
-        if w.xc | w.xd == 0 {
-            return false;
-        }
-    }
-    if kx == 0 {
-        return true;
-    }
-    if ky == 0 {
-        return true;
-    }
-    w.cc | w.cd | w.dc | w.dd != 0
-}
-
-// Marks the words of the shape `i` and the nonterminal `a` with the nonterminal `b`, if some were
-// added to.
-fn mark(marks: &mut [u64; 1024], had: bool, i: usize, a: u8, b: u8)
-    requires { ⌜ (i < 384) × (a < 64) × (b < 64) ⌝ }
+// Marks the words of the shape `j` and its nonterminal `a` with the nonterminal `b`, at the node
+// `i`.
+fn mark(marks: &mut [u64; 1024], j: usize, a: u8, b: u8, i: usize)
+    requires { ⌜ (j < 384) × (a < 64) × (b < 64) × (i < 384) ⌝ }
 {
-    if had {
-        return;
-    }
-    marks[i] = sets::with(marks[i], b);
+    marks[j] = sets::with(marks[j], b);
     let n = 384 + a as usize;
     marks[n] = sets::with(marks[n], b);
     marks[64 + n] = i as u64;
@@ -213,23 +188,96 @@ fn age(marks: &mut [u64; 1024]) {
     }
 }
 
-// Steps of two nodes over the frames of all entries, if they can meet. Had the table all?
-fn meet_if(words: &mut [u64], n: usize, x: Node, y: Node, i: usize, j: usize) -> bool
+// Marks all as changed in the pass before.
+fn mark_all(marks: &mut [u64; 1024]) {
+    let mut n: usize = 512;
+    while n < 960 {
+        marks[n] = 18446744073709551615;
+        n += 1;
+    }
+}
+
+// Steps of two nodes over the frame of an entry, and with the nodes exchanged over that of another.
+// Had the table all?
+fn step_both(
+    words: &mut [u64],
+    k: usize,
+    l: usize,
+    n: usize,
+    x: Node,
+    y: Node,
+    i: usize,
+    j: usize,
+) -> bool
+    requires { ⌜ Ready (now words) n × Apt x × Apt y × (i < 384) × (j < 384) ⌝ }
+    requires { ⌜ (k < n) × (l < n) ⌝ }
+    ensures { λ r. ⌜ SomeRan x y i j (now (words .entry)) (now (words .exit)) r ⌝ }
+{
+    let one = step_entry(words, k, n, x, y, i, j);
+    let two = step_entry(words, l, n, y, x, j, i);
+    both(one, two)
+}
+
+// The same for the entries of a hint, if it says that they might add something.
+fn hinted(
+    words: &mut [u64],
+    n: usize,
+    x: Node,
+    y: Node,
+    i: usize,
+    j: usize,
+    w: Words,
+    places: u64,
+    flags: u64,
+) -> bool
     requires { ⌜ Ready (now words) n × Apt x × Apt y × (i < 384) × (j < 384) ⌝ }
     ensures { λ r. ⌜ SomeRan x y i j (now (words .entry)) (now (words .exit)) r ⌝ }
 {
-    let w = pair_tables::words_of(words, x, y, i, j);
-    if can_meet(w, x.kids, y.kids) {
-        return meet(words, n, x, y, i, j);
+    let k = (places >> 48) as usize % 256;
+    let l = (places >> 56) as usize;
+    if k < n {
+        if l < n {
+            if pair_hints::might_add(words, x, y, i, j, w, places, flags) {
+                return step_both(words, k, l, n, x, y, i, j);
+            }
+        }
     }
     true
 }
 
-// Steps of the node `x` with the number `i` and the node `j`, if there is one, they read a word
-// that has changed, and can meet. Had the table all?
+// Steps of two nodes, both ways round, over those frames where they might add something. Had the
+// table all?
+fn quick_meet(
+    words: &mut [u64],
+    hints: &[u64; 1024],
+    n: usize,
+    x: Node,
+    y: Node,
+    i: usize,
+    j: usize,
+) -> bool
+    requires { ⌜ Ready (now words) n × Apt x × Apt y × (i < 384) × (j < 384) ⌝ }
+    ensures { λ r. ⌜ SomeRan x y i j (now (words .entry)) (now (words .exit)) r ⌝ }
+{
+    let w = pair_hints::open_words(pair_tables::words_of(words, x, y, i, j));
+    let kind = 4 * x.kids + y.kids;
+    let end = pair_hints::hints_end(hints, kind);
+    let mut still = true;
+    let mut at = pair_hints::next_hint(hints, w, pair_hints::hints_from(hints, kind), end);
+    while at < end {
+        let had = hinted(words, n, x, y, i, j, w, hints[at], hints[at + 1]);
+        still = both(still, had);
+        at = pair_hints::next_hint(hints, w, at + 2, end);
+    }
+    still
+}
+
+// Steps of the node `x` with the number `i` and the node `j`, both ways round, if there is one and
+// they read a word that has changed. Had the table all?
 fn quick_cell(
     nodes: &[u64],
     words: &mut [u64],
+    hints: &[u64; 1024],
     marks: &mut [u64; 1024],
     n: usize,
     x: Node,
@@ -240,21 +288,26 @@ fn quick_cell(
     requires { ⌜ Present (now nodes) i × (x ≡ nodeAt (now nodes) i) × Small x ⌝ }
     ensures { λ r. ⌜ Quick (now (nodes .entry)) (now (words .entry)) (now (words .exit)) r ⌝ }
 {
-    if pair_nodes::present(nodes, j) {
-        let y = pair_nodes::node_at(nodes, j);
-        if touched(marks, x, y, i, j) {
-            let had = meet_if(words, n, x, y, i, j);
-            mark(marks, had, i, x.sort, y.sort);
-            return had;
-        }
+    if !pair_nodes::present(nodes, j) {
+        return true;
     }
-    true
+    let y = pair_nodes::node_at(nodes, j);
+    if !touched(marks, x, y, i, j) {
+        return true;
+    }
+    if quick_meet(words, hints, n, x, y, i, j) {
+        return true;
+    }
+    mark(marks, i, x.sort, y.sort, i);
+    mark(marks, j, y.sort, x.sort, i);
+    false
 }
 
-// The same of the node `x` and all nodes, the last first.
+// The same of the node `x` and the nodes up to it, the last first.
 fn quick_cells(
     nodes: &[u64],
     words: &mut [u64],
+    hints: &[u64; 1024],
     marks: &mut [u64; 1024],
     n: usize,
     x: Node,
@@ -266,8 +319,8 @@ fn quick_cells(
 {
     let mut still = true;
     let mut m: usize = 0;
-    while m < 384 {
-        let had = quick_cell(nodes, words, marks, n, x, i, 383 - m);
+    while m <= i {
+        let had = quick_cell(nodes, words, hints, marks, n, x, i, i - m);
         still = both(still, had);
         m += 1;
     }
@@ -275,26 +328,39 @@ fn quick_cells(
 }
 
 // The same of the node `i`, if there is one.
-fn quick_row(nodes: &[u64], words: &mut [u64], marks: &mut [u64; 1024], n: usize, i: usize) -> bool
+fn quick_row(
+    nodes: &[u64],
+    words: &mut [u64],
+    hints: &[u64; 1024],
+    marks: &mut [u64; 1024],
+    n: usize,
+    i: usize,
+) -> bool
     requires { ⌜ Ready (now words) n × (1536 ≤ length (now nodes)) × (i < 384) ⌝ }
     ensures { λ r. ⌜ Quick (now (nodes .entry)) (now (words .entry)) (now (words .exit)) r ⌝ }
 {
     if pair_nodes::present(nodes, i) {
         let x = pair_nodes::node_at(nodes, i);
-        return quick_cells(nodes, words, marks, n, x, i);
+        return quick_cells(nodes, words, hints, marks, n, x, i);
     }
     true
 }
 
-// A pass over the nodes that leaves out those that read no word that has changed.
-fn quick_pass(nodes: &[u64], words: &mut [u64], marks: &mut [u64; 1024], n: usize) -> bool
+// A pass over each two nodes once that leaves out those that read no word that has changed.
+fn quick_pass(
+    nodes: &[u64],
+    words: &mut [u64],
+    hints: &[u64; 1024],
+    marks: &mut [u64; 1024],
+    n: usize,
+) -> bool
     requires { ⌜ Ready (now words) n × (1536 ≤ length (now nodes)) ⌝ }
     ensures { λ r. ⌜ Quick (now (nodes .entry)) (now (words .entry)) (now (words .exit)) r ⌝ }
 {
     let mut still = true;
     let mut m: usize = 0;
     while m < 384 {
-        let had = quick_row(nodes, words, marks, n, 383 - m);
+        let had = quick_row(nodes, words, hints, marks, n, 383 - m);
         still = both(still, had);
         m += 1;
     }
@@ -306,10 +372,13 @@ fn quick(nodes: &[u64], words: &mut [u64], n: usize) -> bool
     requires { ⌜ Ready (now words) n × (1536 ≤ length (now nodes)) ⌝ }
     ensures { λ r. ⌜ Quick (now (nodes .entry)) (now (words .entry)) (now (words .exit)) r ⌝ }
 {
-    let mut marks = [18446744073709551615u64; 1024];
+    let mut hints = [0u64; 1024];
+    pair_hints::list_hints(words, n, &mut hints);
+    let mut marks = [0u64; 1024];
+    mark_all(&mut marks);
     let mut still = true;
     loop {
-        let had = quick_pass(nodes, words, &mut marks, n);
+        let had = quick_pass(nodes, words, &hints, &mut marks, n);
         if had {
             return still;
         }

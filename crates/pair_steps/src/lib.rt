@@ -349,32 +349,45 @@ pub fn tokens_most(f: Frame, x: Node, y: Node, n: Words) -> u64
     tokens_at(f, x, y, n, f.end)
 }
 
+// The terminals left at `r`, where those left at `p` are `m`.
+fn tokens_beside(f: Frame, x: Node, y: Node, n: Words, p: u8, m: u64, r: u8) -> u64
+    requires { ⌜ Narrowed allTerminals (TokensLeave f x y n p) m ⌝ }
+    ensures { λ q. ⌜ Narrowed allTerminals (TokensLeave f x y n r) q ⌝ }
+{
+    if p == r {
+        return m;
+    }
+    tokens_at(f, x, y, n, r)
+}
+
 // The terminals left at the stop that comes first, if one is left at each point; none elsewhere.
 pub fn tokens_found(f: Frame, x: Node, y: Node, n: Words) -> u64
     ensures { λ r. ⌜ TokensFound f x y n r ⌝ }
 {
-    if tokens_at(f, x, y, n, f.start) == 0 {
-        return 0;
-    }
-    if tokens_at(f, x, y, n, f.cut) == 0 {
-        return 0;
-    }
-    if tokens_at(f, x, y, n, f.begin) == 0 {
-        return 0;
-    }
-    if tokens_at(f, x, y, n, f.split) == 0 {
-        return 0;
-    }
-    let a = tokens_at(f, x, y, n, f.stop);
+    let a = tokens_at(f, x, y, n, f.start);
     if a == 0 {
         return 0;
     }
-    let b = tokens_at(f, x, y, n, f.end);
+    if tokens_beside(f, x, y, n, f.start, a, f.cut) == 0 {
+        return 0;
+    }
+    let b = tokens_beside(f, x, y, n, f.start, a, f.begin);
     if b == 0 {
         return 0;
     }
-    if f.stop < f.end {
-        return a;
+    if tokens_beside(f, x, y, n, f.begin, b, f.split) == 0 {
+        return 0;
     }
-    b
+    let c = tokens_at(f, x, y, n, f.stop);
+    if c == 0 {
+        return 0;
+    }
+    let d = tokens_beside(f, x, y, n, f.stop, c, f.end);
+    if d == 0 {
+        return 0;
+    }
+    if f.stop < f.end {
+        return c;
+    }
+    d
 }

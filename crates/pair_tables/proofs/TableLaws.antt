@@ -5,8 +5,9 @@ use mathlib.Core.Bool.{Bool, true, false}
 use native.Mathlib.Decide.{ℕ-discrete}
 use Rattle.sets.specs.Sets.{In}
 use Rattle.sets.proofs.Bits.{in-and, in-or}
+use Rattle.sets.proofs.Sets.{in-zero}
 use mathlib.Core.List.{List, [], _∷_}
-use Prim.Native.Nat.{ℕ, zero, suc, _+_, _≤_, _<_}
+use Prim.Native.Nat.{ℕ, zero, suc, _+_, _%_, _≤_, _<_}
 use native.Mathlib.Omega.{arith}
 use native.Mathlib.Numerals.{lt-of-le-of-ne}
 use lib.Bits.{bitAnd, bitOr, or-add-and, and-le-r}
@@ -17,7 +18,7 @@ use borrow.Author.Tests.{eqb-true, eqb-false}
 use Rattle.pair_offsets.specs.declared.Frame.{Frame}
 use Rattle.pair_steps.specs.declared.Node.{Node}
 use Rattle.pair_steps.specs.declared.Words.{Words}
-use Rattle.pair_steps.specs.Leaving.{firstStop, secondStop}
+use Rattle.pair_steps.specs.Leaving.{firstStop, secondStop, StartsMost, OffsetsFound}
 use Rattle.pair_steps.specs.Tables.{NextsBy, NextsOf}
 use Rattle.pair_tables.specs.Stepping.{wordSum, Joined, Put}
 
@@ -124,3 +125,16 @@ pub has-next : {p c : ℕ} (t : List ℕ) (q : ℕ) → p ≡ c → eqb (bitAnd 
 has-next {p} t q e h z i =
     subst (λ (n : ℕ). In (getD t n 0) z) e
     (has-and (getD t p 0) q z (eqb-true (bitAnd (getD t p 0) q) q h) i)
+
+-- where the starts have no offset at all, no six is found
+pub none-most : {f : Frame} {x y : Node} {w : Words} {m : ℕ} (list : List ℕ) (from end : ℕ)
+    → StartsMost f x y w m → m ≡ 0 → OffsetsFound f x y w list from end 0
+none-most {f} {x} {y} {w} list from end s e =
+    record {
+      all = λ k l.
+          absurd
+          (in-zero (getD list (l .place) 0 % 4)
+          (subst (λ (n : ℕ). In n (getD list (l .place) 0 % 4)) e
+          (s .has (getD list (l .place) 0 % 4) (omega arith) (l .leaves .ac))));
+      only = λ k i. absurd (in-zero k i);
+    }

@@ -157,6 +157,39 @@ fn had_all(t: &[u64], f: Frame, x: Node, y: Node, i: usize, m: u64) -> bool
 
 // Puts what two nodes over a frame can be by the table into it; the sixes of offsets that can stand
 // together over the frame are listed in the same words. Had it all?
+fn add(
+    t: &mut [u64],
+    f: Frame,
+    x: Node,
+    y: Node,
+    i: usize,
+    j: usize,
+    from: usize,
+    end: usize,
+) -> bool
+    requires { ⌜ Room (now t) × Small x × Small y × (i < 384) × (j < 384) ⌝ }
+    requires { ⌜ (from ≤ end) × (end ≤ length (now t)) ⌝ }
+    ensures { λ r. ⌜ Stepped f x y i j (now (t .entry)) from end (now (t .entry)) (now (t .exit))
+        r ⌝ }
+{
+    let w = words_of(t, x, y, i, j);
+    let r = pair_steps::offsets_found(f, x, y, w, t, from, end);
+    if r == 0 {
+        return true;
+    }
+    let n = nexts_of(t, f, x, y);
+    let q = pair_steps::tokens_found(f, x, y, n);
+    if q == 0 {
+        return true;
+    }
+    let bits = relation_bits(f, r);
+    let c = next_place(f, x.sort, y.sort);
+    let a = x.sort as usize;
+    let b = y.sort as usize;
+    put(t, 64 * i + b, 24576 + (64 * a + b), c, bits, q)
+}
+
+// The same, where it is first asked whether there is anything to put.
 pub fn step(
     t: &mut [u64],
     f: Frame,
@@ -174,23 +207,11 @@ pub fn step(
 {
     let w = words_of(t, x, y, i, j);
     let m = pair_steps::starts_most(f, x, y, w);
-    if m != 0 {
-        if had_all(t, f, x, y, i, m) {
-            return true;
-        }
-    }
-    let r = pair_steps::offsets_found(f, x, y, w, t, from, end);
-    if r == 0 {
+    if m == 0 {
         return true;
     }
-    let n = nexts_of(t, f, x, y);
-    let q = pair_steps::tokens_found(f, x, y, n);
-    if q == 0 {
+    if had_all(t, f, x, y, i, m) {
         return true;
     }
-    let bits = relation_bits(f, r);
-    let c = next_place(f, x.sort, y.sort);
-    let a = x.sort as usize;
-    let b = y.sort as usize;
-    put(t, 64 * i + b, 24576 + (64 * a + b), c, bits, q)
+    add(t, f, x, y, i, j, from, end)
 }

@@ -1,3 +1,4 @@
+use borrow.Author.Tests.{not-false}
 use Rattle.pair_search.proofs.RunLaws.{stays, ran-of, pair-there, apt}
 use borrow.Author.Needs.{needs}
 use Rattle.pair_search.proofs.quick_cell.Statement.{statement}
@@ -6,62 +7,80 @@ use Rattle.pair_search.proofs.quick_cell.Tie as tie
 present-requires : tie.Need-present-requires
 present-requires c κs = search needs
 
+returns : tie.Need-returns
+returns c = stays tt
+
 node-at-requires : tie.Need-node-at-requires
 node-at-requires c κs = search needs
 
 touched-requires : tie.Need-touched-requires
 touched-requires c κs = search needs
 
-meet-if-requires : tie.Need-meet-if-requires
-meet-if-requires c κs =
-    let r = c .before .before .before .before .before .before .before .before .before .pre in
-    let ns = c .before .before .before .before .before .before .before .before .before .args .nodes
-    .now in (
+returns-2 : tie.Need-returns-2
+returns-2 c = stays tt
+
+quick-meet-requires : tie.Need-quick-meet-requires
+quick-meet-requires c κs =
+    let z = c .before .before .before .before .before .before .before .before .before in
+    let r = z .pre in
+    let o = c .before .before .before .before .node-at .ensures in (
       r .0 .0,
-      apt ns (c .before .before .before .before .before .before .before .before .before .args .i)
-          (r .1 .1) (r .1 .2),
-      apt ns (c .before .before .before .before .before .before .before .before .before .args .j)
-          (c .before .before .before .before .node-at .ensures .0)
-          (c .before .before .before .before .node-at .ensures .1),
+      apt (z .args .nodes .now) (z .args .i) (r .1 .1) (r .1 .2),
+      apt (z .args .nodes .now) (z .args .j) (o .0) (o .1),
       r .0 .2,
       r .0 .3,
     )
 
-mark-requires : tie.Need-mark-requires
-mark-requires c κs = search needs
-
 same-length : tie.Need-same-length
 same-length c = search needs
 
-returns : tie.Need-returns
-returns c =
-    let r = c .before .before .before .before .before .before .before .before .before .before
-    .before .before .before .before .pre in
+returns-3 : tie.Need-returns-3
+returns-3 c =
+    let b = c .before .before .before .before .before .before .before .before in
+    let r = b .before .before .before .before .before .pre in
     ran-of
     (pair-there (r .0 .2) (r .0 .3) (r .1 .0)
-    (c .before .before .before .before .before .before .before .before .before .before .before
-    .present .ensures .is (c .before .before .before .before .before .before .before .before
-    .before .before .if1 .taken)) (r .1 .1)
-    (c .before .before .before .before .before .before .before .before .before
-    .node-at .ensures .0)) (λ p. tt)
-    (c .before .before .before .before .meet-if .ensures)
+    (b .before .before .present .ensures .is (not-false _ (b .before .if1 .left)))
+    (r .1 .1) (b .node-at .ensures .0)) (λ p. tt)
+    (rw (c .if3 .taken) at (c .before .before .before .quick-meet .ensures))
 
-returns-2 : tie.Need-returns-2
-returns-2 c = stays tt
+mark-requires : tie.Need-mark-requires
+mark-requires c κs = search needs
 
-returns-3 : tie.Need-returns-3
-returns-3 c = stays tt
+mark-requires-2 : tie.Need-mark-requires-2
+mark-requires-2 c κs =
+    let b = c .before .before .before .before .before .before .before .before .before .before
+    .before in
+    let r = b .before .before .before .before .before .pre in
+    (r .0 .3, b .node-at .ensures .1 .sort, r .1 .2 .sort, r .0 .2)
+
+same-length-2 : tie.Need-same-length-2
+same-length-2 c = search needs
+
+returns-4 : tie.Need-returns-4
+returns-4 c =
+    let d = c .before .before .before .before in
+    let b = d .before .before .before .before .before .before .before .before in
+    let r = b .before .before .before .before .before .pre in
+    ran-of
+    (pair-there (r .0 .2) (r .0 .3) (r .1 .0)
+    (b .before .before .present .ensures .is (not-false _ (b .before .if1 .left)))
+    (r .1 .1) (b .node-at .ensures .0)) (λ p. tt)
+    (rw (d .if3 .left) at (d .before .before .before .quick-meet .ensures))
 
 pub quick-cell-spec : {M : Type 1} → statement M
 quick-cell-spec =
     tie.close
     (tie.spec
     present-requires
+    returns
     node-at-requires
     touched-requires
-    meet-if-requires
-    mark-requires
-    same-length
-    returns
     returns-2
-    returns-3)
+    quick-meet-requires
+    same-length
+    returns-3
+    mark-requires
+    mark-requires-2
+    same-length-2
+    returns-4)

@@ -1,4 +1,4 @@
-use Prim.Native.Nat.{_-_, _≤_}
+use Prim.Native.Nat.{_+_, _-_, _≤_}
 use native.Mathlib.Omega.{arith}
 use borrow.Author.Needs.{needs}
 use Rattle.pair_search.specs.Running.{Quick}
@@ -7,17 +7,14 @@ use Rattle.pair_search.proofs.quick_cells.Statement.{statement}
 use Rattle.pair_search.proofs.quick_cells.Tie as tie
 
 abbrev Inv-loop : tie.InvT-loop
-Inv-loop nodes words₀ marks₀ n x i still₀ m₀ words marks still m =
-    Quick nodes words₀ words still × (m ≤ 384)
+Inv-loop nodes words₀ hints marks₀ n x i still₀ m₀ words marks still m =
+    Quick nodes words₀ words still × (m ≤ i + 1)
 
 abbrev μ-loop : tie.MeasureT-loop
-μ-loop nodes words₀ marks₀ n x i still₀ m₀ words marks still m = 384 - m
+μ-loop nodes words₀ hints marks₀ n x i still₀ m₀ words marks still m = i + 1 - m
 
 loop-holds : tie.Need-loop-holds Inv-loop μ-loop
 loop-holds c = (stays tt, omega arith)
-
-sub-quick-cell : tie.Need-sub-quick-cell Inv-loop μ-loop
-sub-quick-cell c = search needs
 
 quick-cell-requires : tie.Need-quick-cell-requires Inv-loop μ-loop
 quick-cell-requires c κs =
@@ -55,7 +52,6 @@ quick-cells-spec =
     Inv-loop
     μ-loop
     loop-holds
-    sub-quick-cell
     quick-cell-requires
     both-requires
     add-m

@@ -7,11 +7,11 @@ use Rattle.pair_search.proofs.quick_pass.Statement.{statement}
 use Rattle.pair_search.proofs.quick_pass.Tie as tie
 
 abbrev Inv-loop : tie.InvT-loop
-Inv-loop nodes words₀ marks₀ n still₀ m₀ words marks still m =
+Inv-loop nodes words₀ hints marks₀ n still₀ m₀ words marks still m =
     Quick nodes words₀ words still × (m ≤ 384)
 
 abbrev μ-loop : tie.MeasureT-loop
-μ-loop nodes words₀ marks₀ n still₀ m₀ words marks still m = 384 - m
+μ-loop nodes words₀ hints marks₀ n still₀ m₀ words marks still m = 384 - m
 
 loop-holds : tie.Need-loop-holds Inv-loop μ-loop
 loop-holds c = (stays tt, omega arith)

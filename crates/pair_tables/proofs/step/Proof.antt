@@ -1,5 +1,5 @@
-use native.Mathlib.Omega.{arith}
-use Rattle.pair_tables.specs.Stepping.{has-all, no-offsets, no-terminals, puts}
+use Rattle.pair_tables.specs.Stepping.{has-all, no-offsets}
+use Rattle.pair_tables.proofs.TableLaws.{none-most}
 use borrow.Author.Needs.{needs}
 use Rattle.pair_tables.proofs.step.Statement.{statement}
 use Rattle.pair_tables.proofs.step.Tie as tie
@@ -10,105 +10,32 @@ words-of-requires c κs = search needs
 starts-most-requires : tie.Need-starts-most-requires
 starts-most-requires c κs = search needs
 
-had-all-requires : tie.Need-had-all-requires
-had-all-requires c κs = search needs
-
 same-length : tie.Need-same-length
 same-length c = search needs
 
 returns : tie.Need-returns
-returns c = has-all (c .before .before .before .before .before .words-of .ensures)
-    (c .before .before .before .before .starts-most .ensures)
-    (c .before .had-all .ensures .is (c .if2 .taken))
+returns c = no-offsets (c .before .before .words-of .ensures)
+    (none-most _ _ _ (c .before .starts-most .ensures) (c .if1 .taken))
 
-offsets-found-requires : tie.Need-offsets-found-requires
-offsets-found-requires c κs = search needs
+had-all-requires : tie.Need-had-all-requires
+had-all-requires c κs = search needs
 
 same-length-2 : tie.Need-same-length-2
 same-length-2 c = search needs
 
 returns-2 : tie.Need-returns-2
-returns-2 c = no-offsets (c .before .before .before .before .before .words-of .ensures)
-    (rw (c .if3 .taken) at (c .before .offsets-found .ensures))
+returns-2 c = has-all (c .before .before .before .before .before .words-of .ensures)
+    (c .before .before .before .before .starts-most .ensures)
+    (c .before .had-all .ensures .is (c .if2 .taken))
 
-nexts-of-requires : tie.Need-nexts-of-requires
-nexts-of-requires c κs = search needs
-
-tokens-found-requires : tie.Need-tokens-found-requires
-tokens-found-requires c κs = search needs
+add-requires : tie.Need-add-requires
+add-requires c κs = search needs
 
 same-length-3 : tie.Need-same-length-3
 same-length-3 c = search needs
 
 returns-3 : tie.Need-returns-3
-returns-3 c =
-    no-terminals (c .before .before .before .before .before .before .before .before .before
-    .words-of .ensures) (c .before .before .before .before .before .offsets-found .ensures)
-    (c .before .before .nexts-of .ensures)
-    (rw (c .if4 .taken) at (c .before .tokens-found .ensures))
-
-relation-bits-requires : tie.Need-relation-bits-requires
-relation-bits-requires c κs = search needs
-
-next-place-requires : tie.Need-next-place-requires
-next-place-requires c κs = let p = c .before .before .before .before .before .before .before .before
-    .before .before .before .before .before .pre .0 in (p .1 .sort, p .2 .sort)
-
-cast-a : tie.Need-cast-a
-cast-a c = search needs
-
-cast-b : tie.Need-cast-b
-cast-b c = search needs
-
-mul-put : tie.Need-mul-put
-mul-put c = let p = c .before .before .before .before .before .before .before .before .before
-    .before .before .before .before .before .before .before .before .pre .0 in
-    omega (arith, p .1 .sort, p .2 .sort, p .3)
-
-add-put : tie.Need-add-put
-add-put c = let p = c .before .before .before .before .before .before .before .before .before
-    .before .before .before .before .before .before .before .before .pre .0 in
-    omega (arith, p .1 .sort, p .2 .sort, p .3)
-
-mul-put-2 : tie.Need-mul-put-2
-mul-put-2 c = search needs
-
-add-put-2 : tie.Need-add-put-2
-add-put-2 c = search needs
-
-add-put-3 : tie.Need-add-put-3
-add-put-3 c = search needs
-
-put-requires : tie.Need-put-requires
-put-requires c κs =
-    let p = c .before .before .before .before .before .before .before .before .before .before
-    .before .before .before .before .before .before .before .pre .0 in
-    let q = c .before .before .before .next-place .ensures in (
-      omega (arith, p .0 .room, p .1 .sort, p .2 .sort, p .3),
-      omega (arith, p .0 .room, p .1 .sort, p .2 .sort, p .3),
-      omega (arith, p .0 .room, q .1),
-    )
-
-same-length-4 : tie.Need-same-length-4
-same-length-4 c = search needs
-
-returns-4 : tie.Need-returns-4
-returns-4 c =
-    let q = c .before .before .before .before .before .before .next-place .ensures .0 in
-    let e = c .before .before .before .before .before .before .before .relation-bits .ensures in
-    puts (c .before .before .before .before .before .before .before .before .before .before .before
-    .before .before .before .before .before .before .words-of .ensures)
-    (c .before .before .before .before .before .before .before .before .before .before
-    .before .before .before .offsets-found .ensures)
-    (c .before .before .before .before .before .before .before .before .before
-    .before .before .before .if3 .left)
-    (c .before .before .before .before .before .before .before .before
-    .before .before .nexts-of .ensures)
-    (c .before .before .before .before .before .before .before
-    .before .before .tokens-found .ensures)
-    (c .before .before .before .before .before .before
-    .before .before .if4 .left) (rw (q, e) at
-    (c .before .before .put .ensures))
+returns-3 c = c .before .before .add .ensures
 
 pub step-spec : {M : Type 1} → statement M
 step-spec =
@@ -116,25 +43,11 @@ step-spec =
     (tie.spec
     words-of-requires
     starts-most-requires
-    had-all-requires
     same-length
     returns
-    offsets-found-requires
+    had-all-requires
     same-length-2
     returns-2
-    nexts-of-requires
-    tokens-found-requires
+    add-requires
     same-length-3
-    returns-3
-    relation-bits-requires
-    next-place-requires
-    cast-a
-    cast-b
-    mul-put
-    add-put
-    mul-put-2
-    add-put-2
-    add-put-3
-    put-requires
-    same-length-4
-    returns-4)
+    returns-3)

@@ -1,8 +1,8 @@
 -- `clauses_always` meets its contract: the answer by what the clause sheet gives.
 use Rattle.call_always.proofs.Replies.{always-by}
 use borrow.Author.Needs.{needs}
-use Rattle.clause_always.proofs.clauses_always.Statement.{statement}
-use Rattle.clause_always.proofs.clauses_always.Tie as tie
+use Rattle.call_always.proofs.clauses_always.Statement.{statement}
+use Rattle.call_always.proofs.clauses_always.Tie as tie
 
 read-clauses-requires : tie.Need-read-clauses-requires
 read-clauses-requires c κs = search needs
