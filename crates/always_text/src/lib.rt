@@ -1,11 +1,11 @@
 // The whole output of the calls for the test at every length, in a lent buffer.
-use answering::Answer;
 use call_always::Told;
 use call_always::always;
-use clause_always::clauses_always;
+use call_always::clauses_always;
 use printing::put_byte;
 use printing::put_bytes;
 use printing::put_number;
+use sheets::Answer;
 use text::put_head;
 use text_trees::put_small;
 ghost use Prim.Native.Nat.{_+_, _*_, _≤_};

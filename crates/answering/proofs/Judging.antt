@@ -12,8 +12,8 @@ use Rattle.chart.specs.declared.Verdict.{Verdict}
 use Rattle.chart.specs.declared.Verdict.the-variants as Verdict
 use Rattle.chart.specs.Sheets.{Judged}
 use Rattle.sheets.specs.declared.Fault.the-variants as Fault
-use Rattle.answering.specs.declared.Answer.{Answer}
-use Rattle.answering.specs.declared.Answer.the-variants as Answer
+use Rattle.sheets.specs.declared.Answer.{Answer}
+use Rattle.sheets.specs.declared.Answer.the-variants as Answer
 use Rattle.answering.specs.Verdict.{SheetFilled, VerdictOn, short, judging}
 
 pub too-few : (g : Rules) (w : Word) (n : ℕ) (ws : List ℕ) → length w ≡ n → length ws < 2 * pairs n

@@ -13,23 +13,18 @@ use Rattle.grammar.specs.Distinct.{Distinct}
 use Rattle.tree_writer.specs.Written.{Display, inFull, rowsOf, countOf, filled}
 use Rattle.lists.proofs.Settled.{gives-moved}
 use Rattle.sheets.specs.declared.Fault.{Fault}
-use Rattle.sheets.specs.Items.{Reading}
 use Rattle.sheets.proofs.Numbers.{same-fault}
-use Rattle.answering.specs.declared.Answer.{Answer}
-use Rattle.answering.specs.declared.Answer.the-variants as Answer
+use Rattle.sheets.specs.declared.Answer.{Answer}
+use Rattle.sheets.specs.declared.Answer.the-variants as Answer
 use Rattle.answering.specs.declared.TreesReply.{TreesReply}
-use Rattle.answering.specs.declared.SweepReply.{SweepReply}
 use Rattle.answering.specs.declared.ListReply.{ListReply}
 use Rattle.answering.specs.Answers.{Sheets}
 use Rattle.answering.specs.Trees.{treesReplyOf, Shown, treeless, single, both, large-one}
 use Rattle.answering.specs.Trees.{large-two, TreesOn, short, showing, TreesBy, refusing}
 use Rattle.answering.specs.Trees.{reading}
-use Rattle.answering.specs.Sweep.{SweepTaken, SweepBy}
-use Rattle.answering.specs.Sweep as Sweep
 use Rattle.answering.specs.Lists.{listReply, ListOn}
 use Rattle.sheets.proofs.Once.{apart, same-refusal}
 use Rattle.answering.proofs.Settled.{Apart, same-sheets, shown-settled}
-use Rattle.answering.proofs.SweepSettled.{sweep-settled}
 
 -- 1. the trees
 
@@ -111,28 +106,7 @@ module _ {ws vs one one₂ two two₂ : List ℕ} (e : length ws ≡ length vs)
       let z = same-sheets p q in
       trees-on-reply inFull g w (D .distinct g w p) x (rw (← z .0, ← z .1) at y)
 
--- 2. the sweep
-
-module _ {ws vs : List ℕ} (e : length ws ≡ length vs) where
-  taken-moved : {g : Rules} {k : ℕ} → SweepTaken g k ws → SweepTaken g k vs
-  taken-moved t =
-      record { low = t .low; high = t .high; few = t .few; enough = omega (arith, t .enough) }
-
-  pub sweep-reply : {given : Reading Rules} {k : ℕ} {a b : List ℕ} {r s : SweepReply}
-      → SweepBy given k ws a r → SweepBy given k vs b s → r ≡ s
-  sweep-reply (Sweep.refusing d x h) y = sweep-settled (Sweep.refusing d x refl) y .0
-  sweep-reply (Sweep.reading d (Sweep.bound l n x h)) y =
-      sweep-settled (Sweep.reading d (Sweep.bound l n x refl)) y .0
-  sweep-reply (Sweep.reading d (Sweep.many l u m n x h)) y =
-      sweep-settled (Sweep.reading d (Sweep.many l u m n x refl)) y .0
-  sweep-reply (Sweep.reading d (Sweep.short l u m o n x h)) y =
-      sweep-settled (Sweep.reading d (Sweep.short l u m (omega arith) n x refl)) y .0
-  sweep-reply (Sweep.reading d (Sweep.clear t c q x h)) y =
-      sweep-settled (Sweep.reading d (Sweep.clear (taken-moved t) c q x refl)) y .0
-  sweep-reply (Sweep.reading d (Sweep.two t c o q x h)) y =
-      sweep-settled (Sweep.reading d (Sweep.two (taken-moved t) c o q x refl)) y .0
-
--- 3. a list
+-- 2. a list
 
 pub list-moved : {a : Answer} {bytes : List ℕ} {n : ℕ} {lent other l : List ℕ} {r : ListReply}
     → length lent ≡ length other → ListOn a bytes n lent l r → ListOn a bytes n other l r

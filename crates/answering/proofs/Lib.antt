@@ -1,9 +1,8 @@
 pub mod Settled
-pub mod SweepSettled
 pub mod ListSettled
 pub mod Readings
 pub mod Judging
 pub mod Showing
 pub mod Open
-pub mod Sweeping
 pub mod Lent
+pub mod Fits

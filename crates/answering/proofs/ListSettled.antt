@@ -12,7 +12,7 @@ use Rattle.lists.specs.Putting.{listed, unfit}
 use Rattle.lists.proofs.Settled.{gives-settled, gives-map}
 use Rattle.sheets.specs.declared.Fault.the-variants as Fault
 use Rattle.sheets.proofs.Numbers.{same-fault}
-use Rattle.answering.specs.declared.Answer.{Answer}
+use Rattle.sheets.specs.declared.Answer.{Answer}
 use Rattle.answering.specs.declared.ListReply.{ListReply}
 use Rattle.answering.specs.Lists.{ListOn}
 use Rattle.answering.specs.ListReplies.{onList}

@@ -15,7 +15,7 @@ use Rattle.grammar.proofs.ChoiceLaws.{first-witness, second-witness}
 use Rattle.tree_view.specs.Shown.{View, shownCount}
 use Rattle.tree_view.proofs.ShownLaws.{rows-open, count-open, seen-valid}
 use Rattle.tree_writer.specs.Written.{inFull, seenBy, filled}
-use Rattle.answering.specs.declared.Answer.the-variants as Answer
+use Rattle.sheets.specs.declared.Answer.the-variants as Answer
 use Rattle.answering.specs.declared.TreesReply.{TreesReply}
 use Rattle.answering.specs.Trees.{treesReplyOf, Shown, treeless, single, both, large-one}
 use Rattle.answering.specs.Trees.{large-two, TreesOn, short, showing}

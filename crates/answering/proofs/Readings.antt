@@ -1,45 +1,24 @@
 -- What both sheets give, by what the readers answer.
-use mathlib.Core.Path.{_≡_, sym, ap, _∙_, subst}
+use mathlib.Core.Path.{_≡_, ap, _∙_, subst}
 use mathlib.Core.List.{List}
 use Prim.Native.Nat.{ℕ}
 use Rattle.grammar.specs.Content.{rules}
 use Rattle.sheets.specs.declared.Fault.{Fault}
-use Rattle.sheets.specs.declared.Outcome.{Outcome}
 use Rattle.sheets.specs.declared.Outcome.the-variants.{Accepted, Refused}
 use Rattle.sheets.specs.declared.GrammarRead.{GrammarRead}
 use Rattle.sheets.specs.declared.SentenceRead.{SentenceRead}
 use Rattle.sheets.specs.Refusals.{RefusedAs}
 use Rattle.sheets.specs.Items.{Reading, accepted}
 use Rattle.sheets.specs.TokenSheets.{tokenSheet}
-use Rattle.sheets.specs.Promises.{readingOf, RulesRead, TokensRead}
+use Rattle.sheets.specs.Promises.{RulesRead, TokensRead}
+use Rattle.sheets.proofs.Readings.{rules-are, rules-not, tokens-are, tokens-not}
 use Rattle.answering.specs.Answers.{withTokens, withRules}
 use Rattle.answering.specs.declared.Reply.{Reply}
 use Rattle.answering.specs.declared.TreesReply.{TreesReply}
-use Rattle.answering.specs.declared.SweepReply.{SweepReply}
 use Rattle.answering.specs.Verdict.{VerdictBy}
 use Rattle.answering.specs.Trees.{TreesBy}
-use Rattle.answering.specs.Sweep.{SweepBy}
 use Rattle.grammar.specs.Sentences.{spelled}
 use Rattle.grammar.specs.Trees.{Rules}
-use Rattle.grammar.specs.Layout.{Word}
-
-pub rules-are : {r : GrammarRead} {want : Reading Rules} → RulesRead r want → r .outcome ≡ Accepted
-    → want ≡ accepted (rules (r .grammar))
-rules-are {r} x e = sym (x .is) ∙ ap (λ (o : Outcome). readingOf o (rules (r .grammar))) e
-
-pub rules-not : {r : GrammarRead} {want : Reading Rules} {f : Fault} {l : ℕ} → RulesRead r want
-    → r .outcome ≡ Refused f l → RefusedAs want f l
-rules-not {r} x e =
-    record { is = sym (x .is) ∙ ap (λ (o : Outcome). readingOf o (rules (r .grammar))) e }
-
-tokens-are : {r : SentenceRead} {want : Reading Word} → TokensRead r want → r .outcome ≡ Accepted
-    → want ≡ accepted (spelled (r .sentence))
-tokens-are {r} x e = sym (x .is) ∙ ap (λ (o : Outcome). readingOf o (spelled (r .sentence))) e
-
-tokens-not : {r : SentenceRead} {want : Reading Word} {f : Fault} {l : ℕ} → TokensRead r want
-    → r .outcome ≡ Refused f l → RefusedAs want f l
-tokens-not {r} x e =
-    record { is = sym (x .is) ∙ ap (λ (o : Outcome). readingOf o (spelled (r .sentence))) e }
 
 -- the rules are read, whatever sheet they stand in; t is the token sheet
 pub refused-rules : (t : List ℕ) {r : GrammarRead} {want : Reading Rules} {f : Fault} {l : ℕ}
@@ -73,7 +52,3 @@ module _ {o o′ : Reading Rules} (e : o ≡ o′) where
       → TreesBy (withRules o′ t) words words′ one one′ two two′ r
   trees-by t {words} {words′} {one} {one′} {two} {two′} {r} x =
       subst (λ (y : Reading Rules). TreesBy (withRules y t) words words′ one one′ two two′ r) e x
-
-  pub sweep-by : {k : ℕ} {words words′ : List ℕ} {r : SweepReply} → SweepBy o k words words′ r
-      → SweepBy o′ k words words′ r
-  sweep-by x = rw e at x

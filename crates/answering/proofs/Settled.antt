@@ -19,8 +19,8 @@ use Rattle.sheets.specs.RuleSheets.{ruleSheet}
 use Rattle.sheets.specs.TokenSheets.{tokenSheet}
 use Rattle.sheets.proofs.Accepted.{rules-good}
 use Rattle.spans.proofs.Uniqueness.{sheet-same}
-use Rattle.answering.specs.declared.Answer.{Answer}
-use Rattle.answering.specs.declared.Answer.the-variants as Answer
+use Rattle.sheets.specs.declared.Answer.{Answer}
+use Rattle.sheets.specs.declared.Answer.the-variants as Answer
 use Rattle.answering.specs.declared.Reply.{Reply}
 use Rattle.answering.specs.Answers.{Sheets, withTokens, withRules, sheets, AnswerHolds}
 use Rattle.answering.specs.declared.TreesReply.{TreesReply}

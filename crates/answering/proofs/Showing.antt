@@ -17,7 +17,7 @@ use Rattle.tree_writer.specs.declared.Counts.{Counts}
 use Rattle.tree_choices.specs.Wanted.{Wanted}
 use Rattle.tree_writer.specs.Written.{Display, rowRoom}
 use Rattle.sheets.specs.declared.Fault.the-variants as Fault
-use Rattle.answering.specs.declared.Answer.the-variants as Answer
+use Rattle.sheets.specs.declared.Answer.the-variants as Answer
 use Rattle.answering.specs.Counted.{counted}
 use Rattle.answering.specs.Trees.{treesReplyOf, Shown, treeless, single, both, large-one}
 use Rattle.answering.specs.Trees.{large-two, TreesOn, short}

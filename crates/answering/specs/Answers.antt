@@ -8,8 +8,8 @@ use Rattle.chart.specs.Verdicts.{Holds}
 use Rattle.sheets.specs.Items.{Reading, accepted, refused}
 use Rattle.sheets.specs.RuleSheets.{ruleSheet}
 use Rattle.sheets.specs.TokenSheets.{tokenSheet}
-use Rattle.answering.specs.declared.Answer.{Answer}
-use Rattle.answering.specs.declared.Answer.the-variants as Answer
+use Rattle.sheets.specs.declared.Answer.{Answer}
+use Rattle.sheets.specs.declared.Answer.the-variants as Answer
 
 -- both sheets give the rules and the word, or the first refusal, those of the rule sheet before
 -- those of the token sheet

@@ -2,8 +2,8 @@
 use mathlib.Core.Bool.{Bool, true, false}
 use Rattle.tree_writer.specs.declared.Counts.{Counts}
 use Rattle.sheets.specs.declared.Fault.the-variants as Fault
-use Rattle.answering.specs.declared.Answer.{Answer}
-use Rattle.answering.specs.declared.Answer.the-variants as Answer
+use Rattle.sheets.specs.declared.Answer.{Answer}
+use Rattle.sheets.specs.declared.Answer.the-variants as Answer
 use Rattle.answering.specs.declared.TreesReply.{TreesReply}
 use Rattle.answering.specs.Trees.{treesReplyOf}
 

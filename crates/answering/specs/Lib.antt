@@ -1,10 +1,6 @@
 pub mod Answers
 pub mod Verdict
 pub mod Trees
-pub mod Sweep
 pub mod Counted
 pub mod Lists
-pub mod Told
 pub mod ListReplies
-pub mod SweepReplies
-pub mod WithoutIndex

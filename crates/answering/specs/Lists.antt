@@ -5,8 +5,8 @@ use Prim.Native.Nat.{ℕ}
 use Rattle.lists.specs.Lists.{GivesList}
 use Rattle.sheets.specs.declared.Fault.{Fault}
 use Rattle.sheets.specs.Refusals.{numberOf}
-use Rattle.answering.specs.declared.Answer.{Answer}
-use Rattle.answering.specs.declared.Answer.the-variants as Answer
+use Rattle.sheets.specs.declared.Answer.{Answer}
+use Rattle.sheets.specs.declared.Answer.the-variants as Answer
 use Rattle.answering.specs.declared.ListReply.{ListReply}
 
 abbrev pub listReply : Answer → ℕ → ℕ → ListReply

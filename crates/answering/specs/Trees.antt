@@ -14,8 +14,8 @@ use Rattle.tree_writer.specs.Written.{Display, inFull, rowRoom, filled}
 use Rattle.sheets.specs.Items.{accepted}
 use Rattle.sheets.specs.declared.Fault.{Fault}
 use Rattle.sheets.specs.Refusals.{numberOf, RefusedAs}
-use Rattle.answering.specs.declared.Answer.{Answer}
-use Rattle.answering.specs.declared.Answer.the-variants as Answer
+use Rattle.sheets.specs.declared.Answer.{Answer}
+use Rattle.sheets.specs.declared.Answer.the-variants as Answer
 use Rattle.answering.specs.declared.TreesReply.{TreesReply}
 use Rattle.answering.specs.Answers.{Sheets, sheets}
 use Rattle.answering.specs.Verdict.{needed, SheetFilled}

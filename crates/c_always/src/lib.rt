@@ -2,7 +2,7 @@
 use c_words::put_one;
 use call_always::Told;
 use call_always::always;
-use clause_always::clauses_always;
+use call_always::clauses_always;
 use sheets::fault_number;
 ghost use mathlib.Core.Path.{_≡_};
 ghost use Prim.Native.Nat.{_<_};

@@ -6,11 +6,11 @@ use Prim.Native.Nat.{ℕ}
 use native.Mathlib.Omega.{arith}
 use Rattle.answering.specs.declared.Reply.{Reply}
 use Rattle.answering.specs.declared.TreesReply.{TreesReply}
-use Rattle.answering.specs.declared.SweepReply.{SweepReply}
+use Rattle.sweep_answers.specs.declared.SweepReply.{SweepReply}
 use Rattle.sheets.specs.Items.{Reading}
 use Rattle.answering.specs.Answers.{Sheets}
 use Rattle.answering.proofs.Settled.{Words, Apart, verdict-settled, trees-settled}
-use Rattle.answering.proofs.SweepSettled.{sweep-settled}
+use Rattle.sweep_answers.proofs.SweepSettled.{sweep-settled}
 use Rattle.c_calls.specs.Face.{packed, VerdictWord, TreesWord, SweepWord}
 use Rattle.c_words.specs.Words.{AtFront, few, written, foundWords, countWords}
 use Rattle.grammar.specs.Trees.{Rules}

@@ -4,7 +4,7 @@ use Prim.Native.Nat.{ℕ, _+_, _*_, _/_, _%_, _<_}
 use native.Mathlib.Omega.{arith}
 use native.Mathlib.Decide.{decLt}
 use borrow.Author.Tests.{lt-ltb, le-ltb}
-use Rattle.answering.specs.declared.Answer.{Answer}
+use Rattle.sheets.specs.declared.Answer.{Answer}
 use Rattle.c_calls.specs.Face.{codeOf, packed}
 
 upper : (c l : ℕ) → l < 4294967296 → (c * 4294967296 + l) / 4294967296 ≡ c

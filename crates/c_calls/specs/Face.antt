@@ -7,15 +7,15 @@ use Prim.Native.Nat.{ℕ, _+_, _*_}
 use lib.Dec.{ltb}
 use Rattle.sheets.specs.Items.{Reading}
 use Rattle.sheets.specs.Refusals.{numberOf}
-use Rattle.answering.specs.declared.Answer.{Answer}
-use Rattle.answering.specs.declared.Answer.the-variants as Answer
+use Rattle.sheets.specs.declared.Answer.{Answer}
+use Rattle.sheets.specs.declared.Answer.the-variants as Answer
 use Rattle.answering.specs.declared.Reply.{Reply}
-use Rattle.answering.specs.declared.SweepReply.{SweepReply}
+use Rattle.sweep_answers.specs.declared.SweepReply.{SweepReply}
 use Rattle.answering.specs.declared.TreesReply.{TreesReply}
 use Rattle.answering.specs.Answers.{Sheets}
 use Rattle.answering.specs.Verdict.{VerdictBy}
 use Rattle.answering.specs.Trees.{TreesBy}
-use Rattle.answering.specs.Sweep.{SweepBy}
+use Rattle.sweep_answers.specs.Sweep.{SweepBy}
 use Rattle.c_words.specs.Words.{AtFront, foundWords, countWords}
 use Rattle.grammar.specs.Trees.{Rules}
 

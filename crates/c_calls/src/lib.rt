@@ -1,7 +1,7 @@
 // The calls for C and Rust: numbers and slices alone.
-use answering::Answer;
 use c_words::put_counts;
 use c_words::put_found;
+use sheets::Answer;
 use sheets::fault_number;
 use teplonga::refused_line;
 use teplonga::sweep;

@@ -16,14 +16,14 @@ use Rattle.clauses.specs.Matching.{OneToOne}
 use Rattle.clauses.proofs.Verdicts.{no-reading, one-reading, two-readings, two-trees}
 use Rattle.clause_sheets.specs.ClauseSheets.{clauseSheet}
 use Rattle.clause_sheets.proofs.Meaning.{meant}
-use Rattle.answering.specs.declared.Answer.{Answer}
-use Rattle.answering.specs.declared.Answer.the-variants as Answer
+use Rattle.sheets.specs.declared.Answer.{Answer}
+use Rattle.sheets.specs.declared.Answer.the-variants as Answer
 use Rattle.answering.specs.declared.Reply.{Reply}
-use Rattle.answering.specs.declared.SweepReply.{SweepReply}
+use Rattle.sweep_answers.specs.declared.SweepReply.{SweepReply}
 use Rattle.answering.specs.Answers.{AnswerHolds}
 use Rattle.answering.proofs.Settled.{both-sheets}
 use Rattle.answering.specs.Verdict as Verdict
-use Rattle.answering.specs.Sweep as Sweep
+use Rattle.sweep_answers.specs.Sweep as Sweep
 use Rattle.call_clauses.specs.Calls.{ClauseVerdict, ClauseSweep}
 use Rattle.call_clauses.specs.Meaning.{SaysReadings, VerdictReads, ClearReadings, AnyTerminal}
 use Rattle.call_clauses.specs.Meaning.{FirstTwoReadings, SweepReads}

@@ -16,17 +16,18 @@ use Rattle.sheets.specs.Items.{accepted}
 use Rattle.sheets.specs.RuleSheets.{ruleSheet}
 use Rattle.clause_sheets.specs.ClauseSheets.{clauseSheet}
 use Rattle.clause_sheets.proofs.Good.{sheet-good, sheet-forward}
-use Rattle.answering.specs.declared.Answer.{Answer}
-use Rattle.answering.specs.declared.Answer.the-variants as Answer
+use Rattle.sheets.specs.declared.Answer.{Answer}
+use Rattle.sheets.specs.declared.Answer.the-variants as Answer
 use Rattle.answering.specs.declared.Reply.{Reply}
 use Rattle.answering.specs.declared.TreesReply.{TreesReply}
-use Rattle.answering.specs.declared.SweepReply.{SweepReply}
+use Rattle.sweep_answers.specs.declared.SweepReply.{SweepReply}
 use Rattle.answering.specs.declared.ListReply.{ListReply}
 use Rattle.answering.specs.Lists.{listReply}
 use Rattle.answering.specs.Verdict.{VerdictOf}
 use Rattle.answering.specs.Trees.{TreesOf}
-use Rattle.answering.specs.Sweep.{SweepOf}
-use Rattle.answering.proofs.Readings.{verdict-by, trees-by, sweep-by}
+use Rattle.sweep_answers.specs.Sweep.{SweepOf}
+use Rattle.answering.proofs.Readings.{verdict-by, trees-by}
+use Rattle.sweep_answers.proofs.Readings.{sweep-by}
 use Rattle.call_clauses.specs.Calls.{ClauseVerdict, ClauseTrees, ClauseSweep}
 use Rattle.call_clauses.specs.Expand.{sheetText, ExpandOf, refusing, giving}
 use Rattle.call_clauses.proofs.ReadBack.{Legible, reads-back}

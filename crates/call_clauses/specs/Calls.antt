@@ -4,11 +4,11 @@ use mathlib.Core.List.{List}
 use Prim.Native.Nat.{ℕ}
 use Rattle.answering.specs.declared.Reply.{Reply}
 use Rattle.answering.specs.declared.TreesReply.{TreesReply}
-use Rattle.answering.specs.declared.SweepReply.{SweepReply}
+use Rattle.sweep_answers.specs.declared.SweepReply.{SweepReply}
 use Rattle.answering.specs.Answers.{Sheets, withRules}
 use Rattle.answering.specs.Verdict.{VerdictBy}
 use Rattle.answering.specs.Trees.{TreesBy}
-use Rattle.answering.specs.Sweep.{SweepBy}
+use Rattle.sweep_answers.specs.Sweep.{SweepBy}
 use Rattle.clause_sheets.specs.ClauseSheets.{clauseSheet}
 
 -- both sheets: the rules of the expansion and the word, or the first refusal, those of the clause

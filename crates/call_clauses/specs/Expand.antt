@@ -9,7 +9,7 @@ use Rattle.sheets.specs.Refusals.{RefusedAs}
 use Rattle.sheets.specs.declared.Fault.{Fault}
 use Rattle.sheets.specs.Items.{accepted}
 use Rattle.sheets.specs.RuleSheets.{ruleNames}
-use Rattle.answering.specs.declared.Answer.the-variants as Answer
+use Rattle.sheets.specs.declared.Answer.the-variants as Answer
 use Rattle.answering.specs.declared.ListReply.{ListReply}
 use Rattle.answering.specs.Lists.{listReply, ListOn}
 use Rattle.clause_sheets.specs.ClauseSheets.{clauseSheet}

@@ -38,7 +38,7 @@ use Rattle.lists.specs.declared.Listed.{Listed}
 use Rattle.lists.specs.Lists.{GivesList}
 use Rattle.lists.specs.Putting.{listed}
 use Rattle.lists.specs.Putting as Putting
-use Rattle.answering.specs.declared.Answer.the-variants as Answer
+use Rattle.sheets.specs.declared.Answer.the-variants as Answer
 use Rattle.answering.proofs.ListSettled.{list-on}
 use Rattle.mark_change.proofs.Rereading.{outcome}
 use Rattle.mark_change.proofs.ChangedLaws.{ChangedAt, changed-at}

@@ -17,7 +17,7 @@ use Rattle.sheets.proofs.Once.{apart, same-items}
 use Rattle.sheets.proofs.Numbers.{same-fault}
 use Rattle.rights.specs.declared.Right.{Right}
 use Rattle.rights.specs.RightSheets.{rightsSheet, maySee}
-use Rattle.answering.specs.declared.Answer.the-variants as Answer
+use Rattle.sheets.specs.declared.Answer.the-variants as Answer
 use Rattle.answering.specs.declared.TreesReply.{TreesReply}
 use Rattle.answering.specs.Answers.{sheets}
 use Rattle.answering.specs.Trees.{treesReplyOf, TreesOn, short, showing}

@@ -15,7 +15,7 @@ use Rattle.sheets.specs.RuleSheets.{ruleSheet}
 use Rattle.rights.specs.declared.Right.{Right}
 use Rattle.rights.specs.RightSheets.{rightsSheet, mayChange}
 use Rattle.mark_change.specs.Changed.{changed, changedSheet}
-use Rattle.answering.specs.declared.Answer.the-variants as Answer
+use Rattle.sheets.specs.declared.Answer.the-variants as Answer
 use Rattle.answering.specs.declared.ListReply.{ListReply}
 use Rattle.answering.specs.Lists.{listReply, ListOn}
 

@@ -1,6 +1,5 @@
 // The public calls on a shared tour (02, request 12): the trees as a user may see them, and a rule
 // sheet with a mark that a user may change.
-use answering::Answer;
 use answering::ListReply;
 use answering::TreesReply;
 use answering::list_reply;
@@ -13,6 +12,7 @@ use mark_change::lay_fits;
 use mark_change::put_changed;
 use rights::read_rights;
 use sets::has;
+use sheets::Answer;
 use sheets::Fault;
 use sheets::Outcome;
 use sheets::read_rules;
@@ -23,7 +23,7 @@ ghost use Rattle.grammar.specs.Content.{rules as rulesOf, Formed};
 ghost use Rattle.sheets.specs.Items.{accepted};
 ghost use Rattle.sheets.specs.RuleSheets.{ruleSheet};
 ghost use Rattle.answering.specs.Trees as Trees;
-ghost use Rattle.answering.specs.declared.Answer.the-variants as Answers;
+ghost use Rattle.sheets.specs.declared.Answer.the-variants as Answers;
 ghost use Rattle.call_rights.specs.Show.{ShowOf};
 ghost use Rattle.call_rights.specs.Change.{changeRefusal, ChangeDone, ChangeOn, ChangeOf};
 ghost use Rattle.call_rights.specs.Inner.{Named};

@@ -11,8 +11,8 @@ use Rattle.grammar.specs.Rows.{rowCount}
 use Rattle.grammar.specs.SpanSheet.{pairs}
 use Rattle.grammar.proofs.Existence.{first-of-derives}
 use Rattle.sheets.specs.declared.Fault.the-variants as Fault
-use Rattle.answering.specs.declared.Answer.{Answer}
-use Rattle.answering.specs.declared.Answer.the-variants as Answer
+use Rattle.sheets.specs.declared.Answer.{Answer}
+use Rattle.sheets.specs.declared.Answer.the-variants as Answer
 use Rattle.answering.specs.Verdict.{SheetFilled}
 use Rattle.row_counts.specs.declared.RowCount.{RowCount}
 use Rattle.row_counts.specs.declared.RowCount.the-variants as RowCount

@@ -16,8 +16,8 @@ use Rattle.grammar.proofs.VerdictLaws.{none-not-one, none-not-two, one-not-two}
 use Rattle.tree_writer.specs.Written.{inFull, rowRoom}
 use Rattle.sheets.specs.declared.Fault.{Fault}
 use Rattle.sheets.specs.Refusals.{numberOf}
-use Rattle.answering.specs.declared.Answer.{Answer}
-use Rattle.answering.specs.declared.Answer.the-variants as Answer
+use Rattle.sheets.specs.declared.Answer.{Answer}
+use Rattle.sheets.specs.declared.Answer.the-variants as Answer
 use Rattle.answering.specs.declared.TreesReply.{TreesReply}
 use Rattle.sheets.specs.Items.{accepted}
 use Rattle.sheets.proofs.Once.{apart}

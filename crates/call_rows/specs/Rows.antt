@@ -8,7 +8,7 @@ use Rattle.grammar.specs.Trees.{Rules}
 use Rattle.sheets.specs.Items.{accepted}
 use Rattle.sheets.specs.declared.Fault.{Fault}
 use Rattle.sheets.specs.Refusals.{numberOf, RefusedAs}
-use Rattle.answering.specs.declared.Answer.the-variants as Answer
+use Rattle.sheets.specs.declared.Answer.the-variants as Answer
 use Rattle.answering.specs.Answers.{sheets, AnswerHolds}
 use Rattle.answering.specs.Verdict.{needed, SheetFilled}
 use Rattle.row_counts.specs.declared.RowCount.the-variants as RowCount

@@ -1,6 +1,5 @@
 // The public call for row counts: how many rows each tree has, before memory is set aside for them
 // (02, request 6).
-use answering::Answer;
 use chart::Verdict;
 use filling::judge;
 use grammar::Grammar;
@@ -8,6 +7,7 @@ use grammar::Sentence;
 use row_counts::RowCount;
 use row_counts::both_rows;
 use row_counts::first_rows;
+use sheets::Answer;
 use sheets::Fault;
 use sheets::Outcome;
 use sheets::read_rules;

@@ -16,8 +16,8 @@ use Rattle.grammar.proofs.SweepLaws.{sentence-length}
 use Rattle.arrangement_numbers.specs.Numbers.{number}
 use Rattle.arrangement_numbers.specs.Shares.{firstOfShare, total, Reports}
 use Rattle.arrangement_numbers.proofs.ShareLaws.{number-before, share-of, shares-clear}
-use Rattle.answering.specs.declared.Answer.{Answer}
-use Rattle.answering.specs.declared.Answer.the-variants as Answer
+use Rattle.sheets.specs.declared.Answer.{Answer}
+use Rattle.sheets.specs.declared.Answer.the-variants as Answer
 use Rattle.call_shares.specs.declared.ShareReply.{ShareReply}
 use Rattle.call_shares.specs.Share.{ShareOn, bound, many, racks, beyond, short, clear, two}
 use Rattle.call_shares.specs.Merge.{Refuses, Leads, Ahead, Merged, first-refuses}

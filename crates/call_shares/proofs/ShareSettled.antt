@@ -21,7 +21,7 @@ use Rattle.sheets.specs.Items.{accepted}
 use Rattle.sheets.proofs.Once.{apart, same-items, same-refusal}
 use Rattle.sheets.specs.RuleSheets.{ruleSheet}
 use Rattle.sheets.proofs.Accepted.{rules-good}
-use Rattle.answering.specs.declared.Answer.the-variants as Answer
+use Rattle.sheets.specs.declared.Answer.the-variants as Answer
 use Rattle.sheets.proofs.Numbers.{same-fault}
 use Rattle.call_shares.specs.declared.ShareReply.{ShareReply}
 use Rattle.call_shares.specs.Share.{shareReplyOf, shareRefusal, ShareTaken, ShareOn, bound}

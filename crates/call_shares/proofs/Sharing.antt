@@ -17,8 +17,8 @@ use Rattle.arrangement_numbers.specs.Numbers.{number}
 use Rattle.arrangement_numbers.specs.Shares.{firstOfShare, total}
 use Rattle.share_search.specs.Sharing.{Shared}
 use Rattle.share_search.specs.Sharing as Of
-use Rattle.answering.specs.declared.Answer.{Answer}
-use Rattle.answering.specs.declared.Answer.the-variants as Answer
+use Rattle.sheets.specs.declared.Answer.{Answer}
+use Rattle.sheets.specs.declared.Answer.the-variants as Answer
 use Rattle.call_shares.specs.declared.ShareReply.{ShareReply}
 use Rattle.call_shares.specs.Share.{shareReplyOf, ShareTaken, ShareOn, clear, two}
 use Rattle.grammar.specs.Sentences.{no-token}

@@ -9,7 +9,7 @@ use native.Mathlib.Omega.{arith}
 use native.Mathlib.Nat.{pow-suc, pow-le-pow-left, pow-le-pow-right, mul-le-mul, mul-zero, zero-mul}
 use native.Mathlib.Nat.{le-trans}
 use Rattle.sets.proofs.Basics.{clash}
-use Rattle.answering.proofs.SweepSettled.{never-both}
+use Rattle.sweep_answers.proofs.SweepSettled.{never-both}
 use Rattle.grammar.specs.declared.Cell.{Cell}
 use Rattle.grammar.specs.Trees.{Rules}
 use Rattle.grammar.specs.Sweeps.{Clear, FirstTwo, found, terminalCount, arrangements}
@@ -20,11 +20,11 @@ use Rattle.sheets.specs.declared.Fault.{Fault}
 use Rattle.sheets.specs.Items.{accepted}
 use Rattle.sheets.proofs.Once.{apart}
 use Rattle.sheets.specs.RuleSheets.{ruleSheet}
-use Rattle.answering.specs.declared.Answer.{Answer}
-use Rattle.answering.specs.declared.Answer.the-variants as Answer
-use Rattle.answering.specs.declared.SweepReply.{SweepReply}
-use Rattle.answering.specs.Sweep.{sweepLimit, noSentence, SweepTaken, SweepOf}
-use Rattle.answering.specs.Sweep as Sweep
+use Rattle.sheets.specs.declared.Answer.{Answer}
+use Rattle.sheets.specs.declared.Answer.the-variants as Answer
+use Rattle.sweep_answers.specs.declared.SweepReply.{SweepReply}
+use Rattle.sweep_answers.specs.Sweep.{sweepLimit, noSentence, SweepTaken, SweepOf}
+use Rattle.sweep_answers.specs.Sweep as Sweep
 use Rattle.call_shares.specs.declared.ShareReply.{ShareReply}
 use Rattle.call_shares.specs.Share.{ShareOn, bound, many, racks, beyond, short, clear, two}
 use Rattle.call_shares.specs.Share.{ShareOf, refusing, reading}

@@ -12,8 +12,8 @@ use Rattle.grammar.specs.declared.Cell.{Cell}
 use Rattle.grammar.specs.Candidates.{sentence}
 use Rattle.grammar.specs.Sweeps.{Clear, FirstTwo}
 use Rattle.arrangement_numbers.specs.Numbers.{number}
-use Rattle.answering.specs.declared.Answer.{Answer}
-use Rattle.answering.specs.declared.Answer.the-variants as Answer
+use Rattle.sheets.specs.declared.Answer.{Answer}
+use Rattle.sheets.specs.declared.Answer.the-variants as Answer
 use Rattle.grammar.specs.Sentences.{no-token}
 
 -- a merged with each of the reports in turn

@@ -17,9 +17,9 @@ use Rattle.sheets.specs.declared.Fault.{Fault}
 use Rattle.sheets.specs.Refusals.{numberOf, RefusedAs}
 use Rattle.sheets.specs.Items.{accepted}
 use Rattle.sheets.specs.RuleSheets.{ruleSheet}
-use Rattle.answering.specs.declared.Answer.{Answer}
-use Rattle.answering.specs.declared.Answer.the-variants as Answer
-use Rattle.answering.specs.Sweep.{sweepLimit, noSentence}
+use Rattle.sheets.specs.declared.Answer.{Answer}
+use Rattle.sheets.specs.declared.Answer.the-variants as Answer
+use Rattle.sweep_answers.specs.Sweep.{sweepLimit, noSentence}
 use Rattle.call_shares.specs.declared.ShareReply.{ShareReply}
 use Rattle.grammar.specs.Sentences.{no-token}
 use Rattle.sweeping.specs.Cleared.{cleared}

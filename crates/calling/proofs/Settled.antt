@@ -14,8 +14,9 @@ use Rattle.column_text.proofs.Settled.{columns-text-settled}
 use Rattle.reports.proofs.Settled.{merge-text-settled}
 use Rattle.share_text.proofs.Settled.{share-text-settled}
 use Rattle.text.specs.Printed.{Printed}
-use Rattle.text.proofs.Settled.{never-none, same-some, trees-text-settled, sweep-text-settled}
-use Rattle.text.proofs.Settled.{printed-settled}
+use Rattle.text.proofs.Settled.{never-none, same-some, printed-settled}
+use Rattle.check_text.proofs.Settled.{trees-text-settled}
+use Rattle.sweep_text.proofs.Settled.{sweep-text-settled}
 use Rattle.text_trees.proofs.Settled.{rows-text-settled, places-text-settled}
 use Rattle.rights_text.proofs.Settled.{show-text-settled, change-text-settled}
 use Rattle.calling.specs.Calls.{OnTwoSheets, two, OnThreeSheets, three, CallText, CallsOf}

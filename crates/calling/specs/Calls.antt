@@ -15,9 +15,10 @@ use Rattle.column_text.specs.Columns.{ColumnsTextOf}
 use Rattle.reports.specs.Reports.{MergeText}
 use Rattle.share_text.specs.Shares.{ShareTextOf}
 use Rattle.sheets.specs.RuleSheets.{ruleSheet}
-use Rattle.text.specs.Input.{Parts, parts}
+use Rattle.text.specs.Input.{longest, Parts, parts}
 use Rattle.text.specs.Output.{refusedText, head}
-use Rattle.text.specs.Programs.{longest, TreesText, SweepText}
+use Rattle.check_text.specs.Check.{TreesText}
+use Rattle.sweep_text.specs.Sweep.{SweepText}
 use Rattle.text_trees.specs.Places.{PlacesTextOf}
 use Rattle.text_trees.specs.Rows.{RowsTextOf}
 use Rattle.rights_text.specs.Texts.{ShowText, ChangeText}

@@ -1,10 +1,10 @@
 // The program `check`: reads standard input, one byte more than it takes at most, and writes what
 // `check_text` answers. Where a read fails it writes nothing, where a write fails nothing more, and
 // says so on standard error.
+use check_text::check_text;
 use streams::Moved;
 use streams::read_input;
 use streams::write_output;
-use text::check_text;
 
 fn main() {
     let mut space = [0u8; 16385];

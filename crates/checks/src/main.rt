@@ -3,10 +3,10 @@
 // in five digits and a rule sheet, for the number of candidates that the sweep tries.
 use cases::five;
 use cases::next_case;
+use check_text::check_text;
 use libc::STDOUT_FILENO;
+use sweep_text::sweep_text;
 use teplonga::sweep;
-use text::check_text;
-use text::sweep_text;
 ghost use Prim.Native.Nat.{_≤_};
 ghost use lib.ListN.{length};
 

@@ -10,7 +10,8 @@ ghost use Prim.Native.Nat.{_≤_};
 ghost use lib.ListN.{length};
 ghost use Rattle.clause_sheets.specs.ClauseSheets.{clauseSheet};
 ghost use Rattle.call_clauses.specs.Calls.{clauseSheets};
-ghost use Rattle.text.specs.Programs.{TreesText, SweepText};
+ghost use Rattle.check_text.specs.Check.{TreesText};
+ghost use Rattle.sweep_text.specs.Sweep.{SweepText};
 ghost use Rattle.text.specs.Printed.{Printed};
 ghost use Rattle.clause_text.specs.Texts.{ExpandText};
 

@@ -5,8 +5,8 @@ use mathlib.Core.Bool.{Bool, true, false}
 use mathlib.Core.List.{List, [], _∷_, _++_}
 use Prim.Native.Nat.{ℕ}
 use lib.ListN.{length}
-use Rattle.answering.specs.declared.Answer.{Answer}
-use Rattle.answering.specs.declared.Answer.the-variants as Answer
+use Rattle.sheets.specs.declared.Answer.{Answer}
+use Rattle.sheets.specs.declared.Answer.the-variants as Answer
 use Rattle.text.specs.Output.{answerText, head}
 use Rattle.column_search.specs.declared.Flags.{Flags}
 use Rattle.call_columns.specs.declared.ColumnsReply.{ColumnsReply}

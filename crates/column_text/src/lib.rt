@@ -1,10 +1,10 @@
 // The whole output of the call on columns read off a photograph, in a lent buffer; its sheets are
 // parted already.
-use answering::Answer;
 use call_columns::columns;
 use column_search::Flags;
 use printing::put_byte;
 use printing::put_bytes;
+use sheets::Answer;
 use text::put_head;
 ghost use mathlib.Core.List.{[], _∷_, _++_};
 ghost use Prim.Native.Nat.{_+_, _≤_};

@@ -12,7 +12,7 @@ use Rattle.printing.proofs.Decimals.{decimal-one}
 use Rattle.sheets.specs.declared.Fault.{Fault}
 use Rattle.sheets.specs.Refusals.{numberOf}
 use Rattle.sheets.specs.TokenSheets.{tokenNames}
-use Rattle.answering.specs.declared.Answer.the-variants as Answer
+use Rattle.sheets.specs.declared.Answer.the-variants as Answer
 use Rattle.text.specs.Output.{answerNames, refusedText, head}
 use Rattle.call_shares.specs.Share.{shareReplyOf, shareRefusal}
 use Rattle.share_text.specs.Shares.{shareLines, reportText}

@@ -9,7 +9,7 @@ use lib.Seq.{drop-drop}
 use Rattle.printing.specs.Printing.{decimal, tokenLines}
 use Rattle.sheets.specs.Refusals.{numberOf}
 use Rattle.sheets.specs.TokenSheets.{tokenNames}
-use Rattle.answering.specs.Sweep.{sweepLimit}
+use Rattle.sweep_answers.specs.Sweep.{sweepLimit}
 use Rattle.sets.specs.Says.{Says}
 use Rattle.sets.proofs.Says.{says-iff}
 use Rattle.scanning.specs.Scanned.{Numbered, Unnumbered, Starts}

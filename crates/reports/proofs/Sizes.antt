@@ -9,7 +9,7 @@ use Rattle.printing.specs.Printing.{decimal, tokenLines}
 use Rattle.printing.proofs.Decimals.{decimal-length}
 use Rattle.sheets.specs.Refusals.{numberOf}
 use Rattle.sheets.specs.TokenSheets.{tokenNames}
-use Rattle.answering.specs.Sweep.{sweepLimit}
+use Rattle.sweep_answers.specs.Sweep.{sweepLimit}
 use Rattle.call_shares.specs.declared.ShareReply.{ShareReply}
 use Rattle.reports.specs.Reports.{ReportToken, ReportOf}
 use Rattle.reports.specs.Rests.{pairText}

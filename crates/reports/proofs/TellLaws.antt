@@ -7,7 +7,7 @@ use lib.ListN.{length, drop, getD, length-append}
 use Rattle.printing.specs.Printing.{decimal, tokenLines}
 use Rattle.sheets.specs.Refusals.{numberOf}
 use Rattle.sheets.specs.TokenSheets.{tokenNames}
-use Rattle.answering.specs.declared.Answer.the-variants as Answer
+use Rattle.sheets.specs.declared.Answer.the-variants as Answer
 use Rattle.call_shares.specs.declared.ShareReply.{ShareReply}
 use Rattle.call_shares.specs.Share.{shareReplyOf, shareRefusal}
 use Rattle.share_text.specs.Shares.{reportText}

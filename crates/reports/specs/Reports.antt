@@ -7,8 +7,8 @@ use lib.ListN.{length}
 use Rattle.grammar.specs.declared.Token.{Token}
 use Rattle.grammar.specs.Layout.{Word, Every, line, col, width}
 use Rattle.sheets.specs.declared.Fault.{Fault}
-use Rattle.answering.specs.declared.Answer.the-variants as Answer
-use Rattle.answering.specs.Sweep.{sweepLimit}
+use Rattle.sheets.specs.declared.Answer.the-variants as Answer
+use Rattle.sweep_answers.specs.Sweep.{sweepLimit}
 use Rattle.text.specs.Output.{refusedText, head}
 use Rattle.call_shares.specs.declared.ShareReply.{ShareReply}
 use Rattle.call_shares.specs.Share.{shareReplyOf, shareRefusal}

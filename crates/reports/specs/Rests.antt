@@ -10,7 +10,7 @@ use Rattle.printing.specs.Printing.{decimal, tokenText, tokenLines}
 use Rattle.sheets.specs.declared.Fault.{Fault}
 use Rattle.sheets.specs.Refusals.{numberOf}
 use Rattle.sheets.specs.TokenSheets.{tokenNames}
-use Rattle.answering.specs.Sweep.{sweepLimit}
+use Rattle.sweep_answers.specs.Sweep.{sweepLimit}
 use Rattle.text.specs.declared.Place.{Place}
 use Rattle.text.specs.declared.Place.the-variants.{At, Nowhere}
 use Rattle.call_shares.specs.declared.ShareReply.{ShareReply}

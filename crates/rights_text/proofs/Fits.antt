@@ -9,7 +9,7 @@ use Rattle.tree_view.specs.Shown.{View}
 use Rattle.answering.specs.declared.TreesReply.{TreesReply}
 use Rattle.answering.specs.declared.ListReply.{ListReply}
 use Rattle.answering.proofs.ListSettled.{count-of, list-count}
-use Rattle.text.proofs.Fits.{Fits, counted, on-fits}
+use Rattle.answering.proofs.Fits.{Fits, counted, on-fits}
 use Rattle.call_rights.specs.Show.{ShowOf}
 use Rattle.call_rights.specs.Show as Show
 use Rattle.call_rights.specs.Change.{ChangeDone, unfit, given, ChangeOn, barred, allowed, ChangeOf}

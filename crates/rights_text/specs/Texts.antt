@@ -6,7 +6,7 @@ use lib.ListN.{length, take}
 use Rattle.answering.specs.declared.TreesReply.{TreesReply}
 use Rattle.answering.specs.declared.ListReply.{ListReply}
 use Rattle.text.specs.Output.{answerText, head, treesText}
-use Rattle.text.specs.Programs.{Lent}
+use Rattle.check_text.specs.Check.{Lent}
 use Rattle.call_rights.specs.Show.{ShowOf}
 use Rattle.call_rights.specs.Change.{ChangeOf}
 

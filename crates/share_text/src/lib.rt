@@ -1,9 +1,9 @@
 // The whole output of the call `share`, in a lent buffer; its sheet is parted already.
-use answering::Answer;
 use call_shares::share;
 use printing::put_byte;
 use printing::put_bytes;
 use printing::put_number;
+use sheets::Answer;
 use text::put_head;
 use text::put_sentence;
 ghost use mathlib.Core.List.{[], _∷_, _++_};

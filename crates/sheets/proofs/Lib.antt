@@ -9,3 +9,4 @@ pub mod Handed
 pub mod Samples
 pub mod Booking
 pub mod Settled
+pub mod Readings

@@ -6,3 +6,4 @@ pub mod RefusedLines
 pub mod LinesIn
 pub mod Promises
 pub mod Following
+pub mod Told

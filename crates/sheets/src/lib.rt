@@ -8,7 +8,8 @@ use grammar::Rule;
 use grammar::Sentence;
 use grammar::Token;
 use grammar::Width;
-use grammar::past;
+use grammar::leaves_free;
+use grammar::line_before;
 use lengths::Book;
 use lengths::Index;
 use lengths::append;
@@ -105,6 +106,17 @@ pub fn fault_number(f: Fault) -> u64
         Fault::FewWords => 21,
         Fault::FewRows => 22,
     }
+}
+
+// The answers of calls: none, one, two, clear, refused-N, and given for what a call gives
+// otherwise.
+pub enum Answer {
+    None,
+    One,
+    Two,
+    Clear,
+    Given,
+    Refused(Fault),
 }
 
 // A refusal gives the line in its sheet, counted from 1, or 0.
@@ -322,16 +334,18 @@ pub fn read_rules(s: &[u8]) -> GrammarRead
 pub fn comes_after(a: Token, b: Token) -> bool
     ensures { λ r. ⌜ r ≡ after a b ⌝ }
 {
-    if a.line.0 < b.line.0 {
+    let la = a.line;
+    let lb = b.line;
+    if line_before(la, lb) {
         return true;
     }
-    if a.line.0 == b.line.0 {
-        let c = a.column;
-        let w = a.width;
-        let end = past(c, w);
-        return end <= b.column.0 as u32;
+    if line_before(lb, la) {
+        return false;
     }
-    false
+    let c = a.column;
+    let w = a.width;
+    let d = b.column;
+    leaves_free(c, w, d)
 }
 
 // A token that comes after the last of the first n.

@@ -4,7 +4,7 @@
 use streams::Moved;
 use streams::read_input;
 use streams::write_output;
-use text::sweep_text;
+use sweep_text::sweep_text;
 
 fn main() {
     let mut space = [0u8; 16385];

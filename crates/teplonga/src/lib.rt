@@ -1,16 +1,16 @@
 // The public calls on a rule sheet: the verdict, the trees, the sweep and the refused line.
 use answering::Reply;
-use answering::SweepReply;
 use answering::TreesReply;
-use answering::sweep_read;
 use answering::trees_read;
 use answering::verdict_read;
 use sheets::read_rules;
 use sheets::read_tokens;
 use sheets::refused_read;
+use sweep_answers::SweepReply;
+use sweep_answers::sweep_read;
 ghost use Rattle.answering.specs.Verdict.{VerdictOf};
 ghost use Rattle.answering.specs.Trees.{TreesOf};
-ghost use Rattle.answering.specs.Sweep.{SweepOf};
+ghost use Rattle.sweep_answers.specs.Sweep.{SweepOf};
 ghost use Rattle.sheets.specs.RefusedLines.{refusedLine, Hands};
 
 // The verdict on a sentence: has it no valid tree of nonterminal 0, one, or two? The span sheet is

@@ -2,11 +2,12 @@
 use mathlib.Core.Bool.{Bool, true, cond, _&&_}
 use mathlib.Core.List.{List, [], _∷_}
 use mathlib.Core.Option.{Option, none, some}
-use Prim.Native.Nat.{ℕ, _-_}
-use lib.Dec.{eqb, leb}
-use lib.ListN.{length, getD, take, drop}
-use Rattle.fields.specs.Pieces.{sameBytes}
-use Rattle.fields.specs.Words.{numeralOf}
+use Prim.Native.Nat.{ℕ}
+use lib.Dec.{eqb}
+
+-- the longest input that is read
+abbrev pub longest : ℕ
+longest = 16384
 
 -- what stands before and behind the first empty line: a byte 10 at the very start or right after a
 -- byte 10
@@ -27,14 +28,3 @@ partsFrom begins (x ∷ s) = cond (begins && eqb x 10) (some (record { before = 
 -- the first empty line parts the input
 abbrev pub parts : List ℕ → Option Parts
 parts s = partsFrom true s
-
--- the line `bound`
-abbrev pub boundLine : List ℕ
-boundLine = 98 ∷ 111 ∷ 117 ∷ 110 ∷ 100 ∷ 10 ∷ []
-
--- the bound k: the line `bound`, a line with k in one to five digits, and no more
-abbrev pub boundOf : List ℕ → Option ℕ
-boundOf s =
-    cond (leb 7 (length s) && (sameBytes (take 6 s) boundLine && eqb (getD s (length s - 1) 0) 10))
-    (numeralOf (take (length s - 7) (drop 6 s)))
-    none

@@ -1,6 +1,4 @@
 pub mod Input
 pub mod Output
 pub mod Parting
-pub mod Programs
 pub mod Printed
-pub mod Swept

@@ -5,8 +5,8 @@ use Rattle.grammar.specs.Layout.{Word}
 use Rattle.printing.specs.Printing.{decimal, lastField, rowLines, tokenLines}
 use Rattle.sheets.specs.Refusals.{numberOf}
 use Rattle.sheets.specs.TokenSheets.{tokenNames}
-use Rattle.answering.specs.declared.Answer.{Answer}
-use Rattle.answering.specs.declared.Answer.the-variants as Answer
+use Rattle.sheets.specs.declared.Answer.{Answer}
+use Rattle.sheets.specs.declared.Answer.the-variants as Answer
 
 -- `refused-` and the number
 abbrev pub refusedText : ℕ → List ℕ

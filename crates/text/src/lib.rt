@@ -1,33 +1,21 @@
-// The programs' input and output as bytes.
-use answering::Answer;
-use fields::Number;
-use fields::numeral;
-use fields::same;
+// What the programs' texts are made of: where the input parts, and the parts of an output put into
+// a lent buffer.
 use grammar::Sentence;
 use printing::put_byte;
 use printing::put_bytes;
 use printing::put_number;
 use printing::put_rows;
 use printing::put_tokens;
+use sheets::Answer;
 use sheets::fault_number;
-use teplonga::sweep;
-use teplonga::trees;
-ghost use mathlib.Core.Path.{_≡_};
 ghost use mathlib.Core.List.{_∷_, _++_};
 ghost use Prim.Native.Nat.{_+_, _*_, _≤_, _<_};
-ghost use lib.ListN.{length, take, drop};
+ghost use lib.ListN.{length, take};
 ghost use Rattle.printing.specs.Printing.{Wrote, lastField, rowLines};
-ghost use Rattle.sheets.specs.RuleSheets.{ruleSheet};
-ghost use Rattle.answering.specs.Answers.{sheets};
 ghost use Rattle.text.specs.Output.{refusedText, answerText, head, treeNames, treesText};
 ghost use Rattle.text.specs.Output.{sentenceText};
-ghost use Rattle.fields.specs.Answers.{asNumber};
-ghost use Rattle.text.specs.Input.{boundOf};
 ghost use Rattle.text.specs.Parting.{Parted};
-ghost use Rattle.text.specs.Programs.{TreesText, SweepText, CheckOf, SweepTextOf};
-ghost use Rattle.text.specs.Printed.{Printed};
 ghost use Rattle.grammar.specs.Sentences.{spelled};
-ghost use Rattle.text.specs.Swept.{SweptAt};
 
 // A place in the input, or none.
 pub enum Place {
@@ -176,108 +164,5 @@ pub fn put_sentence(out: &mut [u8], at: usize, a: Answer, s: Sentence) -> usize
         Answer::Clear => at,
         Answer::Given => at,
         Answer::Refused(_) => at,
-    }
-}
-
-// The answer on two sheets and its trees.
-fn check_sheets(rules: &[u8], tokens: &[u8], out: &mut [u8]) -> usize
-    requires { ⌜ 262144 ≤ length (now out) ⌝ }
-    ensures { λ r. ⌜ Printed TreesText (sheets (now (rules .entry)) (now (tokens .entry)))
-        (now (out .entry)) (now (out .exit)) r ⌝ }
-{
-    let mut words = [0u64; 4162];
-    let mut one = [0u8; 16384];
-    let mut two = [0u8; 16384];
-    let r = trees(rules, tokens, &mut words, &mut one, &mut two);
-    let a = r.answer;
-    let n = put_head(out, a, r.line);
-    put_trees(out, n, a, &one, r.first, &two, r.second)
-}
-
-// The answer on the two sheets that the empty line at i parts.
-fn check_at(input: &[u8], i: usize, out: &mut [u8]) -> usize
-    requires { ⌜ i < length (now input) ⌝ }
-    requires { ⌜ 262144 ≤ length (now out) ⌝ }
-    ensures { λ r. ⌜ Printed TreesText
-        (sheets (take i (now (input .entry))) (drop (i + 1) (now (input .entry))))
-        (now (out .entry)) (now (out .exit)) r ⌝ }
-{
-    let j = i + 1;
-    check_sheets(&input[..i], &input[j..], out)
-}
-
-// The whole output of the program `check`; its length.
-pub fn check_text(input: &[u8], out: &mut [u8; 262144]) -> usize
-    ensures { λ r. ⌜ Printed CheckOf (now (input .entry)) (now (out .entry)) (now (out .exit)) r ⌝ }
-{
-    if 16384 < input.len() {
-        return put_refusal(out, 31);
-    }
-    let place = parting(input);
-    match place {
-        Place::Nowhere => put_refusal(out, 32),
-        Place::At(i) => check_at(input, i, out),
-    }
-}
-
-// The bound that stands before the empty line, or none.
-fn bound_of(s: &[u8]) -> Number
-    ensures { λ r. ⌜ r ≡ asNumber (boundOf (now (s .entry))) ⌝ }
-{
-    let n = s.len();
-    if n < 7 {
-        return Number::Not;
-    }
-    if !same(&s[..6], b"bound\n") {
-        return Number::Not;
-    }
-    let end = n - 1;
-    if s[end] != 10 {
-        return Number::Not;
-    }
-    numeral(&s[6..end])
-}
-
-// The answer on a rule sheet and a bound.
-fn sweep_sheet(rules: &[u8], k: u32, out: &mut [u8]) -> usize
-    requires { ⌜ 262144 ≤ length (now out) ⌝ }
-    ensures { λ r. ⌜ Printed (SweepText k) (ruleSheet (now (rules .entry))) (now (out .entry))
-        (now (out .exit)) r ⌝ }
-{
-    let mut words = [0u64; 58];
-    let r = sweep(rules, k as usize, &mut words);
-    let a = r.answer;
-    let s = r.sentence;
-    let n = put_head(out, a, r.line);
-    put_sentence(out, n, a, s)
-}
-
-// The answer on what the empty line at i parts: the bound, then the rule sheet.
-fn sweep_at(input: &[u8], i: usize, out: &mut [u8]) -> usize
-    requires { ⌜ i < length (now input) ⌝ }
-    requires { ⌜ 262144 ≤ length (now out) ⌝ }
-    ensures { λ r. ⌜ SweptAt (take i (now (input .entry))) (drop (i + 1) (now (input .entry)))
-        (now (out .entry)) (now (out .exit)) r ⌝ }
-{
-    let j = i + 1;
-    let bound = bound_of(&input[..i]);
-    match bound {
-        Number::Not => put_refusal(out, 32),
-        Number::Is(k) => sweep_sheet(&input[j..], k, out),
-    }
-}
-
-// The whole output of the program `sweep`; its length.
-pub fn sweep_text(input: &[u8], out: &mut [u8; 262144]) -> usize
-    ensures { λ r. ⌜ Printed SweepTextOf (now (input .entry)) (now (out .entry)) (now (out .exit))
-        r ⌝ }
-{
-    if 16384 < input.len() {
-        return put_refusal(out, 31);
-    }
-    let place = parting(input);
-    match place {
-        Place::Nowhere => put_refusal(out, 32),
-        Place::At(i) => sweep_at(input, i, out),
     }
 }

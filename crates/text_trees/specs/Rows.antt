@@ -5,8 +5,8 @@ use mathlib.Core.List.{List, [], _∷_, _++_}
 use Prim.Native.Nat.{ℕ}
 use lib.ListN.{length}
 use Rattle.printing.specs.Printing.{decimal}
-use Rattle.answering.specs.declared.Answer.{Answer}
-use Rattle.answering.specs.declared.Answer.the-variants as Answer
+use Rattle.sheets.specs.declared.Answer.{Answer}
+use Rattle.sheets.specs.declared.Answer.the-variants as Answer
 use Rattle.text.specs.Output.{answerText, head}
 use Rattle.row_counts.specs.declared.RowCount.{RowCount}
 use Rattle.row_counts.specs.declared.RowCount.the-variants as RowCount

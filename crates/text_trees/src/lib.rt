@@ -1,12 +1,12 @@
 // The whole output of the calls on one sentence's trees, in a lent buffer; their sheets are parted
 // already.
-use answering::Answer;
 use call_places::places;
 use call_rows::rows;
 use printing::put_byte;
 use printing::put_bytes;
 use printing::put_number;
 use row_counts::RowCount;
+use sheets::Answer;
 use text::put_head;
 ghost use mathlib.Core.List.{[], _∷_, _++_};
 ghost use Prim.Native.Nat.{_+_, _*_, _≤_};

@@ -1,6 +1,6 @@
 -- `expand` meets its contract: the reader's refusals, else the sheet of what was read.
 use mathlib.Core.Path.{refl}
-use Rattle.answering.proofs.Readings.{rules-are, rules-not}
+use Rattle.sheets.proofs.Readings.{rules-are, rules-not}
 use Rattle.call_clauses.specs.Expand.{refusing, giving}
 use borrow.Author.Needs.{needs}
 use Rattle.call_clauses.proofs.expand.Statement.{statement}

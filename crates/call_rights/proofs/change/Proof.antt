@@ -4,7 +4,7 @@ use Rattle.rights.specs.RightSheets.{rightsSheet}
 use Rattle.call_rights.proofs.Showing.{rights-not, rights-are, by-changes}
 use mathlib.Core.Path.{refl}
 use Rattle.call_rights.specs.Change.{refusing, barring, reading}
-use Rattle.answering.proofs.Readings.{rules-are, rules-not}
+use Rattle.sheets.proofs.Readings.{rules-are, rules-not}
 use Rattle.call_rights.proofs.change.Statement.{statement}
 use Rattle.call_rights.proofs.change.Tie as tie
 

@@ -1,7 +1,7 @@
 -- `call_shares::share` meets its contract: the reader's refusals, else the share of what was read.
 use mathlib.Core.Path.{refl}
 use Rattle.call_shares.specs.Share.{refusing, reading}
-use Rattle.answering.proofs.Readings.{rules-are, rules-not}
+use Rattle.sheets.proofs.Readings.{rules-are, rules-not}
 use borrow.Author.Needs.{needs}
 use Rattle.call_shares.proofs.share.Statement.{statement}
 use Rattle.call_shares.proofs.share.Tie as tie

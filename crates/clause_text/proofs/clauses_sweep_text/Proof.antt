@@ -4,8 +4,8 @@ use Prim.Native.Nat.{ℕ}
 use native.Mathlib.Omega.{arith}
 use lib.ListN.{length-replicate}
 use Rattle.printing.proofs.Writing.{wrote-then}
-use Rattle.text.specs.Programs.{swept}
-use Rattle.text.proofs.Fits.{sweep-few}
+use Rattle.sweep_text.specs.Sweep.{swept}
+use Rattle.sweep_answers.proofs.Few.{sweep-few}
 use borrow.Author.Needs.{needs}
 use Rattle.clause_text.proofs.clauses_sweep_text.Statement.{statement}
 use Rattle.clause_text.proofs.clauses_sweep_text.Tie as tie

@@ -4,8 +4,8 @@ use Prim.Native.Nat.{ℕ}
 use native.Mathlib.Omega.{arith}
 use lib.ListN.{length-replicate}
 use Rattle.printing.proofs.Writing.{wrote-then}
-use Rattle.text.specs.Programs.{Lent, answered}
-use Rattle.text.proofs.Fits.{trees-fit}
+use Rattle.check_text.specs.Check.{Lent, answered}
+use Rattle.answering.proofs.Fits.{trees-fit}
 use borrow.Author.Needs.{needs}
 use Rattle.clause_text.proofs.clauses_text.Statement.{statement}
 use Rattle.clause_text.proofs.clauses_text.Tie as tie

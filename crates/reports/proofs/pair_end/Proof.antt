@@ -1,7 +1,7 @@
 -- `reports::pair_end` meets its contract: two numbers, one after the other.
 use native.Mathlib.Omega.{arith}
 use Rattle.scanning.specs.Scanned.{Numbered}
-use Rattle.answering.specs.Sweep.{sweepLimit}
+use Rattle.sweep_answers.specs.Sweep.{sweepLimit}
 use Rattle.reports.proofs.Fields.{pair-there, pair-first, pair-second}
 use borrow.Author.Needs.{needs}
 use Rattle.reports.proofs.pair_end.Statement.{statement}

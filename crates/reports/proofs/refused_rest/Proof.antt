@@ -4,7 +4,7 @@ use native.Mathlib.Omega.{arith}
 use borrow.Author.Tests.{not-true, not-false}
 use Rattle.sets.proofs.Says.{holds, fails}
 use Rattle.scanning.specs.Scanned.{Numbered}
-use Rattle.answering.specs.Sweep.{sweepLimit}
+use Rattle.sweep_answers.specs.Sweep.{sweepLimit}
 use Rattle.reports.proofs.RestLaws.{refused-first, refused-number, refused-second}
 use Rattle.reports.proofs.RestLaws.{refused-more, refused-there}
 use borrow.Author.Needs.{needs}

@@ -5,7 +5,7 @@ use native.Mathlib.Omega.{arith}
 use lib.ListN.{length, drop}
 use borrow.Author.Tests.{not-true, not-false}
 use Rattle.scanning.specs.Scanned.{Numbered, Starts}
-use Rattle.answering.specs.Sweep.{sweepLimit}
+use Rattle.sweep_answers.specs.Sweep.{sweepLimit}
 use Rattle.reports.specs.Rests.{PairTo}
 use Rattle.reports.proofs.RestLaws.{names, two-pair, two-number, two-names, two-lines}
 use Rattle.reports.proofs.RestLaws.{two-there, rest-inside}

@@ -4,7 +4,7 @@ use Prim.Native.Nat.{ℕ}
 use native.Mathlib.Omega.{arith}
 use lib.ListN.{length-replicate}
 use Rattle.printing.proofs.Writing.{wrote-then}
-use Rattle.text.specs.Programs.{Lent}
+use Rattle.check_text.specs.Check.{Lent}
 use Rattle.rights_text.specs.Texts.{shown}
 use Rattle.rights_text.proofs.Fits.{show-fit}
 use borrow.Author.Needs.{needs}
