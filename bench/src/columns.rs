@@ -1,19 +1,19 @@
-//! Table j: columns known between two ends, beside a twin that tries every
-//! choice by itself.
+//! Table j: columns known between two ends.
 
 use bench::clock::timed;
 use bench::families::{self, VERDICT};
 use bench::library;
 use bench::random::token_sheet;
-use bench::twin::{self, columns::Ranged, order, sheets};
+use bench::twin::{self, columns::Ranged, sheets};
+use bench::visited::{self, Family};
 
 use crate::calls::WORDS;
 
-/// So many tokens have two columns each: the choices of a row for each family,
-/// of the worst family, and those that the twin tries.
-const FAMILY: usize = 10;
-const WORST: usize = 16;
-const PLAIN: usize = 5;
+/// So many tokens have two columns each: 65,536 choices.
+const ALL: usize = 16;
+
+/// The same where every choice is visited and a row is scaled from fewer: 1,024.
+const SOME: usize = 10;
 
 /// The tokens of a sentence of the families, of which so many in the middle
 /// have a column more.
@@ -39,72 +39,73 @@ fn range_sheet(ranges: &[Ranged]) -> Vec<u8> {
     sheet.replacen("term line col", "term line low high", 1).into_bytes()
 }
 
-/// CPU milliseconds a choice of the library, and which verdicts it finds.
-fn library_ms(rules: &[u8], ranges: &[Ranged]) -> (f64, [bool; 3]) {
-    let (sheet, mut words) = (range_sheet(ranges), vec![0; WORDS]);
-    let (seconds, (word, found)) = timed(|| library::columns(rules, &sheet, &mut words));
-    assert_eq!(word >> 32, 4, "the sheets are accepted");
-    (1e3 * seconds / choices(ranges), found.map(|flag| flag == 1))
+/// CPU seconds of library and twin, and which verdicts both find.
+struct Measured {
+    library: f64,
+    twin: f64,
+    found: [bool; 3],
 }
 
-/// The same of the twin.
-fn twin_ms(rules: &[u8], ranges: &[Ranged]) -> (f64, [bool; 3]) {
-    let mut rules = sheets::read_rules(rules).expect("a rule sheet");
-    order::arrange(&mut rules);
-    let mut words = vec![0; WORDS];
-    let (seconds, found) = timed(|| twin::columns::columns(&rules, ranges, &mut words));
-    (1e3 * seconds / choices(ranges), found)
+impl Measured {
+    fn of(rules: &[u8], ranges: &[Ranged]) -> Measured {
+        let (sheet, mut words) = (range_sheet(ranges), vec![0; WORDS]);
+        let (library, (word, found)) = timed(|| library::columns(rules, &sheet, &mut words));
+        assert_eq!(word >> 32, 4, "the sheets are accepted");
+        let rules = sheets::read_rules(rules).expect("a rule sheet");
+        let (twin, same) = timed(|| twin::columns::columns(&rules, ranges, &mut words));
+        assert_eq!(found.map(|flag| flag == 1), same, "the same verdicts");
+        Measured { library, twin, found: same }
+    }
+
+    /// The rest of a row, each time taken so many times.
+    fn row(&self, times: f64) -> String {
+        let found = self.found.map(|flag| if flag { "yes" } else { "no" }).join(" ");
+        let (library, twin) = (times * self.library, times * self.twin);
+        format!("{found} | {library:.3} | {twin:.3} | {:.2} |", library / twin)
+    }
 }
 
-fn choices(ranges: &[Ranged]) -> f64 {
-    ranges.iter().map(|range| f64::from(range.1)).product()
+fn heading(what: &str) {
+    println!("(j) {what}\n");
+    println!("| family | none one two | library, CPU s | twin, CPU s | library/twin |");
+    println!("|---|---|---|---|---|");
 }
 
-fn words(found: [bool; 3]) -> String {
-    found.map(|flag| if flag { "yes" } else { "no" }).join(" ")
-}
-
-/// (j) A row for each family, then the worst of them with all choices.
+/// (j) The families of the verdict, those that make every choice be visited, and
+/// the worst of these with all choices; then a usual patch.
 pub fn columns() {
-    println!("(j) Columns of 64 tokens under 128 rules\n");
-    println!("| family | none one two | choices | library, CPU ms a choice | twin, each choice by itself, CPU ms a choice | twin/library |");
-    println!("|---|---|---|---|---|---|");
-    let mut worst = (0.0, &VERDICT[0]);
+    heading("Columns of 64 tokens under 128 rules, 65,536 choices");
     for family in &VERDICT {
-        let rules = (family.sheet)(128);
-        let few = ranges(64, family.terminals, PLAIN);
-        let (plain, same) = twin_ms(&rules, &few);
-        assert_eq!(library_ms(&rules, &few).1, same, "{}", family.name);
-        let many = ranges(64, family.terminals, FAMILY);
-        let (ours, found) = library_ms(&rules, &many);
-        let ratio = plain / ours;
-        println!(
-            "| {} | {} | {} | {ours:.2} | {plain:.2} | {ratio:.1} |",
-            family.name,
-            words(found),
-            choices(&many)
-        );
-        if worst.0 < ours {
-            worst = (ours, family);
+        let all = ranges(64, family.terminals, ALL);
+        let measured = Measured::of(&(family.sheet)(128), &all);
+        println!("| {} | {}", family.name, measured.row(1.0));
+    }
+    println!();
+    heading("The same where every choice is visited, scaled from 1,024 choices");
+    let mut worst = (0.0, None);
+    for family in visited::large() {
+        let measured = Measured::of(&family.rules, &(family.ranges)((64, SOME)));
+        println!("| {}: {} | {}", family.name, family.what, measured.row(64.0));
+        if worst.0 < measured.library {
+            worst = (measured.library, Some(family));
         }
     }
-    let family = worst.1;
-    let all = ranges(64, family.terminals, WORST);
-    let (ours, found) = library_ms(&(family.sheet)(128), &all);
-    let seconds = ours * choices(&all) / 1e3;
-    println!(
-        "\nThe worst, {}, with {} choices: {}, {seconds:.1} s.",
-        family.name,
-        choices(&all),
-        words(found)
-    );
-    let (rules, usual) = ((VERDICT[3].sheet)(20), ranges(20, 1, WORST));
-    let (ours, found) = library_ms(&rules, &usual);
-    println!(
-        "20 tokens under 20 rules ({}), {} choices: {}, {:.2} s.\n",
-        VERDICT[3].name,
-        choices(&usual),
-        words(found),
-        ours * choices(&usual) / 1e3
-    );
+    println!();
+    if let Some(family) = worst.1 {
+        heading("The worst of them with 65,536 choices");
+        visited_row(&family, 64);
+        println!();
+    }
+    heading("Columns of 20 tokens under 20 rules, 65,536 choices");
+    let measured = Measured::of(&(VERDICT[3].sheet)(20), &ranges(20, 1, ALL));
+    println!("| {} | {}", VERDICT[3].name, measured.row(1.0));
+    for family in visited::usual() {
+        visited_row(&family, 20);
+    }
+    println!();
+}
+
+fn visited_row(family: &Family, tokens: usize) {
+    let measured = Measured::of(&family.rules, &(family.ranges)((tokens, ALL)));
+    println!("| {}: {} | {}", family.name, family.what, measured.row(1.0));
 }

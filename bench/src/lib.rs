@@ -7,6 +7,7 @@ pub mod late;
 pub mod library;
 pub mod random;
 pub mod twin;
+pub mod visited;
 
 // The proved library's C functions, as the Rust crate declares and wraps them.
 #[cfg(feature = "library")]

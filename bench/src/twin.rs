@@ -1,11 +1,18 @@
-//! The twin: the library's two measured calls in plain Rust, by the same algorithm.
+//! The twin: verdicts, sweeps and columns in plain Rust, by the library's algorithm.
 
+mod chains;
 pub mod chart;
 pub mod columns;
+mod cuts;
 pub mod grammar;
-pub mod order;
-pub mod plain;
+mod half_chart;
+mod leaves;
+mod marks;
+mod plain;
+mod ranges;
+pub mod reach;
 pub mod sheets;
+pub mod spans;
 pub mod sweep;
 pub mod tried;
 
@@ -35,23 +42,21 @@ pub struct Swept {
 
 /// The verdict on a sentence. `words` get its span sheet.
 pub fn verdict(rules: &[u8], tokens: &[u8], words: &mut [u64]) -> Result<Verdict, Refusal> {
-    let mut rules = sheets::read_rules(rules)?;
+    let rules = sheets::read_rules(rules)?;
     let tokens = sheets::read_tokens(tokens)?;
-    if words.len() < chart::size(tokens.len()) {
+    if words.len() < spans::size(tokens.len()) {
         return Err(Refusal::whole(21));
     }
-    order::arrange(&mut rules);
     chart::fill(words, &rules, &tokens);
-    Ok(chart::verdict(words, tokens.len()))
+    Ok(spans::verdict(words, tokens.len()))
 }
 
 /// The same, with each span's tokens walked for its marks: what carrying spares.
 pub fn verdict_walked(rules: &[u8], tokens: &[u8], words: &mut [u64]) -> Result<Verdict, Refusal> {
-    let mut rules = sheets::read_rules(rules)?;
+    let rules = sheets::read_rules(rules)?;
     let tokens = sheets::read_tokens(tokens)?;
-    order::arrange(&mut rules);
     chart::fill_walked(words, &rules, &tokens);
-    Ok(chart::verdict(words, tokens.len()))
+    Ok(spans::verdict(words, tokens.len()))
 }
 
 /// The same, as a good programmer would write it first.
@@ -59,7 +64,7 @@ pub fn verdict_plain(rules: &[u8], tokens: &[u8], words: &mut [u64]) -> Result<V
     let rules = sheets::read_rules(rules)?;
     let tokens = sheets::read_tokens(tokens)?;
     plain::fill(words, &rules, &tokens);
-    Ok(chart::verdict(words, tokens.len()))
+    Ok(spans::verdict(words, tokens.len()))
 }
 
 /// The first sentence of 1 to `bound` tokens with two trees.
@@ -85,7 +90,7 @@ pub fn sweep_over(
     words: &mut [u64],
     most_fills: u64,
 ) -> Result<Swept, Refusal> {
-    let mut rules = sheets::read_rules(rules)?;
+    let rules = sheets::read_rules(rules)?;
     if !(1..=7).contains(&bound) {
         return Err(Refusal::whole(23));
     }
@@ -95,16 +100,15 @@ pub fn sweep_over(
         return Err(Refusal::whole(24));
     }
     let bound = bound as usize;
-    if words.len() < chart::size(bound) {
+    if words.len() < spans::size(bound) {
         return Err(Refusal::whole(21));
     }
-    order::arrange(&mut rules);
     let needed = sweep::needed(&rules);
     let lengths = lengths(&rules);
-    let reached = order::reachable(&rules);
+    let reached = reach::reachable(&rules);
     let mut swept = sweep::search(&reached, needed, lengths, bound, words, most_fills);
     swept.tried = tried::tried(lengths, all, bound, swept.found.as_deref());
-    words[..chart::size(bound)].fill(0);
+    words[..spans::size(bound)].fill(0);
     Ok(swept)
 }
 

@@ -4,7 +4,7 @@
 use bench::late::{apart, even, words};
 use bench::random::{rule_line, rule_sheet, token_lines, token_sheet, Random};
 use bench::twin::grammar::{BinaryMark, Clause, Column, Line, Rule, Token, UnaryMark, Width};
-use bench::twin::{self, chart, sheets, sweep, tried, Swept, Verdict};
+use bench::twin::{self, chart, sheets, spans, sweep, tried, Swept, Verdict};
 
 /// The first extension of `tokens` to `n` tokens that has two trees, in the
 /// candidates' order; `tried` counts those looked at.
@@ -19,7 +19,7 @@ fn first_two(
         *tried += 1;
         let mut words = [0; 60];
         chart::fill(&mut words, rules, tokens);
-        return chart::two(&words, n);
+        return spans::verdict(&words, n) == Verdict::Two;
     }
     let before = tokens.last().copied();
     let line = before.map_or(1, |token| token.line.0);
@@ -66,7 +66,7 @@ fn possible(rules: &[Rule], terminals: &[u8], n: u32) -> bool {
         }
         let mut words = [0; 60];
         chart::fill(&mut words, &rules, &tokens);
-        chart::verdict(&words, tokens.len()) != Verdict::None
+        spans::verdict(&words, tokens.len()) != Verdict::None
     })
 }
 
@@ -137,7 +137,7 @@ fn needed_terminals() {
 #[test]
 fn rules_that_the_start_does_not_reach_make_no_difference() {
     compare(11, 2, 4, |rules, swept| {
-        twin::order::reachable(rules).len() < rules.len() && swept.fills >= 30
+        twin::reach::reachable(rules).len() < rules.len() && swept.fills >= 30
     });
 }
 

@@ -1,8 +1,10 @@
 //! The verdict as a good programmer would write it first: every rule at every
 //! cut of every span, a rule left as soon as it has two trees.
 
-use super::chart::{empty_pair, leaf_pair, place, Half, Marks, Pair};
 use super::grammar::{has, Clause, Rule, Token};
+use super::leaves::{empty_pair, leaf_pair};
+use super::marks::{Half, Marks};
+use super::spans::{place, Pair};
 
 /// Fill the span sheet of a sentence.
 pub fn fill(words: &mut [u64], rules: &[Rule], tokens: &[Token]) {

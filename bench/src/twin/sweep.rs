@@ -1,7 +1,11 @@
 //! The sweep over all short sentences.
 
-use super::chart::{self, Half, Pair};
+use super::chart::Tables;
 use super::grammar::{has, Clause, Column, Line, Rule, Token, Width};
+use super::half_chart::HalfChart;
+use super::leaves::leaf_pair;
+use super::marks::Half;
+use super::spans::Pair;
 use super::Swept;
 
 /// The most tokens of a candidate.
@@ -166,52 +170,69 @@ impl Candidate {
     }
 }
 
-/// What a block of candidates is refuted with: the rules, the pair of each
-/// terminal, that of a token that may have any, and the words; and how often a
-/// chart was filled.
-struct Refuter<'a> {
-    rules: &'a [Rule],
+/// The terminals that are tried, the pair of each, and that of a token that may
+/// have any.
+struct Leaves {
     terminals: u64,
     pairs: [Pair; 64],
     any: Pair,
-    words: &'a mut [u64],
+}
+
+impl Leaves {
+    fn of(rules: &[Rule], terminals: u64, empty: Pair) -> Leaves {
+        let (mut pairs, mut any) = ([Pair::default(); 64], Pair::default());
+        for x in (0..64).filter(|&x| has(terminals, x)) {
+            let pair = leaf_pair(rules, x, empty);
+            pairs[usize::from(x)] = pair;
+            any = any.with(pair);
+        }
+        Leaves { terminals, pairs, any }
+    }
+}
+
+/// What a block of candidates is refuted with, and how often a chart was filled.
+struct Refuter<'a> {
+    leaves: &'a Leaves,
+    chart: HalfChart<'a>,
     fills: u64,
     most_fills: u64,
 }
 
-impl<'a> Refuter<'a> {
-    fn new(rules: &'a [Rule], terminals: u64, words: &'a mut [u64], most_fills: u64) -> Self {
-        let empty = chart::empty_pair(rules);
-        let (mut pairs, mut any) = ([Pair::default(); 64], Pair::default());
-        for x in (0..64).filter(|&x| has(terminals, x)) {
-            let pair = chart::leaf_pair(rules, x, empty);
-            pairs[usize::from(x)] = pair;
-            any = Pair { one: any.one | pair.one, two: any.two | pair.two };
-        }
-        chart::give_empty(words, empty);
-        Refuter { rules, terminals, pairs, any, words, fills: 0, most_fills }
-    }
-
-    /// Fill the words for the candidate, whose first `known` tokens count, but
+impl Refuter<'_> {
+    /// Fill the chart for the candidate, whose first `known` tokens count, but
     /// for the spans that end at or before the token `from` or begin at or past
     /// the token `to`. Has none of its completions two trees?
     fn hopeless(&mut self, candidate: &Candidate, known: usize, from: usize, to: usize) -> bool {
-        let n = candidate.n;
         let tokens = candidate.tokens();
-        let sentence = Half { tokens: &tokens[..n], known };
-        chart::fill_between(self.words, self.rules, &sentence, from, to);
+        let sentence = Half { tokens: &tokens[..candidate.n], known };
+        self.chart.fill(&sentence, from, to);
         self.fills += 1;
-        !chart::two(self.words, n)
+        !self.chart.two()
     }
 
-    /// Fill the words for the candidate's first `b` cells, all others being open.
+    /// Fill the chart for the candidate's first `b` cells, all others being open.
     fn begin(&mut self, candidate: &Candidate, b: usize) {
         let n = candidate.n;
         for (i, cell) in candidate.cells[..n].iter().enumerate() {
-            let pair = if i < b { self.pairs[usize::from(cell.terminal)] } else { self.any };
-            chart::give(self.words, n, i, pair);
+            let known = self.leaves.pairs[usize::from(cell.terminal)];
+            self.chart.give(i, if i < b { known } else { self.leaves.any });
         }
         self.hopeless(candidate, b, 0, n);
+    }
+
+    /// From a candidate on, the first with two trees. Given up, none is found.
+    fn first(&mut self, mut candidate: Candidate) -> Option<Vec<Token>> {
+        let (n, mut b) = (candidate.n, 0);
+        while self.fills < self.most_fills {
+            if self.look(&candidate, b) {
+                b = candidate.move_past(b)?;
+            } else if b == n {
+                return Some(candidate.tokens()[..n].to_vec());
+            } else {
+                b += 1;
+            }
+        }
+        None
     }
 
     /// Is none of the candidates that share the first `b` cells the first with
@@ -222,7 +243,7 @@ impl<'a> Refuter<'a> {
         }
         self.begin(candidate, b);
         if b == candidate.n {
-            return !chart::two(self.words, b);
+            return !self.chart.two();
         }
         !self.terms(candidate, b, candidate.n)
     }
@@ -234,16 +255,16 @@ impl<'a> Refuter<'a> {
         if j == b {
             return self.positions(candidate, b);
         }
-        let (i, terminals) = (j - 1, self.terminals);
-        for x in (0..64).filter(|&x| has(terminals, x)) {
+        let (i, leaves) = (j - 1, self.leaves);
+        for x in (0..64).filter(|&x| has(leaves.terminals, x)) {
             let mut turned = *candidate;
             turned.cells[i].terminal = x;
-            chart::give(self.words, candidate.n, i, self.pairs[usize::from(x)]);
+            self.chart.give(i, leaves.pairs[usize::from(x)]);
             if !self.hopeless(&turned, b, b, j) && self.terms(&turned, b, i) {
                 return true;
             }
         }
-        chart::give(self.words, candidate.n, i, self.any);
+        self.chart.give(i, leaves.any);
         false
     }
 
@@ -290,26 +311,19 @@ pub fn search(
     words: &mut [u64],
     most_fills: u64,
 ) -> Swept {
-    let mut refuter = Refuter::new(rules, terminals, words, most_fills);
+    let tables = Tables::of(rules);
+    let leaves = Leaves::of(rules, terminals, tables.empty);
     // Without terminals there are no candidates.
     let longest = if terminals == 0 { 0 } else { bound };
+    let mut fills = 0;
     for n in (1..=longest).filter(|n| lengths >> n & 1 == 1) {
-        let mut candidate = Candidate::first(terminals, n);
-        let mut b = 0;
-        while refuter.fills < most_fills {
-            if refuter.look(&candidate, b) {
-                match candidate.move_past(b) {
-                    Some(changed) => b = changed,
-                    None => break,
-                }
-            } else if b == n {
-                let found = Some(candidate.tokens()[..n].to_vec());
-                return Swept { found, fills: refuter.fills, finished: true, tried: 0 };
-            } else {
-                b += 1;
-            }
+        let chart = HalfChart::new(&tables, n, words);
+        let mut refuter = Refuter { leaves: &leaves, chart, fills, most_fills };
+        let found = refuter.first(Candidate::first(terminals, n));
+        fills = refuter.fills;
+        if found.is_some() {
+            return Swept { found, fills, finished: true, tried: 0 };
         }
     }
-    let finished = refuter.fills < most_fills;
-    Swept { found: None, fills: refuter.fills, finished, tried: 0 }
+    Swept { found: None, fills, finished: fills < most_fills, tried: 0 }
 }
