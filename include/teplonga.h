@@ -15,16 +15,16 @@
  * Calls are reentrant: they have no state of their own and may run in any threads at once, each on
  * its own lent memory. They allocate nothing, take no lock, set no errno and make no system call.
  *
- * Stack: a sweep, a share, a changed mark and the refused line need 20 KB, the test at every length
- * 70 KB, the verdict, columns and places 110 KB, trees, row counts and trees shown 360 KB, whatever they are asked. A call on a clause
- * sheet needs up to 800 KB: its readers call each other, most deeply in groups within groups.
- * TEPLONGA_STACK bytes are enough for any call.
+ * Stack: a changed mark and the refused line need 20 KB, a sweep, a share and the test at every
+ * length 60 KB, the verdict 110 KB, places 190 KB, columns 200 KB, trees, row counts and trees shown
+ * 360 KB, whatever they are asked. A call on a clause sheet needs up to 800 KB: its readers call each
+ * other, most deeply in groups within groups. TEPLONGA_STACK bytes are enough for any call.
  *
- * Time: a verdict takes about a millisecond on the largest sheets, its trees some milliseconds. Columns
- * of 64 tokens with 65,536 choices take a tenth of a second where what may and what must hold settles
- * them; where each choice has to be looked at, as many verdicts. The worst sweep known takes some three
- * seconds; no bound is claimed, and it cannot be interrupted, so run it in a thread or a process that
- * may be given up.
+ * Time: a verdict takes less than a millisecond on the largest sheets, its trees some milliseconds.
+ * Columns of 64 tokens with 65,536 choices take a tenth of a second where what may and what must hold
+ * settles them; where each choice has to be looked at, nearly as long as that many verdicts. The worst
+ * sweep known takes about a second; no bound is claimed, and it cannot be interrupted, so run it in a
+ * thread or a process that may be given up.
  */
 #ifndef TEPLONGA_H
 #define TEPLONGA_H

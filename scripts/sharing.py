@@ -14,8 +14,10 @@ from typing import NamedTuple
 
 from asking import TOP, Programs, Refused, Unanswered
 
-# how often a share is tried on hosts, each time on another one if there is one
+# how often a share is tried at least, each time on another host if there is one
 TRIES = 5
+# nobody is asked for a password; a host that is silent for half a minute has failed
+SSH = "ssh -o BatchMode=yes -o ConnectTimeout=10 -o ServerAliveInterval=10 -o ServerAliveCountMax=3"
 
 
 class Share(NamedTuple):
@@ -87,13 +89,17 @@ def here(name, sheet, listed, done):
 
 
 def command(hosts, room, is_terminal):
-    """GNU parallel on the hosts of a file: it copies, starts and starts again elsewhere."""
+    """GNU parallel on the hosts of a file: it copies, starts and starts again elsewhere. Where a
+    share has failed on every host, it ends.
+    """
+    tries = max(TRIES, 1 + len(hosts.read_bytes().splitlines()))
     copied = [word for name in ("calls", "sheet", "share.sh") for word in ("--basefile", name)]
     return [
         "parallel",
         "--will-cite",
-        *("--sshloginfile", hosts, "--filter-hosts", "--retries", str(TRIES)),
-        *("--workdir", f"/tmp/{room.name}-host", *copied, "--cleanup"),
+        *("--ssh", SSH, "--sshloginfile", hosts),
+        *("--retries", str(tries), "--halt", "now,fail=1"),
+        *("--workdir", f".parallel/tmp/{room.name}", *copied, "--cleanup"),
         *("--results", "reports", *(["--bar"] if is_terminal else [])),
         *("sh", "share.sh", "{}", "::::", "shares"),
     ]
@@ -120,14 +126,14 @@ def on_hosts(hosts, sheet, listed, is_terminal):
 
 
 def report(room, share):
-    """What a host answered."""
+    """What a host answered, to its end."""
     try:
         text = (room / "reports" / "1" / share.word / "stdout").read_bytes()
     except OSError:
         text = b""
-    if not text.startswith(b"answer line\n"):
+    if not text.startswith(b"answer line\n") or not text.endswith(b"\nend\n"):
         raise Unanswered(f"no host answered {share}")
-    return text
+    return text.removesuffix(b"end\n")
 
 
 def merged(programs, reports):

@@ -34,7 +34,7 @@ class Believe(unittest.TestCase):
         self.assertEqual(self.believe(LIST), (0, ""))
 
     def test_a_file_left_out_is_told(self):
-        for name in ("grammar/specs/Layout", "fields/specs/Pieces", "sheets/specs/Refusals", "text/specs/Programs"):
+        for name in ("grammar/specs/Layout", "fields/specs/Pieces", "sheets/specs/Refusals", "check_text/specs/Check"):
             line = f"crates/{name}.antt"
             self.assertIn(line, LIST)
             status, errors = self.believe(LIST.replace(line, "crates"))

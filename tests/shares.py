@@ -7,6 +7,7 @@
 import getpass
 import os
 import shutil
+import signal
 import socket
 import subprocess
 import tempfile
@@ -116,9 +117,109 @@ def missing():
     return tools + ([] if SSHD.exists() else ["sshd"])
 
 
+class Host:
+    """A host on loopback: an sshd on a port of its own, with a folder of its own as its home."""
+
+    def __init__(self, room, name):
+        self.name, self.home = name, room / name
+        self.home.mkdir()
+        # what is asked of it runs in its home, and is counted
+        (room / f"{name}.sh").write_text(
+            f'echo >>{room}/{name}.asked\ncd {self.home}\nexec sh -c "$SSH_ORIGINAL_COMMAND"\n'
+        )
+        self.asked_file = room / f"{name}.asked"
+        with socket.socket() as free:
+            free.bind(("127.0.0.1", 0))
+            self.port = free.getsockname()[1]
+        options = [
+            f"Port={self.port}",
+            "ListenAddress=127.0.0.1",
+            f"HostKey={room}/host",
+            f"AuthorizedKeysFile={room}/user.pub",
+            "StrictModes=no",
+            "UsePAM=no",
+            "PidFile=none",
+            # so that a shell reads nothing of the user's own
+            f"SetEnv=HOME={self.home}",
+            f"ForceCommand=exec sh {room}/{name}.sh",
+        ]
+        words = [word for option in options for word in ("-o", option)]
+        self.server = subprocess.Popen(
+            [SSHD, "-D", "-f", "/dev/null", *words], stderr=subprocess.DEVNULL
+        )
+
+    def config(self, room):
+        """What ssh has to know of it."""
+        return (
+            f"Host {self.name}\n HostName 127.0.0.1\n Port {self.port}\n"
+            f" User {getpass.getuser()}\n IdentityFile {room}/user\n IdentitiesOnly yes\n"
+            f" UserKnownHostsFile {room}/known\n GlobalKnownHostsFile /dev/null\n"
+            " LogLevel ERROR\n"
+        )
+
+    def known(self, key):
+        return f"[127.0.0.1]:{self.port} {key}"
+
+    def listens(self):
+        with socket.socket() as tried:
+            return tried.connect_ex(("127.0.0.1", self.port)) == 0
+
+    def asked(self):
+        """How often something was asked of it."""
+        return len(self.asked_file.read_text()) if self.asked_file.exists() else 0
+
+    def die(self):
+        end(self.server)
+
+    def fall_silent(self):
+        """It keeps its connections, and says nothing any more."""
+        told(self.server.pid, signal.SIGSTOP)
+
+
+def told(process, what):
+    """A signal to a process and to all that it started."""
+    for each in [process, *below(process)]:
+        try:
+            os.kill(each, what)
+        except ProcessLookupError:
+            pass
+
+
+def end(made):
+    """Ends a process and all that it started, at once."""
+    if made.poll() is None:
+        told(made.pid, signal.SIGKILL)
+    made.wait()
+
+
+def below(process):
+    """The processes that a process started, and those that they did."""
+    parents = {}
+    for path in Path("/proc").glob("[0-9]*/stat"):
+        try:
+            parents.setdefault(int(path.read_text().rpartition(")")[2].split()[1]), []).append(
+                int(path.parent.name)
+            )
+        except OSError:
+            pass
+    found = list(parents.get(process, []))
+    for each in found:
+        found += parents.get(each, [])
+    return found
+
+
+def awaited(is_so):
+    """Waits until something is so, for a minute at most."""
+    for _ in range(600):
+        if is_so():
+            return True
+        time.sleep(0.1)
+    return False
+
+
 @unittest.skipIf(missing(), "not all that it needs is installed")
 class Hosts(unittest.TestCase):
-    """Three hosts on loopback, each an sshd on a port of its own."""
+    """Three hosts on loopback; nothing of the machine's own ssh is read or changed."""
 
     def setUp(self):
         self.room = Path(tempfile.mkdtemp())
@@ -126,65 +227,146 @@ class Hosts(unittest.TestCase):
         for name in ("host", "user"):
             command = ["ssh-keygen", "-q", "-t", "ed25519", "-N", "", "-f", self.room / name]
             subprocess.run(command, check=True)
-        shutil.copy(self.room / "user.pub", self.room / "authorized")
-        if os.geteuid() == 0:
-            # where sshd leaves its rights behind
-            Path("/run/sshd").mkdir(exist_ok=True)
-        self.servers = [self.server(name) for name in ("one", "two", "three")]
-        lines = [f"2/ssh -F {self.room}/config {name}\n" for name in ("one", "two", "three")]
-        (self.room / "hosts").write_text("".join(lines))
+        if os.geteuid() == 0 and not (rights := Path("/run/sshd")).exists():
+            # where an sshd of root's leaves its rights behind
+            rights.mkdir()
+            self.addCleanup(rights.rmdir)
+        self.hosts = []
+        for name in ("one", "two", "three"):
+            self.hosts.append(Host(self.room, name))
+            self.addCleanup(self.hosts[-1].die)
+        key = (self.room / "host.pub").read_text()
+        (self.room / "known").write_text("".join(host.known(key) for host in self.hosts))
+        config = "".join(host.config(self.room) for host in self.hosts)
+        (self.room / "config").write_text(config)
+        (self.room / "list").write_text("".join(f"2/{host.name}\n" for host in self.hosts))
+        self.ssh()
+        for host in self.hosts:
+            self.assertTrue(awaited(host.listens), f"{host.name} does not listen")
 
-    def server(self, name):
-        with socket.socket() as free:
-            free.bind(("127.0.0.1", 0))
-            port = free.getsockname()[1]
-        options = [
-            f"Port={port}",
-            "ListenAddress=127.0.0.1",
-            f"HostKey={self.room}/host",
-            "UsePAM=no",
-            f"AuthorizedKeysFile={self.room}/authorized",
-            "StrictModes=no",
-            f"PidFile={self.room}/{name}.pid",
-        ]
-        words = [word for option in options for word in ("-o", option)]
-        made = subprocess.Popen([SSHD, "-D", "-f", "/dev/null", *words], stderr=subprocess.DEVNULL)
-        self.addCleanup(made.wait)
-        self.addCleanup(made.kill)
-        with (self.room / "config").open("a") as config:
-            config.write(
-                f"Host {name}\n HostName 127.0.0.1\n Port {port}\n User {getpass.getuser()}\n"
-                f" IdentityFile {self.room}/user\n StrictHostKeyChecking no\n"
-                f" UserKnownHostsFile {self.room}/known\n LogLevel ERROR\n"
-            )
-        for _ in range(50):
-            with socket.socket() as tried:
-                if tried.connect_ex(("127.0.0.1", port)) == 0:
-                    return made
-            time.sleep(0.1)
-        self.fail("sshd does not listen")
+    def ssh(self, *options):
+        """An ssh that knows these hosts alone, with options before those that it is given."""
+        path = self.room / "bin" / "ssh"
+        path.parent.mkdir(exist_ok=True)
+        words = [shutil.which("ssh"), "-F", f"{self.room}/config", *options]
+        path.write_text(f'#!/bin/sh\nexec {" ".join(words)} "$@"\n')
+        path.chmod(0o755)
+
+    def started(self, *words):
+        """The command, on these hosts; what GNU parallel keeps of its own goes to our folder."""
+        command = [TOP / "bin" / "teplonga", "shares", *words, "--hosts", self.room / "list"]
+        made = subprocess.Popen(
+            [str(word) for word in command],
+            stdin=subprocess.PIPE,
+            stdout=subprocess.PIPE,
+            stderr=subprocess.PIPE,
+            env={
+                **os.environ,
+                "HOME": str(self.room),
+                "PATH": f"{self.room}/bin:{os.environ['PATH']}",
+            },
+        )
+        self.addCleanup(end, made)
+        made.stdin.write(PLAIN)
+        made.stdin.close()
+        made.stdin = None
+        return made
+
+    def ended(self, made):
+        output, errors = made.communicate(timeout=240)
+        self.errors = errors.decode()
+        return made.returncode, output
+
+    def busy(self):
+        """Waits until a host has the files and begins with shares; the host."""
+        asked = {}
+
+        def begins():
+            for host in self.hosts:
+                if list(host.home.glob(".parallel/tmp/*/share.sh")):
+                    asked.setdefault(host, host.asked())
+            return [host for host in asked if host.asked() > asked[host] + 1]
+
+        self.assertTrue(awaited(begins), "no host is asked")
+        return begins()[0]
+
+    def left(self):
+        """What the hosts keep of the shares."""
+        return [path for host in self.hosts for path in host.home.glob(".parallel/tmp/*")]
 
     def test_answer(self):
-        told = ran("shares", 3, 12, "--hosts", self.room / "hosts", data=PLAIN)
-        self.assertEqual(told[:2], swept(3, PLAIN), told)
+        self.assertEqual(self.ended(self.started(3, 7)), swept(3, PLAIN), self.errors)
+        self.assertTrue(all(host.asked() for host in self.hosts))
+        self.assertEqual(self.left(), [])
+
+    def test_one_is_dead(self):
+        self.hosts[2].die()
+        self.assertEqual(self.ended(self.started(3, 3)), swept(3, PLAIN), self.errors)
 
     def test_one_dies(self):
-        words = [TOP / "bin" / "teplonga", "shares", "3", "64", "--hosts", self.room / "hosts"]
-        pipes = {"stdin": subprocess.PIPE, "stdout": subprocess.PIPE, "stderr": subprocess.PIPE}
-        with subprocess.Popen(words, **pipes) as made:
-            made.stdin.write(PLAIN)
-            made.stdin.close()
-            time.sleep(2)
-            self.servers[2].kill()
-            output = made.stdout.read()
-        self.assertEqual((made.returncode, output), swept(3, PLAIN))
+        made = self.started(3, 12)
+        self.busy().die()
+        self.assertEqual(self.ended(made), swept(3, PLAIN), self.errors)
 
-    def test_none_answers(self):
-        for server in self.servers:
-            server.kill()
-            server.wait()
-        told = ran("shares", 3, 12, "--hosts", self.room / "hosts", data=PLAIN)
-        self.assertEqual(told[:2], (3, b""), told)
+    def test_one_falls_silent(self):
+        self.ssh("-o", "ServerAliveInterval=1", "-o", "ConnectTimeout=3")
+        made = self.started(3, 7)
+        self.busy().fall_silent()
+        self.assertEqual(self.ended(made), swept(3, PLAIN), self.errors)
+
+    def test_all_are_dead(self):
+        for host in self.hosts:
+            host.die()
+        self.assertEqual(self.ended(self.started(3, 3)), (3, b""), self.errors)
+        self.assertIn("no host answered", self.errors)
+
+    def test_all_die(self):
+        made = self.started(3, 12)
+        self.busy()
+        for host in self.hosts:
+            host.die()
+        self.assertEqual(self.ended(made), (3, b""), self.errors)
+        self.assertIn("no host answered", self.errors)
+
+
+# takes the words that it is given as GNU parallel does, as far as they are looked at, and runs all
+# on one host, which is a folder here
+STAND_IN = """#!/bin/sh
+set -eu
+mkdir host
+while [ "$1" != sh ]; do
+    [ "$1" != --basefile ] || cp "$2" host
+    shift
+done
+while read -r share; do
+    mkdir -p "reports/1/$share"
+    (cd host && sh share.sh "$share") >"reports/1/$share/stdout" || exit 1
+done <shares
+"""
+
+
+class StandIn(unittest.TestCase):
+    """A stand-in for GNU parallel that runs one share after the other, here."""
+
+    def ran(self, edit=("", "")):
+        room = Path(tempfile.mkdtemp())
+        self.addCleanup(shutil.rmtree, room)
+        (room / "parallel").write_text(STAND_IN.replace(*edit))
+        (room / "parallel").chmod(0o755)
+        (room / "list").write_text("one\n")
+        command = [TOP / "bin" / "teplonga", "shares", "3", "4", "--hosts", room / "list"]
+        path = f"{room}:{os.environ['PATH']}"
+        pipes = {"input": PLAIN, "capture_output": True, "env": {**os.environ, "PATH": path}}
+        ended = subprocess.run(command, check=False, timeout=120, **pipes)
+        return ended.returncode, ended.stdout
+
+    def test_answer(self):
+        self.assertEqual(self.ran(), swept(3, PLAIN))
+
+    def test_no_answer(self):
+        run = 'sh share.sh "$share"'
+        for other in ("false", "true", f"{run} | head -n 4", f"{run} | sed '$d'"):
+            self.assertEqual(self.ran((run, other)), (3, b""), other)
 
 
 class NoEngine(unittest.TestCase):

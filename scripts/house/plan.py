@@ -14,10 +14,13 @@ PICTURE = TOP / "docs" / "pictures" / "crates.svg"
 LETTER, LINE, LEFT, WIDE = 7.3, 22, 330, 1080
 # crates whose types go through a crate that does not name them
 UNNAMED = {
-    "checks": {"answering", "grammar"},
-    "clause_text": {"grammar"},
-    "c_clauses": {"grammar"},
-    "c_columns": {"answering"},
+    "checks": {"sweep_answers", "grammar"},
+    "rights_text": {"sheets"},
+    "clause_text": {"sheets", "grammar"},
+    "c_trees": {"sheets"},
+    "c_clauses": {"sweep_answers", "grammar"},
+    "c_rights": {"sheets"},
+    "c_columns": {"sheets"},
 }
 
 
