@@ -142,7 +142,7 @@ cells-take Q n m (suc b) (c ∷ cs) k = (k .0, cells-take Q n 2 b cs (k .1))
 
 module _ (s n : ℕ) (small : s < 2 ^ 64) (few : Few s n) where
   pub room-pos : (b : ℕ) → 1 ≤ room s n b
-  room-pos b = capacity-pos (ones s) (placeIn s) n (few .some) (few .low) (largestStep b) (n - b)
+  room-pos b = capacity-pos (ones s) (placeIn s) n (few .nonempty) (few .low) (largestStep b) (n - b)
 
   whole : (b : ℕ) → b ≤ n → capacity (ones s) (placeIn s) n 0 n
       ≡ capacity (ones s) (placeIn s) n 0 b * room s n b
@@ -152,7 +152,7 @@ module _ (s n : ℕ) (small : s < 2 ^ 64) (few : Few s n) where
   pub room-small : (b : ℕ) → b ≤ n → room s n b ≤ 4294967296
   room-small b h =
       let p : 1 ≤ capacity (ones s) (placeIn s) n 0 b =
-      capacity-pos (ones s) (placeIn s) n (few .some) (few .low) 0 b in
+      capacity-pos (ones s) (placeIn s) n (few .nonempty) (few .low) 0 b in
       let q : 1 * room s n b ≤ capacity (ones s) (placeIn s) n 0 b * room s n b =
       mul-le-mul-right (room s n b) p in
       omega (arith, q, one-mul (room s n b), whole b h, few .limit)

@@ -115,12 +115,12 @@ module _ (g : Rules) (small : (x : ℕ) → Terminal g x → x < 64) where
       → ((n i : ℕ) → 1 ≤ n → n ≤ k → i < p n → Reports g n (p n) i none) → Clear g k
   shares-clear k p pos h = clear-of k
       (λ cs l u c two. let q = share-of (length cs) (p (length cs)) cs l (pos (length cs)) c in
-      h (length cs) (q .0) l u (q .1) .none cs c (q .2) (q .3) two)
+      h (length cs) (q .0) l u (q .1) .absent cs c (q .2) (q .3) two)
 
   -- the sweep is clear: all of them are
   pub clear-shares : (k : ℕ) → Clear g k → (n p i : ℕ) → 1 ≤ n → n ≤ k → Reports g n p i none
   clear-shares k c n p i l u = record {
-    none = λ ds d a b two. c .none (sentence ds) (sentence-wide 1 ds) (d .rising)
+    absent = λ ds d a b two. c .absent (sentence ds) (sentence-wide 1 ds) (d .rising)
         (omega (arith, sentence-length 1 ds, d .arranged .size))
         (omega (arith, sentence-length 1 ds, d .arranged .size)) two;
   }
@@ -140,14 +140,14 @@ module _ (g : Rules) (small : (x : ℕ) → Terminal g x → x < 64) where
             → number g n ds < firstOfShare (total g n) (p n) (suc i)
             → Reports g n (p n) i (r n i) → (es : List Cell) × (r n i ≡ some es)
             × (number g n es ≤ number g n ds)
-        at {i} none e a b x = absurd ((subst (Reports g n (p n) i) e x) .none ds d a b two)
+        at {i} none e a b x = absurd ((subst (Reports g n (p n) i) e x) .absent ds d a b two)
         at {i} (some es) e a b x = (es, e, least (decLt (number g n ds) (number g n es)))
           where
             y : Reports g n (p n) i (some es)
             y = subst (Reports g n (p n) i) e x
 
             least : Dec (number g n ds < number g n es) → number g n es ≤ number g n ds
-            least (yes l) = absurd (y .lowest .none ds d a l two)
+            least (yes l) = absurd (y .lowest .absent ds d a l two)
             least (no l) = omega arith
 
     pub shares-first : (k n i : ℕ) (cs : List Cell) → 1 ≤ n → n ≤ k → i < p n → r n i ≡ some cs
@@ -274,7 +274,7 @@ module _ (g : Rules) (small : (x : ℕ) → Terminal g x → x < 64) where
     pub shares-sweep : (k : ℕ) → (Clear g k × ((m j : ℕ) → 1 ≤ m → m ≤ k → j < p m → r m j ≡ none))
         ⊎ First k
     shares-sweep zero =
-        inl (record { none = λ w s l u t. omega arith }, λ m j l u h. absurd (omega arith))
+        inl (record { absent = λ w s l u t. omega arith }, λ m j l u h. absurd (omega arith))
     shares-sweep (suc k) = ⊎-elim longer (λ f. inr (further f)) (shares-sweep k)
       where
         further : First k → First (suc k)

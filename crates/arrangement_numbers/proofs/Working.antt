@@ -147,7 +147,7 @@ pub few-all : (s n : ℕ) → 1 ≤ n → n ≤ 7 → 1 ≤ ones s → arrangeme
 few-all s n l u h k = record {
   low = l;
   high = u;
-  some = h;
+  nonempty = h;
   limit = omega
       (arith, capacity-all (ones s) (placeIn s) n l);
 }

@@ -28,5 +28,5 @@ least s n b cs = numberIn s n (take b cs) * room s n b
 pub record Few (s n : ℕ) : Type 0 where
   pub low : 1 ≤ n
   pub high : n ≤ 7
-  pub some : 1 ≤ ones s
+  pub nonempty : 1 ≤ ones s
   pub limit : capacity (ones s) (placeIn s) n 0 n ≤ 4294967296

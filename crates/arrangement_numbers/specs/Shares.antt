@@ -20,7 +20,7 @@ total g n = arrangements (terminalCount g) n
 
 -- no arrangement with a number from lo to below hi that rises has two trees
 pub record NoneIn (g : Rules) (n lo hi : ℕ) : Type 0 where
-  pub none : (ds : List Cell) → Candidate (Terminal g) n ds → lo ≤ number g n ds
+  pub absent : (ds : List Cell) → Candidate (Terminal g) n ds → lo ≤ number g n ds
       → number g n ds < hi → TwoTrees g 0 (sentence ds) → ⊥
 
 -- cs is the one with the lowest number there that rises and has two trees

@@ -21,7 +21,7 @@ clear-sheet s g e a =
     record {
       own = m .clauses;
       are = m .own;
-      clear = record { none = λ w rise wide t. a .clear w rise wide (two-trees (m .match) w t) };
+      clear = record { absent = λ w rise wide t. a .clear w rise wide (two-trees (m .match) w t) };
     }
 
 pub clear-readings : (s : List ℕ) {words words′ list list′ : List ℕ} {r : AlwaysReply}

@@ -10,7 +10,7 @@ use Rattle.clause_sheets.specs.Own.{OwnClauses}
 -- no sequence of tokens of any length, none at all included, has two readings, whatever its
 -- terminals, lines, columns and widths
 pub record ClearAlwaysReadings (c : Clauses) : Type 0 where
-  pub none : (w : Word) → Rising w → Wide w → TwoReadings c 0 w → ⊥
+  pub absent : (w : Word) → Rising w → Wide w → TwoReadings c 0 w → ⊥
 
 -- so it is with the clauses of the sheet
 pub record ClearSheet (clauses : List ℕ) : Type 0 where

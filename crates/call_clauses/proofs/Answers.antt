@@ -96,7 +96,7 @@ module _ (g : Rules) where
 
 module _ {c : Clauses} {g : Rules} (m : OneToOne c g 0) where
   clear-readings : {k : ℕ} → Clear g k → ClearReadings c k
-  clear-readings x = record { no-two = λ w a b l h t. x .none w a b l h (two-trees m w t) }
+  clear-readings x = record { no-two = λ w a b l h t. x .absent w a b l h (two-trees m w t) }
 
   first-readings : {k : ℕ} {cs : List Cell} → FirstTwo g k cs → FirstTwoReadings c k cs
   first-readings {cs = cs} x =

@@ -180,11 +180,11 @@ module _ (g : Rules) (small : (x : ℕ) → Terminal g x → x < 64) (k : ℕ) (
           → number g n ds < firstOfShare (total g n) (p n) (suc i) → Told g n (p n) i r
           → (r .sentence .count ≡ n) × (r .number ≤ number g n ds)
       go r s a b (refused x) = absurd (t .rest ok r s .0 x)
-      go r s a b (nothing c e z) = absurd (c .none ds d a b two′)
+      go r s a b (nothing c e z) = absurd (c .absent ds d a b two′)
       go r s a b (lowest {cs = cs} c e v z w) = (z, least (decLt (number g n ds) (number g n cs)))
         where
           least : Dec (number g n ds < number g n cs) → r .number ≤ number g n ds
-          least (yes h) = absurd (c .lowest .none ds d a h two′)
+          least (yes h) = absurd (c .lowest .absent ds d a h two′)
           least (no h) = omega (arith, v)
 
   top-sweep : {m : ShareReply} → Top S m → Sweeps g k m

@@ -42,10 +42,10 @@ off h l u = ⊎-elim (λ x. omega arith) (λ x. omega arith) h
 lowest-same : (g : Rules) → ((x : ℕ) → Terminal g x → x < 64) → {n lo hi : ℕ} {cs ds : List Cell}
     → LowestIn g n lo hi cs → LowestIn g n lo hi ds → cs ≡ ds
 lowest-same g small {n} {lo} {hi} {cs} {ds} a b =
-    ⊎-elim (λ x. absurd (b .lowest .none cs (a .candidate) (a .low)
+    ⊎-elim (λ x. absurd (b .lowest .absent cs (a .candidate) (a .low)
     (number-before g small n cs ds (a .candidate) (b .candidate) (inr (same, x))) (a .two)))
     (λ o. ⊎-elim (λ q. q) (λ x. absurd
-    (a .lowest .none ds (b .candidate) (b .low)
+    (a .lowest .absent ds (b .candidate) (b .low)
     (number-before g small n ds cs (b .candidate) (a .candidate) (inr (sym same, x)))
     (b .two))) o) (before-total cs ds same)
   where
@@ -54,7 +54,7 @@ lowest-same g small {n} {lo} {hi} {cs} {ds} a b =
 
 never-both : {g : Rules} {n lo hi : ℕ} {cs : List Cell} → NoneIn g n lo hi → LowestIn g n lo hi cs
     → ⊥
-never-both {g} {n} {lo} {hi} {cs} c f = c .none cs (f .candidate) (f .low) (f .high) (f .two)
+never-both {g} {n} {lo} {hi} {cs} c f = c .absent cs (f .candidate) (f .low) (f .high) (f .two)
 
 module _ (g : Rules) (small : (x : ℕ) → Terminal g x → x < 64) (n p i : ℕ) where
   share-on : {ws a b : List ℕ} {r s : ShareReply} → ShareOn g n p i ws a r → ShareOn g n p i ws b s

@@ -25,8 +25,8 @@ use Rattle.candidates.proofs.ListOrder.{fit-candidate, candidate-fit, l
 use Rattle.candidates.proofs.ListOrder.{least-cons, last-cons, next-tail, next-head}
 
 pub room : (n i : ℕ) (c : Candidate) → 1 ≤ n → n ≤ 7 → Room n (largestStep i) (columnBefore c i)
-room n zero c h k = record { some = h; few = k; next = λ l. absurd (omega arith) }
-room n (suc i) c h k = record { some = h; few = k; next = λ l. omega arith }
+room n zero c h k = record { nonempty = h; few = k; next = λ l. absurd (omega arith) }
+room n (suc i) c h k = record { nonempty = h; few = k; next = λ l. omega arith }
 
 -- n - i at a turn
 turn : (n i : ℕ) → i < n → n - i ≡ suc (n - (i + 1))
@@ -262,7 +262,7 @@ module _ (s n b : ℕ) (c : Candidate) (k : Of.Candidate (Among s) n (cells c 0 
       → Succeeds s n b (cells c 0 n) more upto (cells r 0 n)
   raises-follows i upto {more} {r} h hi hb l e x = record {
     next = λ q. raised-follows (i - 1) upto r (omega arith) hb (last-before i h l) (x .next e);
-    none = λ q. absurd (true-not-false (sym e ∙ q));
+    absent = λ q. absurd (true-not-false (sym e ∙ q));
   }
 
   pub raises-last : (i upto : ℕ) {more : Bool} {r : Candidate} → 0 < i → i ≤ b → b ≤ n
@@ -274,4 +274,4 @@ module _ (s n b : ℕ) (c : Candidate) (k : Of.Candidate (Among s) n (cells c 0 
   pub last-succeeds : (upto : ℕ) (rs : List Cell) → LastFrom s n c b 0
       → Succeeds s n b (cells c 0 n) false upto rs
   last-succeeds upto rs l =
-      record { next = λ e. absurd (true-not-false (sym e)); none = λ e. last-ends l }
+      record { next = λ e. absurd (true-not-false (sym e)); absent = λ e. last-ends l }

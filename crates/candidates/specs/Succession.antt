@@ -38,4 +38,4 @@ pub record Ends (s n b : ℕ) (cs : List Cell) : Type 0 where
 pub record Succeeds (s n b : ℕ) (cs : List Cell) (more : Bool) (upto : ℕ) (rs : List Cell) : Type
     0 where
   pub next : more ≡ true → Follows s n b cs upto rs
-  pub none : more ≡ false → Ends s n b cs
+  pub absent : more ≡ false → Ends s n b cs

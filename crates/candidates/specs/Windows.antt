@@ -39,7 +39,7 @@ pub record LeastSpot (n m p s k : ℕ) : Type 0 where
 
 -- there is a cell after column p
 pub record Room (n m p : ℕ) : Type 0 where
-  pub some : 1 ≤ n
+  pub nonempty : 1 ≤ n
   pub few : n ≤ 7
   pub next : n ≤ p → 1 ≤ m
 

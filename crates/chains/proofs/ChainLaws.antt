@@ -91,7 +91,7 @@ entry-below g e l n = entry-as g (e .one) (e .two) (HoldsAt l) (HoldsAt (l + 1))
     same i h C m z = (λ x. omega arith, λ x. go (ℕ-discrete (rank m) (l + 1)) x)
       where
         go : Dec (rank m ≡ l + 1) → rank m ≤ l + 1 → rank m ≤ l
-        go (yes y) x = absurd (n .none i h (subst (Ranked (l + 1)) (sym z) y))
+        go (yes y) x = absurd (n .absent i h (subst (Ranked (l + 1)) (sym z) y))
         go (no y) x = omega arith
 
 -- ---- one level after the other

@@ -63,7 +63,7 @@ Ranked l (Clause.Binary C D m) = ⊥
 
 -- none of the first m rules is so
 pub record Unranked (l : ℕ) (g : Rules) (m : ℕ) : Type 0 where
-  pub none : (i : ℕ) → i < m → Ranked l (rule g i .clause) → ⊥
+  pub absent : (i : ℕ) → i < m → Ranked l (rule g i .clause) → ⊥
 
 -- the first m words of the level l are those of ups; those of the levels below are as they were
 pub record Stored (ups ws ws′ : List ℕ) (l m : ℕ) : Type 0 where

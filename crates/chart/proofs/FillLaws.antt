@@ -93,7 +93,7 @@ module _ (ws ws′ : List ℕ) (g : Rules) (h : Half) (n s len : ℕ) (k : SpanM
 
   nulls : 0 < len → (a A : ℕ) → s ≤ a → a ≤ s + len → a ≤ h .known → In (getD ws 0 0) A
       → Derives g A (part (h .word) a 0)
-  nulls z a A x y kn m = ground .parts a 0 x (omega arith) z .some A (omega arith)
+  nulls z a A x y kn m = ground .parts a 0 x (omega arith) z .derived A (omega arith)
       (subst (λ (q : ℕ). In q A) (sym (empty-first a)) m)
 
   nulls₂ : 0 < len → (a A : ℕ) → s ≤ a → a ≤ s + len → a ≤ h .known → In (getD ws 1 0) A
@@ -112,7 +112,7 @@ module _ (ws ws′ : List ℕ) (g : Rules) (h : Half) (n s len : ℕ) (k : SpanM
   closed = record {
     kept = w .kept;
     settled = record {
-      some = λ A kn m. sound kn .0 A (subst (λ (q : ℕ). In q A) (w .first) m);
+      derived = λ A kn m. sound kn .0 A (subst (λ (q : ℕ). In q A) (w .first) m);
       more = λ A kn m. sound kn .1 A (subst (λ (q : ℕ). In q A) (w .second) m);
       each = λ A i l u c. each A i l (stand-view (One ws′ n) g (byTokens h s len) (byMarks k len) s
           len A i l (tokens-marks h s len k marked) c);
@@ -209,7 +209,7 @@ module _ (ws ws′ : List ℕ) (g : Rules) (h : Half) (n s len p : ℕ) (kept : 
   pub settled-kept : Settled (One ws n) (Two ws n) g h s len
       → Settled (One ws′ n) (Two ws′ n) g h s len
   settled-kept t = record {
-    some = λ A kn m. t .some A kn (one-from s len A (omega arith) (omega arith) m);
+    derived = λ A kn m. t .derived A kn (one-from s len A (omega arith) (omega arith) m);
     more = λ A kn m. t .more A kn (two-from s len A (omega arith) (omega arith) m);
     each = λ A i l u c. one-to s len A (omega arith) (omega arith)
         (t .each A i l u (stand-by (One ws′ n) (One ws n) g (byTokens h s len) s len A i l one-from
@@ -291,7 +291,7 @@ again-empty one two r h s s′ A f g (below i l c b) =
 pub settled-empty : (ws : List ℕ) (g : Rules) (h : Half) (n a : ℕ)
     → Settled (One ws n) (Two ws n) g h 0 0 → Settled (One ws n) (Two ws n) g h a 0
 settled-empty ws g h n a t = record {
-  some = λ A kn m. t .some A (omega arith) (one a 0 A m);
+  derived = λ A kn m. t .derived A (omega arith) (one a 0 A m);
   more = λ A kn m. t .more A (omega arith) (two a 0 A m);
   each = λ A i l u c. one 0 a A (t .each A i l
       (λ e. absurd (let z : _≡_ {A = ℕ} 0 1 = e in omega arith))

@@ -27,7 +27,7 @@ yields-open h a b = record { atom = λ e x y u. tt; unary = λ m u. tt; binary =
 pub open-settled : {g : Rules} {n : ℕ} {ws : List ℕ} {to : ℕ} → Open g n ws to → (h : Half)
     → h .known ≤ to → (a b : ℕ) → to ≤ a → 0 < b → a + b ≤ n → Settled (One ws n) (Two ws n) g h a b
 open-settled {g} {n} {ws} {to} o h k a b x y f = record {
-  some = λ A kn m. absurd (omega arith);
+  derived = λ A kn m. absurd (omega arith);
   more = λ A kn m. absurd (omega arith);
   each = λ A i l u c. o .each a b A i l x (long u) f
       (stand-view (One ws n) g (byTokens h a b) anything a b A i l (yields-open h a b) c);
@@ -46,7 +46,7 @@ open-settled {g} {n} {ws} {to} o h k a b x y f = record {
 pub given-settled : (one two : Table) (g : Rules) (h : Half) (s : ℕ) → h .known ≤ s
     → Settled one two g h s 1
 given-settled one two g h s k = record {
-  some = λ A kn m. absurd (omega arith);
+  derived = λ A kn m. absurd (omega arith);
   more = λ A kn m. absurd (omega arith);
   each = λ A i l u c. absurd (let z = u refl in omega arith);
   again = λ A u c. absurd (let z = u refl in omega arith);

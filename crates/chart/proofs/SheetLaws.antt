@@ -47,7 +47,7 @@ pub exact-settled : (ws : List ℕ) (g : Rules) (h : Half) (n from : ℕ) → Di
     → h .known ≤ length (h .word) → from ≤ h .known → Exact g (h .word) n ws from
     → (a b : ℕ) → a + b ≤ from → Settled (One ws n) (Two ws n) g h a b
 exact-settled ws g h n from distinct inner low x a b fit = record {
-  some = λ A k. x .one a b A fit .0;
+  derived = λ A k. x .one a b A fit .0;
   more = λ A k. x .two a b A fit .0;
   each = λ A i l u c. x .one a b A fit .1
       (sound-stand (One ws n) g h inner a b (omega arith) one A i l c);
@@ -66,7 +66,7 @@ leaf-settled : (ws : List ℕ) (g : Rules) (h : Half) (n : ℕ) → Distinct g
     → h .known ≤ length (h .word) → Exact g (h .word) n ws 0 → (i : ℕ) → i < h .known
     → LeafAt g n ws i (tokenAt (h .word) i .terminal) → Settled (One ws n) (Two ws n) g h i 1
 leaf-settled ws g h n distinct inner x i kn l = record {
-  some = λ A k. one i 1 A (omega arith) (omega arith);
+  derived = λ A k. one i 1 A (omega arith) (omega arith);
   more = λ A k. two i 1 A (omega arith) (omega arith);
   each = λ A j m u c. may-one g w n ws i far (leaf-allows l) A
       (sound-stand (One ws n) g h inner i 1 (omega arith) one A j m c);
@@ -264,7 +264,7 @@ module _ (ws ws′ : List ℕ) (g : Rules) (h : Half) (n : ℕ) (long : length (
   pub charted : (from : ℕ) → Grown ws ws′ g h n from 0 → Charted ws ws′ g h n
   charted from f = record {
     exact = record {
-      one = λ s len A fit. (settled s len (omega arith) .some A fit, self s len A fit .0);
+      one = λ s len A fit. (settled s len (omega arith) .derived A fit, self s len A fit .0);
       two = λ s len A fit. (settled s len (omega arith) .more A fit, self s len A fit .1);
     };
     covers = record {
@@ -309,7 +309,7 @@ module _ {g : Rules} {w : Word} {n : ℕ} {ws : List ℕ} (e : length w ≡ n)
     (x : Exact g w n ws n) where
   pub reads-none : (In (firstWord ws n 0 n) 0 → ⊥) → NoTree g 0 w
   reads-none out = record {
-    none = λ t y. out
+    absent = λ t y. out
         (x .one 0 n 0 (omega arith) .1 (subst (Derives g 0) (sym (whole-part w n e))
         (record { tree = t; witness = y })));
   }
@@ -373,7 +373,7 @@ meets-given {g} {h} {n} {w = w} e v m = record {
 pub covers-none : {g : Rules} {h : Half} {n : ℕ} {ws ws′ : List ℕ} → length (h .word) ≡ n
     → Given ws ws′ n → CoversMet g h n ws′ → (In (secondWord ws′ n 0 n) 0 → ⊥) → Hopeless g h n ws
 covers-none {g} {h} {n} {ws} {ws′} e v k out = record {
-  none = λ w c d.
+  absent = λ w c d.
       let z : length w ≡ n = c .completes .long ∙ e in
       out (k .two w (meets-given e v c) 0 n 0 (omega arith)
       (subst (TwoTrees g 0) (sym (whole-part w n z)) d));
@@ -383,14 +383,14 @@ covers-none {g} {h} {n} {ws} {ws′} e v k out = record {
 pub settles : {g : Rules} {h : Half} {n : ℕ} {ws ws′ : List ℕ} {b : Bool} → length (h .word) ≡ n
     → Charted ws ws′ g h n → Says b (In (secondWord ws′ n 0 n) 0) → Settles (not b) g h n ws ws′
 settles {g} {h} {n} {ws′ = ws′} {b = true} e c s = record {
-  none = λ q. absurd (true-not-false (sym q));
+  absent = λ q. absurd (true-not-false (sym q));
   right = c .exact;
   given = c .given;
   beyond = c .beyond;
   past = c .past;
 }
 settles {b = false} e c s = record {
-  none = λ q. covers-none e (c .given) (c .covers) (s .isnt refl);
+  absent = λ q. covers-none e (c .given) (c .covers) (s .isnt refl);
   right = c .exact;
   given = c .given;
   beyond = c .beyond;

@@ -70,11 +70,11 @@ pub record Judged (r : Verdict) (g : Rules) (w : Word) (n : ℕ) (ws ws′ : Lis
 
 -- no word that meets h by the words ws has two trees
 pub record Hopeless (g : Rules) (h : Half) (n : ℕ) (ws : List ℕ) : Type 0 where
-  pub none : (w : Word) → Meets g h n ws w → TwoTrees g 0 w → ⊥
+  pub absent : (w : Word) → Meets g h n ws w → TwoTrees g 0 w → ⊥
 
 -- true: no word that meets h has two trees
 pub record Settles (r : Bool) (g : Rules) (h : Half) (n : ℕ) (ws ws′ : List ℕ) : Type 0 where
-  pub none : r ≡ true → Hopeless g h n ws
+  pub absent : r ≡ true → Hopeless g h n ws
   pub right : Exact g (h .word) n ws′ (h .known)
   pub given : Given ws ws′ n
   pub beyond : Open g n ws′ (h .known)

@@ -13,29 +13,29 @@ use Rattle.choices.specs.RuleLists.{FirstOf, Firsts, Nexts}
 -- none of the rules from `from` to below i is one of A
 pub record NoneTo (g : Rules) (A from i : ℕ) : Type 0 where
   pub low : from ≤ i
-  pub none : (j : ℕ) → from ≤ j → j < i → rule g j .left ≡ A → ⊥
+  pub absent : (j : ℕ) → from ≤ j → j < i → rule g j .left ≡ A → ⊥
 
 pub none-first : (g : Rules) (A from : ℕ) → NoneTo g A from from
-none-first g A from = record { low = omega arith; none = λ j a b e. omega arith }
+none-first g A from = record { low = omega arith; absent = λ j a b e. omega arith }
 
 pub none-more : {g : Rules} {A from i : ℕ} → NoneTo g A from i → (rule g i .left ≡ A → ⊥)
     → NoneTo g A from (i + 1)
 none-more {g} {A} {from} {i} x y =
-    record { low = omega (arith, x .low); none = λ j a b e. go j a b e (ℕ-discrete j i) }
+    record { low = omega (arith, x .low); absent = λ j a b e. go j a b e (ℕ-discrete j i) }
   where
     go : (j : ℕ) → from ≤ j → j < i + 1 → rule g j .left ≡ A → Dec (j ≡ i) → ⊥
     go j a b e (yes z) = y (ap (λ (q : ℕ). rule g q .left) (sym z) ∙ e)
-    go j a b e (no z) = x .none j a (omega arith) e
+    go j a b e (no z) = x .absent j a (omega arith) e
 
 pub none-found : {g : Rules} {A from i : ℕ} → NoneTo g A from i → rule g i .left ≡ A
     → FirstOf g A from i
-none-found x e = record { low = x .low; skips = λ j a b c. x .none j a b; is = λ h. e }
+none-found x e = record { low = x .low; skips = λ j a b c. x .absent j a b; is = λ h. e }
 
 pub none-end : {g : Rules} {A from i : ℕ} (r : ℕ) → NoneTo g A from i → length g ≤ i → i ≤ r
     → FirstOf g A from r
 none-end r x h k = record {
   low = omega (arith, x .low);
-  skips = λ j a b c. x .none j a
+  skips = λ j a b c. x .absent j a
       (omega arith);
   is = λ l. absurd (omega arith);
 }

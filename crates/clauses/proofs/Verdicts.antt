@@ -9,10 +9,10 @@ use Rattle.clauses.specs.Matching.{OneToOne}
 
 module _ {c : Clauses} {g : Rules} {L : ℕ} (o : OneToOne c g L) (w : Word) where
   pub no-reading : NoTree g L w → NoReading c L w
-  no-reading n r k = n .none (o .tree r) (o .sound w r k)
+  no-reading n r k = n .absent (o .tree r) (o .sound w r k)
 
   pub no-tree : NoReading c L w → NoTree g L w
-  no-tree n = record { none = λ t k. let b = o .complete w t k in n (b .0) (b .1) }
+  no-tree n = record { absent = λ t k. let b = o .complete w t k in n (b .0) (b .1) }
 
   pub one-reading : OneTree g L w → OneReading c L w
   one-reading n =

@@ -157,7 +157,7 @@ module _ {g : Rules} {rs : Ranges} {n : ℕ} {ws₁ ws₂ : List ℕ} (distinct 
     where
       go : (u : Bool) → Says u (In (firstWord ws₂ n 0 n) 0) → not u ≡ true
       go true c = let t = one-must (y .word) (y .chosen) (c .is refl) in
-          absurd (y .verdict .none (t .tree) (t .witness))
+          absurd (y .verdict .absent (t .tree) (t .witness))
       go false c = refl
   foreseen {p} {q} {u} {z} a b c d Verdict.One y = go p z a d
     where

@@ -17,8 +17,8 @@ pub tells-as : {X Y : Type 0} {P : X → Type 0} {Q : Y → Type 0} {r : ℕ} (f
     → CountTells P r → CountTells Q r
 tells-as f h to back inj jni t = record {
   few = t .few;
-  some = λ l. let p = t .some l in (f (p .0), to (p .0) (p .1));
-  none = λ e y q. t .none e (h y) (back y q);
+  present = λ l. let p = t .present l in (f (p .0), to (p .0) (p .1));
+  absent = λ e y q. t .absent e (h y) (back y q);
   more = λ l.
       let p = t .more l in (
         f (p .0),
@@ -39,8 +39,8 @@ tells-same to back = tells-as (λ x. x) (λ x. x) to back (λ x y p q e. e) (λ 
 pub tells-none : {X : Type 0} {P : X → Type 0} → ((x : X) → P x → ⊥) → CountTells P 0
 tells-none f = record {
   few = omega arith;
-  some = λ l. absurd (omega arith);
-  none = λ e. f;
+  present = λ l. absurd (omega arith);
+  absent = λ e. f;
   more = λ l. absurd (omega arith);
   once = λ l x y p q. absurd (f x p);
 }
@@ -50,8 +50,8 @@ pub tells-one : {X : Type 0} {P : X → Type 0} (x : X) → P x → ((y z : X) �
     → CountTells P 1
 tells-one x p f = record {
   few = omega arith;
-  some = λ l. (x, p);
-  none = λ e. absurd (omega arith);
+  present = λ l. (x, p);
+  absent = λ e. absurd (omega arith);
   more = λ l. absurd (omega arith);
   once = λ l. f;
 }
@@ -60,8 +60,8 @@ tells-one x p f = record {
 tells-two : {X : Type 0} {P : X → Type 0} (x y : X) → P x → P y → (x ≡ y → ⊥) → CountTells P 2
 tells-two x y p q n = record {
   few = omega arith;
-  some = λ l. (x, p);
-  none = λ e. absurd (omega arith);
+  present = λ l. (x, p);
+  absent = λ e. absurd (omega arith);
   more = λ l. (x, y, p, q, n);
   once = λ l. absurd (omega arith);
 }
@@ -107,16 +107,16 @@ module _ {X : Type 0} {P Q : X → Type 0} (a b r : ℕ) (part : (x : X) → P x
           back (no k) = absurd (omega (arith, s .less (omega arith)))
 
   either : (0 < a) ⊎ (0 < b) → (x : X) × (P x ⊎ Q x)
-  either (inl h) = let p = t .some h in (p .0, inl (p .1))
-  either (inr h) = let p = u .some h in (p .0, inr (p .1))
+  either (inl h) = let p = t .present h in (p .0, inl (p .1))
+  either (inr h) = let p = u .present h in (p .0, inr (p .1))
 
   twice : (1 < a) ⊎ ((1 < b) ⊎ ((0 < a) × (0 < b)))
       → (x : X) × (y : X) × (P x ⊎ Q x) × (P y ⊎ Q y) × (x ≡ y → ⊥)
   twice (inl h) = let p = t .more h in (p .0, p .1, inl (p .2), inl (p .3), p .4)
   twice (inr (inl h)) = let p = u .more h in (p .0, p .1, inr (p .2), inr (p .3), p .4)
   twice (inr (inr h)) =
-      let p = t .some (h .0) in
-      let q = u .some (h .1) in (
+      let p = t .present (h .0) in
+      let q = u .present (h .1) in (
         p .0,
         q .0,
         inl (p .1),
@@ -133,14 +133,14 @@ module _ {X : Type 0} {P Q : X → Type 0} (a b r : ℕ) (part : (x : X) → P x
     where
       go : Dec (0 < a) → 0 < a
       go (yes h) = h
-      go (no h) = absurd (t .none (let e : a ≡ 0 = omega arith in e) x p)
+      go (no h) = absurd (t .absent (let e : a ≡ 0 = omega arith in e) x p)
 
   least-b : (x : X) → Q x → 0 < b
   least-b x q = go (decLt 0 b)
     where
       go : Dec (0 < b) → 0 < b
       go (yes h) = h
-      go (no h) = absurd (u .none (let e : b ≡ 0 = omega arith in e) x q)
+      go (no h) = absurd (u .absent (let e : b ≡ 0 = omega arith in e) x q)
 
   once : r < 2 → (x y : X) → P x ⊎ Q x → P y ⊎ Q y → x ≡ y
   once l x y (inl p) (inl q) = t .once (small l .0) x y p q
@@ -149,14 +149,14 @@ module _ {X : Type 0} {P Q : X → Type 0} (a b r : ℕ) (part : (x : X) → P x
   once l x y (inr p) (inl q) = absurd (omega (arith, small l .2, least-a y q, least-b x p))
 
   none : r ≡ 0 → (x : X) → P x ⊎ Q x → ⊥
-  none e x (inl p) = t .none (nothing e .0) x p
-  none e x (inr q) = u .none (nothing e .1) x q
+  none e x (inl p) = t .absent (nothing e .0) x p
+  none e x (inr q) = u .absent (nothing e .1) x q
 
   pub tells-sum : CountTells (λ (x : X). P x ⊎ Q x) r
   tells-sum = record {
     few = plus-few s;
-    some = λ l. either (pos l);
-    none = none;
+    present = λ l. either (pos l);
+    absent = none;
     more = λ l. twice (large l);
     once = once;
   }

@@ -6,8 +6,8 @@ use Rattle.sets.specs.Insertion.{insert}
 -- r says whether P holds of none, of one, or of two or more
 pub record CountTells {X : Type 0} (P : X → Type 0) (r : ℕ) : Type 0 where
   pub few : r ≤ 2
-  pub some : 0 < r → (x : X) × P x
-  pub none : r ≡ 0 → (x : X) → P x → ⊥
+  pub present : 0 < r → (x : X) × P x
+  pub absent : r ≡ 0 → (x : X) → P x → ⊥
   pub more : 1 < r → (x : X) × (y : X) × P x × P y × (x ≡ y → ⊥)
   pub once : r < 2 → (x y : X) → P x → P y → x ≡ y
 

@@ -129,5 +129,5 @@ module _ {X : Frame → ℕ → ℕ → Type 0} {f : Frame} {k : ℕ} (e : f ≡
       (λ p q d.
       record {
         ranked = subst (λ (h : Frame). Ranked (rankOf h)) e r;
-        some = subst (λ (h : Frame). X h p q) e d;
-      }) (λ p q d. subst (λ (h : Frame). X h p q) (sym e) (d .some))
+        holds = subst (λ (h : Frame). X h p q) e d;
+      }) (λ p q d. subst (λ (h : Frame). X h p q) (sym e) (d .holds))

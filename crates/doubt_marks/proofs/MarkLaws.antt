@@ -63,7 +63,7 @@ module _ {g : Rules} {ns t : List ℕ} (made : NodesMade g ns) (so : SoundTable 
     own-may i l b =
         ⊎-elim (λ z. absurd (none-set {q = 0} blank l (omega arith) z))
         (λ d.
-        let s = d .is .some .is in
+        let s = d .is .holds .is in
         record {
           number = d .place;
           may = subst (λ (n : ℕ). MayOver ns t (spanFrame (d .place)) n n) (sym (s .row)) (s .may);
@@ -89,7 +89,7 @@ module _ {g : Rules} {ns t : List ℕ} (made : NodesMade g ns) (so : SoundTable 
           is =
               record {
                 ranked = s .ranked;
-                some =
+                holds =
                     record {
                       place = shapeNumber (x .shape);
                       low = shape-low (x .shape) (place₁ made closed low (o .may));
@@ -113,8 +113,8 @@ module _ {g : Rules} {ns t : List ℕ} (made : NodesMade g ns) (so : SoundTable 
         (pairs : Grows (PairsFound ns t seen) old marks) where
       together : (p q : ℕ) → PairsFound ns t seen p q → Together g p q
       together p q d =
-          let row = d .is .some in
-          let pair = row .is .some in
+          let row = d .is .holds in
+          let pair = row .is .holds in
           let e = pair .is in
           let m = e .may in
           let a = made .nodes .only (row .place) (row .low) (m .there₁) in
@@ -157,7 +157,7 @@ module _ {g : Rules} {ns t : List ℕ} (made : NodesMade g ns) (so : SoundTable 
             is =
                 record {
                   ranked = s .ranked;
-                  some =
+                  holds =
                       record {
                         place = shapeNumber (n .x .shape);
                         low = shape-low (n .x .shape) (place₁ made closed low m);
@@ -168,7 +168,7 @@ module _ {g : Rules} {ns t : List ℕ} (made : NodesMade g ns) (so : SoundTable 
                                   (subst (SeenBy ns own)
                                   (sym (sort-of made closed low m ∙ n .sort₁))
                                   (seen-all (z .seen)));
-                              some =
+                              holds =
                                   record {
                                     place = shapeNumber (n .y .shape);
                                     low = shape-low (n .y .shape) (place₂ made closed low m);

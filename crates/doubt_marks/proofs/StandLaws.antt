@@ -305,8 +305,8 @@ cut-in {k = k} {i} {m} {j} l p = by (decLt k 2)
 span : (f : Frame) {kx ky : ℕ} → Ranked (rankOf f) → Suits f kx ky → f .start ≡ f .begin
     → f .stop ≡ f .end → Span f
 span f r s e d =
-    let p = cut-in (s .some₁) (s .placed₁) in
-    let q = cut-in (s .some₂) (s .placed₂) in
+    let p = cut-in (s .nonempty₁) (s .placed₁) in
+    let q = cut-in (s .nonempty₂) (s .placed₂) in
     let a : f .start ≡ 0 =
     sym (r .rank (at start₁))
     ∙ rw (
@@ -314,14 +314,14 @@ span f r s e d =
       le-ltb (f .cut) (f .start) (p .0),
       le-ltb (f .begin) (f .start) (omega arith),
       le-ltb (f .split) (f .start) (omega arith),
-      le-ltb (f .stop) (f .start) (omega (arith, s .some₁)),
+      le-ltb (f .stop) (f .start) (omega (arith, s .nonempty₁)),
       le-ltb (f .end) (f .start)
-          (omega (arith, s .some₁)),
+          (omega (arith, s .nonempty₁)),
     ) refl in
     let b : f .stop ≡ 4 =
     sym (r .rank stop₁)
     ∙ rw (
-      lt-ltb (f .start) (f .stop) (s .some₁),
+      lt-ltb (f .start) (f .stop) (s .nonempty₁),
       lt-ltb (f .cut) (f .stop) (p .1),
       lt-ltb (f .begin) (f .stop) (s .behind),
       lt-ltb (f .split) (f .stop) (omega arith),

@@ -29,7 +29,7 @@ pub record SelfOver (ns t : List ℕ) (f : Frame) (i p q : ℕ) : Type 0 where
 -- over the frame with the number k, if its points are numbered by rank
 pub record ByFrame (X : Frame → ℕ → ℕ → Type 0) (k p q : ℕ) : Type 0 where
   pub ranked : Ranked (rankOf (spanFrame k))
-  pub some : X (spanFrame k) p q
+  pub holds : X (spanFrame k) p q
 
 abbrev pub SelfBy : List ℕ → List ℕ → ℕ → ℕ → ℕ → Type 0
 SelfBy ns t = ByFrame (λ f. Upto 384 (SelfOver ns t f))
@@ -72,7 +72,7 @@ pub record PairOver (ns t : List ℕ) (f : Frame) (i j p q : ℕ) : Type 0 where
 -- i is a shape of a nonterminal of s
 pub record RowOver (ns t : List ℕ) (s : ℕ) (f : Frame) (i p q : ℕ) : Type 0 where
   pub seen : In s (nodeAt ns i .sort)
-  pub some : Upto 384 (PairOver ns t f i) p q
+  pub holds : Upto 384 (PairOver ns t f i) p q
 
 abbrev pub PairsBy : List ℕ → List ℕ → ℕ → ℕ → ℕ → ℕ → Type 0
 PairsBy ns t s = ByFrame (λ f. Upto 384 (RowOver ns t s f))

@@ -171,7 +171,7 @@ module _ (ws : List ℕ) (g : Rules) (n s len : ℕ) (k : SpanMarks) (p : Pair) 
       within = c .stand .within;
       left = c .stand .left;
       fits = part-fits
-          l (c .some) (c .rest) (rule g i .clause) (c .stand .fits);
+          l (c .nonempty) (c .rest) (rule g i .clause) (c .stand .fits);
     }
 
     real-one : (A i l : ℕ) → Real A i l → Truth s len A
@@ -194,7 +194,7 @@ module _ (ws : List ℕ) (g : Rules) (n s len : ℕ) (k : SpanMarks) (p : Pair) 
     more-true A (two-choices i l j m x y d) =
         real-two A (apart i l j m (part-real A i l x) (part-real A j m y) d)
     more-true A (one-doubled i l x b) = real-two A
-        (below i l (part-real A i l x) (part-below l (x .some) (x .rest) (rule g i .clause)
+        (below i l (part-real A i l x) (part-below l (x .nonempty) (x .rest) (rule g i .clause)
         (x .stand .fits) b))
 
     pub doubles-true : {A : ℕ} → Doubles links (In (p .one)) (In (p .two)) A → Truth₂ s len A
@@ -204,7 +204,7 @@ module _ (ws : List ℕ) (g : Rules) (n s len : ℕ) (k : SpanMarks) (p : Pair) 
         let q = sp .one A .0 m in
         real-two A (apart (q .rule) (q .cut) i (leftOf l len)
         (part-real A (q .rule) (q .cut) (q .stands)) (wide-real A i l B x (follows-true f))
-        (λ e. left-edge len (q .cut) l (q .stands .some) (q .stands .rest) (e .1)))
+        (λ e. left-edge len (q .cut) l (q .stands .nonempty) (q .stands .rest) (e .1)))
     doubles-true {A} (both-links i l B j m C x f y e d) =
         real-two A (apart i (leftOf l len) j (leftOf m len) (wide-real A i l B x (follows-true f))
         (wide-real A j m C y (follows-true e))
@@ -273,7 +273,7 @@ module _ (ws : List ℕ) (g : Rules) (n s len : ℕ) (k : SpanMarks) (p : Pair) 
     parted : (A i l : ℕ) → Stand (One ws′ n) g (byMarks k len) s len A i l → 0 < l → l < len
         → Parted ws n s len k g A i l
     parted A i l c x y = record {
-      some = x;
+      nonempty = x;
       rest = y;
       stand = record {
         within = c .within;
@@ -394,7 +394,7 @@ module _ (ws : List ℕ) (g : Rules) (n s len : ℕ) (k : SpanMarks) (p : Pair) 
       where
         go : Kind A i l → Doubles links (In (p .one)) (In (p .two)) A
         go (inner q) = both-parts (sp .two A .1
-            (one-doubled i l q (parted-below l (q .some) (q .rest) (rule g i .clause) (c .fits) b)))
+            (one-doubled i l q (parted-below l (q .nonempty) (q .rest) (rule g i .clause) (c .fits) b)))
         go (edge v) =
             ⊎-elim (λ z. link-below i (v .side) (v .over) (linked A i l c v) (follows i v)
             (cl .two (v .over) .0 z)) (λ z. link-beside i (v .side) (v .over) (linked A i l c v)
@@ -408,7 +408,7 @@ pub closure-settled : (ws : List ℕ) (g : Rules) (h : Half) (n s len : ℕ) (k 
     → WrotePair ws ws′ (pairAt n s len) (t .one) (t .two)
     → Settled (One ws′ n) (Two ws′ n) g h s len
 closure-settled ws g h n s len k p distinct known fit long marked ground sp ws′ t cl w = record {
-  some = λ A kn m. follows-true ws g n s len k p fit long sp h distinct known kn under (sound kn)
+  derived = λ A kn m. follows-true ws g n s len k p fit long sp h distinct known kn under (sound kn)
       (sound₂ kn) (cl .one A .0 (subst (λ (x : ℕ). In x A) (w .first) m));
   more = λ A kn m. doubles-true ws g n s len k p fit long sp h distinct known kn under (sound kn)
       (sound₂ kn) (cl .two A .0 (subst (λ (x : ℕ). In x A) (w .second) m));
@@ -426,7 +426,7 @@ closure-settled ws g h n s len k p distinct known fit long marked ground sp ws�
 
     sound : s + len ≤ h .known → (a b A : ℕ) → s ≤ a → a + b ≤ s + len → b < len → One ws n a b A
         → Derives g A (part (h .word) a b)
-    sound kn a b A x y z m = ground .parts a b x y z .some A (omega arith) m
+    sound kn a b A x y z m = ground .parts a b x y z .derived A (omega arith) m
 
     sound₂ : s + len ≤ h .known → (a b A : ℕ) → s ≤ a → a + b ≤ s + len → b < len → Two ws n a b A
         → TwoTrees g A (part (h .word) a b)

@@ -301,4 +301,4 @@ module _ {g : Rules} where
 
       go : Dec (Derives g A w) → NoTree g A w ⊎ (OneTree g A w ⊎ TwoTrees g A w)
       go (yes x) = let f = first-of-derives x in at f (fork (f .0) (f .1 .first))
-      go (no k) = inl (record { none = λ t x. k (record { tree = t; witness = x }) })
+      go (no k) = inl (record { absent = λ t x. k (record { tree = t; witness = x }) })

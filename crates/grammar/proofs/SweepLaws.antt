@@ -92,7 +92,7 @@ module _ {g : Rules} where
   -- demand 3: where no candidate of 1 to k tokens has two trees, no rising sequence has
   pub clear-of : (k : ℕ) → ((cs : List Cell) → 1 ≤ length cs → length cs ≤ k
       → Candidate (Terminal g) (length cs) cs → TwoTrees g 0 (sentence cs) → ⊥) → Clear g k
-  clear-of k none = record { none = λ w s r l u two. go w (normal g 0 w l s r two) l u }
+  clear-of k none = record { absent = λ w s r l u two. go w (normal g 0 w l s r two) l u }
     where
       go : (w : Word) → Normal g 0 (length w) → 1 ≤ length w → length w ≤ k → ⊥
       go w n l u =
@@ -113,7 +113,7 @@ module _ {g : Rules} where
   never-both : {k : ℕ} {cs : List Cell} → FirstTwo g k cs → Clear g k → ⊥
   never-both {k} {cs} f c =
       let e = sentence-length 1 cs in
-      c .none (sentence cs) (sentence-wide 1 cs) (f .candidate .rising) (omega (arith, f .low))
+      c .absent (sentence cs) (sentence-wide 1 cs) (f .candidate .rising) (omega (arith, f .low))
       (omega (arith, f .high)) (f .two)
 
 -- a sweep has only one answer
@@ -128,4 +128,4 @@ answer-unique g k (found cs) (found ds) x y = ap found (first-same x y)
 pub clear-of-widths : {g : Rules} {k : ℕ} → Clear g k
     → (w : Word) → Every (λ t. 1 ≤ width t) w → Rising w → 1 ≤ length w → length w ≤ k
     → TwoTrees g 0 w → ⊥
-clear-of-widths c w widths rising low high two = c .none w widths rising low high two
+clear-of-widths c w widths rising low high two = c .absent w widths rising low high two

@@ -6,10 +6,10 @@ use Rattle.grammar.specs.Trees.{Rules, NoTree, OneTree, TwoTrees}
 
 module _ {g : Rules} {A : ℕ} {w : Word} where
   pub none-not-one : NoTree g A w → OneTree g A w → ⊥
-  none-not-one n o = n .none (o .tree) (o .witness)
+  none-not-one n o = n .absent (o .tree) (o .witness)
 
   pub none-not-two : NoTree g A w → TwoTrees g A w → ⊥
-  none-not-two n t = n .none (t .first) (t .witness₁)
+  none-not-two n t = n .absent (t .first) (t .witness₁)
 
   pub one-not-two : OneTree g A w → TwoTrees g A w → ⊥
   one-not-two o t =

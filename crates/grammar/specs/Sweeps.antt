@@ -15,7 +15,7 @@ use Rattle.grammar.specs.Candidates.{Rising, Wide, sentence, Terminal, C
 -- clear: no sequence of 1 to k tokens has two trees, whatever its terminals, lines, columns and
 -- widths
 pub record Clear (g : Rules) (k : ℕ) : Type 0 where
-  pub none : (w : Word) → Wide w → Rising w → 1 ≤ length w → length w ≤ k → TwoTrees g 0 w → ⊥
+  pub absent : (w : Word) → Wide w → Rising w → 1 ≤ length w → length w ≤ k → TwoTrees g 0 w → ⊥
 
 -- two: cs is the first candidate of length 1 to k that has two trees
 pub record FirstTwo (g : Rules) (k : ℕ) (cs : List Cell) : Type 0 where

@@ -81,7 +81,7 @@ pub record Derives (g : Rules) (A : ℕ) (w : Word) : Type 0 where
 
 -- none: A has no valid tree over w
 pub record NoTree (g : Rules) (A : ℕ) (w : Word) : Type 0 where
-  pub none : (t : Tree) → Witness g A w t → ⊥
+  pub absent : (t : Tree) → Witness g A w t → ⊥
 
 -- one: A has just one
 pub record OneTree (g : Rules) (A : ℕ) (w : Word) : Type 0 where

@@ -111,7 +111,7 @@ module _ {g : Rules} {ns ps : ℕ} (x : Exactly ns (Nullable g)) (y : Exactly ps
     pub shaped-none : ((l : UnaryMark) → Inherits g (r .left) l → ⊥)
         → ShapedAs g (shapeBy k p) (record { sort = r .left; looks = Looks.Nothing })
     shaped-none n =
-        record { small = small; says = λ f x. none (r .left) f (x .form); none = λ e. none }
+        record { small = small; says = λ f x. none (r .left) f (x .form); absent = λ e. none }
       where
         none : (A : ℕ) (f : Form) → HasForm g A (shapeBy k p) f → ⊥
         none A f h =
@@ -127,7 +127,7 @@ module _ {g : Rules} {ns ps : ℕ} (x : Exactly ns (Nullable g)) (y : Exactly ps
         record {
           small = small;
           says = says looks s;
-          none = λ e. none (subst (λ (z : Looks). SaysForm z (FormBy k ns ps l (r .clause))) e s);
+          absent = λ e. none (subst (λ (z : Looks). SaysForm z (FormBy k ns ps l (r .clause))) e s);
         }
       where
         like : (f : Form) → FormBy k ns ps l (r .clause) f → LooksLike g (r .left) (shapeBy k p) f

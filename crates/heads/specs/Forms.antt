@@ -69,4 +69,4 @@ pub record LooksLike (g : Rules) (A : ℕ) (s : Shape) (f : Form) : Type 0 where
 pub record ShapedAs (g : Rules) (s : Shape) (r : Shaped) : Type 0 where
   pub small : r .sort < 64
   pub says : SaysForm (r .looks) (LooksLike g (r .sort) s)
-  pub none : r .looks ≡ Looks.Nothing → (A : ℕ) (f : Form) → HasForm g A s f → ⊥
+  pub absent : r .looks ≡ Looks.Nothing → (A : ℕ) (f : Form) → HasForm g A s f → ⊥

@@ -20,7 +20,7 @@ use Rattle.grammar.specs.SpanSheet.{pairAt}
 use Rattle.spans.proofs.Places.{pairAt-below, pairAt-empty, pairAt-shorter, pairs-few}
 use Rattle.marks.specs.declared.SpanMarks.{SpanMarks}
 use Rattle.tables.specs.Tables.{Leave, byMarks, rule}
-use Rattle.heights.specs.Tall.{none, table, Tall, Measured, Lowest, Over, Room}
+use Rattle.heights.specs.Tall.{noHeight, table, Tall, Measured, Lowest, Over, Room}
 use Rattle.heights.specs.Falls.{Lowered, Idle, Falls, stays, put, rowSum, sum, Passed}
 use Rattle.heights.specs.Falls.{Between, Inner, Ends, AllEnds, Either, Stopped, Shut}
 use Rattle.heights.proofs.TallLaws.{tall-down, tall-le, tall-inner}
@@ -311,7 +311,7 @@ module _ {hs : ℕ → ℕ → ℕ → ℕ} {v : Leave} {s len : ℕ} (c : Claus
   lowest-more from to {a} {b} f x m =
       record { is = λ h. is h (decLt a b); low = λ l h y z t. low l h y z t (decLt l to) }
     where
-      is : min a b < none → Dec (a < b)
+      is : min a b < noHeight → Dec (a < b)
           → (l : ℕ) × (from ≤ l) × (l < to + 1) × Tall hs v s len c l (min a b)
       is h (yes d) =
           let e : min a b ≡ a = omega arith in
@@ -381,7 +381,7 @@ module _ {v : Leave} {n start len : ℕ} {l : List ℕ} (r : Rule) (small : r .l
 
       go : (b : Bool) → fell ≡ b → Passed (r ∷ []) v n start len (Between 0 from to) l m fell
       go true e =
-          let z = y .yes e in
+          let z = y .lowered e in
           let here : m ≡ set l (2081 * r .left + pairAt n start len) h =
           z .2 ∙ ap (λ (i : ℕ). set l i h) p in
           let w = put-row l n start len (r .left) h (room .few) (room .fits) small (room .long)
@@ -397,7 +397,7 @@ module _ {v : Leave} {n start len : ℕ} {l : List ℕ} (r : Rule) (small : r .l
                 ≤ c) (sym (d .0)) (omega (arith, w .here, lowest j q c d t));
           })
       go false e =
-          let z = y .not e in
+          let z = y .kept e in
           rw (z .1) (record {
             falls = stays;
             fell = λ f. absurd (clash cc);

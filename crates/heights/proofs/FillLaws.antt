@@ -14,7 +14,7 @@ use Rattle.grammar.specs.SpanSheet.{pairAt}
 use Rattle.spans.proofs.Places.{pairAt-same, pairAt-empty}
 use Rattle.tables.specs.Tables.{rule}
 use Rattle.heights.specs.Least.{HeightSheet}
-use Rattle.heights.specs.Tall.{none, table, Tall, byWord}
+use Rattle.heights.specs.Tall.{noHeight, table, Tall, byWord}
 use Rattle.heights.specs.Falls.{Shut}
 use Rattle.heights.specs.Filled.{Done, SpanEarlier, Filled}
 use Rattle.heights.proofs.TallLaws.{tall-by, RightHeights, least-height}
@@ -30,7 +30,7 @@ row-of {l} {g} {w} {start} {len} f b =
       room = record { few = f .few; fits = b; long = f .long };
       ground = f .ground;
       less = λ a c B q r h. omega (arith, f .done a c q (inl r) .small B h);
-      small = small-none none (64 * len) (table l (length w) start len)
+      small = small-none noHeight (64 * len) (table l (length w) start len)
           (λ B. f .fresh start len B b (λ e. ⊎-elim (λ x. omega arith) (λ x. omega (arith, x .1))
           e));
     }
@@ -97,7 +97,7 @@ filled-on {l} {m} {g} {w} {start} {len} lefts pos fit f x =
             subst₂ (Done m g w) (let e : start ≡ a = omega (arith, z .1) in e) (sym (z .0)) mine
 
     fresh : (a b B : ℕ) → a + b ≤ length w → (SpanEarlier a b (start + 1) len → ⊥)
-        → none ≤ table m (length w) a b B
+        → noHeight ≤ table m (length w) a b B
     fresh a b B h n =
         let e = rest a b B h (λ q. other q) in
         let z = f .fresh a b B h (λ d. n (⊎-elim inl (λ y. inr (y .0, omega (arith, y .1))) d)) in
@@ -190,7 +190,7 @@ filled-first {l} {m} {g} {w} lefts f x =
     done a b h (inr y) = absurd (omega (arith, y .1))
 
     fresh : (a b B : ℕ) → a + b ≤ length w → (SpanEarlier a b 0 1 → ⊥)
-        → none ≤ table m (length w) a b B
+        → noHeight ≤ table m (length w) a b B
     fresh a b B h n =
         let e = rest a b B h (λ q. let z = pairAt-same (length w) a b 0 0 h (omega arith) q in
         n (inl (omega (arith, z .0)))) in

@@ -21,7 +21,7 @@ use Rattle.marks.proofs.HalfLaws.{completes-self}
 use Rattle.tables.specs.Tables.{Leave, byMarks, rule}
 use Rattle.tables.proofs.RulePlaces.{small-at}
 use Rattle.tables.proofs.Views.{Yields, marks-tokens, tokens-marks}
-use Rattle.heights.specs.Tall.{none, table, Tall, byWord, Room}
+use Rattle.heights.specs.Tall.{noHeight, table, Tall, byWord, Room}
 use Rattle.heights.specs.Falls.{Falls, stays, put, Passed, Inner, AllEnds, Stopped, Shut}
 use Rattle.heights.specs.Filled.{Grounded}
 use Rattle.heights.proofs.TallLaws.{tall-view, tall-low, grown}
@@ -107,9 +107,9 @@ shut-by {g} {s} {len} {l} {m} {o} {r} w k n c e f lefts =
 pub record Row (l : List ℕ) (g : Rules) (w : Word) (start len : ℕ) : Type 0 where
   pub room : Room l (length w) start len
   pub ground : Grounded l g w
-  pub less : (a b B : ℕ) → a + b ≤ length w → b < len → table l (length w) a b B < none
+  pub less : (a b B : ℕ) → a + b ≤ length w → b < len → table l (length w) a b B < noHeight
       → table l (length w) a b B ≤ 64 * len
-  pub small : Small none (64 * len) (table l (length w) start len)
+  pub small : Small noHeight (64 * len) (table l (length w) start len)
 
 module _ {l : List ℕ} {g : Rules} {w : Word} {start len : ℕ} (lefts : Lefts g)
     (x : Row l g w start len) where
@@ -121,7 +121,7 @@ module _ {l : List ℕ} {g : Rules} {w : Word} {start len : ℕ} (lefts : Lefts 
 
   -- one number is lowered
   row-put : (i k h : ℕ) → i < length g
-      → Tall (table l (length w)) (byWord w start len) start len (rule g i .clause) k h → h < none
+      → Tall (table l (length w)) (byWord w start len) start len (rule g i .clause) k h → h < noHeight
       → h < table l (length w) start len (rule g i .left)
       → Row (set l (2081 * rule g i .left + pairAt (length w) start len) h) g w start len
   row-put i k h b t n d =
@@ -129,9 +129,9 @@ module _ {l : List ℕ} {g : Rules} {w : Word} {start len : ℕ} (lefts : Lefts 
         room = record { few = few; fits = fits; long = length-set l _ h ∙ x .room .long };
         ground = record { each = ground };
         less = λ a b B q r. less a b B q r;
-        small = small-put none (lefts i b) put′ (x .small)
-            (tall-low (table l (length w)) (byWord w start len) none start len
-            (64 * len + rowPlaced none (table l (length w) start len)) (x .small .each) shorter
+        small = small-put noHeight (lefts i b) put′ (x .small)
+            (tall-low (table l (length w)) (byWord w start len) noHeight start len
+            (64 * len + rowPlaced noHeight (table l (length w) start len)) (x .small .each) shorter
             (rule g i .clause) k h t n);
       }
     where
@@ -142,11 +142,11 @@ module _ {l : List ℕ} {g : Rules} {w : Word} {start len : ℕ} (lefts : Lefts 
       put′ = put-row l (length w) start len (rule g i .left) h few fits (lefts i b) (x .room .long)
           d
 
-      shorter : (a b′ B : ℕ) → a + b′ ≤ start + len → b′ < len → table l (length w) a b′ B < none
-          → table l (length w) a b′ B ≤ 64 * len + rowPlaced none (table l (length w) start len)
+      shorter : (a b′ B : ℕ) → a + b′ ≤ start + len → b′ < len → table l (length w) a b′ B < noHeight
+          → table l (length w) a b′ B ≤ 64 * len + rowPlaced noHeight (table l (length w) start len)
       shorter a b′ B u q r = omega (arith, x .less a b′ B (omega (arith, fits)) q r)
 
-      ground : (a b′ B : ℕ) → a + b′ ≤ length w → table m (length w) a b′ B < none
+      ground : (a b′ B : ℕ) → a + b′ ≤ length w → table m (length w) a b′ B < noHeight
           → (t : Tree) × Witness g B (part w a b′) t × (height t ≤ table m (length w) a b′ B)
       ground a b′ B q r = go (ℕ-discrete (pairAt (length w) a b′) (pairAt (length w) start len))
           (ℕ-discrete B (rule g i .left))
@@ -185,7 +185,7 @@ module _ {l : List ℕ} {g : Rules} {w : Word} {start len : ℕ} (lefts : Lefts 
                     (arith, u, y .2),
               )
 
-      less : (a b′ B : ℕ) → a + b′ ≤ length w → b′ < len → table m (length w) a b′ B < none
+      less : (a b′ B : ℕ) → a + b′ ≤ length w → b′ < len → table m (length w) a b′ B < noHeight
           → table m (length w) a b′ B ≤ 64 * len
       less a b′ B q r =
           let e = put-rest l (length w) start len (rule g i .left) h few fits a b′ B q

@@ -292,18 +292,18 @@ module _ {hs : Heights} {g : Rules} {w : Word} {most : ℕ} (r : RightHeights hs
       }
 
 -- what stands on numbers of the span's own row and of shorter spans is small
-pub tall-low : (hs : Heights) (v : Leave) (none s len low : ℕ)
-    → ((B : ℕ) → hs s len B < none → hs s len B ≤ low)
-    → ((s′ len′ B : ℕ) → s′ + len′ ≤ s + len → len′ < len → hs s′ len′ B < none
+pub tall-low : (hs : Heights) (v : Leave) (noHeight s len low : ℕ)
+    → ((B : ℕ) → hs s len B < noHeight → hs s len B ≤ low)
+    → ((s′ len′ B : ℕ) → s′ + len′ ≤ s + len → len′ < len → hs s′ len′ B < noHeight
     → hs s′ len′ B ≤ low)
-    → (c : Clause) (l h : ℕ) → Tall hs v s len c l h → h < none → h ≤ suc low
-tall-low hs v none s len low own less Clause.Empty l h q n = omega (arith, q .2)
-tall-low hs v none s len low own less (Clause.Atom a b) l h q n = omega (arith, q .3)
-tall-low hs v none s len low own less (Clause.Unary B m) l h q n =
+    → (c : Clause) (l h : ℕ) → Tall hs v s len c l h → h < noHeight → h ≤ suc low
+tall-low hs v noHeight s len low own less Clause.Empty l h q n = omega (arith, q .2)
+tall-low hs v noHeight s len low own less (Clause.Atom a b) l h q n = omega (arith, q .3)
+tall-low hs v noHeight s len low own less (Clause.Unary B m) l h q n =
     omega (arith, q .2, own B (omega (arith, q .2)))
-tall-low hs v none s len low own less (Clause.Binary B C m) l h q n =
+tall-low hs v noHeight s len low own less (Clause.Binary B C m) l h q n =
     let fit : l ≤ len = q .0 in
-    let two : (hs s l B < none) × (hs (s + l) (len - l) C < none) = omega (arith, q .2) in
+    let two : (hs s l B < noHeight) × (hs (s + l) (len - l) C < noHeight) = omega (arith, q .2) in
     let a = side s l B (omega arith) (two .0) (first (decLt l len)) in
     let b = side (s + l) (len - l) C (omega arith) (two .1) (rest (decLt 0 l)) in
     omega (arith, q .2)
@@ -319,7 +319,7 @@ tall-low hs v none s len low own less (Clause.Binary B C m) l h q n =
     rest (yes x) = inl (omega arith)
     rest (no x) = inr (omega arith, omega arith)
 
-    side : (s′ len′ B : ℕ) → s′ + len′ ≤ s + len → hs s′ len′ B < none
+    side : (s′ len′ B : ℕ) → s′ + len′ ≤ s + len → hs s′ len′ B < noHeight
         → (len′ < len) ⊎ ((s′ ≡ s) × (len′ ≡ len)) → hs s′ len′ B ≤ low
     side s′ len′ B w x (inl y) = less s′ len′ B w y x
     side s′ len′ B w x (inr y) =

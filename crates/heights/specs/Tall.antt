@@ -19,8 +19,8 @@ abbrev pub Heights : Type 0
 Heights = ℕ → ℕ → ℕ → ℕ
 
 -- the number that says that there is no tree
-abbrev pub none : ℕ
-none = 65535
+abbrev pub noHeight : ℕ
+noHeight = 65535
 
 abbrev pub table : List ℕ → ℕ → Heights
 table l n s len A = numberAt l n s len A
@@ -44,17 +44,17 @@ byWord w s len =
 
 -- r is how high the clause stands; `none` where it does not stand or stands on what has no height
 pub record Measured (hs : Heights) (v : Leave) (s len : ℕ) (c : Clause) (l r : ℕ) : Type 0 where
-  pub is : r < none → Tall hs v s len c l r
+  pub is : r < noHeight → Tall hs v s len c l r
   pub low : (h : ℕ) → Tall hs v s len c l h → r ≤ h
 
 -- r is how high the clause stands at least, with from `from` to below `to` tokens on its left
 pub record Lowest (hs : Heights) (v : Leave) (s len : ℕ) (c : Clause) (from to r : ℕ) : Type 0 where
-  pub is : r < none → (l : ℕ) × (from ≤ l) × (l < to) × Tall hs v s len c l r
+  pub is : r < noHeight → (l : ℕ) × (from ≤ l) × (l < to) × Tall hs v s len c l r
   pub low : (l h : ℕ) → from ≤ l → l < to → Tall hs v s len c l h → r ≤ h
 
 -- one more than the larger of a and b, where that is a height
 pub record Over (a b r : ℕ) : Type 0 where
-  pub is : r < none → r ≡ suc (max a b)
+  pub is : r < noHeight → r ≡ suc (max a b)
   pub low : r ≤ suc (max a b)
 
 -- the numbers are enough, and the span lies among n tokens

@@ -17,7 +17,7 @@ use Rattle.cuts.specs.Cuts as Cuts
 use Rattle.cuts.specs.Counts.More.{apart as two-choices, below as one-doubled}
 use Rattle.tables.specs.Tables.{One, Two, byMarks, Fits, Stand, Below, Again, rule}
 use Rattle.tables.specs.Tables.Again.{apart, below}
-use Rattle.joins.specs.Passes.{none, sidesAt, SplitFits, SplitBelow, SplitRow, row-none}
+use Rattle.joins.specs.Passes.{noTally, sidesAt, SplitFits, SplitBelow, SplitRow, row-none}
 use Rattle.joins.specs.Passes.{row-more, Splits, splits-none, splits-more}
 use Rattle.joins.specs.Passes.{LeafFits, Leaves, leaves-none, leaves-more, Inner, by-leaves}
 use Rattle.joins.specs.Passes.{by-splits, by-cuts, alone, both, WholeSide, Pass, pass-none}
@@ -65,7 +65,7 @@ module _ (ws ws′ : List ℕ) (g : Rules) (n s len : ℕ) (k : SpanMarks)
   leaves-all : len < 2 → {i : ℕ} {t : Tally} → Leaves k len g i t
       → All Held Doubled (LeafDone g len i) t
   leaves-all h leaves-none =
-      all-none Held Doubled none (LeafDone g len 0) (λ A j l d c. omega (arith, d .0))
+      all-none Held Doubled noTally (LeafDone g len 0) (λ A j l d c. omega (arith, d .0))
   leaves-all h (leaves-more {i = i} {t = t} {u = u} q w) =
       all-took Held Doubled (LeafDone g len i) (LeafDone g len (i + 1)) i 0 (rule g i .left) t u
       (λ A j l d c. ⊎-elim (λ x. inl (x, d .1))
@@ -111,7 +111,7 @@ module _ (ws ws′ : List ℕ) (g : Rules) (n s len : ℕ) (k : SpanMarks)
 
   splits-all : 2 ≤ len → {l : ℕ} {t : Tally} → l ≤ len → Splits ws n s len k g l t
       → All Held Doubled (SplitDone g len l 0) t
-  splits-all h b splits-none = all-none Held Doubled none (SplitDone g len 1 0)
+  splits-all h b splits-none = all-none Held Doubled noTally (SplitDone g len 1 0)
       (λ A j l d c. nothing (rule g j .clause) l (d .0) (d .1) (c .fits))
     where
       nothing : (c : Clause) (l : ℕ) {j : ℕ} → Inside len c l → (l < 1) ⊎ ((l ≡ 1) × (j < 0))
@@ -190,7 +190,7 @@ module _ (ws ws′ : List ℕ) (g : Rules) (n s len : ℕ) (k : SpanMarks)
 
       parted : (A j l : ℕ) → InnerDone g len j l → Held A j l → Cuts.Parted ws n s len k g A j l
       parted A j l d c = record {
-        some = above A j l d c;
+        nonempty = above A j l d c;
         rest = under A j l d c;
         stand = record {
           within = c .within;

@@ -328,8 +328,8 @@ module _ (g : Rules) (h : Half) (inner : h .known ≤ length (h .word)) (distinc
     split-truth l x y (Clause.Unary B m) q = absurd q
     split-truth l x y (Clause.Binary B C m) q = (
       omega arith,
-      ground .parts s l (omega arith) (omega arith) y .some B (omega arith) (q .0),
-      ground .parts (s + l) (len - l) (omega arith) (omega arith) (omega arith) .some C
+      ground .parts s l (omega arith) (omega arith) y .derived B (omega arith) (q .0),
+      ground .parts (s + l) (len - l) (omega arith) (omega arith) (omega arith) .derived C
           (omega arith) (q .1),
       marked .binary m l (omega arith) .0 (q .2),
     )
@@ -399,7 +399,7 @@ module _ (g : Rules) (h : Half) (inner : h .known ≤ length (h .word)) (distinc
       within = c .stand .within;
       left = c .stand .left;
       fits = cut-truth l
-          (c .some) (c .rest) (rule g j .clause) (c .stand .fits);
+          (c .nonempty) (c .rest) (rule g j .clause) (c .stand .fits);
     }
 
     cuts-from : (t : Tally) → t .seen ≡ t .one
@@ -411,7 +411,7 @@ module _ (g : Rules) (h : Half) (inner : h .known ≤ length (h .word)) (distinc
           let c = q .stands in (
             q .rule,
             q .cut,
-            cut-inside (q .cut) (c .some) (c .rest) (rule g (q .rule) .clause)
+            cut-inside (q .cut) (c .nonempty) (c .rest) (rule g (q .rule) .clause)
                 (c .stand .fits),
             real A (q .rule) (q .cut) c,
           );
@@ -426,7 +426,7 @@ module _ (g : Rules) (h : Half) (inner : h .known ≤ length (h .word)) (distinc
             → Again (Truth g h) (Truth₂ g h) g (byTokens h s len) s len A
         again A (two-choices i l j m x y d) = apart i l j m (real A i l x) (real A j m y) d
         again A (one-doubled i l x b) = below i l (real A i l x)
-            (cut-below l (x .some) (x .rest) (rule g i .clause) (x .stand .fits) b)
+            (cut-below l (x .nonempty) (x .rest) (rule g i .clause) (x .stand .fits) b)
 
     pub inner-from : (t : Tally) → Inner ws n s len k g t → Sounds (InnerDone g len) t
     inner-from t (by-leaves x q) = from-same Real HasOne HasTwo (LeafDone g len (length g))

@@ -10,7 +10,7 @@ use Rattle.sets.specs.Sets.{In}
 use Rattle.sets.proofs.Sets.{insert-same, insert-keeps, insert-only, insert-ge, in-zero}
 use Rattle.joins.specs.declared.Tally.{Tally}
 use Rattle.grammar.specs.Choices.{Same}
-use Rattle.joins.specs.Passes.{Took, fell, stood, none}
+use Rattle.joins.specs.Passes.{Took, fell, stood, noTally}
 use Rattle.sets.specs.Insertion.{insert}
 
 -- the choices (rule, left length) that are done
@@ -54,7 +54,7 @@ pub record From (st : Standing) (P Q : ℕ → Type 0) (D : Done) (t : Tally) : 
   pub two : (A : ℕ) → In (t .two) A → Q A
 
 module _ (st : Standing) (P Q : ℕ → Type 0) where
-  pub from-none : (D : Done) → From st P Q D none
+  pub from-none : (D : Done) → From st P Q D noTally
   from-none D = record {
     seen = λ A h. absurd (in-zero A h);
     one = λ A h. absurd (in-zero A h);

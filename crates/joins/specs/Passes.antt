@@ -46,8 +46,8 @@ pub data Took (fits below : Type 0) (a : ℕ) (t u : Tally) : Type 0 where
 -- ---- what stands by tokens and by shorter parts
 
 -- the tally before any rule
-abbrev pub none : Tally
-none = record { seen = 0; one = 0; two = 0 }
+abbrev pub noTally : Tally
+noTally = record { seen = 0; one = 0; two = 0 }
 
 -- a span's pair
 abbrev pub pairOf : List ℕ → ℕ → ℕ → ℕ → Pair
@@ -82,7 +82,7 @@ pub data SplitRow (p : Sides) (k : SpanMarks) (len l : ℕ) (g : Rules) (t : Tal
 
 -- all rules are tried with each left length from 1 to below l
 pub data Splits (ws : List ℕ) (n s len : ℕ) (k : SpanMarks) (g : Rules) : ℕ → Tally → Type 0 where
-  splits-none : Splits ws n s len k g 1 none
+  splits-none : Splits ws n s len k g 1 noTally
   splits-more : {l : ℕ} {t u : Tally} → Splits ws n s len k g l t
       → SplitRow (sidesAt ws n s len l) k len l g t (length g) u → Splits ws n s len k g (l + 1) u
 
@@ -95,7 +95,7 @@ LeafFits k len (Clause.Binary B C m) = ⊥
 
 -- the rules before i are tried so
 pub data Leaves (k : SpanMarks) (len : ℕ) (g : Rules) : ℕ → Tally → Type 0 where
-  leaves-none : Leaves k len g 0 none
+  leaves-none : Leaves k len g 0 noTally
   leaves-more : {i : ℕ} {t u : Tally} → Leaves k len g i t
       → Took (LeafFits k len (rule g i .clause)) ⊥ (rule g i .left) t u → Leaves k len g (i + 1) u
 

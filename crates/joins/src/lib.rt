@@ -16,7 +16,7 @@ ghost use Rattle.sets.specs.Sets.{In};
 ghost use Rattle.grammar.specs.Content.{SmallRule};
 ghost use Rattle.marks.specs.Marked.{UnaryBy};
 ghost use Rattle.joins.specs.Passes.{Doubles, Found, Took};
-ghost use Rattle.joins.specs.Passes.{none};
+ghost use Rattle.joins.specs.Passes.{noTally};
 ghost use Rattle.joins.specs.Passes.{LeafFits, Beside};
 
 // What a pass over the rules of a span has found: the nonterminals for which a rule stands, and the
@@ -93,7 +93,7 @@ fn try_join(t: Tally, a: u8, b: u8, e: u8, p: Sides) -> Tally
 
 // The tally before any rule.
 pub fn blank() -> Tally
-    ensures { λ r. ⌜ r ≡ none ⌝ }
+    ensures { λ r. ⌜ r ≡ noTally ⌝ }
 {
     Tally {
         seen: 0,

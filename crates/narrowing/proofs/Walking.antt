@@ -66,13 +66,13 @@ after-read {b} {a} {c} r k h e p q =
 pub record Seeking (rs : Ranges) (n best k : ℕ) : Type 0 where
   pub fits : k ≤ n
   pub several : best < n → range rs best .low .0 < range rs best .high .0
-  pub none : n ≤ best → (j : ℕ) → j < k → Single (range rs j)
+  pub absent : n ≤ best → (j : ℕ) → j < k → Single (range rs j)
 
 pub seeking-none : {rs : Ranges} {n : ℕ} → Seeking rs n n 0
 seeking-none = record {
   fits = omega arith;
   several = λ h. absurd (omega arith);
-  none = λ h j l.
+  absent = λ h j l.
       absurd (omega arith);
 }
 
@@ -84,19 +84,19 @@ module _ {r : RangeSentence} (p : Spread r) {best k m : ℕ} (h : k < r .count)
 
   pub seeking-skip : m < 2 → Seeking (rangesOf r) (r .count) best (k + 1)
   seeking-skip l =
-      record { fits = omega arith; several = s .several; none = λ x j y. go x j y (ℕ-discrete j k) }
+      record { fits = omega arith; several = s .several; absent = λ x j y. go x j y (ℕ-discrete j k) }
     where
       single : Single (range (rangesOf r) k)
       single = subst Single (sym apart) (omega (arith, e, ended-at p k h .ordered))
 
       go : r .count ≤ best → (j : ℕ) → j < k + 1 → Dec (j ≡ k) → Single (range (rangesOf r) j)
       go x j y (yes d) = subst (λ (i : ℕ). Single (range (rangesOf r) i)) (sym d) single
-      go x j y (no d) = s .none x j (omega arith)
+      go x j y (no d) = s .absent x j (omega arith)
 
   pub seeking-pick : {q : ℕ} → (m < 2 → ⊥) → (q ≡ k) ⊎ ((q ≡ best) × (best < r .count))
       → Seeking (rangesOf r) (r .count) q (k + 1)
   seeking-pick {q} l w =
-      record { fits = omega arith; several = λ x. go w; none = λ x. absurd (out x w) }
+      record { fits = omega arith; several = λ x. go w; absent = λ x. absurd (out x w) }
     where
       here : range (rangesOf r) k .low .0 < range (rangesOf r) k .high .0
       here = subst (λ (t : RangeToken). t .low .0 < t .high .0) (sym apart) (omega (arith, e))
@@ -116,8 +116,8 @@ pub seeking-all : {r : RangeSentence} {best k : ℕ} → Spread r → r .count �
     → Seeking (rangesOf r) (r .count) best k → Picks (rangesOf r) best
 seeking-all {r} p h s = record {
   several = λ x. s .several (omega (arith, p .whole));
-  none = λ x. record {
-    each = λ j l. s .none (omega (arith, p .whole)) j (omega (arith, p .whole));
+  absent = λ x. record {
+    each = λ j l. s .absent (omega (arith, p .whole)) j (omega (arith, p .whole));
   };
 }
 
@@ -153,7 +153,7 @@ module _ {r : RangeSentence} (p : Spread r) {to j k m : ℕ} (fit : to ≤ r .co
     several = λ x. subst (λ (t : RangeToken). t .low .0 < t .high .0) (sym here)
         (omega (arith, e));
     behind = λ x. record { each = λ i y z. b .single .each i (omega arith) z };
-    none = λ x. absurd (omega (arith, p .whole, b .fits));
+    absent = λ x. absurd (omega (arith, p .whole, b .fits));
   }
 
 pub backward-all : {r : RangeSentence} {to k : ℕ} → Spread r → k ≡ 0
@@ -162,7 +162,7 @@ backward-all p e b = record {
   before = λ x. absurd (omega (arith, p .whole));
   several = λ x. absurd (omega (arith, p .whole));
   behind = λ x. absurd (omega (arith, p .whole));
-  none = λ x. record { each = λ i y. b .single .each i (omega arith) y };
+  absent = λ x. record { each = λ i y. b .single .each i (omega arith) y };
 }
 
 -- ---- a token put into a column

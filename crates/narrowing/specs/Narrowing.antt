@@ -53,7 +53,7 @@ pub record MayRise (rs : Ranges) : Type 0 where
 -- p is a token with several columns; where there is none, it is past the last
 pub record Picks (rs : Ranges) (p : ℕ) : Type 0 where
   pub several : p < length rs → range rs p .low .0 < range rs p .high .0
-  pub none : length rs ≤ p → Singles rs
+  pub absent : length rs ≤ p → Singles rs
 
 -- p is the last token with several columns, which stands before `to`; where there is none, it is
 -- past the last
@@ -61,7 +61,7 @@ pub record PicksLast (rs : Ranges) (to p : ℕ) : Type 0 where
   pub before : p < length rs → p < to
   pub several : p < length rs → range rs p .low .0 < range rs p .high .0
   pub behind : p < length rs → SinglesFrom rs (p + 1)
-  pub none : length rs ≤ p → Singles rs
+  pub absent : length rs ≤ p → Singles rs
 
 -- r in the column x alone
 abbrev pub fixed : RangeToken → ℕ → RangeToken

@@ -83,26 +83,26 @@ kinds-all {f} {s} t =
 pub kinds-if : {c s : ℕ} → KindsOf (frameAt c) s → KindsIf c s
 kinds-if {c} {s} k =
     record {
-      none = λ e u.
+      absent = λ e u.
           in-zero (4 * u .kx + u .ky)
           (subst (λ (n : ℕ). In n (4 * u .kx + u .ky)) e
           (k .has (u .kx) (u .ky) (u .low₁) (u .low₂) (u .suits)));
-      some = λ e. k;
+      present = λ e. k;
     }
 
 pub kinds-unranked : {c : ℕ} → (Ranked (rankOf (frameAt c)) → ⊥) → KindsIf c 0
-kinds-unranked n = record { none = λ e u. n (u .ranked); some = λ e. absurd (e refl) }
+kinds-unranked n = record { absent = λ e u. n (u .ranked); present = λ e. absurd (e refl) }
 
 pub none-yet : (a : ℕ) → NoneUseful a (a + 0) false
-none-yet a = record { none = λ e c h k. absurd (omega arith) }
+none-yet a = record { absent = λ e c h k. absurd (omega arith) }
 
 pub none-more : {a : ℕ} (s : ℕ) {set : ℕ} → NoneUseful a (a + s) false → KindsIf (a + s) set
     → set ≡ 0 → NoneUseful a (a + (s + 1)) false
-none-more {a} s n k z = record { none = λ e c h l u. by c h l u (decLt c (a + s)) }
+none-more {a} s n k z = record { absent = λ e c h l u. by c h l u (decLt c (a + s)) }
   where
     by : (c : ℕ) → a ≤ c → c < a + (s + 1) → Useful c → Dec (c < a + s) → ⊥
-    by c h l u (yes q) = n .none refl c h q u
-    by c h l u (no q) = let e : c ≡ a + s = omega arith in k .none z (subst Useful e u)
+    by c h l u (yes q) = n .absent refl c h q u
+    by c h l u (no q) = let e : c ≡ a + s = omega arith in k .absent z (subst Useful e u)
 
 -- 2. an entry
 
@@ -330,7 +330,7 @@ module _ {t : List ℕ} {s : Stage} where
         where
           by : Dec (d < 36 * s .starts) → d < 36 * s .starts
           by (yes p) = p
-          by (no p) = absurd (n .none f d (omega arith) (omega arith) u)
+          by (no p) = absurd (n .absent f d (omega arith) (omega arith) u)
 
   pub starts-one : {u v : List ℕ} {r end : ℕ} → s .entries ≤ 220 → 66560 ≤ s .free → s .free ≤ 69632
       → Listing (frameAt (36 * s .starts)) t u (s .free) 4096 end

@@ -26,12 +26,12 @@ pub record KindsTo (f : Frame) (k set : ℕ) : Type 0 where
 
 -- of the frame with the number: none if it is of no use
 pub record KindsIf (c set : ℕ) : Type 0 where
-  pub none : set ≡ 0 → Useful c → ⊥
-  pub some : (set ≡ 0 → ⊥) → KindsOf (frameAt c) set
+  pub absent : set ≡ 0 → Useful c → ⊥
+  pub present : (set ≡ 0 → ⊥) → KindsOf (frameAt c) set
 
 -- no frame with a number from a on and below b is of use, if r is false
 pub record NoneUseful (a b : ℕ) (r : Bool) : Type 0 where
-  pub none : r ≡ false → (c : ℕ) → a ≤ c → c < b → Useful c → ⊥
+  pub absent : r ≡ false → (c : ℕ) → a ≤ c → c < b → Useful c → ⊥
 
 -- an entry is put behind n others, and nothing else is changed
 pub record EntryPut (old new : List ℕ) (n c set from end : ℕ) : Type 0 where

@@ -13,7 +13,7 @@ use Rattle.pair_frames.specs.Numbering.{Amid, NoneAmid, frameAt}
 pub none-of : {f : Frame} {i j : ℕ} → (Amid i (f .start) j → ⊥) → (Amid i (f .cut) j → ⊥)
     → (Amid i (f .begin) j → ⊥) → (Amid i (f .split) j → ⊥) → (Amid i (f .stop) j → ⊥)
     → (Amid i (f .end) j → ⊥) → NoneAmid f i j
-none-of {f} {i} {j} a b c d e g = record { none = by }
+none-of {f} {i} {j} a b c d e g = record { absent = by }
   where
     by : (p : Point) → i < rankOf f p → rankOf f p < j → ⊥
     by (at start₁) h k = a (record { low = h; high = k })

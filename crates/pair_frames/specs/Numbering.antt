@@ -10,7 +10,7 @@ pub record Amid (i p j : ℕ) : Type 0 where
 
 -- no point of the frame is after i and before j
 pub record NoneAmid (f : Frame) (i j : ℕ) : Type 0 where
-  pub none : (p : Point) → i < rankOf f p → rankOf f p < j → ⊥
+  pub absent : (p : Point) → i < rankOf f p → rankOf f p < j → ⊥
 
 -- the frame of a number below 46656, a digit to the base 6 for each point
 abbrev pub frameAt : ℕ → Frame

@@ -249,7 +249,7 @@ module _ {g : Grammar} (fo : Formed g) where
         before = w .before;
         slot =
             subst (SlotIs (rules g) new) n
-            (slot-by bt (z .sort) s low (z .looks) (x .says) (x .none)
+            (slot-by bt (z .sort) s low (z .looks) (x .says) (x .absent)
             (subst (SlotBy ts (z .sort) (z .looks) new) (sym n) (w .by)));
       }
 
@@ -358,9 +358,9 @@ slots-more {g} {old} {new} {i} x w = record { each = each }
 pub has-weakest : {g : Rules} {l : Levels} → LevelsOf g l → (A : ℕ) (m : UnaryMark) → Inherits g A m
     → HasWeakest g A
 has-weakest {g} {l} x A m i =
-    by (in-dec (l .none) A) (in-dec (l .offalign) A) (in-dec (l .offside) A) (in-dec (l .single) A)
+    by (in-dec (l .unmarked) A) (in-dec (l .offalign) A) (in-dec (l .offside) A) (in-dec (l .single) A)
   where
-    by : Dec (In (l .none) A) → Dec (In (l .offalign) A) → Dec (In (l .offside) A) → Dec
+    by : Dec (In (l .unmarked) A) → Dec (In (l .offalign) A) → Dec (In (l .offside) A) → Dec
         (In (l .single) A)
         → HasWeakest g A
     by (yes h) b c d = record

@@ -433,19 +433,19 @@ search-less {v = v} a e low = omega (arith, a .more e, table-most v low)
 -- 5. the words at first
 
 pub cleared-none : (t : List ℕ) → ClearedTo t t 0
-cleared-none t = record { size = refl; zero = λ i h. absurd (omega arith); past = λ i h. refl }
+cleared-none t = record { size = refl; zeros = λ i h. absurd (omega arith); past = λ i h. refl }
 
 pub cleared-more : {t u : List ℕ} (n : ℕ) → n < length u → ClearedTo t u n
     → ClearedTo t (set u n 0) (n + 1)
 cleared-more {t} {u} n h c =
     record {
       size = length-set u n 0 ∙ c .size;
-      zero = λ i k. by i k (decLt i n);
+      zeros = λ i k. by i k (decLt i n);
       past = λ i k. getD-set-other u n i 0 0 (λ e. omega arith) ∙ c .past i (omega arith);
     }
   where
     by : (i : ℕ) → i < n + 1 → Dec (i < n) → getD (set u n 0) i 0 ≡ 0
-    by i k (yes l) = getD-set-other u n i 0 0 (λ e. omega arith) ∙ c .zero i l
+    by i k (yes l) = getD-set-other u n i 0 0 (λ e. omega arith) ∙ c .zeros i l
     by i k (no l) =
         let e : n ≡ i = omega arith in
         subst (λ (m : ℕ). getD (set u n 0) m 0 ≡ 0) e (getD-set-same u n 0 0 h)
@@ -460,7 +460,7 @@ pub cleared-sound : {t u : List ℕ} {g : Rules} → ClearedTo t u searchWords �
 cleared-sound c =
     record {
       sound = λ a p h. absurd
-          (nothing a p (in-same {t = []} (record { word = λ i l. c .zero i (omega arith) }) a p h));
+          (nothing a p (in-same {t = []} (record { word = λ i l. c .zeros i (omega arith) }) a p h));
     }
 
 pub filled : {ns t u v : List ℕ} → ClearedTo t u searchWords → Searched ns u v → FilledTable ns t v

@@ -139,5 +139,5 @@ pub record Searched (ns old new : List ℕ) : Type 0 where
 -- the words that the search needs are 0, the others as they were
 pub record ClearedTo (old new : List ℕ) (n : ℕ) : Type 0 where
   pub size : length new ≡ length old
-  pub zero : (i : ℕ) → i < n → getD new i 0 ≡ 0
+  pub zeros : (i : ℕ) → i < n → getD new i 0 ≡ 0
   pub past : (i : ℕ) → n ≤ i → getD new i 0 ≡ getD old i 0

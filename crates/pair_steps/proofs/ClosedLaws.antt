@@ -221,8 +221,8 @@ module _ (g : Rules) (m : List ℕ) (level : (A : ℕ) (l : UnaryMark) → Inher
               looks₁ = under-looks (best x h .inherits) h;
               looks₂ = under-looks (best y j .inherits) j;
               even = t .fit .even;
-              some₁ = t .fit .some₁;
-              some₂ = t .fit .some₂;
+              nonempty₁ = t .fit .nonempty₁;
+              nonempty₂ = t .fit .nonempty₂;
               sits₁ =
                   sits-under g σ (x .form) start₁ cut₁ stop₁ (best x h .mark) (lower-level x h)
                   (t .fit .sits₁);

@@ -158,8 +158,8 @@ module _ (g : Rules) (m : List ℕ) (low : LowTable m) (f : Frame) (x y : Head) 
     suits : Suits f (vx .kids) (vy .kids)
     suits =
         record {
-          some₁ = is-of (f .start) (f .stop) less (told .fit .some₁);
-          some₂ = is-of (f .begin) (f .end) less (told .fit .some₂);
+          nonempty₁ = is-of (f .start) (f .stop) less (told .fit .nonempty₁);
+          nonempty₂ = is-of (f .begin) (f .end) less (told .fit .nonempty₂);
           before = is-of (f .start) (f .end) less (told .fit .meet .before);
           behind = is-of (f .begin) (f .stop) less (told .fit .meet .behind);
           placed₁ =
@@ -249,7 +249,7 @@ module _ (g : Rules) (m : List ℕ) (low : LowTable m) (f : Frame) (x y : Head) 
       where
         by : Dec (f .stop < f .split) → Dec (f .split < f .stop) → val (f .stop) < 64
         by (yes h) z =
-            in-low W (val (f .stop)) i (u (omega (arith, suits .some₁)) (suits .behind) .0 h)
+            in-low W (val (f .stop)) i (u (omega (arith, suits .nonempty₁)) (suits .behind) .0 h)
         by (no h) (yes z) = in-low W′ (val (f .stop)) i′ (v (suits .before) z .0 lt)
         by (no h) (no z) =
             let e : f .split ≡ f .stop = omega arith in
@@ -270,7 +270,7 @@ module _ (g : Rules) (m : List ℕ) (low : LowTable m) (f : Frame) (x y : Head) 
       where
         by : Dec (f .end < f .cut) → Dec (f .cut < f .end) → val (f .end) < 64
         by (yes h) z =
-            in-low W (val (f .end)) i (u (omega (arith, suits .some₂)) (suits .before) .0 h)
+            in-low W (val (f .end)) i (u (omega (arith, suits .nonempty₂)) (suits .before) .0 h)
         by (no h) (yes z) = in-low W′ (val (f .end)) i′ (v (suits .behind) z .0 lt)
         by (no h) (no z) =
             let e : f .cut ≡ f .end = omega arith in

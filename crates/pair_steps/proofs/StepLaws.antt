@@ -182,8 +182,8 @@ module _ (g : Rules) (m : List ℕ) (f : Frame) (x y : Head) (vx vy : Node) (nx 
                   three = ev .even .three;
                   token = λ p q e. ap val (is-of (rankOf f p) (rankOf f q) equal e);
                 };
-            some₁ = is-order less (f .start) (f .stop) (su .some₁);
-            some₂ = is-order less (f .begin) (f .end) (su .some₂);
+            nonempty₁ = is-order less (f .start) (f .stop) (su .nonempty₁);
+            nonempty₂ = is-order less (f .begin) (f .end) (su .nonempty₂);
             sits₁ =
                 of-parts g (setting (rankOf f) (sixOf t) (λ p. val (rankOf f p))) start₁ cut₁ stop₁
                 (x .form) parts₁;

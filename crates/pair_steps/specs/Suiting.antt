@@ -14,8 +14,8 @@ pub record Placed (f : Frame) (kids i m j : ℕ) : Type 0 where
 
 -- nodes with so many children can stand over the frame, and share a token
 pub record Suits (f : Frame) (kx ky : ℕ) : Type 0 where
-  pub some₁ : f .start < f .stop
-  pub some₂ : f .begin < f .end
+  pub nonempty₁ : f .start < f .stop
+  pub nonempty₂ : f .begin < f .end
   pub before : f .start < f .end
   pub behind : f .begin < f .stop
   pub placed₁ : Placed f kx (f .start) (f .cut) (f .stop)

@@ -41,7 +41,7 @@ module _ (g : Rules) (w : Word) (rise : Rising w) (wide : Wide w) where
       → OneSpan g (settingOf w (x .spot) (y .spot)) (headOf (x .spot)) (headOf (y .spot))
   one-span {t} {u} x y i =
       let m : Meet (x .spot .whole) (y .spot .whole) =
-      subst (Meet (x .spot .whole)) i (record { before = x .fits .some; behind = x .fits .some }) in
+      subst (Meet (x .spot .whole)) i (record { before = x .fits .nonempty; behind = x .fits .nonempty }) in
       record {
         may =
             pair g w rise wide (rowCount t) (rowCount u) (x .spot) (y .spot)
@@ -243,4 +243,4 @@ passes-clear {g} p = record { clear = λ w rise wide. unambiguous g w rise wide 
 
 -- then every sweep is clear, whatever its bound
 pub always-sweeps : {g : Rules} → AlwaysClear g → (k : ℕ) → Clear g k
-always-sweeps a k = record { none = λ w wide rise low high. a .clear w rise wide }
+always-sweeps a k = record { absent = λ w wide rise low high. a .clear w rise wide }

@@ -116,7 +116,7 @@ module _ (g : Rules) (w : Word) where
         fits =
             record {
               looks = tips (h .marked f .inherits) (c .stands ∙ ap some (c .top .2));
-              some = omega arith;
+              nonempty = omega arith;
               inside = l .fits;
               sits = (
                 x,
@@ -147,7 +147,7 @@ module _ (g : Rules) (w : Word) where
         fits =
             record {
               looks = units (q .inherits) (c .stands ∙ ap some (c .top .1)) (productive g v f);
-              some = omega arith;
+              nonempty = omega arith;
               inside = l .fits;
               sits = (rw e at (q .keeps), rw e at (c .top .3), refl, begins-at v low f);
             };
@@ -238,7 +238,7 @@ module _ (g : Rules) (w : Word) where
             fits =
                 record {
                   looks = seconds (z .inherits) stands (null-of g v x) q;
-                  some = omega (arith, n);
+                  nonempty = omega (arith, n);
                   inside = l .fits;
                   sits = (
                     rw e at (z .keeps),
@@ -266,7 +266,7 @@ module _ (g : Rules) (w : Word) where
             fits =
                 record {
                   looks = firsts (z .inherits) stands q (null-of g v′ y);
-                  some = omega (arith, n);
+                  nonempty = omega (arith, n);
                   inside = l .fits;
                   sits = (
                     rw e at (z .keeps),
@@ -294,7 +294,7 @@ module _ (g : Rules) (w : Word) where
             fits =
                 record {
                   looks = twos (z .inherits) stands q q′;
-                  some = omega (arith, n);
+                  nonempty = omega (arith, n);
                   inside = l .fits;
                   sits = (
                     omega arith,

@@ -96,7 +96,7 @@ Sits g w (two C D k l) i m j =
 
 pub record Fits (g : Rules) (w : Word) (x : Spot) : Type 0 where
   pub looks : HasForm g (x .whole .sort) (x .shape) (x .form)
-  pub some : x .whole .start < x .whole .stop
+  pub nonempty : x .whole .start < x .whole .stop
   pub inside : x .whole .stop ≤ length w
   pub sits : Sits g w (x .form) (x .whole .start) (x .cut) (x .whole .stop)
 

@@ -68,14 +68,14 @@ module _ (g : Rules) (w : Word) (rise : Rising w) (wide : Wide w) (x y : Spot) (
     where
       by : (h : Form) → Sits g w h (z .whole .start) (z .cut) (z .whole .stop)
           → (z .whole .start ≤ z .cut) × (z .cut < z .whole .stop)
-      by (tip a b) s = (omega (arith, s .2), omega (arith, s .2, f .some))
-      by (one C l k) s = (omega (arith, s .2), omega (arith, s .2, f .some))
+      by (tip a b) s = (omega (arith, s .2), omega (arith, s .2, f .nonempty))
+      by (one C l k) s = (omega (arith, s .2), omega (arith, s .2, f .nonempty))
       by (two C D k l) s = (omega (arith, s .0), omega (arith, s .1))
 
   corner-inside : (c : Corner) → corner x y c < length w
-  corner-inside start₁ = omega (arith, fx .some, fx .inside)
+  corner-inside start₁ = omega (arith, fx .nonempty, fx .inside)
   corner-inside cut₁ = omega (arith, cut-inside x fx .1, fx .inside)
-  corner-inside start₂ = omega (arith, fy .some, fy .inside)
+  corner-inside start₂ = omega (arith, fy .nonempty, fy .inside)
   corner-inside cut₂ = omega (arith, cut-inside y fy .1, fy .inside)
 
   lies : (c d : Corner) → corner x y c < corner x y d
@@ -190,10 +190,10 @@ module _ (g : Rules) (w : Word) (rise : Rising w) (wide : Wide w) (x y : Spot) (
         looks₁ = fx .looks;
         looks₂ = fy .looks;
         even = even;
-        some₁ = is-order less (x .whole .start) (x .whole .stop) (fx .some);
-        some₂ = is-order less (y .whole .start) (y .whole .stop) (fy .some);
-        sits₁ = sits-in (x .form) start₁ cut₁ stop₁ (fx .some) (fx .inside) (fx .sits);
-        sits₂ = sits-in (y .form) start₂ cut₂ stop₂ (fy .some) (fy .inside) (fy .sits);
+        nonempty₁ = is-order less (x .whole .start) (x .whole .stop) (fx .nonempty);
+        nonempty₂ = is-order less (y .whole .start) (y .whole .stop) (fy .nonempty);
+        sits₁ = sits-in (x .form) start₁ cut₁ stop₁ (fx .nonempty) (fx .inside) (fx .sits);
+        sits₂ = sits-in (y .form) start₂ cut₂ stop₂ (fy .nonempty) (fy .inside) (fy .sits);
         meet =
             record {
               before = is-order less (x .whole .start) (y .whole .stop) (m .before);

@@ -148,8 +148,8 @@ pub record FitIn (g : Rules) (σ : Setting) (x y : Head) : Type 0 where
   pub looks₁ : HasForm g (x .sort) (x .shape) (x .form)
   pub looks₂ : HasForm g (y .sort) (y .shape) (y .form)
   pub even : Even σ
-  pub some₁ : σ .order (at start₁) stop₁ ≡ less
-  pub some₂ : σ .order (at start₂) stop₂ ≡ less
+  pub nonempty₁ : σ .order (at start₁) stop₁ ≡ less
+  pub nonempty₂ : σ .order (at start₂) stop₂ ≡ less
   pub sits₁ : SitsIn g σ (x .form) start₁ cut₁ stop₁
   pub sits₂ : SitsIn g σ (y .form) start₂ cut₂ stop₂
   pub meet : MeetIn σ (whole₁ x) (whole₂ y)

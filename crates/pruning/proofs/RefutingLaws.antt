@@ -87,7 +87,7 @@ module _ {g : Rules} {s n b j : ℕ} {cs : List Cell} {ws : List ℕ} {w : Word}
       → ((i : ℕ) → b ≤ i → i < j → (x : ℕ) → Among s x → May g n ws i x)
       → Twinned g s n h b j cs
   refuted-hopeless hp fixed free = record
-      { twin = λ ds c sh sp t. absurd (hp .none (sentence ds) (meets fixed free ds c sh sp) t) }
+      { twin = λ ds c sh sp t. absurd (hp .absent (sentence ds) (meets fixed free ds c sh sp) t) }
 
 -- ---- by terminals
 

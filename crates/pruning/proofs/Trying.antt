@@ -56,7 +56,7 @@ module _ {g : Rules} {n i : ℕ} {cs : List Cell} where
       → drafted d ≡ sentence cs → d .count ≡ n → d .known ≡ i + 1 → Standing g n i cs ws
       → Settles r g (half d) (d .count) ws ws′ → PositionTried r g n hold i cs ws ws′
   tried-settled {hold} {ws} {ws′} {r} d h size e c k st y = record {
-    out = λ q s. refuted-hopeless e size (z .none q) (λ a b u l. st .fixed a (omega arith) l)
+    out = λ q s. refuted-hopeless e size (z .absent q) (λ a b u l. st .fixed a (omega arith) l)
         (λ a b l. absurd (omega arith));
     stays = λ q. standing-back h size on;
     on = λ q. on;
@@ -129,7 +129,7 @@ module _ {g : Rules} {s n b j : ℕ} {cs : List Cell} (low : b ≤ j) (h : j < n
       let z = settles-at d c k y in
       let l = wrote-loose w lo in
       record {
-        out = λ u hold. refuted-hopeless e size (z .none u)
+        out = λ u hold. refuted-hopeless e size (z .absent u)
             (λ i a v v′. loose-fixed low h (turned-self j cs) m l i v v′) (λ i a v. l .free i a v);
         stays = loose-filled low h (turned-self j cs) e m l (z .right) (z .beyond) (z .given);
         past = past-then (kept-past n j 1 (omega arith) (w .kept)) (z .past);

@@ -129,28 +129,28 @@ module _ (ws ws′ : List ℕ) (g : Rules) (n s len : ℕ) (k : SpanMarks)
       (λ i l. Below (Two ws n) s len (rule g i .clause) l)
       (λ i l. Below (Two ws′ n) s len (rule g i .clause) l) (λ l. l) (λ l. l)
       (λ A i l q. record {
-        some = q .some;
+        nonempty = q .nonempty;
         rest = q .rest;
         stand = record {
           within = q .stand .within;
           left = q .stand .left;
-          fits = fits-there l (q .some)
+          fits = fits-there l (q .nonempty)
               (q .rest) (rule g i .clause) (q .stand .fits);
         };
       })
       (λ A i l q. record {
-        some = q .some;
+        nonempty = q .nonempty;
         rest = q .rest;
         stand = record {
           within = q .stand .within;
           left = q .stand .left;
           fits = fits-back l
-              (q .some) (q .rest) (rule g i .clause) (q .stand .fits);
+              (q .nonempty) (q .rest) (rule g i .clause) (q .stand .fits);
         };
       })
-      (λ A i l q. below-there l (q .some) (q .rest)
+      (λ A i l q. below-there l (q .nonempty) (q .rest)
       (rule g i .clause) (q .stand .fits))
-      (λ A i l q. below-back l (q .some) (q .rest)
+      (λ A i l q. below-back l (q .nonempty) (q .rest)
       (rule g i .clause) (q .stand .fits))
       (λ A i a j b y z e. e) (λ A i a j b y z e. e)
 

@@ -70,7 +70,7 @@ module _ (g : Rules) (w : Word) (n : ℕ) (ws : List ℕ) (distinct : Distinct g
     (under : (s len : ℕ) → 2 ≤ len → s + len ≤ n → Under g w n ws s len) where
   true-small : (s len : ℕ) → s + len ≤ n → len < 2 → True g w n ws s len
   true-small s len fit h = let t = small s len fit h in
-      record { one = λ A. t .some A (omega arith); two = λ A. t .more A (omega arith) }
+      record { one = λ A. t .derived A (omega arith); two = λ A. t .more A (omega arith) }
 
   true-long : (s len : ℕ) → 2 ≤ len → s + len ≤ n
       → ((a b : ℕ) → b < len → a + b ≤ n → True g w n ws a b) → True g w n ws s len

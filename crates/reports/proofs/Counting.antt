@@ -44,7 +44,7 @@ module _ (s : List ℕ) (at : ℕ) where
 
   -- more than seven lines, or anything else, are none
   none-of : ((w : Word) → Tokens w → drop at s ≡ tokenLines w → ⊥) → Lines (drop at s) 0
-  none-of f = record { is = λ h. absurd (omega arith); none = λ e. f }
+  none-of f = record { is = λ h. absurd (omega arith); absent = λ e. f }
 
   -- what is left at i of lines that go on
   goes-on : {n i : ℕ} → Counted n i → i < length s → (w : Word) → Tokens w
@@ -83,21 +83,21 @@ module _ (s : List ℕ) (at : ℕ) where
 
   pub unread : {n i : ℕ} → Counted n i → i < length s → NoToken s i → Lines (drop at s) 0
   unread x h t = none-of (λ w p q. let g = goes-on x h w p q in
-      t .none (g .0) (tokenLines (g .2)) (g .1) (g .3))
+      t .absent (g .0) (tokenLines (g .2)) (g .1) (g .3))
 
   pub all-read : {n i : ℕ} → Counted n i → length s ≤ i → Lines (drop at s) n
   all-read {n} {i} x h = record {
     is = λ k. (
       x .word,
       record {
-        some = omega (arith, x .count);
+        nonempty = omega (arith, x .count);
         few = omega (arith, x .count, x .few);
         good = x .good;
       },
       x .count,
       whole,
     );
-    none = λ e w p q. nothing e w p q;
+    absent = λ e w p q. nothing e w p q;
   }
     where
       whole : drop at s ≡ tokenLines (x .word)
@@ -105,7 +105,7 @@ module _ (s : List ℕ) (at : ℕ) where
           ∙ append-nil (tokenLines (x .word))
 
       nothing : n ≡ 0 → (w : Word) → Tokens w → drop at s ≡ tokenLines w → ⊥
-      nothing e [] p q = omega (arith, p .some)
+      nothing e [] p q = omega (arith, p .nonempty)
       nothing e (t ∷ w) p q = omega (
         arith,
         token-some t (tokenLines w),

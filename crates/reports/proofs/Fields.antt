@@ -37,12 +37,12 @@ module _ (s : List ℕ) (at : ℕ) where
       }
 
   pub pair-first : Unnumbered s at sweepLimit 32 → NoPair s at
-  pair-first x = record { none = λ q m rest h k e. x .none q (decimal m ++ (32 ∷ rest)) h e }
+  pair-first x = record { absent = λ q m rest h k e. x .absent q (decimal m ++ (32 ∷ rest)) h e }
 
   pub pair-second : {q a : ℕ} → Numbered s at sweepLimit 32 q a → Unnumbered s a sweepLimit 32
       → NoPair s at
   pair-second x y = record {
-    none = λ q m rest h k e. y .none m rest k
+    absent = λ q m rest h k e. y .absent m rest k
         (behind q (decimal m ++ (32 ∷ rest)) (omega arith) x e .1);
   }
 
@@ -80,7 +80,7 @@ module _ (s : List ℕ) (at : ℕ) where
 
   pub token-first : Unnumbered s at 63 32 → NoToken s at
   token-first x = record {
-    none = λ t rest g e. x .none (t .terminal)
+    absent = λ t rest g e. x .absent (t .terminal)
         (decimal (line t) ++ (32 ∷ (decimal (col t) ++ (10 ∷ rest)))) (g .terminal-most)
         (parts t rest e);
   }
@@ -88,8 +88,8 @@ module _ (s : List ℕ) (at : ℕ) where
   pub token-second : {v a : ℕ} → Numbered s at 63 32 v a → Unnumbered s a 65535 32 → NoToken s at
   token-second x y =
       record {
-        none = λ t rest g e.
-            y .none (line t) (decimal (col t) ++ (10 ∷ rest)) (g .line-most)
+        absent = λ t rest g e.
+            y .absent (line t) (decimal (col t) ++ (10 ∷ rest)) (g .line-most)
             (behind (t .terminal) (decimal (line t) ++ (32 ∷ (decimal (col t) ++ (10 ∷ rest))))
             (omega arith) x (parts t rest e) .1);
       }
@@ -98,9 +98,9 @@ module _ (s : List ℕ) (at : ℕ) where
       → Unnumbered s b 65535 10 → NoToken s at
   token-third x y z =
       record {
-        none = λ t rest g e.
+        absent = λ t rest g e.
             let p = behind (t .terminal) (decimal (line t)
             ++ (32 ∷ (decimal (col t) ++ (10 ∷ rest)))) (omega arith) x (parts t rest e) .1 in
-            z .none (col t) rest (g .column-most)
+            z .absent (col t) rest (g .column-most)
             (behind (line t) (decimal (col t) ++ (10 ∷ rest)) (omega arith) y p .1);
       }

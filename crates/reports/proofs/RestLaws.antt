@@ -35,7 +35,7 @@ module _ (s : List ℕ) (at : ℕ) where
   -- 1. clear
 
   pub clear-none : NoPair s at → ClearRest (drop at s) → ⊥
-  clear-none x r = x .none (r .quotient) (r .remainder) (45 ∷ 10 ∷ []) (r .low) (r .small) (r .is)
+  clear-none x r = x .absent (r .quotient) (r .remainder) (45 ∷ 10 ∷ []) (r .low) (r .small) (r .is)
 
   pub clear-says : {a : ℕ} {b : Bool} → PairTo s at a → Says b (drop a s ≡ 45 ∷ 10 ∷ [])
       → Says b (ClearRest (drop at s))
@@ -56,7 +56,7 @@ module _ (s : List ℕ) (at : ℕ) where
 
   pub refused-first : Unnumbered s at 51 32 → RefusedRest (drop at s) → ⊥
   refused-first x r =
-      x .none (numberOf (r .fault)) (decimal (r .line) ++ (10 ∷ []))
+      x .absent (numberOf (r .fault)) (decimal (r .line) ++ (10 ∷ []))
       (fault-most (numberOf (r .fault)) (record { fault = r .fault; is = refl })) (r .is)
 
   module _ {n a : ℕ} (x : Numbered s at 51 32 n a) where
@@ -69,7 +69,7 @@ module _ (s : List ℕ) (at : ℕ) where
     refused-number f r = f (record { fault = r .fault; is = sym (rest-is r .0) })
 
     pub refused-second : Unnumbered s a sweepLimit 10 → RefusedRest (drop at s) → ⊥
-    refused-second y r = y .none (r .line) [] (r .low) (rest-is r .1)
+    refused-second y r = y .absent (r .line) [] (r .low) (rest-is r .1)
 
     pub refused-more : {l b : ℕ} → Numbered s a sweepLimit 10 l b → (b ≡ length s → ⊥)
         → RefusedRest (drop at s) → ⊥
@@ -97,7 +97,7 @@ module _ (s : List ℕ) (at : ℕ) where
 
   pub two-pair : NoPair s at → (n N : ℕ) → TwoRest (drop at s) n N → ⊥
   two-pair x n N r =
-      x .none (r .quotient) (r .remainder)
+      x .absent (r .quotient) (r .remainder)
       (decimal N ++ (10 ∷ (tokenNames ++ (10 ∷ tokenLines (r .word))))) (r .low) (r .small)
       (r .is)
 
@@ -109,7 +109,7 @@ module _ (s : List ℕ) (at : ℕ) where
 
     pub two-number : Unnumbered s a sweepLimit 10 → (n N : ℕ) → TwoRest (drop at s) n N → ⊥
     two-number y n N r =
-        y .none N (tokenNames ++ (10 ∷ tokenLines (r .word))) (r .least) (on-pair r)
+        y .absent N (tokenNames ++ (10 ∷ tokenLines (r .word))) (r .least) (on-pair r)
 
     module _ {M b : ℕ} (y : Numbered s a sweepLimit 10 M b) where
       on-number : {n N : ℕ} (r : TwoRest (drop at s) n N)
@@ -131,7 +131,7 @@ module _ (s : List ℕ) (at : ℕ) where
         pub two-lines : {k : ℕ} → Lines (drop (b + 14) s) k → k ≡ 0 → (n N : ℕ)
             → TwoRest (drop at s) n N → ⊥
         two-lines l e n N r =
-            l .none e (r .word) (r .tokens) (sym (drop-drop 14 b s) ∙ ap (drop 14) (on-number r .1))
+            l .absent e (r .word) (r .tokens) (sym (drop-drop 14 b s) ∙ ap (drop 14) (on-number r .1))
 
         pub two-there : {k : ℕ} → Lines (drop (b + 14) s) k → (k ≡ 0 → ⊥) → TwoRest (drop at s) k M
         two-there {k} l f =

@@ -59,7 +59,7 @@ module _ (s : List ℕ) where
             least = h;
             word = w;
             tokens =
-                record { some = a; few = b; good = g };
+                record { nonempty = a; few = b; good = g };
             count = refl;
             is = ap (drop 44) p;
           })
@@ -124,7 +124,7 @@ module _ (s : List ℕ) where
         reply = shareReplyOf Answer.Two N (y .quotient) (y .remainder) (y .word);
         of =
             record {
-              report = a-two (y .word) (y .least) (y .low) (y .small) (y .tokens .some)
+              report = a-two (y .word) (y .least) (y .low) (y .small) (y .tokens .nonempty)
                   (y .tokens .few) (y .tokens .good) refl;
               written =
                   x .is ∙ ap (λ (l : List ℕ). twoStart ++ l) (sym (ap (drop 44) (x .is)) ∙ y .is)

@@ -29,7 +29,7 @@ pub record TokenTo (s : List ℕ) (at next : ℕ) : Type 0 where
   pub is : drop at s ≡ tokenText token ++ drop next s
 
 pub record NoToken (s : List ℕ) (at : ℕ) : Type 0 where
-  pub none : (t : Token) (rest : List ℕ) → ReportToken t → drop at s ≡ tokenText t ++ rest → ⊥
+  pub absent : (t : Token) (rest : List ℕ) → ReportToken t → drop at s ≡ tokenText t ++ rest → ⊥
 
 abbrev pub TokenAt : List ℕ → ℕ → Place → Type 0
 TokenAt s at (At next) = TokenTo s at next
@@ -37,14 +37,14 @@ TokenAt s at Nowhere = NoToken s at
 
 -- the tokens of a report
 pub record Tokens (w : Word) : Type 0 where
-  pub some : 1 ≤ length w
+  pub nonempty : 1 ≤ length w
   pub few : length w ≤ 7
   pub good : Every ReportToken w
 
 -- n token lines, and nothing else; 0 where that is not so
 pub record Lines (text : List ℕ) (n : ℕ) : Type 0 where
   pub is : 1 ≤ n → (w : Word) × Tokens w × (length w ≡ n) × (text ≡ tokenLines w)
-  pub none : n ≡ 0 → (w : Word) → Tokens w → text ≡ tokenLines w → ⊥
+  pub absent : n ≡ 0 → (w : Word) → Tokens w → text ≡ tokenLines w → ⊥
 
 -- two numbers, each with a blank behind it
 abbrev pub pairText : ℕ → ℕ → List ℕ → List ℕ
@@ -59,7 +59,7 @@ pub record PairTo (s : List ℕ) (at next : ℕ) : Type 0 where
   pub is : drop at s ≡ pairText quotient remainder (drop next s)
 
 pub record NoPair (s : List ℕ) (at : ℕ) : Type 0 where
-  pub none : (q m : ℕ) (rest : List ℕ) → q ≤ sweepLimit → m ≤ sweepLimit
+  pub absent : (q m : ℕ) (rest : List ℕ) → q ≤ sweepLimit → m ≤ sweepLimit
       → drop at s ≡ pairText q m rest → ⊥
 
 abbrev pub PairAt : List ℕ → ℕ → Place → Type 0

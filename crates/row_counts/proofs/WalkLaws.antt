@@ -58,7 +58,7 @@ pub record Walk (g : Rules) (w : Word) (goal : ℕ) (end : ℕ) (names longs : L
   pub firsts : Every (AllPreferred g) rest
   pub rooted : root tree ≡ a
   pub spelled : word tree ≡ part w i l
-  pub some : 0 < l
+  pub nonempty : 0 < l
   pub fits : i + l ≤ end
   pub within : end ≤ length w
   pub line : TreeLine names longs w end (i + l) rest
@@ -119,7 +119,7 @@ module _ {g : Grammar} {w : Word} {goal end : ℕ} {names longs : List ℕ} {a i
     leaf-long = go (x .tree) shaped long-is
       where
         go : (t : Tree) → st ≡ nodeShape (st .seeking) t → length (word t) ≡ l → l ≡ 1
-        go (empty A) e h = absurd (omega (arith, x .some))
+        go (empty A) e h = absurd (omega (arith, x .nonempty))
         go (leaf A y) e h = sym h
         go (unary A t) e h = absurd (omega (arith, ap (λ (q : Step). q .kind) e))
         go (binary A t u) e h = absurd (omega (arith, ap (λ (q : Step). q .kind) e))
@@ -167,7 +167,7 @@ module _ {g : Grammar} {w : Word} {goal end : ℕ} {names longs : List ℕ} {a i
               firsts = fs .1;
               rooted = sym u;
               spelled = rw v b;
-              some = omega arith;
+              nonempty = omega arith;
               fits = omega arith;
               within = x .within;
               line = rw v q;
@@ -192,7 +192,7 @@ module _ {g : Grammar} {w : Word} {goal end : ℕ} {names longs : List ℕ} {a i
           firsts = x .firsts;
           rooted = r;
           spelled = rw m q;
-          some = omega (arith, x .some);
+          nonempty = omega (arith, x .nonempty);
           fits = omega (arith, x .fits);
           within = x .within;
           line = rw m (x .line);
@@ -295,7 +295,7 @@ module _ {g : Grammar} {w : Word} {goal end : ℕ} {names longs : List ℕ} {a i
                       firsts = (h .1 .1, x .firsts);
                       rooted = sym (be ∙ fst);
                       spelled = rw nt (cu .front);
-                      some = omega arith;
+                      nonempty = omega arith;
                       fits = omega (arith, x .fits);
                       within = x .within;
                       line =
@@ -341,7 +341,7 @@ walk-start g w A i l names longs p h k =
       firsts = tt;
       rooted = p .first .rooted;
       spelled = p .first .spelled;
-      some = h;
+      nonempty = h;
       fits = omega arith;
       within = k;
       line = done refl;

@@ -21,7 +21,7 @@ module _ (s : List ℕ) (at most end : ℕ) (r : Digits) (low : end < 48)
   pub no-digit : r .next ≡ at → Unnumbered s at most end
   no-digit e =
       record {
-        none = λ v t m p.
+        absent = λ v t m p.
             let q : drop at s ≡ end ∷ t =
             ap (λ (j : ℕ). drop j s) (sym e) ∙ d .only v end t m low p .1 in
             let n : length (decimal v ++ (end ∷ t)) ≡ length (end ∷ t) = ap length (sym p ∙ q) in
@@ -32,7 +32,7 @@ module _ (s : List ℕ) (at most end : ℕ) (r : Digits) (low : end < 48)
   pub no-end : length s ≤ r .next → Unnumbered s at most end
   no-end h =
       record {
-        none = λ v t m p.
+        absent = λ v t m p.
             let n : length (drop (r .next) s) ≡ length (end ∷ t) =
             ap length (d .only v end t m low p .1) in
             omega (arith, length-drop (r .next) s);
@@ -42,7 +42,7 @@ module _ (s : List ℕ) (at most end : ℕ) (r : Digits) (low : end < 48)
   pub other-end : r .next < length s → (getD s (r .next) 0 ≡ end → ⊥) → Unnumbered s at most end
   other-end h f =
       record {
-        none = λ v t m p.
+        absent = λ v t m p.
             f (ap (λ (l : List ℕ). getD l 0 0) (sym (front h) ∙ d .only v end t m low p .1));
       }
 

@@ -32,7 +32,7 @@ pub record Numbered (s : List ℕ) (at most end v next : ℕ) : Type 0 where
 
 -- no such number
 pub record Unnumbered (s : List ℕ) (at most end : ℕ) : Type 0 where
-  pub none : (v : ℕ) (t : List ℕ) → v ≤ most → drop at s ≡ decimal v ++ (end ∷ t) → ⊥
+  pub absent : (v : ℕ) (t : List ℕ) → v ≤ most → drop at s ≡ decimal v ++ (end ∷ t) → ⊥
 
 abbrev pub NumberAt : List ℕ → ℕ → ℕ → ℕ → NumberRead → Type 0
 NumberAt s at most end (NumberRead.Is v next) = Numbered s at most end v next

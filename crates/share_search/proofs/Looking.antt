@@ -45,7 +45,7 @@ module _ {g : Rules} {s n lo b : ℕ} {cs : List Cell} (small : s < 2 ^ 64) (le 
       → Looked (not two) g s n lo b cs
   looked-whole {two} e k w y = record {
     barren = λ q. record {
-      none = λ ds d sh. y .isnt (not-true two q)
+      absent = λ ds d sh. y .isnt (not-true two q)
           (subst (λ (l : List Cell). TwoTrees g 0 (sentence l)) (same ds (d .meets .candidate) sh)
           (d .meets .two));
     };

@@ -37,7 +37,7 @@ pub few-of : (g : Rules) (s n low : ℕ) → s < 2 ^ 64 → 1 ≤ n → n ≤ 7 
 few-of g s n low small l u t w h = record {
   low = l;
   high = u;
-  some = omega (arith, place-below s small low (w .there));
+  nonempty = omega (arith, place-below s small low (w .there));
   limit = omega (
     arith,
     capacity-all (ones s) (placeIn s) n l,
@@ -67,7 +67,7 @@ module _ {g g′ : Rules} (s n : ℕ) (small : s < 2 ^ 64) (t : Terminals g s)
     high = omega (arith, h, num cs);
     two = two↔ (sentence cs) .1 (f .meets .two);
     lowest = record {
-      none = λ ds c a b two. go ds
+      absent = λ ds c a b two. go ds
           (record {
             candidate = to c;
             from = omega (arith, a, num ds);
@@ -79,14 +79,14 @@ module _ {g g′ : Rules} (s n : ℕ) (small : s < 2 ^ 64) (t : Terminals g s)
     where
       go : (ds : List Cell) → Meets g′ s n lo ds → numberIn s n ds < numberIn s n cs → ⊥
       go ds m b =
-          ⊎-elim (λ x. f .none ds m x)
+          ⊎-elim (λ x. f .absent ds m x)
           (λ r. ⊎-elim (λ z. omega (arith, ap (numberIn s n) z))
           (λ x. omega (arith, number-rises s n small (f .meets .candidate) (m .candidate) x)) r)
           (before-total ds cs (m .candidate .arranged .size
           ∙ sym (f .meets .candidate .arranged .size)))
   found-of {lo} {hi} {l} {N} {cs} (miss e q h) =
       nothing e q (record {
-        none = λ ds c a b two. h ds
+        absent = λ ds c a b two. h ds
             (record {
               candidate = to c;
               from = omega (arith, a, num ds);
@@ -101,7 +101,7 @@ pub found-none : {g : Rules} {s n lo hi l N : ℕ} {cs : List Cell}
     → Found g n lo hi l N cs
 found-none {g} {s} {n} same h e none = nothing (e .0) (e .1)
     (record {
-      none =
+      absent =
           λ ds c a b two. no-candidate (Terminal g) (λ x m. none x (same x .1 m)) n ds h c;
     })
 

@@ -27,7 +27,7 @@ module _ {g : Rules} {s n lo : ℕ} (small : s < 2 ^ 64) where
   none-meets (suc hi) h ds m l =
       h ds (record {
         meets = m;
-        none = λ es k b. none-meets hi (λ fs f q. h fs f (omega arith)) es k
+        absent = λ es k b. none-meets hi (λ fs f q. h fs f (omega arith)) es k
             (omega (arith, number-rises s n small (k .candidate) (m .candidate) b));
       }) l
 
@@ -36,13 +36,13 @@ module _ {g : Rules} {s n lo : ℕ} (small : s < 2 ^ 64) where
       → Lowest g s n lo cs
   first-meets {cs} h m = record {
     meets = m;
-    none = λ ds k b. none-meets (numberIn s n cs)
+    absent = λ ds k b. none-meets (numberIn s n cs)
         (λ es e q. before es e q) ds k (number-rises s n small (k .candidate) (m .candidate) b);
   }
     where
       before : (es : List Cell) → Lowest g s n lo es → numberIn s n es < numberIn s n cs → ⊥
       before es e q =
-          ⊎-elim (λ b. h .none es e b)
+          ⊎-elim (λ b. h .absent es e b)
           (λ r. ⊎-elim (λ z. omega (arith, ap (numberIn s n) z))
           (λ b. omega (arith, number-rises s n small (m .candidate) (e .meets .candidate) b)) r)
           (before-total es cs (e .meets .candidate .arranged .size
@@ -52,20 +52,20 @@ module _ {g : Rules} {s n lo : ℕ} (small : s < 2 ^ 64) where
 
   pub begin : {cs : List Cell} → First s n cs → NoneBefore g s n lo cs
   begin f =
-      record { candidate = f .candidate; none = λ ds d b. f .first ds (d .meets .candidate) b }
+      record { candidate = f .candidate; absent = λ ds d b. f .first ds (d .meets .candidate) b }
 
   pub onward : {b upto : ℕ} {cs rs : List Cell} → NoneBefore g s n lo cs → Barren g s n lo b cs
       → Follows s n b cs upto rs → NoneBefore g s n lo rs
   onward h q f = record {
     candidate = f .candidate;
-    none = λ ds d e. ⊎-elim (λ x. q .none ds d x)
-        (λ x. h .none ds d x) (f .least ds (d .meets .candidate) e);
+    absent = λ ds d e. ⊎-elim (λ x. q .absent ds d x)
+        (λ x. h .absent ds d x) (f .least ds (d .meets .candidate) e);
   }
 
   -- past all candidates
   pub over : {b : ℕ} {cs : List Cell} (hi : ℕ) → NoneBefore g s n lo cs → Barren g s n lo b cs
       → Ends s n b cs → (ds : List Cell) → Meets g s n lo ds → numberIn s n ds < hi → ⊥
-  over hi h q e = none-meets hi (λ ds d l. ⊎-elim (λ x. q .none ds d x) (λ x. h .none ds d x)
+  over hi h q e = none-meets hi (λ ds d l. ⊎-elim (λ x. q .absent ds d x) (λ x. h .absent ds d x)
       (e .last ds (d .meets .candidate)))
 
   -- at the end of the share
@@ -78,7 +78,7 @@ module _ {g : Rules} {s n lo : ℕ} (small : s < 2 ^ 64) where
 
       go : (ds : List Cell) → Lowest g s n lo ds → numberIn s n ds < hi → ⊥
       go ds d q =
-          ⊎-elim (λ b. h .none ds d b)
+          ⊎-elim (λ b. h .absent ds d b)
           (λ r. ⊎-elim (λ z. omega (arith, ap (numberIn s n) z, low))
           (λ b. omega (
             arith,
@@ -94,7 +94,7 @@ module _ {g : Rules} {s n lo : ℕ} (small : s < 2 ^ 64) where
   pub barren-early : {b : ℕ} {cs : List Cell} → b ≤ n → least s n b cs + room s n b ≤ lo
       → Barren g s n lo b cs
   barren-early {b} {cs} le l = record {
-    none = λ ds d sh. omega (
+    absent = λ ds d sh. omega (
       arith,
       d .meets .from,
       block-high s n small b cs le
@@ -105,12 +105,12 @@ module _ {g : Rules} {s n lo : ℕ} (small : s < 2 ^ 64) where
   -- each has a twin whose number is from lo on
   pub barren-twin : {b h : ℕ} {cs : List Cell} → h ≤ b → b ≤ n → lo ≤ least s n h cs
       → Replaceable g s n b h cs → Barren g s n lo b cs
-  barren-twin {b} {h} {cs} hb le l r = record { none = go }
+  barren-twin {b} {h} {cs} hb le l r = record { absent = go }
     where
       go : (ds : List Cell) → Lowest g s n lo ds → Shares b ds cs → ⊥
       go ds d sh =
           let t = r .twin ds (d .meets .candidate) sh (d .meets .two) in
-          d .none (t .cells) (record {
+          d .absent (t .cells) (record {
             candidate = t .candidate;
             from = omega (
               arith,

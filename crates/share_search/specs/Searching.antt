@@ -20,16 +20,16 @@ pub record Meets (g : Rules) (s n lo : ℕ) (cs : List Cell) : Type 0 where
 -- the first of these
 pub record Lowest (g : Rules) (s n lo : ℕ) (cs : List Cell) : Type 0 where
   pub meets : Meets g s n lo cs
-  pub none : (ds : List Cell) → Meets g s n lo ds → CellsBefore ds cs → ⊥
+  pub absent : (ds : List Cell) → Meets g s n lo ds → CellsBefore ds cs → ⊥
 
 -- cs is a candidate of length n, and the first of these is not before it
 pub record NoneBefore (g : Rules) (s n lo : ℕ) (cs : List Cell) : Type 0 where
   pub candidate : Candidate (Among s) n cs
-  pub none : (ds : List Cell) → Lowest g s n lo ds → CellsBefore ds cs → ⊥
+  pub absent : (ds : List Cell) → Lowest g s n lo ds → CellsBefore ds cs → ⊥
 
 -- it is none of those that share cs's first b cells
 pub record Barren (g : Rules) (s n lo b : ℕ) (cs : List Cell) : Type 0 where
-  pub none : (ds : List Cell) → Lowest g s n lo ds → Shares b ds cs → ⊥
+  pub absent : (ds : List Cell) → Lowest g s n lo ds → Shares b ds cs → ⊥
 
 -- what a look tells: out, it is none of those that share cs's first b cells; not out, and all cells
 -- looked at: cs has two trees, and its number is from lo on

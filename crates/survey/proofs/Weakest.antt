@@ -46,11 +46,11 @@ same {g} {A} m t h =
 module _ {g : Rules} {l : Levels} (x : LevelsOf g l) where
   pub level-weakest : (A : ℕ) (m : UnaryMark) → LevelIs l A (Level.Keeps m) → Weakest g A m
   level-weakest A UnaryMark.None i =
-      let t = x .none .is A i in
+      let t = x .unmarked .is A i in
       record { inherits = same UnaryMark.None t (omega arith); least = λ k j. omega arith }
   level-weakest A UnaryMark.Offalign (n, i) =
       let t = x .offalign .is A i in
-      let a = above 0 (x .none) n in
+      let a = above 0 (x .unmarked) n in
       record { inherits = same UnaryMark.Offalign t (a (t .mark) (t .inherits)); least = a }
   level-weakest A UnaryMark.Offside (n, i) =
       let t = x .offside .is A i in

@@ -57,15 +57,15 @@ pub record Shut (Adds : ℕ → Rule → ℕ → Type 0) (P : ℕ → Type 0) (g
 
 -- the sets of those that inherit a mark of at most each rank
 pub record LevelsOf (g : Rules) (l : Levels) : Type 0 where
-  pub none : Exactly (l .none) (AtMost g 0)
+  pub unmarked : Exactly (l .unmarked) (AtMost g 0)
   pub offalign : Exactly (l .offalign) (AtMost g 1)
   pub offside : Exactly (l .offside) (AtMost g 2)
   pub single : Exactly (l .single) (AtMost g 3)
 
 -- of these sets the first that has A
 abbrev pub LevelIs : Levels → ℕ → Level → Type 0
-LevelIs l A (Level.Keeps UnaryMark.None) = In (l .none) A
-LevelIs l A (Level.Keeps UnaryMark.Offalign) = (In (l .none) A → ⊥) × In (l .offalign) A
+LevelIs l A (Level.Keeps UnaryMark.None) = In (l .unmarked) A
+LevelIs l A (Level.Keeps UnaryMark.Offalign) = (In (l .unmarked) A → ⊥) × In (l .offalign) A
 LevelIs l A (Level.Keeps UnaryMark.Offside) = (In (l .offalign) A → ⊥) × In (l .offside) A
 LevelIs l A (Level.Keeps UnaryMark.Single) = (In (l .offside) A → ⊥) × In (l .single) A
 LevelIs l A Level.Nothing = In (l .single) A → ⊥

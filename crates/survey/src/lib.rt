@@ -391,7 +391,7 @@ fn at_most(g: Grammar, nulls: u64, prods: u64, k: u8, loose: u64) -> u64
 
 // The nonterminals that inherit a mark: one of rank 0, at most 1, at most 2, any.
 pub struct Levels {
-    pub none: u64,
+    pub unmarked: u64,
     pub offalign: u64,
     pub offside: u64,
     pub single: u64,
@@ -405,9 +405,9 @@ pub fn inherited(g: Grammar, nulls: u64, prods: u64) -> Levels
     let single = at_most(g, nulls, prods, 3, 0);
     let offside = at_most(g, nulls, prods, 2, 0);
     let offalign = at_most(g, nulls, prods, 1, offside);
-    let none = at_most(g, nulls, prods, 0, offside);
+    let unmarked = at_most(g, nulls, prods, 0, offside);
     Levels {
-        none: none,
+        unmarked: unmarked,
         offalign: offalign,
         offside: offside,
         single: single,
@@ -424,7 +424,7 @@ pub fn level_of(l: Levels, a: u8) -> Level
     requires { ⌜ a < 64 ⌝ }
     ensures { λ r. ⌜ LevelIs l a r ⌝ }
 {
-    if sets::has(l.none, a) {
+    if sets::has(l.unmarked, a) {
         return Level::Keeps(UnaryMark::None);
     }
     if sets::has(l.offalign, a) {

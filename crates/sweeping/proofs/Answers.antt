@@ -46,7 +46,7 @@ none-left {g} {s} {n} k a b h = let e : n ≡ k + 1 = omega arith in rw e at h
 module _ {g : Rules} {s kept : ℕ} (sp : Spared g s kept) where
   shorter-all : {n : ℕ} → NoneShorter g kept n → NoneShorter g s n
   shorter-all h = record {
-    none = λ m ds l u c t. h .none m (renamed g s kept sp ds) l u
+    absent = λ m ds l u c t. h .absent m (renamed g s kept sp ds) l u
         (renamed-candidate g s kept sp m ds c) (renamed-two g s kept sp ds t);
   }
 
@@ -56,7 +56,7 @@ module _ {g : Rules} {s kept : ℕ} (sp : Spared g s kept) where
     high = h .high;
     before = record {
       candidate = candidate-over (Among kept) (Among s) (sp .part) (h .before .candidate);
-      none = λ ds c b t. h .before .none (renamed g s kept sp ds)
+      absent = λ ds c b t. h .before .absent (renamed g s kept sp ds)
           (renamed-candidate g s kept sp n ds c) (renamed-before g s kept sp ds cs b)
           (renamed-two g s kept sp ds t);
     };
@@ -75,7 +75,7 @@ module _ {g : Rules} {s kept : ℕ} (sp : Spared g s kept) where
 
 module _ {g g′ : Rules} {s : ℕ} (same : (w : Word) → TwoTrees g 0 w ↔ TwoTrees g′ 0 w) where
   shorter-over : {n : ℕ} → NoneShorter g′ s n → NoneShorter g s n
-  shorter-over h = record { none = λ m ds l u c t. h .none m ds l u c (same (sentence ds) .0 t) }
+  shorter-over h = record { absent = λ m ds l u c t. h .absent m ds l u c (same (sentence ds) .0 t) }
 
   pub searched-over : {k n : ℕ} {cs : List Cell} → Searched g′ s k n cs → Searched g s k n cs
   searched-over {cs = cs} (hit h) = hit (record {
@@ -83,7 +83,7 @@ module _ {g g′ : Rules} {s : ℕ} (same : (w : Word) → TwoTrees g 0 w ↔ Tw
     high = h .high;
     before = record {
       candidate = h .before .candidate;
-      none = λ ds c b t. h .before .none ds c b
+      absent = λ ds c b t. h .before .absent ds c b
           (same (sentence ds) .0 t);
     };
     two = same (sentence cs) .1 (h .two);
@@ -142,7 +142,7 @@ module _ {g : Rules} {s : ℕ} (same : (x : ℕ) → Among s x ↔ Terminal g x)
   -- no terminal, no candidate
   pub found-none : {k n : ℕ} {cs : List Cell} → n ≡ 0 → ((x : ℕ) → Among s x → ⊥) → Found g k n cs
   found-none e h = nothing e (clear-found same
-      (record { none = λ m ds l u c t. no-candidate (Among s) h m ds l c }))
+      (record { absent = λ m ds l u c t. no-candidate (Among s) h m ds l c }))
 
 -- what is found can be spelled
 pub found-low : {g : Rules} {k n : ℕ} {cs : List Cell} → length cs ≡ n → k ≤ 7 → Found g k n cs

@@ -27,7 +27,7 @@ use Rattle.sweeping.proofs.Turns.{begin, onward}
 module _ {g : Rules} {s n b : ℕ} {cs : List Cell} where
   -- each has an earlier one, and none before the block has two trees
   twins-barren : n ≤ 7 → Replaceable g s n b 0 cs → NoneBefore g s n cs → Barren g s n b cs
-  twins-barren few r q = record { none = none-in-block few (q .candidate) (q .none) r }
+  twins-barren few r q = record { absent = none-in-block few (q .candidate) (q .absent) r }
 
   -- what reads like something earlier needs no look at a chart
   pub looked-slack : n ≤ 7 → Slack n b 0 cs → Looked true g s n b cs
@@ -48,7 +48,7 @@ module _ {g : Rules} {s n b : ℕ} {cs : List Cell} where
       → Looked (not two) g s n b cs
   looked-whole {two} e y = record {
     barren = λ q h. record {
-      none = λ ds c sh t. y .isnt (not-true two q)
+      absent = λ ds c sh t. y .isnt (not-true two q)
           (subst (λ (l : List Cell). TwoTrees g 0 (sentence l)) (same ds c (h .candidate) sh) t);
     };
     two = λ q h. y .is (not-false two q);

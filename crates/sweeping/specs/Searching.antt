@@ -15,7 +15,7 @@ use Rattle.candidates.specs.Succession.{Shares}
 
 -- no candidate of 1 to n - 1 tokens has two trees
 pub record NoneShorter (g : Rules) (s n : ℕ) : Type 0 where
-  pub none : (m : ℕ) (ds : List Cell) → 1 ≤ m → m < n → Candidate (Among s) m ds
+  pub absent : (m : ℕ) (ds : List Cell) → 1 ≤ m → m < n → Candidate (Among s) m ds
       → TwoTrees g 0 (sentence ds) → ⊥
 
 -- every sentence of 1 to 7 tokens that has two trees has a length in s
@@ -25,12 +25,12 @@ pub record Admits (g : Rules) (s : ℕ) : Type 0 where
 -- cs is a candidate of length n, and none before it has two trees
 pub record NoneBefore (g : Rules) (s n : ℕ) (cs : List Cell) : Type 0 where
   pub candidate : Candidate (Among s) n cs
-  pub none : (ds : List Cell) → Candidate (Among s) n ds → CellsBefore ds cs
+  pub absent : (ds : List Cell) → Candidate (Among s) n ds → CellsBefore ds cs
       → TwoTrees g 0 (sentence ds) → ⊥
 
 -- no candidate of length n that shares cs's first b cells has two trees
 pub record Barren (g : Rules) (s n b : ℕ) (cs : List Cell) : Type 0 where
-  pub none : (ds : List Cell) → Candidate (Among s) n ds → Shares b ds cs
+  pub absent : (ds : List Cell) → Candidate (Among s) n ds → Shares b ds cs
       → TwoTrees g 0 (sentence ds) → ⊥
 
 -- what a look at the candidates that share cs's first b cells tells: out, none of them has two

@@ -14,7 +14,7 @@ Told h s len = len ≡ 1 → s < h .known
 -- what the tables have of the span has trees, where it is known, and they have all that stands over
 -- it
 pub record Settled (one two : Table) (g : Rules) (h : Half) (s len : ℕ) : Type 0 where
-  pub some : (A : ℕ) → s + len ≤ h .known → one s len A → Derives g A (part (h .word) s len)
+  pub derived : (A : ℕ) → s + len ≤ h .known → one s len A → Derives g A (part (h .word) s len)
   pub more : (A : ℕ) → s + len ≤ h .known → two s len A → TwoTrees g A (part (h .word) s len)
   pub each : (A i l : ℕ) → Told h s len → Stand one g (byTokens h s len) s len A i l → one s len A
   pub again : (A : ℕ) → Told h s len → Again one two g (byTokens h s len) s len A → two s len A

@@ -92,7 +92,7 @@ module _ {g h : Rules} (x : Stricter g h) where
 
   -- none stays none
   pub stays-none : {A : ℕ} {w : Word} → NoTree g A w → NoTree h A w
-  stays-none n = record { none = λ t y. n .none t (stricter-witness y) }
+  stays-none n = record { absent = λ t y. n .absent t (stricter-witness y) }
 
   -- one never becomes two
   pub never-two : {A : ℕ} {w : Word} → OneTree g A w → TwoTrees h A w → ⊥

@@ -116,7 +116,7 @@ wordless g n (binary A s t) (valid-binary m h μ v u) = rw (wordless g n s v) (w
 silent : (g : Rules) → T (no-atoms g) → (k : ℕ) → Clear g k
 silent g n k =
     record {
-      none =
+      absent =
           λ w s r some le pair. not-suc-le-zero
           (subst (λ (x : Word). 1 ≤ length x)
           (sym (pair .witness₁ .spelled) ∙ wordless g n (pair .first) (pair .witness₁ .valid))

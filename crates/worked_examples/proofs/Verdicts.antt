@@ -106,7 +106,7 @@ two-shown g A w (t ∷ s ∷ l) x h = record
 
 pub shown : (g : Rules) (A : ℕ) (w : Word) (v : TreeCount) (l : List Tree) → Exactly g A w l
     → T (shows v l) → Is v g A w
-shown g A w no-tree [] x h = record { none = λ t k. List·Memᴰ·not-nil (x .whole t k) }
+shown g A w no-tree [] x h = record { absent = λ t k. List·Memᴰ·not-nil (x .whole t k) }
 shown g A w no-tree (t ∷ l) x h = absurd h
 shown g A w one-tree [] x h = absurd h
 shown g A w one-tree (t ∷ []) x h = record

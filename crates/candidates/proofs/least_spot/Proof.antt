@@ -13,7 +13,7 @@ returns c = spot-here _ _ _ (c .if1 .taken)
 
 returns-2 : tie.Need-returns-2
 returns-2 c =
-    spot-next _ _ _ (c .before .pre .some) (c .before .pre .next (c .if1 .left)) (c .if1 .left)
+    spot-next _ _ _ (c .before .pre .nonempty) (c .before .pre .next (c .if1 .left)) (c .if1 .left)
 
 pub least-spot-spec : {M : Type 1} → statement M
 least-spot-spec = tie.close (tie.spec add-t6 returns returns-2)

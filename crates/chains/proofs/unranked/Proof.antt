@@ -15,11 +15,11 @@ use Rattle.chains.proofs.unranked.Tie as tie
 
 more : (l : ℕ) (g : Rules) (i : ℕ) → (Ranked l (rule g i .clause) → ⊥) → Unranked l g i
     → Unranked l g (i + 1)
-more l g i w u = record { none = λ j h x. go j h x (ℕ-discrete j i) }
+more l g i w u = record { absent = λ j h x. go j h x (ℕ-discrete j i) }
   where
     go : (j : ℕ) → j < i + 1 → Ranked l (rule g j .clause) → Dec (j ≡ i) → ⊥
     go j h x (yes e) = w (subst (λ (y : ℕ). Ranked l (rule g y .clause)) e x)
-    go j h x (no e) = u .none j (omega arith) x
+    go j h x (no e) = u .absent j (omega arith) x
 
 abbrev Inv-loop : tie.InvT-loop
 Inv-loop l g i₀ i = (i ≤ g .count) × Unranked l (rules g) i
@@ -28,7 +28,7 @@ abbrev μ-loop : tie.MeasureT-loop
 μ-loop l g i₀ i = g .count - i
 
 loop-holds : tie.Need-loop-holds Inv-loop μ-loop
-loop-holds c = (omega arith, record { none = λ j h x. absurd (omega arith) })
+loop-holds c = (omega arith, record { absent = λ j h x. absurd (omega arith) })
 
 mul-r : tie.Need-mul-r Inv-loop μ-loop
 mul-r c = search needs

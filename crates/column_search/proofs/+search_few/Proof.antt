@@ -103,7 +103,7 @@ search-few-try-choice-requires t c κs =
       (
         (
           p .1 .0,
-          c .before .before .before .last-token .ensures .none
+          c .before .before .before .last-token .ensures .absent
               (omega (arith, c .before .before .if2 .taken, p .1 .0 .whole)),
           c .before .before .before .before .before .settled .ensures .stay
               (c .before .before .before .before .if1 .left),

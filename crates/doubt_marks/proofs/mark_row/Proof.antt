@@ -24,7 +24,7 @@ present-requires c κs = search needs
 returns : tie.Need-returns Inv-loop μ-loop
 returns c =
     grows-still (λ p q d. c .before .present .ensures .isnt (not-true _ (c .if1 .taken))
-    (d .some .is .may .there₁))
+    (d .holds .is .may .there₁))
 
 node-at-requires : tie.Need-node-at-requires Inv-loop μ-loop
 node-at-requires c κs = search needs
@@ -79,8 +79,8 @@ returns-3 c =
     (c .before .before .before .before .node-at .ensures .0)
     (c .before .before .before .has .ensures .is
     (not-false _ (c .before .before .if2 .left))) in
-    grows-map (rw e at (c .before .loop .inv .1)) (λ p q d. record { seen = s; some = d })
-    (λ p q d. d .some)
+    grows-map (rw e at (c .before .loop .inv .1)) (λ p q d. record { seen = s; holds = d })
+    (λ p q d. d .holds)
 
 pub mark-row-spec : {M : Type 1} → statement M
 mark-row-spec =

@@ -23,16 +23,16 @@ same-length c = search needs
 
 returns : tie.Need-returns
 returns c = record {
-  yes = λ e. (
+  lowered = λ e. (
     c .if1 .taken,
     omega (arith, c .before .slice-known .given (c .before .before .args .at)),
     refl,
   );
-  not = λ e. absurd (clash cc);
+  kept = λ e. absurd (clash cc);
 }
 
 returns-2 : tie.Need-returns-2
-returns-2 c = record { yes = λ e. absurd (clash cc); not = λ e. (c .if1 .left, refl) }
+returns-2 c = record { lowered = λ e. absurd (clash cc); kept = λ e. (c .if1 .left, refl) }
 
 pub put-lower-spec : {M : Type 1} → statement M
 put-lower-spec =

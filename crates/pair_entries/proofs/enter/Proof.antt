@@ -7,7 +7,7 @@ useful-kinds-requires : tie.Need-useful-kinds-requires
 useful-kinds-requires c κs = search needs
 
 returns : tie.Need-returns
-returns c = entered-none _ _ _ _ (c .before .useful-kinds .ensures .none (c .if1 .taken))
+returns c = entered-none _ _ _ _ (c .before .useful-kinds .ensures .absent (c .if1 .taken))
 
 put-entry-requires : tie.Need-put-entry-requires
 put-entry-requires c κs = search needs
@@ -21,7 +21,7 @@ same-length c = search needs
 returns-2 : tie.Need-returns-2
 returns-2 c = entered-one (c .before .before .before .before .before .before .before .pre .0 .1)
     (c .before .before .put-entry .ensures)
-    (c .before .before .before .before .before .useful-kinds .ensures .some
+    (c .before .before .before .before .before .useful-kinds .ensures .present
     (c .before .before .before .before .if1 .left))
     (c .before .before .before .before .before .before .before .pre .1 .0)
     (c .before .before .before .before .before .before .before .pre .1 .1)

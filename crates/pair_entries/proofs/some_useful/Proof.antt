@@ -28,7 +28,7 @@ useful-kinds-requires : tie.Need-useful-kinds-requires Inv-loop μ-loop
 useful-kinds-requires c κs = search needs
 
 returns : tie.Need-returns Inv-loop μ-loop
-returns c = record { none = λ e. absurd (true-not-false e) }
+returns c = record { absent = λ e. absurd (true-not-false e) }
 
 add-s : tie.Need-add-s Inv-loop μ-loop
 add-s c = search needs

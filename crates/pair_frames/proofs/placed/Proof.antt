@@ -29,9 +29,9 @@ returns-2 c =
     record {
       two = λ k. absurd (omega (arith, c .before .if3 .taken));
       one = λ k. c .before .before .if2 .taken;
-      leaf = λ k. h .none;
+      leaf = λ k. h .absent;
     })
-    (λ h. record { none = h .leaf (c .before .if3 .taken) }) (c .none-amid .ensures)
+    (λ h. record { absent = h .leaf (c .before .if3 .taken) }) (c .none-amid .ensures)
 
 returns-3 : tie.Need-returns-3
 returns-3 c =

@@ -5,10 +5,10 @@ use Rattle.pair_frames.proofs.suits.Statement.{statement}
 use Rattle.pair_frames.proofs.suits.Tie as tie
 
 returns : tie.Need-returns
-returns c = fails (λ h. omega (arith, h .some₁, c .if1 .taken))
+returns c = fails (λ h. omega (arith, h .nonempty₁, c .if1 .taken))
 
 returns-2 : tie.Need-returns-2
-returns-2 c = fails (λ h. omega (arith, h .some₂, c .if2 .taken))
+returns-2 c = fails (λ h. omega (arith, h .nonempty₂, c .if2 .taken))
 
 returns-3 : tie.Need-returns-3
 returns-3 c = fails (λ h. omega (arith, h .before, c .if3 .taken))
@@ -27,8 +27,8 @@ returns-5 c =
     says-iff
     (λ h.
     record {
-      some₁ = omega arith;
-      some₂ = omega arith;
+      nonempty₁ = omega arith;
+      nonempty₂ = omega arith;
       before = omega arith;
       behind = omega arith;
       placed₁ = c .before .before .placed .ensures .is (c .before .if5 .taken);

@@ -108,7 +108,7 @@ array-read-a c =
     let a = z .args in
     let v = c .before .before .before .before .before .before .before .before .loop .inv in
     let e = (c .wide .ensures) in
-    omega (arith, v .walk .fits, v .walk .some, v .low)
+    omega (arith, v .walk .fits, v .walk .nonempty, v .low)
 
 array-read-l : tie.Need-array-read-l Inv-loop μ-loop
 array-read-l c =
@@ -117,7 +117,7 @@ array-read-l c =
     let a = z .args in
     let v = c .before .before .before .before .before .before .before .before .loop .inv in
     let e = (c .wide .ensures) in
-    omega (arith, v .walk .fits, v .walk .some, v .low)
+    omega (arith, v .walk .fits, v .walk .nonempty, v .low)
 
 loop-less : tie.Need-loop-less Inv-loop μ-loop
 loop-less c =

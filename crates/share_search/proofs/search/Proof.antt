@@ -161,7 +161,7 @@ returns-2 c =
     let n = c .nothing2 .ensures in (
       miss (n .0) (n .1) (over (below a) (a .args .end) (l .inv .0 .before)
           (v .0 .barren (c .before .before .before .before .if2 .taken))
-          (c .before .before .before .successor .ensures .none
+          (c .before .before .before .successor .ensures .absent
           (not-true _ (c .before .if3 .taken)))),
       (past-then (past-then (c .before .before .before .before .before .before .before
           .before .before .before .before .before .before .before .before .before

@@ -23,7 +23,7 @@ at-most-requires-4 c κs =
 returns : tie.Need-returns
 returns c =
     record {
-      none = c .at-most4 .ensures;
+      unmarked = c .at-most4 .ensures;
       offalign = c .before .at-most3 .ensures;
       offside = c .before .before .at-most2 .ensures;
       single = c .before .before .before .at-most .ensures;

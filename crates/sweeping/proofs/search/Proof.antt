@@ -329,7 +329,7 @@ search-again-2 c =
       longer (v .2) (t .before)
           (ruled-out t (c .before .before .before .before .before .before .before .before
           .look .ensures .0 .0) (c .before .before .before .if3 .taken))
-          (c .before .before .successor .ensures .none (not-true _ (c .if4 .taken))),
+          (c .before .before .successor .ensures .absent (not-true _ (c .if4 .taken))),
       past-then (v .3) (past-then (past-then
           (past-longer _ (c .before .before .before .before .before .before .before .before .before
           .before .before .loop .inv .3) (c .before .before .before .before
