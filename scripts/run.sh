@@ -105,12 +105,11 @@ build() { # PROGRAM
     say "the program is proved and built first: $((count)) crates, some minutes where none is proved yet"
     mkdir -p "$top/target" || return 1
     log=$top/target/build-$1.log
-    # crates are proved in batches, and a batch waits for its slowest: four at a time keep two cores busy
     {
-        (cd "$top" && RT_JOBS=${RT_JOBS:-4} rt check "$1" 2>&1)
+        (cd "$top" && scripts/prove.sh "$1" && rt check "$1" 2>&1)
         echo "rt ended with $?"
     } </dev/null | tee "$log" | awk -v name="$name" -v count="$((count))" '
-        /^rt: [a-z_]+ proved/ { printf "%s: proved %d of %d: %s\n", name, ++done, count, $2 > "/dev/stderr" }
+        /^rt: [a-z_]+ proved/ && !told[$2]++ { printf "%s: proved %d of %d: %s\n", name, ++done, count, $2 > "/dev/stderr" }
         { ended = $0 }
         END { exit ended != "rt ended with 0" }' || {
         say "it could not be built; target/build-$1.log says why"

@@ -271,7 +271,8 @@ class First(Room):
             (self.room / "crates" / crate.name).mkdir(parents=True)
         self.tools = self.room / "tools"
         self.tools.mkdir()
-        for tool in ("sh", "awk", "cat", "cp", "dirname", "find", "mkdir", "readlink", "sed", "tee", "touch", "wc"):
+        tools = "sh awk cat cp cut dirname find grep ln mkdir mkfifo mktemp readlink rm sed sort tee touch wc"
+        for tool in tools.split():
             (self.tools / tool).symlink_to(shutil.which(tool))
 
     def check(self):
@@ -310,6 +311,28 @@ class First(Room):
         self.kit("echo 'rt: sets proved (3 s)'")
         self.assertIn("proved 1 of", self.check()[2])
         self.assertEqual(self.check(), (0, TWO, ""))
+
+    def test_a_crate_is_begun_once_those_that_it_names_are_proved(self):
+        (self.tools / "sleep").symlink_to(shutil.which("sleep"))
+        told = self.room / "told"
+        self.kit(f"echo begun $2 >>'{told}'; sleep 0.02; echo ended $2 >>'{told}'; echo \"rt: $2 proved (0 s)\"")
+        self.check()
+        named = {}
+        for line in (TOP / "crates.txt").read_text().splitlines():
+            if ":" in line and not line.startswith("#"):
+                crate, names = line.split(":")
+                named[crate] = set(names.split())
+        running, ended = set(), set()
+        for word, crate in (line.split() for line in told.read_text().splitlines()):
+            if word == "begun":
+                self.assertLessEqual(named[crate] & set(named), ended, crate)
+                running.add(crate)
+                self.assertLessEqual(len(running), 2)
+            else:
+                running.remove(crate)
+                ended.add(crate)
+        self.assertIn("checker", ended)
+        self.assertLessEqual(named["checker"] & set(named), ended)
 
     def test_a_build_that_fails_is_3(self):
         self.kit("echo 'rt: sets NOT PROVED'; exit 1")
