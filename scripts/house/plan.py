@@ -14,13 +14,10 @@ PICTURE = TOP / "docs" / "pictures" / "crates.svg"
 LETTER, LINE, LEFT, WIDE = 7.3, 22, 330, 1080
 # crates whose types go through a crate that does not name them
 UNNAMED = {
+    "c_interface": {"column_search", "row_counts"},
     "checks": {"sweep_answers", "grammar"},
     "rights_text": {"sheets"},
     "clause_text": {"sheets", "grammar"},
-    "c_trees": {"sheets"},
-    "c_clauses": {"sweep_answers", "grammar"},
-    "c_rights": {"sheets"},
-    "c_columns": {"sheets"},
 }
 
 

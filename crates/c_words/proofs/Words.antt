@@ -10,7 +10,7 @@ use Rattle.grammar.specs.declared.Token.{Token}
 use Rattle.grammar.specs.declared.Sentence.{Sentence}
 use Rattle.grammar.specs.Layout.{Word, line, col}
 use Rattle.printing.specs.Printing.{Wrote}
-use Rattle.c_words.specs.Words.{tokenWords, sentenceWords, foundWords}
+use Rattle.c_words.specs.Words.{tokenWords, sentenceWords, foundWords, AtFront, few, written}
 
 words-snoc : (w : Word) (t : Token)
     → tokenWords (w ++ (t ∷ [])) ≡ tokenWords w ++ (t .terminal ∷ line t ∷ col t ∷ [])
@@ -45,3 +45,11 @@ wrote-front {old} {new} {ws} {r} {n} e w =
     let rest : drop n new ≡ drop n old = rw k at (w .rest) in
     sym (take-append-drop n new) ∙ ap (λ (l : List ℕ). l ++ drop n new) front
     ∙ ap (λ (l : List ℕ). ws ++ l) rest
+
+-- two memories that have the same words at the front of the same lent ones are the same
+pub front-settled : {n : ℕ} {ws vs lent a b : List ℕ} → ws ≡ vs → AtFront n ws lent a
+    → AtFront n vs lent b → a ≡ b
+front-settled e (few l x) (few m y) = x ∙ sym y
+front-settled e (few l x) (written m y) = absurd (omega arith)
+front-settled e (written l x) (few m y) = absurd (omega arith)
+front-settled e (written l x) (written m y) = x ∙ rw e (sym y)

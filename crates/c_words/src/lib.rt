@@ -1,13 +1,84 @@
-// Numbers, row counts and sentences put into lent words.
+// Answers, numbers, row counts and sentences as numbers and put into lent words.
+use call_always::Told;
+use column_search::Flags;
 use grammar::Sentence;
 use grammar::Token;
+use row_counts::RowCount;
+use sheets::Answer;
+use sheets::fault_number;
+ghost use mathlib.Core.Path.{_≡_};
 ghost use mathlib.Core.List.{[], _∷_};
 ghost use Prim.Native.Nat.{_+_, _≤_, _<_};
 ghost use lib.ListN.{length, take};
 ghost use Rattle.grammar.specs.Layout.{line as lineOf, col};
 ghost use Rattle.printing.specs.Printing.{Wrote};
+ghost use Rattle.c_words.specs.Codes.{codeOf, toldCode, withLine, packed, toldPacked};
 ghost use Rattle.c_words.specs.Words.{tokenWords, sentenceWords, foundWords, AtFront};
-ghost use Rattle.c_words.specs.Words.{countWords};
+ghost use Rattle.c_words.specs.Words.{countWord, countWords, shareWords};
+ghost use Rattle.c_words.specs.Words.{flagWord, flagWords};
+
+// The code of an answer.
+fn code(a: Answer) -> u64
+    ensures { λ r. ⌜ r ≡ codeOf a ⌝ }
+    ensures { λ r. ⌜ r < 200 ⌝ }
+{
+    match a {
+        Answer::None => 0,
+        Answer::One => 1,
+        Answer::Two => 2,
+        Answer::Clear => 3,
+        Answer::Given => 4,
+        Answer::Refused(f) => 100 + fault_number(f),
+    }
+}
+
+// The code of what is told.
+fn told_code(t: Told) -> u64
+    ensures { λ r. ⌜ r ≡ toldCode t ⌝ }
+    ensures { λ r. ⌜ r < 200 ⌝ }
+{
+    match t {
+        Told::Clear => 3,
+        Told::Unknown => 5,
+        Told::Refused(f) => 100 + fault_number(f),
+    }
+}
+
+// A code and a line as one number.
+fn with_line(code: u64, line: usize) -> u64
+    requires { ⌜ code < 200 ⌝ }
+    ensures { λ r. ⌜ r ≡ withLine code line ⌝ }
+{
+    let high = code * 4294967296;
+    if line < 4294967295 {
+        return high + line as u64;
+    }
+    high + 4294967295
+}
+
+// An answer and its line as one number.
+pub fn pack(a: Answer, line: usize) -> u64
+    ensures { λ r. ⌜ r ≡ packed a line ⌝ }
+{
+    with_line(code(a), line)
+}
+
+// What the test at every length tells and its line as one number.
+pub fn pack_told(t: Told, line: usize) -> u64
+    ensures { λ r. ⌜ r ≡ toldPacked t line ⌝ }
+{
+    with_line(told_code(t), line)
+}
+
+// A row count as a number: 4,294,967,296 where there are more than 4,294,967,295 rows.
+pub fn count(c: RowCount) -> usize
+    ensures { λ r. ⌜ r ≡ countWord c ⌝ }
+{
+    match c {
+        RowCount::Exact(n) => n as usize,
+        RowCount::More => 4294967296,
+    }
+}
 
 // One word at a place; the place after it.
 pub fn put_word(found: &mut [u64], at: usize, v: u64) -> usize
@@ -81,5 +152,47 @@ pub fn put_counts(counts: &mut [u64], first: usize, second: usize)
     if 2 <= counts.len() {
         let next = put_word(counts, 0, first as u64);
         put_word(counts, next, second as u64);
+    }
+}
+
+// The sentence, where the lent words are enough for it.
+pub fn put_found_sentence(found: &mut [u64], s: Sentence)
+    ensures { λ r. ⌜ AtFront 22 (sentenceWords s) (now (found .entry)) (now (found .exit)) ⌝ }
+{
+    if 22 <= found.len() {
+        put_sentence(found, s);
+    }
+}
+
+// The lowest number, M ÷ p and its remainder, where the lent words are enough for them.
+pub fn put_numbers(numbers: &mut [u64], number: u64, quotient: u64, remainder: u64)
+    ensures { λ r. ⌜ AtFront 3 (shareWords number quotient remainder) (now (numbers .entry))
+        (now (numbers .exit)) ⌝ }
+{
+    if 3 <= numbers.len() {
+        let a = put_word(numbers, 0, number);
+        let b = put_word(numbers, a, quotient);
+        put_word(numbers, b, remainder);
+    }
+}
+
+// Yes is 1, no is 0.
+fn bit(b: bool) -> u64
+    ensures { λ r. ⌜ r ≡ flagWord b ⌝ }
+{
+    if b {
+        return 1;
+    }
+    0
+}
+
+// The three flags, where the lent words are enough for them.
+pub fn put_flags(found: &mut [u64], f: Flags)
+    ensures { λ r. ⌜ AtFront 3 (flagWords f) (now (found .entry)) (now (found .exit)) ⌝ }
+{
+    if 3 <= found.len() {
+        let a = put_word(found, 0, bit(f.none));
+        let b = put_word(found, a, bit(f.one));
+        put_word(found, b, bit(f.two));
     }
 }

@@ -1,0 +1,73 @@
+-- `code` meets its contract: in each arm the answer is known.
+use mathlib.Core.Path.{refl}
+use native.Mathlib.Omega.{arith}
+use Rattle.sheets.proofs.Numbers.{number-small}
+use borrow.Author.Needs.{needs}
+use Rattle.c_words.proofs.code.Statement.{statement}
+use Rattle.c_words.proofs.code.Tie as tie
+
+enum-told : tie.Need-enum-told
+enum-told c = search needs
+
+enum-told-2 : tie.Need-enum-told-2
+enum-told-2 c = search needs
+
+enum-told-3 : tie.Need-enum-told-3
+enum-told-3 c = search needs
+
+enum-told-4 : tie.Need-enum-told-4
+enum-told-4 c = search needs
+
+enum-told-5 : tie.Need-enum-told-5
+enum-told-5 c = search needs
+
+enum-known-a : tie.Need-enum-known-a
+enum-known-a c = search needs
+
+fault-number-requires : tie.Need-fault-number-requires
+fault-number-requires c κs = search needs
+
+add-result : tie.Need-add-result
+add-result c =
+    let h = number-small (c .before .before .a .given .0 .0) in
+    omega (arith, h, c .fault-number .ensures)
+
+returns : tie.Need-returns
+returns c = (rw (c .enum-told .given .1) refl, omega arith)
+
+returns-2 : tie.Need-returns-2
+returns-2 c = (rw (c .enum-told2 .given .1) refl, omega arith)
+
+returns-3 : tie.Need-returns-3
+returns-3 c = (rw (c .enum-told3 .given .1) refl, omega arith)
+
+returns-4 : tie.Need-returns-4
+returns-4 c = (rw (c .enum-told4 .given .1) refl, omega arith)
+
+returns-5 : tie.Need-returns-5
+returns-5 c = (rw (c .enum-told5 .given .1) refl, omega arith)
+
+returns-6 : tie.Need-returns-6
+returns-6 c =
+    let z = c .before .before in
+    let h = number-small (z .a .given .0 .0) in
+    (rw (z .a .given .1, c .fault-number .ensures) refl, omega (arith, h, c .fault-number .ensures))
+
+pub code-spec : {M : Type 1} → statement M
+code-spec =
+    tie.close
+    (tie.spec
+    enum-told
+    enum-told-2
+    enum-told-3
+    enum-told-4
+    enum-told-5
+    enum-known-a
+    fault-number-requires
+    add-result
+    returns
+    returns-2
+    returns-3
+    returns-4
+    returns-5
+    returns-6)
