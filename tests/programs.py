@@ -400,11 +400,13 @@ class Programs(Room):
         called, told = b"call\nclauses\n\n" + nested + TOKENS, b"call\nclauses-always\n\n" + nested
         for name, size, data, wanted in (
             ("checker", 640, GOOD, TWO),
-            ("sweeper", 320, SWEPT, teplonga.sweep_program(SWEPT)),
+            ("sweeper", 350, SWEPT, teplonga.sweep_program(SWEPT)),
             ("calls", 1500, called, calls.calls_program(called)),
             ("calls", 1500, told, calls.calls_program(told)),
         ):
-            self.assertEqual(run("sh", "-c", f"ulimit -s {size} && '{BUILT / name}'", data=data), (0, wanted, ""))
+            # what stands in the environment counts against the limit too
+            limited = ("env", "-i", "/bin/sh", "-c", f"ulimit -s {size} && exec '{BUILT / name}'")
+            self.assertEqual(run(*limited, data=data), (0, wanted, ""))
 
     def test_a_program_that_is_ended_is_told(self):
         status, out, errors = run("sh", "-c", f"ulimit -s 128 && '{CHECK}'", data=GOOD)
