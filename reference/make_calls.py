@@ -1,25 +1,14 @@
-"""Writes the cases for the calls and what the reference answers to them.
+"""The cases for the calls, with the reference's answers.
 
-    make_calls.py STDIN STDOUT           write the two files
-    make_calls.py --check STDIN STDOUT   compare with them; status 1 if not the same
-
-STDIN: each case is a header of 6 bytes (its length in five digits, byte 10),
-then the case: the letter `c` and an input of the program `calls`.  What no such
+A case is the letter `a` and an input of the program `calls`.  What no such
 input can hold is asked of the call itself: a letter (`k` clauses, `s` show,
 `m` change, `l` the refused line of a clause sheet and a token sheet), a blank,
 user, rule and the lengths of the first two parts in five digits each, parted
 by blanks, byte 10, and the parts; the new mark is the last part of `m`.  The
-next case follows at once.
-
-STDOUT: for each case the whole output of the program `calls`; for `l` the
-line's length, byte 10, the line and byte 10.
-
-Both modes have status 1 too where a case made by hand is not answered as it
-was meant to be; then nothing is written.
+output is the whole one of the program `calls`; for `l` the line's length,
+byte 10, the line and byte 10.
 """
 
-import sys
-from pathlib import Path
 from typing import NamedTuple
 
 import always_cases
@@ -32,7 +21,6 @@ import share_cases
 import teplonga
 import tours
 import tree_cases
-from make_programs import framed, kept
 
 
 class Call(NamedTuple):
@@ -77,7 +65,7 @@ class Call(NamedTuple):
     def case(self):
         """The case and its output."""
         text = None if self.word == b"line" else self.text()
-        return (self.parts(), self.direct()) if text is None else (b"c" + text, calls.calls_program(text))
+        return (self.parts(), self.direct()) if text is None else (b"a" + text, calls.calls_program(text))
 
 
 def of_clauses(case):
@@ -134,23 +122,14 @@ def goes_on(call, output, answer):
     return output.startswith(b"answer line\n" + (answer if isinstance(answer, bytes) else answer.encode()))
 
 
-def main(arguments):
-    check = "--check" in arguments
-    paths = [Path(each) for each in arguments if each != "--check"]
-    if len(paths) != 2:
-        print("usage: make_calls.py [--check] STDIN STDOUT", file=sys.stderr)
-        return 2
-    made = []
+def made():
+    """The cases and their outputs; where a case made by hand is not answered as it was meant to be, that is raised."""
+    inputs, outputs = [], []
     for listed, asks in PARTS:
         cases = [(asks(case), *asks(case).case()) for case in listed.cases()]
         for (answer, _), (call, _, output) in zip(listed.meant(), cases):
             if answer is not None and not goes_on(call, output, answer):
-                print(f"case {call!r}\n  got   {output!r}\n  meant {answer!r}")
-                return 1
-        made += cases
-    texts = (b"".join(framed(text) for _, text, _ in made), b"".join(output for *_, output in made))
-    return kept(paths, texts, check)
-
-
-if __name__ == "__main__":
-    sys.exit(main(sys.argv[1:]))
+                raise ValueError(f"case {call!r}\n  got   {output!r}\n  meant {answer!r}")
+        inputs += [text for _, text, _ in cases]
+        outputs += [output for *_, output in cases]
+    return inputs, outputs

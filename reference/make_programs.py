@@ -1,22 +1,9 @@
-"""Writes the cases for the programs `check` and `sweep`, and for the number of candidates tried, with the reference's answers.
+"""The cases for the programs `check` and `sweep`, and for the number of candidates tried, with the reference's answers.
 
-    make_programs.py STDIN STDOUT           write the two files
-    make_programs.py --check STDIN STDOUT   compare with them; status 1 if not the same
-
-STDIN: each case is a header of 6 bytes (length of the case in five digits,
-byte 10), then the case: a letter, `c` check or `s` sweep, and the program's
-input; or `t`, a bound in five digits and a rule sheet.  The next case follows
-at once.
-
-STDOUT: for each case the program's whole output; for `t` how many candidates
-the sweep tries, and byte 10.
-
-Both modes have status 1 too where a case made by hand is not answered as it
-was meant to be; then nothing is written.
+A case is a letter, `c` check or `w` sweep, and the program's input; or `t`, a
+bound in five digits and a rule sheet, whose output is how many candidates the
+sweep tries, and byte 10.
 """
-
-import sys
-from pathlib import Path
 
 import check_cases
 import far
@@ -40,15 +27,10 @@ class Far:
 PARTS = [
     (b"c", check_cases, teplonga.check_program, b"answer line\n"),
     (b"c", Far(far_cases.check_meant), far.check_program, b"answer line\n"),
-    (b"s", sweep_cases, teplonga.sweep_program, b"answer line\n"),
-    (b"s", Far(far_cases.sweep_meant), far.sweep_program, b"answer line\n"),
+    (b"w", sweep_cases, teplonga.sweep_program, b"answer line\n"),
+    (b"w", Far(far_cases.sweep_meant), far.sweep_program, b"answer line\n"),
     (b"t", tried_cases, tried_cases.output, b""),
 ]
-
-
-def framed(text):
-    assert len(text) < 100_000
-    return b"%05d\n" % len(text) + text
 
 
 def astray(meant, outputs, begin):
@@ -62,39 +44,15 @@ def astray(meant, outputs, begin):
     return None
 
 
-def kept(paths, made, check):
-    """Writes what was made, or compares it with what is there; status 1 if not the same."""
-    status = 0
-    for path, text in zip(paths, made):
-        if not check:
-            path.write_bytes(text)
-            print(f"{path}: {len(text)} bytes written")
-        elif path.is_file() and path.read_bytes() == text:
-            print(f"{path}: the same")
-        else:
-            print(f"{path}: differs")
-            status = 1
-    return status
-
-
-def main(arguments):
-    check = "--check" in arguments
-    paths = [Path(each) for each in arguments if each != "--check"]
-    if len(paths) != 2:
-        print("usage: make_programs.py [--check] STDIN STDOUT", file=sys.stderr)
-        return 2
+def made():
+    """The cases and their outputs; where a case made by hand is not answered as it was meant to be, that is raised."""
     inputs, outputs = [], []
     for letter, listed, program, begin in PARTS:
         texts = list(listed.cases())
         answers = [program(text) for text in texts]
         wrong = astray(listed.meant(), answers, begin)
         if wrong is not None:
-            print("input %r\n  got   %r\n  meant %r" % wrong)
-            return 1
+            raise ValueError("input %r\n  got   %r\n  meant %r" % wrong)
         inputs += [letter + text for text in texts]
         outputs += answers
-    return kept(paths, (b"".join(map(framed, inputs)), b"".join(outputs)), check)
-
-
-if __name__ == "__main__":
-    sys.exit(main(sys.argv[1:]))
+    return inputs, outputs

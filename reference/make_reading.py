@@ -15,7 +15,7 @@ import sys
 from pathlib import Path
 
 import teplonga
-from make_programs import kept
+from make_checks import kept
 from reading_cases import cases
 
 

@@ -29,12 +29,13 @@ def vectors(letter):
         length = int(data[at : at + 5])
         cases.append(data[at + 6 : at + 6 + length])
         at += 6 + length
-    asked = [case for case in cases if case[:1] in (b"c", b"s")]
-    # the numbers of candidates tried are the last lines, one a case
-    lines = (CHECKED / "stdout").read_bytes().splitlines(keepends=True)
+    asked = [case for case in cases if case[:1] in (b"c", b"w")]
+    tried = sum(case[:1] == b"t" for case in cases)
     names = b"answer line\n"
-    outputs = [names + text for text in b"".join(lines[: len(lines) + len(asked) - len(cases)]).split(names)[1:]]
-    assert len(asked) == len(outputs)
+    texts = (CHECKED / "stdout").read_bytes().split(names)[1 : len(asked) + 1]
+    # behind the last of them stand the numbers of candidates tried, a line each
+    texts[-1] = b"".join(texts[-1].splitlines(keepends=True)[:-tried])
+    outputs = [names + text for text in texts]
     return {case[1:]: output for case, output in zip(asked, outputs) if case[:1] == letter}
 
 
@@ -334,7 +335,7 @@ def main():
     lives = 0
     for letter, module, program, mutants in (
         (b"c", teplonga, far.check_program, CHECKS),
-        (b"s", far, far.sweep_program, SWEEPS),
+        (b"w", far, far.sweep_program, SWEEPS),
     ):
         held = vectors(letter)
         for name, make, meant in mutants:

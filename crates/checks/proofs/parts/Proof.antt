@@ -1,8 +1,8 @@
--- `call_checks::parts` meets its contract: what was put stands within the output.
+-- `checks::parts` meets its contract: what was put stands within the output.
 use Rattle.text.proofs.Within.{printed-within}
 use borrow.Author.Needs.{needs}
-use Rattle.call_checks.proofs.parts.Statement.{statement}
-use Rattle.call_checks.proofs.parts.Tie as tie
+use Rattle.checks.proofs.parts.Statement.{statement}
+use Rattle.checks.proofs.parts.Tie as tie
 
 returns : tie.Need-returns
 returns c = search needs

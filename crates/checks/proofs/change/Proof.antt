@@ -1,8 +1,8 @@
--- `call_checks::change` meets its contract: what was put stands within the output.
+-- `checks::change` meets its contract: what was put stands within the output.
 use Rattle.text.proofs.Within.{printed-within}
 use borrow.Author.Needs.{needs}
-use Rattle.call_checks.proofs.change.Statement.{statement}
-use Rattle.call_checks.proofs.change.Tie as tie
+use Rattle.checks.proofs.change.Statement.{statement}
+use Rattle.checks.proofs.change.Tie as tie
 
 five-requires : tie.Need-five-requires
 five-requires c κs = search needs
