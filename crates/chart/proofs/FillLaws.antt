@@ -21,7 +21,7 @@ use Rattle.tables.specs.Tables.{Table, One, Two, Leave, byTokens, byMarks, Fits
 use Rattle.tables.specs.Tables.{Below, rule}
 use Rattle.tables.specs.Tables.Again.{apart, below}
 use Rattle.joins.specs.declared.Tally.{Tally}
-use Rattle.joins.specs.Passes.{Inner, by-splits, Saturated, Joins}
+use Rattle.joins.specs.Passes.{Leaves, Saturated}
 use Rattle.tables.specs.Settled.{Settled, Ground}
 use Rattle.chart.specs.Filling.{Closed, Given}
 use Rattle.chart.specs.Openness.{anything, Open}
@@ -72,7 +72,7 @@ given-kept ws ws′ n s len fit long k = record {
 module _ (ws ws′ : List ℕ) (g : Rules) (h : Half) (n s len : ℕ) (k : SpanMarks) (b t : Tally)
     (distinct : Distinct g) (known : h .known ≤ length (h .word)) (fit : s + len ≤ n)
     (marked : Marked h s len k) (ground : Ground ws g h n s len)
-    (inner : Inner ws n s len k g b)
+    (short : len < 2) (leaves : Leaves k len g (length g) b)
     (sat : Saturated (getD ws 0 0) (getD ws 1 0) k len g b t)
     (w : WrotePair ws ws′ (pairAt n s len) (t .one) (t .two)) where
   shorter : (a c : ℕ) → c < len → a + c ≤ s + len → pairAt n a c ≡ pairAt n s len → ⊥
@@ -106,7 +106,7 @@ module _ (ws ws′ : List ℕ) (g : Rules) (h : Half) (n s len : ℕ) (k : SpanM
   sound kn =
       passes-from g h known distinct s len kn k marked (getD ws 0 0) (getD ws 1 0)
       (λ z a A x y. nulls z a A x y (omega arith)) (λ z a A x y. nulls₂ z a A x y (omega arith))
-      b (inner-from g h known distinct s len kn k marked ws n ground b inner) (sat .passes)
+      b (inner-from g h known distinct s len kn k marked b leaves) (sat .passes)
 
   pub closed : Closed ws ws′ g h n s len
   closed = record {
@@ -122,22 +122,14 @@ module _ (ws ws′ : List ℕ) (g : Rules) (h : Half) (n s len : ℕ) (k : SpanM
   }
     where
       each : (A i l : ℕ) → Stand (One ws′ n) g (byMarks k len) s len A i l → One ws′ n s len A
-      each = each-found ws ws′ g n s len k first second (t .one) (t .two) (getD ws 0 0)
+      each = each-found ws′ g n s len k (t .one) (t .two) (getD ws 0 0)
           (getD ws 1 0) (w .first) (w .second) (λ z a y. first a 0 z (omega arith) ∙ empty-first a)
-          (λ z a y. second a 0 z (omega arith) ∙ empty-second a) b t inner sat refl refl
+          (λ z a y. second a 0 z (omega arith) ∙ empty-second a) b t short leaves sat refl refl
 
       again : (A : ℕ) → Again (One ws′ n) (Two ws′ n) g (byMarks k len) s len A → Two ws′ n s len A
-      again = again-found ws ws′ g n s len k first second (t .one) (t .two) (getD ws 0 0)
+      again = again-found ws′ g n s len k (t .one) (t .two) (getD ws 0 0)
           (getD ws 1 0) (w .first) (w .second) (λ z a y. first a 0 z (omega arith) ∙ empty-first a)
-          (λ z a y. second a 0 z (omega arith) ∙ empty-second a) b t inner sat refl refl
-
--- a span of two tokens or more, by its marks
-pub joined : (ws ws′ : List ℕ) (g : Rules) (h : Half) (n s len : ℕ) (k : SpanMarks) → Distinct g
-    → h .known ≤ length (h .word) → s + len ≤ n → 2 ≤ len → Marked h s len k → Ground ws g h n s len
-    → Joins ws ws′ g n s len k → Closed ws ws′ g h n s len
-joined ws ws′ g h n s len k distinct known fit long marked ground j =
-    closed ws ws′ g h n s len k (j .inner) (j .last) distinct known fit marked ground
-    (by-splits long (j .splits)) (j .saturated) (j .wrote)
+          (λ z a y. second a 0 z (omega arith) ∙ empty-second a) b t short leaves sat refl refl
 
 -- ---- what stands over a span goes by its parts alone
 

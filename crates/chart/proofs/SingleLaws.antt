@@ -20,7 +20,7 @@ use Rattle.spans.proofs.Places.{pairAt-same, pairAt-empty}
 use Rattle.spans.proofs.ChangeLaws.{past-same, past-then, kept-past}
 use Rattle.joins.specs.declared.Tally.{Tally}
 use Rattle.tables.specs.Tables.{One, Two}
-use Rattle.joins.specs.Passes.{Leaves, by-leaves, Saturated}
+use Rattle.joins.specs.Passes.{Leaves, Saturated}
 use Rattle.chart.specs.Leaves.{EmptyPair, Leaf, LeafAt}
 use Rattle.tables.specs.Settled.{Settled}
 use Rattle.chart.specs.Filling.{Closed}
@@ -60,7 +60,7 @@ module _ {g : Rules} {b t : Tally} {col : Column} (distinct : Distinct g)
   unfolding before nothing
   here = closed before after g nothing 0 0 0 (alone 0 col) b t distinct (omega arith) (omega arith)
       (no-tokens nothing 0 0 0 col refl) (record { parts = λ c d x y z. absurd (omega arith) })
-      (by-leaves (omega arith) l) sat
+      (omega arith) l sat
       (subst (λ (p : ℕ). WrotePair before after p (t .one) (t .two)) (sym (pairAt-empty 0 0))
       wrote)
 
@@ -138,7 +138,7 @@ module _ {g : Rules} {x p q : ℕ} {b t : Tally} {col : Column} (distinct : Dist
         parts = λ c d y z v. subst (Settled (One unread 1) (Two unread 1) g single c)
             (let u : 0 ≡ d = omega arith in u) (nulls unread refl refl c);
       })
-      (by-leaves (omega arith) l) sat
+      (omega arith) l sat
       (subst (λ (i : ℕ). WrotePair unread read i (t .one) (t .two)) (sym second-pair)
       wrote-leaf)
 

@@ -13,50 +13,42 @@ use Rattle.grammar.specs.Trees.{Rules}
 use Rattle.grammar.specs.SpanSheet.{firstWord, secondWord}
 use Rattle.marks.specs.declared.SpanMarks.{SpanMarks}
 use Rattle.joins.specs.declared.Tally.{Tally}
-use Rattle.cuts.specs.Cuts as Cuts
-use Rattle.cuts.specs.Counts.More.{apart as two-choices, below as one-doubled}
 use Rattle.tables.specs.Tables.{One, Two, byMarks, Fits, Stand, Below, Again, rule}
 use Rattle.tables.specs.Tables.Again.{apart, below}
-use Rattle.joins.specs.Passes.{noTally, sidesAt, SplitFits, SplitBelow, SplitRow, row-none}
-use Rattle.joins.specs.Passes.{row-more, Splits, splits-none, splits-more}
-use Rattle.joins.specs.Passes.{LeafFits, Leaves, leaves-none, leaves-more, Inner, by-leaves}
-use Rattle.joins.specs.Passes.{by-splits, by-cuts, alone, both, WholeSide, Pass, pass-none}
-use Rattle.joins.specs.Passes.{pass-more, resumed, Saturated}
+use Rattle.joins.specs.Passes.{noTally, LeafFits, Leaves, leaves-none, leaves-more, alone}
+use Rattle.joins.specs.Passes.{both, WholeSide, Pass, pass-none, pass-more, resumed}
+use Rattle.joins.specs.Passes.{Saturated}
 use Rattle.joins.proofs.TallyLaws.{Done, Standing, All, all-none, all-same, all-sets}
 use Rattle.joins.proofs.TallyLaws.{all-took, Still, still-same, still-took}
 use Rattle.joins.proofs.PassLaws.{Inside, AtEnd, inside-or-edge, InnerDone, LeafDone}
-use Rattle.joins.proofs.PassLaws.{SplitDone, WideDone, HalfDone, below-or-at, after-or-at}
-use Rattle.joins.proofs.PassLaws.{splits-pos, passes-one, passes-two}
+use Rattle.joins.proofs.PassLaws.{WideDone, HalfDone, below-or-at, after-or-at}
+use Rattle.joins.proofs.PassLaws.{passes-one, passes-two}
 
--- the words ws, before the span's pair is written, and ws′, after: the pairs of shorter parts are
--- the same
-module _ (ws ws′ : List ℕ) (g : Rules) (n s len : ℕ) (k : SpanMarks)
-    (first : (a b : ℕ) → b < len → a + b ≤ s + len → firstWord ws′ n a b ≡ firstWord ws n a b)
-    (second : (a b : ℕ) → b < len → a + b ≤ s + len
-    → secondWord ws′ n a b ≡ secondWord ws n a b) where
+-- the words ws, after the span's pair is written
+module _ (ws : List ℕ) (g : Rules) (n s len : ℕ) (k : SpanMarks) where
   abbrev Held : Standing
-  Held A j l = Stand (One ws′ n) g (byMarks k len) s len A j l
+  Held A j l = Stand (One ws n) g (byMarks k len) s len A j l
 
   abbrev Doubled : Done
-  Doubled j l = Below (Two ws′ n) s len (rule g j .clause) l
+  Doubled j l = Below (Two ws n) s len (rule g j .clause) l
 
   -- ---- the inner choices
 
   leaf-at-0 : len < 2 → (c : Clause) (l : ℕ) → Inside len c l
-      → Fits (One ws′ n) (byMarks k len) s len c l → l ≡ 0
+      → Fits (One ws n) (byMarks k len) s len c l → l ≡ 0
   leaf-at-0 h Clause.Empty l d q = q .1
   leaf-at-0 h (Clause.Atom a a′) l d q = q .1
   leaf-at-0 h (Clause.Unary B m) l d q = absurd d
   leaf-at-0 h (Clause.Binary B C m) l d q = omega (arith, d .0, d .1)
 
-  leaf-fits : len < 2 → (c : Clause) → Inside len c 0 → Fits (One ws′ n) (byMarks k len) s len c 0
+  leaf-fits : len < 2 → (c : Clause) → Inside len c 0 → Fits (One ws n) (byMarks k len) s len c 0
       → LeafFits k len c
   leaf-fits h Clause.Empty d q = q .0
   leaf-fits h (Clause.Atom a a′) d q = (q .0, q .2)
   leaf-fits h (Clause.Unary B m) d q = d
   leaf-fits h (Clause.Binary B C m) d q = absurd (omega (arith, d .0))
 
-  leaf-below : (c : Clause) → Below (Two ws′ n) s len c 0 → LeafFits k len c → ⊥
+  leaf-below : (c : Clause) → Below (Two ws n) s len c 0 → LeafFits k len c → ⊥
   leaf-below Clause.Empty b q = b
   leaf-below (Clause.Atom a a′) b q = b
   leaf-below (Clause.Unary B m) b q = q
@@ -74,155 +66,25 @@ module _ (ws ws′ : List ℕ) (g : Rules) (n s len : ℕ) (k : SpanMarks)
       (sym (c .left), leaf-fits h (rule g i .clause) (d .1) (c .fits)))
       (leaf-below (rule g i .clause)) w (leaves-all h q)
 
-  split-fits : (l : ℕ) → 0 < l → l < len → (c : Clause) → Inside len c l
-      → Fits (One ws′ n) (byMarks k len) s len c l → SplitFits (sidesAt ws n s len l) k len l c
-  split-fits l x y Clause.Empty d q = absurd (omega (arith, q .1))
-  split-fits l x y (Clause.Atom a a′) d q = absurd (omega (arith, q .1))
-  split-fits l x y (Clause.Unary B m) d q = d
-  split-fits l x y (Clause.Binary B C m) d q = (
-    subst (λ (z : ℕ). In z B) (first s l y (omega arith)) (q .1),
-    subst (λ (z : ℕ). In z C)
-        (first (s + l) (len - l) (omega arith) (omega arith)) (q .2),
-    q .3,
-  )
-
-  split-below : (l : ℕ) → 0 < l → l < len → (c : Clause) → Below (Two ws′ n) s len c l
-      → SplitFits (sidesAt ws n s len l) k len l c → SplitBelow (sidesAt ws n s len l) c
-  split-below l x y Clause.Empty b q = b
-  split-below l x y (Clause.Atom a a′) b q = b
-  split-below l x y (Clause.Unary B m) b q = q
-  split-below l x y (Clause.Binary B C m) b q =
-      ⊎-elim (λ z. inl (subst (λ (z : ℕ). In z B) (second s l y (omega arith)) z))
-      (λ z. inr (subst (λ (z : ℕ). In z C)
-      (second (s + l) (len - l) (omega arith) (omega arith)) z)) b
-
-  row-all : (l : ℕ) → 0 < l → l < len → {t u : Tally} {i : ℕ}
-      → SplitRow (sidesAt ws n s len l) k len l g t i u → All Held Doubled (SplitDone g len l 0) t
-      → All Held Doubled (SplitDone g len l i) u
-  row-all l x y row-none f = f
-  row-all l x y (row-more {i = i} {u = u} {v = v} q w) f =
-      all-took Held Doubled (SplitDone g len l i) (SplitDone g len l (i + 1)) i l (rule g i .left) u
-      v
-      (λ A j m d c. ⊎-elim (λ z. inl (d .0, inl z))
-      (λ z. ⊎-elim (λ z′. inl (d .0, inr (z .0, z′))) (λ z′. inr (z′, z .0))
-      (below-or-at i j (z .1))) (d .1))
-      (λ A d c. (sym (c .left), split-fits l x y (rule g i .clause) (d .0) (c .fits)))
-      (split-below l x y (rule g i .clause)) w (row-all l x y q f)
-
-  splits-all : 2 ≤ len → {l : ℕ} {t : Tally} → l ≤ len → Splits ws n s len k g l t
-      → All Held Doubled (SplitDone g len l 0) t
-  splits-all h b splits-none = all-none Held Doubled noTally (SplitDone g len 1 0)
-      (λ A j l d c. nothing (rule g j .clause) l (d .0) (d .1) (c .fits))
-    where
-      nothing : (c : Clause) (l : ℕ) {j : ℕ} → Inside len c l → (l < 1) ⊎ ((l ≡ 1) × (j < 0))
-          → Fits (One ws′ n) (byMarks k len) s len c l → ⊥
-      nothing c l d (inr z) q = omega (arith, z .1)
-      nothing Clause.Empty l d (inl z) q = omega (arith, q .0)
-      nothing (Clause.Atom a a′) l d (inl z) q = omega (arith, q .0)
-      nothing (Clause.Unary B m) l d (inl z) q = d
-      nothing (Clause.Binary B C m) l d (inl z) q = omega (arith, d .0)
-  splits-all h b (splits-more {l = l} {t = t} {u = u} q w) =
-      all-same Held Doubled (SplitDone g len l (length g)) (SplitDone g len (l + 1) 0) u
-      (λ A j m d c. (
-        d .0,
-        ⊎-elim (λ z. ⊎-elim inl (λ z′. inr (z′, c .within)) (below-or-at l m z))
-            (λ z. absurd (omega (arith, z .1))) (d .1),
-      ))
-      (row-all l (splits-pos q) (omega arith) w (splits-all h (omega arith) q))
-
-  inside-below : 2 ≤ len → (c : Clause) (l : ℕ) → Inside len c l
-      → Fits (One ws′ n) (byMarks k len) s len c l → l < len
-  inside-below h Clause.Empty l d q = omega (arith, q .1)
-  inside-below h (Clause.Atom a a′) l d q = omega (arith, q .1)
-  inside-below h (Clause.Unary B m) l d q = absurd d
-  inside-below h (Clause.Binary B C m) l d q = d .1
-
-  -- the same, all cuts at once: what stands by the words after stands by the words before
-  cut-fits : (l : ℕ) → 0 < l → l < len → (c : Clause) → Fits (One ws′ n) (byMarks k len) s len c l
-      → Fits (One ws n) (byMarks k len) s len c l
-  cut-fits l x y Clause.Empty q = absurd (omega (arith, q .1))
-  cut-fits l x y (Clause.Atom a a′) q = absurd (omega (arith, q .1))
-  cut-fits l x y (Clause.Unary B m) q = absurd (omega (arith, q .2))
-  cut-fits l x y (Clause.Binary B C m) q = (
-    q .0,
-    subst (λ (z : ℕ). In z B) (first s l y (omega arith)) (q .1),
-    subst (λ (z : ℕ). In z C)
-        (first (s + l) (len - l) (omega arith) (omega arith)) (q .2),
-    q .3,
-  )
-
-  cut-below : (l : ℕ) → 0 < l → l < len → (c : Clause) → Fits (One ws′ n) (byMarks k len) s len c l
-      → Below (Two ws′ n) s len c l → Below (Two ws n) s len c l
-  cut-below l x y Clause.Empty q b = b
-  cut-below l x y (Clause.Atom a a′) q b = b
-  cut-below l x y (Clause.Unary B m) q b = absurd (omega (arith, q .2))
-  cut-below l x y (Clause.Binary B C m) q b =
-      ⊎-elim (λ z. inl (subst (λ (z : ℕ). In z B) (second s l y (omega arith)) z))
-      (λ z. inr (subst (λ (z : ℕ). In z C)
-      (second (s + l) (len - l) (omega arith) (omega arith)) z)) b
-
-  inside-above : 2 ≤ len → (c : Clause) (l : ℕ) → Inside len c l
-      → Fits (One ws′ n) (byMarks k len) s len c l → 0 < l
-  inside-above h Clause.Empty l d q = omega (arith, q .0)
-  inside-above h (Clause.Atom a a′) l d q = omega (arith, q .0)
-  inside-above h (Clause.Unary B m) l d q = absurd d
-  inside-above h (Clause.Binary B C m) l d q = d .0
-
-  cuts-all : 2 ≤ len → (t : Tally) → t .seen ≡ t .one
-      → Cuts.Splits ws n s len k g (record { one = t .one; two = t .two })
+  inner-all : len < 2 → (t : Tally) → Leaves k len g (length g) t
       → All Held Doubled (InnerDone g len) t
-  cuts-all h t e f = record {
-    seen = λ A j l d c. subst (λ (z : ℕ). In z A) (sym e)
-        (f .one A .1 (record { rule = j; cut = l; stands = parted A j l d c }));
-    one = λ A j l d c. f .one A .1 (record { rule = j; cut = l; stands = parted A j l d c });
-    apart = λ A j l j′ l′ d d′ c c′ o. f .two A .1
-        (two-choices j l j′ l′ (parted A j l d c) (parted A j′ l′ d′ c′) o);
-    below = λ A j l d c b. f .two A .1
-        (one-doubled j l (parted A j l d c)
-        (cut-below l (above A j l d c) (under A j l d c) (rule g j .clause) (c .fits) b));
-  }
-    where
-      above : (A j l : ℕ) → InnerDone g len j l → Held A j l → 0 < l
-      above A j l d c = inside-above h (rule g j .clause) l d (c .fits)
-
-      under : (A j l : ℕ) → InnerDone g len j l → Held A j l → l < len
-      under A j l d c = inside-below h (rule g j .clause) l d (c .fits)
-
-      parted : (A j l : ℕ) → InnerDone g len j l → Held A j l → Cuts.Parted ws n s len k g A j l
-      parted A j l d c = record {
-        nonempty = above A j l d c;
-        rest = under A j l d c;
-        stand = record {
-          within = c .within;
-          left = c .left;
-          fits = cut-fits l (above A j l d c)
-              (under A j l d c) (rule g j .clause) (c .fits);
-        };
-      }
-
-  inner-all : (t : Tally) → Inner ws n s len k g t → All Held Doubled (InnerDone g len) t
-  inner-all t (by-leaves h q) = all-same Held Doubled (LeafDone g len (length g)) (InnerDone g len)
-      t (λ A j l d c. (c .within, d)) (leaves-all h q)
-  inner-all t (by-splits h q) =
-      all-same Held Doubled (SplitDone g len len 0) (InnerDone g len) t
-      (λ A j l d c. (d, inl (inside-below h (rule g j .clause) l d (c .fits))))
-      (splits-all h (omega arith) q)
-  inner-all t (by-cuts h e f) = cuts-all h t e f
+  inner-all h t q = all-same Held Doubled (LeafDone g len (length g)) (InnerDone g len) t
+      (λ A j l d c. (c .within, d)) (leaves-all h q)
 
   -- ---- the choices with the whole span on one side
 
-  -- ws′ has the pair f, p of the span, and one, two of the empty word
-  module _ (f p one two : ℕ) (own : firstWord ws′ n s len ≡ f) (own₂ : secondWord ws′ n s len ≡ p)
-      (empty : 0 < len → (a : ℕ) → a ≤ s + len → firstWord ws′ n a 0 ≡ one)
-      (empty₂ : 0 < len → (a : ℕ) → a ≤ s + len → secondWord ws′ n a 0 ≡ two) where
+  -- ws has the pair f, p of the span, and one, two of the empty word
+  module _ (f p one two : ℕ) (own : firstWord ws n s len ≡ f) (own₂ : secondWord ws n s len ≡ p)
+      (empty : 0 < len → (a : ℕ) → a ≤ s + len → firstWord ws n a 0 ≡ one)
+      (empty₂ : 0 < len → (a : ℕ) → a ≤ s + len → secondWord ws n a 0 ≡ two) where
     abbrev Stills : Done → Tally → Type 0
     Stills D t = Still Held Doubled f p D t
 
     -- a word that is read, of the span or of the empty word, is what the tally or the pair has
-    word-in : (F : List ℕ → ℕ → ℕ → ℕ → ℕ) (a b c d w x B : ℕ) → F ws′ n c d ≡ w → a ≡ c → b ≡ d
-        → x ≡ w → In (F ws′ n a b) B → In x B
+    word-in : (F : List ℕ → ℕ → ℕ → ℕ → ℕ) (a b c d w x B : ℕ) → F ws n c d ≡ w → a ≡ c → b ≡ d
+        → x ≡ w → In (F ws n a b) B → In x B
     word-in F a b c d w x B e ea eb ex m = subst (λ (z : ℕ). In z B)
-        (ap (λ (z : ℕ). F ws′ n z b) ea ∙ ap (λ (z : ℕ). F ws′ n c z) eb ∙ e ∙ sym ex) m
+        (ap (λ (z : ℕ). F ws n z b) ea ∙ ap (λ (z : ℕ). F ws n c z) eb ∙ e ∙ sym ex) m
 
     wide-to : (i : ℕ) (c : Clause) → rule g i .clause ≡ c → (l₀ : ℕ)
         → ((l : ℕ) → AtEnd len c l → l ≡ l₀) → (A j l : ℕ) → WideDone g len i j l → Held A j l
@@ -257,7 +119,7 @@ module _ (ws ws′ : List ℕ) (g : Rules) (n s len : ℕ) (k : SpanMarks)
     wide-still i (Clause.Unary B m) e t u w h =
         still-took Held Doubled f p (WideDone g len (i + 1)) (WideDone g len i) i 0 (rule g i .left)
         t u (wide-to i (Clause.Unary B m) e 0 (λ l x. x))
-        (λ x A d c. let q = subst (λ (z : Clause). Fits (One ws′ n) (byMarks k len) s len z 0) e
+        (λ x A d c. let q = subst (λ (z : Clause). Fits (One ws n) (byMarks k len) s len z 0) e
         (c .fits) in (
           sym (c .left),
           (
@@ -266,14 +128,14 @@ module _ (ws ws′ : List ℕ) (g : Rules) (n s len : ℕ) (k : SpanMarks)
             q .1,
           ),
         )) (λ x b q. let y = subst
-        (λ (z : Clause). Below (Two ws′ n) s len z 0) e b in
+        (λ (z : Clause). Below (Two ws n) s len z 0) e b in
         word-in secondWord s len s len p (t .two) B own₂ refl refl x y)
         w h
     wide-still i (Clause.Binary B C m) e t u (alone z w) h =
         still-took Held Doubled f p (WideDone g len (i + 1)) (WideDone g len i) i 0 (rule g i .left)
         t u (wide-to i (Clause.Binary B C m) e 0 (λ l x. ⊎-elim (λ y. y) (λ y. y ∙ z) x))
         (λ x A d c.
-        let q = subst (λ (z : Clause). Fits (One ws′ n) (byMarks k len) s len z 0) e (c .fits) in (
+        let q = subst (λ (z : Clause). Fits (One ws n) (byMarks k len) s len z 0) e (c .fits) in (
           sym (c .left),
           (
             word-in firstWord s 0 s len f (t .one) B own refl (sym z) x (q .1),
@@ -284,12 +146,12 @@ module _ (ws ws′ : List ℕ) (g : Rules) (n s len : ℕ) (k : SpanMarks)
         )) (λ x b q.
         ⊎-elim (λ y. inl (word-in secondWord s 0 s len p (t .two) B own₂ refl (sym z) x y))
         (λ y. inr (word-in secondWord (s + 0) (len - 0) s len p (t .two) C own₂ (omega arith)
-        (omega arith) x y)) (subst (λ (z : Clause). Below (Two ws′ n) s len z 0) e b))
+        (omega arith) x y)) (subst (λ (z : Clause). Below (Two ws n) s len z 0) e b))
         w h
     wide-still i (Clause.Binary B C m) e t u (both z v w w′) h =
         still-took Held Doubled f p (HalfDone g len i) (WideDone g len i) i len (rule g i .left) v u
         to-half (λ x A d c.
-        let q = subst (λ (z : Clause). Fits (One ws′ n) (byMarks k len) s len z len) e
+        let q = subst (λ (z : Clause). Fits (One ws n) (byMarks k len) s len z len) e
         (c .fits) in (
           sym (c .left),
           (
@@ -303,7 +165,7 @@ module _ (ws ws′ : List ℕ) (g : Rules) (n s len : ℕ) (k : SpanMarks)
         ⊎-elim (λ y. inl (word-in secondWord s len s len p (v .two) B own₂ refl refl x y))
         (λ y. inr (word-in secondWord (s + len) (len - len) (s + len) 0 two two C
         (empty₂ z (s + len) (omega arith)) refl (omega arith) refl y))
-        (subst (λ (z : Clause). Below (Two ws′ n) s len z len) e b))
+        (subst (λ (z : Clause). Below (Two ws n) s len z len) e b))
         w′ mid
       where
         at-edge : (j l : ℕ) → j ≡ i → AtEnd len (rule g j .clause) l → (l ≡ 0) ⊎ (l ≡ len)
@@ -322,7 +184,7 @@ module _ (ws ws′ : List ℕ) (g : Rules) (n s len : ℕ) (k : SpanMarks)
         mid =
             still-took Held Doubled f p (WideDone g len (i + 1)) (HalfDone g len i) i 0
             (rule g i .left) t v (λ A j l d c. d) (λ x A d c.
-            let q = subst (λ (z : Clause). Fits (One ws′ n) (byMarks k len) s len z 0) e
+            let q = subst (λ (z : Clause). Fits (One ws n) (byMarks k len) s len z 0) e
             (c .fits) in (
               sym (c .left),
               (
@@ -335,7 +197,7 @@ module _ (ws ws′ : List ℕ) (g : Rules) (n s len : ℕ) (k : SpanMarks)
             ⊎-elim (λ y. inl (word-in secondWord s 0 s 0 two two B (empty₂ z s (omega arith)) refl
             refl refl y)) (λ y. inr (word-in secondWord (s + 0) (len - 0) s len p (t .two) C
             own₂ (omega arith) (omega arith) x y))
-            (subst (λ (z : Clause). Below (Two ws′ n) s len z 0) e b))
+            (subst (λ (z : Clause). Below (Two ws n) s len z 0) e b))
             w h
 
     pass-still : (t : Tally) → Stills (InnerDone g len) t → {i : ℕ} {u : Tally}
@@ -348,32 +210,32 @@ module _ (ws ws′ : List ℕ) (g : Rules) (n s len : ℕ) (k : SpanMarks)
         wide-still i (rule g i .clause) refl u v w (pass-still t h q)
 
     -- so what the last pass of all says holds of the words that are written
-    module _ (b t : Tally) (inner : Inner ws n s len k g b) (sat : Saturated one two k len g b t)
-        (is-one : t .one ≡ f) (is-two : t .two ≡ p) where
+    module _ (b t : Tally) (short : len < 2) (leaves : Leaves k len g (length g) b)
+        (sat : Saturated one two k len g b t) (is-one : t .one ≡ f) (is-two : t .two ≡ p) where
       ended : All Held Doubled (WideDone g len 0) (sat .last)
       ended = pass-still (resumed b t) (record {
         one-grows = omega arith;
         two-grows = omega arith;
         all = λ x y. all-sets Held Doubled (InnerDone g len) b t (passes-one (sat .passes))
-            (passes-two (sat .passes)) (inner-all b inner);
+            (passes-two (sat .passes)) (inner-all short b leaves);
       }) (sat .passed) .all (sat .same-one ∙ is-one) (sat .same-two ∙ is-two)
 
       done : (A i l : ℕ) → Held A i l → WideDone g len 0 i l
       done A i l c = ⊎-elim inl (λ x. inr (omega arith, x))
-          (inside-or-edge (One ws′ n) (byMarks k len) s len (rule g i .clause) l (c .fits))
+          (inside-or-edge (One ws n) (byMarks k len) s len (rule g i .clause) l (c .fits))
 
-      to-first : (A : ℕ) → In (sat .last .one) A → One ws′ n s len A
+      to-first : (A : ℕ) → In (sat .last .one) A → One ws n s len A
       to-first A m = subst (λ (z : ℕ). In z A) (sat .same-one ∙ is-one ∙ sym own) m
 
-      to-second : (A : ℕ) → In (sat .last .two) A → Two ws′ n s len A
+      to-second : (A : ℕ) → In (sat .last .two) A → Two ws n s len A
       to-second A m = subst (λ (z : ℕ). In z A) (sat .same-two ∙ is-two ∙ sym own₂) m
 
-      pub each-found : (A i l : ℕ) → Stand (One ws′ n) g (byMarks k len) s len A i l
-          → One ws′ n s len A
+      pub each-found : (A i l : ℕ) → Stand (One ws n) g (byMarks k len) s len A i l
+          → One ws n s len A
       each-found A i l c = to-first A (ended .one A i l (done A i l c) c)
 
-      pub again-found : (A : ℕ) → Again (One ws′ n) (Two ws′ n) g (byMarks k len) s len A
-          → Two ws′ n s len A
+      pub again-found : (A : ℕ) → Again (One ws n) (Two ws n) g (byMarks k len) s len A
+          → Two ws n s len A
       again-found A (apart i l j m c d r) =
           to-second A (ended .apart A i l j m (done A i l c) (done A j m d) c d r)
       again-found A (below i l c x) = to-second A (ended .below A i l (done A i l c) c x)

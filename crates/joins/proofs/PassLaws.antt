@@ -19,20 +19,13 @@ use Rattle.marks.specs.declared.SpanMarks.{SpanMarks}
 use Rattle.marks.specs.Half.{Half}
 use Rattle.marks.specs.Marked.{Marked, UnaryBy, BinaryBy}
 use Rattle.joins.specs.declared.Tally.{Tally}
-use Rattle.cuts.specs.Cuts as Cuts
-use Rattle.cuts.specs.Counts as Counts
-use Rattle.cuts.specs.Counts.More.{apart as two-choices, below as one-doubled}
-use Rattle.joins.specs.declared.Sides.{Sides}
 use Rattle.tables.specs.Tables.{Table, One, Two, Leave, byTokens, byMarks, Fits, Stand, Below}
 use Rattle.tables.specs.Tables.{Again, rule}
 use Rattle.tables.specs.Tables.Again.{apart, below}
-use Rattle.joins.specs.Passes.{Took, fell, stood, sidesAt, SplitFits, SplitBelow, SplitRow}
-use Rattle.joins.specs.Passes.{row-none, row-more, Splits, splits-none, splits-more}
-use Rattle.joins.specs.Passes.{LeafFits, Leaves, leaves-none, leaves-more, Inner, by-leaves}
-use Rattle.joins.specs.Passes.{by-splits, by-cuts, Beside, alone, both, WholeSide, Pass}
+use Rattle.joins.specs.Passes.{Took, fell, stood, LeafFits, Leaves, leaves-none}
+use Rattle.joins.specs.Passes.{leaves-more, Beside, alone, both, WholeSide, Pass}
 use Rattle.joins.specs.Passes.{pass-none, pass-more, resumed, Passes, passes-none}
 use Rattle.joins.specs.Passes.{passes-more, Saturated}
-use Rattle.tables.specs.Settled.{Ground}
 use Rattle.joins.proofs.TallyLaws.{Done, Standing, took-one, took-two, took-in-one}
 use Rattle.joins.proofs.TallyLaws.{took-in-two, From, from-none, from-same, Brings}
 use Rattle.joins.proofs.TallyLaws.{from-took, from-sets}
@@ -46,24 +39,6 @@ took-if to of (fell n e) = fell (λ q. n (of q)) e
 took-if to of (stood again q w f) = stood again (to q) w f
 
 -- ---- tries that change nothing
-
-split-none : (p : Sides) (k : SpanMarks) (len l : ℕ) (c : Clause)
-    → (p .left .one ≡ 0) ⊎ (p .right .one ≡ 0) → SplitFits p k len l c → ⊥
-split-none p k len l Clause.Empty e q = q
-split-none p k len l (Clause.Atom a a′) e q = q
-split-none p k len l (Clause.Unary B m) e q = q
-split-none p k len l (Clause.Binary B C m) e q = ⊎-elim
-    (λ x. in-zero B (subst (λ (z : ℕ). In z B) x (q .0)))
-    (λ x. in-zero C (subst (λ (z : ℕ). In z C) x (q .1))) e
-
--- where a part has no tree, no rule stands over the two parts
-pub row-idle : (p : Sides) (k : SpanMarks) (len l : ℕ) (g : Rules) (t : Tally)
-    → (p .left .one ≡ 0) ⊎ (p .right .one ≡ 0) → (i : ℕ) → SplitRow p k len l g t i t
-row-idle p k len l g t e zero = row-none
-row-idle p k len l g t e (suc i) =
-    subst (λ (x : ℕ). SplitRow p k len l g t x t) (omega arith)
-    (row-more (row-idle p k len l g t e i)
-    (fell (split-none p k len l (rule g i .clause) e) refl))
 
 wide-none : (one two : ℕ) (k : SpanMarks) (len a : ℕ) (c : Clause) (t : Tally) → t .one ≡ 0
     → WholeSide one two k len a c t t
@@ -192,10 +167,6 @@ InnerDone g len j l = Inside len (rule g j .clause) l
 abbrev pub LeafDone : Rules → ℕ → ℕ → Done
 LeafDone g len i j l = (j < i) × Inside len (rule g j .clause) l
 
--- those with fewer than m tokens on the left, and with m those of the rules before i
-abbrev pub SplitDone : Rules → ℕ → ℕ → ℕ → Done
-SplitDone g len m i j l = Inside len (rule g j .clause) l × ((l < m) ⊎ ((l ≡ m) × (j < i)))
-
 -- all inner ones, and of the rules from i on the others
 abbrev pub WideDone : Rules → ℕ → ℕ → Done
 WideDone g len i j l = Inside len (rule g j .clause) l ⊎ ((i ≤ j) × AtEnd len (rule g j .clause) l)
@@ -224,13 +195,6 @@ leaf-inside k len (Clause.Atom a a′) q = tt
 leaf-inside k len (Clause.Unary B m) q = q
 leaf-inside k len (Clause.Binary B C m) q = absurd q
 
-split-inside : (p : Sides) (k : SpanMarks) (len l : ℕ) → 0 < l → l < len → (c : Clause)
-    → SplitFits p k len l c → Inside len c l
-split-inside p k len l x y Clause.Empty q = tt
-split-inside p k len l x y (Clause.Atom a a′) q = tt
-split-inside p k len l x y (Clause.Unary B m) q = q
-split-inside p k len l x y (Clause.Binary B C m) q = (x, y)
-
 wide-done-on : (g : Rules) (len i : ℕ) (j l : ℕ) → WideDone g len (i + 1) j l → WideDone g len i j l
 wide-done-on g len i j l d = ⊎-elim inl (λ x. inr (omega (arith, x .0), x .1)) d
 
@@ -239,11 +203,6 @@ wide-new : (g : Rules) (len i l : ℕ) (c : Clause) → rule g i .clause ≡ c �
     → WideDone g len (i + 1) i l → ⊥
 wide-new g len i l c e out d =
     ⊎-elim (λ x. out (subst (λ (y : Clause). Inside len y l) e x)) (λ x. omega (arith, x .0)) d
-
-pub splits-pos : {ws : List ℕ} {n s len : ℕ} {k : SpanMarks} {g : Rules} {l : ℕ} {t : Tally}
-    → Splits ws n s len k g l t → 0 < l
-splits-pos splits-none = omega arith
-splits-pos (splits-more q w) = let x = splits-pos q in omega arith
 
 -- where one word is empty each mark holds
 pub edge-mark : (k : SpanMarks) (len : ℕ) (m : BinaryMark) (l : ℕ) → (0 < l → l < len → ⊥)
@@ -320,120 +279,9 @@ module _ (g : Rules) (h : Half) (inner : h .known ≤ length (h .word)) (distinc
       (brings i 0 (LeafFits k len (rule g i .clause)) ⊥ (omega arith)
       (leaf-truth (rule g i .clause)) (λ x y. absurd y)) w (leaves-from (omega arith) q)
 
-  module _ (ws : List ℕ) (n : ℕ) (ground : Ground ws g h n s len) where
-    split-truth : (l : ℕ) → 0 < l → l < len → (c : Clause)
-        → SplitFits (sidesAt ws n s len l) k len l c → Fits (Truth g h) (byTokens h s len) s len c l
-    split-truth l x y Clause.Empty q = absurd q
-    split-truth l x y (Clause.Atom a a′) q = absurd q
-    split-truth l x y (Clause.Unary B m) q = absurd q
-    split-truth l x y (Clause.Binary B C m) q = (
-      omega arith,
-      ground .parts s l (omega arith) (omega arith) y .derived B (omega arith) (q .0),
-      ground .parts (s + l) (len - l) (omega arith) (omega arith) (omega arith) .derived C
-          (omega arith) (q .1),
-      marked .binary m l (omega arith) .0 (q .2),
-    )
-
-    split-below : (l : ℕ) → 0 < l → l < len → (c : Clause) → SplitBelow (sidesAt ws n s len l) c
-        → Below (Truth₂ g h) s len c l
-    split-below l x y Clause.Empty q = q
-    split-below l x y (Clause.Atom a a′) q = q
-    split-below l x y (Clause.Unary B m) q = absurd q
-    split-below l x y (Clause.Binary B C m) q =
-        ⊎-elim (λ z. inl (ground .parts s l (omega arith) (omega arith) y .more B (omega arith) z))
-        (λ z. inr (ground .parts (s + l) (len - l) (omega arith) (omega arith) (omega arith) .more C
-        (omega arith) z)) q
-
-    row-from : (l : ℕ) → 0 < l → l < len → {t u : Tally} {i : ℕ} → i ≤ length g
-        → SplitRow (sidesAt ws n s len l) k len l g t i u → Sounds (SplitDone g len l 0) t
-        → Sounds (SplitDone g len l i) u
-    row-from l x y b row-none f = f
-    row-from l x y b (row-more {i = i} {u = u} {v = v} q w) f =
-        from-took Real HasOne HasTwo (SplitDone g len l i) (SplitDone g len l (i + 1)) i l
-        (rule g i .left) u v
-        (λ d. ⊎-elim (λ z. omega arith) (λ z. omega (arith, z .1)) (d .1))
-        (λ j m d. (d .0, ⊎-elim inl (λ z. inr (z .0, omega (arith, z .1))) (d .1)))
-        (λ z. (
-          split-inside (sidesAt ws n s len l) k len l x y (rule g i .clause) z,
-          inr
-              (refl, omega arith),
-        ))
-        (brings i l (SplitFits (sidesAt ws n s len l) k len l (rule g i .clause))
-        (SplitBelow (sidesAt ws n s len l) (rule g i .clause)) (omega arith)
-        (split-truth l x y (rule g i .clause)) (λ z. split-below l x y (rule g i .clause)))
-        w (row-from l x y (omega arith) q f)
-
-    splits-from : {l : ℕ} {t : Tally} → l ≤ len → Splits ws n s len k g l t
-        → Sounds (SplitDone g len l 0) t
-    splits-from b splits-none = from-none Real HasOne HasTwo (SplitDone g len 1 0)
-    splits-from b (splits-more {l = l} {t = t} {u = u} q w) =
-        from-same Real HasOne HasTwo (SplitDone g len l (length g)) (SplitDone g len (l + 1) 0) u
-        (λ j m d. (d .0, inl (⊎-elim (λ z. omega arith) (λ z. omega (arith, z .0)) (d .1))))
-        (row-from l (splits-pos q) (omega arith) (omega arith) w (splits-from (omega arith) q))
-
-    -- the same, all cuts at once
-    cut-truth : (l : ℕ) → 0 < l → l < len → (c : Clause) → Fits (One ws n) (byMarks k len) s len c l
-        → Fits (Truth g h) (byTokens h s len) s len c l
-    cut-truth l x y Clause.Empty q = absurd (omega (arith, q .1))
-    cut-truth l x y (Clause.Atom a a′) q = absurd (omega (arith, q .1))
-    cut-truth l x y (Clause.Unary B m) q = absurd (omega (arith, q .2))
-    cut-truth l x y (Clause.Binary B C m) q =
-        split-truth l x y (Clause.Binary B C m) (q .1, q .2, q .3)
-
-    cut-below : (l : ℕ) → 0 < l → l < len → (c : Clause) → Fits (One ws n) (byMarks k len) s len c l
-        → Below (Two ws n) s len c l → Below (Truth₂ g h) s len c l
-    cut-below l x y Clause.Empty q b = b
-    cut-below l x y (Clause.Atom a a′) q b = b
-    cut-below l x y (Clause.Unary B m) q b = absurd (omega (arith, q .2))
-    cut-below l x y (Clause.Binary B C m) q b = split-below l x y (Clause.Binary B C m) b
-
-    cut-inside : (l : ℕ) → 0 < l → l < len → (c : Clause)
-        → Fits (One ws n) (byMarks k len) s len c l → Inside len c l
-    cut-inside l x y Clause.Empty q = tt
-    cut-inside l x y (Clause.Atom a a′) q = tt
-    cut-inside l x y (Clause.Unary B m) q = absurd (omega (arith, q .2))
-    cut-inside l x y (Clause.Binary B C m) q = (x, y)
-
-    real : (A j l : ℕ) → Cuts.Parted ws n s len k g A j l → Real A j l
-    real A j l c = record {
-      within = c .stand .within;
-      left = c .stand .left;
-      fits = cut-truth l
-          (c .nonempty) (c .rest) (rule g j .clause) (c .stand .fits);
-    }
-
-    cuts-from : (t : Tally) → t .seen ≡ t .one
-        → Cuts.Splits ws n s len k g (record { one = t .one; two = t .two })
-        → Sounds (InnerDone g len) t
-    cuts-from t e f = record {
-      seen = λ A i.
-          let q = f .one A .0 (subst (λ (z : ℕ). In z A) e i) in
-          let c = q .stands in (
-            q .rule,
-            q .cut,
-            cut-inside (q .cut) (c .nonempty) (c .rest) (rule g (q .rule) .clause)
-                (c .stand .fits),
-            real A (q .rule) (q .cut) c,
-          );
-      one = λ A i. let q = f .one A .0 i in
-          sound-stand (Truth g h) g h inner s len kn (λ a b A x y m. m) A (q .rule) (q .cut)
-          (real A (q .rule) (q .cut) (q .stands));
-      two = λ A i. again-two A (again A (f .two A .0 i));
-    }
-      where
-        again : (A : ℕ) → Counts.More (Cuts.Parted ws n s len k g)
-            (λ i l. Below (Two ws n) s len (rule g i .clause) l) A
-            → Again (Truth g h) (Truth₂ g h) g (byTokens h s len) s len A
-        again A (two-choices i l j m x y d) = apart i l j m (real A i l x) (real A j m y) d
-        again A (one-doubled i l x b) = below i l (real A i l x)
-            (cut-below l (x .nonempty) (x .rest) (rule g i .clause) (x .stand .fits) b)
-
-    pub inner-from : (t : Tally) → Inner ws n s len k g t → Sounds (InnerDone g len) t
-    inner-from t (by-leaves x q) = from-same Real HasOne HasTwo (LeafDone g len (length g))
-        (InnerDone g len) t (λ j l d. d .1) (leaves-from (omega arith) q)
-    inner-from t (by-splits x q) = from-same Real HasOne HasTwo (SplitDone g len len 0)
-        (InnerDone g len) t (λ j l d. d .0) (splits-from (omega arith) q)
-    inner-from t (by-cuts x e f) = cuts-from t e f
+  pub inner-from : (t : Tally) → Leaves k len g (length g) t → Sounds (InnerDone g len) t
+  inner-from t q = from-same Real HasOne HasTwo (LeafDone g len (length g)) (InnerDone g len) t
+      (λ j l d. d .1) (leaves-from (omega arith) q)
 
   -- one and two have what has trees of the empty word
   module _ (one two : ℕ) (nulls : 0 < len → (a A : ℕ) → s ≤ a → a ≤ s + len → In one A

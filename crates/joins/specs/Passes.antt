@@ -1,6 +1,6 @@
--- How a span's pair is found (inner: contracts of the functions that fill the span sheet): first
--- what stands by tokens and by shorter parts, then passes over the rules that have the whole span
--- on one side.
+-- How the pair of the empty word or of a token is found (inner: contracts of the functions that
+-- fill the span sheet): first what stands by itself, then passes over the rules that have the whole
+-- span on one side.
 use mathlib.Core.Path.{_≡_}
 use mathlib.Core.Bool.{Bool, true, false}
 use mathlib.Core.List.{List}
@@ -12,14 +12,9 @@ use Rattle.sets.specs.Sets.{In}
 use Rattle.grammar.specs.declared.Clause.{Clause}
 use Rattle.grammar.specs.declared.Clause.the-variants as Clause
 use Rattle.grammar.specs.Trees.{Rules}
-use Rattle.grammar.specs.SpanSheet.{pairAt, firstWord, secondWord}
 use Rattle.marks.specs.declared.SpanMarks.{SpanMarks}
 use Rattle.marks.specs.Marked.{AtomBy, UnaryBy, BinaryBy}
-use Rattle.spans.specs.Changes.{WrotePair}
-use Rattle.cuts.specs.Cuts as Cuts
 use Rattle.joins.specs.declared.Tally.{Tally}
-use Rattle.joins.specs.declared.Pair.{Pair}
-use Rattle.joins.specs.declared.Sides.{Sides}
 use Rattle.tables.specs.Tables.{rule}
 use Rattle.sets.specs.Insertion.{insert}
 
@@ -43,48 +38,11 @@ pub data Took (fits below : Type 0) (a : ℕ) (t u : Tally) : Type 0 where
   fell : (fits → ⊥) → u ≡ t → Took fits below a t u
   stood : (again : Bool) → fits → Says again below → Found t a again u → Took fits below a t u
 
--- ---- what stands by tokens and by shorter parts
+-- ---- what stands by itself
 
 -- the tally before any rule
 abbrev pub noTally : Tally
 noTally = record { seen = 0; one = 0; two = 0 }
-
--- a span's pair
-abbrev pub pairOf : List ℕ → ℕ → ℕ → ℕ → Pair
-pairOf ws n s len = record { one = firstWord ws n s len; two = secondWord ws n s len }
-
--- the pairs of the two parts of a span, cut after l tokens
-abbrev pub sidesAt : List ℕ → ℕ → ℕ → ℕ → ℕ → Sides
-sidesAt ws n s len l = record { left = pairOf ws n s l; right = pairOf ws n (s + l) (len - l) }
-
--- a clause stands over the two parts
-abbrev pub SplitFits : Sides → SpanMarks → ℕ → ℕ → Clause → Type 0
-SplitFits p k len l Clause.Empty = ⊥
-SplitFits p k len l (Clause.Atom a b) = ⊥
-SplitFits p k len l (Clause.Unary B m) = ⊥
-SplitFits p k len l (Clause.Binary B C m) =
-    In (p .left .one) B × In (p .right .one) C × BinaryBy k len m l
-
--- one of them has two trees
-abbrev pub SplitBelow : Sides → Clause → Type 0
-SplitBelow p Clause.Empty = ⊥
-SplitBelow p (Clause.Atom a b) = ⊥
-SplitBelow p (Clause.Unary B m) = ⊥
-SplitBelow p (Clause.Binary B C m) = In (p .left .two) B ⊎ In (p .right .two) C
-
--- the rules before i are tried over the two parts
-pub data SplitRow (p : Sides) (k : SpanMarks) (len l : ℕ) (g : Rules) (t : Tally) : ℕ → Tally
-    → Type 0 where
-  row-none : SplitRow p k len l g t 0 t
-  row-more : {i : ℕ} {u v : Tally} → SplitRow p k len l g t i u
-      → Took (SplitFits p k len l (rule g i .clause)) (SplitBelow p (rule g i .clause))
-      (rule g i .left) u v → SplitRow p k len l g t (i + 1) v
-
--- all rules are tried with each left length from 1 to below l
-pub data Splits (ws : List ℕ) (n s len : ℕ) (k : SpanMarks) (g : Rules) : ℕ → Tally → Type 0 where
-  splits-none : Splits ws n s len k g 1 noTally
-  splits-more : {l : ℕ} {t u : Tally} → Splits ws n s len k g l t
-      → SplitRow (sidesAt ws n s len l) k len l g t (length g) u → Splits ws n s len k g (l + 1) u
 
 -- a clause stands over no token or one by itself
 abbrev pub LeafFits : SpanMarks → ℕ → Clause → Type 0
@@ -98,13 +56,6 @@ pub data Leaves (k : SpanMarks) (len : ℕ) (g : Rules) : ℕ → Tally → Type
   leaves-none : Leaves k len g 0 noTally
   leaves-more : {i : ℕ} {t u : Tally} → Leaves k len g i t
       → Took (LeafFits k len (rule g i .clause)) ⊥ (rule g i .left) t u → Leaves k len g (i + 1) u
-
--- what stands over the span whatever stands over it besides
-pub data Inner (ws : List ℕ) (n s len : ℕ) (k : SpanMarks) (g : Rules) (t : Tally) : Type 0 where
-  by-leaves : len < 2 → Leaves k len g (length g) t → Inner ws n s len k g t
-  by-splits : 2 ≤ len → Splits ws n s len k g len t → Inner ws n s len k g t
-  by-cuts : 2 ≤ len → t .seen ≡ t .one
-      → Cuts.Splits ws n s len k g (record { one = t .one; two = t .two }) → Inner ws n s len k g t
 
 -- ---- what has the whole span on one side
 
@@ -150,14 +101,3 @@ pub record Saturated (one two : ℕ) (k : SpanMarks) (len : ℕ) (g : Rules) (b 
   pub passed : Pass one two k len g (resumed b t) 0 last
   pub same-one : last .one ≡ t .one
   pub same-two : last .two ≡ t .two
-
--- ---- the pair
-
--- how a span of two tokens or more is settled by its marks k: what stands by shorter parts, then
--- passes
-pub record Joins (ws ws′ : List ℕ) (g : Rules) (n s len : ℕ) (k : SpanMarks) : Type 0 where
-  pub inner : Tally
-  pub last : Tally
-  pub splits : Splits ws n s len k g len inner
-  pub saturated : Saturated (getD ws 0 0) (getD ws 1 0) k len g inner last
-  pub wrote : WrotePair ws ws′ (pairAt n s len) (last .one) (last .two)

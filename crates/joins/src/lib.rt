@@ -1,5 +1,5 @@
-// The pair of a span, found by the pairs of its parts: what stands by tokens and by shorter parts,
-// then passes over the rules.
+// The pair of the empty word or of a token: what stands by itself, then passes over the rules, with
+// the whole span on one side.
 use grammar::Clause;
 use grammar::Rule;
 use grammar::UnaryMark;
