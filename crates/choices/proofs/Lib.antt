@@ -1,2 +1,1 @@
 pub mod PickLaws
-pub mod ListLaws

@@ -10,7 +10,7 @@ use Rattle.sets.specs.Insertion.{insert}
 use Rattle.grammar.specs.Trees.{Rules}
 use Rattle.marks.specs.declared.SpanMarks.{SpanMarks}
 use Rattle.tables.specs.Tables.{One, byMarks, Fits, rule}
-use Rattle.choices.specs.RuleLists.{Listed, IsOf}
+use Rattle.rule_lists.specs.RuleLists.{Listed, IsOf}
 use Rattle.cuts.specs.Joining.{Joins}
 use Rattle.cuts.proofs.JoinLaws.{joins-as}
 use Rattle.cut_tables.proofs.TurnLaws.{Under, joins-zero, joins-next, joins-jump, joins-all}

@@ -1,7 +1,6 @@
 // Which nonterminals some whole valid tree contains over which word, and which of them have two
 // choices there, read off the span sheet: one word a span, start by start, the longest spans first.
 use choices::clause_fits;
-use choices::list_rules;
 use cut_tables::begin_row;
 use cut_tables::load_columns;
 use cuts::cut_masks;
@@ -13,6 +12,7 @@ use grammar::Sentence;
 use marks::Draft;
 use marks::SpanMarks;
 use marks::span_marks;
+use rule_lists::list_rules;
 use sets::Member;
 use sets::with;
 use spans::clear;
@@ -28,7 +28,7 @@ ghost use Rattle.grammar.specs.Trees.{Derives};
 ghost use Rattle.grammar.specs.SpanSheet.{pairs, SpanSheet};
 ghost use Rattle.marks.specs.Drafts.{drafted};
 ghost use Rattle.tables.specs.Tables.{Room};
-ghost use Rattle.choices.specs.RuleLists.{Listed};
+ghost use Rattle.rule_lists.specs.RuleLists.{Listed};
 ghost use Rattle.cuts.specs.Joining.{Joins};
 ghost use Rattle.cut_tables.specs.Tables.{Columns};
 ghost use Rattle.contained_spans.specs.PlaceWords.{PlaceWords};

@@ -2,7 +2,6 @@
 -- they have found all.
 use mathlib.Core.Path.{_≡_, refl, sym, ap, subst}
 use mathlib.Core.Logic.{_⊎_, inl, inr, ⊎-elim}
-use mathlib.Core.List.{List}
 use Prim.Native.Nat.{ℕ, zero, suc, _+_, _-_, _≤_, _<_}
 use native.Mathlib.Omega.{arith}
 use native.Mathlib.Decide.{ℕ-discrete, decLt}
@@ -19,7 +18,7 @@ use Rattle.marks.specs.declared.SpanMarks.{SpanMarks}
 use Rattle.marks.specs.Half.{Half}
 use Rattle.marks.specs.Marked.{Marked, UnaryBy, BinaryBy}
 use Rattle.joins.specs.declared.Tally.{Tally}
-use Rattle.tables.specs.Tables.{Table, One, Two, Leave, byTokens, byMarks, Fits, Stand, Below}
+use Rattle.tables.specs.Tables.{Table, Leave, byTokens, Fits, Stand, Below}
 use Rattle.tables.specs.Tables.{Again, rule}
 use Rattle.tables.specs.Tables.Again.{apart, below}
 use Rattle.joins.specs.Passes.{Took, fell, stood, LeafFits, Leaves, leaves-none}

@@ -3,17 +3,16 @@
 -- span on one side.
 use mathlib.Core.Path.{_≡_}
 use mathlib.Core.Bool.{Bool, true, false}
-use mathlib.Core.List.{List}
 use mathlib.Core.Logic.{_⊎_}
-use Prim.Native.Nat.{ℕ, _+_, _-_, _≤_, _<_}
-use lib.ListN.{length, getD}
+use Prim.Native.Nat.{ℕ, _+_, _<_}
+use lib.ListN.{length}
 use Rattle.sets.specs.Says.{Says}
 use Rattle.sets.specs.Sets.{In}
 use Rattle.grammar.specs.declared.Clause.{Clause}
 use Rattle.grammar.specs.declared.Clause.the-variants as Clause
 use Rattle.grammar.specs.Trees.{Rules}
 use Rattle.marks.specs.declared.SpanMarks.{SpanMarks}
-use Rattle.marks.specs.Marked.{AtomBy, UnaryBy, BinaryBy}
+use Rattle.marks.specs.Marked.{AtomBy, UnaryBy}
 use Rattle.joins.specs.declared.Tally.{Tally}
 use Rattle.tables.specs.Tables.{rule}
 use Rattle.sets.specs.Insertion.{insert}

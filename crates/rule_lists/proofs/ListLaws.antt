@@ -8,7 +8,7 @@ use lib.ListN.{length, getD, set}
 use lib.Seq.{getD-set-same, getD-set-other}
 use Rattle.grammar.specs.Trees.{Rules}
 use Rattle.tables.specs.Tables.{rule}
-use Rattle.choices.specs.RuleLists.{FirstOf, Firsts, Nexts}
+use Rattle.rule_lists.specs.RuleLists.{FirstOf, Firsts, Nexts}
 
 -- none of the rules from `from` to below i is one of A
 pub record NoneTo (g : Rules) (A from i : ℕ) : Type 0 where

@@ -4,10 +4,10 @@ use Prim.Native.Nat.{ℕ, _-_, _≤_}
 use native.Mathlib.Omega.{arith}
 use lib.ListN.{length, length-set}
 use Rattle.grammar.specs.Content.{rules}
-use Rattle.choices.specs.RuleLists.{Firsts}
-use Rattle.choices.proofs.ListLaws.{firsts-more}
-use Rattle.choices.proofs.list_firsts.Statement.{statement}
-use Rattle.choices.proofs.list_firsts.Tie as tie
+use Rattle.rule_lists.specs.RuleLists.{Firsts}
+use Rattle.rule_lists.proofs.ListLaws.{firsts-more}
+use Rattle.rule_lists.proofs.list_firsts.Statement.{statement}
+use Rattle.rule_lists.proofs.list_firsts.Tie as tie
 
 abbrev Inv-loop : tie.InvT-loop
 Inv-loop g lists₀ a₀ lists a = (a ≤ 64) × (length lists ≡ 192) × Firsts (rules g) a lists

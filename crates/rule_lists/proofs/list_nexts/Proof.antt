@@ -4,12 +4,12 @@ use Prim.Native.Nat.{ℕ, _+_, _-_, _≤_}
 use native.Mathlib.Omega.{arith}
 use lib.ListN.{length, length-set}
 use Rattle.grammar.specs.Content.{rules}
-use Rattle.choices.specs.RuleLists.{FirstOf, Firsts, Nexts}
+use Rattle.rule_lists.specs.RuleLists.{FirstOf, Firsts, Nexts}
 use Rattle.grammar.specs.declared.Rule.{Rule}
 use Rattle.tables.proofs.RulePlaces.{rule-read}
-use Rattle.choices.proofs.ListLaws.{nexts-more, firsts-kept}
-use Rattle.choices.proofs.list_nexts.Statement.{statement}
-use Rattle.choices.proofs.list_nexts.Tie as tie
+use Rattle.rule_lists.proofs.ListLaws.{nexts-more, firsts-kept}
+use Rattle.rule_lists.proofs.list_nexts.Statement.{statement}
+use Rattle.rule_lists.proofs.list_nexts.Tie as tie
 
 abbrev Inv-loop : tie.InvT-loop
 Inv-loop lists₀ g i₀ lists i =

@@ -5,9 +5,9 @@ use native.Mathlib.Omega.{arith}
 use Rattle.grammar.specs.declared.Rule.{Rule}
 use Rattle.grammar.specs.Content.{rules}
 use Rattle.tables.proofs.RulePlaces.{rule-read}
-use Rattle.choices.proofs.ListLaws.{NoneTo, none-first, none-more, none-found, none-end}
-use Rattle.choices.proofs.rule_from.Statement.{statement}
-use Rattle.choices.proofs.rule_from.Tie as tie
+use Rattle.rule_lists.proofs.ListLaws.{NoneTo, none-first, none-more, none-found, none-end}
+use Rattle.rule_lists.proofs.rule_from.Statement.{statement}
+use Rattle.rule_lists.proofs.rule_from.Tie as tie
 
 abbrev Inv-loop : tie.InvT-loop
 Inv-loop a from g i₀ i = (i ≤ g .count) × NoneTo (rules g) a from i
