@@ -1,14 +1,19 @@
 -- `first_low` meets its contract: a local array that is lent holds the least heights.
+use mathlib.Core.Path.{refl, sym}
+use Prim.Native.Nat.{ℕ}
+use lib.ListN.{length-replicate}
 use borrow.Author.Needs.{needs}
 use Rattle.tree_choices.proofs.PreferLaws.{ready-low}
 use Rattle.tree_writer.proofs.first_low.Statement.{statement}
 use Rattle.tree_writer.proofs.first_low.Tie as tie
 
 slice-aggregate-heights : tie.Need-slice-aggregate-heights
-slice-aggregate-heights c = search needs
+slice-aggregate-heights c = sym (length-replicate {A = ℕ} 133184 65535)
 
 heights-requires : tie.Need-heights-requires
-heights-requires c κs = search needs
+heights-requires c κs =
+    let z = c .before .before .before .before in
+    (z .pre .0 .positioned .few, (z .pre .0 .formed, refl))
 
 slice-aggregate-first-by : tie.Need-slice-aggregate-first-by
 slice-aggregate-first-by c = search needs
