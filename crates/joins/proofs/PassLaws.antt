@@ -21,7 +21,7 @@ use Rattle.joins.specs.declared.Tally.{Tally}
 use Rattle.tables.specs.Tables.{Table, Leave, byTokens, Fits, Stand, Below}
 use Rattle.tables.specs.Tables.{Again, rule}
 use Rattle.tables.specs.Tables.Again.{apart, below}
-use Rattle.joins.specs.Passes.{Took, fell, stood, LeafFits, Leaves, leaves-none}
+use Rattle.joins.specs.Passes.{fell, LeafFits, Leaves, leaves-none}
 use Rattle.joins.specs.Passes.{leaves-more, Beside, alone, both, WholeSide, Pass}
 use Rattle.joins.specs.Passes.{pass-none, pass-more, resumed, Passes, passes-none}
 use Rattle.joins.specs.Passes.{passes-more, Saturated}
@@ -30,12 +30,6 @@ use Rattle.joins.proofs.TallyLaws.{took-in-two, From, from-none, from-s
 use Rattle.joins.proofs.TallyLaws.{from-took, from-sets}
 use Rattle.tables.proofs.Soundness.{sound-stand, sound-again}
 use Rattle.grammar.specs.Distinct.{Distinct}
-
--- the same try, of what fits as well
-pub took-if : {fits fits′ below : Type 0} {a : ℕ} {t u : Tally} → (fits → fits′) → (fits′ → fits)
-    → Took fits below a t u → Took fits′ below a t u
-took-if to of (fell n e) = fell (λ q. n (of q)) e
-took-if to of (stood again q w f) = stood again (to q) w f
 
 -- ---- tries that change nothing
 

@@ -53,42 +53,28 @@ fn found(t: Tally, a: u8, again: bool) -> Tally
     Tally { seen, one, two }
 }
 
-// Both words of a span's pair.
-pub struct Pair {
-    pub one: u64,
-    pub two: u64,
+// Both words of a pair: what has a tree, and what has two.
+struct Pair {
+    one: u64,
+    two: u64,
 }
 
-// The pairs of the two parts that a binary clause joins.
-struct Sides {
-    left: Pair,
-    right: Pair,
-}
-
-// Count a binary clause `b` `e` for `a`, its parts being the sides.
-fn join(t: Tally, a: u8, b: u8, e: u8, p: Sides) -> Tally
+// Try a binary clause `b` `e` for `a` over two words that have these pairs.
+fn try_join(t: Tally, a: u8, b: u8, e: u8, left: Pair, right: Pair) -> Tally
     requires { ⌜ (a < 64) × (b < 64) × (e < 64) ⌝ }
-    ensures { λ u. ⌜ Took (Unit {0}) (In (p .left .two) b ⊎ In (p .right .two) e) a t u ⌝ }
+    ensures { λ u. ⌜ Took (In (left .one) b × In (right .one) e)
+        (In (left .two) b ⊎ In (right .two) e) a t u ⌝ }
 {
-    if has(p.left.two, b) {
+    if !has(left.one, b) {
+        return t;
+    }
+    if !has(right.one, e) {
+        return t;
+    }
+    if has(left.two, b) {
         return found(t, a, true);
     }
-    found(t, a, has(p.right.two, e))
-}
-
-// Try it.
-fn try_join(t: Tally, a: u8, b: u8, e: u8, p: Sides) -> Tally
-    requires { ⌜ (a < 64) × (b < 64) × (e < 64) ⌝ }
-    ensures { λ u. ⌜ Took (In (p .left .one) b × In (p .right .one) e)
-        (In (p .left .two) b ⊎ In (p .right .two) e) a t u ⌝ }
-{
-    if !has(p.left.one, b) {
-        return t;
-    }
-    if !has(p.right.one, e) {
-        return t;
-    }
-    join(t, a, b, e, p)
+    found(t, a, has(right.two, e))
 }
 
 // The tally before any rule.
@@ -138,47 +124,26 @@ pub fn try_unary(t: Tally, a: u8, b: u8, m: UnaryMark, k: SpanMarks) -> Tally
     found(t, a, has(t.two, b))
 }
 
-// Try a binary clause `b` `e` for `a` with the empty word on the left.
-fn try_left_empty(t: Tally, a: u8, b: u8, e: u8, one: u64, two: u64) -> Tally
-    requires { ⌜ (a < 64) × (b < 64) × (e < 64) ⌝ }
-    ensures { λ u. ⌜ Took (In one b × In (t .one) e) (In two b ⊎ In (t .two) e) a t u ⌝ }
-{
-    let p = Sides {
-        left: Pair { one, two },
-        right: Pair {
-            one: t.one,
-            two: t.two,
-        },
-    };
-    try_join(t, a, b, e, p)
-}
-
-// Try it with the empty word on the right.
-fn try_right_empty(t: Tally, a: u8, b: u8, e: u8, one: u64, two: u64) -> Tally
-    requires { ⌜ (a < 64) × (b < 64) × (e < 64) ⌝ }
-    ensures { λ u. ⌜ Took (In (t .one) b × In one e) (In (t .two) b ⊎ In two e) a t u ⌝ }
-{
-    let p = Sides {
-        left: Pair {
-            one: t.one,
-            two: t.two,
-        },
-        right: Pair { one, two },
-    };
-    try_join(t, a, b, e, p)
-}
-
 // Try a binary clause over the span and the empty word, whose pair is `one` and `two`; the span is
 // of `len` tokens.
 pub fn try_beside(t: Tally, a: u8, b: u8, e: u8, one: u64, two: u64, len: usize) -> Tally
     requires { ⌜ (a < 64) × (b < 64) × (e < 64) ⌝ }
     ensures { λ u. ⌜ Beside one two len a b e t u ⌝ }
 {
+    let empty = Pair { one, two };
+    let whole = Pair {
+        one: t.one,
+        two: t.two,
+    };
     if len == 0 {
-        return try_left_empty(t, a, b, e, t.one, t.two);
+        return try_join(t, a, b, e, whole, whole);
     }
-    let u = try_left_empty(t, a, b, e, one, two);
-    try_right_empty(u, a, b, e, one, two)
+    let u = try_join(t, a, b, e, empty, whole);
+    let grown = Pair {
+        one: u.one,
+        two: u.two,
+    };
+    try_join(u, a, b, e, grown, empty)
 }
 
 // Are the words as they were?
