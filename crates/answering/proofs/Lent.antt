@@ -1,5 +1,5 @@
--- Of what is lent to a call only its length counts: the reply, and what it counts in the lent
--- memory, are the same whatever stood there before.
+-- Of what is lent to a call for trees only its length counts: the reply, and the rows that it
+-- counts, are the same whatever stood there before.
 use mathlib.Core.Path.{_≡_, refl, sym, ap, _∙_}
 use mathlib.Core.Logic.{inl, inr, ⊎-elim}
 use mathlib.Core.List.{List, _++_}
@@ -11,22 +11,17 @@ use Rattle.grammar.specs.Layout.{Word}
 use Rattle.grammar.specs.Trees.{Tree, Rules}
 use Rattle.grammar.specs.Distinct.{Distinct}
 use Rattle.tree_writer.specs.Written.{Display, inFull, rowsOf, countOf, filled}
-use Rattle.lists.proofs.Settled.{gives-moved}
 use Rattle.sheets.specs.declared.Fault.{Fault}
 use Rattle.sheets.proofs.Numbers.{same-fault}
 use Rattle.sheets.specs.declared.Answer.{Answer}
 use Rattle.sheets.specs.declared.Answer.the-variants as Answer
 use Rattle.answering.specs.declared.TreesReply.{TreesReply}
-use Rattle.answering.specs.declared.ListReply.{ListReply}
 use Rattle.answering.specs.Answers.{Sheets}
 use Rattle.answering.specs.Trees.{treesReplyOf, Shown, treeless, single, both, large-one}
 use Rattle.answering.specs.Trees.{large-two, TreesOn, short, showing, TreesBy, refusing}
 use Rattle.answering.specs.Trees.{reading}
-use Rattle.answering.specs.Lists.{listReply, ListOn}
 use Rattle.sheets.proofs.Once.{apart, same-refusal}
 use Rattle.answering.proofs.Settled.{Apart, same-sheets, shown-settled}
-
--- 1. the trees
 
 -- the same reply, and the same rows, as many as it counts
 abbrev pub SameRows : (m m′ n n′ : List ℕ) (r s : TreesReply) → Type 0
@@ -105,25 +100,3 @@ module _ {ws vs one one₂ two two₂ : List ℕ} (e : length ws ≡ length vs)
   trees-reply D (reading {g = g} {w = w} p x) (reading q y) =
       let z = same-sheets p q in
       trees-on-reply inFull g w (D .distinct g w p) x (rw (← z .0, ← z .1) at y)
-
--- 2. a list
-
-pub list-moved : {a : Answer} {bytes : List ℕ} {n : ℕ} {lent other l : List ℕ} {r : ListReply}
-    → length lent ≡ length other → ListOn a bytes n lent l r → ListOn a bytes n other l r
-list-moved e x = record { fault = x .fault; number = x .number; gives = gives-moved e (x .gives) }
-
--- the same reply, and the same bytes, as many as it counts
-abbrev pub SameBytes : (m n : List ℕ) (r s : ListReply) → Type 0
-SameBytes m n r s = (r ≡ s) × (take (r .count) m ≡ take (s .count) n)
-
-module _ (m n : List ℕ) {r s : ListReply} where
-  pub bytes-same : (r ≡ s) × (m ≡ n) → SameBytes m n r s
-  bytes-same e = (e .0, λ i. take (e .0 i .count) (e .1 i))
-
-  pub refusal-bytes : {f f′ : Fault} {l l′ : ℕ} → (f ≡ f′) × (l ≡ l′)
-      → r ≡ listReply (Answer.Refused f) l 0 → s ≡ listReply (Answer.Refused f′) l′ 0
-      → SameBytes m n r s
-  refusal-bytes e x y = (
-    x ∙ (λ i. listReply (Answer.Refused (e .0 i)) (e .1 i) 0) ∙ sym y,
-    ap (λ (z : ListReply). take (z .count) m) x ∙ sym (ap (λ (z : ListReply). take (z .count) n) y),
-  )

@@ -1,5 +1,4 @@
 pub mod Settled
-pub mod ListSettled
 pub mod Readings
 pub mod Judging
 pub mod Showing

@@ -2,5 +2,3 @@ pub mod Answers
 pub mod Verdict
 pub mod Trees
 pub mod Counted
-pub mod Lists
-pub mod ListReplies

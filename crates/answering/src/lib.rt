@@ -1,10 +1,9 @@
-// What the calls for verdict and trees answer on sheets that were read, and the forms of their
-// answers.
+// What a call for trees answers on sheets that were read, and the forms of that answer and of one
+// for the verdict.
 use chart::Verdict;
 use filling::judge;
 use grammar::Grammar;
 use grammar::Sentence;
-use lists::Listed;
 use sheets::Answer;
 use sheets::Fault;
 use sheets::GrammarRead;
@@ -22,11 +21,9 @@ ghost use Rattle.tree_view.specs.Members.{member};
 ghost use Rattle.sheets.specs.Promises.{RulesRead};
 ghost use Rattle.sheets.specs.Told.{told};
 ghost use Rattle.answering.specs.Answers.{withRules};
-ghost use Rattle.answering.specs.Verdict.{VerdictOn, VerdictBy};
 ghost use Rattle.answering.specs.Counted.{counted};
 ghost use Rattle.answering.specs.Trees.{TreesOn, TreesBy};
 ghost use Rattle.grammar.specs.Sentences.{spelled};
-ghost use Rattle.answering.specs.ListReplies.{onList};
 
 // The answer of a call for the verdict, with the refused line's number, or 0.
 pub struct Reply {
@@ -40,92 +37,6 @@ pub struct TreesReply {
     pub line: usize,
     pub first: usize,
     pub second: usize,
-}
-
-// The answer of a call that gives a list: besides, its number of entries.
-pub struct ListReply {
-    pub answer: Answer,
-    pub line: usize,
-    pub count: usize,
-}
-
-// The reply on an answer whose list was put, or did not fit.
-pub fn list_reply(a: Answer, l: Listed) -> ListReply
-    ensures { λ r. ⌜ r ≡ onList a l ⌝ }
-{
-    if l.fits {
-        return ListReply {
-            answer: a,
-            line: 0,
-            count: l.count,
-        };
-    }
-    ListReply {
-        answer: Answer::Refused(Fault::FewRows),
-        line: 0,
-        count: 0,
-    }
-}
-
-// The verdict on rules and a sentence that were read.
-fn judged(words: &mut [u64], s: Sentence, g: Grammar) -> Reply
-    requires { ⌜ Formed g ⌝ }
-    requires { ⌜ Positioned s ⌝ }
-    ensures { λ r. ⌜ VerdictOn (rulesOf g) (spelled s) (now (words .entry)) (now (words .exit))
-        r ⌝ }
-{
-    let n = s.count;
-    if words.len() < size(n) {
-        return Reply {
-            answer: Answer::Refused(Fault::FewWords),
-            line: 0,
-        };
-    }
-    let v = judge(words, s, g);
-    match v {
-        Verdict::None => Reply {
-            answer: Answer::None,
-            line: 0,
-        },
-        Verdict::One => Reply {
-            answer: Answer::One,
-            line: 0,
-        },
-        Verdict::Two => Reply {
-            answer: Answer::Two,
-            line: 0,
-        },
-    }
-}
-
-// The verdict on the rules that were read and a token sheet.
-pub fn verdict_read(a: GrammarRead, tokens: &[u8], words: &mut [u64]) -> Reply
-    requires { ⌜ RulesRead a (told a) ⌝ }
-    ensures { λ r. ⌜ VerdictBy (withRules (told a) (now (tokens .entry))) (now (words .entry))
-        (now (words .exit)) r ⌝ }
-{
-    let o = a.outcome;
-    match o {
-        Outcome::Refused(f, l) => Reply {
-            answer: Answer::Refused(f),
-            line: l,
-        },
-        Outcome::Accepted => {
-            let b = read_tokens(tokens);
-            let p = b.outcome;
-            match p {
-                Outcome::Refused(f, l) => Reply {
-                    answer: Answer::Refused(f),
-                    line: l,
-                },
-                Outcome::Accepted => {
-                    let g = a.grammar;
-                    let s = b.sentence;
-                    judged(words, s, g)
-                }
-            }
-        }
-    }
 }
 
 // The reply on an answer whose trees were written, or did not fit.

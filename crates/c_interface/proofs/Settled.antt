@@ -6,7 +6,7 @@ use mathlib.Core.List.{List, [], _∷_}
 use Prim.Native.Nat.{ℕ}
 use Rattle.answering.proofs.Settled.{Words, Apart, verdict-settled, trees-settled}
 use Rattle.answering.specs.Answers.{Sheets}
-use Rattle.answering.specs.declared.ListReply.{ListReply}
+use Rattle.list_answers.specs.declared.ListReply.{ListReply}
 use Rattle.answering.specs.declared.Reply.{Reply}
 use Rattle.answering.specs.declared.TreesReply.{TreesReply}
 use Rattle.c_interface.specs.Always.{AlwaysWord}

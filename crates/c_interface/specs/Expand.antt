@@ -4,7 +4,7 @@ use mathlib.Core.List.{List, [], _∷_}
 use Prim.Native.Nat.{ℕ}
 use Rattle.c_words.specs.Codes.{packed}
 use Rattle.c_words.specs.Words.{AtFront}
-use Rattle.answering.specs.declared.ListReply.{ListReply}
+use Rattle.list_answers.specs.declared.ListReply.{ListReply}
 use Rattle.call_clauses.specs.Expand.{ExpandOf}
 
 -- `teplonga_expand` hands over what `expand` answers, and the number of bytes in a word

@@ -5,7 +5,7 @@ use Prim.Native.Nat.{ℕ}
 use Rattle.c_words.specs.Codes.{packed}
 use Rattle.c_words.specs.Words.{AtFront, countWords}
 use Rattle.answering.specs.declared.TreesReply.{TreesReply}
-use Rattle.answering.specs.declared.ListReply.{ListReply}
+use Rattle.list_answers.specs.declared.ListReply.{ListReply}
 use Rattle.call_rights.specs.Show.{ShowOf}
 use Rattle.call_rights.specs.Change.{ChangeOf}
 

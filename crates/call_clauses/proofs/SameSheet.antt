@@ -21,8 +21,8 @@ use Rattle.sheets.specs.declared.Answer.the-variants as Answer
 use Rattle.answering.specs.declared.Reply.{Reply}
 use Rattle.answering.specs.declared.TreesReply.{TreesReply}
 use Rattle.sweep_answers.specs.declared.SweepReply.{SweepReply}
-use Rattle.answering.specs.declared.ListReply.{ListReply}
-use Rattle.answering.specs.Lists.{listReply}
+use Rattle.list_answers.specs.declared.ListReply.{ListReply}
+use Rattle.list_answers.specs.Lists.{listReply}
 use Rattle.answering.specs.Verdict.{VerdictOf}
 use Rattle.answering.specs.Trees.{TreesOf}
 use Rattle.sweep_answers.specs.Sweep.{SweepOf}

@@ -16,11 +16,11 @@ use Rattle.clause_sheets.proofs.Meaning.{meant}
 use Rattle.answering.specs.declared.Reply.{Reply}
 use Rattle.answering.specs.declared.TreesReply.{TreesReply}
 use Rattle.sweep_answers.specs.declared.SweepReply.{SweepReply}
-use Rattle.answering.specs.declared.ListReply.{ListReply}
+use Rattle.list_answers.specs.declared.ListReply.{ListReply}
 use Rattle.answering.proofs.Settled.{Words, Apart, apart-of, verdict-settled, trees-settled}
 use Rattle.sweep_answers.proofs.SweepSettled.{sweep-settled}
-use Rattle.answering.proofs.ListSettled.{list-settled}
-use Rattle.answering.proofs.Lent.{SameBytes, bytes-same, refusal-bytes, list-moved}
+use Rattle.list_answers.proofs.ListSettled.{list-settled}
+use Rattle.list_answers.proofs.ListSettled.{SameBytes, bytes-same, refusal-bytes, list-moved}
 use Rattle.call_clauses.specs.Calls.{clauseSheets, ClauseVerdict, ClauseTrees, ClauseSweep}
 use Rattle.call_clauses.specs.Expand.{ExpandOf, refusing, giving}
 use Rattle.grammar.specs.Distinct.{Distinct}

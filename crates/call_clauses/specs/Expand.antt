@@ -10,8 +10,8 @@ use Rattle.sheets.specs.declared.Fault.{Fault}
 use Rattle.sheets.specs.Items.{accepted}
 use Rattle.sheets.specs.RuleSheets.{ruleNames}
 use Rattle.sheets.specs.declared.Answer.the-variants as Answer
-use Rattle.answering.specs.declared.ListReply.{ListReply}
-use Rattle.answering.specs.Lists.{listReply, ListOn}
+use Rattle.list_answers.specs.declared.ListReply.{ListReply}
+use Rattle.list_answers.specs.Lists.{listReply, ListOn}
 use Rattle.clause_sheets.specs.ClauseSheets.{clauseSheet}
 
 -- the rule sheet of rules: the names, then a line for each

@@ -39,7 +39,7 @@ use Rattle.lists.specs.Lists.{GivesList}
 use Rattle.lists.specs.Putting.{listed}
 use Rattle.lists.specs.Putting as Putting
 use Rattle.sheets.specs.declared.Answer.the-variants as Answer
-use Rattle.answering.proofs.ListSettled.{list-on}
+use Rattle.list_answers.proofs.ListSettled.{list-on}
 use Rattle.mark_change.proofs.Rereading.{outcome}
 use Rattle.mark_change.proofs.ChangedLaws.{ChangedAt, changed-at}
 use Rattle.call_rights.specs.Change.{changeRefusal, MayRule, ChangeDone, unfit, given}
@@ -47,7 +47,7 @@ use Rattle.call_rights.specs.Change.{ChangeOn, barred}
 use Rattle.call_rights.specs.Inner.{Named}
 use Rattle.tree_view.specs.Members.{member}
 use Rattle.mark_change.specs.Relaid.{relaid, fitsLay}
-use Rattle.answering.specs.ListReplies.{onList}
+use Rattle.list_answers.specs.ListReplies.{onList}
 
 -- 1. whether the lay fits
 

@@ -12,11 +12,12 @@ use Rattle.sheets.proofs.Once.{apart, same-items, same-refusal}
 use Rattle.sheets.proofs.Numbers.{same-fault}
 use Rattle.rights.specs.RightSheets.{maySee}
 use Rattle.answering.specs.declared.TreesReply.{TreesReply}
-use Rattle.answering.specs.declared.ListReply.{ListReply}
+use Rattle.list_answers.specs.declared.ListReply.{ListReply}
 use Rattle.answering.proofs.Settled.{Words, Same, same-sheets, sheets-apart, trees-on}
-use Rattle.answering.proofs.ListSettled.{list-settled}
-use Rattle.answering.proofs.Lent.{SameRows, refusal-rows, trees-on-reply, SameBytes, bytes-same}
-use Rattle.answering.proofs.Lent.{refusal-bytes, list-moved}
+use Rattle.list_answers.proofs.ListSettled.{list-settled}
+use Rattle.answering.proofs.Lent.{SameRows, refusal-rows, trees-on-reply}
+use Rattle.list_answers.proofs.ListSettled.{SameBytes, bytes-same}
+use Rattle.list_answers.proofs.ListSettled.{refusal-bytes, list-moved}
 use Rattle.call_rights.specs.Show.{ShowOf}
 use Rattle.call_rights.specs.Show as Show
 use Rattle.call_rights.specs.Change.{changeRefusal, ChangeDone, unfit, given, ChangeOn}

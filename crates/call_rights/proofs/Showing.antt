@@ -22,7 +22,7 @@ use Rattle.rights.specs.declared.RightsRead.{RightsRead}
 use Rattle.rights.specs.Answers.{RightsHeld, RightsGiven}
 use Rattle.answering.specs.declared.TreesReply.{TreesReply}
 use Rattle.answering.specs.Trees.{TreesOn}
-use Rattle.answering.specs.declared.ListReply.{ListReply}
+use Rattle.list_answers.specs.declared.ListReply.{ListReply}
 use Rattle.call_rights.specs.Change.{ChangeOn}
 
 -- the sets that were read are what the sheet lets the user see and change

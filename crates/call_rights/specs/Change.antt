@@ -16,8 +16,8 @@ use Rattle.rights.specs.declared.Right.{Right}
 use Rattle.rights.specs.RightSheets.{rightsSheet, mayChange}
 use Rattle.mark_change.specs.Changed.{changed, changedSheet}
 use Rattle.sheets.specs.declared.Answer.the-variants as Answer
-use Rattle.answering.specs.declared.ListReply.{ListReply}
-use Rattle.answering.specs.Lists.{listReply, ListOn}
+use Rattle.list_answers.specs.declared.ListReply.{ListReply}
+use Rattle.list_answers.specs.Lists.{listReply, ListOn}
 
 -- a refused call gives no sheet
 abbrev pub changeRefusal : Fault → ℕ → ListReply

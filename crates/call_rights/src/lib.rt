@@ -1,13 +1,13 @@
 // The public calls on a shared tour (02, request 12): the trees as a user may see them, and a rule
 // sheet with a mark that a user may change.
-use answering::ListReply;
 use answering::TreesReply;
-use answering::list_reply;
 use answering::shown;
 use fields::LayWord;
 use fields::lay_word;
 use grammar::Clause;
 use grammar::Grammar;
+use list_answers::ListReply;
+use list_answers::list_reply;
 use mark_change::lay_fits;
 use mark_change::put_changed;
 use rights::read_rights;

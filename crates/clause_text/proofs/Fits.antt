@@ -3,8 +3,8 @@ use mathlib.Core.List.{List}
 use Prim.Native.Nat.{ℕ, _≤_}
 use native.Mathlib.Omega.{arith}
 use lib.ListN.{length}
-use Rattle.answering.specs.declared.ListReply.{ListReply}
-use Rattle.answering.proofs.ListSettled.{count-of, list-count}
+use Rattle.list_answers.specs.declared.ListReply.{ListReply}
+use Rattle.list_answers.proofs.ListSettled.{count-of, list-count}
 use Rattle.call_clauses.specs.Expand.{ExpandOf, refusing, giving}
 
 pub expand-count : {clauses out out′ : List ℕ} {r : ListReply} → ExpandOf clauses out out′ r

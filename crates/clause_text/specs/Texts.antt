@@ -4,7 +4,7 @@ use mathlib.Core.Path.{_≡_}
 use mathlib.Core.List.{List, _++_}
 use Prim.Native.Nat.{ℕ}
 use lib.ListN.{length, take}
-use Rattle.answering.specs.declared.ListReply.{ListReply}
+use Rattle.list_answers.specs.declared.ListReply.{ListReply}
 use Rattle.text.specs.Output.{answerText, head}
 use Rattle.call_clauses.specs.Expand.{ExpandOf}
 

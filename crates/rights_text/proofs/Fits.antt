@@ -7,8 +7,8 @@ use lib.ListN.{length}
 use Rattle.grammar.specs.Trees.{Rules}
 use Rattle.tree_view.specs.Shown.{View}
 use Rattle.answering.specs.declared.TreesReply.{TreesReply}
-use Rattle.answering.specs.declared.ListReply.{ListReply}
-use Rattle.answering.proofs.ListSettled.{count-of, list-count}
+use Rattle.list_answers.specs.declared.ListReply.{ListReply}
+use Rattle.list_answers.proofs.ListSettled.{count-of, list-count}
 use Rattle.answering.proofs.Fits.{Fits, counted, on-fits}
 use Rattle.call_rights.specs.Show.{ShowOf}
 use Rattle.call_rights.specs.Show as Show

@@ -2,12 +2,12 @@
 use answering::Reply;
 use answering::TreesReply;
 use answering::trees_read;
-use answering::verdict_read;
 use sheets::read_rules;
 use sheets::read_tokens;
 use sheets::refused_read;
 use sweep_answers::SweepReply;
 use sweep_answers::sweep_read;
+use verdict_answers::verdict_read;
 ghost use Rattle.answering.specs.Verdict.{VerdictOf};
 ghost use Rattle.answering.specs.Trees.{TreesOf};
 ghost use Rattle.sweep_answers.specs.Sweep.{SweepOf};

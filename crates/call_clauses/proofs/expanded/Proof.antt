@@ -2,7 +2,7 @@
 use mathlib.Core.Path.{sym}
 use lib.Seq.{length-take-le}
 use Rattle.printing.proofs.Writing.{wrote-then}
-use Rattle.answering.proofs.ListSettled.{list-on}
+use Rattle.list_answers.proofs.ListSettled.{list-on}
 use borrow.Author.Needs.{needs}
 use Rattle.call_clauses.proofs.expanded.Statement.{statement}
 use Rattle.call_clauses.proofs.expanded.Tie as tie

@@ -1,10 +1,10 @@
 -- `verdict_read` meets its contract: the readers' refusals, else the verdict on what was read.
 use mathlib.Core.Path.{refl}
 use Rattle.answering.specs.Verdict.{refusing, reading}
 use Rattle.answering.proofs.Readings.{refused-rules, refused-tokens, both-accepted}
 use borrow.Author.Needs.{needs}
-use Rattle.answering.proofs.verdict_read.Statement.{statement}
-use Rattle.answering.proofs.verdict_read.Tie as tie
+use Rattle.verdict_answers.proofs.verdict_read.Statement.{statement}
+use Rattle.verdict_answers.proofs.verdict_read.Tie as tie
 
 enum-known-o : tie.Need-enum-known-o
 enum-known-o c = search needs

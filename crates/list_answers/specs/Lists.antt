@@ -7,7 +7,7 @@ use Rattle.sheets.specs.declared.Fault.{Fault}
 use Rattle.sheets.specs.Refusals.{numberOf}
 use Rattle.sheets.specs.declared.Answer.{Answer}
 use Rattle.sheets.specs.declared.Answer.the-variants as Answer
-use Rattle.answering.specs.declared.ListReply.{ListReply}
+use Rattle.list_answers.specs.declared.ListReply.{ListReply}
 
 abbrev pub listReply : Answer → ℕ → ℕ → ListReply
 listReply a l n = record { answer = a; line = l; count = n }

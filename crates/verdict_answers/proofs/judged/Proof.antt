@@ -1,9 +1,9 @@
 -- `judged` meets its contract: 21 by the words' number, else the chart's verdict.
 use Rattle.chart.specs.declared.Verdict.the-variants as Verdict
-use Rattle.answering.proofs.Judging.{too-few, judged-on}
+use Rattle.verdict_answers.proofs.Judging.{too-few, judged-on}
 use borrow.Author.Needs.{needs}
-use Rattle.answering.proofs.judged.Statement.{statement}
-use Rattle.answering.proofs.judged.Tie as tie
+use Rattle.verdict_answers.proofs.judged.Statement.{statement}
+use Rattle.verdict_answers.proofs.judged.Tie as tie
 
 size-requires : tie.Need-size-requires
 size-requires c κs = search needs

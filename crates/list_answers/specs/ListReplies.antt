@@ -5,8 +5,8 @@ use Rattle.sheets.specs.declared.Fault.{Fault}
 use Rattle.sheets.specs.declared.Fault.the-variants as Fault
 use Rattle.sheets.specs.declared.Answer.{Answer}
 use Rattle.sheets.specs.declared.Answer.the-variants as Answer
-use Rattle.answering.specs.declared.ListReply.{ListReply}
-use Rattle.answering.specs.Lists.{listReply}
+use Rattle.list_answers.specs.declared.ListReply.{ListReply}
+use Rattle.list_answers.specs.Lists.{listReply}
 use Rattle.lists.specs.declared.Listed.{Listed}
 
 abbrev pub onFit : Bool → Answer → ℕ → ListReply

@@ -1,6 +1,6 @@
 -- `list_reply` meets its contract, by the flag.
-use Rattle.answering.proofs.list_reply.Statement.{statement}
-use Rattle.answering.proofs.list_reply.Tie as tie
+use Rattle.list_answers.proofs.list_reply.Statement.{statement}
+use Rattle.list_answers.proofs.list_reply.Tie as tie
 
 returns : tie.Need-returns
 returns c = rw (c .if1 .taken)
