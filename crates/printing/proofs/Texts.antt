@@ -1,15 +1,12 @@
--- Tree lines and token lines, line by line.
+-- Tree lines, line by line.
 use mathlib.Core.Path.{_≡_, refl, sym, ap, _∙_}
 use mathlib.Core.List.{List, [], _∷_, _++_, append-nil, append-assoc}
-use Prim.Native.Nat.{ℕ, zero, suc, _+_, _*_, _≤_, _<_}
+use Prim.Native.Nat.{ℕ, zero, suc, _+_, _*_, _≤_}
 use native.Mathlib.Nat.{add-zero}
-use native.Mathlib.Numerals.{add-one}
 use native.Mathlib.Omega.{arith}
 use lib.ListN.{length, take, drop, getD}
-use lib.Seq.{take-add, length-take-le, take-suc, getD-drop}
-use Rattle.grammar.specs.declared.Token.{Token}
-use Rattle.grammar.specs.Layout.{Word}
-use Rattle.printing.specs.Printing.{rowText, rowLines, tokenText, tokenLines}
+use lib.Seq.{take-add, length-take-le, getD-drop}
+use Rattle.printing.specs.Printing.{rowText, rowLines}
 
 -- whole rows before others
 rows-append : (t m : ℕ) (a b : List ℕ) → length a ≡ 4 * m
@@ -50,13 +47,3 @@ rows-more t i l h =
     (λ (x : List ℕ). rowLines t (take (4 * i) l) ++ x)
     (append-nil (rowText t (getD l (4 * i) 0) (getD l (4 * i + 1) 0)
     (getD l (4 * i + 2) 0) (getD l (4 * i + 3) 0))))
-
--- one token more
-tokens-snoc : (w : Word) (t : Token) → tokenLines (w ++ (t ∷ [])) ≡ tokenLines w ++ tokenText t
-tokens-snoc [] t = append-nil (tokenText t)
-tokens-snoc (a ∷ w) t = ap (λ (l : List ℕ). tokenText a ++ l) (tokens-snoc w t)
-    ∙ sym (append-assoc (tokenText a) (tokenLines w) (tokenText t))
-
-pub tokens-more : (w : Word) (i : ℕ) (d : Token) → i < length w
-    → tokenLines (take (i + 1) w) ≡ tokenLines (take i w) ++ tokenText (getD w i d)
-tokens-more w i d h = rw (add-one i, take-suc w i d h) (tokens-snoc (take i w) (getD w i d))

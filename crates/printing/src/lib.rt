@@ -4,10 +4,6 @@ ghost use mathlib.Core.List.{[], _∷_, _++_};
 ghost use Prim.Native.Nat.{_+_, _*_, _≤_, _<_};
 ghost use lib.ListN.{length, take};
 ghost use Rattle.printing.specs.Printing.{decimal, Wrote, letterOf, rowText, rowLines};
-ghost use Rattle.printing.specs.Printing.{tokenText, tokenLines};
-ghost use Rattle.grammar.specs.Sentences.{spelled};
-use grammar::Sentence;
-use grammar::Token;
 
 // One byte at a place; the place after it.
 pub fn put_byte(out: &mut [u8], at: usize, b: u8) -> usize
@@ -109,34 +105,6 @@ pub fn put_rows(out: &mut [u8], at: usize, tree: u8, rows: &[u8], count: usize) 
             rows[p + 2],
             rows[p + 3],
         );
-        i += 1;
-    }
-    next
-}
-
-// A token line.
-fn put_token(out: &mut [u8], at: usize, t: Token) -> usize
-    requires { ⌜ at + 18 ≤ length (now out) ⌝ }
-    ensures { λ r. ⌜ Wrote (now (out .entry)) (now (out .exit)) at (tokenText t) r ⌝ }
-    ensures { λ r. ⌜ r ≤ at + 18 ⌝ }
-{
-    let a = put_ended(out, at, t.terminal as u32, 32);
-    let b = put_ended(out, a, t.line.0 as u32, 32);
-    put_ended(out, b, t.column.0 as u32, 10)
-}
-
-// The token lines of a sentence.
-pub fn put_tokens(out: &mut [u8], at: usize, s: Sentence) -> usize
-    requires { ⌜ s .count ≤ 64 ⌝ }
-    requires { ⌜ at + 18 * s .count ≤ length (now out) ⌝ }
-    ensures { λ r. ⌜ Wrote (now (out .entry)) (now (out .exit)) at (tokenLines (spelled s)) r ⌝ }
-    ensures { λ r. ⌜ r ≤ at + 18 * s .count ⌝ }
-{
-    let mut i = 0;
-    let mut next = at;
-    while i < s.count {
-        let t = s.tokens[i];
-        next = put_token(out, next, t);
         i += 1;
     }
     next

@@ -2,13 +2,13 @@
 use fields::Number;
 use fields::numeral;
 use fields::same;
+use sentence_text::put_sentence;
 use sheets::read_rules;
 use sweep_answers::sweep_read;
 use text::Place;
 use text::parting;
 use text::put_head;
 use text::put_refusal;
-use text::put_sentence;
 ghost use mathlib.Core.Path.{_≡_};
 ghost use Prim.Native.Nat.{_+_, _≤_, _<_};
 ghost use lib.ListN.{length, take, drop};

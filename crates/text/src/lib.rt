@@ -1,11 +1,9 @@
 // What the programs' texts are made of: where the input parts, and the parts of an output put into
 // a lent buffer.
-use grammar::Sentence;
 use printing::put_byte;
 use printing::put_bytes;
 use printing::put_number;
 use printing::put_rows;
-use printing::put_tokens;
 use sheets::Answer;
 use sheets::fault_number;
 ghost use mathlib.Core.List.{_∷_, _++_};
@@ -13,9 +11,7 @@ ghost use Prim.Native.Nat.{_+_, _*_, _≤_, _<_};
 ghost use lib.ListN.{length, take};
 ghost use Rattle.printing.specs.Printing.{Wrote, lastField, rowLines};
 ghost use Rattle.text.specs.Output.{refusedText, answerText, head, treeNames, treesText};
-ghost use Rattle.text.specs.Output.{sentenceText};
 ghost use Rattle.text.specs.Parting.{Parted};
-ghost use Rattle.grammar.specs.Sentences.{spelled};
 
 // A place in the input, or none.
 pub enum Place {
@@ -140,26 +136,6 @@ pub fn put_trees(
         Answer::Two => {
             let next = put_first(out, at, one, m);
             put_rows(out, next, 2, two, n)
-        }
-        Answer::Clear => at,
-        Answer::Given => at,
-        Answer::Refused(_) => at,
-    }
-}
-
-// The token sheet of a found sentence, where there is one.
-pub fn put_sentence(out: &mut [u8], at: usize, a: Answer, s: Sentence) -> usize
-    requires { ⌜ s .count ≤ 64 ⌝ }
-    requires { ⌜ at + 14 + 18 * s .count ≤ length (now out) ⌝ }
-    ensures { λ r. ⌜ Wrote (now (out .entry)) (now (out .exit)) at (sentenceText a (spelled s))
-        r ⌝ }
-{
-    match a {
-        Answer::None => at,
-        Answer::One => at,
-        Answer::Two => {
-            let next = put_bytes(out, at, b"term line col\n");
-            put_tokens(out, next, s)
         }
         Answer::Clear => at,
         Answer::Given => at,

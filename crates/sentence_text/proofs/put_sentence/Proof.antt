@@ -1,8 +1,8 @@
--- `text::put_sentence` meets its contract: in each arm the answer is known.
+-- `sentence_text::put_sentence` meets its contract: in each arm the answer is known.
 use Rattle.printing.proofs.Writing.{wrote-none, wrote-then}
 use borrow.Author.Needs.{needs}
-use Rattle.text.proofs.put_sentence.Statement.{statement}
-use Rattle.text.proofs.put_sentence.Tie as tie
+use Rattle.sentence_text.proofs.put_sentence.Statement.{statement}
+use Rattle.sentence_text.proofs.put_sentence.Tie as tie
 
 enum-told : tie.Need-enum-told
 enum-told c = search needs

@@ -1,4 +1,4 @@
--- `printing::put_tokens` meets its contract. The loop's invariant: the lines of the first `i`
+-- `sentence_text::put_tokens` meets its contract. The loop's invariant: the lines of the first `i`
 -- tokens are put.
 use mathlib.Core.Path.{_≡_}
 use Prim.Native.Nat.{_+_, _*_, _-_, _≤_}
@@ -6,11 +6,11 @@ use native.Mathlib.Omega.{arith}
 use borrow.Author.Needs.{needs}
 use lib.ListN.{length, take, length-map}
 use Rattle.grammar.specs.Sentences.{no-token}
 use Rattle.printing.specs.Printing.{Wrote, tokenLines}
 use Rattle.printing.proofs.Writing.{wrote-none, wrote-then}
-use Rattle.printing.proofs.Texts.{tokens-more}
-use Rattle.printing.proofs.put_tokens.Statement.{statement}
-use Rattle.printing.proofs.put_tokens.Tie as tie
+use Rattle.sentence_text.proofs.TokenLines.{tokens-more}
+use Rattle.sentence_text.proofs.put_tokens.Statement.{statement}
+use Rattle.sentence_text.proofs.put_tokens.Tie as tie
 
 abbrev Inv-loop : tie.InvT-loop
 Inv-loop out₀ at s i₀ next₀ out i next =

@@ -1,10 +1,10 @@
--- `printing::put_token` meets its contract, part by part.
+-- `sentence_text::put_token` meets its contract, part by part.
 use native.Mathlib.Omega.{arith}
 use Rattle.printing.specs.Printing.{tokenText}
 use Rattle.printing.proofs.Writing.{wrote-then}
 use borrow.Author.Needs.{needs}
-use Rattle.printing.proofs.put_token.Statement.{statement}
-use Rattle.printing.proofs.put_token.Tie as tie
+use Rattle.sentence_text.proofs.put_token.Statement.{statement}
+use Rattle.sentence_text.proofs.put_token.Tie as tie
 
 cast-put-ended : tie.Need-cast-put-ended
 cast-put-ended c = search needs
