@@ -11,9 +11,8 @@ use sheets::Outcome;
 use sheets::read_tokens;
 use spans::size;
 use tree_writer::Counts;
-use tree_writer::write_both;
-use tree_writer::write_first;
 use tree_writer::write_none;
+use tree_writer::write_trees;
 ghost use mathlib.Core.Path.{_≡_};
 ghost use Rattle.grammar.specs.Content.{rules as rulesOf, Formed, Positioned};
 ghost use Rattle.tree_writer.specs.Written.{seenBy};
@@ -91,11 +90,11 @@ pub fn shown(
             counted_reply(Answer::None, c)
         }
         Verdict::One => {
-            let c = write_first(words, s, g, sees, first, second);
+            let c = write_trees(words, s, g, sees, first, second, false);
             counted_reply(Answer::One, c)
         }
         Verdict::Two => {
-            let c = write_both(words, s, g, sees, first, second);
+            let c = write_trees(words, s, g, sees, first, second, true);
             counted_reply(Answer::Two, c)
         }
     }

@@ -1,13 +1,20 @@
 -- Both tree memories, and the row counts (for inner functions).
 use mathlib.Core.Path.{_≡_}
-use mathlib.Core.Bool.{true, false}
+use mathlib.Core.Bool.{Bool, true, false}
 use mathlib.Core.List.{List}
 use mathlib.Core.Logic.{_⊎_}
-use mathlib.Core.Option.{Option, none}
+use mathlib.Core.Option.{Option, none, some}
 use Prim.Native.Nat.{ℕ, _≤_, _<_}
-use Rattle.grammar.specs.Trees.{Tree}
+use Rattle.grammar.specs.Layout.{Word}
+use Rattle.grammar.specs.Trees.{Tree, Rules}
+use Rattle.grammar.specs.Choices.{SecondTree}
 use Rattle.tree_writer.specs.declared.Counts.{Counts}
 use Rattle.tree_writer.specs.Written.{Display, rowRoom, countOf, filled}
+
+-- u is the second tree of A over w where there are two, and no tree otherwise
+pub data Second (g : Rules) (A : ℕ) (w : Word) : Bool → Option Tree → Type 0 where
+  second : {u : Tree} → SecondTree g A w u → Second g A w true (some u)
+  no-second : Second g A w false none
 
 -- the memories l₁ and l₂ have become m₁ and m₂, and r is answered, where t and u are the trees of
 -- the answer

@@ -10,11 +10,11 @@ use rows::put;
 use rows::start_of;
 use tree_choices::look;
 ghost use mathlib.Core.Path.{_≡_};
-ghost use mathlib.Core.Bool.{true, false};
-ghost use mathlib.Core.Option.{none, some};
+ghost use mathlib.Core.Bool.{false};
+ghost use mathlib.Core.Option.{Option, none, some};
 ghost use Prim.Native.Nat.{_+_, _*_, _-_, _<_};
 ghost use Rattle.grammar.specs.Trees.{Tree};
-ghost use Rattle.grammar.specs.Choices.{FirstTree, SecondTree};
+ghost use Rattle.grammar.specs.Choices.{FirstTree};
 ghost use Rattle.grammar.specs.Cycles.{Cyclic};
 ghost use Rattle.grammar.specs.Content.{rules};
 ghost use Rattle.tree_choices.specs.Wanted.{Charted, Ready, Goal, Wanted};
@@ -22,7 +22,7 @@ ghost use Rattle.tree_writer.specs.Laid.{Laid};
 ghost use Rattle.grammar.specs.Sentences.{spelled};
 ghost use Rattle.tree_view.specs.Members.{member};
 ghost use Rattle.tree_writer.specs.Written.{Display, seenBy};
-ghost use Rattle.tree_writer.specs.Memories.{Written};
+ghost use Rattle.tree_writer.specs.Memories.{Second, Written};
 
 // How many rows each tree has, 0 for one that is not written; `fits` is false where a tree of the
 // answer has more rows than its memory has places (refusal 22).
@@ -94,8 +94,9 @@ pub fn write_none(first: &mut [u8], second: &mut [u8]) -> Counts
     }
 }
 
-// The verdict is one: the first tree alone, as it is shown, by the heights that are lent.
-fn first_by(
+// The first tree and, where there are `two`, the second, as they are shown, by the heights that are
+// lent.
+fn trees_by(
     words: &[u64],
     hs: &[u16],
     s: Sentence,
@@ -103,46 +104,27 @@ fn first_by(
     sees: u64,
     first: &mut [u8],
     second: &mut [u8],
+    two: bool,
 ) -> Counts
     requires { ⌜ Ready g s (now words) (now hs) ⌝ }
-    requires { ⌜ Wanted (rules g) 0 (spelled s) false ⌝ }
-    ensures { λ r. ⌜ ((t : Tree) → FirstTree (rules g) 0 (spelled s) t
-        → Written (seenBy (member sees)) (some t) none (now (first .entry)) (now (second .entry))
+    requires { ⌜ Wanted (rules g) 0 (spelled s) two ⌝ }
+    ensures { λ r. ⌜ ((t : Tree) (u : Option Tree) → FirstTree (rules g) 0 (spelled s) t
+        → Second (rules g) 0 (spelled s) two u
+        → Written (seenBy (member sees)) (some t) u (now (first .entry)) (now (second .entry))
         (now (first .exit)) (now (second .exit)) r) ⌝ }
-{
-    clear(second, 0);
-    let n = write(words, hs, s, g, sees, first, false);
-    if n == 0 {
-        return short();
-    }
-    Counts {
-        fits: true,
-        first: n,
-        second: 0,
-    }
-}
-
-// The verdict is two: both trees, as they are shown, by the heights that are lent.
-fn both_by(
-    words: &[u64],
-    hs: &[u16],
-    s: Sentence,
-    g: Grammar,
-    sees: u64,
-    first: &mut [u8],
-    second: &mut [u8],
-) -> Counts
-    requires { ⌜ Ready g s (now words) (now hs) ⌝ }
-    requires { ⌜ Wanted (rules g) 0 (spelled s) true ⌝ }
-    ensures { λ r. ⌜ ((t u : Tree) → FirstTree (rules g) 0 (spelled s) t
-        → SecondTree (rules g) 0 (spelled s) u
-        → Written (seenBy (member sees)) (some t) (some u) (now (first .entry))
-        (now (second .entry)) (now (first .exit)) (now (second .exit)) r) ⌝ }
 {
     let n = write(words, hs, s, g, sees, first, false);
     if n == 0 {
         clear(second, 0);
         return short();
+    }
+    if !two {
+        clear(second, 0);
+        return Counts {
+            fits: true,
+            first: n,
+            second: 0,
+        };
     }
     let m = write(words, hs, s, g, sees, second, true);
     if m == 0 {
@@ -158,91 +140,50 @@ fn both_by(
 
 // The same on a looping sheet. Its least heights stand in a local array, which this function alone
 // makes: 266 KB of stack.
-fn first_low(
+fn trees_low(
     words: &[u64],
     s: Sentence,
     g: Grammar,
     sees: u64,
     first: &mut [u8],
     second: &mut [u8],
+    two: bool,
 ) -> Counts
     requires { ⌜ Charted g s (now words) ⌝ }
-    requires { ⌜ Wanted (rules g) 0 (spelled s) false ⌝ }
+    requires { ⌜ Wanted (rules g) 0 (spelled s) two ⌝ }
     requires { ⌜ Cyclic (rules g) ⌝ }
-    ensures { λ r. ⌜ ((t : Tree) → FirstTree (rules g) 0 (spelled s) t
-        → Written (seenBy (member sees)) (some t) none (now (first .entry)) (now (second .entry))
+    ensures { λ r. ⌜ ((t : Tree) (u : Option Tree) → FirstTree (rules g) 0 (spelled s) t
+        → Second (rules g) 0 (spelled s) two u
+        → Written (seenBy (member sees)) (some t) u (now (first .entry)) (now (second .entry))
         (now (first .exit)) (now (second .exit)) r) ⌝ }
 {
     let mut hs = [65535u16; 133184];
     heights(&mut hs, s, g);
-    first_by(words, &hs, s, g, sees, first, second)
+    trees_by(words, &hs, s, g, sees, first, second, two)
 }
 
-// The same on a looping sheet.
-fn both_low(
+// The verdict is one or `two`: the first tree, or both, as they are shown.
+pub fn write_trees(
     words: &[u64],
     s: Sentence,
     g: Grammar,
     sees: u64,
     first: &mut [u8],
     second: &mut [u8],
+    two: bool,
 ) -> Counts
     requires { ⌜ Charted g s (now words) ⌝ }
-    requires { ⌜ Wanted (rules g) 0 (spelled s) true ⌝ }
-    requires { ⌜ Cyclic (rules g) ⌝ }
-    ensures { λ r. ⌜ ((t u : Tree) → FirstTree (rules g) 0 (spelled s) t
-        → SecondTree (rules g) 0 (spelled s) u
-        → Written (seenBy (member sees)) (some t) (some u) (now (first .entry))
-        (now (second .entry)) (now (first .exit)) (now (second .exit)) r) ⌝ }
-{
-    let mut hs = [65535u16; 133184];
-    heights(&mut hs, s, g);
-    both_by(words, &hs, s, g, sees, first, second)
-}
-
-// The verdict is one: the first tree alone, as it is shown.
-pub fn write_first(
-    words: &[u64],
-    s: Sentence,
-    g: Grammar,
-    sees: u64,
-    first: &mut [u8],
-    second: &mut [u8],
-) -> Counts
-    requires { ⌜ Charted g s (now words) ⌝ }
-    requires { ⌜ Wanted (rules g) 0 (spelled s) false ⌝ }
-    ensures { λ r. ⌜ ((t : Tree) → FirstTree (rules g) 0 (spelled s) t
-        → Written (seenBy (member sees)) (some t) none (now (first .entry)) (now (second .entry))
+    requires { ⌜ Wanted (rules g) 0 (spelled s) two ⌝ }
+    ensures { λ r. ⌜ ((t : Tree) (u : Option Tree) → FirstTree (rules g) 0 (spelled s) t
+        → Second (rules g) 0 (spelled s) two u
+        → Written (seenBy (member sees)) (some t) u (now (first .entry)) (now (second .entry))
         (now (first .exit)) (now (second .exit)) r) ⌝ }
 {
     if cyclic(g) {
-        return first_low(words, s, g, sees, first, second);
+        return trees_low(words, s, g, sees, first, second, two);
     }
     let hs = [0u16; 1];
-    first_by(words, &hs[..0], s, g, sees, first, second)
-}
-
-// The verdict is two: both trees, as they are shown.
-pub fn write_both(
-    words: &[u64],
-    s: Sentence,
-    g: Grammar,
-    sees: u64,
-    first: &mut [u8],
-    second: &mut [u8],
-) -> Counts
-    requires { ⌜ Charted g s (now words) ⌝ }
-    requires { ⌜ Wanted (rules g) 0 (spelled s) true ⌝ }
-    ensures { λ r. ⌜ ((t u : Tree) → FirstTree (rules g) 0 (spelled s) t
-        → SecondTree (rules g) 0 (spelled s) u
-        → Written (seenBy (member sees)) (some t) (some u) (now (first .entry))
-        (now (second .entry)) (now (first .exit)) (now (second .exit)) r) ⌝ }
-{
-    if cyclic(g) {
-        return both_low(words, s, g, sees, first, second);
-    }
-    let hs = [0u16; 1];
-    both_by(words, &hs[..0], s, g, sees, first, second)
+    trees_by(words, &hs[..0], s, g, sees, first, second, two)
 }
 
 // Refusal 22: no tree is written.

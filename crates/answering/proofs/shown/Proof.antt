@@ -1,4 +1,6 @@
 -- `shown` meets its contract: 21 by the words' number, else the trees of the chart's verdict.
+use mathlib.Core.Option.{none, some}
+use Rattle.tree_writer.specs.Memories.{second, no-second}
 use Rattle.answering.specs.Trees.{showing}
 use Rattle.answering.proofs.Judging.{filled-by}
 use Rattle.answering.proofs.Showing.{too-few, first-there, second-there, wants-first}
@@ -30,8 +32,8 @@ counted-reply-requires c κs = search needs
 enum-told-2 : tie.Need-enum-told-2
 enum-told-2 c = search needs
 
-write-first-requires : tie.Need-write-first-requires
-write-first-requires c κs =
+write-trees-requires : tie.Need-write-trees-requires
+write-trees-requires c κs =
     let j = c .before .before .before .before .before .before .before in
     let s = j .before .before .before .before .before .before .before in
     let v = rw (c .before .before .before .enum-told2 .given .1) at (j .judge .ensures) in (
@@ -46,8 +48,8 @@ counted-reply-requires-2 c κs = search needs
 enum-told-3 : tie.Need-enum-told-3
 enum-told-3 c = search needs
 
-write-both-requires : tie.Need-write-both-requires
-write-both-requires c κs =
+write-trees-requires-2 : tie.Need-write-trees-requires-2
+write-trees-requires-2 c κs =
     let j = c .before .before .before .before .before .before .before in
     let s = j .before .before .before .before .before .before .before in
     let v = rw (c .before .before .before .enum-told3 .given .1) at (j .judge .ensures) in (
@@ -100,7 +102,8 @@ returns-3 c =
     showing (filled-by (s .pre .1 .whole) v)
     (rw (c .counted-reply2 .ensures)
     (shown-one _ _ _ (v .verdict) (f .1)
-    (c .before .before .before .before .before .write-first .ensures (f .0) (f .1))))
+    (c .before .before .before .before .before .write-trees .ensures (f .0) none (f .1)
+    no-second)))
 
 same-length-7 : tie.Need-same-length-7
 same-length-7 c = search needs
@@ -122,8 +125,8 @@ returns-4 c =
     showing (filled-by (s .pre .1 .whole) v)
     (rw (c .counted-reply3 .ensures)
     (shown-two _ _ _ (v .verdict) (u .1 .first) (u .1)
-    (c .before .before .before .before .before .write-both .ensures (u .1 .tree) (u .0)
-    (u .1 .first) (u .1))))
+    (c .before .before .before .before .before .write-trees2 .ensures (u .1 .tree)
+    (some (u .0)) (u .1 .first) (second (u .1)))))
 
 pub shown-spec : {M : Type 1} → statement M
 shown-spec =
@@ -136,10 +139,10 @@ shown-spec =
     write-none-requires
     counted-reply-requires
     enum-told-2
-    write-first-requires
+    write-trees-requires
     counted-reply-requires-2
     enum-told-3
-    write-both-requires
+    write-trees-requires-2
     counted-reply-requires-3
     same-length
     same-length-2

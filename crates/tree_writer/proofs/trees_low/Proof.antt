@@ -1,11 +1,11 @@
--- `both_low` meets its contract: a local array that is lent holds the least heights.
+-- `trees_low` meets its contract: a local array that is lent holds the least heights.
 use mathlib.Core.Path.{refl, sym}
 use Prim.Native.Nat.{ℕ}
 use lib.ListN.{length-replicate}
 use borrow.Author.Needs.{needs}
 use Rattle.tree_choices.proofs.PreferLaws.{ready-low}
-use Rattle.tree_writer.proofs.both_low.Statement.{statement}
-use Rattle.tree_writer.proofs.both_low.Tie as tie
+use Rattle.tree_writer.proofs.trees_low.Statement.{statement}
+use Rattle.tree_writer.proofs.trees_low.Tie as tie
 
 slice-aggregate-heights : tie.Need-slice-aggregate-heights
 slice-aggregate-heights c = sym (length-replicate {A = ℕ} 133184 65535)
@@ -15,11 +15,11 @@ heights-requires c κs =
     let z = c .before .before .before .before in
     (z .pre .0 .positioned .few, (z .pre .0 .formed, refl))
 
-slice-aggregate-both-by : tie.Need-slice-aggregate-both-by
-slice-aggregate-both-by c = search needs
+slice-aggregate-trees-by : tie.Need-slice-aggregate-trees-by
+slice-aggregate-trees-by c = search needs
 
-both-by-requires : tie.Need-both-by-requires
-both-by-requires c κs =
+trees-by-requires : tie.Need-trees-by-requires
+trees-by-requires c κs =
     let z = c .before .before .before .before .before .before .before .before .before in (
       ready-low (z .pre .0) (z .pre .1 .1) (c .before .before .before .before .heights .ensures),
       z
@@ -33,16 +33,16 @@ same-length-2 : tie.Need-same-length-2
 same-length-2 c = search needs
 
 returns : tie.Need-returns
-returns c = search needs
+returns c = c .before .before .before .before .trees-by .ensures
 
-pub both-low-spec : {M : Type 1} → statement M
-both-low-spec =
+pub trees-low-spec : {M : Type 1} → statement M
+trees-low-spec =
     tie.close
     (tie.spec
     slice-aggregate-heights
     heights-requires
-    slice-aggregate-both-by
-    both-by-requires
+    slice-aggregate-trees-by
+    trees-by-requires
     same-length
     same-length-2
     returns)

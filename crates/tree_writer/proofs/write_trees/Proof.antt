@@ -1,15 +1,15 @@
--- `write_both` meets its contract: the least heights are lent on a looping sheet, none on another.
+-- `write_trees` meets its contract: the least heights are lent on a looping sheet, none on another.
 use borrow.Author.Needs.{needs}
 use mathlib.Core.Path.{refl}
 use Rattle.tree_choices.proofs.PreferLaws.{ready-flat}
-use Rattle.tree_writer.proofs.write_both.Statement.{statement}
-use Rattle.tree_writer.proofs.write_both.Tie as tie
+use Rattle.tree_writer.proofs.write_trees.Statement.{statement}
+use Rattle.tree_writer.proofs.write_trees.Tie as tie
 
 cyclic-requires : tie.Need-cyclic-requires
 cyclic-requires c κs = c .before .before .before .pre .0 .formed
 
-both-low-requires : tie.Need-both-low-requires
-both-low-requires c κs =
+trees-low-requires : tie.Need-trees-low-requires
+trees-low-requires c κs =
     let z = c .before .before .before .before .before .before .before in (
       z .pre .0,
       (
@@ -31,11 +31,11 @@ returns c = search needs
 array-share-prefix-hs : tie.Need-array-share-prefix-hs
 array-share-prefix-hs c = search needs
 
-slice-aggregate-both-by : tie.Need-slice-aggregate-both-by
-slice-aggregate-both-by c = search needs
+slice-aggregate-trees-by : tie.Need-slice-aggregate-trees-by
+slice-aggregate-trees-by c = search needs
 
-both-by-requires : tie.Need-both-by-requires
-both-by-requires c κs =
+trees-by-requires : tie.Need-trees-by-requires
+trees-by-requires c κs =
     let z = c .before .before .before .before .before .before .before .before in (
       ready-flat (z .pre .0) (c .before .before .before .before .cyclic .ensures .isnt
           (c .before .before .before .if1 .left)) refl,
@@ -51,18 +51,18 @@ same-length-4 c = search needs
 returns-2 : tie.Need-returns-2
 returns-2 c = search needs
 
-pub write-both-spec : {M : Type 1} → statement M
-write-both-spec =
+pub write-trees-spec : {M : Type 1} → statement M
+write-trees-spec =
     tie.close
     (tie.spec
     cyclic-requires
-    both-low-requires
+    trees-low-requires
     same-length
     same-length-2
     returns
     array-share-prefix-hs
-    slice-aggregate-both-by
-    both-by-requires
+    slice-aggregate-trees-by
+    trees-by-requires
     same-length-3
     same-length-4
     returns-2)
