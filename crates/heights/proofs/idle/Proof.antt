@@ -1,7 +1,8 @@
 -- Only a binary clause is idle, by two numbers of the empty word.
 use borrow.Author.Needs.{needs}
 use native.Mathlib.Omega.{arith}
-use Rattle.sets.proofs.Basics.{clash}
+use mathlib.Core.Path.{sym}
+use Rattle.sets.proofs.Says.{true-not-false}
 use Rattle.heights.proofs.FallLaws.{idle-by}
 use Rattle.heights.proofs.idle.Statement.{statement}
 use Rattle.heights.proofs.idle.Tie as tie
@@ -39,7 +40,7 @@ shared-slice-read-if1 c = (let s = rw (c .before .before .before .c .given .1) a
     ))
 
 returns : tie.Need-returns
-returns c = λ e. absurd (clash cc)
+returns c = λ e. absurd (true-not-false (sym e))
 
 wide-requires-2 : tie.Need-wide-requires-2
 wide-requires-2 c κs = search needs
@@ -63,16 +64,16 @@ shared-slice-read-if2 c = (let s = rw
     ))
 
 returns-2 : tie.Need-returns-2
-returns-2 c = λ e. absurd (clash cc)
+returns-2 c = λ e. absurd (true-not-false (sym e))
 
 returns-3 : tie.Need-returns-3
-returns-3 c = λ e. absurd (clash cc)
+returns-3 c = λ e. absurd (true-not-false (sym e))
 
 returns-4 : tie.Need-returns-4
-returns-4 c = λ e. absurd (clash cc)
+returns-4 c = λ e. absurd (true-not-false (sym e))
 
 returns-5 : tie.Need-returns-5
-returns-5 c = λ e. absurd (clash cc)
+returns-5 c = λ e. absurd (true-not-false (sym e))
 
 returns-6 : tie.Need-returns-6
 returns-6 c = λ e.
