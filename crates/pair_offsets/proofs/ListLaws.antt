@@ -86,6 +86,23 @@ left-more {list} {from} {i} {r} {s} {m} b so a =
         let z = a .only k h q in
         record { place = i; low = b; high = omega arith; held = z .0; starts = z .1 }
 
+-- the other listed sixes add nothing where all that are left have been found
+pub left-all : {list : List ℕ} {from i end r : ℕ} {m : Masks} → i ≤ end → r ≡ m .ac
+    → OffsetsLeft list from i m r → OffsetsLeft list from end m r
+left-all {r = r} {m} h e so =
+    record {
+      all = λ k l. subst (λ (s : ℕ). In s k) (sym e) (subst (In (m .ac)) (l .starts) (l .held .ac));
+      only = λ k i.
+          let l = so .only k i in
+          record {
+            place = l .place;
+            low = l .low;
+            high = omega (arith, l .high);
+            held = l .held;
+            starts = l .starts;
+          };
+    }
+
 -- 2. making
 
 pub pushed : (f : Frame) (old : List ℕ) (n t : ℕ) → n < length old → EvenSix f t

@@ -214,7 +214,8 @@ fn with_offset(r: u64, t: u64, m: Masks) -> u64
     r
 }
 
-// The offsets of the two starts in those of the listed sixes that are among those left.
+// The offsets of the two starts in those of the listed sixes that are among those left. No more
+// are looked at once all that are left have been found.
 pub fn offsets_left(list: &[u64], from: usize, end: usize, m: Masks) -> u64
     requires { ⌜ (from ≤ end) × (end ≤ length (now list)) ⌝ }
     ensures { λ r. ⌜ OffsetsLeft (now (list .entry)) from end m r ⌝ }
@@ -222,6 +223,9 @@ pub fn offsets_left(list: &[u64], from: usize, end: usize, m: Masks) -> u64
     let mut r: u64 = 0;
     let mut i = from;
     while i < end {
+        if r == m.ac {
+            return r;
+        }
         let t = list[i];
         r = with_offset(r, t, m);
         i += 1;

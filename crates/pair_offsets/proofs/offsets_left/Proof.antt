@@ -3,7 +3,7 @@ use Prim.Native.Nat.{_≤_, _-_}
 use native.Mathlib.Omega.{arith}
 use borrow.Author.Needs.{needs}
 use Rattle.pair_offsets.specs.Lists.{OffsetsLeft}
-use Rattle.pair_offsets.proofs.ListLaws.{left-none, left-more}
+use Rattle.pair_offsets.proofs.ListLaws.{left-none, left-more, left-all}
 use Rattle.pair_offsets.proofs.offsets_left.Statement.{statement}
 use Rattle.pair_offsets.proofs.offsets_left.Tie as tie
 
@@ -15,6 +15,11 @@ abbrev μ-loop : tie.MeasureT-loop
 
 loop-holds : tie.Need-loop-holds Inv-loop μ-loop
 loop-holds c = (omega arith, search needs, left-none _ _ _)
+
+returns : tie.Need-returns Inv-loop μ-loop
+returns c =
+    let i = c .before .before .before .loop .inv in
+    left-all (i .1) (c .if1 .taken) (i .2)
 
 mul-t : tie.Need-mul-t Inv-loop μ-loop
 mul-t c = search needs
@@ -33,16 +38,16 @@ loop-less c = search needs
 
 loop-again : tie.Need-loop-again Inv-loop μ-loop
 loop-again c =
-    let i = c .before .before .before .loop .inv in
+    let i = c .before .before .before .before .before .loop .inv in
     (omega (arith, i .0), search needs, left-more (i .0) (i .2) (c .with-offset .ensures))
 
-returns : tie.Need-returns Inv-loop μ-loop
-returns c =
+returns-2 : tie.Need-returns-2 Inv-loop μ-loop
+returns-2 c =
     let e : c .before .loop .i ≡ c .before .before .before .args .end = omega arith in
     rw e at (c .before .loop .inv .2)
 
 pub offsets-left-spec : {M : Type 1} → statement M
 offsets-left-spec =
     tie.close
-    (tie.spec Inv-loop μ-loop loop-holds mul-t shared-slice-read-t with-offset-requires add-i
-    loop-less loop-again returns)
+    (tie.spec Inv-loop μ-loop loop-holds returns mul-t shared-slice-read-t with-offset-requires add-i
+    loop-less loop-again returns-2)
