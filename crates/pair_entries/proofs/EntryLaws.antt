@@ -19,7 +19,7 @@ use Rattle.pair_offsets.specs.Evens.{EvenSix}
 use Rattle.pair_offsets.specs.Lists.{Listing, ListsEvens}
 use Rattle.pair_offsets.proofs.ListLaws.{lists-alike}
 use Rattle.pair_steps.specs.Ranks.{Ranked}
-use Rattle.pair_steps.specs.Suiting.{Suits}
+use Rattle.pair_steps.specs.Suiting.{Placed, Suits}
 use Rattle.pair_frames.specs.Numbering.{frameAt}
 use Rattle.pair_entries.specs.Entries.{KindsOf, codeAt, kindsAt, fromAt, endAt, EntryAt}
 use Rattle.pair_entries.specs.Entries.{Useful, EntriesOf}
@@ -310,6 +310,32 @@ starts-same p c h k cut₂ = let e : 36 * p / 36 ≡ c / 36 = omega arith in ap 
 pub list-of : {t : List ℕ} (p c : ℕ) {from end : ℕ} → 36 * p ≤ c → c < 36 * p + 36
     → ListsEvens (frameAt (36 * p)) t from end → ListsEvens (frameAt c) t from end
 list-of p c h k l = lists-alike (starts-same p c h k) l
+
+-- a node is not cut before it starts
+not-before : {f : Frame} {kids i m j : ℕ} → Placed f kids i m j → m < i → ⊥
+not-before {kids = kids} q h = by (decLt kids 2)
+  where
+    by : Dec (kids < 2) → ⊥
+    by (yes l) = omega (arith, q .one l)
+    by (no l) = omega (arith, q .two (omega arith) .0)
+
+pub none-cut₁ : (p : ℕ) → frameAt (36 * p) .cut < frameAt (36 * p) .start
+    → NoneUseful (36 * p) (36 * p + 36) false
+none-cut₁ p l =
+    record {
+      absent = λ e c h k u.
+          not-before (u .suits .placed₁)
+          (rw (← starts-same p c h k cut₁, ← starts-same p c h k start₁) l);
+    }
+
+pub none-cut₂ : (p : ℕ) → frameAt (36 * p) .split < frameAt (36 * p) .begin
+    → NoneUseful (36 * p) (36 * p + 36) false
+none-cut₂ p l =
+    record {
+      absent = λ e c h k u.
+          not-before (u .suits .placed₂)
+          (rw (← starts-same p c h k cut₂, ← starts-same p c h k start₂) l);
+    }
 
 -- the next four starts
 module _ {t : List ℕ} {s : Stage} where

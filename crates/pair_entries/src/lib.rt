@@ -52,11 +52,18 @@ fn useful_kinds(c: usize) -> u64
     0
 }
 
-// Is some frame with these four starts of use?
+// Is some frame with these four starts of use? None is where a node is cut before it starts.
 fn some_useful(p: usize) -> bool
     requires { ⌜ p < 1296 ⌝ }
     ensures { λ r. ⌜ NoneUseful (36 * p) (36 * p + 36) r ⌝ }
 {
+    let f = pair_frames::frame_at(36 * p);
+    if f.cut < f.start {
+        return false;
+    }
+    if f.split < f.begin {
+        return false;
+    }
     let mut s: usize = 0;
     while s < 36 {
         if useful_kinds(36 * p + s) != 0 {

@@ -5,7 +5,7 @@ use native.Mathlib.Omega.{arith}
 use borrow.Author.Needs.{needs}
 use Rattle.sets.proofs.Says.{true-not-false}
 use Rattle.pair_entries.specs.Entering.{NoneUseful}
-use Rattle.pair_entries.proofs.EntryLaws.{none-yet, none-more}
+use Rattle.pair_entries.proofs.EntryLaws.{none-yet, none-more, none-cut₁, none-cut₂}
 use Rattle.pair_entries.proofs.some_useful.Statement.{statement}
 use Rattle.pair_entries.proofs.some_useful.Tie as tie
 
@@ -14,6 +14,19 @@ Inv-loop p s₀ s = NoneUseful (36 * p) (36 * p + s) false × (s ≤ 36)
 
 abbrev μ-loop : tie.MeasureT-loop
 μ-loop p s₀ s = 36 - s
+
+mul-frame-at : tie.Need-mul-frame-at Inv-loop μ-loop
+mul-frame-at c = search needs
+
+frame-at-requires : tie.Need-frame-at-requires Inv-loop μ-loop
+frame-at-requires c κs = search needs
+
+returns : tie.Need-returns Inv-loop μ-loop
+returns c = none-cut₁ _ (rw (c .before .before .frame-at .ensures) at (c .if1 .taken))
+
+returns-2 : tie.Need-returns-2 Inv-loop μ-loop
+returns-2 c =
+    none-cut₂ _ (rw (c .before .before .before .before .frame-at .ensures) at (c .if2 .taken))
 
 loop-holds : tie.Need-loop-holds Inv-loop μ-loop
 loop-holds c = (none-yet _, omega arith)
@@ -27,8 +40,8 @@ add-useful-kinds c = search needs
 useful-kinds-requires : tie.Need-useful-kinds-requires Inv-loop μ-loop
 useful-kinds-requires c κs = search needs
 
-returns : tie.Need-returns Inv-loop μ-loop
-returns c = record { absent = λ e. absurd (true-not-false e) }
+returns-3 : tie.Need-returns-3 Inv-loop μ-loop
+returns-3 c = record { absent = λ e. absurd (true-not-false e) }
 
 add-s : tie.Need-add-s Inv-loop μ-loop
 add-s c = search needs
@@ -39,12 +52,12 @@ loop-less c = search needs
 loop-again : tie.Need-loop-again Inv-loop μ-loop
 loop-again c = (
   none-more _ (c .before .before .before .loop .inv .0)
-      (c .before .useful-kinds .ensures) (c .if1 .left),
+      (c .before .useful-kinds .ensures) (c .if3 .left),
   search needs,
 )
 
-returns-2 : tie.Need-returns-2 Inv-loop μ-loop
-returns-2 c =
+returns-4 : tie.Need-returns-4 Inv-loop μ-loop
+returns-4 c =
     let e : c .before .loop .s ≡ 36 = omega arith in
     rw e at (c .before .loop .inv .0)
 
@@ -54,12 +67,16 @@ some-useful-spec =
     (tie.spec
     Inv-loop
     μ-loop
+    mul-frame-at
+    frame-at-requires
+    returns
+    returns-2
     loop-holds
     mul-useful-kinds
     add-useful-kinds
     useful-kinds-requires
-    returns
+    returns-3
     add-s
     loop-less
     loop-again
-    returns-2)
+    returns-4)
