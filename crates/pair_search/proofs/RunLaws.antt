@@ -6,6 +6,7 @@ use Prim.Native.Nat.{ℕ, _+_, _-_, _*_, _≤_, _<_}
 use native.Mathlib.Omega.{arith}
 use native.Mathlib.Decide.{decLt}
 use lib.ListN.{length, getD}
+use Rattle.sets.specs.Sets.{In}
 use Rattle.sets.proofs.Says.{true-not-false}
 use Rattle.grammar.specs.Trees.{Rules}
 use Rattle.pairs.specs.Shapes.{Head}
@@ -30,10 +31,10 @@ use Rattle.pair_tables.proofs.StepKept.{code-low, step-kept}
 use Rattle.pair_tables.proofs.StepSound.{step-sound}
 use Rattle.pair_nodes.specs.Slots.{nodeAt, Present, NodesOf}
 use Rattle.pair_frames.specs.Numbering.{frameAt}
-use Rattle.pair_entries.specs.Entries.{codeAt}
+use Rattle.pair_entries.specs.Entries.{codeAt, kindsAt}
 use Rattle.pair_entries.proofs.EntryLaws.{entry-same}
-use Rattle.pair_search.specs.Running.{Apt, PairOf, Settled, Ran, Ready, Met, Cell, LastCells}
-use Rattle.pair_search.specs.Running.{LastRows}
+use Rattle.pair_search.specs.Running.{Apt, PairOf, Settled, Ran, Ready, NextEntry, Met, Cell}
+use Rattle.pair_search.specs.Running.{LastCells, LastRows}
 
 -- 1. what two nodes read of a table
 
@@ -254,6 +255,59 @@ met-more {x = x} {y} {i} {j} k {t} a b =
     by p q m h (no l) =
         let e : k ≡ m = omega arith in
         subst (λ (n : ℕ). Settled x y i j (frameAt (codeAt t n)) t) e q
+
+-- entries that are for other numbers of children
+pub next-none : {t : List ℕ} {n kind from : ℕ} → LowTable t → from ≤ n
+    → NextEntry t n kind from from
+next-none w h =
+    record { low = omega arith; high = h; words = w; absent = λ k l m. absurd (omega arith) }
+
+pub next-more : {t : List ℕ} {n kind from k : ℕ} → k < n → (In (kindsAt t k) kind → ⊥)
+    → NextEntry t n kind from k → NextEntry t n kind from (k + 1)
+next-more {t} {kind = kind} {from} {k} h i o =
+    record {
+      low = omega (arith, o .low);
+      high = omega arith;
+      words = o .words;
+      absent = λ m l p. by m l p (decLt m k);
+    }
+  where
+    by : (m : ℕ) → from ≤ m → m < k + 1 → Dec (m < k) → In (kindsAt t m) kind → ⊥
+    by m l p (yes q) = o .absent m l q
+    by m l p (no q) =
+        let e : k ≡ m = omega arith in
+        subst (λ (m : ℕ). In (kindsAt t m) kind → ⊥) e i
+
+met-past : {x y : Node} {i j n a r : ℕ} {t : List ℕ} → Ready t n → Apt x → Apt y
+    → NextEntry t n (4 * x .kids + y .kids) a r → Met x y i j a t → Met x y i j r t
+met-past {x} {y} {i} {j} {n} {a} {r} {t} e sx sy o m =
+    record { met = λ k h. by k h (decLt k a) }
+  where
+    by : (k : ℕ) → k < r → Dec (k < a) → Settled x y i j (frameAt (codeAt t k)) t
+    by k h (yes l) = m .met k l
+    by k h (no l) =
+        unsuited (o .words) (λ s. o .absent k (omega arith) h
+        (e .each k (omega (arith, o .high)) .kinds .has _ _ (sx .kids) (sy .kids) s))
+
+pub ran-past : {G : Rules → Type 0} {x y : Node} {i j n a r : ℕ} {t u : List ℕ} {s : Bool}
+    → Ready u n → Apt x → Apt y → NextEntry u n (4 * x .kids + y .kids) a r
+    → Ran G (Met x y i j a) t u s → Ran G (Met x y i j r) t u s
+ran-past {x = x} {y} {i} {j} {n} {a} {r} {t} {u} {s} e sx sy o m =
+    record {
+      size = m .size;
+      past = m .past;
+      sound = m .sound;
+      least = m .least;
+      more = m .more;
+      still = m .still;
+      then = λ q. by (m .still q) e o (m .then q);
+    }
+  where
+    by : {u : List ℕ} → u ≡ t → Ready u n → NextEntry u n (4 * x .kids + y .kids) a r
+        → Met x y i j a t → Met x y i j r t
+    by {u} q e o =
+        met-past (subst (λ (v : List ℕ). Ready v n) q e) sx sy
+        (subst (λ (v : List ℕ). NextEntry v n (4 * x .kids + y .kids) a r) q o)
 
 pub row-none : {G : Rules → Type 0} (ns : List ℕ) (i n : ℕ) (t : List ℕ)
     → Ran G (LastCells ns i n 0) t t true

@@ -4,6 +4,7 @@ use mathlib.Core.Bool.{Bool, true, false, _&&_}
 use mathlib.Core.List.{List}
 use Prim.Native.Nat.{ℕ, _+_, _≤_, _<_}
 use lib.ListN.{length, getD, take}
+use Rattle.sets.specs.Sets.{In}
 use Rattle.grammar.specs.Trees.{Rules}
 use Rattle.pairs.specs.Shapes.{Head}
 use Rattle.pairs.specs.Relations.{Offset}
@@ -12,13 +13,13 @@ use Rattle.pair_offsets.specs.declared.Frame.{Frame}
 use Rattle.pair_offsets.specs.Frames.{rankOf}
 use Rattle.pair_steps.specs.declared.Node.{Node}
 use Rattle.pair_steps.specs.Nodes.{NodeOf, shapeNumber}
-use Rattle.pair_steps.specs.Tables.{SoundTable}
+use Rattle.pair_steps.specs.Tables.{LowTable, SoundTable}
 use Rattle.pair_steps.specs.Closing.{ToldBy, Kept}
 use Rattle.pair_tables.specs.Reading.{Small}
 use Rattle.pair_tables.specs.Stepping.{wordSum}
 use Rattle.pair_nodes.specs.Slots.{nodeAt, Present, NodesOf}
 use Rattle.pair_frames.specs.Numbering.{frameAt}
-use Rattle.pair_entries.specs.Entries.{searchWords, codeAt, EntryAt, Useful}
+use Rattle.pair_entries.specs.Entries.{searchWords, codeAt, kindsAt, EntryAt, Useful}
 use Rattle.pair_search.specs.Filling.{TableOf}
 
 -- a node that steps can be made of
@@ -58,6 +59,13 @@ pub record Ready (t : List ℕ) (n : ℕ) : Type 0 where
   pub room : searchWords ≤ length t
   pub few : n ≤ 256
   pub each : (k : ℕ) → k < n → EntryAt t searchWords k
+
+-- r is the first of n entries from a place on for so many children, or n; the words are below 2^64
+pub record NextEntry (t : List ℕ) (n kind from r : ℕ) : Type 0 where
+  pub low : from ≤ r
+  pub high : r ≤ n
+  pub words : LowTable t
+  pub absent : (k : ℕ) → from ≤ k → k < r → In (kindsAt t k) kind → ⊥
 
 -- two nodes over the frames of the first n entries; the nodes i and j, if there are both; a node
 -- with the last m of 384; the last m with all

@@ -9,9 +9,10 @@ ghost use Rattle.pair_tables.specs.Reading.{Small};
 ghost use Rattle.pair_nodes.specs.Slots.{nodeAt, Present};
 ghost use Rattle.pair_entries.specs.Entries.{searchWords};
 ghost use Rattle.pair_search.specs.Filling.{FilledTable};
-ghost use Rattle.pair_search.specs.Running.{Apt, Ready, EntryRan, MetRan, CellRan};
-ghost use Rattle.pair_search.specs.Running.{RowRan, RowsRan, SomeRan, Quick, Rested};
-ghost use Rattle.pair_search.specs.Running.{BothSettled, Round, Searched, ClearedTo};
+ghost use Rattle.pair_search.specs.Running.{Apt, Ready, NextEntry, EntryRan};
+ghost use Rattle.pair_search.specs.Running.{MetRan, CellRan, RowRan, RowsRan};
+ghost use Rattle.pair_search.specs.Running.{SomeRan, Quick, Rested, BothSettled};
+ghost use Rattle.pair_search.specs.Running.{Round, Searched, ClearedTo};
 
 fn both(x: bool, y: bool) -> bool
     ensures { λ r. ⌜ r ≡ (x && y) ⌝ }
@@ -34,6 +35,22 @@ fn clear(words: &mut [u64])
     }
 }
 
+// The first entry from a place on for nodes with `kind / 4` and `kind % 4` children; `n` if there
+// is none.
+fn next_entry(words: &[u64], n: usize, kind: u8, from: usize) -> usize
+    requires { ⌜ (searchWords ≤ length (now words)) × (n ≤ 256) × (from ≤ n) × (kind < 16) ⌝ }
+    ensures { λ r. ⌜ NextEntry (now (words .entry)) n kind from r ⌝ }
+{
+    let mut k = from;
+    while k < n {
+        if sets::has(words[65537 + 4 * k], kind) {
+            return k;
+        }
+        k += 1;
+    }
+    k
+}
+
 // A step of two nodes over the frame of an entry, if it suits them. Had the table all?
 fn step_entry(words: &mut [u64], k: usize, n: usize, x: Node, y: Node, i: usize, j: usize) -> bool
     requires { ⌜ Ready (now words) n × (k < n) × Apt x × Apt y × (i < 384) × (j < 384) ⌝ }
@@ -49,17 +66,33 @@ fn step_entry(words: &mut [u64], k: usize, n: usize, x: Node, y: Node, i: usize,
     true
 }
 
+// The same, where a hint says that there is something to put, so that it is not asked first.
+fn add_entry(words: &mut [u64], k: usize, n: usize, x: Node, y: Node, i: usize, j: usize) -> bool
+    requires { ⌜ Ready (now words) n × (k < n) × Apt x × Apt y × (i < 384) × (j < 384) ⌝ }
+    ensures { λ r. ⌜ EntryRan x y i j k (now (words .entry)) (now (words .exit)) r ⌝ }
+{
+    let kinds = words[65537 + 4 * k];
+    if sets::has(kinds, 4 * x.kids + y.kids) {
+        let f = pair_frames::frame_at(words[65536 + 4 * k] as usize);
+        let from = words[65538 + 4 * k] as usize;
+        let end = words[65539 + 4 * k] as usize;
+        return pair_tables::add(words, f, x, y, i, j, from, end);
+    }
+    true
+}
+
 // Steps of two nodes over the frames of all entries. Had the table all?
 fn meet(words: &mut [u64], n: usize, x: Node, y: Node, i: usize, j: usize) -> bool
     requires { ⌜ Ready (now words) n × Apt x × Apt y × (i < 384) × (j < 384) ⌝ }
     ensures { λ r. ⌜ MetRan x y i j n (now (words .entry)) (now (words .exit)) r ⌝ }
 {
+    let kind = 4 * x.kids + y.kids;
     let mut still = true;
-    let mut k: usize = 0;
+    let mut k = next_entry(words, n, kind, 0);
     while k < n {
         let had = step_entry(words, k, n, x, y, i, j);
         still = both(still, had);
-        k += 1;
+        k = next_entry(words, n, kind, k + 1);
     }
     still
 }
@@ -213,8 +246,8 @@ fn step_both(
     requires { ⌜ (k < n) × (l < n) ⌝ }
     ensures { λ r. ⌜ SomeRan x y i j (now (words .entry)) (now (words .exit)) r ⌝ }
 {
-    let one = step_entry(words, k, n, x, y, i, j);
-    let two = step_entry(words, l, n, y, x, j, i);
+    let one = add_entry(words, k, n, x, y, i, j);
+    let two = add_entry(words, l, n, y, x, j, i);
     both(one, two)
 }
 

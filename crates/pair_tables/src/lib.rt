@@ -157,7 +157,7 @@ fn had_all(t: &[u64], f: Frame, x: Node, y: Node, i: usize, m: u64) -> bool
 
 // Puts what two nodes over a frame can be by the table into it; the sixes of offsets that can stand
 // together over the frame are listed in the same words. Had it all?
-fn add(
+pub fn add(
     t: &mut [u64],
     f: Frame,
     x: Node,
