@@ -5,7 +5,7 @@ use Prim.Native.Nat.{ℕ, zero, suc, _+_, _-_, _*_, _≤_, _<_}
 use native.Mathlib.Omega.{arith}
 use native.Mathlib.Numerals.{add-one}
 use native.Mathlib.Nat.{sub-zero}
-use lib.ListN.{length, getD, take, drop, set, replicate, length-set}
+use lib.ListN.{length, getD, take, drop, set, replicate, length-set, length-replicate}
 use lib.Seq.{take-suc-set, drop-set-lt, append-snoc, drop-cons}
 use Rattle.grammar.specs.declared.Cell.{Cell}
 use Rattle.grammar.specs.declared.Token.{Token}
@@ -30,29 +30,30 @@ low-steps {Q} {n} {cs} k = go 0 cs (omega arith) (k .arranged .cells)
     go m [] h k = tt
     go m (c ∷ cs) h k = (omega (arith, k .0 .step), go 2 cs (omega arith) (k .1))
 
--- where the first i tokens are written, and the last is on that line
-pub record Spelling (c : Candidate) (n : ℕ) (tokens : List Token) (line i : ℕ) : Type 0 where
-  pub size : length tokens ≡ 64
+-- of m places for tokens the first i are written, and the last is on that line
+pub record Spelling (m : ℕ) (c : Candidate) (n : ℕ) (tokens : List Token) (line i : ℕ)
+    : Type 0 where
+  pub size : length tokens ≡ m
   pub at : i ≤ n
   pub low : line ≤ 1 + 2 * i
   pub steps : LowSteps (cells c i (n - i))
   pub front : take i tokens ++ placed line (cells c i (n - i)) ≡ sentence (cells c 0 n)
-  pub past : drop i tokens ≡ replicate (64 - i) no-token
+  pub past : drop i tokens ≡ replicate (m - i) no-token
 
-pub spelled-none : (c : Candidate) (n : ℕ) → LowSteps (cells c 0 n)
-    → Spelling c n (replicate 64 no-token) 1 0
-spelled-none c n s = record {
-  size = refl;
+pub spelled-none : (m : ℕ) (c : Candidate) (n : ℕ) → LowSteps (cells c 0 n)
+    → Spelling m c n (replicate m no-token) 1 0
+spelled-none m c n s = record {
+  size = length-replicate m no-token;
   at = omega arith;
   low = omega arith;
   steps = rw
       (sub-zero n) s;
   front = rw (sub-zero n);
-  past = refl;
+  past = rw (sub-zero m);
 }
 
-module _ (c : Candidate) (n : ℕ) (tokens : List Token) (line i : ℕ) (h : i < n) (l : n ≤ 7)
-    (s : Spelling c n tokens line i) where
+module _ (m : ℕ) (c : Candidate) (n : ℕ) (tokens : List Token) (line i : ℕ) (h : i < n) (l : n ≤ m)
+    (s : Spelling m c n tokens line i) where
   low-here : LowSteps (cellAt c i ∷ cells c (i + 1) (n - (i + 1)))
   low-here = rw (cells-turn n i c h) at (s .steps)
 
@@ -60,7 +61,7 @@ module _ (c : Candidate) (n : ℕ) (tokens : List Token) (line i : ℕ) (h : i <
   step-low d e = omega (arith, ap (λ (x : Cell). x .step) e, low-here .0)
 
   pub spelled-turn : (d : Cell) → d ≡ cellAt c i
-      → Spelling c n (set tokens i (token (line + d .step) d)) (line + d .step) (i + 1)
+      → Spelling m c n (set tokens i (token (line + d .step) d)) (line + d .step) (i + 1)
   spelled-turn d e = record {
     size = length-set tokens i t ∙ s .size;
     at = omega arith;
@@ -84,20 +85,30 @@ module _ (c : Candidate) (n : ℕ) (tokens : List Token) (line i : ℕ) (h : i <
           ++ (token (line + x .step) x ∷ placed (line + x .step) (cells c (suc i) (n - suc i)))) e
           ∙ (rw (cells-turn n i c h, add-one i) at (s .front))
 
-      rest : drop (suc i) tokens ≡ replicate (64 - suc i) no-token
+      rest : drop (suc i) tokens ≡ replicate (m - suc i) no-token
       rest =
-          let k : 64 - i ≡ suc (64 - suc i) = omega arith in
-          let p : drop i tokens ≡ no-token ∷ replicate (64 - suc i) no-token = rw k at (s .past) in
+          let k : m - i ≡ suc (m - suc i) = omega arith in
+          let p : drop i tokens ≡ no-token ∷ replicate (m - suc i) no-token = rw k at (s .past) in
           let q : drop i tokens ≡ getD tokens i no-token ∷ drop (suc i) tokens =
           drop-cons tokens i no-token inside in
           cc
 
-pub spelled-whole : (c : Candidate) (n : ℕ) (tokens : List Token) (line i : ℕ) → n ≤ i
-    → Spelling c n tokens line i → Spells (cells c 0 n) n (record { tokens = tokens; count = n })
-spelled-whole c n tokens line i h s =
+pub spelled-front : (m : ℕ) (c : Candidate) (n : ℕ) (tokens : List Token) (line i : ℕ) → n ≤ i
+    → Spelling m c n tokens line i → take n tokens ≡ sentence (cells c 0 n)
+spelled-front m c n tokens line i h s =
     let e : i ≡ n = omega (arith, s .at) in
     let f : take i tokens ++ [] ≡ sentence (cells c 0 n) = rw (cells-end n i c h) at (s .front) in
-    record { count = refl; front = rw (e, append-nil) at f; past = rw e at (s .past) }
+    rw (e, append-nil) at f
+
+pub spelled-whole : (c : Candidate) (n : ℕ) (tokens : List Token) (line i : ℕ) → n ≤ i
+    → Spelling 64 c n tokens line i → Spells (cells c 0 n) n (record { tokens = tokens; count = n })
+spelled-whole c n tokens line i h s =
+    let e : i ≡ n = omega (arith, s .at) in
+    record {
+      count = refl;
+      front = spelled-front 64 c n tokens line i h s;
+      past = rw e at (s .past);
+    }
 
 -- ---- what a caller reads off
 

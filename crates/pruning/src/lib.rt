@@ -7,8 +7,12 @@ use equivalents::slack;
 use filling::empty_pair;
 use filling::leaf_pair;
 use grammar::Cell;
+use grammar::Column;
 use grammar::Grammar;
-use marks::Draft;
+use grammar::Line;
+use grammar::Token;
+use grammar::Width;
+use refilling::ShortDraft;
 use refilling::give;
 use refilling::give_empty;
 use refilling::no_two;
@@ -37,16 +41,36 @@ ghost use Rattle.pruning.specs.Refuting.{Standing, Moved, Rises, termina
 ghost use Rattle.pruning.specs.Refuting.{Poised, PositionTried, Ended, Spent, Struck, Done};
 ghost use Rattle.grammar.specs.Content.{rules, Formed};
 ghost use Rattle.refilling.specs.Kept.{Mirrored};
+ghost use Rattle.refilling.specs.Short.{wide};
 
 // The candidate's sentence of n tokens, of which the first `known` count.
-fn draft(c: Candidate, n: usize, known: usize) -> Draft
+fn draft(c: Candidate, n: usize, known: usize) -> ShortDraft
     requires { ⌜ (n ≤ 7) × LowSteps (cells c 0 n) ⌝ }
-    ensures { λ d. ⌜ (drafted d ≡ sentence (cells c 0 n)) × (d .count ≡ n) × (d .known ≡ known) ⌝ }
+    ensures { λ d. ⌜ (drafted (wide d) ≡ sentence (cells c 0 n)) × (d .count ≡ n)
+        × (d .known ≡ known) ⌝ }
 {
-    let w = c.sentence(n);
-    let tokens = w.tokens;
-    Draft {
-        tokens,
+    let mut tokens = [Token {
+        terminal: 0,
+        line: Line(0),
+        column: Column(0),
+        width: Width(0),
+    }; 7];
+    let mut line: u16 = 1;
+    let mut i: usize = 0;
+    while i < n {
+        let d = c.cell(i);
+        let s = d.step as u16;
+        line = line + s;
+        tokens[i] = Token {
+            terminal: d.terminal,
+            line: Line(line),
+            column: Column(d.column),
+            width: Width(1),
+        };
+        i += 1;
+    }
+    ShortDraft {
+        tokens: tokens,
         count: n,
         known,
     }

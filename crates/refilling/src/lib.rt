@@ -14,7 +14,7 @@ use grammar::BinaryMark;
 use grammar::Clause;
 use grammar::Grammar;
 use grammar::Rule;
-use marks::Draft;
+use grammar::Token;
 use marks::SpanMarks;
 use marks::first_marks;
 use marks::with_next;
@@ -42,6 +42,14 @@ ghost use Rattle.refilling.specs.Kept.{markNumber, startRows, chainsOf, 
 ghost use Rattle.refilling.specs.Kept.{Prepared, Mirrored, Suits};
 ghost use Rattle.refilling.specs.Turning.{SetRule, SetRules, Wiped, HasBits, TurnBits};
 ghost use Rattle.refilling.specs.Turning.{Turned};
+ghost use Rattle.refilling.specs.Short.{wide};
+
+// A draft of at most 7 tokens: a search makes one for each fill, and copies it for each start.
+pub struct ShortDraft {
+    pub tokens: [Token; 7],
+    pub count: usize,
+    pub known: usize,
+}
 
 // ---- rules as words: four for each B rule
 
@@ -264,14 +272,22 @@ fn close(
 
 // Settle the spans of two tokens or more that begin at `start` and end past `from`. Their marks are
 // carried along, a token at a time.
-fn fill_start(words: &mut [u64], kept: &mut [u64], d: Draft, g: Grammar, from: usize, start: usize)
-    requires { ⌜ Whole d × (d .count ≤ 7) × (start < d .count) ⌝ }
+fn fill_start(
+    words: &mut [u64],
+    kept: &mut [u64],
+    d: ShortDraft,
+    g: Grammar,
+    from: usize,
+    start: usize,
+)
+    requires { ⌜ Whole (wide d) × (d .count ≤ 7) × (start < d .count) ⌝ }
     requires { ⌜ 2 * pairs (d .count) ≤ length (now words) ⌝ }
     requires { ⌜ Formed g × Suits (rules g) (now words) (now kept) ⌝ }
     requires { ⌜ Mirrored (rules g) (d .count) (now words) (now kept) ⌝ }
-    requires { ⌜ Filled (now words) (rules g) (half d) (d .count) from (start + 1)
+    requires { ⌜ Filled (now words) (rules g) (half (wide d)) (d .count) from (start + 1)
         (d .count + 1) ⌝ }
-    ensures { λ r. ⌜ Grown (now (words .entry)) (now (words .exit)) (rules g) (half d) (d .count)
+    ensures { λ r. ⌜ Grown (now (words .entry)) (now (words .exit)) (rules g) (half (wide d))
+        (d .count)
         from start ⌝ }
     ensures { λ r. ⌜ Suits (rules g) (now (words .exit)) (now (kept .exit)) ⌝ }
     ensures { λ r. ⌜ Mirrored (rules g) (d .count) (now (words .exit)) (now (kept .exit)) ⌝ }
@@ -346,13 +362,20 @@ pub fn give(words: &mut [u64], kept: &mut [u64], g: Grammar, n: usize, i: usize,
 // Fill the span sheet of the draft anew, but for the spans that end at or before the token `from`
 // and those that begin at or past the token `to`: no token of these has changed. The pairs of the
 // empty word and of single tokens are given.
-pub fn refill(words: &mut [u64], kept: &mut [u64], d: Draft, g: Grammar, from: usize, to: usize)
+pub fn refill(
+    words: &mut [u64],
+    kept: &mut [u64],
+    d: ShortDraft,
+    g: Grammar,
+    from: usize,
+    to: usize,
+)
     requires { ⌜ (d .count ≤ 7) × (d .known ≤ d .count) ⌝ }
     requires { ⌜ 2 * pairs (d .count) ≤ length (now words) ⌝ }
     requires { ⌜ Formed g ⌝ }
-    requires { ⌜ Ready (rules g) (half d) (d .count) (now words) from to ⌝ }
+    requires { ⌜ Ready (rules g) (half (wide d)) (d .count) (now words) from to ⌝ }
     requires { ⌜ Mirrored (rules g) (d .count) (now words) (now kept) ⌝ }
-    ensures { λ r. ⌜ Charted (now (words .entry)) (now (words .exit)) (rules g) (half d)
+    ensures { λ r. ⌜ Charted (now (words .entry)) (now (words .exit)) (rules g) (half (wide d))
         (d .count) ⌝ }
     ensures { λ r. ⌜ Mirrored (rules g) (d .count) (now (words .exit)) (now (kept .exit)) ⌝ }
 {
@@ -368,7 +391,7 @@ pub fn refill(words: &mut [u64], kept: &mut [u64], d: Draft, g: Grammar, from: u
 pub fn no_two(
     words: &mut [u64],
     kept: &mut [u64],
-    d: Draft,
+    d: ShortDraft,
     g: Grammar,
     from: usize,
     to: usize,
@@ -376,9 +399,9 @@ pub fn no_two(
     requires { ⌜ (d .count ≤ 7) × (d .known ≤ d .count) ⌝ }
     requires { ⌜ 2 * pairs (d .count) ≤ length (now words) ⌝ }
     requires { ⌜ Formed g ⌝ }
-    requires { ⌜ Ready (rules g) (half d) (d .count) (now words) from to ⌝ }
+    requires { ⌜ Ready (rules g) (half (wide d)) (d .count) (now words) from to ⌝ }
     requires { ⌜ Mirrored (rules g) (d .count) (now words) (now kept) ⌝ }
-    ensures { λ r. ⌜ Settles r (rules g) (half d) (d .count) (now (words .entry))
+    ensures { λ r. ⌜ Settles r (rules g) (half (wide d)) (d .count) (now (words .entry))
         (now (words .exit)) ⌝ }
     ensures { λ r. ⌜ Mirrored (rules g) (d .count) (now (words .exit)) (now (kept .exit)) ⌝ }
 {

@@ -5,6 +5,7 @@ use Rattle.spans.proofs.ChangeLaws.{past-then}
 use Rattle.candidates.proofs.Spelling.{low-steps}
 use Rattle.pruning.proofs.TableLaws.{small-cells}
 use Rattle.pruning.proofs.Trying.{laid-ready, poised-start, charted-past}
+use Rattle.refilling.specs.Short.{wide}
 use Rattle.pruning.proofs.begin.Statement.{statement}
 use Rattle.pruning.proofs.begin.Tie as tie
 
@@ -31,7 +32,7 @@ refill-requires c κs =
         (
           z .pre .1 .0,
           (
-            laid-ready (d .result) (z .pre .0 .1) (z .pre .0 .2) (e .0) (e .1)
+            laid-ready (wide (d .result)) (z .pre .0 .1) (z .pre .0 .2) (e .0) (e .1)
                 (e .2) (z .pre .1 .1 .1 .0) l,
             rw (e .1)
                 (c .before .before .before .before .before .before .before .lay .ensures .1),
@@ -55,9 +56,9 @@ returns c =
     let l = c .before .before .before .before .before .before .before .before .before .before
     .before .before .lay .ensures .0 in
     let f = c .before .before .before .before .refill .ensures .0 in (
-      poised-start (d .result) (z .pre .0 .1) (e .0) (e .1) (e .2) (z .pre .1 .1 .1 .0) l f,
+      poised-start (wide (d .result)) (z .pre .0 .1) (e .0) (e .1) (e .2) (z .pre .1 .1 .1 .0) l f,
       (
-        past-then (l .tokens .past) (charted-past (d .result) (e .1) f),
+        past-then (l .tokens .past) (charted-past (wide (d .result)) (e .1) f),
         rw (e .1) at
             (c .before .before .before .before .refill .ensures .1),
       ),

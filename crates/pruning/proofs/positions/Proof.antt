@@ -4,6 +4,7 @@ use native.Mathlib.Omega.{arith}
 use Rattle.sets.proofs.Says.{true-not-false}
 use Rattle.candidates.proofs.Windows.{cells-size}
 use Rattle.pruning.proofs.Trying.{ready-again, spent}
+use Rattle.refilling.specs.Short.{wide}
 use Rattle.pruning.proofs.positions.Statement.{statement}
 use Rattle.pruning.proofs.positions.Tie as tie
 
@@ -45,7 +46,7 @@ no-two-requires c κs =
         (
           z .pre .1 .0,
           (
-            ready-again (d .result) (z .pre .0 .1) (cells-size (a .c) 0 (a .n))
+            ready-again (wide (d .result)) (z .pre .0 .1) (cells-size (a .c) 0 (a .n))
                 (e .0) (e .1) (e .2) (q .stays (c .before .before .before .if1 .left)),
             rw (e .1)
                 (c .before .before .before .before .before .before .before .before .places
@@ -65,7 +66,8 @@ returns-2 : tie.Need-returns-2
 returns-2 c =
     let d = c .before .before .before .before .before .before .before .draft in
     let e = d .ensures in (
-      spent (d .result) (c .before .before .before .before .before .before .before .before .if1
+      spent (wide (d .result)) (c .before .before .before .before .before .before .before .before
+          .if1
           .left) (e .0) (e .1) (e .2) (c .before .before .before .before .before .before .before
           .before .before .before .before .before .before .places .ensures .0)
           (c .before .before .before .before .no-two .ensures .0),

@@ -6,6 +6,7 @@ use native.Mathlib.Omega.{arith}
 use Rattle.candidates.proofs.Windows.{cells-size}
 use Rattle.pruning.proofs.RefutingLaws.{refuted-falling, refuted-slack}
 use Rattle.pruning.proofs.Trying.{tried-out, tried-settled, ready-draft}
+use Rattle.refilling.specs.Short.{wide}
 use Rattle.pruning.proofs.shut.Statement.{statement}
 use Rattle.pruning.proofs.shut.Tie as tie
 
@@ -55,7 +56,7 @@ no-two-requires c κs =
         (
           z .pre .1 .0,
           (
-            ready-draft (d .result) (z .pre .0 .1) (cells-size (a .c) 0 (a .n)) (e .0) (e .1)
+            ready-draft (wide (d .result)) (z .pre .0 .1) (cells-size (a .c) 0 (a .n)) (e .0) (e .1)
                 (e .2) (z .pre .1 .1 .1 .0),
             rw (e .1) (z .pre .1 .1 .1 .1),
           ),
@@ -76,7 +77,8 @@ returns-3 c =
     let a = z .args in
     let d = c .before .before .before .before .before .before .before .draft in
     let e = d .ensures in (
-      tried-settled (d .result) (z .pre .0 .1) (cells-size (a .c) 0 (a .n)) (e .0) (e .1) (e .2)
+      tried-settled (wide (d .result)) (z .pre .0 .1) (cells-size (a .c) 0 (a .n)) (e .0) (e .1)
+          (e .2)
           (z .pre .1 .1 .1 .0) (c .before .before .before .before .no-two .ensures .0),
       rw (e .1) at
           (c .before .before .before .before .no-two .ensures .1),

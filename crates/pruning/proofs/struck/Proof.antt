@@ -3,6 +3,7 @@ use borrow.Author.Needs.{needs}
 use native.Mathlib.Omega.{arith}
 use Rattle.candidates.proofs.Windows.{cells-size}
 use Rattle.pruning.proofs.Trying.{wrote-loose, ready-loose, struck-settled}
+use Rattle.refilling.specs.Short.{wide}
 use Rattle.pruning.proofs.struck.Statement.{statement}
 use Rattle.pruning.proofs.struck.Tie as tie
 
@@ -48,7 +49,7 @@ no-two-requires c κs =
         (
           z .pre .1 .0,
           (
-            ready-loose (z .pre .0 .1) (z .pre .0 .2) (d .result)
+            ready-loose (z .pre .0 .1) (z .pre .0 .2) (wide (d .result))
                 (cells-size (a .c) 0 (a .n)) (e .0) (e .1) (e .2)
                 (wrote-loose (z .pre .0 .1) (z .pre .0 .2) w (z .pre .1 .1 .1 .1 .0)),
             rw (e .1)
@@ -75,7 +76,8 @@ returns c =
     let w = c .before .before .before .before .before .before .before .before .before .before
     .before .before .give .ensures .0 in
     let t = z .pre .1 .1 .1 .0 in (
-      struck-settled (z .pre .0 .1) (z .pre .0 .2) (d .result) (cells-size (a .c) 0 (a .n)) (e .0)
+      struck-settled (z .pre .0 .1) (z .pre .0 .2) (wide (d .result)) (cells-size (a .c) 0 (a .n))
+          (e .0)
           (e .1) (e .2) (t .2) w (t .0 .leaf (a .x) (t .1)) (z .pre .1 .1 .1 .1 .0)
           (c .before .before .before .before .no-two .ensures .0),
       rw (e .1) at

@@ -18,12 +18,14 @@ use Rattle.chart.proofs.FillLaws.{given-same, given-then, given-kept}
 use Rattle.chart.proofs.SheetLaws.{filled-next, filled-pass, filled-end, filled-ground, filled-on}
 use Rattle.filling.proofs.ClosingLaws.{cut-joined}
 use Rattle.refilling.specs.Kept.{Mirrored, Suits}
+use Rattle.refilling.specs.Short.{wide}
 
 abbrev Inv-loop : tie.InvT-loop
 Inv-loop words₀ kept₀ g from start d n known a k₀ len₀ words kept k len =
-    (0 < len) × (start + len ≤ d .count) × Carried (half d) start len k
+    (0 < len) × (start + len ≤ d .count) × Carried (half (wide d)) start len k
     × Past (2 * pairs (d .count)) words₀ words × Given words₀ words (d .count)
-    × Filled words (rules g) (half d) (d .count) from start (len + 1) × Suits (rules g) words kept
+    × Filled words (rules g) (half (wide d)) (d .count) from start (len + 1)
+    × Suits (rules g) words kept
     × Mirrored (rules g) (d .count) words kept
 
 abbrev μ-loop : tie.MeasureT-loop
@@ -33,13 +35,13 @@ abbrev μ-loop : tie.MeasureT-loop
 marks : (c : tie.After-with-next Inv-loop μ-loop)
     → let a =
     c .before .before .before .before .before .before .before .before .before .before .args in
-    Carried (half (a .t3)) (a .start) (c .before .before .before .before .loop .len + 1)
+    Carried (half (wide (a .t3))) (a .start) (c .before .before .before .before .loop .len + 1)
     (c .with-next .result)
 marks c =
     let a = c .before .before .before .before .before .before .before .before .before .before
     .args in
     let l = c .before .before .before .before .loop in
-    next-carried (a .t3) _ _ _ _ (l .inv .0) (c .before .before .before .loop-test .taken)
+    next-carried (wide (a .t3)) _ _ _ _ (l .inv .0) (c .before .before .before .loop-test .taken)
     (c .with-next .ensures) (l .inv .2)
 
 mul-a : tie.Need-mul-a Inv-loop μ-loop
@@ -55,7 +57,7 @@ loop-holds : tie.Need-loop-holds Inv-loop μ-loop
 loop-holds c =
     let z = c .before .before .before .before .before in
     let a = z .args in
-    let d = a .t3 in (
+    let d = wide (a .t3) in (
       omega arith,
       omega (arith, z .pre .0 .2),
       c .first-marks .ensures .carried (half d) (a .start)
@@ -157,7 +159,7 @@ loop-again-2 c =
     .before .before .loop in
     let l = b .inv in
     let g = rules (a .g) in
-    let h = half (a .t3) in
+    let h = half (wide (a .t3)) in
     let n = a .t3 .count in
     let len = b .len + 1 in
     let fit : a .start + len ≤ n = omega (arith, i .loop-test .taken) in

@@ -3,14 +3,15 @@ use mathlib.Core.Path.{_≡_}
 use native.Mathlib.Omega.{arith}
 use lib.ListN.{length, length-map}
 use Rattle.marks.specs.Drafts.{drafted}
-use Rattle.marks.proofs.DraftLaws.{drafted-length}
 use Rattle.chart.proofs.SheetLaws.{settles}
+use Rattle.refilling.specs.Short.{wide}
+use Rattle.refilling.proofs.ShortLaws.{short-length}
 use Rattle.refilling.proofs.no_two.Statement.{statement}
 use Rattle.refilling.proofs.no_two.Tie as tie
 
--- the array of tokens has 64 places
-whole : (c : tie.Start) → length (drafted (c .args .d)) ≡ c .args .d .count
-whole c = drafted-length (c .args .d) (simp length-map at (c .good .1 .1 .0 .1 .1 .0 .1 .0 .1))
+-- the array of tokens has 7 places
+whole : (c : tie.Start) → length (drafted (wide (c .args .d))) ≡ c .args .d .count
+whole c = short-length (c .args .d) (simp length-map at (c .good .1 .1 .0 .1 .1 .0 .1 .0 .1))
     (omega (arith, c .pre .0 .0))
 
 refill-requires : tie.Need-refill-requires

@@ -4,30 +4,32 @@ use native.Mathlib.Omega.{arith}
 use lib.ListN.{length-map}
 use Rattle.grammar.specs.Content.{rules}
 use Rattle.marks.specs.Drafts.{half}
-use Rattle.marks.proofs.DraftLaws.{drafted-length}
 use Rattle.spans.proofs.ChangeLaws.{past-same, past-then}
 use Rattle.chart.specs.Filling.{Whole, Filled, Grown}
 use Rattle.chart.proofs.FillLaws.{given-same, given-then}
 use Rattle.chart.proofs.SheetLaws.{begun, charted}
 use Rattle.refilling.specs.Kept.{Mirrored, Suits}
 use Rattle.refilling.proofs.KeptLaws.{suits}
+use Rattle.refilling.specs.Short.{wide}
+use Rattle.refilling.proofs.ShortLaws.{short-length}
 use Rattle.refilling.proofs.refill.Statement.{statement}
 use Rattle.refilling.proofs.refill.Tie as tie
 
 abbrev Inv-loop : tie.InvT-loop
 Inv-loop words₀ kept₀ d g from to start₀ words kept start = (start ≤ d .count)
-    × Grown words₀ words (rules g) (half d) (d .count) from start × Suits (rules g) words kept
+    × Grown words₀ words (rules g) (half (wide d)) (d .count) from start
+    × Suits (rules g) words kept
     × Mirrored (rules g) (d .count) words kept
 
 abbrev μ-loop : tie.MeasureT-loop
 μ-loop words₀ kept₀ d g from to start₀ words kept start = start
 
--- the array of tokens has 64 places
-whole : (c : tie.Start Inv-loop μ-loop) → Whole (c .args .d)
+-- the array of tokens has 7 places
+whole : (c : tie.Start Inv-loop μ-loop) → Whole (wide (c .args .d))
 whole c =
     record {
       few = omega (arith, c .pre .0 .0);
-      long = drafted-length (c .args .d)
+      long = short-length (c .args .d)
           (simp length-map at (c .good .1 .1 .0 .1 .1 .0 .1 .0 .1)) (omega (arith, c .pre .0 .0));
       inner = c .pre .0 .1;
     }
@@ -40,7 +42,8 @@ loop-holds c =
     let w = whole z in (
       r .within,
       record {
-        filled = begun (a .words .now) (rules (a .g)) (half (a .d)) (a .d .count) (a .from) (a .to)
+        filled = begun (a .words .now) (rules (a .g)) (half (wide (a .d))) (a .d .count) (a .from)
+            (a .to)
             (z .pre .1 .1 .0 .distinct) (omega (arith, w .long, w .inner)) r;
         given = given-same _ _;
         past = past-same _ _;
@@ -66,7 +69,7 @@ fill-start-requires c κs =
           (z .pre .1 .1 .0, l .inv .2),
           (
             l .inv .3,
-            subst (λ (s : ℕ). Filled (l .words) (rules (a .g)) (half (a .d)) (a .d .count)
+            subst (λ (s : ℕ). Filled (l .words) (rules (a .g)) (half (wide (a .d))) (a .d .count)
                 (a .from) s (a .d .count + 1)) e (l .inv .1 .filled),
           ),
         ),
@@ -105,9 +108,9 @@ returns c =
     let l = c .before .loop in
     let w = whole z in
     let e : l .start ≡ 0 = omega (arith, c .loop-test .left) in (
-      charted (a .words .now) (l .words) (rules (a .g)) (half (a .d)) (a .d .count) (w .long)
+      charted (a .words .now) (l .words) (rules (a .g)) (half (wide (a .d))) (a .d .count) (w .long)
           (w .inner) (a .from)
-          (subst (Grown (a .words .now) (l .words) (rules (a .g)) (half (a .d)) (a .d .count)
+          (subst (Grown (a .words .now) (l .words) (rules (a .g)) (half (wide (a .d))) (a .d .count)
           (a .from)) e (l .inv .1)),
       l .inv .3,
     )

@@ -9,13 +9,13 @@ use Rattle.candidates.proofs.Candidate.sentence.Statement.{statement}
 use Rattle.candidates.proofs.Candidate.sentence.Tie as tie
 
 abbrev Inv-loop : tie.InvT-loop
-Inv-loop self n tokens₀ line₀ i₀ tokens line i = Spelling self n tokens line i
+Inv-loop self n tokens₀ line₀ i₀ tokens line i = Spelling 64 self n tokens line i
 
 abbrev μ-loop : tie.MeasureT-loop
 μ-loop self n tokens₀ line₀ i₀ tokens line i = n - i
 
 loop-holds : tie.Need-loop-holds Inv-loop μ-loop
-loop-holds c = spelled-none (c .args .self) (c .args .n) (c .pre .1)
+loop-holds c = spelled-none 64 (c .args .self) (c .args .n) (c .pre .1)
 
 cell-requires : tie.Need-cell-requires Inv-loop μ-loop
 cell-requires c κs = search needs
@@ -26,8 +26,8 @@ cast-s c = search needs
 add-line : tie.Need-add-line Inv-loop μ-loop
 add-line c =
     let l = c .before .before .before in
-    let k = step-low (l .before .args .self) _ _ _ _ (c .before .before .loop-test .taken)
-    (l .before .pre .0) (l .loop .inv) _ (c .before .cell .ensures) in
+    let k = step-low 64 (l .before .args .self) _ _ _ _ (c .before .before .loop-test .taken)
+    (omega (arith, l .before .pre .0)) (l .loop .inv) _ (c .before .cell .ensures) in
     omega (arith, k, l .loop .inv .low, c .before .before .loop-test .taken, l .before .pre .0)
 
 mul-tokens : tie.Need-mul-tokens Inv-loop μ-loop
@@ -45,8 +45,8 @@ loop-less c = search needs
 loop-again : tie.Need-loop-again Inv-loop μ-loop
 loop-again c =
     let l = c .before .before .before in
-    spelled-turn (l .before .args .self) _ _ _ _ (c .before .before .loop-test .taken)
-    (l .before .pre .0) (l .loop .inv) _ (c .before .cell .ensures)
+    spelled-turn 64 (l .before .args .self) _ _ _ _ (c .before .before .loop-test .taken)
+    (omega (arith, l .before .pre .0)) (l .loop .inv) _ (c .before .cell .ensures)
 
 returns : tie.Need-returns Inv-loop μ-loop
 returns c = spelled-whole _ _ _ _ _ (c .loop-test .left) (c .before .loop .inv)
