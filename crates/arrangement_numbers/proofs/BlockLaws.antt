@@ -142,7 +142,8 @@ cells-take Q n m (suc b) (c ∷ cs) k = (k .0, cells-take Q n 2 b cs (k .1))
 
 module _ (s n : ℕ) (small : s < 2 ^ 64) (few : Few s n) where
   pub room-pos : (b : ℕ) → 1 ≤ room s n b
-  room-pos b = capacity-pos (ones s) (placeIn s) n (few .nonempty) (few .low) (largestStep b) (n - b)
+  room-pos b =
+      capacity-pos (ones s) (placeIn s) n (few .nonempty) (few .low) (largestStep b) (n - b)
 
   whole : (b : ℕ) → b ≤ n → capacity (ones s) (placeIn s) n 0 n
       ≡ capacity (ones s) (placeIn s) n 0 b * room s n b

@@ -1,5 +1,6 @@
 // Answers each case of standard input and writes the outputs one after the other. A case is a
-// letter and what it asks for. `c`, `w` and `a`: an input of the program `check`, `sweep` or `calls`.
+// letter and what it asks for. `c`, `w` and `a`: an input of the program `check`, `sweep` or
+// `calls`.
 // `t`: a bound in five digits and a rule sheet, for the number of candidates that the sweep tries.
 // The other letters ask for a call itself, with sheets that no input of `calls` can hold: `k`
 // clauses, `s` show, `m` change; `l` is for the refused line of a clause sheet and a token sheet,

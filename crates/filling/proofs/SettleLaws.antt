@@ -394,7 +394,8 @@ module _ (ws : List ℕ) (g : Rules) (n s len : ℕ) (k : SpanMarks) (p : Pair) 
       where
         go : Kind A i l → Doubles links (In (p .one)) (In (p .two)) A
         go (inner q) = both-parts (sp .two A .1
-            (one-doubled i l q (parted-below l (q .nonempty) (q .rest) (rule g i .clause) (c .fits) b)))
+            (one-doubled i l q (parted-below l (q .nonempty) (q .rest) (rule g i .clause) (c .fits)
+            b)))
         go (edge v) =
             ⊎-elim (λ z. link-below i (v .side) (v .over) (linked A i l c v) (follows i v)
             (cl .two (v .over) .0 z)) (λ z. link-beside i (v .side) (v .over) (linked A i l c v)

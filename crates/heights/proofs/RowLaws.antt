@@ -121,7 +121,8 @@ module _ {l : List ℕ} {g : Rules} {w : Word} {start len : ℕ} (lefts : Lefts 
 
   -- one number is lowered
   row-put : (i k h : ℕ) → i < length g
-      → Tall (table l (length w)) (byWord w start len) start len (rule g i .clause) k h → h < noHeight
+      → Tall (table l (length w)) (byWord w start len) start len (rule g i .clause) k h
+      → h < noHeight
       → h < table l (length w) start len (rule g i .left)
       → Row (set l (2081 * rule g i .left + pairAt (length w) start len) h) g w start len
   row-put i k h b t n d =
@@ -142,7 +143,8 @@ module _ {l : List ℕ} {g : Rules} {w : Word} {start len : ℕ} (lefts : Lefts 
       put′ = put-row l (length w) start len (rule g i .left) h few fits (lefts i b) (x .room .long)
           d
 
-      shorter : (a b′ B : ℕ) → a + b′ ≤ start + len → b′ < len → table l (length w) a b′ B < noHeight
+      shorter : (a b′ B : ℕ) → a + b′ ≤ start + len → b′ < len
+          → table l (length w) a b′ B < noHeight
           → table l (length w) a b′ B ≤ 64 * len + rowPlaced noHeight (table l (length w) start len)
       shorter a b′ B u q r = omega (arith, x .less a b′ B (omega (arith, fits)) q r)
 

@@ -84,7 +84,12 @@ module _ {r : RangeSentence} (p : Spread r) {best k m : ℕ} (h : k < r .count)
 
   pub seeking-skip : m < 2 → Seeking (rangesOf r) (r .count) best (k + 1)
   seeking-skip l =
-      record { fits = omega arith; several = s .several; absent = λ x j y. go x j y (ℕ-discrete j k) }
+      record {
+        fits = omega arith;
+        several = s .several;
+        absent =
+            λ x j y. go x j y (ℕ-discrete j k);
+      }
     where
       single : Single (range (rangesOf r) k)
       single = subst Single (sym apart) (omega (arith, e, ended-at p k h .ordered))

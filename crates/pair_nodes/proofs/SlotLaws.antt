@@ -358,7 +358,8 @@ slots-more {g} {old} {new} {i} x w = record { each = each }
 pub has-weakest : {g : Rules} {l : Levels} → LevelsOf g l → (A : ℕ) (m : UnaryMark) → Inherits g A m
     → HasWeakest g A
 has-weakest {g} {l} x A m i =
-    by (in-dec (l .unmarked) A) (in-dec (l .offalign) A) (in-dec (l .offside) A) (in-dec (l .single) A)
+    by (in-dec (l .unmarked) A) (in-dec (l .offalign) A) (in-dec (l .offside) A)
+    (in-dec (l .single) A)
   where
     by : Dec (In (l .unmarked) A) → Dec (In (l .offalign) A) → Dec (In (l .offside) A) → Dec
         (In (l .single) A)

@@ -460,7 +460,8 @@ pub cleared-sound : {t u : List ℕ} {g : Rules} → ClearedTo t u searchWords �
 cleared-sound c =
     record {
       sound = λ a p h. absurd
-          (nothing a p (in-same {t = []} (record { word = λ i l. c .zeros i (omega arith) }) a p h));
+          (nothing a p (in-same {t = []} (record { word = λ i l. c .zeros i (omega arith) }) a p
+          h));
     }
 
 pub filled : {ns t u v : List ℕ} → ClearedTo t u searchWords → Searched ns u v → FilledTable ns t v

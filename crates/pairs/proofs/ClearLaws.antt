@@ -41,7 +41,8 @@ module _ (g : Rules) (w : Word) (rise : Rising w) (wide : Wide w) where
       → OneSpan g (settingOf w (x .spot) (y .spot)) (headOf (x .spot)) (headOf (y .spot))
   one-span {t} {u} x y i =
       let m : Meet (x .spot .whole) (y .spot .whole) =
-      subst (Meet (x .spot .whole)) i (record { before = x .fits .nonempty; behind = x .fits .nonempty }) in
+      subst (Meet (x .spot .whole)) i
+      (record { before = x .fits .nonempty; behind = x .fits .nonempty }) in
       record {
         may =
             pair g w rise wide (rowCount t) (rowCount u) (x .spot) (y .spot)

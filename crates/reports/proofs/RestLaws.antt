@@ -131,7 +131,8 @@ module _ (s : List ℕ) (at : ℕ) where
         pub two-lines : {k : ℕ} → Lines (drop (b + 14) s) k → k ≡ 0 → (n N : ℕ)
             → TwoRest (drop at s) n N → ⊥
         two-lines l e n N r =
-            l .absent e (r .word) (r .tokens) (sym (drop-drop 14 b s) ∙ ap (drop 14) (on-number r .1))
+            l .absent e (r .word) (r .tokens)
+            (sym (drop-drop 14 b s) ∙ ap (drop 14) (on-number r .1))
 
         pub two-there : {k : ℕ} → Lines (drop (b + 14) s) k → (k ≡ 0 → ⊥) → TwoRest (drop at s) k M
         two-there {k} l f =

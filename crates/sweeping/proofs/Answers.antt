@@ -75,7 +75,8 @@ module _ {g : Rules} {s kept : ℕ} (sp : Spared g s kept) where
 
 module _ {g g′ : Rules} {s : ℕ} (same : (w : Word) → TwoTrees g 0 w ↔ TwoTrees g′ 0 w) where
   shorter-over : {n : ℕ} → NoneShorter g′ s n → NoneShorter g s n
-  shorter-over h = record { absent = λ m ds l u c t. h .absent m ds l u c (same (sentence ds) .0 t) }
+  shorter-over h =
+      record { absent = λ m ds l u c t. h .absent m ds l u c (same (sentence ds) .0 t) }
 
   pub searched-over : {k n : ℕ} {cs : List Cell} → Searched g′ s k n cs → Searched g s k n cs
   searched-over {cs = cs} (hit h) = hit (record {

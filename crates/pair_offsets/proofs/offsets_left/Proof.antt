@@ -49,5 +49,6 @@ returns-2 c =
 pub offsets-left-spec : {M : Type 1} → statement M
 offsets-left-spec =
     tie.close
-    (tie.spec Inv-loop μ-loop loop-holds returns mul-t shared-slice-read-t with-offset-requires add-i
+    (tie.spec Inv-loop μ-loop loop-holds returns mul-t shared-slice-read-t with-offset-requires
+    add-i
     loop-less loop-again returns-2)
