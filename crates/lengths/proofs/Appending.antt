@@ -12,10 +12,11 @@ use Rattle.grammar.specs.Content.{rules, SmallRule}
 use Rattle.grammar.proofs.Lists.{every-append}
 use Rattle.lengths.specs.declared.Index.{Index}
 use Rattle.lengths.specs.declared.Book.{Book}
+use Rattle.lengths.specs.declared.Growth.{Growth}
 use Rattle.lengths.specs.Indexes.{Exact}
-use Rattle.lengths.specs.Passes.{Sound, Idle, Held}
+use Rattle.lengths.specs.Passes.{Sound, Held, Open, Widens}
 use Rattle.lengths.specs.Books.{Booked, Appended}
-use Rattle.lengths.proofs.Growing.{sound-more, exact-more}
+use Rattle.lengths.proofs.Growing.{sound-widened, open-more}
 
 module _ (b : Book) (r : Rule) (k : Booked b) (room : b .grammar .count < 128)
     (small : SmallRule r) where
@@ -40,11 +41,12 @@ module _ (b : Book) (r : Rule) (k : Booked b) (room : b .grammar .count < 128)
         (small, tt));
   }
 
-  pub sound-longer : Sound (rules longer) (b .index)
-  sound-longer = rw rules-longer (sound-more r (k .exact))
+  module _ {u : Growth} (a : Widens (record { index = b .index; grown = 0 }) r u) where
+    pub sound-longer : Sound (rules longer) (u .index)
+    sound-longer = rw rules-longer (sound-widened r (k .exact) a)
 
-  pub exact-longer : Idle (b .index) r → Exact (rules longer) (b .index)
-  exact-longer i = rw rules-longer (exact-more r (k .held .small) (k .exact) i)
+    pub open-longer : Open (rules longer) (u .index) (u .grown)
+    open-longer = rw rules-longer (open-more r (k .held .small) (k .exact) a)
 
   pub appended : {x : Index} → Exact (rules longer) x
       → Appended b r (record { grammar = longer; index = x })

@@ -2,24 +2,23 @@
 use mathlib.Core.Path.{_≡_, refl, sym, _∙_, ap, subst}
 use mathlib.Core.Logic.{_⊎_, inl, inr, ⊎-elim, _↔_}
 use mathlib.Core.List.{List, [], _∷_, _++_, List·Memᴰ, List·Memᴰ·not-nil, List·Memᴰ·append-cases}
-use mathlib.Core.List.{List·Memᴰ·eq-of-singleton, Memᴰ·append-left}
+use mathlib.Core.List.{List·Memᴰ·head, List·Memᴰ·eq-of-singleton, Memᴰ·append-left}
+use mathlib.Core.List.{Memᴰ·append-right}
 use mathlib.Core.Option.{some}
 use Prim.Native.Nat.{ℕ, zero, suc, _+_, _-_, _*_, _/_, _%_, _^_, _≤_, _<_}
 use native.Mathlib.Omega.{arith}
-use native.Mathlib.Numerals.{add-one}
 use native.Mathlib.Nat.{le-refl}
 use native.Mathlib.Decide.{decLt, ℕ-discrete}
 use native.Mathlib.Nat.{div-eq-of-lt}
 use lib.Pow.{pow-lt}
 use lib.Bits.{bitOr}
-use lib.ListN.{length, getD, getElem?, drop, set, replicate, length-set, getD-replicate}
+use lib.ListN.{length, getD, getElem?, set, replicate, length-set, getD-replicate}
 use lib.ListN.{List·getD-eq-default}
-use lib.Seq.{getD-set-same, getD-set-other, ext-getD, drop-cons, drop-length}
-use lib.Dec.{eqb}
-use Rattle.sets.specs.Says.{Says}
-use Rattle.sets.proofs.Says.{says-eqb, says-iff}
+use lib.Seq.{getD-set-same, getD-set-other, ext-getD}
 use Rattle.sets.specs.Sets.{In}
-use Rattle.sets.proofs.Sets.{in-zero}
+use Rattle.sets.specs.Insertion.{insert}
+use Rattle.sets.proofs.Bits.{in-or}
+use Rattle.sets.proofs.Sets.{in-zero, insert-same, insert-keeps}
 use Rattle.grammar.specs.declared.Rule.{Rule}
 use Rattle.grammar.specs.declared.Clause.{Clause}
 use Rattle.grammar.specs.declared.Clause.the-variants as Clause
@@ -33,10 +32,11 @@ use Rattle.grammar.proofs.Lists.{mem-every}
 use Rattle.grammar.proofs.ChoiceLaws.{member-at, place-of}
 use Rattle.grammar.proofs.ByKind.{getElem?-lt}
 use Rattle.lengths.specs.declared.Index.{Index}
+use Rattle.lengths.specs.declared.Growth.{Growth}
 use Rattle.lengths.specs.Indexes.{at, Shaped, Exact}
 use Rattle.lengths.specs.Passes.{SumTo, Has, firstOf, secondOf, Makes, GivesByIndex, Applied}
 use Rattle.lengths.specs.Passes.{Possible, by-empty, by-atom, by-unary, by-binary, Sound}
-use Rattle.lengths.specs.Passes.{Passed, Idle, Held, weigh}
+use Rattle.lengths.specs.Passes.{Passed, Idle, Held, Named, Open, Widens, weigh}
 use Rattle.lengths.proofs.SmallSets.{or-left, or-right, or-only, or-ge, or-small, high-none}
 use Rattle.lengths.proofs.SmallSets.{small-same}
 use Rattle.lengths.proofs.Possibly.{can-possible, possible-can}
@@ -117,8 +117,8 @@ pub applied-set : (x : Index) (r : Rule) (s : ℕ) → Shaped x → r .left < 64
 applied-set x r s sh l h = record {
   shaped = record { size = simp length-set (sh .size); small = small };
   more = more;
-  adds =
-      adds;
+  keeps = keeps;
+  adds = adds;
   only = only;
 }
   where
@@ -145,6 +145,13 @@ applied-set x r s sh l h = record {
       | no n ↦ rw (other A n) (le-refl (at x A))
     ]
 
+    keeps : (A n : ℕ) → In (at x A) n
+        → In (getD (set (x .sets) (r .left) (bitOr (at x (r .left)) s)) A 0) n
+    keeps A n i = elim (ℕ-discrete A (r .left)) [
+      | yes e ↦ rw (e, same) (or-left (at x (r .left)) s (rw e at i))
+      | no m ↦ rw (other A m) i
+    ]
+
     adds : (n : ℕ) → GivesByIndex x (r .clause) n
         → In (getD (set (x .sets) (r .left) (bitOr (at x (r .left)) s)) (r .left) 0) n
     adds n i = rw same (or-right (at x (r .left)) s (h .is n .1 i))
@@ -157,35 +164,205 @@ applied-set x r s sh l h = record {
       | no m ↦ inl (rw (other A m) at i)
     ]
 
+-- ---- the weight
+
+weigh-mono : (l k : List ℕ) → length l ≡ length k → ((i : ℕ) → getD l i 0 ≤ getD k i 0)
+    → weigh l ≤ weigh k
+weigh-mono [] [] e h = omega arith
+weigh-mono [] (b ∷ k) e h = absurd (omega arith)
+weigh-mono (a ∷ l) [] e h = absurd (omega arith)
+weigh-mono (a ∷ l) (b ∷ k) e h = omega (arith, h 0, weigh-mono l k (omega arith) (λ i. h (suc i)))
+
+weigh-same : (l k : List ℕ) → length l ≡ length k → ((i : ℕ) → getD l i 0 ≤ getD k i 0)
+    → weigh k ≤ weigh l → l ≡ k
+weigh-same [] [] e h w = refl
+weigh-same [] (b ∷ k) e h w = absurd (omega arith)
+weigh-same (a ∷ l) [] e h w = absurd (omega arith)
+weigh-same (a ∷ l) (b ∷ k) e h w =
+    let m : weigh l ≤ weigh k = weigh-mono l k (omega arith) (λ i. h (suc i)) in
+    let z = h 0 in
+    let q : a ≡ b = omega (arith, m, w, z) in
+    let r : l ≡ k = weigh-same l k (omega arith) (λ i. h (suc i)) (omega (arith, w, z)) in
+    λ i. q i ∷ r i
+
+-- where a set is larger, the index is heavier
+weigh-more : (x y : Index) → Shaped x → Shaped y → ((A : ℕ) → at x A ≤ at y A) → (A : ℕ)
+    → at x A < at y A → weigh (x .sets) < weigh (y .sets)
+weigh-more x y s t h A l = elim (decLt (weigh (x .sets)) (weigh (y .sets))) [
+  | yes k ↦ k
+  | no k ↦
+      let e = weigh-same (x .sets) (y .sets) (s .size ∙ sym (t .size)) h (omega (arith, k)) in
+      absurd (omega (arith, l, ap (λ (z : List ℕ). getD z A 0) e))
+]
+
+-- a rule that gives nothing leaves all as it is
+pub widens-idle : (w : Growth) (r : Rule) (s : ℕ) → Shaped (w .index)
+    → Has (GivesByIndex (w .index) (r .clause)) s
+    → bitOr (at (w .index) (r .left)) s ≡ at (w .index) (r .left) → Widens w r w
+widens-idle w r s sh h e = record {
+  applied = record {
+    shaped = sh;
+    more = λ A. le-refl (at (w .index) A);
+    keeps = λ A n i. i;
+    adds = λ n i. rw e at (or-right (at (w .index) (r .left)) s (h .is n .1 i));
+    only = λ A n i. inl i;
+  };
+  kept = λ A i. i;
+  same = λ A n. refl;
+  heavier = inl refl;
+}
+
+-- one that gives something makes its left's set grow
+pub widens-set : (w : Growth) (r : Rule) (s u : ℕ) → Shaped (w .index) → r .left < 64
+    → Has (GivesByIndex (w .index) (r .clause)) s
+    → (bitOr (at (w .index) (r .left)) s ≡ at (w .index) (r .left) → ⊥)
+    → u ≡ insert (w .grown) (r .left)
+    → Widens w r (record {
+      index = record {
+        sets = set (w .index .sets) (r .left) (bitOr (at (w .index) (r .left)) s);
+      };
+      grown = u;
+    })
+widens-set w r s u sh l h n e = record {
+  applied = a;
+  kept = λ A i. rw e (insert-keeps (w .grown) (r .left) i);
+  same = λ A m. getD-set-other (w .index .sets) (r .left) A o 0
+      (λ d. m (rw (e, d) (insert-same (w .grown) (r .left))));
+  heavier = inr (weigh-more (w .index) y sh (a .shaped) (a .more) (r .left) (omega (
+    arith,
+    or-ge (at (w .index) (r .left)) s,
+    n,
+    getD-set-same (w .index .sets) (r .left) o 0 (omega (arith, sh .size)),
+  )));
+}
+  where
+    o : ℕ
+    o = bitOr (at (w .index) (r .left)) s
+
+    y : Index
+    y = record { sets = set (w .index .sets) (r .left) (bitOr (at (w .index) (r .left)) s) }
+
+    a : Applied (w .index) r (record {
+      sets = set (w .index .sets) (r .left) (bitOr (at (w .index) (r .left)) s);
+    })
+    a = applied-set (w .index) r s sh l h
+
+-- ---- what is named
+
+-- a clause gives to y what it gives to x, where what it names has in y all that it has in x
+gives-on : (x y : Index) (k : Clause) (n : ℕ)
+    → ((m : ℕ) → In (at x (firstOf k)) m → In (at y (firstOf k)) m)
+    → ((m : ℕ) → In (at x (secondOf k)) m → In (at y (secondOf k)) m) → GivesByIndex x k n
+    → GivesByIndex y k n
+gives-on x y Clause.Empty n f s h = h
+gives-on x y (Clause.Atom a b) n f s h = h
+gives-on x y (Clause.Unary B m) n f s h = f n h
+gives-on x y (Clause.Binary B C m) n f s h = record {
+  part = h .part;
+  below = h .below;
+  left = f (h .part) (h .left);
+  fits = h .fits;
+  right = s (n - h .part) (h .right);
+  small = h .small;
+}
+
+-- one that names nothing that has grown gives what it gave
+gives-back : (x y : Index) {grown : ℕ} → ((A : ℕ) → (In grown A → ⊥) → at y A ≡ at x A)
+    → (k : Clause) → (Named grown k → ⊥) → (n : ℕ) → GivesByIndex y k n → GivesByIndex x k n
+gives-back x y same k none n = gives-on y x k n
+    (λ m. subst (λ (s : ℕ). In s m) (same (firstOf k) (λ i. none (inl i))))
+    (λ m. subst (λ (s : ℕ). In s m) (same (secondOf k) (λ i. none (inr i))))
+
+-- what names a member of a set names one of a larger set
+pub named-more : (s t : ℕ) (k : Clause) → Named s k → Named (bitOr s t) k
+named-more s t k = ⊎-elim (λ i. inl (in-or s t (firstOf k) .1 (inl i)))
+    (λ i. inr (in-or s t (secondOf k) .1 (inl i)))
+
 -- ---- passes
 
 module _ {g : Rules} where
-  pub passed-none : {x : Index} → Sound g x → Passed g 0 x x
-  passed-none {x} s =
-      record { sound = s; more = λ A. le-refl (at x A); still = λ e q l. absurd (omega arith) }
+  pub passed-none : {x : Index} → Sound g x → Passed g 0 x x 0
+  passed-none {x} s = record {
+    sound = s;
+    more = λ A. le-refl (at x A);
+    keeps = λ A n i. i;
+    gave = λ q l. absurd (omega arith);
+    same = λ A n. refl;
+    heavier = λ n. absurd (n refl);
+  }
 
-  pub passed-more : {p : ℕ} {x y z : Index} (r : Rule) → Shaped x → getElem? g p ≡ some r
-      → Passed g p x y → Applied y r z → Passed g (p + 1) x z
-  passed-more {p} {x} {y} {z} r sx st w a = record {
-    sound = applied-sound (w .sound) (member-at g p st) a;
-    more = λ A. omega (arith, w .more A, a .more A);
-    still = still;
+  -- a rule that gives x nothing
+  pub passed-idle : {p : ℕ} {x y : Index} {grown : ℕ} (r : Rule) → getElem? g p ≡ some r → Idle x r
+      → Passed g p x y grown → Passed g (p + 1) x y grown
+  passed-idle {p} {x} {y} {grown} r st i w = record {
+    sound = w .sound;
+    more = w .more;
+    keeps = w .keeps;
+    gave = gave;
+    same = w .same;
+    heavier = w .heavier;
   }
     where
-      still : z ≡ x → (q : ℕ) → q < p + 1 → (r′ : Rule) → getElem? g q ≡ some r′ → (n : ℕ)
-          → GivesByIndex x (r′ .clause) n → In (at x (r′ .left)) n
-      still e q l r′ st′ n i = go (ℕ-discrete q p)
+      gave : (q : ℕ) → q < p + 1 → (r′ : Rule) → getElem? g q ≡ some r′ → (n : ℕ)
+          → GivesByIndex x (r′ .clause) n → In (at y (r′ .left)) n
+      gave q l r′ st′ n h = go (ℕ-discrete q p)
         where
-          same : y ≡ x
-          same = index-path y x (w .sound .shaped) sx
-              (λ A m. omega (arith, w .more A, a .more A, ap (λ (v : Index). at v A) e))
-
-          go : Dec (q ≡ p) → In (at x (r′ .left)) n
+          go : Dec (q ≡ p) → In (at y (r′ .left)) n
           go (yes j) =
               let k : getElem? g p ≡ some r′ = rw j at st′ in
               let b : r ≡ r′ = cc in
-              rw e at (rw b at (a .adds n (rw (same, b) i)))
-          go (no j) = w .still same q (omega arith) r′ st′ n i
+              w .keeps (r′ .left) n (subst (Idle x) b i .has n h)
+          go (no j) = w .gave q (omega arith) r′ st′ n h
+
+  -- one that is applied
+  pub passed-more : {p : ℕ} {x : Index} {w u : Growth} (r : Rule) → Shaped x
+      → getElem? g p ≡ some r → Passed g p x (w .index) (w .grown) → Widens w r u
+      → Passed g (p + 1) x (u .index) (u .grown)
+  passed-more {p} {x} {w} {u} r sx st v a = record {
+    sound = applied-sound (v .sound) (member-at g p st) (a .applied);
+    more = λ A. omega (arith, v .more A, a .applied .more A);
+    keeps = λ A n i. a .applied .keeps A n (v .keeps A n i);
+    gave = gave;
+    same = λ A n. a .same A n ∙ v .same A (λ i. n (a .kept A i));
+    heavier = λ n. ⊎-elim (λ e. omega (arith, v .heavier (λ z. n (e ∙ z)), after))
+        (λ l. omega (arith, l, before)) (a .heavier);
+  }
+    where
+      before : weigh (x .sets) ≤ weigh (w .index .sets)
+      before = weigh-mono (x .sets) (w .index .sets) (sx .size ∙ sym (v .sound .shaped .size))
+          (v .more)
+
+      after : weigh (w .index .sets) ≤ weigh (u .index .sets)
+      after = weigh-mono (w .index .sets) (u .index .sets)
+          (v .sound .shaped .size ∙ sym (a .applied .shaped .size)) (a .applied .more)
+
+      here : (n : ℕ) → GivesByIndex x (r .clause) n → In (at (u .index) (r .left)) n
+      here n i = a .applied .adds n
+          (gives-on x (w .index) (r .clause) n (v .keeps (firstOf (r .clause)))
+          (v .keeps (secondOf (r .clause))) i)
+
+      gave : (q : ℕ) → q < p + 1 → (r′ : Rule) → getElem? g q ≡ some r′ → (n : ℕ)
+          → GivesByIndex x (r′ .clause) n → In (at (u .index) (r′ .left)) n
+      gave q l r′ st′ n h = go (ℕ-discrete q p)
+        where
+          go : Dec (q ≡ p) → In (at (u .index) (r′ .left)) n
+          go (yes j) =
+              let k : getElem? g p ≡ some r′ = rw j at st′ in
+              let b : r ≡ r′ = cc in
+              subst (λ (z : Rule). GivesByIndex x (z .clause) n
+              → In (at (u .index) (z .left)) n) b (here n) h
+          go (no j) = a .applied .keeps (r′ .left) n (v .gave q (omega arith) r′ st′ n h)
+
+-- rules that name nothing that a pass made grow give nothing after it
+pub passed-open : {g : Grammar} {x y : Index} {grown : ℕ} → Held g
+    → Passed (rules g) (g .count) x y grown → Open (rules g) y grown
+passed-open {g} {x} {y} h w = record {
+  idle = λ r m none. record {
+    has = λ n i. let p = place-of m in
+        w .gave (p .0) (omega (arith, getElem?-lt (rules g) (p .0) (p .1), h .whole)) r (p .1) n
+        (gives-back x y (w .same) (r .clause) none n i);
+  };
+}
 
 -- ---- an index to which no rule gives anything has all
 
@@ -216,48 +393,10 @@ module _ {g : Rules} {x : Index}
         (λ h. possible-can (s .is A n h), λ h. complete (can-possible h) m);
   }
 
--- ---- the weight
-
-weigh-mono : (l k : List ℕ) → length l ≡ length k → ((i : ℕ) → getD l i 0 ≤ getD k i 0)
-    → weigh l ≤ weigh k
-weigh-mono [] [] e h = omega arith
-weigh-mono [] (b ∷ k) e h = absurd (omega arith)
-weigh-mono (a ∷ l) [] e h = absurd (omega arith)
-weigh-mono (a ∷ l) (b ∷ k) e h = omega (arith, h 0, weigh-mono l k (omega arith) (λ i. h (suc i)))
-
-weigh-same : (l k : List ℕ) → length l ≡ length k → ((i : ℕ) → getD l i 0 ≤ getD k i 0)
-    → weigh k ≤ weigh l → l ≡ k
-weigh-same [] [] e h w = refl
-weigh-same [] (b ∷ k) e h w = absurd (omega arith)
-weigh-same (a ∷ l) [] e h w = absurd (omega arith)
-weigh-same (a ∷ l) (b ∷ k) e h w =
-    let m : weigh l ≤ weigh k = weigh-mono l k (omega arith) (λ i. h (suc i)) in
-    let z = h 0 in
-    let q : a ≡ b = omega (arith, m, w, z) in
-    let r : l ≡ k = weigh-same l k (omega arith) (λ i. h (suc i)) (omega (arith, w, z)) in
-    λ i. q i ∷ r i
-
--- a pass that made the index no heavier left it as it was, and so it is true
-pub passed-all : {g : Grammar} {x y : Index} → Held g → Passed (rules g) (g .count) x y
-    → Sound (rules g) x → weigh (y .sets) ≡ weigh (x .sets) → Exact (rules g) x
-passed-all {g} {x} {y} h w s e = shut-exact shut s
-  where
-    same : y ≡ x
-    same =
-        let l : x .sets ≡ y .sets = weigh-same (x .sets) (y .sets)
-        (s .shaped .size ∙ sym (w .sound .shaped .size)) (w .more) (omega (arith, e)) in
-        λ i. record { sets = sym l i }
-
-    shut : (r : Rule) → List·Memᴰ r (rules g) → (n : ℕ) → GivesByIndex x (r .clause) n
-        → In (at x (r .left)) n
-    shut r m = let p = place-of m in
-        w .still same (p .0) (omega (arith, getElem?-lt (rules g) (p .0) (p .1), h .whole)) r (p .1)
-
--- else it is heavier
-pub passed-heavier : {g : Rules} {p : ℕ} {x y : Index} → Passed g p x y → Sound g x
-    → (weigh (y .sets) ≡ weigh (x .sets) → ⊥) → weigh (x .sets) < weigh (y .sets)
-passed-heavier {x = x} {y = y} w s n = let m = weigh-mono (x .sets) (y .sets)
-    (s .shaped .size ∙ sym (w .sound .shaped .size)) (w .more) in omega (arith, m, n)
+-- where nothing is open, the index is true
+pub open-exact : {g : Rules} {x : Index} → Sound g x → Open g x 0 → Exact g x
+open-exact {g} {x} s o = shut-exact (λ r m n i. o .idle r m
+    (λ k. ⊎-elim (in-zero (firstOf (r .clause))) (in-zero (secondOf (r .clause))) k) .has n i) s
 
 weigh-le : (l : List ℕ) → ((i : ℕ) → getD l i 0 < 256) → weigh l ≤ length l * 256
 weigh-le [] h = omega arith
@@ -265,38 +404,6 @@ weigh-le (a ∷ l) h = omega (arith, h 0, weigh-le l (λ i. h (suc i)))
 
 pub weight-small : (x : Index) → Shaped x → weigh (x .sets) ≤ 16384
 weight-small x s = omega (arith, weigh-le (x .sets) (s .small), s .size)
-
--- ---- the weight so far
-
-pub record Weighing (l : List ℕ) (i s : ℕ) : Type 0 where
-  pub upto : i ≤ 64
-  pub small : s ≤ i * 256
-  pub is : s + weigh (drop i l) ≡ weigh l
-
-pub weighing-none : (l : List ℕ) → Weighing l 0 0
-weighing-none l = record { upto = omega arith; small = omega arith; is = omega arith }
-
-pub weighing-more : (x : Index) (i s : ℕ) → Shaped x → i < 64 → Weighing (x .sets) i s
-    → Weighing (x .sets) (i + 1) (s + at x i)
-weighing-more x i s sh h w =
-    let e : drop i (x .sets) ≡ at x i ∷ drop (i + 1) (x .sets) =
-    rw (add-one i) (drop-cons (x .sets) i 0 (omega (arith, sh .size))) in
-    let d = ap weigh e in
-    record {
-      upto = omega arith;
-      small = omega (arith, w .small, sh .small i);
-      is =
-          omega (arith, w .is, d);
-    }
-
-pub weighing-end : (x : Index) (i s : ℕ) → Shaped x → 64 ≤ i → Weighing (x .sets) i s
-    → s ≡ weigh (x .sets)
-weighing-end x i s sh h w =
-    let e : drop i (x .sets) ≡ [] =
-    (let z : i ≡ length (x .sets) = omega (arith, sh .size, w .upto) in
-    rw z (drop-length (x .sets))) in
-    let d = ap weigh e in
-    omega (arith, w .is, d)
 
 -- ---- what a clause gives
 
@@ -427,31 +534,42 @@ exact-idle {g} {x} {r} k e m = record {
       (possible-can (gives-by (exact-sound e) (r .left) (r .clause) m n h));
 }
 
--- so it stays true with one rule more that gives it nothing
-pub exact-more : {g : Rules} {x : Index} (r : Rule) → Every SmallRule g → Exact g x → Idle x r
-    → Exact (g ++ (r ∷ [])) x
-exact-more {g} {x} r k e i = shut-exact shut (sound-more r e)
+-- with one rule more and what it gives, rules that name nothing that has grown give nothing
+pub open-more : {g : Rules} {w u : Growth} (r : Rule) → Every SmallRule g → Exact g (w .index)
+    → Widens w r u → Open (g ++ (r ∷ [])) (u .index) (u .grown)
+open-more {g} {w} {u} r k e a = record {
+  idle = λ q m none. record {
+    has = λ n i.
+        let j = gives-back (w .index) (u .index) (a .same) (q .clause) none n i in
+        ⊎-elim (λ y. a .applied .keeps (q .left) n (exact-idle k e y .has n j))
+        (λ y. last q (List·Memᴰ·eq-of-singleton y) n j) (List·Memᴰ·append-cases g m);
+  };
+}
   where
-    shut : (q : Rule) → List·Memᴰ q (g ++ (r ∷ [])) → (n : ℕ) → GivesByIndex x (q .clause) n
-        → In (at x (q .left)) n
-    shut q m n h = ⊎-elim (λ y. exact-idle k e y .has n h)
-        (λ y. subst (Idle x) (sym (List·Memᴰ·eq-of-singleton y)) i .has n h)
-        (List·Memᴰ·append-cases g m)
+    last : (q : Rule) → q ≡ r → (n : ℕ) → GivesByIndex (w .index) (q .clause) n
+        → In (at (u .index) (q .left)) n
+    last q d n = subst (λ (z : Rule). GivesByIndex (w .index) (z .clause) n
+        → In (at (u .index) (z .left)) n) (sym d) (a .applied .adds n)
 
--- a test whether a rule gives nothing new
-pub idle-says : (x : Index) (r : Rule) (s : ℕ) → Shaped x → Has (GivesByIndex x (r .clause)) s
-    → Says (eqb (bitOr (at x (r .left)) s) (at x (r .left))) (Idle x r)
-idle-says x r s sh h =
-    says-iff
-    (λ e. record { has = λ n i. rw e at (or-right (at x (r .left)) s (h .is n .1 i)) })
-    (λ i. small-same (bitOr (at x (r .left)) s) (at x (r .left))
-    (or-small (at x (r .left)) s (sh .small (r .left)) (h .small)) (sh .small (r .left))
-    (λ n l. (
-      λ j. ⊎-elim (λ y. y) (λ y. i .has n (h .is n .0 y))
-          (or-only (at x (r .left)) s n j),
-      λ j. or-left (at x (r .left)) s j,
-    )))
-    (says-eqb (bitOr (at x (r .left)) s) (at x (r .left)))
+pub sound-widened : {g : Rules} {w u : Growth} (r : Rule) → Exact g (w .index) → Widens w r u
+    → Sound (g ++ (r ∷ [])) (u .index)
+sound-widened {g} r e a =
+    applied-sound (sound-more r e) (Memᴰ·append-right g (List·Memᴰ·head refl)) (a .applied)
+
+-- of no lengths E and A rules alone give something
+pub open-none : {g : Rules} {x : Index} → Exact [] x → Open g x 1
+open-none {g} {x} e = record {
+  idle = λ r m none. record { has = λ n i. absurd (go (r .clause) none n i) };
+}
+  where
+    one : In 1 0
+    one = record { digit = refl }
+
+    go : (k : Clause) → (Named 1 k → ⊥) → (n : ℕ) → GivesByIndex x k n → ⊥
+    go Clause.Empty none n i = none (inl one)
+    go (Clause.Atom a b) none n i = none (inl one)
+    go (Clause.Unary B m) none n i = nothing (exact-sound e .is B n i)
+    go (Clause.Binary B C m) none n i = nothing (exact-sound e .is B (i .part) (i .left))
 
 -- ---- numbers in range
 

@@ -1,7 +1,7 @@
 -- Predicates of inner functions only: what a rule gives to an index, and a pass over the rules.
 use mathlib.Core.Path.{_≡_}
 use mathlib.Core.Logic.{_⊎_, _↔_}
-use mathlib.Core.List.{List, [], _∷_}
+use mathlib.Core.List.{List, [], _∷_, List·Memᴰ}
 use mathlib.Core.Option.{some}
 use Prim.Native.Nat.{ℕ, _+_, _-_, _≤_, _<_}
 use lib.ListN.{length, getElem?}
@@ -16,7 +16,13 @@ use Rattle.grammar.specs.Trees.{Rules, HasEmpty, HasAtom, HasUnary, HasBinary}
 use Rattle.grammar.specs.declared.UnaryMark.{UnaryMark}
 use Rattle.grammar.specs.declared.BinaryMark.{BinaryMark}
 use Rattle.lengths.specs.declared.Index.{Index}
+use Rattle.lengths.specs.declared.Growth.{Growth}
 use Rattle.lengths.specs.Indexes.{at, Shaped}
+
+-- the sum of the numbers
+abbrev pub weigh : List ℕ → ℕ
+weigh [] = 0
+weigh (a ∷ l) = a + weigh l
 
 -- n is a member of s that is below i, and one of t
 pub record SumTo (s t i n : ℕ) : Type 0 where
@@ -63,6 +69,7 @@ GivesByIndex x (Clause.Binary B C m) n = SumTo (at x B) (at x C) 8 n
 pub record Applied (x : Index) (r : Rule) (y : Index) : Type 0 where
   pub shaped : Shaped y
   pub more : (A : ℕ) → at x A ≤ at y A
+  pub keeps : (A n : ℕ) → In (at x A) n → In (at y A) n
   pub adds : (n : ℕ) → GivesByIndex x (r .clause) n → In (at y (r .left)) n
   pub only : (A n : ℕ) → In (at y A) n
       → In (at x A) n ⊎ ((r .left ≡ A) × GivesByIndex x (r .clause) n)
@@ -80,24 +87,40 @@ pub record Sound (g : Rules) (x : Index) : Type 0 where
   pub shaped : Shaped x
   pub is : (A n : ℕ) → In (at x A) n → Possible g A n
 
--- the first p rules led from x to y; where y is x, they give x nothing
-pub record Passed (g : Rules) (p : ℕ) (x y : Index) : Type 0 where
+-- the first p rules led from x to y, which has what they give to x; other sets than those of
+-- `grown` are the same, and where there are some y is heavier
+pub record Passed (g : Rules) (p : ℕ) (x y : Index) (grown : ℕ) : Type 0 where
   pub sound : Sound g y
   pub more : (A : ℕ) → at x A ≤ at y A
-  pub still : y ≡ x → (q : ℕ) → q < p → (r : Rule) → getElem? g q ≡ some r → (n : ℕ)
-      → GivesByIndex x (r .clause) n → In (at x (r .left)) n
+  pub keeps : (A n : ℕ) → In (at x A) n → In (at y A) n
+  pub gave : (q : ℕ) → q < p → (r : Rule) → getElem? g q ≡ some r → (n : ℕ)
+      → GivesByIndex x (r .clause) n → In (at y (r .left)) n
+  pub same : (A : ℕ) → (In grown A → ⊥) → at y A ≡ at x A
+  pub heavier : (grown ≡ 0 → ⊥) → weigh (x .sets) < weigh (y .sets)
 
 -- the rule gives x nothing that x lacks
 pub record Idle (x : Index) (r : Rule) : Type 0 where
   pub has : (n : ℕ) → GivesByIndex x (r .clause) n → In (at x (r .left)) n
+
+-- the clause names a member; one that names no nonterminal names 0
+abbrev pub Named : ℕ → Clause → Type 0
+Named set k = In set (firstOf k) ⊎ In set (secondOf k)
+
+-- rules that name no member of the set give x nothing
+pub record Open (g : Rules) (x : Index) (set : ℕ) : Type 0 where
+  pub idle : (r : Rule) → List·Memᴰ r g → (Named set (r .clause) → ⊥) → Idle x r
+
+-- u is w with what the rule gives besides; other sets than those of `grown` are the same, and where
+-- there is a new one it is heavier
+pub record Widens (w : Growth) (r : Rule) (u : Growth) : Type 0 where
+  pub applied : Applied (w .index) r (u .index)
+  pub kept : (A : ℕ) → In (w .grown) A → In (u .grown) A
+  pub same : (A : ℕ) → (In (u .grown) A → ⊥) → at (u .index) A ≡ at (w .index) A
+  pub heavier : (u .grown ≡ w .grown)
+      ⊎ (weigh (w .index .sets) < weigh (u .index .sets))
 
 -- a grammar of at most 128 rules, their numbers in range
 pub record Held (g : Grammar) : Type 0 where
   pub few : g .count ≤ 128
   pub whole : length (rules g) ≡ g .count
   pub small : Every SmallRule (rules g)
-
--- the sum of the numbers
-abbrev pub weigh : List ℕ → ℕ
-weigh [] = 0
-weigh (a ∷ l) = a + weigh l

@@ -4,15 +4,16 @@ use grammar::Clause;
 use grammar::Grammar;
 use grammar::Rule;
 use sets::has;
+use sets::with;
 ghost use mathlib.Core.Path.{_≡_};
 ghost use mathlib.Core.List.{[]};
 ghost use Prim.Native.Nat.{_+_, _<_};
 ghost use Rattle.sets.specs.Says.{Says};
-ghost use Rattle.grammar.specs.Content.{rules, Formed, SmallRule};
+ghost use Rattle.grammar.specs.Content.{rules, Formed, SmallClause, SmallRule};
 ghost use Rattle.lengths.specs.Indexes.{Shaped, Exact};
 ghost use Rattle.lengths.specs.Books.{Booked, Appended};
 ghost use Rattle.lengths.specs.Passes.{SumTo, Has, firstOf, secondOf, Makes, Sound, Passed};
-ghost use Rattle.lengths.specs.Passes.{Idle, Held, weigh};
+ghost use Rattle.lengths.specs.Passes.{Held, Named, Open, Widens};
 
 // For each nonterminal the set of its lengths.
 pub struct Index {
@@ -88,75 +89,91 @@ fn given(k: Clause, s: u64, t: u64) -> u64
     }
 }
 
-// One pass over the rules.
-fn pass(g: Grammar, x: Index) -> Index
-    requires { ⌜ Held g × Sound (rules g) x ⌝ }
-    ensures { λ y. ⌜ Passed (rules g) (g .count) x y ⌝ }
-{
-    let count = g.count;
-    let mut next = x;
-    let mut p: usize = 0;
-    while p < count {
-        let r = g.rules[p];
-        let k = r.clause;
-        let b = first_of(k) as usize;
-        let c = second_of(k) as usize;
-        let s = given(k, next.sets[b], next.sets[c]);
-        let a = r.left as usize;
-        next.sets[a] = next.sets[a] | s;
-        p += 1;
-    }
-    next
+// An index, and the nonterminals whose sets have grown in it.
+pub struct Growth {
+    pub index: Index,
+    pub grown: u64,
 }
 
-// The sum of the sets' numbers, which grows with the index.
-fn weight(x: Index) -> u64
-    requires { ⌜ Shaped x ⌝ }
-    ensures { λ r. ⌜ r ≡ weigh (x .sets) ⌝ }
+// The index with what the rule gives besides.
+fn grow(w: Growth, r: Rule) -> Growth
+    requires { ⌜ Shaped (w .index) × SmallRule r ⌝ }
+    ensures { λ u. ⌜ Widens w r u ⌝ }
 {
-    let mut s: u64 = 0;
-    let mut i: usize = 0;
-    while i < 64 {
-        s += x.sets[i];
-        i += 1;
-    }
-    s
-}
-
-// The index of the rules, from one that is true as far as it goes: passes until one adds nothing.
-fn completed(g: Grammar, x: Index) -> Index
-    requires { ⌜ Held g × Sound (rules g) x ⌝ }
-    ensures { λ r. ⌜ Exact (rules g) r ⌝ }
-{
-    let mut known = x;
-    loop {
-        let next = pass(g, known);
-        if weight(next) == weight(known) {
-            return known;
-        }
-        known = next;
-    }
-}
-
-// The index of the rules of a grammar.
-pub fn index_of(g: Grammar) -> Index
-    requires { ⌜ Formed g ⌝ }
-    ensures { λ r. ⌜ Exact (rules g) r ⌝ }
-{
-    completed(g, no_lengths())
-}
-
-// Does the rule give the index nothing new?
-fn idle(x: Index, r: Rule) -> bool
-    requires { ⌜ Shaped x × SmallRule r ⌝ }
-    ensures { λ t. ⌜ Says t (Idle x r) ⌝ }
-{
+    let mut x = w.index;
     let k = r.clause;
     let b = first_of(k) as usize;
     let c = second_of(k) as usize;
     let s = given(k, x.sets[b], x.sets[c]);
-    let a = x.sets[r.left as usize];
-    (a | s) == a
+    let a = r.left as usize;
+    let old = x.sets[a];
+    if (old | s) == old {
+        return w;
+    }
+    x.sets[a] = old | s;
+    Growth {
+        index: x,
+        grown: with(w.grown, r.left),
+    }
+}
+
+// Does the clause name a member?
+fn names(set: u64, k: Clause) -> bool
+    requires { ⌜ SmallClause k ⌝ }
+    ensures { λ r. ⌜ Says r (Named set k) ⌝ }
+{
+    if has(set, first_of(k)) {
+        return true;
+    }
+    has(set, second_of(k))
+}
+
+// One pass over the rules that name a nonterminal whose set is new, or has grown in this pass.
+fn pass(g: Grammar, x: Index, new: u64) -> Growth
+    requires { ⌜ Held g × Sound (rules g) x × Open (rules g) x new ⌝ }
+    ensures { λ w. ⌜ Passed (rules g) (g .count) x (w .index) (w .grown) ⌝ }
+{
+    let count = g.count;
+    let mut w = Growth { index: x, grown: 0 };
+    let mut p: usize = 0;
+    while p < count {
+        let r = g.rules[p];
+        let k = r.clause;
+        p += 1;
+        if !names(new | w.grown, k) {
+            continue;
+        }
+        w = grow(w, r);
+    }
+    w
+}
+
+// The index of the rules, from one that is true as far as it goes: passes until one adds nothing.
+// Rules that name no member of `from` give it nothing.
+fn completed(g: Grammar, x: Index, from: u64) -> Index
+    requires { ⌜ Held g × Sound (rules g) x × Open (rules g) x from ⌝ }
+    ensures { λ r. ⌜ Exact (rules g) r ⌝ }
+{
+    let mut known = x;
+    let mut new = from;
+    loop {
+        let w = pass(g, known, new);
+        let next = w.index;
+        known = next;
+        new = w.grown;
+        if new == 0 {
+            return known;
+        }
+    }
+}
+
+// The index of the rules of a grammar. At first E and A rules alone give something: they name
+// nothing, which counts as 0.
+pub fn index_of(g: Grammar) -> Index
+    requires { ⌜ Formed g ⌝ }
+    ensures { λ r. ⌜ Exact (rules g) r ⌝ }
+{
+    completed(g, no_lengths(), 1)
 }
 
 // Rules with their index.
@@ -196,12 +213,14 @@ pub fn append(b: Book, r: Rule) -> Book
     g.rules[n] = r;
     g.count = n + 1;
     let x = b.index;
-    if idle(x, r) {
+    let w = grow(Growth { index: x, grown: 0 }, r);
+    let y = w.index;
+    if w.grown == 0 {
         return Book {
             grammar: g,
-            index: x,
+            index: y,
         };
     }
-    let index = completed(g, x);
+    let index = completed(g, y, w.grown);
     Book { grammar: g, index }
 }

@@ -1,6 +1,6 @@
 -- `lengths::index_of` meets its contract.
 use borrow.Author.Needs.{needs}
-use Rattle.lengths.proofs.Growing.{sound-none, held-formed}
+use Rattle.lengths.proofs.Growing.{sound-none, held-formed, open-none}
 use Rattle.lengths.proofs.index_of.Statement.{statement}
 use Rattle.lengths.proofs.index_of.Tie as tie
 
@@ -8,7 +8,8 @@ no-lengths-requires : tie.Need-no-lengths-requires
 no-lengths-requires c κs = search needs
 
 completed-requires : tie.Need-completed-requires
-completed-requires c κs = (held-formed (c .before .pre), sound-none (c .no-lengths .ensures))
+completed-requires c κs = let e = c .no-lengths .ensures in
+    (held-formed (c .before .pre), sound-none e, open-none e)
 
 returns : tie.Need-returns
 returns c = c .completed .ensures
