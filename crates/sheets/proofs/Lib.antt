@@ -1,6 +1,7 @@
 pub mod Numbers
 pub mod Once
 pub mod AnyOf
+pub mod Lefts
 pub mod Names
 pub mod Loop
 pub mod Accepted

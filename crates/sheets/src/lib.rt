@@ -151,6 +151,16 @@ pub enum TokenStep {
     End,
 }
 
+// Has the rule the key? Most have another left.
+fn has_key(x: Rule, key: Key) -> bool
+    ensures { λ r. ⌜ r ≡ hasKey key x ⌝ }
+{
+    if x.left != key.left {
+        return false;
+    }
+    lines::same_key(lines::key_of(x), key)
+}
+
 // Has one of the first n rules the key?
 fn earlier(rules: [Rule; 128], n: usize, key: Key) -> bool
     requires { ⌜ n ≤ 128 ⌝ }
@@ -159,7 +169,7 @@ fn earlier(rules: [Rule; 128], n: usize, key: Key) -> bool
     let mut i = 0;
     while i < n {
         let x = rules[i];
-        if lines::same_key(lines::key_of(x), key) {
+        if has_key(x, key) {
             return true;
         }
         i += 1;

@@ -1,13 +1,11 @@
 -- `sheets::earlier` meets its contract: the loop's invariant: no rule passed has the key.
-use mathlib.Core.Path.{_≡_, refl, sym, ap, _∙_}
+use mathlib.Core.Path.{_≡_, refl, sym, _∙_}
 use Prim.Native.Nat.{_-_, _≤_}
 use native.Mathlib.Omega.{arith}
 use borrow.Author.Needs.{needs}
 use lib.ListN.{length, take, drop}
 use Rattle.grammar.specs.declared.Clause.the-variants.{Empty}
-use Rattle.lines.specs.declared.Key.{Key}
 use Rattle.sheets.specs.RuleSheets.{anyOf, hasKey}
-use Rattle.lines.specs.Keys.{sameKey}
 use Rattle.sheets.proofs.AnyOf.{any-end, any-hit, any-more}
 use Rattle.sheets.proofs.earlier.Statement.{statement}
 use Rattle.sheets.proofs.earlier.Tie as tie
@@ -28,21 +26,16 @@ mul-x c = omega (arith, c .before .before .pre)
 array-copy-out-x : tie.Need-array-copy-out-x Inv-loop μ-loop
 array-copy-out-x c = omega (arith, c .before .before .pre)
 
-key-of-requires : tie.Need-key-of-requires Inv-loop μ-loop
-key-of-requires c κs = search needs
-
-same-key-requires : tie.Need-same-key-requires Inv-loop μ-loop
-same-key-requires c κs = search needs
+has-key-requires : tie.Need-has-key-requires Inv-loop μ-loop
+has-key-requires c κs = search needs
 
 returns : tie.Need-returns Inv-loop μ-loop
-returns c = let l = c .before .before .before .before .before in
+returns c = let l = c .before .before .before .before in
     let a = l .before .args in
     let k : length (a .t1) ≡ 128 = search needs in
     sym (l .loop .inv .1 ∙ any-hit (hasKey (a .key)) (a .t1) (a .n) (l .loop .i)
-    (record { left = 0; clause = Empty }) (c .before .before .before .before .loop-test .taken)
-    (omega (arith, l .before .pre))
-    (ap (λ (x : Key). sameKey x (a .key)) (sym (c .before .before .key-of .ensures))
-    ∙ sym (c .before .same-key .ensures) ∙ c .if1 .taken))
+    (record { left = 0; clause = Empty }) (c .before .before .before .loop-test .taken)
+    (omega (arith, l .before .pre)) (sym (c .before .has-key .ensures) ∙ c .if1 .taken))
 
 add-i : tie.Need-add-i Inv-loop μ-loop
 add-i c = search needs
@@ -51,15 +44,14 @@ loop-less : tie.Need-loop-less Inv-loop μ-loop
 loop-less c = search needs
 
 loop-again : tie.Need-loop-again Inv-loop μ-loop
-loop-again c = let l = c .before .before .before .before .before in
+loop-again c = let l = c .before .before .before .before in
     let a = l .before .args in
     let k : length (a .t1) ≡ 128 = search needs in (
       search needs,
       l .loop .inv .1 ∙ any-more (hasKey (a .key)) (a .t1) (a .n) (l .loop .i)
           (record { left = 0; clause = Empty })
-          (c .before .before .before .before .loop-test .taken) (omega (arith, l .before .pre))
-          (ap (λ (x : Key). sameKey x (a .key)) (sym (c .before .before .key-of .ensures))
-          ∙ sym (c .before .same-key .ensures) ∙ c .if1 .left),
+          (c .before .before .before .loop-test .taken) (omega (arith, l .before .pre))
+          (sym (c .before .has-key .ensures) ∙ c .if1 .left),
     )
 
 returns-2 : tie.Need-returns-2 Inv-loop μ-loop
@@ -77,8 +69,7 @@ earlier-spec =
     loop-holds
     mul-x
     array-copy-out-x
-    key-of-requires
-    same-key-requires
+    has-key-requires
     returns
     add-i
     loop-less
