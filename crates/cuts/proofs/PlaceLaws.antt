@@ -205,6 +205,11 @@ module _ (rows cols : List ℕ) (p : ℕ) (w : Masks) (g : Rules) where
     pub trying-end : rest ≡ 0 → CutCounts rows cols p w g (base + 64) t
     trying-end e = reach 64 (y .small) (omega arith) (λ j x. absurd (in-zero j (in-word e x)))
 
+  -- of no places nothing is left
+  pub passed-over : {base set : ℕ} {t : Pair} → PlacedAt g base 64 set → set ≡ 0
+      → CutCounts rows cols p w g base t → CutCounts rows cols p w g (base + 64) t
+  passed-over {base} {set} {t} pl e c = trying-end pl (trying-none base set t c) e
+
   -- past the last rule nothing stands
   pub counts-all : (m : ℕ) (t : Pair) → length g ≤ m → CutCounts rows cols p w g m t
       → CutCounts rows cols p w g (length g) t
