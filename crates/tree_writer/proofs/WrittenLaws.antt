@@ -18,7 +18,7 @@ use Rattle.tree_choices.specs.Wanted.{Wanted}
 use Rattle.tree_writer.specs.Laid.{Laid}
 use Rattle.tree_view.specs.Shown.{View, shownCount}
 use Rattle.tree_view.proofs.ShownLaws.{some-shown}
-use Rattle.tree_writer.specs.Memories.{Second, second, no-second, Written}
+use Rattle.tree_writer.specs.Memories.{SecondIf, second, no-second, Written}
 
 -- 1. from one memory to both
 
@@ -70,7 +70,7 @@ module _ (sees : View) (t : Tree) {l₁ l₂ m₁ m₂ : List ℕ} {r₁ : ℕ} 
       written-short sees (some t) u (inl h) (x .short h .0) e
 
   pub first-done : {g : Rules} {A : ℕ} {w : Word} {two : Bool} {u : Option Tree} → two ≡ false
-      → Second g A w two u → (r₁ ≡ 0 → ⊥) → m₂ ≡ filled (seenBy sees) l₂ none
+      → SecondIf g A w two u → (r₁ ≡ 0 → ⊥) → m₂ ≡ filled (seenBy sees) l₂ none
       → Written (seenBy sees) (some t) u l₁ l₂ m₁ m₂
       (record { fits = true; first = r₁; second = 0 })
   first-done d (second q) z e = absurd (true-not-false d)
@@ -81,7 +81,7 @@ module _ (sees : View) (t : Tree) {l₁ l₂ m₁ m₂ : List ℕ} {r₁ : ℕ} 
   module _ {g : Rules} {A : ℕ} {w : Word} {r₂ : ℕ}
       (y : (v : Tree) → SecondTree g A w v → Laid sees v l₂ m₂ r₂) where
     pub second-short : {m₁′ : List ℕ} {two : Bool} {u : Option Tree} → two ≡ true
-        → Second g A w two u → r₂ ≡ 0 → length m₁ ≡ length l₁ → m₁′ ≡ filled (seenBy sees) m₁ none
+        → SecondIf g A w two u → r₂ ≡ 0 → length m₁ ≡ length l₁ → m₁′ ≡ filled (seenBy sees) m₁ none
         → Written (seenBy sees) (some t) u l₁ l₂ m₁′ m₂
         (record { fits = false; first = 0; second = 0 })
     second-short d (second {u = v} q) z n e =
@@ -90,7 +90,7 @@ module _ (sees : View) (t : Tree) {l₁ l₂ m₁ m₂ : List ℕ} {r₁ : ℕ} 
         (y v q .short h .0)
     second-short d no-second z n e = absurd (true-not-false (sym d))
 
-    pub second-done : {two : Bool} {u : Option Tree} → two ≡ true → Second g A w two u
+    pub second-done : {two : Bool} {u : Option Tree} → two ≡ true → SecondIf g A w two u
         → (r₁ ≡ 0 → ⊥) → (r₂ ≡ 0 → ⊥) → Written (seenBy sees) (some t) u l₁ l₂ m₁ m₂
         (record { fits = true; first = r₁; second = r₂ })
     second-done d (second {u = v} q) f k =

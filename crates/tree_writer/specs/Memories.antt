@@ -12,9 +12,9 @@ use Rattle.tree_writer.specs.declared.Counts.{Counts}
 use Rattle.tree_writer.specs.Written.{Display, rowRoom, countOf, filled}
 
 -- u is the second tree of A over w where there are two, and no tree otherwise
-pub data Second (g : Rules) (A : ℕ) (w : Word) : Bool → Option Tree → Type 0 where
-  second : {u : Tree} → SecondTree g A w u → Second g A w true (some u)
-  no-second : Second g A w false none
+pub data SecondIf (g : Rules) (A : ℕ) (w : Word) : Bool → Option Tree → Type 0 where
+  second : {u : Tree} → SecondTree g A w u → SecondIf g A w true (some u)
+  no-second : SecondIf g A w false none
 
 -- the memories l₁ and l₂ have become m₁ and m₂, and r is answered, where t and u are the trees of
 -- the answer

@@ -22,7 +22,7 @@ ghost use Rattle.tree_writer.specs.Laid.{Laid};
 ghost use Rattle.grammar.specs.Sentences.{spelled};
 ghost use Rattle.tree_view.specs.Members.{member};
 ghost use Rattle.tree_writer.specs.Written.{Display, seenBy};
-ghost use Rattle.tree_writer.specs.Memories.{Second, Written};
+ghost use Rattle.tree_writer.specs.Memories.{SecondIf, Written};
 
 // How many rows each tree has, 0 for one that is not written; `fits` is false where a tree of the
 // answer has more rows than its memory has places (refusal 22).
@@ -109,7 +109,7 @@ fn trees_by(
     requires { ⌜ Ready g s (now words) (now hs) ⌝ }
     requires { ⌜ Wanted (rules g) 0 (spelled s) two ⌝ }
     ensures { λ r. ⌜ ((t : Tree) (u : Option Tree) → FirstTree (rules g) 0 (spelled s) t
-        → Second (rules g) 0 (spelled s) two u
+        → SecondIf (rules g) 0 (spelled s) two u
         → Written (seenBy (member sees)) (some t) u (now (first .entry)) (now (second .entry))
         (now (first .exit)) (now (second .exit)) r) ⌝ }
 {
@@ -153,7 +153,7 @@ fn trees_low(
     requires { ⌜ Wanted (rules g) 0 (spelled s) two ⌝ }
     requires { ⌜ Cyclic (rules g) ⌝ }
     ensures { λ r. ⌜ ((t : Tree) (u : Option Tree) → FirstTree (rules g) 0 (spelled s) t
-        → Second (rules g) 0 (spelled s) two u
+        → SecondIf (rules g) 0 (spelled s) two u
         → Written (seenBy (member sees)) (some t) u (now (first .entry)) (now (second .entry))
         (now (first .exit)) (now (second .exit)) r) ⌝ }
 {
@@ -175,7 +175,7 @@ pub fn write_trees(
     requires { ⌜ Charted g s (now words) ⌝ }
     requires { ⌜ Wanted (rules g) 0 (spelled s) two ⌝ }
     ensures { λ r. ⌜ ((t : Tree) (u : Option Tree) → FirstTree (rules g) 0 (spelled s) t
-        → Second (rules g) 0 (spelled s) two u
+        → SecondIf (rules g) 0 (spelled s) two u
         → Written (seenBy (member sees)) (some t) u (now (first .entry)) (now (second .entry))
         (now (first .exit)) (now (second .exit)) r) ⌝ }
 {
