@@ -401,8 +401,8 @@ class Programs(Room):
         for name, size, data, wanted in (
             ("checker", 640, GOOD, TWO),
             ("sweeper", 350, SWEPT, teplonga.sweep_program(SWEPT)),
-            ("calls", 1500, called, calls.calls_program(called)),
-            ("calls", 1500, told, calls.calls_program(told)),
+            ("calls", 1000, called, calls.calls_program(called)),
+            ("calls", 1000, told, calls.calls_program(told)),
         ):
             # what stands in the environment counts against the limit too
             limited = ("env", "-i", "/bin/sh", "-c", f"ulimit -s {size} && exec '{BUILT / name}'")

@@ -4,20 +4,26 @@ use mathlib.Core.List.{List, [], _∷_, _++_, append-nil, append-assoc}
 use Prim.Native.Nat.{ℕ, zero, suc, _+_, _*_, _≤_}
 use native.Mathlib.Nat.{add-zero}
 use native.Mathlib.Omega.{arith}
-use lib.ListN.{length, take, drop, getD, length-drop}
+use lib.ListN.{length, take, drop, getD, replicate, length-drop, length-replicate}
 use lib.Seq.{take-add, length-take-le, getD-drop}
 use Rattle.printing.proofs.Texts.{four}
 use Rattle.grammar.specs.Trees.{Rules}
 use Rattle.lists.specs.Lists.{bytesOf, GivesList, fits, large}
 use Rattle.lists.proofs.Entries.{bytes-length}
 use Rattle.sheets.specs.declared.Fault.{Fault}
-use Rattle.sheets.specs.Items.{Reading}
+use Rattle.sheets.specs.Refusals.{RefusedAs}
+use Rattle.sheets.specs.Items.{Reading, accepted}
+use Rattle.text.specs.Output.{head}
 use Rattle.pairs.specs.Doubts.{Doubt}
 use Rattle.doubt_list.specs.Entries.{doubtBytes}
+use Rattle.call_always.specs.declared.Told.the-variants as Told
 use Rattle.call_always.specs.declared.AlwaysReply.{AlwaysReply}
-use Rattle.call_always.specs.Always.{alwaysReplyOf, alwaysRefusal, short, listing}
+use Rattle.call_always.specs.Replying.{DoubtsTold}
+use Rattle.call_always.specs.Always.{alwaysReplyOf, alwaysRefusal, alwaysWords, emptied}
+use Rattle.call_always.specs.Always.{short, listing}
 use Rattle.call_always.specs.Always.{AlwaysBy, refusing, reading}
-use Rattle.always_text.specs.Always.{whyText, doubtText, doubtLines}
+use Rattle.always_text.specs.Always.{whyText, doubtText, doubtLines, toldText, doubtsLent}
+use Rattle.always_text.specs.Always.{AlwaysText, answered}
 
 -- any other number stands for the empty word
 pub why-past : (y : ℕ) → (y ≡ 0 → ⊥) → (y ≡ 1 → ⊥) → whyText y ≡ whyText 2
@@ -81,3 +87,23 @@ pub doubts-fit : {given : Reading Rules} {words words′ list list′ : List ℕ
 doubts-fit (refusing e x h i) = counted x (omega arith)
 doubts-fit (reading e (short l n x h i)) = counted x (omega arith)
 doubts-fit (reading e (listing {ds = ds} h t n y w)) = given-few ds y
+
+-- ---- the promise by the parts of the test
+
+-- the doubts of rules that were read, whatever words were lent
+pub by-told : {g : Rules} {list list′ : List ℕ} {r : AlwaysReply} → DoubtsTold g list list′ r
+    → AlwaysBy (accepted g) (replicate alwaysWords 0) (emptied (replicate alwaysWords 0)) list
+    list′ r
+by-told x =
+    reading refl
+    (listing (omega (arith, length-replicate {A = ℕ} alwaysWords 0)) (x .doubts) refl (x .gives)
+    refl)
+
+-- a refused sheet
+pub refused-text : {given : Reading Rules} {f : Fault} {l : ℕ} → RefusedAs given f l
+    → AlwaysText given (head (toldText (Told.Refused f)) l)
+refused-text {f = f} {l} e =
+    answered {words = replicate alwaysWords 0} {list = replicate (4 * doubtsLent) 0}
+    (length-replicate {A = ℕ} alwaysWords 0)
+    (length-replicate {A = ℕ} (4 * doubtsLent) 0) (refusing {f = f} e refl refl refl)
+    (sym (append-nil (head (toldText (Told.Refused f)) l)))

@@ -1,17 +1,27 @@
 // The whole output of the calls for the test at every length, in a lent buffer.
 use call_always::Told;
-use call_always::always;
-use call_always::clauses_always;
+use call_always::list_weighed;
+use call_always::weigh_alone;
+use clause_sheets::read_clauses;
+use doubt_list::Sets;
+use grammar::Grammar;
 use printing::put_byte;
 use printing::put_bytes;
 use printing::put_number;
 use sheets::Answer;
+use sheets::GrammarRead;
+use sheets::Outcome;
+use sheets::read_rules;
 use text::put_head;
 use text_trees::put_small;
 ghost use Prim.Native.Nat.{_+_, _*_, _≤_};
 ghost use lib.ListN.{length, take};
 ghost use Rattle.printing.specs.Printing.{Wrote};
+ghost use Rattle.grammar.specs.Content.{rules, Formed};
+ghost use Rattle.sheets.specs.Items.{accepted};
+ghost use Rattle.sheets.specs.Promises.{readingOf, RulesRead};
 ghost use Rattle.sheets.specs.RuleSheets.{ruleSheet};
+ghost use Rattle.doubt_list.specs.Marks.{Ground};
 ghost use Rattle.clause_sheets.specs.ClauseSheets.{clauseSheet};
 ghost use Rattle.text.specs.Output.{head};
 ghost use Rattle.text.specs.Printed.{Printed};
@@ -108,18 +118,56 @@ fn put_listed(out: &mut [u8], at: usize, t: Told, list: &[u8], count: usize) -> 
     }
 }
 
-// The whole output of the call `always`; its length.
-pub fn always_text(rules: &[u8], out: &mut [u8]) -> usize
+// The output where all doubts are to be listed, by the sets and the marks of the rules.
+fn weighed_text(g: Grammar, s: Sets, marks: &[u64], out: &mut [u8]) -> usize
+    requires { ⌜ Ground g s (now marks) ⌝ }
     requires { ⌜ 262144 ≤ length (now out) ⌝ }
-    ensures { λ r. ⌜ Printed AlwaysText (ruleSheet (now (rules .entry))) (now (out .entry))
-        (now (out .exit)) r ⌝ }
+    ensures { λ r. ⌜ Printed AlwaysText (accepted (rules g)) (now (out .entry)) (now (out .exit))
+        r ⌝ }
 {
-    let mut words = [0u64; 73728];
     let mut list = [0u8; 57600];
-    let r = always(rules, &mut words, &mut list);
+    let r = list_weighed(g, s, marks, &mut list);
     let t = r.told;
     let n = put_told(out, t, r.line);
     put_listed(out, n, t, &list, r.count)
+}
+
+// The output on rules that were read. The words of the test are given back before the list is made.
+fn rules_text(g: Grammar, out: &mut [u8]) -> usize
+    requires { ⌜ Formed g × (262144 ≤ length (now out)) ⌝ }
+    ensures { λ r. ⌜ Printed AlwaysText (accepted (rules g)) (now (out .entry)) (now (out .exit))
+        r ⌝ }
+{
+    let mut marks = [0u64; 256];
+    let s = weigh_alone(g, &mut marks);
+    weighed_text(g, s, &marks, out)
+}
+
+// The output by what a reader of a sheet with rules answered. It is entered once the sheet is read,
+// so that the words of the test do not stand beside what the reader needs.
+fn read_text(a: GrammarRead, out: &mut [u8]) -> usize
+    requires { ⌜ RulesRead a (readingOf (a .outcome) (rules (a .grammar))) ⌝ }
+    requires { ⌜ 262144 ≤ length (now out) ⌝ }
+    ensures { λ r. ⌜ Printed AlwaysText (readingOf (a .outcome) (rules (a .grammar)))
+        (now (out .entry)) (now (out .exit)) r ⌝ }
+{
+    let o = a.outcome;
+    match o {
+        Outcome::Refused(f, l) => put_told(out, Told::Refused(f), l),
+        Outcome::Accepted => {
+            let g = a.grammar;
+            rules_text(g, out)
+        }
+    }
+}
+
+// The whole output of the call `always`; its length.
+pub fn always_text(sheet: &[u8], out: &mut [u8]) -> usize
+    requires { ⌜ 262144 ≤ length (now out) ⌝ }
+    ensures { λ r. ⌜ Printed AlwaysText (ruleSheet (now (sheet .entry))) (now (out .entry))
+        (now (out .exit)) r ⌝ }
+{
+    read_text(read_rules(sheet), out)
 }
 
 // The whole output of the call `clauses-always`; its length.
@@ -128,10 +176,5 @@ pub fn clauses_always_text(clauses: &[u8], out: &mut [u8]) -> usize
     ensures { λ r. ⌜ Printed AlwaysText (clauseSheet (now (clauses .entry))) (now (out .entry))
         (now (out .exit)) r ⌝ }
 {
-    let mut words = [0u64; 73728];
-    let mut list = [0u8; 57600];
-    let r = clauses_always(clauses, &mut words, &mut list);
-    let t = r.told;
-    let n = put_told(out, t, r.line);
-    put_listed(out, n, t, &list, r.count)
+    read_text(read_clauses(clauses), out)
 }

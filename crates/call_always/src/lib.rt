@@ -19,6 +19,8 @@ ghost use Prim.Native.Nat.{_≤_};
 ghost use lib.ListN.{length};
 ghost use Rattle.grammar.specs.Content.{rules as rulesOf, Formed};
 ghost use Rattle.sheets.specs.Promises.{readingOf, RulesRead};
+ghost use Rattle.spans.specs.Changes.{Past};
+ghost use Rattle.doubt_list.specs.Marks.{Ground};
 ghost use Rattle.call_always.specs.Always.{alwaysRefusal, emptied};
 ghost use Rattle.call_always.specs.Always.{AlwaysOn, AlwaysBy, AlwaysOf};
 ghost use Rattle.call_always.specs.Clauses.{ClauseAlways};
@@ -70,6 +72,39 @@ fn reply(l: Listed) -> AlwaysReply
     }
 }
 
+// The sets and the marks by which the doubts of rules are listed, by tables in the lent words.
+fn weigh(g: Grammar, words: &mut [u64], marks: &mut [u64]) -> Sets
+    requires { ⌜ Formed g × (73728 ≤ length (now words)) × (256 ≤ length (now marks)) ⌝ }
+    ensures { λ r. ⌜ Ground g r (now (marks .exit)) ⌝ }
+    ensures { λ r. ⌜ Past 73728 (now (words .entry)) (now (words .exit)) ⌝ }
+{
+    let nulls = nullables(g);
+    let prods = productives(g, nulls);
+    let occurs = occurring(g, nulls, prods);
+    fill_marks(g, nulls, prods, words, marks);
+    Sets {
+        nulls,
+        occurring: occurs,
+    }
+}
+
+// The same in words of its own, which are given back before anything is listed.
+pub fn weigh_alone(g: Grammar, marks: &mut [u64]) -> Sets
+    requires { ⌜ Formed g × (256 ≤ length (now marks)) ⌝ }
+    ensures { λ r. ⌜ Ground g r (now (marks .exit)) ⌝ }
+{
+    let mut words = [0u64; 73728];
+    weigh(g, &mut words, marks)
+}
+
+// The list of the doubts of rules that were weighed.
+pub fn list_weighed(g: Grammar, s: Sets, marks: &[u64], list: &mut [u8]) -> AlwaysReply
+    requires { ⌜ Ground g s (now marks) ⌝ }
+    ensures { λ r. ⌜ DoubtsTold (rulesOf g) (now (list .entry)) (now (list .exit)) r ⌝ }
+{
+    reply(list_doubts(g, s, marks, list))
+}
+
 // The doubts of rules, by tables in the lent words, which end 0.
 fn tell(g: Grammar, words: &mut [u64], list: &mut [u8]) -> AlwaysReply
     requires { ⌜ Formed g ⌝ }
@@ -77,17 +112,10 @@ fn tell(g: Grammar, words: &mut [u64], list: &mut [u8]) -> AlwaysReply
     ensures { λ r. ⌜ DoubtsTold (rulesOf g) (now (list .entry)) (now (list .exit)) r ⌝ }
     ensures { λ r. ⌜ now (words .exit) ≡ emptied (now (words .entry)) ⌝ }
 {
-    let nulls = nullables(g);
-    let prods = productives(g, nulls);
-    let occurs = occurring(g, nulls, prods);
     let mut marks = [0u64; 256];
-    fill_marks(g, nulls, prods, words, &mut marks);
+    let s = weigh(g, words, &mut marks);
     clear(words, 73728);
-    let s = Sets {
-        nulls,
-        occurring: occurs,
-    };
-    reply(list_doubts(g, s, &marks, list))
+    list_weighed(g, s, &marks, list)
 }
 
 // The answer on rules that were read.

@@ -1,66 +1,21 @@
--- `always_text` meets its contract: the lent arrays are those of the promise.
-use mathlib.Core.Path.{refl}
-use Prim.Native.Nat.{ℕ}
-use native.Mathlib.Omega.{arith}
-use lib.ListN.{length-replicate}
-use Rattle.printing.proofs.Writing.{wrote-then}
-use Rattle.always_text.specs.Always.{answered}
-use Rattle.always_text.proofs.DoubtLines.{doubts-fit}
+-- `always_text` meets its contract: the output by what the rule sheet gives.
 use borrow.Author.Needs.{needs}
 use Rattle.always_text.proofs.always_text.Statement.{statement}
 use Rattle.always_text.proofs.always_text.Tie as tie
 
-slice-aggregate-always : tie.Need-slice-aggregate-always
-slice-aggregate-always c = search needs
+read-rules-requires : tie.Need-read-rules-requires
+read-rules-requires c κs = search needs
 
-slice-aggregate-always-2 : tie.Need-slice-aggregate-always-2
-slice-aggregate-always-2 c = search needs
-
-always-requires : tie.Need-always-requires
-always-requires c κs = search needs
-
-put-told-requires : tie.Need-put-told-requires
-put-told-requires c κs = search needs
-
-slice-aggregate-put-listed : tie.Need-slice-aggregate-put-listed
-slice-aggregate-put-listed c = search needs
-
-put-listed-requires : tie.Need-put-listed-requires
-put-listed-requires c κs =
-    let h = c .before .before .before .before in
-    let z = h .before .before .before .before in
-    let s = z .before .before .before .before .before in
-    let f = doubts-fit (z .always .ensures) in
-    let l = length-replicate {A = ℕ} 57600 0 in (
-      omega (arith, f, l, z .always .kept .1 .1 .0),
-      omega (arith, f, l, h .put-told .ensures .1, h .put-told .ensures .0 .long, s .pre),
-    )
+read-text-requires : tie.Need-read-text-requires
+read-text-requires c κs = search needs
 
 same-length : tie.Need-same-length
 same-length c = search needs
 
 returns : tie.Need-returns
 returns c =
-    let p = c .before .before in
-    let h = p .before .before .before .before .before in
-    let z = h .before .before .before .before in
-    record {
-      text = _;
-      is =
-          answered (length-replicate {A = ℕ} 73728 0) (length-replicate {A = ℕ} 57600 0)
-          (z .always .ensures) refl;
-      wrote = wrote-then (h .put-told .ensures .0) (p .put-listed .ensures);
-    }
+    let z = c .before .before in
+    rw (z .before .before .read-rules .ensures .is) at (z .read-text .ensures)
 
 pub always-text-spec : {M : Type 1} → statement M
-always-text-spec =
-    tie.close
-    (tie.spec
-    slice-aggregate-always
-    slice-aggregate-always-2
-    always-requires
-    put-told-requires
-    slice-aggregate-put-listed
-    put-listed-requires
-    same-length
-    returns)
+always-text-spec = tie.close (tie.spec read-rules-requires read-text-requires same-length returns)

@@ -1,0 +1,62 @@
+-- `weighed_text` meets its contract: the doubts are those of the rules, whatever words were lent.
+use mathlib.Core.Path.{refl}
+use Prim.Native.Nat.{ℕ}
+use native.Mathlib.Omega.{arith}
+use lib.ListN.{length-replicate}
+use Rattle.printing.proofs.Writing.{wrote-then}
+use Rattle.always_text.specs.Always.{answered}
+use Rattle.always_text.proofs.DoubtLines.{doubts-fit, by-told}
+use borrow.Author.Needs.{needs}
+use Rattle.always_text.proofs.weighed_text.Statement.{statement}
+use Rattle.always_text.proofs.weighed_text.Tie as tie
+
+slice-aggregate-list-weighed : tie.Need-slice-aggregate-list-weighed
+slice-aggregate-list-weighed c = search needs
+
+list-weighed-requires : tie.Need-list-weighed-requires
+list-weighed-requires c κs = search needs
+
+put-told-requires : tie.Need-put-told-requires
+put-told-requires c κs = search needs
+
+slice-aggregate-put-listed : tie.Need-slice-aggregate-put-listed
+slice-aggregate-put-listed c = search needs
+
+put-listed-requires : tie.Need-put-listed-requires
+put-listed-requires c κs =
+    let h = c .before .before .before .before in
+    let z = h .before .before .before in
+    let s = z .before .before .before .before in
+    let f = doubts-fit (by-told (z .list-weighed .ensures)) in
+    let l = length-replicate {A = ℕ} 57600 0 in (
+      omega (arith, f, l, z .list-weighed .kept .1 .1 .1 .0),
+      omega (arith, f, l, h .put-told .ensures .1, h .put-told .ensures .0 .long, s .pre .1),
+    )
+
+same-length : tie.Need-same-length
+same-length c = search needs
+
+returns : tie.Need-returns
+returns c =
+    let p = c .before .before in
+    let h = p .before .before .before .before .before in
+    let z = h .before .before .before in
+    record {
+      text = _;
+      is =
+          answered (length-replicate {A = ℕ} 73728 0) (length-replicate {A = ℕ} 57600 0)
+          (by-told (z .list-weighed .ensures)) refl;
+      wrote = wrote-then (h .put-told .ensures .0) (p .put-listed .ensures);
+    }
+
+pub weighed-text-spec : {M : Type 1} → statement M
+weighed-text-spec =
+    tie.close
+    (tie.spec
+    slice-aggregate-list-weighed
+    list-weighed-requires
+    put-told-requires
+    slice-aggregate-put-listed
+    put-listed-requires
+    same-length
+    returns)
