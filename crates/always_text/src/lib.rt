@@ -1,9 +1,10 @@
 // The whole output of the calls for the test at every length, in a lent buffer.
 use call_always::Told;
-use call_always::list_weighed;
-use call_always::weigh_alone;
+use call_always::reply;
 use clause_sheets::read_clauses;
 use doubt_list::Sets;
+use doubt_list::list_doubts;
+use doubt_marks::weigh_alone;
 use grammar::Grammar;
 use printing::put_byte;
 use printing::put_bytes;
@@ -126,7 +127,8 @@ fn weighed_text(g: Grammar, s: Sets, marks: &[u64], out: &mut [u8]) -> usize
         r ⌝ }
 {
     let mut list = [0u8; 57600];
-    let r = list_weighed(g, s, marks, &mut list);
+    let l = list_doubts(g, s, marks, &mut list);
+    let r = reply(l);
     let t = r.told;
     let n = put_told(out, t, r.line);
     put_listed(out, n, t, &list, r.count)

@@ -8,9 +8,13 @@ use Rattle.grammar.specs.Trees.{Rules}
 use Rattle.sheets.specs.Items.{Reading}
 use Rattle.spans.specs.Changes.{Past, Cleared}
 use Rattle.spans.proofs.ChangeLaws.{past-then, past-drop, zeroed}
+use Rattle.lists.specs.declared.Listed.{Listed}
+use Rattle.lists.proofs.Settled.{gives-map}
+use Rattle.doubt_list.specs.Given.{DoubtsGiven}
 use Rattle.call_always.specs.declared.Told.the-variants as Told
 use Rattle.call_always.specs.declared.AlwaysReply.{AlwaysReply}
 use Rattle.call_always.specs.Always.{alwaysReplyOf, AlwaysBy}
+use Rattle.call_always.specs.Replying.{replied, DoubtsTold}
 
 abbrev some : ℕ → AlwaysReply
 some n = record { told = Told.Unknown; line = 0; count = n }
@@ -33,3 +37,13 @@ pub always-by : {o o′ : Reading Rules} → o ≡ o′
     → {words words′ list list′ : List ℕ} {r : AlwaysReply}
     → AlwaysBy o words words′ list list′ r → AlwaysBy o′ words words′ list list′ r
 always-by e x = rw e at x
+
+-- the reply on the list of all doubts tells them
+pub doubts-told : {g : Rules} {lent lent′ : List ℕ} {l : Listed} {r : AlwaysReply} → r ≡ replied l
+    → DoubtsGiven g lent lent′ l → DoubtsTold g lent lent′ r
+doubts-told e x =
+    record {
+      entries = x .entries;
+      doubts = x .doubts;
+      gives = rw e (gives-map replied (x .gives));
+    }

@@ -1,10 +1,9 @@
 // The public calls for the test at every length, on rule sheets and on clause sheets: clear, or
 // unknown with the list of all doubts.
-use acyclic::nullables;
 use clause_sheets::read_clauses;
 use doubt_list::Sets;
 use doubt_list::list_doubts;
-use doubt_marks::fill_marks;
+use doubt_marks::weigh;
 use grammar::Grammar;
 use lists::Listed;
 use sheets::Fault;
@@ -12,14 +11,11 @@ use sheets::GrammarRead;
 use sheets::Outcome;
 use sheets::read_rules;
 use spans::clear;
-use survey::occurring;
-use survey::productives;
 ghost use mathlib.Core.Path.{_≡_};
 ghost use Prim.Native.Nat.{_≤_};
 ghost use lib.ListN.{length};
 ghost use Rattle.grammar.specs.Content.{rules as rulesOf, Formed};
 ghost use Rattle.sheets.specs.Promises.{readingOf, RulesRead};
-ghost use Rattle.spans.specs.Changes.{Past};
 ghost use Rattle.doubt_list.specs.Marks.{Ground};
 ghost use Rattle.call_always.specs.Always.{alwaysRefusal, emptied};
 ghost use Rattle.call_always.specs.Always.{AlwaysOn, AlwaysBy, AlwaysOf};
@@ -52,7 +48,7 @@ fn refusal(f: Fault, line: usize) -> AlwaysReply
 }
 
 // The reply on a list that was given, or did not fit.
-fn reply(l: Listed) -> AlwaysReply
+pub fn reply(l: Listed) -> AlwaysReply
     ensures { λ r. ⌜ r ≡ replied l ⌝ }
 {
     if !l.fits {
@@ -72,33 +68,8 @@ fn reply(l: Listed) -> AlwaysReply
     }
 }
 
-// The sets and the marks by which the doubts of rules are listed, by tables in the lent words.
-fn weigh(g: Grammar, words: &mut [u64], marks: &mut [u64]) -> Sets
-    requires { ⌜ Formed g × (73728 ≤ length (now words)) × (256 ≤ length (now marks)) ⌝ }
-    ensures { λ r. ⌜ Ground g r (now (marks .exit)) ⌝ }
-    ensures { λ r. ⌜ Past 73728 (now (words .entry)) (now (words .exit)) ⌝ }
-{
-    let nulls = nullables(g);
-    let prods = productives(g, nulls);
-    let occurs = occurring(g, nulls, prods);
-    fill_marks(g, nulls, prods, words, marks);
-    Sets {
-        nulls,
-        occurring: occurs,
-    }
-}
-
-// The same in words of its own, which are given back before anything is listed.
-pub fn weigh_alone(g: Grammar, marks: &mut [u64]) -> Sets
-    requires { ⌜ Formed g × (256 ≤ length (now marks)) ⌝ }
-    ensures { λ r. ⌜ Ground g r (now (marks .exit)) ⌝ }
-{
-    let mut words = [0u64; 73728];
-    weigh(g, &mut words, marks)
-}
-
 // The list of the doubts of rules that were weighed.
-pub fn list_weighed(g: Grammar, s: Sets, marks: &[u64], list: &mut [u8]) -> AlwaysReply
+fn list_weighed(g: Grammar, s: Sets, marks: &[u64], list: &mut [u8]) -> AlwaysReply
     requires { ⌜ Ground g s (now marks) ⌝ }
     ensures { λ r. ⌜ DoubtsTold (rulesOf g) (now (list .entry)) (now (list .exit)) r ⌝ }
 {

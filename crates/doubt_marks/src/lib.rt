@@ -1,8 +1,12 @@
 // The pairs of rules that may read one word: which shapes of a nonterminal that is seen may stand
 // over one span, by the nodes and the table of the search.
+use acyclic::nullables;
+use doubt_list::Sets;
 use grammar::Grammar;
 use pair_offsets::Frame;
 use pair_steps::Node;
+use survey::occurring;
+use survey::productives;
 ghost use mathlib.Core.Path.{_≡_};
 ghost use Prim.Native.Nat.{_+_, _*_, _≤_, _<_};
 ghost use lib.ListN.{length};
@@ -12,6 +16,8 @@ ghost use Rattle.grammar.specs.Content.{rules, Formed};
 ghost use Rattle.acyclic.specs.Exact.{Exactly};
 ghost use Rattle.acyclic.specs.Passes.{Grown};
 ghost use Rattle.pairs.specs.Survey.{Productive};
+ghost use Rattle.spans.specs.Changes.{Past};
+ghost use Rattle.doubt_list.specs.Marks.{Ground};
 ghost use Rattle.pair_offsets.specs.Lists.{ListsEvens};
 ghost use Rattle.pair_tables.specs.Reading.{Room, Small};
 ghost use Rattle.doubt_marks.specs.Standing.{spanFrame, StandsBy, MayOver};
@@ -358,4 +364,29 @@ pub fn fill_marks(g: Grammar, nulls: u64, prods: u64, words: &mut [u64], marks: 
     pair_nodes::fill_nodes(g, nulls, prods, &mut nodes);
     pair_search::fill_table(&nodes, words);
     mark_doubts(&nodes, words, marks);
+}
+
+// The sets and the marks by which the doubts of rules are listed, by tables in the lent words.
+pub fn weigh(g: Grammar, words: &mut [u64], marks: &mut [u64]) -> Sets
+    requires { ⌜ Formed g × (73728 ≤ length (now words)) × (256 ≤ length (now marks)) ⌝ }
+    ensures { λ r. ⌜ Ground g r (now (marks .exit)) ⌝ }
+    ensures { λ r. ⌜ Past 73728 (now (words .entry)) (now (words .exit)) ⌝ }
+{
+    let nulls = nullables(g);
+    let prods = productives(g, nulls);
+    let occurs = occurring(g, nulls, prods);
+    fill_marks(g, nulls, prods, words, marks);
+    Sets {
+        nulls,
+        occurring: occurs,
+    }
+}
+
+// The same in words of its own, which are given back before anything is listed.
+pub fn weigh_alone(g: Grammar, marks: &mut [u64]) -> Sets
+    requires { ⌜ Formed g × (256 ≤ length (now marks)) ⌝ }
+    ensures { λ r. ⌜ Ground g r (now (marks .exit)) ⌝ }
+{
+    let mut words = [0u64; 73728];
+    weigh(g, &mut words, marks)
 }

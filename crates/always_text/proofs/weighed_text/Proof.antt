@@ -4,17 +4,21 @@ use Prim.Native.Nat.{ℕ}
 use native.Mathlib.Omega.{arith}
 use lib.ListN.{length-replicate}
 use Rattle.printing.proofs.Writing.{wrote-then}
+use Rattle.call_always.proofs.Replies.{doubts-told}
 use Rattle.always_text.specs.Always.{answered}
 use Rattle.always_text.proofs.DoubtLines.{doubts-fit, by-told}
 use borrow.Author.Needs.{needs}
 use Rattle.always_text.proofs.weighed_text.Statement.{statement}
 use Rattle.always_text.proofs.weighed_text.Tie as tie
 
-slice-aggregate-list-weighed : tie.Need-slice-aggregate-list-weighed
-slice-aggregate-list-weighed c = search needs
+slice-aggregate-list-doubts : tie.Need-slice-aggregate-list-doubts
+slice-aggregate-list-doubts c = search needs
 
-list-weighed-requires : tie.Need-list-weighed-requires
-list-weighed-requires c κs = search needs
+list-doubts-requires : tie.Need-list-doubts-requires
+list-doubts-requires c κs = search needs
+
+reply-requires : tie.Need-reply-requires
+reply-requires c κs = search needs
 
 put-told-requires : tie.Need-put-told-requires
 put-told-requires c κs = search needs
@@ -25,11 +29,12 @@ slice-aggregate-put-listed c = search needs
 put-listed-requires : tie.Need-put-listed-requires
 put-listed-requires c κs =
     let h = c .before .before .before .before in
-    let z = h .before .before .before in
+    let y = h .before .before in
+    let z = y .before .before in
     let s = z .before .before .before .before in
-    let f = doubts-fit (by-told (z .list-weighed .ensures)) in
+    let f = doubts-fit (by-told (doubts-told (y .reply .ensures) (z .list-doubts .ensures))) in
     let l = length-replicate {A = ℕ} 57600 0 in (
-      omega (arith, f, l, z .list-weighed .kept .1 .1 .1 .0),
+      omega (arith, f, l, z .list-doubts .kept .1 .1 .1 .0),
       omega (arith, f, l, h .put-told .ensures .1, h .put-told .ensures .0 .long, s .pre .1),
     )
 
@@ -40,12 +45,13 @@ returns : tie.Need-returns
 returns c =
     let p = c .before .before in
     let h = p .before .before .before .before .before in
-    let z = h .before .before .before in
+    let y = h .before .before in
+    let z = y .before .before in
     record {
       text = _;
       is =
           answered (length-replicate {A = ℕ} 73728 0) (length-replicate {A = ℕ} 57600 0)
-          (by-told (z .list-weighed .ensures)) refl;
+          (by-told (doubts-told (y .reply .ensures) (z .list-doubts .ensures))) refl;
       wrote = wrote-then (h .put-told .ensures .0) (p .put-listed .ensures);
     }
 
@@ -53,8 +59,9 @@ pub weighed-text-spec : {M : Type 1} → statement M
 weighed-text-spec =
     tie.close
     (tie.spec
-    slice-aggregate-list-weighed
-    list-weighed-requires
+    slice-aggregate-list-doubts
+    list-doubts-requires
+    reply-requires
     put-told-requires
     slice-aggregate-put-listed
     put-listed-requires

@@ -1,6 +1,5 @@
 -- `list_weighed` meets its contract: the reply is on the list of all doubts.
-use Rattle.lists.proofs.Settled.{gives-map}
-use Rattle.call_always.specs.Replying.{replied}
+use Rattle.call_always.proofs.Replies.{doubts-told}
 use borrow.Author.Needs.{needs}
 use Rattle.call_always.proofs.list_weighed.Statement.{statement}
 use Rattle.call_always.proofs.list_weighed.Tie as tie
@@ -15,13 +14,7 @@ same-length : tie.Need-same-length
 same-length c = search needs
 
 returns : tie.Need-returns
-returns c =
-    let x = c .before .before .before .list-doubts .ensures in
-    record {
-      entries = x .entries;
-      doubts = x .doubts;
-      gives = rw (c .reply .ensures) (gives-map replied (x .gives));
-    }
+returns c = doubts-told (c .reply .ensures) (c .before .before .before .list-doubts .ensures)
 
 pub list-weighed-spec : {M : Type 1} → statement M
 list-weighed-spec = tie.close (tie.spec list-doubts-requires reply-requires same-length returns)

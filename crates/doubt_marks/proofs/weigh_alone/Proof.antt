@@ -3,8 +3,8 @@ use Prim.Native.Nat.{ℕ}
 use native.Mathlib.Omega.{arith}
 use lib.ListN.{length-replicate}
 use borrow.Author.Needs.{needs}
-use Rattle.call_always.proofs.weigh_alone.Statement.{statement}
-use Rattle.call_always.proofs.weigh_alone.Tie as tie
+use Rattle.doubt_marks.proofs.weigh_alone.Statement.{statement}
+use Rattle.doubt_marks.proofs.weigh_alone.Tie as tie
 
 slice-aggregate-weigh : tie.Need-slice-aggregate-weigh
 slice-aggregate-weigh c = search needs
