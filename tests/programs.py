@@ -399,7 +399,7 @@ class Programs(Room):
         nested = b"left clause\n0 " + b"(n0 " * 15 + b"(n0" + b" n0" * 60 + b")" * 16 + b"\n"
         called, told = b"call\nclauses\n\n" + nested + TOKENS, b"call\nclauses-always\n\n" + nested
         for name, size, data, wanted in (
-            ("checker", 660, GOOD, TWO),
+            ("checker", 720, GOOD, TWO),
             ("sweeper", 350, SWEPT, teplonga.sweep_program(SWEPT)),
             ("calls", 1000, called, calls.calls_program(called)),
             ("calls", 1000, told, calls.calls_program(told)),
