@@ -42,9 +42,9 @@ module _ {g : Rules} {w : Word} where
         → RowsOn g w ws ws′ (reply Answer.None (RowCount.Exact 0) (RowCount.Exact 0))
     counted-none p = counting {m = 0} {n = 0} p refl (treeless p refl refl) tells-none tells-none x
 
-    pub counted-one : {t : Tree} {m : RowCount} → OneTree g 0 w → FirstTree g 0 w t
-        → Tells m (rowCount t) → RowsOn g w ws ws′ (reply Answer.One m (RowCount.Exact 0))
-    counted-one p f h = counting {n = 0} p refl (single p f refl refl) h tells-none x
+    pub counted-one : {t : Tree} {m n : RowCount} → OneTree g 0 w → FirstTree g 0 w t
+        → Tells m (rowCount t) × Tells n 0 → RowsOn g w ws ws′ (reply Answer.One m n)
+    counted-one p f h = counting {n = 0} p refl (single p f refl refl) (h .0) (h .1) x
 
     pub counted-two : {t u : Tree} {m n : RowCount} → TwoTrees g 0 w → FirstTree g 0 w t
         → SecondTree g 0 w u → Tells m (rowCount t) × Tells n (rowCount u)

@@ -5,8 +5,7 @@ use filling::judge;
 use grammar::Grammar;
 use grammar::Sentence;
 use row_counts::RowCount;
-use row_counts::both_rows;
-use row_counts::first_rows;
+use row_counts::count_rows;
 use sheets::Answer;
 use sheets::Fault;
 use sheets::Outcome;
@@ -58,18 +57,20 @@ fn counted(words: &mut [u64], s: Sentence, g: Grammar) -> RowsReply
             second: RowCount::Exact(0),
         },
         Verdict::One => {
-            let first = first_rows(words, s, g);
+            let c = count_rows(words, s, g, false);
+            let first = c.first;
+            let second = c.second;
             RowsReply {
                 answer: Answer::One,
                 line: 0,
                 first,
-                second: RowCount::Exact(0),
+                second,
             }
         }
         Verdict::Two => {
-            let both = both_rows(words, s, g);
-            let first = both.first;
-            let second = both.second;
+            let c = count_rows(words, s, g, true);
+            let first = c.first;
+            let second = c.second;
             RowsReply {
                 answer: Answer::Two,
                 line: 0,

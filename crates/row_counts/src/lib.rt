@@ -10,7 +10,7 @@ use spans::in_first;
 use spans::in_second;
 use tree_choices::choose;
 ghost use mathlib.Core.Path.{_≡_};
-ghost use mathlib.Core.Bool.{true, false};
+ghost use mathlib.Core.Bool.{true};
 ghost use Prim.Native.Nat.{ℕ, _+_, _≤_, _<_};
 ghost use lib.ListN.{length, getD};
 ghost use Rattle.grammar.specs.Trees.{Tree};
@@ -22,7 +22,7 @@ ghost use Rattle.sets.specs.Sets.{In};
 ghost use Rattle.grammar.specs.SpanSheet.{part, secondWord};
 ghost use Rattle.tree_choices.specs.Wanted.{Charted, Ready, Wanted};
 ghost use Rattle.row_counts.specs.Capped.{capped};
-ghost use Rattle.row_counts.specs.RowCounts.{Tells};
+ghost use Rattle.row_counts.specs.RowCounts.{Tells, SecondCounted, RowsTold};
 ghost use Rattle.row_counts.specs.Nulls.{HasFirsts, Nulls, Sound, nullSize, Passed, Either};
 ghost use Rattle.row_counts.specs.Walks.{Own, Down, FirstThere};
 ghost use Rattle.row_counts.specs.Seconds.{Parted, PartedThere, Onto, Onward, BesideThere};
@@ -413,34 +413,31 @@ fn exact_or_more(n: u64) -> RowCount
     RowCount::More
 }
 
-// The verdict is one: the rows of the first tree, by the heights that are lent.
-fn first_by(words: &[u64], hs: &[u16], s: Sentence, g: Grammar) -> RowCount
+// The rows of the second tree, where there are two; else none.
+fn count_second(words: &[u64], hs: &[u16], s: Sentence, g: Grammar, z: &[u64], two: bool) -> u64
     requires { ⌜ Ready g s (now words) (now hs) ⌝ }
-    requires { ⌜ HasFirsts (rules g) ⌝ }
-    requires { ⌜ Wanted (rules g) 0 (spelled s) false ⌝ }
-    ensures { λ r. ⌜ ((t : Tree) → FirstTree (rules g) 0 (spelled s) t → Tells r (rowCount t)) ⌝ }
+    requires { ⌜ Nulls (rules g) (now z) ⌝ }
+    requires { ⌜ Wanted (rules g) 0 (spelled s) two ⌝ }
+    ensures { λ r. ⌜ SecondCounted (rules g) (spelled s) two r ⌝ }
 {
-    let n = s.count;
-    let mut z = [0u64; 64];
-    null_counts(&mut z, words, hs, s, g);
-    let c = count_first(words, hs, s, g, &z, 0, 0, n as u8);
-    exact_or_more(c)
+    if two {
+        return walk_second(words, hs, s, g, z);
+    }
+    0
 }
 
-// The verdict is two: the rows of both trees, by the heights that are lent.
-fn both_by(words: &[u64], hs: &[u16], s: Sentence, g: Grammar) -> RowCounts
+// The rows of each tree that is there, by the heights that are lent.
+fn count_by(words: &[u64], hs: &[u16], s: Sentence, g: Grammar, two: bool) -> RowCounts
     requires { ⌜ Ready g s (now words) (now hs) ⌝ }
     requires { ⌜ HasFirsts (rules g) ⌝ }
-    requires { ⌜ Wanted (rules g) 0 (spelled s) true ⌝ }
-    ensures { λ r. ⌜ ((t u : Tree) → FirstTree (rules g) 0 (spelled s) t
-        → SecondTree (rules g) 0 (spelled s) u
-        → Tells (r .first) (rowCount t) × Tells (r .second) (rowCount u)) ⌝ }
+    requires { ⌜ Wanted (rules g) 0 (spelled s) two ⌝ }
+    ensures { λ r. ⌜ RowsTold (rules g) (spelled s) two r ⌝ }
 {
     let n = s.count;
     let mut z = [0u64; 64];
     null_counts(&mut z, words, hs, s, g);
     let a = count_first(words, hs, s, g, &z, 0, 0, n as u8);
-    let b = walk_second(words, hs, s, g, &z);
+    let b = count_second(words, hs, s, g, &z, two);
     let first = exact_or_more(a);
     let second = exact_or_more(b);
     RowCounts { first, second }
@@ -448,59 +445,28 @@ fn both_by(words: &[u64], hs: &[u16], s: Sentence, g: Grammar) -> RowCounts
 
 // The same on a looping sheet. Its least heights stand in a local array, which this function alone
 // makes: 266 KB of stack.
-fn first_low(words: &[u64], s: Sentence, g: Grammar) -> RowCount
+fn count_low(words: &[u64], s: Sentence, g: Grammar, two: bool) -> RowCounts
     requires { ⌜ Charted g s (now words) ⌝ }
     requires { ⌜ HasFirsts (rules g) ⌝ }
-    requires { ⌜ Wanted (rules g) 0 (spelled s) false ⌝ }
+    requires { ⌜ Wanted (rules g) 0 (spelled s) two ⌝ }
     requires { ⌜ Cyclic (rules g) ⌝ }
-    ensures { λ r. ⌜ ((t : Tree) → FirstTree (rules g) 0 (spelled s) t → Tells r (rowCount t)) ⌝ }
+    ensures { λ r. ⌜ RowsTold (rules g) (spelled s) two r ⌝ }
 {
     let mut hs = [65535u16; 133184];
     heights(&mut hs, s, g);
-    first_by(words, &hs, s, g)
+    count_by(words, &hs, s, g, two)
 }
 
-// The same on a looping sheet.
-fn both_low(words: &[u64], s: Sentence, g: Grammar) -> RowCounts
+// The rows of the first tree and, where the verdict is two, of the second.
+pub fn count_rows(words: &[u64], s: Sentence, g: Grammar, two: bool) -> RowCounts
     requires { ⌜ Charted g s (now words) ⌝ }
     requires { ⌜ HasFirsts (rules g) ⌝ }
-    requires { ⌜ Wanted (rules g) 0 (spelled s) true ⌝ }
-    requires { ⌜ Cyclic (rules g) ⌝ }
-    ensures { λ r. ⌜ ((t u : Tree) → FirstTree (rules g) 0 (spelled s) t
-        → SecondTree (rules g) 0 (spelled s) u
-        → Tells (r .first) (rowCount t) × Tells (r .second) (rowCount u)) ⌝ }
-{
-    let mut hs = [65535u16; 133184];
-    heights(&mut hs, s, g);
-    both_by(words, &hs, s, g)
-}
-
-// The verdict is one: the rows of the first tree.
-pub fn first_rows(words: &[u64], s: Sentence, g: Grammar) -> RowCount
-    requires { ⌜ Charted g s (now words) ⌝ }
-    requires { ⌜ HasFirsts (rules g) ⌝ }
-    requires { ⌜ Wanted (rules g) 0 (spelled s) false ⌝ }
-    ensures { λ r. ⌜ ((t : Tree) → FirstTree (rules g) 0 (spelled s) t → Tells r (rowCount t)) ⌝ }
+    requires { ⌜ Wanted (rules g) 0 (spelled s) two ⌝ }
+    ensures { λ r. ⌜ RowsTold (rules g) (spelled s) two r ⌝ }
 {
     if cyclic(g) {
-        return first_low(words, s, g);
+        return count_low(words, s, g, two);
     }
     let hs = [0u16; 1];
-    first_by(words, &hs[..0], s, g)
-}
-
-// The verdict is two: the rows of both trees.
-pub fn both_rows(words: &[u64], s: Sentence, g: Grammar) -> RowCounts
-    requires { ⌜ Charted g s (now words) ⌝ }
-    requires { ⌜ HasFirsts (rules g) ⌝ }
-    requires { ⌜ Wanted (rules g) 0 (spelled s) true ⌝ }
-    ensures { λ r. ⌜ ((t u : Tree) → FirstTree (rules g) 0 (spelled s) t
-        → SecondTree (rules g) 0 (spelled s) u
-        → Tells (r .first) (rowCount t) × Tells (r .second) (rowCount u)) ⌝ }
-{
-    if cyclic(g) {
-        return both_low(words, s, g);
-    }
-    let hs = [0u16; 1];
-    both_by(words, &hs[..0], s, g)
+    count_by(words, &hs[..0], s, g, two)
 }

@@ -1,5 +1,7 @@
--- What is found is what the first tree takes; the heights that are lent on either kind of sheet.
+-- What is found is what the first tree takes; the heights that are lent on either kind of sheet;
+-- the first tree beside a second.
 use mathlib.Core.Path.{_≡_}
+use mathlib.Core.Bool.{Bool, true, false}
 use mathlib.Core.List.{List}
 use Prim.Native.Nat.{ℕ}
 use native.Mathlib.Omega.{arith}
@@ -15,7 +17,7 @@ use Rattle.heights.specs.Least.{HeightSheet}
 use Rattle.choices.specs.declared.Pick.{Pick}
 use Rattle.choices.specs.declared.Pick.the-variants as Pick
 use Rattle.choices.specs.Choosing.{NextChoice}
-use Rattle.tree_choices.specs.Wanted.{Charted, Ready}
+use Rattle.tree_choices.specs.Wanted.{Charted, Ready, Wanted}
 use Rattle.tree_choices.specs.Picks.{HasChoice}
 use Rattle.tree_choices.specs.Lows.{LowPick, PreferredPick}
 use Rattle.tree_choices.proofs.PickLaws.{first-of-next, none-of-none}
@@ -51,3 +53,9 @@ ready-low r c h =
       sheet = r .sheet;
       lent = record { flat = λ e. absurd (omega (arith, h .long)); looping = λ _. (c, h) };
     }
+
+-- beside the second tree there is the first
+pub wanted-first : {g : Rules} {A : ℕ} {w : Word} (two : Bool) → Wanted g A w two
+    → Wanted g A w false
+wanted-first true x = record { tree = x .goal .tree; goal = x .goal .first }
+wanted-first false x = x

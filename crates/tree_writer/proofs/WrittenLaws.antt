@@ -1,5 +1,4 @@
--- What both memories hold, from what `write` and `clear` leave in each; and that there is the first
--- tree.
+-- What both memories hold, from what `write` and `clear` leave in each.
 use mathlib.Core.Path.{_≡_, refl, sym, ap, _∙_}
 use mathlib.Core.Bool.{Bool, true, false}
 use mathlib.Core.List.{List}
@@ -19,8 +18,6 @@ use Rattle.tree_writer.specs.Laid.{Laid}
 use Rattle.tree_view.specs.Shown.{View, shownCount}
 use Rattle.tree_view.proofs.ShownLaws.{some-shown}
 use Rattle.tree_writer.specs.Memories.{SecondIf, second, no-second, Written}
-
--- 1. from one memory to both
 
 module _ (sees : View) (t u : Option Tree) {l₁ l₂ m₁ m₂ : List ℕ} where
   pub written-fits : {r₁ r₂ : ℕ} → countOf (seenBy sees) t ≤ rowRoom l₁
@@ -109,10 +106,3 @@ none-written dis e f = record {
   short = λ z. ⊎-elim
       (λ x. absurd (omega arith)) (λ x. absurd (omega arith)) z;
 }
-
--- 2. beside the second tree there is the first
-
-pub wanted-first : {g : Rules} {A : ℕ} {w : Word} (two : Bool) → Wanted g A w two
-    → Wanted g A w false
-wanted-first true x = record { tree = x .goal .tree; goal = x .goal .first }
-wanted-first false x = x

@@ -4,6 +4,7 @@ use Rattle.answering.proofs.Showing.{first-there, second-there, wants-first, wa
 use Rattle.call_rows.proofs.Counting.{has-firsts, too-few, counted-none, counted-one}
 use Rattle.call_rows.proofs.Counting.{counted-two}
 use borrow.Author.Needs.{needs}
+use mathlib.Core.Path.{refl}
 use Rattle.call_rows.proofs.counted.Statement.{statement}
 use Rattle.call_rows.proofs.counted.Tie as tie
 
@@ -28,8 +29,8 @@ enum-told c = search needs
 enum-told-2 : tie.Need-enum-told-2
 enum-told-2 c = search needs
 
-first-rows-requires : tie.Need-first-rows-requires
-first-rows-requires c κs =
+count-rows-requires : tie.Need-count-rows-requires
+count-rows-requires c κs =
     let j = c .before .before .before .before .before in
     let s = j .before .before .before .before .before in
     let v = rw (c .before .enum-told2 .given .1) at (j .judge .ensures) in (
@@ -40,8 +41,8 @@ first-rows-requires c κs =
 enum-told-3 : tie.Need-enum-told-3
 enum-told-3 c = search needs
 
-both-rows-requires : tie.Need-both-rows-requires
-both-rows-requires c κs =
+count-rows-requires-2 : tie.Need-count-rows-requires-2
+count-rows-requires-2 c κs =
     let j = c .before .before .before .before .before in
     let s = j .before .before .before .before .before in
     let v = rw (c .before .enum-told3 .given .1) at (j .judge .ensures) in (
@@ -69,7 +70,7 @@ returns-3 c =
     let v = rw (c .before .before .enum-told2 .given .1) at (j .judge .ensures) in
     let f = first-there _ _ (v .verdict) in
     counted-one (filled-by (s .pre .1 .whole) v) (v .verdict) (f .1)
-    (c .first-rows .ensures (f .0) (f .1))
+    (c .count-rows .ensures .first (f .0) (f .1), c .count-rows .ensures .lacking refl)
 
 same-length-3 : tie.Need-same-length-3
 same-length-3 c = search needs
@@ -80,8 +81,10 @@ returns-4 c =
     let s = j .before .before .before .before .before in
     let v = rw (c .before .before .enum-told3 .given .1) at (j .judge .ensures) in
     let u = second-there _ _ (s .pre .0 .distinct) (v .verdict) in
-    counted-two (filled-by (s .pre .1 .whole) v) (v .verdict) (u .1 .first) (u .1)
-    (c .both-rows .ensures (u .1 .tree) (u .0) (u .1 .first) (u .1))
+    counted-two (filled-by (s .pre .1 .whole) v) (v .verdict) (u .1 .first) (u .1) (
+      c .count-rows2 .ensures .first (u .1 .tree) (u .1 .first),
+      c .count-rows2 .ensures .second refl (u .0) (u .1),
+    )
 
 pub counted-spec : {M : Type 1} → statement M
 counted-spec =
@@ -93,9 +96,9 @@ counted-spec =
     judge-requires
     enum-told
     enum-told-2
-    first-rows-requires
+    count-rows-requires
     enum-told-3
-    both-rows-requires
+    count-rows-requires-2
     same-length
     returns-2
     same-length-2

@@ -1,18 +1,18 @@
--- `show_call` meets its contract: the first empty line parts the sheets.
+-- `shown_call` meets its contract: the first empty line parts the sheets.
 use mathlib.Core.Path.{_≡_, refl, sym}
 use Prim.Native.Nat.{_+_, _-_, _<_}
 use native.Mathlib.Omega.{arith}
 use lib.ListN.{length, take, drop, length-drop}
 use lib.Seq.{length-take-le, take-all}
-use Rattle.calling.specs.Calls.{fewer, three}
+use Rattle.calling.specs.Calls.{fewer, two}
 use borrow.Author.Needs.{needs}
-use Rattle.calling.proofs.show_call.Statement.{statement}
-use Rattle.calling.proofs.show_call.Tie as tie
+use Rattle.calling.proofs.shown_call.Statement.{statement}
+use Rattle.calling.proofs.shown_call.Tie as tie
 
 -- the empty line stands in the input
 inside : (c : tie.After-known-told)
     → c .before .place .given .0 .0 < length
-    (c .before .before .before .before .before .before .args .s .now)
+    (c .before .before .before .before .before .before .before .args .s .now)
 inside c =
     let p = c .before in
     let s = p .before .before .parting .ensures in (rw (p .place .given .1) at s) .0
@@ -33,23 +33,23 @@ add-j : tie.Need-add-j
 add-j c =
     let h = inside c in search needs
 
-slice-aggregate-shown-call : tie.Need-slice-aggregate-shown-call
-slice-aggregate-shown-call c =
+slice-aggregate-show-text : tie.Need-slice-aggregate-show-text
+slice-aggregate-show-text c =
     let h = inside (c .before) in sym (length-take-le _ _ (search needs))
 
-sub-shown-call : tie.Need-sub-shown-call
-sub-shown-call c =
+sub-show-text : tie.Need-sub-show-text
+sub-show-text c =
     let h = inside (c .before) in search needs
 
-part-shown-call-start : tie.Need-part-shown-call-start
-part-shown-call-start c =
+part-show-text-start : tie.Need-part-show-text-start
+part-show-text-start c =
     let h = inside (c .before) in search needs
 
-part-shown-call-end : tie.Need-part-shown-call-end
-part-shown-call-end c = search needs
+part-show-text-end : tie.Need-part-show-text-end
+part-show-text-end c = search needs
 
-shown-call-requires : tie.Need-shown-call-requires
-shown-call-requires c κs = search needs
+show-text-requires : tie.Need-show-text-requires
+show-text-requires c κs = search needs
 
 same-length : tie.Need-same-length
 same-length c = search needs
@@ -73,17 +73,17 @@ returns-2 c =
     let z = c .before .before in
     let p = z .before .before .before .before .before in
     let q = p .before .before in
-    let a = q .before .before .before .args in
+    let a = q .before .before .before .before .args in
     let n = p .place .given .0 .0 + 1 in
     let e : take (length (a .s .now) - n) (drop n (a .s .now)) ≡ drop n (a .s .now) =
     take-all (length (a .s .now) - n) (drop n (a .s .now))
     (omega (arith, length-drop n (a .s .now))) in
-    let w = rw e at (z .shown-call .ensures) in
+    let w = rw e at (z .show-text .ensures) in
     let s = q .parting .ensures in record
-    { text = w .text; is = three ((rw (p .place .given .1) at s) .1) (w .is); wrote = w .wrote }
+    { text = w .text; is = two ((rw (p .place .given .1) at s) .1) (w .is); wrote = w .wrote }
 
-pub show-call-spec : {M : Type 1} → statement M
-show-call-spec =
+pub shown-call-spec : {M : Type 1} → statement M
+shown-call-spec =
     tie.close
     (tie.spec
     parting-requires
@@ -91,11 +91,11 @@ show-call-spec =
     put-refusal-requires
     enum-known-place
     add-j
-    slice-aggregate-shown-call
-    sub-shown-call
-    part-shown-call-start
-    part-shown-call-end
-    shown-call-requires
+    slice-aggregate-show-text
+    sub-show-text
+    part-show-text-start
+    part-show-text-end
+    show-text-requires
     same-length
     returns
     same-length-2

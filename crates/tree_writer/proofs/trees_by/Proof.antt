@@ -3,7 +3,8 @@ use borrow.Author.Tests.{not-true, not-false}
 use mathlib.Core.Path.{subst}
 use Rattle.tree_choices.specs.Wanted.{Wanted}
 use Rattle.tree_writer.proofs.WrittenLaws.{first-short, first-done, second-short}
-use Rattle.tree_writer.proofs.WrittenLaws.{second-done, wanted-first}
+use Rattle.tree_choices.proofs.PreferLaws.{wanted-first}
+use Rattle.tree_writer.proofs.WrittenLaws.{second-done}
 use borrow.Author.Needs.{needs}
 use Rattle.tree_writer.proofs.trees_by.Statement.{statement}
 use Rattle.tree_writer.proofs.trees_by.Tie as tie

@@ -1,14 +1,16 @@
--- `both_by` meets its contract: the table over the empty word, then the walk of the first tree and
--- the way down the second.
+-- `count_by` meets its contract: the table over the empty word, then the walk of the first tree and
+-- what there is of the second.
 use borrow.Author.Needs.{needs}
 use native.Mathlib.Omega.{arith}
 use Rattle.grammar.specs.Rows.{rowCount}
 use Rattle.grammar.specs.Content.{rules}
+use Rattle.row_counts.specs.Capped.{capped}
+use Rattle.tree_choices.proofs.PreferLaws.{wanted-first}
 use Rattle.row_counts.proofs.CappedLaws.{capped-le}
 use Rattle.row_counts.proofs.NullLaws.{sound-none}
 use Rattle.row_counts.proofs.Firsts.{spanned, spanned-there}
-use Rattle.row_counts.proofs.both_by.Statement.{statement}
-use Rattle.row_counts.proofs.both_by.Tie as tie
+use Rattle.row_counts.proofs.count_by.Statement.{statement}
+use Rattle.row_counts.proofs.count_by.Tie as tie
 
 slice-aggregate-null-counts : tie.Need-slice-aggregate-null-counts
 slice-aggregate-null-counts c = search needs
@@ -31,54 +33,48 @@ count-first-requires c κs =
       (s .pre .0, omega arith, omega arith),
       (
         c .before .before .null-counts .ensures,
-        spanned-there (s .args .s .count) (p .whole)
-            (s .pre .1 .1 .goal .first),
+        spanned-there (s .args .s .count) (p .whole) (wanted-first _ (s .pre .1 .1) .goal),
       ),
     )
 
-slice-aggregate-walk-second : tie.Need-slice-aggregate-walk-second
-slice-aggregate-walk-second c = search needs
+slice-aggregate-count-second : tie.Need-slice-aggregate-count-second
+slice-aggregate-count-second c = search needs
 
-walk-second-requires : tie.Need-walk-second-requires
-walk-second-requires c κs = search needs
+count-second-requires : tie.Need-count-second-requires
+count-second-requires c κs = search needs
 
 exact-or-more-requires : tie.Need-exact-or-more-requires
 exact-or-more-requires c κs =
     let count-first = c .before .before .count-first in
     let s = c .before .before .before .before .before .before .before .before .before in
-    let t = s .pre .1 .1 .goal in
+    let t = wanted-first _ (s .pre .1 .1) in
     omega (
       arith,
       count-first .ensures (t .tree)
-          (spanned (s .args .s .count) (s .pre .0 .positioned .whole) (t .first)),
+          (spanned (s .args .s .count) (s .pre .0 .positioned .whole) (t .goal)),
       capped-le
           (rowCount (t .tree)),
     )
 
 exact-or-more-requires-2 : tie.Need-exact-or-more-requires-2
-exact-or-more-requires-2 c κs =
-    let s = c .before .before .before .before .before .before .before .before .before .before in
-    let u = s .pre .1 .1 in
-    omega (
-      arith,
-      c .before .walk-second .ensures (u .tree) (u .goal),
-      capped-le
-          (rowCount (u .tree)),
-    )
+exact-or-more-requires-2 c κs = c .before .count-second .ensures .small
 
 returns : tie.Need-returns
+unfolding capped
 returns c =
     let s = c .before .before .before .before .before .before .before .before .before .before
     .before in
-    let first = c .before .before .before .before .count-first in
-    λ t u f e. (
-      c .before .exact-or-more .ensures (rowCount t)
-          (first .ensures t (spanned (s .args .s .count) (s .pre .0 .positioned .whole) f)),
-      c .exact-or-more2 .ensures (rowCount u) (c .before .before .walk-second .ensures u e),
-    )
+    let first = c .before .before .before .before .count-first .ensures in
+    let second = c .before .before .count-second .ensures in
+    record {
+      first = λ t f. c .before .exact-or-more .ensures (rowCount t)
+          (first t (spanned (s .args .s .count) (s .pre .0 .positioned .whole) f));
+      second = λ e u v. c .exact-or-more2 .ensures (rowCount u) (second .counted e u v);
+      lacking = λ e. c .exact-or-more2 .ensures 0 (second .lacking e);
+    }
 
-pub both-by-spec : {M : Type 1} → statement M
-both-by-spec =
+pub count-by-spec : {M : Type 1} → statement M
+count-by-spec =
     tie.close
     (tie.spec
     slice-aggregate-null-counts
@@ -86,8 +82,8 @@ both-by-spec =
     slice-aggregate-count-first
     cast-count-first
     count-first-requires
-    slice-aggregate-walk-second
-    walk-second-requires
+    slice-aggregate-count-second
+    count-second-requires
     exact-or-more-requires
     exact-or-more-requires-2
     returns)

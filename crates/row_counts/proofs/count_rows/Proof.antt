@@ -1,15 +1,15 @@
--- `first_rows` meets its contract: the least heights are lent on a looping sheet, none on another.
+-- `count_rows` meets its contract: the least heights are lent on a looping sheet, none on another.
 use borrow.Author.Needs.{needs}
 use mathlib.Core.Path.{refl}
 use Rattle.tree_choices.proofs.PreferLaws.{ready-flat}
-use Rattle.row_counts.proofs.first_rows.Statement.{statement}
-use Rattle.row_counts.proofs.first_rows.Tie as tie
+use Rattle.row_counts.proofs.count_rows.Statement.{statement}
+use Rattle.row_counts.proofs.count_rows.Tie as tie
 
 cyclic-requires : tie.Need-cyclic-requires
 cyclic-requires c κs = c .before .pre .0 .formed
 
-first-low-requires : tie.Need-first-low-requires
-first-low-requires c κs =
+count-low-requires : tie.Need-count-low-requires
+count-low-requires c κs =
     let z = c .before .before .before in
     (z .pre .0, (z .pre .1 .0, (z .pre .1 .1, c .before .cyclic .ensures .is (c .if1 .taken))))
 
@@ -19,11 +19,11 @@ returns c = search needs
 array-share-prefix-hs : tie.Need-array-share-prefix-hs
 array-share-prefix-hs c = search needs
 
-slice-aggregate-first-by : tie.Need-slice-aggregate-first-by
-slice-aggregate-first-by c = search needs
+slice-aggregate-count-by : tie.Need-slice-aggregate-count-by
+slice-aggregate-count-by c = search needs
 
-first-by-requires : tie.Need-first-by-requires
-first-by-requires c κs =
+count-by-requires : tie.Need-count-by-requires
+count-by-requires c κs =
     let z = c .before .before .before .before in (
       ready-flat (z .pre .0) (c .before .before .cyclic .ensures .isnt (c .before .if1 .left)) refl,
       z .pre .1,
@@ -32,14 +32,14 @@ first-by-requires c κs =
 returns-2 : tie.Need-returns-2
 returns-2 c = search needs
 
-pub first-rows-spec : {M : Type 1} → statement M
-first-rows-spec =
+pub count-rows-spec : {M : Type 1} → statement M
+count-rows-spec =
     tie.close
     (tie.spec
     cyclic-requires
-    first-low-requires
+    count-low-requires
     returns
     array-share-prefix-hs
-    slice-aggregate-first-by
-    first-by-requires
+    slice-aggregate-count-by
+    count-by-requires
     returns-2)
