@@ -11,14 +11,17 @@ use Rattle.fields.specs.Words.{numeralOf}
 use Rattle.fields.proofs.Fields.{with-holds, end-holds}
 use Rattle.call_sheets.specs.declared.Call.{Call}
 use Rattle.call_sheets.specs.declared.Call.the-variants as Call
+use Rattle.call_sheets.specs.declared.TwoSheets.the-variants as TwoSheets
+use Rattle.call_sheets.specs.declared.OneSheet.the-variants as OneSheet
 use Rattle.call_sheets.specs.Inside.{Inside}
+use Rattle.call_sheets.specs.CallSheets.{onOne, onTwo}
 use Rattle.call_sheets.specs.CallSheets.{clausesSheet, expandSheet, rowsSheet, columnsSheet}
 use Rattle.call_sheets.specs.CallSheets.{placesSheet, mergeSheet, boundStart, shareStart}
 use Rattle.call_sheets.specs.CallSheets.{showStart, changeStart, beginsWith, values}
 use Rattle.call_sheets.specs.CallSheets.{withNumber, shareEnd, shareThird, shareSecond}
 use Rattle.call_sheets.specs.CallSheets.{shareCall, broken, changeEnd, changeSecond}
 use Rattle.call_sheets.specs.CallSheets.{changeCall, alwaysCall, numberedCall, callOf}
-use Rattle.call_sheets.specs.CallSheets.{alwaysSheet, clausesAlwaysSheet}
+use Rattle.call_sheets.specs.CallSheets.{alwaysSheet, clausesAlwaysSheet, sweepCall, showCall}
 use Rattle.call_sheets.proofs.Laws.{begins-long}
 
 module _ (m : ℕ) where
@@ -35,12 +38,12 @@ module _ (m : ℕ) where
       with-holds (Inside m) Call.Not tt numeralOf shareSecond
       (λ n. with-holds (Inside m) Call.Not tt numeralOf (shareThird n)
       (λ p. with-holds (Inside m) Call.Not tt numeralOf (shareEnd n p)
-      (λ i. end-holds (Inside m) Call.Not tt (Call.Share n p i) tt)))
+      (λ i. end-holds (Inside m) Call.Not tt (onOne (OneSheet.Share n p i)) tt)))
 
   end-inside : 0 < m → (u r : ℕ) (fs : List (List ℕ)) → Inside m (changeEnd m u r fs)
   end-inside h u r [] = tt
   end-inside h u r (f ∷ []) =
-      either (broken f) Call.Not (Call.Change u r (m - 1 - length f)) tt (omega arith)
+      either (broken f) Call.Not (onTwo (TwoSheets.Change u r (m - 1 - length f))) tt (omega arith)
   end-inside h u r (f ∷ g ∷ fs) = tt
 
   change-inside : 0 < m → (fs : List (List ℕ)) → Inside m (changeCall m fs)
@@ -55,11 +58,11 @@ always-inside m s =
 numbered-inside : (s : List ℕ) → Inside (length s) (numberedCall s)
 numbered-inside s =
     either m (beginsWith boundStart s)
-    (withNumber (numeralOf (values boundStart s)) Call.ClausesSweep) _
-    (numbered m (numeralOf (values boundStart s)) Call.ClausesSweep (λ v. tt))
+    (withNumber (numeralOf (values boundStart s)) sweepCall) _
+    (numbered m (numeralOf (values boundStart s)) sweepCall (λ v. tt))
     (either m (beginsWith showStart s)
-    (withNumber (numeralOf (values showStart s)) Call.Show) _
-    (numbered m (numeralOf (values showStart s)) Call.Show (λ v. tt))
+    (withNumber (numeralOf (values showStart s)) showCall) _
+    (numbered m (numeralOf (values showStart s)) showCall (λ v. tt))
     (either m (beginsWith shareStart s)
     (shareCall (pieces 32 (values shareStart s))) _
     (share-inside m (pieces 32 (values shareStart s)))
@@ -78,9 +81,9 @@ numbered-inside s =
 pub call-inside : (s : List ℕ) → Inside (length s) (callOf s)
 call-inside s =
     let m = length s in
-    either m (sameBytes s clausesSheet) Call.Clauses _ tt
-    (either m (sameBytes s expandSheet) Call.Expand _ tt
-    (either m (sameBytes s rowsSheet) Call.Rows _ tt
-    (either m (sameBytes s columnsSheet) Call.Columns _ tt
-    (either m (sameBytes s placesSheet) Call.Places _ tt
-    (either m (sameBytes s mergeSheet) Call.Merge _ tt (numbered-inside s))))))
+    either m (sameBytes s clausesSheet) (onTwo TwoSheets.Clauses) _ tt
+    (either m (sameBytes s expandSheet) (onOne OneSheet.Expand) _ tt
+    (either m (sameBytes s rowsSheet) (onTwo TwoSheets.Rows) _ tt
+    (either m (sameBytes s columnsSheet) (onTwo TwoSheets.Columns) _ tt
+    (either m (sameBytes s placesSheet) (onTwo TwoSheets.Places) _ tt
+    (either m (sameBytes s mergeSheet) (onTwo TwoSheets.Merge) _ tt (numbered-inside s))))))

@@ -16,6 +16,8 @@ use Rattle.fields.specs.declared.Number.the-variants as Number
 use Rattle.fields.specs.Answers.{asNumber}
 use Rattle.call_sheets.specs.declared.Call.{Call}
 use Rattle.call_sheets.specs.declared.Call.the-variants as Call
+use Rattle.call_sheets.specs.declared.TwoSheets.the-variants as TwoSheets
+use Rattle.call_sheets.specs.CallSheets.{onTwo}
 use Rattle.call_sheets.specs.CallSheets.{beginsWith, broken, changeEnd, withNumber}
 use Rattle.call_sheets.specs.OneField.{oneField}
 
@@ -103,7 +105,7 @@ left-one (x ∷ t) e = go (eqb x 32) refl (eqb x 10) refl (left-one t)
 
 -- exactly one field left, which has no byte 10
 pub end-one : (m u r : ℕ) (t : List ℕ) → oneField t ≡ true
-    → changeEnd m u r (pieces 32 t) ≡ Call.Change u r (m - 1 - length t)
+    → changeEnd m u r (pieces 32 t) ≡ onTwo (TwoSheets.Change u r (m - 1 - length t))
 end-one m u r t e = let q = left-one t e in rw (q .0, q .1)
 
 -- 3. a number by itself

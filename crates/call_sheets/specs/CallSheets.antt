@@ -10,6 +10,17 @@ use Rattle.fields.specs.Words.{numeralOf}
 use Rattle.fields.specs.Fields.{withField, atEnd}
 use Rattle.call_sheets.specs.declared.Call.{Call}
 use Rattle.call_sheets.specs.declared.Call.the-variants as Call
+use Rattle.call_sheets.specs.declared.Sheets.the-variants as Sheets
+use Rattle.call_sheets.specs.declared.OneSheet.{OneSheet}
+use Rattle.call_sheets.specs.declared.OneSheet.the-variants as OneSheet
+use Rattle.call_sheets.specs.declared.TwoSheets.{TwoSheets}
+use Rattle.call_sheets.specs.declared.TwoSheets.the-variants as TwoSheets
+
+abbrev pub onOne : OneSheet → Call
+onOne c = Call.On (Sheets.One c)
+
+abbrev pub onTwo : TwoSheets → Call
+onTwo c = Call.On (Sheets.Two c)
 
 -- 1. calls without numbers: the whole sheet
 
@@ -89,9 +100,16 @@ abbrev pub withNumber : Option ℕ → (ℕ → Call) → Call
 withNumber (some v) k = k v
 withNumber none k = Call.Not
 
+-- a sweep of a clause sheet; trees as shown to a user
+abbrev pub sweepCall : ℕ → Call
+sweepCall k = onOne (OneSheet.ClausesSweep k)
+
+abbrev pub showCall : ℕ → Call
+showCall u = onTwo (TwoSheets.Show u)
+
 -- three numbers: length, racks, share
 abbrev pub shareEnd : ℕ → ℕ → ℕ → List (List ℕ) → Call
-shareEnd n p i fs = atEnd Call.Not fs (Call.Share n p i)
+shareEnd n p i fs = atEnd Call.Not fs (onOne (OneSheet.Share n p i))
 
 abbrev pub shareThird : ℕ → ℕ → List (List ℕ) → Call
 shareThird n p fs = withField Call.Not numeralOf fs (shareEnd n p)
@@ -110,7 +128,7 @@ broken (x ∷ f) = eqb x 10 || broken f
 -- user, rule, and any one field in the line, of no bytes too: where it begins in a sheet of m bytes
 abbrev pub changeEnd : ℕ → ℕ → ℕ → List (List ℕ) → Call
 changeEnd m u r [] = Call.Not
-changeEnd m u r (f ∷ []) = cond (broken f) Call.Not (Call.Change u r (m - 1 - length f))
+changeEnd m u r (f ∷ []) = cond (broken f) Call.Not (onTwo (TwoSheets.Change u r (m - 1 - length f)))
 changeEnd m u r (f ∷ g ∷ fs) = Call.Not
 
 abbrev pub changeSecond : ℕ → ℕ → List (List ℕ) → Call
@@ -128,18 +146,18 @@ alwaysCall s =
 
 abbrev pub numberedCall : List ℕ → Call
 numberedCall s =
-    cond (beginsWith boundStart s) (withNumber (numeralOf (values boundStart s)) Call.ClausesSweep)
-    (cond (beginsWith showStart s) (withNumber (numeralOf (values showStart s)) Call.Show)
+    cond (beginsWith boundStart s) (withNumber (numeralOf (values boundStart s)) sweepCall)
+    (cond (beginsWith showStart s) (withNumber (numeralOf (values showStart s)) showCall)
     (cond (beginsWith shareStart s) (shareCall (pieces 32 (values shareStart s)))
     (cond (beginsWith changeStart s) (changeCall (length s) (pieces 32 (values changeStart s)))
     (alwaysCall s))))
 
 abbrev pub callOf : List ℕ → Call
 callOf s =
-    cond (sameBytes s clausesSheet) Call.Clauses
-    (cond (sameBytes s expandSheet) Call.Expand
-    (cond (sameBytes s rowsSheet) Call.Rows
-    (cond (sameBytes s columnsSheet) Call.Columns
-    (cond (sameBytes s placesSheet) Call.Places
-    (cond (sameBytes s mergeSheet) Call.Merge
+    cond (sameBytes s clausesSheet) (onTwo TwoSheets.Clauses)
+    (cond (sameBytes s expandSheet) (onOne OneSheet.Expand)
+    (cond (sameBytes s rowsSheet) (onTwo TwoSheets.Rows)
+    (cond (sameBytes s columnsSheet) (onTwo TwoSheets.Columns)
+    (cond (sameBytes s placesSheet) (onTwo TwoSheets.Places)
+    (cond (sameBytes s mergeSheet) (onTwo TwoSheets.Merge)
     (numberedCall s))))))

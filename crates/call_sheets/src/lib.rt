@@ -11,34 +11,48 @@ ghost use lib.ListN.{length, take, drop};
 ghost use Rattle.fields.specs.Words.{numeralOf};
 ghost use Rattle.fields.specs.Answers.{asNumber};
 ghost use Rattle.call_sheets.specs.CallSheets.{callOf, numberedCall, alwaysCall, withNumber};
-ghost use Rattle.call_sheets.specs.CallSheets.{shareCall, changeCall};
-ghost use Rattle.call_sheets.specs.declared.Call.the-variants.{ClausesSweep as Bounded};
-ghost use Rattle.call_sheets.specs.declared.Call.the-variants.{Show as Shown};
+ghost use Rattle.call_sheets.specs.CallSheets.{shareCall, changeCall, sweepCall, showCall};
 ghost use Rattle.call_sheets.specs.OneField.{oneField};
-ghost use Rattle.call_sheets.specs.CallSheets as Sheets;
+ghost use Rattle.call_sheets.specs.CallSheets.{beginsWith, values, boundStart, showStart};
 ghost use Rattle.fields.specs.Cursors.{fieldsLeft};
 
-// A call with its numbers. That of a change ends with the place in the call sheet where the new
-// mark begins; it ends before the last byte. `Not` is a sheet that is not so written.
-pub enum Call {
-    Clauses,
+// A call on one sheet, with its numbers.
+pub enum OneSheet {
     ClausesSweep(u32),
     Expand,
-    Rows,
     Share(u32, u32, u32),
+}
+
+// A call on two sheets, with its numbers; the second of `Show` is two again. `Change` ends with the
+// place in the call sheet where the new mark begins; it ends before the last byte.
+pub enum TwoSheets {
+    Clauses,
+    Rows,
     Merge,
     Columns,
     Places,
     Show(u32),
     Change(u32, u32, usize),
+}
+
+// What a call is on.
+pub enum Sheets {
+    One(OneSheet),
+    Two(TwoSheets),
+}
+
+// A call: the test at every length, which takes more memory than the others, or another. `Not` is a
+// call sheet that is not so written.
+pub enum Call {
     Always,
     ClausesAlways,
+    On(Sheets),
     Not,
 }
 
 // Does the sheet begin so, and end with a byte 10?
 fn begins(s: &[u8], start: &[u8]) -> bool
-    ensures { λ r. ⌜ r ≡ Sheets.beginsWith (now (start .entry)) (now (s .entry)) ⌝ }
+    ensures { λ r. ⌜ r ≡ beginsWith (now (start .entry)) (now (s .entry)) ⌝ }
 {
     let n = start.len();
     let m = s.len();
@@ -69,7 +83,7 @@ fn share_call(s: &[u8], c: Cursor) -> Call
     if f.at <= f.end {
         return Call::Not;
     }
-    Call::Share(n, p, i)
+    Call::On(Sheets::One(OneSheet::Share(n, p, i)))
 }
 
 // Is there neither a blank nor a byte 10?
@@ -108,7 +122,7 @@ fn change_call(s: &[u8], c: Cursor) -> Call
         return Call::Not;
     }
     if one_field(&s[at..end]) {
-        return Call::Change(u, r, at);
+        return Call::On(Sheets::Two(TwoSheets::Change(u, r, at)));
     }
     Call::Not
 }
@@ -126,12 +140,12 @@ fn number_from(s: &[u8], at: usize) -> Number
 // A sweep of a clause sheet.
 fn bound_call(s: &[u8]) -> Call
     requires { ⌜ 20 ≤ length (now s) ⌝ }
-    ensures { λ r. ⌜ r ≡ withNumber (numeralOf (Sheets.values Sheets.boundStart (now (s .entry))))
-        Bounded ⌝ }
+    ensures { λ r. ⌜ r ≡ withNumber (numeralOf (values boundStart (now (s .entry))))
+        sweepCall ⌝ }
 {
     let n = number_from(s, 19);
     match n {
-        Number::Is(k) => Call::ClausesSweep(k),
+        Number::Is(k) => Call::On(Sheets::One(OneSheet::ClausesSweep(k))),
         Number::Not => Call::Not,
     }
 }
@@ -139,12 +153,12 @@ fn bound_call(s: &[u8]) -> Call
 // Trees as shown to a user.
 fn show_call(s: &[u8]) -> Call
     requires { ⌜ 16 ≤ length (now s) ⌝ }
-    ensures { λ r. ⌜ r ≡ withNumber (numeralOf (Sheets.values Sheets.showStart (now (s .entry))))
-        Shown ⌝ }
+    ensures { λ r. ⌜ r ≡ withNumber (numeralOf (values showStart (now (s .entry))))
+        showCall ⌝ }
 {
     let n = number_from(s, 15);
     match n {
-        Number::Is(u) => Call::Show(u),
+        Number::Is(u) => Call::On(Sheets::Two(TwoSheets::Show(u))),
         Number::Not => Call::Not,
     }
 }
@@ -188,22 +202,22 @@ pub fn call_of(s: &[u8]) -> Call
     ensures { λ r. ⌜ r ≡ callOf (now (s .entry)) ⌝ }
 {
     if same(s, b"call\nclauses\n") {
-        return Call::Clauses;
+        return Call::On(Sheets::Two(TwoSheets::Clauses));
     }
     if same(s, b"call\nexpand\n") {
-        return Call::Expand;
+        return Call::On(Sheets::One(OneSheet::Expand));
     }
     if same(s, b"call\nrows\n") {
-        return Call::Rows;
+        return Call::On(Sheets::Two(TwoSheets::Rows));
     }
     if same(s, b"call\ncolumns\n") {
-        return Call::Columns;
+        return Call::On(Sheets::Two(TwoSheets::Columns));
     }
     if same(s, b"call\nplaces\n") {
-        return Call::Places;
+        return Call::On(Sheets::Two(TwoSheets::Places));
     }
     if same(s, b"call\nmerge\n") {
-        return Call::Merge;
+        return Call::On(Sheets::Two(TwoSheets::Merge));
     }
     numbered_call(s)
 }

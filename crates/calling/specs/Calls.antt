@@ -8,6 +8,12 @@ use Rattle.always_text.specs.Always.{AlwaysText}
 use Rattle.call_sheets.specs.CallSheets.{callOf}
 use Rattle.call_sheets.specs.declared.Call.{Call}
 use Rattle.call_sheets.specs.declared.Call.the-variants as Call
+use Rattle.call_sheets.specs.declared.Sheets.{Sheets}
+use Rattle.call_sheets.specs.declared.Sheets.the-variants as Sheets
+use Rattle.call_sheets.specs.declared.OneSheet.{OneSheet}
+use Rattle.call_sheets.specs.declared.OneSheet.the-variants as OneSheet
+use Rattle.call_sheets.specs.declared.TwoSheets.{TwoSheets}
+use Rattle.call_sheets.specs.declared.TwoSheets.the-variants as TwoSheets
 use Rattle.call_clauses.specs.Calls.{clauseSheets}
 use Rattle.clause_sheets.specs.ClauseSheets.{clauseSheet}
 use Rattle.clause_text.specs.Texts.{ExpandText}
@@ -33,13 +39,6 @@ pub data OnTwoSheets (Of : List ℕ → List ℕ → List ℕ → Type 0) (behin
   two : {p : Parts} → parts behind ≡ some p → Of (p .before) (p .behind) text
       → OnTwoSheets Of behind text
 
--- a call on three sheets
-pub data OnThreeSheets (Of : List ℕ → List ℕ → List ℕ → List ℕ → Type 0)
-    (behind text : List ℕ) : Type 0 where
-  fewer : parts behind ≡ none → Unwritten text → OnThreeSheets Of behind text
-  three : {p : Parts} → parts behind ≡ some p → OnTwoSheets (Of (p .before)) (p .behind) text
-      → OnThreeSheets Of behind text
-
 -- `clauses`: the answer on a clause sheet and a token sheet, and its trees
 abbrev pub ClausesText : List ℕ → List ℕ → List ℕ → Type 0
 ClausesText clauses tokens text = TreesText (clauseSheets clauses tokens) text
@@ -55,21 +54,33 @@ abbrev pub ChangedText : List ℕ → ℕ → ℕ → ℕ → List ℕ → List 
 ChangedText sheet user rule at rules rights text =
     ChangeText rules rights user rule (take (length sheet - 1 - at) (drop at sheet)) text
 
--- the output of a call, from its call sheet, which has the new mark of a change, and what follows
--- it
+-- the output of a call on one sheet
+abbrev pub OneText : OneSheet → List ℕ → List ℕ → Type 0
+OneText (OneSheet.ClausesSweep k) sheet text = SweepText k (clauseSheet sheet) text
+OneText OneSheet.Expand sheet text = ExpandText sheet text
+OneText (OneSheet.Share n p i) sheet text = ShareTextOf n p i sheet text
+
+-- the output of a call on two sheets, with its call sheet, which has the new mark of a change; the
+-- second sheet of `show` is two again
+abbrev pub TwoText : List ℕ → TwoSheets → List ℕ → List ℕ → List ℕ → Type 0
+TwoText call TwoSheets.Clauses first second text = ClausesText first second text
+TwoText call TwoSheets.Rows first second text = RowsTextOf first second text
+TwoText call TwoSheets.Merge first second text = MergeText first second text
+TwoText call TwoSheets.Columns first second text = ColumnsTextOf first second text
+TwoText call TwoSheets.Places first second text = PlacesTextOf first second text
+TwoText call (TwoSheets.Show u) first second text = OnTwoSheets (ShownText u first) second text
+TwoText call (TwoSheets.Change u r at) first second text = ChangedText call u r at first second text
+
+-- the output of either, from the call sheet and what follows it
+abbrev pub SheetsText : List ℕ → Sheets → List ℕ → List ℕ → Type 0
+SheetsText sheet (Sheets.One c) behind text = OneText c behind text
+SheetsText sheet (Sheets.Two c) behind text = OnTwoSheets (TwoText sheet c) behind text
+
+-- the output of a call
 abbrev pub CallText : List ℕ → Call → List ℕ → List ℕ → Type 0
-CallText sheet Call.Clauses behind text = OnTwoSheets ClausesText behind text
-CallText sheet (Call.ClausesSweep k) behind text = SweepText k (clauseSheet behind) text
-CallText sheet Call.Expand behind text = ExpandText behind text
-CallText sheet Call.Rows behind text = OnTwoSheets RowsTextOf behind text
-CallText sheet (Call.Share n p i) behind text = ShareTextOf n p i behind text
-CallText sheet Call.Merge behind text = OnTwoSheets MergeText behind text
-CallText sheet Call.Columns behind text = OnTwoSheets ColumnsTextOf behind text
-CallText sheet Call.Places behind text = OnTwoSheets PlacesTextOf behind text
-CallText sheet (Call.Show u) behind text = OnThreeSheets (ShownText u) behind text
-CallText sheet (Call.Change u r at) behind text = OnTwoSheets (ChangedText sheet u r at) behind text
 CallText sheet Call.Always behind text = AlwaysText (ruleSheet behind) text
 CallText sheet Call.ClausesAlways behind text = AlwaysText (clauseSheet behind) text
+CallText sheet (Call.On c) behind text = SheetsText sheet c behind text
 CallText sheet Call.Not behind text = Unwritten text
 
 -- the output: refused-31 for a longer input, refused-32 for one without an empty line, else that of

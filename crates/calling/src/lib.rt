@@ -2,6 +2,9 @@
 use always_text::always_text;
 use always_text::clauses_always_text;
 use call_sheets::Call;
+use call_sheets::OneSheet;
+use call_sheets::Sheets;
+use call_sheets::TwoSheets;
 use call_sheets::call_of;
 use clause_text::clauses_sweep_text;
 use clause_text::clauses_text;
@@ -19,97 +22,13 @@ use text_trees::rows_text;
 ghost use Prim.Native.Nat.{_+_, _≤_, _<_};
 ghost use lib.ListN.{length, take, drop};
 ghost use Rattle.call_sheets.specs.CallSheets.{callOf};
-ghost use Rattle.call_sheets.specs.Inside.{Inside};
-ghost use Rattle.column_text.specs.Columns.{ColumnsTextOf};
-ghost use Rattle.reports.specs.Reports.{MergeText};
+ghost use Rattle.call_sheets.specs.Inside.{Inside, SheetsInside, MarkInside};
 ghost use Rattle.text.specs.Printed.{Printed};
-ghost use Rattle.text_trees.specs.Rows.{RowsTextOf};
-ghost use Rattle.text_trees.specs.Places.{PlacesTextOf};
-ghost use Rattle.calling.specs.Calls.{OnTwoSheets, OnThreeSheets, ClausesText, ShownText};
-ghost use Rattle.calling.specs.Calls.{ChangedText, CallText, CallsOf};
-
-// The call `clauses` on the two sheets that the first empty line parts.
-fn clauses_call(s: &[u8], out: &mut [u8]) -> usize
-    requires { ⌜ 262144 ≤ length (now out) ⌝ }
-    ensures { λ r. ⌜ Printed (OnTwoSheets ClausesText) (now (s .entry)) (now (out .entry))
-        (now (out .exit)) r ⌝ }
-{
-    let place = parting(s);
-    match place {
-        Place::Nowhere => put_refusal(out, 32),
-        Place::At(i) => {
-            let j = i + 1;
-            clauses_text(&s[..i], &s[j..], out)
-        }
-    }
-}
-
-// The call `rows` on the two sheets that the first empty line parts.
-fn rows_call(s: &[u8], out: &mut [u8]) -> usize
-    requires { ⌜ 262144 ≤ length (now out) ⌝ }
-    ensures { λ r. ⌜ Printed (OnTwoSheets RowsTextOf) (now (s .entry)) (now (out .entry))
-        (now (out .exit)) r ⌝ }
-{
-    let place = parting(s);
-    match place {
-        Place::Nowhere => put_refusal(out, 32),
-        Place::At(i) => {
-            let j = i + 1;
-            rows_text(&s[..i], &s[j..], out)
-        }
-    }
-}
-
-// The call `columns` on the two sheets that the first empty line parts.
-fn columns_call(s: &[u8], out: &mut [u8]) -> usize
-    requires { ⌜ 262144 ≤ length (now out) ⌝ }
-    ensures { λ r. ⌜ Printed (OnTwoSheets ColumnsTextOf) (now (s .entry)) (now (out .entry))
-        (now (out .exit)) r ⌝ }
-{
-    let place = parting(s);
-    match place {
-        Place::Nowhere => put_refusal(out, 32),
-        Place::At(i) => {
-            let j = i + 1;
-            columns_text(&s[..i], &s[j..], out)
-        }
-    }
-}
-
-// The call `merge` on the two reports that the first empty line parts.
-fn merge_call(s: &[u8], out: &mut [u8]) -> usize
-    requires { ⌜ 262144 ≤ length (now out) ⌝ }
-    ensures { λ r. ⌜ Printed (OnTwoSheets MergeText) (now (s .entry)) (now (out .entry))
-        (now (out .exit)) r ⌝ }
-{
-    let place = parting(s);
-    match place {
-        Place::Nowhere => put_refusal(out, 32),
-        Place::At(i) => {
-            let j = i + 1;
-            merge_text(&s[..i], &s[j..], out)
-        }
-    }
-}
-
-// The call `places` on the two sheets that the first empty line parts.
-fn places_call(s: &[u8], out: &mut [u8]) -> usize
-    requires { ⌜ 262144 ≤ length (now out) ⌝ }
-    ensures { λ r. ⌜ Printed (OnTwoSheets PlacesTextOf) (now (s .entry)) (now (out .entry))
-        (now (out .exit)) r ⌝ }
-{
-    let place = parting(s);
-    match place {
-        Place::Nowhere => put_refusal(out, 32),
-        Place::At(i) => {
-            let j = i + 1;
-            places_text(&s[..i], &s[j..], out)
-        }
-    }
-}
+ghost use Rattle.calling.specs.Calls.{OnTwoSheets, ShownText, ChangedText, OneText, TwoText};
+ghost use Rattle.calling.specs.Calls.{SheetsText, CallText, CallsOf};
 
 // The call `show` on a rule sheet and the two sheets behind it, which the first empty line parts.
-fn shown_call(rules: &[u8], s: &[u8], user: u32, out: &mut [u8]) -> usize
+fn show_call(rules: &[u8], s: &[u8], user: u32, out: &mut [u8]) -> usize
     requires { ⌜ 262144 ≤ length (now out) ⌝ }
     ensures { λ r. ⌜ Printed (OnTwoSheets (ShownText user (now (rules .entry)))) (now (s .entry))
         (now (out .entry)) (now (out .exit)) r ⌝ }
@@ -124,42 +43,90 @@ fn shown_call(rules: &[u8], s: &[u8], user: u32, out: &mut [u8]) -> usize
     }
 }
 
-// The call `show` on the three sheets that the first two empty lines part.
-fn show_call(s: &[u8], user: u32, out: &mut [u8]) -> usize
-    requires { ⌜ 262144 ≤ length (now out) ⌝ }
-    ensures { λ r. ⌜ Printed (OnThreeSheets (ShownText user)) (now (s .entry)) (now (out .entry))
-        (now (out .exit)) r ⌝ }
-{
-    let place = parting(s);
-    match place {
-        Place::Nowhere => put_refusal(out, 32),
-        Place::At(i) => {
-            let j = i + 1;
-            shown_call(&s[..i], &s[j..], user, out)
-        }
-    }
-}
-
-// The call `change` on the two sheets that the first empty line parts; the new mark stands in the
-// call sheet from `at` on.
-fn change_call(sheet: &[u8], s: &[u8], user: u32, rule: u32, at: usize, out: &mut [u8]) -> usize
+// The call `change` on a rule sheet and a rights sheet; the new mark stands in the call sheet from
+// `at` on.
+fn change_call(
+    sheet: &[u8],
+    rules: &[u8],
+    rights: &[u8],
+    user: u32,
+    rule: u32,
+    at: usize,
+    out: &mut [u8],
+) -> usize
     requires { ⌜ 262144 ≤ length (now out) ⌝ }
     requires { ⌜ at < length (now sheet) ⌝ }
-    ensures { λ r. ⌜ Printed (OnTwoSheets (ChangedText (now (sheet .entry)) user rule at))
-        (now (s .entry)) (now (out .entry)) (now (out .exit)) r ⌝ }
+    ensures { λ r. ⌜ Printed (ChangedText (now (sheet .entry)) user rule at (now (rules .entry)))
+        (now (rights .entry)) (now (out .entry)) (now (out .exit)) r ⌝ }
+{
+    let end = sheet.len() - 1;
+    change_text(rules, rights, user, rule, &sheet[at..end], out)
+}
+
+// The answer to a call on two sheets.
+fn on_two(call: TwoSheets, sheet: &[u8], a: &[u8], b: &[u8], out: &mut [u8]) -> usize
+    requires { ⌜ 262144 ≤ length (now out) ⌝ }
+    requires { ⌜ MarkInside (length (now sheet)) call ⌝ }
+    ensures { λ r. ⌜ Printed (TwoText (now (sheet .entry)) call (now (a .entry))) (now (b .entry))
+        (now (out .entry)) (now (out .exit)) r ⌝ }
+{
+    match call {
+        TwoSheets::Clauses => clauses_text(a, b, out),
+        TwoSheets::Rows => rows_text(a, b, out),
+        TwoSheets::Merge => merge_text(a, b, out),
+        TwoSheets::Columns => columns_text(a, b, out),
+        TwoSheets::Places => places_text(a, b, out),
+        TwoSheets::Show(u) => show_call(a, b, u, out),
+        TwoSheets::Change(u, r, at) => change_call(sheet, a, b, u, r, at, out),
+    }
+}
+
+// The same on what follows the call sheet: the first empty line parts the sheets.
+fn on_parted(call: TwoSheets, sheet: &[u8], s: &[u8], out: &mut [u8]) -> usize
+    requires { ⌜ 262144 ≤ length (now out) ⌝ }
+    requires { ⌜ MarkInside (length (now sheet)) call ⌝ }
+    ensures { λ r. ⌜ Printed (OnTwoSheets (TwoText (now (sheet .entry)) call)) (now (s .entry))
+        (now (out .entry)) (now (out .exit)) r ⌝ }
 {
     let place = parting(s);
     match place {
         Place::Nowhere => put_refusal(out, 32),
         Place::At(i) => {
             let j = i + 1;
-            let end = sheet.len() - 1;
-            change_text(&s[..i], &s[j..], user, rule, &sheet[at..end], out)
+            on_two(call, sheet, &s[..i], &s[j..], out)
         }
     }
 }
 
-// The answer to the call of a call sheet, on what follows it.
+// The answer to a call on one sheet.
+fn on_one(call: OneSheet, s: &[u8], out: &mut [u8]) -> usize
+    requires { ⌜ 262144 ≤ length (now out) ⌝ }
+    ensures { λ r. ⌜ Printed (OneText call) (now (s .entry)) (now (out .entry)) (now (out .exit))
+        r ⌝ }
+{
+    match call {
+        OneSheet::ClausesSweep(k) => clauses_sweep_text(s, k, out),
+        OneSheet::Expand => expand_text(s, out),
+        OneSheet::Share(n, p, i) => share_text(s, n, p, i, out),
+    }
+}
+
+// The answer to a call that is not the test at every length.
+fn on_sheets(call: Sheets, sheet: &[u8], s: &[u8], out: &mut [u8]) -> usize
+    requires { ⌜ 262144 ≤ length (now out) ⌝ }
+    requires { ⌜ SheetsInside (length (now sheet)) call ⌝ }
+    ensures { λ r. ⌜ Printed (SheetsText (now (sheet .entry)) call) (now (s .entry))
+        (now (out .entry)) (now (out .exit)) r ⌝ }
+{
+    match call {
+        Sheets::One(c) => on_one(c, s, out),
+        Sheets::Two(c) => on_parted(c, sheet, s, out),
+    }
+}
+
+// The answer to the call of a call sheet, on what follows it. The test at every length, which takes
+// most memory, is entered from here and not from among the others, so that it does not stand on
+// their buffers.
 fn answer(call: Call, sheet: &[u8], s: &[u8], out: &mut [u8]) -> usize
     requires { ⌜ 262144 ≤ length (now out) ⌝ }
     requires { ⌜ Inside (length (now sheet)) call ⌝ }
@@ -167,35 +134,10 @@ fn answer(call: Call, sheet: &[u8], s: &[u8], out: &mut [u8]) -> usize
         (now (out .entry)) (now (out .exit)) r ⌝ }
 {
     match call {
-        Call::Clauses => clauses_call(s, out),
-        Call::ClausesSweep(k) => clauses_sweep_text(s, k, out),
-        Call::Expand => expand_text(s, out),
-        Call::Rows => rows_call(s, out),
-        Call::Share(n, p, i) => share_text(s, n, p, i, out),
-        Call::Columns => columns_call(s, out),
-        Call::Places => places_call(s, out),
-        Call::Show(u) => show_call(s, u, out),
-        Call::Change(u, r, at) => change_call(sheet, s, u, r, at, out),
         Call::Always => always_text(s, out),
         Call::ClausesAlways => clauses_always_text(s, out),
-        Call::Merge => merge_call(s, out),
+        Call::On(c) => on_sheets(c, sheet, s, out),
         Call::Not => put_refusal(out, 32),
-    }
-}
-
-// The answer to a call. The test at every length and the row counts, which take most memory, are
-// entered from here and not from among the others, so that no call stands on another's buffers.
-fn entered(call: Call, sheet: &[u8], s: &[u8], out: &mut [u8]) -> usize
-    requires { ⌜ 262144 ≤ length (now out) ⌝ }
-    requires { ⌜ Inside (length (now sheet)) call ⌝ }
-    ensures { λ r. ⌜ Printed (CallText (now (sheet .entry)) call) (now (s .entry))
-        (now (out .entry)) (now (out .exit)) r ⌝ }
-{
-    match call {
-        Call::Rows => rows_call(s, out),
-        Call::Always => always_text(s, out),
-        Call::ClausesAlways => clauses_always_text(s, out),
-        _ => answer(call, sheet, s, out),
     }
 }
 
@@ -209,7 +151,7 @@ fn answer_at(input: &[u8], i: usize, out: &mut [u8]) -> usize
 {
     let j = i + 1;
     let call = call_of(&input[..i]);
-    entered(call, &input[..i], &input[j..], out)
+    answer(call, &input[..i], &input[j..], out)
 }
 
 // The whole output of the program `calls`; its length.

@@ -14,6 +14,8 @@ use Rattle.fields.proofs.Lines.{fields-of}
 use Rattle.lines.proofs.Stages.{number-good, number-bad}
 use Rattle.call_sheets.specs.declared.Call.{Call}
 use Rattle.call_sheets.specs.declared.Call.the-variants as Call
+use Rattle.call_sheets.specs.declared.TwoSheets.the-variants as TwoSheets
+use Rattle.call_sheets.specs.CallSheets.{onTwo}
 use Rattle.call_sheets.specs.CallSheets.{changeCall, changeSecond, changeEnd}
 use Rattle.call_sheets.proofs.Laws.{end-not, end-one, left-bad}
 use Rattle.call_sheets.proofs.change_call.Statement.{statement}
@@ -125,7 +127,7 @@ returns-4 c =
     omega (arith, long, low, stage2 s .1, start (up s) .pre) in
     sym (stage2 s .0 ∙ left e ∙ end-one (length t) (one (up s) .0) (two s .0) bytes
     (sym (c .before .one-field .ensures) ∙ c .if2 .taken)
-    ∙ ap (λ (x : ℕ). Call.Change (one (up s) .0) (two s .0) x) place)
+    ∙ ap (λ (x : ℕ). onTwo (TwoSheets.Change (one (up s) .0) (two s .0) x)) place)
 
 returns-5 : tie.Need-returns-5
 returns-5 c =

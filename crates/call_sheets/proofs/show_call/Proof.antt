@@ -2,8 +2,7 @@
 use mathlib.Core.Path.{sym, _∙_}
 use borrow.Author.Needs.{needs}
 use Rattle.fields.specs.Words.{numeralOf}
-use Rattle.call_sheets.specs.declared.Call.the-variants as Call
-use Rattle.call_sheets.specs.CallSheets.{showStart, values}
+use Rattle.call_sheets.specs.CallSheets.{showStart, values, showCall}
 use Rattle.call_sheets.proofs.Laws.{with-is, with-not}
 use Rattle.call_sheets.proofs.show_call.Statement.{statement}
 use Rattle.call_sheets.proofs.show_call.Tie as tie
@@ -19,12 +18,12 @@ enum-told c = search needs
 
 returns : tie.Need-returns
 returns c = let n = c .before .before .before in
-    sym (with-is (numeralOf (values showStart (n .before .before .args .s .now))) Call.Show _
+    sym (with-is (numeralOf (values showStart (n .before .before .args .s .now))) showCall _
     (sym (c .before .n .given .1) ∙ n .number-from .ensures))
 
 returns-2 : tie.Need-returns-2
 returns-2 c = let n = c .before .before in
-    sym (with-not (numeralOf (values showStart (n .before .before .args .s .now))) Call.Show
+    sym (with-not (numeralOf (values showStart (n .before .before .args .s .now))) showCall
     (sym (c .enum-told .given .1) ∙ n .number-from .ensures))
 
 pub show-call-spec : {M : Type 1} → statement M

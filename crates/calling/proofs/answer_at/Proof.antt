@@ -19,20 +19,20 @@ slice-aggregate-call-of c = sym (length-take-le _ _ (search needs))
 call-of-requires : tie.Need-call-of-requires
 call-of-requires c κs = search needs
 
-slice-aggregate-entered : tie.Need-slice-aggregate-entered
-slice-aggregate-entered c = sym (length-take-le _ _ (search needs))
+slice-aggregate-answer : tie.Need-slice-aggregate-answer
+slice-aggregate-answer c = sym (length-take-le _ _ (search needs))
 
-sub-entered : tie.Need-sub-entered
-sub-entered c = search needs
+sub-answer : tie.Need-sub-answer
+sub-answer c = search needs
 
-part-entered-start : tie.Need-part-entered-start
-part-entered-start c = search needs
+part-answer-start : tie.Need-part-answer-start
+part-answer-start c = search needs
 
-part-entered-end : tie.Need-part-entered-end
-part-entered-end c = search needs
+part-answer-end : tie.Need-part-answer-end
+part-answer-end c = search needs
 
-entered-requires : tie.Need-entered-requires
-entered-requires c κs =
+answer-requires : tie.Need-answer-requires
+answer-requires c κs =
     let q = c .before .before .before in
     let s = q .before .before .before .before .args in
     (search needs, rw (← q .call-of .ensures) at (call-inside (take (s .i) (s .input .now))))
@@ -49,7 +49,7 @@ returns c =
     let e : take (length (s .input .now) - n) (drop n (s .input .now)) ≡ drop n (s .input .now) =
     take-all (length (s .input .now) - n) (drop n (s .input .now))
     (omega (arith, length-drop n (s .input .now))) in
-    rw (q .call-of .ensures) at (rw e at (z .entered .ensures))
+    rw (q .call-of .ensures) at (rw e at (z .answer .ensures))
 
 pub answer-at-spec : {M : Type 1} → statement M
 answer-at-spec =
@@ -58,10 +58,10 @@ answer-at-spec =
     add-j
     slice-aggregate-call-of
     call-of-requires
-    slice-aggregate-entered
-    sub-entered
-    part-entered-start
-    part-entered-end
-    entered-requires
+    slice-aggregate-answer
+    sub-answer
+    part-answer-start
+    part-answer-end
+    answer-requires
     same-length
     returns)

@@ -1,64 +1,19 @@
--- `change_call` meets its contract: the first empty line parts the sheets.
-use mathlib.Core.Path.{_≡_, refl, sym}
-use Prim.Native.Nat.{_+_, _-_, _<_}
-use native.Mathlib.Omega.{arith}
-use lib.ListN.{length, take, drop, length-drop}
-use lib.Seq.{length-take-le, take-all}
-use Rattle.calling.specs.Calls.{fewer, two}
+-- `change_call` meets its contract: the new mark ends before the last byte of the call sheet.
 use borrow.Author.Needs.{needs}
 use Rattle.calling.proofs.change_call.Statement.{statement}
 use Rattle.calling.proofs.change_call.Tie as tie
 
--- the empty line stands in the input
-inside : (c : tie.After-known-told)
-    → c .before .place .given .0 .0 < length
-    (c .before .before .before .before .before .before .before .args .s .now)
-inside c =
-    let p = c .before in
-    let s = p .before .before .parting .ensures in (rw (p .place .given .1) at s) .0
-
-parting-requires : tie.Need-parting-requires
-parting-requires c κs = search needs
-
-enum-told : tie.Need-enum-told
-enum-told c = search needs
-
-put-refusal-requires : tie.Need-put-refusal-requires
-put-refusal-requires c κs = search needs
-
-enum-known-place : tie.Need-enum-known-place
-enum-known-place c = search needs
-
-add-j : tie.Need-add-j
-add-j c =
-    let h = inside c in search needs
-
-slice-aggregate-change-text : tie.Need-slice-aggregate-change-text
-slice-aggregate-change-text c =
-    let h = inside (c .before) in sym (length-take-le _ _ (search needs))
-
-sub-change-text : tie.Need-sub-change-text
-sub-change-text c =
-    let h = inside (c .before) in search needs
-
-part-change-text-start : tie.Need-part-change-text-start
-part-change-text-start c =
-    let h = inside (c .before) in search needs
-
-part-change-text-end : tie.Need-part-change-text-end
-part-change-text-end c = search needs
-
 sub-end : tie.Need-sub-end
 sub-end c = search needs
 
-sub-change-text-2 : tie.Need-sub-change-text-2
-sub-change-text-2 c = search needs
+sub-change-text : tie.Need-sub-change-text
+sub-change-text c = search needs
 
-part-change-text-start-2 : tie.Need-part-change-text-start-2
-part-change-text-start-2 c = search needs
+part-change-text-start : tie.Need-part-change-text-start
+part-change-text-start c = search needs
 
-part-change-text-end-2 : tie.Need-part-change-text-end-2
-part-change-text-end-2 c = search needs
+part-change-text-end : tie.Need-part-change-text-end
+part-change-text-end c = search needs
 
 change-text-requires : tie.Need-change-text-requires
 change-text-requires c κs = search needs
@@ -67,52 +22,16 @@ same-length : tie.Need-same-length
 same-length c = search needs
 
 returns : tie.Need-returns
-returns c =
-    let m = c .before .before .before .before in
-    let s = m .before .before .parting .ensures in
-    record {
-      text = _;
-      is = fewer (rw (m .enum-told .given .1) at s) refl;
-      wrote =
-          c .before .before .put-refusal .ensures;
-    }
-
-same-length-2 : tie.Need-same-length-2
-same-length-2 c = search needs
-
-returns-2 : tie.Need-returns-2
-returns-2 c =
-    let z = c .before .before in
-    let p = z .before .before .before .before .before .before in
-    let q = p .before .before in
-    let a = q .before .before .before .before .args in
-    let n = p .place .given .0 .0 + 1 in
-    let e : take (length (a .s .now) - n) (drop n (a .s .now)) ≡ drop n (a .s .now) =
-    take-all (length (a .s .now) - n) (drop n (a .s .now))
-    (omega (arith, length-drop n (a .s .now))) in
-    let w = rw e at (z .change-text .ensures) in
-    let s = q .parting .ensures in record
-    { text = w .text; is = two ((rw (p .place .given .1) at s) .1) (w .is); wrote = w .wrote }
+returns c = search needs
 
 pub change-call-spec : {M : Type 1} → statement M
 change-call-spec =
     tie.close
     (tie.spec
-    parting-requires
-    enum-told
-    put-refusal-requires
-    enum-known-place
-    add-j
     sub-end
-    slice-aggregate-change-text
     sub-change-text
     part-change-text-start
     part-change-text-end
-    sub-change-text-2
-    part-change-text-start-2
-    part-change-text-end-2
     change-text-requires
     same-length
-    returns
-    same-length-2
-    returns-2)
+    returns)

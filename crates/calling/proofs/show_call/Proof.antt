@@ -1,4 +1,4 @@
--- `shown_call` meets its contract: the first empty line parts the sheets.
+-- `show_call` meets its contract: the first empty line parts the sheets.
 use mathlib.Core.Path.{_≡_, refl, sym}
 use Prim.Native.Nat.{_+_, _-_, _<_}
 use native.Mathlib.Omega.{arith}
@@ -6,8 +6,8 @@ use lib.ListN.{length, take, drop, length-drop}
 use lib.Seq.{length-take-le, take-all}
 use Rattle.calling.specs.Calls.{fewer, two}
 use borrow.Author.Needs.{needs}
-use Rattle.calling.proofs.shown_call.Statement.{statement}
-use Rattle.calling.proofs.shown_call.Tie as tie
+use Rattle.calling.proofs.show_call.Statement.{statement}
+use Rattle.calling.proofs.show_call.Tie as tie
 
 -- the empty line stands in the input
 inside : (c : tie.After-known-told)
@@ -82,8 +82,8 @@ returns-2 c =
     let s = q .parting .ensures in record
     { text = w .text; is = two ((rw (p .place .given .1) at s) .1) (w .is); wrote = w .wrote }
 
-pub shown-call-spec : {M : Type 1} → statement M
-shown-call-spec =
+pub show-call-spec : {M : Type 1} → statement M
+show-call-spec =
     tie.close
     (tie.spec
     parting-requires
