@@ -29,10 +29,9 @@ use Rattle.lexemes.specs.declared.Lexeme.{Lexeme}
 use Rattle.lexemes.specs.declared.Lexeme.the-variants as Lexeme
 use Rattle.lexemes.specs.declared.Lexed.{Lexed}
 use Rattle.lexemes.specs.Answers.{lexemeOf, Lexes}
-use Rattle.rule_output.specs.declared.Emit.{Emit}
-use Rattle.rule_output.specs.declared.Step.{Step}
 use Rattle.rule_output.specs.Signs.{sortOf, bindingOf, headsOf}
-use Rattle.rule_output.specs.Emitting.{Cause, Adds, Pushed, CountsOn, tailRules, LeafRead}
+use Rattle.rule_output.specs.Emitting.{Emit, PartEmit, Cause, Adds, Pushed, CountsOn, tailRules}
+use Rattle.rule_output.specs.Emitting.{LeafRead}
 use Rattle.clause_rules.specs.Ends.{Left, GroupEnd, AtomEnd, ItemEnd}
 use Rattle.clause_rules.specs.Reading.{Read, AtomRead, ItemRead, RestRead, SequenceRead}
 use Rattle.clause_rules.specs.Reading.{AlternativesRead}
@@ -121,7 +120,7 @@ module _ (s : List ℕ) (at e : ℕ) (A₁ : AtomEnd s at e) (x : Lexed) (X : Le
 
 -- ( .. )
 module _ (s : List ℕ) (at : ℕ) (out : Emit) (x : Lexed) (X : Lexes s at x) where
-  pub group-read : (o : Emit) (r : Step) (y : Lexed) → sortOf (x .lexeme) ≡ 1 → CountsOn out 1 o
+  pub group-read : (o : Emit) (r : PartEmit) (y : Lexed) → sortOf (x .lexeme) ≡ 1 → CountsOn out 1 o
       → AlternativesRead s (x .end) (out .next) o r → Lexes s (r .at) y
       → AtomRead s at out (record { at = y .end; name = out .next; out = r .out })
   group-read o r y z f g Y = record {
@@ -150,7 +149,8 @@ module _ (s : List ℕ) (at : ℕ) (out : Emit) (x : Lexed) (X : Lexes s at x) w
             named = λ u. refl;
           }
 
-  pub leaf-read : (r : Step) → (sortOf (x .lexeme) ≡ 1 → ⊥) → LeafRead (x .lexeme) (x .end) out r
+  pub leaf-read : (r : PartEmit) → (sortOf (x .lexeme) ≡ 1 → ⊥)
+      → LeafRead (x .lexeme) (x .end) out r
       → AtomRead s at out r
   leaf-read r z f = record {
     from = omega (arith, X .from, f .at);
@@ -223,7 +223,7 @@ tail-length Lexeme.Not i b c = refl
 module _ (s : List ℕ) (at e : ℕ) (A₁ : AtomEnd s at e) (x : Lexed) (X : Lexes s e x)
     (out : Emit) where
   -- an item with nothing after it
-  pub bare-read : (r : Step) → (sortOf (x .lexeme) ≡ 5 → ⊥) → AtomRead s at out r
+  pub bare-read : (r : PartEmit) → (sortOf (x .lexeme) ≡ 5 → ⊥) → AtomRead s at out r
       → ItemRead s at out r
   bare-read r z a = record {
     from = a .from;
@@ -244,10 +244,10 @@ module _ (s : List ℕ) (at e : ℕ) (A₁ : AtomEnd s at e) (x : Lexed) (X : Le
           (left-by (ap (λ (y : List Lex). y ++ k) (q .2)) h))))) (v .3)
 
   -- the item's atom a, behind which the suffix q stands, and its rules after those of the atom
-  abbrev wrapped : Emit → Step
+  abbrev wrapped : Emit → PartEmit
   wrapped p = record { at = x .end; name = out .next; out = p }
 
-  suffix-read : (o : Emit) (a : Step) (p : Emit) → CountsOn out (headsOf (x .lexeme)) o
+  suffix-read : (o : Emit) (a : PartEmit) (p : Emit) → CountsOn out (headsOf (x .lexeme)) o
       → AtomRead s at o a → Adds (a .out) p (tailRules (x .lexeme) (out .next) (a .name)) 0
       → (b : Expr item) (w k : List Lex) (q : Suffix) (L : ℕ) → WrittenAs (an-atom b) w
       → Left s at ((w ++ (suffix q ∷ [])) ++ k)
@@ -290,7 +290,7 @@ module _ (s : List ℕ) (at e : ℕ) (A₁ : AtomEnd s at e) (x : Lexed) (X : Le
             tail-length (lexemeOf (suffix q)) (out .next) m m′,
           )
 
-  pub tailed-read : (o : Emit) (a : Step) (p : Emit) → sortOf (x .lexeme) ≡ 5
+  pub tailed-read : (o : Emit) (a : PartEmit) (p : Emit) → sortOf (x .lexeme) ≡ 5
       → CountsOn out (headsOf (x .lexeme)) o → AtomRead s at o a
       → Adds (a .out) p (tailRules (x .lexeme) (out .next) (a .name)) 0
       → ItemRead s at out (wrapped p)
@@ -349,7 +349,7 @@ module _ (s : List ℕ) (at e : ℕ) (A₁ : AtomEnd s at e) (x : Lexed) (X : Le
           (v .3)
 
 -- no room at a step before: the rest is not looked at
-crowd : {s : List ℕ} {out : Emit} {r : Step} {a : ℕ} {new : Rules} {k : ℕ} {rest : List Lex}
+crowd : {s : List ℕ} {out : Emit} {r : PartEmit} {a : ℕ} {new : Rules} {k : ℕ} {rest : List Lex}
     (q : Emit) (newq : Rules) (kq : ℕ)
     → Adds out q newq kq → (q .over ≡ false → ⊥) → (r .out .over ≡ false → q .over ≡ false) → kq ≤ k
     → length newq ≤ length new → Read s out r a new k rest
@@ -366,7 +366,7 @@ crowd {s} {out} {r} {a} {new} {k} {rest} q newq kq A₁ z g h l =
     cause = cause-more out kq (length newq) k (length new) h l
         (⊎-elim (λ y. A₁ .why y) (λ y. absurd (z y)) (true-or-false (q .over)))
 
-module _ (s : List ℕ) (at : ℕ) (out o : Emit) (F : CountsOn out 1 o) (i : Step)
+module _ (s : List ℕ) (at : ℕ) (out o : Emit) (F : CountsOn out 1 o) (i : PartEmit)
     (I : ItemRead s at o i) (x : Lexed) (X : Lexes s (i .at) x) where
   -- the first item of a sequence
   begun : (g : Expr item) (w k : List Lex) → WrittenAs (an-item g) w → NoSuffix k
@@ -431,7 +431,8 @@ module _ (s : List ℕ) (at : ℕ) (out o : Emit) (F : CountsOn out 1 o) (i : St
                 ∷ [])),
           ))
 
-  pub several-read : (r : Step) (p : Emit) → sortOf (x .lexeme) ≡ 4 → RestRead s (x .end) (i .out) r
+  pub several-read : (r : PartEmit) (p : Emit) → sortOf (x .lexeme) ≡ 4
+      → RestRead s (x .end) (i .out) r
       → Pushed (r .out) (B (out .next) (i .name) (r .name) (bindingOf (x .lexeme))) p
       → SequenceRead s at out (record { at = r .at; name = out .next; out = p })
   several-read r p z T P =
@@ -539,7 +540,7 @@ module _ (s : List ℕ) (at : ℕ) (out o : Emit) (F : CountsOn out 1 o) (i : St
 
 -- a rest: one item, or more
 module _ (s : List ℕ) (at e : ℕ) (N : ItemEnd s at e) (x : Lexed) (X : Lexes s e x) (out : Emit)
-    (r : Step) where
+    (r : PartEmit) where
   pub rest-several : sortOf (x .lexeme) ≡ 4 → SequenceRead s at out r → RestRead s at out r
   rest-several z q = record { from = q .from; within = q .within; room = q .room; reads = go }
     where
@@ -581,7 +582,8 @@ pub alternatives-over : (s : List ℕ) (at L : ℕ) (out : Emit) (b : ℕ) → a
 alternatives-over s at L out b h y =
     record { from = omega arith; within = h; room = λ u. u; reads = λ e l k w c q. over-read y }
 
-module _ (s : List ℕ) (at L : ℕ) (out : Emit) (a : Step) (S : SequenceRead s at out a) (q : Emit)
+module _ (s : List ℕ) (at L : ℕ) (out : Emit) (a : PartEmit) (S : SequenceRead s at out a)
+    (q : Emit)
     (P : Pushed (a .out) (U L (out .next) UnaryMark.None) q) (x : Lexed)
     (X : Lexes s (a .at) x) where
   pub last-read : (sortOf (x .lexeme) ≡ 3 → ⊥)
@@ -615,7 +617,7 @@ module _ (s : List ℕ) (at L : ℕ) (out : Emit) (a : Step) (S : SequenceRead s
                 (U L (out .next) UnaryMark.None ∷ emit f L (out .next + size g)),
           ))
 
-  pub more-read : (r : Step) → sortOf (x .lexeme) ≡ 3 → AlternativesRead s (x .end) L q r
+  pub more-read : (r : PartEmit) → sortOf (x .lexeme) ≡ 3 → AlternativesRead s (x .end) L q r
       → AlternativesRead s at L out r
   more-read r z T = record {
     from = omega (arith, S .from, X .from, T .from);

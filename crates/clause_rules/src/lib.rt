@@ -7,7 +7,7 @@ use grammar::Rule;
 use grammar::UnaryMark;
 use lexemes::Lexeme;
 use lexemes::lexeme_at;
-use rule_output::Emit;
+use rule_output::Room;
 use rule_output::Step;
 use rule_output::fresh;
 use rule_output::leaf;
@@ -18,6 +18,7 @@ ghost use mathlib.Core.Path.{_≡_};
 ghost use Prim.Native.Nat.{_≤_};
 ghost use lib.ListN.{length};
 ghost use Rattle.rule_output.specs.Signs.{sortOf, bindingOf};
+ghost use Rattle.rule_output.specs.Emitting.{held, partHeld};
 ghost use Rattle.clause_rules.specs.Ends.{GroupEnd, AtomEnd, ItemEnd};
 ghost use Rattle.clause_rules.specs.Reading.{AtomRead, ItemRead, RestRead, SequenceRead};
 ghost use Rattle.clause_rules.specs.Reading.{AlternativesRead};
@@ -122,9 +123,10 @@ fn item_end(s: &[u8], at: usize) -> usize
 }
 
 // A nonterminal, a terminal or a group.
-fn atom(s: &[u8], at: usize, out: Emit) -> Step
+fn atom(s: &[u8], at: usize, rules: &mut [u64; 128], out: Room) -> Step
     requires { ⌜ at ≤ length (now s) ⌝ }
-    ensures { λ r. ⌜ AtomRead (now (s .entry)) at out r ⌝ }
+    ensures { λ r. ⌜ AtomRead (now (s .entry)) at (held (now (rules .entry)) out)
+        (partHeld (now (rules .exit)) r) ⌝ }
 {
     let n = out.next;
     let x = lexeme_at(s, at);
@@ -132,22 +134,23 @@ fn atom(s: &[u8], at: usize, out: Emit) -> Step
     let end = x.end;
     if sort(l) == 1 {
         let o = fresh(out);
-        let r = alternatives(s, end, n, o);
-        let p = r.out;
+        let r = alternatives(s, end, n, rules, o);
+        let p = r.room;
         let y = lexeme_at(s, r.at);
         return Step {
             at: y.end,
             name: n,
-            out: p,
+            room: p,
         };
     }
-    leaf(l, end, out)
+    leaf(l, end, rules, out)
 }
 
 // An item with what stands after it.
-fn item(s: &[u8], at: usize, out: Emit) -> Step
+fn item(s: &[u8], at: usize, rules: &mut [u64; 128], out: Room) -> Step
     requires { ⌜ at ≤ length (now s) ⌝ }
-    ensures { λ r. ⌜ ItemRead (now (s .entry)) at out r ⌝ }
+    ensures { λ r. ⌜ ItemRead (now (s .entry)) at (held (now (rules .entry)) out)
+        (partHeld (now (rules .exit)) r) ⌝ }
 {
     let n = out.next;
     let e = atom_end(s, at);
@@ -159,37 +162,39 @@ fn item(s: &[u8], at: usize, out: Emit) -> Step
             return Step {
                 at,
                 name: n,
-                out: o,
+                room: o,
             };
         }
-        let a = atom(s, at, o);
-        let p = a.out;
-        let q = tail(p, l, n, a.name);
+        let a = atom(s, at, rules, o);
+        let p = a.room;
+        let q = tail(rules, p, l, n, a.name);
         return Step {
             at: x.end,
             name: n,
-            out: q,
+            room: q,
         };
     }
-    atom(s, at, out)
+    atom(s, at, rules, out)
 }
 
 // The items of an alternative, or of a rest of two or more.
-fn sequence(s: &[u8], at: usize, out: Emit) -> Step
+fn sequence(s: &[u8], at: usize, rules: &mut [u64; 128], out: Room) -> Step
     requires { ⌜ at ≤ length (now s) ⌝ }
-    ensures { λ r. ⌜ SequenceRead (now (s .entry)) at out r ⌝ }
+    ensures { λ r. ⌜ SequenceRead (now (s .entry)) at (held (now (rules .entry)) out)
+        (partHeld (now (rules .exit)) r) ⌝ }
 {
     let n = out.next;
     let o = fresh(out);
-    let i = item(s, at, o);
+    let i = item(s, at, rules, o);
     let b = i.name;
-    let p = i.out;
+    let p = i.room;
     let x = lexeme_at(s, i.at);
     let l = x.lexeme;
     if sort(l) == 4 {
-        let r = rest(s, x.end, p);
-        let q = r.out;
+        let r = rest(s, x.end, rules, p);
+        let q = r.room;
         let w = push(
+            rules,
             q,
             Rule {
                 left: n,
@@ -199,10 +204,11 @@ fn sequence(s: &[u8], at: usize, out: Emit) -> Step
         return Step {
             at: r.at,
             name: n,
-            out: w,
+            room: w,
         };
     }
     let w = push(
+        rules,
         p,
         Rule {
             left: n,
@@ -212,43 +218,50 @@ fn sequence(s: &[u8], at: usize, out: Emit) -> Step
     Step {
         at: i.at,
         name: n,
-        out: w,
+        room: w,
     }
 }
 
 // What follows the first item of a sequence: one item, which stands for itself, or more.
-fn rest(s: &[u8], at: usize, out: Emit) -> Step
+fn rest(s: &[u8], at: usize, rules: &mut [u64; 128], out: Room) -> Step
     requires { ⌜ at ≤ length (now s) ⌝ }
-    ensures { λ r. ⌜ RestRead (now (s .entry)) at out r ⌝ }
+    ensures { λ r. ⌜ RestRead (now (s .entry)) at (held (now (rules .entry)) out)
+        (partHeld (now (rules .exit)) r) ⌝ }
 {
     if out.over {
-        return Step { at, name: 0, out };
+        return Step {
+            at,
+            name: 0,
+            room: out,
+        };
     }
     let e = item_end(s, at);
     let x = lexeme_at(s, e);
     let l = x.lexeme;
     if sort(l) == 4 {
-        return sequence(s, at, out);
+        return sequence(s, at, rules, out);
     }
-    item(s, at, out)
+    item(s, at, rules, out)
 }
 
 // The alternatives of a line or of a group, whose nonterminal is `left`.
-pub fn alternatives(s: &[u8], at: usize, left: u8, out: Emit) -> Step
+pub fn alternatives(s: &[u8], at: usize, left: u8, rules: &mut [u64; 128], out: Room) -> Step
     requires { ⌜ at ≤ length (now s) ⌝ }
-    ensures { λ r. ⌜ AlternativesRead (now (s .entry)) at left out r ⌝ }
+    ensures { λ r. ⌜ AlternativesRead (now (s .entry)) at left (held (now (rules .entry)) out)
+        (partHeld (now (rules .exit)) r) ⌝ }
 {
     if out.over {
         return Step {
             at,
             name: left,
-            out,
+            room: out,
         };
     }
     let n = out.next;
-    let a = sequence(s, at, out);
-    let p = a.out;
+    let a = sequence(s, at, rules, out);
+    let p = a.room;
     let q = push(
+        rules,
         p,
         Rule {
             left,
@@ -258,11 +271,11 @@ pub fn alternatives(s: &[u8], at: usize, left: u8, out: Emit) -> Step
     let x = lexeme_at(s, a.at);
     let l = x.lexeme;
     if sort(l) == 3 {
-        return alternatives(s, x.end, left, q);
+        return alternatives(s, x.end, left, rules, q);
     }
     Step {
         at: a.at,
         name: left,
-        out: q,
+        room: q,
     }
 }

@@ -22,8 +22,7 @@ use Rattle.clauses.specs.Clauses.{Clauses}
 use Rattle.clauses.specs.Expansion.{of, rising, pastAll, sizeAll, expansion}
 use Rattle.clauses.proofs.Bounds.{Terms, TermsAll}
 use Rattle.clauses.proofs.Apart.{expansion-distinct}
-use Rattle.rule_output.specs.declared.Emit.{Emit}
-use Rattle.rule_output.specs.Emitting.{Adds, Cause}
+use Rattle.rule_output.specs.Emitting.{Emit, Adds, Cause}
 use Rattle.clause_lines.specs.ClauseLines.{ClauseLine, Said, good, unwritten, deep, expression}
 use Rattle.clause_lines.specs.ClauseLines.{withLeft, leftSays, clauseLine}
 use Rattle.sheets.specs.declared.Fault.{Fault}
@@ -209,6 +208,7 @@ pub record Walked (ps : List (List ℕ)) (p : ℕ) (first out : Emit) : Type 0 w
   pub said : AllSaid ps p
   pub low : p ≤ 64
   pub begun : (first .count ≡ 0) × (first .next ≡ p) × (first .over ≡ false)
+      × (128 ≤ length (first .rules))
   pub emitted : LinesEmitted ps first out
 
 module _ {ps : List (List ℕ)} {p : ℕ} {first out : Emit} (w : Walked ps p first out) where
@@ -234,8 +234,11 @@ module _ {ps : List (List ℕ)} {p : ℕ} {first out : Emit} (w : Walked ps p fi
   pub out-few : out .over ≡ false → out .count ≤ 128
   out-few e = adds .few e (omega (arith, w .begun .0))
 
-  module _ (e : out .over ≡ false) {h g : Grammar} (q : h .count ≡ 0)
-      (taken : RulesTaken (rising 64 (take (out .count) (out .rules))) h g) where
+  pub out-long : out .over ≡ false → out .count ≤ length (out .rules)
+  out-long e = omega (arith, out-few e, adds .long e, w .begun .3)
+
+  module _ (e : out .over ≡ false) {g : Grammar}
+      (taken : RulesTaken (rising 64 (take (out .count) (out .rules))) g) where
     within : pastAll lines + sizeAll lines ≤ 64
     within = let z = adds .low e (omega (arith, w .begun .1, w .low)) in
         omega (arith, adds .next e, w .begun .1, w .said .most)
@@ -244,17 +247,18 @@ module _ {ps : List (List ℕ)} {p : ℕ} {first out : Emit} (w : Walked ps p fi
     short = omega (arith, adds .count e, w .begun .0, out-few e)
 
     as-met : take (out .count) (out .rules) ≡ met
-    as-met = adds .rules e ∙ ap (λ (k : ℕ). take k (first .rules) ++ met) (w .begun .0)
+    as-met = adds .rules e (w .begun .3) ∙ ap (λ (k : ℕ). take k (first .rules) ++ met)
+        (w .begun .0)
 
-    all-taken : RulesTaken (expansion lines) h g
-    all-taken = subst (λ (y : Rules). RulesTaken y h g)
+    all-taken : RulesTaken (expansion lines) g
+    all-taken = subst (λ (y : Rules). RulesTaken y g)
         (ap (rising 64) as-met ∙ sorted-expansion lines within) taken
 
-    fit : h .count + length (expansion lines) ≤ 128
+    fit : length (expansion lines) ≤ 128
     fit = omega (arith, same-many ps p (w .said) within, short)
 
     holds : rulesOf g ≡ expansion lines
-    holds = all-taken .rules fit ∙ ap (λ (k : ℕ). take k (h .rules) ++ expansion lines) q
+    holds = all-taken .rules fit
 
     pub out-formed : Formed g
     out-formed = formed ps p (w .said) g within short (omega (arith, all-taken .count fit)) holds

@@ -29,9 +29,8 @@ use Rattle.clause_lines.specs.declared.Checked.the-variants as Checked
 use Rattle.clause_lines.specs.Walks.{checkedOf}
 use Rattle.clauses.proofs.Accepts.{accepts}
 use Rattle.lexemes.specs.Lexemes.{lexemes}
-use Rattle.rule_output.specs.declared.Emit.{Emit}
-use Rattle.rule_output.specs.declared.Step.{Step}
-use Rattle.rule_output.specs.Emitting.{Adds}
+use Rattle.rule_output.specs.Emitting.{Emit, PartEmit}
+use Rattle.rule_output.specs.Emitting.{Emit, Adds}
 use Rattle.clause_rules.specs.Reading.{AlternativesRead}
 use Rattle.clause_lines.specs.ClauseLines.{ClauseLine, Said, good, unwritten, deep, shallowOnly}
 use Rattle.clause_lines.specs.ClauseLines.{lexemesSay, expression, withLeft, leftSays, clauseLine}
@@ -206,7 +205,7 @@ good-expression x e h = go (lexemes x) refl h
     go none j q = absurd (clash cc)
     go (some l) j q = pick l j (says? l) q
 
-emitted-line : (line x : List ℕ) (v : ℕ) (out : Emit) (r : Step)
+emitted-line : (line x : List ℕ) (v : ℕ) (out : Emit) (r : PartEmit)
     → clauseLine line ≡ withLeft v (expression x) → AlternativesRead x 0 v out r
     → LineEmitted line out (r .out)
 emitted-line line x v out r e R = record { adds = λ c h. go c (expression x) refl (sym e ∙ h) }
@@ -223,7 +222,7 @@ emitted-line line x v out r e R = record { adds = λ c h. go c (expression x) re
         subst (λ (y : ClauseLine). Adds out (r .out) (emit (y .expr) (y .left) (out .next))
         (size (y .expr))) w A₁
 
-pub emitted-as : (line x : List ℕ) (v : ℕ) (out : Emit) (r : Step) (p : Emit)
+pub emitted-as : (line x : List ℕ) (v : ℕ) (out : Emit) (r : PartEmit) (p : Emit)
     → clauseLine line ≡ withLeft v (expression x)
     → AlternativesRead x 0 v out r → r .out ≡ p → LineEmitted line out p
 emitted-as line x v out r p e R q =

@@ -1,6 +1,6 @@
 -- For inner functions: what the first walk over the lines finds.
 use mathlib.Core.Path.{_≡_}
-use mathlib.Core.List.{List, [], _++_}
+use mathlib.Core.List.{List, []}
 use Rattle.grammar.specs.declared.Grammar.{Grammar}
 use Rattle.grammar.specs.Trees.{Rules}
 use Rattle.grammar.specs.Content.{rules as rulesOf}
@@ -9,8 +9,7 @@ use lib.ListN.{length}
 use Rattle.clauses.specs.Expansion.{pastExpr, pastAll, size, sizeAll}
 use Rattle.clauses.specs.Clauses.{Expr, alternatives}
 use Rattle.clauses.specs.Emission.{emit}
-use Rattle.rule_output.specs.declared.Emit.{Emit}
-use Rattle.rule_output.specs.Emitting.{Adds}
+use Rattle.rule_output.specs.Emitting.{Emit, Adds}
 use Rattle.clause_lines.specs.ClauseLines.{ClauseLine, Said, good, unwritten, deep, clauseLine}
 use Rattle.sheets.specs.declared.Outcome.{Outcome}
 use Rattle.sheets.specs.declared.Outcome.the-variants.{Accepted}
@@ -66,7 +65,7 @@ pub record Emitting (s : List ℕ) (start : ℕ) (out r : Emit) (at : ℕ) : Typ
       → (seen : List ClauseLine) × (itemsFrom clauseStep seen (piecesFrom 10 s at) ≡ accepted l)
       × Adds out r (emitAll (clausesOf seen) (out .next)) (sizeAll (clausesOf seen))
 
--- the rules are put behind those of g, where there is room for all
-pub record RulesTaken (new : Rules) (g r : Grammar) : Type 0 where
-  pub count : g .count + length new ≤ 128 → r .count ≡ g .count + length new
-  pub rules : g .count + length new ≤ 128 → rulesOf r ≡ rulesOf g ++ new
+-- r has just these rules, where there is room for all
+pub record RulesTaken (new : Rules) (r : Grammar) : Type 0 where
+  pub count : length new ≤ 128 → r .count ≡ length new
+  pub rules : length new ≤ 128 → rulesOf r ≡ new

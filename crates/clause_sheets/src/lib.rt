@@ -6,21 +6,23 @@ use clause_rules::alternatives;
 use fields::Cursor;
 use fields::NumberField;
 use grammar::Grammar;
-use grammar::Rule;
 use lengths::index_of;
 use lengths::no_rules;
-use rule_output::Emit;
+use rule_output::Room;
+use rule_words::left_of;
+use rule_words::rule_of;
 use sheets::Fault;
 use sheets::GrammarRead;
 use sheets::Outcome;
 use sheets::finished;
 use sheets::refuse_rules;
 ghost use mathlib.Core.Path.{_≡_};
-ghost use mathlib.Core.Bool.{false};
-ghost use mathlib.Core.List.{[], _∷_};
+ghost use mathlib.Core.List.{[], map};
 ghost use Prim.Native.Nat.{_+_, _≤_, _<_, max};
 ghost use lib.ListN.{length, take};
-ghost use Rattle.clauses.specs.Expansion.{of, rising};
+ghost use Rattle.clauses.specs.Expansion.{rising};
+ghost use Rattle.rule_words.specs.Words.{wordRule};
+ghost use Rattle.rule_output.specs.Emitting.{held};
 ghost use Rattle.sheets.specs.Items.{itemsFrom};
 ghost use Rattle.sheets.specs.Promises.{RulesRead};
 ghost use Rattle.clause_lines.specs.ClauseLines.{clauseLine, expression};
@@ -85,9 +87,10 @@ fn line_check(s: &[u8], c: Cursor) -> LineChecked
 }
 
 // The rules of one line, after those written so far.
-fn line_emit(s: &[u8], c: Cursor, out: Emit) -> Emit
+fn line_emit(s: &[u8], c: Cursor, rules: &mut [u64; 128], out: Room) -> Room
     requires { ⌜ (c .at ≤ c .end) × (c .end ≤ length (now s)) ⌝ }
-    ensures { λ r. ⌜ LineEmitted (bytesLeft (now (s .entry)) c) out r ⌝ }
+    ensures { λ r. ⌜ LineEmitted (bytesLeft (now (s .entry)) c) (held (now (rules .entry)) out)
+        (held (now (rules .exit)) r) ⌝ }
 {
     let NumberField::Is(v, d) = c.number(s) else {
         return out;
@@ -100,8 +103,8 @@ fn line_emit(s: &[u8], c: Cursor, out: Emit) -> Emit
     if end < at {
         return out;
     }
-    let r = alternatives(&s[at..end], 0, v as u8, out);
-    let o = r.out;
+    let r = alternatives(&s[at..end], 0, v as u8, rules, out);
+    let o = r.room;
     o
 }
 
@@ -153,9 +156,10 @@ fn lines_check(s: &[u8], start: usize) -> Passed
 }
 
 // The second walk over the lines from a place on: their rules.
-fn lines_emit(s: &[u8], start: usize, first: Emit) -> Emit
+fn lines_emit(s: &[u8], start: usize, rules: &mut [u64; 128], first: Room) -> Room
     requires { ⌜ start ≤ length (now s) ⌝ }
-    ensures { λ r. ⌜ LinesEmitted (piecesFrom 10 (now (s .entry)) start) first r ⌝ }
+    ensures { λ r. ⌜ LinesEmitted (piecesFrom 10 (now (s .entry)) start)
+        (held (now (rules .entry)) first) (held (now (rules .exit)) r) ⌝ }
 {
     let mut out = first;
     let mut at = start;
@@ -163,7 +167,7 @@ fn lines_emit(s: &[u8], start: usize, first: Emit) -> Emit
         let c = Cursor::line(s, at);
         let end = c.end;
         if end < s.len() {
-            out = line_emit(s, c, out);
+            out = line_emit(s, c, rules, out);
             at = end + 1;
             continue;
         }
@@ -171,65 +175,31 @@ fn lines_emit(s: &[u8], start: usize, first: Emit) -> Emit
     }
 }
 
-// One rule more, where there is room.
-fn append(g: Grammar, x: Rule) -> Grammar
-    ensures { λ r. ⌜ RulesTaken (x ∷ []) g r ⌝ }
+// The rules of the first n words by rising left, 0 to 63.
+fn sorted(words: &[u64; 128], n: usize) -> Grammar
+    requires { ⌜ (n ≤ 128) × (n ≤ length (now words)) ⌝ }
+    ensures { λ r. ⌜ RulesTaken (rising 64 (take n (map wordRule (now (words .entry))))) r ⌝ }
 {
-    let mut rules = g.rules;
-    let m = g.count;
-    if m < 128 {
-        rules[m] = x;
-        return Grammar {
-            rules,
-            count: m + 1,
-        };
-    }
-    g
-}
-
-// The rules of one left, after those taken so far.
-fn taken(rules: [Rule; 128], n: usize, left: u8, first: Grammar) -> Grammar
-    requires { ⌜ n ≤ 128 ⌝ }
-    ensures { λ r. ⌜ RulesTaken (of left (take n rules)) first r ⌝ }
-{
-    let mut g = first;
-    let mut i = 0;
-    while i < n {
-        let x = rules[i];
-        if x.left == left {
-            g = append(g, x);
-            i += 1;
+    let mut rules = no_rules();
+    let mut count: usize = 0;
+    let mut left: u8 = 0;
+    let mut i: usize = 0;
+    while left < 64 {
+        if i == n {
+            left += 1;
+            i = 0;
             continue;
         }
+        let w = words[i];
         i += 1;
+        if left_of(w) == left {
+            if count < 128 {
+                rules[count] = rule_of(w);
+                count += 1;
+            }
+        }
     }
-    g
-}
-
-// The first n rules by rising left, 0 to 63, after those taken so far.
-fn sorted(rules: [Rule; 128], n: usize, first: Grammar) -> Grammar
-    requires { ⌜ n ≤ 128 ⌝ }
-    ensures { λ r. ⌜ RulesTaken (rising 64 (take n rules)) first r ⌝ }
-{
-    let mut g = first;
-    let mut left: u8 = 0;
-    while left < 64 {
-        g = taken(rules, n, left, g);
-        left += 1;
-    }
-    g
-}
-
-// No rules, and the first new nonterminal.
-fn nothing(next: u8) -> Emit
-    ensures { λ r. ⌜ (r .count ≡ 0) × (r .next ≡ next) × (r .over ≡ false) ⌝ }
-{
-    Emit {
-        rules: no_rules(),
-        count: 0,
-        next,
-        over: false,
-    }
+    Grammar { rules, count }
 }
 
 // The end of a clause sheet whose lines are so written: 43, then 7.
@@ -241,19 +211,21 @@ fn expand_from(s: &[u8], start: usize, past: usize) -> GrammarRead
     if 64 < past {
         return refuse_rules(no_rules(), Fault::ClauseMany, 0);
     }
-    let out = lines_emit(s, start, nothing(past as u8));
+    let mut rules: [u64; 128] = [0; 128];
+    let out = lines_emit(
+        s,
+        start,
+        &mut rules,
+        Room {
+            count: 0,
+            next: past as u8,
+            over: false,
+        },
+    );
     if out.over {
         return refuse_rules(no_rules(), Fault::ClauseMany, 0);
     }
-    let rules = out.rules;
-    let g = sorted(
-        rules,
-        out.count,
-        Grammar {
-            rules: no_rules(),
-            count: 0,
-        },
-    );
+    let g = sorted(&rules, out.count);
     let x = index_of(g);
     finished(g, x)
 }

@@ -1,19 +1,18 @@
 -- Rules and nonterminals added one after the other.
-use mathlib.Core.Path.{_≡_, sym, _∙_, ap}
+use mathlib.Core.Path.{_≡_, refl, sym, _∙_, ap}
 use mathlib.Core.Logic.{_⊎_, inl, inr, ⊎-elim}
 use mathlib.Core.Bool.{true, false}
-use mathlib.Core.List.{[], _∷_, _++_, append-assoc, append-nil}
-use Prim.Native.Nat.{ℕ, _+_, _≤_, _<_}
+use mathlib.Core.List.{List, [], _∷_, _++_, map, append-assoc, append-nil}
+use Prim.Native.Nat.{ℕ, zero, suc, _+_, _≤_, _<_}
 use native.Mathlib.Omega.{arith}
 use native.Mathlib.Numerals.{add-one}
-use lib.ListN.{length, take, set, length-append}
+use lib.ListN.{length, take, set, length-append, length-map, length-set}
 use lib.Seq.{take-suc-set}
 use Rattle.sets.proofs.Basics.{clash}
 use Rattle.sets.proofs.Basics.{true-or-false}
-use Rattle.grammar.specs.declared.Rule.{Rule}
 use Rattle.grammar.specs.Trees.{Rules}
-use Rattle.rule_output.specs.declared.Emit.{Emit}
-use Rattle.rule_output.specs.Emitting.{listed, Cause, Adds}
+use Rattle.rule_words.specs.Words.{wordRule}
+use Rattle.rule_output.specs.Emitting.{Emit, listed, Cause, Adds}
 
 never : {P : Type 0} → true ≡ false → P
 never e = absurd (clash cc)
@@ -26,15 +25,28 @@ adds-over e w =
       why = λ f. w;
       count = λ f. never (sym e ∙ f);
       room = λ f. never (sym e ∙ f);
+      long = λ f. never (sym e ∙ f);
       rules = λ f. never (sym e ∙ f);
       next = λ f. never (sym e ∙ f);
       low = λ f. never (sym e ∙ f);
       few = λ f. never (sym e ∙ f);
     }
 
-pub pushed : (rules : Rules) (count : ℕ) (r : Rule) → count < length rules
-    → take (count + 1) (set rules count r) ≡ take count rules ++ (r ∷ [])
-pushed rules count r h = rw add-one (take-suc-set rules count r h)
+map-set : (w : List ℕ) (i x : ℕ) → map wordRule (set w i x) ≡ set (map wordRule w) i (wordRule x)
+map-set [] i x = refl
+map-set (y ∷ w) zero x = refl
+map-set (y ∷ w) (suc i) x = ap (λ (l : Rules). wordRule y ∷ l) (map-set w i x)
+
+-- a word more behind the first `count`
+module _ (w : List ℕ) (count x : ℕ) where
+  pub set-long : length (map wordRule (set w count x)) ≡ length (map wordRule w)
+  set-long =
+      length-map (set w count x) wordRule ∙ length-set w count x ∙ sym (length-map w wordRule)
+
+  pub pushed : count < length (map wordRule w)
+      → take (count + 1) (map wordRule (set w count x))
+      ≡ take count (map wordRule w) ++ (wordRule x ∷ [])
+  pushed h = rw (add-one, map-set) (take-suc-set (map wordRule w) count (wordRule x) h)
 
 pub cause-more : (o : Emit) (k l i j : ℕ) → k ≤ i → l ≤ j → Cause o k l → Cause o i j
 cause-more o k l i j p q (inl x) = inl x
@@ -53,9 +65,10 @@ adds-then {o} {p} {q} {new} {k} {j} f a b =
           b .count z ∙ ap (λ (i : ℕ). i + length (f (p .next))) (a .count y)
           ∙ ap (λ (i : ℕ). o .count + length new + length (f i)) (a .next y) ∙ both-lengths;
       room = λ z. a .room (b .room z);
-      rules = λ z.
+      long = λ z. b .long z ∙ a .long (b .room z);
+      rules = λ z h.
           let y = b .room z in
-          b .rules z ∙ ap (λ (l : Rules). l ++ f (p .next)) (a .rules y)
+          b .rules z (rw (a .long y) h) ∙ ap (λ (l : Rules). l ++ f (p .next)) (a .rules y h)
           ∙ append-assoc (listed o) new (f (p .next))
           ∙ ap (λ (i : ℕ). listed o ++ (new ++ f i)) (a .next y);
       next = λ z. let y = b .room z in let u = a .next y in let v = b .next z in omega arith;
@@ -94,7 +107,8 @@ adds-when {o} {p} {new} {new′} {k} l e a =
       why = λ z. cause-more o k (length new) k (length new′) (omega arith) (omega arith) (a .why z);
       count = λ z. a .count z ∙ ap (λ (i : ℕ). o .count + i) l;
       room = a .room;
-      rules = λ z. a .rules z ∙ ap (λ (i : Rules). listed o ++ i) (e z);
+      long = a .long;
+      rules = λ z h. a .rules z h ∙ ap (λ (i : Rules). listed o ++ i) (e z);
       next = a .next;
       low = a .low;
       few = a .few;
@@ -106,7 +120,8 @@ adds-nothing o =
       why = λ z. inl z;
       count = λ z. omega arith;
       room = λ z. z;
-      rules = λ z. sym (append-nil (listed o));
+      long = λ z. refl;
+      rules = λ z h. sym (append-nil (listed o));
       next = λ z. omega arith;
       low = λ z h. h;
       few = λ z h. h;

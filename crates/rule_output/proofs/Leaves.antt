@@ -8,9 +8,9 @@ use Rattle.grammar.specs.Trees.{Rules}
 use Rattle.clauses.specs.Expansion.{B}
 use Rattle.lexemes.specs.declared.Lexeme.{Lexeme}
 use Rattle.lexemes.specs.declared.Lexeme.the-variants as Lexeme
-use Rattle.rule_output.specs.declared.Emit.{Emit}
 use Rattle.rule_output.specs.Signs.{sortOf, headsOf}
-use Rattle.rule_output.specs.Emitting.{Adds, CountsOn, Pushed, atomRules, tailRules, LeafRead}
+use Rattle.rule_output.specs.Emitting.{Emit, Adds, CountsOn, Pushed, atomRules, tailRules}
+use Rattle.rule_output.specs.Emitting.{LeafRead}
 use Rattle.rule_output.proofs.Adding.{adds-nothing, adds-same}
 
 pub leaf-other : (l : Lexeme) (end : ℕ) (out : Emit) (b : ℕ) → (sortOf l ≡ 0 → ⊥)

@@ -4,49 +4,46 @@ use grammar::Clause;
 use grammar::Rule;
 use grammar::UnaryMark;
 use lexemes::Lexeme;
+use rule_words::word_of;
 ghost use mathlib.Core.Path.{_≡_};
-ghost use mathlib.Core.List.{[], _∷_};
-ghost use Prim.Native.Nat.{_+_, _≤_, _<_};
+ghost use mathlib.Core.List.{List, [], _∷_};
+ghost use Prim.Native.Nat.{ℕ, _+_, _≤_, _<_};
 ghost use Rattle.grammar.specs.declared.UnaryMark.the-variants as UnaryMark;
 ghost use Rattle.lexemes.specs.declared.Lexeme.the-variants as Lexeme;
 ghost use Rattle.clauses.specs.Expansion.{U, B};
 ghost use Rattle.rule_output.specs.Signs.{headsOf};
 ghost use Rattle.rule_output.specs.Emitting.{Pushed, CountsOn, Adds, atomRules, tailRules};
-ghost use Rattle.rule_output.specs.Emitting.{LeafRead};
+ghost use Rattle.rule_output.specs.Emitting.{held, partHeld, LeafRead};
 
-// The rules met so far, the next new nonterminal, and whether there was no room for a rule or a
-// nonterminal.
-pub struct Emit {
-    pub rules: [Rule; 128],
+// What is handed on by value, while the rules stand as words behind a reference: how many there
+// are, the next new nonterminal, and whether there was no room for a rule or a nonterminal.
+pub struct Room {
     pub count: usize,
     pub next: u8,
     pub over: bool,
 }
 
-// Behind a part: the place, the part's nonterminal, and what was written.
+// Behind a part: the place, the part's nonterminal, and the room.
 pub struct Step {
     pub at: usize,
     pub name: u8,
-    pub out: Emit,
+    pub room: Room,
 }
 
 // One rule more.
-pub fn push(out: Emit, rule: Rule) -> Emit
-    ensures { λ r. ⌜ Pushed out rule r ⌝ }
+pub fn push(rules: &mut [u64; 128], out: Room, rule: Rule) -> Room
+    ensures { λ r. ⌜ Pushed (held (now (rules .entry)) out) rule (held (now (rules .exit)) r) ⌝ }
 {
     let count = out.count;
-    let mut rules = out.rules;
     if count < 128 {
-        rules[count] = rule;
-        return Emit {
-            rules,
+        rules[count] = word_of(rule);
+        return Room {
             count: count + 1,
             next: out.next,
             over: out.over,
         };
     }
-    Emit {
-        rules,
+    Room {
         count,
         next: out.next,
         over: true,
@@ -54,20 +51,17 @@ pub fn push(out: Emit, rule: Rule) -> Emit
 }
 
 // One new nonterminal more.
-pub fn fresh(out: Emit) -> Emit
-    ensures { λ r. ⌜ CountsOn out 1 r ⌝ }
+pub fn fresh(out: Room) -> Room
+    ensures { λ r. ⌜ ((w : List ℕ) → CountsOn (held w out) 1 (held w r)) ⌝ }
 {
-    let rules = out.rules;
     if out.next < 64 {
-        return Emit {
-            rules,
+        return Room {
             count: out.count,
             next: out.next + 1,
             over: out.over,
         };
     }
-    Emit {
-        rules,
+    Room {
         count: out.count,
         next: out.next,
         over: true,
@@ -95,8 +89,8 @@ fn heads(l: Lexeme) -> u8
 }
 
 // The new nonterminals of what stands after an item: they come before those of the item.
-pub fn opened(out: Emit, l: Lexeme) -> Emit
-    ensures { λ r. ⌜ CountsOn out (headsOf l) r ⌝ }
+pub fn opened(out: Room, l: Lexeme) -> Room
+    ensures { λ r. ⌜ ((w : List ℕ) → CountsOn (held w out) (headsOf l) (held w r)) ⌝ }
 {
     let k = heads(l);
     if k == 0 {
@@ -110,10 +104,12 @@ pub fn opened(out: Emit, l: Lexeme) -> Emit
 }
 
 // The rules of `?` after item b.
-fn optional(out: Emit, n: u8, b: u8) -> Emit
-    ensures { λ r. ⌜ Adds out r (tailRules Lexeme.Maybe n b) 0 ⌝ }
+fn optional(rules: &mut [u64; 128], out: Room, n: u8, b: u8) -> Room
+    ensures { λ r. ⌜ Adds (held (now (rules .entry)) out) (held (now (rules .exit)) r)
+        (tailRules Lexeme.Maybe n b) 0 ⌝ }
 {
     let p = push(
+        rules,
         out,
         Rule {
             left: n,
@@ -121,6 +117,7 @@ fn optional(out: Emit, n: u8, b: u8) -> Emit
         },
     );
     push(
+        rules,
         p,
         Rule {
             left: n,
@@ -131,12 +128,14 @@ fn optional(out: Emit, n: u8, b: u8) -> Emit
 
 // The rules of `+` and `*` after item b but the first: the repeat n goes over to its C, and C is
 // the repeat and one item more.
-fn again(out: Emit, n: u8, b: u8, m: BinaryMark) -> Emit
+fn again(rules: &mut [u64; 128], out: Room, n: u8, b: u8, m: BinaryMark) -> Room
     requires { ⌜ n < 255 ⌝ }
-    ensures { λ r. ⌜ Adds out r (U n (n + 1) UnaryMark.None ∷ B (n + 1) n b m ∷ []) 0 ⌝ }
+    ensures { λ r. ⌜ Adds (held (now (rules .entry)) out) (held (now (rules .exit)) r)
+        (U n (n + 1) UnaryMark.None ∷ B (n + 1) n b m ∷ []) 0 ⌝ }
 {
     let c = n + 1;
     let p = push(
+        rules,
         out,
         Rule {
             left: n,
@@ -144,6 +143,7 @@ fn again(out: Emit, n: u8, b: u8, m: BinaryMark) -> Emit
         },
     );
     push(
+        rules,
         p,
         Rule {
             left: c,
@@ -153,45 +153,51 @@ fn again(out: Emit, n: u8, b: u8, m: BinaryMark) -> Emit
 }
 
 // The rules of `+`.
-fn plus(out: Emit, n: u8, b: u8, m: BinaryMark) -> Emit
+fn plus(rules: &mut [u64; 128], out: Room, n: u8, b: u8, m: BinaryMark) -> Room
     requires { ⌜ n < 255 ⌝ }
-    ensures { λ r. ⌜ Adds out r (tailRules (Lexeme.Plus m) n b) 0 ⌝ }
+    ensures { λ r. ⌜ Adds (held (now (rules .entry)) out) (held (now (rules .exit)) r)
+        (tailRules (Lexeme.Plus m) n b) 0 ⌝ }
 {
     let p = push(
+        rules,
         out,
         Rule {
             left: n,
             clause: Clause::Unary(b, UnaryMark::None),
         },
     );
-    again(p, n, b, m)
+    again(rules, p, n, b, m)
 }
 
 // The rules of `*`.
-fn star(out: Emit, n: u8, b: u8, m: BinaryMark) -> Emit
+fn star(rules: &mut [u64; 128], out: Room, n: u8, b: u8, m: BinaryMark) -> Room
     requires { ⌜ n < 255 ⌝ }
-    ensures { λ r. ⌜ Adds out r (tailRules (Lexeme.Star m) n b) 0 ⌝ }
+    ensures { λ r. ⌜ Adds (held (now (rules .entry)) out) (held (now (rules .exit)) r)
+        (tailRules (Lexeme.Star m) n b) 0 ⌝ }
 {
     let p = push(
+        rules,
         out,
         Rule {
             left: n,
             clause: Clause::Empty,
         },
     );
-    again(p, n, b, m)
+    again(rules, p, n, b, m)
 }
 
 // The rules of what stands after item b.
-pub fn tail(out: Emit, l: Lexeme, n: u8, b: u8) -> Emit
+pub fn tail(rules: &mut [u64; 128], out: Room, l: Lexeme, n: u8, b: u8) -> Room
     requires { ⌜ n + headsOf l ≤ 255 ⌝ }
-    ensures { λ r. ⌜ Adds out r (tailRules l n b) 0 ⌝ }
+    ensures { λ r. ⌜ Adds (held (now (rules .entry)) out) (held (now (rules .exit)) r)
+        (tailRules l n b) 0 ⌝ }
 {
     match l {
-        Lexeme::Maybe => optional(out, n, b),
-        Lexeme::Plus(m) => plus(out, n, b, m),
-        Lexeme::Star(m) => star(out, n, b, m),
+        Lexeme::Maybe => optional(rules, out, n, b),
+        Lexeme::Plus(m) => plus(rules, out, n, b, m),
+        Lexeme::Star(m) => star(rules, out, n, b, m),
         Lexeme::Marked(m) => push(
+            rules,
             out,
             Rule {
                 left: n,
@@ -210,12 +216,14 @@ pub fn tail(out: Emit, l: Lexeme, n: u8, b: u8) -> Emit
 }
 
 // A terminal's rule.
-fn atomic(out: Emit, a: u8) -> Emit
-    ensures { λ r. ⌜ Adds out r (atomRules (out .next) a) 1 ⌝ }
+fn atomic(rules: &mut [u64; 128], out: Room, a: u8) -> Room
+    ensures { λ r. ⌜ Adds (held (now (rules .entry)) out) (held (now (rules .exit)) r)
+        (atomRules (out .next) a) 1 ⌝ }
 {
     let n = out.next;
     let o = fresh(out);
     push(
+        rules,
         o,
         Rule {
             left: n,
@@ -225,73 +233,74 @@ fn atomic(out: Emit, a: u8) -> Emit
 }
 
 // An item that is no group.
-pub fn leaf(l: Lexeme, end: usize, out: Emit) -> Step
-    ensures { λ r. ⌜ LeafRead l end out r ⌝ }
+pub fn leaf(l: Lexeme, end: usize, rules: &mut [u64; 128], out: Room) -> Step
+    ensures { λ r. ⌜ LeafRead l end (held (now (rules .entry)) out)
+        (partHeld (now (rules .exit)) r) ⌝ }
 {
     let n = out.next;
     match l {
         Lexeme::Nonterminal(a) => Step {
             at: end,
             name: a,
-            out,
+            room: out,
         },
         Lexeme::Terminal(a) => {
-            let o = atomic(out, a);
+            let o = atomic(rules, out, a);
             Step {
                 at: end,
                 name: n,
-                out: o,
+                room: o,
             }
         }
         Lexeme::Open => Step {
             at: end,
             name: n,
-            out,
+            room: out,
         },
         Lexeme::Close => Step {
             at: end,
             name: n,
-            out,
+            room: out,
         },
         Lexeme::Bar => Step {
             at: end,
             name: n,
-            out,
+            room: out,
         },
         Lexeme::Maybe => Step {
             at: end,
             name: n,
-            out,
+            room: out,
         },
         Lexeme::Plus(_) => Step {
             at: end,
             name: n,
-            out,
+            room: out,
         },
         Lexeme::Star(_) => Step {
             at: end,
             name: n,
-            out,
+            room: out,
         },
         Lexeme::Marked(_) => Step {
             at: end,
             name: n,
-            out,
+            room: out,
         },
         Lexeme::Join(_) => Step {
             at: end,
             name: n,
-            out,
+            room: out,
         },
         Lexeme::End => Step {
             at: end,
             name: n,
-            out,
+            room: out,
         },
         Lexeme::Not => Step {
             at: end,
             name: n,
-            out,
+            room: out,
         },
     }
 }

@@ -67,27 +67,26 @@ alternatives-requires c κs = search needs
 returns-4 : tie.Need-returns-4
 returns-4 c =
     emitted-as _ _ _ _ _ _
-    (behind (c .before .before .before .before .before .before .before .before .before .before .args
+    (behind (c .before .before .before .before .before .before .before .before .before .before
+    .before .args
     .s .now) (c .before .before .before .before .before .before .before .before .before .before
-    .args .c) (c .before .before .before .before .before .before .before .before .before
-    .before .pre) _ _ (split (c .before .before .before .before .before .before .before
-    .before .before .before .args .s .now)
-    (c .before .before .before .before .before .before .before .before .before
-    .before .args .c) (c .before .before .before .before .before .before
-    .before .before .before .before .pre) _ _
-    (sym (c .before .before .before .before .before .before .v
-    .given .1) ∙ c .before .before .before .before .before
-    .before .before .before .number .ensures))
+    .before .args .c) (c .before .before .before .before .before .before .before .before .before
+    .before .before .pre) _ _ (split
+    (c .before .before .before .before .before .before .before .before .before .before .before
+    .args .s .now)
+    (c .before .before .before .before .before .before .before .before .before .before .before .args
+    .c) (c .before .before .before .before .before .before .before .before .before .before
+    .before .pre) _ _
+    (sym (c .before .before .before .before .before .before .before .v
+    .given .1) ∙ c .before .before .before .before .before .before .before .before .before .number
+    .ensures))
     (omega (
       arith,
-      c .before .before .before .before
-          .if1 .left,
+      c .before .before .before .before .before .if1 .left,
     )) (omega (
       arith,
-      c .before .before
-          .before .if2 .left,
-    ))) (c .before
-    .alternatives .ensures) refl
+      c .before .before .before .before .if2 .left,
+    ))) (c .before .alternatives .ensures) refl
 
 pub line-emit-spec : {M : Type 1} → statement M
 line-emit-spec =

@@ -1,47 +1,144 @@
--- `sorted` meets its contract.
-use Rattle.clauses.specs.Expansion.{rising}
-use Rattle.clause_sheets.specs.Checks.{RulesTaken}
-use Rattle.clause_sheets.proofs.Takes.{taken-none, taken-more, taken-by, rising-step}
-use Rattle.clause_sheets.proofs.Takes.{rising-all}
-use borrow.Author.Needs.{needs}
-use lib.ListN.{take}
+-- `sorted` meets its contract: the measure falls with the left, then with what is left of the
+-- words.
+use Prim.Native.Nat.{_+_, _*_, _-_}
+use mathlib.Core.Path.{sym, _∙_}
 use native.Mathlib.Omega.{arith}
-use Prim.Native.Nat.{_-_, _≤_}
-use mathlib.Core.Path.{sym}
+use borrow.Author.Needs.{needs}
+use Rattle.clause_sheets.proofs.Takes.{Taking, taking-start, taking-next, taking-end}
+use Rattle.clause_sheets.proofs.Takes.{taking-miss, taking-full, taking-hit}
 use Rattle.clause_sheets.proofs.sorted.Statement.{statement}
 use Rattle.clause_sheets.proofs.sorted.Tie as tie
 
 abbrev Inv-loop : tie.InvT-loop
-Inv-loop rules n g₀ left₀ g left = (left ≤ 64) × RulesTaken (rising left (take n rules)) g₀ g
+Inv-loop words n rules₀ count₀ left₀ i₀ rules count left i =
+    Taking words n rules count left i
 
 abbrev μ-loop : tie.MeasureT-loop
-μ-loop rules n g₀ left₀ g left = 64 - left
+μ-loop words n rules₀ count₀ left₀ i₀ rules count left i = 129 * (64 - left) + (128 - i)
+
+no-rules-requires : tie.Need-no-rules-requires Inv-loop μ-loop
+no-rules-requires c κs = search needs
 
 loop-holds : tie.Need-loop-holds Inv-loop μ-loop
-loop-holds c = (omega arith, taken-none _)
-
-taken-requires : tie.Need-taken-requires Inv-loop μ-loop
-taken-requires c κs = c .before .before .pre
+loop-holds c = taking-start _ _ _ (search needs)
 
 add-left : tie.Need-add-left Inv-loop μ-loop
 add-left c = search needs
 
 loop-less : tie.Need-loop-less Inv-loop μ-loop
-loop-less c = omega (arith, c .before .loop-test .taken)
+loop-less c = let z = c .before .before .loop .inv in
+    omega (arith, z .few, c .before .loop-test .taken, c .before .before .before .before .pre)
 
 loop-again : tie.Need-loop-again Inv-loop μ-loop
-loop-again c =
-    let l = c .before .before .loop in (
-      omega (arith, c .before .loop-test .taken),
-      taken-by _ _ _ _ (sym (rising-step (l .left) _))
-          (taken-more _ _ _ _ _ (l .inv .1) (c .taken .ensures)),
+loop-again c = taking-next (c .before .before .loop .inv) (c .before .loop-test .taken)
+    (c .if1 .taken)
+
+mul-w : tie.Need-mul-w Inv-loop μ-loop
+mul-w c = let z = c .before .before .loop .inv in
+    omega (arith, z .few, c .before .before .before .before .pre)
+
+element-copy-out-w : tie.Need-element-copy-out-w Inv-loop μ-loop
+element-copy-out-w c = let z = c .before .before .loop .inv in
+    omega (arith, z .few, c .if1 .left, c .before .before .before .before .pre)
+
+add-i : tie.Need-add-i Inv-loop μ-loop
+add-i c = let z = c .before .before .before .loop .inv in
+    omega (arith, z .few, c .before .before .before .before .before .pre)
+
+left-of-requires : tie.Need-left-of-requires Inv-loop μ-loop
+left-of-requires c κs = search needs
+
+rule-of-requires : tie.Need-rule-of-requires Inv-loop μ-loop
+rule-of-requires c κs = search needs
+
+mul-rules : tie.Need-mul-rules Inv-loop μ-loop
+mul-rules c = search needs
+
+array-set-from-rules : tie.Need-array-set-from-rules Inv-loop μ-loop
+array-set-from-rules c = search needs
+
+add-count : tie.Need-add-count Inv-loop μ-loop
+add-count c = search needs
+
+loop-less-2 : tie.Need-loop-less-2 Inv-loop μ-loop
+loop-less-2 c = let z = c .before .before .before .before .before .before .before .loop .inv in
+    omega (
+      arith,
+      z .few,
+      c .before .before .before .before .before .if1 .left,
+      c .before .before
+          .before .before .before .before .before .before .before .pre,
     )
 
+loop-again-2 : tie.Need-loop-again-2 Inv-loop μ-loop
+loop-again-2 c = let z = c .before .before .before .before .before .before .before .loop .inv in
+    taking-hit z (c .before .before .before .before .before .before .loop-test .taken)
+    (omega (arith, z .few, c .before .before .before .before .before .if1 .left))
+    (c .before .before .before .before .before .before .before .before .before .pre .1) _
+    (sym (c .before .before .before .left-of .ensures) ∙ c .before .before .if2 .taken)
+    (c .before .if3 .taken) (c .rule-of .ensures)
+
+loop-less-3 : tie.Need-loop-less-3 Inv-loop μ-loop
+loop-less-3 c = let z = c .before .before .before .before .before .before .loop .inv in
+    omega (
+      arith,
+      z .few,
+      c .before .before .before .before .if1 .left,
+      c .before .before .before
+          .before .before .before .before .before .pre,
+    )
+
+loop-again-3 : tie.Need-loop-again-3 Inv-loop μ-loop
+loop-again-3 c = let z = c .before .before .before .before .before .before .loop .inv in
+    taking-full z (c .before .before .before .before .before .loop-test .taken)
+    (omega (arith, z .few, c .before .before .before .before .if1 .left))
+    (c .before .before .before .before .before .before .before .before .pre .1)
+    (sym (c .before .before .left-of .ensures) ∙ c .before .if2 .taken)
+    (omega (arith, c .if3 .left))
+
+loop-less-4 : tie.Need-loop-less-4 Inv-loop μ-loop
+loop-less-4 c = let z = c .before .before .before .before .before .loop .inv in
+    omega (
+      arith,
+      z .few,
+      c .before .before .before .if1 .left,
+      c .before .before .before .before
+          .before .before .before .pre,
+    )
+
+loop-again-4 : tie.Need-loop-again-4 Inv-loop μ-loop
+loop-again-4 c = let z = c .before .before .before .before .before .loop .inv in
+    taking-miss z (c .before .before .before .before .loop-test .taken)
+    (omega (arith, z .few, c .before .before .before .if1 .left))
+    (c .before .before .before .before .before .before .before .pre .1)
+    (λ y. c .if2 .left (c .before .left-of .ensures ∙ y))
+
 returns : tie.Need-returns Inv-loop μ-loop
-returns c = let l = c .before .loop in
-    rising-all (l .left) _ _ _ (l .inv .0) (omega (arith, c .loop-test .left)) (l .inv .1)
+returns c = taking-end (c .before .loop .inv) (omega (arith, c .loop-test .left))
 
 pub sorted-spec : {M : Type 1} → statement M
 sorted-spec =
     tie.close
-    (tie.spec Inv-loop μ-loop loop-holds taken-requires add-left loop-less loop-again returns)
+    (tie.spec
+    Inv-loop
+    μ-loop
+    no-rules-requires
+    loop-holds
+    add-left
+    loop-less
+    loop-again
+    mul-w
+    element-copy-out-w
+    add-i
+    left-of-requires
+    rule-of-requires
+    mul-rules
+    array-set-from-rules
+    add-count
+    loop-less-2
+    loop-again-2
+    loop-less-3
+    loop-again-3
+    loop-less-4
+    loop-again-4
+    returns)

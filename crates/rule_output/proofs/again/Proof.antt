@@ -14,7 +14,7 @@ push-requires-2 : tie.Need-push-requires-2
 push-requires-2 c κs = search needs
 
 returns : tie.Need-returns
-returns c = adds-also (c .before .push .ensures) (c .push2 .ensures)
+returns c = adds-also (c .before .before .push .ensures) (c .push2 .ensures)
 
 pub again-spec : {M : Type 1} → statement M
 again-spec = tie.close (tie.spec add-c push-requires push-requires-2 returns)

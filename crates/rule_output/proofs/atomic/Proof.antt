@@ -11,7 +11,8 @@ push-requires : tie.Need-push-requires
 push-requires c κs = search needs
 
 returns : tie.Need-returns
-returns c = adds-also (c .before .fresh .ensures) (c .push .ensures)
+returns c = adds-also (c .before .before .fresh .ensures
+    (c .before .before .before .args .rules .now)) (c .push .ensures)
 
 pub atomic-spec : {M : Type 1} → statement M
 atomic-spec = tie.close (tie.spec fresh-requires push-requires returns)

@@ -50,7 +50,7 @@ returns : tie.Need-returns
 returns c = leaf-nonterminal _ _ _ _ (c .before .l .given .1)
 
 returns-2 : tie.Need-returns-2
-returns-2 c = leaf-terminal _ _ _ _ _ (c .before .before .l2 .given .1) (c .atomic .ensures)
+returns-2 c = leaf-terminal _ _ _ _ _ (c .before .before .before .l2 .given .1) (c .atomic .ensures)
 
 returns-3 : tie.Need-returns-3
 returns-3 c = leaf-other _ _ _ _ (λ z. let y = ap sortOf (c .enum-told .given .1) in omega arith)

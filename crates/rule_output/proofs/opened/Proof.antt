@@ -2,6 +2,7 @@
 use mathlib.Core.Path.{sym, _∙_}
 use Rattle.rule_output.proofs.Adding.{adds-nothing, adds-also}
 use Rattle.rule_output.proofs.Leaves.{heads-two, counts-by}
+use Rattle.rule_output.specs.Emitting.{held}
 use borrow.Author.Needs.{needs}
 use Rattle.rule_output.proofs.opened.Statement.{statement}
 use Rattle.rule_output.proofs.opened.Tie as tie
@@ -10,27 +11,28 @@ heads-requires : tie.Need-heads-requires
 heads-requires c κs = search needs
 
 returns : tie.Need-returns
-returns c =
-    counts-by _ _ 0 _ (sym (sym (c .before .heads .ensures) ∙ c .if1 .taken)) (adds-nothing _)
+returns c w =
+    counts-by _ _ 0 _ (sym (sym (c .before .heads .ensures) ∙ c .if1 .taken))
+    (adds-nothing (held w (c .before .before .args .out)))
 
 fresh-requires : tie.Need-fresh-requires
 fresh-requires c κs = search needs
 
 returns-2 : tie.Need-returns-2
-returns-2 c = let h = c .before .before .before in
-    counts-by _ _ 1 _ (sym (sym (h .heads .ensures) ∙ c .if2 .taken)) (c .before .fresh .ensures)
+returns-2 c w = let h = c .before .before .before in
+    counts-by _ _ 1 _ (sym (sym (h .heads .ensures) ∙ c .if2 .taken)) (c .before .fresh .ensures w)
 
 fresh-requires-2 : tie.Need-fresh-requires-2
 fresh-requires-2 c κs = search needs
 
 returns-3 : tie.Need-returns-3
-returns-3 c =
+returns-3 c w =
     let h = c .before .before .before .before .heads .ensures in
     let i = c .before .before .before .if1 .left in
     let j = c .before .if2 .left in
     counts-by _ _ 2 _ (sym (heads-two (c .before .before .before .before .before .args .l)
     (λ z. i (h ∙ z)) (λ z. j (h ∙ z))))
-    (adds-also (c .before .before .fresh .ensures) (c .fresh2 .ensures))
+    (adds-also (c .before .before .fresh .ensures w) (c .fresh2 .ensures w))
 
 pub opened-spec : {M : Type 1} → statement M
 opened-spec =
