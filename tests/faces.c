@@ -692,7 +692,8 @@ static void threads(void)
 /* A large sheet that loops, a long sentence and a long sweep, for the stack; their memory is not on it. */
 static char big_rules[4000], big_tokens[2000], big_ranges[2000], big_sweep[400];
 static uint64_t big_words[TEPLONGA_ALWAYS_WORDS], big_found[TEPLONGA_FOUND], big_counts[TEPLONGA_COUNTS], big_numbers[3];
-/* Groups in groups and a long sequence in the innermost: the readers of clauses call each other most deeply. */
+/* Groups in groups and a long sequence in the innermost: the readers of clauses call each other most deeply.
+   It has as many nonterminals as there may be. */
 static char big_clauses[400];
 static const uint8_t big_rights[] = RIGHTS "5 0 63 change\n", big_lay[] = "single";
 static uint8_t big_first[16384], big_second[16384], big_list[49152];
@@ -713,7 +714,7 @@ static void make_big(void)
     for (int i = 0; i < 15; i++)
         strcat(big_clauses, "(n0 ");
     strcat(big_clauses, "(n0");
-    for (int i = 0; i < 60; i++)
+    for (int i = 0; i < 31; i++)
         strcat(big_clauses, " n0");
     for (int i = 0; i < 16; i++)
         strcat(big_clauses, ")");
@@ -795,8 +796,8 @@ static const struct {
     size_t most;
 } stated[] = {
     { "verdict", 110 },      { "trees", 360 },   { "sweep", 60 },  { "rows", 360 },  { "places", 190 },
-    { "clause_trees", 800 }, { "expand", 800 },  { "columns", 200 }, { "show", 360 }, { "change", 20 },
-    { "share", 60 },         { "always", 60 },   { "clause_always", 800 }, { "refused_line", 20 },
+    { "clause_trees", 360 }, { "expand", 40 },   { "columns", 200 }, { "show", 360 }, { "change", 20 },
+    { "share", 60 },         { "always", 60 },   { "clause_always", 60 }, { "refused_line", 20 },
 };
 
 static void stacks(void)
