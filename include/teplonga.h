@@ -41,7 +41,7 @@ extern "C" {
 #define TEPLONGA_VERSION "0.1.0"
 
 /* The bytes of stack that are enough for any call. */
-#define TEPLONGA_STACK 1048576
+#define TEPLONGA_STACK 524288
 
 /*
  * Each call but teplonga_merge and those for a refused line answers one number: the answer's code
