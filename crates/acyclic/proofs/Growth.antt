@@ -17,15 +17,16 @@ use Rattle.grammar.specs.Content.{rules, SmallRule, Formed}
 use Rattle.grammar.proofs.Lists.{mem-every}
 use Rattle.grammar.proofs.ChoiceLaws.{member-at, place-of}
 use Rattle.grammar.proofs.ByKind.{getElem?-lt}
-use Rattle.acyclic.specs.Passes.{Grown, Passed}
+use Rattle.acyclic.specs.Passes.{Extended, RulesPassed}
 use Rattle.sets.specs.Insertion.{insert}
 
 -- nothing is added
-pub grown-none : {P : ℕ → Type 0} {s : ℕ} → ((Y : ℕ) → P Y → In s Y) → Grown P s s
+pub grown-none : {P : ℕ → Type 0} {s : ℕ} → ((Y : ℕ) → P Y → In s Y) → Extended P s s
 grown-none {s = s} h = record { more = le-refl s; keeps = λ Y i. i; adds = h; only = λ Y i. inl i }
 
 -- a alone is added
-pub grown-with : {P : ℕ → Type 0} (s a : ℕ) → P a → ((Y : ℕ) → P Y → a ≡ Y) → Grown P s (insert s a)
+pub grown-with : {P : ℕ → Type 0} (s a : ℕ) → P a → ((Y : ℕ) → P Y → a ≡ Y)
+    → Extended P s (insert s a)
 grown-with {P} s a p h =
     record {
       more = insert-ge s a;
@@ -34,8 +35,8 @@ grown-with {P} s a p h =
       only = λ Y i. ⊎-elim inl (λ e. inr (rw e p)) (insert-only s a Y i);
     }
 
-pub grown-both : {P Q R : ℕ → Type 0} {s t u : ℕ} → Grown P s t → Grown Q t u
-    → ((Y : ℕ) → R Y → P Y ⊎ Q Y) → ((Y : ℕ) → P Y ⊎ Q Y → R Y) → Grown R s u
+pub grown-both : {P Q R : ℕ → Type 0} {s t u : ℕ} → Extended P s t → Extended Q t u
+    → ((Y : ℕ) → R Y → P Y ⊎ Q Y) → ((Y : ℕ) → P Y ⊎ Q Y → R Y) → Extended R s u
 grown-both x y to from =
     record {
       more = omega (arith, x .more, y .more);
@@ -45,8 +46,8 @@ grown-both x y to from =
           (λ q. inr (from Y (inr q))) (y .only Y i);
     }
 
-pub grown-map : {P Q : ℕ → Type 0} {s t : ℕ} → Grown P s t → ((Y : ℕ) → P Y → Q Y)
-    → ((Y : ℕ) → Q Y → P Y) → Grown Q s t
+pub grown-map : {P Q : ℕ → Type 0} {s t : ℕ} → Extended P s t → ((Y : ℕ) → P Y → Q Y)
+    → ((Y : ℕ) → Q Y → P Y) → Extended Q s t
 grown-map x f h =
     record {
       more = x .more;
@@ -57,15 +58,15 @@ grown-map x f h =
     }
 
 module _ {Adds : ℕ → Rule → ℕ → Type 0} {P : ℕ → Type 0} {g : Rules} where
-  pub passed-none : (s : ℕ) → Passed Adds P g 0 s s
+  pub passed-none : (s : ℕ) → RulesPassed Adds P g 0 s s
   passed-none s =
       record { more = le-refl s; sound = λ h. h; still = λ e q l r st Y a. absurd (omega arith) }
 
   -- one rule more: what it adds to a set whose members have P has P
   pub passed-more : ((s : ℕ) → ((Y : ℕ) → In s Y → P Y) → (r : Rule) → List·Memᴰ r g → (Y : ℕ)
       → Adds s r Y → P Y)
-      → {p s t u : ℕ} (r : Rule) → getElem? g p ≡ some r → Passed Adds P g p s t
-      → Grown (Adds t r) t u → Passed Adds P g (p + 1) s u
+      → {p s t u : ℕ} (r : Rule) → getElem? g p ≡ some r → RulesPassed Adds P g p s t
+      → Extended (Adds t r) t u → RulesPassed Adds P g (p + 1) s u
   passed-more sound {p} {s} {t} {u} r st x y =
       record {
         more = omega (arith, x .more, y .more);
@@ -89,7 +90,7 @@ module _ {Adds : ℕ → Rule → ℕ → Type 0} {P : ℕ → Type 0} {g : Rule
           go (no j) = x .still same q (omega arith) r′ st′ Y a
 
   -- a pass over all rules that added nothing: the set is closed
-  pub passed-all : {n s t : ℕ} → Passed Adds P g n s t → length g ≡ n → t ≡ s → (r : Rule)
+  pub passed-all : {n s t : ℕ} → RulesPassed Adds P g n s t → length g ≡ n → t ≡ s → (r : Rule)
       → List·Memᴰ r g → (Y : ℕ) → Adds s r Y → In s Y
   passed-all x l e r m =
       let w = place-of m in

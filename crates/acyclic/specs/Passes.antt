@@ -11,7 +11,7 @@ use Rattle.grammar.specs.declared.Clause.the-variants as Clause
 use Rattle.grammar.specs.Trees.{Rules}
 
 -- t is the set s with those besides that have P
-pub record Grown (P : ℕ → Type 0) (s t : ℕ) : Type 0 where
+pub record Extended (P : ℕ → Type 0) (s t : ℕ) : Type 0 where
   pub more : s ≤ t
   pub keeps : (Y : ℕ) → In s Y → In t Y
   pub adds : (Y : ℕ) → P Y → In t Y
@@ -19,7 +19,8 @@ pub record Grown (P : ℕ → Type 0) (s t : ℕ) : Type 0 where
 
 -- the first p of the rules g, each adding `Adds`, led from s to t: the members have P if those of s
 -- have it, and where t is s no rule adds to s
-pub record Passed (Adds : ℕ → Rule → ℕ → Type 0) (P : ℕ → Type 0) (g : Rules) (p s t : ℕ) : Type
+pub record RulesPassed (Adds : ℕ → Rule → ℕ → Type 0) (P : ℕ → Type 0) (g : Rules)
+    (p s t : ℕ) : Type
     0 where
   pub more : s ≤ t
   pub sound : ((Y : ℕ) → In s Y → P Y) → (Y : ℕ) → In t Y → P Y

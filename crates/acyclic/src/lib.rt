@@ -10,7 +10,8 @@ ghost use Rattle.grammar.specs.Content.{rules, SmallClause, SmallRule, Formed};
 ghost use mathlib.Core.Path.{_≡_};
 ghost use Prim.Native.Nat.{_<_};
 ghost use Rattle.acyclic.specs.Exact.{Exactly};
-ghost use Rattle.acyclic.specs.Passes.{Grown, Passed, Ready, AddsLeft, LeadsTo, AddsTargets};
+ghost use Rattle.acyclic.specs.Passes.{Extended, RulesPassed, Ready, AddsLeft, LeadsTo};
+ghost use Rattle.acyclic.specs.Passes.{AddsTargets};
 
 // Do members of the set make the clause's word empty?
 pub fn ready(set: u64, c: Clause) -> bool
@@ -33,7 +34,7 @@ pub fn ready(set: u64, c: Clause) -> bool
 // The set with the rule's left besides, where members make its clause's word empty.
 fn with_left(set: u64, r: Rule) -> u64
     requires { ⌜ SmallRule r ⌝ }
-    ensures { λ t. ⌜ Grown (AddsLeft set r) set t ⌝ }
+    ensures { λ t. ⌜ Extended (AddsLeft set r) set t ⌝ }
 {
     let left = r.left;
     let c = r.clause;
@@ -46,7 +47,7 @@ fn with_left(set: u64, r: Rule) -> u64
 // One pass over the rules towards the nullable nonterminals.
 fn null_pass(g: Grammar, set: u64) -> u64
     requires { ⌜ Formed g ⌝ }
-    ensures { λ r. ⌜ Passed AddsLeft (Nullable (rules g)) (rules g) (g .count) set r ⌝ }
+    ensures { λ r. ⌜ RulesPassed AddsLeft (Nullable (rules g)) (rules g) (g .count) set r ⌝ }
 {
     let count = g.count;
     let mut next = set;
@@ -77,7 +78,7 @@ pub fn nullables(g: Grammar) -> u64
 // The set with b besides, where d is nullable.
 fn beside(nulls: u64, d: u8, set: u64, b: u8) -> u64
     requires { ⌜ (d < 64) × (b < 64) ⌝ }
-    ensures { λ r. ⌜ Grown (λ y. (b ≡ y) × In nulls d) set r ⌝ }
+    ensures { λ r. ⌜ Extended (λ y. (b ≡ y) × In nulls d) set r ⌝ }
 {
     if sets::has(nulls, d) {
         return sets::with(set, b);
@@ -88,7 +89,7 @@ fn beside(nulls: u64, d: u8, set: u64, b: u8) -> u64
 // The set with the nonterminals besides that a rule with this clause has edges to.
 fn with_targets(nulls: u64, set: u64, c: Clause) -> u64
     requires { ⌜ SmallClause c ⌝ }
-    ensures { λ r. ⌜ Grown (LeadsTo nulls c) set r ⌝ }
+    ensures { λ r. ⌜ Extended (LeadsTo nulls c) set r ⌝ }
 {
     match c {
         Clause::Empty => set,
@@ -104,7 +105,7 @@ fn with_targets(nulls: u64, set: u64, c: Clause) -> u64
 // The set with those that the rule has edges to besides, where its left is a or a member.
 fn spread(nulls: u64, a: u8, set: u64, r: Rule) -> u64
     requires { ⌜ SmallRule r ⌝ }
-    ensures { λ t. ⌜ Grown (AddsTargets nulls a set r) set t ⌝ }
+    ensures { λ t. ⌜ Extended (AddsTargets nulls a set r) set t ⌝ }
 {
     let left = r.left;
     let c = r.clause;
@@ -120,7 +121,8 @@ fn spread(nulls: u64, a: u8, set: u64, r: Rule) -> u64
 // One pass over the rules towards what chains from a reach.
 fn reach_pass(g: Grammar, nulls: u64, a: u8, set: u64) -> u64
     requires { ⌜ Formed g × Exactly nulls (Nullable (rules g)) ⌝ }
-    ensures { λ r. ⌜ Passed (AddsTargets nulls a) (Chain (rules g) a) (rules g) (g .count) set r ⌝ }
+    ensures { λ r. ⌜ RulesPassed (AddsTargets nulls a) (Chain (rules g) a) (rules g) (g .count) set
+        r ⌝ }
 {
     let count = g.count;
     let mut next = set;

@@ -6,7 +6,7 @@ use clause_sheets::read_clauses;
 use grammar::Grammar;
 use list_answers::ListReply;
 use list_answers::list_reply;
-use lists::give;
+use lists::put_list;
 use printing::put_bytes;
 use rule_text::put_rules;
 use sheets::Answer;
@@ -67,7 +67,7 @@ fn expanded(g: Grammar, out: &mut [u8]) -> ListReply
     let mut sheet = [0u8; 4096];
     let n = put_bytes(&mut sheet, 0, b"left kind first second lay\n");
     let m = put_rules(&mut sheet, n, g);
-    let l = give(out, &sheet[..m]);
+    let l = put_list(out, &sheet[..m]);
     list_reply(Answer::Given, l)
 }
 

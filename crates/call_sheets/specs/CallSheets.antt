@@ -128,7 +128,8 @@ broken (x ∷ f) = eqb x 10 || broken f
 -- user, rule, and any one field in the line, of no bytes too: where it begins in a sheet of m bytes
 abbrev pub changeEnd : ℕ → ℕ → ℕ → List (List ℕ) → Call
 changeEnd m u r [] = Call.Not
-changeEnd m u r (f ∷ []) = cond (broken f) Call.Not (onTwo (TwoSheets.Change u r (m - 1 - length f)))
+changeEnd m u r (f ∷ []) =
+    cond (broken f) Call.Not (onTwo (TwoSheets.Change u r (m - 1 - length f)))
 changeEnd m u r (f ∷ g ∷ fs) = Call.Not
 
 abbrev pub changeSecond : ℕ → ℕ → List (List ℕ) → Call

@@ -28,7 +28,7 @@ use Rattle.chart.specs.declared.Verdict.the-variants as Verdict
 use Rattle.tables.specs.Tables.{One, Two, byTokens, Stand, Again}
 use Rattle.chart.specs.Leaves.{Allows, LeafAt, May}
 use Rattle.tables.specs.Settled.{Told, Settled, Ground}
-use Rattle.chart.specs.Filling.{Closed, Given, Passed, Filled, Grown}
+use Rattle.chart.specs.Filling.{Closed, Given, SpanPassed, Filled, FilledFrom}
 use Rattle.chart.specs.Sheets.{Exact, Begun, Ready, Meets, CoversMet, Charted, Judged}
 use Rattle.chart.specs.Sheets.{Hopeless, Settles}
 use Rattle.tables.proofs.Completeness.{complete, same}
@@ -126,7 +126,7 @@ begun ws g h n from to distinct inner r = record { done = done }
     small a b x (no e) (no k) = subst (Settled (One ws n) (Two ws n) g h a)
         (let z : 1 ≡ b = omega arith in z) (given-settled (One ws n) (Two ws n) g h a (omega arith))
 
-    done : (a b : ℕ) → a + b ≤ n → Passed from to (n + 1) a b
+    done : (a b : ℕ) → a + b ≤ n → SpanPassed from to (n + 1) a b
         → Settled (One ws n) (Two ws n) g h a b
     done a b fit (inl x) = exact-settled ws g h n from distinct inner (r .low) (r .right) a b x
     done a b fit (inr (inl x)) = small a b x (ℕ-discrete b 0) (decLt a (h .known))
@@ -142,7 +142,7 @@ module _ (ws : List ℕ) (g : Rules) (h : Half) (n from s : ℕ) where
       above a x (yes y) = inl y
       above a x (no y) = inr (omega arith)
 
-      go : (a b : ℕ) → a + b ≤ n → Passed from s 2 a b → Passed from (s + 1) (n + 1) a b
+      go : (a b : ℕ) → a + b ≤ n → SpanPassed from s 2 a b → SpanPassed from (s + 1) (n + 1) a b
       go a b q (inl x) = inl x
       go a b q (inr (inl x)) = inr (inl x)
       go a b q (inr (inr (inl x))) = ⊎-elim (λ y. inr (inr (inl y)))
@@ -154,11 +154,11 @@ module _ (ws : List ℕ) (g : Rules) (h : Half) (n from s : ℕ) where
       → Filled ws g h n from s (len + 1)
   filled-pass len low f = record { done = λ a b q d. f .done a b q (go a b d) }
     where
-      at : (a b : ℕ) → a ≡ s → b < len + 1 → Dec (b < len) → Passed from s len a b
+      at : (a b : ℕ) → a ≡ s → b < len + 1 → Dec (b < len) → SpanPassed from s len a b
       at a b x l (yes y) = inr (inr (inr (x, y)))
       at a b x l (no y) = inl (omega arith)
 
-      go : (a b : ℕ) → Passed from s (len + 1) a b → Passed from s len a b
+      go : (a b : ℕ) → SpanPassed from s (len + 1) a b → SpanPassed from s len a b
       go a b (inl x) = inl x
       go a b (inr (inl x)) = inr (inl x)
       go a b (inr (inr (inl x))) = inr (inr (inl x))
@@ -169,7 +169,7 @@ module _ (ws : List ℕ) (g : Rules) (h : Half) (n from s : ℕ) where
       → Filled ws g h n from s (n + 1)
   filled-end len far f = record { done = λ a b q d. f .done a b q (go a b q d) }
     where
-      go : (a b : ℕ) → a + b ≤ n → Passed from s (n + 1) a b → Passed from s len a b
+      go : (a b : ℕ) → a + b ≤ n → SpanPassed from s (n + 1) a b → SpanPassed from s len a b
       go a b q (inl x) = inl x
       go a b q (inr (inl x)) = inr (inl x)
       go a b q (inr (inr (inl x))) = inr (inr (inl x))
@@ -180,7 +180,7 @@ module _ (ws : List ℕ) (g : Rules) (h : Half) (n from s : ℕ) where
   filled-ground len fit f =
       record { parts = λ a b x y l. f .done a b (omega arith) (go a b x l (ℕ-discrete a s)) }
     where
-      go : (a b : ℕ) → s ≤ a → b < len → Dec (a ≡ s) → Passed from s len a b
+      go : (a b : ℕ) → s ≤ a → b < len → Dec (a ≡ s) → SpanPassed from s len a b
       go a b x l (yes e) = inr (inr (inr (e, l)))
       go a b x l (no e) = inr (inr (inl (omega arith)))
 
@@ -191,7 +191,7 @@ pub filled-on : (ws ws′ : List ℕ) (g : Rules) (h : Half) (n from s len : ℕ
 filled-on ws ws′ g h n from s len long fit far f c = record { done = done }
   where
     -- a part of a span that is passed has another pair
-    clear : (a b : ℕ) → a + b ≤ n → Passed from s len a b → (i j : ℕ) → a ≤ i → i + j ≤ a + b
+    clear : (a b : ℕ) → a + b ≤ n → SpanPassed from s len a b → (i j : ℕ) → a ≤ i → i + j ≤ a + b
         → pairAt n i j ≡ pairAt n s len → ⊥
     clear a b q d i j x y e =
         let z = pairAt-same n i j s len (omega arith) fit e in
@@ -201,7 +201,8 @@ filled-on ws ws′ g h n from s len long fit far f c = record { done = done }
         (λ m. ⊎-elim (λ v. omega arith) (λ v. omega (arith, z .0, v .0, v .1)) m) l) d)
         (z .1)
 
-    old : (a b : ℕ) → a + b ≤ n → Passed from s len a b → Settled (One ws′ n) (Two ws′ n) g h a b
+    old : (a b : ℕ) → a + b ≤ n → SpanPassed from s len a b
+        → Settled (One ws′ n) (Two ws′ n) g h a b
     old a b q d =
         settled-kept ws ws′ g h n a b (pairAt n s len) (c .kept) (clear a b q d) (f .done a b q d)
 
@@ -211,7 +212,7 @@ filled-on ws ws′ g h n from s len long fit far f c = record { done = done }
     here a b q e l (no k) = subst₂ (Settled (One ws′ n) (Two ws′ n) g h) (sym e)
         (let z : len ≡ b = omega arith in z) (c .settled)
 
-    done : (a b : ℕ) → a + b ≤ n → Passed from s (len + 1) a b
+    done : (a b : ℕ) → a + b ≤ n → SpanPassed from s (len + 1) a b
         → Settled (One ws′ n) (Two ws′ n) g h a b
     done a b q (inl x) = old a b q (inl x)
     done a b q (inr (inl x)) = old a b q (inr (inl x))
@@ -261,7 +262,7 @@ module _ (ws ws′ : List ℕ) (g : Rules) (h : Half) (n : ℕ) (long : length (
           → Again (One ws′ n) (Two ws′ n) g (byTokens h s len) s len A → Two ws′ n s len A
       again s len A fit u q = t s len (omega arith) .again A u q
 
-  pub charted : (from : ℕ) → Grown ws ws′ g h n from 0 → Charted ws ws′ g h n
+  pub charted : (from : ℕ) → FilledFrom ws ws′ g h n from 0 → Charted ws ws′ g h n
   charted from f = record {
     exact = record {
       one = λ s len A fit. (settled s len (omega arith) .derived A fit, self s len A fit .0);

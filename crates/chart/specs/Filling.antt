@@ -31,16 +31,17 @@ pub record Given (ws ws′ : List ℕ) (n : ℕ) : Type 0 where
 
 -- the span is passed: it ends at or before `from`, has at most a token, begins past s, or begins at
 -- s and has fewer than len tokens
-abbrev pub Passed : ℕ → ℕ → ℕ → ℕ → ℕ → Type 0
-Passed from s len a b = (a + b ≤ from) ⊎ ((b < 2) ⊎ ((s < a) ⊎ ((a ≡ s) × (b < len))))
+abbrev pub SpanPassed : ℕ → ℕ → ℕ → ℕ → ℕ → Type 0
+SpanPassed from s len a b = (a + b ≤ from) ⊎ ((b < 2) ⊎ ((s < a) ⊎ ((a ≡ s) × (b < len))))
 
 -- the spans that are passed are settled
 pub record Filled (ws : List ℕ) (g : Rules) (h : Half) (n from s len : ℕ) : Type 0 where
-  pub done : (a b : ℕ) → a + b ≤ n → Passed from s len a b → Settled (One ws n) (Two ws n) g h a b
+  pub done : (a b : ℕ) → a + b ≤ n → SpanPassed from s len a b
+      → Settled (One ws n) (Two ws n) g h a b
 
 -- so are all that begin at or past s; the pairs of single tokens and the words past the sheet are
 -- as they were
-pub record Grown (ws ws′ : List ℕ) (g : Rules) (h : Half) (n from s : ℕ) : Type 0 where
+pub record FilledFrom (ws ws′ : List ℕ) (g : Rules) (h : Half) (n from s : ℕ) : Type 0 where
   pub filled : Filled ws′ g h n from s (n + 1)
   pub given : Given ws ws′ n
   pub past : Past (2 * pairs n) ws ws′

@@ -10,7 +10,7 @@ use Rattle.grammar.specs.Layout.{Every}
 use Rattle.column_ranges.specs.declared.RangeToken.{RangeToken}
 use Rattle.column_ranges.specs.declared.RangeSentence.{RangeSentence}
 use Rattle.column_ranges.specs.Ranges.{Ranges, columns, choiceCount, choiceLimit}
-use Rattle.column_ranges.specs.RangeSentences.{rangesOf, Ended, Spread, CountsChoices}
+use Rattle.column_ranges.specs.RangeSentences.{rangesOf, EndsOrdered, Spread, CountsChoices}
 use Rattle.column_ranges.specs.RangeSentences.{no-range}
 
 every-at : (P : RangeToken → Type 0) (rs : Ranges) → Every P rs → (i : ℕ) → i < length rs
@@ -25,14 +25,15 @@ pub range-read : (s : RangeSentence) (i : ℕ) → i < s .count
 range-read s i h = getD-take (s .count) (s .tokens) i no-range h
 
 pub ended-at : {s : RangeSentence} → Spread s → (i : ℕ) → i < s .count
-    → Ended (getD (s .tokens) i no-range)
-ended-at {s} p i h = subst Ended (range-read s i h)
-    (every-at Ended (rangesOf s) (p .ended) i (omega (arith, p .whole)))
+    → EndsOrdered (getD (s .tokens) i no-range)
+ended-at {s} p i h = subst EndsOrdered (range-read s i h)
+    (every-at EndsOrdered (rangesOf s) (p .ended) i (omega (arith, p .whole)))
 
 -- ---- the count
 
 -- fewer tokens have no more choices
-drop-fewer : (rs : Ranges) → Every Ended rs → (i : ℕ) → choiceCount (drop i rs) ≤ choiceCount rs
+drop-fewer : (rs : Ranges) → Every EndsOrdered rs → (i : ℕ)
+    → choiceCount (drop i rs) ≤ choiceCount rs
 drop-fewer rs e zero = le-refl _
 drop-fewer [] e (suc i) = le-refl _
 drop-fewer (r ∷ rs) e (suc i) =

@@ -13,7 +13,7 @@ abbrev pub rangesOf : RangeSentence → Ranges
 rangesOf s = take (s .count) (s .tokens)
 
 -- what refusals 13 and 48 see to: ends in the order of their names, and a column's bounds
-pub record Ended (r : RangeToken) : Type 0 where
+pub record EndsOrdered (r : RangeToken) : Type 0 where
   pub ordered : r .low .0 ≤ r .high .0
   pub least : 1 ≤ r .low .0
   pub most : r .high .0 ≤ 65535
@@ -22,7 +22,7 @@ pub record Ended (r : RangeToken) : Type 0 where
 pub record Spread (s : RangeSentence) : Type 0 where
   pub few : s .count ≤ 64
   pub whole : length (rangesOf s) ≡ s .count
-  pub ended : Every Ended (rangesOf s)
+  pub ended : Every EndsOrdered (rangesOf s)
 
 -- m counts the choices, where they are within the limit; otherwise it is above the limit as they
 -- are

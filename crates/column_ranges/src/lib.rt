@@ -3,7 +3,8 @@ use grammar::Column;
 use grammar::Line;
 ghost use mathlib.Core.Path.{_≡_};
 ghost use Rattle.column_ranges.specs.Ranges.{columns as columnsOf};
-ghost use Rattle.column_ranges.specs.RangeSentences.{rangesOf, Ended, Spread, CountsChoices};
+ghost use Rattle.column_ranges.specs.RangeSentences.{rangesOf, EndsOrdered, Spread};
+ghost use Rattle.column_ranges.specs.RangeSentences.{CountsChoices};
 
 // A terminal on a line, its column known between two ends.
 pub struct RangeToken {
@@ -21,7 +22,7 @@ pub struct RangeSentence {
 
 // How many columns the ends allow.
 pub fn columns(t: RangeToken) -> usize
-    requires { ⌜ Ended t ⌝ }
+    requires { ⌜ EndsOrdered t ⌝ }
     ensures { λ r. ⌜ r ≡ columnsOf t ⌝ }
 {
     let low = t.low.0;

@@ -8,13 +8,14 @@ use Rattle.chart.specs.declared.Verdict.the-variants as Verdict
 use Rattle.column_ranges.specs.Ranges.{Ranges}
 use Rattle.column_search.specs.declared.Flags.{Flags}
 use Rattle.column_search.specs.Answers.{flag}
-use Rattle.column_search.specs.Searching.{Grown, With}
+use Rattle.column_search.specs.Searching.{FlagsGiven, With}
 
-pub grown-none : {g : Rules} {rs : Ranges} (f : Flags) → Grown g rs f f
+pub grown-none : {g : Rules} {rs : Ranges} (f : Flags) → FlagsGiven g rs f f
 grown-none f = record { kept = λ v e. e; given = λ v e. inl e }
 
-pub grown-more : {g : Rules} {rs : Ranges} {f r s : Flags} → Grown g rs f r → Grown g rs r s
-    → Grown g rs f s
+pub grown-more : {g : Rules} {rs : Ranges} {f r s : Flags} → FlagsGiven g rs f r
+    → FlagsGiven g rs r s
+    → FlagsGiven g rs f s
 grown-more x y = record {
   kept = λ v e. y .kept v (x .kept v e);
   given = λ v e. ⊎-elim

@@ -29,7 +29,7 @@ use Rattle.spans.proofs.ChangeLaws.{past-same, past-then}
 use Rattle.column_ranges.specs.declared.RangeSentence.{RangeSentence}
 use Rattle.column_ranges.specs.declared.RangeToken.{RangeToken}
 use Rattle.column_ranges.specs.Ranges.{Ranges, Chosen, SomeChoiceGives, columns}
-use Rattle.column_ranges.specs.RangeSentences.{range, rangesOf, Ended, Spread}
+use Rattle.column_ranges.specs.RangeSentences.{range, rangesOf, EndsOrdered, Spread}
 use Rattle.narrowing.specs.Narrowing.{lowest, Singles, MayRise, fixedAt, Narrows}
 use Rattle.range_marks.specs.RangeMarks.{exchangedAll}
 use Rattle.range_charts.specs.RangeCharts.{SpanSolved, Small, Solves, Leaved}
@@ -40,7 +40,8 @@ use Rattle.narrowing.proofs.Choices.{lowest-long, lowest-at, lowest-chosen, onl
 use Rattle.narrowing.proofs.Choices.{single-rising, gives-wider, gives-fixed}
 use Rattle.column_search.specs.declared.Flags.{Flags}
 use Rattle.column_search.specs.Answers.{flag, FlagsSay}
-use Rattle.column_search.specs.Searching.{With, Grown, Finds, Leaving, Reads, Foreseen, Idles}
+use Rattle.column_search.specs.Searching.{With, FlagsGiven, Finds, Leaving, Reads, Foreseen}
+use Rattle.column_search.specs.Searching.{Idles}
 use Rattle.column_search.specs.Searching.{Searched}
 use Rattle.column_search.proofs.Flagging.{grown-none, grown-more}
 
@@ -108,7 +109,7 @@ leaved-begun {g} {r} {w} {ws} {ws′} p e b = record {
 
 -- the verdict on the one choice
 pub reads-holds : {g : Rules} {rs : Ranges} {n : ℕ} {ws : List ℕ} → Distinct g → length rs ≡ n
-    → Every Ended rs → Singles rs → Leaved g rs n ws
+    → Every EndsOrdered rs → Singles rs → Leaved g rs n ws
     → ((a b : ℕ) → 2 ≤ b → a + b ≤ n → SpanSolved ws g rs n a b) → (v : Verdict) → Reads ws n v
     → Holds v g 0 (lowest rs)
 reads-holds {g} {rs} {n} {ws} distinct size ended single l y v h = go v h
@@ -217,9 +218,10 @@ implies-all o f a b c Verdict.None = a
 implies-all o f a b c Verdict.One = b
 implies-all o f a b c Verdict.Two = c
 
-pub searched-idle : {g : Rules} {rs : Ranges} {n : ℕ} {f : Flags} {ws ws′ : List ℕ} {b : Bool}
+pub searched-nothing-new : {g : Rules} {rs : Ranges} {n : ℕ} {f : Flags} {ws ws′ : List ℕ}
+    {b : Bool}
     → Idles g rs n f ws ws′ b → b ≡ true → Searched g rs n f ws ws′ f
-searched-idle {f = f} x e =
+searched-nothing-new {f = f} x e =
     record { grown = grown-none f; finds = x .finds e; leaving = x .leaving }
 
 pub searched-none : {g : Rules} {rs : Ranges} {n : ℕ} {f : Flags} {ws : List ℕ}
@@ -279,7 +281,7 @@ choice-all {g} {r} {v} distinct s single m l y h x =
 -- those before the one that stands c past its lower end are tried
 pub record Turn (g : Rules) (rs : Ranges) (n t c : ℕ) (f : Flags) (ws ws′ : List ℕ)
     (found : Flags) : Type 0 where
-  pub grown : Grown g rs f found
+  pub grown : FlagsGiven g rs f found
   pub below : (v : Verdict) (y : SomeChoiceGives g rs v)
       → col (tokenAt (y .word) t) < range rs t .low .0 + c → flag found v ≡ true
   pub leaving : Leaving n ws ws′
@@ -350,7 +352,7 @@ nothing-set Verdict.One = refl
 nothing-set Verdict.Two = refl
 
 pub flags-say : {g : Rules} {rs : Ranges} {f r : Flags} → ((v : Verdict) → flag f v ≡ false)
-    → Grown g rs f r → Finds g rs r → FlagsSay g rs r
+    → FlagsGiven g rs f r → Finds g rs r → FlagsSay g rs r
 flags-say {g} {rs} {f} {r} none x y = record {
   says = λ v. record {
     is = λ e. ⊎-elim (λ z. absurd (true-not-false (sym z ∙ none v))) (λ z. z) (x .given v e);

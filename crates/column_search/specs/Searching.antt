@@ -25,7 +25,7 @@ pub record With (f : Flags) (v : Verdict) (r : Flags) : Type 0 where
   pub given : (u : Verdict) → flag r u ≡ true → (flag f u ≡ true) ⊎ (u ≡ v)
 
 -- flags that are set stay, and those that are set anew are of verdicts that some choice gives
-pub record Grown (g : Rules) (rs : Ranges) (f r : Flags) : Type 0 where
+pub record FlagsGiven (g : Rules) (rs : Ranges) (f r : Flags) : Type 0 where
   pub kept : (v : Verdict) → flag f v ≡ true → flag r v ≡ true
   pub given : (v : Verdict) → flag r v ≡ true → (flag f v ≡ true) ⊎ SomeChoiceGives g rs v
 
@@ -42,7 +42,7 @@ pub record Leaving (n : ℕ) (ws ws′ : List ℕ) : Type 0 where
 -- what the search answers for the ranges, having found f before
 pub record Searched (g : Rules) (rs : Ranges) (n : ℕ) (f : Flags) (ws ws′ : List ℕ)
     (r : Flags) : Type 0 where
-  pub grown : Grown g rs f r
+  pub grown : FlagsGiven g rs f r
   pub finds : Finds g rs r
   pub leaving : Leaving n ws ws′
 

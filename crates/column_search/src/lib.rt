@@ -185,7 +185,7 @@ fn covered(o: Flags, f: Flags) -> bool
 }
 
 // Can nothing new come of the ranges, by what may and what must hold?
-fn idle(
+fn nothing_new(
     g: Grammar,
     r: RangeSentence,
     b: BinaryRules,
@@ -304,7 +304,7 @@ fn search(
     if r.count <= t {
         return search_few(g, r, b, e, words, cols, table, f, r.count);
     }
-    if idle(g, r, b, e, words, table, f) {
+    if nothing_new(g, r, b, e, words, table, f) {
         return f;
     }
     let a = r.tokens[t];

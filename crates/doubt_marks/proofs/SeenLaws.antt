@@ -11,7 +11,7 @@ use Rattle.sets.specs.Sets.{In}
 use Rattle.sets.specs.Insertion.{insert}
 use Rattle.sets.proofs.Sets.{in-zero, insert-only}
 use Rattle.acyclic.specs.Exact.{Exactly}
-use Rattle.acyclic.specs.Passes.{Grown}
+use Rattle.acyclic.specs.Passes.{Extended}
 use Rattle.acyclic.proofs.Growth.{grown-none, grown-with, grown-both}
 use Rattle.pair_steps.specs.declared.Node.{Node}
 use Rattle.pair_nodes.specs.Slots.{nodeAt, Present}
@@ -30,22 +30,22 @@ module _ (ns al : List ℕ) where
   -- 1. one shape
 
   module _ (s i : ℕ) where
-    pub not-there : (Present ns i → ⊥) → Grown (AddsSeen ns al s i) s s
+    pub not-there : (Present ns i → ⊥) → Extended (AddsSeen ns al s i) s s
     not-there n = grown-none (λ Y a. absurd (n (a .there)))
 
-    pub not-self : (In (getD al (2 * i) 0) 0 → ⊥) → Grown (AddsSeen ns al s i) s s
+    pub not-self : (In (getD al (2 * i) 0) 0 → ⊥) → Extended (AddsSeen ns al s i) s s
     not-self n = grown-none
         (λ Y a. absurd (n (subst (λ (k : ℕ). In (getD al k 0) 0) (omega arith) (a .self))))
 
     module _ {x : Node} (e : x ≡ nodeAt ns i) where
-      pub not-seen : (In s (x .sort) → ⊥) → Grown (AddsSeen ns al s i) s s
+      pub not-seen : (In s (x .sort) → ⊥) → Extended (AddsSeen ns al s i) s s
       not-seen n = grown-none
           (λ Y a. absurd (n (subst (λ (v : Node). In s (v .sort)) (sym e) (a .sort))))
 
       kids : nodeAt ns i .kids ≡ x .kids
       kids = ap (λ (v : Node). v .kids) (sym e)
 
-      pub no-child : x .kids ≡ 0 → Grown (AddsSeen ns al s i) s s
+      pub no-child : x .kids ≡ 0 → Extended (AddsSeen ns al s i) s s
       no-child k =
           grown-none
           (λ Y a.
@@ -69,13 +69,13 @@ module _ (ns al : List ℕ) where
         second : x .second ≡ nodeAt ns i .second
         second = ap (λ (v : Node). v .second) e
 
-        pub one-child : x .kids ≡ 1 → Grown (AddsSeen ns al s i) s (insert s (x .first))
+        pub one-child : x .kids ≡ 1 → Extended (AddsSeen ns al s i) s (insert s (x .first))
         one-child k =
             grown-with s (x .first) (adds (inl (omega (arith, kids), sym first)))
             (λ Y a. ⊎-elim (λ h. first ∙ h .1) (λ h. absurd (omega (arith, h .0, kids))) (a .child))
 
         pub two-children : 1 < x .kids
-            → Grown (AddsSeen ns al s i) s (insert (insert s (x .first)) (x .second))
+            → Extended (AddsSeen ns al s i) s (insert (insert s (x .first)) (x .second))
         two-children k =
             grown-both (grown-with {P = λ Y. x .first ≡ Y} s (x .first) refl (λ Y a. a))
             (grown-with {P = λ Y. x .second ≡ Y} (insert s (x .first)) (x .second) refl (λ Y a. a))
@@ -97,7 +97,7 @@ module _ (ns al : List ℕ) where
             (omega (arith, l));
       }
 
-  pub pass-more : {i s t u : ℕ} → i < 384 → SeenPass ns al i s t → Grown (AddsSeen ns al t i) t u
+  pub pass-more : {i s t u : ℕ} → i < 384 → SeenPass ns al i s t → Extended (AddsSeen ns al t i) t u
       → SeenPass ns al (i + 1) s u
   pass-more {i} {s} {t} {u} l x y =
       record {

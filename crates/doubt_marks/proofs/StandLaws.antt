@@ -245,14 +245,14 @@ module _ {ns t : List ℕ} {f : Frame} {i j : ℕ} {x y : Node} (e : x ≡ nodeA
 
 -- 4. what is found may stand
 
-pub record Standing (g : Rules) (f : Frame) (x y : Head) : Type 0 where
+pub record MayStand (g : Rules) (f : Frame) (x y : Head) : Type 0 where
   pub offset : Corner → Corner → Offset
   pub next : Point → ℕ
   pub may : Might g (stand (setting (rankOf f) offset next) x y)
 
 pub standing : {g : Rules} {ns t : List ℕ} {f : Frame} {i j : ℕ} → SoundTable g t →
     (a : SlotOf g ns i)
-    (b : SlotOf g ns j) → MayOver ns t f i j → Standing g f (a .head) (b .head)
+    (b : SlotOf g ns j) → MayOver ns t f i j → MayStand g f (a .head) (b .head)
 standing {g} {ns} {t} {f} {i} {j} so a b m =
     record {
       offset = sixOf (s .six);

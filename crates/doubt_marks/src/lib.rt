@@ -14,7 +14,7 @@ ghost use Rattle.sets.specs.Says.{Says};
 ghost use Rattle.grammar.specs.Cycles.{Nullable};
 ghost use Rattle.grammar.specs.Content.{rules, Formed};
 ghost use Rattle.acyclic.specs.Exact.{Exactly};
-ghost use Rattle.acyclic.specs.Passes.{Grown};
+ghost use Rattle.acyclic.specs.Passes.{Extended};
 ghost use Rattle.pairs.specs.Survey.{Productive};
 ghost use Rattle.spans.specs.Changes.{Past};
 ghost use Rattle.doubt_list.specs.Marks.{Ground};
@@ -170,7 +170,7 @@ fn selves(nodes: &[u64], table: &[u64], out: &mut [u64])
 // itself and its nonterminal is seen.
 fn with_children(nodes: &[u64], own: &[u64], i: usize, seen: u64) -> u64
     requires { ⌜ (1536 ≤ length (now nodes)) × (768 ≤ length (now own)) × (i < 384) ⌝ }
-    ensures { λ r. ⌜ Grown (AddsSeen (now (nodes .entry)) (now (own .entry)) seen i) seen r ⌝ }
+    ensures { λ r. ⌜ Extended (AddsSeen (now (nodes .entry)) (now (own .entry)) seen i) seen r ⌝ }
 {
     if !pair_nodes::present(nodes, i) {
         return seen;

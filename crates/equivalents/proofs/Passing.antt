@@ -19,8 +19,8 @@ use Rattle.equivalents.proofs.Lacking.{gap-replaceable}
 
 module _ (n b h : ℕ) (c : Candidate) (d : Cell) (lt : h < b) (le : b ≤ n)
     (e : d ≡ cellAt c (b - 1)) where
-  pub slack-step : d .step ≡ 2 → Slack n b h (cells c 0 n)
-  slack-step t = record {
+  pub earlier-twin-step : d .step ≡ 2 → Slack n b h (cells c 0 n)
+  earlier-twin-step t = record {
     replaceable = λ g s. step-replaceable g s n b h (b - 1) (cells c 0 n) (omega arith)
         (omega arith) (at-cells (λ x. x .step ≡ 2) c (b - 1) n (omega arith)
         (ap (λ (x : Cell). x .step) (sym e) ∙ t));
@@ -39,12 +39,13 @@ module _ (n b h : ℕ) (c : Candidate) (d : Cell) (lt : h < b) (le : b ≤ n)
           (ap (λ (x : Cell). x .terminal) (sym e)));
     }
 
-pub slack-gap : (n b h : ℕ) (c : Candidate) (r : ℕ) → h < b → b ≤ n
+pub earlier-twin-gap : (n b h : ℕ) (c : Candidate) (r : ℕ) → h < b → b ≤ n
     → r ≡ lacking n false (cells c 0 h) (cells c 0 b) → n - b < r → Slack n b h (cells c 0 n)
-slack-gap n b h c r lt le e l = record {
+earlier-twin-gap n b h c r lt le e l = record {
   replaceable = λ g s. gap-replaceable g s n b h (cells c 0 n) (omega arith)
       (rw (take-cells c 0 h n (omega arith), take-cells c 0 b n le) (omega (arith, e)));
 }
 
-pub pass-slack : {s kept n b h : ℕ} {cs : List Cell} → Slack n b h cs → Passable s kept n b h cs
-pass-slack {s} x = record { replaceable = λ g r. x .replaceable g s }
+pub pass-earlier-twin : {s kept n b h : ℕ} {cs : List Cell} → Slack n b h cs
+    → Passable s kept n b h cs
+pass-earlier-twin {s} x = record { replaceable = λ g r. x .replaceable g s }

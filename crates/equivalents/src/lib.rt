@@ -54,7 +54,7 @@ fn lacks(c: Candidate, n: usize, b: usize, h: usize) -> usize
 // Has each candidate that shares the first b cells an earlier one that reads alike and has its
 // first h cells and all its terminals? So it is where a step of two lines could be one, and where
 // the columns leave out more than the cells to come can fill.
-pub fn slack(c: Candidate, n: usize, b: usize, h: usize) -> bool
+pub fn earlier_twin(c: Candidate, n: usize, b: usize, h: usize) -> bool
     requires { ⌜ (h < b) × (b ≤ n) × (n ≤ 7) ⌝ }
     ensures { λ r. ⌜ (r ≡ true → Slack n b h (cells c 0 n)) ⌝ }
 {
@@ -79,5 +79,5 @@ pub fn passable(set: u64, kept: u64, c: Candidate, n: usize, b: usize, h: usize)
     if !has(kept, d.terminal) {
         return true;
     }
-    slack(c, n, b, h)
+    earlier_twin(c, n, b, h)
 }

@@ -33,7 +33,7 @@ use Rattle.tables.specs.Tables.{no-rule}
 use Rattle.chains.specs.SpanLinks.{spanLinks}
 use Rattle.chains.specs.Chains.{HoldsAt, Leveled, Chains}
 use Rattle.chains.proofs.TableLaws.{table-span}
-use Rattle.chart.specs.Filling.{Closed, Filled, Grown}
+use Rattle.chart.specs.Filling.{Closed, Filled, FilledFrom}
 use Rattle.filling.specs.Closing.{Begins, Found, CutJoins, Columns}
 use Rattle.filling.proofs.SettleLaws.{closure-settled}
 
@@ -183,7 +183,7 @@ no-columns ws n m h = record {
 
 -- where there is one token at most, nothing is left to settle
 pub few-grown : {ws : List ℕ} {g : Rules} {h : Half} {n from to : ℕ} → n < 2
-    → Filled ws g h n from to (n + 1) → Grown ws ws g h n from 0
+    → Filled ws g h n from to (n + 1) → FilledFrom ws ws g h n from 0
 few-grown b f = record {
   filled = record { done = λ s len fit p. f .done s len fit (inr (inl (omega arith))) };
   given = record { first = λ i k. refl; second = λ i k. refl };

@@ -38,7 +38,7 @@ ghost use Rattle.tables.specs.Tables.{Room};
 ghost use Rattle.cuts.specs.Cuts.{Mirrors};
 ghost use Rattle.cuts.specs.Places.{Placed};
 ghost use Rattle.chains.specs.Chains.{Chains};
-ghost use Rattle.chart.specs.Filling.{Whole, Filled, Grown};
+ghost use Rattle.chart.specs.Filling.{Whole, Filled, FilledFrom};
 ghost use Rattle.chart.specs.Leaves.{EmptyPair, Leaf};
 ghost use Rattle.chart.specs.Sheets.{Exact, Begun, Ready, Charted, Judged};
 ghost use Rattle.filling.specs.Closing.{Leading, Begins, Found, CutJoins, Columns};
@@ -245,7 +245,8 @@ pub fn fill_start(
         (now cols) ⌝ }
     requires { ⌜ Filled (now words) (rules g) (half d) (d .count) from (start + 1)
         (d .count + 1) ⌝ }
-    ensures { λ r. ⌜ Grown (now (words .entry)) (now (words .exit)) (rules g) (half d) (d .count)
+    ensures { λ r. ⌜ FilledFrom (now (words .entry)) (now (words .exit)) (rules g) (half d)
+        (d .count)
         from start ⌝ }
     ensures { λ r. ⌜ Columns (now (words .exit)) (d .count) start (now (cols .exit)) ⌝ }
     ensures { λ r. ⌜ Begins (now (words .exit)) e ⌝ }
@@ -319,7 +320,8 @@ fn fill_starts(
     requires { ⌜ Begins (now words) e × Chains (rules g) e (now table) ⌝ }
     requires { ⌜ (length (now rows) ≡ 128) × Columns (now words) (d .count) to (now cols) ⌝ }
     requires { ⌜ Filled (now words) (rules g) (half d) (d .count) from to (d .count + 1) ⌝ }
-    ensures { λ r. ⌜ Grown (now (words .entry)) (now (words .exit)) (rules g) (half d) (d .count)
+    ensures { λ r. ⌜ FilledFrom (now (words .entry)) (now (words .exit)) (rules g) (half d)
+        (d .count)
         from 0 ⌝ }
 {
     let mut start = to;

@@ -84,7 +84,7 @@ grown-up {g} P Ok b {p = p} {k = k} c l h =
 
 -- 2. trees of at most a height
 
-pub record Grown (g : Rules) (h A : ℕ) (w : Word) : Type 0 where
+pub record LowTree (g : Rules) (h A : ℕ) (w : Word) : Type 0 where
   pub tree : Tree
   pub witness : Witness g A w tree
   pub high : height tree ≤ h
@@ -101,12 +101,12 @@ height-pos (leaf A t) = omega arith
 height-pos (unary A t) = omega arith
 height-pos (binary A s t) = omega arith
 
-grown-of : {g : Rules} {t : Tree} {h : ℕ} → Valid g t → height t ≤ h → Grown g h (root t) (word t)
+grown-of : {g : Rules} {t : Tree} {h : ℕ} → Valid g t → height t ≤ h → LowTree g h (root t) (word t)
 grown-of {t = t} v e =
     record { tree = t; witness = record { rooted = refl; spelled = refl; valid = v }; high = e }
 
 -- the children of a tree are lower
-lower-kids : {g : Rules} {t : Tree} (h : ℕ) → Valid g t → height t ≤ suc h → KidsBy (Grown g h) t
+lower-kids : {g : Rules} {t : Tree} (h : ℕ) → Valid g t → height t ≤ suc h → KidsBy (LowTree g h) t
 lower-kids h (valid-empty x) l = tt
 lower-kids h (valid-leaf x) l = tt
 lower-kids h (valid-unary m x y v) l = grown-of v (omega arith)
@@ -114,17 +114,17 @@ lower-kids h (valid-binary {s = s} {t = t} m x y u v) l =
     (grown-of u (omega arith), grown-of v (omega arith))
 
 gives-can : {g : Rules} {h A : ℕ} {w : Word} {p k : ℕ} → GivesIn g (suc h) A w p k
-    → (r : Rule) × (getElem? g p ≡ some r) × (r .left ≡ A) × CanBy (Grown g h) w (r .clause) k
+    → (r : Rule) × (getElem? g p ≡ some r) × (r .left ≡ A) × CanBy (LowTree g h) w (r .clause) k
 gives-can {g} {h} {A} {w} {p} {k} c = (
   c .takes .rule,
   c .takes .stands,
   top-left (c .tree) (c .takes .rule) k (c .takes .top) ∙ c .witness .rooted,
-  rw (← c .witness .spelled) (kids-can (Grown g h) (c .tree)
+  rw (← c .witness .spelled) (kids-can (LowTree g h) (c .tree)
       (lower-kids h (c .witness .valid) (c .high)) (c .takes .rule) k (c .takes .top)),
 )
 
 can-gives : (g : Rules) (h p A : ℕ) (c : Clause) (w : Word) (k : ℕ)
-    → getElem? g p ≡ some (record { left = A; clause = c }) → CanBy (Grown g h) w c k
+    → getElem? g p ≡ some (record { left = A; clause = c }) → CanBy (LowTree g h) w c k
     → GivesIn g (suc h) A w p k
 can-gives g h p A Clause.Empty w k st e =
     record {
@@ -202,12 +202,12 @@ gives-inside : {g : Rules} (h A : ℕ) (w : Word) (p k : ℕ) → GivesIn g h A 
 gives-inside h A w p k c = inside A w p k (gives-choice c)
 
 module _ (g : Rules) where
-  gives-suc? : (h : ℕ) → ((B : ℕ) (v : Word) → Dec (Grown g h B v)) → (A : ℕ) (w : Word) (p k : ℕ)
+  gives-suc? : (h : ℕ) → ((B : ℕ) (v : Word) → Dec (LowTree g h B v)) → (A : ℕ) (w : Word) (p k : ℕ)
       → Dec (GivesIn g (suc h) A w p k)
   gives-suc? h d A w p k = go (getElem? g p) refl
     where
       back : (r : Rule) → getElem? g p ≡ some r → GivesIn g (suc h) A w p k
-          → CanBy (Grown g h) w (r .clause) k
+          → CanBy (LowTree g h) w (r .clause) k
       back r e c = let x = gives-can c in let y = x .1 in let q : x .0 .clause ≡ r .clause = cc in
           rw q at (x .3)
 
@@ -217,24 +217,24 @@ module _ (g : Rules) where
       named r e (yes f) =
           let st : getElem? g p ≡ some (record { left = A; clause = r .clause }) = rw f at e in
           map-dec (can-gives g h p A (r .clause) w k st) (back r e)
-          (can? (Grown g h) w (r .clause) k (λ B. d B w) (λ B. d B (take k w))
+          (can? (LowTree g h) w (r .clause) k (λ B. d B w) (λ B. d B (take k w))
           (λ B. d B (drop k w)))
 
       go : (o : Option Rule) → getElem? g p ≡ o → Dec (GivesIn g (suc h) A w p k)
       go none e = no (λ c. let x = gives-can c .1 in clash cc)
       go (some r) e = named r e (ℕ-discrete (r .left) A)
 
-  of-grown : {h A : ℕ} {w : Word} → Grown g h A w → (p : ℕ) × (k : ℕ) × GivesIn g h A w p k
+  of-grown : {h A : ℕ} {w : Word} → LowTree g h A w → (p : ℕ) × (k : ℕ) × GivesIn g h A w p k
   of-grown x = let t = takes-of (x .witness .valid) in
       (t .0, t .1, record { tree = x .tree; witness = x .witness; takes = t .2; high = x .high })
 
-  pub grown? : (h A : ℕ) (w : Word) → Dec (Grown g h A w)
+  pub grown? : (h A : ℕ) (w : Word) → Dec (LowTree g h A w)
   grown? zero A w = no (λ x. omega (arith, x .high, height-pos (x .tree)))
   grown? (suc h) A w = go (seek₂ (GivesIn g (suc h) A w) (gives-suc? h (λ B v. grown? h B v) A w)
       (length g) (length w) (gives-inside (suc h) A w))
     where
       go : Least₂ (GivesIn g (suc h) A w) ⊎ ((p k : ℕ) → GivesIn g (suc h) A w p k → ⊥)
-          → Dec (Grown g (suc h) A w)
+          → Dec (LowTree g (suc h) A w)
       go (inl l) =
           yes (record { tree = l .holds .tree; witness = l .holds .witness; high = l .holds .high })
       go (inr f) = no (λ x. let y = of-grown x in f (y .0) (y .1) (y .2))
@@ -245,11 +245,11 @@ module _ (g : Rules) where
 
   -- 3. the low choice
 
-  pub low-choice : {A : ℕ} {w : Word} {n : ℕ} → Grown g n A w
+  pub low-choice : {A : ℕ} {w : Word} {n : ℕ} → LowTree g n A w
       → (p : ℕ) × (k : ℕ) × (c : LowChoice g A w p k) × (c .least ≤ n)
-  low-choice {A} {w} {n} x = height-at (seek (λ h. Grown g h A w) (λ h. grown? h A w) (suc n))
+  low-choice {A} {w} {n} x = height-at (seek (λ h. LowTree g h A w) (λ h. grown? h A w) (suc n))
     where
-      least-of : (l : Least (λ h. Grown g h A w)) (t : Tree) → Witness g A w t → l .at ≤ height t
+      least-of : (l : Least (λ h. LowTree g h A w)) (t : Tree) → Witness g A w t → l .at ≤ height t
       least-of l t y = go (decLt (height t) (l .at))
         where
           go : Dec (height t < l .at) → l .at ≤ height t
@@ -257,7 +257,7 @@ module _ (g : Rules) where
               absurd (l .before (height t) h (record { tree = t; witness = y; high = omega arith }))
           go (no h) = omega arith
 
-      choice-at : (l : Least (λ h. Grown g h A w)) → (l .at ≤ n)
+      choice-at : (l : Least (λ h. LowTree g h A w)) → (l .at ≤ n)
           → Least₂ (GivesIn g (l .at) A w) ⊎ ((p k : ℕ) → GivesIn g (l .at) A w p k → ⊥)
           → (p : ℕ) × (k : ℕ) × (c : LowChoice g A w p k) × (c .least ≤ n)
       choice-at l b (inl s) = (
@@ -287,7 +287,7 @@ module _ (g : Rules) where
       )
       choice-at l b (inr f) = let y = of-grown (l .holds) in absurd (f (y .0) (y .1) (y .2))
 
-      height-at : Least (λ h. Grown g h A w) ⊎ ((j : ℕ) → j < suc n → Grown g j A w → ⊥)
+      height-at : Least (λ h. LowTree g h A w) ⊎ ((j : ℕ) → j < suc n → LowTree g j A w → ⊥)
           → (p : ℕ) × (k : ℕ) × (c : LowChoice g A w p k) × (c .least ≤ n)
       height-at (inl l) = bounded (decLt n (l .at))
         where
@@ -300,16 +300,16 @@ module _ (g : Rules) where
 
   -- 4. the tree that takes low choices at each node
 
-  low-tree : (n : ℕ) {A : ℕ} {w : Word} → Grown g n A w → TreeBy g (LowChoice g) A w
+  low-tree : (n : ℕ) {A : ℕ} {w : Word} → LowTree g n A w → TreeBy g (LowChoice g) A w
   low-tree zero x = absurd (omega (arith, x .high, height-pos (x .tree)))
   low-tree (suc n) {A} {w} x = go (low-choice x) (λ B v. low-tree n {A = B} {w = v})
     where
       go : ((p : ℕ) × (k : ℕ) × (c : LowChoice g A w p k) × (c .least ≤ suc n))
-          → ((B : ℕ) (v : Word) → Grown g n B v → TreeBy g (LowChoice g) B v)
+          → ((B : ℕ) (v : Word) → LowTree g n B v → TreeBy g (LowChoice g) B v)
           → TreeBy g (LowChoice g) A w
       go c below =
           let y = c .2 .gives in
-          grown-up (LowChoice g) (Grown g n) below
+          grown-up (LowChoice g) (LowTree g n) below
           (record { tree = y .tree; witness = y .witness; takes = y .takes })
           (lower-kids n (y .witness .valid) (omega (arith, y .high, c .3))) (c .2)
 

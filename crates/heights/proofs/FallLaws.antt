@@ -21,7 +21,7 @@ use Rattle.spans.proofs.Places.{pairAt-below, pairAt-empty, pairAt-shorter, pai
 use Rattle.marks.specs.declared.SpanMarks.{SpanMarks}
 use Rattle.tables.specs.Tables.{Leave, byMarks, rule}
 use Rattle.heights.specs.Tall.{noHeight, table, Tall, Measured, Lowest, Over, Room}
-use Rattle.heights.specs.Falls.{Lowered, Idle, Falls, stays, put, rowSum, sum, Passed}
+use Rattle.heights.specs.Falls.{Lowered, Idle, Falls, stays, put, rowSum, sum, HeightsTried}
 use Rattle.heights.specs.Falls.{Between, Inner, Ends, AllEnds, Either, Stopped, Shut}
 use Rattle.heights.proofs.TallLaws.{tall-down, tall-le, tall-inner}
 use Rattle.heights.proofs.Bounds.{Put, total-less}
@@ -138,7 +138,7 @@ module _ {g : Rules} {v : Leave} {n start len : ℕ} (lefts : Lefts g) where
 
   pub passed-none : {l : List ℕ} (D : ℕ → ℕ → Type 0)
       → ((i k h : ℕ) → D i k → Tall (table l n) v start len (rule g i .clause) k h → ⊥)
-      → Passed g v n start len D l l false
+      → HeightsTried g v n start len D l l false
   passed-none D f = record {
     falls = stays;
     fell = λ e. absurd (clash cc);
@@ -148,8 +148,8 @@ module _ {g : Rules} {v : Leave} {n start len : ℕ} (lefts : Lefts g) where
   }
 
   pub passed-then : {l m o : List ℕ} {a b r : Bool} (D E F : ℕ → ℕ → Type 0) → Room l n start len
-      → Passed g v n start len D l m a → Passed g v n start len E m o b → Either a b r
-      → ((i k : ℕ) → F i k → D i k ⊎ E i k) → Passed g v n start len F l o r
+      → HeightsTried g v n start len D l m a → HeightsTried g v n start len E m o b → Either a b r
+      → ((i k : ℕ) → F i k → D i k ⊎ E i k) → HeightsTried g v n start len F l o r
   passed-then {l} {m} {o} {a} {b} {r} D E F room x y e f =
       record {
         falls = falls-then (x .falls) (y .falls);
@@ -187,7 +187,7 @@ module _ {g : Rules} {v : Leave} {n start len : ℕ} (lefts : Lefts g) where
           omega (arith, y .tried i k (z .0) d (z .1), z .2)
 
   pub passed-by : {l m : List ℕ} {r : Bool} (D E : ℕ → ℕ → Type 0) → ((i k : ℕ) → E i k → D i k)
-      → Passed g v n start len D l m r → Passed g v n start len E l m r
+      → HeightsTried g v n start len D l m r → HeightsTried g v n start len E l m r
   passed-by D E f x = record {
     falls = x .falls;
     fell = x .fell;
@@ -199,23 +199,23 @@ module _ {g : Rules} {v : Leave} {n start len : ℕ} (lefts : Lefts g) where
 -- a left length more, and a rule more
 module _ {g : Rules} {v : Leave} {n start len : ℕ} {l m o : List ℕ} {a b r : Bool} (lefts : Lefts g)
     (room : Room l n start len) (i : ℕ) where
-  pub inner-more : Passed g v n start len (Inner len i) l m a
-      → Passed g v n start len (Between i 1 len) m o b → Either a b r
-      → Passed g v n start len (Inner len (i + 1)) l o r
+  pub inner-more : HeightsTried g v n start len (Inner len i) l m a
+      → HeightsTried g v n start len (Between i 1 len) m o b → Either a b r
+      → HeightsTried g v n start len (Inner len (i + 1)) l o r
   inner-more x y e = passed-then lefts _ _ _ room x y e
       (λ j q d. ⊎-elim (λ z. inl (z, d .1, d .2)) (λ z. inr (z, omega (arith, d .1), d .2))
       (lt-or-eq j i (d .0)))
 
-  pub ends-both : Passed g v n start len (Between i 0 1) l m a
-      → Passed g v n start len (Between i len (len + 1)) m o b → Either a b r
-      → Passed g v n start len (Ends len i) l o r
+  pub ends-both : HeightsTried g v n start len (Between i 0 1) l m a
+      → HeightsTried g v n start len (Between i len (len + 1)) m o b → Either a b r
+      → HeightsTried g v n start len (Ends len i) l o r
   ends-both x y e = passed-then lefts _ _ _ room x y e
       (λ j q d. ⊎-elim (λ z. inl (d .0, omega arith, omega arith))
       (λ z. inr (d .0, omega arith, omega arith)) (d .1))
 
-  pub ends-more : Passed g v n start len (AllEnds len i) l m a
-      → Passed g v n start len (Ends len i) m o b → Either a b r
-      → Passed g v n start len (AllEnds len (i + 1)) l o r
+  pub ends-more : HeightsTried g v n start len (AllEnds len i) l m a
+      → HeightsTried g v n start len (Ends len i) m o b → Either a b r
+      → HeightsTried g v n start len (AllEnds len (i + 1)) l o r
   ends-more x y e = passed-then lefts _ _ _ room x y e
       (λ j q d. ⊎-elim (λ z. inl (z, d .1)) (λ z. inr (z, d .1)) (lt-or-eq j i (d .0)))
 
@@ -223,7 +223,8 @@ module _ {g : Rules} {v : Leave} {n start len : ℕ} {l m o : List ℕ} {a b r :
 
 -- a last pass that let nothing fall
 pub stopped-of : {g : Rules} {v : Leave} {n start len : ℕ} {D : ℕ → ℕ → Type 0} {e l m : List ℕ}
-    {r : Bool} → Falls g v n start len e l → r ≡ false → Passed g v n start len D l m r → Lefts g
+    {r : Bool} → Falls g v n start len e l → r ≡ false → HeightsTried g v n start len D l m r
+        → Lefts g
     → Stopped g v n start len D e m
 stopped-of {g} {v} {n} {start} {len} {D} {e} {l} {m} f q p lefts =
     let s = p .same q in
@@ -235,7 +236,7 @@ stopped-of {g} {v} {n} {start} {len} {D} {e} {l} {m} f q p lefts =
 
 -- with the inner choices tried before
 pub shut-of : {g : Rules} {v : Leave} {n start len : ℕ} {l m o : List ℕ} {r : Bool} → Lefts g
-    → Room l n start len → Passed g v n start len (Inner len (length g)) l m r
+    → Room l n start len → HeightsTried g v n start len (Inner len (length g)) l m r
     → Stopped g v n start len (AllEnds len (length g)) m o → Shut g v n start len l o
 shut-of {g} {v} {n} {start} {len} {l} {m} {o} lefts room x y =
     record {
@@ -368,7 +369,7 @@ module _ {v : Leave} {n start len : ℕ} {l : List ℕ} (r : Rule) (small : r .l
     (p : at ≡ 2081 * r .left + pairAt n start len)
     (x : Lowest (table l n) v start len (r .clause) from to h) where
   pub passed-lowest : {m : List ℕ} {fell : Bool} → Lowered l m at h fell
-      → Passed (r ∷ []) v n start len (Between 0 from to) l m fell
+      → HeightsTried (r ∷ []) v n start len (Between 0 from to) l m fell
   passed-lowest {m} {fell} y = go fell refl
     where
       same : getD l at 0 ≡ table l n start len (r .left)
@@ -379,7 +380,7 @@ module _ {v : Leave} {n start len : ℕ} {l : List ℕ} (r : Rule) (small : r .l
       lowest j q c d t = x .low q c (d .1) (d .2)
           (subst (λ (i : ℕ). Tall (table l n) v start len (rule (r ∷ []) i .clause) q c) (d .0) t)
 
-      go : (b : Bool) → fell ≡ b → Passed (r ∷ []) v n start len (Between 0 from to) l m fell
+      go : (b : Bool) → fell ≡ b → HeightsTried (r ∷ []) v n start len (Between 0 from to) l m fell
       go true e =
           let z = y .lowered e in
           let here : m ≡ set l (2081 * r .left + pairAt n start len) h =
@@ -419,8 +420,8 @@ module _ {g : Rules} {v : Leave} {n start len : ℕ} (r : Rule) (i : ℕ) (b : i
   falls-in (put (suc j) k h c t a d f) = absurd (omega arith)
 
   pub passed-in : {l m : List ℕ} {fell : Bool} (D E : ℕ → ℕ → Type 0)
-      → ((j q : ℕ) → E j q → (j ≡ i) × D 0 q) → Passed (r ∷ []) v n start len D l m fell
-      → Passed g v n start len E l m fell
+      → ((j q : ℕ) → E j q → (j ≡ i) × D 0 q) → HeightsTried (r ∷ []) v n start len D l m fell
+      → HeightsTried g v n start len E l m fell
   passed-in {l} {m} D E f x = record {
     falls = falls-in (x .falls);
     fell = x .fell;
@@ -434,9 +435,10 @@ module _ {g : Rules} {v : Leave} {n start len : ℕ} (r : Rule) (i : ℕ) (b : i
   }
 
 -- nothing stands with the empty word on one side
-pub idle-none : {k : SpanMarks} {n start len : ℕ} {l : List ℕ} (r : Rule) → r .left < 64
-    → Idle l n (r .clause) → Passed (r ∷ []) (byMarks k len) n start len (Ends len 0) l l false
-idle-none {k} {n} {start} {len} {l} r small x = record {
+pub no-empty-side-none : {k : SpanMarks} {n start len : ℕ} {l : List ℕ} (r : Rule) → r .left < 64
+    → Idle l n (r .clause) → HeightsTried (r ∷ []) (byMarks k len) n start len (Ends len 0) l l
+        false
+no-empty-side-none {k} {n} {start} {len} {l} r small x = record {
   falls = stays;
   fell = λ f. absurd (clash cc);
   same = λ f. refl;
@@ -448,10 +450,11 @@ idle-none {k} {n} {start} {len} {l} r small x = record {
 }
 
 -- neither side has a height over the empty word
-pub idle-binary : (l : List ℕ) (n B C : ℕ) (m : BinaryMark) → ((i : ℕ) → getD l i 65535 ≤ 65535)
+pub no-empty-side-binary : (l : List ℕ) (n B C : ℕ) (m : BinaryMark)
+    → ((i : ℕ) → getD l i 65535 ≤ 65535)
     → 65535 ≤ getD l (2081 * B) 65535 → 65535 ≤ getD l (2081 * C) 65535
     → Idle l n (Clause.Binary B C m)
-idle-binary l n B C m few x y = record {
+no-empty-side-binary l n B C m few x y = record {
   high = λ k s len q h A e t. ⊎-elim (λ z. left k s len q h A z t)
       (λ z. right k s len q h A z t) e;
 }
@@ -488,7 +491,7 @@ whole-none hs v s len (Clause.Unary B m) q h w b t = omega (arith, t .1)
 whole-none hs v s len (Clause.Binary B C m) q h w b t = w
 
 pub split-none : {v : Leave} {n start len : ℕ} {l : List ℕ} (r : Rule) → r .left < 64 → {c : Clause}
-    → r .clause ≡ c → Whole c → Passed (r ∷ []) v n start len (Between 0 1 len) l l false
+    → r .clause ≡ c → Whole c → HeightsTried (r ∷ []) v n start len (Between 0 1 len) l l false
 split-none {v} {n} {start} {len} {l} r small {c} e w =
     passed-none (lefts-one r small) _ (λ j q h d t.
     whole-none (table l n) v start len (r .clause) q h (subst Whole (sym e) w) (d .1)
@@ -504,11 +507,11 @@ few-numbers l f i = go (decLt i (length l))
         omega (arith, List·getD-eq-default l 65535 h′)
 
 -- so it is by the numbers that the code reads
-pub idle-by : (l : List ℕ) (n B C : ℕ) (m : BinaryMark) (x y : ℕ) → length l ≡ 133184
+pub no-empty-side-by : (l : List ℕ) (n B C : ℕ) (m : BinaryMark) (x y : ℕ) → length l ≡ 133184
     → ((i : ℕ) → getD l i 0 ≤ 65535) → x ≡ B → y ≡ C → B < 64 → C < 64
     → 65535 ≤ getD l (2081 * x) 0 → 65535 ≤ getD l (2081 * y) 0 → Idle l n (Clause.Binary B C m)
-idle-by l n B C m x y long few e f b c p q =
-    idle-binary l n B C m (few-numbers l few) (read B x e b p) (read C y f c q)
+no-empty-side-by l n B C m x y long few e f b c p q =
+    no-empty-side-binary l n B C m (few-numbers l few) (read B x e b p) (read C y f c q)
   where
     read : (A z : ℕ) → z ≡ A → A < 64 → 65535 ≤ getD l (2081 * z) 0
         → 65535 ≤ getD l (2081 * A) 65535

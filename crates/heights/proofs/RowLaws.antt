@@ -22,7 +22,8 @@ use Rattle.tables.specs.Tables.{Leave, byMarks, rule}
 use Rattle.tables.proofs.RulePlaces.{small-at}
 use Rattle.tables.proofs.Views.{Yields, marks-tokens, tokens-marks}
 use Rattle.heights.specs.Tall.{noHeight, table, Tall, byWord, Room}
-use Rattle.heights.specs.Falls.{Falls, stays, put, Passed, Inner, AllEnds, Stopped, Shut}
+use Rattle.heights.specs.Falls.{Falls, stays, put, HeightsTried, Inner, AllEnds, Stopped}
+use Rattle.heights.specs.Falls.{Shut}
 use Rattle.heights.specs.Filled.{Grounded}
 use Rattle.heights.proofs.TallLaws.{tall-view, tall-low, grown}
 use Rattle.heights.proofs.Bounds.{Put, Small, small-put, rowPlaced}
@@ -71,7 +72,7 @@ falls-view {g} {v} {v′} {n} {s} {len} {l} y (put i k h b t c d f) =
 
 shut-whole : {g : Rules} {s len : ℕ} {l m o : List ℕ} {r : _} (w : Word) (k : SpanMarks) → Lefts g
     → Room l (length w) s len → Marked (whole w) s len k
-    → Passed g (byMarks k len) (length w) s len (Inner len (length g)) l m r
+    → HeightsTried g (byMarks k len) (length w) s len (Inner len (length g)) l m r
     → Stopped g (byMarks k len) (length w) s len (AllEnds len (length g)) m o
     → Shut g (byWord w s len) (length w) s len l o
 shut-whole {g} {s} {len} {l} {m} {o} w k lefts room mk x y =
@@ -87,17 +88,17 @@ shut-whole {g} {s} {len} {l} {m} {o} w k lefts room mk x y =
 pub shut-by : {g : Rules} {s len : ℕ} {l m o : List ℕ} {r : _} (w : Word) (k : SpanMarks) (n c : ℕ)
     → length w ≡ n → c ≡ length g → Lefts g → Room l n s len
     → Marked (record { word = w; known = n }) s len k
-    → Passed g (byMarks k len) n s len (Inner len c) l m r
+    → HeightsTried g (byMarks k len) n s len (Inner len c) l m r
     → Stopped g (byMarks k len) n s len (AllEnds len c) m o
     → Shut g (byWord w s len) (length w) s len l o
 shut-by {g} {s} {len} {l} {m} {o} {r} w k n c e f lefts =
     subst (λ (y : ℕ). Room l n s len → Marked (record { word = w; known = n }) s len k
-    → Passed g (byMarks k len) n s len (Inner len y) l m r
+    → HeightsTried g (byMarks k len) n s len (Inner len y) l m r
     → Stopped g (byMarks k len) n s len (AllEnds len y) m o
     → Shut g (byWord w s len) (length w) s len l o) (sym f)
     (subst (λ (x : ℕ). Room l x s len
     → Marked (record { word = w; known = x }) s len k
-    → Passed g (byMarks k len) x s len (Inner len (length g)) l m r
+    → HeightsTried g (byMarks k len) x s len (Inner len (length g)) l m r
     → Stopped g (byMarks k len) x s len (AllEnds len (length g)) m o
     → Shut g (byWord w s len) (length w) s len l o) e
     (shut-whole w k lefts))

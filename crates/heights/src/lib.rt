@@ -26,7 +26,8 @@ ghost use Rattle.tables.specs.Tables.{byMarks};
 ghost use Rattle.marks.specs.Drafts.{drafted};
 ghost use Rattle.heights.specs.Least.{numberAt, HeightSheet};
 ghost use Rattle.heights.specs.Tall.{table, byWord, Measured, Lowest, Over, Room};
-ghost use Rattle.heights.specs.Falls.{Lowered, Idle, Passed, Between, Inner, Ends, AllEnds};
+ghost use Rattle.heights.specs.Falls.{Lowered, Idle, HeightsTried, Between, Inner, Ends};
+ghost use Rattle.heights.specs.Falls.{AllEnds};
 ghost use Rattle.heights.specs.Falls.{Either, Stopped, Shut};
 ghost use Rattle.heights.specs.Filled.{Filled, Whole, Settling};
 ghost use Rattle.grammar.specs.Sentences.{spelled};
@@ -190,7 +191,8 @@ fn lower(
     k: SpanMarks,
 ) -> bool
     requires { ⌜ Room (now hs) n start len × SmallRule r ⌝ }
-    ensures { λ fell. ⌜ Passed (r ∷ []) (byMarks k len) n start len (Between 0 left (left + 1))
+    ensures { λ fell. ⌜ HeightsTried (r ∷ []) (byMarks k len) n start len
+        (Between 0 left (left + 1))
         (now (hs .entry)) (now (hs .exit)) fell ⌝ }
 {
     let c = r.clause;
@@ -238,7 +240,7 @@ fn lowest_cut(
 // Try the rule with a token or more on either side; only a binary rule can stand so.
 fn lower_split(hs: &mut [u16], n: usize, r: Rule, start: usize, len: usize, k: SpanMarks) -> bool
     requires { ⌜ Room (now hs) n start len × SmallRule r ⌝ }
-    ensures { λ fell. ⌜ Passed (r ∷ []) (byMarks k len) n start len (Between 0 1 len)
+    ensures { λ fell. ⌜ HeightsTried (r ∷ []) (byMarks k len) n start len (Between 0 1 len)
         (now (hs .entry)) (now (hs .exit)) fell ⌝ }
 {
     let c = r.clause;
@@ -257,7 +259,7 @@ fn lower_split(hs: &mut [u16], n: usize, r: Rule, start: usize, len: usize, k: S
 // Each rule with a token or more on either side: shorter parts do not change, so once is enough.
 fn lower_inner(hs: &mut [u16], n: usize, g: Grammar, start: usize, len: usize, k: SpanMarks) -> bool
     requires { ⌜ Room (now hs) n start len × Formed g ⌝ }
-    ensures { λ r. ⌜ Passed (rules g) (byMarks k len) n start len (Inner len (g .count))
+    ensures { λ r. ⌜ HeightsTried (rules g) (byMarks k len) n start len (Inner len (g .count))
         (now (hs .entry)) (now (hs .exit)) r ⌝ }
 {
     let mut fell = false;
@@ -273,7 +275,7 @@ fn lower_inner(hs: &mut [u16], n: usize, g: Grammar, start: usize, len: usize, k
 
 // Is the clause binary, and has neither side a height over the empty word? Then it stands nowhere
 // with the empty word on one side.
-fn idle(hs: &[u16], n: usize, c: Clause) -> bool
+fn no_empty_side(hs: &[u16], n: usize, c: Clause) -> bool
     requires { ⌜ (length (now hs) ≡ 133184) × SmallClause c ⌝ }
     ensures { λ r. ⌜ (r ≡ true → Idle (now (hs .entry)) n c) ⌝ }
 {
@@ -295,11 +297,12 @@ fn idle(hs: &[u16], n: usize, c: Clause) -> bool
 // Try the rule with the empty word on one side.
 fn lower_ends(hs: &mut [u16], n: usize, r: Rule, start: usize, len: usize, k: SpanMarks) -> bool
     requires { ⌜ Room (now hs) n start len × SmallRule r ⌝ }
-    ensures { λ fell. ⌜ Passed (r ∷ []) (byMarks k len) n start len (Ends len 0) (now (hs .entry))
+    ensures { λ fell. ⌜ HeightsTried (r ∷ []) (byMarks k len) n start len (Ends len 0)
+        (now (hs .entry))
         (now (hs .exit)) fell ⌝ }
 {
     let c = r.clause;
-    if idle(hs, n, c) {
+    if no_empty_side(hs, n, c) {
         return false;
     }
     let a = lower(hs, n, r, start, len, 0, k);
@@ -310,7 +313,7 @@ fn lower_ends(hs: &mut [u16], n: usize, r: Rule, start: usize, len: usize, k: Sp
 // Each rule with the empty word on one side.
 fn lower_all(hs: &mut [u16], n: usize, g: Grammar, start: usize, len: usize, k: SpanMarks) -> bool
     requires { ⌜ Room (now hs) n start len × Formed g ⌝ }
-    ensures { λ r. ⌜ Passed (rules g) (byMarks k len) n start len (AllEnds len (g .count))
+    ensures { λ r. ⌜ HeightsTried (rules g) (byMarks k len) n start len (AllEnds len (g .count))
         (now (hs .entry)) (now (hs .exit)) r ⌝ }
 {
     let mut fell = false;

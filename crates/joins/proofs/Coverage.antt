@@ -18,7 +18,7 @@ use Rattle.tables.specs.Tables.Again.{apart, below}
 use Rattle.joins.specs.Passes.{noTally, LeafFits, Leaves, leaves-none, leaves-more, alone}
 use Rattle.joins.specs.Passes.{both, WholeSide, Pass, pass-none, pass-more, resumed}
 use Rattle.joins.specs.Passes.{Saturated}
-use Rattle.joins.proofs.TallyLaws.{Done, Standing, All, all-none, all-same, all-sets}
+use Rattle.joins.proofs.TallyLaws.{Done, StandingChoices, All, all-none, all-same, all-sets}
 use Rattle.joins.proofs.TallyLaws.{all-took, Still, still-same, still-took}
 use Rattle.joins.proofs.PassLaws.{Inside, AtEnd, inside-or-edge, InnerDone, LeafDone}
 use Rattle.joins.proofs.PassLaws.{WideDone, HalfDone, below-or-at, after-or-at}
@@ -26,7 +26,7 @@ use Rattle.joins.proofs.PassLaws.{passes-one, passes-two}
 
 -- the words ws, after the span's pair is written
 module _ (ws : List ℕ) (g : Rules) (n s len : ℕ) (k : SpanMarks) where
-  abbrev Held : Standing
+  abbrev Held : StandingChoices
   Held A j l = Stand (One ws n) g (byMarks k len) s len A j l
 
   abbrev Doubled : Done

@@ -25,7 +25,7 @@ use Rattle.joins.specs.Passes.{fell, LeafFits, Leaves, leaves-none}
 use Rattle.joins.specs.Passes.{leaves-more, Beside, alone, both, WholeSide, Pass}
 use Rattle.joins.specs.Passes.{pass-none, pass-more, resumed, Passes, passes-none}
 use Rattle.joins.specs.Passes.{passes-more, Saturated}
-use Rattle.joins.proofs.TallyLaws.{Done, Standing, took-one, took-two, took-in-one}
+use Rattle.joins.proofs.TallyLaws.{Done, StandingChoices, took-one, took-two, took-in-one}
 use Rattle.joins.proofs.TallyLaws.{took-in-two, From, from-none, from-same, Brings}
 use Rattle.joins.proofs.TallyLaws.{from-took, from-sets}
 use Rattle.tables.proofs.Soundness.{sound-stand, sound-again}
@@ -223,7 +223,7 @@ Truth₂ g h a b A = TwoTrees g A (part (h .word) a b)
 
 module _ (g : Rules) (h : Half) (inner : h .known ≤ length (h .word)) (distinct : Distinct g)
     (s len : ℕ) (kn : s + len ≤ h .known) (k : SpanMarks) (marked : Marked h s len k) where
-  abbrev Real : Standing
+  abbrev Real : StandingChoices
   Real A j l = Stand (Truth g h) g (byTokens h s len) s len A j l
 
   abbrev pub HasOne : ℕ → Type 0

@@ -18,8 +18,8 @@ abbrev pub Done : Type 1
 Done = ℕ → ℕ → Type 0
 
 -- which choices stand: nonterminal, rule, left length
-abbrev pub Standing : Type 1
-Standing = ℕ → ℕ → ℕ → Type 0
+abbrev pub StandingChoices : Type 1
+StandingChoices = ℕ → ℕ → ℕ → Type 0
 
 -- ---- a try adds to the sets
 
@@ -48,12 +48,12 @@ took-in-two {a = a} {t} (stood again q w f) A m = ⊎-elim
 -- ---- what the tally has
 
 -- of the rules it has seen, each stands and is done; what is in its sets has P, and Q
-pub record From (st : Standing) (P Q : ℕ → Type 0) (D : Done) (t : Tally) : Type 0 where
+pub record From (st : StandingChoices) (P Q : ℕ → Type 0) (D : Done) (t : Tally) : Type 0 where
   pub seen : (A : ℕ) → In (t .seen) A → (j : ℕ) × (k : ℕ) × D j k × st A j k
   pub one : (A : ℕ) → In (t .one) A → P A
   pub two : (A : ℕ) → In (t .two) A → Q A
 
-module _ (st : Standing) (P Q : ℕ → Type 0) where
+module _ (st : StandingChoices) (P Q : ℕ → Type 0) where
   pub from-none : (D : Done) → From st P Q D noTally
   from-none D = record {
     seen = λ A h. absurd (in-zero A h);
@@ -111,14 +111,14 @@ module _ (st : Standing) (P Q : ℕ → Type 0) where
 -- ---- what the tally misses: nothing
 
 -- each choice that is done and stands is counted (be: a word below it has two trees)
-pub record All (st : Standing) (be D : Done) (t : Tally) : Type 0 where
+pub record All (st : StandingChoices) (be D : Done) (t : Tally) : Type 0 where
   pub seen : (A j k : ℕ) → D j k → st A j k → In (t .seen) A
   pub one : (A j k : ℕ) → D j k → st A j k → In (t .one) A
   pub apart : (A j k j′ k′ : ℕ) → D j k → D j′ k′ → st A j k → st A j′ k′ → (Same j k j′ k′ → ⊥)
       → In (t .two) A
   pub below : (A j k : ℕ) → D j k → st A j k → be j k → In (t .two) A
 
-module _ (st : Standing) (be : Done) where
+module _ (st : StandingChoices) (be : Done) where
   pub all-none : (t : Tally) (D : Done) → ((A j k : ℕ) → D j k → st A j k → ⊥) → All st be D t
   all-none t D non = record {
     seen = λ A j k d c. absurd (non A j k d c);
@@ -214,12 +214,12 @@ module _ (st : Standing) (be : Done) where
           (λ x. absurd (⊎-elim (x .1) (λ z. missed (says z) (x .2)) why)) (f .two)
 
 -- the same of a pass that began with the sets f and p, as long as they do not grow
-pub record Still (st : Standing) (be : Done) (f p : ℕ) (D : Done) (t : Tally) : Type 0 where
+pub record Still (st : StandingChoices) (be : Done) (f p : ℕ) (D : Done) (t : Tally) : Type 0 where
   pub one-grows : f ≤ t .one
   pub two-grows : p ≤ t .two
   pub all : t .one ≡ f → t .two ≡ p → All st be D t
 
-module _ (st : Standing) (be : Done) (f p : ℕ) where
+module _ (st : StandingChoices) (be : Done) (f p : ℕ) where
   pub still-same : (D E : Done) (t : Tally) → ((A j k : ℕ) → E j k → st A j k → D j k)
       → Still st be f p D t → Still st be f p E t
   still-same D E t to h = record {

@@ -36,7 +36,7 @@ use Rattle.lengths.specs.declared.Growth.{Growth}
 use Rattle.lengths.specs.Indexes.{at, Shaped, Exact}
 use Rattle.lengths.specs.Passes.{SumTo, Has, firstOf, secondOf, Makes, GivesByIndex, Applied}
 use Rattle.lengths.specs.Passes.{Possible, by-empty, by-atom, by-unary, by-binary, Sound}
-use Rattle.lengths.specs.Passes.{Passed, Idle, Held, Named, Open, Widens, weigh}
+use Rattle.lengths.specs.Passes.{LengthsPassed, Idle, Held, Named, Open, Widens, weigh}
 use Rattle.lengths.proofs.SmallSets.{or-left, or-right, or-only, or-ge, or-small, high-none}
 use Rattle.lengths.proofs.SmallSets.{small-same}
 use Rattle.lengths.proofs.Possibly.{can-possible, possible-can}
@@ -281,7 +281,7 @@ named-more s t k = ⊎-elim (λ i. inl (in-or s t (firstOf k) .1 (inl i)))
 -- ---- passes
 
 module _ {g : Rules} where
-  pub passed-none : {x : Index} → Sound g x → Passed g 0 x x 0
+  pub passed-none : {x : Index} → Sound g x → LengthsPassed g 0 x x 0
   passed-none {x} s = record {
     sound = s;
     more = λ A. le-refl (at x A);
@@ -293,7 +293,7 @@ module _ {g : Rules} where
 
   -- a rule that gives x nothing
   pub passed-idle : {p : ℕ} {x y : Index} {grown : ℕ} (r : Rule) → getElem? g p ≡ some r → Idle x r
-      → Passed g p x y grown → Passed g (p + 1) x y grown
+      → LengthsPassed g p x y grown → LengthsPassed g (p + 1) x y grown
   passed-idle {p} {x} {y} {grown} r st i w = record {
     sound = w .sound;
     more = w .more;
@@ -316,8 +316,8 @@ module _ {g : Rules} where
 
   -- one that is applied
   pub passed-more : {p : ℕ} {x : Index} {w u : Growth} (r : Rule) → Shaped x
-      → getElem? g p ≡ some r → Passed g p x (w .index) (w .grown) → Widens w r u
-      → Passed g (p + 1) x (u .index) (u .grown)
+      → getElem? g p ≡ some r → LengthsPassed g p x (w .index) (w .grown) → Widens w r u
+      → LengthsPassed g (p + 1) x (u .index) (u .grown)
   passed-more {p} {x} {w} {u} r sx st v a = record {
     sound = applied-sound (v .sound) (member-at g p st) (a .applied);
     more = λ A. omega (arith, v .more A, a .applied .more A);
@@ -355,7 +355,7 @@ module _ {g : Rules} where
 
 -- rules that name nothing that a pass made grow give nothing after it
 pub passed-open : {g : Grammar} {x y : Index} {grown : ℕ} → Held g
-    → Passed (rules g) (g .count) x y grown → Open (rules g) y grown
+    → LengthsPassed (rules g) (g .count) x y grown → Open (rules g) y grown
 passed-open {g} {x} {y} h w = record {
   idle = λ r m none. record {
     has = λ n i. let p = place-of m in

@@ -89,7 +89,7 @@ pub record Sound (g : Rules) (x : Index) : Type 0 where
 
 -- the first p rules led from x to y, which has what they give to x; other sets than those of
 -- `grown` are the same, and where there are some y is heavier
-pub record Passed (g : Rules) (p : ℕ) (x y : Index) (grown : ℕ) : Type 0 where
+pub record LengthsPassed (g : Rules) (p : ℕ) (x y : Index) (grown : ℕ) : Type 0 where
   pub sound : Sound g y
   pub more : (A : ℕ) → at x A ≤ at y A
   pub keeps : (A n : ℕ) → In (at x A) n → In (at y A) n

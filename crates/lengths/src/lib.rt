@@ -12,7 +12,8 @@ ghost use Rattle.sets.specs.Says.{Says};
 ghost use Rattle.grammar.specs.Content.{rules, Formed, SmallClause, SmallRule};
 ghost use Rattle.lengths.specs.Indexes.{Shaped, Exact};
 ghost use Rattle.lengths.specs.Books.{Booked, Appended};
-ghost use Rattle.lengths.specs.Passes.{SumTo, Has, firstOf, secondOf, Makes, Sound, Passed};
+ghost use Rattle.lengths.specs.Passes.{SumTo, Has, firstOf, secondOf, Makes, Sound};
+ghost use Rattle.lengths.specs.Passes.{LengthsPassed};
 ghost use Rattle.lengths.specs.Passes.{Held, Named, Open, Widens};
 
 // For each nonterminal the set of its lengths.
@@ -131,7 +132,7 @@ fn names(set: u64, k: Clause) -> bool
 // One pass over the rules that name a nonterminal whose set is new, or has grown in this pass.
 fn pass(g: Grammar, x: Index, new: u64) -> Growth
     requires { ⌜ Held g × Sound (rules g) x × Open (rules g) x new ⌝ }
-    ensures { λ w. ⌜ Passed (rules g) (g .count) x (w .index) (w .grown) ⌝ }
+    ensures { λ w. ⌜ LengthsPassed (rules g) (g .count) x (w .index) (w .grown) ⌝ }
 {
     let count = g.count;
     let mut w = Growth { index: x, grown: 0 };

@@ -21,7 +21,8 @@ use Rattle.lexemes.specs.declared.Lexeme.the-variants as Lexeme
 use Rattle.lexemes.specs.Lexemes.{LexFound, starts, frontDigits, ranged, numbered, items}
 use Rattle.lexemes.specs.Lexemes.{Sign, signs, firstSign, lexeme, ontoLexemes, then, from}
 use Rattle.lexemes.specs.Lexemes.{lexemes}
-use Rattle.lexemes.specs.Answers.{lexemeOf, asLexed, standing, Front, Ended, LexemeTells}
+use Rattle.lexemes.specs.Answers.{lexemeOf, asLexed, standing, Front, NoBytesLeft}
+use Rattle.lexemes.specs.Answers.{LexemeTells}
 use Rattle.lexemes.specs.Answers.{Numbers, NumberAt, Lexes}
 use Rattle.fields.proofs.Pick.{hit, miss, either}
 use Rattle.fields.specs.declared.Number.{Number}
@@ -237,7 +238,7 @@ found-tells s at h = go (lexeme (drop at s)) refl
               });
         }
 
-pub none-left : (s : List ℕ) (at : ℕ) → at ≡ length s → Ended s at
+pub none-left : (s : List ℕ) (at : ℕ) → at ≡ length s → NoBytesLeft s at
 none-left s at h =
     record { front = ap lexemes (gone (drop at s) (omega (arith, length-drop at s))) }
   where

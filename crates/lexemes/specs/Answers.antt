@@ -61,7 +61,7 @@ pub record Front (s : List ℕ) (at : ℕ) (x : Lex) (e : ℕ) : Type 0 where
   pub front : lexemes (drop at s) ≡ ontoLexemes x (lexemes (drop e s))
 
 -- no byte is left; or no lexeme stands there
-pub record Ended (s : List ℕ) (at : ℕ) : Type 0 where
+pub record NoBytesLeft (s : List ℕ) (at : ℕ) : Type 0 where
   pub front : lexemes (drop at s) ≡ some []
 
 pub record Bad (s : List ℕ) (at : ℕ) : Type 0 where
@@ -79,7 +79,7 @@ LexemeTells s at (Lexeme.Plus m) e = Front s at (suffix (repeats C.from-one m)) 
 LexemeTells s at (Lexeme.Star m) e = Front s at (suffix (repeats C.from-zero m)) e
 LexemeTells s at (Lexeme.Marked m) e = Front s at (suffix (marks m)) e
 LexemeTells s at (Lexeme.Join m) e = Front s at (join m) e
-LexemeTells s at Lexeme.End e = Ended s at
+LexemeTells s at Lexeme.End e = NoBytesLeft s at
 LexemeTells s at Lexeme.Not e = Bad s at
 
 -- what stands at a place

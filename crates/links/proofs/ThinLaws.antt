@@ -73,11 +73,11 @@ thin-from {g = g} P f (thin-drop {i = i} t e) j h = let f′ : (x : ℕ) → x <
 -- ---- passes
 
 module _ (one two : ℕ) (k : SpanMarks) (len : ℕ) (pos : 0 < len) where
-  idle-wide : (a : ℕ) (c : Clause) (t : Tally) → Idle one c → WholeSide one two k len a c t t
-  idle-wide a Clause.Empty t d = refl
-  idle-wide a (Clause.Atom b e) t d = refl
-  idle-wide a (Clause.Unary B m) t d = absurd d
-  idle-wide a (Clause.Binary B C m) t d =
+  one-sided-wide : (a : ℕ) (c : Clause) (t : Tally) → Idle one c → WholeSide one two k len a c t t
+  one-sided-wide a Clause.Empty t d = refl
+  one-sided-wide a (Clause.Atom b e) t d = refl
+  one-sided-wide a (Clause.Unary B m) t d = absurd d
+  one-sided-wide a (Clause.Binary B C m) t d =
       both pos t (fell (λ q. d .0 (q .0)) refl) (fell (λ q. d .1 (q .1)) refl)
 
   module _ (g w : Rules) (t : Tally) where
@@ -104,7 +104,8 @@ module _ (one two : ℕ) (k : SpanMarks) (len : ℕ) (pos : 0 < len) where
             (ap (λ (d : ℕ). rule w d) z ∙ e) y)
 
     lift-drop : (i m : ℕ) → Idle one (rule g i .clause) → Lifts (i + 1) m → Lifts i m
-    lift-drop i m d f u p = pass-more (f u p) (idle-wide (rule g i .left) (rule g i .clause) u d)
+    lift-drop i m d f u p =
+        pass-more (f u p) (one-sided-wide (rule g i .left) (rule g i .clause) u d)
 
     lifts : {i m : ℕ} → Thinned one g w i m → m ≤ length w → Lifts i m → Lifts 0 0
     lifts thin-none h f = f

@@ -34,7 +34,7 @@ pub fn leaves(g: Grammar, k: SpanMarks, len: usize) -> Tally
 }
 
 // Does a rule never have a span on one side, `one` having a tree of the empty word?
-fn idle(c: Clause, one: u64) -> bool
+fn one_sided(c: Clause, one: u64) -> bool
     requires { ⌜ SmallClause c ⌝ }
     ensures { λ r. ⌜ Says r (Idle one c) ⌝ }
 {
@@ -63,7 +63,7 @@ pub fn link_rules(g: Grammar, one: u64) -> Grammar
         let r = g.rules[i];
         let c = r.clause;
         i += 1;
-        if idle(c, one) {
+        if one_sided(c, one) {
             continue;
         }
         rules[m] = r;

@@ -9,7 +9,7 @@ use Rattle.sets.proofs.Basics.{clash}
 use Rattle.printing.specs.Printing.{Wrote}
 use Rattle.lists.specs.declared.Listing.{Listing}
 use Rattle.lists.specs.Lists.{fits, large}
-use Rattle.lists.specs.Putting.{Puts, PutMore, listed, unfit, Ended}
+use Rattle.lists.specs.Putting.{Puts, PutMore, listed, unfit, AllPut}
 
 module _ {more : List ℕ} {n : ℕ} {old new : List ℕ} {l : Listing} where
   pub put-more : {next : ℕ} → l .fits ≡ true → l .count ≤ l .at → n ≤ length more
@@ -56,7 +56,7 @@ put-not {more} {n} {old} {l} b e c h =
 
 pub ended-fits : {old new : List ℕ} {l : Listing} → l .fits ≡ true
     → new ≡ take (l .at) old ++ replicate (length old - l .at) 0
-    → Ended old new l (listed (l .count))
+    → AllPut old new l (listed (l .count))
 ended-fits {old} {new} {l} f e =
     record {
       gives = λ {bytes} {n} {lent} p.
@@ -65,7 +65,7 @@ ended-fits {old} {new} {l} f e =
     }
 
 pub ended-not : {old new : List ℕ} {l : Listing} (b : Bool) → l .fits ≡ b
-    → (b ≡ true → length old < l .at) → new ≡ replicate (length old) 0 → Ended old new l unfit
+    → (b ≡ true → length old < l .at) → new ≡ replicate (length old) 0 → AllPut old new l unfit
 ended-not {old} {new} {l} true f h e =
     record { gives = λ p. absurd (omega (arith, h refl, p .within f, p .long)) }
 ended-not {old} {new} {l} false f h e =

@@ -37,6 +37,6 @@ abbrev pub unfit : Listed
 unfit = record { fits = false; count = 0 }
 
 -- all was put
-pub record Ended (old new : List ℕ) (l : Listing) (r : Listed) : Type 0 where
+pub record AllPut (old new : List ℕ) (l : Listing) (r : Listed) : Type 0 where
   pub gives : {bytes : List ℕ} {n : ℕ} {lent : List ℕ} → Puts bytes n lent old l
       → GivesList listed unfit bytes n lent new r

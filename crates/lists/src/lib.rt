@@ -6,7 +6,7 @@ ghost use mathlib.Core.Path.{_≡_};
 ghost use Prim.Native.Nat.{_≤_};
 ghost use lib.ListN.{length, replicate};
 ghost use Rattle.lists.specs.Lists.{GivesList};
-ghost use Rattle.lists.specs.Putting.{Begun, PutMore, Ended, listed, unfit};
+ghost use Rattle.lists.specs.Putting.{Begun, PutMore, AllPut, listed, unfit};
 
 // A list while it is put: the place behind what was put, the number of entries so far, and whether
 // all of it had room.
@@ -82,7 +82,7 @@ fn unfitting(out: &mut [u8]) -> Listed
 
 // The end of the list: 0 behind it, or all 0 if it did not fit.
 pub fn finish(out: &mut [u8], l: Listing) -> Listed
-    ensures { λ r. ⌜ Ended (now (out .entry)) (now (out .exit)) l r ⌝ }
+    ensures { λ r. ⌜ AllPut (now (out .entry)) (now (out .exit)) l r ⌝ }
 {
     let at = l.at;
     if !l.fits {
@@ -99,7 +99,7 @@ pub fn finish(out: &mut [u8], l: Listing) -> Listed
 }
 
 // A whole list at once, an entry a byte.
-pub fn give(out: &mut [u8], bytes: &[u8]) -> Listed
+pub fn put_list(out: &mut [u8], bytes: &[u8]) -> Listed
     ensures { λ r. ⌜ GivesList listed unfit (now (bytes .entry)) (length (now (bytes .entry)))
         (now (out .entry)) (now (out .exit)) r ⌝ }
 {

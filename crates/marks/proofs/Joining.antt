@@ -23,7 +23,7 @@ use Rattle.marks.specs.Drafts.{half}
 use Rattle.marks.specs.Half.{Half, tokenAt, MayKeep, MayPair}
 use Rattle.marks.specs.Later.{OffsideBy, OffalignBy}
 use Rattle.marks.proofs.DraftLaws.{drafted-at}
-use Rattle.marks.specs.Marked.{Included, Grown, Joined, opened, Advanced, alone, Pairing}
+use Rattle.marks.specs.Marked.{Included, IncludedIf, Joined, opened, Advanced, alone, Pairing}
 use Rattle.marks.specs.Marked.{Carried, Growing, Marked}
 use Rattle.marks.proofs.Columns.{least-first, least-more, least-open, offside-by}
 use Rattle.marks.proofs.Columns.{offalign-by}
@@ -83,7 +83,7 @@ line-open h s l b known p =
     (λ t. record { keeps = λ i x. t .keeps i (omega arith) }) p
 
 pair-more : (m : BinaryMark) (h : Half) (s l set r : ℕ) → 0 < l → s + l < h .known
-    → Grown set l (Pairs m (tokenAt (h .word) s) (tokenAt (h .word) (s + l - 1))
+    → IncludedIf set l (Pairs m (tokenAt (h .word) s) (tokenAt (h .word) (s + l - 1))
     (tokenAt (h .word) (s + l))) r → Pairing m h s l set → Pairing m h s (l + 1) r
 pair-more m h s l set r pos known g p =
     pairing-more m h s l set r (g .flag) pos

@@ -14,6 +14,6 @@ abbrev pub half : Draft → Half
 half d = record { word = drafted d; known = d .known }
 
 -- the span of len tokens from start on lies in the draft
-pub record Within (d : Draft) (start len : ℕ) : Type 0 where
+pub record SpanFits (d : Draft) (start len : ℕ) : Type 0 where
   pub few : d .count ≤ 64
   pub fits : start + len ≤ d .count

@@ -44,7 +44,7 @@ pub record Included (set l : ℕ) (yes : Bool) (r : ℕ) : Type 0 where
   pub isnt : yes ≡ false → r ≡ set
 
 -- r is the set, with l besides where P holds
-pub record Grown (set l : ℕ) (P : Type 0) (r : ℕ) : Type 0 where
+pub record IncludedIf (set l : ℕ) (P : Type 0) (r : ℕ) : Type 0 where
   pub flag : Bool
   pub says : Says flag P
   pub included : Included set l flag r
@@ -54,8 +54,8 @@ pub record Joined (k : SpanMarks) (l : ℕ) (a z t : Token) (r : SpanMarks) : Ty
   pub first : r .first ≡ k .first
   pub least : Grows (k .least) a t (r .least)
   pub single : Says (r .single) ((k .single ≡ true) × Keeps UnaryMark.Single a t)
-  pub align : Grown (k .align) l (Pairs BinaryMark.Align a z t) (r .align)
-  pub indent : Grown (k .indent) l (Pairs BinaryMark.Indent a z t) (r .indent)
+  pub align : IncludedIf (k .align) l (Pairs BinaryMark.Align a z t) (r .align)
+  pub indent : IncludedIf (k .indent) l (Pairs BinaryMark.Indent a z t) (r .indent)
   pub terminal : r .terminal ≡ k .terminal
 
 -- the marks k of l tokens with an open token after them

@@ -15,7 +15,7 @@ ghost use Rattle.sets.specs.Says.{Says};
 ghost use Rattle.sets.specs.Sets.{In};
 ghost use Rattle.grammar.specs.Layout.{Keeps, Pairs};
 ghost use Rattle.grammar.specs.declared.UnaryMark.the-variants as Unary;
-ghost use Rattle.marks.specs.Drafts.{half, Within};
+ghost use Rattle.marks.specs.Drafts.{half, SpanFits};
 ghost use Rattle.marks.specs.Later.{lesser, Grows, OffsideBy, OffalignBy};
 ghost use Rattle.marks.specs.Marked.{AtomBy, UnaryBy, BinaryBy, Included, Joined, opened};
 ghost use Rattle.marks.specs.Marked.{Growing, Starting, Marked};
@@ -228,7 +228,7 @@ pub fn first_marks(terminal: u8, column: Column) -> SpanMarks
 
 // What the tokens of the span leave to a rule.
 pub fn span_marks(d: Draft, start: usize, len: usize) -> SpanMarks
-    requires { ⌜ Within d start len ⌝ }
+    requires { ⌜ SpanFits d start len ⌝ }
     ensures { λ r. ⌜ Marked (half d) start len r ⌝ }
 {
     if len == 0 {

@@ -15,7 +15,7 @@ use Rattle.marks.specs.Half.{tokenAt}
 use Rattle.chart.specs.declared.Verdict.{Verdict}
 use Rattle.column_ranges.specs.declared.RangeToken.{RangeToken}
 use Rattle.column_ranges.specs.Ranges.{Ranges, WithinEnds, Chosen, SomeChoiceGives}
-use Rattle.column_ranges.specs.RangeSentences.{range, no-range, Ended}
+use Rattle.column_ranges.specs.RangeSentences.{range, no-range, EndsOrdered}
 use Rattle.narrowing.specs.Narrowing.{standing, lowToken, highToken, lowest, Singles, MayRise}
 use Rattle.narrowing.specs.Narrowing.{fixed, fixedAt}
 
@@ -78,7 +78,7 @@ lowest-at [] i h = absurd (omega arith)
 lowest-at (r ∷ rs) zero h = refl
 lowest-at (r ∷ rs) (suc i) h = lowest-at rs i (omega arith)
 
-pub lowest-chosen : (rs : Ranges) → Every Ended rs → Chosen rs (lowest rs)
+pub lowest-chosen : (rs : Ranges) → Every EndsOrdered rs → Chosen rs (lowest rs)
 lowest-chosen [] e = tt
 lowest-chosen (r ∷ rs) e = (
   record

@@ -19,7 +19,7 @@ use Rattle.sheets.proofs.Accepted.{after-says}
 use Rattle.column_ranges.specs.declared.RangeToken.{RangeToken}
 use Rattle.column_ranges.specs.declared.RangeSentence.{RangeSentence}
 use Rattle.column_ranges.specs.Ranges.{Ranges, columns}
-use Rattle.column_ranges.specs.RangeSentences.{range, rangesOf, no-range, Ended, Spread}
+use Rattle.column_ranges.specs.RangeSentences.{range, rangesOf, no-range, EndsOrdered, Spread}
 use Rattle.column_ranges.proofs.Counting.{range-read, ended-at}
 use Rattle.narrowing.specs.Narrowing.{lowToken, highToken, lowest, Single, MayRise, Picks}
 use Rattle.narrowing.specs.Narrowing.{SinglesFrom, PicksLast, fixed, Narrows}
@@ -194,8 +194,8 @@ narrows r t c {a} p h few e = record {
   spread = record {
     few = p .few;
     whole = ap length same ∙ length-set (rangesOf r) t a ∙ p .whole;
-    ended = subst (Every Ended) (sym same)
-        (every-set Ended (rangesOf r) t a (p .ended) (subst Ended (sym here) ended));
+    ended = subst (Every EndsOrdered) (sym same)
+        (every-set EndsOrdered (rangesOf r) t a (p .ended) (subst EndsOrdered (sym here) ended));
   };
   is = same ∙ ap (set (rangesOf r) t) here;
 }
@@ -206,10 +206,10 @@ narrows r t c {a} p h few e = record {
     here : a ≡ fixed (range (rangesOf r) t) (range (rangesOf r) t .low .0 + c)
     here = e ∙ ap (λ (x : RangeToken). fixed x (x .low .0 + c)) (sym (range-read r t h))
 
-    ended : Ended (fixed (range (rangesOf r) t) (range (rangesOf r) t .low .0 + c))
+    ended : EndsOrdered (fixed (range (rangesOf r) t) (range (rangesOf r) t .low .0 + c))
     ended =
-        let q : Ended (range (rangesOf r) t) =
-        subst Ended (sym (range-read r t h)) (ended-at p t h) in
+        let q : EndsOrdered (range (rangesOf r) t) =
+        subst EndsOrdered (sym (range-read r t h)) (ended-at p t h) in
         record {
           ordered = omega arith;
           least = omega (arith, q .least);
@@ -220,15 +220,17 @@ narrows r t c {a} p h few e = record {
 -- ---- all tokens in their lowest columns
 
 -- the first i tokens are
-pub record Laid (r : RangeSentence) (tokens : List Token) (i : ℕ) : Type 0 where
+pub record LowestPlaced (r : RangeSentence) (tokens : List Token) (i : ℕ) : Type 0 where
   pub long : length tokens ≡ 64
   pub each : (k : ℕ) → k < i → tokenAt tokens k ≡ lowToken (getD (r .tokens) k no-range)
 
-pub laid-none : (r : RangeSentence) (tokens : List Token) → length tokens ≡ 64 → Laid r tokens 0
+pub laid-none : (r : RangeSentence) (tokens : List Token) → length tokens ≡ 64
+    → LowestPlaced r tokens 0
 laid-none r tokens e = record { long = e; each = λ k h. absurd (omega arith) }
 
 pub laid-more : {r : RangeSentence} {tokens : List Token} {i : ℕ} {t : Token} → i < 64
-    → Laid r tokens i → t ≡ lowToken (getD (r .tokens) i no-range) → Laid r (set tokens i t) (i + 1)
+    → LowestPlaced r tokens i → t ≡ lowToken (getD (r .tokens) i no-range)
+        → LowestPlaced r (set tokens i t) (i + 1)
 laid-more {r} {tokens} {i} {t} h l e =
     record { long = length-set tokens i t ∙ l .long; each = λ k m. go k m (ℕ-discrete k i) }
   where
@@ -240,7 +242,7 @@ laid-more {r} {tokens} {i} {t} h l e =
     go k m (no d) = getD-set-other tokens i k t no-token d ∙ l .each k (omega arith)
 
 pub laid-all : {r : RangeSentence} {tokens : List Token} {i : ℕ} → Spread r → r .count ≤ i
-    → Laid r tokens i → take (r .count) tokens ≡ lowest (rangesOf r)
+    → LowestPlaced r tokens i → take (r .count) tokens ≡ lowest (rangesOf r)
 laid-all {r} {tokens} {i} p h l = ext-getD no-token (take (r .count) tokens) (lowest (rangesOf r))
     (long ∙ sym (p .whole) ∙ sym (lowest-long (rangesOf r))) (λ k m.
     let j : k < r .count = omega (arith, long) in

@@ -27,8 +27,8 @@ Narrows a b c d word k =
 
 -- what is asked of the offset of the token at i and one at c inside from i to j, and of those at a
 -- and b where a is before
-abbrev pub Within : ℕ → ℕ → ℕ → ℕ → ℕ → Type 0
-Within i j c mask k = i < c → c < j → In mask k
+abbrev pub AskedInside : ℕ → ℕ → ℕ → ℕ → ℕ → Type 0
+AskedInside i j c mask k = i < c → c < j → In mask k
 
 abbrev pub InFront : ℕ → ℕ → ℕ → ℕ → Type 0
 InFront a b mask k = a < b → In mask k
@@ -40,21 +40,21 @@ StartsLeave f x y t v w k =
     Narrows (f .begin) (f .end) (f .start) t (w .yc) k
     × Narrows (f .start) (f .stop) (f .begin) v (w .xc) k
     × Narrows (f .start) t (f .begin) v (w .cc) k
-    × Within (f .start) (f .stop) (f .begin) (x .keep) k
-    × Within (f .begin) (f .end) (f .start) (y .keep) k
+    × AskedInside (f .start) (f .stop) (f .begin) (x .keep) k
+    × AskedInside (f .begin) (f .end) (f .start) (y .keep) k
 
 abbrev pub StartCutLeave : Frame → Node → Node → ℕ → ℕ → Words → ℕ → Type 0
 StartCutLeave f x y t s w k =
     Narrows (f .start) (f .stop) (f .split) s (w .xd) k
     × Narrows (f .start) t (f .split) s (w .cd) k
-    × Within (f .start) (f .stop) (f .split) (x .keep) k
+    × AskedInside (f .start) (f .stop) (f .split) (x .keep) k
     × InFront (f .start) (f .split) (y .apart) k
 
 abbrev pub CutStartLeave : Frame → Node → Node → ℕ → ℕ → Words → ℕ → Type 0
 CutStartLeave f x y u v w k =
     Narrows (f .begin) (f .end) (f .cut) u (w .yd) k
     × Narrows (f .cut) u (f .begin) v (w .dc) k
-    × Within (f .begin) (f .end) (f .cut) (y .keep) k
+    × AskedInside (f .begin) (f .end) (f .cut) (y .keep) k
     × InFront (f .begin) (f .cut) (x .apart) k
 
 abbrev pub CutsLeave : Frame → Node → Node → ℕ → ℕ → Words → ℕ → Type 0
@@ -64,7 +64,7 @@ CutsLeave f x y u s w k =
     × InFront (f .cut) (f .split) (y .apart) k
 
 abbrev pub OwnLeave : ℕ → ℕ → ℕ → Node → ℕ → Type 0
-OwnLeave i m j x k = Within i j m (x .keep) k × In (x .join) k × InFront i m (x .apart) k
+OwnLeave i m j x k = AskedInside i j m (x .keep) k × In (x .join) k × InFront i m (x .apart) k
 
 -- where the children stop, by how many there are: 0 where there is none
 abbrev pub firstStop : ℕ → ℕ → ℕ → ℕ

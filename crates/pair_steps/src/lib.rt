@@ -8,7 +8,7 @@ ghost use mathlib.Core.Path.{_≡_};
 ghost use lib.ListN.{length};
 ghost use Rattle.pairs.specs.Settings.{AllowsOffset};
 ghost use Rattle.pair_steps.specs.Nodes.{Mask, Joint, Parted};
-ghost use Rattle.pair_steps.specs.Leaving.{Coded, Narrowed, Narrows, Within, InFront};
+ghost use Rattle.pair_steps.specs.Leaving.{Coded, Narrowed, Narrows, AskedInside, InFront};
 ghost use Rattle.pair_steps.specs.Leaving.{StartsLeave, StartCutLeave, CutStartLeave};
 ghost use Rattle.pair_steps.specs.Leaving.{CutsLeave, OwnLeave, firstStop, secondStop};
 ghost use Rattle.pair_steps.specs.Leaving.{StartsMost, OffsetsFound};
@@ -111,7 +111,7 @@ fn pair(m: u64, a: u8, b: u8, c: u8, d: u8, word: u64) -> u64
 // The offsets of `m` that are left to the tokens at `i` and at `c`, where `c` stands inside from
 // `i` to `j`: those of the mask.
 fn inside(m: u64, i: u8, j: u8, c: u8, mask: u64) -> u64
-    ensures { λ r. ⌜ Narrowed m (Within i j c mask) r ⌝ }
+    ensures { λ r. ⌜ Narrowed m (AskedInside i j c mask) r ⌝ }
 {
     if i < c {
         if c < j {

@@ -74,7 +74,7 @@ module _ (g : Rules) (w : Word) where
   -- 2. from trees to nodes with trees below
 
   -- a piece of the sentence over which a tree stands, of fewer than n nodes
-  pub record Grown (n : ℕ) (x : Piece) : Type 0 where
+  pub record TreeOver (n : ℕ) (x : Piece) : Type 0 where
     pub tree : Tree
     pub start : ℕ
     pub is : x ≡ piece tree start
@@ -89,7 +89,7 @@ module _ (g : Rules) (w : Word) where
     pub spot : Spot
     pub is : spot .whole ≡ piece t a
     pub fits : Fits g w spot
-    pub below : Every (Grown (rowCount t)) (kids spot)
+    pub below : Every (TreeOver (rowCount t)) (kids spot)
     pub heirs : Heirs t (spot .form)
     pub place : ruleOfShape (spot .shape) ≡ p
     pub split : splitOf (spot .shape) a (spot .cut) (a + length (word t)) ≡ k
@@ -193,7 +193,7 @@ module _ (g : Rules) (w : Word) where
       stands = c .stands ∙ ap some (c .top .1)
 
       grown₁ : (z : ℕ) → a + length (word r) ≡ z → 1 ≤ length (word r)
-          → Grown (rowCount (binary A r t)) (record { sort = root r; start = a; stop = z })
+          → TreeOver (rowCount (binary A r t)) (record { sort = root r; start = a; stop = z })
       grown₁ z q f =
           record {
             tree = r;
@@ -208,7 +208,7 @@ module _ (g : Rules) (w : Word) where
 
       grown₂ : (y z : ℕ) → a + length (word r) ≡ y → a + length (word r ++ word t) ≡ z
           → 1 ≤ length (word t)
-          → Grown (rowCount (binary A r t)) (record { sort = root t; start = y; stop = z })
+          → TreeOver (rowCount (binary A r t)) (record { sort = root t; start = y; stop = z })
       grown₂ y z o q f =
           record {
             tree = t;
@@ -324,7 +324,7 @@ module _ (g : Rules) (w : Word) where
 
   pub record Rooted (n : ℕ) (x : Spot) : Type 0 where
     pub fits : Fits g w x
-    pub below : Every (Grown n) (kids x)
+    pub below : Every (TreeOver n) (kids x)
 
   pub record Topped (n : ℕ) (k : Piece) : Type 0 where
     pub spot : Spot
@@ -333,7 +333,7 @@ module _ (g : Rules) (w : Word) where
     pub less : size < n
     pub rooted : Rooted size spot
 
-  pub topped : {n : ℕ} {k : Piece} → Grown n k → Topped n k
+  pub topped : {n : ℕ} {k : Piece} → TreeOver n k → Topped n k
   topped {n} {k} t =
       let c = takes-of (t .valid) in
       let y = sprout (t .tree) (t .start) (c .0) (c .1) (t .valid) (c .2) (t .lies) (t .full)

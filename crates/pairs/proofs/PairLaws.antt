@@ -16,7 +16,7 @@ use Rattle.pairs.specs.Facts.{behindIn, Might, two-nodes, of-node, of-so
 use Rattle.pairs.proofs.Every.{every-map}
 use Rattle.pairs.proofs.Nodes.{Piece, Meet, relation, nextAt, Spot, headOf}
 use Rattle.pairs.proofs.Nodes.{point, offsets, terminals, settingOf, pieceOf}
-use Rattle.pairs.proofs.NodeLaws.{Grown, Rooted, topped}
+use Rattle.pairs.proofs.NodeLaws.{TreeOver, Rooted, topped}
 use Rattle.pairs.proofs.SettingLaws.{fit-in, each-side, meets}
 
 -- 1. what holds of each couple
@@ -54,7 +54,7 @@ module _ (g : Rules) (w : Word) (rise : Rising w) (wide : Wide w) where
       → Meet (x .whole) (y .whole) → Might g (stand (settingOf w x y) (headOf x) (headOf y))
 
   -- a node and a child of the other
-  down : (i j : ℕ) (x : Spot) (k : Piece) → Smaller (i + j) → Rooted g w i x → Grown g w j k
+  down : (i j : ℕ) (x : Spot) (k : Piece) → Smaller (i + j) → Rooted g w i x → TreeOver g w j k
       → Meet (x .whole) k
       → Might g (against (x .shape) (k .sort) (relation w (x .whole) k))
       × Might g (behindAt w (x .whole) k)
@@ -68,7 +68,8 @@ module _ (g : Rules) (w : Word) (rise : Rising w) (wide : Wide w) where
       (of-node s, of-next s))
 
   -- two children
-  across : (i j : ℕ) (k l : Piece) → Smaller (i + j) → Grown g w i k → Grown g w j l → Meet k l
+  across : (i j : ℕ) (k l : Piece) → Smaller (i + j) → TreeOver g w i k → TreeOver g w j l
+      → Meet k l
       → Might g (sorts (k .sort) (l .sort) (relation w k l)) × Might g (behindAt w k l)
   across i j k l ih t u =
       let x = topped g w t in
@@ -85,11 +86,11 @@ module _ (g : Rules) (w : Word) (rise : Rising w) (wide : Wide w) where
 
   module _ (i j : ℕ) (x y : Spot) (ih : Smaller (i + j)) (r : Rooted g w i x)
       (q : Rooted g w j y) where
-    grown₁ : Every (λ k. Grown g w i (pieceOf x y k)) (sides₁ (headOf x))
-    grown₁ = each-side x y (Grown g w i) (x .form) start₁ cut₁ stop₁ (r .below)
+    grown₁ : Every (λ k. TreeOver g w i (pieceOf x y k)) (sides₁ (headOf x))
+    grown₁ = each-side x y (TreeOver g w i) (x .form) start₁ cut₁ stop₁ (r .below)
 
-    grown₂ : Every (λ k. Grown g w j (pieceOf x y k)) (sides₂ (headOf y))
-    grown₂ = each-side x y (Grown g w j) (y .form) start₂ cut₂ stop₂ (q .below)
+    grown₂ : Every (λ k. TreeOver g w j (pieceOf x y k)) (sides₂ (headOf y))
+    grown₂ = each-side x y (TreeOver g w j) (y .form) start₂ cut₂ stop₂ (q .below)
 
     every-told : Every (Told (settingOf w x y)) (couples (headOf x) (headOf y))
     every-told =

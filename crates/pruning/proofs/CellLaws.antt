@@ -14,7 +14,7 @@ use Rattle.candidates.specs.Arrays.{cellAt, cells}
 use Rattle.candidates.specs.Spelling.{LowSteps}
 use Rattle.candidates.specs.Windows.{Changed, columnBefore}
 use Rattle.candidates.proofs.Windows.{cells-size, take-cells}
-use Rattle.pruning.specs.Refuting.{no-cell, terminalAt, Turned, Moved, prior, most}
+use Rattle.pruning.specs.Refuting.{no-cell, terminalAt, TerminalChanged, Moved, prior, most}
 
 -- the cell at i of the list
 cells-from : (c : Candidate) (a n i : ℕ) → i < n → getD (cells c a n) i no-cell ≡ cellAt c (a + i)
@@ -90,8 +90,8 @@ module _ (c r : Candidate) (n i : ℕ) (d : Cell) (h : i < n) (ch : Changed c i 
       go q (no e) = ap (λ (x : Cell). x .terminal) (changed-rest q e)
 
   -- a terminal
-  pub turned-of : Turned i (d .terminal) (cells c 0 n) (cells r 0 n)
-  turned-of = record {
+  pub with-terminal-of : TerminalChanged i (d .terminal) (cells c 0 n) (cells r 0 n)
+  with-terminal-of = record {
     size = changed-size;
     kept = changed-kept;
     terminal = ap

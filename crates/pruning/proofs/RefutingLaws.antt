@@ -26,8 +26,9 @@ use Rattle.candidates.specs.Windows.{Fits, Fit}
 use Rattle.candidates.proofs.ListOrder.{candidate-fit}
 use Rattle.candidates.proofs.Spelling.{sentence-shares}
 use Rattle.chart.specs.Leaves.{LeafAt, May}
-use Rattle.pruning.specs.Refuting.{no-cell, terminalAt, Spelt, Twinned, Turned, Below, Moved}
-use Rattle.pruning.specs.Refuting.{Within, prior, most, Rises}
+use Rattle.pruning.specs.Refuting.{no-cell, terminalAt, Spelt, Twinned, TerminalChanged}
+use Rattle.pruning.specs.Refuting.{TerminalsTwinned, Moved}
+use Rattle.pruning.specs.Refuting.{PositionsTwinned, prior, most, Rises}
 use Rattle.chart.proofs.LeafLaws.{leaf-allows}
 use Rattle.pruning.proofs.CellLaws.{cells-terminal}
 use Rattle.grammar.specs.Sentences.{no-token}
@@ -105,12 +106,12 @@ terminal-at (d ∷ ds) zero m l e = e
 terminal-at (d ∷ ds) (suc j) m l e = terminal-at ds j m (omega arith) e
 
 module _ {g : Rules} {s n h b j : ℕ} {cs : List Cell} where
-  pub below-none : Below g s n h b j 0 cs
+  pub below-none : TerminalsTwinned g s n h b j 0 cs
   below-none = record { twin = λ ds c sh sp l. absurd (not-suc-le-zero l) }
 
   -- a terminal that is not kept: it is not in the set, or a smaller one replaces it
   pub below-skip : {m kept : ℕ} → Renames g s kept → h ≤ j → j < n → (In kept m → ⊥)
-      → Below g s n h b j m cs → Below g s n h b j (m + 1) cs
+      → TerminalsTwinned g s n h b j m cs → TerminalsTwinned g s n h b j (m + 1) cs
   below-skip {m} {kept} r low lt out q = record {
     twin = λ ds c sh sp l t. ⊎-elim (λ y. q .twin ds c sh sp y t)
         (λ y.
@@ -122,8 +123,9 @@ module _ {g : Rules} {s n h b j : ℕ} {cs : List Cell} where
   }
 
   -- one that was tried
-  pub below-more : {m : ℕ} {cs′ : List Cell} → b ≤ j → Turned j m cs cs′ → Twinned g s n h b j cs′
-      → Below g s n h b j m cs → Below g s n h b j (m + 1) cs
+  pub below-more : {m : ℕ} {cs′ : List Cell} → b ≤ j → TerminalChanged j m cs cs′
+      → Twinned g s n h b j cs′
+      → TerminalsTwinned g s n h b j m cs → TerminalsTwinned g s n h b j (m + 1) cs
   below-more {m} {cs′} low t r q = record {
     twin = λ ds c sh sp l u. ⊎-elim (λ y. q .twin ds c sh sp y u)
         (λ y. r .twin ds c (sh ∙ sym (t .kept b low))
@@ -137,7 +139,7 @@ module _ {g : Rules} {s n h b j : ℕ} {cs : List Cell} where
       spelt ds sp y i a v (no z) = sp .same i (omega arith) v ∙ sym (t .rest i (omega arith))
 
   -- all
-  pub below-all : j < n → Below g s n h b j 64 cs → Twinned g s n h b (j + 1) cs
+  pub below-all : j < n → TerminalsTwinned g s n h b j 64 cs → Twinned g s n h b (j + 1) cs
   below-all lt q = record {
     twin = λ ds c sh sp t. q .twin ds c sh sp
         (cells-terminal (Among s) n 0 ds (c .arranged .cells) j (omega (arith, c .arranged .size))
@@ -184,8 +186,8 @@ shares-more i ds cs h k e q = rw (add-one i)
 
 module _ {g : Rules} {s n h i : ℕ} {cs : List Cell} (size : length cs ≡ n) (lt : i < n) where
   -- a cell that reads like an earlier one
-  pub refuted-slack : Slack n (i + 1) h cs → Twinned g s n h (i + 1) (i + 1) cs
-  refuted-slack st = record { twin = λ ds c sh sp t. st .replaceable g s .twin ds c sh t }
+  pub refuted-earlier-twin : Slack n (i + 1) h cs → Twinned g s n h (i + 1) (i + 1) cs
+  refuted-earlier-twin st = record { twin = λ ds c sh sp t. st .replaceable g s .twin ds c sh t }
 
   -- one that does not come after the one before
   pub refuted-falling : (Rises cs i → ⊥) → Twinned g s n h (i + 1) (i + 1) cs
@@ -203,7 +205,7 @@ module _ {g : Rules} {s n h i : ℕ} {cs : List Cell} (size : length cs ≡ n) (
         }));
   }
 
-  pub within-none : Within g s n h i 0 cs
+  pub within-none : PositionsTwinned g s n h i 0 cs
   within-none = record {
     twin = λ ds c sh sp l t. absurd
         (let f = fit-at (Among s) n 0 0 ds i (candidate-fit (Among s) n ds c)
@@ -212,7 +214,8 @@ module _ {g : Rules} {s n h i : ℕ} {cs : List Cell} (size : length cs ≡ n) (
 
   -- a position that was tried
   pub within-more : {m : ℕ} {cs′ : List Cell} → Moved n i m cs cs′
-      → Twinned g s n h (i + 1) (i + 1) cs′ → Within g s n h i m cs → Within g s n h i (m + 1) cs
+      → Twinned g s n h (i + 1) (i + 1) cs′ → PositionsTwinned g s n h i m cs
+          → PositionsTwinned g s n h i (m + 1) cs
   within-more {m} {cs′} mv r q = record {
     twin = λ ds c sh sp l t. go ds c sh sp t
         (last-or m (getD ds i no-cell .step * n + getD ds i no-cell .column - 1)
@@ -253,7 +256,7 @@ module _ {g : Rules} {s n h i : ℕ} {cs : List Cell} (size : length cs ≡ n) (
           }) t
 
   -- all positions
-  pub within-all : {m : ℕ} → 3 * n ≤ m → Within g s n h i m cs → Twinned g s n h i i cs
+  pub within-all : {m : ℕ} → 3 * n ≤ m → PositionsTwinned g s n h i m cs → Twinned g s n h i i cs
   within-all {m} l q = record {
     twin = λ ds c sh sp t.
         let f = fit-at (Among s) n 0 0 ds i (candidate-fit (Among s) n ds c)

@@ -24,8 +24,9 @@ use Rattle.chart.specs.Sheets.{Exact}
 use Rattle.chart.proofs.ExactLaws.{empty-exact}
 use Rattle.chart.proofs.FillLaws.{first-kept, second-kept}
 use Rattle.pruning.specs.Refuting.{terminalAt}
-use Rattle.pruning.specs.Tables.{Tabled, Gathered, United, Small, Slot, TakesPair, LaidTo}
-use Rattle.pruning.specs.Tables.{Laid}
+use Rattle.pruning.specs.Tables.{Tabled, Gathered, United, Small, Slot, TakesPair}
+use Rattle.pruning.specs.Tables.{LeavesPutTo}
+use Rattle.pruning.specs.Tables.{LeavesPut}
 use Rattle.pruning.proofs.CellLaws.{cells-terminal}
 
 below-two : (n : ℕ) → n % 2 < 2
@@ -149,13 +150,13 @@ other-pair n j a b h fit out e = let z = pairAt-same n a b j 1 fit (omega arith)
     ⊎-elim (λ y. omega (arith, z .0, y)) (λ y. out (z .0) y) (z .1)
 
 module _ {table : List ℕ} {cs : List Cell} {n b : ℕ} where
-  pub laid-none : (ws : List ℕ) → LaidTo table cs n b 0 ws ws
+  pub laid-none : (ws : List ℕ) → LeavesPutTo table cs n b 0 ws ws
   laid-none ws =
       record { takes = λ k h. absurd (not-suc-le-zero h); past = past-same (2 * pairs n) ws }
 
   pub laid-more : {i r : ℕ} {ws ws₁ ws₂ : List ℕ} → i < n → Slot cs b i r
-      → LaidTo table cs n b i ws ws₁ → WrotePair ws₁ ws₂ (pairAt n i 1) (getD table (2 * r) 0)
-      (getD table (2 * r + 1) 0) → LaidTo table cs n b (i + 1) ws ws₂
+      → LeavesPutTo table cs n b i ws ws₁ → WrotePair ws₁ ws₂ (pairAt n i 1) (getD table (2 * r) 0)
+      (getD table (2 * r + 1) 0) → LeavesPutTo table cs n b (i + 1) ws ws₂
   laid-more {i} {r} {ws} {ws₁} {ws₂} h x f w = record {
     takes = λ k l q y. go k l q y (decLt k i);
     past =
@@ -178,8 +179,8 @@ module _ {table : List ℕ} {cs : List Cell} {n b : ℕ} where
           (record { first = w .first; second = w .second })
 
   -- the empty word's pair is the first
-  pub laid-all : {ws ws₁ ws₂ : List ℕ} {i : ℕ} → n ≤ i → LaidTo table cs n b i ws ws₁
-      → WrotePair ws₁ ws₂ 0 (getD table 130 0) (getD table 131 0) → Laid table cs n b ws ws₂
+  pub laid-all : {ws ws₁ ws₂ : List ℕ} {i : ℕ} → n ≤ i → LeavesPutTo table cs n b i ws ws₁
+      → WrotePair ws₁ ws₂ 0 (getD table 130 0) (getD table 131 0) → LeavesPut table cs n b ws ws₂
   laid-all {ws} {ws₁} {ws₂} {i} h f w = record {
     tokens = record {
       takes = λ k l r x.
@@ -200,7 +201,7 @@ module _ {table : List ℕ} {cs : List Cell} {n b : ℕ} where
 
 -- what a token that is laid has: the pair of its terminal, or one that allows for all of the set
 module _ {g : Rules} {s n b : ℕ} {table : List ℕ} {cs : List Cell} {ws ws′ : List ℕ}
-    (t : Tabled g s table) (l : Laid table cs n b ws ws′) where
+    (t : Tabled g s table) (l : LeavesPut table cs n b ws ws′) where
   pub laid-empty : (w : Word) → Exact g w n ws′ 0
   laid-empty w = empty-exact (t .empty) (l .first) (l .second) w n
 

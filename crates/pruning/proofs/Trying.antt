@@ -22,21 +22,24 @@ use Rattle.spans.proofs.ChangeLaws.{past-same, past-then, kept-past}
 use Rattle.chart.specs.Sheets.{Exact, Ready, Settles, Charted}
 use Rattle.chart.proofs.SheetLaws.{reads-second}
 use Rattle.chart.proofs.OpenLaws.{open-none, open-less}
-use Rattle.pruning.specs.Refuting.{terminalAt, Twinned, Standing, Loose, Poised}
-use Rattle.pruning.specs.Refuting.{PositionTried, Below, Ended, Spent, Struck, Done}
+use Rattle.pruning.specs.Refuting.{terminalAt, Twinned, PositionsFilled, TerminalOpen}
+use Rattle.pruning.specs.Refuting.{TerminalsFilled}
+use Rattle.pruning.specs.Refuting.{PositionTried, TerminalsTwinned, PositionsSearched}
+use Rattle.pruning.specs.Refuting.{AllPositionsSearched, TerminalTried, Done}
 use Rattle.chart.specs.Leaves.{Leaf, Allows, LeafAt}
-use Rattle.pruning.specs.Tables.{Tabled, Laid}
+use Rattle.pruning.specs.Tables.{Tabled, LeavesPut}
 use Rattle.pruning.proofs.TableLaws.{among-cells, laid-empty, laid-leaf, laid-free}
 use Rattle.pruning.proofs.RefutingLaws.{refuted-hopeless, below-all}
 use Rattle.pruning.proofs.WordLaws.{right-leaf, leaves-of, may-given, standing-ready}
-use Rattle.pruning.proofs.WordLaws.{standing-on, standing-back, standing-poised, turned-self}
+use Rattle.pruning.proofs.WordLaws.{standing-on, standing-back, standing-poised}
+use Rattle.pruning.proofs.WordLaws.{with-terminal-self}
 use Rattle.pruning.proofs.WordLaws.{loose-kept, loose-ready, loose-fixed, loose-filled}
 use Rattle.pruning.proofs.WordLaws.{loose-free, poised-loose, poised-standing}
 
 module _ {g : Rules} {n i : ℕ} {cs : List Cell} where
   -- no fill
   pub tried-out : {hold : ℕ} {ws : List ℕ} → ((s : ℕ) → Twinned g s n hold (i + 1) (i + 1) cs)
-      → Standing g n i cs ws → PositionTried true g n hold i cs ws ws
+      → PositionsFilled g n i cs ws → PositionTried true g n hold i cs ws ws
   tried-out {hold} {ws} r st = record {
     out = λ e. r;
     stays = λ e. st;
@@ -46,14 +49,15 @@ module _ {g : Rules} {n i : ℕ} {cs : List Cell} where
   }
 
   pub ready-draft : {ws : List ℕ} (d : Draft) → i < n → length cs ≡ n → drafted d ≡ sentence cs
-      → d .count ≡ n → d .known ≡ i + 1 → Standing g n i cs ws → Ready g (half d) (d .count) ws i n
+      → d .count ≡ n → d .known ≡ i + 1 → PositionsFilled g n i cs ws
+          → Ready g (half d) (d .count) ws i n
   ready-draft {ws} d h size e c k st =
       subst (λ (y : ℕ). Ready g (record { word = drafted d; known = y }) (d .count) ws i n) (sym k)
       (subst (λ (m : ℕ). Ready g (record { word = drafted d; known = i + 1 }) m ws i n) (sym c)
       (standing-ready h size e st))
 
   pub tried-settled : {hold : ℕ} {ws ws′ : List ℕ} {r : Bool} (d : Draft) → i < n → length cs ≡ n
-      → drafted d ≡ sentence cs → d .count ≡ n → d .known ≡ i + 1 → Standing g n i cs ws
+      → drafted d ≡ sentence cs → d .count ≡ n → d .known ≡ i + 1 → PositionsFilled g n i cs ws
       → Settles r g (half d) (d .count) ws ws′ → PositionTried r g n hold i cs ws ws′
   tried-settled {hold} {ws} {ws′} {r} d h size e c k st y = record {
     out = λ q s. refuted-hopeless e size (z .absent q) (λ a b u l. st .fixed a (omega arith) l)
@@ -67,7 +71,7 @@ module _ {g : Rules} {n i : ℕ} {cs : List Cell} where
       z = subst (λ (x : ℕ). Settles r g (record { word = drafted d; known = x }) n ws ws′) k
           (subst (λ (m : ℕ). Settles r g (half d) m ws ws′) c y)
 
-      on : Standing g n (i + 1) cs ws′
+      on : PositionsFilled g n (i + 1) cs ws′
       on = standing-on h size e st (z .right) (z .given)
 
 -- a draft is a half-known word
@@ -88,7 +92,8 @@ settles-at {r} {g} {n} {k} {ws} {ws′} d c e y = subst
 module _ {g : Rules} {n b : ℕ} {cs : List Cell} where
   -- the words are ready to be filled from token b on
   pub ready-again : {ws : List ℕ} (d : Draft) → b ≤ n → length cs ≡ n → drafted d ≡ sentence cs
-      → d .count ≡ n → d .known ≡ b → Standing g n b cs ws → Ready g (half d) (d .count) ws b n
+      → d .count ≡ n → d .known ≡ b → PositionsFilled g n b cs ws
+          → Ready g (half d) (d .count) ws b n
   ready-again {ws} d h size e c k st = ready-at d c k (record {
     low = omega arith;
     high = h;
@@ -99,8 +104,9 @@ module _ {g : Rules} {n b : ℕ} {cs : List Cell} where
   })
 
   pub spent : {hold : ℕ} {r r₀ : Bool} {ws ws₁ ws₂ : List ℕ} (d : Draft) → r₀ ≡ false
-      → drafted d ≡ sentence cs → d .count ≡ n → d .known ≡ b → Ended r₀ g n hold b cs ws ws₁
-      → Settles r g (half d) (d .count) ws₁ ws₂ → Spent false g n hold b cs ws ws₂
+      → drafted d ≡ sentence cs → d .count ≡ n → d .known ≡ b
+          → PositionsSearched r₀ g n hold b cs ws ws₁
+      → Settles r g (half d) (d .count) ws₁ ws₂ → AllPositionsSearched false g n hold b cs ws ws₂
   spent {hold} {r} {r₀} {ws} {ws₁} {ws₂} d no-more e c k q y =
       let z = settles-at d c k y in
       record {
@@ -113,25 +119,28 @@ module _ {g : Rules} {n b : ℕ} {cs : List Cell} where
 module _ {g : Rules} {s n b j : ℕ} {cs : List Cell} (low : b ≤ j) (h : j < n) where
   -- the pair of the token at j is written
   pub wrote-loose : {ws ws′ : List ℕ} {p q : ℕ} → WrotePair ws ws′ (pairAt n j 1) p q
-      → Loose g s n b j cs ws → Loose g s n b j cs ws′
+      → TerminalOpen g s n b j cs ws → TerminalOpen g s n b j cs ws′
   wrote-loose w l = loose-kept low h (w .kept) l
 
   pub ready-loose : {ws : List ℕ} (d : Draft) → length cs ≡ n → drafted d ≡ sentence cs
-      → d .count ≡ n → d .known ≡ b → Loose g s n b j cs ws
+      → d .count ≡ n → d .known ≡ b → TerminalOpen g s n b j cs ws
       → Ready g (half d) (d .count) ws b (j + 1)
-  ready-loose d size e c k l = ready-at d c k (loose-ready low h (turned-self j cs) size e l)
+  ready-loose d size e c k l = ready-at d c k (loose-ready low h (with-terminal-self j cs) size e l)
 
-  pub struck-settled : {r : Bool} {ws ws₁ ws₂ : List ℕ} {x p q : ℕ} (d : Draft) → length cs ≡ n
+  pub try-terminal-settled : {r : Bool} {ws ws₁ ws₂ : List ℕ} {x p q : ℕ} (d : Draft)
+      → length cs ≡ n
       → drafted d ≡ sentence cs → d .count ≡ n → d .known ≡ b → terminalAt cs j ≡ x
-      → WrotePair ws ws₁ (pairAt n j 1) p q → Leaf g x p q → Loose g s n b j cs ws
-      → Settles r g (half d) (d .count) ws₁ ws₂ → Struck r g s n b j cs ws ws₂
-  struck-settled {r} {ws} {ws₁} {ws₂} {x} {p} {q} d size e c k t w al lo y =
+      → WrotePair ws ws₁ (pairAt n j 1) p q → Leaf g x p q → TerminalOpen g s n b j cs ws
+      → Settles r g (half d) (d .count) ws₁ ws₂ → TerminalTried r g s n b j cs ws ws₂
+  try-terminal-settled {r} {ws} {ws₁} {ws₂} {x} {p} {q} d size e c k t w al lo y =
       let z = settles-at d c k y in
       let l = wrote-loose w lo in
       record {
         out = λ u hold. refuted-hopeless e size (z .absent u)
-            (λ i a v v′. loose-fixed low h (turned-self j cs) m l i v v′) (λ i a v. l .free i a v);
-        stays = loose-filled low h (turned-self j cs) e m l (z .right) (z .beyond) (z .given);
+            (λ i a v v′. loose-fixed low h (with-terminal-self j cs) m l i v v′)
+                (λ i a v. l .free i a v);
+        stays = loose-filled low h (with-terminal-self j cs) e m l (z .right) (z .beyond)
+            (z .given);
         past = past-then (kept-past n j 1 (omega arith) (w .kept)) (z .past);
       }
     where
@@ -145,19 +154,20 @@ next-up i j b e low far = omega arith
 
 module _ {g : Rules} {s n b j i : ℕ} {cs : List Cell} (e : i ≡ j - 1) (low : b ≤ j) (high : j ≤ n)
     (far : j ≡ b → ⊥) where
-  pub poised-down : {ws : List ℕ} → Poised g s n b j cs ws → Loose g s n b i cs ws
+  pub poised-down : {ws : List ℕ} → TerminalsFilled g s n b j cs ws → TerminalOpen g s n b i cs ws
   poised-down {ws} p = poised-loose (let z : b ≤ i = omega arith in z)
       (let z : i < n = omega arith in z)
-      (subst (λ (k : ℕ). Poised g s n b k cs ws) (sym (next-up i j b e low far)) p)
+      (subst (λ (k : ℕ). TerminalsFilled g s n b k cs ws) (sym (next-up i j b e low far)) p)
 
   -- the last write: the token is free again
   pub done-full : {hold : ℕ} {ws ws₁ ws₂ : List ℕ} {p q : ℕ} → Past (2 * pairs n) ws ws₁
-      → Loose g s n b i cs ws₁ → Below g s n hold b i 64 cs → WrotePair ws₁ ws₂ (pairAt n i 1) p q
+      → TerminalOpen g s n b i cs ws₁ → TerminalsTwinned g s n hold b i 64 cs
+          → WrotePair ws₁ ws₂ (pairAt n i 1) p q
       → ((x : ℕ) → Among s x → Allows g x p q) → Done false g s n hold b j cs ws ws₂
   done-full {hold} {ws} {ws₁} {ws₂} {p} {q} pa l be w f = record {
     out = λ u. subst (λ (k : ℕ). Twinned g s n hold b k cs) (next-up i j b e low far)
         (below-all h be);
-    stays = λ u. subst (λ (k : ℕ). Poised g s n b k cs ws₂) (next-up i j b e low far)
+    stays = λ u. subst (λ (k : ℕ). TerminalsFilled g s n b k cs ws₂) (next-up i j b e low far)
         (loose-free (let z : b ≤ i = omega arith in z) h
         (λ x a. subst₂ (Allows g x) (sym (w .first)) (sym (w .second)) (f x a))
         (wrote-loose (let z : b ≤ i = omega arith in z) h w l));
@@ -169,24 +179,24 @@ module _ {g : Rules} {s n b j i : ℕ} {cs : List Cell} (e : i ≡ j - 1) (low :
 
 -- the positions decide
 pub done-of : {r : Bool} {g : Rules} {s n hold b j : ℕ} {cs : List Cell} {ws ws′ : List ℕ} → j ≡ b
-    → Spent r g n hold b cs ws ws′ → Done r g s n hold b j cs ws ws′
+    → AllPositionsSearched r g n hold b cs ws ws′ → Done r g s n hold b j cs ws ws′
 done-of {r} {g} {s} {n} {hold} {b} {j} {cs} {ws} {ws′} e q = record {
   out = λ u. subst (λ (k : ℕ). Twinned g s n hold b k cs) (sym e) (q .out u s);
-  stays = λ u. subst (λ (k : ℕ). Poised g s n b k cs ws′) (sym e) (q .stays u s);
+  stays = λ u. subst (λ (k : ℕ). TerminalsFilled g s n b k cs ws′) (sym e) (q .stays u s);
   past = q .past;
 }
 
 pub standing-of : {g : Rules} {s n b j : ℕ} {cs : List Cell} {ws : List ℕ} → j ≡ b
-    → Poised g s n b j cs ws → Standing g n b cs ws
+    → TerminalsFilled g s n b j cs ws → PositionsFilled g n b cs ws
 standing-of {g} {s} {n} {b} {j} {cs} {ws} e p =
-    poised-standing (subst (λ (k : ℕ). Poised g s n b k cs ws) e p)
+    poised-standing (subst (λ (k : ℕ). TerminalsFilled g s n b k cs ws) e p)
 
 -- ---- the start
 
 -- the words that are laid may be filled
 pub laid-ready : {g : Rules} {s n b : ℕ} {table : List ℕ} {cs : List Cell} {ws ws₁ : List ℕ}
     (d : Draft) → b ≤ n → Candidate (Among s) n cs → drafted d ≡ sentence cs → d .count ≡ n
-    → d .known ≡ b → Tabled g s table → Laid table cs n b ws ws₁
+    → d .known ≡ b → Tabled g s table → LeavesPut table cs n b ws ws₁
     → Ready g (half d) (d .count) ws₁ 0 n
 laid-ready {g} {s} {n} {b} {cs = cs} {ws₁ = ws₁} d low k e c kn t l = ready-at d c kn (record {
   low = omega arith;
@@ -201,7 +211,8 @@ laid-ready {g} {s} {n} {b} {cs = cs} {ws₁ = ws₁} d low k e c kn t l = ready-
 -- and are poised then, all terminals from b on being open
 pub poised-start : {g : Rules} {s n b : ℕ} {table : List ℕ} {cs : List Cell} {ws ws₁ ws₂ : List ℕ}
     (d : Draft) → b ≤ n → drafted d ≡ sentence cs → d .count ≡ n → d .known ≡ b → Tabled g s table
-    → Laid table cs n b ws ws₁ → Charted ws₁ ws₂ g (half d) (d .count) → Poised g s n b n cs ws₂
+    → LeavesPut table cs n b ws ws₁ → Charted ws₁ ws₂ g (half d) (d .count)
+        → TerminalsFilled g s n b n cs ws₂
 poised-start {g} {s} {n} {b} {cs = cs} {ws} {ws₁} {ws₂} d low e c k t l y = record {
   right = subst (λ (u : Word). Exact g u n ws₂ b) e (z .exact);
   beyond = open-less n low (z .beyond);
@@ -219,7 +230,7 @@ charted-past {g} {n} {ws} {ws′} d c y = subst (λ (m : ℕ). Past (2 * pairs m
 
 -- all is known: the sheet says if there are two trees
 pub two-read : {g : Rules} {s n : ℕ} {ws : List ℕ} {r : Bool} (cs : List Cell) → length cs ≡ n
-    → Poised g s n n n cs ws → Says r (In (secondWord ws n 0 n) 0)
+    → TerminalsFilled g s n n n cs ws → Says r (In (secondWord ws n 0 n) 0)
     → Says r (TwoTrees g 0 (sentence cs))
 two-read cs size p = let q = reads-second (sentence-length 1 cs ∙ size) (p .right) in
     says-iff (q .0) (q .1)

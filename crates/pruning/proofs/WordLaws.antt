@@ -23,7 +23,8 @@ use Rattle.candidates.proofs.Spelling.{sentence-shares}
 use Rattle.chart.specs.Leaves.{Leaf, Allows, LeafAt, May}
 use Rattle.chart.proofs.ExactLaws.{exact-less, exact-front, exact-words}
 use Rattle.chart.proofs.LeafLaws.{exact-leaf}
-use Rattle.pruning.specs.Refuting.{terminalAt, Poised, Loose, Standing, Turned, Moved}
+use Rattle.pruning.specs.Refuting.{terminalAt, TerminalsFilled, TerminalOpen, PositionsFilled}
+use Rattle.pruning.specs.Refuting.{TerminalChanged, Moved}
 use Rattle.pruning.proofs.TableLaws.{other-pair}
 use Rattle.pruning.proofs.RefutingLaws.{placed-terminal}
 
@@ -66,7 +67,7 @@ leaves-of g n ws cs size far e f i h =
 
 module _ {g : Rules} {n i : ℕ} {cs : List Cell} (h : i < n) (size : length cs ≡ n) where
   -- the words are ready for the token at i
-  pub standing-ready : {w : Word} {ws : List ℕ} → w ≡ sentence cs → Standing g n i cs ws
+  pub standing-ready : {w : Word} {ws : List ℕ} → w ≡ sentence cs → PositionsFilled g n i cs ws
       → Ready g (record { word = w; known = i + 1 }) n ws i n
   standing-ready {w} {ws} e st = record {
     low = omega arith;
@@ -82,15 +83,16 @@ module _ {g : Rules} {n i : ℕ} {cs : List Cell} (h : i < n) (size : length cs 
       go k l (no x) = st .fixed k (omega arith) (omega arith)
 
   -- on: its position is known
-  pub standing-on : {w : Word} {ws ws′ : List ℕ} → w ≡ sentence cs → Standing g n i cs ws
-      → Exact g w n ws′ (i + 1) → Given ws ws′ n → Standing g n (i + 1) cs ws′
+  pub standing-on : {w : Word} {ws ws′ : List ℕ} → w ≡ sentence cs → PositionsFilled g n i cs ws
+      → Exact g w n ws′ (i + 1) → Given ws ws′ n → PositionsFilled g n (i + 1) cs ws′
   standing-on {w} {ws} {ws′} e st x v = record {
     right = subst (λ (u : Word). Exact g u n ws′ (i + 1)) e x;
     fixed = λ k a b. leaf-given g k (terminalAt cs k) v b (st .fixed k (omega arith) b);
   }
 
   -- and back
-  pub standing-back : {ws : List ℕ} → Standing g n (i + 1) cs ws → Standing g n i cs ws
+  pub standing-back : {ws : List ℕ} → PositionsFilled g n (i + 1) cs ws
+      → PositionsFilled g n i cs ws
   standing-back {ws} st = record {
     right = exact-less i (omega arith) (st .right);
     fixed = λ k a b.
@@ -103,7 +105,7 @@ module _ {g : Rules} {n i : ℕ} {cs : List Cell} (h : i < n) (size : length cs 
 
 -- another position at i: the same words stand
 pub standing-moved : {g : Rules} {n i m : ℕ} {cs cs′ : List Cell} {ws : List ℕ} → Moved n i m cs cs′
-    → Standing g n i cs ws → Standing g n i cs′ ws
+    → PositionsFilled g n i cs ws → PositionsFilled g n i cs′ ws
 standing-moved {g} {n} {i} {m} {cs} {cs′} {ws} mv st = record {
   right = exact-front (sentence cs′) (sentence-shares i cs′ cs (mv .kept i (omega arith)))
       (st .right);
@@ -111,7 +113,7 @@ standing-moved {g} {n} {i} {m} {cs} {cs′} {ws} mv st = record {
 }
 
 pub standing-unmoved : {g : Rules} {n i m : ℕ} {cs cs′ : List Cell} {ws : List ℕ}
-    → Moved n i m cs cs′ → Standing g n i cs′ ws → Standing g n i cs ws
+    → Moved n i m cs cs′ → PositionsFilled g n i cs′ ws → PositionsFilled g n i cs ws
 standing-unmoved {g} {n} {i} {m} {cs} {cs′} {ws} mv st = record {
   right = exact-front (sentence cs) (sym (sentence-shares i cs′ cs (mv .kept i (omega arith))))
       (st .right);
@@ -120,12 +122,13 @@ standing-unmoved {g} {n} {i} {m} {cs} {cs′} {ws} mv st = record {
 
 -- ---- by terminals
 
-turned-front : {b j x : ℕ} {cs cs′ : List Cell} → b ≤ j → Turned j x cs cs′
+with-terminal-front : {b j x : ℕ} {cs cs′ : List Cell} → b ≤ j → TerminalChanged j x cs cs′
     → take b (sentence cs′) ≡ take b (sentence cs)
-turned-front {b} {j} {x} {cs} {cs′} low t = sentence-shares b cs′ cs (t .kept b low)
+with-terminal-front {b} {j} {x} {cs} {cs′} low t = sentence-shares b cs′ cs (t .kept b low)
 
 module _ {g : Rules} {s n b j : ℕ} {cs : List Cell} (low : b ≤ j) (h : j < n) where
-  pub poised-loose : {ws : List ℕ} → Poised g s n b (j + 1) cs ws → Loose g s n b j cs ws
+  pub poised-loose : {ws : List ℕ} → TerminalsFilled g s n b (j + 1) cs ws
+      → TerminalOpen g s n b j cs ws
   poised-loose p = record {
     right = p .right;
     beyond = p .beyond;
@@ -135,8 +138,8 @@ module _ {g : Rules} {s n b j : ℕ} {cs : List Cell} (low : b ≤ j) (h : j < n
   }
 
   -- a write of the pair of the token at j
-  pub loose-kept : {ws ws′ : List ℕ} → Kept ws ws′ (pairAt n j 1) → Loose g s n b j cs ws
-      → Loose g s n b j cs ws′
+  pub loose-kept : {ws ws′ : List ℕ} → Kept ws ws′ (pairAt n j 1) → TerminalOpen g s n b j cs ws
+      → TerminalOpen g s n b j cs ws′
   loose-kept {ws} {ws′} k p = record {
     right = exact-words ws′ (λ a c fit. (
       first-kept ws ws′ n (pairAt n j 1) k a c
@@ -160,8 +163,9 @@ module _ {g : Rules} {s n b j : ℕ} {cs : List Cell} (low : b ≤ j) (h : j < n
   }
 
   -- the pair of the whole set: the token is as free as those before it
-  pub loose-free : {ws : List ℕ} → ((x : ℕ) → Among s x → May g n ws j x) → Loose g s n b j cs ws
-      → Poised g s n b (j + 1) cs ws
+  pub loose-free : {ws : List ℕ} → ((x : ℕ) → Among s x → May g n ws j x)
+      → TerminalOpen g s n b j cs ws
+      → TerminalsFilled g s n b (j + 1) cs ws
   loose-free {ws} m p = record {
     right = p .right;
     beyond = p .beyond;
@@ -175,23 +179,24 @@ module _ {g : Rules} {s n b j : ℕ} {cs : List Cell} (low : b ≤ j) (h : j < n
       go i a l (no k) = let e : j ≡ i = omega arith in
           λ x q. subst (λ (y : ℕ). May g n ws y x) e (m x q)
 
-  module _ {x : ℕ} {cs′ : List Cell} (t : Turned j x cs cs′) where
+  module _ {x : ℕ} {cs′ : List Cell} (t : TerminalChanged j x cs cs′) where
     -- the words are ready, with the terminal x at j
     pub loose-ready : {w : Word} {ws : List ℕ} → length cs′ ≡ n → w ≡ sentence cs′
-        → Loose g s n b j cs ws → Ready g (record { word = w; known = b }) n ws b (j + 1)
+        → TerminalOpen g s n b j cs ws → Ready g (record { word = w; known = b }) n ws b (j + 1)
     loose-ready {w} {ws} size e p = record {
       low = omega arith;
       high = omega arith;
       within = omega arith;
       right = subst (λ (v : Word). Exact g v n ws b) (sym e)
-          (exact-front (sentence cs′) (turned-front low t) (p .right));
+          (exact-front (sentence cs′) (with-terminal-front low t) (p .right));
       leaves = leaves-of g n ws cs′ size (omega arith) e
           (right-leaf cs′ size (omega arith)
-          (exact-front (sentence cs′) (turned-front low t) (p .right)));
+          (exact-front (sentence cs′) (with-terminal-front low t) (p .right)));
       beyond = p .beyond;
     }
 
-    pub loose-fixed : {ws : List ℕ} → LeafAt g n ws j x → Loose g s n b j cs ws → (i : ℕ) → j ≤ i
+    pub loose-fixed : {ws : List ℕ} → LeafAt g n ws j x → TerminalOpen g s n b j cs ws → (i : ℕ)
+        → j ≤ i
         → i < n → LeafAt g n ws i (terminalAt cs′ i)
     loose-fixed {ws} m p i a l = go (decLt j i)
       where
@@ -202,8 +207,8 @@ module _ {g : Rules} {s n b j : ℕ} {cs : List Cell} (low : b ≤ j) (h : j < n
 
     -- filled: poised for the token before
     pub loose-filled : {w : Word} {ws ws′ : List ℕ} → w ≡ sentence cs′ → LeafAt g n ws j x
-        → Loose g s n b j cs ws → Exact g w n ws′ b → Open g n ws′ b → Given ws ws′ n
-        → Poised g s n b j cs′ ws′
+        → TerminalOpen g s n b j cs ws → Exact g w n ws′ b → Open g n ws′ b → Given ws ws′ n
+        → TerminalsFilled g s n b j cs′ ws′
     loose-filled {w} {ws} {ws′} e m p y o v = record {
       right = subst (λ (u : Word). Exact g u n ws′ b) e y;
       beyond = open-less j low o;
@@ -212,9 +217,10 @@ module _ {g : Rules} {s n b j : ℕ} {cs : List Cell} (low : b ≤ j) (h : j < n
     }
 
     -- and back
-    pub poised-back : {ws : List ℕ} → Poised g s n b j cs′ ws → Loose g s n b j cs ws
+    pub poised-back : {ws : List ℕ} → TerminalsFilled g s n b j cs′ ws
+        → TerminalOpen g s n b j cs ws
     poised-back {ws} p = record {
-      right = exact-front (sentence cs) (sym (turned-front low t)) (p .right);
+      right = exact-front (sentence cs) (sym (with-terminal-front low t)) (p .right);
       beyond = open-less (j + 1) (omega arith) (p .beyond);
       fixed = λ i a l. subst (LeafAt g n ws i) (t .rest i a) (p .fixed i (omega arith) l);
       free = p .free;
@@ -222,12 +228,13 @@ module _ {g : Rules} {s n b j : ℕ} {cs : List Cell} (low : b ≤ j) (h : j < n
 
 -- all terminals fixed: to the positions, and back after a fill of all spans past the first b tokens
 pub poised-standing : {g : Rules} {s n b : ℕ} {cs : List Cell} {ws : List ℕ}
-    → Poised g s n b b cs ws → Standing g n b cs ws
+    → TerminalsFilled g s n b b cs ws → PositionsFilled g n b cs ws
 poised-standing p = record { right = p .right; fixed = p .fixed }
 
 pub standing-poised : {g : Rules} {s n b : ℕ} {cs : List Cell} {w : Word} {ws ws′ : List ℕ}
-    → w ≡ sentence cs → Standing g n b cs ws → Exact g w n ws′ b → Open g n ws′ b → Given ws ws′ n
-    → Poised g s n b b cs ws′
+    → w ≡ sentence cs → PositionsFilled g n b cs ws → Exact g w n ws′ b → Open g n ws′ b
+        → Given ws ws′ n
+    → TerminalsFilled g s n b b cs ws′
 standing-poised {g} {n = n} {b} {cs} {ws′ = ws′} e st x o v = record {
   right = subst (λ (u : Word). Exact g u n ws′ b) e x;
   beyond = o;
@@ -236,14 +243,15 @@ standing-poised {g} {n = n} {b} {cs} {ws′ = ws′} e st x o v = record {
 }
 
 -- cs has its own terminal at j
-pub turned-self : (j : ℕ) (cs : List Cell) → Turned j (terminalAt cs j) cs cs
-turned-self j cs = record { size = refl; kept = λ b h. refl; terminal = refl; rest = λ i h. refl }
+pub with-terminal-self : (j : ℕ) (cs : List Cell) → TerminalChanged j (terminalAt cs j) cs cs
+with-terminal-self j cs =
+    record { size = refl; kept = λ b h. refl; terminal = refl; rest = λ i h. refl }
 
 -- another terminal at j: the same words are loose
-pub loose-turned : {g : Rules} {s n b j x : ℕ} {cs cs′ : List Cell} {ws : List ℕ} → b ≤ j
-    → Turned j x cs cs′ → Loose g s n b j cs ws → Loose g s n b j cs′ ws
-loose-turned {g} {s} {n} {b} {j} {x} {cs} {cs′} {ws} low t p = record {
-  right = exact-front (sentence cs′) (turned-front low t) (p .right);
+pub loose-with-terminal : {g : Rules} {s n b j x : ℕ} {cs cs′ : List Cell} {ws : List ℕ} → b ≤ j
+    → TerminalChanged j x cs cs′ → TerminalOpen g s n b j cs ws → TerminalOpen g s n b j cs′ ws
+loose-with-terminal {g} {s} {n} {b} {j} {x} {cs} {cs′} {ws} low t p = record {
+  right = exact-front (sentence cs′) (with-terminal-front low t) (p .right);
   beyond = p .beyond;
   fixed = λ i a l. subst (LeafAt g n ws i) (sym (t .rest i a)) (p .fixed i a l);
   free = p .free;

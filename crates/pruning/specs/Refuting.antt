@@ -39,7 +39,7 @@ pub record Twinned (g : Rules) (s n h b j : ℕ) (cs : List Cell) : Type 0 where
 -- the words are right for cs's first b cells; the tokens from j on have the pairs of cs's
 -- terminals, those between allow for all of the set s; and the spans of two tokens or more from j
 -- on have what can stand over open tokens
-pub record Poised (g : Rules) (s n b j : ℕ) (cs : List Cell) (ws : List ℕ) : Type 0 where
+pub record TerminalsFilled (g : Rules) (s n b j : ℕ) (cs : List Cell) (ws : List ℕ) : Type 0 where
   pub right : Exact g (sentence cs) n ws b
   pub beyond : Open g n ws j
   pub fixed : (i : ℕ) → j ≤ i → i < n → LeafAt g n ws i (terminalAt cs i)
@@ -47,21 +47,21 @@ pub record Poised (g : Rules) (s n b j : ℕ) (cs : List Cell) (ws : List ℕ) :
 
 -- the same when all terminals are fixed and the first i positions: of the spans past them nothing
 -- is asked
-pub record Standing (g : Rules) (n i : ℕ) (cs : List Cell) (ws : List ℕ) : Type 0 where
+pub record PositionsFilled (g : Rules) (n i : ℕ) (cs : List Cell) (ws : List ℕ) : Type 0 where
   pub right : Exact g (sentence cs) n ws i
   pub fixed : (k : ℕ) → i ≤ k → k < n → LeafAt g n ws k (terminalAt cs k)
 
 -- ---- by terminals
 
 -- cs′ has the terminal x at j, and cs's cells before it and terminals behind it
-pub record Turned (j x : ℕ) (cs cs′ : List Cell) : Type 0 where
+pub record TerminalChanged (j x : ℕ) (cs cs′ : List Cell) : Type 0 where
   pub size : length cs′ ≡ length cs
   pub kept : (b : ℕ) → b ≤ j → take b cs′ ≡ take b cs
   pub terminal : terminalAt cs′ j ≡ x
   pub rest : (i : ℕ) → j < i → terminalAt cs′ i ≡ terminalAt cs i
 
 -- of those with cs's terminals past j, the ones with a terminal below m at j have twins
-pub record Below (g : Rules) (s n h b j m : ℕ) (cs : List Cell) : Type 0 where
+pub record TerminalsTwinned (g : Rules) (s n h b j m : ℕ) (cs : List Cell) : Type 0 where
   pub twin : (ds : List Cell) → Candidate (Among s) n ds → Shares b ds cs → Spelt n (j + 1) ds cs
       → terminalAt ds j < m → TwoTrees g 0 (sentence ds) → Twin g s n h ds
 
@@ -78,7 +78,7 @@ pub record Moved (n i k : ℕ) (cs cs′ : List Cell) : Type 0 where
 
 -- of those with cs's terminals from i on, the ones whose position at i is one of the first m have
 -- twins
-pub record Within (g : Rules) (s n h i m : ℕ) (cs : List Cell) : Type 0 where
+pub record PositionsTwinned (g : Rules) (s n h i m : ℕ) (cs : List Cell) : Type 0 where
   pub twin : (ds : List Cell) → Candidate (Among s) n ds → Shares i ds cs → Spelt n i ds cs
       → getD ds i no-cell .step * n + getD ds i no-cell .column ≤ m → TwoTrees g 0 (sentence ds)
       → Twin g s n h ds
@@ -100,7 +100,7 @@ pub record Rises (cs : List Cell) (i : ℕ) : Type 0 where
   pub step : getD cs i no-cell .step ≤ most 0 i
 
 -- the same while terminals are tried at j: of its pair nothing is said
-pub record Loose (g : Rules) (s n b j : ℕ) (cs : List Cell) (ws : List ℕ) : Type 0 where
+pub record TerminalOpen (g : Rules) (s n b j : ℕ) (cs : List Cell) (ws : List ℕ) : Type 0 where
   pub right : Exact g (sentence cs) n ws b
   pub beyond : Open g n ws (j + 1)
   pub fixed : (i : ℕ) → j < i → i < n → LeafAt g n ws i (terminalAt cs i)
@@ -110,30 +110,33 @@ pub record Loose (g : Rules) (s n b j : ℕ) (cs : List Cell) (ws : List ℕ) : 
 pub record PositionTried (r : Bool) (g : Rules) (n h i : ℕ) (cs : List Cell)
     (ws ws′ : List ℕ) : Type 0 where
   pub out : r ≡ true → (s : ℕ) → Twinned g s n h (i + 1) (i + 1) cs
-  pub stays : r ≡ true → Standing g n i cs ws′
-  pub on : r ≡ false → Standing g n (i + 1) cs ws′
+  pub stays : r ≡ true → PositionsFilled g n i cs ws′
+  pub on : r ≡ false → PositionsFilled g n (i + 1) cs ws′
   pub past : Past (2 * pairs n) ws ws′
 
 -- all positions from i on are tried: false, and they are refuted
-pub record Ended (r : Bool) (g : Rules) (n h i : ℕ) (cs : List Cell) (ws ws′ : List ℕ) : Type
+pub record PositionsSearched (r : Bool) (g : Rules) (n h i : ℕ) (cs : List Cell)
+    (ws ws′ : List ℕ) : Type
     0 where
   pub out : r ≡ false → (s : ℕ) → Twinned g s n h i i cs
-  pub stays : r ≡ false → Standing g n i cs ws′
+  pub stays : r ≡ false → PositionsFilled g n i cs ws′
   pub past : Past (2 * pairs n) ws ws′
 
 -- all positions are tried, and the words are poised for terminals again
-pub record Spent (r : Bool) (g : Rules) (n h b : ℕ) (cs : List Cell) (ws ws′ : List ℕ) : Type
+pub record AllPositionsSearched (r : Bool) (g : Rules) (n h b : ℕ) (cs : List Cell)
+    (ws ws′ : List ℕ) : Type
     0 where
   pub out : r ≡ false → (s : ℕ) → Twinned g s n h b b cs
-  pub stays : r ≡ false → (s : ℕ) → Poised g s n b b cs ws′
+  pub stays : r ≡ false → (s : ℕ) → TerminalsFilled g s n b b cs ws′
   pub past : Past (2 * pairs n) ws ws′
 
 -- the terminal of cs at j is tried: true, it is refuted, whatever is held; the words are poised
 -- with it
-pub record Struck (r : Bool) (g : Rules) (s n b j : ℕ) (cs : List Cell) (ws ws′ : List ℕ) : Type
+pub record TerminalTried (r : Bool) (g : Rules) (s n b j : ℕ) (cs : List Cell)
+    (ws ws′ : List ℕ) : Type
     0 where
   pub out : r ≡ true → (h : ℕ) → Twinned g s n h b j cs
-  pub stays : Poised g s n b j cs ws′
+  pub stays : TerminalsFilled g s n b j cs ws′
   pub past : Past (2 * pairs n) ws ws′
 
 -- all terminals of the tokens from b to below j, and all positions, are tried: false, and they are
@@ -141,5 +144,5 @@ pub record Struck (r : Bool) (g : Rules) (s n b j : ℕ) (cs : List Cell) (ws ws
 pub record Done (r : Bool) (g : Rules) (s n h b j : ℕ) (cs : List Cell) (ws ws′ : List ℕ) : Type
     0 where
   pub out : r ≡ false → Twinned g s n h b j cs
-  pub stays : r ≡ false → Poised g s n b j cs ws′
+  pub stays : r ≡ false → TerminalsFilled g s n b j cs ws′
   pub past : Past (2 * pairs n) ws ws′

@@ -48,12 +48,13 @@ pub record TakesPair (table ws : List ℕ) (n i r : ℕ) : Type 0 where
   pub second : secondWord ws n i 1 ≡ getD table (2 * r + 1) 0
 
 -- the first i tokens have their first pairs
-pub record LaidTo (table : List ℕ) (cs : List Cell) (n b i : ℕ) (ws ws′ : List ℕ) : Type 0 where
+pub record LeavesPutTo (table : List ℕ) (cs : List Cell) (n b i : ℕ) (ws ws′ : List ℕ) : Type
+    0 where
   pub takes : (k : ℕ) → k < i → (r : ℕ) → Slot cs b k r → TakesPair table ws′ n k r
   pub past : Past (2 * pairs n) ws ws′
 
 -- so have all, and the empty word its own
-pub record Laid (table : List ℕ) (cs : List Cell) (n b : ℕ) (ws ws′ : List ℕ) : Type 0 where
-  pub tokens : LaidTo table cs n b n ws ws′
+pub record LeavesPut (table : List ℕ) (cs : List Cell) (n b : ℕ) (ws ws′ : List ℕ) : Type 0 where
+  pub tokens : LeavesPutTo table cs n b n ws ws′
   pub first : getD ws′ 0 0 ≡ getD table 130 0
   pub second : getD ws′ 1 0 ≡ getD table 131 0

@@ -3,7 +3,7 @@
 // has.
 use candidates::Candidate;
 use cuts::Pair;
-use equivalents::slack;
+use equivalents::earlier_twin;
 use filling::empty_pair;
 use filling::leaf_pair;
 use grammar::Cell;
@@ -13,9 +13,9 @@ use grammar::Line;
 use grammar::Token;
 use grammar::Width;
 use refilling::ShortDraft;
-use refilling::give;
-use refilling::give_empty;
 use refilling::no_two;
+use refilling::put_empty;
+use refilling::put_leaf;
 use refilling::refill;
 use sets::has;
 use spans::in_second;
@@ -36,9 +36,11 @@ ghost use Rattle.candidates.specs.Arrays.{cells};
 ghost use Rattle.candidates.specs.Spelling.{LowSteps};
 ghost use Rattle.chart.specs.Leaves.{EmptyPair};
 ghost use Rattle.equivalents.specs.Twins.{Renames, Replaceable};
-ghost use Rattle.pruning.specs.Tables.{Small, Slot, Laid, United, Gathered, Tabled};
-ghost use Rattle.pruning.specs.Refuting.{Standing, Moved, Rises, terminalAt, Turned, Loose};
-ghost use Rattle.pruning.specs.Refuting.{Poised, PositionTried, Ended, Spent, Struck, Done};
+ghost use Rattle.pruning.specs.Tables.{Small, Slot, LeavesPut, United, Gathered, Tabled};
+ghost use Rattle.pruning.specs.Refuting.{PositionsFilled, Moved, Rises, terminalAt};
+ghost use Rattle.pruning.specs.Refuting.{TerminalChanged, TerminalOpen};
+ghost use Rattle.pruning.specs.Refuting.{TerminalsFilled, PositionTried, PositionsSearched};
+ghost use Rattle.pruning.specs.Refuting.{AllPositionsSearched, TerminalTried, Done};
 ghost use Rattle.grammar.specs.Content.{rules, Formed};
 ghost use Rattle.refilling.specs.Kept.{Mirrored};
 ghost use Rattle.refilling.specs.Short.{wide};
@@ -109,7 +111,7 @@ fn rises(c: Candidate, n: usize, i: usize) -> bool
 }
 
 // Try the position at i of the candidate c: is it refuted? If not, the words are filled with it.
-fn shut(
+fn try_position(
     g: Grammar,
     c: Candidate,
     n: usize,
@@ -121,7 +123,7 @@ fn shut(
     requires { ⌜ (n ≤ 7) × (i < n) × LowSteps (cells c 0 n) × (h ≤ i) ⌝ }
     requires { ⌜ Formed g ⌝ }
     requires { ⌜ 2 * pairs n ≤ length (now words) ⌝ }
-    requires { ⌜ Standing (rules g) n i (cells c 0 n) (now words) ⌝ }
+    requires { ⌜ PositionsFilled (rules g) n i (cells c 0 n) (now words) ⌝ }
     requires { ⌜ Mirrored (rules g) n (now words) (now cuts) ⌝ }
     ensures { λ r. ⌜ PositionTried r (rules g) n h i (cells c 0 n) (now (words .entry))
         (now (words .exit)) ⌝ }
@@ -130,7 +132,7 @@ fn shut(
     if !rises(c, n, i) {
         return true;
     }
-    if slack(c, n, i + 1, h) {
+    if earlier_twin(c, n, i + 1, h) {
         return true;
     }
     let d = draft(c, n, i + 1);
@@ -139,7 +141,7 @@ fn shut(
 
 // Has a candidate that shares the first i cells of c, and has its terminals, perhaps two trees and
 // no twin?
-fn places(
+fn try_positions(
     g: Grammar,
     c: Candidate,
     n: usize,
@@ -151,9 +153,9 @@ fn places(
     requires { ⌜ (n ≤ 7) × (i ≤ n) × LowSteps (cells c 0 n) × (h ≤ i) ⌝ }
     requires { ⌜ Formed g ⌝ }
     requires { ⌜ 2 * pairs n ≤ length (now words) ⌝ }
-    requires { ⌜ Standing (rules g) n i (cells c 0 n) (now words) ⌝ }
+    requires { ⌜ PositionsFilled (rules g) n i (cells c 0 n) (now words) ⌝ }
     requires { ⌜ Mirrored (rules g) n (now words) (now cuts) ⌝ }
-    ensures { λ r. ⌜ Ended r (rules g) n h i (cells c 0 n) (now (words .entry))
+    ensures { λ r. ⌜ PositionsSearched r (rules g) n h i (cells c 0 n) (now (words .entry))
         (now (words .exit)) ⌝ }
     ensures { λ r. ⌜ Mirrored (rules g) n (now (words .exit)) (now (cuts .exit)) ⌝ }
 {
@@ -163,11 +165,11 @@ fn places(
     let mut k: usize = 0;
     while k < 3 * n {
         let m = moved(c, n, i, k);
-        if shut(g, m, n, i, h, words, cuts) {
+        if try_position(g, m, n, i, h, words, cuts) {
             k += 1;
             continue;
         }
-        if places(g, m, n, i + 1, h, words, cuts) {
+        if try_positions(g, m, n, i + 1, h, words, cuts) {
             return true;
         }
         k += 1;
@@ -189,13 +191,13 @@ fn positions(
     requires { ⌜ (n ≤ 7) × (b ≤ n) × LowSteps (cells c 0 n) × (h ≤ b) ⌝ }
     requires { ⌜ Formed g ⌝ }
     requires { ⌜ 2 * pairs n ≤ length (now words) ⌝ }
-    requires { ⌜ Standing (rules g) n b (cells c 0 n) (now words) ⌝ }
+    requires { ⌜ PositionsFilled (rules g) n b (cells c 0 n) (now words) ⌝ }
     requires { ⌜ Mirrored (rules g) n (now words) (now cuts) ⌝ }
-    ensures { λ r. ⌜ Spent r (rules g) n h b (cells c 0 n) (now (words .entry))
+    ensures { λ r. ⌜ AllPositionsSearched r (rules g) n h b (cells c 0 n) (now (words .entry))
         (now (words .exit)) ⌝ }
     ensures { λ r. ⌜ Mirrored (rules g) n (now (words .exit)) (now (cuts .exit)) ⌝ }
 {
-    if places(g, c, n, b, h, words, cuts) {
+    if try_positions(g, c, n, b, h, words, cuts) {
         return true;
     }
     let d = draft(c, n, b);
@@ -204,10 +206,10 @@ fn positions(
 }
 
 // The candidate with the terminal x at j.
-fn turned(c: Candidate, n: usize, j: usize, x: u8) -> Candidate
+fn with_terminal(c: Candidate, n: usize, j: usize, x: u8) -> Candidate
     requires { ⌜ (n ≤ 7) × (j < n) ⌝ }
     requires { ⌜ LowSteps (cells c 0 n) ⌝ }
-    ensures { λ r. ⌜ Turned j x (cells c 0 n) (cells r 0 n) × LowSteps (cells r 0 n) ⌝ }
+    ensures { λ r. ⌜ TerminalChanged j x (cells c 0 n) (cells r 0 n) × LowSteps (cells r 0 n) ⌝ }
 {
     let d = c.cell(j);
     c.with(
@@ -222,7 +224,7 @@ fn turned(c: Candidate, n: usize, j: usize, x: u8) -> Candidate
 
 // Try the terminal x of c at j, whose pair the table has: is it refuted? The words are filled with
 // it.
-fn struck(
+fn try_terminal(
     g: Grammar,
     set: u64,
     table: &[u64],
@@ -239,21 +241,21 @@ fn struck(
     requires { ⌜ 2 * pairs n ≤ length (now words) ⌝ }
     requires { ⌜ Tabled (rules g) set (now table) × Among set x
         × (terminalAt (cells c 0 n) j ≡ x) ⌝ }
-    requires { ⌜ Loose (rules g) set n b j (cells c 0 n) (now words) ⌝ }
+    requires { ⌜ TerminalOpen (rules g) set n b j (cells c 0 n) (now words) ⌝ }
     requires { ⌜ Mirrored (rules g) n (now words) (now cuts) ⌝ }
-    ensures { λ r. ⌜ Struck r (rules g) set n b j (cells c 0 n) (now (words .entry))
+    ensures { λ r. ⌜ TerminalTried r (rules g) set n b j (cells c 0 n) (now (words .entry))
         (now (words .exit)) ⌝ }
     ensures { λ r. ⌜ Mirrored (rules g) n (now (words .exit)) (now (cuts .exit)) ⌝ }
 {
     let at = 2 * (x as usize);
-    give(words, cuts, g, n, j, table[at], table[at + 1]);
+    put_leaf(words, cuts, g, n, j, table[at], table[at + 1]);
     let d = draft(c, n, b);
     no_two(words, cuts, d, g, b, j + 1)
 }
 
 // Has a candidate that shares the first b cells of c, and has its terminals from j on, perhaps two
 // trees and no twin?
-fn terms(
+fn try_terminals(
     g: Grammar,
     set: u64,
     kept: u64,
@@ -271,7 +273,7 @@ fn terms(
     requires { ⌜ Formed g ⌝ }
     requires { ⌜ 2 * pairs n ≤ length (now words) ⌝ }
     requires { ⌜ Tabled (rules g) set (now table) ⌝ }
-    requires { ⌜ Poised (rules g) set n b j (cells c 0 n) (now words) ⌝ }
+    requires { ⌜ TerminalsFilled (rules g) set n b j (cells c 0 n) (now words) ⌝ }
     requires { ⌜ Mirrored (rules g) n (now words) (now cuts) ⌝ }
     ensures { λ r. ⌜ Done r (rules g) set n h b j (cells c 0 n) (now (words .entry))
         (now (words .exit)) ⌝ }
@@ -287,17 +289,17 @@ fn terms(
             x += 1;
             continue;
         }
-        let m = turned(c, n, i, x);
-        if struck(g, set, table, m, n, b, i, x, words, cuts) {
+        let m = with_terminal(c, n, i, x);
+        if try_terminal(g, set, table, m, n, b, i, x, words, cuts) {
             x += 1;
             continue;
         }
-        if terms(g, set, kept, table, m, n, b, h, i, words, cuts) {
+        if try_terminals(g, set, kept, table, m, n, b, h, i, words, cuts) {
             return true;
         }
         x += 1;
     }
-    give(words, cuts, g, n, i, table[128], table[129]);
+    put_leaf(words, cuts, g, n, i, table[128], table[129]);
     false
 }
 
@@ -315,7 +317,7 @@ fn slot(c: Candidate, b: usize, n: usize, i: usize) -> usize
 }
 
 // Give all tokens and the empty word their first pairs.
-fn lay(
+fn put_leaves(
     g: Grammar,
     table: &[u64],
     c: Candidate,
@@ -328,17 +330,17 @@ fn lay(
     requires { ⌜ 2 * pairs n ≤ length (now words) ⌝ }
     requires { ⌜ length (now table) ≡ 132 ⌝ }
     requires { ⌜ Mirrored (rules g) n (now words) (now cuts) ⌝ }
-    ensures { λ r. ⌜ Laid (now (table .entry)) (cells c 0 n) n b (now (words .entry))
+    ensures { λ r. ⌜ LeavesPut (now (table .entry)) (cells c 0 n) n b (now (words .entry))
         (now (words .exit)) ⌝ }
     ensures { λ r. ⌜ Mirrored (rules g) n (now (words .exit)) (now (cuts .exit)) ⌝ }
 {
     let mut i: usize = 0;
     while i < n {
         let at = 2 * slot(c, b, n, i);
-        give(words, cuts, g, n, i, table[at], table[at + 1]);
+        put_leaf(words, cuts, g, n, i, table[at], table[at + 1]);
         i += 1;
     }
-    give_empty(words, cuts, g, n, table[130], table[131]);
+    put_empty(words, cuts, g, n, table[130], table[131]);
 }
 
 // Fill the words for the candidate's first b cells, all others being open.
@@ -357,11 +359,11 @@ fn begin(
     requires { ⌜ 2 * pairs n ≤ length (now words) ⌝ }
     requires { ⌜ Tabled (rules g) set (now table) ⌝ }
     requires { ⌜ Mirrored (rules g) n (now words) (now cuts) ⌝ }
-    ensures { λ r. ⌜ Poised (rules g) set n b n (cells c 0 n) (now (words .exit)) ⌝ }
+    ensures { λ r. ⌜ TerminalsFilled (rules g) set n b n (cells c 0 n) (now (words .exit)) ⌝ }
     ensures { λ r. ⌜ Past (2 * pairs n) (now (words .entry)) (now (words .exit)) ⌝ }
     ensures { λ r. ⌜ Mirrored (rules g) n (now (words .exit)) (now (cuts .exit)) ⌝ }
 {
-    lay(g, table, c, n, b, words, cuts);
+    put_leaves(g, table, c, n, b, words, cuts);
     let d = draft(c, n, b);
     refill(words, cuts, d, g, 0, n);
 }
@@ -392,7 +394,7 @@ pub fn twinned(
     ensures { λ r. ⌜ Mirrored (rules g) n (now (words .exit)) (now (cuts .exit)) ⌝ }
 {
     begin(g, set, table, c, n, b, words, cuts);
-    !terms(g, set, kept, table, c, n, b, h, n, words, cuts)
+    !try_terminals(g, set, kept, table, c, n, b, h, n, words, cuts)
 }
 
 // Is no candidate that shares the first b cells of c the first with two trees? (Where the answer is

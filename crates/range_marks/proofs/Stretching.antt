@@ -21,7 +21,7 @@ use Rattle.grammar.specs.Layout.{Pairs, line, col}
 use Rattle.grammar.specs.Sentences.{no-token}
 use Rattle.marks.specs.declared.SpanMarks.{SpanMarks}
 use Rattle.marks.specs.Half.{tokenAt}
-use Rattle.marks.specs.Marked.{UnaryBy, Included, Joined, Grown, Growing, Carried}
+use Rattle.marks.specs.Marked.{UnaryBy, Included, Joined, IncludedIf, Growing, Carried}
 use Rattle.marks.proofs.Joining.{NextJoined, carried-first, carried-more, carried-all}
 use Rattle.column_ranges.specs.declared.RangeToken.{RangeToken}
 use Rattle.column_ranges.specs.Ranges.{Ranges}
@@ -145,11 +145,11 @@ module _ (rs : Ranges) (s l : ℕ) (k r : SpanMarks) (pos : 0 < l) (h : s + l < 
   t = highToken (range rs (s + l))
 
   -- some set of the left lengths at which the columns are equal
-  shade : (x : ℕ) × Grown (c .shadow) l
+  shade : (x : ℕ) × IncludedIf (c .shadow) l
       (Pairs BinaryMark.Align a (highToken (range rs (s + l - 1))) t) x
   shade = go (ℕ-discrete (col a) (col t))
     where
-      go : Dec (col a ≡ col t) → (x : ℕ) × Grown (c .shadow) l
+      go : Dec (col a ≡ col t) → (x : ℕ) × IncludedIf (c .shadow) l
           (Pairs BinaryMark.Align a (highToken (range rs (s + l - 1))) t) x
       go (yes e) = (
         insert (c .shadow) l,

@@ -33,7 +33,7 @@ use Rattle.range_sheets.specs.RangeLines.{endsOf, rangeOf, rangeFields, 
 use Rattle.range_sheets.specs.RangeLines.{afterRangeTerminal, afterRangeLine, afterRangeLow}
 use Rattle.range_sheets.specs.RangeLines.{afterRangeHigh}
 use Rattle.range_sheets.specs.RangeSheets.{rangeSaid, rangeSays, rangeStep, fewChoices}
-use Rattle.column_ranges.specs.RangeSentences.{rangesOf, Ended}
+use Rattle.column_ranges.specs.RangeSentences.{rangesOf, EndsOrdered}
 
 -- the end of a sheet
 pub counted-few : (rs : Ranges) → choiceCount rs ≤ choiceLimit
@@ -68,7 +68,7 @@ ranges-not {r} x e =
 
 -- a line's token has its ends in order
 abbrev Fine : RangeLine → Type 0
-Fine (RangeLine.Good r) = Ended r
+Fine (RangeLine.Good r) = EndsOrdered r
 Fine RangeLine.Form = Unit {0}
 Fine RangeLine.Range = Unit {0}
 Fine RangeLine.Ends = Unit {0}
@@ -109,14 +109,14 @@ fields-fine =
     (λ a. with-holds Fine RangeLine.Form tt numeralOf (afterRangeHigh t l a)
     (λ b. end-holds Fine RangeLine.Form tt (rangeOf t l a b) (of-fine t l a b)))))
 
-said-ended : (line : List ℕ) (t : RangeToken) → rangeSays [] line ≡ next t → Ended t
+said-ended : (line : List ℕ) (t : RangeToken) → rangeSays [] line ≡ next t → EndsOrdered t
 said-ended line t e = go (rangeLine line) (fields-fine (pieces 32 line)) e
   where
-    go : (x : RangeLine) → Fine x → rangeSaid x ≡ next t → Ended t
+    go : (x : RangeLine) → Fine x → rangeSaid x ≡ next t → EndsOrdered t
     go RangeLine.Form f e = absurd (clash cc)
     go RangeLine.Range f e = absurd (clash cc)
     go RangeLine.Ends f e = absurd (clash cc)
-    go (RangeLine.Good r) f e = let j : r ≡ t = cc in subst Ended j f
+    go (RangeLine.Good r) f e = let j : r ≡ t = cc in subst EndsOrdered j f
 
 step-said : (said : Step RangeToken) (x : Turn) (t : RangeToken) → stepAt 14 12 said x ≡ next t
     → said ≡ next t
@@ -126,9 +126,9 @@ step-said said Turn.Open t e = absurd (clash cc)
 step-said said Turn.Whole t e = e
 
 pub ranges-ended : (ps : List (List ℕ)) (w : Ranges) → itemsFrom rangeStep [] ps ≡ accepted w
-    → Every Ended w
+    → Every EndsOrdered w
 ranges-ended ps w =
-    items-hold rangeStep (Every Ended)
-    (λ seen p b t e r. every-append Ended seen (t ∷ []) r
+    items-hold rangeStep (Every EndsOrdered)
+    (λ seen p b t e r. every-append EndsOrdered seen (t ∷ []) r
     (said-ended p t (step-said (rangeSays [] p) (turnOf 64 (length seen) p b) t e), tt))
     [] ps w tt

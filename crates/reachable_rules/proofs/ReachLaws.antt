@@ -11,7 +11,7 @@ use Rattle.grammar.specs.declared.Clause.{Clause}
 use Rattle.grammar.specs.declared.Clause.the-variants as Clause
 use Rattle.grammar.specs.Trees.{Rules}
 use Rattle.acyclic.specs.Exact.{Exactly}
-use Rattle.acyclic.specs.Passes.{Grown}
+use Rattle.acyclic.specs.Passes.{Extended}
 use Rattle.acyclic.proofs.Growth.{grown-with, grown-both}
 use Rattle.reachable_rules.specs.Reach.{Reached, start, by-unary, by-left, by-right}
 use Rattle.reachable_rules.specs.Steps.{HasPart, AddsParts}
@@ -48,9 +48,9 @@ module _ {g : Rules} {s : ℕ} (shut : (r : Rule) → List·Memᴰ r g → (Y : 
 
 -- ---- what a clause adds
 
-pub parts-one : {s r : ℕ} (b : ℕ) → r ≡ insert s b → Grown (λ Y. b ≡ Y) s r
-parts-one {s} b e = subst (Grown (λ Y. b ≡ Y) s) (sym e) (grown-with s b refl (λ Y p. p))
+pub parts-one : {s r : ℕ} (b : ℕ) → r ≡ insert s b → Extended (λ Y. b ≡ Y) s r
+parts-one {s} b e = subst (Extended (λ Y. b ≡ Y) s) (sym e) (grown-with s b refl (λ Y p. p))
 
 pub parts-two : {s t r : ℕ} (b d : ℕ) → t ≡ insert s b → r ≡ insert t d
-    → Grown (λ Y. (b ≡ Y) ⊎ (d ≡ Y)) s r
+    → Extended (λ Y. (b ≡ Y) ⊎ (d ≡ Y)) s r
 parts-two b d e f = grown-both (parts-one b e) (parts-one d f) (λ Y p. p) (λ Y p. p)

@@ -5,7 +5,7 @@ use grammar::Rule;
 use sets::has;
 use sets::with;
 ghost use Rattle.acyclic.specs.Exact.{Exactly};
-ghost use Rattle.acyclic.specs.Passes.{Grown, Passed};
+ghost use Rattle.acyclic.specs.Passes.{Extended, RulesPassed};
 ghost use Rattle.grammar.specs.Content.{rules, SmallClause, SmallRule, Formed};
 ghost use Rattle.reachable_rules.specs.Reach.{Reached, Trimmed};
 ghost use Rattle.reachable_rules.specs.Steps.{HasPart, AddsParts, Picked};
@@ -13,7 +13,7 @@ ghost use Rattle.reachable_rules.specs.Steps.{HasPart, AddsParts, Picked
 // The set with the nonterminals besides that the clause has.
 fn with_parts(set: u64, c: Clause) -> u64
     requires { ⌜ SmallClause c ⌝ }
-    ensures { λ r. ⌜ Grown (HasPart c) set r ⌝ }
+    ensures { λ r. ⌜ Extended (HasPart c) set r ⌝ }
 {
     match c {
         Clause::Empty => set,
@@ -29,7 +29,7 @@ fn with_parts(set: u64, c: Clause) -> u64
 // The same where the rule's left is 0 or a member.
 fn spread(set: u64, r: Rule) -> u64
     requires { ⌜ SmallRule r ⌝ }
-    ensures { λ t. ⌜ Grown (AddsParts set r) set t ⌝ }
+    ensures { λ t. ⌜ Extended (AddsParts set r) set t ⌝ }
 {
     let left = r.left;
     let c = r.clause;
@@ -45,7 +45,7 @@ fn spread(set: u64, r: Rule) -> u64
 // One pass over the rules.
 fn reach_pass(g: Grammar, set: u64) -> u64
     requires { ⌜ Formed g ⌝ }
-    ensures { λ r. ⌜ Passed AddsParts (Reached (rules g)) (rules g) (g .count) set r ⌝ }
+    ensures { λ r. ⌜ RulesPassed AddsParts (Reached (rules g)) (rules g) (g .count) set r ⌝ }
 {
     let count = g.count;
     let mut next = set;

@@ -35,7 +35,7 @@ ghost use Rattle.spans.specs.Changes.{Past, WrotePair};
 ghost use Rattle.tables.specs.Tables.{Room, rule};
 ghost use Rattle.cuts.specs.Cuts.{CutCounts};
 ghost use Rattle.cuts.specs.Places.{IsBinary, PlacedAt};
-ghost use Rattle.chart.specs.Filling.{Whole, Filled, Grown};
+ghost use Rattle.chart.specs.Filling.{Whole, Filled, FilledFrom};
 ghost use Rattle.chart.specs.Sheets.{Ready, Charted, Settles};
 ghost use Rattle.filling.specs.Closing.{Found, CutJoins};
 ghost use Rattle.refilling.specs.Kept.{markNumber, startRows, chainsOf, KeptRules};
@@ -286,7 +286,7 @@ fn fill_start(
     requires { ⌜ Mirrored (rules g) (d .count) (now words) (now kept) ⌝ }
     requires { ⌜ Filled (now words) (rules g) (half (wide d)) (d .count) from (start + 1)
         (d .count + 1) ⌝ }
-    ensures { λ r. ⌜ Grown (now (words .entry)) (now (words .exit)) (rules g) (half (wide d))
+    ensures { λ r. ⌜ FilledFrom (now (words .entry)) (now (words .exit)) (rules g) (half (wide d))
         (d .count)
         from start ⌝ }
     ensures { λ r. ⌜ Suits (rules g) (now (words .exit)) (now (kept .exit)) ⌝ }
@@ -337,7 +337,7 @@ pub fn open_sheet(words: &mut [u64], kept: &mut [u64], g: Grammar, n: usize)
 }
 
 // Give the empty word its pair.
-pub fn give_empty(words: &mut [u64], kept: &mut [u64], g: Grammar, n: usize, one: u64, two: u64)
+pub fn put_empty(words: &mut [u64], kept: &mut [u64], g: Grammar, n: usize, one: u64, two: u64)
     requires { ⌜ n ≤ 7 ⌝ }
     requires { ⌜ 2 * pairs n ≤ length (now words) ⌝ }
     requires { ⌜ Mirrored (rules g) n (now words) (now kept) ⌝ }
@@ -348,7 +348,15 @@ pub fn give_empty(words: &mut [u64], kept: &mut [u64], g: Grammar, n: usize, one
 }
 
 // Give the token at i a pair.
-pub fn give(words: &mut [u64], kept: &mut [u64], g: Grammar, n: usize, i: usize, one: u64, two: u64)
+pub fn put_leaf(
+    words: &mut [u64],
+    kept: &mut [u64],
+    g: Grammar,
+    n: usize,
+    i: usize,
+    one: u64,
+    two: u64,
+)
     requires { ⌜ (n ≤ 7) × (i < n) ⌝ }
     requires { ⌜ 2 * pairs n ≤ length (now words) ⌝ }
     requires { ⌜ Mirrored (rules g) n (now words) (now kept) ⌝ }

@@ -21,7 +21,7 @@ use Rattle.tree_choices.specs.Picks.{PickedStep}
 use Rattle.tree_choices.proofs.Pending.{nodeShape}
 use Rattle.row_counts.specs.Capped.{capped}
 use Rattle.row_counts.specs.Nulls.{Nulls, Sound, oneMore, twoMore, nullSize, KidsKnown, zeros}
-use Rattle.row_counts.specs.Nulls.{Passed, Either}
+use Rattle.row_counts.specs.Nulls.{NullsTried, Either}
 use Rattle.row_counts.proofs.Firsts.{first-shape}
 use Rattle.row_counts.proofs.CappedLaws.{capped-le, capped-suc, capped-suc-two, capped-pos}
 use Rattle.grammar.specs.Distinct.{Distinct}
@@ -137,12 +137,12 @@ zeros-set (x ∷ l) (suc i) n h e p = omega (arith, zeros-set l i n (omega arith
 module _ {g : Rules} where
   pub passed-none : {l : List ℕ} (D : ℕ → Type 0) → Sound g l
       → ((A : ℕ) (t : Tree) → D A → FirstTree g A [] t → KidsKnown l t → 0 < getD l A 0)
-      → Passed g D l l false
+      → NullsTried g D l l false
   passed-none D s f =
       record { sound = s; found = λ e. absurd (clash cc); same = λ e. refl; tried = λ e. f }
 
   pub passed-found : {l : List ℕ} (A n : ℕ) (t : Tree) → Sound g l → A < 64 → getD l A 0 ≡ 0 → 0 < n
-      → FirstTree g A [] t → n ≡ capped (rowCount t) → Passed g (λ B. B ≡ A) l (set l A n) true
+      → FirstTree g A [] t → n ≡ capped (rowCount t) → NullsTried g (λ B. B ≡ A) l (set l A n) true
   passed-found {l} A n t s h e p f q =
       record {
         sound = record { long = length-set l A n ∙ s .long; each = each };
@@ -168,8 +168,8 @@ module _ {g : Rules} where
               let y = s .each B (omega arith) in
               (y .0, y .1, o ∙ y .2)
 
-  pub passed-then : {l m o : List ℕ} {a b r : Bool} (D E F : ℕ → Type 0) → Passed g D l m a
-      → Passed g E m o b → Either a b r → ((A : ℕ) → F A → D A ⊎ E A) → Passed g F l o r
+  pub passed-then : {l m o : List ℕ} {a b r : Bool} (D E F : ℕ → Type 0) → NullsTried g D l m a
+      → NullsTried g E m o b → Either a b r → ((A : ℕ) → F A → D A ⊎ E A) → NullsTried g F l o r
   passed-then {l} {m} {o} {a} {b} {r} D E F x y e f =
       record {
         sound = y .sound;
@@ -196,15 +196,15 @@ module _ {g : Rules} where
       up z (inl w) = omega (arith, x .found w, y .found z)
       up z (inr w) = omega (arith, y .found z, ap zeros (x .same w))
 
-  pub passed-more : {l m o : List ℕ} {a b r : Bool} (A : ℕ) → Passed g (λ B. B < A) l m a
-      → Passed g (λ B. B ≡ A) m o b → Either a b r → Passed g (λ B. B < A + 1) l o r
+  pub passed-more : {l m o : List ℕ} {a b r : Bool} (A : ℕ) → NullsTried g (λ B. B < A) l m a
+      → NullsTried g (λ B. B ≡ A) m o b → Either a b r → NullsTried g (λ B. B < A + 1) l o r
   passed-more A x y e = passed-then _ _ _ x y e (λ B d. lt-or-eq B A d)
 
   -- ---- the end
 
   -- nothing is found any more: all are known
   pub nulls-of : {l m : List ℕ} {r : Bool} → ((B : ℕ) (u : Tree) → FirstTree g B [] u → B < 64)
-      → r ≡ false → Passed g (λ B. B < 64) l m r → Nulls g m
+      → r ≡ false → NullsTried g (λ B. B < 64) l m r → Nulls g m
   nulls-of {l} {m} {r} low q p =
       subst (Nulls g) (sym (p .same q))
       (record {

@@ -62,7 +62,7 @@ zeros [] = 0
 zeros (x ∷ l) = one-if-zero x + zeros l
 
 -- the nonterminals D were tried; r says that a number was found
-pub record Passed (g : Rules) (D : ℕ → Type 0) (l m : List ℕ) (r : Bool) : Type 0 where
+pub record NullsTried (g : Rules) (D : ℕ → Type 0) (l m : List ℕ) (r : Bool) : Type 0 where
   pub sound : Sound g m
   pub found : r ≡ true → zeros m < zeros l
   pub same : r ≡ false → m ≡ l

@@ -23,7 +23,8 @@ ghost use Rattle.grammar.specs.SpanSheet.{part, secondWord};
 ghost use Rattle.tree_choices.specs.Wanted.{Charted, Ready, Wanted};
 ghost use Rattle.row_counts.specs.Capped.{capped};
 ghost use Rattle.row_counts.specs.RowCounts.{Tells, SecondCounted, RowsTold};
-ghost use Rattle.row_counts.specs.Nulls.{HasFirsts, Nulls, Sound, nullSize, Passed, Either};
+ghost use Rattle.row_counts.specs.Nulls.{HasFirsts, Nulls, Sound, nullSize, NullsTried};
+ghost use Rattle.row_counts.specs.Nulls.{Either};
 ghost use Rattle.row_counts.specs.Walks.{Own, Down, FirstThere};
 ghost use Rattle.row_counts.specs.Seconds.{Parted, PartedThere, Onto, Onward, BesideThere};
 ghost use Rattle.row_counts.specs.Seconds.{Beside};
@@ -89,7 +90,7 @@ fn null_try(z: &mut [u64], words: &[u64], hs: &[u16], s: Sentence, g: Grammar, a
     requires { ⌜ Ready g s (now words) (now hs) × (a < 64) ⌝ }
     requires { ⌜ HasFirsts (rules g) ⌝ }
     requires { ⌜ Sound (rules g) (now z) ⌝ }
-    ensures { λ r. ⌜ Passed (rules g) (λ B. B ≡ a) (now (z .entry)) (now (z .exit)) r ⌝ }
+    ensures { λ r. ⌜ NullsTried (rules g) (λ B. B ≡ a) (now (z .entry)) (now (z .exit)) r ⌝ }
 {
     let at = wide(a);
     if z[at] != 0 {
@@ -112,7 +113,7 @@ fn null_pass(z: &mut [u64], words: &[u64], hs: &[u16], s: Sentence, g: Grammar) 
     requires { ⌜ Ready g s (now words) (now hs) ⌝ }
     requires { ⌜ HasFirsts (rules g) ⌝ }
     requires { ⌜ Sound (rules g) (now z) ⌝ }
-    ensures { λ r. ⌜ Passed (rules g) (λ B. B < 64) (now (z .entry)) (now (z .exit)) r ⌝ }
+    ensures { λ r. ⌜ NullsTried (rules g) (λ B. B < 64) (now (z .entry)) (now (z .exit)) r ⌝ }
 {
     let mut more = false;
     let mut a: u8 = 0;

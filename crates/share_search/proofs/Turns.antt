@@ -15,7 +15,7 @@ use Rattle.arrangement_numbers.specs.Blocks.{numberIn, room, least}
 use Rattle.arrangement_numbers.proofs.BlockLaws.{number-rises, block-low, block-high}
 use Rattle.equivalents.specs.Twins.{Replaceable}
 use Rattle.equivalents.proofs.Lowered.{shares-less}
-use Rattle.share_search.specs.Searching.{Meets, Lowest, NoneBefore, Barren}
+use Rattle.share_search.specs.Searching.{Meets, Lowest, NoneBefore, NoneSharing}
 
 module _ {g : Rules} {s n lo : ℕ} (small : s < 2 ^ 64) where
   -- ---- the first of those that meet it is before all others
@@ -54,7 +54,7 @@ module _ {g : Rules} {s n lo : ℕ} (small : s < 2 ^ 64) where
   begin f =
       record { candidate = f .candidate; absent = λ ds d b. f .first ds (d .meets .candidate) b }
 
-  pub onward : {b upto : ℕ} {cs rs : List Cell} → NoneBefore g s n lo cs → Barren g s n lo b cs
+  pub onward : {b upto : ℕ} {cs rs : List Cell} → NoneBefore g s n lo cs → NoneSharing g s n lo b cs
       → Follows s n b cs upto rs → NoneBefore g s n lo rs
   onward h q f = record {
     candidate = f .candidate;
@@ -63,7 +63,7 @@ module _ {g : Rules} {s n lo : ℕ} (small : s < 2 ^ 64) where
   }
 
   -- past all candidates
-  pub over : {b : ℕ} {cs : List Cell} (hi : ℕ) → NoneBefore g s n lo cs → Barren g s n lo b cs
+  pub over : {b : ℕ} {cs : List Cell} (hi : ℕ) → NoneBefore g s n lo cs → NoneSharing g s n lo b cs
       → Ends s n b cs → (ds : List Cell) → Meets g s n lo ds → numberIn s n ds < hi → ⊥
   over hi h q e = none-meets hi (λ ds d l. ⊎-elim (λ x. q .absent ds d x) (λ x. h .absent ds d x)
       (e .last ds (d .meets .candidate)))
@@ -92,7 +92,7 @@ module _ {g : Rules} {s n lo : ℕ} (small : s < 2 ^ 64) where
 
   -- all numbers of the block are below lo
   pub barren-early : {b : ℕ} {cs : List Cell} → b ≤ n → least s n b cs + room s n b ≤ lo
-      → Barren g s n lo b cs
+      → NoneSharing g s n lo b cs
   barren-early {b} {cs} le l = record {
     absent = λ ds d sh. omega (
       arith,
@@ -104,7 +104,7 @@ module _ {g : Rules} {s n lo : ℕ} (small : s < 2 ^ 64) where
 
   -- each has a twin whose number is from lo on
   pub barren-twin : {b h : ℕ} {cs : List Cell} → h ≤ b → b ≤ n → lo ≤ least s n h cs
-      → Replaceable g s n b h cs → Barren g s n lo b cs
+      → Replaceable g s n b h cs → NoneSharing g s n lo b cs
   barren-twin {b} {h} {cs} hb le l r = record { absent = go }
     where
       go : (ds : List Cell) → Lowest g s n lo ds → Shares b ds cs → ⊥

@@ -28,13 +28,13 @@ pub record NoneBefore (g : Rules) (s n lo : ℕ) (cs : List Cell) : Type 0 where
   pub absent : (ds : List Cell) → Lowest g s n lo ds → CellsBefore ds cs → ⊥
 
 -- it is none of those that share cs's first b cells
-pub record Barren (g : Rules) (s n lo b : ℕ) (cs : List Cell) : Type 0 where
+pub record NoneSharing (g : Rules) (s n lo b : ℕ) (cs : List Cell) : Type 0 where
   pub absent : (ds : List Cell) → Lowest g s n lo ds → Shares b ds cs → ⊥
 
 -- what a look tells: out, it is none of those that share cs's first b cells; not out, and all cells
 -- looked at: cs has two trees, and its number is from lo on
 pub record Looked (out : Bool) (g : Rules) (s n lo b : ℕ) (cs : List Cell) : Type 0 where
-  pub barren : out ≡ true → Barren g s n lo b cs
+  pub barren : out ≡ true → NoneSharing g s n lo b cs
   pub meets : out ≡ false → b ≡ n → Meets g s n lo cs
 
 -- where the search stands: at the candidate cs, about to look at its first b cells

@@ -28,7 +28,7 @@ use Rattle.survey.specs.declared.Aim.the-variants as Aim
 use Rattle.survey.specs.Sources.{Worded, Under, Filled, AddsFilled, Begins, AddsBegins}
 use Rattle.survey.specs.Sources.{Stands, AddsStands, Heads, Follows}
 use Rattle.survey.specs.Sources.{AddsHeads}
-use Rattle.survey.specs.Closing.{AtMost, Aimed, AddsBy, Loose, Prepared, Shut}
+use Rattle.survey.specs.Closing.{AtMost, Aimed, AddsBy, HelpsRank, Prepared, Shut}
 
 -- the rule with this left and clause
 abbrev Has : Rules → ℕ → Clause → Type 0
@@ -167,7 +167,7 @@ module _ {g : Rules} {ns : ℕ} (x : Exactly ns (Nullable g)) where
             inr (shut _ m _ (stands-all o, ((worded v, worded w), inr refl)))
 
     -- that inherit a mark of rank at most k
-    module _ {k loose : ℕ} (o : Loose g k loose) (s : ℕ) where
+    module _ {k loose : ℕ} (o : HelpsRank g k loose) (s : ℕ) where
       pub most-top : AtMost g k 0
       most-top = record { mark = UnaryMark.None; inherits = none-at-top; low = omega arith }
 
@@ -258,7 +258,7 @@ in-three UnaryMark.Offalign = omega arith
 in-three UnaryMark.Offside = omega arith
 in-three UnaryMark.Single = omega arith
 
-pub loose-three : {g : Rules} → Loose g 3 0
+pub loose-three : {g : Rules} → HelpsRank g 3 0
 loose-three = record { sound = λ A i. absurd (in-zero A i); wide = λ A l i h. inl (in-three l) }
 
 in-two : (l : UnaryMark) → rank (onwardMark l) ≤ 2 → rank l ≤ 2
@@ -267,7 +267,7 @@ in-two UnaryMark.Offalign h = omega arith
 in-two UnaryMark.Offside h = omega arith
 in-two UnaryMark.Single h = h
 
-pub loose-two : {g : Rules} → Loose g 2 0
+pub loose-two : {g : Rules} → HelpsRank g 2 0
 loose-two = record { sound = λ A i. absurd (in-zero A i); wide = λ A l i h. inl (in-two l h) }
 
 not-single : (l : UnaryMark) {k : ℕ} → k ≤ 1 → rank (onwardMark l) ≤ k → rank l ≤ 2
@@ -276,7 +276,7 @@ not-single UnaryMark.Offalign e h = omega arith
 not-single UnaryMark.Offside e h = omega arith
 not-single UnaryMark.Single e h = absurd (omega arith)
 
-pub loose-less : {g : Rules} {s : ℕ} (k : ℕ) → k ≤ 1 → Exactly s (AtMost g 2) → Loose g k s
+pub loose-less : {g : Rules} {s : ℕ} (k : ℕ) → k ≤ 1 → Exactly s (AtMost g 2) → HelpsRank g k s
 loose-less k e x =
     record {
       sound = x .is;
@@ -306,6 +306,6 @@ module _ {g : Rules} {ns : ℕ} (x : Exactly ns (Nullable g)) where
         → Exactly (insert s 0) (Occurs g)
     stands-exact {s} h = under-exact at-top (h .sound) (λ B p. stands-all x y s (h .shut) p)
 
-    pub most-exact : {k loose s : ℕ} → Loose g k loose
+    pub most-exact : {k loose s : ℕ} → HelpsRank g k loose
         → Shut (AddsHeads ns ps k loose) (AtMost g k) g s → Exactly (insert s 0) (AtMost g k)
     most-exact {s = s} o h = under-exact (most-top x y o s) (h .sound) (most-all x y o s (h .shut))

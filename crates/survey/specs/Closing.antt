@@ -38,7 +38,7 @@ AddsBy Aim.Stands ns ps = AddsStands ns ps
 AddsBy (Aim.Heads k loose) ns ps = AddsHeads ns ps k loose
 
 -- `loose` is of use to those that inherit a mark of rank k or less
-pub record Loose (g : Rules) (k loose : ℕ) : Type 0 where
+pub record HelpsRank (g : Rules) (k loose : ℕ) : Type 0 where
   pub sound : (A : ℕ) → In loose A → AtMost g 2 A
   pub wide : (A : ℕ) (l : UnaryMark) → Inherits g A l → rank (onwardMark l) ≤ k
       → (rank l ≤ k) ⊎ In loose A
@@ -48,7 +48,7 @@ abbrev pub Prepared : Rules → Aim → ℕ → Type 0
 Prepared g Aim.Filled ps = Unit {0}
 Prepared g (Aim.Begins x) ps = Exactly ps (Productive g)
 Prepared g Aim.Stands ps = Exactly ps (Productive g)
-Prepared g (Aim.Heads k loose) ps = Exactly ps (Productive g) × Loose g k loose
+Prepared g (Aim.Heads k loose) ps = Exactly ps (Productive g) × HelpsRank g k loose
 
 -- members of s have P, and no rule adds to s
 pub record Shut (Adds : ℕ → Rule → ℕ → Type 0) (P : ℕ → Type 0) (g : Rules) (s : ℕ) : Type 0 where

@@ -12,7 +12,7 @@ ghost use Rattle.grammar.specs.Trees.{Covers};
 ghost use Rattle.grammar.specs.Cycles.{Nullable};
 ghost use Rattle.grammar.specs.Content.{rules, SmallClause, SmallRule, Formed};
 ghost use Rattle.acyclic.specs.Exact.{Exactly};
-ghost use Rattle.acyclic.specs.Passes.{Grown, Passed};
+ghost use Rattle.acyclic.specs.Passes.{Extended, RulesPassed};
 ghost use Rattle.pairs.specs.Survey.{Productive, Occurs, CanBegin};
 ghost use Rattle.pairs.specs.Strength.{rank};
 ghost use Rattle.survey.specs.Sources.{Worded, Under, OnePart, Filled, AddsFilled, Begins};
@@ -20,7 +20,7 @@ ghost use Rattle.survey.specs.Sources.{AddsBegins};
 ghost use Rattle.survey.specs.Sources.{BothStand, Stands, AddsStands};
 ghost use Rattle.survey.specs.Sources.{ChildHeads, PairHeads, Heads, AddsFront, PairFollows};
 ghost use Rattle.survey.specs.Sources.{Follows, AddsFollow, AddsHeads};
-ghost use Rattle.survey.specs.Closing.{AtMost, Aimed, AddsBy, Loose, Prepared, Shut};
+ghost use Rattle.survey.specs.Closing.{AtMost, Aimed, AddsBy, HelpsRank, Prepared, Shut};
 ghost use Rattle.survey.specs.Closing.{LevelsOf, LevelIs};
 
 // The sets of nonterminals that are looked for: with words that have tokens, with words that begin
@@ -127,7 +127,7 @@ fn begins(nulls: u64, prods: u64, x: u8, set: u64, c: Clause) -> bool
 // The set with a besides, where the test said yes.
 fn with_if(yes: bool, set: u64, a: u8) -> u64
     requires { ⌜ a < 64 ⌝ }
-    ensures { λ r. ⌜ Grown (λ y. (yes ≡ true) × (a ≡ y)) set r ⌝ }
+    ensures { λ r. ⌜ Extended (λ y. (yes ≡ true) × (a ≡ y)) set r ⌝ }
 {
     if yes {
         return sets::with(set, a);
@@ -138,7 +138,7 @@ fn with_if(yes: bool, set: u64, a: u8) -> u64
 // The set with both besides, where both have words.
 fn with_both(nulls: u64, prods: u64, set: u64, b: u8, d: u8) -> u64
     requires { ⌜ (b < 64) × (d < 64) ⌝ }
-    ensures { λ r. ⌜ Grown (BothStand nulls prods b d) set r ⌝ }
+    ensures { λ r. ⌜ Extended (BothStand nulls prods b d) set r ⌝ }
 {
     let first = worded(nulls, prods, b);
     let second = worded(nulls, prods, d);
@@ -150,7 +150,7 @@ fn with_both(nulls: u64, prods: u64, set: u64, b: u8, d: u8) -> u64
 // The set with the nonterminals of the clause besides, where all of them have words.
 fn with_parts(nulls: u64, prods: u64, set: u64, c: Clause) -> u64
     requires { ⌜ SmallClause c ⌝ }
-    ensures { λ r. ⌜ Grown (Stands nulls prods c) set r ⌝ }
+    ensures { λ r. ⌜ Extended (Stands nulls prods c) set r ⌝ }
 {
     match c {
         Clause::Empty => set,
@@ -179,7 +179,7 @@ fn rank_of(m: UnaryMark) -> u8
 // stronger than k.
 fn with_child(prods: u64, k: u8, set: u64, b: u8, m: UnaryMark) -> u64
     requires { ⌜ b < 64 ⌝ }
-    ensures { λ r. ⌜ Grown (ChildHeads prods k b m) set r ⌝ }
+    ensures { λ r. ⌜ Extended (ChildHeads prods k b m) set r ⌝ }
 {
     let rank = rank_of(m);
     let some = sets::has(prods, b);
@@ -191,7 +191,7 @@ fn with_child(prods: u64, k: u8, set: u64, b: u8, m: UnaryMark) -> u64
 // The set with the children besides that may begin the word.
 fn with_front(nulls: u64, prods: u64, set: u64, b: u8, d: u8) -> u64
     requires { ⌜ (b < 64) × (d < 64) ⌝ }
-    ensures { λ r. ⌜ Grown (PairHeads nulls prods b d) set r ⌝ }
+    ensures { λ r. ⌜ Extended (PairHeads nulls prods b d) set r ⌝ }
 {
     let some = sets::has(prods, b);
     let rest = worded(nulls, prods, d);
@@ -206,7 +206,7 @@ fn with_front(nulls: u64, prods: u64, set: u64, b: u8, d: u8) -> u64
 // The set with the children besides that may begin the clause's word and have its mark.
 fn with_heads(nulls: u64, prods: u64, k: u8, set: u64, c: Clause) -> u64
     requires { ⌜ SmallClause c ⌝ }
-    ensures { λ r. ⌜ Grown (Heads nulls prods k c) set r ⌝ }
+    ensures { λ r. ⌜ Extended (Heads nulls prods k c) set r ⌝ }
 {
     match c {
         Clause::Empty => set,
@@ -219,7 +219,7 @@ fn with_heads(nulls: u64, prods: u64, k: u8, set: u64, c: Clause) -> u64
 // The set with the second child besides, where both have tokens.
 fn with_second(prods: u64, set: u64, b: u8, d: u8) -> u64
     requires { ⌜ (b < 64) × (d < 64) ⌝ }
-    ensures { λ r. ⌜ Grown (PairFollows prods b d) set r ⌝ }
+    ensures { λ r. ⌜ Extended (PairFollows prods b d) set r ⌝ }
 {
     let first = sets::has(prods, b);
     let second = sets::has(prods, d);
@@ -229,7 +229,7 @@ fn with_second(prods: u64, set: u64, b: u8, d: u8) -> u64
 
 fn with_followers(prods: u64, set: u64, c: Clause) -> u64
     requires { ⌜ SmallClause c ⌝ }
-    ensures { λ r. ⌜ Grown (Follows prods c) set r ⌝ }
+    ensures { λ r. ⌜ Extended (Follows prods c) set r ⌝ }
 {
     match c {
         Clause::Empty => set,
@@ -242,7 +242,7 @@ fn with_followers(prods: u64, set: u64, c: Clause) -> u64
 // What a rule adds, for each of the sets that are looked for.
 fn grow_filled(nulls: u64, set: u64, r: Rule) -> u64
     requires { ⌜ SmallRule r ⌝ }
-    ensures { λ t. ⌜ Grown (AddsFilled nulls set r) set t ⌝ }
+    ensures { λ t. ⌜ Extended (AddsFilled nulls set r) set t ⌝ }
 {
     let c = r.clause;
     let yes = filled(nulls, set, c);
@@ -251,7 +251,7 @@ fn grow_filled(nulls: u64, set: u64, r: Rule) -> u64
 
 fn grow_begins(nulls: u64, prods: u64, x: u8, set: u64, r: Rule) -> u64
     requires { ⌜ SmallRule r ⌝ }
-    ensures { λ t. ⌜ Grown (AddsBegins nulls prods x set r) set t ⌝ }
+    ensures { λ t. ⌜ Extended (AddsBegins nulls prods x set r) set t ⌝ }
 {
     let c = r.clause;
     let yes = begins(nulls, prods, x, set, c);
@@ -260,7 +260,7 @@ fn grow_begins(nulls: u64, prods: u64, x: u8, set: u64, r: Rule) -> u64
 
 fn grow_stands(nulls: u64, prods: u64, set: u64, r: Rule) -> u64
     requires { ⌜ SmallRule r ⌝ }
-    ensures { λ t. ⌜ Grown (AddsStands nulls prods set r) set t ⌝ }
+    ensures { λ t. ⌜ Extended (AddsStands nulls prods set r) set t ⌝ }
 {
     let c = r.clause;
     if under(set, r.left) {
@@ -272,7 +272,7 @@ fn grow_stands(nulls: u64, prods: u64, set: u64, r: Rule) -> u64
 // The set with what begins the rule's word, where its left is 0 or a member.
 fn grow_front(nulls: u64, prods: u64, k: u8, set: u64, r: Rule) -> u64
     requires { ⌜ SmallRule r ⌝ }
-    ensures { λ t. ⌜ Grown (AddsFront nulls prods k set r) set t ⌝ }
+    ensures { λ t. ⌜ Extended (AddsFront nulls prods k set r) set t ⌝ }
 {
     let c = r.clause;
     if under(set, r.left) {
@@ -285,7 +285,7 @@ fn grow_front(nulls: u64, prods: u64, k: u8, set: u64, r: Rule) -> u64
 // one of `loose`.
 fn grow_follow(prods: u64, loose: u64, set: u64, next: u64, r: Rule) -> u64
     requires { ⌜ SmallRule r ⌝ }
-    ensures { λ t. ⌜ Grown (AddsFollow prods loose set r) next t ⌝ }
+    ensures { λ t. ⌜ Extended (AddsFollow prods loose set r) next t ⌝ }
 {
     let c = r.clause;
     let member = under(set, r.left);
@@ -298,7 +298,7 @@ fn grow_follow(prods: u64, loose: u64, set: u64, next: u64, r: Rule) -> u64
 
 fn grow_heads(nulls: u64, prods: u64, k: u8, loose: u64, set: u64, r: Rule) -> u64
     requires { ⌜ SmallRule r ⌝ }
-    ensures { λ t. ⌜ Grown (AddsHeads nulls prods k loose set r) set t ⌝ }
+    ensures { λ t. ⌜ Extended (AddsHeads nulls prods k loose set r) set t ⌝ }
 {
     let next = grow_front(nulls, prods, k, set, r);
     grow_follow(prods, loose, set, next, r)
@@ -306,7 +306,7 @@ fn grow_heads(nulls: u64, prods: u64, k: u8, loose: u64, set: u64, r: Rule) -> u
 
 fn grow(aim: Aim, nulls: u64, prods: u64, set: u64, r: Rule) -> u64
     requires { ⌜ SmallRule r ⌝ }
-    ensures { λ t. ⌜ Grown (AddsBy aim nulls prods set r) set t ⌝ }
+    ensures { λ t. ⌜ Extended (AddsBy aim nulls prods set r) set t ⌝ }
 {
     match aim {
         Aim::Filled => grow_filled(nulls, set, r),
@@ -319,7 +319,8 @@ fn grow(aim: Aim, nulls: u64, prods: u64, set: u64, r: Rule) -> u64
 // One pass over the rules.
 fn pass(g: Grammar, aim: Aim, nulls: u64, prods: u64, set: u64) -> u64
     requires { ⌜ Formed g × Exactly nulls (Nullable (rules g)) × Prepared (rules g) aim prods ⌝ }
-    ensures { λ r. ⌜ Passed (AddsBy aim nulls prods) (Aimed (rules g) aim) (rules g) (g .count) set
+    ensures { λ r. ⌜ RulesPassed (AddsBy aim nulls prods) (Aimed (rules g) aim) (rules g) (g .count)
+        set
         r ⌝ }
 {
     let count = g.count;
@@ -381,7 +382,7 @@ pub fn occurring(g: Grammar, nulls: u64, prods: u64) -> u64
 // The nonterminals that inherit a mark of rank at most k.
 fn at_most(g: Grammar, nulls: u64, prods: u64, k: u8, loose: u64) -> u64
     requires { ⌜ Formed g × Exactly nulls (Nullable (rules g))
-        × Exactly prods (Productive (rules g)) × Loose (rules g) k loose ⌝ }
+        × Exactly prods (Productive (rules g)) × HelpsRank (rules g) k loose ⌝ }
     ensures { λ r. ⌜ Exactly r (AtMost (rules g) k) ⌝ }
 {
     let aim = Aim::Heads(k, loose);

@@ -21,17 +21,17 @@ use Rattle.candidates.specs.Succession.{Shares, First, Follows}
 use Rattle.candidates.proofs.Measure.{left, left-falls}
 use Rattle.equivalents.specs.Twins.{Replaceable, Slack}
 use Rattle.equivalents.proofs.Blocks.{none-in-block}
-use Rattle.sweeping.specs.Searching.{NoneBefore, Barren, Looked, SweepTurn}
+use Rattle.sweeping.specs.Searching.{NoneBefore, NoneSharing, Looked, SweepTurn}
 use Rattle.sweeping.proofs.Turns.{begin, onward}
 
 module _ {g : Rules} {s n b : ℕ} {cs : List Cell} where
   -- each has an earlier one, and none before the block has two trees
-  twins-barren : n ≤ 7 → Replaceable g s n b 0 cs → NoneBefore g s n cs → Barren g s n b cs
+  twins-barren : n ≤ 7 → Replaceable g s n b 0 cs → NoneBefore g s n cs → NoneSharing g s n b cs
   twins-barren few r q = record { absent = none-in-block few (q .candidate) (q .absent) r }
 
   -- what reads like something earlier needs no look at a chart
-  pub looked-slack : n ≤ 7 → Slack n b 0 cs → Looked true g s n b cs
-  looked-slack few sl = record {
+  pub looked-earlier-twin : n ≤ 7 → Slack n b 0 cs → Looked true g s n b cs
+  looked-earlier-twin few sl = record {
     barren = λ e. twins-barren few (sl .replaceable g s);
     two = λ e.
         absurd (true-not-false e);
@@ -66,7 +66,7 @@ turn-first f = record { before = begin f; known = omega arith }
 
 module _ {g : Rules} {s n b : ℕ} {out : Bool} {cs : List Cell} (t : SweepTurn g s n b cs)
     (l : Looked out g s n b cs) where
-  pub ruled-out : out ≡ true → Barren g s n b cs
+  pub ruled-out : out ≡ true → NoneSharing g s n b cs
   ruled-out e = l .barren e (t .before)
 
   -- ruled out: at the least candidate past the block

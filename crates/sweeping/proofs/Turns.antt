@@ -15,7 +15,7 @@ use Rattle.grammar.proofs.SweepLaws.{clear-of, sentence-length}
 use Rattle.candidates.specs.Terminals.{Among}
 use Rattle.candidates.specs.Succession.{First, Follows, Ends}
 use Rattle.candidates.proofs.TerminalSets.{candidate-over}
-use Rattle.sweeping.specs.Searching.{NoneShorter, Admits, NoneBefore, Barren, Hits}
+use Rattle.sweeping.specs.Searching.{NoneShorter, Admits, NoneBefore, NoneSharing, Hits}
 
 module _ {g : Rules} {s : ℕ} where
   pub none-yet : NoneShorter g s 1
@@ -26,7 +26,7 @@ module _ {g : Rules} {s : ℕ} where
   begin f = record { candidate = f .candidate; absent = λ ds c b t. f .first ds c b }
 
   -- past a block
-  pub onward : {n b upto : ℕ} {cs rs : List Cell} → NoneBefore g s n cs → Barren g s n b cs
+  pub onward : {n b upto : ℕ} {cs rs : List Cell} → NoneBefore g s n cs → NoneSharing g s n b cs
       → Follows s n b cs upto rs → NoneBefore g s n rs
   onward h q f = record {
     candidate = f .candidate;
@@ -36,7 +36,7 @@ module _ {g : Rules} {s : ℕ} where
 
   -- past a length
   pub longer : {n b : ℕ} {cs : List Cell} → NoneShorter g s n → NoneBefore g s n cs
-      → Barren g s n b cs → Ends s n b cs → NoneShorter g s (n + 1)
+      → NoneSharing g s n b cs → Ends s n b cs → NoneShorter g s (n + 1)
   longer {n} {b} {cs} h k q e = record { absent = go }
     where
       go : (m : ℕ) (ds : List Cell) → 1 ≤ m → m < n + 1 → Candidate (Among s) m ds

@@ -29,14 +29,14 @@ pub record NoneBefore (g : Rules) (s n : ℕ) (cs : List Cell) : Type 0 where
       → TwoTrees g 0 (sentence ds) → ⊥
 
 -- no candidate of length n that shares cs's first b cells has two trees
-pub record Barren (g : Rules) (s n b : ℕ) (cs : List Cell) : Type 0 where
+pub record NoneSharing (g : Rules) (s n b : ℕ) (cs : List Cell) : Type 0 where
   pub absent : (ds : List Cell) → Candidate (Among s) n ds → Shares b ds cs
       → TwoTrees g 0 (sentence ds) → ⊥
 
 -- what a look at the candidates that share cs's first b cells tells: out, none of them has two
 -- trees if none before cs has; not out, and all cells looked at: cs has
 pub record Looked (out : Bool) (g : Rules) (s n b : ℕ) (cs : List Cell) : Type 0 where
-  pub barren : out ≡ true → NoneBefore g s n cs → Barren g s n b cs
+  pub barren : out ≡ true → NoneBefore g s n cs → NoneSharing g s n b cs
   pub two : out ≡ false → b ≡ n → TwoTrees g 0 (sentence cs)
 
 -- cs, of length n, is the first candidate of 1 to k tokens that has two trees

@@ -3,7 +3,7 @@
 use candidates::Candidate;
 use candidates::terminals;
 use dominance::needed;
-use equivalents::slack;
+use equivalents::earlier_twin;
 use grammar::Grammar;
 use grammar::Sentence;
 use lengths::Index;
@@ -60,7 +60,7 @@ fn look(
         × Past (2 * pairs n) (now (words .entry)) (now (words .exit)) ⌝ }
     ensures { λ r. ⌜ Mirrored (rules g) n (now (words .exit)) (now (cuts .exit)) ⌝ }
 {
-    if 0 < b && slack(c, n, b, 0) {
+    if 0 < b && earlier_twin(c, n, b, 0) {
         return true;
     }
     if b == n {

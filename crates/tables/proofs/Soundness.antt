@@ -40,7 +40,7 @@ within-known : {k : ℕ} (s len l : ℕ) → s + len ≤ k → l ≤ len → s +
 within-known s len l h f = omega arith
 
 -- a tree whose top follows the clause c
-pub record Grown (g : Rules) (A : ℕ) (w : Word) (c : Clause) (l : ℕ) : Type 0 where
+pub record ClauseTree (g : Rules) (A : ℕ) (w : Word) (c : Clause) (l : ℕ) : Type 0 where
   pub tree : Tree
   pub witness : Witness g A w tree
   pub headed : Headed tree c l
@@ -57,7 +57,7 @@ Sound₂ two g h s len =
 module _ (one : Table) (g : Rules) (hf : Half) (inner : hf .known ≤ length (hf .word)) (s len : ℕ)
     (h : s + len ≤ hf .known) (sound : Sound one g hf s len) where
   grow : (A l : ℕ) (c : Clause) → List·Memᴰ (record { left = A; clause = c }) g
-      → Fits one (byTokens hf s len) s len c l → Grown g A (part (hf .word) s len) c l
+      → Fits one (byTokens hf s len) s len c l → ClauseTree g A (part (hf .word) s len) c l
   grow A l Clause.Empty m q =
       record {
         tree = empty A;
@@ -121,7 +121,7 @@ module _ (one : Table) (g : Rules) (hf : Half) (inner : hf .known ≤ length (hf
       }
 
   pub grown : (A i l : ℕ) → Stand one g (byTokens hf s len) s len A i l
-      → Grown g A (part (hf .word) s len) (rule g i .clause) l
+      → ClauseTree g A (part (hf .word) s len) (rule g i .clause) l
   grown A i l c =
       grow A l (rule g i .clause) (subst
       (λ (x : ℕ). List·Memᴰ (record { left = x; clause = rule g i .clause }) g) (c .left)

@@ -125,11 +125,11 @@ module _ {g : Rules} (d : Distinct g) where
       let k : Takes g t q l = rw (s .0, s .1) at (n .takes) in
       (takes-shape k r e false, first-kids g t i ps (beneath-of g (Preferred g) t f) a)
 
-  step-swerve : (t u : Tree) (i : ℕ) (ps : List Pending) → AllPreferred g t → AllFirst g ps
+  step-other-choice : (t u : Tree) (i : ℕ) (ps : List Pending) → AllPreferred g t → AllFirst g ps
       → Swerves g t u → (p k q l : ℕ) → Preferred g (root u) (word u) p k
       → OtherChoice g (root u) (word u) p k q l → (r : Rule) → getElem? g q ≡ some r
       → Stepped g false l u i ps r
-  step-swerve t u i ps f a sw p k q l c o r e =
+  step-other-choice t u i ps f a sw p k q l c o r e =
       let n = top-of g (Preferred g) t f in
       let h = takes-unique d t (sw .taken) (n .takes) in
       let c′ : Preferred g (root t) (word t) p k = rw (← sw .rooted, ← sw .spelled) c in
@@ -145,7 +145,7 @@ module _ {g : Rules} (d : Distinct g) where
       → OtherChoice g (root (p .tree)) (word (p .tree)) p′ k′ q l → (r : Rule)
       → getElem? g q ≡ some r → Stepped g false l (p .tree) (p .start) ps r
   step-other p ps (now {t = t} {i = i} (here sw)) a p′ k′ q l c o r e =
-      step-swerve t (p .tree) (p .start) ps (a .0) (a .1) sw p′ k′ q l c o r e
+      step-other-choice t (p .tree) (p .start) ps (a .0) (a .1) sw p′ k′ q l c o r e
   step-other p ps (now (below n b)) a p′ k′ q l c o r e =
       let y : Node g (OnlyChoice g) (p .tree) = keep-unary (second-rooted b) (second-spelled b) n in
       absurd (only-no-other (y .holds) (preferred-choice g _ _ _ _ c) o)

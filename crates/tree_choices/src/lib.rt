@@ -140,7 +140,7 @@ fn after(
 
 // While seeking, at a node where the first tree takes (p, k): the earliest choice that is another,
 // where there is one.
-fn swerve(
+fn other_choice(
     words: &[u64],
     s: Sentence,
     g: Grammar,
@@ -191,7 +191,7 @@ pub fn choose(
     match found {
         Pick::At(p, k) => {
             if seeking {
-                return swerve(words, s, g, a, start, len, p, k);
+                return other_choice(words, s, g, a, start, len, p, k);
             }
             step_of(g, p, k, false)
         }

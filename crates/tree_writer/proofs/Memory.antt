@@ -18,7 +18,7 @@ use Rattle.grammar.proofs.ChoiceLaws.{second-spelled}
 use Rattle.rows.specs.declared.Step.{Step}
 use Rattle.tree_writer.specs.Written.{rowRoom, seenBy, filled}
 use Rattle.tree_choices.specs.Wanted.{Goal}
-use Rattle.tree_writer.specs.Laid.{Laid}
+use Rattle.tree_writer.specs.RowsWritten.{RowsWritten}
 use Rattle.rows.specs.Bytes.{splice}
 use Rattle.rows.specs.Steps.{kidsOf, entriesOf, closedStep, Branched}
 use Rattle.rows.proofs.BytesLaws.{length-splice, take-splice, drop-splice, drop-splice-high}
@@ -387,7 +387,7 @@ module _ {sees : View} {g : Rules} {w : Word} {u : Tree} {s : Bool} {out : List 
   -- all is written
   pub laid-full : State sees g w u s out cap n top → cap ≤ top → (l m : List ℕ)
       → length out ≡ length l
-      → m ≡ take (4 * n) out ++ replicate (length out - 4 * n) 0 → Laid sees u l m n
+      → m ≡ take (4 * n) out ++ replicate (length out - 4 * n) 0 → RowsWritten sees u l m n
   laid-full x h l m e f =
       let r = done x h in
       let k : 4 * shownCount sees u ≡ 4 * n = sym (length-shown sees u 0) ∙ ap length r
@@ -401,5 +401,5 @@ module _ {sees : View} {g : Rules} {w : Word} {u : Tree} {s : Bool} {out : List 
 
 -- nothing is, for want of room
 pub laid-short : (sees : View) (u : Tree) (l m : List ℕ) → rowRoom l < shownCount sees u
-    → m ≡ filled (seenBy sees) l none → Laid sees u l m 0
+    → m ≡ filled (seenBy sees) l none → RowsWritten sees u l m 0
 laid-short sees u l m h f = record { enough = λ h′. absurd (omega arith); short = λ _. (f, refl) }

@@ -18,7 +18,7 @@ use Rattle.grammar.specs.SpanSheet.{part}
 use Rattle.rows.specs.declared.Step.{Step}
 use Rattle.tree_writer.specs.Written.{rowRoom, seenBy, filled}
 use Rattle.tree_choices.specs.Wanted.{Ready, Goal, Wanted}
-use Rattle.tree_writer.specs.Laid.{Laid}
+use Rattle.tree_writer.specs.RowsWritten.{RowsWritten}
 use Rattle.rows.specs.Bytes.{splice}
 use Rattle.rows.specs.Steps.{kidsOf, closedStep, entriesOf, Branched}
 use Rattle.tree_choices.specs.Picks.{HasChoice, Looked, seen, closed}
@@ -155,7 +155,7 @@ module _ {sees : View} {g : Grammar} {s : Sentence} {ws hs : List ℕ} {seeking 
     pub running-over : cap < shownCount sees (x .tree) → (l m : List ℕ) → long ≡ length l
         → cap ≡ rowRoom l
         → m ≡ filled (seenBy sees) out none → (u : Tree) → Goal (rules g) 0 (spelled s) seeking u
-        → Laid sees u l m 0
+        → RowsWritten sees u l m 0
     running-over h l m e f z u a =
         let j = goal-unique (r .formed .distinct) 0 (spelled s) seeking u (x .tree) a (x .goal) in
         let k : length out ≡ length l = x .same ∙ e in
@@ -165,12 +165,12 @@ module _ {sees : View} {g : Grammar} {s : Sentence} {ws hs : List ℕ} {seeking 
     -- all is written
     pub running-done : cap ≤ top → (l m : List ℕ) → long ≡ length l
         → m ≡ take (4 * n) out ++ replicate (length out - 4 * n) 0
-        → (u : Tree) → Goal (rules g) 0 (spelled s) seeking u → Laid sees u l m n
+        → (u : Tree) → Goal (rules g) 0 (spelled s) seeking u → RowsWritten sees u l m n
     running-done h l m e z u a =
         let j = goal-unique (r .formed .distinct) 0 (spelled s) seeking u (x .tree) a (x .goal) in
         rw j (laid-full (x .state) h l m (x .same ∙ e) z)
 
 -- no place at all
 pub laid-none : (sees : View) (l m : List ℕ) → rowRoom l ≡ 0 → m ≡ filled (seenBy sees) l none
-    → (u : Tree) → Laid sees u l m 0
+    → (u : Tree) → RowsWritten sees u l m 0
 laid-none sees l m h e u = laid-short sees u l m (omega (arith, some-shown sees u)) e

@@ -13,8 +13,7 @@ use Rattle.grammar.specs.Layout.{Word}
 use Rattle.grammar.specs.Trees.{Tree, Rules}
 use Rattle.grammar.specs.Choices.{SecondTree}
 use Rattle.tree_writer.specs.Written.{Display, seenBy, rowRoom, countOf, filled}
-use Rattle.tree_choices.specs.Wanted.{Wanted}
-use Rattle.tree_writer.specs.Laid.{Laid}
+use Rattle.tree_writer.specs.RowsWritten.{RowsWritten}
 use Rattle.tree_view.specs.Shown.{View, shownCount}
 use Rattle.tree_view.proofs.ShownLaws.{some-shown}
 use Rattle.tree_writer.specs.Memories.{SecondIf, second, no-second, Written}
@@ -43,7 +42,7 @@ module _ (sees : View) (t u : Option Tree) {l₁ l₂ m₁ m₂ : List ℕ} wher
   }
 
 -- the number of rows says whether they fit
-module _ (sees : View) (t : Tree) {l m : List ℕ} {r : ℕ} (x : Laid sees t l m r) where
+module _ (sees : View) (t : Tree) {l m : List ℕ} {r : ℕ} (x : RowsWritten sees t l m r) where
   laid-zero : r ≡ 0 → rowRoom l < shownCount sees t
   laid-zero e = go (decLe (shownCount sees t) (rowRoom l))
     where
@@ -59,7 +58,8 @@ module _ (sees : View) (t : Tree) {l m : List ℕ} {r : ℕ} (x : Laid sees t l 
       go (no h) = absurd (f (x .short (omega arith) .1))
 
 -- the first tree, and the second where there are two
-module _ (sees : View) (t : Tree) {l₁ l₂ m₁ m₂ : List ℕ} {r₁ : ℕ} (x : Laid sees t l₁ m₁ r₁) where
+module _ (sees : View) (t : Tree) {l₁ l₂ m₁ m₂ : List ℕ} {r₁ : ℕ}
+    (x : RowsWritten sees t l₁ m₁ r₁) where
   pub first-short : (u : Option Tree) → r₁ ≡ 0 → m₂ ≡ filled (seenBy sees) l₂ none
       → Written (seenBy sees) (some t) u l₁ l₂ m₁ m₂
       (record { fits = false; first = 0; second = 0 })
@@ -76,7 +76,7 @@ module _ (sees : View) (t : Tree) {l₁ l₂ m₁ m₂ : List ℕ} {r₁ : ℕ} 
 
   -- what is written of each second tree
   module _ {g : Rules} {A : ℕ} {w : Word} {r₂ : ℕ}
-      (y : (v : Tree) → SecondTree g A w v → Laid sees v l₂ m₂ r₂) where
+      (y : (v : Tree) → SecondTree g A w v → RowsWritten sees v l₂ m₂ r₂) where
     pub second-short : {m₁′ : List ℕ} {two : Bool} {u : Option Tree} → two ≡ true
         → SecondIf g A w two u → r₂ ≡ 0 → length m₁ ≡ length l₁ → m₁′ ≡ filled (seenBy sees) m₁ none
         → Written (seenBy sees) (some t) u l₁ l₂ m₁′ m₂

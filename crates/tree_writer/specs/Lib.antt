@@ -1,3 +1,3 @@
 pub mod Written
 pub mod Memories
-pub mod Laid
+pub mod RowsWritten

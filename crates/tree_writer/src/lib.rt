@@ -18,7 +18,7 @@ ghost use Rattle.grammar.specs.Choices.{FirstTree};
 ghost use Rattle.grammar.specs.Cycles.{Cyclic};
 ghost use Rattle.grammar.specs.Content.{rules};
 ghost use Rattle.tree_choices.specs.Wanted.{Charted, Ready, Goal, Wanted};
-ghost use Rattle.tree_writer.specs.Laid.{Laid};
+ghost use Rattle.tree_writer.specs.RowsWritten.{RowsWritten};
 ghost use Rattle.grammar.specs.Sentences.{spelled};
 ghost use Rattle.tree_view.specs.Members.{member};
 ghost use Rattle.tree_writer.specs.Written.{Display, seenBy};
@@ -48,7 +48,7 @@ pub fn write(
     requires { ⌜ Ready g s (now words) (now hs) ⌝ }
     requires { ⌜ Wanted (rules g) 0 (spelled s) seeking ⌝ }
     ensures { λ r. ⌜ ((u : Tree) → Goal (rules g) 0 (spelled s) seeking u
-        → Laid (member sees) u (now (out .entry)) (now (out .exit)) r) ⌝ }
+        → RowsWritten (member sees) u (now (out .entry)) (now (out .exit)) r) ⌝ }
 {
     let places = out.len() / 4;
     if places == 0 {

@@ -10,7 +10,7 @@ use lib.ListN.{length, getD, set, replicate, getD-replicate, List·getD-eq-defau
 use lib.Seq.{getD-set-same, getD-set-other}
 use Rattle.tried_count.specs.declared.Row.{Row}
 use Rattle.tried_count.specs.Ways.{sum, ways, lesser, onward}
-use Rattle.tried_count.specs.Rows.{at, Low, Grown, RowOf, Fair}
+use Rattle.tried_count.specs.Rows.{at, Low, OneCellMore, RowOf, Fair}
 use Rattle.tried_count.proofs.Sums.{ways-same, sum-le, ways-le}
 use Rattle.tried_count.proofs.Bounds.{onward-small}
 
@@ -135,7 +135,7 @@ growing-more t n row p next x h e w = record { size = length-kept; each = each; 
     past k l = getD-set-other (next .ways) p k x 0 (λ z. omega (arith, z)) ∙ w .past k (omega arith)
 
 pub growing-end : (t n : ℕ) (row : Row) (p : ℕ) (next : Row) → p ≡ n + 1 → Growing t n row p next
-    → Grown t n row next
+    → OneCellMore t n row next
 growing-end t n row p next e w =
     record { each = λ k l. w .each k (omega arith); past = λ k l. w .past k (omega arith) }
 
@@ -155,7 +155,7 @@ row-none t n h = record {
         omega (arith, List·getD-eq-default {A = ℕ} (replicate 8 1) 0 {n = k} (omega arith))
 
 pub row-more : (t n i : ℕ) (row next : Row) → Fair t n → i + 1 < n → RowOf t n i row
-    → Grown t n row next → RowOf t n (i + 1) next
+    → OneCellMore t n row next → RowOf t n (i + 1) next
 unfolding onward
 row-more t n i row next f h w g =
     record { each = each; low = record { each = λ k. low k (decLt n k) } }

@@ -16,7 +16,7 @@ pub record Low (row : Row) : Type 0 where
   pub each : (k : ℕ) → at row k ≤ 4294967296
 
 -- `next` has the ways to go on with one cell more
-pub record Grown (t n : ℕ) (row next : Row) : Type 0 where
+pub record OneCellMore (t n : ℕ) (row next : Row) : Type 0 where
   pub each : (k : ℕ) → k ≤ n → at next k ≡ t * ways (at row) n 2 k
   pub past : (k : ℕ) → n < k → at next k ≡ 0
 

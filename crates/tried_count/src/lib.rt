@@ -14,7 +14,8 @@ ghost use Rattle.candidates.specs.Terminals.{Among};
 ghost use Rattle.candidates.specs.Arrays.{cells};
 ghost use Rattle.tried_count.specs.Tried.{Sized, Tried};
 ghost use Rattle.tried_count.specs.Ways.{sum, ways, lesser, wholeOf, rankFrom};
-ghost use Rattle.tried_count.specs.Rows.{at, Low, Grown, RowOf, Fair, Fairs, membersBelow};
+ghost use Rattle.tried_count.specs.Rows.{at, Low, OneCellMore, RowOf, Fair, Fairs};
+ghost use Rattle.tried_count.specs.Rows.{membersBelow};
 ghost use Rattle.tried_count.specs.Rows.{cellRank};
 ghost use Rattle.tried_count.specs.Searched.{Long, answerOf, Hit};
 
@@ -59,7 +60,7 @@ fn lesser_at(row: Row, n: usize, p: usize, s: u64, k: usize) -> u64
 // The row with one cell more to come.
 fn grown(row: Row, t: u64, n: usize) -> Row
     requires { ⌜ (n ≤ 7) × (t ≤ 64) × Low row ⌝ }
-    ensures { λ r. ⌜ Grown t n row r ⌝ }
+    ensures { λ r. ⌜ OneCellMore t n row r ⌝ }
 {
     let mut next = Row { ways: [0; 8] };
     let mut p: usize = 0;

@@ -20,16 +20,16 @@ Prefix [] w = Unit {0}
 Prefix (t ∷ u) [] = ⊥
 Prefix (t ∷ u) (x ∷ w) = (t ≡ x) × Prefix u w
 
-abbrev pub Within : Word → Word → Type 0
-Within u [] = Prefix u []
-Within u (x ∷ w) = Prefix u (x ∷ w) ⊎ Within u w
+abbrev pub FoundIn : Word → Word → Type 0
+FoundIn u [] = Prefix u []
+FoundIn u (x ∷ w) = Prefix u (x ∷ w) ⊎ FoundIn u w
 
 abbrev pub prefix? : (u w : Word) → Dec (Prefix u w)
 prefix? [] w = yes tt
 prefix? (t ∷ u) [] = no (λ x. x)
 prefix? (t ∷ u) (x ∷ w) = let r = prefix? u w in both? (token? t x) r
 
-abbrev pub within? : (u w : Word) → Dec (Within u w)
+abbrev pub within? : (u w : Word) → Dec (FoundIn u w)
 within? u [] = prefix? u []
 within? u (x ∷ w) = let r = within? u w in or? (prefix? u (x ∷ w)) r
 
@@ -37,16 +37,16 @@ begins : (u v : Word) → Prefix u (u ++ v)
 begins [] v = tt
 begins (t ∷ u) v = (refl, begins u v)
 
-here : (u w : Word) → Prefix u w → Within u w
+here : (u w : Word) → Prefix u w → FoundIn u w
 here u [] p = p
 here u (x ∷ w) p = inl p
 
-stands : (p u q : Word) → Within u (p ++ (u ++ q))
+stands : (p u q : Word) → FoundIn u (p ++ (u ++ q))
 stands [] u q = here u (u ++ q) (begins u q)
 stands (x ∷ p) u q = inr (stands p u q)
 
-pub within : {u w : Word} → Infix u w → Within u w
-within {u} i = subst (λ (x : Word). Within u x) (i .spells) (stands (i .before) u (i .after))
+pub within : {u w : Word} → Infix u w → FoundIn u w
+within {u} i = subst (λ (x : Word). FoundIn u x) (i .spells) (stands (i .before) u (i .after))
 
 pub infix-self : (w : Word) → Infix w w
 infix-self w = record { before = []; after = []; spells = append-nil w }

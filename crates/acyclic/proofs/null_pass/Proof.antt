@@ -8,7 +8,7 @@ use Rattle.grammar.specs.declared.Rule.{Rule}
 use Rattle.grammar.specs.declared.Clause.the-variants.{Empty}
 use Rattle.grammar.specs.Cycles.{Nullable}
 use Rattle.grammar.specs.Content.{rules}
-use Rattle.acyclic.specs.Passes.{Passed, AddsLeft}
+use Rattle.acyclic.specs.Passes.{RulesPassed, AddsLeft}
 use Rattle.acyclic.proofs.Growth.{passed-none, passed-more, rule-at, small-at}
 use Rattle.acyclic.proofs.Nulls.{null-sound}
 use Rattle.acyclic.proofs.null_pass.Statement.{statement}
@@ -16,7 +16,7 @@ use Rattle.acyclic.proofs.null_pass.Tie as tie
 
 abbrev Inv-loop : tie.InvT-loop
 Inv-loop set g count next₀ p₀ next p =
-    (p ≤ count) × Passed AddsLeft (Nullable (rules g)) (rules g) p set next
+    (p ≤ count) × RulesPassed AddsLeft (Nullable (rules g)) (rules g) p set next
 
 abbrev μ-loop : tie.MeasureT-loop
 μ-loop set g count next₀ p₀ next p = count - p

@@ -8,7 +8,7 @@ use Rattle.grammar.specs.declared.Rule.{Rule}
 use Rattle.grammar.specs.declared.Clause.the-variants.{Empty}
 use Rattle.grammar.specs.Cycles.{Chain}
 use Rattle.grammar.specs.Content.{rules}
-use Rattle.acyclic.specs.Passes.{Passed, AddsTargets}
+use Rattle.acyclic.specs.Passes.{RulesPassed, AddsTargets}
 use Rattle.acyclic.proofs.Growth.{passed-none, passed-more, rule-at, small-at}
 use Rattle.acyclic.proofs.Chains.{chain-sound}
 use Rattle.acyclic.proofs.reach_pass.Statement.{statement}
@@ -16,7 +16,7 @@ use Rattle.acyclic.proofs.reach_pass.Tie as tie
 
 abbrev Inv-loop : tie.InvT-loop
 Inv-loop nulls a set g count next₀ p₀ next p =
-    (p ≤ count) × Passed (AddsTargets nulls a) (Chain (rules g) a) (rules g) p set next
+    (p ≤ count) × RulesPassed (AddsTargets nulls a) (Chain (rules g) a) (rules g) p set next
 
 abbrev μ-loop : tie.MeasureT-loop
 μ-loop nulls a set g count next₀ p₀ next p = count - p

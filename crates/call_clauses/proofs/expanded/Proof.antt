@@ -25,11 +25,11 @@ put-rules-requires c κs = search needs
 array-share-prefix-sheet : tie.Need-array-share-prefix-sheet
 array-share-prefix-sheet c = search needs
 
-slice-aggregate-give : tie.Need-slice-aggregate-give
-slice-aggregate-give c = sym (length-take-le _ _ (search needs))
+slice-aggregate-put-list : tie.Need-slice-aggregate-put-list
+slice-aggregate-put-list c = sym (length-take-le _ _ (search needs))
 
-give-requires : tie.Need-give-requires
-give-requires c κs = search needs
+put-list-requires : tie.Need-put-list-requires
+put-list-requires c κs = search needs
 
 list-reply-requires : tie.Need-list-reply-requires
 list-reply-requires c κs = search needs
@@ -43,7 +43,7 @@ returns c =
     let p = g .before .before .before .before in
     let b = p .before .before .before in
     let w = wrote-then (b .put-bytes .ensures) (p .put-rules .ensures .0) in
-    rw (c .list-reply .ensures) (list-on (rw (w .front) at (g .give .ensures)))
+    rw (c .list-reply .ensures) (list-on (rw (w .front) at (g .put-list .ensures)))
 
 pub expanded-spec : {M : Type 1} → statement M
 expanded-spec =
@@ -55,8 +55,8 @@ expanded-spec =
     slice-aggregate-put-rules
     put-rules-requires
     array-share-prefix-sheet
-    slice-aggregate-give
-    give-requires
+    slice-aggregate-put-list
+    put-list-requires
     list-reply-requires
     same-length
     returns)

@@ -14,7 +14,8 @@ use Rattle.range_charts.specs.Keeping.{Blank}
 use Rattle.range_charts.proofs.Keeping.{columns-blank}
 use Rattle.range_charts.proofs.Solving.{small-empty, from-none}
 use Rattle.column_search.proofs.Searching.{Turn, leaved-small, leaved-narrowed}
-use Rattle.column_search.proofs.Searching.{searched-none, searched-after, searched-idle}
+use Rattle.column_search.proofs.Searching.{searched-none, searched-after}
+use Rattle.column_search.proofs.Searching.{searched-nothing-new}
 use Rattle.column_search.proofs.Searching.{turn-none, turn-more, turn-all}
 use Prim.Native.Nat.{ℕ, _+_, _-_, _<_}
 use borrow.Fn.Kinds.{In}
@@ -23,7 +24,7 @@ use Rattle.column_search.proofs.search.Reads as search′
 use Rattle.column_search.proofs.search.Kinds as search-kinds
 use Rattle.column_search.proofs.+search.Lts-search as search-lts
 use Rattle.column_ranges.proofs.columns.Reads as columns-reads
-use Rattle.column_search.proofs.idle.Reads as idle-reads
+use Rattle.column_search.proofs.nothing_new.Reads as nothing-new-reads
 use Rattle.column_search.proofs.next_of_many.Reads as next-of-many-reads
 use Rattle.column_search.proofs.search_few.Reads as search-few-reads
 use Rattle.column_search.proofs.settled.Reads as settled-reads
@@ -49,8 +50,8 @@ calls t = (
   next-of-many-reads.Learnt,
   search-few-reads.Asked,
   search-few-reads.Learnt,
-  idle-reads.Asked,
-  idle-reads.Learnt,
+  nothing-new-reads.Asked,
+  nothing-new-reads.Learnt,
   columns-reads.Asked,
   columns-reads.Learnt,
   narrowed-reads.Asked,
@@ -123,22 +124,23 @@ search-returns-2 t c =
     let a = c .before .before .before .before .search-few .ensures in
     (a .0, columns-blank (a .1 .columns))
 
-search-idle-requires : (t : ℕ) → search-lts.Need-idle-requires (calls t) (search-at t) search′.Post
+search-nothing-new-requires : (t : ℕ)
+    → search-lts.Need-nothing-new-requires (calls t) (search-at t) search′.Post
     search-Inv-loop search-μ-loop
-search-idle-requires t c κs =
+search-nothing-new-requires t c κs =
     let p = c .before .before .before .before .before .before .before .before .pre .1 in
     (p .0, (p .1 .0, (p .1 .1 .0, p .1 .1 .1 .0)))
 
 search-same-length-3 : (t : ℕ) → search-lts.Need-same-length-3 (calls t) (search-at t) search′.Post
     search-Inv-loop search-μ-loop
-search-same-length-3 t c = c .before .before .before .idle .ensures .leaving .past .long
+search-same-length-3 t c = c .before .before .before .nothing-new .ensures .leaving .past .long
 
 search-returns-3 : (t : ℕ) → search-lts.Need-returns-3 (calls t) (search-at t) search′.Post
     search-Inv-loop search-μ-loop
 search-returns-3 t c =
     let e = c .before .before .before in
     let z = e .before .before .before .before .before .before .before .before .before in
-    (searched-idle (e .idle .ensures) (c .if3 .taken), z .pre .1 .1 .1 .1 .1)
+    (searched-nothing-new (e .nothing-new .ensures) (c .if3 .taken), z .pre .1 .1 .1 .1 .1)
 
 search-mul-a : (t : ℕ) → search-lts.Need-mul-a (calls t) (search-at t) search′.Post search-Inv-loop
     search-μ-loop
@@ -205,7 +207,8 @@ search-search-requires : (t : ℕ)
 search-search-requires t c κs =
     let q = c .before .before .narrowed .ensures in
     let v = c .before .before .before .before .loop .inv in
-    let i = c .before .before .before .before .before .before .before .before .before .before .idle
+    let i = c .before .before .before .before .before .before .before .before .before .before
+        .nothing-new
     .ensures .leaving in
     let z = c .before .before .before .before .before .before .before .before .before .before
     .before .before .before .before .before .before .before .before .before in
@@ -303,7 +306,8 @@ search-loop-again t c =
 search-same-length-4 : (t : ℕ) → search-lts.Need-same-length-4 (calls t) (search-at t) search′.Post
     search-Inv-loop search-μ-loop
 search-same-length-4 t c = c .before .loop .inv .0 .leaving .past .long
-    ∙ c .before .before .before .before .before .before .before .idle .ensures .leaving .past .long
+    ∙ c .before .before .before .before .before .before .before .nothing-new .ensures .leaving .past
+        .long
 
 search-same-length-5 : (t : ℕ) → search-lts.Need-same-length-5 (calls t) (search-at t) search′.Post
     search-Inv-loop search-μ-loop
@@ -321,7 +325,8 @@ search-returns-4 t c =
       c .before .before .before .before .before .before .before .before .before .if2
           .left,
     ) in (
-      searched-after (c .before .before .before .before .before .before .before .idle .ensures
+      searched-after (c .before .before .before .before .before .before .before .nothing-new
+          .ensures
           .leaving) (turn-all (z .pre .1 .1 .0) h (omega (
             arith,
             c .loop-test .left,
@@ -344,7 +349,7 @@ pub +search-spec : {M : Type 1} → statement M
     (search-same-length t)
     (search-same-length-2 t)
     (search-returns-2 t)
-    (search-idle-requires t)
+    (search-nothing-new-requires t)
     (search-same-length-3 t)
     (search-returns-3 t)
     (search-mul-a t)

@@ -4,7 +4,7 @@ use native.Mathlib.Omega.{arith}
 use Rattle.sets.proofs.Says.{true-not-false}
 use mathlib.Core.Path.{sym}
 use Prim.Native.Nat.{_<_}
-use Rattle.equivalents.proofs.Passing.{pass-terminal, pass-slack, among-at}
+use Rattle.equivalents.proofs.Passing.{pass-terminal, pass-earlier-twin, among-at}
 use Rattle.equivalents.proofs.passable.Statement.{statement}
 use Rattle.equivalents.proofs.passable.Tie as tie
 
@@ -36,13 +36,13 @@ returns-2 c =
     (c .before .before .cell .ensures) (a .args .set) (a .args .kept) (a .pre .1)
     (c .before .has .ensures .isnt (not-true _ (c .if2 .taken)))
 
-slack-requires : tie.Need-slack-requires
-slack-requires c κs =
+earlier-twin-requires : tie.Need-earlier-twin-requires
+earlier-twin-requires c κs =
     let e = c .before .before .before in
     let a = e .before in (past e, a .pre .0 .0, a .pre .0 .1)
 
 returns-3 : tie.Need-returns-3
-returns-3 c = λ e. pass-slack (c .slack .ensures e)
+returns-3 c = λ e. pass-earlier-twin (c .earlier-twin .ensures e)
 
 pub passable-spec : {M : Type 1} → statement M
 passable-spec =
@@ -53,5 +53,5 @@ passable-spec =
     cell-requires
     has-requires
     returns-2
-    slack-requires
+    earlier-twin-requires
     returns-3)

@@ -6,7 +6,7 @@ use lib.ListN.{length}
 use Rattle.grammar.specs.Content.{rules}
 use Rattle.marks.specs.Drafts.{half}
 use Rattle.spans.proofs.ChangeLaws.{past-same, past-then}
-use Rattle.chart.specs.Filling.{Filled, Grown}
+use Rattle.chart.specs.Filling.{Filled, FilledFrom}
 use Rattle.chart.proofs.FillLaws.{given-same, given-then}
 use Rattle.filling.specs.Closing.{Begins, Columns}
 use Rattle.filling.proofs.fill_starts.Statement.{statement}
@@ -14,7 +14,7 @@ use Rattle.filling.proofs.fill_starts.Tie as tie
 
 abbrev Inv-loop : tie.InvT-loop
 Inv-loop words₀ rows₀ cols₀ table d g b e from to start₀ words rows cols start = (start ≤ d .count)
-    × Grown words₀ words (rules g) (half d) (d .count) from start × (length rows ≡ 128)
+    × FilledFrom words₀ words (rules g) (half d) (d .count) from start × (length rows ≡ 128)
     × Columns words (d .count) start cols × Begins words e × (length cols ≡ length cols₀)
 
 abbrev μ-loop : tie.MeasureT-loop
@@ -112,7 +112,8 @@ returns c =
     let a = c .before .before .before .before .before .before .args in
     let l = c .before .loop in
     let e : l .start ≡ 0 = omega (arith, c .loop-test .left) in
-    subst (Grown (a .words .now) (l .words) (rules (a .g)) (half (a .d)) (a .d .count) (a .from)) e
+    subst (FilledFrom (a .words .now) (l .words) (rules (a .g)) (half (a .d)) (a .d .count)
+        (a .from)) e
     (l .inv .1)
 
 pub fill-starts-spec : {M : Type 1} → statement M

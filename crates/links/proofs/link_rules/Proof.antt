@@ -43,8 +43,8 @@ add-i : tie.Need-add-i Inv-loop μ-loop
 add-i c = search needs
 
 -- src/lib.rt:47:12
-idle-requires : tie.Need-idle-requires Inv-loop μ-loop
-idle-requires c κs =
+one-sided-requires : tie.Need-one-sided-requires Inv-loop μ-loop
+one-sided-requires c κs =
     let l = c .before .before .loop in
     let z = c .before .before .before .before in
     let g = z .args .t1 in
@@ -63,7 +63,7 @@ loop-again c =
     let l = c .before .before .before .before .loop in
     let g = c .before .before .before .before .before .before .args .t1 in
     let h : l .i < g .count = c .before .before .before .loop-test .taken in
-    let d = c .before .idle .ensures .is (c .if1 .taken) in (
+    let d = c .before .one-sided .ensures .is (c .if1 .taken) in (
       omega arith,
       omega (arith, l .inv .1),
       l .inv .2,
@@ -133,7 +133,7 @@ link-rules-spec =
     mul-r
     element-copy-out-r
     add-i
-    idle-requires
+    one-sided-requires
     loop-less
     loop-again
     mul-rules

@@ -3,12 +3,12 @@ use borrow.Author.Needs.{needs}
 use mathlib.Core.Path.{refl}
 use Prim.Native.Nat.{_-_}
 use native.Mathlib.Omega.{arith}
-use Rattle.narrowing.proofs.Walking.{Laid, laid-none, laid-more, laid-all}
+use Rattle.narrowing.proofs.Walking.{LowestPlaced, laid-none, laid-more, laid-all}
 use Rattle.narrowing.proofs.lowest_sentence.Statement.{statement}
 use Rattle.narrowing.proofs.lowest_sentence.Tie as tie
 
 abbrev Inv-loop : tie.InvT-loop
-Inv-loop r tokens₀ i₀ tokens i = Laid r tokens i
+Inv-loop r tokens₀ i₀ tokens i = LowestPlaced r tokens i
 
 abbrev μ-loop : tie.MeasureT-loop
 μ-loop r tokens₀ i₀ tokens i = r .count - i

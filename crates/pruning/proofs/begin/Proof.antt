@@ -9,8 +9,8 @@ use Rattle.refilling.specs.Short.{wide}
 use Rattle.pruning.proofs.begin.Statement.{statement}
 use Rattle.pruning.proofs.begin.Tie as tie
 
-lay-requires : tie.Need-lay-requires
-lay-requires c κs = let z = c .before .before .before .before .before in (
+put-leaves-requires : tie.Need-put-leaves-requires
+put-leaves-requires c κs = let z = c .before .before .before .before .before in (
   (z .pre .0 .0, small-cells (z .pre .0 .1) (z .pre .0 .2)),
   (z .pre .1 .1 .0, (z .pre .1 .1 .1 .0 .long, z .pre .1 .1 .1 .1)),
 )
@@ -25,7 +25,7 @@ refill-requires c κs =
     .before .before .before in
     let d = c .before .before .draft in
     let e = d .ensures in
-    let l = c .before .before .before .before .before .before .before .lay .ensures .0 in (
+    let l = c .before .before .before .before .before .before .before .put-leaves .ensures .0 in (
       (omega (arith, e .1, z .pre .0 .0), omega (arith, e .1, e .2, z .pre .0 .1)),
       (
         rw (e .1) (omega (arith, z .pre .1 .1 .0, l .tokens .past .long)),
@@ -35,7 +35,7 @@ refill-requires c κs =
             laid-ready (wide (d .result)) (z .pre .0 .1) (z .pre .0 .2) (e .0) (e .1)
                 (e .2) (z .pre .1 .1 .1 .0) l,
             rw (e .1)
-                (c .before .before .before .before .before .before .before .lay .ensures .1),
+                (c .before .before .before .before .before .before .before .put-leaves .ensures .1),
           ),
         ),
       ),
@@ -54,7 +54,7 @@ returns c =
     let d = c .before .before .before .before .before .before .before .draft in
     let e = d .ensures in
     let l = c .before .before .before .before .before .before .before .before .before .before
-    .before .before .lay .ensures .0 in
+    .before .before .put-leaves .ensures .0 in
     let f = c .before .before .before .before .refill .ensures .0 in (
       poised-start (wide (d .result)) (z .pre .0 .1) (e .0) (e .1) (e .2) (z .pre .1 .1 .1 .0) l f,
       (
@@ -65,5 +65,5 @@ returns c =
     )
 
 pub begin-spec : {M : Type 1} → statement M
-begin-spec = tie.close (tie.spec lay-requires draft-requires refill-requires same-length
+begin-spec = tie.close (tie.spec put-leaves-requires draft-requires refill-requires same-length
     same-length-2 returns)

@@ -8,8 +8,8 @@ use Rattle.refilling.specs.Short.{wide}
 use Rattle.pruning.proofs.positions.Statement.{statement}
 use Rattle.pruning.proofs.positions.Tie as tie
 
-places-requires : tie.Need-places-requires
-places-requires c κs = c .before .before .before .before .pre
+try-positions-requires : tie.Need-try-positions-requires
+try-positions-requires c κs = c .before .before .before .before .pre
 
 same-length : tie.Need-same-length
 same-length c = search needs
@@ -22,10 +22,10 @@ returns c = (
   record {
     out = λ e. absurd (true-not-false e);
     stays = λ e. absurd (true-not-false e);
-    past = c .before .before .before .before .before .places .ensures .0 .past;
+    past = c .before .before .before .before .before .try-positions .ensures .0 .past;
   },
   c .before .before
-      .before .before .before .places .ensures .1,
+      .before .before .before .try-positions .ensures .1,
 )
 
 draft-requires : tie.Need-draft-requires
@@ -38,7 +38,8 @@ no-two-requires c κs =
     let a = z .args in
     let d = c .before .before .draft in
     let e = d .ensures in
-    let q = c .before .before .before .before .before .before .before .before .places .ensures
+    let q = c .before .before .before .before .before .before .before .before .try-positions
+        .ensures
     .0 in (
       (omega (arith, e .1, z .pre .0 .0), omega (arith, e .1, e .2, z .pre .0 .1)),
       (
@@ -49,7 +50,7 @@ no-two-requires c κs =
             ready-again (wide (d .result)) (z .pre .0 .1) (cells-size (a .c) 0 (a .n))
                 (e .0) (e .1) (e .2) (q .stays (c .before .before .before .if1 .left)),
             rw (e .1)
-                (c .before .before .before .before .before .before .before .before .places
+                (c .before .before .before .before .before .before .before .before .try-positions
                 .ensures .1),
           ),
         ),
@@ -69,12 +70,12 @@ returns-2 c =
       spent (wide (d .result)) (c .before .before .before .before .before .before .before .before
           .if1
           .left) (e .0) (e .1) (e .2) (c .before .before .before .before .before .before .before
-          .before .before .before .before .before .before .places .ensures .0)
+          .before .before .before .before .before .before .try-positions .ensures .0)
           (c .before .before .before .before .no-two .ensures .0),
       rw (e .1) at
           (c .before .before .before .before .no-two .ensures .1),
     )
 
 pub positions-spec : {M : Type 1} → statement M
-positions-spec = tie.close (tie.spec places-requires same-length same-length-2 returns
+positions-spec = tie.close (tie.spec try-positions-requires same-length same-length-2 returns
     draft-requires no-two-requires same-length-3 same-length-4 returns-2)

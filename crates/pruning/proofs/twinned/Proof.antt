@@ -12,8 +12,8 @@ begin-requires : tie.Need-begin-requires
 begin-requires c κs = let z = c .before .before .before .before .before in
     ((z .pre .0 .0, z .pre .0 .1, z .pre .0 .2), z .pre .1)
 
-terms-requires : tie.Need-terms-requires
-terms-requires c κs =
+try-terminals-requires : tie.Need-try-terminals-requires
+try-terminals-requires c κs =
     let z = c .before .before .before .before .before .before .before .before .before .before
     .before .before in
     let p = c .before .before .before .before .before .before .begin .ensures in (
@@ -43,7 +43,7 @@ same-length-2 c = search needs
 
 returns : tie.Need-returns
 returns c =
-    let q = c .before .before .before .before .terms .ensures in (
+    let q = c .before .before .before .before .try-terminals .ensures in (
       (
         λ e. twinned-all (q .0 .out (not-true _ e)),
         past-then
@@ -55,4 +55,5 @@ returns c =
     )
 
 pub twinned-spec : {M : Type 1} → statement M
-twinned-spec = tie.close (tie.spec begin-requires terms-requires same-length same-length-2 returns)
+twinned-spec =
+    tie.close (tie.spec begin-requires try-terminals-requires same-length same-length-2 returns)

@@ -7,7 +7,7 @@ use lib.ListN.{length, length-map, getD, getElem?}
 use Rattle.grammar.specs.declared.Rule.{Rule}
 use Rattle.grammar.specs.declared.Clause.the-variants.{Empty}
 use Rattle.grammar.specs.Content.{rules}
-use Rattle.acyclic.specs.Passes.{Passed}
+use Rattle.acyclic.specs.Passes.{RulesPassed}
 use Rattle.acyclic.proofs.Growth.{passed-none, passed-more, rule-at, small-at}
 use Rattle.reachable_rules.specs.Reach.{Reached}
 use Rattle.reachable_rules.specs.Steps.{AddsParts}
@@ -17,7 +17,7 @@ use Rattle.reachable_rules.proofs.reach_pass.Tie as tie
 
 abbrev Inv-loop : tie.InvT-loop
 Inv-loop set g count next₀ p₀ next p =
-    (p ≤ count) × Passed AddsParts (Reached (rules g)) (rules g) p set next
+    (p ≤ count) × RulesPassed AddsParts (Reached (rules g)) (rules g) p set next
 
 abbrev μ-loop : tie.MeasureT-loop
 μ-loop set g count next₀ p₀ next p = count - p

@@ -5,7 +5,7 @@ use lib.ListN.{length-map}
 use Rattle.grammar.specs.Content.{rules}
 use Rattle.marks.specs.Drafts.{half}
 use Rattle.spans.proofs.ChangeLaws.{past-same, past-then}
-use Rattle.chart.specs.Filling.{Whole, Filled, Grown}
+use Rattle.chart.specs.Filling.{Whole, Filled, FilledFrom}
 use Rattle.chart.proofs.FillLaws.{given-same, given-then}
 use Rattle.chart.proofs.SheetLaws.{begun, charted}
 use Rattle.refilling.specs.Kept.{Mirrored, Suits}
@@ -17,7 +17,7 @@ use Rattle.refilling.proofs.refill.Tie as tie
 
 abbrev Inv-loop : tie.InvT-loop
 Inv-loop words₀ kept₀ d g from to start₀ words kept start = (start ≤ d .count)
-    × Grown words₀ words (rules g) (half (wide d)) (d .count) from start
+    × FilledFrom words₀ words (rules g) (half (wide d)) (d .count) from start
     × Suits (rules g) words kept
     × Mirrored (rules g) (d .count) words kept
 
@@ -110,7 +110,8 @@ returns c =
     let e : l .start ≡ 0 = omega (arith, c .loop-test .left) in (
       charted (a .words .now) (l .words) (rules (a .g)) (half (wide (a .d))) (a .d .count) (w .long)
           (w .inner) (a .from)
-          (subst (Grown (a .words .now) (l .words) (rules (a .g)) (half (wide (a .d))) (a .d .count)
+          (subst (FilledFrom (a .words .now) (l .words) (rules (a .g)) (half (wide (a .d)))
+              (a .d .count)
           (a .from)) e (l .inv .1)),
       l .inv .3,
     )

@@ -1,5 +1,4 @@
 -- `count_second` meets its contract: the way down the second tree, if there is one.
-use borrow.Author.Needs.{needs}
 use mathlib.Core.Path.{refl, _∙_, sym}
 use native.Mathlib.Omega.{arith}
 use Rattle.sets.proofs.Says.{true-not-false}

@@ -4,13 +4,13 @@ use mathlib.Core.Path.{_≡_, sym, _∙_, subst}
 use Prim.Native.Nat.{ℕ, _-_, _≤_, _<_}
 use native.Mathlib.Omega.{arith}
 use Rattle.grammar.specs.Content.{rules}
-use Rattle.row_counts.specs.Nulls.{Passed}
+use Rattle.row_counts.specs.Nulls.{NullsTried}
 use Rattle.row_counts.proofs.NullLaws.{passed-none, passed-more}
 use Rattle.row_counts.proofs.null_pass.Statement.{statement}
 use Rattle.row_counts.proofs.null_pass.Tie as tie
 
 abbrev Inv-loop : tie.InvT-loop
-Inv-loop z₀ words hs s g more₀ a₀ z more a = (a ≤ 64) × Passed (rules g) (λ B. B < a) z₀ z more
+Inv-loop z₀ words hs s g more₀ a₀ z more a = (a ≤ 64) × NullsTried (rules g) (λ B. B < a) z₀ z more
 
 abbrev μ-loop : tie.MeasureT-loop
 μ-loop z₀ words hs s g more₀ a₀ z more a = 64 - a
@@ -56,7 +56,7 @@ returns : tie.Need-returns Inv-loop μ-loop
 returns c =
     let args = c .before .before .before .before .before .args in
     let e : c .before .loop .a ≡ 64 = omega (arith, c .before .loop .inv .0, c .loop-test .left) in
-    subst (λ (x : ℕ). Passed (rules (args .g)) (λ B. B < x) (args .z .now) (c .before .loop .z)
+    subst (λ (x : ℕ). NullsTried (rules (args .g)) (λ B. B < x) (args .z .now) (c .before .loop .z)
     (c .before .loop .more)) e (c .before .loop .inv .1)
 
 pub null-pass-spec : {M : Type 1} → statement M

@@ -18,7 +18,7 @@ use Rattle.grammar.specs.Content.{rules}
 use Rattle.grammar.specs.SpanSheet.{pairs, firstWord}
 use Rattle.grammar.proofs.ChoiceLaws.{first-witness, takes-of}
 use Rattle.tree_choices.specs.Picks.{HasChoice}
-use Rattle.row_counts.specs.Nulls.{Passed}
+use Rattle.row_counts.specs.Nulls.{NullsTried}
 use Rattle.row_counts.proofs.NullLaws.{small, found-size, not-known, passed-none}
 use Rattle.row_counts.proofs.NullLaws.{passed-found}
 use Rattle.row_counts.proofs.SizeLaws.{chosen-small}
@@ -160,7 +160,7 @@ returns-4 c =
     let p : 0 < c .before .null-size .result = not-zero _ (c .if3 .left) in
     let h : getD (a .z .now) (a .a) 0 ≡ 0 =
     ap (λ (y : ℕ). getD (a .z .now) y 0) (sym (wide .ensures)) ∙ if1 .left in
-    subst (λ (x : ℕ). Passed (rules (a .g)) (λ B. B ≡ a .a) (a .z .now)
+    subst (λ (x : ℕ). NullsTried (rules (a .g)) (λ B. B ≡ a .a) (a .z .now)
     (set (a .z .now) x (c .before .null-size .result)) true) (sym (wide .ensures))
     (passed-found (a .a) (c .before .null-size .result) (f .0) (z .pre .1 .1) (z .pre .0 .1) h p
     (f .1) (found-size (a .z .now) (z .pre .1 .1) (z .pre .0 .0 .formed .distinct) (a .a) (f .0)

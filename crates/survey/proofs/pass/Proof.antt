@@ -7,7 +7,7 @@ use lib.ListN.{length, length-map, getD, getElem?}
 use Rattle.grammar.specs.declared.Rule.{Rule}
 use Rattle.grammar.specs.declared.Clause.the-variants.{Empty}
 use Rattle.grammar.specs.Content.{rules}
-use Rattle.acyclic.specs.Passes.{Passed}
+use Rattle.acyclic.specs.Passes.{RulesPassed}
 use Rattle.acyclic.proofs.Growth.{passed-none, passed-more, rule-at, small-at}
 use Rattle.survey.specs.Closing.{Aimed, AddsBy}
 use Rattle.survey.proofs.Sources.{aim-sound}
@@ -16,7 +16,7 @@ use Rattle.survey.proofs.pass.Tie as tie
 
 abbrev Inv-loop : tie.InvT-loop
 Inv-loop aim nulls prods set g count next₀ p₀ next p =
-    (p ≤ count) × Passed (AddsBy aim nulls prods) (Aimed (rules g) aim) (rules g) p set next
+    (p ≤ count) × RulesPassed (AddsBy aim nulls prods) (Aimed (rules g) aim) (rules g) p set next
 
 abbrev μ-loop : tie.MeasureT-loop
 μ-loop aim nulls prods set g count next₀ p₀ next p = count - p

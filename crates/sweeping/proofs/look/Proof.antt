@@ -3,17 +3,18 @@
 use borrow.Author.Needs.{needs}
 use native.Mathlib.Omega.{arith}
 use Rattle.spans.proofs.ChangeLaws.{past-same}
-use Rattle.sweeping.proofs.Looking.{looked-slack, looked-refuted, looked-whole}
+use Rattle.sweeping.proofs.Looking.{looked-earlier-twin, looked-refuted, looked-whole}
 use Rattle.sweeping.proofs.look.Statement.{statement}
 use Rattle.sweeping.proofs.look.Tie as tie
 
-slack-requires : tie.Need-slack-requires
-slack-requires c κs = let z = c .before .before .before .before in
+earlier-twin-requires : tie.Need-earlier-twin-requires
+earlier-twin-requires c κs = let z = c .before .before .before .before in
     (omega (arith, c .if1 .taken), z .pre .0 .1, z .pre .0 .0)
 
 returns : tie.Need-returns
 returns c = let z = c .before .before .before .before .before .before in (
-  (looked-slack (z .pre .0 .0) (c .before .slack .ensures (c .if2 .taken)), past-same _ _),
+  (looked-earlier-twin (z .pre .0 .0) (c .before .earlier-twin .ensures (c .if2 .taken)), past-same
+      _ _),
   z
       .pre .1 .1 .1 .1,
 )
@@ -61,5 +62,6 @@ returns-3 c = let h = c .before .before .before .before .refutes .ensures in
     )
 
 pub look-spec : {M : Type 1} → statement M
-look-spec = tie.close (tie.spec slack-requires returns has-two-requires same-length same-length-2
+look-spec =
+    tie.close (tie.spec earlier-twin-requires returns has-two-requires same-length same-length-2
     returns-2 refutes-requires same-length-3 same-length-4 returns-3)

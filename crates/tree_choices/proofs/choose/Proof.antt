@@ -1,4 +1,5 @@
--- `choose` meets its contract: what the first tree takes is found; while seeking, `swerve` decides.
+-- `choose` meets its contract: what the first tree takes is found; while seeking, `other_choice`
+-- decides.
 use borrow.Author.Needs.{needs}
 use mathlib.Core.Bool.{false}
 use native.Mathlib.Omega.{arith}
@@ -28,8 +29,9 @@ preferred-requires c κs = let z = c .before .before .before .before in let a = 
 enum-known-found : tie.Need-enum-known-found
 enum-known-found c = search needs
 
-swerve-requires : tie.Need-swerve-requires
-swerve-requires c κs = let z = c .before .before .before .before .before .before .before .before
+other-choice-requires : tie.Need-other-choice-requires
+other-choice-requires c κs = let z =
+    c .before .before .before .before .before .before .before .before
     .before in let a = z .args in let y : PreferredPick (rules (a .g)) (a .a)
     (part (spelled (a .s)) (c .before .before .before .before .before .before .wide .result)
     (c .before .before .before .before .before .wide2 .result))
@@ -62,7 +64,7 @@ returns c = rw (
       .wide .ensures,
   ← c .before .before .before .before .before .before .wide2 .ensures,
 )
-    (c .swerve .ensures)
+    (c .other-choice .ensures)
 
 step-of-requires : tie.Need-step-of-requires
 step-of-requires c κs = let z = c .before .before .before .before .before .before .before .before
@@ -145,7 +147,7 @@ choose-spec =
     wide-requires-2
     preferred-requires
     enum-known-found
-    swerve-requires
+    other-choice-requires
     returns
     step-of-requires
     enum-told

@@ -4,6 +4,6 @@ use Rattle.streams.specs.declared.Moved.{Moved}
 use Rattle.streams.specs.declared.Moved.the-variants as Moved
 
 -- at most n bytes were moved, or a call failed
-abbrev pub Within : ℕ → Moved → Type 0
-Within n (Moved.Bytes k) = k ≤ n
-Within n Moved.Failed = Unit {0}
+abbrev pub AtMostMoved : ℕ → Moved → Type 0
+AtMostMoved n (Moved.Bytes k) = k ≤ n
+AtMostMoved n Moved.Failed = Unit {0}

@@ -4,17 +4,17 @@ use mathlib.Core.Path.{_∙_}
 use Prim.Native.Nat.{_-_, _≤_}
 use native.Mathlib.Omega.{arith}
 use Rattle.candidates.specs.Arrays.{cells}
-use Rattle.pruning.specs.Tables.{LaidTo}
+use Rattle.pruning.specs.Tables.{LeavesPutTo}
 use Rattle.pruning.proofs.TableLaws.{slot-low, laid-none, laid-more, laid-all}
 use Rattle.grammar.specs.Content.{rules}
 use Rattle.refilling.specs.Kept.{Mirrored}
 use mathlib.Core.Path.{sym, _∙_}
-use Rattle.pruning.proofs.lay.Statement.{statement}
-use Rattle.pruning.proofs.lay.Tie as tie
+use Rattle.pruning.proofs.put_leaves.Statement.{statement}
+use Rattle.pruning.proofs.put_leaves.Tie as tie
 
 abbrev Inv-loop : tie.InvT-loop
 Inv-loop g table c n b words₀ cuts₀ i₀ words cuts i =
-    LaidTo table (cells c 0 n) n b i words₀ words × Mirrored (rules g) n words cuts
+    LeavesPutTo table (cells c 0 n) n b i words₀ words × Mirrored (rules g) n words cuts
 
 abbrev μ-loop : tie.MeasureT-loop
 μ-loop g table c n b words₀ cuts₀ i₀ words cuts i = n - i
@@ -32,33 +32,33 @@ slot-requires c κs = (c .before .before .before .before .before .pre .0 .0, c .
 mul-at : tie.Need-mul-at Inv-loop μ-loop
 mul-at c = omega (arith, low c)
 
-mul-give : tie.Need-mul-give Inv-loop μ-loop
-mul-give c = omega (arith, low (c .before .before))
+mul-put-leaf : tie.Need-mul-put-leaf Inv-loop μ-loop
+mul-put-leaf c = omega (arith, low (c .before .before))
 
-shared-slice-read-give : tie.Need-shared-slice-read-give Inv-loop μ-loop
-shared-slice-read-give c = omega (
+shared-slice-read-put-leaf : tie.Need-shared-slice-read-put-leaf Inv-loop μ-loop
+shared-slice-read-put-leaf c = omega (
   arith,
   low (c .before .before .before),
   c .before .before .before .before .before .before
       .before .before .before .pre .1 .1 .0,
 )
 
-add-give : tie.Need-add-give Inv-loop μ-loop
-add-give c = omega (arith, low (c .before .before .before))
+add-put-leaf : tie.Need-add-put-leaf Inv-loop μ-loop
+add-put-leaf c = omega (arith, low (c .before .before .before))
 
-mul-give-2 : tie.Need-mul-give-2 Inv-loop μ-loop
-mul-give-2 c = omega (arith, low (c .before .before .before))
+mul-put-leaf-2 : tie.Need-mul-put-leaf-2 Inv-loop μ-loop
+mul-put-leaf-2 c = omega (arith, low (c .before .before .before))
 
-shared-slice-read-give-2 : tie.Need-shared-slice-read-give-2 Inv-loop μ-loop
-shared-slice-read-give-2 c = omega (
+shared-slice-read-put-leaf-2 : tie.Need-shared-slice-read-put-leaf-2 Inv-loop μ-loop
+shared-slice-read-put-leaf-2 c = omega (
   arith,
   low (c .before .before .before .before),
   c .before .before .before .before .before
       .before .before .before .before .before .pre .1 .1 .0,
 )
 
-give-requires : tie.Need-give-requires Inv-loop μ-loop
-give-requires c κs = let z = c .before .before .before .before .before .before .before .before
+put-leaf-requires : tie.Need-put-leaf-requires Inv-loop μ-loop
+put-leaf-requires c κs = let z = c .before .before .before .before .before .before .before .before
     .before .before in (
       (
         (z .pre .0 .0),
@@ -89,21 +89,22 @@ loop-again c = (
       .before .loop-test .taken) (c .before .before .before .before .before .before .before .before
       .before .slot .ensures) (c .before .before .before .before .before .before .before .before
       .before .before .before .loop .inv .0)
-      (c .before .before .before .before .give .ensures .0),
+      (c .before .before .before .before .put-leaf .ensures .0),
   c .before .before .before
-      .before .give .ensures .1,
+      .before .put-leaf .ensures .1,
 )
 
-shared-slice-read-give-empty : tie.Need-shared-slice-read-give-empty Inv-loop μ-loop
-shared-slice-read-give-empty c =
+shared-slice-read-put-leaf-empty : tie.Need-shared-slice-read-put-leaf-empty Inv-loop μ-loop
+shared-slice-read-put-leaf-empty c =
     omega (arith, c .before .before .before .before .before .before .before .before .pre .1 .1 .0)
 
-shared-slice-read-give-empty-2 : tie.Need-shared-slice-read-give-empty-2 Inv-loop μ-loop
-shared-slice-read-give-empty-2 c = omega
+shared-slice-read-put-leaf-empty-2 : tie.Need-shared-slice-read-put-leaf-empty-2 Inv-loop μ-loop
+shared-slice-read-put-leaf-empty-2 c = omega
     (arith, c .before .before .before .before .before .before .before .before .before .pre .1 .1 .0)
 
-give-empty-requires : tie.Need-give-empty-requires Inv-loop μ-loop
-give-empty-requires c κs = let z = c .before .before .before .before .before .before .before .before
+put-leaf-empty-requires : tie.Need-put-leaf-empty-requires Inv-loop μ-loop
+put-leaf-empty-requires c κs = let z =
+    c .before .before .before .before .before .before .before .before
     .before in (
       z .pre .0 .0,
       (
@@ -118,12 +119,13 @@ give-empty-requires c κs = let z = c .before .before .before .before .before .b
     )
 
 same-length : tie.Need-same-length Inv-loop μ-loop
-same-length c = c .before .before .before .before .give-empty .ensures .0 .kept .long
+same-length c = c .before .before .before .before .put-leaf-empty .ensures .0 .kept .long
     ∙ c .before .before .before .before .before .before .before .before .before .before .loop .inv
     .0 .past .long
 
 same-length-2 : tie.Need-same-length-2 Inv-loop μ-loop
-same-length-2 c = c .before .before .before .before .give-empty .ensures .1 .prepared .rules .size
+same-length-2 c =
+    c .before .before .before .before .put-leaf-empty .ensures .1 .prepared .rules .size
     ∙ sym (c .before .before .before .before .before .before .before .before .before .before .before
     .before .before .before .pre .1 .1 .1 .prepared .rules .size)
 
@@ -135,13 +137,14 @@ returns c = (
         .before .before .loop-test .left,
   ))
       (c .before .before .before .before .before .before .before .before .before .before .loop
-      .inv .0) (c .before .before .before .before .give-empty .ensures .0),
+      .inv .0) (c .before .before .before .before .put-leaf-empty .ensures .0),
   c .before .before
-      .before .before .give-empty .ensures .1,
+      .before .before .put-leaf-empty .ensures .1,
 )
 
-pub lay-spec : {M : Type 1} → statement M
-lay-spec = tie.close (tie.spec Inv-loop μ-loop loop-holds slot-requires mul-at mul-give
-    shared-slice-read-give add-give mul-give-2 shared-slice-read-give-2 give-requires add-i
-    loop-less loop-again shared-slice-read-give-empty shared-slice-read-give-empty-2
-    give-empty-requires same-length same-length-2 returns)
+pub put-leaves-spec : {M : Type 1} → statement M
+put-leaves-spec = tie.close (tie.spec Inv-loop μ-loop loop-holds slot-requires mul-at mul-put-leaf
+    shared-slice-read-put-leaf add-put-leaf mul-put-leaf-2 shared-slice-read-put-leaf-2
+        put-leaf-requires add-i
+    loop-less loop-again shared-slice-read-put-leaf-empty shared-slice-read-put-leaf-empty-2
+    put-leaf-empty-requires same-length same-length-2 returns)

@@ -3,9 +3,9 @@ use borrow.Author.Needs.{needs}
 use mathlib.Core.Path.{ap}
 use native.Mathlib.Omega.{arith}
 use Rattle.grammar.specs.declared.Cell.{Cell}
-use Rattle.pruning.proofs.CellLaws.{turned-of, low-changed, step-at}
-use Rattle.pruning.proofs.turned.Statement.{statement}
-use Rattle.pruning.proofs.turned.Tie as tie
+use Rattle.pruning.proofs.CellLaws.{with-terminal-of, low-changed, step-at}
+use Rattle.pruning.proofs.with_terminal.Statement.{statement}
+use Rattle.pruning.proofs.with_terminal.Tie as tie
 
 cell-requires : tie.Need-cell-requires
 cell-requires c κs = search needs
@@ -18,7 +18,7 @@ returns c =
     let z = c .before .before in
     let a = z .args in
     let d = c .before .cell .ensures in (
-      turned-of (a .c) (c .with .result) (a .n) (a .j) _ (z .pre .0 .1) (c .with .ensures),
+      with-terminal-of (a .c) (c .with .result) (a .n) (a .j) _ (z .pre .0 .1) (c .with .ensures),
       low-changed (a .c) (c .with .result) (a .n) (a .j) _ (c .with .ensures)
           (omega (
             arith,
@@ -28,5 +28,5 @@ returns c =
           )) (z .pre .1),
     )
 
-pub turned-spec : {M : Type 1} → statement M
-turned-spec = tie.close (tie.spec cell-requires with-requires returns)
+pub with-terminal-spec : {M : Type 1} → statement M
+with-terminal-spec = tie.close (tie.spec cell-requires with-requires returns)

@@ -2,9 +2,9 @@
 use borrow.Author.Needs.{needs}
 use borrow.Author.Tests.{ltb-true}
 use native.Mathlib.Omega.{arith}
-use Rattle.equivalents.proofs.Passing.{slack-step, slack-gap}
-use Rattle.equivalents.proofs.slack.Statement.{statement}
-use Rattle.equivalents.proofs.slack.Tie as tie
+use Rattle.equivalents.proofs.Passing.{earlier-twin-step, earlier-twin-gap}
+use Rattle.equivalents.proofs.earlier_twin.Statement.{statement}
+use Rattle.equivalents.proofs.earlier_twin.Tie as tie
 
 sub-cell : tie.Need-sub-cell
 sub-cell c = search needs
@@ -15,7 +15,8 @@ cell-requires c κs = search needs
 returns : tie.Need-returns
 returns c =
     let a = c .before .before .before in
-    λ e. slack-step (a .args .n) (a .args .b) (a .args .h) (a .args .c) _ (a .pre .0) (a .pre .1)
+    λ e. earlier-twin-step (a .args .n) (a .args .b) (a .args .h) (a .args .c) _ (a .pre .0)
+        (a .pre .1)
     (c .before .before .cell .ensures) (c .if1 .taken)
 
 sub-result : tie.Need-sub-result
@@ -27,8 +28,10 @@ lacks-requires c κs = search needs
 returns-2 : tie.Need-returns-2
 returns-2 c =
     let a = c .before .before .before .before in
-    λ e. slack-gap (a .args .n) (a .args .b) (a .args .h) (a .args .c) _ (a .pre .0) (a .pre .1)
+    λ e. earlier-twin-gap (a .args .n) (a .args .b) (a .args .h) (a .args .c) _ (a .pre .0)
+        (a .pre .1)
     (c .lacks .ensures) (omega (arith, ltb-true))
 
-pub slack-spec : {M : Type 1} → statement M
-slack-spec = tie.close (tie.spec sub-cell cell-requires returns sub-result lacks-requires returns-2)
+pub earlier-twin-spec : {M : Type 1} → statement M
+earlier-twin-spec =
+    tie.close (tie.spec sub-cell cell-requires returns sub-result lacks-requires returns-2)

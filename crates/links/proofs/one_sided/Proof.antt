@@ -1,7 +1,7 @@
 use borrow.Author.Needs.{needs}
 use Rattle.sets.proofs.Says.{holds, fails}
-use Rattle.links.proofs.idle.Statement.{statement}
-use Rattle.links.proofs.idle.Tie as tie
+use Rattle.links.proofs.one_sided.Statement.{statement}
+use Rattle.links.proofs.one_sided.Tie as tie
 
 -- src/lib.rt:23:26
 enum-told : tie.Need-enum-told
@@ -61,8 +61,8 @@ returns-6 c = let x = c .before .before in
           (c .if2 .left),
     ))
 
-pub idle-spec : {M : Type 1} → statement M
-idle-spec =
+pub one-sided-spec : {M : Type 1} → statement M
+one-sided-spec =
     tie.close
     (tie.spec
     enum-told

@@ -9,52 +9,53 @@ use Rattle.spans.specs.Changes.{Past}
 use Rattle.spans.proofs.ChangeLaws.{past-same, past-then}
 use Rattle.candidates.specs.Arrays.{cells}
 use Rattle.candidates.proofs.Windows.{cells-size}
-use Rattle.pruning.specs.Refuting.{Standing, Within}
+use Rattle.pruning.specs.Refuting.{PositionsFilled, PositionsTwinned}
 use Rattle.pruning.proofs.RefutingLaws.{within-none, within-more, within-all}
 use Rattle.pruning.proofs.WordLaws.{standing-back, standing-moved, standing-unmoved}
 use Rattle.grammar.specs.Content.{rules}
 use Rattle.refilling.specs.Kept.{Mirrored}
 use borrow.Fn.Kinds.{In}
 use borrow.Fn.PlainCycle.{Measures, is, falls, and}
-use Rattle.pruning.proofs.places.Reads as places
-use Rattle.pruning.proofs.places.Kinds as places-kinds
-use Rattle.pruning.proofs.+places.Lts-places as places-lts
+use Rattle.pruning.proofs.try_positions.Reads as each
+use Rattle.pruning.proofs.try_positions.Kinds as each-kinds
+use Rattle.pruning.proofs.+try_positions.Lts-try_positions as each-lts
 use Rattle.pruning.proofs.moved.Reads as moved-reads
-use Rattle.pruning.proofs.shut.Reads as shut-reads
-use Rattle.pruning.proofs.+places.{statement}
-use Rattle.pruning.proofs.+places.Tie.{close}
+use Rattle.pruning.proofs.try_position.Reads as try-position-reads
+use Rattle.pruning.proofs.+try_positions.{statement}
+use Rattle.pruning.proofs.+try_positions.Tie.{close}
 
-abbrev μ-places : Measures 2 places-kinds.ps ℕ
-μ-places κs a = a .1 .1 .0 - a .1 .1 .1 .0
+abbrev μ-each : Measures 2 each-kinds.ps ℕ
+μ-each κs a = a .1 .1 .0 - a .1 .1 .1 .0
 
-abbrev places-at : ℕ → In 2 places-kinds.ps
-places-at t = and 2 places-kinds.ps (is 2 places-kinds.ps μ-places t) places.Pre
+abbrev each-at : ℕ → In 2 each-kinds.ps
+each-at t = and 2 each-kinds.ps (is 2 each-kinds.ps μ-each t) each.Pre
 
-abbrev places-below : ℕ → In 2 places-kinds.ps
-places-below t = and 2 places-kinds.ps (falls 2 places-kinds.ps _<_ μ-places t) places.Pre
+abbrev each-below : ℕ → In 2 each-kinds.ps
+each-below t = and 2 each-kinds.ps (falls 2 each-kinds.ps _<_ μ-each t) each.Pre
 
 -- what the callees ask and promise
-abbrev calls : ℕ → places-lts.Claims
+abbrev calls : ℕ → each-lts.Claims
 calls t = (
   moved-reads.Asked,
   moved-reads.Learnt,
-  shut-reads.Asked,
-  shut-reads.Learnt,
-  places-below t,
-  places.Post,
+  try-position-reads.Asked,
+  try-position-reads.Learnt,
+  each-below t,
+  each.Post,
 )
 
-abbrev places-Inv-loop : places-lts.InvT-loop
-places-Inv-loop g c n i h words₀ cuts₀ k₀ words cuts k = Past (2 * pairs n) words₀ words
-    × Standing (rules g) n i (cells c 0 n) words
-    × ((s : ℕ) → Within (rules g) s n h i k (cells c 0 n)) × Mirrored (rules g) n words cuts
+abbrev each-Inv-loop : each-lts.InvT-loop
+each-Inv-loop g c n i h words₀ cuts₀ k₀ words cuts k = Past (2 * pairs n) words₀ words
+    × PositionsFilled (rules g) n i (cells c 0 n) words
+    × ((s : ℕ) → PositionsTwinned (rules g) s n h i k (cells c 0 n))
+        × Mirrored (rules g) n words cuts
 
-abbrev places-μ-loop : places-lts.MeasureT-loop
-places-μ-loop g c n i h words₀ cuts₀ k₀ words cuts k = 3 * n - k
+abbrev each-μ-loop : each-lts.MeasureT-loop
+each-μ-loop g c n i h words₀ cuts₀ k₀ words cuts k = 3 * n - k
 
-places-returns : (t : ℕ) → places-lts.Need-returns (calls t) (places-at t) places.Post
-    places-Inv-loop places-μ-loop
-places-returns t c = (
+each-returns : (t : ℕ) → each-lts.Need-returns (calls t) (each-at t) each.Post
+    each-Inv-loop each-μ-loop
+each-returns t c = (
   record {
     out = λ e. absurd (true-not-false e);
     stays = λ e. absurd
@@ -64,9 +65,9 @@ places-returns t c = (
   c .before .before .before .pre .1 .1 .1 .1 .1,
 )
 
-places-loop-holds : (t : ℕ) → places-lts.Need-loop-holds (calls t) (places-at t) places.Post
-    places-Inv-loop places-μ-loop
-places-loop-holds t c =
+each-loop-holds : (t : ℕ) → each-lts.Need-loop-holds (calls t) (each-at t) each.Post
+    each-Inv-loop each-μ-loop
+each-loop-holds t c =
     let z = c .before .before .before in (
       past-same _ _,
       z .pre .1 .1 .1 .1 .0,
@@ -75,15 +76,15 @@ places-loop-holds t c =
       z .pre .1 .1 .1 .1 .1,
     )
 
-places-mul-loop : (t : ℕ) → places-lts.Need-mul-loop (calls t) (places-at t) places.Post
-    places-Inv-loop places-μ-loop
-places-mul-loop t c =
+each-mul-loop : (t : ℕ) → each-lts.Need-mul-loop (calls t) (each-at t) each.Post
+    each-Inv-loop each-μ-loop
+each-mul-loop t c =
     record { fits = omega (arith, c .before .before .before .before .pre .1 .0 .0) }
 
-places-moved-requires : (t : ℕ)
-    → places-lts.Need-moved-requires (calls t) (places-at t) places.Post places-Inv-loop
-    places-μ-loop
-places-moved-requires t c κs =
+each-moved-requires : (t : ℕ)
+    → each-lts.Need-moved-requires (calls t) (each-at t) each.Post each-Inv-loop
+    each-μ-loop
+each-moved-requires t c κs =
     let z = c .before .before .before .before .before in (
       (
         z .pre .1 .0 .0,
@@ -93,9 +94,10 @@ places-moved-requires t c κs =
       z .pre .1 .0 .2,
     )
 
-places-shut-requires : (t : ℕ) → places-lts.Need-shut-requires (calls t) (places-at t) places.Post
-    places-Inv-loop places-μ-loop
-places-shut-requires t c κs =
+each-try-position-requires : (t : ℕ)
+    → each-lts.Need-try-position-requires (calls t) (each-at t) each.Post
+    each-Inv-loop each-μ-loop
+each-try-position-requires t c κs =
     let z = c .before .before .before .before .before .before .before .before in
     let l = c .before .before .before .before .loop in
     let m = c .before .before .moved .ensures in (
@@ -119,9 +121,9 @@ places-shut-requires t c κs =
       ),
     )
 
-places-add-k : (t : ℕ) → places-lts.Need-add-k (calls t) (places-at t) places.Post places-Inv-loop
-    places-μ-loop
-places-add-k t c = record {
+each-add-k : (t : ℕ) → each-lts.Need-add-k (calls t) (each-at t) each.Post each-Inv-loop
+    each-μ-loop
+each-add-k t c = record {
   fits = omega (
     arith,
     c .before .before .before .before .before .before .before .before .before .loop-test
@@ -131,23 +133,23 @@ places-add-k t c = record {
   );
 }
 
-places-loop-less : (t : ℕ) → places-lts.Need-loop-less (calls t) (places-at t) places.Post
-    places-Inv-loop places-μ-loop
-places-loop-less t c = omega (
+each-loop-less : (t : ℕ) → each-lts.Need-loop-less (calls t) (each-at t) each.Post
+    each-Inv-loop each-μ-loop
+each-loop-less t c = omega (
   arith,
   c .before .before .before .before .before .before .before
       .before .before .loop-test .taken,
 )
 
-places-loop-again : (t : ℕ) → places-lts.Need-loop-again (calls t) (places-at t) places.Post
-    places-Inv-loop places-μ-loop
-places-loop-again t c =
+each-loop-again : (t : ℕ) → each-lts.Need-loop-again (calls t) (each-at t) each.Post
+    each-Inv-loop each-μ-loop
+each-loop-again t c =
     let z = c .before .before .before .before .before .before .before .before .before .before
     .before .before .before .before in
     let l = c .before .before .before .before .before .before .before .before .before .before
     .loop in
     let m = c .before .before .before .before .before .before .before .before .moved .ensures .0 in
-    let r = c .before .before .before .before .before .shut .ensures .0 in (
+    let r = c .before .before .before .before .before .try-position .ensures .0 in (
       past-then (l .inv .0) (r .past),
       standing-unmoved m (r .stays (c .if2 .taken)),
       (λ s. within-more (cells-size (z .args .c) 0 (z .args .n))
@@ -158,12 +160,12 @@ places-loop-again t c =
             z .pre .1 .0 .1,
           )) m (r .out (c .if2 .taken) s)
           (l .inv .2 s)),
-      c .before .before .before .before .before .shut .ensures .1,
+      c .before .before .before .before .before .try-position .ensures .1,
     )
 
-places-add-places : (t : ℕ) → places-lts.Need-add-places (calls t) (places-at t) places.Post
-    places-Inv-loop places-μ-loop
-places-add-places t c = record {
+each-add-try-positions : (t : ℕ) → each-lts.Need-add-try-positions (calls t) (each-at t) each.Post
+    each-Inv-loop each-μ-loop
+each-add-try-positions t c = record {
   fits = omega (
     arith,
     c .before .before .before .before .before .before .before .before .before .before
@@ -171,17 +173,17 @@ places-add-places t c = record {
   );
 }
 
-places-places-requires : (t : ℕ)
-    → places-lts.Need-places-requires (calls t) (places-at t) places.Post places-Inv-loop
-    places-μ-loop
-places-places-requires t c κs =
+each-try-positions-requires : (t : ℕ)
+    → each-lts.Need-try-positions-requires (calls t) (each-at t) each.Post each-Inv-loop
+    each-μ-loop
+each-try-positions-requires t c κs =
     let z = c .before .before .before .before .before .before .before .before .before .before
     .before .before .before .before .before .before in
     let l = c .before .before .before .before .before .before .before .before .before .before
     .before .before .loop in
     let m = c .before .before .before .before .before .before .before .before .before .before .moved
     .ensures in
-    let r = c .before .before .before .before .before .before .before .shut .ensures .0 in
+    let r = c .before .before .before .before .before .before .before .try-position .ensures .0 in
     let h : z .args .i < z .args .n =
     (omega (
       arith,
@@ -205,31 +207,34 @@ places-places-requires t c κs =
             (
               r .on (c .before .before .if2 .left),
               c .before .before .before .before
-                  .before .before .before .shut .ensures .1,
+                  .before .before .before .try-position .ensures .1,
             ),
           ),
         ),
       ),
     )
 
-places-same-length : (t : ℕ) → places-lts.Need-same-length (calls t) (places-at t) places.Post
-    places-Inv-loop places-μ-loop
-places-same-length t c = c .before .before .before .before .before .places .ensures .0 .past .long
+each-same-length : (t : ℕ) → each-lts.Need-same-length (calls t) (each-at t) each.Post
+    each-Inv-loop each-μ-loop
+each-same-length t c =
+    c .before .before .before .before .before .try-positions .ensures .0 .past .long
     ∙ c .before .before .before .before .before .before .before .before .before .before .before
-    .before .before .shut .ensures .0 .past .long ∙ c .before .before .before .before .before
+    .before .before .try-position .ensures .0 .past .long
+        ∙ c .before .before .before .before .before
     .before .before .before .before .before .before .before .before .before .before .before
     .before .before .loop .inv .0 .long
 
-places-same-length-2 : (t : ℕ) → places-lts.Need-same-length-2 (calls t) (places-at t) places.Post
-    places-Inv-loop places-μ-loop
-places-same-length-2 t c = c .before .before .before .before .before .places .ensures .1 .prepared
+each-same-length-2 : (t : ℕ) → each-lts.Need-same-length-2 (calls t) (each-at t) each.Post
+    each-Inv-loop each-μ-loop
+each-same-length-2 t c =
+    c .before .before .before .before .before .try-positions .ensures .1 .prepared
     .rules .size ∙ sym (c .before .before .before .before .before .before .before .before .before
     .before .before .before .before .before .before .before .before .before .before .before
     .before .before .pre .1 .1 .1 .1 .1 .prepared .rules .size)
 
-places-returns-2 : (t : ℕ) → places-lts.Need-returns-2 (calls t) (places-at t) places.Post
-    places-Inv-loop places-μ-loop
-places-returns-2 t c = (
+each-returns-2 : (t : ℕ) → each-lts.Need-returns-2 (calls t) (each-at t) each.Post
+    each-Inv-loop each-μ-loop
+each-returns-2 t c = (
   record {
     out = λ e. absurd (true-not-false e);
     stays = λ e. absurd
@@ -238,16 +243,16 @@ places-returns-2 t c = (
         (c .before .before .before .before .before .before .before .before .before .before .before
         .before .before .before .before .before .before .before .loop .inv .0)
         (past-then (c .before .before .before .before .before .before .before .before
-        .before .before .before .before .before .shut .ensures .0 .past)
-        (c .before .before .before .before .before .places .ensures .0 .past));
+        .before .before .before .before .before .try-position .ensures .0 .past)
+        (c .before .before .before .before .before .try-positions .ensures .0 .past));
   },
   c
-      .before .before .before .before .before .places .ensures .1,
+      .before .before .before .before .before .try-positions .ensures .1,
 )
 
-places-add-k-2 : (t : ℕ) → places-lts.Need-add-k-2 (calls t) (places-at t) places.Post
-    places-Inv-loop places-μ-loop
-places-add-k-2 t c = record {
+each-add-k-2 : (t : ℕ) → each-lts.Need-add-k-2 (calls t) (each-at t) each.Post
+    each-Inv-loop each-μ-loop
+each-add-k-2 t c = record {
   fits = omega (
     arith,
     c .before .before .before .before .before .before .before .before .before .before
@@ -259,18 +264,18 @@ places-add-k-2 t c = record {
   );
 }
 
-places-loop-less-2 : (t : ℕ) → places-lts.Need-loop-less-2 (calls t) (places-at t) places.Post
-    places-Inv-loop places-μ-loop
-places-loop-less-2 t c = omega (
+each-loop-less-2 : (t : ℕ) → each-lts.Need-loop-less-2 (calls t) (each-at t) each.Post
+    each-Inv-loop each-μ-loop
+each-loop-less-2 t c = omega (
   arith,
   c .before .before .before .before .before .before .before
       .before .before .before .before .before .before .before .before .before .before .loop-test
       .taken,
 )
 
-places-loop-again-2 : (t : ℕ) → places-lts.Need-loop-again-2 (calls t) (places-at t) places.Post
-    places-Inv-loop places-μ-loop
-places-loop-again-2 t c =
+each-loop-again-2 : (t : ℕ) → each-lts.Need-loop-again-2 (calls t) (each-at t) each.Post
+    each-Inv-loop each-μ-loop
+each-loop-again-2 t c =
     let z = c .before .before .before .before .before .before .before .before .before .before
     .before .before .before .before .before .before .before .before .before .before .before
     .before in
@@ -279,8 +284,8 @@ places-loop-again-2 t c =
     let m = c .before .before .before .before .before .before .before .before .before .before
     .before .before .before .before .before .before .moved in
     let r = c .before .before .before .before .before .before .before .before .before .before
-    .before .before .before .shut .ensures .0 in
-    let q = c .before .before .before .before .before .places .ensures .0 in
+    .before .before .before .try-position .ensures .0 in
+    let q = c .before .before .before .before .before .try-positions .ensures .0 in
     let h : z .args .i < z .args .n =
     (omega (
       arith,
@@ -295,21 +300,21 @@ places-loop-again-2 t c =
           (standing-back h (cells-size (m .result) 0 n) (q .stays (c .if3 .left))),
       (λ s. within-more (cells-size (z .args .c) 0 n) h (m .ensures .0) (q .out (c .if3 .left) s)
           (l .inv .2 s)),
-      c .before .before .before .before .before .places .ensures .1,
+      c .before .before .before .before .before .try-positions .ensures .1,
     )
 
-places-same-length-3 : (t : ℕ) → places-lts.Need-same-length-3 (calls t) (places-at t) places.Post
-    places-Inv-loop places-μ-loop
-places-same-length-3 t c = c .before .loop .inv .0 .long
+each-same-length-3 : (t : ℕ) → each-lts.Need-same-length-3 (calls t) (each-at t) each.Post
+    each-Inv-loop each-μ-loop
+each-same-length-3 t c = c .before .loop .inv .0 .long
 
-places-same-length-4 : (t : ℕ) → places-lts.Need-same-length-4 (calls t) (places-at t) places.Post
-    places-Inv-loop places-μ-loop
-places-same-length-4 t c = c .before .loop .inv .3 .prepared .rules .size
+each-same-length-4 : (t : ℕ) → each-lts.Need-same-length-4 (calls t) (each-at t) each.Post
+    each-Inv-loop each-μ-loop
+each-same-length-4 t c = c .before .loop .inv .3 .prepared .rules .size
     ∙ sym (c .before .before .before .before .before .pre .1 .1 .1 .1 .1 .prepared .rules .size)
 
-places-returns-3 : (t : ℕ) → places-lts.Need-returns-3 (calls t) (places-at t) places.Post
-    places-Inv-loop places-μ-loop
-places-returns-3 t c =
+each-returns-3 : (t : ℕ) → each-lts.Need-returns-3 (calls t) (each-at t) each.Post
+    each-Inv-loop each-μ-loop
+each-returns-3 t c =
     let z = c .before .before .before .before .before in
     let l = c .before .loop in (
       record {
@@ -323,28 +328,28 @@ places-returns-3 t c =
       l .inv .3,
     )
 
-pub +places-spec : {M : Type 1} → statement M
-+places-spec = close μ-places λ t. places-lts.spec (calls t)
-    (places-at t)
-    places.Post
-    places-Inv-loop
-    places-μ-loop
-    (places-returns t)
-    (places-loop-holds t)
-    (places-mul-loop t)
-    (places-moved-requires t)
-    (places-shut-requires t)
-    (places-add-k t)
-    (places-loop-less t)
-    (places-loop-again t)
-    (places-add-places t)
-    (places-places-requires t)
-    (places-same-length t)
-    (places-same-length-2 t)
-    (places-returns-2 t)
-    (places-add-k-2 t)
-    (places-loop-less-2 t)
-    (places-loop-again-2 t)
-    (places-same-length-3 t)
-    (places-same-length-4 t)
-    (places-returns-3 t)
+pub +try-positions-spec : {M : Type 1} → statement M
++try-positions-spec = close μ-each λ t. each-lts.spec (calls t)
+    (each-at t)
+    each.Post
+    each-Inv-loop
+    each-μ-loop
+    (each-returns t)
+    (each-loop-holds t)
+    (each-mul-loop t)
+    (each-moved-requires t)
+    (each-try-position-requires t)
+    (each-add-k t)
+    (each-loop-less t)
+    (each-loop-again t)
+    (each-add-try-positions t)
+    (each-try-positions-requires t)
+    (each-same-length t)
+    (each-same-length-2 t)
+    (each-returns-2 t)
+    (each-add-k-2 t)
+    (each-loop-less-2 t)
+    (each-loop-again-2 t)
+    (each-same-length-3 t)
+    (each-same-length-4 t)
+    (each-returns-3 t)

@@ -1,7 +1,7 @@
 use borrow.Author.Needs.{needs}
 use native.Mathlib.Omega.{arith}
-use Rattle.refilling.proofs.give.Statement.{statement}
-use Rattle.refilling.proofs.give.Tie as tie
+use Rattle.refilling.proofs.put_leaf.Statement.{statement}
+use Rattle.refilling.proofs.put_leaf.Tie as tie
 
 put-requires : tie.Need-put-requires
 put-requires c κs = let z = c .before .before .before .before in (
@@ -26,5 +26,5 @@ same-length-2 c = search needs
 returns : tie.Need-returns
 returns c = let p = c .before .before .before .before .put .ensures in (p .0, p .1 .0)
 
-pub give-spec : {M : Type 1} → statement M
-give-spec = tie.close (tie.spec put-requires same-length same-length-2 returns)
+pub put-leaf-spec : {M : Type 1} → statement M
+put-leaf-spec = tie.close (tie.spec put-requires same-length same-length-2 returns)

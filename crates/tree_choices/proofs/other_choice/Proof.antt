@@ -1,4 +1,5 @@
--- `swerve` meets its contract: the first choice, where that is another; else what `after` finds.
+-- `other_choice` meets its contract: the first choice, where that is another; else what `after`
+-- finds.
 use borrow.Author.Needs.{needs}
 use mathlib.Core.Bool.{false}
 use Rattle.grammar.specs.Choices.{FirstChoice}
@@ -9,8 +10,8 @@ use Rattle.choices.specs.Choosing.{NextAt, NextChoice}
 use mathlib.Core.Path.{subst₂}
 use Rattle.tree_choices.proofs.PickLaws.{choice-near, chosen, other-of-first, first-of-next}
 use Rattle.tree_choices.proofs.PickLaws.{none-of-none}
-use Rattle.tree_choices.proofs.swerve.Statement.{statement}
-use Rattle.tree_choices.proofs.swerve.Tie as tie
+use Rattle.tree_choices.proofs.other_choice.Statement.{statement}
+use Rattle.tree_choices.proofs.other_choice.Tie as tie
 use Rattle.grammar.specs.Sentences.{spelled}
 
 next-choice-requires : tie.Need-next-choice-requires
@@ -119,8 +120,8 @@ returns-4 c = let z = c .before .before .before .before .before in let a = z .ar
     .ensures in absurd (none-of-none (_, _, preferred-choice _ _ _ _ _ (z .pre .1))
     (rw (c .before .enum-told .given .1) at y))
 
-pub swerve-spec : {M : Type 1} → statement M
-swerve-spec =
+pub other-choice-spec : {M : Type 1} → statement M
+other-choice-spec =
     tie.close
     (tie.spec
     next-choice-requires

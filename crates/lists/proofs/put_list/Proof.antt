@@ -1,8 +1,8 @@
--- `give` meets its contract.
+-- `put_list` meets its contract.
 use native.Mathlib.Nat.{zero-add}
 use borrow.Author.Needs.{needs}
-use Rattle.lists.proofs.give.Statement.{statement}
-use Rattle.lists.proofs.give.Tie as tie
+use Rattle.lists.proofs.put_list.Statement.{statement}
+use Rattle.lists.proofs.put_list.Tie as tie
 
 begin-requires : tie.Need-begin-requires
 begin-requires c κs = search needs
@@ -23,5 +23,5 @@ returns c =
     let b = p .before in
     rw zero-add at (f .finish .ensures .gives (p .put .ensures .puts (b .begin .ensures .puts _)))
 
-pub give-spec : {M : Type 1} → statement M
-give-spec = tie.close (tie.spec begin-requires put-requires finish-requires same-length returns)
+pub put-list-spec : {M : Type 1} → statement M
+put-list-spec = tie.close (tie.spec begin-requires put-requires finish-requires same-length returns)

@@ -1,6 +1,6 @@
 use borrow.Author.Needs.{needs}
-use Rattle.column_search.proofs.idle.Statement.{statement}
-use Rattle.column_search.proofs.idle.Tie as tie
+use Rattle.column_search.proofs.nothing_new.Statement.{statement}
+use Rattle.column_search.proofs.nothing_new.Tie as tie
 
 outlook-requires : tie.Need-outlook-requires
 outlook-requires c κs = search needs
@@ -19,5 +19,5 @@ returns c =
       leaving = o .leaving;
     }
 
-pub idle-spec : {M : Type 1} → statement M
-idle-spec = tie.close (tie.spec outlook-requires covered-requires same-length returns)
+pub nothing-new-spec : {M : Type 1} → statement M
+nothing-new-spec = tie.close (tie.spec outlook-requires covered-requires same-length returns)

@@ -8,7 +8,7 @@ use Rattle.tree_view.specs.Shown.{View, shownCount}
 use Rattle.tree_writer.specs.Written.{rowRoom, seenBy, filled}
 
 -- the memory l has become m, with the rows shown of u, r of them; zeros and 0 where they do not fit
-pub record Laid (sees : View) (u : Tree) (l m : List ℕ) (r : ℕ) : Type 0 where
+pub record RowsWritten (sees : View) (u : Tree) (l m : List ℕ) (r : ℕ) : Type 0 where
   pub enough : shownCount sees u ≤ rowRoom l
       → (m ≡ filled (seenBy sees) l (some u)) × (r ≡ shownCount sees u)
   pub short : rowRoom l < shownCount sees u → (m ≡ filled (seenBy sees) l none) × (r ≡ 0)

@@ -4,11 +4,11 @@ use borrow.Author.Needs.{needs}
 use borrow.Author.Tests.{not-true}
 use native.Mathlib.Omega.{arith}
 use Rattle.candidates.proofs.Windows.{cells-size}
-use Rattle.pruning.proofs.RefutingLaws.{refuted-falling, refuted-slack}
+use Rattle.pruning.proofs.RefutingLaws.{refuted-falling, refuted-earlier-twin}
 use Rattle.pruning.proofs.Trying.{tried-out, tried-settled, ready-draft}
 use Rattle.refilling.specs.Short.{wide}
-use Rattle.pruning.proofs.shut.Statement.{statement}
-use Rattle.pruning.proofs.shut.Tie as tie
+use Rattle.pruning.proofs.try_position.Statement.{statement}
+use Rattle.pruning.proofs.try_position.Tie as tie
 
 rises-requires : tie.Need-rises-requires
 rises-requires c κs = search needs
@@ -23,18 +23,18 @@ returns c =
           .1 .1,
     )
 
-add-slack : tie.Need-add-slack
-add-slack c = search needs
+add-earlier-twin : tie.Need-add-earlier-twin
+add-earlier-twin c = search needs
 
-slack-requires : tie.Need-slack-requires
-slack-requires c κs = search needs
+earlier-twin-requires : tie.Need-earlier-twin-requires
+earlier-twin-requires c κs = search needs
 
 returns-2 : tie.Need-returns-2
 returns-2 c =
     let z = c .before .before .before .before .before .before in
     let a = z .args in (
-      tried-out (λ s. refuted-slack (cells-size (a .c) 0 (a .n)) (z .pre .0 .1)
-          (c .before .slack .ensures (c .if2 .taken))) (z .pre .1 .1 .1 .0),
+      tried-out (λ s. refuted-earlier-twin (cells-size (a .c) 0 (a .n)) (z .pre .0 .1)
+          (c .before .earlier-twin .ensures (c .if2 .taken))) (z .pre .1 .1 .1 .0),
       z .pre .1 .1 .1 .1,
     )
 
@@ -84,6 +84,7 @@ returns-3 c =
           (c .before .before .before .before .no-two .ensures .1),
     )
 
-pub shut-spec : {M : Type 1} → statement M
-shut-spec = tie.close (tie.spec rises-requires returns add-slack slack-requires returns-2 add-draft
+pub try-position-spec : {M : Type 1} → statement M
+try-position-spec = tie.close (tie.spec rises-requires returns add-earlier-twin
+    earlier-twin-requires returns-2 add-draft
     draft-requires no-two-requires same-length same-length-2 returns-3)

@@ -3,9 +3,9 @@ use borrow.Author.Needs.{needs}
 use native.Mathlib.Omega.{arith}
 use mathlib.Core.Path.{sym}
 use Rattle.sets.proofs.Says.{true-not-false}
-use Rattle.heights.proofs.FallLaws.{idle-by}
-use Rattle.heights.proofs.idle.Statement.{statement}
-use Rattle.heights.proofs.idle.Tie as tie
+use Rattle.heights.proofs.FallLaws.{no-empty-side-by}
+use Rattle.heights.proofs.no_empty_side.Statement.{statement}
+use Rattle.heights.proofs.no_empty_side.Tie as tie
 
 enum-told : tie.Need-enum-told
 enum-told c = search needs
@@ -82,13 +82,14 @@ returns-6 c = λ e.
     let s = rw (c .before .before .before .before .before .before .before .c .given .1) at
     (z .pre .1) in
     rw (c .before .before .before .before .before .before .before .c .given .1)
-    (idle-by l _ _ _ _ _ _ (z .pre .0) (λ i. omega (arith, c .before .shared-slice-known3 .given i))
+    (no-empty-side-by l _ _ _ _ _ _ (z .pre .0)
+        (λ i. omega (arith, c .before .shared-slice-known3 .given i))
     (c .before .before .before .before .before .wide .ensures)
     (c .before .before .wide2 .ensures) (s .0) (s .1)
     (omega (arith, c .before .before .before .if1 .left)) (omega (arith, c .if2 .left)))
 
-pub idle-spec : {M : Type 1} → statement M
-idle-spec =
+pub no-empty-side-spec : {M : Type 1} → statement M
+no-empty-side-spec =
     tie.close
     (tie.spec
     enum-told

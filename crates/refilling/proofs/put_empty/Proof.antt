@@ -1,6 +1,6 @@
 use borrow.Author.Needs.{needs}
-use Rattle.refilling.proofs.give_empty.Statement.{statement}
-use Rattle.refilling.proofs.give_empty.Tie as tie
+use Rattle.refilling.proofs.put_empty.Statement.{statement}
+use Rattle.refilling.proofs.put_empty.Tie as tie
 use borrow.Author.Needs.{needs}
 use native.Mathlib.Omega.{arith}
 use Rattle.spans.proofs.Places.{pairs-closed}
@@ -24,5 +24,5 @@ returns c =
       },
     )
 
-pub give-empty-spec : {M : Type 1} → statement M
-give-empty-spec = tie.close (tie.spec write-requires same-length returns)
+pub put-leaf-empty-spec : {M : Type 1} → statement M
+put-leaf-empty-spec = tie.close (tie.spec write-requires same-length returns)
