@@ -7,8 +7,8 @@ use Rattle.grammar.specs.Layout.{Word}
 use Rattle.grammar.specs.Trees.{Rules}
 use Rattle.grammar.specs.SpanSheet.{pairs}
 use Rattle.spans.proofs.ChangeLaws.{past-drop}
-use Rattle.chart.specs.declared.Verdict.{Verdict}
-use Rattle.chart.specs.declared.Verdict.the-variants as Verdict
+use Rattle.grammar.specs.declared.Verdict.{Verdict}
+use Rattle.grammar.specs.declared.Verdict.the-variants as Verdict
 use Rattle.chart.specs.Sheets.{Judged}
 use Rattle.answering.specs.Verdict.{SheetFilled}
 

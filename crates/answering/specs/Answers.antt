@@ -3,8 +3,8 @@ use mathlib.Core.List.{List}
 use Prim.Native.Nat.{ℕ}
 use Rattle.grammar.specs.Layout.{Word}
 use Rattle.grammar.specs.Trees.{Rules}
-use Rattle.chart.specs.declared.Verdict.the-variants as Verdict
-use Rattle.chart.specs.Verdicts.{Holds}
+use Rattle.grammar.specs.declared.Verdict.the-variants as Verdict
+use Rattle.grammar.specs.Verdicts.{Holds}
 use Rattle.sheets.specs.Items.{Reading, accepted, refused}
 use Rattle.sheets.specs.RuleSheets.{ruleSheet}
 use Rattle.sheets.specs.TokenSheets.{tokenSheet}

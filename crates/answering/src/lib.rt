@@ -1,9 +1,9 @@
 // What a call for trees answers on sheets that were read, and the forms of that answer and of one
 // for the verdict.
-use chart::Verdict;
 use filling::judge;
 use grammar::Grammar;
 use grammar::Sentence;
+use grammar::Verdict;
 use sheets::Answer;
 use sheets::Fault;
 use sheets::GrammarRead;

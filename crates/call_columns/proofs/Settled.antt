@@ -13,7 +13,7 @@ use Rattle.range_sheets.specs.RangeSheets.{rangeSheet}
 use Rattle.sets.specs.Says.{Says}
 use Rattle.grammar.specs.Trees.{Rules}
 use Rattle.column_search.specs.declared.Flags.{Flags}
-use Rattle.chart.specs.declared.Verdict.the-variants as Verdict
+use Rattle.grammar.specs.declared.Verdict.the-variants as Verdict
 use Rattle.column_search.specs.Answers.{FlagsSay}
 use Rattle.sheets.proofs.Numbers.{same-fault}
 use Rattle.column_ranges.specs.Ranges.{Ranges}

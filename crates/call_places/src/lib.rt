@@ -1,10 +1,10 @@
 // The public call for places: all nonterminals and words at which the readings of a sentence part
 // (02, request 11).
-use chart::Verdict;
 use contained_spans::find_places;
 use filling::judge;
 use grammar::Grammar;
 use grammar::Sentence;
+use grammar::Verdict;
 use lists::Listed;
 use lists::begin;
 use lists::finish;

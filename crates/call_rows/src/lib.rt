@@ -1,9 +1,9 @@
 // The public call for row counts: how many rows each tree has, before memory is set aside for them
 // (02, request 6).
-use chart::Verdict;
 use filling::judge;
 use grammar::Grammar;
 use grammar::Sentence;
+use grammar::Verdict;
 use row_counts::RowCount;
 use row_counts::count_rows;
 use sheets::Answer;

@@ -18,13 +18,12 @@ use Rattle.grammar.specs.Trees.{Rules, Tree, Tree-discrete, Witness, Derives, N
 use Rattle.grammar.specs.Trees.{TwoTrees}
 use Rattle.grammar.specs.SpanSheet.{part, pairs, pairAt, firstWord, secondWord, SpanSheet}
 use Rattle.grammar.proofs.Marks.{token?}
-use Rattle.grammar.proofs.VerdictLaws.{none-not-one, none-not-two, one-not-two}
 use Rattle.marks.specs.Half.{Half, Completes, tokenAt}
 use Rattle.marks.proofs.HalfLaws.{completes-self}
 use Rattle.spans.specs.Changes.{Past}
 use Rattle.spans.proofs.Places.{pairAt-same}
-use Rattle.chart.specs.declared.Verdict.{Verdict}
-use Rattle.chart.specs.declared.Verdict.the-variants as Verdict
+use Rattle.grammar.specs.declared.Verdict.{Verdict}
+use Rattle.grammar.specs.Verdicts.{Holds}
 use Rattle.tables.specs.Tables.{One, Two, byTokens, Stand, Again}
 use Rattle.chart.specs.Leaves.{Allows, LeafAt, May}
 use Rattle.tables.specs.Settled.{Told, Settled, Ground}
@@ -38,7 +37,6 @@ use Rattle.chart.proofs.ExactLaws.{exact-less, null-one, null-two}
 use Rattle.chart.proofs.LeafLaws.{leaf-allows, leaf-one, leaf-more, may-one, may-two}
 use Rattle.chart.proofs.OpenLaws.{open-settled, settled-open, open-none, given-settled}
 use Rattle.grammar.specs.Distinct.{Distinct}
-use Rattle.chart.specs.Verdicts.{Holds}
 
 -- ---- what is kept
 
@@ -397,17 +395,3 @@ settles {b = false} e c s = record {
   beyond = c .beyond;
   past = c .past;
 }
-
--- ---- the promises settle the answers
-
-pub verdict-same : (g : Rules) (A : ℕ) (w : Word) (r r′ : Verdict) → Holds r g A w → Holds r′ g A w
-    → r ≡ r′
-verdict-same g A w Verdict.None Verdict.None h k = refl
-verdict-same g A w Verdict.None Verdict.One h k = absurd (none-not-one h k)
-verdict-same g A w Verdict.None Verdict.Two h k = absurd (none-not-two h k)
-verdict-same g A w Verdict.One Verdict.None h k = absurd (none-not-one k h)
-verdict-same g A w Verdict.One Verdict.One h k = refl
-verdict-same g A w Verdict.One Verdict.Two h k = absurd (one-not-two h k)
-verdict-same g A w Verdict.Two Verdict.None h k = absurd (none-not-two k h)
-verdict-same g A w Verdict.Two Verdict.One h k = absurd (one-not-two k h)
-verdict-same g A w Verdict.Two Verdict.Two h k = refl

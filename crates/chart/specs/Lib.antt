@@ -2,4 +2,3 @@ pub mod Leaves
 pub mod Filling
 pub mod Openness
 pub mod Sheets
-pub mod Verdicts

@@ -14,9 +14,9 @@ use Rattle.spans.specs.Changes.{Past}
 use Rattle.chart.specs.Openness.{Open}
 use Rattle.chart.specs.Leaves.{LeafAt, May}
 use Rattle.chart.specs.Filling.{Given}
-use Rattle.chart.specs.declared.Verdict.{Verdict}
-use Rattle.chart.specs.declared.Verdict.the-variants as Verdict
-use Rattle.chart.specs.Verdicts.{Holds}
+use Rattle.grammar.specs.declared.Verdict.{Verdict}
+use Rattle.grammar.specs.declared.Verdict.the-variants as Verdict
+use Rattle.grammar.specs.Verdicts.{Holds}
 
 -- of the spans of w that end at or before token `to`, the words ws, as a span sheet of n tokens,
 -- say exactly what has a valid tree and what has two

@@ -7,9 +7,9 @@ use Rattle.grammar.specs.declared.Token.{Token}
 use Rattle.grammar.specs.Layout.{Word, line, col, width}
 use Rattle.grammar.specs.Trees.{Rules}
 use Rattle.grammar.specs.Candidates.{Rising}
-use Rattle.chart.specs.declared.Verdict.{Verdict}
+use Rattle.grammar.specs.declared.Verdict.{Verdict}
 use Rattle.column_ranges.specs.declared.RangeToken.{RangeToken}
-use Rattle.chart.specs.Verdicts.{Holds}
+use Rattle.grammar.specs.Verdicts.{Holds}
 
 -- the tokens of a range sheet
 abbrev pub Ranges : Type 0

@@ -3,8 +3,8 @@ use mathlib.Core.Path.{_≡_, refl, sym, subst}
 use mathlib.Core.Bool.{true}
 use mathlib.Core.Logic.{_⊎_, inl, inr, ⊎-elim}
 use Rattle.grammar.specs.Trees.{Rules}
-use Rattle.chart.specs.declared.Verdict.{Verdict}
-use Rattle.chart.specs.declared.Verdict.the-variants as Verdict
+use Rattle.grammar.specs.declared.Verdict.{Verdict}
+use Rattle.grammar.specs.declared.Verdict.the-variants as Verdict
 use Rattle.column_ranges.specs.Ranges.{Ranges}
 use Rattle.column_search.specs.declared.Flags.{Flags}
 use Rattle.column_search.specs.Answers.{flag}

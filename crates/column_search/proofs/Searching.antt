@@ -17,13 +17,14 @@ use Rattle.grammar.specs.Layout.{Word, col, Every}
 use Rattle.grammar.specs.Trees.{Rules, Derives, TwoTrees}
 use Rattle.grammar.specs.SpanSheet.{pairs, firstWord, secondWord}
 use Rattle.marks.specs.Half.{tokenAt}
-use Rattle.chart.specs.declared.Verdict.{Verdict}
-use Rattle.chart.specs.declared.Verdict.the-variants as Verdict
-use Rattle.chart.specs.Verdicts.{Holds}
+use Rattle.grammar.specs.declared.Verdict.{Verdict}
+use Rattle.grammar.specs.declared.Verdict.the-variants as Verdict
+use Rattle.grammar.specs.Verdicts.{Holds}
 use Rattle.chart.specs.Leaves.{Leaf, LeafAt}
 use Rattle.chart.specs.Sheets.{Exact, Begun}
 use Rattle.chart.proofs.ExactLaws.{exact-front, exact-words}
-use Rattle.chart.proofs.SheetLaws.{verdict-same, whole-part, reads-none, reads-one, reads-two}
+use Rattle.grammar.proofs.VerdictLaws.{verdict-same}
+use Rattle.chart.proofs.SheetLaws.{whole-part, reads-none, reads-one, reads-two}
 use Rattle.spans.specs.Changes.{Past, Cleared}
 use Rattle.spans.proofs.ChangeLaws.{past-same, past-then}
 use Rattle.column_ranges.specs.declared.RangeSentence.{RangeSentence}

@@ -2,8 +2,8 @@
 use mathlib.Core.Bool.{Bool}
 use Rattle.sets.specs.Says.{Says}
 use Rattle.grammar.specs.Trees.{Rules}
-use Rattle.chart.specs.declared.Verdict.{Verdict}
-use Rattle.chart.specs.declared.Verdict.the-variants as Verdict
+use Rattle.grammar.specs.declared.Verdict.{Verdict}
+use Rattle.grammar.specs.declared.Verdict.the-variants as Verdict
 use Rattle.column_ranges.specs.Ranges.{Ranges, SomeChoiceGives}
 use Rattle.column_search.specs.declared.Flags.{Flags}
 

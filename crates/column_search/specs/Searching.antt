@@ -8,8 +8,8 @@ use lib.ListN.{length}
 use Rattle.grammar.specs.Trees.{Rules}
 use Rattle.sets.specs.Sets.{In}
 use Rattle.grammar.specs.SpanSheet.{pairs, firstWord, secondWord}
-use Rattle.chart.specs.declared.Verdict.{Verdict}
-use Rattle.chart.specs.declared.Verdict.the-variants as Verdict
+use Rattle.grammar.specs.declared.Verdict.{Verdict}
+use Rattle.grammar.specs.declared.Verdict.the-variants as Verdict
 use Rattle.spans.specs.Changes.{Past}
 use Rattle.column_ranges.specs.Ranges.{Ranges, SomeChoiceGives}
 use Rattle.column_ranges.specs.RangeSentences.{range}

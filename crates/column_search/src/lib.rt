@@ -1,7 +1,6 @@
 // Which verdicts some choice of columns gives. Ranges are narrowed token by token, until one choice
 // is left.
 use chains::chains;
-use chart::Verdict;
 use column_ranges::RangeSentence;
 use column_ranges::columns;
 use column_ranges::count;
@@ -10,6 +9,7 @@ use cuts::Pair;
 use cuts::binary_rules;
 use filling::fill_leaves;
 use grammar::Grammar;
+use grammar::Verdict;
 use marks::Draft;
 use narrowing::last_token;
 use narrowing::lowest_sentence;
@@ -30,7 +30,7 @@ ghost use Prim.Native.Nat.{_*_, _≤_};
 ghost use lib.ListN.{length};
 ghost use Rattle.grammar.specs.Content.{rules, Formed};
 ghost use Rattle.grammar.specs.SpanSheet.{pairs};
-ghost use Rattle.chart.specs.declared.Verdict.{Verdict};
+ghost use Rattle.grammar.specs.declared.Verdict.{Verdict};
 ghost use Rattle.spans.specs.Changes.{Cleared};
 ghost use Rattle.cuts.specs.Places.{Placed};
 ghost use Rattle.chains.specs.Chains.{Chains};

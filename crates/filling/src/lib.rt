@@ -2,7 +2,6 @@
 // it.
 use chains::chains;
 use chains::level_of;
-use chart::Verdict;
 use cuts::BinaryRules;
 use cuts::Pair;
 use cuts::binary_rules;
@@ -13,6 +12,7 @@ use cuts::unite;
 use grammar::Column;
 use grammar::Grammar;
 use grammar::Sentence;
+use grammar::Verdict;
 use links::leaves;
 use links::link_rules;
 use links::saturated;

@@ -1,5 +1,6 @@
 pub mod Layout
 pub mod Trees
+pub mod Verdicts
 pub mod Cycles
 pub mod Choices
 pub mod Rows

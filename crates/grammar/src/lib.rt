@@ -101,3 +101,10 @@ pub struct Cell {
     pub step: u8,
     pub column: u16,
 }
+
+// The answer on a sentence: no tree, just one, or at least two.
+pub enum Verdict {
+    None,
+    One,
+    Two,
+}

@@ -224,7 +224,7 @@ module _ {g : Rules} {v : Leave} {n start len : ℕ} {l m o : List ℕ} {a b r :
 -- a last pass that let nothing fall
 pub stopped-of : {g : Rules} {v : Leave} {n start len : ℕ} {D : ℕ → ℕ → Type 0} {e l m : List ℕ}
     {r : Bool} → Falls g v n start len e l → r ≡ false → HeightsTried g v n start len D l m r
-        → Lefts g
+    → Lefts g
     → Stopped g v n start len D e m
 stopped-of {g} {v} {n} {start} {len} {D} {e} {l} {m} f q p lefts =
     let s = p .same q in
@@ -437,7 +437,7 @@ module _ {g : Rules} {v : Leave} {n start len : ℕ} (r : Rule) (i : ℕ) (b : i
 -- nothing stands with the empty word on one side
 pub no-empty-side-none : {k : SpanMarks} {n start len : ℕ} {l : List ℕ} (r : Rule) → r .left < 64
     → Idle l n (r .clause) → HeightsTried (r ∷ []) (byMarks k len) n start len (Ends len 0) l l
-        false
+    false
 no-empty-side-none {k} {n} {start} {len} {l} r small x = record {
   falls = stays;
   fell = λ f. absurd (clash cc);

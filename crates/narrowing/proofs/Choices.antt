@@ -12,7 +12,7 @@ use Rattle.grammar.specs.Layout.{Word, col, Every}
 use Rattle.grammar.specs.Trees.{Rules}
 use Rattle.grammar.specs.Candidates.{After, RisingFrom, Rising}
 use Rattle.marks.specs.Half.{tokenAt}
-use Rattle.chart.specs.declared.Verdict.{Verdict}
+use Rattle.grammar.specs.declared.Verdict.{Verdict}
 use Rattle.column_ranges.specs.declared.RangeToken.{RangeToken}
 use Rattle.column_ranges.specs.Ranges.{Ranges, WithinEnds, Chosen, SomeChoiceGives}
 use Rattle.column_ranges.specs.RangeSentences.{range, no-range, EndsOrdered}

@@ -230,7 +230,7 @@ laid-none r tokens e = record { long = e; each = λ k h. absurd (omega arith) }
 
 pub laid-more : {r : RangeSentence} {tokens : List Token} {i : ℕ} {t : Token} → i < 64
     → LowestPlaced r tokens i → t ≡ lowToken (getD (r .tokens) i no-range)
-        → LowestPlaced r (set tokens i t) (i + 1)
+    → LowestPlaced r (set tokens i t) (i + 1)
 laid-more {r} {tokens} {i} {t} h l e =
     record { long = length-set tokens i t ∙ l .long; each = λ k m. go k m (ℕ-discrete k i) }
   where

@@ -215,7 +215,7 @@ module _ {g : Rules} {s n h i : ℕ} {cs : List Cell} (size : length cs ≡ n) (
   -- a position that was tried
   pub within-more : {m : ℕ} {cs′ : List Cell} → Moved n i m cs cs′
       → Twinned g s n h (i + 1) (i + 1) cs′ → PositionsTwinned g s n h i m cs
-          → PositionsTwinned g s n h i (m + 1) cs
+      → PositionsTwinned g s n h i (m + 1) cs
   within-more {m} {cs′} mv r q = record {
     twin = λ ds c sh sp l t. go ds c sh sp t
         (last-or m (getD ds i no-cell .step * n + getD ds i no-cell .column - 1)

@@ -50,7 +50,7 @@ module _ {g : Rules} {n i : ℕ} {cs : List Cell} where
 
   pub ready-draft : {ws : List ℕ} (d : Draft) → i < n → length cs ≡ n → drafted d ≡ sentence cs
       → d .count ≡ n → d .known ≡ i + 1 → PositionsFilled g n i cs ws
-          → Ready g (half d) (d .count) ws i n
+      → Ready g (half d) (d .count) ws i n
   ready-draft {ws} d h size e c k st =
       subst (λ (y : ℕ). Ready g (record { word = drafted d; known = y }) (d .count) ws i n) (sym k)
       (subst (λ (m : ℕ). Ready g (record { word = drafted d; known = i + 1 }) m ws i n) (sym c)
@@ -93,7 +93,7 @@ module _ {g : Rules} {n b : ℕ} {cs : List Cell} where
   -- the words are ready to be filled from token b on
   pub ready-again : {ws : List ℕ} (d : Draft) → b ≤ n → length cs ≡ n → drafted d ≡ sentence cs
       → d .count ≡ n → d .known ≡ b → PositionsFilled g n b cs ws
-          → Ready g (half d) (d .count) ws b n
+      → Ready g (half d) (d .count) ws b n
   ready-again {ws} d h size e c k st = ready-at d c k (record {
     low = omega arith;
     high = h;
@@ -105,7 +105,7 @@ module _ {g : Rules} {n b : ℕ} {cs : List Cell} where
 
   pub spent : {hold : ℕ} {r r₀ : Bool} {ws ws₁ ws₂ : List ℕ} (d : Draft) → r₀ ≡ false
       → drafted d ≡ sentence cs → d .count ≡ n → d .known ≡ b
-          → PositionsSearched r₀ g n hold b cs ws ws₁
+      → PositionsSearched r₀ g n hold b cs ws ws₁
       → Settles r g (half d) (d .count) ws₁ ws₂ → AllPositionsSearched false g n hold b cs ws ws₂
   spent {hold} {r} {r₀} {ws} {ws₁} {ws₂} d no-more e c k q y =
       let z = settles-at d c k y in
@@ -138,7 +138,7 @@ module _ {g : Rules} {s n b j : ℕ} {cs : List Cell} (low : b ≤ j) (h : j < n
       record {
         out = λ u hold. refuted-hopeless e size (z .absent u)
             (λ i a v v′. loose-fixed low h (with-terminal-self j cs) m l i v v′)
-                (λ i a v. l .free i a v);
+            (λ i a v. l .free i a v);
         stays = loose-filled low h (with-terminal-self j cs) e m l (z .right) (z .beyond)
             (z .given);
         past = past-then (kept-past n j 1 (omega arith) (w .kept)) (z .past);
@@ -162,7 +162,7 @@ module _ {g : Rules} {s n b j i : ℕ} {cs : List Cell} (e : i ≡ j - 1) (low :
   -- the last write: the token is free again
   pub done-full : {hold : ℕ} {ws ws₁ ws₂ : List ℕ} {p q : ℕ} → Past (2 * pairs n) ws ws₁
       → TerminalOpen g s n b i cs ws₁ → TerminalsTwinned g s n hold b i 64 cs
-          → WrotePair ws₁ ws₂ (pairAt n i 1) p q
+      → WrotePair ws₁ ws₂ (pairAt n i 1) p q
       → ((x : ℕ) → Among s x → Allows g x p q) → Done false g s n hold b j cs ws ws₂
   done-full {hold} {ws} {ws₁} {ws₂} {p} {q} pa l be w f = record {
     out = λ u. subst (λ (k : ℕ). Twinned g s n hold b k cs) (next-up i j b e low far)
@@ -212,7 +212,7 @@ laid-ready {g} {s} {n} {b} {cs = cs} {ws₁ = ws₁} d low k e c kn t l = ready-
 pub poised-start : {g : Rules} {s n b : ℕ} {table : List ℕ} {cs : List Cell} {ws ws₁ ws₂ : List ℕ}
     (d : Draft) → b ≤ n → drafted d ≡ sentence cs → d .count ≡ n → d .known ≡ b → Tabled g s table
     → LeavesPut table cs n b ws ws₁ → Charted ws₁ ws₂ g (half d) (d .count)
-        → TerminalsFilled g s n b n cs ws₂
+    → TerminalsFilled g s n b n cs ws₂
 poised-start {g} {s} {n} {b} {cs = cs} {ws} {ws₁} {ws₂} d low e c k t l y = record {
   right = subst (λ (u : Word). Exact g u n ws₂ b) e (z .exact);
   beyond = open-less n low (z .beyond);

@@ -233,7 +233,7 @@ poised-standing p = record { right = p .right; fixed = p .fixed }
 
 pub standing-poised : {g : Rules} {s n b : ℕ} {cs : List Cell} {w : Word} {ws ws′ : List ℕ}
     → w ≡ sentence cs → PositionsFilled g n b cs ws → Exact g w n ws′ b → Open g n ws′ b
-        → Given ws ws′ n
+    → Given ws ws′ n
     → TerminalsFilled g s n b b cs ws′
 standing-poised {g} {n = n} {b} {cs} {ws′ = ws′} e st x o v = record {
   right = subst (λ (u : Word). Exact g u n ws′ b) e x;

@@ -7,8 +7,8 @@ use lib.ListN.{length}
 use Rattle.grammar.specs.Layout.{Word}
 use Rattle.grammar.specs.Trees.{Rules}
 use Rattle.grammar.specs.SpanSheet.{pairs}
-use Rattle.chart.specs.declared.Verdict.{Verdict}
-use Rattle.chart.specs.declared.Verdict.the-variants as Verdict
+use Rattle.grammar.specs.declared.Verdict.{Verdict}
+use Rattle.grammar.specs.declared.Verdict.the-variants as Verdict
 use Rattle.chart.specs.Sheets.{Judged}
 use Rattle.sheets.specs.declared.Fault.the-variants as Fault
 use Rattle.sheets.specs.declared.Answer.{Answer}

@@ -1,9 +1,9 @@
 // What a call for the verdict answers on sheets that were read.
 use answering::Reply;
-use chart::Verdict;
 use filling::judge;
 use grammar::Grammar;
 use grammar::Sentence;
+use grammar::Verdict;
 use sheets::Answer;
 use sheets::Fault;
 use sheets::GrammarRead;

@@ -38,8 +38,12 @@ returns : tie.Need-returns
 returns c =
     let z = c .before .before in
     let a = z .always-text .ensures in
-    record { text = a .text; is = rw (z .before .before .enum-told .given .1) (a .is); wrote =
-        a .wrote }
+    record {
+      text = a .text;
+      is = rw (z .before .before .enum-told .given .1) (a .is);
+      wrote =
+          a .wrote;
+    }
 
 same-length-2 : tie.Need-same-length-2
 same-length-2 c = search needs
@@ -48,8 +52,12 @@ returns-2 : tie.Need-returns-2
 returns-2 c =
     let z = c .before .before in
     let a = z .clauses-always-text .ensures in
-    record { text = a .text; is = rw (z .before .before .enum-told2 .given .1) (a .is); wrote =
-        a .wrote }
+    record {
+      text = a .text;
+      is = rw (z .before .before .enum-told2 .given .1) (a .is);
+      wrote =
+          a .wrote;
+    }
 
 same-length-3 : tie.Need-same-length-3
 same-length-3 c = search needs
@@ -58,8 +66,12 @@ returns-3 : tie.Need-returns-3
 returns-3 c =
     let z = c .before .before in
     let a = z .on-sheets .ensures in
-    record { text = a .text; is = rw (z .before .before .before .call .given .1) (a .is); wrote =
-        a .wrote }
+    record {
+      text = a .text;
+      is = rw (z .before .before .before .call .given .1) (a .is);
+      wrote =
+          a .wrote;
+    }
 
 same-length-4 : tie.Need-same-length-4
 same-length-4 c = search needs

@@ -28,8 +28,12 @@ returns : tie.Need-returns
 returns c =
     let z = c .before .before in
     let a = z .clauses-sweep-text .ensures in
-    record { text = a .text; is = rw (z .before .before .before .call .given .1) (a .is); wrote =
-        a .wrote }
+    record {
+      text = a .text;
+      is = rw (z .before .before .before .call .given .1) (a .is);
+      wrote =
+          a .wrote;
+    }
 
 same-length-2 : tie.Need-same-length-2
 same-length-2 c = search needs
@@ -38,8 +42,12 @@ returns-2 : tie.Need-returns-2
 returns-2 c =
     let z = c .before .before in
     let a = z .expand-text .ensures in
-    record { text = a .text; is = rw (z .before .before .enum-told .given .1) (a .is); wrote =
-        a .wrote }
+    record {
+      text = a .text;
+      is = rw (z .before .before .enum-told .given .1) (a .is);
+      wrote =
+          a .wrote;
+    }
 
 same-length-3 : tie.Need-same-length-3
 same-length-3 c = search needs
@@ -48,8 +56,12 @@ returns-3 : tie.Need-returns-3
 returns-3 c =
     let z = c .before .before in
     let a = z .share-text .ensures in
-    record { text = a .text; is = rw (z .before .before .before .call2 .given .1) (a .is); wrote =
-        a .wrote }
+    record {
+      text = a .text;
+      is = rw (z .before .before .before .call2 .given .1) (a .is);
+      wrote =
+          a .wrote;
+    }
 
 pub on-one-spec : {M : Type 1} → statement M
 on-one-spec =

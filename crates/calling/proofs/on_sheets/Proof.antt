@@ -24,8 +24,12 @@ returns : tie.Need-returns
 returns c =
     let z = c .before .before in
     let a = z .on-one .ensures in
-    record { text = a .text; is = rw (z .before .before .before .call .given .1) (a .is); wrote =
-        a .wrote }
+    record {
+      text = a .text;
+      is = rw (z .before .before .before .call .given .1) (a .is);
+      wrote =
+          a .wrote;
+    }
 
 same-length-2 : tie.Need-same-length-2
 same-length-2 c = search needs
@@ -34,8 +38,12 @@ returns-2 : tie.Need-returns-2
 returns-2 c =
     let z = c .before .before in
     let a = z .on-parted .ensures in
-    record { text = a .text; is = rw (z .before .before .before .call2 .given .1) (a .is); wrote =
-        a .wrote }
+    record {
+      text = a .text;
+      is = rw (z .before .before .before .call2 .given .1) (a .is);
+      wrote =
+          a .wrote;
+    }
 
 pub on-sheets-spec : {M : Type 1} → statement M
 on-sheets-spec =

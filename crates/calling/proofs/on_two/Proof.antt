@@ -44,9 +44,11 @@ enum-known-call-2 c = search needs
 
 change-call-requires : tie.Need-change-call-requires
 change-call-requires c κs =
-    let m = c .before .before in
-    (search needs, rw (m .call2 .given .1) at
-        (m .before .before .before .before .before .before .pre .1))
+    let m = c .before .before in (
+      search needs,
+      rw (m .call2 .given .1) at
+          (m .before .before .before .before .before .before .pre .1),
+    )
 
 same-length : tie.Need-same-length
 same-length c = search needs
@@ -55,8 +57,12 @@ returns : tie.Need-returns
 returns c =
     let z = c .before .before in
     let a = z .clauses-text .ensures in
-    record { text = a .text; is = rw (z .before .before .enum-told .given .1) (a .is); wrote =
-        a .wrote }
+    record {
+      text = a .text;
+      is = rw (z .before .before .enum-told .given .1) (a .is);
+      wrote =
+          a .wrote;
+    }
 
 same-length-2 : tie.Need-same-length-2
 same-length-2 c = search needs
@@ -65,8 +71,12 @@ returns-2 : tie.Need-returns-2
 returns-2 c =
     let z = c .before .before in
     let a = z .rows-text .ensures in
-    record { text = a .text; is = rw (z .before .before .enum-told2 .given .1) (a .is); wrote =
-        a .wrote }
+    record {
+      text = a .text;
+      is = rw (z .before .before .enum-told2 .given .1) (a .is);
+      wrote =
+          a .wrote;
+    }
 
 same-length-3 : tie.Need-same-length-3
 same-length-3 c = search needs
@@ -75,8 +85,12 @@ returns-3 : tie.Need-returns-3
 returns-3 c =
     let z = c .before .before in
     let a = z .merge-text .ensures in
-    record { text = a .text; is = rw (z .before .before .enum-told3 .given .1) (a .is); wrote =
-        a .wrote }
+    record {
+      text = a .text;
+      is = rw (z .before .before .enum-told3 .given .1) (a .is);
+      wrote =
+          a .wrote;
+    }
 
 same-length-4 : tie.Need-same-length-4
 same-length-4 c = search needs
@@ -85,8 +99,12 @@ returns-4 : tie.Need-returns-4
 returns-4 c =
     let z = c .before .before in
     let a = z .columns-text .ensures in
-    record { text = a .text; is = rw (z .before .before .enum-told4 .given .1) (a .is); wrote =
-        a .wrote }
+    record {
+      text = a .text;
+      is = rw (z .before .before .enum-told4 .given .1) (a .is);
+      wrote =
+          a .wrote;
+    }
 
 same-length-5 : tie.Need-same-length-5
 same-length-5 c = search needs
@@ -95,8 +113,12 @@ returns-5 : tie.Need-returns-5
 returns-5 c =
     let z = c .before .before in
     let a = z .places-text .ensures in
-    record { text = a .text; is = rw (z .before .before .enum-told5 .given .1) (a .is); wrote =
-        a .wrote }
+    record {
+      text = a .text;
+      is = rw (z .before .before .enum-told5 .given .1) (a .is);
+      wrote =
+          a .wrote;
+    }
 
 same-length-6 : tie.Need-same-length-6
 same-length-6 c = search needs
@@ -105,8 +127,12 @@ returns-6 : tie.Need-returns-6
 returns-6 c =
     let z = c .before .before in
     let a = z .show-call .ensures in
-    record { text = a .text; is = rw (z .before .before .before .call .given .1) (a .is); wrote =
-        a .wrote }
+    record {
+      text = a .text;
+      is = rw (z .before .before .before .call .given .1) (a .is);
+      wrote =
+          a .wrote;
+    }
 
 same-length-7 : tie.Need-same-length-7
 same-length-7 c = search needs
@@ -115,8 +141,12 @@ returns-7 : tie.Need-returns-7
 returns-7 c =
     let z = c .before .before in
     let a = z .change-call .ensures in
-    record { text = a .text; is = rw (z .before .before .before .call2 .given .1) (a .is); wrote =
-        a .wrote }
+    record {
+      text = a .text;
+      is = rw (z .before .before .before .call2 .given .1) (a .is);
+      wrote =
+          a .wrote;
+    }
 
 pub on-two-spec : {M : Type 1} → statement M
 on-two-spec =

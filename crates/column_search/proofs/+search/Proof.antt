@@ -208,7 +208,7 @@ search-search-requires t c κs =
     let q = c .before .before .narrowed .ensures in
     let v = c .before .before .before .before .loop .inv in
     let i = c .before .before .before .before .before .before .before .before .before .before
-        .nothing-new
+    .nothing-new
     .ensures .leaving in
     let z = c .before .before .before .before .before .before .before .before .before .before
     .before .before .before .before .before .before .before .before .before in
@@ -307,7 +307,7 @@ search-same-length-4 : (t : ℕ) → search-lts.Need-same-length-4 (calls t) (se
     search-Inv-loop search-μ-loop
 search-same-length-4 t c = c .before .loop .inv .0 .leaving .past .long
     ∙ c .before .before .before .before .before .before .before .nothing-new .ensures .leaving .past
-        .long
+    .long
 
 search-same-length-5 : (t : ℕ) → search-lts.Need-same-length-5 (calls t) (search-at t) search′.Post
     search-Inv-loop search-μ-loop

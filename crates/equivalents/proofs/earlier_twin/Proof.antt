@@ -16,7 +16,7 @@ returns : tie.Need-returns
 returns c =
     let a = c .before .before .before in
     λ e. earlier-twin-step (a .args .n) (a .args .b) (a .args .h) (a .args .c) _ (a .pre .0)
-        (a .pre .1)
+    (a .pre .1)
     (c .before .before .cell .ensures) (c .if1 .taken)
 
 sub-result : tie.Need-sub-result
@@ -29,7 +29,7 @@ returns-2 : tie.Need-returns-2
 returns-2 c =
     let a = c .before .before .before .before in
     λ e. earlier-twin-gap (a .args .n) (a .args .b) (a .args .h) (a .args .c) _ (a .pre .0)
-        (a .pre .1)
+    (a .pre .1)
     (c .lacks .ensures) (omega (arith, ltb-true))
 
 pub earlier-twin-spec : {M : Type 1} → statement M

@@ -113,7 +113,7 @@ returns c =
     let l = c .before .loop in
     let e : l .start ≡ 0 = omega (arith, c .loop-test .left) in
     subst (FilledFrom (a .words .now) (l .words) (rules (a .g)) (half (a .d)) (a .d .count)
-        (a .from)) e
+    (a .from)) e
     (l .inv .1)
 
 pub fill-starts-spec : {M : Type 1} → statement M

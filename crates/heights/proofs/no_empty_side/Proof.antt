@@ -83,7 +83,7 @@ returns-6 c = λ e.
     (z .pre .1) in
     rw (c .before .before .before .before .before .before .before .c .given .1)
     (no-empty-side-by l _ _ _ _ _ _ (z .pre .0)
-        (λ i. omega (arith, c .before .shared-slice-known3 .given i))
+    (λ i. omega (arith, c .before .shared-slice-known3 .given i))
     (c .before .before .before .before .before .wide .ensures)
     (c .before .before .wide2 .ensures) (s .0) (s .1)
     (omega (arith, c .before .before .before .if1 .left)) (omega (arith, c .if2 .left)))

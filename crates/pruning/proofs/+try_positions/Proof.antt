@@ -48,7 +48,7 @@ abbrev each-Inv-loop : each-lts.InvT-loop
 each-Inv-loop g c n i h words₀ cuts₀ k₀ words cuts k = Past (2 * pairs n) words₀ words
     × PositionsFilled (rules g) n i (cells c 0 n) words
     × ((s : ℕ) → PositionsTwinned (rules g) s n h i k (cells c 0 n))
-        × Mirrored (rules g) n words cuts
+    × Mirrored (rules g) n words cuts
 
 abbrev each-μ-loop : each-lts.MeasureT-loop
 each-μ-loop g c n i h words₀ cuts₀ k₀ words cuts k = 3 * n - k
@@ -220,7 +220,7 @@ each-same-length t c =
     c .before .before .before .before .before .try-positions .ensures .0 .past .long
     ∙ c .before .before .before .before .before .before .before .before .before .before .before
     .before .before .try-position .ensures .0 .past .long
-        ∙ c .before .before .before .before .before
+    ∙ c .before .before .before .before .before
     .before .before .before .before .before .before .before .before .before .before .before
     .before .before .loop .inv .0 .long
 

@@ -58,7 +58,7 @@ abbrev each-Inv-loop : each-lts.InvT-loop
 each-Inv-loop g set kept table c n b h j words₀ cuts₀ i x₀ words cuts x = Past (2 * pairs n) words₀
     words × TerminalOpen (rules g) set n b i (cells c 0 n) words
     × TerminalsTwinned (rules g) set n h b i x (cells c 0 n) × (x ≤ 64)
-        × Mirrored (rules g) n words cuts
+    × Mirrored (rules g) n words cuts
 
 abbrev each-μ-loop : each-lts.MeasureT-loop
 each-μ-loop g set kept table c n b h j words₀ cuts₀ i x₀ words cuts x = 64 - x
@@ -221,7 +221,7 @@ each-loop-again-2 t c =
     let l = c .before .before .before .before .before .before .before .before .before .before
     .before .before .loop in
     let m = c .before .before .before .before .before .before .before .before .with-terminal
-        .ensures .0 in
+    .ensures .0 in
     let r = c .before .before .before .before .before .try-terminal .ensures .0 in (
       past-then (l .inv .0) (r .past),
       poised-back low h m (r .stays),
@@ -278,7 +278,7 @@ each-same-length-3 t c =
     c .before .before .before .before .before .try-terminals .ensures .0 .past .long
     ∙ c .before .before .before .before .before .before .before .before .before .before .before
     .before .before .try-terminal .ensures .0 .past .long
-        ∙ c .before .before .before .before .before
+    ∙ c .before .before .before .before .before
     .before .before .before .before .before .before .before .before .before .before .before
     .before .before .before .before .loop .inv .0 .long
 
@@ -417,7 +417,7 @@ each-returns-3 t c =
           .before .before .before .loop-test .left,
     ) in
     let below = subst (λ (x : ℕ). TerminalsTwinned (rules (a .g)) (a .set) (a .n) (a .h) (a .b)
-        (a .j - 1) x
+    (a .j - 1) x
     (cells (a .c) 0 (a .n))) e (l .inv .2) in (
       done-full refl (z .pre .1 .0 .1) (z .pre .1 .0 .2)
           (c .before .before .before .before .before .before .before .before .before .before .before

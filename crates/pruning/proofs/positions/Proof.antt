@@ -39,7 +39,7 @@ no-two-requires c κs =
     let d = c .before .before .draft in
     let e = d .ensures in
     let q = c .before .before .before .before .before .before .before .before .try-positions
-        .ensures
+    .ensures
     .0 in (
       (omega (arith, e .1, z .pre .0 .0), omega (arith, e .1, e .2, z .pre .0 .1)),
       (

@@ -145,6 +145,6 @@ returns c = (
 pub put-leaves-spec : {M : Type 1} → statement M
 put-leaves-spec = tie.close (tie.spec Inv-loop μ-loop loop-holds slot-requires mul-at mul-put-leaf
     shared-slice-read-put-leaf add-put-leaf mul-put-leaf-2 shared-slice-read-put-leaf-2
-        put-leaf-requires add-i
+    put-leaf-requires add-i
     loop-less loop-again shared-slice-read-put-leaf-empty shared-slice-read-put-leaf-empty-2
     put-leaf-empty-requires same-length same-length-2 returns)

@@ -89,5 +89,5 @@ pub try-terminal-spec : {M : Type 1} → statement M
 try-terminal-spec =
     tie.close (tie.spec mul-at mul-put-leaf shared-slice-read-put-leaf add-put-leaf mul-put-leaf-2
     shared-slice-read-put-leaf-2 put-leaf-requires draft-requires add-no-two no-two-requires
-        same-length
+    same-length
     same-length-2 returns)

@@ -111,7 +111,7 @@ returns c =
       charted (a .words .now) (l .words) (rules (a .g)) (half (wide (a .d))) (a .d .count) (w .long)
           (w .inner) (a .from)
           (subst (FilledFrom (a .words .now) (l .words) (rules (a .g)) (half (wide (a .d)))
-              (a .d .count)
+          (a .d .count)
           (a .from)) e (l .inv .1)),
       l .inv .3,
     )

@@ -13,8 +13,11 @@ earlier-twin-requires c κs = let z = c .before .before .before .before in
 
 returns : tie.Need-returns
 returns c = let z = c .before .before .before .before .before .before in (
-  (looked-earlier-twin (z .pre .0 .0) (c .before .earlier-twin .ensures (c .if2 .taken)), past-same
-      _ _),
+  (
+    looked-earlier-twin (z .pre .0 .0) (c .before .earlier-twin .ensures (c .if2 .taken)),
+    past-same
+        _ _,
+  ),
   z
       .pre .1 .1 .1 .1,
 )

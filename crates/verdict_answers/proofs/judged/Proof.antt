@@ -1,5 +1,5 @@
 -- `judged` meets its contract: 21 by the words' number, else the chart's verdict.
-use Rattle.chart.specs.declared.Verdict.the-variants as Verdict
+use Rattle.grammar.specs.declared.Verdict.the-variants as Verdict
 use Rattle.verdict_answers.proofs.Judging.{too-few, judged-on}
 use borrow.Author.Needs.{needs}
 use Rattle.verdict_answers.proofs.judged.Statement.{statement}
