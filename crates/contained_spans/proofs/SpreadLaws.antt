@@ -21,9 +21,10 @@ use Rattle.contained_spans.specs.Joining.{LeftKids, ClauseKids, CutKids}
 use Rattle.contained_spans.specs.Counting.{CountTells, Plus}
 use Rattle.contained_spans.specs.Seeing.{SeenAt}
 use Rattle.contained_spans.specs.Trying.{TriedLeft, CutsSpread, ClauseSpread}
+use Rattle.contained_spans.specs.Trying.{EndsSpread}
 use Rattle.contained_spans.proofs.CountLaws.{tells-as, tells-same, tells-sum}
 use Rattle.contained_spans.proofs.SeeLaws.{hits-inner, hit-fits, fits-hit, seen-kept}
-use Rattle.contained_spans.proofs.SeeLaws.{bounded}
+use Rattle.contained_spans.proofs.SeeLaws.{bounded, seen-joins}
 
 -- the left length, said otherwise
 pub tried-at : {ws rs rs′ : List ℕ} {n s len l r : ℕ} {k : SpanMarks} {c : Clause} (d : ℕ)
@@ -58,12 +59,17 @@ spread-empty {b = b} {e} {m} z long t =
 abbrev FitAt : List ℕ → ℕ → ℕ → ℕ → SpanMarks → ℕ → ℕ → BinaryMark → ℕ → Type 0
 FitAt ws n s len k b e m l = Fits (One ws n) (byMarks k len) s len (Clause.Binary b e m) l
 
--- over other words: with no token, with all, and with some on the left
-module _ {ws cs rs rs₁ rs₂ rs₃ sn′ : List ℕ} {n s len b e x y z xy r : ℕ} {m : BinaryMark}
-    {k : SpanMarks} (few : n ≤ 64) (bs : b < 64) (es : e < 64) (pos : 0 < len) (fit : s + len ≤ n)
-    (t : CutTable ws n s cs) (none : TriedLeft ws n s len k (Clause.Binary b e m) 0 rs rs₁ x)
-    (all : TriedLeft ws n s len k (Clause.Binary b e m) len rs₁ rs₂ y)
-    (some : CutsSpread cs n s len k b e m rs₂ rs₃ sn′ z) (p : Plus x y xy) (q : Plus xy z r) where
+-- over other words: with some tokens on the left, with none, and with all
+module _ {ws cs rs rs₁ rs₂ sn′ : List ℕ} {n s len b e z xy r : ℕ} {m : BinaryMark} {k : SpanMarks}
+    (few : n ≤ 64) (bs : b < 64) (es : e < 64) (pos : 0 < len) (fit : s + len ≤ n)
+    (t : CutTable ws n s cs) (some : CutsSpread cs n s len k b e m rs rs₁ sn′ z)
+    (ends : EndsSpread ws n s len b e rs₁ rs₂ xy) (q : Plus z xy r) where
+  none : TriedLeft ws n s len k (Clause.Binary b e m) 0 rs₁ (ends .between) (ends .first)
+  none = ends .none k m
+
+  all : TriedLeft ws n s len k (Clause.Binary b e m) len (ends .between) rs₂ (ends .second)
+  all = ends .all k m
+
   -- with some
   between : (l : ℕ) → FitAt ws n s len k b e m l → (l ≡ 0) ⊎ ((l ≡ len) ⊎ ((0 < l) × (l < len)))
   between l f = go (ℕ-discrete l 0) (ℕ-discrete l len)
@@ -89,47 +95,47 @@ module _ {ws cs rs rs₁ rs₂ rs₃ sn′ : List ℕ} {n s len b e x y z xy r :
 
   counted : CountTells (FitAt ws n s len k b e m) r
   counted =
-      tells-same (λ l f. ⊎-elim (λ g. ⊎-elim (λ h. h .1) (λ h. h .1) g) (λ g. g .2) f)
+      tells-same (λ l f. ⊎-elim (λ g. g .2) (λ g. ⊎-elim (λ h. h .1) (λ h. h .1) g) f)
       (λ l f. sort l f (between l f))
-      (tells-sum xy z r (λ l f g. ⊎-elim (λ h. omega (arith, h .0, g .0))
-      (λ h. omega (arith, h .0, g .1)) f) q
-      (tells-sum x y xy (λ l f g. omega (arith, f .0, g .0, pos)) p (none .tells) (all .tells))
-      middle)
+      (tells-sum z xy r (λ l g f. ⊎-elim (λ h. omega (arith, h .0, g .0))
+      (λ h. omega (arith, h .0, g .1)) f) q middle
+      (tells-sum (ends .first) (ends .second) xy (λ l f g. omega (arith, f .0, g .0, pos))
+      (ends .plus) (none .tells) (all .tells)))
     where
       sort : (l : ℕ) → FitAt ws n s len k b e m l → (l ≡ 0) ⊎ ((l ≡ len) ⊎ ((0 < l) × (l < len)))
-          → (((l ≡ 0) × FitAt ws n s len k b e m l) ⊎ ((l ≡ len) × FitAt ws n s len k b e m l))
-          ⊎ ((0 < l) × (l < len) × FitAt ws n s len k b e m l)
-      sort l f (inl a) = inl (inl (a, f))
-      sort l f (inr (inl a)) = inl (inr (a, f))
-      sort l f (inr (inr a)) = inr (a .0, a .1, f)
+          → ((0 < l) × (l < len) × FitAt ws n s len k b e m l)
+          ⊎ (((l ≡ 0) × FitAt ws n s len k b e m l) ⊎ ((l ≡ len) × FitAt ws n s len k b e m l))
+      sort l f (inl a) = inr (inl (a, f))
+      sort l f (inr (inl a)) = inr (inr (a, f))
+      sort l f (inr (inr a)) = inl (a .0, a .1, f)
 
-  joined : Joins (ClauseKids ws n s len k (Clause.Binary b e m)) rs rs₃
+  joined : Joins (ClauseKids ws n s len k (Clause.Binary b e m)) rs rs₂
   joined =
-      joins-as (λ a B g. ⊎-elim (λ h. ⊎-elim (λ i. (0, i)) (λ i. (len, i)) h)
-      (λ h. (h .0 - s, (fits (h .0) (h .1) .2, h .2))) g)
+      joins-as (λ a B g. ⊎-elim (λ h. (h .0 - s, (fits (h .0) (h .1) .2, h .2)))
+      (λ h. ⊎-elim (λ i. (0, i)) (λ i. (len, i)) h) g)
       (λ a B g. sort a B g (between (g .0) (g .1 .0)))
-      (joins-then (joins-then (none .joins) (all .joins)) (some .joins))
+      (joins-then (some .joins) (joins-then (none .joins) (all .joins)))
     where
       K : ℕ → ℕ → ℕ → Type 0
       K l a B = LeftKids ws n s len k (Clause.Binary b e m) l a B
 
       sort : (a B : ℕ) (g : ClauseKids ws n s len k (Clause.Binary b e m) a B)
           → (g .0 ≡ 0) ⊎ ((g .0 ≡ len) ⊎ ((0 < g .0) × (g .0 < len)))
-          → (K 0 a B ⊎ K len a B) ⊎ CutKids n s len (Clause.Binary b e m) (some .set) a B
-      sort a B g (inl h) = inl (inl (subst (λ (l : ℕ). K l a B) h (g .1)))
-      sort a B g (inr (inl h)) = inl (inr (subst (λ (l : ℕ). K l a B) h (g .1)))
+          → CutKids n s len (Clause.Binary b e m) (some .set) a B ⊎ (K 0 a B ⊎ K len a B)
+      sort a B g (inl h) = inr (inl (subst (λ (l : ℕ). K l a B) h (g .1)))
+      sort a B g (inr (inl h)) = inr (inr (subst (λ (l : ℕ). K l a B) h (g .1)))
       sort a B g (inr (inr h)) =
-          inr (
+          inl (
             s + g .0,
             hit (g .0) (h .0) (h .1) (g .1 .0),
             subst (λ (l : ℕ). K l a B) (let u : g .0 ≡ s + g .0 - s = omega arith in u) (g .1) .1,
           )
 
-  pub spread-binary : ClauseSpread ws n s len k (Clause.Binary b e m) rs rs₃ sn′ r
+  pub spread-binary : ClauseSpread ws n s len k (Clause.Binary b e m) rs rs₂ sn′ r
   spread-binary = record {
     joins = joined;
     long = some .seen .columns .long;
-    seen = λ h. some .seen;
+    seen = λ h. seen-joins (all .joins) (seen-joins (none .joins) (some .seen));
     tells = counted;
   }
 

@@ -14,12 +14,13 @@ use marks::SpanMarks;
 use marks::span_marks;
 use rule_lists::list_rules;
 use sets::Member;
+use sets::has;
 use sets::with;
 use spans::clear;
 use spans::pair_at;
 use spans::size;
 ghost use mathlib.Core.Path.{_≡_};
-ghost use Prim.Native.Nat.{_+_, _≤_, _<_};
+ghost use Prim.Native.Nat.{_+_, _*_, _≤_, _<_};
 ghost use lib.ListN.{length};
 ghost use Rattle.grammar.specs.declared.Clause.the-variants as Kind;
 ghost use Rattle.sets.specs.Sets.{In};
@@ -37,6 +38,7 @@ ghost use Rattle.contained_spans.specs.Counting.{CountTells, Plus, Noted
 ghost use Rattle.contained_spans.specs.Seeing.{MaskBy, HitsBy, Unseen, Bounded, SeenAt};
 ghost use Rattle.contained_spans.specs.Seeing.{SeenColumns, Ready};
 ghost use Rattle.contained_spans.specs.Trying.{TriedLeft, CutsSpread, ClauseSpread};
+ghost use Rattle.contained_spans.specs.Trying.{Sides, EndsSpread};
 ghost use Rattle.contained_spans.specs.Spreading.{Known, Worked, SpanDone, StartDone};
 ghost use Rattle.contained_spans.specs.Spreading.{Begun, Done, AllDone};
 ghost use Rattle.grammar.specs.Sentences.{spelled};
@@ -174,6 +176,71 @@ fn plus(a: u8, b: u8) -> u8
     if a + b < 2 { a + b } else { 2 }
 }
 
+// Put in `b` at the pair `p` and `e` at `q`, where both have a tree there. In how many ways do
+// they?
+fn try_sides(words: &[u64], reach: &mut [u64], p: usize, q: usize, b: u8, e: u8) -> u8
+    requires { ⌜ (b < 64) × (e < 64) × (2 * p < length (now words))
+        × (2 * q < length (now words)) ⌝ }
+    requires { ⌜ (p < length (now reach)) × (q < length (now reach)) ⌝ }
+    ensures { λ r. ⌜ Sides (now (words .entry)) p q b e (now (reach .entry)) (now (reach .exit))
+        r ⌝ }
+{
+    if !has(words[2 * p], b) {
+        return 0;
+    }
+    if !has(words[2 * q], e) {
+        return 0;
+    }
+    add(reach, p, b);
+    add(reach, q, e);
+    1
+}
+
+// Put in what lies beneath a B clause with no token on the left, and with all.
+fn try_ends(
+    words: &[u64],
+    reach: &mut [u64],
+    n: usize,
+    b: u8,
+    e: u8,
+    start: usize,
+    len: usize,
+) -> u8
+    requires { ⌜ Room (now words) n start len × Space (now reach) n start len ⌝ }
+    requires { ⌜ (b < 64) × (e < 64) ⌝ }
+    ensures { λ r. ⌜ EndsSpread (now (words .entry)) n start len b e (now (reach .entry))
+        (now (reach .exit)) r ⌝ }
+{
+    let p = pair_at(n, start, len);
+    let none = try_sides(words, reach, 0, p, b, e);
+    let all = try_sides(words, reach, p, 0, b, e);
+    plus(none, all)
+}
+
+// The same: there is nothing to try where neither nonterminal has the empty word.
+fn spread_ends(
+    words: &[u64],
+    reach: &mut [u64],
+    n: usize,
+    b: u8,
+    e: u8,
+    start: usize,
+    len: usize,
+) -> u8
+    requires { ⌜ Room (now words) n start len × Space (now reach) n start len ⌝ }
+    requires { ⌜ (b < 64) × (e < 64) ⌝ }
+    ensures { λ r. ⌜ EndsSpread (now (words .entry)) n start len b e (now (reach .entry))
+        (now (reach .exit)) r ⌝ }
+{
+    let empty = words[0];
+    if !has(empty, b) {
+        if !has(empty, e) {
+            return 0;
+        }
+    }
+    try_ends(words, reach, n, b, e, start, len)
+}
+
 // Put in what lies beneath a B clause with a token or more on either side, all cuts at once: what
 // `seen` has is there already.
 fn spread_cuts(
@@ -194,6 +261,9 @@ fn spread_cuts(
         (now (reach .exit)) (now (seen .exit)) r ⌝ }
 {
     let set = hits(cuts, b, e, m, start, len, k);
+    if set == 0 {
+        return 0;
+    }
     let new = unseen(seen, wide(b), 64 * (start + len) + wide(e), set);
     let c = Clause::Binary(b, e, m);
     add_cuts(reach, n, c, start, len, new);
@@ -220,14 +290,13 @@ fn spread_binary(
     ensures { λ r. ⌜ ClauseSpread (now (words .entry)) n start len k (Kind.Binary b e m)
         (now (reach .entry)) (now (reach .exit)) (now (seen .exit)) r ⌝ }
 {
-    let c = Clause::Binary(b, e, m);
-    let none = try_left(words, reach, n, c, start, len, 0, k);
     if len == 0 {
-        return none;
+        let c = Clause::Binary(b, e, m);
+        return try_left(words, reach, n, c, start, len, 0, k);
     }
-    let all = try_left(words, reach, n, c, start, len, len, k);
     let some = spread_cuts(cuts, seen, reach, n, b, e, m, start, len, k);
-    plus(plus(none, all), some)
+    let ends = spread_ends(words, reach, n, b, e, start, len);
+    plus(some, ends)
 }
 
 // Put in what lies beneath the clause. In how many ways does it stand?

@@ -1,9 +1,9 @@
--- With no token on the left, with all, and with some.
+-- With some tokens on the left, with none, and with all.
 use borrow.Author.Needs.{needs}
 use Prim.Native.Nat.{_<_}
 use native.Mathlib.Omega.{arith}
 use Rattle.contained_spans.proofs.CountLaws.{plus-few}
-use Rattle.contained_spans.proofs.SeeLaws.{bounded, seen-joins}
+use Rattle.contained_spans.proofs.SeeLaws.{bounded}
 use Rattle.contained_spans.proofs.SpreadLaws.{tried-at, spread-empty, spread-binary}
 use Rattle.contained_spans.proofs.spread_binary.Statement.{statement}
 use Rattle.contained_spans.proofs.spread_binary.Tie as tie
@@ -15,48 +15,46 @@ same-length : tie.Need-same-length
 same-length c = search needs
 
 returns : tie.Need-returns
-returns c = spread-empty (c .if1 .taken)
+returns c =
+    spread-empty (c .before .before .before .before .if1 .taken)
     (c .before .before .before .before .before .before .before .before .before .pre .1 .1 .long)
-    (tried-at 0 (c .before .before .before .try-left .ensures) (omega (arith, c .if1 .taken)))
-
-try-left-requires-2 : tie.Need-try-left-requires-2
-try-left-requires-2 c κs = search needs
+    (tried-at 0 (c .before .before .try-left .ensures) (omega arith))
 
 spread-cuts-requires : tie.Need-spread-cuts-requires
 spread-cuts-requires c κs =
-    let z = c .before .before .before .before .before .before .before .before .before .before
-    .before .before .before .before .before in
-    let s = z .pre .0 .1 in
+    let z = c .before .before .before .before .before .before .before in
     let r = z .pre .1 .1 in
-    let pos : 0 < z .args .len =
-    omega (arith, c .before .before .before .before .before .before .if1 .left) in
-    let x = c .before .before .before .before .before .before .before .before .before .try-left
-    .ensures .joins in
-    let y = c .before .before .before .before .try-left2 .ensures .joins in (
+    let pos : 0 < z .args .len = omega (arith, c .before .before .if1 .left) in (
       (z .pre .1 .0 .0, z .pre .1 .0 .1, pos, bounded (r .table pos)),
+      (z .pre .0 .1, r .seen pos),
+    )
+
+spread-ends-requires : tie.Need-spread-ends-requires
+spread-ends-requires c κs =
+    let z = c .before .before .before .before .before .before .before .before .before .before
+    .before .before .before in
+    let s = z .pre .0 .1 in (
       (
+        z .pre .0 .0,
         record {
           few = s .few;
           fits = s .fits;
-          enough = omega (arith, s .enough, x .long, y .long);
+          enough = omega (
+            arith,
+            s .enough,
+            c .before .before .before .before .before .spread-cuts
+                .ensures .joins .long,
+          );
         },
-        seen-joins y (seen-joins x (r .seen pos)),
       ),
+      z .pre .1 .0,
     )
 
 plus-requires : tie.Need-plus-requires
 plus-requires c κs = (
-  c .before .before .before .before .before .before .before .before .before
-      .before .before .before .before .before .try-left .ensures .tells .few,
-  c .before .before
-      .before .before .before .before .before .before .before .try-left2 .ensures .tells .few,
-)
-
-plus-requires-2 : tie.Need-plus-requires-2
-plus-requires-2 c κs = (
-  plus-few (c .plus .ensures),
-  c .before .before .before .before .before
-      .spread-cuts .ensures .tells .few,
+  c .before .before .before .before .before .before .before .before .spread-cuts .ensures .tells
+      .few,
+  plus-few (c .before .before .spread-ends .ensures .plus),
 )
 
 same-length-2 : tie.Need-same-length-2
@@ -68,21 +66,16 @@ same-length-3 c = search needs
 returns-2 : tie.Need-returns-2
 returns-2 c =
     let z = c .before .before .before .before .before .before .before .before .before .before
-    .before .before .before .before .before .before .before .before .before .before .before
-    .before in
+    .before .before .before .before .before .before .before in
     let pos : 0 < z .args .len = omega (
       arith,
       c .before .before .before .before .before .before .before .before .before .before
-          .before .before .before .if1 .left,
+          .before .before .if1 .left,
     ) in
     spread-binary (z .pre .0 .0 .few) (z .pre .1 .0 .0) (z .pre .1 .0 .1) pos (z .pre .0 .0 .fits)
-    (z .pre .1 .1 .table pos) (tried-at 0
-    (c .before .before .before .before .before .before .before .before .before .before .before
-    .before .before .before .before .before .try-left .ensures) (omega (arith, pos)))
-    (tried-at (z .args .len) (c .before .before .before .before .before .before .before .before
-    .before .before .before .try-left2 .ensures) (omega (arith, pos)))
-    (c .before .before .before .before .before .before .spread-cuts .ensures)
-    (c .before .plus .ensures) (c .plus2 .ensures)
+    (z .pre .1 .1 .table pos) (c .before .before .before .before .before .before .before .before
+    .before .spread-cuts .ensures) (c .before .before .before .spread-ends .ensures)
+    (c .plus .ensures)
 
 pub spread-binary-spec : {M : Type 1} → statement M
 spread-binary-spec =
@@ -91,10 +84,9 @@ spread-binary-spec =
     try-left-requires
     same-length
     returns
-    try-left-requires-2
     spread-cuts-requires
+    spread-ends-requires
     plus-requires
-    plus-requires-2
     same-length-2
     same-length-3
     returns-2)
