@@ -265,8 +265,8 @@ pub fn finished(g: Grammar, index: Index) -> GrammarRead
 
 // What a line gives, and the book after it.
 pub struct Added {
-    pub step: RuleStep,
     pub book: Book,
+    pub step: RuleStep,
 }
 
 // The cursor's line after the rules of a book: its rule is appended, and a line that gives none
