@@ -16,46 +16,46 @@ use Rattle.grammar.specs.Content.{rules}
 use Rattle.refilling.specs.Kept.{Mirrored}
 use borrow.Fn.Kinds.{In}
 use borrow.Fn.PlainCycle.{Measures, is, falls, and}
-use Rattle.pruning.proofs.try_positions.Reads as each
-use Rattle.pruning.proofs.try_positions.Kinds as each-kinds
-use Rattle.pruning.proofs.+try_positions.Lts-try_positions as each-lts
+use Rattle.pruning.proofs.try_positions.Reads as place
+use Rattle.pruning.proofs.try_positions.Kinds as place-kinds
+use Rattle.pruning.proofs.+try_positions.Lts-try_positions as place-lts
 use Rattle.pruning.proofs.moved.Reads as moved-reads
 use Rattle.pruning.proofs.try_position.Reads as try-position-reads
 use Rattle.pruning.proofs.+try_positions.{statement}
 use Rattle.pruning.proofs.+try_positions.Tie.{close}
 
-abbrev μ-each : Measures 2 each-kinds.ps ℕ
-μ-each κs a = a .1 .1 .0 - a .1 .1 .1 .0
+abbrev μ-place : Measures 2 place-kinds.ps ℕ
+μ-place κs a = a .1 .1 .0 - a .1 .1 .1 .0
 
-abbrev each-at : ℕ → In 2 each-kinds.ps
-each-at t = and 2 each-kinds.ps (is 2 each-kinds.ps μ-each t) each.Pre
+abbrev place-at : ℕ → In 2 place-kinds.ps
+place-at t = and 2 place-kinds.ps (is 2 place-kinds.ps μ-place t) place.Pre
 
-abbrev each-below : ℕ → In 2 each-kinds.ps
-each-below t = and 2 each-kinds.ps (falls 2 each-kinds.ps _<_ μ-each t) each.Pre
+abbrev place-below : ℕ → In 2 place-kinds.ps
+place-below t = and 2 place-kinds.ps (falls 2 place-kinds.ps _<_ μ-place t) place.Pre
 
 -- what the callees ask and promise
-abbrev calls : ℕ → each-lts.Claims
+abbrev calls : ℕ → place-lts.Claims
 calls t = (
   moved-reads.Asked,
   moved-reads.Learnt,
   try-position-reads.Asked,
   try-position-reads.Learnt,
-  each-below t,
-  each.Post,
+  place-below t,
+  place.Post,
 )
 
-abbrev each-Inv-loop : each-lts.InvT-loop
-each-Inv-loop g c n i h words₀ cuts₀ k₀ words cuts k = Past (2 * pairs n) words₀ words
+abbrev place-Inv-loop : place-lts.InvT-loop
+place-Inv-loop g c n i h words₀ cuts₀ k₀ words cuts k = Past (2 * pairs n) words₀ words
     × PositionsFilled (rules g) n i (cells c 0 n) words
     × ((s : ℕ) → PositionsTwinned (rules g) s n h i k (cells c 0 n))
     × Mirrored (rules g) n words cuts
 
-abbrev each-μ-loop : each-lts.MeasureT-loop
-each-μ-loop g c n i h words₀ cuts₀ k₀ words cuts k = 3 * n - k
+abbrev place-μ-loop : place-lts.MeasureT-loop
+place-μ-loop g c n i h words₀ cuts₀ k₀ words cuts k = 3 * n - k
 
-each-returns : (t : ℕ) → each-lts.Need-returns (calls t) (each-at t) each.Post
-    each-Inv-loop each-μ-loop
-each-returns t c = (
+place-returns : (t : ℕ) → place-lts.Need-returns (calls t) (place-at t) place.Post
+    place-Inv-loop place-μ-loop
+place-returns t c = (
   record {
     out = λ e. absurd (true-not-false e);
     stays = λ e. absurd
@@ -65,9 +65,9 @@ each-returns t c = (
   c .before .before .before .pre .1 .1 .1 .1 .1,
 )
 
-each-loop-holds : (t : ℕ) → each-lts.Need-loop-holds (calls t) (each-at t) each.Post
-    each-Inv-loop each-μ-loop
-each-loop-holds t c =
+place-loop-holds : (t : ℕ) → place-lts.Need-loop-holds (calls t) (place-at t) place.Post
+    place-Inv-loop place-μ-loop
+place-loop-holds t c =
     let z = c .before .before .before in (
       past-same _ _,
       z .pre .1 .1 .1 .1 .0,
@@ -76,15 +76,15 @@ each-loop-holds t c =
       z .pre .1 .1 .1 .1 .1,
     )
 
-each-mul-loop : (t : ℕ) → each-lts.Need-mul-loop (calls t) (each-at t) each.Post
-    each-Inv-loop each-μ-loop
-each-mul-loop t c =
+place-mul-loop : (t : ℕ) → place-lts.Need-mul-loop (calls t) (place-at t) place.Post
+    place-Inv-loop place-μ-loop
+place-mul-loop t c =
     record { fits = omega (arith, c .before .before .before .before .pre .1 .0 .0) }
 
-each-moved-requires : (t : ℕ)
-    → each-lts.Need-moved-requires (calls t) (each-at t) each.Post each-Inv-loop
-    each-μ-loop
-each-moved-requires t c κs =
+place-moved-requires : (t : ℕ)
+    → place-lts.Need-moved-requires (calls t) (place-at t) place.Post place-Inv-loop
+    place-μ-loop
+place-moved-requires t c κs =
     let z = c .before .before .before .before .before in (
       (
         z .pre .1 .0 .0,
@@ -94,10 +94,10 @@ each-moved-requires t c κs =
       z .pre .1 .0 .2,
     )
 
-each-try-position-requires : (t : ℕ)
-    → each-lts.Need-try-position-requires (calls t) (each-at t) each.Post
-    each-Inv-loop each-μ-loop
-each-try-position-requires t c κs =
+place-try-position-requires : (t : ℕ)
+    → place-lts.Need-try-position-requires (calls t) (place-at t) place.Post
+    place-Inv-loop place-μ-loop
+place-try-position-requires t c κs =
     let z = c .before .before .before .before .before .before .before .before in
     let l = c .before .before .before .before .loop in
     let m = c .before .before .moved .ensures in (
@@ -121,9 +121,9 @@ each-try-position-requires t c κs =
       ),
     )
 
-each-add-k : (t : ℕ) → each-lts.Need-add-k (calls t) (each-at t) each.Post each-Inv-loop
-    each-μ-loop
-each-add-k t c = record {
+place-add-k : (t : ℕ) → place-lts.Need-add-k (calls t) (place-at t) place.Post place-Inv-loop
+    place-μ-loop
+place-add-k t c = record {
   fits = omega (
     arith,
     c .before .before .before .before .before .before .before .before .before .loop-test
@@ -133,17 +133,17 @@ each-add-k t c = record {
   );
 }
 
-each-loop-less : (t : ℕ) → each-lts.Need-loop-less (calls t) (each-at t) each.Post
-    each-Inv-loop each-μ-loop
-each-loop-less t c = omega (
+place-loop-less : (t : ℕ) → place-lts.Need-loop-less (calls t) (place-at t) place.Post
+    place-Inv-loop place-μ-loop
+place-loop-less t c = omega (
   arith,
   c .before .before .before .before .before .before .before
       .before .before .loop-test .taken,
 )
 
-each-loop-again : (t : ℕ) → each-lts.Need-loop-again (calls t) (each-at t) each.Post
-    each-Inv-loop each-μ-loop
-each-loop-again t c =
+place-loop-again : (t : ℕ) → place-lts.Need-loop-again (calls t) (place-at t) place.Post
+    place-Inv-loop place-μ-loop
+place-loop-again t c =
     let z = c .before .before .before .before .before .before .before .before .before .before
     .before .before .before .before in
     let l = c .before .before .before .before .before .before .before .before .before .before
@@ -163,9 +163,10 @@ each-loop-again t c =
       c .before .before .before .before .before .try-position .ensures .1,
     )
 
-each-add-try-positions : (t : ℕ) → each-lts.Need-add-try-positions (calls t) (each-at t) each.Post
-    each-Inv-loop each-μ-loop
-each-add-try-positions t c = record {
+place-add-try-positions : (t : ℕ)
+    → place-lts.Need-add-try-positions (calls t) (place-at t) place.Post
+    place-Inv-loop place-μ-loop
+place-add-try-positions t c = record {
   fits = omega (
     arith,
     c .before .before .before .before .before .before .before .before .before .before
@@ -173,10 +174,10 @@ each-add-try-positions t c = record {
   );
 }
 
-each-try-positions-requires : (t : ℕ)
-    → each-lts.Need-try-positions-requires (calls t) (each-at t) each.Post each-Inv-loop
-    each-μ-loop
-each-try-positions-requires t c κs =
+place-try-positions-requires : (t : ℕ)
+    → place-lts.Need-try-positions-requires (calls t) (place-at t) place.Post place-Inv-loop
+    place-μ-loop
+place-try-positions-requires t c κs =
     let z = c .before .before .before .before .before .before .before .before .before .before
     .before .before .before .before .before .before in
     let l = c .before .before .before .before .before .before .before .before .before .before
@@ -214,9 +215,9 @@ each-try-positions-requires t c κs =
       ),
     )
 
-each-same-length : (t : ℕ) → each-lts.Need-same-length (calls t) (each-at t) each.Post
-    each-Inv-loop each-μ-loop
-each-same-length t c =
+place-same-length : (t : ℕ) → place-lts.Need-same-length (calls t) (place-at t) place.Post
+    place-Inv-loop place-μ-loop
+place-same-length t c =
     c .before .before .before .before .before .try-positions .ensures .0 .past .long
     ∙ c .before .before .before .before .before .before .before .before .before .before .before
     .before .before .try-position .ensures .0 .past .long
@@ -224,17 +225,17 @@ each-same-length t c =
     .before .before .before .before .before .before .before .before .before .before .before
     .before .before .loop .inv .0 .long
 
-each-same-length-2 : (t : ℕ) → each-lts.Need-same-length-2 (calls t) (each-at t) each.Post
-    each-Inv-loop each-μ-loop
-each-same-length-2 t c =
+place-same-length-2 : (t : ℕ) → place-lts.Need-same-length-2 (calls t) (place-at t) place.Post
+    place-Inv-loop place-μ-loop
+place-same-length-2 t c =
     c .before .before .before .before .before .try-positions .ensures .1 .prepared
     .rules .size ∙ sym (c .before .before .before .before .before .before .before .before .before
     .before .before .before .before .before .before .before .before .before .before .before
     .before .before .pre .1 .1 .1 .1 .1 .prepared .rules .size)
 
-each-returns-2 : (t : ℕ) → each-lts.Need-returns-2 (calls t) (each-at t) each.Post
-    each-Inv-loop each-μ-loop
-each-returns-2 t c = (
+place-returns-2 : (t : ℕ) → place-lts.Need-returns-2 (calls t) (place-at t) place.Post
+    place-Inv-loop place-μ-loop
+place-returns-2 t c = (
   record {
     out = λ e. absurd (true-not-false e);
     stays = λ e. absurd
@@ -250,9 +251,9 @@ each-returns-2 t c = (
       .before .before .before .before .before .try-positions .ensures .1,
 )
 
-each-add-k-2 : (t : ℕ) → each-lts.Need-add-k-2 (calls t) (each-at t) each.Post
-    each-Inv-loop each-μ-loop
-each-add-k-2 t c = record {
+place-add-k-2 : (t : ℕ) → place-lts.Need-add-k-2 (calls t) (place-at t) place.Post
+    place-Inv-loop place-μ-loop
+place-add-k-2 t c = record {
   fits = omega (
     arith,
     c .before .before .before .before .before .before .before .before .before .before
@@ -264,18 +265,18 @@ each-add-k-2 t c = record {
   );
 }
 
-each-loop-less-2 : (t : ℕ) → each-lts.Need-loop-less-2 (calls t) (each-at t) each.Post
-    each-Inv-loop each-μ-loop
-each-loop-less-2 t c = omega (
+place-loop-less-2 : (t : ℕ) → place-lts.Need-loop-less-2 (calls t) (place-at t) place.Post
+    place-Inv-loop place-μ-loop
+place-loop-less-2 t c = omega (
   arith,
   c .before .before .before .before .before .before .before
       .before .before .before .before .before .before .before .before .before .before .loop-test
       .taken,
 )
 
-each-loop-again-2 : (t : ℕ) → each-lts.Need-loop-again-2 (calls t) (each-at t) each.Post
-    each-Inv-loop each-μ-loop
-each-loop-again-2 t c =
+place-loop-again-2 : (t : ℕ) → place-lts.Need-loop-again-2 (calls t) (place-at t) place.Post
+    place-Inv-loop place-μ-loop
+place-loop-again-2 t c =
     let z = c .before .before .before .before .before .before .before .before .before .before
     .before .before .before .before .before .before .before .before .before .before .before
     .before in
@@ -303,18 +304,18 @@ each-loop-again-2 t c =
       c .before .before .before .before .before .try-positions .ensures .1,
     )
 
-each-same-length-3 : (t : ℕ) → each-lts.Need-same-length-3 (calls t) (each-at t) each.Post
-    each-Inv-loop each-μ-loop
-each-same-length-3 t c = c .before .loop .inv .0 .long
+place-same-length-3 : (t : ℕ) → place-lts.Need-same-length-3 (calls t) (place-at t) place.Post
+    place-Inv-loop place-μ-loop
+place-same-length-3 t c = c .before .loop .inv .0 .long
 
-each-same-length-4 : (t : ℕ) → each-lts.Need-same-length-4 (calls t) (each-at t) each.Post
-    each-Inv-loop each-μ-loop
-each-same-length-4 t c = c .before .loop .inv .3 .prepared .rules .size
+place-same-length-4 : (t : ℕ) → place-lts.Need-same-length-4 (calls t) (place-at t) place.Post
+    place-Inv-loop place-μ-loop
+place-same-length-4 t c = c .before .loop .inv .3 .prepared .rules .size
     ∙ sym (c .before .before .before .before .before .pre .1 .1 .1 .1 .1 .prepared .rules .size)
 
-each-returns-3 : (t : ℕ) → each-lts.Need-returns-3 (calls t) (each-at t) each.Post
-    each-Inv-loop each-μ-loop
-each-returns-3 t c =
+place-returns-3 : (t : ℕ) → place-lts.Need-returns-3 (calls t) (place-at t) place.Post
+    place-Inv-loop place-μ-loop
+place-returns-3 t c =
     let z = c .before .before .before .before .before in
     let l = c .before .loop in (
       record {
@@ -329,27 +330,27 @@ each-returns-3 t c =
     )
 
 pub +try-positions-spec : {M : Type 1} → statement M
-+try-positions-spec = close μ-each λ t. each-lts.spec (calls t)
-    (each-at t)
-    each.Post
-    each-Inv-loop
-    each-μ-loop
-    (each-returns t)
-    (each-loop-holds t)
-    (each-mul-loop t)
-    (each-moved-requires t)
-    (each-try-position-requires t)
-    (each-add-k t)
-    (each-loop-less t)
-    (each-loop-again t)
-    (each-add-try-positions t)
-    (each-try-positions-requires t)
-    (each-same-length t)
-    (each-same-length-2 t)
-    (each-returns-2 t)
-    (each-add-k-2 t)
-    (each-loop-less-2 t)
-    (each-loop-again-2 t)
-    (each-same-length-3 t)
-    (each-same-length-4 t)
-    (each-returns-3 t)
++try-positions-spec = close μ-place λ t. place-lts.spec (calls t)
+    (place-at t)
+    place.Post
+    place-Inv-loop
+    place-μ-loop
+    (place-returns t)
+    (place-loop-holds t)
+    (place-mul-loop t)
+    (place-moved-requires t)
+    (place-try-position-requires t)
+    (place-add-k t)
+    (place-loop-less t)
+    (place-loop-again t)
+    (place-add-try-positions t)
+    (place-try-positions-requires t)
+    (place-same-length t)
+    (place-same-length-2 t)
+    (place-returns-2 t)
+    (place-add-k-2 t)
+    (place-loop-less-2 t)
+    (place-loop-again-2 t)
+    (place-same-length-3 t)
+    (place-same-length-4 t)
+    (place-returns-3 t)

@@ -17,9 +17,9 @@ use Rattle.grammar.specs.Content.{rules}
 use Rattle.refilling.specs.Kept.{Mirrored}
 use borrow.Fn.Kinds.{In}
 use borrow.Fn.PlainCycle.{Measures, is, falls, and}
-use Rattle.pruning.proofs.try_terminals.Reads as each
-use Rattle.pruning.proofs.try_terminals.Kinds as each-kinds
-use Rattle.pruning.proofs.+try_terminals.Lts-try_terminals as each-lts
+use Rattle.pruning.proofs.try_terminals.Reads as term
+use Rattle.pruning.proofs.try_terminals.Kinds as term-kinds
+use Rattle.pruning.proofs.+try_terminals.Lts-try_terminals as term-lts
 use Rattle.refilling.proofs.put_leaf.Reads as put-leaf-reads
 use Rattle.pruning.proofs.positions.Reads as positions-reads
 use Rattle.pruning.proofs.try_terminal.Reads as try-terminal-reads
@@ -28,17 +28,17 @@ use Rattle.sets.proofs.has.Reads as has-reads
 use Rattle.pruning.proofs.+try_terminals.{statement}
 use Rattle.pruning.proofs.+try_terminals.Tie.{close}
 
-abbrev μ-each : Measures 3 each-kinds.ps ℕ
-μ-each κs a = a .1 .1 .1 .1 .1 .1 .1 .1 .0
+abbrev μ-term : Measures 3 term-kinds.ps ℕ
+μ-term κs a = a .1 .1 .1 .1 .1 .1 .1 .1 .0
 
-abbrev each-at : ℕ → In 3 each-kinds.ps
-each-at t = and 3 each-kinds.ps (is 3 each-kinds.ps μ-each t) each.Pre
+abbrev term-at : ℕ → In 3 term-kinds.ps
+term-at t = and 3 term-kinds.ps (is 3 term-kinds.ps μ-term t) term.Pre
 
-abbrev each-below : ℕ → In 3 each-kinds.ps
-each-below t = and 3 each-kinds.ps (falls 3 each-kinds.ps _<_ μ-each t) each.Pre
+abbrev term-below : ℕ → In 3 term-kinds.ps
+term-below t = and 3 term-kinds.ps (falls 3 term-kinds.ps _<_ μ-term t) term.Pre
 
 -- what the callees ask and promise
-abbrev calls : ℕ → each-lts.Claims
+abbrev calls : ℕ → term-lts.Claims
 calls t = (
   positions-reads.Asked,
   positions-reads.Learnt,
@@ -48,25 +48,25 @@ calls t = (
   with-terminal-reads.Learnt,
   try-terminal-reads.Asked,
   try-terminal-reads.Learnt,
-  each-below t,
-  each.Post,
+  term-below t,
+  term.Post,
   put-leaf-reads.Asked,
   put-leaf-reads.Learnt,
 )
 
-abbrev each-Inv-loop : each-lts.InvT-loop
-each-Inv-loop g set kept table c n b h j words₀ cuts₀ i x₀ words cuts x = Past (2 * pairs n) words₀
+abbrev term-Inv-loop : term-lts.InvT-loop
+term-Inv-loop g set kept table c n b h j words₀ cuts₀ i x₀ words cuts x = Past (2 * pairs n) words₀
     words × TerminalOpen (rules g) set n b i (cells c 0 n) words
     × TerminalsTwinned (rules g) set n h b i x (cells c 0 n) × (x ≤ 64)
     × Mirrored (rules g) n words cuts
 
-abbrev each-μ-loop : each-lts.MeasureT-loop
-each-μ-loop g set kept table c n b h j words₀ cuts₀ i x₀ words cuts x = 64 - x
+abbrev term-μ-loop : term-lts.MeasureT-loop
+term-μ-loop g set kept table c n b h j words₀ cuts₀ i x₀ words cuts x = 64 - x
 
-each-positions-requires : (t : ℕ)
-    → each-lts.Need-positions-requires (calls t) (each-at t) each.Post each-Inv-loop
-    each-μ-loop
-each-positions-requires t c κs =
+term-positions-requires : (t : ℕ)
+    → term-lts.Need-positions-requires (calls t) (term-at t) term.Post term-Inv-loop
+    term-μ-loop
+term-positions-requires t c κs =
     let z = c .before .before .before .before .before .before in (
       (z .pre .1 .0 .0, omega (arith, z .pre .1 .0), z .pre .1 .0 .3, z .pre .1 .0 .4),
       (
@@ -82,32 +82,32 @@ each-positions-requires t c κs =
       ),
     )
 
-each-same-length : (t : ℕ) → each-lts.Need-same-length (calls t) (each-at t) each.Post
-    each-Inv-loop each-μ-loop
-each-same-length t c = c .before .before .before .before .positions .ensures .0 .past .long
+term-same-length : (t : ℕ) → term-lts.Need-same-length (calls t) (term-at t) term.Post
+    term-Inv-loop term-μ-loop
+term-same-length t c = c .before .before .before .before .positions .ensures .0 .past .long
 
-each-same-length-2 : (t : ℕ) → each-lts.Need-same-length-2 (calls t) (each-at t) each.Post
-    each-Inv-loop each-μ-loop
-each-same-length-2 t c = c .before .before .before .before .positions .ensures .1 .prepared .rules
+term-same-length-2 : (t : ℕ) → term-lts.Need-same-length-2 (calls t) (term-at t) term.Post
+    term-Inv-loop term-μ-loop
+term-same-length-2 t c = c .before .before .before .before .positions .ensures .1 .prepared .rules
     .size ∙ sym (c .before .before .before .before .before .before .before .before .before .before
     .before .pre .1 .1 .1 .1 .1 .1 .prepared .rules .size)
 
-each-returns : (t : ℕ) → each-lts.Need-returns (calls t) (each-at t) each.Post each-Inv-loop
-    each-μ-loop
-each-returns t c = (
+term-returns : (t : ℕ) → term-lts.Need-returns (calls t) (term-at t) term.Post term-Inv-loop
+    term-μ-loop
+term-returns t c = (
   done-of (c .before .before .before .before .before .before .before .if1 .taken)
       (c .before .before .before .before .positions .ensures .0),
   c .before .before .before .before
       .positions .ensures .1,
 )
 
-each-sub-i : (t : ℕ) → each-lts.Need-sub-i (calls t) (each-at t) each.Post each-Inv-loop
-    each-μ-loop
-each-sub-i t c = omega (arith, c .if1 .left, c .before .before .before .before .pre .1 .0 .1)
+term-sub-i : (t : ℕ) → term-lts.Need-sub-i (calls t) (term-at t) term.Post term-Inv-loop
+    term-μ-loop
+term-sub-i t c = omega (arith, c .if1 .left, c .before .before .before .before .pre .1 .0 .1)
 
-each-loop-holds : (t : ℕ) → each-lts.Need-loop-holds (calls t) (each-at t) each.Post
-    each-Inv-loop each-μ-loop
-each-loop-holds t c =
+term-loop-holds : (t : ℕ) → term-lts.Need-loop-holds (calls t) (term-at t) term.Post
+    term-Inv-loop term-μ-loop
+term-loop-holds t c =
     let z = c .before .before .before .before in (
       past-same _ _,
       poised-down refl (z .pre .1 .0 .1) (z .pre .1 .0 .2) (c .if1 .left)
@@ -117,21 +117,21 @@ each-loop-holds t c =
       z .pre .1 .1 .1 .1 .1 .1,
     )
 
-each-has-requires : (t : ℕ) → each-lts.Need-has-requires (calls t) (each-at t) each.Post
-    each-Inv-loop each-μ-loop
-each-has-requires t c κs = c .loop-test .taken
+term-has-requires : (t : ℕ) → term-lts.Need-has-requires (calls t) (term-at t) term.Post
+    term-Inv-loop term-μ-loop
+term-has-requires t c κs = c .loop-test .taken
 
-each-add-x : (t : ℕ) → each-lts.Need-add-x (calls t) (each-at t) each.Post each-Inv-loop
-    each-μ-loop
-each-add-x t c = record { fits = omega (arith, c .before .before .loop-test .taken) }
+term-add-x : (t : ℕ) → term-lts.Need-add-x (calls t) (term-at t) term.Post term-Inv-loop
+    term-μ-loop
+term-add-x t c = record { fits = omega (arith, c .before .before .loop-test .taken) }
 
-each-loop-less : (t : ℕ) → each-lts.Need-loop-less (calls t) (each-at t) each.Post
-    each-Inv-loop each-μ-loop
-each-loop-less t c = omega (arith, c .before .before .loop-test .taken)
+term-loop-less : (t : ℕ) → term-lts.Need-loop-less (calls t) (term-at t) term.Post
+    term-Inv-loop term-μ-loop
+term-loop-less t c = omega (arith, c .before .before .loop-test .taken)
 
-each-loop-again : (t : ℕ) → each-lts.Need-loop-again (calls t) (each-at t) each.Post
-    each-Inv-loop each-μ-loop
-each-loop-again t c =
+term-loop-again : (t : ℕ) → term-lts.Need-loop-again (calls t) (term-at t) term.Post
+    term-Inv-loop term-μ-loop
+term-loop-again t c =
     let z = c .before .before .before .before .before .before .before .before in
     let a = z .args in
     let far = c .before .before .before .before .if1 .left in
@@ -147,9 +147,9 @@ each-loop-again t c =
       l .inv .4,
     )
 
-each-with-terminal-requires : (t : ℕ)
-    → each-lts.Need-with-terminal-requires (calls t) (each-at t) each.Post each-Inv-loop each-μ-loop
-each-with-terminal-requires t c κs =
+term-with-terminal-requires : (t : ℕ)
+    → term-lts.Need-with-terminal-requires (calls t) (term-at t) term.Post term-Inv-loop term-μ-loop
+term-with-terminal-requires t c κs =
     let z = c .before .before .before .before .before .before .before .before in
     let a = z .args in
     let far = c .before .before .before .before .if1 .left in
@@ -157,9 +157,9 @@ each-with-terminal-requires t c κs =
     let h : a .j - 1 < a .n = omega (arith, far, z .pre .1 .0) in
     ((z .pre .1 .0 .0, h), z .pre .1 .0 .3)
 
-each-try-terminal-requires : (t : ℕ)
-    → each-lts.Need-try-terminal-requires (calls t) (each-at t) each.Post each-Inv-loop each-μ-loop
-each-try-terminal-requires t c κs =
+term-try-terminal-requires : (t : ℕ)
+    → term-lts.Need-try-terminal-requires (calls t) (term-at t) term.Post term-Inv-loop term-μ-loop
+term-try-terminal-requires t c κs =
     let z = c .before .before .before .before .before .before .before .before .before .before
     .before in
     let a = z .args in
@@ -190,9 +190,9 @@ each-try-terminal-requires t c κs =
       ),
     )
 
-each-add-x-2 : (t : ℕ) → each-lts.Need-add-x-2 (calls t) (each-at t) each.Post each-Inv-loop
-    each-μ-loop
-each-add-x-2 t c = record {
+term-add-x-2 : (t : ℕ) → term-lts.Need-add-x-2 (calls t) (term-at t) term.Post term-Inv-loop
+    term-μ-loop
+term-add-x-2 t c = record {
   fits = omega (
     arith,
     c .before .before .before .before .before .before .before .before .before .before
@@ -200,17 +200,17 @@ each-add-x-2 t c = record {
   );
 }
 
-each-loop-less-2 : (t : ℕ) → each-lts.Need-loop-less-2 (calls t) (each-at t) each.Post
-    each-Inv-loop each-μ-loop
-each-loop-less-2 t c = omega (
+term-loop-less-2 : (t : ℕ) → term-lts.Need-loop-less-2 (calls t) (term-at t) term.Post
+    term-Inv-loop term-μ-loop
+term-loop-less-2 t c = omega (
   arith,
   c .before .before .before .before .before .before .before
       .before .before .before .before .loop-test .taken,
 )
 
-each-loop-again-2 : (t : ℕ) → each-lts.Need-loop-again-2 (calls t) (each-at t) each.Post
-    each-Inv-loop each-μ-loop
-each-loop-again-2 t c =
+term-loop-again-2 : (t : ℕ) → term-lts.Need-loop-again-2 (calls t) (term-at t) term.Post
+    term-Inv-loop term-μ-loop
+term-loop-again-2 t c =
     let z = c .before .before .before .before .before .before .before .before .before .before
     .before .before .before .before .before .before .before in
     let a = z .args in
@@ -236,10 +236,10 @@ each-loop-again-2 t c =
           .try-terminal .ensures .1,
     )
 
-each-try-terminals-requires : (t : ℕ)
-    → each-lts.Need-try-terminals-requires (calls t) (each-at t) each.Post
-    each-Inv-loop each-μ-loop
-each-try-terminals-requires t c κs =
+term-try-terminals-requires : (t : ℕ)
+    → term-lts.Need-try-terminals-requires (calls t) (term-at t) term.Post
+    term-Inv-loop term-μ-loop
+term-try-terminals-requires t c κs =
     let z = c .before .before .before .before .before .before .before .before .before .before
     .before .before .before .before .before .before .before .before .before in
     let a = z .args in
@@ -272,9 +272,9 @@ each-try-terminals-requires t c κs =
       ),
     )
 
-each-same-length-3 : (t : ℕ) → each-lts.Need-same-length-3 (calls t) (each-at t) each.Post
-    each-Inv-loop each-μ-loop
-each-same-length-3 t c =
+term-same-length-3 : (t : ℕ) → term-lts.Need-same-length-3 (calls t) (term-at t) term.Post
+    term-Inv-loop term-μ-loop
+term-same-length-3 t c =
     c .before .before .before .before .before .try-terminals .ensures .0 .past .long
     ∙ c .before .before .before .before .before .before .before .before .before .before .before
     .before .before .try-terminal .ensures .0 .past .long
@@ -282,17 +282,17 @@ each-same-length-3 t c =
     .before .before .before .before .before .before .before .before .before .before .before
     .before .before .before .before .loop .inv .0 .long
 
-each-same-length-4 : (t : ℕ) → each-lts.Need-same-length-4 (calls t) (each-at t) each.Post
-    each-Inv-loop each-μ-loop
-each-same-length-4 t c =
+term-same-length-4 : (t : ℕ) → term-lts.Need-same-length-4 (calls t) (term-at t) term.Post
+    term-Inv-loop term-μ-loop
+term-same-length-4 t c =
     c .before .before .before .before .before .try-terminals .ensures .1 .prepared
     .rules .size ∙ sym (c .before .before .before .before .before .before .before .before .before
     .before .before .before .before .before .before .before .before .before .before .before
     .before .before .before .before .before .pre .1 .1 .1 .1 .1 .1 .prepared .rules .size)
 
-each-returns-2 : (t : ℕ) → each-lts.Need-returns-2 (calls t) (each-at t) each.Post
-    each-Inv-loop each-μ-loop
-each-returns-2 t c = (
+term-returns-2 : (t : ℕ) → term-lts.Need-returns-2 (calls t) (term-at t) term.Post
+    term-Inv-loop term-μ-loop
+term-returns-2 t c = (
   record {
     out = λ e. absurd (true-not-false e);
     stays = λ e. absurd
@@ -308,9 +308,9 @@ each-returns-2 t c = (
       .before .before .before .before .before .try-terminals .ensures .1,
 )
 
-each-add-x-3 : (t : ℕ) → each-lts.Need-add-x-3 (calls t) (each-at t) each.Post each-Inv-loop
-    each-μ-loop
-each-add-x-3 t c = record {
+term-add-x-3 : (t : ℕ) → term-lts.Need-add-x-3 (calls t) (term-at t) term.Post term-Inv-loop
+    term-μ-loop
+term-add-x-3 t c = record {
   fits = omega (
     arith,
     c .before .before .before .before .before .before .before .before .before .before
@@ -318,9 +318,9 @@ each-add-x-3 t c = record {
   );
 }
 
-each-loop-less-3 : (t : ℕ) → each-lts.Need-loop-less-3 (calls t) (each-at t) each.Post
-    each-Inv-loop each-μ-loop
-each-loop-less-3 t c = omega (
+term-loop-less-3 : (t : ℕ) → term-lts.Need-loop-less-3 (calls t) (term-at t) term.Post
+    term-Inv-loop term-μ-loop
+term-loop-less-3 t c = omega (
   arith,
   c .before .before .before .before .before .before .before
       .before .before .before .before .before .before .before .before .before .before .before
@@ -328,9 +328,9 @@ each-loop-less-3 t c = omega (
       .loop-test .taken,
 )
 
-each-loop-again-3 : (t : ℕ) → each-lts.Need-loop-again-3 (calls t) (each-at t) each.Post
-    each-Inv-loop each-μ-loop
-each-loop-again-3 t c =
+term-loop-again-3 : (t : ℕ) → term-lts.Need-loop-again-3 (calls t) (term-at t) term.Post
+    term-Inv-loop term-μ-loop
+term-loop-again-3 t c =
     let z = c .before .before .before .before .before .before .before .before .before .before
     .before .before .before .before .before .before .before .before .before .before .before
     .before .before .before .before in
@@ -361,27 +361,27 @@ each-loop-again-3 t c =
           .1,
     )
 
-each-shared-slice-read-put-leaf : (t : ℕ)
-    → each-lts.Need-shared-slice-read-put-leaf (calls t) (each-at t) each.Post each-Inv-loop
-    each-μ-loop
-each-shared-slice-read-put-leaf t c = omega (
+term-shared-slice-read-put-leaf : (t : ℕ)
+    → term-lts.Need-shared-slice-read-put-leaf (calls t) (term-at t) term.Post term-Inv-loop
+    term-μ-loop
+term-shared-slice-read-put-leaf t c = omega (
   arith,
   c .before .before .before .before .before .before .before .before .before .pre .1 .1 .1
       .1 .0 .long,
 )
 
-each-shared-slice-read-put-leaf-2 : (t : ℕ)
-    → each-lts.Need-shared-slice-read-put-leaf-2 (calls t) (each-at t) each.Post each-Inv-loop
-    each-μ-loop
-each-shared-slice-read-put-leaf-2 t c = omega (
+term-shared-slice-read-put-leaf-2 : (t : ℕ)
+    → term-lts.Need-shared-slice-read-put-leaf-2 (calls t) (term-at t) term.Post term-Inv-loop
+    term-μ-loop
+term-shared-slice-read-put-leaf-2 t c = omega (
   arith,
   c .before .before .before .before .before .before .before .before .before .before .pre
       .1 .1 .1 .1 .0 .long,
 )
 
-each-put-leaf-requires : (t : ℕ) → each-lts.Need-put-leaf-requires (calls t) (each-at t) each.Post
-    each-Inv-loop each-μ-loop
-each-put-leaf-requires t c κs =
+term-put-leaf-requires : (t : ℕ) → term-lts.Need-put-leaf-requires (calls t) (term-at t) term.Post
+    term-Inv-loop term-μ-loop
+term-put-leaf-requires t c κs =
     let z = c .before .before .before .before .before .before .before .before .before .before in
     let a = z .args in
     let far = c .before .before .before .before .before .before .if1 .left in
@@ -390,21 +390,21 @@ each-put-leaf-requires t c κs =
     let l = c .before .before .before .before .before .loop in
     ((z .pre .1 .0 .0, h), (omega (arith, l .inv .0 .long, z .pre .1 .1 .1 .0), l .inv .4))
 
-each-same-length-5 : (t : ℕ) → each-lts.Need-same-length-5 (calls t) (each-at t) each.Post
-    each-Inv-loop each-μ-loop
-each-same-length-5 t c = c .before .before .before .before .put-leaf .ensures .0 .kept .long
+term-same-length-5 : (t : ℕ) → term-lts.Need-same-length-5 (calls t) (term-at t) term.Post
+    term-Inv-loop term-μ-loop
+term-same-length-5 t c = c .before .before .before .before .put-leaf .ensures .0 .kept .long
     ∙ c .before .before .before .before .before .before .before .before .before .before .loop .inv
     .0 .long
 
-each-same-length-6 : (t : ℕ) → each-lts.Need-same-length-6 (calls t) (each-at t) each.Post
-    each-Inv-loop each-μ-loop
-each-same-length-6 t c = c .before .before .before .before .put-leaf .ensures .1 .prepared .rules
+term-same-length-6 : (t : ℕ) → term-lts.Need-same-length-6 (calls t) (term-at t) term.Post
+    term-Inv-loop term-μ-loop
+term-same-length-6 t c = c .before .before .before .before .put-leaf .ensures .1 .prepared .rules
     .size ∙ sym (c .before .before .before .before .before .before .before .before .before .before
     .before .before .before .before .before .pre .1 .1 .1 .1 .1 .1 .prepared .rules .size)
 
-each-returns-3 : (t : ℕ) → each-lts.Need-returns-3 (calls t) (each-at t) each.Post
-    each-Inv-loop each-μ-loop
-each-returns-3 t c =
+term-returns-3 : (t : ℕ) → term-lts.Need-returns-3 (calls t) (term-at t) term.Post
+    term-Inv-loop term-μ-loop
+term-returns-3 t c =
     let l = c .before .before .before .before .before .before .before .before .before .before
     .loop in
     let z = c .before .before .before .before .before .before .before .before .before .before
@@ -427,36 +427,36 @@ each-returns-3 t c =
     )
 
 pub +try-terminals-spec : {M : Type 1} → statement M
-+try-terminals-spec = close μ-each λ t. each-lts.spec (calls t)
-    (each-at t)
-    each.Post
-    each-Inv-loop
-    each-μ-loop
-    (each-positions-requires t)
-    (each-same-length t)
-    (each-same-length-2 t)
-    (each-returns t)
-    (each-sub-i t)
-    (each-loop-holds t)
-    (each-has-requires t)
-    (each-add-x t)
-    (each-loop-less t)
-    (each-loop-again t)
-    (each-with-terminal-requires t)
-    (each-try-terminal-requires t)
-    (each-add-x-2 t)
-    (each-loop-less-2 t)
-    (each-loop-again-2 t)
-    (each-try-terminals-requires t)
-    (each-same-length-3 t)
-    (each-same-length-4 t)
-    (each-returns-2 t)
-    (each-add-x-3 t)
-    (each-loop-less-3 t)
-    (each-loop-again-3 t)
-    (each-shared-slice-read-put-leaf t)
-    (each-shared-slice-read-put-leaf-2 t)
-    (each-put-leaf-requires t)
-    (each-same-length-5 t)
-    (each-same-length-6 t)
-    (each-returns-3 t)
++try-terminals-spec = close μ-term λ t. term-lts.spec (calls t)
+    (term-at t)
+    term.Post
+    term-Inv-loop
+    term-μ-loop
+    (term-positions-requires t)
+    (term-same-length t)
+    (term-same-length-2 t)
+    (term-returns t)
+    (term-sub-i t)
+    (term-loop-holds t)
+    (term-has-requires t)
+    (term-add-x t)
+    (term-loop-less t)
+    (term-loop-again t)
+    (term-with-terminal-requires t)
+    (term-try-terminal-requires t)
+    (term-add-x-2 t)
+    (term-loop-less-2 t)
+    (term-loop-again-2 t)
+    (term-try-terminals-requires t)
+    (term-same-length-3 t)
+    (term-same-length-4 t)
+    (term-returns-2 t)
+    (term-add-x-3 t)
+    (term-loop-less-3 t)
+    (term-loop-again-3 t)
+    (term-shared-slice-read-put-leaf t)
+    (term-shared-slice-read-put-leaf-2 t)
+    (term-put-leaf-requires t)
+    (term-same-length-5 t)
+    (term-same-length-6 t)
+    (term-returns-3 t)

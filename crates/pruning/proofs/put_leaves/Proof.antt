@@ -94,16 +94,16 @@ loop-again c = (
       .before .put-leaf .ensures .1,
 )
 
-shared-slice-read-put-leaf-empty : tie.Need-shared-slice-read-put-leaf-empty Inv-loop μ-loop
-shared-slice-read-put-leaf-empty c =
+shared-slice-read-put-empty : tie.Need-shared-slice-read-put-empty Inv-loop μ-loop
+shared-slice-read-put-empty c =
     omega (arith, c .before .before .before .before .before .before .before .before .pre .1 .1 .0)
 
-shared-slice-read-put-leaf-empty-2 : tie.Need-shared-slice-read-put-leaf-empty-2 Inv-loop μ-loop
-shared-slice-read-put-leaf-empty-2 c = omega
+shared-slice-read-put-empty-2 : tie.Need-shared-slice-read-put-empty-2 Inv-loop μ-loop
+shared-slice-read-put-empty-2 c = omega
     (arith, c .before .before .before .before .before .before .before .before .before .pre .1 .1 .0)
 
-put-leaf-empty-requires : tie.Need-put-leaf-empty-requires Inv-loop μ-loop
-put-leaf-empty-requires c κs = let z =
+put-empty-requires : tie.Need-put-empty-requires Inv-loop μ-loop
+put-empty-requires c κs = let z =
     c .before .before .before .before .before .before .before .before
     .before in (
       z .pre .0 .0,
@@ -119,13 +119,13 @@ put-leaf-empty-requires c κs = let z =
     )
 
 same-length : tie.Need-same-length Inv-loop μ-loop
-same-length c = c .before .before .before .before .put-leaf-empty .ensures .0 .kept .long
+same-length c = c .before .before .before .before .put-empty .ensures .0 .kept .long
     ∙ c .before .before .before .before .before .before .before .before .before .before .loop .inv
     .0 .past .long
 
 same-length-2 : tie.Need-same-length-2 Inv-loop μ-loop
 same-length-2 c =
-    c .before .before .before .before .put-leaf-empty .ensures .1 .prepared .rules .size
+    c .before .before .before .before .put-empty .ensures .1 .prepared .rules .size
     ∙ sym (c .before .before .before .before .before .before .before .before .before .before .before
     .before .before .before .pre .1 .1 .1 .prepared .rules .size)
 
@@ -137,14 +137,14 @@ returns c = (
         .before .before .loop-test .left,
   ))
       (c .before .before .before .before .before .before .before .before .before .before .loop
-      .inv .0) (c .before .before .before .before .put-leaf-empty .ensures .0),
+      .inv .0) (c .before .before .before .before .put-empty .ensures .0),
   c .before .before
-      .before .before .put-leaf-empty .ensures .1,
+      .before .before .put-empty .ensures .1,
 )
 
 pub put-leaves-spec : {M : Type 1} → statement M
 put-leaves-spec = tie.close (tie.spec Inv-loop μ-loop loop-holds slot-requires mul-at mul-put-leaf
     shared-slice-read-put-leaf add-put-leaf mul-put-leaf-2 shared-slice-read-put-leaf-2
     put-leaf-requires add-i
-    loop-less loop-again shared-slice-read-put-leaf-empty shared-slice-read-put-leaf-empty-2
-    put-leaf-empty-requires same-length same-length-2 returns)
+    loop-less loop-again shared-slice-read-put-empty shared-slice-read-put-empty-2
+    put-empty-requires same-length same-length-2 returns)

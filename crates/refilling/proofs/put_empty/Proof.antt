@@ -24,5 +24,5 @@ returns c =
       },
     )
 
-pub put-leaf-empty-spec : {M : Type 1} → statement M
-put-leaf-empty-spec = tie.close (tie.spec write-requires same-length returns)
+pub put-empty-spec : {M : Type 1} → statement M
+put-empty-spec = tie.close (tie.spec write-requires same-length returns)
