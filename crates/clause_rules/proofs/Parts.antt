@@ -12,6 +12,7 @@ use Rattle.sets.proofs.Basics.{true-or-false}
 use Rattle.grammar.specs.declared.Rule.{Rule}
 use Rattle.grammar.specs.declared.UnaryMark.{UnaryMark}
 use Rattle.grammar.specs.declared.UnaryMark.the-variants as UnaryMark
+use Rattle.grammar.specs.declared.BinaryMark.{BinaryMark}
 use Rattle.grammar.specs.Trees.{Rules}
 use Rattle.clauses.specs.Clauses as C
 use Rattle.clauses.specs.Clauses.{item, made, alternatives, Expr, nonterminal, terminal, pair, or}
@@ -29,7 +30,7 @@ use Rattle.lexemes.specs.declared.Lexeme.{Lexeme}
 use Rattle.lexemes.specs.declared.Lexeme.the-variants as Lexeme
 use Rattle.lexemes.specs.declared.Lexed.{Lexed}
 use Rattle.lexemes.specs.Answers.{lexemeOf, Lexes}
-use Rattle.rule_output.specs.Signs.{sortOf, bindingOf, headsOf}
+use Rattle.rule_output.specs.Signs.{sortOf, headsOf}
 use Rattle.rule_output.specs.Emitting.{Emit, PartEmit, Cause, Adds, Pushed, CountsOn, tailRules}
 use Rattle.rule_output.specs.Emitting.{LeafRead}
 use Rattle.clause_rules.specs.Ends.{Left, GroupEnd, AtomEnd, ItemEnd}
@@ -431,11 +432,12 @@ module _ (s : List ℕ) (at : ℕ) (out o : Emit) (F : CountsOn out 1 o) (i : Pa
                 ∷ [])),
           ))
 
-  pub several-read : (r : PartEmit) (p : Emit) → sortOf (x .lexeme) ≡ 4
+  pub several-read : (r : PartEmit) (p : Emit) {β : BinaryMark} → sortOf (x .lexeme) ≡ 4
       → RestRead s (x .end) (i .out) r
-      → Pushed (r .out) (B (out .next) (i .name) (r .name) (bindingOf (x .lexeme))) p
+      → ((m : BinaryMark) → x .lexeme ≡ Lexeme.Join m → β ≡ m)
+      → Pushed (r .out) (B (out .next) (i .name) (r .name) β) p
       → SequenceRead s at out (record { at = r .at; name = out .next; out = p })
-  several-read r p z T P =
+  several-read r p {β} z T G P =
       record {
         from = omega (arith, I .from, X .from, T .from);
         within = T .within;
@@ -505,7 +507,7 @@ module _ (s : List ℕ) (at : ℕ) (out o : Emit) (F : CountsOn out 1 o) (i : Pa
                     (emit f 0 (out .next + (1 + size g)))
                     (emit f 0 (out .next + 1 + size g))
                     (B (out .next) (i .name) (r .name)
-                    (bindingOf (x .lexeme))) (B (out .next)
+                    β) (B (out .next)
                     (name g (out .next + 1)) (name f
                     (out .next + 1 + size g)) m) (ap
                     (λ (d : ℕ). length (emit f 0 d))
@@ -515,7 +517,7 @@ module _ (s : List ℕ) (at : ℕ) (out o : Emit) (F : CountsOn out 1 o) (i : Pa
                     (out .next) (size g)
                     j)) ++ (B (out
                     .next) (named-first g w₁ (join m ∷ (w₂ ++ k)) w (join-next m (w₂ ++ k)) h′ y j)
-                    ((S .named (P .room d) ∙ ap (name f) next) j) (ap bindingOf (q .same) j)
+                    ((S .named (P .room d) ∙ ap (name f) next) j) (G m (q .same) j)
                     ∷ [])) u);
                 left = λ d. S .left (P .room d);
                 named = λ d. refl;

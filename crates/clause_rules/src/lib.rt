@@ -17,7 +17,9 @@ use rule_output::tail;
 ghost use mathlib.Core.Path.{_≡_};
 ghost use Prim.Native.Nat.{_≤_};
 ghost use lib.ListN.{length};
-ghost use Rattle.rule_output.specs.Signs.{sortOf, bindingOf};
+ghost use Rattle.grammar.specs.declared.BinaryMark.{BinaryMark};
+ghost use Rattle.lexemes.specs.declared.Lexeme.the-variants as Lexeme;
+ghost use Rattle.rule_output.specs.Signs.{sortOf};
 ghost use Rattle.rule_output.specs.Emitting.{held, partHeld};
 ghost use Rattle.clause_rules.specs.Ends.{GroupEnd, AtomEnd, ItemEnd};
 ghost use Rattle.clause_rules.specs.Reading.{AtomRead, ItemRead, RestRead, SequenceRead};
@@ -43,23 +45,13 @@ fn sort(l: Lexeme) -> u8
     }
 }
 
-// What binds two items.
+// What binds two items, if that is what the lexeme does.
 fn binding(l: Lexeme) -> BinaryMark
-    ensures { λ r. ⌜ r ≡ bindingOf l ⌝ }
+    ensures { λ r. ⌜ ((m : BinaryMark) → l ≡ Lexeme.Join m → r ≡ m) ⌝ }
 {
     match l {
         Lexeme::Join(m) => m,
-        Lexeme::Nonterminal(_) => BinaryMark::None,
-        Lexeme::Terminal(_) => BinaryMark::None,
-        Lexeme::Open => BinaryMark::None,
-        Lexeme::Close => BinaryMark::None,
-        Lexeme::Bar => BinaryMark::None,
-        Lexeme::Maybe => BinaryMark::None,
-        Lexeme::Plus(_) => BinaryMark::None,
-        Lexeme::Star(_) => BinaryMark::None,
-        Lexeme::Marked(_) => BinaryMark::None,
-        Lexeme::End => BinaryMark::None,
-        Lexeme::Not => BinaryMark::None,
+        _ => BinaryMark::None,
     }
 }
 

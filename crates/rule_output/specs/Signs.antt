@@ -1,6 +1,4 @@
 -- For inner functions: what a lexeme is, by tests.
-use Rattle.grammar.specs.declared.BinaryMark.{BinaryMark}
-use Rattle.grammar.specs.declared.BinaryMark.the-variants as BinaryMark
 use Rattle.lexemes.specs.declared.Lexeme.{Lexeme}
 use Rattle.lexemes.specs.declared.Lexeme.the-variants as Lexeme
 use Prim.Native.Nat.{ℕ}
@@ -20,21 +18,6 @@ sortOf (Lexeme.Star m) = 5
 sortOf (Lexeme.Marked m) = 5
 sortOf Lexeme.End = 6
 sortOf Lexeme.Not = 6
-
--- what binds two items
-abbrev pub bindingOf : Lexeme → BinaryMark
-bindingOf (Lexeme.Join m) = m
-bindingOf (Lexeme.Nonterminal a) = BinaryMark.None
-bindingOf (Lexeme.Terminal a) = BinaryMark.None
-bindingOf Lexeme.Open = BinaryMark.None
-bindingOf Lexeme.Close = BinaryMark.None
-bindingOf Lexeme.Bar = BinaryMark.None
-bindingOf Lexeme.Maybe = BinaryMark.None
-bindingOf (Lexeme.Plus m) = BinaryMark.None
-bindingOf (Lexeme.Star m) = BinaryMark.None
-bindingOf (Lexeme.Marked m) = BinaryMark.None
-bindingOf Lexeme.End = BinaryMark.None
-bindingOf Lexeme.Not = BinaryMark.None
 
 -- how many new nonterminals what stands after an item has
 abbrev pub headsOf : Lexeme → ℕ

@@ -77,14 +77,7 @@ fn heads(l: Lexeme) -> u8
         Lexeme::Plus(_) => 2,
         Lexeme::Star(_) => 2,
         Lexeme::Marked(_) => 1,
-        Lexeme::Join(_) => 0,
-        Lexeme::Nonterminal(_) => 0,
-        Lexeme::Terminal(_) => 0,
-        Lexeme::Open => 0,
-        Lexeme::Close => 0,
-        Lexeme::Bar => 0,
-        Lexeme::End => 0,
-        Lexeme::Not => 0,
+        _ => 0,
     }
 }
 
@@ -204,14 +197,7 @@ pub fn tail(rules: &mut [u64; 128], out: Room, l: Lexeme, n: u8, b: u8) -> Room
                 clause: Clause::Unary(b, m),
             },
         ),
-        Lexeme::Join(_) => out,
-        Lexeme::Nonterminal(_) => out,
-        Lexeme::Terminal(_) => out,
-        Lexeme::Open => out,
-        Lexeme::Close => out,
-        Lexeme::Bar => out,
-        Lexeme::End => out,
-        Lexeme::Not => out,
+        _ => out,
     }
 }
 
@@ -252,52 +238,7 @@ pub fn leaf(l: Lexeme, end: usize, rules: &mut [u64; 128], out: Room) -> Step
                 room: o,
             }
         }
-        Lexeme::Open => Step {
-            at: end,
-            name: n,
-            room: out,
-        },
-        Lexeme::Close => Step {
-            at: end,
-            name: n,
-            room: out,
-        },
-        Lexeme::Bar => Step {
-            at: end,
-            name: n,
-            room: out,
-        },
-        Lexeme::Maybe => Step {
-            at: end,
-            name: n,
-            room: out,
-        },
-        Lexeme::Plus(_) => Step {
-            at: end,
-            name: n,
-            room: out,
-        },
-        Lexeme::Star(_) => Step {
-            at: end,
-            name: n,
-            room: out,
-        },
-        Lexeme::Marked(_) => Step {
-            at: end,
-            name: n,
-            room: out,
-        },
-        Lexeme::Join(_) => Step {
-            at: end,
-            name: n,
-            room: out,
-        },
-        Lexeme::End => Step {
-            at: end,
-            name: n,
-            room: out,
-        },
-        Lexeme::Not => Step {
+        _ => Step {
             at: end,
             name: n,
             room: out,

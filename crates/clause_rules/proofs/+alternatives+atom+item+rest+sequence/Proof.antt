@@ -10,7 +10,6 @@ use Rattle.clause_rules.proofs.Parts.{crowded-read, single-read, severa
 use Rattle.clause_rules.proofs.Parts.{rest-single, rest-over, alternatives-over, last-read}
 use Rattle.clause_rules.proofs.Parts.{more-read}
 use Rattle.clause_rules.proofs.Scans.{lexes-further, one-six, three-six, four-six}
-use Rattle.rule_output.proofs.Leaves.{pushed-by}
 use borrow.Fn.Kinds.{In}
 use borrow.Fn.PlainCycle.{Measures, is, falls, and}
 use Rattle.clause_rules.proofs.alternatives.Reads as alternatives
@@ -414,7 +413,7 @@ sequence-returns t c =
     (sym (c .before .before .before .before .before .before .before .sort .ensures)
     ∙ c .before .before .before .before .before .before .if1 .taken)
     (c .before .before .before .before .rest .ensures)
-    (pushed-by _ _ _ _ _ _ _ (c .before .binding .ensures) (c .push .ensures))
+    (c .before .binding .ensures) (c .push .ensures)
 
 sequence-push-requires-2 : (t : ℕ)
     → sequence-lts.Need-push-requires-2 (sequence-calls t) (sequence-at t) sequence.Post
