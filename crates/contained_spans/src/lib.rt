@@ -15,6 +15,7 @@ use marks::span_marks;
 use rule_lists::list_rules;
 use sets::Member;
 use sets::has;
+use sets::wide;
 use sets::with;
 use spans::clear;
 use spans::pair_at;
@@ -97,13 +98,6 @@ fn try_left(
     }
     add_kids(reach, n, c, start, len, left);
     1
-}
-
-// A number as an index.
-fn wide(x: u8) -> usize
-    ensures { λ r. ⌜ r ≡ x ⌝ }
-{
-    x as usize
 }
 
 // Put in what lies beneath the clause at each cut of the set.

@@ -1,6 +1,7 @@
 // Words of cuts of a filled span sheet: for one start and a nonterminal the ends up to which it has
 // a tree, for each end and a nonterminal the starts from which it has one.
 use cuts::lowest;
+use sets::wide;
 use sets::with;
 use spans::clear;
 use spans::pair_at;
@@ -11,13 +12,6 @@ ghost use Rattle.tables.specs.Tables.{Room};
 ghost use Rattle.cuts.specs.Joining.{Joins};
 ghost use Rattle.cut_tables.specs.Tables.{SetBits, EndBits, RowBits};
 ghost use Rattle.cut_tables.specs.Tables.{Columns, CutTable};
-
-// A number as an index.
-fn wide(x: u8) -> usize
-    ensures { λ r. ⌜ r ≡ x ⌝ }
-{
-    x as usize
-}
 
 // Set the bit `c` in the words from `p` on, by the members of the set.
 fn load_set(cuts: &mut [u64], p: usize, set: u64, c: u8)

@@ -22,7 +22,8 @@ use Rattle.marks.specs.declared.SpanMarks.{SpanMarks}
 use Rattle.tables.specs.Tables.{Leave, byMarks, rule}
 use Rattle.heights.specs.Tall.{noHeight, table, Tall, Measured, Lowest, Over, Room}
 use Rattle.heights.specs.Falls.{Lowered, Idle, Falls, stays, put, rowSum, sum, HeightsTried}
-use Rattle.heights.specs.Falls.{Between, Inner, Ends, AllEnds, Either, Stopped, Shut}
+use Rattle.heights.specs.Falls.{Between, Inner, Ends, AllEnds, Stopped, Shut}
+use Rattle.sets.specs.Either.{Either}
 use Rattle.heights.proofs.TallLaws.{tall-down, tall-le, tall-inner}
 use Rattle.heights.proofs.Bounds.{Put, total-less}
 

@@ -13,6 +13,8 @@ use marks::allows_atom;
 use marks::allows_binary;
 use marks::allows_unary;
 use marks::span_marks;
+use sets::either;
+use sets::wide;
 use spans::pair_at;
 ghost use mathlib.Core.Path.{_≡_};
 ghost use mathlib.Core.Bool.{true};
@@ -28,15 +30,9 @@ ghost use Rattle.heights.specs.Least.{numberAt, HeightSheet};
 ghost use Rattle.heights.specs.Tall.{table, byWord, Measured, Lowest, Over, Room};
 ghost use Rattle.heights.specs.Falls.{Lowered, Idle, HeightsTried, Between, Inner, Ends};
 ghost use Rattle.heights.specs.Falls.{AllEnds};
-ghost use Rattle.heights.specs.Falls.{Either, Stopped, Shut};
+ghost use Rattle.heights.specs.Falls.{Stopped, Shut};
 ghost use Rattle.heights.specs.Filled.{Filled, Whole, Settling};
 ghost use Rattle.grammar.specs.Sentences.{spelled};
-
-fn wide(x: u8) -> usize
-    ensures { λ r. ⌜ r ≡ x ⌝ }
-{
-    x as usize
-}
 
 // Where the number of `a` at the span stands.
 pub fn cell(n: usize, start: usize, len: usize, a: u8) -> usize
@@ -157,15 +153,6 @@ fn tall(hs: &[u16], n: usize, c: Clause, start: usize, len: usize, left: usize, 
         Clause::Unary(b, m) => unary_tall(hs, n, b, m, start, len, left, k),
         Clause::Binary(b, e, m) => binary_tall(hs, n, b, e, m, start, len, left, k),
     }
-}
-
-fn either(a: bool, b: bool) -> bool
-    ensures { λ r. ⌜ Either a b r ⌝ }
-{
-    if a {
-        return true;
-    }
-    b
 }
 
 // Put the height `h` where it is lower than the number there. Did it fall?

@@ -21,7 +21,8 @@ use Rattle.tree_choices.specs.Picks.{PickedStep}
 use Rattle.tree_choices.proofs.Pending.{nodeShape}
 use Rattle.row_counts.specs.Capped.{capped}
 use Rattle.row_counts.specs.Nulls.{Nulls, Sound, oneMore, twoMore, nullSize, KidsKnown, zeros}
-use Rattle.row_counts.specs.Nulls.{NullsTried, Either}
+use Rattle.row_counts.specs.Nulls.{NullsTried}
+use Rattle.sets.specs.Either.{Either}
 use Rattle.row_counts.proofs.Firsts.{first-shape}
 use Rattle.row_counts.proofs.CappedLaws.{capped-le, capped-suc, capped-suc-two, capped-pos}
 use Rattle.grammar.specs.Distinct.{Distinct}

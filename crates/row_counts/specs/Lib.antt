@@ -3,3 +3,4 @@ pub mod RowCounts
 pub mod Nulls
 pub mod Walks
 pub mod Seconds
+pub mod Telling

@@ -3,7 +3,6 @@
 use mathlib.Core.Path.{_≡_}
 use mathlib.Core.Bool.{Bool, true, false}
 use mathlib.Core.List.{List, [], _∷_}
-use mathlib.Core.Logic.{_⊎_}
 use Prim.Native.Nat.{ℕ, zero, suc, _+_, _≤_, _<_}
 use lib.ListN.{length, getD}
 use Rattle.grammar.specs.Layout.{Word}
@@ -68,8 +67,3 @@ pub record NullsTried (g : Rules) (D : ℕ → Type 0) (l m : List ℕ) (r : Boo
   pub same : r ≡ false → m ≡ l
   pub tried : r ≡ false → (A : ℕ) (t : Tree) → D A → FirstTree g A [] t → KidsKnown l t
       → 0 < getD l A 0
-
--- either is true
-pub record Either (a b r : Bool) : Type 0 where
-  pub is : r ≡ true → (a ≡ true) ⊎ (b ≡ true)
-  pub isnt : r ≡ false → (a ≡ false) × (b ≡ false)

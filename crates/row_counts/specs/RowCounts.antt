@@ -1,6 +1,5 @@
 -- How many rows each tree has, and what an answer says of such a number: 02, request 6.
 use mathlib.Core.Path.{_≡_}
-use mathlib.Core.Bool.{Bool, true, false}
 use Prim.Native.Nat.{ℕ, _≤_, _<_}
 use Rattle.grammar.specs.Layout.{Word}
 use Rattle.grammar.specs.Trees.{Tree, Rules, NoTree, OneTree, TwoTrees}
@@ -8,8 +7,6 @@ use Rattle.grammar.specs.Choices.{FirstTree, SecondTree}
 use Rattle.grammar.specs.Rows.{rowCount}
 use Rattle.row_counts.specs.declared.RowCount.{RowCount}
 use Rattle.row_counts.specs.declared.RowCount.the-variants as RowCount
-use Rattle.row_counts.specs.declared.RowCounts.{RowCounts}
-use Rattle.row_counts.specs.Capped.{capped}
 
 -- m and n are the row counts of the first and the second tree of w, 0 for one that the verdict
 -- lacks
@@ -23,15 +20,3 @@ pub data Counted (g : Rules) (w : Word) (m n : ℕ) : Type 0 where
 abbrev pub Tells : RowCount → ℕ → Type 0
 Tells (RowCount.Exact c) n = (c ≡ n) × (n ≤ 4294967295)
 Tells RowCount.More n = 4294967295 < n
-
--- for inner functions: n is the capped count of the second tree's rows, where there are two, else 0
-pub record SecondCounted (g : Rules) (w : Word) (two : Bool) (n : ℕ) : Type 0 where
-  pub small : n ≤ 4294967296
-  pub counted : two ≡ true → (u : Tree) → SecondTree g 0 w u → n ≡ capped (rowCount u)
-  pub lacking : two ≡ false → n ≡ 0
-
--- for inner functions: what is told of the first tree and, where there are two, of the second
-pub record RowsTold (g : Rules) (w : Word) (two : Bool) (r : RowCounts) : Type 0 where
-  pub first : (t : Tree) → FirstTree g 0 w t → Tells (r .first) (rowCount t)
-  pub second : two ≡ true → (u : Tree) → SecondTree g 0 w u → Tells (r .second) (rowCount u)
-  pub lacking : two ≡ false → Tells (r .second) 0

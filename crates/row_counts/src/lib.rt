@@ -6,6 +6,8 @@ use grammar::Grammar;
 use grammar::Sentence;
 use heights::heights;
 use rows::Step;
+use sets::either;
+use sets::wide;
 use spans::in_first;
 use spans::in_second;
 use tree_choices::choose;
@@ -22,9 +24,9 @@ ghost use Rattle.sets.specs.Sets.{In};
 ghost use Rattle.grammar.specs.SpanSheet.{part, secondWord};
 ghost use Rattle.tree_choices.specs.Wanted.{Charted, Ready, Wanted};
 ghost use Rattle.row_counts.specs.Capped.{capped};
-ghost use Rattle.row_counts.specs.RowCounts.{Tells, SecondCounted, RowsTold};
+ghost use Rattle.row_counts.specs.RowCounts.{Tells};
+ghost use Rattle.row_counts.specs.Telling.{SecondCounted, RowsTold};
 ghost use Rattle.row_counts.specs.Nulls.{HasFirsts, Nulls, Sound, nullSize, NullsTried};
-ghost use Rattle.row_counts.specs.Nulls.{Either};
 ghost use Rattle.row_counts.specs.Walks.{Own, Down, FirstThere};
 ghost use Rattle.row_counts.specs.Seconds.{Parted, PartedThere, Onto, Onward, BesideThere};
 ghost use Rattle.row_counts.specs.Seconds.{Beside};
@@ -40,21 +42,6 @@ fn add(a: u64, b: u64) -> u64
 {
     let sum = a + b;
     if sum < LIMIT { sum } else { LIMIT }
-}
-
-fn wide(x: u8) -> usize
-    ensures { λ r. ⌜ r ≡ x ⌝ }
-{
-    x as usize
-}
-
-fn either(a: bool, b: bool) -> bool
-    ensures { λ r. ⌜ Either a b r ⌝ }
-{
-    if a {
-        return true;
-    }
-    b
 }
 
 // The rows of a tree over the empty word, by its step and the counts of its children; 0 where one

@@ -1,8 +1,10 @@
-// Sets of numbers below 64, as the binary digits of a word.
+// Sets of numbers below 64, as the binary digits of a word; numbers as indices, and one of two
+// bools.
 ghost use mathlib.Core.Path.{_≡_};
 ghost use Prim.Native.Nat.{_<_, _≤_};
 ghost use Rattle.sets.specs.Sets.{In};
 ghost use Rattle.sets.specs.Says.{Says};
+ghost use Rattle.sets.specs.Either.{Either};
 ghost use Rattle.sets.specs.Firsts.{FirstFrom};
 ghost use Rattle.sets.specs.Insertion.{insert};
 
@@ -41,4 +43,21 @@ pub fn first_from(set: u64, from: u8) -> Member
         t += 1;
     }
     Member::Nothing
+}
+
+// A number as an index.
+pub fn wide(x: u8) -> usize
+    ensures { λ r. ⌜ r ≡ x ⌝ }
+{
+    x as usize
+}
+
+// Is one of the two true?
+pub fn either(a: bool, b: bool) -> bool
+    ensures { λ r. ⌜ Either a b r ⌝ }
+{
+    if a {
+        return true;
+    }
+    b
 }

@@ -4,8 +4,9 @@ use grammar::Clause;
 use grammar::Grammar;
 use grammar::Rule;
 use grammar::UnaryMark;
+use sets::either;
 ghost use mathlib.Core.Path.{_≡_};
-ghost use mathlib.Core.Bool.{true, _&&_, _||_};
+ghost use mathlib.Core.Bool.{true, _&&_};
 ghost use Prim.Native.Nat.{_<_};
 ghost use Rattle.sets.specs.Says.{Says};
 ghost use Rattle.grammar.specs.Trees.{Covers};
@@ -40,15 +41,6 @@ fn both(x: bool, y: bool) -> bool
         return y;
     }
     false
-}
-
-fn either(x: bool, y: bool) -> bool
-    ensures { λ r. ⌜ r ≡ (x || y) ⌝ }
-{
-    if x {
-        return true;
-    }
-    y
 }
 
 // Has the nonterminal a word?

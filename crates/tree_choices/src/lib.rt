@@ -7,6 +7,7 @@ use heights::high;
 use rows::Step;
 use rows::step_of;
 use sets::has;
+use sets::wide;
 use spans::in_second;
 ghost use mathlib.Core.Path.{_≡_};
 ghost use mathlib.Core.Bool.{true, false};
@@ -21,12 +22,6 @@ ghost use Rattle.heights.specs.Least.{HeightSheet};
 ghost use Rattle.rows.specs.Steps.{closedStep};
 ghost use Rattle.grammar.specs.Sentences.{spelled};
 ghost use Rattle.tree_view.specs.Members.{member};
-
-fn wide(x: u8) -> usize
-    ensures { λ r. ⌜ r ≡ x ⌝ }
-{
-    x as usize
-}
 
 fn full(x: u16) -> usize
     ensures { λ r. ⌜ (r ≡ x) × (r < 65536) ⌝ }

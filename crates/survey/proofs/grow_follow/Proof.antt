@@ -19,14 +19,14 @@ with-followers-requires c κs = search needs
 returns : tie.Need-returns
 returns c =
     let h = c .before .before in
-    let y = says-either (h .either .ensures) (h .before .before .under .ensures)
+    let y = says-either (h .either .ensures .or) (h .before .before .under .ensures)
     (h .before .has .ensures) in
     grown-where (y .is (c .before .if1 .taken)) (c .with-followers .ensures)
 
 returns-2 : tie.Need-returns-2
 returns-2 c =
     let h = c .before in
-    let y = says-either (h .either .ensures) (h .before .before .under .ensures)
+    let y = says-either (h .either .ensures .or) (h .before .before .under .ensures)
     (h .before .has .ensures) in
     grown-not (y .isnt (c .if1 .left))
 

@@ -31,7 +31,7 @@ returns c =
     let x = says-both (c .before .before .both .ensures) (h .before .before .before .has .ensures)
     (h .before .before .worded .ensures) in
     let y = says-both (c .before .both2 .ensures) (h .before .has2 .ensures) (h .has3 .ensures) in
-    says-either (c .either .ensures) x y
+    says-either (c .either .ensures .or) x y
 
 pub one-part-spec : {M : Type 1} → statement M
 one-part-spec =

@@ -15,7 +15,8 @@ either-requires c κs = search needs
 
 returns : tie.Need-returns
 returns c =
-    says-either (c .either .ensures) (c .before .before .has .ensures) (c .before .has2 .ensures)
+    says-either (c .either .ensures .or) (c .before .before .has .ensures)
+    (c .before .has2 .ensures)
 
 pub worded-spec : {M : Type 1} → statement M
 worded-spec = tie.close (tie.spec has-requires has-requires-2 either-requires returns)
