@@ -17,7 +17,7 @@
  *
  * Stack: a changed mark and the refused line need 20 KB, a sweep, a share and the test at every
  * length 60 KB, the verdict 110 KB, places 190 KB, columns 200 KB, trees, row counts and trees shown
- * 360 KB, whatever they are asked. A call on a clause sheet needs what it needs on a rule sheet, but
+ * 300 KB, whatever they are asked. A call on a clause sheet needs what it needs on a rule sheet, but
  * 40 KB at least, and so does an expansion: its readers call each other, most deeply in groups within
  * groups. TEPLONGA_STACK bytes are enough for any call.
  *

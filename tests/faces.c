@@ -795,8 +795,8 @@ static const struct {
     const char *name;
     size_t most;
 } stated[] = {
-    { "verdict", 110 },      { "trees", 360 },   { "sweep", 60 },  { "rows", 360 },  { "places", 190 },
-    { "clause_trees", 360 }, { "expand", 40 },   { "columns", 200 }, { "show", 360 }, { "change", 20 },
+    { "verdict", 110 },      { "trees", 300 },   { "sweep", 60 },  { "rows", 300 },  { "places", 190 },
+    { "clause_trees", 300 }, { "expand", 40 },   { "columns", 200 }, { "show", 300 }, { "change", 20 },
     { "share", 60 },         { "always", 60 },   { "clause_always", 60 }, { "refused_line", 20 },
 };
 
