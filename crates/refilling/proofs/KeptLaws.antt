@@ -7,7 +7,7 @@ use Prim.Native.Nat.{ℕ, _+_, _-_, _*_, _≤_, _<_}
 use native.Mathlib.Omega.{arith}
 use native.Mathlib.Decide.{ℕ-discrete, decLt}
 use lib.ListN.{length, getD, set, length-set, take, drop, length-drop}
-use lib.Seq.{getD-take, getD-drop, getD-set-same, getD-set-other, length-take-le, take-at, drop-at}
+use lib.Seq.{getD-take, getD-drop, getD-set-same, getD-set-other, length-take-le, take-at}
 use lib.Seq.{ext-getD}
 use borrow.Rule.Slice.PartMut.{putMid, same-len-mid}
 use Rattle.sets.specs.Sets.{In}
@@ -21,13 +21,15 @@ use Rattle.grammar.specs.declared.BinaryMark.the-variants as BinaryMark
 use Rattle.grammar.specs.Content.{SmallClause, SmallRule}
 use Rattle.grammar.specs.Trees.{Rules, Derives, TwoTrees}
 use Rattle.grammar.specs.SpanSheet.{pairs, pairAt, firstWord, secondWord}
-use Rattle.spans.specs.Changes.{Past, Cleared, Kept, WrotePair}
-use Rattle.spans.proofs.ChangeLaws.{past-drop}
+use Rattle.spans.specs.Changes.{Cleared, Kept, WrotePair}
 use Rattle.spans.proofs.Places.{pairAt-of, pairAt-empty, pairAt-same, pairAt-below}
 use Rattle.tables.specs.Tables.{One, Two, rule}
 use Rattle.cuts.specs.declared.Pair.{Pair}
 use Rattle.cuts.specs.declared.BinaryRules.{BinaryRules}
-use Rattle.cuts.specs.Cuts.{wordsOf, WordsSay, Ends, Starts, Row, Column}
+use Rattle.cuts.specs.declared.Masks.{Masks}
+use Rattle.cuts.specs.Cuts.{wordsOf, maskOf, Meets, Doubled, CutFits, CutBelow, CutStand, CutCounts}
+use Rattle.cuts.specs.Cuts.{WordsSay, Ends, Starts, Row, Column}
+use Rattle.cuts.proofs.CountLaws.{counts-view}
 use Rattle.cuts.specs.Places.{IsBinary, PlacedAt, Placed}
 use Rattle.cuts.proofs.Bits.{in-word}
 use Rattle.cuts.proofs.MirrorLaws.{holds-as, holds-none}
@@ -36,9 +38,11 @@ use Rattle.chains.proofs.ChainLaws.{chains-for}
 use Rattle.chart.specs.Leaves.{EmptyPair}
 use Rattle.chart.specs.Sheets.{Exact}
 use Rattle.filling.proofs.ClosingLaws.{empty-kept}
-use Rattle.refilling.specs.Kept.{markNumber, ClauseWords, RuleWords, startRows}
+use Rattle.refilling.specs.Kept.{markNumber, ClauseWords, RuleWords, startRows, endColumns}
+use Rattle.refilling.specs.Kept.{ruleAt, columnAt, rowAt, keptFor, chainsOf}
 use Rattle.refilling.specs.Kept.{Prepared, Mirror, Suits}
 use Rattle.refilling.specs.Turning.{SetRule, SetRules, Wiped, HasBits, Turned}
+use Rattle.refilling.specs.Turning.{TurnedRow, SameRules}
 
 -- ---- rules as words
 
@@ -122,19 +126,19 @@ mark-two x d e BinaryMark.Indent f = refl
 
 -- the words of a B rule, written as two pairs
 pub set-binary : {ws ws₁ ws₂ : List ℕ} {a b c d : ℕ} (i : ℕ) (r : Rule) (m : BinaryMark)
-    → WrotePair ws ws₁ (1281 + 2 * i) a b → WrotePair ws₁ ws₂ (1282 + 2 * i) c d
+    → WrotePair ws ws₁ (257 + 2 * i) a b → WrotePair ws₁ ws₂ (258 + 2 * i) c d
     → r .left ≡ a → r .clause ≡ Clause.Binary b c m → d ≡ markNumber m
-    → SetRule ws ws₂ (2562 + 4 * i) r
+    → SetRule ws ws₂ (ruleAt i) r
 set-binary {ws} {ws₁} {ws₂} {a} {b} {c} {d} i r m f g l e k = record {
   size = g .kept .long ∙ f .kept .long;
   here = λ q. record {
-    left = at (2562 + 4 * i) (2 * (1281 + 2 * i)) (omega arith)
-        ∙ g .kept .rest (2 * (1281 + 2 * i)) (omega arith) (omega arith) ∙ f .first ∙ sym l;
-    clause = subst (ClauseWords ws₂ (2562 + 4 * i)) (sym e) (
-      at (2562 + 4 * i + 1) (2 * (1281 + 2 * i) + 1) (omega arith)
-          ∙ g .kept .rest (2 * (1281 + 2 * i) + 1) (omega arith) (omega arith) ∙ f .second,
-      at (2562 + 4 * i + 2) (2 * (1282 + 2 * i)) (omega arith) ∙ g .first,
-      at (2562 + 4 * i + 3) (2 * (1282 + 2 * i) + 1) (omega arith) ∙ g .second ∙ k,
+    left = at (ruleAt i) (2 * (257 + 2 * i)) (omega arith)
+        ∙ g .kept .rest (2 * (257 + 2 * i)) (omega arith) (omega arith) ∙ f .first ∙ sym l;
+    clause = subst (ClauseWords ws₂ (ruleAt i)) (sym e) (
+      at (ruleAt i + 1) (2 * (257 + 2 * i) + 1) (omega arith)
+          ∙ g .kept .rest (2 * (257 + 2 * i) + 1) (omega arith) (omega arith) ∙ f .second,
+      at (ruleAt i + 2) (2 * (258 + 2 * i)) (omega arith) ∙ g .first,
+      at (ruleAt i + 3) (2 * (258 + 2 * i) + 1) (omega arith) ∙ g .second ∙ k,
     );
   };
   else = λ q o. ⊎-elim
@@ -157,7 +161,7 @@ pub set-none : (g : Rules) (ws : List ℕ) → SetRules g ws ws 0
 set-none g ws = record { size = refl; each = λ i h b. absurd (omega arith); else = λ q h. refl }
 
 pub set-more : {g : Rules} {ws ws′ ws″ : List ℕ} {m : ℕ} → SetRules g ws ws′ m
-    → SetRule ws′ ws″ (2562 + 4 * m) (rule g m) → SetRules g ws ws″ (m + 1)
+    → SetRule ws′ ws″ (ruleAt m) (rule g m) → SetRules g ws ws″ (m + 1)
 set-more {g} {ws} {ws′} {ws″} {m} s t = record {
   size = t .size ∙ s .size;
   each = λ i h b. go i h b (ℕ-discrete i m);
@@ -165,8 +169,8 @@ set-more {g} {ws} {ws′} {ws″} {m} s t = record {
 }
   where
     go : (i : ℕ) → i < m + 1 → IsBinary (rule g i .clause) → Dec (i ≡ m)
-        → RuleWords ws″ (2562 + 4 * i) (rule g i)
-    go i h b (yes e) = subst (λ (x : ℕ). RuleWords ws″ (2562 + 4 * x) (rule g x)) (sym e)
+        → RuleWords ws″ (ruleAt i) (rule g i)
+    go i h b (yes e) = subst (λ (x : ℕ). RuleWords ws″ (ruleAt x) (rule g x)) (sym e)
         (t .here (subst (λ (x : ℕ). IsBinary (rule g x .clause)) e b))
     go i h b (no e) =
         rule-as (λ q x y. t .else q (inl (let z : i < m = omega arith in omega arith)))
@@ -176,68 +180,81 @@ set-more {g} {ws} {ws′} {ws″} {m} s t = record {
 
 -- the table of chains is written in place: `new` in the middle of `old`
 pub made : {g : Rules} {e : Pair} {b : BinaryRules} {kept kept′ : List ℕ} (old new : List ℕ)
-    → length old ≡ 3074 → EmptyPair g (e .one) (e .two) → Chains g e new → Placed g b
-    → WrotePair (putMid 2048 512 old new) kept 1280 (b .low) (b .high)
+    → 1026 ≤ length old → length g ≤ 128 → EmptyPair g (e .one) (e .two) → Chains g e new
+    → Placed g b
+    → WrotePair (putMid 0 512 old new) kept 256 (b .low) (b .high)
     → SetRules g kept kept′ (length g) → Prepared g kept′
-made {g} {e} {b} {kept} {kept′} old new size right c p w s = record {
+made {g} {e} {b} {kept} {kept′} old new size few right c p w s = record {
   empty = e;
   right = right;
   chains = subst (Chains g e) (sym same) c;
-  low = subst (PlacedAt g 0 64) (sym (s .else 2560 (omega arith) ∙ w .first)) (p .low);
-  high = subst (PlacedAt g 64 64) (sym (s .else 2561 (omega arith) ∙ w .second)) (p .high);
-  rules = record { size = s .size ∙ w .kept .long ∙ whole; each = s .each };
+  low = subst (PlacedAt g 0 64) (sym (s .else 512 (omega arith) ∙ w .first)) (p .low);
+  high = subst (PlacedAt g 64 64) (sym (s .else 513 (omega arith) ∙ w .second)) (p .high);
+  rules = record {
+    size = omega (arith, s .size, w .kept .long, whole);
+    few = few;
+    each = s .each;
+  };
 }
   where
-    middle : length (take 512 (drop 2048 old)) ≡ 512
-    middle = length-take-le 512 (drop 2048 old) (omega (arith, length-drop 2048 old))
+    middle : length (take 512 old) ≡ 512
+    middle = length-take-le 512 old (omega arith)
 
-    whole : length (putMid 2048 512 old new) ≡ 3074
-    whole = same-len-mid 2048 512 old new (c .size ∙ sym middle) ∙ size
+    whole : length (putMid 0 512 old new) ≡ length old
+    whole = same-len-mid 0 512 old new (c .size ∙ sym middle)
 
-    table : take 512 (drop 2048 (putMid 2048 512 old new)) ≡ new
-    table = ap (take 512) (drop-at (take 2048 old) _ 2048 (length-take-le 2048 old (omega arith)))
-        ∙ take-at new _ 512 (c .size)
+    words : (i : ℕ) → i < 512 → getD kept′ i 0 ≡ getD (putMid 0 512 old new) i 0
+    words i h = s .else i (omega arith) ∙ w .kept .rest i (omega arith) (omega arith)
 
-    words : (i : ℕ) → i < 512 → getD kept′ (2048 + i) 0 ≡ getD (putMid 2048 512 old new) (2048 + i)
-        0
-    words i h = s .else (2048 + i) (omega arith)
-        ∙ w .kept .rest (2048 + i) (omega arith) (omega arith)
+    long : length (take 512 kept′) ≡ 512
+    long = length-take-le 512 kept′ (omega (arith, s .size, w .kept .long, whole))
 
-    long : length (take 512 (drop 2048 kept′)) ≡ 512
-    long = length-take-le 512 (drop 2048 kept′)
-        (omega (arith, length-drop 2048 kept′, s .size, w .kept .long, whole))
-
-    same : take 512 (drop 2048 kept′) ≡ new
-    same = ext-getD 0 (take 512 (drop 2048 kept′)) new (long ∙ sym (c .size))
+    same : take 512 kept′ ≡ new
+    same = ext-getD 0 (take 512 kept′) new (long ∙ sym (c .size))
         (λ i h. let k : i < 512 = omega (arith, long) in
-        getD-take 512 (drop 2048 kept′) i 0 k ∙ getD-drop 2048 kept′ i 0 ∙ words i k
-        ∙ sym (getD-take 512 (drop 2048 (putMid 2048 512 old new)) i 0 k
-        ∙ getD-drop 2048 (putMid 2048 512 old new) i 0)
-        ∙ ap (λ (x : List ℕ). getD x i 0) table)
+        getD-take 512 kept′ i 0 k ∙ words i k
+        ∙ sym (getD-take 512 (putMid 0 512 old new) i 0 k)
+        ∙ ap (λ (x : List ℕ). getD x i 0) (take-at new _ 512 (c .size)))
 
 -- ---- what is kept from one filling to the next
 
--- the words past rows and columns are as they were
-pub prepared-past : {g : Rules} {kept kept′ : List ℕ} → Past 2048 kept kept′ → Prepared g kept
+-- the table of chains is as it was
+same-chains : {kept kept′ : List ℕ} → 1026 ≤ length kept → SameRules kept kept′
+    → chainsOf kept′ ≡ chainsOf kept
+same-chains {kept} {kept′} h k = ext-getD 0 (take 512 kept′) (take 512 kept) (long ∙ sym was)
+    (λ i l. let x : i < 512 = omega (arith, long) in
+    getD-take 512 kept′ i 0 x ∙ k .first i (omega arith) ∙ sym (getD-take 512 kept i 0 x))
+  where
+    was : length (take 512 kept) ≡ 512
+    was = length-take-le 512 kept (omega arith)
+
+    long : length (take 512 kept′) ≡ 512
+    long = length-take-le 512 kept′ (omega (arith, k .size))
+
+-- so is all that is made for the rules
+pub prepared-same : {g : Rules} {kept kept′ : List ℕ} → SameRules kept kept′ → Prepared g kept
     → Prepared g kept′
-prepared-past {g} {kept} {kept′} k p = record {
+prepared-same {g} {kept} {kept′} k p = record {
   empty = p .empty;
   right = p .right;
-  chains = subst (λ (x : List ℕ). Chains g (p .empty) (take 512 x)) (sym (past-drop k)) (p .chains);
-  low = subst (PlacedAt g 0 64) (sym (k .rest 2560 (omega arith))) (p .low);
-  high = subst (PlacedAt g 64 64) (sym (k .rest 2561 (omega arith))) (p .high);
+  chains = subst (Chains g (p .empty)) (sym (same-chains (p .rules .size) k)) (p .chains);
+  low = subst (PlacedAt g 0 64) (sym (k .first 512 (omega arith))) (p .low);
+  high = subst (PlacedAt g 64 64) (sym (k .first 513 (omega arith))) (p .high);
   rules = record {
-    size = k .long ∙ p .rules .size;
-    each = λ i h b. rule-as (λ q x y. k .rest q (omega arith)) (p .rules .each i h b);
+    size = omega (arith, k .size, p .rules .size);
+    few = p .rules .few;
+    each = λ i h b. rule-as (λ q x y. k .first q (omega (arith, p .rules .few)))
+        (p .rules .each i h b);
   };
 }
 
-pub suits-past : {g : Rules} {ws ws′ kept kept′ : List ℕ} (n s len : ℕ) → 0 < len
-    → Kept ws ws′ (pairAt n s len) → Past 2048 kept kept′ → Suits g ws kept → Suits g ws′ kept′
-suits-past {g} n s len pos w k t = record {
+pub suits-same : {g : Rules} {ws ws′ kept kept′ : List ℕ} (n s len : ℕ) → 0 < len
+    → 1026 ≤ length kept → Kept ws ws′ (pairAt n s len) → SameRules kept kept′ → Suits g ws kept
+    → Suits g ws′ kept′
+suits-same {g} n s len pos h w k t = record {
   empty = t .empty;
   begins = empty-kept n s len pos w (t .begins);
-  chains = subst (λ (x : List ℕ). Chains g (t .empty) (take 512 x)) (sym (past-drop k)) (t .chains);
+  chains = subst (Chains g (t .empty)) (sym (same-chains h k)) (t .chains);
 }
 
 -- a sheet that is right for the empty word goes with the table of chains
@@ -271,7 +288,7 @@ pub rows-say : {ws kept : List ℕ} {n s : ℕ} → s < n → Mirror ws n kept
     → Row ws n s (n + 1) (startRows kept s)
 rows-say {ws} {kept} {n} {s} h m =
     let w = m .row s h in
-    let p = 1024 + 128 * s in
+    let p = rowAt s in
     record {
       once = λ A c l.
           let e = part-word kept p (0 + 2 * A) (p + 2 * A) (omega arith) (omega arith) in
@@ -281,7 +298,102 @@ rows-say {ws} {kept} {n} {s} h m =
           (λ i. w .twice A c l .0 (in-word e i), λ i. in-word (sym e) (w .twice A c l .1 i));
     }
 
+-- ---- the column of an end, at the place that it has in one filling
+
+from-there : (kept : List ℕ) (j x y : ℕ) → 1026 + 128 * j + x ≡ y
+    → getD (endColumns kept j) x 0 ≡ getD kept y 0
+from-there kept j x y e =
+    getD-drop (1026 + 128 * j) kept x 0 ∙ ap (λ (z : ℕ). getD kept z 0) e
+
+end-words : (kept : List ℕ) (j A : ℕ)
+    → wordsOf (endColumns kept j) (128 * j) A ≡ wordsOf kept (columnAt j) A
+end-words kept j A = λ i. record { one = one i; two = two i }
+  where
+    one : getD (endColumns kept j) (128 * j + 2 * A) 0 ≡ getD kept (columnAt j + 2 * A) 0
+    one = from-there kept j (128 * j + 2 * A) (columnAt j + 2 * A) (omega arith)
+
+    two : getD (endColumns kept j) (128 * j + 2 * A + 1) 0 ≡ getD kept (columnAt j + 2 * A + 1) 0
+    two = from-there kept j (128 * j + 2 * A + 1) (columnAt j + 2 * A + 1) (omega arith)
+
+pub column-says : {ws kept : List ℕ} {n j : ℕ} → j ≤ n → Mirror ws n kept
+    → Column ws n 0 j (endColumns kept j)
+column-says {ws} {kept} {n} {j} h m =
+    let w = m .column j h in
+    record {
+      once = λ A c l.
+          let e = ap (λ (x : Pair). x .one) (end-words kept j A) in
+          (λ i. w .once A c l .0 (in-word e i), λ i. in-word (sym e) (w .once A c l .1 i));
+      twice = λ A c l.
+          let e = ap (λ (x : Pair). x .two) (end-words kept j A) in
+          (λ i. w .twice A c l .0 (in-word e i), λ i. in-word (sym e) (w .twice A c l .1 i));
+    }
+
+-- what is counted there is counted here
+module _ (rows kept : List ℕ) (j : ℕ) (w : Masks) where
+  fits-there : (c : Clause) (x : ℕ) → CutFits rows kept (columnAt j) w c x
+      ≡ CutFits rows (endColumns kept j) (128 * j) w c x
+  fits-there Clause.Empty x = refl
+  fits-there (Clause.Atom a b) x = refl
+  fits-there (Clause.Unary B m) x = refl
+  fits-there (Clause.Binary B C m) x =
+      ap (λ (y : Pair). Meets (wordsOf rows 0 B) y (maskOf w m) x) (sym (end-words kept j C))
+
+  below-there : (c : Clause) (x : ℕ) → CutBelow rows kept (columnAt j) c x
+      ≡ CutBelow rows (endColumns kept j) (128 * j) c x
+  below-there Clause.Empty x = refl
+  below-there (Clause.Atom a b) x = refl
+  below-there (Clause.Unary B m) x = refl
+  below-there (Clause.Binary B C m) x =
+      ap (λ (y : Pair). Doubled (wordsOf rows 0 B) y x) (sym (end-words kept j C))
+
+  pub counts-there : (g : Rules) (upto : ℕ) (t : Pair)
+      → CutCounts rows kept (columnAt j) w g upto t
+      → CutCounts rows (endColumns kept j) (128 * j) w g upto t
+  counts-there g upto t = counts-view (CutStand rows kept (columnAt j) w g upto)
+      (CutStand rows (endColumns kept j) (128 * j) w g upto)
+      (λ i c. CutBelow rows kept (columnAt j) (rule g i .clause) c)
+      (λ i c. CutBelow rows (endColumns kept j) (128 * j) (rule g i .clause) c)
+      (λ c. c) (λ c. c)
+      (λ A i c q. record {
+        within = q .within;
+        left = q .left;
+        fits = subst (λ (X : Type 0). X) (fits-there (rule g i .clause) c) (q .fits);
+      })
+      (λ A i c q. record {
+        within = q .within;
+        left = q .left;
+        fits = subst (λ (X : Type 0). X) (sym (fits-there (rule g i .clause) c)) (q .fits);
+      })
+      (λ A i c q b. subst (λ (X : Type 0). X) (below-there (rule g i .clause) c) b)
+      (λ A i c q b. subst (λ (X : Type 0). X) (sym (below-there (rule g i .clause) c)) b)
+      (λ A i a k b x y e. e) (λ A i a k b x y e. e) t
+
 -- ---- a pair changes
+
+-- rows and columns do not overlap
+row-off : (a j x : ℕ) → rowAt a ≤ x → x < rowAt a + 128
+    → (x < columnAt j) ⊎ (columnAt j + 128 ≤ x)
+row-off a j x y z = go (decLt a j)
+  where
+    go : Dec (a < j) → (x < columnAt j) ⊎ (columnAt j + 128 ≤ x)
+    go (yes l) = inl (omega arith)
+    go (no l) = inr (omega arith)
+
+column-off : (j a x : ℕ) → columnAt j ≤ x → x < columnAt j + 128
+    → (x < rowAt a) ⊎ (rowAt a + 128 ≤ x)
+column-off j a x y z = go (decLt a j)
+  where
+    go : Dec (a < j) → (x < rowAt a) ⊎ (rowAt a + 128 ≤ x)
+    go (yes l) = inr (omega arith)
+    go (no l) = inl (omega arith)
+
+turned-else : {ws ws′ : List ℕ} {p e : ℕ} {t : Pair} → TurnedRow ws ws′ p t e → (x : ℕ)
+    → (x < p) ⊎ (p + 128 ≤ x) → getD ws′ x 0 ≡ getD ws x 0
+turned-else {ws} {ws′} {p} {e} {t} r x o = go (decLt e 64)
+  where
+    go : Dec (e < 64) → getD ws′ x 0 ≡ getD ws x 0
+    go (yes l) = r .inner l .else x o
+    go (no l) = ap (λ (k : List ℕ). getD k x 0) (r .last (omega arith))
 
 -- words whose bit e is turned over go on to say what holds
 says-turned : {words words′ : List ℕ} {p e : ℕ} (t : Pair) (one two one′ two′ : ℕ → ℕ → Type 0)
@@ -313,12 +425,12 @@ says-turned {words} {words′} {p} {e} t one two one′ two′ f x g y q h = rec
       λ i. q .twice A c l z .1 (h .twice A c l .1 (g c A z .1 i)),
     )
 
-module _ {ws kept : List ℕ} {n : ℕ} (s len : ℕ) (few : n ≤ 7) (fit : s + len ≤ n) (pos : 0 < len)
+module _ {ws kept : List ℕ} {n : ℕ} (s len : ℕ) (few : n ≤ 64) (fit : s + len ≤ n) (pos : 0 < len)
     (m : Mirror ws n kept) where
   -- what row and column say of the span
   pub row-has : (o : Pair) → firstWord ws n s len ≡ o .one → secondWord ws n s len ≡ o .two
-      → HasBits kept (1024 + 128 * s) o (s + len)
-  row-has o x y =
+      → s + len < 64 → HasBits kept (rowAt s) o (s + len)
+  row-has o x y low =
       let w = m .row s (omega arith) in
       let z : s + len - s ≡ len = omega arith in
       let r : Ends s (n + 1) (s + len) =
@@ -334,23 +446,25 @@ module _ {ws kept : List ℕ} {n : ℕ} (s len : ℕ) (few : n ≤ 7) (fit : s +
         );
       }
 
-  pub column-has : {kept′ : List ℕ} (o : Pair)
-      → ((q : ℕ) → q < 1024 → getD kept′ q 0 ≡ getD kept q 0)
+  pub column-has : {kept′ : List ℕ} {t : Pair} (o : Pair)
+      → TurnedRow kept kept′ (rowAt s) t (s + len)
       → firstWord ws n s len ≡ o .one → secondWord ws n s len ≡ o .two
-      → HasBits kept′ (128 * (s + len)) o s
-  column-has {kept′} o k x y =
+      → HasBits kept′ (columnAt (s + len)) o s
+  column-has {kept′} {t} o k x y =
       let w = m .column (s + len) fit in
       let z : s + len - s ≡ len = omega arith in
       let r : Starts 0 (s + len) s = record { from = omega arith; before = omega arith } in
       record {
         once = λ A h.
-            let e = k (128 * (s + len) + 2 * A) (omega arith) in (
+            let e = turned-else k (columnAt (s + len) + 2 * A)
+            (column-off (s + len) s _ (omega arith) (omega arith)) in (
               λ i. in-word (ap (firstWord ws n s) z ∙ x) (w .once A s h .0 (in-word e i) .1),
               λ i. in-word (sym e) (w .once A s h .1
                   (r, in-word (sym (ap (firstWord ws n s) z ∙ x)) i)),
             );
         twice = λ A h.
-            let e = k (128 * (s + len) + 2 * A + 1) (omega arith) in (
+            let e = turned-else k (columnAt (s + len) + 2 * A + 1)
+            (column-off (s + len) s _ (omega arith) (omega arith)) in (
               λ i. in-word (ap (secondWord ws n s) z ∙ y) (w .twice A s h .0 (in-word e i) .1),
               λ i. in-word (sym e) (w .twice A s h .1
                   (r, in-word (sym (ap (secondWord ws n s) z ∙ y)) i)),
@@ -359,8 +473,8 @@ module _ {ws kept : List ℕ} {n : ℕ} (s len : ℕ) (few : n ≤ 7) (fit : s +
 
   module _ {ws′ kept₁ kept₂ : List ℕ} (t : Pair)
       (w : WrotePair ws ws′ (pairAt n s len) (t .one) (t .two))
-      (r : Turned kept kept₁ (1024 + 128 * s) t (s + len))
-      (q : Turned kept₁ kept₂ (128 * (s + len)) t s) where
+      (r : TurnedRow kept kept₁ (rowAt s) t (s + len))
+      (q : Turned kept₁ kept₂ (columnAt (s + len)) t s) where
     other : (a b : ℕ) → a + b ≤ n → ((a ≡ s) × (b ≡ len) → ⊥) → pairAt n a b ≡ pairAt n s len → ⊥
     other a b f o e = let z = pairAt-same n a b s len f fit e in
         ⊎-elim (λ x. omega (arith, z .0)) (λ x. o (x, z .0)) (z .1)
@@ -379,18 +493,20 @@ module _ {ws kept : List ℕ} {n : ℕ} (s len : ℕ) (few : n ≤ 7) (fit : s +
     module _ (F F′ : ℕ → ℕ → ℕ) (v : ℕ)
         (same : (a b : ℕ) → a + b ≤ n → ((a ≡ s) × (b ≡ len) → ⊥) → F′ a b ≡ F a b)
         (mine : F′ s len ≡ v) where
-      row-on : (a c A : ℕ) → ((a ≡ s) × (c ≡ s + len) → ⊥)
+      row-on : (a c A : ℕ) → (c < 64 → (a ≡ s) × (c ≡ s + len) → ⊥)
           → (Ends a (n + 1) c × In (F a (c - a)) A) ↔ (Ends a (n + 1) c × In (F′ a (c - a)) A)
       row-on a c A o = (
         λ z.
             let x = z .0 .after in
             let y = z .0 .before in
-            let e = same a (c - a) (omega arith) (λ u. o (u .0, omega (arith, u .0, u .1))) in
+            let e = same a (c - a) (omega arith)
+            (λ u. o (z .0 .fits) (u .0, omega (arith, u .0, u .1))) in
             (z .0, in-word (sym e) (z .1)),
         λ z.
             let x = z .0 .after in
             let y = z .0 .before in
-            let e = same a (c - a) (omega arith) (λ u. o (u .0, omega (arith, u .0, u .1))) in
+            let e = same a (c - a) (omega arith)
+            (λ u. o (z .0 .fits) (u .0, omega (arith, u .0, u .1))) in
             (z .0, in-word e (z .1)),
       )
 
@@ -410,8 +526,9 @@ module _ {ws kept : List ℕ} {n : ℕ} (s len : ℕ) (few : n ≤ 7) (fit : s +
       back : F′ s (s + len - s) ≡ v
       back = ap (F′ s) (let z : s + len - s ≡ len = omega arith in z) ∙ mine
 
-      row-here : (A : ℕ) → In v A ↔ (Ends s (n + 1) (s + len) × In (F′ s (s + len - s)) A)
-      row-here A = (
+      row-here : s + len < 64 → (A : ℕ)
+          → In v A ↔ (Ends s (n + 1) (s + len) × In (F′ s (s + len - s)) A)
+      row-here low A = (
         λ i. (
           record { after = omega arith; before = omega arith; fits = omega arith },
           in-word (sym back) i,
@@ -426,69 +543,90 @@ module _ {ws kept : List ℕ} {n : ℕ} (s len : ℕ) (few : n ≤ 7) (fit : s +
       )
 
     -- rows of another start, and columns of another end
-    row-else : (a : ℕ) → a < n → (a ≡ s → ⊥) → (x : ℕ) → 1024 + 128 * a ≤ x
-        → x < 1024 + 128 * a + 128 → getD kept₂ x 0 ≡ getD kept x 0
-    row-else a h o x y z = q .else x (inr (omega arith)) ∙ r .else x (go (decLt a s))
+    row-else : (a : ℕ) → (a ≡ s → ⊥) → (x : ℕ) → rowAt a ≤ x → x < rowAt a + 128
+        → getD kept₂ x 0 ≡ getD kept x 0
+    row-else a o x y z = q .else x (row-off a (s + len) x y z) ∙ turned-else r x (go (decLt a s))
       where
-        go : Dec (a < s) → (x < 1024 + 128 * s) ⊎ (1024 + 128 * s + 128 ≤ x)
+        go : Dec (a < s) → (x < rowAt s) ⊎ (rowAt s + 128 ≤ x)
         go (yes l) = inl (omega arith)
         go (no l) = inr (let u : s < a = omega arith in omega arith)
 
-    column-else : (j : ℕ) → j ≤ n → (j ≡ s + len → ⊥) → (x : ℕ) → 128 * j ≤ x
-        → x < 128 * j + 128 → getD kept₂ x 0 ≡ getD kept x 0
-    column-else j h o x y z = q .else x (go (decLt j (s + len))) ∙ r .else x (inl (omega arith))
+    column-else : (j : ℕ) → (j ≡ s + len → ⊥) → (x : ℕ) → columnAt j ≤ x
+        → x < columnAt j + 128 → getD kept₂ x 0 ≡ getD kept x 0
+    column-else j o x y z =
+        q .else x (go (decLt j (s + len))) ∙ turned-else r x (column-off j s x y z)
       where
-        go : Dec (j < s + len) → (x < 128 * (s + len)) ⊎ (128 * (s + len) + 128 ≤ x)
+        go : Dec (j < s + len) → (x < columnAt (s + len)) ⊎ (columnAt (s + len) + 128 ≤ x)
         go (yes l) = inl (omega arith)
         go (no l) = inr (let u : s + len < j = omega arith in omega arith)
 
-    row-kept : (a : ℕ) → a < n → (a ≡ s → ⊥) → WordsSay kept₂ (1024 + 128 * a)
+    row-kept : (a : ℕ) → a < n → (a ≡ s → ⊥) → WordsSay kept₂ (rowAt a)
         (λ c A. Ends a (n + 1) c × One ws′ n a (c - a) A)
         (λ c A. Ends a (n + 1) c × Two ws′ n a (c - a) A)
     row-kept a h o =
         holds-as (λ c A. Ends a (n + 1) c × One ws n a (c - a) A)
         (λ c A. Ends a (n + 1) c × Two ws n a (c - a) A)
         (λ c A. Ends a (n + 1) c × One ws′ n a (c - a) A)
-        (λ c A. Ends a (n + 1) c × Two ws′ n a (c - a) A) (row-else a h o)
+        (λ c A. Ends a (n + 1) c × Two ws′ n a (c - a) A) (row-else a o)
         (λ c A. row-on (firstWord ws n) (firstWord ws′ n) (t .one) one-as (w .first) a c A
-        (λ u. o (u .0)))
+        (λ l u. o (u .0)))
         (λ c A. row-on (secondWord ws n) (secondWord ws′ n) (t .two) two-as (w .second) a c A
-        (λ u. o (u .0))) (m .row a h)
+        (λ l u. o (u .0))) (m .row a h)
 
-    column-kept : (j : ℕ) → j ≤ n → (j ≡ s + len → ⊥) → Column ws′ n 0 j kept₂
+    column-kept : (j : ℕ) → j ≤ n → (j ≡ s + len → ⊥) → WordsSay kept₂ (columnAt j)
+        (λ c A. Starts 0 j c × One ws′ n c (j - c) A) (λ c A. Starts 0 j c × Two ws′ n c (j - c) A)
     column-kept j h o =
         holds-as (λ c A. Starts 0 j c × One ws n c (j - c) A)
         (λ c A. Starts 0 j c × Two ws n c (j - c) A)
         (λ c A. Starts 0 j c × One ws′ n c (j - c) A)
-        (λ c A. Starts 0 j c × Two ws′ n c (j - c) A) (column-else j h o)
+        (λ c A. Starts 0 j c × Two ws′ n c (j - c) A) (column-else j o)
         (λ c A. column-on (firstWord ws n) (firstWord ws′ n) (t .one) one-as (w .first) j c A h
         (λ u. o (u .0)))
         (λ c A. column-on (secondWord ws n) (secondWord ws′ n) (t .two) two-as (w .second) j c A h
         (λ u. o (u .0))) (m .column j h)
 
-    -- the rows of its start, whose words the column's turn leaves alone
-    row-put : WordsSay kept₂ (1024 + 128 * s) (λ c A. Ends s (n + 1) c × One ws′ n s (c - s) A)
+    -- the rows of its start: turned over, or left alone where the span ends at 64
+    row-turned : Dec (s + len < 64) → WordsSay kept₁ (rowAt s)
+        (λ c A. Ends s (n + 1) c × One ws′ n s (c - s) A)
+        (λ c A. Ends s (n + 1) c × Two ws′ n s (c - s) A)
+    row-turned (yes low) =
+        says-turned t (λ c A. Ends s (n + 1) c × One ws n s (c - s) A)
+        (λ c A. Ends s (n + 1) c × Two ws n s (c - s) A)
+        (λ c A. Ends s (n + 1) c × One ws′ n s (c - s) A)
+        (λ c A. Ends s (n + 1) c × Two ws′ n s (c - s) A)
+        (λ c A o. row-on (firstWord ws n) (firstWord ws′ n) (t .one) one-as (w .first) s c A
+        (λ l u. o (u .1)))
+        (row-here (firstWord ws n) (firstWord ws′ n) (t .one) one-as (w .first) low)
+        (λ c A o. row-on (secondWord ws n) (secondWord ws′ n) (t .two) two-as (w .second) s c A
+        (λ l u. o (u .1)))
+        (row-here (secondWord ws n) (secondWord ws′ n) (t .two) two-as (w .second) low)
+        (r .inner low) (m .row s (omega arith))
+    row-turned (no high) =
+        holds-as (λ c A. Ends s (n + 1) c × One ws n s (c - s) A)
+        (λ c A. Ends s (n + 1) c × Two ws n s (c - s) A)
+        (λ c A. Ends s (n + 1) c × One ws′ n s (c - s) A)
+        (λ c A. Ends s (n + 1) c × Two ws′ n s (c - s) A)
+        (λ x y z. ap (λ (k : List ℕ). getD k x 0) (r .last (omega arith)))
+        (λ c A. row-on (firstWord ws n) (firstWord ws′ n) (t .one) one-as (w .first) s c A
+        (λ l u. high (omega (arith, u .1))))
+        (λ c A. row-on (secondWord ws n) (secondWord ws′ n) (t .two) two-as (w .second) s c A
+        (λ l u. high (omega (arith, u .1)))) (m .row s (omega arith))
+
+    -- their words the column's turn leaves alone
+    row-put : WordsSay kept₂ (rowAt s) (λ c A. Ends s (n + 1) c × One ws′ n s (c - s) A)
         (λ c A. Ends s (n + 1) c × Two ws′ n s (c - s) A)
     row-put =
         holds-as (λ c A. Ends s (n + 1) c × One ws′ n s (c - s) A)
         (λ c A. Ends s (n + 1) c × Two ws′ n s (c - s) A)
         (λ c A. Ends s (n + 1) c × One ws′ n s (c - s) A)
         (λ c A. Ends s (n + 1) c × Two ws′ n s (c - s) A)
-        (λ x y z. q .else x (inr (omega arith))) (λ c A. (λ i. i, λ i. i)) (λ c A. (λ i. i, λ i. i))
-        (says-turned t (λ c A. Ends s (n + 1) c × One ws n s (c - s) A)
-        (λ c A. Ends s (n + 1) c × Two ws n s (c - s) A)
-        (λ c A. Ends s (n + 1) c × One ws′ n s (c - s) A)
-        (λ c A. Ends s (n + 1) c × Two ws′ n s (c - s) A)
-        (λ c A o. row-on (firstWord ws n) (firstWord ws′ n) (t .one) one-as (w .first) s c A
-        (λ u. o (u .1)))
-        (row-here (firstWord ws n) (firstWord ws′ n) (t .one) one-as (w .first))
-        (λ c A o. row-on (secondWord ws n) (secondWord ws′ n) (t .two) two-as (w .second) s c A
-        (λ u. o (u .1)))
-        (row-here (secondWord ws n) (secondWord ws′ n) (t .two) two-as (w .second)) r
-        (m .row s (omega arith)))
+        (λ x y z. q .else x (row-off s (s + len) x y z)) (λ c A. (λ i. i, λ i. i))
+        (λ c A. (λ i. i, λ i. i)) (row-turned (decLt (s + len) 64))
 
     -- the columns of its end, whose words the row's turn left alone
-    column-put : Column ws′ n 0 (s + len) kept₂
+    column-put : WordsSay kept₂ (columnAt (s + len))
+        (λ c A. Starts 0 (s + len) c × One ws′ n c (s + len - c) A)
+        (λ c A. Starts 0 (s + len) c × Two ws′ n c (s + len - c) A)
     column-put =
         says-turned t (λ c A. Starts 0 (s + len) c × One ws n c (s + len - c) A)
         (λ c A. Starts 0 (s + len) c × Two ws n c (s + len - c) A)
@@ -504,40 +642,48 @@ module _ {ws kept : List ℕ} {n : ℕ} (s len : ℕ) (few : n ≤ 7) (fit : s +
         (λ c A. Starts 0 (s + len) c × Two ws n c (s + len - c) A)
         (λ c A. Starts 0 (s + len) c × One ws n c (s + len - c) A)
         (λ c A. Starts 0 (s + len) c × Two ws n c (s + len - c) A)
-        (λ x y z. r .else x (inl (omega arith))) (λ c A. (λ i. i, λ i. i)) (λ c A. (λ i. i, λ i. i))
+        (λ x y z. turned-else r x (column-off (s + len) s x y z)) (λ c A. (λ i. i, λ i. i))
+        (λ c A. (λ i. i, λ i. i))
         (m .column (s + len) fit))
 
     pub mirror-put : Mirror ws′ n kept₂
     mirror-put = record {
+      long = omega (arith, m .long, r .size, q .size);
       row = λ a h. row a h (ℕ-discrete a s);
       column = λ j h. column j h (ℕ-discrete j (s + len));
     }
       where
-        row : (a : ℕ) → a < n → Dec (a ≡ s) → WordsSay kept₂ (1024 + 128 * a)
+        row : (a : ℕ) → a < n → Dec (a ≡ s) → WordsSay kept₂ (rowAt a)
             (λ c A. Ends a (n + 1) c × One ws′ n a (c - a) A)
             (λ c A. Ends a (n + 1) c × Two ws′ n a (c - a) A)
         row a h (yes e) =
-            subst (λ (x : ℕ). WordsSay kept₂ (1024 + 128 * x)
+            subst (λ (x : ℕ). WordsSay kept₂ (rowAt x)
             (λ c A. Ends x (n + 1) c × One ws′ n x (c - x) A)
             (λ c A. Ends x (n + 1) c × Two ws′ n x (c - x) A)) (sym e) row-put
         row a h (no e) = row-kept a h e
 
-        column : (j : ℕ) → j ≤ n → Dec (j ≡ s + len) → Column ws′ n 0 j kept₂
-        column j h (yes e) = subst (λ (x : ℕ). Column ws′ n 0 x kept₂) (sym e) column-put
+        column : (j : ℕ) → j ≤ n → Dec (j ≡ s + len) → WordsSay kept₂ (columnAt j)
+            (λ c A. Starts 0 j c × One ws′ n c (j - c) A)
+            (λ c A. Starts 0 j c × Two ws′ n c (j - c) A)
+        column j h (yes e) =
+            subst (λ (x : ℕ). WordsSay kept₂ (columnAt x)
+            (λ c A. Starts 0 x c × One ws′ n c (x - c) A)
+            (λ c A. Starts 0 x c × Two ws′ n c (x - c) A)) (sym e) column-put
         column j h (no e) = column-kept j h e
 
-    -- the words past rows and columns are as they were
-    pub put-past : Past 2048 kept kept₂
-    put-past = record {
-      long = q .size ∙ r .size;
-      rest = λ x h. q .else x (inr (omega arith)) ∙ r .else x (inr (omega arith));
+    -- the words before rows and columns are as they were
+    pub put-same : SameRules kept kept₂
+    put-same = record {
+      size = q .size ∙ r .size;
+      first = λ x h. q .else x (inl (omega arith)) ∙ turned-else r x (inl (omega arith));
     }
 
 -- ---- the pair of the empty word changes: rows and columns do not speak of it
 
-pub mirror-empty : {ws ws′ kept : List ℕ} {n a b : ℕ} → n ≤ 7 → WrotePair ws ws′ 0 a b
+pub mirror-empty : {ws ws′ kept : List ℕ} {n a b : ℕ} → WrotePair ws ws′ 0 a b
     → Mirror ws n kept → Mirror ws′ n kept
-mirror-empty {ws} {ws′} {kept} {n} few w m = record {
+mirror-empty {ws} {ws′} {kept} {n} w m = record {
+  long = m .long;
   row = λ s h. holds-as (λ c A. Ends s (n + 1) c × One ws n s (c - s) A)
       (λ c A. Ends s (n + 1) c × Two ws n s (c - s) A)
       (λ c A. Ends s (n + 1) c × One ws′ n s (c - s) A)
@@ -598,19 +744,20 @@ wiped-more {ws} {ws′} {from} {m} h w = record {
 
 -- ---- a sheet is opened: all its words are 0, and so are rows and columns
 
-pub mirror-open : {ws ws′ kept kept₁ kept₂ : List ℕ} {n : ℕ} → n ≤ 7 → Cleared ws ws′ (2 * pairs n)
-    → Wiped kept kept₁ 0 (128 * (n + 1)) → Wiped kept₁ kept₂ 1024 (128 * n) → Mirror ws′ n kept₂
-mirror-open {ws} {ws′} {kept} {kept₁} {kept₂} {n} few c f g = record {
+pub mirror-open : {ws ws′ kept kept′ : List ℕ} {n : ℕ} → keptFor n ≤ length kept
+    → Cleared ws ws′ (2 * pairs n) → Wiped kept kept′ 1026 (256 * (n + 1)) → Mirror ws′ n kept′
+mirror-open {ws} {ws′} {kept} {kept′} {n} long c f = record {
+  long = omega (arith, f .size);
   row = λ s h. holds-none (λ c A. Ends s (n + 1) c × One ws′ n s (c - s) A)
       (λ c A. Ends s (n + 1) c × Two ws′ n s (c - s) A)
-      (λ q x y. g .zeros q (omega arith) (omega arith))
+      (λ q x y. f .zeros q (omega arith) (omega arith))
       (λ k A z. let x = z .0 .after in let y = z .0 .before in
       empty₁ s (k - s) A (omega arith) (z .1))
       (λ k A z. let x = z .0 .after in let y = z .0 .before in
       empty₂ s (k - s) A (omega arith) (z .1));
   column = λ j h. holds-none (λ c A. Starts 0 j c × One ws′ n c (j - c) A)
       (λ c A. Starts 0 j c × Two ws′ n c (j - c) A)
-      (λ q x y. g .else q (inl (omega arith)) ∙ f .zeros q (omega arith) (omega arith))
+      (λ q x y. f .zeros q (omega arith) (omega arith))
       (λ k A z. let x = z .0 .before in empty₁ k (j - k) A (omega arith) (z .1))
       (λ k A z. let x = z .0 .before in empty₂ k (j - k) A (omega arith) (z .1));
 }
@@ -623,12 +770,8 @@ mirror-open {ws} {ws′} {kept} {kept₁} {kept₂} {n} few c f g = record {
     empty₂ a b A h i = let l = pairAt-below n a b h in
         in-zero A (in-word (c .zeros (2 * pairAt n a b + 1) (omega arith)) i)
 
-pub open-past : {kept kept₁ kept₂ : List ℕ} {n : ℕ} → n ≤ 7 → Wiped kept kept₁ 0 (128 * (n + 1))
-    → Wiped kept₁ kept₂ 1024 (128 * n) → Past 2048 kept kept₂
-open-past few f g = record {
-  long = g .size ∙ f .size;
-  rest = λ q h. g .else q (inr (omega arith)) ∙ f .else q (inr (omega arith));
-}
+pub open-same : {kept kept′ : List ℕ} {m : ℕ} → Wiped kept kept′ 1026 m → SameRules kept kept′
+open-same f = record { size = f .size; first = λ q h. f .else q (inl (omega arith)) }
 
 -- a part of 128 words has them
 pub part-long : (kept : List ℕ) (p m : ℕ) → m ≡ 128 → p + 128 ≤ length kept

@@ -12,7 +12,7 @@ use Rattle.tables.specs.Tables.{rule}
 use Rattle.cuts.specs.declared.Pair.{Pair}
 use Rattle.cuts.specs.Cuts.{wordsOf}
 use Rattle.cuts.specs.Places.{IsBinary}
-use Rattle.refilling.specs.Kept.{RuleWords}
+use Rattle.refilling.specs.Kept.{ruleAt, RuleWords}
 
 -- the words of the rule r are written from p on, if it is a B rule
 pub record SetRule (ws ws′ : List ℕ) (p : ℕ) (r : Rule) : Type 0 where
@@ -23,8 +23,8 @@ pub record SetRule (ws ws′ : List ℕ) (p : ℕ) (r : Rule) : Type 0 where
 -- those of the first m rules
 pub record SetRules (g : Rules) (ws ws′ : List ℕ) (m : ℕ) : Type 0 where
   pub size : length ws′ ≡ length ws
-  pub each : (i : ℕ) → i < m → IsBinary (rule g i .clause) → RuleWords ws′ (2562 + 4 * i) (rule g i)
-  pub else : (q : ℕ) → q < 2562 → getD ws′ q 0 ≡ getD ws q 0
+  pub each : (i : ℕ) → i < m → IsBinary (rule g i .clause) → RuleWords ws′ (ruleAt i) (rule g i)
+  pub else : (q : ℕ) → q < 514 → getD ws′ q 0 ≡ getD ws q 0
 
 -- m words from `from` on are 0, and the others as they were
 pub record Wiped (ws ws′ : List ℕ) (from m : ℕ) : Type 0 where
@@ -66,3 +66,14 @@ pub record Turned (ws ws′ : List ℕ) (p : ℕ) (t : Pair) (c : ℕ) : Type 0 
   pub twice : (A k : ℕ) → A < 64 → (k ≡ c → ⊥)
       → In (wordsOf ws′ p A .two) k ↔ In (wordsOf ws p A .two) k
   pub else : (q : ℕ) → (q < p) ⊎ (p + 128 ≤ q) → getD ws′ q 0 ≡ getD ws q 0
+
+-- the same of rows, at the cut e: there is no cut 64
+pub record TurnedRow (ws ws′ : List ℕ) (p : ℕ) (t : Pair) (e : ℕ) : Type 0 where
+  pub size : length ws′ ≡ length ws
+  pub inner : e < 64 → Turned ws ws′ p t e
+  pub last : 64 ≤ e → ws′ ≡ ws
+
+-- the words before rows and columns are as they were: the table of chains and the B rules
+pub record SameRules (ws ws′ : List ℕ) : Type 0 where
+  pub size : length ws′ ≡ length ws
+  pub first : (q : ℕ) → q < 1026 → getD ws′ q 0 ≡ getD ws q 0

@@ -1,5 +1,5 @@
-// The span sheets of words of at most 7 tokens, for a search that changes a token at a time: rows
-// and columns of cuts are kept beside the sheet, and turn over where a pair changes.
+// The span sheets of words that change a token at a time: rows and columns of cuts are kept beside
+// the sheet, and turn over where a pair changes.
 use chains::chains;
 use chains::level_of;
 use cuts::Masks;
@@ -38,10 +38,11 @@ ghost use Rattle.cuts.specs.Places.{IsBinary, PlacedAt};
 ghost use Rattle.chart.specs.Filling.{Whole, Filled, FilledFrom};
 ghost use Rattle.chart.specs.Sheets.{Ready, Charted, Settles};
 ghost use Rattle.filling.specs.Closing.{Found, CutJoins};
-ghost use Rattle.refilling.specs.Kept.{markNumber, startRows, chainsOf, KeptRules};
+ghost use Rattle.refilling.specs.Kept.{markNumber, startRows, endColumns, chainsOf};
+ghost use Rattle.refilling.specs.Kept.{ruleAt, columnAt, keptFor, KeptRules};
 ghost use Rattle.refilling.specs.Kept.{Prepared, Mirrored, Suits};
 ghost use Rattle.refilling.specs.Turning.{SetRule, SetRules, Wiped, HasBits, TurnBits};
-ghost use Rattle.refilling.specs.Turning.{Turned};
+ghost use Rattle.refilling.specs.Turning.{Turned, TurnedRow, SameRules};
 ghost use Rattle.refilling.specs.Short.{wide};
 
 // A draft of at most 7 tokens: a search makes one for each fill, and copies it for each start.
@@ -83,7 +84,7 @@ fn rule_at(kept: &[u64], g: Grammar, i: usize) -> Rule
     requires { ⌜ KeptRules (rules g) (now kept) ⌝ }
     ensures { λ r. ⌜ r ≡ rule (rules g) i ⌝ }
 {
-    let at = 2562 + 4 * i;
+    let at = 514 + 4 * i;
     let m = mark_of(kept[at + 3]);
     let clause = Clause::Binary(kept[at + 1] as u8, kept[at + 2] as u8, m);
     Rule {
@@ -94,8 +95,8 @@ fn rule_at(kept: &[u64], g: Grammar, i: usize) -> Rule
 
 // Write the words of the rule at i, if it is a B rule.
 fn set_rule(kept: &mut [u64], i: usize, r: Rule)
-    requires { ⌜ (i < 128) × (length (now kept) ≡ 3074) ⌝ }
-    ensures { λ u. ⌜ SetRule (now (kept .entry)) (now (kept .exit)) (2562 + 4 * i) r ⌝ }
+    requires { ⌜ (i < 128) × (1026 ≤ length (now kept)) ⌝ }
+    ensures { λ u. ⌜ SetRule (now (kept .entry)) (now (kept .exit)) (ruleAt i) r ⌝ }
 {
     let c = r.clause;
     match c {
@@ -103,8 +104,8 @@ fn set_rule(kept: &mut [u64], i: usize, r: Rule)
         Clause::Atom(_, _) => {}
         Clause::Unary(_, _) => {}
         Clause::Binary(b, e, m) => {
-            write(kept, 1281 + 2 * i, r.left as u64, b as u64);
-            write(kept, 1282 + 2 * i, e as u64, mark_number(m));
+            write(kept, 257 + 2 * i, r.left as u64, b as u64);
+            write(kept, 258 + 2 * i, e as u64, mark_number(m));
         }
     }
 }
@@ -112,7 +113,7 @@ fn set_rule(kept: &mut [u64], i: usize, r: Rule)
 // Write those of all B rules.
 fn set_rules(kept: &mut [u64], g: Grammar)
     requires { ⌜ Formed g ⌝ }
-    requires { ⌜ length (now kept) ≡ 3074 ⌝ }
+    requires { ⌜ 1026 ≤ length (now kept) ⌝ }
     ensures { λ r. ⌜ SetRules (rules g) (now (kept .entry)) (now (kept .exit)) (g .count) ⌝ }
 {
     let mut i: usize = 0;
@@ -126,13 +127,13 @@ fn set_rules(kept: &mut [u64], g: Grammar)
 // Make the kept words for the rules: the table of chains, and the B rules.
 pub fn prepare(kept: &mut [u64], g: Grammar)
     requires { ⌜ Formed g ⌝ }
-    requires { ⌜ length (now kept) ≡ 3074 ⌝ }
+    requires { ⌜ 1026 ≤ length (now kept) ⌝ }
     ensures { λ r. ⌜ Prepared (rules g) (now (kept .exit)) ⌝ }
 {
     let e = empty_pair(g);
-    chains(&mut kept[2048..2560], g, e);
+    chains(&mut kept[0..512], g, e);
     let b = binary_rules(g);
-    write(kept, 1280, b.low, b.high);
+    write(kept, 256, b.low, b.high);
     set_rules(kept, g);
 }
 
@@ -173,29 +174,32 @@ fn try_kept(
 // What stands over the span from `start` to `end` by two shorter parts.
 fn kept_splits(kept: &[u64], g: Grammar, start: usize, end: usize, w: Masks) -> Pair
     requires { ⌜ Formed g × Prepared (rules g) (now kept) ⌝ }
-    requires { ⌜ (start < end) × (end ≤ 7) ⌝ }
-    ensures { λ t. ⌜ CutCounts (startRows (now (kept .entry)) start) (now (kept .entry)) (128 * end)
+    requires { ⌜ (start < end) × (end ≤ 64) × (keptFor end ≤ length (now kept)) ⌝ }
+    ensures { λ t. ⌜ CutCounts (startRows (now (kept .entry)) start) (now (kept .entry))
+        (columnAt end)
         w (rules g) (g .count) t ⌝ }
 {
-    let from = 1024 + 128 * start;
+    let from = 1154 + 256 * start;
     let to = from + 128;
     let rows = &kept[from..to];
+    let column = 1026 + 256 * end;
     let none = Pair { one: 0, two: 0 };
-    let t = try_kept(none, g, 0, kept[2560], rows, kept, 128 * end, w);
-    try_kept(t, g, 64, kept[2561], rows, kept, 128 * end, w)
+    let t = try_kept(none, g, 0, kept[512], rows, kept, column, w);
+    try_kept(t, g, 64, kept[513], rows, kept, column, w)
 }
 
 // What stands over it, by the table of chains too; `k` are its marks.
 fn find(kept: &[u64], g: Grammar, k: SpanMarks, start: usize, len: usize) -> Pair
     requires { ⌜ Formed g × Prepared (rules g) (now kept) ⌝ }
-    requires { ⌜ (0 < len) × (start + len ≤ 7) ⌝ }
-    ensures { λ t. ⌜ Found (startRows (now (kept .entry)) start) (now (kept .entry))
-        (chainsOf (now (kept .entry))) (rules g) k start len t ⌝ }
+    requires { ⌜ (0 < len) × (start + len ≤ 64) × (keptFor (start + len) ≤ length (now kept)) ⌝ }
+    ensures { λ t. ⌜ Found (startRows (now (kept .entry)) start)
+        (endColumns (now (kept .entry)) (start + len)) (chainsOf (now (kept .entry))) (rules g) k
+        start len t ⌝ }
 {
     let m = cut_masks(k, start);
     let p = kept_splits(kept, g, start, start + len, m);
     let l = level_of(k);
-    unite(&kept[2048..2560], 128 * l, p)
+    unite(&kept[0..512], 128 * l, p)
 }
 
 // ---- rows and columns turned over
@@ -225,15 +229,27 @@ fn turn_pair(words: &mut [u64], p: usize, old: Pair, new: Pair, c: u8)
     turn_bits(words, p + 1, old.two ^ new.two, c);
 }
 
+// The same in rows, at the cut `e`. Cut 64 has no bit: no span begins there.
+fn turn_row(words: &mut [u64], p: usize, old: Pair, new: Pair, e: usize)
+    requires { ⌜ p + 128 ≤ length (now words) ⌝ }
+    requires { ⌜ (e < 64 → HasBits (now words) p old e) ⌝ }
+    ensures { λ r. ⌜ TurnedRow (now (words .entry)) (now (words .exit)) p new e ⌝ }
+{
+    if 64 <= e {
+        return;
+    }
+    turn_pair(words, p, old, new, e as u8);
+}
+
 // Give the span of `len` tokens from `start` on the pair `t`.
 fn put(words: &mut [u64], kept: &mut [u64], g: Grammar, n: usize, start: usize, len: usize, t: Pair)
-    requires { ⌜ (n ≤ 7) × Room (now words) n start len × (0 < len) ⌝ }
+    requires { ⌜ (n ≤ 64) × Room (now words) n start len × (0 < len) ⌝ }
     requires { ⌜ Mirrored (rules g) n (now words) (now kept) ⌝ }
     ensures { λ r. ⌜ WrotePair (now (words .entry)) (now (words .exit)) (pairAt n start len)
         (t .one)
         (t .two) ⌝ }
     ensures { λ r. ⌜ Mirrored (rules g) n (now (words .exit)) (now (kept .exit)) ⌝ }
-    ensures { λ r. ⌜ Past 2048 (now (kept .entry)) (now (kept .exit)) ⌝ }
+    ensures { λ r. ⌜ SameRules (now (kept .entry)) (now (kept .exit)) ⌝ }
 {
     let q = pair_at(n, start, len);
     let at = 2 * q;
@@ -242,15 +258,15 @@ fn put(words: &mut [u64], kept: &mut [u64], g: Grammar, n: usize, start: usize, 
         two: words[at + 1],
     };
     let end = start + len;
-    turn_pair(kept, 1024 + 128 * start, old, t, end as u8);
-    turn_pair(kept, 128 * end, old, t, start as u8);
+    turn_row(kept, 1154 + 256 * start, old, t, end);
+    turn_pair(kept, 1026 + 256 * end, old, t, start as u8);
     write(words, q, t.one, t.two);
 }
 
 // ---- filling
 
 // Settle the span, whose marks are `k`.
-fn close(
+pub fn close(
     words: &mut [u64],
     kept: &mut [u64],
     g: Grammar,
@@ -259,7 +275,7 @@ fn close(
     start: usize,
     len: usize,
 )
-    requires { ⌜ (n ≤ 7) × Room (now words) n start len × (0 < len) ⌝ }
+    requires { ⌜ (n ≤ 64) × Room (now words) n start len × (0 < len) ⌝ }
     requires { ⌜ Formed g × Suits (rules g) (now words) (now kept) ⌝ }
     requires { ⌜ Mirrored (rules g) n (now words) (now kept) ⌝ }
     ensures { λ r. ⌜ CutJoins (now (words .entry)) (now (words .exit)) (rules g) n start len k ⌝ }
@@ -325,20 +341,20 @@ fn wipe(words: &mut [u64], from: usize, m: usize)
 
 // Begin the span sheets of n tokens.
 pub fn open_sheet(words: &mut [u64], kept: &mut [u64], g: Grammar, n: usize)
-    requires { ⌜ n ≤ 7 ⌝ }
+    requires { ⌜ n ≤ 64 ⌝ }
     requires { ⌜ 2 * pairs n ≤ length (now words) ⌝ }
+    requires { ⌜ keptFor n ≤ length (now kept) ⌝ }
     requires { ⌜ Prepared (rules g) (now kept) ⌝ }
     ensures { λ r. ⌜ Mirrored (rules g) n (now (words .exit)) (now (kept .exit)) ⌝ }
     ensures { λ r. ⌜ Past (2 * pairs n) (now (words .entry)) (now (words .exit)) ⌝ }
 {
     clear(words, size(n));
-    wipe(kept, 0, 128 * (n + 1));
-    wipe(kept, 1024, 128 * n);
+    wipe(kept, 1026, 256 * (n + 1));
 }
 
 // Give the empty word its pair.
 pub fn put_empty(words: &mut [u64], kept: &mut [u64], g: Grammar, n: usize, one: u64, two: u64)
-    requires { ⌜ n ≤ 7 ⌝ }
+    requires { ⌜ n ≤ 64 ⌝ }
     requires { ⌜ 2 * pairs n ≤ length (now words) ⌝ }
     requires { ⌜ Mirrored (rules g) n (now words) (now kept) ⌝ }
     ensures { λ r. ⌜ WrotePair (now (words .entry)) (now (words .exit)) 0 one two ⌝ }
@@ -357,7 +373,7 @@ pub fn put_leaf(
     one: u64,
     two: u64,
 )
-    requires { ⌜ (n ≤ 7) × (i < n) ⌝ }
+    requires { ⌜ (n ≤ 64) × (i < n) ⌝ }
     requires { ⌜ 2 * pairs n ≤ length (now words) ⌝ }
     requires { ⌜ Mirrored (rules g) n (now words) (now kept) ⌝ }
     ensures { λ r. ⌜ WrotePair (now (words .entry)) (now (words .exit)) (pairAt n i 1) one two ⌝ }

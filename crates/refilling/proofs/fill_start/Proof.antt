@@ -2,7 +2,8 @@ use Rattle.refilling.proofs.fill_start.Statement.{statement}
 use Rattle.refilling.proofs.fill_start.Tie as tie
 use borrow.Author.Needs.{needs}
 use native.Mathlib.Omega.{arith}
-use mathlib.Core.Path.{sym, ap, _∙_}
+use mathlib.Core.Path.{_≡_, refl, sym, ap, _∙_}
+use lib.ListN.{length}
 use Prim.Native.Nat.{_+_, _-_, _*_, _≤_, _<_}
 use Rattle.grammar.specs.declared.Token.{Token}
 use Rattle.grammar.specs.Content.{rules}
@@ -27,6 +28,7 @@ Inv-loop words₀ kept₀ g from start d n known a k₀ len₀ words kept k len 
     × Filled words (rules g) (half (wide d)) (d .count) from start (len + 1)
     × Suits (rules g) words kept
     × Mirrored (rules g) (d .count) words kept
+    × (length kept ≡ length kept₀)
 
 abbrev μ-loop : tie.MeasureT-loop
 μ-loop words₀ kept₀ g from start d n known a k₀ len₀ words kept k len = d .count - len
@@ -70,6 +72,7 @@ loop-holds c =
       filled-next _ _ _ _ _ _ (z .pre .1 .1 .1 .1),
       z .pre .1 .1 .0 .1,
       z .pre .1 .1 .1 .0,
+      refl,
     )
 
 add-loop : tie.Need-add-loop Inv-loop μ-loop
@@ -125,6 +128,7 @@ loop-again c = let l = c .before .before .before .before .before .loop .inv in (
   filled-pass _ _ _ _ _ _ _ (omega (arith, c .if1 .taken)) (l .5),
   l .6,
   l .7,
+  l .8,
 )
 
 close-requires : tie.Need-close-requires Inv-loop μ-loop
@@ -132,7 +136,7 @@ close-requires c κs = let z = c .before .before .before .before .before .before
     .before .before .before .before .before in
     let l = c .before .before .before .before .before .before .before .loop .inv in (
       (
-        z .pre .0 .1,
+        omega (arith, z .pre .0 .1),
         record {
           few = z .pre .0 .0 .few;
           fits = omega (arith, c .before .before .before .before .before .before .loop-test .taken);
@@ -179,15 +183,14 @@ loop-again-2 c =
       filled-on (b .words) ws g h n (a .from) (a .start) len long fit far (l .5) j,
       k .close .ensures .1 .0,
       k .close .ensures .1 .1,
+      c .before .kept .given ∙ l .8,
     )
 
 same-length : tie.Need-same-length Inv-loop μ-loop
 same-length c = c .before .loop .inv .3 .long
 
 same-length-2 : tie.Need-same-length-2 Inv-loop μ-loop
-same-length-2 c = c .before .loop .inv .7 .prepared .rules .size
-    ∙ sym (c .before .before .before .before .before .before .before .pre .1 .1 .1 .0 .prepared
-    .rules .size)
+same-length-2 c = c .before .loop .inv .8
 
 returns : tie.Need-returns Inv-loop μ-loop
 returns c = let l = c .before .loop .inv in (

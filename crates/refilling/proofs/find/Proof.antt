@@ -4,7 +4,10 @@ use Rattle.refilling.proofs.find.Tie as tie
 use borrow.Author.Needs.{needs}
 use native.Mathlib.Omega.{arith}
 use Rattle.cuts.proofs.CountLaws.{counts-nested}
+use Prim.Native.Nat.{_+_}
+use Rattle.grammar.specs.Content.{rules}
 use Rattle.filling.proofs.ClosingLaws.{found-of}
+use Rattle.refilling.proofs.KeptLaws.{counts-there}
 
 cut-masks-requires : tie.Need-cut-masks-requires
 cut-masks-requires c κs = search needs
@@ -43,9 +46,11 @@ unite-requires c κs = (
 )
 
 returns : tie.Need-returns
-returns c = found-of (c .before .before .before .before .before .before .pre .0 .0)
+returns c = let a = c .before .before .before .before .before .before .args in
+    found-of (c .before .before .before .before .before .before .pre .0 .0)
     (c .before .before .before .before .cut-masks .ensures)
-    (c .before .before .before .kept-splits .ensures) (c .before .before .level-of .ensures)
+    (counts-there _ (a .kept .now) (a .start + a .len) _ (rules (a .g)) (a .g .count) _
+    (c .before .before .before .kept-splits .ensures)) (c .before .before .level-of .ensures)
     (c .unite .ensures)
 
 pub find-spec : {M : Type 1} → statement M

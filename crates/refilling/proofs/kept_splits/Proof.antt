@@ -4,16 +4,16 @@ use Rattle.refilling.proofs.kept_splits.Tie as tie
 use borrow.Author.Needs.{needs}
 use native.Mathlib.Omega.{arith}
 use mathlib.Core.Path.{_≡_, subst}
-use Prim.Native.Nat.{ℕ, _+_, _-_, _*_}
+use Prim.Native.Nat.{ℕ, _+_, _-_}
 use lib.ListN.{take, drop}
 use Rattle.grammar.specs.Content.{rules}
 use Rattle.cuts.specs.Cuts.{CutCounts}
 use Rattle.cuts.proofs.TryLaws.{cut-none}
 use Rattle.cuts.proofs.PlaceLaws.{counts-all}
-use Rattle.refilling.specs.Kept.{startRows}
+use Rattle.refilling.specs.Kept.{rowAt, columnAt, startRows}
 use Rattle.refilling.proofs.KeptLaws.{part-long}
 
-wide : (s : ℕ) → 1024 + 128 * s + 128 - (1024 + 128 * s) ≡ 128
+wide : (s : ℕ) → rowAt s + 128 - rowAt s ≡ 128
 wide s = omega arith
 
 mul-from : tie.Need-mul-from
@@ -37,26 +37,28 @@ part-rows-start c = search needs
 part-rows-end : tie.Need-part-rows-end
 part-rows-end c = search needs
 
+mul-column : tie.Need-mul-column
+mul-column c = search needs
+
+add-column : tie.Need-add-column
+add-column c = search needs
+
 shared-slice-read-try-kept : tie.Need-shared-slice-read-try-kept
 shared-slice-read-try-kept c = search needs
-
-mul-try-kept : tie.Need-mul-try-kept
-mul-try-kept c = search needs
 
 try-kept-requires : tie.Need-try-kept-requires
 try-kept-requires c κs =
     let z = c .before .before .before in
     let a = z .args in
-    let p = z .pre .0 .1 in
-    let s = p .rules .size in (
+    let p = z .pre .0 .1 in (
       (z .pre .0 .0, omega arith, p .low),
       (
         p .rules,
         (
           (
-            part-long (a .kept .now) (1024 + 128 * a .start) _ (wide (a .start))
-                (omega (arith, z .pre .1 .0, z .pre .1 .1)),
-            omega (arith, z .pre .1 .1),
+            part-long (a .kept .now) (rowAt (a .start)) _ (wide (a .start))
+                (omega (arith, z .pre .1 .0, z .pre .1 .2)),
+            omega (arith, z .pre .1 .0, z .pre .1 .2),
           ),
           cut-none _ _ _ _ _,
         ),
@@ -66,23 +68,19 @@ try-kept-requires c κs =
 shared-slice-read-try-kept-2 : tie.Need-shared-slice-read-try-kept-2
 shared-slice-read-try-kept-2 c = search needs
 
-mul-try-kept-2 : tie.Need-mul-try-kept-2
-mul-try-kept-2 c = search needs
-
 try-kept-requires-2 : tie.Need-try-kept-requires-2
 try-kept-requires-2 c κs =
     let z = c .before .before .before .before .before in
     let a = z .args in
-    let p = z .pre .0 .1 in
-    let s = p .rules .size in (
+    let p = z .pre .0 .1 in (
       (z .pre .0 .0, omega arith, p .high),
       (
         p .rules,
         (
           (
-            part-long (a .kept .now) (1024 + 128 * a .start) _ (wide (a .start))
-                (omega (arith, z .pre .1 .0, z .pre .1 .1)),
-            omega (arith, z .pre .1 .1),
+            part-long (a .kept .now) (rowAt (a .start)) _ (wide (a .start))
+                (omega (arith, z .pre .1 .0, z .pre .1 .2)),
+            omega (arith, z .pre .1 .0, z .pre .1 .2),
           ),
           c .before .try-kept .ensures,
         ),
@@ -96,11 +94,11 @@ returns c =
     let k = a .kept .now in
     let g = rules (a .g) in
     let t = c .try-kept2 .result in
-    subst (λ (x : ℕ). CutCounts (startRows k (a .start)) k (128 * a .end) (a .w) g x t)
+    subst (λ (x : ℕ). CutCounts (startRows k (a .start)) k (columnAt (a .end)) (a .w) g x t)
     (z .pre .0 .0 .whole)
-    (counts-all (startRows k (a .start)) k (128 * a .end) (a .w) g 128 t
+    (counts-all (startRows k (a .start)) k (columnAt (a .end)) (a .w) g 128 t
     (omega (arith, z .pre .0 .0 .whole, z .pre .0 .0 .few))
-    (subst (λ (m : ℕ). CutCounts (take m (drop (1024 + 128 * a .start) k)) k (128 * a .end) (a .w) g
+    (subst (λ (m : ℕ). CutCounts (take m (drop (rowAt (a .start)) k)) k (columnAt (a .end)) (a .w) g
     128 t)
     (wide (a .start)) (c .try-kept2 .ensures)))
 
@@ -115,10 +113,10 @@ kept-splits-spec =
     sub-rows
     part-rows-start
     part-rows-end
+    mul-column
+    add-column
     shared-slice-read-try-kept
-    mul-try-kept
     try-kept-requires
     shared-slice-read-try-kept-2
-    mul-try-kept-2
     try-kept-requires-2
     returns)

@@ -5,7 +5,7 @@ use borrow.Author.Needs.{needs}
 use mathlib.Core.Path.{subst}
 use Prim.Native.Nat.{ℕ}
 use Rattle.spans.specs.Changes.{Cleared}
-use Rattle.refilling.proofs.KeptLaws.{prepared-past, open-past, mirror-open}
+use Rattle.refilling.proofs.KeptLaws.{prepared-same, open-same, mirror-open}
 
 size-requires : tie.Need-size-requires
 size-requires c κs = search needs
@@ -22,12 +22,6 @@ mul-wipe c = search needs
 wipe-requires : tie.Need-wipe-requires
 wipe-requires c κs = search needs
 
-mul-wipe-2 : tie.Need-mul-wipe-2
-mul-wipe-2 c = search needs
-
-wipe-requires-2 : tie.Need-wipe-requires-2
-wipe-requires-2 c κs = search needs
-
 same-length : tie.Need-same-length
 same-length c = search needs
 
@@ -36,18 +30,15 @@ same-length-2 c = search needs
 
 returns : tie.Need-returns
 returns c = let z = c .before .before .before .before .before .before .before .before .before
-    .before .before .before .before .before .before in
+    .before .before in
     let x = subst (λ (m : ℕ). Cleared (z .args .words .now)
-    (c .before .before .before .before .before .before .before .before .before .before .clear
-    .last .0) m) (c .before .before .before .before .before .before .before .before .before
-    .before .before .size .ensures)
-    (c .before .before .before .before .before .before .before .before .before .before .clear
-    .ensures) in
-    let f = c .before .before .before .before .before .before .wipe .ensures in
-    let g = c .before .before .wipe2 .ensures in (
+    (c .before .before .before .before .before .before .clear .last .0) m)
+    (c .before .before .before .before .before .before .before .size .ensures)
+    (c .before .before .before .before .before .before .clear .ensures) in
+    let f = c .before .before .wipe .ensures in (
       record {
-        prepared = prepared-past (open-past (z .pre .0) f g) (z .pre .1 .1);
-        mirror = mirror-open (z .pre .0) x f g;
+        prepared = prepared-same (open-same f) (z .pre .1 .1 .1);
+        mirror = mirror-open (z .pre .1 .1 .0) x f;
       },
       x .past,
     )
@@ -61,8 +52,6 @@ open-sheet-spec =
     add-wipe
     mul-wipe
     wipe-requires
-    mul-wipe-2
-    wipe-requires-2
     same-length
     same-length-2
     returns)

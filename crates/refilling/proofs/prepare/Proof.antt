@@ -1,4 +1,5 @@
 use mathlib.Core.Path.{sym, subst}
+use native.Mathlib.Omega.{arith}
 use Rattle.grammar.specs.Content.{rules}
 use Rattle.refilling.specs.Turning.{SetRules}
 use Rattle.refilling.proofs.KeptLaws.{made}
@@ -41,6 +42,7 @@ returns c =
     let g = rules (z .args .g) in
     made (z .args .kept .now) (c .before .before .before .before .before .before .before .before
     .before .before .before .chains .last .0) (z .pre .1)
+    (omega (arith, z .pre .0 .whole, z .pre .0 .few))
     (c .before .before .before .before .before .before .before .before .before .before .before
     .before .before .empty-pair .ensures)
     (c .before .before .before .before .before .before .before .before .before .before .before

@@ -4,15 +4,14 @@ use Rattle.refilling.proofs.put.Tie as tie
 use borrow.Author.Needs.{needs}
 use native.Mathlib.Omega.{arith}
 use mathlib.Core.Path.{_≡_, sym, ap, subst}
-use mathlib.Core.Logic.{inl}
 use Prim.Native.Nat.{ℕ, _+_, _*_, _<_}
 use lib.ListN.{length, getD}
 use Rattle.grammar.specs.SpanSheet.{firstWord, secondWord}
 use Rattle.spans.specs.Changes.{WrotePair}
 use Rattle.spans.proofs.Places.{pairAt-below}
 use Rattle.cuts.specs.declared.Pair.{Pair}
-use Rattle.refilling.proofs.KeptLaws.{row-has, column-has, mirror-put, put-past}
-use Rattle.refilling.proofs.KeptLaws.{prepared-past}
+use Rattle.refilling.proofs.KeptLaws.{row-has, column-has, mirror-put, put-same}
+use Rattle.refilling.proofs.KeptLaws.{prepared-same}
 
 inside : (c : tie.After-pair-at)
     → 2 * c .pair-at .result + 1 < length (c .before .before .before .args .words .now)
@@ -67,6 +66,23 @@ slice-read-t18 c = omega (arith, inside (c .before .before))
 add-end : tie.Need-add-end
 add-end c = search needs
 
+mul-turn-row : tie.Need-mul-turn-row
+mul-turn-row c = search needs
+
+add-turn-row : tie.Need-add-turn-row
+add-turn-row c = search needs
+
+turn-row-requires : tie.Need-turn-row-requires
+turn-row-requires c κs =
+    let z = c .before .before .before .before .before .before in
+    let a = z .args in
+    let fit = z .pre .0 .1 .fits in
+    let q = c .before .before .before in (
+      omega (arith, fit, z .pre .0 .2, z .pre .1 .mirror .long),
+      row-has (a .start) (a .len) (z .pre .0 .0) fit (z .pre .0 .2) (z .pre .1 .mirror) (was q)
+          (first q) (second q),
+    )
+
 mul-turn-pair : tie.Need-mul-turn-pair
 mul-turn-pair c = search needs
 
@@ -77,40 +93,17 @@ cast-turn-pair : tie.Need-cast-turn-pair
 cast-turn-pair c = search needs
 
 turn-pair-requires : tie.Need-turn-pair-requires
-turn-pair-requires c κs =
-    let z = c .before .before .before .before .before .before in
-    let a = z .args in
-    let fit = z .pre .0 .1 .fits in
-    let q = c .before .before .before in (
-      (
-        omega (arith, z .pre .0 .0, fit),
-        omega (arith, z .pre .0 .0, fit, z .pre .0 .2, z .pre .1 .prepared .rules .size),
-      ),
-      row-has (a .start) (a .len) (z .pre .0 .0) fit (z .pre .0 .2) (z .pre .1 .mirror) (was q)
-          (first q) (second q),
-    )
-
-mul-turn-pair-2 : tie.Need-mul-turn-pair-2
-mul-turn-pair-2 c = search needs
-
-cast-turn-pair-2 : tie.Need-cast-turn-pair-2
-cast-turn-pair-2 c = search needs
-
-turn-pair-requires-2 : tie.Need-turn-pair-requires-2
-turn-pair-requires-2 c κs = let z = c .before .before .before .before .before .before .before
+turn-pair-requires c κs = let z = c .before .before .before .before .before .before .before
     .before .before .before in
     let a = z .args in
-    let t = c .before .before .before .turn-pair .ensures in (
+    let q = c .before .before .before .before .before .before .before in
+    let t = c .before .before .before .turn-row .ensures in (
       (
-        omega (arith, z .pre .0 .0, z .pre .0 .1 .fits),
-        omega
-            (arith, z .pre .0 .0, z .pre .0 .1 .fits, t .size, z .pre .1 .prepared .rules .size),
+        omega (arith, z .pre .0 .0, z .pre .0 .1 .fits, z .pre .0 .2),
+        omega (arith, z .pre .0 .1 .fits, t .size, z .pre .1 .mirror .long),
       ),
       column-has (a .start) (a .len) (z .pre .0 .0) (z .pre .0 .1 .fits) (z .pre .0 .2)
-          (z .pre .1 .mirror) (was (c .before .before .before .before .before .before .before))
-          (λ q h. t .else q (inl (omega arith)))
-          (first (c .before .before .before .before .before .before .before))
-          (second (c .before .before .before .before .before .before .before)),
+          (z .pre .1 .mirror) (was q) t (first q) (second q),
     )
 
 write-requires : tie.Need-write-requires
@@ -136,14 +129,14 @@ returns c = let z = c .before .before .before .before .before .before .before .b
     .before .before .before .before .before .before .pair-at .ensures)
     (c .before .before .write .ensures) in
     let r = c .before .before .before .before .before .before .before .before .before .before
-    .turn-pair .ensures in
-    let q = c .before .before .before .before .before .before .turn-pair2 .ensures in
-    let p = put-past (a .start) (a .len) (z .pre .0 .0) (z .pre .0 .1 .fits) (z .pre .0 .2)
+    .turn-row .ensures in
+    let q = c .before .before .before .before .before .before .turn-pair .ensures in
+    let p = put-same (a .start) (a .len) (z .pre .0 .0) (z .pre .0 .1 .fits) (z .pre .0 .2)
     (z .pre .1 .mirror) t w r q in (
       w,
       (
         record {
-          prepared = prepared-past p (z .pre .1 .prepared);
+          prepared = prepared-same p (z .pre .1 .prepared);
           mirror = mirror-put (a .start) (a .len) (z .pre .0 .0) (z .pre .0 .1 .fits) (z .pre .0 .2)
               (z .pre .1 .mirror) t w r q;
         },
@@ -163,13 +156,13 @@ put-spec =
     mul-t16
     slice-read-t18
     add-end
+    mul-turn-row
+    add-turn-row
+    turn-row-requires
     mul-turn-pair
     add-turn-pair
     cast-turn-pair
     turn-pair-requires
-    mul-turn-pair-2
-    cast-turn-pair-2
-    turn-pair-requires-2
     write-requires
     same-length
     same-length-2

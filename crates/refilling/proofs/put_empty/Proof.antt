@@ -20,7 +20,7 @@ returns c =
       w .write .ensures,
       record {
         prepared = z .pre .1 .1 .prepared;
-        mirror = mirror-empty (z .pre .0) (w .write .ensures) (z .pre .1 .1 .mirror);
+        mirror = mirror-empty (w .write .ensures) (z .pre .1 .1 .mirror);
       },
     )
 

@@ -1,7 +1,7 @@
-use mathlib.Core.Path.{_≡_, sym, _∙_, subst}
+use mathlib.Core.Path.{_≡_, refl, _∙_, subst}
 use Prim.Native.Nat.{ℕ, _+_, _-_, _≤_}
 use native.Mathlib.Omega.{arith}
-use lib.ListN.{length-map}
+use lib.ListN.{length, length-map}
 use Rattle.grammar.specs.Content.{rules}
 use Rattle.marks.specs.Drafts.{half}
 use Rattle.spans.proofs.ChangeLaws.{past-same, past-then}
@@ -20,6 +20,7 @@ Inv-loop words₀ kept₀ d g from to start₀ words kept start = (start ≤ d .
     × FilledFrom words₀ words (rules g) (half (wide d)) (d .count) from start
     × Suits (rules g) words kept
     × Mirrored (rules g) (d .count) words kept
+    × (length kept ≡ length kept₀)
 
 abbrev μ-loop : tie.MeasureT-loop
 μ-loop words₀ kept₀ d g from to start₀ words kept start = start
@@ -50,6 +51,7 @@ loop-holds c =
       },
       suits (z .pre .1 .1 .1 .1 .prepared) (r .right),
       z .pre .1 .1 .1 .1,
+      refl,
     )
 
 sub-start : tie.Need-sub-start Inv-loop μ-loop
@@ -92,14 +94,14 @@ loop-again c =
       },
       f .1 .0,
       f .1 .1,
+      c .before .kept .given ∙ l .4,
     )
 
 same-length : tie.Need-same-length Inv-loop μ-loop
 same-length c = c .before .loop .inv .1 .past .long
 
 same-length-2 : tie.Need-same-length-2 Inv-loop μ-loop
-same-length-2 c = c .before .loop .inv .3 .prepared .rules .size
-    ∙ sym (c .before .before .before .before .pre .1 .1 .1 .1 .prepared .rules .size)
+same-length-2 c = c .before .loop .inv .4
 
 returns : tie.Need-returns Inv-loop μ-loop
 returns c =

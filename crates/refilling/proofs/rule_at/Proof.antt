@@ -6,21 +6,21 @@ use native.Mathlib.Omega.{arith}
 use Rattle.grammar.proofs.Lists.{every-at}
 use Rattle.grammar.specs.Content.{rules, SmallRule}
 use Rattle.tables.specs.Tables.{no-rule, rule}
-use Rattle.refilling.specs.Kept.{RuleWords}
+use Rattle.refilling.specs.Kept.{ruleAt, RuleWords}
 use Rattle.refilling.proofs.KeptLaws.{rule-of, FewWords, few-words}
-use Prim.Native.Nat.{_+_, _*_, _<_}
+use Prim.Native.Nat.{_<_}
 use lib.ListN.{length}
 
-own : (c : tie.Start) → RuleWords (c .args .kept .now) (2562 + 4 * c .args .i)
+own : (c : tie.Start) → RuleWords (c .args .kept .now) (ruleAt (c .args .i))
     (rule (rules (c .args .g)) (c .args .i))
 own c = c .pre .1 .each (c .args .i) (omega (arith, c .pre .0 .0 .whole, c .pre .0 .1))
     (c .pre .0 .2)
 
-few : (c : tie.Start) → FewWords (c .args .kept .now) (2562 + 4 * c .args .i)
+few : (c : tie.Start) → FewWords (c .args .kept .now) (ruleAt (c .args .i))
 few c =
     let h : c .args .i < length (rules (c .args .g)) =
     omega (arith, c .pre .0 .0 .whole, c .pre .0 .1) in
-    few-words (c .args .kept .now) (2562 + 4 * c .args .i) (rule (rules (c .args .g)) (c .args .i))
+    few-words (c .args .kept .now) (ruleAt (c .args .i)) (rule (rules (c .args .g)) (c .args .i))
     (every-at SmallRule no-rule (rules (c .args .g)) (c .pre .0 .0 .small) (c .args .i) h)
     (own c)
 
@@ -77,7 +77,7 @@ cast-t17-2 c = omega (arith, few (c .before .before .before .before .before .bef
 
 returns : tie.Need-returns
 returns c = let z = c .before .before .before .before .before .before in
-    rule-of (z .args .kept .now) (2562 + 4 * z .args .i) (rule (rules (z .args .g)) (z .args .i))
+    rule-of (z .args .kept .now) (ruleAt (z .args .i)) (rule (rules (z .args .g)) (z .args .i))
     (c .before .before .before .mark-of .result) (c .before .before .before .mark-of .ensures)
     (own z)
 

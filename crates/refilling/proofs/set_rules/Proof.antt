@@ -2,11 +2,12 @@ use Rattle.refilling.proofs.set_rules.Statement.{statement}
 use Rattle.refilling.proofs.set_rules.Tie as tie
 use borrow.Author.Needs.{needs}
 use native.Mathlib.Omega.{arith}
-use Prim.Native.Nat.{_-_, _≤_, _*_, _+_}
-use mathlib.Core.Path.{sym, subst, _∙_}
+use Prim.Native.Nat.{_-_, _≤_}
+use mathlib.Core.Path.{sym, subst}
 use lib.Seq.{getD-take}
 use Rattle.grammar.specs.Content.{rules}
 use Rattle.tables.specs.Tables.{no-rule}
+use Rattle.refilling.specs.Kept.{ruleAt}
 use Rattle.refilling.specs.Turning.{SetRule, SetRules}
 use Rattle.refilling.proofs.KeptLaws.{set-none, set-more}
 
@@ -33,8 +34,11 @@ set-rule-requires c κs = (
     c .before .before .before .before .before .pre .0
         .few,
   ),
-  c .before .before .before .loop .inv .1 .size
-      ∙ c .before .before .before .before .before .pre .1,
+  omega (
+    arith,
+    c .before .before .before .loop .inv .1 .size,
+    c .before .before .before .before .before .pre .1,
+  ),
 )
 
 add-i : tie.Need-add-i Inv-loop μ-loop
@@ -56,7 +60,7 @@ loop-again c =
     let i = l .i in (
       omega (arith, c .before .before .before .before .before .loop-test .taken),
       set-more (l .inv .1)
-          (subst (SetRule (l .kept) (c .before .before .set-rule .last .0) (2562 + 4 * i))
+          (subst (SetRule (l .kept) (c .before .before .set-rule .last .0) (ruleAt i))
           (sym (getD-take (g .count) (g .rules) i no-rule
           (omega (arith, c .before .before .before .before .before .loop-test .taken))))
           (c .before .before .set-rule .ensures)),
