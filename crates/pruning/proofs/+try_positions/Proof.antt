@@ -1,6 +1,7 @@
 -- The loop's invariant: the words stand, and the positions before the next one are refuted; the
 -- measure is how many tokens are left.
-use mathlib.Core.Path.{sym, _∙_}
+use mathlib.Core.Path.{_≡_, refl, _∙_}
+use lib.ListN.{length}
 use Prim.Native.Nat.{ℕ, _-_, _*_, _<_}
 use native.Mathlib.Omega.{arith}
 use Rattle.sets.proofs.Says.{true-not-false}
@@ -49,6 +50,7 @@ place-Inv-loop g c n i h words₀ cuts₀ k₀ words cuts k = Past (2 * pairs n)
     × PositionsFilled (rules g) n i (cells c 0 n) words
     × ((s : ℕ) → PositionsTwinned (rules g) s n h i k (cells c 0 n))
     × Mirrored (rules g) n words cuts
+    × (length cuts ≡ length cuts₀)
 
 abbrev place-μ-loop : place-lts.MeasureT-loop
 place-μ-loop g c n i h words₀ cuts₀ k₀ words cuts k = 3 * n - k
@@ -74,6 +76,7 @@ place-loop-holds t c =
       (λ s. within-none (cells-size (z .args .c) 0 (z .args .n))
           (omega (arith, c .if1 .left, z .pre .1 .0 .1))),
       z .pre .1 .1 .1 .1 .1,
+      refl,
     )
 
 place-mul-loop : (t : ℕ) → place-lts.Need-mul-loop (calls t) (place-at t) place.Post
@@ -161,6 +164,7 @@ place-loop-again t c =
           )) m (r .out (c .if2 .taken) s)
           (l .inv .2 s)),
       c .before .before .before .before .before .try-position .ensures .1,
+      c .before .before .cuts .given ∙ l .inv .4,
     )
 
 place-add-try-positions : (t : ℕ)
@@ -228,10 +232,7 @@ place-same-length t c =
 place-same-length-2 : (t : ℕ) → place-lts.Need-same-length-2 (calls t) (place-at t) place.Post
     place-Inv-loop place-μ-loop
 place-same-length-2 t c =
-    c .before .before .before .before .before .try-positions .ensures .1 .prepared
-    .rules .size ∙ sym (c .before .before .before .before .before .before .before .before .before
-    .before .before .before .before .before .before .before .before .before .before .before
-    .before .before .pre .1 .1 .1 .1 .1 .prepared .rules .size)
+    c .before .before .cuts2 .given ∙ c .before .before .before .before .before .before .before .before .before .before .cuts .given ∙ c .before .before .before .before .before .before .before .before .before .before .before .before .before .before .before .before .before .before .loop .inv .4
 
 place-returns-2 : (t : ℕ) → place-lts.Need-returns-2 (calls t) (place-at t) place.Post
     place-Inv-loop place-μ-loop
@@ -302,6 +303,7 @@ place-loop-again-2 t c =
       (λ s. within-more (cells-size (z .args .c) 0 n) h (m .ensures .0) (q .out (c .if3 .left) s)
           (l .inv .2 s)),
       c .before .before .before .before .before .try-positions .ensures .1,
+      c .before .before .cuts2 .given ∙ c .before .before .before .before .before .before .before .before .before .before .cuts .given ∙ l .inv .4,
     )
 
 place-same-length-3 : (t : ℕ) → place-lts.Need-same-length-3 (calls t) (place-at t) place.Post
@@ -310,8 +312,7 @@ place-same-length-3 t c = c .before .loop .inv .0 .long
 
 place-same-length-4 : (t : ℕ) → place-lts.Need-same-length-4 (calls t) (place-at t) place.Post
     place-Inv-loop place-μ-loop
-place-same-length-4 t c = c .before .loop .inv .3 .prepared .rules .size
-    ∙ sym (c .before .before .before .before .before .pre .1 .1 .1 .1 .1 .prepared .rules .size)
+place-same-length-4 t c = c .before .loop .inv .4
 
 place-returns-3 : (t : ℕ) → place-lts.Need-returns-3 (calls t) (place-at t) place.Post
     place-Inv-loop place-μ-loop

@@ -1,7 +1,8 @@
 -- The loop's invariant: the words are loose at the token before j, and the terminals before the
 -- next one are refuted there; the measure is j.
 use borrow.Author.Tests.{not-true, not-false}
-use mathlib.Core.Path.{_≡_, refl, sym, _∙_, subst}
+use mathlib.Core.Path.{_≡_, refl, _∙_, subst}
+use lib.ListN.{length}
 use Prim.Native.Nat.{ℕ, _-_, _*_, _≤_, _<_}
 use native.Mathlib.Omega.{arith}
 use Rattle.sets.proofs.Says.{true-not-false}
@@ -59,6 +60,7 @@ term-Inv-loop g set kept table c n b h j words₀ cuts₀ i x₀ words cuts x = 
     words × TerminalOpen (rules g) set n b i (cells c 0 n) words
     × TerminalsTwinned (rules g) set n h b i x (cells c 0 n) × (x ≤ 64)
     × Mirrored (rules g) n words cuts
+    × (length cuts ≡ length cuts₀)
 
 abbrev term-μ-loop : term-lts.MeasureT-loop
 term-μ-loop g set kept table c n b h j words₀ cuts₀ i x₀ words cuts x = 64 - x
@@ -88,9 +90,7 @@ term-same-length t c = c .before .before .before .before .positions .ensures .0 
 
 term-same-length-2 : (t : ℕ) → term-lts.Need-same-length-2 (calls t) (term-at t) term.Post
     term-Inv-loop term-μ-loop
-term-same-length-2 t c = c .before .before .before .before .positions .ensures .1 .prepared .rules
-    .size ∙ sym (c .before .before .before .before .before .before .before .before .before .before
-    .before .pre .1 .1 .1 .1 .1 .1 .prepared .rules .size)
+term-same-length-2 t c = c .before .cuts .given
 
 term-returns : (t : ℕ) → term-lts.Need-returns (calls t) (term-at t) term.Post term-Inv-loop
     term-μ-loop
@@ -115,6 +115,7 @@ term-loop-holds t c =
       below-none,
       omega arith,
       z .pre .1 .1 .1 .1 .1 .1,
+      refl,
     )
 
 term-has-requires : (t : ℕ) → term-lts.Need-has-requires (calls t) (term-at t) term.Post
@@ -145,6 +146,7 @@ term-loop-again t c =
       omega
           (arith, c .before .before .loop-test .taken),
       l .inv .4,
+      l .inv .5,
     )
 
 term-with-terminal-requires : (t : ℕ)
@@ -234,6 +236,7 @@ term-loop-again-2 t c =
       ),
       c .before .before .before .before .before
           .try-terminal .ensures .1,
+      c .before .before .cuts2 .given ∙ l .inv .5,
     )
 
 term-try-terminals-requires : (t : ℕ)
@@ -285,10 +288,7 @@ term-same-length-3 t c =
 term-same-length-4 : (t : ℕ) → term-lts.Need-same-length-4 (calls t) (term-at t) term.Post
     term-Inv-loop term-μ-loop
 term-same-length-4 t c =
-    c .before .before .before .before .before .try-terminals .ensures .1 .prepared
-    .rules .size ∙ sym (c .before .before .before .before .before .before .before .before .before
-    .before .before .before .before .before .before .before .before .before .before .before
-    .before .before .before .before .before .pre .1 .1 .1 .1 .1 .1 .prepared .rules .size)
+    c .before .before .cuts3 .given ∙ c .before .before .before .before .before .before .before .before .before .before .cuts2 .given ∙ c .before .before .before .before .before .before .before .before .before .before .before .before .before .before .before .before .before .before .before .before .loop .inv .5
 
 term-returns-2 : (t : ℕ) → term-lts.Need-returns-2 (calls t) (term-at t) term.Post
     term-Inv-loop term-μ-loop
@@ -359,6 +359,7 @@ term-loop-again-3 t c =
       ),
       c .before .before .before .before .before .try-terminals .ensures
           .1,
+      c .before .before .cuts3 .given ∙ c .before .before .before .before .before .before .before .before .before .before .cuts2 .given ∙ l .inv .5,
     )
 
 term-shared-slice-read-put-leaf : (t : ℕ)
@@ -388,7 +389,7 @@ term-put-leaf-requires t c κs =
     let low : a .b ≤ a .j - 1 = omega (arith, far, z .pre .1 .0 .1) in
     let h : a .j - 1 < a .n = omega (arith, far, z .pre .1 .0) in
     let l = c .before .before .before .before .before .loop in
-    ((z .pre .1 .0 .0, h), (omega (arith, l .inv .0 .long, z .pre .1 .1 .1 .0), l .inv .4))
+    ((omega (arith, z .pre .1 .0 .0), h), (omega (arith, l .inv .0 .long, z .pre .1 .1 .1 .0), l .inv .4))
 
 term-same-length-5 : (t : ℕ) → term-lts.Need-same-length-5 (calls t) (term-at t) term.Post
     term-Inv-loop term-μ-loop
@@ -398,9 +399,7 @@ term-same-length-5 t c = c .before .before .before .before .put-leaf .ensures .0
 
 term-same-length-6 : (t : ℕ) → term-lts.Need-same-length-6 (calls t) (term-at t) term.Post
     term-Inv-loop term-μ-loop
-term-same-length-6 t c = c .before .before .before .before .put-leaf .ensures .1 .prepared .rules
-    .size ∙ sym (c .before .before .before .before .before .before .before .before .before .before
-    .before .before .before .before .before .pre .1 .1 .1 .1 .1 .1 .prepared .rules .size)
+term-same-length-6 t c = c .before .cuts4 .given ∙ c .before .before .before .before .before .before .before .before .before .before .loop .inv .5
 
 term-returns-3 : (t : ℕ) → term-lts.Need-returns-3 (calls t) (term-at t) term.Post
     term-Inv-loop term-μ-loop

@@ -1,6 +1,7 @@
 -- The loop's invariant: the tokens passed have their pairs. The empty word's is written last.
 use borrow.Author.Needs.{needs}
-use mathlib.Core.Path.{_∙_}
+use mathlib.Core.Path.{_≡_, refl, _∙_}
+use lib.ListN.{length}
 use Prim.Native.Nat.{_-_, _≤_}
 use native.Mathlib.Omega.{arith}
 use Rattle.candidates.specs.Arrays.{cells}
@@ -8,13 +9,13 @@ use Rattle.pruning.specs.Tables.{LeavesPutTo}
 use Rattle.pruning.proofs.TableLaws.{slot-low, laid-none, laid-more, laid-all}
 use Rattle.grammar.specs.Content.{rules}
 use Rattle.refilling.specs.Kept.{Mirrored}
-use mathlib.Core.Path.{sym, _∙_}
 use Rattle.pruning.proofs.put_leaves.Statement.{statement}
 use Rattle.pruning.proofs.put_leaves.Tie as tie
 
 abbrev Inv-loop : tie.InvT-loop
 Inv-loop g table c n b words₀ cuts₀ i₀ words cuts i =
     LeavesPutTo table (cells c 0 n) n b i words₀ words × Mirrored (rules g) n words cuts
+    × (length cuts ≡ length cuts₀)
 
 abbrev μ-loop : tie.MeasureT-loop
 μ-loop g table c n b words₀ cuts₀ i₀ words cuts i = n - i
@@ -24,7 +25,7 @@ low : (c : tie.After-slot Inv-loop μ-loop) → c .slot .result ≤ 64
 low c = slot-low (c .before .before .before .before .before .before .pre .0 .1) (c .slot .ensures)
 
 loop-holds : tie.Need-loop-holds Inv-loop μ-loop
-loop-holds c = (laid-none _, c .before .before .before .pre .1 .1 .1)
+loop-holds c = (laid-none _, c .before .before .before .pre .1 .1 .1, refl)
 
 slot-requires : tie.Need-slot-requires Inv-loop μ-loop
 slot-requires c κs = (c .before .before .before .before .before .pre .0 .0, c .loop-test .taken)
@@ -61,7 +62,7 @@ put-leaf-requires : tie.Need-put-leaf-requires Inv-loop μ-loop
 put-leaf-requires c κs = let z = c .before .before .before .before .before .before .before .before
     .before .before in (
       (
-        (z .pre .0 .0),
+        omega (arith, z .pre .0 .0),
         c .before .before .before .before .before .loop-test
             .taken,
       ),
@@ -92,6 +93,7 @@ loop-again c = (
       (c .before .before .before .before .put-leaf .ensures .0),
   c .before .before .before
       .before .put-leaf .ensures .1,
+  c .before .cuts .given ∙ c .before .before .before .before .before .before .before .before .before .before .before .loop .inv .2,
 )
 
 shared-slice-read-put-empty : tie.Need-shared-slice-read-put-empty Inv-loop μ-loop
@@ -106,7 +108,7 @@ put-empty-requires : tie.Need-put-empty-requires Inv-loop μ-loop
 put-empty-requires c κs = let z =
     c .before .before .before .before .before .before .before .before
     .before in (
-      z .pre .0 .0,
+      omega (arith, z .pre .0 .0),
       (
         omega (
           arith,
@@ -125,9 +127,7 @@ same-length c = c .before .before .before .before .put-empty .ensures .0 .kept .
 
 same-length-2 : tie.Need-same-length-2 Inv-loop μ-loop
 same-length-2 c =
-    c .before .before .before .before .put-empty .ensures .1 .prepared .rules .size
-    ∙ sym (c .before .before .before .before .before .before .before .before .before .before .before
-    .before .before .before .pre .1 .1 .1 .prepared .rules .size)
+    c .before .cuts2 .given ∙ c .before .before .before .before .before .before .before .before .before .before .loop .inv .2
 
 returns : tie.Need-returns Inv-loop μ-loop
 returns c = (

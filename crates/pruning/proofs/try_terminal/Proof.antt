@@ -27,7 +27,7 @@ shared-slice-read-put-leaf-2 c = search needs
 
 put-leaf-requires : tie.Need-put-leaf-requires
 put-leaf-requires c κs = let z = c .before .before .before .before .before .before .before in
-    ((z .pre .0 .0, z .pre .0 .2), (z .pre .1 .1 .0, z .pre .1 .1 .1 .1 .1))
+    ((omega (arith, z .pre .0 .0), z .pre .0 .2), (z .pre .1 .1 .0, z .pre .1 .1 .1 .1 .1))
 
 draft-requires : tie.Need-draft-requires
 draft-requires c κs = search needs
