@@ -232,7 +232,10 @@ place-same-length t c =
 place-same-length-2 : (t : ℕ) → place-lts.Need-same-length-2 (calls t) (place-at t) place.Post
     place-Inv-loop place-μ-loop
 place-same-length-2 t c =
-    c .before .before .cuts2 .given ∙ c .before .before .before .before .before .before .before .before .before .before .cuts .given ∙ c .before .before .before .before .before .before .before .before .before .before .before .before .before .before .before .before .before .before .loop .inv .4
+    c .before .before .cuts2 .given ∙ c .before .before .before .before .before .before .before
+    .before .before .before .cuts .given ∙ c .before .before .before .before .before .before
+    .before .before .before .before .before .before .before .before .before .before .before
+    .before .loop .inv .4
 
 place-returns-2 : (t : ℕ) → place-lts.Need-returns-2 (calls t) (place-at t) place.Post
     place-Inv-loop place-μ-loop
@@ -303,7 +306,8 @@ place-loop-again-2 t c =
       (λ s. within-more (cells-size (z .args .c) 0 n) h (m .ensures .0) (q .out (c .if3 .left) s)
           (l .inv .2 s)),
       c .before .before .before .before .before .try-positions .ensures .1,
-      c .before .before .cuts2 .given ∙ c .before .before .before .before .before .before .before .before .before .before .cuts .given ∙ l .inv .4,
+      c .before .before .cuts2 .given ∙ c .before .before .before .before .before .before .before
+          .before .before .before .cuts .given ∙ l .inv .4,
     )
 
 place-same-length-3 : (t : ℕ) → place-lts.Need-same-length-3 (calls t) (place-at t) place.Post

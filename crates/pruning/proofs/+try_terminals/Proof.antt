@@ -288,7 +288,10 @@ term-same-length-3 t c =
 term-same-length-4 : (t : ℕ) → term-lts.Need-same-length-4 (calls t) (term-at t) term.Post
     term-Inv-loop term-μ-loop
 term-same-length-4 t c =
-    c .before .before .cuts3 .given ∙ c .before .before .before .before .before .before .before .before .before .before .cuts2 .given ∙ c .before .before .before .before .before .before .before .before .before .before .before .before .before .before .before .before .before .before .before .before .loop .inv .5
+    c .before .before .cuts3 .given ∙ c .before .before .before .before .before .before .before
+    .before .before .before .cuts2 .given ∙ c .before .before .before .before .before .before
+    .before .before .before .before .before .before .before .before .before .before .before
+    .before .before .before .loop .inv .5
 
 term-returns-2 : (t : ℕ) → term-lts.Need-returns-2 (calls t) (term-at t) term.Post
     term-Inv-loop term-μ-loop
@@ -359,7 +362,8 @@ term-loop-again-3 t c =
       ),
       c .before .before .before .before .before .try-terminals .ensures
           .1,
-      c .before .before .cuts3 .given ∙ c .before .before .before .before .before .before .before .before .before .before .cuts2 .given ∙ l .inv .5,
+      c .before .before .cuts3 .given ∙ c .before .before .before .before .before .before .before
+          .before .before .before .cuts2 .given ∙ l .inv .5,
     )
 
 term-shared-slice-read-put-leaf : (t : ℕ)
@@ -388,8 +392,10 @@ term-put-leaf-requires t c κs =
     let far = c .before .before .before .before .before .before .if1 .left in
     let low : a .b ≤ a .j - 1 = omega (arith, far, z .pre .1 .0 .1) in
     let h : a .j - 1 < a .n = omega (arith, far, z .pre .1 .0) in
-    let l = c .before .before .before .before .before .loop in
-    ((omega (arith, z .pre .1 .0 .0), h), (omega (arith, l .inv .0 .long, z .pre .1 .1 .1 .0), l .inv .4))
+    let l = c .before .before .before .before .before .loop in (
+      (omega (arith, z .pre .1 .0 .0), h),
+      (omega (arith, l .inv .0 .long, z .pre .1 .1 .1 .0), l .inv .4),
+    )
 
 term-same-length-5 : (t : ℕ) → term-lts.Need-same-length-5 (calls t) (term-at t) term.Post
     term-Inv-loop term-μ-loop
@@ -399,7 +405,8 @@ term-same-length-5 t c = c .before .before .before .before .put-leaf .ensures .0
 
 term-same-length-6 : (t : ℕ) → term-lts.Need-same-length-6 (calls t) (term-at t) term.Post
     term-Inv-loop term-μ-loop
-term-same-length-6 t c = c .before .cuts4 .given ∙ c .before .before .before .before .before .before .before .before .before .before .loop .inv .5
+term-same-length-6 t c = c .before .cuts4 .given ∙ c .before .before .before .before .before .before
+    .before .before .before .before .loop .inv .5
 
 term-returns-3 : (t : ℕ) → term-lts.Need-returns-3 (calls t) (term-at t) term.Post
     term-Inv-loop term-μ-loop

@@ -93,7 +93,8 @@ loop-again c = (
       (c .before .before .before .before .put-leaf .ensures .0),
   c .before .before .before
       .before .put-leaf .ensures .1,
-  c .before .cuts .given ∙ c .before .before .before .before .before .before .before .before .before .before .before .loop .inv .2,
+  c .before .cuts .given ∙ c .before .before .before .before .before .before .before .before .before
+      .before .before .loop .inv .2,
 )
 
 shared-slice-read-put-empty : tie.Need-shared-slice-read-put-empty Inv-loop μ-loop
@@ -127,7 +128,8 @@ same-length c = c .before .before .before .before .put-empty .ensures .0 .kept .
 
 same-length-2 : tie.Need-same-length-2 Inv-loop μ-loop
 same-length-2 c =
-    c .before .cuts2 .given ∙ c .before .before .before .before .before .before .before .before .before .before .loop .inv .2
+    c .before .cuts2 .given ∙ c .before .before .before .before .before .before .before .before
+    .before .before .loop .inv .2
 
 returns : tie.Need-returns Inv-loop μ-loop
 returns c = (

@@ -5,7 +5,6 @@ use Prim.Native.Nat.{_^_, _<_, _≤_}
 use Rattle.spans.proofs.ChangeLaws.{past-same}
 use Rattle.share_search.proofs.Looking.{looked-early, looked-across, looked-twin}
 use Rattle.share_search.proofs.Looking.{looked-whole}
-use mathlib.Core.Path.{sym, _∙_}
 use Rattle.share_search.proofs.look.Statement.{statement}
 use Rattle.share_search.proofs.look.Tie as tie
 
@@ -30,9 +29,7 @@ same-length : tie.Need-same-length
 same-length c = c .before .before .before .before .has-two .ensures .0 .1 .long
 
 same-length-2 : tie.Need-same-length-2
-same-length-2 c = c .before .before .before .before .has-two .ensures .1 .prepared .rules .size
-    ∙ sym (c .before .before .before .before .before .before .before .before .before .before .before
-    .before .pre .1 .1 .1 .1 .prepared .rules .size)
+same-length-2 c = c .before .cuts .given
 
 returns-2 : tie.Need-returns-2
 returns-2 c =
@@ -88,9 +85,7 @@ same-length-3 : tie.Need-same-length-3
 same-length-3 c = c .before .before .before .before .outdone .ensures .0 .1 .long
 
 same-length-4 : tie.Need-same-length-4
-same-length-4 c = c .before .before .before .before .outdone .ensures .1 .prepared .rules .size
-    ∙ sym (c .before .before .before .before .before .before .before .before .before .before .before
-    .before .before .before .before .pre .1 .1 .1 .1 .prepared .rules .size)
+same-length-4 c = c .before .cuts2 .given
 
 returns-5 : tie.Need-returns-5
 returns-5 c =

@@ -2,7 +2,8 @@
 -- candidates with the cells that are left.
 use borrow.Author.Needs.{needs}
 use borrow.Author.Tests.{not-true, not-false}
-use mathlib.Core.Path.{_∙_, ap₂}
+use mathlib.Core.Path.{_≡_, refl, _∙_, ap₂}
+use lib.ListN.{length}
 use Prim.Native.Nat.{_+_, _-_, _*_, _^_, _<_}
 use native.Mathlib.Omega.{arith}
 use Rattle.grammar.specs.SpanSheet.{pairs}
@@ -15,13 +16,13 @@ use Rattle.share_search.proofs.Turns.{over, at-end}
 use Rattle.share_search.proofs.Looking.{turn-first, turn-next, turn-more, next-falls, hit-of}
 use Rattle.grammar.specs.Content.{rules}
 use Rattle.refilling.specs.Kept.{Mirrored}
-use mathlib.Core.Path.{sym, _∙_}
 use Rattle.share_search.proofs.search.Statement.{statement}
 use Rattle.share_search.proofs.search.Tie as tie
 
 abbrev Inv-loop : tie.InvT-loop
 Inv-loop g set kept table low n start end words₀ cuts₀ c₀ b₀ words cuts c b = ShareTurn (rules g)
     set n start b (cells c 0 n) × Past (2 * pairs n) words₀ words × Mirrored (rules g) n words cuts
+    × (length cuts ≡ length cuts₀)
 
 abbrev μ-loop : tie.MeasureT-loop
 μ-loop g set kept table low n start end words₀ cuts₀ c₀ b₀ words cuts c b =
@@ -32,7 +33,7 @@ below c = omega (arith, c .good)
 
 open-sheet-requires : tie.Need-open-sheet-requires Inv-loop μ-loop
 open-sheet-requires c κs = let a = c .before .before .before .before .before in
-    (a .pre .0 .0 .high, (a .pre .1 .1 .0, a .pre .1 .1 .1 .1))
+    (omega (arith, a .pre .0 .0 .high), (a .pre .1 .1 .0, a .pre .1 .1 .1 .1))
 
 first-requires : tie.Need-first-requires Inv-loop μ-loop
 first-requires c κs = let a = c .before .before .before .before .before .before .before .before
@@ -46,6 +47,7 @@ loop-holds c = (
   past-same _ _,
   c .before .before .before .before .before .open-sheet
       .ensures .0,
+  refl,
 )
 
 block-of-requires : tie.Need-block-of-requires Inv-loop μ-loop
@@ -63,9 +65,8 @@ same-length c = past-then (c .before .before .before .before .before .before .be
     .before .open-sheet .ensures .1) (c .before .before .before .before .loop .inv .1) .long
 
 same-length-2 : tie.Need-same-length-2 Inv-loop μ-loop
-same-length-2 c = c .before .before .before .before .loop .inv .2 .prepared .rules .size
-    ∙ sym (c .before .before .before .before .before .before .before .before .before .before .before
-    .before .before .before .before .before .pre .1 .1 .1 .1 .rules .size)
+same-length-2 c = c .before .before .before .before .loop .inv .3
+    ∙ c .before .before .before .before .before .before .before .cuts .given
 
 returns : tie.Need-returns Inv-loop μ-loop
 returns c =
@@ -143,11 +144,11 @@ same-length-3 c = (past-then (past-then
     .look .ensures .0 .1)) .long
 
 same-length-4 : tie.Need-same-length-4 Inv-loop μ-loop
-same-length-4 c = c .before .before .before .before .before .before .before .before .before .look
-    .ensures .1 .prepared .rules .size ∙ sym
-    (c .before .before .before .before .before .before .before .before .before .before .before
-    .before .before .before .before .before .before .before .before .before .before .before
-    .before .before .before .before .before .before .pre .1 .1 .1 .1 .rules .size)
+same-length-4 c = c .before .before .before .before .before .before .cuts2 .given
+    ∙ c .before .before .before .before .before .before .before .before .before .before .before
+    .before .before .before .before .before .loop .inv .3
+    ∙ c .before .before .before .before .before .before .before .before .before .before .before
+    .before .before .before .before .before .before .before .before .cuts .given
 
 returns-2 : tie.Need-returns-2 Inv-loop μ-loop
 returns-2 c =
@@ -201,6 +202,7 @@ loop-again c =
           (c .before .before .before .before .if2 .taken) f,
       past-then (l .inv .1) (v .0 .1),
       v .1,
+      c .before .before .before .before .before .before .cuts2 .given ∙ l .inv .3,
     )
 
 same-length-5 : tie.Need-same-length-5 Inv-loop μ-loop
@@ -212,10 +214,10 @@ same-length-5 c = (past-then (past-then
     (c .before .before .before .before .before .before .look .ensures .0 .1)) .long
 
 same-length-6 : tie.Need-same-length-6 Inv-loop μ-loop
-same-length-6 c = c .before .before .before .before .before .before .look .ensures .1 .prepared
-    .rules .size ∙ sym (c .before .before .before .before .before .before .before .before .before
-    .before .before .before .before .before .before .before .before .before .before .before
-    .before .before .before .before .before .pre .1 .1 .1 .1 .rules .size)
+same-length-6 c = c .before .before .before .cuts2 .given
+    ∙ c .before .before .before .before .before .before .before .before .before .before .before
+    .before .before .loop .inv .3 ∙ c .before .before .before .before .before .before .before
+    .before .before .before .before .before .before .before .before .before .cuts .given
 
 returns-3 : tie.Need-returns-3 Inv-loop μ-loop
 returns-3 c =
@@ -270,6 +272,7 @@ loop-again-2 c = let l = c .before .before .before .before .before .before .befo
           (c .before .before .before .before .before .before .look .ensures .0 .1),
       c .before
           .before .before .before .before .before .look .ensures .1,
+      c .before .before .before .cuts2 .given ∙ l .inv .3,
     )
 
 pub search-spec : {M : Type 1} → statement M

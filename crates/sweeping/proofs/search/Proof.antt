@@ -2,7 +2,8 @@
 -- earlier one has. The measures are the lengths, and the candidates with the cells, that are left.
 use borrow.Author.Needs.{needs}
 use borrow.Author.Tests.{not-true, not-false}
-use mathlib.Core.Path.{_∙_}
+use mathlib.Core.Path.{_≡_, refl, _∙_}
+use lib.ListN.{length}
 use Prim.Native.Nat.{_+_, _-_, _*_, _≤_}
 use native.Mathlib.Omega.{arith}
 use Rattle.grammar.specs.SpanSheet.{pairs}
@@ -17,13 +18,13 @@ use Rattle.sweeping.proofs.Looking.{pairs-mono, past-longer}
 use Rattle.sweeping.proofs.Answers.{none-left}
 use Rattle.grammar.specs.Content.{rules}
 use Rattle.refilling.specs.Kept.{Prepared, Mirrored}
-use mathlib.Core.Path.{sym, _∙_}
 use Rattle.sweeping.proofs.search.Statement.{statement}
 use Rattle.sweeping.proofs.search.Tie as tie
 
 abbrev Inv-loop : tie.InvT-loop
 Inv-loop g set table low lengths k words₀ cuts₀ n c₀ b₀ words cuts c b = SweepTurn (rules g) set n b
     (cells c 0 n) × Past (2 * pairs k) words₀ words × Mirrored (rules g) n words cuts × (n ≤ k)
+    × (length cuts ≡ length cuts₀)
 
 abbrev μ-loop : tie.MeasureT-loop
 μ-loop g set table low lengths k words₀ cuts₀ n c₀ b₀ words cuts c b =
@@ -32,6 +33,7 @@ abbrev μ-loop : tie.MeasureT-loop
 abbrev Inv-search : tie.InvT-search
 Inv-search g set table low lengths k words₀ cuts₀ n₀ words cuts n = (1 ≤ n) × (n ≤ k + 1)
     × NoneShorter (rules g) set n × Past (2 * pairs k) words₀ words × Prepared (rules g) cuts
+    × (length cuts ≡ length cuts₀)
 
 abbrev μ-search : tie.MeasureT-search
 μ-search g set table low lengths k words₀ cuts₀ n₀ words cuts n = k + 1 - n
@@ -43,7 +45,8 @@ search-holds c = (
   none-yet,
   past-same _ _,
   c .before .before .before .pre
-      .1 .1 .1 .1 .1 .1,
+      .1 .1 .1 .1 .1 .1 .1,
+  refl,
 )
 
 nothing-requires : tie.Need-nothing-requires Inv-loop μ-loop Inv-search μ-search
@@ -83,6 +86,7 @@ search-again c =
           (not-true _ (c .if2 .taken))),
       v .3,
       v .4,
+      v .5,
     )
 
 open-sheet-requires : tie.Need-open-sheet-requires Inv-loop μ-loop Inv-search μ-search
@@ -99,7 +103,15 @@ open-sheet-requires c κs =
               .3 .long,
           m,
         ),
-        c .before .before .before .before .before .search .inv .4,
+        (
+          omega (
+            arith,
+            c .before .before .before .before .if1 .left,
+            z .pre .1 .1 .1 .1 .1 .1 .0,
+            c .before .before .before .before .before .search .inv .5,
+          ),
+          c .before .before .before .before .before .search .inv .4,
+        ),
       ),
     )
 
@@ -133,6 +145,7 @@ loop-holds c = (
     c .before .before .before .before .before .before .before .before .before .before
         .before .before .before .before .before .pre .0 .0,
   ),
+  refl,
 )
 
 look-requires : tie.Need-look-requires Inv-loop μ-loop Inv-search μ-search
@@ -256,6 +269,9 @@ loop-again c =
           .look .ensures .1,
       c .before .before .before .before .before .before .before .before .before .before .before
           .before .loop .inv .3,
+      c .before .before .before .before .before .before .cuts2 .given
+          ∙ c .before .before .before .before .before .before .before .before .before .before
+          .before .before .loop .inv .4,
     )
 
 add-b : tie.Need-add-b Inv-loop μ-loop Inv-search μ-search
@@ -289,6 +305,8 @@ loop-again-2 c = (
       (c .before .before .before .before .before .before .look .ensures .0 .1))),
   c .before .before .before .before .before .before .look .ensures .1,
   c .before .before .before .before .before .before .before .before .before .loop .inv .3,
+  c .before .before .before .cuts2 .given ∙ c .before .before .before .before .before .before
+      .before .before .before .loop .inv .4,
 )
 
 add-n-2 : tie.Need-add-n-2 Inv-loop μ-loop Inv-search μ-search
@@ -344,14 +362,17 @@ search-again-2 c =
           (c .before .before .before .before .before .before .before .before .look .ensures
           .0 .1))),
       c .before .before .before .before .before .before .before .before .look .ensures .1 .prepared,
+      c .before .before .before .before .before .cuts2 .given
+          ∙ c .before .before .before .before .before .before .before .before .before .before
+          .before .loop .inv .4 ∙ c .before .before .before .before .before .before .before .before
+          .before .before .before .before .before .before .cuts .given ∙ v .5,
     )
 
 same-length : tie.Need-same-length Inv-loop μ-loop Inv-search μ-search
 same-length c = c .before .before .search .inv .3 .long
 
 same-length-2 : tie.Need-same-length-2 Inv-loop μ-loop Inv-search μ-search
-same-length-2 c = c .before .before .search .inv .4 .rules .size
-    ∙ sym (c .before .before .before .before .before .before .pre .1 .1 .1 .1 .1 .1 .rules .size)
+same-length-2 c = c .before .before .search .inv .5
 
 returns : tie.Need-returns Inv-loop μ-loop Inv-search μ-search
 returns c =
@@ -376,10 +397,12 @@ same-length-3 c = (past-then (past-then
     .long
 
 same-length-4 : tie.Need-same-length-4 Inv-loop μ-loop Inv-search μ-search
-same-length-4 c = c .before .before .before .before .before .before .look .ensures .1 .prepared
-    .rules .size ∙ sym (c .before .before .before .before .before .before .before .before .before
-    .before .before .before .before .before .before .before .before .before .before .before
-    .before .before .before .before .before .pre .1 .1 .1 .1 .1 .1 .rules .size)
+same-length-4 c = c .before .before .before .cuts2 .given
+    ∙ c .before .before .before .before .before .before .before .before .before .loop .inv .4
+    ∙ c .before .before .before .before .before .before .before .before .before .before .before
+    .before .cuts .given ∙ c .before .before .before .before .before .before .before .before .before
+    .before .before .before .before .before .before .before .before .before .before .before .before
+    .search .inv .5
 
 returns-2 : tie.Need-returns-2 Inv-loop μ-loop Inv-search μ-search
 returns-2 c =
