@@ -39,9 +39,9 @@ fn put_unknown(out: &mut [u8], line: usize) -> usize
 {
     let a = put_bytes(out, 0, b"answer line\n");
     let b = put_bytes(out, a, b"unknown");
-    let c = put_byte(out, b, 32);
+    let c = put_byte(out, b, b' ');
     let d = put_number(out, c, line as u64);
-    put_byte(out, d, 10)
+    put_byte(out, d, b'\n')
 }
 
 // The first two lines.

@@ -14,6 +14,7 @@ use sheets::Fault;
 use sheets::Outcome;
 use sheets::read_rules;
 use sheets::read_tokens;
+use spans::SPANS;
 use spans::size;
 ghost use mathlib.Core.Path.{_≡_};
 ghost use Rattle.grammar.specs.Trees.{TwoTrees};
@@ -76,7 +77,7 @@ fn list_two(words: &[u64], s: Sentence, g: Grammar, list: &mut [u8]) -> Listed
     ensures { λ r. ⌜ PlacesGiven (rulesOf g) (spelled s) (now (list .entry)) (now (list .exit))
         r ⌝ }
 {
-    let mut parts = [0u64; 2081];
+    let mut parts = [0u64; SPANS];
     find_places(words, s, g, &mut parts);
     list_places(&parts, s, g, list)
 }

@@ -61,7 +61,7 @@ fn begins(s: &[u8], start: &[u8]) -> bool
     }
     if same(&s[..n], start) {
         let last = m - 1;
-        return s[last] == 10;
+        return s[last] == b'\n';
     }
     false
 }
@@ -93,10 +93,10 @@ fn one_field(f: &[u8]) -> bool
     let mut i = 0;
     while i < f.len() {
         let b = f[i];
-        if b == 32 {
+        if b == b' ' {
             return false;
         }
-        if b == 10 {
+        if b == b'\n' {
             return false;
         }
         i += 1;

@@ -14,6 +14,7 @@ use reports::merge_text;
 use rights_text::change_text;
 use rights_text::show_text;
 use share_text::share_text;
+use text::OUTPUT;
 use text::Place;
 use text::parting;
 use text::put_refusal;
@@ -155,7 +156,7 @@ fn answer_at(input: &[u8], i: usize, out: &mut [u8]) -> usize
 }
 
 // The whole output of the program `calls`; its length.
-pub fn calls_text(input: &[u8], out: &mut [u8; 262144]) -> usize
+pub fn calls_text(input: &[u8], out: &mut [u8; OUTPUT]) -> usize
     ensures { λ r. ⌜ Printed CallsOf (now (input .entry)) (now (out .entry)) (now (out .exit)) r ⌝ }
 {
     if 16384 < input.len() {

@@ -7,13 +7,13 @@ ghost use lib.ListN.{length};
 fn digit(b: u8) -> usize
     ensures { λ r. ⌜ r ≤ 9 ⌝ }
 {
-    if b < 48 {
+    if b < b'0' {
         return 0;
     }
-    if 57 < b {
+    if b'9' < b {
         return 0;
     }
-    let d = b - 48;
+    let d = b - b'0';
     d as usize
 }
 

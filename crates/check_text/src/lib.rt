@@ -1,6 +1,8 @@
 // The whole output of the program `check`.
 use answering::trees_read;
 use sheets::read_rules;
+use spans::SHEET_WORDS;
+use text::OUTPUT;
 use text::Place;
 use text::parting;
 use text::put_head;
@@ -18,7 +20,7 @@ fn check_sheets(rules: &[u8], tokens: &[u8], out: &mut [u8]) -> usize
     ensures { λ r. ⌜ Printed TreesText (sheets (now (rules .entry)) (now (tokens .entry)))
         (now (out .entry)) (now (out .exit)) r ⌝ }
 {
-    let mut words = [0u64; 4162];
+    let mut words = [0u64; SHEET_WORDS];
     let mut one = [0u8; 16384];
     let mut two = [0u8; 16384];
     let r = trees_read(read_rules(rules), tokens, &mut words, &mut one, &mut two);
@@ -40,7 +42,7 @@ fn check_at(input: &[u8], i: usize, out: &mut [u8]) -> usize
 }
 
 // The whole output of the program `check`; its length.
-pub fn check_text(input: &[u8], out: &mut [u8; 262144]) -> usize
+pub fn check_text(input: &[u8], out: &mut [u8; OUTPUT]) -> usize
     ensures { λ r. ⌜ Printed CheckOf (now (input .entry)) (now (out .entry)) (now (out .exit)) r ⌝ }
 {
     if 16384 < input.len() {

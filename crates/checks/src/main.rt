@@ -16,6 +16,7 @@ use rights_text::change_text;
 use rights_text::show_text;
 use sweep_text::sweep_text;
 use teplonga::sweep;
+use text::OUTPUT;
 ghost use Prim.Native.Nat.{_≤_};
 ghost use lib.ListN.{length};
 
@@ -100,7 +101,7 @@ fn parts(case: &[u8], out: &mut [u8]) -> usize
 }
 
 // The output of a case, and its length; 0 where it is written already.
-fn output(case: &[u8], out: &mut [u8; 262144]) -> usize
+fn output(case: &[u8], out: &mut [u8; OUTPUT]) -> usize
     ensures { λ r. ⌜ r ≤ length (now (out .exit)) ⌝ }
 {
     if case.len() < 1 {
@@ -129,7 +130,7 @@ fn case() -> bool {
     if n == 100000 {
         return false;
     }
-    let mut out = [0u8; 262144];
+    let mut out = [0u8; OUTPUT];
     let r = output(&space[..n], &mut out);
     io::write_all(STDOUT_FILENO, &out[..r]);
     true

@@ -4,6 +4,7 @@ use call_clauses::sweep;
 use call_clauses::trees;
 use printing::put_bytes;
 use sentence_text::put_sentence;
+use spans::SHEET_WORDS;
 use text::put_head;
 use text::put_trees;
 ghost use Prim.Native.Nat.{_≤_};
@@ -21,7 +22,7 @@ pub fn clauses_text(clauses: &[u8], tokens: &[u8], out: &mut [u8]) -> usize
     ensures { λ r. ⌜ Printed TreesText (clauseSheets (now (clauses .entry)) (now (tokens .entry)))
         (now (out .entry)) (now (out .exit)) r ⌝ }
 {
-    let mut words = [0u64; 4162];
+    let mut words = [0u64; SHEET_WORDS];
     let mut one = [0u8; 16384];
     let mut two = [0u8; 16384];
     let r = trees(clauses, tokens, &mut words, &mut one, &mut two);

@@ -5,6 +5,7 @@ use column_search::Flags;
 use printing::put_byte;
 use printing::put_bytes;
 use sheets::Answer;
+use spans::SHEET_WORDS;
 use text::put_head;
 ghost use mathlib.Core.List.{[], _∷_, _++_};
 ghost use Prim.Native.Nat.{_+_, _≤_};
@@ -59,7 +60,7 @@ pub fn columns_text(rules: &[u8], ranges: &[u8], out: &mut [u8]) -> usize
     ensures { λ r. ⌜ Printed (ColumnsTextOf (now (rules .entry))) (now (ranges .entry))
         (now (out .entry)) (now (out .exit)) r ⌝ }
 {
-    let mut words = [0u64; 4162];
+    let mut words = [0u64; SHEET_WORDS];
     let r = columns(rules, ranges, &mut words);
     let a = r.answer;
     let f = r.found;

@@ -17,6 +17,7 @@ use sets::Member;
 use sets::has;
 use sets::wide;
 use sets::with;
+use spans::SPANS;
 use spans::clear;
 use spans::pair_at;
 use spans::size;
@@ -499,7 +500,7 @@ pub fn find_places(words: &[u64], s: Sentence, g: Grammar, parts: &mut [u64])
     };
     let mut lists = [0u64; 192];
     list_rules(g, &mut lists);
-    let mut reach = [0u64; 2081];
+    let mut reach = [0u64; SPANS];
     begin(&mut reach, n);
     let mut cuts = [0u64; 4160];
     load_columns(words, &mut cuts, n);

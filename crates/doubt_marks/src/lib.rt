@@ -4,6 +4,7 @@ use acyclic::nullables;
 use doubt_list::Sets;
 use grammar::Grammar;
 use pair_offsets::Frame;
+use pair_offsets::ONE_START;
 use pair_steps::Node;
 use survey::occurring;
 use survey::productives;
@@ -147,7 +148,7 @@ fn selves_by(nodes: &[u64], table: &[u64], k: usize, out: &mut [u64])
     if !pair_frames::ranked(f) {
         return;
     }
-    let mut list = [0u64; 1024];
+    let mut list = [0u64; ONE_START];
     let end = pair_offsets::list_from_one(f, &mut list, 0);
     selves_over(nodes, table, f, &list, end, out);
 }
@@ -319,7 +320,7 @@ fn mark_by(nodes: &[u64], table: &[u64], seen: u64, k: usize, marks: &mut [u64])
     if !pair_frames::ranked(f) {
         return;
     }
-    let mut list = [0u64; 1024];
+    let mut list = [0u64; ONE_START];
     let end = pair_offsets::list_from_one(f, &mut list, 0);
     mark_over(nodes, table, seen, f, &list, end, marks);
 }

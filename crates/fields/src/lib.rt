@@ -126,13 +126,13 @@ fn digits(f: &[u8]) -> Number
     let mut i = 0;
     while i < f.len() {
         let b = f[i];
-        if b < 48 {
+        if b < b'0' {
             return Number::Not;
         }
-        if 57 < b {
+        if b'9' < b {
             return Number::Not;
         }
-        let d = b - 48;
+        let d = b - b'0';
         v = v * 10 + d as u32;
         i += 1;
     }
@@ -222,7 +222,7 @@ impl Cursor {
         requires { ⌜ at ≤ length (now s) ⌝ }
         ensures { λ r. ⌜ r ≡ lineAt (now (s .entry)) at ⌝ }
     {
-        let end = piece_end(s, at, 10);
+        let end = piece_end(s, at, b'\n');
         Cursor { at, end }
     }
 
@@ -248,7 +248,7 @@ impl Cursor {
             return NumberField::Bad;
         }
         let line = &s[..end];
-        let e = piece_end(line, at, 32);
+        let e = piece_end(line, at, b' ');
         match numeral(&line[at..e]) {
             Number::Is(v) => NumberField::Is(v, Cursor { at: e + 1, end }),
             Number::Not => NumberField::Bad,
@@ -267,7 +267,7 @@ impl Cursor {
             return KindField::Bad;
         }
         let line = &s[..end];
-        let e = piece_end(line, at, 32);
+        let e = piece_end(line, at, b' ');
         match kind_word(&line[at..e]) {
             KindWord::Is(v) => KindField::Is(v, Cursor { at: e + 1, end }),
             KindWord::Not => KindField::Bad,
@@ -286,7 +286,7 @@ impl Cursor {
             return OperandField::Bad;
         }
         let line = &s[..end];
-        let e = piece_end(line, at, 32);
+        let e = piece_end(line, at, b' ');
         match operand_word(&line[at..e]) {
             OperandWord::Is(v) => OperandField::Is(v, Cursor { at: e + 1, end }),
             OperandWord::Not => OperandField::Bad,
@@ -304,7 +304,7 @@ impl Cursor {
             return LayField::Bad;
         }
         let line = &s[..end];
-        let e = piece_end(line, at, 32);
+        let e = piece_end(line, at, b' ');
         match lay_word(&line[at..e]) {
             LayWord::Is(v) => LayField::Is(v, Cursor { at: e + 1, end }),
             LayWord::Not => LayField::Bad,

@@ -15,6 +15,7 @@ use marks::allows_unary;
 use marks::span_marks;
 use sets::either;
 use sets::wide;
+use spans::SPANS;
 use spans::pair_at;
 ghost use mathlib.Core.Path.{_≡_};
 ghost use mathlib.Core.Bool.{true};
@@ -34,13 +35,16 @@ ghost use Rattle.heights.specs.Falls.{Stopped, Shut};
 ghost use Rattle.heights.specs.Filled.{Filled, Whole, Settling};
 ghost use Rattle.grammar.specs.Sentences.{spelled};
 
+// A place for each of 64 nonterminals over each span of 64 tokens.
+pub const HEIGHTS: usize = 133184;
+
 // Where the number of `a` at the span stands.
 pub fn cell(n: usize, start: usize, len: usize, a: u8) -> usize
     requires { ⌜ (n ≤ 64) × (start + len ≤ n) × (a < 64) ⌝ }
     ensures { λ r. ⌜ (r ≡ 2081 * a + pairAt n start len) × (r < 133184) ⌝ }
 {
     let p = pair_at(n, start, len);
-    2081 * wide(a) + p
+    SPANS * wide(a) + p
 }
 
 // The number of `a` at the span.
@@ -271,11 +275,11 @@ fn no_empty_side(hs: &[u16], n: usize, c: Clause) -> bool
         Clause::Atom(_, _) => false,
         Clause::Unary(_, _) => false,
         Clause::Binary(b, e, _) => {
-            let x = 2081 * wide(b);
+            let x = SPANS * wide(b);
             if hs[x] < 65535 {
                 return false;
             }
-            let y = 2081 * wide(e);
+            let y = SPANS * wide(e);
             if hs[y] < 65535 { false } else { true }
         }
     }

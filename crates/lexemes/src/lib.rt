@@ -64,10 +64,10 @@ fn digits_end(s: &[u8], at: usize) -> usize
 {
     let mut i = at;
     while i < s.len() {
-        if s[i] < 48 {
+        if s[i] < b'0' {
             return i;
         }
-        if 57 < s[i] {
+        if b'9' < s[i] {
             return i;
         }
         i += 1;

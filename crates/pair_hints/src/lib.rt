@@ -7,6 +7,9 @@ ghost use Prim.Native.Nat.{_≤_, _<_};
 ghost use lib.ListN.{length};
 ghost use Rattle.pair_tables.specs.Reading.{Small};
 
+// Two words for each hint, behind 32 that say where those of each two numbers of children stand.
+pub const HINTS: usize = 1024;
+
 // Where the first and the second child of two nodes over a frame stop.
 struct Stops {
     xc: u8,
@@ -161,7 +164,7 @@ fn entry_of(words: &[u64], n: usize, code: u64) -> usize
 
 // Puts the hint of an entry, two words, if there is room: places, the entry and the one with the
 // nodes exchanged, and flags. The next place.
-fn put_hint(words: &[u64], n: usize, k: usize, kind: u8, out: &mut [u64; 1024], at: usize) -> usize
+fn put_hint(words: &[u64], n: usize, k: usize, kind: u8, out: &mut [u64; HINTS], at: usize) -> usize
     requires { ⌜ (73728 ≤ length (now words)) × (n ≤ 256) × (k < n) × (at ≤ 1024) ⌝ }
     ensures { λ r. ⌜ r ≤ 1024 ⌝ }
 {
@@ -179,7 +182,7 @@ fn put_hint(words: &[u64], n: usize, k: usize, kind: u8, out: &mut [u64; 1024], 
 }
 
 // The same, if the entry is one for nodes with `kind / 4` and `kind % 4` children.
-fn put_if(words: &[u64], n: usize, k: usize, kind: u8, out: &mut [u64; 1024], at: usize) -> usize
+fn put_if(words: &[u64], n: usize, k: usize, kind: u8, out: &mut [u64; HINTS], at: usize) -> usize
     requires { ⌜ (73728 ≤ length (now words)) × (n ≤ 256) × (k < n) × (at ≤ 1024) × (kind < 16) ⌝ }
     ensures { λ r. ⌜ r ≤ 1024 ⌝ }
 {
@@ -190,7 +193,7 @@ fn put_if(words: &[u64], n: usize, k: usize, kind: u8, out: &mut [u64; 1024], at
 }
 
 // The hints of all entries for such nodes.
-fn put_kind(words: &[u64], n: usize, kind: u8, out: &mut [u64; 1024], from: usize) -> usize
+fn put_kind(words: &[u64], n: usize, kind: u8, out: &mut [u64; HINTS], from: usize) -> usize
     requires { ⌜ (73728 ≤ length (now words)) × (n ≤ 256) × (from ≤ 1024) × (kind < 16) ⌝ }
     ensures { λ r. ⌜ r ≤ 1024 ⌝ }
 {
@@ -204,7 +207,7 @@ fn put_kind(words: &[u64], n: usize, kind: u8, out: &mut [u64; 1024], from: usiz
 }
 
 // The hints of the entries by the numbers of children, and where those of each two numbers stand.
-pub fn list_hints(words: &[u64], n: usize, out: &mut [u64; 1024])
+pub fn list_hints(words: &[u64], n: usize, out: &mut [u64; HINTS])
     requires { ⌜ (73728 ≤ length (now words)) × (n ≤ 256) ⌝ }
 {
     let mut at: usize = 32;
@@ -228,7 +231,7 @@ fn within(at: u64) -> usize
 }
 
 // Where the hints for nodes with `kind / 4` and `kind % 4` children start.
-pub fn hints_from(hints: &[u64; 1024], kind: u8) -> usize
+pub fn hints_from(hints: &[u64; HINTS], kind: u8) -> usize
     requires { ⌜ kind < 16 ⌝ }
     ensures { λ r. ⌜ r ≤ 1023 ⌝ }
 {
@@ -236,7 +239,7 @@ pub fn hints_from(hints: &[u64; 1024], kind: u8) -> usize
 }
 
 // Where they end.
-pub fn hints_end(hints: &[u64; 1024], kind: u8) -> usize
+pub fn hints_end(hints: &[u64; HINTS], kind: u8) -> usize
     requires { ⌜ kind < 16 ⌝ }
     ensures { λ r. ⌜ r ≤ 1023 ⌝ }
 {
@@ -285,7 +288,7 @@ fn may_stand(w: Words, places: u64) -> bool {
 
 // The first hint from a place on by which nodes with these words may stand; past the end if there
 // is none.
-pub fn next_hint(hints: &[u64; 1024], w: Words, from: usize, end: usize) -> usize
+pub fn next_hint(hints: &[u64; HINTS], w: Words, from: usize, end: usize) -> usize
     requires { ⌜ end ≤ 1023 ⌝ }
     ensures { λ r. ⌜ from ≤ r ⌝ }
 {

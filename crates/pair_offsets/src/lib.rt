@@ -9,6 +9,9 @@ ghost use Rattle.pair_offsets.specs.Evens.{TriSays, SameSays, SamesSay, 
 ghost use Rattle.pair_offsets.specs.Evens.{EvenSix};
 ghost use Rattle.pair_offsets.specs.Lists.{Held, OffsetAdded, OffsetsLeft, Pushed, Listing};
 
+// How many sixes a frame has at most whose two starts are one.
+pub const ONE_START: usize = 1024;
+
 // Where two nodes start, are cut and stop: the first node from `start` to `stop`, the second from
 // `begin` to `end`.
 pub struct Frame {

@@ -1,4 +1,5 @@
 // The search: steps of all pairs of nodes over all frames, until no step adds to the table.
+use pair_hints::HINTS;
 use pair_steps::Node;
 use pair_steps::Words;
 ghost use mathlib.Core.Path.{_≡_};
@@ -13,6 +14,10 @@ ghost use Rattle.pair_search.specs.Running.{Apt, Ready, NextEntry, Entry
 ghost use Rattle.pair_search.specs.Running.{MetRan, CellRan, RowRan, RowsRan};
 ghost use Rattle.pair_search.specs.Running.{SomeRan, Quick, Rested, BothSettled};
 ghost use Rattle.pair_search.specs.Running.{Round, Searched, ClearedTo};
+
+// What changed in a pass takes 512 words, for 384 shapes, 64 nonterminals and their last nodes; so
+// does what changed in the pass before.
+const MARKS: usize = 1024;
 
 fn both(x: bool, y: bool) -> bool
     ensures { λ r. ⌜ r ≡ (x && y) ⌝ }
@@ -171,7 +176,7 @@ fn kid_bits(x: Node) -> u64
 
 // The nonterminals with which the words of a shape of the nonterminal `a`, or behind these of `a`
 // itself, changed in this pass, or in the one before at the node `i` or after it.
-fn changed(marks: &[u64; 1024], at: usize, a: u8, i: usize) -> u64
+fn changed(marks: &[u64; MARKS], at: usize, a: u8, i: usize) -> u64
     requires { ⌜ (at < 448) × (a < 64) ⌝ }
 {
     let last = marks[960 + a as usize];
@@ -182,14 +187,14 @@ fn changed(marks: &[u64; 1024], at: usize, a: u8, i: usize) -> u64
 }
 
 // The same of a nonterminal.
-fn changed_sort(marks: &[u64; 1024], a: u8, i: usize) -> u64
+fn changed_sort(marks: &[u64; MARKS], a: u8, i: usize) -> u64
     requires { ⌜ a < 64 ⌝ }
 {
     changed(marks, 384 + a as usize, a, i)
 }
 
 // Has a word changed that steps of the nodes `i` and `j` read, since they were made?
-fn touched(marks: &[u64; 1024], x: Node, y: Node, i: usize, j: usize) -> bool
+fn touched(marks: &[u64; MARKS], x: Node, y: Node, i: usize, j: usize) -> bool
     requires { ⌜ Small x × Small y × (i < 384) × (j < 384) ⌝ }
 {
     let kx = kid_bits(x);
@@ -202,7 +207,7 @@ fn touched(marks: &[u64; 1024], x: Node, y: Node, i: usize, j: usize) -> bool
 
 // Marks the words of the shape `j` and its nonterminal `a` with the nonterminal `b`, at the node
 // `i`.
-fn mark(marks: &mut [u64; 1024], j: usize, a: u8, b: u8, i: usize)
+fn mark(marks: &mut [u64; MARKS], j: usize, a: u8, b: u8, i: usize)
     requires { ⌜ (j < 384) × (a < 64) × (b < 64) × (i < 384) ⌝ }
 {
     marks[j] = sets::with(marks[j], b);
@@ -212,7 +217,7 @@ fn mark(marks: &mut [u64; 1024], j: usize, a: u8, b: u8, i: usize)
 }
 
 // Makes the marks of this pass those of the one before.
-fn age(marks: &mut [u64; 1024]) {
+fn age(marks: &mut [u64; MARKS]) {
     let mut n: usize = 0;
     while n < 512 {
         marks[512 + n] = marks[n];
@@ -222,7 +227,7 @@ fn age(marks: &mut [u64; 1024]) {
 }
 
 // Marks all as changed in the pass before.
-fn mark_all(marks: &mut [u64; 1024]) {
+fn mark_all(marks: &mut [u64; MARKS]) {
     let mut n: usize = 512;
     while n < 960 {
         marks[n] = 18446744073709551615;
@@ -282,7 +287,7 @@ fn hinted(
 // table all?
 fn quick_meet(
     words: &mut [u64],
-    hints: &[u64; 1024],
+    hints: &[u64; HINTS],
     n: usize,
     x: Node,
     y: Node,
@@ -310,8 +315,8 @@ fn quick_meet(
 fn quick_cell(
     nodes: &[u64],
     words: &mut [u64],
-    hints: &[u64; 1024],
-    marks: &mut [u64; 1024],
+    hints: &[u64; HINTS],
+    marks: &mut [u64; MARKS],
     n: usize,
     x: Node,
     i: usize,
@@ -340,8 +345,8 @@ fn quick_cell(
 fn quick_cells(
     nodes: &[u64],
     words: &mut [u64],
-    hints: &[u64; 1024],
-    marks: &mut [u64; 1024],
+    hints: &[u64; HINTS],
+    marks: &mut [u64; MARKS],
     n: usize,
     x: Node,
     i: usize,
@@ -364,8 +369,8 @@ fn quick_cells(
 fn quick_row(
     nodes: &[u64],
     words: &mut [u64],
-    hints: &[u64; 1024],
-    marks: &mut [u64; 1024],
+    hints: &[u64; HINTS],
+    marks: &mut [u64; MARKS],
     n: usize,
     i: usize,
 ) -> bool
@@ -383,8 +388,8 @@ fn quick_row(
 fn quick_pass(
     nodes: &[u64],
     words: &mut [u64],
-    hints: &[u64; 1024],
-    marks: &mut [u64; 1024],
+    hints: &[u64; HINTS],
+    marks: &mut [u64; MARKS],
     n: usize,
 ) -> bool
     requires { ⌜ Ready (now words) n × (1536 ≤ length (now nodes)) ⌝ }
@@ -405,9 +410,9 @@ fn quick(nodes: &[u64], words: &mut [u64], n: usize) -> bool
     requires { ⌜ Ready (now words) n × (1536 ≤ length (now nodes)) ⌝ }
     ensures { λ r. ⌜ Quick (now (nodes .entry)) (now (words .entry)) (now (words .exit)) r ⌝ }
 {
-    let mut hints = [0u64; 1024];
+    let mut hints = [0u64; HINTS];
     pair_hints::list_hints(words, n, &mut hints);
-    let mut marks = [0u64; 1024];
+    let mut marks = [0u64; MARKS];
     mark_all(&mut marks);
     let mut still = true;
     loop {

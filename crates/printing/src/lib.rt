@@ -79,7 +79,7 @@ fn put_row(out: &mut [u8], at: usize, tree: u8, left: u8, kind: u8, start: u8, l
     let a = put_ended(out, at, tree as u32, 32);
     let b = put_ended(out, a, left as u32, 32);
     let c = put_byte(out, b, letter(kind));
-    let d = put_byte(out, c, 32);
+    let d = put_byte(out, c, b' ');
     let e = put_ended(out, d, start as u32, 32);
     put_ended(out, e, len as u32, 10)
 }

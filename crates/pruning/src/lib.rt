@@ -45,6 +45,9 @@ ghost use Rattle.grammar.specs.Content.{rules, Formed};
 ghost use Rattle.refilling.specs.Kept.{Mirrored};
 ghost use Rattle.refilling.specs.Short.{wide};
 
+// Two words for each of 64 terminals, for any terminal and for the empty word.
+pub const TABLE: usize = 132;
+
 // The candidate's sentence of n tokens, of which the first `known` count.
 fn draft(c: Candidate, n: usize, known: usize) -> ShortDraft
     requires { ⌜ (n ≤ 7) × LowSteps (cells c 0 n) ⌝ }

@@ -45,6 +45,9 @@ ghost use Rattle.refilling.specs.Turning.{SetRule, SetRules, Wiped, HasB
 ghost use Rattle.refilling.specs.Turning.{Turned, TurnedRow, SameRules};
 ghost use Rattle.refilling.specs.Short.{wide};
 
+// The words that are kept for 7 tokens.
+pub const KEPT_SHORT: usize = 3074;
+
 // A draft of at most 7 tokens: a search makes one for each fill, and copies it for each start.
 pub struct ShortDraft {
     pub tokens: [Token; 7],

@@ -2,6 +2,7 @@
 use call_rights::change;
 use call_rights::show;
 use printing::put_bytes;
+use spans::SHEET_WORDS;
 use text::put_head;
 use text::put_trees;
 ghost use Prim.Native.Nat.{_≤_};
@@ -15,7 +16,7 @@ pub fn show_text(rules: &[u8], tokens: &[u8], rights: &[u8], user: u32, out: &mu
     ensures { λ r. ⌜ Printed (ShowText (now (rules .entry)) (now (tokens .entry))
         (now (rights .entry))) user (now (out .entry)) (now (out .exit)) r ⌝ }
 {
-    let mut words = [0u64; 4162];
+    let mut words = [0u64; SHEET_WORDS];
     let mut one = [0u8; 16384];
     let mut two = [0u8; 16384];
     let u = user as usize;

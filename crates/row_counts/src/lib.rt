@@ -4,6 +4,7 @@
 use acyclic::cyclic;
 use grammar::Grammar;
 use grammar::Sentence;
+use heights::HEIGHTS;
 use heights::heights;
 use rows::Step;
 use sets::either;
@@ -440,7 +441,7 @@ fn count_low(words: &[u64], s: Sentence, g: Grammar, two: bool) -> RowCounts
     requires { ⌜ Cyclic (rules g) ⌝ }
     ensures { λ r. ⌜ RowsTold (rules g) (spelled s) two r ⌝ }
 {
-    let mut hs = [65535u16; 133184];
+    let mut hs = [65535u16; HEIGHTS];
     heights(&mut hs, s, g);
     count_by(words, &hs, s, g, two)
 }

@@ -42,13 +42,13 @@ fn digits_at(s: &[u8], at: usize, most: u64) -> Digits
     let mut i = at;
     while i < s.len() {
         let b = s[i];
-        if b < 48 {
+        if b < b'0' {
             return Digits { value: v, next: i };
         }
-        if 57 < b {
+        if b'9' < b {
             return Digits { value: v, next: i };
         }
-        let d = b - 48;
+        let d = b - b'0';
         let w = v * 10 + d as u64;
         if most < w {
             return Digits { value: v, next: i };

@@ -7,10 +7,12 @@ use dominance::needed;
 use equivalents::passable;
 use grammar::Grammar;
 use grammar::Sentence;
+use pruning::TABLE;
 use pruning::fill_table;
 use pruning::has_two;
 use pruning::twinned;
 use reachable_rules::reachable;
+use refilling::KEPT_SHORT;
 use refilling::open_sheet;
 use refilling::prepare;
 use sets::Member;
@@ -225,9 +227,9 @@ fn search_over(
         (cells (r .candidate) 0 n) ⌝ }
     ensures { λ r. ⌜ Past (2 * pairs n) (now (words .entry)) (now (words .exit)) ⌝ }
 {
-    let mut table: [u64; 132] = [0; 132];
+    let mut table: [u64; TABLE] = [0; TABLE];
     fill_table(g, set, &mut table[..]);
-    let mut cuts = [0u64; 3074];
+    let mut cuts = [0u64; KEPT_SHORT];
     prepare(&mut cuts, g);
     search(
         g,

@@ -20,7 +20,7 @@ fn put_value(out: &mut [u8], at: usize, v: u64) -> usize
     ensures { λ r. ⌜ r ≤ at + 21 ⌝ }
 {
     let next = put_number(out, at, v);
-    put_byte(out, next, 32)
+    put_byte(out, next, b' ')
 }
 
 // The number that was found, or the byte `-`.
@@ -30,12 +30,12 @@ fn put_found(out: &mut [u8], at: usize, a: Answer, number: u64) -> usize
     ensures { λ r. ⌜ r ≤ at + 20 ⌝ }
 {
     match a {
-        Answer::None => put_byte(out, at, 45),
-        Answer::One => put_byte(out, at, 45),
+        Answer::None => put_byte(out, at, b'-'),
+        Answer::One => put_byte(out, at, b'-'),
         Answer::Two => put_number(out, at, number),
-        Answer::Clear => put_byte(out, at, 45),
-        Answer::Given => put_byte(out, at, 45),
-        Answer::Refused(_) => put_byte(out, at, 45),
+        Answer::Clear => put_byte(out, at, b'-'),
+        Answer::Given => put_byte(out, at, b'-'),
+        Answer::Refused(_) => put_byte(out, at, b'-'),
     }
 }
 
@@ -57,7 +57,7 @@ fn put_values(
     let c = put_value(out, b, quotient);
     let d = put_value(out, c, remainder);
     let e = put_found(out, d, a, number);
-    put_byte(out, e, 10)
+    put_byte(out, e, b'\n')
 }
 
 // These lines, where the answer has them.

@@ -9,6 +9,11 @@ ghost use Rattle.grammar.specs.SpanSheet.{pairs, pairAt, firstWord, secondWord}
 ghost use Rattle.spans.specs.Changes.{Cleared, WrotePair};
 ghost use Rattle.spans.specs.Reach.{Reach};
 
+// How many spans 64 tokens have, the empty one besides; and the words of their sheet.
+pub const SPANS: usize = 2081;
+
+pub const SHEET_WORDS: usize = 4162;
+
 // How many words the span sheet of `n` tokens has.
 pub fn size(n: usize) -> usize
     requires { ⌜ n ≤ 64 ⌝ }

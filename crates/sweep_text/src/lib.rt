@@ -5,6 +5,7 @@ use fields::same;
 use sentence_text::put_sentence;
 use sheets::read_rules;
 use sweep_answers::sweep_read;
+use text::OUTPUT;
 use text::Place;
 use text::parting;
 use text::put_head;
@@ -67,7 +68,7 @@ fn sweep_at(input: &[u8], i: usize, out: &mut [u8]) -> usize
 }
 
 // The whole output of the program `sweep`; its length.
-pub fn sweep_text(input: &[u8], out: &mut [u8; 262144]) -> usize
+pub fn sweep_text(input: &[u8], out: &mut [u8; OUTPUT]) -> usize
     ensures { λ r. ⌜ Printed SweepTextOf (now (input .entry)) (now (out .entry)) (now (out .exit))
         r ⌝ }
 {

@@ -5,6 +5,7 @@ use streams::Moved;
 use streams::read_input;
 use streams::write_output;
 use sweep_text::sweep_text;
+use text::OUTPUT;
 
 fn main() {
     let mut space = [0u8; 16385];
@@ -12,7 +13,7 @@ fn main() {
     let Moved::Bytes(n) = read else {
         return;
     };
-    let mut out = [0u8; 262144];
+    let mut out = [0u8; OUTPUT];
     let r = sweep_text(&space[..n], &mut out);
     write_output(&out[..r]);
 }

@@ -7,10 +7,12 @@ use equivalents::earlier_twin;
 use grammar::Grammar;
 use grammar::Sentence;
 use lengths::Index;
+use pruning::TABLE;
 use pruning::fill_table;
 use pruning::has_two;
 use pruning::refutes;
 use reachable_rules::reachable;
+use refilling::KEPT_SHORT;
 use refilling::open_sheet;
 use refilling::prepare;
 use sets::Member;
@@ -160,9 +162,9 @@ fn find_among(g: Grammar, set: u64, low: u8, lengths: u64, k: usize, words: &mut
     ensures { λ r. ⌜ Searched (rules g) set k (r .length) (cells (r .candidate) 0 (r .length)) ⌝ }
     ensures { λ r. ⌜ Past (2 * pairs k) (now (words .entry)) (now (words .exit)) ⌝ }
 {
-    let mut table: [u64; 132] = [0; 132];
+    let mut table: [u64; TABLE] = [0; TABLE];
     fill_table(g, set, &mut table[..]);
-    let mut cuts = [0u64; 3074];
+    let mut cuts = [0u64; KEPT_SHORT];
     prepare(&mut cuts, g);
     search(g, set, &table[..], low, lengths, k, words, &mut cuts)
 }

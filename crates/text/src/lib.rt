@@ -13,6 +13,9 @@ ghost use Rattle.printing.specs.Printing.{Wrote, lastField, rowLines};
 ghost use Rattle.text.specs.Output.{refusedText, answerText, head, treeNames, treesText};
 ghost use Rattle.text.specs.Parting.{Parted};
 
+// The bytes that any answer has room in.
+pub const OUTPUT: usize = 262144;
+
 // A place in the input, or none.
 pub enum Place {
     At(usize),
@@ -74,9 +77,9 @@ fn put_line(out: &mut [u8], at: usize, line: usize) -> usize
     ensures { λ r. ⌜ Wrote (now (out .entry)) (now (out .exit)) at (32 ∷ lastField line) r ⌝ }
     ensures { λ r. ⌜ r ≤ at + 22 ⌝ }
 {
-    let a = put_byte(out, at, 32);
+    let a = put_byte(out, at, b' ');
     let b = put_number(out, a, line as u64);
-    put_byte(out, b, 10)
+    put_byte(out, b, b'\n')
 }
 
 // The first two lines of the output.

@@ -7,6 +7,7 @@ use printing::put_bytes;
 use printing::put_number;
 use row_counts::RowCount;
 use sheets::Answer;
+use spans::SHEET_WORDS;
 use text::put_head;
 ghost use mathlib.Core.List.{[], _∷_, _++_};
 ghost use Prim.Native.Nat.{_+_, _*_, _≤_};
@@ -35,9 +36,9 @@ fn put_counts(out: &mut [u8], at: usize, first: RowCount, second: RowCount) -> u
 {
     let a = put_bytes(out, at, b"first second\n");
     let b = put_count(out, a, first);
-    let c = put_byte(out, b, 32);
+    let c = put_byte(out, b, b' ');
     let d = put_count(out, c, second);
-    put_byte(out, d, 10)
+    put_byte(out, d, b'\n')
 }
 
 // The counts, where the answer has them.
@@ -61,7 +62,7 @@ pub fn rows_text(rules: &[u8], tokens: &[u8], out: &mut [u8]) -> usize
     ensures { λ r. ⌜ Printed (RowsTextOf (now (rules .entry))) (now (tokens .entry))
         (now (out .entry)) (now (out .exit)) r ⌝ }
 {
-    let mut words = [0u64; 4162];
+    let mut words = [0u64; SHEET_WORDS];
     let r = rows(rules, tokens, &mut words);
     let a = r.answer;
     let first = r.first;
@@ -134,7 +135,7 @@ pub fn places_text(rules: &[u8], tokens: &[u8], out: &mut [u8]) -> usize
     ensures { λ r. ⌜ Printed (PlacesTextOf (now (rules .entry))) (now (tokens .entry))
         (now (out .entry)) (now (out .exit)) r ⌝ }
 {
-    let mut words = [0u64; 4162];
+    let mut words = [0u64; SHEET_WORDS];
     let mut list = [0u8; 49152];
     let r = places(rules, tokens, &mut words, &mut list);
     let a = r.answer;

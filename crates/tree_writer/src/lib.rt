@@ -2,6 +2,7 @@
 use acyclic::cyclic;
 use grammar::Grammar;
 use grammar::Sentence;
+use heights::HEIGHTS;
 use heights::heights;
 use rows::branch;
 use rows::clear;
@@ -157,7 +158,7 @@ fn trees_low(
         → Written (seenBy (member sees)) (some t) u (now (first .entry)) (now (second .entry))
         (now (first .exit)) (now (second .exit)) r) ⌝ }
 {
-    let mut hs = [65535u16; 133184];
+    let mut hs = [65535u16; HEIGHTS];
     heights(&mut hs, s, g);
     trees_by(words, &hs, s, g, sees, first, second, two)
 }
