@@ -11,7 +11,7 @@ from pathlib import Path
 TOP = Path(__file__).resolve().parent.parent
 sys.path.insert(0, str(TOP / "scripts"))
 
-from house import plan, text  # noqa: E402  (the path comes first)
+from house import needs, plan, text  # noqa: E402  (the path comes first)
 
 
 def places(files, found):
@@ -36,6 +36,11 @@ class House(unittest.TestCase):
     def test_every_let_is_used(self):
         self.assertEqual(list(places(text.sources(".antt"), text.unused_lets)), [])
 
+    def test_searched_answers_stand_in_the_last_call(self):
+        proofs = (path for path in text.sources(".antt") if path.name == "Proof.antt")
+        apart = [str(p.relative_to(TOP)) for p in proofs if needs.inlined(t := p.read_text()) != t]
+        self.assertEqual(apart, [])
+
     def test_no_law_is_stated_twice(self):
         self.assertEqual(text.stated_twice(), {})
 
@@ -48,6 +53,9 @@ class House(unittest.TestCase):
         self.assertEqual(list(text.unused_imports(sheet, "--")), [(1, "spare")])
         self.assertEqual(list(text.unused_lets(sheet)), [(4, "b")])
         self.assertEqual(list(text.too_long("short\n" + "word " * 30)), [2])
+        call = "f-spec : statement\nf-spec = tie.close (tie.spec {})\n"
+        apart = "add : tie.Need-add\nadd c = search needs\n\n" + call.format("add")
+        self.assertEqual(needs.inlined(apart), call.format("(λ c. search needs)"))
         law = "pub law : (n : ℕ) → n ≡ n\n    → n ≡ n\nlaw n e = e\n"
         self.assertEqual(list(text.statements(law)), [(1, "law", "(n : ℕ) → n ≡ n → n ≡ n")])
 

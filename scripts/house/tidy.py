@@ -1,6 +1,7 @@
 #!/usr/bin/env python3
-"""Takes unused imports out of the crates' sources and breaks lines that are too long; what stands
-there is not changed otherwise. Run `rt fmt` afterwards: it sets the indents.
+"""Takes unused imports out of the crates' sources, moves what a proof answers by a bare search into
+its last call, and breaks lines that are too long; what stands there is not changed otherwise. Run
+`rt fmt` afterwards: it sets the indents.
 
     scripts/house/tidy.py [FILE ...]    all .antt and .rt files where none is named
 """
@@ -11,7 +12,8 @@ from pathlib import Path
 
 sys.path.insert(0, str(Path(__file__).resolve().parent.parent))
 
-from house.text import WIDTH, sources, unused_imports  # noqa: E402  (the path comes first)
+from house.needs import inlined  # noqa: E402  (the path comes first)
+from house.text import WIDTH, sources, unused_imports  # noqa: E402
 
 LISTED = re.compile(r"^(\s*(?:ghost )?(?:pub )?use \S+\.\{)([^}]*)(\};?)$")
 COMMENT = re.compile(r"^(\s*)(--|//) (.*)$")
@@ -114,7 +116,8 @@ def without_unused(text, mark):
 
 
 def tidy(path):
-    text = without_unused(path.read_text(), "--" if path.suffix == ".antt" else "//")
+    text = inlined(path.read_text()) if path.name == "Proof.antt" else path.read_text()
+    text = without_unused(text, "--" if path.suffix == ".antt" else "//")
     for tried in (False, True):
         rows = [broken(line, tried) if len(line) > WIDTH else [line] for line in text.split("\n")]
         text = "\n".join(line for row in rows for line in row)

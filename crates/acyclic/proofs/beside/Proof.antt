@@ -5,12 +5,6 @@ use borrow.Author.Needs.{needs}
 use Rattle.acyclic.proofs.beside.Statement.{statement}
 use Rattle.acyclic.proofs.beside.Tie as tie
 
-has-requires : tie.Need-has-requires
-has-requires c κs = search needs
-
-with-requires : tie.Need-with-requires
-with-requires c κs = search needs
-
 returns : tie.Need-returns
 returns c = rw (c .with .ensures)
     (grown-with _ _ (refl, c .before .before .has .ensures .is (c .before .if1 .taken))
@@ -20,4 +14,4 @@ returns-2 : tie.Need-returns-2
 returns-2 c = grown-none (λ Y p. absurd (c .before .has .ensures .isnt (c .if1 .left) (p .1)))
 
 pub beside-spec : {M : Type 1} → statement M
-beside-spec = tie.close (tie.spec has-requires with-requires returns returns-2)
+beside-spec = tie.close (tie.spec (λ c κs. search needs) (λ c κs. search needs) returns returns-2)

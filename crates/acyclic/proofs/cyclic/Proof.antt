@@ -23,18 +23,9 @@ loop-holds c = (omega arith, λ A h r. omega arith)
 reach-requires : tie.Need-reach-requires Inv-loop μ-loop
 reach-requires c κs = (c .before .before .before .pre, c .before .before .nullables .ensures)
 
-has-requires : tie.Need-has-requires Inv-loop μ-loop
-has-requires c κs = omega arith
-
 returns : tie.Need-returns Inv-loop μ-loop
 returns c = holds (cyclic-at (c .before .before .reach .ensures)
     (c .before .has .ensures .is (c .if1 .taken)))
-
-add-a : tie.Need-add-a Inv-loop μ-loop
-add-a c = omega arith
-
-loop-less : tie.Need-loop-less Inv-loop μ-loop
-loop-less c = omega arith
 
 loop-again : tie.Need-loop-again Inv-loop μ-loop
 loop-again c = (
@@ -48,17 +39,5 @@ returns-2 c = fails (apart-all (c .before .before .before .pre)
     (c .before .before .nullables .ensures) _ (c .loop-test .left) (c .before .loop .inv .1))
 
 pub cyclic-spec : {M : Type 1} → statement M
-cyclic-spec =
-    tie.close
-    (tie.spec
-    Inv-loop
-    μ-loop
-    nullables-requires
-    loop-holds
-    reach-requires
-    has-requires
-    returns
-    add-a
-    loop-less
-    loop-again
-    returns-2)
+cyclic-spec = tie.close (tie.spec Inv-loop μ-loop nullables-requires loop-holds reach-requires
+    (λ c κs. omega arith) returns (λ c. omega arith) (λ c. omega arith) loop-again returns-2)

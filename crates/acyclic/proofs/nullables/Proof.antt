@@ -35,5 +35,5 @@ loop-again : tie.Need-loop-again Inv-loop μ-loop
 loop-again c = c .before .null-pass .ensures .sound (c .before .before .loop .inv)
 
 pub nullables-spec : {M : Type 1} → statement M
-nullables-spec =
-    tie.close (tie.spec Inv-loop μ-loop loop-holds null-pass-requires returns loop-less loop-again)
+nullables-spec = tie.close (tie.spec Inv-loop μ-loop loop-holds null-pass-requires returns loop-less
+    loop-again)

@@ -35,6 +35,5 @@ loop-again : tie.Need-loop-again Inv-loop μ-loop
 loop-again c = c .before .reach-pass .ensures .sound (c .before .before .loop .inv)
 
 pub reach-spec : {M : Type 1} → statement M
-reach-spec =
-    tie.close
-    (tie.spec Inv-loop μ-loop loop-holds reach-pass-requires returns loop-less loop-again)
+reach-spec = tie.close (tie.spec Inv-loop μ-loop loop-holds reach-pass-requires returns loop-less
+    loop-again)

@@ -4,20 +4,8 @@ use borrow.Author.Needs.{needs}
 use Rattle.acyclic.proofs.ready.Statement.{statement}
 use Rattle.acyclic.proofs.ready.Tie as tie
 
-enum-told : tie.Need-enum-told
-enum-told c = search needs
-
-enum-told-2 : tie.Need-enum-told-2
-enum-told-2 c = search needs
-
-enum-known-c : tie.Need-enum-known-c
-enum-known-c c = search needs
-
 has-requires : tie.Need-has-requires
 has-requires c κs = rw (c .before .c .given .1) at (c .before .before .before .pre)
-
-enum-known-c-2 : tie.Need-enum-known-c-2
-enum-known-c-2 c = search needs
 
 has-requires-2 : tie.Need-has-requires-2
 has-requires-2 c κs = (rw (c .before .c2 .given .1) at (c .before .before .before .pre)) .0
@@ -46,18 +34,6 @@ returns-5 c = rw (c .before .before .before .c2 .given .1)
     (fails (λ h. c .before .has2 .ensures .isnt (c .if1 .left) (h .0)))
 
 pub ready-spec : {M : Type 1} → statement M
-ready-spec =
-    tie.close
-    (tie.spec
-    enum-told
-    enum-told-2
-    enum-known-c
-    has-requires
-    enum-known-c-2
-    has-requires-2
-    has-requires-3
-    returns
-    returns-2
-    returns-3
-    returns-4
-    returns-5)
+ready-spec = tie.close (tie.spec (λ c. search needs) (λ c. search needs) (λ c. search needs)
+    has-requires (λ c. search needs) has-requires-2 has-requires-3 returns returns-2 returns-3
+    returns-4 returns-5)

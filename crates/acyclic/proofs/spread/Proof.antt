@@ -6,18 +6,9 @@ use borrow.Author.Needs.{needs}
 use Rattle.acyclic.proofs.spread.Statement.{statement}
 use Rattle.acyclic.proofs.spread.Tie as tie
 
-with-targets-requires : tie.Need-with-targets-requires
-with-targets-requires c κs = search needs
-
 returns : tie.Need-returns
 returns c =
     grown-map (c .with-targets .ensures) (λ Y p. (inl (c .before .if1 .taken), p)) (λ Y p. p .1)
-
-has-requires : tie.Need-has-requires
-has-requires c κs = search needs
-
-with-targets-requires-2 : tie.Need-with-targets-requires-2
-with-targets-requires-2 c κs = search needs
 
 returns-2 : tie.Need-returns-2
 returns-2 c = grown-map (c .with-targets2 .ensures)
@@ -28,12 +19,5 @@ returns-3 c = grown-none (λ Y p. absurd
     (⊎-elim (c .before .before .if1 .left) (c .before .has .ensures .isnt (c .if2 .left)) (p .0)))
 
 pub spread-spec : {M : Type 1} → statement M
-spread-spec =
-    tie.close
-    (tie.spec
-    with-targets-requires
-    returns
-    has-requires
-    with-targets-requires-2
-    returns-2
-    returns-3)
+spread-spec = tie.close (tie.spec (λ c κs. search needs) returns (λ c κs. search needs)
+    (λ c κs. search needs) returns-2 returns-3)

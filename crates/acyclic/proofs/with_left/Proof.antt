@@ -5,12 +5,6 @@ use borrow.Author.Needs.{needs}
 use Rattle.acyclic.proofs.with_left.Statement.{statement}
 use Rattle.acyclic.proofs.with_left.Tie as tie
 
-ready-requires : tie.Need-ready-requires
-ready-requires c κs = search needs
-
-with-requires : tie.Need-with-requires
-with-requires c κs = search needs
-
 returns : tie.Need-returns
 returns c = rw (c .with .ensures)
     (grown-with _ _ (refl, c .before .before .ready .ensures .is (c .before .if1 .taken))
@@ -20,4 +14,5 @@ returns-2 : tie.Need-returns-2
 returns-2 c = grown-none (λ Y p. absurd (c .before .ready .ensures .isnt (c .if1 .left) (p .1)))
 
 pub with-left-spec : {M : Type 1} → statement M
-with-left-spec = tie.close (tie.spec ready-requires with-requires returns returns-2)
+with-left-spec = tie.close (tie.spec (λ c κs. search needs) (λ c κs. search needs) returns
+    returns-2)

@@ -5,20 +5,8 @@ use borrow.Author.Needs.{needs}
 use Rattle.acyclic.proofs.with_targets.Statement.{statement}
 use Rattle.acyclic.proofs.with_targets.Tie as tie
 
-enum-told : tie.Need-enum-told
-enum-told c = search needs
-
-enum-told-2 : tie.Need-enum-told-2
-enum-told-2 c = search needs
-
-enum-known-c : tie.Need-enum-known-c
-enum-known-c c = search needs
-
 with-requires : tie.Need-with-requires
 with-requires c κs = rw (c .before .c .given .1) at (c .before .before .before .pre)
-
-enum-known-c-2 : tie.Need-enum-known-c-2
-enum-known-c-2 c = search needs
 
 beside-requires : tie.Need-beside-requires
 beside-requires c κs =
@@ -42,17 +30,6 @@ returns-4 c = rw (c .before .before .before .c2 .given .1)
     (grown-both (c .before .beside .ensures) (c .beside2 .ensures) (λ Y p. p) (λ Y p. p))
 
 pub with-targets-spec : {M : Type 1} → statement M
-with-targets-spec =
-    tie.close
-    (tie.spec
-    enum-told
-    enum-told-2
-    enum-known-c
-    with-requires
-    enum-known-c-2
-    beside-requires
-    beside-requires-2
-    returns
-    returns-2
-    returns-3
+with-targets-spec = tie.close (tie.spec (λ c. search needs) (λ c. search needs) (λ c. search needs)
+    with-requires (λ c. search needs) beside-requires beside-requires-2 returns returns-2 returns-3
     returns-4)

@@ -3,20 +3,11 @@ use borrow.Author.Needs.{needs}
 use Rattle.always_text.proofs.clauses_always_text.Statement.{statement}
 use Rattle.always_text.proofs.clauses_always_text.Tie as tie
 
-read-clauses-requires : tie.Need-read-clauses-requires
-read-clauses-requires c κs = search needs
-
-read-text-requires : tie.Need-read-text-requires
-read-text-requires c κs = search needs
-
-same-length : tie.Need-same-length
-same-length c = search needs
-
 returns : tie.Need-returns
 returns c =
     let z = c .before .before in
     rw (z .before .before .read-clauses .ensures .is) at (z .read-text .ensures)
 
 pub clauses-always-text-spec : {M : Type 1} → statement M
-clauses-always-text-spec =
-    tie.close (tie.spec read-clauses-requires read-text-requires same-length returns)
+clauses-always-text-spec = tie.close (tie.spec (λ c κs. search needs) (λ c κs. search needs)
+    (λ c. search needs) returns)

@@ -6,21 +6,6 @@ use borrow.Author.Needs.{needs}
 use Rattle.always_text.proofs.put_doubt.Statement.{statement}
 use Rattle.always_text.proofs.put_doubt.Tie as tie
 
-put-small-requires : tie.Need-put-small-requires
-put-small-requires c κs = search needs
-
-put-small-requires-2 : tie.Need-put-small-requires-2
-put-small-requires-2 c κs = search needs
-
-put-small-requires-3 : tie.Need-put-small-requires-3
-put-small-requires-3 c κs = search needs
-
-put-why-requires : tie.Need-put-why-requires
-put-why-requires c κs = search needs
-
-same-length : tie.Need-same-length
-same-length c = search needs
-
 returns : tie.Need-returns
 unfolding doubtText
 returns c =
@@ -36,12 +21,5 @@ returns c =
     (r, omega (arith, a .1, b .1, d .1, e .1))
 
 pub put-doubt-spec : {M : Type 1} → statement M
-put-doubt-spec =
-    tie.close
-    (tie.spec
-    put-small-requires
-    put-small-requires-2
-    put-small-requires-3
-    put-why-requires
-    same-length
-    returns)
+put-doubt-spec = tie.close (tie.spec (λ c κs. search needs) (λ c κs. search needs)
+    (λ c κs. search needs) (λ c κs. search needs) (λ c. search needs) returns)

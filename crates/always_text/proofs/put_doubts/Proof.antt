@@ -21,39 +21,6 @@ abbrev μ-loop : tie.MeasureT-loop
 loop-holds : tie.Need-loop-holds Inv-loop μ-loop
 loop-holds c = (search needs, search needs, wrote-none _ _)
 
-mul-p : tie.Need-mul-p Inv-loop μ-loop
-mul-p c = search needs
-
-shared-slice-read-put-doubt : tie.Need-shared-slice-read-put-doubt Inv-loop μ-loop
-shared-slice-read-put-doubt c = search needs
-
-add-put-doubt : tie.Need-add-put-doubt Inv-loop μ-loop
-add-put-doubt c = search needs
-
-shared-slice-read-put-doubt-2 : tie.Need-shared-slice-read-put-doubt-2 Inv-loop μ-loop
-shared-slice-read-put-doubt-2 c = search needs
-
-add-put-doubt-2 : tie.Need-add-put-doubt-2 Inv-loop μ-loop
-add-put-doubt-2 c = search needs
-
-shared-slice-read-put-doubt-3 : tie.Need-shared-slice-read-put-doubt-3 Inv-loop μ-loop
-shared-slice-read-put-doubt-3 c = search needs
-
-add-put-doubt-3 : tie.Need-add-put-doubt-3 Inv-loop μ-loop
-add-put-doubt-3 c = search needs
-
-shared-slice-read-put-doubt-4 : tie.Need-shared-slice-read-put-doubt-4 Inv-loop μ-loop
-shared-slice-read-put-doubt-4 c = search needs
-
-put-doubt-requires : tie.Need-put-doubt-requires Inv-loop μ-loop
-put-doubt-requires c κs = search needs
-
-add-i : tie.Need-add-i Inv-loop μ-loop
-add-i c = search needs
-
-loop-less : tie.Need-loop-less Inv-loop μ-loop
-loop-less c = search needs
-
 loop-again : tie.Need-loop-again Inv-loop μ-loop
 loop-again c =
     let p = c .before .before in
@@ -66,9 +33,6 @@ loop-again c =
           (wrote-then (l .loop .inv .2) (w .0)),
     )
 
-same-length : tie.Need-same-length Inv-loop μ-loop
-same-length c = search needs
-
 returns : tie.Need-returns Inv-loop μ-loop
 returns c =
     let l = c .before .loop in
@@ -77,23 +41,7 @@ returns c =
     rw e at (l .inv .2)
 
 pub put-doubts-spec : {M : Type 1} → statement M
-put-doubts-spec =
-    tie.close
-    (tie.spec
-    Inv-loop
-    μ-loop
-    loop-holds
-    mul-p
-    shared-slice-read-put-doubt
-    add-put-doubt
-    shared-slice-read-put-doubt-2
-    add-put-doubt-2
-    shared-slice-read-put-doubt-3
-    add-put-doubt-3
-    shared-slice-read-put-doubt-4
-    put-doubt-requires
-    add-i
-    loop-less
-    loop-again
-    same-length
-    returns)
+put-doubts-spec = tie.close (tie.spec Inv-loop μ-loop loop-holds (λ c. search needs)
+    (λ c. search needs) (λ c. search needs) (λ c. search needs) (λ c. search needs)
+    (λ c. search needs) (λ c. search needs) (λ c. search needs) (λ c κs. search needs)
+    (λ c. search needs) (λ c. search needs) loop-again (λ c. search needs) returns)

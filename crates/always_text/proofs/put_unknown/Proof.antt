@@ -6,21 +6,6 @@ use borrow.Author.Needs.{needs}
 use Rattle.always_text.proofs.put_unknown.Statement.{statement}
 use Rattle.always_text.proofs.put_unknown.Tie as tie
 
-slice-aggregate-put-bytes : tie.Need-slice-aggregate-put-bytes
-slice-aggregate-put-bytes c = search needs
-
-put-bytes-requires : tie.Need-put-bytes-requires
-put-bytes-requires c κs = search needs
-
-slice-aggregate-put-bytes-2 : tie.Need-slice-aggregate-put-bytes-2
-slice-aggregate-put-bytes-2 c = search needs
-
-put-bytes-requires-2 : tie.Need-put-bytes-requires-2
-put-bytes-requires-2 c κs = search needs
-
-put-byte-requires : tie.Need-put-byte-requires
-put-byte-requires c κs = search needs
-
 put-number-requires : tie.Need-put-number-requires
 put-number-requires c κs =
     let b = c .before .before .before in
@@ -47,9 +32,6 @@ put-byte-requires-2 c κs =
     let d = decimal-length 20 (s .args .line) (omega arith) (search needs) in
     omega (arith, x .next, x .long, y .next, y .long, z .next, z .long, v .next, v .long, d, s .pre)
 
-same-length : tie.Need-same-length
-same-length c = search needs
-
 returns : tie.Need-returns
 returns c =
     let e = c .before .before in
@@ -69,15 +51,6 @@ returns c =
     )
 
 pub put-unknown-spec : {M : Type 1} → statement M
-put-unknown-spec =
-    tie.close
-    (tie.spec
-    slice-aggregate-put-bytes
-    put-bytes-requires
-    slice-aggregate-put-bytes-2
-    put-bytes-requires-2
-    put-byte-requires
-    put-number-requires
-    put-byte-requires-2
-    same-length
-    returns)
+put-unknown-spec = tie.close (tie.spec (λ c. search needs) (λ c κs. search needs)
+    (λ c. search needs) (λ c κs. search needs) (λ c κs. search needs) put-number-requires
+    put-byte-requires-2 (λ c. search needs) returns)

@@ -8,23 +8,11 @@ use borrow.Author.Needs.{needs}
 use Rattle.always_text.proofs.read_text.Statement.{statement}
 use Rattle.always_text.proofs.read_text.Tie as tie
 
-enum-known-o : tie.Need-enum-known-o
-enum-known-o c = search needs
-
-put-told-requires : tie.Need-put-told-requires
-put-told-requires c κs = search needs
-
-enum-told : tie.Need-enum-told
-enum-told c = search needs
-
 rules-text-requires : tie.Need-rules-text-requires
 rules-text-requires c κs =
     let t = c .before .before in
     let s = t .before .before .before .pre in
     (s .0 .formed (t .enum-told .given .1), s .1)
-
-same-length : tie.Need-same-length
-same-length c = search needs
 
 returns : tie.Need-returns
 returns c =
@@ -38,9 +26,6 @@ returns c =
       wrote = p .put-told .ensures .0;
     }
 
-same-length-2 : tie.Need-same-length-2
-same-length-2 c = search needs
-
 returns-2 : tie.Need-returns-2
 returns-2 c =
     let z = c .before .before in
@@ -50,14 +35,5 @@ returns-2 c =
     rw e (z .rules-text .ensures)
 
 pub read-text-spec : {M : Type 1} → statement M
-read-text-spec =
-    tie.close
-    (tie.spec
-    enum-known-o
-    put-told-requires
-    enum-told
-    rules-text-requires
-    same-length
-    returns
-    same-length-2
-    returns-2)
+read-text-spec = tie.close (tie.spec (λ c. search needs) (λ c κs. search needs) (λ c. search needs)
+    rules-text-requires (λ c. search needs) returns (λ c. search needs) returns-2)

@@ -11,21 +11,6 @@ use borrow.Author.Needs.{needs}
 use Rattle.always_text.proofs.weighed_text.Statement.{statement}
 use Rattle.always_text.proofs.weighed_text.Tie as tie
 
-slice-aggregate-list-doubts : tie.Need-slice-aggregate-list-doubts
-slice-aggregate-list-doubts c = search needs
-
-list-doubts-requires : tie.Need-list-doubts-requires
-list-doubts-requires c κs = search needs
-
-reply-requires : tie.Need-reply-requires
-reply-requires c κs = search needs
-
-put-told-requires : tie.Need-put-told-requires
-put-told-requires c κs = search needs
-
-slice-aggregate-put-listed : tie.Need-slice-aggregate-put-listed
-slice-aggregate-put-listed c = search needs
-
 put-listed-requires : tie.Need-put-listed-requires
 put-listed-requires c κs =
     let h = c .before .before .before .before in
@@ -37,9 +22,6 @@ put-listed-requires c κs =
       omega (arith, f, l, z .list-doubts .kept .1 .1 .1 .0),
       omega (arith, f, l, h .put-told .ensures .1, h .put-told .ensures .0 .long, s .pre .1),
     )
-
-same-length : tie.Need-same-length
-same-length c = search needs
 
 returns : tie.Need-returns
 returns c =
@@ -56,14 +38,6 @@ returns c =
     }
 
 pub weighed-text-spec : {M : Type 1} → statement M
-weighed-text-spec =
-    tie.close
-    (tie.spec
-    slice-aggregate-list-doubts
-    list-doubts-requires
-    reply-requires
-    put-told-requires
-    slice-aggregate-put-listed
-    put-listed-requires
-    same-length
-    returns)
+weighed-text-spec = tie.close (tie.spec (λ c. search needs) (λ c κs. search needs)
+    (λ c κs. search needs) (λ c κs. search needs) (λ c. search needs) put-listed-requires
+    (λ c. search needs) returns)

@@ -9,28 +9,10 @@ use borrow.Author.Needs.{needs}
 use Rattle.answering.proofs.shown.Statement.{statement}
 use Rattle.answering.proofs.shown.Tie as tie
 
-size-requires : tie.Need-size-requires
-size-requires c κs = search needs
-
 returns : tie.Need-returns
 returns c =
     let s = c .before .before .before .before .before in
     too-few _ _ _ _ _ _ _ (s .pre .1 .whole) (rw (c .before .size .ensures) at (c .if1 .taken))
-
-judge-requires : tie.Need-judge-requires
-judge-requires c κs = search needs
-
-enum-told : tie.Need-enum-told
-enum-told c = search needs
-
-write-none-requires : tie.Need-write-none-requires
-write-none-requires c κs = search needs
-
-counted-reply-requires : tie.Need-counted-reply-requires
-counted-reply-requires c κs = search needs
-
-enum-told-2 : tie.Need-enum-told-2
-enum-told-2 c = search needs
 
 write-trees-requires : tie.Need-write-trees-requires
 write-trees-requires c κs =
@@ -42,12 +24,6 @@ write-trees-requires c κs =
           (v .verdict),
     )
 
-counted-reply-requires-2 : tie.Need-counted-reply-requires-2
-counted-reply-requires-2 c κs = search needs
-
-enum-told-3 : tie.Need-enum-told-3
-enum-told-3 c = search needs
-
 write-trees-requires-2 : tie.Need-write-trees-requires-2
 write-trees-requires-2 c κs =
     let j = c .before .before .before .before .before .before .before in
@@ -57,18 +33,6 @@ write-trees-requires-2 c κs =
       wants-second _ _
           (s .pre .0 .distinct) (v .verdict),
     )
-
-counted-reply-requires-3 : tie.Need-counted-reply-requires-3
-counted-reply-requires-3 c κs = search needs
-
-same-length : tie.Need-same-length
-same-length c = search needs
-
-same-length-2 : tie.Need-same-length-2
-same-length-2 c = search needs
-
-same-length-3 : tie.Need-same-length-3
-same-length-3 c = search needs
 
 returns-2 : tie.Need-returns-2
 returns-2 c =
@@ -81,15 +45,6 @@ returns-2 c =
     (rw (c .counted-reply .ensures)
     (shown-none _ _ _ (v .verdict) (c .before .before .before .before .before .write-none
     .ensures _)))
-
-same-length-4 : tie.Need-same-length-4
-same-length-4 c = search needs
-
-same-length-5 : tie.Need-same-length-5
-same-length-5 c = search needs
-
-same-length-6 : tie.Need-same-length-6
-same-length-6 c = search needs
 
 returns-3 : tie.Need-returns-3
 returns-3 c =
@@ -104,15 +59,6 @@ returns-3 c =
     (shown-one _ _ _ (v .verdict) (f .1)
     (c .before .before .before .before .before .write-trees .ensures (f .0) none (f .1)
     no-second)))
-
-same-length-7 : tie.Need-same-length-7
-same-length-7 c = search needs
-
-same-length-8 : tie.Need-same-length-8
-same-length-8 c = search needs
-
-same-length-9 : tie.Need-same-length-9
-same-length-9 c = search needs
 
 returns-4 : tie.Need-returns-4
 returns-4 c =
@@ -129,30 +75,9 @@ returns-4 c =
     (some (u .0)) (u .1 .first) (second (u .1)))))
 
 pub shown-spec : {M : Type 1} → statement M
-shown-spec =
-    tie.close
-    (tie.spec
-    size-requires
-    returns
-    judge-requires
-    enum-told
-    write-none-requires
-    counted-reply-requires
-    enum-told-2
-    write-trees-requires
-    counted-reply-requires-2
-    enum-told-3
-    write-trees-requires-2
-    counted-reply-requires-3
-    same-length
-    same-length-2
-    same-length-3
-    returns-2
-    same-length-4
-    same-length-5
-    same-length-6
-    returns-3
-    same-length-7
-    same-length-8
-    same-length-9
-    returns-4)
+shown-spec = tie.close (tie.spec (λ c κs. search needs) returns (λ c κs. search needs)
+    (λ c. search needs) (λ c κs. search needs) (λ c κs. search needs) (λ c. search needs)
+    write-trees-requires (λ c κs. search needs) (λ c. search needs) write-trees-requires-2
+    (λ c κs. search needs) (λ c. search needs) (λ c. search needs) (λ c. search needs) returns-2
+    (λ c. search needs) (λ c. search needs) (λ c. search needs) returns-3 (λ c. search needs)
+    (λ c. search needs) (λ c. search needs) returns-4)

@@ -8,21 +8,6 @@ use borrow.Author.Needs.{needs}
 use Rattle.answering.proofs.trees_read.Statement.{statement}
 use Rattle.answering.proofs.trees_read.Tie as tie
 
-enum-known-o : tie.Need-enum-known-o
-enum-known-o c = search needs
-
-enum-told : tie.Need-enum-told
-enum-told c = search needs
-
-read-tokens-requires : tie.Need-read-tokens-requires
-read-tokens-requires c κs = search needs
-
-enum-known-p : tie.Need-enum-known-p
-enum-known-p c = search needs
-
-enum-told-2 : tie.Need-enum-told-2
-enum-told-2 c = search needs
-
 shown-requires : tie.Need-shown-requires
 shown-requires c κs =
     let q = c .before .before .before .before .before .before .before in
@@ -45,15 +30,6 @@ returns-2 c =
     (q .read-tokens .ensures) (c .before .p .given .1) in
     refusing e refl refl refl refl
 
-same-length : tie.Need-same-length
-same-length c = search needs
-
-same-length-2 : tie.Need-same-length-2
-same-length-2 c = search needs
-
-same-length-3 : tie.Need-same-length-3
-same-length-3 c = search needs
-
 returns-3 : tie.Need-returns-3
 returns-3 c =
     let j = c .before .before .before .before .before .before in
@@ -66,18 +42,6 @@ returns-3 c =
     (s .pre .formed (q .before .enum-told .given .1) .small) (j .shown .ensures))
 
 pub trees-read-spec : {M : Type 1} → statement M
-trees-read-spec =
-    tie.close
-    (tie.spec
-    enum-known-o
-    enum-told
-    read-tokens-requires
-    enum-known-p
-    enum-told-2
-    shown-requires
-    returns
-    returns-2
-    same-length
-    same-length-2
-    same-length-3
-    returns-3)
+trees-read-spec = tie.close (tie.spec (λ c. search needs) (λ c. search needs) (λ c κs. search needs)
+    (λ c. search needs) (λ c. search needs) shown-requires returns returns-2 (λ c. search needs)
+    (λ c. search needs) (λ c. search needs) returns-3)

@@ -7,12 +7,6 @@ use Rattle.arrangement_numbers.proofs.ShareLaws.{remainder-small}
 use Rattle.arrangement_numbers.proofs.begins_at.Statement.{statement}
 use Rattle.arrangement_numbers.proofs.begins_at.Tie as tie
 
-div-q : tie.Need-div-q
-div-q c = search needs
-
-rem-r : tie.Need-rem-r
-rem-r c = search needs
-
 mul-result : tie.Need-mul-result
 mul-result c = let a = c .before in
     omega (arith, product-small (a .args .m) (a .args .p) (a .args .i) (a .pre .0) (a .pre .2))
@@ -51,6 +45,5 @@ returns-2 c = let a = c .before .args in
     omega (arith, begins-high (a .m) (a .p) (a .i) (omega (arith, c .if1 .left)))
 
 pub begins-at-spec : {M : Type 1} → statement M
-begins-at-spec =
-    tie.close
-    (tie.spec div-q rem-r mul-result add-result returns mul-result-2 add-result-2 returns-2)
+begins-at-spec = tie.close (tie.spec (λ c. search needs) (λ c. search needs) mul-result add-result
+    returns mul-result-2 add-result-2 returns-2)

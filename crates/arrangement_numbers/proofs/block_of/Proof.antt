@@ -11,12 +11,6 @@ use Rattle.arrangement_numbers.proofs.block_of.Tie as tie
 below : (c : tie.Start) → c .args .set < 2 ^ 64
 below c = omega (arith, c .good)
 
-room-past-requires : tie.Need-room-past-requires
-room-past-requires c κs = search needs
-
-front-number-requires : tie.Need-front-number-requires
-front-number-requires c κs = search needs
-
 mul-t7 : tie.Need-mul-t7
 mul-t7 c =
     let a = c .before .before in
@@ -44,4 +38,4 @@ returns c =
     )
 
 pub block-of-spec : {M : Type 1} → statement M
-block-of-spec = tie.close (tie.spec room-past-requires front-number-requires mul-t7 returns)
+block-of-spec = tie.close (tie.spec (λ c κs. search needs) (λ c κs. search needs) mul-t7 returns)

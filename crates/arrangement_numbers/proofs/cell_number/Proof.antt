@@ -10,18 +10,6 @@ use Rattle.arrangement_numbers.proofs.cell_number.Tie as tie
 place-requires : tie.Need-place-requires
 place-requires c κs = c .pre .1 .terminal .0
 
-cast-s : tie.Need-cast-s
-cast-s c = search needs
-
-sub-k : tie.Need-sub-k
-sub-k c = search needs
-
-cast-k : tie.Need-cast-k
-cast-k c = search needs
-
-steps-at-requires : tie.Need-steps-at-requires
-steps-at-requires c κs = search needs
-
 -- the terminal's place is at most 64, the step at most 2
 low : (c : tie.After-steps-at) → c .before .before .before .place .result ≤ 64
 low c =
@@ -75,16 +63,6 @@ returns c =
     (c .before .before .before .place .ensures) (c .steps-at .ensures)
 
 pub cell-number-spec : {M : Type 1} → statement M
-cell-number-spec =
-    tie.close
-    (tie.spec
-    place-requires
-    cast-s
-    sub-k
-    cast-k
-    steps-at-requires
-    mul-result
-    add-result
-    mul-result-2
-    add-result-2
+cell-number-spec = tie.close (tie.spec place-requires (λ c. search needs) (λ c. search needs)
+    (λ c. search needs) (λ c κs. search needs) mul-result add-result mul-result-2 add-result-2
     returns)

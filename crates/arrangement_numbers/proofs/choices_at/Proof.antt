@@ -13,9 +13,6 @@ below c = omega (arith, c .good)
 cast-t : tie.Need-cast-t
 cast-t c = omega (arith, ones-le 64 (c .args .set) (below c))
 
-steps-at-requires : tie.Need-steps-at-requires
-steps-at-requires c κs = search needs
-
 mul-result : tie.Need-mul-result
 mul-result c =
     let a = c .before in
@@ -39,4 +36,4 @@ returns c = radix-is (c .before .args .set) (c .before .args .n) (c .before .arg
     (c .steps-at .ensures)
 
 pub choices-at-spec : {M : Type 1} → statement M
-choices-at-spec = tie.close (tie.spec cast-t steps-at-requires mul-result mul-result-2 returns)
+choices-at-spec = tie.close (tie.spec cast-t (λ c κs. search needs) mul-result mul-result-2 returns)

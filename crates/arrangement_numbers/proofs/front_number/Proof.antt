@@ -65,12 +65,6 @@ add-v c =
           (c .before .cell-number .ensures),
     )
 
-add-i : tie.Need-add-i Inv-loop μ-loop
-add-i c = search needs
-
-loop-less : tie.Need-loop-less Inv-loop μ-loop
-loop-less c = search needs
-
 loop-again : tie.Need-loop-again Inv-loop μ-loop
 loop-again c =
     let l = c .before .before .before .before in
@@ -94,18 +88,6 @@ returns c =
     rw (← e) (l .loop .inv .1)
 
 pub front-number-spec : {M : Type 1} → statement M
-front-number-spec =
-    tie.close
-    (tie.spec
-    Inv-loop
-    μ-loop
-    loop-holds
-    cell-requires
-    cell-number-requires
-    choices-at-requires
-    mul-v
-    add-v
-    add-i
-    loop-less
-    loop-again
-    returns)
+front-number-spec = tie.close (tie.spec Inv-loop μ-loop loop-holds cell-requires
+    cell-number-requires choices-at-requires mul-v add-v (λ c. search needs) (λ c. search needs)
+    loop-again returns)

@@ -5,9 +5,6 @@ use Rattle.arrangement_numbers.proofs.Working.{shl-pos, place-small, pl
 use Rattle.arrangement_numbers.proofs.place.Statement.{statement}
 use Rattle.arrangement_numbers.proofs.place.Tie as tie
 
-shl-result : tie.Need-shl-result
-shl-result c = search needs
-
 rem-result : tie.Need-rem-result
 rem-result c = shl-pos (c .args .x) (c .pre)
 
@@ -24,4 +21,4 @@ returns : tie.Need-returns
 returns c = place-is (c .args .set) (c .args .x) (c .pre)
 
 pub place-spec : {M : Type 1} → statement M
-place-spec = tie.close (tie.spec shl-result rem-result cast-result returns)
+place-spec = tie.close (tie.spec (λ c. search needs) rem-result cast-result returns)

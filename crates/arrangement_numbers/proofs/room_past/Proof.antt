@@ -64,7 +64,5 @@ returns c =
     rw (← e) (l .loop .inv .2)
 
 pub room-past-spec : {M : Type 1} → statement M
-room-past-spec =
-    tie.close
-    (tie.spec Inv-loop μ-loop loop-holds sub-i choices-at-requires mul-v loop-less loop-again
-    returns)
+room-past-spec = tie.close (tie.spec Inv-loop μ-loop loop-holds sub-i choices-at-requires mul-v
+    loop-less loop-again returns)

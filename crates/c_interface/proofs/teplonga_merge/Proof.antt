@@ -11,9 +11,6 @@ returns c = one-refuses (c .if1 .taken) refl
 returns-2 : tie.Need-returns-2
 returns-2 c = two-refuses (c .before .if1 .left) (c .if2 .taken) refl
 
-leads-requires : tie.Need-leads-requires
-leads-requires c κs = search needs
-
 returns-3 : tie.Need-returns-3
 returns-3 c = two-leads (c .before .before .before .if1 .left) (c .before .before .if2 .left)
     (c .before .leads .ensures .is (c .if3 .taken)) refl
@@ -23,4 +20,5 @@ returns-4 c = one-stays (c .before .before .before .if1 .left) (c .before .befor
     (c .before .leads .ensures .isnt (c .if3 .left)) refl
 
 pub teplonga-merge-spec : {M : Type 1} → statement M
-teplonga-merge-spec = tie.close (tie.spec returns returns-2 leads-requires returns-3 returns-4)
+teplonga-merge-spec = tie.close (tie.spec returns returns-2 (λ c κs. search needs) returns-3
+    returns-4)

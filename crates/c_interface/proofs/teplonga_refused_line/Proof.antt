@@ -3,11 +3,8 @@ use borrow.Author.Needs.{needs}
 use Rattle.c_interface.proofs.teplonga_refused_line.Statement.{statement}
 use Rattle.c_interface.proofs.teplonga_refused_line.Tie as tie
 
-refused-line-requires : tie.Need-refused-line-requires
-refused-line-requires c κs = search needs
-
 returns : tie.Need-returns
 returns c = c .refused-line .ensures
 
 pub teplonga-refused-line-spec : {M : Type 1} → statement M
-teplonga-refused-line-spec = tie.close (tie.spec refused-line-requires returns)
+teplonga-refused-line-spec = tie.close (tie.spec (λ c κs. search needs) returns)

@@ -6,27 +6,6 @@ use borrow.Author.Needs.{needs}
 use Rattle.c_words.proofs.code.Statement.{statement}
 use Rattle.c_words.proofs.code.Tie as tie
 
-enum-told : tie.Need-enum-told
-enum-told c = search needs
-
-enum-told-2 : tie.Need-enum-told-2
-enum-told-2 c = search needs
-
-enum-told-3 : tie.Need-enum-told-3
-enum-told-3 c = search needs
-
-enum-told-4 : tie.Need-enum-told-4
-enum-told-4 c = search needs
-
-enum-told-5 : tie.Need-enum-told-5
-enum-told-5 c = search needs
-
-enum-known-a : tie.Need-enum-known-a
-enum-known-a c = search needs
-
-fault-number-requires : tie.Need-fault-number-requires
-fault-number-requires c κs = search needs
-
 add-result : tie.Need-add-result
 add-result c =
     let h = number-small (c .before .before .a .given .0 .0) in
@@ -54,20 +33,6 @@ returns-6 c =
     (rw (z .a .given .1, c .fault-number .ensures) refl, omega (arith, h, c .fault-number .ensures))
 
 pub code-spec : {M : Type 1} → statement M
-code-spec =
-    tie.close
-    (tie.spec
-    enum-told
-    enum-told-2
-    enum-told-3
-    enum-told-4
-    enum-told-5
-    enum-known-a
-    fault-number-requires
-    add-result
-    returns
-    returns-2
-    returns-3
-    returns-4
-    returns-5
-    returns-6)
+code-spec = tie.close (tie.spec (λ c. search needs) (λ c. search needs) (λ c. search needs)
+    (λ c. search needs) (λ c. search needs) (λ c. search needs) (λ c κs. search needs) add-result
+    returns returns-2 returns-3 returns-4 returns-5 returns-6)

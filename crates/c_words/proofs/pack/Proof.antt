@@ -3,14 +3,8 @@ use borrow.Author.Needs.{needs}
 use Rattle.c_words.proofs.pack.Statement.{statement}
 use Rattle.c_words.proofs.pack.Tie as tie
 
-code-requires : tie.Need-code-requires
-code-requires c κs = search needs
-
-with-line-requires : tie.Need-with-line-requires
-with-line-requires c κs = search needs
-
 returns : tie.Need-returns
 returns c = rw (c .before .code .ensures .0) at (c .with-line .ensures)
 
 pub pack-spec : {M : Type 1} → statement M
-pack-spec = tie.close (tie.spec code-requires with-line-requires returns)
+pack-spec = tie.close (tie.spec (λ c κs. search needs) (λ c κs. search needs) returns)

@@ -3,14 +3,8 @@ use borrow.Author.Needs.{needs}
 use Rattle.c_words.proofs.pack_told.Statement.{statement}
 use Rattle.c_words.proofs.pack_told.Tie as tie
 
-told-code-requires : tie.Need-told-code-requires
-told-code-requires c κs = search needs
-
-with-line-requires : tie.Need-with-line-requires
-with-line-requires c κs = search needs
-
 returns : tie.Need-returns
 returns c = rw (c .before .told-code .ensures .0) at (c .with-line .ensures)
 
 pub pack-told-spec : {M : Type 1} → statement M
-pack-told-spec = tie.close (tie.spec told-code-requires with-line-requires returns)
+pack-told-spec = tie.close (tie.spec (λ c κs. search needs) (λ c κs. search needs) returns)

@@ -7,27 +7,6 @@ use borrow.Author.Needs.{needs}
 use Rattle.c_words.proofs.put_flags.Statement.{statement}
 use Rattle.c_words.proofs.put_flags.Tie as tie
 
-bit-requires : tie.Need-bit-requires
-bit-requires c κs = search needs
-
-put-word-requires : tie.Need-put-word-requires
-put-word-requires c κs = search needs
-
-bit-requires-2 : tie.Need-bit-requires-2
-bit-requires-2 c κs = search needs
-
-put-word-requires-2 : tie.Need-put-word-requires-2
-put-word-requires-2 c κs = search needs
-
-bit-requires-3 : tie.Need-bit-requires-3
-bit-requires-3 c κs = search needs
-
-put-word-requires-3 : tie.Need-put-word-requires-3
-put-word-requires-3 c κs = search needs
-
-same-length : tie.Need-same-length
-same-length c = search needs
-
 returns : tie.Need-returns
 returns c =
     let z₃ = c .before .before in
@@ -42,15 +21,6 @@ returns-2 : tie.Need-returns-2
 returns-2 c = few (search needs) refl
 
 pub put-flags-spec : {M : Type 1} → statement M
-put-flags-spec =
-    tie.close
-    (tie.spec
-    bit-requires
-    put-word-requires
-    bit-requires-2
-    put-word-requires-2
-    bit-requires-3
-    put-word-requires-3
-    same-length
-    returns
-    returns-2)
+put-flags-spec = tie.close (tie.spec (λ c κs. search needs) (λ c κs. search needs)
+    (λ c κs. search needs) (λ c κs. search needs) (λ c κs. search needs) (λ c κs. search needs)
+    (λ c. search needs) returns returns-2)

@@ -13,9 +13,6 @@ use Rattle.c_words.proofs.put_found.Tie as tie
 array : (s : tie.Start) → length (s .args .s .tokens) ≡ 64
 array s = simp length-map at (s .good .1 .0 .1 .1 .0 .1 .0 .1)
 
-put-sentence-requires : tie.Need-put-sentence-requires
-put-sentence-requires c κs = search needs
-
 put-word-requires : tie.Need-put-word-requires
 put-word-requires c κs =
     let z = c .before .before .before in
@@ -30,9 +27,6 @@ put-word-requires c κs =
           .before .if1 .taken,
     )
 
-same-length : tie.Need-same-length
-same-length c = search needs
-
 returns : tie.Need-returns
 returns c =
     let w = c .before .before in
@@ -46,6 +40,5 @@ returns-2 : tie.Need-returns-2
 returns-2 c = few (search needs) refl
 
 pub put-found-spec : {M : Type 1} → statement M
-put-found-spec =
-    tie.close
-    (tie.spec put-sentence-requires put-word-requires same-length returns returns-2)
+put-found-spec = tie.close (tie.spec (λ c κs. search needs) put-word-requires (λ c. search needs)
+    returns returns-2)

@@ -6,12 +6,6 @@ use borrow.Author.Needs.{needs}
 use Rattle.c_words.proofs.put_one.Statement.{statement}
 use Rattle.c_words.proofs.put_one.Tie as tie
 
-put-word-requires : tie.Need-put-word-requires
-put-word-requires c κs = search needs
-
-same-length : tie.Need-same-length
-same-length c = search needs
-
 returns : tie.Need-returns
 returns c = written (search needs) (wrote-front refl (c .before .before .put-word .ensures))
 
@@ -19,4 +13,4 @@ returns-2 : tie.Need-returns-2
 returns-2 c = few (search needs) refl
 
 pub put-one-spec : {M : Type 1} → statement M
-put-one-spec = tie.close (tie.spec put-word-requires same-length returns returns-2)
+put-one-spec = tie.close (tie.spec (λ c κs. search needs) (λ c. search needs) returns returns-2)

@@ -42,14 +42,5 @@ returns c =
     (wrote-then (z₂ .put-word2 .ensures) (z₃ .put-word3 .ensures))
 
 pub put-token-spec : {M : Type 1} → statement M
-put-token-spec =
-    tie.close
-    (tie.spec
-    cast-put-word
-    put-word-requires
-    cast-put-word-2
-    put-word-requires-2
-    cast-put-word-3
-    put-word-requires-3
-    same-length
-    returns)
+put-token-spec = tie.close (tie.spec cast-put-word put-word-requires cast-put-word-2
+    put-word-requires-2 cast-put-word-3 put-word-requires-3 same-length returns)

@@ -23,12 +23,6 @@ abbrev μ-loop : tie.MeasureT-loop
 loop-holds : tie.Need-loop-holds Inv-loop μ-loop
 loop-holds c = (search needs, search needs, wrote-none _ _)
 
-mul-t : tie.Need-mul-t Inv-loop μ-loop
-mul-t c = search needs
-
-element-copy-out-t : tie.Need-element-copy-out-t Inv-loop μ-loop
-element-copy-out-t c = search needs
-
 put-token-requires : tie.Need-put-token-requires Inv-loop μ-loop
 put-token-requires c κs =
     let l = c .before .before .before in
@@ -41,12 +35,6 @@ put-token-requires c κs =
       c
           .before .before .loop-test,
     )
-
-add-i : tie.Need-add-i Inv-loop μ-loop
-add-i c = search needs
-
-loop-less : tie.Need-loop-less Inv-loop μ-loop
-loop-less c = search needs
 
 loop-again : tie.Need-loop-again Inv-loop μ-loop
 loop-again c =
@@ -61,9 +49,6 @@ loop-again c =
           (wrote-then (l .loop .inv .2) w),
     )
 
-same-length : tie.Need-same-length Inv-loop μ-loop
-same-length c = search needs
-
 returns : tie.Need-returns Inv-loop μ-loop
 returns c =
     let l = c .before .loop in
@@ -71,17 +56,6 @@ returns c =
     rw e at (l .inv .2)
 
 pub put-tokens-spec : {M : Type 1} → statement M
-put-tokens-spec =
-    tie.close
-    (tie.spec
-    Inv-loop
-    μ-loop
-    loop-holds
-    mul-t
-    element-copy-out-t
-    put-token-requires
-    add-i
-    loop-less
-    loop-again
-    same-length
-    returns)
+put-tokens-spec = tie.close (tie.spec Inv-loop μ-loop loop-holds (λ c. search needs)
+    (λ c. search needs) put-token-requires (λ c. search needs) (λ c. search needs) loop-again
+    (λ c. search needs) returns)

@@ -6,18 +6,6 @@ use borrow.Author.Needs.{needs}
 use Rattle.c_words.proofs.told_code.Statement.{statement}
 use Rattle.c_words.proofs.told_code.Tie as tie
 
-enum-told : tie.Need-enum-told
-enum-told c = search needs
-
-enum-told-2 : tie.Need-enum-told-2
-enum-told-2 c = search needs
-
-enum-known-t : tie.Need-enum-known-t
-enum-known-t c = search needs
-
-fault-number-requires : tie.Need-fault-number-requires
-fault-number-requires c κs = search needs
-
 add-result : tie.Need-add-result
 add-result c =
     let h = number-small (c .before .before .t .given .0 .0) in
@@ -36,14 +24,5 @@ returns-3 c =
     (rw (z .t .given .1, c .fault-number .ensures) refl, omega (arith, h, c .fault-number .ensures))
 
 pub told-code-spec : {M : Type 1} → statement M
-told-code-spec =
-    tie.close
-    (tie.spec
-    enum-told
-    enum-told-2
-    enum-known-t
-    fault-number-requires
-    add-result
-    returns
-    returns-2
-    returns-3)
+told-code-spec = tie.close (tie.spec (λ c. search needs) (λ c. search needs) (λ c. search needs)
+    (λ c κs. search needs) add-result returns returns-2 returns-3)

@@ -6,22 +6,14 @@ use borrow.Author.Needs.{needs}
 use Rattle.c_words.proofs.with_line.Statement.{statement}
 use Rattle.c_words.proofs.with_line.Tie as tie
 
-mul-high : tie.Need-mul-high
-mul-high c = search needs
-
-add-result : tie.Need-add-result
-add-result c = search needs
-
 returns : tie.Need-returns
 unfolding withLine
 returns c = rw (lt-ltb _ _ (c .if1 .taken)) refl
-
-add-result-2 : tie.Need-add-result-2
-add-result-2 c = search needs
 
 returns-2 : tie.Need-returns-2
 unfolding withLine
 returns-2 c = rw (le-ltb _ _ (c .if1 .left)) refl
 
 pub with-line-spec : {M : Type 1} → statement M
-with-line-spec = tie.close (tie.spec mul-high add-result returns add-result-2 returns-2)
+with-line-spec = tie.close (tie.spec (λ c. search needs) (λ c. search needs) returns
+    (λ c. search needs) returns-2)

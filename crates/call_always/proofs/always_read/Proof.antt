@@ -8,15 +8,6 @@ use borrow.Author.Needs.{needs}
 use Rattle.call_always.proofs.always_read.Statement.{statement}
 use Rattle.call_always.proofs.always_read.Tie as tie
 
-enum-known-o : tie.Need-enum-known-o
-enum-known-o c = search needs
-
-refusal-requires : tie.Need-refusal-requires
-refusal-requires c κs = search needs
-
-enum-told : tie.Need-enum-told
-enum-told c = search needs
-
 answered-requires : tie.Need-answered-requires
 answered-requires c κs =
     let t = c .before .before .before in
@@ -29,12 +20,6 @@ returns c =
     let e = ap (λ (x : Outcome). readingOf x (rules (a .grammar))) (o .o .given .1) in
     refusing (record { is = e }) (c .refusal .ensures) refl refl
 
-same-length : tie.Need-same-length
-same-length c = search needs
-
-same-length-2 : tie.Need-same-length-2
-same-length-2 c = search needs
-
 returns-2 : tie.Need-returns-2
 returns-2 c =
     let j = c .before .before .before .before in
@@ -44,14 +29,5 @@ returns-2 c =
     reading e (j .answered .ensures)
 
 pub always-read-spec : {M : Type 1} → statement M
-always-read-spec =
-    tie.close
-    (tie.spec
-    enum-known-o
-    refusal-requires
-    enum-told
-    answered-requires
-    returns
-    same-length
-    same-length-2
-    returns-2)
+always-read-spec = tie.close (tie.spec (λ c. search needs) (λ c κs. search needs)
+    (λ c. search needs) answered-requires returns (λ c. search needs) (λ c. search needs) returns-2)

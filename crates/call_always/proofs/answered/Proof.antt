@@ -6,20 +6,11 @@ use borrow.Author.Needs.{needs}
 use Rattle.call_always.proofs.answered.Statement.{statement}
 use Rattle.call_always.proofs.answered.Tie as tie
 
-refusal-requires : tie.Need-refusal-requires
-refusal-requires c κs = search needs
-
 returns : tie.Need-returns
 returns c = short (omega (arith, c .before .if1 .taken)) refl (c .refusal .ensures) refl refl
 
 tell-requires : tie.Need-tell-requires
 tell-requires c κs = (search needs, omega (arith, c .before .before .if1 .left))
-
-same-length : tie.Need-same-length
-same-length c = search needs
-
-same-length-2 : tie.Need-same-length-2
-same-length-2 c = search needs
 
 returns-2 : tie.Need-returns-2
 returns-2 c =
@@ -29,6 +20,5 @@ returns-2 c =
     (x .1)
 
 pub answered-spec : {M : Type 1} → statement M
-answered-spec =
-    tie.close
-    (tie.spec refusal-requires returns tell-requires same-length same-length-2 returns-2)
+answered-spec = tie.close (tie.spec (λ c κs. search needs) returns tell-requires (λ c. search needs)
+    (λ c. search needs) returns-2)

@@ -8,9 +8,6 @@ use borrow.Author.Needs.{needs}
 use Rattle.call_always.proofs.reply.Statement.{statement}
 use Rattle.call_always.proofs.reply.Tie as tie
 
-refusal-requires : tie.Need-refusal-requires
-refusal-requires c κs = search needs
-
 returns : tie.Need-returns
 returns c =
     let e : c .before .before .before .args .l .fits ≡ false = not-true _ (c .before .if1 .taken) in
@@ -30,4 +27,4 @@ returns-3 c =
     rw e (some-entries _ (λ z. omega (arith, c .if2 .left, z)))
 
 pub reply-spec : {M : Type 1} → statement M
-reply-spec = tie.close (tie.spec refusal-requires returns returns-2 returns-3)
+reply-spec = tie.close (tie.spec (λ c κs. search needs) returns returns-2 returns-3)

@@ -4,27 +4,6 @@ use borrow.Author.Needs.{needs}
 use Rattle.call_always.proofs.tell.Statement.{statement}
 use Rattle.call_always.proofs.tell.Tie as tie
 
-slice-aggregate-weigh : tie.Need-slice-aggregate-weigh
-slice-aggregate-weigh c = search needs
-
-weigh-requires : tie.Need-weigh-requires
-weigh-requires c κs = search needs
-
-clear-requires : tie.Need-clear-requires
-clear-requires c κs = search needs
-
-slice-aggregate-list-weighed : tie.Need-slice-aggregate-list-weighed
-slice-aggregate-list-weighed c = search needs
-
-list-weighed-requires : tie.Need-list-weighed-requires
-list-weighed-requires c κs = search needs
-
-same-length : tie.Need-same-length
-same-length c = search needs
-
-same-length-2 : tie.Need-same-length-2
-same-length-2 c = search needs
-
 returns : tie.Need-returns
 returns c =
     let l = c .before .before in
@@ -36,14 +15,5 @@ returns c =
     )
 
 pub tell-spec : {M : Type 1} → statement M
-tell-spec =
-    tie.close
-    (tie.spec
-    slice-aggregate-weigh
-    weigh-requires
-    clear-requires
-    slice-aggregate-list-weighed
-    list-weighed-requires
-    same-length
-    same-length-2
-    returns)
+tell-spec = tie.close (tie.spec (λ c. search needs) (λ c κs. search needs) (λ c κs. search needs)
+    (λ c. search needs) (λ c κs. search needs) (λ c. search needs) (λ c. search needs) returns)

@@ -6,15 +6,6 @@ use borrow.Author.Needs.{needs}
 use Rattle.call_clauses.proofs.expand.Statement.{statement}
 use Rattle.call_clauses.proofs.expand.Tie as tie
 
-read-clauses-requires : tie.Need-read-clauses-requires
-read-clauses-requires c κs = search needs
-
-enum-known-o : tie.Need-enum-known-o
-enum-known-o c = search needs
-
-enum-told : tie.Need-enum-told
-enum-told c = search needs
-
 expanded-requires : tie.Need-expanded-requires
 expanded-requires c κs = c .before .before .before .before .read-clauses .ensures .formed
     (c .before .before .enum-told .given .1)
@@ -23,9 +14,6 @@ returns : tie.Need-returns
 returns c = refusing (rules-not (c .before .before .before .read-clauses .ensures)
     (c .before .o .given .1)) refl refl
 
-same-length : tie.Need-same-length
-same-length c = search needs
-
 returns-2 : tie.Need-returns-2
 returns-2 c =
     let e = c .before .before .before .before .before in
@@ -33,13 +21,5 @@ returns-2 c =
     (c .before .before .expanded .ensures)
 
 pub expand-spec : {M : Type 1} → statement M
-expand-spec =
-    tie.close
-    (tie.spec
-    read-clauses-requires
-    enum-known-o
-    enum-told
-    expanded-requires
-    returns
-    same-length
-    returns-2)
+expand-spec = tie.close (tie.spec (λ c κs. search needs) (λ c. search needs) (λ c. search needs)
+    expanded-requires returns (λ c. search needs) returns-2)

@@ -7,35 +7,8 @@ use borrow.Author.Needs.{needs}
 use Rattle.call_clauses.proofs.expanded.Statement.{statement}
 use Rattle.call_clauses.proofs.expanded.Tie as tie
 
-slice-aggregate-put-bytes : tie.Need-slice-aggregate-put-bytes
-slice-aggregate-put-bytes c = search needs
-
-slice-aggregate-put-bytes-2 : tie.Need-slice-aggregate-put-bytes-2
-slice-aggregate-put-bytes-2 c = search needs
-
-put-bytes-requires : tie.Need-put-bytes-requires
-put-bytes-requires c κs = search needs
-
-slice-aggregate-put-rules : tie.Need-slice-aggregate-put-rules
-slice-aggregate-put-rules c = search needs
-
-put-rules-requires : tie.Need-put-rules-requires
-put-rules-requires c κs = search needs
-
-array-share-prefix-sheet : tie.Need-array-share-prefix-sheet
-array-share-prefix-sheet c = search needs
-
 slice-aggregate-put-list : tie.Need-slice-aggregate-put-list
 slice-aggregate-put-list c = sym (length-take-le _ _ (search needs))
-
-put-list-requires : tie.Need-put-list-requires
-put-list-requires c κs = search needs
-
-list-reply-requires : tie.Need-list-reply-requires
-list-reply-requires c κs = search needs
-
-same-length : tie.Need-same-length
-same-length c = search needs
 
 returns : tie.Need-returns
 returns c =
@@ -46,17 +19,6 @@ returns c =
     rw (c .list-reply .ensures) (list-on (rw (w .front) at (g .put-list .ensures)))
 
 pub expanded-spec : {M : Type 1} → statement M
-expanded-spec =
-    tie.close
-    (tie.spec
-    slice-aggregate-put-bytes
-    slice-aggregate-put-bytes-2
-    put-bytes-requires
-    slice-aggregate-put-rules
-    put-rules-requires
-    array-share-prefix-sheet
-    slice-aggregate-put-list
-    put-list-requires
-    list-reply-requires
-    same-length
-    returns)
+expanded-spec = tie.close (tie.spec (λ c. search needs) (λ c. search needs) (λ c κs. search needs)
+    (λ c. search needs) (λ c κs. search needs) (λ c. search needs) slice-aggregate-put-list
+    (λ c κs. search needs) (λ c κs. search needs) (λ c. search needs) returns)

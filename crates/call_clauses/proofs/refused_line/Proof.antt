@@ -10,12 +10,6 @@ use Rattle.sheets.proofs.Handed.{held-same, line-in}
 use Rattle.call_clauses.proofs.refused_line.Statement.{statement}
 use Rattle.call_clauses.proofs.refused_line.Tie as tie
 
-read-clauses-requires : tie.Need-read-clauses-requires
-read-clauses-requires c κs = search needs
-
-read-tokens-requires : tie.Need-read-tokens-requires
-read-tokens-requires c κs = search needs
-
 refused-read-requires : tie.Need-refused-read-requires
 refused-read-requires c κs =
     let z = c .before .before .before .before .args in
@@ -38,5 +32,5 @@ returns c =
     (c .refused-read .ensures)
 
 pub refused-line-spec : {M : Type 1} → statement M
-refused-line-spec =
-    tie.close (tie.spec read-clauses-requires read-tokens-requires refused-read-requires returns)
+refused-line-spec = tie.close (tie.spec (λ c κs. search needs) (λ c κs. search needs)
+    refused-read-requires returns)

@@ -4,24 +4,10 @@ use borrow.Author.Needs.{needs}
 use Rattle.call_clauses.proofs.sweep.Statement.{statement}
 use Rattle.call_clauses.proofs.sweep.Tie as tie
 
-read-clauses-requires : tie.Need-read-clauses-requires
-read-clauses-requires c κs = search needs
-
-sweep-read-requires : tie.Need-sweep-read-requires
-sweep-read-requires c κs = search needs
-
-same-length : tie.Need-same-length
-same-length c = search needs
-
 returns : tie.Need-returns
 returns c = sweep-by (c .before .before .before .before .read-clauses .ensures .is)
     (c .before .before .sweep-read .ensures)
 
 pub sweep-spec : {M : Type 1} → statement M
-sweep-spec =
-    tie.close
-    (tie.spec
-    read-clauses-requires
-    sweep-read-requires
-    same-length
+sweep-spec = tie.close (tie.spec (λ c κs. search needs) (λ c κs. search needs) (λ c. search needs)
     returns)

@@ -12,12 +12,6 @@ use Rattle.call_columns.proofs.answered.Statement.{statement}
 use Rattle.call_columns.proofs.answered.Tie as tie
 use Rattle.sweeping.specs.Cleared.{cleared}
 
-size-requires : tie.Need-size-requires
-size-requires c κs = search needs
-
-refuse-requires : tie.Need-refuse-requires
-refuse-requires c κs = search needs
-
 returns : tie.Need-returns
 returns c =
     let z = c .before .before .before .before in
@@ -33,9 +27,6 @@ choose-requires : tie.Need-choose-requires
 choose-requires c κs =
     let z = c .before .before .before .before in
     (z .pre .0, (z .pre .1, omega (arith, c .before .if1 .left, c .before .before .size .ensures)))
-
-same-length : tie.Need-same-length
-same-length c = search needs
 
 returns-2 : tie.Need-returns-2
 returns-2 c =
@@ -60,12 +51,5 @@ returns-2 c =
     ∙ ap (λ (n : ℕ). cleared n (z .args .words .now)) (sym e))
 
 pub answered-spec : {M : Type 1} → statement M
-answered-spec =
-    tie.close
-    (tie.spec
-    size-requires
-    refuse-requires
-    returns
-    choose-requires
-    same-length
-    returns-2)
+answered-spec = tie.close (tie.spec (λ c κs. search needs) (λ c κs. search needs) returns
+    choose-requires (λ c. search needs) returns-2)

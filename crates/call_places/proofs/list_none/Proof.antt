@@ -3,15 +3,6 @@ use borrow.Author.Needs.{needs}
 use Rattle.call_places.proofs.list_none.Statement.{statement}
 use Rattle.call_places.proofs.list_none.Tie as tie
 
-begin-requires : tie.Need-begin-requires
-begin-requires c κs = search needs
-
-finish-requires : tie.Need-finish-requires
-finish-requires c κs = search needs
-
-same-length : tie.Need-same-length
-same-length c = search needs
-
 returns : tie.Need-returns
 returns c =
     let f = c .before .before in
@@ -19,4 +10,5 @@ returns c =
     f .finish .ensures .gives (f .before .begin .ensures .puts (s .args .list .now))
 
 pub list-none-spec : {M : Type 1} → statement M
-list-none-spec = tie.close (tie.spec begin-requires finish-requires same-length returns)
+list-none-spec = tie.close (tie.spec (λ c κs. search needs) (λ c κs. search needs)
+    (λ c. search needs) returns)

@@ -4,9 +4,6 @@ use Rattle.spans.proofs.Places.{pairs-few}
 use Rattle.call_places.proofs.list_two.Statement.{statement}
 use Rattle.call_places.proofs.list_two.Tie as tie
 
-slice-aggregate-find-places : tie.Need-slice-aggregate-find-places
-slice-aggregate-find-places c = search needs
-
 find-places-requires : tie.Need-find-places-requires
 find-places-requires c κs =
     let s = c .before .before .before in
@@ -19,25 +16,6 @@ find-places-requires c κs =
       ),
     )
 
-slice-aggregate-list-places : tie.Need-slice-aggregate-list-places
-slice-aggregate-list-places c = search needs
-
-list-places-requires : tie.Need-list-places-requires
-list-places-requires c κs = search needs
-
-same-length : tie.Need-same-length
-same-length c = search needs
-
-returns : tie.Need-returns
-returns c = search needs
-
 pub list-two-spec : {M : Type 1} → statement M
-list-two-spec =
-    tie.close
-    (tie.spec
-    slice-aggregate-find-places
-    find-places-requires
-    slice-aggregate-list-places
-    list-places-requires
-    same-length
-    returns)
+list-two-spec = tie.close (tie.spec (λ c. search needs) find-places-requires (λ c. search needs)
+    (λ c κs. search needs) (λ c. search needs) (λ c. search needs))

@@ -6,30 +6,6 @@ use borrow.Author.Needs.{needs}
 use Rattle.call_places.proofs.places.Statement.{statement}
 use Rattle.call_places.proofs.places.Tie as tie
 
-read-rules-requires : tie.Need-read-rules-requires
-read-rules-requires c κs = search needs
-
-enum-known-o : tie.Need-enum-known-o
-enum-known-o c = search needs
-
-unlisted-requires : tie.Need-unlisted-requires
-unlisted-requires c κs = search needs
-
-enum-told : tie.Need-enum-told
-enum-told c = search needs
-
-read-tokens-requires : tie.Need-read-tokens-requires
-read-tokens-requires c κs = search needs
-
-enum-known-p : tie.Need-enum-known-p
-enum-known-p c = search needs
-
-unlisted-requires-2 : tie.Need-unlisted-requires-2
-unlisted-requires-2 c κs = search needs
-
-enum-told-2 : tie.Need-enum-told-2
-enum-told-2 c = search needs
-
 listed-requires : tie.Need-listed-requires
 listed-requires c κs =
     let enum-told2 = c .before .before .before .before .enum-told2 in
@@ -57,12 +33,6 @@ returns-2 c =
     (q .before .enum-told .given .1) (q .read-tokens .ensures) (p .given .1) in
     refusing e (c .unlisted2 .ensures) refl refl
 
-same-length : tie.Need-same-length
-same-length c = search needs
-
-same-length-2 : tie.Need-same-length-2
-same-length-2 c = search needs
-
 returns-3 : tie.Need-returns-3
 returns-3 c =
     let j = c .before .before .before .before in
@@ -75,20 +45,7 @@ returns-3 c =
     reading e (j .listed .ensures)
 
 pub places-spec : {M : Type 1} → statement M
-places-spec =
-    tie.close
-    (tie.spec
-    read-rules-requires
-    enum-known-o
-    unlisted-requires
-    enum-told
-    read-tokens-requires
-    enum-known-p
-    unlisted-requires-2
-    enum-told-2
-    listed-requires
-    returns
-    returns-2
-    same-length
-    same-length-2
+places-spec = tie.close (tie.spec (λ c κs. search needs) (λ c. search needs) (λ c κs. search needs)
+    (λ c. search needs) (λ c κs. search needs) (λ c. search needs) (λ c κs. search needs)
+    (λ c. search needs) listed-requires returns returns-2 (λ c. search needs) (λ c. search needs)
     returns-3)

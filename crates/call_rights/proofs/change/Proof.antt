@@ -8,30 +8,6 @@ use Rattle.sheets.proofs.Readings.{rules-are, rules-not}
 use Rattle.call_rights.proofs.change.Statement.{statement}
 use Rattle.call_rights.proofs.change.Tie as tie
 
-read-rules-requires : tie.Need-read-rules-requires
-read-rules-requires c κs = search needs
-
-enum-known-o : tie.Need-enum-known-o
-enum-known-o c = search needs
-
-refuse-requires : tie.Need-refuse-requires
-refuse-requires c κs = search needs
-
-enum-told : tie.Need-enum-told
-enum-told c = search needs
-
-read-rights-requires : tie.Need-read-rights-requires
-read-rights-requires c κs = search needs
-
-enum-known-q : tie.Need-enum-known-q
-enum-known-q c = search needs
-
-refuse-requires-2 : tie.Need-refuse-requires-2
-refuse-requires-2 c κs = search needs
-
-enum-told-2 : tie.Need-enum-told-2
-enum-told-2 c = search needs
-
 changed-to-requires : tie.Need-changed-to-requires
 changed-to-requires c κs =
     let r = c .before .before .before .before .before .before .before .read-rules .ensures in
@@ -52,9 +28,6 @@ returns-2 c =
     (c .before .before .before .before .read-rights .ensures)
     (c .before .before .q .given .1)) (c .refuse2 .ensures) refl
 
-same-length : tie.Need-same-length
-same-length c = search needs
-
 returns-3 : tie.Need-returns-3
 returns-3 c =
     let r = c .before .before .before .before .before .before .before .before .before .before
@@ -68,19 +41,6 @@ returns-3 c =
     .enum-told .given .1)) (w .1) (by-changes (w .2) (c .before .before .changed-to .ensures))
 
 pub change-spec : {M : Type 1} → statement M
-change-spec =
-    tie.close
-    (tie.spec
-    read-rules-requires
-    enum-known-o
-    refuse-requires
-    enum-told
-    read-rights-requires
-    enum-known-q
-    refuse-requires-2
-    enum-told-2
-    changed-to-requires
-    returns
-    returns-2
-    same-length
-    returns-3)
+change-spec = tie.close (tie.spec (λ c κs. search needs) (λ c. search needs) (λ c κs. search needs)
+    (λ c. search needs) (λ c κs. search needs) (λ c. search needs) (λ c κs. search needs)
+    (λ c. search needs) changed-to-requires returns returns-2 (λ c. search needs) returns-3)

@@ -8,30 +8,15 @@ use Rattle.call_rights.proofs.Changes.{read-may, read-barred}
 use Rattle.call_rights.proofs.changed_to.Statement.{statement}
 use Rattle.call_rights.proofs.changed_to.Tie as tie
 
-refuse-requires : tie.Need-refuse-requires
-refuse-requires c κs = search needs
-
 returns : tie.Need-returns
 returns c = let z = c .before .before .before .before .before .args in
     rw (c .refuse .ensures) (barred-zero _ (z .rules .now) _ _ (z .lay .now) _
     (c .before .if1 .taken))
 
-refuse-requires-2 : tie.Need-refuse-requires-2
-refuse-requires-2 c κs = search needs
-
 returns-2 : tie.Need-returns-2
 returns-2 c = let z = c .before .before .before .before .before .before in
     rw (c .refuse2 .ensures) (barred-past (z .pre .0) (z .args .rules .now) (z .pre .1) _ _
     (z .args .lay .now) _ (c .before .if2 .taken))
-
-sub-i : tie.Need-sub-i
-sub-i c = search needs
-
-mul-r : tie.Need-mul-r
-mul-r c = search needs
-
-element-copy-out-r : tie.Need-element-copy-out-r
-element-copy-out-r c = search needs
 
 has-requires : tie.Need-has-requires
 has-requires c κs = let z = c .before .before .before .before .before .before in
@@ -50,9 +35,6 @@ marked-requires c κs = let z = c .before .before .before .before .before .befor
           (arith, c .before .before .before .before .if2 .left, z .pre .0 .few),
     )
 
-same-length : tie.Need-same-length
-same-length c = search needs
-
 returns-3 : tie.Need-returns-3
 returns-3 c = let z = c .before .before .before .before .before .before .before .before .before
     .before .before .before in allowed
@@ -70,9 +52,6 @@ returns-3 c = let z = c .before .before .before .before .before .before .before 
     (c .before .before .before .before .before .has .ensures))
     (c .before .before .marked .ensures)
 
-refuse-requires-3 : tie.Need-refuse-requires-3
-refuse-requires-3 c κs = search needs
-
 returns-4 : tie.Need-returns-4
 returns-4 c = let z = c .before .before .before .before .before .before .before .before .before in
     rw (c .refuse3 .ensures) (read-barred (z .pre .0) (z .args .rules .now) (z .pre .1)
@@ -82,19 +61,6 @@ returns-4 c = let z = c .before .before .before .before .before .before .before 
     (c .before .if3 .left) (c .before .before .has .ensures))
 
 pub changed-to-spec : {M : Type 1} → statement M
-changed-to-spec =
-    tie.close
-    (tie.spec
-    refuse-requires
-    returns
-    refuse-requires-2
-    returns-2
-    sub-i
-    mul-r
-    element-copy-out-r
-    has-requires
-    marked-requires
-    same-length
-    returns-3
-    refuse-requires-3
-    returns-4)
+changed-to-spec = tie.close (tie.spec (λ c κs. search needs) returns (λ c κs. search needs)
+    returns-2 (λ c. search needs) (λ c. search needs) (λ c. search needs) has-requires
+    marked-requires (λ c. search needs) returns-3 (λ c κs. search needs) returns-4)

@@ -8,42 +8,6 @@ use Rattle.call_rights.proofs.Showing.{rights-not, rights-are, by-sees}
 use Rattle.call_rights.proofs.show.Statement.{statement}
 use Rattle.call_rights.proofs.show.Tie as tie
 
-read-rules-requires : tie.Need-read-rules-requires
-read-rules-requires c κs = search needs
-
-enum-known-o : tie.Need-enum-known-o
-enum-known-o c = search needs
-
-refused-trees-requires : tie.Need-refused-trees-requires
-refused-trees-requires c κs = search needs
-
-enum-told : tie.Need-enum-told
-enum-told c = search needs
-
-read-tokens-requires : tie.Need-read-tokens-requires
-read-tokens-requires c κs = search needs
-
-enum-known-p : tie.Need-enum-known-p
-enum-known-p c = search needs
-
-refused-trees-requires-2 : tie.Need-refused-trees-requires-2
-refused-trees-requires-2 c κs = search needs
-
-enum-told-2 : tie.Need-enum-told-2
-enum-told-2 c = search needs
-
-read-rights-requires : tie.Need-read-rights-requires
-read-rights-requires c κs = search needs
-
-enum-known-q : tie.Need-enum-known-q
-enum-known-q c = search needs
-
-refused-trees-requires-3 : tie.Need-refused-trees-requires-3
-refused-trees-requires-3 c κs = search needs
-
-enum-told-3 : tie.Need-enum-told-3
-enum-told-3 c = search needs
-
 shown-requires : tie.Need-shown-requires
 shown-requires c κs =
     let r = c .before .before .before .before .before .before .before .before .before .before
@@ -89,15 +53,6 @@ returns-3 c =
     (c .before .before .q .given .1)) (c .refused-trees3 .ensures) refl
     refl refl
 
-same-length : tie.Need-same-length
-same-length c = search needs
-
-same-length-2 : tie.Need-same-length-2
-same-length-2 c = search needs
-
-same-length-3 : tie.Need-same-length-3
-same-length-3 c = search needs
-
 returns-4 : tie.Need-returns-4
 returns-4 c =
     let z = c .before .before .before .before .before .before .before .before .before .before
@@ -123,26 +78,8 @@ returns-4 c =
     .before .before .shown .ensures))
 
 pub show-spec : {M : Type 1} → statement M
-show-spec =
-    tie.close
-    (tie.spec
-    read-rules-requires
-    enum-known-o
-    refused-trees-requires
-    enum-told
-    read-tokens-requires
-    enum-known-p
-    refused-trees-requires-2
-    enum-told-2
-    read-rights-requires
-    enum-known-q
-    refused-trees-requires-3
-    enum-told-3
-    shown-requires
-    returns
-    returns-2
-    returns-3
-    same-length
-    same-length-2
-    same-length-3
-    returns-4)
+show-spec = tie.close (tie.spec (λ c κs. search needs) (λ c. search needs) (λ c κs. search needs)
+    (λ c. search needs) (λ c κs. search needs) (λ c. search needs) (λ c κs. search needs)
+    (λ c. search needs) (λ c κs. search needs) (λ c. search needs) (λ c κs. search needs)
+    (λ c. search needs) shown-requires returns returns-2 returns-3 (λ c. search needs)
+    (λ c. search needs) (λ c. search needs) returns-4)

@@ -8,26 +8,11 @@ use mathlib.Core.Path.{refl}
 use Rattle.call_rows.proofs.counted.Statement.{statement}
 use Rattle.call_rows.proofs.counted.Tie as tie
 
-size-requires : tie.Need-size-requires
-size-requires c κs = search needs
-
-uncounted-requires : tie.Need-uncounted-requires
-uncounted-requires c κs = search needs
-
 returns : tie.Need-returns
 returns c =
     let s = c .before .before .before .before in
     too-few (s .pre .1 .whole) (rw (c .before .before .size .ensures) at (c .before .if1 .taken))
     (c .uncounted .ensures)
-
-judge-requires : tie.Need-judge-requires
-judge-requires c κs = search needs
-
-enum-told : tie.Need-enum-told
-enum-told c = search needs
-
-enum-told-2 : tie.Need-enum-told-2
-enum-told-2 c = search needs
 
 count-rows-requires : tie.Need-count-rows-requires
 count-rows-requires c κs =
@@ -38,9 +23,6 @@ count-rows-requires c κs =
       (has-firsts, wants-first _ _ (v .verdict)),
     )
 
-enum-told-3 : tie.Need-enum-told-3
-enum-told-3 c = search needs
-
 count-rows-requires-2 : tie.Need-count-rows-requires-2
 count-rows-requires-2 c κs =
     let j = c .before .before .before .before .before in
@@ -50,18 +32,12 @@ count-rows-requires-2 c κs =
       (has-firsts, wants-second _ _ (s .pre .0 .distinct) (v .verdict)),
     )
 
-same-length : tie.Need-same-length
-same-length c = search needs
-
 returns-2 : tie.Need-returns-2
 returns-2 c =
     let j = c .before .before .before .before in
     let s = j .before .before .before .before .before in
     let v = rw (c .enum-told .given .1) at (j .judge .ensures) in
     counted-none (filled-by (s .pre .1 .whole) v) (v .verdict)
-
-same-length-2 : tie.Need-same-length-2
-same-length-2 c = search needs
 
 returns-3 : tie.Need-returns-3
 returns-3 c =
@@ -71,9 +47,6 @@ returns-3 c =
     let f = first-there _ _ (v .verdict) in
     counted-one (filled-by (s .pre .1 .whole) v) (v .verdict) (f .1)
     (c .count-rows .ensures .first (f .0) (f .1), c .count-rows .ensures .lacking refl)
-
-same-length-3 : tie.Need-same-length-3
-same-length-3 c = search needs
 
 returns-4 : tie.Need-returns-4
 returns-4 c =
@@ -87,21 +60,7 @@ returns-4 c =
     )
 
 pub counted-spec : {M : Type 1} → statement M
-counted-spec =
-    tie.close
-    (tie.spec
-    size-requires
-    uncounted-requires
-    returns
-    judge-requires
-    enum-told
-    enum-told-2
-    count-rows-requires
-    enum-told-3
-    count-rows-requires-2
-    same-length
-    returns-2
-    same-length-2
-    returns-3
-    same-length-3
-    returns-4)
+counted-spec = tie.close (tie.spec (λ c κs. search needs) (λ c κs. search needs) returns
+    (λ c κs. search needs) (λ c. search needs) (λ c. search needs) count-rows-requires
+    (λ c. search needs) count-rows-requires-2 (λ c. search needs) returns-2 (λ c. search needs)
+    returns-3 (λ c. search needs) returns-4)

@@ -6,30 +6,6 @@ use borrow.Author.Needs.{needs}
 use Rattle.call_rows.proofs.rows.Statement.{statement}
 use Rattle.call_rows.proofs.rows.Tie as tie
 
-read-rules-requires : tie.Need-read-rules-requires
-read-rules-requires c κs = search needs
-
-enum-known-o : tie.Need-enum-known-o
-enum-known-o c = search needs
-
-uncounted-requires : tie.Need-uncounted-requires
-uncounted-requires c κs = search needs
-
-enum-told : tie.Need-enum-told
-enum-told c = search needs
-
-read-tokens-requires : tie.Need-read-tokens-requires
-read-tokens-requires c κs = search needs
-
-enum-known-p : tie.Need-enum-known-p
-enum-known-p c = search needs
-
-uncounted-requires-2 : tie.Need-uncounted-requires-2
-uncounted-requires-2 c κs = search needs
-
-enum-told-2 : tie.Need-enum-told-2
-enum-told-2 c = search needs
-
 counted-requires : tie.Need-counted-requires
 counted-requires c κs =
     let q = c .before .before .before .before .before in
@@ -57,9 +33,6 @@ returns-2 c =
     (c .before .before .p .given .1) in
     refusing e (c .uncounted2 .ensures) refl
 
-same-length : tie.Need-same-length
-same-length c = search needs
-
 returns-3 : tie.Need-returns-3
 returns-3 c =
     let j = c .before .before in
@@ -72,19 +45,6 @@ returns-3 c =
     reading e (j .counted .ensures)
 
 pub rows-spec : {M : Type 1} → statement M
-rows-spec =
-    tie.close
-    (tie.spec
-    read-rules-requires
-    enum-known-o
-    uncounted-requires
-    enum-told
-    read-tokens-requires
-    enum-known-p
-    uncounted-requires-2
-    enum-told-2
-    counted-requires
-    returns
-    returns-2
-    same-length
-    returns-3)
+rows-spec = tie.close (tie.spec (λ c κs. search needs) (λ c. search needs) (λ c κs. search needs)
+    (λ c. search needs) (λ c κs. search needs) (λ c. search needs) (λ c κs. search needs)
+    (λ c. search needs) counted-requires returns returns-2 (λ c. search needs) returns-3)

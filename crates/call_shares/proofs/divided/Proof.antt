@@ -7,32 +7,17 @@ use Rattle.call_shares.specs.Share.{racks, beyond, short}
 use Rattle.call_shares.proofs.divided.Statement.{statement}
 use Rattle.call_shares.proofs.divided.Tie as tie
 
-refused-share-requires : tie.Need-refused-share-requires
-refused-share-requires c κs = search needs
-
 returns : tie.Need-returns
 returns c = racks (c .before .before .before .pre .1) (inl (omega arith)) refl
     (c .refused-share .ensures) refl
-
-refused-share-requires-2 : tie.Need-refused-share-requires-2
-refused-share-requires-2 c κs = search needs
 
 returns-2 : tie.Need-returns-2
 returns-2 c = racks (c .before .before .before .before .pre .1) (inr (omega arith)) refl
     (c .refused-share2 .ensures) refl
 
-refused-share-requires-3 : tie.Need-refused-share-requires-3
-refused-share-requires-3 c κs = search needs
-
 returns-3 : tie.Need-returns-3
 returns-3 c = beyond (c .before .before .before .before .before .pre .1) (omega arith) (omega arith)
     (omega arith) refl (c .refused-share3 .ensures) refl
-
-size-requires : tie.Need-size-requires
-size-requires c κs = search needs
-
-refused-share-requires-4 : tie.Need-refused-share-requires-4
-refused-share-requires-4 c κs = search needs
 
 returns-4 : tie.Need-returns-4
 returns-4 c =
@@ -54,25 +39,7 @@ taken-requires c κs =
       },
     )
 
-same-length : tie.Need-same-length
-same-length c = search needs
-
-returns-5 : tie.Need-returns-5
-returns-5 c = search needs
-
 pub divided-spec : {M : Type 1} → statement M
-divided-spec =
-    tie.close
-    (tie.spec
-    refused-share-requires
-    returns
-    refused-share-requires-2
-    returns-2
-    refused-share-requires-3
-    returns-3
-    size-requires
-    refused-share-requires-4
-    returns-4
-    taken-requires
-    same-length
-    returns-5)
+divided-spec = tie.close (tie.spec (λ c κs. search needs) returns (λ c κs. search needs) returns-2
+    (λ c κs. search needs) returns-3 (λ c κs. search needs) (λ c κs. search needs) returns-4
+    taken-requires (λ c. search needs) (λ c. search needs))

@@ -9,29 +9,11 @@ use Rattle.call_shares.specs.Share.{bound, many}
 use Rattle.call_shares.proofs.judged.Statement.{statement}
 use Rattle.call_shares.proofs.judged.Tie as tie
 
-refused-share-requires : tie.Need-refused-share-requires
-refused-share-requires c κs = search needs
-
 returns : tie.Need-returns
 returns c = bound (inl (omega arith)) refl (c .refused-share .ensures) refl
 
-refused-share-requires-2 : tie.Need-refused-share-requires-2
-refused-share-requires-2 c κs = search needs
-
 returns-2 : tie.Need-returns-2
 returns-2 c = bound (inr (omega arith)) refl (c .refused-share2 .ensures) refl
-
-terminals-requires : tie.Need-terminals-requires
-terminals-requires c κs = search needs
-
-terminal-count-requires : tie.Need-terminal-count-requires
-terminal-count-requires c κs = search needs
-
-within-limit-requires : tie.Need-within-limit-requires
-within-limit-requires c κs = search needs
-
-refused-share-requires-3 : tie.Need-refused-share-requires-3
-refused-share-requires-3 c κs = search needs
 
 returns-3 : tie.Need-returns-3
 returns-3 c =
@@ -51,25 +33,7 @@ divided-requires c κs =
           { low = omega arith; high = omega arith; few = rw e at l },
     )
 
-same-length : tie.Need-same-length
-same-length c = search needs
-
-returns-4 : tie.Need-returns-4
-returns-4 c = search needs
-
 pub judged-spec : {M : Type 1} → statement M
-judged-spec =
-    tie.close
-    (tie.spec
-    refused-share-requires
-    returns
-    refused-share-requires-2
-    returns-2
-    terminals-requires
-    terminal-count-requires
-    within-limit-requires
-    refused-share-requires-3
-    returns-3
-    divided-requires
-    same-length
-    returns-4)
+judged-spec = tie.close (tie.spec (λ c κs. search needs) returns (λ c κs. search needs) returns-2
+    (λ c κs. search needs) (λ c κs. search needs) (λ c κs. search needs) (λ c κs. search needs)
+    returns-3 divided-requires (λ c. search needs) (λ c. search needs))

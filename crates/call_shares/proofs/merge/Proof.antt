@@ -5,21 +5,12 @@ use Rattle.call_shares.specs.Merge.{first-refuses, second-refuses, secon
 use Rattle.call_shares.proofs.merge.Statement.{statement}
 use Rattle.call_shares.proofs.merge.Tie as tie
 
-refuses-requires : tie.Need-refuses-requires
-refuses-requires c κs = search needs
-
 returns : tie.Need-returns
 returns c = first-refuses (c .before .refuses .ensures .is (c .if1 .taken)) refl
-
-refuses-requires-2 : tie.Need-refuses-requires-2
-refuses-requires-2 c κs = search needs
 
 returns-2 : tie.Need-returns-2
 returns-2 c = second-refuses (c .before .before .before .refuses .ensures .isnt
     (c .before .before .if1 .left)) (c .before .refuses2 .ensures .is (c .if2 .taken)) refl
-
-leads-requires : tie.Need-leads-requires
-leads-requires c κs = search needs
 
 returns-3 : tie.Need-returns-3
 returns-3 c = second (c .before .before .before .before .before .refuses .ensures .isnt
@@ -34,5 +25,5 @@ returns-4 c = first (c .before .before .before .before .before .refuses .ensures
     (c .before .leads .ensures .isnt (c .if3 .left)) refl
 
 pub merge-spec : {M : Type 1} → statement M
-merge-spec = tie.close (tie.spec refuses-requires returns refuses-requires-2 returns-2
-    leads-requires returns-3 returns-4)
+merge-spec = tie.close (tie.spec (λ c κs. search needs) returns (λ c κs. search needs) returns-2
+    (λ c κs. search needs) returns-3 returns-4)

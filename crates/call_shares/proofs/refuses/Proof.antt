@@ -6,24 +6,6 @@ use Rattle.call_shares.specs.Merge.{Refuses}
 use Rattle.call_shares.proofs.refuses.Statement.{statement}
 use Rattle.call_shares.proofs.refuses.Tie as tie
 
-enum-told : tie.Need-enum-told
-enum-told c = search needs
-
-enum-told-2 : tie.Need-enum-told-2
-enum-told-2 c = search needs
-
-enum-told-3 : tie.Need-enum-told-3
-enum-told-3 c = search needs
-
-enum-told-4 : tie.Need-enum-told-4
-enum-told-4 c = search needs
-
-enum-told-5 : tie.Need-enum-told-5
-enum-told-5 c = search needs
-
-enum-told-6 : tie.Need-enum-told-6
-enum-told-6 c = search needs
-
 returns : tie.Need-returns
 returns c = fails (λ x. subst Refuses (c .enum-told .given .1) x)
 
@@ -43,18 +25,6 @@ returns-6 : tie.Need-returns-6
 returns-6 c = holds (rw (c .enum-told6 .given .1) tt)
 
 pub refuses-spec : {M : Type 1} → statement M
-refuses-spec =
-    tie.close
-    (tie.spec
-    enum-told
-    enum-told-2
-    enum-told-3
-    enum-told-4
-    enum-told-5
-    enum-told-6
-    returns
-    returns-2
-    returns-3
-    returns-4
-    returns-5
-    returns-6)
+refuses-spec = tie.close (tie.spec (λ c. search needs) (λ c. search needs) (λ c. search needs)
+    (λ c. search needs) (λ c. search needs) (λ c. search needs) returns returns-2 returns-3
+    returns-4 returns-5 returns-6)

@@ -6,18 +6,6 @@ use borrow.Author.Needs.{needs}
 use Rattle.call_shares.proofs.share.Statement.{statement}
 use Rattle.call_shares.proofs.share.Tie as tie
 
-read-rules-requires : tie.Need-read-rules-requires
-read-rules-requires c κs = search needs
-
-enum-known-o : tie.Need-enum-known-o
-enum-known-o c = search needs
-
-refused-share-requires : tie.Need-refused-share-requires
-refused-share-requires c κs = search needs
-
-enum-told : tie.Need-enum-told
-enum-told c = search needs
-
 judged-requires : tie.Need-judged-requires
 judged-requires c κs = c .before .before .before .before .read-rules .ensures .formed
     (c .before .before .enum-told .given .1)
@@ -26,9 +14,6 @@ returns : tie.Need-returns
 returns c = refusing (rules-not (c .before .before .before .before .read-rules .ensures)
     (c .before .before .o .given .1)) (c .refused-share .ensures) refl
 
-same-length : tie.Need-same-length
-same-length c = search needs
-
 returns-2 : tie.Need-returns-2
 returns-2 c = reading (rules-are
     (c .before .before .before .before .before .before .before .read-rules .ensures)
@@ -36,14 +21,5 @@ returns-2 c = reading (rules-are
     (c .before .before .judged .ensures)
 
 pub share-spec : {M : Type 1} → statement M
-share-spec =
-    tie.close
-    (tie.spec
-    read-rules-requires
-    enum-known-o
-    refused-share-requires
-    enum-told
-    judged-requires
-    returns
-    same-length
-    returns-2)
+share-spec = tie.close (tie.spec (λ c κs. search needs) (λ c. search needs) (λ c κs. search needs)
+    (λ c. search needs) judged-requires returns (λ c. search needs) returns-2)

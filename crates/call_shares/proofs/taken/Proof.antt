@@ -13,9 +13,6 @@ use Rattle.call_shares.proofs.taken.Tie as tie
 small : (c : tie.After-terminals) → c .terminals .result < 2 ^ 64
 small c = search needs
 
-terminals-requires : tie.Need-terminals-requires
-terminals-requires c κs = search needs
-
 all-numbers-requires : tie.Need-all-numbers-requires
 all-numbers-requires c κs =
     let t = c .before .before .pre .1 in (
@@ -40,9 +37,6 @@ begins-at-requires c κs =
     let t = c .before .before .before .pre .1 in
     (omega (arith, whole c, t .size .few), t .least, omega (arith, t .below, t .most))
 
-add-begins-at : tie.Need-add-begins-at
-add-begins-at c = search needs
-
 begins-at-requires-2 : tie.Need-begins-at-requires-2
 begins-at-requires-2 c κs =
     let t = c .before .before .before .before .pre .1 in
@@ -54,15 +48,6 @@ share-rules-requires c κs =
     let t = a .pre .1 in
     ((t .size .low, t .size .high), (a .pre .0, (t .size .few, t .enough)))
 
-div-quotient : tie.Need-div-quotient
-div-quotient c = search needs
-
-rem-remainder : tie.Need-rem-remainder
-rem-remainder c = search needs
-
-same-length : tie.Need-same-length
-same-length c = search needs
-
 returns : tie.Need-returns
 returns c =
     let s = c .before .before .before .before .before in
@@ -72,9 +57,6 @@ returns c =
     .before .before .pre .1) (s .share-rules .ensures .1) (whole m)
     (e .before .begins-at .ensures) (e .begins-at2 .ensures) (s .share-rules .ensures .0)
     (c .if1 .taken)
-
-same-length-2 : tie.Need-same-length-2
-same-length-2 c = search needs
 
 returns-2 : tie.Need-returns-2
 returns-2 c =
@@ -87,18 +69,6 @@ returns-2 c =
     (c .if1 .left)
 
 pub taken-spec : {M : Type 1} → statement M
-taken-spec =
-    tie.close
-    (tie.spec
-    terminals-requires
-    all-numbers-requires
-    begins-at-requires
-    add-begins-at
-    begins-at-requires-2
-    share-rules-requires
-    div-quotient
-    rem-remainder
-    same-length
-    returns
-    same-length-2
-    returns-2)
+taken-spec = tie.close (tie.spec (λ c κs. search needs) all-numbers-requires begins-at-requires
+    (λ c. search needs) begins-at-requires-2 share-rules-requires (λ c. search needs)
+    (λ c. search needs) (λ c. search needs) returns (λ c. search needs) returns-2)

@@ -18,20 +18,8 @@ no2 : (c : tie.Else2) → sameBytes
     ≡ false
 no2 c = sym (c .before .same2 .ensures) ∙ c .if2 .left
 
-slice-aggregate-same : tie.Need-slice-aggregate-same
-slice-aggregate-same c = search needs
-
-same-requires : tie.Need-same-requires
-same-requires c κs = search needs
-
 returns : tie.Need-returns
 returns c = sym (hit (sym (c .before .same .ensures) ∙ c .if1 .taken) _ _)
-
-slice-aggregate-same-2 : tie.Need-slice-aggregate-same-2
-slice-aggregate-same-2 c = search needs
-
-same-requires-2 : tie.Need-same-requires-2
-same-requires-2 c κs = search needs
 
 returns-2 : tie.Need-returns-2
 returns-2 c =
@@ -44,13 +32,5 @@ returns-3 c =
     sym (skip (no1 e1) _ _ _ (miss (no2 c) _ _))
 
 pub always-call-spec : {M : Type 1} → statement M
-always-call-spec =
-    tie.close
-    (tie.spec
-    slice-aggregate-same
-    same-requires
-    returns
-    slice-aggregate-same-2
-    same-requires-2
-    returns-2
-    returns-3)
+always-call-spec = tie.close (tie.spec (λ c. search needs) (λ c κs. search needs) returns
+    (λ c. search needs) (λ c κs. search needs) returns-2 returns-3)

@@ -18,15 +18,6 @@ slice-aggregate-same : tie.Need-slice-aggregate-same
 slice-aggregate-same c = let a = c .before .before .before .before .args in
     sym (length-take-le (length (a .start .now)) (a .s .now) (omega arith))
 
-same-requires : tie.Need-same-requires
-same-requires c κs = search needs
-
-sub-last : tie.Need-sub-last
-sub-last c = search needs
-
-shared-slice-read-result : tie.Need-shared-slice-read-result
-shared-slice-read-result c = search needs
-
 returns-2 : tie.Need-returns-2
 returns-2 c = let d = c .before in
     let a = d .before .before .before .before .before .before .args in
@@ -45,13 +36,5 @@ returns-3 c = let a = c .before .before .before .before .before .before .args in
     )
 
 pub begins-spec : {M : Type 1} → statement M
-begins-spec =
-    tie.close
-    (tie.spec
-    returns
-    slice-aggregate-same
-    same-requires
-    sub-last
-    shared-slice-read-result
-    returns-2
-    returns-3)
+begins-spec = tie.close (tie.spec returns slice-aggregate-same (λ c κs. search needs)
+    (λ c. search needs) (λ c. search needs) returns-2 returns-3)

@@ -39,32 +39,14 @@ no6 : (c : tie.Else6) → sameBytes
     ≡ false
 no6 c = sym (c .before .same6 .ensures) ∙ c .if6 .left
 
-slice-aggregate-same : tie.Need-slice-aggregate-same
-slice-aggregate-same c = search needs
-
-same-requires : tie.Need-same-requires
-same-requires c κs = search needs
-
 returns : tie.Need-returns
 returns c =
     sym (hit (sym (c .before .same .ensures) ∙ c .if1 .taken) _ _)
-
-slice-aggregate-same-2 : tie.Need-slice-aggregate-same-2
-slice-aggregate-same-2 c = search needs
-
-same-requires-2 : tie.Need-same-requires-2
-same-requires-2 c κs = search needs
 
 returns-2 : tie.Need-returns-2
 returns-2 c =
     let e1 = c .before .before .before in
     sym (skip (no1 e1) _ _ _ (hit (sym (c .before .same2 .ensures) ∙ c .if2 .taken) _ _))
-
-slice-aggregate-same-3 : tie.Need-slice-aggregate-same-3
-slice-aggregate-same-3 c = search needs
-
-same-requires-3 : tie.Need-same-requires-3
-same-requires-3 c κs = search needs
 
 returns-3 : tie.Need-returns-3
 returns-3 c =
@@ -73,12 +55,6 @@ returns-3 c =
     sym (skip (no1 e1) _ _ _ (skip (no2 e2) _ _ _
     (hit (sym (c .before .same3 .ensures) ∙ c .if3 .taken) _ _)))
 
-slice-aggregate-same-4 : tie.Need-slice-aggregate-same-4
-slice-aggregate-same-4 c = search needs
-
-same-requires-4 : tie.Need-same-requires-4
-same-requires-4 c κs = search needs
-
 returns-4 : tie.Need-returns-4
 returns-4 c =
     let e3 = c .before .before .before in
@@ -86,12 +62,6 @@ returns-4 c =
     let e1 = e2 .before .before .before in
     sym (skip (no1 e1) _ _ _ (skip (no2 e2) _ _ _
     (skip (no3 e3) _ _ _ (hit (sym (c .before .same4 .ensures) ∙ c .if4 .taken) _ _))))
-
-slice-aggregate-same-5 : tie.Need-slice-aggregate-same-5
-slice-aggregate-same-5 c = search needs
-
-same-requires-5 : tie.Need-same-requires-5
-same-requires-5 c κs = search needs
 
 returns-5 : tie.Need-returns-5
 returns-5 c =
@@ -103,12 +73,6 @@ returns-5 c =
     (skip (no3 e3) _ _ _ (skip (no4 e4) _ _ _
     (hit (sym (c .before .same5 .ensures) ∙ c .if5 .taken) _ _)))))
 
-slice-aggregate-same-6 : tie.Need-slice-aggregate-same-6
-slice-aggregate-same-6 c = search needs
-
-same-requires-6 : tie.Need-same-requires-6
-same-requires-6 c κs = search needs
-
 returns-6 : tie.Need-returns-6
 returns-6 c =
     let e5 = c .before .before .before in
@@ -119,9 +83,6 @@ returns-6 c =
     sym (skip (no1 e1) _ _ _ (skip (no2 e2) _ _ _
     (skip (no3 e3) _ _ _ (skip (no4 e4) _ _ _
     (skip (no5 e5) _ _ _ (hit (sym (c .before .same6 .ensures) ∙ c .if6 .taken) _ _))))))
-
-numbered-call-requires : tie.Need-numbered-call-requires
-numbered-call-requires c κs = search needs
 
 returns-7 : tie.Need-returns-7
 returns-7 c =
@@ -136,26 +97,8 @@ returns-7 c =
     (skip (no5 e5) _ _ _ (skip (no6 e6) _ _ _ (sym (c .numbered-call .ensures))))))))
 
 pub call-of-spec : {M : Type 1} → statement M
-call-of-spec =
-    tie.close
-    (tie.spec
-    slice-aggregate-same
-    same-requires
-    returns
-    slice-aggregate-same-2
-    same-requires-2
-    returns-2
-    slice-aggregate-same-3
-    same-requires-3
-    returns-3
-    slice-aggregate-same-4
-    same-requires-4
-    returns-4
-    slice-aggregate-same-5
-    same-requires-5
-    returns-5
-    slice-aggregate-same-6
-    same-requires-6
-    returns-6
-    numbered-call-requires
-    returns-7)
+call-of-spec = tie.close (tie.spec (λ c. search needs) (λ c κs. search needs) returns
+    (λ c. search needs) (λ c κs. search needs) returns-2 (λ c. search needs) (λ c κs. search needs)
+    returns-3 (λ c. search needs) (λ c κs. search needs) returns-4 (λ c. search needs)
+    (λ c κs. search needs) returns-5 (λ c. search needs) (λ c κs. search needs) returns-6
+    (λ c κs. search needs) returns-7)

@@ -55,15 +55,6 @@ stage2 c =
 inside : (c : tie.After-known-told2) → two c .1 .0 .end ≤ length (start (up c) .args .s .now)
 inside c = omega (arith, stage2 c .1, start (up c) .pre)
 
-number-requires : tie.Need-number-requires
-number-requires c κs = search needs
-
-enum-known-u : tie.Need-enum-known-u
-enum-known-u c = search needs
-
-enum-told : tie.Need-enum-told
-enum-told c = search needs
-
 returns : tie.Need-returns
 returns c =
     let n = c .before .before in
@@ -73,12 +64,6 @@ returns c =
 
 number-requires-2 : tie.Need-number-requires-2
 number-requires-2 c κs = omega (arith, stage1 c .1, start c .pre)
-
-enum-known-r : tie.Need-enum-known-r
-enum-known-r c = search needs
-
-enum-told-2 : tie.Need-enum-told-2
-enum-told-2 c = search needs
 
 returns-2 : tie.Need-returns-2
 returns-2 c =
@@ -98,14 +83,8 @@ returns-3 c =
     sym (stage2 s .0 ∙ ap (ending s)
     (left-none (start (up s) .args .s .now) (two s .1 .0) (inside s) (c .if1 .taken)))
 
-part-one-field-start : tie.Need-part-one-field-start
-part-one-field-start c = search needs
-
 part-one-field-end : tie.Need-part-one-field-end
 part-one-field-end c = inside (c .before)
-
-one-field-requires : tie.Need-one-field-requires
-one-field-requires c κs = search needs
 
 -- the bytes left are the fields left
 left : (c : tie.Else1) → let s = c .before in let t = start (up s) .args .s .now in
@@ -139,20 +118,6 @@ returns-5 c =
     (left-bad bytes (sym (c .before .one-field .ensures) ∙ c .if2 .left)))
 
 pub change-call-spec : {M : Type 1} → statement M
-change-call-spec =
-    tie.close
-    (tie.spec
-    number-requires
-    enum-known-u
-    enum-told
-    returns
-    number-requires-2
-    enum-known-r
-    enum-told-2
-    returns-2
-    returns-3
-    part-one-field-start
-    part-one-field-end
-    one-field-requires
-    returns-4
-    returns-5)
+change-call-spec = tie.close (tie.spec (λ c κs. search needs) (λ c. search needs)
+    (λ c. search needs) returns number-requires-2 (λ c. search needs) (λ c. search needs) returns-2
+    returns-3 (λ c. search needs) part-one-field-end (λ c κs. search needs) returns-4 returns-5)

@@ -82,23 +82,11 @@ long4 c = begins-long changeStart
     (c .before .before .before .before .before .before .before .before .before .before .before
     .before .before .args .s .now) (is4 c)
 
-slice-aggregate-begins : tie.Need-slice-aggregate-begins
-slice-aggregate-begins c = search needs
-
-begins-requires : tie.Need-begins-requires
-begins-requires c κs = search needs
-
 bound-call-requires : tie.Need-bound-call-requires
 bound-call-requires c κs = long1 c
 
 returns : tie.Need-returns
 returns c = sym (into (is1 (c .before)) _ _ _ (sym (c .bound-call .ensures)))
-
-slice-aggregate-begins-2 : tie.Need-slice-aggregate-begins-2
-slice-aggregate-begins-2 c = search needs
-
-begins-requires-2 : tie.Need-begins-requires-2
-begins-requires-2 c κs = search needs
 
 show-call-requires : tie.Need-show-call-requires
 show-call-requires c κs = long2 c
@@ -108,17 +96,8 @@ returns-2 c =
     let e1 = c .before .before .before .before in
     sym (skip (no1 e1) _ _ _ (into (is2 (c .before)) _ _ _ (sym (c .show-call .ensures))))
 
-slice-aggregate-begins-3 : tie.Need-slice-aggregate-begins-3
-slice-aggregate-begins-3 c = search needs
-
-begins-requires-3 : tie.Need-begins-requires-3
-begins-requires-3 c κs = search needs
-
 sub-end : tie.Need-sub-end
 sub-end c = omega (arith, long3 c)
-
-share-call-requires : tie.Need-share-call-requires
-share-call-requires c κs = search needs
 
 returns-3 : tie.Need-returns-3
 returns-3 c =
@@ -127,12 +106,6 @@ returns-3 c =
     let s = e1 .before .before .before .before .args .s .now in
     let call = sym (c .share-call .ensures ∙ ap shareCall (fields-are 30 s (long3 (c .before)))) in
     sym (skip (no1 e1) _ _ _ (skip (no2 e2) _ _ _ (into (is3 (c .before)) _ _ _ call)))
-
-slice-aggregate-begins-4 : tie.Need-slice-aggregate-begins-4
-slice-aggregate-begins-4 c = search needs
-
-begins-requires-4 : tie.Need-begins-requires-4
-begins-requires-4 c κs = search needs
 
 sub-end-2 : tie.Need-sub-end-2
 sub-end-2 c = omega (arith, long4 c)
@@ -151,9 +124,6 @@ returns-4 c =
     sym (skip (no1 e1) _ _ _ (skip (no2 e2) _ _ _
     (skip (no3 e3) _ _ _ (into (is4 (c .before)) _ _ _ call))))
 
-always-call-requires : tie.Need-always-call-requires
-always-call-requires c κs = search needs
-
 returns-5 : tie.Need-returns-5
 returns-5 c =
     let e4 = c .before in
@@ -164,26 +134,8 @@ returns-5 c =
     (skip (no3 e3) _ _ _ (skip (no4 e4) _ _ _ (sym (c .always-call .ensures))))))
 
 pub numbered-call-spec : {M : Type 1} → statement M
-numbered-call-spec =
-    tie.close
-    (tie.spec
-    slice-aggregate-begins
-    begins-requires
-    bound-call-requires
-    returns
-    slice-aggregate-begins-2
-    begins-requires-2
-    show-call-requires
-    returns-2
-    slice-aggregate-begins-3
-    begins-requires-3
-    sub-end
-    share-call-requires
-    returns-3
-    slice-aggregate-begins-4
-    begins-requires-4
-    sub-end-2
-    change-call-requires
-    returns-4
-    always-call-requires
-    returns-5)
+numbered-call-spec = tie.close (tie.spec (λ c. search needs) (λ c κs. search needs)
+    bound-call-requires returns (λ c. search needs) (λ c κs. search needs) show-call-requires
+    returns-2 (λ c. search needs) (λ c κs. search needs) sub-end (λ c κs. search needs) returns-3
+    (λ c. search needs) (λ c κs. search needs) sub-end-2 change-call-requires returns-4
+    (λ c κs. search needs) returns-5)

@@ -19,9 +19,6 @@ abbrev μ-loop : tie.MeasureT-loop
 loop-holds : tie.Need-loop-holds Inv-loop μ-loop
 loop-holds c = (search needs, refl)
 
-shared-slice-read-b : tie.Need-shared-slice-read-b Inv-loop μ-loop
-shared-slice-read-b c = search needs
-
 returns : tie.Need-returns Inv-loop μ-loop
 returns c = let l = c .before .before .before in
     sym (l .loop .inv .1 ∙ field-blank (l .before .args .f .now) (l .loop .i) (omega arith)
@@ -31,12 +28,6 @@ returns-2 : tie.Need-returns-2 Inv-loop μ-loop
 returns-2 c = let l = c .before .before .before .before in
     sym (l .loop .inv .1 ∙ field-break (l .before .args .f .now) (l .loop .i) (omega arith)
     (c .before .if1 .left) (c .if2 .taken))
-
-add-i : tie.Need-add-i Inv-loop μ-loop
-add-i c = search needs
-
-loop-less : tie.Need-loop-less Inv-loop μ-loop
-loop-less c = search needs
 
 loop-again : tie.Need-loop-again Inv-loop μ-loop
 loop-again c = let l = c .before .before .before .before in (
@@ -50,16 +41,5 @@ returns-3 c = let l = c .before in
     sym (l .loop .inv .1 ∙ field-end (l .before .args .f .now) (l .loop .i) (omega arith))
 
 pub one-field-spec : {M : Type 1} → statement M
-one-field-spec =
-    tie.close
-    (tie.spec
-    Inv-loop
-    μ-loop
-    loop-holds
-    shared-slice-read-b
-    returns
-    returns-2
-    add-i
-    loop-less
-    loop-again
-    returns-3)
+one-field-spec = tie.close (tie.spec Inv-loop μ-loop loop-holds (λ c. search needs) returns
+    returns-2 (λ c. search needs) (λ c. search needs) loop-again returns-3)

@@ -64,15 +64,6 @@ inside : (c : tie.After-known-told3)
     → three c .1 .0 .end ≤ length (start (up (upper c)) .args .s .now)
 inside c = omega (arith, stage3 c .1, start (up (upper c)) .pre)
 
-number-requires : tie.Need-number-requires
-number-requires c κs = search needs
-
-enum-known-n : tie.Need-enum-known-n
-enum-known-n c = search needs
-
-enum-told : tie.Need-enum-told
-enum-told c = search needs
-
 returns : tie.Need-returns
 returns c =
     let n = c .before .before in
@@ -83,12 +74,6 @@ returns c =
 number-requires-2 : tie.Need-number-requires-2
 number-requires-2 c κs = omega (arith, stage1 c .1, start c .pre)
 
-enum-known-p : tie.Need-enum-known-p
-enum-known-p c = search needs
-
-enum-told-2 : tie.Need-enum-told-2
-enum-told-2 c = search needs
-
 returns-2 : tie.Need-returns-2
 returns-2 c =
     let n = c .before .before in
@@ -98,12 +83,6 @@ returns-2 c =
 
 number-requires-3 : tie.Need-number-requires-3
 number-requires-3 c κs = omega (arith, stage2 c .1, start (up c) .pre)
-
-enum-known-i : tie.Need-enum-known-i
-enum-known-i c = search needs
-
-enum-told-3 : tie.Need-enum-told-3
-enum-told-3 c = search needs
 
 returns-3 : tie.Need-returns-3
 returns-3 c =
@@ -126,20 +105,6 @@ returns-5 c =
     (inside s) (c .if1 .left))
 
 pub share-call-spec : {M : Type 1} → statement M
-share-call-spec =
-    tie.close
-    (tie.spec
-    number-requires
-    enum-known-n
-    enum-told
-    returns
-    number-requires-2
-    enum-known-p
-    enum-told-2
-    returns-2
-    number-requires-3
-    enum-known-i
-    enum-told-3
-    returns-3
-    returns-4
-    returns-5)
+share-call-spec = tie.close (tie.spec (λ c κs. search needs) (λ c. search needs) (λ c. search needs)
+    returns number-requires-2 (λ c. search needs) (λ c. search needs) returns-2 number-requires-3
+    (λ c. search needs) (λ c. search needs) returns-3 returns-4 returns-5)

@@ -10,35 +10,17 @@ use borrow.Author.Needs.{needs}
 use Rattle.calling.proofs.answer_at.Statement.{statement}
 use Rattle.calling.proofs.answer_at.Tie as tie
 
-add-j : tie.Need-add-j
-add-j c = search needs
-
 slice-aggregate-call-of : tie.Need-slice-aggregate-call-of
 slice-aggregate-call-of c = sym (length-take-le _ _ (search needs))
 
-call-of-requires : tie.Need-call-of-requires
-call-of-requires c κs = search needs
-
 slice-aggregate-answer : tie.Need-slice-aggregate-answer
 slice-aggregate-answer c = sym (length-take-le _ _ (search needs))
-
-sub-answer : tie.Need-sub-answer
-sub-answer c = search needs
-
-part-answer-start : tie.Need-part-answer-start
-part-answer-start c = search needs
-
-part-answer-end : tie.Need-part-answer-end
-part-answer-end c = search needs
 
 answer-requires : tie.Need-answer-requires
 answer-requires c κs =
     let q = c .before .before .before in
     let s = q .before .before .before .before .args in
     (search needs, rw (← q .call-of .ensures) at (call-inside (take (s .i) (s .input .now))))
-
-same-length : tie.Need-same-length
-same-length c = search needs
 
 returns : tie.Need-returns
 returns c =
@@ -52,16 +34,6 @@ returns c =
     rw (q .call-of .ensures) at (rw e at (z .answer .ensures))
 
 pub answer-at-spec : {M : Type 1} → statement M
-answer-at-spec =
-    tie.close
-    (tie.spec
-    add-j
-    slice-aggregate-call-of
-    call-of-requires
-    slice-aggregate-answer
-    sub-answer
-    part-answer-start
-    part-answer-end
-    answer-requires
-    same-length
-    returns)
+answer-at-spec = tie.close (tie.spec (λ c. search needs) slice-aggregate-call-of
+    (λ c κs. search needs) slice-aggregate-answer (λ c. search needs) (λ c. search needs)
+    (λ c. search needs) answer-requires (λ c. search needs) returns)

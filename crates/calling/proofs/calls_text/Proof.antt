@@ -5,23 +5,8 @@ use borrow.Author.Needs.{needs}
 use Rattle.calling.proofs.calls_text.Statement.{statement}
 use Rattle.calling.proofs.calls_text.Tie as tie
 
-put-refusal-requires : tie.Need-put-refusal-requires
-put-refusal-requires c κs = search needs
-
 returns : tie.Need-returns
 returns c = record { text = _; is = long (search needs) refl; wrote = c .put-refusal .ensures }
-
-parting-requires : tie.Need-parting-requires
-parting-requires c κs = search needs
-
-enum-told : tie.Need-enum-told
-enum-told c = search needs
-
-put-refusal-requires-2 : tie.Need-put-refusal-requires-2
-put-refusal-requires-2 c κs = search needs
-
-enum-known-place : tie.Need-enum-known-place
-enum-known-place c = search needs
 
 answer-at-requires : tie.Need-answer-at-requires
 answer-at-requires c κs =
@@ -53,15 +38,6 @@ returns-3 c =
     }
 
 pub calls-text-spec : {M : Type 1} → statement M
-calls-text-spec =
-    tie.close
-    (tie.spec
-    put-refusal-requires
-    returns
-    parting-requires
-    enum-told
-    put-refusal-requires-2
-    enum-known-place
-    answer-at-requires
-    returns-2
+calls-text-spec = tie.close (tie.spec (λ c κs. search needs) returns (λ c κs. search needs)
+    (λ c. search needs) (λ c κs. search needs) (λ c. search needs) answer-at-requires returns-2
     returns-3)

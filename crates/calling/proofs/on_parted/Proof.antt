@@ -17,18 +17,6 @@ inside c =
     let p = c .before in
     let s = p .before .before .parting .ensures in (rw (p .place .given .1) at s) .0
 
-parting-requires : tie.Need-parting-requires
-parting-requires c κs = search needs
-
-enum-told : tie.Need-enum-told
-enum-told c = search needs
-
-put-refusal-requires : tie.Need-put-refusal-requires
-put-refusal-requires c κs = search needs
-
-enum-known-place : tie.Need-enum-known-place
-enum-known-place c = search needs
-
 add-j : tie.Need-add-j
 add-j c =
     let h = inside c in search needs
@@ -45,15 +33,6 @@ part-on-two-start : tie.Need-part-on-two-start
 part-on-two-start c =
     let h = inside (c .before) in search needs
 
-part-on-two-end : tie.Need-part-on-two-end
-part-on-two-end c = search needs
-
-on-two-requires : tie.Need-on-two-requires
-on-two-requires c κs = search needs
-
-same-length : tie.Need-same-length
-same-length c = search needs
-
 returns : tie.Need-returns
 returns c =
     let m = c .before .before .before .before in
@@ -64,9 +43,6 @@ returns c =
       wrote =
           c .before .before .put-refusal .ensures;
     }
-
-same-length-2 : tie.Need-same-length-2
-same-length-2 c = search needs
 
 returns-2 : tie.Need-returns-2
 returns-2 c =
@@ -83,20 +59,7 @@ returns-2 c =
     { text = w .text; is = two ((rw (p .place .given .1) at s) .1) (w .is); wrote = w .wrote }
 
 pub on-parted-spec : {M : Type 1} → statement M
-on-parted-spec =
-    tie.close
-    (tie.spec
-    parting-requires
-    enum-told
-    put-refusal-requires
-    enum-known-place
-    add-j
-    slice-aggregate-on-two
-    sub-on-two
-    part-on-two-start
-    part-on-two-end
-    on-two-requires
-    same-length
-    returns
-    same-length-2
-    returns-2)
+on-parted-spec = tie.close (tie.spec (λ c κs. search needs) (λ c. search needs)
+    (λ c κs. search needs) (λ c. search needs) add-j slice-aggregate-on-two sub-on-two
+    part-on-two-start (λ c. search needs) (λ c κs. search needs) (λ c. search needs) returns
+    (λ c. search needs) returns-2)

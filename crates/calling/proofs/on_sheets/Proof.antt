@@ -3,22 +3,10 @@ use borrow.Author.Needs.{needs}
 use Rattle.calling.proofs.on_sheets.Statement.{statement}
 use Rattle.calling.proofs.on_sheets.Tie as tie
 
-enum-known-call : tie.Need-enum-known-call
-enum-known-call c = search needs
-
-on-one-requires : tie.Need-on-one-requires
-on-one-requires c κs = search needs
-
-enum-known-call-2 : tie.Need-enum-known-call-2
-enum-known-call-2 c = search needs
-
 on-parted-requires : tie.Need-on-parted-requires
 on-parted-requires c κs =
     let m = c .before .before in
     (search needs, rw (m .call2 .given .1) at (m .before .before .before .before .before .pre .1))
-
-same-length : tie.Need-same-length
-same-length c = search needs
 
 returns : tie.Need-returns
 returns c =
@@ -30,9 +18,6 @@ returns c =
       wrote =
           a .wrote;
     }
-
-same-length-2 : tie.Need-same-length-2
-same-length-2 c = search needs
 
 returns-2 : tie.Need-returns-2
 returns-2 c =
@@ -46,14 +31,5 @@ returns-2 c =
     }
 
 pub on-sheets-spec : {M : Type 1} → statement M
-on-sheets-spec =
-    tie.close
-    (tie.spec
-    enum-known-call
-    on-one-requires
-    enum-known-call-2
-    on-parted-requires
-    same-length
-    returns
-    same-length-2
-    returns-2)
+on-sheets-spec = tie.close (tie.spec (λ c. search needs) (λ c κs. search needs) (λ c. search needs)
+    on-parted-requires (λ c. search needs) returns (λ c. search needs) returns-2)

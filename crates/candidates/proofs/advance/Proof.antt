@@ -29,30 +29,12 @@ found-at set t r u e h =
           [ yes y ↦ y | no y ↦ absurd (omega (arith, k .3 x (q .1) (omega arith))) ],
     )
 
-add-k : tie.Need-add-k
-add-k c = search needs
-
 returns : tie.Need-returns
 returns c = advance-column _ _ _ _ _ (c .before .before .pre .1) (omega (arith, c .if1 .taken))
-
-add-t14 : tie.Need-add-t14
-add-t14 c = search needs
 
 returns-2 : tie.Need-returns-2
 returns-2 c = advance-step _ _ _ _ _ (c .before .before .before .pre .1)
     (omega (arith, c .before .if1 .left)) (c .if2 .taken)
-
-add-first-from : tie.Need-add-first-from
-add-first-from c = search needs
-
-first-from-requires : tie.Need-first-from-requires
-first-from-requires c κs = search needs
-
-enum-known-f : tie.Need-enum-known-f
-enum-known-f c = search needs
-
-enum-told : tie.Need-enum-told
-enum-told c = search needs
 
 returns-3 : tie.Need-returns-3
 returns-3 c =
@@ -60,9 +42,6 @@ returns-3 c =
     last-cell _ _ _ _ _ (e .before .before .before .before .pre .1)
     (omega (arith, e .before .before .if1 .left)) (e .before .if2 .left)
     (none-left _ _ _ (c .enum-told .given .1) (e .first-from .ensures))
-
-least-spot-requires : tie.Need-least-spot-requires
-least-spot-requires c κs = search needs
 
 returns-4 : tie.Need-returns-4
 returns-4 c =
@@ -73,17 +52,6 @@ returns-4 c =
     (omega (arith, h .0)) (h .2) (c .least-spot .ensures)
 
 pub advance-spec : {M : Type 1} → statement M
-advance-spec =
-    tie.close
-    (tie.spec
-    add-k
-    returns
-    add-t14
-    returns-2
-    add-first-from
-    first-from-requires
-    enum-known-f
-    enum-told
-    returns-3
-    least-spot-requires
-    returns-4)
+advance-spec = tie.close (tie.spec (λ c. search needs) returns (λ c. search needs) returns-2
+    (λ c. search needs) (λ c κs. search needs) (λ c. search needs) (λ c. search needs) returns-3
+    (λ c κs. search needs) returns-4)

@@ -5,9 +5,6 @@ use Rattle.candidates.proofs.CellOrder.{spot-here, spot-next}
 use Rattle.candidates.proofs.least_spot.Statement.{statement}
 use Rattle.candidates.proofs.least_spot.Tie as tie
 
-add-t6 : tie.Need-add-t6
-add-t6 c = search needs
-
 returns : tie.Need-returns
 returns c = spot-here _ _ _ (c .if1 .taken)
 
@@ -16,4 +13,4 @@ returns-2 c =
     spot-next _ _ _ (c .before .pre .nonempty) (c .before .pre .next (c .if1 .left)) (c .if1 .left)
 
 pub least-spot-spec : {M : Type 1} → statement M
-least-spot-spec = tie.close (tie.spec add-t6 returns returns-2)
+least-spot-spec = tie.close (tie.spec (λ c. search needs) returns returns-2)

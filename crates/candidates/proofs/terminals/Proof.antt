@@ -27,21 +27,9 @@ inside c =
 loop-holds : tie.Need-loop-holds Inv-loop μ-loop
 loop-holds c = (search needs, terminals-none)
 
-mul-r : tie.Need-mul-r Inv-loop μ-loop
-mul-r c = search needs
-
-element-copy-out-r : tie.Need-element-copy-out-r Inv-loop μ-loop
-element-copy-out-r c = search needs
-
 with-terminal-requires : tie.Need-with-terminal-requires Inv-loop μ-loop
 with-terminal-requires c κs = small-at _ _ _ (c .before .loop-test .taken) (inside (c .before))
     (c .before .before .before .pre)
-
-add-i : tie.Need-add-i Inv-loop μ-loop
-add-i c = search needs
-
-loop-less : tie.Need-loop-less Inv-loop μ-loop
-loop-less c = search needs
 
 loop-again : tie.Need-loop-again Inv-loop μ-loop
 loop-again c = (
@@ -57,16 +45,6 @@ returns c =
     rw e at (c .before .loop .inv .1)
 
 pub terminals-spec : {M : Type 1} → statement M
-terminals-spec =
-    tie.close
-    (tie.spec
-    Inv-loop
-    μ-loop
-    loop-holds
-    mul-r
-    element-copy-out-r
-    with-terminal-requires
-    add-i
-    loop-less
-    loop-again
+terminals-spec = tie.close (tie.spec Inv-loop μ-loop loop-holds (λ c. search needs)
+    (λ c. search needs) with-terminal-requires (λ c. search needs) (λ c. search needs) loop-again
     returns)

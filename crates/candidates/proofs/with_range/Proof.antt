@@ -42,14 +42,5 @@ returns c =
     reached-all (a .set) (a .a) (a .b) (l .i) (l .u) h (l .inv .1) (l .inv .2)
 
 pub with-range-spec : {M : Type 1} → statement M
-with-range-spec =
-    tie.close
-    (tie.spec
-    Inv-loop
-    μ-loop
-    loop-holds
-    with-requires
-    add-i
-    loop-less
-    loop-again
-    returns)
+with-range-spec = tie.close (tie.spec Inv-loop μ-loop loop-holds with-requires add-i loop-less
+    loop-again returns)

@@ -6,21 +6,9 @@ use Rattle.candidates.proofs.TerminalSets.{atom-small, widened-none, wi
 use Rattle.candidates.proofs.with_terminal.Statement.{statement}
 use Rattle.candidates.proofs.with_terminal.Tie as tie
 
-enum-told : tie.Need-enum-told
-enum-told c = search needs
-
-enum-known-k : tie.Need-enum-known-k
-enum-known-k c = search needs
-
 with-range-requires : tie.Need-with-range-requires
 with-range-requires c κs =
     atom-small _ _ _ (c .before .k .given .1) (c .before .before .before .pre)
-
-enum-told-2 : tie.Need-enum-told-2
-enum-told-2 c = search needs
-
-enum-told-3 : tie.Need-enum-told-3
-enum-told-3 c = search needs
 
 returns : tie.Need-returns
 returns c = widened-none _ _ (λ x e. true-not-false (sym (rw (c .enum-told .given .1) at e)))
@@ -35,15 +23,5 @@ returns-4 : tie.Need-returns-4
 returns-4 c = widened-none _ _ (λ x e. true-not-false (sym (rw (c .enum-told3 .given .1) at e)))
 
 pub with-terminal-spec : {M : Type 1} → statement M
-with-terminal-spec =
-    tie.close
-    (tie.spec
-    enum-told
-    enum-known-k
-    with-range-requires
-    enum-told-2
-    enum-told-3
-    returns
-    returns-2
-    returns-3
-    returns-4)
+with-terminal-spec = tie.close (tie.spec (λ c. search needs) (λ c. search needs) with-range-requires
+    (λ c. search needs) (λ c. search needs) returns returns-2 returns-3 returns-4)

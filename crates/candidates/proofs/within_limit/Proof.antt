@@ -17,9 +17,6 @@ Inv-loop t k factor m₀ i₀ m i = (1 ≤ i) × (i ≤ k) × (m ≡ partly t k 
 abbrev μ-loop : tie.MeasureT-loop
 μ-loop t k factor m₀ i₀ m i = k - i
 
-mul-factor : tie.Need-mul-factor Inv-loop μ-loop
-mul-factor c = search needs
-
 mul-factor-2 : tie.Need-mul-factor-2 Inv-loop μ-loop
 mul-factor-2 c = omega (arith, factor-small (c .args .t) (c .args .k) (c .pre .0) (c .pre .2))
 
@@ -42,12 +39,6 @@ mul-m-2 c = let l = c .before .before in
           (l .before .pre .2)),
     )
 
-add-i : tie.Need-add-i Inv-loop μ-loop
-add-i c = search needs
-
-loop-less : tie.Need-loop-less Inv-loop μ-loop
-loop-less c = search needs
-
 loop-again : tie.Need-loop-again Inv-loop μ-loop
 loop-again c = let l = c .before .before in
     (omega arith, search needs, partly-more _ _ _ _ (l .loop .inv .0) (l .loop .inv .2))
@@ -61,18 +52,5 @@ returns-2 c =
     record { is = λ q. omega (arith, leb-true); isnt = λ q h. omega (arith, leb-false) }
 
 pub within-limit-spec : {M : Type 1} → statement M
-within-limit-spec =
-    tie.close
-    (tie.spec
-    Inv-loop
-    μ-loop
-    mul-factor
-    mul-factor-2
-    mul-m
-    loop-holds
-    returns
-    mul-m-2
-    add-i
-    loop-less
-    loop-again
-    returns-2)
+within-limit-spec = tie.close (tie.spec Inv-loop μ-loop (λ c. search needs) mul-factor-2 mul-m
+    loop-holds returns mul-m-2 (λ c. search needs) (λ c. search needs) loop-again returns-2)

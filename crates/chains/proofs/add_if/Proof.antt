@@ -4,24 +4,9 @@ use Rattle.cuts.proofs.JoinLaws.{joins-none, joins-as}
 use Rattle.chains.proofs.add_if.Statement.{statement}
 use Rattle.chains.proofs.add_if.Tie as tie
 
-mul-has : tie.Need-mul-has
-mul-has c = search needs
-
-slice-read-has : tie.Need-slice-read-has
-slice-read-has c = search needs
-
-has-requires : tie.Need-has-requires
-has-requires c κs = search needs
-
 returns : tie.Need-returns
 returns c = joins-as (λ q B x. absurd x)
     (λ q B x. c .before .has .ensures .isnt (not-true _ (c .if1 .taken)) (x .1)) (joins-none _)
-
-add-set-requires : tie.Need-add-set-requires
-add-set-requires c κs = search needs
-
-same-length : tie.Need-same-length
-same-length c = search needs
 
 returns-2 : tie.Need-returns-2
 returns-2 c = let h = c .before .before .before .before .before .has .ensures .is
@@ -30,6 +15,5 @@ returns-2 c = let h = c .before .before .before .before .before .has .ensures .i
     (c .before .before .add-set .ensures)
 
 pub add-if-spec : {M : Type 1} → statement M
-add-if-spec =
-    tie.close
-    (tie.spec mul-has slice-read-has has-requires returns add-set-requires same-length returns-2)
+add-if-spec = tie.close (tie.spec (λ c. search needs) (λ c. search needs) (λ c κs. search needs)
+    returns (λ c κs. search needs) (λ c. search needs) returns-2)

@@ -24,9 +24,6 @@ next-level-requires c κs = (
   (c .before .before .before .before .pre .1, c .before .before .loop .inv),
 )
 
-add-l : tie.Need-add-l Inv-loop μ-loop
-add-l c = search needs
-
 loop-less : tie.Need-loop-less Inv-loop μ-loop
 loop-less c = omega (arith, c .before .before .before .before .loop-test .taken)
 
@@ -40,15 +37,5 @@ returns : tie.Need-returns Inv-loop μ-loop
 returns c = upto-all (omega (arith, c .loop-test .left)) (c .before .loop .inv)
 
 pub chains-spec : {M : Type 1} → statement M
-chains-spec =
-    tie.close
-    (tie.spec
-    Inv-loop
-    μ-loop
-    loop-holds
-    next-level-requires
-    add-l
-    loop-less
-    loop-again
-    same-length
-    returns)
+chains-spec = tie.close (tie.spec Inv-loop μ-loop loop-holds next-level-requires (λ c. search needs)
+    loop-less loop-again same-length returns)

@@ -19,9 +19,6 @@ loop-holds c = (omega arith, closes-none _ (c .before .pre))
 through-requires : tie.Need-through-requires Inv-loop μ-loop
 through-requires c κs = (c .before .loop-test .taken, c .before .before .loop .inv .1 .size)
 
-add-k : tie.Need-add-k Inv-loop μ-loop
-add-k c = search needs
-
 loop-less : tie.Need-loop-less Inv-loop μ-loop
 loop-less c = omega (arith, c .before .before .before .before .loop-test .taken)
 
@@ -39,15 +36,5 @@ returns c = let l = c .before .loop in
     (let z : l .k ≡ 64 = omega (arith, l .inv .0, c .loop-test .left) in z) (l .inv .1)
 
 pub close-spec : {M : Type 1} → statement M
-close-spec =
-    tie.close
-    (tie.spec
-    Inv-loop
-    μ-loop
-    loop-holds
-    through-requires
-    add-k
-    loop-less
-    loop-again
-    same-length
-    returns)
+close-spec = tie.close (tie.spec Inv-loop μ-loop loop-holds through-requires (λ c. search needs)
+    loop-less loop-again same-length returns)

@@ -16,31 +16,13 @@ abbrev μ-loop : tie.MeasureT-loop
 loop-holds : tie.Need-loop-holds Inv-loop μ-loop
 loop-holds c = (omega arith, copied-none _ _)
 
-mul-at : tie.Need-mul-at Inv-loop μ-loop
-mul-at c = search needs
-
-add-at : tie.Need-add-at Inv-loop μ-loop
-add-at c = search needs
-
-mul-table : tie.Need-mul-table Inv-loop μ-loop
-mul-table c = search needs
-
 slice-read-table : tie.Need-slice-read-table Inv-loop μ-loop
 slice-read-table c = let z = c .before .before .before in let l = c .before .before .loop in
     omega (arith, z .pre .0, z .pre .1, l .inv .1 .size, c .before .loop-test .taken)
 
-add-table : tie.Need-add-table Inv-loop μ-loop
-add-table c = search needs
-
-mul-table-2 : tie.Need-mul-table-2 Inv-loop μ-loop
-mul-table-2 c = search needs
-
 slice-write-table : tie.Need-slice-write-table Inv-loop μ-loop
 slice-write-table c = let z = c .before .before .before in let l = c .before .before .loop in
     omega (arith, z .pre .0, z .pre .1, l .inv .1 .size, c .before .loop-test .taken)
-
-add-i : tie.Need-add-i Inv-loop μ-loop
-add-i c = search needs
 
 loop-less : tie.Need-loop-less Inv-loop μ-loop
 loop-less c = omega (arith, c .before .loop-test .taken)
@@ -65,21 +47,6 @@ returns c = let l = c .before .loop in
     (let z : l .i ≡ 128 = omega (arith, l .inv .0, c .loop-test .left) in z) (l .inv .1)
 
 pub copy-level-spec : {M : Type 1} → statement M
-copy-level-spec =
-    tie.close
-    (tie.spec
-    Inv-loop
-    μ-loop
-    loop-holds
-    mul-at
-    add-at
-    mul-table
-    slice-read-table
-    add-table
-    mul-table-2
-    slice-write-table
-    add-i
-    loop-less
-    loop-again
-    same-length
-    returns)
+copy-level-spec = tie.close (tie.spec Inv-loop μ-loop loop-holds (λ c. search needs)
+    (λ c. search needs) (λ c. search needs) slice-read-table (λ c. search needs) (λ c. search needs)
+    slice-write-table (λ c. search needs) loop-less loop-again same-length returns)

@@ -7,18 +7,6 @@ use Rattle.chains.proofs.CountLaws.{count-says, says-true}
 use Rattle.chains.proofs.count_rule.Statement.{statement}
 use Rattle.chains.proofs.count_rule.Tie as tie
 
-enum-told : tie.Need-enum-told
-enum-told c = search needs
-
-enum-told-2 : tie.Need-enum-told-2
-enum-told-2 c = search needs
-
-enum-known-c : tie.Need-enum-known-c
-enum-known-c c = search needs
-
-holds-at-requires : tie.Need-holds-at-requires
-holds-at-requires c κs = search needs
-
 count-requires : tie.Need-count-requires
 count-requires c κs = let z = c .before .before .before .before .before .before .before .before
     .before in (
@@ -29,9 +17,6 @@ count-requires c κs = let z = c .before .before .before .before .before .before
       ),
       z .pre .1,
     )
-
-enum-known-c-2 : tie.Need-enum-known-c-2
-enum-known-c-2 c = search needs
 
 has-requires : tie.Need-has-requires
 has-requires c κs = subst SmallClause (c .before .before .before .c2 .given .1)
@@ -97,23 +82,11 @@ returns c = rw (c .enum-told .given .1) (refl, refl)
 returns-2 : tie.Need-returns-2
 returns-2 c = rw (c .enum-told2 .given .1) (refl, refl)
 
-same-length : tie.Need-same-length
-same-length c = search needs
-
-same-length-2 : tie.Need-same-length-2
-same-length-2 c = search needs
-
 returns-3 : tie.Need-returns-3
 returns-3 c = rw (c .before .before .before .before .before .before .before .before .before .c
     .given .1) (count-says (says-true
     (c .before .before .before .before .before .holds-at .ensures)) (says-true (fails (λ x. x)))
     (c .before .before .before .before .count .ensures))
-
-same-length-3 : tie.Need-same-length-3
-same-length-3 c = search needs
-
-same-length-4 : tie.Need-same-length-4
-same-length-4 c = search needs
 
 returns-4 : tie.Need-returns-4
 returns-4 c = let k = c .before .before .before .before .before .before .before .before .before
@@ -136,26 +109,8 @@ returns-4 c = let k = c .before .before .before .before .before .before .before 
     )
 
 pub count-rule-spec : {M : Type 1} → statement M
-count-rule-spec =
-    tie.close
-    (tie.spec
-    enum-told
-    enum-told-2
-    enum-known-c
-    holds-at-requires
-    count-requires
-    enum-known-c-2
-    has-requires
-    has-requires-2
-    count-requires-2
-    has-requires-3
-    has-requires-4
-    count-requires-3
-    returns
-    returns-2
-    same-length
-    same-length-2
-    returns-3
-    same-length-3
-    same-length-4
+count-rule-spec = tie.close (tie.spec (λ c. search needs) (λ c. search needs) (λ c. search needs)
+    (λ c κs. search needs) count-requires (λ c. search needs) has-requires has-requires-2
+    count-requires-2 has-requires-3 has-requires-4 count-requires-3 returns returns-2
+    (λ c. search needs) (λ c. search needs) returns-3 (λ c. search needs) (λ c. search needs)
     returns-4)

@@ -36,9 +36,6 @@ loop-holds c = let z = c .before .before .before .before .before .before .before
           (k .past .long ∙ z .pre .1 .1) (k .zeros),
     )
 
-mul-r : tie.Need-mul-r Inv-loop μ-loop
-mul-r c = search needs
-
 element-copy-out-r : tie.Need-element-copy-out-r Inv-loop μ-loop
 element-copy-out-r c = omega (
   arith,
@@ -58,9 +55,6 @@ count-rule-requires c κs = let z = c .before .before .before .before .before .b
           (omega (arith, z .pre .0 .whole))),
       (l .inv .1 .wide, l .inv .1 .wide₂, z .pre .1 .2),
     )
-
-add-i : tie.Need-add-i Inv-loop μ-loop
-add-i c = search needs
 
 loop-less : tie.Need-loop-less Inv-loop μ-loop
 loop-less c = omega (
@@ -107,20 +101,6 @@ returns c = let l = c .before .loop in
     z) (l .inv .1)
 
 pub counts-spec : {M : Type 1} → statement M
-counts-spec =
-    tie.close
-    (tie.spec
-    Inv-loop
-    μ-loop
-    selves-requires
-    clear-requires
-    loop-holds
-    mul-r
-    element-copy-out-r
-    count-rule-requires
-    add-i
-    loop-less
-    loop-again
-    same-length
-    same-length-2
-    returns)
+counts-spec = tie.close (tie.spec Inv-loop μ-loop selves-requires clear-requires loop-holds
+    (λ c. search needs) element-copy-out-r count-rule-requires (λ c. search needs) loop-less
+    loop-again same-length same-length-2 returns)

@@ -23,12 +23,6 @@ loop-holds c = (λ A i. i, gathers-none _ _)
 lowest-requires : tie.Need-lowest-requires Inv-loop μ-loop
 lowest-requires c κs = omega (arith, c .loop-test .taken)
 
-cast-r : tie.Need-cast-r Inv-loop μ-loop
-cast-r c = search needs
-
-mul-r : tie.Need-mul-r Inv-loop μ-loop
-mul-r c = search needs
-
 shared-slice-read-r : tie.Need-shared-slice-read-r Inv-loop μ-loop
 shared-slice-read-r c =
     omega (arith, c .before .lowest .ensures .small, c .before .before .before .before .before .pre)
@@ -48,17 +42,5 @@ returns : tie.Need-returns Inv-loop μ-loop
 returns c = gathers-end (c .loop-test .left) (c .before .loop .inv .1)
 
 pub gather-spec : {M : Type 1} → statement M
-gather-spec =
-    tie.close
-    (tie.spec
-    Inv-loop
-    μ-loop
-    loop-holds
-    lowest-requires
-    cast-r
-    mul-r
-    shared-slice-read-r
-    sub-rest
-    loop-less
-    loop-again
-    returns)
+gather-spec = tie.close (tie.spec Inv-loop μ-loop loop-holds lowest-requires (λ c. search needs)
+    (λ c. search needs) shared-slice-read-r sub-rest loop-less loop-again returns)

@@ -4,18 +4,6 @@ use Rattle.sets.proofs.Says.{says-eqb, says-iff}
 use Rattle.chains.proofs.is_rank.Statement.{statement}
 use Rattle.chains.proofs.is_rank.Tie as tie
 
-enum-told : tie.Need-enum-told
-enum-told c = search needs
-
-enum-told-2 : tie.Need-enum-told-2
-enum-told-2 c = search needs
-
-enum-told-3 : tie.Need-enum-told-3
-enum-told-3 c = search needs
-
-enum-told-4 : tie.Need-enum-told-4
-enum-told-4 c = search needs
-
 returns : tie.Need-returns
 returns c = rw (c .enum-told .given .1) (says-iff sym sym (says-eqb _ 0))
 
@@ -29,14 +17,5 @@ returns-4 : tie.Need-returns-4
 returns-4 c = rw (c .enum-told4 .given .1) (says-iff sym sym (says-eqb _ 3))
 
 pub is-rank-spec : {M : Type 1} → statement M
-is-rank-spec =
-    tie.close
-    (tie.spec
-    enum-told
-    enum-told-2
-    enum-told-3
-    enum-told-4
-    returns
-    returns-2
-    returns-3
-    returns-4)
+is-rank-spec = tie.close (tie.spec (λ c. search needs) (λ c. search needs) (λ c. search needs)
+    (λ c. search needs) returns returns-2 returns-3 returns-4)

@@ -8,15 +8,9 @@ use Rattle.chains.proofs.level_of.Tie as tie
 returns : tie.Need-returns
 returns c = level-three _ (c .if1 .taken)
 
-allows-unary-requires : tie.Need-allows-unary-requires
-allows-unary-requires c κs = search needs
-
 returns-2 : tie.Need-returns-2
 returns-2 c = level-two _ (λ s. true-not-false (sym s ∙ c .before .before .if1 .left))
     (c .before .allows-unary .ensures .is (c .if2 .taken))
-
-allows-unary-requires-2 : tie.Need-allows-unary-requires-2
-allows-unary-requires-2 c κs = search needs
 
 returns-3 : tie.Need-returns-3
 returns-3 c = let a = c .before .before .before in
@@ -31,12 +25,5 @@ returns-4 c = let a = c .before .before .before in
     (c .before .allows-unary2 .ensures .isnt (c .if3 .left))
 
 pub level-of-spec : {M : Type 1} → statement M
-level-of-spec =
-    tie.close
-    (tie.spec
-    returns
-    allows-unary-requires
-    returns-2
-    allows-unary-requires-2
-    returns-3
-    returns-4)
+level-of-spec = tie.close (tie.spec returns (λ c κs. search needs) returns-2 (λ c κs. search needs)
+    returns-3 returns-4)

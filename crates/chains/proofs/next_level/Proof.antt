@@ -9,27 +9,6 @@ use Rattle.chains.proofs.ChainLaws.{upto-copied}
 use Rattle.chains.proofs.next_level.Statement.{statement}
 use Rattle.chains.proofs.next_level.Tie as tie
 
-put-level-requires : tie.Need-put-level-requires
-put-level-requires c κs = search needs
-
-same-length : tie.Need-same-length
-same-length c = search needs
-
-returns : tie.Need-returns
-returns c = search needs
-
-unranked-requires : tie.Need-unranked-requires
-unranked-requires c κs = search needs
-
-sub-copy-level : tie.Need-sub-copy-level
-sub-copy-level c = search needs
-
-copy-level-requires : tie.Need-copy-level-requires
-copy-level-requires c κs = search needs
-
-same-length-2 : tie.Need-same-length-2
-same-length-2 c = search needs
-
 returns-2 : tie.Need-returns-2
 returns-2 c =
     let z = c .before .before .before .before .before .before .before .before in
@@ -46,27 +25,7 @@ returns-2 c =
     (c .before .before .before .before .if2 .taken))))
     (subst (Upto g (a .e) (a .table .now)) (sym d) (z .pre .1 .1)) (v .ensures))
 
-put-level-requires-2 : tie.Need-put-level-requires-2
-put-level-requires-2 c κs = search needs
-
-same-length-3 : tie.Need-same-length-3
-same-length-3 c = search needs
-
-returns-3 : tie.Need-returns-3
-returns-3 c = search needs
-
 pub next-level-spec : {M : Type 1} → statement M
-next-level-spec =
-    tie.close
-    (tie.spec
-    put-level-requires
-    same-length
-    returns
-    unranked-requires
-    sub-copy-level
-    copy-level-requires
-    same-length-2
-    returns-2
-    put-level-requires-2
-    same-length-3
-    returns-3)
+next-level-spec = tie.close (tie.spec (λ c κs. search needs) (λ c. search needs) (λ c. search needs)
+    (λ c κs. search needs) (λ c. search needs) (λ c κs. search needs) (λ c. search needs) returns-2
+    (λ c κs. search needs) (λ c. search needs) (λ c. search needs))

@@ -3,21 +3,6 @@ use Rattle.sets.proofs.Says.{fails}
 use Rattle.chains.proofs.ranked.Statement.{statement}
 use Rattle.chains.proofs.ranked.Tie as tie
 
-enum-told : tie.Need-enum-told
-enum-told c = search needs
-
-enum-told-2 : tie.Need-enum-told-2
-enum-told-2 c = search needs
-
-enum-known-c : tie.Need-enum-known-c
-enum-known-c c = search needs
-
-is-rank-requires : tie.Need-is-rank-requires
-is-rank-requires c κs = search needs
-
-enum-told-3 : tie.Need-enum-told-3
-enum-told-3 c = search needs
-
 returns : tie.Need-returns
 returns c = rw (c .enum-told .given .1) (fails (λ q. q))
 
@@ -31,15 +16,5 @@ returns-4 : tie.Need-returns-4
 returns-4 c = rw (c .enum-told3 .given .1) (fails (λ q. q))
 
 pub ranked-spec : {M : Type 1} → statement M
-ranked-spec =
-    tie.close
-    (tie.spec
-    enum-told
-    enum-told-2
-    enum-known-c
-    is-rank-requires
-    enum-told-3
-    returns
-    returns-2
-    returns-3
-    returns-4)
+ranked-spec = tie.close (tie.spec (λ c. search needs) (λ c. search needs) (λ c. search needs)
+    (λ c κs. search needs) (λ c. search needs) returns returns-2 returns-3 returns-4)

@@ -19,18 +19,9 @@ loop-holds c = (omega arith, selves-none _ (c .before .pre))
 with-requires : tie.Need-with-requires Inv-loop μ-loop
 with-requires c κs = c .loop-test .taken
 
-cast-words : tie.Need-cast-words Inv-loop μ-loop
-cast-words c = search needs
-
-mul-words : tie.Need-mul-words Inv-loop μ-loop
-mul-words c = search needs
-
 slice-write-words : tie.Need-slice-write-words Inv-loop μ-loop
 slice-write-words c =
     omega (arith, c .before .loop-test .taken, c .before .before .loop .inv .1 .size)
-
-add-a : tie.Need-add-a Inv-loop μ-loop
-add-a c = search needs
 
 loop-less : tie.Need-loop-less Inv-loop μ-loop
 loop-less c = omega (arith, c .before .loop-test .taken)
@@ -48,18 +39,6 @@ returns c = let l = c .before .loop in
     (let z : l .a ≡ 64 = omega (arith, l .inv .0, c .loop-test .left) in z) (l .inv .1)
 
 pub selves-spec : {M : Type 1} → statement M
-selves-spec =
-    tie.close
-    (tie.spec
-    Inv-loop
-    μ-loop
-    loop-holds
-    with-requires
-    cast-words
-    mul-words
-    slice-write-words
-    add-a
-    loop-less
-    loop-again
-    same-length
+selves-spec = tie.close (tie.spec Inv-loop μ-loop loop-holds with-requires (λ c. search needs)
+    (λ c. search needs) slice-write-words (λ c. search needs) loop-less loop-again same-length
     returns)

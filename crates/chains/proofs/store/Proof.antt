@@ -16,21 +16,9 @@ abbrev μ-loop : tie.MeasureT-loop
 loop-holds : tie.Need-loop-holds Inv-loop μ-loop
 loop-holds c = (omega arith, stored-none _ _ _)
 
-mul-table : tie.Need-mul-table Inv-loop μ-loop
-mul-table c = search needs
-
 shared-slice-read-table : tie.Need-shared-slice-read-table Inv-loop μ-loop
 shared-slice-read-table c =
     omega (arith, c .before .before .before .pre .2, c .before .loop-test .taken)
-
-mul-table-2 : tie.Need-mul-table-2 Inv-loop μ-loop
-mul-table-2 c = search needs
-
-add-table : tie.Need-add-table Inv-loop μ-loop
-add-table c = search needs
-
-mul-table-3 : tie.Need-mul-table-3 Inv-loop μ-loop
-mul-table-3 c = search needs
 
 slice-write-table : tie.Need-slice-write-table Inv-loop μ-loop
 slice-write-table c = let z = c .before .before .before in
@@ -42,9 +30,6 @@ slice-write-table c = let z = c .before .before .before in
       c .before .loop-test
           .taken,
     )
-
-add-i : tie.Need-add-i Inv-loop μ-loop
-add-i c = search needs
 
 loop-less : tie.Need-loop-less Inv-loop μ-loop
 loop-less c = omega (arith, c .before .loop-test .taken)
@@ -70,20 +55,6 @@ returns c =
     (let z : l .i ≡ 128 = omega (arith, l .inv .0, c .loop-test .left) in z) (l .inv .1)
 
 pub store-spec : {M : Type 1} → statement M
-store-spec =
-    tie.close
-    (tie.spec
-    Inv-loop
-    μ-loop
-    loop-holds
-    mul-table
-    shared-slice-read-table
-    mul-table-2
-    add-table
-    mul-table-3
-    slice-write-table
-    add-i
-    loop-less
-    loop-again
-    same-length
-    returns)
+store-spec = tie.close (tie.spec Inv-loop μ-loop loop-holds (λ c. search needs)
+    shared-slice-read-table (λ c. search needs) (λ c. search needs) (λ c. search needs)
+    slice-write-table (λ c. search needs) loop-less loop-again same-length returns)

@@ -13,9 +13,6 @@ Inv-loop words₀ k set a₀ words a = (a ≤ 64) × Through k words₀ a words
 abbrev μ-loop : tie.MeasureT-loop
 μ-loop words₀ k set a₀ words a = 64 - a
 
-mul-set : tie.Need-mul-set Inv-loop μ-loop
-mul-set c = search needs
-
 slice-read-set : tie.Need-slice-read-set Inv-loop μ-loop
 slice-read-set c = omega (arith, c .before .before .pre)
 
@@ -36,9 +33,6 @@ add-if-requires c κs = let z = c .before .before .before .before .before .befor
       ∙ z .pre .1,
 )
 
-add-a : tie.Need-add-a Inv-loop μ-loop
-add-a c = search needs
-
 loop-less : tie.Need-loop-less Inv-loop μ-loop
 loop-less c = omega (arith, c .before .before .before .before .loop-test .taken)
 
@@ -57,19 +51,6 @@ returns-2 c = let l = c .before .loop in
     (let z : l .a ≡ 64 = omega (arith, l .inv .0, c .loop-test .left) in z) (l .inv .1)
 
 pub through-spec : {M : Type 1} → statement M
-through-spec =
-    tie.close
-    (tie.spec
-    Inv-loop
-    μ-loop
-    mul-set
-    slice-read-set
-    with-requires
-    returns
-    loop-holds
-    add-if-requires
-    add-a
-    loop-less
-    loop-again
-    same-length
+through-spec = tie.close (tie.spec Inv-loop μ-loop (λ c. search needs) slice-read-set with-requires
+    returns loop-holds add-if-requires (λ c. search needs) loop-less loop-again same-length
     returns-2)

@@ -23,12 +23,6 @@ loop-holds c = let z = c .before .before .before .before .before .before .before
       (c .before .before .clear .ensures),
 )
 
-cast-one : tie.Need-cast-one Inv-loop μ-loop
-cast-one c = search needs
-
-mul-one : tie.Need-mul-one Inv-loop μ-loop
-mul-one c = search needs
-
 shared-slice-read-one : tie.Need-shared-slice-read-one Inv-loop μ-loop
 shared-slice-read-one c = omega (
   arith,
@@ -47,9 +41,6 @@ put-pair-requires c κs = (
   omega
       (arith, c .before .before .before .before .loop .inv .1 .size),
 )
-
-add-a : tie.Need-add-a Inv-loop μ-loop
-add-a c = search needs
 
 loop-less : tie.Need-loop-less Inv-loop μ-loop
 loop-less c = omega (arith, c .before .before .before .before .before .before .loop-test .taken)
@@ -74,20 +65,6 @@ returns c = let l = c .before .loop in
     (let z : l .a ≡ 64 = omega (arith, l .inv .0, c .loop-test .left) in z) (l .inv .1)
 
 pub turn-spec : {M : Type 1} → statement M
-turn-spec =
-    tie.close
-    (tie.spec
-    Inv-loop
-    μ-loop
-    clear-requires
-    loop-holds
-    cast-one
-    mul-one
-    shared-slice-read-one
-    gather-requires
-    put-pair-requires
-    add-a
-    loop-less
-    loop-again
-    same-length
-    returns)
+turn-spec = tie.close (tie.spec Inv-loop μ-loop clear-requires loop-holds (λ c. search needs)
+    (λ c. search needs) shared-slice-read-one gather-requires put-pair-requires (λ c. search needs)
+    loop-less loop-again same-length returns)

@@ -30,23 +30,11 @@ abbrev μ-loop : tie.MeasureT-loop
 loop-holds : tie.Need-loop-holds Inv-loop μ-loop
 loop-holds c = (omega arith, record { absent = λ j h x. absurd (omega arith) })
 
-mul-r : tie.Need-mul-r Inv-loop μ-loop
-mul-r c = search needs
-
 element-copy-out-r : tie.Need-element-copy-out-r Inv-loop μ-loop
 element-copy-out-r c = omega (arith, c .before .before .pre .few, c .loop-test .taken)
 
-ranked-requires : tie.Need-ranked-requires Inv-loop μ-loop
-ranked-requires c κs = search needs
-
 returns : tie.Need-returns Inv-loop μ-loop
 returns c = λ q. absurd (true-not-false (sym q))
-
-add-i : tie.Need-add-i Inv-loop μ-loop
-add-i c = search needs
-
-loop-less : tie.Need-loop-less Inv-loop μ-loop
-loop-less c = omega arith
 
 loop-again : tie.Need-loop-again Inv-loop μ-loop
 loop-again c =
@@ -70,17 +58,6 @@ returns-2 c = let l = c .before .loop in
     (let z : l .i ≡ w .count = omega (arith, l .inv .0, c .loop-test .left) in z) (l .inv .1)
 
 pub unranked-spec : {M : Type 1} → statement M
-unranked-spec =
-    tie.close
-    (tie.spec
-    Inv-loop
-    μ-loop
-    loop-holds
-    mul-r
-    element-copy-out-r
-    ranked-requires
-    returns
-    add-i
-    loop-less
-    loop-again
-    returns-2)
+unranked-spec = tie.close (tie.spec Inv-loop μ-loop loop-holds (λ c. search needs)
+    element-copy-out-r (λ c κs. search needs) returns (λ c. search needs) (λ c. omega arith)
+    loop-again returns-2)

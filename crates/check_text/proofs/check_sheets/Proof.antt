@@ -12,30 +12,6 @@ use borrow.Author.Needs.{needs}
 use Rattle.check_text.proofs.check_sheets.Statement.{statement}
 use Rattle.check_text.proofs.check_sheets.Tie as tie
 
-read-rules-requires : tie.Need-read-rules-requires
-read-rules-requires c κs = search needs
-
-slice-aggregate-trees-read : tie.Need-slice-aggregate-trees-read
-slice-aggregate-trees-read c = search needs
-
-slice-aggregate-trees-read-2 : tie.Need-slice-aggregate-trees-read-2
-slice-aggregate-trees-read-2 c = search needs
-
-slice-aggregate-trees-read-3 : tie.Need-slice-aggregate-trees-read-3
-slice-aggregate-trees-read-3 c = search needs
-
-trees-read-requires : tie.Need-trees-read-requires
-trees-read-requires c κs = search needs
-
-put-head-requires : tie.Need-put-head-requires
-put-head-requires c κs = search needs
-
-slice-aggregate-put-trees : tie.Need-slice-aggregate-put-trees
-slice-aggregate-put-trees c = search needs
-
-slice-aggregate-put-trees-2 : tie.Need-slice-aggregate-put-trees-2
-slice-aggregate-put-trees-2 c = search needs
-
 put-trees-requires : tie.Need-put-trees-requires
 put-trees-requires c κs =
     let h = c .before .before .before .before .before in
@@ -60,9 +36,6 @@ put-trees-requires c κs =
       ),
     )
 
-same-length : tie.Need-same-length
-same-length c = search needs
-
 returns : tie.Need-returns
 returns c =
     let p = c .before .before in
@@ -83,17 +56,6 @@ returns c =
     }
 
 pub check-sheets-spec : {M : Type 1} → statement M
-check-sheets-spec =
-    tie.close
-    (tie.spec
-    read-rules-requires
-    slice-aggregate-trees-read
-    slice-aggregate-trees-read-2
-    slice-aggregate-trees-read-3
-    trees-read-requires
-    put-head-requires
-    slice-aggregate-put-trees
-    slice-aggregate-put-trees-2
-    put-trees-requires
-    same-length
-    returns)
+check-sheets-spec = tie.close (tie.spec (λ c κs. search needs) (λ c. search needs)
+    (λ c. search needs) (λ c. search needs) (λ c κs. search needs) (λ c κs. search needs)
+    (λ c. search needs) (λ c. search needs) put-trees-requires (λ c. search needs) returns)

@@ -5,23 +5,8 @@ use borrow.Author.Needs.{needs}
 use Rattle.check_text.proofs.check_text.Statement.{statement}
 use Rattle.check_text.proofs.check_text.Tie as tie
 
-put-refusal-requires : tie.Need-put-refusal-requires
-put-refusal-requires c κs = search needs
-
 returns : tie.Need-returns
 returns c = record { text = _; is = long (search needs) refl; wrote = c .put-refusal .ensures }
-
-parting-requires : tie.Need-parting-requires
-parting-requires c κs = search needs
-
-enum-told : tie.Need-enum-told
-enum-told c = search needs
-
-put-refusal-requires-2 : tie.Need-put-refusal-requires-2
-put-refusal-requires-2 c κs = search needs
-
-enum-known-place : tie.Need-enum-known-place
-enum-known-place c = search needs
 
 check-at-requires : tie.Need-check-at-requires
 check-at-requires c κs =
@@ -53,15 +38,6 @@ returns-3 c =
     }
 
 pub check-text-spec : {M : Type 1} → statement M
-check-text-spec =
-    tie.close
-    (tie.spec
-    put-refusal-requires
-    returns
-    parting-requires
-    enum-told
-    put-refusal-requires-2
-    enum-known-place
-    check-at-requires
-    returns-2
+check-text-spec = tie.close (tie.spec (λ c κs. search needs) returns (λ c κs. search needs)
+    (λ c. search needs) (λ c κs. search needs) (λ c. search needs) check-at-requires returns-2
     returns-3)

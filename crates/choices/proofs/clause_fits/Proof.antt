@@ -6,23 +6,11 @@ use Rattle.grammar.specs.Content.{SmallClause}
 use Rattle.choices.proofs.clause_fits.Statement.{statement}
 use Rattle.choices.proofs.clause_fits.Tie as tie
 
-enum-told : tie.Need-enum-told
-enum-told c = search needs
-
-enum-known-c : tie.Need-enum-known-c
-enum-known-c c = search needs
-
 returns : tie.Need-returns
 returns c = rw (c .before .before .c .given .1) (fails (λ q. c .if2 .taken (q .0)))
 
 returns-2 : tie.Need-returns-2
 returns-2 c = rw (c .before .before .before .c .given .1) (fails (λ q. c .if3 .taken (q .1)))
-
-allows-atom-requires : tie.Need-allows-atom-requires
-allows-atom-requires c κs = search needs
-
-enum-known-c-2 : tie.Need-enum-known-c-2
-enum-known-c-2 c = search needs
 
 fits-unary-requires : tie.Need-fits-unary-requires
 fits-unary-requires c κs = (
@@ -30,9 +18,6 @@ fits-unary-requires c κs = (
   subst SmallClause
       (c .before .c2 .given .1) (c .before .before .before .before .pre .1),
 )
-
-enum-known-c-3 : tie.Need-enum-known-c-3
-enum-known-c-3 c = search needs
 
 fits-binary-requires : tie.Need-fits-binary-requires
 fits-binary-requires c κs = (
@@ -60,20 +45,6 @@ returns-7 : tie.Need-returns-7
 returns-7 c = rw (c .before .before .c3 .given .1) (c .fits-binary .ensures)
 
 pub clause-fits-spec : {M : Type 1} → statement M
-clause-fits-spec =
-    tie.close
-    (tie.spec
-    enum-told
-    enum-known-c
-    returns
-    returns-2
-    allows-atom-requires
-    enum-known-c-2
-    fits-unary-requires
-    enum-known-c-3
-    fits-binary-requires
-    returns-3
-    returns-4
-    returns-5
-    returns-6
-    returns-7)
+clause-fits-spec = tie.close (tie.spec (λ c. search needs) (λ c. search needs) returns returns-2
+    (λ c κs. search needs) (λ c. search needs) fits-unary-requires (λ c. search needs)
+    fits-binary-requires returns-3 returns-4 returns-5 returns-6 returns-7)

@@ -9,23 +9,11 @@ use Rattle.choices.proofs.fits_binary.Tie as tie
 returns : tie.Need-returns
 returns c = fails (λ q. not-le-of-lt (c .if1 .taken) (q .0))
 
-in-first-requires : tie.Need-in-first-requires
-in-first-requires c κs = search needs
-
 returns-2 : tie.Need-returns-2
 returns-2 c = fails (λ q. c .before .in-first .ensures .isnt (not-true _ (c .if2 .taken)) (q .1))
 
-add-in-first : tie.Need-add-in-first
-add-in-first c = search needs
-
-in-first-requires-2 : tie.Need-in-first-requires-2
-in-first-requires-2 c κs = search needs
-
 returns-3 : tie.Need-returns-3
 returns-3 c = fails (λ q. c .before .in-first2 .ensures .isnt (not-true _ (c .if3 .taken)) (q .2))
-
-allows-binary-requires : tie.Need-allows-binary-requires
-allows-binary-requires c κs = search needs
 
 returns-4 : tie.Need-returns-4
 returns-4 c =
@@ -40,14 +28,5 @@ returns-4 c =
     )) (λ q. q .3) (c .allows-binary .ensures)
 
 pub fits-binary-spec : {M : Type 1} → statement M
-fits-binary-spec =
-    tie.close
-    (tie.spec
-    returns
-    in-first-requires
-    returns-2
-    add-in-first
-    in-first-requires-2
-    returns-3
-    allows-binary-requires
-    returns-4)
+fits-binary-spec = tie.close (tie.spec returns (λ c κs. search needs) returns-2 (λ c. search needs)
+    (λ c κs. search needs) returns-3 (λ c κs. search needs) returns-4)

@@ -8,14 +8,8 @@ use Rattle.choices.proofs.fits_unary.Tie as tie
 returns : tie.Need-returns
 returns c = fails (λ q. c .if1 .taken (q .2))
 
-in-first-requires : tie.Need-in-first-requires
-in-first-requires c κs = search needs
-
 returns-2 : tie.Need-returns-2
 returns-2 c = fails (λ q. c .before .in-first .ensures .isnt (not-true _ (c .if2 .taken)) (q .0))
-
-allows-unary-requires : tie.Need-allows-unary-requires
-allows-unary-requires c κs = search needs
 
 returns-3 : tie.Need-returns-3
 returns-3 c = says-iff (λ h. (
@@ -27,5 +21,5 @@ returns-3 c = says-iff (λ h. (
     (c .allows-unary .ensures)
 
 pub fits-unary-spec : {M : Type 1} → statement M
-fits-unary-spec =
-    tie.close (tie.spec returns in-first-requires returns-2 allows-unary-requires returns-3)
+fits-unary-spec = tie.close (tie.spec returns (λ c κs. search needs) returns-2
+    (λ c κs. search needs) returns-3)

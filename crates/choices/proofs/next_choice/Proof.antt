@@ -18,9 +18,6 @@ whole c =
     simp length-map at (c .good .1 .0 .1 .1 .0 .1 .0 .1) in
     length-take-le (c .args .s .count) (c .args .s .tokens) (omega (arith, c .pre .0 .0))
 
-span-marks-requires : tie.Need-span-marks-requires
-span-marks-requires c κs = search needs
-
 next-rule-requires : tie.Need-next-rule-requires
 next-rule-requires c κs =
     let z = c .before .before .before in (
@@ -44,4 +41,4 @@ returns c =
     (c .before .span-marks .ensures) (c .next-rule .ensures)
 
 pub next-choice-spec : {M : Type 1} → statement M
-next-choice-spec = tie.close (tie.spec span-marks-requires next-rule-requires returns)
+next-choice-spec = tie.close (tie.spec (λ c κs. search needs) next-rule-requires returns)

@@ -41,9 +41,6 @@ next-split-requires c κs =
           (small-at (z .pre .1) i (omega (arith, z .pre .1 .whole))),
     )
 
-enum-known-p : tie.Need-enum-known-p Inv-loop μ-loop
-enum-known-p c = search needs
-
 returns : tie.Need-returns Inv-loop μ-loop
 returns c =
     let z = c .before .before .before .before .before .before .before .before in
@@ -55,9 +52,6 @@ returns c =
     (subst₂ (λ (r : Rule) (u : Split). FirstSplit (a .words .now) (a .n) (a .start) (a .len) (a .k)
     (a .a) r (l .from) u) (sym (rule-read (a .t3) (l .i) h)) (c .before .p .given .1)
     (c .before .before .before .next-split .ensures))
-
-enum-told : tie.Need-enum-told Inv-loop μ-loop
-enum-told c = search needs
 
 add-i : tie.Need-add-i Inv-loop μ-loop
 add-i c = omega (
@@ -96,19 +90,6 @@ returns-2 c =
     (l .i) (l .from) (omega (arith, c .loop-test .left, z .pre .1 .whole)) (l .inv)
 
 pub next-rule-spec : {M : Type 1} → statement M
-next-rule-spec =
-    tie.close
-    (tie.spec
-    Inv-loop
-    μ-loop
-    loop-holds
-    mul-r
-    element-copy-out-r
-    next-split-requires
-    enum-known-p
-    returns
-    enum-told
-    add-i
-    loop-less
-    loop-again
+next-rule-spec = tie.close (tie.spec Inv-loop μ-loop loop-holds mul-r element-copy-out-r
+    next-split-requires (λ c. search needs) returns (λ c. search needs) add-i loop-less loop-again
     returns-2)

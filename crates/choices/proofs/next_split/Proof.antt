@@ -18,9 +18,6 @@ abbrev μ-loop : tie.MeasureT-loop
 returns : tie.Need-returns Inv-loop μ-loop
 returns c = λ j h q. c .if1 .taken (q .0)
 
-last-left-requires : tie.Need-last-left-requires Inv-loop μ-loop
-last-left-requires c κs = search needs
-
 loop-holds : tie.Need-loop-holds Inv-loop μ-loop
 loop-holds c = (omega arith, λ j l h q. omega arith)
 
@@ -51,9 +48,6 @@ add-left c =
       z .pre .0,
     )
 
-loop-less : tie.Need-loop-less Inv-loop μ-loop
-loop-less c = omega arith
-
 loop-again : tie.Need-loop-again Inv-loop μ-loop
 loop-again c =
     let l = c .before .before .before .loop in (
@@ -73,17 +67,5 @@ returns-3 c = λ j h q.
     )) h (q .1)
 
 pub next-split-spec : {M : Type 1} → statement M
-next-split-spec =
-    tie.close
-    (tie.spec
-    Inv-loop
-    μ-loop
-    returns
-    last-left-requires
-    loop-holds
-    clause-fits-requires
-    returns-2
-    add-left
-    loop-less
-    loop-again
-    returns-3)
+next-split-spec = tie.close (tie.spec Inv-loop μ-loop returns (λ c κs. search needs) loop-holds
+    clause-fits-requires returns-2 add-left (λ c. omega arith) loop-again returns-3)

@@ -23,20 +23,11 @@ loop-holds c = walks-begin _
 lexeme-at-requires : tie.Need-lexeme-at-requires Inv-loop μ-loop
 lexeme-at-requires c κs = c .loop .inv .within
 
-is-end-requires : tie.Need-is-end-requires Inv-loop μ-loop
-is-end-requires c κs = search needs
-
-finish-requires : tie.Need-finish-requires Inv-loop μ-loop
-finish-requires c κs = search needs
-
 returns : tie.Need-returns Inv-loop μ-loop
 returns c =
     c .finish .ensures ∙ walks-last _ _ _ (c .before .before .before .before .loop .inv)
     (c .before .before .before .lexeme-at .ensures)
     (sym (c .before .before .is-end .ensures) ∙ c .before .if1 .taken)
-
-fits-requires : tie.Need-fits-requires Inv-loop μ-loop
-fits-requires c κs = search needs
 
 step-requires : tie.Need-step-requires Inv-loop μ-loop
 step-requires c κs = (
@@ -77,18 +68,6 @@ returns-2 c =
     (sym (c .before .fits2 .ensures) ∙ c .if2 .left)
 
 pub check-spec : {M : Type 1} → statement M
-check-spec =
-    tie.close
-    (tie.spec
-    Inv-loop
-    μ-loop
-    loop-holds
-    lexeme-at-requires
-    is-end-requires
-    finish-requires
-    returns
-    fits-requires
-    step-requires
-    loop-less
-    loop-again
-    returns-2)
+check-spec = tie.close (tie.spec Inv-loop μ-loop loop-holds lexeme-at-requires
+    (λ c κs. search needs) (λ c κs. search needs) returns (λ c κs. search needs) step-requires
+    loop-less loop-again returns-2)

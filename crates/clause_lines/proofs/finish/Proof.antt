@@ -5,12 +5,6 @@ use borrow.Author.Needs.{needs}
 use Rattle.clause_lines.proofs.finish.Statement.{statement}
 use Rattle.clause_lines.proofs.finish.Tie as tie
 
-is-due-requires : tie.Need-is-due-requires
-is-due-requires c κs = search needs
-
-returns : tie.Need-returns
-returns c = search needs
-
 returns-2 : tie.Need-returns-2
 returns-2 c =
     end-deep (c .before .before .before .before .before .args .w)
@@ -30,4 +24,5 @@ returns-4 c =
     (c .if2 .left)
 
 pub finish-spec : {M : Type 1} → statement M
-finish-spec = tie.close (tie.spec is-due-requires returns returns-2 returns-3 returns-4)
+finish-spec = tie.close (tie.spec (λ c κs. search needs) (λ c. search needs) returns-2 returns-3
+    returns-4)

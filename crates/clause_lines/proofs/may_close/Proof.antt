@@ -9,12 +9,9 @@ use Rattle.clause_lines.proofs.may_close.Tie as tie
 returns : tie.Need-returns
 returns c = close-none (c .before .args .s) (c .before .args .deep) (c .if1 .taken)
 
-is-due-requires : tie.Need-is-due-requires
-is-due-requires c κs = search needs
-
 returns-2 : tie.Need-returns-2
 returns-2 c = ap not (c .is-due .ensures) ∙ close-some (c .before .before .args .s)
     (c .before .before .args .deep) (c .before .if1 .left)
 
 pub may-close-spec : {M : Type 1} → statement M
-may-close-spec = tie.close (tie.spec returns is-due-requires returns-2)
+may-close-spec = tie.close (tie.spec returns (λ c κs. search needs) returns-2)

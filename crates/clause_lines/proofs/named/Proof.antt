@@ -4,9 +4,6 @@ use borrow.Author.Needs.{needs}
 use Rattle.clause_lines.proofs.named.Statement.{statement}
 use Rattle.clause_lines.proofs.named.Tie as tie
 
-add-p : tie.Need-add-p
-add-p c = search needs
-
 returns : tie.Need-returns
 returns c = named-larger (c .before .before .args .w) (c .before .before .args .a)
     (c .before .before .args .end) (c .if1 .taken)
@@ -16,4 +13,4 @@ returns-2 c = named-smaller (c .before .before .args .w) (c .before .before .arg
     (c .before .before .args .end) (c .if1 .left)
 
 pub named-spec : {M : Type 1} → statement M
-named-spec = tie.close (tie.spec add-p returns returns-2)
+named-spec = tie.close (tie.spec (λ c. search needs) returns returns-2)

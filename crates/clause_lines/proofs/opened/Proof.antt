@@ -4,19 +4,13 @@ use borrow.Author.Needs.{needs}
 use Rattle.clause_lines.proofs.opened.Statement.{statement}
 use Rattle.clause_lines.proofs.opened.Tie as tie
 
-add-t5 : tie.Need-add-t5
-add-t5 c = search needs
-
 returns : tie.Need-returns
 returns c = opened-over (c .before .before .before .args .w) (c .before .before .before .args .end)
     (c .before .if1 .taken)
-
-add-t7 : tie.Need-add-t7
-add-t7 c = search needs
 
 returns-2 : tie.Need-returns-2
 returns-2 c = opened-within (c .before .before .before .args .w)
     (c .before .before .before .args .end) (c .before .if1 .left)
 
 pub opened-spec : {M : Type 1} → statement M
-opened-spec = tie.close (tie.spec add-t5 returns add-t7 returns-2)
+opened-spec = tie.close (tie.spec (λ c. search needs) returns (λ c. search needs) returns-2)

@@ -5,15 +5,6 @@ use borrow.Author.Needs.{needs}
 use Rattle.clause_rules.proofs.atom_end.Statement.{statement}
 use Rattle.clause_rules.proofs.atom_end.Tie as tie
 
-lexeme-at-requires : tie.Need-lexeme-at-requires
-lexeme-at-requires c κs = search needs
-
-sort-requires : tie.Need-sort-requires
-sort-requires c κs = search needs
-
-group-end-requires : tie.Need-group-end-requires
-group-end-requires c κs = search needs
-
 returns : tie.Need-returns
 returns c =
     atom-ends-open _ _ _ (c .before .before .before .lexeme-at .ensures) _
@@ -24,5 +15,5 @@ returns-2 c = atom-ends-leaf _ _ _ (c .before .before .lexeme-at .ensures)
     (λ y. c .if1 .left (c .before .sort .ensures ∙ y))
 
 pub atom-end-spec : {M : Type 1} → statement M
-atom-end-spec =
-    tie.close (tie.spec lexeme-at-requires sort-requires group-end-requires returns returns-2)
+atom-end-spec = tie.close (tie.spec (λ c κs. search needs) (λ c κs. search needs)
+    (λ c κs. search needs) returns returns-2)

@@ -17,9 +17,6 @@ same-join e = cc
 abbrev others : List ℕ
 others = 0 ∷ 1 ∷ 2 ∷ 3 ∷ 4 ∷ 5 ∷ 6 ∷ 7 ∷ 8 ∷ 10 ∷ 11 ∷ []
 
-enum-known-l : tie.Need-enum-known-l
-enum-known-l c = search needs
-
 returns : tie.Need-returns
 returns c m e = same-join (sym (c .before .l .given .1) ∙ e)
 
@@ -27,4 +24,4 @@ returns-2 : tie.Need-returns-2
 returns-2 c m e = absurd (miss others 9 tt (tagged others e (c .match .keys2)))
 
 pub binding-spec : {M : Type 1} → statement M
-binding-spec = tie.close (tie.spec enum-known-l returns returns-2)
+binding-spec = tie.close (tie.spec (λ c. search needs) returns returns-2)

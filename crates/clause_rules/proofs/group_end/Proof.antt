@@ -22,9 +22,6 @@ loop-holds c = scan-start _ _ (c .before .pre)
 lexeme-at-requires : tie.Need-lexeme-at-requires Inv-loop μ-loop
 lexeme-at-requires c κs = c .loop .inv .within
 
-sort-requires : tie.Need-sort-requires Inv-loop μ-loop
-sort-requires c κs = search needs
-
 returns : tie.Need-returns Inv-loop μ-loop
 returns c =
     let L = c .before .before .before .loop in
@@ -88,21 +85,6 @@ loop-again-3 c =
     (λ y. c .if3 .left (u ∙ y))
 
 pub group-end-spec : {M : Type 1} → statement M
-group-end-spec =
-    tie.close
-    (tie.spec
-    Inv-loop
-    μ-loop
-    loop-holds
-    lexeme-at-requires
-    sort-requires
-    returns
-    add-deep
-    loop-less
-    loop-again
-    returns-2
-    sub-deep
-    loop-less-2
-    loop-again-2
-    loop-less-3
-    loop-again-3)
+group-end-spec = tie.close (tie.spec Inv-loop μ-loop loop-holds lexeme-at-requires
+    (λ c κs. search needs) returns add-deep loop-less loop-again returns-2 sub-deep loop-less-2
+    loop-again-2 loop-less-3 loop-again-3)

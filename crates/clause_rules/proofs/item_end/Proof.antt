@@ -5,15 +5,6 @@ use borrow.Author.Needs.{needs}
 use Rattle.clause_rules.proofs.item_end.Statement.{statement}
 use Rattle.clause_rules.proofs.item_end.Tie as tie
 
-atom-end-requires : tie.Need-atom-end-requires
-atom-end-requires c κs = search needs
-
-lexeme-at-requires : tie.Need-lexeme-at-requires
-lexeme-at-requires c κs = search needs
-
-sort-requires : tie.Need-sort-requires
-sort-requires c κs = search needs
-
 returns : tie.Need-returns
 returns c =
     item-ends-suffix _ _ _ (c .before .before .before .atom-end .ensures) _
@@ -25,5 +16,5 @@ returns-2 c =
     (c .before .before .lexeme-at .ensures) (λ y. c .if1 .left (c .before .sort .ensures ∙ y))
 
 pub item-end-spec : {M : Type 1} → statement M
-item-end-spec =
-    tie.close (tie.spec atom-end-requires lexeme-at-requires sort-requires returns returns-2)
+item-end-spec = tie.close (tie.spec (λ c κs. search needs) (λ c κs. search needs)
+    (λ c κs. search needs) returns returns-2)

@@ -11,21 +11,6 @@ use Rattle.clause_sheets.proofs.clauses_from.Tie as tie
 use Rattle.fields.specs.Cursors.{piecesFrom}
 use Rattle.grammar.specs.Trees.{Rules}
 
-lines-check-requires : tie.Need-lines-check-requires
-lines-check-requires c κs = search needs
-
-enum-known-o : tie.Need-enum-known-o
-enum-known-o c = search needs
-
-no-rules-requires : tie.Need-no-rules-requires
-no-rules-requires c κs = search needs
-
-refuse-rules-requires : tie.Need-refuse-rules-requires
-refuse-rules-requires c κs = search needs
-
-enum-told : tie.Need-enum-told
-enum-told c = search needs
-
 expand-from-requires : tie.Need-expand-from-requires
 expand-from-requires c κs = (
   c .before .before .before .before .pre,
@@ -44,18 +29,7 @@ returns c =
     (c .before .before .before .before .before .lines-check .ensures)
     (c .before .before .before .o .given .1))) (c .refuse-rules .ensures)
 
-returns-2 : tie.Need-returns-2
-returns-2 c = search needs
-
 pub clauses-from-spec : {M : Type 1} → statement M
-clauses-from-spec =
-    tie.close
-    (tie.spec
-    lines-check-requires
-    enum-known-o
-    no-rules-requires
-    refuse-rules-requires
-    enum-told
-    expand-from-requires
-    returns
-    returns-2)
+clauses-from-spec = tie.close (tie.spec (λ c κs. search needs) (λ c. search needs)
+    (λ c κs. search needs) (λ c κs. search needs) (λ c. search needs) expand-from-requires returns
+    (λ c. search needs))

@@ -39,27 +39,9 @@ walked c =
       emitted = c .lines-emit .ensures;
     }
 
-no-rules-requires : tie.Need-no-rules-requires
-no-rules-requires c κs = search needs
-
-refuse-rules-requires : tie.Need-refuse-rules-requires
-refuse-rules-requires c κs = search needs
-
 returns : tie.Need-returns
 returns c = reads-as (past-far _ _ (c .before .before .before .before .pre .1)
     (c .before .before .if1 .taken)) (c .refuse-rules .ensures)
-
-cast-t12 : tie.Need-cast-t12
-cast-t12 c = search needs
-
-lines-emit-requires : tie.Need-lines-emit-requires
-lines-emit-requires c κs = search needs
-
-no-rules-requires-2 : tie.Need-no-rules-requires-2
-no-rules-requires-2 c κs = search needs
-
-refuse-rules-requires-2 : tie.Need-refuse-rules-requires-2
-refuse-rules-requires-2 c κs = search needs
 
 returns-2 : tie.Need-returns-2
 returns-2 c =
@@ -89,18 +71,6 @@ returns-3 c = let o = c .before .before .before .before in
     (c .finished .ensures)
 
 pub expand-from-spec : {M : Type 1} → statement M
-expand-from-spec =
-    tie.close
-    (tie.spec
-    no-rules-requires
-    refuse-rules-requires
-    returns
-    cast-t12
-    lines-emit-requires
-    no-rules-requires-2
-    refuse-rules-requires-2
-    returns-2
-    sorted-requires
-    index-of-requires
-    finished-requires
-    returns-3)
+expand-from-spec = tie.close (tie.spec (λ c κs. search needs) (λ c κs. search needs) returns
+    (λ c. search needs) (λ c κs. search needs) (λ c κs. search needs) (λ c κs. search needs)
+    returns-2 sorted-requires index-of-requires finished-requires returns-3)

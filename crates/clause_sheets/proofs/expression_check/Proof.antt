@@ -6,21 +6,6 @@ use borrow.Author.Needs.{needs}
 use Rattle.clause_sheets.proofs.expression_check.Statement.{statement}
 use Rattle.clause_sheets.proofs.expression_check.Tie as tie
 
-check-requires : tie.Need-check-requires
-check-requires c κs = search needs
-
-enum-known-p : tie.Need-enum-known-p
-enum-known-p c = search needs
-
-larger-requires : tie.Need-larger-requires
-larger-requires c κs = search needs
-
-enum-told : tie.Need-enum-told
-enum-told c = search needs
-
-enum-told-2 : tie.Need-enum-told-2
-enum-told-2 c = search needs
-
 returns : tie.Need-returns
 returns c =
     good-checked (c .before .before .before .before .before .before .args .least) _ _
@@ -41,14 +26,5 @@ returns-3 c =
     (sym (c .before .before .check .ensures) ∙ c .enum-told2 .given .1)
 
 pub expression-check-spec : {M : Type 1} → statement M
-expression-check-spec =
-    tie.close
-    (tie.spec
-    check-requires
-    enum-known-p
-    larger-requires
-    enum-told
-    enum-told-2
-    returns
-    returns-2
-    returns-3)
+expression-check-spec = tie.close (tie.spec (λ c κs. search needs) (λ c. search needs)
+    (λ c κs. search needs) (λ c. search needs) (λ c. search needs) returns returns-2 returns-3)

@@ -8,15 +8,6 @@ use Rattle.clause_sheets.proofs.line_check.Statement.{statement}
 use Rattle.clause_sheets.proofs.line_check.Tie as tie
 use Rattle.fields.specs.Cursors.{bytesLeft}
 
-number-requires : tie.Need-number-requires
-number-requires c κs = search needs
-
-enum-known-v : tie.Need-enum-known-v
-enum-known-v c = search needs
-
-enum-told : tie.Need-enum-told
-enum-told c = search needs
-
 returns : tie.Need-returns
 returns c =
     checked-not (bytesLeft (c .before .before .before .before .args .s .now)
@@ -54,9 +45,6 @@ returns-3 c =
     .ensures)) (omega (arith, c .before .if1 .left))
     (c .if2 .taken))
 
-part-expression-check-start : tie.Need-part-expression-check-start
-part-expression-check-start c = search needs
-
 part-expression-check-end : tie.Need-part-expression-check-end
 part-expression-check-end c =
     let S = (split (c .before .before .before .before .before .before .before .args .s .now)
@@ -65,15 +53,6 @@ part-expression-check-end c =
     (sym (c .before .before .before .v .given .1)
     ∙ c .before .before .before .before .before .number .ensures)) in
     omega (arith, S .end, c .before .before .before .before .before .before .before .pre)
-
-cast-expression-check : tie.Need-cast-expression-check
-cast-expression-check c = search needs
-
-add-expression-check : tie.Need-add-expression-check
-add-expression-check c = search needs
-
-expression-check-requires : tie.Need-expression-check-requires
-expression-check-requires c κs = search needs
 
 returns-4 : tie.Need-returns-4
 returns-4 c =
@@ -91,18 +70,6 @@ returns-4 c =
     (c .expression-check .ensures)
 
 pub line-check-spec : {M : Type 1} → statement M
-line-check-spec =
-    tie.close
-    (tie.spec
-    number-requires
-    enum-known-v
-    enum-told
-    returns
-    returns-2
-    returns-3
-    part-expression-check-start
-    part-expression-check-end
-    cast-expression-check
-    add-expression-check
-    expression-check-requires
-    returns-4)
+line-check-spec = tie.close (tie.spec (λ c κs. search needs) (λ c. search needs) (λ c. search needs)
+    returns returns-2 returns-3 (λ c. search needs) part-expression-check-end (λ c. search needs)
+    (λ c. search needs) (λ c κs. search needs) returns-4)

@@ -7,15 +7,6 @@ use borrow.Author.Needs.{needs}
 use Rattle.clause_sheets.proofs.line_emit.Statement.{statement}
 use Rattle.clause_sheets.proofs.line_emit.Tie as tie
 
-number-requires : tie.Need-number-requires
-number-requires c κs = search needs
-
-enum-known-v : tie.Need-enum-known-v
-enum-known-v c = search needs
-
-enum-told : tie.Need-enum-told
-enum-told c = search needs
-
 returns : tie.Need-returns
 returns c =
     emitted-not _ _ (unsplit (c .before .before .before .before .args .s .now)
@@ -46,9 +37,6 @@ returns-3 c =
     ∙ c .before .before .before .before .before .number .ensures))
     (omega (arith, c .before .if1 .left)) (c .if2 .taken))
 
-part-alternatives-start : tie.Need-part-alternatives-start
-part-alternatives-start c = search needs
-
 part-alternatives-end : tie.Need-part-alternatives-end
 part-alternatives-end c =
     let S = (split (c .before .before .before .before .before .before .before .args .s .now)
@@ -57,12 +45,6 @@ part-alternatives-end c =
     (sym (c .before .before .before .v .given .1)
     ∙ c .before .before .before .before .before .number .ensures)) in
     omega (arith, S .end, c .before .before .before .before .before .before .before .pre)
-
-cast-alternatives : tie.Need-cast-alternatives
-cast-alternatives c = search needs
-
-alternatives-requires : tie.Need-alternatives-requires
-alternatives-requires c κs = search needs
 
 returns-4 : tie.Need-returns-4
 returns-4 c =
@@ -89,17 +71,6 @@ returns-4 c =
     ))) (c .before .alternatives .ensures) refl
 
 pub line-emit-spec : {M : Type 1} → statement M
-line-emit-spec =
-    tie.close
-    (tie.spec
-    number-requires
-    enum-known-v
-    enum-told
-    returns
-    returns-2
-    returns-3
-    part-alternatives-start
-    part-alternatives-end
-    cast-alternatives
-    alternatives-requires
-    returns-4)
+line-emit-spec = tie.close (tie.spec (λ c κs. search needs) (λ c. search needs) (λ c. search needs)
+    returns returns-2 returns-3 (λ c. search needs) part-alternatives-end (λ c. search needs)
+    (λ c κs. search needs) returns-4)

@@ -27,12 +27,6 @@ line-check-requires : tie.Need-line-check-requires Inv-loop μ-loop
 line-check-requires c κs =
     line-in _ _ (c .before .before .loop .inv .low) _ (c .before .line .ensures)
 
-enum-known-p : tie.Need-enum-known-p Inv-loop μ-loop
-enum-known-p c = search needs
-
-larger-requires : tie.Need-larger-requires Inv-loop μ-loop
-larger-requires c κs = search needs
-
 add-n : tie.Need-add-n Inv-loop μ-loop
 add-n c = let I = c .before .before .before .before .before .before .before .loop .inv in
     omega (arith, I .few, I .low)
@@ -59,9 +53,6 @@ loop-again c =
     (sym (c .before .before .p .given .1) ∙ c .before .before .before .before .line-check .ensures)
     (c .larger .ensures)
 
-enum-told : tie.Need-enum-told Inv-loop μ-loop
-enum-told c = search needs
-
 add-t13 : tie.Need-add-t13 Inv-loop μ-loop
 add-t13 c = let I = c .before .before .before .before .before .loop .inv in
     omega (arith, I .few, I .low)
@@ -72,9 +63,6 @@ returns c =
     (c .before .before .before .before .line .ensures)
     (c .before .before .before .if1 .taken)
     (sym (c .enum-told .given .1) ∙ c .before .before .line-check .ensures)
-
-enum-told-2 : tie.Need-enum-told-2 Inv-loop μ-loop
-enum-told-2 c = search needs
 
 add-t16 : tie.Need-add-t16 Inv-loop μ-loop
 add-t16 c = let I = c .before .before .before .before .before .loop .inv in
@@ -99,26 +87,6 @@ returns-4 c = pass-open (c .before .before .before .before .loop .inv)
     (c .before .before .before .line .ensures) (c .before .before .if1 .left) (c .if2 .left)
 
 pub lines-check-spec : {M : Type 1} → statement M
-lines-check-spec =
-    tie.close
-    (tie.spec
-    Inv-loop
-    μ-loop
-    loop-holds
-    line-requires
-    line-check-requires
-    enum-known-p
-    larger-requires
-    add-n
-    add-at
-    loop-less
-    loop-again
-    enum-told
-    add-t13
-    returns
-    enum-told-2
-    add-t16
-    returns-2
-    returns-3
-    add-t9
-    returns-4)
+lines-check-spec = tie.close (tie.spec Inv-loop μ-loop loop-holds line-requires line-check-requires
+    (λ c. search needs) (λ c κs. search needs) add-n add-at loop-less loop-again (λ c. search needs)
+    add-t13 returns (λ c. search needs) add-t16 returns-2 returns-3 add-t9 returns-4)

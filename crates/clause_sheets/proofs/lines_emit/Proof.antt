@@ -47,15 +47,5 @@ returns : tie.Need-returns Inv-loop μ-loop
 returns c = emit-end (c .before .before .loop .inv) (c .before .line .ensures) (c .if1 .left)
 
 pub lines-emit-spec : {M : Type 1} → statement M
-lines-emit-spec =
-    tie.close
-    (tie.spec
-    Inv-loop
-    μ-loop
-    loop-holds
-    line-requires
-    line-emit-requires
-    add-at
-    loop-less
-    loop-again
-    returns)
+lines-emit-spec = tie.close (tie.spec Inv-loop μ-loop loop-holds line-requires line-emit-requires
+    add-at loop-less loop-again returns)

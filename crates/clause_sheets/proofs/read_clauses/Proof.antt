@@ -11,23 +11,8 @@ use Rattle.clause_sheets.proofs.read_clauses.Statement.{statement}
 use Rattle.clause_sheets.proofs.read_clauses.Tie as tie
 use Rattle.grammar.specs.Trees.{Rules}
 
-line-requires : tie.Need-line-requires
-line-requires c κs = search needs
-
 slice-aggregate-same : tie.Need-slice-aggregate-same
 slice-aggregate-same c = sym (length-take-le _ _ (omega (arith, c .before .if1 .taken)))
-
-slice-aggregate-same-2 : tie.Need-slice-aggregate-same-2
-slice-aggregate-same-2 c = search needs
-
-same-requires : tie.Need-same-requires
-same-requires c κs = search needs
-
-add-clauses-from : tie.Need-add-clauses-from
-add-clauses-from c = search needs
-
-clauses-from-requires : tie.Need-clauses-from-requires
-clauses-from-requires c κs = search needs
 
 returns : tie.Need-returns
 returns c =
@@ -37,12 +22,6 @@ returns c =
     (p .line .result) (p .line .ensures) (c .before .before .before .before .before .if1 .taken)
     (sym (c .before .if2 .taken) ∙ c .before .before .same .ensures))
     (c .clauses-from .ensures)
-
-no-rules-requires : tie.Need-no-rules-requires
-no-rules-requires c κs = search needs
-
-refuse-rules-requires : tie.Need-refuse-rules-requires
-refuse-rules-requires c κs = search needs
 
 returns-2 : tie.Need-returns-2
 returns-2 c =
@@ -54,12 +33,6 @@ returns-2 c =
     (sym (c .before .before .if2 .left) ∙ c .before .before .before .same .ensures))
     (c .refuse-rules .ensures)
 
-no-rules-requires-2 : tie.Need-no-rules-requires-2
-no-rules-requires-2 c κs = search needs
-
-refuse-rules-requires-2 : tie.Need-refuse-rules-requires-2
-refuse-rules-requires-2 c κs = search needs
-
 returns-3 : tie.Need-returns-3
 returns-3 c =
     let p = c .before .before .before in
@@ -69,19 +42,7 @@ returns-3 c =
     (c .refuse-rules2 .ensures)
 
 pub read-clauses-spec : {M : Type 1} → statement M
-read-clauses-spec =
-    tie.close
-    (tie.spec
-    line-requires
-    slice-aggregate-same
-    slice-aggregate-same-2
-    same-requires
-    add-clauses-from
-    clauses-from-requires
-    returns
-    no-rules-requires
-    refuse-rules-requires
-    returns-2
-    no-rules-requires-2
-    refuse-rules-requires-2
-    returns-3)
+read-clauses-spec = tie.close (tie.spec (λ c κs. search needs) slice-aggregate-same
+    (λ c. search needs) (λ c κs. search needs) (λ c. search needs) (λ c κs. search needs) returns
+    (λ c κs. search needs) (λ c κs. search needs) returns-2 (λ c κs. search needs)
+    (λ c κs. search needs) returns-3)

@@ -16,14 +16,8 @@ Inv-loop words n rules₀ count₀ left₀ i₀ rules count left i =
 abbrev μ-loop : tie.MeasureT-loop
 μ-loop words n rules₀ count₀ left₀ i₀ rules count left i = 129 * (64 - left) + (128 - i)
 
-no-rules-requires : tie.Need-no-rules-requires Inv-loop μ-loop
-no-rules-requires c κs = search needs
-
 loop-holds : tie.Need-loop-holds Inv-loop μ-loop
 loop-holds c = taking-start _ _ _ (search needs)
-
-add-left : tie.Need-add-left Inv-loop μ-loop
-add-left c = search needs
 
 loop-less : tie.Need-loop-less Inv-loop μ-loop
 loop-less c = let z = c .before .before .loop .inv in
@@ -44,21 +38,6 @@ element-copy-out-w c = let z = c .before .before .loop .inv in
 add-i : tie.Need-add-i Inv-loop μ-loop
 add-i c = let z = c .before .before .before .loop .inv in
     omega (arith, z .few, c .before .before .before .before .before .pre)
-
-left-of-requires : tie.Need-left-of-requires Inv-loop μ-loop
-left-of-requires c κs = search needs
-
-rule-of-requires : tie.Need-rule-of-requires Inv-loop μ-loop
-rule-of-requires c κs = search needs
-
-mul-rules : tie.Need-mul-rules Inv-loop μ-loop
-mul-rules c = search needs
-
-array-set-from-rules : tie.Need-array-set-from-rules Inv-loop μ-loop
-array-set-from-rules c = search needs
-
-add-count : tie.Need-add-count Inv-loop μ-loop
-add-count c = search needs
 
 loop-less-2 : tie.Need-loop-less-2 Inv-loop μ-loop
 loop-less-2 c = let z = c .before .before .before .before .before .before .before .loop .inv in
@@ -117,28 +96,7 @@ returns : tie.Need-returns Inv-loop μ-loop
 returns c = taking-end (c .before .loop .inv) (omega (arith, c .loop-test .left))
 
 pub sorted-spec : {M : Type 1} → statement M
-sorted-spec =
-    tie.close
-    (tie.spec
-    Inv-loop
-    μ-loop
-    no-rules-requires
-    loop-holds
-    add-left
-    loop-less
-    loop-again
-    mul-w
-    element-copy-out-w
-    add-i
-    left-of-requires
-    rule-of-requires
-    mul-rules
-    array-set-from-rules
-    add-count
-    loop-less-2
-    loop-again-2
-    loop-less-3
-    loop-again-3
-    loop-less-4
-    loop-again-4
-    returns)
+sorted-spec = tie.close (tie.spec Inv-loop μ-loop (λ c κs. search needs) loop-holds
+    (λ c. search needs) loop-less loop-again mul-w element-copy-out-w add-i (λ c κs. search needs)
+    (λ c κs. search needs) (λ c. search needs) (λ c. search needs) (λ c. search needs) loop-less-2
+    loop-again-2 loop-less-3 loop-again-3 loop-less-4 loop-again-4 returns)

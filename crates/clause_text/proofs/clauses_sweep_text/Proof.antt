@@ -10,15 +10,6 @@ use borrow.Author.Needs.{needs}
 use Rattle.clause_text.proofs.clauses_sweep_text.Statement.{statement}
 use Rattle.clause_text.proofs.clauses_sweep_text.Tie as tie
 
-slice-aggregate-sweep : tie.Need-slice-aggregate-sweep
-slice-aggregate-sweep c = search needs
-
-sweep-requires : tie.Need-sweep-requires
-sweep-requires c κs = search needs
-
-put-head-requires : tie.Need-put-head-requires
-put-head-requires c κs = search needs
-
 put-sentence-requires : tie.Need-put-sentence-requires
 put-sentence-requires c κs =
     let h = c .before .before .before in
@@ -26,9 +17,6 @@ put-sentence-requires c κs =
     let s = z .before .before .before .before in
     let f = sweep-few (z .sweep .ensures) in
     (omega arith, omega (arith, h .put-head .ensures .1, h .put-head .ensures .0 .long, s .pre))
-
-same-length : tie.Need-same-length
-same-length c = search needs
 
 returns : tie.Need-returns
 returns c =
@@ -44,12 +32,5 @@ returns c =
     }
 
 pub clauses-sweep-text-spec : {M : Type 1} → statement M
-clauses-sweep-text-spec =
-    tie.close
-    (tie.spec
-    slice-aggregate-sweep
-    sweep-requires
-    put-head-requires
-    put-sentence-requires
-    same-length
-    returns)
+clauses-sweep-text-spec = tie.close (tie.spec (λ c. search needs) (λ c κs. search needs)
+    (λ c κs. search needs) put-sentence-requires (λ c. search needs) returns)

@@ -10,27 +10,6 @@ use borrow.Author.Needs.{needs}
 use Rattle.clause_text.proofs.clauses_text.Statement.{statement}
 use Rattle.clause_text.proofs.clauses_text.Tie as tie
 
-slice-aggregate-trees : tie.Need-slice-aggregate-trees
-slice-aggregate-trees c = search needs
-
-slice-aggregate-trees-2 : tie.Need-slice-aggregate-trees-2
-slice-aggregate-trees-2 c = search needs
-
-slice-aggregate-trees-3 : tie.Need-slice-aggregate-trees-3
-slice-aggregate-trees-3 c = search needs
-
-trees-requires : tie.Need-trees-requires
-trees-requires c κs = search needs
-
-put-head-requires : tie.Need-put-head-requires
-put-head-requires c κs = search needs
-
-slice-aggregate-put-trees : tie.Need-slice-aggregate-put-trees
-slice-aggregate-put-trees c = search needs
-
-slice-aggregate-put-trees-2 : tie.Need-slice-aggregate-put-trees-2
-slice-aggregate-put-trees-2 c = search needs
-
 put-trees-requires : tie.Need-put-trees-requires
 put-trees-requires c κs =
     let h = c .before .before .before .before .before in
@@ -55,9 +34,6 @@ put-trees-requires c κs =
       ),
     )
 
-same-length : tie.Need-same-length
-same-length c = search needs
-
 returns : tie.Need-returns
 returns c =
     let p = c .before .before in
@@ -74,16 +50,6 @@ returns c =
     }
 
 pub clauses-text-spec : {M : Type 1} → statement M
-clauses-text-spec =
-    tie.close
-    (tie.spec
-    slice-aggregate-trees
-    slice-aggregate-trees-2
-    slice-aggregate-trees-3
-    trees-requires
-    put-head-requires
-    slice-aggregate-put-trees
-    slice-aggregate-put-trees-2
-    put-trees-requires
-    same-length
-    returns)
+clauses-text-spec = tie.close (tie.spec (λ c. search needs) (λ c. search needs) (λ c. search needs)
+    (λ c κs. search needs) (λ c κs. search needs) (λ c. search needs) (λ c. search needs)
+    put-trees-requires (λ c. search needs) returns)

@@ -18,15 +18,6 @@ few c = omega (arith, expand-count (c .expand .ensures), length-replicate {A = �
 within : (c : tie.After-expand) → c .expand .result .count ≤ length (c .expand .last .1 .0)
 within c = omega (arith, few c, c .expand .kept .1 .0, length-replicate {A = ℕ} 4096 0)
 
-slice-aggregate-expand : tie.Need-slice-aggregate-expand
-slice-aggregate-expand c = search needs
-
-expand-requires : tie.Need-expand-requires
-expand-requires c κs = search needs
-
-put-head-requires : tie.Need-put-head-requires
-put-head-requires c κs = search needs
-
 array-share-prefix-sheet : tie.Need-array-share-prefix-sheet
 array-share-prefix-sheet c = omega (arith, few (c .before .before .before .before .before .before))
 
@@ -42,9 +33,6 @@ put-bytes-requires c κs =
     rw (length-take-le _ _ (within z))
     (omega (arith, few z, h .put-head .ensures .1, h .put-head .ensures .0 .long, s .pre))
 
-same-length : tie.Need-same-length
-same-length c = search needs
-
 returns : tie.Need-returns
 returns c =
     let p = c .before .before in
@@ -59,14 +47,6 @@ returns c =
     }
 
 pub expand-text-spec : {M : Type 1} → statement M
-expand-text-spec =
-    tie.close
-    (tie.spec
-    slice-aggregate-expand
-    expand-requires
-    put-head-requires
-    array-share-prefix-sheet
-    slice-aggregate-put-bytes
-    put-bytes-requires
-    same-length
-    returns)
+expand-text-spec = tie.close (tie.spec (λ c. search needs) (λ c κs. search needs)
+    (λ c κs. search needs) array-share-prefix-sheet slice-aggregate-put-bytes put-bytes-requires
+    (λ c. search needs) returns)

@@ -15,9 +15,6 @@ abbrev μ-loop : tie.MeasureT-loop
 loop-holds : tie.Need-loop-holds Inv-loop μ-loop
 loop-holds c = counting-none (c .pre)
 
-sub-i : tie.Need-sub-i Inv-loop μ-loop
-sub-i c = omega arith
-
 mul-t : tie.Need-mul-t Inv-loop μ-loop
 mul-t c = omega (arith, c .before .loop .inv .inside, c .before .before .pre .few)
 
@@ -44,9 +41,6 @@ returns c =
     (counting-more (l .before .pre) (c .before .before .before .loop-test .taken) (l .loop .inv)
     (c .before .columns .ensures))
 
-loop-less : tie.Need-loop-less Inv-loop μ-loop
-loop-less c = omega arith
-
 loop-again : tie.Need-loop-again Inv-loop μ-loop
 loop-again c =
     let l = c .before .before .before .before in
@@ -61,18 +55,5 @@ returns-2 : tie.Need-returns-2 Inv-loop μ-loop
 returns-2 c = counts-all (c .before .before .pre) _ _ (omega arith) (c .before .loop .inv)
 
 pub count-spec : {M : Type 1} → statement M
-count-spec =
-    tie.close
-    (tie.spec
-    Inv-loop
-    μ-loop
-    loop-holds
-    sub-i
-    mul-t
-    element-copy-out-t
-    columns-requires
-    mul-m
-    returns
-    loop-less
-    loop-again
-    returns-2)
+count-spec = tie.close (tie.spec Inv-loop μ-loop loop-holds (λ c. omega arith) mul-t
+    element-copy-out-t columns-requires mul-m returns (λ c. omega arith) loop-again returns-2)

@@ -8,21 +8,6 @@ use borrow.Author.Needs.{needs}
 use Rattle.column_text.proofs.columns_text.Statement.{statement}
 use Rattle.column_text.proofs.columns_text.Tie as tie
 
-slice-aggregate-columns : tie.Need-slice-aggregate-columns
-slice-aggregate-columns c = search needs
-
-columns-requires : tie.Need-columns-requires
-columns-requires c κs = search needs
-
-put-head-requires : tie.Need-put-head-requires
-put-head-requires c κs = search needs
-
-put-given-requires : tie.Need-put-given-requires
-put-given-requires c κs = search needs
-
-same-length : tie.Need-same-length
-same-length c = search needs
-
 returns : tie.Need-returns
 returns c =
     let p = c .before .before in
@@ -35,12 +20,5 @@ returns c =
     }
 
 pub columns-text-spec : {M : Type 1} → statement M
-columns-text-spec =
-    tie.close
-    (tie.spec
-    slice-aggregate-columns
-    columns-requires
-    put-head-requires
-    put-given-requires
-    same-length
-    returns)
+columns-text-spec = tie.close (tie.spec (λ c. search needs) (λ c κs. search needs)
+    (λ c κs. search needs) (λ c κs. search needs) (λ c. search needs) returns)

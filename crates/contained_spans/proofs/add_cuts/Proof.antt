@@ -27,12 +27,6 @@ abbrev μ-loop : tie.MeasureT-loop
 loop-holds : tie.Need-loop-holds Inv-loop μ-loop
 loop-holds c = (joins-whole _ _ _, λ k i. i)
 
-lowest-requires : tie.Need-lowest-requires Inv-loop μ-loop
-lowest-requires c κs = search needs
-
-wide-requires : tie.Need-wide-requires Inv-loop μ-loop
-wide-requires c κs = search needs
-
 -- the cut lies within the span
 inside : (c : tie.After-wide Inv-loop μ-loop)
     → (c .before .before .before .before .before .args .start < c .wide .result)
@@ -91,18 +85,6 @@ returns : tie.Need-returns Inv-loop μ-loop
 returns c = joins-gone _ _ _ (c .loop-test .left) (c .before .loop .inv .0)
 
 pub add-cuts-spec : {M : Type 1} → statement M
-add-cuts-spec =
-    tie.close
-    (tie.spec
-    Inv-loop
-    μ-loop
-    loop-holds
-    lowest-requires
-    wide-requires
-    sub-left
-    add-kids-requires
-    sub-rest
-    loop-less
-    loop-again
-    same-length
+add-cuts-spec = tie.close (tie.spec Inv-loop μ-loop loop-holds (λ c κs. search needs)
+    (λ c κs. search needs) sub-left add-kids-requires sub-rest loop-less loop-again same-length
     returns)

@@ -10,18 +10,6 @@ use Rattle.cuts.proofs.JoinLaws.{joins-none, joins-then, joins-as}
 use Rattle.contained_spans.proofs.add_kids.Statement.{statement}
 use Rattle.contained_spans.proofs.add_kids.Tie as tie
 
-enum-told : tie.Need-enum-told
-enum-told c = search needs
-
-enum-told-2 : tie.Need-enum-told-2
-enum-told-2 c = search needs
-
-enum-known-c : tie.Need-enum-known-c
-enum-known-c c = search needs
-
-pair-at-requires : tie.Need-pair-at-requires
-pair-at-requires c κs = search needs
-
 add-requires : tie.Need-add-requires
 add-requires c κs =
     let c-here = c .before .before .before .c in
@@ -36,21 +24,6 @@ add-requires c κs =
       ),
       subst SmallClause (c-here .given .1) (z .pre .1),
     )
-
-enum-known-c-2 : tie.Need-enum-known-c-2
-enum-known-c-2 c = search needs
-
-pair-at-requires-2 : tie.Need-pair-at-requires-2
-pair-at-requires-2 c κs = search needs
-
-add-pair-at : tie.Need-add-pair-at
-add-pair-at c = search needs
-
-sub-pair-at : tie.Need-sub-pair-at
-sub-pair-at c = search needs
-
-pair-at-requires-3 : tie.Need-pair-at-requires-3
-pair-at-requires-3 c κs = search needs
 
 add-requires-2 : tie.Need-add-requires-2
 add-requires-2 c κs =
@@ -91,18 +64,12 @@ returns c = rw (c .enum-told .given .1) (joins-as (λ q B x. x) (λ q B x. x) (j
 returns-2 : tie.Need-returns-2
 returns-2 c = rw (c .enum-told2 .given .1) (joins-as (λ q B x. x) (λ q B x. x) (joins-none _))
 
-same-length : tie.Need-same-length
-same-length c = search needs
-
 returns-3 : tie.Need-returns-3
 returns-3 c =
     let d = c .before .before in
     let e = d .before .before .pair-at .ensures in
     rw (d .before .before .before .before .c .given .1)
     (joins-as (λ q B x. (x .0 ∙ e, x .1)) (λ q B x. (x .0 ∙ sym e, x .1)) (d .add .ensures))
-
-same-length-2 : tie.Need-same-length-2
-same-length-2 c = search needs
 
 returns-4 : tie.Need-returns-4
 returns-4 c =
@@ -121,24 +88,7 @@ returns-4 c =
     ⊎-map x y q B (inr z) = inr (z .0 ∙ y, z .1)
 
 pub add-kids-spec : {M : Type 1} → statement M
-add-kids-spec =
-    tie.close
-    (tie.spec
-    enum-told
-    enum-told-2
-    enum-known-c
-    pair-at-requires
-    add-requires
-    enum-known-c-2
-    pair-at-requires-2
-    add-pair-at
-    sub-pair-at
-    pair-at-requires-3
-    add-requires-2
-    add-requires-3
-    returns
-    returns-2
-    same-length
-    returns-3
-    same-length-2
-    returns-4)
+add-kids-spec = tie.close (tie.spec (λ c. search needs) (λ c. search needs) (λ c. search needs)
+    (λ c κs. search needs) add-requires (λ c. search needs) (λ c κs. search needs)
+    (λ c. search needs) (λ c. search needs) (λ c κs. search needs) add-requires-2 add-requires-3
+    returns returns-2 (λ c. search needs) returns-3 (λ c. search needs) returns-4)

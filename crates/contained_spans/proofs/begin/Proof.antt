@@ -11,15 +11,6 @@ use Rattle.contained_spans.proofs.DoneLaws.{begun}
 use Rattle.contained_spans.proofs.begin.Statement.{statement}
 use Rattle.contained_spans.proofs.begin.Tie as tie
 
-size-requires : tie.Need-size-requires
-size-requires c κs = search needs
-
-clear-requires : tie.Need-clear-requires
-clear-requires c κs = search needs
-
-pair-at-requires : tie.Need-pair-at-requires
-pair-at-requires c κs = search needs
-
 add-requires : tie.Need-add-requires
 add-requires c κs =
     let k = c .before .before .before .before in
@@ -35,9 +26,6 @@ add-requires c κs =
       ),
       omega arith,
     )
-
-same-length : tie.Need-same-length
-same-length c = search needs
 
 returns : tie.Need-returns
 returns c =
@@ -55,6 +43,5 @@ returns c =
     (λ q B x. (x .0 ∙ sym e, x .1)) (a .add .ensures))
 
 pub begin-spec : {M : Type 1} → statement M
-begin-spec =
-    tie.close
-    (tie.spec size-requires clear-requires pair-at-requires add-requires same-length returns)
+begin-spec = tie.close (tie.spec (λ c κs. search needs) (λ c κs. search needs)
+    (λ c κs. search needs) add-requires (λ c. search needs) returns)

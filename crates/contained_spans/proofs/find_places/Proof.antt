@@ -21,24 +21,12 @@ whole c =
     simp length-map at (c .good .1 .0 .1 .1 .0 .1 .0 .1) in
     length-take-le (c .args .s .count) (c .args .s .tokens) (omega (arith, c .pre .0 .0))
 
-slice-aggregate-list-rules : tie.Need-slice-aggregate-list-rules
-slice-aggregate-list-rules c = search needs
-
-list-rules-requires : tie.Need-list-rules-requires
-list-rules-requires c κs = search needs
-
-slice-aggregate-begin : tie.Need-slice-aggregate-begin
-slice-aggregate-begin c = search needs
-
 begin-requires : tie.Need-begin-requires
 begin-requires c κs =
     let z = c .before .before .before .before .before .before .before in (
       z .pre .0 .0,
       omega (arith, pairs-few (z .args .s .count) (z .pre .0 .0), length-replicate {A = ℕ} 2081 0),
     )
-
-slice-aggregate-load-columns : tie.Need-slice-aggregate-load-columns
-slice-aggregate-load-columns c = search needs
 
 load-columns-requires : tie.Need-load-columns-requires
 load-columns-requires c κs =
@@ -51,18 +39,6 @@ load-columns-requires c κs =
       },
       refl,
     )
-
-slice-aggregate-spread-all : tie.Need-slice-aggregate-spread-all
-slice-aggregate-spread-all c = search needs
-
-slice-aggregate-spread-all-2 : tie.Need-slice-aggregate-spread-all-2
-slice-aggregate-spread-all-2 c = search needs
-
-slice-aggregate-spread-all-3 : tie.Need-slice-aggregate-spread-all-3
-slice-aggregate-spread-all-3 c = search needs
-
-slice-aggregate-spread-all-4 : tie.Need-slice-aggregate-spread-all-4
-slice-aggregate-spread-all-4 c = search needs
 
 spread-all-requires : tie.Need-spread-all-requires
 spread-all-requires c κs =
@@ -83,9 +59,6 @@ spread-all-requires c κs =
       ),
     )
 
-same-length : tie.Need-same-length
-same-length c = search needs
-
 returns : tie.Need-returns
 returns c =
     let z = c .before .before .before .before .before .before .before .before .before .before
@@ -96,19 +69,7 @@ returns c =
     (c .before .before .before .before .before .spread-all .ensures)
 
 pub find-places-spec : {M : Type 1} → statement M
-find-places-spec =
-    tie.close
-    (tie.spec
-    slice-aggregate-list-rules
-    list-rules-requires
-    slice-aggregate-begin
-    begin-requires
-    slice-aggregate-load-columns
-    load-columns-requires
-    slice-aggregate-spread-all
-    slice-aggregate-spread-all-2
-    slice-aggregate-spread-all-3
-    slice-aggregate-spread-all-4
-    spread-all-requires
-    same-length
-    returns)
+find-places-spec = tie.close (tie.spec (λ c. search needs) (λ c κs. search needs)
+    (λ c. search needs) begin-requires (λ c. search needs) load-columns-requires (λ c. search needs)
+    (λ c. search needs) (λ c. search needs) (λ c. search needs) spread-all-requires
+    (λ c. search needs) returns)

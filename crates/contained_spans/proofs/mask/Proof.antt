@@ -5,18 +5,6 @@ use Rattle.contained_spans.proofs.SeeLaws.{mask-of}
 use Rattle.contained_spans.proofs.mask.Statement.{statement}
 use Rattle.contained_spans.proofs.mask.Tie as tie
 
-cut-masks-requires : tie.Need-cut-masks-requires
-cut-masks-requires c κs = search needs
-
-enum-told : tie.Need-enum-told
-enum-told c = search needs
-
-enum-told-2 : tie.Need-enum-told-2
-enum-told-2 c = search needs
-
-enum-told-3 : tie.Need-enum-told-3
-enum-told-3 c = search needs
-
 returns : tie.Need-returns
 returns c = rw (c .enum-told .given .1) (mask-of (c .before .before .cut-masks .ensures)
     BinaryMark.None)
@@ -30,6 +18,5 @@ returns-3 c = rw (c .enum-told3 .given .1) (mask-of (c .before .before .cut-mask
     BinaryMark.Indent)
 
 pub mask-spec : {M : Type 1} → statement M
-mask-spec =
-    tie.close
-    (tie.spec cut-masks-requires enum-told enum-told-2 enum-told-3 returns returns-2 returns-3)
+mask-spec = tie.close (tie.spec (λ c κs. search needs) (λ c. search needs) (λ c. search needs)
+    (λ c. search needs) returns returns-2 returns-3)

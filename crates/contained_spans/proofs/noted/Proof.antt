@@ -5,9 +5,6 @@ use native.Mathlib.Omega.{arith}
 use Rattle.contained_spans.proofs.noted.Statement.{statement}
 use Rattle.contained_spans.proofs.noted.Tie as tie
 
-with-requires : tie.Need-with-requires
-with-requires c κs = search needs
-
 returns : tie.Need-returns
 returns c = record {
   more = λ h. c .with .ensures;
@@ -18,4 +15,4 @@ returns-2 : tie.Need-returns-2
 returns-2 c = record { more = λ h. absurd (omega (arith, h, c .if1 .left)); less = λ h. refl }
 
 pub noted-spec : {M : Type 1} → statement M
-noted-spec = tie.close (tie.spec with-requires returns returns-2)
+noted-spec = tie.close (tie.spec (λ c κs. search needs) returns returns-2)

@@ -132,19 +132,6 @@ returns c =
     (l .reach) (l .parts)) e (l .inv .3))
 
 pub spread-all-spec : {M : Type 1} → statement M
-spread-all-spec =
-    tie.close
-    (tie.spec
-    Inv-loop
-    μ-loop
-    loop-holds
-    spread-start-requires
-    add-start
-    loop-less
-    loop-again
-    spread-span-requires
-    same-length
-    same-length-2
-    same-length-3
-    same-length-4
+spread-all-spec = tie.close (tie.spec Inv-loop μ-loop loop-holds spread-start-requires add-start
+    loop-less loop-again spread-span-requires same-length same-length-2 same-length-3 same-length-4
     returns)

@@ -8,12 +8,6 @@ use Rattle.contained_spans.proofs.SpreadLaws.{tried-at, spread-empty, s
 use Rattle.contained_spans.proofs.spread_binary.Statement.{statement}
 use Rattle.contained_spans.proofs.spread_binary.Tie as tie
 
-try-left-requires : tie.Need-try-left-requires
-try-left-requires c κs = search needs
-
-same-length : tie.Need-same-length
-same-length c = search needs
-
 returns : tie.Need-returns
 returns c =
     spread-empty (c .before .before .before .before .if1 .taken)
@@ -57,12 +51,6 @@ plus-requires c κs = (
   plus-few (c .before .before .spread-ends .ensures .plus),
 )
 
-same-length-2 : tie.Need-same-length-2
-same-length-2 c = search needs
-
-same-length-3 : tie.Need-same-length-3
-same-length-3 c = search needs
-
 returns-2 : tie.Need-returns-2
 returns-2 c =
     let z = c .before .before .before .before .before .before .before .before .before .before
@@ -78,15 +66,6 @@ returns-2 c =
     (c .plus .ensures)
 
 pub spread-binary-spec : {M : Type 1} → statement M
-spread-binary-spec =
-    tie.close
-    (tie.spec
-    try-left-requires
-    same-length
-    returns
-    spread-cuts-requires
-    spread-ends-requires
-    plus-requires
-    same-length-2
-    same-length-3
+spread-binary-spec = tie.close (tie.spec (λ c κs. search needs) (λ c. search needs) returns
+    spread-cuts-requires spread-ends-requires plus-requires (λ c. search needs) (λ c. search needs)
     returns-2)

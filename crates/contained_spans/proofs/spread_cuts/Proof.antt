@@ -12,9 +12,6 @@ use Rattle.contained_spans.proofs.SeeLaws.{hits-inner, joins-set, seen-
 use Rattle.contained_spans.proofs.spread_cuts.Statement.{statement}
 use Rattle.contained_spans.proofs.spread_cuts.Tie as tie
 
-hits-requires : tie.Need-hits-requires
-hits-requires c κs = search needs
-
 -- at no cut there is nothing to put in
 returns : tie.Need-returns
 returns c = record {
@@ -25,24 +22,6 @@ returns c = record {
   seen = c .before .before .before .before .before .pre .1 .1;
   tells = word-none _ (c .if1 .taken);
 }
-
-wide-requires : tie.Need-wide-requires
-wide-requires c κs = search needs
-
-add-unseen : tie.Need-add-unseen
-add-unseen c = search needs
-
-mul-unseen : tie.Need-mul-unseen
-mul-unseen c = search needs
-
-wide-requires-2 : tie.Need-wide-requires-2
-wide-requires-2 c κs = search needs
-
-add-unseen-2 : tie.Need-add-unseen-2
-add-unseen-2 c = search needs
-
-unseen-requires : tie.Need-unseen-requires
-unseen-requires c κs = search needs
 
 -- the cuts lie within the span
 inside : (c : tie.After-hits) → Inner (c .hits .result)
@@ -82,15 +61,6 @@ add-cuts-requires c κs =
       (z .pre .0 .0, z .pre .0 .1),
     )
 
-ways-requires : tie.Need-ways-requires
-ways-requires c κs = search needs
-
-same-length : tie.Need-same-length
-same-length c = search needs
-
-same-length-2 : tie.Need-same-length-2
-same-length-2 c = search needs
-
 returns-2 : tie.Need-returns-2
 returns-2 c =
     let z = c .before .before .before .before .before .before .before .before .before .before
@@ -110,19 +80,7 @@ returns-2 c =
     }
 
 pub spread-cuts-spec : {M : Type 1} → statement M
-spread-cuts-spec =
-    tie.close
-    (tie.spec
-    hits-requires
-    returns
-    wide-requires
-    add-unseen
-    mul-unseen
-    wide-requires-2
-    add-unseen-2
-    unseen-requires
-    add-cuts-requires
-    ways-requires
-    same-length
-    same-length-2
-    returns-2)
+spread-cuts-spec = tie.close (tie.spec (λ c κs. search needs) returns (λ c κs. search needs)
+    (λ c. search needs) (λ c. search needs) (λ c κs. search needs) (λ c. search needs)
+    (λ c κs. search needs) add-cuts-requires (λ c κs. search needs) (λ c. search needs)
+    (λ c. search needs) returns-2)

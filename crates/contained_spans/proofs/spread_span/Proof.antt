@@ -54,15 +54,6 @@ slice-write-parts c =
       pairAt-below n (z .args .start) (z .args .len) (s .0 .fits),
     )
 
-same-length : tie.Need-same-length
-same-length c = search needs
-
-same-length-2 : tie.Need-same-length-2
-same-length-2 c = search needs
-
-same-length-3 : tie.Need-same-length-3
-same-length-3 c = search needs
-
 returns : tie.Need-returns
 returns c =
     let z = c .before .before .before .before .before .before .before .before .before .before
@@ -85,15 +76,5 @@ returns c =
     }
 
 pub spread-span-spec : {M : Type 1} → statement M
-spread-span-spec =
-    tie.close
-    (tie.spec
-    span-marks-requires
-    pair-at-requires
-    work-off-requires
-    mul-parts
-    slice-write-parts
-    same-length
-    same-length-2
-    same-length-3
-    returns)
+spread-span-spec = tie.close (tie.spec span-marks-requires pair-at-requires work-off-requires
+    mul-parts slice-write-parts (λ c. search needs) (λ c. search needs) (λ c. search needs) returns)

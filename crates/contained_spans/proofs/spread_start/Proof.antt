@@ -133,21 +133,6 @@ returns c =
     }
 
 pub spread-start-spec : {M : Type 1} → statement M
-spread-start-spec =
-    tie.close
-    (tie.spec
-    Inv-loop
-    μ-loop
-    begin-row-requires
-    clear-requires
-    sub-len
-    loop-holds
-    spread-span-requires
-    sub-len-2
-    loop-less
-    loop-again
-    same-length
-    same-length-2
-    same-length-3
-    same-length-4
-    returns)
+spread-start-spec = tie.close (tie.spec Inv-loop μ-loop begin-row-requires clear-requires sub-len
+    loop-holds spread-span-requires sub-len-2 loop-less loop-again same-length same-length-2
+    same-length-3 same-length-4 returns)

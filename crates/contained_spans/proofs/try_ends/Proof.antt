@@ -6,9 +6,6 @@ use Rattle.contained_spans.proofs.EndLaws.{sides-long, sides-few, ends-
 use Rattle.contained_spans.proofs.try_ends.Statement.{statement}
 use Rattle.contained_spans.proofs.try_ends.Tie as tie
 
-pair-at-requires : tie.Need-pair-at-requires
-pair-at-requires c κs = search needs
-
 try-sides-requires : tie.Need-try-sides-requires
 try-sides-requires c κs =
     let z = c .before .before .before .before in
@@ -58,9 +55,6 @@ plus-requires c κs = (
       (c .before .before .try-sides2 .ensures),
 )
 
-same-length : tie.Need-same-length
-same-length c = search needs
-
 returns : tie.Need-returns
 returns c =
     ends-spread (c .before .before .before .before .before .before .before .before .before .pair-at
@@ -68,12 +62,5 @@ returns c =
     (c .before .before .before .try-sides2 .ensures) (c .plus .ensures)
 
 pub try-ends-spec : {M : Type 1} → statement M
-try-ends-spec =
-    tie.close
-    (tie.spec
-    pair-at-requires
-    try-sides-requires
-    try-sides-requires-2
-    plus-requires
-    same-length
-    returns)
+try-ends-spec = tie.close (tie.spec (λ c κs. search needs) try-sides-requires try-sides-requires-2
+    plus-requires (λ c. search needs) returns)

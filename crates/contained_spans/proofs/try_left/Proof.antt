@@ -8,9 +8,6 @@ use Rattle.tables.specs.Tables.{One, byMarks, Fits}
 use Rattle.contained_spans.proofs.try_left.Statement.{statement}
 use Rattle.contained_spans.proofs.try_left.Tie as tie
 
-clause-fits-requires : tie.Need-clause-fits-requires
-clause-fits-requires c κs = search needs
-
 returns : tie.Need-returns
 returns c =
     let a = c .before .before .before .before .args in
@@ -19,12 +16,6 @@ returns c =
       tells = tells-none (λ l x. none (subst (Fits (One (a .words .now) (a .n))
           (byMarks (a .k) (a .len)) (a .start) (a .len) (a .c)) (x .0) (x .1)));
     }
-
-add-kids-requires : tie.Need-add-kids-requires
-add-kids-requires c κs = search needs
-
-same-length : tie.Need-same-length
-same-length c = search needs
 
 returns-2 : tie.Need-returns-2
 returns-2 c =
@@ -36,5 +27,5 @@ returns-2 c =
     }
 
 pub try-left-spec : {M : Type 1} → statement M
-try-left-spec =
-    tie.close (tie.spec clause-fits-requires returns add-kids-requires same-length returns-2)
+try-left-spec = tie.close (tie.spec (λ c κs. search needs) returns (λ c κs. search needs)
+    (λ c. search needs) returns-2)

@@ -7,9 +7,6 @@ use Rattle.contained_spans.proofs.ways.Tie as tie
 returns : tie.Need-returns
 returns c = word-none _ (c .if1 .taken)
 
-sub-if2 : tie.Need-sub-if2
-sub-if2 c = search needs
-
 returns-2 : tie.Need-returns-2
 returns-2 c = word-one _ (c .before .if1 .left) (c .if2 .taken)
 
@@ -17,4 +14,4 @@ returns-3 : tie.Need-returns-3
 returns-3 c = word-two _ (c .before .if1 .left) (c .if2 .left)
 
 pub ways-spec : {M : Type 1} → statement M
-ways-spec = tie.close (tie.spec returns sub-if2 returns-2 returns-3)
+ways-spec = tie.close (tie.spec returns (λ c. search needs) returns-2 returns-3)

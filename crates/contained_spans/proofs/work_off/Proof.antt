@@ -191,12 +191,6 @@ slice-read-fresh c =
       pairAt-below (a .n) (a .start) (a .len) (z .pre .0 .0 .fits),
     )
 
-fresh-requires : tie.Need-fresh-requires Inv-loop μ-loop
-fresh-requires c κs = search needs
-
-enum-told : tie.Need-enum-told Inv-loop μ-loop
-enum-told c = search needs
-
 same-length : tie.Need-same-length Inv-loop μ-loop
 same-length c = c .before .before .before .before .before .before .loop .inv .2
     ∙ sym (c .before .before .before .before .before .before .before .before .before .before .before
@@ -241,9 +235,6 @@ returns c =
           (small-at (z .pre .1 .0 .0))
           (settled (c .before .before .before .before) .working w e y m) x;
     }
-
-enum-known-m : tie.Need-enum-known-m Inv-loop μ-loop
-enum-known-m c = search needs
 
 -- the member that was found
 is-fresh : (c : tie.After-m Inv-loop μ-loop)
@@ -310,34 +301,8 @@ loop-again-2 c =
     )
 
 pub work-off-spec : {M : Type 1} → statement M
-work-off-spec =
-    tie.close
-    (tie.spec
-    Inv-loop
-    μ-loop
-    pair-at-requires
-    loop-holds
-    mul-r
-    element-copy-out-r
-    spread-clause-requires
-    plus-requires
-    add-i
-    mul-i
-    shared-slice-read-i
-    loop-less
-    loop-again
-    noted-requires
-    mul-fresh
-    slice-read-fresh
-    fresh-requires
-    enum-told
-    same-length
-    same-length-2
-    returns
-    enum-known-m
-    with-requires
-    cast-i
-    mul-i-2
-    shared-slice-read-i-2
-    loop-less-2
-    loop-again-2)
+work-off-spec = tie.close (tie.spec Inv-loop μ-loop pair-at-requires loop-holds mul-r
+    element-copy-out-r spread-clause-requires plus-requires add-i mul-i shared-slice-read-i
+    loop-less loop-again noted-requires mul-fresh slice-read-fresh (λ c κs. search needs)
+    (λ c. search needs) same-length same-length-2 returns (λ c. search needs) with-requires cast-i
+    mul-i-2 shared-slice-read-i-2 loop-less-2 loop-again-2)

@@ -71,15 +71,5 @@ returns c =
     (l .cuts)) e (l .inv .1))
 
 pub load-columns-spec : {M : Type 1} → statement M
-load-columns-spec =
-    tie.close
-    (tie.spec
-    Inv-loop
-    μ-loop
-    loop-holds
-    load-ends-requires
-    add-start
-    loop-less
-    loop-again
-    same-length
-    returns)
+load-columns-spec = tie.close (tie.spec Inv-loop μ-loop loop-holds load-ends-requires add-start
+    loop-less loop-again same-length returns)

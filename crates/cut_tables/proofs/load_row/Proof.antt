@@ -141,22 +141,6 @@ returns c =
     (λ q k x. (x .0, omega (arith, x .1 .1, c .loop-test .left), (x .1 .0, x .1 .2))) (l .inv .2)
 
 pub load-row-spec : {M : Type 1} → statement M
-load-row-spec =
-    tie.close
-    (tie.spec
-    Inv-loop
-    μ-loop
-    add-end
-    loop-holds
-    sub-pair-at
-    pair-at-requires
-    mul-at
-    mul-load-set
-    shared-slice-read-load-set
-    cast-load-set
-    load-set-requires
-    add-end-2
-    loop-less
-    loop-again
-    same-length
-    returns)
+load-row-spec = tie.close (tie.spec Inv-loop μ-loop add-end loop-holds sub-pair-at pair-at-requires
+    mul-at mul-load-set shared-slice-read-load-set cast-load-set load-set-requires add-end-2
+    loop-less loop-again same-length returns)

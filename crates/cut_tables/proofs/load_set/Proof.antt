@@ -27,15 +27,6 @@ abbrev μ-loop : tie.MeasureT-loop
 loop-holds : tie.Need-loop-holds Inv-loop μ-loop
 loop-holds c = (joins-whole _ _ _, λ k i. i)
 
-lowest-requires : tie.Need-lowest-requires Inv-loop μ-loop
-lowest-requires c κs = search needs
-
-wide-requires : tie.Need-wide-requires Inv-loop μ-loop
-wide-requires c κs = search needs
-
-add-at : tie.Need-add-at Inv-loop μ-loop
-add-at c = search needs
-
 mul-with : tie.Need-mul-with Inv-loop μ-loop
 mul-with c =
     omega (
@@ -55,9 +46,6 @@ slice-read-with c =
       c .before .before .before .before .loop .inv .0 .long,
       c .before .before .before .before .before .before .pre .1,
     )
-
-with-requires : tie.Need-with-requires Inv-loop μ-loop
-with-requires c κs = search needs
 
 mul-cuts : tie.Need-mul-cuts Inv-loop μ-loop
 mul-cuts c =
@@ -80,9 +68,6 @@ slice-write-cuts c =
       c .before .before .before .before .before .loop .inv .0 .long,
       c .before .before .before .before .before .before .before .pre .1,
     )
-
-sub-rest : tie.Need-sub-rest Inv-loop μ-loop
-sub-rest c = search needs
 
 loop-less : tie.Need-loop-less Inv-loop μ-loop
 loop-less c =
@@ -115,22 +100,6 @@ returns : tie.Need-returns Inv-loop μ-loop
 returns c = joins-gone _ _ _ (c .loop-test .left) (c .before .loop .inv .0)
 
 pub load-set-spec : {M : Type 1} → statement M
-load-set-spec =
-    tie.close
-    (tie.spec
-    Inv-loop
-    μ-loop
-    loop-holds
-    lowest-requires
-    wide-requires
-    add-at
-    mul-with
-    slice-read-with
-    with-requires
-    mul-cuts
-    slice-write-cuts
-    sub-rest
-    loop-less
-    loop-again
-    same-length
-    returns)
+load-set-spec = tie.close (tie.spec Inv-loop μ-loop loop-holds (λ c κs. search needs)
+    (λ c κs. search needs) (λ c. search needs) mul-with slice-read-with (λ c κs. search needs)
+    mul-cuts slice-write-cuts (λ c. search needs) loop-less loop-again same-length returns)

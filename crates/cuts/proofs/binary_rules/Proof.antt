@@ -27,11 +27,5 @@ returns c =
     }
 
 pub binary-rules-spec : {M : Type 1} → statement M
-binary-rules-spec =
-    tie.close
-    (tie.spec
-    places-from-requires
-    places-from-requires-2
-    lefts-at-requires
-    lefts-at-requires-2
-    returns)
+binary-rules-spec = tie.close (tie.spec places-from-requires places-from-requires-2
+    lefts-at-requires lefts-at-requires-2 returns)

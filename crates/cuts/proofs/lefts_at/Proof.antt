@@ -26,9 +26,6 @@ loop-holds c = lefting-none _ _ _
 lowest-requires : tie.Need-lowest-requires Inv-loop μ-loop
 lowest-requires c κs = omega (arith, c .loop-test .taken)
 
-place-requires : tie.Need-place-requires Inv-loop μ-loop
-place-requires c κs = search needs
-
 add-r : tie.Need-add-r Inv-loop μ-loop
 add-r c = omega (
   arith,
@@ -36,9 +33,6 @@ add-r c = omega (
   c .before .lowest .ensures .small,
   c .before .before .before .before .pre .1,
 )
-
-mul-r : tie.Need-mul-r Inv-loop μ-loop
-mul-r c = search needs
 
 element-copy-out-r : tie.Need-element-copy-out-r Inv-loop μ-loop
 element-copy-out-r c = omega (
@@ -90,19 +84,6 @@ returns : tie.Need-returns Inv-loop μ-loop
 returns c = lefting-end (c .loop-test .left) (c .before .loop .inv)
 
 pub lefts-at-spec : {M : Type 1} → statement M
-lefts-at-spec =
-    tie.close
-    (tie.spec
-    Inv-loop
-    μ-loop
-    loop-holds
-    lowest-requires
-    place-requires
-    add-r
-    mul-r
-    element-copy-out-r
-    sub-rest
-    with-requires
-    loop-less
-    loop-again
-    returns)
+lefts-at-spec = tie.close (tie.spec Inv-loop μ-loop loop-holds lowest-requires
+    (λ c κs. search needs) add-r (λ c. search needs) element-copy-out-r sub-rest with-requires
+    loop-less loop-again returns)

@@ -20,9 +20,6 @@ abbrev μ-loop : tie.MeasureT-loop
 loop-holds : tie.Need-loop-holds Inv-loop μ-loop
 loop-holds c = (omega arith, placed-none _ _)
 
-cast-at : tie.Need-cast-at Inv-loop μ-loop
-cast-at c = search needs
-
 add-at : tie.Need-add-at Inv-loop μ-loop
 add-at c = omega (arith, c .before .before .pre .1, c .loop-test .taken)
 
@@ -31,17 +28,11 @@ returns c =
     let z = c .before .before .before in
     placed-end (omega (arith, c .if1 .taken, z .pre .0 .whole)) (c .before .before .loop .inv .1)
 
-mul-r : tie.Need-mul-r Inv-loop μ-loop
-mul-r c = search needs
-
 element-copy-out-r : tie.Need-element-copy-out-r Inv-loop μ-loop
 element-copy-out-r c = omega (arith, c .if1 .left, c .before .before .before .pre .0 .few)
 
 with-place-requires : tie.Need-with-place-requires Inv-loop μ-loop
 with-place-requires c κs = c .before .before .loop-test .taken
-
-add-i : tie.Need-add-i Inv-loop μ-loop
-add-i c = search needs
 
 loop-less : tie.Need-loop-less Inv-loop μ-loop
 loop-less c = omega (arith, c .before .before .before .loop-test .taken)
@@ -68,19 +59,6 @@ returns-2 c =
     (let z : l .i ≡ 64 = omega (arith, l .inv .0, c .loop-test .left) in z) (l .inv .1)
 
 pub places-from-spec : {M : Type 1} → statement M
-places-from-spec =
-    tie.close
-    (tie.spec
-    Inv-loop
-    μ-loop
-    loop-holds
-    cast-at
-    add-at
-    returns
-    mul-r
-    element-copy-out-r
-    with-place-requires
-    add-i
-    loop-less
-    loop-again
-    returns-2)
+places-from-spec = tie.close (tie.spec Inv-loop μ-loop loop-holds (λ c. search needs) add-at returns
+    (λ c. search needs) element-copy-out-r with-place-requires (λ c. search needs) loop-less
+    loop-again returns-2)

@@ -6,24 +6,6 @@ use Rattle.cuts.proofs.PutLaws.{pair-same}
 use Rattle.cuts.proofs.put.Statement.{statement}
 use Rattle.cuts.proofs.put.Tie as tie
 
-mul-put-both : tie.Need-mul-put-both
-mul-put-both c = search needs
-
-cast-put-both : tie.Need-cast-put-both
-cast-put-both c = search needs
-
-cast-put-both-2 : tie.Need-cast-put-both-2
-cast-put-both-2 c = search needs
-
-put-both-requires : tie.Need-put-both-requires
-put-both-requires c κs = search needs
-
-same-length : tie.Need-same-length
-same-length c = search needs
-
-same-length-2 : tie.Need-same-length-2
-same-length-2 c = search needs
-
 returns : tie.Need-returns
 returns c =
     let x = c .before .before .before .before .put-both .ensures in
@@ -42,42 +24,8 @@ returns c =
       pair-same t e (x .1),
     )
 
-put-row-requires : tie.Need-put-row-requires
-put-row-requires c κs = search needs
-
-mul-put-pair : tie.Need-mul-put-pair
-mul-put-pair c = search needs
-
-cast-put-pair : tie.Need-cast-put-pair
-cast-put-pair c = search needs
-
-put-pair-requires : tie.Need-put-pair-requires
-put-pair-requires c κs = search needs
-
-same-length-3 : tie.Need-same-length-3
-same-length-3 c = search needs
-
-same-length-4 : tie.Need-same-length-4
-same-length-4 c = search needs
-
-returns-2 : tie.Need-returns-2
-returns-2 c = search needs
-
 pub put-spec : {M : Type 1} → statement M
-put-spec =
-    tie.close
-    (tie.spec
-    mul-put-both
-    cast-put-both
-    cast-put-both-2
-    put-both-requires
-    same-length
-    same-length-2
-    returns
-    put-row-requires
-    mul-put-pair
-    cast-put-pair
-    put-pair-requires
-    same-length-3
-    same-length-4
-    returns-2)
+put-spec = tie.close (tie.spec (λ c. search needs) (λ c. search needs) (λ c. search needs)
+    (λ c κs. search needs) (λ c. search needs) (λ c. search needs) returns (λ c κs. search needs)
+    (λ c. search needs) (λ c. search needs) (λ c κs. search needs) (λ c. search needs)
+    (λ c. search needs) (λ c. search needs))

@@ -21,18 +21,6 @@ abbrev μ-loop : tie.MeasureT-loop
 loop-holds : tie.Need-loop-holds Inv-loop μ-loop
 loop-holds c = ((twice-none _ _ _ _, refl), (twice-none _ _ _ _, refl))
 
-lowest-requires : tie.Need-lowest-requires Inv-loop μ-loop
-lowest-requires c κs = search needs
-
-place-requires : tie.Need-place-requires Inv-loop μ-loop
-place-requires c κs = search needs
-
-mul-at : tie.Need-mul-at Inv-loop μ-loop
-mul-at c = search needs
-
-mul-with : tie.Need-mul-with Inv-loop μ-loop
-mul-with c = search needs
-
 -- both words lie in the rows, and in the columns
 rows-in : (c : tie.After-place Inv-loop μ-loop)
     → 2 * c .place .result + 1 < length (c .before .before .before .loop .rows)
@@ -62,20 +50,8 @@ cols-in c =
 slice-read-with : tie.Need-slice-read-with Inv-loop μ-loop
 slice-read-with c = omega (arith, rows-in (c .before))
 
-with-requires : tie.Need-with-requires Inv-loop μ-loop
-with-requires c κs = search needs
-
-mul-rows : tie.Need-mul-rows Inv-loop μ-loop
-mul-rows c = search needs
-
 slice-write-rows : tie.Need-slice-write-rows Inv-loop μ-loop
 slice-write-rows c = omega (arith, rows-in (c .before .before))
-
-add-with : tie.Need-add-with Inv-loop μ-loop
-add-with c = search needs
-
-mul-with-2 : tie.Need-mul-with-2 Inv-loop μ-loop
-mul-with-2 c = search needs
 
 slice-read-with-2 : tie.Need-slice-read-with-2 Inv-loop μ-loop
 slice-read-with-2 c =
@@ -87,15 +63,6 @@ slice-read-with-2 c =
           (c .before .with .result),
     )
 
-with-requires-2 : tie.Need-with-requires-2 Inv-loop μ-loop
-with-requires-2 c κs = search needs
-
-add-rows : tie.Need-add-rows Inv-loop μ-loop
-add-rows c = search needs
-
-mul-rows-2 : tie.Need-mul-rows-2 Inv-loop μ-loop
-mul-rows-2 c = search needs
-
 slice-write-rows-2 : tie.Need-slice-write-rows-2 Inv-loop μ-loop
 slice-write-rows-2 c =
     let q = c .before .before .before .before in
@@ -106,29 +73,11 @@ slice-write-rows-2 c =
           (c .before .before .with .result),
     )
 
-add-to : tie.Need-add-to Inv-loop μ-loop
-add-to c = search needs
-
-mul-with-3 : tie.Need-mul-with-3 Inv-loop μ-loop
-mul-with-3 c = search needs
-
 slice-read-with-3 : tie.Need-slice-read-with-3 Inv-loop μ-loop
 slice-read-with-3 c = omega (arith, cols-in (c .before .before .before .before .before))
 
-with-requires-3 : tie.Need-with-requires-3 Inv-loop μ-loop
-with-requires-3 c κs = search needs
-
-mul-cols : tie.Need-mul-cols Inv-loop μ-loop
-mul-cols c = search needs
-
 slice-write-cols : tie.Need-slice-write-cols Inv-loop μ-loop
 slice-write-cols c = omega (arith, cols-in (c .before .before .before .before .before .before))
-
-add-with-2 : tie.Need-add-with-2 Inv-loop μ-loop
-add-with-2 c = search needs
-
-mul-with-4 : tie.Need-mul-with-4 Inv-loop μ-loop
-mul-with-4 c = search needs
 
 slice-read-with-4 : tie.Need-slice-read-with-4 Inv-loop μ-loop
 slice-read-with-4 c =
@@ -141,15 +90,6 @@ slice-read-with-4 c =
           (c .before .with3 .result),
     )
 
-with-requires-4 : tie.Need-with-requires-4 Inv-loop μ-loop
-with-requires-4 c κs = search needs
-
-add-cols : tie.Need-add-cols Inv-loop μ-loop
-add-cols c = search needs
-
-mul-cols-2 : tie.Need-mul-cols-2 Inv-loop μ-loop
-mul-cols-2 c = search needs
-
 slice-write-cols-2 : tie.Need-slice-write-cols-2 Inv-loop μ-loop
 slice-write-cols-2 c =
     let q = c .before .before .before .before .before .before .before .before in
@@ -160,9 +100,6 @@ slice-write-cols-2 c =
       length-set (l .loop .cols) (l .before .before .before .args .p + 2 * q .place .result)
           (c .before .before .with3 .result),
     )
-
-sub-rest : tie.Need-sub-rest Inv-loop μ-loop
-sub-rest c = search needs
 
 loop-less : tie.Need-loop-less Inv-loop μ-loop
 loop-less c =
@@ -210,43 +147,12 @@ returns c =
     )
 
 pub put-both-spec : {M : Type 1} → statement M
-put-both-spec =
-    tie.close
-    (tie.spec
-    Inv-loop
-    μ-loop
-    loop-holds
-    lowest-requires
-    place-requires
-    mul-at
-    mul-with
-    slice-read-with
-    with-requires
-    mul-rows
-    slice-write-rows
-    add-with
-    mul-with-2
-    slice-read-with-2
-    with-requires-2
-    add-rows
-    mul-rows-2
-    slice-write-rows-2
-    add-to
-    mul-with-3
-    slice-read-with-3
-    with-requires-3
-    mul-cols
-    slice-write-cols
-    add-with-2
-    mul-with-4
-    slice-read-with-4
-    with-requires-4
-    add-cols
-    mul-cols-2
-    slice-write-cols-2
-    sub-rest
-    loop-less
-    loop-again
-    same-length
-    same-length-2
-    returns)
+put-both-spec = tie.close (tie.spec Inv-loop μ-loop loop-holds (λ c κs. search needs)
+    (λ c κs. search needs) (λ c. search needs) (λ c. search needs) slice-read-with
+    (λ c κs. search needs) (λ c. search needs) slice-write-rows (λ c. search needs)
+    (λ c. search needs) slice-read-with-2 (λ c κs. search needs) (λ c. search needs)
+    (λ c. search needs) slice-write-rows-2 (λ c. search needs) (λ c. search needs) slice-read-with-3
+    (λ c κs. search needs) (λ c. search needs) slice-write-cols (λ c. search needs)
+    (λ c. search needs) slice-read-with-4 (λ c κs. search needs) (λ c. search needs)
+    (λ c. search needs) slice-write-cols-2 (λ c. search needs) loop-less loop-again same-length
+    same-length-2 returns)

@@ -19,21 +19,6 @@ abbrev μ-loop : tie.MeasureT-loop
 loop-holds : tie.Need-loop-holds Inv-loop μ-loop
 loop-holds c = (twice-none _ _ _ _, refl)
 
-lowest-requires : tie.Need-lowest-requires Inv-loop μ-loop
-lowest-requires c κs = search needs
-
-place-requires : tie.Need-place-requires Inv-loop μ-loop
-place-requires c κs = search needs
-
-mul-at : tie.Need-mul-at Inv-loop μ-loop
-mul-at c = search needs
-
-add-at : tie.Need-add-at Inv-loop μ-loop
-add-at c = search needs
-
-mul-with : tie.Need-mul-with Inv-loop μ-loop
-mul-with c = search needs
-
 -- both words lie in the slice
 inside : (c : tie.After-place Inv-loop μ-loop) →
     let z = c .before .before .before .before .before in
@@ -51,20 +36,8 @@ inside c =
 slice-read-with : tie.Need-slice-read-with Inv-loop μ-loop
 slice-read-with c = omega (arith, inside (c .before))
 
-with-requires : tie.Need-with-requires Inv-loop μ-loop
-with-requires c κs = search needs
-
-mul-words : tie.Need-mul-words Inv-loop μ-loop
-mul-words c = search needs
-
 slice-write-words : tie.Need-slice-write-words Inv-loop μ-loop
 slice-write-words c = omega (arith, inside (c .before .before))
-
-add-with : tie.Need-add-with Inv-loop μ-loop
-add-with c = search needs
-
-mul-with-2 : tie.Need-mul-with-2 Inv-loop μ-loop
-mul-with-2 c = search needs
 
 slice-read-with-2 : tie.Need-slice-read-with-2 Inv-loop μ-loop
 slice-read-with-2 c =
@@ -77,15 +50,6 @@ slice-read-with-2 c =
           (c .before .with .result),
     )
 
-with-requires-2 : tie.Need-with-requires-2 Inv-loop μ-loop
-with-requires-2 c κs = search needs
-
-add-words : tie.Need-add-words Inv-loop μ-loop
-add-words c = search needs
-
-mul-words-2 : tie.Need-mul-words-2 Inv-loop μ-loop
-mul-words-2 c = search needs
-
 slice-write-words-2 : tie.Need-slice-write-words-2 Inv-loop μ-loop
 slice-write-words-2 c =
     let q = c .before .before .before .before in
@@ -96,9 +60,6 @@ slice-write-words-2 c =
       length-set (l .loop .words) (l .before .before .args .p + 2 * q .place .result)
           (c .before .before .with .result),
     )
-
-sub-rest : tie.Need-sub-rest Inv-loop μ-loop
-sub-rest c = search needs
 
 loop-less : tie.Need-loop-less Inv-loop μ-loop
 loop-less c =
@@ -127,30 +88,9 @@ returns : tie.Need-returns Inv-loop μ-loop
 returns c = twice-done (search needs) (c .loop-test .left) (c .before .loop .inv .0)
 
 pub put-twice-spec : {M : Type 1} → statement M
-put-twice-spec =
-    tie.close
-    (tie.spec
-    Inv-loop
-    μ-loop
-    loop-holds
-    lowest-requires
-    place-requires
-    mul-at
-    add-at
-    mul-with
-    slice-read-with
-    with-requires
-    mul-words
-    slice-write-words
-    add-with
-    mul-with-2
-    slice-read-with-2
-    with-requires-2
-    add-words
-    mul-words-2
-    slice-write-words-2
-    sub-rest
-    loop-less
-    loop-again
-    same-length
+put-twice-spec = tie.close (tie.spec Inv-loop μ-loop loop-holds (λ c κs. search needs)
+    (λ c κs. search needs) (λ c. search needs) (λ c. search needs) (λ c. search needs)
+    slice-read-with (λ c κs. search needs) (λ c. search needs) slice-write-words (λ c. search needs)
+    (λ c. search needs) slice-read-with-2 (λ c κs. search needs) (λ c. search needs)
+    (λ c. search needs) slice-write-words-2 (λ c. search needs) loop-less loop-again same-length
     returns)

@@ -33,9 +33,6 @@ loop-holds c = let z = c .before .before in let a = z .args in
 lowest-requires : tie.Need-lowest-requires Inv-loop μ-loop
 lowest-requires c κs = omega (arith, c .loop-test .taken)
 
-place-requires : tie.Need-place-requires Inv-loop μ-loop
-place-requires c κs = search needs
-
 add-r : tie.Need-add-r Inv-loop μ-loop
 add-r c = omega (
   arith,
@@ -44,9 +41,6 @@ add-r c = omega (
   c .before .before
       .before .before .before .before .pre .0 .1,
 )
-
-mul-r : tie.Need-mul-r Inv-loop μ-loop
-mul-r c = search needs
 
 element-copy-out-r : tie.Need-element-copy-out-r Inv-loop μ-loop
 element-copy-out-r c = omega (
@@ -74,9 +68,6 @@ has-requires c κs =
     (subst SmallRule (getD-take (g .count) (g .rules) (a .base + i) _ h)
     (every-at SmallRule _ (rules g) (z .pre .0 .0 .small) (a .base + i)
     (omega (arith, z .pre .0 .0 .whole)))) .left
-
-covers-requires : tie.Need-covers-requires Inv-loop μ-loop
-covers-requires c κs = search needs
 
 returns : tie.Need-returns Inv-loop μ-loop
 returns c =
@@ -164,24 +155,7 @@ returns-2 c =
     (c .before .loop .inv) (c .loop-test .left)
 
 pub try-places-spec : {M : Type 1} → statement M
-try-places-spec =
-    tie.close
-    (tie.spec
-    Inv-loop
-    μ-loop
-    loop-holds
-    lowest-requires
-    place-requires
-    add-r
-    mul-r
-    element-copy-out-r
-    sub-rest
-    has-requires
-    covers-requires
-    returns
-    loop-less
-    loop-again
-    try-rule-requires
-    loop-less-2
-    loop-again-2
+try-places-spec = tie.close (tie.spec Inv-loop μ-loop loop-holds lowest-requires
+    (λ c κs. search needs) add-r (λ c. search needs) element-copy-out-r sub-rest has-requires
+    (λ c κs. search needs) returns loop-less loop-again try-rule-requires loop-less-2 loop-again-2
     returns-2)

@@ -4,21 +4,6 @@ use Rattle.sets.proofs.Sets.{insert-same, insert-keeps, insert-only}
 use Rattle.cuts.proofs.with_place.Statement.{statement}
 use Rattle.cuts.proofs.with_place.Tie as tie
 
-enum-told : tie.Need-enum-told
-enum-told c = search needs
-
-enum-told-2 : tie.Need-enum-told-2
-enum-told-2 c = search needs
-
-enum-told-3 : tie.Need-enum-told-3
-enum-told-3 c = search needs
-
-enum-told-4 : tie.Need-enum-told-4
-enum-told-4 c = search needs
-
-with-requires : tie.Need-with-requires
-with-requires c κs = search needs
-
 returns : tie.Need-returns
 returns c = rw (c .enum-told .given .1)
     (record { keeps = λ j x. x; has = λ b. absurd b; only = λ j x. inl x })
@@ -41,15 +26,5 @@ returns-4 c = rw (c .with .ensures, c .before .enum-told4 .given .1)
     })
 
 pub with-place-spec : {M : Type 1} → statement M
-with-place-spec =
-    tie.close
-    (tie.spec
-    enum-told
-    enum-told-2
-    enum-told-3
-    enum-told-4
-    with-requires
-    returns
-    returns-2
-    returns-3
-    returns-4)
+with-place-spec = tie.close (tie.spec (λ c. search needs) (λ c. search needs) (λ c. search needs)
+    (λ c. search needs) (λ c κs. search needs) returns returns-2 returns-3 returns-4)

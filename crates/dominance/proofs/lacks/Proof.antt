@@ -4,17 +4,11 @@ use borrow.Author.Tests.{not-true, not-false}
 use Rattle.dominance.proofs.lacks.Statement.{statement}
 use Rattle.dominance.proofs.lacks.Tie as tie
 
-has-requires : tie.Need-has-requires
-has-requires c κs = search needs
-
 returns : tie.Need-returns
 returns c = λ e m. absurd (c .before .has .ensures .isnt (not-true _ (c .if1 .taken)) m)
-
-has-requires-2 : tie.Need-has-requires-2
-has-requires-2 c κs = search needs
 
 returns-2 : tie.Need-returns-2
 returns-2 c = λ e m. c .has2 .ensures .is (not-false _ e)
 
 pub lacks-spec : {M : Type 1} → statement M
-lacks-spec = tie.close (tie.spec has-requires returns has-requires-2 returns-2)
+lacks-spec = tie.close (tie.spec (λ c κs. search needs) returns (λ c κs. search needs) returns-2)

@@ -27,21 +27,9 @@ inside c =
 loop-holds : tie.Need-loop-holds Inv-loop μ-loop
 loop-holds c = (omega arith, lefts-none (c .args .a))
 
-mul-r : tie.Need-mul-r Inv-loop μ-loop
-mul-r c = search needs
-
-element-copy-out-r : tie.Need-element-copy-out-r Inv-loop μ-loop
-element-copy-out-r c = search needs
-
 with-left-requires : tie.Need-with-left-requires Inv-loop μ-loop
 with-left-requires c κs = small-rule-at _ _ _ (c .before .loop-test .taken) (inside (c .before))
     (c .before .before .before .pre)
-
-add-i : tie.Need-add-i Inv-loop μ-loop
-add-i c = search needs
-
-loop-less : tie.Need-loop-less Inv-loop μ-loop
-loop-less c = search needs
 
 loop-again : tie.Need-loop-again Inv-loop μ-loop
 loop-again c = (
@@ -57,16 +45,5 @@ returns c =
     rw e at (c .before .loop .inv .1)
 
 pub lefts-spec : {M : Type 1} → statement M
-lefts-spec =
-    tie.close
-    (tie.spec
-    Inv-loop
-    μ-loop
-    loop-holds
-    mul-r
-    element-copy-out-r
-    with-left-requires
-    add-i
-    loop-less
-    loop-again
-    returns)
+lefts-spec = tie.close (tie.spec Inv-loop μ-loop loop-holds (λ c. search needs) (λ c. search needs)
+    with-left-requires (λ c. search needs) (λ c. search needs) loop-again returns)

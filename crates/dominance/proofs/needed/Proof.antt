@@ -22,12 +22,6 @@ with-needed-requires : tie.Need-with-needed-requires Inv-loop μ-loop
 with-needed-requires c κs = let z = c .before .before in
     (z .pre, (omega arith, c .before .loop .inv .1))
 
-add-x : tie.Need-add-x Inv-loop μ-loop
-add-x c = search needs
-
-loop-less : tie.Need-loop-less Inv-loop μ-loop
-loop-less c = omega arith
-
 loop-again : tie.Need-loop-again Inv-loop μ-loop
 loop-again c = (omega arith, c .with-needed .ensures)
 
@@ -39,6 +33,5 @@ returns c =
     (rw e at (c .before .loop .inv .1))
 
 pub needed-spec : {M : Type 1} → statement M
-needed-spec =
-    tie.close
-    (tie.spec Inv-loop μ-loop loop-holds with-needed-requires add-x loop-less loop-again returns)
+needed-spec = tie.close (tie.spec Inv-loop μ-loop loop-holds with-needed-requires
+    (λ c. search needs) (λ c. omega arith) loop-again returns)

@@ -14,12 +14,6 @@ Inv-loop g kept x s y₀ y = y ≤ x
 abbrev μ-loop : tie.MeasureT-loop
 μ-loop g kept x s y₀ y = x - y
 
-lefts-requires : tie.Need-lefts-requires Inv-loop μ-loop
-lefts-requires c κs = search needs
-
-loop-holds : tie.Need-loop-holds Inv-loop μ-loop
-loop-holds c = omega arith
-
 serves-requires : tie.Need-serves-requires Inv-loop μ-loop
 serves-requires c κs = let z = c .before .before .before in (z .pre .0, omega (arith, z .pre .1))
 
@@ -34,26 +28,9 @@ returns c =
 add-y : tie.Need-add-y Inv-loop μ-loop
 add-y c = omega (arith, c .before .before .before .before .before .pre .1)
 
-loop-less : tie.Need-loop-less Inv-loop μ-loop
-loop-less c = omega arith
-
-loop-again : tie.Need-loop-again Inv-loop μ-loop
-loop-again c = omega arith
-
 returns-2 : tie.Need-returns-2 Inv-loop μ-loop
 returns-2 c = λ e. absurd (true-not-false (sym e))
 
 pub replaced-spec : {M : Type 1} → statement M
-replaced-spec =
-    tie.close
-    (tie.spec
-    Inv-loop
-    μ-loop
-    lefts-requires
-    loop-holds
-    serves-requires
-    returns
-    add-y
-    loop-less
-    loop-again
-    returns-2)
+replaced-spec = tie.close (tie.spec Inv-loop μ-loop (λ c κs. search needs) (λ c. omega arith)
+    serves-requires returns add-y (λ c. omega arith) (λ c. omega arith) returns-2)

@@ -8,17 +8,8 @@ use Rattle.dominance.proofs.LeftSets.{serves-of}
 use Rattle.dominance.proofs.serves.Statement.{statement}
 use Rattle.dominance.proofs.serves.Tie as tie
 
-has-requires : tie.Need-has-requires
-has-requires c κs = search needs
-
 returns : tie.Need-returns
 returns c = λ e. absurd (true-not-false (sym e))
-
-lefts-requires : tie.Need-lefts-requires
-lefts-requires c κs = search needs
-
-within-requires : tie.Need-within-requires
-within-requires c κs = search needs
 
 returns-2 : tie.Need-returns-2
 returns-2 c =
@@ -29,4 +20,5 @@ returns-2 c =
     (c .within .ensures e)
 
 pub serves-spec : {M : Type 1} → statement M
-serves-spec = tie.close (tie.spec has-requires returns lefts-requires within-requires returns-2)
+serves-spec = tie.close (tie.spec (λ c κs. search needs) returns (λ c κs. search needs)
+    (λ c κs. search needs) returns-2)

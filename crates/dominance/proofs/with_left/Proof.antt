@@ -6,12 +6,6 @@ use Rattle.dominance.proofs.LeftSets.{with-same, with-other}
 use Rattle.dominance.proofs.with_left.Statement.{statement}
 use Rattle.dominance.proofs.with_left.Tie as tie
 
-enum-told : tie.Need-enum-told
-enum-told c = search needs
-
-enum-known-c : tie.Need-enum-known-c
-enum-known-c c = search needs
-
 returns : tie.Need-returns
 returns c = sym (with-other _ _ _ _ _ (c .before .before .c .given .1)
     (λ v. omega (arith, v .low, c .if1 .taken)))
@@ -19,15 +13,6 @@ returns c = sym (with-other _ _ _ _ _ (c .before .before .c .given .1)
 returns-2 : tie.Need-returns-2
 returns-2 c = sym (with-other _ _ _ _ _ (c .before .before .before .c .given .1)
     (λ v. omega (arith, v .high, c .if2 .taken)))
-
-with-requires : tie.Need-with-requires
-with-requires c κs = search needs
-
-enum-told-2 : tie.Need-enum-told-2
-enum-told-2 c = search needs
-
-enum-told-3 : tie.Need-enum-told-3
-enum-told-3 c = search needs
 
 returns-3 : tie.Need-returns-3
 returns-3 c = rw (c .enum-told .given .1) refl
@@ -44,17 +29,6 @@ returns-6 : tie.Need-returns-6
 returns-6 c = rw (c .enum-told3 .given .1) refl
 
 pub with-left-spec : {M : Type 1} → statement M
-with-left-spec =
-    tie.close
-    (tie.spec
-    enum-told
-    enum-known-c
-    returns
-    returns-2
-    with-requires
-    enum-told-2
-    enum-told-3
-    returns-3
-    returns-4
-    returns-5
+with-left-spec = tie.close (tie.spec (λ c. search needs) (λ c. search needs) returns returns-2
+    (λ c κs. search needs) (λ c. search needs) (λ c. search needs) returns-3 returns-4 returns-5
     returns-6)

@@ -35,5 +35,5 @@ returns-3 c =
     (c .with .ensures)
 
 pub with-needed-spec : {M : Type 1} → statement M
-with-needed-spec =
-    tie.close (tie.spec has-requires returns replaced-requires returns-2 with-requires returns-3)
+with-needed-spec = tie.close (tie.spec has-requires returns replaced-requires returns-2
+    with-requires returns-3)

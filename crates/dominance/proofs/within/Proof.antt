@@ -18,17 +18,8 @@ abbrev μ-loop : tie.MeasureT-loop
 loop-holds : tie.Need-loop-holds Inv-loop μ-loop
 loop-holds c = (omega arith, λ x h. absurd (omega arith))
 
-lacks-requires : tie.Need-lacks-requires Inv-loop μ-loop
-lacks-requires c κs = omega arith
-
 returns : tie.Need-returns Inv-loop μ-loop
 returns c = λ e. absurd (true-not-false (sym e))
-
-add-a : tie.Need-add-a Inv-loop μ-loop
-add-a c = search needs
-
-loop-less : tie.Need-loop-less Inv-loop μ-loop
-loop-less c = omega arith
 
 loop-again : tie.Need-loop-again Inv-loop μ-loop
 loop-again c = (
@@ -42,15 +33,5 @@ returns-2 c =
     λ e. record { each = λ A h m. c .before .loop .inv .1 A (omega (arith, c .loop-test .left)) m }
 
 pub within-spec : {M : Type 1} → statement M
-within-spec =
-    tie.close
-    (tie.spec
-    Inv-loop
-    μ-loop
-    loop-holds
-    lacks-requires
-    returns
-    add-a
-    loop-less
-    loop-again
-    returns-2)
+within-spec = tie.close (tie.spec Inv-loop μ-loop loop-holds (λ c κs. omega arith) returns
+    (λ c. search needs) (λ c. omega arith) loop-again returns-2)

@@ -5,23 +5,14 @@ use borrow.Author.Needs.{needs}
 use Rattle.doubt_list.proofs.both_empty.Statement.{statement}
 use Rattle.doubt_list.proofs.both_empty.Tie as tie
 
-has-requires : tie.Need-has-requires
-has-requires c κs = search needs
-
 returns : tie.Need-returns
 returns c =
     fails (λ x. c .before .has .ensures .isnt (not-true _ (c .if1 .taken))
     (c .before .before .pre .0 .2 .all _ (x .occurs)))
 
-empty-by-requires : tie.Need-empty-by-requires
-empty-by-requires c κs = search needs
-
 returns-2 : tie.Need-returns-2
 returns-2 c =
     fails (λ x. c .before .empty-by .ensures .isnt (not-true _ (c .if2 .taken)) (x .first))
-
-empty-by-requires-2 : tie.Need-empty-by-requires-2
-empty-by-requires-2 c κs = search needs
 
 returns-3 : tie.Need-returns-3
 returns-3 c =
@@ -33,6 +24,5 @@ returns-3 c =
     (λ x. x .second) (c .empty-by2 .ensures)
 
 pub both-empty-spec : {M : Type 1} → statement M
-both-empty-spec =
-    tie.close
-    (tie.spec has-requires returns empty-by-requires returns-2 empty-by-requires-2 returns-3)
+both-empty-spec = tie.close (tie.spec (λ c κs. search needs) returns (λ c κs. search needs)
+    returns-2 (λ c κs. search needs) returns-3)

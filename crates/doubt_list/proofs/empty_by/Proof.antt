@@ -25,12 +25,6 @@ rule c =
     (sym (length-map (c .args .t1 .rules) _) ∙ c .good .0 .1 .1 .0 .1 .0 .1)
     (c .pre .0 .few) (c .pre .2)
 
-mul-rule : tie.Need-mul-rule
-mul-rule c = search needs
-
-element-copy-out-rule : tie.Need-element-copy-out-rule
-element-copy-out-rule c = search needs
-
 ready-requires : tie.Need-ready-requires
 ready-requires c κs = let z = c .before .before .before in small-at (z .pre .0) _ (rule z) .clause
 
@@ -45,5 +39,5 @@ returns-2 c =
     fails (λ x. c .if1 .left (choice-left (z .pre .1) _ (rule z) x))
 
 pub empty-by-spec : {M : Type 1} → statement M
-empty-by-spec =
-    tie.close (tie.spec mul-rule element-copy-out-rule ready-requires returns returns-2)
+empty-by-spec = tie.close (tie.spec (λ c. search needs) (λ c. search needs) ready-requires returns
+    returns-2)

@@ -51,15 +51,5 @@ returns c =
     rw e at (i .1)
 
 pub list-all-spec : {M : Type 1} → statement M
-list-all-spec =
-    tie.close
-    (tie.spec
-    Inv-loop
-    μ-loop
-    loop-holds
-    list-left-requires
-    add-a
-    loop-less
-    loop-again
-    same-length
-    returns)
+list-all-spec = tie.close (tie.spec Inv-loop μ-loop loop-holds list-left-requires add-a loop-less
+    loop-again same-length returns)

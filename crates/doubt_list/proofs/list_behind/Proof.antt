@@ -61,16 +61,5 @@ returns c =
     (omega (arith, i .1, z .pre .0 .formed .few)))
 
 pub list-behind-spec : {M : Type 1} → statement M
-list-behind-spec =
-    tie.close
-    (tie.spec
-    Inv-loop
-    μ-loop
-    add-q
-    loop-holds
-    list-pair-requires
-    add-q-2
-    loop-less
-    loop-again
-    same-length
-    returns)
+list-behind-spec = tie.close (tie.spec Inv-loop μ-loop add-q loop-holds list-pair-requires add-q-2
+    loop-less loop-again same-length returns)

@@ -5,18 +5,6 @@ use borrow.Author.Needs.{needs}
 use Rattle.doubt_list.proofs.list_doubts.Statement.{statement}
 use Rattle.doubt_list.proofs.list_doubts.Tie as tie
 
-begin-requires : tie.Need-begin-requires
-begin-requires c κs = search needs
-
-list-all-requires : tie.Need-list-all-requires
-list-all-requires c κs = search needs
-
-finish-requires : tie.Need-finish-requires
-finish-requires c κs = search needs
-
-same-length : tie.Need-same-length
-same-length c = search needs
-
 returns : tie.Need-returns
 returns c =
     let f = c .before .before in
@@ -32,5 +20,5 @@ returns c =
     }
 
 pub list-doubts-spec : {M : Type 1} → statement M
-list-doubts-spec =
-    tie.close (tie.spec begin-requires list-all-requires finish-requires same-length returns)
+list-doubts-spec = tie.close (tie.spec (λ c κs. search needs) (λ c κs. search needs)
+    (λ c κs. search needs) (λ c. search needs) returns)

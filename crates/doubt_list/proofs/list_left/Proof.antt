@@ -94,19 +94,5 @@ returns c =
     (omega (arith, i .0, z .pre .0 .formed .few)))
 
 pub list-left-spec : {M : Type 1} → statement M
-list-left-spec =
-    tie.close
-    (tie.spec
-    Inv-loop
-    μ-loop
-    loop-holds
-    of-left-requires
-    add-p
-    loop-less
-    loop-again
-    list-rule-requires
-    add-p-2
-    loop-less-2
-    loop-again-2
-    same-length
-    returns)
+list-left-spec = tie.close (tie.spec Inv-loop μ-loop loop-holds of-left-requires add-p loop-less
+    loop-again list-rule-requires add-p-2 loop-less-2 loop-again-2 same-length returns)

@@ -29,15 +29,6 @@ rules-listed e =
     (z .pre .1 .0 .2) (z .pre .1 .0 .3) (z .pre .1 .1)
     (i .before .before .marked .ensures) (i .put-if .ensures)
 
-marked-requires : tie.Need-marked-requires
-marked-requires c κs = search needs
-
-put-if-requires : tie.Need-put-if-requires
-put-if-requires c κs = search needs
-
-both-empty-requires : tie.Need-both-empty-requires
-both-empty-requires c κs = search needs
-
 put-if-requires-2 : tie.Need-put-if-requires-2
 put-if-requires-2 c κs =
     let z = start (c .before) in (
@@ -45,9 +36,6 @@ put-if-requires-2 c κs =
       omega (arith, z .pre .1 .0, z .pre .0 .formed .few),
       omega (arith, z .pre .1 .0, z .pre .0 .formed .few),
     )
-
-same-length : tie.Need-same-length
-same-length c = search needs
 
 returns : tie.Need-returns
 returns c =
@@ -58,12 +46,5 @@ returns c =
     (rules-listed e .few) (e .both-empty .ensures) (c .before .before .put-if2 .ensures))
 
 pub list-pair-spec : {M : Type 1} → statement M
-list-pair-spec =
-    tie.close
-    (tie.spec
-    marked-requires
-    put-if-requires
-    both-empty-requires
-    put-if-requires-2
-    same-length
-    returns)
+list-pair-spec = tie.close (tie.spec (λ c κs. search needs) (λ c κs. search needs)
+    (λ c κs. search needs) put-if-requires-2 (λ c. search needs) returns)

@@ -4,15 +4,6 @@ use borrow.Author.Needs.{needs}
 use Rattle.doubt_list.proofs.list_rule.Statement.{statement}
 use Rattle.doubt_list.proofs.list_rule.Tie as tie
 
-list-same-requires : tie.Need-list-same-requires
-list-same-requires c κs = search needs
-
-list-behind-requires : tie.Need-list-behind-requires
-list-behind-requires c κs = search needs
-
-same-length : tie.Need-same-length
-same-length c = search needs
-
 returns : tie.Need-returns
 returns c =
     let i = c .before .before in
@@ -21,4 +12,5 @@ returns c =
     (i .list-behind .ensures)
 
 pub list-rule-spec : {M : Type 1} → statement M
-list-rule-spec = tie.close (tie.spec list-same-requires list-behind-requires same-length returns)
+list-rule-spec = tie.close (tie.spec (λ c κs. search needs) (λ c κs. search needs)
+    (λ c. search needs) returns)

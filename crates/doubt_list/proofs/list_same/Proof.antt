@@ -4,15 +4,6 @@ use borrow.Author.Needs.{needs}
 use Rattle.doubt_list.proofs.list_same.Statement.{statement}
 use Rattle.doubt_list.proofs.list_same.Tie as tie
 
-marked-requires : tie.Need-marked-requires
-marked-requires c κs = search needs
-
-put-if-requires : tie.Need-put-if-requires
-put-if-requires c κs = search needs
-
-same-length : tie.Need-same-length
-same-length c = search needs
-
 returns : tie.Need-returns
 returns c =
     let p = c .before .before in
@@ -22,4 +13,5 @@ returns c =
     (z .pre .1 .1) (m .marked .ensures) (p .put-if .ensures)
 
 pub list-same-spec : {M : Type 1} → statement M
-list-same-spec = tie.close (tie.spec marked-requires put-if-requires same-length returns)
+list-same-spec = tie.close (tie.spec (λ c κs. search needs) (λ c κs. search needs)
+    (λ c. search needs) returns)

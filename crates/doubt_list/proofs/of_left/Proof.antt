@@ -25,12 +25,6 @@ rule c =
     (sym (length-map (c .args .t1 .rules) _) ∙ c .good .0 .1 .1 .0 .1 .0 .1)
     (c .pre .0 .few) (c .pre .1)
 
-mul-rule : tie.Need-mul-rule
-mul-rule c = search needs
-
-element-copy-out-rule : tie.Need-element-copy-out-rule
-element-copy-out-rule c = search needs
-
 returns : tie.Need-returns
 returns c =
     let r = rule (c .before .before) in
@@ -38,4 +32,4 @@ returns c =
     (λ x. one-left (record { rule = _; stands = r; left = refl }) x) (says-eqb _ _)
 
 pub of-left-spec : {M : Type 1} → statement M
-of-left-spec = tie.close (tie.spec mul-rule element-copy-out-rule returns)
+of-left-spec = tie.close (tie.spec (λ c. search needs) (λ c. search needs) returns)

@@ -13,27 +13,6 @@ returns c =
       same = λ e. (refl, refl);
     }
 
-add-t10 : tie.Need-add-t10
-add-t10 c = search needs
-
-cast-t11 : tie.Need-cast-t11
-cast-t11 c = search needs
-
-add-t12 : tie.Need-add-t12
-add-t12 c = search needs
-
-cast-t13 : tie.Need-cast-t13
-cast-t13 c = search needs
-
-slice-aggregate-put : tie.Need-slice-aggregate-put
-slice-aggregate-put c = search needs
-
-put-requires : tie.Need-put-requires
-put-requires c κs = search needs
-
-same-length : tie.Need-same-length
-same-length c = search needs
-
 returns-2 : tie.Need-returns-2
 returns-2 c =
     let p = c .before .before in
@@ -45,15 +24,6 @@ returns-2 c =
     }
 
 pub put-if-spec : {M : Type 1} → statement M
-put-if-spec =
-    tie.close
-    (tie.spec
-    returns
-    add-t10
-    cast-t11
-    add-t12
-    cast-t13
-    slice-aggregate-put
-    put-requires
-    same-length
-    returns-2)
+put-if-spec = tie.close (tie.spec returns (λ c. search needs) (λ c. search needs)
+    (λ c. search needs) (λ c. search needs) (λ c. search needs) (λ c κs. search needs)
+    (λ c. search needs) returns-2)

@@ -9,27 +9,15 @@ use borrow.Author.Needs.{needs}
 use Rattle.doubt_marks.proofs.mark_by.Statement.{statement}
 use Rattle.doubt_marks.proofs.mark_by.Tie as tie
 
-span-frame-requires : tie.Need-span-frame-requires
-span-frame-requires c κs = search needs
-
-ranked-requires : tie.Need-ranked-requires
-ranked-requires c κs = search needs
-
 returns : tie.Need-returns
 returns c =
     frame-still (c .before .before .span-frame .ensures)
     (c .before .ranked .ensures .isnt (not-true _ (c .if1 .taken)))
 
-slice-aggregate-list-from-one : tie.Need-slice-aggregate-list-from-one
-slice-aggregate-list-from-one c = search needs
-
 list-from-one-requires : tie.Need-list-from-one-requires
 list-from-one-requires c κs =
     let e = c .before .before .before .span-frame .ensures in
     (search needs, ap (λ (f : Frame). f .start) e ∙ sym (ap (λ (f : Frame). f .begin) e))
-
-slice-aggregate-mark-over : tie.Need-slice-aggregate-mark-over
-slice-aggregate-mark-over c = search needs
 
 mark-over-requires : tie.Need-mark-over-requires
 mark-over-requires c κs =
@@ -40,9 +28,6 @@ mark-over-requires c κs =
       ((omega (arith, l .1, l .0 .size), listed (l .0)), z .pre .1),
     )
 
-same-length : tie.Need-same-length
-same-length c = search needs
-
 returns-2 : tie.Need-returns-2
 returns-2 c =
     let b = c .before .before .before .before .before .before in
@@ -52,15 +37,6 @@ returns-2 c =
     (c .before .before .mark-over .ensures)
 
 pub mark-by-spec : {M : Type 1} → statement M
-mark-by-spec =
-    tie.close
-    (tie.spec
-    span-frame-requires
-    ranked-requires
-    returns
-    slice-aggregate-list-from-one
-    list-from-one-requires
-    slice-aggregate-mark-over
-    mark-over-requires
-    same-length
-    returns-2)
+mark-by-spec = tie.close (tie.spec (λ c κs. search needs) (λ c κs. search needs) returns
+    (λ c. search needs) list-from-one-requires (λ c. search needs) mark-over-requires
+    (λ c. search needs) returns-2)

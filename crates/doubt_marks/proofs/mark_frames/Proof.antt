@@ -49,15 +49,5 @@ returns c =
     rw e at (c .before .loop .inv .1)
 
 pub mark-frames-spec : {M : Type 1} → statement M
-mark-frames-spec =
-    tie.close
-    (tie.spec
-    Inv-loop
-    μ-loop
-    loop-holds
-    mark-by-requires
-    add-k
-    loop-less
-    loop-again
-    same-length
-    returns)
+mark-frames-spec = tie.close (tie.spec Inv-loop μ-loop loop-holds mark-by-requires add-k loop-less
+    loop-again same-length returns)

@@ -48,15 +48,5 @@ returns c =
     rw e at (c .before .loop .inv .1)
 
 pub mark-over-spec : {M : Type 1} → statement M
-mark-over-spec =
-    tie.close
-    (tie.spec
-    Inv-loop
-    μ-loop
-    loop-holds
-    mark-row-requires
-    add-i
-    loop-less
-    loop-again
-    same-length
-    returns)
+mark-over-spec = tie.close (tie.spec Inv-loop μ-loop loop-holds mark-row-requires add-i loop-less
+    loop-again same-length returns)

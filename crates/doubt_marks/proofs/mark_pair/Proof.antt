@@ -13,15 +13,6 @@ returns-2 : tie.Need-returns-2
 returns-2 c = grows-still
     (λ a b d. d .differ (c .before .before .if2 .taken) (omega (arith, c .if3 .taken)))
 
-may-requires : tie.Need-may-requires
-may-requires c κs = search needs
-
-set-bit-requires : tie.Need-set-bit-requires
-set-bit-requires c κs = search needs
-
-same-length : tie.Need-same-length
-same-length c = search needs
-
 returns-3 : tie.Need-returns-3
 returns-3 c =
     grows-map (c .before .before .set-bit .ensures)
@@ -45,6 +36,5 @@ returns-4 : tie.Need-returns-4
 returns-4 c = grows-still (λ a b d. c .before .may .ensures .isnt (c .if4 .left) (d .may))
 
 pub mark-pair-spec : {M : Type 1} → statement M
-mark-pair-spec =
-    tie.close
-    (tie.spec returns returns-2 may-requires set-bit-requires same-length returns-3 returns-4)
+mark-pair-spec = tie.close (tie.spec returns returns-2 (λ c κs. search needs) (λ c κs. search needs)
+    (λ c. search needs) returns-3 returns-4)

@@ -18,16 +18,10 @@ Inv-loop nodes table seen f i list end marks₀ j₀ marks j =
 abbrev μ-loop : tie.MeasureT-loop
 μ-loop nodes table seen f i list end marks₀ j₀ marks j = 384 - j
 
-present-requires : tie.Need-present-requires Inv-loop μ-loop
-present-requires c κs = search needs
-
 returns : tie.Need-returns Inv-loop μ-loop
 returns c =
     grows-still (λ p q d. c .before .present .ensures .isnt (not-true _ (c .if1 .taken))
     (d .holds .is .may .there₁))
-
-node-at-requires : tie.Need-node-at-requires Inv-loop μ-loop
-node-at-requires c κs = search needs
 
 has-requires : tie.Need-has-requires Inv-loop μ-loop
 has-requires c κs = c .node-at .ensures .1 .sort
@@ -83,20 +77,6 @@ returns-3 c =
     (λ p q d. d .holds)
 
 pub mark-row-spec : {M : Type 1} → statement M
-mark-row-spec =
-    tie.close
-    (tie.spec
-    Inv-loop
-    μ-loop
-    present-requires
-    returns
-    node-at-requires
-    has-requires
-    returns-2
-    loop-holds
-    mark-pair-requires
-    add-j
-    loop-less
-    loop-again
-    same-length
-    returns-3)
+mark-row-spec = tie.close (tie.spec Inv-loop μ-loop (λ c κs. search needs) returns
+    (λ c κs. search needs) has-requires returns-2 loop-holds mark-pair-requires add-j loop-less
+    loop-again same-length returns-3)

@@ -6,32 +6,17 @@ use borrow.Author.Needs.{needs}
 use Rattle.doubt_marks.proofs.may.Statement.{statement}
 use Rattle.doubt_marks.proofs.may.Tie as tie
 
-present-requires : tie.Need-present-requires
-present-requires c κs = search needs
-
 returns : tie.Need-returns
 returns c = fails (λ m. c .before .present .ensures .isnt (not-true _ (c .if1 .taken)) (m .there₁))
-
-present-requires-2 : tie.Need-present-requires-2
-present-requires-2 c κs = search needs
 
 returns-2 : tie.Need-returns-2
 returns-2 c = fails (λ m. c .before .present2 .ensures .isnt (not-true _ (c .if2 .taken))
     (m .there₂))
 
-node-at-requires : tie.Need-node-at-requires
-node-at-requires c κs = search needs
-
-node-at-requires-2 : tie.Need-node-at-requires-2
-node-at-requires-2 c κs = search needs
-
 returns-3 : tie.Need-returns-3
 returns-3 c =
     fails (other-sort (c .before .before .before .before .node-at .ensures .0)
     (c .before .before .before .node-at2 .ensures .0) (c .if3 .taken))
-
-suits-requires : tie.Need-suits-requires
-suits-requires c κs = search needs
 
 returns-4 : tie.Need-returns-4
 returns-4 c =
@@ -68,17 +53,6 @@ returns-5 c =
     (c .stands .ensures)
 
 pub may-spec : {M : Type 1} → statement M
-may-spec =
-    tie.close
-    (tie.spec
-    present-requires
-    returns
-    present-requires-2
-    returns-2
-    node-at-requires
-    node-at-requires-2
-    returns-3
-    suits-requires
-    returns-4
-    stands-requires
-    returns-5)
+may-spec = tie.close (tie.spec (λ c κs. search needs) returns (λ c κs. search needs) returns-2
+    (λ c κs. search needs) (λ c κs. search needs) returns-3 (λ c κs. search needs) returns-4
+    stands-requires returns-5)

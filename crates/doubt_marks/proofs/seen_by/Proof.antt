@@ -35,5 +35,5 @@ loop-again c =
     (s .keeps 0 (i .0), s .sound (i .1))
 
 pub seen-by-spec : {M : Type 1} → statement M
-seen-by-spec =
-    tie.close (tie.spec Inv-loop μ-loop loop-holds seen-pass-requires returns loop-less loop-again)
+seen-by-spec = tie.close (tie.spec Inv-loop μ-loop loop-holds seen-pass-requires returns loop-less
+    loop-again)

@@ -40,6 +40,5 @@ returns c =
     rw e at (c .before .loop .inv .1)
 
 pub seen-pass-spec : {M : Type 1} → statement M
-seen-pass-spec =
-    tie.close
-    (tie.spec Inv-loop μ-loop loop-holds with-children-requires add-i loop-less loop-again returns)
+seen-pass-spec = tie.close (tie.spec Inv-loop μ-loop loop-holds with-children-requires add-i
+    loop-less loop-again returns)

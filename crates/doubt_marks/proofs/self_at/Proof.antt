@@ -4,15 +4,6 @@ use borrow.Author.Needs.{needs}
 use Rattle.doubt_marks.proofs.self_at.Statement.{statement}
 use Rattle.doubt_marks.proofs.self_at.Tie as tie
 
-may-requires : tie.Need-may-requires
-may-requires c κs = search needs
-
-set-bit-requires : tie.Need-set-bit-requires
-set-bit-requires c κs = search needs
-
-same-length : tie.Need-same-length
-same-length c = search needs
-
 returns : tie.Need-returns
 returns c =
     grows-map (c .before .before .set-bit .ensures)
@@ -29,4 +20,5 @@ returns-2 : tie.Need-returns-2
 returns-2 c = grows-still (λ p q d. c .before .may .ensures .isnt (c .if1 .left) (d .may))
 
 pub self-at-spec : {M : Type 1} → statement M
-self-at-spec = tie.close (tie.spec may-requires set-bit-requires same-length returns returns-2)
+self-at-spec = tie.close (tie.spec (λ c κs. search needs) (λ c κs. search needs) (λ c. search needs)
+    returns returns-2)

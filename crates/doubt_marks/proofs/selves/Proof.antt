@@ -49,15 +49,5 @@ returns c =
     rw e at (c .before .loop .inv .1)
 
 pub selves-spec : {M : Type 1} → statement M
-selves-spec =
-    tie.close
-    (tie.spec
-    Inv-loop
-    μ-loop
-    loop-holds
-    selves-by-requires
-    add-k
-    loop-less
-    loop-again
-    same-length
-    returns)
+selves-spec = tie.close (tie.spec Inv-loop μ-loop loop-holds selves-by-requires add-k loop-less
+    loop-again same-length returns)

@@ -9,27 +9,15 @@ use borrow.Author.Needs.{needs}
 use Rattle.doubt_marks.proofs.selves_by.Statement.{statement}
 use Rattle.doubt_marks.proofs.selves_by.Tie as tie
 
-span-frame-requires : tie.Need-span-frame-requires
-span-frame-requires c κs = search needs
-
-ranked-requires : tie.Need-ranked-requires
-ranked-requires c κs = search needs
-
 returns : tie.Need-returns
 returns c =
     frame-still (c .before .before .span-frame .ensures)
     (c .before .ranked .ensures .isnt (not-true _ (c .if1 .taken)))
 
-slice-aggregate-list-from-one : tie.Need-slice-aggregate-list-from-one
-slice-aggregate-list-from-one c = search needs
-
 list-from-one-requires : tie.Need-list-from-one-requires
 list-from-one-requires c κs =
     let e = c .before .before .before .span-frame .ensures in
     (search needs, ap (λ (f : Frame). f .start) e ∙ sym (ap (λ (f : Frame). f .begin) e))
-
-slice-aggregate-selves-over : tie.Need-slice-aggregate-selves-over
-slice-aggregate-selves-over c = search needs
 
 selves-over-requires : tie.Need-selves-over-requires
 selves-over-requires c κs =
@@ -40,9 +28,6 @@ selves-over-requires c κs =
       ((omega (arith, l .1, l .0 .size), listed (l .0)), z .pre .1),
     )
 
-same-length : tie.Need-same-length
-same-length c = search needs
-
 returns-2 : tie.Need-returns-2
 returns-2 c =
     let b = c .before .before .before .before .before .before in
@@ -52,15 +37,6 @@ returns-2 c =
     (c .before .before .selves-over .ensures)
 
 pub selves-by-spec : {M : Type 1} → statement M
-selves-by-spec =
-    tie.close
-    (tie.spec
-    span-frame-requires
-    ranked-requires
-    returns
-    slice-aggregate-list-from-one
-    list-from-one-requires
-    slice-aggregate-selves-over
-    selves-over-requires
-    same-length
-    returns-2)
+selves-by-spec = tie.close (tie.spec (λ c κs. search needs) (λ c κs. search needs) returns
+    (λ c. search needs) list-from-one-requires (λ c. search needs) selves-over-requires
+    (λ c. search needs) returns-2)

@@ -48,15 +48,5 @@ returns c =
     rw e at (c .before .loop .inv .1)
 
 pub selves-over-spec : {M : Type 1} → statement M
-selves-over-spec =
-    tie.close
-    (tie.spec
-    Inv-loop
-    μ-loop
-    loop-holds
-    self-at-requires
-    add-i
-    loop-less
-    loop-again
-    same-length
-    returns)
+selves-over-spec = tie.close (tie.spec Inv-loop μ-loop loop-holds self-at-requires add-i loop-less
+    loop-again same-length returns)

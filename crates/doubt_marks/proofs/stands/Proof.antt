@@ -5,22 +5,10 @@ use borrow.Author.Needs.{needs}
 use Rattle.doubt_marks.proofs.stands.Statement.{statement}
 use Rattle.doubt_marks.proofs.stands.Tie as tie
 
-words-of-requires : tie.Need-words-of-requires
-words-of-requires c κs = search needs
-
-offsets-found-requires : tie.Need-offsets-found-requires
-offsets-found-requires c κs = search needs
-
 returns : tie.Need-returns
 returns c =
     fails (no-offset (c .before .before .before .before .before .pre .1 .1)
     (c .before .before .words-of .ensures) (c .before .offsets-found .ensures) (c .if1 .taken))
-
-nexts-of-requires : tie.Need-nexts-of-requires
-nexts-of-requires c κs = search needs
-
-tokens-found-requires : tie.Need-tokens-found-requires
-tokens-found-requires c κs = search needs
 
 returns-2 : tie.Need-returns-2
 returns-2 c =
@@ -40,13 +28,5 @@ returns-3 c =
     (c .before .before .before .if1 .left) (c .if2 .left))
 
 pub stands-spec : {M : Type 1} → statement M
-stands-spec =
-    tie.close
-    (tie.spec
-    words-of-requires
-    offsets-found-requires
-    returns
-    nexts-of-requires
-    tokens-found-requires
-    returns-2
-    returns-3)
+stands-spec = tie.close (tie.spec (λ c κs. search needs) (λ c κs. search needs) returns
+    (λ c κs. search needs) (λ c κs. search needs) returns-2 returns-3)

@@ -6,19 +6,11 @@ use borrow.Author.Needs.{needs}
 use Rattle.doubt_marks.proofs.weigh_alone.Statement.{statement}
 use Rattle.doubt_marks.proofs.weigh_alone.Tie as tie
 
-slice-aggregate-weigh : tie.Need-slice-aggregate-weigh
-slice-aggregate-weigh c = search needs
-
 weigh-requires : tie.Need-weigh-requires
 weigh-requires c κs =
     let s = c .before .before .before .pre in
     (s .0, omega (arith, length-replicate {A = ℕ} 73728 0), s .1)
 
-same-length : tie.Need-same-length
-same-length c = search needs
-
-returns : tie.Need-returns
-returns c = search needs
-
 pub weigh-alone-spec : {M : Type 1} → statement M
-weigh-alone-spec = tie.close (tie.spec slice-aggregate-weigh weigh-requires same-length returns)
+weigh-alone-spec = tie.close (tie.spec (λ c. search needs) weigh-requires (λ c. search needs)
+    (λ c. search needs))

@@ -7,38 +7,17 @@ use borrow.Author.Needs.{needs}
 use Rattle.doubt_marks.proofs.with_children.Statement.{statement}
 use Rattle.doubt_marks.proofs.with_children.Tie as tie
 
-present-requires : tie.Need-present-requires
-present-requires c κs = search needs
-
 returns : tie.Need-returns
 returns c =
     let z = c .before .before .before .before in
     not-there (z .args .nodes .now) (z .args .own .now) (z .args .seen) (z .args .i)
     (c .before .present .ensures .isnt (not-true _ (c .if1 .taken)))
 
-mul-has : tie.Need-mul-has
-mul-has c = search needs
-
-mul-has-2 : tie.Need-mul-has-2
-mul-has-2 c = search needs
-
-shared-slice-read-has : tie.Need-shared-slice-read-has
-shared-slice-read-has c = search needs
-
-has-requires : tie.Need-has-requires
-has-requires c κs = search needs
-
 returns-2 : tie.Need-returns-2
 returns-2 c =
     let z = c .before .before .before .before .before .before .before in
     not-self (z .args .nodes .now) (z .args .own .now) (z .args .seen) (z .args .i)
     (c .before .has .ensures .isnt (not-true _ (c .if2 .taken)))
-
-node-at-requires : tie.Need-node-at-requires
-node-at-requires c κs = search needs
-
-has-requires-2 : tie.Need-has-requires-2
-has-requires-2 c κs = search needs
 
 returns-3 : tie.Need-returns-3
 returns-3 c =
@@ -54,9 +33,6 @@ returns-4 c =
     no-child (z .args .nodes .now) (z .args .own .now) (z .args .seen) (z .args .i)
     (c .before .before .before .before .node-at .ensures .0) (c .if4 .taken)
 
-with-requires : tie.Need-with-requires
-with-requires c κs = search needs
-
 returns-5 : tie.Need-returns-5
 returns-5 c =
     let b = c .before .before .before .before .before .before in
@@ -70,9 +46,6 @@ returns-5 c =
     (not-false _ (b .before .before .if2 .left)))
     (b .has2 .ensures .is
     (not-false _ (c .before .before .before .before .before .if3 .left))) (c .if5 .taken))
-
-with-requires-2 : tie.Need-with-requires-2
-with-requires-2 c κs = search needs
 
 returns-6 : tie.Need-returns-6
 returns-6 c =
@@ -90,21 +63,7 @@ returns-6 c =
     (omega (arith, c .before .before .before .before .if4 .left, c .before .if5 .left)))
 
 pub with-children-spec : {M : Type 1} → statement M
-with-children-spec =
-    tie.close
-    (tie.spec
-    present-requires
-    returns
-    mul-has
-    mul-has-2
-    shared-slice-read-has
-    has-requires
-    returns-2
-    node-at-requires
-    has-requires-2
-    returns-3
-    returns-4
-    with-requires
-    returns-5
-    with-requires-2
-    returns-6)
+with-children-spec = tie.close (tie.spec (λ c κs. search needs) returns (λ c. search needs)
+    (λ c. search needs) (λ c. search needs) (λ c κs. search needs) returns-2 (λ c κs. search needs)
+    (λ c κs. search needs) returns-3 returns-4 (λ c κs. search needs) returns-5
+    (λ c κs. search needs) returns-6)

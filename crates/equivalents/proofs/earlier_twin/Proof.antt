@@ -6,24 +6,12 @@ use Rattle.equivalents.proofs.Passing.{earlier-twin-step, earlier-twin-
 use Rattle.equivalents.proofs.earlier_twin.Statement.{statement}
 use Rattle.equivalents.proofs.earlier_twin.Tie as tie
 
-sub-cell : tie.Need-sub-cell
-sub-cell c = search needs
-
-cell-requires : tie.Need-cell-requires
-cell-requires c κs = search needs
-
 returns : tie.Need-returns
 returns c =
     let a = c .before .before .before in
     λ e. earlier-twin-step (a .args .n) (a .args .b) (a .args .h) (a .args .c) _ (a .pre .0)
     (a .pre .1)
     (c .before .before .cell .ensures) (c .if1 .taken)
-
-sub-result : tie.Need-sub-result
-sub-result c = search needs
-
-lacks-requires : tie.Need-lacks-requires
-lacks-requires c κs = search needs
 
 returns-2 : tie.Need-returns-2
 returns-2 c =
@@ -33,5 +21,5 @@ returns-2 c =
     (c .lacks .ensures) (omega (arith, ltb-true))
 
 pub earlier-twin-spec : {M : Type 1} → statement M
-earlier-twin-spec =
-    tie.close (tie.spec sub-cell cell-requires returns sub-result lacks-requires returns-2)
+earlier-twin-spec = tie.close (tie.spec (λ c. search needs) (λ c κs. search needs) returns
+    (λ c. search needs) (λ c κs. search needs) returns-2)

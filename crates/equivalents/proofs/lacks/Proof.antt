@@ -18,23 +18,8 @@ Inv-loop c n b h w₀ v₀ j₀ w v j = (j ≤ n)
 abbrev μ-loop : tie.MeasureT-loop
 μ-loop c n b h w₀ v₀ j₀ w v j = j
 
-cast-j : tie.Need-cast-j Inv-loop μ-loop
-cast-j c = search needs
-
 loop-holds : tie.Need-loop-holds Inv-loop μ-loop
 loop-holds c = (omega arith, omega arith)
-
-uses-requires : tie.Need-uses-requires Inv-loop μ-loop
-uses-requires c κs = search needs
-
-uses-requires-2 : tie.Need-uses-requires-2 Inv-loop μ-loop
-uses-requires-2 c κs = search needs
-
-sub-j : tie.Need-sub-j Inv-loop μ-loop
-sub-j c = search needs
-
-loop-less : tie.Need-loop-less Inv-loop μ-loop
-loop-less c = search needs
 
 loop-again : tie.Need-loop-again Inv-loop μ-loop
 loop-again c =
@@ -61,12 +46,6 @@ add-v c =
       a .pre .2,
     )
 
-sub-j-2 : tie.Need-sub-j-2 Inv-loop μ-loop
-sub-j-2 c = search needs
-
-loop-less-2 : tie.Need-loop-less-2 Inv-loop μ-loop
-loop-less-2 c = search needs
-
 loop-again-2 : tie.Need-loop-again-2 Inv-loop μ-loop
 loop-again-2 c =
     let l = c .before .before .before .before in
@@ -75,12 +54,6 @@ loop-again-2 c =
     (l .loop .j) (l .loop .w) (c .before .before .before .loop-test .taken)
     (sym (c .before .before .uses .ensures) ∙ c .before .if1 .left) (c .if2 .taken) in
     (omega (arith, l .loop .inv .0), omega (arith, l .loop .inv .1, e))
-
-sub-j-3 : tie.Need-sub-j-3 Inv-loop μ-loop
-sub-j-3 c = search needs
-
-loop-less-3 : tie.Need-loop-less-3 Inv-loop μ-loop
-loop-less-3 c = search needs
 
 loop-again-3 : tie.Need-loop-again-3 Inv-loop μ-loop
 loop-again-3 c =
@@ -104,23 +77,7 @@ returns c =
     )
 
 pub lacks-spec : {M : Type 1} → statement M
-lacks-spec =
-    tie.close
-    (tie.spec
-    Inv-loop
-    μ-loop
-    cast-j
-    loop-holds
-    uses-requires
-    uses-requires-2
-    sub-j
-    loop-less
-    loop-again
-    add-v
-    sub-j-2
-    loop-less-2
-    loop-again-2
-    sub-j-3
-    loop-less-3
-    loop-again-3
-    returns)
+lacks-spec = tie.close (tie.spec Inv-loop μ-loop (λ c. search needs) loop-holds
+    (λ c κs. search needs) (λ c κs. search needs) (λ c. search needs) (λ c. search needs) loop-again
+    add-v (λ c. search needs) (λ c. search needs) loop-again-2 (λ c. search needs)
+    (λ c. search needs) loop-again-3 returns)

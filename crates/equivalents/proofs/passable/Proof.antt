@@ -45,13 +45,5 @@ returns-3 : tie.Need-returns-3
 returns-3 c = λ e. pass-earlier-twin (c .earlier-twin .ensures e)
 
 pub passable-spec : {M : Type 1} → statement M
-passable-spec =
-    tie.close
-    (tie.spec
-    returns
-    sub-cell
-    cell-requires
-    has-requires
-    returns-2
-    earlier-twin-requires
-    returns-3)
+passable-spec = tie.close (tie.spec returns sub-cell cell-requires has-requires returns-2
+    earlier-twin-requires returns-3)

@@ -6,31 +6,13 @@ use borrow.Author.Needs.{needs}
 use Rattle.fields.proofs.kind_word.Statement.{statement}
 use Rattle.fields.proofs.kind_word.Tie as tie
 
-slice-aggregate-same : tie.Need-slice-aggregate-same
-slice-aggregate-same c = search needs
-
-same-requires : tie.Need-same-requires
-same-requires c κs = search needs
-
 returns : tie.Need-returns
 returns c = sym (ap asKind (hit (sym (c .before .same .ensures) ∙ c .if1 .taken) _ _))
-
-slice-aggregate-same-2 : tie.Need-slice-aggregate-same-2
-slice-aggregate-same-2 c = search needs
-
-same-requires-2 : tie.Need-same-requires-2
-same-requires-2 c κs = search needs
 
 returns-2 : tie.Need-returns-2
 returns-2 c = sym (ap asKind (skip
     (sym (c .before .before .before .before .same .ensures) ∙ c .before .before .before .if1 .left)
     _ _ _ (hit (sym (c .before .same2 .ensures) ∙ c .if2 .taken) _ _)))
-
-slice-aggregate-same-3 : tie.Need-slice-aggregate-same-3
-slice-aggregate-same-3 c = search needs
-
-same-requires-3 : tie.Need-same-requires-3
-same-requires-3 c κs = search needs
 
 returns-3 : tie.Need-returns-3
 returns-3 c = sym (ap asKind (skip
@@ -39,12 +21,6 @@ returns-3 c = sym (ap asKind (skip
     (skip (sym (c .before .before .before .before .same2 .ensures)
     ∙ c .before .before .before .if2 .left) _ _ _
     (hit (sym (c .before .same3 .ensures) ∙ c .if3 .taken) _ _))))
-
-slice-aggregate-same-4 : tie.Need-slice-aggregate-same-4
-slice-aggregate-same-4 c = search needs
-
-same-requires-4 : tie.Need-same-requires-4
-same-requires-4 c κs = search needs
 
 returns-4 : tie.Need-returns-4
 returns-4 c = sym (ap asKind (skip
@@ -67,19 +43,6 @@ returns-5 c = sym (ap asKind (skip
     (skip (sym (c .before .same4 .ensures) ∙ c .if4 .left) _ _ _ refl)))))
 
 pub kind-word-spec : {M : Type 1} → statement M
-kind-word-spec =
-    tie.close
-    (tie.spec
-    slice-aggregate-same
-    same-requires
-    returns
-    slice-aggregate-same-2
-    same-requires-2
-    returns-2
-    slice-aggregate-same-3
-    same-requires-3
-    returns-3
-    slice-aggregate-same-4
-    same-requires-4
-    returns-4
-    returns-5)
+kind-word-spec = tie.close (tie.spec (λ c. search needs) (λ c κs. search needs) returns
+    (λ c. search needs) (λ c κs. search needs) returns-2 (λ c. search needs) (λ c κs. search needs)
+    returns-3 (λ c. search needs) (λ c κs. search needs) returns-4 returns-5)

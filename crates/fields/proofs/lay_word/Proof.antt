@@ -6,31 +6,13 @@ use borrow.Author.Needs.{needs}
 use Rattle.fields.proofs.lay_word.Statement.{statement}
 use Rattle.fields.proofs.lay_word.Tie as tie
 
-slice-aggregate-same : tie.Need-slice-aggregate-same
-slice-aggregate-same c = search needs
-
-same-requires : tie.Need-same-requires
-same-requires c κs = search needs
-
 returns : tie.Need-returns
 returns c = sym (ap asLay (hit (sym (c .before .same .ensures) ∙ c .if1 .taken) _ _))
-
-slice-aggregate-same-2 : tie.Need-slice-aggregate-same-2
-slice-aggregate-same-2 c = search needs
-
-same-requires-2 : tie.Need-same-requires-2
-same-requires-2 c κs = search needs
 
 returns-2 : tie.Need-returns-2
 returns-2 c = sym (ap asLay (skip
     (sym (c .before .before .before .before .same .ensures) ∙ c .before .before .before .if1 .left)
     _ _ _ (hit (sym (c .before .same2 .ensures) ∙ c .if2 .taken) _ _)))
-
-slice-aggregate-same-3 : tie.Need-slice-aggregate-same-3
-slice-aggregate-same-3 c = search needs
-
-same-requires-3 : tie.Need-same-requires-3
-same-requires-3 c κs = search needs
 
 returns-3 : tie.Need-returns-3
 returns-3 c = sym (ap asLay (skip
@@ -39,12 +21,6 @@ returns-3 c = sym (ap asLay (skip
     (skip (sym (c .before .before .before .before .same2 .ensures)
     ∙ c .before .before .before .if2 .left) _ _ _
     (hit (sym (c .before .same3 .ensures) ∙ c .if3 .taken) _ _))))
-
-slice-aggregate-same-4 : tie.Need-slice-aggregate-same-4
-slice-aggregate-same-4 c = search needs
-
-same-requires-4 : tie.Need-same-requires-4
-same-requires-4 c κs = search needs
 
 returns-4 : tie.Need-returns-4
 returns-4 c = sym (ap asLay (skip
@@ -55,12 +31,6 @@ returns-4 c = sym (ap asLay (skip
     _ (skip (sym (c .before .before .before .before .same3 .ensures)
     ∙ c .before .before .before .if3 .left) _ _ _
     (hit (sym (c .before .same4 .ensures) ∙ c .if4 .taken) _ _)))))
-
-slice-aggregate-same-5 : tie.Need-slice-aggregate-same-5
-slice-aggregate-same-5 c = search needs
-
-same-requires-5 : tie.Need-same-requires-5
-same-requires-5 c κs = search needs
 
 returns-5 : tie.Need-returns-5
 returns-5 c = sym (ap asLay (skip
@@ -76,12 +46,6 @@ returns-5 c = sym (ap asLay (skip
     .same4 .ensures) ∙ c .before .before .before .if4 .left) _ _
     _ (hit (sym (c .before .same5 .ensures) ∙ c .if5 .taken)
     _ _))))))
-
-slice-aggregate-same-6 : tie.Need-slice-aggregate-same-6
-slice-aggregate-same-6 c = search needs
-
-same-requires-6 : tie.Need-same-requires-6
-same-requires-6 c κs = search needs
 
 returns-6 : tie.Need-returns-6
 returns-6 c = sym (ap asLay (skip
@@ -136,25 +100,7 @@ returns-7 c = sym (ap asLay (skip
     (c .before .same6 .ensures) ∙ c .if6 .left) _ _ _ refl)))))))
 
 pub lay-word-spec : {M : Type 1} → statement M
-lay-word-spec =
-    tie.close
-    (tie.spec
-    slice-aggregate-same
-    same-requires
-    returns
-    slice-aggregate-same-2
-    same-requires-2
-    returns-2
-    slice-aggregate-same-3
-    same-requires-3
-    returns-3
-    slice-aggregate-same-4
-    same-requires-4
-    returns-4
-    slice-aggregate-same-5
-    same-requires-5
-    returns-5
-    slice-aggregate-same-6
-    same-requires-6
-    returns-6
-    returns-7)
+lay-word-spec = tie.close (tie.spec (λ c. search needs) (λ c κs. search needs) returns
+    (λ c. search needs) (λ c κs. search needs) returns-2 (λ c. search needs) (λ c κs. search needs)
+    returns-3 (λ c. search needs) (λ c κs. search needs) returns-4 (λ c. search needs)
+    (λ c κs. search needs) returns-5 (λ c. search needs) (λ c κs. search needs) returns-6 returns-7)

@@ -16,18 +16,9 @@ returns-2 c = simp (
       (length (c .before .before .before .args .f .now)) (omega arith),
 )
 
-digits-requires : tie.Need-digits-requires
-digits-requires c κs = search needs
-
 returns-3 : tie.Need-returns-3
 returns-3 c = let n = length (c .before .before .before .before .args .f .now) in
     simp (le-leb 1 n (omega arith), le-leb n 5 (omega arith)) (c .digits .ensures)
 
 pub numeral-spec : {M : Type 1} → statement M
-numeral-spec =
-    tie.close
-    (tie.spec
-    returns
-    returns-2
-    digits-requires
-    returns-3)
+numeral-spec = tie.close (tie.spec returns returns-2 (λ c κs. search needs) returns-3)

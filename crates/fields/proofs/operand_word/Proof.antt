@@ -23,23 +23,8 @@ number-operand : (o : Option ℕ) → asOperand (numberOperand o) ≡ asWord (as
 number-operand (some v) = refl
 number-operand none = refl
 
-slice-aggregate-same : tie.Need-slice-aggregate-same
-slice-aggregate-same c = search needs
-
-same-requires : tie.Need-same-requires
-same-requires c κs = search needs
-
 returns : tie.Need-returns
 returns c = sym (ap asOperand (hit (sym (c .before .same .ensures) ∙ c .if1 .taken) _ _))
-
-numeral-requires : tie.Need-numeral-requires
-numeral-requires c κs = search needs
-
-enum-known-v : tie.Need-enum-known-v
-enum-known-v c = search needs
-
-enum-told : tie.Need-enum-told
-enum-told c = search needs
 
 -- the bytes are not `-`
 other : (c : tie.After-numeral)
@@ -57,14 +42,5 @@ returns-3 : tie.Need-returns-3
 returns-3 c = sym (other (c .before .before) ∙ ap asWord (c .enum-told .given .1))
 
 pub operand-word-spec : {M : Type 1} → statement M
-operand-word-spec =
-    tie.close
-    (tie.spec
-    slice-aggregate-same
-    same-requires
-    returns
-    numeral-requires
-    enum-known-v
-    enum-told
-    returns-2
-    returns-3)
+operand-word-spec = tie.close (tie.spec (λ c. search needs) (λ c κs. search needs) returns
+    (λ c κs. search needs) (λ c. search needs) (λ c. search needs) returns-2 returns-3)

@@ -20,9 +20,6 @@ abbrev μ-loop : tie.MeasureT-loop
 loop-holds : tie.Need-loop-holds Inv-loop μ-loop
 loop-holds c = (c .pre, refl)
 
-shared-slice-read-if1 : tie.Need-shared-slice-read-if1 Inv-loop μ-loop
-shared-slice-read-if1 c = search needs
-
 returns : tie.Need-returns Inv-loop μ-loop
 returns c = let a = c .before .before .before .before .args in
     omega (
@@ -30,12 +27,6 @@ returns c = let a = c .before .before .before .before .args in
       ap length (before-here (a .b) (a .s .now) (c .before .before .before .loop .i)
           (c .before .before .loop-test .taken) (c .if1 .taken)),
     )
-
-add-i : tie.Need-add-i Inv-loop μ-loop
-add-i c = search needs
-
-loop-less : tie.Need-loop-less Inv-loop μ-loop
-loop-less c = search needs
 
 loop-again : tie.Need-loop-again Inv-loop μ-loop
 loop-again c = let a = c .before .before .before .before .args in (
@@ -57,15 +48,5 @@ returns-2 c = let a = c .before .before .args in
     )
 
 pub piece-end-spec : {M : Type 1} → statement M
-piece-end-spec =
-    tie.close
-    (tie.spec
-    Inv-loop
-    μ-loop
-    loop-holds
-    shared-slice-read-if1
-    returns
-    add-i
-    loop-less
-    loop-again
-    returns-2)
+piece-end-spec = tie.close (tie.spec Inv-loop μ-loop loop-holds (λ c. search needs) returns
+    (λ c. search needs) (λ c. search needs) loop-again returns-2)

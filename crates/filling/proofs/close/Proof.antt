@@ -84,15 +84,5 @@ returns c =
     )
 
 pub close-spec : {M : Type 1} → statement M
-close-spec =
-    tie.close
-    (tie.spec
-    find-requires
-    pair-at-requires
-    write-requires
-    add-put
-    put-requires
-    same-length
-    same-length-2
-    same-length-3
-    returns)
+close-spec = tie.close (tie.spec find-requires pair-at-requires write-requires add-put put-requires
+    same-length same-length-2 same-length-3 returns)

@@ -10,9 +10,6 @@ use Rattle.chart.proofs.SingleLaws.{empty-found}
 use Rattle.filling.proofs.empty_pair.Statement.{statement}
 use Rattle.filling.proofs.empty_pair.Tie as tie
 
-first-marks-requires : tie.Need-first-marks-requires
-first-marks-requires c κs = search needs
-
 leaves-requires : tie.Need-leaves-requires
 leaves-requires c κs = let z = c .before in formed-ruled (z .pre)
 
@@ -31,5 +28,5 @@ returns c =
     (c .saturated .ensures))
 
 pub empty-pair-spec : {M : Type 1} → statement M
-empty-pair-spec =
-    tie.close (tie.spec first-marks-requires leaves-requires saturated-requires returns)
+empty-pair-spec = tie.close (tie.spec (λ c κs. search needs) leaves-requires saturated-requires
+    returns)

@@ -43,21 +43,6 @@ slice-read-t16 : tie.Need-slice-read-t16
 slice-read-t16 c = let z = c .before .before .before .before in
     omega (arith, z .pre .1 .0, pairAt-below (z .args .d .count) 0 0 (omega arith))
 
-slice-aggregate-chains : tie.Need-slice-aggregate-chains
-slice-aggregate-chains c = search needs
-
-chains-requires : tie.Need-chains-requires
-chains-requires c κs = search needs
-
-binary-rules-requires : tie.Need-binary-rules-requires
-binary-rules-requires c κs = search needs
-
-slice-aggregate-load-from : tie.Need-slice-aggregate-load-from
-slice-aggregate-load-from c = search needs
-
-slice-aggregate-load-from-2 : tie.Need-slice-aggregate-load-from-2
-slice-aggregate-load-from-2 c = search needs
-
 load-from-requires : tie.Need-load-from-requires
 load-from-requires c κs =
     let z = c .before .before .before .before .before .before .before .before .before .before
@@ -74,15 +59,6 @@ load-from-requires c κs =
             (omega (arith, z .pre .0 .0)),
       ),
     )
-
-slice-aggregate-fill-starts : tie.Need-slice-aggregate-fill-starts
-slice-aggregate-fill-starts c = search needs
-
-slice-aggregate-fill-starts-2 : tie.Need-slice-aggregate-fill-starts-2
-slice-aggregate-fill-starts-2 c = search needs
-
-slice-aggregate-fill-starts-3 : tie.Need-slice-aggregate-fill-starts-3
-slice-aggregate-fill-starts-3 c = search needs
 
 fill-starts-requires : tie.Need-fill-starts-requires
 fill-starts-requires c κs =
@@ -118,9 +94,6 @@ fill-starts-requires c κs =
       ),
     )
 
-same-length : tie.Need-same-length
-same-length c = search needs
-
 returns-2 : tie.Need-returns-2
 returns-2 c =
     let z = c .before .before .before .before .before .before .before .before .before .before
@@ -133,21 +106,7 @@ returns-2 c =
     (c .before .before .before .before .fill-starts .ensures)
 
 pub fill-spec : {M : Type 1} → statement M
-fill-spec =
-    tie.close
-    (tie.spec
-    returns
-    slice-read-t14
-    slice-read-t16
-    slice-aggregate-chains
-    chains-requires
-    binary-rules-requires
-    slice-aggregate-load-from
-    slice-aggregate-load-from-2
-    load-from-requires
-    slice-aggregate-fill-starts
-    slice-aggregate-fill-starts-2
-    slice-aggregate-fill-starts-3
-    fill-starts-requires
-    same-length
-    returns-2)
+fill-spec = tie.close (tie.spec returns slice-read-t14 slice-read-t16 (λ c. search needs)
+    (λ c κs. search needs) (λ c κs. search needs) (λ c. search needs) (λ c. search needs)
+    load-from-requires (λ c. search needs) (λ c. search needs) (λ c. search needs)
+    fill-starts-requires (λ c. search needs) returns-2)

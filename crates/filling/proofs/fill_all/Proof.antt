@@ -10,9 +10,6 @@ use Rattle.chart.proofs.SheetLaws.{begun-ready}
 use Rattle.filling.proofs.fill_all.Statement.{statement}
 use Rattle.filling.proofs.fill_all.Tie as tie
 
-fill-leaves-requires : tie.Need-fill-leaves-requires
-fill-leaves-requires c κs = search needs
-
 fill-requires : tie.Need-fill-requires
 fill-requires c κs =
     let z = c .before .before .before .before .before .before in
@@ -20,9 +17,6 @@ fill-requires c κs =
       (z .pre .0 .0, omega (arith, z .pre .0 .1)),
       (omega (arith, z .pre .1 .0, b .past .long), (z .pre .1 .1, begun-ready (z .pre .0 .1) b)),
     )
-
-same-length : tie.Need-same-length
-same-length c = search needs
 
 returns : tie.Need-returns
 returns c =
@@ -36,4 +30,5 @@ returns c =
     )
 
 pub fill-all-spec : {M : Type 1} → statement M
-fill-all-spec = tie.close (tie.spec fill-leaves-requires fill-requires same-length returns)
+fill-all-spec = tie.close (tie.spec (λ c κs. search needs) fill-requires (λ c. search needs)
+    returns)

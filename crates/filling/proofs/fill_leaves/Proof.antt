@@ -47,9 +47,6 @@ leaf-at-requires c κs =
       ),
     )
 
-pair-at-requires : tie.Need-pair-at-requires Inv-loop μ-loop
-pair-at-requires c κs = search needs
-
 write-requires-2 : tie.Need-write-requires-2 Inv-loop μ-loop
 write-requires-2 c κs =
     let i = c .before .before .before .before in
@@ -67,9 +64,6 @@ write-requires-2 c κs =
       z .pre .1 .0,
     )
 
-add-i : tie.Need-add-i Inv-loop μ-loop
-add-i c = search needs
-
 loop-less : tie.Need-loop-less Inv-loop μ-loop
 loop-less c =
     omega (arith, c .before .before .before .before .before .before .before .loop-test .taken)
@@ -85,27 +79,11 @@ loop-again c =
     (l .leaf-at .result .one) (l .leaf-at .result .two)) (p .pair-at .ensures)
     (w .write2 .ensures))
 
-same-length : tie.Need-same-length Inv-loop μ-loop
-same-length c = search needs
-
 returns : tie.Need-returns Inv-loop μ-loop
 returns c = written-all (omega (arith, c .loop-test .left))
     (c .before .before .before .before .write .ensures .kept) (c .before .loop .inv)
 
 pub fill-leaves-spec : {M : Type 1} → statement M
-fill-leaves-spec =
-    tie.close
-    (tie.spec
-    Inv-loop
-    μ-loop
-    empty-pair-requires
-    write-requires
-    loop-holds
-    leaf-at-requires
-    pair-at-requires
-    write-requires-2
-    add-i
-    loop-less
-    loop-again
-    same-length
-    returns)
+fill-leaves-spec = tie.close (tie.spec Inv-loop μ-loop empty-pair-requires write-requires loop-holds
+    leaf-at-requires (λ c κs. search needs) write-requires-2 (λ c. search needs) loop-less
+    loop-again (λ c. search needs) returns)

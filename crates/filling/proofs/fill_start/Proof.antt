@@ -280,33 +280,7 @@ returns c =
     )
 
 pub fill-start-spec : {M : Type 1} → statement M
-fill-start-spec =
-    tie.close
-    (tie.spec
-    Inv-loop
-    μ-loop
-    mul-a
-    element-copy-out-a
-    first-marks-requires
-    begin-requires
-    loop-holds
-    add-loop
-    add-at
-    sub-z
-    mul-z
-    element-copy-out-z
-    mul-t
-    element-copy-out-t
-    with-next-requires
-    add-len
-    add-if1
-    load-requires
-    loop-less
-    loop-again
-    close-requires
-    loop-less-2
-    loop-again-2
-    same-length
-    same-length-2
-    same-length-3
-    returns)
+fill-start-spec = tie.close (tie.spec Inv-loop μ-loop mul-a element-copy-out-a first-marks-requires
+    begin-requires loop-holds add-loop add-at sub-z mul-z element-copy-out-z mul-t
+    element-copy-out-t with-next-requires add-len add-if1 load-requires loop-less loop-again
+    close-requires loop-less-2 loop-again-2 same-length same-length-2 same-length-3 returns)

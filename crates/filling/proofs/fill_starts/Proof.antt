@@ -117,17 +117,5 @@ returns c =
     (l .inv .1)
 
 pub fill-starts-spec : {M : Type 1} → statement M
-fill-starts-spec =
-    tie.close
-    (tie.spec
-    Inv-loop
-    μ-loop
-    loop-holds
-    sub-start
-    fill-start-requires
-    loop-less
-    loop-again
-    same-length
-    same-length-2
-    same-length-3
-    returns)
+fill-starts-spec = tie.close (tie.spec Inv-loop μ-loop loop-holds sub-start fill-start-requires
+    loop-less loop-again same-length same-length-2 same-length-3 returns)

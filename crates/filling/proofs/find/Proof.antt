@@ -46,14 +46,5 @@ returns c =
     (s .splits .ensures) (c .before .level-of .ensures) (c .unite .ensures)
 
 pub find-spec : {M : Type 1} → statement M
-find-spec =
-    tie.close
-    (tie.spec
-    cut-masks-requires
-    add-splits
-    mul-splits
-    splits-requires
-    level-of-requires
-    mul-unite
-    unite-requires
-    returns)
+find-spec = tie.close (tie.spec cut-masks-requires add-splits mul-splits splits-requires
+    level-of-requires mul-unite unite-requires returns)

@@ -13,17 +13,8 @@ Inv-loop i d a j₀ j = j ≤ i
 abbrev μ-loop : tie.MeasureT-loop
 μ-loop i d a j₀ j = i - j
 
-mul-a : tie.Need-mul-a Inv-loop μ-loop
-mul-a c = search needs
-
 element-copy-out-a : tie.Need-element-copy-out-a Inv-loop μ-loop
 element-copy-out-a c = omega (arith, c .pre .0, c .pre .1)
-
-loop-holds : tie.Need-loop-holds Inv-loop μ-loop
-loop-holds c = omega arith
-
-mul-t : tie.Need-mul-t Inv-loop μ-loop
-mul-t c = search needs
 
 element-copy-out-t : tie.Need-element-copy-out-t Inv-loop μ-loop
 element-copy-out-t c = omega (
@@ -46,9 +37,6 @@ returns c =
           ∙ sym (ap (λ (t : Token). t .terminal) (drafted-at d (z .args .i) (z .pre .0))),
     )
 
-add-j : tie.Need-add-j Inv-loop μ-loop
-add-j c = search needs
-
 loop-less : tie.Need-loop-less Inv-loop μ-loop
 loop-less c = omega (arith, c .before .before .before .before .loop-test .taken)
 
@@ -59,18 +47,6 @@ returns-2 : tie.Need-returns-2 Inv-loop μ-loop
 returns-2 c = (omega arith, refl)
 
 pub first-like-spec : {M : Type 1} → statement M
-first-like-spec =
-    tie.close
-    (tie.spec
-    Inv-loop
-    μ-loop
-    mul-a
-    element-copy-out-a
-    loop-holds
-    mul-t
-    element-copy-out-t
-    returns
-    add-j
-    loop-less
-    loop-again
-    returns-2)
+first-like-spec = tie.close (tie.spec Inv-loop μ-loop (λ c. search needs) element-copy-out-a
+    (λ c. omega arith) (λ c. search needs) element-copy-out-t returns (λ c. search needs) loop-less
+    loop-again returns-2)

@@ -22,12 +22,6 @@ fill-all-requires c κs =
     let z = c .before .before .before in
     ((z .pre .0, refl), (z .pre .1 .0, z .pre .1 .1))
 
-in-first-requires : tie.Need-in-first-requires
-in-first-requires c κs = search needs
-
-same-length : tie.Need-same-length
-same-length c = search needs
-
 returns : tie.Need-returns
 returns c =
     let z = c .before .before .before .before .before .before .before .before .before in
@@ -37,12 +31,6 @@ returns c =
     (reads-none e (f .fill-all .ensures .0)
     (c .before .in-first .ensures .isnt (not-true _ (c .if1 .taken)))))
 
-in-second-requires : tie.Need-in-second-requires
-in-second-requires c κs = search needs
-
-same-length-2 : tie.Need-same-length-2
-same-length-2 c = search needs
-
 returns-2 : tie.Need-returns-2
 returns-2 c =
     let z = c .before .before .before .before .before .before .before .before .before .before
@@ -51,9 +39,6 @@ returns-2 c =
     let f = c .before .before .before .before .before .before .before .before in
     (judged e (z .pre .1 .0) (f .fill-all .ensures .0) (f .fill-all .ensures .1)
     (reads-two e (f .fill-all .ensures .0) (c .before .in-second .ensures .is (c .if2 .taken))))
-
-same-length-3 : tie.Need-same-length-3
-same-length-3 c = search needs
 
 returns-3 : tie.Need-returns-3
 returns-3 c =
@@ -68,15 +53,5 @@ returns-3 c =
     (c .before .in-second .ensures .isnt (c .if2 .left))))
 
 pub judge-spec : {M : Type 1} → statement M
-judge-spec =
-    tie.close
-    (tie.spec
-    fill-all-requires
-    in-first-requires
-    same-length
-    returns
-    in-second-requires
-    same-length-2
-    returns-2
-    same-length-3
-    returns-3)
+judge-spec = tie.close (tie.spec fill-all-requires (λ c κs. search needs) (λ c. search needs)
+    returns (λ c κs. search needs) (λ c. search needs) returns-2 (λ c. search needs) returns-3)

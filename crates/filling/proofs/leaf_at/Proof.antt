@@ -67,9 +67,6 @@ returns c =
     (subst (λ (q : ℕ). Leaf g (tokenAt w j .terminal) (getD ws (2 * q) 0) (getD ws (2 * q + 1) 0))
     (sym (p .pair-at .ensures)) (z .pre .1 .1 .1 .1 .leaves j (p .before .if1 .taken)))
 
-mul-t : tie.Need-mul-t
-mul-t c = search needs
-
 element-copy-out-t : tie.Need-element-copy-out-t
 element-copy-out-t c = let z = c .before .before .before in
     omega (arith, z .pre .0 .0, z .pre .0 .1)
@@ -88,19 +85,6 @@ returns-2 c =
     (c .token-pair .ensures)
 
 pub leaf-at-spec : {M : Type 1} → statement M
-leaf-at-spec =
-    tie.close
-    (tie.spec
-    first-like-requires
-    pair-at-requires
-    mul-at
-    mul-t14
-    shared-slice-read-t16
-    add-t17
-    mul-t18
-    shared-slice-read-t20
-    returns
-    mul-t
-    element-copy-out-t
-    token-pair-requires
-    returns-2)
+leaf-at-spec = tie.close (tie.spec first-like-requires pair-at-requires mul-at mul-t14
+    shared-slice-read-t16 add-t17 mul-t18 shared-slice-read-t20 returns (λ c. search needs)
+    element-copy-out-t token-pair-requires returns-2)

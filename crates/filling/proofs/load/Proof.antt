@@ -20,9 +20,6 @@ inside c = let z = c .before .before .before .before in
           (z .args .start) (z .args .len) (z .pre .0 .0 .fits),
     )
 
-pair-at-requires : tie.Need-pair-at-requires
-pair-at-requires c κs = search needs
-
 -- src/lib.rt:94:14
 mul-at : tie.Need-mul-at
 mul-at c = omega (arith, inside c, c .before .before .before .before .good .0 .1)
@@ -84,18 +81,5 @@ returns c =
     (p .put .ensures .0) (p .put .ensures .1) (z .pre .1)
 
 pub load-spec : {M : Type 1} → statement M
-load-spec =
-    tie.close
-    (tie.spec
-    pair-at-requires
-    mul-at
-    mul-t9
-    shared-slice-read-t11
-    add-t12
-    mul-t13
-    shared-slice-read-t15
-    add-put
-    put-requires
-    same-length
-    same-length-2
-    returns)
+load-spec = tie.close (tie.spec (λ c κs. search needs) mul-at mul-t9 shared-slice-read-t11 add-t12
+    mul-t13 shared-slice-read-t15 add-put put-requires same-length same-length-2 returns)

@@ -81,16 +81,5 @@ returns c =
     subst (λ (x : ℕ). Columns (a .words .now) (a .n) x (l .cols)) e (l .inv .3)
 
 pub load-from-spec : {M : Type 1} → statement M
-load-from-spec =
-    tie.close
-    (tie.spec
-    Inv-loop
-    μ-loop
-    loop-holds
-    sub-start
-    load-start-requires
-    loop-less
-    loop-again
-    same-length
-    same-length-2
-    returns)
+load-from-spec = tie.close (tie.spec Inv-loop μ-loop loop-holds sub-start load-start-requires
+    loop-less loop-again same-length same-length-2 returns)

@@ -100,18 +100,5 @@ returns : tie.Need-returns Inv-loop μ-loop
 returns c = ending (omega (arith, c .loop-test .left)) (c .before .loop .inv .2)
 
 pub load-start-spec : {M : Type 1} → statement M
-load-start-spec =
-    tie.close
-    (tie.spec
-    Inv-loop
-    μ-loop
-    begin-requires
-    loop-holds
-    add-loop
-    load-requires
-    add-len
-    loop-less
-    loop-again
-    same-length
-    same-length-2
-    returns)
+load-start-spec = tie.close (tie.spec Inv-loop μ-loop begin-requires loop-holds add-loop
+    load-requires add-len loop-less loop-again same-length same-length-2 returns)

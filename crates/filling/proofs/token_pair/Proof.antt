@@ -48,6 +48,5 @@ returns c =
     (l .leaves .result) (c .saturated .result)) m s)
 
 pub token-pair-spec : {M : Type 1} → statement M
-token-pair-spec =
-    tie.close
-    (tie.spec first-marks-requires leaves-requires link-rules-requires saturated-requires returns)
+token-pair-spec = tie.close (tie.spec first-marks-requires leaves-requires link-rules-requires
+    saturated-requires returns)

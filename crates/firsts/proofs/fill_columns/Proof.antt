@@ -23,9 +23,6 @@ loop-holds c = (omega arith, refl, record { each = λ y l. absurd (omega (arith,
 beginning-requires : tie.Need-beginning-requires Inv-loop μ-loop
 beginning-requires c κs = c .before .before .before .pre .0
 
-cast-out : tie.Need-cast-out Inv-loop μ-loop
-cast-out c = omega arith
-
 mul-out : tie.Need-mul-out Inv-loop μ-loop
 mul-out c = omega (arith, c .before .loop-test .taken)
 
@@ -38,12 +35,6 @@ slice-write-out c =
       c .before .before
           .before .before .pre .1,
     )
-
-add-x : tie.Need-add-x Inv-loop μ-loop
-add-x c = omega arith
-
-loop-less : tie.Need-loop-less Inv-loop μ-loop
-loop-less c = omega arith
 
 loop-again : tie.Need-loop-again Inv-loop μ-loop
 loop-again c =
@@ -69,18 +60,6 @@ returns c =
     rw e at (c .before .loop .inv .2)
 
 pub fill-columns-spec : {M : Type 1} → statement M
-fill-columns-spec =
-    tie.close
-    (tie.spec
-    Inv-loop
-    μ-loop
-    loop-holds
-    beginning-requires
-    cast-out
-    mul-out
-    slice-write-out
-    add-x
-    loop-less
-    loop-again
-    same-length
-    returns)
+fill-columns-spec = tie.close (tie.spec Inv-loop μ-loop loop-holds beginning-requires
+    (λ c. omega arith) mul-out slice-write-out (λ c. omega arith) (λ c. omega arith) loop-again
+    same-length returns)

@@ -21,9 +21,6 @@ loop-holds c = (omega arith, refl, record { each = λ y l. absurd (omega (arith,
 row-requires : tie.Need-row-requires Inv-loop μ-loop
 row-requires c κs = (c .loop-test .taken, c .before .before .before .before .pre .0)
 
-cast-out : tie.Need-cast-out Inv-loop μ-loop
-cast-out c = omega arith
-
 mul-out : tie.Need-mul-out Inv-loop μ-loop
 mul-out c = omega (arith, c .before .loop-test .taken)
 
@@ -36,12 +33,6 @@ slice-write-out c =
       c .before .before
           .before .before .before .pre .1,
     )
-
-add-a : tie.Need-add-a Inv-loop μ-loop
-add-a c = omega arith
-
-loop-less : tie.Need-loop-less Inv-loop μ-loop
-loop-less c = omega arith
 
 loop-again : tie.Need-loop-again Inv-loop μ-loop
 loop-again c =
@@ -67,18 +58,5 @@ returns c =
     rw e at (c .before .loop .inv .2)
 
 pub fill-rows-spec : {M : Type 1} → statement M
-fill-rows-spec =
-    tie.close
-    (tie.spec
-    Inv-loop
-    μ-loop
-    loop-holds
-    row-requires
-    cast-out
-    mul-out
-    slice-write-out
-    add-a
-    loop-less
-    loop-again
-    same-length
-    returns)
+fill-rows-spec = tie.close (tie.spec Inv-loop μ-loop loop-holds row-requires (λ c. omega arith)
+    mul-out slice-write-out (λ c. omega arith) (λ c. omega arith) loop-again same-length returns)

@@ -17,9 +17,6 @@ abbrev μ-loop : tie.MeasureT-loop
 loop-holds : tie.Need-loop-holds Inv-loop μ-loop
 loop-holds c = (omega arith, row-none)
 
-cast-column : tie.Need-cast-column Inv-loop μ-loop
-cast-column c = omega arith
-
 mul-column : tie.Need-mul-column Inv-loop μ-loop
 mul-column c = omega (arith, c .loop-test .taken)
 
@@ -30,27 +27,12 @@ shared-slice-read-column c =
 has-requires : tie.Need-has-requires Inv-loop μ-loop
 has-requires c κs = c .before .before .before .before .pre .0
 
-add-x : tie.Need-add-x Inv-loop μ-loop
-add-x c = omega arith
-
-loop-less : tie.Need-loop-less Inv-loop μ-loop
-loop-less c = omega arith
-
 loop-again : tie.Need-loop-again Inv-loop μ-loop
 loop-again c = (
   omega arith,
   row-skip (c .before .before .before .before .loop .inv .1)
       (c .before .has .ensures .isnt (not-true _ (c .if1 .taken))),
 )
-
-with-requires : tie.Need-with-requires Inv-loop μ-loop
-with-requires c κs = omega arith
-
-add-x-2 : tie.Need-add-x-2 Inv-loop μ-loop
-add-x-2 c = omega arith
-
-loop-less-2 : tie.Need-loop-less-2 Inv-loop μ-loop
-loop-less-2 c = omega arith
 
 loop-again-2 : tie.Need-loop-again-2 Inv-loop μ-loop
 loop-again-2 c = (
@@ -66,21 +48,6 @@ returns c =
     rw e at (c .before .loop .inv .1)
 
 pub row-spec : {M : Type 1} → statement M
-row-spec =
-    tie.close
-    (tie.spec
-    Inv-loop
-    μ-loop
-    loop-holds
-    cast-column
-    mul-column
-    shared-slice-read-column
-    has-requires
-    add-x
-    loop-less
-    loop-again
-    with-requires
-    add-x-2
-    loop-less-2
-    loop-again-2
-    returns)
+row-spec = tie.close (tie.spec Inv-loop μ-loop loop-holds (λ c. omega arith) mul-column
+    shared-slice-read-column has-requires (λ c. omega arith) (λ c. omega arith) loop-again
+    (λ c κs. omega arith) (λ c. omega arith) (λ c. omega arith) loop-again-2 returns)

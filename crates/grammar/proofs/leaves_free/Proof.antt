@@ -4,14 +4,8 @@ use Rattle.sets.proofs.Says.{says-leb}
 use Rattle.grammar.proofs.leaves_free.Statement.{statement}
 use Rattle.grammar.proofs.leaves_free.Tie as tie
 
-past-requires : tie.Need-past-requires
-past-requires c κs = search needs
-
-cast-result : tie.Need-cast-result
-cast-result c = search needs
-
 returns : tie.Need-returns
 returns c = rw (c .before .past .ensures) (says-leb _ _)
 
 pub leaves-free-spec : {M : Type 1} → statement M
-leaves-free-spec = tie.close (tie.spec past-requires cast-result returns)
+leaves-free-spec = tie.close (tie.spec (λ c κs. search needs) (λ c. search needs) returns)

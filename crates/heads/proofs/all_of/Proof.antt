@@ -4,24 +4,12 @@ use borrow.Author.Needs.{needs}
 use Rattle.heads.proofs.all_of.Statement.{statement}
 use Rattle.heads.proofs.all_of.Tie as tie
 
-enum-told : tie.Need-enum-told
-enum-told c = search needs
-
-enum-known-c : tie.Need-enum-known-c
-enum-known-c c = search needs
-
-enum-known-c-2 : tie.Need-enum-known-c-2
-enum-known-c-2 c = search needs
-
 has-requires : tie.Need-has-requires
 has-requires c κs = (rw (c .before .c2 .given .1) at (c .before .before .before .pre))
 
 returns : tie.Need-returns
 returns c =
     rw (c .before .before .before .c2 .given .1) (c .before .has .ensures .is (c .if1 .taken), refl)
-
-enum-known-c-3 : tie.Need-enum-known-c-3
-enum-known-c-3 c = search needs
 
 has-requires-2 : tie.Need-has-requires-2
 has-requires-2 c κs = (rw (c .before .c3 .given .1) at (c .before .before .before .pre)) .0
@@ -64,20 +52,6 @@ returns-7 c =
     (λ f h. c .before .has2 .ensures .isnt (c .if2 .left) (h .0 .0))
 
 pub all-of-spec : {M : Type 1} → statement M
-all-of-spec =
-    tie.close
-    (tie.spec
-    enum-told
-    enum-known-c
-    enum-known-c-2
-    has-requires
-    returns
-    enum-known-c-3
-    has-requires-2
-    has-requires-3
-    returns-2
-    returns-3
-    returns-4
-    returns-5
-    returns-6
-    returns-7)
+all-of-spec = tie.close (tie.spec (λ c. search needs) (λ c. search needs) (λ c. search needs)
+    has-requires returns (λ c. search needs) has-requires-2 has-requires-3 returns-2 returns-3
+    returns-4 returns-5 returns-6 returns-7)

@@ -4,20 +4,11 @@ use borrow.Author.Needs.{needs}
 use Rattle.heads.proofs.form_by.Statement.{statement}
 use Rattle.heads.proofs.form_by.Tie as tie
 
-all-of-requires : tie.Need-all-of-requires
-all-of-requires c κs = search needs
-
 returns : tie.Need-returns
 returns c = rw (c .before .if1 .taken) (c .all-of .ensures)
 
-first-of-requires : tie.Need-first-of-requires
-first-of-requires c κs = search needs
-
 returns-2 : tie.Need-returns-2
 returns-2 c = rw (c .before .if2 .taken) (c .first-of .ensures)
-
-second-of-requires : tie.Need-second-of-requires
-second-of-requires c κs = search needs
 
 returns-3 : tie.Need-returns-3
 returns-3 c =
@@ -26,6 +17,5 @@ returns-3 c =
     (c .before .before .if1 .left) (c .before .if2 .left) (c .second-of .ensures)
 
 pub form-by-spec : {M : Type 1} → statement M
-form-by-spec =
-    tie.close
-    (tie.spec all-of-requires returns first-of-requires returns-2 second-of-requires returns-3)
+form-by-spec = tie.close (tie.spec (λ c κs. search needs) returns (λ c κs. search needs) returns-2
+    (λ c κs. search needs) returns-3)

@@ -25,20 +25,8 @@ rule c =
     (sym (length-map (c .args .t1 .rules) _) ∙ c .good .0 .1 .1 .0 .1 .0 .1)
     (c .pre .0 .0 .few) (c .pre .0 .1)
 
-mul-rule : tie.Need-mul-rule
-mul-rule c = search needs
-
-element-copy-out-rule : tie.Need-element-copy-out-rule
-element-copy-out-rule c = search needs
-
 level-of-requires : tie.Need-level-of-requires
 level-of-requires c κs = let z = c .before in small-at (z .pre .0 .0) _ (rule z) .left
-
-enum-told : tie.Need-enum-told
-enum-told c = search needs
-
-enum-known-level : tie.Need-enum-known-level
-enum-known-level c = search needs
 
 form-by-requires : tie.Need-form-by-requires
 form-by-requires c κs =
@@ -61,14 +49,5 @@ returns-2 c =
     _ (level-weakest (z .pre .1 .2) _ _ i) (c .form-by .result) (c .form-by .ensures)
 
 pub head-of-spec : {M : Type 1} → statement M
-head-of-spec =
-    tie.close
-    (tie.spec
-    mul-rule
-    element-copy-out-rule
-    level-of-requires
-    enum-told
-    enum-known-level
-    form-by-requires
-    returns
-    returns-2)
+head-of-spec = tie.close (tie.spec (λ c. search needs) (λ c. search needs) level-of-requires
+    (λ c. search needs) (λ c. search needs) form-by-requires returns returns-2)

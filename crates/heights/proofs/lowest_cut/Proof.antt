@@ -24,9 +24,6 @@ loop-holds c = (omega arith, inr refl, lowest-none _ 1)
 binary-tall-requires : tie.Need-binary-tall-requires Inv-loop μ-loop
 binary-tall-requires c κs = c .before .before .before .pre
 
-lesser-requires : tie.Need-lesser-requires Inv-loop μ-loop
-lesser-requires c κs = search needs
-
 add-left : tie.Need-add-left Inv-loop μ-loop
 add-left c = omega (
   arith,
@@ -54,15 +51,5 @@ returns c = let i = c .before .loop .inv in
     lowest-end _ _ _ (i .1) (omega (arith, c .loop-test .left)) (i .2)
 
 pub lowest-cut-spec : {M : Type 1} → statement M
-lowest-cut-spec =
-    tie.close
-    (tie.spec
-    Inv-loop
-    μ-loop
-    loop-holds
-    binary-tall-requires
-    lesser-requires
-    add-left
-    loop-less
-    loop-again
-    returns)
+lowest-cut-spec = tie.close (tie.spec Inv-loop μ-loop loop-holds binary-tall-requires
+    (λ c κs. search needs) add-left loop-less loop-again returns)

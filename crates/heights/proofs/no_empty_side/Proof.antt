@@ -7,27 +7,6 @@ use Rattle.heights.proofs.FallLaws.{no-empty-side-by}
 use Rattle.heights.proofs.no_empty_side.Statement.{statement}
 use Rattle.heights.proofs.no_empty_side.Tie as tie
 
-enum-told : tie.Need-enum-told
-enum-told c = search needs
-
-enum-told-2 : tie.Need-enum-told-2
-enum-told-2 c = search needs
-
-enum-told-3 : tie.Need-enum-told-3
-enum-told-3 c = search needs
-
-enum-known-c : tie.Need-enum-known-c
-enum-known-c c = search needs
-
-wide-requires : tie.Need-wide-requires
-wide-requires c κs = search needs
-
-mul-x : tie.Need-mul-x
-mul-x c = search needs
-
-mul-if1 : tie.Need-mul-if1
-mul-if1 c = search needs
-
 shared-slice-read-if1 : tie.Need-shared-slice-read-if1
 shared-slice-read-if1 c = (let s = rw (c .before .before .before .c .given .1) at
     (c .before .before .before .before .before .before .pre .1) in
@@ -41,15 +20,6 @@ shared-slice-read-if1 c = (let s = rw (c .before .before .before .c .given .1) a
 
 returns : tie.Need-returns
 returns c = λ e. absurd (true-not-false (sym e))
-
-wide-requires-2 : tie.Need-wide-requires-2
-wide-requires-2 c κs = search needs
-
-mul-y : tie.Need-mul-y
-mul-y c = search needs
-
-mul-if2 : tie.Need-mul-if2
-mul-if2 c = search needs
 
 shared-slice-read-if2 : tie.Need-shared-slice-read-if2
 shared-slice-read-if2 c = (let s = rw
@@ -89,24 +59,7 @@ returns-6 c = λ e.
     (omega (arith, c .before .before .before .if1 .left)) (omega (arith, c .if2 .left)))
 
 pub no-empty-side-spec : {M : Type 1} → statement M
-no-empty-side-spec =
-    tie.close
-    (tie.spec
-    enum-told
-    enum-told-2
-    enum-told-3
-    enum-known-c
-    wide-requires
-    mul-x
-    mul-if1
-    shared-slice-read-if1
-    returns
-    wide-requires-2
-    mul-y
-    mul-if2
-    shared-slice-read-if2
-    returns-2
-    returns-3
-    returns-4
-    returns-5
-    returns-6)
+no-empty-side-spec = tie.close (tie.spec (λ c. search needs) (λ c. search needs) (λ c. search needs)
+    (λ c. search needs) (λ c κs. search needs) (λ c. search needs) (λ c. search needs)
+    shared-slice-read-if1 returns (λ c κs. search needs) (λ c. search needs) (λ c. search needs)
+    shared-slice-read-if2 returns-2 returns-3 returns-4 returns-5 returns-6)

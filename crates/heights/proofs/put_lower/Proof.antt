@@ -6,21 +6,6 @@ use Rattle.sets.proofs.Basics.{clash}
 use Rattle.heights.proofs.put_lower.Statement.{statement}
 use Rattle.heights.proofs.put_lower.Tie as tie
 
-mul-if1 : tie.Need-mul-if1
-mul-if1 c = search needs
-
-slice-read-if1 : tie.Need-slice-read-if1
-slice-read-if1 c = search needs
-
-mul-hs : tie.Need-mul-hs
-mul-hs c = search needs
-
-slice-write-hs : tie.Need-slice-write-hs
-slice-write-hs c = search needs
-
-same-length : tie.Need-same-length
-same-length c = search needs
-
 returns : tie.Need-returns
 returns c = record {
   lowered = λ e. (
@@ -35,5 +20,5 @@ returns-2 : tie.Need-returns-2
 returns-2 c = record { lowered = λ e. absurd (clash cc); kept = λ e. (c .if1 .left, refl) }
 
 pub put-lower-spec : {M : Type 1} → statement M
-put-lower-spec =
-    tie.close (tie.spec mul-if1 slice-read-if1 mul-hs slice-write-hs same-length returns returns-2)
+put-lower-spec = tie.close (tie.spec (λ c. search needs) (λ c. search needs) (λ c. search needs)
+    (λ c. search needs) (λ c. search needs) returns returns-2)

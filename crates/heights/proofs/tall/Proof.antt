@@ -7,18 +7,12 @@ use Rattle.heights.proofs.FallLaws.{measured-none, measured-empty, meas
 use Rattle.heights.proofs.tall.Statement.{statement}
 use Rattle.heights.proofs.tall.Tie as tie
 
-enum-told : tie.Need-enum-told
-enum-told c = search needs
-
 returns : tie.Need-returns
 returns c = rw (c .before .enum-told .given .1) (measured-none _ (λ h q. c .if1 .taken (q .0)))
 
 returns-2 : tie.Need-returns-2
 returns-2 c =
     rw (c .before .before .enum-told .given .1) (measured-none _ (λ h q. c .if2 .taken (q .1)))
-
-enum-known-c : tie.Need-enum-known-c
-enum-known-c c = search needs
 
 returns-3 : tie.Need-returns-3
 returns-3 c = rw (c .before .before .c .given .1) (measured-none _ (λ h q. c .if3 .taken (q .0)))
@@ -27,16 +21,10 @@ returns-4 : tie.Need-returns-4
 returns-4 c =
     rw (c .before .before .before .c .given .1) (measured-none _ (λ h q. c .if4 .taken (q .1)))
 
-allows-atom-requires : tie.Need-allows-atom-requires
-allows-atom-requires c κs = search needs
-
 returns-5 : tie.Need-returns-5
 returns-5 c = rw (c .before .before .before .before .before .c .given .1)
     (measured-none _ (λ h q. c .before .allows-atom .ensures .isnt (not-true _ (c .if5 .taken))
     (q .2)))
-
-enum-known-c-2 : tie.Need-enum-known-c-2
-enum-known-c-2 c = search needs
 
 unary-tall-requires : tie.Need-unary-tall-requires
 unary-tall-requires c κs = (
@@ -44,9 +32,6 @@ unary-tall-requires c κs = (
   subst SmallClause
       (c .before .c2 .given .1) (c .before .before .before .before .pre .1),
 )
-
-enum-known-c-3 : tie.Need-enum-known-c-3
-enum-known-c-3 c = search needs
 
 binary-tall-requires : tie.Need-binary-tall-requires
 binary-tall-requires c κs = (
@@ -71,22 +56,6 @@ returns-9 : tie.Need-returns-9
 returns-9 c = rw (c .before .before .c3 .given .1) (c .binary-tall .ensures)
 
 pub tall-spec : {M : Type 1} → statement M
-tall-spec =
-    tie.close
-    (tie.spec
-    enum-told
-    returns
-    returns-2
-    enum-known-c
-    returns-3
-    returns-4
-    allows-atom-requires
-    returns-5
-    enum-known-c-2
-    unary-tall-requires
-    enum-known-c-3
-    binary-tall-requires
-    returns-6
-    returns-7
-    returns-8
-    returns-9)
+tall-spec = tie.close (tie.spec (λ c. search needs) returns returns-2 (λ c. search needs) returns-3
+    returns-4 (λ c κs. search needs) returns-5 (λ c. search needs) unary-tall-requires
+    (λ c. search needs) binary-tall-requires returns-6 returns-7 returns-8 returns-9)

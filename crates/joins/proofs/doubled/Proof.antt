@@ -5,17 +5,8 @@ use mathlib.Core.Logic.{inl, inr}
 use Rattle.joins.proofs.doubled.Statement.{statement}
 use Rattle.joins.proofs.doubled.Tie as tie
 
-with-requires : tie.Need-with-requires
-with-requires c κs = search needs
-
 returns : tie.Need-returns
 returns c = inl (c .with .ensures, inr (c .before .if1 .taken))
-
-has-requires : tie.Need-has-requires
-has-requires c κs = search needs
-
-with-requires-2 : tie.Need-with-requires-2
-with-requires-2 c κs = search needs
 
 returns-2 : tie.Need-returns-2
 returns-2 c =
@@ -25,12 +16,5 @@ returns-3 : tie.Need-returns-3
 returns-3 c = inr (refl, c .before .has .ensures .isnt (c .if2 .left), c .before .before .if1 .left)
 
 pub doubled-spec : {M : Type 1} → statement M
-doubled-spec =
-    tie.close
-    (tie.spec
-    with-requires
-    returns
-    has-requires
-    with-requires-2
-    returns-2
-    returns-3)
+doubled-spec = tie.close (tie.spec (λ c κs. search needs) returns (λ c κs. search needs)
+    (λ c κs. search needs) returns-2 returns-3)

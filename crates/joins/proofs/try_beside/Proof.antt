@@ -5,17 +5,8 @@ use Rattle.joins.specs.Passes.Beside.{alone, both}
 use Rattle.joins.proofs.try_beside.Statement.{statement}
 use Rattle.joins.proofs.try_beside.Tie as tie
 
-try-join-requires : tie.Need-try-join-requires
-try-join-requires c κs = search needs
-
 returns : tie.Need-returns
 returns c = alone (c .before .if1 .taken) (c .try-join .ensures)
-
-try-join-requires-2 : tie.Need-try-join-requires-2
-try-join-requires-2 c κs = search needs
-
-try-join-requires-3 : tie.Need-try-join-requires-3
-try-join-requires-3 c κs = search needs
 
 returns-2 : tie.Need-returns-2
 returns-2 c = let z = c .before .before .if1 .left in
@@ -23,11 +14,5 @@ returns-2 c = let z = c .before .before .if1 .left in
     (c .try-join3 .ensures)
 
 pub try-beside-spec : {M : Type 1} → statement M
-try-beside-spec =
-    tie.close
-    (tie.spec
-    try-join-requires
-    returns
-    try-join-requires-2
-    try-join-requires-3
-    returns-2)
+try-beside-spec = tie.close (tie.spec (λ c κs. search needs) returns (λ c κs. search needs)
+    (λ c κs. search needs) returns-2)

@@ -8,33 +8,12 @@ use Rattle.joins.specs.Passes.Took.{fell, stood}
 use Rattle.joins.proofs.try_leaf.Statement.{statement}
 use Rattle.joins.proofs.try_leaf.Tie as tie
 
-enum-told : tie.Need-enum-told
-enum-told c = search needs
-
-found-requires : tie.Need-found-requires
-found-requires c κs = search needs
-
-enum-known-c : tie.Need-enum-known-c
-enum-known-c c = search needs
-
 returns : tie.Need-returns
 returns c = rw (c .before .before .c .given .1) (fell (λ q. c .if2 .taken (q .0)) refl)
-
-allows-atom-requires : tie.Need-allows-atom-requires
-allows-atom-requires c κs = search needs
 
 returns-2 : tie.Need-returns-2
 returns-2 c = rw (c .before .before .before .before .c .given .1)
     (fell (λ q. c .before .allows-atom .ensures .isnt (not-true _ (c .if3 .taken)) (q .1)) refl)
-
-found-requires-2 : tie.Need-found-requires-2
-found-requires-2 c κs = search needs
-
-enum-told-2 : tie.Need-enum-told-2
-enum-told-2 c = search needs
-
-enum-told-3 : tie.Need-enum-told-3
-enum-told-3 c = search needs
 
 returns-3 : tie.Need-returns-3
 returns-3 c = rw (c .before .before .enum-told .given .1)
@@ -60,20 +39,6 @@ returns-7 : tie.Need-returns-7
 returns-7 c = rw (c .enum-told3 .given .1) (fell (λ q. q) refl)
 
 pub try-leaf-spec : {M : Type 1} → statement M
-try-leaf-spec =
-    tie.close
-    (tie.spec
-    enum-told
-    found-requires
-    enum-known-c
-    returns
-    allows-atom-requires
-    returns-2
-    found-requires-2
-    enum-told-2
-    enum-told-3
-    returns-3
-    returns-4
-    returns-5
-    returns-6
-    returns-7)
+try-leaf-spec = tie.close (tie.spec (λ c. search needs) (λ c κs. search needs) (λ c. search needs)
+    returns (λ c κs. search needs) returns-2 (λ c κs. search needs) (λ c. search needs)
+    (λ c. search needs) returns-3 returns-4 returns-5 returns-6 returns-7)

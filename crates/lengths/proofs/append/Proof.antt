@@ -9,15 +9,6 @@ use Rattle.lengths.proofs.Appending.{appended}
 use Rattle.lengths.proofs.append.Statement.{statement}
 use Rattle.lengths.proofs.append.Tie as tie
 
-mul-r : tie.Need-mul-r
-mul-r c = search needs
-
-element-set-from-r : tie.Need-element-set-from-r
-element-set-from-r c = search needs
-
-add-g : tie.Need-add-g
-add-g c = search needs
-
 grow-requires : tie.Need-grow-requires
 grow-requires c κs = let a = c .before .before in (a .pre .0 .exact .shaped, a .pre .2)
 
@@ -49,6 +40,5 @@ returns-2 c =
     (c .completed .ensures)
 
 pub append-spec : {M : Type 1} → statement M
-append-spec =
-    tie.close
-    (tie.spec mul-r element-set-from-r add-g grow-requires returns completed-requires returns-2)
+append-spec = tie.close (tie.spec (λ c. search needs) (λ c. search needs) (λ c. search needs)
+    grow-requires returns completed-requires returns-2)

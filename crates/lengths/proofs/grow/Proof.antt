@@ -16,14 +16,8 @@ second : (c : tie.After-second-of) → c .second-of .result < 64
 second c = let a = c .before .before .before in
     rw (c .second-of .ensures) (second-small (a .args .r .clause) (a .pre .1 .clause))
 
-first-of-requires : tie.Need-first-of-requires
-first-of-requires c κs = search needs
-
 cast-b : tie.Need-cast-b
 cast-b c = omega (arith, first c)
-
-second-of-requires : tie.Need-second-of-requires
-second-of-requires c κs = search needs
 
 cast-c : tie.Need-cast-c
 cast-c c = omega (arith, second c)
@@ -43,12 +37,6 @@ element-copy-out-given-2 c = omega (arith, second (c .before))
 given-requires : tie.Need-given-requires
 given-requires c κs = let s = c .before .before .before .before .before .pre .0 in
     (s .small _, s .small _)
-
-cast-a : tie.Need-cast-a
-cast-a c = search needs
-
-mul-old : tie.Need-mul-old
-mul-old c = search needs
 
 element-copy-out-old : tie.Need-element-copy-out-old
 element-copy-out-old c =
@@ -70,9 +58,6 @@ returns c =
     widens-idle (z .args .w) (z .args .r) _ (z .pre .0) (gives (c .before .before .before))
     (c .if1 .taken)
 
-mul-x : tie.Need-mul-x
-mul-x c = search needs
-
 element-write-x : tie.Need-element-write-x
 element-write-x c =
     omega (
@@ -92,23 +77,7 @@ returns-2 c =
     (gives (c .before .before .before .before)) (c .before .if1 .left) (c .with .ensures)
 
 pub grow-spec : {M : Type 1} → statement M
-grow-spec =
-    tie.close
-    (tie.spec
-    first-of-requires
-    cast-b
-    second-of-requires
-    cast-c
-    mul-given
-    element-copy-out-given
-    mul-given-2
-    element-copy-out-given-2
-    given-requires
-    cast-a
-    mul-old
-    element-copy-out-old
-    returns
-    mul-x
-    element-write-x
-    with-requires
-    returns-2)
+grow-spec = tie.close (tie.spec (λ c κs. search needs) cast-b (λ c κs. search needs) cast-c
+    mul-given element-copy-out-given mul-given-2 element-copy-out-given-2 given-requires
+    (λ c. search needs) (λ c. search needs) element-copy-out-old returns (λ c. search needs)
+    element-write-x with-requires returns-2)

@@ -4,9 +4,6 @@ use Rattle.lengths.proofs.Growing.{sound-none, held-formed, open-none}
 use Rattle.lengths.proofs.index_of.Statement.{statement}
 use Rattle.lengths.proofs.index_of.Tie as tie
 
-no-lengths-requires : tie.Need-no-lengths-requires
-no-lengths-requires c κs = search needs
-
 completed-requires : tie.Need-completed-requires
 completed-requires c κs = let e = c .no-lengths .ensures in
     (held-formed (c .before .pre), sound-none e, open-none e)
@@ -15,4 +12,4 @@ returns : tie.Need-returns
 returns c = c .completed .ensures
 
 pub index-of-spec : {M : Type 1} → statement M
-index-of-spec = tie.close (tie.spec no-lengths-requires completed-requires returns)
+index-of-spec = tie.close (tie.spec (λ c κs. search needs) completed-requires returns)

@@ -6,9 +6,6 @@ use Rattle.lengths.proofs.Growing.{first-small, second-small}
 use Rattle.lengths.proofs.names.Statement.{statement}
 use Rattle.lengths.proofs.names.Tie as tie
 
-first-of-requires : tie.Need-first-of-requires
-first-of-requires c κs = search needs
-
 has-requires : tie.Need-has-requires
 has-requires c κs = rw (c .first-of .ensures) (first-small (c .before .args .k) (c .before .pre))
 
@@ -16,9 +13,6 @@ returns : tie.Need-returns
 returns c =
     let f = c .before .before .first-of .ensures in
     holds (inl (rw f at (c .before .has .ensures .is (c .if1 .taken))))
-
-second-of-requires : tie.Need-second-of-requires
-second-of-requires c κs = search needs
 
 has-requires-2 : tie.Need-has-requires-2
 has-requires-2 c κs = let z = c .before .before .before .before in
@@ -34,6 +28,5 @@ returns-2 c =
     (λ i. rw s i)) (c .has2 .ensures)
 
 pub names-spec : {M : Type 1} → statement M
-names-spec =
-    tie.close
-    (tie.spec first-of-requires has-requires returns second-of-requires has-requires-2 returns-2)
+names-spec = tie.close (tie.spec (λ c κs. search needs) has-requires returns (λ c κs. search needs)
+    has-requires-2 returns-2)

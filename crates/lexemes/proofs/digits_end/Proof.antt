@@ -20,15 +20,9 @@ abbrev μ-loop : tie.MeasureT-loop
 loop-holds : tie.Need-loop-holds Inv-loop μ-loop
 loop-holds c = (c .pre, refl)
 
-shared-slice-read-if1 : tie.Need-shared-slice-read-if1 Inv-loop μ-loop
-shared-slice-read-if1 c = search needs
-
 returns : tie.Need-returns Inv-loop μ-loop
 returns c = let l = c .before .before .before in let a = l .before .args in
     omega (arith, ap length (digits-low (a .s .now) (l .loop .i) (omega arith) (c .if1 .taken)))
-
-shared-slice-read-if2 : tie.Need-shared-slice-read-if2 Inv-loop μ-loop
-shared-slice-read-if2 c = search needs
 
 returns-2 : tie.Need-returns-2 Inv-loop μ-loop
 returns-2 c = let l = c .before .before .before .before .before in let a = l .before .args in
@@ -37,12 +31,6 @@ returns-2 c = let l = c .before .before .before .before .before in let a = l .be
       ap length (digits-high (a .s .now) (l .loop .i) (omega arith) (omega arith)
           (c .if2 .taken)),
     )
-
-add-i : tie.Need-add-i Inv-loop μ-loop
-add-i c = search needs
-
-loop-less : tie.Need-loop-less Inv-loop μ-loop
-loop-less c = search needs
 
 loop-again : tie.Need-loop-again Inv-loop μ-loop
 loop-again c = let l = c .before .before .before .before .before in let a = l .before .args in (
@@ -60,17 +48,5 @@ returns-3 c = let l = c .before in let a = l .before .args in
     omega (arith, ap length (digits-over (a .s .now) (l .loop .i) (omega arith)))
 
 pub digits-end-spec : {M : Type 1} → statement M
-digits-end-spec =
-    tie.close
-    (tie.spec
-    Inv-loop
-    μ-loop
-    loop-holds
-    shared-slice-read-if1
-    returns
-    shared-slice-read-if2
-    returns-2
-    add-i
-    loop-less
-    loop-again
-    returns-3)
+digits-end-spec = tie.close (tie.spec Inv-loop μ-loop loop-holds (λ c. search needs) returns
+    (λ c. search needs) returns-2 (λ c. search needs) (λ c. search needs) loop-again returns-3)

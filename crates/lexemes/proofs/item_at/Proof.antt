@@ -9,12 +9,6 @@ use borrow.Author.Needs.{needs}
 use Rattle.lexemes.proofs.item_at.Statement.{statement}
 use Rattle.lexemes.proofs.item_at.Tie as tie
 
-slice-aggregate-starts-with : tie.Need-slice-aggregate-starts-with
-slice-aggregate-starts-with c = search needs
-
-starts-with-requires : tie.Need-starts-with-requires
-starts-with-requires c κs = search needs
-
 number-at-requires : tie.Need-number-at-requires
 number-at-requires c κs =
     let a = c .before .before .before .before .args in
@@ -33,12 +27,6 @@ returns-2 c =
     sym (ap (asLexed (c .before .before .before .before .before .before .before .args .at))
     (hit (sym (i .before .starts-with .ensures) ∙ i .if1 .taken) _ _)
     ∙ c .before .before .number-at .ensures .isnt (omega (arith, c .if2 .left)) n)
-
-slice-aggregate-starts-with-2 : tie.Need-slice-aggregate-starts-with-2
-slice-aggregate-starts-with-2 c = search needs
-
-starts-with-requires-2 : tie.Need-starts-with-requires-2
-starts-with-requires-2 c κs = search needs
 
 number-at-requires-2 : tie.Need-number-at-requires-2
 number-at-requires-2 c κs =
@@ -71,17 +59,6 @@ returns-5 c =
     (miss (sym (c .before .starts-with2 .ensures) ∙ c .if3 .left) _ _)))
 
 pub item-at-spec : {M : Type 1} → statement M
-item-at-spec =
-    tie.close
-    (tie.spec
-    slice-aggregate-starts-with
-    starts-with-requires
-    number-at-requires
-    returns
-    returns-2
-    slice-aggregate-starts-with-2
-    starts-with-requires-2
-    number-at-requires-2
-    returns-3
-    returns-4
-    returns-5)
+item-at-spec = tie.close (tie.spec (λ c. search needs) (λ c κs. search needs) number-at-requires
+    returns returns-2 (λ c. search needs) (λ c κs. search needs) number-at-requires-2 returns-3
+    returns-4 returns-5)

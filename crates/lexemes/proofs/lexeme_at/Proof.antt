@@ -12,9 +12,6 @@ returns : tie.Need-returns
 returns c =
     record { from = omega arith; within = omega arith; tells = none-left _ _ (c .if1 .taken) }
 
-sign-at-requires : tie.Need-sign-at-requires
-sign-at-requires c κs = search needs
-
 returns-2 : tie.Need-returns-2
 returns-2 c =
     let a = c .before .before .before .args in
@@ -22,4 +19,4 @@ returns-2 c =
     (found-tells (a .s .now) (a .at) (omega (arith, c .before .if1 .left)))
 
 pub lexeme-at-spec : {M : Type 1} → statement M
-lexeme-at-spec = tie.close (tie.spec returns sign-at-requires returns-2)
+lexeme-at-spec = tie.close (tie.spec returns (λ c κs. search needs) returns-2)

@@ -6,23 +6,11 @@ use borrow.Author.Needs.{needs}
 use Rattle.lexemes.proofs.number.Statement.{statement}
 use Rattle.lexemes.proofs.number.Tie as tie
 
-numeral-requires : tie.Need-numeral-requires
-numeral-requires c κs = search needs
-
-enum-known-v : tie.Need-enum-known-v
-enum-known-v c = search needs
-
-cast-result : tie.Need-cast-result
-cast-result c = search needs
-
 returns : tie.Need-returns
 returns c =
     let v = c .before .before .v .given in
     numbers-low _ _ (is-number _ _ (sym (c .before .before .before .before .numeral .ensures)
     ∙ v .1)) (omega arith)
-
-enum-told : tie.Need-enum-told
-enum-told c = search needs
 
 returns-2 : tie.Need-returns-2
 returns-2 c =
@@ -36,6 +24,5 @@ returns-3 c =
     numbers-none _ (is-not _ (sym (c .before .before .numeral .ensures) ∙ c .enum-told .given .1))
 
 pub number-spec : {M : Type 1} → statement M
-number-spec =
-    tie.close
-    (tie.spec numeral-requires enum-known-v cast-result returns enum-told returns-2 returns-3)
+number-spec = tie.close (tie.spec (λ c κs. search needs) (λ c. search needs) (λ c. search needs)
+    returns (λ c. search needs) returns-2 returns-3)

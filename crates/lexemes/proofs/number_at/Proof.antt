@@ -7,18 +7,6 @@ use borrow.Author.Needs.{needs}
 use Rattle.lexemes.proofs.number_at.Statement.{statement}
 use Rattle.lexemes.proofs.number_at.Tie as tie
 
-add-from : tie.Need-add-from
-add-from c = search needs
-
-digits-end-requires : tie.Need-digits-end-requires
-digits-end-requires c κs = search needs
-
-sub-number : tie.Need-sub-number
-sub-number c = search needs
-
-part-number-start : tie.Need-part-number-start
-part-number-start c = search needs
-
 part-number-end : tie.Need-part-number-end
 part-number-end c =
     let a = c .before .before .args in
@@ -30,9 +18,6 @@ part-number-end c =
           (a .at + 1) (a .s .now),
     )
 
-number-requires : tie.Need-number-requires
-number-requires c κs = search needs
-
 returns : tie.Need-returns
 returns c =
     let a = c .before .before .before .before .args in
@@ -40,13 +25,5 @@ returns c =
     (c .before .before .digits-end .ensures) (c .number .ensures)
 
 pub number-at-spec : {M : Type 1} → statement M
-number-at-spec =
-    tie.close
-    (tie.spec
-    add-from
-    digits-end-requires
-    sub-number
-    part-number-start
-    part-number-end
-    number-requires
-    returns)
+number-at-spec = tie.close (tie.spec (λ c. search needs) (λ c κs. search needs) (λ c. search needs)
+    (λ c. search needs) part-number-end (λ c κs. search needs) returns)

@@ -24,12 +24,6 @@ abbrev μ-loop : tie.MeasureT-loop
 loop-holds : tie.Need-loop-holds Inv-loop μ-loop
 loop-holds c = (omega arith, refl)
 
-sign-stands-requires : tie.Need-sign-stands-requires Inv-loop μ-loop
-sign-stands-requires c κs = search needs
-
-sign-requires : tie.Need-sign-requires Inv-loop μ-loop
-sign-requires c κs = search needs
-
 add-t7 : tie.Need-add-t7 Inv-loop μ-loop
 add-t7 c =
     let i = c .before .before .before .before in
@@ -47,12 +41,6 @@ returns c =
     let g = l .loop .inv .1 ∙ f in
     rw (c .sign .ensures, k) (sym (ap (asLexed (a .at)) g))
 
-add-i : tie.Need-add-i Inv-loop μ-loop
-add-i c = search needs
-
-loop-less : tie.Need-loop-less Inv-loop μ-loop
-loop-less c = search needs
-
 loop-again : tie.Need-loop-again Inv-loop μ-loop
 loop-again c =
     let l = c .before .before .before in
@@ -61,9 +49,6 @@ loop-again c =
     let f = search-on signs (drop (a .at) (a .s .now)) (l .loop .i) (sign [] opening) signs-bytes
     (omega (arith, signs-many)) (omega (arith, k, c .if1 .left)) in
     (omega arith, rw (add-one (l .loop .i)) (l .loop .inv .1 ∙ f))
-
-item-at-requires : tie.Need-item-at-requires Inv-loop μ-loop
-item-at-requires c κs = search needs
 
 returns-2 : tie.Need-returns-2 Inv-loop μ-loop
 returns-2 c =
@@ -76,18 +61,6 @@ returns-2 c =
     c .item-at .ensures ∙ ap (asLexed (a .at)) (sym g)
 
 pub sign-at-spec : {M : Type 1} → statement M
-sign-at-spec =
-    tie.close
-    (tie.spec
-    Inv-loop
-    μ-loop
-    loop-holds
-    sign-stands-requires
-    sign-requires
-    add-t7
-    returns
-    add-i
-    loop-less
-    loop-again
-    item-at-requires
-    returns-2)
+sign-at-spec = tie.close (tie.spec Inv-loop μ-loop loop-holds (λ c κs. search needs)
+    (λ c κs. search needs) add-t7 returns (λ c. search needs) (λ c. search needs) loop-again
+    (λ c κs. search needs) returns-2)

@@ -8,90 +8,6 @@ use Rattle.lexemes.proofs.Laws.{none-before}
 use Rattle.lexemes.proofs.sign_stands.Statement.{statement}
 use Rattle.lexemes.proofs.sign_stands.Tie as tie
 
-slice-aggregate-stands : tie.Need-slice-aggregate-stands
-slice-aggregate-stands c = search needs
-
-stands-requires : tie.Need-stands-requires
-stands-requires c κs = search needs
-
-slice-aggregate-stands-2 : tie.Need-slice-aggregate-stands-2
-slice-aggregate-stands-2 c = search needs
-
-stands-requires-2 : tie.Need-stands-requires-2
-stands-requires-2 c κs = search needs
-
-slice-aggregate-stands-3 : tie.Need-slice-aggregate-stands-3
-slice-aggregate-stands-3 c = search needs
-
-stands-requires-3 : tie.Need-stands-requires-3
-stands-requires-3 c κs = search needs
-
-slice-aggregate-stands-4 : tie.Need-slice-aggregate-stands-4
-slice-aggregate-stands-4 c = search needs
-
-stands-requires-4 : tie.Need-stands-requires-4
-stands-requires-4 c κs = search needs
-
-slice-aggregate-stands-5 : tie.Need-slice-aggregate-stands-5
-slice-aggregate-stands-5 c = search needs
-
-stands-requires-5 : tie.Need-stands-requires-5
-stands-requires-5 c κs = search needs
-
-slice-aggregate-stands-6 : tie.Need-slice-aggregate-stands-6
-slice-aggregate-stands-6 c = search needs
-
-stands-requires-6 : tie.Need-stands-requires-6
-stands-requires-6 c κs = search needs
-
-slice-aggregate-stands-7 : tie.Need-slice-aggregate-stands-7
-slice-aggregate-stands-7 c = search needs
-
-stands-requires-7 : tie.Need-stands-requires-7
-stands-requires-7 c κs = search needs
-
-slice-aggregate-stands-8 : tie.Need-slice-aggregate-stands-8
-slice-aggregate-stands-8 c = search needs
-
-stands-requires-8 : tie.Need-stands-requires-8
-stands-requires-8 c κs = search needs
-
-slice-aggregate-stands-9 : tie.Need-slice-aggregate-stands-9
-slice-aggregate-stands-9 c = search needs
-
-stands-requires-9 : tie.Need-stands-requires-9
-stands-requires-9 c κs = search needs
-
-slice-aggregate-stands-10 : tie.Need-slice-aggregate-stands-10
-slice-aggregate-stands-10 c = search needs
-
-stands-requires-10 : tie.Need-stands-requires-10
-stands-requires-10 c κs = search needs
-
-slice-aggregate-stands-11 : tie.Need-slice-aggregate-stands-11
-slice-aggregate-stands-11 c = search needs
-
-stands-requires-11 : tie.Need-stands-requires-11
-stands-requires-11 c κs = search needs
-
-slice-aggregate-stands-12 : tie.Need-slice-aggregate-stands-12
-slice-aggregate-stands-12 c = search needs
-
-stands-requires-12 : tie.Need-stands-requires-12
-stands-requires-12 c κs = search needs
-
-slice-aggregate-stands-13 : tie.Need-slice-aggregate-stands-13
-slice-aggregate-stands-13 c = search needs
-
-stands-requires-13 : tie.Need-stands-requires-13
-stands-requires-13 c κs = search needs
-
-slice-aggregate-stands-14 : tie.Need-slice-aggregate-stands-14
-slice-aggregate-stands-14 c = search needs
-
-stands-requires-14 : tie.Need-stands-requires-14
-stands-requires-14 c κs = search needs
-
 returns : tie.Need-returns
 unfolding signs
 returns c = rw (c .before .before .match .keys1) (c .stands .ensures)
@@ -164,48 +80,12 @@ returns-14 c =
     rw e (c .stands14 .ensures)
 
 pub sign-stands-spec : {M : Type 1} → statement M
-sign-stands-spec =
-    tie.close
-    (tie.spec
-    slice-aggregate-stands
-    stands-requires
-    slice-aggregate-stands-2
-    stands-requires-2
-    slice-aggregate-stands-3
-    stands-requires-3
-    slice-aggregate-stands-4
-    stands-requires-4
-    slice-aggregate-stands-5
-    stands-requires-5
-    slice-aggregate-stands-6
-    stands-requires-6
-    slice-aggregate-stands-7
-    stands-requires-7
-    slice-aggregate-stands-8
-    stands-requires-8
-    slice-aggregate-stands-9
-    stands-requires-9
-    slice-aggregate-stands-10
-    stands-requires-10
-    slice-aggregate-stands-11
-    stands-requires-11
-    slice-aggregate-stands-12
-    stands-requires-12
-    slice-aggregate-stands-13
-    stands-requires-13
-    slice-aggregate-stands-14
-    stands-requires-14
-    returns
-    returns-2
-    returns-3
-    returns-4
-    returns-5
-    returns-6
-    returns-7
-    returns-8
-    returns-9
-    returns-10
-    returns-11
-    returns-12
-    returns-13
-    returns-14)
+sign-stands-spec = tie.close (tie.spec (λ c. search needs) (λ c κs. search needs)
+    (λ c. search needs) (λ c κs. search needs) (λ c. search needs) (λ c κs. search needs)
+    (λ c. search needs) (λ c κs. search needs) (λ c. search needs) (λ c κs. search needs)
+    (λ c. search needs) (λ c κs. search needs) (λ c. search needs) (λ c κs. search needs)
+    (λ c. search needs) (λ c κs. search needs) (λ c. search needs) (λ c κs. search needs)
+    (λ c. search needs) (λ c κs. search needs) (λ c. search needs) (λ c κs. search needs)
+    (λ c. search needs) (λ c κs. search needs) (λ c. search needs) (λ c κs. search needs)
+    (λ c. search needs) (λ c κs. search needs) returns returns-2 returns-3 returns-4 returns-5
+    returns-6 returns-7 returns-8 returns-9 returns-10 returns-11 returns-12 returns-13 returns-14)

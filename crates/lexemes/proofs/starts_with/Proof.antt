@@ -26,33 +26,15 @@ loop-holds c = (
       (c .args .at),
 )
 
-add-if1 : tie.Need-add-if1 Inv-loop μ-loop
-add-if1 c = search needs
-
 returns : tie.Need-returns Inv-loop μ-loop
 returns c = let l = c .before .before in let a = l .before .args in
     sym (l .loop .inv .2 ∙ starts-short (a .p .now) (a .s .now) (l .loop .i) (a .at + l .loop .i)
     (omega arith) (omega arith))
 
-shared-slice-read-if2 : tie.Need-shared-slice-read-if2 Inv-loop μ-loop
-shared-slice-read-if2 c = search needs
-
-add-if2 : tie.Need-add-if2 Inv-loop μ-loop
-add-if2 c = search needs
-
-shared-slice-read-if2-2 : tie.Need-shared-slice-read-if2-2 Inv-loop μ-loop
-shared-slice-read-if2-2 c = search needs
-
 returns-2 : tie.Need-returns-2 Inv-loop μ-loop
 returns-2 c = let l = c .before .before .before .before .before in let a = l .before .args in
     sym (l .loop .inv .2 ∙ starts-differ (a .p .now) (a .s .now) (l .loop .i) (a .at + l .loop .i)
     (omega arith) (omega arith) (c .if2 .taken))
-
-add-i : tie.Need-add-i Inv-loop μ-loop
-add-i c = search needs
-
-loop-less : tie.Need-loop-less Inv-loop μ-loop
-loop-less c = search needs
 
 loop-again : tie.Need-loop-again Inv-loop μ-loop
 loop-again c = let l = c .before .before .before .before .before in let a = l .before .args in (
@@ -69,19 +51,6 @@ returns-3 c = let l = c .before in let a = l .before .args in
     (omega arith))
 
 pub starts-with-spec : {M : Type 1} → statement M
-starts-with-spec =
-    tie.close
-    (tie.spec
-    Inv-loop
-    μ-loop
-    loop-holds
-    add-if1
-    returns
-    shared-slice-read-if2
-    add-if2
-    shared-slice-read-if2-2
-    returns-2
-    add-i
-    loop-less
-    loop-again
-    returns-3)
+starts-with-spec = tie.close (tie.spec Inv-loop μ-loop loop-holds (λ c. search needs) returns
+    (λ c. search needs) (λ c. search needs) (λ c. search needs) returns-2 (λ c. search needs)
+    (λ c. search needs) loop-again returns-3)

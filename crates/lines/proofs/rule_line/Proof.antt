@@ -130,15 +130,6 @@ inside : {s : tie.Start} {rest : List (List ℕ) → RuleLine} {d : Cursor} → 
     → d .end ≤ length (s .args .s .now)
 inside {s} x = omega (arith, x .ends, s .pre)
 
-number-requires : tie.Need-number-requires
-number-requires c κs = search needs
-
-enum-known-l : tie.Need-enum-known-l
-enum-known-l c = search needs
-
-enum-told : tie.Need-enum-told
-enum-told c = search needs
-
 returns : tie.Need-returns
 returns c =
     let n = c .before .before in
@@ -147,12 +138,6 @@ returns c =
 
 kind-requires : tie.Need-kind-requires
 kind-requires c κs = inside (stage1 c)
-
-enum-known-k : tie.Need-enum-known-k
-enum-known-k c = search needs
-
-enum-told-2 : tie.Need-enum-told-2
-enum-told-2 c = search needs
 
 returns-2 : tie.Need-returns-2
 returns-2 c =
@@ -164,12 +149,6 @@ returns-2 c =
 operand-requires : tie.Need-operand-requires
 operand-requires c κs = inside (stage2 c)
 
-enum-known-a : tie.Need-enum-known-a
-enum-known-a c = search needs
-
-enum-told-3 : tie.Need-enum-told-3
-enum-told-3 c = search needs
-
 returns-3 : tie.Need-returns-3
 returns-3 c =
     let n = c .before .before in
@@ -180,12 +159,6 @@ returns-3 c =
 operand-requires-2 : tie.Need-operand-requires-2
 operand-requires-2 c κs = inside (stage3 c)
 
-enum-known-b : tie.Need-enum-known-b
-enum-known-b c = search needs
-
-enum-told-4 : tie.Need-enum-told-4
-enum-told-4 c = search needs
-
 returns-4 : tie.Need-returns-4
 returns-4 c =
     let n = c .before .before in
@@ -195,12 +168,6 @@ returns-4 c =
 
 lay-requires : tie.Need-lay-requires
 lay-requires c κs = inside (stage4 c)
-
-enum-known-y : tie.Need-enum-known-y
-enum-known-y c = search needs
-
-enum-told-5 : tie.Need-enum-told-5
-enum-told-5 c = search needs
 
 returns-5 : tie.Need-returns-5
 returns-5 c =
@@ -215,9 +182,6 @@ returns-6 c =
     sym (stage5 s .says ∙ end-bad Form _ (start₅ s .args .s .now) (read₅ s .1 .0)
     (inside (stage5 s)) (c .if1 .taken))
 
-rule-of-requires : tie.Need-rule-of-requires
-rule-of-requires c κs = search needs
-
 returns-7 : tie.Need-returns-7
 returns-7 c =
     let s = c .before .before .before in
@@ -225,29 +189,8 @@ returns-7 c =
     (read₅ s .1 .0) (inside (stage5 s)) (c .before .if1 .left))
 
 pub rule-line-spec : {M : Type 1} → statement M
-rule-line-spec =
-    tie.close
-    (tie.spec
-    number-requires
-    enum-known-l
-    enum-told
-    returns
-    kind-requires
-    enum-known-k
-    enum-told-2
-    returns-2
-    operand-requires
-    enum-known-a
-    enum-told-3
-    returns-3
-    operand-requires-2
-    enum-known-b
-    enum-told-4
-    returns-4
-    lay-requires
-    enum-known-y
-    enum-told-5
-    returns-5
-    returns-6
-    rule-of-requires
-    returns-7)
+rule-line-spec = tie.close (tie.spec (λ c κs. search needs) (λ c. search needs) (λ c. search needs)
+    returns kind-requires (λ c. search needs) (λ c. search needs) returns-2 operand-requires
+    (λ c. search needs) (λ c. search needs) returns-3 operand-requires-2 (λ c. search needs)
+    (λ c. search needs) returns-4 lay-requires (λ c. search needs) (λ c. search needs) returns-5
+    returns-6 (λ c κs. search needs) returns-7)

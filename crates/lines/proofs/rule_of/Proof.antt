@@ -9,9 +9,6 @@ use Rattle.lines.specs.RuleLines.{layRule}
 use Rattle.lines.proofs.rule_of.Statement.{statement}
 use Rattle.lines.proofs.rule_of.Tie as tie
 
-shaped-requires : tie.Need-shaped-requires
-shaped-requires c κs = search needs
-
 returns : tie.Need-returns
 returns c = let s = c .before in
     sym (into (sym (s .before .shaped .ensures) ∙ s .if1 .taken) _ _ _
@@ -24,9 +21,6 @@ returns-2 c = let t = c .before .before in
     (into (le-leb _ _ (t .if2 .left)) _ _ _
     (miss (lt-leb _ _ (c .if3 .taken)) _ _)))
 
-up-to-requires : tie.Need-up-to-requires
-up-to-requires c κs = search needs
-
 returns-3 : tie.Need-returns-3
 returns-3 c = let u = c .before .before in
     let t = u .before .before in
@@ -36,18 +30,6 @@ returns-3 c = let u = c .before .before in
     (into (le-leb _ _ (u .if3 .left)) _ _ _
     (miss (ap (λ (x : ℕ). leb x 63) (sym (c .before .up-to .ensures)) ∙ lt-leb _ _ (c .if4 .taken))
     _ _))))
-
-cast-lay-rule : tie.Need-cast-lay-rule
-cast-lay-rule c = search needs
-
-cast-lay-rule-2 : tie.Need-cast-lay-rule-2
-cast-lay-rule-2 c = search needs
-
-cast-lay-rule-3 : tie.Need-cast-lay-rule-3
-cast-lay-rule-3 c = search needs
-
-lay-rule-requires : tie.Need-lay-rule-requires
-lay-rule-requires c κs = search needs
 
 returns-4 : tie.Need-returns-4
 returns-4 c = let v = c .before .before in
@@ -66,17 +48,6 @@ returns-5 : tie.Need-returns-5
 returns-5 c = sym (miss (sym (c .before .shaped .ensures) ∙ c .if1 .left) _ _)
 
 pub rule-of-spec : {M : Type 1} → statement M
-rule-of-spec =
-    tie.close
-    (tie.spec
-    shaped-requires
-    returns
-    returns-2
-    up-to-requires
-    returns-3
-    cast-lay-rule
-    cast-lay-rule-2
-    cast-lay-rule-3
-    lay-rule-requires
-    returns-4
-    returns-5)
+rule-of-spec = tie.close (tie.spec (λ c κs. search needs) returns returns-2 (λ c κs. search needs)
+    returns-3 (λ c. search needs) (λ c. search needs) (λ c. search needs) (λ c κs. search needs)
+    returns-4 returns-5)

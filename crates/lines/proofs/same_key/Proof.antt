@@ -6,18 +6,12 @@ use borrow.Author.Needs.{needs}
 use Rattle.lines.proofs.same_key.Statement.{statement}
 use Rattle.lines.proofs.same_key.Tie as tie
 
-meet-requires : tie.Need-meet-requires
-meet-requires c κs = search needs
-
 returns : tie.Need-returns
 returns c = let k = c .before in
     c .meet .ensures ∙ sym (and-true
     (eq-eqb _ _ (k .before .before .before .before .before .if1 .taken)) _ _
     (and-true (eq-eqb _ _ (k .before .before .if2 .taken)) _ _
     (hit (eq-eqb _ _ (k .if3 .taken)) _ _)))
-
-same-operands-requires : tie.Need-same-operands-requires
-same-operands-requires c κs = search needs
 
 returns-2 : tie.Need-returns-2
 returns-2 c = let k = c .before in
@@ -34,5 +28,5 @@ returns-4 : tie.Need-returns-4
 returns-4 c = sym (and-false (ne-eqb _ _ (c .if1 .left)) _)
 
 pub same-key-spec : {M : Type 1} → statement M
-same-key-spec =
-    tie.close (tie.spec meet-requires returns same-operands-requires returns-2 returns-3 returns-4)
+same-key-spec = tie.close (tie.spec (λ c κs. search needs) returns (λ c κs. search needs) returns-2
+    returns-3 returns-4)

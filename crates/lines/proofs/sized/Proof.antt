@@ -13,15 +13,6 @@ returns-2 : tie.Need-returns-2
 returns-2 c = let a = c .before .before .args in
     simp (lt-leb _ _ (c .if2 .taken), le-leb 1 (a .w) (omega arith))
 
-cast-t8 : tie.Need-cast-t8
-cast-t8 c = search needs
-
-cast-t8-2 : tie.Need-cast-t8-2
-cast-t8-2 c = search needs
-
-past-requires : tie.Need-past-requires
-past-requires c κs = search needs
-
 returns-3 : tie.Need-returns-3
 returns-3 c = let a = c .before .before .before .before .args in
     let e = c .before .past .ensures in
@@ -31,12 +22,6 @@ returns-3 c = let a = c .before .before .before .before .args in
           (c .before .before .if2 .left),
       le-leb 1 (a .w) (omega arith),
     )
-
-cast-t10 : tie.Need-cast-t10
-cast-t10 c = search needs
-
-cast-t8-3 : tie.Need-cast-t8-3
-cast-t8-3 c = search needs
 
 returns-4 : tie.Need-returns-4
 returns-4 c = let a = c .before .before .before .before .args in
@@ -49,15 +34,5 @@ returns-4 c = let a = c .before .before .before .before .args in
     )
 
 pub sized-spec : {M : Type 1} → statement M
-sized-spec =
-    tie.close
-    (tie.spec
-    returns
-    returns-2
-    cast-t8
-    cast-t8-2
-    past-requires
-    returns-3
-    cast-t10
-    cast-t8-3
-    returns-4)
+sized-spec = tie.close (tie.spec returns returns-2 (λ c. search needs) (λ c. search needs)
+    (λ c κs. search needs) returns-3 (λ c. search needs) (λ c. search needs) returns-4)

@@ -12,9 +12,6 @@ returns c =
     let s = c .before .before .before in
     sym (end-bad Form _ (s .args .s .now) (s .args .c) (s .pre) (c .if1 .taken))
 
-token-of-requires : tie.Need-token-of-requires
-token-of-requires c κs = search needs
-
 returns-2 : tie.Need-returns-2
 returns-2 c =
     let s = c .before .before .before .before in
@@ -22,4 +19,4 @@ returns-2 c =
     (c .before .if1 .left))
 
 pub token-end-spec : {M : Type 1} → statement M
-token-end-spec = tie.close (tie.spec returns token-of-requires returns-2)
+token-end-spec = tie.close (tie.spec returns (λ c κs. search needs) returns-2)

@@ -81,15 +81,6 @@ inside₂ c = omega (arith, stage2 c .1, start₂ c .pre)
 inside₃ : (c : tie.After-known-told3) → read₃ c .1 .0 .end ≤ length (start₃ c .args .s .now)
 inside₃ c = omega (arith, stage3 c .1, start₃ c .pre)
 
-number-requires : tie.Need-number-requires
-number-requires c κs = search needs
-
-enum-known-t : tie.Need-enum-known-t
-enum-known-t c = search needs
-
-enum-told : tie.Need-enum-told
-enum-told c = search needs
-
 returns : tie.Need-returns
 returns c =
     let n = c .before .before in
@@ -99,12 +90,6 @@ returns c =
 
 number-requires-2 : tie.Need-number-requires-2
 number-requires-2 c κs = inside₁ c
-
-enum-known-l : tie.Need-enum-known-l
-enum-known-l c = search needs
-
-enum-told-2 : tie.Need-enum-told-2
-enum-told-2 c = search needs
 
 returns-2 : tie.Need-returns-2
 returns-2 c =
@@ -116,12 +101,6 @@ returns-2 c =
 
 number-requires-3 : tie.Need-number-requires-3
 number-requires-3 c κs = inside₂ c
-
-enum-known-k : tie.Need-enum-known-k
-enum-known-k c = search needs
-
-enum-told-3 : tie.Need-enum-told-3
-enum-told-3 c = search needs
 
 returns-3 : tie.Need-returns-3
 returns-3 c =
@@ -158,22 +137,7 @@ returns-5 : tie.Need-returns-5
 returns-5 c = c .token-end .ensures ∙ ends (c .before .before) _ (c .before .if1 .left)
 
 pub token-line-spec : {M : Type 1} → statement M
-token-line-spec =
-    tie.close
-    (tie.spec
-    number-requires
-    enum-known-t
-    enum-told
-    returns
-    number-requires-2
-    enum-known-l
-    enum-told-2
-    returns-2
-    number-requires-3
-    enum-known-k
-    enum-told-3
-    returns-3
-    wide-end-requires
-    returns-4
-    token-end-requires
+token-line-spec = tie.close (tie.spec (λ c κs. search needs) (λ c. search needs) (λ c. search needs)
+    returns number-requires-2 (λ c. search needs) (λ c. search needs) returns-2 number-requires-3
+    (λ c. search needs) (λ c. search needs) returns-3 wide-end-requires returns-4 token-end-requires
     returns-5)

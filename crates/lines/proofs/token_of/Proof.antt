@@ -58,6 +58,5 @@ returns-6 c = let a = c .before .before .before .before .before .before .args in
     )
 
 pub token-of-spec : {M : Type 1} → statement M
-token-of-spec =
-    tie.close
-    (tie.spec returns returns-2 returns-3 returns-4 returns-5 sized-requires returns-6)
+token-of-spec = tie.close (tie.spec returns returns-2 returns-3 returns-4 returns-5 sized-requires
+    returns-6)

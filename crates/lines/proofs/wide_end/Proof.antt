@@ -27,15 +27,6 @@ stage c =
     (start c .args .s .now) (start c .args .c) _ _
     (sym (c .before .w .given .1) ∙ c .before .before .before .number .ensures)
 
-number-requires : tie.Need-number-requires
-number-requires c κs = search needs
-
-enum-known-w : tie.Need-enum-known-w
-enum-known-w c = search needs
-
-enum-told : tie.Need-enum-told
-enum-told c = search needs
-
 returns : tie.Need-returns
 returns c =
     let n = c .before .before in
@@ -50,6 +41,5 @@ returns-2 : tie.Need-returns-2
 returns-2 c = c .token-end .ensures ∙ sym (stage (c .before) .0)
 
 pub wide-end-spec : {M : Type 1} → statement M
-wide-end-spec =
-    tie.close
-    (tie.spec number-requires enum-known-w enum-told returns token-end-requires returns-2)
+wide-end-spec = tie.close (tie.spec (λ c κs. search needs) (λ c. search needs) (λ c. search needs)
+    returns token-end-requires returns-2)

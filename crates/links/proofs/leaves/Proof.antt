@@ -18,9 +18,6 @@ Inv-loop k len g t₀ i₀ t i = (i ≤ g .count) × Leaves k len (rules g) i t
 abbrev μ-loop : tie.MeasureT-loop
 μ-loop k len g t₀ i₀ t i = g .count - i
 
-blank-requires : tie.Need-blank-requires Inv-loop μ-loop
-blank-requires c κs = search needs
-
 loop-holds : tie.Need-loop-holds Inv-loop μ-loop
 loop-holds c =
     let a = c .before .args in (
@@ -28,9 +25,6 @@ loop-holds c =
       subst (Leaves (a .k) (a .len) (rules (a .t1)) 0) (sym (c .blank .ensures))
           leaves-none,
     )
-
-mul-r : tie.Need-mul-r Inv-loop μ-loop
-mul-r c = search needs
 
 element-copy-out-r : tie.Need-element-copy-out-r Inv-loop μ-loop
 element-copy-out-r c = omega (arith, c .before .before .before .pre .few, c .loop-test .taken)
@@ -42,12 +36,6 @@ try-leaf-requires c κs =
     let i = c .before .before .loop .i in
     let h : i < g .count = c .before .loop-test .taken in
     subst SmallRule (getD-take (g .count) (g .rules) i no-rule h) (z .pre .small i h)
-
-add-i : tie.Need-add-i Inv-loop μ-loop
-add-i c = search needs
-
-loop-less : tie.Need-loop-less Inv-loop μ-loop
-loop-less c = omega arith
 
 loop-again : tie.Need-loop-again Inv-loop μ-loop
 loop-again c =
@@ -70,17 +58,6 @@ returns c =
     rw (← e) (c .before .loop .inv .1)
 
 pub leaves-spec : {M : Type 1} → statement M
-leaves-spec =
-    tie.close
-    (tie.spec
-    Inv-loop
-    μ-loop
-    blank-requires
-    loop-holds
-    mul-r
-    element-copy-out-r
-    try-leaf-requires
-    add-i
-    loop-less
-    loop-again
-    returns)
+leaves-spec = tie.close (tie.spec Inv-loop μ-loop (λ c κs. search needs) loop-holds
+    (λ c. search needs) element-copy-out-r try-leaf-requires (λ c. search needs) (λ c. omega arith)
+    loop-again returns)

@@ -124,21 +124,6 @@ returns c =
     }
 
 pub link-rules-spec : {M : Type 1} → statement M
-link-rules-spec =
-    tie.close
-    (tie.spec
-    Inv-loop
-    μ-loop
-    loop-holds
-    mul-r
-    element-copy-out-r
-    add-i
-    one-sided-requires
-    loop-less
-    loop-again
-    mul-rules
-    array-set-from-rules
-    add-m
-    loop-less-2
-    loop-again-2
-    returns)
+link-rules-spec = tie.close (tie.spec Inv-loop μ-loop loop-holds mul-r element-copy-out-r add-i
+    one-sided-requires loop-less loop-again mul-rules array-set-from-rules add-m loop-less-2
+    loop-again-2 returns)

@@ -62,18 +62,5 @@ returns-6 c = let x = c .before .before in
     ))
 
 pub one-sided-spec : {M : Type 1} → statement M
-one-sided-spec =
-    tie.close
-    (tie.spec
-    enum-told
-    enum-told-2
-    enum-told-3
-    enum-known-c
-    has-requires
-    returns
-    has-requires-2
-    returns-2
-    returns-3
-    returns-4
-    returns-5
-    returns-6)
+one-sided-spec = tie.close (tie.spec enum-told enum-told-2 enum-told-3 enum-known-c has-requires
+    returns has-requires-2 returns-2 returns-3 returns-4 returns-5 returns-6)

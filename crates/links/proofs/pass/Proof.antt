@@ -76,16 +76,5 @@ returns c =
     rw (← e) (c .before .loop .inv .1)
 
 pub pass-spec : {M : Type 1} → statement M
-pass-spec =
-    tie.close
-    (tie.spec
-    Inv-loop
-    μ-loop
-    loop-holds
-    sub-i
-    mul-r
-    element-copy-out-r
-    try-link-requires
-    loop-less
-    loop-again
-    returns)
+pass-spec = tie.close (tie.spec Inv-loop μ-loop loop-holds sub-i mul-r element-copy-out-r
+    try-link-requires loop-less loop-again returns)

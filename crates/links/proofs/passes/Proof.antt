@@ -17,12 +17,6 @@ abbrev μ-loop : tie.MeasureT-loop
 loop-holds : tie.Need-loop-holds Inv-loop μ-loop
 loop-holds c = passes-none
 
-pass-requires : tie.Need-pass-requires Inv-loop μ-loop
-pass-requires c κs = search needs
-
-unchanged-requires : tie.Need-unchanged-requires Inv-loop μ-loop
-unchanged-requires c κs = search needs
-
 returns : tie.Need-returns Inv-loop μ-loop
 returns c =
     let e = c .before .unchanged .ensures .is (c .if1 .taken) in
@@ -51,14 +45,5 @@ loop-again : tie.Need-loop-again Inv-loop μ-loop
 loop-again c = passes-more (c .before .before .before .loop .inv) (c .before .before .pass .ensures)
 
 pub passes-spec : {M : Type 1} → statement M
-passes-spec =
-    tie.close
-    (tie.spec
-    Inv-loop
-    μ-loop
-    loop-holds
-    pass-requires
-    unchanged-requires
-    returns
-    loop-less
-    loop-again)
+passes-spec = tie.close (tie.spec Inv-loop μ-loop loop-holds (λ c κs. search needs)
+    (λ c κs. search needs) returns loop-less loop-again)

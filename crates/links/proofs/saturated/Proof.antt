@@ -10,11 +10,5 @@ returns c =
     let a = c .before .before .args in
     saturated-idle (a .one) (a .two) (a .k) (a .len) (rules (a .w)) (a .b) (c .if1 .taken)
 
-passes-requires : tie.Need-passes-requires
-passes-requires c κs = search needs
-
-returns-2 : tie.Need-returns-2
-returns-2 c = search needs
-
 pub saturated-spec : {M : Type 1} → statement M
-saturated-spec = tie.close (tie.spec returns passes-requires returns-2)
+saturated-spec = tie.close (tie.spec returns (λ c κs. search needs) (λ c. search needs))

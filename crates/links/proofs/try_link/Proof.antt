@@ -46,16 +46,5 @@ returns-4 : tie.Need-returns-4
 returns-4 c = rw (c .before .before .c2 .given .1) (c .try-beside .ensures)
 
 pub try-link-spec : {M : Type 1} → statement M
-try-link-spec =
-    tie.close
-    (tie.spec
-    enum-told
-    enum-told-2
-    enum-known-c
-    try-unary-requires
-    enum-known-c-2
-    try-beside-requires
-    returns
-    returns-2
-    returns-3
-    returns-4)
+try-link-spec = tie.close (tie.spec enum-told enum-told-2 enum-known-c try-unary-requires
+    enum-known-c-2 try-beside-requires returns returns-2 returns-3 returns-4)

@@ -7,24 +7,12 @@ use Rattle.lists.proofs.Putting.{ended-fits, ended-not}
 use Rattle.lists.proofs.finish.Statement.{statement}
 use Rattle.lists.proofs.finish.Tie as tie
 
-unfitting-requires : tie.Need-unfitting-requires
-unfitting-requires c κs = search needs
-
-same-length : tie.Need-same-length
-same-length c = search needs
-
 returns : tie.Need-returns
 returns c =
     let i = c .before .before .before .before in
     let f = not-true (i .before .before .before .args .l .fits) (i .if1 .taken) in
     let u = c .before .before .unfitting .ensures in
     rw (u .0) (ended-not false f (λ z. absurd (clash cc)) (u .1))
-
-unfitting-requires-2 : tie.Need-unfitting-requires-2
-unfitting-requires-2 c κs = search needs
-
-same-length-2 : tie.Need-same-length-2
-same-length-2 c = search needs
 
 returns-2 : tie.Need-returns-2
 returns-2 c =
@@ -33,12 +21,6 @@ returns-2 c =
     let u = c .before .before .unfitting2 .ensures in
     rw (u .0) (ended-not true f (λ z. i .if2 .taken) (u .1))
 
-clear-requires : tie.Need-clear-requires
-clear-requires c κs = search needs
-
-same-length-3 : tie.Need-same-length-3
-same-length-3 c = search needs
-
 returns-3 : tie.Need-returns-3
 returns-3 c =
     let i = c .before .before .before .before .before in
@@ -46,15 +28,6 @@ returns-3 c =
     (c .before .before .clear .ensures)
 
 pub finish-spec : {M : Type 1} → statement M
-finish-spec =
-    tie.close
-    (tie.spec
-    unfitting-requires
-    same-length
-    returns
-    unfitting-requires-2
-    same-length-2
-    returns-2
-    clear-requires
-    same-length-3
+finish-spec = tie.close (tie.spec (λ c κs. search needs) (λ c. search needs) returns
+    (λ c κs. search needs) (λ c. search needs) returns-2 (λ c κs. search needs) (λ c. search needs)
     returns-3)

@@ -22,23 +22,11 @@ returns-2 c =
     put-not true (not-false (s .args .l .fits) (c .before .if1 .left)) (s .pre .0)
     (λ z. omega (arith, c .if2 .taken))
 
-sub-if3 : tie.Need-sub-if3
-sub-if3 c = search needs
-
 returns-3 : tie.Need-returns-3
 returns-3 c =
     let s = c .before .before .before .before .before .before in
     put-not true (not-false (s .args .l .fits) (c .before .before .if1 .left)) (s .pre .0)
     (λ z. omega (arith, c .if3 .taken))
-
-put-bytes-requires : tie.Need-put-bytes-requires
-put-bytes-requires c κs = search needs
-
-add-t9 : tie.Need-add-t9
-add-t9 c = search needs
-
-same-length : tie.Need-same-length
-same-length c = search needs
 
 returns-4 : tie.Need-returns-4
 returns-4 c =
@@ -51,5 +39,5 @@ returns-4 c =
     (c .before .before .put-bytes .ensures)
 
 pub put-spec : {M : Type 1} → statement M
-put-spec = tie.close (tie.spec returns returns-2 sub-if3 returns-3 put-bytes-requires add-t9
-    same-length returns-4)
+put-spec = tie.close (tie.spec returns returns-2 (λ c. search needs) returns-3
+    (λ c κs. search needs) (λ c. search needs) (λ c. search needs) returns-4)

@@ -12,9 +12,6 @@ use Rattle.mark_change.proofs.Putting.{line-bytes, lay-rises, lay-withi
 use Rattle.mark_change.proofs.lay_at.Statement.{statement}
 use Rattle.mark_change.proofs.lay_at.Tie as tie
 
-piece-start-requires : tie.Need-piece-start-requires
-piece-start-requires c κs = search needs
-
 line-requires : tie.Need-line-requires
 line-requires c κs = let z = c .before .before in
     omega (arith, c .piece-start .ensures, start-in (z .args .s .now) (z .args .p) (z .pre .0))
@@ -85,14 +82,5 @@ returns c =
     )
 
 pub lay-at-spec : {M : Type 1} → statement M
-lay-at-spec =
-    tie.close
-    (tie.spec
-    piece-start-requires
-    line-requires
-    sub-line
-    part-line-start
-    part-line-end
-    piece-start-requires-2
-    add-t9
-    returns)
+lay-at-spec = tie.close (tie.spec (λ c κs. search needs) line-requires sub-line part-line-start
+    part-line-end piece-start-requires-2 add-t9 returns)

@@ -20,9 +20,6 @@ loop-holds c = walking-start _ _ _ (c .pre)
 shared-slice-read-if1 : tie.Need-shared-slice-read-if1 Inv-loop μ-loop
 shared-slice-read-if1 c = walking-in (c .before .before .loop .inv) (c .before .loop-test .taken)
 
-sub-left : tie.Need-sub-left Inv-loop μ-loop
-sub-left c = search needs
-
 add-at : tie.Need-add-at Inv-loop μ-loop
 add-at c = let l = c .before .before .before in
     omega (arith, walking-in (l .loop .inv) (c .before .before .loop-test .taken))
@@ -51,18 +48,5 @@ returns : tie.Need-returns Inv-loop μ-loop
 returns c = walking-end (c .before .loop .inv) (c .loop-test .left)
 
 pub piece-start-spec : {M : Type 1} → statement M
-piece-start-spec =
-    tie.close
-    (tie.spec
-    Inv-loop
-    μ-loop
-    loop-holds
-    shared-slice-read-if1
-    sub-left
-    add-at
-    loop-less
-    loop-again
-    add-at-2
-    loop-less-2
-    loop-again-2
-    returns)
+piece-start-spec = tie.close (tie.spec Inv-loop μ-loop loop-holds shared-slice-read-if1
+    (λ c. search needs) add-at loop-less loop-again add-at-2 loop-less-2 loop-again-2 returns)

@@ -20,9 +20,6 @@ rises z = lay-rises (z .args .s .now) (z .args .p) (z .pre .0) (z .pre .1)
 within : (z : tie.Start) → layEnd (z .args .s .now) (z .args .p) ≤ length (z .args .s .now)
 within z = lay-within (z .args .s .now) (z .args .p) (z .pre .0) (z .pre .1)
 
-lay-at-requires : tie.Need-lay-at-requires
-lay-at-requires c κs = search needs
-
 slice-aggregate-head : tie.Need-slice-aggregate-head
 slice-aggregate-head c =
     let l = c .before in
@@ -43,24 +40,6 @@ part-tail-start c = let l = c .before in omega (arith, l .lay-at .ensures .1, wi
 part-tail-end : tie.Need-part-tail-end
 part-tail-end c = let l = c .before in omega (arith, l .lay-at .ensures .1, within (start l))
 
-begin-requires : tie.Need-begin-requires
-begin-requires c κs = search needs
-
-put-requires : tie.Need-put-requires
-put-requires c κs = search needs
-
-put-requires-2 : tie.Need-put-requires-2
-put-requires-2 c κs = search needs
-
-put-requires-3 : tie.Need-put-requires-3
-put-requires-3 c κs = search needs
-
-finish-requires : tie.Need-finish-requires
-finish-requires c κs = search needs
-
-same-length : tie.Need-same-length
-same-length c = search needs
-
 returns : tie.Need-returns
 returns c =
     let f = c .before .before in
@@ -76,18 +55,7 @@ returns c =
     (p₂ .put2 .ensures .puts (p₁ .put .ensures .puts (b .begin .ensures .puts _)))))
 
 pub put-changed-spec : {M : Type 1} → statement M
-put-changed-spec =
-    tie.close
-    (tie.spec
-    lay-at-requires
-    slice-aggregate-head
-    sub-tail
-    part-tail-start
-    part-tail-end
-    begin-requires
-    put-requires
-    put-requires-2
-    put-requires-3
-    finish-requires
-    same-length
+put-changed-spec = tie.close (tie.spec (λ c κs. search needs) slice-aggregate-head sub-tail
+    part-tail-start part-tail-end (λ c κs. search needs) (λ c κs. search needs)
+    (λ c κs. search needs) (λ c κs. search needs) (λ c κs. search needs) (λ c. search needs)
     returns)

@@ -4,21 +4,6 @@ use Rattle.sets.proofs.Says.{holds}
 use Rattle.marks.proofs.allows_binary.Statement.{statement}
 use Rattle.marks.proofs.allows_binary.Tie as tie
 
-enum-told : tie.Need-enum-told
-enum-told c = search needs
-
-enum-told-2 : tie.Need-enum-told-2
-enum-told-2 c = search needs
-
-listed-requires : tie.Need-listed-requires
-listed-requires c κs = search needs
-
-enum-told-3 : tie.Need-enum-told-3
-enum-told-3 c = search needs
-
-listed-requires-2 : tie.Need-listed-requires-2
-listed-requires-2 c κs = search needs
-
 returns : tie.Need-returns
 returns c = rw (c .enum-told .given .1) (holds tt)
 
@@ -29,14 +14,5 @@ returns-3 : tie.Need-returns-3
 returns-3 c = rw (c .before .enum-told3 .given .1) (c .listed2 .ensures)
 
 pub allows-binary-spec : {M : Type 1} → statement M
-allows-binary-spec =
-    tie.close
-    (tie.spec
-    enum-told
-    enum-told-2
-    listed-requires
-    enum-told-3
-    listed-requires-2
-    returns
-    returns-2
-    returns-3)
+allows-binary-spec = tie.close (tie.spec (λ c. search needs) (λ c. search needs)
+    (λ c κs. search needs) (λ c. search needs) (λ c κs. search needs) returns returns-2 returns-3)

@@ -5,24 +5,6 @@ use Rattle.marks.proofs.Pairings.{says-itself}
 use Rattle.marks.proofs.allows_unary.Statement.{statement}
 use Rattle.marks.proofs.allows_unary.Tie as tie
 
-enum-told : tie.Need-enum-told
-enum-told c = search needs
-
-enum-told-2 : tie.Need-enum-told-2
-enum-told-2 c = search needs
-
-offside-requires : tie.Need-offside-requires
-offside-requires c κs = search needs
-
-enum-told-3 : tie.Need-enum-told-3
-enum-told-3 c = search needs
-
-offalign-requires : tie.Need-offalign-requires
-offalign-requires c κs = search needs
-
-enum-told-4 : tie.Need-enum-told-4
-enum-told-4 c = search needs
-
 returns : tie.Need-returns
 returns c = rw (c .enum-told .given .1) (holds tt)
 
@@ -36,7 +18,6 @@ returns-4 : tie.Need-returns-4
 returns-4 c = rw (c .enum-told4 .given .1) (says-itself _)
 
 pub allows-unary-spec : {M : Type 1} → statement M
-allows-unary-spec =
-    tie.close
-    (tie.spec enum-told enum-told-2 offside-requires enum-told-3 offalign-requires enum-told-4
-    returns returns-2 returns-3 returns-4)
+allows-unary-spec = tie.close (tie.spec (λ c. search needs) (λ c. search needs)
+    (λ c κs. search needs) (λ c. search needs) (λ c κs. search needs) (λ c. search needs) returns
+    returns-2 returns-3 returns-4)

@@ -5,12 +5,6 @@ use native.Mathlib.Omega.{arith}
 use Rattle.marks.proofs.grow.Statement.{statement}
 use Rattle.marks.proofs.grow.Tie as tie
 
-line-before-requires : tie.Need-line-before-requires
-line-before-requires c κs = search needs
-
-with-column-requires : tie.Need-with-column-requires
-with-column-requires c κs = search needs
-
 returns : tie.Need-returns
 returns c = record {
   later = λ k. c .with-column .ensures;
@@ -25,4 +19,4 @@ returns-2 c = record {
 }
 
 pub grow-spec : {M : Type 1} → statement M
-grow-spec = tie.close (tie.spec line-before-requires with-column-requires returns returns-2)
+grow-spec = tie.close (tie.spec (λ c κs. search needs) (λ c κs. search needs) returns returns-2)

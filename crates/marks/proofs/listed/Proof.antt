@@ -11,14 +11,9 @@ returns c = holds (λ a b. absurd (omega (arith, c .if1 .taken)))
 returns-2 : tie.Need-returns-2
 returns-2 c = holds (λ a b. absurd (omega (arith, c .if2 .taken)))
 
-cast-has : tie.Need-cast-has
-cast-has c = search needs
-
-has-requires : tie.Need-has-requires
-has-requires c κs = search needs
-
 returns-3 : tie.Need-returns-3
 returns-3 c = says-iff (λ i a b. i) (λ f. f (omega arith) (omega arith)) (c .has .ensures)
 
 pub listed-spec : {M : Type 1} → statement M
-listed-spec = tie.close (tie.spec returns returns-2 cast-has has-requires returns-3)
+listed-spec = tie.close (tie.spec returns returns-2 (λ c. search needs) (λ c κs. search needs)
+    returns-3)

@@ -5,24 +5,6 @@ use Rattle.sets.proofs.Says.{holds, fails}
 use Rattle.marks.proofs.pairs.Statement.{statement}
 use Rattle.marks.proofs.pairs.Tie as tie
 
-enum-told : tie.Need-enum-told
-enum-told c = search needs
-
-enum-told-2 : tie.Need-enum-told-2
-enum-told-2 c = search needs
-
-same-column-requires : tie.Need-same-column-requires
-same-column-requires c κs = search needs
-
-enum-told-3 : tie.Need-enum-told-3
-enum-told-3 c = search needs
-
-column-before-requires : tie.Need-column-before-requires
-column-before-requires c κs = search needs
-
-line-before-requires : tie.Need-line-before-requires
-line-before-requires c κs = search needs
-
 returns : tie.Need-returns
 returns c = rw (c .enum-told .given .1) (holds tt)
 
@@ -47,17 +29,6 @@ returns-5 c = rw (c .before .before .enum-told3 .given .1)
     (fails (λ p. c .before .column-before .ensures .isnt (c .if1 .left) (p .0)))
 
 pub pairs-spec : {M : Type 1} → statement M
-pairs-spec =
-    tie.close
-    (tie.spec
-    enum-told
-    enum-told-2
-    same-column-requires
-    enum-told-3
-    column-before-requires
-    line-before-requires
-    returns
-    returns-2
-    returns-3
-    returns-4
-    returns-5)
+pairs-spec = tie.close (tie.spec (λ c. search needs) (λ c. search needs) (λ c κs. search needs)
+    (λ c. search needs) (λ c κs. search needs) (λ c κs. search needs) returns returns-2 returns-3
+    returns-4 returns-5)

@@ -5,14 +5,8 @@ use Rattle.sets.proofs.Says.{holds, fails}
 use Rattle.marks.proofs.same_column.Statement.{statement}
 use Rattle.marks.proofs.same_column.Tie as tie
 
-column-before-requires : tie.Need-column-before-requires
-column-before-requires c κs = search needs
-
 returns : tie.Need-returns
 returns c = fails (λ q. omega (arith, q, c .before .column-before .ensures .is (c .if1 .taken)))
-
-column-before-requires-2 : tie.Need-column-before-requires-2
-column-before-requires-2 c κs = search needs
 
 returns-2 : tie.Need-returns-2
 returns-2 c = fails (λ q. omega (arith, q, c .before .column-before2 .ensures .is (c .if2 .taken)))
@@ -25,6 +19,5 @@ returns-3 c = holds (omega (
 ))
 
 pub same-column-spec : {M : Type 1} → statement M
-same-column-spec =
-    tie.close
-    (tie.spec column-before-requires returns column-before-requires-2 returns-2 returns-3)
+same-column-spec = tie.close (tie.spec (λ c κs. search needs) returns (λ c κs. search needs)
+    returns-2 returns-3)

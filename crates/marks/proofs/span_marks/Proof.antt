@@ -18,23 +18,11 @@ Inv-loop start len d known a k₀ left₀ k left =
 abbrev μ-loop : tie.MeasureT-loop
 μ-loop start len d known a k₀ left₀ k left = len - left
 
-first-marks-requires : tie.Need-first-marks-requires Inv-loop μ-loop
-first-marks-requires c κs = search needs
-
 returns : tie.Need-returns Inv-loop μ-loop
 returns c =
     let z = c .before .before .args in
     subst (Marked (half (z .t1)) (z .start) (z .len)) (sym (c .first-marks .ensures .same))
     (no-tokens _ _ _ _ _ (c .before .if1 .taken))
-
-mul-a : tie.Need-mul-a Inv-loop μ-loop
-mul-a c = omega arith
-
-element-copy-out-a : tie.Need-element-copy-out-a Inv-loop μ-loop
-element-copy-out-a c = omega arith
-
-first-marks-requires-2 : tie.Need-first-marks-requires-2 Inv-loop μ-loop
-first-marks-requires-2 c κs = search needs
 
 loop-holds : tie.Need-loop-holds Inv-loop μ-loop
 loop-holds c =
@@ -47,33 +35,6 @@ loop-holds c =
           (ap (λ (t : Token). t .column)
           (sym (drafted-at (z .t1) (z .start) (omega arith)))),
     )
-
-add-at : tie.Need-add-at Inv-loop μ-loop
-add-at c = omega arith
-
-sub-z : tie.Need-sub-z Inv-loop μ-loop
-sub-z c = omega arith
-
-mul-z : tie.Need-mul-z Inv-loop μ-loop
-mul-z c = omega arith
-
-element-copy-out-z : tie.Need-element-copy-out-z Inv-loop μ-loop
-element-copy-out-z c = omega arith
-
-mul-t : tie.Need-mul-t Inv-loop μ-loop
-mul-t c = omega arith
-
-element-copy-out-t : tie.Need-element-copy-out-t Inv-loop μ-loop
-element-copy-out-t c = omega arith
-
-with-next-requires : tie.Need-with-next-requires Inv-loop μ-loop
-with-next-requires c κs = omega arith
-
-add-left : tie.Need-add-left Inv-loop μ-loop
-add-left c = omega arith
-
-loop-less : tie.Need-loop-less Inv-loop μ-loop
-loop-less c = omega arith
 
 loop-again : tie.Need-loop-again Inv-loop μ-loop
 loop-again c =
@@ -92,25 +53,7 @@ returns-2 c =
     (omega (arith, c .loop-test .left)) (l .inv .2))
 
 pub span-marks-spec : {M : Type 1} → statement M
-span-marks-spec =
-    tie.close
-    (tie.spec
-    Inv-loop
-    μ-loop
-    first-marks-requires
-    returns
-    mul-a
-    element-copy-out-a
-    first-marks-requires-2
-    loop-holds
-    add-at
-    sub-z
-    mul-z
-    element-copy-out-z
-    mul-t
-    element-copy-out-t
-    with-next-requires
-    add-left
-    loop-less
-    loop-again
-    returns-2)
+span-marks-spec = tie.close (tie.spec Inv-loop μ-loop (λ c κs. search needs) returns
+    (λ c. omega arith) (λ c. omega arith) (λ c κs. search needs) loop-holds (λ c. omega arith)
+    (λ c. omega arith) (λ c. omega arith) (λ c. omega arith) (λ c. omega arith) (λ c. omega arith)
+    (λ c κs. omega arith) (λ c. omega arith) (λ c. omega arith) loop-again returns-2)

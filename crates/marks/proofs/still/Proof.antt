@@ -6,14 +6,8 @@ use Rattle.marks.proofs.Pairings.{says-itself}
 use Rattle.marks.proofs.still.Statement.{statement}
 use Rattle.marks.proofs.still.Tie as tie
 
-line-before-requires : tie.Need-line-before-requires
-line-before-requires c κs = search needs
-
 returns : tie.Need-returns
 returns c = fails (λ p. omega (arith, p .1, c .before .line-before .ensures .is (c .if1 .taken)))
-
-line-before-requires-2 : tie.Need-line-before-requires-2
-line-before-requires-2 c κs = search needs
 
 returns-2 : tie.Need-returns-2
 returns-2 c = fails (λ p. omega (arith, p .1, c .before .line-before2 .ensures .is (c .if2 .taken)))
@@ -31,5 +25,5 @@ returns-3 c = says-iff
     (λ p. p .0) (says-itself _)
 
 pub still-spec : {M : Type 1} → statement M
-still-spec =
-    tie.close (tie.spec line-before-requires returns line-before-requires-2 returns-2 returns-3)
+still-spec = tie.close (tie.spec (λ c κs. search needs) returns (λ c κs. search needs) returns-2
+    returns-3)

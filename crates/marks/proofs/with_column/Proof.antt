@@ -7,15 +7,6 @@ use Rattle.marks.specs.declared.Least.the-variants as Least
 use Rattle.marks.proofs.with_column.Statement.{statement}
 use Rattle.marks.proofs.with_column.Tie as tie
 
-enum-told : tie.Need-enum-told
-enum-told c = search needs
-
-enum-known-v : tie.Need-enum-known-v
-enum-known-v c = search needs
-
-column-before-requires : tie.Need-column-before-requires
-column-before-requires c κs = search needs
-
 -- of two columns the smaller
 first-less : (l c : ℕ) → c < l → c ≡ min l c
 first-less l c h = omega (arith, h)
@@ -38,5 +29,5 @@ returns-3 c =
     (not-less _ _ (c .before .column-before .ensures .isnt (c .if1 .left))))
 
 pub with-column-spec : {M : Type 1} → statement M
-with-column-spec =
-    tie.close (tie.spec enum-told enum-known-v column-before-requires returns returns-2 returns-3)
+with-column-spec = tie.close (tie.spec (λ c. search needs) (λ c. search needs)
+    (λ c κs. search needs) returns returns-2 returns-3)

@@ -5,12 +5,6 @@ use Rattle.marks.proofs.Joining.{grown}
 use Rattle.marks.proofs.with_next.Statement.{statement}
 use Rattle.marks.proofs.with_next.Tie as tie
 
-with-known-requires : tie.Need-with-known-requires
-with-known-requires c κs = search needs
-
-with-open-requires : tie.Need-with-open-requires
-with-open-requires c κs = search needs
-
 returns : tie.Need-returns
 returns c = grown (record {
   counts = λ k. c .with-known .ensures;
@@ -24,4 +18,5 @@ returns-2 c = grown (record {
 })
 
 pub with-next-spec : {M : Type 1} → statement M
-with-next-spec = tie.close (tie.spec with-known-requires with-open-requires returns returns-2)
+with-next-spec = tie.close (tie.spec (λ c κs. search needs) (λ c κs. search needs) returns
+    returns-2)

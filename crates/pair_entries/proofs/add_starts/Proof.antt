@@ -5,18 +5,6 @@ use borrow.Author.Needs.{needs}
 use Rattle.pair_entries.proofs.add_starts.Statement.{statement}
 use Rattle.pair_entries.proofs.add_starts.Tie as tie
 
-some-useful-requires : tie.Need-some-useful-requires
-some-useful-requires c κs = search needs
-
-mul-frame-at : tie.Need-mul-frame-at
-mul-frame-at c = search needs
-
-frame-at-requires : tie.Need-frame-at-requires
-frame-at-requires c κs = search needs
-
-list-evens-requires : tie.Need-list-evens-requires
-list-evens-requires c κs = search needs
-
 enter-all-requires : tie.Need-enter-all-requires
 enter-all-requires c κs =
     let r = c .before .before .before .before .before .before .before .before .before .pre in
@@ -26,12 +14,6 @@ enter-all-requires c κs =
       (listed l, r .1 .0),
     )
 
-add-t9 : tie.Need-add-t9
-add-t9 c = search needs
-
-same-length : tie.Need-same-length
-same-length c = search needs
-
 returns : tie.Need-returns
 returns c =
     let r = c .before .before .before .before .before .before .before .before .before .before
@@ -40,23 +22,10 @@ returns c =
     .ensures) at (c .before .before .before .before .before .before .list-evens .ensures) in
     starts-one (r .0 .2) (r .1 .0) (r .1 .1) l (c .before .before .enter-all .ensures)
 
-add-t14 : tie.Need-add-t14
-add-t14 c = search needs
-
 returns-2 : tie.Need-returns-2
 returns-2 c = starts-none (c .before .some-useful .ensures) (c .if1 .left)
 
 pub add-starts-spec : {M : Type 1} → statement M
-add-starts-spec =
-    tie.close
-    (tie.spec
-    some-useful-requires
-    mul-frame-at
-    frame-at-requires
-    list-evens-requires
-    enter-all-requires
-    add-t9
-    same-length
-    returns
-    add-t14
-    returns-2)
+add-starts-spec = tie.close (tie.spec (λ c κs. search needs) (λ c. search needs)
+    (λ c κs. search needs) (λ c κs. search needs) enter-all-requires (λ c. search needs)
+    (λ c. search needs) returns (λ c. search needs) returns-2)

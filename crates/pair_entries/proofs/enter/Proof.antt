@@ -3,20 +3,8 @@ use borrow.Author.Needs.{needs}
 use Rattle.pair_entries.proofs.enter.Statement.{statement}
 use Rattle.pair_entries.proofs.enter.Tie as tie
 
-useful-kinds-requires : tie.Need-useful-kinds-requires
-useful-kinds-requires c κs = search needs
-
 returns : tie.Need-returns
 returns c = entered-none _ _ _ _ (c .before .useful-kinds .ensures .absent (c .if1 .taken))
-
-put-entry-requires : tie.Need-put-entry-requires
-put-entry-requires c κs = search needs
-
-add-result : tie.Need-add-result
-add-result c = search needs
-
-same-length : tie.Need-same-length
-same-length c = search needs
 
 returns-2 : tie.Need-returns-2
 returns-2 c = entered-one (c .before .before .before .before .before .before .before .pre .0 .1)
@@ -27,6 +15,5 @@ returns-2 c = entered-one (c .before .before .before .before .before .before .be
     (c .before .before .before .before .before .before .before .pre .1 .1)
 
 pub enter-spec : {M : Type 1} → statement M
-enter-spec =
-    tie.close
-    (tie.spec useful-kinds-requires returns put-entry-requires add-result same-length returns-2)
+enter-spec = tie.close (tie.spec (λ c κs. search needs) returns (λ c κs. search needs)
+    (λ c. search needs) (λ c. search needs) returns-2)

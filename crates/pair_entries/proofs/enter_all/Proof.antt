@@ -17,12 +17,6 @@ abbrev μ-loop : tie.MeasureT-loop
 loop-holds : tie.Need-loop-holds Inv-loop μ-loop
 loop-holds c = (entered-zero _ _ _ _, omega arith)
 
-mul-enter : tie.Need-mul-enter Inv-loop μ-loop
-mul-enter c = search needs
-
-add-enter : tie.Need-add-enter Inv-loop μ-loop
-add-enter c = search needs
-
 enter-requires : tie.Need-enter-requires Inv-loop μ-loop
 enter-requires c κs =
     let v = c .before .before .loop .inv .0 in
@@ -34,12 +28,6 @@ enter-requires c κs =
         r .1 .1,
       ),
     )
-
-add-s : tie.Need-add-s Inv-loop μ-loop
-add-s c = search needs
-
-loop-less : tie.Need-loop-less Inv-loop μ-loop
-loop-less c = search needs
 
 loop-again : tie.Need-loop-again Inv-loop μ-loop
 loop-again c = (
@@ -57,17 +45,6 @@ returns c =
     rw e at (c .before .loop .inv .0)
 
 pub enter-all-spec : {M : Type 1} → statement M
-enter-all-spec =
-    tie.close
-    (tie.spec
-    Inv-loop
-    μ-loop
-    loop-holds
-    mul-enter
-    add-enter
-    enter-requires
-    add-s
-    loop-less
-    loop-again
-    same-length
-    returns)
+enter-all-spec = tie.close (tie.spec Inv-loop μ-loop loop-holds (λ c. search needs)
+    (λ c. search needs) enter-requires (λ c. search needs) (λ c. search needs) loop-again
+    same-length returns)

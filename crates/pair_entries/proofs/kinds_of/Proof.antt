@@ -16,15 +16,6 @@ abbrev μ-loop : tie.MeasureT-loop
 loop-holds : tie.Need-loop-holds Inv-loop μ-loop
 loop-holds c = (kinds-none _, omega arith)
 
-with-kind-requires : tie.Need-with-kind-requires Inv-loop μ-loop
-with-kind-requires c κs = search needs
-
-add-k : tie.Need-add-k Inv-loop μ-loop
-add-k c = search needs
-
-loop-less : tie.Need-loop-less Inv-loop μ-loop
-loop-less c = search needs
-
 loop-again : tie.Need-loop-again Inv-loop μ-loop
 loop-again c = (kinds-more (c .before .before .loop .inv .0) (c .with-kind .ensures), search needs)
 
@@ -34,6 +25,5 @@ returns c =
     kinds-all (rw e at (c .before .loop .inv .0))
 
 pub kinds-of-spec : {M : Type 1} → statement M
-kinds-of-spec =
-    tie.close
-    (tie.spec Inv-loop μ-loop loop-holds with-kind-requires add-k loop-less loop-again returns)
+kinds-of-spec = tie.close (tie.spec Inv-loop μ-loop loop-holds (λ c κs. search needs)
+    (λ c. search needs) (λ c. search needs) loop-again returns)

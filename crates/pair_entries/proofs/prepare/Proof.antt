@@ -62,18 +62,5 @@ loop-again c = prepares (prepared
     (c .before .before .before .before .if1 .left) (omega arith) (omega arith)
 
 pub prepare-spec : {M : Type 1} → statement M
-prepare-spec =
-    tie.close
-    (tie.spec
-    Inv-loop
-    μ-loop
-    loop-holds
-    add-starts-requires
-    same-length
-    returns
-    same-length-2
-    returns-2
-    same-length-3
-    returns-3
-    loop-less
-    loop-again)
+prepare-spec = tie.close (tie.spec Inv-loop μ-loop loop-holds add-starts-requires same-length
+    returns same-length-2 returns-2 same-length-3 returns-3 loop-less loop-again)

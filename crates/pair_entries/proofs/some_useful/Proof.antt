@@ -15,12 +15,6 @@ Inv-loop p s₀ s = NoneUseful (36 * p) (36 * p + s) false × (s ≤ 36)
 abbrev μ-loop : tie.MeasureT-loop
 μ-loop p s₀ s = 36 - s
 
-mul-frame-at : tie.Need-mul-frame-at Inv-loop μ-loop
-mul-frame-at c = search needs
-
-frame-at-requires : tie.Need-frame-at-requires Inv-loop μ-loop
-frame-at-requires c κs = search needs
-
 returns : tie.Need-returns Inv-loop μ-loop
 returns c = none-cut₁ _ (rw (c .before .before .frame-at .ensures) at (c .if1 .taken))
 
@@ -31,23 +25,8 @@ returns-2 c =
 loop-holds : tie.Need-loop-holds Inv-loop μ-loop
 loop-holds c = (none-yet _, omega arith)
 
-mul-useful-kinds : tie.Need-mul-useful-kinds Inv-loop μ-loop
-mul-useful-kinds c = search needs
-
-add-useful-kinds : tie.Need-add-useful-kinds Inv-loop μ-loop
-add-useful-kinds c = search needs
-
-useful-kinds-requires : tie.Need-useful-kinds-requires Inv-loop μ-loop
-useful-kinds-requires c κs = search needs
-
 returns-3 : tie.Need-returns-3 Inv-loop μ-loop
 returns-3 c = record { absent = λ e. absurd (true-not-false e) }
-
-add-s : tie.Need-add-s Inv-loop μ-loop
-add-s c = search needs
-
-loop-less : tie.Need-loop-less Inv-loop μ-loop
-loop-less c = search needs
 
 loop-again : tie.Need-loop-again Inv-loop μ-loop
 loop-again c = (
@@ -62,21 +41,6 @@ returns-4 c =
     rw e at (c .before .loop .inv .0)
 
 pub some-useful-spec : {M : Type 1} → statement M
-some-useful-spec =
-    tie.close
-    (tie.spec
-    Inv-loop
-    μ-loop
-    mul-frame-at
-    frame-at-requires
-    returns
-    returns-2
-    loop-holds
-    mul-useful-kinds
-    add-useful-kinds
-    useful-kinds-requires
-    returns-3
-    add-s
-    loop-less
-    loop-again
-    returns-4)
+some-useful-spec = tie.close (tie.spec Inv-loop μ-loop (λ c. search needs) (λ c κs. search needs)
+    returns returns-2 loop-holds (λ c. search needs) (λ c. search needs) (λ c κs. search needs)
+    returns-3 (λ c. search needs) (λ c. search needs) loop-again returns-4)

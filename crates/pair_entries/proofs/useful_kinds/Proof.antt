@@ -3,15 +3,6 @@ use borrow.Author.Needs.{needs}
 use Rattle.pair_entries.proofs.useful_kinds.Statement.{statement}
 use Rattle.pair_entries.proofs.useful_kinds.Tie as tie
 
-frame-at-requires : tie.Need-frame-at-requires
-frame-at-requires c κs = search needs
-
-ranked-requires : tie.Need-ranked-requires
-ranked-requires c κs = search needs
-
-kinds-of-requires : tie.Need-kinds-of-requires
-kinds-of-requires c κs = search needs
-
 returns : tie.Need-returns
 returns c = kinds-if (rw (c .before .before .before .frame-at .ensures) at (c .kinds-of .ensures))
 
@@ -20,5 +11,5 @@ returns-2 c = kinds-unranked (rw (c .before .before .frame-at .ensures) at
     (c .before .ranked .ensures .isnt (c .if1 .left)))
 
 pub useful-kinds-spec : {M : Type 1} → statement M
-useful-kinds-spec =
-    tie.close (tie.spec frame-at-requires ranked-requires kinds-of-requires returns returns-2)
+useful-kinds-spec = tie.close (tie.spec (λ c κs. search needs) (λ c κs. search needs)
+    (λ c κs. search needs) returns returns-2)

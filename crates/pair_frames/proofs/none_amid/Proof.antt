@@ -5,43 +5,25 @@ use borrow.Author.Needs.{needs}
 use Rattle.pair_frames.proofs.none_amid.Statement.{statement}
 use Rattle.pair_frames.proofs.none_amid.Tie as tie
 
-amid-requires : tie.Need-amid-requires
-amid-requires c κs = search needs
-
 returns : tie.Need-returns
 returns c = let h = c .before .amid .ensures .is (c .if1 .taken) in
     fails (λ n. n .absent (at start₁) (h .low) (h .high))
-
-amid-requires-2 : tie.Need-amid-requires-2
-amid-requires-2 c κs = search needs
 
 returns-2 : tie.Need-returns-2
 returns-2 c = let h = c .before .amid2 .ensures .is (c .if2 .taken) in
     fails (λ n. n .absent (at cut₁) (h .low) (h .high))
 
-amid-requires-3 : tie.Need-amid-requires-3
-amid-requires-3 c κs = search needs
-
 returns-3 : tie.Need-returns-3
 returns-3 c = let h = c .before .amid3 .ensures .is (c .if3 .taken) in
     fails (λ n. n .absent (at start₂) (h .low) (h .high))
-
-amid-requires-4 : tie.Need-amid-requires-4
-amid-requires-4 c κs = search needs
 
 returns-4 : tie.Need-returns-4
 returns-4 c = let h = c .before .amid4 .ensures .is (c .if4 .taken) in
     fails (λ n. n .absent (at cut₂) (h .low) (h .high))
 
-amid-requires-5 : tie.Need-amid-requires-5
-amid-requires-5 c κs = search needs
-
 returns-5 : tie.Need-returns-5
 returns-5 c = let h = c .before .amid5 .ensures .is (c .if5 .taken) in
     fails (λ n. n .absent stop₁ (h .low) (h .high))
-
-amid-requires-6 : tie.Need-amid-requires-6
-amid-requires-6 c κs = search needs
 
 returns-6 : tie.Need-returns-6
 returns-6 c = let h = c .before .amid6 .ensures .is (c .if6 .taken) in
@@ -64,19 +46,6 @@ returns-7 c =
     (c .before .amid6 .ensures .isnt (c .if6 .left)))
 
 pub none-amid-spec : {M : Type 1} → statement M
-none-amid-spec =
-    tie.close
-    (tie.spec
-    amid-requires
-    returns
-    amid-requires-2
-    returns-2
-    amid-requires-3
-    returns-3
-    amid-requires-4
-    returns-4
-    amid-requires-5
-    returns-5
-    amid-requires-6
-    returns-6
-    returns-7)
+none-amid-spec = tie.close (tie.spec (λ c κs. search needs) returns (λ c κs. search needs) returns-2
+    (λ c κs. search needs) returns-3 (λ c κs. search needs) returns-4 (λ c κs. search needs)
+    returns-5 (λ c κs. search needs) returns-6 returns-7)

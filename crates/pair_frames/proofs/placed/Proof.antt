@@ -4,9 +4,6 @@ use borrow.Author.Needs.{needs}
 use Rattle.pair_frames.proofs.placed.Statement.{statement}
 use Rattle.pair_frames.proofs.placed.Tie as tie
 
-amid-requires : tie.Need-amid-requires
-amid-requires c κs = search needs
-
 returns : tie.Need-returns
 returns c =
     says-iff
@@ -18,9 +15,6 @@ returns c =
     })
     (λ h. let k = h .two (c .before .if1 .taken) in record { low = k .0; high = k .1 })
     (c .amid .ensures)
-
-none-amid-requires : tie.Need-none-amid-requires
-none-amid-requires c κs = search needs
 
 returns-2 : tie.Need-returns-2
 returns-2 c =
@@ -46,5 +40,5 @@ returns-4 : tie.Need-returns-4
 returns-4 c = fails (λ h. c .if2 .left (h .one (omega (arith, c .before .if1 .left))))
 
 pub placed-spec : {M : Type 1} → statement M
-placed-spec =
-    tie.close (tie.spec amid-requires returns none-amid-requires returns-2 returns-3 returns-4)
+placed-spec = tie.close (tie.spec (λ c κs. search needs) returns (λ c κs. search needs) returns-2
+    returns-3 returns-4)

@@ -6,43 +6,25 @@ use borrow.Author.Needs.{needs}
 use Rattle.pair_frames.proofs.ranked.Statement.{statement}
 use Rattle.pair_frames.proofs.ranked.Tie as tie
 
-points-before-requires : tie.Need-points-before-requires
-points-before-requires c κs = search needs
-
 returns : tie.Need-returns
 returns c =
     fails (λ h. c .if1 .taken (c .before .before .points-before .ensures ∙ h .rank (at start₁)))
-
-points-before-requires-2 : tie.Need-points-before-requires-2
-points-before-requires-2 c κs = search needs
 
 returns-2 : tie.Need-returns-2
 returns-2 c =
     fails (λ h. c .if2 .taken (c .before .before .points-before2 .ensures ∙ h .rank (at start₂)))
 
-points-before-requires-3 : tie.Need-points-before-requires-3
-points-before-requires-3 c κs = search needs
-
 returns-3 : tie.Need-returns-3
 returns-3 c =
     fails (λ h. c .if3 .taken (c .before .before .points-before3 .ensures ∙ h .rank (at cut₁)))
-
-points-before-requires-4 : tie.Need-points-before-requires-4
-points-before-requires-4 c κs = search needs
 
 returns-4 : tie.Need-returns-4
 returns-4 c =
     fails (λ h. c .if4 .taken (c .before .before .points-before4 .ensures ∙ h .rank (at cut₂)))
 
-points-before-requires-5 : tie.Need-points-before-requires-5
-points-before-requires-5 c κs = search needs
-
 returns-5 : tie.Need-returns-5
 returns-5 c =
     fails (λ h. c .if5 .taken (c .before .before .points-before5 .ensures ∙ h .rank stop₁))
-
-points-before-requires-6 : tie.Need-points-before-requires-6
-points-before-requires-6 c κs = search needs
 
 returns-6 : tie.Need-returns-6
 returns-6 c =
@@ -73,18 +55,6 @@ returns-6 c =
     (λ h. c .before .points-before6 .ensures ∙ h .rank stop₂) (says-eqb _ _)
 
 pub ranked-spec : {M : Type 1} → statement M
-ranked-spec =
-    tie.close
-    (tie.spec
-    points-before-requires
-    returns
-    points-before-requires-2
-    returns-2
-    points-before-requires-3
-    returns-3
-    points-before-requires-4
-    returns-4
-    points-before-requires-5
-    returns-5
-    points-before-requires-6
-    returns-6)
+ranked-spec = tie.close (tie.spec (λ c κs. search needs) returns (λ c κs. search needs) returns-2
+    (λ c κs. search needs) returns-3 (λ c κs. search needs) returns-4 (λ c κs. search needs)
+    returns-5 (λ c κs. search needs) returns-6)

@@ -16,12 +16,6 @@ returns-3 c = fails (λ h. omega (arith, h .before, c .if3 .taken))
 returns-4 : tie.Need-returns-4
 returns-4 c = fails (λ h. omega (arith, h .behind, c .if4 .taken))
 
-placed-requires : tie.Need-placed-requires
-placed-requires c κs = search needs
-
-placed-requires-2 : tie.Need-placed-requires-2
-placed-requires-2 c κs = search needs
-
 returns-5 : tie.Need-returns-5
 returns-5 c =
     says-iff
@@ -40,14 +34,5 @@ returns-6 : tie.Need-returns-6
 returns-6 c = fails (λ h. c .before .placed .ensures .isnt (c .if5 .left) (h .placed₁))
 
 pub suits-spec : {M : Type 1} → statement M
-suits-spec =
-    tie.close
-    (tie.spec
-    returns
-    returns-2
-    returns-3
-    returns-4
-    placed-requires
-    placed-requires-2
-    returns-5
-    returns-6)
+suits-spec = tie.close (tie.spec returns returns-2 returns-3 returns-4 (λ c κs. search needs)
+    (λ c κs. search needs) returns-5 returns-6)

@@ -20,17 +20,11 @@ abbrev μ-loop : tie.MeasureT-loop
 inherited-requires : tie.Need-inherited-requires Inv-loop μ-loop
 inherited-requires c κs = c .before .pre .0
 
-slice-aggregate-fill-firsts : tie.Need-slice-aggregate-fill-firsts Inv-loop μ-loop
-slice-aggregate-fill-firsts c = search needs
-
 fill-firsts-requires : tie.Need-fill-firsts-requires Inv-loop μ-loop
 fill-firsts-requires c κs = (c .before .before .before .pre .0, search needs)
 
 loop-holds : tie.Need-loop-holds Inv-loop μ-loop
 loop-holds c = (omega arith, refl, slots-none)
-
-slice-aggregate-put-shape : tie.Need-slice-aggregate-put-shape Inv-loop μ-loop
-slice-aggregate-put-shape c = search needs
 
 put-shape-requires : tie.Need-put-shape-requires Inv-loop μ-loop
 put-shape-requires c κs =
@@ -78,19 +72,6 @@ returns c =
     }
 
 pub fill-nodes-spec : {M : Type 1} → statement M
-fill-nodes-spec =
-    tie.close
-    (tie.spec
-    Inv-loop
-    μ-loop
-    inherited-requires
-    slice-aggregate-fill-firsts
-    fill-firsts-requires
-    loop-holds
-    slice-aggregate-put-shape
-    put-shape-requires
-    add-i
-    loop-less
-    loop-again
-    same-length
-    returns)
+fill-nodes-spec = tie.close (tie.spec Inv-loop μ-loop inherited-requires (λ c. search needs)
+    fill-firsts-requires loop-holds (λ c. search needs) put-shape-requires add-i loop-less
+    loop-again same-length returns)

@@ -8,18 +8,6 @@ use borrow.Author.Needs.{needs}
 use Rattle.pair_nodes.proofs.one_node.Statement.{statement}
 use Rattle.pair_nodes.proofs.one_node.Tie as tie
 
-keep-mask-requires : tie.Need-keep-mask-requires
-keep-mask-requires c κs = search needs
-
-keep-mask-requires-2 : tie.Need-keep-mask-requires-2
-keep-mask-requires-2 c κs = search needs
-
-mul-begin : tie.Need-mul-begin
-mul-begin c = search needs
-
-shared-slice-read-begin : tie.Need-shared-slice-read-begin
-shared-slice-read-begin c = search needs
-
 returns : tie.Need-returns
 returns c =
     let z = c .before .before .before .before in
@@ -50,6 +38,5 @@ returns c =
     }
 
 pub one-node-spec : {M : Type 1} → statement M
-one-node-spec =
-    tie.close
-    (tie.spec keep-mask-requires keep-mask-requires-2 mul-begin shared-slice-read-begin returns)
+one-node-spec = tie.close (tie.spec (λ c κs. search needs) (λ c κs. search needs)
+    (λ c. search needs) (λ c. search needs) returns)

@@ -21,9 +21,6 @@ with-requires c κs = omega (arith, c .loop-test .taken, c .before .before .pre)
 add-x : tie.Need-add-x Inv-loop μ-loop
 add-x c = omega (arith, c .before .loop-test .taken, c .before .before .before .pre)
 
-loop-less : tie.Need-loop-less Inv-loop μ-loop
-loop-less c = omega arith
-
 loop-again : tie.Need-loop-again Inv-loop μ-loop
 loop-again c =
     let i = c .before .before .loop .inv in
@@ -33,6 +30,5 @@ returns : tie.Need-returns Inv-loop μ-loop
 returns c = range-all (omega (arith, c .loop-test .left)) (c .before .loop .inv .1)
 
 pub range-spec : {M : Type 1} → statement M
-range-spec =
-    tie.close
-    (tie.spec Inv-loop μ-loop loop-holds with-requires add-x loop-less loop-again returns)
+range-spec = tie.close (tie.spec Inv-loop μ-loop loop-holds with-requires add-x (λ c. omega arith)
+    loop-again returns)

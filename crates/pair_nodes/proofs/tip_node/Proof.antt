@@ -6,9 +6,6 @@ use borrow.Author.Needs.{needs}
 use Rattle.pair_nodes.proofs.tip_node.Statement.{statement}
 use Rattle.pair_nodes.proofs.tip_node.Tie as tie
 
-range-requires : tie.Need-range-requires
-range-requires c κs = search needs
-
 returns : tie.Need-returns
 returns c =
     let z = c .before .before in
@@ -36,4 +33,4 @@ returns c =
     }
 
 pub tip-node-spec : {M : Type 1} → statement M
-tip-node-spec = tie.close (tie.spec range-requires returns)
+tip-node-spec = tie.close (tie.spec (λ c κs. search needs) returns)

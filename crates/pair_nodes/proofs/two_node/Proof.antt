@@ -7,27 +7,6 @@ use borrow.Author.Needs.{needs}
 use Rattle.pair_nodes.proofs.two_node.Statement.{statement}
 use Rattle.pair_nodes.proofs.two_node.Tie as tie
 
-keep-mask-requires : tie.Need-keep-mask-requires
-keep-mask-requires c κs = search needs
-
-join-mask-requires : tie.Need-join-mask-requires
-join-mask-requires c κs = search needs
-
-part-mask-requires : tie.Need-part-mask-requires
-part-mask-requires c κs = search needs
-
-mul-begin : tie.Need-mul-begin
-mul-begin c = search needs
-
-shared-slice-read-begin : tie.Need-shared-slice-read-begin
-shared-slice-read-begin c = search needs
-
-mul-next : tie.Need-mul-next
-mul-next c = search needs
-
-shared-slice-read-next : tie.Need-shared-slice-read-next
-shared-slice-read-next c = search needs
-
 returns : tie.Need-returns
 returns c =
     let z = c .before .before .before .before .before .before in
@@ -62,14 +41,6 @@ returns c =
     }
 
 pub two-node-spec : {M : Type 1} → statement M
-two-node-spec =
-    tie.close
-    (tie.spec
-    keep-mask-requires
-    join-mask-requires
-    part-mask-requires
-    mul-begin
-    shared-slice-read-begin
-    mul-next
-    shared-slice-read-next
-    returns)
+two-node-spec = tie.close (tie.spec (λ c κs. search needs) (λ c κs. search needs)
+    (λ c κs. search needs) (λ c. search needs) (λ c. search needs) (λ c. search needs)
+    (λ c. search needs) returns)

@@ -4,18 +4,6 @@ use borrow.Author.Needs.{needs}
 use Rattle.pair_offsets.proofs.even.Statement.{statement}
 use Rattle.pair_offsets.proofs.even.Tie as tie
 
-fine-requires : tie.Need-fine-requires
-fine-requires c κs = search needs
-
-fine-requires-2 : tie.Need-fine-requires-2
-fine-requires-2 c κs = search needs
-
-fine-requires-3 : tie.Need-fine-requires-3
-fine-requires-3 c κs = search needs
-
-fine-requires-4 : tie.Need-fine-requires-4
-fine-requires-4 c κs = search needs
-
 returns : tie.Need-returns
 returns c =
     says-even _ _ (c .before .before .before .before .before .before .fine .ensures)
@@ -34,14 +22,5 @@ returns-4 : tie.Need-returns-4
 returns-4 c = fails (not-even₁ _ _ (c .before .fine .ensures) (c .if1 .left))
 
 pub even-spec : {M : Type 1} → statement M
-even-spec =
-    tie.close
-    (tie.spec
-    fine-requires
-    fine-requires-2
-    fine-requires-3
-    fine-requires-4
-    returns
-    returns-2
-    returns-3
-    returns-4)
+even-spec = tie.close (tie.spec (λ c κs. search needs) (λ c κs. search needs) (λ c κs. search needs)
+    (λ c κs. search needs) returns returns-2 returns-3 returns-4)

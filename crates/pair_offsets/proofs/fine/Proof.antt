@@ -3,12 +3,6 @@ use borrow.Author.Needs.{needs}
 use Rattle.pair_offsets.proofs.fine.Statement.{statement}
 use Rattle.pair_offsets.proofs.fine.Tie as tie
 
-sames-requires : tie.Need-sames-requires
-sames-requires c κs = search needs
-
-tris-requires : tie.Need-tris-requires
-tris-requires c κs = search needs
-
 returns : tie.Need-returns
 returns c =
     let s = c .before .before .sames .ensures in
@@ -27,4 +21,4 @@ returns-2 c =
     }
 
 pub fine-spec : {M : Type 1} → statement M
-fine-spec = tie.close (tie.spec sames-requires tris-requires returns returns-2)
+fine-spec = tie.close (tie.spec (λ c κs. search needs) (λ c κs. search needs) returns returns-2)

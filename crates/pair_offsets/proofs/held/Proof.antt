@@ -3,24 +3,6 @@ use borrow.Author.Needs.{needs}
 use Rattle.pair_offsets.proofs.held.Statement.{statement}
 use Rattle.pair_offsets.proofs.held.Tie as tie
 
-member-requires : tie.Need-member-requires
-member-requires c κs = search needs
-
-member-requires-2 : tie.Need-member-requires-2
-member-requires-2 c κs = search needs
-
-member-requires-3 : tie.Need-member-requires-3
-member-requires-3 c κs = search needs
-
-member-requires-4 : tie.Need-member-requires-4
-member-requires-4 c κs = search needs
-
-member-requires-5 : tie.Need-member-requires-5
-member-requires-5 c κs = search needs
-
-member-requires-6 : tie.Need-member-requires-6
-member-requires-6 c κs = search needs
-
 returns : tie.Need-returns
 returns c =
     says-iff
@@ -55,18 +37,6 @@ returns-6 : tie.Need-returns-6
 returns-6 c = fails (λ h. c .before .member .ensures .isnt (c .if1 .left) (h .ac))
 
 pub held-spec : {M : Type 1} → statement M
-held-spec =
-    tie.close
-    (tie.spec
-    member-requires
-    member-requires-2
-    member-requires-3
-    member-requires-4
-    member-requires-5
-    member-requires-6
-    returns
-    returns-2
-    returns-3
-    returns-4
-    returns-5
-    returns-6)
+held-spec = tie.close (tie.spec (λ c κs. search needs) (λ c κs. search needs) (λ c κs. search needs)
+    (λ c κs. search needs) (λ c κs. search needs) (λ c κs. search needs) returns returns-2 returns-3
+    returns-4 returns-5 returns-6)

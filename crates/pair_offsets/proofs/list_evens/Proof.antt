@@ -28,12 +28,6 @@ push-even-requires c κs =
           .before .pre,
     )
 
-add-t : tie.Need-add-t Inv-loop μ-loop
-add-t c = search needs
-
-loop-less : tie.Need-loop-less Inv-loop μ-loop
-loop-less c = search needs
-
 loop-again : tie.Need-loop-again Inv-loop μ-loop
 loop-again c = (
   search needs,
@@ -50,5 +44,5 @@ returns c =
     rw e at (c .before .loop .inv .1)
 
 pub list-evens-spec : {M : Type 1} → statement M
-list-evens-spec = tie.close (tie.spec Inv-loop μ-loop loop-holds push-even-requires add-t loop-less
-    loop-again same-length returns)
+list-evens-spec = tie.close (tie.spec Inv-loop μ-loop loop-holds push-even-requires
+    (λ c. search needs) (λ c. search needs) loop-again same-length returns)

@@ -17,9 +17,6 @@ abbrev μ-loop : tie.MeasureT-loop
 loop-holds : tie.Need-loop-holds Inv-loop μ-loop
 loop-holds c = (omega arith, listing-none _ _ _, omega arith)
 
-mul-push-even : tie.Need-mul-push-even Inv-loop μ-loop
-mul-push-even c = search needs
-
 push-even-requires : tie.Need-push-even-requires Inv-loop μ-loop
 push-even-requires c κs =
     let l = c .before .before .loop .inv in
@@ -30,12 +27,6 @@ push-even-requires c κs =
       c .before .loop-test .taken,
       c .before .before .before .before .pre .0,
     )
-
-add-t : tie.Need-add-t Inv-loop μ-loop
-add-t c = search needs
-
-loop-less : tie.Need-loop-less Inv-loop μ-loop
-loop-less c = search needs
 
 loop-again : tie.Need-loop-again Inv-loop μ-loop
 loop-again c =
@@ -56,16 +47,5 @@ returns c =
     (rw e at (l .inv .1), rw e at (l .inv .2))
 
 pub list-from-one-spec : {M : Type 1} → statement M
-list-from-one-spec =
-    tie.close
-    (tie.spec
-    Inv-loop
-    μ-loop
-    loop-holds
-    mul-push-even
-    push-even-requires
-    add-t
-    loop-less
-    loop-again
-    same-length
-    returns)
+list-from-one-spec = tie.close (tie.spec Inv-loop μ-loop loop-holds (λ c. search needs)
+    push-even-requires (λ c. search needs) (λ c. search needs) loop-again same-length returns)

@@ -21,21 +21,6 @@ returns c =
     let i = c .before .before .before .loop .inv in
     left-all (i .1) (c .if1 .taken) (i .2)
 
-mul-t : tie.Need-mul-t Inv-loop μ-loop
-mul-t c = search needs
-
-shared-slice-read-t : tie.Need-shared-slice-read-t Inv-loop μ-loop
-shared-slice-read-t c = search needs
-
-with-offset-requires : tie.Need-with-offset-requires Inv-loop μ-loop
-with-offset-requires c κs = search needs
-
-add-i : tie.Need-add-i Inv-loop μ-loop
-add-i c = search needs
-
-loop-less : tie.Need-loop-less Inv-loop μ-loop
-loop-less c = search needs
-
 loop-again : tie.Need-loop-again Inv-loop μ-loop
 loop-again c =
     let i = c .before .before .before .before .before .loop .inv in
@@ -47,8 +32,6 @@ returns-2 c =
     rw e at (c .before .loop .inv .2)
 
 pub offsets-left-spec : {M : Type 1} → statement M
-offsets-left-spec =
-    tie.close
-    (tie.spec Inv-loop μ-loop loop-holds returns mul-t shared-slice-read-t with-offset-requires
-    add-i
-    loop-less loop-again returns-2)
+offsets-left-spec = tie.close (tie.spec Inv-loop μ-loop loop-holds returns (λ c. search needs)
+    (λ c. search needs) (λ c κs. search needs) (λ c. search needs) (λ c. search needs) loop-again
+    returns-2)

@@ -3,15 +3,6 @@ use borrow.Author.Needs.{needs}
 use Rattle.pair_offsets.proofs.sames.Statement.{statement}
 use Rattle.pair_offsets.proofs.sames.Tie as tie
 
-same-requires : tie.Need-same-requires
-same-requires c κs = search needs
-
-same-requires-2 : tie.Need-same-requires-2
-same-requires-2 c κs = search needs
-
-same-requires-3 : tie.Need-same-requires-3
-same-requires-3 c κs = search needs
-
 returns : tie.Need-returns
 returns c =
     let s₁ = c .before .before .before .before .same .ensures in
@@ -42,5 +33,5 @@ returns-3 c =
     }
 
 pub sames-spec : {M : Type 1} → statement M
-sames-spec =
-    tie.close (tie.spec same-requires same-requires-2 same-requires-3 returns returns-2 returns-3)
+sames-spec = tie.close (tie.spec (λ c κs. search needs) (λ c κs. search needs)
+    (λ c κs. search needs) returns returns-2 returns-3)

@@ -5,9 +5,6 @@ use borrow.Author.Needs.{needs}
 use Rattle.pair_offsets.proofs.tris.Statement.{statement}
 use Rattle.pair_offsets.proofs.tris.Tie as tie
 
-tri-requires : tie.Need-tri-requires
-tri-requires c κs = search needs
-
 returns : tie.Need-returns
 returns c =
     record {
@@ -15,9 +12,6 @@ returns c =
           tris-pqr (omega (arith, c .before .before .if1 .taken))
           (omega (arith, c .before .if2 .taken)) (c .tri .ensures .says x y z i j k);
     }
-
-tri-requires-2 : tie.Need-tri-requires-2
-tri-requires-2 c κs = search needs
 
 returns-2 : tie.Need-returns-2
 returns-2 c =
@@ -33,9 +27,6 @@ returns-3 c = record {
       (omega (arith, c .if4 .left, c .before .before .if2 .left));
 }
 
-tri-requires-3 : tie.Need-tri-requires-3
-tri-requires-3 c κs = search needs
-
 returns-4 : tie.Need-returns-4
 returns-4 c =
     record {
@@ -49,9 +40,6 @@ returns-5 : tie.Need-returns-5
 returns-5 c =
     record { says = λ x y z i j k. tris-none₃ (omega (arith, c .if5 .left, c .before .if3 .left)) }
 
-tri-requires-4 : tie.Need-tri-requires-4
-tri-requires-4 c κs = search needs
-
 returns-6 : tie.Need-returns-6
 returns-6 c =
     record {
@@ -59,9 +47,6 @@ returns-6 c =
           tris-qpr (omega (arith, c .before .before .if6 .taken))
           (omega (arith, c .before .if7 .taken)) (c .tri4 .ensures .says x z y i k j);
     }
-
-tri-requires-5 : tie.Need-tri-requires-5
-tri-requires-5 c κs = search needs
 
 returns-7 : tie.Need-returns-7
 returns-7 c =
@@ -76,9 +61,6 @@ returns-8 c = record {
   says = λ x y z i j k. tris-none₃
       (omega (arith, c .if9 .left, c .before .before .if7 .left));
 }
-
-tri-requires-6 : tie.Need-tri-requires-6
-tri-requires-6 c κs = search needs
 
 returns-9 : tie.Need-returns-9
 returns-9 c =
@@ -98,23 +80,7 @@ returns-11 c =
     record { says = λ x y z i j k. tris-none₁ (omega (arith, c .if6 .left, c .before .if1 .left)) }
 
 pub tris-spec : {M : Type 1} → statement M
-tris-spec =
-    tie.close
-    (tie.spec
-    tri-requires
-    returns
-    tri-requires-2
-    returns-2
-    returns-3
-    tri-requires-3
-    returns-4
-    returns-5
-    tri-requires-4
-    returns-6
-    tri-requires-5
-    returns-7
-    returns-8
-    tri-requires-6
-    returns-9
-    returns-10
+tris-spec = tie.close (tie.spec (λ c κs. search needs) returns (λ c κs. search needs) returns-2
+    returns-3 (λ c κs. search needs) returns-4 returns-5 (λ c κs. search needs) returns-6
+    (λ c κs. search needs) returns-7 returns-8 (λ c κs. search needs) returns-9 returns-10
     returns-11)

@@ -3,15 +3,6 @@ use borrow.Author.Needs.{needs}
 use Rattle.pair_offsets.proofs.with_offset.Statement.{statement}
 use Rattle.pair_offsets.proofs.with_offset.Tie as tie
 
-held-requires : tie.Need-held-requires
-held-requires c κs = search needs
-
-cast-a : tie.Need-cast-a
-cast-a c = search needs
-
-with-requires : tie.Need-with-requires
-with-requires c κs = search needs
-
 returns : tie.Need-returns
 returns c = rw (c .with .ensures)
     (added _ _ _ (c .before .before .held .ensures .is (c .before .if1 .taken)))
@@ -20,4 +11,5 @@ returns-2 : tie.Need-returns-2
 returns-2 c = not-added _ _ _ (c .before .held .ensures .isnt (c .if1 .left))
 
 pub with-offset-spec : {M : Type 1} → statement M
-with-offset-spec = tie.close (tie.spec held-requires cast-a with-requires returns returns-2)
+with-offset-spec = tie.close (tie.spec (λ c κs. search needs) (λ c. search needs)
+    (λ c κs. search needs) returns returns-2)

@@ -6,11 +6,8 @@ use Rattle.pair_search.proofs.both_settled.Tie as tie
 returns : tie.Need-returns
 returns c = at-first (c .if1 .taken)
 
-both-requires : tie.Need-both-requires
-both-requires c κs = search needs
-
 returns-2 : tie.Need-returns-2
 returns-2 c = rw (c .both .ensures) later
 
 pub both-settled-spec : {M : Type 1} → statement M
-both-settled-spec = tie.close (tie.spec returns both-requires returns-2)
+both-settled-spec = tie.close (tie.spec returns (λ c κs. search needs) returns-2)

@@ -3,12 +3,6 @@ use borrow.Author.Needs.{needs}
 use Rattle.pair_search.proofs.cell.Statement.{statement}
 use Rattle.pair_search.proofs.cell.Tie as tie
 
-present-requires : tie.Need-present-requires
-present-requires c κs = search needs
-
-node-at-requires : tie.Need-node-at-requires
-node-at-requires c κs = search needs
-
 meet-requires : tie.Need-meet-requires
 meet-requires c κs =
     let r = c .before .before .before .before .before .before .pre in
@@ -20,9 +14,6 @@ meet-requires c κs =
       r .0 .2,
       r .0 .3,
     )
-
-same-length : tie.Need-same-length
-same-length c = search needs
 
 returns : tie.Need-returns
 returns c =
@@ -37,6 +28,5 @@ returns-2 : tie.Need-returns-2
 returns-2 c = no-second (c .before .present .ensures .isnt (c .if1 .left))
 
 pub cell-spec : {M : Type 1} → statement M
-cell-spec =
-    tie.close
-    (tie.spec present-requires node-at-requires meet-requires same-length returns returns-2)
+cell-spec = tie.close (tie.spec (λ c κs. search needs) (λ c κs. search needs) meet-requires
+    (λ c. search needs) returns returns-2)

@@ -18,23 +18,11 @@ abbrev μ-loop : tie.MeasureT-loop
 loop-holds : tie.Need-loop-holds Inv-loop μ-loop
 loop-holds c = (row-none _ _ _ _, omega arith)
 
-sub-cell : tie.Need-sub-cell Inv-loop μ-loop
-sub-cell c = search needs
-
 cell-requires : tie.Need-cell-requires Inv-loop μ-loop
 cell-requires c κs =
     let r = c .before .before .before .before .before .pre in
     let v = c .before .before .loop .inv .0 in
     ((ready-same (v .size) (v .past) (r .0 .0), r .0 .1, r .0 .2, omega arith), r .1)
-
-both-requires : tie.Need-both-requires Inv-loop μ-loop
-both-requires c κs = search needs
-
-add-m : tie.Need-add-m Inv-loop μ-loop
-add-m c = search needs
-
-loop-less : tie.Need-loop-less Inv-loop μ-loop
-loop-less c = search needs
 
 loop-again : tie.Need-loop-again Inv-loop μ-loop
 loop-again c = (
@@ -54,17 +42,5 @@ returns c =
     rw e at (c .before .loop .inv .0)
 
 pub cells-spec : {M : Type 1} → statement M
-cells-spec =
-    tie.close
-    (tie.spec
-    Inv-loop
-    μ-loop
-    loop-holds
-    sub-cell
-    cell-requires
-    both-requires
-    add-m
-    loop-less
-    loop-again
-    same-length
-    returns)
+cells-spec = tie.close (tie.spec Inv-loop μ-loop loop-holds (λ c. search needs) cell-requires
+    (λ c κs. search needs) (λ c. search needs) (λ c. search needs) loop-again same-length returns)

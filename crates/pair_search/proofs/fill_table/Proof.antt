@@ -19,12 +19,9 @@ search-requires c κs = (
       .before .before .before .pre .1,
 )
 
-same-length : tie.Need-same-length
-same-length c = search needs
-
 returns : tie.Need-returns
 returns c = filled (c .before .before .before .before .before .before .clear .ensures)
     (c .before .before .search .ensures)
 
 pub fill-table-spec : {M : Type 1} → statement M
-fill-table-spec = tie.close (tie.spec clear-requires search-requires same-length returns)
+fill-table-spec = tie.close (tie.spec clear-requires search-requires (λ c. search needs) returns)

@@ -14,12 +14,6 @@ Inv-loop words₀ n x y i j kind still₀ k₀ words still k =
 abbrev μ-loop : tie.MeasureT-loop
 μ-loop words₀ n x y i j kind still₀ k₀ words still k = n - k
 
-mul-kind : tie.Need-mul-kind Inv-loop μ-loop
-mul-kind c = search needs
-
-add-kind : tie.Need-add-kind Inv-loop μ-loop
-add-kind c = search needs
-
 next-entry-requires : tie.Need-next-entry-requires Inv-loop μ-loop
 next-entry-requires c κs =
     let r = c .before .before .before .before .pre in
@@ -37,12 +31,6 @@ step-entry-requires c κs =
     let r = b .before .before .before .before .before .before .pre in
     let v = b .loop .inv .0 in
     (ready-same (v .size) (v .past) (r .0), c .before .loop-test .taken, r .1, r .2, r .3, r .4)
-
-both-requires : tie.Need-both-requires Inv-loop μ-loop
-both-requires c κs = search needs
-
-add-next-entry : tie.Need-add-next-entry Inv-loop μ-loop
-add-next-entry c = search needs
 
 next-entry-requires-2 : tie.Need-next-entry-requires-2 Inv-loop μ-loop
 next-entry-requires-2 c κs =
@@ -83,20 +71,6 @@ returns c =
     rw e at (b .loop .inv .0)
 
 pub meet-spec : {M : Type 1} → statement M
-meet-spec =
-    tie.close
-    (tie.spec
-    Inv-loop
-    μ-loop
-    mul-kind
-    add-kind
-    next-entry-requires
-    loop-holds
-    step-entry-requires
-    both-requires
-    add-next-entry
-    next-entry-requires-2
-    loop-less
-    loop-again
-    same-length
-    returns)
+meet-spec = tie.close (tie.spec Inv-loop μ-loop (λ c. search needs) (λ c. search needs)
+    next-entry-requires loop-holds step-entry-requires (λ c κs. search needs) (λ c. search needs)
+    next-entry-requires-2 loop-less loop-again same-length returns)

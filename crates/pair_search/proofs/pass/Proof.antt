@@ -18,23 +18,11 @@ abbrev μ-loop : tie.MeasureT-loop
 loop-holds : tie.Need-loop-holds Inv-loop μ-loop
 loop-holds c = (rows-none _ _ _, omega arith)
 
-sub-row : tie.Need-sub-row Inv-loop μ-loop
-sub-row c = search needs
-
 row-requires : tie.Need-row-requires Inv-loop μ-loop
 row-requires c κs =
     let r = c .before .before .before .before .before .pre in
     let v = c .before .before .loop .inv .0 in
     (ready-same (v .size) (v .past) (r .0), r .1, omega arith)
-
-both-requires : tie.Need-both-requires Inv-loop μ-loop
-both-requires c κs = search needs
-
-add-k : tie.Need-add-k Inv-loop μ-loop
-add-k c = search needs
-
-loop-less : tie.Need-loop-less Inv-loop μ-loop
-loop-less c = search needs
 
 loop-again : tie.Need-loop-again Inv-loop μ-loop
 loop-again c = (
@@ -53,17 +41,5 @@ returns c =
     rw e at (c .before .loop .inv .0)
 
 pub pass-spec : {M : Type 1} → statement M
-pass-spec =
-    tie.close
-    (tie.spec
-    Inv-loop
-    μ-loop
-    loop-holds
-    sub-row
-    row-requires
-    both-requires
-    add-k
-    loop-less
-    loop-again
-    same-length
-    returns)
+pass-spec = tie.close (tie.spec Inv-loop μ-loop loop-holds (λ c. search needs) row-requires
+    (λ c κs. search needs) (λ c. search needs) (λ c. search needs) loop-again same-length returns)

@@ -42,6 +42,5 @@ loop-again c = rest-more (c .before .before .before .before .before .loop .inv)
     (c .before .before .before .pass .ensures) (c .if1 .left)
 
 pub passes-spec : {M : Type 1} → statement M
-passes-spec =
-    tie.close
-    (tie.spec Inv-loop μ-loop loop-holds pass-requires same-length returns loop-less loop-again)
+passes-spec = tie.close (tie.spec Inv-loop μ-loop loop-holds pass-requires same-length returns
+    loop-less loop-again)

@@ -19,9 +19,6 @@ list-hints-requires : tie.Need-list-hints-requires Inv-loop μ-loop
 list-hints-requires c κs = let r = c .before .before .before .before .pre in
     (r .0 .room, r .0 .few)
 
-mark-all-requires : tie.Need-mark-all-requires Inv-loop μ-loop
-mark-all-requires c κs = search needs
-
 loop-holds : tie.Need-loop-holds Inv-loop μ-loop
 loop-holds c = rest-none _ _
 
@@ -39,9 +36,6 @@ returns : tie.Need-returns Inv-loop μ-loop
 returns c = quick-rested (c .before .before .before .before .before .before .before .loop .inv)
     (c .before .before .before .quick-pass .ensures) (c .if1 .taken)
 
-age-requires : tie.Need-age-requires Inv-loop μ-loop
-age-requires c κs = search needs
-
 loop-less : tie.Need-loop-less Inv-loop μ-loop
 loop-less c =
     rest-less (c .before .before .before .before .before .quick-pass .ensures)
@@ -55,17 +49,5 @@ loop-again c = rest-more
     (c .before .before .if1 .left)
 
 pub quick-spec : {M : Type 1} → statement M
-quick-spec =
-    tie.close
-    (tie.spec
-    Inv-loop
-    μ-loop
-    list-hints-requires
-    mark-all-requires
-    loop-holds
-    quick-pass-requires
-    same-length
-    returns
-    age-requires
-    loop-less
-    loop-again)
+quick-spec = tie.close (tie.spec Inv-loop μ-loop list-hints-requires (λ c κs. search needs)
+    loop-holds quick-pass-requires same-length returns (λ c κs. search needs) loop-less loop-again)

@@ -4,17 +4,8 @@ use borrow.Author.Needs.{needs}
 use Rattle.pair_search.proofs.quick_cell.Statement.{statement}
 use Rattle.pair_search.proofs.quick_cell.Tie as tie
 
-present-requires : tie.Need-present-requires
-present-requires c κs = search needs
-
 returns : tie.Need-returns
 returns c = stays tt
-
-node-at-requires : tie.Need-node-at-requires
-node-at-requires c κs = search needs
-
-touched-requires : tie.Need-touched-requires
-touched-requires c κs = search needs
 
 returns-2 : tie.Need-returns-2
 returns-2 c = stays tt
@@ -31,9 +22,6 @@ quick-meet-requires c κs =
       r .0 .3,
     )
 
-same-length : tie.Need-same-length
-same-length c = search needs
-
 returns-3 : tie.Need-returns-3
 returns-3 c =
     let b = c .before .before .before .before .before .before .before .before in
@@ -44,18 +32,12 @@ returns-3 c =
     (r .1 .1) (b .node-at .ensures .0)) (λ p. tt)
     (rw (c .if3 .taken) at (c .before .before .before .quick-meet .ensures))
 
-mark-requires : tie.Need-mark-requires
-mark-requires c κs = search needs
-
 mark-requires-2 : tie.Need-mark-requires-2
 mark-requires-2 c κs =
     let b = c .before .before .before .before .before .before .before .before .before .before
     .before in
     let r = b .before .before .before .before .before .pre in
     (r .0 .3, b .node-at .ensures .1 .sort, r .1 .2 .sort, r .0 .2)
-
-same-length-2 : tie.Need-same-length-2
-same-length-2 c = search needs
 
 returns-4 : tie.Need-returns-4
 returns-4 c =
@@ -69,18 +51,6 @@ returns-4 c =
     (rw (d .if3 .left) at (d .before .before .before .quick-meet .ensures))
 
 pub quick-cell-spec : {M : Type 1} → statement M
-quick-cell-spec =
-    tie.close
-    (tie.spec
-    present-requires
-    returns
-    node-at-requires
-    touched-requires
-    returns-2
-    quick-meet-requires
-    same-length
-    returns-3
-    mark-requires
-    mark-requires-2
-    same-length-2
-    returns-4)
+quick-cell-spec = tie.close (tie.spec (λ c κs. search needs) returns (λ c κs. search needs)
+    (λ c κs. search needs) returns-2 quick-meet-requires (λ c. search needs) returns-3
+    (λ c κs. search needs) mark-requires-2 (λ c. search needs) returns-4)

@@ -22,15 +22,6 @@ quick-cell-requires c κs =
     let v = c .before .before .before .loop .inv .0 in
     ((ready-same (v .size) (v .past) (r .0 .0), r .0 .1, r .0 .2, omega arith), r .1)
 
-both-requires : tie.Need-both-requires Inv-loop μ-loop
-both-requires c κs = search needs
-
-add-m : tie.Need-add-m Inv-loop μ-loop
-add-m c = search needs
-
-loop-less : tie.Need-loop-less Inv-loop μ-loop
-loop-less c = search needs
-
 loop-again : tie.Need-loop-again Inv-loop μ-loop
 loop-again c = (
   rw (c .both .ensures)
@@ -46,16 +37,5 @@ returns : tie.Need-returns Inv-loop μ-loop
 returns c = c .before .loop .inv .0
 
 pub quick-cells-spec : {M : Type 1} → statement M
-quick-cells-spec =
-    tie.close
-    (tie.spec
-    Inv-loop
-    μ-loop
-    loop-holds
-    quick-cell-requires
-    both-requires
-    add-m
-    loop-less
-    loop-again
-    same-length
-    returns)
+quick-cells-spec = tie.close (tie.spec Inv-loop μ-loop loop-holds quick-cell-requires
+    (λ c κs. search needs) (λ c. search needs) (λ c. search needs) loop-again same-length returns)

@@ -16,23 +16,11 @@ abbrev μ-loop : tie.MeasureT-loop
 loop-holds : tie.Need-loop-holds Inv-loop μ-loop
 loop-holds c = (stays tt, omega arith)
 
-sub-quick-row : tie.Need-sub-quick-row Inv-loop μ-loop
-sub-quick-row c = search needs
-
 quick-row-requires : tie.Need-quick-row-requires Inv-loop μ-loop
 quick-row-requires c κs =
     let r = c .before .before .before .before .before .before .pre in
     let v = c .before .before .before .loop .inv .0 in
     (ready-same (v .size) (v .past) (r .0), r .1, omega arith)
-
-both-requires : tie.Need-both-requires Inv-loop μ-loop
-both-requires c κs = search needs
-
-add-m : tie.Need-add-m Inv-loop μ-loop
-add-m c = search needs
-
-loop-less : tie.Need-loop-less Inv-loop μ-loop
-loop-less c = search needs
 
 loop-again : tie.Need-loop-again Inv-loop μ-loop
 loop-again c = (
@@ -49,17 +37,6 @@ returns : tie.Need-returns Inv-loop μ-loop
 returns c = c .before .loop .inv .0
 
 pub quick-pass-spec : {M : Type 1} → statement M
-quick-pass-spec =
-    tie.close
-    (tie.spec
-    Inv-loop
-    μ-loop
-    loop-holds
-    sub-quick-row
-    quick-row-requires
-    both-requires
-    add-m
-    loop-less
-    loop-again
-    same-length
-    returns)
+quick-pass-spec = tie.close (tie.spec Inv-loop μ-loop loop-holds (λ c. search needs)
+    quick-row-requires (λ c κs. search needs) (λ c. search needs) (λ c. search needs) loop-again
+    same-length returns)

@@ -3,12 +3,6 @@ use borrow.Author.Needs.{needs}
 use Rattle.pair_search.proofs.quick_row.Statement.{statement}
 use Rattle.pair_search.proofs.quick_row.Tie as tie
 
-present-requires : tie.Need-present-requires
-present-requires c κs = search needs
-
-node-at-requires : tie.Need-node-at-requires
-node-at-requires c κs = search needs
-
 quick-cells-requires : tie.Need-quick-cells-requires
 quick-cells-requires c κs =
     let r = c .before .before .before .before .before .before .before .pre in (
@@ -22,16 +16,9 @@ quick-cells-requires c κs =
       ),
     )
 
-same-length : tie.Need-same-length
-same-length c = search needs
-
-returns : tie.Need-returns
-returns c = search needs
-
 returns-2 : tie.Need-returns-2
 returns-2 c = stays tt
 
 pub quick-row-spec : {M : Type 1} → statement M
-quick-row-spec =
-    tie.close
-    (tie.spec present-requires node-at-requires quick-cells-requires same-length returns returns-2)
+quick-row-spec = tie.close (tie.spec (λ c κs. search needs) (λ c κs. search needs)
+    quick-cells-requires (λ c. search needs) (λ c. search needs) returns-2)

@@ -42,9 +42,6 @@ settle-requires c κs =
           .pre .1,
     )
 
-both-settled-requires : tie.Need-both-settled-requires Inv-loop μ-loop
-both-settled-requires c κs = search needs
-
 loop-less : tie.Need-loop-less Inv-loop μ-loop
 loop-less c = omega (
   arith,
@@ -71,16 +68,5 @@ returns c =
     rw e at (c .before .loop .inv .0)
 
 pub round-spec : {M : Type 1} → statement M
-round-spec =
-    tie.close
-    (tie.spec
-    Inv-loop
-    μ-loop
-    loop-holds
-    prepare-requires
-    settle-requires
-    both-settled-requires
-    loop-less
-    loop-again
-    same-length
-    returns)
+round-spec = tie.close (tie.spec Inv-loop μ-loop loop-holds prepare-requires settle-requires
+    (λ c κs. search needs) loop-less loop-again same-length returns)

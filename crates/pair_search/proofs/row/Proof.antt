@@ -3,12 +3,6 @@ use borrow.Author.Needs.{needs}
 use Rattle.pair_search.proofs.row.Statement.{statement}
 use Rattle.pair_search.proofs.row.Tie as tie
 
-present-requires : tie.Need-present-requires
-present-requires c κs = search needs
-
-node-at-requires : tie.Need-node-at-requires
-node-at-requires c κs = search needs
-
 cells-requires : tie.Need-cells-requires
 cells-requires c κs =
     let r = c .before .before .before .before .before .before .pre in (
@@ -21,9 +15,6 @@ cells-requires c κs =
       ),
     )
 
-same-length : tie.Need-same-length
-same-length c = search needs
-
 returns : tie.Need-returns
 returns c = c .before .before .cells .ensures
 
@@ -31,6 +22,5 @@ returns-2 : tie.Need-returns-2
 returns-2 c = no-first (c .before .present .ensures .isnt (c .if1 .left))
 
 pub row-spec : {M : Type 1} → statement M
-row-spec =
-    tie.close
-    (tie.spec present-requires node-at-requires cells-requires same-length returns returns-2)
+row-spec = tie.close (tie.spec (λ c κs. search needs) (λ c κs. search needs) cells-requires
+    (λ c. search needs) returns returns-2)

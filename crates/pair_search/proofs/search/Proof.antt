@@ -46,6 +46,5 @@ loop-again c = search-more (c .before .before .before .before .before .loop .inv
     (c .before .before .before .round .ensures)
 
 pub search-spec : {M : Type 1} → statement M
-search-spec =
-    tie.close
-    (tie.spec Inv-loop μ-loop loop-holds round-requires same-length returns loop-less loop-again)
+search-spec = tie.close (tie.spec Inv-loop μ-loop loop-holds round-requires same-length returns
+    loop-less loop-again)

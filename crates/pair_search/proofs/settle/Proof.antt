@@ -4,9 +4,6 @@ use borrow.Author.Needs.{needs}
 use Rattle.pair_search.proofs.settle.Statement.{statement}
 use Rattle.pair_search.proofs.settle.Tie as tie
 
-quick-requires : tie.Need-quick-requires
-quick-requires c κs = search needs
-
 passes-requires : tie.Need-passes-requires
 passes-requires c κs =
     let q = c .before .before .before .quick .ensures in (
@@ -16,16 +13,11 @@ passes-requires c κs =
           .before .before .before .before .before .pre .1,
     )
 
-both-requires : tie.Need-both-requires
-both-requires c κs = search needs
-
-same-length : tie.Need-same-length
-same-length c = search needs
-
 returns : tie.Need-returns
 returns c = rw (c .both .ensures)
     (quick-then (c .before .before .before .before .before .before .before .quick .ensures)
     (c .before .before .before .passes .ensures))
 
 pub settle-spec : {M : Type 1} → statement M
-settle-spec = tie.close (tie.spec quick-requires passes-requires both-requires same-length returns)
+settle-spec = tie.close (tie.spec (λ c κs. search needs) passes-requires (λ c κs. search needs)
+    (λ c. search needs) returns)

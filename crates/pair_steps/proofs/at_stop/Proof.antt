@@ -4,9 +4,6 @@ use borrow.Author.Needs.{needs}
 use Rattle.pair_steps.proofs.at_stop.Statement.{statement}
 use Rattle.pair_steps.proofs.at_stop.Tie as tie
 
-at-place-requires : tie.Need-at-place-requires
-at-place-requires c κs = search needs
-
 returns : tie.Need-returns
 returns c =
     let l = c .before .if3 .taken in
@@ -14,9 +11,6 @@ returns c =
     (λ k p.
     p (omega (arith, c .before .before .before .if1 .taken))
     (omega (arith, c .before .before .if2 .taken)) .0 (omega (arith, l))) (c .at-place .ensures)
-
-at-place-requires-2 : tie.Need-at-place-requires-2
-at-place-requires-2 c κs = search needs
 
 returns-2 : tie.Need-returns-2
 returns-2 c =
@@ -42,13 +36,5 @@ returns-5 : tie.Need-returns-5
 returns-5 c = narrow-none _ _ (λ k i. absurd (omega (arith, i, c .if1 .left)))
 
 pub at-stop-spec : {M : Type 1} → statement M
-at-stop-spec =
-    tie.close
-    (tie.spec
-    at-place-requires
-    returns
-    at-place-requires-2
-    returns-2
-    returns-3
-    returns-4
-    returns-5)
+at-stop-spec = tie.close (tie.spec (λ c κs. search needs) returns (λ c κs. search needs) returns-2
+    returns-3 returns-4 returns-5)

@@ -2,18 +2,6 @@ use borrow.Author.Needs.{needs}
 use Rattle.pair_steps.proofs.begins_left.Statement.{statement}
 use Rattle.pair_steps.proofs.begins_left.Tie as tie
 
-at-place-requires : tie.Need-at-place-requires
-at-place-requires c κs = search needs
-
-at-cut-requires : tie.Need-at-cut-requires
-at-cut-requires c κs = search needs
-
-at-place-requires-2 : tie.Need-at-place-requires-2
-at-place-requires-2 c κs = search needs
-
-at-cut-requires-2 : tie.Need-at-cut-requires-2
-at-cut-requires-2 c κs = search needs
-
 returns : tie.Need-returns
 returns c =
     let e0 = c .before .before .before .at-place .ensures in
@@ -32,6 +20,5 @@ returns c =
     }
 
 pub begins-left-spec : {M : Type 1} → statement M
-begins-left-spec =
-    tie.close
-    (tie.spec at-place-requires at-cut-requires at-place-requires-2 at-cut-requires-2 returns)
+begins-left-spec = tie.close (tie.spec (λ c κs. search needs) (λ c κs. search needs)
+    (λ c κs. search needs) (λ c κs. search needs) returns)

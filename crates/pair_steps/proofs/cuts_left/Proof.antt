@@ -2,15 +2,6 @@ use borrow.Author.Needs.{needs}
 use Rattle.pair_steps.proofs.cuts_left.Statement.{statement}
 use Rattle.pair_steps.proofs.cuts_left.Tie as tie
 
-pair-requires : tie.Need-pair-requires
-pair-requires c κs = search needs
-
-ahead-requires : tie.Need-ahead-requires
-ahead-requires c κs = search needs
-
-ahead-requires-2 : tie.Need-ahead-requires-2
-ahead-requires-2 c κs = search needs
-
 returns : tie.Need-returns
 returns c =
     let e0 = c .before .before .pair .ensures in
@@ -27,4 +18,5 @@ returns c =
     }
 
 pub cuts-left-spec : {M : Type 1} → statement M
-cuts-left-spec = tie.close (tie.spec pair-requires ahead-requires ahead-requires-2 returns)
+cuts-left-spec = tie.close (tie.spec (λ c κs. search needs) (λ c κs. search needs)
+    (λ c κs. search needs) returns)

@@ -4,12 +4,6 @@ use borrow.Author.Needs.{needs}
 use Rattle.pair_steps.proofs.first_stop.Statement.{statement}
 use Rattle.pair_steps.proofs.first_stop.Tie as tie
 
-returns : tie.Need-returns
-returns c = search needs
-
-returns-2 : tie.Need-returns-2
-returns-2 c = search needs
-
 returns-3 : tie.Need-returns-3
 returns-3 c =
     let a = c .before .before .args in
@@ -17,4 +11,4 @@ returns-3 c =
     (λ e. omega (arith, e, c .if2 .left))
 
 pub first-stop-spec : {M : Type 1} → statement M
-first-stop-spec = tie.close (tie.spec returns returns-2 returns-3)
+first-stop-spec = tie.close (tie.spec (λ c. search needs) (λ c. search needs) returns-3)

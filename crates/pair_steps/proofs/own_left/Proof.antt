@@ -3,12 +3,6 @@ use borrow.Author.Needs.{needs}
 use Rattle.pair_steps.proofs.own_left.Statement.{statement}
 use Rattle.pair_steps.proofs.own_left.Tie as tie
 
-inside-requires : tie.Need-inside-requires
-inside-requires c κs = search needs
-
-ahead-requires : tie.Need-ahead-requires
-ahead-requires c κs = search needs
-
 returns : tie.Need-returns
 returns c =
     narrow-as (λ k p. (p .0 .0, p .0 .1, p .1)) (λ k p. ((p .0, p .1), p .2))
@@ -17,4 +11,4 @@ returns c =
     (c .ahead .ensures))
 
 pub own-left-spec : {M : Type 1} → statement M
-own-left-spec = tie.close (tie.spec inside-requires ahead-requires returns)
+own-left-spec = tie.close (tie.spec (λ c κs. search needs) (λ c κs. search needs) returns)

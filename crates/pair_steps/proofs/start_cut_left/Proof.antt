@@ -2,18 +2,6 @@ use borrow.Author.Needs.{needs}
 use Rattle.pair_steps.proofs.start_cut_left.Statement.{statement}
 use Rattle.pair_steps.proofs.start_cut_left.Tie as tie
 
-pair-requires : tie.Need-pair-requires
-pair-requires c κs = search needs
-
-pair-requires-2 : tie.Need-pair-requires-2
-pair-requires-2 c κs = search needs
-
-inside-requires : tie.Need-inside-requires
-inside-requires c κs = search needs
-
-ahead-requires : tie.Need-ahead-requires
-ahead-requires c κs = search needs
-
 returns : tie.Need-returns
 returns c =
     let e0 = c .before .before .before .pair .ensures in
@@ -32,5 +20,5 @@ returns c =
     }
 
 pub start-cut-left-spec : {M : Type 1} → statement M
-start-cut-left-spec =
-    tie.close (tie.spec pair-requires pair-requires-2 inside-requires ahead-requires returns)
+start-cut-left-spec = tie.close (tie.spec (λ c κs. search needs) (λ c κs. search needs)
+    (λ c κs. search needs) (λ c κs. search needs) returns)

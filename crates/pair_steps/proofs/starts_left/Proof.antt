@@ -2,21 +2,6 @@ use borrow.Author.Needs.{needs}
 use Rattle.pair_steps.proofs.starts_left.Statement.{statement}
 use Rattle.pair_steps.proofs.starts_left.Tie as tie
 
-pair-requires : tie.Need-pair-requires
-pair-requires c κs = search needs
-
-pair-requires-2 : tie.Need-pair-requires-2
-pair-requires-2 c κs = search needs
-
-pair-requires-3 : tie.Need-pair-requires-3
-pair-requires-3 c κs = search needs
-
-inside-requires : tie.Need-inside-requires
-inside-requires c κs = search needs
-
-inside-requires-2 : tie.Need-inside-requires-2
-inside-requires-2 c κs = search needs
-
 returns : tie.Need-returns
 returns c =
     let e0 = c .before .before .before .before .pair .ensures in
@@ -38,12 +23,5 @@ returns c =
     }
 
 pub starts-left-spec : {M : Type 1} → statement M
-starts-left-spec =
-    tie.close
-    (tie.spec
-    pair-requires
-    pair-requires-2
-    pair-requires-3
-    inside-requires
-    inside-requires-2
-    returns)
+starts-left-spec = tie.close (tie.spec (λ c κs. search needs) (λ c κs. search needs)
+    (λ c κs. search needs) (λ c κs. search needs) (λ c κs. search needs) returns)

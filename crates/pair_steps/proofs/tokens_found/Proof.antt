@@ -4,9 +4,6 @@ use borrow.Author.Needs.{needs}
 use Rattle.pair_steps.proofs.tokens_found.Statement.{statement}
 use Rattle.pair_steps.proofs.tokens_found.Tie as tie
 
-tokens-at-requires : tie.Need-tokens-at-requires
-tokens-at-requires c κs = search needs
-
 returns : tie.Need-returns
 returns c = none-at _ _ _ _ _ (λ s. s .start) (c .before .tokens-at .ensures) (c .if1 .taken)
 
@@ -27,9 +24,6 @@ tokens-beside-requires-3 c κs = c .before .tokens-beside2 .ensures
 
 returns-4 : tie.Need-returns-4
 returns-4 c = none-at _ _ _ _ _ (λ s. s .split) (c .before .tokens-beside3 .ensures) (c .if4 .taken)
-
-tokens-at-requires-2 : tie.Need-tokens-at-requires-2
-tokens-at-requires-2 c κs = search needs
 
 returns-5 : tie.Need-returns-5
 returns-5 c = none-at _ _ _ _ _ (λ s. s .stop) (c .before .tokens-at2 .ensures) (c .if5 .taken)
@@ -118,20 +112,6 @@ returns-8 c =
     .ensures)
 
 pub tokens-found-spec : {M : Type 1} → statement M
-tokens-found-spec =
-    tie.close
-    (tie.spec
-    tokens-at-requires
-    returns
-    tokens-beside-requires
-    returns-2
-    tokens-beside-requires-2
-    returns-3
-    tokens-beside-requires-3
-    returns-4
-    tokens-at-requires-2
-    returns-5
-    tokens-beside-requires-4
-    returns-6
-    returns-7
-    returns-8)
+tokens-found-spec = tie.close (tie.spec (λ c κs. search needs) returns tokens-beside-requires
+    returns-2 tokens-beside-requires-2 returns-3 tokens-beside-requires-3 returns-4
+    (λ c κs. search needs) returns-5 tokens-beside-requires-4 returns-6 returns-7 returns-8)

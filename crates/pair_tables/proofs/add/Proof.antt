@@ -4,27 +4,9 @@ use borrow.Author.Needs.{needs}
 use Rattle.pair_tables.proofs.add.Statement.{statement}
 use Rattle.pair_tables.proofs.add.Tie as tie
 
-words-of-requires : tie.Need-words-of-requires
-words-of-requires c κs = search needs
-
-offsets-found-requires : tie.Need-offsets-found-requires
-offsets-found-requires c κs = search needs
-
-same-length : tie.Need-same-length
-same-length c = search needs
-
 returns : tie.Need-returns
 returns c = no-offsets (c .before .before .before .words-of .ensures)
     (rw (c .if1 .taken) at (c .before .offsets-found .ensures))
-
-nexts-of-requires : tie.Need-nexts-of-requires
-nexts-of-requires c κs = search needs
-
-tokens-found-requires : tie.Need-tokens-found-requires
-tokens-found-requires c κs = search needs
-
-same-length-2 : tie.Need-same-length-2
-same-length-2 c = search needs
 
 returns-2 : tie.Need-returns-2
 returns-2 c =
@@ -33,18 +15,9 @@ returns-2 c =
     (c .before .before .nexts-of .ensures)
     (rw (c .if2 .taken) at (c .before .tokens-found .ensures))
 
-relation-bits-requires : tie.Need-relation-bits-requires
-relation-bits-requires c κs = search needs
-
 next-place-requires : tie.Need-next-place-requires
 next-place-requires c κs = let p = c .before .before .before .before .before .before .before .before
     .before .before .before .pre .0 in (p .1 .sort, p .2 .sort)
-
-cast-a : tie.Need-cast-a
-cast-a c = search needs
-
-cast-b : tie.Need-cast-b
-cast-b c = search needs
 
 mul-put : tie.Need-mul-put
 mul-put c = let p = c .before .before .before .before .before .before .before .before .before
@@ -56,15 +29,6 @@ add-put c = let p = c .before .before .before .before .before .before .before .b
     .before .before .before .before .before .before .pre .0 in
     omega (arith, p .1 .sort, p .2 .sort, p .3)
 
-mul-put-2 : tie.Need-mul-put-2
-mul-put-2 c = search needs
-
-add-put-2 : tie.Need-add-put-2
-add-put-2 c = search needs
-
-add-put-3 : tie.Need-add-put-3
-add-put-3 c = search needs
-
 put-requires : tie.Need-put-requires
 put-requires c κs =
     let p = c .before .before .before .before .before .before .before .before .before .before
@@ -74,9 +38,6 @@ put-requires c κs =
       omega (arith, p .0 .room, p .1 .sort, p .2 .sort, p .3),
       omega (arith, p .0 .room, q .1),
     )
-
-same-length-3 : tie.Need-same-length-3
-same-length-3 c = search needs
 
 returns-3 : tie.Need-returns-3
 returns-3 c =
@@ -97,26 +58,8 @@ returns-3 c =
     (c .before .before .put .ensures))
 
 pub add-spec : {M : Type 1} → statement M
-add-spec =
-    tie.close
-    (tie.spec
-    words-of-requires
-    offsets-found-requires
-    same-length
-    returns
-    nexts-of-requires
-    tokens-found-requires
-    same-length-2
-    returns-2
-    relation-bits-requires
-    next-place-requires
-    cast-a
-    cast-b
-    mul-put
-    add-put
-    mul-put-2
-    add-put-2
-    add-put-3
-    put-requires
-    same-length-3
-    returns-3)
+add-spec = tie.close (tie.spec (λ c κs. search needs) (λ c κs. search needs) (λ c. search needs)
+    returns (λ c κs. search needs) (λ c κs. search needs) (λ c. search needs) returns-2
+    (λ c κs. search needs) next-place-requires (λ c. search needs) (λ c. search needs) mul-put
+    add-put (λ c. search needs) (λ c. search needs) (λ c. search needs) put-requires
+    (λ c. search needs) returns-3)

@@ -5,32 +5,8 @@ use borrow.Author.Needs.{needs}
 use Rattle.pair_tables.proofs.had_all.Statement.{statement}
 use Rattle.pair_tables.proofs.had_all.Tie as tie
 
-relation-bits-requires : tie.Need-relation-bits-requires
-relation-bits-requires c κs = search needs
-
-shape-word-requires : tie.Need-shape-word-requires
-shape-word-requires c κs = search needs
-
-sort-word-requires : tie.Need-sort-word-requires
-sort-word-requires c κs = search needs
-
 returns : tie.Need-returns
 returns c = record { is = λ e. absurd (true-not-false (sym e)) }
-
-nexts-of-requires : tie.Need-nexts-of-requires
-nexts-of-requires c κs = search needs
-
-tokens-most-requires : tie.Need-tokens-most-requires
-tokens-most-requires c κs = search needs
-
-next-place-requires : tie.Need-next-place-requires
-next-place-requires c κs = search needs
-
-mul-result : tie.Need-mul-result
-mul-result c = search needs
-
-shared-slice-read-result : tie.Need-shared-slice-read-result
-shared-slice-read-result c = search needs
 
 returns-2 : tie.Need-returns-2
 returns-2 c =
@@ -54,16 +30,6 @@ returns-2 c =
     }
 
 pub had-all-spec : {M : Type 1} → statement M
-had-all-spec =
-    tie.close
-    (tie.spec
-    relation-bits-requires
-    shape-word-requires
-    sort-word-requires
-    returns
-    nexts-of-requires
-    tokens-most-requires
-    next-place-requires
-    mul-result
-    shared-slice-read-result
-    returns-2)
+had-all-spec = tie.close (tie.spec (λ c κs. search needs) (λ c κs. search needs)
+    (λ c κs. search needs) returns (λ c κs. search needs) (λ c κs. search needs)
+    (λ c κs. search needs) (λ c. search needs) (λ c. search needs) returns-2)

@@ -3,36 +3,6 @@ use borrow.Author.Needs.{needs}
 use Rattle.pair_tables.proofs.nexts_of.Statement.{statement}
 use Rattle.pair_tables.proofs.nexts_of.Tie as tie
 
-first-stop-requires : tie.Need-first-stop-requires
-first-stop-requires c κs = search needs
-
-first-stop-requires-2 : tie.Need-first-stop-requires-2
-first-stop-requires-2 c κs = search needs
-
-second-stop-requires : tie.Need-second-stop-requires
-second-stop-requires c κs = search needs
-
-second-stop-requires-2 : tie.Need-second-stop-requires-2
-second-stop-requires-2 c κs = search needs
-
-next-word-requires : tie.Need-next-word-requires
-next-word-requires c κs = search needs
-
-next-word-requires-2 : tie.Need-next-word-requires-2
-next-word-requires-2 c κs = search needs
-
-next-word-requires-3 : tie.Need-next-word-requires-3
-next-word-requires-3 c κs = search needs
-
-next-word-requires-4 : tie.Need-next-word-requires-4
-next-word-requires-4 c κs = search needs
-
-next-word-requires-5 : tie.Need-next-word-requires-5
-next-word-requires-5 c κs = search needs
-
-next-word-requires-6 : tie.Need-next-word-requires-6
-next-word-requires-6 c κs = search needs
-
 next-word-requires-7 : tie.Need-next-word-requires-7
 next-word-requires-7 c κs = let p = c .before .before .before .before .before .before .before
     .before .before .before .before .pre in (p .0, p .1 .second, p .2 .first)
@@ -61,19 +31,7 @@ returns c =
     })
 
 pub nexts-of-spec : {M : Type 1} → statement M
-nexts-of-spec =
-    tie.close
-    (tie.spec
-    first-stop-requires
-    first-stop-requires-2
-    second-stop-requires
-    second-stop-requires-2
-    next-word-requires
-    next-word-requires-2
-    next-word-requires-3
-    next-word-requires-4
-    next-word-requires-5
-    next-word-requires-6
-    next-word-requires-7
-    next-word-requires-8
-    returns)
+nexts-of-spec = tie.close (tie.spec (λ c κs. search needs) (λ c κs. search needs)
+    (λ c κs. search needs) (λ c κs. search needs) (λ c κs. search needs) (λ c κs. search needs)
+    (λ c κs. search needs) (λ c κs. search needs) (λ c κs. search needs) (λ c κs. search needs)
+    next-word-requires-7 next-word-requires-8 returns)

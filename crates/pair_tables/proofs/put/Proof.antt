@@ -6,18 +6,6 @@ use borrow.Author.Needs.{needs}
 use Rattle.pair_tables.proofs.put.Statement.{statement}
 use Rattle.pair_tables.proofs.put.Tie as tie
 
-join-requires : tie.Need-join-requires
-join-requires c κs = search needs
-
-join-requires-2 : tie.Need-join-requires-2
-join-requires-2 c κs = search needs
-
-join-requires-3 : tie.Need-join-requires-3
-join-requires-3 c κs = search needs
-
-same-length : tie.Need-same-length
-same-length c = search needs
-
 returns : tie.Need-returns
 returns c = put-all (c .before .before .before .before .before .before .before .before .before
     .before .before .before .join .ensures)
@@ -25,18 +13,12 @@ returns c = put-all (c .before .before .before .before .before .before .before .
     (c .before .before .before .before .join3 .ensures) _
     (λ e. (c .before .if1 .taken, c .if2 .taken, e)) (λ e. inr (inr e))
 
-same-length-2 : tie.Need-same-length-2
-same-length-2 c = search needs
-
 returns-2 : tie.Need-returns-2
 returns-2 c = put-all (c .before .before .before .before .before .before .before .before .before
     .before .before .before .join .ensures)
     (c .before .before .before .before .before .before .before .before .join2 .ensures)
     (c .before .before .before .before .join3 .ensures) _
     (λ e. absurd (true-not-false (sym e))) (λ e. inr (inl (c .if2 .left)))
-
-same-length-3 : tie.Need-same-length-3
-same-length-3 c = search needs
 
 returns-3 : tie.Need-returns-3
 returns-3 c = put-all (c .before .before .before .before .before .before .before .before .before
@@ -46,15 +28,5 @@ returns-3 c = put-all (c .before .before .before .before .before .before .before
     (λ e. inl (c .if1 .left))
 
 pub put-spec : {M : Type 1} → statement M
-put-spec =
-    tie.close
-    (tie.spec
-    join-requires
-    join-requires-2
-    join-requires-3
-    same-length
-    returns
-    same-length-2
-    returns-2
-    same-length-3
-    returns-3)
+put-spec = tie.close (tie.spec (λ c κs. search needs) (λ c κs. search needs) (λ c κs. search needs)
+    (λ c. search needs) returns (λ c. search needs) returns-2 (λ c. search needs) returns-3)

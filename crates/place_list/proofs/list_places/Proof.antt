@@ -5,17 +5,8 @@ use Rattle.place_list.proofs.list_places.Statement.{statement}
 use Rattle.place_list.proofs.list_places.Tie as tie
 use Rattle.grammar.specs.Sentences.{spelled}
 
-begin-requires : tie.Need-begin-requires
-begin-requires c κs = search needs
-
 list-all-requires : tie.Need-list-all-requires
 list-all-requires c κs = (c .before .before .before .before .pre, search needs)
-
-finish-requires : tie.Need-finish-requires
-finish-requires c κs = search needs
-
-same-length : tie.Need-same-length
-same-length c = search needs
 
 returns : tie.Need-returns
 returns c =
@@ -32,5 +23,5 @@ returns c =
     }
 
 pub list-places-spec : {M : Type 1} → statement M
-list-places-spec =
-    tie.close (tie.spec begin-requires list-all-requires finish-requires same-length returns)
+list-places-spec = tie.close (tie.spec (λ c κs. search needs) list-all-requires
+    (λ c κs. search needs) (λ c. search needs) returns)

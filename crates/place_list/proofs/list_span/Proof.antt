@@ -74,15 +74,6 @@ loop-holds : tie.Need-loop-holds Inv-loop μ-loop
 loop-holds c = let s = c .before .before .before .before in
     (omega arith, lists-none (entry 0 (s .args .start) (s .args .len)) (s .pre .1 .1))
 
-has-requires : tie.Need-has-requires Inv-loop μ-loop
-has-requires c κs = search needs
-
-add-a : tie.Need-add-a Inv-loop μ-loop
-add-a c = search needs
-
-loop-less : tie.Need-loop-less Inv-loop μ-loop
-loop-less c = search needs
-
 loop-again : tie.Need-loop-again Inv-loop μ-loop
 loop-again c =
     let s = c .before .before .before .before .before .before .before .before in
@@ -108,12 +99,6 @@ list-one-requires c κs =
       l .inv .1 .few,
     )
 
-add-a-2 : tie.Need-add-a-2 Inv-loop μ-loop
-add-a-2 c = search needs
-
-loop-less-2 : tie.Need-loop-less-2 Inv-loop μ-loop
-loop-less-2 c = search needs
-
 loop-again-2 : tie.Need-loop-again-2 Inv-loop μ-loop
 loop-again-2 c = (
   omega (arith, c .before .before .before .before .before .before .loop-test .taken),
@@ -132,5 +117,5 @@ returns c =
 
 pub list-span-spec : {M : Type 1} → statement M
 list-span-spec = tie.close (tie.spec Inv-loop μ-loop pair-at-requires mul-set shared-slice-read-set
-    loop-holds has-requires add-a loop-less loop-again list-one-requires
-    add-a-2 loop-less-2 loop-again-2 same-length returns)
+    loop-holds (λ c κs. search needs) (λ c. search needs) (λ c. search needs) loop-again
+    list-one-requires (λ c. search needs) (λ c. search needs) loop-again-2 same-length returns)

@@ -6,18 +6,6 @@ use borrow.Author.Needs.{needs}
 use Rattle.printing.proofs.letter.Statement.{statement}
 use Rattle.printing.proofs.letter.Tie as tie
 
-returns : tie.Need-returns
-returns c = search needs
-
-returns-2 : tie.Need-returns-2
-returns-2 c = search needs
-
-returns-3 : tie.Need-returns-3
-returns-3 c = search needs
-
-returns-4 : tie.Need-returns-4
-returns-4 c = search needs
-
 returns-5 : tie.Need-returns-5
 returns-5 c = last (c .before .before .before .before .args .kind)
     (c .before .before .before .if1 .left) (c .before .before .if2 .left) (c .before .if3 .left)
@@ -31,4 +19,5 @@ returns-5 c = last (c .before .before .before .before .args .kind)
     last (suc (suc (suc (suc k)))) a b d e = refl
 
 pub letter-spec : {M : Type 1} → statement M
-letter-spec = tie.close (tie.spec returns returns-2 returns-3 returns-4 returns-5)
+letter-spec = tie.close (tie.spec (λ c. search needs) (λ c. search needs) (λ c. search needs)
+    (λ c. search needs) returns-5)

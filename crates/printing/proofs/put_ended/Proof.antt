@@ -24,9 +24,6 @@ put-byte-requires c κs =
       s .pre,
     )
 
-same-length : tie.Need-same-length
-same-length c = search needs
-
 returns : tie.Need-returns
 returns c =
     let n = c .before .before .before .before .before .before in
@@ -42,4 +39,5 @@ returns c =
     )
 
 pub put-ended-spec : {M : Type 1} → statement M
-put-ended-spec = tie.close (tie.spec put-number-requires put-byte-requires same-length returns)
+put-ended-spec = tie.close (tie.spec put-number-requires put-byte-requires (λ c. search needs)
+    returns)

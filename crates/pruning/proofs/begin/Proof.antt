@@ -41,12 +41,6 @@ refill-requires c κs =
       ),
     )
 
-same-length : tie.Need-same-length
-same-length c = search needs
-
-same-length-2 : tie.Need-same-length-2
-same-length-2 c = search needs
-
 returns : tie.Need-returns
 returns c =
     let z = c .before .before .before .before .before .before .before .before .before .before
@@ -65,5 +59,5 @@ returns c =
     )
 
 pub begin-spec : {M : Type 1} → statement M
-begin-spec = tie.close (tie.spec put-leaves-requires draft-requires refill-requires same-length
-    same-length-2 returns)
+begin-spec = tie.close (tie.spec put-leaves-requires draft-requires refill-requires
+    (λ c. search needs) (λ c. search needs) returns)

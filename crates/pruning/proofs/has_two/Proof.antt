@@ -11,15 +11,6 @@ begin-requires : tie.Need-begin-requires
 begin-requires c κs = let z = c .before .before .before .before .before in
     ((z .pre .0 .0, omega arith, z .pre .0 .1), z .pre .1)
 
-in-second-requires : tie.Need-in-second-requires
-in-second-requires c κs = search needs
-
-same-length : tie.Need-same-length
-same-length c = search needs
-
-same-length-2 : tie.Need-same-length-2
-same-length-2 c = search needs
-
 returns : tie.Need-returns
 returns c =
     let a = c .before .before .before .before .before .before .before .before .before .before
@@ -34,5 +25,5 @@ returns c =
     )
 
 pub has-two-spec : {M : Type 1} → statement M
-has-two-spec =
-    tie.close (tie.spec begin-requires in-second-requires same-length same-length-2 returns)
+has-two-spec = tie.close (tie.spec begin-requires (λ c κs. search needs) (λ c. search needs)
+    (λ c. search needs) returns)

@@ -24,12 +24,6 @@ loop-holds c = (omega arith, gathered-none _ _ _)
 has-requires : tie.Need-has-requires Inv-loop μ-loop
 has-requires c κs = c .loop-test .taken
 
-add-x : tie.Need-add-x Inv-loop μ-loop
-add-x c = search needs
-
-loop-less : tie.Need-loop-less Inv-loop μ-loop
-loop-less c = search needs
-
 loop-again : tie.Need-loop-again Inv-loop μ-loop
 loop-again c = (
   omega (arith, c .before .before .loop-test .taken),
@@ -41,9 +35,6 @@ loop-again c = (
 leaf-pair-requires : tie.Need-leaf-pair-requires Inv-loop μ-loop
 leaf-pair-requires c κs = let z = c .before .before .before .before .before in
     (z .pre .0, z .pre .1 .0)
-
-cast-write : tie.Need-cast-write Inv-loop μ-loop
-cast-write c = search needs
 
 write-requires : tie.Need-write-requires Inv-loop μ-loop
 write-requires c κs = omega (
@@ -60,12 +51,6 @@ united-requires c κs = tt
 
 united-requires-2 : tie.Need-united-requires-2 Inv-loop μ-loop
 united-requires-2 c κs = tt
-
-add-x-2 : tie.Need-add-x-2 Inv-loop μ-loop
-add-x-2 c = search needs
-
-loop-less-2 : tie.Need-loop-less-2 Inv-loop μ-loop
-loop-less-2 c = search needs
 
 loop-again-2 : tie.Need-loop-again-2 Inv-loop μ-loop
 loop-again-2 c = (
@@ -94,6 +79,7 @@ returns c =
     (l .twice)) e (l .inv .1)
 
 pub leaves-spec : {M : Type 1} → statement M
-leaves-spec = tie.close (tie.spec Inv-loop μ-loop loop-holds has-requires add-x loop-less loop-again
-    leaf-pair-requires cast-write write-requires united-requires united-requires-2 add-x-2
-    loop-less-2 loop-again-2 same-length returns)
+leaves-spec = tie.close (tie.spec Inv-loop μ-loop loop-holds has-requires (λ c. search needs)
+    (λ c. search needs) loop-again leaf-pair-requires (λ c. search needs) write-requires
+    united-requires united-requires-2 (λ c. search needs) (λ c. search needs) loop-again-2
+    same-length returns)

@@ -13,21 +13,12 @@ use Rattle.pruning.proofs.moved.Tie as tie
 steps : (n k : ℕ) → 0 < n → k < 3 * n → k / n < 3
 steps n k pos h = div-lt-iff-lt-mul pos .1 h
 
-cell-requires : tie.Need-cell-requires
-cell-requires c κs = search needs
-
-div-step : tie.Need-div-step
-div-step c = search needs
-
 cast-step : tie.Need-cast-step
 cast-step c = let z = c .before in
     record {
       fits =
           omega (arith, steps (z .args .n) (z .args .k) (omega (arith, z .pre .0)) (z .pre .0 .2));
     }
-
-rem-column : tie.Need-rem-column
-rem-column c = search needs
 
 add-column : tie.Need-add-column
 add-column c = let z = c .before in
@@ -51,9 +42,6 @@ cast-column c = let z = c .before in
       );
     }
 
-with-requires : tie.Need-with-requires
-with-requires c κs = search needs
-
 returns : tie.Need-returns
 returns c =
     let z = c .before .before in
@@ -67,5 +55,5 @@ returns c =
     )
 
 pub moved-spec : {M : Type 1} → statement M
-moved-spec = tie.close (tie.spec cell-requires div-step cast-step rem-column add-column cast-column
-    with-requires returns)
+moved-spec = tie.close (tie.spec (λ c κs. search needs) (λ c. search needs) cast-step
+    (λ c. search needs) add-column cast-column (λ c κs. search needs) returns)

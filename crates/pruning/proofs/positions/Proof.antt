@@ -11,12 +11,6 @@ use Rattle.pruning.proofs.positions.Tie as tie
 try-positions-requires : tie.Need-try-positions-requires
 try-positions-requires c κs = c .before .before .before .before .pre
 
-same-length : tie.Need-same-length
-same-length c = search needs
-
-same-length-2 : tie.Need-same-length-2
-same-length-2 c = search needs
-
 returns : tie.Need-returns
 returns c = (
   record {
@@ -27,9 +21,6 @@ returns c = (
   c .before .before
       .before .before .before .try-positions .ensures .1,
 )
-
-draft-requires : tie.Need-draft-requires
-draft-requires c κs = search needs
 
 no-two-requires : tie.Need-no-two-requires
 no-two-requires c κs =
@@ -57,12 +48,6 @@ no-two-requires c κs =
       ),
     )
 
-same-length-3 : tie.Need-same-length-3
-same-length-3 c = search needs
-
-same-length-4 : tie.Need-same-length-4
-same-length-4 c = search needs
-
 returns-2 : tie.Need-returns-2
 returns-2 c =
     let d = c .before .before .before .before .before .before .before .draft in
@@ -77,5 +62,6 @@ returns-2 c =
     )
 
 pub positions-spec : {M : Type 1} → statement M
-positions-spec = tie.close (tie.spec try-positions-requires same-length same-length-2 returns
-    draft-requires no-two-requires same-length-3 same-length-4 returns-2)
+positions-spec = tie.close (tie.spec try-positions-requires (λ c. search needs) (λ c. search needs)
+    returns (λ c κs. search needs) no-two-requires (λ c. search needs) (λ c. search needs)
+    returns-2)

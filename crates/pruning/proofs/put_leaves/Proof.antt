@@ -78,12 +78,6 @@ put-leaf-requires c κs = let z = c .before .before .before .before .before .bef
       ),
     )
 
-add-i : tie.Need-add-i Inv-loop μ-loop
-add-i c = search needs
-
-loop-less : tie.Need-loop-less Inv-loop μ-loop
-loop-less c = search needs
-
 loop-again : tie.Need-loop-again Inv-loop μ-loop
 loop-again c = (
   laid-more (c .before .before .before .before .before .before .before .before .before
@@ -147,6 +141,5 @@ returns c = (
 pub put-leaves-spec : {M : Type 1} → statement M
 put-leaves-spec = tie.close (tie.spec Inv-loop μ-loop loop-holds slot-requires mul-at mul-put-leaf
     shared-slice-read-put-leaf add-put-leaf mul-put-leaf-2 shared-slice-read-put-leaf-2
-    put-leaf-requires add-i
-    loop-less loop-again shared-slice-read-put-empty shared-slice-read-put-empty-2
-    put-empty-requires same-length same-length-2 returns)
+    put-leaf-requires (λ c. search needs) (λ c. search needs) loop-again shared-slice-read-put-empty
+    shared-slice-read-put-empty-2 put-empty-requires same-length same-length-2 returns)

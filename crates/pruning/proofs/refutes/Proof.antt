@@ -9,14 +9,8 @@ twinned-requires : tie.Need-twinned-requires
 twinned-requires c κs = let z = c .before .before .before .before .before in
     ((z .pre .0 .0, z .pre .0 .1, z .pre .0 .2, omega arith, renames-all _ _), z .pre .1)
 
-same-length : tie.Need-same-length
-same-length c = search needs
-
-same-length-2 : tie.Need-same-length-2
-same-length-2 c = search needs
-
 returns : tie.Need-returns
 returns c = c .before .before .before .before .twinned .ensures
 
 pub refutes-spec : {M : Type 1} → statement M
-refutes-spec = tie.close (tie.spec twinned-requires same-length same-length-2 returns)
+refutes-spec = tie.close (tie.spec twinned-requires (λ c. search needs) (λ c. search needs) returns)

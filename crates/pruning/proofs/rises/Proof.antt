@@ -8,12 +8,6 @@ use Rattle.pruning.proofs.CellLaws.{cells-get, prior-before, first-step
 use Rattle.pruning.proofs.rises.Statement.{statement}
 use Rattle.pruning.proofs.rises.Tie as tie
 
-cell-requires : tie.Need-cell-requires
-cell-requires c κs = search needs
-
-column-before-requires : tie.Need-column-before-requires
-column-before-requires c κs = search needs
-
 returns : tie.Need-returns
 returns c e q =
     let z = c .before .before .before .before .before in
@@ -45,4 +39,4 @@ returns-2 c e q =
     c .if1 .left (sym s ∙ first-step i (q .step))
 
 pub rises-spec : {M : Type 1} → statement M
-rises-spec = tie.close (tie.spec cell-requires column-before-requires returns returns-2)
+rises-spec = tie.close (tie.spec (λ c κs. search needs) (λ c κs. search needs) returns returns-2)

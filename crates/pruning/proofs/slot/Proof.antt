@@ -7,12 +7,6 @@ use Rattle.pruning.proofs.CellLaws.{cells-get}
 use Rattle.pruning.proofs.slot.Statement.{statement}
 use Rattle.pruning.proofs.slot.Tie as tie
 
-cell-requires : tie.Need-cell-requires
-cell-requires c κs = search needs
-
-cast-result : tie.Need-cast-result
-cast-result c = search needs
-
 returns : tie.Need-returns
 returns c =
     let z = c .before .before .before in
@@ -24,8 +18,6 @@ returns c =
           λ h. absurd (omega (arith, c .before .before .if1 .taken));
     }
 
-returns-2 : tie.Need-returns-2
-returns-2 c = search needs
-
 pub slot-spec : {M : Type 1} → statement M
-slot-spec = tie.close (tie.spec cell-requires cast-result returns returns-2)
+slot-spec = tie.close (tie.spec (λ c κs. search needs) (λ c. search needs) returns
+    (λ c. search needs))

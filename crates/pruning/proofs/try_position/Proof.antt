@@ -10,9 +10,6 @@ use Rattle.refilling.specs.Short.{wide}
 use Rattle.pruning.proofs.try_position.Statement.{statement}
 use Rattle.pruning.proofs.try_position.Tie as tie
 
-rises-requires : tie.Need-rises-requires
-rises-requires c κs = search needs
-
 returns : tie.Need-returns
 returns c =
     let z = c .before .before .before .before in
@@ -23,12 +20,6 @@ returns c =
           .1 .1,
     )
 
-add-earlier-twin : tie.Need-add-earlier-twin
-add-earlier-twin c = search needs
-
-earlier-twin-requires : tie.Need-earlier-twin-requires
-earlier-twin-requires c κs = search needs
-
 returns-2 : tie.Need-returns-2
 returns-2 c =
     let z = c .before .before .before .before .before .before in
@@ -37,12 +28,6 @@ returns-2 c =
           (c .before .earlier-twin .ensures (c .if2 .taken))) (z .pre .1 .1 .1 .0),
       z .pre .1 .1 .1 .1,
     )
-
-add-draft : tie.Need-add-draft
-add-draft c = search needs
-
-draft-requires : tie.Need-draft-requires
-draft-requires c κs = search needs
 
 no-two-requires : tie.Need-no-two-requires
 no-two-requires c κs =
@@ -64,12 +49,6 @@ no-two-requires c κs =
       ),
     )
 
-same-length : tie.Need-same-length
-same-length c = search needs
-
-same-length-2 : tie.Need-same-length-2
-same-length-2 c = search needs
-
 returns-3 : tie.Need-returns-3
 returns-3 c =
     let z = c .before .before .before .before .before .before .before .before .before .before
@@ -85,6 +64,6 @@ returns-3 c =
     )
 
 pub try-position-spec : {M : Type 1} → statement M
-try-position-spec = tie.close (tie.spec rises-requires returns add-earlier-twin
-    earlier-twin-requires returns-2 add-draft
-    draft-requires no-two-requires same-length same-length-2 returns-3)
+try-position-spec = tie.close (tie.spec (λ c κs. search needs) returns (λ c. search needs)
+    (λ c κs. search needs) returns-2 (λ c. search needs) (λ c κs. search needs) no-two-requires
+    (λ c. search needs) (λ c. search needs) returns-3)

@@ -7,33 +7,9 @@ use Rattle.refilling.specs.Short.{wide}
 use Rattle.pruning.proofs.try_terminal.Statement.{statement}
 use Rattle.pruning.proofs.try_terminal.Tie as tie
 
-mul-at : tie.Need-mul-at
-mul-at c = search needs
-
-mul-put-leaf : tie.Need-mul-put-leaf
-mul-put-leaf c = search needs
-
-shared-slice-read-put-leaf : tie.Need-shared-slice-read-put-leaf
-shared-slice-read-put-leaf c = search needs
-
-add-put-leaf : tie.Need-add-put-leaf
-add-put-leaf c = search needs
-
-mul-put-leaf-2 : tie.Need-mul-put-leaf-2
-mul-put-leaf-2 c = search needs
-
-shared-slice-read-put-leaf-2 : tie.Need-shared-slice-read-put-leaf-2
-shared-slice-read-put-leaf-2 c = search needs
-
 put-leaf-requires : tie.Need-put-leaf-requires
 put-leaf-requires c κs = let z = c .before .before .before .before .before .before .before in
     ((omega (arith, z .pre .0 .0), z .pre .0 .2), (z .pre .1 .1 .0, z .pre .1 .1 .1 .1 .1))
-
-draft-requires : tie.Need-draft-requires
-draft-requires c κs = search needs
-
-add-no-two : tie.Need-add-no-two
-add-no-two c = search needs
 
 no-two-requires : tie.Need-no-two-requires
 no-two-requires c κs =
@@ -60,12 +36,6 @@ no-two-requires c κs =
       ),
     )
 
-same-length : tie.Need-same-length
-same-length c = search needs
-
-same-length-2 : tie.Need-same-length-2
-same-length-2 c = search needs
-
 returns : tie.Need-returns
 returns c =
     let z = c .before .before .before .before .before .before .before .before .before .before
@@ -86,8 +56,7 @@ returns c =
     )
 
 pub try-terminal-spec : {M : Type 1} → statement M
-try-terminal-spec =
-    tie.close (tie.spec mul-at mul-put-leaf shared-slice-read-put-leaf add-put-leaf mul-put-leaf-2
-    shared-slice-read-put-leaf-2 put-leaf-requires draft-requires add-no-two no-two-requires
-    same-length
-    same-length-2 returns)
+try-terminal-spec = tie.close (tie.spec (λ c. search needs) (λ c. search needs) (λ c. search needs)
+    (λ c. search needs) (λ c. search needs) (λ c. search needs) put-leaf-requires
+    (λ c κs. search needs) (λ c. search needs) no-two-requires (λ c. search needs)
+    (λ c. search needs) returns)

@@ -35,12 +35,6 @@ try-terminals-requires c κs =
       ),
     )
 
-same-length : tie.Need-same-length
-same-length c = search needs
-
-same-length-2 : tie.Need-same-length-2
-same-length-2 c = search needs
-
 returns : tie.Need-returns
 returns c =
     let q = c .before .before .before .before .try-terminals .ensures in (
@@ -55,5 +49,5 @@ returns c =
     )
 
 pub twinned-spec : {M : Type 1} → statement M
-twinned-spec =
-    tie.close (tie.spec begin-requires try-terminals-requires same-length same-length-2 returns)
+twinned-spec = tie.close (tie.spec begin-requires try-terminals-requires (λ c. search needs)
+    (λ c. search needs) returns)

@@ -7,12 +7,6 @@ use Rattle.pruning.proofs.CellLaws.{with-terminal-of, low-changed, step
 use Rattle.pruning.proofs.with_terminal.Statement.{statement}
 use Rattle.pruning.proofs.with_terminal.Tie as tie
 
-cell-requires : tie.Need-cell-requires
-cell-requires c κs = search needs
-
-with-requires : tie.Need-with-requires
-with-requires c κs = search needs
-
 returns : tie.Need-returns
 returns c =
     let z = c .before .before in
@@ -29,4 +23,4 @@ returns c =
     )
 
 pub with-terminal-spec : {M : Type 1} → statement M
-with-terminal-spec = tie.close (tie.spec cell-requires with-requires returns)
+with-terminal-spec = tie.close (tie.spec (λ c κs. search needs) (λ c κs. search needs) returns)

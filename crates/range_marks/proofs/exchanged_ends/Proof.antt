@@ -18,23 +18,8 @@ abbrev μ-loop : tie.MeasureT-loop
 loop-holds : tie.Need-loop-holds Inv-loop μ-loop
 loop-holds c = (exchanging-none _, simp length-map at (c .before .good .0 .1 .1 .0 .1 .0 .1))
 
-mul-exchange : tie.Need-mul-exchange Inv-loop μ-loop
-mul-exchange c = search needs
-
 element-copy-out-exchange : tie.Need-element-copy-out-exchange Inv-loop μ-loop
 element-copy-out-exchange c = omega (arith, c .before .before .before .pre .0, c .loop-test .taken)
-
-exchange-requires : tie.Need-exchange-requires Inv-loop μ-loop
-exchange-requires c κs = search needs
-
-mul-tokens : tie.Need-mul-tokens Inv-loop μ-loop
-mul-tokens c = search needs
-
-array-set-from-tokens : tie.Need-array-set-from-tokens Inv-loop μ-loop
-array-set-from-tokens c = search needs
-
-add-i : tie.Need-add-i Inv-loop μ-loop
-add-i c = search needs
 
 loop-less : tie.Need-loop-less Inv-loop μ-loop
 loop-less c = omega (arith, c .before .before .loop-test .taken)
@@ -58,18 +43,6 @@ returns c =
     )
 
 pub exchanged-ends-spec : {M : Type 1} → statement M
-exchanged-ends-spec =
-    tie.close
-    (tie.spec
-    Inv-loop
-    μ-loop
-    loop-holds
-    mul-exchange
-    element-copy-out-exchange
-    exchange-requires
-    mul-tokens
-    array-set-from-tokens
-    add-i
-    loop-less
-    loop-again
-    returns)
+exchanged-ends-spec = tie.close (tie.spec Inv-loop μ-loop loop-holds (λ c. search needs)
+    element-copy-out-exchange (λ c κs. search needs) (λ c. search needs) (λ c. search needs)
+    (λ c. search needs) loop-less loop-again returns)

@@ -5,15 +5,9 @@ use Rattle.sets.proofs.Says.{holds, fails}
 use Rattle.range_marks.proofs.overlap.Statement.{statement}
 use Rattle.range_marks.proofs.overlap.Tie as tie
 
-column-before-requires : tie.Need-column-before-requires
-column-before-requires c κs = search needs
-
 returns : tie.Need-returns
 returns c =
     fails (λ z. omega (arith, z .low, c .before .column-before .ensures .is (c .if1 .taken)))
-
-column-before-requires-2 : tie.Need-column-before-requires-2
-column-before-requires-2 c κs = search needs
 
 returns-2 : tie.Need-returns-2
 returns-2 c =
@@ -28,6 +22,5 @@ returns-3 c =
     })
 
 pub overlap-spec : {M : Type 1} → statement M
-overlap-spec =
-    tie.close
-    (tie.spec column-before-requires returns column-before-requires-2 returns-2 returns-3)
+overlap-spec = tie.close (tie.spec (λ c κs. search needs) returns (λ c κs. search needs) returns-2
+    returns-3)

@@ -13,12 +13,6 @@ use Rattle.range_sheets.proofs.finished.Tie as tie
 use Rattle.column_ranges.specs.RangeSentences.{rangesOf}
 use mathlib.Core.List.{List}
 
-count-requires : tie.Need-count-requires
-count-requires c κs = search needs
-
-refuse-ranges-requires : tie.Need-refuse-ranges-requires
-refuse-ranges-requires c κs = search needs
-
 returns : tie.Need-returns
 returns c = subst (λ (x : Reading (List RangeToken)). RangesRead (c .refuse-ranges .result) x)
     (sym (counted-many (rangesOf (record {
@@ -42,4 +36,4 @@ returns-2 c =
     }
 
 pub finished-spec : {M : Type 1} → statement M
-finished-spec = tie.close (tie.spec count-requires refuse-ranges-requires returns returns-2)
+finished-spec = tie.close (tie.spec (λ c κs. search needs) (λ c κs. search needs) returns returns-2)

@@ -102,15 +102,6 @@ inside₃ c = omega (arith, stage3 c .1, start₃ c .pre)
 inside₄ : (c : tie.After-known-told4) → read₄ c .1 .0 .end ≤ length (start₄ c .args .s .now)
 inside₄ c = omega (arith, stage4 c .1, start₄ c .pre)
 
-number-requires : tie.Need-number-requires
-number-requires c κs = search needs
-
-enum-known-t : tie.Need-enum-known-t
-enum-known-t c = search needs
-
-enum-told : tie.Need-enum-told
-enum-told c = search needs
-
 returns : tie.Need-returns
 returns c =
     let n = c .before .before in
@@ -119,12 +110,6 @@ returns c =
 
 number-requires-2 : tie.Need-number-requires-2
 number-requires-2 c κs = inside₁ c
-
-enum-known-l : tie.Need-enum-known-l
-enum-known-l c = search needs
-
-enum-told-2 : tie.Need-enum-told-2
-enum-told-2 c = search needs
 
 returns-2 : tie.Need-returns-2
 returns-2 c =
@@ -135,12 +120,6 @@ returns-2 c =
 
 number-requires-3 : tie.Need-number-requires-3
 number-requires-3 c κs = inside₂ c
-
-enum-known-k : tie.Need-enum-known-k
-enum-known-k c = search needs
-
-enum-told-3 : tie.Need-enum-told-3
-enum-told-3 c = search needs
 
 returns-3 : tie.Need-returns-3
 returns-3 c =
@@ -153,12 +132,6 @@ returns-3 c =
 
 number-requires-4 : tie.Need-number-requires-4
 number-requires-4 c κs = inside₃ c
-
-enum-known-h : tie.Need-enum-known-h
-enum-known-h c = search needs
-
-enum-told-4 : tie.Need-enum-told-4
-enum-told-4 c = search needs
 
 returns-4 : tie.Need-returns-4
 returns-4 c =
@@ -176,9 +149,6 @@ returns-5 c =
     sym (stage4 s .0 ∙ end-bad Form _ (start₄ s .args .s .now) (read₄ s .1 .0) (inside₄ s)
     (c .if1 .taken))
 
-range-of-requires : tie.Need-range-of-requires
-range-of-requires c κs = search needs
-
 returns-6 : tie.Need-returns-6
 returns-6 c =
     let s = c .before .before .before in
@@ -186,25 +156,7 @@ returns-6 c =
     (read₄ s .1 .0) (inside₄ s) (c .before .if1 .left))
 
 pub range-line-spec : {M : Type 1} → statement M
-range-line-spec =
-    tie.close
-    (tie.spec
-    number-requires
-    enum-known-t
-    enum-told
-    returns
-    number-requires-2
-    enum-known-l
-    enum-told-2
-    returns-2
-    number-requires-3
-    enum-known-k
-    enum-told-3
-    returns-3
-    number-requires-4
-    enum-known-h
-    enum-told-4
-    returns-4
-    returns-5
-    range-of-requires
-    returns-6)
+range-line-spec = tie.close (tie.spec (λ c κs. search needs) (λ c. search needs) (λ c. search needs)
+    returns number-requires-2 (λ c. search needs) (λ c. search needs) returns-2 number-requires-3
+    (λ c. search needs) (λ c. search needs) returns-3 number-requires-4 (λ c. search needs)
+    (λ c. search needs) returns-4 returns-5 (λ c κs. search needs) returns-6)

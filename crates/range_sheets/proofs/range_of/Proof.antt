@@ -72,21 +72,6 @@ returns-7 c = let a = c .before .before .before .before .before .before .before 
           (omega arith),
     )
 
-cast-ends-of : tie.Need-cast-ends-of
-cast-ends-of c = search needs
-
-cast-ends-of-2 : tie.Need-cast-ends-of-2
-cast-ends-of-2 c = search needs
-
-cast-ends-of-3 : tie.Need-cast-ends-of-3
-cast-ends-of-3 c = search needs
-
-cast-ends-of-4 : tie.Need-cast-ends-of-4
-cast-ends-of-4 c = search needs
-
-ends-of-requires : tie.Need-ends-of-requires
-ends-of-requires c κs = search needs
-
 returns-8 : tie.Need-returns-8
 returns-8 c = let a = c .before .before .before .before .before .before .before .before .args in
     c .ends-of .ensures ∙ simp (
@@ -104,19 +89,6 @@ returns-8 c = let a = c .before .before .before .before .before .before .before 
     )
 
 pub range-of-spec : {M : Type 1} → statement M
-range-of-spec =
-    tie.close
-    (tie.spec
-    returns
-    returns-2
-    returns-3
-    returns-4
-    returns-5
-    returns-6
-    returns-7
-    cast-ends-of
-    cast-ends-of-2
-    cast-ends-of-3
-    cast-ends-of-4
-    ends-of-requires
-    returns-8)
+range-of-spec = tie.close (tie.spec returns returns-2 returns-3 returns-4 returns-5 returns-6
+    returns-7 (λ c. search needs) (λ c. search needs) (λ c. search needs) (λ c. search needs)
+    (λ c κs. search needs) returns-8)

@@ -20,21 +20,6 @@ said c x is =
     ap rangeSaid (sym is ∙ c .range-line .ensures ∙ ap rangeFields
     (fields-of (b .args .s .now) (b .args .c) (b .pre .0) (b .pre .1)))
 
-range-line-requires : tie.Need-range-line-requires
-range-line-requires c κs = search needs
-
-enum-told : tie.Need-enum-told
-enum-told c = search needs
-
-enum-told-2 : tie.Need-enum-told-2
-enum-told-2 c = search needs
-
-enum-told-3 : tie.Need-enum-told-3
-enum-told-3 c = search needs
-
-enum-known-t : tie.Need-enum-known-t
-enum-known-t c = search needs
-
 returns : tie.Need-returns
 returns c = said (c .before .before) _ (c .enum-told .given .1)
 
@@ -48,15 +33,5 @@ returns-4 : tie.Need-returns-4
 returns-4 c = said (c .before .before .before) _ (c .before .t .given .1)
 
 pub range-said-spec : {M : Type 1} → statement M
-range-said-spec =
-    tie.close
-    (tie.spec
-    range-line-requires
-    enum-told
-    enum-told-2
-    enum-told-3
-    enum-known-t
-    returns
-    returns-2
-    returns-3
-    returns-4)
+range-said-spec = tie.close (tie.spec (λ c κs. search needs) (λ c. search needs) (λ c. search needs)
+    (λ c. search needs) (λ c. search needs) returns returns-2 returns-3 returns-4)

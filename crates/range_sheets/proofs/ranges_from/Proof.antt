@@ -45,9 +45,6 @@ taken c =
     took (m .before .before .loop .inv) (m .before .line .ensures)
     (gave m _ (c .before .t .given .1))
 
-no-ranges-requires : tie.Need-no-ranges-requires Inv-loop μ-loop
-no-ranges-requires c κs = search needs
-
 loop-holds : tie.Need-loop-holds Inv-loop μ-loop
 loop-holds c =
     record { low = c .before .before .pre; few = lit≤ tt; long = search needs; same = refl }
@@ -58,9 +55,6 @@ line-requires c κs = c .loop .inv .low
 range-step-requires : tie.Need-range-step-requires Inv-loop μ-loop
 range-step-requires c κs =
     (let i = line-in _ _ (c .before .loop .inv .low) _ (c .line .ensures) in i)
-
-enum-known-t : tie.Need-enum-known-t Inv-loop μ-loop
-enum-known-t c = search needs
 
 mul-tokens : tie.Need-mul-tokens Inv-loop μ-loop
 mul-tokens c = omega (arith, taken c .0)
@@ -86,23 +80,14 @@ loop-again c =
     turned (m .before .before .loop .inv) (m .before .line .ensures)
     (gave m _ (c .before .before .t .given .1))
 
-enum-known-f : tie.Need-enum-known-f Inv-loop μ-loop
-enum-known-f c = search needs
-
 add-refuse-ranges : tie.Need-add-refuse-ranges Inv-loop μ-loop
 add-refuse-ranges c = omega (arith, c .before .before .before .before .before .loop .inv .few)
-
-refuse-ranges-requires : tie.Need-refuse-ranges-requires Inv-loop μ-loop
-refuse-ranges-requires c κs = search needs
 
 returns : tie.Need-returns Inv-loop μ-loop
 returns c =
     let m = c .before .before .before .before in
     rw (stopped (m .before .before .loop .inv) (m .before .line .ensures)
     (gave m _ (c .before .before .f .given .1))) (c .refuse-ranges .ensures)
-
-enum-told : tie.Need-enum-told Inv-loop μ-loop
-enum-told c = search needs
 
 finished-requires : tie.Need-finished-requires Inv-loop μ-loop
 finished-requires c κs =
@@ -125,26 +110,7 @@ returns-2 c =
     (c .finished .ensures)
 
 pub ranges-from-spec : {M : Type 1} → statement M
-ranges-from-spec =
-    tie.close
-    (tie.spec
-    Inv-loop
-    μ-loop
-    no-ranges-requires
-    loop-holds
-    line-requires
-    range-step-requires
-    enum-known-t
-    mul-tokens
-    array-set-from-tokens
-    add-n
-    add-at
-    loop-less
-    loop-again
-    enum-known-f
-    add-refuse-ranges
-    refuse-ranges-requires
-    returns
-    enum-told
-    finished-requires
-    returns-2)
+ranges-from-spec = tie.close (tie.spec Inv-loop μ-loop (λ c κs. search needs) loop-holds
+    line-requires range-step-requires (λ c. search needs) mul-tokens array-set-from-tokens add-n
+    add-at loop-less loop-again (λ c. search needs) add-refuse-ranges (λ c κs. search needs) returns
+    (λ c. search needs) finished-requires returns-2)

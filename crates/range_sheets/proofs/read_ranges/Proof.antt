@@ -13,23 +13,8 @@ use borrow.Author.Needs.{needs}
 use Rattle.range_sheets.proofs.read_ranges.Statement.{statement}
 use Rattle.range_sheets.proofs.read_ranges.Tie as tie
 
-line-requires : tie.Need-line-requires
-line-requires c κs = search needs
-
 slice-aggregate-same : tie.Need-slice-aggregate-same
 slice-aggregate-same c = sym (length-take-le _ _ (omega (arith, c .before .if1 .taken)))
-
-slice-aggregate-same-2 : tie.Need-slice-aggregate-same-2
-slice-aggregate-same-2 c = search needs
-
-same-requires : tie.Need-same-requires
-same-requires c κs = search needs
-
-add-ranges-from : tie.Need-add-ranges-from
-add-ranges-from c = search needs
-
-ranges-from-requires : tie.Need-ranges-from-requires
-ranges-from-requires c κs = search needs
 
 returns : tie.Need-returns
 returns c =
@@ -41,12 +26,6 @@ returns c =
     (sym (c .before .if2 .taken) ∙ c .before .before .same .ensures))
     (c .ranges-from .ensures)
 
-no-ranges-requires : tie.Need-no-ranges-requires
-no-ranges-requires c κs = search needs
-
-refuse-ranges-requires : tie.Need-refuse-ranges-requires
-refuse-ranges-requires c κs = search needs
-
 returns-2 : tie.Need-returns-2
 returns-2 c =
     let p = c .before .before .before .before .before .before .before in
@@ -57,12 +36,6 @@ returns-2 c =
     (sym (c .before .before .if2 .left) ∙ c .before .before .before .same .ensures))
     (c .refuse-ranges .ensures)
 
-no-ranges-requires-2 : tie.Need-no-ranges-requires-2
-no-ranges-requires-2 c κs = search needs
-
-refuse-ranges-requires-2 : tie.Need-refuse-ranges-requires-2
-refuse-ranges-requires-2 c κs = search needs
-
 returns-3 : tie.Need-returns-3
 returns-3 c =
     let p = c .before .before .before in
@@ -72,19 +45,7 @@ returns-3 c =
     (c .before .before .if1 .left)) (c .refuse-ranges2 .ensures)
 
 pub read-ranges-spec : {M : Type 1} → statement M
-read-ranges-spec =
-    tie.close
-    (tie.spec
-    line-requires
-    slice-aggregate-same
-    slice-aggregate-same-2
-    same-requires
-    add-ranges-from
-    ranges-from-requires
-    returns
-    no-ranges-requires
-    refuse-ranges-requires
-    returns-2
-    no-ranges-requires-2
-    refuse-ranges-requires-2
-    returns-3)
+read-ranges-spec = tie.close (tie.spec (λ c κs. search needs) slice-aggregate-same
+    (λ c. search needs) (λ c κs. search needs) (λ c. search needs) (λ c κs. search needs) returns
+    (λ c κs. search needs) (λ c κs. search needs) returns-2 (λ c κs. search needs)
+    (λ c κs. search needs) returns-3)

@@ -45,18 +45,12 @@ mul-r c = omega (arith, c .before .before .before .pre .few)
 element-copy-out-r : tie.Need-element-copy-out-r Inv-loop μ-loop
 element-copy-out-r c = omega (arith, c .before .before .before .pre .few)
 
-add-i : tie.Need-add-i Inv-loop μ-loop
-add-i c = omega arith
-
 has-requires : tie.Need-has-requires Inv-loop μ-loop
 has-requires c κs =
     let i = c .before in
     let z = i .before .before .before in
     small-at (z .pre) _ (rule-at (z .args .t1) (i .before .loop .i) no-rule (array z) (z .pre .few)
     (i .loop-test .taken)) .left
-
-loop-less : tie.Need-loop-less Inv-loop μ-loop
-loop-less c = omega arith
 
 loop-again : tie.Need-loop-again Inv-loop μ-loop
 loop-again c =
@@ -80,12 +74,6 @@ array-set-from-rules : tie.Need-array-set-from-rules Inv-loop μ-loop
 array-set-from-rules c =
     let i = c .before .before .before in
     omega (arith, i .before .loop .inv .1, i .before .before .before .pre .few)
-
-add-m : tie.Need-add-m Inv-loop μ-loop
-add-m c = omega arith
-
-loop-less-2 : tie.Need-loop-less-2 Inv-loop μ-loop
-loop-less-2 c = omega arith
 
 loop-again-2 : tie.Need-loop-again-2 Inv-loop μ-loop
 loop-again-2 c =
@@ -127,21 +115,6 @@ returns c =
     )
 
 pub pick-spec : {M : Type 1} → statement M
-pick-spec =
-    tie.close
-    (tie.spec
-    Inv-loop
-    μ-loop
-    loop-holds
-    mul-r
-    element-copy-out-r
-    add-i
-    has-requires
-    loop-less
-    loop-again
-    mul-rules
-    array-set-from-rules
-    add-m
-    loop-less-2
-    loop-again-2
-    returns)
+pick-spec = tie.close (tie.spec Inv-loop μ-loop loop-holds mul-r element-copy-out-r
+    (λ c. omega arith) has-requires (λ c. omega arith) loop-again mul-rules array-set-from-rules
+    (λ c. omega arith) (λ c. omega arith) loop-again-2 returns)

@@ -8,12 +8,6 @@ use Rattle.reachable_rules.proofs.PickLaws.{picked-all}
 use Rattle.reachable_rules.proofs.reachable.Statement.{statement}
 use Rattle.reachable_rules.proofs.reachable.Tie as tie
 
-reached-requires : tie.Need-reached-requires
-reached-requires c κs = search needs
-
-pick-requires : tie.Need-pick-requires
-pick-requires c κs = search needs
-
 returns : tie.Need-returns
 returns c =
     let p = c .pick in
@@ -26,4 +20,4 @@ returns c =
     )
 
 pub reachable-spec : {M : Type 1} → statement M
-reachable-spec = tie.close (tie.spec reached-requires pick-requires returns)
+reachable-spec = tie.close (tie.spec (λ c κs. search needs) (λ c κs. search needs) returns)

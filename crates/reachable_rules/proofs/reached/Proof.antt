@@ -25,9 +25,6 @@ loop-holds c = λ Y m. absurd (in-zero Y m)
 reach-pass-requires : tie.Need-reach-pass-requires Inv-loop μ-loop
 reach-pass-requires c κs = c .before .pre
 
-with-requires : tie.Need-with-requires Inv-loop μ-loop
-with-requires c κs = omega arith
-
 returns : tie.Need-returns Inv-loop μ-loop
 returns c =
     let p = c .before .before in
@@ -44,14 +41,5 @@ loop-again : tie.Need-loop-again Inv-loop μ-loop
 loop-again c = c .before .reach-pass .ensures .sound (c .before .before .loop .inv)
 
 pub reached-spec : {M : Type 1} → statement M
-reached-spec =
-    tie.close
-    (tie.spec
-    Inv-loop
-    μ-loop
-    loop-holds
-    reach-pass-requires
-    with-requires
-    returns
-    loop-less
-    loop-again)
+reached-spec = tie.close (tie.spec Inv-loop μ-loop loop-holds reach-pass-requires
+    (λ c κs. omega arith) returns loop-less loop-again)

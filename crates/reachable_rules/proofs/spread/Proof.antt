@@ -5,18 +5,9 @@ use Rattle.acyclic.proofs.Growth.{grown-none, grown-map}
 use Rattle.reachable_rules.proofs.spread.Statement.{statement}
 use Rattle.reachable_rules.proofs.spread.Tie as tie
 
-with-parts-requires : tie.Need-with-parts-requires
-with-parts-requires c κs = search needs
-
 returns : tie.Need-returns
 returns c =
     grown-map (c .with-parts .ensures) (λ Y p. (inl (c .before .if1 .taken), p)) (λ Y p. p .1)
-
-has-requires : tie.Need-has-requires
-has-requires c κs = search needs
-
-with-parts-requires-2 : tie.Need-with-parts-requires-2
-with-parts-requires-2 c κs = search needs
 
 returns-2 : tie.Need-returns-2
 returns-2 c = grown-map (c .with-parts2 .ensures)
@@ -27,6 +18,5 @@ returns-3 c = grown-none (λ Y p. absurd
     (⊎-elim (c .before .before .if1 .left) (c .before .has .ensures .isnt (c .if2 .left)) (p .0)))
 
 pub spread-spec : {M : Type 1} → statement M
-spread-spec =
-    tie.close
-    (tie.spec with-parts-requires returns has-requires with-parts-requires-2 returns-2 returns-3)
+spread-spec = tie.close (tie.spec (λ c κs. search needs) returns (λ c κs. search needs)
+    (λ c κs. search needs) returns-2 returns-3)

@@ -5,20 +5,8 @@ use Rattle.reachable_rules.proofs.ReachLaws.{parts-one, parts-two}
 use Rattle.reachable_rules.proofs.with_parts.Statement.{statement}
 use Rattle.reachable_rules.proofs.with_parts.Tie as tie
 
-enum-told : tie.Need-enum-told
-enum-told c = search needs
-
-enum-told-2 : tie.Need-enum-told-2
-enum-told-2 c = search needs
-
-enum-known-c : tie.Need-enum-known-c
-enum-known-c c = search needs
-
 with-requires : tie.Need-with-requires
 with-requires c κs = rw (c .before .c .given .1) at (c .before .before .before .pre)
-
-enum-known-c-2 : tie.Need-enum-known-c-2
-enum-known-c-2 c = search needs
 
 with-requires-2 : tie.Need-with-requires-2
 with-requires-2 c κs = (rw (c .before .c2 .given .1) at (c .before .before .before .pre)) .0
@@ -41,17 +29,6 @@ returns-4 c = rw (c .before .before .before .c2 .given .1)
     (parts-two _ _ (c .before .with2 .ensures) (c .with3 .ensures))
 
 pub with-parts-spec : {M : Type 1} → statement M
-with-parts-spec =
-    tie.close
-    (tie.spec
-    enum-told
-    enum-told-2
-    enum-known-c
-    with-requires
-    enum-known-c-2
-    with-requires-2
-    with-requires-3
-    returns
-    returns-2
-    returns-3
+with-parts-spec = tie.close (tie.spec (λ c. search needs) (λ c. search needs) (λ c. search needs)
+    with-requires (λ c. search needs) with-requires-2 with-requires-3 returns returns-2 returns-3
     returns-4)

@@ -11,12 +11,6 @@ Inv-loop s at₀ at = at ≤ length s
 abbrev μ-loop : tie.MeasureT-loop
 μ-loop s at₀ at = length s - at
 
-loop-holds : tie.Need-loop-holds Inv-loop μ-loop
-loop-holds c = omega arith
-
-pair-requires : tie.Need-pair-requires Inv-loop μ-loop
-pair-requires c κs = omega arith
-
 returns : tie.Need-returns Inv-loop μ-loop
 returns c = tt
 
@@ -30,6 +24,5 @@ returns-2 : tie.Need-returns-2 Inv-loop μ-loop
 returns-2 c = tt
 
 pub pairs-spec : {M : Type 1} → statement M
-pairs-spec =
-    tie.close
-    (tie.spec Inv-loop μ-loop loop-holds pair-requires returns loop-less loop-again returns-2)
+pairs-spec = tie.close (tie.spec Inv-loop μ-loop (λ c. omega arith) (λ c κs. omega arith) returns
+    loop-less loop-again returns-2)

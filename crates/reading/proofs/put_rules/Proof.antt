@@ -11,9 +11,6 @@ Inv-loop g count p₀ p = p ≤ 128
 abbrev μ-loop : tie.MeasureT-loop
 μ-loop g count p₀ p = 128 - p
 
-loop-holds : tie.Need-loop-holds Inv-loop μ-loop
-loop-holds c = omega arith
-
 returns : tie.Need-returns Inv-loop μ-loop
 returns c = tt
 
@@ -23,33 +20,10 @@ mul-r c = omega (arith, c .before .loop-test .taken)
 element-copy-out-r : tie.Need-element-copy-out-r Inv-loop μ-loop
 element-copy-out-r c = omega (arith, c .before .loop-test .taken)
 
-put-rule-requires : tie.Need-put-rule-requires Inv-loop μ-loop
-put-rule-requires c κs = search needs
-
-add-p : tie.Need-add-p Inv-loop μ-loop
-add-p c = omega arith
-
-loop-less : tie.Need-loop-less Inv-loop μ-loop
-loop-less c = omega arith
-
-loop-again : tie.Need-loop-again Inv-loop μ-loop
-loop-again c = omega arith
-
 returns-2 : tie.Need-returns-2 Inv-loop μ-loop
 returns-2 c = tt
 
 pub put-rules-spec : {M : Type 1} → statement M
-put-rules-spec =
-    tie.close
-    (tie.spec
-    Inv-loop
-    μ-loop
-    loop-holds
-    returns
-    mul-r
-    element-copy-out-r
-    put-rule-requires
-    add-p
-    loop-less
-    loop-again
-    returns-2)
+put-rules-spec = tie.close (tie.spec Inv-loop μ-loop (λ c. omega arith) returns mul-r
+    element-copy-out-r (λ c κs. search needs) (λ c. omega arith) (λ c. omega arith)
+    (λ c. omega arith) returns-2)

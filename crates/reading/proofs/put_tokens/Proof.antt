@@ -11,9 +11,6 @@ Inv-loop s count p₀ p = p ≤ 64
 abbrev μ-loop : tie.MeasureT-loop
 μ-loop s count p₀ p = 64 - p
 
-loop-holds : tie.Need-loop-holds Inv-loop μ-loop
-loop-holds c = omega arith
-
 returns : tie.Need-returns Inv-loop μ-loop
 returns c = tt
 
@@ -23,33 +20,10 @@ mul-t c = omega (arith, c .before .loop-test .taken)
 element-copy-out-t : tie.Need-element-copy-out-t Inv-loop μ-loop
 element-copy-out-t c = omega (arith, c .before .loop-test .taken)
 
-put-token-requires : tie.Need-put-token-requires Inv-loop μ-loop
-put-token-requires c κs = search needs
-
-add-p : tie.Need-add-p Inv-loop μ-loop
-add-p c = omega arith
-
-loop-less : tie.Need-loop-less Inv-loop μ-loop
-loop-less c = omega arith
-
-loop-again : tie.Need-loop-again Inv-loop μ-loop
-loop-again c = omega arith
-
 returns-2 : tie.Need-returns-2 Inv-loop μ-loop
 returns-2 c = tt
 
 pub put-tokens-spec : {M : Type 1} → statement M
-put-tokens-spec =
-    tie.close
-    (tie.spec
-    Inv-loop
-    μ-loop
-    loop-holds
-    returns
-    mul-t
-    element-copy-out-t
-    put-token-requires
-    add-p
-    loop-less
-    loop-again
-    returns-2)
+put-tokens-spec = tie.close (tie.spec Inv-loop μ-loop (λ c. omega arith) returns mul-t
+    element-copy-out-t (λ c κs. search needs) (λ c. omega arith) (λ c. omega arith)
+    (λ c. omega arith) returns-2)

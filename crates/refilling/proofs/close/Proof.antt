@@ -7,18 +7,6 @@ use Prim.Native.Nat.{_+_}
 use Rattle.filling.proofs.ClosingLaws.{found-by}
 use Rattle.refilling.proofs.KeptLaws.{rows-say, column-says, suits-same}
 
-find-requires : tie.Need-find-requires
-find-requires c κs = search needs
-
-put-requires : tie.Need-put-requires
-put-requires c κs = search needs
-
-same-length : tie.Need-same-length
-same-length c = search needs
-
-same-length-2 : tie.Need-same-length-2
-same-length-2 c = search needs
-
 returns : tie.Need-returns
 returns c = let z = c .before .before .before .before .before .before .before .before .before
     .before .before in
@@ -40,4 +28,5 @@ returns c = let z = c .before .before .before .before .before .before .before .b
     )
 
 pub close-spec : {M : Type 1} → statement M
-close-spec = tie.close (tie.spec find-requires put-requires same-length same-length-2 returns)
+close-spec = tie.close (tie.spec (λ c κs. search needs) (λ c κs. search needs) (λ c. search needs)
+    (λ c. search needs) returns)

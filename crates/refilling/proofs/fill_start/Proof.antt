@@ -46,15 +46,6 @@ marks c =
     next-carried (wide (a .t3)) _ _ _ _ (l .inv .0) (c .before .before .before .loop-test .taken)
     (c .with-next .ensures) (l .inv .2)
 
-mul-a : tie.Need-mul-a Inv-loop μ-loop
-mul-a c = search needs
-
-element-copy-out-a : tie.Need-element-copy-out-a Inv-loop μ-loop
-element-copy-out-a c = search needs
-
-first-marks-requires : tie.Need-first-marks-requires Inv-loop μ-loop
-first-marks-requires c κs = search needs
-
 loop-holds : tie.Need-loop-holds Inv-loop μ-loop
 loop-holds c =
     let z = c .before .before .before .before .before in
@@ -75,30 +66,6 @@ loop-holds c =
       refl,
     )
 
-add-loop : tie.Need-add-loop Inv-loop μ-loop
-add-loop c = search needs
-
-add-at : tie.Need-add-at Inv-loop μ-loop
-add-at c = search needs
-
-sub-z : tie.Need-sub-z Inv-loop μ-loop
-sub-z c = search needs
-
-mul-z : tie.Need-mul-z Inv-loop μ-loop
-mul-z c = search needs
-
-element-copy-out-z : tie.Need-element-copy-out-z Inv-loop μ-loop
-element-copy-out-z c = search needs
-
-mul-t : tie.Need-mul-t Inv-loop μ-loop
-mul-t c = search needs
-
-element-copy-out-t : tie.Need-element-copy-out-t Inv-loop μ-loop
-element-copy-out-t c = search needs
-
-with-next-requires : tie.Need-with-next-requires Inv-loop μ-loop
-with-next-requires c κs = search needs
-
 add-len : tie.Need-add-len Inv-loop μ-loop
 add-len c = omega (
   arith,
@@ -114,9 +81,6 @@ add-if1 c = omega (
   c .before .before .before
       .before .before .before .before .before .before .before .pre .0 .0 .few,
 )
-
-loop-less : tie.Need-loop-less Inv-loop μ-loop
-loop-less c = search needs
 
 loop-again : tie.Need-loop-again Inv-loop μ-loop
 loop-again c = let l = c .before .before .before .before .before .loop .inv in (
@@ -146,9 +110,6 @@ close-requires c κs = let z = c .before .before .before .before .before .before
       ),
       ((z .pre .1 .1 .0 .0, l .6), l .7),
     )
-
-loop-less-2 : tie.Need-loop-less-2 Inv-loop μ-loop
-loop-less-2 c = search needs
 
 loop-again-2 : tie.Need-loop-again-2 Inv-loop μ-loop
 loop-again-2 c =
@@ -203,30 +164,8 @@ returns c = let l = c .before .loop .inv in (
 )
 
 pub fill-start-spec : {M : Type 1} → statement M
-fill-start-spec =
-    tie.close
-    (tie.spec
-    Inv-loop
-    μ-loop
-    mul-a
-    element-copy-out-a
-    first-marks-requires
-    loop-holds
-    add-loop
-    add-at
-    sub-z
-    mul-z
-    element-copy-out-z
-    mul-t
-    element-copy-out-t
-    with-next-requires
-    add-len
-    add-if1
-    loop-less
-    loop-again
-    close-requires
-    loop-less-2
-    loop-again-2
-    same-length
-    same-length-2
-    returns)
+fill-start-spec = tie.close (tie.spec Inv-loop μ-loop (λ c. search needs) (λ c. search needs)
+    (λ c κs. search needs) loop-holds (λ c. search needs) (λ c. search needs) (λ c. search needs)
+    (λ c. search needs) (λ c. search needs) (λ c. search needs) (λ c. search needs)
+    (λ c κs. search needs) add-len add-if1 (λ c. search needs) loop-again close-requires
+    (λ c. search needs) loop-again-2 same-length same-length-2 returns)

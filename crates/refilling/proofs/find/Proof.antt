@@ -9,30 +9,6 @@ use Rattle.grammar.specs.Content.{rules}
 use Rattle.filling.proofs.ClosingLaws.{found-of}
 use Rattle.refilling.proofs.KeptLaws.{counts-there}
 
-cut-masks-requires : tie.Need-cut-masks-requires
-cut-masks-requires c κs = search needs
-
-add-kept-splits : tie.Need-add-kept-splits
-add-kept-splits c = search needs
-
-kept-splits-requires : tie.Need-kept-splits-requires
-kept-splits-requires c κs = search needs
-
-level-of-requires : tie.Need-level-of-requires
-level-of-requires c κs = search needs
-
-sub-unite : tie.Need-sub-unite
-sub-unite c = search needs
-
-part-unite-start : tie.Need-part-unite-start
-part-unite-start c = search needs
-
-part-unite-end : tie.Need-part-unite-end
-part-unite-end c = search needs
-
-mul-unite : tie.Need-mul-unite
-mul-unite c = search needs
-
 unite-requires : tie.Need-unite-requires
 unite-requires c κs = (
   omega (
@@ -54,16 +30,6 @@ returns c = let a = c .before .before .before .before .before .before .args in
     (c .unite .ensures)
 
 pub find-spec : {M : Type 1} → statement M
-find-spec =
-    tie.close
-    (tie.spec
-    cut-masks-requires
-    add-kept-splits
-    kept-splits-requires
-    level-of-requires
-    sub-unite
-    part-unite-start
-    part-unite-end
-    mul-unite
-    unite-requires
-    returns)
+find-spec = tie.close (tie.spec (λ c κs. search needs) (λ c. search needs) (λ c κs. search needs)
+    (λ c κs. search needs) (λ c. search needs) (λ c. search needs) (λ c. search needs)
+    (λ c. search needs) unite-requires returns)

@@ -16,36 +16,6 @@ use Rattle.refilling.proofs.KeptLaws.{part-long}
 wide : (s : ℕ) → rowAt s + 128 - rowAt s ≡ 128
 wide s = omega arith
 
-mul-from : tie.Need-mul-from
-mul-from c = search needs
-
-add-from : tie.Need-add-from
-add-from c = search needs
-
-add-to : tie.Need-add-to
-add-to c = search needs
-
-mul-rows : tie.Need-mul-rows
-mul-rows c = search needs
-
-sub-rows : tie.Need-sub-rows
-sub-rows c = search needs
-
-part-rows-start : tie.Need-part-rows-start
-part-rows-start c = search needs
-
-part-rows-end : tie.Need-part-rows-end
-part-rows-end c = search needs
-
-mul-column : tie.Need-mul-column
-mul-column c = search needs
-
-add-column : tie.Need-add-column
-add-column c = search needs
-
-shared-slice-read-try-kept : tie.Need-shared-slice-read-try-kept
-shared-slice-read-try-kept c = search needs
-
 try-kept-requires : tie.Need-try-kept-requires
 try-kept-requires c κs =
     let z = c .before .before .before in
@@ -64,9 +34,6 @@ try-kept-requires c κs =
         ),
       ),
     )
-
-shared-slice-read-try-kept-2 : tie.Need-shared-slice-read-try-kept-2
-shared-slice-read-try-kept-2 c = search needs
 
 try-kept-requires-2 : tie.Need-try-kept-requires-2
 try-kept-requires-2 c κs =
@@ -103,20 +70,7 @@ returns c =
     (wide (a .start)) (c .try-kept2 .ensures)))
 
 pub kept-splits-spec : {M : Type 1} → statement M
-kept-splits-spec =
-    tie.close
-    (tie.spec
-    mul-from
-    add-from
-    add-to
-    mul-rows
-    sub-rows
-    part-rows-start
-    part-rows-end
-    mul-column
-    add-column
-    shared-slice-read-try-kept
-    try-kept-requires
-    shared-slice-read-try-kept-2
-    try-kept-requires-2
-    returns)
+kept-splits-spec = tie.close (tie.spec (λ c. search needs) (λ c. search needs) (λ c. search needs)
+    (λ c. search needs) (λ c. search needs) (λ c. search needs) (λ c. search needs)
+    (λ c. search needs) (λ c. search needs) (λ c. search needs) try-kept-requires
+    (λ c. search needs) try-kept-requires-2 returns)

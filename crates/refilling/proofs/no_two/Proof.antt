@@ -14,18 +14,6 @@ whole : (c : tie.Start) → length (drafted (wide (c .args .d))) ≡ c .args .d 
 whole c = short-length (c .args .d) (simp length-map at (c .good .1 .1 .0 .1 .1 .0 .1 .0 .1))
     (omega (arith, c .pre .0 .0))
 
-refill-requires : tie.Need-refill-requires
-refill-requires c κs = search needs
-
-in-second-requires : tie.Need-in-second-requires
-in-second-requires c κs = search needs
-
-same-length : tie.Need-same-length
-same-length c = search needs
-
-same-length-2 : tie.Need-same-length-2
-same-length-2 c = search needs
-
 returns : tie.Need-returns
 returns c =
     let f = c .before .before .before .before .before .before in (
@@ -35,5 +23,5 @@ returns c =
     )
 
 pub no-two-spec : {M : Type 1} → statement M
-no-two-spec =
-    tie.close (tie.spec refill-requires in-second-requires same-length same-length-2 returns)
+no-two-spec = tie.close (tie.spec (λ c κs. search needs) (λ c κs. search needs) (λ c. search needs)
+    (λ c. search needs) returns)

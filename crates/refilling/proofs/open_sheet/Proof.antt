@@ -7,27 +7,6 @@ use Prim.Native.Nat.{ℕ}
 use Rattle.spans.specs.Changes.{Cleared}
 use Rattle.refilling.proofs.KeptLaws.{prepared-same, open-same, mirror-open}
 
-size-requires : tie.Need-size-requires
-size-requires c κs = search needs
-
-clear-requires : tie.Need-clear-requires
-clear-requires c κs = search needs
-
-add-wipe : tie.Need-add-wipe
-add-wipe c = search needs
-
-mul-wipe : tie.Need-mul-wipe
-mul-wipe c = search needs
-
-wipe-requires : tie.Need-wipe-requires
-wipe-requires c κs = search needs
-
-same-length : tie.Need-same-length
-same-length c = search needs
-
-same-length-2 : tie.Need-same-length-2
-same-length-2 c = search needs
-
 returns : tie.Need-returns
 returns c = let z = c .before .before .before .before .before .before .before .before .before
     .before .before in
@@ -44,14 +23,6 @@ returns c = let z = c .before .before .before .before .before .before .before .b
     )
 
 pub open-sheet-spec : {M : Type 1} → statement M
-open-sheet-spec =
-    tie.close
-    (tie.spec
-    size-requires
-    clear-requires
-    add-wipe
-    mul-wipe
-    wipe-requires
-    same-length
-    same-length-2
-    returns)
+open-sheet-spec = tie.close (tie.spec (λ c κs. search needs) (λ c κs. search needs)
+    (λ c. search needs) (λ c. search needs) (λ c κs. search needs) (λ c. search needs)
+    (λ c. search needs) returns)

@@ -8,33 +8,6 @@ use Rattle.refilling.proofs.prepare.Statement.{statement}
 use Rattle.refilling.proofs.prepare.Tie as tie
 use borrow.Author.Needs.{needs}
 
-empty-pair-requires : tie.Need-empty-pair-requires
-empty-pair-requires c κs = search needs
-
-sub-chains : tie.Need-sub-chains
-sub-chains c = search needs
-
-part-chains-start : tie.Need-part-chains-start
-part-chains-start c = search needs
-
-part-chains-end : tie.Need-part-chains-end
-part-chains-end c = search needs
-
-chains-requires : tie.Need-chains-requires
-chains-requires c κs = search needs
-
-binary-rules-requires : tie.Need-binary-rules-requires
-binary-rules-requires c κs = search needs
-
-write-requires : tie.Need-write-requires
-write-requires c κs = search needs
-
-set-rules-requires : tie.Need-set-rules-requires
-set-rules-requires c κs = search needs
-
-same-length : tie.Need-same-length
-same-length c = search needs
-
 returns : tie.Need-returns
 returns c =
     let z = c .before .before .before .before .before .before .before .before .before .before
@@ -54,16 +27,6 @@ returns c =
     (c .before .before .set-rules .ensures))
 
 pub prepare-spec : {M : Type 1} → statement M
-prepare-spec =
-    tie.close
-    (tie.spec
-    empty-pair-requires
-    sub-chains
-    part-chains-start
-    part-chains-end
-    chains-requires
-    binary-rules-requires
-    write-requires
-    set-rules-requires
-    same-length
-    returns)
+prepare-spec = tie.close (tie.spec (λ c κs. search needs) (λ c. search needs) (λ c. search needs)
+    (λ c. search needs) (λ c κs. search needs) (λ c κs. search needs) (λ c κs. search needs)
+    (λ c κs. search needs) (λ c. search needs) returns)

@@ -42,9 +42,6 @@ second : (c : tie.After-pair-at) → let a = c .before .before .before .args in
 second c = ap (λ (x : ℕ). getD (c .before .before .before .args .words .now) (2 * x + 1) 0)
     (sym (c .pair-at .ensures))
 
-pair-at-requires : tie.Need-pair-at-requires
-pair-at-requires c κs = search needs
-
 mul-at : tie.Need-mul-at
 mul-at c = omega (arith, inside c, c .before .before .before .good .0 .1)
 
@@ -63,15 +60,6 @@ mul-t16 c = omega (arith, inside (c .before), c .before .before .before .before 
 slice-read-t18 : tie.Need-slice-read-t18
 slice-read-t18 c = omega (arith, inside (c .before .before))
 
-add-end : tie.Need-add-end
-add-end c = search needs
-
-mul-turn-row : tie.Need-mul-turn-row
-mul-turn-row c = search needs
-
-add-turn-row : tie.Need-add-turn-row
-add-turn-row c = search needs
-
 turn-row-requires : tie.Need-turn-row-requires
 turn-row-requires c κs =
     let z = c .before .before .before .before .before .before in
@@ -82,15 +70,6 @@ turn-row-requires c κs =
       row-has (a .start) (a .len) (z .pre .0 .0) fit (z .pre .0 .2) (z .pre .1 .mirror) (was q)
           (first q) (second q),
     )
-
-mul-turn-pair : tie.Need-mul-turn-pair
-mul-turn-pair c = search needs
-
-add-turn-pair : tie.Need-add-turn-pair
-add-turn-pair c = search needs
-
-cast-turn-pair : tie.Need-cast-turn-pair
-cast-turn-pair c = search needs
 
 turn-pair-requires : tie.Need-turn-pair-requires
 turn-pair-requires c κs = let z = c .before .before .before .before .before .before .before
@@ -112,12 +91,6 @@ write-requires c κs = omega (
   inside
       (c .before .before .before .before .before .before .before .before .before .before .before),
 )
-
-same-length : tie.Need-same-length
-same-length c = search needs
-
-same-length-2 : tie.Need-same-length-2
-same-length-2 c = search needs
 
 returns : tie.Need-returns
 returns c = let z = c .before .before .before .before .before .before .before .before .before
@@ -145,25 +118,7 @@ returns c = let z = c .before .before .before .before .before .before .before .b
     )
 
 pub put-spec : {M : Type 1} → statement M
-put-spec =
-    tie.close
-    (tie.spec
-    pair-at-requires
-    mul-at
-    mul-t12
-    slice-read-t14
-    add-t15
-    mul-t16
-    slice-read-t18
-    add-end
-    mul-turn-row
-    add-turn-row
-    turn-row-requires
-    mul-turn-pair
-    add-turn-pair
-    cast-turn-pair
-    turn-pair-requires
-    write-requires
-    same-length
-    same-length-2
-    returns)
+put-spec = tie.close (tie.spec (λ c κs. search needs) mul-at mul-t12 slice-read-t14 add-t15 mul-t16
+    slice-read-t18 (λ c. search needs) (λ c. search needs) (λ c. search needs) turn-row-requires
+    (λ c. search needs) (λ c. search needs) (λ c. search needs) turn-pair-requires write-requires
+    (λ c. search needs) (λ c. search needs) returns)

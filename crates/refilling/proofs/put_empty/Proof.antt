@@ -10,9 +10,6 @@ write-requires : tie.Need-write-requires
 write-requires c κs = let z = c .before .before .before in
     omega (arith, z .pre .1 .0, pairs-closed (z .args .n))
 
-same-length : tie.Need-same-length
-same-length c = search needs
-
 returns : tie.Need-returns
 returns c =
     let w = c .before .before in
@@ -25,4 +22,4 @@ returns c =
     )
 
 pub put-empty-spec : {M : Type 1} → statement M
-put-empty-spec = tie.close (tie.spec write-requires same-length returns)
+put-empty-spec = tie.close (tie.spec write-requires (λ c. search needs) returns)

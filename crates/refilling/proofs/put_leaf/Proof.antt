@@ -17,14 +17,8 @@ put-requires c κs = let z = c .before .before .before .before in (
   z .pre .1 .1,
 )
 
-same-length : tie.Need-same-length
-same-length c = search needs
-
-same-length-2 : tie.Need-same-length-2
-same-length-2 c = search needs
-
 returns : tie.Need-returns
 returns c = let p = c .before .before .before .before .put .ensures in (p .0, p .1 .0)
 
 pub put-leaf-spec : {M : Type 1} → statement M
-put-leaf-spec = tie.close (tie.spec put-requires same-length same-length-2 returns)
+put-leaf-spec = tie.close (tie.spec put-requires (λ c. search needs) (λ c. search needs) returns)

@@ -119,16 +119,5 @@ returns c =
     )
 
 pub refill-spec : {M : Type 1} → statement M
-refill-spec =
-    tie.close
-    (tie.spec
-    Inv-loop
-    μ-loop
-    loop-holds
-    sub-start
-    fill-start-requires
-    loop-less
-    loop-again
-    same-length
-    same-length-2
-    returns)
+refill-spec = tie.close (tie.spec Inv-loop μ-loop loop-holds sub-start fill-start-requires loop-less
+    loop-again same-length same-length-2 returns)

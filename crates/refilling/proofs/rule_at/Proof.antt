@@ -24,53 +24,11 @@ few c =
     (every-at SmallRule no-rule (rules (c .args .g)) (c .pre .0 .0 .small) (c .args .i) h)
     (own c)
 
-mul-at : tie.Need-mul-at
-mul-at c = search needs
-
-add-at : tie.Need-add-at
-add-at c = search needs
-
-add-mark-of : tie.Need-add-mark-of
-add-mark-of c = search needs
-
-mul-mark-of : tie.Need-mul-mark-of
-mul-mark-of c = search needs
-
-shared-slice-read-mark-of : tie.Need-shared-slice-read-mark-of
-shared-slice-read-mark-of c = search needs
-
-mark-of-requires : tie.Need-mark-of-requires
-mark-of-requires c κs = search needs
-
-add-t7 : tie.Need-add-t7
-add-t7 c = search needs
-
-mul-t8 : tie.Need-mul-t8
-mul-t8 c = search needs
-
-shared-slice-read-t10 : tie.Need-shared-slice-read-t10
-shared-slice-read-t10 c = search needs
-
 cast-t12 : tie.Need-cast-t12
 cast-t12 c = omega (arith, few (c .before .before .before .before) .first)
 
-add-t13 : tie.Need-add-t13
-add-t13 c = search needs
-
-mul-t14 : tie.Need-mul-t14
-mul-t14 c = search needs
-
-shared-slice-read-t16 : tie.Need-shared-slice-read-t16
-shared-slice-read-t16 c = search needs
-
 cast-t17 : tie.Need-cast-t17
 cast-t17 c = omega (arith, few (c .before .before .before .before .before) .second)
-
-mul-t7 : tie.Need-mul-t7
-mul-t7 c = search needs
-
-shared-slice-read-t10-2 : tie.Need-shared-slice-read-t10-2
-shared-slice-read-t10-2 c = search needs
 
 cast-t17-2 : tie.Need-cast-t17-2
 cast-t17-2 c = omega (arith, few (c .before .before .before .before .before .before) .left)
@@ -82,24 +40,7 @@ returns c = let z = c .before .before .before .before .before .before in
     (own z)
 
 pub rule-at-spec : {M : Type 1} → statement M
-rule-at-spec =
-    tie.close
-    (tie.spec
-    mul-at
-    add-at
-    add-mark-of
-    mul-mark-of
-    shared-slice-read-mark-of
-    mark-of-requires
-    add-t7
-    mul-t8
-    shared-slice-read-t10
-    cast-t12
-    add-t13
-    mul-t14
-    shared-slice-read-t16
-    cast-t17
-    mul-t7
-    shared-slice-read-t10-2
-    cast-t17-2
-    returns)
+rule-at-spec = tie.close (tie.spec (λ c. search needs) (λ c. search needs) (λ c. search needs)
+    (λ c. search needs) (λ c. search needs) (λ c κs. search needs) (λ c. search needs)
+    (λ c. search needs) (λ c. search needs) cast-t12 (λ c. search needs) (λ c. search needs)
+    (λ c. search needs) cast-t17 (λ c. search needs) (λ c. search needs) cast-t17-2 returns)

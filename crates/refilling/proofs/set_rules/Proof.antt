@@ -20,9 +20,6 @@ abbrev μ-loop : tie.MeasureT-loop
 loop-holds : tie.Need-loop-holds Inv-loop μ-loop
 loop-holds c = (omega arith, set-none _ _)
 
-mul-r : tie.Need-mul-r Inv-loop μ-loop
-mul-r c = search needs
-
 element-copy-out-r : tie.Need-element-copy-out-r Inv-loop μ-loop
 element-copy-out-r c = omega (arith, c .loop-test .taken, c .before .before .before .pre .0 .few)
 
@@ -77,17 +74,5 @@ returns c =
     (omega (arith, c .loop-test .left, l .inv .0)) (l .inv .1)
 
 pub set-rules-spec : {M : Type 1} → statement M
-set-rules-spec =
-    tie.close
-    (tie.spec
-    Inv-loop
-    μ-loop
-    loop-holds
-    mul-r
-    element-copy-out-r
-    set-rule-requires
-    add-i
-    loop-less
-    loop-again
-    same-length
-    returns)
+set-rules-spec = tie.close (tie.spec Inv-loop μ-loop loop-holds (λ c. search needs)
+    element-copy-out-r set-rule-requires add-i loop-less loop-again same-length returns)

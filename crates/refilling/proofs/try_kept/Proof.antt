@@ -49,9 +49,6 @@ loop-holds c =
 lowest-requires : tie.Need-lowest-requires Inv-loop μ-loop
 lowest-requires c κs = omega (arith, c .loop-test .taken)
 
-cast-rule-at : tie.Need-cast-rule-at Inv-loop μ-loop
-cast-rule-at c = search needs
-
 add-rule-at : tie.Need-add-rule-at Inv-loop μ-loop
 add-rule-at c =
     omega (arith, c .lowest .ensures .small, c .before .before .before .before .before .pre .0 .1)
@@ -124,21 +121,6 @@ returns c =
     (c .before .loop .inv) (c .loop-test .left)
 
 pub try-kept-spec : {M : Type 1} → statement M
-try-kept-spec =
-    tie.close
-    (tie.spec
-    Inv-loop
-    μ-loop
-    loop-holds
-    lowest-requires
-    cast-rule-at
-    add-rule-at
-    rule-at-requires
-    sub-rest
-    has-requires
-    loop-less
-    loop-again
-    try-rule-requires
-    loop-less-2
-    loop-again-2
-    returns)
+try-kept-spec = tie.close (tie.spec Inv-loop μ-loop loop-holds lowest-requires (λ c. search needs)
+    add-rule-at rule-at-requires sub-rest has-requires loop-less loop-again try-rule-requires
+    loop-less-2 loop-again-2 returns)

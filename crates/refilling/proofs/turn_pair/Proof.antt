@@ -4,18 +4,6 @@ use Rattle.refilling.proofs.turn_pair.Tie as tie
 use borrow.Author.Needs.{needs}
 use Rattle.refilling.proofs.TurnLaws.{pair-turned}
 
-turn-bits-requires : tie.Need-turn-bits-requires
-turn-bits-requires c κs = search needs
-
-add-turn-bits : tie.Need-add-turn-bits
-add-turn-bits c = search needs
-
-turn-bits-requires-2 : tie.Need-turn-bits-requires-2
-turn-bits-requires-2 c κs = search needs
-
-same-length : tie.Need-same-length
-same-length c = search needs
-
 returns : tie.Need-returns
 returns c = let z = c .before .before .before .before .before .before .before .before .before
     .before .before .before .before in
@@ -24,5 +12,5 @@ returns c = let z = c .before .before .before .before .before .before .before .b
     .turn-bits .ensures) (c .before .before .turn-bits2 .ensures)
 
 pub turn-pair-spec : {M : Type 1} → statement M
-turn-pair-spec =
-    tie.close (tie.spec turn-bits-requires add-turn-bits turn-bits-requires-2 same-length returns)
+turn-pair-spec = tie.close (tie.spec (λ c κs. search needs) (λ c. search needs)
+    (λ c κs. search needs) (λ c. search needs) returns)

@@ -8,17 +8,11 @@ returns : tie.Need-returns
 returns c =
     record { size = refl; inner = λ h. absurd (omega (arith, c .if1 .taken)); last = λ h. refl }
 
-cast-turn-pair : tie.Need-cast-turn-pair
-cast-turn-pair c = search needs
-
 turn-pair-requires : tie.Need-turn-pair-requires
 turn-pair-requires c κs =
     let z = c .before .before .before in
     let low = c .before .if1 .left in
     ((omega arith, z .pre .0), z .pre .1 (omega arith))
-
-same-length : tie.Need-same-length
-same-length c = search needs
 
 returns-2 : tie.Need-returns-2
 returns-2 c = let x = c .before .before in
@@ -29,4 +23,5 @@ returns-2 c = let x = c .before .before in
     }
 
 pub turn-row-spec : {M : Type 1} → statement M
-turn-row-spec = tie.close (tie.spec returns cast-turn-pair turn-pair-requires same-length returns-2)
+turn-row-spec = tie.close (tie.spec returns (λ c. search needs) turn-pair-requires
+    (λ c. search needs) returns-2)

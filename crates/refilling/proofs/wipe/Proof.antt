@@ -19,9 +19,6 @@ loop-holds c = (omega arith, wiped-none _ _)
 add-words : tie.Need-add-words Inv-loop μ-loop
 add-words c = omega (arith, c .before .loop .inv .1 .size, c .before .before .pre)
 
-mul-words : tie.Need-mul-words Inv-loop μ-loop
-mul-words c = search needs
-
 slice-write-words : tie.Need-slice-write-words Inv-loop μ-loop
 slice-write-words c =
     omega (arith, c .loop-test .taken, c .before .loop .inv .1 .size, c .before .before .pre)
@@ -51,17 +48,5 @@ returns c =
     (omega (arith, c .loop-test .left, l .inv .0)) (l .inv .1)
 
 pub wipe-spec : {M : Type 1} → statement M
-wipe-spec =
-    tie.close
-    (tie.spec
-    Inv-loop
-    μ-loop
-    loop-holds
-    add-words
-    mul-words
-    slice-write-words
-    add-i
-    loop-less
-    loop-again
-    same-length
-    returns)
+wipe-spec = tie.close (tie.spec Inv-loop μ-loop loop-holds add-words (λ c. search needs)
+    slice-write-words add-i loop-less loop-again same-length returns)

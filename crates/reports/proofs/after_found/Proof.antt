@@ -5,18 +5,6 @@ use borrow.Author.Needs.{needs}
 use Rattle.reports.proofs.after_found.Statement.{statement}
 use Rattle.reports.proofs.after_found.Tie as tie
 
-enum-told : tie.Need-enum-told
-enum-told c = search needs
-
-enum-told-2 : tie.Need-enum-told-2
-enum-told-2 c = search needs
-
-enum-known-b : tie.Need-enum-known-b
-enum-known-b c = search needs
-
-leads-requires : tie.Need-leads-requires
-leads-requires c κs = search needs
-
 returns : tie.Need-returns
 returns c = rw (c .enum-told .given .1) refl
 
@@ -32,14 +20,5 @@ returns-4 c = rw (c .before .before .before .b .given .1)
     (inr (refl, c .before .leads .ensures .isnt (c .if1 .left)))
 
 pub after-found-spec : {M : Type 1} → statement M
-after-found-spec =
-    tie.close
-    (tie.spec
-    enum-told
-    enum-told-2
-    enum-known-b
-    leads-requires
-    returns
-    returns-2
-    returns-3
-    returns-4)
+after-found-spec = tie.close (tie.spec (λ c. search needs) (λ c. search needs) (λ c. search needs)
+    (λ c κs. search needs) returns returns-2 returns-3 returns-4)

@@ -13,23 +13,11 @@ pair : (c : tie.After-known-told)
     → PairTo (start c .args .s .now) (start c .args .at) (c .before .a .given .0 .0)
 pair c = let e = c .before .before .before .pair-end .ensures in rw (c .before .a .given .1) at e
 
-pair-end-requires : tie.Need-pair-end-requires
-pair-end-requires c κs = search needs
-
-enum-known-a : tie.Need-enum-known-a
-enum-known-a c = search needs
-
-enum-told : tie.Need-enum-told
-enum-told c = search needs
-
 returns : tie.Need-returns
 returns c =
     let a = c .before .before .before .before .args in
     let e = c .before .before .pair-end .ensures in
     fails (clear-none (a .s .now) (a .at) (rw (c .enum-told .given .1) at e))
-
-slice-aggregate-ends-with : tie.Need-slice-aggregate-ends-with
-slice-aggregate-ends-with c = search needs
 
 ends-with-requires : tie.Need-ends-with-requires
 ends-with-requires c κs = pair (c .before) .inside
@@ -40,13 +28,5 @@ returns-2 c =
     let a = start k .args in clear-says (a .s .now) (a .at) (pair k) (c .ends-with .ensures)
 
 pub clear-rest-spec : {M : Type 1} → statement M
-clear-rest-spec =
-    tie.close
-    (tie.spec
-    pair-end-requires
-    enum-known-a
-    enum-told
-    returns
-    slice-aggregate-ends-with
-    ends-with-requires
-    returns-2)
+clear-rest-spec = tie.close (tie.spec (λ c κs. search needs) (λ c. search needs) (λ c. search needs)
+    returns (λ c. search needs) ends-with-requires returns-2)

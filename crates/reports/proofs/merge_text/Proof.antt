@@ -5,18 +5,6 @@ use borrow.Author.Needs.{needs}
 use Rattle.reports.proofs.merge_text.Statement.{statement}
 use Rattle.reports.proofs.merge_text.Tie as tie
 
-report-requires : tie.Need-report-requires
-report-requires c κs = search needs
-
-report-requires-2 : tie.Need-report-requires-2
-report-requires-2 c κs = search needs
-
-which-requires : tie.Need-which-requires
-which-requires c κs = search needs
-
-enum-told : tie.Need-enum-told
-enum-told c = search needs
-
 put-bytes-requires : tie.Need-put-bytes-requires
 put-bytes-requires c κs =
     let w = c .before .before .before in
@@ -32,9 +20,6 @@ put-bytes-requires c κs =
           .before .pre,
     )
 
-enum-told-2 : tie.Need-enum-told-2
-enum-told-2 c = search needs
-
 put-bytes-requires-2 : tie.Need-put-bytes-requires-2
 put-bytes-requires-2 c κs =
     let w = c .before .before .before in
@@ -49,15 +34,6 @@ put-bytes-requires-2 c κs =
       q .before .before .before
           .before .pre,
     )
-
-enum-told-3 : tie.Need-enum-told-3
-enum-told-3 c = search needs
-
-put-refusal-requires : tie.Need-put-refusal-requires
-put-refusal-requires c κs = search needs
-
-same-length : tie.Need-same-length
-same-length c = search needs
 
 returns : tie.Need-returns
 returns c =
@@ -75,9 +51,6 @@ returns c =
           c .before .before .put-bytes .ensures;
     }
 
-same-length-2 : tie.Need-same-length-2
-same-length-2 c = search needs
-
 returns-2 : tie.Need-returns-2
 returns-2 c =
     let w = c .before .before .before .before .before .before in
@@ -93,9 +66,6 @@ returns-2 c =
       wrote =
           c .before .before .put-bytes2 .ensures;
     }
-
-same-length-3 : tie.Need-same-length-3
-same-length-3 c = search needs
 
 returns-3 : tie.Need-returns-3
 returns-3 c =
@@ -114,21 +84,7 @@ returns-3 c =
     }
 
 pub merge-text-spec : {M : Type 1} → statement M
-merge-text-spec =
-    tie.close
-    (tie.spec
-    report-requires
-    report-requires-2
-    which-requires
-    enum-told
-    put-bytes-requires
-    enum-told-2
-    put-bytes-requires-2
-    enum-told-3
-    put-refusal-requires
-    same-length
-    returns
-    same-length-2
-    returns-2
-    same-length-3
-    returns-3)
+merge-text-spec = tie.close (tie.spec (λ c κs. search needs) (λ c κs. search needs)
+    (λ c κs. search needs) (λ c. search needs) put-bytes-requires (λ c. search needs)
+    put-bytes-requires-2 (λ c. search needs) (λ c κs. search needs) (λ c. search needs) returns
+    (λ c. search needs) returns-2 (λ c. search needs) returns-3)

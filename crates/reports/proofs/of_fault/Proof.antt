@@ -77,15 +77,5 @@ returns-9 c =
     }))
 
 pub of-fault-spec : {M : Type 1} → statement M
-of-fault-spec =
-    tie.close
-    (tie.spec
-    returns
-    returns-2
-    returns-3
-    returns-4
-    returns-5
-    returns-6
-    returns-7
-    returns-8
-    returns-9)
+of-fault-spec = tie.close (tie.spec returns returns-2 returns-3 returns-4 returns-5 returns-6
+    returns-7 returns-8 returns-9)

@@ -15,15 +15,6 @@ one : (c : tie.After-known-told)
     (c .before .a .given .0 .1 .0)
 one c = let e = c .before .before .before .number-at .ensures in rw (c .before .a .given .1) at e
 
-number-at-requires : tie.Need-number-at-requires
-number-at-requires c κs = search needs
-
-enum-known-a : tie.Need-enum-known-a
-enum-known-a c = search needs
-
-enum-told : tie.Need-enum-told
-enum-told c = search needs
-
 returns : tie.Need-returns
 returns c =
     let a = c .before .before .before .before .args in
@@ -32,12 +23,6 @@ returns c =
 
 number-at-requires-2 : tie.Need-number-at-requires-2
 number-at-requires-2 c κs = (one c .inside, (omega arith, omega arith))
-
-enum-known-b : tie.Need-enum-known-b
-enum-known-b c = search needs
-
-enum-told-2 : tie.Need-enum-told-2
-enum-told-2 c = search needs
 
 returns-2 : tie.Need-returns-2
 returns-2 c =
@@ -54,15 +39,5 @@ returns-3 c =
     pair-there (a .s .now) (a .at) (one k) (rw (c .before .b .given .1) at e)
 
 pub pair-end-spec : {M : Type 1} → statement M
-pair-end-spec =
-    tie.close
-    (tie.spec
-    number-at-requires
-    enum-known-a
-    enum-told
-    returns
-    number-at-requires-2
-    enum-known-b
-    enum-told-2
-    returns-2
-    returns-3)
+pair-end-spec = tie.close (tie.spec (λ c κs. search needs) (λ c. search needs) (λ c. search needs)
+    returns number-at-requires-2 (λ c. search needs) (λ c. search needs) returns-2 returns-3)

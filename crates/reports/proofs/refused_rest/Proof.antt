@@ -27,23 +27,11 @@ two : (c : tie.After-known-told2)
     (c .before .b .given .0 .0) (c .before .b .given .0 .1 .0)
 two c = let e = c .before .before .before .number-at2 .ensures in rw (c .before .b .given .1) at e
 
-number-at-requires : tie.Need-number-at-requires
-number-at-requires c κs = search needs
-
-enum-known-n : tie.Need-enum-known-n
-enum-known-n c = search needs
-
-enum-told : tie.Need-enum-told
-enum-told c = search needs
-
 returns : tie.Need-returns
 returns c =
     let a = c .before .before .before .before .args in
     let e = c .before .before .number-at .ensures in
     fails (refused-first (a .s .now) (a .at) (rw (c .enum-told .given .1) at e))
-
-of-fault-requires : tie.Need-of-fault-requires
-of-fault-requires c κs = search needs
 
 returns-2 : tie.Need-returns-2
 returns-2 c =
@@ -53,12 +41,6 @@ returns-2 c =
 
 number-at-requires-2 : tie.Need-number-at-requires-2
 number-at-requires-2 c κs = (one (c .before .before) .inside, (omega arith, omega arith))
-
-enum-known-b : tie.Need-enum-known-b
-enum-known-b c = search needs
-
-enum-told-2 : tie.Need-enum-told-2
-enum-told-2 c = search needs
 
 returns-3 : tie.Need-returns-3
 returns-3 c =
@@ -83,18 +65,6 @@ returns-5 c =
     (refused-more (a .s .now) (a .at) (one (up k)) (two k) (λ e. omega (arith, c .if2 .left)))
 
 pub refused-rest-spec : {M : Type 1} → statement M
-refused-rest-spec =
-    tie.close
-    (tie.spec
-    number-at-requires
-    enum-known-n
-    enum-told
-    returns
-    of-fault-requires
-    returns-2
-    number-at-requires-2
-    enum-known-b
-    enum-told-2
-    returns-3
-    returns-4
-    returns-5)
+refused-rest-spec = tie.close (tie.spec (λ c κs. search needs) (λ c. search needs)
+    (λ c. search needs) returns (λ c κs. search needs) returns-2 number-at-requires-2
+    (λ c. search needs) (λ c. search needs) returns-3 returns-4 returns-5)

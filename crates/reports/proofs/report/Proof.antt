@@ -5,12 +5,6 @@ use borrow.Author.Needs.{needs}
 use Rattle.reports.proofs.report.Statement.{statement}
 use Rattle.reports.proofs.report.Tie as tie
 
-slice-aggregate-starts-at : tie.Need-slice-aggregate-starts-at
-slice-aggregate-starts-at c = search needs
-
-starts-at-requires : tie.Need-starts-at-requires
-starts-at-requires c κs = search needs
-
 clear-rest-requires : tie.Need-clear-rest-requires
 clear-rest-requires c κs = clear-long (c .before .before .before .before .args .s .now)
     (c .before .starts-at .ensures .is (c .if1 .taken))
@@ -27,12 +21,6 @@ returns-2 c =
     (k .before .starts-at .ensures .is (k .if1 .taken))
     (c .before .clear-rest .ensures .isnt (c .if2 .left))
 
-slice-aggregate-starts-at-2 : tie.Need-slice-aggregate-starts-at-2
-slice-aggregate-starts-at-2 c = search needs
-
-starts-at-requires-2 : tie.Need-starts-at-requires-2
-starts-at-requires-2 c κs = search needs
-
 two-rest-requires : tie.Need-two-rest-requires
 two-rest-requires c κs = two-long
     (c .before .before .before .before .before .before .before .args .s .now)
@@ -43,12 +31,6 @@ returns-3 c =
     let k = c .before in two-tells (k .before .before .before .before .before .before .before .args
     .s .now) (k .before .starts-at2 .ensures .is (k .if3 .taken)) (c .two-rest .result)
     (c .two-rest .ensures)
-
-slice-aggregate-starts-at-3 : tie.Need-slice-aggregate-starts-at-3
-slice-aggregate-starts-at-3 c = search needs
-
-starts-at-requires-3 : tie.Need-starts-at-requires-3
-starts-at-requires-3 c κs = search needs
 
 refused-rest-requires : tie.Need-refused-rest-requires
 refused-rest-requires c κs = refused-long
@@ -79,21 +61,6 @@ returns-6 c =
     (c .before .starts-at3 .ensures .isnt (c .if4 .left))
 
 pub report-spec : {M : Type 1} → statement M
-report-spec =
-    tie.close
-    (tie.spec
-    slice-aggregate-starts-at
-    starts-at-requires
-    clear-rest-requires
-    returns
-    returns-2
-    slice-aggregate-starts-at-2
-    starts-at-requires-2
-    two-rest-requires
-    returns-3
-    slice-aggregate-starts-at-3
-    starts-at-requires-3
-    refused-rest-requires
-    returns-4
-    returns-5
-    returns-6)
+report-spec = tie.close (tie.spec (λ c. search needs) (λ c κs. search needs) clear-rest-requires
+    returns returns-2 (λ c. search needs) (λ c κs. search needs) two-rest-requires returns-3
+    (λ c. search needs) (λ c κs. search needs) refused-rest-requires returns-4 returns-5 returns-6)

@@ -27,12 +27,6 @@ returns c =
 token-end-requires : tie.Need-token-end-requires Inv-loop μ-loop
 token-end-requires c κs = c .before .before .loop .inv .inside
 
-enum-known-next : tie.Need-enum-known-next Inv-loop μ-loop
-enum-known-next c = search needs
-
-enum-told : tie.Need-enum-told Inv-loop μ-loop
-enum-told c = search needs
-
 returns-2 : tie.Need-returns-2 Inv-loop μ-loop
 returns-2 c =
     let l = c .before .before .before .before .before in
@@ -69,18 +63,5 @@ returns-3 c =
     all-read (a .s .now) (a .at) (l .loop .inv) (c .loop-test .left)
 
 pub token-count-spec : {M : Type 1} → statement M
-token-count-spec =
-    tie.close
-    (tie.spec
-    Inv-loop
-    μ-loop
-    loop-holds
-    returns
-    token-end-requires
-    enum-known-next
-    enum-told
-    returns-2
-    add-n
-    loop-less
-    loop-again
-    returns-3)
+token-count-spec = tie.close (tie.spec Inv-loop μ-loop loop-holds returns token-end-requires
+    (λ c. search needs) (λ c. search needs) returns-2 add-n loop-less loop-again returns-3)

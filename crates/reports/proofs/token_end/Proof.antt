@@ -22,15 +22,6 @@ two : (c : tie.After-known-told2)
     (c .before .b .given .0 .0) (c .before .b .given .0 .1 .0)
 two c = let e = c .before .before .before .number-at2 .ensures in rw (c .before .b .given .1) at e
 
-number-at-requires : tie.Need-number-at-requires
-number-at-requires c κs = search needs
-
-enum-known-a : tie.Need-enum-known-a
-enum-known-a c = search needs
-
-enum-told : tie.Need-enum-told
-enum-told c = search needs
-
 returns : tie.Need-returns
 returns c =
     let a = c .before .before .before .before .args in
@@ -39,12 +30,6 @@ returns c =
 
 number-at-requires-2 : tie.Need-number-at-requires-2
 number-at-requires-2 c κs = (one c .inside, (omega arith, omega arith))
-
-enum-known-b : tie.Need-enum-known-b
-enum-known-b c = search needs
-
-enum-told-2 : tie.Need-enum-told-2
-enum-told-2 c = search needs
 
 returns-2 : tie.Need-returns-2
 returns-2 c =
@@ -55,12 +40,6 @@ returns-2 c =
 
 number-at-requires-3 : tie.Need-number-at-requires-3
 number-at-requires-3 c κs = (two c .inside, (omega arith, omega arith))
-
-enum-known-c : tie.Need-enum-known-c
-enum-known-c c = search needs
-
-enum-told-3 : tie.Need-enum-told-3
-enum-told-3 c = search needs
 
 returns-3 : tie.Need-returns-3
 returns-3 c =
@@ -77,19 +56,6 @@ returns-4 c =
     token-there (a .s .now) (a .at) (one (up k)) (two k) (rw (c .before .c .given .1) at e)
 
 pub token-end-spec : {M : Type 1} → statement M
-token-end-spec =
-    tie.close
-    (tie.spec
-    number-at-requires
-    enum-known-a
-    enum-told
-    returns
-    number-at-requires-2
-    enum-known-b
-    enum-told-2
-    returns-2
-    number-at-requires-3
-    enum-known-c
-    enum-told-3
-    returns-3
-    returns-4)
+token-end-spec = tie.close (tie.spec (λ c κs. search needs) (λ c. search needs) (λ c. search needs)
+    returns number-at-requires-2 (λ c. search needs) (λ c. search needs) returns-2
+    number-at-requires-3 (λ c. search needs) (λ c. search needs) returns-3 returns-4)

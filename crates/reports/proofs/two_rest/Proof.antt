@@ -41,15 +41,6 @@ inside : (c : tie.Else1) → number c .before .number .given .0 .1 .0 + 14
 inside c = let k = number c in let a = start (up k) .args in
     rest-inside (a .s .now) (a .at) (pair (up k)) (found k) (named c)
 
-pair-end-requires : tie.Need-pair-end-requires
-pair-end-requires c κs = search needs
-
-enum-known-a : tie.Need-enum-known-a
-enum-known-a c = search needs
-
-enum-told : tie.Need-enum-told
-enum-told c = search needs
-
 returns : tie.Need-returns
 returns c =
     let a = c .before .before .before .before .args in
@@ -59,21 +50,12 @@ returns c =
 number-at-requires : tie.Need-number-at-requires
 number-at-requires c κs = (pair c .inside, (omega arith, omega arith))
 
-enum-known-number : tie.Need-enum-known-number
-enum-known-number c = search needs
-
-enum-told-2 : tie.Need-enum-told-2
-enum-told-2 c = search needs
-
 returns-2 : tie.Need-returns-2
 returns-2 c =
     let k = c .before .before .before in
     let a = start k .args in
     let e = c .before .before .number-at .ensures in
     two-number (a .s .now) (a .at) (pair k) (rw (c .enum-told2 .given .1) at e)
-
-slice-aggregate-starts-at : tie.Need-slice-aggregate-starts-at
-slice-aggregate-starts-at c = search needs
 
 starts-at-requires : tie.Need-starts-at-requires
 starts-at-requires c κs = found (c .before) .inside
@@ -105,21 +87,6 @@ returns-5 c =
     (c .before .token-count .ensures) (c .if2 .left)
 
 pub two-rest-spec : {M : Type 1} → statement M
-two-rest-spec =
-    tie.close
-    (tie.spec
-    pair-end-requires
-    enum-known-a
-    enum-told
-    returns
-    number-at-requires
-    enum-known-number
-    enum-told-2
-    returns-2
-    slice-aggregate-starts-at
-    starts-at-requires
-    returns-3
-    add-token-count
-    token-count-requires
-    returns-4
-    returns-5)
+two-rest-spec = tie.close (tie.spec (λ c κs. search needs) (λ c. search needs) (λ c. search needs)
+    returns number-at-requires (λ c. search needs) (λ c. search needs) returns-2 (λ c. search needs)
+    starts-at-requires returns-3 add-token-count token-count-requires returns-4 returns-5)

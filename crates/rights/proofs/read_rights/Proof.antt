@@ -14,20 +14,8 @@ use Rattle.rights.proofs.read_rights.Statement.{statement}
 use Rattle.rights.proofs.read_rights.Tie as tie
 use Rattle.rights.specs.Answers.{RightsGiven}
 
-line-requires : tie.Need-line-requires
-line-requires c κs = search needs
-
 slice-aggregate-same : tie.Need-slice-aggregate-same
 slice-aggregate-same c = sym (length-take-le _ _ (omega (arith, c .before .if1 .taken)))
-
-slice-aggregate-same-2 : tie.Need-slice-aggregate-same-2
-slice-aggregate-same-2 c = search needs
-
-same-requires : tie.Need-same-requires
-same-requires c κs = search needs
-
-add-rights-from : tie.Need-add-rights-from
-add-rights-from c = search needs
 
 rights-from-requires : tie.Need-rights-from-requires
 rights-from-requires c κs =
@@ -51,9 +39,6 @@ returns c =
     (sym (c .before .if2 .taken) ∙ c .before .before .same .ensures))
     (c .rights-from .ensures)
 
-refuse-rights-requires : tie.Need-refuse-rights-requires
-refuse-rights-requires c κs = search needs
-
 returns-2 : tie.Need-returns-2
 returns-2 c =
     let p = c .before .before .before .before .before .before in
@@ -64,9 +49,6 @@ returns-2 c =
     (sym (c .before .if2 .left) ∙ c .before .before .same .ensures))
     (c .refuse-rights .ensures)
 
-refuse-rights-requires-2 : tie.Need-refuse-rights-requires-2
-refuse-rights-requires-2 c κs = search needs
-
 returns-3 : tie.Need-returns-3
 returns-3 c =
     let p = c .before .before in
@@ -76,17 +58,6 @@ returns-3 c =
     (p .line .ensures) (c .before .if1 .left)) (c .refuse-rights2 .ensures)
 
 pub read-rights-spec : {M : Type 1} → statement M
-read-rights-spec =
-    tie.close
-    (tie.spec
-    line-requires
-    slice-aggregate-same
-    slice-aggregate-same-2
-    same-requires
-    add-rights-from
-    rights-from-requires
-    returns
-    refuse-rights-requires
-    returns-2
-    refuse-rights-requires-2
-    returns-3)
+read-rights-spec = tie.close (tie.spec (λ c κs. search needs) slice-aggregate-same
+    (λ c. search needs) (λ c κs. search needs) (λ c. search needs) rights-from-requires returns
+    (λ c κs. search needs) returns-2 (λ c κs. search needs) returns-3)

@@ -115,15 +115,6 @@ stage4 c o e =
     stage3 h .0 ∙ by-may (read₁ u .0) (read₂ l .0) (read₃ h .0)
     (fieldsLeft (start₃ h .args .s .now) (read₃ h .1 .0)) o e
 
-number-requires : tie.Need-number-requires
-number-requires c κs = search needs
-
-enum-known-u : tie.Need-enum-known-u
-enum-known-u c = search needs
-
-enum-told : tie.Need-enum-told
-enum-told c = search needs
-
 returns : tie.Need-returns
 returns c =
     let n = c .before .before in
@@ -132,12 +123,6 @@ returns c =
 
 number-requires-2 : tie.Need-number-requires-2
 number-requires-2 c κs = inside₁ c
-
-enum-known-low : tie.Need-enum-known-low
-enum-known-low c = search needs
-
-enum-told-2 : tie.Need-enum-told-2
-enum-told-2 c = search needs
 
 returns-2 : tie.Need-returns-2
 returns-2 c =
@@ -148,12 +133,6 @@ returns-2 c =
 
 number-requires-3 : tie.Need-number-requires-3
 number-requires-3 c κs = inside₂ c
-
-enum-known-high : tie.Need-enum-known-high
-enum-known-high c = search needs
-
-enum-told-3 : tie.Need-enum-told-3
-enum-told-3 c = search needs
 
 returns-3 : tie.Need-returns-3
 returns-3 c =
@@ -166,21 +145,6 @@ returns-3 c =
 
 may-at-requires : tie.Need-may-at-requires
 may-at-requires c κs = inside₃ c
-
-enum-told-4 : tie.Need-enum-told-4
-enum-told-4 c = search needs
-
-right-of-requires : tie.Need-right-of-requires
-right-of-requires c κs = search needs
-
-enum-told-5 : tie.Need-enum-told-5
-enum-told-5 c = search needs
-
-right-of-requires-2 : tie.Need-right-of-requires-2
-right-of-requires-2 c κs = search needs
-
-enum-told-6 : tie.Need-enum-told-6
-enum-told-6 c = search needs
 
 returns-4 : tie.Need-returns-4
 returns-4 c =
@@ -200,27 +164,8 @@ returns-6 c =
     sym (stage4 m _ (as-not _ (sym (c .enum-told6 .given .1) ∙ m .may-at .ensures)))
 
 pub right-line-spec : {M : Type 1} → statement M
-right-line-spec =
-    tie.close
-    (tie.spec
-    number-requires
-    enum-known-u
-    enum-told
-    returns
-    number-requires-2
-    enum-known-low
-    enum-told-2
-    returns-2
-    number-requires-3
-    enum-known-high
-    enum-told-3
-    returns-3
-    may-at-requires
-    enum-told-4
-    right-of-requires
-    enum-told-5
-    right-of-requires-2
-    enum-told-6
-    returns-4
-    returns-5
-    returns-6)
+right-line-spec = tie.close (tie.spec (λ c κs. search needs) (λ c. search needs) (λ c. search needs)
+    returns number-requires-2 (λ c. search needs) (λ c. search needs) returns-2 number-requires-3
+    (λ c. search needs) (λ c. search needs) returns-3 may-at-requires (λ c. search needs)
+    (λ c κs. search needs) (λ c. search needs) (λ c κs. search needs) (λ c. search needs) returns-4
+    returns-5 returns-6)

@@ -19,15 +19,6 @@ within : (c : tie.After-change)
     → c .change .result .count ≤ length (c .change .last .1 .1 .1 .1 .1 .0)
 within c = omega (arith, few c, c .change .kept .1 .1 .1 .1 .1 .0, length-replicate {A = ℕ} 16400 0)
 
-slice-aggregate-change : tie.Need-slice-aggregate-change
-slice-aggregate-change c = search needs
-
-change-requires : tie.Need-change-requires
-change-requires c κs = search needs
-
-put-head-requires : tie.Need-put-head-requires
-put-head-requires c κs = search needs
-
 array-share-prefix-sheet : tie.Need-array-share-prefix-sheet
 array-share-prefix-sheet c = omega (arith, few (c .before .before .before .before .before .before))
 
@@ -43,9 +34,6 @@ put-bytes-requires c κs =
     rw (length-take-le _ _ (within z))
     (omega (arith, few z, h .put-head .ensures .1, h .put-head .ensures .0 .long, s .pre))
 
-same-length : tie.Need-same-length
-same-length c = search needs
-
 returns : tie.Need-returns
 returns c =
     let p = c .before .before in
@@ -60,14 +48,6 @@ returns c =
     }
 
 pub change-text-spec : {M : Type 1} → statement M
-change-text-spec =
-    tie.close
-    (tie.spec
-    slice-aggregate-change
-    change-requires
-    put-head-requires
-    array-share-prefix-sheet
-    slice-aggregate-put-bytes
-    put-bytes-requires
-    same-length
-    returns)
+change-text-spec = tie.close (tie.spec (λ c. search needs) (λ c κs. search needs)
+    (λ c κs. search needs) array-share-prefix-sheet slice-aggregate-put-bytes put-bytes-requires
+    (λ c. search needs) returns)

@@ -11,27 +11,6 @@ use borrow.Author.Needs.{needs}
 use Rattle.rights_text.proofs.show_text.Statement.{statement}
 use Rattle.rights_text.proofs.show_text.Tie as tie
 
-slice-aggregate-show : tie.Need-slice-aggregate-show
-slice-aggregate-show c = search needs
-
-slice-aggregate-show-2 : tie.Need-slice-aggregate-show-2
-slice-aggregate-show-2 c = search needs
-
-slice-aggregate-show-3 : tie.Need-slice-aggregate-show-3
-slice-aggregate-show-3 c = search needs
-
-show-requires : tie.Need-show-requires
-show-requires c κs = search needs
-
-put-head-requires : tie.Need-put-head-requires
-put-head-requires c κs = search needs
-
-slice-aggregate-put-trees : tie.Need-slice-aggregate-put-trees
-slice-aggregate-put-trees c = search needs
-
-slice-aggregate-put-trees-2 : tie.Need-slice-aggregate-put-trees-2
-slice-aggregate-put-trees-2 c = search needs
-
 put-trees-requires : tie.Need-put-trees-requires
 put-trees-requires c κs =
     let h = c .before .before .before .before .before in
@@ -56,9 +35,6 @@ put-trees-requires c κs =
       ),
     )
 
-same-length : tie.Need-same-length
-same-length c = search needs
-
 returns : tie.Need-returns
 returns c =
     let p = c .before .before in
@@ -75,16 +51,6 @@ returns c =
     }
 
 pub show-text-spec : {M : Type 1} → statement M
-show-text-spec =
-    tie.close
-    (tie.spec
-    slice-aggregate-show
-    slice-aggregate-show-2
-    slice-aggregate-show-3
-    show-requires
-    put-head-requires
-    slice-aggregate-put-trees
-    slice-aggregate-put-trees-2
-    put-trees-requires
-    same-length
-    returns)
+show-text-spec = tie.close (tie.spec (λ c. search needs) (λ c. search needs) (λ c. search needs)
+    (λ c κs. search needs) (λ c κs. search needs) (λ c. search needs) (λ c. search needs)
+    put-trees-requires (λ c. search needs) returns)

@@ -5,9 +5,6 @@ use Rattle.row_counts.proofs.CappedLaws.{capped-small, capped-large}
 use Rattle.row_counts.proofs.add.Statement.{statement}
 use Rattle.row_counts.proofs.add.Tie as tie
 
-add-sum : tie.Need-add-sum
-add-sum c = search needs
-
 returns : tie.Need-returns
 returns c = sym (capped-small _ (c .if1 .taken))
 
@@ -15,4 +12,4 @@ returns-2 : tie.Need-returns-2
 returns-2 c = sym (capped-large _ (c .if1 .left))
 
 pub add-spec : {M : Type 1} → statement M
-add-spec = tie.close (tie.spec add-sum returns returns-2)
+add-spec = tie.close (tie.spec (λ c. search needs) returns returns-2)

@@ -12,19 +12,10 @@ use Rattle.row_counts.proofs.Firsts.{spanned, spanned-there}
 use Rattle.row_counts.proofs.count_by.Statement.{statement}
 use Rattle.row_counts.proofs.count_by.Tie as tie
 
-slice-aggregate-null-counts : tie.Need-slice-aggregate-null-counts
-slice-aggregate-null-counts c = search needs
-
 null-counts-requires : tie.Need-null-counts-requires
 null-counts-requires c κs =
     let s = c .before .before .before in
     (s .pre .0, (s .pre .1 .0, sound-none (rules (s .args .g))))
-
-slice-aggregate-count-first : tie.Need-slice-aggregate-count-first
-slice-aggregate-count-first c = search needs
-
-cast-count-first : tie.Need-cast-count-first
-cast-count-first c = search needs
 
 count-first-requires : tie.Need-count-first-requires
 count-first-requires c κs =
@@ -36,12 +27,6 @@ count-first-requires c κs =
         spanned-there (s .args .s .count) (p .whole) (wanted-first _ (s .pre .1 .1) .goal),
       ),
     )
-
-slice-aggregate-count-second : tie.Need-slice-aggregate-count-second
-slice-aggregate-count-second c = search needs
-
-count-second-requires : tie.Need-count-second-requires
-count-second-requires c κs = search needs
 
 exact-or-more-requires : tie.Need-exact-or-more-requires
 exact-or-more-requires c κs =
@@ -74,16 +59,6 @@ returns c =
     }
 
 pub count-by-spec : {M : Type 1} → statement M
-count-by-spec =
-    tie.close
-    (tie.spec
-    slice-aggregate-null-counts
-    null-counts-requires
-    slice-aggregate-count-first
-    cast-count-first
-    count-first-requires
-    slice-aggregate-count-second
-    count-second-requires
-    exact-or-more-requires
-    exact-or-more-requires-2
-    returns)
+count-by-spec = tie.close (tie.spec (λ c. search needs) null-counts-requires (λ c. search needs)
+    (λ c. search needs) count-first-requires (λ c. search needs) (λ c κs. search needs)
+    exact-or-more-requires exact-or-more-requires-2 returns)

@@ -10,15 +10,6 @@ use Rattle.row_counts.proofs.count_first.Statement.{statement}
 use Rattle.row_counts.proofs.count_first.Tie as tie
 use Rattle.grammar.specs.Sentences.{spelled}
 
-wide-requires : tie.Need-wide-requires
-wide-requires c κs = search needs
-
-mul-result : tie.Need-mul-result
-mul-result c = search needs
-
-shared-slice-read-result : tie.Need-shared-slice-read-result
-shared-slice-read-result c = search needs
-
 returns : tie.Need-returns
 returns c =
     let if1-here = c .before .before .if1 in
@@ -30,13 +21,6 @@ returns c =
     ∙ z .pre .1 .0 .count (a .a) t (z .pre .0 .1)
     (subst (λ (n : ℕ). FirstTree (rules (a .g)) (a .a) (part (spelled (a .s)) (a .i) n) t) e f)
 
-walk-requires : tie.Need-walk-requires
-walk-requires c κs = search needs
-
-returns-2 : tie.Need-returns-2
-returns-2 c = search needs
-
 pub count-first-spec : {M : Type 1} → statement M
-count-first-spec =
-    tie.close
-    (tie.spec wide-requires mul-result shared-slice-read-result returns walk-requires returns-2)
+count-first-spec = tie.close (tie.spec (λ c κs. search needs) (λ c. search needs)
+    (λ c. search needs) returns (λ c κs. search needs) (λ c. search needs))

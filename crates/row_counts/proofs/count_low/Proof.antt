@@ -4,15 +4,6 @@ use Rattle.tree_choices.proofs.PreferLaws.{ready-low}
 use Rattle.row_counts.proofs.count_low.Statement.{statement}
 use Rattle.row_counts.proofs.count_low.Tie as tie
 
-slice-aggregate-heights : tie.Need-slice-aggregate-heights
-slice-aggregate-heights c = search needs
-
-heights-requires : tie.Need-heights-requires
-heights-requires c κs = search needs
-
-slice-aggregate-count-by : tie.Need-slice-aggregate-count-by
-slice-aggregate-count-by c = search needs
-
 count-by-requires : tie.Need-count-by-requires
 count-by-requires c κs =
     let z = c .before .before .before .before .before in (
@@ -20,10 +11,6 @@ count-by-requires c κs =
       (z .pre .1 .0, z .pre .1 .1 .0),
     )
 
-returns : tie.Need-returns
-returns c = search needs
-
 pub count-low-spec : {M : Type 1} → statement M
-count-low-spec =
-    tie.close (tie.spec slice-aggregate-heights heights-requires slice-aggregate-count-by
-    count-by-requires returns)
+count-low-spec = tie.close (tie.spec (λ c. search needs) (λ c κs. search needs) (λ c. search needs)
+    count-by-requires (λ c. search needs))

@@ -13,15 +13,6 @@ count-low-requires c κs =
     let z = c .before .before .before in
     (z .pre .0, (z .pre .1 .0, (z .pre .1 .1, c .before .cyclic .ensures .is (c .if1 .taken))))
 
-returns : tie.Need-returns
-returns c = search needs
-
-array-share-prefix-hs : tie.Need-array-share-prefix-hs
-array-share-prefix-hs c = search needs
-
-slice-aggregate-count-by : tie.Need-slice-aggregate-count-by
-slice-aggregate-count-by c = search needs
-
 count-by-requires : tie.Need-count-by-requires
 count-by-requires c κs =
     let z = c .before .before .before .before in (
@@ -29,17 +20,6 @@ count-by-requires c κs =
       z .pre .1,
     )
 
-returns-2 : tie.Need-returns-2
-returns-2 c = search needs
-
 pub count-rows-spec : {M : Type 1} → statement M
-count-rows-spec =
-    tie.close
-    (tie.spec
-    cyclic-requires
-    count-low-requires
-    returns
-    array-share-prefix-hs
-    slice-aggregate-count-by
-    count-by-requires
-    returns-2)
+count-rows-spec = tie.close (tie.spec cyclic-requires count-low-requires (λ c. search needs)
+    (λ c. search needs) (λ c. search needs) count-by-requires (λ c. search needs))

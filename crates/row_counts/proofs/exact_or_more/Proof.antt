@@ -5,9 +5,6 @@ use Rattle.row_counts.proofs.RowCountLaws.{exact-of, more-of}
 use Rattle.row_counts.proofs.exact_or_more.Statement.{statement}
 use Rattle.row_counts.proofs.exact_or_more.Tie as tie
 
-cast-t3 : tie.Need-cast-t3
-cast-t3 c = search needs
-
 returns : tie.Need-returns
 returns c = λ k e. exact-of _ k (c .if1 .taken) e
 
@@ -15,4 +12,4 @@ returns-2 : tie.Need-returns-2
 returns-2 c = λ k e. more-of _ k (λ h. omega (arith, c .if1 .left)) e
 
 pub exact-or-more-spec : {M : Type 1} → statement M
-exact-or-more-spec = tie.close (tie.spec cast-t3 returns returns-2)
+exact-or-more-spec = tie.close (tie.spec (λ c. search needs) returns returns-2)

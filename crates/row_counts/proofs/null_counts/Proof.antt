@@ -47,14 +47,5 @@ loop-again : tie.Need-loop-again Inv-loop μ-loop
 loop-again c = c .before .before .before .null-pass .ensures .sound
 
 pub null-counts-spec : {M : Type 1} → statement M
-null-counts-spec =
-    tie.close
-    (tie.spec
-    Inv-loop
-    μ-loop
-    loop-holds
-    null-pass-requires
-    same-length
-    returns
-    loop-less
-    loop-again)
+null-counts-spec = tie.close (tie.spec Inv-loop μ-loop loop-holds null-pass-requires same-length
+    returns loop-less loop-again)

@@ -29,12 +29,6 @@ null-try-requires c κs =
       (z .pre .1 .0, c .before .before .loop .inv .1 .sound),
     )
 
-either-requires : tie.Need-either-requires Inv-loop μ-loop
-either-requires c κs = search needs
-
-add-a : tie.Need-add-a Inv-loop μ-loop
-add-a c = search needs
-
 loop-less : tie.Need-loop-less Inv-loop μ-loop
 loop-less c = omega (arith, c .before .before .before .before .before .loop-test .taken)
 
@@ -60,16 +54,5 @@ returns c =
     (c .before .loop .more)) e (c .before .loop .inv .1)
 
 pub null-pass-spec : {M : Type 1} → statement M
-null-pass-spec =
-    tie.close
-    (tie.spec
-    Inv-loop
-    μ-loop
-    loop-holds
-    null-try-requires
-    either-requires
-    add-a
-    loop-less
-    loop-again
-    same-length
-    returns)
+null-pass-spec = tie.close (tie.spec Inv-loop μ-loop loop-holds null-try-requires
+    (λ c κs. search needs) (λ c. search needs) loop-less loop-again same-length returns)

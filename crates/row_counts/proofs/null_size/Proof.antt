@@ -16,15 +16,6 @@ returns : tie.Need-returns
 returns c = let a = c .before .before .args in
     null-low (a .z .now) (a .st .first) (a .st .second) (a .st .kind) (c .if1 .taken)
 
-wide-requires : tie.Need-wide-requires
-wide-requires c κs = search needs
-
-mul-x : tie.Need-mul-x
-mul-x c = search needs
-
-shared-slice-read-x : tie.Need-shared-slice-read-x
-shared-slice-read-x c = search needs
-
 returns-2 : tie.Need-returns-2
 returns-2 c =
     let args-here = c .before .before .before .before .before .args in
@@ -55,15 +46,6 @@ returns-3 c =
     (λ e. if2 .left (sym (ap (λ (y : ℕ). getD (a .z .now) y 0) (sym (wide .ensures))) ∙ e))
     (c .add .ensures ∙ ap (λ (y : ℕ). capped (1 + y))
     (sym (ap (λ (y : ℕ). getD (a .z .now) y 0) (sym (wide .ensures)))))
-
-wide-requires-2 : tie.Need-wide-requires-2
-wide-requires-2 c κs = search needs
-
-mul-y : tie.Need-mul-y
-mul-y c = search needs
-
-shared-slice-read-y : tie.Need-shared-slice-read-y
-shared-slice-read-y c = search needs
 
 returns-4 : tie.Need-returns-4
 returns-4 c =
@@ -131,20 +113,6 @@ returns-5 c =
     (c .add3 .ensures)
 
 pub null-size-spec : {M : Type 1} → statement M
-null-size-spec =
-    tie.close
-    (tie.spec
-    returns
-    wide-requires
-    mul-x
-    shared-slice-read-x
-    returns-2
-    add-requires
-    returns-3
-    wide-requires-2
-    mul-y
-    shared-slice-read-y
-    returns-4
-    add-requires-2
-    add-requires-3
-    returns-5)
+null-size-spec = tie.close (tie.spec returns (λ c κs. search needs) (λ c. search needs)
+    (λ c. search needs) returns-2 add-requires returns-3 (λ c κs. search needs) (λ c. search needs)
+    (λ c. search needs) returns-4 add-requires-2 add-requires-3 returns-5)

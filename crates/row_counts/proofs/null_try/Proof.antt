@@ -56,15 +56,6 @@ there : (z : tie.Start) {b : _} → b ≡ true
 there z e x = let d = bit z x e in let t = takes-of (d .witness .valid) in
     (t .0, t .1, record { tree = d .tree; witness = d .witness; takes = t .2 })
 
-wide-requires : tie.Need-wide-requires
-wide-requires c κs = search needs
-
-mul-if1 : tie.Need-mul-if1
-mul-if1 c = search needs
-
-slice-read-if1 : tie.Need-slice-read-if1
-slice-read-if1 c = search needs
-
 returns : tie.Need-returns
 returns c =
     let wide-here = c .before .before .wide in
@@ -117,9 +108,6 @@ null-size-requires c κs =
       ),
     )
 
-same-length : tie.Need-same-length
-same-length c = search needs
-
 returns-3 : tie.Need-returns-3
 returns-3 c =
     let choose-here = c .before .before .before .choose in
@@ -131,15 +119,6 @@ returns-3 c =
     (λ B t d f k. absurd (not-known (a .z .now) (z .pre .1 .1) (z .pre .0 .0 .formed .distinct)
     (a .a) t (subst (λ (x : ℕ). FirstTree (rules (a .g)) x [] t) d f) (choose .result)
     (choose .ensures) (sym (c .before .null-size .ensures) ∙ c .if3 .taken) k))
-
-mul-z : tie.Need-mul-z
-mul-z c = search needs
-
-slice-write-z : tie.Need-slice-write-z
-slice-write-z c = search needs
-
-same-length-2 : tie.Need-same-length-2
-same-length-2 c = search needs
 
 returns-4 : tie.Need-returns-4
 returns-4 c =
@@ -167,20 +146,6 @@ returns-4 c =
     (f .1) (choose .result) (choose .ensures) _ (c .before .null-size .ensures) p))
 
 pub null-try-spec : {M : Type 1} → statement M
-null-try-spec =
-    tie.close
-    (tie.spec
-    wide-requires
-    mul-if1
-    slice-read-if1
-    returns
-    in-first-requires
-    returns-2
-    choose-requires
-    null-size-requires
-    same-length
-    returns-3
-    mul-z
-    slice-write-z
-    same-length-2
-    returns-4)
+null-try-spec = tie.close (tie.spec (λ c κs. search needs) (λ c. search needs) (λ c. search needs)
+    returns in-first-requires returns-2 choose-requires null-size-requires (λ c. search needs)
+    returns-3 (λ c. search needs) (λ c. search needs) (λ c. search needs) returns-4)

@@ -16,12 +16,6 @@ returns c =
       right = λ h. absurd (omega (arith, c .if1 .taken));
     }
 
-wide-requires : tie.Need-wide-requires
-wide-requires c κs = search needs
-
-wide-requires-2 : tie.Need-wide-requires-2
-wide-requires-2 c κs = search needs
-
 in-second-requires : tie.Need-in-second-requires
 in-second-requires c κs =
     let z = c .before .before .before .before .before in
@@ -89,16 +83,5 @@ returns-3 c =
     }
 
 pub onward-spec : {M : Type 1} → statement M
-onward-spec =
-    tie.close
-    (tie.spec
-    returns
-    wide-requires
-    wide-requires-2
-    in-second-requires
-    add-t13
-    sub-t14
-    returns-2
-    add-t15
-    sub-t16
-    returns-3)
+onward-spec = tie.close (tie.spec returns (λ c κs. search needs) (λ c κs. search needs)
+    in-second-requires add-t13 sub-t14 returns-2 add-t15 sub-t16 returns-3)

@@ -8,18 +8,6 @@ use Rattle.row_counts.specs.Capped.{capped}
 use Rattle.row_counts.proofs.own.Statement.{statement}
 use Rattle.row_counts.proofs.own.Tie as tie
 
-returns : tie.Need-returns
-returns c = search needs
-
-wide-requires : tie.Need-wide-requires
-wide-requires c κs = search needs
-
-mul-add : tie.Need-mul-add
-mul-add c = search needs
-
-shared-slice-read-add : tie.Need-shared-slice-read-add
-shared-slice-read-add c = search needs
-
 add-requires : tie.Need-add-requires
 add-requires c κs = (
   omega arith,
@@ -45,15 +33,6 @@ returns-2 c =
       right = λ h k. absurd (omega (arith, if2 .taken));
       inner = λ h k. absurd (omega (arith, if2 .taken));
     }
-
-wide-requires-2 : tie.Need-wide-requires-2
-wide-requires-2 c κs = search needs
-
-mul-add-2 : tie.Need-mul-add-2
-mul-add-2 c = search needs
-
-shared-slice-read-add-2 : tie.Need-shared-slice-read-add-2
-shared-slice-read-add-2 c = search needs
 
 add-requires-2 : tie.Need-add-requires-2
 add-requires-2 c κs = (
@@ -84,22 +63,7 @@ returns-3 c =
       inner = λ h k e. absurd (e (if3 .taken));
     }
 
-returns-4 : tie.Need-returns-4
-returns-4 c = search needs
-
 pub own-spec : {M : Type 1} → statement M
-own-spec =
-    tie.close
-    (tie.spec
-    returns
-    wide-requires
-    mul-add
-    shared-slice-read-add
-    add-requires
-    returns-2
-    wide-requires-2
-    mul-add-2
-    shared-slice-read-add-2
-    add-requires-2
-    returns-3
-    returns-4)
+own-spec = tie.close (tie.spec (λ c. search needs) (λ c κs. search needs) (λ c. search needs)
+    (λ c. search needs) add-requires returns-2 (λ c κs. search needs) (λ c. search needs)
+    (λ c. search needs) add-requires-2 returns-3 (λ c. search needs))

@@ -155,17 +155,6 @@ returns-3 c =
     (o .rows)
 
 pub under-spec : {M : Type 1} → statement M
-under-spec =
-    tie.close
-    (tie.spec
-    returns
-    count-first-requires
-    add-requires
-    returns-2
-    count-first-requires-2
-    add-count-first
-    sub-count-first
-    count-first-requires-3
-    add-requires-2
-    add-requires-3
-    returns-3)
+under-spec = tie.close (tie.spec returns count-first-requires add-requires returns-2
+    count-first-requires-2 add-count-first sub-count-first count-first-requires-3 add-requires-2
+    add-requires-3 returns-3)

@@ -98,9 +98,6 @@ returns c =
     (choose .ensures) (own .result) (add .result) (own .ensures) (add .ensures)
     (c .before .if1 .taken) (c .if2 .taken))
 
-wide-requires : tie.Need-wide-requires Inv-loop μ-loop
-wide-requires c κs = search needs
-
 array-read-a : tie.Need-array-read-a Inv-loop μ-loop
 array-read-a c =
     let z = c .before .before .before .before .before .before .before .before .before .before
@@ -159,18 +156,6 @@ loop-again c =
       low = v .low;
     }
 
-down-requires : tie.Need-down-requires Inv-loop μ-loop
-down-requires c κs = search needs
-
-wide-requires-2 : tie.Need-wide-requires-2 Inv-loop μ-loop
-wide-requires-2 c κs = search needs
-
-wide-requires-3 : tie.Need-wide-requires-3 Inv-loop μ-loop
-wide-requires-3 c κs = search needs
-
-add-at : tie.Need-add-at Inv-loop μ-loop
-add-at c = search needs
-
 array-write-names : tie.Need-array-write-names Inv-loop μ-loop
 array-write-names c =
     let loop-here = c .before .before .before .before .before .before .before .before .before
@@ -205,9 +190,6 @@ array-write-names c =
       v .walk .fits,
       v .low,
     )
-
-sub-longs : tie.Need-sub-longs Inv-loop μ-loop
-sub-longs c = search needs
 
 array-write-longs : tie.Need-array-write-longs Inv-loop μ-loop
 array-write-longs c =
@@ -346,32 +328,8 @@ returns-2 c =
     walk-all (v .there) _ (walk-large (v .walk) (λ h. omega (arith, c .loop-test .left)))
 
 pub walk-spec : {M : Type 1} → statement M
-walk-spec =
-    tie.close
-    (tie.spec
-    Inv-loop
-    μ-loop
-    add-end
-    loop-holds
-    choose-requires
-    own-requires
-    add-requires
-    add-i
-    returns
-    wide-requires
-    array-read-a
-    array-read-l
-    loop-less
-    loop-again
-    down-requires
-    wide-requires-2
-    wide-requires-3
-    add-at
-    array-write-names
-    sub-longs
-    array-write-longs
-    loop-less-2
-    loop-again-2
-    loop-less-3
-    loop-again-3
-    returns-2)
+walk-spec = tie.close (tie.spec Inv-loop μ-loop add-end loop-holds choose-requires own-requires
+    add-requires add-i returns (λ c κs. search needs) array-read-a array-read-l loop-less loop-again
+    (λ c κs. search needs) (λ c κs. search needs) (λ c κs. search needs) (λ c. search needs)
+    array-write-names (λ c. search needs) array-write-longs loop-less-2 loop-again-2 loop-less-3
+    loop-again-3 returns-2)

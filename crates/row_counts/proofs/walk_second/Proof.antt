@@ -228,20 +228,6 @@ returns-2 c =
     (second-large (v .walk) (λ h. omega (arith, c .loop-test .left)))
 
 pub walk-second-spec : {M : Type 1} → statement M
-walk-second-spec =
-    tie.close
-    (tie.spec
-    Inv-loop
-    μ-loop
-    cast-l
-    loop-holds
-    choose-requires
-    under-requires
-    add-requires
-    returns
-    onward-requires
-    beside-requires
-    add-requires-2
-    loop-less
-    loop-again
-    returns-2)
+walk-second-spec = tie.close (tie.spec Inv-loop μ-loop cast-l loop-holds choose-requires
+    under-requires add-requires returns onward-requires beside-requires add-requires-2 loop-less
+    loop-again returns-2)

@@ -29,40 +29,22 @@ returns-2 c = branched-closed (c .before .before .before .pre) _ _ (c .if2 .take
 sub-at : tie.Need-sub-at
 sub-at c = one c
 
-mul-put : tie.Need-mul-put
-mul-put c = search needs
-
 put-requires : tie.Need-put-requires
 put-requires c κs = omega (arith, one (c .before))
-
-same-length : tie.Need-same-length
-same-length c = search needs
 
 returns-3 : tie.Need-returns-3
 returns-3 c = let t = c .before .before .before .before in
     branched-one (t .before .before .before .before .pre) _ _ (t .if3 .taken) _
     (c .before .before .put .ensures)
 
-add-next : tie.Need-add-next
-add-next c = search needs
-
-sub-rest : tie.Need-sub-rest
-sub-rest c = search needs
-
 sub-right : tie.Need-sub-right
 sub-right c = omega (arith, two c)
-
-mul-put-2 : tie.Need-mul-put-2
-mul-put-2 c = search needs
 
 put-requires-2 : tie.Need-put-requires-2
 put-requires-2 c κs = omega (arith, two (c .before))
 
 sub-left : tie.Need-sub-left
 sub-left c = two (c .before .before .before .before)
-
-mul-put-3 : tie.Need-mul-put-3
-mul-put-3 c = search needs
 
 put-requires-3 : tie.Need-put-requires-3
 put-requires-3 c κs = omega (
@@ -72,9 +54,6 @@ put-requires-3 c κs = omega (
       .before .before .put2 .kept .0,
 )
 
-same-length-2 : tie.Need-same-length-2
-same-length-2 c = search needs
-
 returns-4 : tie.Need-returns-4
 returns-4 c = let t = c .before .before .before .before .before .before .before .before in
     branched-two (t .before .before .before .before .pre) _ _ (three t) _ _
@@ -82,23 +61,7 @@ returns-4 c = let t = c .before .before .before .before .before .before .before 
     (c .before .before .put3 .ensures)
 
 pub branch-spec : {M : Type 1} → statement M
-branch-spec =
-    tie.close
-    (tie.spec
-    returns
-    returns-2
-    sub-at
-    mul-put
-    put-requires
-    same-length
-    returns-3
-    add-next
-    sub-rest
-    sub-right
-    mul-put-2
-    put-requires-2
-    sub-left
-    mul-put-3
-    put-requires-3
-    same-length-2
-    returns-4)
+branch-spec = tie.close (tie.spec returns returns-2 sub-at (λ c. search needs) put-requires
+    (λ c. search needs) returns-3 (λ c. search needs) (λ c. search needs) sub-right
+    (λ c. search needs) put-requires-2 sub-left (λ c. search needs) put-requires-3
+    (λ c. search needs) returns-4)

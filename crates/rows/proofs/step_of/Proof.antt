@@ -6,27 +6,6 @@ use Rattle.rows.proofs.StepLaws.{step-at}
 use Rattle.rows.proofs.step_of.Statement.{statement}
 use Rattle.rows.proofs.step_of.Tie as tie
 
-cast-split : tie.Need-cast-split
-cast-split c = search needs
-
-mul-rule : tie.Need-mul-rule
-mul-rule c = search needs
-
-element-copy-out-rule : tie.Need-element-copy-out-rule
-element-copy-out-rule c = search needs
-
-enum-told : tie.Need-enum-told
-enum-told c = search needs
-
-enum-told-2 : tie.Need-enum-told-2
-enum-told-2 c = search needs
-
-enum-known-c : tie.Need-enum-known-c
-enum-known-c c = search needs
-
-enum-known-c-2 : tie.Need-enum-known-c-2
-enum-known-c-2 c = search needs
-
 returns : tie.Need-returns
 returns c = λ x e. step-at (c .before .before .before .args .t1 .rules) _ x _ Empty _ _ e
     (c .enum-told .given .1)
@@ -44,17 +23,6 @@ returns-4 c = λ x e. step-at (c .before .before .before .before .args .t1 .rule
     (Binary _ _ _) _ _ e (c .before .c2 .given .1)
 
 pub step-of-spec : {M : Type 1} → statement M
-step-of-spec =
-    tie.close
-    (tie.spec
-    cast-split
-    mul-rule
-    element-copy-out-rule
-    enum-told
-    enum-told-2
-    enum-known-c
-    enum-known-c-2
-    returns
-    returns-2
-    returns-3
-    returns-4)
+step-of-spec = tie.close (tie.spec (λ c. search needs) (λ c. search needs) (λ c. search needs)
+    (λ c. search needs) (λ c. search needs) (λ c. search needs) (λ c. search needs) returns
+    returns-2 returns-3 returns-4)

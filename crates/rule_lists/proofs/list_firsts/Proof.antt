@@ -59,18 +59,5 @@ returns c = let l = c .before .loop in
     )
 
 pub list-firsts-spec : {M : Type 1} → statement M
-list-firsts-spec =
-    tie.close
-    (tie.spec
-    Inv-loop
-    μ-loop
-    loop-holds
-    rule-from-requires
-    cast-lists
-    mul-lists
-    slice-write-lists
-    add-a
-    loop-less
-    loop-again
-    same-length
-    returns)
+list-firsts-spec = tie.close (tie.spec Inv-loop μ-loop loop-holds rule-from-requires cast-lists
+    mul-lists slice-write-lists add-a loop-less loop-again same-length returns)

@@ -101,21 +101,6 @@ returns c = let l = c .before .loop in let z = c .before .before .before in
     }
 
 pub list-nexts-spec : {M : Type 1} → statement M
-list-nexts-spec =
-    tie.close
-    (tie.spec
-    Inv-loop
-    μ-loop
-    loop-holds
-    mul-x
-    element-copy-out-x
-    add-rule-from
-    rule-from-requires
-    add-lists
-    mul-lists
-    slice-write-lists
-    add-i
-    loop-less
-    loop-again
-    same-length
-    returns)
+list-nexts-spec = tie.close (tie.spec Inv-loop μ-loop loop-holds mul-x element-copy-out-x
+    add-rule-from rule-from-requires add-lists mul-lists slice-write-lists add-i loop-less
+    loop-again same-length returns)

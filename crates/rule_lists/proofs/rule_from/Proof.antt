@@ -58,16 +58,5 @@ returns-2 c = none-end 128 (c .before .loop .inv .1)
     (omega (arith, c .before .loop .inv .0, c .before .before .pre .0 .few))
 
 pub rule-from-spec : {M : Type 1} → statement M
-rule-from-spec =
-    tie.close
-    (tie.spec
-    Inv-loop
-    μ-loop
-    loop-holds
-    mul-r
-    element-copy-out-r
-    returns
-    add-i
-    loop-less
-    loop-again
-    returns-2)
+rule-from-spec = tie.close (tie.spec Inv-loop μ-loop loop-holds mul-r element-copy-out-r returns
+    add-i loop-less loop-again returns-2)

@@ -8,9 +8,6 @@ use Rattle.rule_output.proofs.Adding.{adds-over}
 use Rattle.rule_output.proofs.fresh.Statement.{statement}
 use Rattle.rule_output.proofs.fresh.Tie as tie
 
-add-t3 : tie.Need-add-t3
-add-t3 c = search needs
-
 returns : tie.Need-returns
 returns c w =
     record {
@@ -28,4 +25,4 @@ returns-2 : tie.Need-returns-2
 returns-2 c w = adds-over refl (inr (inl (omega arith)))
 
 pub fresh-spec : {M : Type 1} → statement M
-fresh-spec = tie.close (tie.spec add-t3 returns returns-2)
+fresh-spec = tie.close (tie.spec (λ c. search needs) returns returns-2)

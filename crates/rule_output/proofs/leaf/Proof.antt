@@ -4,15 +4,6 @@ use borrow.Author.Needs.{needs}
 use Rattle.rule_output.proofs.leaf.Statement.{statement}
 use Rattle.rule_output.proofs.leaf.Tie as tie
 
-enum-known-l : tie.Need-enum-known-l
-enum-known-l c = search needs
-
-enum-known-l-2 : tie.Need-enum-known-l-2
-enum-known-l-2 c = search needs
-
-atomic-requires : tie.Need-atomic-requires
-atomic-requires c κs = search needs
-
 returns : tie.Need-returns
 returns c = leaf-nonterminal _ _ _ _ (c .before .l .given .1)
 
@@ -24,5 +15,5 @@ returns-3 : tie.Need-returns-3
 returns-3 c = leaf-other _ _ _ _ (c .match .keys3)
 
 pub leaf-spec : {M : Type 1} → statement M
-leaf-spec =
-    tie.close (tie.spec enum-known-l enum-known-l-2 atomic-requires returns returns-2 returns-3)
+leaf-spec = tie.close (tie.spec (λ c. search needs) (λ c. search needs) (λ c κs. search needs)
+    returns returns-2 returns-3)

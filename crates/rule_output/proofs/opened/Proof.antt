@@ -7,23 +7,14 @@ use borrow.Author.Needs.{needs}
 use Rattle.rule_output.proofs.opened.Statement.{statement}
 use Rattle.rule_output.proofs.opened.Tie as tie
 
-heads-requires : tie.Need-heads-requires
-heads-requires c κs = search needs
-
 returns : tie.Need-returns
 returns c w =
     counts-by _ _ 0 _ (sym (sym (c .before .heads .ensures) ∙ c .if1 .taken))
     (adds-nothing (held w (c .before .before .args .out)))
 
-fresh-requires : tie.Need-fresh-requires
-fresh-requires c κs = search needs
-
 returns-2 : tie.Need-returns-2
 returns-2 c w = let h = c .before .before .before in
     counts-by _ _ 1 _ (sym (sym (h .heads .ensures) ∙ c .if2 .taken)) (c .before .fresh .ensures w)
-
-fresh-requires-2 : tie.Need-fresh-requires-2
-fresh-requires-2 c κs = search needs
 
 returns-3 : tie.Need-returns-3
 returns-3 c w =
@@ -35,5 +26,5 @@ returns-3 c w =
     (adds-also (c .before .before .fresh .ensures w) (c .fresh2 .ensures w))
 
 pub opened-spec : {M : Type 1} → statement M
-opened-spec =
-    tie.close (tie.spec heads-requires returns fresh-requires returns-2 fresh-requires-2 returns-3)
+opened-spec = tie.close (tie.spec (λ c κs. search needs) returns (λ c κs. search needs) returns-2
+    (λ c κs. search needs) returns-3)

@@ -4,14 +4,8 @@ use borrow.Author.Needs.{needs}
 use Rattle.rule_output.proofs.optional.Statement.{statement}
 use Rattle.rule_output.proofs.optional.Tie as tie
 
-push-requires : tie.Need-push-requires
-push-requires c κs = search needs
-
-push-requires-2 : tie.Need-push-requires-2
-push-requires-2 c κs = search needs
-
 returns : tie.Need-returns
 returns c = adds-also (c .before .before .push .ensures) (c .push2 .ensures)
 
 pub optional-spec : {M : Type 1} → statement M
-optional-spec = tie.close (tie.spec push-requires push-requires-2 returns)
+optional-spec = tie.close (tie.spec (λ c κs. search needs) (λ c κs. search needs) returns)

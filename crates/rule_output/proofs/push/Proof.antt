@@ -11,18 +11,6 @@ use Rattle.rule_output.proofs.Adding.{adds-over, set-long, pushed}
 use Rattle.rule_output.proofs.push.Statement.{statement}
 use Rattle.rule_output.proofs.push.Tie as tie
 
-word-of-requires : tie.Need-word-of-requires
-word-of-requires c κs = search needs
-
-mul-rules : tie.Need-mul-rules
-mul-rules c = search needs
-
-element-write-rules : tie.Need-element-write-rules
-element-write-rules c = search needs
-
-add-t7 : tie.Need-add-t7
-add-t7 c = search needs
-
 returns : tie.Need-returns
 returns c =
     let s = c .before .before in
@@ -45,5 +33,5 @@ returns-2 : tie.Need-returns-2
 returns-2 c = adds-over refl (inr (inr (omega arith)))
 
 pub push-spec : {M : Type 1} → statement M
-push-spec =
-    tie.close (tie.spec word-of-requires mul-rules element-write-rules add-t7 returns returns-2)
+push-spec = tie.close (tie.spec (λ c κs. search needs) (λ c. search needs) (λ c. search needs)
+    (λ c. search needs) returns returns-2)

@@ -10,31 +10,13 @@ use borrow.Author.Needs.{needs}
 use Rattle.rule_output.proofs.tail.Statement.{statement}
 use Rattle.rule_output.proofs.tail.Tie as tie
 
-enum-told : tie.Need-enum-told
-enum-told c = search needs
-
-optional-requires : tie.Need-optional-requires
-optional-requires c κs = search needs
-
-enum-known-l : tie.Need-enum-known-l
-enum-known-l c = search needs
-
 plus-requires : tie.Need-plus-requires
 plus-requires c κs = let z = ap headsOf (c .before .before .l .given .1) in
     omega (arith, c .before .before .before .before .pre)
 
-enum-known-l-2 : tie.Need-enum-known-l-2
-enum-known-l-2 c = search needs
-
 star-requires : tie.Need-star-requires
 star-requires c κs = let z = ap headsOf (c .before .before .l2 .given .1) in
     omega (arith, c .before .before .before .before .pre)
-
-enum-known-l-3 : tie.Need-enum-known-l-3
-enum-known-l-3 c = search needs
-
-push-requires : tie.Need-push-requires
-push-requires c κs = search needs
 
 returns : tie.Need-returns
 returns c = tail-by _ _ _ _ _ _ (c .before .before .enum-told .given .1) (c .optional .ensures)
@@ -56,19 +38,6 @@ returns-5 c =
     (bare-none (a .l) (c .match .keys5) .1 (a .n) (a .b))
 
 pub tail-spec : {M : Type 1} → statement M
-tail-spec =
-    tie.close
-    (tie.spec
-    enum-told
-    optional-requires
-    enum-known-l
-    plus-requires
-    enum-known-l-2
-    star-requires
-    enum-known-l-3
-    push-requires
-    returns
-    returns-2
-    returns-3
-    returns-4
-    returns-5)
+tail-spec = tie.close (tie.spec (λ c. search needs) (λ c κs. search needs) (λ c. search needs)
+    plus-requires (λ c. search needs) star-requires (λ c. search needs) (λ c κs. search needs)
+    returns returns-2 returns-3 returns-4 returns-5)

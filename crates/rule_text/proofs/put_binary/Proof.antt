@@ -5,36 +5,6 @@ use borrow.Author.Needs.{needs}
 use Rattle.rule_text.proofs.put_binary.Statement.{statement}
 use Rattle.rule_text.proofs.put_binary.Tie as tie
 
-enum-told : tie.Need-enum-told
-enum-told c = search needs
-
-slice-aggregate-put-bytes : tie.Need-slice-aggregate-put-bytes
-slice-aggregate-put-bytes c = search needs
-
-put-bytes-requires : tie.Need-put-bytes-requires
-put-bytes-requires c κs = search needs
-
-enum-told-2 : tie.Need-enum-told-2
-enum-told-2 c = search needs
-
-slice-aggregate-put-bytes-2 : tie.Need-slice-aggregate-put-bytes-2
-slice-aggregate-put-bytes-2 c = search needs
-
-put-bytes-requires-2 : tie.Need-put-bytes-requires-2
-put-bytes-requires-2 c κs = search needs
-
-enum-told-3 : tie.Need-enum-told-3
-enum-told-3 c = search needs
-
-slice-aggregate-put-bytes-3 : tie.Need-slice-aggregate-put-bytes-3
-slice-aggregate-put-bytes-3 c = search needs
-
-put-bytes-requires-3 : tie.Need-put-bytes-requires-3
-put-bytes-requires-3 c κs = search needs
-
-same-length : tie.Need-same-length
-same-length c = search needs
-
 returns : tie.Need-returns
 unfolding binaryLay
 returns c =
@@ -44,9 +14,6 @@ returns c =
           (arith, z .put-bytes .ensures .next),
     )
 
-same-length-2 : tie.Need-same-length-2
-same-length-2 c = search needs
-
 returns-2 : tie.Need-returns-2
 unfolding binaryLay
 returns-2 c =
@@ -55,9 +22,6 @@ returns-2 c =
       omega
           (arith, z .put-bytes2 .ensures .next),
     )
-
-same-length-3 : tie.Need-same-length-3
-same-length-3 c = search needs
 
 returns-3 : tie.Need-returns-3
 unfolding binaryLay
@@ -69,21 +33,7 @@ returns-3 c =
     )
 
 pub put-binary-spec : {M : Type 1} → statement M
-put-binary-spec =
-    tie.close
-    (tie.spec
-    enum-told
-    slice-aggregate-put-bytes
-    put-bytes-requires
-    enum-told-2
-    slice-aggregate-put-bytes-2
-    put-bytes-requires-2
-    enum-told-3
-    slice-aggregate-put-bytes-3
-    put-bytes-requires-3
-    same-length
-    returns
-    same-length-2
-    returns-2
-    same-length-3
-    returns-3)
+put-binary-spec = tie.close (tie.spec (λ c. search needs) (λ c. search needs) (λ c κs. search needs)
+    (λ c. search needs) (λ c. search needs) (λ c κs. search needs) (λ c. search needs)
+    (λ c. search needs) (λ c κs. search needs) (λ c. search needs) returns (λ c. search needs)
+    returns-2 (λ c. search needs) returns-3)

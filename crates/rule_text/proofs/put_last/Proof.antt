@@ -5,15 +5,6 @@ use borrow.Author.Needs.{needs}
 use Rattle.rule_text.proofs.put_last.Statement.{statement}
 use Rattle.rule_text.proofs.put_last.Tie as tie
 
-slice-aggregate-put-bytes : tie.Need-slice-aggregate-put-bytes
-slice-aggregate-put-bytes c = search needs
-
-put-bytes-requires : tie.Need-put-bytes-requires
-put-bytes-requires c κs = search needs
-
-same-length : tie.Need-same-length
-same-length c = search needs
-
 returns : tie.Need-returns
 returns c =
     let z = c .before .before in
@@ -24,12 +15,6 @@ returns c =
           (arith, z .put-bytes .ensures .next),
     )
 
-put-ended-requires : tie.Need-put-ended-requires
-put-ended-requires c κs = search needs
-
-same-length-2 : tie.Need-same-length-2
-same-length-2 c = search needs
-
 returns-2 : tie.Need-returns-2
 returns-2 c =
     let z = c .before .before in
@@ -38,13 +23,5 @@ returns-2 c =
     (rw (ne-eqb (a .a) (a .b) (i .if1 .left)) (z .put-ended .ensures .0), z .put-ended .ensures .1)
 
 pub put-last-spec : {M : Type 1} → statement M
-put-last-spec =
-    tie.close
-    (tie.spec
-    slice-aggregate-put-bytes
-    put-bytes-requires
-    same-length
-    returns
-    put-ended-requires
-    same-length-2
-    returns-2)
+put-last-spec = tie.close (tie.spec (λ c. search needs) (λ c κs. search needs) (λ c. search needs)
+    returns (λ c κs. search needs) (λ c. search needs) returns-2)

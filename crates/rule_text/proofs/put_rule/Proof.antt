@@ -5,18 +5,6 @@ use borrow.Author.Needs.{needs}
 use Rattle.rule_text.proofs.put_rule.Statement.{statement}
 use Rattle.rule_text.proofs.put_rule.Tie as tie
 
-cast-put-ended : tie.Need-cast-put-ended
-cast-put-ended c = search needs
-
-put-ended-requires : tie.Need-put-ended-requires
-put-ended-requires c κs = search needs
-
-put-clause-requires : tie.Need-put-clause-requires
-put-clause-requires c κs = search needs
-
-same-length : tie.Need-same-length
-same-length c = search needs
-
 returns : tie.Need-returns
 returns c =
     let z = c .before .before in
@@ -27,5 +15,5 @@ returns c =
     )
 
 pub put-rule-spec : {M : Type 1} → statement M
-put-rule-spec =
-    tie.close (tie.spec cast-put-ended put-ended-requires put-clause-requires same-length returns)
+put-rule-spec = tie.close (tie.spec (λ c. search needs) (λ c κs. search needs)
+    (λ c κs. search needs) (λ c. search needs) returns)

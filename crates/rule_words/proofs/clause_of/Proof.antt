@@ -54,15 +54,5 @@ returns-9 c =
     sym (List·getD-eq-default (clauses _ _) _ h)
 
 pub clause-of-spec : {M : Type 1} → statement M
-clause-of-spec =
-    tie.close
-    (tie.spec
-    returns
-    returns-2
-    returns-3
-    returns-4
-    returns-5
-    returns-6
-    returns-7
-    returns-8
-    returns-9)
+clause-of-spec = tie.close (tie.spec returns returns-2 returns-3 returns-4 returns-5 returns-6
+    returns-7 returns-8 returns-9)

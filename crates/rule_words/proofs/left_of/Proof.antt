@@ -5,12 +5,9 @@ use borrow.Author.Needs.{needs}
 use Rattle.rule_words.proofs.left_of.Statement.{statement}
 use Rattle.rule_words.proofs.left_of.Tie as tie
 
-cast-result : tie.Need-cast-result
-cast-result c = search needs
-
 returns : tie.Need-returns
 unfolding wordRule
 returns c = refl
 
 pub left-of-spec : {M : Type 1} → statement M
-left-of-spec = tie.close (tie.spec cast-result returns)
+left-of-spec = tie.close (tie.spec (λ c. search needs) returns)

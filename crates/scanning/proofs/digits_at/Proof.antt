@@ -19,9 +19,6 @@ abbrev μ-loop : tie.MeasureT-loop
 loop-holds : tie.Need-loop-holds Inv-loop μ-loop
 loop-holds c = reached-none (c .args .s .now) (c .args .at) (c .args .most) (c .pre .0)
 
-shared-slice-read-b : tie.Need-shared-slice-read-b Inv-loop μ-loop
-shared-slice-read-b c = search needs
-
 returns : tie.Need-returns Inv-loop μ-loop
 returns c =
     let l = c .before .before .before in
@@ -44,9 +41,6 @@ mul-w c =
     let x = l .loop .inv in
     omega (arith, x .small, l .before .pre .1)
 
-cast-w : tie.Need-cast-w Inv-loop μ-loop
-cast-w c = search needs
-
 add-w : tie.Need-add-w Inv-loop μ-loop
 add-w c =
     let l = c .before .before .before .before in
@@ -62,9 +56,6 @@ returns-3 c =
     stop-most (a .s .now) (a .at) (a .most) x (c .before .before .before .before .loop-test .taken)
     (c .before .before .if1 .left) (c .before .if2 .left) (c .if3 .taken)
 
-add-i : tie.Need-add-i Inv-loop μ-loop
-add-i c = search needs
-
 returns-4 : tie.Need-returns-4 Inv-loop μ-loop
 returns-4 c =
     let l = c .before .before .before .before .before .before in
@@ -74,9 +65,6 @@ returns-4 c =
     (c .before .before .before .before .before .loop-test .taken)
     (c .before .before .before .if1 .left)
     (omega (arith, c .before .if3 .left, c .if4 .taken))
-
-loop-less : tie.Need-loop-less Inv-loop μ-loop
-loop-less c = search needs
 
 loop-again : tie.Need-loop-again Inv-loop μ-loop
 loop-again c =
@@ -95,21 +83,6 @@ returns-5 c =
     stop-end (a .s .now) (a .at) (a .most) (l .loop .inv) (c .loop-test .left)
 
 pub digits-at-spec : {M : Type 1} → statement M
-digits-at-spec =
-    tie.close
-    (tie.spec
-    Inv-loop
-    μ-loop
-    loop-holds
-    shared-slice-read-b
-    returns
-    returns-2
-    mul-w
-    cast-w
-    add-w
-    returns-3
-    add-i
-    returns-4
-    loop-less
-    loop-again
-    returns-5)
+digits-at-spec = tie.close (tie.spec Inv-loop μ-loop loop-holds (λ c. search needs) returns
+    returns-2 mul-w (λ c. search needs) add-w returns-3 (λ c. search needs) returns-4
+    (λ c. search needs) loop-again returns-5)

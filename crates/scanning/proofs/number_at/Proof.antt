@@ -4,9 +4,6 @@ use borrow.Author.Needs.{needs}
 use Rattle.scanning.proofs.number_at.Statement.{statement}
 use Rattle.scanning.proofs.number_at.Tie as tie
 
-digits-at-requires : tie.Need-digits-at-requires
-digits-at-requires c κs = search needs
-
 returns : tie.Need-returns
 returns c =
     let d = c .before in
@@ -22,12 +19,6 @@ returns-2 c =
     let p = d .before .before .pre in
     no-end (a .s .now) (a .at) (a .most) (a .end) (d .digits-at .result) (p .1 .1)
     (d .digits-at .ensures) (c .if2 .taken)
-
-shared-slice-read-if3 : tie.Need-shared-slice-read-if3
-shared-slice-read-if3 c = search needs
-
-add-t11 : tie.Need-add-t11
-add-t11 c = search needs
 
 returns-3 : tie.Need-returns-3
 returns-3 c =
@@ -47,13 +38,5 @@ returns-4 c =
     (d .digits-at .ensures) (c .before .before .if2 .left) (c .if3 .left)
 
 pub number-at-spec : {M : Type 1} → statement M
-number-at-spec =
-    tie.close
-    (tie.spec
-    digits-at-requires
-    returns
-    returns-2
-    shared-slice-read-if3
-    add-t11
-    returns-3
-    returns-4)
+number-at-spec = tie.close (tie.spec (λ c κs. search needs) returns returns-2 (λ c. search needs)
+    (λ c. search needs) returns-3 returns-4)

@@ -6,27 +6,6 @@ use borrow.Author.Needs.{needs}
 use Rattle.sentence_text.proofs.put_token.Statement.{statement}
 use Rattle.sentence_text.proofs.put_token.Tie as tie
 
-cast-put-ended : tie.Need-cast-put-ended
-cast-put-ended c = search needs
-
-put-ended-requires : tie.Need-put-ended-requires
-put-ended-requires c κs = search needs
-
-cast-put-ended-2 : tie.Need-cast-put-ended-2
-cast-put-ended-2 c = search needs
-
-put-ended-requires-2 : tie.Need-put-ended-requires-2
-put-ended-requires-2 c κs = search needs
-
-cast-put-ended-3 : tie.Need-cast-put-ended-3
-cast-put-ended-3 c = search needs
-
-put-ended-requires-3 : tie.Need-put-ended-requires-3
-put-ended-requires-3 c κs = search needs
-
-same-length : tie.Need-same-length
-same-length c = search needs
-
 returns : tie.Need-returns
 unfolding tokenText
 returns c =
@@ -45,14 +24,5 @@ returns c =
     )
 
 pub put-token-spec : {M : Type 1} → statement M
-put-token-spec =
-    tie.close
-    (tie.spec
-    cast-put-ended
-    put-ended-requires
-    cast-put-ended-2
-    put-ended-requires-2
-    cast-put-ended-3
-    put-ended-requires-3
-    same-length
-    returns)
+put-token-spec = tie.close (tie.spec (λ c. search needs) (λ c κs. search needs) (λ c. search needs)
+    (λ c κs. search needs) (λ c. search needs) (λ c κs. search needs) (λ c. search needs) returns)

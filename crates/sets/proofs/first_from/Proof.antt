@@ -24,12 +24,6 @@ Inv-loop set from t₀ t = (from ≤ t) × (t ≤ 64) × ((x : ℕ) → In set x
 abbrev μ-loop : tie.MeasureT-loop
 μ-loop set from t₀ t = 64 - t
 
-loop-holds : tie.Need-loop-holds Inv-loop μ-loop
-loop-holds c = search needs
-
-has-requires : tie.Need-has-requires Inv-loop μ-loop
-has-requires c κs = search needs
-
 returns : tie.Need-returns Inv-loop μ-loop
 returns c = (
   search needs,
@@ -38,12 +32,6 @@ returns c = (
   c .before
       .before .before .loop .inv .2,
 )
-
-add-t : tie.Need-add-t Inv-loop μ-loop
-add-t c = search needs
-
-loop-less : tie.Need-loop-less Inv-loop μ-loop
-loop-less c = search needs
 
 loop-again : tie.Need-loop-again Inv-loop μ-loop
 loop-again c = (
@@ -61,6 +49,5 @@ returns-2 c x l b = go (decLe (c .before .before .args .from) x)
     go (no k) = omega arith
 
 pub first-from-spec : {M : Type 1} → statement M
-first-from-spec =
-    tie.close
-    (tie.spec Inv-loop μ-loop loop-holds has-requires returns add-t loop-less loop-again returns-2)
+first-from-spec = tie.close (tie.spec Inv-loop μ-loop (λ c. search needs) (λ c κs. search needs)
+    returns (λ c. search needs) (λ c. search needs) loop-again returns-2)

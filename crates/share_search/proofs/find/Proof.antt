@@ -13,21 +13,6 @@ use Rattle.share_search.proofs.find.Tie as tie
 small : (c : tie.After-terminals) → c .terminals .result < 2 ^ 64
 small c = search needs
 
-terminals-requires : tie.Need-terminals-requires
-terminals-requires c κs = search needs
-
-first-from-requires : tie.Need-first-from-requires
-first-from-requires c κs = search needs
-
-enum-known-least : tie.Need-enum-known-least
-enum-known-least c = search needs
-
-enum-told : tie.Need-enum-told
-enum-told c = search needs
-
-nothing-requires : tie.Need-nothing-requires
-nothing-requires c κs = search needs
-
 returns : tie.Need-returns
 returns c =
     let z = c .before .before .before .before .before .before in
@@ -41,9 +26,6 @@ returns c =
 
 needed-requires : tie.Need-needed-requires
 needed-requires c κs = c .before .before .before .before .before .before .pre .1 .0
-
-reachable-requires : tie.Need-reachable-requires
-reachable-requires c κs = search needs
 
 search-over-requires : tie.Need-search-over-requires
 search-over-requires c κs =
@@ -64,9 +46,6 @@ search-over-requires c κs =
       (r .1, z .pre .1 .1 .1),
     )
 
-same-length : tie.Need-same-length
-same-length c = search needs
-
 returns-2 : tie.Need-returns-2
 returns-2 c =
     let z = c .before .before .before .before .before .before .before .before .before .before
@@ -84,6 +63,6 @@ returns-2 c =
     )
 
 pub find-spec : {M : Type 1} → statement M
-find-spec = tie.close (tie.spec terminals-requires first-from-requires enum-known-least enum-told
-    nothing-requires returns needed-requires reachable-requires search-over-requires same-length
-    returns-2)
+find-spec = tie.close (tie.spec (λ c κs. search needs) (λ c κs. search needs) (λ c. search needs)
+    (λ c. search needs) (λ c κs. search needs) returns needed-requires (λ c κs. search needs)
+    search-over-requires (λ c. search needs) returns-2)

@@ -11,9 +11,6 @@ Inv-loop set c n b start h₀ h = h ≤ b + 1
 abbrev μ-loop : tie.MeasureT-loop
 μ-loop set c n b start h₀ h = b + 1 - h
 
-loop-holds : tie.Need-loop-holds Inv-loop μ-loop
-loop-holds c = omega arith
-
 block-of-requires : tie.Need-block-of-requires Inv-loop μ-loop
 block-of-requires c κs = let a = c .before .before in
     (a .pre .0, (a .pre .1 .0, omega (arith, a .pre .1 .1, c .loop-test .taken)))
@@ -21,23 +18,12 @@ block-of-requires c κs = let a = c .before .before in
 returns : tie.Need-returns Inv-loop μ-loop
 returns c = λ h. omega (arith, c .if1 .taken, c .before .before .block-of .ensures .0)
 
-add-h : tie.Need-add-h Inv-loop μ-loop
-add-h c = search needs
-
-loop-less : tie.Need-loop-less Inv-loop μ-loop
-loop-less c = search needs
-
 loop-again : tie.Need-loop-again Inv-loop μ-loop
 loop-again c = omega (arith, c .before .before .before .loop-test .taken)
-
-add-result : tie.Need-add-result Inv-loop μ-loop
-add-result c = search needs
 
 returns-2 : tie.Need-returns-2 Inv-loop μ-loop
 returns-2 c = λ h. absurd (omega arith)
 
 pub held-spec : {M : Type 1} → statement M
-held-spec =
-    tie.close
-    (tie.spec Inv-loop μ-loop loop-holds block-of-requires returns add-h loop-less loop-again
-    add-result returns-2)
+held-spec = tie.close (tie.spec Inv-loop μ-loop (λ c. omega arith) block-of-requires returns
+    (λ c. search needs) (λ c. search needs) loop-again (λ c. search needs) returns-2)

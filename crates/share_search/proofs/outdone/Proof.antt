@@ -21,15 +21,9 @@ returns c = let z = c .before .before .before .before .before in (
 twinned-requires : tie.Need-twinned-requires
 twinned-requires c κs = c .before .before .before .before .before .before .before .pre
 
-same-length : tie.Need-same-length
-same-length c = search needs
-
-same-length-2 : tie.Need-same-length-2
-same-length-2 c = search needs
-
 returns-2 : tie.Need-returns-2
 returns-2 c = c .before .before .before .before .twinned .ensures
 
 pub outdone-spec : {M : Type 1} → statement M
-outdone-spec = tie.close (tie.spec passable-requires returns twinned-requires same-length
-    same-length-2 returns-2)
+outdone-spec = tie.close (tie.spec passable-requires returns twinned-requires (λ c. search needs)
+    (λ c. search needs) returns-2)

@@ -57,9 +57,6 @@ block-of-requires c κs = let l = c .loop in (
   (l .inv .0 .before .candidate, l .inv .0 .known),
 )
 
-nothing-requires : tie.Need-nothing-requires Inv-loop μ-loop
-nothing-requires c κs = search needs
-
 same-length : tie.Need-same-length Inv-loop μ-loop
 same-length c = past-then (c .before .before .before .before .before .before .before .before .before
     .before .open-sheet .ensures .1) (c .before .before .before .before .loop .inv .1) .long
@@ -130,9 +127,6 @@ successor-requires c κs = let l = c .before .before .before .before .before .be
       ),
       (a .pre .0 .1, l .inv .0 .before .candidate),
     )
-
-nothing-requires-2 : tie.Need-nothing-requires-2 Inv-loop μ-loop
-nothing-requires-2 c κs = search needs
 
 same-length-3 : tie.Need-same-length-3 Inv-loop μ-loop
 same-length-3 c = (past-then (past-then
@@ -277,6 +271,6 @@ loop-again-2 c = let l = c .before .before .before .before .before .before .befo
 
 pub search-spec : {M : Type 1} → statement M
 search-spec = tie.close (tie.spec Inv-loop μ-loop open-sheet-requires first-requires loop-holds
-    block-of-requires nothing-requires same-length same-length-2 returns add-past look-requires
-    successor-requires nothing-requires-2 same-length-3 same-length-4 returns-2 loop-less
-    loop-again same-length-5 same-length-6 returns-3 add-b loop-less-2 loop-again-2)
+    block-of-requires (λ c κs. search needs) same-length same-length-2 returns add-past
+    look-requires successor-requires (λ c κs. search needs) same-length-3 same-length-4 returns-2
+    loop-less loop-again same-length-5 same-length-6 returns-3 add-b loop-less-2 loop-again-2)

@@ -6,23 +6,11 @@ use Rattle.share_search.proofs.Reports.{found-low, shared-of}
 use Rattle.share_search.proofs.share_rules.Statement.{statement}
 use Rattle.share_search.proofs.share_rules.Tie as tie
 
-find-requires : tie.Need-find-requires
-find-requires c κs = search needs
-
-size-requires : tie.Need-size-requires
-size-requires c κs = search needs
-
-clear-requires : tie.Need-clear-requires
-clear-requires c κs = search needs
-
 sentence-requires : tie.Need-sentence-requires
 sentence-requires c κs = let r = c .before .before .before .before .before .before .before .before
     .find in found-low (r .result .candidate)
     (c .before .before .before .before .before .before .before .before .before .before .before
     .pre .0 .1) (r .ensures .0)
-
-same-length : tie.Need-same-length
-same-length c = search needs
 
 returns : tie.Need-returns
 returns c =
@@ -35,6 +23,5 @@ returns c =
     )
 
 pub share-rules-spec : {M : Type 1} → statement M
-share-rules-spec =
-    tie.close
-    (tie.spec find-requires size-requires clear-requires sentence-requires same-length returns)
+share-rules-spec = tie.close (tie.spec (λ c κs. search needs) (λ c κs. search needs)
+    (λ c κs. search needs) sentence-requires (λ c. search needs) returns)

@@ -5,38 +5,11 @@ use borrow.Author.Needs.{needs}
 use Rattle.share_text.proofs.put_shared.Statement.{statement}
 use Rattle.share_text.proofs.put_shared.Tie as tie
 
-enum-told : tie.Need-enum-told
-enum-told c = search needs
-
-enum-told-2 : tie.Need-enum-told-2
-enum-told-2 c = search needs
-
-enum-told-3 : tie.Need-enum-told-3
-enum-told-3 c = search needs
-
-put-values-requires : tie.Need-put-values-requires
-put-values-requires c κs = search needs
-
-enum-told-4 : tie.Need-enum-told-4
-enum-told-4 c = search needs
-
-put-values-requires-2 : tie.Need-put-values-requires-2
-put-values-requires-2 c κs = search needs
-
-enum-told-5 : tie.Need-enum-told-5
-enum-told-5 c = search needs
-
-enum-told-6 : tie.Need-enum-told-6
-enum-told-6 c = search needs
-
 returns : tie.Need-returns
 returns c = (rw (c .enum-told .given .1) (wrote-none _ _), omega arith)
 
 returns-2 : tie.Need-returns-2
 returns-2 c = (rw (c .enum-told2 .given .1) (wrote-none _ _), omega arith)
-
-same-length : tie.Need-same-length
-same-length c = search needs
 
 returns-3 : tie.Need-returns-3
 returns-3 c = let w = c .before .before .put-values .ensures in (
@@ -44,9 +17,6 @@ returns-3 c = let w = c .before .before .put-values .ensures in (
       (rw (c .before .before .before .before .enum-told3 .given .1) at (w .0)),
   w .1,
 )
-
-same-length-2 : tie.Need-same-length-2
-same-length-2 c = search needs
 
 returns-4 : tie.Need-returns-4
 returns-4 c = let w = c .before .before .put-values2 .ensures in (
@@ -62,22 +32,7 @@ returns-6 : tie.Need-returns-6
 returns-6 c = (rw (c .enum-told6 .given .1) (wrote-none _ _), omega arith)
 
 pub put-shared-spec : {M : Type 1} → statement M
-put-shared-spec =
-    tie.close
-    (tie.spec
-    enum-told
-    enum-told-2
-    enum-told-3
-    put-values-requires
-    enum-told-4
-    put-values-requires-2
-    enum-told-5
-    enum-told-6
-    returns
-    returns-2
-    same-length
-    returns-3
-    same-length-2
-    returns-4
-    returns-5
-    returns-6)
+put-shared-spec = tie.close (tie.spec (λ c. search needs) (λ c. search needs) (λ c. search needs)
+    (λ c κs. search needs) (λ c. search needs) (λ c κs. search needs) (λ c. search needs)
+    (λ c. search needs) returns returns-2 (λ c. search needs) returns-3 (λ c. search needs)
+    returns-4 returns-5 returns-6)

@@ -22,9 +22,6 @@ put-byte-requires c κs = let s = c .before .before .before .before .before .bef
           .long,
     )
 
-same-length : tie.Need-same-length
-same-length c = search needs
-
 returns : tie.Need-returns
 returns c =
     let s = c .before .before .before .before .before .before .before .before .before in
@@ -42,4 +39,5 @@ returns c =
     )
 
 pub put-value-spec : {M : Type 1} → statement M
-put-value-spec = tie.close (tie.spec put-number-requires put-byte-requires same-length returns)
+put-value-spec = tie.close (tie.spec put-number-requires put-byte-requires (λ c. search needs)
+    returns)

@@ -6,27 +6,6 @@ use borrow.Author.Needs.{needs}
 use Rattle.share_text.proofs.put_values.Statement.{statement}
 use Rattle.share_text.proofs.put_values.Tie as tie
 
-slice-aggregate-put-bytes : tie.Need-slice-aggregate-put-bytes
-slice-aggregate-put-bytes c = search needs
-
-put-bytes-requires : tie.Need-put-bytes-requires
-put-bytes-requires c κs = search needs
-
-put-value-requires : tie.Need-put-value-requires
-put-value-requires c κs = search needs
-
-put-value-requires-2 : tie.Need-put-value-requires-2
-put-value-requires-2 c κs = search needs
-
-put-found-requires : tie.Need-put-found-requires
-put-found-requires c κs = search needs
-
-put-byte-requires : tie.Need-put-byte-requires
-put-byte-requires c κs = search needs
-
-same-length : tie.Need-same-length
-same-length c = search needs
-
 returns : tie.Need-returns
 unfolding shareLines
 returns c =
@@ -64,14 +43,6 @@ returns c =
     )
 
 pub put-values-spec : {M : Type 1} → statement M
-put-values-spec =
-    tie.close
-    (tie.spec
-    slice-aggregate-put-bytes
-    put-bytes-requires
-    put-value-requires
-    put-value-requires-2
-    put-found-requires
-    put-byte-requires
-    same-length
-    returns)
+put-values-spec = tie.close (tie.spec (λ c. search needs) (λ c κs. search needs)
+    (λ c κs. search needs) (λ c κs. search needs) (λ c κs. search needs) (λ c κs. search needs)
+    (λ c. search needs) returns)

@@ -10,15 +10,6 @@ use borrow.Author.Needs.{needs}
 use Rattle.share_text.proofs.share_text.Statement.{statement}
 use Rattle.share_text.proofs.share_text.Tie as tie
 
-slice-aggregate-share : tie.Need-slice-aggregate-share
-slice-aggregate-share c = search needs
-
-share-requires : tie.Need-share-requires
-share-requires c κs = search needs
-
-put-head-requires : tie.Need-put-head-requires
-put-head-requires c κs = search needs
-
 put-shared-requires : tie.Need-put-shared-requires
 put-shared-requires c κs = omega (
   arith,
@@ -48,9 +39,6 @@ put-sentence-requires c κs =
       ),
     )
 
-same-length : tie.Need-same-length
-same-length c = search needs
-
 returns : tie.Need-returns
 returns c = record {
   text = _;
@@ -64,13 +52,5 @@ returns c = record {
 }
 
 pub share-text-spec : {M : Type 1} → statement M
-share-text-spec =
-    tie.close
-    (tie.spec
-    slice-aggregate-share
-    share-requires
-    put-head-requires
-    put-shared-requires
-    put-sentence-requires
-    same-length
-    returns)
+share-text-spec = tie.close (tie.spec (λ c. search needs) (λ c κs. search needs)
+    (λ c κs. search needs) put-shared-requires put-sentence-requires (λ c. search needs) returns)

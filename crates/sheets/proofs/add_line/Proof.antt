@@ -31,9 +31,6 @@ rule-step-requires : tie.Need-rule-step-requires
 rule-step-requires c κs = let a = c .before .before .before in
     (a .pre .0, a .pre .1, a .pre .2 .held .few)
 
-enum-known-step : tie.Need-enum-known-step
-enum-known-step c = search needs
-
 append-requires : tie.Need-append-requires
 append-requires c κs =
     let m = c .before .before .before in
@@ -42,12 +39,6 @@ append-requires c κs =
     let f = rule-fits (rules (a .args .book .grammar)) (a .args .book .grammar .count)
     (bytesLeft (a .args .s .now) (a .args .c))
     (ltb (a .args .c .end) (length (a .args .s .now))) e in (a .pre .2, f .0, f .1)
-
-enum-told : tie.Need-enum-told
-enum-told c = search needs
-
-enum-told-2 : tie.Need-enum-told-2
-enum-told-2 c = search needs
 
 returns : tie.Need-returns
 returns c =
@@ -61,14 +52,5 @@ returns-3 : tie.Need-returns-3
 returns-3 c = (c .before .before .rule-step .ensures, adds-end _ (c .enum-told2 .given .1))
 
 pub add-line-spec : {M : Type 1} → statement M
-add-line-spec =
-    tie.close
-    (tie.spec
-    rule-step-requires
-    enum-known-step
-    append-requires
-    enum-told
-    enum-told-2
-    returns
-    returns-2
-    returns-3)
+add-line-spec = tie.close (tie.spec rule-step-requires (λ c. search needs) append-requires
+    (λ c. search needs) (λ c. search needs) returns returns-2 returns-3)

@@ -26,20 +26,11 @@ beside : (a b : ℕ) (x y : Bool) → (a < b → ⊥) → (b < a → ⊥) → x 
     → x ≡ (ltb a b || (eqb a b && y))
 beside a b x y m n e = simp (e, le-ltb a b (omega (arith, m)), eq-eqb a b (omega (arith, m, n)))
 
-line-before-requires : tie.Need-line-before-requires
-line-before-requires c κs = search needs
-
 returns : tie.Need-returns
 returns c = simp (lt-ltb _ _ (c .before .line-before .ensures .is (c .if1 .taken)))
 
-line-before-requires-2 : tie.Need-line-before-requires-2
-line-before-requires-2 c κs = search needs
-
 returns-2 : tie.Need-returns-2
 returns-2 c = earlier _ _ _ (c .before .line-before2 .ensures .is (c .if2 .taken))
-
-leaves-free-requires : tie.Need-leaves-free-requires
-leaves-free-requires c κs = search needs
 
 returns-3 : tie.Need-returns-3
 returns-3 c =
@@ -50,7 +41,5 @@ returns-3 c =
     (at-most _ _ _ (c .leaves-free .ensures))
 
 pub comes-after-spec : {M : Type 1} → statement M
-comes-after-spec =
-    tie.close
-    (tie.spec line-before-requires returns line-before-requires-2 returns-2 leaves-free-requires
-    returns-3)
+comes-after-spec = tie.close (tie.spec (λ c κs. search needs) returns (λ c κs. search needs)
+    returns-2 (λ c κs. search needs) returns-3)

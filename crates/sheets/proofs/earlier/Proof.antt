@@ -26,9 +26,6 @@ mul-x c = omega (arith, c .before .before .pre)
 array-copy-out-x : tie.Need-array-copy-out-x Inv-loop μ-loop
 array-copy-out-x c = omega (arith, c .before .before .pre)
 
-has-key-requires : tie.Need-has-key-requires Inv-loop μ-loop
-has-key-requires c κs = search needs
-
 returns : tie.Need-returns Inv-loop μ-loop
 returns c = let l = c .before .before .before .before in
     let a = l .before .args in
@@ -36,12 +33,6 @@ returns c = let l = c .before .before .before .before in
     sym (l .loop .inv .1 ∙ any-hit (hasKey (a .key)) (a .t1) (a .n) (l .loop .i)
     (record { left = 0; clause = Empty }) (c .before .before .before .loop-test .taken)
     (omega (arith, l .before .pre)) (sym (c .before .has-key .ensures) ∙ c .if1 .taken))
-
-add-i : tie.Need-add-i Inv-loop μ-loop
-add-i c = search needs
-
-loop-less : tie.Need-loop-less Inv-loop μ-loop
-loop-less c = search needs
 
 loop-again : tie.Need-loop-again Inv-loop μ-loop
 loop-again c = let l = c .before .before .before .before in
@@ -61,17 +52,5 @@ returns-2 c = let l = c .before in
     (c .loop-test .left))
 
 pub earlier-spec : {M : Type 1} → statement M
-earlier-spec =
-    tie.close
-    (tie.spec
-    Inv-loop
-    μ-loop
-    loop-holds
-    mul-x
-    array-copy-out-x
-    has-key-requires
-    returns
-    add-i
-    loop-less
-    loop-again
-    returns-2)
+earlier-spec = tie.close (tie.spec Inv-loop μ-loop loop-holds mul-x array-copy-out-x
+    (λ c κs. search needs) returns (λ c. search needs) (λ c. search needs) loop-again returns-2)

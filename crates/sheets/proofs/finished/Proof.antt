@@ -21,9 +21,6 @@ returns c =
       exact = a .pre .1;
     }
 
-refuse-rules-requires : tie.Need-refuse-rules-requires
-refuse-rules-requires c κs = search needs
-
 returns-2 : tie.Need-returns-2
 returns-2 c =
     let h = c .before .before in
@@ -32,5 +29,4 @@ returns-2 c =
     (c .refuse-rules .ensures)
 
 pub finished-spec : {M : Type 1} → statement M
-finished-spec =
-    tie.close (tie.spec has-start-requires returns refuse-rules-requires returns-2)
+finished-spec = tie.close (tie.spec has-start-requires returns (λ c κs. search needs) returns-2)

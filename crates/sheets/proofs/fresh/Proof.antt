@@ -8,12 +8,6 @@ use borrow.Author.Needs.{needs}
 use Rattle.sheets.proofs.fresh.Statement.{statement}
 use Rattle.sheets.proofs.fresh.Tie as tie
 
-key-of-requires : tie.Need-key-of-requires
-key-of-requires c κs = search needs
-
-earlier-requires : tie.Need-earlier-requires
-earlier-requires c κs = search needs
-
 returns : tie.Need-returns
 returns c = let e = c .before in
     let a = e .before .before .args in
@@ -27,4 +21,4 @@ returns-2 c = let e = c .before in
     (sym (e .before .key-of .ensures)) ∙ sym (e .earlier .ensures) ∙ c .if1 .left) _ _)
 
 pub fresh-spec : {M : Type 1} → statement M
-fresh-spec = tie.close (tie.spec key-of-requires earlier-requires returns returns-2)
+fresh-spec = tie.close (tie.spec (λ c κs. search needs) (λ c κs. search needs) returns returns-2)

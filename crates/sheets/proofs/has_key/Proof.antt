@@ -11,16 +11,9 @@ returns : tie.Need-returns
 returns c = let a = c .before .before .before .args in
     sym (other-left (a .key) (a .x) (c .if1 .taken))
 
-key-of-requires : tie.Need-key-of-requires
-key-of-requires c κs = search needs
-
-same-key-requires : tie.Need-same-key-requires
-same-key-requires c κs = search needs
-
 returns-2 : tie.Need-returns-2
 returns-2 c = let a = c .before .before .before .before .before .args in
     c .same-key .ensures ∙ ap (λ (x : Key). sameKey x (a .key)) (c .before .key-of .ensures)
 
 pub has-key-spec : {M : Type 1} → statement M
-has-key-spec =
-    tie.close (tie.spec returns key-of-requires same-key-requires returns-2)
+has-key-spec = tie.close (tie.spec returns (λ c κs. search needs) (λ c κs. search needs) returns-2)

@@ -24,9 +24,6 @@ loop-holds c = (search needs, refl)
 mul-x : tie.Need-mul-x Inv-loop μ-loop
 mul-x c = omega (arith, c .before .before .pre)
 
-array-copy-out-x : tie.Need-array-copy-out-x Inv-loop μ-loop
-array-copy-out-x c = search needs
-
 returns : tie.Need-returns Inv-loop μ-loop
 returns c = let l = c .before .before .before .before in
     let a = l .before .args in
@@ -34,12 +31,6 @@ returns c = let l = c .before .before .before .before in
     sym (l .loop .inv .1 ∙ any-hit isStart (a .t1) (a .n) (l .loop .i)
     (record { left = 0; clause = Empty }) (c .before .before .before .loop-test .taken)
     (omega (arith, l .before .pre)) (eq-eqb _ _ (c .if1 .taken)))
-
-add-i : tie.Need-add-i Inv-loop μ-loop
-add-i c = search needs
-
-loop-less : tie.Need-loop-less Inv-loop μ-loop
-loop-less c = search needs
 
 loop-again : tie.Need-loop-again Inv-loop μ-loop
 loop-again c = let l = c .before .before .before .before in
@@ -57,16 +48,5 @@ returns-2 c = let l = c .before in
     sym (l .loop .inv .1 ∙ any-end isStart (a .t1) (a .n) (l .loop .i) (c .loop-test .left))
 
 pub has-start-spec : {M : Type 1} → statement M
-has-start-spec =
-    tie.close
-    (tie.spec
-    Inv-loop
-    μ-loop
-    loop-holds
-    mul-x
-    array-copy-out-x
-    returns
-    add-i
-    loop-less
-    loop-again
-    returns-2)
+has-start-spec = tie.close (tie.spec Inv-loop μ-loop loop-holds mul-x (λ c. search needs) returns
+    (λ c. search needs) (λ c. search needs) loop-again returns-2)

@@ -26,12 +26,6 @@ add-at c = omega (
       (c .before .before .loop-test .taken),
 )
 
-sub-left : tie.Need-sub-left Inv-loop μ-loop
-sub-left c = search needs
-
-loop-less : tie.Need-loop-less Inv-loop μ-loop
-loop-less c = search needs
-
 loop-again : tie.Need-loop-again Inv-loop μ-loop
 loop-again c = walk-more (c .before .before .before .loop .inv) (c .before .line .ensures)
     (c .before .before .loop-test .taken)
@@ -47,17 +41,5 @@ returns c = walk-end (c .before .before .before .loop .inv) (c .before .line2 .e
     (c .before .before .loop-test .left) (c .bytes .ensures)
 
 pub line-after-spec : {M : Type 1} → statement M
-line-after-spec =
-    tie.close
-    (tie.spec
-    Inv-loop
-    μ-loop
-    loop-holds
-    line-requires
-    add-at
-    sub-left
-    loop-less
-    loop-again
-    line-requires-2
-    bytes-requires
-    returns)
+line-after-spec = tie.close (tie.spec Inv-loop μ-loop loop-holds line-requires add-at
+    (λ c. search needs) (λ c. search needs) loop-again line-requires-2 bytes-requires returns)

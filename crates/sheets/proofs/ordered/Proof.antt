@@ -25,18 +25,6 @@ last-is c =
 returns : tie.Need-returns
 returns c = rw (c .if1 .taken) refl
 
-sub-i : tie.Need-sub-i
-sub-i c = search needs
-
-mul-last : tie.Need-mul-last
-mul-last c = search needs
-
-array-copy-out-last : tie.Need-array-copy-out-last
-array-copy-out-last c = search needs
-
-comes-after-requires : tie.Need-comes-after-requires
-comes-after-requires c κs = search needs
-
 returns-2 : tie.Need-returns-2
 returns-2 c =
     let a = c .before .before .before .before .args in
@@ -50,6 +38,5 @@ returns-3 c =
     (last-is (c .before) ∙ sym (c .before .comes-after .ensures) ∙ c .if2 .left) _ _)
 
 pub ordered-spec : {M : Type 1} → statement M
-ordered-spec =
-    tie.close
-    (tie.spec returns sub-i mul-last array-copy-out-last comes-after-requires returns-2 returns-3)
+ordered-spec = tie.close (tie.spec returns (λ c. search needs) (λ c. search needs)
+    (λ c. search needs) (λ c κs. search needs) returns-2 returns-3)

@@ -11,23 +11,8 @@ use Rattle.sheets.proofs.read_rules.Statement.{statement}
 use Rattle.sheets.proofs.read_rules.Tie as tie
 use Rattle.grammar.specs.Trees.{Rules}
 
-line-requires : tie.Need-line-requires
-line-requires c κs = search needs
-
 slice-aggregate-same : tie.Need-slice-aggregate-same
 slice-aggregate-same c = sym (length-take-le _ _ (omega (arith, c .before .if1 .taken)))
-
-slice-aggregate-same-2 : tie.Need-slice-aggregate-same-2
-slice-aggregate-same-2 c = search needs
-
-same-requires : tie.Need-same-requires
-same-requires c κs = search needs
-
-add-rules-from : tie.Need-add-rules-from
-add-rules-from c = search needs
-
-rules-from-requires : tie.Need-rules-from-requires
-rules-from-requires c κs = search needs
 
 returns : tie.Need-returns
 returns c =
@@ -39,12 +24,6 @@ returns c =
     (sym (c .before .if2 .taken) ∙ c .before .before .same .ensures))
     (c .rules-from .ensures)
 
-no-rules-requires : tie.Need-no-rules-requires
-no-rules-requires c κs = search needs
-
-refuse-rules-requires : tie.Need-refuse-rules-requires
-refuse-rules-requires c κs = search needs
-
 returns-2 : tie.Need-returns-2
 returns-2 c =
     let p = c .before .before .before .before .before .before .before in
@@ -55,12 +34,6 @@ returns-2 c =
     (sym (c .before .before .if2 .left) ∙ c .before .before .before .same .ensures))
     (c .refuse-rules .ensures)
 
-no-rules-requires-2 : tie.Need-no-rules-requires-2
-no-rules-requires-2 c κs = search needs
-
-refuse-rules-requires-2 : tie.Need-refuse-rules-requires-2
-refuse-rules-requires-2 c κs = search needs
-
 returns-3 : tie.Need-returns-3
 returns-3 c =
     let p = c .before .before .before in
@@ -70,19 +43,7 @@ returns-3 c =
     (c .refuse-rules2 .ensures)
 
 pub read-rules-spec : {M : Type 1} → statement M
-read-rules-spec =
-    tie.close
-    (tie.spec
-    line-requires
-    slice-aggregate-same
-    slice-aggregate-same-2
-    same-requires
-    add-rules-from
-    rules-from-requires
-    returns
-    no-rules-requires
-    refuse-rules-requires
-    returns-2
-    no-rules-requires-2
-    refuse-rules-requires-2
-    returns-3)
+read-rules-spec = tie.close (tie.spec (λ c κs. search needs) slice-aggregate-same
+    (λ c. search needs) (λ c κs. search needs) (λ c. search needs) (λ c κs. search needs) returns
+    (λ c κs. search needs) (λ c κs. search needs) returns-2 (λ c κs. search needs)
+    (λ c κs. search needs) returns-3)

@@ -25,23 +25,8 @@ not-old c =
     names-other (wideSheet s) tokenNames s (itemsFrom (tokenStep false) []) (p .line .result)
     (p .line .ensures) (t .if1 .taken) (sym (c .if2 .left) ∙ c .before .same .ensures)
 
-line-requires : tie.Need-line-requires
-line-requires c κs = search needs
-
 slice-aggregate-same : tie.Need-slice-aggregate-same
 slice-aggregate-same c = sym (length-take-le _ _ (omega (arith, c .before .if1 .taken)))
-
-slice-aggregate-same-2 : tie.Need-slice-aggregate-same-2
-slice-aggregate-same-2 c = search needs
-
-same-requires : tie.Need-same-requires
-same-requires c κs = search needs
-
-add-tokens-from : tie.Need-add-tokens-from
-add-tokens-from c = search needs
-
-tokens-from-requires : tie.Need-tokens-from-requires
-tokens-from-requires c κs = search needs
 
 returns : tie.Need-returns
 returns c =
@@ -58,18 +43,6 @@ slice-aggregate-same-3 : tie.Need-slice-aggregate-same-3
 slice-aggregate-same-3 c =
     sym (length-take-le _ _ (omega (arith, c .before .before .before .before .before .if1 .taken)))
 
-slice-aggregate-same-4 : tie.Need-slice-aggregate-same-4
-slice-aggregate-same-4 c = search needs
-
-same-requires-2 : tie.Need-same-requires-2
-same-requires-2 c κs = search needs
-
-add-tokens-from-2 : tie.Need-add-tokens-from-2
-add-tokens-from-2 c = search needs
-
-tokens-from-requires-2 : tie.Need-tokens-from-requires-2
-tokens-from-requires-2 c κs = search needs
-
 returns-2 : tie.Need-returns-2
 returns-2 c =
     let o = c .before .before .before .before .before in
@@ -81,12 +54,6 @@ returns-2 c =
     (p .line .ensures) (t .if1 .taken)
     (sym (c .before .if3 .taken) ∙ c .before .before .same2 .ensures) ∙ not-old o)
     (c .tokens-from2 .ensures)
-
-no-tokens-requires : tie.Need-no-tokens-requires
-no-tokens-requires c κs = search needs
-
-refuse-tokens-requires : tie.Need-refuse-tokens-requires
-refuse-tokens-requires c κs = search needs
 
 returns-3 : tie.Need-returns-3
 returns-3 c =
@@ -100,12 +67,6 @@ returns-3 c =
     (sym (c .before .before .if3 .left) ∙ c .before .before .before .same2 .ensures)
     ∙ not-old o) (c .refuse-tokens .ensures)
 
-no-tokens-requires-2 : tie.Need-no-tokens-requires-2
-no-tokens-requires-2 c κs = search needs
-
-refuse-tokens-requires-2 : tie.Need-refuse-tokens-requires-2
-refuse-tokens-requires-2 c κs = search needs
-
 returns-4 : tie.Need-returns-4
 returns-4 c =
     let p = c .before .before .before in
@@ -117,25 +78,8 @@ returns-4 c =
     (p .line .ensures) (c .before .before .if1 .left)) (c .refuse-tokens2 .ensures)
 
 pub read-tokens-spec : {M : Type 1} → statement M
-read-tokens-spec =
-    tie.close
-    (tie.spec
-    line-requires
-    slice-aggregate-same
-    slice-aggregate-same-2
-    same-requires
-    add-tokens-from
-    tokens-from-requires
-    returns
-    slice-aggregate-same-3
-    slice-aggregate-same-4
-    same-requires-2
-    add-tokens-from-2
-    tokens-from-requires-2
-    returns-2
-    no-tokens-requires
-    refuse-tokens-requires
-    returns-3
-    no-tokens-requires-2
-    refuse-tokens-requires-2
-    returns-4)
+read-tokens-spec = tie.close (tie.spec (λ c κs. search needs) slice-aggregate-same
+    (λ c. search needs) (λ c κs. search needs) (λ c. search needs) (λ c κs. search needs) returns
+    slice-aggregate-same-3 (λ c. search needs) (λ c κs. search needs) (λ c. search needs)
+    (λ c κs. search needs) returns-2 (λ c κs. search needs) (λ c κs. search needs) returns-3
+    (λ c κs. search needs) (λ c κs. search needs) returns-4)

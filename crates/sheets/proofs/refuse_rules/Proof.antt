@@ -5,9 +5,6 @@ use Rattle.sets.proofs.Basics.{clash}
 use Rattle.sheets.proofs.refuse_rules.Statement.{statement}
 use Rattle.sheets.proofs.refuse_rules.Tie as tie
 
-no-lengths-requires : tie.Need-no-lengths-requires
-no-lengths-requires c κs = search needs
-
 returns : tie.Need-returns
 returns c = record {
   is = refl;
@@ -18,4 +15,4 @@ returns c = record {
 }
 
 pub refuse-rules-spec : {M : Type 1} → statement M
-refuse-rules-spec = tie.close (tie.spec no-lengths-requires returns)
+refuse-rules-spec = tie.close (tie.spec (λ c κs. search needs) returns)

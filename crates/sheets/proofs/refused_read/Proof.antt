@@ -7,21 +7,12 @@ use borrow.Author.Needs.{needs}
 use Rattle.sheets.proofs.refused_read.Statement.{statement}
 use Rattle.sheets.proofs.refused_read.Tie as tie
 
-enum-known-o : tie.Need-enum-known-o
-enum-known-o c = search needs
-
-slice-aggregate-result : tie.Need-slice-aggregate-result
-slice-aggregate-result c = search needs
-
 returns : tie.Need-returns
 returns c =
     let o = c .before .before .before in
     let a = o .before .before .before .before .args in
     hands-zero (a .rules) (a .tokens) _ _ (o .o .given .1) (c .before .if1 .taken)
     (record { block = refl; offset = omega arith; holds = refl })
-
-sub-line-after : tie.Need-sub-line-after
-sub-line-after c = search needs
 
 line-after-requires : tie.Need-line-after-requires
 line-after-requires c κs =
@@ -36,15 +27,6 @@ returns-2 c =
     hands-rules (a .rules) (a .tokens) _ _ _ (o .o .given .1) (c .before .if1 .left)
     (c .line-after .ensures)
 
-enum-told : tie.Need-enum-told
-enum-told c = search needs
-
-enum-known-p : tie.Need-enum-known-p
-enum-known-p c = search needs
-
-slice-aggregate-result-2 : tie.Need-slice-aggregate-result-2
-slice-aggregate-result-2 c = search needs
-
 returns-3 : tie.Need-returns-3
 returns-3 c =
     let p = c .before .before .before in
@@ -52,9 +34,6 @@ returns-3 c =
     let a = t .before .before .before .before .args in
     hands-tokens-zero (a .rules) (a .tokens) _ (t .enum-told .given .1) (p .p .given .1)
     (c .before .if2 .taken) (record { block = refl; offset = omega arith; holds = refl })
-
-sub-line-after-2 : tie.Need-sub-line-after-2
-sub-line-after-2 c = search needs
 
 line-after-requires-2 : tie.Need-line-after-requires-2
 line-after-requires-2 c κs =
@@ -70,12 +49,6 @@ returns-4 c =
     hands-tokens (a .rules) (a .tokens) _ _ (t .enum-told .given .1) (p .p .given .1)
     (c .before .if2 .left) (c .line-after2 .ensures)
 
-enum-told-2 : tie.Need-enum-told-2
-enum-told-2 c = search needs
-
-slice-aggregate-result-3 : tie.Need-slice-aggregate-result-3
-slice-aggregate-result-3 c = search needs
-
 returns-5 : tie.Need-returns-5
 returns-5 c =
     let t = c .before .before .before in
@@ -84,22 +57,7 @@ returns-5 c =
     (record { block = refl; offset = omega arith; holds = refl })
 
 pub refused-read-spec : {M : Type 1} → statement M
-refused-read-spec =
-    tie.close
-    (tie.spec
-    enum-known-o
-    slice-aggregate-result
-    returns
-    sub-line-after
-    line-after-requires
-    returns-2
-    enum-told
-    enum-known-p
-    slice-aggregate-result-2
-    returns-3
-    sub-line-after-2
-    line-after-requires-2
-    returns-4
-    enum-told-2
-    slice-aggregate-result-3
-    returns-5)
+refused-read-spec = tie.close (tie.spec (λ c. search needs) (λ c. search needs) returns
+    (λ c. search needs) line-after-requires returns-2 (λ c. search needs) (λ c. search needs)
+    (λ c. search needs) returns-3 (λ c. search needs) line-after-requires-2 returns-4
+    (λ c. search needs) (λ c. search needs) returns-5)

@@ -24,21 +24,6 @@ said c x is =
 rule-line-requires : tie.Need-rule-line-requires
 rule-line-requires c κs = c .before .pre .1
 
-enum-told : tie.Need-enum-told
-enum-told c = search needs
-
-enum-told-2 : tie.Need-enum-told-2
-enum-told-2 c = search needs
-
-enum-told-3 : tie.Need-enum-told-3
-enum-told-3 c = search needs
-
-enum-told-4 : tie.Need-enum-told-4
-enum-told-4 c = search needs
-
-enum-known-r : tie.Need-enum-known-r
-enum-known-r c = search needs
-
 fresh-requires : tie.Need-fresh-requires
 fresh-requires c κs = c .before .before .before .before .before .pre .2
 
@@ -59,18 +44,6 @@ returns-5 c =
     c .fresh .ensures ∙ said (c .before .before .before .before) _ (c .before .before .r .given .1)
 
 pub rule-said-spec : {M : Type 1} → statement M
-rule-said-spec =
-    tie.close
-    (tie.spec
-    rule-line-requires
-    enum-told
-    enum-told-2
-    enum-told-3
-    enum-told-4
-    enum-known-r
-    fresh-requires
-    returns
-    returns-2
-    returns-3
-    returns-4
-    returns-5)
+rule-said-spec = tie.close (tie.spec rule-line-requires (λ c. search needs) (λ c. search needs)
+    (λ c. search needs) (λ c. search needs) (λ c. search needs) fresh-requires returns returns-2
+    returns-3 returns-4 returns-5)

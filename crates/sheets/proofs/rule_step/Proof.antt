@@ -29,18 +29,6 @@ said c x is =
 turn-at-requires : tie.Need-turn-at-requires
 turn-at-requires c κs = (c .before .pre .0, c .before .pre .1)
 
-enum-told : tie.Need-enum-told
-enum-told c = search needs
-
-enum-told-2 : tie.Need-enum-told-2
-enum-told-2 c = search needs
-
-enum-told-3 : tie.Need-enum-told-3
-enum-told-3 c = search needs
-
-enum-told-4 : tie.Need-enum-told-4
-enum-told-4 c = search needs
-
 rule-said-requires : tie.Need-rule-said-requires
 rule-said-requires c κs = c .before .before .before .before .pre
 
@@ -58,16 +46,6 @@ returns-4 c =
     c .rule-said .ensures ∙ said (c .before .before .before) _ (c .before .enum-told4 .given .1)
 
 pub rule-step-spec : {M : Type 1} → statement M
-rule-step-spec =
-    tie.close
-    (tie.spec
-    turn-at-requires
-    enum-told
-    enum-told-2
-    enum-told-3
-    enum-told-4
-    rule-said-requires
-    returns
-    returns-2
-    returns-3
+rule-step-spec = tie.close (tie.spec turn-at-requires (λ c. search needs) (λ c. search needs)
+    (λ c. search needs) (λ c. search needs) rule-said-requires returns returns-2 returns-3
     returns-4)

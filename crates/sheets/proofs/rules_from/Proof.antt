@@ -50,9 +50,6 @@ made : (c : tie.After-add-line Inv-loop μ-loop) (x : RuleStep) → c .add-line 
     → Adds (c .before .before .loop .book) x (c .add-line .result .book)
 made c x is = adds-as _ _ is (c .add-line .ensures .1)
 
-no-book-requires : tie.Need-no-book-requires Inv-loop μ-loop
-no-book-requires c κs = search needs
-
 loop-holds : tie.Need-loop-holds Inv-loop μ-loop
 loop-holds c = reads-none (c .no-book .ensures .0) (c .no-book .ensures .1) (c .before .before .pre)
 
@@ -64,9 +61,6 @@ add-line-requires c κs =
     let T = c .before .loop .inv in
     let i = line-in _ _ (T .filled .low) _ (c .line .ensures) in
     (i .0, i .1, T .booked)
-
-enum-told : tie.Need-enum-told Inv-loop μ-loop
-enum-told c = search needs
 
 add-at : tie.Need-add-at Inv-loop μ-loop
 add-at c =
@@ -92,9 +86,6 @@ loop-again c =
     reads-turn (m .before .before .loop .inv) (m .before .line .ensures)
     (gave m _ (e .enum-told .given .1)) (made m _ (e .enum-told .given .1))
 
-enum-known-step : tie.Need-enum-known-step Inv-loop μ-loop
-enum-known-step c = search needs
-
 add-refuse-rules : tie.Need-add-refuse-rules Inv-loop μ-loop
 add-refuse-rules c =
     let k = c .before .before .before in
@@ -106,9 +97,6 @@ add-refuse-rules c =
           .before .loop .inv .filled .few,
     )
 
-refuse-rules-requires : tie.Need-refuse-rules-requires Inv-loop μ-loop
-refuse-rules-requires c κs = search needs
-
 returns : tie.Need-returns Inv-loop μ-loop
 returns c =
     let k = c .before .before .before .before in
@@ -119,9 +107,6 @@ returns c =
           (gave m _ (k .step .given .1)),
       ← e,
     ) (c .refuse-rules .ensures)
-
-enum-told-2 : tie.Need-enum-told-2 Inv-loop μ-loop
-enum-told-2 c = search needs
 
 finished-requires : tie.Need-finished-requires Inv-loop μ-loop
 finished-requires c κs =
@@ -154,23 +139,7 @@ returns-2 c =
     ) (c .finished .ensures)
 
 pub rules-from-spec : {M : Type 1} → statement M
-rules-from-spec =
-    tie.close
-    (tie.spec
-    Inv-loop
-    μ-loop
-    no-book-requires
-    loop-holds
-    line-requires
-    add-line-requires
-    enum-told
-    add-at
-    loop-less
-    loop-again
-    enum-known-step
-    add-refuse-rules
-    refuse-rules-requires
-    returns
-    enum-told-2
-    finished-requires
-    returns-2)
+rules-from-spec = tie.close (tie.spec Inv-loop μ-loop (λ c κs. search needs) loop-holds
+    line-requires add-line-requires (λ c. search needs) add-at loop-less loop-again
+    (λ c. search needs) add-refuse-rules (λ c κs. search needs) returns (λ c. search needs)
+    finished-requires returns-2)

@@ -22,24 +22,6 @@ said c x is =
     (sym is ∙ c .token-line .ensures ∙ ap (tokenFields (b .args .wide))
     (fields-of (b .args .s .now) (b .args .c) (b .pre .0) (b .pre .1)))
 
-token-line-requires : tie.Need-token-line-requires
-token-line-requires c κs = search needs
-
-enum-told : tie.Need-enum-told
-enum-told c = search needs
-
-enum-told-2 : tie.Need-enum-told-2
-enum-told-2 c = search needs
-
-enum-told-3 : tie.Need-enum-told-3
-enum-told-3 c = search needs
-
-enum-known-t : tie.Need-enum-known-t
-enum-known-t c = search needs
-
-ordered-requires : tie.Need-ordered-requires
-ordered-requires c κs = search needs
-
 returns : tie.Need-returns
 returns c = said (c .before .before) _ (c .enum-told .given .1)
 
@@ -54,16 +36,6 @@ returns-4 c = c .ordered .ensures ∙ said (c .before .before .before .before) _
     (c .before .before .t .given .1)
 
 pub token-said-spec : {M : Type 1} → statement M
-token-said-spec =
-    tie.close
-    (tie.spec
-    token-line-requires
-    enum-told
-    enum-told-2
-    enum-told-3
-    enum-known-t
-    ordered-requires
-    returns
-    returns-2
-    returns-3
+token-said-spec = tie.close (tie.spec (λ c κs. search needs) (λ c. search needs) (λ c. search needs)
+    (λ c. search needs) (λ c. search needs) (λ c κs. search needs) returns returns-2 returns-3
     returns-4)

@@ -29,24 +29,6 @@ said c x is =
     ap (stepAt 14 12 (tokenSays (a .wide) (take (a .n) (a .tokens)) (bytesLeft (a .s .now) (a .c))))
     (sym is ∙ c .turn-at .ensures)
 
-turn-at-requires : tie.Need-turn-at-requires
-turn-at-requires c κs = search needs
-
-enum-told : tie.Need-enum-told
-enum-told c = search needs
-
-enum-told-2 : tie.Need-enum-told-2
-enum-told-2 c = search needs
-
-enum-told-3 : tie.Need-enum-told-3
-enum-told-3 c = search needs
-
-enum-told-4 : tie.Need-enum-told-4
-enum-told-4 c = search needs
-
-token-said-requires : tie.Need-token-said-requires
-token-said-requires c κs = search needs
-
 returns : tie.Need-returns
 returns c = said (c .before .before) _ (c .enum-told .given .1)
 
@@ -61,16 +43,6 @@ returns-4 c =
     c .token-said .ensures ∙ said (c .before .before .before) _ (c .before .enum-told4 .given .1)
 
 pub token-step-spec : {M : Type 1} → statement M
-token-step-spec =
-    tie.close
-    (tie.spec
-    turn-at-requires
-    enum-told
-    enum-told-2
-    enum-told-3
-    enum-told-4
-    token-said-requires
-    returns
-    returns-2
-    returns-3
+token-step-spec = tie.close (tie.spec (λ c κs. search needs) (λ c. search needs) (λ c. search needs)
+    (λ c. search needs) (λ c. search needs) (λ c κs. search needs) returns returns-2 returns-3
     returns-4)

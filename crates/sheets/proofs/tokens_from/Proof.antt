@@ -61,9 +61,6 @@ taken c =
     took (m .before .before .loop .inv) (m .before .line .ensures)
     (gave m _ (c .before .t .given .1))
 
-no-tokens-requires : tie.Need-no-tokens-requires Inv-loop μ-loop
-no-tokens-requires c κs = search needs
-
 loop-holds : tie.Need-loop-holds Inv-loop μ-loop
 loop-holds c =
     record { low = c .before .before .pre; few = lit≤ tt; long = search needs; same = refl }
@@ -75,9 +72,6 @@ token-step-requires : tie.Need-token-step-requires Inv-loop μ-loop
 token-step-requires c κs =
     let i = line-in _ _ (c .before .loop .inv .low) _ (c .line .ensures) in
     (i .0, i .1, c .before .loop .inv .few)
-
-enum-known-t : tie.Need-enum-known-t Inv-loop μ-loop
-enum-known-t c = search needs
 
 mul-tokens : tie.Need-mul-tokens Inv-loop μ-loop
 mul-tokens c = omega (arith, taken c .0)
@@ -103,23 +97,14 @@ loop-again c =
     turned (m .before .before .loop .inv) (m .before .line .ensures)
     (gave m _ (c .before .before .t .given .1))
 
-enum-known-f : tie.Need-enum-known-f Inv-loop μ-loop
-enum-known-f c = search needs
-
 add-refuse-tokens : tie.Need-add-refuse-tokens Inv-loop μ-loop
 add-refuse-tokens c = omega (arith, c .before .before .before .before .before .loop .inv .few)
-
-refuse-tokens-requires : tie.Need-refuse-tokens-requires Inv-loop μ-loop
-refuse-tokens-requires c κs = search needs
 
 returns : tie.Need-returns Inv-loop μ-loop
 returns c =
     let m = c .before .before .before .before in
     rw (stopped (m .before .before .loop .inv) (m .before .line .ensures)
     (gave m _ (c .before .before .f .given .1))) (c .refuse-tokens .ensures)
-
-enum-told : tie.Need-enum-told Inv-loop μ-loop
-enum-told c = search needs
 
 returns-2 : tie.Need-returns-2 Inv-loop μ-loop
 returns-2 c =
@@ -139,25 +124,7 @@ returns-2 c =
     }
 
 pub tokens-from-spec : {M : Type 1} → statement M
-tokens-from-spec =
-    tie.close
-    (tie.spec
-    Inv-loop
-    μ-loop
-    no-tokens-requires
-    loop-holds
-    line-requires
-    token-step-requires
-    enum-known-t
-    mul-tokens
-    array-set-from-tokens
-    add-n
-    add-at
-    loop-less
-    loop-again
-    enum-known-f
-    add-refuse-tokens
-    refuse-tokens-requires
-    returns
-    enum-told
-    returns-2)
+tokens-from-spec = tie.close (tie.spec Inv-loop μ-loop (λ c κs. search needs) loop-holds
+    line-requires token-step-requires (λ c. search needs) mul-tokens array-set-from-tokens add-n
+    add-at loop-less loop-again (λ c. search needs) add-refuse-tokens (λ c κs. search needs) returns
+    (λ c. search needs) returns-2)

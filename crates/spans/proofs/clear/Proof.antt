@@ -23,12 +23,6 @@ mul-words c = omega (arith, c .before .before .good .0 .1)
 slice-write-words : tie.Need-slice-write-words Inv-loop μ-loop
 slice-write-words c = omega (arith, c .before .loop .inv .1 .past .long)
 
-add-i : tie.Need-add-i Inv-loop μ-loop
-add-i c = search needs
-
-loop-less : tie.Need-loop-less Inv-loop μ-loop
-loop-less c = search needs
-
 loop-again : tie.Need-loop-again Inv-loop μ-loop
 loop-again c = (search needs, cleared-more _ _ _ (omega arith) (c .before .loop .inv .1))
 
@@ -41,16 +35,5 @@ returns c =
     rw e at (c .before .loop .inv .1)
 
 pub clear-spec : {M : Type 1} → statement M
-clear-spec =
-    tie.close
-    (tie.spec
-    Inv-loop
-    μ-loop
-    loop-holds
-    mul-words
-    slice-write-words
-    add-i
-    loop-less
-    loop-again
-    same-length
-    returns)
+clear-spec = tie.close (tie.spec Inv-loop μ-loop loop-holds mul-words slice-write-words
+    (λ c. search needs) (λ c. search needs) loop-again same-length returns)

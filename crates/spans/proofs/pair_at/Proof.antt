@@ -12,18 +12,6 @@ returns : tie.Need-returns
 returns c = sym (ap (pairAt (c .before .args .n) (c .before .args .start)) (c .if1 .taken)
     ∙ pairAt-empty _ _)
 
-sub-k : tie.Need-sub-k
-sub-k c = search needs
-
-mul-result : tie.Need-mul-result
-mul-result c = search needs
-
-add-result : tie.Need-add-result
-add-result c = search needs
-
-sub-result : tie.Need-sub-result
-sub-result c = search needs
-
 bound : (c : tie.Else1) → (c .before .args .len - 1)
     * (2 * c .before .args .n + 1 - (c .before .args .len - 1))
     ≤ 64 * (2 * c .before .args .n + 1 - (c .before .args .len - 1))
@@ -48,15 +36,5 @@ returns-2 c = omega (
 )
 
 pub pair-at-spec : {M : Type 1} → statement M
-pair-at-spec =
-    tie.close
-    (tie.spec
-    returns
-    sub-k
-    mul-result
-    add-result
-    sub-result
-    mul-result-2
-    add-result-2
-    add-result-3
-    returns-2)
+pair-at-spec = tie.close (tie.spec returns (λ c. search needs) (λ c. search needs)
+    (λ c. search needs) (λ c. search needs) mul-result-2 add-result-2 add-result-3 returns-2)

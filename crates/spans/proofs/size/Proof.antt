@@ -7,9 +7,6 @@ use Rattle.spans.proofs.Places.{pairs-closed}
 use Rattle.spans.proofs.size.Statement.{statement}
 use Rattle.spans.proofs.size.Tie as tie
 
-add-result : tie.Need-add-result
-add-result c = search needs
-
 bound : (c : tie.Start) → c .args .n * (c .args .n + 1) ≤ 64 * (c .args .n + 1)
 bound c = mul-le-mul-right (c .args .n + 1) (c .pre)
 
@@ -26,4 +23,4 @@ returns : tie.Need-returns
 returns c = omega (arith, pairs-closed (c .args .n))
 
 pub size-spec : {M : Type 1} → statement M
-size-spec = tie.close (tie.spec add-result mul-result add-result-2 mul-result-2 returns)
+size-spec = tie.close (tie.spec (λ c. search needs) mul-result add-result-2 mul-result-2 returns)

@@ -4,23 +4,8 @@ use borrow.Author.Needs.{needs}
 use Rattle.survey.proofs.begins.Statement.{statement}
 use Rattle.survey.proofs.begins.Tie as tie
 
-enum-told : tie.Need-enum-told
-enum-told c = search needs
-
-enum-known-c : tie.Need-enum-known-c
-enum-known-c c = search needs
-
-covers-requires : tie.Need-covers-requires
-covers-requires c κs = search needs
-
-enum-known-c-2 : tie.Need-enum-known-c-2
-enum-known-c-2 c = search needs
-
 has-requires : tie.Need-has-requires
 has-requires c κs = rw (c .before .c2 .given .1) at (c .before .before .before .pre)
-
-enum-known-c-3 : tie.Need-enum-known-c-3
-enum-known-c-3 c = search needs
 
 one-part-requires : tie.Need-one-part-requires
 one-part-requires c κs = rw (c .before .c3 .given .1) at (c .before .before .before .pre)
@@ -38,17 +23,6 @@ returns-4 : tie.Need-returns-4
 returns-4 c = rw (c .before .before .c3 .given .1) (c .one-part .ensures)
 
 pub begins-spec : {M : Type 1} → statement M
-begins-spec =
-    tie.close
-    (tie.spec
-    enum-told
-    enum-known-c
-    covers-requires
-    enum-known-c-2
-    has-requires
-    enum-known-c-3
-    one-part-requires
-    returns
-    returns-2
-    returns-3
-    returns-4)
+begins-spec = tie.close (tie.spec (λ c. search needs) (λ c. search needs) (λ c κs. search needs)
+    (λ c. search needs) has-requires (λ c. search needs) one-part-requires returns returns-2
+    returns-3 returns-4)

@@ -37,5 +37,5 @@ loop-again : tie.Need-loop-again Inv-loop μ-loop
 loop-again c = c .before .pass .ensures .sound (c .before .before .loop .inv)
 
 pub close-spec : {M : Type 1} → statement M
-close-spec =
-    tie.close (tie.spec Inv-loop μ-loop loop-holds pass-requires returns loop-less loop-again)
+close-spec = tie.close (tie.spec Inv-loop μ-loop loop-holds pass-requires returns loop-less
+    loop-again)

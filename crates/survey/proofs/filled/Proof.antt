@@ -4,20 +4,8 @@ use borrow.Author.Needs.{needs}
 use Rattle.survey.proofs.filled.Statement.{statement}
 use Rattle.survey.proofs.filled.Tie as tie
 
-enum-told : tie.Need-enum-told
-enum-told c = search needs
-
-enum-known-c : tie.Need-enum-known-c
-enum-known-c c = search needs
-
-enum-known-c-2 : tie.Need-enum-known-c-2
-enum-known-c-2 c = search needs
-
 has-requires : tie.Need-has-requires
 has-requires c κs = rw (c .before .c2 .given .1) at (c .before .before .before .pre)
-
-enum-known-c-3 : tie.Need-enum-known-c-3
-enum-known-c-3 c = search needs
 
 one-part-requires : tie.Need-one-part-requires
 one-part-requires c κs = rw (c .before .c3 .given .1) at (c .before .before .before .pre)
@@ -35,16 +23,5 @@ returns-4 : tie.Need-returns-4
 returns-4 c = rw (c .before .before .c3 .given .1) (c .one-part .ensures)
 
 pub filled-spec : {M : Type 1} → statement M
-filled-spec =
-    tie.close
-    (tie.spec
-    enum-told
-    enum-known-c
-    enum-known-c-2
-    has-requires
-    enum-known-c-3
-    one-part-requires
-    returns
-    returns-2
-    returns-3
-    returns-4)
+filled-spec = tie.close (tie.spec (λ c. search needs) (λ c. search needs) (λ c. search needs)
+    has-requires (λ c. search needs) one-part-requires returns returns-2 returns-3 returns-4)

@@ -4,14 +4,8 @@ use borrow.Author.Needs.{needs}
 use Rattle.survey.proofs.grow_begins.Statement.{statement}
 use Rattle.survey.proofs.grow_begins.Tie as tie
 
-begins-requires : tie.Need-begins-requires
-begins-requires c κs = search needs
-
-with-if-requires : tie.Need-with-if-requires
-with-if-requires c κs = search needs
-
 returns : tie.Need-returns
 returns c = grown-turn (grown-if (c .before .begins .ensures) (c .with-if .ensures))
 
 pub grow-begins-spec : {M : Type 1} → statement M
-grow-begins-spec = tie.close (tie.spec begins-requires with-if-requires returns)
+grow-begins-spec = tie.close (tie.spec (λ c κs. search needs) (λ c κs. search needs) returns)

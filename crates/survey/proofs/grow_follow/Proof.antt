@@ -4,18 +4,6 @@ use borrow.Author.Needs.{needs}
 use Rattle.survey.proofs.grow_follow.Statement.{statement}
 use Rattle.survey.proofs.grow_follow.Tie as tie
 
-under-requires : tie.Need-under-requires
-under-requires c κs = search needs
-
-has-requires : tie.Need-has-requires
-has-requires c κs = search needs
-
-either-requires : tie.Need-either-requires
-either-requires c κs = search needs
-
-with-followers-requires : tie.Need-with-followers-requires
-with-followers-requires c κs = search needs
-
 returns : tie.Need-returns
 returns c =
     let h = c .before .before in
@@ -31,12 +19,5 @@ returns-2 c =
     grown-not (y .isnt (c .if1 .left))
 
 pub grow-follow-spec : {M : Type 1} → statement M
-grow-follow-spec =
-    tie.close
-    (tie.spec
-    under-requires
-    has-requires
-    either-requires
-    with-followers-requires
-    returns
-    returns-2)
+grow-follow-spec = tie.close (tie.spec (λ c κs. search needs) (λ c κs. search needs)
+    (λ c κs. search needs) (λ c κs. search needs) returns returns-2)

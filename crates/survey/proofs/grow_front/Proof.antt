@@ -4,12 +4,6 @@ use borrow.Author.Needs.{needs}
 use Rattle.survey.proofs.grow_front.Statement.{statement}
 use Rattle.survey.proofs.grow_front.Tie as tie
 
-under-requires : tie.Need-under-requires
-under-requires c κs = search needs
-
-with-heads-requires : tie.Need-with-heads-requires
-with-heads-requires c κs = search needs
-
 returns : tie.Need-returns
 returns c =
     grown-where (c .before .before .under .ensures .is (c .before .if1 .taken))
@@ -19,4 +13,5 @@ returns-2 : tie.Need-returns-2
 returns-2 c = grown-not (c .before .under .ensures .isnt (c .if1 .left))
 
 pub grow-front-spec : {M : Type 1} → statement M
-grow-front-spec = tie.close (tie.spec under-requires with-heads-requires returns returns-2)
+grow-front-spec = tie.close (tie.spec (λ c κs. search needs) (λ c κs. search needs) returns
+    returns-2)

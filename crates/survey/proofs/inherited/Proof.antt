@@ -30,6 +30,5 @@ returns c =
     }
 
 pub inherited-spec : {M : Type 1} → statement M
-inherited-spec =
-    tie.close
-    (tie.spec at-most-requires at-most-requires-2 at-most-requires-3 at-most-requires-4 returns)
+inherited-spec = tie.close (tie.spec at-most-requires at-most-requires-2 at-most-requires-3
+    at-most-requires-4 returns)

@@ -48,12 +48,6 @@ element-copy-out-rule c = omega (arith, c .before .before .pre .0 .few)
 grow-requires : tie.Need-grow-requires Inv-loop μ-loop
 grow-requires c κs = small-at (c .before .before .before .pre .0) _ (rule (c .before))
 
-add-p : tie.Need-add-p Inv-loop μ-loop
-add-p c = omega arith
-
-loop-less : tie.Need-loop-less Inv-loop μ-loop
-loop-less c = omega arith
-
 loop-again : tie.Need-loop-again Inv-loop μ-loop
 loop-again c =
     let z = c .before .before .before .before in (
@@ -68,16 +62,5 @@ returns c =
     rw e at (c .before .loop .inv .1)
 
 pub pass-spec : {M : Type 1} → statement M
-pass-spec =
-    tie.close
-    (tie.spec
-    Inv-loop
-    μ-loop
-    loop-holds
-    mul-rule
-    element-copy-out-rule
-    grow-requires
-    add-p
-    loop-less
-    loop-again
-    returns)
+pass-spec = tie.close (tie.spec Inv-loop μ-loop loop-holds mul-rule element-copy-out-rule
+    grow-requires (λ c. omega arith) (λ c. omega arith) loop-again returns)

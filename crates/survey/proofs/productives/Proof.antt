@@ -4,11 +4,8 @@ use borrow.Author.Needs.{needs}
 use Rattle.survey.proofs.productives.Statement.{statement}
 use Rattle.survey.proofs.productives.Tie as tie
 
-close-requires : tie.Need-close-requires
-close-requires c κs = search needs
-
 returns : tie.Need-returns
 returns c = filled-exact (c .before .pre .1) (c .close .ensures)
 
 pub productives-spec : {M : Type 1} → statement M
-productives-spec = tie.close (tie.spec close-requires returns)
+productives-spec = tie.close (tie.spec (λ c κs. search needs) returns)

@@ -5,9 +5,6 @@ use borrow.Author.Needs.{needs}
 use Rattle.survey.proofs.under.Statement.{statement}
 use Rattle.survey.proofs.under.Tie as tie
 
-has-requires : tie.Need-has-requires
-has-requires c κs = search needs
-
 returns : tie.Need-returns
 returns c = holds (inl (c .if1 .taken))
 
@@ -16,4 +13,4 @@ returns-2 c =
     says-iff inr (⊎-elim (λ e. absurd (c .if1 .left e)) (λ i. i)) (c .before .has .ensures)
 
 pub under-spec : {M : Type 1} → statement M
-under-spec = tie.close (tie.spec has-requires returns returns-2)
+under-spec = tie.close (tie.spec (λ c κs. search needs) returns returns-2)

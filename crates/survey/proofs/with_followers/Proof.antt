@@ -4,18 +4,6 @@ use borrow.Author.Needs.{needs}
 use Rattle.survey.proofs.with_followers.Statement.{statement}
 use Rattle.survey.proofs.with_followers.Tie as tie
 
-enum-told : tie.Need-enum-told
-enum-told c = search needs
-
-enum-told-2 : tie.Need-enum-told-2
-enum-told-2 c = search needs
-
-enum-told-3 : tie.Need-enum-told-3
-enum-told-3 c = search needs
-
-enum-known-c : tie.Need-enum-known-c
-enum-known-c c = search needs
-
 with-second-requires : tie.Need-with-second-requires
 with-second-requires c κs = rw (c .before .c .given .1) at (c .before .before .before .pre)
 
@@ -32,15 +20,6 @@ returns-4 : tie.Need-returns-4
 returns-4 c = rw (c .before .before .c .given .1) (c .with-second .ensures)
 
 pub with-followers-spec : {M : Type 1} → statement M
-with-followers-spec =
-    tie.close
-    (tie.spec
-    enum-told
-    enum-told-2
-    enum-told-3
-    enum-known-c
-    with-second-requires
-    returns
-    returns-2
-    returns-3
+with-followers-spec = tie.close (tie.spec (λ c. search needs) (λ c. search needs)
+    (λ c. search needs) (λ c. search needs) with-second-requires returns returns-2 returns-3
     returns-4)

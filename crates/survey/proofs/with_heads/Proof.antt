@@ -4,20 +4,8 @@ use borrow.Author.Needs.{needs}
 use Rattle.survey.proofs.with_heads.Statement.{statement}
 use Rattle.survey.proofs.with_heads.Tie as tie
 
-enum-told : tie.Need-enum-told
-enum-told c = search needs
-
-enum-told-2 : tie.Need-enum-told-2
-enum-told-2 c = search needs
-
-enum-known-c : tie.Need-enum-known-c
-enum-known-c c = search needs
-
 with-child-requires : tie.Need-with-child-requires
 with-child-requires c κs = rw (c .before .c .given .1) at (c .before .before .before .pre)
-
-enum-known-c-2 : tie.Need-enum-known-c-2
-enum-known-c-2 c = search needs
 
 with-front-requires : tie.Need-with-front-requires
 with-front-requires c κs = rw (c .before .c2 .given .1) at (c .before .before .before .pre)
@@ -35,16 +23,6 @@ returns-4 : tie.Need-returns-4
 returns-4 c = rw (c .before .before .c2 .given .1) (c .with-front .ensures)
 
 pub with-heads-spec : {M : Type 1} → statement M
-with-heads-spec =
-    tie.close
-    (tie.spec
-    enum-told
-    enum-told-2
-    enum-known-c
-    with-child-requires
-    enum-known-c-2
-    with-front-requires
-    returns
-    returns-2
-    returns-3
+with-heads-spec = tie.close (tie.spec (λ c. search needs) (λ c. search needs) (λ c. search needs)
+    with-child-requires (λ c. search needs) with-front-requires returns returns-2 returns-3
     returns-4)

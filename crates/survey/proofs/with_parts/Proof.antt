@@ -5,24 +5,12 @@ use borrow.Author.Needs.{needs}
 use Rattle.survey.proofs.with_parts.Statement.{statement}
 use Rattle.survey.proofs.with_parts.Tie as tie
 
-enum-told : tie.Need-enum-told
-enum-told c = search needs
-
-enum-told-2 : tie.Need-enum-told-2
-enum-told-2 c = search needs
-
-enum-known-c : tie.Need-enum-known-c
-enum-known-c c = search needs
-
 worded-requires : tie.Need-worded-requires
 worded-requires c κs = rw (c .before .c .given .1) at (c .before .before .before .pre)
 
 with-if-requires : tie.Need-with-if-requires
 with-if-requires c κs =
     rw (c .before .before .c .given .1) at (c .before .before .before .before .pre)
-
-enum-known-c-2 : tie.Need-enum-known-c-2
-enum-known-c-2 c = search needs
 
 with-both-requires : tie.Need-with-both-requires
 with-both-requires c κs = rw (c .before .c2 .given .1) at (c .before .before .before .pre)
@@ -42,17 +30,6 @@ returns-4 : tie.Need-returns-4
 returns-4 c = rw (c .before .before .c2 .given .1) (c .with-both .ensures)
 
 pub with-parts-spec : {M : Type 1} → statement M
-with-parts-spec =
-    tie.close
-    (tie.spec
-    enum-told
-    enum-told-2
-    enum-known-c
-    worded-requires
-    with-if-requires
-    enum-known-c-2
-    with-both-requires
-    returns
-    returns-2
-    returns-3
-    returns-4)
+with-parts-spec = tie.close (tie.spec (λ c. search needs) (λ c. search needs) (λ c. search needs)
+    worded-requires with-if-requires (λ c. search needs) with-both-requires returns returns-2
+    returns-3 returns-4)

@@ -4,18 +4,6 @@ use borrow.Author.Needs.{needs}
 use Rattle.survey.proofs.with_second.Statement.{statement}
 use Rattle.survey.proofs.with_second.Tie as tie
 
-has-requires : tie.Need-has-requires
-has-requires c κs = search needs
-
-has-requires-2 : tie.Need-has-requires-2
-has-requires-2 c κs = search needs
-
-both-requires : tie.Need-both-requires
-both-requires c κs = search needs
-
-with-if-requires : tie.Need-with-if-requires
-with-if-requires c κs = search needs
-
 returns : tie.Need-returns
 returns c =
     let y = says-both (c .before .both .ensures) (c .before .before .before .has .ensures)
@@ -23,5 +11,5 @@ returns c =
     grown-if y (c .with-if .ensures)
 
 pub with-second-spec : {M : Type 1} → statement M
-with-second-spec =
-    tie.close (tie.spec has-requires has-requires-2 both-requires with-if-requires returns)
+with-second-spec = tie.close (tie.spec (λ c κs. search needs) (λ c κs. search needs)
+    (λ c κs. search needs) (λ c κs. search needs) returns)

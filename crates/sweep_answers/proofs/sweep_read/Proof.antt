@@ -6,15 +6,6 @@ use borrow.Author.Needs.{needs}
 use Rattle.sweep_answers.proofs.sweep_read.Statement.{statement}
 use Rattle.sweep_answers.proofs.sweep_read.Tie as tie
 
-enum-known-o : tie.Need-enum-known-o
-enum-known-o c = search needs
-
-refused-sweep-requires : tie.Need-refused-sweep-requires
-refused-sweep-requires c κs = search needs
-
-enum-told : tie.Need-enum-told
-enum-told c = search needs
-
 swept-requires : tie.Need-swept-requires
 swept-requires c κs = let e = c .before .before .before in let r = e .before .before .before .pre in
     (r .formed (e .enum-told .given .1), r .exact)
@@ -24,9 +15,6 @@ returns c =
     let s = c .before .before .before .before .before in
     refusing (rules-not (s .pre) (c .before .before .o .given .1)) (c .refused-sweep .ensures) refl
 
-same-length : tie.Need-same-length
-same-length c = search needs
-
 returns-2 : tie.Need-returns-2
 returns-2 c =
     let e = c .before .before .before .before .before .before in
@@ -34,13 +22,5 @@ returns-2 c =
     (c .before .before .swept .ensures)
 
 pub sweep-read-spec : {M : Type 1} → statement M
-sweep-read-spec =
-    tie.close
-    (tie.spec
-    enum-known-o
-    refused-sweep-requires
-    enum-told
-    swept-requires
-    returns
-    same-length
-    returns-2)
+sweep-read-spec = tie.close (tie.spec (λ c. search needs) (λ c κs. search needs) (λ c. search needs)
+    swept-requires returns (λ c. search needs) returns-2)

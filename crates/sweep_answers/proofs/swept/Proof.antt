@@ -9,29 +9,11 @@ use borrow.Author.Needs.{needs}
 use Rattle.sweep_answers.proofs.swept.Statement.{statement}
 use Rattle.sweep_answers.proofs.swept.Tie as tie
 
-refused-sweep-requires : tie.Need-refused-sweep-requires
-refused-sweep-requires c κs = search needs
-
 returns : tie.Need-returns
 returns c = bound (inl (omega arith)) refl (c .refused-sweep .ensures) refl
 
-refused-sweep-requires-2 : tie.Need-refused-sweep-requires-2
-refused-sweep-requires-2 c κs = search needs
-
 returns-2 : tie.Need-returns-2
 returns-2 c = bound (inr (omega arith)) refl (c .refused-sweep2 .ensures) refl
-
-terminals-requires : tie.Need-terminals-requires
-terminals-requires c κs = search needs
-
-terminal-count-requires : tie.Need-terminal-count-requires
-terminal-count-requires c κs = search needs
-
-within-limit-requires : tie.Need-within-limit-requires
-within-limit-requires c κs = search needs
-
-refused-sweep-requires-3 : tie.Need-refused-sweep-requires-3
-refused-sweep-requires-3 c κs = search needs
 
 returns-3 : tie.Need-returns-3
 returns-3 c =
@@ -39,12 +21,6 @@ returns-3 c =
     let e = m .terminal-count .ensures .terminals _ (m .before .terminals .ensures) in
     let l = c .before .before .within-limit .ensures .isnt (not-true _ (c .before .if3 .taken)) in
     many (omega arith) (omega arith) (rw e at (not-le _ _ l)) refl (c .refused-sweep3 .ensures) refl
-
-size-requires : tie.Need-size-requires
-size-requires c κs = search needs
-
-refused-sweep-requires-4 : tie.Need-refused-sweep-requires-4
-refused-sweep-requires-4 c κs = search needs
 
 returns-4 : tie.Need-returns-4
 returns-4 c =
@@ -75,28 +51,8 @@ taken-requires c κs =
       ),
     )
 
-same-length : tie.Need-same-length
-same-length c = search needs
-
-returns-5 : tie.Need-returns-5
-returns-5 c = search needs
-
 pub swept-spec : {M : Type 1} → statement M
-swept-spec =
-    tie.close
-    (tie.spec
-    refused-sweep-requires
-    returns
-    refused-sweep-requires-2
-    returns-2
-    terminals-requires
-    terminal-count-requires
-    within-limit-requires
-    refused-sweep-requires-3
-    returns-3
-    size-requires
-    refused-sweep-requires-4
-    returns-4
-    taken-requires
-    same-length
-    returns-5)
+swept-spec = tie.close (tie.spec (λ c κs. search needs) returns (λ c κs. search needs) returns-2
+    (λ c κs. search needs) (λ c κs. search needs) (λ c κs. search needs) (λ c κs. search needs)
+    returns-3 (λ c κs. search needs) (λ c κs. search needs) returns-4 taken-requires
+    (λ c. search needs) (λ c. search needs))

@@ -9,17 +9,11 @@ sweep-rules-requires c κs =
     let a = c .before .before in
     (bounded (a .pre .1 .1), (a .pre .0, (a .pre .1 .0, a .pre .1 .1 .enough)))
 
-same-length : tie.Need-same-length
-same-length c = search needs
-
 returns : tie.Need-returns
 returns c =
     let z = c .before .before .before .before in
     swept-clear _ (z .before .before .before .pre .1 .1) (z .sweep-rules .ensures .0)
     (c .if1 .taken) (z .sweep-rules .ensures .1)
-
-same-length-2 : tie.Need-same-length-2
-same-length-2 c = search needs
 
 returns-2 : tie.Need-returns-2
 returns-2 c =
@@ -28,4 +22,5 @@ returns-2 c =
     (z .sweep-rules .ensures .1)
 
 pub taken-spec : {M : Type 1} → statement M
-taken-spec = tie.close (tie.spec sweep-rules-requires same-length returns same-length-2 returns-2)
+taken-spec = tie.close (tie.spec sweep-rules-requires (λ c. search needs) returns
+    (λ c. search needs) returns-2)

@@ -14,23 +14,11 @@ slice-aggregate-same : tie.Need-slice-aggregate-same
 slice-aggregate-same c =
     sym (length-take-le 6 (c .before .before .before .args .s .now) (search needs))
 
-slice-aggregate-same-2 : tie.Need-slice-aggregate-same-2
-slice-aggregate-same-2 c = search needs
-
-same-requires : tie.Need-same-requires
-same-requires c κs = search needs
-
 returns-2 : tie.Need-returns-2
 returns-2 c =
     let z = c .before in
     bound-names (c .before .before .before .before .before .before .args .s .now) (search needs)
     (sym (z .same .ensures) ∙ not-true _ (c .if2 .taken))
-
-sub-end : tie.Need-sub-end
-sub-end c = search needs
-
-shared-slice-read-if3 : tie.Need-shared-slice-read-if3
-shared-slice-read-if3 c = search needs
 
 returns-3 : tie.Need-returns-3
 returns-3 c =
@@ -38,18 +26,6 @@ returns-3 c =
     bound-open (c .before .before .before .before .before .before .before .before .args .s .now)
     (search needs) (sym (z .same .ensures) ∙ not-false _ (c .before .before .if2 .left))
     (c .if3 .taken)
-
-sub-numeral : tie.Need-sub-numeral
-sub-numeral c = search needs
-
-part-numeral-start : tie.Need-part-numeral-start
-part-numeral-start c = search needs
-
-part-numeral-end : tie.Need-part-numeral-end
-part-numeral-end c = search needs
-
-numeral-requires : tie.Need-numeral-requires
-numeral-requires c κs = search needs
 
 returns-4 : tie.Need-returns-4
 returns-4 c =
@@ -61,19 +37,6 @@ returns-4 c =
     (c .before .before .if3 .left)
 
 pub bound-of-spec : {M : Type 1} → statement M
-bound-of-spec =
-    tie.close
-    (tie.spec
-    returns
-    slice-aggregate-same
-    slice-aggregate-same-2
-    same-requires
-    returns-2
-    sub-end
-    shared-slice-read-if3
-    returns-3
-    sub-numeral
-    part-numeral-start
-    part-numeral-end
-    numeral-requires
-    returns-4)
+bound-of-spec = tie.close (tie.spec returns slice-aggregate-same (λ c. search needs)
+    (λ c κs. search needs) returns-2 (λ c. search needs) (λ c. search needs) returns-3
+    (λ c. search needs) (λ c. search needs) (λ c. search needs) (λ c κs. search needs) returns-4)

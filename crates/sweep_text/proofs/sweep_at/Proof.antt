@@ -12,38 +12,8 @@ use Rattle.sweep_text.proofs.sweep_at.Statement.{statement}
 use Rattle.sweep_text.proofs.sweep_at.Tie as tie
 use Rattle.sweep_text.specs.Swept.{unbound, bound}
 
-add-j : tie.Need-add-j
-add-j c = search needs
-
 slice-aggregate-bound-of : tie.Need-slice-aggregate-bound-of
 slice-aggregate-bound-of c = sym (length-take-le _ _ (search needs))
-
-bound-of-requires : tie.Need-bound-of-requires
-bound-of-requires c κs = search needs
-
-enum-told : tie.Need-enum-told
-enum-told c = search needs
-
-put-refusal-requires : tie.Need-put-refusal-requires
-put-refusal-requires c κs = search needs
-
-enum-known-bound : tie.Need-enum-known-bound
-enum-known-bound c = search needs
-
-sub-sweep-sheet : tie.Need-sub-sweep-sheet
-sub-sweep-sheet c = search needs
-
-part-sweep-sheet-start : tie.Need-part-sweep-sheet-start
-part-sweep-sheet-start c = search needs
-
-part-sweep-sheet-end : tie.Need-part-sweep-sheet-end
-part-sweep-sheet-end c = search needs
-
-sweep-sheet-requires : tie.Need-sweep-sheet-requires
-sweep-sheet-requires c κs = search needs
-
-same-length : tie.Need-same-length
-same-length c = search needs
 
 returns : tie.Need-returns
 returns c =
@@ -51,9 +21,6 @@ returns c =
     let m = z .before .before in
     let b = m .before .before .bound-of .ensures in
     unbound (number-was _ (rw (m .enum-told .given .1) at b)) (z .put-refusal .ensures)
-
-same-length-2 : tie.Need-same-length-2
-same-length-2 c = search needs
 
 returns-2 : tie.Need-returns-2
 returns-2 c =
@@ -68,20 +35,7 @@ returns-2 c =
     bound (number-was _ (rw (p .bound .given .1) at b)) (rw e at (z .sweep-sheet .ensures))
 
 pub sweep-at-spec : {M : Type 1} → statement M
-sweep-at-spec =
-    tie.close
-    (tie.spec
-    add-j
-    slice-aggregate-bound-of
-    bound-of-requires
-    enum-told
-    put-refusal-requires
-    enum-known-bound
-    sub-sweep-sheet
-    part-sweep-sheet-start
-    part-sweep-sheet-end
-    sweep-sheet-requires
-    same-length
-    returns
-    same-length-2
-    returns-2)
+sweep-at-spec = tie.close (tie.spec (λ c. search needs) slice-aggregate-bound-of
+    (λ c κs. search needs) (λ c. search needs) (λ c κs. search needs) (λ c. search needs)
+    (λ c. search needs) (λ c. search needs) (λ c. search needs) (λ c κs. search needs)
+    (λ c. search needs) returns (λ c. search needs) returns-2)

@@ -11,18 +11,6 @@ use borrow.Author.Needs.{needs}
 use Rattle.sweep_text.proofs.sweep_sheet.Statement.{statement}
 use Rattle.sweep_text.proofs.sweep_sheet.Tie as tie
 
-read-rules-requires : tie.Need-read-rules-requires
-read-rules-requires c κs = search needs
-
-slice-aggregate-sweep-read : tie.Need-slice-aggregate-sweep-read
-slice-aggregate-sweep-read c = search needs
-
-sweep-read-requires : tie.Need-sweep-read-requires
-sweep-read-requires c κs = search needs
-
-put-head-requires : tie.Need-put-head-requires
-put-head-requires c κs = search needs
-
 put-sentence-requires : tie.Need-put-sentence-requires
 put-sentence-requires c κs =
     let h = c .before .before .before in
@@ -30,9 +18,6 @@ put-sentence-requires c κs =
     let s = z .before .before .before .before .before in
     let f = sweep-few (z .sweep-read .ensures) in
     (omega arith, omega (arith, h .put-head .ensures .1, h .put-head .ensures .0 .long, s .pre))
-
-same-length : tie.Need-same-length
-same-length c = search needs
 
 returns : tie.Need-returns
 returns c =
@@ -50,13 +35,5 @@ returns c =
     }
 
 pub sweep-sheet-spec : {M : Type 1} → statement M
-sweep-sheet-spec =
-    tie.close
-    (tie.spec
-    read-rules-requires
-    slice-aggregate-sweep-read
-    sweep-read-requires
-    put-head-requires
-    put-sentence-requires
-    same-length
-    returns)
+sweep-sheet-spec = tie.close (tie.spec (λ c κs. search needs) (λ c. search needs)
+    (λ c κs. search needs) (λ c κs. search needs) put-sentence-requires (λ c. search needs) returns)

@@ -6,23 +6,8 @@ use borrow.Author.Needs.{needs}
 use Rattle.sweep_text.proofs.sweep_text.Statement.{statement}
 use Rattle.sweep_text.proofs.sweep_text.Tie as tie
 
-put-refusal-requires : tie.Need-put-refusal-requires
-put-refusal-requires c κs = search needs
-
 returns : tie.Need-returns
 returns c = record { text = _; is = long (search needs) refl; wrote = c .put-refusal .ensures }
-
-parting-requires : tie.Need-parting-requires
-parting-requires c κs = search needs
-
-enum-told : tie.Need-enum-told
-enum-told c = search needs
-
-put-refusal-requires-2 : tie.Need-put-refusal-requires-2
-put-refusal-requires-2 c κs = search needs
-
-enum-known-place : tie.Need-enum-known-place
-enum-known-place c = search needs
 
 sweep-at-requires : tie.Need-sweep-at-requires
 sweep-at-requires c κs =
@@ -48,15 +33,6 @@ returns-3 c =
     swept-printed (search needs) ((rw (p .place .given .1) at s) .1) (c .sweep-at .ensures)
 
 pub sweep-text-spec : {M : Type 1} → statement M
-sweep-text-spec =
-    tie.close
-    (tie.spec
-    put-refusal-requires
-    returns
-    parting-requires
-    enum-told
-    put-refusal-requires-2
-    enum-known-place
-    sweep-at-requires
-    returns-2
+sweep-text-spec = tie.close (tie.spec (λ c κs. search needs) returns (λ c κs. search needs)
+    (λ c. search needs) (λ c κs. search needs) (λ c. search needs) sweep-at-requires returns-2
     returns-3)

@@ -19,9 +19,6 @@ use Rattle.sweeping.proofs.counted.Statement.{statement}
 use Rattle.sweeping.proofs.counted.Tie as tie
 use Rattle.tried_count.specs.Searched.{answerOf}
 
-terminals-requires : tie.Need-terminals-requires
-terminals-requires c κs = search needs
-
 -- the lengths up to k
 within : {g : Rules} {s k : ℕ} → LengthsOf g s → Bounded g k → (n : ℕ) → n ≤ k
     → In s n ↔ CanHave g 0 n
@@ -51,4 +48,4 @@ returns c =
     (answerOf (a .args .n) (cells (a .args .c) 0 (a .args .n))) (c .tried .ensures)
 
 pub counted-spec : {M : Type 1} → statement M
-counted-spec = tie.close (tie.spec terminals-requires tried-requires returns)
+counted-spec = tie.close (tie.spec (λ c κs. search needs) tried-requires returns)

@@ -9,24 +9,6 @@ use Rattle.sweeping.proofs.Answers.{searched-over, admits-over}
 use Rattle.sweeping.proofs.find.Statement.{statement}
 use Rattle.sweeping.proofs.find.Tie as tie
 
-terminals-requires : tie.Need-terminals-requires
-terminals-requires c κs = search needs
-
-needed-requires : tie.Need-needed-requires
-needed-requires c κs = search needs
-
-first-from-requires : tie.Need-first-from-requires
-first-from-requires c κs = search needs
-
-enum-known-f : tie.Need-enum-known-f
-enum-known-f c = search needs
-
-enum-told : tie.Need-enum-told
-enum-told c = search needs
-
-nothing-requires : tie.Need-nothing-requires
-nothing-requires c κs = search needs
-
 returns : tie.Need-returns
 returns c =
     let z = c .before .before .before .before .before .before .before in (
@@ -40,9 +22,6 @@ returns c =
       past-same _ _,
     )
 
-reachable-requires : tie.Need-reachable-requires
-reachable-requires c κs = search needs
-
 find-among-requires : tie.Need-find-among-requires
 find-among-requires c κs =
     let z = c .before .before .before .before .before .before .before .before .before in
@@ -55,9 +34,6 @@ find-among-requires c κs =
         (r .1, (admits-over (λ w. two-trimmed (r .0)) (z .pre .1 .1 .0), z .pre .1 .1 .1)),
       ),
     )
-
-same-length : tie.Need-same-length
-same-length c = search needs
 
 returns-2 : tie.Need-returns-2
 returns-2 c =
@@ -77,5 +53,6 @@ returns-2 c =
     )
 
 pub find-spec : {M : Type 1} → statement M
-find-spec = tie.close (tie.spec terminals-requires needed-requires first-from-requires enum-known-f
-    enum-told nothing-requires returns reachable-requires find-among-requires same-length returns-2)
+find-spec = tie.close (tie.spec (λ c κs. search needs) (λ c κs. search needs) (λ c κs. search needs)
+    (λ c. search needs) (λ c. search needs) (λ c κs. search needs) returns (λ c κs. search needs)
+    find-among-requires (λ c. search needs) returns-2)

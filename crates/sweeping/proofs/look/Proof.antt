@@ -26,12 +26,6 @@ has-two-requires : tie.Need-has-two-requires
 has-two-requires c κs = let z = c .before .before .before .before .before .before .before in
     ((z .pre .0 .0, z .pre .0 .2), z .pre .1)
 
-same-length : tie.Need-same-length
-same-length c = search needs
-
-same-length-2 : tie.Need-same-length-2
-same-length-2 c = search needs
-
 returns-2 : tie.Need-returns-2
 returns-2 c = let h = c .before .before .before .before .has-two .ensures in (
   (
@@ -44,12 +38,6 @@ returns-2 c = let h = c .before .before .before .before .has-two .ensures in (
 
 refutes-requires : tie.Need-refutes-requires
 refutes-requires c κs = c .before .before .before .before .before .before .before .pre
-
-same-length-3 : tie.Need-same-length-3
-same-length-3 c = search needs
-
-same-length-4 : tie.Need-same-length-4
-same-length-4 c = search needs
 
 returns-3 : tie.Need-returns-3
 returns-3 c = let h = c .before .before .before .before .refutes .ensures in
@@ -65,6 +53,6 @@ returns-3 c = let h = c .before .before .before .before .refutes .ensures in
     )
 
 pub look-spec : {M : Type 1} → statement M
-look-spec =
-    tie.close (tie.spec earlier-twin-requires returns has-two-requires same-length same-length-2
-    returns-2 refutes-requires same-length-3 same-length-4 returns-3)
+look-spec = tie.close (tie.spec earlier-twin-requires returns has-two-requires (λ c. search needs)
+    (λ c. search needs) returns-2 refutes-requires (λ c. search needs) (λ c. search needs)
+    returns-3)

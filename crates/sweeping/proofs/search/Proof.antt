@@ -49,9 +49,6 @@ search-holds c = (
   refl,
 )
 
-nothing-requires : tie.Need-nothing-requires Inv-loop μ-loop Inv-search μ-search
-nothing-requires c κs = search needs
-
 cast-has : tie.Need-cast-has Inv-loop μ-loop Inv-search μ-search
 cast-has c = omega (arith, c .if1 .left, c .before .before .before .before .before .pre .0 .1)
 
@@ -436,8 +433,8 @@ returns-2 c =
     )
 
 pub search-spec : {M : Type 1} → statement M
-search-spec = tie.close (tie.spec Inv-loop μ-loop Inv-search μ-search search-holds nothing-requires
-    cast-has has-requires add-n search-less search-again open-sheet-requires first-requires
-    loop-holds look-requires successor-requires loop-less loop-again add-b loop-less-2
-    loop-again-2 add-n-2 search-less-2 search-again-2 same-length same-length-2 returns
+search-spec = tie.close (tie.spec Inv-loop μ-loop Inv-search μ-search search-holds
+    (λ c κs. search needs) cast-has has-requires add-n search-less search-again open-sheet-requires
+    first-requires loop-holds look-requires successor-requires loop-less loop-again add-b
+    loop-less-2 loop-again-2 add-n-2 search-less-2 search-again-2 same-length same-length-2 returns
     same-length-3 same-length-4 returns-2)

@@ -6,21 +6,12 @@ use Rattle.sweeping.proofs.Answers.{found-low, swept-of, all-cleared, l
 use Rattle.sweeping.proofs.sweep_rules.Statement.{statement}
 use Rattle.sweeping.proofs.sweep_rules.Tie as tie
 
-element-copy-out-lengths : tie.Need-element-copy-out-lengths
-element-copy-out-lengths c = search needs
-
 find-requires : tie.Need-find-requires
 find-requires c κs =
     let a = c .before .before .before in (
       (a .pre .0 .low, a .pre .0 .high),
       (a .pre .1 .0, (admits-of (lengths-of (a .pre .1 .1 .0)), a .pre .1 .1 .1)),
     )
-
-size-requires : tie.Need-size-requires
-size-requires c κs = search needs
-
-clear-requires : tie.Need-clear-requires
-clear-requires c κs = search needs
 
 counted-requires : tie.Need-counted-requires
 counted-requires c κs =
@@ -34,9 +25,6 @@ sentence-requires c κs =
     found-low (cells-size (f .find .result .candidate) 0 (f .find .result .length))
     (f .before .before .before .before .pre .0 .high) (f .find .ensures .0)
 
-same-length : tie.Need-same-length
-same-length c = search needs
-
 returns : tie.Need-returns
 returns c =
     let f = c .before .before .before .before .before .before .before .before .before .before in
@@ -49,14 +37,5 @@ returns c =
     )
 
 pub sweep-rules-spec : {M : Type 1} → statement M
-sweep-rules-spec =
-    tie.close
-    (tie.spec
-    element-copy-out-lengths
-    find-requires
-    size-requires
-    clear-requires
-    counted-requires
-    sentence-requires
-    same-length
-    returns)
+sweep-rules-spec = tie.close (tie.spec (λ c. search needs) find-requires (λ c κs. search needs)
+    (λ c κs. search needs) counted-requires sentence-requires (λ c. search needs) returns)

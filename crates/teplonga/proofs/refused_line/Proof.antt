@@ -9,12 +9,6 @@ use Rattle.sheets.proofs.Handed.{held-same, line-in}
 use Rattle.teplonga.proofs.refused_line.Statement.{statement}
 use Rattle.teplonga.proofs.refused_line.Tie as tie
 
-read-rules-requires : tie.Need-read-rules-requires
-read-rules-requires c κs = search needs
-
-read-tokens-requires : tie.Need-read-tokens-requires
-read-tokens-requires c κs = search needs
-
 refused-read-requires : tie.Need-refused-read-requires
 refused-read-requires c κs =
     let z = c .before .before .before .before .args in
@@ -37,5 +31,5 @@ returns c =
     (c .refused-read .ensures)
 
 pub refused-line-spec : {M : Type 1} → statement M
-refused-line-spec =
-    tie.close (tie.spec read-rules-requires read-tokens-requires refused-read-requires returns)
+refused-line-spec = tie.close (tie.spec (λ c κs. search needs) (λ c κs. search needs)
+    refused-read-requires returns)

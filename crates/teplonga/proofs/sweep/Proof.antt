@@ -4,24 +4,10 @@ use borrow.Author.Needs.{needs}
 use Rattle.teplonga.proofs.sweep.Statement.{statement}
 use Rattle.teplonga.proofs.sweep.Tie as tie
 
-read-rules-requires : tie.Need-read-rules-requires
-read-rules-requires c κs = search needs
-
-sweep-read-requires : tie.Need-sweep-read-requires
-sweep-read-requires c κs = search needs
-
-same-length : tie.Need-same-length
-same-length c = search needs
-
 returns : tie.Need-returns
 returns c = sweep-by (c .before .before .before .before .read-rules .ensures .is)
     (c .before .before .sweep-read .ensures)
 
 pub sweep-spec : {M : Type 1} → statement M
-sweep-spec =
-    tie.close
-    (tie.spec
-    read-rules-requires
-    sweep-read-requires
-    same-length
+sweep-spec = tie.close (tie.spec (λ c κs. search needs) (λ c κs. search needs) (λ c. search needs)
     returns)

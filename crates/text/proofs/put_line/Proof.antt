@@ -6,9 +6,6 @@ use borrow.Author.Needs.{needs}
 use Rattle.text.proofs.put_line.Statement.{statement}
 use Rattle.text.proofs.put_line.Tie as tie
 
-put-byte-requires : tie.Need-put-byte-requires
-put-byte-requires c κs = search needs
-
 put-number-requires : tie.Need-put-number-requires
 put-number-requires c κs =
     let b = c .before .before .before in
@@ -39,9 +36,6 @@ put-byte-requires-2 c κs =
       s .pre,
     )
 
-same-length : tie.Need-same-length
-same-length c = search needs
-
 returns : tie.Need-returns
 returns c =
     let e = c .before .before in
@@ -61,6 +55,5 @@ returns c =
     )
 
 pub put-line-spec : {M : Type 1} → statement M
-put-line-spec =
-    tie.close
-    (tie.spec put-byte-requires put-number-requires put-byte-requires-2 same-length returns)
+put-line-spec = tie.close (tie.spec (λ c κs. search needs) put-number-requires put-byte-requires-2
+    (λ c. search needs) returns)

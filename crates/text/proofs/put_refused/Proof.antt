@@ -6,12 +6,6 @@ use borrow.Author.Needs.{needs}
 use Rattle.text.proofs.put_refused.Statement.{statement}
 use Rattle.text.proofs.put_refused.Tie as tie
 
-slice-aggregate-put-bytes : tie.Need-slice-aggregate-put-bytes
-slice-aggregate-put-bytes c = search needs
-
-put-bytes-requires : tie.Need-put-bytes-requires
-put-bytes-requires c κs = search needs
-
 put-number-requires : tie.Need-put-number-requires
 put-number-requires c κs =
     let b = c .before .before .before in
@@ -24,9 +18,6 @@ put-number-requires c κs =
           (s .args .n) (omega arith) (search needs),
       s .pre,
     )
-
-same-length : tie.Need-same-length
-same-length c = search needs
 
 returns : tie.Need-returns
 returns c =
@@ -44,6 +35,5 @@ returns c =
     )
 
 pub put-refused-spec : {M : Type 1} → statement M
-put-refused-spec =
-    tie.close
-    (tie.spec slice-aggregate-put-bytes put-bytes-requires put-number-requires same-length returns)
+put-refused-spec = tie.close (tie.spec (λ c. search needs) (λ c κs. search needs)
+    put-number-requires (λ c. search needs) returns)

@@ -6,46 +6,13 @@ use borrow.Author.Needs.{needs}
 use Rattle.text.proofs.put_trees.Statement.{statement}
 use Rattle.text.proofs.put_trees.Tie as tie
 
-enum-told : tie.Need-enum-told
-enum-told c = search needs
-
-enum-told-2 : tie.Need-enum-told-2
-enum-told-2 c = search needs
-
-put-first-requires : tie.Need-put-first-requires
-put-first-requires c κs = search needs
-
-enum-told-3 : tie.Need-enum-told-3
-enum-told-3 c = search needs
-
-put-first-requires-2 : tie.Need-put-first-requires-2
-put-first-requires-2 c κs = search needs
-
-put-rows-requires : tie.Need-put-rows-requires
-put-rows-requires c κs = search needs
-
-enum-told-4 : tie.Need-enum-told-4
-enum-told-4 c = search needs
-
-enum-told-5 : tie.Need-enum-told-5
-enum-told-5 c = search needs
-
-enum-told-6 : tie.Need-enum-told-6
-enum-told-6 c = search needs
-
 returns : tie.Need-returns
 returns c = rw (c .enum-told .given .1) (wrote-none _ _)
-
-same-length : tie.Need-same-length
-same-length c = search needs
 
 returns-2 : tie.Need-returns-2
 returns-2 c =
     let z = c .before .before in
     rw (z .before .before .enum-told2 .given .1) (z .put-first .ensures .0)
-
-same-length-2 : tie.Need-same-length-2
-same-length-2 c = search needs
 
 returns-3 : tie.Need-returns-3
 returns-3 c =
@@ -64,23 +31,7 @@ returns-6 : tie.Need-returns-6
 returns-6 c = rw (c .enum-told6 .given .1) (wrote-none _ _)
 
 pub put-trees-spec : {M : Type 1} → statement M
-put-trees-spec =
-    tie.close
-    (tie.spec
-    enum-told
-    enum-told-2
-    put-first-requires
-    enum-told-3
-    put-first-requires-2
-    put-rows-requires
-    enum-told-4
-    enum-told-5
-    enum-told-6
-    returns
-    same-length
-    returns-2
-    same-length-2
-    returns-3
-    returns-4
-    returns-5
-    returns-6)
+put-trees-spec = tie.close (tie.spec (λ c. search needs) (λ c. search needs) (λ c κs. search needs)
+    (λ c. search needs) (λ c κs. search needs) (λ c κs. search needs) (λ c. search needs)
+    (λ c. search needs) (λ c. search needs) returns (λ c. search needs) returns-2
+    (λ c. search needs) returns-3 returns-4 returns-5 returns-6)

@@ -10,21 +10,6 @@ use borrow.Author.Needs.{needs}
 use Rattle.text_trees.proofs.places_text.Statement.{statement}
 use Rattle.text_trees.proofs.places_text.Tie as tie
 
-slice-aggregate-places : tie.Need-slice-aggregate-places
-slice-aggregate-places c = search needs
-
-slice-aggregate-places-2 : tie.Need-slice-aggregate-places-2
-slice-aggregate-places-2 c = search needs
-
-places-requires : tie.Need-places-requires
-places-requires c κs = search needs
-
-put-head-requires : tie.Need-put-head-requires
-put-head-requires c κs = search needs
-
-slice-aggregate-put-listed : tie.Need-slice-aggregate-put-listed
-slice-aggregate-put-listed c = search needs
-
 put-listed-requires : tie.Need-put-listed-requires
 put-listed-requires c κs =
     let h = c .before .before .before .before in
@@ -36,9 +21,6 @@ put-listed-requires c κs =
       omega
           (arith, f, l, h .put-head .ensures .1, h .put-head .ensures .0 .long, s .pre),
     )
-
-same-length : tie.Need-same-length
-same-length c = search needs
 
 returns : tie.Need-returns
 returns c =
@@ -53,14 +35,6 @@ returns c =
     }
 
 pub places-text-spec : {M : Type 1} → statement M
-places-text-spec =
-    tie.close
-    (tie.spec
-    slice-aggregate-places
-    slice-aggregate-places-2
-    places-requires
-    put-head-requires
-    slice-aggregate-put-listed
-    put-listed-requires
-    same-length
-    returns)
+places-text-spec = tie.close (tie.spec (λ c. search needs) (λ c. search needs)
+    (λ c κs. search needs) (λ c κs. search needs) (λ c. search needs) put-listed-requires
+    (λ c. search needs) returns)

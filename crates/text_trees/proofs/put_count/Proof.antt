@@ -5,12 +5,6 @@ use borrow.Author.Needs.{needs}
 use Rattle.text_trees.proofs.put_count.Statement.{statement}
 use Rattle.text_trees.proofs.put_count.Tie as tie
 
-enum-known-c : tie.Need-enum-known-c
-enum-known-c c = search needs
-
-cast-put-number : tie.Need-cast-put-number
-cast-put-number c = search needs
-
 put-number-requires : tie.Need-put-number-requires
 put-number-requires c κs =
     let s = c .before .before .before .before .before in
@@ -20,18 +14,6 @@ put-number-requires c κs =
           (search needs),
       s .pre,
     )
-
-enum-told : tie.Need-enum-told
-enum-told c = search needs
-
-slice-aggregate-put-bytes : tie.Need-slice-aggregate-put-bytes
-slice-aggregate-put-bytes c = search needs
-
-put-bytes-requires : tie.Need-put-bytes-requires
-put-bytes-requires c κs = search needs
-
-same-length : tie.Need-same-length
-same-length c = search needs
 
 returns : tie.Need-returns
 returns c =
@@ -46,9 +28,6 @@ returns c =
       ),
     )
 
-same-length-2 : tie.Need-same-length-2
-same-length-2 c = search needs
-
 returns-2 : tie.Need-returns-2
 returns-2 c =
     let b = c .before .before in (
@@ -58,16 +37,6 @@ returns-2 c =
     )
 
 pub put-count-spec : {M : Type 1} → statement M
-put-count-spec =
-    tie.close
-    (tie.spec
-    enum-known-c
-    cast-put-number
-    put-number-requires
-    enum-told
-    slice-aggregate-put-bytes
-    put-bytes-requires
-    same-length
-    returns
-    same-length-2
-    returns-2)
+put-count-spec = tie.close (tie.spec (λ c. search needs) (λ c. search needs) put-number-requires
+    (λ c. search needs) (λ c. search needs) (λ c κs. search needs) (λ c. search needs) returns
+    (λ c. search needs) returns-2)

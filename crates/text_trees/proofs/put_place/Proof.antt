@@ -6,18 +6,6 @@ use borrow.Author.Needs.{needs}
 use Rattle.text_trees.proofs.put_place.Statement.{statement}
 use Rattle.text_trees.proofs.put_place.Tie as tie
 
-put-small-requires : tie.Need-put-small-requires
-put-small-requires c κs = search needs
-
-put-small-requires-2 : tie.Need-put-small-requires-2
-put-small-requires-2 c κs = search needs
-
-put-small-requires-3 : tie.Need-put-small-requires-3
-put-small-requires-3 c κs = search needs
-
-same-length : tie.Need-same-length
-same-length c = search needs
-
 returns : tie.Need-returns
 unfolding placeText
 returns c =
@@ -36,6 +24,5 @@ returns c =
     )
 
 pub put-place-spec : {M : Type 1} → statement M
-put-place-spec =
-    tie.close
-    (tie.spec put-small-requires put-small-requires-2 put-small-requires-3 same-length returns)
+put-place-spec = tie.close (tie.spec (λ c κs. search needs) (λ c κs. search needs)
+    (λ c κs. search needs) (λ c. search needs) returns)

@@ -21,33 +21,6 @@ abbrev μ-loop : tie.MeasureT-loop
 loop-holds : tie.Need-loop-holds Inv-loop μ-loop
 loop-holds c = (search needs, search needs, wrote-none _ _)
 
-mul-p : tie.Need-mul-p Inv-loop μ-loop
-mul-p c = search needs
-
-shared-slice-read-put-place : tie.Need-shared-slice-read-put-place Inv-loop μ-loop
-shared-slice-read-put-place c = search needs
-
-add-put-place : tie.Need-add-put-place Inv-loop μ-loop
-add-put-place c = search needs
-
-shared-slice-read-put-place-2 : tie.Need-shared-slice-read-put-place-2 Inv-loop μ-loop
-shared-slice-read-put-place-2 c = search needs
-
-add-put-place-2 : tie.Need-add-put-place-2 Inv-loop μ-loop
-add-put-place-2 c = search needs
-
-shared-slice-read-put-place-3 : tie.Need-shared-slice-read-put-place-3 Inv-loop μ-loop
-shared-slice-read-put-place-3 c = search needs
-
-put-place-requires : tie.Need-put-place-requires Inv-loop μ-loop
-put-place-requires c κs = search needs
-
-add-i : tie.Need-add-i Inv-loop μ-loop
-add-i c = search needs
-
-loop-less : tie.Need-loop-less Inv-loop μ-loop
-loop-less c = search needs
-
 loop-again : tie.Need-loop-again Inv-loop μ-loop
 loop-again c =
     let p = c .before .before in
@@ -61,9 +34,6 @@ loop-again c =
           (wrote-then (l .loop .inv .2) (w .0)),
     )
 
-same-length : tie.Need-same-length Inv-loop μ-loop
-same-length c = search needs
-
 returns : tie.Need-returns Inv-loop μ-loop
 returns c =
     let l = c .before .loop in
@@ -72,21 +42,7 @@ returns c =
     rw e at (l .inv .2)
 
 pub put-places-spec : {M : Type 1} → statement M
-put-places-spec =
-    tie.close
-    (tie.spec
-    Inv-loop
-    μ-loop
-    loop-holds
-    mul-p
-    shared-slice-read-put-place
-    add-put-place
-    shared-slice-read-put-place-2
-    add-put-place-2
-    shared-slice-read-put-place-3
-    put-place-requires
-    add-i
-    loop-less
-    loop-again
-    same-length
-    returns)
+put-places-spec = tie.close (tie.spec Inv-loop μ-loop loop-holds (λ c. search needs)
+    (λ c. search needs) (λ c. search needs) (λ c. search needs) (λ c. search needs)
+    (λ c. search needs) (λ c κs. search needs) (λ c. search needs) (λ c. search needs) loop-again
+    (λ c. search needs) returns)

@@ -24,9 +24,6 @@ put-byte-requires c κs =
       s .pre,
     )
 
-same-length : tie.Need-same-length
-same-length c = search needs
-
 returns : tie.Need-returns
 returns c =
     let b = c .before .before in
@@ -43,4 +40,5 @@ returns c =
     )
 
 pub put-small-spec : {M : Type 1} → statement M
-put-small-spec = tie.close (tie.spec put-number-requires put-byte-requires same-length returns)
+put-small-spec = tie.close (tie.spec put-number-requires put-byte-requires (λ c. search needs)
+    returns)

@@ -8,21 +8,6 @@ use borrow.Author.Needs.{needs}
 use Rattle.text_trees.proofs.rows_text.Statement.{statement}
 use Rattle.text_trees.proofs.rows_text.Tie as tie
 
-slice-aggregate-rows : tie.Need-slice-aggregate-rows
-slice-aggregate-rows c = search needs
-
-rows-requires : tie.Need-rows-requires
-rows-requires c κs = search needs
-
-put-head-requires : tie.Need-put-head-requires
-put-head-requires c κs = search needs
-
-put-counted-requires : tie.Need-put-counted-requires
-put-counted-requires c κs = search needs
-
-same-length : tie.Need-same-length
-same-length c = search needs
-
 returns : tie.Need-returns
 returns c =
     let p = c .before .before in
@@ -35,12 +20,5 @@ returns c =
     }
 
 pub rows-text-spec : {M : Type 1} → statement M
-rows-text-spec =
-    tie.close
-    (tie.spec
-    slice-aggregate-rows
-    rows-requires
-    put-head-requires
-    put-counted-requires
-    same-length
-    returns)
+rows-text-spec = tie.close (tie.spec (λ c. search needs) (λ c κs. search needs)
+    (λ c κs. search needs) (λ c κs. search needs) (λ c. search needs) returns)

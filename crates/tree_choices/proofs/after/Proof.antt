@@ -55,15 +55,9 @@ next-choice-requires : tie.Need-next-choice-requires
 next-choice-requires c κs = let r = c .before .pre .0 in
     ((r .0 .positioned .few, r .1), (r .0 .formed, r .0 .sheet))
 
-enum-known-other : tie.Need-enum-known-other
-enum-known-other c = search needs
-
 step-of-requires : tie.Need-step-of-requires
 step-of-requires c κs = let z = c .before .before .before .before .before in
     omega (arith, near z _ _ (first z), near z _ _ (other (c .before) .choice))
-
-enum-told : tie.Need-enum-told
-enum-told c = search needs
 
 step-of-requires-2 : tie.Need-step-of-requires-2
 step-of-requires-2 c κs = let z = c .before .before .before .before in near z _ _ (first z)
@@ -80,6 +74,5 @@ returns-2 c =
     chosen (z .args .g) true (first z) (only (c .before)) (c .step-of2 .ensures)
 
 pub after-spec : {M : Type 1} → statement M
-after-spec =
-    tie.close (tie.spec add-next-choice next-choice-requires enum-known-other step-of-requires
-    enum-told step-of-requires-2 returns returns-2)
+after-spec = tie.close (tie.spec add-next-choice next-choice-requires (λ c. search needs)
+    step-of-requires (λ c. search needs) step-of-requires-2 returns returns-2)

@@ -13,21 +13,12 @@ use Rattle.tree_choices.proofs.choose.Statement.{statement}
 use Rattle.tree_choices.proofs.choose.Tie as tie
 use Rattle.grammar.specs.Sentences.{spelled}
 
-wide-requires : tie.Need-wide-requires
-wide-requires c κs = search needs
-
-wide-requires-2 : tie.Need-wide-requires-2
-wide-requires-2 c κs = search needs
-
 preferred-requires : tie.Need-preferred-requires
 preferred-requires c κs = let z = c .before .before .before .before in let a = z .args in (
   (z .pre .0 .0, omega (arith, z .pre .0 .1, c .before .wide .ensures, c .wide2 .ensures)),
   rw
       (c .before .wide .ensures, c .wide2 .ensures) (z .pre .1),
 )
-
-enum-known-found : tie.Need-enum-known-found
-enum-known-found c = search needs
 
 other-choice-requires : tie.Need-other-choice-requires
 other-choice-requires c κs = let z =
@@ -95,12 +86,6 @@ step-of-requires c κs = let z = c .before .before .before .before .before .befo
     .n) _ _ (z
     .pre .0 .1) (preferred-choice _ _ _ _ _ x′)
 
-enum-told : tie.Need-enum-told
-enum-told c = search needs
-
-step-of-requires-2 : tie.Need-step-of-requires-2
-step-of-requires-2 c κs = search needs
-
 returns-2 : tie.Need-returns-2
 returns-2 c = let z = c .before .before .before .before .before .before .before .before .before
     .before in let a = z .args in let y : PreferredPick (rules (a .g)) (a .a)
@@ -140,17 +125,6 @@ returns-3 c = let z = c .before .before .before .before .before .before .before 
     absurd x
 
 pub choose-spec : {M : Type 1} → statement M
-choose-spec =
-    tie.close
-    (tie.spec
-    wide-requires
-    wide-requires-2
-    preferred-requires
-    enum-known-found
-    other-choice-requires
-    returns
-    step-of-requires
-    enum-told
-    step-of-requires-2
-    returns-2
-    returns-3)
+choose-spec = tie.close (tie.spec (λ c κs. search needs) (λ c κs. search needs) preferred-requires
+    (λ c. search needs) other-choice-requires returns step-of-requires (λ c. search needs)
+    (λ c κs. search needs) returns-2 returns-3)

@@ -17,9 +17,6 @@ high-requires : tie.Need-high-requires
 high-requires c κs = let z = c .before .before .before in
     (z .pre .few, z .pre .fits, z .pre .small .0, z .pre .long)
 
-full-requires : tie.Need-full-requires
-full-requires c κs = search needs
-
 add-result : tie.Need-add-result
 add-result c = omega (arith, c .full .ensures)
 
@@ -29,9 +26,6 @@ returns-2 c = let z = c .before .before .before .before .before in let a = z .ar
     (a .st .split) _ (c .before .before .if2 .taken)
     (c .full .ensures .0 ∙ c .before .high .ensures)
 
-wide-requires : tie.Need-wide-requires
-wide-requires c κs = search needs
-
 high-requires-2 : tie.Need-high-requires-2
 high-requires-2 c κs = let z = c .before .before .before .before in let a = z .args in (
   z .pre .few,
@@ -40,9 +34,6 @@ high-requires-2 c κs = let z = c .before .before .before .before in let a = z .
   z
       .pre .long,
 )
-
-full-requires-2 : tie.Need-full-requires-2
-full-requires-2 c κs = search needs
 
 add-high : tie.Need-add-high
 add-high c = let z = c .before .before .before .before .before .before in let a = z .args in
@@ -62,9 +53,6 @@ high-requires-3 c κs = let z = c .before .before .before .before .before .befor
       z
           .pre .long,
     )
-
-full-requires-3 : tie.Need-full-requires-3
-full-requires-3 c κs = search needs
 
 add-result-2 : tie.Need-add-result-2
 add-result-2 c = omega (arith, c .before .full3 .ensures)
@@ -113,22 +101,6 @@ returns-4 c = let z = c .before .before .before .before .before .before .before 
     (omega (arith, c .if3 .left))
 
 pub height-of-spec : {M : Type 1} → statement M
-height-of-spec =
-    tie.close
-    (tie.spec
-    returns
-    high-requires
-    full-requires
-    add-result
-    returns-2
-    wide-requires
-    high-requires-2
-    full-requires-2
-    add-high
-    sub-high
-    high-requires-3
-    full-requires-3
-    add-result-2
-    add-result-3
-    returns-3
-    returns-4)
+height-of-spec = tie.close (tie.spec returns high-requires (λ c κs. search needs) add-result
+    returns-2 (λ c κs. search needs) high-requires-2 (λ c κs. search needs) add-high sub-high
+    high-requires-3 (λ c κs. search needs) add-result-2 add-result-3 returns-3 returns-4)

@@ -10,9 +10,6 @@ use Rattle.tree_choices.proofs.look.Tie as tie
 has-requires : tie.Need-has-requires
 has-requires c κs = choice-small (c .before .before .pre .0 .0 .formed) (c .before .before .pre .1)
 
-choose-requires : tie.Need-choose-requires
-choose-requires c κs = search needs
-
 returns : tie.Need-returns
 returns c = seen (sym (member-says _ _ (c .before .before .has .ensures)) ∙ c .before .if1 .taken)
     (c .choose .ensures)
@@ -26,4 +23,4 @@ returns-2 c = closed (sym (member-says _ _ (c .before .before .has .ensures))
     ∙ c .before .if1 .left) (c .pass .ensures .0) (c .pass .ensures .1)
 
 pub look-spec : {M : Type 1} → statement M
-look-spec = tie.close (tie.spec has-requires choose-requires returns pass-requires returns-2)
+look-spec = tie.close (tie.spec has-requires (λ c κs. search needs) returns pass-requires returns-2)

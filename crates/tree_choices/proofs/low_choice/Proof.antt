@@ -29,9 +29,6 @@ high-requires : tie.Need-high-requires Inv-loop μ-loop
 high-requires c κs = let z = c .before .before in
     (z .pre .0 .0 .positioned .few, z .pre .0 .1, z .pre .0 .2, z .pre .1 .0 .long)
 
-full-requires : tie.Need-full-requires Inv-loop μ-loop
-full-requires c κs = search needs
-
 loop-holds : tie.Need-loop-holds Inv-loop μ-loop
 loop-holds c = let z = c .before .before .before .before in let a = z .args in
     let r = z .pre .0 .0 in (
@@ -44,9 +41,6 @@ loop-holds c = let z = c .before .before .before .before in let a = z .args in
 next-choice-requires : tie.Need-next-choice-requires Inv-loop μ-loop
 next-choice-requires c κs = let z = c .before .before .before .before .before in let r =
     z .pre .0 .0 in ((r .positioned .few, z .pre .0 .1), (r .formed, r .sheet))
-
-enum-known-found : tie.Need-enum-known-found Inv-loop μ-loop
-enum-known-found c = search needs
 
 step-of-requires : tie.Need-step-of-requires Inv-loop μ-loop
 step-of-requires c κs = let z = c .before .before .before .before .before .before .before .before
@@ -234,9 +228,6 @@ loop-again c = let z = c .before .before .before .before .before .before .before
           )),
     )
 
-enum-told : tie.Need-enum-told Inv-loop μ-loop
-enum-told c = search needs
-
 returns-2 : tie.Need-returns-2 Inv-loop μ-loop
 returns-2 c = let z = c .before .before .before .before .before .before .before .before in
     let a = z .args in let r = z .pre .0 .0 in
@@ -251,21 +242,6 @@ returns-2 c = let z = c .before .before .before .before .before .before .before 
     (rw (c .enum-told .given .1) at y))
 
 pub low-choice-spec : {M : Type 1} → statement M
-low-choice-spec =
-    tie.close
-    (tie.spec
-    Inv-loop
-    μ-loop
-    high-requires
-    full-requires
-    loop-holds
-    next-choice-requires
-    enum-known-found
-    step-of-requires
-    height-of-requires
-    returns
-    add-k
-    loop-less
-    loop-again
-    enum-told
-    returns-2)
+low-choice-spec = tie.close (tie.spec Inv-loop μ-loop high-requires (λ c κs. search needs)
+    loop-holds next-choice-requires (λ c. search needs) step-of-requires height-of-requires returns
+    add-k loop-less loop-again (λ c. search needs) returns-2)

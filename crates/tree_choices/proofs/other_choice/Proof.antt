@@ -18,9 +18,6 @@ next-choice-requires : tie.Need-next-choice-requires
 next-choice-requires c κs = let z = c .before in let r = z .pre .0 .0 in
     ((r .positioned .few, z .pre .0 .1), (r .formed, r .sheet))
 
-enum-known-found : tie.Need-enum-known-found
-enum-known-found c = search needs
-
 step-of-requires : tie.Need-step-of-requires
 step-of-requires c κs = let z = c .before .before .before .before .before .before in
     let a = z .args in let y : NextChoice (rules (a .g)) (a .a)
@@ -102,16 +99,10 @@ after-requires c κs = let z = c .before .before .before .before .before .before
       ),
     )
 
-enum-told : tie.Need-enum-told
-enum-told c = search needs
-
 step-of-requires-3 : tie.Need-step-of-requires-3
 step-of-requires-3 c κs = let z = c .before .before .before .before in let a = z .args in
     choice-near (z .pre .0 .0) (a .a) (a .start) (a .len) _ _ (z .pre .0 .1)
     (preferred-choice _ _ _ _ _ (z .pre .1))
-
-returns-3 : tie.Need-returns-3
-returns-3 c = search needs
 
 returns-4 : tie.Need-returns-4
 returns-4 c = let z = c .before .before .before .before .before in let a = z .args in
@@ -121,17 +112,6 @@ returns-4 c = let z = c .before .before .before .before .before in let a = z .ar
     (rw (c .before .enum-told .given .1) at y))
 
 pub other-choice-spec : {M : Type 1} → statement M
-other-choice-spec =
-    tie.close
-    (tie.spec
-    next-choice-requires
-    enum-known-found
-    step-of-requires
-    returns
-    step-of-requires-2
-    returns-2
-    after-requires
-    enum-told
-    step-of-requires-3
-    returns-3
-    returns-4)
+other-choice-spec = tie.close (tie.spec next-choice-requires (λ c. search needs) step-of-requires
+    returns step-of-requires-2 returns-2 after-requires (λ c. search needs) step-of-requires-3
+    (λ c. search needs) returns-4)

@@ -6,12 +6,6 @@ use Rattle.tree_choices.proofs.PickLaws.{reach, passes-two, passes-one,
 use Rattle.tree_choices.proofs.pass.Statement.{statement}
 use Rattle.tree_choices.proofs.pass.Tie as tie
 
-wide-requires : tie.Need-wide-requires
-wide-requires c κs = search needs
-
-wide-requires-2 : tie.Need-wide-requires-2
-wide-requires-2 c κs = search needs
-
 in-second-requires : tie.Need-in-second-requires
 in-second-requires c κs =
     let z = c .before .before .before .before in
@@ -44,6 +38,5 @@ returns-3 : tie.Need-returns-3
 returns-3 c = (refl, passes-plain _ _ _ (c .if1 .left))
 
 pub pass-spec : {M : Type 1} → statement M
-pass-spec =
-    tie.close (tie.spec wide-requires wide-requires-2 in-second-requires returns returns-2
-    returns-3)
+pass-spec = tie.close (tie.spec (λ c κs. search needs) (λ c κs. search needs) in-second-requires
+    returns returns-2 returns-3)

@@ -13,32 +13,11 @@ write-requires : tie.Need-write-requires
 write-requires c κs = let z = c .before .before .before .before .before in
     (z .pre .0, wanted-first _ (z .pre .1))
 
-clear-requires : tie.Need-clear-requires
-clear-requires c κs = search needs
-
-short-requires : tie.Need-short-requires
-short-requires c κs = search needs
-
-same-length : tie.Need-same-length
-same-length c = search needs
-
-same-length-2 : tie.Need-same-length-2
-same-length-2 c = search needs
-
 returns : tie.Need-returns
 returns c = λ t u a b. rw (c .short .ensures)
     (first-short _ t (c .before .before .before .before .before .before .before .before .write
     .ensures t a) u (c .before .before .before .before .before .if1 .taken)
     (c .before .before .before .clear .ensures))
-
-clear-requires-2 : tie.Need-clear-requires-2
-clear-requires-2 c κs = search needs
-
-same-length-3 : tie.Need-same-length-3
-same-length-3 c = search needs
-
-same-length-4 : tie.Need-same-length-4
-same-length-4 c = search needs
 
 returns-2 : tie.Need-returns-2
 returns-2 c = λ t u a b.
@@ -53,18 +32,6 @@ write-requires-2 c κs =
     let z = d .before .before .before .before .before .before .before .before .before .before in
     (z .pre .0, subst (Wanted _ 0 _) (not-false _ (d .if2 .left)) (z .pre .1))
 
-clear-requires-3 : tie.Need-clear-requires-3
-clear-requires-3 c κs = search needs
-
-short-requires-2 : tie.Need-short-requires-2
-short-requires-2 c κs = search needs
-
-same-length-5 : tie.Need-same-length-5
-same-length-5 c = search needs
-
-same-length-6 : tie.Need-same-length-6
-same-length-6 c = search needs
-
 returns-3 : tie.Need-returns-3
 returns-3 c = λ t u a b.
     let y = c .before .before .before .before .before .before .before .before in
@@ -75,12 +42,6 @@ returns-3 c = λ t u a b.
     (c .before .before .before .before .before .if3 .taken) (x .write .kept .1 .1 .1 .1 .1 .0)
     (c .before .before .before .clear3 .ensures))
 
-same-length-7 : tie.Need-same-length-7
-same-length-7 c = search needs
-
-same-length-8 : tie.Need-same-length-8
-same-length-8 c = search needs
-
 returns-4 : tie.Need-returns-4
 returns-4 c = λ t u a b.
     let y = c .before .before .before in
@@ -90,25 +51,8 @@ returns-4 c = λ t u a b.
     b (d .before .if1 .left) (c .if3 .left)
 
 pub trees-by-spec : {M : Type 1} → statement M
-trees-by-spec =
-    tie.close
-    (tie.spec
-    write-requires
-    clear-requires
-    short-requires
-    same-length
-    same-length-2
-    returns
-    clear-requires-2
-    same-length-3
-    same-length-4
-    returns-2
-    write-requires-2
-    clear-requires-3
-    short-requires-2
-    same-length-5
-    same-length-6
-    returns-3
-    same-length-7
-    same-length-8
+trees-by-spec = tie.close (tie.spec write-requires (λ c κs. search needs) (λ c κs. search needs)
+    (λ c. search needs) (λ c. search needs) returns (λ c κs. search needs) (λ c. search needs)
+    (λ c. search needs) returns-2 write-requires-2 (λ c κs. search needs) (λ c κs. search needs)
+    (λ c. search needs) (λ c. search needs) returns-3 (λ c. search needs) (λ c. search needs)
     returns-4)

@@ -15,9 +15,6 @@ heights-requires c κs =
     let z = c .before .before .before .before in
     (z .pre .0 .positioned .few, (z .pre .0 .formed, refl))
 
-slice-aggregate-trees-by : tie.Need-slice-aggregate-trees-by
-slice-aggregate-trees-by c = search needs
-
 trees-by-requires : tie.Need-trees-by-requires
 trees-by-requires c κs =
     let z = c .before .before .before .before .before .before .before .before .before in (
@@ -26,23 +23,9 @@ trees-by-requires c κs =
           .pre .1 .0,
     )
 
-same-length : tie.Need-same-length
-same-length c = search needs
-
-same-length-2 : tie.Need-same-length-2
-same-length-2 c = search needs
-
 returns : tie.Need-returns
 returns c = c .before .before .before .before .trees-by .ensures
 
 pub trees-low-spec : {M : Type 1} → statement M
-trees-low-spec =
-    tie.close
-    (tie.spec
-    slice-aggregate-heights
-    heights-requires
-    slice-aggregate-trees-by
-    trees-by-requires
-    same-length
-    same-length-2
-    returns)
+trees-low-spec = tie.close (tie.spec slice-aggregate-heights heights-requires (λ c. search needs)
+    trees-by-requires (λ c. search needs) (λ c. search needs) returns)

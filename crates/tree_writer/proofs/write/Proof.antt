@@ -59,57 +59,18 @@ long c = c .before .before .before .put .kept .0
 few : (c : tie.After-kids Inv-loop μ-loop) → c .kids .result ≤ 2
 few c = omega (arith, c .kids .ensures, kids-le (c .before .look .result .kind) (kind (c .before)))
 
-clear-requires : tie.Need-clear-requires Inv-loop μ-loop
-clear-requires c κs = search needs
-
-same-length : tie.Need-same-length Inv-loop μ-loop
-same-length c = search needs
-
 returns : tie.Need-returns Inv-loop μ-loop
 returns c = λ u _. laid-none _ _ _ (c .before .before .before .before .if1 .taken)
     (c .before .before .clear .ensures) u
-
-sub-top : tie.Need-sub-top Inv-loop μ-loop
-sub-top c = search needs
-
-mul-put : tie.Need-mul-put Inv-loop μ-loop
-mul-put c = search needs
 
 cast-put : tie.Need-cast-put Inv-loop μ-loop
 cast-put c =
     omega (arith, c .before .before .before .before .before .before .pre .0 .positioned .few)
 
-put-requires : tie.Need-put-requires Inv-loop μ-loop
-put-requires c κs = search needs
-
 loop-holds : tie.Need-loop-holds Inv-loop μ-loop
 loop-holds c = running-start (c .before .before .before .before .before .before .before .before
     .before .pre .0) (c .before .before .before .before .before .before .before .before .before .pre
     .1) _ _ _ (omega arith) (omega arith) (c .before .before .put .ensures)
-
-mul-a : tie.Need-mul-a Inv-loop μ-loop
-mul-a c = search needs
-
-slice-read-a : tie.Need-slice-read-a Inv-loop μ-loop
-slice-read-a c = search needs
-
-mul-i : tie.Need-mul-i Inv-loop μ-loop
-mul-i c = search needs
-
-add-i : tie.Need-add-i Inv-loop μ-loop
-add-i c = search needs
-
-slice-read-i : tie.Need-slice-read-i Inv-loop μ-loop
-slice-read-i c = search needs
-
-mul-l : tie.Need-mul-l Inv-loop μ-loop
-mul-l c = search needs
-
-add-l : tie.Need-add-l Inv-loop μ-loop
-add-l c = search needs
-
-slice-read-l : tie.Need-slice-read-l Inv-loop μ-loop
-slice-read-l c = search needs
 
 look-requires : tie.Need-look-requires Inv-loop μ-loop
 look-requires c κs =
@@ -137,12 +98,6 @@ add-if2 c = let t = c .before .before .before .before .before in
           .good,
     )
 
-clear-requires-2 : tie.Need-clear-requires-2 Inv-loop μ-loop
-clear-requires-2 c κs = search needs
-
-same-length-2 : tie.Need-same-length-2 Inv-loop μ-loop
-same-length-2 c = search needs
-
 returns-2 : tie.Need-returns-2 Inv-loop μ-loop
 returns-2 c =
     let t = c .before .before .before .before .before .before .before .before .before .before in
@@ -160,12 +115,6 @@ returns-2 c =
 mul-put-2 : tie.Need-mul-put-2 Inv-loop μ-loop
 mul-put-2 c = let t = c .before .before .before .before .before .before .before in
     omega (arith, t .before .loop .inv .state .room, t .loop-test .taken, start (t .before) .good)
-
-start-of-requires : tie.Need-start-of-requires Inv-loop μ-loop
-start-of-requires c κs = search needs
-
-put-requires-2 : tie.Need-put-requires-2 Inv-loop μ-loop
-put-requires-2 c κs = search needs
 
 add-branch : tie.Need-add-branch Inv-loop μ-loop
 add-branch c = let t = c .before .before .before .before .before .before .before .before .before
@@ -193,12 +142,6 @@ branch-requires c κs =
       part = parts t;
       less = split (c .before .before .before .before .before .before .before .before);
     }
-
-add-n : tie.Need-add-n Inv-loop μ-loop
-add-n c = search needs
-
-loop-less : tie.Need-loop-less Inv-loop μ-loop
-loop-less c = search needs
 
 loop-again : tie.Need-loop-again Inv-loop μ-loop
 loop-again c =
@@ -229,15 +172,6 @@ loop-again c =
       );
     }
 
-mul-clear : tie.Need-mul-clear Inv-loop μ-loop
-mul-clear c = search needs
-
-clear-requires-3 : tie.Need-clear-requires-3 Inv-loop μ-loop
-clear-requires-3 c κs = search needs
-
-same-length-3 : tie.Need-same-length-3 Inv-loop μ-loop
-same-length-3 c = search needs
-
 returns-3 : tie.Need-returns-3 Inv-loop μ-loop
 returns-3 c = running-done (start (c .before .before .before .before .before) .pre .0)
     (c .before .before .before .before .before .loop .inv)
@@ -245,42 +179,11 @@ returns-3 c = running-done (start (c .before .before .before .before .before) .p
     (long (c .before .before .before .before .before)) (c .before .before .clear3 .ensures)
 
 pub write-spec : {M : Type 1} → statement M
-write-spec =
-    tie.close
-    (tie.spec
-    Inv-loop
-    μ-loop
-    clear-requires
-    same-length
-    returns
-    sub-top
-    mul-put
-    cast-put
-    put-requires
-    loop-holds
-    mul-a
-    slice-read-a
-    mul-i
-    add-i
-    slice-read-i
-    mul-l
-    add-l
-    slice-read-l
-    look-requires
-    kids-requires
-    add-if2
-    clear-requires-2
-    same-length-2
-    returns-2
-    mul-put-2
-    start-of-requires
-    put-requires-2
-    add-branch
-    branch-requires
-    add-n
-    loop-less
-    loop-again
-    mul-clear
-    clear-requires-3
-    same-length-3
+write-spec = tie.close (tie.spec Inv-loop μ-loop (λ c κs. search needs) (λ c. search needs) returns
+    (λ c. search needs) (λ c. search needs) cast-put (λ c κs. search needs) loop-holds
+    (λ c. search needs) (λ c. search needs) (λ c. search needs) (λ c. search needs)
+    (λ c. search needs) (λ c. search needs) (λ c. search needs) (λ c. search needs) look-requires
+    kids-requires add-if2 (λ c κs. search needs) (λ c. search needs) returns-2 mul-put-2
+    (λ c κs. search needs) (λ c κs. search needs) add-branch branch-requires (λ c. search needs)
+    (λ c. search needs) loop-again (λ c. search needs) (λ c κs. search needs) (λ c. search needs)
     returns-3)

@@ -19,21 +19,6 @@ trees-low-requires c κs =
       ),
     )
 
-same-length : tie.Need-same-length
-same-length c = search needs
-
-same-length-2 : tie.Need-same-length-2
-same-length-2 c = search needs
-
-returns : tie.Need-returns
-returns c = search needs
-
-array-share-prefix-hs : tie.Need-array-share-prefix-hs
-array-share-prefix-hs c = search needs
-
-slice-aggregate-trees-by : tie.Need-slice-aggregate-trees-by
-slice-aggregate-trees-by c = search needs
-
 trees-by-requires : tie.Need-trees-by-requires
 trees-by-requires c κs =
     let z = c .before .before .before .before .before .before .before .before in (
@@ -42,27 +27,7 @@ trees-by-requires c κs =
       z .pre .1,
     )
 
-same-length-3 : tie.Need-same-length-3
-same-length-3 c = search needs
-
-same-length-4 : tie.Need-same-length-4
-same-length-4 c = search needs
-
-returns-2 : tie.Need-returns-2
-returns-2 c = search needs
-
 pub write-trees-spec : {M : Type 1} → statement M
-write-trees-spec =
-    tie.close
-    (tie.spec
-    cyclic-requires
-    trees-low-requires
-    same-length
-    same-length-2
-    returns
-    array-share-prefix-hs
-    slice-aggregate-trees-by
-    trees-by-requires
-    same-length-3
-    same-length-4
-    returns-2)
+write-trees-spec = tie.close (tie.spec cyclic-requires trees-low-requires (λ c. search needs)
+    (λ c. search needs) (λ c. search needs) (λ c. search needs) (λ c. search needs)
+    trees-by-requires (λ c. search needs) (λ c. search needs) (λ c. search needs))

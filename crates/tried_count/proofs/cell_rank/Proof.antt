@@ -8,21 +8,6 @@ use borrow.Author.Needs.{needs}
 use Rattle.tried_count.proofs.cell_rank.Statement.{statement}
 use Rattle.tried_count.proofs.cell_rank.Tie as tie
 
-members-below-requires : tie.Need-members-below-requires
-members-below-requires c κs = search needs
-
-ways-at-requires : tie.Need-ways-at-requires
-ways-at-requires c κs = search needs
-
-cast-lesser-at : tie.Need-cast-lesser-at
-cast-lesser-at c = search needs
-
-cast-lesser-at-2 : tie.Need-cast-lesser-at-2
-cast-lesser-at-2 c = search needs
-
-lesser-at-requires : tie.Need-lesser-at-requires
-lesser-at-requires c κs = search needs
-
 -- the cells with lesser terminals are few
 share : (c : tie.After-lesser-at)
     → c .before .before .before .before .members-below .result * c .before .before .before .ways-at
@@ -66,14 +51,5 @@ returns c = ap₂ _+_ (ap₂ _*_ (c .before .before .before .before .members-bel
     (c .before .before .before .ways-at .ensures)) (c .lesser-at .ensures)
 
 pub cell-rank-spec : {M : Type 1} → statement M
-cell-rank-spec =
-    tie.close
-    (tie.spec
-    members-below-requires
-    ways-at-requires
-    cast-lesser-at
-    cast-lesser-at-2
-    lesser-at-requires
-    mul-result
-    add-result
-    returns)
+cell-rank-spec = tie.close (tie.spec (λ c κs. search needs) (λ c κs. search needs)
+    (λ c. search needs) (λ c. search needs) (λ c κs. search needs) mul-result add-result returns)

@@ -18,9 +18,6 @@ abbrev μ-loop : tie.MeasureT-loop
 loop-holds : tie.Need-loop-holds Inv-loop μ-loop
 loop-holds c = (omega arith, growing-none _ _ _)
 
-ways-at-requires : tie.Need-ways-at-requires Inv-loop μ-loop
-ways-at-requires c κs = search needs
-
 mul-next : tie.Need-mul-next Inv-loop μ-loop
 mul-next c =
     let a = c .before .before .before in
@@ -31,18 +28,6 @@ mul-next c =
           (a .args .row) (a .args .n) 2 (c .before .before .loop .p) (a .pre .2) (a .pre .0)
           (omega arith) (a .pre .1),
     )
-
-mul-next-2 : tie.Need-mul-next-2 Inv-loop μ-loop
-mul-next-2 c = search needs
-
-element-write-next : tie.Need-element-write-next Inv-loop μ-loop
-element-write-next c = search needs
-
-add-p : tie.Need-add-p Inv-loop μ-loop
-add-p c = search needs
-
-loop-less : tie.Need-loop-less Inv-loop μ-loop
-loop-less c = search needs
 
 loop-again : tie.Need-loop-again Inv-loop μ-loop
 loop-again c =
@@ -56,17 +41,6 @@ returns : tie.Need-returns Inv-loop μ-loop
 returns c = growing-end _ _ _ _ _ (omega arith) (c .before .loop .inv .1)
 
 pub grown-spec : {M : Type 1} → statement M
-grown-spec =
-    tie.close
-    (tie.spec
-    Inv-loop
-    μ-loop
-    loop-holds
-    ways-at-requires
-    mul-next
-    mul-next-2
-    element-write-next
-    add-p
-    loop-less
-    loop-again
+grown-spec = tie.close (tie.spec Inv-loop μ-loop loop-holds (λ c κs. search needs) mul-next
+    (λ c. search needs) (λ c. search needs) (λ c. search needs) (λ c. search needs) loop-again
     returns)

@@ -6,26 +6,8 @@ use borrow.Author.Needs.{needs}
 use Rattle.tried_count.proofs.lesser_at.Statement.{statement}
 use Rattle.tried_count.proofs.lesser_at.Tie as tie
 
-sub-sum-between : tie.Need-sub-sum-between
-sub-sum-between c = search needs
-
-sum-between-requires : tie.Need-sum-between-requires
-sum-between-requires c κs = search needs
-
 returns : tie.Need-returns
 returns c = lesser-here _ _ _ _ _ _ (c .before .if1 .taken) (c .sum-between .ensures)
-
-sub-ways-at : tie.Need-sub-ways-at
-sub-ways-at c = search needs
-
-ways-at-requires : tie.Need-ways-at-requires
-ways-at-requires c κs = search needs
-
-sub-sum-between-2 : tie.Need-sub-sum-between-2
-sub-sum-between-2 c = search needs
-
-sum-between-requires-2 : tie.Need-sum-between-requires-2
-sum-between-requires-2 c κs = search needs
 
 add-result : tie.Need-add-result
 add-result c =
@@ -45,15 +27,6 @@ returns-2 c = lesser-later _ _ _ _ _ _ _ (c .before .before .if1 .left)
     (c .before .ways-at .ensures) (c .sum-between2 .ensures)
 
 pub lesser-at-spec : {M : Type 1} → statement M
-lesser-at-spec =
-    tie.close
-    (tie.spec
-    sub-sum-between
-    sum-between-requires
-    returns
-    sub-ways-at
-    ways-at-requires
-    sub-sum-between-2
-    sum-between-requires-2
-    add-result
+lesser-at-spec = tie.close (tie.spec (λ c. search needs) (λ c κs. search needs) returns
+    (λ c. search needs) (λ c κs. search needs) (λ c. search needs) (λ c κs. search needs) add-result
     returns-2)

@@ -18,12 +18,6 @@ abbrev μ-loop : tie.MeasureT-loop
 loop-holds : tie.Need-loop-holds Inv-loop μ-loop
 loop-holds c = (omega arith, members-none _)
 
-cast-n : tie.Need-cast-n Inv-loop μ-loop
-cast-n c = search needs
-
-shr-n : tie.Need-shr-n Inv-loop μ-loop
-shr-n c = search needs
-
 add-n : tie.Need-add-n Inv-loop μ-loop
 add-n c = let l = c .before in omega (
   arith,
@@ -35,12 +29,6 @@ add-n c = let l = c .before in omega (
   digit-low (l .before .args .set) (l .loop .i),
 )
 
-add-i : tie.Need-add-i Inv-loop μ-loop
-add-i c = search needs
-
-loop-less : tie.Need-loop-less Inv-loop μ-loop
-loop-less c = search needs
-
 loop-again : tie.Need-loop-again Inv-loop μ-loop
 loop-again c = (omega arith, members-more _ _ _ (c .before .loop .inv .1))
 
@@ -49,6 +37,5 @@ returns c = let e : c .before .loop .i ≡ c .before .before .args .a =
     omega (arith, c .loop-test .left, c .before .loop .inv .0) in rw e at (c .before .loop .inv .1)
 
 pub members-below-spec : {M : Type 1} → statement M
-members-below-spec =
-    tie.close
-    (tie.spec Inv-loop μ-loop loop-holds cast-n shr-n add-n add-i loop-less loop-again returns)
+members-below-spec = tie.close (tie.spec Inv-loop μ-loop loop-holds (λ c. search needs)
+    (λ c. search needs) add-n (λ c. search needs) (λ c. search needs) loop-again returns)

@@ -6,15 +6,6 @@ use borrow.Author.Needs.{needs}
 use Rattle.tried_count.proofs.of_length.Statement.{statement}
 use Rattle.tried_count.proofs.of_length.Tie as tie
 
-cast-has : tie.Need-cast-has
-cast-has c = search needs
-
-has-requires : tie.Need-has-requires
-has-requires c κs = search needs
-
-terminal-count-requires : tie.Need-terminal-count-requires
-terminal-count-requires c κs = search needs
-
 below : (c : tie.Start) → c .args .set < 2 ^ 64
 below c = omega (arith, c .good)
 
@@ -40,6 +31,5 @@ returns-2 : tie.Need-returns-2
 returns-2 c = (long-none _ _ _ (c .before .has .ensures .isnt (c .if1 .left)), omega arith)
 
 pub of-length-spec : {M : Type 1} → statement M
-of-length-spec =
-    tie.close
-    (tie.spec cast-has has-requires terminal-count-requires whole-requires returns returns-2)
+of-length-spec = tie.close (tie.spec (λ c. search needs) (λ c κs. search needs)
+    (λ c κs. search needs) whole-requires returns returns-2)

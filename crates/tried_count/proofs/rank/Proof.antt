@@ -69,12 +69,6 @@ add-total c =
           (fits (c .before)),
     )
 
-cast-p : tie.Need-cast-p Inv-loop μ-loop
-cast-p c = search needs
-
-add-i : tie.Need-add-i Inv-loop μ-loop
-add-i c = search needs
-
 loop-less : tie.Need-loop-less Inv-loop μ-loop
 loop-less c = omega (arith, c .before .before .before .before .loop-test .taken)
 
@@ -90,20 +84,6 @@ returns : tie.Need-returns Inv-loop μ-loop
 returns c = ranking-end _ _ _ _ _ _ _ _ (c .loop-test .left) (c .before .loop .inv)
 
 pub rank-spec : {M : Type 1} → statement M
-rank-spec =
-    tie.close
-    (tie.spec
-    Inv-loop
-    μ-loop
-    loop-holds
-    sub-row-of
-    sub-row-of-2
-    row-of-requires
-    cell-requires
-    cell-rank-requires
-    add-total
-    cast-p
-    add-i
-    loop-less
-    loop-again
-    returns)
+rank-spec = tie.close (tie.spec Inv-loop μ-loop loop-holds sub-row-of sub-row-of-2 row-of-requires
+    cell-requires cell-rank-requires add-total (λ c. search needs) (λ c. search needs) loop-less
+    loop-again returns)

@@ -22,12 +22,6 @@ grown-requires : tie.Need-grown-requires Inv-loop μ-loop
 grown-requires c κs = let a = c .before .before in
     (a .pre .0 .high, a .pre .0 .few, c .before .loop .inv .1 .low)
 
-add-i : tie.Need-add-i Inv-loop μ-loop
-add-i c = search needs
-
-loop-less : tie.Need-loop-less Inv-loop μ-loop
-loop-less c = search needs
-
 loop-again : tie.Need-loop-again Inv-loop μ-loop
 loop-again c =
     let l = c .before .before in (
@@ -42,6 +36,5 @@ returns c = let e : c .before .loop .i ≡ c .before .before .args .r =
     omega (arith, c .loop-test .left, c .before .loop .inv .0) in rw e at (c .before .loop .inv .1)
 
 pub row-of-spec : {M : Type 1} → statement M
-row-of-spec =
-    tie.close
-    (tie.spec Inv-loop μ-loop loop-holds grown-requires add-i loop-less loop-again returns)
+row-of-spec = tie.close (tie.spec Inv-loop μ-loop loop-holds grown-requires (λ c. search needs)
+    (λ c. search needs) loop-again returns)

@@ -18,15 +18,6 @@ abbrev μ-loop : tie.MeasureT-loop
 loop-holds : tie.Need-loop-holds Inv-loop μ-loop
 loop-holds c = summing-none _ _ _
 
-add-k : tie.Need-add-k Inv-loop μ-loop
-add-k c = search needs
-
-mul-s : tie.Need-mul-s Inv-loop μ-loop
-mul-s c = search needs
-
-element-copy-out-s : tie.Need-element-copy-out-s Inv-loop μ-loop
-element-copy-out-s c = search needs
-
 add-s : tie.Need-add-s Inv-loop μ-loop
 add-s c =
     let l = c .before .before in
@@ -37,9 +28,6 @@ add-s c =
           (l .before .pre .1) (c .before .loop-test .taken) (l .before .pre .0) (l .loop .inv),
     )
 
-loop-less : tie.Need-loop-less Inv-loop μ-loop
-loop-less c = search needs
-
 loop-again : tie.Need-loop-again Inv-loop μ-loop
 loop-again c = summing-more _ _ _ _ _ (c .before .loop-test .taken) (c .before .before .loop .inv)
 
@@ -47,16 +35,5 @@ returns : tie.Need-returns Inv-loop μ-loop
 returns c = summing-end _ _ _ _ _ (c .loop-test .left) (c .before .loop .inv)
 
 pub sum-between-spec : {M : Type 1} → statement M
-sum-between-spec =
-    tie.close
-    (tie.spec
-    Inv-loop
-    μ-loop
-    loop-holds
-    add-k
-    mul-s
-    element-copy-out-s
-    add-s
-    loop-less
-    loop-again
-    returns)
+sum-between-spec = tie.close (tie.spec Inv-loop μ-loop loop-holds (λ c. search needs)
+    (λ c. search needs) (λ c. search needs) add-s (λ c. search needs) loop-again returns)

@@ -20,12 +20,6 @@ up-to-requires c κs = (c .before .pre .0 .high, fair-all (c .before .pre .0))
 returns : tie.Need-returns
 returns c = tried-none _ _ _ _ _ (c .before .if1 .taken) (c .up-to .ensures .0)
 
-terminal-count-requires : tie.Need-terminal-count-requires
-terminal-count-requires c κs = search needs
-
-sub-up-to : tie.Need-sub-up-to
-sub-up-to c = search needs
-
 up-to-requires-2 : tie.Need-up-to-requires-2
 up-to-requires-2 c κs =
     let a = c .before .before in (
@@ -75,15 +69,5 @@ returns-2 c =
     (a .pre .1 .candidate (some t))))
 
 pub tried-spec : {M : Type 1} → statement M
-tried-spec =
-    tie.close
-    (tie.spec
-    up-to-requires
-    returns
-    terminal-count-requires
-    sub-up-to
-    up-to-requires-2
-    rank-requires
-    add-result
-    add-result-2
-    returns-2)
+tried-spec = tie.close (tie.spec up-to-requires returns (λ c κs. search needs) (λ c. search needs)
+    up-to-requires-2 rank-requires add-result add-result-2 returns-2)

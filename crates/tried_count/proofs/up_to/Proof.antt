@@ -22,9 +22,6 @@ abbrev μ-loop : tie.MeasureT-loop
 loop-holds : tie.Need-loop-holds Inv-loop μ-loop
 loop-holds c = (omega arith, omega arith, sized-none _ _)
 
-add-n : tie.Need-add-n Inv-loop μ-loop
-add-n c = search needs
-
 of-length-requires : tie.Need-of-length-requires Inv-loop μ-loop
 of-length-requires c κs =
     c .before .before .pre .1 .each _ (omega arith) (omega (arith, c .loop-test .taken))
@@ -39,9 +36,6 @@ add-total c = let l = c .before .before in
       l .before
           .pre .0,
     )
-
-loop-less : tie.Need-loop-less Inv-loop μ-loop
-loop-less c = search needs
 
 loop-again : tie.Need-loop-again Inv-loop μ-loop
 loop-again c =
@@ -58,15 +52,5 @@ returns c =
     (rw e at (l .loop .inv .2), omega (arith, e, l .loop .inv .1))
 
 pub up-to-spec : {M : Type 1} → statement M
-up-to-spec =
-    tie.close
-    (tie.spec
-    Inv-loop
-    μ-loop
-    loop-holds
-    add-n
-    of-length-requires
-    add-total
-    loop-less
-    loop-again
-    returns)
+up-to-spec = tie.close (tie.spec Inv-loop μ-loop loop-holds (λ c. search needs) of-length-requires
+    add-total (λ c. search needs) loop-again returns)

@@ -6,12 +6,6 @@ use borrow.Author.Needs.{needs}
 use Rattle.tried_count.proofs.ways_at.Statement.{statement}
 use Rattle.tried_count.proofs.ways_at.Tie as tie
 
-sum-between-requires : tie.Need-sum-between-requires
-sum-between-requires c κs = search needs
-
-sum-between-requires-2 : tie.Need-sum-between-requires-2
-sum-between-requires-2 c κs = search needs
-
 -- the two sums are small
 twice : (c : tie.After-sum-between2)
     → c .before .before .args .m * c .sum-between2 .result ≤ 60129542144
@@ -42,5 +36,5 @@ returns : tie.Need-returns
 returns c = ways-is _ _ _ _ _ _ (c .before .sum-between .ensures) (c .sum-between2 .ensures)
 
 pub ways-at-spec : {M : Type 1} → statement M
-ways-at-spec =
-    tie.close (tie.spec sum-between-requires sum-between-requires-2 mul-result add-result returns)
+ways-at-spec = tie.close (tie.spec (λ c κs. search needs) (λ c κs. search needs) mul-result
+    add-result returns)

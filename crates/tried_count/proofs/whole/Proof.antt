@@ -8,12 +8,6 @@ use borrow.Author.Needs.{needs}
 use Rattle.tried_count.proofs.whole.Statement.{statement}
 use Rattle.tried_count.proofs.whole.Tie as tie
 
-sub-row-of : tie.Need-sub-row-of
-sub-row-of c = search needs
-
-row-of-requires : tie.Need-row-of-requires
-row-of-requires c κs = search needs
-
 ways-at-requires : tie.Need-ways-at-requires
 ways-at-requires c κs = (c .before .pre .high, omega arith, c .row-of .ensures .low)
 
@@ -32,4 +26,5 @@ returns : tie.Need-returns
 returns c = whole-is _ _ _ _ (c .before .row-of .ensures) (c .ways-at .ensures)
 
 pub whole-spec : {M : Type 1} → statement M
-whole-spec = tie.close (tie.spec sub-row-of row-of-requires ways-at-requires mul-result returns)
+whole-spec = tie.close (tie.spec (λ c. search needs) (λ c κs. search needs) ways-at-requires
+    mul-result returns)

@@ -6,21 +6,6 @@ use borrow.Author.Needs.{needs}
 use Rattle.verdict_answers.proofs.verdict_read.Statement.{statement}
 use Rattle.verdict_answers.proofs.verdict_read.Tie as tie
 
-enum-known-o : tie.Need-enum-known-o
-enum-known-o c = search needs
-
-enum-told : tie.Need-enum-told
-enum-told c = search needs
-
-read-tokens-requires : tie.Need-read-tokens-requires
-read-tokens-requires c κs = search needs
-
-enum-known-p : tie.Need-enum-known-p
-enum-known-p c = search needs
-
-enum-told-2 : tie.Need-enum-told-2
-enum-told-2 c = search needs
-
 judged-requires : tie.Need-judged-requires
 judged-requires c κs =
     let q = c .before .before .before .before .before in
@@ -42,9 +27,6 @@ returns-2 c =
     refusing (refused-tokens (s .args .tokens .now) (s .pre) (q .before .enum-told .given .1)
     (q .read-tokens .ensures) (c .before .p .given .1)) refl refl
 
-same-length : tie.Need-same-length
-same-length c = search needs
-
 returns-3 : tie.Need-returns-3
 returns-3 c =
     let j = c .before .before in
@@ -56,16 +38,6 @@ returns-3 c =
     reading both (j .judged .ensures)
 
 pub verdict-read-spec : {M : Type 1} → statement M
-verdict-read-spec =
-    tie.close
-    (tie.spec
-    enum-known-o
-    enum-told
-    read-tokens-requires
-    enum-known-p
-    enum-told-2
-    judged-requires
-    returns
-    returns-2
-    same-length
-    returns-3)
+verdict-read-spec = tie.close (tie.spec (λ c. search needs) (λ c. search needs)
+    (λ c κs. search needs) (λ c. search needs) (λ c. search needs) judged-requires returns returns-2
+    (λ c. search needs) returns-3)

@@ -13,21 +13,9 @@ later : (c : Candidate) (i : ℕ) → (i ≡ 0 → ⊥) → getD (c .columns) (i
 later c zero h = absurd (h refl)
 later c (suc i) h = ap (λ (j : ℕ). getD (c .columns) j 0) (omega arith)
 
-sub-result : tie.Need-sub-result
-sub-result c = search needs
-
-mul-result : tie.Need-mul-result
-mul-result c = search needs
-
-element-copy-out-result : tie.Need-element-copy-out-result
-element-copy-out-result c = search needs
-
-returns : tie.Need-returns
-returns c = search needs
-
 returns-2 : tie.Need-returns-2
 returns-2 c = later _ _ (c .before .if1 .left)
 
 pub column-before-spec : {M : Type 1} → statement M
-column-before-spec =
-    tie.close (tie.spec sub-result mul-result element-copy-out-result returns returns-2)
+column-before-spec = tie.close (tie.spec (λ c. search needs) (λ c. search needs) (λ c. search needs)
+    (λ c. search needs) returns-2)

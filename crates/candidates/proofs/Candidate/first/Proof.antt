@@ -5,11 +5,8 @@ use Rattle.candidates.proofs.Windows.{filled-first}
 use Rattle.candidates.proofs.Candidate.first.Statement.{statement}
 use Rattle.candidates.proofs.Candidate.first.Tie as tie
 
-filled-requires : tie.Need-filled-requires
-filled-requires c κs = search needs
-
 returns : tie.Need-returns
 returns c = filled-first _ _ _ _ (c .filled .ensures)
 
 pub first-spec : {M : Type 1} → statement M
-first-spec = tie.close (tie.spec filled-requires returns)
+first-spec = tie.close (tie.spec (λ c κs. search needs) returns)

@@ -10,11 +10,8 @@ later : (i : ℕ) → (i ≡ 0 → ⊥) → 2 ≡ largestStep i
 later zero h = absurd (h refl)
 later (suc i) h = refl
 
-returns : tie.Need-returns
-returns c = search needs
-
 returns-2 : tie.Need-returns-2
 returns-2 c = later _ (c .if1 .left)
 
 pub largest-step-spec : {M : Type 1} → statement M
-largest-step-spec = tie.close (tie.spec returns returns-2)
+largest-step-spec = tie.close (tie.spec (λ c. search needs) returns-2)

@@ -5,23 +5,11 @@ use Rattle.candidates.proofs.Windows.{room-at, lowered-at}
 use Rattle.candidates.proofs.Candidate.lowered.Statement.{statement}
 use Rattle.candidates.proofs.Candidate.lowered.Tie as tie
 
-largest-step-requires : tie.Need-largest-step-requires
-largest-step-requires c κs = search needs
-
-column-before-requires : tie.Need-column-before-requires
-column-before-requires c κs = search needs
-
-cast-least-spot : tie.Need-cast-least-spot
-cast-least-spot c = search needs
-
 least-spot-requires : tie.Need-least-spot-requires
 least-spot-requires c κs =
     let a = c .before .before in
     room-at (a .args .n) (a .args .self) (a .args .i) _ _ (c .before .largest-step .ensures)
     (c .column-before .ensures) (a .pre .0 .0) (a .pre .0 .1)
-
-with-requires : tie.Need-with-requires
-with-requires c κs = search needs
 
 returns : tie.Need-returns
 returns c =
@@ -32,12 +20,5 @@ returns c =
     (c .with .ensures)
 
 pub lowered-spec : {M : Type 1} → statement M
-lowered-spec =
-    tie.close
-    (tie.spec
-    largest-step-requires
-    column-before-requires
-    cast-least-spot
-    least-spot-requires
-    with-requires
-    returns)
+lowered-spec = tie.close (tie.spec (λ c κs. search needs) (λ c κs. search needs) (λ c. search needs)
+    least-spot-requires (λ c κs. search needs) returns)

@@ -6,18 +6,6 @@ use Rattle.candidates.proofs.Windows.{room-at, fits-at, last-at, raised
 use Rattle.candidates.proofs.Candidate.raised.Statement.{statement}
 use Rattle.candidates.proofs.Candidate.raised.Tie as tie
 
-largest-step-requires : tie.Need-largest-step-requires
-largest-step-requires c κs = search needs
-
-column-before-requires : tie.Need-column-before-requires
-column-before-requires c κs = search needs
-
-cell-requires : tie.Need-cell-requires
-cell-requires c κs = search needs
-
-cast-advance : tie.Need-cast-advance
-cast-advance c = search needs
-
 advance-requires : tie.Need-advance-requires
 advance-requires c κs =
     let a = c .before .before .before in
@@ -28,12 +16,6 @@ advance-requires c κs =
           (a .pre .1 .1),
     )
 
-enum-known-a : tie.Need-enum-known-a
-enum-known-a c = search needs
-
-enum-told : tie.Need-enum-told
-enum-told c = search needs
-
 returns : tie.Need-returns
 returns c =
     let e = c .before .before in
@@ -43,19 +25,10 @@ returns c =
     (e .before .before .column-before .ensures) _ (e .before .cell .ensures) _ _
     (c .enum-told .given .1) (e .advance .ensures) _ _
 
-with-requires : tie.Need-with-requires
-with-requires c κs = search needs
-
-add-filled : tie.Need-add-filled
-add-filled c = search needs
-
 filled-requires : tie.Need-filled-requires
 filled-requires c κs =
     let a = c .before .before .before .before .before .before .before .before in
     ((a .pre .0 .0, a .pre .0 .1, omega (arith, a .pre .0 .2)), a .pre .1 .0)
-
-add-t14 : tie.Need-add-t14
-add-t14 c = search needs
 
 returns-2 : tie.Need-returns-2
 returns-2 c =
@@ -68,19 +41,7 @@ returns-2 c =
     (c .before .with .ensures) (c .filled .ensures)
 
 pub raised-spec : {M : Type 1} → statement M
-raised-spec =
-    tie.close
-    (tie.spec
-    largest-step-requires
-    column-before-requires
-    cell-requires
-    cast-advance
-    advance-requires
-    enum-known-a
-    enum-told
-    returns
-    with-requires
-    add-filled
-    filled-requires
-    add-t14
-    returns-2)
+raised-spec = tie.close (tie.spec (λ c κs. search needs) (λ c κs. search needs)
+    (λ c κs. search needs) (λ c. search needs) advance-requires (λ c. search needs)
+    (λ c. search needs) returns (λ c κs. search needs) (λ c. search needs) filled-requires
+    (λ c. search needs) returns-2)

@@ -17,30 +17,12 @@ abbrev μ-loop : tie.MeasureT-loop
 loop-holds : tie.Need-loop-holds Inv-loop μ-loop
 loop-holds c = spelled-none 64 (c .args .self) (c .args .n) (c .pre .1)
 
-cell-requires : tie.Need-cell-requires Inv-loop μ-loop
-cell-requires c κs = search needs
-
-cast-s : tie.Need-cast-s Inv-loop μ-loop
-cast-s c = search needs
-
 add-line : tie.Need-add-line Inv-loop μ-loop
 add-line c =
     let l = c .before .before .before in
     let k = step-low 64 (l .before .args .self) _ _ _ _ (c .before .before .loop-test .taken)
     (omega (arith, l .before .pre .0)) (l .loop .inv) _ (c .before .cell .ensures) in
     omega (arith, k, l .loop .inv .low, c .before .before .loop-test .taken, l .before .pre .0)
-
-mul-tokens : tie.Need-mul-tokens Inv-loop μ-loop
-mul-tokens c = search needs
-
-array-set-from-tokens : tie.Need-array-set-from-tokens Inv-loop μ-loop
-array-set-from-tokens c = search needs
-
-add-i : tie.Need-add-i Inv-loop μ-loop
-add-i c = search needs
-
-loop-less : tie.Need-loop-less Inv-loop μ-loop
-loop-less c = search needs
 
 loop-again : tie.Need-loop-again Inv-loop μ-loop
 loop-again c =
@@ -52,18 +34,6 @@ returns : tie.Need-returns Inv-loop μ-loop
 returns c = spelled-whole _ _ _ _ _ (c .loop-test .left) (c .before .loop .inv)
 
 pub sentence-spec : {M : Type 1} → statement M
-sentence-spec =
-    tie.close
-    (tie.spec
-    Inv-loop
-    μ-loop
-    loop-holds
-    cell-requires
-    cast-s
-    add-line
-    mul-tokens
-    array-set-from-tokens
-    add-i
-    loop-less
-    loop-again
-    returns)
+sentence-spec = tie.close (tie.spec Inv-loop μ-loop loop-holds (λ c κs. search needs)
+    (λ c. search needs) add-line (λ c. search needs) (λ c. search needs) (λ c. search needs)
+    (λ c. search needs) loop-again returns)

@@ -18,9 +18,6 @@ abbrev μ-loop : tie.MeasureT-loop
 loop-holds : tie.Need-loop-holds Inv-loop μ-loop
 loop-holds c = (search needs, last-start (c .args .set) (c .args .n) (c .args .self) (c .args .b))
 
-sub-i : tie.Need-sub-i Inv-loop μ-loop
-sub-i c = search needs
-
 raised-requires : tie.Need-raised-requires Inv-loop μ-loop
 raised-requires c κs =
     let a = c .before .before in
@@ -42,9 +39,6 @@ returns c =
     (l .loop .i) _ (omega (arith, c .before .before .loop-test .taken)) (l .loop .inv .0)
     (a .pre .0 .2) (l .loop .inv .1) (c .if1 .taken) (c .before .raised .ensures)
 
-loop-less : tie.Need-loop-less Inv-loop μ-loop
-loop-less c = search needs
-
 loop-again : tie.Need-loop-again Inv-loop μ-loop
 loop-again c =
     let l = c .before .before .before in
@@ -65,7 +59,5 @@ returns-2 c =
     (l .loop .inv .1))
 
 pub successor-spec : {M : Type 1} → statement M
-successor-spec =
-    tie.close
-    (tie.spec Inv-loop μ-loop loop-holds sub-i raised-requires returns loop-less loop-again
-    returns-2)
+successor-spec = tie.close (tie.spec Inv-loop μ-loop loop-holds (λ c. search needs) raised-requires
+    returns (λ c. search needs) loop-again returns-2)

@@ -24,18 +24,6 @@ other-cell c i d j n =
     (getD-set-other (c .steps) i j (d .step) 0 n)
     (getD-set-other (c .columns) i j (d .column) 0 n)
 
-element-write-self : tie.Need-element-write-self
-element-write-self c = search needs
-
-element-write-self-2 : tie.Need-element-write-self-2
-element-write-self-2 c = search needs
-
-mul-self : tie.Need-mul-self
-mul-self c = search needs
-
-element-write-self-3 : tie.Need-element-write-self-3
-element-write-self-3 c = search needs
-
 returns : tie.Need-returns
 returns c = record {
   here = search needs;
@@ -43,6 +31,5 @@ returns c = record {
 }
 
 pub with-spec : {M : Type 1} → statement M
-with-spec =
-    tie.close
-    (tie.spec element-write-self element-write-self-2 mul-self element-write-self-3 returns)
+with-spec = tie.close (tie.spec (λ c. search needs) (λ c. search needs) (λ c. search needs)
+    (λ c. search needs) returns)

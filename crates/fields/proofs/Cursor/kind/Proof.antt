@@ -44,12 +44,6 @@ piece-end-requires c κs =
     let a = c .before .before .before .args in
     omega (arith, line-long (a .s .now) (a .self) (c .before .before .before .pre))
 
-sub-kind-word : tie.Need-sub-kind-word
-sub-kind-word c = search needs
-
-part-kind-word-start : tie.Need-part-kind-word-start
-part-kind-word-start c = search needs
-
 -- the field ends in the line
 high : (c : tie.After-piece-end)
     → c .piece-end .result ≤ length
@@ -63,20 +57,11 @@ high c =
 part-kind-word-end : tie.Need-part-kind-word-end
 part-kind-word-end c = high c
 
-kind-word-requires : tie.Need-kind-word-requires
-kind-word-requires c κs = search needs
-
-enum-known-v : tie.Need-enum-known-v
-enum-known-v c = search needs
-
 add-t16 : tie.Need-add-t16
 add-t16 c =
     let p = c .before .before .before .before .before in
     let a = p .before .before .before .before .args in
     omega (arith, high p, line-long (a .s .now) (a .self) (p .before .before .before .before .pre))
-
-enum-told : tie.Need-enum-told
-enum-told c = search needs
 
 abbrev start : tie.After-kind-word → tie.Start
 start c = c .before .before .before .before .before .before
@@ -107,18 +92,6 @@ returns-3 : tie.Need-returns-3
 returns-3 c = sym (here (c .before .before) _ (c .enum-told .given .1))
 
 pub kind-spec : {M : Type 1} → statement M
-kind-spec =
-    tie.close
-    (tie.spec
-    returns
-    slice-aggregate-line
-    piece-end-requires
-    sub-kind-word
-    part-kind-word-start
-    part-kind-word-end
-    kind-word-requires
-    enum-known-v
-    add-t16
-    enum-told
-    returns-2
-    returns-3)
+kind-spec = tie.close (tie.spec returns slice-aggregate-line piece-end-requires (λ c. search needs)
+    (λ c. search needs) part-kind-word-end (λ c κs. search needs) (λ c. search needs) add-t16
+    (λ c. search needs) returns-2 returns-3)

@@ -44,12 +44,6 @@ piece-end-requires c κs =
     let a = c .before .before .before .args in
     omega (arith, line-long (a .s .now) (a .self) (c .before .before .before .pre))
 
-sub-lay-word : tie.Need-sub-lay-word
-sub-lay-word c = search needs
-
-part-lay-word-start : tie.Need-part-lay-word-start
-part-lay-word-start c = search needs
-
 -- the field ends in the line
 high : (c : tie.After-piece-end)
     → c .piece-end .result ≤ length
@@ -63,20 +57,11 @@ high c =
 part-lay-word-end : tie.Need-part-lay-word-end
 part-lay-word-end c = high c
 
-lay-word-requires : tie.Need-lay-word-requires
-lay-word-requires c κs = search needs
-
-enum-known-v : tie.Need-enum-known-v
-enum-known-v c = search needs
-
 add-t16 : tie.Need-add-t16
 add-t16 c =
     let p = c .before .before .before .before .before in
     let a = p .before .before .before .before .args in
     omega (arith, high p, line-long (a .s .now) (a .self) (p .before .before .before .before .pre))
-
-enum-told : tie.Need-enum-told
-enum-told c = search needs
 
 abbrev start : tie.After-lay-word → tie.Start
 start c = c .before .before .before .before .before .before
@@ -107,18 +92,6 @@ returns-3 : tie.Need-returns-3
 returns-3 c = sym (here (c .before .before) _ (c .enum-told .given .1))
 
 pub lay-spec : {M : Type 1} → statement M
-lay-spec =
-    tie.close
-    (tie.spec
-    returns
-    slice-aggregate-line
-    piece-end-requires
-    sub-lay-word
-    part-lay-word-start
-    part-lay-word-end
-    lay-word-requires
-    enum-known-v
-    add-t16
-    enum-told
-    returns-2
-    returns-3)
+lay-spec = tie.close (tie.spec returns slice-aggregate-line piece-end-requires (λ c. search needs)
+    (λ c. search needs) part-lay-word-end (λ c κs. search needs) (λ c. search needs) add-t16
+    (λ c. search needs) returns-2 returns-3)

@@ -6,13 +6,10 @@ use Rattle.fields.specs.declared.Cursor.{Cursor}
 use Rattle.fields.proofs.Cursor.line.Statement.{statement}
 use Rattle.fields.proofs.Cursor.line.Tie as tie
 
-piece-end-requires : tie.Need-piece-end-requires
-piece-end-requires c κs = search needs
-
 returns : tie.Need-returns
 returns c =
     let f : ℕ → Cursor = λ (e : ℕ). record { at = c .before .before .args .at; end = e } in
     ap f (c .piece-end .ensures)
 
 pub line-spec : {M : Type 1} → statement M
-line-spec = tie.close (tie.spec piece-end-requires returns)
+line-spec = tie.close (tie.spec (λ c κs. search needs) returns)

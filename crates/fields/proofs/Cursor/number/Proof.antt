@@ -43,12 +43,6 @@ piece-end-requires c κs =
     let a = c .before .before .before .args in
     omega (arith, line-long (a .s .now) (a .self) (c .before .before .before .pre))
 
-sub-numeral : tie.Need-sub-numeral
-sub-numeral c = search needs
-
-part-numeral-start : tie.Need-part-numeral-start
-part-numeral-start c = search needs
-
 -- the field ends in the line
 high : (c : tie.After-piece-end)
     → c .piece-end .result ≤ length
@@ -62,20 +56,11 @@ high c =
 part-numeral-end : tie.Need-part-numeral-end
 part-numeral-end c = high c
 
-numeral-requires : tie.Need-numeral-requires
-numeral-requires c κs = search needs
-
-enum-known-v : tie.Need-enum-known-v
-enum-known-v c = search needs
-
 add-t16 : tie.Need-add-t16
 add-t16 c =
     let p = c .before .before .before .before .before in
     let a = p .before .before .before .before .args in
     omega (arith, high p, line-long (a .s .now) (a .self) (p .before .before .before .before .pre))
-
-enum-told : tie.Need-enum-told
-enum-told c = search needs
 
 abbrev start : tie.After-numeral → tie.Start
 start c = c .before .before .before .before .before .before
@@ -106,18 +91,6 @@ returns-3 : tie.Need-returns-3
 returns-3 c = sym (here (c .before .before) _ (c .enum-told .given .1))
 
 pub number-spec : {M : Type 1} → statement M
-number-spec =
-    tie.close
-    (tie.spec
-    returns
-    slice-aggregate-line
-    piece-end-requires
-    sub-numeral
-    part-numeral-start
-    part-numeral-end
-    numeral-requires
-    enum-known-v
-    add-t16
-    enum-told
-    returns-2
-    returns-3)
+number-spec = tie.close (tie.spec returns slice-aggregate-line piece-end-requires
+    (λ c. search needs) (λ c. search needs) part-numeral-end (λ c κs. search needs)
+    (λ c. search needs) add-t16 (λ c. search needs) returns-2 returns-3)

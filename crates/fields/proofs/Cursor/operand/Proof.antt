@@ -45,12 +45,6 @@ piece-end-requires c κs =
     let a = c .before .before .before .args in
     omega (arith, line-long (a .s .now) (a .self) (c .before .before .before .pre))
 
-sub-operand-word : tie.Need-sub-operand-word
-sub-operand-word c = search needs
-
-part-operand-word-start : tie.Need-part-operand-word-start
-part-operand-word-start c = search needs
-
 -- the field ends in the line
 high : (c : tie.After-piece-end)
     → c .piece-end .result ≤ length
@@ -64,20 +58,11 @@ high c =
 part-operand-word-end : tie.Need-part-operand-word-end
 part-operand-word-end c = high c
 
-operand-word-requires : tie.Need-operand-word-requires
-operand-word-requires c κs = search needs
-
-enum-known-v : tie.Need-enum-known-v
-enum-known-v c = search needs
-
 add-t16 : tie.Need-add-t16
 add-t16 c =
     let p = c .before .before .before .before .before in
     let a = p .before .before .before .before .args in
     omega (arith, high p, line-long (a .s .now) (a .self) (p .before .before .before .before .pre))
-
-enum-told : tie.Need-enum-told
-enum-told c = search needs
 
 abbrev start : tie.After-operand-word → tie.Start
 start c = c .before .before .before .before .before .before
@@ -109,18 +94,6 @@ returns-3 : tie.Need-returns-3
 returns-3 c = sym (here (c .before .before) _ (c .enum-told .given .1))
 
 pub operand-spec : {M : Type 1} → statement M
-operand-spec =
-    tie.close
-    (tie.spec
-    returns
-    slice-aggregate-line
-    piece-end-requires
-    sub-operand-word
-    part-operand-word-start
-    part-operand-word-end
-    operand-word-requires
-    enum-known-v
-    add-t16
-    enum-told
-    returns-2
-    returns-3)
+operand-spec = tie.close (tie.spec returns slice-aggregate-line piece-end-requires
+    (λ c. search needs) (λ c. search needs) part-operand-word-end (λ c κs. search needs)
+    (λ c. search needs) add-t16 (λ c. search needs) returns-2 returns-3)
