@@ -6,7 +6,7 @@ use mathlib.Core.Logic.{_⊎_, inl, inr, ⊎-elim}
 use Prim.Native.Nat.{ℕ, _+_, _*_, _≤_, _<_}
 use native.Mathlib.Omega.{arith}
 use native.Mathlib.Decide.{decLt, ℕ-discrete}
-use lib.ListN.{length}
+use lib.ListN.{length, replicate, length-replicate}
 use Rattle.sets.specs.Says.{Says}
 use Rattle.sets.specs.Sets.{In}
 use Rattle.sets.proofs.Says.{true-not-false}
@@ -33,7 +33,8 @@ use Rattle.column_ranges.specs.Ranges.{Ranges, Chosen, SomeChoiceGives, columns
 use Rattle.column_ranges.specs.RangeSentences.{range, rangesOf, EndsOrdered, Spread}
 use Rattle.narrowing.specs.Narrowing.{lowest, Singles, MayRise, fixedAt, Narrows}
 use Rattle.range_marks.specs.RangeMarks.{exchangedAll}
-use Rattle.range_charts.specs.RangeCharts.{SpanSolved, Small, Solves, Leaved}
+use Rattle.refilling.specs.Kept.{keptFor}
+use Rattle.range_charts.specs.RangeCharts.{SpanSolved, Small, Solves, Leaved, Beside}
 use Rattle.range_charts.proofs.Solving.{small-same, small-then}
 use Rattle.range_charts.proofs.Truths.{may-hold, must-hold, does-hold}
 use Rattle.narrowing.proofs.Choices.{chosen-long, chosen-at, chosen-rise, fixed-here, fixed-rest}
@@ -105,6 +106,15 @@ leaved-begun {g} {r} {w} {ws} {ws′} p e b = record {
       (ap (λ (x : Word). tokenAt x i .terminal) e ∙ ap (λ (x : Token). x .terminal)
       (lowest-at (rangesOf r) i (omega (arith, p .whole)))) (b .leaves i h);
 }
+
+-- what is kept goes by the number of tokens
+pub beside-as : {g : Rules} {n m : ℕ} {ws kept : List ℕ} → m ≡ n → Beside g n ws kept
+    → Beside g m ws kept
+beside-as {g} {n} {m} {ws} {kept} e b = subst (λ (x : ℕ). Beside g x ws kept) (sym e) b
+
+-- an array of 17666 words has room for 64 tokens
+pub room-kept : {n : ℕ} → n ≤ 64 → keptFor n ≤ length (replicate {A = ℕ} 17666 0)
+room-kept {n} h = omega (arith, length-replicate {A = ℕ} 17666 0)
 
 -- ---- what the sheet of the ranges says
 

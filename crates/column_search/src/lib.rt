@@ -1,16 +1,15 @@
 // Which verdicts some choice of columns gives. Ranges are narrowed token by token, until one choice
 // is left.
-use chains::chains;
 use column_ranges::RangeSentence;
 use column_ranges::columns;
 use column_ranges::count;
-use cuts::BinaryRules;
 use cuts::Pair;
-use cuts::binary_rules;
-use filling::fill_leaves;
+use filling::empty_pair;
+use filling::leaf_at;
 use grammar::Grammar;
 use grammar::Verdict;
 use marks::Draft;
+use narrowing::first_token;
 use narrowing::last_token;
 use narrowing::lowest_sentence;
 use narrowing::may_rise;
@@ -18,8 +17,11 @@ use narrowing::narrowed;
 use narrowing::next_token;
 use range_charts::fill_between;
 use range_charts::fill_ranges;
-use range_charts::keep_starts;
 use range_marks::exchanged_ends;
+use refilling::open_sheet;
+use refilling::prepare;
+use refilling::put_empty;
+use refilling::put_leaf;
 use spans::clear;
 use spans::in_first;
 use spans::in_second;
@@ -31,14 +33,13 @@ ghost use lib.ListN.{length};
 ghost use Rattle.grammar.specs.Content.{rules, Formed};
 ghost use Rattle.grammar.specs.SpanSheet.{pairs};
 ghost use Rattle.grammar.specs.declared.Verdict.{Verdict};
-ghost use Rattle.spans.specs.Changes.{Cleared};
-ghost use Rattle.cuts.specs.Places.{Placed};
-ghost use Rattle.chains.specs.Chains.{Chains};
-ghost use Rattle.filling.specs.Closing.{Begins};
+ghost use Rattle.marks.specs.Drafts.{drafted};
+ghost use Rattle.spans.specs.Changes.{Past, Cleared};
+ghost use Rattle.chart.specs.Sheets.{Begun};
+ghost use Rattle.refilling.specs.Kept.{keptFor, Mirrored};
 ghost use Rattle.column_ranges.specs.RangeSentences.{rangesOf, Spread};
-ghost use Rattle.narrowing.specs.Narrowing.{Singles, SinglesFrom, MayRise};
-ghost use Rattle.range_charts.specs.RangeCharts.{Leaved};
-ghost use Rattle.range_charts.specs.Keeping.{Behind, Blank};
+ghost use Rattle.narrowing.specs.Narrowing.{Singles, SinglesFrom, SinglesBefore, MayRise};
+ghost use Rattle.range_charts.specs.RangeCharts.{Leaved, Beside, Behind};
 ghost use Rattle.column_search.specs.Answers.{flag, FlagsSay};
 ghost use Rattle.column_search.specs.Searching.{With, Leaves, Reads, Foreseen, Idles};
 ghost use Rattle.column_search.specs.Searching.{Searched, Opens};
@@ -100,61 +101,51 @@ fn verdict(words: &[u64], n: usize) -> Verdict
 }
 
 // The verdict of the one choice that is left, besides those found before. The spans that begin at
-// or past `to` are settled and in the columns, and so they are left.
+// or past `to` and those that end at or before `from` are settled, and so they are left.
 fn try_choice(
     g: Grammar,
     r: RangeSentence,
-    b: BinaryRules,
-    e: Pair,
     words: &mut [u64],
-    cols: &mut [u64],
-    table: &[u64],
+    kept: &mut [u64],
     f: Flags,
+    from: usize,
     to: usize,
 ) -> Flags
-    requires { ⌜ Formed g × Placed (rules g) b ⌝ }
+    requires { ⌜ Formed g ⌝ }
     requires { ⌜ Spread r × Singles (rangesOf r) × MayRise (rangesOf r) ⌝ }
     requires { ⌜ 2 * pairs (r .count) ≤ length (now words) ⌝ }
-    requires { ⌜ Leaved (rules g) (rangesOf r) (r .count) (now words) × Begins (now words) e
-        × Chains (rules g) e (now table) ⌝ }
-    requires { ⌜ (to ≤ r .count) × Behind (now words) (now cols) (rules g) (rangesOf r) (r .count)
-        to ⌝ }
+    requires { ⌜ Leaved (rules g) (rangesOf r) (r .count) (now words) ⌝ }
+    requires { ⌜ (to ≤ r .count) × Behind (now words) (now kept) (rules g) (rangesOf r) (r .count)
+        from to ⌝ }
     ensures { λ a. ⌜ Searched (rules g) (rangesOf r) (r .count) f (now (words .entry))
         (now (words .exit)) a ⌝ }
-    ensures { λ a. ⌜ Behind (now (words .exit)) (now (cols .exit)) (rules g) (rangesOf r)
-        (r .count) to ⌝ }
+    ensures { λ a. ⌜ Behind (now (words .exit)) (now (kept .exit)) (rules g) (rangesOf r)
+        (r .count) from to ⌝ }
 {
     let n = r.count;
-    fill_between(words, cols, table, r, g, b, e, 0, to);
-    keep_starts(cols, n, to);
+    fill_between(words, kept, r, g, from, 0, to);
     let v = verdict(words, n);
     with_verdict(f, v)
 }
 
 // The verdicts that some choice may give: none where nothing must have a tree, one where something
 // may and need not have two, two where something may.
-fn outlook(
-    g: Grammar,
-    r: RangeSentence,
-    b: BinaryRules,
-    e: Pair,
-    words: &mut [u64],
-    table: &[u64],
-) -> Flags
-    requires { ⌜ Formed g × Placed (rules g) b ⌝ }
+fn outlook(g: Grammar, r: RangeSentence, words: &mut [u64], kept: &mut [u64]) -> Flags
+    requires { ⌜ Formed g ⌝ }
     requires { ⌜ Spread r ⌝ }
     requires { ⌜ 2 * pairs (r .count) ≤ length (now words) ⌝ }
-    requires { ⌜ Leaved (rules g) (rangesOf r) (r .count) (now words) × Begins (now words) e
-        × Chains (rules g) e (now table) ⌝ }
+    requires { ⌜ Leaved (rules g) (rangesOf r) (r .count) (now words) ⌝ }
+    requires { ⌜ Beside (rules g) (r .count) (now words) (now kept) ⌝ }
     ensures { λ o. ⌜ Foreseen (rules g) (rangesOf r) (r .count) (now (words .entry))
         (now (words .exit)) o ⌝ }
+    ensures { λ o. ⌜ Beside (rules g) (r .count) (now (words .exit)) (now (kept .exit)) ⌝ }
 {
     let n = r.count;
-    fill_ranges(words, table, r, g, b, e);
+    fill_ranges(words, kept, r, g);
     let may_one = in_first(words, n, 0, n, 0);
     let may_two = in_second(words, n, 0, n, 0);
     let x = exchanged_ends(r);
-    fill_ranges(words, table, x, g, b, e);
+    fill_ranges(words, kept, x, g);
     let must_one = in_first(words, n, 0, n, 0);
     let must_two = in_second(words, n, 0, n, 0);
     Flags {
@@ -185,24 +176,17 @@ fn covered(o: Flags, f: Flags) -> bool
 }
 
 // Can nothing new come of the ranges, by what may and what must hold?
-fn nothing_new(
-    g: Grammar,
-    r: RangeSentence,
-    b: BinaryRules,
-    e: Pair,
-    words: &mut [u64],
-    table: &[u64],
-    f: Flags,
-) -> bool
-    requires { ⌜ Formed g × Placed (rules g) b ⌝ }
+fn nothing_new(g: Grammar, r: RangeSentence, words: &mut [u64], kept: &mut [u64], f: Flags) -> bool
+    requires { ⌜ Formed g ⌝ }
     requires { ⌜ Spread r ⌝ }
     requires { ⌜ 2 * pairs (r .count) ≤ length (now words) ⌝ }
-    requires { ⌜ Leaved (rules g) (rangesOf r) (r .count) (now words) × Begins (now words) e
-        × Chains (rules g) e (now table) ⌝ }
+    requires { ⌜ Leaved (rules g) (rangesOf r) (r .count) (now words) ⌝ }
+    requires { ⌜ Beside (rules g) (r .count) (now words) (now kept) ⌝ }
     ensures { λ b. ⌜ Idles (rules g) (rangesOf r) (r .count) f (now (words .entry))
         (now (words .exit)) b ⌝ }
+    ensures { λ b. ⌜ Beside (rules g) (r .count) (now (words .exit)) (now (kept .exit)) ⌝ }
 {
-    let o = outlook(g, r, b, e, words, table);
+    let o = outlook(g, r, words, kept);
     covered(o, f)
 }
 
@@ -219,49 +203,62 @@ fn settled(r: RangeSentence, f: Flags) -> bool
 
 // The verdicts of few choices, besides those found before. The last token with several columns goes
 // through them, so that the spans behind it are settled once for all of these; it stands before
-// `to`, and the spans that begin there or later are settled and in the columns.
+// `to`, and the spans that begin there or later are settled. So are those that end at or before
+// `from`, where no token has several columns.
 fn search_few(
     g: Grammar,
     r: RangeSentence,
-    b: BinaryRules,
-    e: Pair,
     words: &mut [u64],
-    cols: &mut [u64],
-    table: &[u64],
+    kept: &mut [u64],
     f: Flags,
+    from: usize,
     to: usize,
 ) -> Flags
-    requires { ⌜ Formed g × Placed (rules g) b ⌝ }
+    requires { ⌜ Formed g ⌝ }
     requires { ⌜ Spread r ⌝ }
     requires { ⌜ 2 * pairs (r .count) ≤ length (now words) ⌝ }
-    requires { ⌜ Leaved (rules g) (rangesOf r) (r .count) (now words) × Begins (now words) e
-        × Chains (rules g) e (now table) ⌝ }
-    requires { ⌜ (to ≤ r .count) × SinglesFrom (rangesOf r) to
-        × Behind (now words) (now cols) (rules g) (rangesOf r) (r .count) to ⌝ }
+    requires { ⌜ Leaved (rules g) (rangesOf r) (r .count) (now words) ⌝ }
+    requires { ⌜ (to ≤ r .count) × SinglesFrom (rangesOf r) to × SinglesBefore (rangesOf r) from ⌝ }
+    requires { ⌜ Behind (now words) (now kept) (rules g) (rangesOf r) (r .count) from to ⌝ }
     ensures { λ a. ⌜ Searched (rules g) (rangesOf r) (r .count) f (now (words .entry))
         (now (words .exit)) a ⌝ }
-    ensures { λ a. ⌜ Behind (now (words .exit)) (now (cols .exit)) (rules g) (rangesOf r)
-        (r .count) to ⌝ }
+    ensures { λ a. ⌜ Behind (now (words .exit)) (now (kept .exit)) (rules g) (rangesOf r)
+        (r .count) from to ⌝ }
 {
     if settled(r, f) {
         return f;
     }
     let t = last_token(r, to);
     if r.count <= t {
-        return try_choice(g, r, b, e, words, cols, table, f, to);
+        return try_choice(g, r, words, kept, f, from, to);
     }
-    fill_between(words, cols, table, r, g, b, e, t + 1, to);
+    fill_between(words, kept, r, g, from, t + 1, to);
     let a = r.tokens[t];
     let m = columns(a);
     let mut found = f;
     let mut i: usize = 0;
     while i < m {
         let s = narrowed(r, t, i);
-        found = search_few(g, s, b, e, words, cols, table, found, t + 1);
+        found = search_few(g, s, words, kept, found, from, t + 1);
         i += 1;
     }
-    keep_starts(cols, r.count, to);
     found
+}
+
+// The same, with the spans before the first token with several columns settled here.
+fn search_rest(g: Grammar, r: RangeSentence, words: &mut [u64], kept: &mut [u64], f: Flags) -> Flags
+    requires { ⌜ Formed g ⌝ }
+    requires { ⌜ Spread r ⌝ }
+    requires { ⌜ 2 * pairs (r .count) ≤ length (now words) ⌝ }
+    requires { ⌜ Leaved (rules g) (rangesOf r) (r .count) (now words) ⌝ }
+    requires { ⌜ Beside (rules g) (r .count) (now words) (now kept) ⌝ }
+    ensures { λ a. ⌜ Searched (rules g) (rangesOf r) (r .count) f (now (words .entry))
+        (now (words .exit)) a ⌝ }
+    ensures { λ a. ⌜ Beside (rules g) (r .count) (now (words .exit)) (now (kept .exit)) ⌝ }
+{
+    fill_ranges(words, kept, r, g);
+    let from = first_token(r);
+    search_few(g, r, words, kept, f, from, r.count)
 }
 
 // The token to narrow next, where 64 choices or more are left; else the number of tokens.
@@ -277,34 +274,24 @@ fn next_of_many(r: RangeSentence) -> usize
 
 // The verdicts of all choices, besides those found before. A token with several columns goes
 // through them, until few choices are left.
-fn search(
-    g: Grammar,
-    r: RangeSentence,
-    b: BinaryRules,
-    e: Pair,
-    words: &mut [u64],
-    cols: &mut [u64],
-    table: &[u64],
-    f: Flags,
-) -> Flags
-    requires { ⌜ Formed g × Placed (rules g) b ⌝ }
+fn search(g: Grammar, r: RangeSentence, words: &mut [u64], kept: &mut [u64], f: Flags) -> Flags
+    requires { ⌜ Formed g ⌝ }
     requires { ⌜ Spread r ⌝ }
     requires { ⌜ 2 * pairs (r .count) ≤ length (now words) ⌝ }
-    requires { ⌜ Leaved (rules g) (rangesOf r) (r .count) (now words) × Begins (now words) e
-        × Chains (rules g) e (now table) ⌝ }
-    requires { ⌜ Blank (r .count) (now cols) ⌝ }
+    requires { ⌜ Leaved (rules g) (rangesOf r) (r .count) (now words) ⌝ }
+    requires { ⌜ Beside (rules g) (r .count) (now words) (now kept) ⌝ }
     ensures { λ a. ⌜ Searched (rules g) (rangesOf r) (r .count) f (now (words .entry))
         (now (words .exit)) a ⌝ }
-    ensures { λ a. ⌜ Blank (r .count) (now (cols .exit)) ⌝ }
+    ensures { λ a. ⌜ Beside (rules g) (r .count) (now (words .exit)) (now (kept .exit)) ⌝ }
 {
     if settled(r, f) {
         return f;
     }
     let t = next_of_many(r);
     if r.count <= t {
-        return search_few(g, r, b, e, words, cols, table, f, r.count);
+        return search_rest(g, r, words, kept, f);
     }
-    if nothing_new(g, r, b, e, words, table, f) {
+    if nothing_new(g, r, words, kept, f) {
         return f;
     }
     let a = r.tokens[t];
@@ -313,47 +300,43 @@ fn search(
     let mut c: usize = 0;
     while c < m {
         let s = narrowed(r, t, c);
-        found = search(g, s, b, e, words, cols, table, found);
+        found = search(g, s, words, kept, found);
         c += 1;
     }
     found
 }
 
-// The same, with what does not go by columns found once: the places of the B rules, the pair of the
-// empty word, and the table of chains; and with columns of cuts that are kept from choice to
-// choice.
-fn search_choices(g: Grammar, r: RangeSentence, words: &mut [u64], f: Flags) -> Flags
+// Write the pairs of the empty word and of each token of the draft, which do not go by columns.
+fn put_leaves(g: Grammar, d: Draft, words: &mut [u64], kept: &mut [u64])
+    requires { ⌜ d .count ≤ 64 ⌝ }
+    requires { ⌜ 2 * pairs (d .count) ≤ length (now words) ⌝ }
     requires { ⌜ Formed g ⌝ }
-    requires { ⌜ Spread r ⌝ }
-    requires { ⌜ 2 * pairs (r .count) ≤ length (now words) ⌝ }
-    requires { ⌜ Leaved (rules g) (rangesOf r) (r .count) (now words) ⌝ }
-    ensures { λ a. ⌜ Searched (rules g) (rangesOf r) (r .count) f (now (words .entry))
-        (now (words .exit)) a ⌝ }
+    requires { ⌜ Mirrored (rules g) (d .count) (now words) (now kept) ⌝ }
+    ensures { λ u. ⌜ Begun (now (words .entry)) (now (words .exit)) (rules g) (drafted d)
+        (d .count) ⌝ }
+    ensures { λ u. ⌜ Mirrored (rules g) (d .count) (now (words .exit)) (now (kept .exit)) ⌝ }
 {
-    let e = Pair {
-        one: words[0],
-        two: words[1],
-    };
-    let b = binary_rules(g);
-    let mut table = [0u64; 512];
-    chains(&mut table, g, e);
-    let mut cols = [0u64; 8320];
-    search(g, r, b, e, words, &mut cols, &table, f)
+    let n = d.count;
+    let e: Pair = empty_pair(g);
+    put_empty(words, kept, g, n, e.one, e.two);
+    let mut i: usize = 0;
+    while i < n {
+        let l = leaf_at(words, d, g, e, i);
+        put_leaf(words, kept, g, n, i, l.one, l.two);
+        i += 1;
+    }
 }
 
-// Which verdicts some rising choice of columns gives; the words that the search needed end 0.
-pub fn choose(g: Grammar, r: RangeSentence, words: &mut [u64]) -> Flags
+// Begin the span sheet of the ranges, and what is kept beside it from choice to choice.
+fn begin(g: Grammar, r: RangeSentence, words: &mut [u64], kept: &mut [u64])
     requires { ⌜ Formed g ⌝ }
     requires { ⌜ Spread r ⌝ }
     requires { ⌜ 2 * pairs (r .count) ≤ length (now words) ⌝ }
-    ensures { λ f. ⌜ FlagsSay (rules g) (rangesOf r) f ⌝ }
-    ensures { λ f. ⌜ Cleared (now (words .entry)) (now (words .exit)) (2 * pairs (r .count)) ⌝ }
+    requires { ⌜ keptFor (r .count) ≤ length (now kept) ⌝ }
+    ensures { λ u. ⌜ Leaved (rules g) (rangesOf r) (r .count) (now (words .exit)) ⌝ }
+    ensures { λ u. ⌜ Beside (rules g) (r .count) (now (words .exit)) (now (kept .exit)) ⌝ }
+    ensures { λ u. ⌜ Past (2 * pairs (r .count)) (now (words .entry)) (now (words .exit)) ⌝ }
 {
-    let nothing = Flags {
-        none: false,
-        one: false,
-        two: false,
-    };
     let s = lowest_sentence(r);
     let tokens = s.tokens;
     let n = r.count;
@@ -362,9 +345,40 @@ pub fn choose(g: Grammar, r: RangeSentence, words: &mut [u64]) -> Flags
         count: n,
         known: n,
     };
-    fill_leaves(words, d, g);
-    let f = search_choices(g, r, words, nothing);
-    let m = size(n);
+    prepare(kept, g);
+    open_sheet(words, kept, g, n);
+    put_leaves(g, d, words, kept);
+}
+
+// Which verdicts some rising choice of columns gives.
+fn search_all(g: Grammar, r: RangeSentence, words: &mut [u64], kept: &mut [u64]) -> Flags
+    requires { ⌜ Formed g ⌝ }
+    requires { ⌜ Spread r ⌝ }
+    requires { ⌜ 2 * pairs (r .count) ≤ length (now words) ⌝ }
+    requires { ⌜ keptFor (r .count) ≤ length (now kept) ⌝ }
+    ensures { λ f. ⌜ FlagsSay (rules g) (rangesOf r) f ⌝ }
+    ensures { λ f. ⌜ Past (2 * pairs (r .count)) (now (words .entry)) (now (words .exit)) ⌝ }
+{
+    let nothing = Flags {
+        none: false,
+        one: false,
+        two: false,
+    };
+    begin(g, r, words, kept);
+    search(g, r, words, kept, nothing)
+}
+
+// The same; the words that the search needed end 0.
+pub fn choose(g: Grammar, r: RangeSentence, words: &mut [u64]) -> Flags
+    requires { ⌜ Formed g ⌝ }
+    requires { ⌜ Spread r ⌝ }
+    requires { ⌜ 2 * pairs (r .count) ≤ length (now words) ⌝ }
+    ensures { λ f. ⌜ FlagsSay (rules g) (rangesOf r) f ⌝ }
+    ensures { λ f. ⌜ Cleared (now (words .entry)) (now (words .exit)) (2 * pairs (r .count)) ⌝ }
+{
+    let mut kept = [0u64; 17666];
+    let f = search_all(g, r, words, &mut kept);
+    let m = size(r.count);
     clear(words, m);
     f
 }

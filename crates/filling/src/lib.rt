@@ -101,7 +101,7 @@ fn first_like(d: Draft, i: usize) -> usize
 }
 
 // The pair of the token at i, those of the tokens before it being written; the empty word's is `e`.
-fn leaf_at(words: &[u64], d: Draft, g: Grammar, e: Pair, i: usize) -> Pair
+pub fn leaf_at(words: &[u64], d: Draft, g: Grammar, e: Pair, i: usize) -> Pair
     requires { ⌜ (i < d .count) × (d .count ≤ 64) ⌝ }
     requires { ⌜ 2 * pairs (d .count) ≤ length (now words) ⌝ }
     requires { ⌜ Formed g ⌝ }

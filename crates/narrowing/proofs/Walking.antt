@@ -22,7 +22,7 @@ use Rattle.column_ranges.specs.Ranges.{Ranges, columns}
 use Rattle.column_ranges.specs.RangeSentences.{range, rangesOf, no-range, EndsOrdered, Spread}
 use Rattle.column_ranges.proofs.Counting.{range-read, ended-at}
 use Rattle.narrowing.specs.Narrowing.{lowToken, highToken, lowest, Single, MayRise, Picks}
-use Rattle.narrowing.specs.Narrowing.{SinglesFrom, PicksLast, fixed, Narrows}
+use Rattle.narrowing.specs.Narrowing.{SinglesFrom, SinglesBefore, PicksLast, fixed, Narrows}
 use Rattle.narrowing.proofs.Choices.{lowest-long, lowest-at}
 
 -- ---- rising
@@ -169,6 +169,24 @@ backward-all p e b = record {
   behind = λ x. absurd (omega (arith, p .whole));
   absent = λ x. record { each = λ i y. b .single .each i (omega arith) y };
 }
+
+-- the first such token is looked for from the front
+
+pub singles-none : {rs : Ranges} → SinglesBefore rs 0
+singles-none = record { each = λ i h l. absurd (omega arith) }
+
+pub singles-more : {r : RangeSentence} {k m : ℕ} → Spread r → k < r .count
+    → m ≡ columns (getD (r .tokens) k no-range) → (1 < m → ⊥) → SinglesBefore (rangesOf r) k
+    → SinglesBefore (rangesOf r) (k + 1)
+singles-more {r} {k} {m} p h e l f = record { each = λ i x y. go i x y (ℕ-discrete i k) }
+  where
+    single : Single (range (rangesOf r) k)
+    single = subst Single (sym (range-read r k h)) (omega (arith, e, ended-at p k h .ordered))
+
+    go : (i : ℕ) → i < k + 1 → i < length (rangesOf r) → Dec (i ≡ k)
+        → Single (range (rangesOf r) i)
+    go i x y (yes q) = subst (λ (i : ℕ). Single (range (rangesOf r) i)) (sym q) single
+    go i x y (no q) = f .each i (omega arith) y
 
 -- ---- a token put into a column
 

@@ -44,6 +44,10 @@ pub record Singles (rs : Ranges) : Type 0 where
 pub record SinglesFrom (rs : Ranges) (s : ℕ) : Type 0 where
   pub each : (k : ℕ) → s ≤ k → k < length rs → Single (range rs k)
 
+-- so has each before the token at s
+pub record SinglesBefore (rs : Ranges) (s : ℕ) : Type 0 where
+  pub each : (k : ℕ) → k < s → k < length rs → Single (range rs k)
+
 -- each token in its highest column comes after the one before in its lowest: where one does not, no
 -- choice rises
 pub record MayRise (rs : Ranges) : Type 0 where

@@ -17,7 +17,8 @@ ghost use Rattle.grammar.specs.Sentences.{spelled};
 ghost use Rattle.column_ranges.specs.Ranges.{columns as columnsOf};
 ghost use Rattle.column_ranges.specs.RangeSentences.{range, rangesOf, Spread};
 ghost use Rattle.narrowing.specs.Narrowing.{standing, lowToken, highToken, lowest, MayRise};
-ghost use Rattle.narrowing.specs.Narrowing.{Picks, SinglesFrom, PicksLast, Narrows};
+ghost use Rattle.narrowing.specs.Narrowing.{Picks, SinglesFrom, SinglesBefore, PicksLast};
+ghost use Rattle.narrowing.specs.Narrowing.{Narrows};
 
 // The token in the column.
 fn put(t: RangeToken, column: Column) -> Token
@@ -126,6 +127,23 @@ pub fn last_token(r: RangeSentence, to: usize) -> usize
         }
     }
     r.count
+}
+
+// The first token with several columns. Where each has one column, the number of tokens.
+pub fn first_token(r: RangeSentence) -> usize
+    requires { ⌜ Spread r ⌝ }
+    ensures { λ p. ⌜ SinglesBefore (rangesOf r) p ⌝ }
+{
+    let n = r.count;
+    let mut k: usize = 0;
+    while k < n {
+        let t = r.tokens[k];
+        if 1 < columns(t) {
+            return k;
+        }
+        k += 1;
+    }
+    n
 }
 
 // The ranges with the token at t in the column that stands c past its lower end.

@@ -1,3 +1,3 @@
 pub mod Solving
 pub mod Truths
-pub mod Keeping
+pub mod Unmoved

@@ -213,35 +213,44 @@ module _ (ws ws′ : List ℕ) (g : Rules) (rs : Ranges) (n s len : ℕ) (k : Sp
         (cut-closure ws ws′ g n s len k (single-offside m) j) (j .wrote .first) (j .wrote .second);
   }
 
-  pub from-more : SolvedFrom ws g rs n s len → SolvedFrom ws′ g rs n s (len + 1)
-  from-more f =
-      record { each = λ a b two in-n p. go a b two in-n p (ℕ-discrete a s) (ℕ-discrete b len) }
+  -- a span solved before, of which the span that is written is no part
+  old : (a b : ℕ) → 2 ≤ b → a + b ≤ n
+      → ((c d : ℕ) → a ≤ c → c + d ≤ a + b → (d ≡ len) × (c ≡ s) → ⊥)
+      → SpanSolved ws g rs n a b → SpanSolved ws′ g rs n a b
+  old a b two in-n apart y = record {
+    marks = y .marks;
+    marked = y .marked;
+    solved = solved-same ws ws′ g n a b (y .marks) (omega arith) (record {
+      first = λ c d x z. other-first ws ws′ n s len c d fit (omega arith) (omega arith)
+          (j .wrote .kept) (apart c d x z);
+      second = λ c d x z. other-second ws ws′ n s len c d fit (omega arith) (omega arith)
+          (j .wrote .kept) (apart c d x z);
+    }) (y .solved);
+  }
+
+  pub from-more : (from : ℕ) → from < s + len → SolvedFrom ws g rs n from s len
+      → SolvedFrom ws′ g rs n from s (len + 1)
+  from-more from far f = record {
+    each = λ a b two in-n p. go a b two in-n p (ℕ-discrete a s) (ℕ-discrete b len);
+    early = λ a b two in-n h. old a b two in-n (λ c d x z e. omega (arith, e .0, e .1))
+        (f .early a b two in-n h);
+  }
     where
-      old : (a b : ℕ) → 2 ≤ b → a + b ≤ n → (s < a) ⊎ ((a ≡ s) × (b < len))
+      apart : (a b c d : ℕ) → a ≤ c → c + d ≤ a + b → (s < a) ⊎ ((a ≡ s) × (b < len))
+          → (d ≡ len) × (c ≡ s) → ⊥
+      apart a b c d x z (inl q) e = omega (arith, e .1)
+      apart a b c d x z (inr q) e = omega (arith, e .0, e .1, q .0, q .1)
+
+      before : (a b : ℕ) → 2 ≤ b → a + b ≤ n → (s < a) ⊎ ((a ≡ s) × (b < len))
           → SpanSolved ws′ g rs n a b
-      old a b two in-n p =
-          let y = f .each a b two in-n p in
-          record {
-            marks = y .marks;
-            marked = y .marked;
-            solved = solved-same ws ws′ g n a b (y .marks) (omega arith) (record {
-              first = λ c d x z. other-first ws ws′ n s len c d fit (omega arith) (omega arith)
-                  (j .wrote .kept) (λ e. apart c d x z p e);
-              second = λ c d x z. other-second ws ws′ n s len c d fit (omega arith) (omega arith)
-                  (j .wrote .kept) (λ e. apart c d x z p e);
-            }) (y .solved);
-          }
-        where
-          apart : (c d : ℕ) → a ≤ c → c + d ≤ a + b → (s < a) ⊎ ((a ≡ s) × (b < len))
-              → (d ≡ len) × (c ≡ s) → ⊥
-          apart c d x z (inl q) e = omega (arith, e .1)
-          apart c d x z (inr q) e = omega (arith, e .0, e .1, q .0, q .1)
+      before a b two in-n p = old a b two in-n (λ c d x z e. apart a b c d x z p e)
+          (f .each a b two in-n p)
 
       go : (a b : ℕ) → 2 ≤ b → a + b ≤ n → (s < a) ⊎ ((a ≡ s) × (b < len + 1)) → Dec (a ≡ s)
           → Dec (b ≡ len) → SpanSolved ws′ g rs n a b
-      go a b two in-n (inl q) d e = old a b two in-n (inl q)
+      go a b two in-n (inl q) d e = before a b two in-n (inl q)
       go a b two in-n (inr q) (yes d) (yes e) = subst₂ (SpanSolved ws′ g rs n) (sym d) (sym e) here
-      go a b two in-n (inr q) (yes d) (no e) = old a b two in-n (inr (d, omega (arith, q .1)))
+      go a b two in-n (inr q) (yes d) (no e) = before a b two in-n (inr (d, omega (arith, q .1)))
       go a b two in-n (inr q) (no d) e = absurd (d (q .0))
 
   pub small-more : Small ws ws′ n
@@ -276,10 +285,12 @@ small-empty {ws} {ws′} n x b = record {
 
 -- ---- from start to start
 
-pub from-next : {ws : List ℕ} {g : Rules} {rs : Ranges} {n s : ℕ}
-    → SolvedFrom ws g rs n (s + 1) (n + 1) → SolvedFrom ws g rs n s 2
-from-next {ws} {g} {rs} {n} {s} f =
-    record { each = λ a b two in-n p. f .each a b two in-n (go a b two in-n p (decLt (s + 1) a)) }
+pub from-next : {ws : List ℕ} {g : Rules} {rs : Ranges} {n from s : ℕ}
+    → SolvedFrom ws g rs n from (s + 1) (n + 1) → SolvedFrom ws g rs n from s 2
+from-next {ws} {g} {rs} {n} {from} {s} f = record {
+  each = λ a b two in-n p. f .each a b two in-n (go a b two in-n p (decLt (s + 1) a));
+  early = f .early;
+}
   where
     go : (a b : ℕ) → 2 ≤ b → a + b ≤ n → (s < a) ⊎ ((a ≡ s) × (b < 2)) → Dec (s + 1 < a)
         → (s + 1 < a) ⊎ ((a ≡ s + 1) × (b < n + 1))
@@ -287,22 +298,36 @@ from-next {ws} {g} {rs} {n} {s} f =
     go a b two in-n (inl q) (no d) = inr (omega arith, omega arith)
     go a b two in-n (inr q) d = absurd (omega (arith, q .1))
 
-pub from-end : {ws : List ℕ} {g : Rules} {rs : Ranges} {n s len : ℕ} → n < s + len
-    → SolvedFrom ws g rs n s len → SolvedFrom ws g rs n s (n + 1)
+-- a span that ends at or before `from` is left as it is
+pub from-pass : {ws : List ℕ} {g : Rules} {rs : Ranges} {n from s len : ℕ} → s + len ≤ from
+    → SolvedFrom ws g rs n from s len → SolvedFrom ws g rs n from s (len + 1)
+from-pass {ws} {g} {rs} {n} {from} {s} {len} h f =
+    record { each = λ a b two in-n p. go a b two in-n p (ℕ-discrete b len); early = f .early }
+  where
+    go : (a b : ℕ) → 2 ≤ b → a + b ≤ n → (s < a) ⊎ ((a ≡ s) × (b < len + 1)) → Dec (b ≡ len)
+        → SpanSolved ws g rs n a b
+    go a b two in-n (inl q) d = f .each a b two in-n (inl q)
+    go a b two in-n (inr q) (yes d) = f .early a b two in-n (omega (arith, q .0))
+    go a b two in-n (inr q) (no d) = f .each a b two in-n (inr (q .0, omega (arith, q .1)))
+
+pub from-end : {ws : List ℕ} {g : Rules} {rs : Ranges} {n from s len : ℕ} → n < s + len
+    → SolvedFrom ws g rs n from s len → SolvedFrom ws g rs n from s (n + 1)
 from-end h f = record {
   each = λ a b two in-n p. f .each a b two in-n
       (⊎-elim inl (λ q. inr (q .0, omega (arith, q .0))) p);
+  early = f .early;
 }
 
-pub from-none : (ws : List ℕ) (g : Rules) (rs : Ranges) (n : ℕ) → SolvedFrom ws g rs n n (n + 1)
+pub from-none : (ws : List ℕ) (g : Rules) (rs : Ranges) (n : ℕ) → SolvedFrom ws g rs n 0 n (n + 1)
 from-none ws g rs n = record {
   each = λ a b two in-n p. ⊎-elim (λ q. absurd (omega arith))
       (λ q. absurd (omega (arith, q .0))) p;
+  early = λ a b two in-n h. absurd (omega arith);
 }
 
-pub advanced-all : {ws ws′ : List ℕ} {g : Rules} {rs : Ranges} {n : ℕ} → Advances ws ws′ g rs n 0
-    → Solves ws ws′ g rs n
-advanced-all {ws} {ws′} {g} {rs} {n} x = record {
+pub advanced-all : {ws ws′ : List ℕ} {g : Rules} {rs : Ranges} {n from : ℕ}
+    → Advances ws ws′ g rs n from 0 → Solves ws ws′ g rs n
+advanced-all {ws} {ws′} {g} {rs} {n} {from} x = record {
   each = λ a b two in-n. x .solved .each a b two in-n (go a b in-n (ℕ-discrete a 0));
   small =
       x .small;

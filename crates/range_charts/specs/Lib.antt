@@ -1,2 +1,1 @@
 pub mod RangeCharts
-pub mod Keeping

@@ -17,6 +17,7 @@ use Rattle.cuts.specs.declared.Pair.{Pair}
 use Rattle.cuts.specs.Cuts.{Splits}
 use Rattle.cuts.specs.Closure.{Closure}
 use Rattle.chains.specs.SpanLinks.{spanLinks}
+use Rattle.refilling.specs.Kept.{Mirrored, Suits}
 use Rattle.column_ranges.specs.declared.RangeSentence.{RangeSentence}
 use Rattle.column_ranges.specs.Ranges.{Ranges}
 use Rattle.column_ranges.specs.RangeSentences.{range, rangesOf}
@@ -45,20 +46,21 @@ pub record SpanSolved (ws : List ℕ) (g : Rules) (rs : Ranges) (n s len : ℕ) 
   pub marked : RangeMarked rs s len marks
   pub solved : Solved ws g n s len marks
 
--- so are all spans of two tokens or more that begin past s, and those that begin at s and have
--- fewer than len tokens
-pub record SolvedFrom (ws : List ℕ) (g : Rules) (rs : Ranges) (n s len : ℕ) : Type 0 where
+-- so are all spans of two tokens or more that begin past s, those that begin at s and have fewer
+-- than len tokens, and those that end at or before `from`
+pub record SolvedFrom (ws : List ℕ) (g : Rules) (rs : Ranges) (n from s len : ℕ) : Type 0 where
   pub each : (a b : ℕ) → 2 ≤ b → a + b ≤ n → (s < a) ⊎ ((a ≡ s) × (b < len))
       → SpanSolved ws g rs n a b
+  pub early : (a b : ℕ) → 2 ≤ b → a + b ≤ n → a + b ≤ from → SpanSolved ws g rs n a b
 
 -- the pairs of the empty word and of single tokens are as they were
 pub record Small (ws ws′ : List ℕ) (n : ℕ) : Type 0 where
   pub first : (a b : ℕ) → a + b ≤ n → b < 2 → firstWord ws′ n a b ≡ firstWord ws n a b
   pub second : (a b : ℕ) → a + b ≤ n → b < 2 → secondWord ws′ n a b ≡ secondWord ws n a b
 
--- all spans that begin at or past s are solved
-pub record Advances (ws ws′ : List ℕ) (g : Rules) (rs : Ranges) (n s : ℕ) : Type 0 where
-  pub solved : SolvedFrom ws′ g rs n s (n + 1)
+-- all spans that begin at or past s or end at or before `from` are solved
+pub record Advances (ws ws′ : List ℕ) (g : Rules) (rs : Ranges) (n from s : ℕ) : Type 0 where
+  pub solved : SolvedFrom ws′ g rs n from s (n + 1)
   pub small : Small ws ws′ n
   pub past : Past (2 * pairs n) ws ws′
 
@@ -67,6 +69,16 @@ pub record Solves (ws ws′ : List ℕ) (g : Rules) (rs : Ranges) (n : ℕ) : Ty
   pub each : (a b : ℕ) → 2 ≤ b → a + b ≤ n → SpanSolved ws′ g rs n a b
   pub small : Small ws ws′ n
   pub past : Past (2 * pairs n) ws ws′
+
+-- rows, columns and the table of chains that are kept go with the sheet ws of n tokens
+pub record Beside (g : Rules) (n : ℕ) (ws kept : List ℕ) : Type 0 where
+  pub suits : Suits g ws kept
+  pub mirrored : Mirrored g n ws kept
+
+-- so they do, and the spans that begin at or past s or end at or before `from` are solved
+pub record Behind (ws kept : List ℕ) (g : Rules) (rs : Ranges) (n from s : ℕ) : Type 0 where
+  pub beside : Beside g n ws kept
+  pub solved : SolvedFrom ws g rs n from s (n + 1)
 
 -- the pairs of the empty word and of single tokens, which go by no column, are right
 pub record Leaved (g : Rules) (rs : Ranges) (n : ℕ) (ws : List ℕ) : Type 0 where

@@ -3,21 +3,33 @@ use Rattle.column_search.proofs.nothing_new.Statement.{statement}
 use Rattle.column_search.proofs.nothing_new.Tie as tie
 
 outlook-requires : tie.Need-outlook-requires
-outlook-requires c κs = search needs
+outlook-requires c κs = c .before .before .before .before .pre
 
 covered-requires : tie.Need-covered-requires
 covered-requires c κs = search needs
 
 same-length : tie.Need-same-length
-same-length c = search needs
+same-length c = c .before .before .before .before .before .outlook .ensures .0 .leaving .past .long
+
+same-length-2 : tie.Need-same-length-2
+same-length-2 c = c .before .before .before .before .before .outlook .kept .1 .1 .1 .0
 
 returns : tie.Need-returns
 returns c =
-    let o = c .before .before .before .outlook .ensures in
-    record {
-      finds = λ e. record { all = λ v y. c .covered .ensures e v (o .finds .all v y) };
-      leaving = o .leaving;
-    }
+    let o = c .before .before .before .before .before .outlook .ensures in (
+      record {
+        finds = λ e. record { all = λ v y. c .covered .ensures e v (o .0 .finds .all v y) };
+        leaving = o .0 .leaving;
+      },
+      o .1,
+    )
 
 pub nothing-new-spec : {M : Type 1} → statement M
-nothing-new-spec = tie.close (tie.spec outlook-requires covered-requires same-length returns)
+nothing-new-spec =
+    tie.close
+    (tie.spec
+    outlook-requires
+    covered-requires
+    same-length
+    same-length-2
+    returns)

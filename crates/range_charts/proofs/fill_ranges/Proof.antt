@@ -1,30 +1,18 @@
 use borrow.Author.Needs.{needs}
 use native.Mathlib.Omega.{arith}
-use Rattle.filling.proofs.ClosingLaws.{no-columns}
 use Rattle.range_charts.proofs.Solving.{advanced-all, from-none}
 use Rattle.range_charts.proofs.fill_ranges.Statement.{statement}
 use Rattle.range_charts.proofs.fill_ranges.Tie as tie
 
-slice-aggregate-fill-between : tie.Need-slice-aggregate-fill-between
-slice-aggregate-fill-between c = search needs
-
 fill-between-requires : tie.Need-fill-between-requires
 fill-between-requires c κs =
-    let z = c .before .before .before .before in
-    let a = z .args in (
+    let z = c .before .before .before .before in (
       (z .pre .0, omega arith, omega arith),
       (
         z .pre .1 .0,
         (
           z .pre .1 .1 .0,
-          (
-            z .pre .1 .1 .1,
-            record {
-              columns =
-                  no-columns (a .words .now) (a .r .count) 8320 (omega (arith, z .pre .0 .few));
-              solved = from-none _ _ _ _;
-            },
-          ),
+          record { beside = z .pre .1 .1 .1; solved = from-none _ _ _ _ },
         ),
       ),
     )
@@ -32,9 +20,13 @@ fill-between-requires c κs =
 same-length : tie.Need-same-length
 same-length c = search needs
 
+same-length-2 : tie.Need-same-length-2
+same-length-2 c = search needs
+
 returns : tie.Need-returns
-returns c = advanced-all (c .before .before .before .fill-between .ensures .0)
+returns c = let f = c .before .before .before .before .fill-between .ensures in
+    (advanced-all (f .0), f .1)
 
 pub fill-ranges-spec : {M : Type 1} → statement M
 fill-ranges-spec =
-    tie.close (tie.spec slice-aggregate-fill-between fill-between-requires same-length returns)
+    tie.close (tie.spec fill-between-requires same-length same-length-2 returns)
