@@ -3,6 +3,7 @@
 use fields::Cursor;
 use fields::Number;
 use fields::NumberField;
+use fields::ThreeNumbers;
 use fields::numeral;
 use fields::same;
 ghost use mathlib.Core.Path.{_≡_};
@@ -71,16 +72,10 @@ fn share_call(s: &[u8], c: Cursor) -> Call
     requires { ⌜ c .end ≤ length (now s) ⌝ }
     ensures { λ r. ⌜ r ≡ shareCall (fieldsLeft (now (s .entry)) c) ⌝ }
 {
-    let NumberField::Is(n, d) = c.number(s) else {
+    let ThreeNumbers::Are(n, p, i, d) = c.three(s) else {
         return Call::Not;
     };
-    let NumberField::Is(p, e) = d.number(s) else {
-        return Call::Not;
-    };
-    let NumberField::Is(i, f) = e.number(s) else {
-        return Call::Not;
-    };
-    if f.at <= f.end {
+    if d.at <= d.end {
         return Call::Not;
     }
     Call::On(Sheets::One(OneSheet::Share(n, p, i)))

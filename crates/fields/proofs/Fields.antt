@@ -12,8 +12,8 @@ use borrow.Author.Tests.{lt-leb, leb-true}
 use Rattle.fields.specs.declared.Cursor.{Cursor}
 use Rattle.fields.specs.Pieces.{before}
 use Rattle.fields.specs.Fields.{onValue, withField, atEnd}
-use Rattle.fields.proofs.Pieces.{from-step, cut-high, cut-step}
-use Rattle.fields.specs.Cursors.{fieldsLeft, withCursor, readField}
+use Rattle.fields.proofs.Pieces.{from-step, before-le, cut-high, cut-step}
+use Rattle.fields.specs.Cursors.{piecesFrom, fieldsLeft, FirstField, withCursor, readField}
 
 -- a cursor c of the sheet s whose line ends in the sheet
 module _ (s : List ℕ) (c : Cursor) (inside : c .end ≤ length s) where
@@ -32,18 +32,26 @@ module _ (s : List ℕ) (c : Cursor) (inside : c .end ≤ length s) where
     pub field-high : e ≤ length (take (c .end) s)
     field-high = cut-high 32 (take (c .end) s) (c .at) e at-line ends
 
-    pub field-here : {X : Type 0} (read : List ℕ → Option X)
-        → readField read c (fieldsLeft s c) ≡ withCursor
-        (read (take (e - c .at) (drop (c .at) (take (c .end) s))))
-        (record { at = e + 1; end = c .end })
-    field-here read =
-        let n : c .at + length (take (e - c .at) (drop (c .at) (take (c .end) s))) ≡ e
-        = omega (
-          arith,
-          length-take-le (e - c .at) (drop (c .at) (take (c .end) s))
-              (omega (arith, length-drop (c .at) (take (c .end) s), field-high)),
-        ) in
-        rw (cut-step 32 (take (c .end) s) (c .at) e at-line ends) (rw n refl)
+    pub first-field : FirstField s c (take (e - c .at) (drop (c .at) (take (c .end) s)))
+    first-field = record {
+      fits = omega (
+        arith,
+        length-take-le (e - c .at) (drop (c .at) (take (c .end) s))
+            (omega (arith, length-drop (c .at) (take (c .end) s), field-high)),
+        field-high,
+        line-long,
+        before-le 32 (drop (c .at) (take (c .end) s)),
+      );
+      rest = piecesFrom 32 (take (c .end) s) (e + 1);
+      here = cut-step 32 (take (c .end) s) (c .at) e at-line ends;
+    }
+
+-- what is read at the cursor is what the first field is read as
+pub read-first : {X : Type 0} {s : List ℕ} {c : Cursor} {f : List ℕ} (read : List ℕ → Option X)
+    → FirstField s c f
+    → readField read c (fieldsLeft s c)
+    ≡ withCursor (read f) (record { at = c .at + length f + 1; end = c .end })
+read-first read k = rw (k .here) refl
 
 -- what a field method answers, at a reader of fields that goes on with k
 module _ {R X : Type 0} (bad : R) (read : List ℕ → Option X) (k : X → List (List ℕ) → R) where

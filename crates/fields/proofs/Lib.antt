@@ -5,3 +5,4 @@ pub mod Numerals
 pub mod Fields
 pub mod Lines
 pub mod Cuts
+pub mod Three

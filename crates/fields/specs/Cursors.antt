@@ -1,5 +1,6 @@
 -- Lines and fields by the places where they stand (for inner functions).
-use Prim.Native.Nat.{ℕ, _+_, _-_}
+use mathlib.Core.Path.{_≡_}
+use Prim.Native.Nat.{ℕ, _+_, _-_, _≤_}
 use mathlib.Core.List.{List, [], _∷_}
 use mathlib.Core.Bool.{cond}
 use lib.ListN.{length, drop, take}
@@ -23,6 +24,12 @@ bytesLeft s c = take (c .end - c .at) (drop (c .at) s)
 -- the fields from a cursor to the end of its line
 abbrev pub fieldsLeft : List ℕ → Cursor → List (List ℕ)
 fieldsLeft s c = piecesFrom 32 (take (c .end) s) (c .at)
+
+-- f is the first of the fields left, and ends in the line
+pub record FirstField (s : List ℕ) (c : Cursor) (f : List ℕ) : Type 0 where
+  pub fits : c .at + length f ≤ c .end
+  pub rest : List (List ℕ)
+  pub here : fieldsLeft s c ≡ f ∷ rest
 
 -- what a field was read as, with a cursor
 abbrev pub withCursor : {X : Type 0} → Option X → Cursor → Option (X × Cursor)

@@ -4,3 +4,4 @@ pub mod Fields
 pub mod Answers
 pub mod Parts
 pub mod Cursors
+pub mod Three

@@ -8,7 +8,8 @@ ghost use Rattle.fields.specs.Parts.{Part};
 ghost use Rattle.fields.specs.Words.{digitsOf, numeralOf, kindOf, layOf, operandOf};
 ghost use Rattle.fields.specs.Answers.{asNumber, asKind, asLay, asOperand, numberField};
 ghost use Rattle.fields.specs.Answers.{kindField, layField, operandField};
-ghost use Rattle.fields.specs.Cursors.{lineAt, fieldsLeft, readField};
+ghost use Rattle.fields.specs.Cursors.{lineAt, fieldsLeft, readField, FirstField};
+ghost use Rattle.fields.specs.Three.{ThreeTold};
 
 // A place in a sheet and the line that it is in: `at` is where the next field begins, one past
 // `end` where no field is left; `end` is where the line ends, the place of its byte 10 or the
@@ -63,9 +64,14 @@ pub enum OperandWord {
     Not,
 }
 
-// The field at a cursor with the moved cursor, or no such field.
+// The field at a cursor with the moved cursor, or no such field; the same of three.
 pub enum NumberField {
     Is(u32, Cursor),
+    Bad,
+}
+
+pub enum ThreeNumbers {
+    Are(u32, u32, u32, Cursor),
     Bad,
 }
 
@@ -236,6 +242,18 @@ impl Cursor {
         &s[at..end]
     }
 
+    // The bytes of the field at the cursor: up to the next blank, or to the line's end.
+    fn field<'a>(self, s: &'a [u8]) -> &'a [u8]
+        requires { ⌜ (self .at ≤ self .end) × (self .end ≤ length (now s)) ⌝ }
+        ensures { λ r. ⌜ FirstField (now (s .entry)) self (now r) ⌝ }
+    {
+        let at = self.at;
+        let end = self.end;
+        let line = &s[..end];
+        let e = piece_end(line, at, b' ');
+        &line[at..e]
+    }
+
     // The number at the cursor.
     pub fn number(self, s: &[u8]) -> NumberField
         requires { ⌜ self .end ≤ length (now s) ⌝ }
@@ -247,12 +265,29 @@ impl Cursor {
         if end < at {
             return NumberField::Bad;
         }
-        let line = &s[..end];
-        let e = piece_end(line, at, b' ');
-        match numeral(&line[at..e]) {
-            Number::Is(v) => NumberField::Is(v, Cursor { at: e + 1, end }),
+        let f = self.field(s);
+        let next = at + f.len() + 1;
+        match numeral(f) {
+            Number::Is(v) => NumberField::Is(v, Cursor { at: next, end }),
             Number::Not => NumberField::Bad,
         }
+    }
+
+    // The three numbers at the cursor, with which lines of four sheets begin.
+    pub fn three(self, s: &[u8]) -> ThreeNumbers
+        requires { ⌜ self .end ≤ length (now s) ⌝ }
+        ensures { λ r. ⌜ ThreeTold (now (s .entry)) self r ⌝ }
+    {
+        let NumberField::Is(x, d) = self.number(s) else {
+            return ThreeNumbers::Bad;
+        };
+        let NumberField::Is(y, e) = d.number(s) else {
+            return ThreeNumbers::Bad;
+        };
+        let NumberField::Is(z, f) = e.number(s) else {
+            return ThreeNumbers::Bad;
+        };
+        ThreeNumbers::Are(x, y, z, f)
     }
 
     // The kind letter at the cursor.
@@ -266,10 +301,10 @@ impl Cursor {
         if end < at {
             return KindField::Bad;
         }
-        let line = &s[..end];
-        let e = piece_end(line, at, b' ');
-        match kind_word(&line[at..e]) {
-            KindWord::Is(v) => KindField::Is(v, Cursor { at: e + 1, end }),
+        let f = self.field(s);
+        let next = at + f.len() + 1;
+        match kind_word(f) {
+            KindWord::Is(v) => KindField::Is(v, Cursor { at: next, end }),
             KindWord::Not => KindField::Bad,
         }
     }
@@ -285,10 +320,10 @@ impl Cursor {
         if end < at {
             return OperandField::Bad;
         }
-        let line = &s[..end];
-        let e = piece_end(line, at, b' ');
-        match operand_word(&line[at..e]) {
-            OperandWord::Is(v) => OperandField::Is(v, Cursor { at: e + 1, end }),
+        let f = self.field(s);
+        let next = at + f.len() + 1;
+        match operand_word(f) {
+            OperandWord::Is(v) => OperandField::Is(v, Cursor { at: next, end }),
             OperandWord::Not => OperandField::Bad,
         }
     }
@@ -303,10 +338,10 @@ impl Cursor {
         if end < at {
             return LayField::Bad;
         }
-        let line = &s[..end];
-        let e = piece_end(line, at, b' ');
-        match lay_word(&line[at..e]) {
-            LayWord::Is(v) => LayField::Is(v, Cursor { at: e + 1, end }),
+        let f = self.field(s);
+        let next = at + f.len() + 1;
+        match lay_word(f) {
+            LayWord::Is(v) => LayField::Is(v, Cursor { at: next, end }),
             LayWord::Not => LayField::Bad,
         }
     }

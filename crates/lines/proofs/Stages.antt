@@ -9,39 +9,14 @@ use Rattle.fields.specs.declared.Cursor.{Cursor}
 use Rattle.fields.specs.declared.Kind.{Kind}
 use Rattle.fields.specs.declared.Lay.{Lay}
 use Rattle.fields.specs.declared.Operand.{Operand}
-use Rattle.fields.specs.declared.NumberField.the-variants as NumberField
 use Rattle.fields.specs.declared.KindField.the-variants as KindField
 use Rattle.fields.specs.declared.LayField.the-variants as LayField
 use Rattle.fields.specs.declared.OperandField.the-variants as OperandField
-use Rattle.fields.specs.Words.{numeralOf, kindOf, layOf, operandOf}
+use Rattle.fields.specs.Words.{kindOf, layOf, operandOf}
 use Rattle.fields.specs.Fields.{withField}
-use Rattle.fields.specs.Answers.{numberField, kindField, layField, operandField}
+use Rattle.fields.specs.Answers.{kindField, layField, operandField}
 use Rattle.fields.proofs.Fields.{with-good, with-bad}
 use Rattle.fields.specs.Cursors.{fieldsLeft, readField}
-
-number-is : (o : Option (ℕ × Cursor)) (v : ℕ) (d : Cursor) → NumberField.Is v d ≡ numberField o
-    → some (v, d) ≡ o
-number-is (some x) v d e =
-    let p : v ≡ x .0 = cc in
-    let q : d ≡ x .1 = cc in
-    λ i. some (p i, q i)
-number-is none v d e = let z : _≡_ {A = ℕ} 0 1 = cc in absurd (omega arith)
-
-number-not : (o : Option (ℕ × Cursor)) → NumberField.Bad ≡ numberField o → none ≡ o
-number-not (some x) e = let z : _≡_ {A = ℕ} 0 1 = cc in absurd (omega arith)
-number-not none e = refl
-
-module _ {R : Type 0} (bad : R) (k : ℕ → List (List ℕ) → R) (s : List ℕ) (c : Cursor) where
-  pub number-good : (v : ℕ) (d : Cursor)
-      → NumberField.Is v d ≡ numberField (readField numeralOf c (fieldsLeft s c))
-      → (withField bad numeralOf (fieldsLeft s c) k ≡ k v (fieldsLeft s d)) × (d .end ≡ c .end)
-  number-good v d e =
-      with-good bad numeralOf k s c d v (number-is (readField numeralOf c (fieldsLeft s c)) v d e)
-
-  pub number-bad : NumberField.Bad ≡ numberField (readField numeralOf c (fieldsLeft s c))
-      → withField bad numeralOf (fieldsLeft s c) k ≡ bad
-  number-bad e = with-bad bad numeralOf k c (fieldsLeft s c)
-      (number-not (readField numeralOf c (fieldsLeft s c)) e)
 
 kind-is : (o : Option (Kind × Cursor)) (v : Kind) (d : Cursor) → KindField.Is v d ≡ kindField o
     → some (v, d) ≡ o

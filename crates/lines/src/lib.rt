@@ -8,6 +8,7 @@ use fields::LayField;
 use fields::NumberField;
 use fields::Operand;
 use fields::OperandField;
+use fields::ThreeNumbers;
 use grammar::BinaryMark;
 use grammar::Clause;
 use grammar::Column;
@@ -161,19 +162,13 @@ pub fn token_line(s: &[u8], c: Cursor, wide: bool) -> TokenLine
     requires { ⌜ c .end ≤ length (now s) ⌝ }
     ensures { λ r. ⌜ r ≡ tokenFields wide (fieldsLeft (now (s .entry)) c) ⌝ }
 {
-    let NumberField::Is(t, d) = c.number(s) else {
-        return TokenLine::Form;
-    };
-    let NumberField::Is(l, e) = d.number(s) else {
-        return TokenLine::Form;
-    };
-    let NumberField::Is(k, f) = e.number(s) else {
+    let ThreeNumbers::Are(t, l, k, d) = c.three(s) else {
         return TokenLine::Form;
     };
     if wide {
-        return wide_end(s, f, t, l, k);
+        return wide_end(s, d, t, l, k);
     }
-    token_end(s, f, t, l, k, 1)
+    token_end(s, d, t, l, k, 1)
 }
 
 // Is `-` where the kind has none, and a number where it has one?

@@ -4,6 +4,7 @@ use column_ranges::RangeToken;
 use column_ranges::count;
 use fields::Cursor;
 use fields::NumberField;
+use fields::ThreeNumbers;
 use grammar::Column;
 use grammar::Line;
 use lines::Turn;
@@ -94,19 +95,13 @@ fn range_line(s: &[u8], c: Cursor) -> RangeLine
     requires { ⌜ c .end ≤ length (now s) ⌝ }
     ensures { λ r. ⌜ r ≡ rangeFields (fieldsLeft (now (s .entry)) c) ⌝ }
 {
-    let NumberField::Is(t, d) = c.number(s) else {
+    let ThreeNumbers::Are(t, l, k, d) = c.three(s) else {
         return RangeLine::Form;
     };
-    let NumberField::Is(l, e) = d.number(s) else {
+    let NumberField::Is(h, e) = d.number(s) else {
         return RangeLine::Form;
     };
-    let NumberField::Is(k, f) = e.number(s) else {
-        return RangeLine::Form;
-    };
-    let NumberField::Is(h, g) = f.number(s) else {
-        return RangeLine::Form;
-    };
-    if g.at <= g.end {
+    if e.at <= e.end {
         return RangeLine::Form;
     }
     range_of(t, l, k, h)

@@ -1,7 +1,7 @@
 // The rights sheet: what a user may see and what a user may change, as sets of nonterminals; or
 // refusal 50 with its line.
 use fields::Cursor;
-use fields::NumberField;
+use fields::ThreeNumbers;
 use fields::same;
 use lines::Turn;
 use lines::turn_at;
@@ -103,16 +103,10 @@ fn right_line(s: &[u8], c: Cursor) -> RightLine
     requires { ⌜ c .end ≤ length (now s) ⌝ }
     ensures { λ r. ⌜ r ≡ rightFields (fieldsLeft (now (s .entry)) c) ⌝ }
 {
-    let NumberField::Is(u, d) = c.number(s) else {
+    let ThreeNumbers::Are(u, low, high, d) = c.three(s) else {
         return RightLine::Bad;
     };
-    let NumberField::Is(low, e) = d.number(s) else {
-        return RightLine::Bad;
-    };
-    let NumberField::Is(high, f) = e.number(s) else {
-        return RightLine::Bad;
-    };
-    match may_at(s, f) {
+    match may_at(s, d) {
         May::Change => right_of(u, low, high, true),
         May::See => right_of(u, low, high, false),
         May::Not => RightLine::Bad,

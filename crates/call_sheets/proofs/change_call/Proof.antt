@@ -11,7 +11,7 @@ use Rattle.fields.specs.declared.Cursor.{Cursor}
 use Rattle.fields.specs.Pieces.{pieces}
 use Rattle.fields.proofs.Fields.{left-none}
 use Rattle.fields.proofs.Lines.{fields-of}
-use Rattle.lines.proofs.Stages.{number-good, number-bad}
+use Rattle.fields.proofs.Three.{number-good, number-bad}
 use Rattle.call_sheets.specs.declared.Call.{Call}
 use Rattle.call_sheets.specs.declared.Call.the-variants as Call
 use Rattle.call_sheets.specs.declared.TwoSheets.the-variants as TwoSheets

@@ -63,13 +63,5 @@ returns c =
     )
 
 pub begin-spec : {M : Type 1} → statement M
-begin-spec =
-    tie.close
-    (tie.spec
-    lowest-sentence-requires
-    prepare-requires
-    open-sheet-requires
-    put-leaves-requires
-    same-length
-    same-length-2
-    returns)
+begin-spec = tie.close (tie.spec lowest-sentence-requires prepare-requires open-sheet-requires
+    put-leaves-requires same-length same-length-2 returns)

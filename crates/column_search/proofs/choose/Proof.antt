@@ -6,9 +6,6 @@ use Rattle.column_search.proofs.Searching.{cleared-after, room-kept}
 use Rattle.column_search.proofs.choose.Statement.{statement}
 use Rattle.column_search.proofs.choose.Tie as tie
 
-slice-aggregate-search-all : tie.Need-slice-aggregate-search-all
-slice-aggregate-search-all c = search needs
-
 search-all-requires : tie.Need-search-all-requires
 search-all-requires c κs =
     let z = c .before .before .before in
@@ -40,12 +37,5 @@ returns c =
     )
 
 pub choose-spec : {M : Type 1} → statement M
-choose-spec =
-    tie.close
-    (tie.spec
-    slice-aggregate-search-all
-    search-all-requires
-    size-requires
-    clear-requires
-    same-length
-    returns)
+choose-spec = tie.close (tie.spec (λ c. search needs) search-all-requires size-requires
+    clear-requires same-length returns)

@@ -6,20 +6,11 @@ use Rattle.column_search.proofs.Searching.{implies-all}
 use Rattle.column_search.proofs.covered.Statement.{statement}
 use Rattle.column_search.proofs.covered.Tie as tie
 
-implies-requires : tie.Need-implies-requires
-implies-requires c κs = search needs
-
 returns : tie.Need-returns
 returns c = λ e. absurd (true-not-false (sym e))
 
-implies-requires-2 : tie.Need-implies-requires-2
-implies-requires-2 c κs = search needs
-
 returns-2 : tie.Need-returns-2
 returns-2 c = λ e. absurd (true-not-false (sym e))
-
-implies-requires-3 : tie.Need-implies-requires-3
-implies-requires-3 c κs = search needs
 
 returns-3 : tie.Need-returns-3
 returns-3 c =
@@ -31,6 +22,5 @@ returns-3 c =
     (b .before .implies2 .ensures (not-false _ (b .if2 .left))) (c .implies3 .ensures e)
 
 pub covered-spec : {M : Type 1} → statement M
-covered-spec =
-    tie.close
-    (tie.spec implies-requires returns implies-requires-2 returns-2 implies-requires-3 returns-3)
+covered-spec = tie.close (tie.spec (λ c κs. search needs) returns (λ c κs. search needs) returns-2
+    (λ c κs. search needs) returns-3)

@@ -5,9 +5,6 @@ use Rattle.column_search.proofs.nothing_new.Tie as tie
 outlook-requires : tie.Need-outlook-requires
 outlook-requires c κs = c .before .before .before .before .pre
 
-covered-requires : tie.Need-covered-requires
-covered-requires c κs = search needs
-
 same-length : tie.Need-same-length
 same-length c = c .before .before .before .before .before .outlook .ensures .0 .leaving .past .long
 
@@ -25,11 +22,5 @@ returns c =
     )
 
 pub nothing-new-spec : {M : Type 1} → statement M
-nothing-new-spec =
-    tie.close
-    (tie.spec
-    outlook-requires
-    covered-requires
-    same-length
-    same-length-2
-    returns)
+nothing-new-spec = tie.close (tie.spec outlook-requires (λ c κs. search needs) same-length
+    same-length-2 returns)

@@ -188,19 +188,6 @@ returns-2 c =
     )
 
 pub outlook-spec : {M : Type 1} → statement M
-outlook-spec =
-    tie.close
-    (tie.spec
-    fill-ranges-requires
-    in-first-requires
-    in-second-requires
-    exchanged-ends-requires
-    fill-ranges-requires-2
-    in-first-requires-2
-    in-second-requires-2
-    same-length
-    same-length-2
-    returns
-    same-length-3
-    same-length-4
-    returns-2)
+outlook-spec = tie.close (tie.spec fill-ranges-requires in-first-requires in-second-requires
+    exchanged-ends-requires fill-ranges-requires-2 in-first-requires-2 in-second-requires-2
+    same-length same-length-2 returns same-length-3 same-length-4 returns-2)

@@ -115,19 +115,6 @@ returns c =
     )
 
 pub put-leaves-spec : {M : Type 1} → statement M
-put-leaves-spec =
-    tie.close
-    (tie.spec
-    Inv-loop
-    μ-loop
-    empty-pair-requires
-    put-empty-requires
-    loop-holds
-    leaf-at-requires
-    put-leaf-requires
-    add-i
-    loop-less
-    loop-again
-    same-length
-    same-length-2
-    returns)
+put-leaves-spec = tie.close (tie.spec Inv-loop μ-loop empty-pair-requires put-empty-requires
+    loop-holds leaf-at-requires put-leaf-requires add-i loop-less loop-again same-length
+    same-length-2 returns)

@@ -37,11 +37,5 @@ returns c =
     )
 
 pub search-all-spec : {M : Type 1} → statement M
-search-all-spec =
-    tie.close
-    (tie.spec
-    begin-requires
-    search-requires
-    same-length
-    same-length-2
+search-all-spec = tie.close (tie.spec begin-requires search-requires same-length same-length-2
     returns)

@@ -62,12 +62,5 @@ returns c =
     (searched-after (record { small = f .small; past = f .past }) (s .0), s .1 .beside)
 
 pub search-rest-spec : {M : Type 1} → statement M
-search-rest-spec =
-    tie.close
-    (tie.spec
-    fill-ranges-requires
-    first-token-requires
-    search-few-requires
-    same-length
-    same-length-2
-    returns)
+search-rest-spec = tie.close (tie.spec fill-ranges-requires first-token-requires search-few-requires
+    same-length same-length-2 returns)

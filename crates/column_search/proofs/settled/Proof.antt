@@ -5,18 +5,12 @@ use Rattle.sets.proofs.Says.{true-not-false}
 use Rattle.column_search.proofs.settled.Statement.{statement}
 use Rattle.column_search.proofs.settled.Tie as tie
 
-full-requires : tie.Need-full-requires
-full-requires c κs = search needs
-
 returns : tie.Need-returns
 returns c = record {
   leave = λ e. inl (c .before .full .ensures (c .if1 .taken));
   stay = λ e. absurd
       (true-not-false e);
 }
-
-may-rise-requires : tie.Need-may-rise-requires
-may-rise-requires c κs = search needs
 
 returns-2 : tie.Need-returns-2
 returns-2 c = record {
@@ -26,4 +20,4 @@ returns-2 c = record {
 }
 
 pub settled-spec : {M : Type 1} → statement M
-settled-spec = tie.close (tie.spec full-requires returns may-rise-requires returns-2)
+settled-spec = tie.close (tie.spec (λ c κs. search needs) returns (λ c κs. search needs) returns-2)

@@ -28,9 +28,6 @@ verdict-requires c κs =
       ),
     )
 
-with-verdict-requires : tie.Need-with-verdict-requires
-with-verdict-requires c κs = search needs
-
 same-length : tie.Need-same-length
 same-length c =
     c .before .before .before .before .before .before .before .fill-between .ensures .0 .past .long
@@ -51,12 +48,5 @@ returns c =
     )
 
 pub try-choice-spec : {M : Type 1} → statement M
-try-choice-spec =
-    tie.close
-    (tie.spec
-    fill-between-requires
-    verdict-requires
-    with-verdict-requires
-    same-length
-    same-length-2
-    returns)
+try-choice-spec = tie.close (tie.spec fill-between-requires verdict-requires (λ c κs. search needs)
+    same-length same-length-2 returns)

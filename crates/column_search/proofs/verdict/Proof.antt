@@ -3,14 +3,8 @@ use borrow.Author.Tests.{not-true, not-false}
 use Rattle.column_search.proofs.verdict.Statement.{statement}
 use Rattle.column_search.proofs.verdict.Tie as tie
 
-in-first-requires : tie.Need-in-first-requires
-in-first-requires c κs = search needs
-
 returns : tie.Need-returns
 returns c = c .before .in-first .ensures .isnt (not-true _ (c .if1 .taken))
-
-in-second-requires : tie.Need-in-second-requires
-in-second-requires c κs = search needs
 
 returns-2 : tie.Need-returns-2
 returns-2 c = c .before .in-second .ensures .is (c .if2 .taken)
@@ -24,5 +18,5 @@ returns-3 c =
     )
 
 pub verdict-spec : {M : Type 1} → statement M
-verdict-spec =
-    tie.close (tie.spec in-first-requires returns in-second-requires returns-2 returns-3)
+verdict-spec = tie.close (tie.spec (λ c κs. search needs) returns (λ c κs. search needs) returns-2
+    returns-3)

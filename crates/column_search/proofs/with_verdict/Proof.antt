@@ -4,15 +4,6 @@ use Rattle.column_search.proofs.Flagging.{with-none, with-one, with-two
 use Rattle.column_search.proofs.with_verdict.Statement.{statement}
 use Rattle.column_search.proofs.with_verdict.Tie as tie
 
-enum-told : tie.Need-enum-told
-enum-told c = search needs
-
-enum-told-2 : tie.Need-enum-told-2
-enum-told-2 c = search needs
-
-enum-told-3 : tie.Need-enum-told-3
-enum-told-3 c = search needs
-
 returns : tie.Need-returns
 returns c =
     with-none (c .before .before .args .f) (c .before .before .args .v) (c .enum-told .given .1)
@@ -26,5 +17,5 @@ returns-3 c =
     with-two (c .before .before .args .f) (c .before .before .args .v) (c .enum-told3 .given .1)
 
 pub with-verdict-spec : {M : Type 1} → statement M
-with-verdict-spec =
-    tie.close (tie.spec enum-told enum-told-2 enum-told-3 returns returns-2 returns-3)
+with-verdict-spec = tie.close (tie.spec (λ c. search needs) (λ c. search needs) (λ c. search needs)
+    returns returns-2 returns-3)

@@ -15,7 +15,8 @@ use Rattle.lines.specs.declared.RuleLine.{RuleLine}
 use Rattle.lines.specs.declared.RuleLine.the-variants.{Form}
 use Rattle.lines.specs.RuleLines.{ruleFields, afterLeft, afterKind, afterFirst, afterSecond}
 use Rattle.lines.specs.RuleLines.{afterLay}
-use Rattle.lines.proofs.Stages.{number-good, number-bad, kind-good, kind-bad, operand-good}
+use Rattle.lines.proofs.Stages.{kind-good, kind-bad, operand-good}
+use Rattle.fields.proofs.Three.{number-good, number-bad}
 use Rattle.lines.proofs.Stages.{operand-bad, lay-good, lay-bad}
 use Rattle.lines.proofs.rule_line.Statement.{statement}
 use Rattle.lines.proofs.rule_line.Tie as tie

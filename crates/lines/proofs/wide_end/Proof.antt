@@ -6,7 +6,7 @@ use borrow.Author.Needs.{needs}
 use Rattle.lines.specs.declared.TokenLine.the-variants.{Form}
 use mathlib.Core.Bool.{true}
 use Rattle.lines.specs.TokenLines.{afterWidth, afterColumn}
-use Rattle.lines.proofs.Stages.{number-good, number-bad}
+use Rattle.fields.proofs.Three.{number-good, number-bad}
 use Rattle.lines.proofs.wide_end.Statement.{statement}
 use Rattle.lines.proofs.wide_end.Tie as tie
 use Rattle.fields.specs.Cursors.{fieldsLeft}

@@ -19,9 +19,6 @@ abbrev μ-loop : tie.MeasureT-loop
 loop-holds : tie.Need-loop-holds Inv-loop μ-loop
 loop-holds c = (omega arith, singles-none)
 
-mul-t : tie.Need-mul-t Inv-loop μ-loop
-mul-t c = search needs
-
 element-copy-out-t : tie.Need-element-copy-out-t Inv-loop μ-loop
 element-copy-out-t c = omega (arith, c .before .before .pre .few, c .loop-test .taken)
 
@@ -31,9 +28,6 @@ columns-requires c κs = ended-at (c .before .before .before .pre) (c .before .b
 
 returns : tie.Need-returns Inv-loop μ-loop
 returns c = c .before .before .before .before .loop .inv .1
-
-add-k : tie.Need-add-k Inv-loop μ-loop
-add-k c = search needs
 
 loop-less : tie.Need-loop-less Inv-loop μ-loop
 loop-less c = omega (arith, c .before .before .before .loop-test .taken)
@@ -54,17 +48,5 @@ returns-2 c =
     subst (SinglesBefore (rangesOf (c .before .before .args .t1))) e (l .inv .1)
 
 pub first-token-spec : {M : Type 1} → statement M
-first-token-spec =
-    tie.close
-    (tie.spec
-    Inv-loop
-    μ-loop
-    loop-holds
-    mul-t
-    element-copy-out-t
-    columns-requires
-    returns
-    add-k
-    loop-less
-    loop-again
-    returns-2)
+first-token-spec = tie.close (tie.spec Inv-loop μ-loop loop-holds (λ c. search needs)
+    element-copy-out-t columns-requires returns (λ c. search needs) loop-less loop-again returns-2)

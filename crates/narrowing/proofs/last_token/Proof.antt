@@ -20,9 +20,6 @@ loop-holds c = record { fits = omega arith; single = c .pre .1 }
 sub-k : tie.Need-sub-k Inv-loop μ-loop
 sub-k c = omega (arith, c .loop-test .taken)
 
-mul-t : tie.Need-mul-t Inv-loop μ-loop
-mul-t c = search needs
-
 element-copy-out-t : tie.Need-element-copy-out-t Inv-loop μ-loop
 element-copy-out-t c = let z = c .before .before in
     omega (arith, z .pre .0 .0 .few, z .pre .0 .1, c .before .loop .inv .fits, c .loop-test .taken)
@@ -55,17 +52,5 @@ returns-2 c = backward-all (c .before .before .pre .0 .0) (omega (arith, c .loop
     (c .before .loop .inv)
 
 pub last-token-spec : {M : Type 1} → statement M
-last-token-spec =
-    tie.close
-    (tie.spec
-    Inv-loop
-    μ-loop
-    loop-holds
-    sub-k
-    mul-t
-    element-copy-out-t
-    columns-requires
-    returns
-    loop-less
-    loop-again
-    returns-2)
+last-token-spec = tie.close (tie.spec Inv-loop μ-loop loop-holds sub-k (λ c. search needs)
+    element-copy-out-t columns-requires returns loop-less loop-again returns-2)

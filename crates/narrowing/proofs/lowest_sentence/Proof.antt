@@ -13,30 +13,12 @@ Inv-loop r tokens₀ i₀ tokens i = LowestPlaced r tokens i
 abbrev μ-loop : tie.MeasureT-loop
 μ-loop r tokens₀ i₀ tokens i = r .count - i
 
-no-tokens-requires : tie.Need-no-tokens-requires Inv-loop μ-loop
-no-tokens-requires c κs = search needs
-
 loop-holds : tie.Need-loop-holds Inv-loop μ-loop
 loop-holds c = laid-none _ _ (c .no-tokens .ensures)
-
-mul-low-token : tie.Need-mul-low-token Inv-loop μ-loop
-mul-low-token c = search needs
 
 element-copy-out-low-token : tie.Need-element-copy-out-low-token Inv-loop μ-loop
 element-copy-out-low-token c =
     omega (arith, c .before .before .before .pre .few, c .loop-test .taken)
-
-low-token-requires : tie.Need-low-token-requires Inv-loop μ-loop
-low-token-requires c κs = search needs
-
-mul-tokens : tie.Need-mul-tokens Inv-loop μ-loop
-mul-tokens c = search needs
-
-array-set-from-tokens : tie.Need-array-set-from-tokens Inv-loop μ-loop
-array-set-from-tokens c = search needs
-
-add-i : tie.Need-add-i Inv-loop μ-loop
-add-i c = search needs
 
 loop-less : tie.Need-loop-less Inv-loop μ-loop
 loop-less c = omega (arith, c .before .before .loop-test .taken)
@@ -55,19 +37,6 @@ returns c = (
 )
 
 pub lowest-sentence-spec : {M : Type 1} → statement M
-lowest-sentence-spec =
-    tie.close
-    (tie.spec
-    Inv-loop
-    μ-loop
-    no-tokens-requires
-    loop-holds
-    mul-low-token
-    element-copy-out-low-token
-    low-token-requires
-    mul-tokens
-    array-set-from-tokens
-    add-i
-    loop-less
-    loop-again
-    returns)
+lowest-sentence-spec = tie.close (tie.spec Inv-loop μ-loop (λ c κs. search needs) loop-holds
+    (λ c. search needs) element-copy-out-low-token (λ c κs. search needs) (λ c. search needs)
+    (λ c. search needs) (λ c. search needs) loop-less loop-again returns)

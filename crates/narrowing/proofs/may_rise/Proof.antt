@@ -21,30 +21,15 @@ loop-holds c = (omega arith, rose-none)
 add-loop : tie.Need-add-loop Inv-loop μ-loop
 add-loop c = record { fits = omega (arith, c .loop .inv .0) }
 
-mul-low-token : tie.Need-mul-low-token Inv-loop μ-loop
-mul-low-token c = search needs
-
 element-copy-out-low-token : tie.Need-element-copy-out-low-token Inv-loop μ-loop
 element-copy-out-low-token c = omega (arith, c .loop-test .taken, c .before .before .pre .few)
-
-low-token-requires : tie.Need-low-token-requires Inv-loop μ-loop
-low-token-requires c κs = search needs
 
 add-high-token : tie.Need-add-high-token Inv-loop μ-loop
 add-high-token c = record { fits = omega (arith, c .before .before .before .loop .inv .0) }
 
-mul-high-token : tie.Need-mul-high-token Inv-loop μ-loop
-mul-high-token c = search needs
-
 element-copy-out-high-token : tie.Need-element-copy-out-high-token Inv-loop μ-loop
 element-copy-out-high-token c =
     omega (arith, c .before .before .loop-test .taken, c .before .before .before .before .pre .few)
-
-high-token-requires : tie.Need-high-token-requires Inv-loop μ-loop
-high-token-requires c κs = search needs
-
-comes-after-requires : tie.Need-comes-after-requires Inv-loop μ-loop
-comes-after-requires c κs = search needs
 
 returns : tie.Need-returns Inv-loop μ-loop
 returns c =
@@ -58,9 +43,6 @@ returns c =
     (a .comes-after .ensures) (l .low-token .ensures) (h .high-token .ensures) in
     fails (λ m. s .isnt (not-true _ (c .if1 .taken))
     (m .each k (omega (arith, i .loop-test .taken, z .pre .whole))))
-
-add-k : tie.Need-add-k Inv-loop μ-loop
-add-k c = search needs
 
 loop-less : tie.Need-loop-less Inv-loop μ-loop
 loop-less c = omega (arith, c .before .before .before .before .before .before .loop-test .taken)
@@ -85,23 +67,7 @@ returns-2 c = holds (rose-all (c .before .loop .k)
     (omega (arith, c .loop-test .left, c .before .before .pre .whole)) (c .before .loop .inv .1))
 
 pub may-rise-spec : {M : Type 1} → statement M
-may-rise-spec =
-    tie.close
-    (tie.spec
-    Inv-loop
-    μ-loop
-    loop-holds
-    add-loop
-    mul-low-token
-    element-copy-out-low-token
-    low-token-requires
-    add-high-token
-    mul-high-token
-    element-copy-out-high-token
-    high-token-requires
-    comes-after-requires
-    returns
-    add-k
-    loop-less
-    loop-again
-    returns-2)
+may-rise-spec = tie.close (tie.spec Inv-loop μ-loop loop-holds add-loop (λ c. search needs)
+    element-copy-out-low-token (λ c κs. search needs) add-high-token (λ c. search needs)
+    element-copy-out-high-token (λ c κs. search needs) (λ c κs. search needs) returns
+    (λ c. search needs) loop-less loop-again returns-2)

@@ -8,9 +8,6 @@ use Rattle.narrowing.proofs.Walking.{narrows}
 use Rattle.narrowing.proofs.narrowed.Statement.{statement}
 use Rattle.narrowing.proofs.narrowed.Tie as tie
 
-mul-a : tie.Need-mul-a
-mul-a c = search needs
-
 element-copy-out-a : tie.Need-element-copy-out-a
 element-copy-out-a c = omega (arith, c .pre .0 .0 .few, c .pre .0 .1)
 
@@ -44,18 +41,11 @@ add-x c =
       );
     }
 
-mul-tokens : tie.Need-mul-tokens
-mul-tokens c = search needs
-
-array-set-from-tokens : tie.Need-array-set-from-tokens
-array-set-from-tokens c = search needs
-
 returns : tie.Need-returns
 returns c =
     let z = c .before .before .before .before in
     narrows (z .args .t1) (z .args .t) (z .args .c) (z .pre .0 .0) (z .pre .0 .1) (z .pre .1) refl
 
 pub narrowed-spec : {M : Type 1} → statement M
-narrowed-spec =
-    tie.close
-    (tie.spec mul-a element-copy-out-a cast-x add-x mul-tokens array-set-from-tokens returns)
+narrowed-spec = tie.close (tie.spec (λ c. search needs) element-copy-out-a cast-x add-x
+    (λ c. search needs) (λ c. search needs) returns)

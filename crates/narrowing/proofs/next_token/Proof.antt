@@ -18,18 +18,12 @@ abbrev μ-loop : tie.MeasureT-loop
 loop-holds : tie.Need-loop-holds Inv-loop μ-loop
 loop-holds c = seeking-none
 
-mul-t : tie.Need-mul-t Inv-loop μ-loop
-mul-t c = search needs
-
 element-copy-out-t : tie.Need-element-copy-out-t Inv-loop μ-loop
 element-copy-out-t c = omega (arith, c .before .before .pre .few, c .loop-test .taken)
 
 columns-requires : tie.Need-columns-requires Inv-loop μ-loop
 columns-requires c κs = ended-at (c .before .before .before .pre) (c .before .before .loop .k)
     (c .before .loop-test .taken)
-
-add-k : tie.Need-add-k Inv-loop μ-loop
-add-k c = search needs
 
 loop-less : tie.Need-loop-less Inv-loop μ-loop
 loop-less c = omega (arith, c .before .before .before .loop-test .taken)
@@ -43,9 +37,6 @@ loop-again c =
 wider-requires : tie.Need-wider-requires Inv-loop μ-loop
 wider-requires c κs = let l = c .before .before .before in
     (omega (arith, l .before .before .pre .few), l .loop-test .taken)
-
-add-k-2 : tie.Need-add-k-2 Inv-loop μ-loop
-add-k-2 c = search needs
 
 loop-less-2 : tie.Need-loop-less-2 Inv-loop μ-loop
 loop-less-2 c = omega (arith, c .before .before .before .before .loop-test .taken)
@@ -62,20 +53,6 @@ returns c =
     seeking-all (c .before .before .pre) (omega (arith, c .loop-test .left)) (c .before .loop .inv)
 
 pub next-token-spec : {M : Type 1} → statement M
-next-token-spec =
-    tie.close
-    (tie.spec
-    Inv-loop
-    μ-loop
-    loop-holds
-    mul-t
-    element-copy-out-t
-    columns-requires
-    add-k
-    loop-less
-    loop-again
-    wider-requires
-    add-k-2
-    loop-less-2
-    loop-again-2
-    returns)
+next-token-spec = tie.close (tie.spec Inv-loop μ-loop loop-holds (λ c. search needs)
+    element-copy-out-t columns-requires (λ c. search needs) loop-less loop-again wider-requires
+    (λ c. search needs) loop-less-2 loop-again-2 returns)

@@ -5,12 +5,6 @@ use native.Mathlib.Nat.{mul-le-mul}
 use Rattle.narrowing.proofs.spans_over.Statement.{statement}
 use Rattle.narrowing.proofs.spans_over.Tie as tie
 
-add-result : tie.Need-add-result
-add-result c = search needs
-
-sub-result : tie.Need-sub-result
-sub-result c = search needs
-
 mul-result : tie.Need-mul-result
 mul-result c =
     let z = c in
@@ -19,8 +13,6 @@ mul-result c =
           {n₂ = 64} {m₂ = 64} (omega (arith, z .pre)) (omega (arith, z .pre)) in omega (arith, m);
     }
 
-returns : tie.Need-returns
-returns c = search needs
-
 pub spans-over-spec : {M : Type 1} → statement M
-spans-over-spec = tie.close (tie.spec add-result sub-result mul-result returns)
+spans-over-spec = tie.close (tie.spec (λ c. search needs) (λ c. search needs) mul-result
+    (λ c. search needs))

@@ -8,12 +8,6 @@ use Rattle.narrowing.proofs.wider.Tie as tie
 returns : tie.Need-returns
 returns c = inl refl
 
-spans-over-requires : tie.Need-spans-over-requires
-spans-over-requires c κs = search needs
-
-spans-over-requires-2 : tie.Need-spans-over-requires-2
-spans-over-requires-2 c κs = search needs
-
 returns-2 : tie.Need-returns-2
 returns-2 c = inl refl
 
@@ -21,5 +15,5 @@ returns-3 : tie.Need-returns-3
 returns-3 c = inr (refl, omega (arith, c .before .before .before .if1 .left))
 
 pub wider-spec : {M : Type 1} → statement M
-wider-spec =
-    tie.close (tie.spec returns spans-over-requires spans-over-requires-2 returns-2 returns-3)
+wider-spec = tie.close (tie.spec returns (λ c κs. search needs) (λ c κs. search needs) returns-2
+    returns-3)

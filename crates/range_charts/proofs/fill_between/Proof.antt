@@ -88,16 +88,5 @@ returns c =
     )
 
 pub fill-between-spec : {M : Type 1} → statement M
-fill-between-spec =
-    tie.close
-    (tie.spec
-    Inv-loop
-    μ-loop
-    loop-holds
-    sub-start
-    fill-start-requires
-    loop-less
-    loop-again
-    same-length
-    same-length-2
-    returns)
+fill-between-spec = tie.close (tie.spec Inv-loop μ-loop loop-holds sub-start fill-start-requires
+    loop-less loop-again same-length same-length-2 returns)

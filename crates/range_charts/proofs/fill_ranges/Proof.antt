@@ -17,16 +17,10 @@ fill-between-requires c κs =
       ),
     )
 
-same-length : tie.Need-same-length
-same-length c = search needs
-
-same-length-2 : tie.Need-same-length-2
-same-length-2 c = search needs
-
 returns : tie.Need-returns
 returns c = let f = c .before .before .before .before .fill-between .ensures in
     (advanced-all (f .0), f .1)
 
 pub fill-ranges-spec : {M : Type 1} → statement M
-fill-ranges-spec =
-    tie.close (tie.spec fill-between-requires same-length same-length-2 returns)
+fill-ranges-spec = tie.close (tie.spec fill-between-requires (λ c. search needs) (λ c. search needs)
+    returns)

@@ -29,14 +29,8 @@ Inv-loop words₀ kept₀ g from start r n a k₀ len₀ words kept k len =
 abbrev μ-loop : tie.MeasureT-loop
 μ-loop words₀ kept₀ g from start r n a k₀ len₀ words kept k len = r .count - len
 
-mul-a : tie.Need-mul-a Inv-loop μ-loop
-mul-a c = search needs
-
 element-copy-out-a : tie.Need-element-copy-out-a Inv-loop μ-loop
 element-copy-out-a c = let z = c .before .before in omega (arith, z .pre .0 .0 .few, z .pre .0 .1)
-
-first-of-requires : tie.Need-first-of-requires Inv-loop μ-loop
-first-of-requires c κs = search needs
 
 loop-holds : tie.Need-loop-holds Inv-loop μ-loop
 loop-holds c =
@@ -74,9 +68,6 @@ add-at c = record {
 sub-z : tie.Need-sub-z Inv-loop μ-loop
 sub-z c = omega (arith, c .before .loop .inv .0)
 
-mul-z : tie.Need-mul-z Inv-loop μ-loop
-mul-z c = search needs
-
 element-copy-out-z : tie.Need-element-copy-out-z Inv-loop μ-loop
 element-copy-out-z c = omega (
   arith,
@@ -84,9 +75,6 @@ element-copy-out-z c = omega (
   c .before .before .before .before .before
       .before .pre .0 .0 .few,
 )
-
-mul-t : tie.Need-mul-t Inv-loop μ-loop
-mul-t c = search needs
 
 element-copy-out-t : tie.Need-element-copy-out-t Inv-loop μ-loop
 element-copy-out-t c = omega (
@@ -238,30 +226,7 @@ returns c =
     )
 
 pub fill-start-spec : {M : Type 1} → statement M
-fill-start-spec =
-    tie.close
-    (tie.spec
-    Inv-loop
-    μ-loop
-    mul-a
-    element-copy-out-a
-    first-of-requires
-    loop-holds
-    add-loop
-    add-at
-    sub-z
-    mul-z
-    element-copy-out-z
-    mul-t
-    element-copy-out-t
-    stretched-requires
-    add-len
-    add-if1
-    loop-less
-    loop-again
-    close-requires
-    loop-less-2
-    loop-again-2
-    same-length
-    same-length-2
-    returns)
+fill-start-spec = tie.close (tie.spec Inv-loop μ-loop (λ c. search needs) element-copy-out-a
+    (λ c κs. search needs) loop-holds add-loop add-at sub-z (λ c. search needs) element-copy-out-z
+    (λ c. search needs) element-copy-out-t stretched-requires add-len add-if1 loop-less loop-again
+    close-requires loop-less-2 loop-again-2 same-length same-length-2 returns)
