@@ -4,7 +4,7 @@
 use super::chart::{leaf_pairs, Tables};
 use super::grammar::{has, Column, Rule, Token};
 use super::ranges::{Range, RangeChart};
-use super::spans::{self, place};
+use super::spans;
 
 /// A token in its lowest column, and how many columns it has.
 pub type Ranged = (Token, u16);
@@ -20,11 +20,9 @@ pub fn columns(rules: &[Rule], ranges: &[Ranged], words: &mut [u64]) -> [bool; 3
     let words = &mut words[..spans::size(n)];
     words.fill(0);
     tables.empty.put(words, 0);
-    for (i, leaf) in leaf_pairs(rules, &tokens, tables.empty).iter().enumerate() {
-        leaf.put(words, place(n, i, 1));
-    }
+    let leaves = leaf_pairs(rules, &tokens, tables.empty);
     let mut ranges: Vec<Range> = ranges.iter().map(range).collect();
-    let chart = RangeChart::new(&tables, n, words);
+    let chart = RangeChart::new(&tables, n, &leaves, words);
     let mut search = Search { chart, found: [false; 3] };
     search.many(&mut ranges);
     let found = search.found;
@@ -53,10 +51,10 @@ impl Search<'_> {
     /// Can nothing new come, by what may and what must hold?
     fn idle(&mut self, ranges: &[Range]) -> bool {
         let n = ranges.len();
-        self.chart.fill(ranges, 0..n);
+        self.chart.fill(ranges, 0, 0..n);
         let may = self.chart.whole(n);
         let exchanged: Vec<Range> = ranges.iter().map(Range::exchanged).collect();
-        self.chart.fill(&exchanged, 0..n);
+        self.chart.fill(&exchanged, 0, 0..n);
         let must = self.chart.whole(n);
         let outlook = [!has(must.one, 0), has(may.one, 0) && !has(must.two, 0), has(may.two, 0)];
         outlook.iter().zip(&self.found).all(|(&may, &found)| found || !may)
@@ -67,7 +65,9 @@ impl Search<'_> {
     fn many(&mut self, ranges: &mut [Range]) {
         let n = ranges.len();
         if ranges.iter().map(Range::columns).product::<u64>() < MANY {
-            return self.few(ranges, n);
+            self.chart.fill(ranges, 0, 0..n);
+            let from = ranges.iter().position(|range| range.columns() > 1).unwrap_or(n);
+            return self.few(ranges, from, n);
         }
         if self.settled(ranges) || self.idle(ranges) {
             return;
@@ -80,18 +80,19 @@ impl Search<'_> {
 
     /// The last token with several columns goes through them, so that the spans
     /// behind it need not be filled again. Those that begin at or past `to` are
-    /// filled already.
-    fn few(&mut self, ranges: &mut [Range], to: usize) {
+    /// filled already, and those that end at or before `from`, the first of these
+    /// tokens.
+    fn few(&mut self, ranges: &mut [Range], from: usize, to: usize) {
         if self.settled(ranges) {
             return;
         }
         let Some(t) = (0..to).rev().find(|&t| ranges[t].columns() > 1) else {
-            self.chart.fill(ranges, 0..to);
+            self.chart.fill(ranges, from, 0..to);
             self.found[self.chart.whole(ranges.len()).verdict() as usize] = true;
             return;
         };
-        self.chart.fill(ranges, t + 1..to);
-        self.each(ranges, t, |search, ranges| search.few(ranges, t + 1));
+        self.chart.fill(ranges, from, t + 1..to);
+        self.each(ranges, t, |search, ranges| search.few(ranges, from, t + 1));
     }
 
     /// The token at `t` in each of its columns.

@@ -80,14 +80,25 @@ impl Binaries {
         put(column, pair, self.seconds, 1 << start);
     }
 
-    /// Turn over what has changed in a span's pair in the column of its end.
+    /// Turn over what has changed in a span's pair in the row of its start.
+    pub fn turn_row(&self, row: &mut Cuts, changed: Pair, end: usize) {
+        if end < 64 {
+            turn(row, changed, self.firsts, 1 << end);
+        }
+    }
+
+    /// And in the column of its end.
     pub fn turn_column(&self, column: &mut Cuts, changed: Pair, start: usize) {
-        members(changed.one & self.seconds).for_each(|a| column[a].one ^= 1 << start);
-        members(changed.two & self.seconds).for_each(|a| column[a].two ^= 1 << start);
+        turn(column, changed, self.seconds, 1 << start);
     }
 }
 
 fn put(cuts: &mut Cuts, pair: Pair, only: u64, bit: u64) {
     members(pair.one & only).for_each(|a| cuts[a].one |= bit);
     members(pair.two & only).for_each(|a| cuts[a].two |= bit);
+}
+
+fn turn(cuts: &mut Cuts, changed: Pair, only: u64, bit: u64) {
+    members(changed.one & only).for_each(|a| cuts[a].one ^= bit);
+    members(changed.two & only).for_each(|a| cuts[a].two ^= bit);
 }

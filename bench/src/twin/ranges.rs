@@ -44,57 +44,58 @@ impl Range {
     }
 }
 
-/// The pairs of all spans, and the columns that go with them.
+/// The pairs of all spans, and the rows and columns that go with them. They are
+/// kept while tokens move, and turn over where a pair changes.
 pub struct RangeChart<'a> {
     tables: &'a Tables,
     words: &'a mut [u64],
+    rows: Vec<Cuts>,
     columns: Vec<Cuts>,
 }
 
 impl<'a> RangeChart<'a> {
-    /// The words have the pairs of the empty word and of each token.
-    pub fn new(tables: &'a Tables, n: usize, words: &'a mut [u64]) -> Self {
-        let mut columns = vec![NO_CUTS; n + 1];
-        for (start, column) in columns[1..].iter_mut().enumerate() {
-            let pair = Pair::at(words, place(n, start, 1));
-            tables.binaries.put_column(column, pair, start);
+    /// The words have the pair of the empty word, and no other.
+    pub fn new(tables: &'a Tables, n: usize, leaves: &[Pair], words: &'a mut [u64]) -> Self {
+        let mut chart =
+            RangeChart { tables, words, rows: vec![NO_CUTS; n], columns: vec![NO_CUTS; n + 1] };
+        for (start, &leaf) in leaves.iter().enumerate() {
+            chart.replace(n, start, start + 1, leaf);
         }
-        RangeChart { tables, words, columns }
+        chart
     }
 
     /// Fill the pairs of the spans of two tokens or more that begin at one of the
-    /// starts.
-    pub fn fill(&mut self, ranges: &[Range], starts: std::ops::Range<usize>) {
+    /// starts and end past `from`.
+    pub fn fill(&mut self, ranges: &[Range], from: usize, starts: std::ops::Range<usize>) {
         for start in starts.rev() {
-            self.fill_start(ranges, start);
+            self.fill_start(ranges, from, start);
         }
     }
 
-    fn fill_start(&mut self, ranges: &[Range], start: usize) {
+    fn fill_start(&mut self, ranges: &[Range], from: usize, start: usize) {
         let (n, tables) = (ranges.len(), self.tables);
         let first = &ranges[start];
-        let mut row = NO_CUTS;
         let mut marks = Marks::of(first.low);
-        let leaf = Pair::at(self.words, place(n, start, 1));
-        tables.binaries.put_row(&mut row, leaf, start + 1);
         for end in start + 2..=n {
             let (before, token) = (&ranges[end - 2], &ranges[end - 1]);
             let (x, y, z) = (first.lowest(), before.highest(), token.highest());
             marks.see(end - 1 - start, &x, &y, &z, first.overlaps(token));
-            let pair = tables.settled(&row, &self.columns[end], &marks, start);
-            self.replace(n, start, end, pair);
-            tables.binaries.put_row(&mut row, pair, end);
+            if from < end {
+                let pair = tables.settled(&self.rows[start], &self.columns[end], &marks, start);
+                self.replace(n, start, end, pair);
+            }
         }
     }
 
-    /// A pair that changes is turned over in the column of its end.
+    /// Give a span its pair.
     fn replace(&mut self, n: usize, start: usize, end: usize, pair: Pair) {
         let at = place(n, start, end - start);
         let old = Pair::at(self.words, at);
         if pair != old {
             pair.put(self.words, at);
-            let column = &mut self.columns[end];
-            self.tables.binaries.turn_column(column, pair.changed(old), start);
+            let (changed, binaries) = (pair.changed(old), &self.tables.binaries);
+            binaries.turn_row(&mut self.rows[start], changed, end);
+            binaries.turn_column(&mut self.columns[end], changed, start);
         }
     }
 
