@@ -451,10 +451,16 @@ class Slow(unittest.TestCase):
         self.assertTrue(self.gone(self.pids()[0]))
 
 
+def interruptible():
+    """Of a job in the background interrupts are ignored; the whiteboard takes them."""
+    signal.signal(signal.SIGINT, signal.SIG_DFL)
+
+
 def begun(command, *words):
     """A whiteboard that serves on a free port, and the port."""
     words = [str(word) for word in (command, "--port", 0, *words)]
-    served = subprocess.Popen(words, stdout=subprocess.PIPE, text=True)
+    pipe = subprocess.PIPE
+    served = subprocess.Popen(words, stdout=pipe, text=True, preexec_fn=interruptible)
     address = served.stdout.readline().split()[0]
     return served, int(address.rstrip("/").rsplit(":", 1)[1])
 
