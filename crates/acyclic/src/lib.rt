@@ -1,5 +1,7 @@
 // Refusal 8: is a sheet of rules cyclic? First the nullable nonterminals, then what chains reach
 // from each nonterminal.
+#![tactic(auto)]
+
 ghost use Rattle.sets.specs.Sets.{In};
 ghost use Rattle.sets.specs.Says.{Says};
 ghost use Rattle.grammar.specs.Cycles.{Nullable, Chain, Cyclic};

@@ -1,4 +1,6 @@
 // The whole output of the calls for the test at every length, in a lent buffer.
+#![tactic(auto)]
+
 ghost use Rattle.std.specs.Prelude.{◌+◌, ◌*◌, ◌≤◌, length, take};
 ghost use Rattle.printing.specs.Printing.{Wrote};
 ghost use Rattle.grammar.specs.Content.{rules_of, Formed};

@@ -1,5 +1,7 @@
 // What a call for trees answers on sheets that were read, and the forms of that answer and of one
 // for the verdict.
+#![tactic(auto)]
+
 ghost use Rattle.std.specs.Prelude.{◌≡◌};
 ghost use Rattle.grammar.specs.Content.{rules_of as rulesOf, Formed, Positioned};
 ghost use Rattle.tree_writer.specs.Written.{seen_by};
@@ -18,14 +20,14 @@ use spans::size;
 use tree_writer::{Counts, write_none, write_trees};
 
 // The answer of a call for the verdict, with the refused line's number, or 0.
-#[derive(Drop)]
+#[derive(Clone, Copy)]
 pub struct Reply {
     pub answer: Answer,
     pub line: usize,
 }
 
 // The answer of a call for trees: besides, each tree's row count, 0 for a tree not written.
-#[derive(Drop)]
+#[derive(Clone, Copy)]
 pub struct TreesReply {
     pub answer: Answer,
     pub line: usize,

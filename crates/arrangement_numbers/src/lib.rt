@@ -1,5 +1,7 @@
 // The number of an arrangement, and the run of numbers that all arrangements with the same first
 // cells have.
+#![tactic(auto)]
+
 ghost use Rattle.std.specs.Prelude.{◌≡◌, suc, ◌+◌, ◌≤◌, ◌<◌, take};
 ghost use Rattle.std.specs.Int.Count.{ones};
 ghost use Rattle.grammar.specs.Candidates.{Ranged};
@@ -85,7 +87,7 @@ fn room_past(set: u64, n: usize, b: usize) -> u64
 }
 
 // The numbers of all arrangements that share some first cells: the least of them, and how many.
-#[derive(Drop)]
+#[derive(Clone, Copy)]
 pub struct Block {
     pub low: u64,
     pub size: u64,

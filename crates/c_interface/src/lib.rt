@@ -1,5 +1,7 @@
 // The calls for C and Rust: numbers and slices alone. Each hands its call over, and puts what the
 // reply says into one number and lent words.
+#![tactic(auto)]
+
 ghost use Rattle.sheets.specs.RuleSheets.{rule_sheet};
 ghost use Rattle.sheets.specs.TokenSheets.{token_sheet};
 ghost use Rattle.sheets.specs.RefusedLines.{held_by, Hands, refused_line};

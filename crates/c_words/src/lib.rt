@@ -1,4 +1,6 @@
 // Answers, numbers, row counts and sentences as numbers and put into lent words.
+#![tactic(auto)]
+
 ghost use Rattle.std.specs.Prelude.{◌≡◌, [], ◌∷◌, ◌+◌, ◌≤◌, ◌<◌, length, take};
 ghost use Rattle.grammar.specs.Layout.{line as line_of, col};
 ghost use Rattle.printing.specs.Printing.{Wrote};

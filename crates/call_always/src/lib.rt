@@ -1,5 +1,7 @@
 // The public calls for the test at every length, on rule sheets and on clause sheets: clear, or
 // unknown with the list of all doubts.
+#![tactic(auto)]
+
 ghost use Rattle.std.specs.Prelude.{◌≡◌, ◌≤◌, length};
 ghost use Rattle.grammar.specs.Content.{rules_of as rulesOf, Formed};
 ghost use Rattle.sheets.specs.Promises.{reading_of, RulesRead};
@@ -18,7 +20,7 @@ use sheets::{Fault, GrammarRead, Outcome, read_rules};
 use spans::clear;
 
 // No sentence has two trees, whatever its length; it is not known; or the call is refused.
-#[derive(Drop)]
+#[derive(Clone, Copy)]
 pub enum Told {
     Clear,
     Unknown,
@@ -26,7 +28,7 @@ pub enum Told {
 }
 
 // What is told, the refused line's number, or 0, and the list's number of entries.
-#[derive(Drop)]
+#[derive(Clone, Copy)]
 pub struct AlwaysReply {
     pub told: Told,
     pub line: usize,

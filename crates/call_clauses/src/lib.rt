@@ -1,4 +1,6 @@
 // The calls for clause sheets: as those for rule sheets, with the rules of the expansion.
+#![tactic(auto)]
+
 ghost use Rattle.std.specs.Prelude.{length};
 ghost use Rattle.grammar.specs.Content.{rules_of as rulesOf, Formed};
 ghost use Rattle.sheets.specs.TokenSheets.{token_sheet};

@@ -1,5 +1,7 @@
 // The public call for columns read off a photograph: which verdicts some choice of columns within
 // the ends gives (02, request 10).
+#![tactic(auto)]
+
 ghost use Rattle.std.specs.Prelude.{◌≡◌};
 ghost use Rattle.grammar.specs.Content.{rules_of as rulesOf, Formed};
 ghost use Rattle.sheets.specs.RuleSheets.{rule_sheet};
@@ -17,7 +19,7 @@ use spans::size;
 
 // Given, or refused with the refused line's number, or 0; and of each verdict: does some rising
 // choice give it? On a refusal all three are no.
-#[derive(Drop)]
+#[derive(Clone, Copy)]
 pub struct ColumnsReply {
     pub answer: Answer,
     pub line: usize,

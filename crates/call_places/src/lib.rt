@@ -1,5 +1,7 @@
 // The public call for places: all nonterminals and words at which the readings of a sentence part
 // (02, request 11).
+#![tactic(auto)]
+
 ghost use Rattle.std.specs.Prelude.{◌≡◌};
 ghost use Rattle.grammar.specs.Trees.{TwoTrees};
 ghost use Rattle.grammar.specs.Content.{rules_of as rulesOf, Formed, Positioned};
@@ -18,7 +20,7 @@ use sheets::{Answer, Fault, Outcome, read_rules, read_tokens};
 use spans::{SPANS, size};
 
 // The verdict, with the refused line's number, or 0, and the list's number of entries.
-#[derive(Drop)]
+#[derive(Clone, Copy)]
 pub struct PlacesReply {
     pub answer: Answer,
     pub line: usize,

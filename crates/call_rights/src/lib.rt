@@ -1,5 +1,7 @@
 // The public calls on a shared tour (02, request 12): the trees as a user may see them, and a rule
 // sheet with a mark that a user may change.
+#![tactic(auto)]
+
 ghost use Rattle.std.specs.Prelude.{◌≡◌, ◌≤◌};
 ghost use Rattle.grammar.specs.Content.{rules_of as rulesOf, Formed};
 ghost use Rattle.sheets.specs.Items.{accepted};

@@ -1,5 +1,7 @@
 // The public call for row counts: how many rows each tree has, before memory is set aside for them
 // (02, request 6).
+#![tactic(auto)]
+
 ghost use Rattle.std.specs.Prelude.{◌≡◌};
 ghost use Rattle.grammar.specs.Content.{rules_of as rulesOf, Formed, Positioned};
 ghost use Rattle.call_rows.specs.Rows.{rows_refusal, RowsOn, RowsOf};
@@ -13,7 +15,7 @@ use spans::size;
 
 // The verdict, with the refused line's number, or 0, and the row count of each tree, 0 for one that
 // the verdict lacks.
-#[derive(Drop)]
+#[derive(Clone, Copy)]
 pub struct RowsReply {
     pub answer: Answer,
     pub line: usize,

@@ -1,5 +1,7 @@
 // The public call for one share of a sweep that is divided among racks, and the merging of their
 // reports (02, request 8).
+#![tactic(auto)]
+
 ghost use Rattle.std.specs.Prelude.{◌≡◌};
 ghost use Rattle.grammar.specs.Content.{rules_of as rulesOf, Formed};
 ghost use Rattle.sets.specs.Says.{Says};
@@ -16,7 +18,7 @@ use sweep_answers::nothing;
 
 // The answer of a share: besides, the lowest number, M ÷ p and its remainder, and the sentence, of
 // no tokens where none was found.
-#[derive(Drop)]
+#[derive(Clone, Copy)]
 pub struct ShareReply {
     pub answer: Answer,
     pub line: usize,

@@ -1,5 +1,7 @@
 // The call sheet in front of the input of the program `calls`: which call it names, with its
 // numbers.
+#![tactic(auto)]
+
 ghost use Rattle.std.specs.Prelude.{◌≡◌, ◌+◌, ◌-◌, ◌≤◌, ◌<◌, length, take, drop};
 ghost use Rattle.fields.specs.Words.{numeral_of};
 ghost use Rattle.fields.specs.Answers.{as_number};
@@ -12,7 +14,7 @@ ghost use Rattle.fields.specs.Cursors.{fields_left};
 use fields::{Cursor, Number, NumberField, ThreeNumbers, numeral, same};
 
 // A call on one sheet, with its numbers.
-#[derive(Drop)]
+#[derive(Clone, Copy)]
 pub enum OneSheet {
     ClausesSweep(u32),
     Expand,
@@ -21,7 +23,7 @@ pub enum OneSheet {
 
 // A call on two sheets, with its numbers; the second of `Show` is two again. `Change` ends with the
 // place in the call sheet where the new mark begins; it ends before the last byte.
-#[derive(Drop)]
+#[derive(Clone, Copy)]
 pub enum TwoSheets {
     Clauses,
     Rows,
@@ -33,7 +35,7 @@ pub enum TwoSheets {
 }
 
 // What a call is on.
-#[derive(Drop)]
+#[derive(Clone, Copy)]
 pub enum Sheets {
     One(OneSheet),
     Two(TwoSheets),
@@ -41,7 +43,7 @@ pub enum Sheets {
 
 // A call: the test at every length, which takes more memory than the others, or another. `Not` is a
 // call sheet that is not so written.
-#[derive(Drop)]
+#[derive(Clone, Copy)]
 pub enum Call {
     Always,
     ClausesAlways,

@@ -1,4 +1,6 @@
 // The program `calls`: from its input to its whole output in a lent buffer.
+#![tactic(auto)]
+
 ghost use Rattle.std.specs.Prelude.{◌+◌, ◌≤◌, ◌<◌, length, take, drop};
 ghost use Rattle.call_sheets.specs.CallSheets.{call_of};
 ghost use Rattle.call_sheets.specs.Inside.{Inside, SheetsInside, MarkInside};

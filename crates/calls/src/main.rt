@@ -1,6 +1,8 @@
 // The program `calls`: reads standard input, one byte more than it takes at most, and writes what
 // `calls_text` answers. Where a read fails it writes nothing, where a write fails nothing more, and
 // says so on standard error.
+#![tactic(auto)]
+
 use calling::calls_text;
 use streams::{Moved, read_input, write_output};
 use text::OUTPUT;

@@ -1,5 +1,7 @@
 // The sweep's candidates, each worked out from the one before, the terminals they carry, and the
 // limit of refusal 24.
+#![tactic(auto)]
+
 ghost use Rattle.std.specs.Prelude.{◌≡◌, ◌≤◌, ◌<◌};
 ghost use Rattle.sets.specs.Says.{Says};
 ghost use Rattle.grammar.specs.Content.{rules_of, Formed, SmallClause};
@@ -17,7 +19,7 @@ use grammar::{Cell, Clause, Column, Grammar, Line, Sentence, Token, Width};
 use sets::{Member, first_from};
 
 // A line step and a column.
-#[derive(Drop)]
+#[derive(Clone, Copy)]
 struct Spot {
     step: u8,
     column: u16,
@@ -40,7 +42,7 @@ fn least_spot(n: u16, m: u8, p: u16) -> Spot
 }
 
 // The cell after one, or that it is the last.
-#[derive(Drop)]
+#[derive(Clone, Copy)]
 enum Advanced {
     To(Cell),
     Last,
@@ -83,7 +85,7 @@ fn advance(set: u64, n: u16, m: u8, p: u16, c: Cell) -> Advanced
 }
 
 // A candidate of at most seven tokens: their terminals, line steps and columns.
-#[derive(Drop)]
+#[derive(Clone, Copy)]
 pub struct Candidate {
     pub terminals: [u8; 7],
     pub steps: [u8; 7],
@@ -92,7 +94,7 @@ pub struct Candidate {
 
 // The next candidate, if there is one. Of its cells only those from place `upto` - 1 on may differ
 // from the one before.
-#[derive(Drop)]
+#[derive(Clone, Copy)]
 pub struct Stepped {
     pub more: bool,
     pub upto: usize,

@@ -1,5 +1,7 @@
 // Cases of the test programs on standard input: a header of 6 bytes (five digits: the input's
 // length; byte 10), then the input.
+#![tactic(auto)]
+
 ghost use Rattle.std.specs.Prelude.{◌+◌, ◌≤◌, length};
 
 // A digit's value; 0 for any other byte.

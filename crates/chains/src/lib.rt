@@ -1,6 +1,8 @@
 // The table of chains, made once for the rules: what follows over a span from each nonterminal
 // alone, by rules that have the whole span on one side (links). A span's level says which unary
 // marks hold of it.
+#![tactic(auto)]
+
 ghost use Rattle.std.specs.Prelude.{◌≡◌, true, ◌+◌, ◌<◌, length};
 ghost use Rattle.sets.specs.Says.{Says};
 ghost use Rattle.sets.specs.Sets.{In};

@@ -1,4 +1,6 @@
 // The whole output of the program `check`.
+#![tactic(auto)]
+
 ghost use Rattle.std.specs.Prelude.{◌+◌, ◌≤◌, ◌<◌, length, take, drop};
 ghost use Rattle.answering.specs.Answers.{sheets};
 ghost use Rattle.text.specs.Printed.{Printed};

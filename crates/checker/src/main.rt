@@ -1,6 +1,8 @@
 // The program `check`: reads standard input, one byte more than it takes at most, and writes what
 // `check_text` answers. Where a read fails it writes nothing, where a write fails nothing more, and
 // says so on standard error.
+#![tactic(auto)]
+
 use check_text::check_text;
 use streams::{Moved, read_input, write_output};
 use text::OUTPUT;

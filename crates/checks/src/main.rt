@@ -5,6 +5,8 @@
 // The other letters ask for a call itself, with sheets that no input of `calls` can hold: `k`
 // clauses, `s` show, `m` change; `l` is for the refused line of a clause sheet and a token sheet,
 // which the program does not write.
+#![tactic(auto)]
+
 ghost use Rattle.std.specs.Prelude.{◌≤◌, length};
 
 use call_clauses::refused_line;

@@ -1,4 +1,6 @@
 // The choices of a nonterminal at a span, read off its span sheet in their order.
+#![tactic(auto)]
+
 ghost use Rattle.std.specs.Prelude.{◌≡◌, ◌+◌, ◌-◌, ◌≤◌, ◌<◌};
 ghost use Rattle.sets.specs.Says.{Says};
 ghost use Rattle.grammar.specs.declared.Clause.TheVariants as Kind;
@@ -110,7 +112,7 @@ pub fn last_left(c: Clause, len: usize) -> usize
 }
 
 // A left length, or none.
-#[derive(Drop)]
+#[derive(Clone, Copy)]
 pub enum Split {
     At(usize),
     Nowhere,
@@ -118,7 +120,7 @@ pub enum Split {
 
 // A choice: the rule's place in the sheet, counted from 0, and the length of the left word; or
 // none.
-#[derive(Drop)]
+#[derive(Clone, Copy)]
 pub enum Pick {
     At(usize, usize),
     Nothing,

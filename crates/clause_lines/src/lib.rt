@@ -1,5 +1,7 @@
 // A clause line by itself: is it so written, is it nested too deep, and which nonterminals does it
 // write?
+#![tactic(auto)]
+
 ghost use Rattle.std.specs.Prelude.{◌≡◌, ◌+◌, ◌<◌, true};
 ghost use Rattle.clause_lines.specs.ClauseLines.{expression};
 ghost use Rattle.clause_lines.specs.Walks.{is_due_of, takes_repeat, takes_mark, may, stepped};
@@ -9,7 +11,7 @@ ghost use Rattle.lexemes.specs.declared.Lexeme.TheVariants as Lexeme;
 use lexemes::{Lexeme, lexeme_at};
 
 // What stands just before: an item is due; or n or t, a group, what stands after an item.
-#[derive(Drop)]
+#[derive(Clone, Copy)]
 pub enum State {
     Due,
     Plain,
@@ -19,7 +21,7 @@ pub enum State {
 
 // The walk over an expression's lexemes: the place, what stands before it, the open parentheses,
 // whether there were more than sixteen, one past the largest nonterminal.
-#[derive(Drop)]
+#[derive(Clone, Copy)]
 pub struct Walk {
     pub at: usize,
     pub state: State,
@@ -29,7 +31,7 @@ pub struct Walk {
 }
 
 // One past an expression's largest nonterminal; or not so written; or nested too deep.
-#[derive(Drop)]
+#[derive(Clone, Copy)]
 pub enum Checked {
     Good(usize),
     Unwritten,

@@ -1,6 +1,8 @@
 // The rules of an expression: alternatives, sequence and item readers that call each other while
 // the remaining bytes fall. They are for expressions that are known to be so written; of others
 // they say nothing but that they end.
+#![tactic(auto)]
+
 ghost use Rattle.std.specs.Prelude.{◌≡◌, ◌≤◌, length};
 ghost use Rattle.grammar.specs.declared.BinaryMark.{BinaryMark};
 ghost use Rattle.lexemes.specs.declared.Lexeme.TheVariants as Lexeme;

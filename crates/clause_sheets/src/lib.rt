@@ -1,5 +1,7 @@
 // The reader of clause sheets, for any bytes: the grammar of their expansion, or the refusal with
 // its line.
+#![tactic(auto)]
+
 ghost use Rattle.std.specs.Prelude.{◌≡◌, [], map, ◌+◌, ◌≤◌, ◌<◌, max, length, take};
 ghost use Rattle.clauses.specs.Expansion.{rising};
 ghost use Rattle.rule_words.specs.Words.{word_rule};
@@ -23,7 +25,7 @@ use rule_words::{left_of, rule_of};
 use sheets::{Fault, GrammarRead, Outcome, finished, refuse_rules};
 
 // One past a line's largest nonterminal; or 41; or 42.
-#[derive(Drop)]
+#[derive(Clone, Copy)]
 pub enum LineChecked {
     Good(usize),
     Form,
@@ -32,7 +34,7 @@ pub enum LineChecked {
 
 // What the first walk finds: whether all lines are so written, and one past their largest
 // nonterminal.
-#[derive(Drop)]
+#[derive(Clone, Copy)]
 pub struct Passed {
     pub outcome: Outcome,
     pub past: usize,

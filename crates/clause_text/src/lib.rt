@@ -1,4 +1,6 @@
 // The output of the calls on clause sheets, from the sheets to the whole output in a lent buffer.
+#![tactic(auto)]
+
 ghost use Rattle.std.specs.Prelude.{◌≤◌, length};
 ghost use Rattle.clause_sheets.specs.ClauseSheets.{clause_sheet};
 ghost use Rattle.call_clauses.specs.Calls.{clause_sheets_of};

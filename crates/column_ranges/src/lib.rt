@@ -1,4 +1,6 @@
 // Tokens whose columns are known between two ends, and how many choices of columns that leaves.
+#![tactic(auto)]
+
 ghost use Rattle.std.specs.Prelude.{◌≡◌};
 ghost use Rattle.column_ranges.specs.Ranges.{columns as columnsOf};
 ghost use Rattle.column_ranges.specs.RangeSentences.{ranges_of, EndsOrdered, Spread};
@@ -7,7 +9,7 @@ ghost use Rattle.column_ranges.specs.RangeSentences.{CountsChoices};
 use grammar::{Column, Line};
 
 // A terminal on a line, its column known between two ends.
-#[derive(Drop)]
+#[derive(Clone, Copy)]
 pub struct RangeToken {
     pub terminal: u8,
     pub line: Line,
@@ -16,7 +18,7 @@ pub struct RangeToken {
 }
 
 // The first `count` of the tokens.
-#[derive(Drop)]
+#[derive(Clone, Copy)]
 pub struct RangeSentence {
     pub tokens: [RangeToken; 64],
     pub count: usize,

@@ -1,5 +1,7 @@
 // Which verdicts some choice of columns gives. Ranges are narrowed token by token, until one choice
 // is left.
+#![tactic(auto)]
+
 ghost use Rattle.std.specs.Prelude.{◌≡◌, true, ◌*◌, ◌≤◌, length};
 ghost use Rattle.grammar.specs.Content.{rules_of, Formed};
 ghost use Rattle.grammar.specs.SpanSheet.{pairs};
@@ -27,7 +29,7 @@ use refilling::{open_sheet, prepare, put_empty, put_leaf};
 use spans::{clear, in_first, in_second, size};
 
 // Of each verdict: does some rising choice give it?
-#[derive(Drop)]
+#[derive(Clone, Copy)]
 pub struct Flags {
     pub none: bool,
     pub one: bool,

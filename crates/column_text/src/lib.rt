@@ -1,5 +1,7 @@
 // The whole output of the call on columns read off a photograph, in a lent buffer; its sheets are
 // parted already.
+#![tactic(auto)]
+
 ghost use Rattle.std.specs.Prelude.{[], ◌∷◌, ◌++◌, ◌+◌, ◌≤◌, length};
 ghost use Rattle.printing.specs.Printing.{Wrote};
 ghost use Rattle.text.specs.Printed.{Printed};

@@ -1,5 +1,7 @@
 // Which nonterminals some whole valid tree contains over which word, and which of them have two
 // choices there, read off the span sheet: one word a span, start by start, the longest spans first.
+#![tactic(auto)]
+
 ghost use Rattle.std.specs.Prelude.{◌≡◌, ◌+◌, ◌*◌, ◌≤◌, ◌<◌, length};
 ghost use Rattle.grammar.specs.declared.Clause.TheVariants as Kind;
 ghost use Rattle.sets.specs.Sets.{In};

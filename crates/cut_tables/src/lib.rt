@@ -1,5 +1,7 @@
 // Words of cuts of a filled span sheet: for one start and a nonterminal the ends up to which it has
 // a tree, for each end and a nonterminal the starts from which it has one.
+#![tactic(auto)]
+
 ghost use Rattle.std.specs.Prelude.{◌≡◌, ◌+◌, ◌≤◌, ◌<◌, length, replicate};
 ghost use Rattle.tables.specs.Tables.{Room};
 ghost use Rattle.cuts.specs.Joining.{Joins};

@@ -1,5 +1,7 @@
 // Terminals that the sweep need not try: where a smaller terminal has every left of one, whatever
 // has two trees with the one has two with the other, and comes first.
+#![tactic(auto)]
+
 ghost use Rattle.std.specs.Prelude.{◌≡◌, true, false, ◌+◌, ◌<◌};
 ghost use Rattle.sets.specs.Sets.{In};
 ghost use Rattle.grammar.specs.Content.{rules_of, SmallRule, Formed};

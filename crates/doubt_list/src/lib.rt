@@ -1,5 +1,7 @@
 // The list of a sheet's doubts in lent bytes, in the order of the nonterminals, the rules and the
 // kinds.
+#![tactic(auto)]
+
 ghost use Rattle.std.specs.Prelude.{[], ◌+◌, ◌≤◌, ◌<◌, length};
 ghost use Rattle.sets.specs.Says.{Says};
 ghost use Rattle.grammar.specs.Cycles.{Nullable};
@@ -17,7 +19,7 @@ use lists::{Listed, Listing, begin, finish, put};
 use sets::has;
 
 // The nullable nonterminals, and those that stand in trees of 0.
-#[derive(Drop)]
+#[derive(Clone, Copy)]
 pub struct Sets {
     pub nulls: u64,
     pub occurring: u64,

@@ -1,5 +1,7 @@
 // The pairs of rules that may read one word: which shapes of a nonterminal that is seen may stand
 // over one span, by the nodes and the table of the search.
+#![tactic(auto)]
+
 ghost use Rattle.std.specs.Prelude.{◌≡◌, ◌+◌, ◌*◌, ◌≤◌, ◌<◌, length};
 ghost use Rattle.sets.specs.Says.{Says};
 ghost use Rattle.grammar.specs.Cycles.{Nullable};

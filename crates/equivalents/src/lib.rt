@@ -1,6 +1,8 @@
 // Candidates that may be passed over: each has an earlier one that reads alike and keeps its first
 // h cells. A sweep, which begins with the first candidate, keeps none; a share keeps those that
 // hold the earlier one inside it.
+#![tactic(auto)]
+
 ghost use Rattle.std.specs.Prelude.{◌≡◌, true, false, ◌≤◌, ◌<◌};
 ghost use Rattle.grammar.specs.Candidates as Of;
 ghost use Rattle.candidates.specs.Terminals.{Among};

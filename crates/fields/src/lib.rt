@@ -1,5 +1,7 @@
 // The bytes of a sheet: its lines, the fields of a line, and what a field may be: a number, a kind
 // letter, a lay word, `-`.
+#![tactic(auto)]
+
 ghost use Rattle.std.specs.Prelude.{◌≡◌, ◌+◌, ◌-◌, ◌≤◌, length, drop};
 ghost use Rattle.fields.specs.Pieces.{before, same_bytes};
 ghost use Rattle.fields.specs.Parts.{Part};
@@ -12,14 +14,14 @@ ghost use Rattle.fields.specs.Three.{ThreeTold};
 // A place in a sheet and the line that it is in: `at` is where the next field begins, one past
 // `end` where no field is left; `end` is where the line ends, the place of its byte 10 or the
 // sheet's end.
-#[derive(Drop)]
+#[derive(Clone, Copy)]
 pub struct Cursor {
     pub at: usize,
     pub end: usize,
 }
 
 // The kinds of rules, by their letters.
-#[derive(Drop)]
+#[derive(Clone, Copy)]
 pub enum Kind {
     E,
     A,
@@ -28,7 +30,7 @@ pub enum Kind {
 }
 
 // The lay words: none, offside, offalign, single, align, indent.
-#[derive(Drop)]
+#[derive(Clone, Copy)]
 pub enum Lay {
     None,
     Offside,
@@ -39,63 +41,63 @@ pub enum Lay {
 }
 
 // What stands as first or second in a rule line: `-`, whose value is 0, or a number.
-#[derive(Drop)]
+#[derive(Clone, Copy)]
 pub struct Operand {
     pub dash: bool,
     pub value: u32,
 }
 
 // A field's bytes read as a number, or no number.
-#[derive(Drop)]
+#[derive(Clone, Copy)]
 pub enum Number {
     Is(u32),
     Not,
 }
 
-#[derive(Drop)]
+#[derive(Clone, Copy)]
 pub enum KindWord {
     Is(Kind),
     Not,
 }
 
-#[derive(Drop)]
+#[derive(Clone, Copy)]
 pub enum LayWord {
     Is(Lay),
     Not,
 }
 
-#[derive(Drop)]
+#[derive(Clone, Copy)]
 pub enum OperandWord {
     Is(Operand),
     Not,
 }
 
 // The field at a cursor with the moved cursor, or no such field; the same of three.
-#[derive(Drop)]
+#[derive(Clone, Copy)]
 pub enum NumberField {
     Is(u32, Cursor),
     Bad,
 }
 
-#[derive(Drop)]
+#[derive(Clone, Copy)]
 pub enum ThreeNumbers {
     Are(u32, u32, u32, Cursor),
     Bad,
 }
 
-#[derive(Drop)]
+#[derive(Clone, Copy)]
 pub enum KindField {
     Is(Kind, Cursor),
     Bad,
 }
 
-#[derive(Drop)]
+#[derive(Clone, Copy)]
 pub enum LayField {
     Is(Lay, Cursor),
     Bad,
 }
 
-#[derive(Drop)]
+#[derive(Clone, Copy)]
 pub enum OperandField {
     Is(Operand, Cursor),
     Bad,

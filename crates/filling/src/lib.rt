@@ -1,5 +1,7 @@
 // The span sheet of a grammar and a sentence, each span settled all cuts at once; the verdict by
 // it.
+#![tactic(auto)]
+
 ghost use Rattle.std.specs.Prelude.{◌≡◌, ◌+◌, ◌*◌, ◌≤◌, ◌<◌, length};
 ghost use Rattle.grammar.specs.Content.{rules_of, Formed};
 ghost use Rattle.grammar.specs.SpanSheet.{pairs};

@@ -1,4 +1,6 @@
 // The terminals that words of each nonterminal may begin with, in a word for each nonterminal.
+#![tactic(auto)]
+
 ghost use Rattle.std.specs.Prelude.{◌≤◌, ◌<◌, length};
 ghost use Rattle.grammar.specs.Cycles.{Nullable};
 ghost use Rattle.grammar.specs.Content.{rules_of, Formed};

@@ -130,6 +130,8 @@ module _ (g : Rules) where
 
   edge_by : (A : ℕ) (c : Clause) (Y : ℕ) → Memᴰ (record { left = A; clause = c }) g → Leads c Y
       → Edge g A Y
+  edge_by A Clause.Empty Y m h = elim h [ ]
+  edge_by A (Clause.Atom _ _) Y m h = elim h [ ]
   edge_by A (Clause.Unary B k) Y m h = rw h at (by_unary k m)
   edge_by A (Clause.Binary B C k) Y m (inl h) = rw h.0 at (by_left C k m h.1)
   edge_by A (Clause.Binary B C k) Y m (inr h) = rw h.0 at (by_right B k m h.1)
@@ -264,6 +266,7 @@ module _ {P Q : ℕ → Type 0} (d : (b : ℕ) → Dec (P b)) (e : (b : ℕ) →
 
   count_lt : {b : ℕ} (l : List ℕ) → Memᴰ b l → (P b → ⊥) → Q b → count d l < count e l
   unfolding count
+  count_lt {b = b} [] x3 n y = elim x3 [ ]
   count_lt {b} (x ∷ l) (Memᴰ.head q) n y =
       omega (arith, count_sub l, one_if_lt (d x) (e x) (rw q at n) (rw q at y))
   count_lt (x ∷ l) (Memᴰ.tail m) n y =

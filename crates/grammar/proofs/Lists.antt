@@ -108,6 +108,7 @@ module _ {A : Type 0} where
   every_append P (a ∷ l) m e f = (e.0, every_append P l m e.1 f)
 
   pub mem_every : (P : A → Type 0) {a : A} (l : List A) → Every P l → Memᴰ a l → P a
+  mem_every P {a = a} [] e x'' = elim x'' [ ]
   mem_every P (b ∷ l) e (Memᴰ.head p) = subst⁻¹ P p e.0
   mem_every P (b ∷ l) e (Memᴰ.tail m) = mem_every P l e.1 m
 
@@ -140,6 +141,7 @@ module _ {A B : Type 0} where
 
   pub mem_collect : {a : A} {b : B} (f : A → List B) (l : List A) → Memᴰ a l
       → Memᴰ b (f a) → Memᴰ b (collect f l)
+  mem_collect {a = a} {b = b} f [] x'' m = elim x'' [ ]
   mem_collect {b} f (x ∷ l) (Memᴰ.head p) m =
       Memᴰ.append_left (collect f l) (subst (λ (y : A). Memᴰ b (f y)) p m)
   mem_collect f (x ∷ l) (Memᴰ.tail n) m = Memᴰ.append_right (f x) (mem_collect f l n m)
@@ -167,6 +169,7 @@ mem? b l = map? (some? (λ a. eq? b a) l) (λ s. subst⁻¹ (λ (x : ℕ). Mem�
 
 pub mem_map : {A B : Type 0} {a : A} (f : A → B) (l : List A) → Memᴰ a l
     → Memᴰ (f a) (map f l)
+mem_map {A = A} {B = B} {a = a} f [] x' = elim x' [ ]
 mem_map f (x ∷ l) (Memᴰ.head e) = Memᴰ.head (ap f e)
 mem_map f (x ∷ l) (Memᴰ.tail m) = Memᴰ.tail (mem_map f l m)
 

@@ -29,9 +29,9 @@ pub record SmallRule (r : Rule) : Type 0 where
 -- at most 128 rules, their numbers in range, no two alike
 pub record Formed (g : Grammar) : Type 0 where
   pub few : g.count ≤ 128
-  pub whole : length (rules g) ≡ g.count
-  pub small : Every SmallRule (rules g)
-  pub distinct : Distinct (rules g)
+  pub whole : length (rules_of g) ≡ g.count
+  pub small : Every SmallRule (rules_of g)
+  pub distinct : Distinct (rules_of g)
 
 -- at most 64 tokens, each after the one before
 pub record Positioned (s : Sentence) : Type 0 where

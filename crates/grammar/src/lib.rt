@@ -1,13 +1,15 @@
 // A grammar in layout-sensitive binary normal form and a sentence with positions, as both sheets
 // give them.
+#![tactic(auto)]
+
 ghost use Rattle.std.specs.Prelude.{◌≡◌, ◌+◌, ◌≤◌, ◌<◌};
 ghost use Rattle.sets.specs.Says.{Says};
 
 // A line and a column are separate units: one is never compared with the other.
-#[derive(Drop)]
+#[derive(Clone, Copy)]
 pub struct Line(pub u16);
 
-#[derive(Drop)]
+#[derive(Clone, Copy)]
 pub struct Column(pub u16);
 
 // Does line `a` come before line `b`? Lines are compared by this function alone.
@@ -30,7 +32,7 @@ pub fn column_before(a: Column, b: Column) -> bool
 
 // How many columns a token takes up, from its column on. It is compared with nothing, and `past`
 // alone adds it to a column.
-#[derive(Drop)]
+#[derive(Clone, Copy)]
 pub struct Width(pub u16);
 
 // The first column past a token of this width.
@@ -48,7 +50,7 @@ pub fn leaves_free(a: Column, w: Width, b: Column) -> bool
 }
 
 // A terminal with its position and its width.
-#[derive(Drop)]
+#[derive(Clone, Copy)]
 pub struct Token {
     pub terminal: u8,
     pub line: Line,
@@ -57,7 +59,7 @@ pub struct Token {
 }
 
 // The marks that a U rule may have, by 01's words: none, offside, offalign, single.
-#[derive(Drop)]
+#[derive(Clone, Copy)]
 pub enum UnaryMark {
     None,
     Offside,
@@ -66,7 +68,7 @@ pub enum UnaryMark {
 }
 
 // The marks that a B rule may have, by 01's words: none, align, indent.
-#[derive(Drop)]
+#[derive(Clone, Copy)]
 pub enum BinaryMark {
     None,
     Align,
@@ -75,7 +77,7 @@ pub enum BinaryMark {
 
 // What stands at the right of a rule, by 01's kinds: E, A, U, B. An A rule stands for the terminals
 // from its first to its second number.
-#[derive(Drop)]
+#[derive(Clone, Copy)]
 pub enum Clause {
     Empty,
     Atom(u8, u8),
@@ -83,21 +85,21 @@ pub enum Clause {
     Binary(u8, u8, BinaryMark),
 }
 
-#[derive(Drop)]
+#[derive(Clone, Copy)]
 pub struct Rule {
     pub left: u8,
     pub clause: Clause,
 }
 
 // The first `count` of the rules, in the order of the sheet.
-#[derive(Drop)]
+#[derive(Clone, Copy)]
 pub struct Grammar {
     pub rules: [Rule; 128],
     pub count: usize,
 }
 
 // The first `count` of the tokens.
-#[derive(Drop)]
+#[derive(Clone, Copy)]
 pub struct Sentence {
     pub tokens: [Token; 64],
     pub count: usize,
@@ -105,7 +107,7 @@ pub struct Sentence {
 
 // A token's place in a candidate of the sweep: its terminal, its line step (lines past the token
 // before) and its column.
-#[derive(Drop)]
+#[derive(Clone, Copy)]
 pub struct Cell {
     pub terminal: u8,
     pub step: u8,
@@ -113,7 +115,7 @@ pub struct Cell {
 }
 
 // The answer on a sentence: no tree, just one, or at least two.
-#[derive(Drop)]
+#[derive(Clone, Copy)]
 pub enum Verdict {
     None,
     One,

@@ -1,4 +1,6 @@
 // What the shapes of rules look like, by the rule's place and by which of its children have tokens.
+#![tactic(auto)]
+
 ghost use Rattle.std.specs.Prelude.{◌<◌};
 ghost use Rattle.grammar.specs.Cycles.{Nullable};
 ghost use Rattle.grammar.specs.Content.{rules_of, SmallClause, Formed};
@@ -14,7 +16,7 @@ use survey::{Level, Levels, level_of};
 
 // A leaf's first and last terminal; one child that has tokens, with two marks of the word; two,
 // with the mark between them and that of the word.
-#[derive(Drop)]
+#[derive(Clone, Copy)]
 pub enum Looks {
     Nothing,
     Tip(u8, u8),
@@ -23,7 +25,7 @@ pub enum Looks {
 }
 
 // A shape's nonterminal, and what its nodes look like.
-#[derive(Drop)]
+#[derive(Clone, Copy)]
 pub struct Shaped {
     pub sort: u8,
     pub looks: Looks,

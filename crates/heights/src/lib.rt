@@ -1,6 +1,8 @@
 // The least heights of all trees of a sentence, one number for a nonterminal and a span: what the
 // first tree of a looping sheet goes by. Spans are settled from the shortest on; a span's numbers
 // are lowered until no rule stands lower.
+#![tactic(auto)]
+
 ghost use Rattle.std.specs.Prelude.{◌≡◌, true, [], ◌∷◌, ◌+◌, ◌-◌, ◌*◌, ◌≤◌, ◌<◌, min, length, replicate};
 ghost use Rattle.grammar.specs.declared.Clause.TheVariants as Kind;
 ghost use Rattle.grammar.specs.Content.{rules_of, SmallClause, SmallRule, Formed};

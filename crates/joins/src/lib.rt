@@ -1,5 +1,7 @@
 // The pair of the empty word or of a token: what stands by itself, then passes over the rules, with
 // the whole span on one side.
+#![tactic(auto)]
+
 ghost use Rattle.std.specs.Prelude.{◌⊎◌, ◌≡◌, ◌<◌};
 ghost use Rattle.sets.specs.Says.{Says};
 ghost use Rattle.sets.specs.Sets.{In};
@@ -15,7 +17,7 @@ use sets::{has, with};
 
 // What a pass over the rules of a span has found: the nonterminals for which a rule stands, and the
 // span's two sets with what the pass adds.
-#[derive(Drop)]
+#[derive(Clone, Copy)]
 pub struct Tally {
     pub seen: u64,
     pub one: u64,
@@ -49,7 +51,7 @@ fn found(t: Tally, a: u8, again: bool) -> Tally
 }
 
 // Both words of a pair: what has a tree, and what has two.
-#[derive(Drop)]
+#[derive(Clone, Copy)]
 struct Pair {
     one: u64,
     two: u64,

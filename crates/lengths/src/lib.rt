@@ -1,5 +1,7 @@
 // Which lengths 0 to 7 each nonterminal can have when all marks are ignored, kept true rule by
 // rule.
+#![tactic(auto)]
+
 ghost use Rattle.std.specs.Prelude.{◌≡◌, [], ◌+◌, ◌<◌};
 ghost use Rattle.sets.specs.Says.{Says};
 ghost use Rattle.grammar.specs.Content.{rules_of, Formed, SmallClause, SmallRule};
@@ -13,7 +15,7 @@ use grammar::{Clause, Grammar, Rule};
 use sets::{has, with};
 
 // For each nonterminal the set of its lengths.
-#[derive(Drop)]
+#[derive(Clone, Copy)]
 pub struct Index {
     pub sets: [u64; 64],
 }
@@ -88,7 +90,7 @@ fn given(k: Clause, s: u64, t: u64) -> u64
 }
 
 // An index, and the nonterminals whose sets have grown in it.
-#[derive(Drop)]
+#[derive(Clone, Copy)]
 pub struct Growth {
     pub index: Index,
     pub grown: u64,
@@ -176,7 +178,7 @@ pub fn index_of(g: Grammar) -> Index
 }
 
 // Rules with their index.
-#[derive(Drop)]
+#[derive(Clone, Copy)]
 pub struct Book {
     pub grammar: Grammar,
     pub index: Index,

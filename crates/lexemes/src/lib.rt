@@ -1,4 +1,6 @@
 // The lexemes of an expression: what stands at a place of its bytes.
+#![tactic(auto)]
+
 ghost use Rattle.std.specs.Prelude.{◌≡◌, ◌+◌, ◌≤◌, ◌<◌, length, drop};
 ghost use Rattle.lexemes.specs.Lexemes.{starts, front_digits, items, lexeme as found};
 ghost use Rattle.fields.specs.Words.{numeral_of};
@@ -10,7 +12,7 @@ use grammar::{BinaryMark, UnaryMark};
 
 // n4, t2, (, ), a bar between blanks, ?, + and +:align, * and *:align, :offside and the like, a
 // blank or a binding between blanks; no bytes left; no lexeme.
-#[derive(Drop)]
+#[derive(Clone, Copy)]
 pub enum Lexeme {
     Nonterminal(u8),
     Terminal(u8),
@@ -27,14 +29,14 @@ pub enum Lexeme {
 }
 
 // A lexeme and the place behind it.
-#[derive(Drop)]
+#[derive(Clone, Copy)]
 pub struct Lexed {
     pub lexeme: Lexeme,
     pub end: usize,
 }
 
 // A number, 64 for none, and the place behind it.
-#[derive(Drop)]
+#[derive(Clone, Copy)]
 pub struct Counted {
     pub value: u8,
     pub end: usize,

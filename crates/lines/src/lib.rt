@@ -1,5 +1,7 @@
 // What a line of a rule sheet and a line of a token sheet say by themselves: the rule or the token,
 // or what is wrong with it.
+#![tactic(auto)]
+
 ghost use Rattle.std.specs.Prelude.{◌≡◌, true, ◌≤◌, length, ltb};
 ghost use Rattle.lines.specs.Turns.{turn_of};
 ghost use Rattle.lines.specs.Keys.{unary_key, key_of, meets, same_operands, same_key_of};
@@ -15,7 +17,7 @@ use fields::{
 use grammar::{BinaryMark, Clause, Column, Line, Rule, Token, UnaryMark, Width, past};
 
 // A rule, or the first of the conditions 2, 3, 4, 44 that holds of the line.
-#[derive(Drop)]
+#[derive(Clone, Copy)]
 pub enum RuleLine {
     Good(Rule),
     Form,
@@ -25,7 +27,7 @@ pub enum RuleLine {
 }
 
 // A token, or the first of the conditions 12, 13, 47 that holds of the line.
-#[derive(Drop)]
+#[derive(Clone, Copy)]
 pub enum TokenLine {
     Good(Token),
     Form,
@@ -35,7 +37,7 @@ pub enum TokenLine {
 
 // What a line is before its fields are looked at: the sheet's end, one too many, not ended, or a
 // whole line.
-#[derive(Drop)]
+#[derive(Clone, Copy)]
 pub enum Turn {
     End,
     Many,
@@ -44,7 +46,7 @@ pub enum Turn {
 }
 
 // What refusal 5 compares: left, kind (0 E, 1 A, 2 U, 3 B), first and second, not the lay.
-#[derive(Drop)]
+#[derive(Clone, Copy)]
 pub struct Key {
     pub left: u8,
     pub kind: u8,

@@ -1,5 +1,7 @@
 // What stands over no token or one by itself, and passes over the rules that have the whole of a
 // span on one side.
+#![tactic(auto)]
+
 ghost use Rattle.std.specs.Prelude.{◌<◌, length};
 ghost use Rattle.sets.specs.Says.{Says};
 ghost use Rattle.grammar.specs.Content.{rules_of, SmallClause, SmallRule, Formed};

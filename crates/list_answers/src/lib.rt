@@ -1,4 +1,6 @@
 // The answer of a call that gives a list.
+#![tactic(auto)]
+
 ghost use Rattle.std.specs.Prelude.{◌≡◌};
 ghost use Rattle.list_answers.specs.ListReplies.{on_list};
 
@@ -6,7 +8,7 @@ use lists::Listed;
 use sheets::{Answer, Fault};
 
 // The answer, with the refused line's number, or 0, and the number of entries.
-#[derive(Drop)]
+#[derive(Clone, Copy)]
 pub struct ListReply {
     pub answer: Answer,
     pub line: usize,

@@ -1,5 +1,7 @@
 // A list that a call gives in lent bytes, put piece by piece: its bytes at the front, 0 after them,
 // its number of entries; or it does not fit.
+#![tactic(auto)]
+
 ghost use Rattle.std.specs.Prelude.{◌≡◌, ◌≤◌, length, replicate};
 ghost use Rattle.lists.specs.Lists.{GivesList};
 ghost use Rattle.lists.specs.Putting.{Begun, PutMore, AllPut, listed, unfit};
@@ -9,7 +11,7 @@ use rows::clear;
 
 // A list while it is put: the place behind what was put, the number of entries so far, and whether
 // all of it had room.
-#[derive(Drop)]
+#[derive(Clone, Copy)]
 pub struct Listing {
     pub at: usize,
     pub count: usize,
@@ -17,7 +19,7 @@ pub struct Listing {
 }
 
 // A list that was put: whether it fits, and its number of entries, 0 if it does not.
-#[derive(Drop)]
+#[derive(Clone, Copy)]
 pub struct Listed {
     pub fits: bool,
     pub count: usize,

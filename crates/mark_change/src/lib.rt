@@ -1,5 +1,7 @@
 // A rule sheet with another mark in one of its rules, given as a list of its bytes; what that sheet
 // says, and the law of stricter marks.
+#![tactic(auto)]
+
 ghost use Rattle.std.specs.Prelude.{◌≡◌, ◌<◌, length};
 ghost use Rattle.fields.specs.Pieces.{pieces};
 ghost use Rattle.sheets.specs.RefusedLines.{piece_start};
@@ -13,7 +15,7 @@ use grammar::Clause;
 use lists::{Listed, begin, finish, put};
 
 // Where the lay of a rule begins and ends.
-#[derive(Drop)]
+#[derive(Clone, Copy)]
 pub struct Field {
     pub start: usize,
     pub end: usize,

@@ -1,5 +1,7 @@
 // Layout marks over the spans of a sentence that is known up to some token: what a span's tokens
 // leave to a rule.
+#![tactic(auto)]
+
 ghost use Rattle.std.specs.Prelude.{◌≡◌, true, false, ◌+◌, ◌-◌, ◌≤◌, ◌<◌};
 ghost use Rattle.sets.specs.Says.{Says};
 ghost use Rattle.sets.specs.Sets.{In};
@@ -15,7 +17,7 @@ use sets::{has, with};
 
 // The first `count` of the tokens, of which the first `known` count and the others are open: an
 // open token meets any mark.
-#[derive(Drop)]
+#[derive(Clone, Copy)]
 pub struct Draft {
     pub tokens: [Token; 64],
     pub count: usize,
@@ -23,7 +25,7 @@ pub struct Draft {
 }
 
 // The least column met on lines later than the first token's, or none.
-#[derive(Drop)]
+#[derive(Clone, Copy)]
 pub enum Least {
     None,
     At(Column),
@@ -34,7 +36,7 @@ pub enum Least {
 // offalign are decided; do all tokens stand on one line; at which left lengths, from 1 to below the
 // span's length, do align and indent hold (at the others they hold always); and which terminal has
 // the first token (asked of a span of one token alone).
-#[derive(Drop)]
+#[derive(Clone, Copy)]
 pub struct SpanMarks {
     pub first: Column,
     pub least: Least,

@@ -1,4 +1,6 @@
 // Ranges that are narrowed, a token at a time, until one choice of columns is left.
+#![tactic(auto)]
+
 ghost use Rattle.std.specs.Prelude.{◌≡◌, ◌⊎◌, ◌≤◌, ◌<◌, length};
 ghost use Rattle.sets.specs.Says.{Says};
 ghost use Rattle.grammar.specs.Sentences.{spelled};

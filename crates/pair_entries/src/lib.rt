@@ -1,5 +1,7 @@
 // The frames that the search goes over, each with the list of sixes that can stand over it, laid
 // into the words past the table.
+#![tactic(auto)]
+
 ghost use Rattle.std.specs.Prelude.{◌+◌, ◌*◌, ◌≤◌, ◌<◌, length};
 ghost use Rattle.pair_offsets.specs.Lists.{ListsEvens};
 ghost use Rattle.pair_frames.specs.Numbering.{frame_at};
@@ -11,7 +13,7 @@ use pair_offsets::Frame;
 
 // How far the frames are entered: the number of the next four starts, how many entries there are,
 // and the first free place for a list.
-#[derive(Drop)]
+#[derive(Clone, Copy)]
 pub struct Stage {
     pub starts: usize,
     pub entries: usize,

@@ -1,4 +1,6 @@
 // The frames over which two nodes can stand: which there are, and which suit two nodes.
+#![tactic(auto)]
+
 ghost use Rattle.std.specs.Prelude.{◌+◌, ◌≤◌, ◌<◌, ◌≡◌};
 ghost use Rattle.sets.specs.Says.{Says};
 ghost use Rattle.pair_offsets.specs.Frames.{rank_of};

@@ -1,5 +1,7 @@
 // A guess at which steps of the search add to the table, for the quick passes to make no others. A
 // pass over all steps comes after them, so nothing is promised of the guess.
+#![tactic(auto)]
+
 ghost use Rattle.std.specs.Prelude.{◌≤◌, ◌<◌, length};
 ghost use Rattle.pair_tables.specs.Reading.{Small};
 
@@ -10,7 +12,7 @@ use pair_steps::{Node, Words};
 pub const HINTS: usize = 1024;
 
 // Where the first and the second child of two nodes over a frame stop.
-#[derive(Drop)]
+#[derive(Clone, Copy)]
 struct Stops {
     xc: u8,
     xd: u8,

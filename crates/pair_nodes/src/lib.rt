@@ -1,5 +1,7 @@
 // The nodes of the search: what each shape of the rules looks like under the weakest mark, in four
 // words for each shape's number.
+#![tactic(auto)]
+
 ghost use Rattle.std.specs.Prelude.{◌≡◌, ◌≤◌, ◌<◌, length};
 ghost use Rattle.sets.specs.Says.{Says};
 ghost use Rattle.grammar.specs.Trees.{Covers};

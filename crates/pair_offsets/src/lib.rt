@@ -1,5 +1,7 @@
 // The offsets of the starts of two nodes: which of them can stand together over a frame, and which
 // of these are left by masks.
+#![tactic(auto)]
+
 ghost use Rattle.std.specs.Prelude.{◌≡◌, ◌+◌, ◌≤◌, ◌<◌, length};
 ghost use Rattle.sets.specs.Sets.{In};
 ghost use Rattle.sets.specs.Says.{Says};
@@ -12,7 +14,7 @@ pub const ONE_START: usize = 1024;
 
 // Where two nodes start, are cut and stop: the first node from `start` to `stop`, the second from
 // `begin` to `end`.
-#[derive(Drop)]
+#[derive(Clone, Copy)]
 pub struct Frame {
     pub start: u8,
     pub cut: u8,
@@ -171,7 +173,7 @@ pub fn list_from_one(f: Frame, out: &mut [u64], from: usize) -> usize
 
 // The offsets left, for each two starts: the two nodes' starts, the first start and the second cut,
 // the first cut and the second start, the two cuts, and each node's own start and cut.
-#[derive(Drop)]
+#[derive(Clone, Copy)]
 pub struct Masks {
     pub ac: u64,
     pub an: u64,

@@ -1,4 +1,6 @@
 // The search: steps of all pairs of nodes over all frames, until no step adds to the table.
+#![tactic(auto)]
+
 ghost use Rattle.std.specs.Prelude.{◌≡◌, ◌&&◌, ◌+◌, ◌*◌, ◌≤◌, ◌<◌, length};
 ghost use Rattle.pair_tables.specs.Reading.{Small};
 ghost use Rattle.pair_nodes.specs.Slots.{node_at, Present};

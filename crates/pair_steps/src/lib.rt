@@ -1,4 +1,6 @@
 // One step of the search: what two nodes over a frame can be, by what is known of their children.
+#![tactic(auto)]
+
 ghost use Rattle.std.specs.Prelude.{◌+◌, ◌≤◌, ◌<◌, ◌≡◌, length};
 ghost use Rattle.pairs.specs.Settings.{AllowsOffset};
 ghost use Rattle.pair_steps.specs.Nodes.{Mask, Joint, Parted};
@@ -17,7 +19,7 @@ use pair_offsets::{Frame, Masks};
 // offsets that it allows its start and a start inside, its start and its cut, and a start before
 // its cut and the cut; the terminals that may stand at its start, and at its cut if it has two
 // children.
-#[derive(Drop)]
+#[derive(Clone, Copy)]
 pub struct Node {
     pub kids: u8,
     pub sort: u8,
@@ -32,7 +34,7 @@ pub struct Node {
 
 // The words of relations of two nodes: the second node against the children of the first, the first
 // against those of the second, and children against children.
-#[derive(Drop)]
+#[derive(Clone, Copy)]
 pub struct Words {
     pub yc: u64,
     pub yd: u64,

@@ -1,4 +1,6 @@
 // The tables of the search: what a step reads of them.
+#![tactic(auto)]
+
 ghost use Rattle.std.specs.Prelude.{◌≤◌, ◌<◌, ◌≡◌, length};
 ghost use Rattle.pairs.specs.Relations.{order};
 ghost use Rattle.pair_steps.specs.Tables.{shape_word, sort_word, next_word, WordsOf, NextsOf};

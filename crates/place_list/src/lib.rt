@@ -1,4 +1,6 @@
 // The list of all places at which the readings of a sentence part, in lent bytes.
+#![tactic(auto)]
+
 ghost use Rattle.std.specs.Prelude.{◌+◌, ◌-◌, ◌≤◌, ◌<◌, ◌≡◌};
 ghost use Rattle.grammar.specs.Content.{rules_of};
 ghost use Rattle.grammar.specs.Rows.{start_of};

@@ -1,4 +1,6 @@
 // Bytes, numbers and lines of output, put into a lent buffer one after the other.
+#![tactic(auto)]
+
 ghost use Rattle.std.specs.Prelude.{◌≡◌, [], ◌∷◌, ◌++◌, ◌+◌, ◌*◌, ◌≤◌, ◌<◌, length, take};
 ghost use Rattle.printing.specs.Printing.{decimal, Wrote, letter_of, row_text_of, row_lines};
 

@@ -1,6 +1,8 @@
 // Refuting a block of candidates: terminals first, from the last token backward, then positions. A
 // candidate may be passed over if an earlier one that has its first h cells has two trees where it
 // has.
+#![tactic(auto)]
+
 ghost use Rattle.std.specs.Prelude.{◌≡◌, true, false, ◌+◌, ◌*◌, ◌≤◌, ◌<◌, length};
 ghost use Rattle.sets.specs.Says.{Says};
 ghost use Rattle.grammar.specs.Trees.{TwoTrees};

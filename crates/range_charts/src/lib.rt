@@ -1,5 +1,7 @@
 // The span sheet of ranges: what may have trees in some columns within the ends; with the ends
 // exchanged what must have them in all; where each token has one column, what has them.
+#![tactic(auto)]
+
 ghost use Rattle.std.specs.Prelude.{◌+◌, ◌*◌, ◌≤◌, ◌<◌, length};
 ghost use Rattle.grammar.specs.Content.{rules_of, Formed};
 ghost use Rattle.grammar.specs.SpanSheet.{pairs};

@@ -1,6 +1,8 @@
 // What a span of ranges leaves to a rule: what may hold of some columns within the ends. With the
 // ends exchanged it is what must hold of all of them, and where each token has one column, what
 // holds.
+#![tactic(auto)]
+
 ghost use Rattle.std.specs.Prelude.{◌≡◌, ◌≤◌, ◌<◌, length};
 ghost use Rattle.sets.specs.Says.{Says};
 ghost use Rattle.marks.specs.Marked.{Included};

@@ -1,4 +1,6 @@
 // The reader of range sheets: tokens whose columns are known between two ends.
+#![tactic(auto)]
+
 ghost use Rattle.std.specs.Prelude.{◌≡◌, [], ◌≤◌, length, ltb};
 ghost use Rattle.lines.specs.Turns.{turn_of};
 ghost use Rattle.sheets.specs.declared.Fault.TheVariants as Fault;
@@ -18,7 +20,7 @@ use lines::Turn;
 use sheets::{Fault, Outcome};
 
 // A token with its column's ends, or the first of the conditions 12, 13, 48 that holds of the line.
-#[derive(Drop)]
+#[derive(Clone, Copy)]
 pub enum RangeLine {
     Good(RangeToken),
     Form,
@@ -27,7 +29,7 @@ pub enum RangeLine {
 }
 
 // What a line gives: one more item, a refusal, or the sheet's end.
-#[derive(Drop)]
+#[derive(Clone, Copy)]
 pub enum RangeStep {
     Next(RangeToken),
     Stop(Fault),
@@ -35,7 +37,7 @@ pub enum RangeStep {
 }
 
 // The tokens of a range sheet; there are none where the sheet is refused.
-#[derive(Drop)]
+#[derive(Clone, Copy)]
 pub struct RangeRead {
     pub outcome: Outcome,
     pub sentence: RangeSentence,

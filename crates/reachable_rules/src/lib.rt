@@ -1,4 +1,6 @@
 // The rules that nonterminal 0 reaches: no tree of it has others, so that a sweep leaves those out.
+#![tactic(auto)]
+
 ghost use Rattle.acyclic.specs.Exact.{Exactly};
 ghost use Rattle.acyclic.specs.Passes.{Extended, RulesPassed};
 ghost use Rattle.grammar.specs.Content.{rules_of, SmallClause, SmallRule, Formed};

@@ -1,6 +1,8 @@
 // Reads pairs of sheets from standard input and writes what the readers make of each pair. A pair
 // is a header of 12 bytes (five digits: the rule sheet's length; a blank; five digits: the token
 // sheet's length; byte 10), the rule sheet and the token sheet.
+#![tactic(auto)]
+
 ghost use Rattle.std.specs.Prelude.{◌+◌, ◌≤◌, length};
 
 use cases::five;

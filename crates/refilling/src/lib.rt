@@ -1,5 +1,7 @@
 // The span sheets of words that change a token at a time: rows and columns of cuts are kept beside
 // the sheet, and turn over where a pair changes.
+#![tactic(auto)]
+
 ghost use Rattle.std.specs.Prelude.{◌≡◌, ◌+◌, ◌*◌, ◌≤◌, ◌<◌, length};
 ghost use Rattle.grammar.specs.declared.BinaryMark.{BinaryMark};
 ghost use Rattle.grammar.specs.Content.{rules_of, Formed};
@@ -31,7 +33,7 @@ use spans::{clear, in_second, pair_at, size, write};
 pub const KEPT_SHORT: usize = 3074;
 
 // A draft of at most 7 tokens: a search makes one for each fill, and copies it for each start.
-#[derive(Drop)]
+#[derive(Clone, Copy)]
 pub struct ShortDraft {
     pub tokens: [Token; 7],
     pub count: usize,

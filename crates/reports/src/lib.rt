@@ -1,4 +1,6 @@
 // Reports of shares as texts: read as `share` prints them, and two of them merged.
+#![tactic(auto)]
+
 ghost use Rattle.std.specs.Prelude.{◌≡◌, ◌≤◌, length, drop};
 ghost use Rattle.sets.specs.Says.{Says};
 ghost use Rattle.text.specs.Printed.{Printed};
@@ -15,7 +17,7 @@ use text::{Place, put_refusal};
 
 // What a text tells: it is no report, a refusal, or a report of some tokens with its number, both 0
 // where it is clear.
-#[derive(Drop)]
+#[derive(Clone, Copy)]
 pub enum Told {
     Not,
     Refused,
@@ -162,7 +164,7 @@ fn report(s: &[u8]) -> Told
 }
 
 // Which of two texts is the merged report.
-#[derive(Drop)]
+#[derive(Clone, Copy)]
 enum Taken {
     One,
     Two,

@@ -1,5 +1,7 @@
 // The rights sheet: what a user may see and what a user may change, as sets of nonterminals; or
 // refusal 50 with its line.
+#![tactic(auto)]
+
 ghost use Rattle.std.specs.Prelude.{◌≡◌, ◌&&◌, ◌||◌, ℕ, ◌≤◌, ◌<◌, length, leb, ltb};
 ghost use Rattle.rights.specs.RightLines.{right_of_of, right_fields, last_of, may_of};
 ghost use Rattle.rights.specs.RightSheets.{right_line_step, items_of, rights_sheet, covers};
@@ -15,7 +17,7 @@ use sheets::{Fault, Outcome};
 
 // A line of a rights sheet: its user, its range of nonterminals, and whether it says `change`,
 // which includes seeing.
-#[derive(Drop)]
+#[derive(Clone, Copy)]
 pub struct Right {
     pub user: u8,
     pub low: u8,
@@ -24,14 +26,14 @@ pub struct Right {
 }
 
 // A right, or a line not so written.
-#[derive(Drop)]
+#[derive(Clone, Copy)]
 pub enum RightLine {
     Good(Right),
     Bad,
 }
 
 // `change`, `see`, or neither.
-#[derive(Drop)]
+#[derive(Clone, Copy)]
 pub enum May {
     Change,
     See,
@@ -39,7 +41,7 @@ pub enum May {
 }
 
 // What a line gives: one more right, refusal 50, or the sheet's end.
-#[derive(Drop)]
+#[derive(Clone, Copy)]
 pub enum RightStep {
     Next(Right),
     Stop,
@@ -48,7 +50,7 @@ pub enum RightStep {
 
 // What the sheet gives a user: the sets of nonterminals that the user may see and may change; both
 // are empty where it is refused.
-#[derive(Drop)]
+#[derive(Clone, Copy)]
 pub struct RightsRead {
     pub outcome: Outcome,
     pub sees: u64,

@@ -1,4 +1,6 @@
 // The output of the calls on a shared tour, from the sheets to the whole output in a lent buffer.
+#![tactic(auto)]
+
 ghost use Rattle.std.specs.Prelude.{◌≤◌, length};
 ghost use Rattle.text.specs.Printed.{Printed};
 ghost use Rattle.rights_text.specs.Texts.{ShowText, ChangeText};

@@ -1,6 +1,8 @@
 // How many rows the first and the second tree have, without writing them: a walk along the nodes
 // that have tokens. A tree over the empty word can be astronomically large, so its rows are counted
 // once a nonterminal, in a table.
+#![tactic(auto)]
+
 ghost use Rattle.std.specs.Prelude.{◌≡◌, true, ℕ, ◌+◌, ◌≤◌, ◌<◌, length, get_or};
 ghost use Rattle.grammar.specs.Trees.{Tree};
 ghost use Rattle.grammar.specs.Choices.{FirstTree, SecondTree};
@@ -124,7 +126,7 @@ fn null_counts(z: &mut [u64], words: &[u64], hs: &[u16], s: Sentence, g: Grammar
 }
 
 // A node that has tokens: its nonterminal and how many they are.
-#[derive(Drop)]
+#[derive(Clone, Copy)]
 pub struct Below {
     pub name: u8,
     pub long: u8,
@@ -278,7 +280,7 @@ fn under(
 
 // Where the second tree goes on below a node that has one choice only, and the child beside it,
 // where there is one.
-#[derive(Drop)]
+#[derive(Clone, Copy)]
 pub struct Way {
     pub name: u8,
     pub start: u8,
@@ -376,14 +378,14 @@ fn walk_second(words: &[u64], hs: &[u16], s: Sentence, g: Grammar, z: &[u64]) ->
 }
 
 // How many rows a tree has, up to 4,294,967,295, or that it has more.
-#[derive(Drop)]
+#[derive(Clone, Copy)]
 pub enum RowCount {
     Exact(u32),
     More,
 }
 
 // The row counts of both trees.
-#[derive(Drop)]
+#[derive(Clone, Copy)]
 pub struct RowCounts {
     pub first: RowCount,
     pub second: RowCount,

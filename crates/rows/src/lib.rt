@@ -1,4 +1,6 @@
 // A tree's rows and its pending nodes as bytes: the leaves of the tree writer.
+#![tactic(auto)]
+
 ghost use Rattle.std.specs.Prelude.{◌≡◌, [], ◌∷◌, ◌++◌, ◌+◌, ◌-◌, ◌≤◌, ◌<◌, length, take, replicate};
 ghost use Rattle.std.proofs.Math.Option.{some};
 ghost use Rattle.std.proofs.Math.ListN.{get_elem?};
@@ -12,7 +14,7 @@ use grammar::{Clause, Grammar};
 // What the writer has to know of a node: its kind (0 E, 1 A, 2 U, 3 B, 4 closed), its children's
 // nonterminals, the length of the left word, and whether the node at which the second tree parts
 // from the first is still to come.
-#[derive(Drop)]
+#[derive(Clone, Copy)]
 pub struct Step {
     pub kind: u8,
     pub first: u8,

@@ -1,4 +1,6 @@
 // The rules of each nonterminal as a list of places.
+#![tactic(auto)]
+
 ghost use Rattle.std.specs.Prelude.{◌≡◌, ◌≤◌, length};
 ghost use Rattle.grammar.specs.Content.{rules_of, Formed};
 ghost use Rattle.rule_lists.specs.RuleLists.{FirstOf, Firsts, Listed};

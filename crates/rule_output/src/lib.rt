@@ -1,4 +1,6 @@
 // The rules of an expression's parts, written one after the other as long as there is room.
+#![tactic(auto)]
+
 ghost use Rattle.std.specs.Prelude.{◌≡◌, List, [], ◌∷◌, ℕ, ◌+◌, ◌≤◌, ◌<◌};
 ghost use Rattle.grammar.specs.declared.UnaryMark.TheVariants as UnaryMark;
 ghost use Rattle.lexemes.specs.declared.Lexeme.TheVariants as Lexeme;
@@ -13,7 +15,7 @@ use rule_words::word_of;
 
 // What is handed on by value, while the rules stand as words behind a reference: how many there
 // are, the next new nonterminal, and whether there was no room for a rule or a nonterminal.
-#[derive(Drop)]
+#[derive(Clone, Copy)]
 pub struct Room {
     pub count: usize,
     pub next: u8,
@@ -21,7 +23,7 @@ pub struct Room {
 }
 
 // Behind a part: the place, the part's nonterminal, and the room.
-#[derive(Drop)]
+#[derive(Clone, Copy)]
 pub struct Step {
     pub at: usize,
     pub name: u8,

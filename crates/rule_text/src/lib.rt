@@ -1,4 +1,6 @@
 // The lines of a rule sheet, put into a lent buffer.
+#![tactic(auto)]
+
 ghost use Rattle.std.specs.Prelude.{◌∷◌, ◌++◌, ◌+◌, ◌*◌, ◌≤◌, length};
 ghost use Rattle.grammar.specs.declared.UnaryMark.TheVariants as UnaryMark;
 ghost use Rattle.grammar.specs.Content.{rules_of as rulesOf};

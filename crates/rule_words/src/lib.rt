@@ -1,4 +1,6 @@
 // A rule as a word, so that rules can stand in lent words.
+#![tactic(auto)]
+
 ghost use Rattle.std.specs.Prelude.{◌≡◌, ℕ};
 ghost use Rattle.grammar.specs.declared.Clause.TheVariants as Clause;
 ghost use Rattle.rule_words.specs.Words.{clause_of_of, word_rule};

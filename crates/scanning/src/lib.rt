@@ -1,4 +1,6 @@
 // Numbers in base ten and fixed bytes, read from a place of a text on.
+#![tactic(auto)]
+
 ghost use Rattle.std.specs.Prelude.{◌≤◌, ◌<◌, length, drop};
 ghost use Rattle.sets.specs.Says.{Says};
 ghost use Rattle.scanning.specs.Scanned.{Starts, DigitsAt, NumberAt};
@@ -6,14 +8,14 @@ ghost use Rattle.scanning.specs.Scanned.{Starts, DigitsAt, NumberAt};
 use fields::same;
 
 // A number and the place behind the byte that ends it, or no such number.
-#[derive(Drop)]
+#[derive(Clone, Copy)]
 pub enum NumberRead {
     Is(u64, usize),
     Not,
 }
 
 // The value of some digits and the place behind them.
-#[derive(Drop)]
+#[derive(Clone, Copy)]
 struct Digits {
     value: u64,
     next: usize,

@@ -1,4 +1,6 @@
 // The token sheet of a sentence that a call found, put into a lent buffer.
+#![tactic(auto)]
+
 ghost use Rattle.std.specs.Prelude.{◌+◌, ◌*◌, ◌≤◌, length};
 ghost use Rattle.printing.specs.Printing.{Wrote, token_text_of, token_lines};
 ghost use Rattle.text.specs.Output.{sentence_text};

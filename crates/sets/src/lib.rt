@@ -1,5 +1,7 @@
 // Sets of numbers below 64, as the binary digits of a word; numbers as indices, and one of two
 // bools.
+#![tactic(auto)]
+
 ghost use Rattle.std.specs.Prelude.{◌≡◌, ◌<◌, ◌≤◌};
 ghost use Rattle.sets.specs.Sets.{In};
 ghost use Rattle.sets.specs.Says.{Says};
@@ -8,7 +10,7 @@ ghost use Rattle.sets.specs.Firsts.{FirstFrom};
 ghost use Rattle.sets.specs.Insertion.{insert};
 
 // A member, or none.
-#[derive(Drop)]
+#[derive(Clone, Copy)]
 pub enum Member {
     At(u8),
     Nothing,

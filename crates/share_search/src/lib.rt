@@ -1,5 +1,7 @@
 // The search inside a share: the lowest number from one to below another whose arrangement rises
 // and has two trees.
+#![tactic(auto)]
+
 ghost use Rattle.std.specs.Prelude.{◌≡◌, ◌+◌, ◌*◌, ◌≤◌, ◌<◌, length, true};
 ghost use Rattle.grammar.specs.Candidates as Of;
 ghost use Rattle.grammar.specs.Content.{rules_of, Formed};
@@ -121,7 +123,7 @@ fn look(
 }
 
 // What the search finds: a candidate, its length, which is 0 where it finds none, and its number.
-#[derive(Drop)]
+#[derive(Clone, Copy)]
 struct Hit {
     length: usize,
     number: u64,
@@ -257,7 +259,7 @@ fn find(g: Grammar, n: usize, start: u64, end: u64, words: &mut [u64]) -> Hit
 }
 
 // What a share reports: the lowest number and its sentence, or no number and no token.
-#[derive(Drop)]
+#[derive(Clone, Copy)]
 pub struct Report {
     pub number: u64,
     pub sentence: Sentence,

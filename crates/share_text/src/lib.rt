@@ -1,4 +1,6 @@
 // The whole output of the call `share`, in a lent buffer; its sheet is parted already.
+#![tactic(auto)]
+
 ghost use Rattle.std.specs.Prelude.{[], ◌∷◌, ◌++◌, ◌+◌, ◌≤◌, length};
 ghost use Rattle.printing.specs.Printing.{decimal, Wrote};
 ghost use Rattle.text.specs.Printed.{Printed};

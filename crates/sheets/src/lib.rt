@@ -1,5 +1,7 @@
 // The readers of the two sheets, for any bytes: a grammar and a sentence, or the refusal with its
 // line; and the line that a refusal names.
+#![tactic(auto)]
+
 ghost use Rattle.std.specs.Prelude.{◌≡◌, [], ◌≤◌, ◌<◌, length, take, ltb};
 ghost use Rattle.grammar.specs.Content.{rules_of as rulesOf, Formed};
 ghost use Rattle.lengths.specs.Indexes.{Exact};
@@ -24,7 +26,7 @@ use lines::{Key, RuleLine, TokenLine, Turn};
 
 // The refusals, in the order of 01's table with 02's in their places; `number_of` in specs/ has
 // their numbers. Many are given by later crates.
-#[derive(Drop)]
+#[derive(Clone, Copy)]
 pub enum Fault {
     RuleNames,
     RuleMany,
@@ -92,7 +94,7 @@ pub fn fault_number(f: Fault) -> u64
 
 // The answers of calls: none, one, two, clear, refused-N, and given for what a call gives
 // otherwise.
-#[derive(Drop)]
+#[derive(Clone, Copy)]
 pub enum Answer {
     None,
     One,
@@ -103,14 +105,14 @@ pub enum Answer {
 }
 
 // A refusal gives the line in its sheet, counted from 1, or 0.
-#[derive(Drop)]
+#[derive(Clone, Copy)]
 pub enum Outcome {
     Accepted,
     Refused(Fault, usize),
 }
 
 // The grammar of a rule sheet, with its index; it has no rules where the sheet is refused.
-#[derive(Drop)]
+#[derive(Clone, Copy)]
 pub struct GrammarRead {
     pub outcome: Outcome,
     pub grammar: Grammar,
@@ -118,21 +120,21 @@ pub struct GrammarRead {
 }
 
 // The sentence of a token sheet; it has no tokens where the sheet is refused.
-#[derive(Drop)]
+#[derive(Clone, Copy)]
 pub struct SentenceRead {
     pub outcome: Outcome,
     pub sentence: Sentence,
 }
 
 // What a line gives: one more item, a refusal, or the sheet's end.
-#[derive(Drop)]
+#[derive(Clone, Copy)]
 pub enum RuleStep {
     Next(Rule),
     Stop(Fault),
     End,
 }
 
-#[derive(Drop)]
+#[derive(Clone, Copy)]
 pub enum TokenStep {
     Next(Token),
     Stop(Fault),
@@ -252,7 +254,7 @@ pub fn finished(g: Grammar, index: Index) -> GrammarRead
 }
 
 // What a line gives, and the book after it.
-#[derive(Drop)]
+#[derive(Clone, Copy)]
 pub struct Added {
     pub book: Book,
     pub step: RuleStep,

@@ -1,12 +1,14 @@
 // Standard input read to its end and standard output written whole: a call that fails is never
 // taken for the end.
+#![tactic(auto)]
+
 ghost use Rattle.std.specs.Prelude.{length};
 ghost use Rattle.streams.specs.AtMostMoved.{AtMostMoved};
 
 use libc::{EINTR, STDIN_FILENO, STDOUT_FILENO};
 
 // How many bytes were moved, or that a call failed.
-#[derive(Drop)]
+#[derive(Clone, Copy)]
 pub enum Moved {
     Bytes(usize),
     Failed,

@@ -1,5 +1,7 @@
 // What is known of nonterminals before any pair of nodes is looked at: those with words that have
 // tokens, those that stand below 0, the levels, the first terminals.
+#![tactic(auto)]
+
 ghost use Rattle.std.specs.Prelude.{◌≡◌, true, ◌&&◌, ◌<◌};
 ghost use Rattle.sets.specs.Says.{Says};
 ghost use Rattle.grammar.specs.Trees.{Covers};
@@ -23,7 +25,7 @@ use sets::either;
 // The sets of nonterminals that are looked for: with words that have tokens, with words that begin
 // with a terminal, that stand below 0, that inherit a mark of rank at most the first number (the
 // other is a set of those that inherit a mark other than single).
-#[derive(Drop)]
+#[derive(Clone, Copy)]
 pub enum Aim {
     Filled,
     Begins(u8),
@@ -380,7 +382,7 @@ fn at_most(g: Grammar, nulls: u64, prods: u64, k: u8, loose: u64) -> u64
 }
 
 // The nonterminals that inherit a mark: one of rank 0, at most 1, at most 2, any.
-#[derive(Drop)]
+#[derive(Clone, Copy)]
 pub struct Levels {
     pub unmarked: u64,
     pub offalign: u64,
@@ -406,7 +408,7 @@ pub fn inherited(g: Grammar, nulls: u64, prods: u64) -> Levels
 }
 
 // The weakest mark that a nonterminal inherits.
-#[derive(Drop)]
+#[derive(Clone, Copy)]
 pub enum Level {
     Keeps(UnaryMark),
     Nothing,

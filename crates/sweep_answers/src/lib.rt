@@ -1,4 +1,6 @@
 // What a sweep answers on rules that were read, and the form of its answer.
+#![tactic(auto)]
+
 ghost use Rattle.std.specs.Prelude.{◌≡◌};
 ghost use Rattle.grammar.specs.Content.{rules_of as rulesOf, Formed};
 ghost use Rattle.lengths.specs.Indexes.{Exact};
@@ -17,7 +19,7 @@ use sweeping::sweep_rules;
 
 // The answer of a sweep: besides, the found sentence, of no tokens where none was found, and how
 // many candidates were tried.
-#[derive(Drop)]
+#[derive(Clone, Copy)]
 pub struct SweepReply {
     pub answer: Answer,
     pub line: usize,

@@ -1,4 +1,6 @@
 // The whole output of the program `sweep`.
+#![tactic(auto)]
+
 ghost use Rattle.std.specs.Prelude.{◌≡◌, ◌+◌, ◌≤◌, ◌<◌, length, take, drop};
 ghost use Rattle.fields.specs.Answers.{as_number};
 ghost use Rattle.sheets.specs.RuleSheets.{rule_sheet};

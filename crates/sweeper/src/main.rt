@@ -1,6 +1,8 @@
 // The program `sweep`: reads standard input, one byte more than it takes at most, and writes what
 // `sweep_text` answers. Where a read fails it writes nothing, where a write fails nothing more, and
 // says so on standard error.
+#![tactic(auto)]
+
 use streams::{Moved, read_input, write_output};
 use sweep_text::sweep_text;
 use text::OUTPUT;

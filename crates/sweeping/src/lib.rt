@@ -1,5 +1,7 @@
 // The search for the first candidate that has two trees, and the sweep over all short sentences by
 // it.
+#![tactic(auto)]
+
 ghost use Rattle.std.specs.Prelude.{◌≡◌, ◌*◌, ◌≤◌, length};
 ghost use Rattle.grammar.specs.Candidates as Of;
 ghost use Rattle.grammar.specs.Content.{rules_of, Formed};
@@ -61,7 +63,7 @@ fn look(
 }
 
 // What the search finds: a candidate and its length, which is 0 where it finds none.
-#[derive(Drop)]
+#[derive(Clone, Copy)]
 struct Hit {
     length: usize,
     candidate: Candidate,
@@ -196,7 +198,7 @@ fn counted(g: Grammar, lengths: u64, k: usize, n: usize, c: Candidate) -> u64
 
 // What a sweep gives: the found sentence, of no tokens where there is none, and how many candidates
 // it tried.
-#[derive(Drop)]
+#[derive(Clone, Copy)]
 pub struct Sweep {
     pub sentence: Sentence,
     pub tried: u64,

@@ -1,4 +1,6 @@
 // The public calls on a rule sheet: the verdict, the trees, the sweep and the refused line.
+#![tactic(auto)]
+
 ghost use Rattle.answering.specs.Verdict.{VerdictOf};
 ghost use Rattle.answering.specs.Trees.{TreesOf};
 ghost use Rattle.sweep_answers.specs.Sweep.{SweepOf};

@@ -1,5 +1,7 @@
 // What the programs' texts are made of: where the input parts, and the parts of an output put into
 // a lent buffer.
+#![tactic(auto)]
+
 ghost use Rattle.std.specs.Prelude.{◌∷◌, ◌++◌, ◌+◌, ◌*◌, ◌≤◌, ◌<◌, length, take};
 ghost use Rattle.printing.specs.Printing.{Wrote, last_field, row_lines};
 ghost use Rattle.text.specs.Output.{refused_text_of, answer_text, head, tree_names, trees_text};
@@ -12,7 +14,7 @@ use sheets::{Answer, fault_number};
 pub const OUTPUT: usize = 262144;
 
 // A place in the input, or none.
-#[derive(Drop)]
+#[derive(Clone, Copy)]
 pub enum Place {
     At(usize),
     Nowhere,

@@ -1,5 +1,7 @@
 // The whole output of the calls on one sentence's trees, in a lent buffer; their sheets are parted
 // already.
+#![tactic(auto)]
+
 ghost use Rattle.std.specs.Prelude.{[], ◌∷◌, ◌++◌, ◌+◌, ◌*◌, ◌≤◌, length, take};
 ghost use Rattle.printing.specs.Printing.{decimal, Wrote};
 ghost use Rattle.text.specs.Printed.{Printed};

@@ -1,4 +1,6 @@
 // What the first and the second tree take at a node, and what is shown of it.
+#![tactic(auto)]
+
 ghost use Rattle.std.specs.Prelude.{◌≡◌, true, false, ◌+◌, ◌-◌, ◌≤◌, ◌<◌};
 ghost use Rattle.grammar.specs.Choices.{FirstChoice, Preferred};
 ghost use Rattle.grammar.specs.Content.{rules_of};

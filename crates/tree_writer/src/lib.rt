@@ -1,4 +1,6 @@
 // The first and the second tree of a sentence, written as rows into lent bytes.
+#![tactic(auto)]
+
 ghost use Rattle.std.specs.Prelude.{◌≡◌, false, ◌+◌, ◌*◌, ◌-◌, ◌<◌};
 ghost use Rattle.std.proofs.Math.Option.{Option, none, some};
 ghost use Rattle.grammar.specs.Trees.{Tree};
@@ -20,7 +22,7 @@ use tree_choices::look;
 
 // How many rows each tree has, 0 for one that is not written; `fits` is false where a tree of the
 // answer has more rows than its memory has places (refusal 22).
-#[derive(Drop)]
+#[derive(Clone, Copy)]
 pub struct Counts {
     pub fits: bool,
     pub first: usize,

@@ -1,5 +1,7 @@
 // The number of candidates that a sweep tries. It is worked out and not counted along, since the
 // search passes over whole blocks of candidates.
+#![tactic(auto)]
+
 ghost use Rattle.std.specs.Prelude.{◌≡◌, ◌+◌, ◌-◌, ◌*◌, ◌≤◌, ◌<◌};
 ghost use Rattle.std.specs.Int.Count.{ones};
 ghost use Rattle.sets.specs.Sets.{In};
@@ -19,7 +21,7 @@ use grammar::Cell;
 use sets::has;
 
 // The ways to go on after a cell, by its column.
-#[derive(Drop)]
+#[derive(Clone, Copy)]
 struct Row {
     ways: [u64; 8],
 }

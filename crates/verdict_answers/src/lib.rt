@@ -1,4 +1,6 @@
 // What a call for the verdict answers on sheets that were read.
+#![tactic(auto)]
+
 ghost use Rattle.grammar.specs.Content.{rules_of as rulesOf, Formed, Positioned};
 ghost use Rattle.sheets.specs.Promises.{RulesRead};
 ghost use Rattle.sheets.specs.Told.{told};

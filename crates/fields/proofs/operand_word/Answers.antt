@@ -10,9 +10,10 @@ use mathlib.Core.Bool.{false}
 use Rattle.fields.specs.Words.{numeral_of, number_operand_of, operand_of}
 use Rattle.fields.specs.Answers.{as_number, as_operand}
 use Rattle.fields.proofs.Pick.{hit, miss}
-use borrow.Author.Rules.{rules}
-use Rattle.fields.proofs.operand_word.Statement.{statement}
-use Rattle.fields.proofs.operand_word.Tie as tie
+use Rattle.fields.proofs.operand_word.Lts
+use Rattle.fields.proofs.operand_word.Reads
+use Rattle.fields.proofs.operand_word.Tie
+use Rattle.fields.proofs.operand_word.Goals as goal
 
 -- what the code makes of a number
 abbrev as_word : Number → OperandWord
@@ -23,24 +24,20 @@ number_operand : (o : Option ℕ) → as_operand (number_operand_of o) ≡ as_wo
 number_operand (some v) = refl
 number_operand none = refl
 
-returns : tie.Need-returns
-returns c = sym (ap as_operand (hit (sym c.before.same.ensures ∙ c.if1.true) _ _))
+pub returns-then-same : goal.returns-then-same
+returns-then-same c = sym (ap as_operand (hit (sym c.same.ensures ∙ c.if-same.true) _ _))
 
 -- the bytes are not `-`
-other : (c : tie.After-numeral)
-    → as_operand (operand_of c.before.before.before.before.before.args.f.now)
+other : (c : Lts.After-numeral Tie.the-claims Reads.Pre Reads.Post)
+    → as_operand (operand_of c.args.f.now)
     ≡ as_word c.numeral.result
 other c =
-    ap as_operand (miss (sym c.before.before.same.ensures ∙ c.before.if1.false) _ _)
-    ∙ number_operand (numeral_of c.before.before.before.before.before.args.f.now)
+    ap as_operand (miss (sym c.same.ensures ∙ c.if-same.false) _ _)
+    ∙ number_operand (numeral_of c.args.f.now)
     ∙ ap as_word (sym c.numeral.ensures)
 
-returns-2 : tie.Need-returns-2
-returns-2 c = sym (other c.before.before.before ∙ ap as_word c.before.v.given.1)
+pub returns-in-Is : goal.returns-in-Is
+returns-in-Is c = sym (other c.before.before ∙ ap as_word c.in-Is.is)
 
-returns-3 : tie.Need-returns-3
-returns-3 c = sym (other c.before.before ∙ ap as_word c.enum_told.given.1)
-
-pub operand-word-spec : {M : Type 1} → statement M
-operand-word-spec = tie.close (tie.spec (λ c. search rules) (λ c κs. search rules) returns
-    (λ c κs. search rules) (λ c. search rules) (λ c. search rules) returns-2 returns-3)
+pub returns-in-Not : goal.returns-in-Not
+returns-in-Not c = sym (other c.before.before ∙ ap as_word c.in-Not.is)

@@ -1,0 +1,58 @@
+-- `fields::Cursor::operand` meets its contract: what is read at the cursor is what the first of the
+-- fields left is read as.
+use mathlib.Core.Path.{◌≡◌, refl, sym, ap, ◌∙◌}
+use mathlib.Core.List.{List}
+use mathlib.Core.Option.{Option, none, some}
+use Prim.Native.Nat.{ℕ, ◌+◌}
+use lib.ListN.{length}
+use Rattle.fields.specs.declared.Cursor.{Cursor}
+use Rattle.fields.specs.declared.Operand.{Operand}
+use Rattle.fields.specs.declared.OperandWord.{OperandWord}
+use Rattle.fields.specs.declared.OperandWord.TheVariants as OperandWord
+use Rattle.fields.specs.declared.OperandField.{OperandField}
+use Rattle.fields.specs.declared.OperandField.TheVariants as OperandField
+use Rattle.fields.specs.Words.{operand_of}
+use Rattle.fields.specs.Answers.{as_operand, operand_field}
+use Rattle.fields.specs.Cursors.{fields_left, with_cursor, read_field}
+use Rattle.fields.proofs.Fields.{left_none, read_first}
+use Rattle.fields.proofs.Cursor.operand.Lts
+use Rattle.fields.proofs.Cursor.operand.Reads
+use Rattle.fields.proofs.Cursor.operand.Tie
+use Rattle.fields.proofs.Cursor.operand.Goals as goal
+
+-- what the code makes of the word that it read
+abbrev moved : OperandWord → Cursor → OperandField
+moved (OperandWord.Is v) d = OperandField.Is v d
+moved OperandWord.Not d = OperandField.Bad
+
+with_moved : (o : Option Operand) (d : Cursor)
+    → operand_field (with_cursor o d) ≡ moved (as_operand o) d
+with_moved (some v) d = refl
+with_moved none d = refl
+
+pub returns-then-end-at : goal.returns-then-end-at
+returns-then-end-at c = sym (ap (λ (fs : List (List ℕ)). operand_field (read_field operand_of c.args.self fs))
+    (left_none c.args.s.now c.args.self c.requires c.if-end-at.true))
+
+-- the word that was read is the first field's
+here : (c : Lts.After-operand_word Tie.the-claims Reads.Pre Reads.Post) (w : OperandWord) → c.operand_word.result ≡ w
+    → operand_field (read_field operand_of c.args.self
+    (fields_left c.args.s.now c.args.self))
+    ≡ moved w (record {
+      at = c.args.self.at + length c.field-f.result.now + 1;
+      end = c.args.self.end;
+    })
+here c w is =
+    let d : Cursor = record {
+      at = c.args.self.at + length c.field-f.result.now + 1;
+      end = c.args.self.end;
+    } in
+    ap operand_field (read_first operand_of c.field-f.ensures)
+    ∙ with_moved (operand_of c.field-f.result.now) d
+    ∙ ap (λ (x : OperandWord). moved x d) (sym c.operand_word.ensures ∙ is)
+
+pub returns-in-Is : goal.returns-in-Is
+returns-in-Is c = sym (here c.before.before _ c.in-Is.is)
+
+pub returns-in-Not : goal.returns-in-Not
+returns-in-Not c = sym (here c.before.before _ c.in-Not.is)
