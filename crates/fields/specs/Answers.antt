@@ -6,21 +6,13 @@ use Rattle.fields.specs.declared.Kind.{Kind}
 use Rattle.fields.specs.declared.Lay.{Lay}
 use Rattle.fields.specs.declared.Operand.{Operand}
 use Rattle.fields.specs.declared.Number.{Number}
-use Rattle.fields.specs.declared.Number.TheVariants as Number
 use Rattle.fields.specs.declared.KindWord.{KindWord}
-use Rattle.fields.specs.declared.KindWord.TheVariants as KindWord
 use Rattle.fields.specs.declared.LayWord.{LayWord}
-use Rattle.fields.specs.declared.LayWord.TheVariants as LayWord
 use Rattle.fields.specs.declared.OperandWord.{OperandWord}
-use Rattle.fields.specs.declared.OperandWord.TheVariants as OperandWord
 use Rattle.fields.specs.declared.NumberField.{NumberField}
-use Rattle.fields.specs.declared.NumberField.TheVariants as NumberField
 use Rattle.fields.specs.declared.KindField.{KindField}
-use Rattle.fields.specs.declared.KindField.TheVariants as KindField
 use Rattle.fields.specs.declared.LayField.{LayField}
-use Rattle.fields.specs.declared.LayField.TheVariants as LayField
 use Rattle.fields.specs.declared.OperandField.{OperandField}
-use Rattle.fields.specs.declared.OperandField.TheVariants as OperandField
 
 abbrev pub as_number : Option ℕ → Number
 as_number (some v) = Number.Is v

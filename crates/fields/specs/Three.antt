@@ -7,7 +7,6 @@ use Rattle.fields.specs.Fields.{with_field}
 use Rattle.fields.specs.Cursors.{fields_left}
 use Rattle.fields.specs.declared.Cursor.{Cursor}
 use Rattle.fields.specs.declared.ThreeNumbers.{ThreeNumbers}
-use Rattle.fields.specs.declared.ThreeNumbers.TheVariants as ThreeNumbers
 
 -- three numbers, and the fields behind them
 pub record Three : Type 0 where

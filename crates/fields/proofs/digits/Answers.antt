@@ -1,7 +1,6 @@
 use lib.Dec.{lit<}
 use Rattle.fields.proofs.Numerals.{digits_end, digits_low, digits_high, digits_more}
 use Rattle.fields.proofs.Numerals.{ten_more, ten_top}
-use Prim.Native.Nat.{◌-◌, ◌<◌}
 use mathlib.Core.Path.{refl, sym, ap, ◌∙◌}
 use native.Mathlib.Omega.{arith}
 use borrow.Author.Rules.{rules}

@@ -3,9 +3,7 @@ use mathlib.Core.Path.{◌≡◌, refl, sym, ap, ◌∙◌}
 use mathlib.Core.Option.{Option, none, some}
 use Prim.Native.Nat.{ℕ}
 use Rattle.fields.specs.declared.Number.{Number}
-use Rattle.fields.specs.declared.Number.TheVariants as Number
 use Rattle.fields.specs.declared.OperandWord.{OperandWord}
-use Rattle.fields.specs.declared.OperandWord.TheVariants as OperandWord
 use mathlib.Core.Bool.{false}
 use Rattle.fields.specs.Words.{numeral_of, number_operand_of, operand_of}
 use Rattle.fields.specs.Answers.{as_number, as_operand}

@@ -8,9 +8,7 @@ use lib.ListN.{length}
 use Rattle.fields.specs.declared.Cursor.{Cursor}
 use Rattle.fields.specs.declared.Kind.{Kind}
 use Rattle.fields.specs.declared.KindWord.{KindWord}
-use Rattle.fields.specs.declared.KindWord.TheVariants as KindWord
 use Rattle.fields.specs.declared.KindField.{KindField}
-use Rattle.fields.specs.declared.KindField.TheVariants as KindField
 use Rattle.fields.specs.Words.{kind_of}
 use Rattle.fields.specs.Answers.{as_kind, kind_field}
 use Rattle.fields.specs.Cursors.{fields_left, with_cursor, read_field}

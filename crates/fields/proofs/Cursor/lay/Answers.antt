@@ -8,9 +8,7 @@ use lib.ListN.{length}
 use Rattle.fields.specs.declared.Cursor.{Cursor}
 use Rattle.fields.specs.declared.Lay.{Lay}
 use Rattle.fields.specs.declared.LayWord.{LayWord}
-use Rattle.fields.specs.declared.LayWord.TheVariants as LayWord
 use Rattle.fields.specs.declared.LayField.{LayField}
-use Rattle.fields.specs.declared.LayField.TheVariants as LayField
 use Rattle.fields.specs.Words.{lay_of}
 use Rattle.fields.specs.Answers.{as_lay, lay_field}
 use Rattle.fields.specs.Cursors.{fields_left, with_cursor, read_field}

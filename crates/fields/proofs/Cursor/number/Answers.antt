@@ -7,9 +7,7 @@ use Prim.Native.Nat.{ℕ, ◌+◌}
 use lib.ListN.{length}
 use Rattle.fields.specs.declared.Cursor.{Cursor}
 use Rattle.fields.specs.declared.Number.{Number}
-use Rattle.fields.specs.declared.Number.TheVariants as Number
 use Rattle.fields.specs.declared.NumberField.{NumberField}
-use Rattle.fields.specs.declared.NumberField.TheVariants as NumberField
 use Rattle.fields.specs.Words.{numeral_of}
 use Rattle.fields.specs.Answers.{as_number, number_field_of}
 use Rattle.fields.specs.Cursors.{fields_left, with_cursor, read_field}

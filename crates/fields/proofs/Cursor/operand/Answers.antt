@@ -8,9 +8,7 @@ use lib.ListN.{length}
 use Rattle.fields.specs.declared.Cursor.{Cursor}
 use Rattle.fields.specs.declared.Operand.{Operand}
 use Rattle.fields.specs.declared.OperandWord.{OperandWord}
-use Rattle.fields.specs.declared.OperandWord.TheVariants as OperandWord
 use Rattle.fields.specs.declared.OperandField.{OperandField}
-use Rattle.fields.specs.declared.OperandField.TheVariants as OperandField
 use Rattle.fields.specs.Words.{operand_of}
 use Rattle.fields.specs.Answers.{as_operand, operand_field}
 use Rattle.fields.specs.Cursors.{fields_left, with_cursor, read_field}
