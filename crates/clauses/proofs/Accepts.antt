@@ -9,7 +9,6 @@ use lib.ListN.{length, length-append}
 use Rattle.sets.proofs.Basics.{clash}
 use Rattle.sets.proofs.Basics.{never}
 use Rattle.grammar.specs.declared.UnaryMark.{UnaryMark}
-use Rattle.grammar.specs.declared.UnaryMark.TheVariants as UnaryMark
 use Rattle.grammar.specs.declared.BinaryMark.{BinaryMark}
 use Rattle.clauses.specs.Clauses.{item, made, alternatives, AtLeast, Expr, nonterminal}
 use Rattle.clauses.specs.Clauses.{a_part, terminal, group, mark, pair, optional, repeated}

@@ -8,14 +8,13 @@ use native.Mathlib.Omega.{arith}
 use Rattle.sets.proofs.Basics.{clash}
 use Rattle.grammar.specs.declared.Rule.{Rule}
 use Rattle.grammar.specs.declared.UnaryMark.{UnaryMark}
-use Rattle.grammar.specs.declared.UnaryMark.TheVariants as UnaryMark
 use Rattle.grammar.specs.Trees.{Rules}
 use Rattle.clauses.specs.Clauses as C
 use Rattle.clauses.specs.Clauses.{Sort, item, alternatives, AtLeast, from_one, Expr}
 use Rattle.clauses.specs.Clauses.{nonterminal, a_part, terminal, group, mark, pair, optional}
 use Rattle.clauses.specs.Clauses.{repeated, only, or, Clauses, a_line}
-use Rattle.clauses.specs.Readings.{left, right, clause}
-use Rattle.clauses.specs.Expansion.{E, A, U, B, size, name, alternative_rules, repeat_begins}
+use Rattle.clauses.specs.Readings.{left, right}
+use Rattle.clauses.specs.Expansion.{E, U, B, size, name, alternative_rules, repeat_begins}
 use Rattle.clauses.specs.Expansion.{expr_rules, expand_from, size_all, of, rising, past_all}
 use Rattle.clauses.specs.Expansion.{expansion}
 use Rattle.clauses.proofs.Bounds.{Under, UnderAll, start, Clash, AllApart}
@@ -25,7 +24,6 @@ use lib.ListN.{get_elem?}
 use Rattle.clauses.proofs.Numbers.{owned, choices_left, begins_left}
 use Rattle.clauses.proofs.Lines.{sheet_owned, lines, choices_among, start_from, made_grows}
 use Rattle.clauses.proofs.Lines.{among_range}
-use Rattle.clauses.proofs.Forward.{at}
 use mathlib.Core.Bool.{Bool, true, false}
 use lib.Dec.{T, eqb, eqb→eq}
 use native.Mathlib.Nat.{le_refl}

@@ -7,7 +7,6 @@ use native.Mathlib.Omega.{arith}
 use Rattle.grammar.specs.declared.Rule.{Rule}
 use Rattle.grammar.specs.declared.Clause.{Clause}
 use Rattle.grammar.specs.declared.UnaryMark.{UnaryMark}
-use Rattle.grammar.specs.declared.UnaryMark.TheVariants as UnaryMark
 use Rattle.grammar.specs.declared.BinaryMark.{BinaryMark}
 use Rattle.grammar.specs.declared.Clause.TheVariants.{Empty, Atom, Unary, Binary}
 use Rattle.grammar.specs.declared.Token.{Token}
@@ -21,7 +20,7 @@ use Rattle.clauses.specs.Clauses.{repeated, only, or, Clauses}
 use Rattle.clauses.specs.Readings.{ClausePlace, left, right, ClauseReading, clause, itself}
 use Rattle.clauses.specs.Readings.{a_token, within, marked, both, present, absent, nothing}
 use Rattle.clauses.specs.Readings.{first, more, sole, this, other, spells, MarksKept}
-use Rattle.clauses.specs.Expansion.{A, B, size, name}
+use Rattle.clauses.specs.Expansion.{B, size, name}
 use Rattle.clauses.proofs.Bounds.{start, Among}
 use Rattle.clauses.proofs.Placed.{Placed, in_part, in_only, in_group, in_mark, in_optional}
 use Rattle.clauses.proofs.Placed.{in_repeated, in_first, in_second, in_this, in_other}

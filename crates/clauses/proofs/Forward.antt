@@ -8,19 +8,17 @@ use native.Mathlib.Omega.{arith}
 use Rattle.grammar.proofs.Unmarked.{none_unary}
 use Rattle.grammar.specs.declared.Rule.{Rule}
 use Rattle.grammar.specs.declared.UnaryMark.{UnaryMark}
-use Rattle.grammar.specs.declared.UnaryMark.TheVariants as UnaryMark
 use Rattle.grammar.specs.declared.BinaryMark.{BinaryMark}
-use Rattle.grammar.specs.declared.Clause.TheVariants.{Unary, Binary}
 use Rattle.grammar.specs.Layout.{Word}
 use Rattle.grammar.specs.Layout as Mark
 use Rattle.grammar.specs.Trees.{Rules, Covers, Tree, empty, leaf, unary, binary, root, word}
 use Rattle.grammar.specs.Trees.{HasUnary, HasBinary, Valid, valid_empty, valid_leaf, valid_unary}
 use Rattle.grammar.specs.Trees.{valid_binary}
-use Rattle.clauses.specs.Clauses.{Sort, item, made, alternatives, Expr, terminal, Clauses}
+use Rattle.clauses.specs.Clauses.{Sort, item, made, alternatives, Expr, Clauses}
 use Rattle.clauses.specs.Readings.{ClausePlace, left, right, ClauseReading, clause, itself}
 use Rattle.clauses.specs.Readings.{a_token, within, marked, both, present, absent, nothing}
 use Rattle.clauses.specs.Readings.{first, more, sole, this, other, spells, MarksKept}
-use Rattle.clauses.specs.Expansion.{A, U, B, size, name, alternative_rules, expr_rules}
+use Rattle.clauses.specs.Expansion.{U, B, size, name, alternative_rules, expr_rules}
 use Rattle.clauses.specs.Expansion.{expand_from}
 use Rattle.clauses.proofs.Bounds.{UnderAll, start, Among}
 use Rattle.clauses.proofs.Placed.{Placed, in_part, in_only, in_group, in_mark, in_optional}

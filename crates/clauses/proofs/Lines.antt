@@ -7,13 +7,12 @@ use Prim.Native.Nat.{ℕ, ◌+◌, ◌≤◌, ◌<◌}
 use native.Mathlib.Omega.{arith}
 use Rattle.grammar.specs.declared.Rule.{Rule}
 use Rattle.grammar.specs.declared.UnaryMark.{UnaryMark}
-use Rattle.grammar.specs.declared.UnaryMark.TheVariants as UnaryMark
 use Rattle.grammar.specs.Trees.{Rules}
 use Rattle.clauses.specs.Clauses as C
 use Rattle.clauses.specs.Clauses.{made, alternatives, Expr, terminal, group, mark, pair}
 use Rattle.clauses.specs.Clauses.{optional, repeated, only, or, Clauses, a_line}
 use Rattle.clauses.specs.Readings.{ClausePlace, here, later, left, right}
-use Rattle.clauses.specs.Expansion.{A, U, size, alternative_rules, expr_rules, expand_from}
+use Rattle.clauses.specs.Expansion.{U, size, alternative_rules, expr_rules, expand_from}
 use Rattle.clauses.specs.Expansion.{size_all}
 use Rattle.clauses.proofs.Bounds.{UnderAll, start, Among}
 use Rattle.clauses.proofs.Numbers.{Owned, owned, choices_left}

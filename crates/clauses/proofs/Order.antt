@@ -7,11 +7,9 @@ use Prim.Native.Nat.{ℕ, zero, suc, ◌+◌, ◌<◌}
 use native.Mathlib.Omega.{arith}
 use Rattle.grammar.specs.declared.Rule.{Rule}
 use Rattle.grammar.specs.declared.UnaryMark.{UnaryMark}
-use Rattle.grammar.specs.declared.UnaryMark.TheVariants as UnaryMark
 use Rattle.grammar.specs.Trees.{Rules}
 use Rattle.clauses.specs.Clauses.{Sort, item, made, alternatives, Expr, nonterminal, a_part}
 use Rattle.clauses.specs.Clauses.{terminal, group, mark, pair, optional, repeated, only, or}
-use Rattle.clauses.specs.Readings.{left}
 use Rattle.clauses.specs.Expansion.{E, U, B, size, name, alternative_rules, repeat_begins}
 use Rattle.clauses.specs.Expansion.{expr_rules, of, rising}
 use Rattle.clauses.proofs.Numbers.{owned, choices_left, begins_left}

@@ -8,14 +8,12 @@ use native.Mathlib.Omega.{arith}
 use Rattle.grammar.specs.declared.Rule.{Rule}
 use Rattle.grammar.specs.declared.Clause.{Clause}
 use Rattle.grammar.specs.declared.UnaryMark.{UnaryMark}
-use Rattle.grammar.specs.declared.UnaryMark.TheVariants as UnaryMark
 use Rattle.grammar.specs.declared.BinaryMark.{BinaryMark}
 use Rattle.grammar.specs.declared.Clause.TheVariants.{Empty, Atom, Unary, Binary}
 use Rattle.grammar.specs.Trees.{Rules}
 use Rattle.clauses.specs.Clauses as C
 use Rattle.clauses.specs.Clauses.{Sort, item, made, AtLeast, from_one, Expr, terminal, group}
 use Rattle.clauses.specs.Clauses.{mark, pair, optional, repeated}
-use Rattle.clauses.specs.Readings.{left}
 use Rattle.clauses.specs.Expansion.{size, name, alternative_rules, expr_rules}
 use Rattle.clauses.proofs.Bounds.{Among}
 use Rattle.clauses.proofs.Numbers.{owned, begins_left}

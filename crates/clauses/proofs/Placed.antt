@@ -12,7 +12,6 @@ use Rattle.grammar.specs.declared.BinaryMark.{BinaryMark}
 use Rattle.grammar.specs.Trees.{Rules}
 use Rattle.clauses.specs.Clauses.{Sort, item, made, alternatives, AtLeast, Expr, a_part}
 use Rattle.clauses.specs.Clauses.{group, mark, pair, optional, repeated, only, or}
-use Rattle.clauses.specs.Readings.{left}
 use Rattle.clauses.specs.Expansion.{size, name, alternative_rules, expr_rules}
 use Rattle.clauses.proofs.Bounds.{Under}
 use Rattle.clauses.proofs.Numbers.{owned, choices_left, begins_left}

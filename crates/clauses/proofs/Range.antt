@@ -7,12 +7,10 @@ use Prim.Native.Nat.{ℕ, ◌+◌, ◌≤◌, ◌<◌}
 use native.Mathlib.Omega.{arith}
 use Rattle.grammar.specs.declared.Rule.{Rule}
 use Rattle.grammar.specs.declared.UnaryMark.{UnaryMark}
-use Rattle.grammar.specs.declared.UnaryMark.TheVariants as UnaryMark
 use Rattle.clauses.specs.Clauses as C
 use Rattle.clauses.specs.Clauses.{Sort, item, alternatives, AtLeast, from_one, Expr}
 use Rattle.clauses.specs.Clauses.{nonterminal, a_part, terminal, group, mark, pair, optional}
 use Rattle.clauses.specs.Clauses.{repeated, only, or, Clauses, a_line}
-use Rattle.clauses.specs.Readings.{clause}
 use Rattle.clauses.specs.Expansion.{E, A, U, B, size, name, alternative_rules, repeat_begins}
 use Rattle.clauses.specs.Expansion.{expr_rules, expand_from, size_all, past_all, expansion}
 use Rattle.clauses.proofs.Bounds.{Terms, TermsAll, Under, UnderAll, Below}

@@ -2,7 +2,6 @@
 use mathlib.Core.Path.{◌≡◌, refl}
 use mathlib.Core.List.{[], ◌∷◌}
 use Rattle.grammar.specs.declared.UnaryMark.{UnaryMark}
-use Rattle.grammar.specs.declared.UnaryMark.TheVariants as UnaryMark
 use Rattle.grammar.specs.declared.BinaryMark.TheVariants as BinaryMark
 use Rattle.clauses.specs.Clauses.{item, made, from_one, from_zero, Expr, nonterminal, a_part}
 use Rattle.clauses.specs.Clauses.{terminal, group, mark, pair, optional, repeated, only, or}

@@ -11,7 +11,6 @@ use Rattle.grammar.specs.Trees.{Rules}
 use Rattle.clauses.specs.Clauses as C
 use Rattle.clauses.specs.Clauses.{Sort, Expr, nonterminal, a_part, terminal, group, mark}
 use Rattle.clauses.specs.Clauses.{pair, optional, repeated, only, or, Clauses, a_line}
-use Rattle.clauses.specs.Readings.{left}
 use Rattle.clauses.specs.Expansion.{expand_from, size_all, of, rising, past_expr, past_all}
 use Rattle.clauses.specs.Expansion.{expansion}
 use Rattle.clauses.proofs.Bounds.{Under, UnderAll}

@@ -13,7 +13,7 @@ use Rattle.clauses.specs.Clauses.{repeated, only, or, Clauses}
 use Rattle.clauses.specs.Readings.{ClausePlace, here, later, left, right, ClauseReading}
 use Rattle.clauses.specs.Readings.{clause, itself, a_token, within, marked, both, present}
 use Rattle.clauses.specs.Readings.{absent, nothing, first, more, sole, this, other}
-use Rattle.clauses.specs.Expansion.{A, size, name}
+use Rattle.clauses.specs.Expansion.{size, name}
 use Rattle.clauses.proofs.Bounds.{Under, start}
 use Rattle.clauses.proofs.Placed.{Placed, in_part, in_only, in_group, in_mark, in_optional}
 use Rattle.clauses.proofs.Placed.{in_repeated, in_first, in_second, in_this, in_other}

@@ -1,7 +1,6 @@
 -- How expressions are written, by lexemes, and how deep groups are nested. 02, request 2.
 use Rattle.std.specs.Prelude.{List, [], ◌∷◌, ◌++◌, ℕ, suc, max}
 use Rattle.grammar.specs.declared.UnaryMark.{UnaryMark}
-use Rattle.grammar.specs.declared.UnaryMark.TheVariants as UnaryMark
 use Rattle.grammar.specs.declared.BinaryMark.{BinaryMark}
 use Rattle.clauses.specs.Clauses.{Sort, item, made, alternatives, AtLeast, Expr, nonterminal}
 use Rattle.clauses.specs.Clauses.{a_part, terminal, group, mark, pair, optional, repeated}
