@@ -7,10 +7,8 @@ use native.Mathlib.Nat.{lt_irrefl}
 use native.Mathlib.Omega.{arith}
 use native.Mathlib.Decide.{dec_lt, dec_le, ℕ_discrete}
 use Rattle.grammar.specs.declared.UnaryMark.{UnaryMark}
-use Rattle.grammar.specs.declared.UnaryMark.TheVariants as UnaryMark
 use Rattle.grammar.specs.Layout.{line, col}
 use Rattle.marks.specs.declared.Least.{Least}
-use Rattle.marks.specs.declared.Least.TheVariants as Least
 use Rattle.marks.specs.Half.{Half, token_at, MayKeep}
 use Rattle.marks.specs.Later.{Later, LeastLater, lesser, Grows, OffsideBy, OffalignBy}
 

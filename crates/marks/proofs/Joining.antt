@@ -12,9 +12,7 @@ use Rattle.sets.proofs.Says.{holds, says_iff, true_not_false}
 use Rattle.grammar.specs.declared.Token.{Token}
 use Rattle.grammar.specs.declared.Column.{Column}
 use Rattle.grammar.specs.declared.UnaryMark.{UnaryMark}
-use Rattle.grammar.specs.declared.UnaryMark.TheVariants as UnaryMark
 use Rattle.grammar.specs.declared.BinaryMark.{BinaryMark}
-use Rattle.grammar.specs.declared.BinaryMark.TheVariants as BinaryMark
 use Rattle.grammar.specs.Layout.{Keeps, Pairs}
 use Rattle.grammar.specs.Trees.{Covers}
 use Rattle.marks.specs.declared.SpanMarks.{SpanMarks}
@@ -174,9 +172,9 @@ pub no_tokens : (h : Half) (s len t : ℕ) (c : Column) → len ≡ 0 → Marked
 no_tokens h s len t c e = record {
   least = λ pos. absurd (omega arith);
   atom = λ f. absurd (omega arith);
-  unary = unary_marked h s len _ (λ x. keep_none _, λ x. tt) (λ x. keep_none _, λ x. tt)
+  unary = unary_marked h s len (alone t c) (λ x. keep_none _, λ x. tt) (λ x. keep_none _, λ x. tt)
       (holds (keep_none _));
-  binary = binary_marked h s len _ (pairing_none _ h s len (omega arith))
+  binary = binary_marked h s len (alone t c) (pairing_none _ h s len (omega arith))
       (pairing_none _ h s len (omega arith));
 }
   where

@@ -10,9 +10,7 @@ use Rattle.sets.proofs.Says.{true_not_false}
 use Rattle.sets.specs.Sets.{In}
 use Rattle.sets.proofs.Sets.{in_zero, insert_same, insert_keeps, insert_only}
 use Rattle.grammar.specs.declared.UnaryMark.{UnaryMark}
-use Rattle.grammar.specs.declared.UnaryMark.TheVariants as UnaryMark
 use Rattle.grammar.specs.declared.BinaryMark.{BinaryMark}
-use Rattle.grammar.specs.declared.BinaryMark.TheVariants as BinaryMark
 use Rattle.marks.specs.declared.SpanMarks.{SpanMarks}
 use Rattle.marks.specs.Half.{Half, MayKeep, MayPair}
 use Rattle.marks.specs.Later.{OffsideBy, OffalignBy}

@@ -5,7 +5,6 @@ use Rattle.grammar.specs.declared.Token.{Token}
 use Rattle.grammar.specs.declared.Column.{Column}
 use Rattle.grammar.specs.Layout.{line, col}
 use Rattle.marks.specs.declared.Least.{Least}
-use Rattle.marks.specs.declared.Least.TheVariants as Least
 use Rattle.marks.specs.Half.{Half, token_at}
 
 -- of the span of len tokens from s on, the token at s + i is known and stands on a line later than

@@ -4,15 +4,12 @@ use Rattle.std.specs.Prelude.{◌≡◌, Bool, true, false, ◌↔◌, ℕ, ◌+
 use Rattle.sets.specs.Says.{Says}
 use Rattle.sets.specs.Sets.{In}
 use Rattle.grammar.specs.declared.UnaryMark.{UnaryMark}
-use Rattle.grammar.specs.declared.UnaryMark.TheVariants as UnaryMark
 use Rattle.grammar.specs.declared.BinaryMark.{BinaryMark}
-use Rattle.grammar.specs.declared.BinaryMark.TheVariants as BinaryMark
 use Rattle.grammar.specs.declared.Token.{Token}
 use Rattle.grammar.specs.declared.Column.{Column}
 use Rattle.grammar.specs.Layout.{Keeps, Pairs}
 use Rattle.grammar.specs.Trees.{Covers}
 use Rattle.marks.specs.declared.Least.{Least}
-use Rattle.marks.specs.declared.Least.TheVariants as Least
 use Rattle.marks.specs.declared.SpanMarks.{SpanMarks}
 use Rattle.marks.specs.Half.{Half, token_at, MayBe, MayKeep, MayPair}
 use Rattle.marks.specs.Later.{LeastLater, Grows, OffsideBy, OffalignBy}
