@@ -11,7 +11,6 @@ use Rattle.sets.proofs.Sets.{in_zero}
 use Rattle.grammar.specs.declared.Rule.{Rule}
 use Rattle.grammar.specs.declared.Grammar.{Grammar}
 use Rattle.grammar.specs.declared.Clause.{Clause}
-use Rattle.grammar.specs.declared.Clause.TheVariants as Clause
 use Rattle.grammar.specs.Trees.{Rules}
 use Rattle.grammar.specs.Cycles.{Nullable, Edge, by_unary, by_left, by_right, Chain, one, more}
 use Rattle.grammar.specs.Cycles.{Cyclic}
@@ -24,6 +23,8 @@ use Rattle.acyclic.specs.Passes.{LeadsTo, AddsTargets}
 module _ {g : Rules} {ns : ℕ} (x : Exactly ns (Nullable g)) where
   edge_by : (A : ℕ) (c : Clause) (Y : ℕ) → Memᴰ (record { left = A; clause = c }) g
       → LeadsTo ns c Y → Edge g A Y
+  edge_by A Clause.Empty Y m h = elim h [ ]
+  edge_by A (Clause.Atom _ _) Y m h = elim h [ ]
   edge_by A (Clause.Unary B k) Y m h = rw h at (by_unary k m)
   edge_by A (Clause.Binary B C k) Y m (inl h) = rw h.0 at (by_left C k m (x.is C h.1))
   edge_by A (Clause.Binary B C k) Y m (inr h) = rw h.0 at (by_right B k m (x.is B h.1))

@@ -9,7 +9,6 @@ use Rattle.sets.specs.Sets.{In}
 use Rattle.sets.proofs.Sets.{in_zero}
 use Rattle.grammar.specs.declared.Rule.{Rule}
 use Rattle.grammar.specs.declared.Clause.{Clause}
-use Rattle.grammar.specs.declared.Clause.TheVariants as Clause
 use Rattle.grammar.specs.Trees.{Tree, empty, unary, binary, root, word, Rules, Valid, valid_empty}
 use Rattle.grammar.specs.Trees.{valid_leaf, valid_unary, valid_binary}
 use Rattle.grammar.specs.Cycles.{Nullable}

@@ -5,7 +5,6 @@ use Rattle.std.proofs.Math.ListN.{get_elem?}
 use Rattle.sets.specs.Sets.{In}
 use Rattle.grammar.specs.declared.Rule.{Rule}
 use Rattle.grammar.specs.declared.Clause.{Clause}
-use Rattle.grammar.specs.declared.Clause.TheVariants as Clause
 use Rattle.grammar.specs.Trees.{Rules}
 
 -- t is the set s with those besides that have P
