@@ -12,7 +12,6 @@ use Rattle.sets.proofs.Basics.{both}
 use Rattle.sets.proofs.Says.{true_not_false}
 use Rattle.grammar.specs.declared.Rule.{Rule}
 use Rattle.grammar.specs.declared.Clause.{Clause}
-use Rattle.grammar.specs.declared.Clause.TheVariants as Clause
 use Rattle.grammar.specs.Trees.{Rules, Covers, HasAtom}
 use Rattle.grammar.specs.Sweeps.{is_atom_of}
 

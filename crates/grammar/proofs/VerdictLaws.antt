@@ -5,7 +5,6 @@ use Rattle.grammar.specs.Layout.{Word}
 use Rattle.grammar.specs.Trees.{Rules, NoTree, OneTree, TwoTrees}
 use Rattle.grammar.specs.Verdicts.{Holds}
 use Rattle.grammar.specs.declared.Verdict.{Verdict}
-use Rattle.grammar.specs.declared.Verdict.TheVariants as Verdict
 
 module _ {g : Rules} {A : ℕ} {w : Word} where
   pub none_not_one : NoTree g A w → OneTree g A w → ⊥

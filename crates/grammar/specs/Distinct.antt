@@ -2,7 +2,6 @@
 -- is said by `lines/specs/Keys.antt`).
 use Rattle.std.specs.Prelude.{◌≡◌, ℕ}
 use Rattle.grammar.specs.declared.Clause.{Clause}
-use Rattle.grammar.specs.declared.Clause.TheVariants as Clause
 use Rattle.grammar.specs.Trees.{Covers, Rules}
 use Rattle.std.proofs.Math.Option.{some}
 use Rattle.std.proofs.Math.ListN.{get_elem?}

@@ -3,7 +3,6 @@ use Rattle.std.specs.Prelude.{ℕ}
 use Rattle.grammar.specs.Layout.{Word}
 use Rattle.grammar.specs.Trees.{Rules, NoTree, OneTree, TwoTrees}
 use Rattle.grammar.specs.declared.Verdict.{Verdict}
-use Rattle.grammar.specs.declared.Verdict.TheVariants as Verdict
 
 -- none, one or two: A has no valid tree over w, just one, or at least two
 abbrev pub Holds : Verdict → Rules → ℕ → Word → Type 0
