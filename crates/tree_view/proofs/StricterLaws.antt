@@ -8,11 +8,8 @@ use Prim.Native.Nat.{ℕ}
 use Rattle.grammar.proofs.Unmarked.{none_unary, none_binary}
 use Rattle.grammar.specs.declared.Rule.{Rule}
 use Rattle.grammar.specs.declared.UnaryMark.{UnaryMark}
-use Rattle.grammar.specs.declared.UnaryMark.TheVariants as UnaryMark
 use Rattle.grammar.specs.declared.BinaryMark.{BinaryMark}
-use Rattle.grammar.specs.declared.BinaryMark.TheVariants as BinaryMark
 use Rattle.grammar.specs.declared.Clause.{Clause}
-use Rattle.grammar.specs.declared.Clause.TheVariants as Clause
 use Rattle.grammar.specs.Layout.{Word}
 use Rattle.grammar.specs.Trees.{Rules, Tree, word, Valid, valid_empty, valid_leaf, valid_unary}
 use Rattle.grammar.specs.Trees.{valid_binary, Witness, NoTree, OneTree, TwoTrees}
