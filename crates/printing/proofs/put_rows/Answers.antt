@@ -1,0 +1,24 @@
+use mathlib.Core.Path.{◌≡◌}
+use native.Mathlib.Omega.{arith}
+use borrow.Author.Rules.{rules}
+use Rattle.printing.proofs.Writing.{wrote_none, wrote_then}
+use Rattle.printing.proofs.Texts.{rows_more}
+use Rattle.printing.proofs.put_rows.Goals as goal
+
+pub loop-i-init : goal.loop-i-init
+loop-i-init c = (search rules, search rules, wrote_none _ _)
+
+pub loop-i-preserved : goal.loop-i-preserved
+loop-i-preserved c =
+    let w = c.put_row-next.ensures in (
+      search rules,
+      omega (arith, w.upper_bound, c.loop-i.invariant.1),
+      rw (rows_more c.args.tree c.loop-i.i c.args.rows.now (search rules))
+          (wrote_then c.loop-i.invariant.2 w.wrote),
+    )
+
+pub returns : goal.returns
+returns c =
+    let l = c.loop-i in
+    let e : l.i ≡ c.args.count = omega (arith, l.invariant.0, c.loop-i-test) in
+    record { wrote = rw e at l.invariant.2; upper_bound = rw e at l.invariant.1 }
