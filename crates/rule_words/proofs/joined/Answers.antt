@@ -3,14 +3,12 @@ use mathlib.Core.Path.{◌≡◌, ap, ◌∙◌}
 use Prim.Native.Nat.{ℕ, ◌<◌, ◌+◌, ◌*◌, ◌/◌, ◌%◌}
 use native.Mathlib.Omega.{arith}
 use Rattle.rule_words.specs.Words.{clause_of_of, word_rule}
-use borrow.Author.Rules.{rules}
-use Rattle.rule_words.proofs.joined.Statement.{statement}
-use Rattle.rule_words.proofs.joined.Tie as tie
+use Rattle.rule_words.proofs.joined.Goals as goal
 
 lowest : (a b : ℕ) → a < 256 → (a + 256 * b) % 256 ≡ a
 lowest a b h = omega arith
 
-returns : tie.Need-returns
+pub returns : goal.returns
 unfolding word_rule
 returns c =
     let a = c.args in
@@ -26,7 +24,3 @@ returns c =
     ap (λ (n : ℕ). n % 256) (let z : w / 16777216 ≡ a.second + 256 * 0 = omega arith in z)
     ∙ lowest _ 0 (omega arith) in
     λ i. record { left = l i; clause = clause_of_of (k i) (f i) (s i) }
-
-pub joined-spec : {M : Type 1} → statement M
-joined-spec = tie.close (tie.spec (λ c. search rules) (λ c. search rules) (λ c. search rules)
-    (λ c. search rules) (λ c. search rules) (λ c. search rules) returns)
