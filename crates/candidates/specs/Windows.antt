@@ -6,7 +6,6 @@ use Rattle.grammar.specs.declared.Cell.{Cell}
 use Rattle.grammar.specs.Candidates.{Ranged, CellBefore, CellsBefore}
 use Rattle.candidates.specs.declared.Candidate.{Candidate}
 use Rattle.candidates.specs.declared.Advanced.{Advanced}
-use Rattle.candidates.specs.declared.Advanced.TheVariants as Advanced
 use Rattle.candidates.specs.Terminals.{Among}
 use Rattle.candidates.specs.Arrays.{cell_at, cells}
 use Rattle.candidates.specs.Succession.{Shares}

@@ -9,8 +9,7 @@ use Rattle.grammar.specs.declared.Cell.{Cell}
 use Rattle.grammar.proofs.SweepLaws.{cell_path}
 use Rattle.candidates.specs.declared.Candidate.{Candidate}
 use Rattle.candidates.specs.Arrays.{cell_at}
-use Rattle.candidates.proofs.Candidate.with.Statement.{statement}
-use Rattle.candidates.proofs.Candidate.with.Tie as tie
+use Rattle.candidates.proofs.Candidate.with.Goals as goal
 
 other_cell : (c : Candidate) (i : ℕ) (d : Cell) (j : ℕ) → j ≢ i
     → cell_at (record {
@@ -24,12 +23,8 @@ other_cell c i d j n =
     (get_or-set_other c.steps i j d.step 0 n)
     (get_or-set_other c.columns i j d.column 0 n)
 
-returns : tie.Need-returns
+pub returns : goal.returns
 returns c = record {
   here = search rules;
-  other = λ j n. other_cell c.args.t1 c.args.i c.args.c j n;
+  other = λ j n. other_cell c.args.self c.args.i c.args.c j n;
 }
-
-pub with-spec : {M : Type 1} → statement M
-with-spec = tie.close (tie.spec (λ c. search rules) (λ c. search rules) (λ c. search rules)
-    (λ c. search rules) returns)
