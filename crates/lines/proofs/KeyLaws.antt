@@ -10,7 +10,6 @@ use Rattle.sets.proofs.Basics.{clash}
 use Rattle.sets.proofs.Basics.{both}
 use Rattle.grammar.specs.declared.Rule.{Rule}
 use Rattle.grammar.specs.declared.Clause.{Clause}
-use Rattle.grammar.specs.declared.Clause.TheVariants as Clause
 use Rattle.grammar.specs.Trees.{Covers}
 use Rattle.lines.specs.Keys.{key_with_of, key_of, same_key_of}
 use Rattle.grammar.specs.Distinct.{Alike}

@@ -8,13 +8,10 @@ use borrow.Author.Tests.{leb-true}
 use lib.Dec.{leb}
 use Rattle.grammar.specs.declared.Rule.{Rule}
 use Rattle.grammar.specs.declared.Clause.{Clause}
-use Rattle.grammar.specs.declared.Clause.TheVariants as Clause
 use Rattle.grammar.specs.Content.{SmallClause, SmallRule}
 use Rattle.fields.specs.declared.Operand.{Operand}
 use Rattle.fields.specs.declared.Kind.{Kind}
-use Rattle.fields.specs.declared.Kind.TheVariants as Kind
 use Rattle.fields.specs.declared.Lay.{Lay}
-use Rattle.fields.specs.declared.Lay.TheVariants as Lay
 use Rattle.fields.specs.Words.{numeral_of, kind_of, operand_of, lay_of}
 use Rattle.fields.specs.Pieces.{pieces}
 use Rattle.fields.proofs.Pick.{either}

@@ -3,7 +3,6 @@
 use Rattle.std.specs.Prelude.{ℕ, Bool, cond, ◌&&◌, eqb, leb}
 use Rattle.grammar.specs.declared.Rule.{Rule}
 use Rattle.grammar.specs.declared.Clause.{Clause}
-use Rattle.grammar.specs.declared.Clause.TheVariants as Clause
 use Rattle.lines.specs.declared.Key.{Key}
 
 abbrev pub unary_key : ℕ → ℕ → Key

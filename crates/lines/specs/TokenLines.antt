@@ -5,7 +5,6 @@ use Rattle.fields.specs.Pieces.{pieces}
 use Rattle.fields.specs.Words.{numeral_of}
 use Rattle.fields.specs.Fields.{with_field, at_end_of}
 use Rattle.lines.specs.declared.TokenLine.{TokenLine}
-use Rattle.lines.specs.declared.TokenLine.TheVariants as TokenLine
 
 -- 47: width 0 or above 255, or column plus width above 65,536
 abbrev pub sized_of : ℕ → ℕ → ℕ → ℕ → TokenLine

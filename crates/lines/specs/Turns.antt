@@ -2,7 +2,6 @@
 use Rattle.std.specs.Prelude.{ℕ, List, Bool, not, cond, ◌&&◌, leb}
 use Rattle.fields.specs.Pieces.{is_empty}
 use Rattle.lines.specs.declared.Turn.{Turn}
-use Rattle.lines.specs.declared.Turn.TheVariants as Turn
 
 -- what a line is, before its fields are looked at, after n items of at most `most`; `ended` says
 -- whether a byte 10 ends it. No bytes after the last byte 10 are the sheet's end. 6 and 14 come
