@@ -10,7 +10,6 @@ use lib.ListN.{length}
 use Rattle.grammar.specs.declared.Token.{Token}
 use Rattle.grammar.specs.declared.Rule.{Rule}
 use Rattle.grammar.specs.declared.Clause.{Clause}
-use Rattle.grammar.specs.declared.Clause.TheVariants as Clause
 use Rattle.grammar.specs.declared.UnaryMark.{UnaryMark}
 use Rattle.grammar.specs.declared.BinaryMark.{BinaryMark}
 use Rattle.grammar.specs.Layout.{Word}
@@ -122,6 +121,18 @@ one_rule d {t} {u} {p} {k} {q} {l} a b e h =
 
 similar_same : {g : Rules} → Distinct g → (t u : Tree) {p k q l : ℕ} → Takes g t p k → Takes g u q l
     → Similar t u → Same p k q l
+similar_same {g = g} d (empty A) (leaf B y) {p = p} {k = k} {q = q} {l = l} a b s = elim s [ ]
+similar_same {g = g} d (empty A) (unary B t) {p = p} {k = k} {q = q} {l = l} a b s = elim s [ ]
+similar_same {g = g} d (empty A) (binary B t u) {p = p} {k = k} {q = q} {l = l} a b s = elim s [ ]
+similar_same {g = g} d (leaf A x) (empty B) {p = p} {k = k} {q = q} {l = l} a b s = elim s [ ]
+similar_same {g = g} d (leaf A x) (unary B t) {p = p} {k = k} {q = q} {l = l} a b s = elim s [ ]
+similar_same {g = g} d (leaf A x) (binary B t u) {p = p} {k = k} {q = q} {l = l} a b s = elim s [ ]
+similar_same {g = g} d (unary A s) (empty B) {p = p} {k = k} {q = q} {l = l} a b e = elim e [ ]
+similar_same {g = g} d (unary A s) (leaf B y) {p = p} {k = k} {q = q} {l = l} a b e = elim e [ ]
+similar_same {g = g} d (unary A s) (binary B t u) {p = p} {k = k} {q = q} {l = l} a b e = elim e [ ]
+similar_same {g = g} d (binary A r s) (empty B) {p = p} {k = k} {q = q} {l = l} a b e = elim e [ ]
+similar_same {g = g} d (binary A r s) (leaf B y) {p = p} {k = k} {q = q} {l = l} a b e = elim e [ ]
+similar_same {g = g} d (binary A r s) (unary B t) {p = p} {k = k} {q = q} {l = l} a b e = elim e [ ]
 similar_same d (empty A) (empty B) a b s =
     (one_rule d a b s (rw (a.top.0, b.top.0) tt), a.top.1 ∙ sym b.top.1)
 similar_same d (leaf A x) (leaf B y) a b s =
