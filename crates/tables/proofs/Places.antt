@@ -12,6 +12,7 @@ use Rattle.tables.specs.Tables.{no_rule}
 
 pub place : {r : Rule} (g : Rules) → Memᴰ r g
     → (i : ℕ) × (i < length g) × (get_or g i no_rule ≡ r)
+place {r = r} [] x' = elim x' [ ]
 place (x ∷ g) (Memᴰ.head e) = (0, suc-le-suc zero-le, sym e)
 place (x ∷ g) (Memᴰ.tail m) = let p = place g m in (suc p.0, suc-le-suc p.1, p.2)
 

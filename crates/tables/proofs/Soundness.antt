@@ -7,10 +7,9 @@ use Prim.Native.Nat.{ℕ, ◌+◌, ◌-◌, ◌≤◌}
 use native.Mathlib.Omega.{arith}
 use lib.ListN.{length}
 use Rattle.grammar.specs.declared.Clause.{Clause}
-use Rattle.grammar.specs.declared.Clause.TheVariants as Clause
 use Rattle.grammar.specs.Layout.{Word}
 use Rattle.grammar.specs.Layout as Mark
-use Rattle.grammar.specs.Trees.{Rules, Tree, empty, leaf, unary, binary, word, valid_empty}
+use Rattle.grammar.specs.Trees.{Rules, Tree, empty, leaf, unary, binary, valid_empty}
 use Rattle.grammar.specs.Trees.{valid_leaf, valid_unary, valid_binary, Witness, Derives, TwoTrees}
 use Rattle.grammar.specs.Choices.{Same}
 use Rattle.grammar.specs.SpanSheet.{part}
