@@ -171,7 +171,7 @@ class Turner:
         env = dict(env)
         # names of places that a let binds
         alias = {}
-        let = re.compile(rf"\blet ({NAME}) = ({NAME}(?:\.before)*) in(\s+)")
+        let = re.compile(rf"\blet ({NAME}) = ({NAME}(?:\.{NAME})*) in(\s+)")
         # names of arguments
         pos = 0
         while True:
@@ -183,7 +183,7 @@ class Turner:
             if root in alias:
                 root, more = alias[root]
                 fields = more + fields
-            if root in env and all(f == "before" for f in fields):
+            if root in env and (all(f == "before" for f in fields) or fields[-1] == "given"):
                 alias[name] = (root, fields)
                 text = text[: m.start()] + text[m.end():]
                 pos = m.start()
@@ -268,6 +268,8 @@ def parse(decl):
 
 
 def used(name, tokens, text):
+    if name == "[]":
+        return "[]" in text
     if "◌" in name:
         return all(p in text for p in name.split("◌") if p)
     return name in tokens
