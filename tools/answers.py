@@ -205,7 +205,10 @@ class Turner:
                 lines.append(line)
             else:
                 lines.append(PATH.sub(turn, line))
-        return "\n".join(lines)
+        # the test of `if !x` says what x is
+        test = rf"not-(?:true|false) _ ({NAME}\.if-not-{NAME}\.(?:true|false))(?![^\s(){{}},;])"
+        out = re.sub(rf"\({test}\)", r"\1", "\n".join(lines))
+        return re.sub(test, r"\1", out)
 
 
 def blocks(text):
