@@ -42,6 +42,12 @@ class Function:
         self.loops = data["loops"]
         self.changed = data["changed"]
         self.params = data["params"]
+        # the arguments whose names were Rattle's own
+        self.args = {}
+        for old, new in data.get("args", []):
+            a, b = old.split(), new.split()
+            if len(a) == 2 and len(b) == 2:
+                self.args[(a[0][1:], a[1][1:])] = b[1][1:]
         self.exported = {old for old, _ in self.asked_at}
         self.old = {}
         for i, (old, new) in enumerate(self.needs):
@@ -120,7 +126,8 @@ BASE = {"args", "requires", "well-formed", "well_formed", "ranges", "utf8", "lif
         "is", "has"}
 
 
-SUB = {"taken": "true", "left": "false", "inv": "invariant", "good": "well_formed", "pre": "requires"}
+SUB = {"taken": "true", "left": "false", "inv": "invariant", "good": "well_formed", "pre": "requires",
+       "type-inv": "type_inv"}
 
 
 class Turner:
@@ -150,8 +157,10 @@ class Turner:
                 n = k
             return ".".join([root] + ["before"] * n)
         f = rest[0]
-        if f in BASE:
+        if f in BASE and not (f in ("is", "has") and fn.step(at, f)[1]):
             g = {"pre": "requires", "good": "well_formed", "well-formed": "well_formed"}.get(f, f)
+            if len(rest) > 1 and (g, rest[1]) in fn.args:
+                rest[1] = fn.args[(g, rest[1])]
             return ".".join([root, g] + rest[1:])
         where, new = fn.step(at, f)
         if new is None:
