@@ -1,7 +1,6 @@
 -- Unary marks by their strength. For laws and the contracts of inner functions only.
 use Rattle.std.specs.Prelude.{ℕ}
 use Rattle.grammar.specs.declared.UnaryMark.{UnaryMark}
-use Rattle.grammar.specs.declared.UnaryMark.TheVariants as UnaryMark
 
 -- the stronger the higher: a word that keeps one keeps each lower one
 abbrev pub rank : UnaryMark → ℕ

@@ -2,7 +2,6 @@
 -- inherit.
 use Rattle.std.specs.Prelude.{◌⊎◌, ℕ}
 use Rattle.grammar.specs.declared.UnaryMark.{UnaryMark}
-use Rattle.grammar.specs.declared.UnaryMark.TheVariants as UnaryMark
 use Rattle.grammar.specs.declared.BinaryMark.{BinaryMark}
 use Rattle.grammar.specs.Trees.{Rules, HasAtom, HasUnary, HasBinary}
 use Rattle.grammar.specs.Cycles.{Nullable}
