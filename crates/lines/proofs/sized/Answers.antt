@@ -11,22 +11,12 @@ pub returns-then-w-gt255 : goal.returns-then-w-gt255
 returns-then-w-gt255 c = let a = c.args in
     simp (lt-leb _ _ c.if-w-gt255.true, le-leb 1 a.w (omega arith))
 
-pub returns-then-past-gt65536 : goal.returns-then-past-gt65536
-returns-then-past-gt65536 c = let a = c.args in
-    let e = c.past.ensures in
-    simp (
-      lt-leb (a.k + a.w) 65536 (omega (arith, e, c.if-past-gt65536.true)),
-      le-leb _ _
-          c.if-w-gt255.false,
-      le-leb 1 a.w (omega arith),
-    )
-
 pub returns : goal.returns
 returns c = let a = c.args in
     let e = c.past.ensures in
     simp (
-      le-leb (a.k + a.w) 65536 (omega (arith, e, c.if-past-gt65536.false)),
-      le-leb _ _
-          c.if-w-gt255.false,
+      le-leb (a.k + a.w) 65536 (omega (arith, e)),
+      le-leb a.w 255
+          (omega arith),
       le-leb 1 a.w (omega arith),
     )
