@@ -17,7 +17,6 @@ use Rattle.clauses.specs.Clauses as C
 use Rattle.clauses.specs.Text.{maybe, repeats, marks, Lex, n, t, opening, closing, bar, suffix}
 use Rattle.clauses.specs.Text.{join}
 use Rattle.lexemes.specs.declared.Lexeme.{Lexeme}
-use Rattle.lexemes.specs.declared.Lexeme.TheVariants as Lexeme
 use Rattle.lexemes.specs.Lexemes.{LexFound, starts, front_digits, ranged, numbered, items}
 use Rattle.lexemes.specs.Lexemes.{Sign, signs, first_sign, lexeme, onto_lexemes, then, from}
 use Rattle.lexemes.specs.Lexemes.{lexemes}
@@ -26,7 +25,6 @@ use Rattle.lexemes.specs.Answers.{LexemeTells}
 use Rattle.lexemes.specs.Answers.{Numbers, NumberAt, Lexes}
 use Rattle.fields.proofs.Pick.{hit, miss, either}
 use Rattle.fields.specs.declared.Number.{Number}
-use Rattle.fields.specs.declared.Number.TheVariants as Number
 use Rattle.fields.specs.Answers.{as_number}
 
 -- a lexeme that is found has at least one byte, and no more than there are
@@ -320,6 +318,16 @@ numbers_high o v e h = record {
 
 pub numbers_none : (o : Option ℕ) → o ≡ none → Numbers o 64
 numbers_none o e = record { is = λ l. absurd (omega arith); isnt = λ l f k. ap (ranged f k) e }
+
+-- the number that a field's answer gives
+pub number_low : (o : Option ℕ) (v : ℕ) → Number.Is v ≡ as_number o → v ≤ 63 → Numbers o v
+number_low o v e h = numbers_low o v (is_number o v (sym e)) h
+
+pub number_high : (o : Option ℕ) (v : ℕ) → Number.Is v ≡ as_number o → 63 < v → Numbers o 64
+number_high o v e h = numbers_high o v (is_number o v (sym e)) h
+
+pub number_none : (o : Option ℕ) → Number.Not ≡ as_number o → Numbers o 64
+number_none o e = numbers_none o (is_not o (sym e))
 
 module _ (s : List ℕ) (at e v : ℕ) (h : e ≡ at + 1 + length (front_digits (drop (at + 1) s)))
     (g : Numbers (numeral_of (take (e - (at + 1)) (drop (at + 1) s))) v) where

@@ -5,7 +5,6 @@ use Rattle.clauses.specs.Clauses as C
 use Rattle.clauses.specs.Text.{maybe, repeats, marks, Lex, n, t, opening, closing, bar, suffix}
 use Rattle.clauses.specs.Text.{join}
 use Rattle.lexemes.specs.declared.Lexeme.{Lexeme}
-use Rattle.lexemes.specs.declared.Lexeme.TheVariants as Lexeme
 use Rattle.lexemes.specs.declared.Lexed.{Lexed}
 use Rattle.lexemes.specs.declared.Counted.{Counted}
 use Rattle.lexemes.specs.Lexemes.{LexFound, starts, ranged, numbered, Sign, sign, signs}
