@@ -5,7 +5,6 @@ use Rattle.std.specs.Prelude.{◌≡◌, Bool, true, false, ◌⊎◌, ℕ, ◌+
 use Rattle.sets.specs.Says.{Says}
 use Rattle.sets.specs.Sets.{In}
 use Rattle.grammar.specs.declared.Clause.{Clause}
-use Rattle.grammar.specs.declared.Clause.TheVariants as Clause
 use Rattle.grammar.specs.Trees.{Rules}
 use Rattle.marks.specs.declared.SpanMarks.{SpanMarks}
 use Rattle.marks.specs.Marked.{AtomBy, UnaryBy}
