@@ -2,10 +2,9 @@
 use mathlib.Core.Path.{refl}
 use native.Mathlib.Omega.{arith}
 use Rattle.sets.proofs.Basics.{clash}
-use Rattle.lists.proofs.begin.Statement.{statement}
-use Rattle.lists.proofs.begin.Tie as tie
+use Rattle.lists.proofs.begin.Goals as goal
 
-returns : tie.Need-returns
+pub returns : goal.returns
 returns c =
     record {
       few = omega arith;
@@ -19,6 +18,3 @@ returns c =
             large = λ z. absurd (clash cc);
           };
     }
-
-pub begin-spec : {M : Type 1} → statement M
-begin-spec = tie.close (tie.spec returns)
