@@ -9,9 +9,8 @@ use native.Mathlib.Nat.{not-suc-le-zero}
 use lib.ListN.{length, get_or}
 use Rattle.sets.specs.Sets.{In}
 use Rattle.grammar.specs.declared.Clause.{Clause}
-use Rattle.grammar.specs.declared.Clause.TheVariants as Clause
 use Rattle.grammar.specs.Trees.{Rules, Derives, TwoTrees}
-use Rattle.grammar.specs.SpanSheet.{part, pairs, pair_at, first_word, second_word}
+use Rattle.grammar.specs.SpanSheet.{part, pair_at, first_word, second_word}
 use Rattle.marks.specs.declared.SpanMarks.{SpanMarks}
 use Rattle.marks.specs.Half.{Half}
 use Rattle.marks.specs.Marked.{Marked}

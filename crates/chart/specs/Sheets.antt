@@ -10,7 +10,6 @@ use Rattle.chart.specs.Openness.{Open}
 use Rattle.chart.specs.Leaves.{LeafAt, May}
 use Rattle.chart.specs.Filling.{Given}
 use Rattle.grammar.specs.declared.Verdict.{Verdict}
-use Rattle.grammar.specs.declared.Verdict.TheVariants as Verdict
 use Rattle.grammar.specs.Verdicts.{Holds}
 
 -- of the spans of w that end at or before token `to`, the words ws, as a span sheet of n tokens,

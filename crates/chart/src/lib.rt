@@ -1,3 +1,2 @@
 // Span sheets of half-known sentences: what those who fill them promise.
 #![tactic(auto)]
-
