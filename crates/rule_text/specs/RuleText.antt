@@ -2,12 +2,9 @@
 -- 5, terminals in `second`.
 use Rattle.std.specs.Prelude.{cond, List, [], ◌∷◌, ◌++◌, ℕ, eqb}
 use Rattle.grammar.specs.declared.UnaryMark.{UnaryMark}
-use Rattle.grammar.specs.declared.UnaryMark.TheVariants as UnaryMark
 use Rattle.grammar.specs.declared.BinaryMark.{BinaryMark}
-use Rattle.grammar.specs.declared.BinaryMark.TheVariants as BinaryMark
 use Rattle.grammar.specs.declared.Rule.{Rule}
 use Rattle.grammar.specs.declared.Clause.{Clause}
-use Rattle.grammar.specs.declared.Clause.TheVariants as Clause
 use Rattle.grammar.specs.Trees.{Rules}
 use Rattle.printing.specs.Printing.{field}
 
