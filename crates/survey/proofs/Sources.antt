@@ -10,10 +10,8 @@ use Rattle.sets.specs.Sets.{In}
 use Rattle.sets.specs.Insertion.{insert}
 use Rattle.sets.proofs.Sets.{in_zero, insert_same, insert_keeps, insert_only}
 use Rattle.grammar.specs.declared.UnaryMark.{UnaryMark}
-use Rattle.grammar.specs.declared.UnaryMark.TheVariants as UnaryMark
 use Rattle.grammar.specs.declared.Rule.{Rule}
 use Rattle.grammar.specs.declared.Clause.{Clause}
-use Rattle.grammar.specs.declared.Clause.TheVariants as Clause
 use Rattle.grammar.specs.Trees.{Rules}
 use Rattle.grammar.specs.Cycles.{Nullable}
 use Rattle.acyclic.specs.Exact.{Exactly}
@@ -24,7 +22,6 @@ use Rattle.pairs.specs.Survey.{stronger, onward_mark, Inherits, none_at_top, fro
 use Rattle.pairs.specs.Strength.{rank}
 use Rattle.pairs.specs.Survey.{to_first, to_only, to_second}
 use Rattle.survey.specs.declared.Aim.{Aim}
-use Rattle.survey.specs.declared.Aim.TheVariants as Aim
 use Rattle.survey.specs.Sources.{Worded, Under, Filled, AddsFilled, Begins, AddsBegins}
 use Rattle.survey.specs.Sources.{Stands, AddsStands, Heads, Follows}
 use Rattle.survey.specs.Sources.{AddsHeads}
@@ -87,6 +84,7 @@ module _ {g : Rules} {ns : ℕ} (x : Exactly ns (Nullable g)) where
   module _ (s : ℕ) where
     filled_by : ((Y : ℕ) → In s Y → Productive g Y) → (A : ℕ) (c : Clause) → Has g A c
         → Filled ns s c → Productive g A
+    filled_by h A Clause.Empty m l = elim l [ ]
     filled_by h A (Clause.Atom a b) m l =
         by_atom {x = a}
         (record { low = a; high = b; rule = m; covers = record { low = le_refl a; high = l } })
@@ -121,6 +119,7 @@ module _ {g : Rules} {ns : ℕ} (x : Exactly ns (Nullable g)) where
     module _ (z s : ℕ) where
       begins_by : ((Y : ℕ) → In s Y → CanBegin g Y z) → (A : ℕ) (c : Clause) → Has g A c
           → Begins ns ps z s c → CanBegin g A z
+      begins_by h A Clause.Empty m v = elim v [ ]
       begins_by h A (Clause.Atom a b) m v =
           with_atom (record { low = a; high = b; rule = m; covers = v })
       begins_by h A (Clause.Unary B k) m i = with_unary k m (h B i)
@@ -147,6 +146,8 @@ module _ {g : Rules} {ns : ℕ} (x : Exactly ns (Nullable g)) where
 
       stands_by : (A : ℕ) (c : Clause) (Y : ℕ) → Has g A c → Occurs g A → Stands ns ps c Y
           → Occurs g Y
+      stands_by A Clause.Empty Y m o x4 = elim x4 [ ]
+      stands_by A (Clause.Atom _ _) Y m o x7 = elim x7 [ ]
       stands_by A (Clause.Unary B k) Y m o (w, e) = rw e at (in_unary k m o (has_word w))
       stands_by A (Clause.Binary B C k) Y m o ((v, w), inl e) =
           rw e at (in_first k m o (has_word v) (has_word w))
@@ -176,6 +177,8 @@ module _ {g : Rules} {ns : ℕ} (x : Exactly ns (Nullable g)) where
 
       front_by : (A : ℕ) (c : Clause) (Y : ℕ) → Has g A c → AtMost g k A → Heads ns ps k c Y
           → AtMost g k Y
+      front_by A Clause.Empty Y m t x4 = elim x4 [ ]
+      front_by A (Clause.Atom _ _) Y m t x7 = elim x7 [ ]
       front_by A (Clause.Unary B n) Y m t ((p, l), e) =
           subst (AtMost g k) e (record {
             mark = stronger t.mark n;
@@ -218,6 +221,9 @@ module _ {g : Rules} {ns : ℕ} (x : Exactly ns (Nullable g)) where
 
       follow_by : (A : ℕ) (c : Clause) (Y : ℕ) → Has g A c → Onward A → Follows ps c Y
           → AtMost g k Y
+      follow_by A Clause.Empty Y m t x4 = elim x4 [ ]
+      follow_by A (Clause.Atom _ _) Y m t x7 = elim x7 [ ]
+      follow_by A (Clause.Unary _ _) Y m t x8 = elim x8 [ ]
       follow_by A (Clause.Binary B C n) Y m t ((p, q), e) =
           subst (AtMost g k) e (record {
             mark = onward_mark t.mark;

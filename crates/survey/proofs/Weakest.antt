@@ -4,14 +4,12 @@ use Prim.Native.Nat.{ℕ, zero, suc, ◌≤◌}
 use native.Mathlib.Omega.{arith}
 use Rattle.sets.specs.Sets.{In}
 use Rattle.grammar.specs.declared.UnaryMark.{UnaryMark}
-use Rattle.grammar.specs.declared.UnaryMark.TheVariants as UnaryMark
 use Rattle.grammar.specs.Trees.{Rules}
 use Rattle.acyclic.specs.Exact.{Exactly}
 use Rattle.pairs.specs.Survey.{Inherits}
 use Rattle.pairs.specs.Strength.{rank}
 use Rattle.survey.specs.declared.Levels.{Levels}
 use Rattle.survey.specs.declared.Level.{Level}
-use Rattle.survey.specs.declared.Level.TheVariants as Level
 use Rattle.survey.specs.Closing.{AtMost, LevelsOf, LevelIs, Weakest}
 use Rattle.survey.proofs.Sources.{in_three}
 

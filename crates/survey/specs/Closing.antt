@@ -3,15 +3,12 @@ use Rattle.std.specs.Prelude.{ℕ, ◌≤◌, ◌⊎◌}
 use mathlib.Core.List.{Memᴰ}
 use Rattle.sets.specs.Sets.{In}
 use Rattle.grammar.specs.declared.UnaryMark.{UnaryMark}
-use Rattle.grammar.specs.declared.UnaryMark.TheVariants as UnaryMark
 use Rattle.grammar.specs.declared.Rule.{Rule}
 use Rattle.grammar.specs.Trees.{Rules}
 use Rattle.acyclic.specs.Exact.{Exactly}
 use Rattle.survey.specs.declared.Levels.{Levels}
 use Rattle.survey.specs.declared.Level.{Level}
-use Rattle.survey.specs.declared.Level.TheVariants as Level
 use Rattle.survey.specs.declared.Aim.{Aim}
-use Rattle.survey.specs.declared.Aim.TheVariants as Aim
 use Rattle.pairs.specs.Survey.{Productive, Occurs, Inherits, CanBegin, onward_mark}
 use Rattle.pairs.specs.Strength.{rank}
 use Rattle.survey.specs.Sources.{AddsFilled, AddsBegins, AddsStands, AddsHeads}
