@@ -20,7 +20,6 @@ use Rattle.sets.proofs.Bits.{in_or}
 use Rattle.sets.proofs.Sets.{in_zero, insert_same, insert_keeps}
 use Rattle.grammar.specs.declared.Rule.{Rule}
 use Rattle.grammar.specs.declared.Clause.{Clause}
-use Rattle.grammar.specs.declared.Clause.TheVariants as Clause
 use Rattle.grammar.specs.declared.UnaryMark.{UnaryMark}
 use Rattle.grammar.specs.declared.BinaryMark.{BinaryMark}
 use Rattle.grammar.specs.declared.Grammar.{Grammar}
@@ -365,7 +364,7 @@ passed_open {g} {x} {y} h w = record {
 
 -- ---- an index to which no rule gives anything has all
 
-module _ {g : Rules} {x : Index}
+module _ {g : Rules} (x : Index)
     (shut : (r : Rule) → Memᴰ r g → (n : ℕ) → GivesByIndex x r.clause n
     → In (at x r.left) n) where
   complete : {A n : ℕ} → Possible g A n → n < 8 → In (at x A) n
@@ -394,7 +393,7 @@ module _ {g : Rules} {x : Index}
 
 -- where nothing is open, the index is true
 pub open_exact : {g : Rules} {x : Index} → Sound g x → Open g x 0 → Exact g x
-open_exact {g} {x} s o = shut_exact (λ r m n i. (o.idle r m
+open_exact {g} {x} s o = shut_exact x (λ r m n i. (o.idle r m
     (λ k. ⊎_elim (in_zero (first_of r.clause)) (in_zero (second_of r.clause)) k)).has n i) s
 
 weigh_le : (l : List ℕ) → ((i : ℕ) → get_or l i 0 < 256) → weigh l ≤ length l * 256

@@ -10,11 +10,8 @@ use Rattle.grammar.proofs.Unmarked.{none_unary, none_binary}
 use Rattle.grammar.specs.declared.Token.{Token}
 use Rattle.grammar.specs.declared.Rule.{Rule}
 use Rattle.grammar.specs.declared.Clause.{Clause}
-use Rattle.grammar.specs.declared.Clause.TheVariants as Clause
 use Rattle.grammar.specs.declared.UnaryMark.{UnaryMark}
-use Rattle.grammar.specs.declared.UnaryMark.TheVariants as UnaryMark
 use Rattle.grammar.specs.declared.BinaryMark.{BinaryMark}
-use Rattle.grammar.specs.declared.BinaryMark.TheVariants as BinaryMark
 use Rattle.grammar.specs.Layout.{Word, Every}
 use Rattle.grammar.specs.Layout as Mark
 use Rattle.grammar.specs.Trees.{Tree, empty, leaf, unary, binary, root, word, Rules, HasEmpty}
@@ -39,7 +36,7 @@ possible_derives {g} d =
 
 -- ---- rules without their marks
 
-unmarked_in : {g : Rules} {r : Rule} → Memᴰ r g → Memᴰ (unmarked_rule r) (unmarked g)
+unmarked_in : {r : Rule} {g : Rules} → Memᴰ r g → Memᴰ (unmarked_rule r) (unmarked g)
 unmarked_in (Memᴰ.head e) = Memᴰ.head (ap unmarked_rule e)
 unmarked_in (Memᴰ.tail m) = Memᴰ.tail (unmarked_in m)
 

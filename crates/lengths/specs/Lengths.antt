@@ -2,7 +2,6 @@
 use Rattle.std.specs.Prelude.{◌≡◌, [], ◌∷◌, ℕ, length}
 use Rattle.grammar.specs.declared.Rule.{Rule}
 use Rattle.grammar.specs.declared.Clause.{Clause}
-use Rattle.grammar.specs.declared.Clause.TheVariants as Clause
 use Rattle.grammar.specs.declared.UnaryMark.TheVariants as UnaryMark
 use Rattle.grammar.specs.declared.BinaryMark.TheVariants as BinaryMark
 use Rattle.grammar.specs.Layout.{Word}
