@@ -22,15 +22,12 @@ use Rattle.clauses.proofs.Accepts.{accepted, accepts}
 use Rattle.clauses.proofs.Depth.{shallow_in, shallow_out}
 use Rattle.clauses.proofs.Deciding.{says?, max_is, max_assoc, max_zero, past_written}
 use Rattle.lexemes.specs.declared.Lexeme.{Lexeme}
-use Rattle.lexemes.specs.declared.Lexeme.TheVariants as Lexeme
 use Rattle.lexemes.specs.declared.Lexed.{Lexed}
 use Rattle.lexemes.specs.Lexemes.{lexemes, onto_lexemes}
 use Rattle.lexemes.specs.Answers.{lexeme_of, Front, LexemeTells, Lexes}
 use Rattle.clause_lines.specs.declared.State.{State}
-use Rattle.clause_lines.specs.declared.State.TheVariants as State
 use Rattle.clause_lines.specs.declared.Walk.{Walk}
 use Rattle.clause_lines.specs.declared.Checked.{Checked}
-use Rattle.clause_lines.specs.declared.Checked.TheVariants as Checked
 use Rattle.clause_lines.specs.ClauseLines.{good, deep, shallow_only, lexemes_say, expression}
 use Rattle.clause_lines.specs.Walks as W
 use Rattle.clause_lines.specs.Walks.{state_of, is_due_of, takes_repeat, takes_mark, is_end, may}

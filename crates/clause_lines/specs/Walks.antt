@@ -6,13 +6,10 @@ use Rattle.clauses.specs.Clauses.{Expr, alternatives}
 use Rattle.clauses.specs.Text.{Lex}
 use Rattle.clauses.specs.Flat as F
 use Rattle.lexemes.specs.declared.Lexeme.{Lexeme}
-use Rattle.lexemes.specs.declared.Lexeme.TheVariants as Lexeme
 use Rattle.lexemes.specs.Lexemes.{lexemes}
 use Rattle.clause_lines.specs.declared.State.{State}
-use Rattle.clause_lines.specs.declared.State.TheVariants as State
 use Rattle.clause_lines.specs.declared.Walk.{Walk}
 use Rattle.clause_lines.specs.declared.Checked.{Checked}
-use Rattle.clause_lines.specs.declared.Checked.TheVariants as Checked
 use Rattle.clause_lines.specs.ClauseLines.{Said, good, unwritten, deep}
 
 abbrev pub state_of : State → F.State

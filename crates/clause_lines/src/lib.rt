@@ -128,6 +128,7 @@ fn named(w: Walk, a: u8, end: usize) -> Walk
 }
 
 // The walk behind an opening parenthesis.
+#[tactic(auto, using(crate::proofs::Walking::opened_over, crate::proofs::Walking::opened_within))]
 fn opened(w: Walk, end: usize) -> Walk
     requires { w.deep < 18446744073709551615 }
     ensures { result ≡ stepped w Lexeme.Open end }
