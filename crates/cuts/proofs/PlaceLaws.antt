@@ -11,7 +11,6 @@ use Rattle.sets.specs.Sets.{In}
 use Rattle.sets.proofs.Sets.{in_dec, in_zero, insert_same, insert_keeps}
 use Rattle.sets.specs.Insertion.{insert}
 use Rattle.grammar.specs.declared.Clause.{Clause}
-use Rattle.grammar.specs.declared.Clause.TheVariants as Clause
 use Rattle.grammar.specs.Trees.{Rules}
 use Rattle.tables.specs.Tables.{no_rule, rule}
 use Rattle.cuts.specs.declared.Pair.{Pair}

@@ -1,4 +1,3 @@
-use borrow.Author.Rules.{rules}
 use mathlib.Core.Path.{sym, ap, subst}
 use Prim.Native.Nat.{◌+◌, ◌<◌}
 use native.Mathlib.Omega.{arith}
@@ -40,7 +39,7 @@ overflow_sub-rest c = omega (arith, c.loop-rest-test.true)
 pub with-lefts-requires : goal.with-lefts-requires
 with-lefts-requires c =
     let a = c.args in
-    let g = a.t1 in
+    let g = a.g in
     let l = c.loop-rest in
     let i = c.place.result in
     let m = subst (Least l.rest) (sym c.place.ensures)
@@ -60,7 +59,7 @@ loop-rest-smaller c =
 pub loop-rest-preserved : goal.loop-rest-preserved
 loop-rest-preserved c =
     let a = c.args in
-    let g = a.t1 in
+    let g = a.g in
     let l = c.loop-rest in
     let i = c.place.result in
     let m = subst (Least l.rest) (sym c.place.ensures)

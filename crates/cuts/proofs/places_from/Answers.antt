@@ -1,6 +1,5 @@
-use borrow.Author.Rules.{rules}
 use mathlib.Core.Path.{◌≡◌, sym, subst}
-use Prim.Native.Nat.{ℕ, ◌+◌, ◌-◌, ◌<◌}
+use Prim.Native.Nat.{ℕ, ◌+◌, ◌<◌}
 use native.Mathlib.Omega.{arith}
 use lib.Seq.{get_or-take}
 use Rattle.grammar.specs.declared.Rule.{Rule}
@@ -32,7 +31,7 @@ loop-i-smaller c = omega (arith, c.loop-i-test.true)
 pub loop-i-preserved : goal.loop-i-preserved
 loop-i-preserved c =
     let l = c.loop-i in
-    let g = c.args.t1 in
+    let g = c.args.g in
     let h : c.args.base + l.i < g.count = omega (arith, c.if-g-at.false) in (
       omega (arith, c.loop-i-test.true),
       placed_more
@@ -46,5 +45,5 @@ pub returns : goal.returns
 returns c =
     let l = c.loop-i in
     let a = c.args in
-    subst (λ (x : ℕ). PlacedAt (rules_of a.t1) a.base x l.set)
+    subst (λ (x : ℕ). PlacedAt (rules_of a.g) a.base x l.set)
     (let z : l.i ≡ 64 = omega (arith, l.invariant.0, c.loop-i-test.false) in z) l.invariant.1

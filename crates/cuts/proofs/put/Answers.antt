@@ -8,14 +8,14 @@ pub returns-then-end-lt64 : goal.returns-then-end-lt64
 returns-then-end-lt64 c =
     let x = c.put_both.ensures in
     let t = c.args.t in
-    let e = sym c.if-t.true in (
-      record {
-        size = x.0.size;
-        inner = λ h. pair_same t e x.0;
+    let e = sym c.if-t.true in record {
+      put_row = record {
+        size = x.put_pair.size;
+        inner = λ h. pair_same t e x.put_pair;
         last = λ h. absurd (omega (
           arith,
           c.if-end-lt64.true,
         ));
-      },
-      pair_same t e x.1,
-    )
+      };
+      put_pair = pair_same t e x.put_pair_2;
+    }

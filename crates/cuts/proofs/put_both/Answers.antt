@@ -15,7 +15,7 @@ pub loop-rest-init : goal.loop-rest-init
 loop-rest-init c = ((twice_none _ _ _ _, refl), (twice_none _ _ _ _, refl))
 
 -- both words lie in the rows, and in the columns
-rows_in : (c : Lts.After-place Tie.the-claims Reads.Pre Reads.Post goal.the-invariant-loop-rest goal.the-decreases-loop-rest)
+rows_in : (c : Lts.After-place Tie.the-claims Reads.Pre Reads.Post goal.the-invariant-loop-rest goal.the-decreases-loop-rest Tie.handed_clauses)
     → 2 * c.place-at.result + 1 < length c.loop-rest.rows
 rows_in c =
     omega (
@@ -23,10 +23,10 @@ rows_in c =
       c.place-at.ensures,
       c.lowest.ensures.small,
       c.loop-rest.invariant.0.1,
-      c.requires.0.1,
+      c.requires.e_bound.1,
     )
 
-cols-in : (c : Lts.After-place Tie.the-claims Reads.Pre Reads.Post goal.the-invariant-loop-rest goal.the-decreases-loop-rest) →
+cols-in : (c : Lts.After-place Tie.the-claims Reads.Pre Reads.Post goal.the-invariant-loop-rest goal.the-decreases-loop-rest Tie.handed_clauses) →
     c.args.p + 2 * c.place-at.result + 1 < length c.loop-rest.cols
 cols-in c =
     omega (
@@ -34,7 +34,7 @@ cols-in c =
       c.place-at.ensures,
       c.lowest.ensures.small,
       c.loop-rest.invariant.1.1,
-      c.requires.1.1,
+      c.requires.c_bound.1,
     )
 
 pub bounds-rows-at : goal.bounds-rows-at
@@ -123,7 +123,4 @@ shape_of-cols c = c.loop-rest.invariant.1.1
 
 pub returns : goal.returns
 returns c =
-    let l = c.loop-rest in (
-      twice_done (search rules) c.loop-rest-test.false l.invariant.0.0,
-      twice_done (search rules) c.loop-rest-test.false l.invariant.1.0,
-    )
+    let l = c.loop-rest in record { put_pair = twice_done (search rules) c.loop-rest-test.false l.invariant.0.0; put_pair_2 = twice_done (search rules) c.loop-rest-test.false l.invariant.1.0 }

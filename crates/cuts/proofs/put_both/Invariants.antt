@@ -1,6 +1,6 @@
 -- The loop's invariant: of rows and columns both words are written for the members passed.
 use mathlib.Core.Path.{◌≡◌}
-use lib.ListN.{length, set}
+use lib.ListN.{length}
 use Rattle.cuts.proofs.PutLaws.{PuttingTwice}
 use Rattle.cuts.proofs.put_both.Given as goal
 

@@ -21,7 +21,7 @@ enum_known-c c = search rules
 
 -- src/lib.rt:155:53
 pub binary-requires : goal.binary-requires
-binary-requires c = (rw c.in-Binary.is at c.requires.0.clause, c.requires.1)
+binary-requires c = record { b_bound = rw c.in-Binary.is at c.requires.small_rule.clause; in_bounds = c.requires.in_bounds }
 
 -- src/lib.rt:155:36
 pub added-requires : goal.added-requires

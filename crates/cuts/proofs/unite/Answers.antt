@@ -14,7 +14,7 @@ pub loop-rest-init : goal.loop-rest-init
 loop-rest-init c = (
   λ A i. i,
   unites_none (words_of_of c.args.up.now c.args.p) c.args.inner
-      c.requires.1.within,
+      c.requires.nested.within,
 )
 
 -- src/lib.rt:252:13
@@ -23,7 +23,7 @@ lowest-b-requires c = omega (arith, c.loop-rest-test.true)
 
 -- src/lib.rt:253:13
 pub words_of-u-requires : goal.words_of-u-requires
-words_of-u-requires c = (c.lowest-b.ensures.small, c.requires.0)
+words_of-u-requires c = (c.lowest-b.ensures.small, c.requires.p_in_bounds)
 
 -- src/lib.rt:254:26
 pub has-requires : goal.has-requires
