@@ -15,7 +15,6 @@ use Rattle.sets.proofs.Says.{true_not_false}
 use Rattle.sets.proofs.Sets.{in_zero, insert_same, insert_keeps, insert_only}
 use Rattle.grammar.specs.declared.Rule.{Rule}
 use Rattle.grammar.specs.declared.Clause.{Clause}
-use Rattle.grammar.specs.declared.Clause.TheVariants as Clause
 use Rattle.grammar.specs.declared.Grammar.{Grammar}
 use Rattle.grammar.specs.Trees.{Rules, Covers, HasAtom}
 use Rattle.grammar.specs.Sweeps.{is_atom_of}
