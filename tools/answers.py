@@ -34,6 +34,10 @@ class Function:
         for (name, parent, step, callee, _), new, arm, typed in rows:
             self.places[name] = dict(parent=parent, step=step, callee=callee, arm=arm, new=new,
                                      view=bool(arm or typed))
+        for name, told in zip(list(self.places), data.get("clauses", [])):
+            self.places[name]["clauses"] = told and told.get("fields")
+        # the names of the clauses of its own requires, where it has several
+        self.asks = (data.get("pre") or {}).get("fields") or []
         self.by_norm = {norm(n): n for n in self.places}
         for n, p in self.places.items():
             self.by_norm.setdefault(norm(p["new"]), n)
@@ -137,6 +141,10 @@ class Turner:
     def say(self, text):
         self.said.append(f"{self.path}: {text}")
 
+    def clause(self, names, field):
+        """The name of the clause that stood at a position."""
+        return names[int(field)] if field.isdigit() and int(field) < len(names) else field
+
     def fields(self, root, place, fields):
         """The path below root, which stands at place, in today's names."""
         fn = self.fn
@@ -161,6 +169,8 @@ class Turner:
             g = {"pre": "requires", "good": "well_formed", "well-formed": "well_formed"}.get(f, f)
             if len(rest) > 1 and (g, rest[1]) in fn.args:
                 rest[1] = fn.args[(g, rest[1])]
+            if g == "requires" and len(rest) > 1 and len(fn.asks) > 1:
+                rest[1] = self.clause(fn.asks, rest[1])
             return ".".join([root, g] + rest[1:])
         where, new = fn.step(at, f)
         if new is None:
@@ -168,6 +178,9 @@ class Turner:
                 p["step"][0] + "=" + p["step"][1] for p in fn.places.values() if p["step"]))
             return ".".join([root] + rest)
         sub = [SUB.get(s, s) for s in rest[1:]]
+        told = fn.places[where].get("clauses")
+        if told and len(told) > 1 and len(sub) > 1 and sub[0] == "ensures":
+            sub[1] = self.clause(told, sub[1])
         arm = fn.in_arm(place, where, sub)
         if arm:
             return ".".join([root] + arm)
@@ -444,7 +457,8 @@ def convert(crate, lib, folder, data, said):
             if place in deep:
                 loops = "".join(f" goal.the-invariant-{l[0][1]} goal.the-decreases-{l[0][1]}" for l in fn.loops)
                 lts.add(1)
-                return f"Lts.{place} Tie.the-claims Reads.Pre Reads.Post{loops}"
+                handed = " Tie.handed_clauses" if len(fn.asks) > 1 else ""
+                return f"Lts.{place} Tie.the-claims Reads.Pre Reads.Post{loops}{handed}"
             named.add(fn.places[place]["new"])
             return fn.places[place]["new"]
 
