@@ -4,10 +4,8 @@ use mathlib.Core.Option.{some}
 use Prim.Native.Nat.{ℕ, zero, suc, ◌<◌}
 use lib.ListN.{get_elem?}
 use Rattle.grammar.specs.declared.UnaryMark.{UnaryMark}
-use Rattle.grammar.specs.declared.UnaryMark.TheVariants as UnaryMark
 use Rattle.grammar.specs.declared.Rule.{Rule}
 use Rattle.grammar.specs.declared.Clause.{Clause}
-use Rattle.grammar.specs.declared.Clause.TheVariants as Clause
 use Rattle.grammar.specs.Trees.{Rules}
 use Rattle.grammar.specs.Cycles.{Nullable}
 use Rattle.acyclic.specs.Exact.{Exactly}
@@ -16,7 +14,6 @@ use Rattle.pairs.specs.Shapes.{Form, tip, one, two, Shape, RuleAt, HasForm, tips
 use Rattle.pairs.specs.Shapes.{firsts, seconds}
 use Rattle.survey.specs.Closing.{Weakest}
 use Rattle.heads.specs.declared.Looks.{Looks}
-use Rattle.heads.specs.declared.Looks.TheVariants as Looks
 use Rattle.heads.specs.Forms.{shape_by, AllForm, FirstForm, SecondForm, FormBy, SaysForm}
 use Rattle.heads.specs.Forms.{MarkOf, LooksLike, ShapedAs}
 
@@ -38,14 +35,21 @@ kind_more (suc (suc k)) ns ps l c z a b s = s
 -- a form that a clause gives under l inherits l
 module _ (ns ps : ℕ) (l : UnaryMark) where
   mark_all : (c : Clause) (f : Form) → AllForm ps l c f → MarkOf f l
+  mark_all Clause.Empty f e = elim e [ ]
   mark_all (Clause.Atom a b) f e = subst (λ (z : Form). MarkOf z l) (sym e) tt
   mark_all (Clause.Unary C m) f (u, e) = subst (λ (z : Form). MarkOf z l) (sym e) refl
   mark_all (Clause.Binary C D m) f (u, e) = subst (λ (z : Form). MarkOf z l) (sym e) refl
 
   mark_first : (c : Clause) (f : Form) → FirstForm ns ps l c f → MarkOf f l
+  mark_first Clause.Empty f x' = elim x' [ ]
+  mark_first (Clause.Atom _ _) f x4 = elim x4 [ ]
+  mark_first (Clause.Unary _ _) f x5 = elim x5 [ ]
   mark_first (Clause.Binary C D m) f (u, e) = subst (λ (z : Form). MarkOf z l) (sym e) refl
 
   mark_second : (c : Clause) (f : Form) → SecondForm ns ps l c f → MarkOf f l
+  mark_second Clause.Empty f x' = elim x' [ ]
+  mark_second (Clause.Atom _ _) f x4 = elim x4 [ ]
+  mark_second (Clause.Unary _ _) f x5 = elim x5 [ ]
   mark_second (Clause.Binary C D m) f (u, e) = subst (λ (z : Form). MarkOf z l) (sym e) refl
 
   mark_by : (k : ℕ) (c : Clause) (f : Form) → FormBy k ns ps l c f → MarkOf f l
@@ -57,6 +61,7 @@ module _ {g : Rules} {ns ps : ℕ} (x : Exactly ns (Nullable g)) (y : Exactly ps
   module _ (A p : ℕ) (l : UnaryMark) (i : Inherits g A l) where
     all_form : (c : Clause) (f : Form) → RuleAt g p A c → AllForm ps l c f
         → HasForm g A (shape_by 0 p) f
+    all_form Clause.Empty f r e = elim e [ ]
     all_form (Clause.Atom a b) f r e = subst (HasForm g A (shape_by 0 p)) (sym e) (tips i r)
     all_form (Clause.Unary C m) f r (u, e) =
         subst (HasForm g A (shape_by 0 p)) (sym e) (units i r (y.is C u))
@@ -65,11 +70,17 @@ module _ {g : Rules} {ns ps : ℕ} (x : Exactly ns (Nullable g)) (y : Exactly ps
 
     first_form : (c : Clause) (f : Form) → RuleAt g p A c → FirstForm ns ps l c f
         → HasForm g A (shape_by 1 p) f
+    first_form Clause.Empty f r x3 = elim x3 [ ]
+    first_form (Clause.Atom _ _) f r x6 = elim x6 [ ]
+    first_form (Clause.Unary _ _) f r x7 = elim x7 [ ]
     first_form (Clause.Binary C D m) f r ((u, v), e) =
         subst (HasForm g A (shape_by 1 p)) (sym e) (firsts i r (y.is C u) (x.is D v))
 
     second_form : (c : Clause) (f : Form) → RuleAt g p A c → SecondForm ns ps l c f
         → HasForm g A (shape_by 2 p) f
+    second_form Clause.Empty f r x3 = elim x3 [ ]
+    second_form (Clause.Atom _ _) f r x6 = elim x6 [ ]
+    second_form (Clause.Unary _ _) f r x7 = elim x7 [ ]
     second_form (Clause.Binary C D m) f r ((u, v), e) =
         subst (HasForm g A (shape_by 2 p)) (sym e) (seconds i r (x.is C u) (y.is D v))
 
