@@ -2,7 +2,11 @@
 // length; byte 10), then the input.
 #![tactic(auto)]
 
-ghost use Rattle.std.specs.Prelude.{◌+◌, ◌≤◌, length};
+ghost use Rattle.std.specs.Prelude.{◌+◌, ◌≤◌, length, IfOk};
+
+use std::io;
+use std::io::Read;
+use streams::read_full;
 
 // A digit's value; 0 for any other byte.
 fn digit(b: u8) -> usize
@@ -32,19 +36,19 @@ pub fn five(s: &[u8], at: usize) -> usize
 }
 
 // The next case's input is put in front; its length, or 100,000 where there is no more case, or no
-// room for it.
-pub fn next_case(space: &mut [u8]) -> usize
-    ensures { result ≤ 100000 }
+// room for it. A read that fails is no end: it is handed on.
+pub fn next_case<R: Read>(from: &mut R, space: &mut [u8]) -> io::Result<usize>
+    ensures { IfOk result (λ n. n ≤ 100000) }
 {
     let mut head = [0u8; 6];
-    let got = io::read_full(0, &mut head);
+    let got = read_full(from, &mut head)?;
     if got < 6 {
-        return 100000;
+        return Ok(100000);
     }
     let n = five(&head, 0);
     if space.len() < n {
-        return 100000;
+        return Ok(100000);
     }
-    io::read_full(0, &mut space[..n]);
-    n
+    read_full(from, &mut space[..n])?;
+    Ok(n)
 }

@@ -7,29 +7,29 @@
 // which the program does not write.
 #![tactic(auto)]
 
-ghost use Rattle.std.specs.Prelude.{◌≤◌, length};
+ghost use Rattle.std.specs.Prelude.{◌≤◌, length, IfOk};
 
 use call_clauses::refused_line;
 use calling::calls_text;
 use cases::{five, next_case};
 use check_text::check_text;
 use clause_text::clauses_text;
-use libc::STDOUT_FILENO;
 use rights_text::{change_text, show_text};
+use std::io;
+use std::io::Read;
 use sweep_text::sweep_text;
 use teplonga::sweep;
 use text::OUTPUT;
 
 // Writes how many candidates are tried.
-fn write_tried(case: &[u8]) {
+fn write_tried<R: Print>(rt: &R, case: &[u8]) -> io::Result<()> {
     if case.len() < 6 {
-        return;
+        return Ok(());
     }
     let bound = five(case, 1);
     let mut words = [0u64; 58];
     let r = sweep(&case[6..], bound, &mut words);
-    io::print_decimal(STDOUT_FILENO, r.tried);
-    io::write_all(STDOUT_FILENO, b"\n");
+    rt.println(r.tried)
 }
 
 // The output of `show`: a rule sheet, a token sheet and a rights sheet, which end at a, at b and
@@ -62,87 +62,86 @@ fn change(case: &[u8], a: usize, b: usize, out: &mut [u8]) -> usize
 }
 
 // Writes the length of the refused line, and the line.
-fn write_line<'a>(clauses: &'a [u8], tokens: &'a [u8]) {
+fn write_line<'a, R: Print>(rt: &R, clauses: &'a [u8], tokens: &'a [u8]) -> io::Result<()> {
     let line = refused_line(clauses, tokens);
-    io::print_decimal(STDOUT_FILENO, line.len() as u64);
-    io::write_all(STDOUT_FILENO, b"\n");
-    io::write_all(STDOUT_FILENO, line);
-    io::write_all(STDOUT_FILENO, b"\n");
+    rt.println(line.len())?;
+    rt.write_all(line)?;
+    rt.write_all(b"\n")
 }
 
 // The output of a call on parts of the case, and its length. In front of them stand the call's
 // letter, the user, the rule and the lengths of the first two parts, five digits each.
-fn parts(case: &[u8], out: &mut [u8]) -> usize
+fn parts<R: Print>(rt: &R, case: &[u8], out: &mut [u8]) -> io::Result<usize>
     requires { 262144 ≤ length out.old }
-    ensures { result ≤ length out.new }
+    ensures { IfOk result (λ n. n ≤ length out.new) }
 {
     if case.len() < 26 {
-        return 0;
+        return Ok(0);
     }
     let a = 26 + five(case, 14);
     let b = a + five(case, 20);
     if case.len() < b {
-        return 0;
+        return Ok(0);
     }
     if case[0] == b'l' {
-        write_line(&case[26..a], &case[a..b]);
-        return 0;
+        write_line(rt, &case[26..a], &case[a..b])?;
+        return Ok(0);
     }
     if case[0] == b'k' {
-        return clauses_text(&case[26..a], &case[a..b], out);
+        return Ok(clauses_text(&case[26..a], &case[a..b], out));
     }
     if case[0] == b's' {
-        return show(case, a, b, out);
+        return Ok(show(case, a, b, out));
     }
     if case[0] == b'm' {
-        return change(case, a, b, out);
+        return Ok(change(case, a, b, out));
     }
-    0
+    Ok(0)
 }
 
 // The output of a case, and its length; 0 where it is written already.
-fn output(case: &[u8], out: &mut [u8; OUTPUT]) -> usize
-    ensures { result ≤ length out.new }
+fn output<R: Print>(rt: &R, case: &[u8], out: &mut [u8; OUTPUT]) -> io::Result<usize>
+    ensures { IfOk result (λ n. n ≤ length out.new) }
 {
     if case.len() < 1 {
-        return 0;
+        return Ok(0);
     }
     if case[0] == b'c' {
-        return check_text(&case[1..], out);
+        return Ok(check_text(&case[1..], out));
     }
     if case[0] == b'w' {
-        return sweep_text(&case[1..], out);
+        return Ok(sweep_text(&case[1..], out));
     }
     if case[0] == b'a' {
-        return calls_text(&case[1..], out);
+        return Ok(calls_text(&case[1..], out));
     }
     if case[0] == b't' {
-        write_tried(case);
-        return 0;
+        write_tried(rt, case)?;
+        return Ok(0);
     }
-    parts(case, out)
+    parts(rt, case, out)
 }
 
 // One case; whether there was one.
-fn case() -> bool {
+fn case<R: Print, I: Read>(rt: &R, from: &mut I) -> io::Result<bool> {
     let mut space = [0u8; 100000];
-    let n = next_case(&mut space);
+    let n = next_case(from, &mut space)?;
     if n == 100000 {
-        return false;
+        return Ok(false);
     }
     let mut out = [0u8; OUTPUT];
-    let r = output(&space[..n], &mut out);
-    io::write_all(STDOUT_FILENO, &out[..r]);
-    true
+    let r = output(rt, &space[..n], &mut out)?;
+    rt.write_all(&out[..r])?;
+    Ok(true)
 }
 
-fn main() {
-    let mut turns: usize = 0;
-    while turns < 100000 {
-        let more = case();
+fn main(rt: HostRuntime) -> io::Result<()> {
+    let mut input = rt.reader();
+    for _ in 0..100000u32 {
+        let more = case(&rt, &mut input)?;
         if !more {
-            return;
+            return Ok(());
         }
-        turns += 1;
     }
+    Ok(())
 }

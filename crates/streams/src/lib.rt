@@ -2,105 +2,100 @@
 // taken for the end.
 #![tactic(auto)]
 
-ghost use Rattle.std.specs.Prelude.{length};
+ghost use Rattle.std.specs.Prelude.{◌<◌, length, take, IfOk, OnOk};
+ghost use Rattle.std.specs.Io.KnownBytes.{Appends, Consumes, IsAtEnd, ReadConsumes, WriteAppends};
 ghost use Rattle.streams.specs.AtMostMoved.{AtMostMoved};
 
-use libc::{EINTR, STDIN_FILENO, STDOUT_FILENO};
-
-// How many bytes were moved, or that a call failed.
-#[derive(Clone, Copy)]
-pub enum Moved {
-    Bytes(usize),
-    Failed,
-}
+use std::io;
+use std::io::{ErrorKind, Input, Read, Write};
 
 // One read, made again while a signal interrupts it before it moves a byte; no run uses the turns
 // up.
-fn read_once(fd: i32, buf: &mut [u8]) -> Moved
-    ensures { AtMostMoved (length buf.old) result }
+fn read_once<R: Read>(from: &mut R, buf: &mut [u8]) -> io::Result<usize>
+    ensures bound { AtMostMoved (length buf.old) result }
+    ensures bytes { ReadConsumes (R.remaining from.old) (R.remaining from.new) result buf.new }
 {
-    let mut turns = u64::MAX;
-    while 0 < turns {
-        let got = libc::read(fd, buf);
-        if 0 <= got {
-            return Moved::Bytes(io::count(got, buf));
+    for _ in 0..u64::MAX {
+        match from.read(buf) {
+            Ok(n) => return Ok(n),
+            Err(e) => {
+                if e.kind() != ErrorKind::Interrupted {
+                    return Err(e);
+                }
+            }
         }
-        if os::errno() != EINTR {
-            return Moved::Failed;
-        }
-        turns -= 1;
     }
-    Moved::Failed
+    Err(io::Error::from(ErrorKind::Interrupted))
 }
 
 // Reads to the end of the input or of the buffer; how many bytes stand at the front of the buffer
 // then.
-fn read_full(fd: i32, buf: &mut [u8]) -> Moved
-    ensures { AtMostMoved (length buf.new) result }
+pub fn read_full<R: Read>(from: &mut R, buf: &mut [u8]) -> io::Result<usize>
+    ensures bound { AtMostMoved (length buf.new) result }
+    ensures bytes { IfOk result
+        (λ n. Consumes (R.remaining from.old) (R.remaining from.new) (take n buf.new)) }
+    ensures end { IfOk result (λ n. n < length buf.new → IsAtEnd (R.remaining from.new)) }
 {
     let mut done = 0;
     while done < buf.len() {
-        let moved = read_once(fd, &mut buf[done..]);
-        let Moved::Bytes(n) = moved else {
-            return Moved::Failed;
-        };
+        let n = read_once(from, &mut buf[done..])?;
         if n == 0 {
-            return Moved::Bytes(done);
+            return Ok(done);
         }
         done += n;
     }
-    Moved::Bytes(done)
+    Ok(done)
 }
 
 // One write, made again while a signal interrupts it before it moves a byte.
-fn write_once(fd: i32, buf: &[u8]) -> Moved
-    ensures { AtMostMoved (length buf.now) result }
+fn write_once<W: Write>(to: &mut W, buf: &[u8]) -> io::Result<usize>
+    ensures bound { AtMostMoved (length buf.now) result }
+    ensures bytes { WriteAppends (W.contents to.old) (W.contents to.new) result buf.now }
 {
-    let mut turns = u64::MAX;
-    while 0 < turns {
-        let got = libc::write(fd, buf);
-        if 0 <= got {
-            return Moved::Bytes(io::count(got, buf));
+    for _ in 0..u64::MAX {
+        match to.write(buf) {
+            Ok(n) => return Ok(n),
+            Err(e) => {
+                if e.kind() != ErrorKind::Interrupted {
+                    return Err(e);
+                }
+            }
         }
-        if os::errno() != EINTR {
-            return Moved::Failed;
-        }
-        turns -= 1;
     }
-    Moved::Failed
+    Err(io::Error::from(ErrorKind::Interrupted))
 }
 
-// Writes all of the bytes; false where a write fails or takes nothing.
-fn write_full(fd: i32, buf: &[u8]) -> bool {
+// Writes all of the bytes; an error where a write fails or takes nothing.
+pub fn write_full<W: Write>(to: &mut W, buf: &[u8]) -> io::Result<()>
+    ensures { OnOk result (Appends (W.contents to.old) (W.contents to.new) buf.now) }
+{
     let mut done = 0;
     while done < buf.len() {
-        let moved = write_once(fd, &buf[done..]);
-        let Moved::Bytes(n) = moved else {
-            return false;
-        };
+        let n = write_once(to, &buf[done..])?;
         if n == 0 {
-            return false;
+            return Err(io::Error::from(ErrorKind::WriteZero));
         }
         done += n;
     }
-    true
+    Ok(())
 }
 
 // Reads standard input to its end or the buffer's; where a read fails, says so on standard error.
-pub fn read_input(buf: &mut [u8]) -> Moved
+pub fn read_input<R: Input + Eprint>(rt: &R, buf: &mut [u8]) -> io::Result<usize>
     ensures { AtMostMoved (length buf.new) result }
 {
-    let moved = read_full(STDIN_FILENO, buf);
-    if let Moved::Failed = moved {
-        os::fail(b"standard input");
-        return Moved::Failed;
+    let read = read_full(&mut rt.reader(), buf);
+    if let Err(e) = &read {
+        let _ = eprintln!(rt; "standard input: {e}");
     }
-    moved
+    read
 }
 
 // Writes all of the bytes to standard output; where a write fails, says so on standard error.
-pub fn write_output(buf: &[u8]) {
-    if !write_full(STDOUT_FILENO, buf) {
-        os::fail(b"standard output");
+pub fn write_output<R: Print + Eprint>(rt: &R, buf: &[u8]) -> io::Result<()> {
+    let written = write_full(&mut io::writer(rt), buf);
+    if let Err(e) = &written {
+        let _ = eprintln!(rt; "standard output: {e}");
     }
+    written
 }
