@@ -9,7 +9,7 @@ use native.Mathlib.Decide.{dec_lt, dec_le}
 use lib.ListN.{length, take}
 use Rattle.grammar.specs.declared.Token.{Token}
 use Rattle.grammar.specs.declared.Cell.{Cell}
-use Rattle.grammar.specs.Layout.{line, col, Every}
+use Rattle.grammar.specs.Layout.{col, Every}
 use Rattle.grammar.specs.Trees.{Rules, TwoTrees}
 use Rattle.grammar.specs.Candidates.{placed, sentence, Candidate, CellsBefore}
 use Rattle.grammar.proofs.SweepLaws.{cell_path}
