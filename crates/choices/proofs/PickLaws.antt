@@ -11,7 +11,6 @@ use lib.Seq.{take-take, drop-drop, take-add, drop_at}
 use Rattle.grammar.specs.declared.Rule.{Rule}
 use Rattle.grammar.specs.declared.Grammar.{Grammar}
 use Rattle.grammar.specs.declared.Clause.{Clause}
-use Rattle.grammar.specs.declared.Clause.TheVariants as Clause
 use Rattle.grammar.specs.Layout.{Word}
 use Rattle.grammar.specs.Trees.{Rules}
 use Rattle.grammar.specs.Choices.{Choice, FirstChoice, OnlyChoice, OtherChoice, ChoiceBefore, Same}
@@ -25,9 +24,7 @@ use Rattle.marks.proofs.Words.{part_length}
 use Rattle.marks.proofs.HalfLaws.{may_be, may_keep, may_pair, is_one, does_keep, does_pair}
 use Rattle.marks.proofs.HalfLaws.{completes_self}
 use Rattle.choices.specs.declared.Split.{Split}
-use Rattle.choices.specs.declared.Split.TheVariants as Split
 use Rattle.choices.specs.declared.Pick.{Pick}
-use Rattle.choices.specs.declared.Pick.TheVariants as Pick
 use Rattle.tables.specs.Tables.{One, by_tokens, by_marks, Fits, Stand, rule}
 use Rattle.choices.specs.Choosing.{NextAt, NoneFrom, NextChoice}
 use Rattle.choices.specs.Searches.{Serves, FirstSplit, Upon, Stood, Reached, FirstPick}

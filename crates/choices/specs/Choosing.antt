@@ -4,7 +4,6 @@ use Rattle.grammar.specs.Layout.{Word}
 use Rattle.grammar.specs.Trees.{Rules}
 use Rattle.grammar.specs.Choices.{Choice, ChoiceBefore}
 use Rattle.choices.specs.declared.Pick.{Pick}
-use Rattle.choices.specs.declared.Pick.TheVariants as Pick
 
 -- (q, l) is the first choice of A at w among those that are not before (p, k)
 pub record NextAt (g : Rules) (A : ℕ) (w : Word) (p k q l : ℕ) : Type 0 where

@@ -5,9 +5,7 @@ use Rattle.grammar.specs.declared.Grammar.{Grammar}
 use Rattle.grammar.specs.Content.{rules_of}
 use Rattle.marks.specs.declared.SpanMarks.{SpanMarks}
 use Rattle.choices.specs.declared.Split.{Split}
-use Rattle.choices.specs.declared.Split.TheVariants as Split
 use Rattle.choices.specs.declared.Pick.{Pick}
-use Rattle.choices.specs.declared.Pick.TheVariants as Pick
 use Rattle.tables.specs.Tables.{One, by_marks, Fits, Stand}
 
 -- the rule r stands over the span for A, with l tokens on its left
