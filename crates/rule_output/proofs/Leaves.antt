@@ -1,37 +1,26 @@
 -- Items that are no group, and what stands after an item, by the lexeme told.
 use mathlib.Core.Path.{◌≡◌, refl, sym, ◌∙◌, ap, subst}
-use mathlib.Core.List.{List, [], ◌∷◌}
+use mathlib.Core.List.{[]}
 use Prim.Native.Nat.{ℕ}
-use denote.Enum.Declared.{tag_of}
-use types.Run.{OneOf, miss}
 use Rattle.sets.proofs.Basics.{clash}
 use Rattle.grammar.specs.Trees.{Rules}
-use Rattle.lexemes.specs.contracts.Lexeme.{the_type}
+use Rattle.grammar.specs.declared.BinaryMark.{BinaryMark}
+use Rattle.grammar.specs.declared.UnaryMark.{UnaryMark}
 use Rattle.lexemes.specs.declared.Lexeme.{Lexeme}
-use Rattle.lexemes.specs.declared.Lexeme.TheVariants as Lexeme
 use Rattle.rule_output.specs.Signs.{heads_of}
 use Rattle.rule_output.specs.Emitting.{Emit, Adds, CountsOn, atom_rules, tail_rules}
 use Rattle.rule_output.specs.Emitting.{LeafRead}
 use Rattle.rule_output.proofs.Adding.{adds_nothing, adds_same}
 
--- the tags of lexemes that a `match` leaves: all but what stands after an item; all but n and t
-abbrev pub bare : List ℕ
-bare = 0 ∷ 1 ∷ 2 ∷ 3 ∷ 4 ∷ 9 ∷ 10 ∷ 11 ∷ []
-
-abbrev pub no_item : List ℕ
-no_item = 2 ∷ 3 ∷ 4 ∷ 5 ∷ 6 ∷ 7 ∷ 8 ∷ 9 ∷ 10 ∷ 11 ∷ []
-
-pub tagged : (ks : List ℕ) {l k : Lexeme} → l ≡ k → OneOf ks (tag_of the_type l)
-    → OneOf ks (tag_of the_type k)
-tagged ks e h = subst (λ (y : Lexeme). OneOf ks (tag_of the_type y)) e h
-
-pub leaf_other : (l : Lexeme) (end : ℕ) (out : Emit) (b : ℕ) → OneOf no_item (tag_of the_type l)
+-- an item that is neither a nonterminal nor a terminal
+pub leaf_other : (l : Lexeme) (end : ℕ) (out : Emit) (b : ℕ)
+    → ((a : ℕ) → l ≡ Lexeme.Nonterminal a → ⊥) → ((a : ℕ) → l ≡ Lexeme.Terminal a → ⊥)
     → LeafRead l end out (record { at = end; name = b; out = out })
-leaf_other l end out b k = record {
+leaf_other l end out b p q = record {
   at = refl;
   room = λ u. u;
-  nonterminal = λ a e. absurd (miss no_item 0 tt (tagged no_item e k));
-  terminal = λ a e. absurd (miss no_item 1 tt (tagged no_item e k));
+  nonterminal = λ a e. absurd (p a e);
+  terminal = λ a e. absurd (q a e);
 }
 
 apart : {P : Type 0} {l : Lexeme} {a b : ℕ} → l ≡ Lexeme.Nonterminal a → l ≡ Lexeme.Terminal b → P
@@ -77,18 +66,24 @@ pub tail_none : (l : Lexeme) (o : Emit) (i b : ℕ) → tail_rules l i b ≡ []
     → Adds o o (tail_rules l i b) 0
 tail_none l o i b e = subst (λ (y : Rules). Adds o o y 0) (sym e) (adds_nothing o)
 
--- what stands after no item has no rules and no nonterminals
-pub bare_none : (l : Lexeme) → OneOf bare (tag_of the_type l)
-    → (0 ≡ heads_of l) × ((i b : ℕ) → tail_rules l i b ≡ [])
+-- a lexeme that stands after no item
+pub record Bare (l : Lexeme) : Type 0 where
+  pub maybe : l ≡ Lexeme.Maybe → ⊥
+  pub plus : (m : BinaryMark) → l ≡ Lexeme.Plus m → ⊥
+  pub star : (m : BinaryMark) → l ≡ Lexeme.Star m → ⊥
+  pub marked : (m : UnaryMark) → l ≡ Lexeme.Marked m → ⊥
+
+-- it has no rules and no nonterminals
+pub bare_none : (l : Lexeme) → Bare l → (0 ≡ heads_of l) × ((i b : ℕ) → tail_rules l i b ≡ [])
 bare_none (Lexeme.Nonterminal a) k = (refl, λ i b. refl)
 bare_none (Lexeme.Terminal a) k = (refl, λ i b. refl)
 bare_none Lexeme.Open k = (refl, λ i b. refl)
 bare_none Lexeme.Close k = (refl, λ i b. refl)
 bare_none Lexeme.Bar k = (refl, λ i b. refl)
-bare_none Lexeme.Maybe k = absurd (miss bare 5 tt k)
-bare_none (Lexeme.Plus m) k = absurd (miss bare 6 tt k)
-bare_none (Lexeme.Star m) k = absurd (miss bare 7 tt k)
-bare_none (Lexeme.Marked m) k = absurd (miss bare 8 tt k)
+bare_none Lexeme.Maybe k = absurd (k.maybe refl)
+bare_none (Lexeme.Plus m) k = absurd (k.plus m refl)
+bare_none (Lexeme.Star m) k = absurd (k.star m refl)
+bare_none (Lexeme.Marked m) k = absurd (k.marked m refl)
 bare_none (Lexeme.Join m) k = (refl, λ i b. refl)
 bare_none Lexeme.End k = (refl, λ i b. refl)
 bare_none Lexeme.Not k = (refl, λ i b. refl)

@@ -6,7 +6,6 @@ use Rattle.grammar.specs.Trees.{Rules}
 use Rattle.clauses.specs.Clauses as C
 use Rattle.clauses.specs.Expansion.{E, A, U, B, repeat_begins}
 use Rattle.lexemes.specs.declared.Lexeme.{Lexeme}
-use Rattle.lexemes.specs.declared.Lexeme.TheVariants as Lexeme
 use Rattle.rule_words.specs.Words.{word_rule}
 use Rattle.rule_output.specs.declared.Room.{Room}
 use Rattle.rule_output.specs.declared.Step.{Step}

@@ -1,6 +1,5 @@
 -- For inner functions: what a lexeme is, by tests.
 use Rattle.lexemes.specs.declared.Lexeme.{Lexeme}
-use Rattle.lexemes.specs.declared.Lexeme.TheVariants as Lexeme
 use Rattle.std.specs.Prelude.{ℕ}
 
 -- a number that tells lexemes apart where the readers do: 1 (, 2 ), 3 a bar, 4 what binds two
