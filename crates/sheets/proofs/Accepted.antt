@@ -24,11 +24,8 @@ use Rattle.grammar.proofs.Lists.{every_append}
 use Rattle.grammar.proofs.ChoiceLaws.{member_at}
 use Rattle.fields.specs.Pieces.{pieces, is_empty, same_bytes}
 use Rattle.lines.specs.declared.RuleLine.{RuleLine}
-use Rattle.lines.specs.declared.RuleLine.TheVariants as RuleLine
 use Rattle.lines.specs.declared.TokenLine.{TokenLine}
-use Rattle.lines.specs.declared.TokenLine.TheVariants as TokenLine
 use Rattle.lines.specs.declared.Turn.{Turn}
-use Rattle.lines.specs.declared.Turn.TheVariants as Turn
 use Rattle.lines.specs.Turns.{turn_of}
 use Rattle.lines.specs.RuleLines.{rule_line_of}
 use Rattle.lines.specs.TokenLines.{token_line}

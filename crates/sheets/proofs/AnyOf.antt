@@ -31,6 +31,7 @@ module _ {A : Type 0} (p : A → Bool) (l : List A) (n i : ℕ) (d : A) (h : i <
 -- no member has what none has
 pub any_none : {A : Type 0} (p : A → Bool) {x : A} (l : List A) → any_of p l ≡ false → Memᴰ x l
     → p x ≡ true → ⊥
+any_none {A = A} p {x = x} mathlib.Core.List.[] e x4 t = elim x4 [ ]
 any_none p {x} (a ∷ l) e (Memᴰ.head j) t = go (p a) refl
   where
     go : (b : Bool) → p a ≡ b → ⊥

@@ -18,8 +18,7 @@ use Rattle.lengths.specs.Indexes.{Exact}
 use Rattle.lengths.specs.Books.{Booked, Appended}
 use Rattle.sheets.specs.declared.Fault.{Fault}
 use Rattle.sheets.specs.declared.RuleStep.{RuleStep}
-use Rattle.sheets.specs.declared.RuleStep.TheVariants as RuleStep
-use Rattle.sheets.specs.Items.{next, end, step_at_of, items_from}
+use Rattle.sheets.specs.Items.{next, step_at_of, items_from}
 use Rattle.sheets.specs.RuleSheets.{rule_says, rule_step}
 use Rattle.sheets.specs.Promises.{Adds}
 use Rattle.sheets.proofs.Loop.{Filled, turned, took, next_only}

@@ -8,7 +8,6 @@ use Rattle.sets.proofs.Basics.{true_or_false}
 use Rattle.sets.proofs.Says.{says_eqb}
 use Rattle.grammar.specs.declared.Rule.{Rule}
 use Rattle.grammar.specs.declared.Clause.{Clause}
-use Rattle.grammar.specs.declared.Clause.TheVariants as Clause
 use Rattle.lines.specs.declared.Key.{Key}
 use Rattle.lines.specs.Keys.{key_with_of, key_of, meets, same_operands}
 use Rattle.sheets.specs.RuleSheets.{has_key}

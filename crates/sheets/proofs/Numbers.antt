@@ -5,7 +5,6 @@ use lib.Dec.{eqb}
 use Prim.Native.Nat.{ℕ, ◌<◌}
 use native.Mathlib.Omega.{arith}
 use Rattle.sheets.specs.declared.Fault.{Fault}
-use Rattle.sheets.specs.declared.Fault.TheVariants as Fault
 use Rattle.sheets.specs.Refusals.{number_of}
 
 pub number_small : (f : Fault) → number_of f < 100

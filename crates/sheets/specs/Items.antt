@@ -3,7 +3,6 @@
 use Rattle.std.specs.Prelude.{ℕ, ◌+◌, List, [], ◌∷◌, ◌++◌, Bool, not, cond, ◌&&◌, length}
 use Rattle.fields.specs.Pieces.{is_empty, same_bytes}
 use Rattle.lines.specs.declared.Turn.{Turn}
-use Rattle.lines.specs.declared.Turn.TheVariants as Turn
 use Rattle.lines.specs.Turns.{turn_of}
 
 -- a sheet gives what it holds, or a refusal: its number, and its line

@@ -12,9 +12,7 @@ use Rattle.sheets.specs.declared.Outcome.TheVariants.{Accepted, Refused}
 use Rattle.sheets.specs.declared.GrammarRead.{GrammarRead}
 use Rattle.sheets.specs.declared.SentenceRead.{SentenceRead}
 use Rattle.sheets.specs.declared.RuleStep.{RuleStep}
-use Rattle.sheets.specs.declared.RuleStep.TheVariants as RuleStep
 use Rattle.sheets.specs.declared.TokenStep.{TokenStep}
-use Rattle.sheets.specs.declared.TokenStep.TheVariants as TokenStep
 use Rattle.sheets.specs.Refusals.{number_of}
 use Rattle.sheets.specs.Items.{Reading, accepted, refused, Step, next, stop, end}
 use Rattle.grammar.specs.Sentences.{spelled}

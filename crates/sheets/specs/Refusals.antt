@@ -1,7 +1,6 @@
 -- The refusals and their numbers: 01, "Where each refusal is checked".
 use Rattle.std.specs.Prelude.{◌≡◌, ℕ}
 use Rattle.sheets.specs.declared.Fault.{Fault}
-use Rattle.sheets.specs.declared.Fault.TheVariants as Fault
 use Rattle.sheets.specs.Items.{Reading, refused}
 
 abbrev pub number_of : Fault → ℕ

@@ -4,7 +4,6 @@ use Rattle.grammar.specs.declared.Rule.{Rule}
 use Rattle.grammar.specs.Trees.{Rules}
 use Rattle.fields.specs.Pieces.{pieces}
 use Rattle.lines.specs.declared.RuleLine.{RuleLine}
-use Rattle.lines.specs.declared.RuleLine.TheVariants as RuleLine
 use Rattle.lines.specs.RuleLines.{rule_line_of}
 use Rattle.lines.specs.declared.Key.{Key}
 use Rattle.lines.specs.Keys.{key_of, same_key_of}

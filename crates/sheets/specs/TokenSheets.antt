@@ -6,7 +6,6 @@ use Rattle.grammar.specs.Layout.{Word, last}
 use Rattle.grammar.proofs.Positions.{after?}
 use Rattle.fields.specs.Pieces.{pieces}
 use Rattle.lines.specs.declared.TokenLine.{TokenLine}
-use Rattle.lines.specs.declared.TokenLine.TheVariants as TokenLine
 use Rattle.lines.specs.TokenLines.{token_line}
 use Rattle.sheets.specs.Items.{Reading, refused, Step, next, stop, line_step_of, items_from}
 use Rattle.sheets.specs.Items.{with_names}
