@@ -61,14 +61,14 @@ closes_more {ws} {us} {vs} {k} b c t = record {
         t.joins.all A B (h, x.1, c.via k C B b (omega arith) x.2 y)
     via A C B h l (inr x) (inr y) (no z) = t.joins.all A B (h, x.1, y.2)
 
-follows_then : (k : Links) {A B C : ℕ} → Follows k (Just C) A → Follows k (Just B) C
+follows_then : (k : Links) {B C A : ℕ} → Follows k (Just C) A → Follows k (Just B) C
     → Follows k (Just B) A
-follows_then k {A} {B} (by_parts z) f = subst (Follows k (Just B)) (sym z) f
+follows_then k {B} {A = A} (by_parts z) f = subst (Follows k (Just B)) (sym z) f
 follows_then k (by_link i l D x g) f = by_link i l D x (follows_then k g f)
 
-doubles_then : (k : Links) {A B C : ℕ} → Follows k (Just C) A → Follows k (Just B) C
+doubles_then : (k : Links) {B C A : ℕ} → Follows k (Just C) A → Follows k (Just B) C
     → Doubles k (Just B) Never C → Doubles k (Just B) Never A
-doubles_then k {A} {B} (by_parts z) f d = subst (Doubles k (Just B) Never) (sym z) d
+doubles_then k {B} {A = A} (by_parts z) f d = subst (Doubles k (Just B) Never) (sym z) d
 doubles_then k (by_link i l D x g) f d =
     link_below i l D x (follows_then k g f) (doubles_then k g f d)
 
@@ -101,9 +101,9 @@ module _ (g : Grammar) (formed : Formed g) (holds : UnaryMark → Type 0) (e : P
   small_up {A} h (by_parts z) = subst (λ (x : ℕ). x < 64) (sym z) h
   small_up {A} h (by_link i l C x f) = (small A i l C x).0
 
-  small_down : {A B : ℕ} → A < 64 → Follows links (Just B) A → B < 64
+  small_down : {B A : ℕ} → A < 64 → Follows links (Just B) A → B < 64
   small_down h (by_parts z) = subst (λ (x : ℕ). x < 64) z h
-  small_down {A} h (by_link i l C x f) = small_down (small A i l C x).1 f
+  small_down {A = A} h (by_link i l C x f) = small_down (small A i l C x).1 f
 
   within : {A B : ℕ} {base : List ℕ}
       (x : LinkStep (rules_of g) holds e.one base (λ i l. i < g.count) A B) → x.over < 64
@@ -198,11 +198,11 @@ module _ (g : Grammar) (formed : Formed g) (holds : UnaryMark → Type 0) (e : P
     here : {A B : ℕ} → A < 64 → Forks (rules_of g) holds e base (λ i l. i < g.count) A B → Last A B
     here {A} {B} h x = (A, (one_is A A h).1 (by_parts refl), (b.two A B h).1 x)
 
-    two_to : {A B : ℕ} → A < 64 → Doubles links (Just B) Never A → Last A B
+    two_to : {B A : ℕ} → A < 64 → Doubles links (Just B) Never A → Last A B
     two_to h (both_parts x) = absurd x
     two_to h (part_and_link i l C z x f) = here h (fork_self z (step x f))
     two_to h (both_links i l C j m D x f y k n) = here h (fork_both (step x f) (step y k) n)
-    two_to {A} {B} h (link_below i l C x f d) =
+    two_to {B} {A} h (link_below i l C x f d) =
         let k = (small A i l C x).1 in
         let q = two_to k d in
         (q.0, (one_is A q.0 h).1 (by_link i l C x ((one_is C q.0 k).0 q.1)), q.2)

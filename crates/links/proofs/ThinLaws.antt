@@ -8,7 +8,6 @@ use lib.Seq.{get_or-set_same, get_or-set_other, get_or-take}
 use Rattle.grammar.proofs.Lists.{every_at}
 use Rattle.grammar.specs.declared.Rule.{Rule}
 use Rattle.grammar.specs.declared.Clause.{Clause}
-use Rattle.grammar.specs.declared.Clause.TheVariants as Clause
 use Rattle.grammar.specs.declared.Grammar.{Grammar}
 use Rattle.grammar.specs.Trees.{Rules}
 use Rattle.grammar.specs.Content.{rules_of, SmallRule, Formed}

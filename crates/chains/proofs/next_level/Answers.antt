@@ -1,0 +1,23 @@
+use mathlib.Core.Path.{◌≡◌, sym, subst}
+use Prim.Native.Nat.{ℕ, ◌+◌, ◌-◌}
+use native.Mathlib.Omega.{arith}
+use lib.ListN.{length}
+use Rattle.grammar.specs.Content.{rules_of}
+use Rattle.chains.specs.Chains.{Upto, Unranked}
+use Rattle.chains.proofs.ChainLaws.{upto_copied}
+use Rattle.chains.proofs.next_level.Goals as goal
+
+pub returns-then-unranked : goal.returns-then-unranked
+returns-then-unranked c =
+    let a = c.args in
+    let g = rules_of a.g in
+    let v = c.copy_level in
+    let d : a.l - 1 + 1 ≡ a.l =
+    omega (arith, c.if-l-eq0.false) in
+    subst (λ (x : ℕ). Upto g a.e v.last.0 (x + 1)) d
+    (upto_copied g a.e (a.l - 1)
+    (subst (λ (x : ℕ). Unranked x g (length g)) (sym d)
+    (subst (Unranked a.l g) (sym c.requires.1.0.whole)
+    (c.unranked.ensures
+    c.if-unranked.true)))
+    (subst (Upto g a.e a.table.now) (sym d) c.requires.1.1) v.ensures)
