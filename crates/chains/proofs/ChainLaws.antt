@@ -10,13 +10,10 @@ use lib.ListN.{length, get_or, set, length-set}
 use lib.Seq.{get_or-set_same, get_or-set_other}
 use Rattle.sets.specs.Sets.{In}
 use Rattle.grammar.specs.declared.Clause.{Clause}
-use Rattle.grammar.specs.declared.Clause.TheVariants as Clause
 use Rattle.grammar.specs.declared.UnaryMark.{UnaryMark}
-use Rattle.grammar.specs.declared.UnaryMark.TheVariants as UnaryMark
 use Rattle.grammar.specs.Trees.{Rules}
 use Rattle.marks.specs.declared.SpanMarks.{SpanMarks}
 use Rattle.marks.specs.declared.Least.{Least}
-use Rattle.marks.specs.declared.Least.TheVariants as Least
 use Rattle.grammar.specs.declared.Column.{Column}
 use Rattle.marks.specs.Later.{OffsideBy, OffalignBy}
 use Rattle.marks.specs.Marked.{UnaryBy}

@@ -8,7 +8,6 @@ use native.Mathlib.Decide.{ℕ_discrete}
 use lib.ListN.{length}
 use Rattle.grammar.proofs.Lists.{every_at}
 use Rattle.grammar.specs.declared.Clause.{Clause}
-use Rattle.grammar.specs.declared.Clause.TheVariants as Clause
 use Rattle.grammar.specs.declared.UnaryMark.{UnaryMark}
 use Rattle.grammar.specs.declared.Grammar.{Grammar}
 use Rattle.grammar.specs.Content.{rules_of, SmallClause, SmallRule, Formed}
@@ -126,9 +125,9 @@ module _ (g : Grammar) (formed : Formed g) (holds : UnaryMark → Type 0) (e : P
           (by_parts ((o.own y.over (within y) B).0 y.has))) ((b.one A B h).0 x)
       of h (lead_more x k y) = follows_then links (of h x) (of k y)
 
-      to : {A B : ℕ} → A < 64 → Follows links (Just B) A → Has ws A B
-      to {A} {B} h (by_parts z) = c.keeps A B ((b.one A B h).1 (inl z))
-      to {A} {B} h (by_link i l C x f) =
+      to : {B A : ℕ} → A < 64 → Follows links (Just B) A → Has ws A B
+      to {B} {A} h (by_parts z) = c.keeps A B ((b.one A B h).1 (inl z))
+      to {B} {A} h (by_link i l C x f) =
           let k = (small A i l C x).1 in
           c.via A C B h k (c.keeps A C ((b.one A C h).1
           (inr (record {

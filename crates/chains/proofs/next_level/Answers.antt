@@ -14,10 +14,10 @@ returns-then-unranked c =
     let v = c.copy_level in
     let d : a.l - 1 + 1 ≡ a.l =
     omega (arith, c.if-l-eq0.false) in
-    subst (λ (x : ℕ). Upto g a.e v.last.0 (x + 1)) d
+    subst (λ (x : ℕ). Upto g a.e v.new.table (x + 1)) d
     (upto_copied g a.e (a.l - 1)
     (subst (λ (x : ℕ). Unranked x g (length g)) (sym d)
-    (subst (Unranked a.l g) (sym c.requires.1.0.whole)
+    (subst (Unranked a.l g) (sym c.requires.formed.whole)
     (c.unranked.ensures
     c.if-unranked.true)))
-    (subst (Upto g a.e a.table.now) (sym d) c.requires.1.1) v.ensures)
+    (subst (Upto g a.e a.table.now) (sym d) c.requires.upto) v.ensures)

@@ -6,5 +6,5 @@ pub returns : goal.returns
 returns c =
     let a = c.args in
     upto_stored (rules_of a.g) a.e a.l
-    c.level.ensures c.requires.1.1
+    c.level.ensures c.requires.upto
     c.store.ensures

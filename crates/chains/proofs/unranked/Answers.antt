@@ -1,6 +1,5 @@
-use borrow.Author.Rules.{rules}
 use mathlib.Core.Path.{◌≡◌, sym, subst}
-use Prim.Native.Nat.{ℕ, ◌+◌, ◌-◌, ◌<◌}
+use Prim.Native.Nat.{ℕ, ◌+◌, ◌<◌}
 use native.Mathlib.Omega.{arith}
 use native.Mathlib.Decide.{ℕ_discrete}
 use lib.Seq.{get_or-take}
@@ -44,6 +43,6 @@ loop-i-preserved c =
 pub returns : goal.returns
 returns c = let l = c.loop-i in
     let a = c.args in
-    let w = a.t1 in
+    let w = a.g in
     λ q. subst (Unranked a.l (rules_of w))
     (let z : l.i ≡ w.count = omega (arith, l.invariant.0, c.loop-i-test.false) in z) l.invariant.1
