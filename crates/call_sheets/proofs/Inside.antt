@@ -10,7 +10,6 @@ use Rattle.fields.specs.Pieces.{pieces, same_bytes}
 use Rattle.fields.specs.Words.{numeral_of}
 use Rattle.fields.proofs.Fields.{with_holds, end_holds}
 use Rattle.call_sheets.specs.declared.Call.{Call}
-use Rattle.call_sheets.specs.declared.Call.TheVariants as Call
 use Rattle.call_sheets.specs.declared.TwoSheets.TheVariants as TwoSheets
 use Rattle.call_sheets.specs.declared.OneSheet.TheVariants as OneSheet
 use Rattle.call_sheets.specs.Inside.{Inside}

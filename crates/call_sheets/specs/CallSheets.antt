@@ -5,12 +5,9 @@ use Rattle.fields.specs.Pieces.{pieces, same_bytes}
 use Rattle.fields.specs.Words.{numeral_of}
 use Rattle.fields.specs.Fields.{with_field, at_end_of}
 use Rattle.call_sheets.specs.declared.Call.{Call}
-use Rattle.call_sheets.specs.declared.Call.TheVariants as Call
 use Rattle.call_sheets.specs.declared.Sheets.TheVariants as Sheets
 use Rattle.call_sheets.specs.declared.OneSheet.{OneSheet}
-use Rattle.call_sheets.specs.declared.OneSheet.TheVariants as OneSheet
 use Rattle.call_sheets.specs.declared.TwoSheets.{TwoSheets}
-use Rattle.call_sheets.specs.declared.TwoSheets.TheVariants as TwoSheets
 
 abbrev pub on_one : OneSheet → Call
 on_one c = Call.On (Sheets.One c)

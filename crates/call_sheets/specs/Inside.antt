@@ -1,11 +1,8 @@
 -- For inner functions: the new mark of a change begins within the call sheet.
 use Rattle.std.specs.Prelude.{ℕ, ◌<◌}
 use Rattle.call_sheets.specs.declared.Call.{Call}
-use Rattle.call_sheets.specs.declared.Call.TheVariants as Call
 use Rattle.call_sheets.specs.declared.Sheets.{Sheets}
-use Rattle.call_sheets.specs.declared.Sheets.TheVariants as Sheets
 use Rattle.call_sheets.specs.declared.TwoSheets.{TwoSheets}
-use Rattle.call_sheets.specs.declared.TwoSheets.TheVariants as TwoSheets
 
 -- in a sheet of m bytes
 abbrev pub MarkInside : ℕ → TwoSheets → Type 0
