@@ -13,7 +13,6 @@ use Rattle.sets.proofs.Basics.{clash}
 use Rattle.sets.proofs.Basics.{lt_or_eq}
 use Rattle.grammar.specs.declared.Rule.{Rule}
 use Rattle.grammar.specs.declared.Clause.{Clause}
-use Rattle.grammar.specs.declared.Clause.TheVariants as Clause
 use Rattle.grammar.specs.declared.BinaryMark.{BinaryMark}
 use Rattle.grammar.specs.Trees.{Rules}
 use Rattle.grammar.specs.SpanSheet.{pair_at}
@@ -436,10 +435,10 @@ module _ {g : Rules} {v : Leave} {n start len : ℕ} (r : Rule) (i : ℕ) (b : i
   }
 
 -- nothing stands with the empty word on one side
-pub no_empty_side_none : {k : SpanMarks} {n start len : ℕ} {l : List ℕ} (r : Rule) → r.left < 64
+pub no_empty_side_none : (k : SpanMarks) {n start len : ℕ} {l : List ℕ} (r : Rule) → r.left < 64
     → Idle l n r.clause → HeightsTried (r ∷ []) (by_marks k len) n start len (Ends len 0) l l
     false
-no_empty_side_none {k} {n} {start} {len} {l} r small x = record {
+no_empty_side_none k {n} {start} {len} {l} r small x = record {
   falls = stays;
   fell = λ f. absurd (clash cc);
   same = λ f. refl;

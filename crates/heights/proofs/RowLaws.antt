@@ -195,7 +195,7 @@ module _ {l : List ℕ} {g : Rules} {w : Word} {start len : ℕ} (lefts : Lefts 
           (λ z. omega (arith, z, pair_at_shorter (length w) a b' start len q r)) in
           λ y. omega (arith, e, x.less a b' B q r (omega arith))
 
-pub row_falls : {l m : List ℕ} {g : Rules} {w : Word} {start len : ℕ} → Lefts g
+pub row_falls : {g : Rules} {w : Word} {start len : ℕ} {l m : List ℕ} → Lefts g
     → Falls g (by_word w start len) (length w) start len l m → Row l g w start len
     → Row m g w start len
 row_falls lefts stays x = x
