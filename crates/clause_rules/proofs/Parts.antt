@@ -11,7 +11,6 @@ use Rattle.sets.proofs.Basics.{clash}
 use Rattle.sets.proofs.Basics.{true_or_false}
 use Rattle.grammar.specs.declared.Rule.{Rule}
 use Rattle.grammar.specs.declared.UnaryMark.{UnaryMark}
-use Rattle.grammar.specs.declared.UnaryMark.TheVariants as UnaryMark
 use Rattle.grammar.specs.declared.BinaryMark.{BinaryMark}
 use Rattle.grammar.specs.Trees.{Rules}
 use Rattle.clauses.specs.Clauses as C
@@ -27,7 +26,6 @@ use Rattle.clauses.proofs.Legible.{NoSuffix, RowStop, Stop, join_next, bar_next,
 use Rattle.clauses.proofs.Legible.{suffixed, ItemView, item_view}
 use Rattle.clauses.proofs.Depth.{after_group}
 use Rattle.lexemes.specs.declared.Lexeme.{Lexeme}
-use Rattle.lexemes.specs.declared.Lexeme.TheVariants as Lexeme
 use Rattle.lexemes.specs.declared.Lexed.{Lexed}
 use Rattle.lexemes.specs.Answers.{lexeme_of, Lexes}
 use Rattle.rule_output.specs.Signs.{sort_of_of, heads_of}
@@ -572,16 +570,6 @@ over_read y = record {
   named = λ u.
       absurd (not_both y u);
 }
-
-pub rest_over : (s : List ℕ) (at : ℕ) (out : Emit) (b : ℕ) → at ≤ length s → out.over ≡ true
-    → RestRead s at out (record { at = at; name = b; out = out })
-rest_over s at out b h y =
-    record { from = omega arith; within = h; room = λ u. u; reads = λ e l k L w c q. over_read y }
-
-pub alternatives_over : (s : List ℕ) (at L : ℕ) (out : Emit) (b : ℕ) → at ≤ length s
-    → out.over ≡ true → AlternativesRead s at L out (record { at = at; name = b; out = out })
-alternatives_over s at L out b h y =
-    record { from = omega arith; within = h; room = λ u. u; reads = λ e l k w c q. over_read y }
 
 module _ (s : List ℕ) (at L : ℕ) (out : Emit) (a : PartEmit) (S : SequenceRead s at out a)
     (q : Emit)

@@ -8,7 +8,6 @@ use lib.ListN.{length}
 use Rattle.clauses.specs.Text.{Lex, n, t, opening, closing, bar, suffix, join}
 use Rattle.clauses.specs.Flat.{closes}
 use Rattle.lexemes.specs.declared.Lexeme.{Lexeme}
-use Rattle.lexemes.specs.declared.Lexeme.TheVariants as Lexeme
 use Rattle.lexemes.specs.declared.Lexed.{Lexed}
 use Rattle.lexemes.specs.Answers.{Lexes, LexemeTells}
 use Rattle.rule_output.specs.Signs.{sort_of_of}
