@@ -141,9 +141,18 @@ class Turner:
     def say(self, text):
         self.said.append(f"{self.path}: {text}")
 
-    def clause(self, names, field):
-        """The name of the clause that stood at a position."""
-        return names[int(field)] if field.isdigit() and int(field) < len(names) else field
+    def clause(self, names, fields):
+        """The path with the name of the clause for its position in right-nested pairs: 0, 1.0, 1.1.0, .. 1.1."""
+        k = 0
+        while k < len(names) - 1 and fields[k:k + 1] == ["1"]:
+            k += 1
+        if k == len(names) - 1:
+            return [names[k]] + fields[k:]
+        if fields[k:k + 1] == ["0"]:
+            return [names[k]] + fields[k + 1:]
+        if fields[k:k + 1] and fields[k].isdigit() and k + int(fields[k]) < len(names):
+            return [names[k + int(fields[k])]] + fields[k + 1:]
+        return fields
 
     def fields(self, root, place, fields):
         """The path below root, which stands at place, in today's names."""
@@ -170,7 +179,7 @@ class Turner:
             if len(rest) > 1 and (g, rest[1]) in fn.args:
                 rest[1] = fn.args[(g, rest[1])]
             if g == "requires" and len(rest) > 1 and len(fn.asks) > 1:
-                rest[1] = self.clause(fn.asks, rest[1])
+                rest[1:] = self.clause(fn.asks, rest[1:])
             return ".".join([root, g] + rest[1:])
         where, new = fn.step(at, f)
         if new is None:
@@ -180,7 +189,7 @@ class Turner:
         sub = [SUB.get(s, s) for s in rest[1:]]
         told = fn.places[where].get("clauses")
         if told and len(told) > 1 and len(sub) > 1 and sub[0] == "ensures":
-            sub[1] = self.clause(told, sub[1])
+            sub[1:] = self.clause(told, sub[1:])
         arm = fn.in_arm(place, where, sub)
         if arm:
             return ".".join([root] + arm)
