@@ -8,7 +8,6 @@ use Rattle.sets.specs.Sets.{In}
 use Rattle.sets.proofs.Sets.{insert_same, insert_keeps, insert_only}
 use Rattle.grammar.specs.declared.Rule.{Rule}
 use Rattle.grammar.specs.declared.Clause.{Clause}
-use Rattle.grammar.specs.declared.Clause.TheVariants as Clause
 use Rattle.grammar.specs.Trees.{Rules}
 use Rattle.acyclic.specs.Exact.{Exactly}
 use Rattle.acyclic.specs.Passes.{Extended}
