@@ -4,7 +4,6 @@ use Rattle.std.specs.Prelude.{◌≡◌, ◌⊎◌, List, ◌∷◌, ◌++◌, �
 use Rattle.printing.specs.Printing.{decimal}
 use Rattle.scanning.specs.declared.Digits.{Digits}
 use Rattle.scanning.specs.declared.NumberRead.{NumberRead}
-use Rattle.scanning.specs.declared.NumberRead.TheVariants as NumberRead
 
 -- the text begins with these bytes
 pub record Starts (text bytes : List ℕ) : Type 0 where
