@@ -4,7 +4,6 @@ use mathlib.Core.List.{List, Memᴰ}
 use Prim.Native.Nat.{ℕ, ◌≤◌}
 use native.Mathlib.Omega.{arith}
 use Rattle.grammar.specs.declared.UnaryMark.{UnaryMark}
-use Rattle.grammar.specs.declared.UnaryMark.TheVariants as UnaryMark
 use Rattle.grammar.specs.Layout.{Every}
 use Rattle.grammar.specs.Trees.{Rules}
 use Rattle.pairs.specs.Survey.{Inherits}

@@ -49,6 +49,7 @@ module _ (f : Frame) (n : Point → ℕ) where
   module _ (alike : (p q : Point) → rank_of f p ≡ rank_of f q → n p ≡ n q) where
     looked : (l : List Point) (p : Point) → Memᴰ p l → n p ≡ look l (rank_of f p)
     unfolding look
+    looked [] p m = elim m [ ]
     looked (q ∷ l) p m = by m (λ k. looked l p k) (ℕ_discrete (rank_of f p) (rank_of f q))
       where
         by : Memᴰ p (q ∷ l) → (Memᴰ p l → n p ≡ look l (rank_of f p))

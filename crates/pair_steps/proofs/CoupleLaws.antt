@@ -12,7 +12,7 @@ use Rattle.pairs.specs.Settings.{Corner, start₁, cut₁, start₂, cut₂, Poi
 use Rattle.pairs.specs.Settings.{Setting, setting}
 use Rattle.pairs.specs.Settings.{Side, whole₁, whole₂, sides₁, sides₂, MeetIn, relation_in, next_by}
 use Rattle.pairs.specs.Settings.{next_in}
-use Rattle.pairs.specs.Facts.{against, sorts, behind, Couple, with_each, crossed, couples, behind_in}
+use Rattle.pairs.specs.Facts.{against, sorts, Couple, with_each, crossed, couples, behind_in}
 use Rattle.pairs.proofs.Every.{every_map}
 use Rattle.pairs.proofs.OffsetLaws.{is_order, is_of}
 use Rattle.pairs.proofs.PairLaws.{every_with, every_crossed}

@@ -45,6 +45,7 @@ lower_le [] x y h = omega arith
 lower_le (a ∷ l) x y h = bump_le a x y (lower l x) (lower l y) h (lower_le l x y h)
 
 lower_lt : (l : List ℕ) (x y : ℕ) → x < y → Memᴰ x l → lower l x < lower l y
+lower_lt [] x y h x4 = elim x4 [ ]
 lower_lt (a ∷ l) x y h (Memᴰ.head e) = rw (le-ltb a x (omega arith), lt-ltb a y (omega arith))
     (omega (arith, lower_le l x y (omega arith)))
 lower_lt (a ∷ l) x y h (Memᴰ.tail m) =
@@ -55,6 +56,7 @@ lower_most [] x = omega arith
 lower_most (a ∷ l) x = bump_most (ltb a x) (lower l x) (length l) (lower_most l x)
 
 lower_few : (l : List ℕ) (x : ℕ) → Memᴰ x l → lower l x < length l
+lower_few [] x x3 = elim x3 [ ]
 lower_few (a ∷ l) x (Memᴰ.head e) =
     rw (le-ltb a x (omega arith)) (omega (arith, lower_most l x))
 lower_few (a ∷ l) x (Memᴰ.tail m) = bump_few (ltb a x) (lower l x) (length l) (lower_few l x m)
