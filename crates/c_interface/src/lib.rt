@@ -25,8 +25,7 @@ use c_words::{
 };
 
 // The verdict: its code times 2^32 plus the line's number. The words get the span sheet.
-#[unsafe(no_mangle)]
-pub extern "C" fn teplonga_verdict(rules: &[u8], tokens: &[u8], words: &mut [u64]) -> u64
+pub fn teplonga_verdict(rules: &[u8], tokens: &[u8], words: &mut [u64]) -> u64
     ensures { VerdictWord (sheets rules.now tokens.now)
         words.old words.new result }
 {
@@ -37,8 +36,7 @@ pub extern "C" fn teplonga_verdict(rules: &[u8], tokens: &[u8], words: &mut [u64
 
 // The trees: the verdict's code times 2^32 plus the line's number. The words get the span sheet,
 // both memories the trees' rows, `counts` the row counts.
-#[unsafe(no_mangle)]
-pub extern "C" fn teplonga_trees(
+pub fn teplonga_trees(
     rules: &[u8],
     tokens: &[u8],
     words: &mut [u64],
@@ -59,8 +57,7 @@ pub extern "C" fn teplonga_trees(
 
 // The sweep: its code times 2^32 plus the line's number. `found` gets the answer's sentence and the
 // number of candidates tried.
-#[unsafe(no_mangle)]
-pub extern "C" fn teplonga_sweep(
+pub fn teplonga_sweep(
     rules: &[u8],
     bound: usize,
     words: &mut [u64],
@@ -78,8 +75,7 @@ pub extern "C" fn teplonga_sweep(
 
 // The refused line itself, as a part of the sheet that holds it. An exported function returns no
 // reference, so `line` gets the part.
-#[unsafe(no_mangle)]
-pub extern "C" fn teplonga_refused_line<'a>(rules: &'a [u8], tokens: &'a [u8], line: &mut &'a [u8])
+pub fn teplonga_refused_line<'a>(rules: &'a [u8], tokens: &'a [u8], line: &mut &'a [u8])
     ensures { Hands rules.entry tokens.entry line.new
         (refused_line rules.now tokens.now) }
 {
@@ -88,8 +84,7 @@ pub extern "C" fn teplonga_refused_line<'a>(rules: &'a [u8], tokens: &'a [u8], l
 
 // The row counts: the verdict's code times 2^32 plus the line's number. The words get the span
 // sheet, `counts` the row counts.
-#[unsafe(no_mangle)]
-pub extern "C" fn teplonga_rows(
+pub fn teplonga_rows(
     rules: &[u8],
     tokens: &[u8],
     words: &mut [u64],
@@ -108,8 +103,7 @@ pub extern "C" fn teplonga_rows(
 
 // The places: the verdict's code times 2^32 plus the line's number. The words get the span sheet,
 // `list` the places, `count` their number.
-#[unsafe(no_mangle)]
-pub extern "C" fn teplonga_places(
+pub fn teplonga_places(
     rules: &[u8],
     tokens: &[u8],
     words: &mut [u64],
@@ -127,8 +121,7 @@ pub extern "C" fn teplonga_places(
 }
 
 // The verdict: its code times 2^32 plus the line's number. The words get the span sheet.
-#[unsafe(no_mangle)]
-pub extern "C" fn teplonga_clause_verdict(clauses: &[u8], tokens: &[u8], words: &mut [u64]) -> u64
+pub fn teplonga_clause_verdict(clauses: &[u8], tokens: &[u8], words: &mut [u64]) -> u64
     ensures { VerdictWord (clause_sheets_of clauses.now tokens.now)
         words.old words.new result }
 {
@@ -139,8 +132,7 @@ pub extern "C" fn teplonga_clause_verdict(clauses: &[u8], tokens: &[u8], words: 
 
 // The trees: the verdict's code times 2^32 plus the line's number. The words get the span sheet,
 // both memories the trees' rows, `counts` the row counts.
-#[unsafe(no_mangle)]
-pub extern "C" fn teplonga_clause_trees(
+pub fn teplonga_clause_trees(
     clauses: &[u8],
     tokens: &[u8],
     words: &mut [u64],
@@ -161,8 +153,7 @@ pub extern "C" fn teplonga_clause_trees(
 
 // The sweep: its code times 2^32 plus the line's number. `found` gets the answer's sentence and the
 // number of candidates tried.
-#[unsafe(no_mangle)]
-pub extern "C" fn teplonga_clause_sweep(
+pub fn teplonga_clause_sweep(
     clauses: &[u8],
     bound: usize,
     words: &mut [u64],
@@ -180,8 +171,7 @@ pub extern "C" fn teplonga_clause_sweep(
 
 // The expanded rule sheet: the code of `given` or of a refusal times 2^32 plus the line's number.
 // `sheet` gets its bytes, `count` their number.
-#[unsafe(no_mangle)]
-pub extern "C" fn teplonga_expand(clauses: &[u8], sheet: &mut [u8], count: &mut [u64]) -> u64
+pub fn teplonga_expand(clauses: &[u8], sheet: &mut [u8], count: &mut [u64]) -> u64
     ensures { ExpandWord clauses.now sheet.old sheet.new
         count.old count.new result }
 {
@@ -193,8 +183,7 @@ pub extern "C" fn teplonga_expand(clauses: &[u8], sheet: &mut [u8], count: &mut 
 
 // The refused line itself, as a part of the sheet that holds it. An exported function returns no
 // reference, so `line` gets the part.
-#[unsafe(no_mangle)]
-pub extern "C" fn teplonga_clause_refused_line<'a>(
+pub fn teplonga_clause_refused_line<'a>(
     clauses: &'a [u8],
     tokens: &'a [u8],
     line: &mut &'a [u8],
@@ -207,8 +196,7 @@ pub extern "C" fn teplonga_clause_refused_line<'a>(
 
 // The trees as a user may see them: the verdict's code times 2^32 plus the line's number. The words
 // get the span sheet, both memories the rows shown of the trees, `counts` their numbers.
-#[unsafe(no_mangle)]
-pub extern "C" fn teplonga_show(
+pub fn teplonga_show(
     rules: &[u8],
     tokens: &[u8],
     rights: &[u8],
@@ -231,8 +219,7 @@ pub extern "C" fn teplonga_show(
 
 // The changed sheet: the answer's code times 2^32 plus the line's number. `bytes` gets the sheet,
 // `count` its number of bytes.
-#[unsafe(no_mangle)]
-pub extern "C" fn teplonga_change(
+pub fn teplonga_change(
     rules: &[u8],
     rights: &[u8],
     user: usize,
@@ -253,8 +240,7 @@ pub extern "C" fn teplonga_change(
 
 // A share: its code times 2^32 plus the line's number. `numbers` gets the lowest number, the
 // quotient and the remainder, `found` the answer's sentence.
-#[unsafe(no_mangle)]
-pub extern "C" fn teplonga_share(
+pub fn teplonga_share(
     rules: &[u8],
     length: usize,
     racks: usize,
@@ -277,8 +263,7 @@ pub extern "C" fn teplonga_share(
 
 // Which of two reports is the merged one: 0 the first, 1 the second. A report is what
 // `teplonga_share` answers, the lowest number and the length of the sentence.
-#[unsafe(no_mangle)]
-pub extern "C" fn teplonga_merge(
+pub fn teplonga_merge(
     one: u64,
     number: u64,
     length: usize,
@@ -302,8 +287,7 @@ pub extern "C" fn teplonga_merge(
 
 // The verdicts of some choice of columns: the answer's code times 2^32 plus the line's number.
 // `found` gets the three flags, 1 or 0 each; the words that the search needed end 0.
-#[unsafe(no_mangle)]
-pub extern "C" fn teplonga_columns(
+pub fn teplonga_columns(
     rules: &[u8],
     ranges: &[u8],
     words: &mut [u64],
@@ -321,8 +305,7 @@ pub extern "C" fn teplonga_columns(
 
 // The refused line itself, as a part of the sheet that holds it. An exported function returns no
 // reference, so `line` gets the part.
-#[unsafe(no_mangle)]
-pub extern "C" fn teplonga_columns_refused_line<'a>(
+pub fn teplonga_columns_refused_line<'a>(
     rules: &'a [u8],
     ranges: &'a [u8],
     line: &mut &'a [u8],
@@ -335,8 +318,7 @@ pub extern "C" fn teplonga_columns_refused_line<'a>(
 
 // The test: the code of clear, unknown or a refusal times 2^32 plus the line's number. `list` gets
 // the entries, `count` their number; the words end 0.
-#[unsafe(no_mangle)]
-pub extern "C" fn teplonga_always(
+pub fn teplonga_always(
     rules: &[u8],
     words: &mut [u64],
     list: &mut [u8],
@@ -353,8 +335,7 @@ pub extern "C" fn teplonga_always(
 }
 
 // The same for a clause sheet; the rules of the entries are those of its expansion.
-#[unsafe(no_mangle)]
-pub extern "C" fn teplonga_clause_always(
+pub fn teplonga_clause_always(
     clauses: &[u8],
     words: &mut [u64],
     list: &mut [u8],
