@@ -5,7 +5,6 @@ use Rattle.printing.specs.Printing.{decimal, last_field, row_lines, token_lines}
 use Rattle.sheets.specs.Refusals.{number_of}
 use Rattle.sheets.specs.TokenSheets.{token_names}
 use Rattle.sheets.specs.declared.Answer.{Answer}
-use Rattle.sheets.specs.declared.Answer.TheVariants as Answer
 
 -- `refused-` and the number
 abbrev pub refused_text_of : ℕ → List ℕ
