@@ -16,7 +16,6 @@ use Rattle.fields.specs.Fields.{on_value}
 use Rattle.fields.proofs.Fields.{with_holds}
 use Rattle.fields.proofs.Lines.{more_left}
 use Rattle.lines.specs.declared.Turn.{Turn}
-use Rattle.lines.specs.declared.Turn.TheVariants as Turn
 use Rattle.lines.specs.Turns.{turn_of}
 use Rattle.sheets.specs.Items.{Step, next, stop, end, accepted, refused, step_at_of, on_step, items_from}
 use Rattle.sheets.specs.RuleSheets.{any_of}
@@ -24,7 +23,6 @@ use Rattle.sheets.proofs.Loop.{line_cut, line_less}
 use Rattle.tree_view.proofs.Members.{member_none}
 use Rattle.rights.specs.declared.Right.{Right}
 use Rattle.rights.specs.declared.RightLine.{RightLine}
-use Rattle.rights.specs.declared.RightLine.TheVariants as RightLine
 use Rattle.rights.specs.RightLines.{may_of, last_of, right_of_of, after_high, after_low, after_user}
 use Rattle.rights.specs.RightLines.{right_line}
 use Rattle.rights.specs.RightSheets.{right_said, right_line_step, right_step, items_of, covers}
