@@ -183,6 +183,9 @@ class Turner:
             return ".".join([root, g] + rest[1:])
         where, new = fn.step(at, f)
         if new is None:
+            # a chain that was longer by the steps that are no more
+            where, new = fn.step(place, f)
+        if new is None:
             self.say(f"no step {f} at {at} ({root}.{'.'.join(fields)}); steps: " + " ".join(
                 p["step"][0] + "=" + p["step"][1] for p in fn.places.values() if p["step"]))
             return ".".join([root] + rest)
