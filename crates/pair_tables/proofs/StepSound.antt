@@ -13,7 +13,7 @@ use Rattle.pair_steps.proofs.ShapeNumbers.{shape_one, shape_low}
 use Rattle.sets.specs.Sets.{In}
 use Rattle.sets.proofs.Bits.{in_and}
 use Rattle.grammar.specs.Trees.{Rules}
-use Rattle.pairs.specs.Shapes.{Shape, first, rule_of_shape, Head}
+use Rattle.pairs.specs.Shapes.{Shape, rule_of_shape, Head}
 use Rattle.pairs.specs.Relations.{Order, less, equal, more, order, Offset, Relation}
 use Rattle.pairs.specs.Settings.{Point, at, start₁, cut₁, start₂, cut₂, stop₁, stop₂, setting}
 use Rattle.pairs.specs.Settings.{next_by}
