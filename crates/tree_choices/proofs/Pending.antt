@@ -226,6 +226,7 @@ module _ {g : Rules} (d : Distinct g) where
       → (q l : ℕ) (m : Bool) → Picks g (root p.tree) (word p.tree) s q l m
       → (r : Rule) → get_elem? g q ≡ some r → Stepped g m l p.tree p.start ps r
   aim_step false p ps a q l false c r e = step_first p.tree p.start ps a.0 a.1 q l c r e
+  aim_step false p ps a q l true c r e = elim c [ ]
   aim_step true p ps a q l false c r e =
       step_other p ps a.2 a.1 c.0 c.1 q l c.2 c.3 r e
   aim_step true p ps a q l true c r e = step_only p ps a.2 a.1 q l c r e

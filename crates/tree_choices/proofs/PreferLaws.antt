@@ -15,7 +15,6 @@ use Rattle.grammar.specs.Content.{rules_of}
 use Rattle.grammar.specs.Cycles.{Cyclic}
 use Rattle.heights.specs.Least.{HeightSheet}
 use Rattle.choices.specs.declared.Pick.{Pick}
-use Rattle.choices.specs.declared.Pick.TheVariants as Pick
 use Rattle.choices.specs.Choosing.{NextChoice}
 use Rattle.tree_choices.specs.Wanted.{Charted, Ready, Wanted}
 use Rattle.tree_choices.specs.Picks.{HasChoice}

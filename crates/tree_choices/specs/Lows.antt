@@ -6,7 +6,6 @@ use Rattle.grammar.specs.Trees.{Rules}
 use Rattle.grammar.specs.Choices.{LowChoice, Preferred}
 use Rattle.rows.specs.declared.Step.{Step}
 use Rattle.choices.specs.declared.Pick.{Pick}
-use Rattle.choices.specs.declared.Pick.TheVariants as Pick
 use Rattle.heights.specs.Least.{number_at}
 
 -- one more than the higher child, of a node of a kind over len tokens from s on with children B and
