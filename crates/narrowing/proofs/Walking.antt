@@ -82,22 +82,6 @@ module _ {r : RangeSentence} (p : Spread r) {best k m : ℕ} (h : k < r.count)
   apart : range (ranges_of r) k ≡ get_or r.tokens k no_range
   apart = range_read r k h
 
-  pub seeking_skip : m < 2 → Seeking (ranges_of r) r.count best (k + 1)
-  seeking_skip l =
-      record {
-        fits = omega arith;
-        several = s.several;
-        absent =
-            λ x j y. go x j y (ℕ_discrete j k);
-      }
-    where
-      single : Single (range (ranges_of r) k)
-      single = subst Single (sym apart) (omega (arith, e, (ended_at p k h).ordered))
-
-      go : r.count ≤ best → (j : ℕ) → j < k + 1 → Dec (j ≡ k) → Single (range (ranges_of r) j)
-      go x j y (yes d) = subst (λ (i : ℕ). Single (range (ranges_of r) i)) (sym d) single
-      go x j y (no d) = s.absent x j (omega arith)
-
   pub seeking_pick : {q : ℕ} → (m < 2 → ⊥) → (q ≡ k) ⊎ ((q ≡ best) × (best < r.count))
       → Seeking (ranges_of r) r.count q (k + 1)
   seeking_pick {q} l w =
@@ -116,6 +100,13 @@ module _ {r : RangeSentence} (p : Spread r) {best k m : ℕ} (h : k < r.count)
       out : r.count ≤ q → (q ≡ k) ⊎ ((q ≡ best) × (best < r.count)) → ⊥
       out x (inl d) = omega arith
       out x (inr d) = omega (arith, d.0, d.1)
+
+-- a token with fewer than two columns has one
+pub single_here : (r : RangeSentence) (j : ℕ) → Spread r → j < r.count
+    → columns (get_or r.tokens j no_range) < 2
+    → (range (ranges_of r) j).low.0 ≡ (range (ranges_of r) j).high.0
+single_here r j p h l =
+    subst Single (sym (range_read r j h)) (omega (arith, (ended_at p j h).ordered))
 
 pub seeking_all : {r : RangeSentence} {best k : ℕ} → Spread r → r.count ≤ k
     → Seeking (ranges_of r) r.count best k → Picks (ranges_of r) best

@@ -86,6 +86,7 @@ fn wider(n: usize, best: usize, k: usize) -> usize
 // The token to narrow next, of those with several columns: the one in most spans, so that the one
 // in the fewest is narrowed last and moves from choice to choice. Where each has one column, the
 // number of tokens.
+#[tactic(auto, using(crate::proofs::Walking::single_here))]
 pub fn next_token(r: RangeSentence) -> usize
     requires { Spread r }
     ensures { Picks (ranges_of r) result }
