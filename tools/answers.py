@@ -20,7 +20,25 @@ USE = re.compile(r"^use .*?(?:\{[^}]*\}|[^\n{]*)(?: as [^\n]+)?$", re.M | re.S)
 
 
 def norm(s):
-    return s.replace("_", "-")
+    return s.replace("_", "-").lower()
+
+
+def lent(callee):
+    """The parameters of a function of this repository that are lent to be changed, in their order."""
+    crate, *path = callee.split("::")
+    for name in ("lib.rt", "main.rt"):
+        source = os.path.join(TOP, "crates", crate, "src", name)
+        if os.path.exists(source):
+            text = re.sub(r"//[^\n]*", "", open(source, encoding="utf-8").read())
+            m = re.search(rf"\bfn {path[-1]}(?:<[^>]*>)?\(([^)]*)\)", text)
+            if m:
+                ps = [p.strip() for p in m[1].split(",") if p.strip()]
+                return ["self" if p.startswith("&mut self") else p.split(":")[0].strip()
+                        for p in ps if "&mut " in p]
+    return []
+
+
+TOP = "."
 
 
 def strip(s):
@@ -193,6 +211,11 @@ class Turner:
         told = fn.places[where].get("clauses")
         if told and len(told) > 1 and len(sub) > 1 and sub[0] == "ensures":
             sub[1:] = self.clause(told, sub[1:])
+        callee = fn.places[where].get("callee")
+        if callee and len(sub) > 1 and sub[0] == "new" and sub[1].isdigit():
+            names = lent(callee)
+            if int(sub[1]) < len(names):
+                sub[1] = names[int(sub[1])]
         arm = fn.in_arm(place, where, sub)
         if arm:
             return ".".join([root] + arm)
@@ -360,7 +383,7 @@ def convert(crate, lib, folder, data, said):
                 renamed[p[2]] = fn.needs[i][1]
     done, named, lts = set(), set(), set()
     # the places that a helper is given from further down
-    deep = set()
+    deep, deeper = set(), {}
     for _, _, hname, hty, _ in parsed:
         hflat = " ".join(hty.split())
         if hflat.startswith("tie.Need-") or "statement M" in hflat:
@@ -375,6 +398,7 @@ def convert(crate, lib, folder, data, said):
                 alias = re.search(rf"\blet {re.escape(call[1])} = ", whole)
                 if call[2] or alias:
                     deep.add(place)
+                    deeper[hname] = place
     for comments, mods, name, ty, rest in parsed:
         body = "\n".join(rest)
         flat = " ".join(ty.split())
@@ -438,6 +462,11 @@ def convert(crate, lib, folder, data, said):
                 t.say(f"{name} has no c")
             env = {ps[0]: place} if ps else {}
             out = t.text(mm[2], env)
+            if ps and fn.places[place]["view"]:
+                for hname, hplace in deeper.items():
+                    if hplace == place:
+                        out = re.sub(rf"(?<![^\s(){{}};,])({re.escape(hname)} {re.escape(ps[0])})(?![^\s(){{}};,])",
+                                     r"\1.before", out)
             out = "\n".join(
                 re.sub(rf"(?<![^\s(){{}};,])({NAME})(?=[\s(){{}};,]|$)",
                        lambda q: renamed.get(q[1], q[1]) if q[1] in renamed and q[1] not in ps else q[1], l)
@@ -470,7 +499,8 @@ def convert(crate, lib, folder, data, said):
                 loops = "".join(f" goal.the-invariant-{l[0][1]} goal.the-decreases-{l[0][1]}" for l in fn.loops)
                 lts.add(1)
                 handed = " Tie.handed_clauses" if len(fn.asks) > 1 else ""
-                return f"Lts.{place} Tie.the-claims Reads.Pre Reads.Post{loops}{handed}"
+                claims = " Tie.the-claims" if any(p["callee"] for p in fn.places.values()) else ""
+                return f"Lts.{place}{claims} Reads.Pre Reads.Post{loops}{handed}"
             named.add(fn.places[place]["new"])
             return fn.places[place]["new"]
 
@@ -522,6 +552,8 @@ def convert(crate, lib, folder, data, said):
 
 
 def main():
+    global TOP
+    TOP = os.path.abspath(os.path.join(sys.argv[1], "..", ".."))
     crate, names, only = sys.argv[1].rstrip("/"), sys.argv[2], sys.argv[3:]
     lib = os.path.basename(os.path.abspath(crate))
     data = json.load(open(names, encoding="utf-8"))
