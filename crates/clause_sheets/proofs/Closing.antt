@@ -27,7 +27,8 @@ use Rattle.clause_lines.specs.ClauseLines.{ClauseLine, Said, good, unwritten, de
 use Rattle.clause_lines.specs.ClauseLines.{with_left, left_says, clause_line}
 use Rattle.sheets.specs.declared.Fault.{Fault}
 use Rattle.sheets.specs.Refusals.{number_of}
-use Rattle.sheets.specs.Promises.{reading_of}
+use Rattle.sheets.specs.Promises.{reading_of, RulesRead}
+use Rattle.sheets.specs.declared.GrammarRead.{GrammarRead}
 use Rattle.sheets.proofs.Once.{never_both}
 use Rattle.sheets.specs.Items.{Reading, accepted, refused, next, stop, end, items_from}
 use Rattle.sheets.specs.RuleSheets.{finish}
@@ -291,3 +292,7 @@ found_all ps o p h e = go (items_from clause_step [] ps) refl h
 
 pub past_far : (ps : List (List ℕ)) (p : ℕ) → AllSaid ps p → 64 < p → clauses_from ps ≡ refused 43 0
 past_far ps p W h = let z = W.most in past_many ps p W (omega arith)
+
+pub far_read : (ps : List (List ℕ)) (p : ℕ) (r : GrammarRead) → AllSaid ps p → 64 < p
+    → RulesRead r (refused 43 0) → RulesRead r (clauses_from ps)
+far_read ps p r W h k = subst (RulesRead r) (sym (past_far ps p W h)) k

@@ -12,7 +12,6 @@ use borrow.Author.Tests.{le-leb, lt-leb}
 use Rattle.sets.proofs.Basics.{clash}
 use Rattle.fields.specs.declared.Cursor.{Cursor}
 use Rattle.fields.specs.declared.NumberField.{NumberField}
-use Rattle.fields.specs.declared.NumberField.TheVariants as NumberField
 use Rattle.fields.specs.Pieces.{before}
 use Rattle.fields.specs.Words.{numeral_of}
 use Rattle.fields.specs.Answers.{number_field_of}
@@ -25,7 +24,6 @@ use Rattle.clauses.specs.Text.{Lex, many, WrittenAs, IsExpression, depth}
 use Rattle.clauses.proofs.Legible.{nothing_next}
 use Rattle.clauses.proofs.Deciding.{says?, max_is}
 use Rattle.clause_lines.specs.declared.Checked.{Checked}
-use Rattle.clause_lines.specs.declared.Checked.TheVariants as Checked
 use Rattle.clause_lines.specs.Walks.{checked_of}
 use Rattle.clauses.proofs.Accepts.{accepts}
 use Rattle.lexemes.specs.Lexemes.{lexemes}
@@ -35,7 +33,6 @@ use Rattle.clause_rules.specs.Reading.{AlternativesRead}
 use Rattle.clause_lines.specs.ClauseLines.{ClauseLine, Said, good, unwritten, deep, shallow_only}
 use Rattle.clause_lines.specs.ClauseLines.{lexemes_say, expression, with_left, left_says, clause_line}
 use Rattle.clause_sheets.specs.declared.LineChecked.{LineChecked}
-use Rattle.clause_sheets.specs.declared.LineChecked.TheVariants as LineChecked
 use Rattle.clause_sheets.specs.Checks.{line_checked, expression_checked, LineEmitted}
 use Rattle.fields.specs.Cursors.{bytes_left, fields_left, with_cursor, read_field}
 

@@ -14,12 +14,11 @@ use Rattle.fields.specs.Pieces.{is_empty}
 use Rattle.fields.proofs.Lines.{more_left}
 use Rattle.sheets.proofs.Loop.{line_in, line_less, line_cut}
 use Rattle.sheets.specs.declared.Fault.{Fault}
-use Rattle.sheets.specs.declared.Fault.TheVariants as Fault
 use Rattle.sheets.specs.declared.Outcome.{Outcome}
 use Rattle.sheets.specs.declared.Outcome.TheVariants.{Accepted, Refused}
 use Rattle.sheets.specs.Refusals.{number_of}
 use Rattle.sheets.specs.Promises.{reading_of}
-use Rattle.sheets.specs.Items.{Reading, accepted, refused, next, stop, end, on_step, items_from}
+use Rattle.sheets.specs.Items.{Reading, accepted, refused, stop, end, on_step, items_from}
 use Rattle.clauses.specs.Expansion.{past_expr, past_all, size, size_all}
 use Rattle.clauses.specs.Emission.{emit}
 use Rattle.clauses.proofs.Deciding.{max_is, max_assoc, max_zero}
@@ -27,7 +26,6 @@ use Rattle.rule_output.specs.Emitting.{Emit, Adds}
 use Rattle.rule_output.proofs.Adding.{adds_then, adds_same, adds_nothing}
 use Rattle.clause_lines.specs.ClauseLines.{ClauseLine, Said, good, unwritten, deep, clause_line}
 use Rattle.clause_sheets.specs.declared.LineChecked.{LineChecked}
-use Rattle.clause_sheets.specs.declared.LineChecked.TheVariants as LineChecked
 use Rattle.clause_sheets.specs.ClauseSheets.{clause_said, clause_step, clauses_of}
 use Rattle.clause_sheets.specs.Emitted.{emit_all}
 use Rattle.clause_sheets.specs.Checks.{line_checked, PassedAs, Passing, LineEmitted}

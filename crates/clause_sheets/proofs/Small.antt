@@ -18,7 +18,7 @@ use Rattle.grammar.specs.Layout.{Every}
 use Rattle.grammar.specs.Trees.{Rules}
 use Rattle.grammar.specs.Content.{SmallClause, SmallRule}
 use Rattle.clauses.specs.Clauses.{alternatives, Expr, Clauses}
-use Rattle.clauses.specs.Expansion.{A, expand_from, past_all, size_all, expansion}
+use Rattle.clauses.specs.Expansion.{expand_from, past_all, size_all, expansion}
 use Rattle.clauses.specs.Text.{maybe, repeats, marks, Lex, n, t, opening, closing, bar, suffix}
 use Rattle.clauses.specs.Text.{join, Phrase, an_atom, an_item, a_row, many, WrittenAs}
 use Rattle.clauses.specs.Text.{nonterminal_text, terminal_text, group_text, bare_text}

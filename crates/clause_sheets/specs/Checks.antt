@@ -13,7 +13,6 @@ use Rattle.sheets.specs.declared.Outcome.TheVariants.{Accepted}
 use Rattle.sheets.specs.Promises.{reading_of}
 use Rattle.sheets.specs.Items.{Reading, accepted, refused, items_from}
 use Rattle.clause_sheets.specs.declared.LineChecked.{LineChecked}
-use Rattle.clause_sheets.specs.declared.LineChecked.TheVariants as LineChecked
 use Rattle.clause_sheets.specs.ClauseSheets.{clause_step, clauses_of}
 use Rattle.clause_sheets.specs.Emitted.{emit_all}
 use Rattle.fields.specs.Cursors.{pieces_from}
