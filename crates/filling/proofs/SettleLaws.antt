@@ -9,7 +9,6 @@ use lib.ListN.{length, get_or}
 use Rattle.joins.proofs.PassLaws.{edge_mark}
 use Rattle.sets.specs.Sets.{In}
 use Rattle.grammar.specs.declared.Clause.{Clause}
-use Rattle.grammar.specs.declared.Clause.TheVariants as Clause
 use Rattle.grammar.specs.Trees.{Rules, Derives, TwoTrees}
 use Rattle.grammar.specs.Distinct.{Distinct}
 use Rattle.grammar.specs.SpanSheet.{part, pair_at, first_word, second_word}

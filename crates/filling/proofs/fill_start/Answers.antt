@@ -1,0 +1,213 @@
+use borrow.Author.Rules.{rules}
+use mathlib.Core.Path.{refl, sym, ap, ◌∙◌}
+use Prim.Native.Nat.{◌+◌, ◌≤◌, ◌<◌}
+use native.Mathlib.Omega.{arith}
+use Rattle.grammar.specs.declared.Token.{Token}
+use Rattle.grammar.specs.Content.{rules_of}
+use Rattle.marks.specs.Drafts.{half}
+use Rattle.marks.proofs.DraftLaws.{drafted_at}
+use Rattle.marks.proofs.Joining.{carried_all, next_carried}
+use Rattle.spans.proofs.ChangeLaws.{past_same, past_then, kept_past}
+use Rattle.chart.proofs.FillLaws.{given_same, given_then, given_kept}
+use Rattle.chart.proofs.SheetLaws.{filled_next, filled_pass, filled_end, filled_ground, filled_on}
+use Rattle.filling.proofs.ClosingLaws.{cut_joined, empty_kept, ending}
+use Rattle.filling.proofs.fill_start.Goals as goal
+
+-- src/lib.rt:137:13
+pub offset_bounds-d-start : goal.offset_bounds-d-start
+offset_bounds-d-start c = search rules
+
+-- src/lib.rt:137:13
+pub bounds-d-start : goal.bounds-d-start
+bounds-d-start c = search rules
+
+-- src/lib.rt:138:9
+pub first_marks-k-requires : goal.first_marks-k-requires
+first_marks-k-requires c = search rules
+
+-- src/lib.rt:139:5
+pub begin-requires : goal.begin-requires
+begin-requires c =
+    let q = c.requires.rows_len in record { room = record { few = c.requires.whole.0.few; fits = omega (arith, c.requires.whole.1); enough = c.requires.count_in_bounds }; rows_len = q.0; columns = q.1 }
+
+-- src/lib.rt:141:5
+pub loop-len-init : goal.loop-len-init
+loop-len-init c =
+    let a = c.args in
+    let d = a.d in (
+      omega arith,
+      omega (arith, c.requires.whole.1),
+      c.first_marks-k.ensures.carried (half d) a.start
+          (ap (λ (t : Token). t.terminal)
+          (sym (drafted_at d a.start (omega (arith, c.requires.whole.1)))))
+          (ap (λ (t : Token). t.column)
+          (sym (drafted_at d a.start (omega (arith, c.requires.whole.1))))),
+      past_same _ _,
+      given_same _ _,
+      filled_next _ _ _ _ _ _ c.requires.filled,
+      c.requires.begins.0,
+      c.begin.ensures,
+      refl,
+    )
+
+-- src/lib.rt:141:11
+pub overflow_add-start : goal.overflow_add-start
+overflow_add-start c = search rules
+
+-- src/lib.rt:142:18
+pub overflow_add-at : goal.overflow_add-at
+overflow_add-at c = search rules
+
+-- src/lib.rt:143:26
+pub overflow_sub-z : goal.overflow_sub-z
+overflow_sub-z c = search rules
+
+-- src/lib.rt:143:17
+pub offset_bounds-d-at : goal.offset_bounds-d-at
+offset_bounds-d-at c = search rules
+
+-- src/lib.rt:143:17
+pub bounds-d-at : goal.bounds-d-at
+bounds-d-at c = search rules
+
+-- src/lib.rt:144:17
+pub offset_bounds-d-at-in-loop-len : goal.offset_bounds-d-at-in-loop-len
+offset_bounds-d-at-in-loop-len c = search rules
+
+-- src/lib.rt:144:17
+pub bounds-d-at-in-loop-len : goal.bounds-d-at-in-loop-len
+bounds-d-at-in-loop-len c = search rules
+
+-- src/lib.rt:145:9
+pub with_next-k-requires : goal.with_next-k-requires
+with_next-k-requires c = search rules
+
+-- src/lib.rt:146:9
+pub overflow_add-len : goal.overflow_add-len
+overflow_add-len c = omega (
+  arith,
+  c.loop-len-test.true,
+  c.requires.whole.0.few,
+)
+
+-- src/lib.rt:147:12
+pub overflow_add-start-in-loop-len : goal.overflow_add-start-in-loop-len
+overflow_add-start-in-loop-len c = omega (
+  arith,
+  c.loop-len-test.true,
+  c.requires.whole.0.few,
+)
+
+-- src/lib.rt:148:13
+pub load-requires : goal.load-requires
+load-requires c =
+    let l = c.loop-len.invariant in record {
+      room = (
+        record {
+          few = c.requires.whole.0.few;
+          fits = omega (arith, c.loop-len-test.true);
+          enough =
+              omega (arith, l.3.long, c.requires.count_in_bounds);
+        },
+        omega (arith, l.0),
+      );
+      mirrors = l.7;
+    }
+
+-- src/lib.rt:141:5
+pub loop-len-smaller-then-start-len : goal.loop-len-smaller-then-start-len
+loop-len-smaller-then-start-len c = search rules
+
+-- src/lib.rt:141:5
+pub loop-len-preserved-then-start-len : goal.loop-len-preserved-then-start-len
+loop-len-preserved-then-start-len c =
+    let l = c.loop-len.invariant in (
+      omega arith,
+      omega (arith, c.loop-len-test.true),
+      (next_carried c.args.d _ _ _ _ c.loop-len.invariant.0 c.loop-len-test.true c.with_next-k.ensures c.loop-len.invariant.2),
+      l.3,
+      l.4,
+      filled_pass _ _ _ _ _ _ _ (omega (arith, c.if-start-len.true)) l.5,
+      l.6,
+      c.load.ensures,
+      c.load.auto.cols ∙ l.8,
+    )
+
+-- src/lib.rt:151:9
+pub close-requires : goal.close-requires
+close-requires c =
+    let l = c.loop-len.invariant in record {
+      room = (
+        record {
+          few = c.requires.whole.0.few;
+          fits = omega (arith, c.loop-len-test.true);
+          enough = omega
+              (arith, l.3.long, c.requires.count_in_bounds);
+        },
+        omega (arith, l.0),
+      );
+      formed = c.requires.formed;
+      begins = (l.6, c.requires.begins.1);
+      mirrors = l.7;
+    }
+
+-- src/lib.rt:141:5
+pub loop-len-smaller : goal.loop-len-smaller
+loop-len-smaller c = search rules
+
+-- src/lib.rt:141:5
+pub loop-len-preserved : goal.loop-len-preserved
+loop-len-preserved c =
+    let a = c.args in
+    let b = c.loop-len in
+    let l = b.invariant in
+    let g = rules_of a.g in
+    let h = half a.d in
+    let n = a.d.count in
+    let len = b.len + 1 in
+    let fit : a.start + len ≤ n = omega (arith, c.loop-len-test.true) in
+    let long : 2 ≤ len = omega (arith, l.0) in
+    let far : a.from < a.start + len =
+    omega (arith, c.if-start-len.false) in
+    let ws = c.close.new.words in
+    let j = cut_joined b.words ws g h n a.start len c.with_next-k.result
+    c.requires.formed.0.distinct (omega (arith, c.requires.whole.0.long, c.requires.whole.0.inner)) fit
+    long (carried_all _ _ _ _ ((next_carried c.args.d _ _ _ _ c.loop-len.invariant.0 c.loop-len-test.true c.with_next-k.ensures c.loop-len.invariant.2)))
+    (filled_ground b.words g h n a.from a.start len fit l.5)
+    c.close.ensures.cut_joins in (
+      omega arith,
+      fit,
+      (next_carried c.args.d _ _ _ _ c.loop-len.invariant.0 c.loop-len-test.true c.with_next-k.ensures c.loop-len.invariant.2),
+      past_then l.3 (kept_past n a.start len fit j.kept),
+      given_then l.4 (given_kept b.words ws n a.start len fit long j.kept),
+      filled_on b.words ws g h n a.from a.start len long fit far l.5 j,
+      empty_kept n a.start len (omega arith) j.kept l.6,
+      c.close.ensures.mirrors_2,
+      c.close.auto.cols ∙ l.8,
+    )
+
+-- src/lib.rt:115:1
+pub shape_of-words : goal.shape_of-words
+shape_of-words c = c.loop-len.invariant.3.long
+
+-- src/lib.rt:115:1
+pub shape_of-rows : goal.shape_of-rows
+shape_of-rows c = c.loop-len.invariant.7.wide ∙ sym c.requires.rows_len.0
+
+-- src/lib.rt:115:1
+pub shape_of-cols : goal.shape_of-cols
+shape_of-cols c = c.loop-len.invariant.8 ∙ c.begin.auto.cols
+
+-- src/lib.rt:115:1
+pub returns : goal.returns
+returns c =
+    let l = c.loop-len.invariant in record {
+      filled_from = record {
+        filled = filled_end _ _ _ _ _ _ _ (omega (arith, c.loop-len-test.false)) l.5;
+        given =
+            l.4;
+        past = l.3;
+      };
+      columns = ending (omega (arith, c.loop-len-test.false)) l.7;
+      begins_2 = l.6;
+    }
