@@ -11,10 +11,8 @@ use Rattle.lists.specs.Lists.{GivesList, fits, large}
 use Rattle.lists.specs.Putting.{listed, unfit}
 use Rattle.lists.proofs.Settled.{gives_settled, gives_map, gives_moved}
 use Rattle.sheets.specs.declared.Fault.{Fault}
-use Rattle.sheets.specs.declared.Fault.TheVariants as Fault
 use Rattle.sheets.proofs.Numbers.{same_fault}
 use Rattle.sheets.specs.declared.Answer.{Answer}
-use Rattle.sheets.specs.declared.Answer.TheVariants as Answer
 use Rattle.list_answers.specs.declared.ListReply.{ListReply}
 use Rattle.list_answers.specs.Lists.{list_reply, ListOn}
 use Rattle.list_answers.specs.ListReplies.{on_list}

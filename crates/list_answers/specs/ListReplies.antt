@@ -1,9 +1,7 @@
 -- The reply on a list that was put (for inner functions).
 use Rattle.std.specs.Prelude.{Bool, true, false, ℕ}
 use Rattle.sheets.specs.declared.Fault.{Fault}
-use Rattle.sheets.specs.declared.Fault.TheVariants as Fault
 use Rattle.sheets.specs.declared.Answer.{Answer}
-use Rattle.sheets.specs.declared.Answer.TheVariants as Answer
 use Rattle.list_answers.specs.declared.ListReply.{ListReply}
 use Rattle.list_answers.specs.Lists.{list_reply}
 use Rattle.lists.specs.declared.Listed.{Listed}

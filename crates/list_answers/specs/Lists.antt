@@ -4,7 +4,6 @@ use Rattle.lists.specs.Lists.{GivesList}
 use Rattle.sheets.specs.declared.Fault.{Fault}
 use Rattle.sheets.specs.Refusals.{number_of}
 use Rattle.sheets.specs.declared.Answer.{Answer}
-use Rattle.sheets.specs.declared.Answer.TheVariants as Answer
 use Rattle.list_answers.specs.declared.ListReply.{ListReply}
 
 abbrev pub list_reply : Answer → ℕ → ℕ → ListReply
