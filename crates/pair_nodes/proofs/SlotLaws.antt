@@ -9,11 +9,9 @@ use Rattle.pair_steps.proofs.ShapeNumbers.{shape_one, shape_low}
 use Rattle.sets.specs.Sets.{In}
 use Rattle.sets.proofs.Sets.{in_dec}
 use Rattle.grammar.specs.declared.UnaryMark.{UnaryMark}
-use Rattle.grammar.specs.declared.UnaryMark.TheVariants as UnaryMark
 use Rattle.grammar.specs.declared.BinaryMark.{BinaryMark}
 use Rattle.grammar.specs.declared.Rule.{Rule}
 use Rattle.grammar.specs.declared.Clause.{Clause}
-use Rattle.grammar.specs.declared.Clause.TheVariants as Clause
 use Rattle.grammar.specs.declared.Grammar.{Grammar}
 use Rattle.grammar.specs.Content.{rules_of, SmallClause, Formed}
 use Rattle.grammar.specs.Trees.{Rules}
@@ -27,7 +25,6 @@ use Rattle.survey.specs.declared.Levels.{Levels}
 use Rattle.survey.specs.Closing.{LevelsOf}
 use Rattle.survey.proofs.Weakest.{level_weakest, level_nothing, unrank, unrank_rank}
 use Rattle.heads.specs.declared.Looks.{Looks}
-use Rattle.heads.specs.declared.Looks.TheVariants as Looks
 use Rattle.heads.specs.declared.Shaped.{Shaped}
 use Rattle.heads.specs.Forms.{shape_by, SaysForm, MarkOf, LooksLike, ShapedAs}
 use Rattle.firsts.specs.Rows.{ByNonterminal}

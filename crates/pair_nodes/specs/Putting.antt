@@ -7,7 +7,6 @@ use Rattle.pairs.specs.Survey.{Inherits}
 use Rattle.pairs.specs.Shapes.{Form, tip, one, two, Shape, HasForm}
 use Rattle.survey.specs.Closing.{Weakest}
 use Rattle.heads.specs.declared.Looks.{Looks}
-use Rattle.heads.specs.declared.Looks.TheVariants as Looks
 use Rattle.firsts.specs.Rows.{ByNonterminal}
 use Rattle.pair_steps.specs.declared.Node.{Node}
 use Rattle.pair_steps.specs.Nodes.{kid_count, first_of, second_of, KeepAsked, JoinAsked, PartAsked}

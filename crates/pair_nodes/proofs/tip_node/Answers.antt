@@ -3,12 +3,10 @@ use mathlib.Core.Path.{refl}
 use native.Mathlib.Omega.{arith}
 use Rattle.pair_nodes.proofs.PutLaws.{mask_any}
 use borrow.Author.Rules.{rules}
-use Rattle.pair_nodes.proofs.tip_node.Statement.{statement}
-use Rattle.pair_nodes.proofs.tip_node.Tie as tie
+use Rattle.pair_nodes.proofs.tip_node.Goals as goal
 
-returns : tie.Need-returns
+pub returns : goal.returns
 returns c =
-    let z = c.before.before in
     record {
       kids = refl;
       sort = refl;
@@ -17,12 +15,12 @@ returns c =
       keep = mask_any;
       join = mask_any;
       apart = mask_any;
-      begin = λ g h. c.range.ensures;
+      begin = λ g h. c.range-begin.ensures;
       next = λ g h j. absurd (omega (arith, j));
       fits =
           record {
             kids = omega arith;
-            sort = z.requires.0;
+            sort = c.requires.0;
             first = omega arith;
             second = omega arith;
             keep = omega arith;
@@ -31,6 +29,3 @@ returns c =
           };
       low = (search rules, omega arith);
     }
-
-pub tip-node-spec : {M : Type 1} → statement M
-tip-node-spec = tie.close (tie.spec (λ c κs. search rules) returns)
