@@ -12,14 +12,11 @@ use lib.Dec.{lit<}
 use Rattle.sets.proofs.Basics.{clash}
 use Rattle.grammar.specs.declared.Rule.{Rule}
 use Rattle.grammar.specs.declared.Clause.{Clause}
-use Rattle.grammar.specs.declared.Clause.TheVariants as Clause
 use Rattle.grammar.specs.Trees.{Rules}
 use Rattle.fields.specs.declared.Lay.{Lay}
-use Rattle.fields.specs.declared.Lay.TheVariants as Lay
 use Rattle.fields.specs.Pieces.{pieces, is_empty, same_bytes}
 use Rattle.fields.specs.Words.{lay_of}
 use Rattle.lines.specs.declared.RuleLine.{RuleLine}
-use Rattle.lines.specs.declared.RuleLine.TheVariants as RuleLine
 use Rattle.lines.specs.RuleLines.{rule_line_of, plain_rule}
 use Rattle.lines.specs.Keys.{key_of}
 use Rattle.sheets.specs.Items.{Reading, accepted, refused, items_from, with_names}

@@ -10,12 +10,9 @@ use Rattle.sets.proofs.Basics.{clash}
 use Rattle.sets.proofs.Says.{true_not_false}
 use Rattle.grammar.specs.declared.Rule.{Rule}
 use Rattle.grammar.specs.declared.Clause.{Clause}
-use Rattle.grammar.specs.declared.Clause.TheVariants as Clause
 use Rattle.fields.specs.declared.Operand.{Operand}
 use Rattle.fields.specs.declared.Kind.{Kind}
-use Rattle.fields.specs.declared.Kind.TheVariants as Kind
 use Rattle.fields.specs.declared.Lay.{Lay}
-use Rattle.fields.specs.declared.Lay.TheVariants as Lay
 use Rattle.fields.specs.Pieces.{pieces, same_bytes}
 use Rattle.fields.specs.Words.{numeral_of, kind_of, operand_of, lay_of}
 use Rattle.fields.specs.Fields.{on_value, with_field, at_end_of}

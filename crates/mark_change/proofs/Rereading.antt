@@ -12,9 +12,7 @@ use Rattle.grammar.specs.declared.Rule.{Rule}
 use Rattle.grammar.specs.Trees.{Rules}
 use Rattle.fields.specs.Pieces.{is_empty}
 use Rattle.lines.specs.declared.RuleLine.{RuleLine}
-use Rattle.lines.specs.declared.RuleLine.TheVariants as RuleLine
 use Rattle.lines.specs.declared.Turn.{Turn}
-use Rattle.lines.specs.declared.Turn.TheVariants as Turn
 use Rattle.lines.specs.Turns.{turn_of}
 use Rattle.lines.specs.RuleLines.{rule_line_of}
 use Rattle.lines.specs.declared.Key.{Key}

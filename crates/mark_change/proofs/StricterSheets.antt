@@ -10,19 +10,15 @@ use lib.Dec.{leb}
 use Rattle.sets.proofs.Basics.{clash}
 use Rattle.grammar.specs.declared.Rule.{Rule}
 use Rattle.grammar.specs.declared.Clause.{Clause}
-use Rattle.grammar.specs.declared.Clause.TheVariants as Clause
 use Rattle.grammar.specs.declared.UnaryMark.TheVariants as UnaryMark
 use Rattle.grammar.specs.declared.BinaryMark.TheVariants as BinaryMark
 use Rattle.grammar.specs.Layout.{Word}
 use Rattle.grammar.specs.Trees.{Rules, NoTree, OneTree, TwoTrees}
 use Rattle.fields.specs.declared.Kind.{Kind}
-use Rattle.fields.specs.declared.Kind.TheVariants as Kind
 use Rattle.fields.specs.declared.Lay.{Lay}
-use Rattle.fields.specs.declared.Lay.TheVariants as Lay
 use Rattle.fields.specs.Pieces.{pieces}
 use Rattle.fields.specs.Words.{lay_of}
 use Rattle.lines.specs.declared.RuleLine.{RuleLine}
-use Rattle.lines.specs.declared.RuleLine.TheVariants as RuleLine
 use Rattle.lines.specs.RuleLines.{lay_rule, up_to}
 use Rattle.sheets.specs.Items.{accepted}
 use Rattle.sheets.specs.RuleSheets.{rule_sheet}

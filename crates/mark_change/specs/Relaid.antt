@@ -3,9 +3,7 @@ use Rattle.std.specs.Prelude.{ℕ, List, [], get_or, Bool, true, false}
 use Rattle.fields.specs.Pieces.{pieces}
 use Rattle.mark_change.specs.Changed.{line_of}
 use Rattle.grammar.specs.declared.Clause.{Clause}
-use Rattle.grammar.specs.declared.Clause.TheVariants as Clause
 use Rattle.fields.specs.declared.Lay.{Lay}
-use Rattle.fields.specs.declared.Lay.TheVariants as Lay
 use Rattle.lines.specs.declared.RuleLine.{RuleLine}
 use Rattle.lines.specs.RuleLines.{plain_rule, unary_rule, binary_rule}
 
