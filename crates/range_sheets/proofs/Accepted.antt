@@ -14,7 +14,6 @@ use Rattle.fields.specs.Pieces.{pieces}
 use Rattle.fields.specs.Words.{numeral_of}
 use Rattle.fields.proofs.Fields.{with_holds, end_holds}
 use Rattle.lines.specs.declared.Turn.{Turn}
-use Rattle.lines.specs.declared.Turn.TheVariants as Turn
 use Rattle.lines.specs.Turns.{turn_of}
 use Rattle.sheets.specs.declared.Fault.{Fault}
 use Rattle.sheets.specs.Refusals.{RefusedAs}
@@ -23,9 +22,7 @@ use Rattle.sheets.proofs.Accepted.{items_hold}
 use Rattle.column_ranges.specs.declared.RangeToken.{RangeToken}
 use Rattle.column_ranges.specs.Ranges.{Ranges, choice_count, choice_limit}
 use Rattle.range_sheets.specs.declared.RangeLine.{RangeLine}
-use Rattle.range_sheets.specs.declared.RangeLine.TheVariants as RangeLine
 use Rattle.sheets.specs.declared.Outcome.{Outcome}
-use Rattle.sheets.specs.declared.Outcome.TheVariants as Outcome
 use Rattle.sheets.specs.Promises.{reading_of}
 use Rattle.range_sheets.specs.declared.RangeRead.{RangeRead}
 use Rattle.range_sheets.specs.Promises.{RangesRead}

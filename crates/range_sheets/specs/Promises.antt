@@ -8,7 +8,6 @@ use Rattle.sheets.specs.Promises.{reading_of}
 use Rattle.column_ranges.specs.declared.RangeToken.{RangeToken}
 use Rattle.column_ranges.specs.Ranges.{choice_count, choice_limit}
 use Rattle.range_sheets.specs.declared.RangeStep.{RangeStep}
-use Rattle.range_sheets.specs.declared.RangeStep.TheVariants as RangeStep
 use Rattle.range_sheets.specs.declared.RangeRead.{RangeRead}
 use Rattle.column_ranges.specs.RangeSentences.{ranges_of, Spread}
 

@@ -4,7 +4,6 @@ use Rattle.fields.specs.Pieces.{pieces}
 use Rattle.fields.specs.Words.{numeral_of}
 use Rattle.fields.specs.Fields.{with_field, at_end_of}
 use Rattle.range_sheets.specs.declared.RangeLine.{RangeLine}
-use Rattle.range_sheets.specs.declared.RangeLine.TheVariants as RangeLine
 
 -- 48: high below low
 abbrev pub ends_of : ℕ → ℕ → ℕ → ℕ → RangeLine

@@ -7,7 +7,6 @@ use Rattle.sheets.specs.Items.{with_names}
 use Rattle.column_ranges.specs.declared.RangeToken.{RangeToken}
 use Rattle.column_ranges.specs.Ranges.{Ranges, choice_count, choice_limit}
 use Rattle.range_sheets.specs.declared.RangeLine.{RangeLine}
-use Rattle.range_sheets.specs.declared.RangeLine.TheVariants as RangeLine
 use Rattle.range_sheets.specs.RangeLines.{range_line}
 
 -- 12, 13, 48; 15 is not given
