@@ -116,7 +116,7 @@ fn put_listed(out: &mut [u8], at: usize, t: Told, list: &[u8], count: usize) -> 
 
 // The output where all doubts are to be listed, by the sets and the marks of the rules.
 fn weighed_text(g: Grammar, s: Sets, marks: &[u64], out: &mut [u8]) -> usize
-    requires ground { Ground g s marks.now }
+    requires grounded { Ground g s marks.now }
     requires in_bounds { 262144 ≤ length out.old }
     ensures { Printed AlwaysText (accepted (rules_of g)) out.old out.new
         result }

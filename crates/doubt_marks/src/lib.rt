@@ -369,7 +369,7 @@ pub fn fill_marks(g: Grammar, nulls: u64, prods: u64, words: &mut [u64], marks: 
 // The sets and the marks by which the doubts of rules are listed, by tables in the lent words.
 pub fn weigh(g: Grammar, words: &mut [u64], marks: &mut [u64]) -> Sets
     requires { Formed g × (73728 ≤ length words.old) × (256 ≤ length marks.old) }
-    ensures ground { Ground g result marks.new }
+    ensures grounded { Ground g result marks.new }
     ensures past { Past 73728 words.old words.new }
 {
     let nulls = nullables(g);
