@@ -100,7 +100,7 @@ class Programs:
         """
         data = b"\n".join([*([call] if call else []), *sheets])
         self.build(program)
-        output = self.run([TOP / "target" / "bin" / program], data)
+        output = self.run([TOP / "target" / "bin" / program], data, most=0)
         if not output.startswith(b"answer line\n"):
             raise Unanswered("the program gave no answer")
         refusal = refusal_of(program, data, output)
@@ -108,20 +108,20 @@ class Programs:
             raise Refused(refusal)
         return output
 
-    def run(self, command, data, is_heard=False):
+    def run(self, command, data, is_heard=False, most=1):
         """The whole output of a command, once it has its turn; `is_heard`: what it says on standard
-        error passes through.
+        error passes through; `most`: a higher exit status is no answer.
         """
         if self.turns is None:
-            return self.run_now(command, data, is_heard)
+            return self.run_now(command, data, is_heard, most)
         if not self.turns.acquire(timeout=self.seconds):
             raise Unanswered("other questions are being answered: try again")
         try:
-            return self.run_now(command, data, is_heard)
+            return self.run_now(command, data, is_heard, most)
         finally:
             self.turns.release()
 
-    def run_now(self, command, data, is_heard=False):
+    def run_now(self, command, data, is_heard=False, most=1):
         try:
             errors = None if is_heard else subprocess.PIPE
             pipes = {"stdin": subprocess.PIPE, "stdout": subprocess.PIPE, "stderr": errors}
@@ -139,7 +139,7 @@ class Programs:
             raise Unanswered(
                 f"the program was ended by signal {-made.returncode} (does the stack have 2 MB?)"
             )
-        if made.returncode > 1 or not output:
+        if made.returncode > most or not output:
             raise Unanswered(f"the program gave no answer{': ' if said else ''}{said}")
         return output
 

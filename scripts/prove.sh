@@ -1,8 +1,8 @@
 #!/bin/sh
-# Proves the crates that a crate names, and those that they name: scripts/prove.sh CRATE. `rt check` proves level by
-# level and waits for the slowest crate of each. Here a crate is begun as soon as those that it names are proved, by an
-# `rt check` of its own, as many at a time as there are processors (or RT_JOBS), and those under the longest chain of
-# crates first. Prints what rt said of each. Exit status: 0 all are proved, 1 one is not.
+# Proves the crates that a crate names, and those that they name, and builds them as libraries: scripts/prove.sh CRATE.
+# `rt` would prove them one after the other. Here a crate is begun as soon as those that it names are proved, by an
+# `rt lib` of its own, as many at a time as there are processors (or RT_JOBS), and those under the longest chain of
+# crates first. Prints a line for each that is proved. Exit status: 0 all are proved, 1 one is not, with what rt said.
 set -u
 top=$(dirname "$(dirname "$(readlink -f "$0")")")
 jobs=${RT_JOBS:-$(nproc 2>/dev/null || echo 2)}
@@ -17,7 +17,7 @@ planned() { # CRATE
             for (k = 1; k <= count; k++) visit(parts[k], high + 1)
         }
         { sub(/#.*/, "") }
-        i = index($0, ":") { needs[substr($0, 1, i - 1)] = substr($0, i + 1) }
+        i = index($0, ":") { needs[$1 ~ /:$/ ? substr($0, 1, i - 1) : $1] = substr($0, i + 1) }
         END {
             visit(wanted, 1)
             for (n in above) {
@@ -30,13 +30,9 @@ planned() { # CRATE
         }' "$top/crates.txt" | sort -k1,1nr -k2 | cut -d' ' -f2-
 }
 
-# Proves one crate in a folder with logs of its own, over the libraries and stamps of all.
+# Proves one crate and builds it as a library for those above it.
 prove() { # CRATE
-    side=$room/$1
-    mkdir -p "$side/target/log"
-    ln -s "$top/crates.txt" "$top/crates" "$side"
-    ln -s "$top/target/rlib" "$top/target/stamp" "$side/target"
-    (cd "$side" && RT_JOBS=1 rt check "$1") >"$side/said" 2>&1
+    (cd "$top/crates/$1" && rt lib --jobs 1) >"$room/$1" 2>&1
     echo "$1 $?" >&3
 }
 
@@ -64,7 +60,6 @@ EOF
     waiting=$left
 }
 
-mkdir -p "$top/target/rlib" "$top/target/stamp" || exit 1
 room=$(mktemp -d) || exit 1
 trap 'rm -rf "$room"' EXIT
 trap 'exit 129' HUP
@@ -78,11 +73,11 @@ while [ "$running" -gt 0 ]; do
     read -r crate status <&3
     running=$((running - 1))
     if [ "$status" -ne 0 ]; then
-        cat "$room/$crate/said"
+        cat "$room/$crate"
         wait
         exit 1
     fi
-    grep "^rt: $crate proved" "$room/$crate/said"
+    echo "rt: $crate proved"
     proved="$proved$crate "
     begin
 done

@@ -9,9 +9,9 @@
 # Exit status: 0 an answer, 1 a refusal, 2 bad usage, 3 no answer, because something could not be read, written,
 # built or run. Of several files the greatest counts.
 #
-# The programs themselves cannot set an exit status. One that fails says so on standard error and writes nothing, or
-# nothing further; one that does not fail writes at least two lines. So the output is taken whole, looked at, and
-# written on.
+# The programs themselves end with status 0 for an answer and for a refusal, of which they write at least two lines. One
+# that fails says so on standard error, writes nothing, or nothing further, and ends with status 1. So the output is
+# taken whole, looked at, and written on.
 
 status=0
 words=0
@@ -92,7 +92,7 @@ crates_of() { # CRATE
 is_built() { # PROGRAM
     [ -x "$top/target/bin/$1" ] || return 1
     [ -e "$top/crates.txt" ] || return 0
-    [ -z "$(cd "$top/crates" && find $(crates_of "$1") \( -name '*.rt' -o -name '*.antt' \) -newer "../target/bin/$1" -print)" ]
+    [ -z "$(cd "$top/crates" && find $(crates_of "$1") -name out -prune -o \( -name '*.rt' -o -name '*.antt' \) -newer "../target/bin/$1" -print)" ]
 }
 
 # Proves and builds the program, and says how far it is.
@@ -103,10 +103,12 @@ build() { # PROGRAM
     fi
     count=$(crates_of "$1" | wc -l)
     say "the program is proved and built first: $((count)) crates, some minutes where none is proved yet"
-    mkdir -p "$top/target" || return 1
+    mkdir -p "$top/target/bin" || return 1
     log=$top/target/build-$1.log
     {
-        (cd "$top" && scripts/prove.sh "$1" && rt check "$1" 2>&1)
+        # `rt run` proves, builds and runs; what the program answers to no input is not looked at
+        ("$top/scripts/prove.sh" "$1" && cd "$top/crates/$1" && rt run 2>&1 && cp "out/$1" "$top/target/bin/" &&
+            echo "rt: $1 proved")
         echo "rt ended with $?"
     } </dev/null | tee "$log" | awk -v name="$name" -v count="$((count))" '
         /^rt: [a-z_]+ proved/ && !told[$2]++ { printf "%s: proved %d of %d: %s\n", name, ++done, count, $2 > "/dev/stderr" }

@@ -21,7 +21,7 @@ class Believe(unittest.TestCase):
         shutil.copy(TOP / "bin" / "believe", room / "bin")
         if more:
             file, lines = more
-            shutil.copytree(TOP / "crates", room / "crates", ignore=shutil.ignore_patterns("must-fail", "data"))
+            shutil.copytree(TOP / "crates", room / "crates", ignore=shutil.ignore_patterns("must-fail", "data", "out"))
             changed = room / "crates" / file
             changed.write_text(lines(changed.read_text()) if callable(lines) else changed.read_text() + lines)
         else:
@@ -46,31 +46,31 @@ class Believe(unittest.TestCase):
         self.assertEqual((status, errors), (1, f"believe: docs/BELIEVE.md lists {more}, on which no public promise rests\n"))
 
     def test_a_second_meaning_is_told(self):
-        status, errors = self.believe(LIST, ("lists/specs/Putting.antt", "\nabbrev pub rowCount : ℕ → ℕ\nrowCount n = n\n"))
-        self.assertEqual((status, errors), (1, "believe: rowCount is defined in crates/grammar/specs/Rows.antt and in crates/lists/specs/Putting.antt\n"))
+        status, errors = self.believe(LIST, ("lists/specs/Putting.antt", "\nabbrev pub row_count : ℕ → ℕ\nrow_count n = n\n"))
+        self.assertEqual((status, errors), (1, "believe: row_count is defined in crates/grammar/specs/Rows.antt and in crates/lists/specs/Putting.antt\n"))
 
     def test_a_definition_besides_is_told(self):
         status, errors = self.believe(LIST, ("grammar/specs/Rows.antt", "\nabbrev pub twice : ℕ → ℕ\ntwice n = n + n\n"))
         self.assertEqual((status, errors), (1, "believe: no public promise rests on twice in crates/grammar/specs/Rows.antt\n"))
 
     def test_words_of_a_comment_are_no_names(self):
-        status, errors = self.believe(LIST, ("grammar/specs/Rows.antt", "\nabbrev pub Rest : ℕ → ℕ\nRest n = n\n  -- by Rest and startOf : ℕ\n"))
+        status, errors = self.believe(LIST, ("grammar/specs/Rows.antt", "\nabbrev pub Rest : ℕ → ℕ\nRest n = n\n  -- by Rest and start_of : ℕ\n"))
         self.assertEqual((status, errors), (1, "believe: no public promise rests on Rest in crates/grammar/specs/Rows.antt\n"))
 
     def test_a_name_of_the_kit_is_told(self):
-        status, errors = self.believe(LIST, ("grammar/specs/Rows.antt", lambda text: text.replace("startOf", "drop")))
+        status, errors = self.believe(LIST, ("grammar/specs/Rows.antt", lambda text: text.replace("start_of", "drop")))
         self.assertEqual(status, 1)
         self.assertIn("drop in crates/grammar/specs/Rows.antt has the name of something of the kit's", errors)
 
     def test_a_lost_law_is_told(self):
         file = "call_rights/proofs/Leaks.antt"
-        status, errors = self.believe(LIST, (file, lambda text: text.replace("nothing-leaks", "little-leaks")))
-        self.assertEqual((status, errors), (1, f"believe: no law nothing-leaks stands in crates/{file}\n"))
+        status, errors = self.believe(LIST, (file, lambda text: text.replace("nothing_leaks", "little_leaks")))
+        self.assertEqual((status, errors), (1, f"believe: no law nothing_leaks stands in crates/{file}\n"))
 
     def test_a_law_about_something_else_is_told(self):
         status, errors = self.believe(LIST.replace("`call_rights/Alike`, ", ""))
         self.assertEqual(status, 1)
-        self.assertIn("nothing-leaks in crates/call_rights/proofs/Leaks.antt: the statement rests besides on answering/Settled call_rights/Alike", errors)
+        self.assertIn("nothing_leaks in crates/call_rights/proofs/Leaks.antt: the statement rests besides on answering/Settled call_rights/Alike", errors)
 
     def test_a_public_function_left_out_is_told(self):
         status, errors = self.believe(LIST.replace("`calling::calls_text`", ""))

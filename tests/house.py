@@ -36,10 +36,10 @@ class House(unittest.TestCase):
     def test_every_let_is_used(self):
         self.assertEqual(list(places(text.sources(".antt"), text.unused_lets)), [])
 
-    def test_searched_answers_stand_in_the_last_call(self):
-        proofs = (path for path in text.sources(".antt") if path.name == "Proof.antt")
-        apart = [str(p.relative_to(TOP)) for p in proofs if needs.inlined(t := p.read_text()) != t]
-        self.assertEqual(apart, [])
+    def test_no_answer_is_the_search_that_is_made_anyway(self):
+        answers = (path for path in text.sources(".antt") if path.name == "Answers.antt")
+        found = {str(p.relative_to(TOP)): needs.needless(p.read_text()) for p in answers}
+        self.assertEqual({path: names for path, names in found.items() if names}, {})
 
     def test_no_law_is_stated_twice(self):
         self.assertEqual(text.stated_twice(), {})
@@ -53,9 +53,10 @@ class House(unittest.TestCase):
         self.assertEqual(list(text.unused_imports(sheet, "--")), [(1, "spare")])
         self.assertEqual(list(text.unused_lets(sheet)), [(4, "b")])
         self.assertEqual(list(text.too_long("short\n" + "word " * 30)), [2])
-        call = "f-spec : statement\nf-spec = tie.close (tie.spec {})\n"
-        apart = "add : tie.Need-add\nadd c = search needs\n\n" + call.format("add")
-        self.assertEqual(needs.inlined(apart), call.format("(λ c. search needs)"))
+        plain = "-- src/lib.rt:7:9\npub add : goal.add\nadd c = search rules\n"
+        other = "pub sum : goal.sum\nsum c = ap suc (search rules)\n"
+        self.assertEqual(needs.needless(f"use A.{{rules}}\n\n{plain}\n{other}"), ["add"])
+        self.assertEqual(needs.without(f"use A.{{rules}}\n\n{plain}\n{other}"), f"use A.{{rules}}\n\n{other}")
         law = "pub law : (n : ℕ) → n ≡ n\n    → n ≡ n\nlaw n e = e\n"
         self.assertEqual(list(text.statements(law)), [(1, "law", "(n : ℕ) → n ≡ n → n ≡ n")])
 

@@ -6,6 +6,7 @@
 
 import os
 import pty
+import re
 import shutil
 import subprocess
 import sys
@@ -271,7 +272,7 @@ class First(Room):
             (self.room / "crates" / crate.name).mkdir(parents=True)
         self.tools = self.room / "tools"
         self.tools.mkdir()
-        tools = "sh awk cat cp cut dirname find grep ln mkdir mkfifo mktemp readlink rm sed sort tee touch wc"
+        tools = "sh awk basename cat cp cut dirname find grep ln mkdir mkfifo mktemp readlink rm sed sort tee touch wc"
         for tool in tools.split():
             (self.tools / tool).symlink_to(shutil.which(tool))
 
@@ -279,7 +280,7 @@ class First(Room):
         return run(self.room / "bin" / "check", data=GOOD, env={"PATH": str(self.tools)})
 
     def kit(self, script):
-        """A command rt that does this."""
+        """A command rt that does this, in a crate's folder."""
         rt = self.tools / "rt"
         rt.write_text(f"#!/bin/sh\n{script}\n")
         rt.chmod(0o755)
@@ -291,14 +292,14 @@ class First(Room):
         self.assertIn("README.md", errors)
 
     def test_it_says_that_it_builds_and_how_far_it_is(self):
-        made = f"mkdir -p target/bin && cp '{BUILT / 'checker'}' target/bin/"
-        self.kit(f"echo 'rt: sets proved (3 s)'; echo 'logic=proved'; echo 'rt: text proved (9 s)'; {made}")
+        self.kit(f"echo logic=proved; [ $1 = lib ] || {{ mkdir -p out && cp '{BUILT / 'checker'}' out/; }}")
         status, out, errors = self.check()
         self.assertEqual((status, out), (0, TWO))
         lines = errors.splitlines()
         self.assertRegex(lines[0], r"is proved and built first: \d\d crates, some minutes")
-        self.assertRegex(lines[1], r"proved 1 of \d\d: sets")
-        self.assertRegex(lines[2], r"proved 2 of \d\d: text")
+        count = re.search(r"(\d\d) crates", lines[0])[1]
+        self.assertIn(f"proved 1 of {count}: ", lines[1])
+        self.assertIn(f"proved {count} of {count}: checker", lines[-1])
         self.assertEqual(self.check(), (0, TWO, ""))
 
     def test_it_is_built_anew_where_a_source_is_newer(self):
@@ -308,20 +309,20 @@ class First(Room):
         self.assertEqual(self.check(), (0, TWO, ""))
         source = self.room / "crates" / "sets" / "lib.rt"
         source.write_text("")
-        self.kit("echo 'rt: sets proved (3 s)'")
+        self.kit(f"[ $1 = lib ] || {{ mkdir -p out && cp '{BUILT / 'checker'}' out/; }}")
         self.assertIn("proved 1 of", self.check()[2])
         self.assertEqual(self.check(), (0, TWO, ""))
 
     def test_a_crate_is_begun_once_those_that_it_names_are_proved(self):
         (self.tools / "sleep").symlink_to(shutil.which("sleep"))
         told = self.room / "told"
-        self.kit(f"echo begun $2 >>'{told}'; sleep 0.02; echo ended $2 >>'{told}'; echo \"rt: $2 proved (0 s)\"")
+        self.kit(f"at=$(basename \"$PWD\"); echo begun $at >>'{told}'; sleep 0.02; echo ended $at >>'{told}'")
         self.check()
         named = {}
         for line in (TOP / "crates.txt").read_text().splitlines():
             if ":" in line and not line.startswith("#"):
                 crate, names = line.split(":")
-                named[crate] = set(names.split())
+                named[crate.split()[0]] = set(names.split())
         running, ended = set(), set()
         for word, crate in (line.split() for line in told.read_text().splitlines()):
             if word == "begun":
@@ -335,11 +336,11 @@ class First(Room):
         self.assertLessEqual(named["checker"] & set(named), ended)
 
     def test_a_build_that_fails_is_3(self):
-        self.kit("echo 'rt: sets NOT PROVED'; exit 1")
+        self.kit("echo 'logic=not-proved'; exit 1")
         status, out, errors = self.check()
         self.assertEqual((status, out), (3, b""))
         self.assertIn("target/build-checker.log says why", errors)
-        self.assertIn("NOT PROVED", (self.room / "target" / "build-checker.log").read_text())
+        self.assertIn("logic=not-proved", (self.room / "target" / "build-checker.log").read_text())
 
 
 class Programs(Room):
@@ -362,16 +363,16 @@ class Programs(Room):
 
     def test_a_failed_read_is_not_the_end(self):
         ends_early = len(SHORTER)
-        for error, text in (("EIO", "Input/output error"), ("EAGAIN", "Resource temporarily unavailable")):
+        for error, number, text in (("EIO", 5, "Input/output error"), ("EAGAIN", 11, "Resource temporarily unavailable")):
             for faults in (f"r{error}", f"r{ends_early} r{error}", f"r{ends_early} rEINTR r{error} r0"):
-                wanted = (0, b"", f"standard input: {text}\n")
+                wanted = (1, b"", f"standard input: {text} (os error {number})\n")
                 self.assertEqual(self.under(faults), wanted, faults)
                 self.assertEqual(self.under(faults, BUILT / "sweeper", "sweeper"), wanted, faults)
 
     def test_a_failed_write_stops_the_output(self):
         status, out, errors = self.under("w20 wENOSPC w100")
-        self.assertEqual((status, out, errors), (0, TWO[:20], "standard output: No space left on device\n"))
-        self.assertEqual(self.under("w0")[1], b"")
+        self.assertEqual((status, out, errors), (1, TWO[:20], "standard output: No space left on device (os error 28)\n"))
+        self.assertEqual(self.under("w0")[:2], (1, b""))
 
     def test_the_script_says_3(self):
         for faults in ("rEIO", f"r{len(SHORTER)} rEAGAIN"):

@@ -29,17 +29,19 @@ def layers():
             found.append((line[2:], {}))
         elif line:
             name, rest = line.split(":")
-            found[-1][1][name] = rest.split()
+            # a static library is `NAME staticlib`
+            found[-1][1][name.split()[0]] = rest.split()
     return found
 
 
 def named(crate):
     """The crates that the sources of a crate name."""
     found = set()
-    for path in (TOP / "crates" / crate).rglob("*"):
+    # `rt` keeps its own in out/
+    for path in (TOP / "crates" / crate).glob("[!o]*/**/*"):
         if path.suffix in (".rt", ".antt"):
             text = path.read_text()
-            found.update(re.findall(r"Rattle·(\w+)", text))
+            found.update(re.findall(r"\bRattle\.(\w+)", text))
             if path.suffix == ".rt":
                 found.update(re.findall(r"\b(\w+)::", text))
     return found - {crate} | UNNAMED.get(crate, set())

@@ -11,16 +11,16 @@ IMPORT = re.compile(r"^\s*(?:ghost )?use (\S+?)(?:\.\{([^}]*)\})?(?: as (\S+?))?
 STATEMENT = re.compile(r"^(?:pub )?([^\s:(){}]+) : (.*)$")
 LET = re.compile(r"\blet ([^\s:=(){}]+)\s*[:=]")
 # these look at everything that is named in front of them
-READS_ALL = re.compile(r"\b(omega|search|arith|cc|simp)\b")
+READS_ALL = re.compile(r"\b(omega|search|grind|arith|cc|simp|rw)\b")
 
-# a statement about one function's own proof, or its kind
-OF_ONE = re.compile(r"\btie\.|-kinds\.|statement M")
+# a statement about one function's own proof
+OF_ONE = re.compile(r"\bgoal\.|\bTie\.|\bstatement M")
 
 
 def sources(*endings):
-    """The files of the crates with these endings."""
-    found = (path for path in sorted((TOP / "crates").rglob("*")) if path.suffix in endings)
-    return [path for path in found if path.is_file()]
+    """The files of the crates with these endings; `rt` keeps its own in a crate's out/."""
+    parts = (TOP / "crates").glob("*/[!o]*/**/*")
+    return [path for path in sorted(parts) if path.suffix in endings and path.is_file()]
 
 
 def code(text, mark):
@@ -38,8 +38,8 @@ def names_in(lines):
 
 
 def mentioned(name, names):
-    """Is the name used? An operator such as _≡_ is used by its parts."""
-    parts = [part for part in name.split("_") if part] if "_" in name else [name]
+    """Is the name used? An operator such as ◌≡◌ is used by its parts."""
+    parts = [part for part in name.split("◌") if part]
     return name in names or all(part in names for part in parts)
 
 

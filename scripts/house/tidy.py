@@ -1,7 +1,7 @@
 #!/usr/bin/env python3
-"""Takes unused imports out of the crates' sources, moves what a proof answers by a bare search into
-its last call, and breaks lines that are too long; what stands there is not changed otherwise. Run
-`rt fmt` afterwards: it sets the indents.
+"""Takes unused imports out of the crates' sources, takes answers that say what is tried anyway out
+of the proofs, and breaks lines that are too long; what stands there is not changed otherwise. Run
+`rt fmt` in the crates' folders afterwards: it sets the indents.
 
     scripts/house/tidy.py [FILE ...]    all .antt and .rt files where none is named
 """
@@ -12,7 +12,7 @@ from pathlib import Path
 
 sys.path.insert(0, str(Path(__file__).resolve().parent.parent))
 
-from house.needs import inlined  # noqa: E402  (the path comes first)
+from house.needs import without  # noqa: E402  (the path comes first)
 from house.text import WIDTH, sources, unused_imports  # noqa: E402
 
 LISTED = re.compile(r"^(\s*(?:ghost )?(?:pub )?use \S+\.\{)([^}]*)(\};?)$")
@@ -116,7 +116,7 @@ def without_unused(text, mark):
 
 
 def tidy(path):
-    text = inlined(path.read_text()) if path.name == "Proof.antt" else path.read_text()
+    text = without(path.read_text()) if path.name == "Answers.antt" else path.read_text()
     text = without_unused(text, "--" if path.suffix == ".antt" else "//")
     for tried in (False, True):
         rows = [broken(line, tried) if len(line) > WIDTH else [line] for line in text.split("\n")]
