@@ -11,7 +11,6 @@ use Rattle.sets.specs.Says.{Says}
 use Rattle.sets.proofs.Says.{says_iff}
 use Rattle.grammar.specs.declared.Rule.{Rule}
 use Rattle.grammar.specs.declared.Clause.{Clause}
-use Rattle.grammar.specs.declared.Clause.TheVariants as Clause
 use Rattle.grammar.specs.declared.Grammar.{Grammar}
 use Rattle.grammar.specs.Content.{rules_of, Formed}
 use Rattle.grammar.specs.Trees.{Rules}
@@ -80,11 +79,11 @@ small_rule {g} {p} f r =
       place = omega (arith, get_elem?_lt (rules_of g) p r.stands, f.whole, f.few);
     }
 
-rules_of : {g : Rules} (A p q : ℕ) (y : Why) → DoubtBy g A p q y
+both_rules : {g : Rules} (A p q : ℕ) (y : Why) → DoubtBy g A p q y
     → RuleOf g p A × RuleOf g q A × (p ≤ q)
-rules_of A p q two_rules d = (nodes_first d.2, nodes_second d.2, omega (arith, d.1))
-rules_of A p q two_cuts d = (nodes_first d.2, nodes_second d.2, omega (arith, d.1))
-rules_of A p q two_empty d = (choice_rule d.2, choice_rule d.3, omega (arith, d.1))
+both_rules A p q two_rules d = (nodes_first d.2, nodes_second d.2, omega (arith, d.1))
+both_rules A p q two_cuts d = (nodes_first d.2, nodes_second d.2, omega (arith, d.1))
+both_rules A p q two_empty d = (choice_rule d.2, choice_rule d.3, omega (arith, d.1))
 
 -- the rules of a doubt
 pub record OfRules (g : Grammar) (d : Doubt) : Type 0 where
@@ -96,7 +95,7 @@ pub record OfRules (g : Grammar) (d : Doubt) : Type 0 where
 
 pub doubt_rules : {g : Grammar} → Formed g → (d : Doubt) → Doubted (rules_of g) d → OfRules g d
 doubt_rules {g} f d h =
-    let r = rules_of d.nonterminal d.first d.second d.why h in
+    let r = both_rules d.nonterminal d.first d.second d.why h in
     record {
       small = small_rule f r.0;
       last = omega (arith, get_elem?_lt (rules_of g) d.second r.1.stands, f.whole);

@@ -33,6 +33,7 @@ module _ {A : Type 0} where
   every_both P Q (a ∷ l) x y = ((x.0, y.0), every_both P Q l x.1 y.1)
 
   mem_left : {a : A} (l m : List A) → Memᴰ a l → Memᴰ a (l ++ m)
+  mem_left {a = a} [] m x' = elim x' [ ]
   mem_left (b ∷ l) m (Memᴰ.head h) = Memᴰ.head h
   mem_left (b ∷ l) m (Memᴰ.tail h) = Memᴰ.tail (mem_left l m h)
 

@@ -95,7 +95,7 @@ fn list_pair(
     list: &mut [u8],
     l: Listing,
 ) -> Listing
-    requires ground { Ground g s marks.now }
+    requires grounded { Ground g s marks.now }
     requires a_bound { (a < 64) × (p < q) × (q < g.count) × RuleOf (rules_of g) p a }
     requires count_le_at { l.count ≤ l.at }
     ensures { Lists (rules_of g) list.old list.new l result (at a p q 0)
@@ -117,7 +117,7 @@ fn list_same(
     list: &mut [u8],
     l: Listing,
 ) -> Listing
-    requires ground { Ground g s marks.now }
+    requires grounded { Ground g s marks.now }
     requires p_lt_count { (p < g.count) × RuleOf (rules_of g) p a }
     requires count_le_at { l.count ≤ l.at }
     ensures { Lists (rules_of g) list.old list.new l result (at a p 0 0)
@@ -137,7 +137,7 @@ fn list_behind(
     list: &mut [u8],
     l: Listing,
 ) -> Listing
-    requires ground { Ground g s marks.now }
+    requires grounded { Ground g s marks.now }
     requires a_bound { (a < 64) × (p < g.count) × RuleOf (rules_of g) p a }
     requires count_le_at { l.count ≤ l.at }
     ensures { Lists (rules_of g) list.old list.new l result (at a p (p + 1) 0)
@@ -163,7 +163,7 @@ fn list_rule(
     list: &mut [u8],
     l: Listing,
 ) -> Listing
-    requires ground { Ground g s marks.now }
+    requires grounded { Ground g s marks.now }
     requires a_bound { (a < 64) × (p < g.count) × RuleOf (rules_of g) p a }
     requires count_le_at { l.count ≤ l.at }
     ensures { Lists (rules_of g) list.old list.new l result (at a p 0 0)
@@ -175,7 +175,7 @@ fn list_rule(
 
 // The entries of a nonterminal.
 fn list_left(g: Grammar, s: Sets, marks: &[u64], a: u8, list: &mut [u8], l: Listing) -> Listing
-    requires ground { Ground g s marks.now }
+    requires grounded { Ground g s marks.now }
     requires a_bound { a < 64 }
     requires count_le_at { l.count ≤ l.at }
     ensures { Lists (rules_of g) list.old list.new l result (at a 0 0 0)
@@ -197,7 +197,7 @@ fn list_left(g: Grammar, s: Sets, marks: &[u64], a: u8, list: &mut [u8], l: List
 
 // The entries of all nonterminals.
 fn list_all(g: Grammar, s: Sets, marks: &[u64], list: &mut [u8], l: Listing) -> Listing
-    requires ground { Ground g s marks.now }
+    requires grounded { Ground g s marks.now }
     requires count_le_at { l.count ≤ l.at }
     ensures { Lists (rules_of g) list.old list.new l result (at 0 0 0 0)
         (at 64 0 0 0) }
