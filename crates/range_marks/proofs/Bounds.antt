@@ -10,9 +10,7 @@ use lib.Seq.{get_or-take, get_or-set_same, get_or-set_other, length-take-le, ext
 use Rattle.marks.proofs.Words.{keeps_self}
 use Rattle.grammar.specs.declared.Token.{Token}
 use Rattle.grammar.specs.declared.UnaryMark.{UnaryMark}
-use Rattle.grammar.specs.declared.UnaryMark.TheVariants as UnaryMark
 use Rattle.grammar.specs.declared.BinaryMark.{BinaryMark}
-use Rattle.grammar.specs.declared.BinaryMark.TheVariants as BinaryMark
 use Rattle.grammar.specs.Layout.{Word, Keeps, Pairs, line, col}
 use Rattle.marks.specs.declared.SpanMarks.{SpanMarks}
 use Rattle.marks.specs.Half.{token_at, MayKeep, MayPair}

@@ -15,7 +15,6 @@ use Rattle.sets.proofs.Says.{true_not_false, holds, fails, says_iff}
 use Rattle.sets.proofs.Sets.{in_zero, insert_same, insert_keeps, insert_only}
 use Rattle.grammar.specs.declared.Token.{Token}
 use Rattle.grammar.specs.declared.UnaryMark.{UnaryMark}
-use Rattle.grammar.specs.declared.UnaryMark.TheVariants as UnaryMark
 use Rattle.grammar.specs.declared.BinaryMark.TheVariants as BinaryMark
 use Rattle.grammar.specs.Layout.{Pairs, line, col}
 use Rattle.grammar.specs.Sentences.{no_token}
