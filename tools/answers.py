@@ -198,6 +198,8 @@ class Turner:
                 rest[1] = fn.args[(g, rest[1])]
             if g == "requires" and len(rest) > 1 and len(fn.asks) > 1:
                 rest[1:] = self.clause(fn.asks, rest[1:])
+            if g == "requires" and len(rest) == 1 and len(fn.asks) > 1:
+                self.whole[f"{root}.requires"] = fn.asks
             return ".".join([root, g] + rest[1:])
         where, new = fn.step(at, f)
         if new is None:
@@ -209,6 +211,8 @@ class Turner:
             return ".".join([root] + rest)
         sub = [SUB.get(s, s) for s in rest[1:]]
         told = fn.places[where].get("clauses")
+        if told and len(told) > 1 and sub == ["ensures"]:
+            self.whole[f"{root}.{new}.ensures"] = told
         if told and len(told) > 1 and len(sub) > 1 and sub[0] == "ensures":
             sub[1:] = self.clause(told, sub[1:])
         callee = fn.places[where].get("callee")
@@ -256,6 +260,7 @@ class Turner:
                 return self.fields(root, env[root], fields)
             return m[0]
 
+        self.whole = {}
         lines = []
         for line in text.split("\n"):
             if line.lstrip().startswith("--"):
@@ -264,7 +269,14 @@ class Turner:
                 lines.append(PATH.sub(turn, line))
         # the test of `if !x` says what x is
         test = rf"not-(?:true|false) _ ({NAME}\.if-not-{NAME}\.(?:true|false))(?![^\s(){{}},;])"
-        out = re.sub(rf"\({test}\)", r"\1", "\n".join(lines))
+        out = "\n".join(lines)
+        # a let that binds all clauses
+        for m in re.finditer(rf"\blet ({NAME}) =\s+({NAME}(?:\.{NAME})+)\s+in\b", out):
+            if m[2] in self.whole:
+                names = self.whole[m[2]]
+                at = re.compile(rf"(?<![^\s(){{}}\[\];,]){re.escape(m[1])}((?:\.\d+)+)(?![^\s(){{}}\[\];,.])")
+                out = at.sub(lambda d: ".".join([m[1]] + self.clause(names, d[1][1:].split("."))), out)
+        out = re.sub(rf"\({test}\)", r"\1", out)
         return re.sub(test, r"\1", out)
 
 
