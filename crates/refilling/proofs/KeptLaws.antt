@@ -15,9 +15,7 @@ use Rattle.sets.proofs.Sets.{in_zero}
 use Rattle.grammar.specs.Layout.{Word}
 use Rattle.grammar.specs.declared.Rule.{Rule}
 use Rattle.grammar.specs.declared.Clause.{Clause}
-use Rattle.grammar.specs.declared.Clause.TheVariants as Clause
 use Rattle.grammar.specs.declared.BinaryMark.{BinaryMark}
-use Rattle.grammar.specs.declared.BinaryMark.TheVariants as BinaryMark
 use Rattle.grammar.specs.Content.{SmallClause, SmallRule}
 use Rattle.grammar.specs.Trees.{Rules, Derives, TwoTrees}
 use Rattle.grammar.specs.SpanSheet.{pairs, pair_at, first_word, second_word}
