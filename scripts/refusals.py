@@ -127,7 +127,7 @@ def written(text, lines):
 
 def misnumbered(refusals):
     """What the definitions number otherwise. The programs' own, 31 and 32, are not among them."""
-    defined = dict(re.findall(r"^numberOf Fault\.(\w+) = (\d+)$", DEFINITIONS.read_text(), re.M))
+    defined = dict(re.findall(r"^number_of Fault\.(\w+) = (\d+)$", DEFINITIONS.read_text(), re.M))
     for refusal in refusals:
         number = defined.get(camel(refusal.name))
         if number != (None if refusal.number in (31, 32) else str(refusal.number)):
