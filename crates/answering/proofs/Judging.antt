@@ -8,7 +8,6 @@ use Rattle.grammar.specs.Trees.{Rules}
 use Rattle.grammar.specs.SpanSheet.{pairs}
 use Rattle.spans.proofs.ChangeLaws.{past_drop}
 use Rattle.grammar.specs.declared.Verdict.{Verdict}
-use Rattle.grammar.specs.declared.Verdict.TheVariants as Verdict
 use Rattle.chart.specs.Sheets.{Judged}
 use Rattle.answering.specs.Verdict.{SheetFilled}
 

@@ -14,7 +14,6 @@ use Rattle.tree_writer.specs.Written.{Display, in_full_of, rows_of, count_of, fi
 use Rattle.sheets.specs.declared.Fault.{Fault}
 use Rattle.sheets.proofs.Numbers.{same_fault}
 use Rattle.sheets.specs.declared.Answer.{Answer}
-use Rattle.sheets.specs.declared.Answer.TheVariants as Answer
 use Rattle.answering.specs.declared.TreesReply.{TreesReply}
 use Rattle.answering.specs.Answers.{Sheets}
 use Rattle.answering.specs.Trees.{trees_reply_of, Shown, treeless, single, both, large_one}

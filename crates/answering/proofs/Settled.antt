@@ -8,7 +8,6 @@ use lib.ListN.{length, get_or, replicate, take-append-drop}
 use Rattle.grammar.specs.Layout.{Word}
 use Rattle.grammar.specs.Trees.{Tree, Rules, NoTree, OneTree, TwoTrees}
 use Rattle.grammar.specs.Choices.{FirstTree, SecondTree}
-use Rattle.grammar.specs.Sweeps.{Clear}
 use Rattle.grammar.proofs.VerdictLaws.{none_not_one, none_not_two, one_not_two}
 use Rattle.sheets.specs.declared.Fault.{Fault}
 use Rattle.sheets.specs.Refusals.{number_of}
@@ -20,7 +19,6 @@ use Rattle.sheets.specs.TokenSheets.{token_sheet}
 use Rattle.sheets.proofs.Accepted.{rules_good}
 use Rattle.spans.proofs.Uniqueness.{sheet_same}
 use Rattle.sheets.specs.declared.Answer.{Answer}
-use Rattle.sheets.specs.declared.Answer.TheVariants as Answer
 use Rattle.answering.specs.declared.Reply.{Reply}
 use Rattle.answering.specs.Answers.{Sheets, with_tokens, with_rules, sheets, AnswerHolds}
 use Rattle.answering.specs.declared.TreesReply.{TreesReply}

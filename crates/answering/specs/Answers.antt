@@ -8,7 +8,6 @@ use Rattle.sheets.specs.Items.{Reading, accepted, refused}
 use Rattle.sheets.specs.RuleSheets.{rule_sheet}
 use Rattle.sheets.specs.TokenSheets.{token_sheet}
 use Rattle.sheets.specs.declared.Answer.{Answer}
-use Rattle.sheets.specs.declared.Answer.TheVariants as Answer
 
 -- both sheets give the rules and the word, or the first refusal, those of the rule sheet before
 -- those of the token sheet

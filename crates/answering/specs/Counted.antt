@@ -3,7 +3,6 @@ use Rattle.std.specs.Prelude.{Bool, true, false}
 use Rattle.tree_writer.specs.declared.Counts.{Counts}
 use Rattle.sheets.specs.declared.Fault.TheVariants as Fault
 use Rattle.sheets.specs.declared.Answer.{Answer}
-use Rattle.sheets.specs.declared.Answer.TheVariants as Answer
 use Rattle.answering.specs.declared.TreesReply.{TreesReply}
 use Rattle.answering.specs.Trees.{trees_reply_of}
 

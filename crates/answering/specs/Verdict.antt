@@ -7,7 +7,6 @@ use Rattle.sheets.specs.Items.{accepted}
 use Rattle.sheets.specs.declared.Fault.{Fault}
 use Rattle.sheets.specs.Refusals.{number_of, RefusedAs}
 use Rattle.sheets.specs.declared.Answer.{Answer}
-use Rattle.sheets.specs.declared.Answer.TheVariants as Answer
 use Rattle.answering.specs.declared.Reply.{Reply}
 use Rattle.answering.specs.Answers.{Sheets, sheets, AnswerHolds}
 
