@@ -38,6 +38,72 @@ def lent(callee):
     return []
 
 
+def labels(callee, kind):
+    """The names of a function's clauses of a kind, in their order, where it has several."""
+    crate, *path = callee.split("::")
+    for name in ("lib.rt", "main.rt"):
+        source = os.path.join(TOP, "crates", crate, "src", name)
+        if os.path.exists(source):
+            text = re.sub(r"//[^\n]*", "", open(source, encoding="utf-8").read())
+            m = re.search(rf"\bfn {path[-1]}(?:<[^>]*>)?\(.*?\n *\{{\n", text, re.S)
+            if m:
+                return re.findall(rf"\b{kind} (\w+) \{{", m[0])
+    return []
+
+
+def parts(text):
+    """The parts of a tuple, (a, b, c), or None."""
+    s = text.strip()
+    if not (s.startswith("(") and s.endswith(")")):
+        return None
+    out, depth, start = [], 0, 1
+    for i, ch in enumerate(s):
+        if ch in "([{":
+            depth += 1
+        elif ch in ")]}":
+            depth -= 1
+            if depth == 0 and i < len(s) - 1:
+                return None
+        elif ch == "," and depth == 1:
+            out.append(s[start:i].strip())
+            start = i + 1
+    last = s[start:-1].strip()
+    if last:
+        out.append(last)
+    return out if len(out) > 1 else None
+
+
+def by_name(body, names):
+    """The body with the tuple at its end as a record of these names, where it is one."""
+    depth, start = 0, None
+    for i, ch in enumerate(body):
+        if ch in "([{":
+            if depth == 0 and ch == "(":
+                start = i
+            depth += 1
+        elif ch in ")]}":
+            depth -= 1
+    if start is None:
+        return None
+    before = body[:start]
+    if before.strip() and not re.search(r"(\bin|\.|\u2192)\s*$", before):
+        return None
+    items = parts(body[start:])
+    while items and len(items) < len(names):
+        more = parts(items[-1])
+        if not more:
+            return None
+        items[-1:] = more
+    if not items or len(items) > len(names):
+        items = parts(body[start:]) or []
+        if len(names) == 2 and len(items) > 2:
+            items = [items[0], "(" + ", ".join(items[1:]) + ")"]
+    if len(items) != len(names):
+        return None
+    inner = "; ".join(f"{n} = {e}" for n, e in zip(names, items))
+    return before.rstrip() + " record { " + inner + " }"
+
+
 TOP = "."
 
 
@@ -483,6 +549,21 @@ def convert(crate, lib, folder, data, said):
                 re.sub(rf"(?<![^\s(){{}};,])({NAME})(?=[\s(){{}};,]|$)",
                        lambda q: renamed.get(q[1], q[1]) if q[1] in renamed and q[1] not in ps else q[1], l)
                 for l in out.split("\n"))
+            out = re.sub(r"(\.loop-?[\w-]*)\.inv(?![\w-])", r"\1.invariant", out)
+            out = re.sub(r"\.taken(?![\w-])", ".true", out)
+            out = re.sub(r"(\.(?:if|loop)[\w-]*)\.left(?![\w-])", r"\1.false", out)
+            asked = []
+            if new.endswith("-requires") or re.search(r"-requires-\d+$|-requires-", new):
+                step = norm(re.sub(r"-requires.*$", "", fn.needs[i][0]))
+                for p in fn.params:
+                    if norm(p.split("::")[-1]) == re.sub(r"-?\d+$", "", step) or norm(p.split("::")[-1]) == step:
+                        asked = labels(p, "requires")
+            elif new.startswith("returns"):
+                asked = labels(f"{lib}::{folder.split('/')[-1]}", "ensures")
+            if len(asked) > 1:
+                record = by_name(out, asked)
+                if record:
+                    out = record
             text_ = f"{comments}pub {new} : goal.{new}\n"
             if pre:
                 text_ += pre + "\n"
