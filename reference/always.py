@@ -1,7 +1,7 @@
 """Reference for the test at every length: may some sentence have two trees?
 
 Written from the definitions of the test alone, on top of the readers and the
-layout marks of the references for documents 01 and 02.  Naive on purpose: how
+layout marks of `teplonga.py`.  Naive on purpose: how
 two nodes of two trees lie against one another is tried out on real tokens, one
 where each node and each child starts, and the least family of relations is
 grown over all pairs of shapes until nothing is new.
@@ -416,7 +416,7 @@ def answer_on(reading):
 
 
 def listed(entries, lent):
-    """01's rule for lists, four bytes an entry: (fits, number of entries, the lent bytes after)."""
+    """The rule for lists, four bytes an entry: (fits, number of entries, the lent bytes after)."""
     return places.in_lent_bytes([(*entry[:3], WHYS.index(entry[3])) for entry in entries], lent)
 
 

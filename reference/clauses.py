@@ -1,6 +1,6 @@
 """Reference for request 2 of document 02: clauses as people write them.
 
-Written from request 2, document 01 and section 3 of the paper alone.  A clause
+Written from the rules that docs/FORMAT.md states and section 3 of the paper alone.  A clause
 sheet is read, expanded to a rule sheet, and then judged by `teplonga.py`, which
 knows nothing of clauses.  Naive on purpose: whether a line is well written is
 found by taking its groups out from the inside, and new nonterminals are

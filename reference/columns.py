@@ -1,4 +1,4 @@
-"""Reference for request 10: columns read off a photograph.
+"""Reference for columns read off a photograph.
 
 Written from document 02 alone, on top of the reference for document 01: every
 choice of columns is tried.

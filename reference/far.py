@@ -1,8 +1,8 @@
 """Sweeps as far as seven tokens, without trying each candidate.
 
 `teplonga.first_ambiguous` tries all candidates one by one, which takes it hours
-at a bound of 7.  Here a candidate grows token by token, in the order of
-document 01, and is given up as soon as it cannot have two trees however it goes
+at a bound of 7.  Here a candidate grows token by token, in the
+candidates' order, and is given up as soon as it cannot have two trees however it goes
 on: where not even two trees are left if every mark that looks at a token not
 yet there holds, and every terminal may stand there.  Each valid tree of a
 sentence that goes on so is one of those trees, so nothing is lost.

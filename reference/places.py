@@ -1,7 +1,7 @@
-"""Reference for request 11: all the places at one go.
+"""Reference for the list of places: all of them at one go.
 
-Written from document 02 and from the paper's definitions 4.2 and 4.4, on top of
-the reference for document 01.
+Written from the rules that docs/FORMAT.md states and from the paper's definitions
+4.2 and 4.4, on top of `teplonga.py`.
 """
 
 import sys
@@ -51,7 +51,7 @@ def all_places(grammar, sentence):
 
 
 def in_lent_bytes(entries, lent):
-    """01's rule for lists: (fits, number of entries, the lent bytes after)."""
+    """The rule for lists: (fits, number of entries, the lent bytes after)."""
     made = b"".join(bytes(entry) for entry in entries)
     if len(made) > len(lent):
         return (False, 0, bytes(len(lent)))

@@ -1,6 +1,6 @@
-"""Reference for request 6: room for the trees beforehand.
+"""Reference for row counts: room for the trees beforehand.
 
-Written from document 02 alone, on top of the reference for document 01.
+Written from the rules that docs/FORMAT.md states alone, on top of `teplonga.py`.
 """
 
 import sys

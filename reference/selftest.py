@@ -1,4 +1,4 @@
-"""Self test of the reference: document 01's examples, and second readings.
+"""Self test of the reference: the worked examples, and second readings.
 
 The second readings (a reader by patterns, trees by growing height, marks as in
 the paper's Fig. 2) share no code with the reference.

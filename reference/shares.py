@@ -1,4 +1,4 @@
-"""Reference for request 8: the sweep divided among racks.
+"""Reference for the sweep divided among racks.
 
 Written from document 02 alone, on top of the reference for document 01: all
 arrangements of a length are written down one after the other and numbered.
@@ -14,7 +14,7 @@ MOST_RACKS = 64
 
 
 def arrangements(terminals, length):
-    """All T^n x 3^(n-1) x n^n arrangements in 01's order, as tokens.
+    """All T^n x 3^(n-1) x n^n arrangements in their order, as tokens.
 
     "those with badly ordered positions included and skipped when met": they
     are None here.

@@ -57,7 +57,7 @@ def refused(number, line=0):
 CLEAR = b"clear 0\n"
 
 
-# ----------------------------------------------------------- document 01's own
+# ----------------------------------------------------------- the worked examples
 
 def patches():
     # P1

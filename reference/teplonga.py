@@ -1,8 +1,7 @@
 """Reference for document 01: rule sheets, token sheets and their trees.
 
-Naive on purpose.  Each function states a sentence of document 01 (of document
-02 where a request changes it), or a definition of the paper (sections 3 and 4)
-where 01 leaves it to the paper.
+Naive on purpose.  Each function states a rule of docs/FORMAT.md, or a
+definition of the paper (sections 3 and 4) that the rules rest on.
 Bytes go in, plain Python values come out; no lent memory is changed in place,
 its later state is returned.
 """
@@ -34,7 +33,7 @@ LAYS = {
 ALL_LAYS = ("none", "align", "indent", "offside", "offalign", "single")
 
 # By kind: does a number stand in `first`, does one stand in `second`?  In an A
-# rule either may (request 5).
+# rule either may.
 NUMBERED = {
     "E": (False, False),
     "A": (True, None),
@@ -130,7 +129,7 @@ def terminals_covered(rule):
 
 def clashes(one, other):
     """"the same left, kind, first and second, under any lay"; for A rules
-    (request 5) "of the same left shares any terminal" """
+    "of the same left shares any terminal" """
     if one.kind == "A" and other.kind == "A":
         shared = set(terminals_covered(one)) & set(terminals_covered(other))
         return one.left == other.left and bool(shared)
@@ -156,7 +155,7 @@ def rule_line_refusal(line, ended, earlier):
 
 
 def read_rules(sheet):
-    """("refused", number, line) or ("accepted", rules), by 01's table."""
+    """("refused", number, line) or ("accepted", rules), by the table of refusals."""
     lines = sheet_lines(sheet)
     if lines[0] != (RULE_NAMES, True):
         return refused(1, 1)
@@ -187,7 +186,7 @@ def rule_line(rule):
 def token_of_line(line, ended, wide):
     """The token a line writes, or None where refusal 12 is due.
 
-    wide: the names have `width`, and the line four numbers (request 9).
+    wide: the names have `width`, and the line four numbers.
     """
     parts = fields(line)
     if not ended or len(parts) != (4 if wide else 3):
@@ -236,7 +235,7 @@ def token_line_refusal(line, ended, earlier, wide):
 
 
 def read_tokens(sheet):
-    """("refused", number, line) or ("accepted", tokens), by 01's table."""
+    """("refused", number, line) or ("accepted", tokens), by the table of refusals."""
     lines = sheet_lines(sheet)
     if lines[0] not in ((TOKEN_NAMES, True), (WIDE_NAMES, True)):
         return refused(11, 1)
@@ -399,7 +398,7 @@ class Grammar:
         return self.work_out(word)[0]
 
     def choices(self, nonterminal, word):
-        """The choices of a nonterminal at a word, in 01's order.
+        """The choices of a nonterminal at a word, in their order.
 
         A choice is (the rule's place in the sheet, the left word's length);
         the length is 0 for E, A and U.
@@ -844,7 +843,7 @@ def sweep_size(terminal_count, bound):
 
 
 def candidates(terminals, length):
-    """The candidates of one length, in 01's order.
+    """The candidates of one length, in their order.
 
     Token by token: terminal, line step, column, the lesser first; the first
     token on line 1 with step 0; only positions that rise.
@@ -880,7 +879,7 @@ def first_ambiguous(rules, bound):
 
 
 def sweep_refusal(rules, bound, words):
-    """(number, line) in the order of 01's table, or None."""
+    """(number, line) in the order of the table of refusals, or None."""
     reading = read_rules(rules)
     if reading[0] == "refused":
         return reading[1:]

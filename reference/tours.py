@@ -1,6 +1,6 @@
-"""Reference for request 12: closed sections on a shared tour.
+"""Reference for closed sections on a shared tour.
 
-Written from document 02 alone, on top of the reference for document 01.
+Written from the rules that docs/FORMAT.md states alone, on top of `teplonga.py`.
 """
 
 import teplonga as base

@@ -28,7 +28,7 @@ def places(text):
     return case("places", *base.parted(text))
 
 
-# -------------------------------------------------------------- request 6: rows
+# -------------------------------------------------------------- rows
 
 FULL = doubling(*range(1, 33))  # nonterminal 1: 2^32 - 1 rows
 HALF = doubling(*range(1, 32))  # nonterminal 1: 2^31 - 1 rows
@@ -112,7 +112,7 @@ def refused_rows():
         yield answer + "\n", rows(text)
 
 
-# ----------------------------------------------------------- request 11: places
+# ----------------------------------------------------------- places
 
 def listed(*entries):
     lines = "".join("%d %d %d\n" % entry for entry in entries)
@@ -199,7 +199,7 @@ def refused_places():
             yield answer + "\n", places(text)
 
 
-# ------------------------------------------------ request 12: a shared tour
+# ------------------------------------------------ a shared tour
 
 def rights(*lines):
     """A rights sheet with these lines."""
@@ -376,7 +376,7 @@ def random_tours(count):
         yield case("change", sheets[0], granted, lay, user=5, rule=rule)
 
 
-# ------------------------------------------------- request 13: rules that loop
+# ------------------------------------------------- rules that loop
 
 def looping():
     """The same calls where the rules loop."""

@@ -33,7 +33,7 @@ def sentences(wanted):
             yield rules, (sheet, selftest.token_sheet(*tokens)), tokens, table
 
 
-# -------------------------------------------------------------- request 6: rows
+# -------------------------------------------------------------- rows
 
 def rows_of_sentence(rules, sheets, tokens, table):
     trees = selftest.first_and_second(rules, table.get((0, 0, len(tokens)), set()))
@@ -65,7 +65,7 @@ def told():
         same("told", rows.told(count), wanted)
 
 
-# ----------------------------------------------------------- request 11: places
+# ----------------------------------------------------------- places
 
 def nodes(tree, begin=0):
     """(nonterminal, start, length) of each node; an empty word has start 0."""
@@ -102,7 +102,7 @@ def places_of_sentence(rules, sheets, tokens, table):
     same("places", places.places_call(*sheets, short, lent), ("refused-21", 0, 0, short, lent))
 
 
-# ------------------------------------------------ request 12: a shared tour
+# ------------------------------------------------ a shared tour
 
 def covered(rows, sees):
     """Rows in walking order with those beneath closed ones left out: a row's tree is the

@@ -1,5 +1,5 @@
 /*
- * Calls every C function of include/teplonga.h and checks answers and memory against document 01's worked example and
+ * Calls every C function of include/teplonga.h and checks answers and memory against the worked example and
  * patches. Lent memory stands between pages that may not be touched, at the end of its room and at the front, so a
  * read or write outside of it ends the test. Prints one line and ends with status 0, or says what is wrong.
  *
@@ -107,7 +107,7 @@ static uint64_t coded(uint64_t code, uint64_t line)
 #define PLAIN RULE_NAMES "0 B 0 0 none\n0 A 0 - none\n"
 #define THREE TOKEN_NAMES "0 1 1\n0 1 2\n0 1 3\n"
 
-/* Document 01's worked example: the rows of both trees and the span sheet. */
+/* The worked example: the rows of both trees and the span sheet. */
 static const uint8_t FIRST[20] = { 0, 3, 0, 3, 0, 1, 0, 1, 0, 3, 1, 2, 0, 1, 1, 1, 0, 1, 2, 1 };
 static const uint8_t SECOND[20] = { 0, 3, 0, 3, 0, 3, 0, 2, 0, 1, 0, 1, 0, 1, 1, 1, 0, 1, 2, 1 };
 static const uint64_t SPANS[14] = { 0, 0, 1, 0, 1, 0, 1, 0, 1, 0, 1, 0, 1, 1 };

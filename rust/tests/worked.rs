@@ -1,4 +1,4 @@
-//! Document 01's worked example and its patches P1 to P9.
+//! The worked example and the patches P1 to P9.
 
 use teplonga::{
     refused_line, sweep, trees, verdict, words_for, Answer, Column, Line, Refusal, Reply, Rows,
