@@ -12,7 +12,6 @@ use Rattle.sets.specs.Sets.{In}
 use Rattle.sets.proofs.Sets.{in_zero}
 use Rattle.grammar.specs.declared.Rule.{Rule}
 use Rattle.grammar.specs.declared.Clause.{Clause}
-use Rattle.grammar.specs.declared.Clause.TheVariants as Clause
 use Rattle.grammar.specs.Layout.{Word}
 use Rattle.grammar.specs.Trees.{Tree, unary, binary, root, word, Rules, Valid, valid_unary}
 use Rattle.grammar.specs.Trees.{valid_binary, Witness, Derives}

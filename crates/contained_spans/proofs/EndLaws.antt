@@ -7,7 +7,6 @@ use native.Mathlib.Omega.{arith}
 use lib.ListN.{length, get_or}
 use Rattle.sets.specs.Sets.{In}
 use Rattle.grammar.specs.declared.BinaryMark.{BinaryMark}
-use Rattle.grammar.specs.declared.BinaryMark.TheVariants as BinaryMark
 use Rattle.grammar.specs.declared.Clause.TheVariants as Clause
 use Rattle.grammar.specs.SpanSheet.{pair_at}
 use Rattle.spans.proofs.Places.{pair_at_empty}

@@ -9,7 +9,6 @@ use lib.ListN.{length, get_or, get_elem?}
 use Rattle.sets.specs.Sets.{In}
 use Rattle.grammar.specs.declared.Rule.{Rule}
 use Rattle.grammar.specs.declared.Clause.{Clause}
-use Rattle.grammar.specs.declared.Clause.TheVariants as Clause
 use Rattle.grammar.specs.Layout.{Word}
 use Rattle.grammar.specs.Trees.{Tree, unary, binary, word, Rules, Witness, Derives}
 use Rattle.grammar.specs.Choices.{Choice}

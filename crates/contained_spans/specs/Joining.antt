@@ -5,7 +5,6 @@ use Rattle.sets.specs.declared.Member.TheVariants.{At, Nothing}
 use Rattle.sets.specs.Sets.{In}
 use Rattle.grammar.specs.declared.Rule.{Rule}
 use Rattle.grammar.specs.declared.Clause.{Clause}
-use Rattle.grammar.specs.declared.Clause.TheVariants as Clause
 use Rattle.grammar.specs.Trees.{Rules}
 use Rattle.grammar.specs.SpanSheet.{pairs, pair_at}
 use Rattle.marks.specs.declared.SpanMarks.{SpanMarks}
