@@ -1,6 +1,6 @@
--- The promise of the call `trees`: 01, "Trees, choices, span sheet" and "Where each refusal is
--- checked". What it says of trees that are read serves the call `show` too: `trees` is the case in
--- which all rows are seen.
+-- The promise of the call `trees`: docs/FORMAT.md, "Trees and choices" and "Refusals". What it says
+-- of trees that are read serves the call `show` too: `trees` is the case in which all rows are
+-- seen.
 use Rattle.std.specs.Prelude.{◌≡◌, ◌⊎◌, List, ℕ, ◌≤◌, ◌<◌, length}
 use Rattle.std.proofs.Math.Option.{none, some}
 use Rattle.grammar.specs.Layout.{Word}

@@ -1,4 +1,4 @@
--- The promise of the call `verdict`: 01, "Where each refusal is checked".
+-- The promise of the call `verdict`: docs/FORMAT.md, "Refusals".
 use Rattle.std.specs.Prelude.{◌≡◌, List, ℕ, ◌*◌, ◌<◌, length, drop}
 use Rattle.grammar.specs.Layout.{Word}
 use Rattle.grammar.specs.Trees.{Rules}

@@ -1,5 +1,5 @@
--- The promise of the test at every length: 01, "Where each refusal is checked", on lists that later
--- calls give.
+-- The promise of the test at every length: docs/FORMAT.md, "Calls and lent memory", on lists that
+-- later calls give.
 use Rattle.std.specs.Prelude.{◌≡◌, List, ◌++◌, ℕ, zero, suc, ◌≤◌, ◌<◌, length, drop, replicate}
 use Rattle.grammar.specs.Trees.{Rules}
 use Rattle.lists.specs.Lists.{bytes_of, GivesList}

@@ -1,5 +1,5 @@
 -- The promises of the calls for clause sheets: the same as those for rule sheets, with what the
--- clause sheet gives. 02, request 2.
+-- clause sheet gives. docs/FORMAT.md, "The clause sheet".
 use Rattle.std.specs.Prelude.{List, ℕ}
 use Rattle.answering.specs.declared.Reply.{Reply}
 use Rattle.answering.specs.declared.TreesReply.{TreesReply}

@@ -1,4 +1,5 @@
--- The promise of the call `expand`: the expanded rule sheet as a list of its bytes. 02, request 2.
+-- The promise of the call `expand`: the expanded rule sheet as a list of its bytes. docs/FORMAT.md,
+-- "The clause sheet".
 use Rattle.std.specs.Prelude.{◌≡◌, List, ◌∷◌, ◌++◌, ℕ, length}
 use Rattle.grammar.specs.Trees.{Rules}
 use Rattle.rule_text.specs.RuleText.{rules_text}

@@ -1,5 +1,5 @@
--- The promise of the call for columns read off a photograph: 02, request 10, and 01, "Where each
--- refusal is checked".
+-- The promise of the call for columns read off a photograph: docs/FORMAT.md, "The range sheet" and
+-- "Refusals".
 use Rattle.std.specs.Prelude.{◌≡◌, false, List, ℕ, ◌*◌, ◌≤◌, ◌<◌, length}
 use Rattle.grammar.specs.Trees.{Rules}
 use Rattle.grammar.specs.SpanSheet.{pairs}

@@ -1,5 +1,5 @@
 // The public call for columns read off a photograph: which verdicts some choice of columns within
-// the ends gives (02, request 10).
+// the ends gives (docs/FORMAT.md, "The range sheet").
 #![tactic(auto)]
 
 ghost use Rattle.std.specs.Prelude.{◌≡◌};

@@ -1,4 +1,4 @@
--- The promise of the call `places`: 02, request 11; 01, "Where each refusal is checked", on lists
+-- The promise of the call `places`: docs/FORMAT.md, "Calls and lent memory", on lists
 -- that later calls give.
 use Rattle.std.specs.Prelude.{◌≡◌, List, ℕ, ◌<◌, length}
 use Rattle.grammar.specs.Layout.{Word}

@@ -1,5 +1,5 @@
 // The public call for places: all nonterminals and words at which the readings of a sentence part
-// (02, request 11).
+// (docs/FORMAT.md, "Calls and lent memory").
 #![tactic(auto)]
 
 ghost use Rattle.std.specs.Prelude.{◌≡◌};

@@ -1,4 +1,4 @@
--- Nothing leaks: 02, request 12, "Two companies share a rack and don't show each other their
+-- Nothing leaks: "Two companies share a rack and don't show each other their
 -- rules", of the whole call.
 use mathlib.Core.Path.{◌≡◌, sym, ap, ◌∙◌}
 use mathlib.Core.List.{List}

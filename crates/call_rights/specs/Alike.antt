@@ -1,4 +1,4 @@
--- Sentences that a user cannot tell apart: 02, "Trees that differ only beneath such rows are shown
+-- Sentences that a user cannot tell apart: "Trees that differ only beneath such rows are shown
 -- alike". What a user learns is the verdict and the rows shown.
 use Rattle.grammar.specs.Layout.{Word}
 use Rattle.grammar.specs.Trees.{Tree, Rules, NoTree, OneTree, TwoTrees}

@@ -1,4 +1,4 @@
--- The promise of the call `change`: 02, "Closed sections on a shared tour".
+-- The promise of the call `change`: docs/FORMAT.md, "Closed nodes".
 use Rattle.std.specs.Prelude.{◌≡◌, true, List, ℕ, ◌-◌, ◌≤◌, length}
 use Rattle.std.proofs.Math.Option.{some}
 use Rattle.std.proofs.Math.ListN.{get_elem?}

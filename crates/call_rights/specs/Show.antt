@@ -1,4 +1,4 @@
--- The promise of the call `show`: 02, "Closed sections on a shared tour".
+-- The promise of the call `show`: docs/FORMAT.md, "Closed nodes".
 use Rattle.std.specs.Prelude.{◌≡◌, List, ℕ}
 use Rattle.grammar.specs.Layout.{Word}
 use Rattle.grammar.specs.Trees.{Rules}

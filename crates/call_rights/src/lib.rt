@@ -1,5 +1,5 @@
-// The public calls on a shared tour (02, request 12): the trees as a user may see them, and a rule
-// sheet with a mark that a user may change.
+// The public calls on a shared tour (docs/FORMAT.md, "Closed nodes"): the trees as a user may see
+// them, and a rule sheet with a mark that a user may change.
 #![tactic(auto)]
 
 ghost use Rattle.std.specs.Prelude.{◌≡◌, ◌≤◌};

@@ -1,5 +1,5 @@
 -- A later call for the trees of the same sheets, with as many rows as were counted, is never
--- refused 22; with one fewer it is (02, request 6).
+-- refused 22; with one fewer it is (docs/FORMAT.md, "Calls and lent memory").
 use mathlib.Core.Path.{◌≡◌, sym, ap, ◌∙◌}
 use mathlib.Core.Logic.{◌⊎◌, inl, inr, ⊎_elim}
 use mathlib.Core.List.{List}

@@ -1,4 +1,4 @@
--- The promise of the call `rows`: 02, request 6.
+-- The promise of the call `rows`: docs/FORMAT.md, "Calls and lent memory".
 use Rattle.std.specs.Prelude.{◌≡◌, List, ℕ, ◌<◌, length}
 use Rattle.grammar.specs.Layout.{Word}
 use Rattle.grammar.specs.Trees.{Rules}

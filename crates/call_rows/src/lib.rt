@@ -1,5 +1,5 @@
 // The public call for row counts: how many rows each tree has, before memory is set aside for them
-// (02, request 6).
+// (docs/FORMAT.md, "Calls and lent memory").
 #![tactic(auto)]
 
 ghost use Rattle.std.specs.Prelude.{◌≡◌};

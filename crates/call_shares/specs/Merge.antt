@@ -1,4 +1,4 @@
--- Reports of shares merged two by two: 02, "otherwise the lowest number from the shortest reporting
+-- Reports of shares merged two by two: "otherwise the lowest number from the shortest reporting
 -- length is the sweep's sentence".
 use Rattle.std.specs.Prelude.{◌≡◌, ◌⊎◌, ℕ, ◌≤◌, ◌<◌}
 use Rattle.sheets.specs.declared.Answer.{Answer}

@@ -1,4 +1,4 @@
--- What all reports come to, merged one after the other: 02, "otherwise the lowest number from the
+-- What all reports come to, merged one after the other: "otherwise the lowest number from the
 -- shortest reporting length is the sweep's sentence".
 use Rattle.std.specs.Prelude.{◌≡◌, List, [], ◌∷◌, ◌++◌, ℕ, ◌-◌, length, replicate}
 use Rattle.call_shares.specs.declared.ShareReply.{ShareReply}

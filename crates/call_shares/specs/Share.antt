@@ -1,5 +1,4 @@
--- The promise of the call `share`: 02, "The sweep divided among racks", and 01, "Where each refusal
--- is checked".
+-- The promise of the call `share`: docs/FORMAT.md, "Calls and lent memory" and "Refusals".
 use Rattle.std.specs.Prelude.{◌≡◌, ◌⊎◌, List, [], ◌++◌, ℕ, ◌-◌, ◌*◌, ◌/◌, ◌%◌, ◌≤◌, ◌<◌, length, replicate}
 use Rattle.std.proofs.Math.Option.{none, some}
 use Rattle.grammar.specs.declared.Cell.{Cell}

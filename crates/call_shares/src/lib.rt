@@ -1,5 +1,5 @@
 // The public call for one share of a sweep that is divided among racks, and the merging of their
-// reports (02, request 8).
+// reports (docs/FORMAT.md, "Calls and lent memory").
 #![tactic(auto)]
 
 ghost use Rattle.std.specs.Prelude.{◌≡◌};

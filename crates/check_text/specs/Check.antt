@@ -1,4 +1,4 @@
--- The whole output of the program `check` for an input: 01, "The programs".
+-- The whole output of the program `check` for an input: docs/FORMAT.md, "The programs".
 use Rattle.std.specs.Prelude.{◌≡◌, List, ◌++◌, ℕ, ◌*◌, ◌≤◌, ◌<◌, length, take}
 use Rattle.std.proofs.Math.Option.{none, some}
 use Rattle.answering.specs.Answers.{Sheets, sheets}

@@ -185,7 +185,7 @@ expansion_apart c =
 same_some : {A : Type 0} {x y : A} → ◌≡◌ {A = Option A} (some x) (some y) → x ≡ y
 same_some e = cc
 
--- rules that are all apart are distinct, as 01's refusal 5 keeps them
+-- rules that are all apart are distinct, as refusal 5 keeps them
 pub apart_distinct : (g : Rules) → AllApart g → Distinct g
 apart_distinct g a = record { one = λ p q r s e f l k. go g a p q r s e f l k }
   where

@@ -1,4 +1,4 @@
--- What the three flags say: 02, request 10.
+-- What the three flags say: docs/FORMAT.md, "The range sheet".
 use Rattle.std.specs.Prelude.{Bool}
 use Rattle.sets.specs.Says.{Says}
 use Rattle.grammar.specs.Trees.{Rules}

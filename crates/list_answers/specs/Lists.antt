@@ -1,4 +1,4 @@
--- The answer of a call that gives a list: 01, "Where each refusal is checked", behind the table.
+-- The answer of a call that gives a list: docs/FORMAT.md, "Calls and lent memory".
 use Rattle.std.specs.Prelude.{◌≡◌, List, ℕ}
 use Rattle.lists.specs.Lists.{GivesList}
 use Rattle.sheets.specs.declared.Fault.{Fault}

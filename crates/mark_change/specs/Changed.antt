@@ -1,4 +1,4 @@
--- A rule sheet with another mark in one of its rules: 02, "Closed sections on a shared tour".
+-- A rule sheet with another mark in one of its rules: docs/FORMAT.md, "Closed nodes".
 use Rattle.std.specs.Prelude.{ℕ, ◌+◌, List, [], ◌++◌, length, get_or, take, drop}
 use Rattle.std.proofs.Math.Option.{Option, none, some}
 use Rattle.fields.specs.declared.Lay.{Lay}

@@ -1,4 +1,4 @@
--- What a line of a range sheet says: 02, request 10, and the conditions 12, 13 and 48.
+-- What a line of a range sheet says: docs/FORMAT.md, "The range sheet", and refusals 12, 13 and 48.
 use Rattle.std.specs.Prelude.{ℕ, List, cond, ◌&&◌, leb}
 use Rattle.fields.specs.Pieces.{pieces}
 use Rattle.fields.specs.Words.{numeral_of}

@@ -1,5 +1,5 @@
--- What a range sheet says: its tokens with their ends, or the refusal with its line. 02, request
--- 10: refusals 11, 14, 12, 13, 48, then 49.
+-- What a range sheet says: its tokens with their ends, or the refusal with its line.
+-- docs/FORMAT.md, "The range sheet": refusals 11, 14, 12, 13, 48, then 49.
 use Rattle.std.specs.Prelude.{ℕ, List, [], ◌∷◌, Bool, cond, leb}
 use Rattle.fields.specs.Pieces.{pieces}
 use Rattle.sheets.specs.Items.{Reading, accepted, refused, Step, next, stop, line_step_of, items_from}

@@ -1,5 +1,5 @@
--- Counts below 4,294,967,296, the least that is not told (02, request 6). For the contracts of
--- inner functions only.
+-- Counts below 4,294,967,296, the least that is not told (docs/FORMAT.md, "Calls and lent memory").
+-- For the contracts of inner functions only.
 use Rattle.std.specs.Prelude.{ℕ, min}
 
 -- a count, or the limit where it is more

@@ -1,4 +1,5 @@
--- How many rows each tree has, and what an answer says of such a number: 02, request 6.
+-- How many rows each tree has, and what an answer says of such a number: docs/FORMAT.md, "Calls and
+-- lent memory".
 use Rattle.std.specs.Prelude.{◌≡◌, ℕ, ◌≤◌, ◌<◌}
 use Rattle.grammar.specs.Layout.{Word}
 use Rattle.grammar.specs.Trees.{Tree, Rules, NoTree, OneTree, TwoTrees}

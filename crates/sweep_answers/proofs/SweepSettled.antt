@@ -104,7 +104,7 @@ pub sweep_settled : {given : Reading Rules} {k : ℕ} {ws a b : List ℕ} {r s :
 sweep_settled = sweep_by (λ r. r) TriedBy TriedBy
     (λ g x a w m n h k. ap (sweep_reply_of a 0 w) (counts_unique h k))
 
--- 02, request 7: all but the count equals the sweep without the index, on every rule sheet and
+-- all but the count equals the sweep without the index, on every rule sheet and
 -- bound
 pub without_index : (rules : List ℕ) {k : ℕ} {ws a b : List ℕ} {r s : SweepReply}
     → SweepOf rules k ws a r → PlainSweepOf rules k ws b s → (untold r ≡ untold s) × (a ≡ b)

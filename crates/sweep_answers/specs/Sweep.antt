@@ -1,4 +1,4 @@
--- The promise of the call `sweep`: 01, "The sweep" and "Where each refusal is checked" (demand 3).
+-- The promise of the call `sweep`: docs/FORMAT.md, "The sweep" and "Refusals".
 use Rattle.std.specs.Prelude.{◌≡◌, ◌⊎◌, List, [], ◌++◌, ℕ, ◌-◌, ◌*◌, ◌≤◌, ◌<◌, length, replicate}
 use Rattle.grammar.specs.declared.Cell.{Cell}
 use Rattle.grammar.specs.declared.Sentence.{Sentence}
@@ -88,7 +88,7 @@ pub data SweepReading (P : Tries) (given : Reading Rules) (k : ℕ) (words words
       → SweepReading P given k words words' r
 
 -- the sweep tries the candidates of the lengths that nonterminal 0 can have: all of them or, where
--- one is found, those up to and with it (02, request 7)
+-- one is found, those up to and with it (docs/FORMAT.md, "The sweep")
 abbrev pub SweepBy : (given : Reading Rules) (k : ℕ) (words words' : List ℕ) (r : SweepReply)
     → Type 0
 SweepBy = SweepReading TriedBy

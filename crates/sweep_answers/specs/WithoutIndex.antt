@@ -1,5 +1,5 @@
--- The sweep without the index of lengths (for laws): 01's, which tries every length. 02, request 7:
--- "All else in it must equal the sweep without the index".
+-- The sweep without the index of lengths (for laws), which tries every length. All else in it must
+-- equal the sweep with the index.
 use Rattle.std.specs.Prelude.{List, ℕ}
 use Rattle.grammar.specs.Candidates.{Terminal}
 use Rattle.tried_count.specs.Tried.{Tried}

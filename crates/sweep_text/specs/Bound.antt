@@ -1,4 +1,4 @@
--- The bound that stands before a rule sheet: 01, "The programs".
+-- The bound that stands before a rule sheet: docs/FORMAT.md, "The programs".
 use Rattle.std.specs.Prelude.{cond, ◌&&◌, List, [], ◌∷◌, ℕ, ◌-◌, eqb, leb, length, get_or, take, drop}
 use Rattle.std.proofs.Math.Option.{Option, none}
 use Rattle.fields.specs.Pieces.{same_bytes}

@@ -1,4 +1,4 @@
--- The whole output of the program `sweep` for an input: 01, "The programs".
+-- The whole output of the program `sweep` for an input: docs/FORMAT.md, "The programs".
 use Rattle.std.specs.Prelude.{◌≡◌, List, ◌++◌, ℕ, ◌≤◌, ◌<◌, length}
 use Rattle.std.proofs.Math.Option.{none, some}
 use Rattle.grammar.specs.Sentences.{spelled}

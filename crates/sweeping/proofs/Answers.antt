@@ -1,4 +1,4 @@
--- What is found, in 01's words, and the answer spelled from it.
+-- What is found, in the promise's words, and the answer spelled from it.
 use mathlib.Core.Path.{◌≡◌, sym, ap, ◌∙◌, subst}
 use mathlib.Core.Logic.{◌↔◌}
 use mathlib.Core.List.{List, [], ◌∷◌, ◌++◌}

@@ -1,4 +1,4 @@
--- The turns of the search, and what it finds in 01's words.
+-- The turns of the search, and what it finds in the promise's words.
 use mathlib.Core.Path.{◌≡◌, ◌∙◌, subst}
 use mathlib.Core.Logic.{⊎_elim, ◌↔◌}
 use mathlib.Core.List.{List}

@@ -1,5 +1,5 @@
 -- What the search over candidates has settled so far, and what it finds. Only the proofs of the
--- sweep need it; the promise speaks of 01's first candidate.
+-- sweep need it; the promise speaks of the first candidate of all.
 use Rattle.std.specs.Prelude.{◌≡◌, Bool, true, false, List, ℕ, ◌+◌, ◌≤◌, ◌<◌, length}
 use Rattle.sets.specs.Sets.{In}
 use Rattle.grammar.specs.declared.Cell.{Cell}

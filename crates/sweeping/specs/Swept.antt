@@ -1,4 +1,4 @@
--- What a sweep answers: 01, "The answer is `two` with the first candidate that has two trees, or
+-- What a sweep answers: "The answer is `two` with the first candidate that has two trees, or
 -- `clear`".
 use Rattle.std.specs.Prelude.{◌≡◌, List, ◌++◌, ◌↔◌, ℕ, ◌-◌, ◌≤◌, ◌<◌, length, replicate}
 use Rattle.grammar.specs.declared.Cell.{Cell}
@@ -24,7 +24,7 @@ pub record Bounded (g : Rules) (k : ℕ) : Type 0 where
   pub few : arrangements (terminal_count g) k ≤ 4294967296
 
 -- the answer up to k: clear, and no token; or the first candidate that has two trees, and no
--- shorter sequence has two. m is how many candidates were tried. 01: "The answer's token places
+-- shorter sequence has two. m is how many candidates were tried. "The answer's token places
 -- past that sentence are 0; on `clear` all of them are, and the sentence's length too"
 pub data Swept (g : Rules) (k : ℕ) (r : Sentence) (m : ℕ) : Type 0 where
   clear : Clear g k → r.count ≡ 0 → r.tokens ≡ replicate 64 no_token

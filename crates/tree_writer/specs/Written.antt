@@ -1,6 +1,5 @@
--- What a tree memory holds after a call for trees: 01, "Trees, choices, span sheet", last
--- paragraph, and refusal 22; and where a user sees a part of them, by the rows shown: 02, "Closed
--- sections on a shared tour".
+-- What a tree memory holds after a call for trees: docs/FORMAT.md, "Tree rows", and refusal 22; and
+-- where a user sees a part of them, by the rows shown: docs/FORMAT.md, "Closed nodes".
 use Rattle.std.specs.Prelude.{List, [], ◌++◌, ℕ, ◌*◌, ◌-◌, ◌/◌, length, replicate}
 use Rattle.std.proofs.Math.Option.{Option, none, some}
 use Rattle.grammar.specs.Trees.{Tree}

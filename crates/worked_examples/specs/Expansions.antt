@@ -1,5 +1,5 @@
--- Clause sheets and the rule sheets that they stand for (02, request 2), both as they are printed,
--- as one table.
+-- Clause sheets and the rule sheets that they stand for (docs/FORMAT.md, "The clause sheet"), both
+-- as they are printed, as one table.
 use Rattle.std.specs.Prelude.{◌≡◌, List, [], ◌∷◌, ◌++◌}
 use Prim.Native.String.{String}
 use Rattle.sheets.specs.Items.{Reading, accepted, refused}

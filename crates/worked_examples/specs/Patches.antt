@@ -1,5 +1,4 @@
--- P1 to P9 of 01, "Patches to try", with the sheets as it prints them, and rules that loop (02,
--- request 13), as one table.
+-- The patches P1 to P9, with their sheets as they are printed, and rules that loop, as one table.
 use Rattle.std.specs.Prelude.{List, [], ◌∷◌, ◌++◌, ℕ}
 use Prim.Native.String.{String}
 use Rattle.worked_examples.specs.Bytes.{bytes}
@@ -41,7 +40,7 @@ abbrev pub p9 : List ℕ
 p9 = rules
     "0 U 1 - single\n1 U 2 - none\n1 U 3 - none\n2 B 4 4 indent\n3 B 4 4 none\n4 A 0 - none\n"
 
--- rules that loop: 02's, and a loop that no tree uses
+-- rules that loop, and a loop that no tree uses
 abbrev pub looping : List ℕ
 looping = rules "0 U 0 - none\n0 A 0 - none\n"
 
