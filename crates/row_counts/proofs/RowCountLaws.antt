@@ -8,7 +8,6 @@ use Rattle.grammar.specs.Rows.{row_count}
 use Rattle.grammar.proofs.ChoiceLaws.{first_unique, second_tree_unique}
 use Rattle.grammar.proofs.VerdictLaws.{none_not_one, none_not_two, one_not_two}
 use Rattle.row_counts.specs.declared.RowCount.{RowCount}
-use Rattle.row_counts.specs.declared.RowCount.TheVariants as RowCount
 use Rattle.row_counts.specs.RowCounts.{Counted, treeless, single, both, Tells}
 use Rattle.row_counts.specs.Capped.{capped}
 use Rattle.grammar.specs.Distinct.{Distinct}

@@ -221,28 +221,12 @@ module _ {g : Grammar} {w : Word} {goal a i l total : ℕ} (f : Formed g)
           (aim_fork st.seeking seek stepped.1).1
           (aim_fork st.seeking seek stepped.1).2
         where
-          go : {ts : List Pending} (u : Tree) → x.second ≡ u → st ≡ node_shape st.seeking u
-              → word u ≡ part w i l → AllFirst (rules_of g) ts
-              → Fork (rules_of g) ts (kids u i ++ []) → Onway (rules_of g) w goal total d
-          go (unary A u) q e v fs (now {t = t} b) =
-              let kind : st.kind ≡ 2 = ap (λ (y : Step). y.kind) e in
-              let fst : st.first ≡ root u = ap (λ (y : Step). y.first) e in
-              let y = o.low (omega arith) in
-              record {
-                beside = record {
-                  small = λ m. absurd (not_both y.0 m);
-                  fits = λ m. absurd
-                      (not_both y.0 m);
-                  there = λ m. absurd (not_both y.0 m);
-                };
-                on =
-                    λ own total' z s. rw (y.2, y.3)
-                    (going t u d.name i l fs.0 b
-                    (sym (second_rooted b) ∙ sym fst ∙ sym y.1)
-                    (sym (second_spelled b) ∙ v) x.fits own total' 0
-                    (z.alone y.0 ∙ one_is) s (rw q (omega arith)));
-              }
-          go (binary A u u') q e v fs (now {t = t} b) =
+          go_both : (A : ℕ) (u u' : Tree) {ts : List Pending} → x.second ≡ binary A u u'
+              → st ≡ node_shape st.seeking (binary A u u') → word (binary A u u') ≡ part w i l
+              → AllFirst (rules_of g) ts → Fork (rules_of g) ts (kids (binary A u u') i ++ [])
+              → Onway (rules_of g) w goal total d
+          go_both A u u' q e v fs (later p (later {ps = ps} _ x20)) = elim x20 [ ]
+          go_both A u u' q e v fs (now {t = t} b) =
               let kind : st.kind ≡ 3 = ap (λ (y : Step). y.kind) e in
               let fst : st.first ≡ root u = ap (λ (y : Step). y.first) e in
               let snd : st.second ≡ root u' = ap (λ (y : Step). y.second) e in
@@ -276,7 +260,7 @@ module _ {g : Grammar} {w : Word} {goal a i l total : ℕ} (f : Formed g)
                     (going t u d.name i st.split fs.0 b (rt ∙ sym y.1) vt fl own
                     total' (row_count u') (z.other y.0 u' ft') s (rw q (omega arith)));
               }
-          go (binary A u u') q e v fs (later p (now {t = t} b)) =
+          go_both A u u' q e v fs (later p (now {t = t} b)) =
               let kind : st.kind ≡ 3 = ap (λ (y : Step). y.kind) e in
               let fst : st.first ≡ root u = ap (λ (y : Step). y.first) e in
               let snd : st.second ≡ root u' = ap (λ (y : Step). y.second) e in
@@ -310,6 +294,32 @@ module _ {g : Grammar} {w : Word} {goal a i l total : ℕ} (f : Formed g)
                     (rt ∙ sym y.1) vt fr own total' (row_count u) (z.other y.0 u ft')
                     s (rw q (omega arith)));
               }
+
+          go : {ts : List Pending} (u : Tree) → x.second ≡ u → st ≡ node_shape st.seeking u
+              → word u ≡ part w i l → AllFirst (rules_of g) ts
+              → Fork (rules_of g) ts (kids u i ++ []) → Onway (rules_of g) w goal total d
+          go {ts = ts} (empty _) q e v fs x7 = elim x7 [ ]
+          go {ts = ts} (leaf _ _) q e v fs x9 = elim x9 [ ]
+          go (unary A _) q e v fs (later {t = t} {ps = ps} p x29) = elim x29 [ ]
+          go (unary A u) q e v fs (now {t = t} b) =
+              let kind : st.kind ≡ 2 = ap (λ (y : Step). y.kind) e in
+              let fst : st.first ≡ root u = ap (λ (y : Step). y.first) e in
+              let y = o.low (omega arith) in
+              record {
+                beside = record {
+                  small = λ m. absurd (not_both y.0 m);
+                  fits = λ m. absurd
+                      (not_both y.0 m);
+                  there = λ m. absurd (not_both y.0 m);
+                };
+                on =
+                    λ own total' z s. rw (y.2, y.3)
+                    (going t u d.name i l fs.0 b
+                    (sym (second_rooted b) ∙ sym fst ∙ sym y.1)
+                    (sym (second_spelled b) ∙ v) x.fits own total' 0
+                    (z.alone y.0 ∙ one_is) s (rw q (omega arith)));
+              }
+          go (binary A u u') q e v fs x = go_both A u u' q e v fs x
 
     -- the children of a node lie in the span
     pub split_le : st.split ≤ l

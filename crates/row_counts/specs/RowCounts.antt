@@ -6,7 +6,6 @@ use Rattle.grammar.specs.Trees.{Tree, Rules, NoTree, OneTree, TwoTrees}
 use Rattle.grammar.specs.Choices.{FirstTree, SecondTree}
 use Rattle.grammar.specs.Rows.{row_count}
 use Rattle.row_counts.specs.declared.RowCount.{RowCount}
-use Rattle.row_counts.specs.declared.RowCount.TheVariants as RowCount
 
 -- m and n are the row counts of the first and the second tree of w, 0 for one that the verdict
 -- lacks
