@@ -75,7 +75,8 @@ begins_apart : (q : AtLeast) (N n : ℕ) (e : Expr item) (s : Rule) → Under N 
 begins_apart from_one N n e s u h q c = not_fresh N n e u h (same_target refl q c)
 begins_apart C.from_zero N n e s u h q c = never_alike refl q c
 
-apart_rules : {s : Sort} (N : ℕ) (e : Expr s) (n : ℕ) → Under N e → N ≤ n → AllApart (expr_rules e n)
+apart_rules : {s : Sort} (N : ℕ) (e : Expr s) (n : ℕ) → Under N e → N ≤ n
+    → AllApart (expr_rules e n)
 apart_rules N (nonterminal L) n u h = tt
 apart_rules N (a_part e) n u h = apart_rules N e n u h
 apart_rules N (terminal a) n u h = ((λ s m c. Memᴰ.not-nil m), tt)

@@ -77,7 +77,8 @@ expr_rules (or e f) n = expr_rules e n ++ expr_rules f (n + size e)
 -- the rules of a sheet whose new nonterminals begin with n, line by line
 abbrev pub expand_from : Clauses → ℕ → Rules
 expand_from C.no_line n = []
-expand_from (a_line L e c) n = (alternative_rules L e n ++ expr_rules e n) ++ expand_from c (n + size e)
+expand_from (a_line L e c) n =
+    (alternative_rules L e n ++ expr_rules e n) ++ expand_from c (n + size e)
 
 -- the rules of one left, in the order given
 abbrev pub of : ℕ → Rules → Rules
