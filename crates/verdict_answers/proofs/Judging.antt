@@ -8,11 +8,9 @@ use Rattle.grammar.specs.Layout.{Word}
 use Rattle.grammar.specs.Trees.{Rules}
 use Rattle.grammar.specs.SpanSheet.{pairs}
 use Rattle.grammar.specs.declared.Verdict.{Verdict}
-use Rattle.grammar.specs.declared.Verdict.TheVariants as Verdict
 use Rattle.chart.specs.Sheets.{Judged}
 use Rattle.sheets.specs.declared.Fault.TheVariants as Fault
 use Rattle.sheets.specs.declared.Answer.{Answer}
-use Rattle.sheets.specs.declared.Answer.TheVariants as Answer
 use Rattle.answering.specs.Verdict.{VerdictOn, short, judging}
 use Rattle.answering.proofs.Judging.{filled_by}
 
