@@ -14,7 +14,7 @@ use Rattle.sets.proofs.Sets.{in_zero}
 use Rattle.sets.proofs.Says.{true_not_false}
 use Rattle.grammar.specs.Trees.{Rules}
 use Rattle.grammar.proofs.Lists.{mem_every}
-use Rattle.pairs.specs.Shapes.{all, Head}
+use Rattle.pairs.specs.Shapes.{Head}
 use Rattle.pairs.specs.Relations.{Offset}
 use Rattle.pairs.specs.Settings.{Corner, Point, Setting, setting, whole₁, whole₂, relation_in}
 use Rattle.pairs.specs.Facts.{Fact, stand, against, sorts, behind, couples, behind_in}
