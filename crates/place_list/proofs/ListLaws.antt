@@ -47,6 +47,7 @@ ordered_snoc (f ∷ es) e o b =
     (every_snoc (Sooner f) es e o.0 b.0, ordered_snoc es e o.1 b.1)
 
 mem_left : {e : Entry} (es fs : List Entry) → Memᴰ e es → Memᴰ e (es ++ fs)
+mem_left {e = e} [] fs x' = elim x' [ ]
 mem_left (f ∷ es) fs (Memᴰ.head h) = Memᴰ.head h
 mem_left (f ∷ es) fs (Memᴰ.tail m) = Memᴰ.tail (mem_left es fs m)
 
