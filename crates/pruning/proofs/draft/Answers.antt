@@ -1,5 +1,4 @@
 -- As the candidate's own sentence is spelled, into 7 places.
-use Prim.Native.Nat.{◌-◌}
 use mathlib.Core.Path.{refl}
 use native.Mathlib.Omega.{arith}
 use Rattle.candidates.proofs.Spelling.{spelled_none, spelled_turn, spelled_front}

@@ -1,5 +1,5 @@
 use mathlib.Core.Path.{◌≡◌, subst}
-use Prim.Native.Nat.{ℕ, ◌-◌}
+use Prim.Native.Nat.{ℕ}
 use native.Mathlib.Omega.{arith}
 use Rattle.pruning.specs.Tables.{Gathered}
 use Rattle.pruning.proofs.TableLaws.{gathered_none, gathered_skip, gathered_more}
