@@ -18,7 +18,6 @@ use Rattle.grammar.specs.Trees.{Rules, Derives, TwoTrees}
 use Rattle.grammar.specs.SpanSheet.{pairs, first_word, second_word}
 use Rattle.marks.specs.Half.{token_at}
 use Rattle.grammar.specs.declared.Verdict.{Verdict}
-use Rattle.grammar.specs.declared.Verdict.TheVariants as Verdict
 use Rattle.grammar.specs.Verdicts.{Holds}
 use Rattle.chart.specs.Leaves.{Leaf, LeafAt}
 use Rattle.chart.specs.Sheets.{Exact, Begun}

@@ -3,7 +3,6 @@ use Rattle.std.specs.Prelude.{Bool}
 use Rattle.sets.specs.Says.{Says}
 use Rattle.grammar.specs.Trees.{Rules}
 use Rattle.grammar.specs.declared.Verdict.{Verdict}
-use Rattle.grammar.specs.declared.Verdict.TheVariants as Verdict
 use Rattle.column_ranges.specs.Ranges.{Ranges, SomeChoiceGives}
 use Rattle.column_search.specs.declared.Flags.{Flags}
 

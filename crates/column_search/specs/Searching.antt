@@ -4,7 +4,6 @@ use Rattle.grammar.specs.Trees.{Rules}
 use Rattle.sets.specs.Sets.{In}
 use Rattle.grammar.specs.SpanSheet.{pairs, first_word, second_word}
 use Rattle.grammar.specs.declared.Verdict.{Verdict}
-use Rattle.grammar.specs.declared.Verdict.TheVariants as Verdict
 use Rattle.spans.specs.Changes.{Past}
 use Rattle.column_ranges.specs.Ranges.{Ranges, SomeChoiceGives}
 use Rattle.column_ranges.specs.RangeSentences.{range}
