@@ -1,7 +1,7 @@
 -- `sweeping::counted` meets its contract: the terminals of the set are those of the sheet, and its
 -- lengths those of nonterminal 0.
 use mathlib.Core.Logic.{◌↔◌}
-use Prim.Native.Nat.{ℕ, ◌<◌, ◌≤◌, ◌^◌}
+use Prim.Native.Nat.{ℕ, ◌≤◌}
 use Rattle.sets.specs.Sets.{In}
 use Rattle.grammar.specs.Trees.{Rules}
 use Rattle.lengths.specs.Lengths.{CanHave}

@@ -1,7 +1,7 @@
 -- The search meets its contract. Outer loop: no shorter candidate has two trees. Inner loop: no
 -- earlier one has. The measures are the lengths, and the candidates with the cells, that are left.
 use mathlib.Core.Path.{refl, ◌∙◌}
-use Prim.Native.Nat.{◌-◌, ◌≤◌}
+use Prim.Native.Nat.{◌≤◌}
 use native.Mathlib.Omega.{arith}
 use borrow.Author.Rules.{rules}
 use borrow.Author.Tests.{not-true, not-false}
