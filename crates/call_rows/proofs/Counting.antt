@@ -12,10 +12,8 @@ use Rattle.grammar.specs.SpanSheet.{pairs}
 use Rattle.grammar.proofs.Existence.{first_of_derives}
 use Rattle.sheets.specs.declared.Fault.TheVariants as Fault
 use Rattle.sheets.specs.declared.Answer.{Answer}
-use Rattle.sheets.specs.declared.Answer.TheVariants as Answer
 use Rattle.answering.specs.Verdict.{SheetFilled}
 use Rattle.row_counts.specs.declared.RowCount.{RowCount}
-use Rattle.row_counts.specs.declared.RowCount.TheVariants as RowCount
 use Rattle.row_counts.specs.RowCounts.{treeless, single, both, Tells}
 use Rattle.row_counts.specs.Nulls.{HasFirsts}
 use Rattle.call_rows.specs.declared.RowsReply.{RowsReply}

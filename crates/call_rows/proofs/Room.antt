@@ -17,7 +17,6 @@ use Rattle.tree_writer.specs.Written.{in_full_of, row_room}
 use Rattle.sheets.specs.declared.Fault.{Fault}
 use Rattle.sheets.specs.Refusals.{number_of}
 use Rattle.sheets.specs.declared.Answer.{Answer}
-use Rattle.sheets.specs.declared.Answer.TheVariants as Answer
 use Rattle.answering.specs.declared.TreesReply.{TreesReply}
 use Rattle.sheets.specs.Items.{accepted}
 use Rattle.sheets.proofs.Once.{apart}
@@ -27,7 +26,6 @@ use Rattle.answering.specs.Trees.{trees_reply_of, Shown, TreesOf}
 use Rattle.answering.specs.Trees as Show
 use Rattle.answering.proofs.Settled.{same_sheets, sheets_apart}
 use Rattle.row_counts.specs.declared.RowCount.{RowCount}
-use Rattle.row_counts.specs.declared.RowCount.TheVariants as RowCount
 use Rattle.row_counts.specs.RowCounts.{Counted, treeless, single, both, Tells}
 use Rattle.call_rows.specs.declared.RowsReply.{RowsReply}
 use Rattle.call_rows.specs.Rows.{short, counting, RowsOf, refusing, reading}
