@@ -14,20 +14,16 @@ use Rattle.sets.specs.Sets.{In}
 use Rattle.grammar.specs.declared.Rule.{Rule}
 use Rattle.grammar.specs.declared.Grammar.{Grammar}
 use Rattle.grammar.specs.declared.Clause.{Clause}
-use Rattle.grammar.specs.declared.Clause.TheVariants as Clause
 use Rattle.grammar.specs.Trees.{Rules}
 use Rattle.grammar.specs.Content.{rules_of, Formed, SmallRule}
 use Rattle.grammar.proofs.Lists.{mem_every, get_elem?_take}
 use Rattle.grammar.proofs.ByKind.{get_elem?_lt}
 use Rattle.grammar.proofs.ChoiceLaws.{member_at}
 use Rattle.fields.specs.declared.Lay.{Lay}
-use Rattle.fields.specs.declared.Lay.TheVariants as Lay
 use Rattle.fields.specs.declared.LayWord.{LayWord}
-use Rattle.fields.specs.declared.LayWord.TheVariants as LayWord
 use Rattle.fields.specs.Words.{lay_of}
 use Rattle.fields.specs.Answers.{as_lay}
 use Rattle.lines.specs.declared.RuleLine.{RuleLine}
-use Rattle.lines.specs.declared.RuleLine.TheVariants as RuleLine
 use Rattle.sheets.specs.declared.Fault.TheVariants as Fault
 use Rattle.sheets.specs.Items.{accepted, refused}
 use Rattle.sheets.specs.RuleSheets.{rule_sheet}
