@@ -16,7 +16,7 @@ use Rattle.pair_steps.specs.Ranks.{Ranked}
 use Rattle.doubt_list.specs.Marks.{Bit}
 use Rattle.doubt_marks.specs.Standing.{span_frame}
 use Rattle.doubt_marks.specs.Growing.{Grows, Upto, OneBit}
-use Rattle.doubt_marks.specs.Marking.{ByFrame}
+use Rattle.doubt_marks.specs.Marking.{ByFrame, PairOver}
 
 module _ (t : List ℕ) (p q : ℕ) (l : q < 128) (h : 2 * p + 1 < length t) where
   at : ℕ
@@ -81,6 +81,11 @@ grows_still n =
           (n p q d);
       only = λ p q l i. inl i;
     }
+
+-- two shapes that are one, cut at one place
+pub pair_still : {ns t : List ℕ} {f : Frame} {i j : ℕ} {l : List ℕ} → i ≡ j → f.cut ≡ f.split
+    → Grows (PairOver ns t f i j) l l
+pair_still e h = grows_still (λ p q d. d.differ e h)
 
 pub grows_none : {D : ℕ → ℕ → ℕ → Type 0} {l : List ℕ} → Grows (Upto 0 D) l l
 grows_none = grows_still (λ p q d. omega (arith, d.low))

@@ -363,6 +363,9 @@ pub record OverSpan (ns t : List ℕ) (σ : Setting) (i j : ℕ) : Type 0 where
 child_in : (h : Form) (v : Node) {C : ℕ} → v.kids ≡ kid_count h → v.first ≡ first_of h
     → v.second ≡ second_of h
     → Memᴰ C (children h) → ChildOf v C
+child_in (tip _ _) v {C = C} e a b x6 = elim x6 [ ]
+child_in (one B l k) v {C = C} e a b (mathlib.Core.List.Memᴰ.tail x9) = elim x9 [ ]
+child_in (two B D k l) v {C = C} e a b (mathlib.Core.List.Memᴰ.tail (mathlib.Core.List.Memᴰ.tail x14)) = elim x14 [ ]
 child_in (one B l k) v e a b (Memᴰ.head d) = inl (omega arith, a ∙ sym d)
 child_in (two B D k l) v e a b (Memᴰ.head d) = inl (omega arith, a ∙ sym d)
 child_in (two B D k l) v e a b (Memᴰ.tail (Memᴰ.head d)) = inr (omega arith, b ∙ sym d)

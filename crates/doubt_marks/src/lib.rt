@@ -223,6 +223,7 @@ fn seen_by(nodes: &[u64], own: &[u64]) -> u64
 
 // Sets the bit of the rules of two shapes, if they differ in shape or cut and may stand over the
 // frame.
+#[tactic(auto, using(crate::proofs::GrowLaws::pair_still))]
 fn mark_pair(
     nodes: &[u64],
     table: &[u64],
