@@ -17,7 +17,6 @@ use Rattle.places.proofs.PaperLaws.{dissimilar_several}
 use Rattle.places.proofs.PlaceLaws.{place_iff, reached_place}
 use Rattle.places.proofs.ListLaws.{places_empty}
 use Rattle.sheets.specs.declared.Answer.{Answer}
-use Rattle.sheets.specs.declared.Answer.TheVariants as Answer
 use Rattle.sheets.specs.Items.{accepted}
 use Rattle.sheets.specs.RuleSheets.{rule_sheet}
 use Rattle.sheets.proofs.Accepted.{tokens_good}
@@ -46,6 +45,7 @@ count_two g w a es d s l = (
     not_two Answer.One s n t = one_not_two s t
     not_two Answer.Two s n t = n refl
     not_two Answer.Clear s n t = s
+    not_two Answer.Given s n t = elim s [ ]
     not_two (Answer.Refused f) s n t = s
 
 -- a nonterminal over a word is listed exactly if the start reaches it and there are two dissimilar

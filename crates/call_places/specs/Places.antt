@@ -9,7 +9,6 @@ use Rattle.sheets.specs.Items.{accepted}
 use Rattle.sheets.specs.declared.Fault.{Fault}
 use Rattle.sheets.specs.Refusals.{number_of, RefusedAs}
 use Rattle.sheets.specs.declared.Answer.{Answer}
-use Rattle.sheets.specs.declared.Answer.TheVariants as Answer
 use Rattle.answering.specs.Answers.{sheets, AnswerHolds}
 use Rattle.answering.specs.Verdict.{needed, SheetFilled}
 use Rattle.call_places.specs.declared.PlacesReply.{PlacesReply}
