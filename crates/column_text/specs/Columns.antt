@@ -2,7 +2,6 @@
 -- yes or no for each.
 use Rattle.std.specs.Prelude.{◌≡◌, Bool, true, false, List, [], ◌∷◌, ◌++◌, ℕ, length}
 use Rattle.sheets.specs.declared.Answer.{Answer}
-use Rattle.sheets.specs.declared.Answer.TheVariants as Answer
 use Rattle.text.specs.Output.{answer_text, head}
 use Rattle.column_search.specs.declared.Flags.{Flags}
 use Rattle.call_columns.specs.declared.ColumnsReply.{ColumnsReply}
