@@ -3,10 +3,8 @@
 use Rattle.std.specs.Prelude.{◌≡◌, List, [], ◌∷◌, ◌++◌, ℕ, length}
 use Rattle.printing.specs.Printing.{decimal}
 use Rattle.sheets.specs.declared.Answer.{Answer}
-use Rattle.sheets.specs.declared.Answer.TheVariants as Answer
 use Rattle.text.specs.Output.{answer_text, head}
 use Rattle.row_counts.specs.declared.RowCount.{RowCount}
-use Rattle.row_counts.specs.declared.RowCount.TheVariants as RowCount
 use Rattle.call_rows.specs.declared.RowsReply.{RowsReply}
 use Rattle.call_rows.specs.Rows.{RowsOf}
 
