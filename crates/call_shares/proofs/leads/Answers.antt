@@ -6,8 +6,7 @@ use Prim.Native.Nat.{ℕ, ◌≤◌, ◌<◌}
 use native.Mathlib.Omega.{arith}
 use Rattle.sets.proofs.Says.{holds, fails}
 use Rattle.call_shares.specs.Merge.{Leads}
-use Rattle.call_shares.proofs.leads.Statement.{statement}
-use Rattle.call_shares.proofs.leads.Tie as tie
+use Rattle.call_shares.proofs.leads.Goals as goal
 
 same_length : {n N m M : ℕ} → 1 ≤ n → n ≡ m → (Leads n N m M → N < M) × (N < M → Leads n N m M)
 same_length {n} {N} {m} {M} h e =
@@ -28,33 +27,30 @@ other_length {n} {N} {m} {M} h k e =
     go (inr (inl x)) = x
     go (inr (inr x)) = absurd (e x.0)
 
-returns : tie.Need-returns
-returns c = fails (λ l. omega (arith, l.reports, c.if1.true))
+pub returns-then-n-eq0 : goal.returns-then-n-eq0
+returns-then-n-eq0 c = fails (λ l. omega (arith, l.reports, c.if-n-eq0.true))
 
-returns-2 : tie.Need-returns-2
-returns-2 c =
-    holds (record { reports = omega (arith, c.before.if1.false); sooner = inl c.if2.true })
+pub returns-then-m-eq0 : goal.returns-then-m-eq0
+returns-then-m-eq0 c =
+    holds (record { reports = omega (arith, c.if-n-eq0.false); sooner = inl c.if-m-eq0.true })
 
-returns-3 : tie.Need-returns-3
-returns-3 c =
-    let a = c.before.before.before.args in
-    let q = same_length (omega (arith, c.before.before.if1.false)) c.if3.true in
+pub returns-then-n-m : goal.returns-then-n-m
+returns-then-n-m c =
+    let a = c.args in
+    let q = same_length (omega (arith, c.if-n-eq0.false)) c.if-n-m.true in
     record {
       is = λ e. q.1 (ltb-true a.number a.other e);
       isnt =
           λ e l. omega (arith, ltb-false a.number a.other e, q.0 l);
     }
 
-returns-4 : tie.Need-returns-4
-returns-4 c =
-    let a = c.before.before.before.args in
-    let q = other_length (omega (arith, c.before.before.if1.false)) c.before.if2.false
-    c.if3.false in
+pub returns : goal.returns
+returns c =
+    let a = c.args in
+    let q = other_length (omega (arith, c.if-n-eq0.false)) c.if-m-eq0.false
+    c.if-n-m.false in
     record {
       is = λ e. q.1 (ltb-true a.n a.m e);
       isnt =
           λ e l. omega (arith, ltb-false a.n a.m e, q.0 l);
     }
-
-pub leads-spec : {M : Type 1} → statement M
-leads-spec = tie.close (tie.spec returns returns-2 returns-3 returns-4)
