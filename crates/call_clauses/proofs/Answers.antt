@@ -17,7 +17,6 @@ use Rattle.clauses.proofs.Verdicts.{no_reading, one_reading, two_readings, two_t
 use Rattle.clause_sheets.specs.ClauseSheets.{clause_sheet}
 use Rattle.clause_sheets.proofs.Meaning.{meant}
 use Rattle.sheets.specs.declared.Answer.{Answer}
-use Rattle.sheets.specs.declared.Answer.TheVariants as Answer
 use Rattle.answering.specs.declared.Reply.{Reply}
 use Rattle.sweep_answers.specs.declared.SweepReply.{SweepReply}
 use Rattle.answering.specs.Answers.{AnswerHolds}

@@ -14,11 +14,8 @@ use Rattle.sets.proofs.Basics.{clash}
 use Rattle.sets.proofs.Basics.{both}
 use Rattle.grammar.specs.declared.Rule.{Rule}
 use Rattle.grammar.specs.declared.Clause.{Clause}
-use Rattle.grammar.specs.declared.Clause.TheVariants as Clause
 use Rattle.grammar.specs.declared.UnaryMark.{UnaryMark}
-use Rattle.grammar.specs.declared.UnaryMark.TheVariants as UnaryMark
 use Rattle.grammar.specs.declared.BinaryMark.{BinaryMark}
-use Rattle.grammar.specs.declared.BinaryMark.TheVariants as BinaryMark
 use Rattle.grammar.specs.Layout.{Every}
 use Rattle.grammar.specs.Trees.{Rules}
 use Rattle.grammar.specs.Content.{SmallRule}
@@ -27,19 +24,15 @@ use Rattle.grammar.proofs.Lists.{mem_every, every_append}
 use Rattle.printing.specs.Printing.{decimal, field}
 use Rattle.fields.specs.declared.Operand.{Operand}
 use Rattle.fields.specs.declared.Kind.{Kind}
-use Rattle.fields.specs.declared.Kind.TheVariants as Kind
 use Rattle.fields.specs.declared.Lay.{Lay}
-use Rattle.fields.specs.declared.Lay.TheVariants as Lay
 use Rattle.fields.specs.Pieces.{pieces, is_empty, same_bytes}
 use Rattle.fields.specs.Words.{numeral_of, operand_of, lay_of, number_operand_of}
 use Rattle.fields.specs.Fields.{on_value}
 use Rattle.fields.proofs.Cuts.{FreeOf, pieces_free, pieces_cut}
 use Rattle.lines.specs.declared.RuleLine.{RuleLine}
-use Rattle.lines.specs.declared.RuleLine.TheVariants as RuleLine
 use Rattle.lines.specs.RuleLines.{rule_of_of, rule_fields, rule_line_of}
 use Rattle.lines.specs.Keys.{key_of}
 use Rattle.lines.specs.declared.Turn.{Turn}
-use Rattle.lines.specs.declared.Turn.TheVariants as Turn
 use Rattle.lines.proofs.KeyLaws.{Forward, key_alike}
 use Rattle.rule_text.specs.RuleText.{unary_lay_of, binary_lay_of, dash, clause_text, rule_text_of, rules_text}
 use Rattle.sheets.specs.Items.{Step, next, stop, accepted, refused, step_at_of, on_step, items_from}
@@ -410,6 +403,7 @@ any_not p (a ∷ l) f = go (p a) refl (any_not p l (λ x m. f x (Memᴰ.tail m))
 
 place_in : {s : Rule} (l m : Rules) → Memᴰ s l
     → (p : ℕ) × (p < length l) × (get_elem? (l ++ m) p ≡ some s)
+place_in {s = s} [] m x' = elim x' [ ]
 place_in (a ∷ l) m (Memᴰ.head e) = (0, omega arith, ap some (sym e))
 place_in (a ∷ l) m (Memᴰ.tail h) = let z = place_in l m h in
     (suc z.0, omega (arith, z.1), z.2)

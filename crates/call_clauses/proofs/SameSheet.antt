@@ -17,7 +17,6 @@ use Rattle.sheets.specs.RuleSheets.{rule_sheet}
 use Rattle.clause_sheets.specs.ClauseSheets.{clause_sheet}
 use Rattle.clause_sheets.proofs.Good.{sheet_good, sheet_forward}
 use Rattle.sheets.specs.declared.Answer.{Answer}
-use Rattle.sheets.specs.declared.Answer.TheVariants as Answer
 use Rattle.answering.specs.declared.Reply.{Reply}
 use Rattle.answering.specs.declared.TreesReply.{TreesReply}
 use Rattle.sweep_answers.specs.declared.SweepReply.{SweepReply}
