@@ -24,32 +24,30 @@ search-init c = (
 )
 
 pub overflow_cast-n : goal.overflow_cast-n
-overflow_cast-n c = omega (arith, c.if-k-n.false, c.requires.le_k.1)
+overflow_cast-n c = omega (arith, c.requires.le_k.1)
 
 pub has-requires : goal.has-requires
 has-requires c =
-    omega (arith, c.if-k-n.false, c.requires.le_k.1)
+    omega (arith, c.requires.le_k.1)
 
 pub overflow_add-n : goal.overflow_add-n
 overflow_add-n c = omega (
   arith,
-  c.if-k-n.false,
   c.requires.le_k.1,
 )
 
 pub search-smaller-then-not-has : goal.search-smaller-then-not-has
-search-smaller-then-not-has c = omega (arith, c.if-k-n.false)
+search-smaller-then-not-has c = omega arith
 
 pub search-preserved-then-not-has : goal.search-preserved-then-not-has
 search-preserved-then-not-has c =
     let v = c.search.invariant in (
       omega arith,
-      omega (arith, c.if-k-n.false),
+      omega arith,
       passed_over v.2
           c.requires.admits
           (omega (
             arith,
-            c.if-k-n.false,
             c.requires.le_k.1,
           )) (c.has.ensures.isnt
           c.if-not-has.true),
@@ -61,8 +59,8 @@ search-preserved-then-not-has c =
 pub open_sheet-requires : goal.open_sheet-requires
 open_sheet-requires c =
     let m = pairs_mono c.search.n c.args.k
-    (omega (arith, c.if-k-n.false)) in record {
-      n_bound = omega (arith, c.if-k-n.false, c.requires.le_k.1);
+    (omega arith) in record {
+      n_bound = omega (arith, c.requires.le_k.1);
       n_in_bounds = omega (
         arith,
         c.requires.k_in_bounds,
@@ -71,7 +69,6 @@ open_sheet-requires c =
       );
       n_in_bounds_2 = omega (
         arith,
-        c.if-k-n.false,
         c.requires.k_in_bounds_2.0,
         c.search.invariant.5,
       );
@@ -84,7 +81,6 @@ first-c-requires c = record {
     c.search.invariant.0,
     omega (
       arith,
-      c.if-k-n.false,
       c.requires.le_k.1,
     ),
   );
@@ -98,7 +94,6 @@ loop-s-init c = (
   c.open_sheet.ensures.mirrored,
   omega (
     arith,
-    c.if-k-n.false,
     c.requires.le_k.0,
   ),
   refl,
@@ -108,14 +103,10 @@ pub look-requires : goal.look-requires
 look-requires c =
     let t = c.loop-s.invariant.0 in
     let m = pairs_mono c.search.n c.args.k
-    (omega (
-      arith,
-      c.if-k-n.false,
-    )) in record {
+    (omega arith) in record {
       n_bound = (
         omega (
           arith,
-          c.if-k-n.false,
           c.requires.le_k.1,
         ),
         t.known,
@@ -140,7 +131,6 @@ successor-s-requires c = record {
     c.search.invariant.0,
     omega (
       arith,
-      c.if-k-n.false,
       c.requires.le_k.1,
     ),
     c.loop-s.invariant.0.known,
@@ -153,7 +143,6 @@ pub loop-s-smaller-then-look : goal.loop-s-smaller-then-look
 loop-s-smaller-then-look c =
     let s : c.search.n ≤ 7 = omega (
       arith,
-      c.if-k-n.false,
       c.requires.le_k.1,
     ) in
     let f = c.successor-s.ensures.next
@@ -181,7 +170,6 @@ pub overflow_add-b : goal.overflow_add-b
 overflow_add-b c = omega (
   arith,
   c.loop-s.invariant.0.known,
-  c.if-k-n.false,
   c.requires.le_k.1,
 )
 
@@ -205,25 +193,18 @@ loop-s-preserved c = (
 pub overflow_add-n-in-search : goal.overflow_add-n-in-search
 overflow_add-n-in-search c = omega (
   arith,
-  c.if-k-n.false,
   c.requires.le_k.1,
 )
 
 pub search-smaller : goal.search-smaller
-search-smaller c = omega (
-  arith,
-  c.if-k-n.false,
-)
+search-smaller c = omega arith
 
 pub search-preserved : goal.search-preserved
 search-preserved c =
     let v = c.search.invariant in
     let t = c.loop-s.invariant.0 in (
       omega arith,
-      omega (
-        arith,
-        c.if-k-n.false,
-      ),
+      omega arith,
       longer v.2 t.before
           (ruled_out t c.look.ensures.looked.0 c.if-look.true)
           (c.successor-s.ensures.absent (not-true _ c.if-not-s.true)),
@@ -256,10 +237,7 @@ returns-then-b-n c =
     let v = c.search.invariant in record {
       searched = hit (record {
         low = v.0;
-        high = omega (
-          arith,
-          c.if-k-n.false,
-        );
+        high = omega arith;
         before = c.loop-s.invariant.0.before;
         two = c.look.ensures.looked.0.two
             c.if-look.false (omega (arith, c.if-b-n.true));
