@@ -2,9 +2,7 @@
 use Rattle.std.specs.Prelude.{cond, ℕ, ◌+◌, ◌*◌, ltb}
 use Rattle.sheets.specs.Refusals.{number_of}
 use Rattle.sheets.specs.declared.Answer.{Answer}
-use Rattle.sheets.specs.declared.Answer.TheVariants as Answer
 use Rattle.call_always.specs.declared.Told.{Told}
-use Rattle.call_always.specs.declared.Told.TheVariants as Told
 
 -- an answer's code: 0 none, 1 one, 2 two, 3 clear, 4 given, 100 + N refused-N
 abbrev pub code_of : Answer → ℕ

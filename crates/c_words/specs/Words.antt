@@ -1,10 +1,10 @@
 -- Numbers in lent words: a sentence, row counts, flags and the numbers of a share as words, and
 -- words at the front of the lent ones.
-use Rattle.std.specs.Prelude.{◌≡◌, Bool, true, false, List, [], ◌∷◌, ◌++◌, ℕ, ◌≤◌, ◌<◌, length, take, drop}
+use Rattle.std.specs.Prelude.{◌≡◌, Bool, true, false, List, [], ◌∷◌, ◌++◌, ℕ, ◌≤◌, ◌<◌, length}
+use Rattle.std.specs.Prelude.{take, drop}
 use Rattle.grammar.specs.declared.Sentence.{Sentence}
 use Rattle.grammar.specs.Layout.{Word, line, col}
 use Rattle.row_counts.specs.declared.RowCount.{RowCount}
-use Rattle.row_counts.specs.declared.RowCount.TheVariants as RowCount
 use Rattle.column_search.specs.declared.Flags.{Flags}
 
 -- n words stand at the front of the lent ones, and those past them are unchanged; fewer than n lent
