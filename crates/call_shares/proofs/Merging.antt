@@ -11,13 +11,11 @@ use lib.ListN.{length, replicate}
 use Rattle.grammar.specs.declared.Cell.{Cell}
 use Rattle.grammar.specs.Trees.{Rules, TwoTrees}
 use Rattle.grammar.specs.Candidates.{Terminal, Candidate, Earlier, sentence}
-use Rattle.grammar.specs.Sweeps.{Clear}
 use Rattle.grammar.proofs.SweepLaws.{sentence_length}
 use Rattle.arrangement_numbers.specs.Numbers.{number}
 use Rattle.arrangement_numbers.specs.Shares.{first_of_share, total, Reports}
 use Rattle.arrangement_numbers.proofs.ShareLaws.{number_before, share_of, shares_clear}
 use Rattle.sheets.specs.declared.Answer.{Answer}
-use Rattle.sheets.specs.declared.Answer.TheVariants as Answer
 use Rattle.call_shares.specs.declared.ShareReply.{ShareReply}
 use Rattle.call_shares.specs.Share.{ShareOn, bound, many, racks, beyond, short, clear, two}
 use Rattle.call_shares.specs.Merge.{Refuses, Leads, Ahead, Merged, first_refuses}

@@ -18,7 +18,6 @@ use Rattle.arrangement_numbers.specs.Shares.{first_of_share, total}
 use Rattle.share_search.specs.Sharing.{Shared}
 use Rattle.share_search.specs.Sharing as Of
 use Rattle.sheets.specs.declared.Answer.{Answer}
-use Rattle.sheets.specs.declared.Answer.TheVariants as Answer
 use Rattle.call_shares.specs.declared.ShareReply.{ShareReply}
 use Rattle.call_shares.specs.Share.{share_reply_of, ShareTaken, ShareOn, clear, two}
 use Rattle.grammar.specs.Sentences.{no_token}

@@ -14,14 +14,12 @@ use Rattle.grammar.specs.declared.Cell.{Cell}
 use Rattle.grammar.specs.Trees.{Rules}
 use Rattle.grammar.specs.Sweeps.{Clear, FirstTwo, found, terminal_count, arrangements}
 use Rattle.grammar.specs.Candidates as Candidates
-use Rattle.grammar.specs.Sweeps as Sweeps
 use Rattle.grammar.proofs.SweepLaws.{answer_unique}
 use Rattle.sheets.specs.declared.Fault.{Fault}
 use Rattle.sheets.specs.Items.{accepted}
 use Rattle.sheets.proofs.Once.{apart}
 use Rattle.sheets.specs.RuleSheets.{rule_sheet}
 use Rattle.sheets.specs.declared.Answer.{Answer}
-use Rattle.sheets.specs.declared.Answer.TheVariants as Answer
 use Rattle.sweep_answers.specs.declared.SweepReply.{SweepReply}
 use Rattle.sweep_answers.specs.Sweep.{sweep_limit, no_sentence, SweepTaken, SweepOf}
 use Rattle.sweep_answers.specs.Sweep as Sweep

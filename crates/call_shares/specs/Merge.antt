@@ -2,7 +2,6 @@
 -- length is the sweep's sentence".
 use Rattle.std.specs.Prelude.{◌≡◌, ◌⊎◌, ℕ, ◌≤◌, ◌<◌}
 use Rattle.sheets.specs.declared.Answer.{Answer}
-use Rattle.sheets.specs.declared.Answer.TheVariants as Answer
 use Rattle.call_shares.specs.declared.ShareReply.{ShareReply}
 
 -- the answer is a refusal

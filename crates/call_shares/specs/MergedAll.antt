@@ -10,7 +10,6 @@ use Rattle.grammar.specs.Candidates.{sentence}
 use Rattle.grammar.specs.Sweeps.{Clear, FirstTwo}
 use Rattle.arrangement_numbers.specs.Numbers.{number}
 use Rattle.sheets.specs.declared.Answer.{Answer}
-use Rattle.sheets.specs.declared.Answer.TheVariants as Answer
 use Rattle.grammar.specs.Sentences.{no_token}
 
 -- a merged with each of the reports in turn

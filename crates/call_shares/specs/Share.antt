@@ -13,7 +13,6 @@ use Rattle.sheets.specs.Refusals.{number_of, RefusedAs}
 use Rattle.sheets.specs.Items.{accepted}
 use Rattle.sheets.specs.RuleSheets.{rule_sheet}
 use Rattle.sheets.specs.declared.Answer.{Answer}
-use Rattle.sheets.specs.declared.Answer.TheVariants as Answer
 use Rattle.sweep_answers.specs.Sweep.{sweep_limit, no_sentence}
 use Rattle.call_shares.specs.declared.ShareReply.{ShareReply}
 use Rattle.grammar.specs.Sentences.{no_token}

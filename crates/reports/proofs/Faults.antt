@@ -10,7 +10,6 @@ use borrow.Author.Tests.{eqb-true}
 use Rattle.sets.proofs.Basics.{clash}
 use Rattle.sets.proofs.Basics.{both}
 use Rattle.sheets.specs.declared.Fault.{Fault}
-use Rattle.sheets.specs.declared.Fault.TheVariants as Fault
 use Rattle.sheets.specs.Refusals.{number_of}
 use Rattle.reports.specs.Rests.{OfFault}
 

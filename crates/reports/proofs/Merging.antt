@@ -8,9 +8,7 @@ use Rattle.sets.proofs.Basics.{clash}
 use Rattle.text.specs.Output.{refused_text_of, head}
 use Rattle.call_shares.specs.Merge.{Leads, Ahead, first_refuses, second_refuses, second, first}
 use Rattle.reports.specs.declared.Told.{Told}
-use Rattle.reports.specs.declared.Told.TheVariants as Told
 use Rattle.reports.specs.declared.Taken.{Taken}
-use Rattle.reports.specs.declared.Taken.TheVariants as Taken
 use Rattle.reports.specs.Reports.{MergeText, one_unwritten, two_unwritten, merging}
 use Rattle.reports.specs.Rests.{Found, TellsOf, TakenOf}
 use Rattle.reports.proofs.Sizes.{report_short}

@@ -12,7 +12,6 @@ use Rattle.sheets.specs.Refusals.{number_of}
 use Rattle.sheets.specs.TokenSheets.{token_names}
 use Rattle.sheets.proofs.Numbers.{same_fault}
 use Rattle.sheets.specs.declared.Answer.{Answer}
-use Rattle.sheets.specs.declared.Answer.TheVariants as Answer
 use Rattle.call_shares.specs.declared.ShareReply.{ShareReply}
 use Rattle.call_shares.specs.Share.{share_reply_of, share_refusal}
 use Rattle.call_shares.proofs.Merging.{merged_settled}

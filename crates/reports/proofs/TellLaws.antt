@@ -13,7 +13,6 @@ use Rattle.call_shares.specs.Share.{share_reply_of, share_refusal}
 use Rattle.share_text.specs.Shares.{report_text}
 use Rattle.scanning.specs.Scanned.{Starts}
 use Rattle.reports.specs.declared.Told.{Told}
-use Rattle.reports.specs.declared.Told.TheVariants as Told
 use Rattle.reports.specs.Reports.{Report, a_refusal, a_clear, a_two, ReportOf}
 use Rattle.reports.specs.Rests.{pair_text, ClearRest, TwoRest, RefusedRest, TwoTold, Found}
 use Rattle.reports.specs.Rests.{Refused, TellsOf}

@@ -12,9 +12,7 @@ use Rattle.text.specs.declared.Place.TheVariants.{At, Nowhere}
 use Rattle.call_shares.specs.declared.ShareReply.{ShareReply}
 use Rattle.call_shares.specs.Merge.{Refuses, Leads}
 use Rattle.reports.specs.declared.Told.{Told}
-use Rattle.reports.specs.declared.Told.TheVariants as Told
 use Rattle.reports.specs.declared.Taken.{Taken}
-use Rattle.reports.specs.declared.Taken.TheVariants as Taken
 use Rattle.reports.specs.Reports.{ReportToken, ReportOf}
 
 -- a token line stands at a place, and the text goes on at `next`

@@ -5,7 +5,6 @@ use mathlib.Core.Option.{Option, none, some}
 use Prim.Native.Nat.{ℕ, ◌≤◌}
 use lib.ListN.{length}
 use Rattle.fields.specs.declared.Number.{Number}
-use Rattle.fields.specs.declared.Number.TheVariants as Number
 use Rattle.fields.specs.Answers.{as_number}
 use Rattle.text.specs.Input.{longest, Parts, parts}
 use Rattle.sweep_text.specs.Sweep.{SweepTextOf}

@@ -1,6 +1,5 @@
 -- `reports::token_count` meets its contract: the lines before i are token lines, and each way out
 -- settles how many there are in all.
-use Prim.Native.Nat.{◌-◌}
 use native.Mathlib.Omega.{arith}
 use Rattle.reports.specs.Rests.{TokenTo, NoToken}
 use Rattle.reports.proofs.Counting.{counted_none, counted_more, many, unread}
