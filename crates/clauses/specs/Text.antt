@@ -1,5 +1,4 @@
--- How expressions are written, by lexemes, and how deep groups are nested. docs/FORMAT.md, "The
--- clause sheet".
+-- How expressions are written, by lexemes, and how deep groups are nested. 02, request 2.
 use Rattle.std.specs.Prelude.{List, [], ◌∷◌, ◌++◌, ℕ, suc, max}
 use Rattle.grammar.specs.declared.UnaryMark.{UnaryMark}
 use Rattle.grammar.specs.declared.BinaryMark.{BinaryMark}

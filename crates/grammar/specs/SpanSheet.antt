@@ -1,4 +1,4 @@
--- The span sheet: docs/FORMAT.md, "The span sheet".
+-- The span sheet: 01, "Trees, choices, span sheet".
 use Rattle.std.specs.Prelude.{List, ◌↔◌, ℕ, zero, suc, ◌+◌, ◌-◌, ◌*◌, ◌/◌, ◌≤◌, ◌<◌, length, get_or, take, drop}
 use Rattle.sets.specs.Sets.{In}
 use Rattle.grammar.specs.Layout.{Word}

@@ -107,7 +107,7 @@ shut_by {g} {s} {len} {l} {m} {o} {r} w k n c e f lefts =
 
 pub record Row (l : List ℕ) (g : Rules) (w : Word) (start len : ℕ) : Type 0 where
   pub room : Room l (length w) start len
-  pub grounded : Grounded l g w
+  pub ground : Grounded l g w
   pub less : (a b B : ℕ) → a + b ≤ length w → b < len → table l (length w) a b B < no_height
       → table l (length w) a b B ≤ 64 * len
   pub small : Small no_height (64 * len) (table l (length w) start len)
@@ -129,7 +129,7 @@ module _ {l : List ℕ} {g : Rules} {w : Word} {start len : ℕ} (lefts : Lefts 
   row_put i k h b t n d =
       record {
         room = record { few = few; fits = fits; long = length-set l _ h ∙ x.room.long };
-        grounded = record { each = grounded };
+        ground = record { each = ground };
         less = λ a b B q r. less a b B q r;
         small = small_put no_height (lefts i b) put' x.small
             (tall_low (table l (length w)) (by_word w start len) no_height start len
@@ -149,14 +149,14 @@ module _ {l : List ℕ} {g : Rules} {w : Word} {start len : ℕ} (lefts : Lefts 
           → table l (length w) a b' B ≤ 64 * len + row_placed no_height (table l (length w) start len)
       shorter a b' B u q r = omega (arith, x.less a b' B (omega (arith, fits)) q r)
 
-      grounded : (a b' B : ℕ) → a + b' ≤ length w → table m (length w) a b' B < no_height
+      ground : (a b' B : ℕ) → a + b' ≤ length w → table m (length w) a b' B < no_height
           → (t : Tree) × Witness g B (part w a b') t × (height t ≤ table m (length w) a b' B)
-      grounded a b' B q r = go (ℕ_discrete (pair_at (length w) a b') (pair_at (length w) start len))
+      ground a b' B q r = go (ℕ_discrete (pair_at (length w) a b') (pair_at (length w) start len))
           (ℕ_discrete B (rule g i).left)
         where
           old : table m (length w) a b' B ≡ table l (length w) a b' B
               → (t : Tree) × Witness g B (part w a b') t × (height t ≤ table m (length w) a b' B)
-          old e = let y = x.grounded.each a b' B q (omega arith) in
+          old e = let y = x.ground.each a b' B q (omega arith) in
               (y.0, y.1, omega (arith, e, y.2))
 
           same_part : pair_at (length w) a b' ≡ pair_at (length w) start len
@@ -178,7 +178,7 @@ module _ {l : List ℕ} {g : Rules} {w : Word} {start len : ℕ} (lefts : Lefts 
               old (u ∙ put'.rest B d ∙ sym v)
           go (yes e) (yes d) =
               let y = grown (table l (length w)) g w 65534
-              (λ a b A q r. x.grounded.each a b A q (omega arith)) start len i k h fits b t
+              (λ a b A q r. x.ground.each a b A q (omega arith)) start len i k h fits b t
               (omega arith) in
               let u : table m (length w) a b' B ≡ h =
               ap₂ (λ (z C : ℕ). get_or m (2081 * C + z) 65535) e d ∙ put'.here in (

@@ -1,4 +1,4 @@
--- What a rule line says: docs/FORMAT.md, "The rule sheet", and refusals 2, 3, 4 and 44.
+-- What a rule line says: 01, "The two sheets" and the conditions 2, 3, 4 and 44.
 use Rattle.std.specs.Prelude.{ℕ, List, Bool, not, cond, ◌&&◌, leb}
 use Rattle.grammar.specs.declared.Clause.{Clause}
 use Rattle.grammar.specs.declared.UnaryMark.TheVariants as UnaryMark

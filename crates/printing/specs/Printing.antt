@@ -1,4 +1,4 @@
--- What the programs write: numbers, tree lines, token lines (docs/FORMAT.md, "The programs").
+-- What the programs write: numbers, tree lines, token lines (01, "The programs").
 use Rattle.std.specs.Prelude.{◌≡◌, cond, List, [], ◌∷◌, ◌++◌, ℕ, zero, suc, ◌+◌, ◌/◌, ◌%◌, length, take, drop, ltb}
 use Rattle.grammar.specs.declared.Token.{Token}
 use Rattle.grammar.specs.Layout.{Word, line, col}

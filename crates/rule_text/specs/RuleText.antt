@@ -1,5 +1,5 @@
--- A rule sheet's bytes for given rules: docs/FORMAT.md, "Bytes, lines, fields, numbers", with
--- numbers written plainly, terminals in `second`.
+-- A rule sheet's bytes for given rules: 01, "The two sheets", with numbers written plainly; request
+-- 5, terminals in `second`.
 use Rattle.std.specs.Prelude.{cond, List, [], ◌∷◌, ◌++◌, ℕ, eqb}
 use Rattle.grammar.specs.declared.UnaryMark.{UnaryMark}
 use Rattle.grammar.specs.declared.BinaryMark.{BinaryMark}

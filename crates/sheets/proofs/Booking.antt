@@ -49,7 +49,7 @@ adds_stop b {u} {f} e = adds_as b b (sym e) refl
 pub adds_end : (b : Book) {u : RuleStep} → u ≡ RuleStep.End → Adds b u b
 adds_end b {u} e = adds_as b b (sym e) refl
 
--- a refused rule line changes neither rules nor index (`add_line` promises `Adds`)
+-- 02, request 7: a refused rule line changes neither rules nor index (`add_line` promises `Adds`)
 pub refused_line_keeps : {b x : Book} (f : Fault) → Adds b (RuleStep.Stop f) x
     → (x.grammar ≡ b.grammar) × (x.index ≡ b.index)
 refused_line_keeps f e = (ap (λ (z : Book). z.grammar) e, ap (λ (z : Book). z.index) e)

@@ -1,5 +1,5 @@
--- What a token sheet says: its tokens, or the refusal with its line. docs/FORMAT.md, refusals 11 to
--- 15, widths and refusal 47.
+-- What a token sheet says: its tokens, or the refusal with its line. 01, refusals 11 to 15; request
+-- 9, widths and refusal 47.
 use Rattle.std.specs.Prelude.{ℕ, List, [], ◌∷◌, Bool, true, false}
 use Rattle.grammar.specs.declared.Token.{Token}
 use Rattle.grammar.specs.Layout.{Word, last}

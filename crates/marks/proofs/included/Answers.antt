@@ -11,5 +11,4 @@ returns-then-yes c = record {
 }
 
 pub returns-else-yes : goal.returns-else-yes
-returns-else-yes c =
-    record { is = λ e. absurd (true_not_false (sym e ∙ c.if-yes.false)); isnt = λ e. refl }
+returns-else-yes c = record { is = λ e. absurd (true_not_false (sym e ∙ c.if-yes.false)); isnt = λ e. refl }
