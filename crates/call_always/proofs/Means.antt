@@ -15,7 +15,6 @@ use Rattle.pairs.specs.Doubts.{Doubt, AllDoubts}
 use Rattle.pairs.proofs.ClearLaws.{passes_clear, always_sweeps}
 use Rattle.doubt_list.specs.Entries.{doubt_bytes}
 use Rattle.call_always.specs.declared.Told.{Told}
-use Rattle.call_always.specs.declared.Told.TheVariants as Told
 use Rattle.call_always.specs.declared.AlwaysReply.{AlwaysReply}
 use Rattle.call_always.specs.Always.{always_reply_of, always_refusal, short, listing}
 use Rattle.call_always.specs.Always.{AlwaysBy, refusing, reading}

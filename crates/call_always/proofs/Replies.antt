@@ -1,7 +1,7 @@
--- The reply on a list that has entries, and the words that end 0.
-use mathlib.Core.Path.{◌≡◌, refl, sym, ap, ◌∙◌}
+-- The words that end 0, and promises by what a reader answered.
+use mathlib.Core.Path.{◌≡◌, sym, ap, ◌∙◌}
 use mathlib.Core.List.{List, ◌++◌}
-use Prim.Native.Nat.{ℕ, zero, suc, ◌≤◌}
+use Prim.Native.Nat.{ℕ, ◌≤◌}
 use native.Mathlib.Omega.{arith}
 use lib.ListN.{length, drop, replicate, take-append-drop}
 use Rattle.grammar.specs.Trees.{Rules}
@@ -11,17 +11,9 @@ use Rattle.spans.proofs.ChangeLaws.{past_then, past_drop, zeroed}
 use Rattle.lists.specs.declared.Listed.{Listed}
 use Rattle.lists.proofs.Settled.{gives_map}
 use Rattle.doubt_list.specs.Given.{DoubtsGiven}
-use Rattle.call_always.specs.declared.Told.TheVariants as Told
 use Rattle.call_always.specs.declared.AlwaysReply.{AlwaysReply}
-use Rattle.call_always.specs.Always.{always_reply_of, AlwaysBy}
+use Rattle.call_always.specs.Always.{AlwaysBy}
 use Rattle.call_always.specs.Replying.{replied, DoubtsTold}
-
-abbrev some : ℕ → AlwaysReply
-some n = record { told = Told.Unknown; line = 0; count = n }
-
-pub some_entries : (n : ℕ) → (n ≡ 0 → ⊥) → some n ≡ always_reply_of n
-some_entries zero h = absurd (h refl)
-some_entries (suc n) h = refl
 
 -- the words that a call changed, and then cleared
 pub all_emptied : (m : ℕ) {ws ws' ws'' : List ℕ} → m ≤ length ws → Past m ws ws' → Cleared ws' ws'' m

@@ -5,14 +5,13 @@ use Rattle.call_always.specs.Always.{short, listing}
 use borrow.Author.Rules.{rules}
 use Rattle.call_always.proofs.answered.Goals as goal
 
-pub returns-then-words-lt73728 : goal.returns-then-words-lt73728
-returns-then-words-lt73728 c = short (omega (arith, c.if-words-lt73728.true)) refl c.refusal.ensures refl refl
-
 pub tell-requires : goal.tell-requires
-tell-requires c = record { formed = search rules; in_bounds = omega (arith, c.if-words-lt73728.false) }
+tell-requires c = record { formed = search rules; in_bounds = omega arith }
 
 pub returns : goal.returns
 returns c =
     let x = c.tell.ensures in
-    listing (omega (arith, c.if-words-lt73728.false)) x.doubts_told.doubts refl x.doubts_told.gives
-    x.words_after
+    listing (omega arith) x.doubts_told.doubts refl x.doubts_told.gives x.words_after
+
+pub returns-then-words-lt73728 : goal.returns-then-words-lt73728
+returns-then-words-lt73728 c = short (omega arith) refl c.refusal.ensures refl refl
