@@ -143,6 +143,7 @@ pub fn put_one(lent: &mut [u64], n: usize)
 }
 
 // The row counts of both trees, where the lent words are enough for them.
+#[tactic(auto, using(crate::proofs::Words::front_two, crate::proofs::Words::front_few))]
 pub fn put_counts(counts: &mut [u64], first: usize, second: usize)
     ensures { AtFront 2 (count_words first second) counts.old
         counts.new }
