@@ -146,6 +146,7 @@ fn answer_at(input: &[u8], i: usize, out: &mut [u8]) -> usize
 }
 
 // The whole output of the program `calls`; its length.
+#[tactic(auto, using(crate::proofs::TooLong::too_long))]
 pub fn calls_text(input: &[u8], out: &mut [u8; OUTPUT]) -> usize
     ensures { Printed CallsOf input.now out.old out.new result }
 {
