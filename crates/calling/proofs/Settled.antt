@@ -7,12 +7,9 @@ use native.Mathlib.Omega.{arith}
 use Rattle.always_text.proofs.Settled.{always_text_settled}
 use Rattle.call_sheets.specs.CallSheets.{call_of}
 use Rattle.call_sheets.specs.declared.Call.{Call}
-use Rattle.call_sheets.specs.declared.Call.TheVariants as Call
 use Rattle.call_sheets.specs.declared.Sheets.TheVariants as Sheets
 use Rattle.call_sheets.specs.declared.OneSheet.{OneSheet}
-use Rattle.call_sheets.specs.declared.OneSheet.TheVariants as OneSheet
 use Rattle.call_sheets.specs.declared.TwoSheets.{TwoSheets}
-use Rattle.call_sheets.specs.declared.TwoSheets.TheVariants as TwoSheets
 use Rattle.call_clauses.proofs.Settled.{clauses_apart}
 use Rattle.clause_text.proofs.Settled.{expand_text_settled}
 use Rattle.column_text.proofs.Settled.{columns_text_settled}

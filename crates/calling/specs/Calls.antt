@@ -4,13 +4,9 @@ use Rattle.std.proofs.Math.Option.{none, some}
 use Rattle.always_text.specs.Always.{AlwaysText}
 use Rattle.call_sheets.specs.CallSheets.{call_of}
 use Rattle.call_sheets.specs.declared.Call.{Call}
-use Rattle.call_sheets.specs.declared.Call.TheVariants as Call
 use Rattle.call_sheets.specs.declared.Sheets.{Sheets}
-use Rattle.call_sheets.specs.declared.Sheets.TheVariants as Sheets
 use Rattle.call_sheets.specs.declared.OneSheet.{OneSheet}
-use Rattle.call_sheets.specs.declared.OneSheet.TheVariants as OneSheet
 use Rattle.call_sheets.specs.declared.TwoSheets.{TwoSheets}
-use Rattle.call_sheets.specs.declared.TwoSheets.TheVariants as TwoSheets
 use Rattle.call_clauses.specs.Calls.{clause_sheets_of}
 use Rattle.clause_sheets.specs.ClauseSheets.{clause_sheet}
 use Rattle.clause_text.specs.Texts.{ExpandText}
