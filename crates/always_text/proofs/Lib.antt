@@ -1,2 +1,0 @@
-pub mod DoubtLines
-pub mod Settled

@@ -1,4 +1,0 @@
-pub mod Answers
-pub mod Verdict
-pub mod Trees
-pub mod Counted

@@ -1,9 +1,0 @@
-pub mod Calls
-pub mod Rows
-pub mod Places
-pub mod Expand
-pub mod Rights
-pub mod Shares
-pub mod Merge
-pub mod Columns
-pub mod Always

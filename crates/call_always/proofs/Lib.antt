@@ -1,4 +1,0 @@
-pub mod Replies
-pub mod Settled
-pub mod Means
-pub mod Clearing

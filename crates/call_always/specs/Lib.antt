@@ -1,5 +1,0 @@
-pub mod Always
-pub mod Meaning
-pub mod Replying
-pub mod Clauses
-pub mod ClauseMeaning

@@ -1,5 +1,0 @@
-pub mod Answers
-pub mod Settled
-pub mod ReadBack
-pub mod SameSheet
-pub mod Unambiguous

@@ -1,4 +1,0 @@
-pub mod StandLaws
-pub mod GrowLaws
-pub mod SeenLaws
-pub mod MarkLaws

@@ -1,3 +1,0 @@
-pub mod Solving
-pub mod Truths
-pub mod Unmoved

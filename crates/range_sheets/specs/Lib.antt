@@ -1,3 +1,0 @@
-pub mod RangeLines
-pub mod RangeSheets
-pub mod Promises

@@ -1,6 +1,0 @@
-pub mod Capped
-pub mod RowCounts
-pub mod Nulls
-pub mod Walks
-pub mod Seconds
-pub mod Telling

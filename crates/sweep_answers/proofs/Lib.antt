@@ -1,5 +1,0 @@
-pub mod SweepSettled
-pub mod Readings
-pub mod Sweeping
-pub mod Lent
-pub mod Few

@@ -1,3 +1,0 @@
-pub mod Bound
-pub mod Sweep
-pub mod Swept

@@ -1,3 +1,0 @@
-pub mod Turns
-pub mod Looking
-pub mod Answers

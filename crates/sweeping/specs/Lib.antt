@@ -1,3 +1,0 @@
-pub mod Searching
-pub mod Swept
-pub mod Cleared

@@ -1,2 +1,0 @@
-pub mod PlaceLines
-pub mod Settled

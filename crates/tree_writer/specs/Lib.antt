@@ -1,3 +1,0 @@
-pub mod Written
-pub mod Memories
-pub mod RowsWritten

@@ -1,4 +1,0 @@
-pub mod Bytes
-pub mod Claims
-pub mod Patches
-pub mod Expansions
