@@ -1,0 +1,2 @@
+pub mod DoubtLines
+pub mod Settled

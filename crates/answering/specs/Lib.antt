@@ -1,0 +1,4 @@
+pub mod Answers
+pub mod Verdict
+pub mod Trees
+pub mod Counted

@@ -1,0 +1,9 @@
+pub mod Calls
+pub mod Rows
+pub mod Places
+pub mod Expand
+pub mod Rights
+pub mod Shares
+pub mod Merge
+pub mod Columns
+pub mod Always

@@ -1,0 +1,306 @@
+// The archive for C: each call of c_interface under its own name, with the same promise.
+#![tactic(auto)]
+
+ghost use Rattle.sheets.specs.RuleSheets.{rule_sheet};
+ghost use Rattle.sheets.specs.TokenSheets.{token_sheet};
+ghost use Rattle.sheets.specs.RefusedLines.{held_by, Hands, refused_line};
+ghost use Rattle.clause_sheets.specs.ClauseSheets.{clause_sheet};
+ghost use Rattle.range_sheets.specs.RangeSheets.{range_sheet};
+ghost use Rattle.answering.specs.Answers.{sheets};
+ghost use Rattle.call_clauses.specs.Calls.{clause_sheets_of};
+ghost use Rattle.c_interface.specs.Calls.{VerdictWord, TreesWord, SweepWord};
+ghost use Rattle.c_interface.specs.Rows.{RowsWord};
+ghost use Rattle.c_interface.specs.Places.{PlacesWord};
+ghost use Rattle.c_interface.specs.Expand.{ExpandWord};
+ghost use Rattle.c_interface.specs.Rights.{ShowWord, ChangeWord};
+ghost use Rattle.c_interface.specs.Shares.{ShareWord};
+ghost use Rattle.c_interface.specs.Merge.{MergeWord};
+ghost use Rattle.c_interface.specs.Columns.{ColumnsWord};
+ghost use Rattle.c_interface.specs.Always.{AlwaysWord};
+
+// The verdict: its code times 2^32 plus the line's number. The words get the span sheet.
+#[unsafe(no_mangle)]
+pub extern "C" fn teplonga_verdict(rules: &[u8], tokens: &[u8], words: &mut [u64]) -> u64
+    ensures { VerdictWord (sheets rules.now tokens.now)
+        words.old words.new result }
+{
+    c_interface::teplonga_verdict(rules, tokens, words)
+}
+
+// The trees: the verdict's code times 2^32 plus the line's number. The words get the span sheet,
+// both memories the trees' rows, `counts` the row counts.
+#[unsafe(no_mangle)]
+pub extern "C" fn teplonga_trees(
+    rules: &[u8],
+    tokens: &[u8],
+    words: &mut [u64],
+    first: &mut [u8],
+    second: &mut [u8],
+    counts: &mut [u64],
+) -> u64
+    ensures { TreesWord (sheets rules.now tokens.now)
+        words.old words.new first.old first.new
+        second.old second.new counts.old counts.new
+        result }
+{
+    c_interface::teplonga_trees(rules, tokens, words, first, second, counts)
+}
+
+// The sweep: its code times 2^32 plus the line's number. `found` gets the answer's sentence and the
+// number of candidates tried.
+#[unsafe(no_mangle)]
+pub extern "C" fn teplonga_sweep(
+    rules: &[u8],
+    bound: usize,
+    words: &mut [u64],
+    found: &mut [u64],
+) -> u64
+    ensures { SweepWord (rule_sheet rules.now) bound words.old
+        words.new found.old found.new result }
+{
+    c_interface::teplonga_sweep(rules, bound, words, found)
+}
+
+// The refused line itself, as a part of the sheet that holds it. An exported function returns no
+// reference, so `line` gets the part.
+#[unsafe(no_mangle)]
+pub extern "C" fn teplonga_refused_line<'a>(rules: &'a [u8], tokens: &'a [u8], line: &mut &'a [u8])
+    ensures { Hands rules.entry tokens.entry line.new
+        (refused_line rules.now tokens.now) }
+{
+    c_interface::teplonga_refused_line(rules, tokens, line);
+}
+
+// The row counts: the verdict's code times 2^32 plus the line's number. The words get the span
+// sheet, `counts` the row counts.
+#[unsafe(no_mangle)]
+pub extern "C" fn teplonga_rows(
+    rules: &[u8],
+    tokens: &[u8],
+    words: &mut [u64],
+    counts: &mut [u64],
+) -> u64
+    ensures { RowsWord rules.now tokens.now words.old
+        words.new counts.old counts.new result }
+{
+    c_interface::teplonga_rows(rules, tokens, words, counts)
+}
+
+// The places: the verdict's code times 2^32 plus the line's number. The words get the span sheet,
+// `list` the places, `count` their number.
+#[unsafe(no_mangle)]
+pub extern "C" fn teplonga_places(
+    rules: &[u8],
+    tokens: &[u8],
+    words: &mut [u64],
+    list: &mut [u8],
+    count: &mut [u64],
+) -> u64
+    ensures { PlacesWord rules.now tokens.now words.old
+        words.new list.old list.new count.old
+        count.new result }
+{
+    c_interface::teplonga_places(rules, tokens, words, list, count)
+}
+
+// The verdict: its code times 2^32 plus the line's number. The words get the span sheet.
+#[unsafe(no_mangle)]
+pub extern "C" fn teplonga_clause_verdict(clauses: &[u8], tokens: &[u8], words: &mut [u64]) -> u64
+    ensures { VerdictWord (clause_sheets_of clauses.now tokens.now)
+        words.old words.new result }
+{
+    c_interface::teplonga_clause_verdict(clauses, tokens, words)
+}
+
+// The trees: the verdict's code times 2^32 plus the line's number. The words get the span sheet,
+// both memories the trees' rows, `counts` the row counts.
+#[unsafe(no_mangle)]
+pub extern "C" fn teplonga_clause_trees(
+    clauses: &[u8],
+    tokens: &[u8],
+    words: &mut [u64],
+    first: &mut [u8],
+    second: &mut [u8],
+    counts: &mut [u64],
+) -> u64
+    ensures { TreesWord (clause_sheets_of clauses.now tokens.now)
+        words.old words.new first.old first.new
+        second.old second.new counts.old counts.new
+        result }
+{
+    c_interface::teplonga_clause_trees(clauses, tokens, words, first, second, counts)
+}
+
+// The sweep: its code times 2^32 plus the line's number. `found` gets the answer's sentence and the
+// number of candidates tried.
+#[unsafe(no_mangle)]
+pub extern "C" fn teplonga_clause_sweep(
+    clauses: &[u8],
+    bound: usize,
+    words: &mut [u64],
+    found: &mut [u64],
+) -> u64
+    ensures { SweepWord (clause_sheet clauses.now) bound words.old
+        words.new found.old found.new result }
+{
+    c_interface::teplonga_clause_sweep(clauses, bound, words, found)
+}
+
+// The expanded rule sheet: the code of `given` or of a refusal times 2^32 plus the line's number.
+// `sheet` gets its bytes, `count` their number.
+#[unsafe(no_mangle)]
+pub extern "C" fn teplonga_expand(clauses: &[u8], sheet: &mut [u8], count: &mut [u64]) -> u64
+    ensures { ExpandWord clauses.now sheet.old sheet.new
+        count.old count.new result }
+{
+    c_interface::teplonga_expand(clauses, sheet, count)
+}
+
+// The refused line itself, as a part of the sheet that holds it. An exported function returns no
+// reference, so `line` gets the part.
+#[unsafe(no_mangle)]
+pub extern "C" fn teplonga_clause_refused_line<'a>(
+    clauses: &'a [u8],
+    tokens: &'a [u8],
+    line: &mut &'a [u8],
+)
+    ensures { Hands clauses.entry tokens.entry line.new
+        (held_by (clause_sheet clauses.now) (token_sheet tokens.now)) }
+{
+    c_interface::teplonga_clause_refused_line(clauses, tokens, line);
+}
+
+// The trees as a user may see them: the verdict's code times 2^32 plus the line's number. The words
+// get the span sheet, both memories the rows shown of the trees, `counts` their numbers.
+#[unsafe(no_mangle)]
+pub extern "C" fn teplonga_show(
+    rules: &[u8],
+    tokens: &[u8],
+    rights: &[u8],
+    user: usize,
+    words: &mut [u64],
+    first: &mut [u8],
+    second: &mut [u8],
+    counts: &mut [u64],
+) -> u64
+    ensures { ShowWord rules.now tokens.now rights.now user
+        words.old words.new first.old first.new
+        second.old second.new counts.old counts.new
+        result }
+{
+    c_interface::teplonga_show(rules, tokens, rights, user, words, first, second, counts)
+}
+
+// The changed sheet: the answer's code times 2^32 plus the line's number. `bytes` gets the sheet,
+// `count` its number of bytes.
+#[unsafe(no_mangle)]
+pub extern "C" fn teplonga_change(
+    rules: &[u8],
+    rights: &[u8],
+    user: usize,
+    rule: usize,
+    lay: &[u8],
+    bytes: &mut [u8],
+    count: &mut [u64],
+) -> u64
+    ensures { ChangeWord rules.now rights.now user rule
+        lay.now bytes.old bytes.new count.old
+        count.new result }
+{
+    c_interface::teplonga_change(rules, rights, user, rule, lay, bytes, count)
+}
+
+// A share: its code times 2^32 plus the line's number. `numbers` gets the lowest number, the
+// quotient and the remainder, `found` the answer's sentence.
+#[unsafe(no_mangle)]
+pub extern "C" fn teplonga_share(
+    rules: &[u8],
+    length: usize,
+    racks: usize,
+    index: usize,
+    words: &mut [u64],
+    numbers: &mut [u64],
+    found: &mut [u64],
+) -> u64
+    ensures { ShareWord rules.now length racks index words.old
+        words.new numbers.old numbers.new found.old
+        found.new result }
+{
+    c_interface::teplonga_share(rules, length, racks, index, words, numbers, found)
+}
+
+// Which of two reports is the merged one: 0 the first, 1 the second. A report is what
+// `teplonga_share` answers, the lowest number and the length of the sentence.
+#[unsafe(no_mangle)]
+pub extern "C" fn teplonga_merge(
+    one: u64,
+    number: u64,
+    length: usize,
+    two: u64,
+    other: u64,
+    size: usize,
+) -> u64
+    ensures { MergeWord one number length two other size result }
+{
+    c_interface::teplonga_merge(one, number, length, two, other, size)
+}
+
+// The verdicts of some choice of columns: the answer's code times 2^32 plus the line's number.
+// `found` gets the three flags, 1 or 0 each; the words that the search needed end 0.
+#[unsafe(no_mangle)]
+pub extern "C" fn teplonga_columns(
+    rules: &[u8],
+    ranges: &[u8],
+    words: &mut [u64],
+    found: &mut [u64],
+) -> u64
+    ensures { ColumnsWord rules.now ranges.now words.old
+        words.new found.old found.new result }
+{
+    c_interface::teplonga_columns(rules, ranges, words, found)
+}
+
+// The refused line itself, as a part of the sheet that holds it. An exported function returns no
+// reference, so `line` gets the part.
+#[unsafe(no_mangle)]
+pub extern "C" fn teplonga_columns_refused_line<'a>(
+    rules: &'a [u8],
+    ranges: &'a [u8],
+    line: &mut &'a [u8],
+)
+    ensures { Hands rules.entry ranges.entry line.new
+        (held_by (rule_sheet rules.now) (range_sheet ranges.now)) }
+{
+    c_interface::teplonga_columns_refused_line(rules, ranges, line);
+}
+
+// The test: the code of clear, unknown or a refusal times 2^32 plus the line's number. `list` gets
+// the entries, `count` their number; the words end 0.
+#[unsafe(no_mangle)]
+pub extern "C" fn teplonga_always(
+    rules: &[u8],
+    words: &mut [u64],
+    list: &mut [u8],
+    count: &mut [u64],
+) -> u64
+    ensures { AlwaysWord (rule_sheet rules.now) words.old
+        words.new list.old list.new count.old
+        count.new result }
+{
+    c_interface::teplonga_always(rules, words, list, count)
+}
+
+// The same for a clause sheet; the rules of the entries are those of its expansion.
+#[unsafe(no_mangle)]
+pub extern "C" fn teplonga_clause_always(
+    clauses: &[u8],
+    words: &mut [u64],
+    list: &mut [u8],
+    count: &mut [u64],
+) -> u64
+    ensures { AlwaysWord (clause_sheet clauses.now) words.old
+        words.new list.old list.new count.old
+        count.new result }
+{
+    c_interface::teplonga_clause_always(clauses, words, list, count)
+}

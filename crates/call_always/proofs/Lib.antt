@@ -1,0 +1,4 @@
+pub mod Replies
+pub mod Settled
+pub mod Means
+pub mod Clearing

@@ -1,0 +1,5 @@
+pub mod Always
+pub mod Meaning
+pub mod Replying
+pub mod Clauses
+pub mod ClauseMeaning

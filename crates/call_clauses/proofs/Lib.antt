@@ -1,0 +1,5 @@
+pub mod Answers
+pub mod Settled
+pub mod ReadBack
+pub mod SameSheet
+pub mod Unambiguous

@@ -1,0 +1,47 @@
+-- `answer` meets its contract: in each arm the call is known.
+use mathlib.Core.Path.{refl}
+use Rattle.text.specs.Output.{refused_text_of, head}
+use borrow.Author.Rules.{rules}
+use Rattle.calling.proofs.answer.Goals as goal
+
+pub on_sheets-requires : goal.on_sheets-requires
+on_sheets-requires c =
+    record { in_bounds = search rules; sheets_inside = rw c.in-On.is at c.requires.inside }
+
+pub returns-in-Always : goal.returns-in-Always
+returns-in-Always c =
+    let a = c.always_text.ensures in
+    record {
+      text = a.text;
+      is = rw c.in-Always.is a.is;
+      wrote =
+          a.wrote;
+    }
+
+pub returns-in-ClausesAlways : goal.returns-in-ClausesAlways
+returns-in-ClausesAlways c =
+    let a = c.clauses_always_text.ensures in
+    record {
+      text = a.text;
+      is = rw c.in-ClausesAlways.is a.is;
+      wrote =
+          a.wrote;
+    }
+
+pub returns-in-On : goal.returns-in-On
+returns-in-On c =
+    let a = c.on_sheets.ensures in
+    record {
+      text = a.text;
+      is = rw c.in-On.is a.is;
+      wrote =
+          a.wrote;
+    }
+
+pub returns-in-Not : goal.returns-in-Not
+returns-in-Not c =
+    record {
+      text = head (refused_text_of 32) 0;
+      is = rw c.in-Not.is refl;
+      wrote = c.put_refusal.ensures;
+    }

@@ -1,0 +1,34 @@
+-- `check_text::check_text` meets its contract, case by case.
+use mathlib.Core.Path.{refl}
+use Rattle.check_text.specs.Check.{long, whole, checked}
+use borrow.Author.Rules.{rules}
+use Rattle.check_text.proofs.check_text.Goals as goal
+
+pub returns-then-input-gt16384 : goal.returns-then-input-gt16384
+returns-then-input-gt16384 c = record { text = _; is = long (search rules) refl; wrote = c.put_refusal.ensures }
+
+pub check_at-requires : goal.check_at-requires
+check_at-requires c =
+    let s = c.parting-place.ensures in
+    record { i_in_bounds = (rw c.in-At.is at s).0; in_bounds = search rules }
+
+pub returns-in-Nowhere : goal.returns-in-Nowhere
+returns-in-Nowhere c =
+    let s = c.parting-place.ensures in
+    record {
+      text = _;
+      is = whole (search rules) (rw c.in-Nowhere.is at s) refl;
+      wrote =
+          c.put_refusal-in-Nowhere.ensures;
+    }
+
+pub returns-in-At : goal.returns-in-At
+returns-in-At c =
+    let a = c.check_at.ensures in
+    let s = c.parting-place.ensures in
+    record {
+      text = a.text;
+      is =
+          checked (search rules) (rw c.in-At.is at s).1 a.is;
+      wrote = a.wrote;
+    }

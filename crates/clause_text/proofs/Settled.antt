@@ -1,0 +1,13 @@
+-- The promise of the text of `expand` settles the whole output.
+use mathlib.Core.Path.{◌≡◌, sym, ◌∙◌}
+use mathlib.Core.List.{List, ◌++◌}
+use Prim.Native.Nat.{ℕ}
+use Rattle.call_clauses.proofs.Settled.{expand_reply}
+use Rattle.text.specs.Output.{answer_text, head}
+use Rattle.clause_text.specs.Texts.{ExpandText, expanding}
+
+pub expand_text_settled : {clauses a b : List ℕ} → ExpandText clauses a → ExpandText clauses b
+    → a ≡ b
+expand_text_settled (expanding l x p) (expanding k y q) =
+    let z = expand_reply (l ∙ sym k) x y in
+    p ∙ (λ i. head (answer_text (z.0 i).answer) (z.0 i).line ++ z.1 i) ∙ sym q

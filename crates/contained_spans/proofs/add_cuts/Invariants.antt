@@ -1,0 +1,19 @@
+-- The loop's invariant: what lies beneath at the cuts that are not left is put in.
+use Prim.Native.Nat.{ℕ, ◌-◌}
+use Rattle.sets.specs.Sets.{In}
+use Rattle.grammar.specs.declared.Clause.{Clause}
+use Rattle.cuts.specs.Joining.{Joins}
+use Rattle.cut_tables.proofs.TurnLaws.{Gone}
+use Rattle.contained_spans.specs.Joining.{Kid}
+use Rattle.contained_spans.proofs.add_cuts.Given as goal
+
+-- what lies beneath at the cut k
+abbrev pub Cut : ℕ → ℕ → ℕ → Clause → ℕ → ℕ → ℕ → Type 0
+Cut n s len c k q B = Kid n s len c (k - s) q B
+
+abbrev pub invariant-loop-rest : goal.invariant-loop-rest
+invariant-loop-rest l =
+    Joins (Gone (Cut l.n l.start l.len l.c) l.set l.rest) l.initial.reach l.reach × ((k : ℕ) → In l.rest k → In l.set k)
+
+abbrev pub decreases-loop-rest : goal.decreases-loop-rest
+decreases-loop-rest l = l.rest

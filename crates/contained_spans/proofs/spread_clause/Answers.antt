@@ -1,0 +1,40 @@
+-- An arm for each kind: only a B clause has a left word.
+use mathlib.Core.Path.{ap, subst}
+use Rattle.grammar.specs.declared.Clause.{Clause}
+use Rattle.grammar.specs.Content.{SmallClause}
+use Rattle.tables.specs.Tables.{lefts}
+use Rattle.contained_spans.proofs.SpreadLaws.{spread_once}
+use Rattle.contained_spans.proofs.spread_clause.Goals as goal
+
+pub spread_binary-requires : goal.spread_binary-requires
+spread_binary-requires c =
+    let h = subst SmallClause c.in-Binary.is c.requires.small_clause in
+    record { room = c.requires.room; b_bound = (h.0, h.1); ready = c.requires.ready }
+
+pub returns-in-Empty : goal.returns-in-Empty
+returns-in-Empty c =
+    let r = c.requires.ready in
+    spread_once c.args.c
+    (ap (λ (x : Clause). lefts x c.args.len)
+    c.in-Empty.is) r.long r.seen
+    c.try_left.ensures
+
+pub returns-in-Atom : goal.returns-in-Atom
+returns-in-Atom c =
+    let r = c.requires.ready in
+    spread_once c.args.c
+    (ap (λ (x : Clause). lefts x c.args.len)
+    c.in-Atom.is) r.long r.seen
+    c.try_left-in-Atom.ensures
+
+pub returns-in-Unary : goal.returns-in-Unary
+returns-in-Unary c =
+    let r = c.requires.ready in
+    spread_once c.args.c
+    (ap (λ (x : Clause). lefts x c.args.len)
+    c.in-Unary.is) r.long r.seen
+    c.try_left-in-Unary.ensures
+
+pub returns-in-Binary : goal.returns-in-Binary
+returns-in-Binary c = rw c.in-Binary.is
+    c.spread_binary.ensures

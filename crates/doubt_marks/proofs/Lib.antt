@@ -1,0 +1,4 @@
+pub mod StandLaws
+pub mod GrowLaws
+pub mod SeenLaws
+pub mod MarkLaws

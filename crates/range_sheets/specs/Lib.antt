@@ -1,0 +1,3 @@
+pub mod RangeLines
+pub mod RangeSheets
+pub mod Promises

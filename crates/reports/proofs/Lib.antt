@@ -1,0 +1,12 @@
+pub mod TokenTexts
+pub mod Beginnings
+pub mod Fields
+pub mod Faults
+pub mod Counting
+pub mod Whole
+pub mod RestLaws
+pub mod TellLaws
+pub mod Sizes
+pub mod Merging
+pub mod Settled
+pub mod Printed

@@ -1,0 +1,14 @@
+-- The loop's invariant is `SecondGoing`; each turn goes one node down. The measure is what the
+-- count can still grow by.
+use Prim.Native.Nat.{◌-◌}
+use Rattle.grammar.specs.Content.{rules_of}
+use Rattle.row_counts.proofs.SecondLaws.{SecondGoing}
+use Rattle.grammar.specs.Sentences.{spelled}
+use Rattle.row_counts.proofs.walk_second.Given as goal
+
+abbrev pub invariant-loop-total : goal.invariant-loop-total
+invariant-loop-total l =
+    SecondGoing (rules_of l.g) (spelled l.s) l.a l.i l.l l.total
+
+abbrev pub decreases-loop-total : goal.decreases-loop-total
+decreases-loop-total l = 4294967296 - l.total

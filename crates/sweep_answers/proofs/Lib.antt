@@ -1,0 +1,5 @@
+pub mod SweepSettled
+pub mod Readings
+pub mod Sweeping
+pub mod Lent
+pub mod Few

@@ -1,0 +1,12 @@
+-- The promise of a sweep by what the reader answered is one by the sheet.
+use mathlib.Core.Path.{◌≡◌}
+use mathlib.Core.List.{List}
+use Prim.Native.Nat.{ℕ}
+use Rattle.grammar.specs.Trees.{Rules}
+use Rattle.sheets.specs.Items.{Reading}
+use Rattle.sweep_answers.specs.declared.SweepReply.{SweepReply}
+use Rattle.sweep_answers.specs.Sweep.{SweepBy}
+
+pub sweep_by : {o o' : Reading Rules} (e : o ≡ o') {k : ℕ} {words words' : List ℕ} {r : SweepReply}
+    → SweepBy o k words words' r → SweepBy o' k words words' r
+sweep_by e x = rw e at x

@@ -1,0 +1,2 @@
+pub mod PlaceLines
+pub mod Settled

@@ -1,0 +1,3 @@
+pub mod Memory
+pub mod Turn
+pub mod WrittenLaws

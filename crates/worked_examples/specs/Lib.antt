@@ -1,0 +1,4 @@
+pub mod Bytes
+pub mod Claims
+pub mod Patches
+pub mod Expansions
